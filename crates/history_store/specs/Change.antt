@@ -1,0 +1,44 @@
+-- What a stamp writes, where rows are only gained.
+use Rattle.std.specs.Prelude.{◌≡◌, ℕ, ◌+◌, ◌<◌, List, [], ◌∷◌, ◌++◌, length}
+use Rattle.relations.specs.Sets.{In, Ascends, set_of}
+use Rattle.relations.specs.Spans.{Span, span, forever}
+use Rattle.prima_base.specs.Order.{row_cmp}
+use Rattle.prima_base.specs.declared.values.Value.{Value}
+use Rattle.history_store.specs.Store.{Cell, Store, relation_at, IsRelation, AllBefore}
+
+-- a change that was made ready: its stamp, and the rows that it gains
+pub record Plan : Type 0 where
+  pub stamp : ℕ
+  pub gained : List (List Value)
+
+-- the plan fits the store: its rows are rows of the columns that are not there
+pub record IsPlan (s : Store) (p : Plan) : Type 0 where
+  pub before : AllBefore s p.stamp
+  pub lawful : p.stamp < forever
+  pub relation : IsRelation s.columns p.gained
+  pub fresh : (row : List Value) → In row p.gained → In row (relation_at s p.stamp) → ⊥
+
+-- the relation that the change leads to
+unfoldable pub rows_after : Store → Plan → List (List Value)
+rows_after s p = set_of row_cmp (relation_at s p.stamp ++ p.gained)
+
+-- one key for each gained row, from the stamp on
+abbrev pub new_keys : ℕ → List (List Value) → List Span
+new_keys stamp [] = []
+new_keys stamp (row ∷ rows) = span stamp forever ∷ new_keys stamp rows
+
+abbrev pub keys_after : Store → Plan → List Span
+keys_after s p = s.keys ++ new_keys p.stamp p.gained
+
+-- the columns' entries with those of a new id's row, which holds from the stamp on
+abbrev pub with_row : ℕ → ℕ → List Value → List (List Cell) → List (List Cell)
+with_row id stamp row [] = []
+with_row id stamp [] (cells ∷ columns) = cells ∷ columns
+with_row id stamp (v ∷ row) (cells ∷ columns) = (cells ++ record { id = id; value = v; period = span stamp forever } ∷ []) ∷ with_row id stamp row columns
+
+abbrev pub with_rows : ℕ → ℕ → List (List Value) → List (List Cell) → List (List Cell)
+with_rows id stamp [] columns = columns
+with_rows id stamp (row ∷ rows) columns = with_rows (id + 1) stamp rows (with_row id stamp row columns)
+
+abbrev pub cells_after : Store → Plan → List (List Cell)
+cells_after s p = with_rows (length s.keys) p.stamp p.gained s.cells

@@ -1,0 +1,107 @@
+-- What a stored table keeps, and the relation that it stands for at each moment.
+use Rattle.std.specs.Prelude.{◌≡◌, ℕ, ◌+◌, ◌<◌, ◌&&◌, ◌==◌, ◌⊎◌, Bool, true, false, List, [], ◌∷◌, ◌++◌, length, Option, Some, None, MatchBool, All, slice_index_or, if◌then◌else◌}
+use Rattle.std.specs.Ordering.{is_eq}
+use Rattle.relations.specs.Sets.{In, Ascends, set_of}
+use Rattle.relations.specs.Spans.{Span, span, forever, covers}
+use Rattle.prima_base.specs.Order.{row_cmp, bytes_cmp}
+use Rattle.prima_base.specs.declared.values.Value.{Value}
+use Rattle.prima_base.specs.declared.values.Value.TheVariants.{Int, Text}
+use Rattle.prima_base.specs.declared.values.ColType.{ColType}
+use Rattle.prima_base.specs.declared.values.ColType.TheVariants.{Int as IntType, Text as TextType}
+
+-- an entry of a column: the row with this id has this value in this period
+pub record Cell : Type 0 where
+  pub id : ℕ
+  pub value : Value
+  pub period : Span
+
+-- a column: its name and its type
+abbrev pub Column : Type 0
+Column = List ℕ × ColType
+
+-- the columns, the period of each key (its id is its place), the entries of each column, and how many rows
+-- more there is room for
+pub record Store : Type 0 where
+  pub columns : List Column
+  pub keys : List Span
+  pub cells : List (List Cell)
+  pub spare : ℕ
+
+-- the values of this id that a column's entries show at the moment
+abbrev pub shown_at : ℕ → ℕ → List Cell → List Value
+shown_at id m [] = []
+shown_at id m (c ∷ cells) = if (c.id == id && covers c.period m) then c.value ∷ shown_at id m cells else shown_at id m cells
+
+-- the row of this id at the moment, column by column
+abbrev pub row_at : ℕ → ℕ → List (List Cell) → List Value
+row_at id m [] = []
+row_at id m (cells ∷ columns) = shown_at id m cells ++ row_at id m columns
+
+-- the rows whose keys hold at the moment, by id
+abbrev pub rows_from : ℕ → ℕ → List Span → List (List Cell) → List (List Value)
+rows_from id m [] columns = []
+rows_from id m (k ∷ keys) columns = if covers k m then row_at id m columns ∷ rows_from (id + 1) m keys columns else rows_from (id + 1) m keys columns
+
+-- the relation that the table stands for at the moment
+unfoldable pub relation_at : Store → ℕ → List (List Value)
+relation_at s m = set_of row_cmp (rows_from 0 m s.keys s.cells)
+
+-- the entries of one id fill its key's period: one value at each of its moments, none at any other
+abbrev pub Fills : Span → ℕ → List Cell → Type 0
+Fills key id cells = (m : ℕ) → MatchBool (covers key m) ((v : Value) × (shown_at id m cells ≡ v ∷ [])) (shown_at id m cells ≡ [])
+
+-- the entries of a column belong to the keys and fill them
+pub record IsFilled (keys : List Span) (cells : List Cell) : Type 0 where
+  pub known : (c : Cell) → In c cells → c.id < length keys
+  pub filled : (id : ℕ) → id < length keys → Fills (slice_index_or keys id (span 0 0)) id cells
+
+-- each column's entries do
+pub record IsStore (s : Store) : Type 0 where
+  pub width : length s.cells ≡ length s.columns
+  pub filled : (cells : List Cell) → In cells s.cells → IsFilled s.keys cells
+
+-- the column with this name, of columns and what belongs to each
+abbrev pub named : {A : Type 0} → List ℕ → List Column → List A → Option A
+named name [] xs = None
+named name (c ∷ columns) [] = None
+named name (c ∷ columns) (x ∷ xs) = if is_eq (bytes_cmp c.0 name) then Some x else named name columns xs
+
+-- the entries of the column with this name
+abbrev pub column_of : Store → List ℕ → Option (List Cell)
+column_of s name = named name s.columns s.cells
+
+-- the value is of the column's type
+abbrev pub has_type : ColType → Value → Bool
+has_type IntType (Int n) = true
+has_type IntType (Text t) = false
+has_type TextType (Int n) = false
+has_type TextType (Text t) = true
+
+-- the row has a value of its type for each column
+abbrev pub IsRow : List Column → List Value → Type 0
+IsRow [] [] = Unit {0}
+IsRow [] (v ∷ row) = ⊥
+IsRow (c ∷ columns) [] = ⊥
+IsRow (c ∷ columns) (v ∷ row) = (has_type c.1 v ≡ true) × IsRow columns row
+
+-- a relation of these columns
+pub record IsRelation (columns : List Column) (rows : List (List Value)) : Type 0 where
+  pub ascending : Ascends row_cmp rows
+  pub fitting : (row : List Value) → In row rows → IsRow columns row
+
+-- the columns stand in the order of their names, each once
+abbrev pub names_of : List Column → List (List ℕ)
+names_of [] = []
+names_of (c ∷ columns) = c.0 ∷ names_of columns
+
+abbrev pub AreColumns : List Column → Type 0
+AreColumns columns = Ascends bytes_cmp (names_of columns)
+
+-- both ends of the period are before the moment, or it still goes on
+abbrev pub IsBefore : ℕ → Span → Type 0
+IsBefore m p = (p.start < m) × ((p.end < m) ⊎ (p.end ≡ forever))
+
+-- each stamp in the store is before the moment
+pub record AllBefore (s : Store) (m : ℕ) : Type 0 where
+  pub keys : (p : Span) → In p s.keys → IsBefore m p
+  pub cells : (cells : List Cell) → In cells s.cells → (c : Cell) → In c cells → IsBefore m c.period

@@ -1,0 +1,5 @@
+pub mod Bytes
+pub mod Order
+pub mod OrderLaws
+pub mod Timed
+pub mod TimedLaws

@@ -1,0 +1,35 @@
+-- The order of values, names and rows, and the value that a `Val` shows.
+use Rattle.std.specs.Prelude.{ℕ, Bool, List}
+use Rattle.std.specs.declared.cmp.Ordering.{Ordering}
+use Rattle.std.specs.declared.cmp.Ordering.TheVariants.{Less, Greater}
+use Rattle.std.specs.Ordering.{nat_cmp, int_cmp, eq_by_cmp}
+use Rattle.std.specs.Cmp.Lexicographic.{slice_cmp}
+use Rattle.prima_base.specs.declared.values.Value.{Value}
+use Rattle.prima_base.specs.declared.values.Value.TheVariants.{Int, Text}
+use Rattle.prima_base.specs.declared.values.Val.{Val}
+use Rattle.prima_base.specs.declared.values.Val.TheVariants.{Int as ValInt, Slice, Own}
+
+-- texts and names, by their bytes
+abbrev pub bytes_cmp : List ℕ → List ℕ → Ordering
+bytes_cmp = slice_cmp nat_cmp
+
+-- every INT before every TEXT, INTs by number, TEXTs by their bytes
+abbrev pub value_cmp : Value → Value → Ordering
+value_cmp (Int a) (Int b) = int_cmp a b
+value_cmp (Int a) (Text b) = Less
+value_cmp (Text a) (Int b) = Greater
+value_cmp (Text a) (Text b) = slice_cmp nat_cmp a b
+
+-- rows, value by value
+abbrev pub row_cmp : List Value → List Value → Ordering
+row_cmp = slice_cmp value_cmp
+
+-- the value that a `Val` shows
+abbrev pub shown : Val → Value
+shown (ValInt n) = Int n
+shown (Slice s) = Text s.now
+shown (Own t) = Text t
+
+-- two values are equal where neither is before the other
+abbrev pub value_eq : Value → Value → Bool
+value_eq a b = eq_by_cmp value_cmp a b

@@ -1,0 +1,28 @@
+//! Values, names, rows, periods and refusals: the words that every other crate speaks in.
+//!
+//! A contract sees a text and a name as their bytes, a row as the list of its values, a period as its
+//! two moments, and a counter as its count.
+#![tactic(auto)]
+
+mod counters;
+mod failures;
+mod names;
+mod periods;
+mod refusals;
+mod rows;
+mod texts;
+mod timed_rows;
+mod values;
+
+pub use counters::Steps;
+pub use failures::{Failed, NoMemory};
+pub use names::{Name, NameFault};
+pub use periods::{FOREVER, Period, meet};
+pub use refusals::{OpKind, OpRefusal, Refusal, What};
+pub use rows::{Row, rows_are_told_apart};
+pub use texts::{Txt, TxtFault};
+pub use timed_rows::TimedRow;
+pub use values::{ColType, Val, Value};
+
+
+

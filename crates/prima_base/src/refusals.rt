@@ -1,0 +1,109 @@
+use crate::Name;
+
+/// The kinds of schema modification operators (PRISM 2008), and NOP, which changes no table.
+#[derive(Clone, Copy, Debug, PartialEq, Eq)]
+pub enum OpKind {
+    Nop,
+    CreateTable,
+    DropTable,
+    RenameTable,
+    CopyTable,
+    MergeTable,
+    PartitionTable,
+    DecomposeTable,
+    JoinTable,
+    AddColumn,
+    DropColumn,
+    RenameColumn,
+}
+
+/// What there can be too many of.
+#[derive(Clone, Copy, Debug, PartialEq, Eq)]
+pub enum What {
+    Nodes,
+    Depth,
+    Parts,
+    Tables,
+    Branches,
+    Outputs,
+    Keeps,
+    Changes,
+    Columns,
+    Inverse,
+    Versions,
+}
+
+/// Why an operator is refused. A place counts the operator's nodes from 0.
+#[derive(Drop)]
+pub enum OpRefusal {
+    /// The table is there already.
+    Exists(Name),
+    NoTable(Name),
+    /// The table has, or was given twice, this column.
+    ColumnExists(Name, Name),
+    NoColumn(Name, Name),
+    /// Two tables whose columns do not fit together.
+    ColumnsDiffer(Name, Name),
+    /// The parts of a decomposition do not cover the table.
+    BadCover(Name),
+    /// The table would have no column left.
+    LastColumn(Name),
+    SameTable(Name),
+    WrongType(u32),
+    /// The counted thing, and its limit.
+    TooMany(What, u64),
+}
+
+/// Why a statement is refused; the comment is the number that its line prints. A place counts the
+/// statement's bytes (10) or nodes (25) from 0; stamps are moments.
+#[derive(Drop)]
+pub enum Refusal {
+    /// 10: the place from which no statement goes on.
+    Syntax(u32),
+    /// 11: the script ends inside the statement.
+    Unfinished,
+    /// 12: the statement has more than 1,048,576 bytes.
+    TooLong,
+    /// 20: the given stamp, and the last accepted one, which is not earlier.
+    StampNotLater(u64, u64),
+    /// 21: the asked version, and the newest.
+    NoVersion(u32, u32),
+    /// 22
+    NoTable(Name),
+    /// 23
+    NoColumn(Name),
+    /// 24
+    Ambiguous(Name),
+    /// 25: the place of the node.
+    WrongType(u32),
+    /// 26
+    Exists(Name),
+    /// 27: table and column.
+    ColumnExists(Name, Name),
+    /// 28
+    ColumnsDiffer(Name, Name),
+    /// 29
+    BadCover(Name),
+    /// 30
+    LastColumn(Name),
+    /// 31
+    SameTable(Name),
+    /// 32: the first table that the inverse does not give back.
+    InverseMisses(Name),
+    /// 32: the number, from 1, of the inverse's operator, and why it is refused.
+    InverseOp(u32, OpRefusal),
+    /// 33: the version, and the operator that is not gone back over.
+    NoInverse(u32, OpKind),
+    /// 34: the two bounds.
+    EmptyPeriod(u64, u64),
+    /// 35: table, and the first missing column in name order.
+    ColumnMissing(Name, Name),
+    /// 36: the first branch, from 1, whose outputs differ from those of the first.
+    Arity(u32),
+    /// 37: the place in the journal, the bytes needed, the limit.
+    JournalFull(u64, u64, u64),
+    /// 38: the counted thing, and its limit.
+    TooMany(What, u64),
+    /// 39: the measure of the operator.
+    TooWide(u64),
+}

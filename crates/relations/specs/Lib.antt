@@ -1,0 +1,5 @@
+pub mod Sets
+pub mod Spans
+pub mod Timed
+pub mod Listing
+pub mod Timeline

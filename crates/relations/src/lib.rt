@@ -1,0 +1,8 @@
+//! Relations as the ascending lists of their members, alone and over time: definitions and their laws.
+//!
+//! Nothing runs here. Each function states a law, for the order of any type; `specs/` has the definitions.
+#![tactic(auto)]
+
+mod sets;
+
+pub use sets::{same_members_same_relation, set_is_the_relation};
