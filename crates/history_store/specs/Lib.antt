@@ -1,2 +1,5 @@
 pub mod Store
 pub mod Change
+pub mod Scans
+pub mod Fields
+pub mod ScanFields

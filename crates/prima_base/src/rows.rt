@@ -123,8 +123,7 @@ impl Ord for Row {
 /// Two rows that the order does not part are equal.
 pub fn rows_are_told_apart()
     ensures { IsExact row_cmp }
-{
-}
+{}
 
 ghost use Rattle.relations.specs.Sets.{IsExact};
 ghost use Rattle.prima_base.specs.Order.{row_cmp};

@@ -1,6 +1,5 @@
 -- A relation that changes over time, kept as its stages: from each stage's start on it is the stage's.
-use Rattle.std.specs.Prelude.{ℕ, ◌<◌, ◌++◌, List, [], ◌∷◌, Option, Some, None, nat_le, map, ⊤, if◌then◌else◌}
-use Rattle.std.specs.List.{flat_map}
+use Rattle.std.specs.Prelude.{ℕ, ◌<◌, ◌++◌, List, [], ◌∷◌, Option, Some, None, nat_le, ⊤, if◌then◌else◌}
 use Rattle.std.specs.declared.cmp.Ordering.{Ordering}
 use Rattle.relations.specs.Sets.{has, set_of}
 use Rattle.relations.specs.Spans.{Span, span, forever}

@@ -3,6 +3,8 @@
 //! Nothing runs here. Each function states a law, for the order of any type; `specs/` has the definitions.
 #![tactic(auto)]
 
+mod listings;
 mod sets;
 
+pub use listings::{at_most_one_listing, timeline_is_listed};
 pub use sets::{same_members_same_relation, set_is_the_relation};

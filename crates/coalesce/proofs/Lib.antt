@@ -1,0 +1,6 @@
+pub mod Places
+pub mod Kept
+pub mod Rows
+pub mod Joined
+pub mod Cut
+pub mod Sorted

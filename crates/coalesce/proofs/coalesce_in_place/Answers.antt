@@ -1,0 +1,12 @@
+use Rattle.std.proofs.Common.{sym, subst, List}
+use Rattle.relations.specs.Listing.{IsListing}
+use Rattle.prima_base.specs.Order.{row_cmp}
+use Rattle.prima_base.specs.Timed.{rows_at, entries_of}
+use Rattle.prima_base.specs.declared.timed_rows.TimedRow.{TimedRow}
+use Rattle.coalesce.proofs.Sorted.{coalesced}
+use Rattle.coalesce.proofs.coalesce_in_place.Goals as goal
+
+pub returns : goal.returns
+returns c =
+    subst (λ (l : List TimedRow). IsListing row_cmp (rows_at c.args.rows.now.items) c.args.slice (entries_of l)) (sym c.join_sorted.ensures)
+    (coalesced c.args.rows.now.items c.cut_rows.new.rows.items c.sort_unstable.new.self.items c.args.slice c.cut_rows.ensures c.sort_unstable.ensures.permutation c.sort_unstable.ensures.sorted)

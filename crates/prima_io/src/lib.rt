@@ -1,0 +1,20 @@
+//! What statements are read from and what replies are written to.
+//!
+//! A contract sees of a source the bytes that are left in it, of a sink the bytes that it was given,
+//! each where the object tells them, and of both how often they failed.
+#![tactic(auto)]
+
+mod lent;
+mod memory;
+mod sure;
+mod traits;
+mod writing;
+
+pub use memory::{MemSink, MemSource};
+pub use prima_base::Failed;
+pub use sure::{SureSink, SureSource};
+pub use traits::{Sink, Source};
+pub use writing::put_all;
+
+#[cfg(test)]
+mod tests;

@@ -1,0 +1,18 @@
+-- The answer to a query lists what holds at each moment.
+use Rattle.std.proofs.Common.{ℕ, List}
+use Rattle.relations.specs.Spans.{always}
+use Rattle.relations.specs.Listing.{IsListing}
+use Rattle.relations.specs.Timeline.{relation_at}
+use Rattle.relations.proofs.Runs.{timeline_listing}
+use Rattle.prima_base.specs.Order.{row_cmp}
+use Rattle.prima_base.specs.OrderLaws.{row_exact}
+use Rattle.script_cli.specs.Past.{Past, answer}
+use Rattle.script_cli.specs.Lawful.{IsPast}
+use Rattle.script_cli.specs.Output.{past_of}
+use Rattle.script_cli.proofs.Pasts.{script_lawful}
+
+pub past_listed : (past : Past) → IsPast past → IsListing row_cmp (relation_at past.stages) always (answer past)
+past_listed past h = timeline_listing row_cmp row_exact past.stages h.timeline
+
+pub answers_listed : (script : List ℕ) → IsListing row_cmp (relation_at (past_of script).stages) always (answer (past_of script))
+answers_listed script = past_listed (past_of script) (script_lawful script)

@@ -1,0 +1,12 @@
+use Rattle.std.proofs.Common.{◌≡◌, ◌≤◌, ◌-◌, ℕ, List, ◌++◌, take, drop}
+use Rattle.prima_io.specs.Causes.{HasCause}
+use Rattle.script_cli.specs.Gathering.{Gathers}
+use Rattle.script_cli.specs.Texts.{doubled}
+use Rattle.script_cli.proofs.listings.push_doubled.Given as goal
+
+abbrev pub invariant-loop-i : goal.invariant-loop-i
+invariant-loop-i g l = (sent : List ℕ)
+    × (l.start ≤ l.i)
+    × (g.K.Sink.faults l.initial.sink ≤ g.K.Sink.faults l.sink)
+    × Gathers (g.K.Sink.written l.initial.sink) l.initial.line (g.K.Sink.written l.sink) l.line sent
+    × (doubled l.bytes ≡ sent ++ (take (l.i - l.start) (drop l.start l.bytes) ++ doubled (drop l.i l.bytes)))

@@ -1,0 +1,22 @@
+use Rattle.std.proofs.Common.{refl, ap, ◌∙◌, subst}
+use Rattle.std.specs.Io.KnownBytes.{Appends}
+use Rattle.prima_io.specs.Moves.{AppendsFront}
+use Rattle.prima_io.proofs.Fronts.{of_less}
+use Rattle.prima_base.specs.Timed.{entries_of}
+use Rattle.script_cli.specs.Texts.{listing_text}
+use Rattle.script_cli.proofs.Answering.{is_answer}
+use Rattle.script_cli.proofs.responses.list.Goals as goal
+
+pub returns-in-Ok-put_listing-clause-says : goal.returns-in-Ok-put_listing-clause-says
+returns-in-Ok-put_listing-clause-says g c = λ past t s h. (
+  refl,
+  subst (Appends (g.K.Sink.written c.args.sink.now) (g.K.Sink.written c.put_listing.new.sink))
+      (ap listing_text (ap entries_of c.deref.ensures.value ∙ is_answer c.args.made.now t past (entries_of c.in-Ok.rows.items) s h c.in-Ok.ensures))
+      c.in-Ok-put_listing.ensures.all,
+)
+
+pub returns-in-Ok-clause-says : goal.returns-in-Ok-clause-says
+returns-in-Ok-clause-says g c = λ past t s h.
+    subst (AppendsFront (g.K.Sink.written c.args.sink.now) (g.K.Sink.written c.put_listing.new.sink))
+    (ap listing_text (ap entries_of c.deref.ensures.value ∙ is_answer c.args.made.now t past (entries_of c.in-Ok.rows.items) s h c.in-Ok.ensures))
+    (of_less _ _ _ c.in-Err-put_listing.ensures.part)

@@ -1,0 +1,19 @@
+use Rattle.script_cli.proofs.Answered.{answers_listed}
+use Rattle.script_cli.proofs.ReadingLaws.{first_fault}
+use Rattle.script_cli.proofs.Reaching.{ran_front, ran_whole}
+use Rattle.script_cli.proofs.runs.run.Goals as goal
+
+pub returns-then-not-are_accepted-clause-answers : goal.returns-then-not-are_accepted-clause-answers
+returns-then-not-are_accepted-clause-answers g c = answers_listed
+
+pub returns-clause-front : goal.returns-clause-front
+returns-clause-front g c = λ accepted. ran_front _ _ _ _ _ c.drive.ensures.ran
+
+pub returns-clause-answers : goal.returns-clause-answers
+returns-clause-answers g c = answers_listed
+
+pub returns-then-not-are_accepted-clause-reads : goal.returns-then-not-are_accepted-clause-reads
+returns-then-not-are_accepted-clause-reads g c = first_fault
+
+pub returns-clause-reads : goal.returns-clause-reads
+returns-clause-reads g c = first_fault

@@ -1,0 +1,15 @@
+pub mod Past
+pub mod Texts
+pub mod Tokens
+pub mod Forms
+pub mod Reading
+pub mod Split
+pub mod Output
+pub mod Machine
+pub mod Lawful
+pub mod Runs
+pub mod ShowsPast
+pub mod Shows
+pub mod Codes
+pub mod Held
+pub mod Gathering

@@ -1,0 +1,18 @@
+-- A script as statements, each ended by `;`, and what stands behind the last.
+use Rattle.std.specs.Prelude.{ℕ, List, [], ◌∷◌, ◌++◌, ◌==◌, if◌then◌else◌}
+
+-- the statements of bytes whose first statement began with `current`
+abbrev pub statements_from : List ℕ → List ℕ → List (List ℕ)
+statements_from current [] = []
+statements_from current (b ∷ bytes) = if b == 59 then current ∷ statements_from [] bytes else statements_from (current ++ b ∷ []) bytes
+
+-- what stands behind the last `;`
+abbrev pub tail_from : List ℕ → List ℕ → List ℕ
+tail_from current [] = current
+tail_from current (b ∷ bytes) = if b == 59 then tail_from [] bytes else tail_from (current ++ b ∷ []) bytes
+
+abbrev pub statements_of : List ℕ → List (List ℕ)
+statements_of script = statements_from [] script
+
+abbrev pub tail_of : List ℕ → List ℕ
+tail_of script = tail_from [] script

@@ -1,0 +1,66 @@
+-- The lines of replies, by their bytes. Each is ended by a line feed.
+use Rattle.std.specs.Prelude.{ℕ, List, [], ◌∷◌, ◌++◌, ◌==◌, length, codes, decimal, if◌then◌else◌}
+use Rattle.std.specs.List.{flat_map}
+use Rattle.std.specs.Fmt.{signed_decimal}
+use Rattle.relations.specs.Timed.{Entry}
+use Rattle.prima_base.specs.declared.periods.TheConstants.{FOREVER}
+use Rattle.prima_base.specs.declared.values.Value.{Value}
+use Rattle.prima_base.specs.declared.values.Value.TheVariants.{Int, Text}
+
+-- the first version was made at this moment
+unfoldable pub created_text : ℕ → List ℕ
+created_text stamp = codes "ok " ++ decimal stamp ++ codes " version 1\n"
+
+-- so many rows were gained at this moment, and none was lost
+unfoldable pub inserted_text : ℕ → ℕ → List ℕ
+inserted_text stamp gained = codes "ok " ++ decimal stamp ++ codes " +" ++ decimal gained ++ codes " -0\n"
+
+-- no statement goes on at this place
+unfoldable pub syntax_text : ℕ → List ℕ
+syntax_text place = codes "error 10 " ++ decimal place ++ codes "\n"
+
+-- the given stamp is not later than the last one
+unfoldable pub stamp_text : ℕ → ℕ → List ℕ
+stamp_text given last = codes "error 20 " ++ decimal given ++ codes " " ++ decimal last ++ codes "\n"
+
+-- there is no table of this name
+unfoldable pub no_table_text : List ℕ → List ℕ
+no_table_text name = codes "error 22 " ++ name ++ codes "\n"
+
+-- the words of the call are wrong
+unfoldable pub wrong_words_text : List ℕ
+wrong_words_text = codes "fault 2\n"
+
+-- each quote is doubled
+abbrev pub doubled : List ℕ → List ℕ
+doubled [] = []
+doubled (b ∷ bytes) = if b == 39 then 39 ∷ 39 ∷ doubled bytes else b ∷ doubled bytes
+
+-- a number, or a text in quotes
+abbrev pub value_text : Value → List ℕ
+value_text (Int n) = signed_decimal n
+value_text (Text bytes) = codes "'" ++ doubled bytes ++ codes "'"
+
+-- the end of a period, which may still go on
+abbrev pub end_text : ℕ → List ℕ
+end_text end = if end == FOREVER then codes "now" else decimal end
+
+-- the values of a row, each behind a space
+abbrev pub values_text : List Value → List ℕ
+values_text values = flat_map (λ v. codes " " ++ value_text v) values
+
+-- the head of a row's line
+abbrev pub period_text : ℕ → ℕ → List ℕ
+period_text start end = codes "row " ++ decimal start ++ codes " " ++ end_text end
+
+-- a row and its period
+abbrev pub row_text : Entry (List Value) → List ℕ
+row_text e = period_text e.period.start e.period.end ++ values_text e.item ++ codes "\n"
+
+-- the line behind the rows
+abbrev pub count_text : ℕ → List ℕ
+count_text count = codes "end " ++ decimal count ++ codes "\n"
+
+-- the rows, and then how many they are
+unfoldable pub listing_text : List (Entry (List Value)) → List ℕ
+listing_text entries = flat_map row_text entries ++ count_text (length entries)

@@ -1,0 +1,169 @@
+//! What has been accepted: the one table with its history, and the last stamp.
+
+ghost use Rattle.std.specs.Prelude.{◌≡◌, ℕ, ℤ, List, ◌-◌, ◌+◌, ◌<◌, ◌≤◌, [], ◌∷◌, OnErr, OnOk, IfOk, IsTrue, ◌↔◌, None, is_some, length, MatchOption, insert};
+ghost use Rattle.relations.specs.Sets.{Ascends, put_in, set_of};
+ghost use Rattle.relations.specs.Spans.{forever};
+ghost use Rattle.prima_base.specs.Order.{row_cmp};
+ghost use Rattle.prima_base.specs.declared.values.Value.{Value as OneValue};
+ghost use Rattle.prima_base.specs.declared.values.ColType.TheVariants.{Int as IntType};
+ghost use Rattle.history_store.specs.Store.{AllBefore, Store, relation_at};
+ghost use Rattle.script_cli.specs.Past.{Past, beginning, created, inserted, gained, row_of, with_value};
+ghost use Rattle.script_cli.specs.Lawful.{IsLater};
+ghost use Rattle.script_cli.specs.ShowsPast.{ShowsPast, IsOneInt, blocking};
+
+use history_store::StoredTable;
+use prima_base::{ColType, Name, NoMemory, Row, Value};
+use std::alloc::Global;
+use std::cmp::Ordering;
+
+/// The table with which version 1 began: one INT column.
+#[derive(Drop)]
+pub(crate) struct MadeTable {
+    pub(crate) name: Name,
+    pub(crate) column: Name,
+    pub(crate) store: StoredTable,
+}
+
+/// The last accepted stamp, and the table, if one was made.
+#[derive(Drop)]
+pub(crate) struct Archive {
+    pub(crate) last: Option<u64>,
+    pub(crate) table: Option<MadeTable>,
+}
+
+// The place where the row is to stand among ascending rows: none where it stands there already.
+fn place_of(rows: &[Row], row: &Row) -> Option<usize>
+    ensures place { MatchOption result (put_in row_cmp row.now rows.now ≡ rows.now)
+        (λ at. (at ≤ length rows.now) × (put_in row_cmp row.now rows.now ≡ insert rows.now at row.now)) }
+{
+    for (at, other) in rows.iter().enumerate() {
+        match row.cmp(other) {
+            Ordering::Less => return Some(at),
+            Ordering::Equal => return None,
+            Ordering::Greater => {}
+        }
+    }
+    Some(rows.len())
+}
+
+// The row of one value.
+fn row_of(alloc: Global, value: i64) -> Result<Row, NoMemory>
+    ensures { IfOk result (λ row. row ≡ row_of value) }
+{
+    let mut values = Vec::with_capacity(alloc, 1)?;
+    values.push(Value::Int(value))?;
+    Ok(Row::new(alloc, values))
+}
+
+// Puts the row of the value among ascending rows, where it is not there already.
+fn put_value(alloc: Global, rows: &mut Vec<Row>, value: i64) -> Result<(), NoMemory>
+    requires { Ascends row_cmp rows.old.items }
+    ensures { OnOk result (rows.new.items ≡ with_value value rows.old.items) }
+{
+    let row = row_of(alloc, value)?;
+    match place_of(rows, &row) {
+        None => Ok(()),
+        Some(at) => {
+            rows.insert(at, row)?;
+            Ok(())
+        }
+    }
+}
+
+impl Archive {
+    /// An archive that has accepted nothing.
+    pub(crate) fn new() -> Archive
+        ensures { ShowsPast result beginning }
+    {
+        Archive {
+            last: None,
+            table: None,
+        }
+    }
+
+    /// The last stamp, where the given one is not above it.
+    pub(crate) fn blocking(&self, stamp: u64) -> Option<u64>
+        ensures { result ≡ blocking self.now.last stamp }
+    {
+        match self.last {
+            None => None,
+            Some(last) => { if last < stamp { None } else { Some(last) } }
+        }
+    }
+}
+
+// From the stamp on the table has the value's row too; answers how many rows that gains.
+fn gain(alloc: Global, store: &mut StoredTable, stamp: u64, value: i64) -> Result<usize, NoMemory>
+    requires columns { IsOneInt store.old.columns }
+    requires lawful { stamp < forever }
+    requires before { AllBefore store.old stamp }
+    ensures gained { (rows : List (List OneValue)) → relation_at store.old stamp ≡ rows
+        → IfOk result (λ n. n ≡ length (with_value value rows) - length rows) }
+    ensures columns { store.new.columns ≡ store.old.columns }
+    ensures past { (m : ℕ) → m < stamp → relation_at store.new m ≡ relation_at store.old m }
+    ensures from { (m : ℕ) → stamp ≤ m → m < forever → OnOk result (relation_at store.new m ≡ with_value value (relation_at store.old stamp)) }
+    ensures later { (m : ℕ) → stamp < m → OnOk result (AllBefore store.new m) }
+    ensures err { OnErr result ((m : ℕ) → relation_at store.new m ≡ relation_at store.old m) }
+    ensures err_before { OnErr result ((m : ℕ) → AllBefore store.old m → AllBefore store.new m) }
+{
+    let mut rows = store.current()?;
+    let before = rows.len();
+    put_value(alloc, &mut rows, value)?;
+    let prepared = store.prepare(stamp, &rows)?;
+    store.install(prepared);
+    Ok(rows.len() - before)
+}
+
+impl Archive {
+    /// Makes the table: version 1 begins at the stamp.
+    pub(crate) fn create(
+        &mut self,
+        alloc: Global,
+        stamp: u64,
+        table: Name,
+        column: Name,
+    ) -> Result<(), NoMemory>
+        requires lawful { stamp < forever }
+        ensures ok { (past : Past) → ShowsPast self.old past → past.table ≡ None → IsLater past.last stamp
+            → OnOk result (ShowsPast self.new (created stamp table column past)) }
+        ensures err { (past : Past) → ShowsPast self.old past → OnErr result (ShowsPast self.new past) }
+    {
+        let columns = [(column.copy()?, ColType::Int)];
+        let store = StoredTable::new(alloc, &columns, stamp, &[])?;
+        self.table = Some(MadeTable {
+            name: table,
+            column,
+            store,
+        });
+        self.last = Some(stamp);
+        Ok(())
+    }
+
+    /// Puts the value's row into the table from the stamp on; answers how many rows that gains.
+    pub(crate) fn insert(
+        &mut self,
+        alloc: Global,
+        stamp: u64,
+        value: i64,
+    ) -> Result<usize, NoMemory>
+        requires made { IsTrue (is_some self.old.table) }
+        requires lawful { stamp < forever }
+        requires shows { (past : Past) × ShowsPast self.old past × IsLater past.last stamp }
+        ensures ok { (past : Past) → ShowsPast self.old past → IsLater past.last stamp
+            → IfOk result (λ n. (n ≡ gained value past) × ShowsPast self.new (inserted stamp value past)) }
+        ensures err { (past : Past) → ShowsPast self.old past → OnErr result (ShowsPast self.new past) }
+    {
+        let Some(mut made) = self.table.take() else {
+            unreachable!();
+        };
+        let gained = gain(alloc, &mut made.store, stamp, value);
+        self.table = Some(made);
+        match gained {
+            Ok(gained) => {
+                self.last = Some(stamp);
+                Ok(gained)
+            }
+            Err(NoMemory) => Err(NoMemory),
+        }
+    }
+}

@@ -1,0 +1,63 @@
+//! PRIMA: a transaction-time archive under schema evolution (PRIMA 2008, PRISM 2008).
+//!
+//! The program reads a script of statements from standard input, answers each when it ends, and writes the
+//! replies to standard output. `run` is the whole of it over any source and sink, and carries the theorem.
+#![tactic(auto)]
+
+mod adapters;
+mod archive;
+mod forms;
+mod lines;
+mod listings;
+mod queries;
+mod reader;
+#[cfg(test)]
+mod reader_tests;
+mod replies;
+#[cfg(test)]
+mod replies_tests;
+mod responses;
+mod runs;
+#[cfg(test)]
+mod runs_tests;
+mod sessions;
+mod statements;
+mod stops;
+mod tokens;
+
+use adapters::{ReaderSource, WriterSink};
+pub use reader::{read, reading_is_first_fault};
+pub use runs::{Status, Word, run};
+pub use statements::{Reading, Statement};
+use std::process::ExitCode;
+use std::{env, io};
+
+/// The longest statement, in bytes, without its `;`.
+pub const MAX_STATEMENT: usize = 1_048_576;
+
+/// The longest script of one run, in bytes.
+pub const SCRIPT_LIMIT: u64 = 1_099_511_627_776;
+
+// How the program ends where its words cannot be had: memory ran out, or one is no UTF-8.
+fn without_words(error: &io::Error) -> Status {
+    if error.kind() == io::ErrorKind::OutOfMemory {
+        Status::NoMemory
+    } else {
+        Status::Words
+    }
+}
+
+fn main(rt: HostRuntime) -> ExitCode {
+    let mut arguments = match env::args(&rt) {
+        Ok(arguments) => arguments,
+        Err(error) => return ExitCode::from(without_words(&error).code()),
+    };
+    let _program = arguments.next();
+    let Ok(words) = arguments.collect::<Vec<Word>>(rt.alloc()) else {
+        return ExitCode::from(Status::NoMemory.code());
+    };
+    let mut source = ReaderSource::new(rt.reader());
+    let mut sink = WriterSink::new(io::writer(&rt));
+    let status = run(rt.alloc(), &words, &mut source, &mut sink);
+    ExitCode::from(status.code())
+}

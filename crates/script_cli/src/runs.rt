@@ -1,0 +1,206 @@
+//! A run: from the words, the bytes of the script and what the sink takes to a status.
+
+ghost use Rattle.std.specs.Prelude.{◌≡◌, ◌+◌, ◌<◌, ◌≤◌, ◌↔◌, ◌⊎◌, List, ℕ, length, take, true, false, map, string_bytes, IfOk, MatchResult};
+ghost use Rattle.std.specs.Io.KnownBytes.{Appends, Consumes, IsAtEnd, Keeps};
+ghost use Rattle.prima_io.specs.Causes.{HasCause, Rose};
+ghost use Rattle.prima_io.specs.Moves.{AppendsFront, AppendsLess};
+ghost use Rattle.relations.specs.Spans.{always};
+ghost use Rattle.relations.specs.Listing.{IsListing};
+ghost use Rattle.relations.specs.Timeline.{relation_at};
+ghost use Rattle.prima_base.specs.Order.{row_cmp};
+ghost use Rattle.script_cli.specs.Past.{answer};
+ghost use Rattle.script_cli.specs.Machine.{State};
+ghost use Rattle.script_cli.specs.Output.{output, past_of};
+ghost use Rattle.script_cli.specs.Texts.{wrong_words_text};
+ghost use Rattle.script_cli.specs.Reading.{IsReading, reading};
+ghost use Rattle.script_cli.specs.Runs.{Ran, RefusedWords, WhereTold, is_whole, are_accepted, Ends};
+ghost use Rattle.script_cli.specs.Shows.{ShowsState};
+
+use crate::SCRIPT_LIMIT;
+use crate::replies::put_wrong_words;
+use crate::sessions::Session;
+use crate::stops::Stop;
+use prima_io::{Failed, Sink, Source};
+use std::alloc::Global;
+
+/// One word of the command line behind the program's name.
+pub type Word = String;
+
+/// How a run ended.
+#[derive(Clone, Copy, Debug, PartialEq, Eq)]
+pub enum Status {
+    /// The script was read to its end, and no `error` line was due.
+    Done,
+    /// The script was read to its end, and its replies have an `error` line.
+    Refused,
+    /// The words are not the one word `run`.
+    Words,
+    /// The source failed.
+    ReadFault,
+    /// The sink failed.
+    WriteFault,
+    /// Memory ran out.
+    NoMemory,
+    /// The script is longer than `SCRIPT_LIMIT` bytes.
+    InputLimit,
+}
+
+const CHUNK: usize = 4096;
+
+impl Status {
+    ghost use Rattle.std.specs.Prelude.{◌≡◌};
+    ghost use Rattle.script_cli.specs.Codes.{code_of};
+
+    /// The status with which the program ends.
+    pub fn code(&self) -> u8
+        ensures { result ≡ code_of self.now }
+    {
+        match self {
+            Status::Done => 0,
+            Status::Refused => 1,
+            Status::Words => 2,
+            Status::ReadFault => 3,
+            Status::WriteFault => 4,
+            Status::NoMemory => 7,
+            Status::InputLimit => 8,
+        }
+    }
+}
+
+// How many bytes the next take may hand out: up to the limit, and at the limit one.
+fn room_for(count: u64) -> usize
+    requires { count ≤ SCRIPT_LIMIT }
+    ensures some { 0 < result }
+    ensures chunk { result ≤ CHUNK }
+    ensures within { count < SCRIPT_LIMIT → count + result ≤ SCRIPT_LIMIT }
+    ensures last { count ≡ SCRIPT_LIMIT → result ≡ 1 }
+{
+    if count < SCRIPT_LIMIT {
+        (SCRIPT_LIMIT - count).min(CHUNK as u64) as usize
+    } else {
+        1
+    }
+}
+
+// Takes at most so many bytes into the front of the chunk.
+fn take_some<S: Source>(source: &mut S, chunk: &mut [u8], room: usize) -> Result<usize, Failed>
+    requires some { 0 < room }
+    requires fits { room ≤ length chunk.old }
+    ensures bound { IfOk result (λ n. n ≤ room) }
+    ensures bytes { MatchResult result
+        (λ n. Consumes (S.left source.old) (S.left source.new) (take n chunk.new) × (n ≡ 0 → IsAtEnd (S.left source.new)))
+        (λ _. Keeps (S.left source.old) (S.left source.new)) }
+    ensures cause { HasCause (S.faults source.old) (S.faults source.new) result }
+{
+    source.take(&mut chunk[..room])
+}
+
+// Puts what is due at the script's end.
+fn finish<K: Sink>(session: &Session, sink: &mut K) -> Status
+    ensures ends { (state : State) → ShowsState session.now state → Ends result state (K.written sink.old) (K.written sink.new) }
+    ensures later { K.faults sink.old ≤ K.faults sink.new }
+    ensures write { result ≡ Status.WriteFault → Rose (K.faults sink.old) (K.faults sink.new) }
+{
+    match session.finish(sink) {
+        Ok(true) => Status::Refused,
+        Ok(false) => Status::Done,
+        Err(Stop::WriteFault) => Status::WriteFault,
+        Err(Stop::NoMemory) => Status::NoMemory,
+    }
+}
+
+// Reads the script to its end, the limit or a fault. Each turn takes a byte at least, or is the last.
+fn drive<S: Source, K: Sink>(alloc: Global, source: &mut S, sink: &mut K) -> Status
+    ensures ran { Ran (S.left source.old) (S.left source.new) (K.written sink.old) (K.written sink.new) result }
+    ensures read { result ≡ Status.ReadFault → Rose (S.faults source.old) (S.faults source.new) }
+    ensures write { result ≡ Status.WriteFault → Rose (K.faults sink.old) (K.faults sink.new) }
+{
+    let mut session = Session::new(alloc);
+    let mut chunk = [0u8; CHUNK];
+    let mut count: u64 = 0;
+    'turns: loop {
+        let room = room_for(count);
+        let taken = match take_some(source, &mut chunk, room) {
+            Ok(taken) => taken,
+            Err(Failed) => return Status::ReadFault,
+        };
+        if taken == 0 {
+            return finish(&session, sink);
+        }
+        if count == SCRIPT_LIMIT {
+            return Status::InputLimit;
+        }
+        match session.feed(sink, &chunk[..taken]) {
+            Ok(()) => count += taken as u64,
+            Err(Stop::WriteFault) => return Status::WriteFault,
+            Err(Stop::NoMemory) => return Status::NoMemory,
+        }
+    }
+}
+
+// Whether the words are the one word `run`.
+fn are_accepted(words: &[Word]) -> bool
+    ensures { result ≡ are_accepted (map string_bytes words.now) }
+{
+    match words {
+        [word] => word.as_bytes() == b"run".as_slice(),
+        _ => false,
+    }
+}
+
+// Puts the line for wrong words. The status is the same where the sink fails.
+fn refuse_words<K: Sink>(sink: &mut K) -> Status
+    ensures status { result ≡ Status.Words }
+    ensures wrote { Appends (K.written sink.old) (K.written sink.new) wrong_words_text
+        ⊎ (AppendsLess (K.written sink.old) (K.written sink.new) wrong_words_text × Rose (K.faults sink.old) (K.faults sink.new)) }
+{
+    match put_wrong_words(sink) {
+        Ok(()) => Status::Words,
+        Err(Failed) => Status::Words,
+    }
+}
+
+/// Runs a script: reads it from the source to its end, and puts the replies into the sink, each
+/// statement's when it ends. The words are judged first.
+///
+/// `output` is defined over the script's bytes alone, however they are cut: the replies to its
+/// statements in order, then the line for what stands behind the last `;`. Two laws say what it is
+/// made of: `reads` that a statement is refused at the first byte or token from which none goes on, and
+/// `answers` that a query lists each row with the longest periods in which it holds, moment by moment.
+pub fn run<S: Source, K: Sink>(
+    alloc: Global,
+    words: &[Word],
+    source: &mut S,
+    sink: &mut K,
+) -> Status
+    // Words comes exactly where they are not the one word `run`; nothing else is then taken or written.
+    ensures words { (result ≡ Status.Words) ↔ (are_accepted (map string_bytes words.now) ≡ false) }
+    ensures refused { are_accepted (map string_bytes words.now) ≡ false
+        → RefusedWords (S.left source.old) (S.left source.new) (K.written sink.old) (K.written sink.new) (K.faults sink.old) (K.faults sink.new) }
+
+    // What was taken, and what was written by the status.
+    ensures ran { are_accepted (map string_bytes words.now) ≡ true
+        → Ran (S.left source.old) (S.left source.new) (K.written sink.old) (K.written sink.new) result }
+
+    // Whatever happens, a front of the script's output is written, and all of it where the script was read to its end.
+    ensures front { are_accepted (map string_bytes words.now) ≡ true
+        → WhereTold (S.left source.old) (λ script. AppendsFront (K.written sink.old) (K.written sink.new) (output script)) }
+    ensures whole { is_whole result ≡ true
+        → WhereTold (S.left source.old) (λ script. Appends (K.written sink.old) (K.written sink.new) (output script)) }
+
+    // A fault is answered only where the count of its object rose in this call.
+    ensures read { result ≡ Status.ReadFault → Rose (S.faults source.old) (S.faults source.new) }
+    ensures write { result ≡ Status.WriteFault → Rose (K.faults sink.old) (K.faults sink.new) }
+
+    // What a statement's bytes are read as: a form's statement, or the place from which no statement goes on.
+    ensures reads { (text : List ℕ) → IsReading text (reading text) }
+
+    // The answer to a query, by moments.
+    ensures answers { (script : List ℕ)
+        → IsListing row_cmp (relation_at (past_of script).stages) always (answer (past_of script)) }
+{
+    if !are_accepted(words) {
+        return refuse_words(sink);
+    }
+    drive(alloc, source, sink)
+}

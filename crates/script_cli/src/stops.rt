@@ -1,0 +1,6 @@
+/// Why reading a script stopped before its end.
+#[derive(Clone, Copy, Debug, PartialEq, Eq)]
+pub(crate) enum Stop {
+    WriteFault,
+    NoMemory,
+}
