@@ -1,4 +1,5 @@
-use crate::{Period, Val};
+use crate::{NoMemory, Period, Val};
+use std::alloc::Global;
 use std::cmp::Ordering;
 
 /// A row and the period in which it holds. Its values may be borrowed from a store.
@@ -6,6 +7,21 @@ use std::cmp::Ordering;
 pub struct TimedRow<'a> {
     pub values: Vec<Val<'a>>,
     pub period: Period,
+}
+
+impl<'a> TimedRow<'a> {
+    ghost use Rattle.std.specs.Prelude.{◌≡◌, IfOk};
+    ghost use Rattle.prima_base.specs.Timed.{entry_of};
+
+    /// One that shows the same row in the same period. Borrowed texts stay borrowed.
+    pub fn copy(&self) -> Result<TimedRow<'a>, NoMemory>
+        ensures { IfOk result (λ t. entry_of t ≡ entry_of self.now) }
+    {
+        Ok(TimedRow {
+            values: copy_vals(*self.values.allocator(), &self.values)?,
+            period: self.period,
+        })
+    }
 }
 
 impl TimedRow<'_> {
@@ -25,7 +41,19 @@ impl TimedRow<'_> {
 }
 
 ghost use Rattle.prima_base.specs.Timed.{timed_cmp, vals_cmp};
-ghost use Rattle.std.specs.Prelude.{◌≡◌};
+ghost use Rattle.prima_base.specs.Order.{shown};
+ghost use Rattle.std.specs.Prelude.{◌≡◌, IfOk, map};
+
+// Vals that show the same values.
+fn copy_vals<'a>(alloc: Global, values: &[Val<'a>]) -> Result<Vec<Val<'a>>, NoMemory>
+    ensures { IfOk result (λ v. map shown v.items ≡ map shown values.now) }
+{
+    let mut copies = Vec::with_capacity(alloc, values.len())?;
+    for value in values {
+        copies.push(value.copy()?)?;
+    }
+    Ok(copies)
+}
 
 // Compares the values that are shown, one by one.
 fn compare_rows(a: &[Val<'_>], b: &[Val<'_>]) -> Ordering

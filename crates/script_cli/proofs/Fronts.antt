@@ -2,7 +2,7 @@
 use Rattle.std.proofs.Common.{◌≡◌, ℕ, ◌+◌, ◌<◌, ◌≤◌, List, [], ◌∷◌, ◌++◌, length, Option, Some, None, refl, sym, ap, ◌∙◌, subst, arith}
 use Rattle.script_cli.specs.Tokens.{Token, Piece, End, Bad, Found, next}
 use Rattle.script_cli.specs.Forms.{filled, Parts}
-use Rattle.script_cli.specs.Reading.{Leave, Whole, Left, at_end, at_token, at_slot, leaves, Stand, says, and_more}
+use Rattle.script_cli.specs.Reading.{Leave, Whole, Left, at_end, at_token, at_slot, leaves, Stand, says, and_more, AreTokens}
 use Rattle.script_cli.specs.declared.forms.Slot.{Slot}
 use Rattle.script_cli.proofs.Pieces.{near, Near}
 use Rattle.script_cli.proofs.Fitting.{completed}
@@ -19,7 +19,7 @@ Explains slots place bytes parts (Whole said) =
     (tokens : List Token) × (behind : ℕ) × (rest : List ℕ) × Stand place bytes tokens behind rest × ((q : ℕ) × (next behind rest ≡ End q)) × (says slots tokens parts ≡ Some said)
 Explains slots place bytes parts (Left p) =
     (tokens : List Token) × (behind : ℕ) × (rest : List ℕ) × Stand place bytes tokens behind rest × StandsAt p (next behind rest)
-    × ((more : List Token) × (said : Parts) × (says slots (tokens ++ more) parts ≡ Some said))
+    × ((more : List Token) × AreTokens more × (said : Parts) × (says slots (tokens ++ more) parts ≡ Some said))
 
 -- the text leaves the slots at once
 leaves_here : (slots : List Slot) (place : ℕ) (bytes : List ℕ) (parts : Parts) (p : ℕ) → StandsAt p (next place bytes) → Explains slots place bytes parts (Left p)
@@ -34,7 +34,7 @@ one_more : (s : Slot) (slots : List Slot) (place : ℕ) (bytes : List ℕ) (part
 one_more s slots place bytes parts said t q rest (Whole end) e f h =
     (t ∷ h.0, h.1, h.2, (q, rest, e, h.3), h.4, ap (and_more (says slots h.0)) f ∙ h.5)
 one_more s slots place bytes parts said t q rest (Left p) e f h =
-    (t ∷ h.0, h.1, h.2, (q, rest, e, h.3), h.4, (h.5.0, h.5.1, ap (and_more (says slots (h.0 ++ h.5.0))) f ∙ h.5.2))
+    (t ∷ h.0, h.1, h.2, (q, rest, e, h.3), h.4, (h.5.0, h.5.1, h.5.2, ap (and_more (says slots (h.0 ++ h.5.0))) f ∙ h.5.3))
 
 pub explains : (slots : List Slot) (place : ℕ) (bytes : List ℕ) (parts : Parts) → Explains slots place bytes parts (leaves slots place bytes parts)
 explains [] place bytes parts = by_piece (next place bytes) refl

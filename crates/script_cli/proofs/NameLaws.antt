@@ -1,8 +1,8 @@
 -- What stands as a name is one.
-use Rattle.std.proofs.Common.{◌≡◌, ℕ, zero, suc, ◌+◌, ◌-◌, ◌<◌, ◌≤◌, Bool, true, false, cond, not, ◌||◌, ◌&&◌, ◌==◌, nat_le, List, [], ◌∷◌, length, take, drop, Option, Some, None, ◌⊎◌, inl, inr, refl, sym, ap, ◌∙◌, subst, arith}
+use Rattle.std.proofs.Common.{◌≡◌, ℕ, suc, ◌+◌, ◌<◌, Bool, true, false, cond, not, ◌||◌, ◌&&◌, ◌==◌, nat_le, List, [], ◌∷◌, length, take, Some, None, refl, sym, ap, ◌∙◌, subst, arith}
 use Rattle.std.proofs.lemmas.Bool.Decides.{nat_tests}
 use Rattle.std.specs.List.{prefix_len}
-use Rattle.prima_base.specs.Bytes.{first_from, first_bad, is_name_byte, IsName}
+use Rattle.prima_base.specs.Bytes.{first_from, first_bad, is_name_byte}
 use Rattle.script_cli.specs.Tokens.{is_digit, is_word_start, is_word_byte, Lexeme, Word, Number, Open, Close}
 
 one_order : (w x y z : Bool) → ((w || x || y) || z) ≡ (w || (x || (z || y)))

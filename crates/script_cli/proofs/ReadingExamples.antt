@@ -1,5 +1,5 @@
 -- Texts and what they are read as, by computing.
-use Rattle.std.proofs.Common.{◌≡◌, List, [], codes, ℤ, pos, negsuc, refl}
+use Rattle.std.proofs.Common.{◌≡◌, codes, negsuc, refl}
 use Rattle.script_cli.specs.Tokens.{word_at, number_at, piece_of, next}
 use Rattle.script_cli.specs.Forms.{slots_of, spelling, reserved, moment, small, integer, name, filled}
 use Rattle.script_cli.specs.Reading.{along, first_whole, reading}

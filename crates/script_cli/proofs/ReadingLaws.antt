@@ -89,7 +89,7 @@ no_form text p tokens behind q rest all h e form parts f =
 -- no statement begins with the tokens up to the furthest place and one more
 no_front : (text : List ℕ) (tokens : List Token) (t : Token) (behind q : ℕ) (rest more : List ℕ) → AllLeave text t.place → Stand 0 text tokens behind rest → next behind rest ≡ Found t q more → IsFront (tokens ++ t ∷ []) → ⊥
 unfolding along
-no_front text tokens t behind q rest more all h e (form, others, parts, f) =
+no_front text tokens t behind q rest more all h e (form, others, real, parts, f) =
     let reached = gets_to (tokens ++ t ∷ []) others (slots_of form) 0 q text more nothing parts (stand_more tokens t 0 behind q text rest more h e) f in
     let left = all form in
     let P : Leave → Type 0 = λ leave. Behind q leave in
@@ -106,7 +106,7 @@ fault_found text p form e all =
       behind = h.1;
       rest = h.2;
       stand = h.3;
-      front = (form, h.5.0, h.5.1, h.5.2);
+      front = (form, h.5.0, h.5.1, h.5.2, h.5.3);
       stops = by_piece h.0 h.1 h.2 h.3 (next h.1 h.2) refl h.4;
     }
   where

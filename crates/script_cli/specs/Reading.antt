@@ -1,5 +1,5 @@
 -- What a text is read as.
-use Rattle.std.specs.Prelude.{◌≡◌, ℕ, Bool, true, false, List, [], ◌∷◌, ◌++◌, length, max, Option, Some, None, if◌then◌else◌}
+use Rattle.std.specs.Prelude.{◌≡◌, ℕ, Bool, true, false, List, [], ◌∷◌, ◌++◌, length, max, Option, Some, None, ⊤, if◌then◌else◌}
 use Rattle.std.specs.List.{All}
 use Rattle.script_cli.specs.Tokens.{is_blank, Token, Piece, End, Bad, Found, next}
 use Rattle.script_cli.specs.Forms.{slots_of, forms, filled, Parts, nothing, parts_of}
@@ -99,9 +99,17 @@ says (s ∷ slots) (t ∷ tokens) parts = and_more (says slots tokens) (filled s
 abbrev pub IsForm : Form → List Token → Parts → Type 0
 IsForm form tokens parts = says (slots_of form) tokens nothing ≡ Some parts
 
+-- a token that stands in some text
+abbrev pub IsToken : Token → Type 0
+IsToken t = (place : ℕ) × (bytes : List ℕ) × (behind : ℕ) × (rest : List ℕ) × (next place bytes ≡ Found t behind rest)
+
+abbrev pub AreTokens : List Token → Type 0
+AreTokens [] = ⊤
+AreTokens (t ∷ tokens) = IsToken t × AreTokens tokens
+
 -- a statement can begin with these tokens
 abbrev pub IsFront : List Token → Type 0
-IsFront tokens = (form : Form) × (more : List Token) × (parts : Parts) × IsForm form (tokens ++ more) parts
+IsFront tokens = (form : Form) × (more : List Token) × AreTokens more × (parts : Parts) × IsForm form (tokens ++ more) parts
 
 -- the text is this statement
 pub record IsStatement (text : List ℕ) (st : Statement) : Type 0 where
