@@ -48,8 +48,19 @@ covered_moved xs ys p x m c = (c.0, in_moved xs ys p c.0 c.1, c.2, c.3, c.4)
 vals_as_rows : (a b : TimedRow) → vals_cmp a.values.items b.values.items ≡ row_cmp (entry_of a).item (entry_of b).item
 vals_as_rows a b = sym (lex_map shown value_cmp a.values.items b.values.items)
 
+-- the ends do not matter
+without_ends : (r s e : Ordering) → is_lt (ordering_then r (ordering_then s e)) ≡ false → is_lt (ordering_then r s) ≡ false
+without_ends Less s e h = h
+without_ends Equal Less e h = h
+without_ends Equal Equal e h = refl
+without_ends Equal Greater e h = h
+without_ends Greater s e h = h
+
 not_after : (a b : TimedRow) → is_lt (timed_cmp b a) ≡ false → NotAfter row_cmp row_exact (entry_of a) (entry_of b)
-not_after a b h = step (row_cmp (entry_of b).item (entry_of a).item) refl (subst (λ r. is_lt (ordering_then r (nat_cmp b.period.start a.period.start)) ≡ false) (vals_as_rows b a) h)
+not_after a b h =
+    step (row_cmp (entry_of b).item (entry_of a).item) refl
+    (subst (λ r. is_lt (ordering_then r (nat_cmp b.period.start a.period.start)) ≡ false) (vals_as_rows b a)
+    (without_ends (vals_cmp b.values.items a.values.items) (nat_cmp b.period.start a.period.start) (nat_cmp b.period.end a.period.end) h))
   where
     step : (r : Ordering) → row_cmp (entry_of b).item (entry_of a).item ≡ r → is_lt (ordering_then r (nat_cmp b.period.start a.period.start)) ≡ false → NotAfter row_cmp row_exact (entry_of a) (entry_of b)
     step Less q k = absurd (cc)

@@ -37,7 +37,7 @@ impl<'a> Model for KeyScan<'a> {
 }
 
 impl<'a> KeyScan<'a> {
-    ghost use Rattle.std.specs.Prelude.{◌≡◌, ◌+◌, ◌++◌, [], ◌∷◌, length, IfNone, option_to_list};
+    ghost use Rattle.std.specs.Prelude.{◌≡◌, ◌+◌, ◌++◌, [], length, IfNone, option_to_list};
     ghost use Rattle.history_store.specs.Scans.{keys_from};
 
     /// A scan of these keys from the first on.
@@ -89,7 +89,7 @@ impl<'a> Model for CellScan<'a> {
 }
 
 impl<'a> CellScan<'a> {
-    ghost use Rattle.std.specs.Prelude.{◌≡◌, ℕ, ◌<◌, ◌+◌, ◌++◌, [], ◌∷◌, length, IfNone, option_to_list, option_map, slice_index_or};
+    ghost use Rattle.std.specs.Prelude.{◌≡◌, ℕ, ◌<◌, ◌+◌, ◌++◌, [], length, IfNone, option_to_list, option_map, slice_index_or};
     ghost use Rattle.history_store.specs.Scans.{seen_cell};
     ghost use Rattle.history_store.specs.Fields.{cells_from};
 

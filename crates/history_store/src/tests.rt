@@ -3,7 +3,7 @@ ghost use Rattle.relations.specs.Sets.{In, BeforeAll, Ascends};
 ghost use Rattle.relations.specs.Spans.{forever};
 ghost use Rattle.prima_base.specs.Order.{row_cmp, bytes_cmp};
 ghost use Rattle.prima_base.specs.declared.values.Value.{Value as OneValue};
-ghost use Rattle.history_store.specs.Store.{IsRow, IsRelation, AreColumns, AllBefore, relation_at, names_of, has_type};
+ghost use Rattle.history_store.specs.Store.{IsRow, IsRelation, AreColumns, AllBefore, relation_at, has_type};
 
 use super::*;
 use prima_base::{ColType, FOREVER, Name, NoMemory, Row, Steps, Txt, Val, Value};

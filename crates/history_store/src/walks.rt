@@ -1,4 +1,4 @@
-ghost use Rattle.std.specs.Prelude.{◌≡◌, ℕ, ◌<◌, ◌≤◌, ◌+◌, ◌++◌, [], ◌∷◌, List, length, drop, IfOk, IfSome, option_map, vec_len, vec_capacity};
+ghost use Rattle.std.specs.Prelude.{◌≡◌, ℕ, ◌<◌, ◌≤◌, ◌+◌, ◌++◌, List, length, drop, IfOk, IfSome, option_map, vec_len, vec_capacity};
 ghost use Rattle.relations.specs.Sets.{In, Ascends};
 ghost use Rattle.relations.specs.Spans.{Span, forever};
 ghost use Rattle.prima_base.specs.Order.{row_cmp};

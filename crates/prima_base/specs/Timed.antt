@@ -24,6 +24,6 @@ rows_at rows m = at row_cmp (entries_of rows) m
 abbrev pub vals_cmp : List Val → List Val → Ordering
 vals_cmp a b = slice_cmp (λ x y. value_cmp (shown x) (shown y)) a b
 
--- by row, then start
+-- by row, then start, then end
 abbrev pub timed_cmp : TimedRow → TimedRow → Ordering
-timed_cmp a b = ordering_then (vals_cmp a.values.items b.values.items) (nat_cmp a.period.start b.period.start)
+timed_cmp a b = ordering_then (vals_cmp a.values.items b.values.items) (ordering_then (nat_cmp a.period.start b.period.start) (nat_cmp a.period.end b.period.end))

@@ -9,7 +9,7 @@ use Rattle.prima_base.specs.Timed.{timed_cmp, vals_cmp}
 use Rattle.prima_base.specs.OrderLaws.{val_total}
 
 pub timed_total : IsTotalOrder timed_cmp
-timed_total = then_total (on_total (λ t. t.values.items) (lists_total val_total)) (on_total (λ t. t.period.start) nat_cmp_total)
+timed_total = then_total (on_total (λ t. t.values.items) (lists_total val_total)) (then_total (on_total (λ t. t.period.start) nat_cmp_total) (on_total (λ t. t.period.end) nat_cmp_total))
 
 pub timed_eq_equiv : IsEquivalence (eq_by_cmp timed_cmp)
 timed_eq_equiv = eq_by_cmp_equiv timed_total

@@ -20,16 +20,27 @@ pub enum OpKind {
 /// What there can be too many of.
 #[derive(Clone, Copy, Debug, PartialEq, Eq)]
 pub enum What {
+    /// Nodes of an expression or a condition.
     Nodes,
+    /// Levels of one.
     Depth,
+    /// Parts of a CONCAT.
     Parts,
+    /// Tables of a branch or of a version.
     Tables,
+    /// Branches of a query.
     Branches,
+    /// Outputs of a branch.
     Outputs,
+    /// Keep conditions of a query.
     Keeps,
+    /// Changes of a command.
     Changes,
+    /// Columns of a table.
     Columns,
+    /// Operators of an inverse.
     Inverse,
+    /// Versions of the schema.
     Versions,
 }
 
@@ -38,9 +49,11 @@ pub enum What {
 pub enum OpRefusal {
     /// The table is there already.
     Exists(Name),
+    /// The table is not there.
     NoTable(Name),
     /// The table has, or was given twice, this column.
     ColumnExists(Name, Name),
+    /// The table has no such column.
     NoColumn(Name, Name),
     /// Two tables whose columns do not fit together.
     ColumnsDiffer(Name, Name),
@@ -48,7 +61,9 @@ pub enum OpRefusal {
     BadCover(Name),
     /// The table would have no column left.
     LastColumn(Name),
+    /// The table is named twice.
     SameTable(Name),
+    /// The place of a node whose parts have types that it does not take.
     WrongType(u32),
     /// The counted thing, and its limit.
     TooMany(What, u64),
@@ -68,25 +83,25 @@ pub enum Refusal {
     StampNotLater(u64, u64),
     /// 21: the asked version, and the newest.
     NoVersion(u32, u32),
-    /// 22
+    /// 22: the table that is not there.
     NoTable(Name),
-    /// 23
+    /// 23: the column that is not there.
     NoColumn(Name),
-    /// 24
+    /// 24: the alias that stands twice, or the column that several tables have.
     Ambiguous(Name),
     /// 25: the place of the node.
     WrongType(u32),
-    /// 26
+    /// 26: the table that is there already.
     Exists(Name),
     /// 27: table and column.
     ColumnExists(Name, Name),
-    /// 28
+    /// 28: two tables whose columns do not fit together.
     ColumnsDiffer(Name, Name),
-    /// 29
+    /// 29: the table that the parts of a decomposition do not cover.
     BadCover(Name),
-    /// 30
+    /// 30: the table that would have no column left.
     LastColumn(Name),
-    /// 31
+    /// 31: the table that is named twice.
     SameTable(Name),
     /// 32: the first table that the inverse does not give back.
     InverseMisses(Name),

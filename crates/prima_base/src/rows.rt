@@ -1,4 +1,6 @@
 ghost use Rattle.std.specs.Prelude.{◌≡◌, IfOk};
+ghost use Rattle.relations.specs.Sets.{IsExact};
+ghost use Rattle.prima_base.specs.Order.{row_cmp};
 
 use crate::{NoMemory, Value};
 use std::alloc::Global;
@@ -120,10 +122,8 @@ impl Ord for Row {
     }
 }
 
-/// Two rows that the order does not part are equal.
+/// The order of rows is a strict one, and two rows that it does not part are equal: so a relation, as
+/// the ascending list of its rows, is determined by them.
 pub fn rows_are_told_apart()
     ensures { IsExact row_cmp }
 {}
-
-ghost use Rattle.relations.specs.Sets.{IsExact};
-ghost use Rattle.prima_base.specs.Order.{row_cmp};

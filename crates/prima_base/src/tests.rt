@@ -1,7 +1,7 @@
+ghost use Rattle.std.specs.Prelude.{◌<◌};
+
 use crate::*;
 use std::alloc::{AllocError, Global};
-use std::marker::Brand;
-use std::sync::ledger::{Blank, Ledger};
 use std::test::Fail;
 
 // So many letters.
@@ -93,33 +93,22 @@ fn timed_rows_in_order(rt: HostRuntime) -> Result<(), Fail> {
     let alloc = rt.alloc();
     let early = timed_row(alloc, 1, 3)?;
     assert!(rt; early < timed_row(alloc, 1, 4)? && timed_row(alloc, 0, 9)? < early);
-    assert!(rt; early.copy().is_ok_and(|copy| copy == early));
+    assert!(rt;
+        early
+            .copy()
+            .is_ok_and(|copy| copy == early && copy.period == early.period)
+    );
     Ok(())
 }
 
 // The row of one number, from a moment on.
-fn timed_row<'a>(alloc: Global, value: i64, start: u64) -> Result<TimedRow<'a>, AllocError> {
+fn timed_row<'a>(alloc: Global, value: i64, start: u64) -> Result<TimedRow<'a>, AllocError>
+    requires { start < FOREVER }
+{
     let mut values = Vec::new(alloc);
     values.push(Val::Int(value))?;
     Ok(TimedRow {
         values,
-        period: Period::from(start % 1000),
+        period: Period::from(start),
     })
-}
-
-fn tick_twice<L: Ledger>(blank: Blank)
-    requires name { blank.name ≡ L.name }
-    requires parts { blank.parts ≡ L.parts }
-    requires some { 0 < blank.parts }
-{
-    let mut steps: Steps<L> = Steps::new(blank);
-    steps.tick();
-    steps.tick();
-}
-
-ghost use Rattle.std.specs.Prelude.{◌≡◌, ◌<◌};
-
-#[test]
-fn a_counter_counts() {
-    tick_twice::<Brand>(Blank::new(1))
 }

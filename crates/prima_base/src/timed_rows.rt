@@ -25,18 +25,17 @@ impl<'a> TimedRow<'a> {
 }
 
 impl TimedRow<'_> {
-    ghost use Rattle.std.specs.Prelude.{◌≡◌, true, ◌↔◌, IsTrue};
-    ghost use Rattle.std.specs.Cmp.Lexicographic.{slice_cmp};
-    ghost use Rattle.prima_base.specs.Order.{value_cmp, shown};
+    ghost use Rattle.std.specs.Prelude.{◌≡◌};
+    ghost use Rattle.prima_base.specs.Order.{shown};
     ghost use Rattle.prima_base.specs.Timed.{timed_cmp};
 
-    /// Compares by row, then start.
+    /// Compares by row, then start, then end.
     pub fn compare(&self, other: &TimedRow<'_>) -> Ordering
         ensures { result ≡ timed_cmp self.now other.now }
     {
-        compare_rows(&self.values, &other.values).then(
-            self.period.start().cmp(&other.period.start()),
-        )
+        let starts = self.period.start().cmp(&other.period.start());
+        let ends = self.period.end().cmp(&other.period.end());
+        compare_rows(&self.values, &other.values).then(starts.then(ends))
     }
 }
 

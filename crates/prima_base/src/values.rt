@@ -31,14 +31,7 @@ impl Value {
 
 impl Value {
     ghost use Rattle.std.specs.Prelude.{◌≡◌};
-    ghost use Rattle.prima_base.specs.Order.{value_cmp, shown};
-
-    /// Compares two values.
-    pub fn compare(&self, other: &Value) -> Ordering
-        ensures { result ≡ value_cmp self.now other.now }
-    {
-        self.cmp(other)
-    }
+    ghost use Rattle.prima_base.specs.Order.{shown};
 
     /// The same value, borrowed. It takes no memory.
     pub fn lend(&self) -> Val<'_>

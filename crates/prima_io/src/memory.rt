@@ -1,4 +1,4 @@
-ghost use Rattle.std.specs.Prelude.{◌≡◌, drop, take, min, ℕ, Some, None, length, ◌≤◌, ◌<◌, ◌↔◌, IsTrue, vec_len, vec_capacity, IsErr, is_ok, [], IfOk, ◌||◌, nat_lt, ◌-◌, if◌then◌else◌};
+ghost use Rattle.std.specs.Prelude.{◌≡◌, take, min, Some, length, ◌≤◌, ◌<◌, ◌↔◌, IsTrue, vec_len, vec_capacity, IsErr, is_ok, [], IfOk, ◌||◌, nat_lt, ◌-◌, if◌then◌else◌};
 ghost use Rattle.std.specs.Io.{ReadsAtMost, WritesAtMost};
 ghost use Rattle.std.specs.Io.KnownBytes.{ReadConsumes, WriteAppends};
 ghost use Rattle.prima_io.specs.Causes.{HasCause, counted};

@@ -1,4 +1,7 @@
-ghost use Rattle.std.specs.Prelude.{◌≡◌, drop, take, min, ℕ, Some, None, length, ◌≤◌, ◌+◌, ◌++◌, vec_len};
+ghost use Rattle.std.specs.Prelude.{◌≡◌, drop, take, min, Some, None, length, ◌≤◌, ◌<◌, ◌+◌, ◌++◌, vec_len, IsOkAnd};
+ghost use Rattle.std.specs.Io.{ReadsAtMost};
+ghost use Rattle.std.specs.Io.KnownBytes.{ReadConsumes};
+ghost use Rattle.prima_io.specs.Causes.{HasCause};
 
 use crate::{Failed, Sink, Source};
 
@@ -40,7 +43,13 @@ impl Source for SureSource {
 
     ghost faults = { λ _. 0 };
 
-    fn take(&mut self, buf: &mut [u8]) -> Result<usize, Failed> {
+    fn take(&mut self, buf: &mut [u8]) -> Result<usize, Failed>
+        requires { 0 < length buf.old }
+        ensures bound { ReadsAtMost result buf.new }
+        ensures bytes { ReadConsumes (Some (sure_left self.old)) (Some (sure_left self.new)) result buf.new }
+        ensures cause { HasCause 0 0 result }
+        ensures count { IsOkAnd result (λ n. n ≡ min (length buf.old) (length (sure_left self.old))) }
+    {
         let n = hand_out(&self.bytes, self.at, usize::MAX, buf);
         self.at += n;
         Ok(n)
@@ -60,7 +69,7 @@ impl SureSink {
 }
 
 impl Sink for SureSink {
-    ghost use Rattle.std.specs.Prelude.{◌≡◌, ℕ, None, length, IfOk};
+    ghost use Rattle.std.specs.Prelude.{◌≡◌, None, length, IfOk};
     ghost use Rattle.std.specs.Io.{WritesAtMost};
     ghost use Rattle.std.specs.Io.KnownBytes.{WriteAppends};
     ghost use Rattle.prima_io.specs.Causes.{HasCause};

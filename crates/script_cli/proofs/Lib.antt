@@ -25,3 +25,5 @@ pub mod NameLaws
 pub mod Named
 pub mod ReadingLaws
 pub mod ReadingExamples
+pub mod Joined
+pub mod Errors

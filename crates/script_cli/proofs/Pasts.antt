@@ -13,7 +13,7 @@ use Rattle.script_cli.specs.declared.statements.Statement.{Statement}
 use Rattle.script_cli.specs.declared.statements.Statement.TheVariants.{CreateTable, Insert, Query}
 use Rattle.script_cli.specs.declared.statements.Reading.{Reading}
 use Rattle.script_cli.specs.declared.statements.Reading.TheVariants.{Blank, Fault, Whole}
-use Rattle.script_cli.specs.declared.TheConstants.{MAX_STATEMENT}
+use Rattle.script_cli.specs.Limits.{longest_statement}
 use Rattle.script_cli.specs.Past.{Table, Past, beginning, latest, current, from_stamp, created, inserted, with_value, row_of, gained, answer}
 use Rattle.script_cli.specs.Texts.{inserted_text, syntax_text, stamp_text, no_table_text, listing_text}
 use Rattle.script_cli.proofs.Moments.{has_moment}
@@ -110,12 +110,12 @@ reading_lawful (Whole (Query version column table version_at column_at)) past m 
 pub reply_lawful : (past : Past) (text : List ℕ) → IsPast past → IsPast (reply past text).past
 unfolding reply
 reply_lawful past text h =
-    elim (is_too_long text) as (λ v. IsPast (cond v (refused (syntax_text MAX_STATEMENT) past) (reading_reply (reading text) past)).past) [
+    elim (is_too_long text) as (λ v. IsPast (cond v (refused (syntax_text longest_statement) past) (reading_reply (reading text) past)).past) [
       | true ↦ h
       | false ↦ reading_lawful (reading text) past (has_moment text) h
     ]
 
-past_lawful : (statements : List (List ℕ)) (past : Past) → IsPast past → IsPast (past_after past statements)
+pub past_lawful : (statements : List (List ℕ)) (past : Past) → IsPast past → IsPast (past_after past statements)
 past_lawful [] past h = h
 past_lawful (s ∷ statements) past h = past_lawful statements (reply past s).past (reply_lawful past s h)
 

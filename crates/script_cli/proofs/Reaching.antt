@@ -14,7 +14,7 @@ use Rattle.script_cli.specs.declared.sessions.Session.{Session}
 use Rattle.script_cli.specs.Shows.{ShowsState}
 use Rattle.script_cli.specs.Machine.{State, start, steps, says, is_faulty}
 use Rattle.script_cli.specs.Runs.{Ran, WroteAll, WroteFront, WhereTold, is_whole, Ends}
-use Rattle.script_cli.specs.declared.TheConstants.{SCRIPT_LIMIT}
+use Rattle.script_cli.specs.Limits.{longest_script}
 use Rattle.script_cli.specs.declared.runs.Status.{Status}
 use Rattle.script_cli.specs.declared.runs.Status.TheVariants.{Done, Refused, Words, ReadFault, WriteFault, NoMemory, InputLimit}
 use Rattle.script_cli.proofs.Splits.{statements-append, replies-append}
@@ -36,6 +36,9 @@ module _ {a b u v : Option (List ℕ)} {s : Session} {n : ℕ} where
   consumed_still : (c : Option (List ℕ)) (r : Reached a b u v s n) → Consumes b c [] → Consumes a c r.taken
   consumed_still c r k = subst (Consumes a c) (append-nil r.taken) (Consumes-trans a b c r.taken [] r.consumed k)
 
+  taken_within : (r : Reached a b u v s n) (piece : List ℕ) → n + length piece ≤ longest_script → length (r.taken ++ piece) ≤ longest_script
+  taken_within r piece l = subst (λ m. m ≤ longest_script) (sym (length-append r.taken piece)) (subst (λ m. m + length piece ≤ longest_script) r.counted l)
+
   front_piece : (w : Option (List ℕ)) (r : Reached a b u v s n) (piece : List ℕ) → AppendsFront v w (says (steps start r.taken) piece) → AppendsFront u w (replies_of (r.taken ++ piece))
   front_piece w r piece p =
       subst (AppendsFront u w) (sym (says-append start r.taken piece) ∙ says_replies (r.taken ++ piece))
@@ -52,14 +55,14 @@ pub reach_start : (a u : Option (List ℕ)) (s : Session) → ShowsState s start
 reach_start a u s h k p = record { taken = []; consumed = k; shows = h; counted = refl; wrote = p }
 
 module _ {a b c u v : Option (List ℕ)} {s : Session} {n : ℕ} where
-  pub ran_read : Reached a b u v s n → Keeps b c → Ran a c u v ReadFault
-  ran_read r k = record { taken = r.taken; consumed = Consumes-kept a b c r.taken r.consumed k; wrote = wrote_replies r }
+  pub ran_read : Reached a b u v s n → n ≤ longest_script → Keeps b c → Ran a c u v ReadFault
+  ran_read r l k = record { taken = r.taken; consumed = Consumes-kept a b c r.taken r.consumed k; wrote = (subst (λ m. m ≤ longest_script) r.counted l, wrote_replies r) }
 
-  pub ran_limit : (r : Reached a b u v s n) (piece : List ℕ) → Consumes b c piece → n ≡ SCRIPT_LIMIT → length piece ≡ 1 → Ran a c u v InputLimit
+  pub ran_limit : (r : Reached a b u v s n) (piece : List ℕ) → Consumes b c piece → n ≡ longest_script → length piece ≡ 1 → Ran a c u v InputLimit
   ran_limit r piece k e l = record {
     taken = r.taken ++ piece;
     consumed = Consumes-trans a b c r.taken piece r.consumed k;
-    wrote = (length-append r.taken piece ∙ omega (arith, r.counted), subst (λ t. Appends u v (replies_of t)) (sym (take_at r.taken piece SCRIPT_LIMIT (sym r.counted ∙ e))) (wrote_replies r));
+    wrote = (length-append r.taken piece ∙ omega (arith, r.counted), subst (λ t. Appends u v (replies_of t)) (sym (take_at r.taken piece longest_script (sym r.counted ∙ e))) (wrote_replies r));
   }
 
 module _ {a b c u v w : Option (List ℕ)} {s : Session} {n : ℕ} where
@@ -73,23 +76,23 @@ module _ {a b c u v w : Option (List ℕ)} {s : Session} {n : ℕ} where
     wrote = subst (Appends u w) (sym (says-append start r.taken piece)) (Appends-trans u v w (says start r.taken) (says (steps start r.taken) piece) r.wrote (p (steps start r.taken) r.shows));
   }
 
-  pub ran_memory : (r : Reached a b u v s n) (piece : List ℕ) → Consumes b c piece → ((state : State) → ShowsState s state → AppendsFront v w (says state piece)) → Ran a c u w NoMemory
-  ran_memory r piece k p = record { taken = r.taken ++ piece; consumed = Consumes-trans a b c r.taken piece r.consumed k; wrote = inl (front_piece w r piece (p (steps start r.taken) r.shows)) }
+  pub ran_memory : (r : Reached a b u v s n) (piece : List ℕ) → n + length piece ≤ longest_script → Consumes b c piece → ((state : State) → ShowsState s state → AppendsFront v w (says state piece)) → Ran a c u w NoMemory
+  ran_memory r piece l k p = record { taken = r.taken ++ piece; consumed = Consumes-trans a b c r.taken piece r.consumed k; wrote = (taken_within r piece l, inl (front_piece w r piece (p (steps start r.taken) r.shows))) }
 
-  pub ran_write : (r : Reached a b u v s n) (piece : List ℕ) → Consumes b c piece → ((state : State) → ShowsState s state → AppendsFront v w (says state piece)) → Ran a c u w WriteFault
-  ran_write r piece k p = record { taken = r.taken ++ piece; consumed = Consumes-trans a b c r.taken piece r.consumed k; wrote = inl (front_piece w r piece (p (steps start r.taken) r.shows)) }
+  pub ran_write : (r : Reached a b u v s n) (piece : List ℕ) → n + length piece ≤ longest_script → Consumes b c piece → ((state : State) → ShowsState s state → AppendsFront v w (says state piece)) → Ran a c u w WriteFault
+  ran_write r piece l k p = record { taken = r.taken ++ piece; consumed = Consumes-trans a b c r.taken piece r.consumed k; wrote = (taken_within r piece l, inl (front_piece w r piece (p (steps start r.taken) r.shows))) }
 
-  wrote_all : (r : Reached a b u v s n) → n ≤ SCRIPT_LIMIT → IsAtEnd c → Appends v w (tail_text (steps start r.taken).kept) → WroteAll r.taken c u w
-  wrote_all r le end p = record { end = end; within = subst (λ m. m ≤ SCRIPT_LIMIT) r.counted le; all = all_said w r p }
+  wrote_all : (r : Reached a b u v s n) → n ≤ longest_script → IsAtEnd c → Appends v w (tail_text (steps start r.taken).kept) → WroteAll r.taken c u w
+  wrote_all r le end p = record { end = end; within = subst (λ m. m ≤ longest_script) r.counted le; all = all_said w r p }
 
-  pub ran_end : (status : Status) (r : Reached a b u v s n) → n ≤ SCRIPT_LIMIT → Consumes b c [] → IsAtEnd c → ((state : State) → ShowsState s state → Ends status state v w) → Ran a c u w status
+  pub ran_end : (status : Status) (r : Reached a b u v s n) → n ≤ longest_script → Consumes b c [] → IsAtEnd c → ((state : State) → ShowsState s state → Ends status state v w) → Ran a c u w status
   ran_end status r le k end f = by status (f (steps start r.taken) r.shows)
     where
       by : (status : Status) → Ends status (steps start r.taken) v w → Ran a c u w status
       by Done e = record { taken = r.taken; consumed = consumed_still c r k; wrote = (wrote_all r le end e.0, sym (faulty_script r.taken) ∙ e.1) }
       by Refused e = record { taken = r.taken; consumed = consumed_still c r k; wrote = (wrote_all r le end e.0, sym (faulty_script r.taken) ∙ e.1) }
-      by WriteFault e = record { taken = r.taken; consumed = consumed_still c r k; wrote = inr (end, front_said w r e) }
-      by NoMemory e = record { taken = r.taken; consumed = consumed_still c r k; wrote = inr (end, front_said w r e) }
+      by WriteFault e = record { taken = r.taken; consumed = consumed_still c r k; wrote = (subst (λ m. m ≤ longest_script) r.counted le, inr (end, front_said w r e)) }
+      by NoMemory e = record { taken = r.taken; consumed = consumed_still c r k; wrote = (subst (λ m. m ≤ longest_script) r.counted le, inr (end, front_said w r e)) }
       by ReadFault e = absurd e
       by Words e = absurd e
       by InputLimit e = absurd e
@@ -131,10 +134,10 @@ pub ran_front : (a c u w : Option (List ℕ)) (status : Status) → Ran a c u w 
 ran_front a c u w Done r = told_end (λ script. AppendsFront u w (output script)) a c r.taken r.consumed r.wrote.0.end (whole u w _ r.wrote.0.all)
 ran_front a c u w Refused r = told_end (λ script. AppendsFront u w (output script)) a c r.taken r.consumed r.wrote.0.end (whole u w _ r.wrote.0.all)
 ran_front a c u w Words r = absurd r.wrote
-ran_front a c u w ReadFault r = front_told a c u w r.taken r.consumed (whole u w _ r.wrote)
-ran_front a c u w WriteFault r = write_told a c u w r.taken r.consumed r.wrote
-ran_front a c u w NoMemory r = write_told a c u w r.taken r.consumed r.wrote
-ran_front a c u w InputLimit r = limit_told a c u w r.taken SCRIPT_LIMIT r.consumed r.wrote.1
+ran_front a c u w ReadFault r = front_told a c u w r.taken r.consumed (whole u w _ r.wrote.1)
+ran_front a c u w WriteFault r = write_told a c u w r.taken r.consumed r.wrote.1
+ran_front a c u w NoMemory r = write_told a c u w r.taken r.consumed r.wrote.1
+ran_front a c u w InputLimit r = limit_told a c u w r.taken longest_script r.consumed r.wrote.1
 
 pub ran_whole : (a c u w : Option (List ℕ)) (status : Status) → Ran a c u w status → is_whole status ≡ true → WhereTold a (λ script. Appends u w (output script))
 ran_whole a c u w Done r e = told_end (λ script. Appends u w (output script)) a c r.taken r.consumed r.wrote.0.end r.wrote.0.all

@@ -9,7 +9,7 @@ use Rattle.script_cli.specs.Past.{Past, beginning}
 use Rattle.script_cli.specs.Split.{statements_from, tail_from, statements_of, tail_of}
 use Rattle.script_cli.specs.Output.{reply, replies, past_after, any_error, is_too_long, replies_of, past_of, tail_text, tail_is_due, has_error}
 use Rattle.script_cli.specs.Machine.{State, start, step, said, steps, says, is_faulty}
-use Rattle.script_cli.specs.declared.TheConstants.{MAX_STATEMENT}
+use Rattle.script_cli.specs.Limits.{longest_statement}
 use Rattle.script_cli.proofs.Splits.{or_assoc}
 
 -- what is kept of a statement, for a longest length of m
@@ -40,29 +40,29 @@ clip_more m b t = by (nat_lt m (length (clip m t))) refl
         ap (λ l. l ++ b ∷ []) (take_all (m + 1) t (omega arith))
         ∙ sym (take_all (m + 1) (t ++ b ∷ []) (omega (arith, length-append t (b ∷ []))))
 
-reply_clip : (p : Past) (t : List ℕ) → reply p (clip MAX_STATEMENT t) ≡ reply p t
+reply_clip : (p : Past) (t : List ℕ) → reply p (clip longest_statement t) ≡ reply p t
 unfolding reply
 reply_clip p t = by (is_too_long t) refl
   where
-    by : (v : Bool) → is_too_long t ≡ v → reply p (clip MAX_STATEMENT t) ≡ reply p t
-    by true e = rw (long_clip MAX_STATEMENT t, e) refl
-    by false e = ap (reply p) (clip_whole MAX_STATEMENT t e)
+    by : (v : Bool) → is_too_long t ≡ v → reply p (clip longest_statement t) ≡ reply p t
+    by true e = rw (long_clip longest_statement t, e) refl
+    by false e = ap (reply p) (clip_whole longest_statement t e)
 
-tail_clip : (t : List ℕ) → tail_text (clip MAX_STATEMENT t) ≡ tail_text t
+tail_clip : (t : List ℕ) → tail_text (clip longest_statement t) ≡ tail_text t
 unfolding tail_text
 tail_clip t = by (is_too_long t) refl
   where
-    by : (v : Bool) → is_too_long t ≡ v → tail_text (clip MAX_STATEMENT t) ≡ tail_text t
-    by true e = rw (long_clip MAX_STATEMENT t, e) refl
-    by false e = ap tail_text (clip_whole MAX_STATEMENT t e)
+    by : (v : Bool) → is_too_long t ≡ v → tail_text (clip longest_statement t) ≡ tail_text t
+    by true e = rw (long_clip longest_statement t, e) refl
+    by false e = ap tail_text (clip_whole longest_statement t e)
 
-due_clip : (t : List ℕ) → tail_is_due (clip MAX_STATEMENT t) ≡ tail_is_due t
+due_clip : (t : List ℕ) → tail_is_due (clip longest_statement t) ≡ tail_is_due t
 unfolding tail_is_due
 due_clip t = by (is_too_long t) refl
   where
-    by : (v : Bool) → is_too_long t ≡ v → tail_is_due (clip MAX_STATEMENT t) ≡ tail_is_due t
-    by true e = rw (long_clip MAX_STATEMENT t, e) refl
-    by false e = ap tail_is_due (clip_whole MAX_STATEMENT t e)
+    by : (v : Bool) → is_too_long t ≡ v → tail_is_due (clip longest_statement t) ≡ tail_is_due t
+    by true e = rw (long_clip longest_statement t, e) refl
+    by false e = ap tail_is_due (clip_whole longest_statement t e)
 
 clip_nil : (m : ℕ) → clip m [] ≡ []
 unfolding clip
@@ -70,7 +70,7 @@ clip_nil m = take-nil (m + 1)
 
 -- the machine after the bytes of a statement so far
 abbrev at : List ℕ → Past → Bool → State
-at current past refused = record { kept = clip MAX_STATEMENT current; past = past; refused = refused }
+at current past refused = record { kept = clip longest_statement current; past = past; refused = refused }
 
 -- what it is behind more bytes
 abbrev behind : List ℕ → Past → Bool → List ℕ → State
@@ -79,11 +79,11 @@ behind current past refused bytes =
 
 step_end : (c : List ℕ) (p : Past) (r : Bool) (b : ℕ) → (b == 59) ≡ true → step (at c p r) b ≡ at [] (reply p c).past (r || (reply p c).is_error)
 unfolding step
-step_end c p r b e = rw (e, reply_clip p c, clip_nil MAX_STATEMENT) refl
+step_end c p r b e = rw (e, reply_clip p c, clip_nil longest_statement) refl
 
 step_more : (c : List ℕ) (p : Past) (r : Bool) (b : ℕ) → (b == 59) ≡ false → step (at c p r) b ≡ at (c ++ b ∷ []) p r
 unfolding step
-step_more c p r b e = rw (e, clip_more MAX_STATEMENT b c) refl
+step_more c p r b e = rw (e, clip_more longest_statement b c) refl
 
 said_end : (c : List ℕ) (p : Past) (r : Bool) (b : ℕ) → (b == 59) ≡ true → said (at c p r) b ≡ (reply p c).text
 unfolding said
@@ -114,7 +114,7 @@ says_behind (b ∷ bytes) c p r = elim (b == 59) as (λ v. (b == 59) ≡ v → s
 ] refl
 
 start_at : start ≡ at [] beginning false
-start_at = ap (λ k. record { kept = k; past = beginning; refused = false }) (sym (clip_nil MAX_STATEMENT))
+start_at = ap (λ k. record { kept = k; past = beginning; refused = false }) (sym (clip_nil longest_statement))
 
 -- what a run knows of the machine behind a script's bytes
 pub says_replies : (script : List ℕ) → says start script ≡ replies_of script

@@ -13,3 +13,4 @@ pub mod Shows
 pub mod Codes
 pub mod Held
 pub mod Gathering
+pub mod Limits

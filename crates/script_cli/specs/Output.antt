@@ -1,7 +1,8 @@
 -- The replies to a script.
-use Rattle.std.specs.Prelude.{ℕ, ℤ, List, [], ◌∷◌, ◌++◌, ◌||◌, ◌&&◌, Bool, true, false, nat_lt, ◌==◌, nat_eq, length, Option, Some, None, if◌then◌else◌}
+use Rattle.std.specs.Prelude.{ℕ, ℤ, List, [], ◌∷◌, ◌++◌, ◌||◌, ◌&&◌, Bool, true, false, nat_lt, ◌==◌, nat_eq, codes, length, Option, Some, None, if◌then◌else◌}
+use Rattle.std.specs.List.{starts_with}
 use Rattle.std.specs.Cmp.Lexicographic.{pointwise}
-use Rattle.script_cli.specs.declared.TheConstants.{MAX_STATEMENT}
+use Rattle.script_cli.specs.Limits.{longest_statement}
 use Rattle.script_cli.specs.declared.statements.Statement.{Statement}
 use Rattle.script_cli.specs.declared.statements.Statement.TheVariants.{CreateTable, Insert, Query}
 use Rattle.script_cli.specs.declared.statements.Reading.{Reading}
@@ -70,12 +71,16 @@ reading_reply Blank past = accepted [] past
 reading_reply (Fault place) past = refused (syntax_text place) past
 reading_reply (Whole statement) past = statement_reply statement past
 
+-- the line is an error
+abbrev pub is_error_line : List ℕ → Bool
+is_error_line text = starts_with nat_eq text (codes "error ")
+
 abbrev pub is_too_long : List ℕ → Bool
-is_too_long text = nat_lt MAX_STATEMENT (length text)
+is_too_long text = nat_lt longest_statement (length text)
 
 -- the reply to a statement of these bytes
 unfoldable pub reply : Past → List ℕ → Reply
-reply past text = if is_too_long text then refused (syntax_text MAX_STATEMENT) past else reading_reply (reading text) past
+reply past text = if is_too_long text then refused (syntax_text longest_statement) past else reading_reply (reading text) past
 
 -- what stands behind the last `;` is no statement: nothing is due where it is blank, else an `error` line, at its
 -- end where it is a whole form
@@ -85,7 +90,7 @@ reading_tail (Fault place) tail = syntax_text place
 reading_tail (Whole statement) tail = syntax_text (length tail)
 
 unfoldable pub tail_text : List ℕ → List ℕ
-tail_text tail = if is_too_long tail then syntax_text MAX_STATEMENT else reading_tail (reading tail) tail
+tail_text tail = if is_too_long tail then syntax_text longest_statement else reading_tail (reading tail) tail
 
 abbrev pub reading_is_due : Reading → Bool
 reading_is_due Blank = false

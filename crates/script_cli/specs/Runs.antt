@@ -7,7 +7,7 @@ use Rattle.prima_io.specs.Moves.{AppendsFront, AppendsLess}
 use Rattle.script_cli.specs.Output.{output, replies_of, has_error, tail_text}
 use Rattle.script_cli.specs.Machine.{State, is_faulty}
 use Rattle.script_cli.specs.Texts.{wrong_words_text}
-use Rattle.script_cli.specs.declared.TheConstants.{SCRIPT_LIMIT}
+use Rattle.script_cli.specs.Limits.{longest_script}
 use Rattle.script_cli.specs.declared.runs.Status.{Status}
 use Rattle.script_cli.specs.declared.runs.Status.TheVariants.{Done, Refused, Words, ReadFault, WriteFault, NoMemory, InputLimit}
 
@@ -19,7 +19,7 @@ WhereTold (Some bytes) P = P bytes
 -- the script ended, and all that is due was written
 pub record WroteAll (taken : List ℕ) (left written_old written_new : Option (List ℕ)) : Type 0 where
   pub end : IsAtEnd left
-  pub within : length taken ≤ SCRIPT_LIMIT
+  pub within : length taken ≤ longest_script
   pub all : Appends written_old written_new (output taken)
 
 -- a front of the replies was written, or the script ended and a front of all that is due was
@@ -37,10 +37,10 @@ abbrev pub Wrote : Status → List ℕ → Option (List ℕ) → Option (List �
 Wrote Done taken left old new = WroteAll taken left old new × (has_error taken ≡ false)
 Wrote Refused taken left old new = WroteAll taken left old new × (has_error taken ≡ true)
 Wrote Words taken left old new = ⊥
-Wrote ReadFault taken left old new = Appends old new (replies_of taken)
-Wrote WriteFault taken left old new = WroteFront taken left old new
-Wrote NoMemory taken left old new = WroteFront taken left old new
-Wrote InputLimit taken left old new = (length taken ≡ SCRIPT_LIMIT + 1) × Appends old new (replies_of (take SCRIPT_LIMIT taken))
+Wrote ReadFault taken left old new = (length taken ≤ longest_script) × Appends old new (replies_of taken)
+Wrote WriteFault taken left old new = (length taken ≤ longest_script) × WroteFront taken left old new
+Wrote NoMemory taken left old new = (length taken ≤ longest_script) × WroteFront taken left old new
+Wrote InputLimit taken left old new = (length taken ≡ longest_script + 1) × Appends old new (replies_of (take longest_script taken))
 
 -- these bytes were taken, and this was written
 pub record Ran (left_old left_new written_old written_new : Option (List ℕ)) (status : Status) : Type 0 where

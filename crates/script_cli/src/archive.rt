@@ -1,15 +1,14 @@
 //! What has been accepted: the one table with its history, and the last stamp.
 
-ghost use Rattle.std.specs.Prelude.{◌≡◌, ℕ, ℤ, List, ◌-◌, ◌+◌, ◌<◌, ◌≤◌, [], ◌∷◌, OnErr, OnOk, IfOk, IsTrue, ◌↔◌, None, is_some, length, MatchOption, insert};
-ghost use Rattle.relations.specs.Sets.{Ascends, put_in, set_of};
+ghost use Rattle.std.specs.Prelude.{◌≡◌, ℕ, List, ◌-◌, ◌<◌, ◌≤◌, [], OnErr, OnOk, IfOk, IsTrue, None, is_some, length, MatchOption, insert};
+ghost use Rattle.relations.specs.Sets.{Ascends, put_in};
 ghost use Rattle.relations.specs.Spans.{forever};
 ghost use Rattle.prima_base.specs.Order.{row_cmp};
 ghost use Rattle.prima_base.specs.declared.values.Value.{Value as OneValue};
-ghost use Rattle.prima_base.specs.declared.values.ColType.TheVariants.{Int as IntType};
-ghost use Rattle.history_store.specs.Store.{AllBefore, Store, relation_at};
+ghost use Rattle.history_store.specs.Store.{AllBefore, relation_at};
 ghost use Rattle.script_cli.specs.Past.{Past, beginning, created, inserted, gained, row_of, with_value};
 ghost use Rattle.script_cli.specs.Lawful.{IsLater};
-ghost use Rattle.script_cli.specs.ShowsPast.{ShowsPast, IsOneInt, blocking};
+ghost use Rattle.script_cli.specs.ShowsPast.{ShowsPast, IsOneInt};
 
 use history_store::StoredTable;
 use prima_base::{ColType, Name, NoMemory, Row, Value};
@@ -78,16 +77,6 @@ impl Archive {
         Archive {
             last: None,
             table: None,
-        }
-    }
-
-    /// The last stamp, where the given one is not above it.
-    pub(crate) fn blocking(&self, stamp: u64) -> Option<u64>
-        ensures { result ≡ blocking self.now.last stamp }
-    {
-        match self.last {
-            None => None,
-            Some(last) => { if last < stamp { None } else { Some(last) } }
         }
     }
 }

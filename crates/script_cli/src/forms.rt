@@ -1,6 +1,6 @@
 //! The forms of statements, as rows of slots, and what a token says at a slot.
 
-ghost use Rattle.std.specs.Prelude.{◌≡◌, ◌+◌, ◌*◌, ◌-◌, ◌^◌, ◌≤◌, ◌<◌, length, map, MatchOption, Some, None, if◌then◌else◌};
+ghost use Rattle.std.specs.Prelude.{◌≡◌, ◌+◌, ◌*◌, ◌-◌, ◌^◌, ◌≤◌, ◌<◌, map, MatchOption, Some, None, if◌then◌else◌};
 ghost use Rattle.std.specs.Option.{option_map};
 ghost use Rattle.script_cli.specs.Tokens as tokens;
 ghost use Rattle.script_cli.specs.Forms as spec;
@@ -9,7 +9,7 @@ use crate::tokens::{Lexeme, Token};
 
 /// A form of statements.
 #[derive(Clone, Copy, Debug, PartialEq, Eq)]
-pub enum Form {
+pub(crate) enum Form {
     CreateTable,
     Insert,
     Query,
@@ -17,7 +17,7 @@ pub enum Form {
 
 /// A word that stands in a form.
 #[derive(Clone, Copy, Debug, PartialEq, Eq)]
-pub enum Keyword {
+pub(crate) enum Keyword {
     At,
     Evolve,
     Create,
@@ -34,7 +34,7 @@ pub enum Keyword {
 
 /// What stands at a place of a form.
 #[derive(Clone, Copy, Debug, PartialEq, Eq)]
-pub enum Slot {
+pub(crate) enum Slot {
     Exact(Keyword),
     /// A word whose place is kept.
     Noted(Keyword),
@@ -52,15 +52,15 @@ pub enum Slot {
 
 /// What the tokens so far say: values, and places in bytes. What none said yet is 0 or empty.
 #[derive(Clone, Copy)]
-pub struct Parts<'a> {
-    pub stamp: u64,
-    pub version: u32,
-    pub value: i64,
-    pub table: &'a [u8],
-    pub column: &'a [u8],
-    pub noted_at: u32,
-    pub version_at: u32,
-    pub column_at: u32,
+pub(crate) struct Parts<'a> {
+    pub(crate) stamp: u64,
+    pub(crate) version: u32,
+    pub(crate) value: i64,
+    pub(crate) table: &'a [u8],
+    pub(crate) column: &'a [u8],
+    pub(crate) noted_at: u32,
+    pub(crate) version_at: u32,
+    pub(crate) column_at: u32,
 }
 
 const CREATE_TABLE: [Slot; 10] = [
@@ -171,7 +171,7 @@ const MAX_MOMENT: u64 = 18_446_744_073_709_551_614;
 impl Form {
     /// What stands in the form, from left to right.
     #[tactic(auto, unfolding(crate::specs::Forms::slots_of))]
-    pub fn slots(self) -> &'static [Slot]
+    pub(crate) fn slots(self) -> &'static [Slot]
         ensures { result.now ≡ spec.slots_of self }
     {
         match self {
@@ -206,7 +206,7 @@ impl Keyword {
 
 impl<'a> Parts<'a> {
     /// What no token says.
-    pub fn nothing() -> Parts<'a>
+    pub(crate) fn nothing() -> Parts<'a>
         ensures { spec.parts_of result ≡ spec.nothing }
     {
         Parts {
@@ -362,7 +362,7 @@ fn name<'a>(what: Lexeme<'a>) -> Option<&'a [u8]>
 
 /// The parts with what the token says at the slot; none where it does not fit.
 #[tactic(auto, unfolding(crate::specs::Forms::filled))]
-pub fn filled<'a>(slot: Slot, token: Token<'a>, parts: Parts<'a>) -> Option<Parts<'a>>
+pub(crate) fn filled<'a>(slot: Slot, token: Token<'a>, parts: Parts<'a>) -> Option<Parts<'a>>
     ensures { option_map spec.parts_of result ≡ spec.filled slot (tokens.token_of token.entry) (spec.parts_of parts.entry) }
 {
     let what = token.what;

@@ -9,12 +9,12 @@ use prima_io::{Failed, Sink, put_all};
 use std::marker::Model;
 
 /// How many bytes a line gathers before they are put.
-pub const ROOM: usize = 4096;
+pub(crate) const ROOM: usize = 4096;
 
 /// Bytes of replies that are gathered on the stack, so that a sink is called once for some 4 KB and
 /// not for each piece. A contract sees the bytes that it holds.
 #[derive(Drop)]
-pub struct Line {
+pub(crate) struct Line {
     bytes: [u8; ROOM],
     len: usize,
 }
@@ -31,7 +31,7 @@ impl Model for Line {
 
 impl Line {
     /// A line that holds nothing.
-    pub fn new() -> Line
+    pub(crate) fn new() -> Line
         ensures { result ≡ [] }
     {
         Line {
@@ -41,7 +41,7 @@ impl Line {
     }
 
     /// Adds a piece for which there is room.
-    pub fn add(&mut self, piece: &[u8])
+    pub(crate) fn add(&mut self, piece: &[u8])
         requires { length self.old + length piece.now ≤ 4096 }
         ensures { self.new ≡ self.old ++ piece.now }
     {
@@ -51,7 +51,7 @@ impl Line {
     }
 
     /// Adds a number, for which there is room, in decimal digits.
-    pub fn add_number(&mut self, number: u64)
+    pub(crate) fn add_number(&mut self, number: u64)
         requires { length self.old + 20 ≤ 4096 }
         ensures added { self.new ≡ self.old ++ decimal number }
         ensures short { length self.new ≤ length self.old + 20 }
@@ -60,7 +60,7 @@ impl Line {
     }
 
     /// How many bytes can still be added.
-    pub fn room(&self) -> usize
+    pub(crate) fn room(&self) -> usize
         ensures { result + length self.now ≡ 4096 }
     {
         ROOM - self.len
@@ -68,7 +68,7 @@ impl Line {
 
     /// Puts what the line holds, which is then empty. `Failed` comes only where the sink's count of
     /// faults rose; a front of what was held, and not all of it, was then put.
-    pub fn flush<K: Sink>(&mut self, sink: &mut K) -> Result<(), Failed>
+    pub(crate) fn flush<K: Sink>(&mut self, sink: &mut K) -> Result<(), Failed>
         ensures emptied { self.new ≡ [] }
         ensures all { OnOk result (Appends (K.written sink.old) (K.written sink.new) self.old) }
         ensures part { OnErr result (AppendsLess (K.written sink.old) (K.written sink.new) self.old) }
@@ -81,7 +81,7 @@ impl Line {
 
     /// Puts what the line holds where fewer than `room` bytes, at most 4,096, could be added. `Failed`
     /// is that of `flush`.
-    pub fn make_room<K: Sink>(&mut self, sink: &mut K, room: usize) -> Result<(), Failed>
+    pub(crate) fn make_room<K: Sink>(&mut self, sink: &mut K, room: usize) -> Result<(), Failed>
         requires { room ≤ 4096 }
         ensures all { OnOk result (Gathers (K.written sink.old) self.old (K.written sink.new) self.new []) }
         ensures room { OnOk result (length self.new + room ≤ 4096) }
@@ -98,7 +98,7 @@ impl Line {
     /// Adds a piece, and puts what does not fit. `Failed` comes only where the sink's count of faults
     /// rose; a front of what was held and of the piece, and not all of it, was then put, and the line
     /// is empty.
-    pub fn push<K: Sink>(&mut self, sink: &mut K, piece: &[u8]) -> Result<(), Failed>
+    pub(crate) fn push<K: Sink>(&mut self, sink: &mut K, piece: &[u8]) -> Result<(), Failed>
         ensures all { OnOk result (Gathers (K.written sink.old) self.old (K.written sink.new) self.new piece.now) }
         ensures part { OnErr result (AppendsLess (K.written sink.old) (K.written sink.new) (self.old ++ piece.now)) }
         ensures emptied { OnErr result (self.new ≡ []) }

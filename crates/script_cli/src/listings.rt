@@ -1,4 +1,4 @@
-ghost use Rattle.std.specs.Prelude.{◌≡◌, ◌+◌, ◌≤◌, ◌++◌, [], List, ℕ, length, map, OnOk, OnErr, codes};
+ghost use Rattle.std.specs.Prelude.{◌≡◌, ◌+◌, ◌≤◌, ◌++◌, length, map, OnOk, OnErr, codes};
 ghost use Rattle.std.specs.List.{flat_map};
 ghost use Rattle.std.specs.Fmt.{signed_decimal};
 ghost use Rattle.std.specs.Io.KnownBytes.{Appends};
@@ -17,7 +17,7 @@ use prima_io::{Failed, Sink};
 /// Puts the rows, a line each, and then the line that counts them. It takes no memory. `Failed` comes
 /// only where the sink's count of faults rose; a front of the text, and not all of it, was then put.
 #[tactic(auto, unfolding(crate::specs::Texts::listing_text))]
-pub fn put_listing<K: Sink>(sink: &mut K, rows: &[TimedRow<'_>]) -> Result<(), Failed>
+pub(crate) fn put_listing<K: Sink>(sink: &mut K, rows: &[TimedRow<'_>]) -> Result<(), Failed>
     ensures all { OnOk result (Appends (K.written sink.old) (K.written sink.new) (listing_text (entries_of rows.now))) }
     ensures part { OnErr result (AppendsLess (K.written sink.old) (K.written sink.new) (listing_text (entries_of rows.now))) }
     ensures cause { HasCause (K.faults sink.old) (K.faults sink.new) result }

@@ -26,9 +26,7 @@ mod stops;
 mod tokens;
 
 use adapters::{ReaderSource, WriterSink};
-pub use reader::{read, reading_is_first_fault};
 pub use runs::{Status, Word, run};
-pub use statements::{Reading, Statement};
 use std::process::ExitCode;
 use std::{env, io};
 

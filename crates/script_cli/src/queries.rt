@@ -1,6 +1,6 @@
 //! The rows of a table of one column, each with the longest periods in which it holds.
 
-ghost use Rattle.std.specs.Prelude.{◌≡◌, ◌<◌, ◌++◌, ◌∷◌, [], OnOk, OnErr, IfOk};
+ghost use Rattle.std.specs.Prelude.{◌≡◌, ◌<◌, ◌++◌, ◌∷◌, [], OnOk, IfOk};
 ghost use Rattle.relations.specs.Spans.{always};
 ghost use Rattle.relations.specs.Listing.{IsListing};
 ghost use Rattle.prima_base.specs.Order.{row_cmp};

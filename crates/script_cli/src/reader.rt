@@ -1,6 +1,6 @@
 //! Reads the text of one statement.
 
-ghost use Rattle.std.specs.Prelude.{◌≡◌, ◌+◌, ◌≤◌, ℕ, List, length, IfOk, MatchResult};
+ghost use Rattle.std.specs.Prelude.{◌≡◌, ◌+◌, ◌≤◌, length, IfOk, MatchResult};
 ghost use Rattle.prima_base.specs.Bytes.{IsName};
 ghost use Rattle.script_cli.specs.Tokens as tokens;
 ghost use Rattle.script_cli.specs.Forms.{parts_of};
@@ -16,7 +16,7 @@ const FORMS: [Form; 3] = [Form::CreateTable, Form::Insert, Form::Query];
 
 /// A text along one form.
 #[derive(Clone, Copy)]
-pub enum Outcome<'a> {
+pub(crate) enum Outcome<'a> {
     /// It is a statement of the form.
     Whole(Parts<'a>),
     /// It leaves the form at a place.
@@ -153,7 +153,7 @@ fn first_whole(alloc: Global, forms: &[Form], text: &[u8]) -> Result<Reading, No
 /// Reads the text of a statement, of at most 1,048,576 bytes and without its `;`. The one error is want
 /// of memory.
 #[tactic(auto, unfolding(crate::specs::Reading::reading))]
-pub fn read(alloc: Global, text: &[u8]) -> Result<Reading, NoMemory>
+pub(crate) fn read(alloc: Global, text: &[u8]) -> Result<Reading, NoMemory>
     requires { length text.now ≤ 1048576 }
     ensures { IfOk result (λ r. r ≡ spec.reading text.now) }
 {
@@ -163,8 +163,3 @@ pub fn read(alloc: Global, text: &[u8]) -> Result<Reading, NoMemory>
         first_whole(alloc, &FORMS, text)
     }
 }
-
-/// A law: `reading` gives the statement that a text is, or the first place at which no statement goes on.
-pub fn reading_is_first_fault()
-    ensures { (text : List ℕ) → spec.IsReading text (spec.reading text) }
-{}

@@ -2,17 +2,16 @@
 //!
 //! A command's `ok` line is put when the archive has it; a refused statement leaves the archive as it was.
 
-ghost use Rattle.std.specs.Prelude.{◌≡◌, ℕ, List, ◌+◌, ◌<◌, ◌∷◌, [], OnOk, OnErr, IfOk, IsTrue, is_some, true, false, None, if◌then◌else◌};
+ghost use Rattle.std.specs.Prelude.{◌≡◌, ◌<◌, ◌∷◌, [], OnOk, OnErr, IfOk, IsTrue, is_some, true, false, None, if◌then◌else◌};
 ghost use Rattle.std.specs.Io.KnownBytes.{Appends};
 ghost use Rattle.relations.specs.Spans.{forever};
 ghost use Rattle.prima_base.specs.declared.values.ColType.TheVariants.{Int as IntType};
 ghost use Rattle.prima_io.specs.Moves.{AppendsFront};
-ghost use Rattle.history_store.specs.Store.{AllBefore, relation_at as stored_at};
 ghost use Rattle.script_cli.specs.Past.{Past, Table, answer, created, inserted, gained};
 ghost use Rattle.script_cli.specs.Lawful.{HasMoment, IsLater, IsPast};
 ghost use Rattle.script_cli.specs.Texts.{created_text, inserted_text, syntax_text, stamp_text, no_table_text, listing_text};
-ghost use Rattle.script_cli.specs.Output.{Reply, reply, refused, accepted, create_reply, insert_reply, query_reply, statement_reply, reading_reply, later_or_refused, insert_into, select_from};
-ghost use Rattle.script_cli.specs.ShowsPast.{ShowsPast, ShowsTable, sees_table, sees_column};
+ghost use Rattle.script_cli.specs.Output.{reply, refused, accepted, create_reply, insert_reply, query_reply, statement_reply, select_from};
+ghost use Rattle.script_cli.specs.ShowsPast.{ShowsPast, ShowsTable, blocking, sees_table, sees_column};
 ghost use Rattle.script_cli.specs.Shows.{Says, Responds, HasStopCause};
 ghost use Rattle.script_cli.specs.declared.statements.Reading.TheVariants.{Whole};
 
@@ -24,8 +23,7 @@ use crate::reader::read;
 use crate::replies::{
     put_created, put_inserted, put_no_table, put_stamp_refusal, put_syntax_refusal,
 };
-use crate::sessions::is_too_long;
-use crate::statements::{Reading, Statement};
+use crate::statements::{Reading, Statement, is_too_long};
 use crate::stops::Stop;
 use prima_base::{Name, NoMemory};
 use prima_io::{Failed, Sink};
@@ -167,6 +165,16 @@ fn insert<K: Sink>(
     }
 }
 
+// The last stamp, where the given one is not above it.
+fn blocking(last: Option<u64>, stamp: u64) -> Option<u64>
+    ensures { result ≡ blocking last stamp }
+{
+    match last {
+        Some(last) if stamp <= last => Some(last),
+        _ => None,
+    }
+}
+
 // Makes the table, and puts its line.
 fn create<K: Sink>(
     alloc: Global,
@@ -207,7 +215,7 @@ fn respond_create<K: Sink>(
     if archive.table.is_some() {
         return refuse_syntax(sink, evolve_at);
     }
-    match archive.blocking(stamp) {
+    match blocking(archive.last, stamp) {
         Some(last) => refuse_stamp(sink, stamp, last),
         None => create(alloc, archive, sink, stamp, names),
     }
@@ -245,8 +253,8 @@ fn respond_insert<K: Sink>(
     if there && !fits {
         return refuse_syntax(sink, column_at);
     }
-    match archive.blocking(stamp) {
-        Some(last) => refuse_stamp(sink, stamp, last),
+    match blocking(archive.last, stamp) {
+        Some(newest) => refuse_stamp(sink, stamp, newest),
         None => {
             if there {
                 insert(alloc, archive, sink, stamp, value)

@@ -8,9 +8,10 @@ ghost use Rattle.relations.specs.Spans.{always};
 ghost use Rattle.relations.specs.Listing.{IsListing};
 ghost use Rattle.relations.specs.Timeline.{relation_at};
 ghost use Rattle.prima_base.specs.Order.{row_cmp};
-ghost use Rattle.script_cli.specs.Past.{answer};
+ghost use Rattle.script_cli.specs.Past.{Past, beginning, answer};
+ghost use Rattle.script_cli.specs.Split.{statements_of, tail_of, joined, AreStatements, IsOneStatement};
 ghost use Rattle.script_cli.specs.Machine.{State};
-ghost use Rattle.script_cli.specs.Output.{output, past_of};
+ghost use Rattle.script_cli.specs.Output.{output, past_after, reply, is_error_line};
 ghost use Rattle.script_cli.specs.Texts.{wrong_words_text};
 ghost use Rattle.script_cli.specs.Reading.{IsReading, reading};
 ghost use Rattle.script_cli.specs.Runs.{Ran, RefusedWords, WhereTold, is_whole, are_accepted, Ends};
@@ -195,9 +196,16 @@ pub fn run<S: Source, K: Sink>(
     // What a statement's bytes are read as: a form's statement, or the place from which no statement goes on.
     ensures reads { (text : List ℕ) → IsReading text (reading text) }
 
-    // The answer to a query, by moments.
-    ensures answers { (script : List ℕ)
-        → IsListing row_cmp (relation_at (past_of script).stages) always (answer (past_of script)) }
+    // The answer to a query behind some statements, by moments.
+    ensures answers { (statements : List (List ℕ)) → let past = past_after beginning statements in
+        IsListing row_cmp (relation_at past.stages) always (answer past) }
+
+    // The statements of a script are what stands between its `;`s, and the tail is what stands behind them.
+    ensures splits { (script : List ℕ) → (joined (statements_of script) (tail_of script) ≡ script)
+        × AreStatements (statements_of script) × IsOneStatement (tail_of script) }
+
+    // A reply counts as an error exactly where its line begins with `error `.
+    ensures errors { (past : Past) → (text : List ℕ) → (reply past text).is_error ≡ is_error_line (reply past text).text }
 {
     if !are_accepted(words) {
         return refuse_words(sink);

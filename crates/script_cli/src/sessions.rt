@@ -1,6 +1,6 @@
 //! A script that is being read: cut into statements at each `;`, each answered as it ends.
 
-ghost use Rattle.std.specs.Prelude.{◌≡◌, ◌<◌, ◌≤◌, ◌++◌, ◌∷◌, OnOk, OnErr, IfOk, length};
+ghost use Rattle.std.specs.Prelude.{◌≡◌, ◌<◌, OnOk, OnErr, IfOk};
 ghost use Rattle.std.specs.Io.KnownBytes.{Appends};
 ghost use Rattle.prima_io.specs.Moves.{AppendsFront};
 ghost use Rattle.script_cli.specs.Output.{is_too_long, tail_text, tail_is_due, reply};
@@ -11,7 +11,7 @@ use crate::MAX_STATEMENT;
 use crate::archive::Archive;
 use crate::reader::read;
 use crate::responses::{refuse_syntax, respond};
-use crate::statements::Reading;
+use crate::statements::{Reading, is_too_long};
 use crate::stops::Stop;
 use prima_base::NoMemory;
 use prima_io::{Failed, Sink};
@@ -25,13 +25,6 @@ pub(crate) struct Session {
     kept: Vec<u8>,
     archive: Archive,
     refused: bool,
-}
-
-/// Whether the statement has more bytes than the longest.
-pub(crate) fn is_too_long(text: &[u8]) -> bool
-    ensures { result ≡ is_too_long text.now }
-{
-    text.len() > MAX_STATEMENT
 }
 
 // Keeps a byte of a statement.

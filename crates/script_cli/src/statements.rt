@@ -1,11 +1,15 @@
 //! Statements, and what the text of one is read as.
 
+ghost use Rattle.std.specs.Prelude.{◌≡◌};
+ghost use Rattle.script_cli.specs.Output.{is_too_long};
+
+use crate::MAX_STATEMENT;
 use prima_base::Name;
 
 /// A statement. Moments are the statement's own stamp; places are counted in bytes from the start of its
 /// text, and say where a refusal points that needs more than the text.
 #[derive(Drop)]
-pub enum Statement {
+pub(crate) enum Statement {
     /// A new table of one column of integers.
     CreateTable {
         stamp: u64,
@@ -37,11 +41,18 @@ pub enum Statement {
 
 /// What a text is read as.
 #[derive(Drop)]
-pub enum Reading {
+pub(crate) enum Reading {
     /// Nothing but blanks.
     Blank,
     /// No statement: the place of the first byte or token with which none goes on, or the text's length
     /// where the text ends too early.
     Fault(u32),
     Whole(Statement),
+}
+
+/// Whether the statement has more bytes than the longest.
+pub(crate) fn is_too_long(text: &[u8]) -> bool
+    ensures { result ≡ is_too_long text.now }
+{
+    text.len() > MAX_STATEMENT
 }

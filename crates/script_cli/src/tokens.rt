@@ -6,7 +6,7 @@ ghost use Rattle.script_cli.specs.Tokens as spec;
 
 /// A word, a number or a sign.
 #[derive(Clone, Copy)]
-pub enum Lexeme<'a> {
+pub(crate) enum Lexeme<'a> {
     Word(&'a [u8]),
     /// Whether a minus stands before it, and its digits.
     Number(bool, &'a [u8]),
@@ -16,14 +16,14 @@ pub enum Lexeme<'a> {
 
 /// A lexeme, and the place of its first byte.
 #[derive(Clone, Copy)]
-pub struct Token<'a> {
-    pub what: Lexeme<'a>,
-    pub place: u32,
+pub(crate) struct Token<'a> {
+    pub(crate) what: Lexeme<'a>,
+    pub(crate) place: u32,
 }
 
 /// What stands behind the blanks.
 #[derive(Clone, Copy)]
-pub enum Piece<'a> {
+pub(crate) enum Piece<'a> {
     /// The text ends, at its length.
     End(u32),
     /// A byte that begins no token.
@@ -154,7 +154,7 @@ fn sign<'a>(place: u32, first: u8, behind: &'a [u8]) -> Piece<'a>
 
 /// The piece at a place of the text, of which these bytes are left.
 #[tactic(auto, unfolding(crate::specs::Tokens::next))]
-pub fn next<'a>(place: u32, bytes: &'a [u8]) -> Piece<'a>
+pub(crate) fn next<'a>(place: u32, bytes: &'a [u8]) -> Piece<'a>
     requires { place + length bytes.now ≤ 1048576 }
     ensures value { spec.seen result ≡ spec.next place bytes.now }
     ensures within { spec.Within (place + length bytes.now) result }

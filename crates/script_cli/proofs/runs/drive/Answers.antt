@@ -13,7 +13,7 @@ none_taken : (a b : Option (List ℕ)) (chunk : List ℕ) (n : ℕ) → n ≡ 0 
 none_taken a b chunk n e k = subst (λ m. Consumes a b (take m chunk)) e k
 
 pub returns-in-Err-clause-ran : goal.returns-in-Err-clause-ran
-returns-in-Err-clause-ran g c = ran_read c.turns.invariant.reached c.in-Err.ensures.bytes
+returns-in-Err-clause-ran g c = ran_read c.turns.invariant.reached c.turns.invariant.within c.in-Err.ensures.bytes
 
 pub returns-then-taken-eq0-clause-ran : goal.returns-then-taken-eq0-clause-ran
 returns-then-taken-eq0-clause-ran g c =
@@ -30,11 +30,19 @@ returns-then-count-eq-SCRIPT_LIMIT-clause-ran g c =
 
 pub returns-in-Err-WriteFault-clause-ran : goal.returns-in-Err-WriteFault-clause-ran
 returns-in-Err-WriteFault-clause-ran g c =
-    ran_write c.turns.invariant.reached (take c.in-Ok.taken c.take_some.new.chunk) c.in-Ok.ensures.bytes.0 c.in-Err-WriteFault.ensures.part
+    ran_write c.turns.invariant.reached (take c.in-Ok.taken c.take_some.new.chunk)
+    (let l : length c.take_some.new.chunk ≡ 4096 = grind arith in
+    let n : length (take c.in-Ok.taken c.take_some.new.chunk) ≡ c.in-Ok.taken = front_length c.take_some.new.chunk c.in-Ok.taken (omega (arith, c.in-Ok.ensures.bound)) in
+    omega (arith, c.in-Ok.ensures.bound, c.room_for-room.ensures.within))
+    c.in-Ok.ensures.bytes.0 c.in-Err-WriteFault.ensures.part
 
 pub returns-in-Err-NoMemory-clause-ran : goal.returns-in-Err-NoMemory-clause-ran
 returns-in-Err-NoMemory-clause-ran g c =
-    ran_memory c.turns.invariant.reached (take c.in-Ok.taken c.take_some.new.chunk) c.in-Ok.ensures.bytes.0 c.in-Err-NoMemory.ensures.part
+    ran_memory c.turns.invariant.reached (take c.in-Ok.taken c.take_some.new.chunk)
+    (let l : length c.take_some.new.chunk ≡ 4096 = grind arith in
+    let n : length (take c.in-Ok.taken c.take_some.new.chunk) ≡ c.in-Ok.taken = front_length c.take_some.new.chunk c.in-Ok.taken (omega (arith, c.in-Ok.ensures.bound)) in
+    omega (arith, c.in-Ok.ensures.bound, c.room_for-room.ensures.within))
+    c.in-Ok.ensures.bytes.0 c.in-Err-NoMemory.ensures.part
 
 pub turns-preserved : goal.turns-preserved
 turns-preserved g c =

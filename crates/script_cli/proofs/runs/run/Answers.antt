@@ -1,5 +1,7 @@
 use Rattle.script_cli.proofs.Answered.{answers_listed}
 use Rattle.script_cli.proofs.ReadingLaws.{first_fault}
+use Rattle.script_cli.proofs.Joined.{script_split}
+use Rattle.script_cli.proofs.Errors.{error_told}
 use Rattle.script_cli.proofs.Reaching.{ran_front, ran_whole}
 use Rattle.script_cli.proofs.runs.run.Goals as goal
 
@@ -17,3 +19,15 @@ returns-then-not-are_accepted-clause-reads g c = first_fault
 
 pub returns-clause-reads : goal.returns-clause-reads
 returns-clause-reads g c = first_fault
+
+pub returns-then-not-are_accepted-clause-splits : goal.returns-then-not-are_accepted-clause-splits
+returns-then-not-are_accepted-clause-splits g c = script_split
+
+pub returns-clause-splits : goal.returns-clause-splits
+returns-clause-splits g c = script_split
+
+pub returns-then-not-are_accepted-clause-errors : goal.returns-then-not-are_accepted-clause-errors
+returns-then-not-are_accepted-clause-errors g c = error_told
+
+pub returns-clause-errors : goal.returns-clause-errors
+returns-clause-errors g c = error_told
