@@ -1,8 +1,7 @@
 -- What is listed of a table is the answer of the past.
-use Rattle.std.proofs.Common.{◌≡◌, ◌<◌, ℕ, List, refl, sym, ap, ◌∙◌, subst, ◌∷◌, []}
-use Rattle.std.specs.Prelude.{◌↔◌}
+use Rattle.std.proofs.Common.{◌≡◌, List, sym, ap, ◌∙◌, subst, ◌∷◌, []}
 use Rattle.relations.specs.Sets.{In}
-use Rattle.relations.specs.Spans.{forever, always}
+use Rattle.relations.specs.Spans.{always}
 use Rattle.relations.specs.Timed.{Entry}
 use Rattle.relations.specs.Listing.{IsListing}
 use Rattle.relations.specs.Timeline.{relation_at}

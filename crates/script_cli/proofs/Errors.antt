@@ -1,9 +1,8 @@
 -- A reply counts as an error exactly where its line is one.
-use Rattle.std.proofs.Common.{◌≡◌, ℕ, ℤ, Bool, true, false, List, [], ◌∷◌, ◌++◌, refl, sym, ap, ◌∙◌, cond}
+use Rattle.std.proofs.Common.{◌≡◌, ℕ, ℤ, true, false, List, [], ◌∷◌, refl, cond}
 use Rattle.std.specs.Prelude.{Option, Some, None, nat_lt, ◌&&◌, ◌==◌}
 use Rattle.relations.specs.Timed.{Entry}
 use Rattle.prima_base.specs.declared.values.Value.{Value}
-use Rattle.script_cli.specs.declared.statements.Statement.{Statement}
 use Rattle.script_cli.specs.declared.statements.Statement.TheVariants.{CreateTable, Insert, Query}
 use Rattle.script_cli.specs.declared.statements.Reading.{Reading}
 use Rattle.script_cli.specs.declared.statements.Reading.TheVariants.{Blank, Fault, Whole}
@@ -11,7 +10,7 @@ use Rattle.script_cli.specs.Limits.{longest_statement}
 use Rattle.script_cli.specs.Past.{Table, Past, created, inserted, gained, answer}
 use Rattle.script_cli.specs.Texts.{created_text, inserted_text, syntax_text, stamp_text, no_table_text, listing_text}
 use Rattle.script_cli.specs.Reading.{reading}
-use Rattle.script_cli.specs.Output.{Reply, refused, accepted, same_name, later_or_refused, create_reply, insert_into, insert_reply, select_from, query_reply, statement_reply, reading_reply, is_error_line, is_too_long, reply}
+use Rattle.script_cli.specs.Output.{Reply, refused, accepted, same_name, later_or_refused, create_reply, insert_into, insert_reply, select_from, query_reply, reading_reply, is_error_line, is_too_long, reply}
 
 abbrev Told : Reply → Type 0
 Told r = r.is_error ≡ is_error_line r.text

@@ -1,5 +1,5 @@
 -- A session that has taken one byte more.
-use Rattle.std.proofs.Common.{◌≡◌, ◌+◌, ℕ, List, [], ◌∷◌, ◌++◌, take, subst, sym, refl}
+use Rattle.std.proofs.Common.{◌≡◌, ◌+◌, ℕ, List, [], ◌∷◌, ◌++◌, take, subst, refl}
 use Rattle.script_cli.specs.declared.sessions.Session.{Session}
 use Rattle.script_cli.specs.Machine.{State, step, steps}
 use Rattle.script_cli.specs.Shows.{ShowsState}

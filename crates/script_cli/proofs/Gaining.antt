@@ -1,17 +1,15 @@
 -- What a table gains by a value.
-use Rattle.std.proofs.Common.{◌≡◌, ◌<◌, ◌≤◌, ◌+◌, ◌-◌, ℕ, ℤ, List, [], ◌∷◌, length, refl, sym, ap, ◌∙◌, subst, arith, inl, inr}
-use Rattle.std.specs.Prelude.{◌⊎◌, true}
+use Rattle.std.proofs.Common.{◌≡◌, ◌<◌, ◌≤◌, ◌-◌, ℕ, ℤ, List, [], ◌∷◌, length, refl, sym, ap, ◌∙◌, subst, arith, inl, inr}
+use Rattle.std.specs.Prelude.{◌⊎◌}
 use Rattle.std.specs.declared.cmp.Ordering.{Ordering}
 use Rattle.std.specs.declared.cmp.Ordering.TheVariants.{Less, Equal, Greater}
-use Rattle.relations.specs.Sets.{In, Ascends, placed, put_in, set_of}
+use Rattle.relations.specs.Sets.{In, Ascends, placed, put_in}
 use Rattle.relations.specs.Spans.{Span, forever}
 use Rattle.relations.proofs.SetLaws.{set_ascends, in_set, from_set}
 use Rattle.prima_base.specs.Order.{row_cmp}
 use Rattle.prima_base.specs.OrderLaws.{row_exact}
 use Rattle.prima_base.specs.declared.values.Value.{Value}
-use Rattle.prima_base.specs.declared.values.Value.TheVariants.{Int}
-use Rattle.prima_base.specs.declared.values.ColType.TheVariants.{Int as IntType}
-use Rattle.history_store.specs.Store.{Cell, Column, Store, relation_at, IsRow, IsRelation, IsBefore, AllBefore}
+use Rattle.history_store.specs.Store.{Column, Store, relation_at, IsRow, IsRelation, IsBefore, AllBefore}
 use Rattle.script_cli.specs.Past.{row_of, with_value}
 use Rattle.script_cli.specs.ShowsPast.{IsOneInt}
 use Rattle.script_cli.proofs.Values.{with_value_is}

@@ -1,17 +1,17 @@
 -- The entries of a column show what the table's relation has at each moment.
-use Rattle.std.proofs.Common.{◌≡◌, ◌<◌, ◌≤◌, ◌+◌, ℕ, zero, suc, Bool, true, false, List, [], ◌∷◌, ◌++◌, length, get_or, cond, refl, sym, ap, ◌∙◌, subst, arith, inl, inr, append-nil}
-use Rattle.std.specs.Prelude.{◌⊎◌, ◌↔◌, ◌&&◌, ◌==◌, nat_lt, nat_le, min, max, MatchBool, Option, Some, slice_index_or}
-use Rattle.std.proofs.lemmas.Bool.{ltb-true, ltb-false}
+use Rattle.std.proofs.Common.{◌≡◌, ◌<◌, ◌+◌, ℕ, zero, suc, Bool, true, false, List, [], ◌∷◌, length, get_or, cond, refl, sym, ap, ◌∙◌, subst, arith, inl, inr, append-nil}
+use Rattle.std.specs.Prelude.{◌↔◌, ◌&&◌, ◌==◌, nat_lt, min, max, MatchBool, slice_index_or}
+use Rattle.std.proofs.lemmas.Bool.{ltb-true}
 use Rattle.std.proofs.lemmas.Bool.Decides.{nat_tests}
 use Rattle.relations.specs.Sets.{In}
 use Rattle.relations.specs.Spans.{Span, span, covers}
 use Rattle.relations.specs.Timed.{Entry, at, held_at}
-use Rattle.relations.proofs.Held.{covers_is, in_held, from_held, IsHeld}
+use Rattle.relations.proofs.Held.{covers_is, in_held, from_held}
 use Rattle.relations.proofs.SetLaws.{in_append, in_left, in_right, in_set, from_set}
 use Rattle.prima_base.specs.Order.{row_cmp}
 use Rattle.prima_base.specs.OrderLaws.{row_exact}
 use Rattle.prima_base.specs.declared.values.Value.{Value}
-use Rattle.history_store.specs.Store.{Cell, Store, shown_at, row_at, rows_from, relation_at, Fills, IsFilled, IsStore}
+use Rattle.history_store.specs.Store.{Cell, Store, shown_at, row_at, rows_from, relation_at, IsFilled, IsStore}
 use Rattle.script_cli.specs.Held.{held_in, held_cell, held_cells}
 
 -- the row of one value

@@ -27,3 +27,4 @@ pub mod ReadingLaws
 pub mod ReadingExamples
 pub mod Joined
 pub mod Errors
+pub mod OnlyReading

@@ -1,17 +1,15 @@
 -- A command that is read has a moment for its stamp.
-use Rattle.std.proofs.Common.{◌≡◌, ◌<◌, ◌≤◌, ℕ, ℤ, Bool, true, false, List, [], ◌∷◌, refl, sym, ap, ◌∙◌, subst, arith, cond}
+use Rattle.std.proofs.Common.{◌≡◌, ◌≤◌, ℕ, ℤ, Bool, true, false, List, [], ◌∷◌, refl, ap, subst, arith, cond}
 use Rattle.std.specs.Prelude.{Option, Some, None, pos, negsuc, nat_le, max}
 use Rattle.std.proofs.lemmas.Bool.Decides.{nat_tests}
-use Rattle.relations.specs.Spans.{forever}
 use Rattle.script_cli.specs.Tokens.{Lexeme, Word, Number, Open, Close, Token, Piece, End, Bad, Found, next}
-use Rattle.script_cli.specs.Forms.{moment, small, integer, name, spells, is_open, is_close, up_to, natural, Parts, nothing, filled, slots_of, forms}
+use Rattle.script_cli.specs.Forms.{moment, small, integer, name, spells, is_open, is_close, up_to, Parts, nothing, filled, slots_of, forms}
 use Rattle.script_cli.specs.Reading.{Leave, Whole, Left, at_end, at_token, at_slot, leaves, along, by_leave, first_whole, is_end, reading, statement_of}
 use Rattle.script_cli.specs.Lawful.{HasMoment}
 use Rattle.script_cli.specs.declared.forms.Form.{Form}
 use Rattle.script_cli.specs.declared.forms.Form.TheVariants.{CreateTable, Insert, Query}
 use Rattle.script_cli.specs.declared.forms.Slot.{Slot}
 use Rattle.script_cli.specs.declared.forms.Slot.TheVariants as slot
-use Rattle.script_cli.specs.declared.statements.Reading.{Reading}
 use Rattle.script_cli.specs.declared.statements.Reading.TheVariants as read
 use Rattle.script_cli.proofs.Named.{when_same, mapped}
 

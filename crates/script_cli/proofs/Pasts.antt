@@ -1,25 +1,24 @@
 -- Every past that a script makes is lawful.
-use Rattle.std.proofs.Common.{◌≡◌, ◌<◌, ◌≤◌, ℕ, ℤ, Bool, true, false, List, [], ◌∷◌, ◌++◌, refl, sym, ap, ◌∙◌, arith, subst, cond}
+use Rattle.std.proofs.Common.{◌≡◌, ◌<◌, ℕ, ℤ, true, false, List, [], ◌∷◌, ◌++◌, refl, sym, arith, subst, cond}
 use Rattle.std.specs.Prelude.{Option, Some, None, nat_lt, ◌&&◌, ◌==◌}
-use Rattle.std.proofs.lemmas.Bool.{ltb-true, ltb-false}
-use Rattle.relations.specs.Sets.{In, Ascends, set_of}
+use Rattle.std.proofs.lemmas.Bool.{ltb-true}
+use Rattle.relations.specs.Sets.{Ascends}
 use Rattle.relations.specs.Spans.{forever}
 use Rattle.relations.specs.Timeline.{Stage, IsTimeline, Follow}
 use Rattle.relations.proofs.SetLaws.{set_ascends}
 use Rattle.prima_base.specs.Order.{row_cmp}
 use Rattle.prima_base.specs.OrderLaws.{row_exact}
 use Rattle.prima_base.specs.declared.values.Value.{Value}
-use Rattle.script_cli.specs.declared.statements.Statement.{Statement}
 use Rattle.script_cli.specs.declared.statements.Statement.TheVariants.{CreateTable, Insert, Query}
 use Rattle.script_cli.specs.declared.statements.Reading.{Reading}
 use Rattle.script_cli.specs.declared.statements.Reading.TheVariants.{Blank, Fault, Whole}
 use Rattle.script_cli.specs.Limits.{longest_statement}
-use Rattle.script_cli.specs.Past.{Table, Past, beginning, latest, current, from_stamp, created, inserted, with_value, row_of, gained, answer}
+use Rattle.script_cli.specs.Past.{Table, Past, beginning, latest, current, from_stamp, inserted, with_value, row_of, gained, answer}
 use Rattle.script_cli.specs.Texts.{inserted_text, syntax_text, stamp_text, no_table_text, listing_text}
 use Rattle.script_cli.proofs.Moments.{has_moment}
 use Rattle.script_cli.specs.Lawful.{AllUntil, IsUntil, IsLater, IsPast, HasMoment}
 use Rattle.script_cli.specs.Reading.{reading}
-use Rattle.script_cli.specs.Output.{Reply, accepted, refused, same_name, later_or_refused, create_reply, insert_reply, query_reply, insert_into, select_from, statement_reply, reading_reply, is_too_long, reply, past_after, past_of}
+use Rattle.script_cli.specs.Output.{Reply, accepted, refused, same_name, later_or_refused, create_reply, insert_reply, query_reply, insert_into, select_from, reading_reply, is_too_long, reply, past_after, past_of}
 use Rattle.script_cli.specs.Split.{statements_of}
 
 pub beginning_lawful : IsPast beginning

@@ -8,11 +8,11 @@ use Rattle.prima_io.specs.Moves.{AppendsFront}
 use Rattle.prima_io.proofs.Fronts.{after, longer, whole}
 use Rattle.script_cli.specs.Split.{statements_from}
 use Rattle.script_cli.specs.Past.{beginning}
-use Rattle.script_cli.specs.Split.{tail_of, statements_of}
-use Rattle.script_cli.specs.Output.{output, replies, past_after, past_of, replies_of, tail_text, has_error}
+use Rattle.script_cli.specs.Split.{tail_of}
+use Rattle.script_cli.specs.Output.{output, replies, past_of, replies_of, tail_text}
 use Rattle.script_cli.specs.declared.sessions.Session.{Session}
 use Rattle.script_cli.specs.Shows.{ShowsState}
-use Rattle.script_cli.specs.Machine.{State, start, steps, says, is_faulty}
+use Rattle.script_cli.specs.Machine.{State, start, steps, says}
 use Rattle.script_cli.specs.Runs.{Ran, WroteAll, WroteFront, WhereTold, is_whole, Ends}
 use Rattle.script_cli.specs.Limits.{longest_script}
 use Rattle.script_cli.specs.declared.runs.Status.{Status}

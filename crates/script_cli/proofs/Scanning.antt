@@ -1,5 +1,5 @@
 -- What scans have left.
-use Rattle.std.proofs.Common.{◌≡◌, ◌+◌, ℕ, List, [], ◌∷◌, ◌++◌, refl, ap}
+use Rattle.std.proofs.Common.{◌≡◌, ◌+◌, ℕ, List, [], ◌∷◌, refl, ap}
 use Rattle.relations.specs.Spans.{Span}
 use Rattle.history_store.specs.Scans.{keys_from}
 use Rattle.history_store.specs.declared.scans.KeyEntry.{KeyEntry}

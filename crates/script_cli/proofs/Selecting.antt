@@ -1,7 +1,6 @@
 -- What the coalesced rows of a table list.
-use Rattle.std.proofs.Common.{◌≡◌, ℕ, List, [], ◌∷◌, refl, sym, ap, ◌∙◌, subst}
-use Rattle.std.specs.Prelude.{Option, Some, None, ◌↔◌}
-use Rattle.relations.specs.Sets.{In}
+use Rattle.std.proofs.Common.{◌≡◌, ℕ, List, [], ◌∷◌, sym, ap, ◌∙◌, subst}
+use Rattle.std.specs.Prelude.{Some}
 use Rattle.relations.specs.Spans.{Span, span, forever, always}
 use Rattle.relations.specs.Timed.{Entry, at}
 use Rattle.relations.specs.Listing.{IsListing}
@@ -11,7 +10,7 @@ use Rattle.prima_base.specs.declared.values.Value.{Value}
 use Rattle.prima_base.specs.declared.values.ColType.{ColType}
 use Rattle.history_store.specs.Store.{Cell, Store, relation_at, column_of, IsStore}
 use Rattle.script_cli.specs.Held.{held_cells}
-use Rattle.script_cli.proofs.Columns.{TheColumn, the_column}
+use Rattle.script_cli.proofs.Columns.{the_column}
 use Rattle.script_cli.proofs.HeldRows.{held_is_relation}
 
 all_moments : (p : Span) → p.start ≡ 0 → p.end ≡ forever → p ≡ always

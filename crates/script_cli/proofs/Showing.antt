@@ -1,13 +1,13 @@
 -- An archive that stands for a past, and what commands make of it.
-use Rattle.std.proofs.Common.{◌≡◌, ◌<◌, ◌≤◌, ◌+◌, ◌-◌, ℕ, ℤ, Bool, true, false, List, [], ◌∷◌, ◌++◌, length, refl, sym, ap, ◌∙◌, subst, arith, cond}
-use Rattle.std.specs.Prelude.{Option, Some, None, nat_le, nat_lt, ◌⊎◌}
+use Rattle.std.proofs.Common.{◌≡◌, ◌<◌, ◌≤◌, ◌-◌, ℕ, ℤ, true, false, List, [], ◌∷◌, length, refl, sym, ap, ◌∙◌, subst, arith, cond}
+use Rattle.std.specs.Prelude.{Option, Some, None, nat_le, ◌⊎◌}
 use Rattle.std.proofs.Common.{inl, inr}
 use Rattle.std.proofs.lemmas.Bool.Decides.{nat_tests}
 use Rattle.relations.specs.Spans.{forever}
 use Rattle.relations.specs.Timeline.{Stage, relation_from, relation_at}
 use Rattle.prima_base.specs.declared.values.Value.{Value}
 use Rattle.prima_base.specs.declared.values.ColType.TheVariants.{Int as IntType}
-use Rattle.history_store.specs.Store.{AllBefore, Column, Store, relation_at as stored_at}
+use Rattle.history_store.specs.Store.{AllBefore, Store, relation_at as stored_at}
 use Rattle.script_cli.specs.declared.archive.Archive.{Archive}
 use Rattle.script_cli.specs.declared.archive.MadeTable.{MadeTable}
 use Rattle.script_cli.specs.Past.{Table, Past, latest, current, from_stamp, created, inserted, gained, with_value}

@@ -3,7 +3,7 @@ use Rattle.std.proofs.Common.{◌≡◌, ℕ, Bool, true, false, List, [], ◌�
 use Rattle.std.specs.Prelude.{◌==◌, ◌||◌, cond}
 use Rattle.script_cli.specs.Past.{Past}
 use Rattle.script_cli.specs.Split.{statements_from, tail_from}
-use Rattle.script_cli.specs.Output.{reply, replies, past_after, any_error}
+use Rattle.script_cli.specs.Output.{reply, replies, past_after}
 
 pub statements-append : (c xs ys : List ℕ) → statements_from c (xs ++ ys) ≡ statements_from c xs ++ statements_from (tail_from c xs) ys
 statements-append c [] ys = refl

@@ -1,5 +1,5 @@
 -- The relation with one value more.
-use Rattle.std.proofs.Common.{◌≡◌, ◌+◌, ◌-◌, ◌≤◌, ℕ, ℤ, List, [], ◌∷◌, length, refl, sym, ap, ◌∙◌}
+use Rattle.std.proofs.Common.{◌≡◌, ℕ, ℤ, List, sym, ap, ◌∙◌}
 use Rattle.std.specs.Prelude.{insert}
 use Rattle.relations.specs.Sets.{Ascends, put_in, set_of}
 use Rattle.relations.proofs.SetLaws.{set_itself}

@@ -1,5 +1,5 @@
 -- The rows of a table of one column, each with the period of an entry inside its key's period.
-use Rattle.std.specs.Prelude.{ℕ, List, [], ◌∷◌, ◌++◌, length, nat_lt, min, max, slice_index_or, if◌then◌else◌}
+use Rattle.std.specs.Prelude.{List, [], ◌∷◌, ◌++◌, length, nat_lt, min, max, slice_index_or, if◌then◌else◌}
 use Rattle.relations.specs.Spans.{Span, span}
 use Rattle.relations.specs.Timed.{Entry}
 use Rattle.prima_base.specs.declared.values.Value.{Value}

@@ -1,6 +1,6 @@
 -- What holds of every past that a script makes.
 use Rattle.std.specs.Prelude.{◌≡◌, ℕ, ◌<◌, ◌≤◌, List, [], ◌∷◌, Option, Some, None, ⊤}
-use Rattle.relations.specs.Sets.{In, Ascends}
+use Rattle.relations.specs.Sets.{Ascends}
 use Rattle.relations.specs.Spans.{forever}
 use Rattle.relations.specs.Timeline.{Stage, IsTimeline}
 use Rattle.prima_base.specs.Order.{row_cmp}
@@ -8,7 +8,7 @@ use Rattle.prima_base.specs.declared.values.Value.{Value}
 use Rattle.script_cli.specs.declared.statements.Statement.TheVariants.{CreateTable, Insert, Query}
 use Rattle.script_cli.specs.declared.statements.Reading.{Reading}
 use Rattle.script_cli.specs.declared.statements.Reading.TheVariants.{Blank, Fault, Whole}
-use Rattle.script_cli.specs.Past.{Table, Past, latest, current}
+use Rattle.script_cli.specs.Past.{Table, Past, current}
 
 -- no stage begins behind the last stamp
 abbrev pub AllUntil : ℕ → List (Stage (List Value)) → Type 0

@@ -1,6 +1,6 @@
 -- What the accepted commands have made: the one table, its relation over time, and the last stamp.
-use Rattle.std.specs.Prelude.{◌≡◌, ℕ, ℤ, ◌<◌, ◌≤◌, ◌-◌, List, [], ◌∷◌, ◌++◌, length, Option, Some, None, ⊤}
-use Rattle.relations.specs.Sets.{In, Ascends, set_of}
+use Rattle.std.specs.Prelude.{ℕ, ℤ, ◌-◌, List, [], ◌∷◌, ◌++◌, length, Option, Some, None}
+use Rattle.relations.specs.Sets.{set_of}
 use Rattle.relations.specs.Timed.{Entry}
 use Rattle.relations.specs.Timeline.{Stage, listing_of}
 use Rattle.prima_base.specs.Order.{row_cmp}

@@ -1,5 +1,5 @@
 -- When the session stands for a state of the machine over bytes, and what a reply's function leaves.
-use Rattle.std.specs.Prelude.{◌≡◌, ℕ, ◌≤◌, Bool, List, Option, Result, MatchResult, Ok, Err}
+use Rattle.std.specs.Prelude.{◌≡◌, ℕ, ◌≤◌, Bool, List, Option, Result, MatchResult, Err}
 use Rattle.std.specs.Io.KnownBytes.{Appends}
 use Rattle.prima_io.specs.Causes.{Rose}
 use Rattle.prima_io.specs.Moves.{AppendsFront}

@@ -14,6 +14,7 @@ ghost use Rattle.script_cli.specs.Machine.{State};
 ghost use Rattle.script_cli.specs.Output.{output, past_after, reply, is_error_line};
 ghost use Rattle.script_cli.specs.Texts.{wrong_words_text};
 ghost use Rattle.script_cli.specs.Reading.{IsReading, reading};
+ghost use Rattle.script_cli.specs.declared.statements.Reading.{Reading};
 ghost use Rattle.script_cli.specs.Runs.{Ran, RefusedWords, WhereTold, is_whole, are_accepted, Ends};
 ghost use Rattle.script_cli.specs.Shows.{ShowsState};
 
@@ -165,9 +166,11 @@ fn refuse_words<K: Sink>(sink: &mut K) -> Status
 /// statement's when it ends. The words are judged first.
 ///
 /// `output` is defined over the script's bytes alone, however they are cut: the replies to its
-/// statements in order, then the line for what stands behind the last `;`. Two laws say what it is
-/// made of: `reads` that a statement is refused at the first byte or token from which none goes on, and
-/// `answers` that a query lists each row with the longest periods in which it holds, moment by moment.
+/// statements in order, then the line for what stands behind the last `;`. Four laws say what it is
+/// made of: `splits` that the statements and the tail are the script, cut at each `;`; `reads` that a
+/// statement is refused at the first byte or token from which none goes on; `answers` that a query
+/// lists each row with the longest periods in which it holds, moment by moment; `errors` that just the
+/// refused statements have an `error` line.
 pub fn run<S: Source, K: Sink>(
     alloc: Global,
     words: &[Word],
@@ -193,8 +196,8 @@ pub fn run<S: Source, K: Sink>(
     ensures read { result ≡ Status.ReadFault → Rose (S.faults source.old) (S.faults source.new) }
     ensures write { result ≡ Status.WriteFault → Rose (K.faults sink.old) (K.faults sink.new) }
 
-    // What a statement's bytes are read as: a form's statement, or the place from which no statement goes on.
-    ensures reads { (text : List ℕ) → IsReading text (reading text) }
+    // What a statement's bytes are read as, and nothing else: a form's statement, or the place from which none goes on.
+    ensures reads { (text : List ℕ) (r : Reading) → IsReading text r ↔ (r ≡ reading text) }
 
     // The answer to a query behind some statements, by moments.
     ensures answers { (statements : List (List ℕ)) → let past = past_after beginning statements in

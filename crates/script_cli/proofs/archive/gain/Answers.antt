@@ -1,10 +1,7 @@
-use Rattle.std.proofs.Common.{◌≡◌, ◌+◌, ◌≤◌, ◌-◌, ℕ, length, List, arith, sym, ap, ◌∙◌, subst}
-use Rattle.std.proofs.lemmas.Grind.{common_steps}
+use Rattle.std.proofs.Common.{◌≡◌, ◌+◌, ◌≤◌, ℕ, length, arith, sym, ap, ◌∙◌}
 use Rattle.std.proofs.lemmas.Int.{to_z-of_z}
-use Rattle.relations.specs.Spans.{forever}
-use Rattle.prima_base.specs.declared.values.Value.{Value}
 use Rattle.prima_io.proofs.Fronts.{on_err}
-use Rattle.history_store.specs.Store.{relation_at, AllBefore, IsRelation}
+use Rattle.history_store.specs.Store.{relation_at, AllBefore}
 use Rattle.script_cli.specs.Past.{with_value}
 use Rattle.script_cli.proofs.Gaining.{all_later, relation_more, rows_stay, same_relation, same_before, with_value_length, count_gained}
 use Rattle.script_cli.proofs.archive.gain.Goals as goal

@@ -1,7 +1,5 @@
-use Rattle.std.proofs.Common.{◌≡◌, ◌++◌, refl, sym, ap, ◌∙◌, append_assoc, append-nil, subst, arith, take, drop, OnOk, OnErr, []}
+use Rattle.std.proofs.Common.{◌++◌, sym, ap, ◌∙◌, append_assoc, append-nil, arith, []}
 use Rattle.std.proofs.lemmas.Result.{on_ok_weaker, on_err_weaker}
-use Rattle.script_cli.specs.Gathering.{Gathers}
-use Rattle.script_cli.specs.Texts.{doubled}
 use Rattle.script_cli.proofs.Gathered.{on_err, more, less_within}
 use Rattle.script_cli.proofs.Doubling.{goes_on, next_piece, last_piece}
 use Rattle.script_cli.proofs.listings.push_doubled.Goals as goal

@@ -1,5 +1,4 @@
 use Rattle.std.proofs.Common.{◌≡◌, ◌≤◌, ◌-◌, ℕ, List, ◌++◌, take, drop}
-use Rattle.prima_io.specs.Causes.{HasCause}
 use Rattle.script_cli.specs.Gathering.{Gathers}
 use Rattle.script_cli.specs.Texts.{doubled}
 use Rattle.script_cli.proofs.listings.push_doubled.Given as goal

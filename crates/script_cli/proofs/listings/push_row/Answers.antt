@@ -1,4 +1,4 @@
-use Rattle.std.proofs.Common.{refl, [], ◌∙◌, ap, codes, ◌++◌, append_assoc}
+use Rattle.std.proofs.Common.{codes, append_assoc}
 use Rattle.std.specs.Prelude.{map}
 use Rattle.std.proofs.lemmas.Result.{on_ok_weaker, on_err_weaker}
 use Rattle.prima_base.specs.Order.{shown}

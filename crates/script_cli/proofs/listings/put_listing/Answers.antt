@@ -1,11 +1,9 @@
-use Rattle.std.proofs.Common.{refl, [], sym, ap, ◌∙◌, codes, ◌++◌, length}
-use Rattle.std.specs.Prelude.{map}
 use Rattle.std.proofs.lemmas.List.{length-map}
 use Rattle.std.specs.List.{flat_map}
-use Rattle.std.proofs.lemmas.Result.{on_ok_weaker, on_err_weaker}
-use Rattle.prima_base.specs.Timed.{entry_of, entries_of}
-use Rattle.script_cli.specs.Texts.{listing_text, row_text, count_text}
-use Rattle.script_cli.proofs.Gathered.{on_err, more, nothing, less_begun, less_longer, less_within, less_behind, less_flushed}
+use Rattle.std.proofs.lemmas.Result.{on_err_weaker}
+use Rattle.prima_base.specs.Timed.{entries_of}
+use Rattle.script_cli.specs.Texts.{listing_text, row_text}
+use Rattle.script_cli.proofs.Gathered.{on_err, more, less_begun, less_longer, less_flushed}
 use Rattle.script_cli.proofs.listings.put_listing.Goals as goal
 
 pub returns-in_err-push_rows-clause-part : goal.returns-in_err-push_rows-clause-part

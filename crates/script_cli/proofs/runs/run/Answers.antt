@@ -1,8 +1,8 @@
 use Rattle.script_cli.proofs.Answered.{answers_listed}
-use Rattle.script_cli.proofs.ReadingLaws.{first_fault}
+use Rattle.script_cli.proofs.OnlyReading.{only_reading}
 use Rattle.script_cli.proofs.Joined.{script_split}
 use Rattle.script_cli.proofs.Errors.{error_told}
-use Rattle.script_cli.proofs.Reaching.{ran_front, ran_whole}
+use Rattle.script_cli.proofs.Reaching.{ran_front}
 use Rattle.script_cli.proofs.runs.run.Goals as goal
 
 pub returns-then-not-are_accepted-clause-answers : goal.returns-then-not-are_accepted-clause-answers
@@ -15,10 +15,10 @@ pub returns-clause-answers : goal.returns-clause-answers
 returns-clause-answers g c = answers_listed
 
 pub returns-then-not-are_accepted-clause-reads : goal.returns-then-not-are_accepted-clause-reads
-returns-then-not-are_accepted-clause-reads g c = first_fault
+returns-then-not-are_accepted-clause-reads g c = only_reading
 
 pub returns-clause-reads : goal.returns-clause-reads
-returns-clause-reads g c = first_fault
+returns-clause-reads g c = only_reading
 
 pub returns-then-not-are_accepted-clause-splits : goal.returns-then-not-are_accepted-clause-splits
 returns-then-not-are_accepted-clause-splits g c = script_split

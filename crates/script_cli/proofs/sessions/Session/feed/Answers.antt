@@ -3,7 +3,7 @@ use Rattle.std.proofs.KnownBytes.{Appends-trans}
 use Rattle.std.proofs.lemmas.List.{take_more}
 use Rattle.script_cli.specs.Machine.{steps}
 use Rattle.std.proofs.Common.{take, refl}
-use Rattle.script_cli.proofs.Shown.{says_begins, says_more, steps_more}
+use Rattle.script_cli.proofs.Shown.{says_begins, says_more}
 use Rattle.script_cli.proofs.Feeding.{shows_more}
 use Rattle.script_cli.proofs.sessions.Session.feed.Goals as goal
 
