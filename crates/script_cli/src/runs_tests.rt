@@ -227,5 +227,7 @@ fn adapters_over_a_file(rt: HostRuntime) -> Result<(), Fail> {
     // A file that is not open for the call fails it.
     let mut closed = WriterSink::new(fs::open(&rt, "adapted.txt")?);
     assert!(rt; closed.put(b"abc") == Err(Failed));
+    let mut unread = ReaderSource::new(fs::create(&rt, "unread.txt")?);
+    assert!(rt; unread.take(&mut buffer) == Err(Failed));
     Ok(())
 }
