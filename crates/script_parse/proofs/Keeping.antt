@@ -1,8 +1,8 @@
 -- What is kept of a statement tells what it is.
-use Rattle.std.proofs.Common.{◌≡◌, ◌<◌, ◌≤◌, ◌+◌, ℕ, Bool, true, false, List, [], ◌∷◌, ◌++◌, length, refl, sym, ap, ◌∙◌, arith, length-append}
-use Rattle.std.specs.Prelude.{◌&&◌, cond, nat_lt}
+use Rattle.std.proofs.Common.{◌≡◌, ◌≤◌, ◌+◌, ℕ, Bool, true, false, List, [], ◌∷◌, ◌++◌, length, refl, sym, ap, ◌∙◌, arith, length-append}
+use Rattle.std.specs.Prelude.{◌&&◌, nat_lt}
 use Rattle.std.proofs.lemmas.Bool.Decides.{nat_tests}
-use Rattle.script_parse.specs.Script.{next, is_end, is_too_long, mode_after, all_quiet, is_quiet}
+use Rattle.script_parse.specs.Script.{next, is_too_long, mode_after, all_quiet, is_quiet}
 use Rattle.script_parse.specs.Splitting.{keep, IsTracked}
 use Rattle.script_parse.specs.declared.modes.Mode.{Mode}
 use Rattle.script_parse.specs.declared.modes.Mode.TheVariants.{Plain}

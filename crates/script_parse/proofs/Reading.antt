@@ -3,7 +3,7 @@ use Rattle.std.proofs.Common.{◌≡◌, ◌<◌, ◌≤◌, ◌+◌, ◌-◌, �
 use Rattle.std.specs.Prelude.{cond, nat_lt}
 use Rattle.std.proofs.lemmas.Bool.Decides.{nat_tests}
 use Rattle.std.proofs.lemmas.List.{drop_more, take_all}
-use Rattle.script_parse.specs.Script.{next, is_end, is_too_long, statements_from, tail_from, Piece, Skipped, piece_of, pieces_from, ending}
+use Rattle.script_parse.specs.Script.{next, is_end, is_too_long, statements_from, tail_from, Skipped, piece_of, pieces_from, ending}
 use Rattle.script_parse.specs.Splitting.{keep}
 use Rattle.script_parse.specs.declared.modes.Mode.{Mode}
 use Rattle.script_parse.specs.declared.modes.Mode.TheVariants.{Plain}

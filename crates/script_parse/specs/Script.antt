@@ -72,11 +72,11 @@ abbrev pub all_quiet : Mode → List ℕ → Bool
 all_quiet mode [] = true
 all_quiet mode (b ∷ bytes) = is_quiet mode b && all_quiet (next mode b) bytes
 
--- no dash is left alone
+-- no dash is left alone, and no text is open
 abbrev pub is_settled : Mode → Bool
 is_settled Plain = true
 is_settled Dash = false
-is_settled Quoted = true
+is_settled Quoted = false
 is_settled Comment = true
 
 -- blanks and comments alone

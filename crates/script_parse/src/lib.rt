@@ -7,6 +7,8 @@
 mod laws;
 mod modes;
 mod splitter;
+#[cfg(test)]
+mod tests;
 
 pub use laws::{script_is_its_statements, statements_are_of_a_script};
 pub use splitter::{Cut, Splitter, Tail};

@@ -72,10 +72,10 @@ impl Mode {
         before && self.is_quiet(byte)
     }
 
-    /// Whether no dash is left alone.
+    /// Whether the script may end there: no dash is left alone, and no text is open.
     pub(crate) fn is_settled(self) -> bool
         ensures { result ≡ is_settled self }
     {
-        !matches!(self, Mode::Dash)
+        matches!(self, Mode::Plain | Mode::Comment)
     }
 }
