@@ -8,6 +8,8 @@ mod laws;
 mod places;
 mod schemas;
 mod tables;
+#[cfg(test)]
+mod tests;
 
 pub use laws::{database_with_table, empty_database};
 pub use schemas::Schema;

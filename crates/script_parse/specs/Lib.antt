@@ -1,3 +1,4 @@
+pub mod Joining
+pub mod Pads
 pub mod Script
 pub mod Splitting
-pub mod Joining

@@ -1,5 +1,6 @@
-ghost use Rattle.std.specs.Prelude.{◌≡◌, List, ℕ};
-ghost use Rattle.script_parse.specs.Script.{statements_of, tail_of};
+ghost use Rattle.std.specs.Prelude.{◌≡◌, ◌↔◌, List, ℕ, true};
+ghost use Rattle.script_parse.specs.Script.{is_clean, statements_of, tail_of};
+ghost use Rattle.script_parse.specs.Pads.{ArePads};
 ghost use Rattle.script_parse.specs.Joining.{joined, IsStatement, IsTail, Each};
 
 /// A script is its statements, each with a `;` behind it, and the tail; and no statement and no tail holds
@@ -16,4 +17,9 @@ pub fn statements_are_of_a_script()
         → statements_of (joined statements tail) ≡ statements }
     ensures tail { (statements : List (List ℕ)) → (tail : List ℕ) → Each IsStatement statements → IsTail tail
         → tail_of (joined statements tail) ≡ tail }
+{}
+
+/// A tail is clean just where it is blanks and comments alone.
+pub fn clean_is_blanks_and_comments()
+    ensures { (tail : List ℕ) → (is_clean tail ≡ true) ↔ ArePads tail }
 {}

@@ -10,7 +10,9 @@ mod splitter;
 #[cfg(test)]
 mod tests;
 
-pub use laws::{script_is_its_statements, statements_are_of_a_script};
+pub use laws::{
+    clean_is_blanks_and_comments, script_is_its_statements, statements_are_of_a_script,
+};
 pub use splitter::{Cut, Splitter, Tail};
 
 /// The bytes of the longest statement, without its `;`.
