@@ -1,23 +1,17 @@
 -- What a stored table keeps, and the relation that it stands for at each moment.
 use Rattle.std.specs.Prelude.{◌≡◌, ℕ, ◌+◌, ◌<◌, ◌&&◌, ◌==◌, ◌⊎◌, Bool, true, false, List, [], ◌∷◌, ◌++◌, length, Option, Some, None, MatchBool, slice_index_or, if◌then◌else◌}
 use Rattle.std.specs.Ordering.{is_eq}
-use Rattle.relations.specs.Sets.{In, Ascends, set_of}
+use Rattle.relations.specs.Sets.{In, set_of}
 use Rattle.relations.specs.Spans.{Span, span, forever, covers}
 use Rattle.prima_base.specs.Order.{row_cmp, bytes_cmp}
 use Rattle.prima_base.specs.declared.values.Value.{Value}
-use Rattle.prima_base.specs.declared.values.Value.TheVariants.{Int, Text}
-use Rattle.prima_base.specs.declared.values.ColType.{ColType}
-use Rattle.prima_base.specs.declared.values.ColType.TheVariants.{Int as IntType, Text as TextType}
+pub use Rattle.prima_base.specs.Columns.{Column, has_type, IsRow, IsRelation, names_of, AreColumns}
 
 -- an entry of a column: the row with this id has this value in this period
 pub record Cell : Type 0 where
   pub id : ℕ
   pub value : Value
   pub period : Span
-
--- a column: its name and its type
-abbrev pub Column : Type 0
-Column = List ℕ × ColType
 
 -- the columns, the period of each key (its id is its place), the entries of each column, and how many rows
 -- more there is room for
@@ -69,33 +63,6 @@ named name (c ∷ columns) (x ∷ xs) = if is_eq (bytes_cmp c.0 name) then Some 
 -- the entries of the column with this name
 abbrev pub column_of : Store → List ℕ → Option (List Cell)
 column_of s name = named name s.columns s.cells
-
--- the value is of the column's type
-abbrev pub has_type : ColType → Value → Bool
-has_type IntType (Int n) = true
-has_type IntType (Text t) = false
-has_type TextType (Int n) = false
-has_type TextType (Text t) = true
-
--- the row has a value of its type for each column
-abbrev pub IsRow : List Column → List Value → Type 0
-IsRow [] [] = Unit {0}
-IsRow [] (v ∷ row) = ⊥
-IsRow (c ∷ columns) [] = ⊥
-IsRow (c ∷ columns) (v ∷ row) = (has_type c.1 v ≡ true) × IsRow columns row
-
--- a relation of these columns
-pub record IsRelation (columns : List Column) (rows : List (List Value)) : Type 0 where
-  pub ascending : Ascends row_cmp rows
-  pub fitting : (row : List Value) → In row rows → IsRow columns row
-
--- the columns stand in the order of their names, each once
-abbrev pub names_of : List Column → List (List ℕ)
-names_of [] = []
-names_of (c ∷ columns) = c.0 ∷ names_of columns
-
-abbrev pub AreColumns : List Column → Type 0
-AreColumns columns = Ascends bytes_cmp (names_of columns)
 
 -- both ends of the period are before the moment, or it still goes on
 abbrev pub IsBefore : ℕ → Span → Type 0

@@ -1,4 +1,5 @@
 pub mod Bytes
+pub mod Columns
 pub mod Order
 pub mod OrderLaws
 pub mod Timed

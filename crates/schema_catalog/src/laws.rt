@@ -1,0 +1,19 @@
+ghost use Rattle.std.specs.Prelude.{◌≡◌, ◌↔◌, ℕ, List};
+ghost use Rattle.std.specs.FinMap as map;
+ghost use Rattle.prima_base.specs.Order.{bytes_cmp};
+ghost use Rattle.prima_base.specs.Columns.{Column, IsRelation};
+ghost use Rattle.prima_base.specs.declared.values.Value.{Value};
+ghost use Rattle.schema_catalog.specs.Tables.{Tables};
+ghost use Rattle.schema_catalog.specs.Databases.{Database, Entry, IsDatabase, Rows};
+
+/// The one database of the schema with no table has nothing.
+pub fn empty_database()
+    ensures { (database : Database) → IsDatabase map.empty database ↔ (database ≡ map.empty) }
+{}
+
+/// A schema with one table more, or another in its place, has the database with a relation of that table.
+pub fn database_with_table()
+    ensures { (tables : Tables) → (database : Database) → (name : List ℕ) → (columns : List Column) → (rows : List (List Value))
+        → IsDatabase tables database → IsRelation columns rows
+        → IsDatabase (map.insert tables name columns) (map.insert database name (Rows rows)) }
+{}

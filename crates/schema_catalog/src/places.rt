@@ -1,0 +1,47 @@
+ghost use Rattle.std.specs.Prelude.{◌≡◌, IfOk, OnOk, T};
+ghost use Rattle.std.specs.FinMap.{is_sorted, put};
+ghost use Rattle.prima_base.specs.Order.{bytes_cmp};
+ghost use Rattle.prima_base.specs.Columns.{AreColumns};
+ghost use Rattle.schema_catalog.specs.Places.{IsPlace};
+
+use crate::tables::Table;
+use prima_base::{Name, NoMemory};
+use std::alloc::Global;
+
+/// Where the table with this name stands among tables in the order of their names, or else where one
+/// would go.
+pub(crate) fn place_of(tables: &[Table], name: &Name) -> Result<usize, usize>
+    requires { T (is_sorted bytes_cmp tables.now) }
+    ensures { IsPlace tables.now name.now result }
+{
+    tables.binary_search_by(|table| table.name().cmp(name))
+}
+
+/// Puts the table in its place, or in the place of the one with its name.
+pub(crate) fn put_table(tables: &mut Vec<Table>, table: Table) -> Result<(), NoMemory>
+    requires { T (is_sorted bytes_cmp tables.old.items) }
+    ensures put { OnOk result (tables.new.items ≡ put bytes_cmp table.0 table.1 tables.old.items) }
+    ensures lawful { AreColumns table.1 }
+{
+    match place_of(tables, table.name()) {
+        Ok(i) => {
+            tables[i] = table;
+            Ok(())
+        }
+        Err(i) => {
+            tables.insert(i, table)?;
+            Ok(())
+        }
+    }
+}
+
+/// Equal tables, with room for one more.
+pub(crate) fn copy_tables(alloc: Global, tables: &[Table]) -> Result<Vec<Table>, NoMemory>
+    ensures { IfOk result (λ v. v.items ≡ tables.now) }
+{
+    let mut copied = Vec::with_capacity(alloc, tables.len().saturating_add(1))?;
+    for table in tables {
+        copied.push(table.copy()?)?;
+    }
+    Ok(copied)
+}

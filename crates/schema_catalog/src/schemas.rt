@@ -1,0 +1,84 @@
+use crate::places::{copy_tables, place_of, put_table};
+use crate::tables::Table;
+use prima_base::{Name, NoMemory};
+use std::alloc::Global;
+use std::marker::Model;
+
+/// The tables of one version. A contract sees the map from their names to their columns.
+#[derive(Drop)]
+pub struct Schema {
+    alloc: Global,
+    tables: Vec<Table>,
+}
+
+impl Model for Schema {
+    ghost use Rattle.std.specs.FinMap.{from_sorted};
+    ghost use Rattle.schema_catalog.specs.Tables.{Tables, tables_code};
+    ghost use Rattle.schema_catalog.specs.Places.{AreTables};
+
+    ghost Value = { Tables };
+
+    ghost coded = { tables_code };
+
+    ghost view = { λ s. from_sorted s.tables.items };
+
+    ghost invariant = { λ s. AreTables s.tables.items };
+}
+
+impl Schema {
+    ghost use Rattle.std.specs.Prelude.{◌≡◌, ◌≤◌, Some, None, length, slice_get, MatchOption, IfOk};
+    ghost use Rattle.std.specs.FinMap as map;
+    ghost use Rattle.schema_catalog.specs.Tables.{IsSchema};
+
+    /// The schema with no table. It takes no memory.
+    pub fn empty(alloc: Global) -> Schema
+        ensures { result ≡ map.empty }
+    {
+        Schema {
+            alloc,
+            tables: Vec::new(alloc),
+        }
+    }
+
+    /// How many tables there are.
+    pub fn len(&self) -> usize
+        ensures count { result ≡ map.len self.now }
+        ensures lawful { IsSchema self.now }
+    {
+        self.tables.len()
+    }
+
+    /// The table with this name: `None` exactly where there is none. It takes no memory.
+    pub fn table(&self, name: &Name) -> Option<&Table>
+        ensures table { MatchOption result (map.get self.now name.now ≡ None)
+            (λ t. (t.now.0 ≡ name.now) × (map.get self.now name.now ≡ Some t.now.1)) }
+        ensures lawful { IsSchema self.now }
+    {
+        match place_of(&self.tables, name) {
+            Ok(i) => Some(&self.tables[i]),
+            Err(_) => None,
+        }
+    }
+
+    /// The table at this place, from 0, in the order of names: `None` exactly behind the last. It takes
+    /// no memory.
+    pub fn at(&self, i: u32) -> Option<&Table>
+        ensures table { MatchOption result (map.len self.now ≤ i) (λ t. slice_get (map.entries self.now) i ≡ Some t.now) }
+        ensures lawful { IsSchema self.now }
+    {
+        self.tables.get(i as usize)
+    }
+
+    /// The schema with this table, in place of one with its name if there is such a one; the old schema
+    /// stays. The one error is `NoMemory`, where memory runs out.
+    pub fn with(&self, table: Table) -> Result<Schema, NoMemory>
+        ensures { IfOk result (λ s. s ≡ map.insert self.now table.0 table.1) }
+    {
+        let mut tables = copy_tables(self.alloc, &self.tables)?;
+        put_table(&mut tables, table)?;
+        Ok(Schema {
+            alloc: self.alloc,
+            tables,
+        })
+    }
+}

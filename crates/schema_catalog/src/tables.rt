@@ -1,0 +1,93 @@
+use prima_base::{ColType, Name, NoMemory};
+use std::alloc::Global;
+use std::marker::Model;
+
+/// A table: its name, and its columns in the order of their names, each once. A contract sees it as the
+/// pair of both.
+#[derive(Drop)]
+pub struct Table {
+    alloc: Global,
+    name: Name,
+    columns: Vec<(Name, ColType)>,
+}
+
+impl Model for Table {
+    ghost use Rattle.std.specs.Prelude.{ℕ, List};
+    ghost use Rattle.prima_base.specs.Columns.{Column, AreColumns};
+
+    ghost Value = { List ℕ × List Column };
+
+    ghost view = { λ t. (t.name, t.columns.items) };
+
+    ghost invariant = { λ t. AreColumns t.columns.items };
+}
+
+ghost use Rattle.std.specs.Prelude.{◌≡◌, ◌↔◌, IfOk, IsTrue};
+ghost use Rattle.prima_base.specs.Columns.{AreColumns};
+
+/// Whether the columns stand in the order of their names, each once. It takes no memory.
+pub fn are_columns(columns: &[(Name, ColType)]) -> bool
+    ensures { IsTrue result ↔ AreColumns columns.now }
+{
+    match columns {
+        [] => true,
+        [_] => true,
+        [first, rest @ ..] => first.0.cmp(&rest[0].0).is_lt() && are_columns(rest),
+    }
+}
+
+// Equal columns.
+fn copy_columns(
+    alloc: Global,
+    columns: &[(Name, ColType)],
+) -> Result<Vec<(Name, ColType)>, NoMemory>
+    ensures { IfOk result (λ v. v.items ≡ columns.now) }
+{
+    let mut copied = Vec::with_capacity(alloc, columns.len())?;
+    for (name, kind) in columns {
+        copied.push((name.copy()?, *kind))?;
+    }
+    Ok(copied)
+}
+
+impl Table {
+    /// The table of this name and these columns, which stand in the order of their names, each once
+    /// (`are_columns`). It takes no memory.
+    pub fn new(alloc: Global, name: Name, columns: Vec<(Name, ColType)>) -> Table
+        requires { AreColumns columns.items }
+        ensures { result ≡ (name, columns.items) }
+    {
+        Table {
+            alloc,
+            name,
+            columns,
+        }
+    }
+
+    /// The table's name.
+    pub fn name(&self) -> &Name
+        ensures value { result.now ≡ self.now.0 }
+        ensures lawful { AreColumns self.now.1 }
+    {
+        &self.name
+    }
+
+    /// The columns, in the order of their names.
+    pub fn columns(&self) -> &[(Name, ColType)]
+        ensures value { result.now ≡ self.now.1 }
+        ensures lawful { AreColumns self.now.1 }
+    {
+        &self.columns
+    }
+
+    /// An equal table. The one error is `NoMemory`, where memory runs out.
+    pub fn copy(&self) -> Result<Table, NoMemory>
+        ensures { IfOk result (λ t. t ≡ self.now) }
+    {
+        Ok(Table {
+            alloc: self.alloc,
+            name: self.name.copy()?,
+            columns: copy_columns(self.alloc, &self.columns)?,
+        })
+    }
+}

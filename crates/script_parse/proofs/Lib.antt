@@ -1,0 +1,4 @@
+pub mod Reading
+pub mod Keeping
+pub mod Joins
+pub mod Padding

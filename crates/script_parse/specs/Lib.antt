@@ -1,0 +1,4 @@
+pub mod Joining
+pub mod Pads
+pub mod Script
+pub mod Splitting
