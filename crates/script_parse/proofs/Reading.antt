@@ -1,10 +1,10 @@
 -- What a script still holds does not change as it is read byte by byte.
-use Rattle.std.proofs.Common.{◌≡◌, ◌<◌, ◌≤◌, ◌+◌, ◌-◌, ℕ, Bool, true, false, List, [], ◌∷◌, ◌++◌, length, map, refl, sym, ap, ◌∙◌, arith, length-append, get_or, take, drop, length-drop, take-append-drop}
+use Rattle.std.proofs.Common.{◌≡◌, ◌<◌, ◌≤◌, ◌+◌, ◌-◌, ℕ, Bool, true, false, List, [], ◌∷◌, ◌++◌, length, map, refl, sym, ap, ◌∙◌, arith, length-append, get_or, take, drop, length-drop}
 use Rattle.std.specs.Prelude.{cond, nat_lt}
 use Rattle.std.proofs.lemmas.Bool.Decides.{nat_tests}
 use Rattle.std.proofs.lemmas.List.{drop_more, take_all}
 use Rattle.script_parse.specs.Script.{next, is_end, is_too_long, statements_from, tail_from, Skipped, piece_of, pieces_from, ending}
-use Rattle.script_parse.specs.Splitting.{keep}
+use Rattle.script_parse.specs.Splitting.{keep, IsEndOf}
 use Rattle.script_parse.specs.declared.modes.Mode.{Mode}
 use Rattle.script_parse.specs.declared.modes.Mode.TheVariants.{Plain}
 use Rattle.script_parse.specs.declared.splitter.Tail.TheVariants.{TooLong}
@@ -77,5 +77,8 @@ pub endings_turn : (bs more : List ℕ) (i : ℕ) (m : Mode) (c : List ℕ) → 
 endings_turn bs more i m c h e = ap (λ l. ending (tail_from m c (l ++ more))) (drop_more bs i 0 h) ∙ endings_step m c (get_or bs i 0) (drop (i + 1) bs ++ more) e
 
 -- what is left of the bytes behind `n` of them
-pub rest_is : (bs : List ℕ) (n : ℕ) → n ≤ length bs → take n bs ++ take (length bs - n) (drop n bs) ≡ bs
-rest_is bs n h = ap (λ l. take n bs ++ l) (take_all (length bs - n) (drop n bs) (omega (arith, length-drop n bs))) ∙ take-append-drop n bs
+pub rest_is_end : (bs : List ℕ) (n : ℕ) → n ≤ length bs → IsEndOf (take (length bs - n) (drop n bs)) bs
+rest_is_end bs n h =
+    let rest : take (length bs - n) (drop n bs) ≡ drop n bs = take_all (length bs - n) (drop n bs) (omega (arith, length-drop n bs)) in
+    let back : length bs - length (drop n bs) ≡ n = omega (arith, length-drop n bs) in
+    rest ∙ ap (λ k. drop k bs) (sym back) ∙ ap (λ l. drop (length bs - length l) bs) (sym rest)

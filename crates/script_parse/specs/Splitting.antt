@@ -1,5 +1,5 @@
 -- What a splitter knows of the statement that it is in.
-use Rattle.std.specs.Prelude.{◌≡◌, ℕ, ◌+◌, ◌≤◌, List, [], ◌∷◌, ◌++◌, Bool, false, length, if◌then◌else◌}
+use Rattle.std.specs.Prelude.{◌≡◌, ℕ, ◌+◌, ◌-◌, ◌≤◌, List, [], ◌∷◌, ◌++◌, Bool, false, length, drop, if◌then◌else◌}
 use Rattle.script_parse.specs.Script.{next, mode_after, all_quiet, is_too_long, Piece, Whole, Skipped}
 use Rattle.script_parse.specs.declared.TheConstants.{MAX_STATEMENT}
 use Rattle.script_parse.specs.declared.modes.Mode.{Mode}
@@ -36,6 +36,10 @@ abbrev pub found : Cut → List Piece
 found More = []
 found (Text statement) = Whole statement.items ∷ []
 found TooLong = Skipped ∷ []
+
+-- the last of the bytes
+abbrev pub IsEndOf : List ℕ → List ℕ → Type 0
+IsEndOf rest bytes = rest ≡ drop (length bytes - length rest) bytes
 
 -- with no cut all bytes were taken, and behind one the next statement begins
 abbrev pub IsSettled : Cut → List ℕ → State → Type 0

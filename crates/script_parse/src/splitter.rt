@@ -51,7 +51,7 @@ pub enum Tail {
 
 ghost use Rattle.std.specs.Prelude.{◌≡◌, ◌+◌, ◌≤◌, ℕ, List, [], ◌∷◌, ◌++◌, ◌&&◌, false, true, length, IfOk, OnOk, OnErr};
 ghost use Rattle.script_parse.specs.Script.{is_end, is_too_long, piece_of, pieces_from, tail_from, ending, all_quiet, is_settled};
-ghost use Rattle.script_parse.specs.Splitting.{State, fresh, keep, step, found, IsSettled};
+ghost use Rattle.script_parse.specs.Splitting.{State, fresh, keep, step, found, IsEndOf, IsSettled};
 
 fn is_too_long(statement: &[u8]) -> bool
     ensures { result ≡ is_too_long statement.now }
@@ -128,12 +128,13 @@ impl Splitter {
     /// Takes the bytes up to the end of a statement, or all of them, and answers the cut and the bytes
     /// that are left. The one error is `NoMemory`, where memory runs out; the splitter is spent then, and
     /// answers `NoMemory` from then on.
+    #[tactic(auto, using(crate::proofs::Reading::rest_is_end))]
     pub fn feed<'b>(&mut self, bytes: &'b [u8]) -> Result<(Cut, &'b [u8]), NoMemory>
         ensures statements { (more : List ℕ) → IfOk result (λ r. pieces_from self.old.mode self.old.kept (bytes.now ++ more)
             ≡ found r.0 ++ pieces_from self.new.mode self.new.kept (r.1.now ++ more)) }
         ensures tail { (more : List ℕ) → IfOk result (λ r. ending (tail_from self.old.mode self.old.kept (bytes.now ++ more))
             ≡ ending (tail_from self.new.mode self.new.kept (r.1.now ++ more))) }
-        ensures rest { IfOk result (λ r. (taken : List ℕ) × (taken ++ r.1.now ≡ bytes.now)) }
+        ensures rest { IfOk result (λ r. IsEndOf r.1.now bytes.now) }
         ensures settled { IfOk result (λ r. IsSettled r.0 r.1.now self.new) }
         ensures kept { length self.new.kept ≤ MAX_STATEMENT + 1 }
         ensures before { OnOk result (self.old.spent ≡ false) }

@@ -1,9 +1,6 @@
-use Rattle.std.proofs.Common.{◌∙◌, ◌+◌, length, take, arith, sym}
-use Rattle.script_parse.proofs.Reading.{pieces_turn, endings_turn, rest_is}
+use Rattle.std.proofs.Common.{◌∙◌, sym}
+use Rattle.script_parse.proofs.Reading.{pieces_turn, endings_turn}
 use Rattle.script_parse.proofs.splitter.Splitter.feed.Goals as goal
-
-pub returns-then-is_end-clause-rest : goal.returns-then-is_end-clause-rest
-returns-then-is_end-clause-rest c = (take (c.loop-i.i + 1) c.args.bytes.now, rest_is c.args.bytes.now (c.loop-i.i + 1) (omega arith))
 
 pub loop-i-preserved : goal.loop-i-preserved
 loop-i-preserved c =
@@ -14,6 +11,3 @@ loop-i-preserved c =
       pieces = λ more. rw c.in-Ok.ensures.ok (c.loop-i.invariant.pieces more ∙ pieces_turn c.args.bytes.now more c.loop-i.i _ _ c.loop-i-test.true open_is);
       endings = λ more. rw c.in-Ok.ensures.ok (c.loop-i.invariant.endings more ∙ endings_turn c.args.bytes.now more c.loop-i.i _ _ c.loop-i-test.true open_is);
     }
-
-pub returns-clause-rest : goal.returns-clause-rest
-returns-clause-rest c = (take (length c.args.bytes.now) c.args.bytes.now, rest_is c.args.bytes.now (length c.args.bytes.now) (omega arith))
