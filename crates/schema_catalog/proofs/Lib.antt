@@ -1,4 +1,5 @@
 pub mod Sorting
 pub mod Placing
 pub mod Lawful
+pub mod Cells
 pub mod Columns

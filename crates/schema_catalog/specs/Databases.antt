@@ -1,5 +1,5 @@
 -- The databases of a schema, and the cells of a row.
-use Rattle.std.specs.Prelude.{ℕ, List, [], ◌∷◌, Option, Some, None, pos, if◌then◌else◌}
+use Rattle.std.specs.Prelude.{ℕ, List, [], ◌∷◌, Option, Some, None, pos, map, if◌then◌else◌}
 use Rattle.std.specs.Ordering.{is_eq}
 use Rattle.std.specs.FinMap.{FinMap, get}
 use Rattle.prima_base.specs.declared.values.Value.{Value}
@@ -13,6 +13,10 @@ abbrev pub cell : List Column → List Value → List ℕ → Value
 cell [] row name = Int (pos 0)
 cell (c ∷ columns) [] name = Int (pos 0)
 cell (c ∷ columns) (v ∷ row) name = if is_eq (bytes_cmp c.0 name) then v else cell columns row name
+
+-- what a row has in each column
+abbrev pub cells_of : List Column → List Value → List Value
+cells_of columns row = map (λ (c : Column). cell columns row c.0) columns
 
 -- what a database has under a name: a relation, or the loss of one
 pub data Entry : Type 0 where

@@ -11,6 +11,6 @@ mod tables;
 #[cfg(test)]
 mod tests;
 
-pub use laws::{database_with_table, empty_database};
+pub use laws::{database_with_table, empty_database, row_is_its_cells};
 pub use schemas::Schema;
 pub use tables::{Table, are_columns};
