@@ -2,3 +2,6 @@ pub mod Steps
 pub mod Numbers
 pub mod Once
 pub mod Whole
+pub mod Parsing
+pub mod Grammar
+pub mod Goodness
