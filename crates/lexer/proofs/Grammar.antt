@@ -103,10 +103,13 @@ conjs_down q j l s ts (g.a_conj p c r u v f k h m) = (u, v, f, k, refl, refl, h,
 
 -- ---- the forms of an expression
 
+abbrev pub nameG : List ℕ → Size → List Lexeme → Type 0
+nameG n s [] = ⊥
+nameG n s (word m ∷ l) = (is_name m ≡ true) × pureG m n s l
+nameG n s (_ ∷ l) = ⊥
+
 abbrev pub aliasG : List ℕ → Tree → Size → List Lexeme → Type 0
-aliasG a e s [] = ⊥
-aliasG a e s (word n ∷ l) = (is_name n ≡ true) × pureG (column (Alias a) n) e s l
-aliasG a e s (_ ∷ l) = ⊥
+aliasG a = mapG (λ n. column (Alias a) n) nameG
 
 abbrev pub refG : Bool → List ℕ → Tree → Size → List Lexeme → Type 0
 refG false n = pureG (column (Atom 0) n)
@@ -142,7 +145,7 @@ expr_inv q e s ts (g.an_int p z h) = inr (inr (inr (h, (nothing_counted, refl, (
 expr_inv q e s ts (g.a_text p t) = inr (inr (inr (nothing_counted, refl, (refl, refl, refl))))
 expr_inv q e s ts (g.of_atom n h) = inr (inr (inr (h, (nothing_counted, refl, (refl, refl, refl)))))
 expr_inv q e s ts (g.of_free n h) = inr (inr (inr (h, (nothing_counted, refl, inl (refl, refl, refl)))))
-expr_inv q e s ts (g.of_alias a n h k) = inr (inr (inr (h, (nothing_counted, refl, inr (word n ∷ [], refl, (k, (refl, refl, refl)))))))
+expr_inv q e s ts (g.of_alias a n h k) = inr (inr (inr (h, (nothing_counted, refl, inr (word n ∷ [], refl, (n, refl, (k, (refl, refl, refl))))))))
 expr_inv q e s ts (g.a_length p x u f h) =
     inl (sign OPEN ∷ (f ++ sign CLOSE ∷ []), refl, (one_open u, refl, (f ++ sign CLOSE ∷ [], refl, (u, refl, (x, u, nothing_counted, f, sign CLOSE ∷ [], sym (both_none u), refl, h, ([], refl, (refl, refl, refl)))))))
 expr_inv q e s ts (g.a_concat p x l u v f k h m) =

@@ -5,3 +5,4 @@ pub mod Whole
 pub mod Parsing
 pub mod Grammar
 pub mod Goodness
+pub mod ReadSteps

@@ -16,15 +16,18 @@ pub record Level : Type 0 where
   pub cond : Parser Test
   pub fact : Parser Test
 
--- a name behind the point
-abbrev pub name_arm : List ℕ → Lexeme → Arm Tree
-name_arm a (word n) = if is_name n then Takes (pure (column (Alias a) n)) else No
-name_arm a _ = No
+-- a name
+abbrev pub name_arm : Lexeme → Arm (List ℕ)
+name_arm (word n) = if is_name n then Takes (pure n) else No
+name_arm _ = No
+
+unfoldable pub name : Parser (List ℕ)
+name = choose name_arm
 
 -- behind a name
 unfoldable pub ref_rest : Bool → List ℕ → Parser Tree
 ref_rest false n = pure (column (Atom 0) n)
-ref_rest true n = option (is_sign (codes ".")) (Takes (choose (name_arm n))) (column Free n)
+ref_rest true n = option (is_sign (codes ".")) (Takes (map_to (λ m. column (Alias n) m) name)) (column Free n)
 
 abbrev pub sign_op : Lexeme → Option CmpOp
 sign_op x =

@@ -6,13 +6,17 @@ ghost use Rattle.lexer.specs.Lexed.{Lexes, Gives, LexesOnce};
 
 use std::alloc::{AllocError, Global};
 
+mod atoms;
 mod faults;
 mod kinds;
 mod pieces;
+mod reader;
+mod reading;
 mod token;
 
 pub use faults::LexFault;
 pub use kinds::TokenKind;
+pub use reading::{Cursor, Stop};
 use pieces::{Piece, gap, piece_at};
 pub use token::Token;
 
