@@ -11,7 +11,7 @@ use Rattle.lexer.specs.Lexemes.{Lexeme, word, number, text, sign, is_word, is_si
 use Rattle.lexer.specs.Parsing.{Size, nothing_counted, both, one_node, one_open, so_wide, limit, Out, Got, Stuck, Over, Parser, Stops, Good, bind, bindG, pure, pureG, lead, leadG, nodeG, openG, Arm, No, Takes, Counts, Whole, Refuses, Fills, choose, option, map_to, mapG, more, AreMore, nodes_more, pick, optionG}
 use Rattle.lexer.specs.Grammar as g
 use Rattle.lexer.specs.Grammar.{spelled, leaf, IsExpr, AreParts, IsFact, AreFacts, IsConj, AreConjs, IsCond}
-use Rattle.lexer.specs.Reader.{Level, name, name_arm, ref_rest, sign_op, op_arm, bracket, opens, length_rest, concat_rest, case_rest, atom_arm, expr_arm, expr, comparison, bracketed, fact_arm, fact, facts, conj, conjs, cond as whole, nothing, made, level, goes_expr, goes_conj, goes_cond}
+use Rattle.lexer.specs.Reader.{Level, name, name_arm, ref_rest, sign_op, op_arm, bracket, opens, length_rest, concat_rest, case_rest, atom_arm, expr_arm, expr, comparison, bracketed, fact_arm, fact, facts, conj, conjs, cond as whole, nothing, made, level, outermost, goes_expr, goes_conj, goes_cond}
 use Rattle.lexer.proofs.Parsing.{true_false, by_test, ArmGood, Live, good_iff, bind_good, pure_good, map_good, lead_good, behind_up, behind_down, pick_open_good, option_node_good, option_takes_good, more_good, nodes_good, no_end, bind_more, side, choose_good, arm_if, counts_good, opens_good, bracket_good, whole_good, open_good, bind_lead, bind_option, both_none, both_last, last_size}
 use Rattle.lexer.proofs.Grammar.{word_exact, sign_exact, word_is, sign_is, clash, CASE, WHEN, THEN, ELSE, END, LENGTH, CONCAT, AND, OR, NOT, TRUE, FALSE, OPEN, CLOSE, COMMA, POINT, nameG, aliasG, refG, atomG, insideLengthG, lengthG, insideConcatG, concatG, caseG, exprG, expr_inv, length_up, concat_up, case_up, some_name, not_name, length_down, concat_down, case_down, atom_down, expr_not_none, opG, rightG, cmpG, bracketG, notG, factG, fact_inv, cmp_up, bracket_up, not_up, not_down, bracket_down, true_down, false_down, cmp_down, fact_not_none, fact_nodes, conj_nodes, facts_up, facts_down, conjs_up, conjs_down}
 
@@ -89,7 +89,7 @@ module _ (q may : Bool) (d : ℕ) (inside : Level) (deep : may ≡ true → (e :
   length_good = pick_open_good (is_sign OPEN) (sign OPEN) (sign_is OPEN) (sign_exact OPEN) 0 d may (bind inside.expr (λ e. lead (is_sign CLOSE) (pure (length_of e)))) (insideLengthG q) (goes_expr q)
       (length_of (constant (Int (pos 1))), both leaf nothing_counted, number (pos 1) ∷ sign CLOSE ∷ [], (constant (Int (pos 1)), leaf, nothing_counted, number (pos 1) ∷ [], sign CLOSE ∷ [], refl, refl, a_one q, ([], refl, (refl, refl, refl))))
       (opened (bind inside.expr (λ e. lead (is_sign CLOSE) (pure (length_of e)))) (insideLengthG q) (goes_expr q) (λ e L.
-          bind_lead 0 e inside.expr (λ a. lead (is_sign CLOSE) (pure (length_of a))) (IsExpr q) (sign CLOSE) (λ a. pureG (length_of a)) (goes_expr q) (goes_expr q) refl L.expr (λ a. close_good e (length_of a))))
+      bind_lead 0 e inside.expr (λ a. lead (is_sign CLOSE) (pure (length_of a))) (IsExpr q) (sign CLOSE) (λ a. pureG (length_of a)) (goes_expr q) (goes_expr q) refl L.expr (λ a. close_good e (length_of a))))
       shallow
 
   abbrev parts : Parser (List Tree)
@@ -106,19 +106,32 @@ module _ (q may : Bool) (d : ℕ) (inside : Level) (deep : may ≡ true → (e :
       let P : List Lexeme → Type 0 = λ u. Stops (goes_expr q) u in
       let Q : List Lexeme → Type 0 = λ u. Stops goes_parts (u ++ rest) in
       subst P (sym (ap (λ u. u ++ rest) h.6 ∙ append_assoc h.3 h.4 rest))
-          (side (is_sign COMMA) (sign COMMA) (sign_is COMMA) (sign_exact COMMA) e inside.expr (IsExpr q) (goes_expr q) L.expr refl (so_wide what.Parts) 1 h.0 h.1 h.3 (h.4 ++ rest) h.7 (subst Q (sym h.8.1) refl))
+      (side (is_sign COMMA) (sign COMMA) (sign_is COMMA) (sign_exact COMMA) e inside.expr (IsExpr q) (goes_expr q) L.expr refl (so_wide what.Parts) 1 h.0 h.1 h.3 (h.4 ++ rest) h.7 (subst Q (sym h.8.1) refl))
 
   concat_good : Good 0 d (concat_rest q may inside) (concatG q) (goes_expr q)
   unfolding concat_rest
-  concat_good = pick_open_good (is_sign OPEN) (sign OPEN) (sign_is OPEN) (sign_exact OPEN) 0 d may (bind inside.expr (λ a. bind parts (λ l. lead (is_sign CLOSE) (pure (joined (a_tree a (trees_of l))))))) (insideConcatG q) (goes_expr q)
-      (joined (a_tree (constant (Int (pos 1))) (trees_of [])), both leaf (both (so_wide what.Parts 1) nothing_counted), number (pos 1) ∷ sign CLOSE ∷ [], (constant (Int (pos 1)), leaf, both (so_wide what.Parts 1) nothing_counted, number (pos 1) ∷ [], sign CLOSE ∷ [], refl, refl, a_one q,
-          ([], so_wide what.Parts 1, nothing_counted, [], sign CLOSE ∷ [], refl, refl, (refl, refl), ([], refl, (refl, refl, refl)))))
+  concat_good = pick_open_good (is_sign OPEN) (sign OPEN) (sign_is OPEN) (sign_exact OPEN) 0 d may (bind inside.expr (λ a. bind parts (λ l. lead (is_sign CLOSE) (pure (joined (a_tree a (trees_of l))))))) (insideConcatG q) (goes_expr q) (
+    joined (a_tree (constant (Int (pos 1))) (trees_of [])),
+    both leaf (both (so_wide what.Parts 1) nothing_counted),
+    number (pos 1) ∷ sign CLOSE ∷ [],
+    (
+      constant (Int (pos 1)),
+      leaf,
+      both (so_wide what.Parts 1) nothing_counted,
+      number (pos 1) ∷ [],
+      sign CLOSE ∷ [],
+      refl,
+      refl,
+      a_one q,
+      ([], so_wide what.Parts 1, nothing_counted, [], sign CLOSE ∷ [], refl, refl, (refl, refl), ([], refl, (refl, refl, refl))),
+    ),
+  )
       (opened (bind inside.expr (λ a. bind parts (λ l. lead (is_sign CLOSE) (pure (joined (a_tree a (trees_of l))))))) (insideConcatG q) (goes_expr q) (λ e L.
-          bind_good 0 e inside.expr (λ a. bind parts (λ l. lead (is_sign CLOSE) (pure (joined (a_tree a (trees_of l)))))) (IsExpr q) (λ a. bindG PartsG (λ l. leadG (sign CLOSE) (pureG (joined (a_tree a (trees_of l)))))) (goes_expr q) (goes_expr q) L.expr (λ a.
-              bind_lead 0 e parts (λ l. lead (is_sign CLOSE) (pure (joined (a_tree a (trees_of l))))) PartsG (sign CLOSE) (λ l. pureG (joined (a_tree a (trees_of l)))) goes_parts (goes_expr q) refl
-                  (more_good (is_sign COMMA) (sign COMMA) (sign_is COMMA) (sign_exact COMMA) e inside.expr (IsExpr q) (goes_expr q) L.expr refl what.Parts (λ s n h. h) 7 1 refl)
-                  (λ l. close_good e (joined (a_tree a (trees_of l)))))
-              (parts_side e L)))
+      bind_good 0 e inside.expr (λ a. bind parts (λ l. lead (is_sign CLOSE) (pure (joined (a_tree a (trees_of l)))))) (IsExpr q) (λ a. bindG PartsG (λ l. leadG (sign CLOSE) (pureG (joined (a_tree a (trees_of l)))))) (goes_expr q) (goes_expr q) L.expr (λ a.
+      bind_lead 0 e parts (λ l. lead (is_sign CLOSE) (pure (joined (a_tree a (trees_of l))))) PartsG (sign CLOSE) (λ l. pureG (joined (a_tree a (trees_of l)))) goes_parts (goes_expr q) refl
+      (more_good (is_sign COMMA) (sign COMMA) (sign_is COMMA) (sign_exact COMMA) e inside.expr (IsExpr q) (goes_expr q) L.expr refl what.Parts (λ s n h. h) 7 1 refl)
+      (λ l. close_good e (joined (a_tree a (trees_of l)))))
+      (parts_side e L)))
       shallow
 
   case_good : may ≡ true → Good 0 d (case_rest q may inside) (openG (caseG q)) (goes_expr q)
@@ -141,13 +154,13 @@ module _ (q may : Bool) (d : ℕ) (inside : Level) (deep : may ≡ true → (e :
   expr_arms : (x : Lexeme) → ArmGood 0 d (expr_arm q may inside x) x (IsExpr q) (goes_expr q)
   expr_arms x = arm_if 0 d (is_word LENGTH x) (Counts (length_rest q may inside)) _ x (IsExpr q) (goes_expr q)
       (λ e. subst (at (Counts (length_rest q may inside))) (sym (word_exact LENGTH x e))
-          (counts_good 0 d (length_rest q may inside) (word LENGTH) (IsExpr q) (lengthG q) (goes_expr q) (length_up q) (λ a s l h. length_down q a s l (expr_inv q a s (word LENGTH ∷ l) h)) length_good)) (λ e1.
+      (counts_good 0 d (length_rest q may inside) (word LENGTH) (IsExpr q) (lengthG q) (goes_expr q) (length_up q) (λ a s l h. length_down q a s l (expr_inv q a s (word LENGTH ∷ l) h)) length_good)) (λ e1.
       arm_if 0 d (is_word CONCAT x) (Counts (concat_rest q may inside)) _ x (IsExpr q) (goes_expr q)
       (λ e. subst (at (Counts (concat_rest q may inside))) (sym (word_exact CONCAT x e))
-          (counts_good 0 d (concat_rest q may inside) (word CONCAT) (IsExpr q) (concatG q) (goes_expr q) (concat_up q) (λ a s l h. concat_down q a s l (expr_inv q a s (word CONCAT ∷ l) h)) concat_good)) (λ e2.
+      (counts_good 0 d (concat_rest q may inside) (word CONCAT) (IsExpr q) (concatG q) (goes_expr q) (concat_up q) (λ a s l h. concat_down q a s l (expr_inv q a s (word CONCAT ∷ l) h)) concat_good)) (λ e2.
       arm_if 0 d (is_word CASE x) (opens q may inside (case_rest q may inside)) _ x (IsExpr q) (goes_expr q)
       (λ e. subst (at (opens q may inside (case_rest q may inside))) (sym (word_exact CASE x e))
-          (opens_good 0 d may (case_rest q may inside) (word CASE) (IsExpr q) (caseG q) (goes_expr q) case_live (case_up q) (λ a s l h. case_down q a s l (expr_inv q a s (word CASE ∷ l) h)) case_good shallow)) (λ e3.
+      (opens_good 0 d may (case_rest q may inside) (word CASE) (IsExpr q) (caseG q) (goes_expr q) case_live (case_up q) (λ a s l h. case_down q a s l (expr_inv q a s (word CASE ∷ l) h)) case_good shallow)) (λ e3.
       atom_arms d q x e1 e2 e3)))
 
   pub expr_good : Good 0 d (expr q may inside) (IsExpr q) (goes_expr q)
@@ -194,7 +207,7 @@ module _ (q may : Bool) (d : ℕ) (inside : Level) (deep : may ≡ true → (e :
   op_arms a x (Some o) e =
       let R : Lexeme → Type 0 = λ y. ArmGood 0 d (Counts (map_to (λ b. compared o a b) (expr q may inside))) y (compareG a) (goes_expr q) in
       subst R (sym (op_exact x o e))
-          (counts_good 0 d (map_to (λ b. compared o a b) (expr q may inside)) (spelled o) (compareG a) (rightG q a o) (goes_expr q) (λ c s l h. (o, (l, refl, (s, refl, h)))) (compare_down a o) (right_good a o))
+      (counts_good 0 d (map_to (λ b. compared o a b) (expr q may inside)) (spelled o) (compareG a) (rightG q a o) (goes_expr q) (λ c s l h. (o, (l, refl, (s, refl, h)))) (compare_down a o) (right_good a o))
     where
       by_op : (b : Bool) (o p : CmpOp) (rest : Option CmpOp) (y : Lexeme) → (b ≡ true → y ≡ spelled p) → (rest ≡ Some o → y ≡ spelled o) → cond b (Some p) rest ≡ Some o → y ≡ spelled o
       by_op true o p rest y h k f = let m : p ≡ o = cc in h refl ∙ ap spelled m
@@ -219,8 +232,8 @@ module _ (q may : Bool) (d : ℕ) (inside : Level) (deep : may ≡ true → (e :
   unfolding comparison
   comparison_good = bind_good 0 d (expr q may inside) (λ a. choose (λ x. op_arm (λ o. Counts (map_to (λ b. compared o a b) (expr q may inside))) (sign_op x))) (IsExpr q) compareG (goes_expr q) (goes_expr q) expr_good
       (λ a. choose_good 0 d (λ x. op_arm (λ o. Counts (map_to (λ b. compared o a b) (expr q may inside))) (sign_op x)) (compareG a) (goes_expr q)
-          (compared Eq a (constant (Int (pos 1))), one_node leaf, sign (codes "=") ∷ number (pos 1) ∷ [], (Eq, (number (pos 1) ∷ [], refl, (leaf, refl, (constant (Int (pos 1)), refl, a_one q)))))
-          (compare_some a) (λ x. op_arms a x (sign_op x) refl))
+      (compared Eq a (constant (Int (pos 1))), one_node leaf, sign (codes "=") ∷ number (pos 1) ∷ [], (Eq, (number (pos 1) ∷ [], refl, (leaf, refl, (constant (Int (pos 1)), refl, a_one q)))))
+      (compare_some a) (λ x. op_arms a x (sign_op x) refl))
       compare_side
 
   -- ---- facts
@@ -229,7 +242,7 @@ module _ (q may : Bool) (d : ℕ) (inside : Level) (deep : may ≡ true → (e :
   unfolding bracketed
   bracketed_good = opened (bind inside.cond (λ c. lead (is_sign CLOSE) (pure c))) (bracketG q) (goes_expr q) (λ e L.
       bind_lead 0 e inside.cond (λ c. lead (is_sign CLOSE) (pure c)) (IsCond q) (sign CLOSE) (λ c. pureG c) (goes_cond q) (goes_expr q) refl L.cond (λ c.
-          lead_good (is_sign CLOSE) (sign CLOSE) (sign_is CLOSE) (sign_exact CLOSE) 0 e (pure c) (pureG c) (goes_expr q) (pure_good 0 e c (goes_expr q))))
+      lead_good (is_sign CLOSE) (sign CLOSE) (sign_is CLOSE) (sign_exact CLOSE) 0 e (pure c) (pureG c) (goes_expr q) (pure_good 0 e c (goes_expr q))))
 
   negation_good : may ≡ true → Good 0 d (map_to (λ c. fails c) inside.fact) (openG (notG q)) (goes_expr q)
   negation_good = opened (map_to (λ c. fails c) inside.fact) (notG q) (goes_expr q) (λ e L. map_good 0 e (λ c. fails c) inside.fact (IsFact q) (goes_expr q) L.fact)
@@ -240,16 +253,16 @@ module _ (q may : Bool) (d : ℕ) (inside : Level) (deep : may ≡ true → (e :
   fact_arms : (x : Lexeme) → ArmGood 0 d (fact_arm q may inside x) x (IsFact q) (goes_expr q)
   fact_arms x = arm_if 0 d (is_word NOT x) (opens q may inside (map_to (λ c. fails c) inside.fact)) _ x (IsFact q) (goes_expr q)
       (λ e. subst (fact_at (opens q may inside (map_to (λ c. fails c) inside.fact))) (sym (word_exact NOT x e))
-          (opens_good 0 d may (map_to (λ c. fails c) inside.fact) (word NOT) (IsFact q) (notG q) (goes_expr q) (_, _, _, g.negated q always leaf (word TRUE ∷ []) (g.truth q)) (not_up q) (λ a s l h. not_down q a s l (fact_inv q a s (word NOT ∷ l) h)) negation_good shallow)) (λ e1.
+      (opens_good 0 d may (map_to (λ c. fails c) inside.fact) (word NOT) (IsFact q) (notG q) (goes_expr q) (_, _, _, g.negated q always leaf (word TRUE ∷ []) (g.truth q)) (not_up q) (λ a s l h. not_down q a s l (fact_inv q a s (word NOT ∷ l) h)) negation_good shallow)) (λ e1.
       arm_if 0 d (is_sign OPEN x) (bracket q may inside (bracketed q may inside)) _ x (IsFact q) (goes_expr q)
       (λ e. subst (fact_at (bracket q may inside (bracketed q may inside))) (sym (sign_exact OPEN x e))
-          (bracket_good 0 d may (bracketed q may inside) (sign OPEN) (IsFact q) (bracketG q) (goes_expr q) (_, _, _, g.bracketed q always leaf (word TRUE ∷ []) (true_cond q)) (bracket_up q) (λ a s l h. bracket_down q a s l (fact_inv q a s (sign OPEN ∷ l) h)) bracketed_good shallow)) (λ e2.
+      (bracket_good 0 d may (bracketed q may inside) (sign OPEN) (IsFact q) (bracketG q) (goes_expr q) (_, _, _, g.bracketed q always leaf (word TRUE ∷ []) (true_cond q)) (bracket_up q) (λ a s l h. bracket_down q a s l (fact_inv q a s (sign OPEN ∷ l) h)) bracketed_good shallow)) (λ e2.
       arm_if 0 d (is_word TRUE x) (Counts (pure always)) _ x (IsFact q) (goes_expr q)
       (λ e. subst (fact_at (Counts (pure always))) (sym (word_exact TRUE x e))
-          (counts_good 0 d (pure always) (word TRUE) (IsFact q) (pureG always) (goes_expr q) (λ a s l h. rw (h.0, h.1, h.2) (g.truth q)) (λ a s l h. true_down q a s l (fact_inv q a s (word TRUE ∷ l) h)) (pure_good 0 d always (goes_expr q)))) (λ e3.
+      (counts_good 0 d (pure always) (word TRUE) (IsFact q) (pureG always) (goes_expr q) (λ a s l h. rw (h.0, h.1, h.2) (g.truth q)) (λ a s l h. true_down q a s l (fact_inv q a s (word TRUE ∷ l) h)) (pure_good 0 d always (goes_expr q)))) (λ e3.
       arm_if 0 d (is_word FALSE x) (Counts (pure never)) _ x (IsFact q) (goes_expr q)
       (λ e. subst (fact_at (Counts (pure never))) (sym (word_exact FALSE x e))
-          (counts_good 0 d (pure never) (word FALSE) (IsFact q) (pureG never) (goes_expr q) (λ a s l h. rw (h.0, h.1, h.2) (g.falsehood q)) (λ a s l h. false_down q a s l (fact_inv q a s (word FALSE ∷ l) h)) (pure_good 0 d never (goes_expr q)))) (λ e4.
+      (counts_good 0 d (pure never) (word FALSE) (IsFact q) (pureG never) (goes_expr q) (λ a s l h. rw (h.0, h.1, h.2) (g.falsehood q)) (λ a s l h. false_down q a s l (fact_inv q a s (word FALSE ∷ l) h)) (pure_good 0 d never (goes_expr q)))) (λ e4.
       whole_good 0 d (comparison q may inside) (cmpG q) (IsFact q) x (goes_expr q) comparison_good (cmp_up q) (λ a s l h. cmp_down q a s x l e1 e2 e3 e4 (fact_inv q a s (x ∷ l) h))))))
 
   pub fact_good : Good 0 d (fact q may inside) (IsFact q) (goes_expr q)
@@ -268,7 +281,7 @@ module _ (q may : Bool) (d : ℕ) (inside : Level) (deep : may ≡ true → (e :
   unfolding facts
   facts_good c = option_node_good (is_word AND) (word AND) (word_is AND) (word_exact AND) 0 d _ c (andG c) (goes_conj q) (λ x e. ap (λ b. b || goes_expr q x) e)
       (bind_more (is_word AND) (word AND) (word_is AND) (word_exact AND) d (fact q may inside) (IsFact q) (goes_expr q) fact_good refl no_end 0 0 (nodes_more (is_word AND) (fact q may inside)) (λ e l. all_of (a_test c (a_test e (tests_of l))))
-          (nodes_good (is_word AND) (word AND) (word_is AND) (word_exact AND) d (fact q may inside) (IsFact q) (goes_expr q) fact_good refl (fact_nodes q) 0))
+      (nodes_good (is_word AND) (word AND) (word_is AND) (word_exact AND) d (fact q may inside) (IsFact q) (goes_expr q) fact_good refl (fact_nodes q) 0))
 
   conj_up : (c : Test) (s : Size) (l : List Lexeme) → bindG (IsFact q) (λ e. optionG e (word AND) (nodeG (andG e))) c s l → IsConj q c s l
   conj_up c s l h = by_tail h.8
@@ -294,7 +307,7 @@ module _ (q may : Bool) (d : ℕ) (inside : Level) (deep : may ≡ true → (e :
   unfolding conjs
   conjs_good c = option_node_good (is_word OR) (word OR) (word_is OR) (word_exact OR) 0 d _ c (orG c) (goes_cond q) (λ x e. ap (λ b. b || goes_conj q x) e)
       (bind_more (is_word OR) (word OR) (word_is OR) (word_exact OR) d (conj q may inside) (IsConj q) (goes_conj q) conj_good refl no_end 0 0 (nodes_more (is_word OR) (conj q may inside)) (λ e l. some_of (a_test c (a_test e (tests_of l))))
-          (nodes_good (is_word OR) (word OR) (word_is OR) (word_exact OR) d (conj q may inside) (IsConj q) (goes_conj q) conj_good refl (conj_nodes q) 0))
+      (nodes_good (is_word OR) (word OR) (word_is OR) (word_exact OR) d (conj q may inside) (IsConj q) (goes_conj q) conj_good refl (conj_nodes q) 0))
 
   cond_up : (c : Test) (s : Size) (l : List Lexeme) → bindG (IsConj q) (λ e. optionG e (word OR) (nodeG (orG e))) c s l → IsCond q c s l
   cond_up c s l h = by_tail h.8
@@ -323,3 +336,7 @@ module _ (q may : Bool) (d : ℕ) (inside : Level) (deep : may ≡ true → (e :
 pub level_good : (q : Bool) (d : ℕ) → LevelGood q d (level q d)
 level_good q zero = made_good q false zero nothing (λ e. true_false (sym e)) (λ e. refl)
 level_good q (suc d) = made_good q true (suc d) (level q d) (λ e. (d, refl, level_good q d)) (λ e. true_false e)
+
+pub outermost_good : (q : Bool) → LevelGood q 32 (outermost q)
+unfolding outermost
+outermost_good q = level_good q 32

@@ -44,34 +44,49 @@ clashes is x y l m e f h = clash is x y l m e f h
 
 abbrev pub CASE : List ℕ
 CASE = codes "CASE"
+
 abbrev pub WHEN : List ℕ
 WHEN = codes "WHEN"
+
 abbrev pub THEN : List ℕ
 THEN = codes "THEN"
+
 abbrev pub ELSE : List ℕ
 ELSE = codes "ELSE"
+
 abbrev pub END : List ℕ
 END = codes "END"
+
 abbrev pub LENGTH : List ℕ
 LENGTH = codes "LENGTH"
+
 abbrev pub CONCAT : List ℕ
 CONCAT = codes "CONCAT"
+
 abbrev pub AND : List ℕ
 AND = codes "AND"
+
 abbrev pub OR : List ℕ
 OR = codes "OR"
+
 abbrev pub NOT : List ℕ
 NOT = codes "NOT"
+
 abbrev pub TRUE : List ℕ
 TRUE = codes "TRUE"
+
 abbrev pub FALSE : List ℕ
 FALSE = codes "FALSE"
+
 abbrev pub OPEN : List ℕ
 OPEN = codes "("
+
 abbrev pub CLOSE : List ℕ
 CLOSE = codes ")"
+
 abbrev pub COMMA : List ℕ
 COMMA = codes ","
+
 abbrev pub POINT : List ℕ
 POINT = codes "."
 
@@ -149,13 +164,69 @@ expr_inv q e s ts (g.of_alias a n h k) = inr (inr (inr (h, (nothing_counted, ref
 expr_inv q e s ts (g.a_length p x u f h) =
     inl (sign OPEN ∷ (f ++ sign CLOSE ∷ []), refl, (one_open u, refl, (f ++ sign CLOSE ∷ [], refl, (u, refl, (x, u, nothing_counted, f, sign CLOSE ∷ [], sym (both_none u), refl, h, ([], refl, (refl, refl, refl)))))))
 expr_inv q e s ts (g.a_concat p x l u v f k h m) =
-    inr (inl (sign OPEN ∷ (f ++ (k ++ sign CLOSE ∷ [])), refl, (one_open (both u v), refl, (f ++ (k ++ sign CLOSE ∷ []), refl, (both u v, refl,
-        (x, u, v, f, k ++ sign CLOSE ∷ [], refl, refl, h, (l, v, nothing_counted, k, sign CLOSE ∷ [], sym (both_none v), refl, parts_down p 1 l v k m, ([], refl, (refl, refl, refl)))))))))
+    inr (inl (
+      sign OPEN ∷ (f ++ (k ++ sign CLOSE ∷ [])),
+      refl,
+      (
+        one_open (both u v),
+        refl,
+        (
+          f ++ (k ++ sign CLOSE ∷ []),
+          refl,
+          (
+            both u v,
+            refl,
+            (x, u, v, f, k ++ sign CLOSE ∷ [], refl, refl, h, (l, v, nothing_counted, k, sign CLOSE ∷ [], sym (both_none v), refl, parts_down p 1 l v k m, ([], refl, (refl, refl, refl)))),
+          ),
+        ),
+      ),
+    ))
 expr_inv q e s ts (g.a_case p c a b u v w f k m hc ha hb) =
-    inr (inr (inl (word WHEN ∷ (f ++ word THEN ∷ (k ++ word ELSE ∷ (m ++ word END ∷ []))), refl, (one_open (both u (both v w)), refl, (both u (both v w), refl, (f ++ word THEN ∷ (k ++ word ELSE ∷ (m ++ word END ∷ [])), refl,
-        (c, u, both v w, f, word THEN ∷ (k ++ word ELSE ∷ (m ++ word END ∷ [])), refl, refl, hc, (k ++ word ELSE ∷ (m ++ word END ∷ []), refl,
-        (a, v, w, k, word ELSE ∷ (m ++ word END ∷ []), refl, refl, ha, (m ++ word END ∷ [], refl,
-        (b, w, nothing_counted, m, word END ∷ [], sym (both_none w), refl, hb, ([], refl, (refl, refl, refl)))))))))))))
+    inr (inr (inl (
+      word WHEN ∷ (f ++ word THEN ∷ (k ++ word ELSE ∷ (m ++ word END ∷ []))),
+      refl,
+      (
+        one_open (both u (both v w)),
+        refl,
+        (
+          both u (both v w),
+          refl,
+          (
+            f ++ word THEN ∷ (k ++ word ELSE ∷ (m ++ word END ∷ [])),
+            refl,
+            (
+              c,
+              u,
+              both v w,
+              f,
+              word THEN ∷ (k ++ word ELSE ∷ (m ++ word END ∷ [])),
+              refl,
+              refl,
+              hc,
+              (
+                k ++ word ELSE ∷ (m ++ word END ∷ []),
+                refl,
+                (
+                  a,
+                  v,
+                  w,
+                  k,
+                  word ELSE ∷ (m ++ word END ∷ []),
+                  refl,
+                  refl,
+                  ha,
+                  (
+                    m ++ word END ∷ [],
+                    refl,
+                    (b, w, nothing_counted, m, word END ∷ [], sym (both_none w), refl, hb, ([], refl, (refl, refl, refl))),
+                  ),
+                ),
+              ),
+            ),
+          ),
+        ),
+      ),
+    )))
 
 pub length_up : (q : Bool) (x : Tree) (s : Size) (l : List Lexeme) → lengthG q x s l → IsExpr q x (one_node s) (word LENGTH ∷ l)
 length_up q x s l h =

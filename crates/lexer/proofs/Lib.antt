@@ -6,3 +6,4 @@ pub mod Parsing
 pub mod Grammar
 pub mod Goodness
 pub mod ReadSteps
+pub mod Places

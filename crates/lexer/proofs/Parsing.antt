@@ -96,11 +96,11 @@ module _ {A B : Type 0} (d : ℕ) (p : Parser A) (f : A → Parser B) (G : A →
   whole rest f1 f2 rest2 e e2 = e ∙ ap (λ l. f1 ++ l) e2 ∙ sym (append_assoc f1 f2 rest2)
 
   goes_second : (a : A) (s : Size) (f1 f2 rest : List Lexeme) → G a s f1 → Goes (H a) f2 rest → Goes (bindG G H) (f1 ++ f2) rest
-  goes_second a s f1 f2 [] g h = tt
+  goes_second a s f1 f2 [] g h = h
   goes_second a s f1 f2 (x ∷ rest) g h = (h.0, h.1, both s h.2, (a, s, h.2, f1, (f2 ++ x ∷ []) ++ h.0, refl, ap (λ l. l ++ h.0) (append_assoc f1 f2 (x ∷ [])) ∙ append_assoc f1 (f2 ++ x ∷ []) h.0, g, h.3))
 
   goes_first : ((a : A) → (b : B) × (t : Size) × (us : List Lexeme) × H a b t us) → (f1 rest : List Lexeme) → Goes G f1 rest → Goes (bindG G H) f1 rest
-  goes_first live f1 [] h = tt
+  goes_first live f1 [] h = h
   goes_first live f1 (x ∷ rest) h = let l = live h.1 in (h.0 ++ l.2, l.0, both h.2 l.1, (h.1, h.2, l.1, (f1 ++ x ∷ []) ++ h.0, l.2, refl, sym (append_assoc (f1 ++ x ∷ []) h.0 l.2), h.3, l.3))
 
   -- after the first part
@@ -143,10 +143,10 @@ pub bind_later : {A B : Type 0} (low few d : ℕ) (p : Parser A) (f : A → Pars
     Good low d p G goes → ((a : A) → Good (low + few) d (f a) (H a) goes2) → ((a : A) (b : B) (s : Size) (ts rest : List Lexeme) → H a b s ts → Stops goes2 rest → Stops goes (ts ++ rest)) →
     Good low d (bind p f) (bindG G H) goes2
 bind_later {A} {B} low few d p f G H goes goes2 some gp gf side = record {
-    live = (let x = gp.live in let y = (gf x.0).live in (y.0, both x.1 y.1, x.2 ++ y.2, (x.0, x.1, y.1, x.2, y.2, refl, refl, x.3, y.3)));
-    explains = λ n h ts. outer d p f G H n ts low few h some (λ a. (gf a).live) (λ a m k us. (gf a).explains m k us) (p n ts) (gp.explains n h ts);
-    complete = complete;
-  }
+  live = (let x = gp.live in let y = (gf x.0).live in (y.0, both x.1 y.1, x.2 ++ y.2, (x.0, x.1, y.1, x.2, y.2, refl, refl, x.3, y.3)));
+  explains = λ n h ts. outer d p f G H n ts low few h some (λ a. (gf a).live) (λ a m k us. (gf a).explains m k us) (p n ts) (gp.explains n h ts);
+  complete = complete;
+}
   where
     complete : (n : ℕ) → low ≤ n → (b : B) (s : Size) (front rest : List Lexeme) → bindG G H b s front → Stops goes2 rest → Fine d b s n rest (bind p f n (front ++ rest))
     complete n h b s front rest g stops =
@@ -155,8 +155,8 @@ bind_later {A} {B} low few d p f G H goes goes2 some gp gf side = record {
         let P : List Lexeme → Type 0 = λ l. Fine d b s n rest (bind p f n l) in
         let Q : Size → Type 0 = λ z. Fine d b z n rest (bind p f n (f1 ++ (f2 ++ rest))) in
         subst P (sym same) (subst Q (sym g.5) (fine_inner d p f G H n (f1 ++ (f2 ++ rest)) a b s1 s2 (f2 ++ rest) rest (p n (f1 ++ (f2 ++ rest)))
-            (λ m e. (gf a).complete m (omega (arith, e, h, some a s1 f1 g.7)) b s2 f2 rest g.8 stops)
-            (gp.complete n h a s1 f1 (f2 ++ rest) g.7 (side a b s2 f2 rest g.8 stops))))
+        (λ m e. (gf a).complete m (omega (arith, e, h, some a s1 f1 g.7)) b s2 f2 rest g.8 stops)
+        (gp.complete n h a s1 f1 (f2 ++ rest) g.7 (side a b s2 f2 rest g.8 stops))))
 
 -- behind more nodes
 pub later : {A : Type 0} (low more d : ℕ) (p : Parser A) (G : A → Size → List Lexeme → Type 0) (goes : Lexeme → Bool) → low ≤ more → Good low d p G goes → Good more d p G goes
@@ -172,10 +172,10 @@ lawful_none d = (omega arith, λ w. omega arith)
 
 pub pure_good : {A : Type 0} (low d : ℕ) (a : A) (goes : Lexeme → Bool) → Good low d (pure a) (pureG a) goes
 pure_good {A} low d a goes = record {
-    live = (a, nothing_counted, [], (refl, refl, refl));
-    explains = λ n h ts. ([], nothing_counted, refl, (refl, refl, refl), omega arith, (λ k. k), lawful_none d, same n ts);
-    complete = λ n h b s front rest g stops. (sym g.0, ap (λ l. l ++ rest) g.2, (let e : s.nodes ≡ 0 = ap (λ z. z.nodes) g.1 in omega (arith, e)));
-  }
+  live = (a, nothing_counted, [], (refl, refl, refl));
+  explains = λ n h ts. ([], nothing_counted, refl, (refl, refl, refl), omega arith, (λ k. k), lawful_none d, same n ts);
+  complete = λ n h b s front rest g stops. (sym g.0, ap (λ l. l ++ rest) g.2, (let e : s.nodes ≡ 0 = ap (λ z. z.nodes) g.1 in omega (arith, e)));
+}
   where
     same : (n : ℕ) (ts : List Lexeme) → Same (pure a n) [] ts (Got a n)
     same n [] = tt
@@ -189,7 +189,7 @@ module _ {A : Type 0} (run run2 : List Lexeme → Out A) (G G2 : A → Size → 
   same_after make front (y ∷ r) e s = λ other. e (front ++ y ∷ other) ∙ s other
 
   goes_after : ((a : A) (s : Size) (l : List Lexeme) → G a s l → G2 a (grow s) (x ∷ l)) → (front rest : List Lexeme) → Goes G front rest → Goes G2 (x ∷ front) rest
-  goes_after up front [] h = tt
+  goes_after up front [] h = h
   goes_after up front (y ∷ rest) h = (h.0, h.1, grow h.2, up _ _ _ h.3)
 
   -- what is explained behind a lexeme is explained from it on
@@ -200,7 +200,7 @@ module _ {A : Type 0} (run run2 : List Lexeme → Out A) (G G2 : A → Size → 
   explains_after d n m grown room law e up ts (Over w rest) h = (x ∷ h.0, ap (λ l. x ∷ l) h.1, goes_after up h.0 rest h.2, same_after (Over w) h.0 rest e h.3)
 
 goes_iff : {A : Type 0} (G G2 : A → Size → List Lexeme → Type 0) → ((a : A) (s : Size) (l : List Lexeme) → G a s l → G2 a s l) → (front rest : List Lexeme) → Goes G front rest → Goes G2 front rest
-goes_iff G G2 up front [] h = tt
+goes_iff G G2 up front [] h = h
 goes_iff G G2 up front (y ∷ rest) h = (h.0, h.1, h.2, up _ _ _ h.3)
 
 explains_iff : {A : Type 0} (d : ℕ) (run : List Lexeme → Out A) (G G2 : A → Size → List Lexeme → Type 0) → ((a : A) (s : Size) (l : List Lexeme) → G a s l → G2 a s l) → (n : ℕ) (ts : List Lexeme) (o : Out A) → Explains d run G n ts o → Explains d run G2 n ts o
@@ -210,18 +210,18 @@ explains_iff d run G G2 up n ts (Over w rest) h = (h.0, h.1, goes_iff G G2 up h.
 
 pub good_iff : {A : Type 0} (low d : ℕ) (p : Parser A) (G G2 : A → Size → List Lexeme → Type 0) (goes : Lexeme → Bool) → ((a : A) (s : Size) (l : List Lexeme) → G a s l → G2 a s l) → ((a : A) (s : Size) (l : List Lexeme) → G2 a s l → G a s l) → Good low d p G goes → Good low d p G2 goes
 good_iff {A} low d p G G2 goes up down g = record {
-    live = (let x = g.live in (x.0, x.1, x.2, up x.0 x.1 x.2 x.3));
-    explains = λ n h ts. explains_iff d (p n) G G2 up n ts (p n ts) (g.explains n h ts);
-    complete = λ n k a s front rest h stops. g.complete n k a s front rest (down a s front h) stops;
-  }
+  live = (let x = g.live in (x.0, x.1, x.2, up x.0 x.1 x.2 x.3));
+  explains = λ n h ts. explains_iff d (p n) G G2 up n ts (p n ts) (g.explains n h ts);
+  complete = λ n k a s front rest h stops. g.complete n k a s front rest (down a s front h) stops;
+}
 
 -- fewer lexemes with which it goes on
 pub good_goes : {A : Type 0} (low d : ℕ) (p : Parser A) (G : A → Size → List Lexeme → Type 0) (goes goes2 : Lexeme → Bool) → ((x : Lexeme) → goes2 x ≡ false → goes x ≡ false) → Good low d p G goes → Good low d p G goes2
 good_goes {A} low d p G goes goes2 h g = record {
-    live = g.live;
-    explains = g.explains;
-    complete = λ n k a s front rest x stops. g.complete n k a s front rest x (off rest stops);
-  }
+  live = g.live;
+  explains = g.explains;
+  complete = λ n k a s front rest x stops. g.complete n k a s front rest x (off rest stops);
+}
   where
     off : (rest : List Lexeme) → Stops goes2 rest → Stops goes rest
     off [] k = tt
@@ -233,7 +233,7 @@ fine_open d a s n rest (Stuck r) h = h
 fine_open d a s n rest (Over w r) h = exceeds_open w n d s h
 
 goes_open : {A : Type 0} (G : A → Size → List Lexeme → Type 0) (front rest : List Lexeme) → Goes G front rest → Goes (openG G) front rest
-goes_open G front [] h = tt
+goes_open G front [] h = h
 goes_open G front (y ∷ rest) h = (h.0, h.1, one_open h.2, (h.2, refl, h.3))
 
 explains_open : {A : Type 0} (d : ℕ) (run : List Lexeme → Out A) (G : A → Size → List Lexeme → Type 0) (n : ℕ) (ts : List Lexeme) (o : Out A) → Explains d run G n ts o → Explains (suc d) run (openG G) n ts o
@@ -244,10 +244,10 @@ explains_open d run G n ts (Over w rest) h = (h.0, h.1, goes_open G h.0 rest h.2
 -- inside one more open construct
 pub open_good : {A : Type 0} (low d : ℕ) (p : Parser A) (G : A → Size → List Lexeme → Type 0) (goes : Lexeme → Bool) → Good low d p G goes → Good low (suc d) p (openG G) goes
 open_good {A} low d p G goes g = record {
-    live = (let x = g.live in (x.0, one_open x.1, x.2, (x.1, refl, x.3)));
-    explains = λ n h ts. explains_open d (p n) G n ts (p n ts) (g.explains n h ts);
-    complete = λ n k a s front rest h stops. (let P : Size → Type 0 = λ z. Fine (suc d) a z n rest (p n (front ++ rest)) in subst P (sym h.1) (fine_open d a h.0 n rest (p n (front ++ rest)) (g.complete n k a h.0 front rest h.2 stops)));
-  }
+  live = (let x = g.live in (x.0, one_open x.1, x.2, (x.1, refl, x.3)));
+  explains = λ n h ts. explains_open d (p n) G n ts (p n ts) (g.explains n h ts);
+  complete = λ n k a s front rest h stops. (let P : Size → Type 0 = λ z. Fine (suc d) a z n rest (p n (front ++ rest)) in subst P (sym h.1) (fine_open d a h.0 n rest (p n (front ++ rest)) (g.complete n k a h.0 front rest h.2 stops)));
+}
 
 -- ---- arms
 
@@ -302,6 +302,7 @@ module _ {A : Type 0} (low d : ℕ) (G : A → Size → List Lexeme → Type 0) 
       same_whole make front [] e2 s = tt
       same_whole make [] (y ∷ r) e2 s = λ other. (let z : x ≡ y = cc in let P : Lexeme → Type 0 = λ t. run n (t ∷ other) ≡ p n (t ∷ other) in subst P z (e other)) ∙ s other
       same_whole make (z ∷ front) (y ∷ r) e2 s = λ other. (let w : x ≡ z = cc in let P : Lexeme → Type 0 = λ t. run n (t ∷ (front ++ y ∷ other)) ≡ p n (t ∷ (front ++ y ∷ other)) in subst P w (e (front ++ y ∷ other))) ∙ s other
+
       whole : (o : Out A) → Explains d (p n) G n (x ∷ ts) o → Explains d (run n) G n (x ∷ ts) o
       whole (Got a m rest) k = (k.0, k.1, k.2, k.3, k.4, k.5, k.6, same_whole (Got a m) k.0 rest k.2 k.7)
       whole (Stuck rest) k = (k.0, k.1, k.2, same_whole Stuck k.0 rest k.1 k.3)
@@ -320,6 +321,7 @@ module _ {A : Type 0} (low d : ℕ) (G : A → Size → List Lexeme → Type 0) 
     where
       node : (t : Size) × (s ≡ one_node t)
       node = h.1 a s front g
+
       counted : (b : Bool) → nat_lt n 256 ≡ b → Fine d a s n rest (cond b (p (n + 1) (front ++ rest)) (Over what.Nodes (x ∷ (front ++ rest))))
       counted true r =
           let P : Size → Type 0 = λ y. Fine d a y n rest (p (n + 1) (front ++ rest)) in
@@ -357,10 +359,10 @@ both_last s t e = ap (both s) e ∙ both_none s
 pub map_good : {A B : Type 0} (low d : ℕ) (f : A → B) (p : Parser A) (G : A → Size → List Lexeme → Type 0) (goes : Lexeme → Bool) → Good low d p G goes → Good low d (map_to f p) (mapG f G) goes
 map_good {A} {B} low d f p G goes g =
     good_iff low d (map_to f p) (bindG G (λ a. pureG (f a))) (mapG f G) goes
-        (λ b s l h. (h.0, h.8.0, (let P : List Lexeme → Type 0 = λ t. G h.0 s t in let Q : Size → Type 0 = λ z. G h.0 z h.3 in subst P (sym (h.6 ∙ ap (λ t. h.3 ++ t) h.8.2 ∙ append-nil h.3)) (subst Q (sym (h.5 ∙ both_last h.1 h.2 h.8.1)) h.7))))
-        (λ b s l h. (h.0, s, nothing_counted, l, [], sym (both_none s), sym (append-nil l), h.2, (h.1, refl, refl)))
-        (bind_good low d p (λ a. pure (f a)) G (λ a. pureG (f a)) goes goes g (λ a. pure_good low d (f a) goes)
-            (λ a b s ts rest h stops. let P : List Lexeme → Type 0 = λ t. Stops goes (t ++ rest) in subst P (sym h.2) stops))
+    (λ b s l h. (h.0, h.8.0, (let P : List Lexeme → Type 0 = λ t. G h.0 s t in let Q : Size → Type 0 = λ z. G h.0 z h.3 in subst P (sym (h.6 ∙ ap (λ t. h.3 ++ t) h.8.2 ∙ append-nil h.3)) (subst Q (sym (h.5 ∙ both_last h.1 h.2 h.8.1)) h.7))))
+    (λ b s l h. (h.0, s, nothing_counted, l, [], sym (both_none s), sym (append-nil l), h.2, (h.1, refl, refl)))
+    (bind_good low d p (λ a. pure (f a)) G (λ a. pureG (f a)) goes goes g (λ a. pure_good low d (f a) goes)
+    (λ a b s ts rest h stops. let P : List Lexeme → Type 0 = λ t. Stops goes (t ++ rest) in subst P (sym h.2) stops))
 
 pub one_node_once : (s t : Size) → one_node s ≡ one_node t → s ≡ t
 one_node_once s t e = λ i. record { nodes = (let k : s.nodes ≡ t.nodes = omega (arith, ap (λ z. z.nodes) e) in k) i; depth = (e i).depth; wide = (e i).wide }
@@ -369,10 +371,11 @@ one_node_once s t e = λ i. record { nodes = (let k : s.nodes ≡ t.nodes = omeg
 
 pub counts_good : {A : Type 0} (low d : ℕ) (p : Parser A) (x : Lexeme) (G H : A → Size → List Lexeme → Type 0) (goes : Lexeme → Bool) → ((a : A) (s : Size) (l : List Lexeme) → H a s l → G a (one_node s) (x ∷ l)) →
     ((a : A) (s : Size) (l : List Lexeme) → G a s (x ∷ l) → nodeG H a s l) → Good low d p H goes → ArmGood low d (Counts p) x G goes
-counts_good {A} low d p x G H goes up down good =
-    (good_iff low d p H (λ a s l. G a (one_node s) (x ∷ l)) goes up
-        (λ a s l g. let k = down a (one_node s) l g in let P : Size → Type 0 = λ z. H a z l in subst P (sym (one_node_once s k.0 k.1)) k.2) good,
-    λ a s l g. let k = down a s l g in (k.0, k.1))
+counts_good {A} low d p x G H goes up down good = (
+  good_iff low d p H (λ a s l. G a (one_node s) (x ∷ l)) goes up
+      (λ a s l g. let k = down a (one_node s) l g in let P : Size → Type 0 = λ z. H a z l in subst P (sym (one_node_once s k.0 k.1)) k.2) good,
+  λ a s l g. let k = down a s l g in (k.0, k.1),
+)
 
 deep_node : (s t u : Size) (d : ℕ) → s ≡ one_node t → t ≡ one_open u → d ≡ 0 → d < s.depth
 deep_node s t u d e f z = let k : s.depth ≡ u.depth + 1 = ap (λ y. y.depth) (e ∙ ap one_node f) in omega (arith, k, z)
@@ -532,9 +535,9 @@ module _ (is : Lexeme → Bool) (sep : Lexeme) (is_sep : is sep ≡ true) (exact
     next_good : (low few j : ℕ) → ((a : A) (s : Size) (us : List Lexeme) → G a s us → few ≤ s.nodes) → (p : Parser (List A)) → Good (low + few) d p (AreMore sep end G (j + 1)) more_goes → ArmGood low d (Takes (bind item (λ a. map_to (λ o. a ∷ o) p))) sep (AreMore sep end G j) more_goes
     next_good low few j some p h =
         good_iff low d (bind item (λ a. map_to (λ o. a ∷ o) p)) (NextG j) (λ v s l. AreMore sep end G j v s (sep ∷ l)) more_goes (up j) (down j)
-            (bind_later low few d item (λ a. map_to (λ o. a ∷ o) p) G (λ a. mapG (λ o. a ∷ o) (AreMore sep end G (j + 1))) goes more_goes some (later 0 low d item G goes (omega arith) good)
-                (λ a. map_good (low + few) d (λ o. a ∷ o) p (AreMore sep end G (j + 1)) more_goes h)
-                (λ a b s ts rest k stops. side (j + 1) k.0 s ts rest k.2 stops))
+        (bind_later low few d item (λ a. map_to (λ o. a ∷ o) p) G (λ a. mapG (λ o. a ∷ o) (AreMore sep end G (j + 1))) goes more_goes some (later 0 low d item G goes (omega arith) good)
+        (λ a. map_good (low + few) d (λ o. a ∷ o) p (AreMore sep end G (j + 1)) more_goes h)
+        (λ a b s ts rest k stops. side (j + 1) k.0 s ts rest k.2 stops))
 
     -- an item, and then more of them
     pub bind_more : {B : Type 0} (low j : ℕ) (q : Parser (List A)) (f : A → List A → B) → Good low d q (AreMore sep end G j) more_goes → Good low d (bind item (λ a. map_to (f a) q)) (bindG G (λ a. mapG (f a) (AreMore sep end G j))) more_goes
@@ -584,10 +587,10 @@ module _ (is : Lexeme → Bool) (sep : Lexeme) (is_sep : is sep ≡ true) (exact
   pub nodes_good : (some : (a : A) (s : Size) (us : List Lexeme) → G a s us → 1 ≤ s.nodes) (j : ℕ) → Good 0 d (nodes_more is item) (AreMore sep no_end G j) more_goes
   unfolding nodes_more
   nodes_good some j = record {
-      live = ([], nothing_counted, [], (refl, refl));
-      explains = λ n h ts. (nodes_by some (257 - n) j).explains n (omega arith) ts;
-      complete = λ n h a s front rest g stops. (nodes_by some (257 - n) j).complete n (omega arith) a s front rest g stops;
-    }
+    live = ([], nothing_counted, [], (refl, refl));
+    explains = λ n h ts. (nodes_by some (257 - n) j).explains n (omega arith) ts;
+    complete = λ n h a s front rest g stops. (nodes_by some (257 - n) j).complete n (omega arith) a s front rest g stops;
+  }
 
 -- a part that begins with a lexeme stops what does not go on with it
 lead_stops : {A : Type 0} (x : Lexeme) (G : A → Size → List Lexeme → Type 0) (goes : Lexeme → Bool) → goes x ≡ false → (b : A) (s : Size) (ts rest : List Lexeme) → leadG x G b s ts → Stops goes (ts ++ rest)

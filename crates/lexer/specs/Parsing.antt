@@ -78,7 +78,7 @@ Same run front (x ∷ rest) make = (other : List Lexeme) → run (front ++ x ∷
 
 -- the one too many is one with which the grammar goes on
 abbrev pub Goes : {A : Type 0} → (A → Size → List Lexeme → Type 0) → List Lexeme → List Lexeme → Type 0
-Goes G front [] = Unit {0}
+Goes G front [] = ⊥
 Goes G front (x ∷ rest) = CanGoOn G (front ++ x ∷ [])
 
 -- so many constructs may be opened, and no list is too long

@@ -124,3 +124,7 @@ goes_conj q x = is_word (codes "AND") x || goes_expr q x
 
 abbrev pub goes_cond : Bool → Lexeme → Bool
 goes_cond q x = is_word (codes "OR") x || goes_conj q x
+
+-- where nothing is open yet
+unfoldable pub outermost : Bool → Level
+outermost q = level q 32

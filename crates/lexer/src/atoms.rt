@@ -22,11 +22,66 @@ use std::alloc::Global;
 const MAX_NAME: usize = 63;
 
 const RESERVED: [&[u8]; 60] = [
-    b"ADD", b"AND", b"AS", b"AT", b"CASE", b"CHECKPOINT", b"COLUMN", b"CONCAT", b"COPY", b"COVERING", b"CREATE", b"DECOMPOSE",
-    b"DELETE", b"DROP", b"DURING", b"ELSE", b"END", b"ENDING", b"EVOLVE", b"EXPLAIN", b"FALSE", b"FROM", b"IN", b"INSERT", b"INT",
-    b"INTO", b"INVERSE", b"JOIN", b"KEEP", b"LASTING", b"LENGTH", b"MERGE", b"NOP", b"NOT", b"OF", b"OR", b"OVERLAPPING",
-    b"PARTITION", b"QUERY", b"RENAME", b"SCHEMA", b"SELECT", b"SET", b"SHOW", b"SIZES", b"STARTING", b"TABLE", b"TEXT", b"THEN",
-    b"TO", b"TRUE", b"UNION", b"UPDATE", b"VALUES", b"VERSION", b"VERSIONS", b"WHEN", b"WHERE", b"WITH", b"now",
+    b"ADD",
+    b"AND",
+    b"AS",
+    b"AT",
+    b"CASE",
+    b"CHECKPOINT",
+    b"COLUMN",
+    b"CONCAT",
+    b"COPY",
+    b"COVERING",
+    b"CREATE",
+    b"DECOMPOSE",
+    b"DELETE",
+    b"DROP",
+    b"DURING",
+    b"ELSE",
+    b"END",
+    b"ENDING",
+    b"EVOLVE",
+    b"EXPLAIN",
+    b"FALSE",
+    b"FROM",
+    b"IN",
+    b"INSERT",
+    b"INT",
+    b"INTO",
+    b"INVERSE",
+    b"JOIN",
+    b"KEEP",
+    b"LASTING",
+    b"LENGTH",
+    b"MERGE",
+    b"NOP",
+    b"NOT",
+    b"OF",
+    b"OR",
+    b"OVERLAPPING",
+    b"PARTITION",
+    b"QUERY",
+    b"RENAME",
+    b"SCHEMA",
+    b"SELECT",
+    b"SET",
+    b"SHOW",
+    b"SIZES",
+    b"STARTING",
+    b"TABLE",
+    b"TEXT",
+    b"THEN",
+    b"TO",
+    b"TRUE",
+    b"UNION",
+    b"UPDATE",
+    b"VALUES",
+    b"VERSION",
+    b"VERSIONS",
+    b"WHEN",
+    b"WHERE",
+    b"WITH",
+    b"now",
 ];
 
 fn is_one_of(words: &[&[u8]], text: &[u8]) -> bool
@@ -181,7 +236,12 @@ pub fn name(alloc: Global, c: &mut Cursor<'_, '_>) -> Result<Name, Stop>
 
 // What follows a name.
 #[tactic(auto, unfolding(crate::specs::Reader::ref_rest), using(crate::proofs::ReadSteps::option_not, crate::proofs::ReadSteps::option_takes))]
-fn reference(alloc: Global, c: &mut Cursor<'_, '_>, first: &[u8], qualified: bool) -> Result<Expr, Stop>
+fn reference(
+    alloc: Global,
+    c: &mut Cursor<'_, '_>,
+    first: &[u8],
+    qualified: bool,
+) -> Result<Expr, Stop>
     ensures { Reads tree (spec.ref_rest qualified first.now c.old.nodes (ahead c.old)) result c.new }
 {
     let first = name_of(alloc, first)?;

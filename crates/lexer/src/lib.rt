@@ -9,6 +9,7 @@ use std::alloc::{AllocError, Global};
 mod atoms;
 mod faults;
 mod kinds;
+mod parse;
 mod pieces;
 mod reader;
 mod reading;
@@ -16,8 +17,9 @@ mod token;
 
 pub use faults::LexFault;
 pub use kinds::TokenKind;
-pub use reading::{Cursor, Stop};
+pub use parse::{ParseFault, parse_cond, parse_expr};
 use pieces::{Piece, gap, piece_at};
+pub use reading::{Cursor, Stop};
 pub use token::Token;
 
 /// The tokens of a statement of at most 1,048,576 bytes, from the left, or its first lexical fault.

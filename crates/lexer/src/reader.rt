@@ -14,9 +14,17 @@ use cond_expr::{Cond, Expr};
 use prima_base::What;
 use std::alloc::Global;
 
+// How many constructs may be open at once.
+const MOST_OPEN: u32 = 32;
+
 #[cycle(reads)]
 #[tactic(auto, unfolding(crate::specs::Reader::length_rest), using(crate::proofs::ReadSteps::lead_seen, crate::proofs::ReadSteps::lead_not))]
-fn length_inside(alloc: Global, c: &mut Cursor<'_, '_>, qualified: bool, inner: u32) -> Result<Expr, Stop>
+fn length_inside(
+    alloc: Global,
+    c: &mut Cursor<'_, '_>,
+    qualified: bool,
+    inner: u32,
+) -> Result<Expr, Stop>
     requires { inner < 32 }
     ensures { Reads tree (spec.length_rest qualified true (spec.level qualified inner) c.old.nodes (ahead c.old)) result c.new }
 {
@@ -28,7 +36,12 @@ fn length_inside(alloc: Global, c: &mut Cursor<'_, '_>, qualified: bool, inner: 
 
 #[cycle(reads)]
 #[tactic(auto, using(crate::proofs::ReadSteps::length_open, crate::proofs::ReadSteps::length_shut, crate::proofs::ReadSteps::length_stuck))]
-fn length_rest(alloc: Global, c: &mut Cursor<'_, '_>, qualified: bool, depth: u32) -> Result<Expr, Stop>
+fn length_rest(
+    alloc: Global,
+    c: &mut Cursor<'_, '_>,
+    qualified: bool,
+    depth: u32,
+) -> Result<Expr, Stop>
     requires { depth ≤ 32 }
     ensures { Reads tree (spec.length_rest qualified (spec.can depth) (spec.inside qualified depth) c.old.nodes (ahead c.old)) result c.new }
 {
@@ -40,7 +53,13 @@ fn length_rest(alloc: Global, c: &mut Cursor<'_, '_>, qualified: bool, depth: u3
 
 #[cycle(reads)]
 #[tactic(auto)]
-fn more_exprs(alloc: Global, c: &mut Cursor<'_, '_>, parts: &mut Vec<Expr>, qualified: bool, inner: u32) -> Result<(), Stop>
+fn more_exprs(
+    alloc: Global,
+    c: &mut Cursor<'_, '_>,
+    parts: &mut Vec<Expr>,
+    qualified: bool,
+    inner: u32,
+) -> Result<(), Stop>
     requires { inner < 32 }
     ensures { ReadsMore (parsing.more (is_sign (codes ",")) what.Parts (spec.level qualified inner).expr 7 c.old.nodes (ahead c.old))
         (map tree parts.old.items) (map tree parts.new.items) result c.new }
@@ -59,7 +78,12 @@ fn more_exprs(alloc: Global, c: &mut Cursor<'_, '_>, parts: &mut Vec<Expr>, qual
 
 #[cycle(reads)]
 #[tactic(auto, unfolding(crate::specs::Reader::concat_rest), using(crate::proofs::ReadSteps::lead_seen, crate::proofs::ReadSteps::lead_not))]
-fn concat_inside(alloc: Global, c: &mut Cursor<'_, '_>, qualified: bool, inner: u32) -> Result<Expr, Stop>
+fn concat_inside(
+    alloc: Global,
+    c: &mut Cursor<'_, '_>,
+    qualified: bool,
+    inner: u32,
+) -> Result<Expr, Stop>
     requires { inner < 32 }
     ensures { Reads tree (spec.concat_rest qualified true (spec.level qualified inner) c.old.nodes (ahead c.old)) result c.new }
 {
@@ -73,7 +97,12 @@ fn concat_inside(alloc: Global, c: &mut Cursor<'_, '_>, qualified: bool, inner: 
 
 #[cycle(reads)]
 #[tactic(auto, using(crate::proofs::ReadSteps::concat_open, crate::proofs::ReadSteps::concat_shut, crate::proofs::ReadSteps::concat_stuck))]
-fn concat_rest(alloc: Global, c: &mut Cursor<'_, '_>, qualified: bool, depth: u32) -> Result<Expr, Stop>
+fn concat_rest(
+    alloc: Global,
+    c: &mut Cursor<'_, '_>,
+    qualified: bool,
+    depth: u32,
+) -> Result<Expr, Stop>
     requires { depth ≤ 32 }
     ensures { Reads tree (spec.concat_rest qualified (spec.can depth) (spec.inside qualified depth) c.old.nodes (ahead c.old)) result c.new }
 {
@@ -85,7 +114,12 @@ fn concat_rest(alloc: Global, c: &mut Cursor<'_, '_>, qualified: bool, depth: u3
 
 #[cycle(reads)]
 #[tactic(auto, unfolding(crate::specs::Reader::case_rest), using(crate::proofs::ReadSteps::lead_seen, crate::proofs::ReadSteps::lead_not))]
-fn case_rest(alloc: Global, c: &mut Cursor<'_, '_>, qualified: bool, inner: u32) -> Result<Expr, Stop>
+fn case_rest(
+    alloc: Global,
+    c: &mut Cursor<'_, '_>,
+    qualified: bool,
+    inner: u32,
+) -> Result<Expr, Stop>
     requires { inner < 32 }
     ensures { Reads tree (spec.case_rest qualified true (spec.level qualified inner) c.old.nodes (ahead c.old)) result c.new }
 {
@@ -102,7 +136,12 @@ fn case_rest(alloc: Global, c: &mut Cursor<'_, '_>, qualified: bool, inner: u32)
 #[cycle(reads)]
 #[tactic(auto, using(crate::proofs::ReadSteps::expr_length, crate::proofs::ReadSteps::expr_length_full, crate::proofs::ReadSteps::expr_concat, crate::proofs::ReadSteps::expr_concat_full, crate::proofs::ReadSteps::expr_case, crate::proofs::ReadSteps::expr_case_full, crate::proofs::ReadSteps::expr_case_deep, crate::proofs::ReadSteps::expr_case_deep_full, crate::proofs::ReadSteps::expr_else))]
 /// An expression, inside which so many constructs may be opened.
-pub fn expr(alloc: Global, c: &mut Cursor<'_, '_>, qualified: bool, depth: u32) -> Result<Expr, Stop>
+pub fn expr(
+    alloc: Global,
+    c: &mut Cursor<'_, '_>,
+    qualified: bool,
+    depth: u32,
+) -> Result<Expr, Stop>
     requires { depth ≤ 32 }
     ensures { Reads tree ((spec.level qualified depth).expr c.old.nodes (ahead c.old)) result c.new }
 {
@@ -126,7 +165,12 @@ pub fn expr(alloc: Global, c: &mut Cursor<'_, '_>, qualified: bool, depth: u32) 
 
 #[cycle(reads)]
 #[tactic(auto, unfolding(crate::specs::Reader::comparison), using(crate::proofs::ReadSteps::op_none, crate::proofs::ReadSteps::op_counts, crate::proofs::ReadSteps::op_full))]
-fn comparison(alloc: Global, c: &mut Cursor<'_, '_>, qualified: bool, depth: u32) -> Result<Cond, Stop>
+fn comparison(
+    alloc: Global,
+    c: &mut Cursor<'_, '_>,
+    qualified: bool,
+    depth: u32,
+) -> Result<Cond, Stop>
     requires { depth ≤ 32 }
     ensures { Reads test (spec.comparison qualified (spec.can depth) (spec.inside qualified depth) c.old.nodes (ahead c.old)) result c.new }
 {
@@ -141,7 +185,12 @@ fn comparison(alloc: Global, c: &mut Cursor<'_, '_>, qualified: bool, depth: u32
 
 #[cycle(reads)]
 #[tactic(auto, unfolding(crate::specs::Reader::bracketed), using(crate::proofs::ReadSteps::lead_seen, crate::proofs::ReadSteps::lead_not))]
-fn bracketed(alloc: Global, c: &mut Cursor<'_, '_>, qualified: bool, inner: u32) -> Result<Cond, Stop>
+fn bracketed(
+    alloc: Global,
+    c: &mut Cursor<'_, '_>,
+    qualified: bool,
+    inner: u32,
+) -> Result<Cond, Stop>
     requires { inner < 32 }
     ensures { Reads test (spec.bracketed qualified true (spec.level qualified inner) c.old.nodes (ahead c.old)) result c.new }
 {
@@ -153,7 +202,12 @@ fn bracketed(alloc: Global, c: &mut Cursor<'_, '_>, qualified: bool, inner: u32)
 #[cycle(reads)]
 #[tactic(auto, using(crate::proofs::ReadSteps::fact_not, crate::proofs::ReadSteps::fact_not_full, crate::proofs::ReadSteps::fact_not_deep, crate::proofs::ReadSteps::fact_not_deep_full, crate::proofs::ReadSteps::fact_bracket, crate::proofs::ReadSteps::fact_bracket_deep, crate::proofs::ReadSteps::fact_true, crate::proofs::ReadSteps::fact_true_full, crate::proofs::ReadSteps::fact_false, crate::proofs::ReadSteps::fact_false_full, crate::proofs::ReadSteps::fact_else))]
 /// A condition without AND and OR outside brackets.
-pub fn fact(alloc: Global, c: &mut Cursor<'_, '_>, qualified: bool, depth: u32) -> Result<Cond, Stop>
+pub fn fact(
+    alloc: Global,
+    c: &mut Cursor<'_, '_>,
+    qualified: bool,
+    depth: u32,
+) -> Result<Cond, Stop>
     requires { depth ≤ 32 }
     ensures { Reads test ((spec.level qualified depth).fact c.old.nodes (ahead c.old)) result c.new }
 {
@@ -186,7 +240,13 @@ pub fn fact(alloc: Global, c: &mut Cursor<'_, '_>, qualified: bool, depth: u32) 
 #[cycle(reads)]
 #[tactic(auto)]
 // Each part counts a node, so there are no more than nodes that are left.
-fn more_facts(alloc: Global, c: &mut Cursor<'_, '_>, parts: &mut Vec<Cond>, qualified: bool, depth: u32) -> Result<(), Stop>
+fn more_facts(
+    alloc: Global,
+    c: &mut Cursor<'_, '_>,
+    parts: &mut Vec<Cond>,
+    qualified: bool,
+    depth: u32,
+) -> Result<(), Stop>
     requires { depth ≤ 32 }
     ensures { ReadsMore (parsing.nodes_more (is_word (codes "AND")) (spec.level qualified depth).fact c.old.nodes (ahead c.old))
         (map test parts.old.items) (map test parts.new.items) result c.new }
@@ -205,7 +265,13 @@ fn more_facts(alloc: Global, c: &mut Cursor<'_, '_>, parts: &mut Vec<Cond>, qual
 
 #[cycle(reads)]
 #[tactic(auto, unfolding(crate::specs::Reader::facts), using(crate::proofs::ReadSteps::option_not, crate::proofs::ReadSteps::option_counts, crate::proofs::ReadSteps::option_full))]
-fn facts(alloc: Global, c: &mut Cursor<'_, '_>, first: Cond, qualified: bool, depth: u32) -> Result<Cond, Stop>
+fn facts(
+    alloc: Global,
+    c: &mut Cursor<'_, '_>,
+    first: Cond,
+    qualified: bool,
+    depth: u32,
+) -> Result<Cond, Stop>
     requires { depth ≤ 32 }
     ensures { Reads test (spec.facts qualified (spec.can depth) (spec.inside qualified depth) (test first) c.old.nodes (ahead c.old)) result c.new }
 {
@@ -232,7 +298,13 @@ fn conj(alloc: Global, c: &mut Cursor<'_, '_>, qualified: bool, depth: u32) -> R
 #[cycle(reads)]
 #[tactic(auto)]
 // Each part counts a node, so there are no more than nodes that are left.
-fn more_conjs(alloc: Global, c: &mut Cursor<'_, '_>, parts: &mut Vec<Cond>, qualified: bool, depth: u32) -> Result<(), Stop>
+fn more_conjs(
+    alloc: Global,
+    c: &mut Cursor<'_, '_>,
+    parts: &mut Vec<Cond>,
+    qualified: bool,
+    depth: u32,
+) -> Result<(), Stop>
     requires { depth ≤ 32 }
     ensures { ReadsMore (parsing.nodes_more (is_word (codes "OR")) (spec.conj qualified (spec.can depth) (spec.inside qualified depth)) c.old.nodes (ahead c.old))
         (map test parts.old.items) (map test parts.new.items) result c.new }
@@ -251,7 +323,13 @@ fn more_conjs(alloc: Global, c: &mut Cursor<'_, '_>, parts: &mut Vec<Cond>, qual
 
 #[cycle(reads)]
 #[tactic(auto, unfolding(crate::specs::Reader::conjs), using(crate::proofs::ReadSteps::option_not, crate::proofs::ReadSteps::option_counts, crate::proofs::ReadSteps::option_full))]
-fn conjs(alloc: Global, c: &mut Cursor<'_, '_>, first: Cond, qualified: bool, depth: u32) -> Result<Cond, Stop>
+fn conjs(
+    alloc: Global,
+    c: &mut Cursor<'_, '_>,
+    first: Cond,
+    qualified: bool,
+    depth: u32,
+) -> Result<Cond, Stop>
     requires { depth ≤ 32 }
     ensures { Reads test (spec.conjs qualified (spec.can depth) (spec.inside qualified depth) (test first) c.old.nodes (ahead c.old)) result c.new }
 {
@@ -268,10 +346,31 @@ fn conjs(alloc: Global, c: &mut Cursor<'_, '_>, first: Cond, qualified: bool, de
 #[cycle(reads)]
 #[tactic(auto, unfolding(crate::specs::Reader::cond))]
 /// A condition, inside which so many constructs may be opened.
-pub fn cond(alloc: Global, c: &mut Cursor<'_, '_>, qualified: bool, depth: u32) -> Result<Cond, Stop>
+pub fn cond(
+    alloc: Global,
+    c: &mut Cursor<'_, '_>,
+    qualified: bool,
+    depth: u32,
+) -> Result<Cond, Stop>
     requires { depth ≤ 32 }
     ensures { Reads test ((spec.level qualified depth).cond c.old.nodes (ahead c.old)) result c.new }
 {
     let first = conj(alloc, c, qualified, depth)?;
     conjs(alloc, c, first, qualified, depth)
+}
+
+/// An expression inside which nothing is open yet.
+#[tactic(auto, unfolding(crate::specs::Reader::outermost))]
+pub fn outer_expr(alloc: Global, c: &mut Cursor<'_, '_>, qualified: bool) -> Result<Expr, Stop>
+    ensures { Reads tree ((spec.outermost qualified).expr c.old.nodes (ahead c.old)) result c.new }
+{
+    expr(alloc, c, qualified, MOST_OPEN)
+}
+
+/// A condition inside which nothing is open yet.
+#[tactic(auto, unfolding(crate::specs::Reader::outermost))]
+pub fn outer_cond(alloc: Global, c: &mut Cursor<'_, '_>, qualified: bool) -> Result<Cond, Stop>
+    ensures { Reads test ((spec.outermost qualified).cond c.old.nodes (ahead c.old)) result c.new }
+{
+    cond(alloc, c, qualified, MOST_OPEN)
 }

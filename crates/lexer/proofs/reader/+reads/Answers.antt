@@ -14,12 +14,14 @@ use Rattle.lexer.proofs.reader.+reads.Goals as goal
 pub more_exprs-loop-alloc-preserved : goal.more_exprs-loop-alloc-preserved
 more_exprs-loop-alloc-preserved t c =
     let inv = c.loop-alloc.invariant in
-    let x = tree c.in_ok-expr.field-0 in
-    (omega arith, inv.1 ++ x ∷ [],
-        (let pushed = c.in_ok-push.ensures in let more = map-append tree c.loop-alloc.parts.items (c.in_ok-expr.field-0 ∷ []) in
-            ap (map tree) pushed.items ∙ more ∙ ap (λ l. l ++ x ∷ []) inv.2 ∙ append_assoc (map tree c.args.parts.now.items) inv.1 (x ∷ [])),
-        more_next (is_sign (codes ",")) what.Parts (level c.args.qualified c.args.inner).expr _ inv.1 c.loop-alloc.left c.loop-alloc.c.nodes (ahead c.loop-alloc.c) inv.3 x c.expr.new.c.nodes (ahead c.expr.new.c) (omega arith) (sym c.sees_sign.ensures ∙ c.loop-alloc-test.true)
-            (let e = c.in_ok-expr.ensures in ap (λ k. (level c.args.qualified c.args.inner).expr k (drop 1 (ahead c.loop-alloc.c))) (sym c.skip.ensures.nodes) ∙ ap ((level c.args.qualified c.args.inner).expr c.skip.new.self.nodes) (sym c.skip.ensures.rest) ∙ e))
+    let x = tree c.in_ok-expr.field-0 in (
+      omega arith,
+      inv.1 ++ x ∷ [],
+      (let pushed = c.in_ok-push.ensures in let more = map-append tree c.loop-alloc.parts.items (c.in_ok-expr.field-0 ∷ []) in
+          ap (map tree) pushed.items ∙ more ∙ ap (λ l. l ++ x ∷ []) inv.2 ∙ append_assoc (map tree c.args.parts.now.items) inv.1 (x ∷ [])),
+      more_next (is_sign (codes ",")) what.Parts (level c.args.qualified c.args.inner).expr _ inv.1 c.loop-alloc.left c.loop-alloc.c.nodes (ahead c.loop-alloc.c) inv.3 x c.expr.new.c.nodes (ahead c.expr.new.c) (omega arith) (sym c.sees_sign.ensures ∙ c.loop-alloc-test.true)
+          (let e = c.in_ok-expr.ensures in ap (λ k. (level c.args.qualified c.args.inner).expr k (drop 1 (ahead c.loop-alloc.c))) (sym c.skip.ensures.nodes) ∙ ap ((level c.args.qualified c.args.inner).expr c.skip.new.self.nodes) (sym c.skip.ensures.rest) ∙ e),
+    )
 
 pub more_exprs-returns-in_err-expr : goal.more_exprs-returns-in_err-expr
 more_exprs-returns-in_err-expr t c =
@@ -44,12 +46,14 @@ more_exprs-returns t c =
 pub more_facts-loop-alloc-preserved : goal.more_facts-loop-alloc-preserved
 more_facts-loop-alloc-preserved t c =
     let inv = c.loop-alloc.invariant in
-    let x = test c.in_ok-fact.field-0 in
-    (omega arith, inv.1 ++ x ∷ [],
-        (let pushed = c.in_ok-push.ensures in let more = map-append test c.loop-alloc.parts.items (c.in_ok-fact.field-0 ∷ []) in
-            ap (map test) pushed.items ∙ more ∙ ap (λ l. l ++ x ∷ []) inv.2 ∙ append_assoc (map test c.args.parts.now.items) inv.1 (x ∷ [])),
-        more_next (is_word (codes "AND")) what.Nodes (level c.args.qualified c.args.depth).fact _ inv.1 c.loop-alloc.left c.loop-alloc.c.nodes (ahead c.loop-alloc.c) inv.3 x c.fact.new.c.nodes (ahead c.fact.new.c) (omega arith) (sym c.sees_word.ensures ∙ c.loop-alloc-test.true)
-            (let e = c.in_ok-fact.ensures in ap (λ k. (level c.args.qualified c.args.depth).fact k (drop 1 (ahead c.loop-alloc.c))) (sym c.skip.ensures.nodes) ∙ ap ((level c.args.qualified c.args.depth).fact c.skip.new.self.nodes) (sym c.skip.ensures.rest) ∙ e))
+    let x = test c.in_ok-fact.field-0 in (
+      omega arith,
+      inv.1 ++ x ∷ [],
+      (let pushed = c.in_ok-push.ensures in let more = map-append test c.loop-alloc.parts.items (c.in_ok-fact.field-0 ∷ []) in
+          ap (map test) pushed.items ∙ more ∙ ap (λ l. l ++ x ∷ []) inv.2 ∙ append_assoc (map test c.args.parts.now.items) inv.1 (x ∷ [])),
+      more_next (is_word (codes "AND")) what.Nodes (level c.args.qualified c.args.depth).fact _ inv.1 c.loop-alloc.left c.loop-alloc.c.nodes (ahead c.loop-alloc.c) inv.3 x c.fact.new.c.nodes (ahead c.fact.new.c) (omega arith) (sym c.sees_word.ensures ∙ c.loop-alloc-test.true)
+          (let e = c.in_ok-fact.ensures in ap (λ k. (level c.args.qualified c.args.depth).fact k (drop 1 (ahead c.loop-alloc.c))) (sym c.skip.ensures.nodes) ∙ ap ((level c.args.qualified c.args.depth).fact c.skip.new.self.nodes) (sym c.skip.ensures.rest) ∙ e),
+    )
 
 pub more_facts-returns-in_err-fact : goal.more_facts-returns-in_err-fact
 unfolding nodes_more
@@ -77,12 +81,14 @@ more_facts-returns t c =
 pub more_conjs-loop-alloc-preserved : goal.more_conjs-loop-alloc-preserved
 more_conjs-loop-alloc-preserved t c =
     let inv = c.loop-alloc.invariant in
-    let x = test c.in_ok-conj.field-0 in
-    (omega arith, inv.1 ++ x ∷ [],
-        (let pushed = c.in_ok-push.ensures in let more = map-append test c.loop-alloc.parts.items (c.in_ok-conj.field-0 ∷ []) in
-            ap (map test) pushed.items ∙ more ∙ ap (λ l. l ++ x ∷ []) inv.2 ∙ append_assoc (map test c.args.parts.now.items) inv.1 (x ∷ [])),
-        more_next (is_word (codes "OR")) what.Nodes (conj c.args.qualified (can c.args.depth) (inside c.args.qualified c.args.depth)) _ inv.1 c.loop-alloc.left c.loop-alloc.c.nodes (ahead c.loop-alloc.c) inv.3 x c.conj.new.c.nodes (ahead c.conj.new.c) (omega arith) (sym c.sees_word.ensures ∙ c.loop-alloc-test.true)
-            (let e = c.in_ok-conj.ensures in ap (λ k. (conj c.args.qualified (can c.args.depth) (inside c.args.qualified c.args.depth)) k (drop 1 (ahead c.loop-alloc.c))) (sym c.skip.ensures.nodes) ∙ ap ((conj c.args.qualified (can c.args.depth) (inside c.args.qualified c.args.depth)) c.skip.new.self.nodes) (sym c.skip.ensures.rest) ∙ e))
+    let x = test c.in_ok-conj.field-0 in (
+      omega arith,
+      inv.1 ++ x ∷ [],
+      (let pushed = c.in_ok-push.ensures in let more = map-append test c.loop-alloc.parts.items (c.in_ok-conj.field-0 ∷ []) in
+          ap (map test) pushed.items ∙ more ∙ ap (λ l. l ++ x ∷ []) inv.2 ∙ append_assoc (map test c.args.parts.now.items) inv.1 (x ∷ [])),
+      more_next (is_word (codes "OR")) what.Nodes (conj c.args.qualified (can c.args.depth) (inside c.args.qualified c.args.depth)) _ inv.1 c.loop-alloc.left c.loop-alloc.c.nodes (ahead c.loop-alloc.c) inv.3 x c.conj.new.c.nodes (ahead c.conj.new.c) (omega arith) (sym c.sees_word.ensures ∙ c.loop-alloc-test.true)
+          (let e = c.in_ok-conj.ensures in ap (λ k. (conj c.args.qualified (can c.args.depth) (inside c.args.qualified c.args.depth)) k (drop 1 (ahead c.loop-alloc.c))) (sym c.skip.ensures.nodes) ∙ ap ((conj c.args.qualified (can c.args.depth) (inside c.args.qualified c.args.depth)) c.skip.new.self.nodes) (sym c.skip.ensures.rest) ∙ e),
+    )
 
 pub more_conjs-returns-in_err-conj : goal.more_conjs-returns-in_err-conj
 unfolding nodes_more
