@@ -1,0 +1,27 @@
+-- What the lists of an expression stand for, and what a filling makes of them.
+use Rattle.std.specs.Prelude.{◌≡◌, ℕ, List, [], ◌∷◌, ◌++◌, map, length, take, ◌<◌, ◌+◌}
+use Rattle.std.proofs.Common.{refl, sym, ap, ◌∙◌, rules}
+use Rattle.std.specs.declared.vec.Vec.{Vec}
+use Rattle.std.specs.declared.alloc.Global.{Global}
+use Rattle.cond_expr.specs.declared.exprs.Expr.{Expr}
+use Rattle.cond_expr.specs.declared.exprs.Cond.{Cond, the_lemmas}
+use Rattle.cond_expr.specs.declared.exprs.Cond.TheViews.{Concat, And, Or}
+use Rattle.cond_expr.specs.Trees.{Tree, column, constant, length_of, joined, choose, Trees, no_trees, a_tree, Test, never, always, compared, all_of, some_of, fails, Tests, no_tests, a_test, Filling, fill, fill_trees, fill_test, fill_tests}
+use Rattle.cond_expr.specs.Seen.{tree, test, trees_of, tests_of}
+
+pub trees_filled : (s : Filling) (ts : List Tree) → fill_trees s (trees_of ts) ≡ trees_of (map (fill s) ts)
+trees_filled s [] = refl
+trees_filled s (t ∷ ts) = ap (a_tree (fill s t)) (trees_filled s ts)
+
+pub tests_filled : (s : Filling) (cs : List Test) → fill_tests s (tests_of cs) ≡ tests_of (map (fill_test s) cs)
+tests_filled s [] = refl
+tests_filled s (c ∷ cs) = ap (a_test (fill_test s c)) (tests_filled s cs)
+
+pub tree_of_concat : (v : Vec Expr Global) → tree (Concat v) ≡ joined (trees_of (map tree v.items))
+tree_of_concat v = search (rules, the_lemmas)
+
+pub test_of_and : (v : Vec Cond Global) → test (And v) ≡ all_of (tests_of (map test v.items))
+test_of_and v = search (rules, the_lemmas)
+
+pub test_of_or : (v : Vec Cond Global) → test (Or v) ≡ some_of (tests_of (map test v.items))
+test_of_or v = search (rules, the_lemmas)

@@ -1,0 +1,13 @@
+//! Expressions and conditions over the columns of atoms: trees, their types, values and sizes.
+//!
+//! A contract sees a tree as a plain mirror of it (`specs/Trees.antt`, read by `tree` and `test` of
+//! `specs/Seen.antt`), and a value as it is shown.
+#![tactic(auto)]
+
+mod copies;
+mod exprs;
+mod fills;
+mod makers;
+
+pub use exprs::{CmpOp, ColRef, Column, Cond, Expr, TreeSize, TypeFault, Whose};
+pub use fills::{Fill, fill_cond, fill_expr};

@@ -1,0 +1,199 @@
+-- Where reading ends in a list of tokens.
+use Rattle.std.proofs.Common.{◌≡◌, ℕ, zero, suc, ◌+◌, ◌-◌, ◌<◌, ◌≤◌, List, [], ◌∷◌, ◌++◌, length, take, drop, map, refl, sym, ap, ◌∙◌, subst, append_assoc, append-nil, arith, length-append, length-drop, Result, Ok, Err, Bool, ◌≢◌}
+use Rattle.prima_base.specs.declared.refusals.What.{What}
+use Rattle.prima_base.specs.declared.refusals.What.TheVariants as what
+use Rattle.lexer.specs.declared.token.Token.{Token}
+use Rattle.lexer.specs.declared.parse.ParseFault.{ParseFault}
+use Rattle.lexer.specs.declared.parse.ParseFault.TheVariants as fault
+use Rattle.lexer.specs.declared.reading.Stop.{Stop}
+use Rattle.lexer.specs.declared.reading.Stop.TheVariants as stop
+use Rattle.lexer.specs.declared.reading.Cursor.{Cursor}
+use Rattle.lexer.specs.Reads.{ahead, Fails}
+use Rattle.lexer.specs.Lexemes.{Lexeme, lexeme}
+use Rattle.lexer.specs.Parsing.{Size, Out, Got, Stuck, Over, Parser, Explains, Fine, Stops, CanGoOn, Lawful, Exceeds, Good, limit}
+use Rattle.lexer.specs.Found.{lexemes_from, place, IsRead, Finds, IsFirst, OnlyExceeds, IsFirstFault, Follows, FaultAt}
+
+take_whole : {A : Type 0} (l : List A) (n : ℕ) → n ≡ length l → take n l ≡ l
+take_whole [] zero e = refl
+take_whole [] (suc n) e = refl
+take_whole (x ∷ l) zero e = absurd (omega arith)
+take_whole (x ∷ l) (suc n) e = ap (λ t. x ∷ t) (take_whole l n (omega arith))
+
+pub tail_is : {A : Type 0} (l : List A) (g : ℕ) → take (length l - g) (drop g l) ≡ drop g l
+tail_is l g = take_whole (drop g l) (length l - g) (sym (length-drop g l))
+
+take_front : {A : Type 0} (front rest : List A) → take (length front) (front ++ rest) ≡ front
+take_front [] rest = refl
+take_front (x ∷ front) rest = ap (λ l. x ∷ l) (take_front front rest)
+
+drop_front : {A : Type 0} (front rest : List A) → drop (length front) (front ++ rest) ≡ rest
+drop_front [] rest = refl
+drop_front (x ∷ front) rest = drop_front front rest
+
+map_drop : {A B : Type 0} (f : A → B) (n : ℕ) (l : List A) → drop n (map f l) ≡ map f (drop n l)
+map_drop f zero l = refl
+map_drop f (suc n) [] = refl
+map_drop f (suc n) (x ∷ l) = map_drop f n l
+
+drop_none : (A : Type 0) (n : ℕ) → ◌≡◌ {A = List A} (drop n []) []
+drop_none A zero = refl
+drop_none A (suc n) = refl
+
+drop_drop : {A : Type 0} (n m : ℕ) (l : List A) → drop n (drop m l) ≡ drop (m + n) l
+drop_drop n zero l = let e : n ≡ zero + n = omega arith in ap (λ k. drop k l) e
+drop_drop {A} n (suc m) [] = drop_none A n ∙ sym (drop_none A (suc m + n))
+drop_drop n (suc m) (x ∷ l) = drop_drop n m l ∙ (let e : suc (m + n) ≡ suc m + n = omega arith in ap (λ k. drop k (x ∷ l)) e)
+
+pub length_map : {A B : Type 0} (f : A → B) (l : List A) → length (map f l) ≡ length l
+length_map f [] = refl
+length_map f (x ∷ l) = ap suc (length_map f l)
+
+module _ {A : Type 0} (p : Parser A) (G : A → Size → List Lexeme → Type 0) (goes : Lexeme → Bool) (good : Good 0 32 p G goes) (list : List Token) (from : ℕ) (fits : from ≤ length list) where
+  abbrev ts : List Lexeme
+  ts = lexemes_from list from
+
+  explained : (o : Out A) → p 0 ts ≡ o → Explains 32 (p 0) G 0 ts o
+  explained o e = let P : Out A → Type 0 = λ o. Explains 32 (p 0) G 0 ts o in subst P e (good.explains 0 (omega arith) ts)
+
+  fine : (o : Out A) → p 0 ts ≡ o → (a : A) (s : Size) (front rest : List Lexeme) → ts ≡ front ++ rest → G a s front → Stops goes rest → Fine 32 a s 0 rest o
+  fine o e a s front rest w h stops = let P : Out A → Type 0 = λ o. Fine 32 a s 0 rest o in subst P (ap (p 0) (sym w) ∙ e) (good.complete 0 (omega arith) a s front rest h stops)
+
+  lengths : (front rest : List Lexeme) → ts ≡ front ++ rest → length list ≡ from + length front + length rest
+  lengths front rest e = omega (arith, fits, length_map lexeme (drop from list), length-drop from list, ap length e, length-append front rest)
+
+  rest_is : (front rest : List Lexeme) (left : ℕ) → length rest ≡ left → ts ≡ front ++ rest → rest ≡ lexemes_from list (length list - left)
+  rest_is front rest left z e =
+      sym (drop_front front rest) ∙ ap (drop (length front)) (sym e) ∙ map_drop lexeme (length front) (drop from list) ∙ ap (map lexeme) (drop_drop (length front) from list)
+      ∙ (let k : from + length front ≡ length list - left = omega (arith, z, lengths front rest e) in ap (λ n. map lexeme (drop n list)) k)
+
+  taken : (front rest : List Lexeme) (left : ℕ) → length rest ≡ left → ts ≡ front ++ rest → take (length list - left - from) ts ≡ front
+  taken front rest left z e = let k : length list - left - from ≡ length front = omega (arith, z, lengths front rest e) in ap (λ n. take n ts) k ∙ ap (take (length front)) e ∙ take_front front rest
+
+  -- ---- what was read
+
+  module _ (a : A) (m : ℕ) (rest : List Lexeme) (left : ℕ) (z : length rest ≡ left) (e : p 0 ts ≡ Got a m rest) where
+    pub got_fits : left ≤ length list
+    got_fits = let h = explained (Got a m rest) e in omega (arith, z, lengths h.0 rest h.2)
+
+    pub got_read : (from ≤ length list - left) × (length list - left ≤ length list) × (s : Size) × G a s (take (length list - left - from) ts) × (s.nodes ≤ 256) × Lawful 32 s
+    got_read =
+        let h = explained (Got a m rest) e in
+        let P : List Lexeme → Type 0 = λ l. G a h.1 l in
+        (omega (arith, z, lengths h.0 rest h.2), omega arith, h.1, subst P (sym (taken h.0 rest left z h.2)) h.3, omega (arith, h.4, h.5 (omega arith)), h.6)
+
+    pub got_only : (b : A) (s : Size) (front other : List Lexeme) → ts ≡ front ++ other → G b s front → Stops goes other → (a ≡ b) × (length list - left ≡ from + length front)
+    got_only b s front other w h stops =
+        let f = fine (Got a m rest) e b s front other w h stops in
+        (f.0, (let k : length rest ≡ length other = ap length f.1 in omega (arith, z, k, lengths front other w)))
+
+    pub got_exact : p 0 ts ≡ Got a m (lexemes_from list (length list - left))
+    got_exact = let h = explained (Got a m rest) e in e ∙ ap (Got a m) (rest_is h.0 rest left z h.2)
+
+  -- ---- what was not
+
+  stuck_fits : (rest : List Lexeme) → p 0 ts ≡ Stuck rest → length rest ≤ length list
+  stuck_fits rest e = let h = explained (Stuck rest) e in omega (arith, lengths h.0 rest h.1)
+
+  over_fits : (w : What) (rest : List Lexeme) → p 0 ts ≡ Over w rest → length rest ≤ length list
+  over_fits w rest e = let h = explained (Over w rest) e in omega (arith, lengths h.0 rest h.1)
+
+  -- where it stands, by the first that is left
+  split : (front : List Lexeme) (x : Lexeme) (rest : List Lexeme) → ts ≡ front ++ x ∷ rest → take (length front + 1) ts ≡ front ++ x ∷ []
+  split front x rest e =
+      let k : length front + 1 ≡ length (front ++ x ∷ []) = omega (arith, length-append front (x ∷ [])) in
+      ap (λ n. take n ts) k ∙ ap (take (length (front ++ x ∷ []))) (e ∙ sym (append_assoc front (x ∷ []) rest)) ∙ take_front (front ++ x ∷ []) rest
+
+  -- however it goes on, reading ends there in the same way
+  ends_there : (front : List Lexeme) (x : Lexeme) (make : List Lexeme → Out A) → ((other : List Lexeme) → p 0 (front ++ x ∷ other) ≡ make (x ∷ other)) → (more : List Lexeme) (b : A) (s : Size) → G b s ((front ++ x ∷ []) ++ more) → Fine 32 b s 0 [] (make (x ∷ more))
+  ends_there front x make same more b s h =
+      let all : List Lexeme = (front ++ x ∷ []) ++ more in
+      let P : Out A → Type 0 = λ o. Fine 32 b s 0 [] o in
+      let Q : List Lexeme → Type 0 = λ l. Fine 32 b s 0 [] (p 0 l) in
+      subst P (ap (p 0) (append_assoc front (x ∷ []) more) ∙ same more) (subst Q (append-nil all) (good.complete 0 (omega arith) b s all [] h tt))
+
+  stuck_first : (rest : List Lexeme) → p 0 ts ≡ Stuck rest → 0 < length rest → IsFirst G ts (length ts - length rest)
+  stuck_first [] e z = absurd (omega arith)
+  stuck_first (x ∷ rest) e z =
+      let h = explained (Stuck (x ∷ rest)) e in
+      let n : length ts - length (x ∷ rest) ≡ length h.0 = omega (arith, ap length h.1, length-append h.0 (x ∷ rest)) in
+      let P : ℕ → Type 0 = λ k. IsFirst G ts k in
+      let C : List Lexeme → Type 0 = λ l. CanGoOn G l in
+      subst P (sym n) (
+        omega (arith, ap length h.1, length-append h.0 (x ∷ rest)),
+        subst C (sym (ap (take (length h.0)) h.1 ∙ take_front h.0 (x ∷ rest))) h.2,
+        λ more. let k = subst C (split h.0 x rest h.1) more in ends_there h.0 x Stuck h.3 k.0 k.1 k.2 k.3,
+      )
+
+  stuck_out : (rest : List Lexeme) → p 0 ts ≡ Stuck rest → length rest ≡ 0 → CanGoOn G ts
+  stuck_out [] e z = let h = explained (Stuck []) e in let P : List Lexeme → Type 0 = λ l. CanGoOn G l in subst P (sym (h.1 ∙ append-nil h.0)) h.2
+  stuck_out (x ∷ rest) e z = absurd (omega (arith, z))
+
+  over_some : (w : What) (rest : List Lexeme) → p 0 ts ≡ Over w rest → 0 < length rest
+  over_some w [] e = let h = explained (Over w []) e in absurd h.2
+  over_some w (x ∷ rest) e = omega arith
+
+  over_only : (w : What) (rest : List Lexeme) → p 0 ts ≡ Over w rest → OnlyExceeds w G ts (length ts - length rest)
+  over_only w [] e = let h = explained (Over w []) e in absurd h.2
+  over_only w (x ∷ rest) e =
+      let h = explained (Over w (x ∷ rest)) e in
+      let n : length ts - length (x ∷ rest) ≡ length h.0 = omega (arith, ap length h.1, length-append h.0 (x ∷ rest)) in
+      let P : ℕ → Type 0 = λ k. OnlyExceeds w G ts k in
+      let C : List Lexeme → Type 0 = λ l. CanGoOn G l in
+      subst P (sym n) (
+        omega (arith, ap length h.1, length-append h.0 (x ∷ rest)),
+        subst C (sym (split h.0 x rest h.1)) h.2,
+        λ more b s k. let Q : List Lexeme → Type 0 = λ l. G b s (l ++ more) in ends_there h.0 x (Over w) h.3 more b s (subst Q (split h.0 x rest h.1) k),
+      )
+
+  where_it_is : (rest : List Lexeme) → length rest ≤ length ts → length list - length rest ≡ from + (length ts - length rest)
+  where_it_is rest h = omega (arith, h, fits, length_map lexeme (drop from list), length-drop from list)
+
+  in_ts : (front rest : List Lexeme) → ts ≡ front ++ rest → length rest ≤ length ts
+  in_ts front rest e = omega (arith, ap length e, length-append front rest)
+
+  module _ (cur : Cursor) where
+    abbrev left : ℕ
+    left = length cur.rest.now
+
+    same_left : length (ahead cur) ≡ left
+    same_left = length_map lexeme cur.rest.now
+
+    pub err_fits : (why : Stop) → Fails (p 0 ts) why cur → why ≡ stop.Stuck → left ≤ length list
+    err_fits stop.NoMemory f e = let n : stop.NoMemory ≡ stop.Stuck = e in cc
+    err_fits stop.Stuck f e = omega (arith, same_left, stuck_fits (ahead cur) f)
+    err_fits (stop.TooMany w) f e = omega (arith, same_left, over_fits w (ahead cur) f)
+
+    module _ {X : Type 0} (view : X → A) where
+      pub err_only : (why : Stop) (f : ParseFault) → Fails (p 0 ts) why cur → FaultAt why list left f → (b : A) (s : Size) (front rest : List Lexeme) → ts ≡ front ++ rest → G b s front → Stops goes rest → Finds view b s (from + length front) (Err f)
+      err_only stop.NoMemory f h k b s front rest w g stops = let P : ParseFault → Type 0 = λ v. Finds view b s (from + length front) (Err v) in subst P (sym k) tt
+      err_only stop.Stuck (fault.Syntax at) h k b s front rest w g stops = fine (Stuck (ahead cur)) h b s front rest w g stops
+      err_only stop.Stuck fault.RanOut h k b s front rest w g stops = fine (Stuck (ahead cur)) h b s front rest w g stops
+      err_only stop.Stuck fault.NoMemory h k b s front rest w g stops = tt
+      err_only stop.Stuck (fault.TooMany v m) h k b s front rest w g stops = absurd k
+      err_only (stop.TooMany v) f h k b s front rest w g stops = let P : ParseFault → Type 0 = λ u. Finds view b s (from + length front) (Err u) in subst P (sym k) (fine (Over v (ahead cur)) h b s front rest w g stops)
+
+    pub err_fault : (X : Type 0) (why : Stop) (f : ParseFault) → Fails (p 0 ts) why cur → FaultAt why list left f → IsFirstFault {X = X} G list from (Err f)
+    err_fault X stop.NoMemory f h k = let P : ParseFault → Type 0 = λ v. IsFirstFault {X = X} G list from (Err v) in subst P (sym k) tt
+    err_fault X stop.Stuck (fault.Syntax at) h k =
+        let x = explained (Stuck (ahead cur)) h in
+        (length ts - length (ahead cur), k.1 ∙ ap (place list) (ap (λ n. length list - n) (sym same_left) ∙ where_it_is (ahead cur) (in_ts x.0 (ahead cur) x.1)), stuck_first (ahead cur) h (omega (arith, same_left, k.0)))
+    err_fault X stop.Stuck fault.RanOut h k = stuck_out (ahead cur) h (same_left ∙ k)
+    err_fault X stop.Stuck fault.NoMemory h k = tt
+    err_fault X stop.Stuck (fault.TooMany v m) h k = absurd k
+    err_fault X (stop.TooMany v) f h k = let P : ParseFault → Type 0 = λ u. IsFirstFault {X = X} G list from (Err u) in subst P (sym k) (refl, length ts - length (ahead cur), over_only v (ahead cur) h)
+
+    module _ {X : Type 0} (view : X → A) where
+      pub err_exact : (why : Stop) (f : ParseFault) → Fails (p 0 ts) why cur → FaultAt why list left f → Follows view (p 0 ts) list (Err f)
+      err_exact stop.NoMemory f h k = let P : ParseFault → Type 0 = λ v. Follows view (p 0 ts) list (Err v) in subst P (sym k) tt
+      err_exact stop.Stuck (fault.Syntax at) h k =
+          let x = explained (Stuck (ahead cur)) h in
+          (length list - left, omega (arith, k.0, same_left, stuck_fits (ahead cur) h), k.1, h ∙ ap Stuck (rest_is x.0 (ahead cur) left same_left x.1))
+      err_exact stop.Stuck fault.RanOut h k =
+          let x = explained (Stuck (ahead cur)) h in
+          h ∙ ap Stuck (rest_is x.0 (ahead cur) left same_left x.1 ∙ (let e : length list - left ≡ length list = omega (arith, k) in ap (lexemes_from list) e))
+      err_exact stop.Stuck fault.NoMemory h k = tt
+      err_exact stop.Stuck (fault.TooMany v m) h k = absurd k
+      err_exact (stop.TooMany v) f h k =
+          let x = explained (Over v (ahead cur)) h in
+          let P : ParseFault → Type 0 = λ u. Follows view (p 0 ts) list (Err u) in
+          subst P (sym k) (refl, length list - left, omega (arith, same_left, over_fits v (ahead cur) h, over_some v (ahead cur) h), h ∙ ap (Over v) (rest_is x.0 (ahead cur) left same_left x.1))

@@ -1,0 +1,35 @@
+use Rattle.std.proofs.Common.{arith, ◌≡◌, refl, sym, ap, ◌∙◌, subst, map, length, drop, List}
+use Rattle.cond_expr.specs.declared.exprs.Expr.{Expr}
+use Rattle.cond_expr.specs.Seen.{tree}
+use Rattle.lexer.specs.declared.token.Token.{Token}
+use Rattle.lexer.specs.Lexemes.{lexeme}
+use Rattle.lexer.specs.Reads.{ahead, Fails}
+use Rattle.lexer.specs.Grammar.{IsExpr}
+use Rattle.lexer.specs.Reader.{outermost, goes_expr}
+use Rattle.lexer.proofs.Goodness.{outermost_good}
+use Rattle.lexer.proofs.Places.{length_map, got_fits, got_read, got_only, got_exact, err_fits, err_only, err_fault, err_exact}
+use Rattle.lexer.proofs.parse.parse_expr.Goals as goal
+
+pub overflow_sub-result : goal.overflow_sub-result
+overflow_sub-result c = got_fits (outermost c.args.qualified).expr (IsExpr c.args.qualified) (goes_expr c.args.qualified) (outermost_good c.args.qualified).expr c.args.list.now c.args.from c.requires (tree c.in-Ok.found) c.outer_expr.new.c.nodes (ahead c.outer_expr.new.c) (length c.outer_expr.new.c.rest.now) (length_map lexeme c.outer_expr.new.c.rest.now) (ap (λ l. (outermost c.args.qualified).expr 0 (map lexeme l)) (sym c.tail.ensures) ∙ c.in-Ok.ensures)
+
+pub fault_at-requires : goal.fault_at-requires
+fault_at-requires c = err_fits (outermost c.args.qualified).expr (IsExpr c.args.qualified) (goes_expr c.args.qualified) (outermost_good c.args.qualified).expr c.args.list.now c.args.from c.requires c.outer_expr.new.c c.in-Err.stop (let P : List Token → Type 0 = λ l. Fails ((outermost c.args.qualified).expr 0 (map lexeme l)) c.in-Err.stop c.outer_expr.new.c in subst P c.tail.ensures c.in-Err.ensures)
+
+pub returns-in-Ok-clause-read : goal.returns-in-Ok-clause-read
+returns-in-Ok-clause-read c = got_read (outermost c.args.qualified).expr (IsExpr c.args.qualified) (goes_expr c.args.qualified) (outermost_good c.args.qualified).expr c.args.list.now c.args.from c.requires (tree c.in-Ok.found) c.outer_expr.new.c.nodes (ahead c.outer_expr.new.c) (length c.outer_expr.new.c.rest.now) (length_map lexeme c.outer_expr.new.c.rest.now) (ap (λ l. (outermost c.args.qualified).expr 0 (map lexeme l)) (sym c.tail.ensures) ∙ c.in-Ok.ensures)
+
+pub returns-in-Ok-clause-only : goal.returns-in-Ok-clause-only
+returns-in-Ok-clause-only c = got_only (outermost c.args.qualified).expr (IsExpr c.args.qualified) (goes_expr c.args.qualified) (outermost_good c.args.qualified).expr c.args.list.now c.args.from c.requires (tree c.in-Ok.found) c.outer_expr.new.c.nodes (ahead c.outer_expr.new.c) (length c.outer_expr.new.c.rest.now) (length_map lexeme c.outer_expr.new.c.rest.now) (ap (λ l. (outermost c.args.qualified).expr 0 (map lexeme l)) (sym c.tail.ensures) ∙ c.in-Ok.ensures)
+
+pub returns-in-Ok-clause-exact : goal.returns-in-Ok-clause-exact
+returns-in-Ok-clause-exact c = (c.outer_expr.new.c.nodes, got_exact (outermost c.args.qualified).expr (IsExpr c.args.qualified) (goes_expr c.args.qualified) (outermost_good c.args.qualified).expr c.args.list.now c.args.from c.requires (tree c.in-Ok.found) c.outer_expr.new.c.nodes (ahead c.outer_expr.new.c) (length c.outer_expr.new.c.rest.now) (length_map lexeme c.outer_expr.new.c.rest.now) (ap (λ l. (outermost c.args.qualified).expr 0 (map lexeme l)) (sym c.tail.ensures) ∙ c.in-Ok.ensures))
+
+pub returns-in-Err-clause-only : goal.returns-in-Err-clause-only
+returns-in-Err-clause-only c = err_only (outermost c.args.qualified).expr (IsExpr c.args.qualified) (goes_expr c.args.qualified) (outermost_good c.args.qualified).expr c.args.list.now c.args.from c.requires c.outer_expr.new.c tree c.in-Err.stop c.fault_at.result (let P : List Token → Type 0 = λ l. Fails ((outermost c.args.qualified).expr 0 (map lexeme l)) c.in-Err.stop c.outer_expr.new.c in subst P c.tail.ensures c.in-Err.ensures) c.fault_at.ensures
+
+pub returns-in-Err-clause-fault : goal.returns-in-Err-clause-fault
+returns-in-Err-clause-fault c = err_fault (outermost c.args.qualified).expr (IsExpr c.args.qualified) (goes_expr c.args.qualified) (outermost_good c.args.qualified).expr c.args.list.now c.args.from c.requires c.outer_expr.new.c Expr c.in-Err.stop c.fault_at.result (let P : List Token → Type 0 = λ l. Fails ((outermost c.args.qualified).expr 0 (map lexeme l)) c.in-Err.stop c.outer_expr.new.c in subst P c.tail.ensures c.in-Err.ensures) c.fault_at.ensures
+
+pub returns-in-Err-clause-exact : goal.returns-in-Err-clause-exact
+returns-in-Err-clause-exact c = err_exact (outermost c.args.qualified).expr (IsExpr c.args.qualified) (goes_expr c.args.qualified) (outermost_good c.args.qualified).expr c.args.list.now c.args.from c.requires c.outer_expr.new.c tree c.in-Err.stop c.fault_at.result (let P : List Token → Type 0 = λ l. Fails ((outermost c.args.qualified).expr 0 (map lexeme l)) c.in-Err.stop c.outer_expr.new.c in subst P c.tail.ensures c.in-Err.ensures) c.fault_at.ensures

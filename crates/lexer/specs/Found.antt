@@ -1,0 +1,61 @@
+-- What reading a list of tokens ensures, by the grammar.
+use Rattle.std.specs.Prelude.{◌≡◌, ℕ, ◌+◌, ◌-◌, ◌<◌, ◌≤◌, ◌++◌, List, length, take, drop, map, get_or, Result, Ok, Err}
+use Rattle.prima_base.specs.declared.refusals.What.{What}
+use Rattle.lexer.specs.declared.token.Token.{Token}
+use Rattle.lexer.specs.declared.parse.ParseFault.{ParseFault}
+use Rattle.lexer.specs.declared.parse.ParseFault.TheVariants as fault
+use Rattle.lexer.specs.declared.reading.Stop.{Stop}
+use Rattle.lexer.specs.declared.reading.Stop.TheVariants as stop
+use Rattle.lexer.specs.Lexemes.{Lexeme, lexeme}
+use Rattle.lexer.specs.Parsing.{Size, CanGoOn, Lawful, Exceeds, Out, Got, Stuck, Over, limit}
+
+-- what the tokens from a place on say
+abbrev pub lexemes_from : List Token → ℕ → List Lexeme
+lexemes_from list from = map lexeme (drop from list)
+
+-- the byte at which a token begins
+abbrev pub place : List Token → ℕ → ℕ
+place list k = get_or (map (λ t. t.at) list) k 0
+
+-- what was read is in the grammar, up to the answered place, and not too much
+abbrev pub IsRead : {A X : Type 0} → (X → A) → (A → Size → List Lexeme → Type 0) → List Token → ℕ → Result (X × ℕ) ParseFault → Type 0
+IsRead view G list from (Ok r) = (from ≤ r.1) × (r.1 ≤ length list) × (s : Size) × G (view r.0) s (take (r.1 - from) (lexemes_from list from)) × (s.nodes ≤ 256) × Lawful 32 s
+IsRead view G list from (Err e) = Unit {0}
+
+-- this and the place behind it, unless it is indeed too much
+abbrev pub Finds : {A X : Type 0} → (X → A) → A → Size → ℕ → Result (X × ℕ) ParseFault → Type 0
+Finds view a s n (Ok r) = (view r.0 ≡ a) × (r.1 ≡ n)
+Finds view a s n (Err fault.NoMemory) = Unit {0}
+Finds view a s n (Err (fault.TooMany w most)) = Exceeds w 0 32 s
+Finds view a s n (Err (fault.Syntax at)) = ⊥
+Finds view a s n (Err fault.RanOut) = ⊥
+
+-- the token so far behind the front is the first with which nothing goes on
+abbrev pub IsFirst : {A : Type 0} → (A → Size → List Lexeme → Type 0) → List Lexeme → ℕ → Type 0
+IsFirst G ts k = (k < length ts) × CanGoOn G (take k ts) × (CanGoOn G (take (k + 1) ts) → ⊥)
+
+-- the grammar goes on with the token so far behind the front, but only to what is too much
+abbrev pub OnlyExceeds : {A : Type 0} → What → (A → Size → List Lexeme → Type 0) → List Lexeme → ℕ → Type 0
+OnlyExceeds {A} w G ts k = (k < length ts) × CanGoOn G (take (k + 1) ts) × ((rest : List Lexeme) (a : A) (s : Size) → G a s (take (k + 1) ts ++ rest) → Exceeds w 0 32 s)
+
+abbrev pub IsFirstFault : {A X : Type 0} → (A → Size → List Lexeme → Type 0) → List Token → ℕ → Result (X × ℕ) ParseFault → Type 0
+IsFirstFault G list from (Err (fault.Syntax at)) = (k : ℕ) × (at ≡ place list (from + k)) × IsFirst G (lexemes_from list from) k
+IsFirstFault G list from (Err fault.RanOut) = CanGoOn G (lexemes_from list from)
+IsFirstFault G list from (Err (fault.TooMany w most)) = (most ≡ limit w) × (k : ℕ) × OnlyExceeds w G (lexemes_from list from) k
+IsFirstFault G list from _ = Unit {0}
+
+-- what reading says, by its own definition
+abbrev pub Follows : {A X : Type 0} → (X → A) → Out A → List Token → Result (X × ℕ) ParseFault → Type 0
+Follows view out list (Ok r) = (m : ℕ) × (out ≡ Got (view r.0) m (lexemes_from list r.1))
+Follows view out list (Err fault.NoMemory) = Unit {0}
+Follows view out list (Err (fault.Syntax at)) = (k : ℕ) × (k < length list) × (at ≡ place list k) × (out ≡ Stuck (lexemes_from list k))
+Follows view out list (Err fault.RanOut) = out ≡ Stuck (lexemes_from list (length list))
+Follows view out list (Err (fault.TooMany w most)) = (most ≡ limit w) × (k : ℕ) × (k < length list) × (out ≡ Over w (lexemes_from list k))
+
+-- the fault of a stop before so many tokens that are left
+abbrev pub FaultAt : Stop → List Token → ℕ → ParseFault → Type 0
+FaultAt stop.NoMemory list left f = f ≡ fault.NoMemory
+FaultAt stop.Stuck list left (fault.Syntax at) = (0 < left) × (at ≡ place list (length list - left))
+FaultAt stop.Stuck list left fault.RanOut = left ≡ 0
+FaultAt stop.Stuck list left _ = ⊥
+FaultAt (stop.TooMany w) list left f = f ≡ fault.TooMany w (limit w)

@@ -1,0 +1,58 @@
+//! The tokens of a statement.
+#![tactic(auto)]
+
+ghost use Rattle.std.specs.Prelude.{◌≡◌, ◌+◌, ◌≤◌, ◌<◌, ℕ, List, length, drop, take, IfOk, IfErr, None, Some};
+ghost use Rattle.lexer.specs.Lexed.{Lexes, Gives, LexesOnce};
+
+use std::alloc::{AllocError, Global};
+
+mod atoms;
+mod faults;
+mod kinds;
+mod parse;
+mod pieces;
+mod reader;
+mod reading;
+mod token;
+
+pub use faults::LexFault;
+pub use kinds::TokenKind;
+pub use parse::{ParseFault, parse_cond, parse_expr};
+use pieces::{Piece, gap, piece_at};
+pub use reading::{Cursor, Stop};
+pub use token::Token;
+
+/// The tokens of a statement of at most 1,048,576 bytes, from the left, or its first lexical fault.
+/// Between tokens stand blanks and comments alone, and each token is the longest that fits. Inside
+/// one text literal a control byte is found before a missing end, and that before its length.
+pub fn tokens<'a>(alloc: Global, text: &'a [u8]) -> Result<Vec<Token<'a>>, LexFault>
+    requires { length text.now ≤ 1048576 }
+    ensures ok { IfOk result (λ v. Lexes 0 text.now v.items None) }
+    ensures err { IfErr result (λ f. Gives f (λ e. (ts : List Token) × Lexes 0 text.now ts (Some e))) }
+{
+    let mut out = Vec::new(alloc);
+    let mut rest = text;
+    let mut at: u32 = 0;
+    loop {
+        let skipped = gap(rest);
+        rest = &rest[skipped..];
+        at += skipped as u32;
+        match piece_at(rest) {
+            Piece::End => return Ok(out),
+            Piece::Of(kind, len) => {
+                out.push(Token::first(kind, len, rest, at))?;
+                rest = &rest[len..];
+                at += len as u32;
+            }
+            Piece::Bad(len) => return Err(LexFault::BadByte(at + len as u32)),
+            Piece::Open => return Err(LexFault::OpenQuote(at)),
+            Piece::Long => return Err(LexFault::LongText(at)),
+            Piece::Big => return Err(LexFault::BigNumber(at)),
+        }
+    }
+}
+
+/// A text has one list of tokens, or one first fault.
+pub fn lexes_once()
+    ensures { LexesOnce }
+{}

@@ -1,0 +1,120 @@
+//! An expression or a condition from a list of tokens.
+
+ghost use Rattle.std.specs.Prelude.{◌≡◌, ◌++◌, ◌<◌, ◌≤◌, ◌+◌, List, length, take, drop};
+ghost use Rattle.cond_expr.specs.Trees.{Tree, Test};
+ghost use Rattle.cond_expr.specs.Seen.{tree, test};
+ghost use Rattle.lexer.specs.Lexemes.{Lexeme};
+ghost use Rattle.lexer.specs.declared.reading.Stop.TheVariants as stop;
+ghost use Rattle.lexer.specs.Grammar.{IsExpr, IsCond};
+ghost use Rattle.lexer.specs.Parsing.{Size, Stops, limit};
+ghost use Rattle.lexer.specs.Reader.{goes_expr, goes_cond, outermost};
+ghost use Rattle.lexer.specs.Found.{IsRead, Finds, IsFirstFault, Follows, FaultAt, lexemes_from};
+
+use crate::reader::{outer_cond, outer_expr};
+use crate::{Cursor, Stop, Token};
+use cond_expr::{Cond, Expr};
+use prima_base::What;
+use std::alloc::Global;
+
+/// Why a list holds no expression or condition at a place.
+#[derive(Clone, Copy, Debug, PartialEq, Eq)]
+pub enum ParseFault {
+    NoMemory,
+    /// The place in the statement of the first token with which nothing goes on.
+    Syntax(u32),
+    /// The list ends before what is read is whole.
+    RanOut,
+    /// The counted thing, and its limit: a node, an open construct or a part of a CONCAT more.
+    TooMany(What, u64),
+}
+
+fn limit_of(what: What) -> u64
+    ensures { result ≡ limit what }
+{
+    match what {
+        What::Nodes => 256,
+        What::Depth | What::Outputs => 32,
+        What::Parts | What::Tables | What::Keeps | What::Inverse => 8,
+        What::Branches => 16,
+        What::Changes | What::Columns | What::Versions => 0,
+    }
+}
+
+// What follows a place of the list.
+#[tactic(auto, using(crate::proofs::Places::tail_is))]
+fn tail<'a, 't>(list: &'a [Token<'t>], from: usize) -> &'a [Token<'t>]
+    requires { from ≤ length list.now }
+    ensures { result.now ≡ drop from list.now }
+{
+    &list[from..]
+}
+
+// The fault of a stop before so many tokens that are left.
+fn fault_at(why: Stop, list: &[Token<'_>], left: usize) -> ParseFault
+    requires { why ≡ stop.Stuck → left ≤ length list.now }
+    ensures { FaultAt why list.now left result }
+{
+    match why {
+        Stop::NoMemory => ParseFault::NoMemory,
+        Stop::TooMany(what) => ParseFault::TooMany(what, limit_of(what)),
+        Stop::Stuck => {
+            if left == 0 {
+                ParseFault::RanOut
+            } else {
+                ParseFault::Syntax(list[list.len() - left].at)
+            }
+        }
+    }
+}
+
+/// The expression at a place of the list, and the place behind it. References are those of queries,
+/// `Free` or `Alias`, where `qualified`, and else columns of atom 0.
+pub fn parse_expr(
+    alloc: Global,
+    list: &[Token<'_>],
+    from: usize,
+    qualified: bool,
+) -> Result<(Expr, usize), ParseFault>
+    requires { from ≤ length list.now }
+    // What is read is in the grammar.
+    ensures read { IsRead tree (IsExpr qualified) list.now from result }
+    // What is in the grammar, up to a token that it does not go on with, is read, unless it is too much.
+    ensures only { (e : Tree) (s : Size) (front rest : List Lexeme) → lexemes_from list.now from ≡ front ++ rest → IsExpr qualified e s front → Stops (goes_expr qualified) rest →
+        Finds tree e s (from + length front) result }
+    // A fault is at the first token with which nothing of the grammar goes on, or only what is too much.
+    ensures fault { IsFirstFault (IsExpr qualified) list.now from result }
+    ensures exact { Follows tree ((outermost qualified).expr 0 (lexemes_from list.now from)) list.now result }
+{
+    let mut cursor = Cursor {
+        rest: tail(list, from),
+        nodes: 0,
+    };
+    match outer_expr(alloc, &mut cursor, qualified) {
+        Ok(found) => Ok((found, list.len() - cursor.rest.len())),
+        Err(stop) => Err(fault_at(stop, list, cursor.rest.len())),
+    }
+}
+
+/// The condition at a place of the list, and the place behind it; as `parse_expr` does.
+pub fn parse_cond(
+    alloc: Global,
+    list: &[Token<'_>],
+    from: usize,
+    qualified: bool,
+) -> Result<(Cond, usize), ParseFault>
+    requires { from ≤ length list.now }
+    ensures read { IsRead test (IsCond qualified) list.now from result }
+    ensures only { (c : Test) (s : Size) (front rest : List Lexeme) → lexemes_from list.now from ≡ front ++ rest → IsCond qualified c s front → Stops (goes_cond qualified) rest →
+        Finds test c s (from + length front) result }
+    ensures fault { IsFirstFault (IsCond qualified) list.now from result }
+    ensures exact { Follows test ((outermost qualified).cond 0 (lexemes_from list.now from)) list.now result }
+{
+    let mut cursor = Cursor {
+        rest: tail(list, from),
+        nodes: 0,
+    };
+    match outer_cond(alloc, &mut cursor, qualified) {
+        Ok(found) => Ok((found, list.len() - cursor.rest.len())),
+        Err(stop) => Err(fault_at(stop, list, cursor.rest.len())),
+    }
+}
