@@ -1,6 +1,6 @@
 -- What the lists of an expression stand for, and what a filling makes of them.
 use Rattle.std.specs.Prelude.{◌≡◌, ℕ, List, [], ◌∷◌, ◌++◌, map, length, take, ◌<◌, ◌+◌}
-use Rattle.std.proofs.Common.{refl, sym, ap, ◌∙◌, rules}
+use Rattle.std.proofs.Common.{refl, sym, ap, ◌∙◌, rules, add-one}
 use Rattle.std.specs.declared.vec.Vec.{Vec}
 use Rattle.std.specs.declared.alloc.Global.{Global}
 use Rattle.cond_expr.specs.declared.exprs.Expr.{Expr}
@@ -8,6 +8,7 @@ use Rattle.cond_expr.specs.declared.exprs.Cond.{Cond, the_lemmas}
 use Rattle.cond_expr.specs.declared.exprs.Cond.TheViews.{Concat, And, Or}
 use Rattle.cond_expr.specs.Trees.{Tree, column, constant, length_of, joined, choose, Trees, no_trees, a_tree, Test, never, always, compared, all_of, some_of, fails, Tests, no_tests, a_test, Filling, fill, fill_trees, fill_test, fill_tests}
 use Rattle.cond_expr.specs.Seen.{tree, test, trees_of, tests_of}
+use Rattle.cond_expr.specs.Sizes.{count_of}
 
 pub trees_filled : (s : Filling) (ts : List Tree) → fill_trees s (trees_of ts) ≡ trees_of (map (fill s) ts)
 trees_filled s [] = refl
@@ -25,3 +26,7 @@ test_of_and v = search (rules, the_lemmas)
 
 pub test_of_or : (v : Vec Cond Global) → test (Or v) ≡ some_of (tests_of (map test v.items))
 test_of_or v = search (rules, the_lemmas)
+
+pub count_is_length : (es : List Expr) → count_of (trees_of (map tree es)) ≡ length es
+count_is_length [] = refl
+count_is_length (e ∷ es) = rw (count_is_length es, add-one) refl

@@ -8,6 +8,8 @@ mod copies;
 mod exprs;
 mod fills;
 mod makers;
+mod sizes;
 
 pub use exprs::{CmpOp, ColRef, Column, Cond, Expr, TreeSize, TypeFault, Whose};
 pub use fills::{Fill, fill_cond, fill_expr};
+pub use sizes::{cond_size, expr_size};
