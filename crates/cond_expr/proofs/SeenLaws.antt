@@ -1,12 +1,12 @@
 -- What the lists of an expression stand for, and what a filling makes of them.
-use Rattle.std.specs.Prelude.{◌≡◌, ℕ, List, [], ◌∷◌, ◌++◌, map, length, take, ◌<◌, ◌+◌}
-use Rattle.std.proofs.Common.{refl, sym, ap, ◌∙◌, rules, add-one}
+use Rattle.std.specs.Prelude.{◌≡◌, List, [], ◌∷◌, map, length}
+use Rattle.std.proofs.Common.{refl, ap, rules, add-one}
 use Rattle.std.specs.declared.vec.Vec.{Vec}
 use Rattle.std.specs.declared.alloc.Global.{Global}
 use Rattle.cond_expr.specs.declared.exprs.Expr.{Expr}
 use Rattle.cond_expr.specs.declared.exprs.Cond.{Cond, the_lemmas}
 use Rattle.cond_expr.specs.declared.exprs.Cond.TheViews.{Concat, And, Or}
-use Rattle.cond_expr.specs.Trees.{Tree, column, constant, length_of, joined, choose, Trees, no_trees, a_tree, Test, never, always, compared, all_of, some_of, fails, Tests, no_tests, a_test, Filling, fill, fill_trees, fill_test, fill_tests}
+use Rattle.cond_expr.specs.Trees.{Tree, joined, a_tree, Test, all_of, some_of, a_test, Filling, fill, fill_trees, fill_test, fill_tests}
 use Rattle.cond_expr.specs.Seen.{tree, test, trees_of, tests_of}
 use Rattle.cond_expr.specs.Sizes.{count_of}
 

@@ -1,13 +1,11 @@
 -- Laws of values, truth and what is put for references.
-use Rattle.std.specs.Prelude.{◌≡◌, ℕ, List, [], ◌∷◌, ◌++◌, Bool, true, false, not, ◌&&◌, ◌||◌, length, take, ℤ, pos, if◌then◌else◌, ⊤}
-use Rattle.std.proofs.Common.{refl, sym, ap, ◌∙◌}
-use Rattle.std.specs.declared.cmp.Ordering.{Ordering}
+use Rattle.std.specs.Prelude.{◌≡◌, ℕ, List, not, length, take, pos}
+use Rattle.std.proofs.Common.{refl, ap}
 use Rattle.prima_base.specs.declared.values.Value.{Value}
 use Rattle.prima_base.specs.declared.values.Value.TheVariants.{Int, Text}
-use Rattle.prima_base.specs.Order.{value_cmp}
 use Rattle.cond_expr.specs.declared.exprs.Whose.{Whose}
 use Rattle.cond_expr.specs.Trees.{Tree, column, constant, length_of, joined, choose, Trees, no_trees, a_tree, Test, never, always, compared, all_of, some_of, fails, Tests, no_tests, a_test, Filling, fill, fill_trees, fill_test, fill_tests, Within, TreesWithin, TestWithin, TestsWithin}
-use Rattle.cond_expr.specs.Values.{Cells, bytes_of, agrees, value, texts, truth, all_true, some_true}
+use Rattle.cond_expr.specs.Values.{Cells, bytes_of, value, texts, truth, all_true, some_true}
 
 -- the value after references are filled is the value where the fillings are computed
 mutual

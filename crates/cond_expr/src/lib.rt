@@ -5,11 +5,13 @@
 #![tactic(auto)]
 
 mod copies;
+mod evals;
 mod exprs;
 mod fills;
 mod makers;
 mod sizes;
 
+pub use evals::{eval, holds};
 pub use exprs::{CmpOp, ColRef, Column, Cond, Expr, TreeSize, TypeFault, Whose};
 pub use fills::{Fill, fill_cond, fill_expr};
 pub use sizes::{cond_size, expr_size};

@@ -1,4 +1,4 @@
-use Rattle.std.proofs.Common.{arith, ap, ◌∙◌}
+use Rattle.std.proofs.Common.{arith, ap}
 use Rattle.std.proofs.lemmas.Grind.{common_steps}
 use Rattle.cond_expr.specs.Sizes.{longest_of}
 use Rattle.cond_expr.proofs.SeenLaws.{tree_of_concat, count_is_length}
