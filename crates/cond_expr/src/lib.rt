@@ -10,8 +10,10 @@ mod exprs;
 mod fills;
 mod makers;
 mod sizes;
+mod types;
 
 pub use evals::{eval, holds};
 pub use exprs::{CmpOp, ColRef, Column, Cond, Expr, TreeSize, TypeFault, Whose};
 pub use fills::{Fill, fill_cond, fill_expr};
 pub use sizes::{cond_size, expr_size};
+pub use types::{check_cond, type_of};
