@@ -3,3 +3,5 @@ pub mod SeenLaws
 pub mod TextLaws
 pub mod FaultLaws
 pub mod ListedLaws
+pub mod KindLaws
+pub mod AtomLaws

@@ -1,5 +1,5 @@
 -- The type of an expression, None where some part of it is not well-typed.
-use Rattle.std.specs.Prelude.{ℕ, List, [], ◌∷◌, Bool, true, false, ◌&&◌, Option, Some, None, cond}
+use Rattle.std.specs.Prelude.{◌≡◌, ⊤, ℕ, List, [], ◌∷◌, Bool, true, false, ◌&&◌, Option, Some, None, cond}
 use Rattle.prima_base.specs.declared.values.Value.{Value}
 use Rattle.prima_base.specs.declared.values.Value.TheVariants.{Int, Text}
 use Rattle.prima_base.specs.declared.values.ColType.{ColType}
@@ -7,7 +7,10 @@ use Rattle.prima_base.specs.declared.values.ColType.TheVariants.{Int as INT, Tex
 use Rattle.cond_expr.specs.declared.exprs.Whose.{Whose}
 use Rattle.cond_expr.specs.declared.exprs.Column.{Column}
 use Rattle.cond_expr.specs.Trees.{Tree, column, constant, length_of, joined, choose, Trees, no_trees, a_tree, Test, never, always, compared, all_of, some_of, fails, Tests, no_tests, a_test}
+use Rattle.prima_base.specs.declared.values.Val.{Val}
+use Rattle.prima_base.specs.Order.{shown}
 use Rattle.cond_expr.specs.Rows.{names}
+use Rattle.cond_expr.specs.Values.{Cells}
 
 -- the type of what each reference stands for, None where it names nothing
 abbrev pub Kinds : Type 0
@@ -61,3 +64,14 @@ abbrev mutual
   pub all_typed : Kinds → Tests → Bool
   all_typed of no_tests = true
   all_typed of (a_test c cs) = is_typed of c && all_typed of cs
+
+-- what each reference stands for is of its type
+abbrev pub Fits : Kinds → Cells → Type 0
+Fits of at = (w : Whose) (n : List ℕ) (k : ColType) → of w n ≡ Some k → value_kind (at w n) ≡ k
+
+-- the values are of the columns' types, one for one
+abbrev pub AreOf : List Column → List Val → Type 0
+AreOf [] [] = ⊤
+AreOf [] (v ∷ vs) = ⊥
+AreOf (c ∷ cs) [] = ⊥
+AreOf (c ∷ cs) (v ∷ vs) = (value_kind (shown v) ≡ c.kind) × AreOf cs vs
