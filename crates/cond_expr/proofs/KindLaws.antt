@@ -74,7 +74,7 @@ kept of at (length_of t) k fits h = int_of (is_text (kind_of of t)) k h
 kept of at (joined ts) k fits h = text_of (all_text of ts) k h
 kept of at (choose c a b) k fits h =
     let s = both_kinds (is_typed of c) (same_kind (kind_of of a) (kind_of of b)) (kind_of of a) (kind_of of b) k
-              (same_kinds (kind_of of a) (kind_of of b) k) h in
+    (same_kinds (kind_of of a) (kind_of of b) k) h in
     one_of (truth at c) (value at a) (value at b) k (kept of at a k fits s.0) (kept of at b k fits s.1)
 
 first_fits : (b : Bool) (v x : Value) (c k : ColType) (o : Option ColType) → value_kind v ≡ c → (o ≡ Some k → value_kind x ≡ k)

@@ -13,14 +13,14 @@ drop_one {X} xs i x h is =
 
 pub unknown_in_list : (of : Kinds) (es : List Expr) (i : ℕ) (e : Expr) → i < length es → e ≡ get_or es i e
     → first_unknown of (trees_references (trees_of (map tree (drop i es))))
-      ≡ earlier (first_unknown of (references (tree e))) (first_unknown of (trees_references (trees_of (map tree (drop (i + 1) es)))))
+    ≡ earlier (first_unknown of (references (tree e))) (first_unknown of (trees_references (trees_of (map tree (drop (i + 1) es)))))
 unknown_in_list of es i e h is =
     ap (λ (l : List Expr). first_unknown of (trees_references (trees_of (map tree l)))) (drop_one es i e h is)
-      ∙ unknown_append of (references (tree e)) (trees_references (trees_of (map tree (drop (i + 1) es))))
+    ∙ unknown_append of (references (tree e)) (trees_references (trees_of (map tree (drop (i + 1) es))))
 
 pub unknown_in_conds : (of : Kinds) (cs : List Cond) (i : ℕ) (c : Cond) → i < length cs → c ≡ get_or cs i c
     → first_unknown of (tests_references (tests_of (map test (drop i cs))))
-      ≡ earlier (first_unknown of (test_references (test c))) (first_unknown of (tests_references (tests_of (map test (drop (i + 1) cs)))))
+    ≡ earlier (first_unknown of (test_references (test c))) (first_unknown of (tests_references (tests_of (map test (drop (i + 1) cs)))))
 unknown_in_conds of cs i c h is =
     ap (λ (l : List Cond). first_unknown of (tests_references (tests_of (map test l)))) (drop_one cs i c h is)
-      ∙ unknown_append of (test_references (test c)) (tests_references (tests_of (map test (drop (i + 1) cs))))
+    ∙ unknown_append of (test_references (test c)) (tests_references (tests_of (map test (drop (i + 1) cs))))

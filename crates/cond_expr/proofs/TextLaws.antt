@@ -55,9 +55,10 @@ front_is_short : (n : ℕ) (a : List ℕ) → length (take n a) ≤ n
 front_is_short n a = omega (arith, length-take n a)
 
 pub joined_is_text : (a : List ℕ) (v : Value) → IsTxt a → IsLawful v → IsTxt (take 4096 (a ++ bytes_of v))
-joined_is_text a v h l =
-    (front_is_short 4096 (a ++ bytes_of v),
-     none_in_front is_control 0 4096 (a ++ bytes_of v) (none_in_both is_control 0 0 0 a (bytes_of v) h.1 (none_in_value v l)))
+joined_is_text a v h l = (
+  front_is_short 4096 (a ++ bytes_of v),
+  none_in_front is_control 0 4096 (a ++ bytes_of v) (none_in_both is_control 0 0 0 a (bytes_of v) h.1 (none_in_value v l)),
+)
 
 -- one part more of a list of parts
 pub joined_more : (at : Cells) (n : ℕ) (es : List Expr) (i : ℕ) (e : Expr) (a b : List ℕ) → i < length es → e ≡ get_or es i e
@@ -67,7 +68,7 @@ joined_more at n es i e a b h is new =
     let d : drop i es ≡ e ∷ drop (i + 1) es = drop-cons es i e h ∙ ap (λ (x : Expr). x ∷ drop (suc i) es) (sym is) ∙ ap (λ (k : ℕ). e ∷ drop k es) (sym (add-one i)) in
     let turn = fits_in_turn n a (bytes_of (value at (tree e))) (texts at (trees_of (map tree (drop (i + 1) es)))) in
     ap (λ (l : List Expr). take n (a ++ texts at (trees_of (map tree l)))) d ∙ sym turn
-      ∙ ap (λ (l : List ℕ). take n (l ++ texts at (trees_of (map tree (drop (i + 1) es))))) (sym new)
+    ∙ ap (λ (l : List ℕ). take n (l ++ texts at (trees_of (map tree (drop (i + 1) es))))) (sym new)
 
 pub joined_whole : (at : Cells) (n : ℕ) (es : List Expr) (i : ℕ) (a : List ℕ) → length es ≤ i → length a ≤ n
     → take n (a ++ texts at (trees_of (map tree (drop i es)))) ≡ a

@@ -59,7 +59,7 @@ abbrev mutual
   untyped of at (length_of t) = untyped of (at + 1) t ++ if_so (is_none (kind_of of (length_of t))) at
   untyped of at (joined ts) = trees_untyped of (at + 1) ts ++ if_so (is_none (kind_of of (joined ts))) at
   untyped of at (choose c a b) = test_untyped of (at + 1) c ++ (untyped of (at + 1 + test_nodes c) a
-    ++ (untyped of (at + 1 + test_nodes c + nodes_of a) b ++ if_so (is_none (kind_of of (choose c a b))) at))
+      ++ (untyped of (at + 1 + test_nodes c + nodes_of a) b ++ if_so (is_none (kind_of of (choose c a b))) at))
 
   pub trees_untyped : Kinds → ℕ → Trees → List ℕ
   trees_untyped of at no_trees = []

@@ -58,7 +58,11 @@ fn owned<'a>(constant: &Value) -> Result<Val<'a>, NoMemory>
 }
 
 // The value of the first column that the reference names.
-fn look_up<'a>(columns: &[Column], values: &[Val<'a>], reference: &ColRef) -> Result<Val<'a>, NoMemory>
+fn look_up<'a>(
+    columns: &[Column],
+    values: &[Val<'a>],
+    reference: &ColRef,
+) -> Result<Val<'a>, NoMemory>
     requires { AreLawful values.now }
     ensures value { IfOk result (λ w. shown w ≡ flat columns.now values.now reference.now.whose reference.now.name) }
     ensures lawful { IfOk result (λ w. IsLawful (shown w)) }
@@ -142,7 +146,12 @@ fn decide(op: CmpOp, order: Ordering) -> bool
 /// The value of an expression over one value a column. The value of a plain column stays borrowed
 /// where it was. A reference that names no column has the value 0.
 #[cycle(eval)]
-pub fn eval<'a>(alloc: Global, expr: &Expr, columns: &[Column], values: &[Val<'a>]) -> Result<Val<'a>, NoMemory>
+pub fn eval<'a>(
+    alloc: Global,
+    expr: &Expr,
+    columns: &[Column],
+    values: &[Val<'a>],
+) -> Result<Val<'a>, NoMemory>
     requires { AreLawful values.now }
     ensures value { IfOk result (λ v. shown v ≡ value (flat columns.now values.now) (tree expr.now)) }
     ensures lawful { IfOk result (λ v. IsLawful (shown v)) }
@@ -168,7 +177,12 @@ pub fn eval<'a>(alloc: Global, expr: &Expr, columns: &[Column], values: &[Val<'a
 
 // The first bytes of the joined texts.
 #[cycle(eval)]
-fn join(alloc: Global, parts: &[Expr], columns: &[Column], values: &[Val<'_>]) -> Result<Txt, NoMemory>
+fn join(
+    alloc: Global,
+    parts: &[Expr],
+    columns: &[Column],
+    values: &[Val<'_>],
+) -> Result<Txt, NoMemory>
     requires { AreLawful values.now }
     ensures value { IfOk result (λ t. t ≡ take 4096 (texts (flat columns.now values.now) (trees_of (map tree parts.now)))) }
     ensures lawful { IfOk result (λ t. IsTxt t) }
@@ -183,7 +197,12 @@ fn join(alloc: Global, parts: &[Expr], columns: &[Column], values: &[Val<'_>]) -
 
 /// Whether a condition holds over one value a column.
 #[cycle(eval)]
-pub fn holds(alloc: Global, cond: &Cond, columns: &[Column], values: &[Val<'_>]) -> Result<bool, NoMemory>
+pub fn holds(
+    alloc: Global,
+    cond: &Cond,
+    columns: &[Column],
+    values: &[Val<'_>],
+) -> Result<bool, NoMemory>
     requires { AreLawful values.now }
     ensures { IfOk result (λ b. b ≡ truth (flat columns.now values.now) (test cond.now)) }
 {
@@ -202,7 +221,12 @@ pub fn holds(alloc: Global, cond: &Cond, columns: &[Column], values: &[Val<'_>])
 }
 
 #[cycle(eval)]
-fn all_hold(alloc: Global, parts: &[Cond], columns: &[Column], values: &[Val<'_>]) -> Result<bool, NoMemory>
+fn all_hold(
+    alloc: Global,
+    parts: &[Cond],
+    columns: &[Column],
+    values: &[Val<'_>],
+) -> Result<bool, NoMemory>
     requires { AreLawful values.now }
     ensures { IfOk result (λ b. b ≡ all_true (flat columns.now values.now) (tests_of (map test parts.now))) }
 {
@@ -215,7 +239,12 @@ fn all_hold(alloc: Global, parts: &[Cond], columns: &[Column], values: &[Val<'_>
 }
 
 #[cycle(eval)]
-fn some_hold(alloc: Global, parts: &[Cond], columns: &[Column], values: &[Val<'_>]) -> Result<bool, NoMemory>
+fn some_hold(
+    alloc: Global,
+    parts: &[Cond],
+    columns: &[Column],
+    values: &[Val<'_>],
+) -> Result<bool, NoMemory>
     requires { AreLawful values.now }
     ensures { IfOk result (λ b. b ≡ some_true (flat columns.now values.now) (tests_of (map test parts.now))) }
 {

@@ -149,10 +149,12 @@ fn length_at(part: &Expr, columns: &[Column], at: u32) -> Result<Typed, u32>
     ensures { Walked (kinds_of columns.now) at (length_of (tree part.now)) result }
 {
     match type_at(part, columns, at + 1) {
-        Ok(Typed {
-            kind: ColType::Text,
-            next,
-        }) => Ok(Typed {
+        Ok(
+            Typed {
+                kind: ColType::Text,
+                next,
+            },
+        ) => Ok(Typed {
             kind: ColType::Int,
             next,
         }),
