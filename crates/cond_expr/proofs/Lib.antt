@@ -5,3 +5,4 @@ pub mod FaultLaws
 pub mod ListedLaws
 pub mod KindLaws
 pub mod AtomLaws
+pub mod LawfulLaws

@@ -9,6 +9,7 @@ mod evals;
 mod exprs;
 mod fills;
 mod laws;
+mod lending;
 mod makers;
 mod sizes;
 #[cfg(test)]
@@ -22,5 +23,6 @@ pub use laws::{
     accepted_has_a_value_of_its_type, filling_atoms_is_substitution, filling_is_substitution,
     fillings_compose, values_depend_on_references_alone,
 };
+pub use lending::{lend, lend_row};
 pub use sizes::{cond_size, expr_size};
 pub use types::{check_cond, type_of};

@@ -4,7 +4,7 @@ ghost use Rattle.cond_expr.specs.Rows.{AreLawful};
 use crate::CmpOp::{Eq, Ge, Gt, Le, Lt, Ne};
 use crate::{
     CmpOp, ColRef, Column, Cond, Expr, TreeSize, TypeFault, Whose, check_cond, cond_size, eval,
-    expr_size, holds, type_of,
+    expr_size, holds, lend_row, type_of,
 };
 use prima_base::{ColType, Name, Txt, Val, Value};
 use std::alloc::Global;
@@ -463,6 +463,9 @@ fn columns_stay_borrowed(rt: HostRuntime) -> Result<(), Fail> {
             Val::Slice(b"salt")
         )
     );
+    let kept = [Value::Int(2), Value::Text(Txt::new(rt.alloc(), b"tide")?)];
+    let lent = lend_row(rt.alloc(), &kept)?;
+    assert!(rt; matches!(lent.as_slice(), [Val::Int(2), Val::Slice(b"tide")]));
     let cut = made(rt.alloc(), &[Col(1, "a"), Concat(1)])?.expr()?;
     assert!(rt; matches!(eval(rt.alloc(), &cut, &columns, &row)?, Val::Own(_)));
     Ok(())
