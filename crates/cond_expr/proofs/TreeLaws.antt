@@ -1,13 +1,11 @@
 -- Laws of values, truth and what is put for references.
-use Rattle.std.specs.Prelude.{◌≡◌, ℕ, List, [], ◌∷◌, ◌++◌, Bool, true, false, not, ◌&&◌, ◌||◌, length, take, ℤ, pos, if◌then◌else◌, ⊤}
-use Rattle.std.proofs.Common.{refl, sym, ap, ◌∙◌}
-use Rattle.std.specs.declared.cmp.Ordering.{Ordering}
+use Rattle.std.specs.Prelude.{◌≡◌, ℕ, List, not, length, take, pos}
+use Rattle.std.proofs.Common.{refl, ap}
 use Rattle.prima_base.specs.declared.values.Value.{Value}
 use Rattle.prima_base.specs.declared.values.Value.TheVariants.{Int, Text}
-use Rattle.prima_base.specs.Order.{value_cmp}
 use Rattle.cond_expr.specs.declared.exprs.Whose.{Whose}
 use Rattle.cond_expr.specs.Trees.{Tree, column, constant, length_of, joined, choose, Trees, no_trees, a_tree, Test, never, always, compared, all_of, some_of, fails, Tests, no_tests, a_test, Filling, fill, fill_trees, fill_test, fill_tests, Within, TreesWithin, TestWithin, TestsWithin}
-use Rattle.cond_expr.specs.Values.{Cells, bytes_of, agrees, value, texts, truth, all_true, some_true}
+use Rattle.cond_expr.specs.Values.{Cells, bytes_of, value, texts, truth, all_true, some_true}
 
 -- the value after references are filled is the value where the fillings are computed
 mutual
@@ -118,3 +116,28 @@ mutual
   pub tests_fill_itself : (cs : Tests) → fill_tests column cs ≡ cs
   tests_fill_itself no_tests = refl
   tests_fill_itself (a_test c cs) = rw (test_fill_itself c, tests_fill_itself cs) refl
+
+-- filled twice
+mutual
+  pub fill_twice : (s r : Filling) (t : Tree) → fill s (fill r t) ≡ fill (λ w n. fill s (r w n)) t
+  fill_twice s r (column w n) = refl
+  fill_twice s r (constant v) = refl
+  fill_twice s r (length_of t) = ap length_of (fill_twice s r t)
+  fill_twice s r (joined ts) = ap joined (trees_fill_twice s r ts)
+  fill_twice s r (choose c a b) = rw (test_fill_twice s r c, fill_twice s r a, fill_twice s r b) refl
+
+  pub trees_fill_twice : (s r : Filling) (ts : Trees) → fill_trees s (fill_trees r ts) ≡ fill_trees (λ w n. fill s (r w n)) ts
+  trees_fill_twice s r no_trees = refl
+  trees_fill_twice s r (a_tree t ts) = rw (fill_twice s r t, trees_fill_twice s r ts) refl
+
+  pub test_fill_twice : (s r : Filling) (c : Test) → fill_test s (fill_test r c) ≡ fill_test (λ w n. fill s (r w n)) c
+  test_fill_twice s r never = refl
+  test_fill_twice s r always = refl
+  test_fill_twice s r (compared o a b) = rw (fill_twice s r a, fill_twice s r b) refl
+  test_fill_twice s r (all_of cs) = ap all_of (tests_fill_twice s r cs)
+  test_fill_twice s r (some_of cs) = ap some_of (tests_fill_twice s r cs)
+  test_fill_twice s r (fails c) = ap fails (test_fill_twice s r c)
+
+  pub tests_fill_twice : (s r : Filling) (cs : Tests) → fill_tests s (fill_tests r cs) ≡ fill_tests (λ w n. fill s (r w n)) cs
+  tests_fill_twice s r no_tests = refl
+  tests_fill_twice s r (a_test c cs) = rw (test_fill_twice s r c, tests_fill_twice s r cs) refl

@@ -1,5 +1,5 @@
-use Rattle.std.proofs.Common.{rules, ◌≡◌, ℕ, List, map, ◌∙◌, sym, ap}
-use Rattle.cond_expr.specs.Trees.{Tree, Filling, fill, fill_test, all_of, some_of, joined}
+use Rattle.std.proofs.Common.{map, ◌∙◌, sym, ap}
+use Rattle.cond_expr.specs.Trees.{fill, fill_test, all_of, some_of, joined}
 use Rattle.cond_expr.specs.Seen.{tree, test, trees_of, tests_of}
 use Rattle.cond_expr.proofs.SeenLaws.{trees_filled, tests_filled, tree_of_concat, test_of_and, test_of_or}
 use Rattle.cond_expr.proofs.fills.+fill.Goals as goal

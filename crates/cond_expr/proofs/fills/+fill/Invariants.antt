@@ -1,5 +1,5 @@
-use Rattle.std.proofs.Common.{◌≡◌, ℕ, List, map, take}
-use Rattle.cond_expr.specs.Trees.{Tree, Filling, fill, fill_test}
+use Rattle.std.proofs.Common.{◌≡◌, map, take}
+use Rattle.cond_expr.specs.Trees.{fill, fill_test}
 use Rattle.cond_expr.specs.Seen.{tree, test}
 use Rattle.cond_expr.proofs.fills.+fill.Given as goal
 

@@ -1,0 +1,49 @@
+-- What the columns of a flat row hold, and which values are lawful.
+use Rattle.std.specs.Prelude.{ℕ, List, [], ◌∷◌, Bool, true, false, cond, ◌&&◌, ◌==◌, pos, ⊤}
+use Rattle.std.specs.Ordering.{is_eq}
+use Rattle.prima_base.specs.declared.values.Value.{Value}
+use Rattle.prima_base.specs.declared.values.Value.TheVariants.{Int, Text}
+use Rattle.prima_base.specs.declared.values.Val.{Val}
+use Rattle.prima_base.specs.declared.values.Val.TheVariants.{Int as ValInt, Slice, Own}
+use Rattle.prima_base.specs.Bytes.{IsTxt}
+use Rattle.prima_base.specs.Order.{bytes_cmp, shown}
+use Rattle.cond_expr.specs.declared.exprs.Whose.{Whose}
+use Rattle.cond_expr.specs.declared.exprs.Whose.TheVariants.{Free, Alias, Atom}
+use Rattle.cond_expr.specs.declared.exprs.Column.{Column}
+use Rattle.cond_expr.specs.Values.{Cells}
+
+abbrev pub same : List ℕ → List ℕ → Bool
+same a b = is_eq (bytes_cmp a b)
+
+-- the reference names this column
+abbrev pub names : Whose → List ℕ → Column → Bool
+names Free n c = false
+names (Alias a) n c = false
+names (Atom i) n c = (c.atom == i) && same n c.name
+
+-- what a reference stands for in one value a column: the first column that it names decides
+abbrev pub flat : List Column → List Val → Cells
+flat [] vs w n = Int (pos 0)
+flat (c ∷ cs) [] w n = Int (pos 0)
+flat (c ∷ cs) (v ∷ vs) w n = cond (names w n c) (shown v) (flat cs vs w n)
+
+-- an INT, or a TEXT of at most 4,096 bytes and no control byte
+abbrev pub IsLawful : Value → Type 0
+IsLawful (Int n) = ⊤
+IsLawful (Text t) = IsTxt t
+
+abbrev pub AreLawful : List Val → Type 0
+AreLawful [] = ⊤
+AreLawful (v ∷ vs) = IsLawful (shown v) × AreLawful vs
+
+-- a text that lies elsewhere
+abbrev pub is_borrowed : Val → Bool
+is_borrowed (ValInt n) = false
+is_borrowed (Slice s) = true
+is_borrowed (Own t) = false
+
+-- whether what a reference stands for is such a text
+abbrev pub lies_elsewhere : List Column → List Val → Whose → List ℕ → Bool
+lies_elsewhere [] vs w n = false
+lies_elsewhere (c ∷ cs) [] w n = false
+lies_elsewhere (c ∷ cs) (v ∷ vs) w n = cond (names w n c) (is_borrowed v) (lies_elsewhere cs vs w n)

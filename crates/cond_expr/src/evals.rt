@@ -1,0 +1,257 @@
+ghost use Rattle.std.specs.Prelude.{◌≡◌, ◌≤◌, ◌++◌, map, length, take, pos, IfOk, ℕ, List};
+ghost use Rattle.prima_base.specs.Bytes.{IsTxt};
+ghost use Rattle.prima_base.specs.Order.{shown};
+ghost use Rattle.cond_expr.specs.Trees.{column};
+ghost use Rattle.cond_expr.specs.Values.{value, texts, truth, all_true, some_true, bytes_of, agrees};
+ghost use Rattle.cond_expr.specs.Seen.{tree, test, trees_of, tests_of};
+ghost use Rattle.cond_expr.specs.Rows.{same, names, flat, IsLawful, AreLawful, is_borrowed, lies_elsewhere};
+ghost use Rattle.cond_expr.specs.declared.exprs.Whose.{Whose as WhoseColumn};
+
+use crate::{CmpOp, ColRef, Column, Cond, Expr, Whose};
+use prima_base::{Name, NoMemory, Txt, TxtFault, Val, Value};
+use std::alloc::Global;
+use std::cmp::Ordering;
+
+/// The most bytes that a text has.
+const MAX_TEXT: usize = 4096;
+
+fn same_name(a: &Name, b: &Name) -> bool
+    ensures { result ≡ same a.now b.now }
+{
+    a.bytes() == b.bytes()
+}
+
+// Whether the reference names this column.
+pub(crate) fn names(reference: &ColRef, column: &Column) -> bool
+    ensures { result ≡ names reference.now.whose reference.now.name column.now }
+{
+    match reference.whose {
+        Whose::Atom(atom) => column.atom == atom && same_name(&reference.name, &column.name),
+        Whose::Free | Whose::Alias(_) => false,
+    }
+}
+
+// The same value. What lies elsewhere stays there.
+fn again<'a>(v: &Val<'a>) -> Result<Val<'a>, NoMemory>
+    ensures value { IfOk result (λ w. shown w ≡ shown v.now) }
+    ensures borrowed { IfOk result (λ w. is_borrowed w ≡ is_borrowed v.now) }
+{
+    match v {
+        Val::Int(n) => Ok(Val::Int(*n)),
+        Val::Slice(bytes) => Ok(Val::Slice(bytes)),
+        Val::Own(text) => Ok(Val::Own(text.copy()?)),
+    }
+}
+
+// The constant.
+fn owned<'a>(constant: &Value) -> Result<Val<'a>, NoMemory>
+    ensures value { IfOk result (λ w. shown w ≡ constant.now) }
+    ensures lawful { IfOk result (λ w. IsLawful (shown w)) }
+{
+    match constant {
+        Value::Int(n) => Ok(Val::Int(*n)),
+        Value::Text(text) => {
+            let _lawful = text.bytes();
+            Ok(Val::Own(text.copy()?))
+        }
+    }
+}
+
+// The value of the first column that the reference names.
+fn look_up<'a>(
+    columns: &[Column],
+    values: &[Val<'a>],
+    reference: &ColRef,
+) -> Result<Val<'a>, NoMemory>
+    requires { AreLawful values.now }
+    ensures value { IfOk result (λ w. shown w ≡ flat columns.now values.now reference.now.whose reference.now.name) }
+    ensures lawful { IfOk result (λ w. IsLawful (shown w)) }
+    ensures borrowed { IfOk result (λ w. is_borrowed w ≡ lies_elsewhere columns.now values.now reference.now.whose reference.now.name) }
+{
+    match columns {
+        [] => Ok(Val::Int(0)),
+        [first, rest @ ..] => match values {
+            [] => Ok(Val::Int(0)),
+            [value, more @ ..] => {
+                if names(reference, first) {
+                    return again(value);
+                }
+                look_up(rest, more, reference)
+            }
+        },
+    }
+}
+
+// The bytes of a text, and none of a number.
+fn bytes_of<'v>(v: &'v Val<'_>) -> &'v [u8]
+    ensures { result.now ≡ bytes_of (shown v.now) }
+{
+    match v {
+        Val::Int(_) => &[],
+        Val::Slice(bytes) => bytes,
+        Val::Own(text) => text.bytes(),
+    }
+}
+
+fn byte_count(v: &Val<'_>) -> i64
+    ensures { result ≡ pos (length (bytes_of (shown v.now))) }
+{
+    match v {
+        Val::Int(_) => 0,
+        Val::Slice(bytes) => bytes.len() as i64,
+        Val::Own(text) => text.bytes().len() as i64,
+    }
+}
+
+// Appends what fits of a value's bytes.
+fn append(joined: &mut Vec<u8>, v: &Val<'_>) -> Result<(), NoMemory>
+    requires room { length joined.old.items ≤ 4096 }
+    requires text { IsTxt joined.old.items }
+    requires lawful { IsLawful (shown v.now) }
+    ensures bytes { IfOk result (λ _. joined.new.items ≡ take 4096 (joined.old.items ++ bytes_of (shown v.now))) }
+    ensures text { IfOk result (λ _. IsTxt joined.new.items) }
+{
+    let bytes = bytes_of(v);
+    let room = MAX_TEXT - joined.len();
+    let fits = room.min(bytes.len());
+    joined.extend_from_slice(&bytes[..fits])?;
+    Ok(())
+}
+
+// The text of lawful bytes.
+fn text_of(alloc: Global, bytes: &[u8]) -> Result<Txt, NoMemory>
+    requires { IsTxt bytes.now }
+    ensures { IfOk result (λ t. t ≡ bytes.now) }
+{
+    match Txt::new(alloc, bytes) {
+        Ok(text) => Ok(text),
+        Err(TxtFault::NoMemory) => Err(NoMemory),
+        Err(TxtFault::Long(_) | TxtFault::Control(_)) => unreachable!(),
+    }
+}
+
+fn decide(op: CmpOp, order: Ordering) -> bool
+    ensures { result ≡ agrees op order }
+{
+    match op {
+        CmpOp::Eq => order == Ordering::Equal,
+        CmpOp::Ne => order != Ordering::Equal,
+        CmpOp::Lt => order == Ordering::Less,
+        CmpOp::Le => order != Ordering::Greater,
+        CmpOp::Gt => order == Ordering::Greater,
+        CmpOp::Ge => order != Ordering::Less,
+    }
+}
+
+/// The value of an expression over one value a column. The value of a plain column stays borrowed
+/// where it was. A reference that names no column has the value 0.
+#[cycle(eval)]
+pub fn eval<'a>(
+    alloc: Global,
+    expr: &Expr,
+    columns: &[Column],
+    values: &[Val<'a>],
+) -> Result<Val<'a>, NoMemory>
+    requires { AreLawful values.now }
+    ensures value { IfOk result (λ v. shown v ≡ value (flat columns.now values.now) (tree expr.now)) }
+    ensures lawful { IfOk result (λ v. IsLawful (shown v)) }
+    ensures borrowed { IfOk result (λ v. (w : WhoseColumn) → (n : List ℕ) → tree expr.now ≡ column w n
+        → is_borrowed v ≡ lies_elsewhere columns.now values.now w n) }
+{
+    match expr {
+        Expr::Col(reference) => look_up(columns, values, reference),
+        Expr::Const(constant) => owned(constant),
+        Expr::Length(part) => {
+            let v = eval(alloc, part, columns, values)?;
+            Ok(Val::Int(byte_count(&v)))
+        }
+        Expr::Concat(parts) => Ok(Val::Own(join(alloc, parts, columns, values)?)),
+        Expr::Case(cond, first, second) => {
+            if holds(alloc, cond, columns, values)? {
+                return eval(alloc, first, columns, values);
+            }
+            eval(alloc, second, columns, values)
+        }
+    }
+}
+
+// The first bytes of the joined texts.
+#[cycle(eval)]
+fn join(
+    alloc: Global,
+    parts: &[Expr],
+    columns: &[Column],
+    values: &[Val<'_>],
+) -> Result<Txt, NoMemory>
+    requires { AreLawful values.now }
+    ensures value { IfOk result (λ t. t ≡ take 4096 (texts (flat columns.now values.now) (trees_of (map tree parts.now)))) }
+    ensures lawful { IfOk result (λ t. IsTxt t) }
+{
+    let mut joined = Vec::new(alloc);
+    for part in parts {
+        let v = eval(alloc, part, columns, values)?;
+        append(&mut joined, &v)?;
+    }
+    text_of(alloc, &joined)
+}
+
+/// Whether a condition holds over one value a column.
+#[cycle(eval)]
+pub fn holds(
+    alloc: Global,
+    cond: &Cond,
+    columns: &[Column],
+    values: &[Val<'_>],
+) -> Result<bool, NoMemory>
+    requires { AreLawful values.now }
+    ensures { IfOk result (λ b. b ≡ truth (flat columns.now values.now) (test cond.now)) }
+{
+    match cond {
+        Cond::False => Ok(false),
+        Cond::True => Ok(true),
+        Cond::Cmp(op, left, right) => {
+            let left = eval(alloc, left, columns, values)?;
+            let right = eval(alloc, right, columns, values)?;
+            Ok(decide(*op, left.compare(&right)))
+        }
+        Cond::And(parts) => all_hold(alloc, parts, columns, values),
+        Cond::Or(parts) => some_hold(alloc, parts, columns, values),
+        Cond::Not(part) => Ok(!holds(alloc, part, columns, values)?),
+    }
+}
+
+#[cycle(eval)]
+fn all_hold(
+    alloc: Global,
+    parts: &[Cond],
+    columns: &[Column],
+    values: &[Val<'_>],
+) -> Result<bool, NoMemory>
+    requires { AreLawful values.now }
+    ensures { IfOk result (λ b. b ≡ all_true (flat columns.now values.now) (tests_of (map test parts.now))) }
+{
+    for part in parts {
+        if !holds(alloc, part, columns, values)? {
+            return Ok(false);
+        }
+    }
+    Ok(true)
+}
+
+#[cycle(eval)]
+fn some_hold(
+    alloc: Global,
+    parts: &[Cond],
+    columns: &[Column],
+    values: &[Val<'_>],
+) -> Result<bool, NoMemory>
+    requires { AreLawful values.now }
+    ensures { IfOk result (λ b. b ≡ some_true (flat columns.now values.now) (tests_of (map test parts.now))) }
+{
+    for part in parts {
+        if holds(alloc, part, columns, values)? {
+            return Ok(true);
+        }
+    }
+    Ok(false)
+}

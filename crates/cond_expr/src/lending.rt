@@ -1,0 +1,30 @@
+ghost use Rattle.std.specs.Prelude.{◌≡◌, IfOk, map};
+ghost use Rattle.prima_base.specs.Order.{shown};
+ghost use Rattle.cond_expr.specs.Rows.{IsLawful, AreLawful};
+
+use prima_base::{NoMemory, Val, Value};
+use std::alloc::Global;
+
+/// The value, borrowed, and that it is lawful: a text of it has at most 4,096 bytes and no control
+/// byte. It takes no memory.
+pub fn lend(value: &Value) -> Val<'_>
+    ensures value { shown result ≡ value.now }
+    ensures lawful { IsLawful (shown result) }
+{
+    match value {
+        Value::Int(n) => Val::Int(*n),
+        Value::Text(text) => Val::Slice(text.bytes()),
+    }
+}
+
+/// The values of a row, borrowed, as `eval` and `holds` take them.
+pub fn lend_row<'a>(alloc: Global, row: &'a [Value]) -> Result<Vec<Val<'a>>, NoMemory>
+    ensures values { IfOk result (λ v. map shown v.items ≡ row.now) }
+    ensures lawful { IfOk result (λ v. AreLawful v.items) }
+{
+    let mut lent = Vec::with_capacity(alloc, row.len())?;
+    for value in row {
+        lent.push(lend(value))?;
+    }
+    Ok(lent)
+}
