@@ -1,12 +1,13 @@
--- What is found by looking at the first member.
-use Rattle.std.proofs.Common.{◌≡◌, ◌<◌, List, [], ◌∷◌, length, get_or, drop, sym, ◌∙◌, subst, arith, inl, inr}
-use Rattle.relations.specs.Sets.{In}
+-- The column with a name.
+use Rattle.std.proofs.Common.{◌≡◌, ℕ, ◌+◌, ◌<◌, false, List, [], ◌∷◌, length, get_or, drop, refl, sym, ap, ◌∙◌, arith, cond}
+use Rattle.std.specs.Ordering.{is_eq}
+use Rattle.std.proofs.lemmas.List.{drop_more}
+use Rattle.prima_base.specs.Order.{bytes_cmp}
+use Rattle.history_store.specs.Store.{Cell, Column, named}
 
-pub first_has : {X : Type 0} (z x : X) (xs : List X) → 0 < length xs → x ≡ get_or xs 0 x → x ≡ z → In z xs
-first_has z x [] h is e = absurd (omega arith)
-first_has z x (y ∷ xs) h is e = inl (sym is ∙ e)
-
-pub first_and_rest : {X : Type 0} (x : X) (xs ys : List X) → 0 < length xs → x ≡ get_or xs 0 x → In x ys → ((z : X) → In z (drop 1 xs) → In z ys) → (z : X) → In z xs → In z ys
-first_and_rest x [] ys h is i f z m = absurd m
-first_and_rest {X} x (y ∷ xs) ys h is i f z (inl e) = subst (λ (w : X). In w ys) (is ∙ e) i
-first_and_rest x (y ∷ xs) ys h is i f z (inr m) = f z m
+pub look_step : (name : List ℕ) (columns : List Column) (cells : List (List Cell)) (k : ℕ) (c : Column) → k < length columns → length cells ≡ length columns → c ≡ get_or columns k c → is_eq (bytes_cmp c.0 name) ≡ false
+    → named name (drop k columns) (drop k cells) ≡ named name (drop (k + 1) columns) (drop (k + 1) cells)
+look_step name columns cells k c h e is n =
+    let a : drop k columns ≡ c ∷ drop (k + 1) columns = drop_more columns k c h ∙ ap (λ (x : Column). x ∷ drop (k + 1) columns) (sym is) in
+    let b : drop k cells ≡ get_or cells k [] ∷ drop (k + 1) cells = drop_more cells k [] (omega (arith, e)) in
+    rw (a, b, n) refl

@@ -1,59 +1,81 @@
--- What a stamp writes, where rows are only gained.
-use Rattle.std.specs.Prelude.{◌≡◌, ℕ, ◌+◌, ◌<◌, List, [], ◌∷◌, ◌++◌, length, slice_index_or}
-use Rattle.relations.specs.Sets.{In, set_of}
+-- What a stamp writes: the lost rows hand their ids to the gained rows.
+use Rattle.std.specs.Prelude.{◌≡◌, ℕ, ◌+◌, ◌<◌, ◌&&◌, ◌==◌, Bool, List, [], ◌∷◌, ◌++◌, length, if◌then◌else◌}
 use Rattle.relations.specs.Spans.{Span, span, forever}
-use Rattle.prima_base.specs.Order.{row_cmp}
+use Rattle.prima_base.specs.Order.{value_eq}
 use Rattle.prima_base.specs.declared.values.Value.{Value}
-use Rattle.history_store.specs.Store.{Cell, Column, Store, rows_from, relation_at, IsRelation, AllBefore}
+use Rattle.history_store.specs.Store.{Cell, Column, Store, row_at, IsRelation, AllBefore}
+use Rattle.history_store.specs.Handing.{unpaired, handed, keys_handed, IsHandOver}
 
--- a change that was made ready: its stamp, the rows that it gains, and the ids behind it in the order of their rows
+-- a change that was made ready: its stamp, the ids of the lost rows, the gained rows, and the ids of the rows
+-- behind it in the order of their rows
 pub record Plan : Type 0 where
   pub stamp : ℕ
+  pub lost : List ℕ
   pub gained : List (List Value)
   pub after : List ℕ
 
+-- the entry of this id that still goes on
+abbrev pub goes_on : ℕ → Cell → Bool
+goes_on id c = c.id == id && c.period.end == forever
+
+abbrev pub ended : ℕ → Cell → Cell
+ended stamp c = record { id = c.id; value = c.value; period = span c.period.start stamp }
+
+abbrev pub begun : ℕ → Value → ℕ → Cell
+begun id v stamp = record { id = id; value = v; period = span stamp forever }
+
+-- a column's entries where the id has this value from the stamp on: an entry is added only where the value differs,
+-- and then the one that went on ends
+abbrev pub write : ℕ → Value → ℕ → List Cell → List Cell
+write id v stamp [] = begun id v stamp ∷ []
+write id v stamp (c ∷ cells) = if goes_on id c then (if value_eq c.value v then c ∷ cells else ended stamp c ∷ (begun id v stamp ∷ cells)) else c ∷ write id v stamp cells
+
+abbrev pub write_row : ℕ → List Value → ℕ → List (List Cell) → List (List Cell)
+write_row id row stamp [] = []
+write_row id [] stamp (c ∷ columns) = c ∷ columns
+write_row id (v ∷ row) stamp (c ∷ columns) = write id v stamp c ∷ write_row id row stamp columns
+
+-- the i-th row for the i-th id
+abbrev pub write_rows : List ℕ → List (List Value) → ℕ → List (List Cell) → List (List Cell)
+write_rows [] rows stamp columns = columns
+write_rows (id ∷ ids) [] stamp columns = columns
+write_rows (id ∷ ids) (row ∷ rows) stamp columns = write_rows ids rows stamp (write_row id row stamp columns)
+
+-- a column's entries where the id ends at the stamp
+abbrev pub close : ℕ → ℕ → List Cell → List Cell
+close id stamp [] = []
+close id stamp (c ∷ cells) = (if goes_on id c then ended stamp c else c) ∷ close id stamp cells
+
+abbrev pub close_each : List ℕ → ℕ → List Cell → List Cell
+close_each [] stamp cells = cells
+close_each (id ∷ ids) stamp cells = close_each ids stamp (close id stamp cells)
+
+abbrev pub close_all : List ℕ → ℕ → List (List Cell) → List (List Cell)
+close_all ids stamp [] = []
+close_all ids stamp (c ∷ columns) = close_each ids stamp c ∷ close_all ids stamp columns
+
+-- the keys and the entries that the change leads to
+abbrev pub keys_after : Store → Plan → List Span
+keys_after s p = keys_handed s.keys p.lost p.gained p.stamp
+
+abbrev pub cells_after : Store → Plan → List (List Cell)
+cells_after s p = close_all (unpaired p.lost p.gained) p.stamp (write_rows (handed p.lost (length s.keys) p.gained) p.gained p.stamp s.cells)
+
+-- the rows of these ids at the moment
+abbrev pub rows_along : List ℕ → ℕ → List (List Cell) → List (List Value)
+rows_along [] m columns = []
+rows_along (id ∷ ids) m columns = row_at id m columns ∷ rows_along ids m columns
+
 -- the relation that the change leads to
 unfoldable pub rows_after : Store → Plan → List (List Value)
-rows_after s p = set_of row_cmp (relation_at s p.stamp ++ p.gained)
+rows_after s p = rows_along p.after p.stamp (cells_after s p)
 
--- the rows of these ids
-abbrev pub rows_along : List ℕ → List (List Value) → List (List Value)
-rows_along [] rows = []
-rows_along (id ∷ ids) rows = slice_index_or rows id [] ∷ rows_along ids rows
-
--- the rows by id, with those that are gained behind them
-abbrev pub rows_by_id : Store → Plan → List (List Value)
-rows_by_id s p = rows_from 0 p.stamp s.keys s.cells ++ p.gained
-
--- the plan fits the store: its rows are rows of the columns that are not there, and its ids list the new relation
+-- the plan was made from the store's keys and entries
 pub record IsPlan (s : Store) (p : Plan) : Type 0 where
   pub before : AllBefore s p.stamp
   pub lawful : p.stamp < forever
-  pub relation : IsRelation s.columns p.gained
-  pub fresh : (row : List Value) → In row p.gained → In row (relation_at s p.stamp) → ⊥
-  pub known : (id : ℕ) → In id p.after → id < length (rows_by_id s p)
-  pub order : rows_along p.after (rows_by_id s p) ≡ rows_after s p
-
--- one key for each gained row, from the stamp on
-abbrev pub new_keys : ℕ → List (List Value) → List Span
-new_keys stamp [] = []
-new_keys stamp (row ∷ rows) = span stamp forever ∷ new_keys stamp rows
-
-abbrev pub keys_after : Store → Plan → List Span
-keys_after s p = s.keys ++ new_keys p.stamp p.gained
-
--- the columns' entries with those of a new id's row, which holds from the stamp on
-abbrev pub with_row : ℕ → ℕ → List Value → List (List Cell) → List (List Cell)
-with_row id stamp row [] = []
-with_row id stamp [] (cells ∷ columns) = cells ∷ columns
-with_row id stamp (v ∷ row) (cells ∷ columns) = (cells ++ record { id = id; value = v; period = span stamp forever } ∷ []) ∷ with_row id stamp row columns
-
-abbrev pub with_rows : ℕ → ℕ → List (List Value) → List (List Cell) → List (List Cell)
-with_rows id stamp [] columns = columns
-with_rows id stamp (row ∷ rows) columns = with_rows (id + 1) stamp rows (with_row id stamp row columns)
-
-abbrev pub cells_after : Store → Plan → List (List Cell)
-cells_after s p = with_rows (length s.keys) p.stamp p.gained s.cells
+  pub hands : IsHandOver s.keys (length s.columns) p.lost p.gained p.after
+  pub relation : IsRelation s.columns (rows_after s p)
 
 -- the columns without an entry
 abbrev pub no_cells : List Column → List (List Cell)

@@ -1,5 +1,12 @@
 pub mod Store
+pub mod Log
+pub mod Logs
+pub mod Chains
+pub mod ColumnFields
+pub mod Table
+pub mod Entries
+pub mod Handing
 pub mod Change
+pub mod TableFields
 pub mod Scans
-pub mod Fields
 pub mod ScanFields

@@ -1,14 +1,32 @@
--- The fields of a scan of a column, and of a table.
-use Rattle.std.specs.Prelude.{◌≡◌, ℕ, ◌<◌, ◌≤◌, List, [], length, drop, slice_index_or}
-use Rattle.history_store.specs.Store.{Cell}
-use Rattle.history_store.specs.Fields.{cells_from}
+-- The fields of a scan of a column.
+use Rattle.std.specs.Prelude.{◌≡◌, ℕ, ◌+◌, ◌<◌, ◌≤◌, List, [], ◌∷◌, ◌++◌, length, drop, slice_index_or}
+use Rattle.relations.specs.Spans.{Span}
+use Rattle.history_store.specs.declared.columns.Write.{Write}
 use Rattle.history_store.specs.declared.scans.CellScan.TheInside.{Inside as InsideScan}
+use Rattle.history_store.specs.Chains.{of_id, id_at, IsChain}
+use Rattle.history_store.specs.Entries.{with_ends, entries_from, Climbs, IsHistory}
+use Rattle.history_store.specs.Store.{Cell}
+use Rattle.history_store.specs.Table.{no_span}
+
+-- the entries of this id from a place on, and those of the ids behind it
+abbrev pub rest_of : ℕ → ℕ → List Span → List Write → List Cell
+rest_of id at [] cells = []
+rest_of id at (k ∷ keys) cells = with_ends k.end (of_id id (drop at cells)) ++ entries_from (id + 1) keys cells
+
+-- each write starts later than the one before it, and before the end
+abbrev pub Goes : ℕ → List Write → Type 0
+Goes to [] = Unit {0}
+Goes to (c ∷ cells) = Climbs c.start to cells
+
+pub record IsAt (id at : ℕ) (keys : List Span) (first next : List ℕ) (cells : List Write) : Type 0 where
+  pub chain : IsChain first next cells
+  pub each : length first ≡ length keys
+  pub history : IsHistory keys cells
+  pub within : id ≤ length keys
+  pub here : id < length keys → (at < length cells) × (id_at cells at ≡ id) × Goes (slice_index_or keys id no_span).end (of_id id (drop at cells))
 
 abbrev pub cells_left : InsideScan → List Cell
-cells_left a = cells_from a.column a.at (drop a.at a.keys.now) (drop a.at a.rows.now)
+cells_left a = rest_of a.id a.at (drop a.id a.keys.now) a.cells.now
 
--- each row has a value of the column
-pub record IsCellScan (a : InsideScan) : Type 0 where
-  pub paired : length a.rows.now ≡ length a.keys.now
-  pub within : a.at ≤ length a.keys.now
-  pub wide : (id : ℕ) → id < length a.rows.now → a.column < length (slice_index_or a.rows.now id [])
+abbrev pub IsCellScan : InsideScan → Type 0
+IsCellScan a = IsAt a.id a.at a.keys.now a.first.now a.next.now a.cells.now

@@ -1,4 +1,5 @@
-use prima_base::{Period, Row, Steps, Val};
+use crate::columns::Write;
+use prima_base::{Period, Steps, Val};
 use std::marker::Model;
 use std::sync::ledger::Ledger;
 
@@ -37,7 +38,7 @@ impl<'a> Model for KeyScan<'a> {
 }
 
 impl<'a> KeyScan<'a> {
-    ghost use Rattle.std.specs.Prelude.{◌≡◌, ◌+◌, ◌++◌, [], length, IfNone, option_to_list};
+    ghost use Rattle.std.specs.Prelude.{◌≡◌, ◌+◌, ◌++◌, [], ◌∷◌, length, IfNone, option_to_list};
     ghost use Rattle.history_store.specs.Scans.{keys_from};
 
     /// A scan of these keys from the first on.
@@ -66,12 +67,14 @@ impl<'a> KeyScan<'a> {
     }
 }
 
-/// The entries of a column that are left, by id.
+/// The entries of a column that are left, by id and start.
 #[derive(Drop)]
 pub struct CellScan<'a> {
     keys: &'a [Period],
-    rows: &'a [Row],
-    column: usize,
+    cells: &'a [Write],
+    first: &'a [usize],
+    next: &'a [usize],
+    id: usize,
     at: usize,
 }
 
@@ -88,22 +91,54 @@ impl<'a> Model for CellScan<'a> {
     ghost invariant = { IsCellScan };
 }
 
-impl<'a> CellScan<'a> {
-    ghost use Rattle.std.specs.Prelude.{◌≡◌, ℕ, ◌<◌, ◌+◌, ◌++◌, [], length, IfNone, option_to_list, option_map, slice_index_or};
-    ghost use Rattle.history_store.specs.Scans.{seen_cell};
-    ghost use Rattle.history_store.specs.Fields.{cells_from};
+// The period from the start up to the end.
+fn period_of(start: u64, end: u64) -> Period
+    requires { start < end }
+    ensures { result ≡ record { start = start; end = end } }
+{
+    let Some(period) = Period::new(start, end) else {
+        unreachable!();
+    };
+    period
+}
 
-    /// A scan of the column at this place, from the first id on.
-    pub(crate) fn over(keys: &'a [Period], rows: &'a [Row], column: usize) -> CellScan<'a>
-        requires paired { length rows.now ≡ length keys.now }
-        requires wide { (id : ℕ) → id < length rows.now → column < length (slice_index_or rows.now id []) }
-        ensures { result ≡ cells_from column 0 keys.now rows.now }
+ghost use Rattle.std.specs.Prelude.{◌≡◌, ◌<◌, length, slice_index_or, [], ◌∷◌, IfSome, option_map, Option, MatchBool, ◌≢◌};
+
+// The place that stands for this id, and 0 where there is none.
+fn first_of(first: &[usize], id: usize) -> usize
+    ensures { result ≡ slice_index_or first.now id 0 }
+{
+    match first.get(id) {
+        Some(at) => *at,
+        None => 0,
+    }
+}
+
+impl<'a> CellScan<'a> {
+    ghost use Rattle.std.specs.Prelude.{◌≡◌, ◌+◌, ◌++◌, [], ◌∷◌, length, IfNone, option_to_list, option_map};
+    ghost use Rattle.history_store.specs.Chains.{IsChain};
+    ghost use Rattle.history_store.specs.Entries.{entries_from, IsHistory};
+    ghost use Rattle.history_store.specs.Scans.{seen_cell};
+
+    /// A scan of these writes, which are those of the keys, from the first id on.
+    pub(crate) fn over(
+        keys: &'a [Period],
+        cells: &'a [Write],
+        first: &'a [usize],
+        next: &'a [usize],
+    ) -> CellScan<'a>
+        requires ids { length first.now ≡ length keys.now }
+        requires history { IsHistory keys.now cells.now }
+        requires chain { IsChain first.now next.now cells.now }
+        ensures { result ≡ entries_from 0 keys.now cells.now }
     {
         CellScan {
             keys,
-            rows,
-            column,
-            at: 0,
+            cells,
+            first,
+            next,
+            id: 0,
+            at: first_of(first, 0),
         }
     }
 
@@ -113,17 +148,29 @@ impl<'a> CellScan<'a> {
         ensures all { IfNone result (self.old ≡ []) }
         ensures cost { steps.new ≡ steps.old + length (option_to_list result) }
     {
-        if self.at == self.rows.len() {
+        if self.id == self.keys.len() {
             return None;
         }
         steps.tick();
-        let at = self.at;
-        self.at += 1;
-        let row = &self.rows[at];
+        let cell = &self.cells[self.at];
+        let id = cell.id as u64;
+        let next = self.next[self.at];
+        if next != 0 {
+            self.at = next;
+            let period = period_of(cell.start, self.cells[next].start);
+            return Some(CellEntry {
+                id,
+                value: cell.value.lend(),
+                period,
+            });
+        }
+        let period = period_of(cell.start, self.keys[self.id].end());
+        self.id += 1;
+        self.at = first_of(self.first, self.id);
         Some(CellEntry {
-            id: at as u64,
-            value: row.values()[self.column].lend(),
-            period: self.keys[at],
+            id,
+            value: cell.value.lend(),
+            period,
         })
     }
 }

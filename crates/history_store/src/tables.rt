@@ -1,36 +1,39 @@
+use crate::changes::{carry_out, empty_columns, reserve_all};
+use crate::columns::Column;
 use crate::scans::{CellScan, KeyScan};
-use crate::walks::{copy_columns, copy_rows, order_rows, place_of, put_rows};
+use crate::walks::{column_place, copy_columns, copy_rows, lost_ids, next_ids, place_of};
 use prima_base::{ColType, Name, NoMemory, Period, Row};
 use std::alloc::Global;
 use std::marker::Model;
 
-/// The history of one table. An id is a place among the keys and among the rows.
+/// The history of one table. An id is a place among the keys; `live` has the ids of the current rows in the
+/// order of their rows.
 #[derive(Drop)]
 pub struct StoredTable {
     alloc: Global,
     columns: Vec<(Name, ColType)>,
     keys: Vec<Period>,
-    rows: Vec<Row>,
+    logs: Vec<Column>,
     live: Vec<usize>,
 }
 
 impl Model for StoredTable {
-    ghost use Rattle.std.specs.Prelude.{min, ◌-◌, vec_len, vec_capacity};
     ghost use Rattle.history_store.specs.Store.{Store};
-    ghost use Rattle.history_store.specs.Fields.{store_of, IsStored};
 
     ghost Value = { Store };
 
-    ghost view = { λ t. store_of t.columns.items t.keys.items t.rows.items
-        (min (vec_capacity t.keys - vec_len t.keys) (vec_capacity t.rows - vec_len t.rows)) };
+    ghost use Rattle.history_store.specs.TableFields.{table_view, IsTable};
 
-    ghost invariant = { λ t. IsStored t.columns.items t.keys.items t.rows.items t.live.items };
+    ghost view = { table_view };
+
+    ghost invariant = { IsTable };
 }
 
 /// A change that was made ready: it is installed into the table that prepared it.
 #[derive(Drop)]
 pub struct Prepared {
     stamp: u64,
+    lost: Vec<usize>,
     gained: Vec<Row>,
     after: Vec<usize>,
 }
@@ -40,16 +43,18 @@ impl Model for Prepared {
 
     ghost Value = { Plan };
 
-    ghost view = { λ p. record { stamp = p.stamp; gained = p.gained.items; after = p.after.items } };
+    ghost view = { λ p. record { stamp = p.stamp; lost = p.lost.items; gained = p.gained.items; after = p.after.items } };
 }
 
 impl StoredTable {
-    ghost use Rattle.std.specs.Prelude.{◌≡◌, ℕ, ◌+◌, ◌<◌, ◌≤◌, List, [], length, IfOk, option_map};
-    ghost use Rattle.relations.specs.Sets.{In};
+    ghost use Rattle.std.specs.Prelude.{◌≡◌, ℕ, ◌+◌, ◌-◌, ◌<◌, ◌≤◌, List, [], length, IfOk, option_map, slice_index_or};
+    ghost use Rattle.relations.specs.Sets.{In, has};
     ghost use Rattle.relations.specs.Spans.{forever};
+    ghost use Rattle.prima_base.specs.Order.{row_cmp};
     ghost use Rattle.prima_base.specs.declared.values.Value.{Value};
     ghost use Rattle.history_store.specs.Store.{Store, relation_at, IsRelation, AreColumns, AllBefore, IsStore, column_of};
-    ghost use Rattle.history_store.specs.Change.{Plan, IsPlan, rows_after, new_keys, keys_after, with_rows, cells_after, no_cells};
+    ghost use Rattle.history_store.specs.Handing.{new_keys, handed, only_in, cells_added};
+    ghost use Rattle.history_store.specs.Change.{Plan, IsPlan, rows_after, rows_along, keys_after, cells_after, write_rows, no_cells};
     ghost use Rattle.history_store.specs.Scans.{keys_from};
 
     /// A table of these columns, which stand in the order of their names: from the stamp on its relation
@@ -65,7 +70,7 @@ impl StoredTable {
         requires relation { IsRelation columns.now rows.now }
         ensures columns { IfOk result (λ t. t.columns ≡ columns.now) }
         ensures keys { IfOk result (λ t. t.keys ≡ new_keys stamp rows.now) }
-        ensures cells { IfOk result (λ t. t.cells ≡ with_rows 0 stamp rows.now (no_cells columns.now)) }
+        ensures cells { IfOk result (λ t. t.cells ≡ write_rows (handed [] 0 rows.now) rows.now stamp (no_cells columns.now)) }
         ensures before { (m : ℕ) → m < stamp → IfOk result (λ t. relation_at t m ≡ []) }
         ensures from { (m : ℕ) → stamp ≤ m → m < forever → IfOk result (λ t. relation_at t m ≡ rows.now) }
         ensures later { (m : ℕ) → stamp < m → IfOk result (λ t. AllBefore t m) }
@@ -74,7 +79,7 @@ impl StoredTable {
             alloc,
             columns: copy_columns(alloc, columns)?,
             keys: Vec::new(alloc),
-            rows: Vec::new(alloc),
+            logs: empty_columns(alloc, columns.len())?,
             live: Vec::new(alloc),
         };
         let prepared = table.prepare(stamp, rows)?;
@@ -82,26 +87,39 @@ impl StoredTable {
         Ok(table)
     }
 
-    /// Makes the change to these rows ready, and all the room that installing it needs, in one walk along
-    /// the current rows and these. `rows` has all current rows, and each stamp in the table is before this
-    /// one. What the table stands for stays as it is. The one error is `NoMemory`, where memory runs out.
+    /// Makes the change to these rows ready, and all the room that installing it needs, by walks along the
+    /// current rows and these. Each stamp in the table is before this one. What the table stands for stays as
+    /// it is. The one error is `NoMemory`, where memory runs out.
     pub fn prepare(&mut self, stamp: u64, rows: &[Row]) -> Result<Prepared, NoMemory>
         requires before { AllBefore self.old stamp }
         requires lawful { stamp < forever }
         requires relation { IsRelation self.old.columns rows.now }
-        requires grows { (row : List Value) → In row (relation_at self.old stamp) → In row rows.now }
         ensures same { self.new ≡ record self.old { spare = self.new.spare } }
         ensures stamp { IfOk result (λ p. p.stamp ≡ stamp) }
         ensures fits { IfOk result (λ p. IsPlan self.new p) }
+        ensures lost { IfOk result (λ p. rows_along p.lost stamp self.old.cells ≡ only_in (relation_at self.old stamp) rows.now) }
+        ensures gained { IfOk result (λ p. p.gained ≡ only_in rows.now (relation_at self.old stamp)) }
         ensures leads { IfOk result (λ p. rows_after self.new p ≡ rows.now) }
         ensures room { IfOk result (λ p. length p.gained ≤ self.new.spare) }
         ensures spare { self.old.spare ≤ self.new.spare }
     {
-        let (after, gained) = order_rows(self.alloc, &self.rows, &self.live, rows)?;
+        if self.keys.len().checked_add(rows.len()).is_none() {
+            return Err(NoMemory);
+        }
+        let lost = lost_ids(self.alloc, &self.logs, &self.live, rows)?;
+        let (after, gained) = next_ids(
+            self.alloc,
+            &self.logs,
+            &self.live,
+            &lost,
+            self.keys.len(),
+            rows,
+        )?;
         self.keys.reserve(gained.len())?;
-        self.rows.reserve(gained.len())?;
+        reserve_all(&mut self.logs, gained.len())?;
         Ok(Prepared {
             stamp,
+            lost,
             gained,
             after,
         })
@@ -115,16 +133,20 @@ impl StoredTable {
         ensures columns { self.new.columns ≡ self.old.columns }
         ensures keys { self.new.keys ≡ keys_after self.old prepared }
         ensures cells { self.new.cells ≡ cells_after self.old prepared }
+        ensures key_count { length self.new.keys ≡ length self.old.keys + (length prepared.gained - length prepared.lost) }
+        ensures cell_count { (k : ℕ) → k < length self.old.columns → length (slice_index_or self.new.cells k [])
+            ≡ length (slice_index_or self.old.cells k []) + cells_added k (rows_along prepared.lost prepared.stamp self.old.cells) prepared.gained }
         ensures before { (m : ℕ) → m < prepared.stamp → relation_at self.new m ≡ relation_at self.old m }
         ensures from { (m : ℕ) → prepared.stamp ≤ m → m < forever → relation_at self.new m ≡ rows_after self.old prepared }
         ensures later { (m : ℕ) → prepared.stamp < m → AllBefore self.new m }
     {
         let Prepared {
             stamp,
+            lost,
             gained,
             after,
         } = prepared;
-        put_rows(&mut self.keys, &mut self.rows, gained, stamp);
+        carry_out(&mut self.keys, &mut self.logs, &lost, gained, stamp);
         self.live = after;
     }
 
@@ -133,7 +155,20 @@ impl StoredTable {
         ensures rows { (m : ℕ) → m < forever → AllBefore self.now (m + 1) → IfOk result (λ rows. rows.items ≡ relation_at self.now m) }
         ensures relation { IfOk result (λ rows. IsRelation self.now.columns rows.items) }
     {
-        copy_rows(self.alloc, &self.rows, &self.live)
+        copy_rows(self.alloc, &self.logs, &self.live)
+    }
+
+    /// Whether the table has this row now, found by binary search. It takes no memory.
+    pub fn holds(&self, row: &Row) -> bool
+        ensures { (m : ℕ) → m < forever → AllBefore self.now (m + 1) → result ≡ has row_cmp row.now (relation_at self.now m) }
+    {
+        if row.values().len() != self.columns.len() {
+            return false;
+        }
+        match place_of(&self.logs, &self.live, row.values()) {
+            Ok(_) => true,
+            Err(_) => false,
+        }
     }
 
     /// A scan of the keys, ascending by id. It takes no memory.
@@ -144,14 +179,14 @@ impl StoredTable {
         KeyScan::over(&self.keys)
     }
 
-    /// A scan of the entries of the column with this name, ascending by id: `None` exactly where the
+    /// A scan of the entries of the column with this name, ascending by id and start: `None` exactly where the
     /// table has no such column. It takes no memory.
     pub fn scan_column(&self, name: &Name) -> Option<CellScan<'_>>
         ensures entries { result ≡ column_of self.now name.now }
         ensures lawful { IsStore self.now }
     {
-        match place_of(&self.columns, name) {
-            Some(column) => Some(CellScan::over(&self.keys, &self.rows, column)),
+        match column_place(&self.columns, name) {
+            Some(column) => Some(self.logs[column].scan(&self.keys)),
             None => None,
         }
     }
@@ -167,8 +202,8 @@ impl StoredTable {
     pub fn entries(&self, name: &Name) -> Option<u64>
         ensures { result ≡ option_map length (column_of self.now name.now) }
     {
-        match place_of(&self.columns, name) {
-            Some(_) => Some(self.keys()),
+        match column_place(&self.columns, name) {
+            Some(column) => Some(self.logs[column].count() as u64),
             None => None,
         }
     }

@@ -3,7 +3,7 @@ ghost use Rattle.relations.specs.Sets.{In, BeforeAll, Ascends};
 ghost use Rattle.relations.specs.Spans.{forever};
 ghost use Rattle.prima_base.specs.Order.{row_cmp, bytes_cmp};
 ghost use Rattle.prima_base.specs.declared.values.Value.{Value as OneValue};
-ghost use Rattle.history_store.specs.Store.{IsRow, IsRelation, AreColumns, AllBefore, relation_at, has_type};
+ghost use Rattle.history_store.specs.Store.{IsRow, IsRelation, AreColumns, AllBefore, names_of, has_type};
 
 use super::*;
 use prima_base::{ColType, FOREVER, Name, NoMemory, Row, Steps, Txt, Val, Value};
@@ -70,24 +70,6 @@ fn is_relation(columns: &[(Name, ColType)], rows: &[Row]) -> bool
     ascends(rows) && are_rows(columns, rows)
 }
 
-fn has(row: &Row, rows: &[Row]) -> bool
-    ensures { IsTrue result → In row.now rows.now }
-{
-    match rows {
-        [] => false,
-        [next, rest @ ..] => next.cmp(row).is_eq() || has(row, rest),
-    }
-}
-
-fn has_all(rows: &[Row], later: &[Row]) -> bool
-    ensures { IsTrue result → (row : List OneValue) → In row rows.now → In row later.now }
-{
-    match rows {
-        [] => true,
-        [row, rest @ ..] => has(row, later) && has_all(rest, later),
-    }
-}
-
 // The two columns of the tests.
 fn stock_columns(alloc: Global, item: &Name, stock: &Name) -> Result<Vec<(Name, ColType)>, NoMemory>
     requires { bytes_cmp item.now stock.now ≡ Ordering.Less }
@@ -110,18 +92,59 @@ fn stock_rows(alloc: Global, items: &[(&str, i64)]) -> Result<Vec<Row>, Fail> {
     Ok(rows)
 }
 
-fn grow(table: &mut StoredTable, stamp: u64, rows: &[Row]) -> Result<(), NoMemory>
-    requires before { AllBefore table.old stamp }
-    requires lawful { stamp < forever }
-    requires relation { IsRelation table.old.columns rows.now }
-    requires grows { (row : List OneValue) → In row (relation_at table.old stamp) → In row rows.now }
-    ensures columns { table.new.columns ≡ table.old.columns }
-    ensures from { IfOk result (λ _. (m : ℕ) → stamp ≤ m → m < forever → relation_at table.new m ≡ rows.now) }
-    ensures later { IfOk result (λ _. (m : ℕ) → stamp < m → AllBefore table.new m) }
+// From the stamp on the relation is `rows`, where they are one and the stamp is behind the last.
+fn change(
+    table: &mut StoredTable,
+    columns: &[(Name, ColType)],
+    last: u64,
+    stamp: u64,
+    rows: &[Row],
+) -> bool
+    requires columns { table.old.columns ≡ columns.now }
+    requires later { (m : ℕ) → last < m → AllBefore table.old m }
+    ensures columns { table.new.columns ≡ columns.now }
+    ensures later { IsTrue result → (m : ℕ) → stamp < m → AllBefore table.new m }
 {
-    let prepared = table.prepare(stamp, rows)?;
-    table.install(prepared);
-    Ok(())
+    if stamp <= last || stamp == FOREVER {
+        return false;
+    }
+    if !is_relation(columns, rows) {
+        return false;
+    }
+    match table.prepare(stamp, rows) {
+        Ok(prepared) => {
+            table.install(prepared);
+            true
+        }
+        Err(NoMemory) => false,
+    }
+}
+
+// A table that goes through these stages.
+fn history_of(
+    alloc: Global,
+    columns: &[(Name, ColType)],
+    stages: &[(u64, Vec<Row>)],
+) -> Option<StoredTable>
+    requires { AreColumns columns.now }
+{
+    let [(first, rows), rest @ ..] = stages else {
+        return None;
+    };
+    if *first == FOREVER || !is_relation(columns, rows) {
+        return None;
+    }
+    let Ok(mut table) = StoredTable::new(alloc, columns, *first, rows) else {
+        return None;
+    };
+    let mut last = *first;
+    for (stamp, rows) in rest {
+        if !change(&mut table, columns, last, *stamp, rows) {
+            return None;
+        }
+        last = *stamp;
+    }
+    Some(table)
 }
 
 fn keys_are_by<L: Ledger>(table: &StoredTable, wanted: &[(u64, u64, u64)], blank: Blank) -> bool
@@ -147,7 +170,7 @@ fn keys_are_by<L: Ledger>(table: &StoredTable, wanted: &[(u64, u64, u64)], blank
 fn cells_are_by<L: Ledger>(
     table: &StoredTable,
     name: &Name,
-    wanted: &[(u64, Val<'_>, u64)],
+    wanted: &[(u64, Val<'_>, u64, u64)],
     blank: Blank,
 ) -> bool
     requires name { blank.name ≡ L.name }
@@ -158,13 +181,13 @@ fn cells_are_by<L: Ledger>(
     let Some(mut scan) = table.scan_column(name) else {
         return false;
     };
-    for (id, value, start) in wanted {
+    for (id, value, start, end) in wanted {
         match scan.next_cell(&mut steps) {
             Some(cell) => {
                 if cell.id != *id || cell.value.compare(value) != Ordering::Equal {
                     return false;
                 }
-                if cell.period.start() != *start || cell.period.end() != FOREVER {
+                if cell.period.start() != *start || cell.period.end() != *end {
                     return false;
                 }
             }
@@ -178,57 +201,8 @@ fn keys_are(table: &StoredTable, wanted: &[(u64, u64, u64)]) -> bool {
     keys_are_by::<Brand>(table, wanted, Blank::new(1))
 }
 
-fn cells_are(table: &StoredTable, name: &Name, wanted: &[(u64, Val<'_>, u64)]) -> bool {
+fn cells_are(table: &StoredTable, name: &Name, wanted: &[(u64, Val<'_>, u64, u64)]) -> bool {
     cells_are_by::<Brand>(table, name, wanted, Blank::new(1))
-}
-
-// From 5 on the rows are the first, from 7 on the second, from 9 on the third.
-fn three_stages(
-    alloc: Global,
-    columns: &[(Name, ColType)],
-    first: &[Row],
-    second: &[Row],
-    third: &[Row],
-) -> Result<StoredTable, NoMemory>
-    requires columns { AreColumns columns.now }
-    requires first { IsRelation columns.now first.now }
-    requires second { IsRelation columns.now second.now }
-    requires third { IsRelation columns.now third.now }
-    requires second_grows { (row : List OneValue) → In row first.now → In row second.now }
-    requires third_grows { (row : List OneValue) → In row second.now → In row third.now }
-{
-    let mut table = StoredTable::new(alloc, columns, 5, first)?;
-    grow(&mut table, 7, second)?;
-    grow(&mut table, 9, third)?;
-    Ok(table)
-}
-
-// Those stages, where they are relations that grow.
-fn history_of(
-    alloc: Global,
-    columns: &[(Name, ColType)],
-    first: &[Row],
-    second: &[Row],
-    third: &[Row],
-) -> Option<StoredTable>
-    requires { AreColumns columns.now }
-{
-    if !is_relation(columns, first) {
-        return None;
-    }
-    if !is_relation(columns, second) {
-        return None;
-    }
-    if !is_relation(columns, third) {
-        return None;
-    }
-    if !has_all(first, second) {
-        return None;
-    }
-    if !has_all(second, third) {
-        return None;
-    }
-    three_stages(alloc, columns, first, second, third).ok()
 }
 
 fn rows_are(rows: &[Row], wanted: &[Row]) -> bool {
@@ -239,8 +213,33 @@ fn rows_are(rows: &[Row], wanted: &[Row]) -> bool {
             .all(|(row, other)| row.cmp(other).is_eq())
 }
 
+// The stages of a table: at stamp 0, then one row gained, one lost, two times a value of one column that
+// differs (the second brings the first back), more lost than gained, more gained than lost, all lost, and one
+// row that was there before.
+const STAGES: &[(u64, &[(&str, i64)])] = &[
+    (0, &[("a", 1), ("b", 2)]),
+    (3, &[("a", 1), ("b", 2), ("c", 3)]),
+    (5, &[("a", 1), ("c", 3)]),
+    (6, &[("a", 1), ("c", 9)]),
+    (7, &[("a", 1), ("c", 3)]),
+    (8, &[("b", 1)]),
+    (9, &[("a", 5), ("c", 1), ("d", 1)]),
+    (10, &[]),
+    (12, &[("a", 5)]),
+];
+
+// The keys behind them, by id: the ids of lost rows without a partner are not used again.
+const KEYS: &[(u64, u64, u64)] = &[
+    (0, 0, 10),
+    (1, 0, 5),
+    (2, 3, 8),
+    (3, 9, 10),
+    (4, 9, 10),
+    (5, 12, FOREVER),
+];
+
 #[test]
-fn keeps_what_was_gained(rt: HostRuntime) -> Result<(), Fail> {
+fn hands_ids_on(rt: HostRuntime) -> Result<(), Fail> {
     let alloc = rt.alloc();
     let item = Name::new(alloc, b"item").map_err(|_| "name")?;
     let stock = Name::new(alloc, b"stock").map_err(|_| "name")?;
@@ -248,43 +247,51 @@ fn keeps_what_was_gained(rt: HostRuntime) -> Result<(), Fail> {
     assert!(rt; item.cmp(&stock).is_lt());
     let columns = stock_columns(alloc, &item, &stock).map_err(|_| "memory")?;
 
-    let first = stock_rows(alloc, &[("ant", 3), ("bee", 1)])?;
-    let second = stock_rows(alloc, &[("ant", 3), ("ant", 9), ("bee", 1), ("cat", 0)])?;
-    let third = stock_rows(
-        alloc,
-        &[("", -1), ("ant", 3), ("ant", 9), ("bee", 1), ("cat", 0)],
-    )?;
-    let table = history_of(alloc, &columns, &first, &second, &third).ok_or("no history")?;
+    let mut stages = Vec::new(alloc);
+    for (stamp, rows) in STAGES {
+        stages
+            .push((*stamp, stock_rows(alloc, rows)?))
+            .map_err(|_| "memory")?;
+    }
+    let table = history_of(alloc, &columns, &stages).ok_or("no history")?;
 
-    let keys = [
-        (0, 5, FOREVER),
-        (1, 5, FOREVER),
-        (2, 7, FOREVER),
-        (3, 7, FOREVER),
-        (4, 9, FOREVER),
-    ];
     let items = [
-        (0, Val::Slice(b"ant"), 5),
-        (1, Val::Slice(b"bee"), 5),
-        (2, Val::Slice(b"ant"), 7),
-        (3, Val::Slice(b"cat"), 7),
-        (4, Val::Slice(b""), 9),
+        (0, Val::Slice(b"a"), 0, 8),
+        (0, Val::Slice(b"b"), 8, 9),
+        (0, Val::Slice(b"a"), 9, 10),
+        (1, Val::Slice(b"b"), 0, 5),
+        (2, Val::Slice(b"c"), 3, 8),
+        (3, Val::Slice(b"c"), 9, 10),
+        (4, Val::Slice(b"d"), 9, 10),
+        (5, Val::Slice(b"a"), 12, FOREVER),
     ];
     let stocks = [
-        (0, Val::Int(3), 5),
-        (1, Val::Int(1), 5),
-        (2, Val::Int(9), 7),
-        (3, Val::Int(0), 7),
-        (4, Val::Int(-1), 9),
+        (0, Val::Int(1), 0, 9),
+        (0, Val::Int(5), 9, 10),
+        (1, Val::Int(2), 0, 5),
+        (2, Val::Int(3), 3, 6),
+        (2, Val::Int(9), 6, 7),
+        (2, Val::Int(3), 7, 8),
+        (3, Val::Int(1), 9, 10),
+        (4, Val::Int(1), 9, 10),
+        (5, Val::Int(5), 12, FOREVER),
     ];
-    assert!(rt; keys_are(&table, &keys));
+    assert!(rt; keys_are(&table, KEYS));
     assert!(rt; cells_are(&table, &item, &items));
     assert!(rt; cells_are(&table, &stock, &stocks));
-    assert_eq!(rt; table.keys(), 5);
-    assert_eq!(rt; table.entries(&stock), Some(5));
+    assert_eq!(rt; table.keys(), 6);
+    assert_eq!(rt; table.entries(&item), Some(8));
+    assert_eq!(rt; table.entries(&stock), Some(9));
     assert!(rt; table.scan_column(&price).is_none());
     assert!(rt; table.entries(&price).is_none());
     let now = table.current().map_err(|_| "memory")?;
-    assert!(rt; rows_are(&now, &third));
+    let rows = stock_rows(alloc, &[("a", 5)])?;
+    assert!(rt; rows_are(&now, &rows));
+    for row in &rows {
+        assert!(rt; table.holds(row));
+    }
+    for row in &stock_rows(alloc, &[("a", 1), ("b", 5)])? {
+        assert!(rt; !table.holds(row));
+    }
     Ok(())
 }

@@ -1,14 +1,18 @@
-ghost use Rattle.std.specs.Prelude.{◌≡◌, ℕ, ◌<◌, ◌≤◌, ◌+◌, ◌++◌, List, length, drop, IfOk, IfSome, option_map, vec_len, vec_capacity};
-ghost use Rattle.relations.specs.Sets.{In, Ascends};
-ghost use Rattle.relations.specs.Spans.{Span, forever};
+ghost use Rattle.std.specs.Prelude.{IfSome, option_map, List};
+ghost use Rattle.history_store.specs.declared.columns.Write.{Write as OneWrite};
+ghost use Rattle.history_store.specs.Store.{Cell, named};
+ghost use Rattle.std.specs.Prelude.{◌≡◌, [], slice_index, IfErr, vec_len, vec_capacity, ◌⊎◌, ◌+◌, ◌^◌, ◌<◌, ◌≤◌, drop, length, All, slice_index_or, IfOk};
+ghost use Rattle.history_store.specs.Logs.{cells_of};
+ghost use Rattle.history_store.specs.Log.{Log};
 ghost use Rattle.prima_base.specs.Order.{row_cmp};
-ghost use Rattle.prima_base.specs.declared.values.Value.{Value};
-ghost use Rattle.history_store.specs.Store.{named};
-ghost use Rattle.history_store.specs.Change.{rows_along, new_keys};
-ghost use Rattle.history_store.specs.Fields.{cells_from, all_cells, is_first};
+ghost use Rattle.relations.specs.Sets.{Ascends, In};
+ghost use Rattle.history_store.specs.Table.{row_now, rows_of};
+ghost use Rattle.history_store.specs.Handing.{lost_ids, first_order, id_order, after_ids, gained_rows, id_by, lost_by, next_by, AllWidth};
 
-use prima_base::{ColType, Name, NoMemory, Period, Row};
+use crate::columns::Column;
+use prima_base::{ColType, Name, NoMemory, Row, Value};
 use std::alloc::Global;
+use std::cmp::Ordering;
 
 /// Equal columns.
 pub fn copy_columns(
@@ -25,10 +29,10 @@ pub fn copy_columns(
 }
 
 /// The place of the column with this name.
-pub fn place_of(columns: &[(Name, ColType)], name: &Name) -> Option<usize>
+pub fn column_place(columns: &[(Name, ColType)], name: &Name) -> Option<usize>
     ensures within { IfSome result (λ k. k < length columns.now) }
-    ensures place { (keys : List Span) (rows : List (List Value)) → named name.now columns.now (all_cells 0 columns.now keys rows)
-        ≡ option_map (λ k. cells_from k 0 keys rows) result }
+    ensures place { (cells : List (List Cell)) → length cells ≡ length columns.now
+        → named name.now columns.now cells ≡ option_map (λ k. slice_index_or cells k []) result }
 {
     for (k, column) in columns.iter().enumerate() {
         if column.0.cmp(name).is_eq() {
@@ -38,77 +42,212 @@ pub fn place_of(columns: &[(Name, ColType)], name: &Name) -> Option<usize>
     None
 }
 
-/// Copies of the rows of these ids.
-pub fn copy_rows(alloc: Global, rows: &[Row], ids: &[usize]) -> Result<Vec<Row>, NoMemory>
-    requires { (id : ℕ) → In id ids.now → id < length rows.now }
-    ensures { IfOk result (λ v. v.items ≡ rows_along ids.now rows.now) }
+/// Compares the newest row of the id with this one.
+pub fn compare_now(columns: &[Column], id: usize, row: &[Value]) -> Ordering
+    requires width { length row.now ≡ length columns.now }
+    requires known { All (λ c. id < c.ids) columns.now }
+    ensures { result ≡ row_cmp (row_now id (cells_of columns.now)) row.now }
 {
-    let mut copies = Vec::with_capacity(alloc, ids.len())?;
-    for id in ids {
-        copies.push(rows[*id].copy()?)?;
+    for (k, value) in row.iter().enumerate() {
+        let order = columns[k].newest(id).compare(value);
+        if order != Ordering::Equal {
+            return order;
+        }
     }
-    Ok(copies)
+    Ordering::Equal
 }
 
-/// One key and one row for each row that is gained. It takes no memory.
-pub fn put_rows(keys: &mut Vec<Period>, rows: &mut Vec<Row>, gained: Vec<Row>, stamp: u64)
-    requires lawful { stamp < forever }
-    requires key_room { vec_len keys.old + length gained.items ≤ vec_capacity keys.old }
-    requires row_room { vec_len rows.old + length gained.items ≤ vec_capacity rows.old }
-    ensures keys { keys.new.items ≡ keys.old.items ++ new_keys stamp gained.items }
-    ensures rows { rows.new.items ≡ rows.old.items ++ gained.items }
+// Compares the newest row of the id with the row at this place.
+fn order_at(columns: &[Column], id: usize, rows: &[Row], j: usize) -> Ordering
+    requires wide { AllWidth (length columns.now) (drop j rows.now) }
+    requires known { All (λ c. id < c.ids) columns.now }
+    requires within { j ≤ length rows.now }
+    ensures order { result ≡ first_order (row_now id (cells_of columns.now)) (drop j rows.now) }
+    ensures more { j ≡ length rows.now → result ≡ Ordering.Less }
 {
-    for row in gained {
-        keys.push_reserved(Period::from(stamp));
-        rows.push_reserved(row);
-    }
-}
-
-// Whether the row is that of the id at this place.
-fn is_next(kept: &[Row], live: &[usize], at: usize, row: &Row) -> bool
-    requires known { (id : ℕ) → In id live.now → id < length kept.now }
-    requires within { at ≤ length live.now }
-    ensures { result ≡ is_first row.now (rows_along (drop at live.now) kept.now) }
-{
-    if at < live.len() {
-        kept[live[at]] == *row
+    if j < rows.len() {
+        compare_now(columns, id, rows[j].values())
     } else {
-        false
+        Ordering::Less
     }
 }
 
-/// The ids of these rows, and those of them that are not kept yet. `live` has the ids of the rows that are
-/// kept in their order, and each of those is among the rows: so one walk goes along both.
-pub fn order_rows(
+/// The ids whose rows are gone.
+pub fn lost_ids(
     alloc: Global,
-    kept: &[Row],
+    columns: &[Column],
     live: &[usize],
     rows: &[Row],
+) -> Result<Vec<usize>, NoMemory>
+    requires wide { AllWidth (length columns.now) rows.now }
+    requires known { (id : _) → (k : _) (d : Log) → id < length live.now → k < length columns.now
+        → slice_index_or live.now id 0 < (slice_index_or columns.now k d).ids }
+    requires live_rise { Ascends row_cmp (rows_of live.now (cells_of columns.now)) }
+    requires rows_rise { Ascends row_cmp rows.now }
+    ensures { IfOk result (λ v. v.items ≡ lost_ids (cells_of columns.now) live.now rows.now) }
+{
+    let mut lost = Vec::new(alloc);
+    let mut i = 0;
+    let mut j = 0;
+    'walk: while i < live.len() {
+        match order_at(columns, live[i], rows, j) {
+            Ordering::Less => {
+                lost.push(live[i])?;
+                i += 1;
+            }
+            Ordering::Equal => {
+                i += 1;
+                j += 1;
+            }
+            Ordering::Greater => j += 1,
+        }
+    }
+    Ok(lost)
+}
+
+// Compares the newest row of the id at this place with the row.
+fn id_order(columns: &[Column], live: &[usize], i: usize, row: &[Value]) -> Ordering
+    requires width { length row.now ≡ length columns.now }
+    requires known { (id : _) → (k : _) (d : Log) → id < length live.now → k < length columns.now
+        → slice_index_or live.now id 0 < (slice_index_or columns.now k d).ids }
+    requires within { i ≤ length live.now }
+    ensures order { result ≡ id_order (cells_of columns.now) (drop i live.now) row.now }
+    ensures more { i ≡ length live.now → result ≡ Ordering.Greater }
+{
+    if i < live.len() {
+        compare_now(columns, live[i], row)
+    } else {
+        Ordering::Greater
+    }
+}
+
+// The next lost id, or a new one.
+fn handed_id(lost: &[usize], k: &mut usize, fresh: &mut usize) -> usize
+    requires few { fresh.old + 1 < 2 ^ 64 }
+    ensures id { result ≡ id_by [] (drop k.old lost.now) fresh.old }
+    ensures lost { drop k.new lost.now ≡ lost_by [] (drop k.old lost.now) }
+    ensures fresh { fresh.new ≡ next_by [] (drop k.old lost.now) fresh.old }
+    ensures few { fresh.new ≤ fresh.old + 1 }
+{
+    if *k < lost.len() {
+        *k += 1;
+        lost[*k - 1]
+    } else {
+        *fresh += 1;
+        *fresh - 1
+    }
+}
+
+/// The id of each row, and the rows that no id has.
+pub fn next_ids(
+    alloc: Global,
+    columns: &[Column],
+    live: &[usize],
+    lost: &[usize],
+    next: usize,
+    rows: &[Row],
 ) -> Result<(Vec<usize>, Vec<Row>), NoMemory>
-    requires known { (id : ℕ) → In id live.now → id < length kept.now }
-    requires live_ascends { Ascends row_cmp (rows_along live.now kept.now) }
-    requires rows_ascend { Ascends row_cmp rows.now }
-    requires grows { (row : List Value) → In row (rows_along live.now kept.now) → In row rows.now }
-    ensures order { IfOk result (λ (after, gained). rows_along after.items (kept.now ++ gained.items) ≡ rows.now) }
-    ensures known { IfOk result (λ (after, gained). (id : ℕ) → In id after.items → id < length kept.now + length gained.items) }
-    ensures ascends { IfOk result (λ (after, gained). Ascends row_cmp gained.items) }
-    ensures members { IfOk result (λ (after, gained). (row : List Value) → In row gained.items → In row rows.now) }
-    ensures fresh { IfOk result (λ (after, gained). (row : List Value) → In row gained.items → In row (rows_along live.now kept.now) → ⊥) }
+    requires wide { AllWidth (length columns.now) rows.now }
+    requires known { (id : _) → (k : _) (d : Log) → id < length live.now → k < length columns.now
+        → slice_index_or live.now id 0 < (slice_index_or columns.now k d).ids }
+    requires live_rise { Ascends row_cmp (rows_of live.now (cells_of columns.now)) }
+    requires rows_rise { Ascends row_cmp rows.now }
+    requires few { next + length rows.now < 2 ^ 64 }
+    ensures after { IfOk result (λ (ids, _). ids.items ≡ after_ids (cells_of columns.now) live.now lost.now next rows.now) }
+    ensures gained { IfOk result (λ (_, gained). gained.items ≡ gained_rows (cells_of columns.now) live.now rows.now) }
 {
     let mut after = Vec::with_capacity(alloc, rows.len())?;
     let mut gained = Vec::new(alloc);
-    let mut at = 0;
-    for row in rows {
-        match is_next(kept, live, at, row) {
-            true => {
-                after.push(live[at])?;
-                at += 1;
+    let mut i = 0;
+    let mut j = 0;
+    let mut k = 0;
+    let mut fresh = next;
+    'walk: while j < rows.len() {
+        match id_order(columns, live, i, rows[j].values()) {
+            Ordering::Less => i += 1,
+            Ordering::Equal => {
+                after.push(live[i])?;
+                i += 1;
+                j += 1;
             }
-            false => {
-                after.push(kept.len() + gained.len())?;
-                gained.push(row.copy()?)?;
+            Ordering::Greater => {
+                gained.push(rows[j].copy()?)?;
+                after.push(handed_id(lost, &mut k, &mut fresh))?;
+                j += 1;
             }
         }
     }
     Ok((after, gained))
+}
+
+/// The newest row of the id.
+fn copy_now(alloc: Global, columns: &[Column], id: usize) -> Result<Row, NoMemory>
+    requires { All (λ c. id < c.ids) columns.now }
+    ensures { IfOk result (λ row. row ≡ row_now id (cells_of columns.now)) }
+{
+    let mut values = Vec::with_capacity(alloc, columns.len())?;
+    for column in columns {
+        values.push(column.newest(id).copy()?)?;
+    }
+    Ok(Row::new(alloc, values))
+}
+
+/// The newest rows of these ids.
+pub fn copy_rows(alloc: Global, columns: &[Column], live: &[usize]) -> Result<Vec<Row>, NoMemory>
+    requires { (id : _) → (k : _) (d : Log) → id < length live.now → k < length columns.now
+        → slice_index_or live.now id 0 < (slice_index_or columns.now k d).ids }
+    ensures { IfOk result (λ rows. rows.items ≡ rows_of live.now (cells_of columns.now)) }
+{
+    let mut rows = Vec::with_capacity(alloc, live.len())?;
+    for id in live {
+        rows.push(copy_now(alloc, columns, *id)?)?;
+    }
+    Ok(rows)
+}
+
+/// The place of the row among the live ids, or the place where it would stand.
+pub fn place_of(columns: &[Column], live: &[usize], row: &[Value]) -> Result<usize, usize>
+    requires width { length row.now ≡ length columns.now }
+    requires known { (id : _) → (k : _) (d : Log) → id < length live.now → k < length columns.now
+        → slice_index_or live.now id 0 < (slice_index_or columns.now k d).ids }
+    requires live_rise { Ascends row_cmp (rows_of live.now (cells_of columns.now)) }
+    ensures found { IfOk result (λ at. (at < length live.now)
+        × (row_cmp (row_now (slice_index live.now at) (cells_of columns.now)) row.now ≡ Ordering.Equal)) }
+    ensures within { IfErr result (λ at. at ≤ length live.now) }
+    ensures before { IfErr result (λ at. (k : _) → k < at
+        → row_cmp (row_now (slice_index live.now k) (cells_of columns.now)) row.now ≡ Ordering.Less) }
+    ensures after { IfErr result (λ at. (k : _) → at ≤ k → k < length live.now
+        → row_cmp (row_now (slice_index live.now k) (cells_of columns.now)) row.now ≡ Ordering.Greater) }
+{
+    let mut low = 0;
+    let mut high = live.len();
+    'halves: while low < high {
+        let middle = low + (high - low) / 2;
+        match compare_now(columns, live[middle], row) {
+            Ordering::Less => low = middle + 1,
+            Ordering::Equal => return Ok(middle),
+            Ordering::Greater => high = middle,
+        }
+    }
+    Err(low)
+}
+
+/// Puts the id at this place of the index. It takes no memory.
+pub fn index_in(columns: &[Column], live: &mut Vec<usize>, id: usize, at: usize)
+    requires room { vec_len live.old < vec_capacity live.old }
+    requires within { at ≤ vec_len live.old }
+    requires live_rise { Ascends row_cmp (rows_of live.old.items (cells_of columns.now)) }
+    requires before { (k : _) → k < at → row_cmp (row_now (slice_index live.old.items k) (cells_of columns.now))
+        (row_now id (cells_of columns.now)) ≡ Ordering.Less }
+    requires after { (k : _) → at ≤ k → k < vec_len live.old → row_cmp (row_now (slice_index live.old.items k) (cells_of columns.now))
+        (row_now id (cells_of columns.now)) ≡ Ordering.Greater }
+    ensures live_rise { Ascends row_cmp (rows_of live.new.items (cells_of columns.now)) }
+    ensures mine { In id live.new.items }
+    ensures old { (q : _) → In q live.old.items → In q live.new.items }
+    ensures new { (q : _) → In q live.new.items → (q ≡ id) ⊎ In q live.old.items }
+    ensures room { vec_capacity live.new ≡ vec_capacity live.old }
+{
+    if live.insert(at, id).is_err() {
+        unreachable!();
+    }
 }

@@ -35,9 +35,6 @@ relation_more columns value rows out one r e = subst (IsRelation columns) (sym e
     fitting : (row : List Value) → In row (with_value value rows) → IsRow columns row
     fitting row i = by row (from_set row_cmp row_exact row (row_of value ∷ rows) i)
 
-pub rows_stay : (value : ℤ) (old rows out : List (List Value)) → old ≡ rows → out ≡ with_value value rows → (row : List Value) → In row old → In row out
-rows_stay value old rows out o e row i = subst (In row) (sym e) (in_set row_cmp row_exact row (row_of value ∷ rows) (inr (subst (In row) o i)))
-
 -- a store that has other room alone
 pub same_relation : (s t : Store) (n : ℕ) → t ≡ record s { spare = n } → (m : ℕ) → relation_at t m ≡ relation_at s m
 unfolding relation_at

@@ -1,6 +1,9 @@
-use Rattle.std.proofs.Common.{◌≡◌, ◌++◌, drop}
-use Rattle.history_store.specs.Change.{rows_along}
+use Rattle.std.proofs.Common.{◌≡◌, ◌++◌, drop, length, ◌≤◌}
+use Rattle.history_store.specs.Logs.{cells_of}
+use Rattle.history_store.specs.Table.{rows_of}
 use Rattle.history_store.proofs.walks.copy_rows.Given as goal
 
 abbrev pub invariant-loop-id : goal.invariant-loop-id
-invariant-loop-id l = rows_along l.ids l.rows ≡ l.copies.items ++ rows_along (drop l.id-index l.ids) l.rows
+invariant-loop-id l = record {
+  same : rows_of l.live (cells_of l.columns) ≡ l.rows.items ++ rows_of (drop l.id-index l.live) (cells_of l.columns);
+}

@@ -1,10 +1,17 @@
-use Rattle.std.proofs.Common.{◌≡◌, List, drop}
-use Rattle.relations.specs.Spans.{Span}
-use Rattle.prima_base.specs.declared.values.Value.{Value}
-use Rattle.history_store.specs.Store.{named}
-use Rattle.history_store.specs.Fields.{all_cells}
+use Rattle.std.proofs.Common.{◌≡◌, ◌<◌, ◌≤◌, ◌-◌, ℕ, length, get_or}
+use Rattle.std.specs.declared.cmp.Ordering.TheVariants.{Less, Greater}
+use Rattle.prima_base.specs.Order.{row_cmp}
+use Rattle.history_store.specs.Logs.{cells_of}
+use Rattle.history_store.specs.Table.{row_now}
 use Rattle.history_store.proofs.walks.place_of.Given as goal
 
-abbrev pub invariant-loop-k : goal.invariant-loop-k
-invariant-loop-k l = (keys : List Span) (rows : List (List Value)) → named l.name l.columns (all_cells 0 l.columns keys rows)
-    ≡ named l.name (drop l.k l.columns) (all_cells l.k (drop l.k l.columns) keys rows)
+abbrev pub invariant-halves : goal.invariant-halves
+invariant-halves l = record {
+  inside : l.high ≤ length l.live;
+  apart : l.low ≤ l.high;
+  below : (k : ℕ) → k < l.low → row_cmp (row_now (get_or l.live k 0) (cells_of l.columns)) l.row ≡ Less;
+  above : (k : ℕ) → l.high ≤ k → k < length l.live → row_cmp (row_now (get_or l.live k 0) (cells_of l.columns)) l.row ≡ Greater;
+}
+
+abbrev pub decreases-halves : goal.decreases-halves
+decreases-halves l = l.high - l.low

@@ -3,18 +3,12 @@ use Rattle.std.proofs.lemmas.Int.{to_z-of_z}
 use Rattle.prima_io.proofs.Fronts.{on_err}
 use Rattle.history_store.specs.Store.{relation_at, AllBefore}
 use Rattle.script_cli.specs.Past.{with_value}
-use Rattle.script_cli.proofs.Gaining.{all_later, relation_more, rows_stay, same_relation, same_before, with_value_length, count_gained}
+use Rattle.script_cli.proofs.Gaining.{all_later, relation_more, same_relation, same_before, with_value_length, count_gained}
 use Rattle.script_cli.proofs.archive.gain.Goals as goal
 
 pub prepare-requires-clause-relation : goal.prepare-requires-clause-relation
 prepare-requires-clause-relation c =
     relation_more c.args.store.now.columns c.args.value c.in_ok-rows.rows.items _ c.requires.columns c.in_ok-rows.ensures.relation
-    (c.deref.ensures.value ∙ c.in_ok-put_value.ensures ∙ ap (λ v. with_value v c.in_ok-rows.rows.items) (grind (arith, to_z-of_z)))
-
-pub prepare-requires-clause-grows : goal.prepare-requires-clause-grows
-prepare-requires-clause-grows c =
-    rows_stay c.args.value _ c.in_ok-rows.rows.items _
-    (sym (c.in_ok-rows.ensures.rows c.args.stamp c.requires.lawful (all_later _ c.args.stamp (c.args.stamp + 1) (omega arith) c.requires.before)))
     (c.deref.ensures.value ∙ c.in_ok-put_value.ensures ∙ ap (λ v. with_value v c.in_ok-rows.rows.items) (grind (arith, to_z-of_z)))
 
 pub returns-in_err-prepared-clause-past : goal.returns-in_err-prepared-clause-past

@@ -1,36 +1,87 @@
-use Rattle.std.proofs.Common.{sym}
-use Rattle.history_store.proofs.Held.{stored_after, cells_grown, installed_before, installed_from, installed_later}
+use Rattle.std.proofs.Common.{rules, ◌≡◌, ◌++◌, length, ap, sym, ◌∙◌, refl, subst, drop, arith, vec_len, vec_capacity, ◌≤◌}
+use Rattle.std.proofs.lemmas.Grind.{common_steps}
+use Rattle.history_store.specs.Handing.{AllWidth}
+use Rattle.history_store.specs.Logs.{cells_of}
+use Rattle.history_store.specs.TableFields.{IsKept}
+use Rattle.history_store.proofs.Carry.{known, spare_least, spare_each}
+use Rattle.history_store.proofs.Rows.{length-cells_of}
+use Rattle.history_store.proofs.Showing.{key_before}
+use Rattle.history_store.proofs.Installing.{plan_kept, plan_cells, plan_before, plan_from, plan_later}
+use Rattle.history_store.proofs.Rule.{key_count}
+use Rattle.history_store.proofs.Totals.{plan_count}
 use Rattle.history_store.proofs.tables.StoredTable.install.Goals as goal
+
+pub carry_out-requires-clause-wide : goal.carry_out-requires-clause-wide
+carry_out-requires-clause-wide c =
+    let f = rw (← c.self.view_is, ← c.prepared.view_is) at c.requires.fits in
+    subst (λ n. AllWidth n c.prepared.inside.gained.items) (sym c.self.invariant.kept.width ∙ length-cells_of c.self.inside.logs.items ∙ search rules) f.hands.wide
+
+pub carry_out-requires-clause-known : goal.carry_out-requires-clause-known
+carry_out-requires-clause-known c =
+    let f = rw (← c.self.view_is, ← c.prepared.view_is) at c.requires.fits in
+    known c.deref.result.now c.prepared.inside.lost.items c.self.inside.keys.items _ c.deref.ensures.value (search rules) f.hands.lost_open
+
+pub carry_out-requires-clause-later : goal.carry_out-requires-clause-later
+carry_out-requires-clause-later c = λ k h.
+    let f = rw (← c.self.view_is, ← c.prepared.view_is) at c.requires.fits in
+    (key_before c.prepared.inside.stamp c.self.inside.keys.items f.before.keys k (search rules)).0
+
+pub carry_out-requires-clause-room : goal.carry_out-requires-clause-room
+carry_out-requires-clause-room c =
+    let r = rw (← c.self.view_is, ← c.prepared.view_is) at c.requires.room in
+    spare_each (length c.prepared.inside.gained.items) _ c.self.inside.logs.items r
+
+pub carry_out-requires-clause-key_room : goal.carry_out-requires-clause-key_room
+carry_out-requires-clause-key_room c =
+    let r = rw (← c.self.view_is, ← c.prepared.view_is) at c.requires.room in
+    let s = spare_least (length c.prepared.inside.gained.items) _ c.self.inside.logs.items r in
+    let w : vec_len c.self.inside.keys ≤ vec_capacity c.self.inside.keys = grind (arith, common_steps) in
+    omega (arith, s)
 
 pub invariant_of-self : goal.invariant_of-self
 invariant_of-self c =
     let a = c.self.inside in
     let f = rw (← c.self.view_is, ← c.prepared.view_is) at c.requires.fits in
-    rw (c.put_rows.ensures.keys, c.put_rows.ensures.rows) (stored_after a.columns.items a.keys.items a.rows.items a.live.items _ c.self.invariant _ f)
+    record {
+      kept = rw (c.carry_out.ensures.keys, c.carry_out.ensures.cells, c.deref.ensures.value) (plan_kept a.columns.items a.keys.items (cells_of a.logs.items) a.live.items _ c.self.invariant.kept _ f);
+      ids = λ k d b. c.carry_out.ensures.ids k d b ∙ search rules;
+    }
 
 pub returns-clause-cells : goal.returns-clause-cells
 returns-clause-cells c =
     let a = c.self.inside in
     let f = rw (← c.self.view_is, ← c.prepared.view_is) at c.requires.fits in
-    rw (c.put_rows.ensures.keys, c.put_rows.ensures.rows, ← c.self.view_is, ← c.prepared.view_is) (sym (cells_grown a.columns.items a.keys.items a.rows.items a.live.items _ c.self.invariant _ f))
+    rw (c.carry_out.ensures.keys, c.carry_out.ensures.cells, c.deref.ensures.value, ← c.self.view_is, ← c.prepared.view_is) (plan_cells a.columns.items a.keys.items (cells_of a.logs.items) a.live.items _ c.self.invariant.kept _ f)
 
 pub returns-clause-before : goal.returns-clause-before
 returns-clause-before c m h =
     let a = c.self.inside in
     let f = rw (← c.self.view_is, ← c.prepared.view_is) at c.requires.fits in
     let b = rw (← c.prepared.view_is) at h in
-    rw (c.put_rows.ensures.keys, c.put_rows.ensures.rows, ← c.self.view_is) (installed_before a.columns.items a.keys.items a.rows.items a.live.items _ c.self.invariant _ f _ m b)
+    rw (c.carry_out.ensures.keys, c.carry_out.ensures.cells, c.deref.ensures.value, ← c.self.view_is) (plan_before a.columns.items a.keys.items (cells_of a.logs.items) a.live.items _ c.self.invariant.kept _ f _ m b)
 
 pub returns-clause-from : goal.returns-clause-from
 returns-clause-from c m h l =
     let a = c.self.inside in
     let f = rw (← c.self.view_is, ← c.prepared.view_is) at c.requires.fits in
     let b = rw (← c.prepared.view_is) at h in
-    rw (c.put_rows.ensures.keys, c.put_rows.ensures.rows, ← c.self.view_is, ← c.prepared.view_is) (installed_from a.columns.items a.keys.items a.rows.items a.live.items _ c.self.invariant _ f _ m b l)
+    rw (c.carry_out.ensures.keys, c.carry_out.ensures.cells, c.deref.ensures.value, ← c.self.view_is, ← c.prepared.view_is) (plan_from a.columns.items a.keys.items (cells_of a.logs.items) a.live.items _ c.self.invariant.kept _ f _ m b l)
 
 pub returns-clause-later : goal.returns-clause-later
 returns-clause-later c m h =
     let a = c.self.inside in
     let f = rw (← c.self.view_is, ← c.prepared.view_is) at c.requires.fits in
     let b = rw (← c.prepared.view_is) at h in
-    rw (c.put_rows.ensures.keys, c.put_rows.ensures.rows) (installed_later a.columns.items a.keys.items a.rows.items a.live.items _ c.self.invariant _ f _ m b)
+    rw (c.carry_out.ensures.keys, c.carry_out.ensures.cells, c.deref.ensures.value) (plan_later a.columns.items a.keys.items (cells_of a.logs.items) a.live.items _ c.self.invariant.kept _ f _ m b)
+
+pub returns-clause-key_count : goal.returns-clause-key_count
+returns-clause-key_count c =
+    let a = c.self.inside in
+    rw (c.carry_out.ensures.keys, c.deref.ensures.value, ← c.self.view_is, ← c.prepared.view_is) (key_count a.keys.items c.prepared.inside.lost.items c.prepared.inside.gained.items c.prepared.inside.stamp)
+
+pub returns-clause-cell_count : goal.returns-clause-cell_count
+returns-clause-cell_count c k h =
+    let a = c.self.inside in
+    let f = rw (← c.self.view_is, ← c.prepared.view_is) at c.requires.fits in
+    let b = rw (← c.self.view_is) at h in
+    rw (c.carry_out.ensures.keys, c.carry_out.ensures.cells, c.deref.ensures.value, ← c.self.view_is, ← c.prepared.view_is) (plan_count a.columns.items a.keys.items (cells_of a.logs.items) a.live.items _ c.self.invariant.kept _ f k b)

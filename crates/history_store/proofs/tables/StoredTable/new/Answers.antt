@@ -1,43 +1,56 @@
-use Rattle.std.proofs.Common.{◌≡◌, ◌<◌, [], ap, sym, ◌∙◌, List, subst}
-use Rattle.relations.specs.Sets.{In}
+use Rattle.std.proofs.Common.{rules, ◌≡◌, ◌<◌, [], ap, sym, ◌∙◌, List, subst, length}
 use Rattle.prima_base.specs.declared.values.Value.{Value}
+use Rattle.history_store.specs.Logs.{cells_of}
 use Rattle.history_store.specs.Store.{Store, relation_at}
-use Rattle.history_store.specs.Change.{IsPlan, rows_after, new_keys, keys_after, cells_after, with_rows, no_cells}
-use Rattle.history_store.specs.Fields.{store_of, all_cells}
-use Rattle.history_store.proofs.Held.{none_before, none_now, none_cells, first_gains}
+use Rattle.history_store.specs.TableFields.{store_of}
+use Rattle.history_store.specs.Handing.{only_in, handed}
+use Rattle.history_store.specs.Change.{Plan, IsPlan, keys_after, cells_after, write_rows, no_cells}
+use Rattle.history_store.proofs.Rows.{length-cells_of}
+use Rattle.history_store.proofs.Beginning.{none_kept, none_before, none_now, none_cells, all_gained, no_lost, first_keys, first_cells, plan_is}
 use Rattle.history_store.proofs.tables.StoredTable.new.Goals as goal
 
-pub prepare-requires-clause-before : goal.prepare-requires-clause-before
-prepare-requires-clause-before c = rw (c.new.ensures.items, c.new-2.ensures.items) (none_before c.in_ok-copy_columns.field-0.items _ _)
+pub invariant_of-table : goal.invariant_of-table
+invariant_of-table c = record {
+  kept = rw (c.new.ensures.items, c.new-2.ensures.items) (none_kept c.in_ok-copy_columns.field-0.items c.in_ok-empty_columns.field-0.items (c.in_ok-empty_columns.ensures.width ∙ search rules) c.in_ok-empty_columns.ensures.cells);
+  ids = λ k d h. c.in_ok-empty_columns.ensures.ids k d h ∙ sym (ap length c.new.ensures.items);
+}
 
-pub prepare-requires-clause-grows : goal.prepare-requires-clause-grows
-prepare-requires-clause-grows c = rw (c.new.ensures.items, c.new-2.ensures.items) (λ row i. absurd (subst (λ (rs : List (List Value)). In row rs) (none_now c.in_ok-copy_columns.field-0.items _ _) i))
+pub prepare-requires-clause-before : goal.prepare-requires-clause-before
+prepare-requires-clause-before c = rw (c.new.ensures.items) (none_before c.in_ok-copy_columns.field-0.items (cells_of c.in_ok-empty_columns.field-0.items) _ _)
 
 pub returns-clause-keys : goal.returns-clause-keys
 returns-clause-keys c =
     let columns = c.in_ok-copy_columns.field-0.items in
+    let logs = cells_of c.in_ok-empty_columns.field-0.items in
     let n = c.prepare.new.self.spare in
     let p = c.in_ok-prepared.prepared in
-    let e : c.prepare.new.self ≡ store_of columns [] [] n = rw (c.new.ensures.items, c.new-2.ensures.items) at c.in_ok-prepared.ensures.same in
-    let f : IsPlan (store_of columns [] [] n) p = subst (λ (t : Store). IsPlan t p) e c.in_ok-prepared.ensures.fits in
-    let g : p.gained ≡ c.args.rows.now = first_gains columns n p f ∙ ap (λ (t : Store). rows_after t p) (sym e) ∙ c.in_ok-prepared.ensures.leads in
-    c.install.ensures.keys ∙ ap (λ (t : Store). keys_after t p) e ∙ ap (λ s. new_keys s p.gained) c.in_ok-prepared.ensures.stamp ∙ ap (λ (rs : List (List Value)). new_keys c.args.stamp rs) g
+    let e : c.prepare.new.self ≡ store_of columns [] logs n = rw c.new.ensures.items at c.in_ok-prepared.ensures.same in
+    let f : IsPlan (store_of columns [] logs n) p = subst (λ (t : Store). IsPlan t p) e c.in_ok-prepared.ensures.fits in
+    let q : p.gained ≡ only_in c.args.rows.now (relation_at (store_of columns [] logs _) c.args.stamp) = rw c.new.ensures.items at c.in_ok-prepared.ensures.gained in
+    let g : p.gained ≡ c.args.rows.now = q ∙ ap (only_in c.args.rows.now) (none_now columns logs _ c.args.stamp) ∙ all_gained c.args.rows.now in
+    let i = plan_is p c.args.stamp c.args.rows.now c.in_ok-prepared.ensures.stamp (no_lost columns logs n p f) g in
+    c.install.ensures.keys ∙ ap (λ (t : Store). keys_after t p) e ∙ ap (keys_after (store_of columns [] logs n)) i ∙ first_keys columns logs n c.args.stamp c.args.rows.now p.after
 
 pub returns-clause-cells : goal.returns-clause-cells
 returns-clause-cells c =
     let columns = c.in_ok-copy_columns.field-0.items in
+    let logs = cells_of c.in_ok-empty_columns.field-0.items in
     let n = c.prepare.new.self.spare in
     let p = c.in_ok-prepared.prepared in
-    let e : c.prepare.new.self ≡ store_of columns [] [] n = rw (c.new.ensures.items, c.new-2.ensures.items) at c.in_ok-prepared.ensures.same in
-    let f : IsPlan (store_of columns [] [] n) p = subst (λ (t : Store). IsPlan t p) e c.in_ok-prepared.ensures.fits in
-    let g : p.gained ≡ c.args.rows.now = first_gains columns n p f ∙ ap (λ (t : Store). rows_after t p) (sym e) ∙ c.in_ok-prepared.ensures.leads in
-    c.install.ensures.cells ∙ ap (λ (t : Store). cells_after t p) e ∙ ap (λ s. with_rows 0 s p.gained (all_cells 0 columns [] [])) c.in_ok-prepared.ensures.stamp ∙ ap (λ (rs : List (List Value)). with_rows 0 c.args.stamp rs (all_cells 0 columns [] [])) g
-    ∙ ap (λ cells. with_rows 0 c.args.stamp c.args.rows.now cells) (none_cells 0 columns) ∙ ap (λ cs. with_rows 0 c.args.stamp c.args.rows.now (no_cells cs)) c.in_ok-copy_columns.ensures
+    let e : c.prepare.new.self ≡ store_of columns [] logs n = rw c.new.ensures.items at c.in_ok-prepared.ensures.same in
+    let f : IsPlan (store_of columns [] logs n) p = subst (λ (t : Store). IsPlan t p) e c.in_ok-prepared.ensures.fits in
+    let q : p.gained ≡ only_in c.args.rows.now (relation_at (store_of columns [] logs _) c.args.stamp) = rw c.new.ensures.items at c.in_ok-prepared.ensures.gained in
+    let g : p.gained ≡ c.args.rows.now = q ∙ ap (only_in c.args.rows.now) (none_now columns logs _ c.args.stamp) ∙ all_gained c.args.rows.now in
+    let i = plan_is p c.args.stamp c.args.rows.now c.in_ok-prepared.ensures.stamp (no_lost columns logs n p f) g in
+    let w : length logs ≡ length columns = length-cells_of c.in_ok-empty_columns.field-0.items ∙ c.in_ok-empty_columns.ensures.width ∙ search rules in
+    c.install.ensures.cells ∙ ap (λ (t : Store). cells_after t p) e ∙ ap (cells_after (store_of columns [] logs n)) i ∙ first_cells columns logs n c.args.stamp c.args.rows.now p.after w
+    ∙ ap (λ cs. write_rows (handed [] 0 c.args.rows.now) c.args.rows.now c.args.stamp (no_cells cs)) c.in_ok-copy_columns.ensures
 
 pub returns-clause-before : goal.returns-clause-before
 returns-clause-before c m h =
     let columns = c.in_ok-copy_columns.field-0.items in
+    let logs = cells_of c.in_ok-empty_columns.field-0.items in
     let n = c.prepare.new.self.spare in
-    let e : c.prepare.new.self ≡ store_of columns [] [] n = rw (c.new.ensures.items, c.new-2.ensures.items) at c.in_ok-prepared.ensures.same in
+    let e : c.prepare.new.self ≡ store_of columns [] logs n = rw c.new.ensures.items at c.in_ok-prepared.ensures.same in
     let b : m < c.in_ok-prepared.prepared.stamp = subst (λ s. m < s) (sym c.in_ok-prepared.ensures.stamp) h in
-    c.install.ensures.before m b ∙ ap (λ (t : Store). relation_at t m) e ∙ none_now columns n m
+    c.install.ensures.before m b ∙ ap (λ (t : Store). relation_at t m) e ∙ none_now columns logs n m

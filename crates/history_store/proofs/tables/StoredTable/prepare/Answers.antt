@@ -1,40 +1,79 @@
-use Rattle.history_store.proofs.Held.{grown, is_plan, leads_to}
+use Rattle.std.proofs.Common.{rules, ◌≡◌, ◌<◌, ◌≤◌, ◌-◌, length, arith, sym, ap, subst, ◌∙◌, vec_len, vec_capacity}
+use Rattle.std.proofs.lemmas.Grind.{common_steps}
+use Rattle.history_store.specs.Handing.{AllWidth}
+use Rattle.history_store.specs.Logs.{cells_of}
+use Rattle.history_store.proofs.Rows.{length-cells_of, least_from}
+use Rattle.history_store.proofs.Making.{all_wide, made_leads, made_fits, made_gained, made_lost}
+use Rattle.history_store.proofs.Preparing.{all_known, least_is}
 use Rattle.history_store.proofs.tables.StoredTable.prepare.Goals as goal
 
-pub order_rows-requires-clause-known : goal.order_rows-requires-clause-known
-order_rows-requires-clause-known c = rw (c.deref.ensures.value, c.deref-2.ensures.value) c.self.invariant.known
-
-pub order_rows-requires-clause-grows : goal.order_rows-requires-clause-grows
-order_rows-requires-clause-grows c =
+pub lost_ids-requires-clause-wide : goal.lost_ids-requires-clause-wide
+lost_ids-requires-clause-wide c =
     let a = c.self.inside in
-    let b = rw (← c.self.view_is) at c.requires.before in
-    let g = rw (← c.self.view_is) at c.requires.grows in
-    rw (c.deref.ensures.value, c.deref-2.ensures.value) (grown a.columns.items a.keys.items a.rows.items a.live.items _ c.self.invariant c.args.stamp c.requires.lawful (λ p i. (b.keys p i).0) c.args.rows.now g)
+    let r = rw (← c.self.view_is) at c.requires.relation in
+    subst (λ n. AllWidth n c.args.rows.now) (length-cells_of a.logs.items ∙ ap length (sym c.deref.ensures.value)) (all_wide a.columns.items (cells_of a.logs.items) c.args.rows.now c.self.invariant.kept.width r)
+
+pub lost_ids-requires-clause-known : goal.lost_ids-requires-clause-known
+lost_ids-requires-clause-known c =
+    let a = c.self.inside in
+    all_known a.live.items c.deref-2.result.now a.keys.items a.logs.items c.deref.result.now c.deref-2.ensures.value c.deref.ensures.value c.self.invariant.kept.stored.are_open c.self.invariant.ids
+
+pub next_ids-requires-clause-wide : goal.next_ids-requires-clause-wide
+next_ids-requires-clause-wide c =
+    let a = c.self.inside in
+    let r = rw (← c.self.view_is) at c.requires.relation in
+    subst (λ n. AllWidth n c.args.rows.now) (length-cells_of a.logs.items ∙ ap length (sym c.deref-3.ensures.value)) (all_wide a.columns.items (cells_of a.logs.items) c.args.rows.now c.self.invariant.kept.width r)
+
+pub next_ids-requires-clause-known : goal.next_ids-requires-clause-known
+next_ids-requires-clause-known c =
+    let a = c.self.inside in
+    all_known a.live.items c.deref-4.result.now a.keys.items a.logs.items c.deref-3.result.now c.deref-4.ensures.value c.deref-3.ensures.value c.self.invariant.kept.stored.are_open c.self.invariant.ids
+
+pub returns-in_err-reserve_all-clause-spare : goal.returns-in_err-reserve_all-clause-spare
+returns-in_err-reserve_all-clause-spare c =
+    let a = c.self.inside in
+    rw (← c.self.view_is) (least_from (vec_capacity a.keys - vec_len a.keys) (vec_capacity c.reserve.new.self - vec_len c.reserve.new.self) a.logs.items c.reserve_all.new.columns.items (grind (arith, common_steps)) c.reserve_all.ensures.spare)
 
 pub returns-clause-fits : goal.returns-clause-fits
 returns-clause-fits c =
     let a = c.self.inside in
     let b = rw (← c.self.view_is) at c.requires.before in
-    let g = rw (← c.self.view_is) at c.requires.grows in
     let r = rw (← c.self.view_is) at c.requires.relation in
-    let w = grown a.columns.items a.keys.items a.rows.items a.live.items _ c.self.invariant c.args.stamp c.requires.lawful (λ p i. (b.keys p i).0) c.args.rows.now g in
-    rw (c.in_ok-reserve.ensures.items, c.in_ok-reserve-2.ensures.items) (is_plan a.columns.items a.keys.items a.rows.items a.live.items _ c.self.invariant c.args.stamp c.requires.lawful (λ p i. (b.keys p i).0)
-    c.in_ok-after.gained.items c.args.rows.now c.in_ok-after.after.items r w
-    c.in_ok-after.ensures.members
-    (rw c.deref.ensures.value at c.in_ok-after.ensures.order)
-    (rw c.deref.ensures.value at c.in_ok-after.ensures.known)
-    c.in_ok-after.ensures.ascends
-    (rw (c.deref.ensures.value, c.deref-2.ensures.value) at c.in_ok-after.ensures.fresh))
+    let n : c.len-2.result ≡ length a.keys.items = search rules in
+    let k : c.reserve.new.self.items ≡ a.keys.items = search rules in
+    rw (k, c.reserve_all.ensures.cells, c.in_ok-after.ensures.after, c.in_ok-after.ensures.gained, c.deref-3.ensures.value, c.deref-4.ensures.value, c.deref-5.ensures.value, c.in_ok-lost.ensures, c.deref.ensures.value, c.deref-2.ensures.value, n)
+    (made_fits a.columns.items a.keys.items (cells_of a.logs.items) a.live.items _ c.self.invariant.kept c.args.stamp b c.requires.lawful c.args.rows.now r _)
 
 pub returns-clause-leads : goal.returns-clause-leads
 returns-clause-leads c =
     let a = c.self.inside in
     let b = rw (← c.self.view_is) at c.requires.before in
-    let g = rw (← c.self.view_is) at c.requires.grows in
     let r = rw (← c.self.view_is) at c.requires.relation in
-    let w = grown a.columns.items a.keys.items a.rows.items a.live.items _ c.self.invariant c.args.stamp c.requires.lawful (λ p i. (b.keys p i).0) c.args.rows.now g in
-    rw (c.in_ok-reserve.ensures.items, c.in_ok-reserve-2.ensures.items) (leads_to a.columns.items a.keys.items a.rows.items a.live.items _ c.self.invariant c.args.stamp c.requires.lawful (λ p i. (b.keys p i).0)
-    c.in_ok-after.gained.items c.args.rows.now c.in_ok-after.after.items r w
-    c.in_ok-after.ensures.members
-    (rw c.deref.ensures.value at c.in_ok-after.ensures.order)
-    (rw c.deref.ensures.value at c.in_ok-after.ensures.known))
+    let n : c.len-2.result ≡ length a.keys.items = search rules in
+    let k : c.reserve.new.self.items ≡ a.keys.items = search rules in
+    rw (k, c.reserve_all.ensures.cells, c.in_ok-after.ensures.after, c.in_ok-after.ensures.gained, c.deref-3.ensures.value, c.deref-4.ensures.value, c.deref-5.ensures.value, c.in_ok-lost.ensures, c.deref.ensures.value, c.deref-2.ensures.value, n)
+    (made_leads a.columns.items a.keys.items (cells_of a.logs.items) a.live.items _ c.self.invariant.kept c.args.stamp b c.requires.lawful c.args.rows.now r _)
+
+pub returns-clause-lost : goal.returns-clause-lost
+returns-clause-lost c =
+    let a = c.self.inside in
+    let b = rw (← c.self.view_is) at c.requires.before in
+    let r = rw (← c.self.view_is) at c.requires.relation in
+    rw (← c.self.view_is, c.in_ok-lost.ensures, c.deref.ensures.value, c.deref-2.ensures.value)
+    (made_lost a.columns.items a.keys.items (cells_of a.logs.items) a.live.items _ c.self.invariant.kept c.args.stamp b c.requires.lawful c.args.rows.now r)
+
+pub returns-clause-gained : goal.returns-clause-gained
+returns-clause-gained c =
+    let a = c.self.inside in
+    let b = rw (← c.self.view_is) at c.requires.before in
+    let r = rw (← c.self.view_is) at c.requires.relation in
+    rw (← c.self.view_is, c.in_ok-after.ensures.gained, c.deref-3.ensures.value, c.deref-4.ensures.value)
+    (made_gained a.columns.items a.keys.items (cells_of a.logs.items) a.live.items _ c.self.invariant.kept c.args.stamp b c.requires.lawful c.args.rows.now r)
+
+pub returns-clause-room : goal.returns-clause-room
+returns-clause-room c = least_is (length c.in_ok-after.gained.items) _ c.reserve_all.new.columns.items (grind (arith, common_steps)) (search rules)
+
+pub returns-clause-spare : goal.returns-clause-spare
+returns-clause-spare c =
+    let a = c.self.inside in
+    rw (← c.self.view_is) (least_from (vec_capacity a.keys - vec_len a.keys) (vec_capacity c.reserve.new.self - vec_len c.reserve.new.self) a.logs.items c.reserve_all.new.columns.items (grind (arith, common_steps)) c.reserve_all.ensures.spare)

@@ -1,5 +1,6 @@
-use Rattle.history_store.proofs.Held.{is_store}
+use Rattle.history_store.specs.Logs.{cells_of}
+use Rattle.history_store.proofs.Showing.{is_store}
 use Rattle.history_store.proofs.tables.StoredTable.scan_keys.Goals as goal
 
 pub returns-clause-lawful : goal.returns-clause-lawful
-returns-clause-lawful c = let a = c.self.inside in rw (← c.self.view_is) (is_store a.columns.items a.keys.items a.rows.items a.live.items _ c.self.invariant)
+returns-clause-lawful c = let a = c.self.inside in rw (← c.self.view_is) (is_store a.columns.items a.keys.items (cells_of a.logs.items) a.live.items _ c.self.invariant.kept)

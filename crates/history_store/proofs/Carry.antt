@@ -1,0 +1,70 @@
+-- What is needed where a plan is carried out.
+use Rattle.std.proofs.Common.{◌≡◌, ◌≢◌, ℕ, zero, suc, ◌+◌, ◌<◌, ◌≤◌, List, [], ◌∷◌, ◌++◌, length, get_or, set, drop, refl, sym, ap, ◌∙◌, subst, arith, inl, inr}
+use Rattle.std.specs.Prelude.{min, All}
+use Rattle.std.proofs.lemmas.Grind.{common_steps}
+use Rattle.std.proofs.Math.ListN.{length-set, get_or-append}
+use Rattle.relations.specs.Spans.{Span, forever, covers}
+use Rattle.prima_base.specs.declared.values.Value.{Value}
+use Rattle.relations.specs.Sets.{In}
+use Rattle.history_store.specs.Log.{Log}
+use Rattle.history_store.specs.Logs.{least_spare}
+use Rattle.history_store.specs.Table.{no_span, IsOpen}
+use Rattle.history_store.specs.Handing.{ended_at, end_keys, unpaired, new_keys, keys_handed}
+
+pub in_get : {A : Type 0} (xs : List A) (k : ℕ) (d : A) → k < length xs → In (get_or xs k d) xs
+in_get [] k d h = absurd (omega arith)
+in_get (x ∷ xs) zero d h = inl refl
+in_get (x ∷ xs) (suc k) d h = inr (in_get xs k d (omega arith))
+
+pub all_in : {A : Type 0} (P : A → Type 0) (xs : List A) → All P xs → (q : A) → In q xs → P q
+all_in P [] a q i = absurd i
+all_in P (x ∷ xs) a q (inl e) = subst P e (a 0 x (omega arith))
+all_in P (x ∷ xs) a q (inr i) = all_in P xs (λ k d h. a (suc k) d (omega arith)) q i
+
+unpaired_is : {A B : Type 0} (xs : List A) (ys : List B) → drop (min (length ys) (length xs)) xs ≡ unpaired xs ys
+unpaired_is xs [] = let e : min 0 (length xs) ≡ 0 = grind arith in rw e refl
+unpaired_is [] (y ∷ ys) = drop_nil _
+  where
+    drop_nil : {A : Type 0} (n : ℕ) → drop {A = A} n [] ≡ []
+    drop_nil zero = refl
+    drop_nil (suc n) = refl
+unpaired_is (x ∷ xs) (y ∷ ys) = let e : min (length (y ∷ ys)) (length (x ∷ xs)) ≡ suc (min (length ys) (length xs)) = grind arith in rw e (unpaired_is xs ys)
+
+set-front : (keys ys : List Span) (k : ℕ) (p : Span) → k < length keys → set (keys ++ ys) k p ≡ set keys k p ++ ys
+set-front [] ys k p h = absurd (omega arith)
+set-front (q ∷ keys) ys zero p h = refl
+set-front (q ∷ keys) ys (suc k) p h = ap (λ r. q ∷ r) (set-front keys ys k p (omega arith))
+
+end_keys-front : (ids : List ℕ) (stamp : ℕ) (keys ys : List Span) → ((q : ℕ) → In q ids → q < length keys) → end_keys ids stamp (keys ++ ys) ≡ end_keys ids stamp keys ++ ys
+end_keys-front [] stamp keys ys b = refl
+end_keys-front (id ∷ ids) stamp keys ys b =
+    let h : id < length keys = b id (inl refl) in
+    let p = ended_at stamp (get_or keys id no_span) in
+    ap (λ q. end_keys ids stamp (set (keys ++ ys) id (ended_at stamp q))) (get_or-append keys ys no_span id h)
+    ∙ ap (end_keys ids stamp) (set-front keys ys id p h)
+    ∙ end_keys-front ids stamp (set keys id p) ys (λ q i. subst (λ n. q < n) (sym (length-set keys id p)) (b q (inr i)))
+
+unpaired_was : (q : ℕ) (lost : List ℕ) (rows : List (List Value)) → In q (unpaired lost rows) → In q lost
+unpaired_was q lost [] i = i
+unpaired_was q [] (row ∷ rows) i = absurd i
+unpaired_was q (id ∷ lost) (row ∷ rows) i = inr (unpaired_was q lost rows i)
+
+pub carried : (keys : List Span) (lost : List ℕ) (gained : List (List Value)) (stamp mid : ℕ) → mid ≡ min (length gained) (length lost) → All (λ id. id < length keys) lost
+    → end_keys (drop mid lost) stamp keys ++ new_keys stamp (unpaired gained lost) ≡ keys_handed keys lost gained stamp
+carried keys lost gained stamp mid e a =
+    ap (λ ids. end_keys ids stamp keys ++ new_keys stamp (unpaired gained lost)) (ap (λ n. drop n lost) e ∙ unpaired_is lost gained)
+    ∙ sym (end_keys-front (unpaired lost gained) stamp keys (new_keys stamp (unpaired gained lost)) (λ q i. all_in (λ id. id < length keys) lost a q (unpaired_was q lost gained i)))
+
+pub spare_least : (n least : ℕ) (columns : List Log) → n ≤ least_spare least columns → n ≤ least
+spare_least n least [] h = h
+spare_least n least (c ∷ columns) h = spare_least n least columns (grind arith)
+
+pub spare_each : (n least : ℕ) (columns : List Log) → n ≤ least_spare least columns → All (λ c. n ≤ c.spare) columns
+spare_each n least [] h k d b = absurd (omega arith)
+spare_each n least (c ∷ columns) h zero d b = grind arith
+spare_each n least (c ∷ columns) h (suc k) d b = spare_each n least columns (grind arith) k d (omega arith)
+
+pub known : (ids lost : List ℕ) (keys : List Span) (n : ℕ) → ids ≡ lost → n ≡ length keys → ((q : ℕ) → In q lost → IsOpen keys q) → All (λ id. id < n) ids
+known ids lost keys n e l o k d h =
+    let i : In (get_or ids k d) lost = subst (λ xs. In (get_or ids k d) xs) e (in_get ids k d h) in
+    subst (λ m. get_or ids k d < m) (sym l) (o (get_or ids k d) i).0

@@ -1,0 +1,66 @@
+-- What is found along the current rows makes a plan.
+use Rattle.std.proofs.Common.{◌≡◌, ℕ, suc, ◌+◌, ◌<◌, ◌≤◌, List, [], ◌∷◌, length, refl, sym, ap, ◌∙◌, subst, arith, inl, inr}
+use Rattle.relations.specs.Sets.{In, Ascends, set_of, has}
+use Rattle.relations.specs.Spans.{Span, forever}
+use Rattle.prima_base.specs.Order.{row_cmp}
+use Rattle.prima_base.specs.declared.values.Value.{Value}
+use Rattle.history_store.specs.declared.columns.Write.{Write}
+use Rattle.history_store.specs.Store.{Column, Store, relation_at, IsRow, IsRelation, AllBefore}
+use Rattle.history_store.specs.Entries.{all_entries}
+use Rattle.history_store.specs.Table.{rows_of, IsOpen, IsStored}
+use Rattle.history_store.specs.TableFields.{store_of, IsKept}
+use Rattle.history_store.specs.Handing.{AllWidth, IsHandOver, only_in, lost_ids, gained_rows, after_ids, logs_handed}
+use Rattle.history_store.specs.Change.{Plan, IsPlan, rows_after, rows_along}
+use Rattle.history_store.proofs.Planning.{is_plan, plan_rows, lost_is}
+use Rattle.history_store.proofs.Rule.{lost_rule, gained_rule}
+use Rattle.history_store.proofs.Showing.{along_is}
+use Rattle.history_store.proofs.Installing.{later, relation_from, along_after}
+
+-- a row is as wide as there are columns
+pub row_wide : (columns : List Column) (row : List Value) → IsRow columns row → length row ≡ length columns
+row_wide [] [] r = refl
+row_wide [] (v ∷ row) r = absurd r
+row_wide (c ∷ columns) [] r = absurd r
+row_wide (c ∷ columns) (v ∷ row) r = ap suc (row_wide columns row r.1)
+
+rows_wide : (columns : List Column) (rows : List (List Value)) → ((row : List Value) → In row rows → IsRow columns row) → AllWidth (length columns) rows
+rows_wide columns [] f = tt
+rows_wide columns (row ∷ rows) f = (row_wide columns row (f row (inl refl)), rows_wide columns rows (λ r i. f r (inr i)))
+
+pub all_wide : (columns : List Column) (logs : List (List Write)) (rows : List (List Value)) → length logs ≡ length columns → IsRelation columns rows → AllWidth (length logs) rows
+all_wide columns logs rows e r = subst (λ n. AllWidth n rows) (sym e) (rows_wide columns rows r.fitting)
+
+pub more_room : (columns : List Column) (keys : List Span) (logs : List (List Write)) (spare n stamp : ℕ) → AllBefore (store_of columns keys logs spare) stamp → AllBefore (store_of columns keys logs n) stamp
+more_room columns keys logs spare n stamp b = record { keys = b.keys; cells = b.cells }
+
+abbrev pub made : ℕ → List Span → List (List Write) → List ℕ → List (List Value) → Plan
+made stamp keys logs live rows = record { stamp = stamp; lost = lost_ids logs live rows; gained = gained_rows logs live rows; after = after_ids logs live (lost_ids logs live rows) (length keys) rows }
+
+module _ (columns : List Column) (keys : List Span) (logs : List (List Write)) (live : List ℕ) (spare : ℕ) (k : IsKept columns keys logs live) (stamp : ℕ)
+    (b : AllBefore (store_of columns keys logs spare) stamp) (l : stamp < forever) (rows : List (List Value)) (r : IsRelation columns rows) where
+  s : IsStored keys logs live stamp
+  s = later columns keys logs live spare stamp stamp k b (omega arith)
+
+  w : AllWidth (length logs) rows
+  w = all_wide columns logs rows k.width r
+
+  hands : IsHandOver keys (length columns) (lost_ids logs live rows) (gained_rows logs live rows) (after_ids logs live (lost_ids logs live rows) (length keys) rows)
+  hands = subst (λ n. IsHandOver keys n (lost_ids logs live rows) (gained_rows logs live rows) (after_ids logs live (lost_ids logs live rows) (length keys) rows)) k.width (is_plan keys logs live stamp rows s r.ascending w)
+
+  pub made_leads : (n : ℕ) → rows_after (store_of columns keys logs n) (made stamp keys logs live rows) ≡ rows
+  unfolding rows_after
+  made_leads n =
+      along_after columns keys logs live n k stamp (lost_ids logs live rows) (gained_rows logs live rows) (after_ids logs live (lost_ids logs live rows) (length keys) rows) (more_room columns keys logs spare n stamp b) l hands
+      ∙ plan_rows keys logs live stamp rows s r.ascending w stamp
+
+  pub made_fits : (n : ℕ) → IsPlan (store_of columns keys logs n) (made stamp keys logs live rows)
+  made_fits n = record { before = more_room columns keys logs spare n stamp b; lawful = l; hands = hands; relation = subst (IsRelation columns) (sym (made_leads n)) r }
+
+  pub made_gained : gained_rows logs live rows ≡ only_in rows (relation_at (store_of columns keys logs spare) stamp)
+  made_gained = gained_rule logs live rows ∙ ap (only_in rows) (sym (relation_from columns keys logs live spare stamp stamp k b (omega arith) l))
+
+  pub made_lost : rows_along (lost_ids logs live rows) stamp (all_entries keys logs) ≡ only_in (relation_at (store_of columns keys logs spare) stamp) rows
+  made_lost =
+      along_is (lost_ids logs live rows) stamp stamp keys logs k.histories s.columns_fit (omega arith) l (λ id i. s.are_open id (lost_is logs rows live id i).0) s.started
+      ∙ lost_rule logs rows live
+      ∙ ap (λ rs. only_in rs rows) (sym (relation_from columns keys logs live spare stamp stamp k b (omega arith) l))

@@ -1,0 +1,38 @@
+-- What is needed where a change is made ready.
+use Rattle.std.proofs.Common.{◌≡◌, ℕ, zero, suc, ◌+◌, ◌-◌, ◌<◌, ◌≤◌, List, [], ◌∷◌, length, get_or, refl, sym, ap, ◌∙◌, subst, arith}
+use Rattle.std.specs.Prelude.{min, All}
+use Rattle.relations.specs.Spans.{Span, forever, covers}
+use Rattle.relations.specs.Sets.{In}
+use Rattle.history_store.specs.Log.{Log}
+use Rattle.history_store.specs.Logs.{least_spare, cells_of}
+use Rattle.history_store.specs.Table.{no_span, IsOpen, AllCells, AllColumns, IsStored}
+use Rattle.history_store.proofs.Carry.{in_get}
+
+pub all_known : (live live' : List ℕ) (keys : List Span) (columns columns' : List Log) → live' ≡ live → columns' ≡ columns → ((q : ℕ) → In q live → IsOpen keys q) → All (λ c. c.ids ≡ length keys) columns
+    → (id k : ℕ) (d : Log) → id < length live' → k < length columns' → get_or live' id 0 < (get_or columns' k d).ids
+all_known live live' keys columns columns' el ec o a id k d b h =
+    let i : In (get_or live' id 0) live = subst (In (get_or live' id 0)) el (in_get live' id 0 b) in
+    let n : get_or live' id 0 < length keys = (o (get_or live' id 0) i).0 in
+    let e : (get_or columns' k d).ids ≡ length keys = ap (λ cs. (get_or cs k d).ids) ec ∙ a k d (subst (λ cs. k < length cs) ec h) in
+    omega (arith, n, e)
+
+pub least_is : (n least : ℕ) (columns : List Log) → n ≤ least → All (λ c. n ≤ c.spare) columns → n ≤ least_spare least columns
+least_is n least [] h a = h
+least_is n least (c ∷ columns) h a =
+    let b : n ≤ c.spare = a 0 c (omega arith) in
+    let r = least_is n least columns h (λ k d i. a (suc k) d (omega arith)) in
+    grind arith
+
+pub none_fit : (columns : List Log) → All (λ c. c.cells ≡ []) columns → AllColumns 0 (cells_of columns)
+none_fit [] a = tt
+none_fit (c ∷ columns) a = let e : c.cells ≡ [] = a 0 c (omega arith) in (subst (AllCells 0) (sym e) tt, none_fit columns (λ k d h. a (suc k) d (omega arith)))
+
+pub none_stored : (columns : List Log) → All (λ c. c.cells ≡ []) columns → IsStored [] (cells_of columns) [] 0
+none_stored columns a = record {
+  columns_fit = none_fit columns a;
+  started = λ id h. absurd (omega arith);
+  ended = λ id h. absurd (omega arith);
+  are_open = λ id i. absurd i;
+  are_live = λ id o. absurd (let b = o.0 in omega arith);
+  ordered = tt;
+}

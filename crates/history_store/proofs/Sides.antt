@@ -1,0 +1,45 @@
+-- Ascending lists, as the other files use them.
+use Rattle.std.proofs.Common.{◌≡◌, List, [], ◌∷◌, refl, sym, ap, ◌∙◌, subst, inl, inr}
+use Rattle.std.specs.Prelude.{◌⊎◌}
+use Rattle.std.specs.Cmp.{IsTotalOrder}
+use Rattle.std.specs.declared.cmp.Ordering.{Ordering}
+use Rattle.std.specs.declared.cmp.Ordering.TheVariants.{Less, Equal, Greater}
+use Rattle.std.specs.Ordering.{ordering_reverse}
+use Rattle.std.proofs.lemmas.Map.Lookups.{exact_signed, exact_bytes}
+use Rattle.relations.specs.Sets.{In, Same, BeforeAll, Ascends, set_of}
+use Rattle.relations.proofs.SetLaws.{one_list, set_ascends, in_set, from_set}
+use Rattle.prima_base.specs.Order.{value_cmp, row_cmp}
+use Rattle.prima_base.specs.OrderLaws.{row_exact}
+use Rattle.prima_base.specs.declared.values.Value.{Value}
+use Rattle.prima_base.specs.declared.values.Value.TheVariants.{Int, Text}
+
+pub exact_values : (a b : Value) → value_cmp a b ≡ Equal → a ≡ b
+exact_values (Int a) (Int b) e = ap Int (exact_signed a b e)
+exact_values (Int a) (Text b) e = cc
+exact_values (Text a) (Int b) e = cc
+exact_values (Text a) (Text b) e = ap Text (exact_bytes a b e)
+
+pub exact_rows : (a b : List Value) → row_cmp a b ≡ Equal → a ≡ b
+exact_rows a b e = row_exact.same a b e
+
+pub before_in : {A : Type 0} (R : A → A → Ordering) (q r : A) (xs : List A) → BeforeAll R q xs → In r xs → R q r ≡ Less
+before_in R q r [] b i = absurd i
+before_in R q r (x ∷ xs) b (inl e) = subst (λ v. R q v ≡ Less) e b.0
+before_in R q r (x ∷ xs) b (inr i) = before_in R q r xs b.1 i
+
+module _ {A : Type 0} (R : A → A → Ordering) (o : IsTotalOrder R) (exact : (x y : A) → R x y ≡ Equal → x ≡ y) where
+  not_both : (x y : A) → R x y ≡ Less → R y x ≡ Less → ⊥
+  not_both x y p q = let e : Less ≡ Greater = sym p ∙ o.antisymm x y ∙ ap ordering_reverse q in cc
+
+  pub not_self : (x : A) → R x x ≡ Less → ⊥
+  not_self x p = not_both x x p p
+
+  pub before_more : (q x : A) (ys : List A) → R q x ≡ Less → BeforeAll R x ys → BeforeAll R q ys
+  before_more q x [] l b = tt
+  before_more q x (y ∷ ys) l b = (o.trans q x y l b.0, before_more q x ys l b.1)
+
+-- the set of a list that has the members of an ascending one is that one
+pub set_is : (xs ys : List (List Value)) → Ascends row_cmp ys → ((q : List Value) → In q xs → In q ys) → ((q : List Value) → In q ys → In q xs) → set_of row_cmp xs ≡ ys
+set_is xs ys r f g =
+    one_list row_cmp row_exact (set_of row_cmp xs) ys (set_ascends row_cmp row_exact xs) r
+    (record { there = λ q i. f q (from_set row_cmp row_exact q xs i); back = λ q i. in_set row_cmp row_exact q xs (g q i) })

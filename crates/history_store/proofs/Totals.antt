@@ -1,0 +1,53 @@
+-- How many keys and entries a plan adds.
+use Rattle.std.proofs.Common.{◌≡◌, ℕ, suc, zero, ◌+◌, ◌-◌, ◌<◌, ◌≤◌, List, [], ◌∷◌, length, get_or, refl, sym, ap, ◌∙◌, subst, arith, inl, inr}
+use Rattle.relations.specs.Sets.{In}
+use Rattle.relations.specs.Spans.{Span, forever}
+use Rattle.prima_base.specs.declared.values.Value.{Value}
+use Rattle.history_store.specs.declared.columns.Write.{Write}
+use Rattle.history_store.specs.Log.{over, newest}
+use Rattle.history_store.specs.Chains.{of_id}
+use Rattle.history_store.specs.Store.{Column, Store, AllBefore}
+use Rattle.history_store.specs.Entries.{Fits, all_entries, IsHistory, AreHistories}
+use Rattle.history_store.specs.Table.{no_span, rows_of, IsOpen, IsStored}
+use Rattle.history_store.specs.TableFields.{store_of, IsKept}
+use Rattle.history_store.specs.Handing.{keys_handed, logs_handed, cells_added, AllWidth}
+use Rattle.history_store.specs.Change.{Plan, IsPlan, rows_along}
+use Rattle.history_store.proofs.Histories.{last_value, newest_is, none_known}
+use Rattle.history_store.proofs.Counts.{One, NoneYet, cell_count}
+use Rattle.history_store.proofs.Counting.{column_count}
+use Rattle.history_store.proofs.Showing.{along_is}
+use Rattle.history_store.proofs.Installing.{later, plan_kept}
+
+one_over : (x y : List Value) → length x ≡ 1 → length (over x y) ≡ 1
+one_over [] y e = absurd (omega (arith, e))
+one_over (v ∷ x) y e = e
+
+one_value : (c : Write) (cells : List Write) → length (last_value (c ∷ cells)) ≡ 1
+one_value c [] = refl
+one_value c (d ∷ cells) = one_over (last_value (d ∷ cells)) (c.value ∷ []) (one_value d cells)
+
+one_fit : (key : Span) (cells : List Write) → Fits key cells → length (last_value cells) ≡ 1
+one_fit key [] f = absurd f
+one_fit key (c ∷ cells) f = one_value c cells
+
+one_each : (keys : List Span) (columns : List (List Write)) (id : ℕ) → AreHistories keys columns → id < length keys → One id columns
+one_each keys [] id h b = tt
+one_each keys (c ∷ columns) id h b = (ap length (newest_is id c) ∙ one_fit (get_or keys id no_span) (of_id id c) (h.0.fits id b), one_each keys columns id h.1 b)
+
+none_each : (keys : List Span) (columns : List (List Write)) (id : ℕ) → AreHistories keys columns → length keys ≤ id → NoneYet id columns
+none_each keys [] id h l = tt
+none_each keys (c ∷ columns) id h l = (newest_is id c ∙ ap last_value (none_known (length keys) id c h.0.known l), none_each keys columns id h.1 l)
+
+pub plan_count : (columns : List Column) (keys : List Span) (logs : List (List Write)) (live : List ℕ) (spare : ℕ) (w : IsKept columns keys logs live) (p : Plan) (f : IsPlan (store_of columns keys logs spare) p) (k : ℕ) → k < length columns
+    → length (get_or (all_entries (keys_handed keys p.lost p.gained p.stamp) (logs_handed keys logs p.lost p.gained p.stamp)) k []) ≡ length (get_or (all_entries keys logs) k []) + cells_added k (rows_along p.lost p.stamp (all_entries keys logs)) p.gained
+plan_count columns keys logs live spare w p f k h =
+    let then' = plan_kept columns keys logs live spare w p f in
+    let s = later columns keys logs live spare p.stamp p.stamp w f.before (omega arith) in
+    let wide : AllWidth (length logs) p.gained = subst (λ n. AllWidth n p.gained) (sym w.width) f.hands.wide in
+    let count =
+    cell_count k p.lost (length keys) p.gained p.stamp logs (subst (λ n. k < n) (sym w.width) h) wide f.hands.distinct
+    (λ q i. one_each keys logs q w.histories (f.hands.lost_open q i).0) (λ q i. (f.hands.lost_open q i).0) (λ q l. none_each keys logs q w.histories l) in
+    column_count k (keys_handed keys p.lost p.gained p.stamp) (logs_handed keys logs p.lost p.gained p.stamp) then'.histories
+    ∙ count
+    ∙ ap (λ n. n + cells_added k (rows_of p.lost logs) p.gained) (sym (column_count k keys logs w.histories))
+    ∙ ap (λ (rs : List (List Value)). length (get_or (all_entries keys logs) k []) + cells_added k rs p.gained) (sym (along_is p.lost p.stamp p.stamp keys logs w.histories s.columns_fit (omega arith) f.lawful f.hands.lost_open s.started))

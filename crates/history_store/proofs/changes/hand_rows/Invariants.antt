@@ -1,0 +1,22 @@
+use Rattle.std.proofs.Common.{◌≡◌, ◌+◌, ◌<◌, ◌≤◌, ◌++◌, ℕ, length, get_or, drop, vec_len, vec_capacity}
+use Rattle.std.specs.Prelude.{All}
+use Rattle.std.specs.Vec.Iter.{into_iter_items}
+use Rattle.history_store.specs.Table.{no_span}
+use Rattle.history_store.specs.Logs.{cells_of}
+use Rattle.history_store.specs.Handing.{put_rows, handed, unpaired, new_keys, AllWidth}
+use Rattle.history_store.proofs.changes.hand_rows.Given as goal
+
+abbrev pub invariant-loop-row : goal.invariant-loop-row
+invariant-loop-row l =
+    let rest = into_iter_items l.row-iterator in
+    let left = drop l.i l.lost in
+    record {
+      counted : l.i ≡ length l.yielded;
+      wide : AllWidth (length l.columns) rest;
+      more : vec_len l.initial.keys ≤ vec_len l.keys;
+      ids : All (λ c. c.ids ≡ vec_len l.keys) l.columns;
+      room : All (λ c. length rest ≤ c.spare) l.columns;
+      key_room : vec_len l.keys + length rest ≤ vec_capacity l.keys;
+      keys : l.initial.keys.items ++ new_keys l.stamp (unpaired l.fn.gained.items l.lost) ≡ l.keys.items ++ new_keys l.stamp (unpaired rest left);
+      cells : put_rows (handed l.lost (vec_len l.initial.keys) l.fn.gained.items) l.fn.gained.items l.stamp (cells_of l.initial.columns) ≡ put_rows (handed left (vec_len l.keys) rest) rest l.stamp (cells_of l.columns);
+    }

@@ -1,0 +1,24 @@
+-- The fields of a column.
+use Rattle.std.specs.Prelude.{◌≡◌, ℕ, ◌-◌, ◌<◌, ◌≤◌, min, List, [], ◌∷◌, length, All, option_map, option_to_list, slice_index, slice_index_or, vec_len, vec_capacity}
+use Rattle.prima_base.specs.declared.values.Value.{Value}
+use Rattle.history_store.specs.declared.columns.Write.{Write}
+use Rattle.history_store.specs.declared.columns.Column.TheInside.{Inside}
+use Rattle.history_store.specs.Log.{Log, newest}
+use Rattle.history_store.specs.Chains.{IsLinked}
+
+abbrev pub column_log : Inside → Log
+column_log a = record {
+  ids = vec_len a.last;
+  cells = a.cells.items;
+  spare = min (min (vec_capacity a.last - vec_len a.last) (vec_capacity a.cells - vec_len a.cells)) (min (vec_capacity a.first - vec_len a.first) (vec_capacity a.next - vec_len a.next));
+}
+
+-- each id's newest cell stands where `last` says
+pub record IsIndex (last : List ℕ) (cells : List Write) : Type 0 where
+  pub within : (id : ℕ) → id < length last → slice_index last id < length cells
+  pub found : (id : ℕ) (d : Write) → id < length last → newest id cells ≡ (slice_index_or cells (slice_index last id) d).value ∷ []
+  pub none : (id : ℕ) → length last ≤ id → newest id cells ≡ []
+
+pub record IsColumn (a : Inside) : Type 0 where
+  pub index : IsIndex a.last.items a.cells.items
+  pub linked : IsLinked a.first.items a.next.items a.last.items a.cells.items

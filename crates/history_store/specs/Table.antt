@@ -1,0 +1,50 @@
+-- What a table's keys and writes stand for.
+use Rattle.std.specs.Prelude.{◌≡◌, ℕ, ◌+◌, ◌<◌, ◌≤◌, ◌⊎◌, List, [], ◌∷◌, ◌++◌, length, if◌then◌else◌, slice_index_or}
+use Rattle.relations.specs.Sets.{In, Ascends}
+use Rattle.relations.specs.Spans.{Span, span, forever, covers}
+use Rattle.prima_base.specs.Order.{row_cmp}
+use Rattle.prima_base.specs.declared.values.Value.{Value}
+use Rattle.history_store.specs.declared.columns.Write.{Write}
+use Rattle.history_store.specs.Log.{newest, value_at}
+
+-- the values of one id at the moment, column by column
+abbrev pub row_then : ℕ → ℕ → List (List Write) → List Value
+row_then id m [] = []
+row_then id m (c ∷ columns) = value_at id m c ++ row_then id m columns
+
+abbrev pub row_now : ℕ → List (List Write) → List Value
+row_now id [] = []
+row_now id (c ∷ columns) = newest id c ++ row_now id columns
+
+-- the rows whose keys hold the moment, by id
+abbrev pub rows_then : ℕ → ℕ → List Span → List (List Write) → List (List Value)
+rows_then id m [] columns = []
+rows_then id m (k ∷ keys) columns = if covers k m then row_then id m columns ∷ rows_then (id + 1) m keys columns else rows_then (id + 1) m keys columns
+
+abbrev pub no_span : Span
+no_span = record { start = 0; end = 0 }
+
+abbrev pub IsOpen : List Span → ℕ → Type 0
+IsOpen keys id = (id < length keys) × ((slice_index_or keys id no_span).end ≡ forever)
+
+abbrev pub rows_of : List ℕ → List (List Write) → List (List Value)
+rows_of [] columns = []
+rows_of (id ∷ ids) columns = row_now id columns ∷ rows_of ids columns
+
+abbrev pub AllCells : ℕ → List Write → Type 0
+AllCells last [] = Unit {0}
+AllCells last (c ∷ cells) = (c.start ≤ last) × AllCells last cells
+
+-- no write is from later on
+abbrev pub AllColumns : ℕ → List (List Write) → Type 0
+AllColumns last [] = Unit {0}
+AllColumns last (c ∷ columns) = AllCells last c × AllColumns last columns
+
+-- `live` has the open ids, ascending by their rows
+pub record IsStored (keys : List Span) (columns : List (List Write)) (live : List ℕ) (last : ℕ) : Type 0 where
+  pub columns_fit : AllColumns last columns
+  pub started : (id : ℕ) → id < length keys → (slice_index_or keys id no_span).start ≤ last
+  pub ended : (id : ℕ) → id < length keys → ((slice_index_or keys id no_span).end ≤ last) ⊎ ((slice_index_or keys id no_span).end ≡ forever)
+  pub are_open : (id : ℕ) → In id live → IsOpen keys id
+  pub are_live : (id : ℕ) → IsOpen keys id → In id live
+  pub ordered : Ascends row_cmp (rows_of live columns)

@@ -1,0 +1,137 @@
+ghost use Rattle.std.specs.Prelude.{◌≡◌, OnOk, IfOk, [], ◌+◌, ◌++◌, vec_len, vec_capacity, ◌<◌, ◌≤◌, max, length, All, slice_index_or};
+ghost use Rattle.history_store.specs.Logs.{cells_of, least_spare};
+ghost use Rattle.history_store.specs.Handing.{ended_at, put_row, put_rows, handed, unpaired, new_keys, end_keys, keys_handed, logs_handed, AllWidth};
+ghost use Rattle.history_store.specs.Log.{Log};
+ghost use Rattle.history_store.specs.Table.{no_span};
+ghost use Rattle.relations.specs.Spans.{forever};
+
+use crate::columns::Column;
+use prima_base::{NoMemory, Period, Row, Value};
+use std::alloc::Global;
+
+/// From the stamp on, the row with this id has these values. It takes no memory.
+fn put_row(columns: &mut [Column], id: usize, row: Vec<Value>, stamp: u64)
+    requires width { length row.items ≡ length columns.old }
+    requires known { All (λ c. id ≤ c.ids) columns.old }
+    requires room { All (λ c. 0 < c.spare) columns.old }
+    ensures cells { cells_of columns.new ≡ put_row id row.items stamp (cells_of columns.old) }
+    ensures ids { (k : _) (d : Log) → k < length columns.old
+        → (slice_index_or columns.new k d).ids ≡ max (slice_index_or columns.old k d).ids (id + 1) }
+    ensures spare { (k : _) (d : Log) → k < length columns.old
+        → (slice_index_or columns.old k d).spare ≤ (slice_index_or columns.new k d).spare + 1 }
+{
+    let mut k = 0;
+    for value in row {
+        columns[k].put(id, value, stamp);
+        k += 1;
+    }
+}
+
+// The period up to the moment.
+fn ended(period: Period, moment: u64) -> Period
+    requires { period.start < moment }
+    ensures { result ≡ ended_at moment period }
+{
+    let Some(ended) = Period::new(period.start(), moment) else {
+        unreachable!();
+    };
+    ended
+}
+
+/// Ends the keys with these ids.
+fn end_keys(keys: &mut Vec<Period>, ids: &[usize], stamp: u64)
+    requires known { All (λ id. id < vec_len keys.old) ids.now }
+    requires later { (k : _) → k < vec_len keys.old → (slice_index_or keys.old.items k no_span).start < stamp }
+    ensures keys { keys.new.items ≡ end_keys ids.now stamp keys.old.items }
+    ensures len { vec_len keys.new ≡ vec_len keys.old }
+    ensures capacity { vec_capacity keys.new ≡ vec_capacity keys.old }
+{
+    for id in ids {
+        keys[*id] = ended(keys[*id], stamp);
+    }
+}
+
+/// The i-th row for the i-th lost id, and for a new id where there is none.
+fn hand_rows(
+    keys: &mut Vec<Period>,
+    columns: &mut [Column],
+    lost: &[usize],
+    gained: Vec<Row>,
+    stamp: u64,
+)
+    requires lawful { stamp < forever }
+    requires wide { AllWidth (length columns.old) gained.items }
+    requires known { All (λ id. id < vec_len keys.old) lost.now }
+    requires ids { All (λ c. c.ids ≡ vec_len keys.old) columns.old }
+    requires room { All (λ c. length gained.items ≤ c.spare) columns.old }
+    requires key_room { vec_len keys.old + length gained.items ≤ vec_capacity keys.old }
+    ensures keys { keys.new.items ≡ keys.old.items ++ new_keys stamp (unpaired gained.items lost.now) }
+    ensures cells { cells_of columns.new
+        ≡ put_rows (handed lost.now (vec_len keys.old) gained.items) gained.items stamp (cells_of columns.old) }
+    ensures ids { All (λ c. c.ids ≡ vec_len keys.new) columns.new }
+{
+    let mut i = 0;
+    for row in gained {
+        let id = if i < lost.len() {
+            lost[i]
+        } else {
+            keys.push_reserved(Period::from(stamp));
+            keys.len() - 1
+        };
+        put_row(columns, id, row.into_values(), stamp);
+        i += 1;
+    }
+}
+
+/// Writes the gained rows, and ends the keys of the lost rows that have no partner. It takes no memory.
+pub fn carry_out(
+    keys: &mut Vec<Period>,
+    columns: &mut Vec<Column>,
+    lost: &[usize],
+    gained: Vec<Row>,
+    stamp: u64,
+)
+    requires lawful { stamp < forever }
+    requires wide { AllWidth (vec_len columns.old) gained.items }
+    requires known { All (λ id. id < vec_len keys.old) lost.now }
+    requires later { (k : _) → k < vec_len keys.old → (slice_index_or keys.old.items k no_span).start < stamp }
+    requires ids { All (λ c. c.ids ≡ vec_len keys.old) columns.old.items }
+    requires room { All (λ c. length gained.items ≤ c.spare) columns.old.items }
+    requires key_room { vec_len keys.old + length gained.items ≤ vec_capacity keys.old }
+    ensures keys { keys.new.items ≡ keys_handed keys.old.items lost.now gained.items stamp }
+    ensures cells { cells_of columns.new.items
+        ≡ logs_handed keys.old.items (cells_of columns.old.items) lost.now gained.items stamp }
+    ensures ids { All (λ c. c.ids ≡ vec_len keys.new) columns.new.items }
+{
+    let paired = gained.len().min(lost.len());
+    end_keys(keys, lost.split_at(paired).1, stamp);
+    hand_rows(keys, columns, lost, gained, stamp);
+}
+
+/// Room for this many cells more in each column.
+pub fn reserve_all(columns: &mut Vec<Column>, more: usize) -> Result<(), NoMemory>
+    ensures len { vec_len columns.new ≡ vec_len columns.old }
+    ensures cells { cells_of columns.new.items ≡ cells_of columns.old.items }
+    ensures ids { (k : _) (d : Log) → k < vec_len columns.old
+        → (slice_index_or columns.new.items k d).ids ≡ (slice_index_or columns.old.items k d).ids }
+    ensures spare { (least : _) → least_spare least columns.old.items ≤ least_spare least columns.new.items }
+    ensures room { OnOk result (All (λ c. more ≤ c.spare) columns.new.items) }
+{
+    for k in 0..columns.len() {
+        columns[k].reserve(more)?;
+    }
+    Ok(())
+}
+
+/// Columns without rows.
+pub fn empty_columns(alloc: Global, width: usize) -> Result<Vec<Column>, NoMemory>
+    ensures width { IfOk result (λ v. length v.items ≡ width) }
+    ensures cells { IfOk result (λ v. All (λ c. c.cells ≡ []) v.items) }
+    ensures ids { IfOk result (λ v. All (λ c. c.ids ≡ 0) v.items) }
+{
+    let mut columns = Vec::with_capacity(alloc, width)?;
+    for k in 0..width {
+        columns.push(Column::new(alloc))?;
+    }
+    Ok(columns)
+}

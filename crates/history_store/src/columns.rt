@@ -1,0 +1,152 @@
+use crate::scans::CellScan;
+use prima_base::{NoMemory, Period, Value};
+use std::alloc::Global;
+use std::cmp::Ordering;
+use std::marker::Model;
+
+/// A value, from its moment on, of the row with this id.
+#[derive(Drop)]
+pub(crate) struct Write {
+    pub(crate) id: usize,
+    pub(crate) value: Value,
+    pub(crate) start: u64,
+}
+
+/// The writes of a column, in the order in which they were made. None is ever changed. For each write
+/// `next` has the place of the next one of its id, or 0; for each id `first` and `last` have the places
+/// of its first and its last one.
+#[derive(Drop)]
+pub(crate) struct Column {
+    cells: Vec<Write>,
+    next: Vec<usize>,
+    first: Vec<usize>,
+    last: Vec<usize>,
+}
+
+impl Model for Column {
+    ghost use Rattle.history_store.specs.Log.{Log};
+
+    ghost Value = { Log };
+
+    ghost use Rattle.history_store.specs.ColumnFields.{column_log, IsColumn};
+
+    ghost view = { column_log };
+
+    ghost invariant = { IsColumn };
+}
+
+impl Column {
+    ghost use Rattle.std.specs.Prelude.{◌≡◌, ◌+◌, ◌<◌, ◌≤◌, [], ◌∷◌, ◌++◌, OnOk, length};
+    ghost use Rattle.history_store.specs.Log.{newest};
+    ghost use Rattle.history_store.specs.Entries.{entries_from, IsHistory};
+
+    /// A column without rows.
+    pub(crate) fn new(alloc: Global) -> Column
+        ensures ids { result.ids ≡ 0 }
+        ensures cells { result.cells ≡ [] }
+    {
+        Column {
+            cells: Vec::new(alloc),
+            next: Vec::new(alloc),
+            first: Vec::new(alloc),
+            last: Vec::new(alloc),
+        }
+    }
+
+    /// Room for this many writes more.
+    pub(crate) fn reserve(&mut self, more: usize) -> Result<(), NoMemory>
+        ensures ids { self.new.ids ≡ self.old.ids }
+        ensures cells { self.new.cells ≡ self.old.cells }
+        ensures spare { self.old.spare ≤ self.new.spare }
+        ensures room { OnOk result (more ≤ self.new.spare) }
+    {
+        self.cells.reserve(more)?;
+        self.next.reserve(more)?;
+        self.first.reserve(more)?;
+        self.last.reserve(more)?;
+        Ok(())
+    }
+
+    // The next id, with its first value. It takes no memory.
+    fn grow(&mut self, value: Value, start: u64)
+        requires { 0 < self.old.spare }
+        ensures ids { self.new.ids ≡ self.old.ids + 1 }
+        ensures cells { self.new.cells ≡ self.old.cells ++ record { id = self.old.ids; value = value; start = start } ∷ [] }
+        ensures spare { self.old.spare ≤ self.new.spare + 1 }
+        ensures fresh { newest self.old.ids self.old.cells ≡ [] }
+    {
+        let id = self.last.len();
+        let at = self.cells.len();
+        self.last.push_reserved(at);
+        self.first.push_reserved(at);
+        self.next.push_reserved(0);
+        self.cells.push_reserved(Write { id, value, start });
+    }
+
+    // A new value of the row with this id. It takes no memory.
+    fn change(&mut self, id: usize, value: Value, start: u64)
+        requires known { id < self.old.ids }
+        requires room { 0 < self.old.spare }
+        ensures ids { self.new.ids ≡ self.old.ids }
+        ensures cells { self.new.cells ≡ self.old.cells ++ record { id = id; value = value; start = start } ∷ [] }
+        ensures spare { self.old.spare ≤ self.new.spare + 1 }
+    {
+        let at = self.cells.len();
+        let before = self.last[id];
+        self.next[before] = at;
+        self.last[id] = at;
+        self.next.push_reserved(0);
+        self.cells.push_reserved(Write { id, value, start });
+    }
+
+    /// The newest value of the row with this id.
+    pub(crate) fn newest(&self, id: usize) -> &Value
+        requires { id < self.now.ids }
+        ensures { newest id self.now.cells ≡ result.now ∷ [] }
+    {
+        &self.cells[self.last[id]].value
+    }
+
+    // How many ids the column has.
+    fn ids(&self) -> usize
+        ensures { result ≡ self.now.ids }
+    {
+        self.last.len()
+    }
+
+    /// How many writes the column has.
+    pub(crate) fn count(&self) -> usize
+        ensures { result ≡ length self.now.cells }
+    {
+        self.cells.len()
+    }
+
+    /// A scan of the entries, by id and start. It takes no memory.
+    pub(crate) fn scan<'a>(&'a self, keys: &'a [Period]) -> CellScan<'a>
+        requires ids { self.now.ids ≡ length keys.now }
+        requires history { IsHistory keys.now self.now.cells }
+        ensures { result ≡ entries_from 0 keys.now self.now.cells }
+    {
+        CellScan::over(keys, &self.cells, &self.first, &self.next)
+    }
+}
+
+impl Column {
+    ghost use Rattle.std.specs.Prelude.{◌≡◌, ◌+◌, ◌<◌, ◌≤◌, max};
+    ghost use Rattle.history_store.specs.Handing.{put};
+
+    /// From the moment on, the row with this id has this value. It takes no memory.
+    pub(crate) fn put(&mut self, id: usize, value: Value, start: u64)
+        requires known { id ≤ self.old.ids }
+        requires room { 0 < self.old.spare }
+        ensures ids { self.new.ids ≡ max self.old.ids (id + 1) }
+        ensures cells { self.new.cells ≡ put id value start self.old.cells }
+        ensures spare { self.old.spare ≤ self.new.spare + 1 }
+    {
+        if id == self.ids() {
+            self.grow(value, start);
+        } else if self.newest(id).compare(&value) != Ordering::Equal {
+            self.change(id, value, start);
+        }
+    }
+}
