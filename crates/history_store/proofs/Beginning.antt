@@ -1,13 +1,13 @@
 -- A table before its first stamp.
-use Rattle.std.proofs.Common.{◌≡◌, ℕ, suc, zero, ◌+◌, ◌<◌, ◌≤◌, true, false, List, [], ◌∷◌, ◌++◌, length, get_or, refl, sym, ap, ◌∙◌, subst, arith, inl, inr}
+use Rattle.std.proofs.Common.{◌≡◌, ℕ, suc, List, [], ◌∷◌, length, refl, sym, ap, ◌∙◌, subst, arith, inl, inr}
 use Rattle.std.specs.Prelude.{All}
 use Rattle.relations.specs.Sets.{In, set_of}
-use Rattle.relations.specs.Spans.{Span, forever}
+use Rattle.relations.specs.Spans.{forever}
 use Rattle.prima_base.specs.declared.values.Value.{Value}
 use Rattle.history_store.specs.declared.columns.Write.{Write}
 use Rattle.history_store.specs.Log.{Log}
 use Rattle.history_store.specs.Logs.{cells_of}
-use Rattle.history_store.specs.Store.{Cell, Column, Store, relation_at, AllBefore}
+use Rattle.history_store.specs.Store.{Cell, Column, relation_at, AllBefore}
 use Rattle.history_store.specs.Entries.{all_entries, IsHistory, AreHistories}
 use Rattle.history_store.specs.TableFields.{store_of, IsKept}
 use Rattle.history_store.specs.Handing.{unpaired, handed, new_keys, only_in}

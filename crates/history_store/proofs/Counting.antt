@@ -1,10 +1,9 @@
 -- A column has as many entries as writes.
-use Rattle.std.proofs.Common.{◌≡◌, ◌≢◌, ◌⊎◌, ℕ, suc, zero, ◌+◌, ◌-◌, ◌<◌, ◌≤◌, true, false, List, [], ◌∷◌, ◌++◌, length, get_or, refl, sym, ap, ◌∙◌, subst, arith, if◌then◌else◌, inl, inr, length-append, ◌==◌}
+use Rattle.std.proofs.Common.{◌≡◌, ◌≢◌, ℕ, suc, zero, ◌+◌, ◌<◌, ◌≤◌, false, List, [], ◌∷◌, length, get_or, refl, sym, ap, ◌∙◌, arith, inl, inr, length-append, ◌==◌}
 use Rattle.std.proofs.lemmas.Bool.Decides.{nat_tests, eqb_tells}
 use Rattle.relations.specs.Sets.{In}
 use Rattle.relations.specs.Spans.{Span}
 use Rattle.history_store.specs.declared.columns.Write.{Write}
-use Rattle.history_store.specs.Store.{Cell}
 use Rattle.history_store.specs.Chains.{of_id}
 use Rattle.history_store.specs.Entries.{with_ends, entries_from, all_entries, IsHistory, AreHistories}
 

@@ -1,8 +1,8 @@
 -- The entries behind a change are those of the writes behind it.
 use Rattle.std.proofs.Common.{◌≡◌, ◌≢◌, ◌⊎◌, ◌&&◌, ℕ, suc, zero, ◌+◌, ◌<◌, ◌≤◌, Bool, true, false, List, [], ◌∷◌, ◌++◌, length, get_or, set, refl, sym, ap, ◌∙◌, subst, arith, if◌then◌else◌, inl, inr, append_assoc, append-nil, length-append, ◌==◌}
 use Rattle.std.proofs.lemmas.Bool.Decides.{nat_tests, eqb_tells}
-use Rattle.std.proofs.lemmas.List.{get_or-set_same, get_or-set_other}
-use Rattle.std.proofs.Math.ListN.{length-set, get_or-append}
+use Rattle.std.proofs.lemmas.List.{get_or-set_other}
+use Rattle.std.proofs.Math.ListN.{length-set}
 use Rattle.relations.specs.Sets.{In}
 use Rattle.relations.specs.Spans.{Span, span, forever}
 use Rattle.prima_base.specs.Order.{value_eq}
@@ -11,12 +11,12 @@ use Rattle.history_store.specs.declared.columns.Write.{Write}
 use Rattle.history_store.specs.Store.{Cell}
 use Rattle.history_store.specs.Log.{over, newest}
 use Rattle.history_store.specs.Chains.{of_id}
-use Rattle.history_store.specs.Entries.{entry, with_ends, entries_from, all_entries, Climbs, Fits, IsHistory, AreHistories}
+use Rattle.history_store.specs.Entries.{entry, with_ends, entries_from, all_entries, Fits, AreHistories}
 use Rattle.history_store.specs.Table.{no_span, IsOpen}
 use Rattle.history_store.specs.Handing.{is_value, put, put_row, put_rows, ended_at, end_keys, unpaired, handed, new_keys, Distinct, AllWidth}
-use Rattle.history_store.specs.Change.{goes_on, ended, begun, write, write_row, write_rows, close, close_each, close_all}
+use Rattle.history_store.specs.Change.{goes_on, ended, begun, write, write_row, write_rows, close, close_all}
 use Rattle.history_store.proofs.Links.{of_id-append, other_id}
-use Rattle.history_store.proofs.Histories.{written, Below, BelowEach, by_put, of_id_other, of_id_more, last_value, newest_is, put_new, none_known, history_old, history_new, history_ended, histories_old, histories_new, histories_ended, below_stays, below_rows}
+use Rattle.history_store.proofs.Histories.{written, Below, BelowEach, of_id_other, of_id_more, last_value, newest_is, put_new, none_known, histories_old, histories_new, histories_ended, below_stays}
 use Rattle.history_store.proofs.Puts.{row_width}
 
 -- entries that are not those of the id

@@ -1,14 +1,13 @@
 -- A scan that follows the links.
-use Rattle.std.proofs.Common.{◌≡◌, ◌≢◌, ℕ, suc, zero, ◌+◌, ◌<◌, ◌≤◌, Bool, true, false, List, [], ◌∷◌, ◌++◌, length, get_or, drop, refl, sym, ap, ◌∙◌, subst, arith, if◌then◌else◌, inl, inr, ◌==◌}
+use Rattle.std.proofs.Common.{◌≡◌, ◌≢◌, ℕ, suc, zero, ◌+◌, ◌<◌, ◌≤◌, true, List, [], ◌∷◌, ◌++◌, length, get_or, drop, refl, sym, ap, ◌∙◌, subst, arith, inl, inr, ◌==◌}
 use Rattle.std.proofs.lemmas.Bool.Decides.{nat_tests}
 use Rattle.std.proofs.lemmas.Bool.{cases_lt}
 use Rattle.std.proofs.lemmas.List.{drop_more}
 use Rattle.std.proofs.Math.ListN.{drop_of_length-le}
 use Rattle.relations.specs.Spans.{Span}
 use Rattle.history_store.specs.declared.columns.Write.{Write}
-use Rattle.history_store.specs.Store.{Cell}
 use Rattle.history_store.specs.Table.{no_span}
-use Rattle.history_store.specs.Chains.{of_id, ids_of, id_at, IsChain}
+use Rattle.history_store.specs.Chains.{of_id, id_at, IsChain}
 use Rattle.history_store.specs.Entries.{entry, with_ends, entries_from, Climbs, Fits, IsHistory}
 use Rattle.history_store.specs.ScanFields.{rest_of, Goes, IsAt}
 

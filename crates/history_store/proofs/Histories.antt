@@ -1,5 +1,5 @@
 -- The writes of each id fill its key, whatever a change writes.
-use Rattle.std.proofs.Common.{◌≡◌, ◌≢◌, ◌⊎◌, ℕ, suc, zero, ◌+◌, ◌<◌, ◌≤◌, Bool, true, false, List, [], ◌∷◌, ◌++◌, length, get_or, set, refl, sym, ap, ◌∙◌, subst, arith, if◌then◌else◌, inl, inr, append_assoc, append-nil, length-append, ◌==◌}
+use Rattle.std.proofs.Common.{◌≡◌, ◌≢◌, ℕ, ◌+◌, ◌<◌, ◌≤◌, Bool, true, false, List, [], ◌∷◌, ◌++◌, length, get_or, set, refl, sym, ap, ◌∙◌, subst, arith, if◌then◌else◌, inl, inr, append-nil, length-append, ◌==◌}
 use Rattle.std.proofs.lemmas.Bool.Decides.{nat_tests, eqb_tells}
 use Rattle.std.proofs.lemmas.Bool.{cases_lt}
 use Rattle.std.proofs.lemmas.List.{get_or-set_same, get_or-set_other}
@@ -14,9 +14,8 @@ use Rattle.history_store.specs.Log.{over, newest}
 use Rattle.history_store.specs.Chains.{of_id}
 use Rattle.history_store.specs.Entries.{Climbs, Fits, IsHistory, AreHistories}
 use Rattle.history_store.specs.Table.{no_span, IsOpen}
-use Rattle.history_store.specs.Handing.{is_value, put, put_row, put_rows, ended_at, end_keys, unpaired, handed, new_keys, Distinct, AllWidth}
+use Rattle.history_store.specs.Handing.{is_value, put, put_row, put_rows, ended_at}
 use Rattle.history_store.proofs.Links.{of_id-append, other_id, same_id}
-use Rattle.history_store.proofs.Puts.{row_width}
 
 abbrev pub written : ℕ → Value → ℕ → Write
 written id v stamp = record { id = id; value = v; start = stamp }

@@ -1,21 +1,21 @@
 -- A plan that is installed.
-use Rattle.std.proofs.Common.{◌≡◌, ◌≢◌, ◌⊎◌, ℕ, suc, zero, ◌+◌, ◌-◌, ◌<◌, ◌≤◌, List, [], ◌∷◌, ◌++◌, length, get_or, refl, sym, ap, ◌∙◌, subst, arith, inl, inr, length-append}
+use Rattle.std.proofs.Common.{◌≡◌, ℕ, ◌<◌, ◌≤◌, List, [], ◌∷◌, ◌++◌, length, refl, sym, ap, ◌∙◌, subst, arith, length-append}
 use Rattle.std.proofs.Math.ListN.{get_or-append}
-use Rattle.relations.specs.Sets.{In, Ascends, set_of}
-use Rattle.relations.specs.Spans.{Span, span, forever}
+use Rattle.relations.specs.Sets.{set_of}
+use Rattle.relations.specs.Spans.{Span, forever}
 use Rattle.prima_base.specs.Order.{row_cmp}
 use Rattle.prima_base.specs.declared.values.Value.{Value}
 use Rattle.history_store.specs.declared.columns.Write.{Write}
-use Rattle.history_store.specs.Store.{Cell, Column, Store, relation_at, IsRow, IsRelation, AllBefore}
-use Rattle.history_store.specs.Entries.{all_entries, AreHistories}
+use Rattle.history_store.specs.Store.{Column, relation_at, IsRelation, AllBefore}
+use Rattle.history_store.specs.Entries.{all_entries}
 use Rattle.history_store.specs.Table.{row_now, rows_of, no_span, IsOpen, IsStored}
 use Rattle.history_store.specs.TableFields.{store_of, IsKept}
-use Rattle.history_store.specs.Handing.{put_row, put_rows, end_keys, unpaired, handed, new_keys, keys_handed, logs_handed, Distinct, AllWidth, IsHandOver}
-use Rattle.history_store.specs.Change.{Plan, IsPlan, rows_after, rows_along, keys_after, cells_after, write_rows, close_all}
+use Rattle.history_store.specs.Handing.{put_row, put_rows, unpaired, handed, new_keys, keys_handed, logs_handed, Distinct, IsHandOver}
+use Rattle.history_store.specs.Change.{Plan, IsPlan, rows_after, rows_along, cells_after, write_rows, close_all}
 use Rattle.history_store.proofs.Puts.{row_width}
-use Rattle.history_store.proofs.Plans.{stored_after, before_after, open_after, started_after, handed_is, unpaired_in, not_both, rows_all}
+use Rattle.history_store.proofs.Plans.{stored_after, before_after, open_after, started_after, unpaired_in, not_both, rows_all}
 use Rattle.history_store.proofs.Now.{at_now, rows_of_in}
-use Rattle.history_store.proofs.Histories.{BelowEach, below_rows}
+use Rattle.history_store.proofs.Histories.{below_rows}
 use Rattle.history_store.proofs.Entering.{Handed, hand_over, end_over}
 use Rattle.history_store.proofs.Showing.{AllBelow, logs_below, below_each, stored_at, stored_more, along_is, relation_is, all_before}
 

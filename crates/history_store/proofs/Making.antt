@@ -1,15 +1,14 @@
 -- What is found along the current rows makes a plan.
-use Rattle.std.proofs.Common.{◌≡◌, ℕ, suc, ◌+◌, ◌<◌, ◌≤◌, List, [], ◌∷◌, length, refl, sym, ap, ◌∙◌, subst, arith, inl, inr}
-use Rattle.relations.specs.Sets.{In, Ascends, set_of, has}
+use Rattle.std.proofs.Common.{◌≡◌, ℕ, suc, ◌<◌, List, [], ◌∷◌, length, refl, sym, ap, ◌∙◌, subst, arith, inl, inr}
+use Rattle.relations.specs.Sets.{In}
 use Rattle.relations.specs.Spans.{Span, forever}
-use Rattle.prima_base.specs.Order.{row_cmp}
 use Rattle.prima_base.specs.declared.values.Value.{Value}
 use Rattle.history_store.specs.declared.columns.Write.{Write}
-use Rattle.history_store.specs.Store.{Column, Store, relation_at, IsRow, IsRelation, AllBefore}
+use Rattle.history_store.specs.Store.{Column, relation_at, IsRow, IsRelation, AllBefore}
 use Rattle.history_store.specs.Entries.{all_entries}
-use Rattle.history_store.specs.Table.{rows_of, IsOpen, IsStored}
+use Rattle.history_store.specs.Table.{IsStored}
 use Rattle.history_store.specs.TableFields.{store_of, IsKept}
-use Rattle.history_store.specs.Handing.{AllWidth, IsHandOver, only_in, lost_ids, gained_rows, after_ids, logs_handed}
+use Rattle.history_store.specs.Handing.{AllWidth, IsHandOver, only_in, lost_ids, gained_rows, after_ids}
 use Rattle.history_store.specs.Change.{Plan, IsPlan, rows_after, rows_along}
 use Rattle.history_store.proofs.Planning.{is_plan, plan_rows, lost_is}
 use Rattle.history_store.proofs.Rule.{lost_rule, gained_rule}

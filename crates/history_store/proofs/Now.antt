@@ -1,19 +1,15 @@
 -- From the last stamp on, a table stands for the rows of its live ids.
-use Rattle.std.proofs.Common.{◌≡◌, ◌≢◌, ℕ, zero, suc, ◌+◌, ◌<◌, ◌≤◌, ◌&&◌, ◌⊎◌, Bool, true, false, List, [], ◌∷◌, ◌++◌, length, get_or, refl, sym, ap, ◌∙◌, subst, arith, if◌then◌else◌, nat_le, nat_lt, ◌==◌, inl, inr}
-use Rattle.std.specs.Cmp.{IsTotalOrder}
-use Rattle.std.specs.declared.cmp.Ordering.TheVariants.{Equal}
+use Rattle.std.proofs.Common.{◌≡◌, ℕ, zero, suc, ◌+◌, ◌<◌, ◌≤◌, Bool, true, false, List, [], ◌∷◌, length, get_or, refl, sym, ap, ◌∙◌, subst, arith, if◌then◌else◌, nat_le, inl, inr}
 use Rattle.std.proofs.lemmas.Bool.Decides.{nat_tests}
 use Rattle.std.proofs.lemmas.Grind.{common_steps}
 use Rattle.prima_base.specs.Order.{row_cmp}
 use Rattle.relations.specs.Spans.{Span, forever, covers}
-use Rattle.prima_base.specs.OrderLaws.{row_total}
 use Rattle.prima_base.specs.declared.values.Value.{Value}
 use Rattle.history_store.specs.declared.columns.Write.{Write}
-use Rattle.history_store.specs.Log.{newest, value_at, over}
-use Rattle.relations.specs.Sets.{In, Ascends, set_of}
-use Rattle.history_store.specs.Table.{row_then, row_now, rows_then, rows_of, no_span, IsOpen, AllCells, AllColumns, IsStored}
+use Rattle.history_store.specs.Log.{newest, value_at}
+use Rattle.relations.specs.Sets.{In, set_of}
+use Rattle.history_store.specs.Table.{row_then, row_now, rows_then, rows_of, no_span, AllCells, AllColumns, IsStored}
 use Rattle.history_store.proofs.Sides.{set_is}
-use Rattle.history_store.proofs.Sides.{exact_rows}
 
 value_now : (id m last : ℕ) (cells : List Write) → AllCells last cells → last ≤ m → value_at id m cells ≡ newest id cells
 value_now id m last [] a l = refl

@@ -1,19 +1,19 @@
 -- The ids that are found for the rows of the next relation make a plan.
-use Rattle.std.proofs.Common.{◌≡◌, ◌⊎◌, ◌||◌, ℕ, suc, zero, ◌+◌, ◌<◌, ◌≤◌, Bool, true, false, List, [], ◌∷◌, ◌++◌, length, get_or, drop, refl, sym, ap, ◌∙◌, subst, arith, if◌then◌else◌, inl, inr, append_assoc}
+use Rattle.std.proofs.Common.{◌≡◌, ◌||◌, ℕ, Bool, true, false, List, [], ◌∷◌, length, refl, sym, ap, ◌∙◌, subst, if◌then◌else◌, inl, inr}
 use Rattle.std.specs.declared.cmp.Ordering.{Ordering}
 use Rattle.std.specs.declared.cmp.Ordering.TheVariants.{Less, Equal, Greater}
-use Rattle.std.specs.Ordering.{ordering_reverse, is_eq}
+use Rattle.std.specs.Ordering.{is_eq}
 use Rattle.prima_base.specs.Order.{row_cmp}
-use Rattle.relations.specs.Spans.{Span, forever, covers}
+use Rattle.relations.specs.Spans.{Span}
 use Rattle.prima_base.specs.OrderLaws.{row_total}
 use Rattle.prima_base.specs.declared.values.Value.{Value}
 use Rattle.std.proofs.lemmas.Cmp.{tied_itself}
 use Rattle.history_store.specs.declared.columns.Write.{Write}
-use Rattle.relations.specs.Sets.{has, In, BeforeAll, Ascends}
+use Rattle.relations.specs.Sets.{has, In, Ascends}
 use Rattle.history_store.specs.Table.{row_now, rows_of, IsOpen, IsStored}
-use Rattle.history_store.specs.Handing.{lost_ids, handed, Distinct, AllWidth, Pairs, HasNext, AllNext, IsHandOver, found, gained_by, gained_rows, id_by, lost_by, next_by, after_ids, logs_handed}
+use Rattle.history_store.specs.Handing.{lost_ids, handed, Distinct, AllWidth, Pairs, AllNext, IsHandOver, found, gained_by, gained_rows, id_by, lost_by, next_by, after_ids, logs_handed}
 use Rattle.history_store.proofs.Sides.{exact_rows}
-use Rattle.history_store.proofs.Sides.{before_more, before_in, not_self}
+use Rattle.history_store.proofs.Sides.{before_in, not_self}
 use Rattle.history_store.proofs.Now.{rows_of_in}
 use Rattle.history_store.proofs.Plans.{next_is, next_rows}
 

@@ -1,5 +1,5 @@
 -- A plan that is carried out.
-use Rattle.std.proofs.Common.{◌≡◌, ◌≢◌, ℕ, zero, suc, ◌+◌, ◌-◌, ◌<◌, ◌≤◌, ◌&&◌, ◌⊎◌, Bool, true, false, List, [], ◌∷◌, ◌++◌, length, get_or, set, refl, sym, ap, ◌∙◌, subst, arith, if◌then◌else◌, nat_le, nat_lt, ◌==◌, inl, inr}
+use Rattle.std.proofs.Common.{◌≡◌, ◌≢◌, ℕ, zero, suc, ◌+◌, ◌-◌, ◌<◌, ◌≤◌, ◌⊎◌, true, false, List, [], ◌∷◌, ◌++◌, length, get_or, set, refl, sym, ap, ◌∙◌, subst, arith, if◌then◌else◌, nat_le, nat_lt, inl, inr}
 use Rattle.std.proofs.lemmas.Bool.Decides.{nat_tests, eqb_tells}
 use Rattle.std.proofs.lemmas.Grind.{common_steps}
 use Rattle.std.proofs.Math.ListN.{length-set, get_or-append}
@@ -9,9 +9,9 @@ use Rattle.prima_base.specs.Order.{row_cmp}
 use Rattle.relations.specs.Spans.{Span, forever, covers}
 use Rattle.prima_base.specs.declared.values.Value.{Value}
 use Rattle.history_store.specs.declared.columns.Write.{Write}
-use Rattle.relations.specs.Sets.{In, Ascends, set_of}
-use Rattle.history_store.specs.Table.{row_then, row_now, rows_then, rows_of, no_span, IsOpen, AllCells, AllColumns, IsStored}
-use Rattle.history_store.specs.Handing.{put_row, put_rows, ended_at, end_keys, unpaired, handed, new_keys, keys_handed, logs_handed, Distinct, AllWidth, Pairs, HasNext, AllNext, IsHandOver}
+use Rattle.relations.specs.Sets.{In, Ascends}
+use Rattle.history_store.specs.Table.{row_then, row_now, rows_then, rows_of, no_span, IsOpen, AllColumns, IsStored}
+use Rattle.history_store.specs.Handing.{put_row, put_rows, ended_at, end_keys, unpaired, handed, new_keys, keys_handed, logs_handed, Distinct, AllWidth, Pairs, AllNext, IsHandOver}
 use Rattle.history_store.proofs.Puts.{row_before, row_same, row_other, row_all, row_width, columns_more}
 
 -- columns

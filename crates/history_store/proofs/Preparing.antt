@@ -1,11 +1,11 @@
 -- What is needed where a change is made ready.
-use Rattle.std.proofs.Common.{◌≡◌, ℕ, zero, suc, ◌+◌, ◌-◌, ◌<◌, ◌≤◌, List, [], ◌∷◌, length, get_or, refl, sym, ap, ◌∙◌, subst, arith}
-use Rattle.std.specs.Prelude.{min, All}
-use Rattle.relations.specs.Spans.{Span, forever, covers}
+use Rattle.std.proofs.Common.{◌≡◌, ℕ, suc, ◌<◌, ◌≤◌, List, [], ◌∷◌, length, get_or, sym, ap, ◌∙◌, subst, arith}
+use Rattle.std.specs.Prelude.{All}
+use Rattle.relations.specs.Spans.{Span}
 use Rattle.relations.specs.Sets.{In}
 use Rattle.history_store.specs.Log.{Log}
 use Rattle.history_store.specs.Logs.{least_spare, cells_of}
-use Rattle.history_store.specs.Table.{no_span, IsOpen, AllCells, AllColumns, IsStored}
+use Rattle.history_store.specs.Table.{IsOpen, AllCells, AllColumns, IsStored}
 use Rattle.history_store.proofs.Carry.{in_get}
 
 pub all_known : (live live' : List ℕ) (keys : List Span) (columns columns' : List Log) → live' ≡ live → columns' ≡ columns → ((q : ℕ) → In q live → IsOpen keys q) → All (λ c. c.ids ≡ length keys) columns

@@ -1,12 +1,11 @@
 -- What is seen of the columns after a stamp wrote some rows.
-use Rattle.std.proofs.Common.{◌≡◌, ◌≢◌, ℕ, ◌+◌, ◌<◌, ◌≤◌, ◌&&◌, ◌⊎◌, Bool, true, false, List, [], ◌∷◌, ◌++◌, length, get_or, refl, sym, ap, ◌∙◌, subst, arith, if◌then◌else◌, nat_le, ◌==◌, inl, inr}
+use Rattle.std.proofs.Common.{◌≡◌, ◌≢◌, ℕ, ◌<◌, ◌≤◌, Bool, true, false, List, [], ◌∷◌, ◌++◌, length, refl, ap, arith, if◌then◌else◌}
 use Rattle.std.proofs.lemmas.Map.Views.{tells_apart}
-use Rattle.prima_base.specs.Order.{value_cmp, value_eq}
 use Rattle.prima_base.specs.declared.values.Value.{Value}
 use Rattle.history_store.specs.declared.columns.Write.{Write}
 use Rattle.history_store.specs.Log.{newest, value_at}
 use Rattle.history_store.specs.Table.{row_then, row_now, AllCells, AllColumns}
-use Rattle.history_store.specs.Handing.{is_value, put, put_row, put_rows}
+use Rattle.history_store.specs.Handing.{is_value, put, put_row}
 use Rattle.history_store.proofs.Newest.{newest-same, newest-other, value_at-before}
 use Rattle.history_store.proofs.Sides.{exact_values}
 

@@ -1,10 +1,9 @@
 -- What is read of a table: a column, and whether a row is there.
-use Rattle.std.proofs.Common.{◌≡◌, ◌≢◌, ◌⊎◌, ℕ, suc, zero, ◌+◌, ◌<◌, ◌≤◌, Bool, true, false, List, [], ◌∷◌, length, get_or, refl, sym, ap, ◌∙◌, subst, arith, inl, inr}
+use Rattle.std.proofs.Common.{◌≡◌, ℕ, suc, ◌+◌, ◌<◌, ◌≤◌, Bool, true, false, List, [], ◌∷◌, length, get_or, refl, sym, ap, ◌∙◌, subst, arith, inl, inr}
 use Rattle.std.proofs.lemmas.Bool.{cases_lt}
-use Rattle.std.specs.declared.cmp.Ordering.{Ordering}
 use Rattle.std.specs.declared.cmp.Ordering.TheVariants.{Less, Equal, Greater}
 use Rattle.std.proofs.lemmas.Cmp.{tied_itself}
-use Rattle.relations.specs.Sets.{In, Ascends, has}
+use Rattle.relations.specs.Sets.{In, has}
 use Rattle.relations.specs.Spans.{Span, forever}
 use Rattle.relations.proofs.SetLaws.{in_has, has_in}
 use Rattle.prima_base.specs.Order.{row_cmp}
@@ -13,9 +12,9 @@ use Rattle.prima_base.specs.declared.values.Value.{Value}
 use Rattle.history_store.specs.declared.columns.Write.{Write}
 use Rattle.history_store.specs.Log.{Log}
 use Rattle.history_store.specs.Logs.{cells_of}
-use Rattle.history_store.specs.Store.{Cell, Column, Store, relation_at, IsRow, AllBefore}
-use Rattle.history_store.specs.Entries.{entries_from, all_entries, IsHistory, AreHistories}
-use Rattle.history_store.specs.Table.{row_now, rows_of, IsStored}
+use Rattle.history_store.specs.Store.{Column, relation_at, IsRow, AllBefore}
+use Rattle.history_store.specs.Entries.{entries_from, all_entries, IsHistory}
+use Rattle.history_store.specs.Table.{row_now, rows_of}
 use Rattle.history_store.specs.TableFields.{store_of, IsKept}
 use Rattle.history_store.proofs.Rows.{get_or-cells_of, length-cells_of}
 use Rattle.history_store.proofs.Counting.{column_count, column_entries, column_history}

@@ -3,13 +3,12 @@ use Rattle.std.proofs.Common.{◌≡◌, ◌≢◌, ℕ, zero, suc, ◌+◌, ◌
 use Rattle.std.proofs.lemmas.Bool.Decides.{eqb_tells}
 use Rattle.std.proofs.lemmas.List.{get_or-set_same, get_or-set_other, get_or_default}
 use Rattle.std.specs.Prelude.{max}
-use Rattle.std.proofs.lemmas.Grind.{common_steps}
 use Rattle.prima_base.specs.declared.values.Value.{Value}
 use Rattle.history_store.specs.declared.columns.Write.{Write}
 use Rattle.history_store.specs.Log.{Log}
 use Rattle.history_store.specs.Logs.{cells_of, least_spare}
-use Rattle.history_store.specs.Handing.{put, put_row, put_rows, unpaired, new_keys}
-use Rattle.relations.specs.Spans.{Span, forever, covers}
+use Rattle.history_store.specs.Handing.{put, put_row, unpaired, new_keys}
+use Rattle.relations.specs.Spans.{Span}
 
 pub put_row-nil : (id stamp : ℕ) (columns : List (List Write)) → columns ≡ put_row id [] stamp columns
 put_row-nil id stamp [] = refl

@@ -1,17 +1,16 @@
 -- The storing rule over relations alone, and the counts that follow.
-use Rattle.std.proofs.Common.{◌≡◌, ◌⊎◌, ◌||◌, ℕ, suc, zero, ◌+◌, ◌-◌, ◌<◌, ◌≤◌, Bool, true, false, List, [], ◌∷◌, ◌++◌, length, refl, sym, ap, ◌∙◌, subst, arith, if◌then◌else◌, inl, inr, length-append}
+use Rattle.std.proofs.Common.{◌≡◌, ◌||◌, ℕ, ◌+◌, ◌-◌, Bool, true, false, List, [], ◌∷◌, ◌++◌, length, refl, ap, ◌∙◌, arith, if◌then◌else◌, length-append}
 use Rattle.std.specs.declared.cmp.Ordering.{Ordering}
 use Rattle.std.specs.declared.cmp.Ordering.TheVariants.{Less, Equal, Greater}
 use Rattle.std.specs.Ordering.{ordering_reverse, is_eq}
 use Rattle.prima_base.specs.Order.{row_cmp}
-use Rattle.relations.specs.Spans.{Span, forever, covers}
+use Rattle.relations.specs.Spans.{Span}
 use Rattle.prima_base.specs.OrderLaws.{row_total}
 use Rattle.prima_base.specs.declared.values.Value.{Value}
 use Rattle.history_store.specs.declared.columns.Write.{Write}
-use Rattle.relations.specs.Sets.{has, In}
-use Rattle.history_store.specs.Log.{newest}
+use Rattle.relations.specs.Sets.{has}
 use Rattle.history_store.specs.Table.{row_now, rows_of}
-use Rattle.history_store.specs.Handing.{is_value, only_in, lost_ids, gained_by, gained_rows, found, unpaired, keys_handed, new_keys, handed, put, put_row, put_rows, Distinct}
+use Rattle.history_store.specs.Handing.{only_in, lost_ids, gained_by, gained_rows, found, unpaired, keys_handed, new_keys}
 use Rattle.history_store.proofs.Plans.{length-end_keys, length-new_keys}
 
 pub lost_rule : (columns : List (List Write)) (rows : List (List Value)) (ids : List ℕ) → rows_of (lost_ids columns ids rows) columns ≡ only_in (rows_of ids columns) rows

@@ -1,12 +1,11 @@
 -- Ascending lists, as the other files use them.
-use Rattle.std.proofs.Common.{◌≡◌, List, [], ◌∷◌, refl, sym, ap, ◌∙◌, subst, inl, inr}
-use Rattle.std.specs.Prelude.{◌⊎◌}
+use Rattle.std.proofs.Common.{◌≡◌, List, [], ◌∷◌, sym, ap, ◌∙◌, subst, inl, inr}
 use Rattle.std.specs.Cmp.{IsTotalOrder}
 use Rattle.std.specs.declared.cmp.Ordering.{Ordering}
 use Rattle.std.specs.declared.cmp.Ordering.TheVariants.{Less, Equal, Greater}
 use Rattle.std.specs.Ordering.{ordering_reverse}
 use Rattle.std.proofs.lemmas.Map.Lookups.{exact_signed, exact_bytes}
-use Rattle.relations.specs.Sets.{In, Same, BeforeAll, Ascends, set_of}
+use Rattle.relations.specs.Sets.{In, BeforeAll, Ascends, set_of}
 use Rattle.relations.proofs.SetLaws.{one_list, set_ascends, in_set, from_set}
 use Rattle.prima_base.specs.Order.{value_cmp, row_cmp}
 use Rattle.prima_base.specs.OrderLaws.{row_exact}

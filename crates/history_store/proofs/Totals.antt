@@ -1,14 +1,13 @@
 -- How many keys and entries a plan adds.
-use Rattle.std.proofs.Common.{◌≡◌, ℕ, suc, zero, ◌+◌, ◌-◌, ◌<◌, ◌≤◌, List, [], ◌∷◌, length, get_or, refl, sym, ap, ◌∙◌, subst, arith, inl, inr}
-use Rattle.relations.specs.Sets.{In}
-use Rattle.relations.specs.Spans.{Span, forever}
+use Rattle.std.proofs.Common.{◌≡◌, ℕ, ◌+◌, ◌<◌, ◌≤◌, List, [], ◌∷◌, length, get_or, refl, sym, ap, ◌∙◌, subst, arith}
+use Rattle.relations.specs.Spans.{Span}
 use Rattle.prima_base.specs.declared.values.Value.{Value}
 use Rattle.history_store.specs.declared.columns.Write.{Write}
-use Rattle.history_store.specs.Log.{over, newest}
+use Rattle.history_store.specs.Log.{over}
 use Rattle.history_store.specs.Chains.{of_id}
-use Rattle.history_store.specs.Store.{Column, Store, AllBefore}
-use Rattle.history_store.specs.Entries.{Fits, all_entries, IsHistory, AreHistories}
-use Rattle.history_store.specs.Table.{no_span, rows_of, IsOpen, IsStored}
+use Rattle.history_store.specs.Store.{Column}
+use Rattle.history_store.specs.Entries.{Fits, all_entries, AreHistories}
+use Rattle.history_store.specs.Table.{no_span, rows_of}
 use Rattle.history_store.specs.TableFields.{store_of, IsKept}
 use Rattle.history_store.specs.Handing.{keys_handed, logs_handed, cells_added, AllWidth}
 use Rattle.history_store.specs.Change.{Plan, IsPlan, rows_along}

@@ -1,5 +1,5 @@
 -- The cells of one id, by links from each to the next.
-use Rattle.std.specs.Prelude.{◌≡◌, ◌≢◌, ℕ, ◌+◌, ◌<◌, ◌==◌, List, [], ◌∷◌, ◌++◌, ◌≤◌, length, drop, if◌then◌else◌, slice_index}
+use Rattle.std.specs.Prelude.{◌≡◌, ◌≢◌, ℕ, ◌+◌, ◌<◌, ◌==◌, List, [], ◌∷◌, length, drop, if◌then◌else◌, slice_index}
 use Rattle.history_store.specs.declared.columns.Write.{Write}
 
 -- the cells of this id, oldest first

@@ -1,6 +1,5 @@
 -- The fields of a column.
-use Rattle.std.specs.Prelude.{◌≡◌, ℕ, ◌-◌, ◌<◌, ◌≤◌, min, List, [], ◌∷◌, length, All, option_map, option_to_list, slice_index, slice_index_or, vec_len, vec_capacity}
-use Rattle.prima_base.specs.declared.values.Value.{Value}
+use Rattle.std.specs.Prelude.{◌≡◌, ℕ, ◌-◌, ◌<◌, ◌≤◌, min, List, [], ◌∷◌, length, slice_index, slice_index_or, vec_len, vec_capacity}
 use Rattle.history_store.specs.declared.columns.Write.{Write}
 use Rattle.history_store.specs.declared.columns.Column.TheInside.{Inside}
 use Rattle.history_store.specs.Log.{Log, newest}

@@ -1,5 +1,5 @@
 -- What a stamp writes.
-use Rattle.std.specs.Prelude.{◌≡◌, ◌⊎◌, take, drop, length, ℕ, ◌||◌, ◌+◌, ◌-◌, Bool, false, List, [], ◌∷◌, ◌++◌, if◌then◌else◌, slice_index_or, slice_set}
+use Rattle.std.specs.Prelude.{◌≡◌, ◌⊎◌, take, drop, length, ℕ, ◌+◌, Bool, false, List, [], ◌∷◌, ◌++◌, if◌then◌else◌, slice_index_or, slice_set}
 use Rattle.std.specs.Ordering.{is_eq}
 use Rattle.std.specs.declared.cmp.Ordering.{Ordering}
 use Rattle.std.specs.declared.cmp.Ordering.TheVariants.{Less, Greater}
@@ -8,8 +8,8 @@ use Rattle.prima_base.specs.Order.{row_cmp, value_eq}
 use Rattle.prima_base.specs.declared.values.Value.{Value}
 use Rattle.history_store.specs.declared.columns.Write.{Write}
 use Rattle.history_store.specs.Log.{newest}
-use Rattle.history_store.specs.Table.{no_span, row_now, rows_of, IsOpen}
-use Rattle.relations.specs.Sets.{has, In, Ascends}
+use Rattle.history_store.specs.Table.{no_span, row_now, IsOpen}
+use Rattle.relations.specs.Sets.{has, In}
 
 abbrev pub is_value : Value → List Value → Bool
 is_value v [] = false

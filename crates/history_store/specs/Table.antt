@@ -1,7 +1,7 @@
 -- What a table's keys and writes stand for.
 use Rattle.std.specs.Prelude.{◌≡◌, ℕ, ◌+◌, ◌<◌, ◌≤◌, ◌⊎◌, List, [], ◌∷◌, ◌++◌, length, if◌then◌else◌, slice_index_or}
 use Rattle.relations.specs.Sets.{In, Ascends}
-use Rattle.relations.specs.Spans.{Span, span, forever, covers}
+use Rattle.relations.specs.Spans.{Span, forever, covers}
 use Rattle.prima_base.specs.Order.{row_cmp}
 use Rattle.prima_base.specs.declared.values.Value.{Value}
 use Rattle.history_store.specs.declared.columns.Write.{Write}

@@ -1,5 +1,5 @@
 -- The fields of a table.
-use Rattle.std.specs.Prelude.{◌≡◌, ℕ, ◌-◌, min, List, length, All, vec_len, vec_capacity}
+use Rattle.std.specs.Prelude.{◌≡◌, ℕ, ◌-◌, List, length, All, vec_len, vec_capacity}
 use Rattle.relations.specs.Sets.{In}
 use Rattle.relations.specs.Spans.{Span, forever}
 use Rattle.history_store.specs.declared.columns.Write.{Write}

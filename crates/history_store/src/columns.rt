@@ -145,7 +145,7 @@ impl Column {
     {
         if id == self.ids() {
             self.grow(value, start);
-        } else if self.newest(id).compare(&value) != Ordering::Equal {
+        } else if self.newest(id).cmp(&value) != Ordering::Equal {
             self.change(id, value, start);
         }
     }

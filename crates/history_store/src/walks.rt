@@ -49,7 +49,7 @@ pub fn compare_now(columns: &[Column], id: usize, row: &[Value]) -> Ordering
     ensures { result ≡ row_cmp (row_now id (cells_of columns.now)) row.now }
 {
     for (k, value) in row.iter().enumerate() {
-        let order = columns[k].newest(id).compare(value);
+        let order = columns[k].newest(id).cmp(value);
         if order != Ordering::Equal {
             return order;
         }

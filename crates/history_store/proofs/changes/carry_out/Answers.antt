@@ -1,8 +1,6 @@
-use Rattle.std.proofs.Common.{rules, ◌≡◌, ◌++◌, length, ap, sym, ◌∙◌, refl, drop, arith}
-use Rattle.std.specs.Prelude.{min}
+use Rattle.std.proofs.Common.{◌++◌, ap, ◌∙◌, arith}
 use Rattle.std.proofs.lemmas.Grind.{common_steps}
-use Rattle.history_store.specs.Handing.{end_keys, new_keys, unpaired, put_rows, handed}
-use Rattle.history_store.specs.Logs.{cells_of}
+use Rattle.history_store.specs.Handing.{end_keys, new_keys, unpaired}
 use Rattle.history_store.proofs.Carry.{carried}
 use Rattle.history_store.proofs.changes.carry_out.Goals as goal
 

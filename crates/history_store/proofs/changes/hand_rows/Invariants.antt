@@ -1,7 +1,6 @@
-use Rattle.std.proofs.Common.{◌≡◌, ◌+◌, ◌<◌, ◌≤◌, ◌++◌, ℕ, length, get_or, drop, vec_len, vec_capacity}
+use Rattle.std.proofs.Common.{◌≡◌, ◌+◌, ◌≤◌, ◌++◌, length, drop, vec_len, vec_capacity}
 use Rattle.std.specs.Prelude.{All}
 use Rattle.std.specs.Vec.Iter.{into_iter_items}
-use Rattle.history_store.specs.Table.{no_span}
 use Rattle.history_store.specs.Logs.{cells_of}
 use Rattle.history_store.specs.Handing.{put_rows, handed, unpaired, new_keys, AllWidth}
 use Rattle.history_store.proofs.changes.hand_rows.Given as goal

@@ -1,7 +1,6 @@
-use Rattle.std.proofs.Common.{rules, suc, [], ◌∷◌, ◌++◌, append_assoc, length-append, ◌≡◌, ◌+◌, ◌<◌, ◌≤◌, length, refl, sym, ap, ◌∙◌, arith, ℕ, get_or, max, set}
-use Rattle.std.proofs.lemmas.Grind.{common_steps, get_or-set_at}
+use Rattle.std.proofs.Common.{rules, suc, [], ◌∷◌, ◌++◌, append_assoc, length-append, ◌≡◌, ◌+◌, ◌<◌, length, refl, sym, ap, ◌∙◌, arith, get_or}
+use Rattle.std.proofs.lemmas.Grind.{common_steps}
 use Rattle.std.specs.Vec.Iter.{into_iter_items}
-use Rattle.history_store.specs.Log.{Log}
 use Rattle.history_store.proofs.Rows.{put_row-nil, pushed, done_more}
 use Rattle.history_store.specs.Handing.{put}
 use Rattle.std.proofs.Math.ListN.{length-set}

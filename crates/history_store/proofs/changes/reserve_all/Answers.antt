@@ -1,4 +1,4 @@
-use Rattle.std.proofs.Common.{rules, ap, get_or, ◌≡◌, ◌<◌, ◌≤◌, length, arith, sym, ◌∙◌, vec_len, subst, ℕ}
+use Rattle.std.proofs.Common.{rules, ap, get_or, ◌≡◌, ◌<◌, ◌≤◌, length, arith, ◌∙◌, subst, ℕ}
 use Rattle.std.proofs.lemmas.Grind.{common_steps}
 use Rattle.history_store.specs.Log.{Log}
 use Rattle.history_store.proofs.Rows.{cells_kept, ids_kept, room_more, least_more}

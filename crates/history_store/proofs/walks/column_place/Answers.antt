@@ -1,4 +1,4 @@
-use Rattle.std.proofs.Common.{◌≡◌, ◌<◌, length, sym, ap, ◌∙◌, arith, is_eq}
+use Rattle.std.proofs.Common.{◌<◌, length, sym, ap, ◌∙◌, arith, is_eq}
 use Rattle.std.proofs.lemmas.Grind.{common_steps}
 use Rattle.history_store.proofs.Looking.{look_step}
 use Rattle.history_store.proofs.walks.column_place.Goals as goal

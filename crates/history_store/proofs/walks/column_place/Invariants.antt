@@ -1,4 +1,4 @@
-use Rattle.std.proofs.Common.{◌≡◌, ◌≤◌, List, drop, length}
+use Rattle.std.proofs.Common.{◌≡◌, List, drop, length}
 use Rattle.history_store.specs.Store.{Cell, named}
 use Rattle.history_store.proofs.walks.column_place.Given as goal
 

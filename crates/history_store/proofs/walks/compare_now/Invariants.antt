@@ -1,4 +1,4 @@
-use Rattle.std.proofs.Common.{◌≡◌, ◌<◌, ◌≤◌, ℕ, length, get_or, drop}
+use Rattle.std.proofs.Common.{◌≡◌, drop}
 use Rattle.prima_base.specs.Order.{row_cmp}
 use Rattle.history_store.specs.Logs.{cells_of}
 use Rattle.history_store.specs.Table.{row_now}

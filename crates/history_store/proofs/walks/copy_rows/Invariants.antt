@@ -1,4 +1,4 @@
-use Rattle.std.proofs.Common.{◌≡◌, ◌++◌, drop, length, ◌≤◌}
+use Rattle.std.proofs.Common.{◌≡◌, ◌++◌, drop}
 use Rattle.history_store.specs.Logs.{cells_of}
 use Rattle.history_store.specs.Table.{rows_of}
 use Rattle.history_store.proofs.walks.copy_rows.Given as goal

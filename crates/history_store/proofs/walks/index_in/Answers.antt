@@ -1,5 +1,4 @@
-use Rattle.std.proofs.Common.{rules, ◌≡◌, ◌≤◌, length, subst, sym, arith}
-use Rattle.std.proofs.lemmas.Grind.{common_steps}
+use Rattle.std.proofs.Common.{rules, ◌≡◌, ◌≤◌, length}
 use Rattle.std.specs.List.{insert}
 use Rattle.history_store.specs.Logs.{cells_of}
 use Rattle.history_store.proofs.Inserting.{in_insert, insert_old, insert_new, rises_insert}

@@ -1,5 +1,4 @@
-use Rattle.std.proofs.Common.{rules, ◌≡◌, ◌+◌, ◌<◌, ◌≤◌, drop, length, get_or, arith, sym, ◌∙◌, ap, [], ◌∷◌, ◌++◌}
-use Rattle.std.proofs.lemmas.Grind.{common_steps}
+use Rattle.std.proofs.Common.{rules, ◌≡◌, ◌+◌, ◌<◌, drop, length, get_or, arith, sym, ◌∙◌, ap, [], ◌∷◌, ◌++◌}
 use Rattle.std.specs.declared.cmp.Ordering.TheVariants.{Less, Equal, Greater}
 use Rattle.history_store.specs.Logs.{cells_of}
 use Rattle.history_store.specs.Table.{row_now}

@@ -1,9 +1,9 @@
-use Rattle.std.proofs.Common.{rules, ◌≡◌, ◌+◌, ◌<◌, ◌≤◌, drop, length, get_or, arith, sym, refl, ◌∙◌, ap, [], ◌∷◌, ◌++◌}
+use Rattle.std.proofs.Common.{rules, ◌≡◌, ◌+◌, ◌<◌, drop, length, get_or, arith, sym, refl, ◌∙◌, ap, [], ◌∷◌, ◌++◌}
 use Rattle.std.proofs.lemmas.Grind.{common_steps}
 use Rattle.std.proofs.lemmas.List.{drop_more}
 use Rattle.std.specs.declared.cmp.Ordering.TheVariants.{Less, Equal, Greater}
 use Rattle.history_store.specs.Logs.{cells_of}
-use Rattle.history_store.specs.Handing.{after_ids, gained_rows, id_order, id_by, lost_by, next_by}
+use Rattle.history_store.specs.Handing.{after_ids, gained_rows, id_order, id_by}
 use Rattle.history_store.proofs.SideBySide.{rest_rises, rest_wide, live_rest, less_steps, equal_steps, new_steps, id_in, appended, taken}
 use Rattle.history_store.proofs.walks.next_ids.Goals as goal
 

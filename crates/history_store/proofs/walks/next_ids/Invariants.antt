@@ -1,8 +1,8 @@
-use Rattle.std.proofs.Common.{◌≡◌, ◌<◌, ◌≤◌, ◌+◌, ◌-◌, ◌++◌, ℕ, length, get_or, drop}
+use Rattle.std.proofs.Common.{◌≡◌, ◌≤◌, ◌+◌, ◌-◌, ◌++◌, length, drop}
 use Rattle.history_store.specs.Logs.{cells_of}
 use Rattle.prima_base.specs.Order.{row_cmp}
 use Rattle.relations.specs.Sets.{Ascends}
-use Rattle.history_store.specs.Table.{row_now, rows_of}
+use Rattle.history_store.specs.Table.{rows_of}
 use Rattle.history_store.specs.Handing.{after_ids, gained_rows, AllWidth}
 use Rattle.history_store.proofs.walks.next_ids.Given as goal
 

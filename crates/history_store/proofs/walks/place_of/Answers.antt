@@ -1,7 +1,5 @@
-use Rattle.std.proofs.Common.{◌≡◌, ◌+◌, ◌-◌, ◌/◌, ◌<◌, ◌≤◌, ℕ, length, get_or, arith, sym, ◌∙◌}
-use Rattle.std.specs.declared.cmp.Ordering.TheVariants.{Less, Greater}
+use Rattle.std.proofs.Common.{◌+◌, ◌-◌, ◌/◌, ◌<◌, arith, sym, ◌∙◌}
 use Rattle.history_store.specs.Logs.{cells_of}
-use Rattle.history_store.specs.Table.{row_now}
 use Rattle.history_store.proofs.SideBySide.{all_less, all_greater}
 use Rattle.history_store.proofs.walks.place_of.Goals as goal
 

@@ -1,7 +1,6 @@
-use Rattle.std.proofs.Common.{rules, ◌≡◌, ◌≢◌, ◌<◌, ◌≤◌, ◌+◌, length, arith, get_or, sym, ap, ◌∙◌, subst}
+use Rattle.std.proofs.Common.{◌≡◌, ◌≢◌, ◌<◌, length, arith, get_or, subst}
 use Rattle.std.proofs.lemmas.Grind.{common_steps}
 use Rattle.history_store.specs.Table.{no_span}
-use Rattle.history_store.specs.Entries.{entry}
 use Rattle.history_store.proofs.Following.{cell_goes, scan_goes, cell_ends, scan_ends}
 use Rattle.history_store.proofs.scans.CellScan.next_cell.Goals as goal
 

@@ -1,4 +1,4 @@
-use Rattle.std.proofs.Common.{◌≡◌, ◌<◌, ◌≤◌, ◌+◌, arith, sym, List, subst, ap, ◌∙◌}
+use Rattle.std.proofs.Common.{◌≡◌, sym, List, subst}
 use Rattle.std.proofs.lemmas.Result.{IfOk-weaker}
 use Rattle.prima_base.specs.declared.values.Value.{Value}
 use Rattle.history_store.specs.Logs.{cells_of}

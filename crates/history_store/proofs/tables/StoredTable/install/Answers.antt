@@ -1,8 +1,7 @@
-use Rattle.std.proofs.Common.{rules, ◌≡◌, ◌++◌, length, ap, sym, ◌∙◌, refl, subst, drop, arith, vec_len, vec_capacity, ◌≤◌}
+use Rattle.std.proofs.Common.{rules, length, sym, ◌∙◌, subst, arith, vec_len, vec_capacity, ◌≤◌}
 use Rattle.std.proofs.lemmas.Grind.{common_steps}
 use Rattle.history_store.specs.Handing.{AllWidth}
 use Rattle.history_store.specs.Logs.{cells_of}
-use Rattle.history_store.specs.TableFields.{IsKept}
 use Rattle.history_store.proofs.Carry.{known, spare_least, spare_each}
 use Rattle.history_store.proofs.Rows.{length-cells_of}
 use Rattle.history_store.proofs.Showing.{key_before}

@@ -1,12 +1,11 @@
-use Rattle.std.proofs.Common.{rules, ◌≡◌, ◌<◌, [], ap, sym, ◌∙◌, List, subst, length}
-use Rattle.prima_base.specs.declared.values.Value.{Value}
+use Rattle.std.proofs.Common.{rules, ◌≡◌, ◌<◌, [], ap, sym, ◌∙◌, subst, length}
 use Rattle.history_store.specs.Logs.{cells_of}
 use Rattle.history_store.specs.Store.{Store, relation_at}
 use Rattle.history_store.specs.TableFields.{store_of}
 use Rattle.history_store.specs.Handing.{only_in, handed}
-use Rattle.history_store.specs.Change.{Plan, IsPlan, keys_after, cells_after, write_rows, no_cells}
+use Rattle.history_store.specs.Change.{IsPlan, keys_after, cells_after, write_rows, no_cells}
 use Rattle.history_store.proofs.Rows.{length-cells_of}
-use Rattle.history_store.proofs.Beginning.{none_kept, none_before, none_now, none_cells, all_gained, no_lost, first_keys, first_cells, plan_is}
+use Rattle.history_store.proofs.Beginning.{none_kept, none_before, none_now, all_gained, no_lost, first_keys, first_cells, plan_is}
 use Rattle.history_store.proofs.tables.StoredTable.new.Goals as goal
 
 pub invariant_of-table : goal.invariant_of-table
