@@ -1,9 +1,7 @@
 -- A row is the list of its cells.
-use Rattle.std.proofs.Common.{◌≡◌, ℕ, Bool, true, false, List, [], ◌∷◌, map, refl, ap, ◌∙◌}
+use Rattle.std.proofs.Common.{◌≡◌, List, [], ◌∷◌, map, refl, ap, ◌∙◌}
 use Rattle.std.specs.Prelude.{cond}
 use Rattle.std.specs.Ordering.{is_eq}
-use Rattle.std.specs.declared.cmp.Ordering.{Ordering}
-use Rattle.std.specs.declared.cmp.Ordering.TheVariants.{Less, Equal}
 use Rattle.std.specs.Cmp.Lexicographic.{nat_list_cmp_total}
 use Rattle.std.proofs.lemmas.Cmp.{tied_itself}
 use Rattle.relations.specs.Sets.{BeforeAll}
@@ -14,7 +12,7 @@ use Rattle.schema_catalog.specs.Databases.{cell, cells_of}
 
 -- the cells of later columns are those of the row without its first value
 later : (c : Column) (columns : List Column) (v : Value) (row : List Value) (ds : List Column) → BeforeAll bytes_cmp c.0 (names_of ds)
-  → map (λ (d : Column). cell (c ∷ columns) (v ∷ row) d.0) ds ≡ map (λ (d : Column). cell columns row d.0) ds
+    → map (λ (d : Column). cell (c ∷ columns) (v ∷ row) d.0) ds ≡ map (λ (d : Column). cell columns row d.0) ds
 later c columns v row [] h = refl
 later c columns v row (d ∷ ds) h =
     ap (λ o. cond (is_eq o) v (cell columns row d.0) ∷ map (λ (d : Column). cell (c ∷ columns) (v ∷ row) d.0) ds) h.0
