@@ -203,6 +203,7 @@ pub fn sees_op(c: &Cursor<'_, '_>) -> Option<CmpOp>
     None
 }
 
+// The bytes are a name's, so only memory can be missing.
 fn name_of(alloc: Global, text: &[u8]) -> Result<Name, Stop>
     ensures ok { IfOk result (λ n. n ≡ text.now) }
     ensures err { IfErr result (λ e. e ≡ stop.NoMemory) }
@@ -265,6 +266,7 @@ fn reference(
     }))
 }
 
+// A literal token's bytes stand for a text, so only memory can be missing.
 fn text_of(alloc: Global, literal: &[u8]) -> Result<Expr, Stop>
     ensures ok { IfOk result (λ e. tree e ≡ constant (Text (text_value (drop 1 literal.now)))) }
     ensures err { IfErr result (λ e. e ≡ stop.NoMemory) }

@@ -56,3 +56,6 @@ pub fn tokens<'a>(alloc: Global, text: &'a [u8]) -> Result<Vec<Token<'a>>, LexFa
 pub fn lexes_once()
     ensures { LexesOnce }
 {}
+
+#[cfg(test)]
+mod tests;

@@ -89,6 +89,7 @@ fn text_end(bytes: &[u8]) -> Piece
     while i < bytes.len() {
         if bytes[i] == b'\'' {
             if i + 1 < bytes.len() && bytes[i + 1] == b'\'' {
+                // A doubled quote goes on.
                 i += 2;
             } else {
                 return Piece::Of(TokenKind::Text, i + 2);
