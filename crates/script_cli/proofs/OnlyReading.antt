@@ -67,9 +67,9 @@ one_row (t ∷ tokens) [] place behind behind2 bytes rest rest2 h k =
 one_row (t ∷ tokens) (u ∷ others) place behind behind2 bytes rest rest2 h k =
     let one = one_token t u h.0 k.0 h.1 k.1 (sym h.2 ∙ k.2) in
     elim (one_row tokens others h.0 behind behind2 h.1 rest rest2 h.3 (moved k.0 h.0 behind2 k.1 h.1 rest2 others (sym one.1) (sym one.2) k.3)) [
-      inl same ↦ inl (ap (λ x. x ∷ tokens) one.0 ∙ ap (λ l. u ∷ l) same.0, same.1, same.2)
-    | inr (inl a) ↦ inr (inl (a.0, a.1, a.2, a.3, (a.4.0, ap (λ x. x ∷ others) (sym one.0) ∙ ap (λ l. t ∷ l) a.4.1, a.4.2)))
-    | inr (inr a) ↦ inr (inr (a.0, a.1, a.2, a.3, (a.4.0, ap (λ x. x ∷ tokens) one.0 ∙ ap (λ l. u ∷ l) a.4.1, a.4.2)))
+      | inl same ↦ inl (ap (λ x. x ∷ tokens) one.0 ∙ ap (λ l. u ∷ l) same.0, same.1, same.2)
+      | inr (inl a) ↦ inr (inl (a.0, a.1, a.2, a.3, (a.4.0, ap (λ x. x ∷ others) (sym one.0) ∙ ap (λ l. t ∷ l) a.4.1, a.4.2)))
+      | inr (inr a) ↦ inr (inr (a.0, a.1, a.2, a.3, (a.4.0, ap (λ x. x ∷ tokens) one.0 ∙ ap (λ l. u ∷ l) a.4.1, a.4.2)))
     ]
 
 both_real : (tokens more : List Token) → AreTokens tokens → AreTokens more → AreTokens (tokens ++ more)
@@ -106,7 +106,6 @@ spelled k t parts said = by_answer (spells k t.what) refl
     by_answer true e f = refl
     by_answer false e f = let no : None ≡ Some said = ap (λ c. if c then Some parts else None) (sym e) ∙ f in cc
 
-
 noted : (k : Keyword) (t : Token) (parts said : Parts) → filled (slot.Noted k) t parts ≡ Some said → spells k t.what ≡ true
 unfolding filled
 noted k t parts said = by_answer (spells k t.what) refl
@@ -114,7 +113,6 @@ noted k t parts said = by_answer (spells k t.what) refl
     by_answer : (b : Bool) → spells k t.what ≡ b → filled (slot.Noted k) t parts ≡ Some said → b ≡ true
     by_answer true e f = refl
     by_answer false e f = let no : None ≡ Some said = ap (λ c. if c then Some (record parts { noted_at = t.place }) else None) (sym e) ∙ f in cc
-
 
 one_word : (j k : Keyword) (x : Lexeme) → spells j x ≡ true → spells k x ≡ true → spelling j ≡ spelling k
 one_word j k (Word text) e f = sym ((bytes_eq-Decides text (spelling j)).0 e) ∙ (bytes_eq-Decides text (spelling k)).0 f
@@ -203,22 +201,22 @@ same_next behind behind2 rest rest2 e f = ap (λ p. next p rest) e ∙ ap (next 
 fault_or_whole : (text : List ℕ) (p : ℕ) (st : Statement) → IsFault text p → IsStatement text st → ⊥
 fault_or_whole text p st h k =
     elim (one_row h.tokens k.tokens 0 h.behind k.behind text h.rest k.rest h.stand k.stand) [
-      inl same ↦
-        let P : Piece → Type 0 = λ piece. Stops text h.tokens p piece in
-        let Q : List Token → Type 0 = λ l. IsForm k.form l k.parts in
-        (subst P (same_next _ _ _ _ same.1 same.2 ∙ k.ends) h.stops).1 k.form k.parts (subst Q (sym same.0) k.fits)
-    | inr (inl ahead) ↦ no_further text h.tokens k.tokens p h.behind h.rest h.stops (whole_front text st k) ahead
-    | inr (inr ahead) ↦ not_behind_end k.tokens h.tokens k.behind (length text) k.rest k.ends ahead
+      | inl same ↦
+          let P : Piece → Type 0 = λ piece. Stops text h.tokens p piece in
+          let Q : List Token → Type 0 = λ l. IsForm k.form l k.parts in
+          (subst P (same_next _ _ _ _ same.1 same.2 ∙ k.ends) h.stops).1 k.form k.parts (subst Q (sym same.0) k.fits)
+      | inr (inl ahead) ↦ no_further text h.tokens k.tokens p h.behind h.rest h.stops (whole_front text st k) ahead
+      | inr (inr ahead) ↦ not_behind_end k.tokens h.tokens k.behind (length text) k.rest k.ends ahead
     ]
 
 one_whole : (text : List ℕ) (st other : Statement) → IsStatement text st → IsStatement text other → st ≡ other
 one_whole text st other h k =
     elim (one_row h.tokens k.tokens 0 h.behind k.behind text h.rest k.rest h.stand k.stand) [
-      inl same ↦
-        let Q : List Token → Type 0 = λ l. IsForm k.form l k.parts in
-        h.says_so ∙ one_statement h.form k.form h.tokens h.parts k.parts h.fits (subst Q (sym same.0) k.fits) ∙ sym k.says_so
-    | inr (inl ahead) ↦ absurd (not_behind_end h.tokens k.tokens h.behind (length text) h.rest h.ends ahead)
-    | inr (inr ahead) ↦ absurd (not_behind_end k.tokens h.tokens k.behind (length text) k.rest k.ends ahead)
+      | inl same ↦
+          let Q : List Token → Type 0 = λ l. IsForm k.form l k.parts in
+          h.says_so ∙ one_statement h.form k.form h.tokens h.parts k.parts h.fits (subst Q (sym same.0) k.fits) ∙ sym k.says_so
+      | inr (inl ahead) ↦ absurd (not_behind_end h.tokens k.tokens h.behind (length text) h.rest h.ends ahead)
+      | inr (inr ahead) ↦ absurd (not_behind_end k.tokens h.tokens k.behind (length text) k.rest k.ends ahead)
     ]
 
 stopped_there : (text : List ℕ) (tokens others : List Token) (p q : ℕ) (piece : Piece) → Stops text tokens p piece → Stops text others q piece → p ≡ q
@@ -229,11 +227,11 @@ stopped_there text tokens others p q (Found t n rest) h k = h.0 ∙ sym k.0
 one_fault : (text : List ℕ) (p q : ℕ) → IsFault text p → IsFault text q → p ≡ q
 one_fault text p q h k =
     elim (one_row h.tokens k.tokens 0 h.behind k.behind text h.rest k.rest h.stand k.stand) [
-      inl same ↦
-        let P : Piece → Type 0 = λ piece. Stops text h.tokens p piece in
-        stopped_there text h.tokens k.tokens p q (next k.behind k.rest) (subst P (same_next _ _ _ _ same.1 same.2) h.stops) k.stops
-    | inr (inl ahead) ↦ absurd (no_further text h.tokens k.tokens p h.behind h.rest h.stops k.front ahead)
-    | inr (inr ahead) ↦ absurd (no_further text k.tokens h.tokens q k.behind k.rest k.stops h.front ahead)
+      | inl same ↦
+          let P : Piece → Type 0 = λ piece. Stops text h.tokens p piece in
+          stopped_there text h.tokens k.tokens p q (next k.behind k.rest) (subst P (same_next _ _ _ _ same.1 same.2) h.stops) k.stops
+      | inr (inl ahead) ↦ absurd (no_further text h.tokens k.tokens p h.behind h.rest h.stops k.front ahead)
+      | inr (inr ahead) ↦ absurd (no_further text k.tokens h.tokens q k.behind k.rest k.stops h.front ahead)
     ]
 
 -- a statement has a token
@@ -261,6 +259,7 @@ one_reading text (read.Whole st) (read.Whole other) h k = ap read.Whole (one_who
 
 -- just the one reading fits
 pub only_reading : (text : List ℕ) (r : Reading) → IsReading text r ↔ (r ≡ reading text)
-only_reading text r =
-    (λ h. one_reading text r (reading text) h (first_fault text)
-    , λ e. let P : Reading → Type 0 = λ x. IsReading text x in subst P (sym e) (first_fault text))
+only_reading text r = (
+  λ h. one_reading text r (reading text) h (first_fault text),
+  λ e. let P : Reading → Type 0 = λ x. IsReading text x in subst P (sym e) (first_fault text),
+)
