@@ -1,4 +1,6 @@
 pub mod Newest
+pub mod Changing
+pub mod Splicing
 pub mod Totals
 pub mod Reading
 pub mod Beginning

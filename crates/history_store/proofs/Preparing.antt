@@ -36,3 +36,10 @@ none_stored columns a = record {
   are_live = λ id o. absurd (let b = o.0 in omega arith);
   ordered = tt;
 }
+
+pub all_known_in : (live others : List ℕ) (keys : List Span) (columns columns' : List Log) → others ≡ live → columns' ≡ columns → ((q : ℕ) → In q live → IsOpen keys q) → All (λ c. c.ids ≡ length keys) columns
+    → (id : ℕ) → In id others → (k : ℕ) (d : Log) → k < length columns' → id < (get_or columns' k d).ids
+all_known_in live others keys columns columns' el ec o a id i k d h =
+    let n : id < length keys = (o id (subst (In id) el i)).0 in
+    let e : (get_or columns' k d).ids ≡ length keys = ap (λ cs. (get_or cs k d).ids) ec ∙ a k d (subst (λ cs. k < length cs) ec h) in
+    omega (arith, n, e)

@@ -1,10 +1,11 @@
 -- What a stamp writes: the lost rows hand their ids to the gained rows.
-use Rattle.std.specs.Prelude.{ℕ, ◌<◌, ◌&&◌, ◌==◌, Bool, List, [], ◌∷◌, length, if◌then◌else◌}
+use Rattle.std.specs.Prelude.{◌≡◌, ℕ, ◌+◌, ◌<◌, ◌&&◌, ◌==◌, Bool, List, [], ◌∷◌, ◌++◌, length, if◌then◌else◌}
+use Rattle.relations.specs.Sets.{set_of}
 use Rattle.relations.specs.Spans.{Span, span, forever}
-use Rattle.prima_base.specs.Order.{value_eq}
+use Rattle.prima_base.specs.Order.{value_eq, row_cmp}
 use Rattle.prima_base.specs.declared.values.Value.{Value}
 use Rattle.history_store.specs.Store.{Cell, Column, Store, row_at, IsRelation, AllBefore}
-use Rattle.history_store.specs.Handing.{unpaired, handed, keys_handed, IsHandOver}
+use Rattle.history_store.specs.Handing.{unpaired, handed, keys_handed, only_in, IsHandOver}
 
 -- a change that was made ready: its stamp, the ids of the lost rows, the gained rows, and the ids of the rows
 -- behind it in the order of their rows
@@ -69,6 +70,10 @@ rows_along (id ∷ ids) m columns = row_at id m columns ∷ rows_along ids m col
 -- the relation that the change leads to
 unfoldable pub rows_after : Store → Plan → List (List Value)
 rows_after s p = rows_along p.after p.stamp (cells_after s p)
+
+-- the relation without the lost rows and with the gained ones
+abbrev pub changed : List (List Value) → List (List Value) → List (List Value) → List (List Value)
+changed rows lost gained = set_of row_cmp (only_in rows lost ++ gained)
 
 -- the plan was made from the store's keys and entries
 pub record IsPlan (s : Store) (p : Plan) : Type 0 where

@@ -6,6 +6,7 @@ pub mod ColumnFields
 pub mod Table
 pub mod Entries
 pub mod Handing
+pub mod Splices
 pub mod Change
 pub mod TableFields
 pub mod Scans

@@ -15,6 +15,7 @@
 mod changes;
 mod columns;
 mod scans;
+mod splices;
 mod tables;
 mod walks;
 

@@ -1,6 +1,7 @@
 use crate::changes::{carry_out, empty_columns, reserve_all};
 use crate::columns::Column;
 use crate::scans::{CellScan, KeyScan};
+use crate::splices::{copy_given, put_in, take_out};
 use crate::walks::{column_place, copy_columns, copy_rows, lost_ids, next_ids, place_of};
 use prima_base::{ColType, Name, NoMemory, Period, Row};
 use std::alloc::Global;
@@ -54,7 +55,7 @@ impl StoredTable {
     ghost use Rattle.prima_base.specs.declared.values.Value.{Value};
     ghost use Rattle.history_store.specs.Store.{Store, relation_at, IsRelation, AreColumns, AllBefore, IsStore, column_of};
     ghost use Rattle.history_store.specs.Handing.{new_keys, handed, only_in, cells_added};
-    ghost use Rattle.history_store.specs.Change.{Plan, IsPlan, rows_after, rows_along, keys_after, cells_after, write_rows, no_cells};
+    ghost use Rattle.history_store.specs.Change.{Plan, IsPlan, rows_after, rows_along, changed, keys_after, cells_after, write_rows, no_cells};
     ghost use Rattle.history_store.specs.Scans.{keys_from};
 
     /// A table of these columns, which stand in the order of their names: from the stamp on its relation
@@ -120,6 +121,53 @@ impl StoredTable {
         Ok(Prepared {
             stamp,
             lost,
+            gained,
+            after,
+        })
+    }
+
+    /// Makes the change that loses and gains these rows ready, and all the room that installing it needs. Each
+    /// row is found by binary search: for m rows in a table of n that is in the order of m log n comparisons of
+    /// rows. The one error is `NoMemory`, where memory runs out.
+    pub fn prepare_change(
+        &mut self,
+        stamp: u64,
+        lost: &[Row],
+        gained: &[Row],
+    ) -> Result<Prepared, NoMemory>
+        requires before { AllBefore self.old stamp }
+        requires lawful { stamp < forever }
+        requires lost { IsRelation self.old.columns lost.now }
+        requires gained { IsRelation self.old.columns gained.now }
+        requires there { (row : List Value) → In row lost.now → In row (relation_at self.old stamp) }
+        requires fresh { (row : List Value) → In row gained.now → In row (relation_at self.old stamp) → ⊥ }
+        ensures same { self.new ≡ record self.old { spare = self.new.spare } }
+        ensures stamp { IfOk result (λ p. p.stamp ≡ stamp) }
+        ensures fits { IfOk result (λ p. IsPlan self.new p) }
+        ensures lost { IfOk result (λ p. rows_along p.lost stamp self.old.cells ≡ lost.now) }
+        ensures gained { IfOk result (λ p. p.gained ≡ gained.now) }
+        ensures leads { IfOk result (λ p. rows_after self.new p ≡ changed (relation_at self.old stamp) lost.now gained.now) }
+        ensures room { IfOk result (λ p. length p.gained ≤ self.new.spare) }
+        ensures spare { self.old.spare ≤ self.new.spare }
+    {
+        if self.keys.len().checked_add(gained.len()).is_none() {
+            return Err(NoMemory);
+        }
+        let (found, kept) = take_out(self.alloc, &self.logs, &self.live, lost)?;
+        let after = put_in(
+            self.alloc,
+            &self.logs,
+            &kept,
+            &found,
+            self.keys.len(),
+            gained,
+        )?;
+        let gained = copy_given(self.alloc, gained)?;
+        self.keys.reserve(gained.len())?;
+        reserve_all(&mut self.logs, gained.len())?;
+        Ok(Prepared {
+            stamp,
+            lost: found,
             gained,
             after,
         })

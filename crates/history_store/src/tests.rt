@@ -184,7 +184,7 @@ fn cells_are_by<L: Ledger>(
     for (id, value, start, end) in wanted {
         match scan.next_cell(&mut steps) {
             Some(cell) => {
-                if cell.id != *id || cell.value.compare(value) != Ordering::Equal {
+                if cell.id != *id || cell.value.cmp(value) != Ordering::Equal {
                     return false;
                 }
                 if cell.period.start() != *start || cell.period.end() != *end {

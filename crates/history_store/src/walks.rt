@@ -121,8 +121,8 @@ fn id_order(columns: &[Column], live: &[usize], i: usize, row: &[Value]) -> Orde
     }
 }
 
-// The next lost id, or a new one.
-fn handed_id(lost: &[usize], k: &mut usize, fresh: &mut usize) -> usize
+/// The next lost id, or a new one.
+pub fn handed_id(lost: &[usize], k: &mut usize, fresh: &mut usize) -> usize
     requires few { fresh.old + 1 < 2 ^ 64 }
     ensures id { result ≡ id_by [] (drop k.old lost.now) fresh.old }
     ensures lost { drop k.new lost.now ≡ lost_by [] (drop k.old lost.now) }

@@ -1,0 +1,118 @@
+//! The ids of lost rows taken out of the index, and the ids of gained rows put into it. Each row is found by
+//! binary search; the rest is moved without a look at its rows.
+
+ghost use Rattle.std.specs.Prelude.{◌≡◌, ◌+◌, ◌^◌, ◌<◌, ◌≤◌, IfOk, List, ℕ, length, slice_index, slice_index_or};
+ghost use Rattle.std.specs.declared.cmp.Ordering.TheVariants.{Less, Greater};
+ghost use Rattle.relations.specs.Sets.{Ascends, In};
+ghost use Rattle.prima_base.specs.Order.{row_cmp};
+ghost use Rattle.prima_base.specs.declared.values.Value.{Value as OneValue};
+ghost use Rattle.history_store.specs.Log.{Log};
+ghost use Rattle.history_store.specs.Logs.{cells_of};
+ghost use Rattle.history_store.specs.Table.{row_now, rows_of};
+ghost use Rattle.history_store.specs.Handing.{handed, AllWidth};
+ghost use Rattle.history_store.specs.Splices.{IsSplit, IsJoined};
+
+use crate::columns::Column;
+use crate::walks::{handed_id, place_of};
+use prima_base::{NoMemory, Row, Value};
+use std::alloc::Global;
+
+// The place of the id whose row this is.
+fn found_place(columns: &[Column], ids: &[usize], row: &[Value]) -> usize
+    requires width { length row.now ≡ length columns.now }
+    requires known { (id : ℕ) → In id ids.now → (k : ℕ) (d : Log) → k < length columns.now → id < (slice_index_or columns.now k d).ids }
+    requires rise { Ascends row_cmp (rows_of ids.now (cells_of columns.now)) }
+    requires there { In row.now (rows_of ids.now (cells_of columns.now)) }
+    ensures within { result < length ids.now }
+    ensures row { row_now (slice_index ids.now result) (cells_of columns.now) ≡ row.now }
+{
+    match place_of(columns, ids, row) {
+        Ok(at) => at,
+        Err(_) => unreachable!(),
+    }
+}
+
+// The place where the row would stand.
+fn free_place(columns: &[Column], ids: &[usize], row: &[Value]) -> usize
+    requires width { length row.now ≡ length columns.now }
+    requires known { (id : ℕ) → In id ids.now → (k : ℕ) (d : Log) → k < length columns.now → id < (slice_index_or columns.now k d).ids }
+    requires rise { Ascends row_cmp (rows_of ids.now (cells_of columns.now)) }
+    requires fresh { In row.now (rows_of ids.now (cells_of columns.now)) → ⊥ }
+    ensures within { result ≤ length ids.now }
+    ensures before { (k : ℕ) → k < result → row_cmp (row_now (slice_index ids.now k) (cells_of columns.now)) row.now ≡ Less }
+    ensures after { (k : ℕ) → result ≤ k → k < length ids.now → row_cmp (row_now (slice_index ids.now k) (cells_of columns.now)) row.now ≡ Greater }
+{
+    match place_of(columns, ids, row) {
+        Ok(_) => unreachable!(),
+        Err(at) => at,
+    }
+}
+
+/// The ids of these rows, and the other ids of the index.
+pub fn take_out(
+    alloc: Global,
+    columns: &[Column],
+    live: &[usize],
+    lost: &[Row],
+) -> Result<(Vec<usize>, Vec<usize>), NoMemory>
+    requires wide { AllWidth (length columns.now) lost.now }
+    requires known { (id : ℕ) → In id live.now → (k : ℕ) (d : Log) → k < length columns.now → id < (slice_index_or columns.now k d).ids }
+    requires live_rise { Ascends row_cmp (rows_of live.now (cells_of columns.now)) }
+    requires lost_rise { Ascends row_cmp lost.now }
+    requires there { (row : List OneValue) → In row lost.now → In row (rows_of live.now (cells_of columns.now)) }
+    ensures { IfOk result (λ (found, kept). IsSplit (cells_of columns.now) live.now found.items kept.items lost.now) }
+{
+    let mut found = Vec::with_capacity(alloc, lost.len())?;
+    let mut kept = Vec::with_capacity(alloc, live.len())?;
+    let mut rest = live;
+    for row in lost {
+        let at = found_place(columns, rest, row.values());
+        kept.extend_from_slice(rest.split_at(at).0)?;
+        found.push(rest[at])?;
+        rest = rest.split_at(at + 1).1;
+    }
+    kept.extend_from_slice(rest)?;
+    Ok((found, kept))
+}
+
+/// The index of these ids and of those of the gained rows, which are the lost ids in turn and then new ones.
+pub fn put_in(
+    alloc: Global,
+    columns: &[Column],
+    kept: &[usize],
+    lost: &[usize],
+    next: usize,
+    gained: &[Row],
+) -> Result<Vec<usize>, NoMemory>
+    requires wide { AllWidth (length columns.now) gained.now }
+    requires known { (id : ℕ) → In id kept.now → (k : ℕ) (d : Log) → k < length columns.now → id < (slice_index_or columns.now k d).ids }
+    requires kept_rise { Ascends row_cmp (rows_of kept.now (cells_of columns.now)) }
+    requires gained_rise { Ascends row_cmp gained.now }
+    requires fresh { (row : List OneValue) → In row gained.now → In row (rows_of kept.now (cells_of columns.now)) → ⊥ }
+    requires few { next + length gained.now < 2 ^ 64 }
+    ensures { IfOk result (λ after. IsJoined (cells_of columns.now) kept.now (handed lost.now next gained.now) after.items gained.now) }
+{
+    let mut after = Vec::with_capacity(alloc, kept.len())?;
+    let mut rest = kept;
+    let mut k = 0;
+    let mut fresh = next;
+    for row in gained {
+        let (front, back) = rest.split_at(free_place(columns, rest, row.values()));
+        after.extend_from_slice(front)?;
+        after.push(handed_id(lost, &mut k, &mut fresh))?;
+        rest = back;
+    }
+    after.extend_from_slice(rest)?;
+    Ok(after)
+}
+
+/// Equal rows.
+pub fn copy_given(alloc: Global, rows: &[Row]) -> Result<Vec<Row>, NoMemory>
+    ensures { IfOk result (λ v. v.items ≡ rows.now) }
+{
+    let mut copies = Vec::with_capacity(alloc, rows.len())?;
+    for row in rows {
+        copies.push(row.copy()?)?;
+    }
+    Ok(copies)
+}
