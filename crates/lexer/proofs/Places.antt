@@ -39,7 +39,7 @@ drop_none : (A : Type 0) (n : ℕ) → ◌≡◌ {A = List A} (drop n []) []
 drop_none A zero = refl
 drop_none A (suc n) = refl
 
-drop_drop : {A : Type 0} (n m : ℕ) (l : List A) → drop n (drop m l) ≡ drop (m + n) l
+pub drop_drop : {A : Type 0} (n m : ℕ) (l : List A) → drop n (drop m l) ≡ drop (m + n) l
 drop_drop n zero l = let e : n ≡ zero + n = omega arith in ap (λ k. drop k l) e
 drop_drop {A} n (suc m) [] = drop_none A n ∙ sym (drop_none A (suc m + n))
 drop_drop n (suc m) (x ∷ l) = drop_drop n m l ∙ (let e : suc (m + n) ≡ suc m + n = omega arith in ap (λ k. drop k (x ∷ l)) e)
