@@ -81,10 +81,10 @@ module _ {A : Type 0} (p : Parser A) (G : A → Size → List Lexeme → Type 0)
         let P : List Lexeme → Type 0 = λ l. G a h.1 l in
         (omega (arith, z, lengths h.0 rest h.2), omega arith, h.1, subst P (sym (taken h.0 rest left z h.2)) h.3, omega (arith, h.4, h.5 (omega arith)), h.6)
 
-    pub got_only : (b : A) (s : Size) (front other : List Lexeme) → ts ≡ front ++ other → G b s front → Stops goes other → (a ≡ b) × (length list - left ≡ from + length front)
+    pub got_only : (b : A) (s : Size) (front other : List Lexeme) → ts ≡ front ++ other → G b s front → Stops goes other → (a ≡ b) × (length list - left ≡ from + length front) × (s.nodes ≤ 256) × Lawful 32 s
     got_only b s front other w h stops =
         let f = fine (Got a m rest) e b s front other w h stops in
-        (f.0, (let k : length rest ≡ length other = ap length f.1 in omega (arith, z, k, lengths front other w)))
+        (f.0, (let k : length rest ≡ length other = ap length f.1 in omega (arith, z, k, lengths front other w)), (let h = explained (Got a m rest) e in omega (arith, f.2, h.5 (omega arith))), f.3)
 
     pub got_exact : p 0 ts ≡ Got a m (lexemes_from list (length list - left))
     got_exact = let h = explained (Got a m rest) e in e ∙ ap (Got a m) (rest_is h.0 rest left z h.2)
