@@ -1,11 +1,11 @@
 -- The laws of reading, for all grammars.
-use Rattle.std.proofs.Common.{◌≡◌, ℕ, zero, suc, ◌+◌, ◌-◌, ◌<◌, ◌≤◌, max, Bool, true, false, cond, nat_lt, ◌==◌, eq-eqb, eqb-true, get_or, List, [], ◌∷◌, ◌++◌, refl, sym, ap, ◌∙◌, subst, append_assoc, arith, rules, append-nil, ◌||◌, inl, inr, ◌⊎◌}
+use Rattle.std.proofs.Common.{◌≡◌, ℕ, zero, suc, ◌+◌, ◌-◌, ◌<◌, ◌≤◌, max, Bool, true, false, cond, nat_lt, ◌==◌, eq-eqb, eqb-true, get_or, List, [], ◌∷◌, ◌++◌, refl, sym, ap, ◌∙◌, subst, append_assoc, arith, append-nil, ◌||◌, inl, inr}
 use Rattle.std.proofs.Math.Nat.{le-max_left, le-max_right, max-le, max-zero, zero-max}
 use Rattle.std.proofs.lemmas.Bool.Decides.{nat_tests}
 use Rattle.prima_base.specs.declared.refusals.What.{What}
 use Rattle.prima_base.specs.declared.refusals.What.TheVariants as what
 use Rattle.lexer.specs.Lexemes.{Lexeme}
-use Rattle.lexer.specs.Parsing.{Size, nothing_counted, both, one_node, one_open, so_wide, rank, limit, limits, has_room, Out, Got, Stuck, Over, Parser, CanGoOn, Same, Goes, Lawful, Explains, Stops, Exceeds, Fine, Good, and_then, bind, bindG, pure, pureG, lead, leadG, nodeG, openG, Arm, No, Takes, Counts, Whole, Refuses, Fills, arm_run, choose, choose_by, option, option_by, map_to, mapG, more, AreMore, nodes_more, pick, optionG}
+use Rattle.lexer.specs.Parsing.{Size, nothing_counted, both, one_node, one_open, so_wide, rank, limit, limits, Out, Got, Stuck, Over, Parser, Same, Goes, Lawful, Explains, Stops, Exceeds, Fine, Good, and_then, bind, bindG, pure, pureG, lead, leadG, nodeG, openG, Arm, No, Takes, Counts, Whole, Refuses, Fills, arm_run, choose, option, map_to, mapG, more, AreMore, nodes_more, pick, optionG}
 
 pub true_false : {X : Type 0} → true ≡ false → X
 true_false e = absurd (let P : Bool → Type 0 = λ b. elim b as (λ _. Type 0) [ true ↦ Unit {0} | false ↦ ⊥ ] in subst P e tt)

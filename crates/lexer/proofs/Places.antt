@@ -1,7 +1,6 @@
 -- Where reading ends in a list of tokens.
-use Rattle.std.proofs.Common.{◌≡◌, ℕ, zero, suc, ◌+◌, ◌-◌, ◌<◌, ◌≤◌, List, [], ◌∷◌, ◌++◌, length, take, drop, map, refl, sym, ap, ◌∙◌, subst, append_assoc, append-nil, arith, length-append, length-drop, Result, Ok, Err, Bool, ◌≢◌}
+use Rattle.std.proofs.Common.{◌≡◌, ℕ, zero, suc, ◌+◌, ◌-◌, ◌<◌, ◌≤◌, List, [], ◌∷◌, ◌++◌, length, take, drop, map, refl, sym, ap, ◌∙◌, subst, append_assoc, append-nil, arith, length-append, length-drop, Err, Bool}
 use Rattle.prima_base.specs.declared.refusals.What.{What}
-use Rattle.prima_base.specs.declared.refusals.What.TheVariants as what
 use Rattle.lexer.specs.declared.token.Token.{Token}
 use Rattle.lexer.specs.declared.parse.ParseFault.{ParseFault}
 use Rattle.lexer.specs.declared.parse.ParseFault.TheVariants as fault
@@ -10,8 +9,8 @@ use Rattle.lexer.specs.declared.reading.Stop.TheVariants as stop
 use Rattle.lexer.specs.declared.reading.Cursor.{Cursor}
 use Rattle.lexer.specs.Reads.{ahead, Fails}
 use Rattle.lexer.specs.Lexemes.{Lexeme, lexeme}
-use Rattle.lexer.specs.Parsing.{Size, Out, Got, Stuck, Over, Parser, Explains, Fine, Stops, CanGoOn, Lawful, Exceeds, Good, limit}
-use Rattle.lexer.specs.Found.{lexemes_from, place, IsRead, Finds, IsFirst, OnlyExceeds, IsFirstFault, Follows, FaultAt}
+use Rattle.lexer.specs.Parsing.{Size, Out, Got, Stuck, Over, Parser, Explains, Fine, Stops, CanGoOn, Lawful, Good}
+use Rattle.lexer.specs.Found.{lexemes_from, place, Finds, IsFirst, OnlyExceeds, IsFirstFault, Follows, FaultAt}
 
 take_whole : {A : Type 0} (l : List A) (n : ℕ) → n ≡ length l → take n l ≡ l
 take_whole [] zero e = refl
