@@ -1,5 +1,5 @@
 -- Each reader of expressions and conditions is good for its grammar.
-use Rattle.std.proofs.Common.{inl, inr, ◌⊎◌, ◌≡◌, ℕ, zero, suc, ◌+◌, ◌≤◌, ℤ, pos, Bool, true, false, cond, List, [], ◌∷◌, ◌++◌, refl, sym, ap, ◌∙◌, subst, append_assoc, append-nil, arith, rules, ◌||◌, ◌&&◌, codes, Option, Some, None}
+use Rattle.std.proofs.Common.{inl, inr, ◌≡◌, ℕ, zero, suc, pos, Bool, true, false, cond, List, [], ◌∷◌, ◌++◌, refl, sym, ap, ◌∙◌, subst, append_assoc, append-nil, ◌||◌, ◌&&◌, codes, Option, Some, None}
 use Rattle.prima_base.specs.declared.refusals.What.TheVariants as what
 use Rattle.prima_base.specs.declared.values.Value.TheVariants.{Int, Text}
 use Rattle.cond_expr.specs.declared.exprs.Whose.TheVariants.{Free, Alias, Atom}
@@ -8,12 +8,12 @@ use Rattle.cond_expr.specs.declared.exprs.CmpOp.TheVariants.{Eq, Ne, Lt, Le, Gt,
 use Rattle.cond_expr.specs.Trees.{Tree, Test, column, constant, length_of, joined, choose as chosen, never, always, compared, all_of, some_of, fails, a_tree, a_test}
 use Rattle.cond_expr.specs.Seen.{trees_of, tests_of}
 use Rattle.lexer.specs.Lexemes.{Lexeme, word, number, text, sign, is_word, is_sign, is_name, is_int}
-use Rattle.lexer.specs.Parsing.{Size, nothing_counted, both, one_node, one_open, so_wide, limit, Out, Got, Stuck, Over, Parser, Stops, Good, bind, bindG, pure, pureG, lead, leadG, nodeG, openG, Arm, No, Takes, Counts, Whole, Refuses, Fills, choose, option, map_to, mapG, more, AreMore, nodes_more, pick, optionG}
+use Rattle.lexer.specs.Parsing.{Size, nothing_counted, both, one_node, so_wide, Parser, Stops, Good, bind, bindG, pure, pureG, lead, leadG, nodeG, openG, Arm, No, Takes, Counts, choose, map_to, mapG, more, AreMore, nodes_more, optionG}
 use Rattle.lexer.specs.Grammar as g
 use Rattle.lexer.specs.Grammar.{spelled, leaf, IsExpr, AreParts, IsFact, AreFacts, IsConj, AreConjs, IsCond}
 use Rattle.lexer.specs.Reader.{Level, name, name_arm, ref_rest, sign_op, op_arm, bracket, opens, length_rest, concat_rest, case_rest, atom_arm, expr_arm, expr, comparison, bracketed, fact_arm, fact, facts, conj, conjs, cond as whole, nothing, made, level, outermost, goes_expr, goes_conj, goes_cond}
-use Rattle.lexer.proofs.Parsing.{true_false, by_test, ArmGood, Live, good_iff, bind_good, pure_good, map_good, lead_good, behind_up, behind_down, pick_open_good, option_node_good, option_takes_good, more_good, nodes_good, no_end, bind_more, side, choose_good, arm_if, counts_good, opens_good, bracket_good, whole_good, open_good, bind_lead, bind_option, both_none, both_last, last_size}
-use Rattle.lexer.proofs.Grammar.{word_exact, sign_exact, word_is, sign_is, clash, CASE, WHEN, THEN, ELSE, END, LENGTH, CONCAT, AND, OR, NOT, TRUE, FALSE, OPEN, CLOSE, COMMA, POINT, nameG, aliasG, refG, atomG, insideLengthG, lengthG, insideConcatG, concatG, caseG, exprG, expr_inv, length_up, concat_up, case_up, some_name, not_name, length_down, concat_down, case_down, atom_down, expr_not_none, opG, rightG, cmpG, bracketG, notG, factG, fact_inv, cmp_up, bracket_up, not_up, not_down, bracket_down, true_down, false_down, cmp_down, fact_not_none, fact_nodes, conj_nodes, facts_up, facts_down, conjs_up, conjs_down}
+use Rattle.lexer.proofs.Parsing.{true_false, ArmGood, Live, good_iff, bind_good, pure_good, map_good, lead_good, pick_open_good, option_node_good, option_takes_good, more_good, nodes_good, no_end, bind_more, side, choose_good, arm_if, counts_good, opens_good, bracket_good, whole_good, open_good, bind_lead, bind_option, both_none, last_size}
+use Rattle.lexer.proofs.Grammar.{word_exact, sign_exact, word_is, sign_is, CASE, WHEN, THEN, ELSE, END, LENGTH, CONCAT, AND, OR, NOT, TRUE, FALSE, OPEN, CLOSE, COMMA, POINT, nameG, aliasG, refG, insideLengthG, lengthG, insideConcatG, concatG, caseG, expr_inv, length_up, concat_up, case_up, some_name, not_name, length_down, concat_down, case_down, atom_down, expr_not_none, opG, rightG, cmpG, bracketG, notG, fact_inv, cmp_up, bracket_up, not_up, not_down, bracket_down, true_down, false_down, cmp_down, fact_not_none, fact_nodes, conj_nodes, facts_up, facts_down, conjs_up, conjs_down}
 
 -- ---- references and constants
 

@@ -1,20 +1,17 @@
 -- The readers of expressions and conditions read their grammar.
-use Rattle.std.proofs.Common.{inl, inr, ◌⊎◌, ◌≡◌, ℕ, zero, suc, ◌+◌, ◌≤◌, ℤ, Bool, true, false, cond, List, [], ◌∷◌, ◌++◌, refl, sym, ap, ◌∙◌, subst, append_assoc, append-nil, arith, rules, ◌||◌, ◌&&◌, codes, Option, Some, None}
+use Rattle.std.proofs.Common.{inl, inr, ◌⊎◌, ◌≡◌, ℕ, ◌+◌, ◌≤◌, Bool, true, false, List, [], ◌∷◌, ◌++◌, refl, sym, ap, ◌∙◌, arith, ◌||◌, codes}
 use Rattle.std.proofs.lemmas.Slice.Eq.{bytes_eq-Decides}
-use Rattle.prima_base.specs.declared.refusals.What.{What}
 use Rattle.prima_base.specs.declared.refusals.What.TheVariants as what
 use Rattle.prima_base.specs.declared.values.Value.TheVariants.{Int, Text}
 use Rattle.cond_expr.specs.declared.exprs.Whose.TheVariants.{Free, Alias, Atom}
 use Rattle.cond_expr.specs.declared.exprs.CmpOp.{CmpOp}
-use Rattle.cond_expr.specs.declared.exprs.CmpOp.TheVariants.{Eq, Ne, Lt, Le, Gt, Ge}
-use Rattle.cond_expr.specs.Trees.{Tree, Test, column, constant, length_of, joined, choose as chosen, never, always, compared, all_of, some_of, fails, a_tree, a_test}
-use Rattle.cond_expr.specs.Seen.{trees_of, tests_of}
+use Rattle.cond_expr.specs.Trees.{Tree, Test, column, constant, length_of, joined, choose as chosen, never, always, compared, fails, a_tree}
+use Rattle.cond_expr.specs.Seen.{trees_of}
 use Rattle.lexer.specs.Lexemes.{Lexeme, word, number, text, sign, is_word, is_sign, is_name, is_int}
-use Rattle.lexer.specs.Parsing.{Size, nothing_counted, both, one_node, one_open, so_wide, limit, Out, Got, Stuck, Over, Parser, Stops, Good, bind, bindG, pure, pureG, lead, leadG, nodeG, openG, Arm, No, Takes, Counts, Whole, Refuses, Fills, choose, option, map_to, mapG, more, AreMore, nodes_more, pick, optionG}
+use Rattle.lexer.specs.Parsing.{Size, nothing_counted, both, one_node, one_open, so_wide, bindG, pureG, leadG, nodeG, openG, mapG, AreMore, optionG}
 use Rattle.lexer.specs.Grammar as g
 use Rattle.lexer.specs.Grammar.{spelled, leaf, IsExpr, AreParts, IsFact, AreFacts, IsConj, AreConjs, IsCond}
-use Rattle.lexer.specs.Reader.{Level, name_arm, ref_rest, sign_op, op_arm, bracket, opens, length_rest, concat_rest, case_rest, atom_arm, expr_arm, expr, comparison, bracketed, fact_arm, fact, facts, conj, conjs, cond as whole, nothing, made, level, goes_expr, goes_conj, goes_cond}
-use Rattle.lexer.proofs.Parsing.{true_false, ArmGood, Live, good_iff, bind_good, pure_good, map_good, lead_good, behind_up, behind_down, pick_open_good, option_node_good, option_takes_good, more_good, nodes_good, no_end, bind_more, side, choose_good, arm_if, counts_good, opens_good, bracket_good, whole_good, open_good, bind_lead, bind_option, both_none, both_last, last_size}
+use Rattle.lexer.proofs.Parsing.{true_false, behind_down, no_end, both_none, last_size}
 
 -- ---- words and signs
 

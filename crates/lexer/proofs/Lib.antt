@@ -7,3 +7,4 @@ pub mod Grammar
 pub mod Goodness
 pub mod ReadSteps
 pub mod Places
+pub mod Slices

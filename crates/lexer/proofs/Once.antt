@@ -1,12 +1,11 @@
 -- A text has one list of tokens, or one first fault.
-use Rattle.std.proofs.Common.{◌≡◌, ℕ, ◌+◌, List, [], ◌∷◌, map, take, drop, length, Option, Some, None, refl, sym, ap, ◌∙◌, subst, arith}
+use Rattle.std.proofs.Common.{◌≡◌, ℕ, ◌+◌, List, [], ◌∷◌, map, take, drop, length, Option, refl, sym, ap, ◌∙◌, subst}
 use Rattle.lexer.specs.declared.token.Token.{Token}
 use Rattle.lexer.specs.declared.kinds.TokenKind.{TokenKind}
 use Rattle.lexer.specs.declared.pieces.Piece.{Piece}
 use Rattle.lexer.specs.declared.pieces.Piece.TheVariants.{End, Of, Bad, Open, Long, Big}
 use Rattle.lexer.specs.declared.faults.LexFault.{LexFault}
-use Rattle.lexer.specs.Bytes.{gap_len, piece}
-use Rattle.lexer.specs.Lexed.{Lexes, EndsBy, Key, key, behind_gap}
+use Rattle.lexer.specs.Lexed.{Lexes, EndsBy, key, behind_gap}
 
 ends_once : (at : ℕ) (p : Piece) (e f : Option LexFault) → EndsBy at p e → EndsBy at p f → e ≡ f
 ends_once at End e f h k = h ∙ sym k

@@ -1,11 +1,11 @@
 -- The laws of reading, for all grammars.
-use Rattle.std.proofs.Common.{◌≡◌, ℕ, zero, suc, ◌+◌, ◌-◌, ◌<◌, ◌≤◌, max, Bool, true, false, cond, nat_lt, ◌==◌, eq-eqb, eqb-true, get_or, List, [], ◌∷◌, ◌++◌, refl, sym, ap, ◌∙◌, subst, append_assoc, arith, rules, append-nil, ◌||◌, inl, inr, ◌⊎◌}
+use Rattle.std.proofs.Common.{◌≡◌, ℕ, zero, suc, ◌+◌, ◌-◌, ◌<◌, ◌≤◌, max, Bool, true, false, cond, nat_lt, ◌==◌, eq-eqb, eqb-true, get_or, List, [], ◌∷◌, ◌++◌, refl, sym, ap, ◌∙◌, subst, append_assoc, arith, append-nil, ◌||◌, inl, inr}
 use Rattle.std.proofs.Math.Nat.{le-max_left, le-max_right, max-le, max-zero, zero-max}
 use Rattle.std.proofs.lemmas.Bool.Decides.{nat_tests}
 use Rattle.prima_base.specs.declared.refusals.What.{What}
 use Rattle.prima_base.specs.declared.refusals.What.TheVariants as what
 use Rattle.lexer.specs.Lexemes.{Lexeme}
-use Rattle.lexer.specs.Parsing.{Size, nothing_counted, both, one_node, one_open, so_wide, rank, limit, limits, has_room, Out, Got, Stuck, Over, Parser, CanGoOn, Same, Goes, Lawful, Explains, Stops, Exceeds, Fine, Good, and_then, bind, bindG, pure, pureG, lead, leadG, nodeG, openG, Arm, No, Takes, Counts, Whole, Refuses, Fills, arm_run, choose, choose_by, option, option_by, map_to, mapG, more, AreMore, nodes_more, pick, optionG}
+use Rattle.lexer.specs.Parsing.{Size, nothing_counted, both, one_node, one_open, so_wide, rank, limit, limits, Out, Got, Stuck, Over, Parser, Same, Goes, Lawful, Explains, Stops, Exceeds, Fine, Good, and_then, bind, bindG, pure, pureG, lead, leadG, nodeG, openG, Arm, No, Takes, Counts, Whole, Refuses, Fills, arm_run, choose, option, map_to, mapG, more, AreMore, nodes_more, pick, optionG}
 
 pub true_false : {X : Type 0} → true ≡ false → X
 true_false e = absurd (let P : Bool → Type 0 = λ b. elim b as (λ _. Type 0) [ true ↦ Unit {0} | false ↦ ⊥ ] in subst P e tt)
@@ -125,16 +125,16 @@ module _ {A B : Type 0} (d : ℕ) (p : Parser A) (f : A → Parser B) (G : A →
       (x.0, x.1, (x.2.0 ++ h.2, h.0, both x.2.2 h.1, (a, x.2.2, h.1, x.0 ++ x.2.0, h.2, refl, sym (append_assoc x.0 x.2.0 h.2), x.2.3, h.3)), same_first Stuck Stuck x.0 rest (λ l. refl) x.3)
   outer low few at_least some live ef (Over w rest) x = (x.0, x.1, goes_first live x.0 rest x.2, same_first (Over w) (Over w) x.0 rest (λ l. refl) x.3)
 
-  fine_second : (b : B) (s t : Size) (m : ℕ) (rest2 : List Lexeme) (o : Out B) → m ≡ n + s.nodes → Fine d b t m rest2 o → Fine d b (both s t) n rest2 o
-  fine_second b s t m rest2 (Got c k r) e h = (h.0, h.1, omega (arith, e, h.2))
-  fine_second b s t m rest2 (Stuck r) e h = h
-  fine_second b s t m rest2 (Over w r) e h = exceeds_second w n m d s t e h
+  fine_second : (b : B) (s t : Size) (m : ℕ) (rest2 : List Lexeme) (o : Out B) → m ≡ n + s.nodes → Lawful d s → Fine d b t m rest2 o → Fine d b (both s t) n rest2 o
+  fine_second b s t m rest2 (Got c k r) e l h = (h.0, h.1, omega (arith, e, h.2), lawful_both d s t l h.3)
+  fine_second b s t m rest2 (Stuck r) e l h = h
+  fine_second b s t m rest2 (Over w r) e l h = exceeds_second w n m d s t e h
 
   fine_inner : (a : A) (b : B) (s t : Size) (rest rest2 : List Lexeme) (o : Out A) → ((m : ℕ) → m ≡ n + s.nodes → Fine d b t m rest2 (f a m rest)) → Fine d a s n rest o → Fine d b (both s t) n rest2 (and_then o f)
   fine_inner a b s t rest rest2 (Got a2 m r) h x =
       let P : A → Type 0 = λ v. Fine d b (both s t) n rest2 (f v m r) in
       let Q : List Lexeme → Type 0 = λ l. Fine d b (both s t) n rest2 (f a m l) in
-      subst P (sym x.0) (subst Q (sym x.1) (fine_second b s t m rest2 (f a m rest) x.2 (h m x.2)))
+      subst P (sym x.0) (subst Q (sym x.1) (fine_second b s t m rest2 (f a m rest) x.2 x.3 (h m x.2)))
   fine_inner a b s t rest rest2 (Stuck r) h x = absurd x
   fine_inner a b s t rest rest2 (Over w r) h x = exceeds_first w n d s t x
 
@@ -174,7 +174,7 @@ pub pure_good : {A : Type 0} (low d : ℕ) (a : A) (goes : Lexeme → Bool) → 
 pure_good {A} low d a goes = record {
   live = (a, nothing_counted, [], (refl, refl, refl));
   explains = λ n h ts. ([], nothing_counted, refl, (refl, refl, refl), omega arith, (λ k. k), lawful_none d, same n ts);
-  complete = λ n h b s front rest g stops. (sym g.0, ap (λ l. l ++ rest) g.2, (let e : s.nodes ≡ 0 = ap (λ z. z.nodes) g.1 in omega (arith, e)));
+  complete = λ n h b s front rest g stops. (sym g.0, ap (λ l. l ++ rest) g.2, (let e : s.nodes ≡ 0 = ap (λ z. z.nodes) g.1 in omega (arith, e)), (let P : Size → Type 0 = λ z. Lawful d z in subst P (sym g.1) (lawful_none d)));
 }
   where
     same : (n : ℕ) (ts : List Lexeme) → Same (pure a n) [] ts (Got a n)
@@ -228,7 +228,7 @@ good_goes {A} low d p G goes goes2 h g = record {
     off (x ∷ rest) k = h x k
 
 fine_open : {A : Type 0} (d : ℕ) (a : A) (s : Size) (n : ℕ) (rest : List Lexeme) (o : Out A) → Fine d a s n rest o → Fine (suc d) a (one_open s) n rest o
-fine_open d a s n rest (Got b m r) h = h
+fine_open d a s n rest (Got b m r) h = (h.0, h.1, h.2, (omega (arith, h.3.0), h.3.1))
 fine_open d a s n rest (Stuck r) h = h
 fine_open d a s n rest (Over w r) h = exceeds_open w n d s h
 
@@ -270,7 +270,7 @@ ArmGood {A} low d (Refuses w) x G goes = Live x G × TooMuch low d w x G
 ArmGood {A} low d (Fills w) x G goes = Live x G × TooMuch low d w x G × IsNode x G
 
 fine_node : {A : Type 0} (d : ℕ) (a : A) (s : Size) (n : ℕ) (rest : List Lexeme) (o : Out A) → Fine d a s (n + 1) rest o → Fine d a (one_node s) n rest o
-fine_node d a s n rest (Got b m r) h = (h.0, h.1, omega (arith, h.2))
+fine_node d a s n rest (Got b m r) h = (h.0, h.1, omega (arith, h.2), h.3)
 fine_node d a s n rest (Stuck r) h = h
 fine_node d a s n rest (Over w r) h = exceeds_node w n d s h
 
@@ -449,13 +449,16 @@ module _ (is : Lexeme → Bool) (sep : Lexeme) (is_sep : is sep ≡ true) (exact
       no_nodes : (s : Size) → s ≡ size → (n : ℕ) → n ≡ n + s.nodes
       no_nodes s e n = let k : s.nodes ≡ size.nodes = ap (λ z. z.nodes) e in omega (arith, k, no_node)
 
+      lawful_at : (s : Size) → s ≡ size → Lawful d s
+      lawful_at s e = let P : Size → Type 0 = λ z. Lawful d z in subst P (sym e) lawful
+
       at_rest : (n : ℕ) (a : A) (s : Size) (rest : List Lexeme) → (v ≡ a) × (s ≡ size) → Stops goes rest → Fine d a s n rest (option is r v n rest)
-      at_rest n a s [] e stops = (e.0, refl, no_nodes s e.1 n)
+      at_rest n a s [] e stops = (e.0, refl, no_nodes s e.1 n, lawful_at s e.1)
       at_rest n a s (x ∷ rest) e stops = case (is x) refl
         where
           case : (b : Bool) → is x ≡ b → Fine d a s n (x ∷ rest) (cond b (arm_run r x n rest) (Got v n (x ∷ rest)))
           case true t = true_false (sym (on x t) ∙ stops)
-          case false t = (e.0, refl, no_nodes s e.1 n)
+          case false t = (e.0, refl, no_nodes s e.1 n, lawful_at s e.1)
 
       complete : (n : ℕ) → low ≤ n → (a : A) (s : Size) (front rest : List Lexeme) → G a s front → Stops goes rest → Fine d a s n rest (option is r v n (front ++ rest))
       complete n h a s [] rest g stops = at_rest n a s rest (only a s g) stops

@@ -1,7 +1,6 @@
 -- Where reading ends in a list of tokens.
-use Rattle.std.proofs.Common.{◌≡◌, ℕ, zero, suc, ◌+◌, ◌-◌, ◌<◌, ◌≤◌, List, [], ◌∷◌, ◌++◌, length, take, drop, map, refl, sym, ap, ◌∙◌, subst, append_assoc, append-nil, arith, length-append, length-drop, Result, Ok, Err, Bool, ◌≢◌}
+use Rattle.std.proofs.Common.{◌≡◌, ℕ, zero, suc, ◌+◌, ◌-◌, ◌<◌, ◌≤◌, List, [], ◌∷◌, ◌++◌, length, take, drop, map, refl, sym, ap, ◌∙◌, subst, append_assoc, append-nil, arith, length-append, length-drop, Err, Bool}
 use Rattle.prima_base.specs.declared.refusals.What.{What}
-use Rattle.prima_base.specs.declared.refusals.What.TheVariants as what
 use Rattle.lexer.specs.declared.token.Token.{Token}
 use Rattle.lexer.specs.declared.parse.ParseFault.{ParseFault}
 use Rattle.lexer.specs.declared.parse.ParseFault.TheVariants as fault
@@ -10,8 +9,8 @@ use Rattle.lexer.specs.declared.reading.Stop.TheVariants as stop
 use Rattle.lexer.specs.declared.reading.Cursor.{Cursor}
 use Rattle.lexer.specs.Reads.{ahead, Fails}
 use Rattle.lexer.specs.Lexemes.{Lexeme, lexeme}
-use Rattle.lexer.specs.Parsing.{Size, Out, Got, Stuck, Over, Parser, Explains, Fine, Stops, CanGoOn, Lawful, Exceeds, Good, limit}
-use Rattle.lexer.specs.Found.{lexemes_from, place, IsRead, Finds, IsFirst, OnlyExceeds, IsFirstFault, Follows, FaultAt}
+use Rattle.lexer.specs.Parsing.{Size, Out, Got, Stuck, Over, Parser, Explains, Fine, Stops, CanGoOn, Lawful, Good}
+use Rattle.lexer.specs.Found.{lexemes_from, place, Finds, IsFirst, OnlyExceeds, IsFirstFault, Follows, FaultAt}
 
 take_whole : {A : Type 0} (l : List A) (n : ℕ) → n ≡ length l → take n l ≡ l
 take_whole [] zero e = refl
@@ -39,7 +38,7 @@ drop_none : (A : Type 0) (n : ℕ) → ◌≡◌ {A = List A} (drop n []) []
 drop_none A zero = refl
 drop_none A (suc n) = refl
 
-drop_drop : {A : Type 0} (n m : ℕ) (l : List A) → drop n (drop m l) ≡ drop (m + n) l
+pub drop_drop : {A : Type 0} (n m : ℕ) (l : List A) → drop n (drop m l) ≡ drop (m + n) l
 drop_drop n zero l = let e : n ≡ zero + n = omega arith in ap (λ k. drop k l) e
 drop_drop {A} n (suc m) [] = drop_none A n ∙ sym (drop_none A (suc m + n))
 drop_drop n (suc m) (x ∷ l) = drop_drop n m l ∙ (let e : suc (m + n) ≡ suc m + n = omega arith in ap (λ k. drop k (x ∷ l)) e)
@@ -81,10 +80,10 @@ module _ {A : Type 0} (p : Parser A) (G : A → Size → List Lexeme → Type 0)
         let P : List Lexeme → Type 0 = λ l. G a h.1 l in
         (omega (arith, z, lengths h.0 rest h.2), omega arith, h.1, subst P (sym (taken h.0 rest left z h.2)) h.3, omega (arith, h.4, h.5 (omega arith)), h.6)
 
-    pub got_only : (b : A) (s : Size) (front other : List Lexeme) → ts ≡ front ++ other → G b s front → Stops goes other → (a ≡ b) × (length list - left ≡ from + length front)
+    pub got_only : (b : A) (s : Size) (front other : List Lexeme) → ts ≡ front ++ other → G b s front → Stops goes other → (a ≡ b) × (length list - left ≡ from + length front) × (s.nodes ≤ 256) × Lawful 32 s
     got_only b s front other w h stops =
         let f = fine (Got a m rest) e b s front other w h stops in
-        (f.0, (let k : length rest ≡ length other = ap length f.1 in omega (arith, z, k, lengths front other w)))
+        (f.0, (let k : length rest ≡ length other = ap length f.1 in omega (arith, z, k, lengths front other w)), (let h = explained (Got a m rest) e in omega (arith, f.2, h.5 (omega arith))), f.3)
 
     pub got_exact : p 0 ts ≡ Got a m (lexemes_from list (length list - left))
     got_exact = let h = explained (Got a m rest) e in e ∙ ap (Got a m) (rest_is h.0 rest left z h.2)

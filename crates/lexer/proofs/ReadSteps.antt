@@ -1,17 +1,16 @@
 -- One step of reading, as the code takes it.
-use Rattle.std.proofs.Common.{◌≡◌, ℕ, zero, suc, ◌+◌, ◌-◌, ◌<◌, ◌≤◌, Bool, true, false, cond, Option, Some, None, List, [], ◌∷◌, ◌++◌, length, map, drop, refl, sym, ap, ◌∙◌, subst, append_assoc, append-nil, arith, rules, codes}
+use Rattle.std.proofs.Common.{◌≡◌, ℕ, zero, suc, ◌+◌, ◌-◌, ◌<◌, Bool, true, false, cond, Some, None, List, [], ◌∷◌, ◌++◌, length, drop, refl, sym, ap, ◌∙◌, append_assoc, append-nil, arith, codes}
 use Rattle.prima_base.specs.declared.refusals.What.{What}
 use Rattle.prima_base.specs.declared.refusals.What.TheVariants as what
-use Rattle.lexer.specs.Lexemes.{Lexeme, lexeme, is_word, is_sign}
-use Rattle.lexer.specs.Parsing.{Out, Got, Stuck, Over, Parser, Arm, No, Takes, Counts, Whole, Refuses, Fills, arm_run, has_room, and_then, bind, pure, map_to, lead, option, pick, choose, more, nodes_more, prepend}
-use Rattle.prima_base.specs.declared.values.Value.TheVariants.{Int, Text}
+use Rattle.lexer.specs.Lexemes.{Lexeme, is_word, is_sign}
+use Rattle.lexer.specs.Parsing.{Out, Got, Stuck, Over, Parser, Arm, No, Takes, Counts, Whole, Refuses, Fills, arm_run, has_room, and_then, bind, pure, map_to, lead, option, pick, choose, more, prepend}
 use Rattle.cond_expr.specs.declared.exprs.CmpOp.{CmpOp}
-use Rattle.cond_expr.specs.Trees.{Tree, Test, constant, always, never, fails}
-use Rattle.lexer.specs.Reader.{Level, level, can, inside, nothing, made, expr, fact, comparison, bracketed, length_rest, concat_rest, case_rest, atom_arm, expr_arm, fact_arm, opens, bracket, sign_op, op_arm}
+use Rattle.cond_expr.specs.Trees.{Test, always, never, fails}
+use Rattle.lexer.specs.Reader.{level, can, inside, nothing, made, expr, fact, comparison, bracketed, length_rest, concat_rest, case_rest, atom_arm, expr_arm, fact_arm, opens, sign_op, op_arm}
 use Rattle.lexer.specs.declared.reading.Stop.{Stop}
 use Rattle.lexer.specs.declared.reading.Stop.TheVariants as stop
 use Rattle.lexer.specs.declared.reading.Cursor.{Cursor}
-use Rattle.lexer.specs.Reads.{sees, first_op, ahead, Fails}
+use Rattle.lexer.specs.Reads.{sees, first_op, Fails}
 use Rattle.lexer.proofs.Parsing.{true_false}
 
 -- a test, an arm and the others

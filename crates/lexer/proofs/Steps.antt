@@ -1,6 +1,6 @@
 -- The steps of the loops over bytes.
-use Rattle.std.proofs.Common.{◌≡◌, ℕ, zero, suc, ◌+◌, ◌<◌, ◌≤◌, Bool, true, false, not, cond, List, [], ◌∷◌, length, drop, get_or, drop-cons, refl, sym, ap, ◌∙◌, subst, arith, Option, ◌++◌, append-nil, take, ◌-◌, length-drop}
-use Rattle.lexer.specs.Bytes.{gap_len, gap_dash, text_from, text_quote, piece, piece_of, is_blank}
+use Rattle.std.proofs.Common.{◌≡◌, ℕ, zero, suc, ◌+◌, ◌<◌, ◌≤◌, false, List, [], ◌∷◌, length, drop, get_or, drop-cons, refl, sym, ap, ◌∙◌, subst, arith, Option, ◌++◌, append-nil, take, ◌-◌, length-drop}
+use Rattle.lexer.specs.Bytes.{gap_len, piece}
 use Rattle.lexer.specs.Lexed.{Lexes, EndsBy}
 use Rattle.lexer.specs.declared.token.Token.{Token}
 use Rattle.lexer.specs.declared.faults.LexFault.{LexFault}

@@ -1,5 +1,5 @@
 -- The lexical grammar, by cases on the bytes.
-use Rattle.std.specs.Prelude.{◌≡◌, ℕ, ◌+◌, ◌-◌, ◌*◌, ◌<◌, ◌≤◌, Bool, true, false, ◌||◌, ◌&&◌, not, nat_lt, nat_le, ◌==◌, List, [], ◌∷◌, length, take, get_or, if◌then◌else◌}
+use Rattle.std.specs.Prelude.{ℕ, ◌+◌, ◌-◌, ◌*◌, ◌<◌, ◌≤◌, Bool, true, false, ◌||◌, ◌&&◌, not, nat_lt, nat_le, ◌==◌, List, [], ◌∷◌, length, take, get_or, if◌then◌else◌}
 use Rattle.std.specs.List.{prefix_len}
 use Rattle.prima_base.specs.Bytes.{is_control, is_digit, is_name_byte}
 use Rattle.lexer.specs.declared.kinds.TokenKind.TheVariants.{Word, Number, Text, Sign}

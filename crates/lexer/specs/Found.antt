@@ -22,9 +22,9 @@ abbrev pub IsRead : {A X : Type 0} → (X → A) → (A → Size → List Lexeme
 IsRead view G list from (Ok r) = (from ≤ r.1) × (r.1 ≤ length list) × (s : Size) × G (view r.0) s (take (r.1 - from) (lexemes_from list from)) × (s.nodes ≤ 256) × Lawful 32 s
 IsRead view G list from (Err e) = Unit {0}
 
--- this and the place behind it, unless it is indeed too much
+-- this and the place behind it, and it is not too much; or it is indeed too much
 abbrev pub Finds : {A X : Type 0} → (X → A) → A → Size → ℕ → Result (X × ℕ) ParseFault → Type 0
-Finds view a s n (Ok r) = (view r.0 ≡ a) × (r.1 ≡ n)
+Finds view a s n (Ok r) = (view r.0 ≡ a) × (r.1 ≡ n) × (s.nodes ≤ 256) × Lawful 32 s
 Finds view a s n (Err fault.NoMemory) = Unit {0}
 Finds view a s n (Err (fault.TooMany w most)) = Exceeds w 0 32 s
 Finds view a s n (Err (fault.Syntax at)) = ⊥

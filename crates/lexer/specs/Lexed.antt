@@ -1,5 +1,5 @@
 -- The tokens of a text.
-use Rattle.std.specs.Prelude.{◌≡◌, ℕ, ◌+◌, ◌≤◌, ◌<◌, Bool, true, ◌&&◌, false, List, [], ◌∷◌, ◌++◌, length, map, take, drop, Option, Some, None}
+use Rattle.std.specs.Prelude.{◌≡◌, ℕ, ◌+◌, ◌≤◌, false, List, [], ◌∷◌, length, map, take, drop, Option, Some, None}
 use Rattle.lexer.specs.declared.token.Token.{Token}
 use Rattle.lexer.specs.declared.kinds.TokenKind.{TokenKind}
 use Rattle.lexer.specs.declared.pieces.Piece.{Piece}
@@ -43,3 +43,11 @@ key t = record { kind = t.kind; text = t.text.now; at = t.at }
 -- a text has one list of tokens and one end, or one first fault
 abbrev pub LexesOnce : Type 0
 LexesOnce = (ts us : List Token) (at : ℕ) (bytes : List ℕ) (e f : Option LexFault) → Lexes at bytes ts e → Lexes at bytes us f → (map key ts ≡ map key us) × (e ≡ f)
+
+-- each token is the slice of the text at its place, and they stand in order from `at` on
+abbrev pub InPlace : List ℕ → ℕ → List Token → Type 0
+InPlace text at [] = Unit {0}
+InPlace text at (t ∷ ts) = (at ≤ t.at) × (t.text.now ≡ take (length t.text.now) (drop t.at text)) × InPlace text (t.at + length t.text.now) ts
+
+abbrev pub TokensInPlace : Type 0
+TokensInPlace = (text : List ℕ) (ts : List Token) (e : Option LexFault) → Lexes 0 text ts e → InPlace text 0 ts

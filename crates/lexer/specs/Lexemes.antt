@@ -1,5 +1,5 @@
 -- What a token says, apart from its place and spelling.
-use Rattle.std.specs.Prelude.{◌≡◌, ℕ, zero, suc, ℤ, pos, negsuc, Bool, true, false, not, ◌||◌, ◌&&◌, nat_le, ◌==◌, List, [], ◌∷◌, length, drop, codes, if◌then◌else◌}
+use Rattle.std.specs.Prelude.{ℕ, zero, suc, ℤ, pos, negsuc, Bool, true, false, not, ◌||◌, ◌&&◌, nat_le, ◌==◌, List, [], ◌∷◌, length, drop, codes, if◌then◌else◌}
 use Rattle.std.specs.Str.{bytes_eq}
 use Rattle.lexer.specs.declared.token.Token.{Token}
 use Rattle.lexer.specs.declared.kinds.TokenKind.{TokenKind}

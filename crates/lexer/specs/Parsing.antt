@@ -1,5 +1,5 @@
 -- Reading from the front of a list, what is counted meanwhile, and what it says of a grammar.
-use Rattle.std.specs.Prelude.{◌≡◌, ℕ, zero, suc, ◌+◌, ◌-◌, ◌<◌, ◌≤◌, max, Bool, true, false, ◌==◌, if◌then◌else◌, nat_lt, get_or, List, [], ◌∷◌, ◌++◌, ◌⊎◌}
+use Rattle.std.specs.Prelude.{◌≡◌, ℕ, zero, suc, ◌+◌, ◌-◌, ◌<◌, ◌≤◌, max, Bool, false, ◌==◌, if◌then◌else◌, nat_lt, get_or, List, [], ◌∷◌, ◌++◌, ◌⊎◌}
 use Rattle.prima_base.specs.declared.refusals.What.{What}
 use Rattle.prima_base.specs.declared.refusals.What.TheVariants as what
 use Rattle.lexer.specs.Lexemes.{Lexeme}
@@ -102,9 +102,9 @@ Exceeds what.Nodes n d s = 256 < n + s.nodes
 Exceeds what.Depth n d s = d < s.depth
 Exceeds w n d s = limit w < s.wide w
 
--- it was read, or is indeed too much
+-- it was read and is not too much, or it is indeed too much
 abbrev pub Fine : {A : Type 0} → ℕ → A → Size → ℕ → List Lexeme → Out A → Type 0
-Fine d a s n rest (Got b m r) = (b ≡ a) × (r ≡ rest) × (m ≡ n + s.nodes)
+Fine d a s n rest (Got b m r) = (b ≡ a) × (r ≡ rest) × (m ≡ n + s.nodes) × Lawful d s
 Fine d a s n rest (Stuck r) = ⊥
 Fine d a s n rest (Over w r) = Exceeds w n d s
 

@@ -1,5 +1,5 @@
 -- Reading expressions and conditions, from left to right.
-use Rattle.std.specs.Prelude.{ℕ, zero, suc, Bool, true, false, if◌then◌else◌, List, [], ◌∷◌, ◌||◌, ◌&&◌, codes, Option, Some, None}
+use Rattle.std.specs.Prelude.{ℕ, zero, suc, Bool, true, false, if◌then◌else◌, List, ◌||◌, ◌&&◌, codes, Option, Some, None}
 use Rattle.prima_base.specs.declared.refusals.What.TheVariants as what
 use Rattle.prima_base.specs.declared.values.Value.TheVariants.{Int, Text}
 use Rattle.cond_expr.specs.declared.exprs.Whose.TheVariants.{Free, Alias, Atom}
@@ -8,7 +8,7 @@ use Rattle.cond_expr.specs.declared.exprs.CmpOp.TheVariants.{Eq, Ne, Lt, Le, Gt,
 use Rattle.cond_expr.specs.Trees.{Tree, Test, column, constant, length_of, joined, choose as chosen, never, always, compared, all_of, some_of, fails, a_tree, a_test}
 use Rattle.cond_expr.specs.Seen.{trees_of, tests_of}
 use Rattle.lexer.specs.Lexemes.{Lexeme, word, number, text, sign, is_word, is_sign, is_name, is_int}
-use Rattle.lexer.specs.Parsing.{Out, Over, Parser, Arm, No, Takes, Counts, Whole, Refuses, Fills, bind, pure, lead, pick, choose, option, map_to, more, nodes_more}
+use Rattle.lexer.specs.Parsing.{Over, Parser, Arm, No, Takes, Counts, Whole, Refuses, Fills, bind, pure, lead, pick, choose, option, map_to, more, nodes_more}
 
 -- what stands inside one more open construct
 pub record Level : Type 0 where

@@ -1,8 +1,12 @@
-//! The tokens of a statement.
+//! The tokens of a statement, and the expressions and conditions read from them.
+//!
+//! The lexical grammar stands in `specs/Bytes.antt` and `specs/Lexed.antt`, the grammar of trees in
+//! `specs/Grammar.antt`. `specs/Parsing.antt` has the steps of reading for any grammar: crates
+//! above make their own readers of them, over the same cursor.
 #![tactic(auto)]
 
 ghost use Rattle.std.specs.Prelude.{◌≡◌, ◌+◌, ◌≤◌, ◌<◌, ℕ, List, length, drop, take, IfOk, IfErr, None, Some};
-ghost use Rattle.lexer.specs.Lexed.{Lexes, Gives, LexesOnce};
+ghost use Rattle.lexer.specs.Lexed.{Lexes, Gives, LexesOnce, TokensInPlace};
 
 use std::alloc::{AllocError, Global};
 
@@ -15,10 +19,12 @@ mod reader;
 mod reading;
 mod token;
 
+pub use atoms::{is_name, name};
 pub use faults::LexFault;
 pub use kinds::TokenKind;
 pub use parse::{ParseFault, parse_cond, parse_expr};
 use pieces::{Piece, gap, piece_at};
+pub use reader::{outer_cond, outer_expr};
 pub use reading::{Cursor, Stop};
 pub use token::Token;
 
@@ -55,6 +61,11 @@ pub fn tokens<'a>(alloc: Global, text: &'a [u8]) -> Result<Vec<Token<'a>>, LexFa
 /// A text has one list of tokens, or one first fault.
 pub fn lexes_once()
     ensures { LexesOnce }
+{}
+
+/// Each token is a slice of its text at its place, and they stand in order.
+pub fn tokens_in_place()
+    ensures { TokensInPlace }
 {}
 
 #[cfg(test)]

@@ -78,7 +78,7 @@ pub fn parse_expr(
     requires { from ≤ length list.now }
     // What is read is in the grammar.
     ensures read { IsRead tree (IsExpr qualified) list.now from result }
-    // What is in the grammar, up to a token that it does not go on with, is read, unless it is too much.
+    // What is in the grammar, up to a token that it does not go on with, is read if it is within the limits, and else refused.
     ensures only { (e : Tree) (s : Size) (front rest : List Lexeme) → lexemes_from list.now from ≡ front ++ rest → IsExpr qualified e s front → Stops (goes_expr qualified) rest →
         Finds tree e s (from + length front) result }
     // A fault is at the first token with which nothing of the grammar goes on, or only what is too much.

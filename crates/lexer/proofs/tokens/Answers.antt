@@ -1,6 +1,5 @@
-use Rattle.std.proofs.Common.{arith, ◌≡◌, ◌+◌, refl, sym, ap, ◌∙◌, subst, [], Some, None}
+use Rattle.std.proofs.Common.{refl, None}
 use Rattle.lexer.specs.declared.pieces.Piece.TheVariants.{End, Bad, Open, Long, Big}
-use Rattle.lexer.specs.declared.faults.LexFault.TheVariants.{BadByte, OpenQuote, LongText, BigNumber}
 use Rattle.lexer.proofs.Steps.{ends_here}
 use Rattle.lexer.proofs.tokens.Goals as goal
 

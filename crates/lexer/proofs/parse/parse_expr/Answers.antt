@@ -1,4 +1,4 @@
-use Rattle.std.proofs.Common.{arith, ◌≡◌, refl, sym, ap, ◌∙◌, subst, map, length, drop, List}
+use Rattle.std.proofs.Common.{sym, ap, ◌∙◌, subst, map, length, List}
 use Rattle.cond_expr.specs.declared.exprs.Expr.{Expr}
 use Rattle.cond_expr.specs.Seen.{tree}
 use Rattle.lexer.specs.declared.token.Token.{Token}

@@ -1,4 +1,4 @@
-use Rattle.std.proofs.Common.{◌≡◌, ap, sym, ◌∙◌, length, take, length-take-le}
+use Rattle.std.proofs.Common.{ap, sym, ◌∙◌, length-take-le}
 use Rattle.lexer.specs.declared.pieces.Piece.TheVariants.{Of}
 use Rattle.lexer.proofs.Whole.{again}
 use Rattle.lexer.proofs.token.Token.first.Goals as goal
