@@ -206,9 +206,11 @@ impl StoredTable {
         copy_rows(self.alloc, &self.logs, &self.live)
     }
 
-    /// Whether the table has this row now, found by binary search. It takes no memory.
+    /// Whether the table has this row now, found by binary search. What the table has now it has from its last
+    /// stamp on. It takes no memory.
     pub fn holds(&self, row: &Row) -> bool
-        ensures { (m : ℕ) → m < forever → AllBefore self.now (m + 1) → result ≡ has row_cmp row.now (relation_at self.now m) }
+        ensures now { (m : ℕ) → m < forever → AllBefore self.now (m + 1) → result ≡ has row_cmp row.now (relation_at self.now m) }
+        ensures still { (m n : ℕ) → m ≤ n → n < forever → AllBefore self.now (m + 1) → relation_at self.now n ≡ relation_at self.now m }
     {
         if row.values().len() != self.columns.len() {
             return false;
