@@ -25,3 +25,4 @@ pub mod Preparing
 pub mod Rule
 pub mod Inserting
 pub mod Counts
+pub mod Testing
