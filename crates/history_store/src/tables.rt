@@ -75,6 +75,7 @@ impl StoredTable {
         ensures before { (m : ℕ) → m < stamp → IfOk result (λ t. relation_at t m ≡ []) }
         ensures from { (m : ℕ) → stamp ≤ m → m < forever → IfOk result (λ t. relation_at t m ≡ rows.now) }
         ensures later { (m : ℕ) → stamp < m → IfOk result (λ t. AllBefore t m) }
+        ensures lawful { IfOk result (λ t. IsStore t) }
     {
         let mut table = StoredTable {
             alloc,
@@ -187,6 +188,7 @@ impl StoredTable {
         ensures before { (m : ℕ) → m < prepared.stamp → relation_at self.new m ≡ relation_at self.old m }
         ensures from { (m : ℕ) → prepared.stamp ≤ m → m < forever → relation_at self.new m ≡ rows_after self.old prepared }
         ensures later { (m : ℕ) → prepared.stamp < m → AllBefore self.new m }
+        ensures lawful { IsStore self.new }
     {
         let Prepared {
             stamp,
