@@ -15,7 +15,8 @@ use Rattle.std.proofs.lemmas.List.{drop_more}
 use Rattle.std.proofs.lemmas.Bool.{cases_lt}
 use Rattle.std.proofs.Math.ListN.{drop_of_length-le}
 use Rattle.history_store.proofs.Sides.{exact_rows}
-use Rattle.history_store.proofs.Sides.{before_more, before_in}
+use Rattle.relations.proofs.SetLaws.{before_in}
+use Rattle.history_store.proofs.Sides.{before_more}
 use Rattle.history_store.proofs.Now.{rows_of_in}
 use Rattle.history_store.proofs.Carry.{in_get}
 
