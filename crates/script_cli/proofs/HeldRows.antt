@@ -1,6 +1,6 @@
 -- The entries of a column show what the table's relation has at each moment.
 use Rattle.std.proofs.Common.{◌≡◌, ◌<◌, ◌+◌, ℕ, zero, suc, Bool, true, false, List, [], ◌∷◌, length, get_or, cond, refl, sym, ap, ◌∙◌, subst, arith, inl, inr, append-nil}
-use Rattle.std.specs.Prelude.{◌↔◌, ◌&&◌, ◌==◌, nat_lt, min, max, MatchBool, slice_index_or}
+use Rattle.std.specs.Prelude.{◌↔◌, ◌&&◌, ◌==◌, nat_lt, min, max, Some, None, MatchBool, slice_index_or}
 use Rattle.std.proofs.lemmas.Bool.{ltb-true}
 use Rattle.std.proofs.lemmas.Bool.Decides.{nat_tests}
 use Rattle.relations.specs.Sets.{In}
@@ -12,7 +12,7 @@ use Rattle.prima_base.specs.Order.{row_cmp}
 use Rattle.prima_base.specs.OrderLaws.{row_exact}
 use Rattle.prima_base.specs.declared.values.Value.{Value}
 use Rattle.history_store.specs.Store.{Cell, Store, shown_at, row_at, rows_from, relation_at, IsFilled, IsStore}
-use Rattle.script_cli.specs.Held.{held_in, held_cell, held_cells}
+use Rattle.script_cli.specs.Held.{row_with, held_in, held_cell, held_cells}
 
 -- the row of one value
 abbrev row : Value → List Value
@@ -43,7 +43,7 @@ meets_back p q m a =
 from_held_in : (v : Value) (p q : Span) (e : Entry (List Value)) → In e (held_in v p q) → e ≡ record { item = row v; period = span (max p.start q.start) (min p.end q.end) }
 from_held_in v p q e h = step (nat_lt (max p.start q.start) (min p.end q.end)) h
   where
-    step : (b : Bool) → In e (cond b (record { item = row v; period = span (max p.start q.start) (min p.end q.end) } ∷ []) []) → e ≡ record { item = row v; period = span (max p.start q.start) (min p.end q.end) }
+    step : (b : Bool) → In e (row_with v (cond b (Some (span (max p.start q.start) (min p.end q.end))) None)) → e ≡ record { item = row v; period = span (max p.start q.start) (min p.end q.end) }
     step true (inl k) = sym k
     step true (inr k) = absurd k
     step false k = absurd k

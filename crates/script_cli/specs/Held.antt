@@ -1,13 +1,18 @@
 -- The rows of a table of one column, each with the period of an entry inside its key's period.
-use Rattle.std.specs.Prelude.{List, [], ◌∷◌, ◌++◌, length, nat_lt, min, max, slice_index_or, if◌then◌else◌}
-use Rattle.relations.specs.Spans.{Span, span}
+use Rattle.std.specs.Prelude.{List, [], ◌∷◌, ◌++◌, Option, Some, None, length, nat_lt, slice_index_or, if◌then◌else◌}
+use Rattle.relations.specs.Spans.{Span, span, common}
 use Rattle.relations.specs.Timed.{Entry}
 use Rattle.prima_base.specs.declared.values.Value.{Value}
 use Rattle.history_store.specs.Store.{Cell}
 
+-- the row of this value, with the period, if there is one
+abbrev pub row_with : Value → Option Span → List (Entry (List Value))
+row_with value None = []
+row_with value (Some p) = record { item = value ∷ []; period = p } ∷ []
+
 -- the row of this value, at the common moments of two periods
 abbrev pub held_in : Value → Span → Span → List (Entry (List Value))
-held_in value p q = if nat_lt (max p.start q.start) (min p.end q.end) then record { item = value ∷ []; period = span (max p.start q.start) (min p.end q.end) } ∷ [] else []
+held_in value p q = row_with value (common p q)
 
 abbrev pub held_cell : List Span → Cell → List (Entry (List Value))
 held_cell keys c = if nat_lt c.id (length keys) then held_in c.value (slice_index_or keys c.id (span 0 0)) c.period else []
