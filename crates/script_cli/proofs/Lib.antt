@@ -28,3 +28,4 @@ pub mod ReadingExamples
 pub mod Joined
 pub mod Errors
 pub mod OnlyReading
+pub mod MergeLaws

@@ -23,6 +23,7 @@ mod runs_tests;
 mod sessions;
 mod statements;
 mod stops;
+mod stretches;
 mod tokens;
 
 use adapters::{ReaderSource, WriterSink};

@@ -1,0 +1,33 @@
+-- What stretches, keys and entries stand for: parts of the histories of rows.
+use Rattle.std.specs.Prelude.{ℕ, ◌+◌, List, [], ◌∷◌, ◌++◌, map}
+use Rattle.relations.specs.Spans.{Span}
+use Rattle.relations.specs.Timed.{Entry}
+use Rattle.prima_base.specs.declared.values.Value.{Value}
+use Rattle.prima_base.specs.Order.{shown}
+use Rattle.history_store.specs.Store.{Cell}
+use Rattle.history_store.specs.declared.scans.KeyEntry.{KeyEntry}
+use Rattle.script_cli.specs.declared.stretches.Stretch.{Stretch}
+use Rattle.script_cli.specs.Parts.{Part}
+
+-- the values that are shown, in the period
+abbrev pub part_of : Stretch → Part (List Value)
+part_of s = record { id = s.id; item = map shown s.row.values.items; period = s.row.period }
+
+abbrev pub parts_of : List Stretch → List (Part (List Value))
+parts_of stretches = map part_of stretches
+
+-- a key, with no value yet
+abbrev pub key_part : KeyEntry → Part (List Value)
+key_part k = record { id = k.id; item = []; period = k.period }
+
+-- an entry of a column
+abbrev pub cell_part : Cell → Part Value
+cell_part c = record { id = c.id; item = c.value; period = c.period }
+
+-- the values with one more behind
+abbrev pub behind : List Value → Value → List Value
+behind values v = values ++ v ∷ []
+
+-- the values in their periods, without the ids
+abbrev pub entry_in : Part (List Value) → Entry (List Value)
+entry_in p = record { item = p.item; period = p.period }
