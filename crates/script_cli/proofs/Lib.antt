@@ -29,3 +29,4 @@ pub mod Joined
 pub mod Errors
 pub mod OnlyReading
 pub mod MergeLaws
+pub mod Picked

@@ -15,11 +15,15 @@ AreNames columns names = (name : List ℕ) → In name names → In name (names_
 abbrev pub projected : List Column → List (List ℕ) → List (List Value) → List (List Value)
 projected columns names relation = set_of row_cmp (map (λ (row : List Value). map (cell columns row) names) relation)
 
--- how many entries a read of these columns takes: the keys, and the entries of each column
+-- how many entries the column has
 abbrev pub count_in : Option (List Cell) → ℕ
 count_in None = 0
 count_in (Some cells) = length cells
 
+-- how many entries the columns of these names have, and how many are read of them: these, and the keys
+abbrev pub entries_in : Store → List (List ℕ) → ℕ
+entries_in s [] = 0
+entries_in s (name ∷ names) = count_in (column_of s name) + entries_in s names
+
 abbrev pub reads : Store → List (List ℕ) → ℕ
-reads s [] = length s.keys
-reads s (name ∷ names) = count_in (column_of s name) + reads s names
+reads s names = length s.keys + entries_in s names
