@@ -6,9 +6,6 @@ pub mod Moments
 pub mod Reaching
 pub mod Feeding
 pub mod Answered
-pub mod HeldRows
-pub mod Scanning
-pub mod Columns
 pub mod Selecting
 pub mod Values
 pub mod Gaining

@@ -1,12 +1,12 @@
 -- What is gathered of a table's columns is what its relation has in them.
-use Rattle.std.proofs.Common.{◌≡◌, ◌⊎◌, ◌<◌, ◌≤◌, ◌+◌, ℕ, zero, suc, Bool, true, false, List, [], ◌∷◌, ◌++◌, length, map, get_or, cond, refl, sym, ap, ◌∙◌, subst, arith, inl, inr}
+use Rattle.std.proofs.Common.{◌≡◌, ◌⊎◌, ◌<◌, ◌≤◌, ◌+◌, ℕ, zero, suc, Bool, true, false, List, [], ◌∷◌, ◌++◌, length, map, get_or, take, drop, cond, refl, sym, ap, ◌∙◌, subst, arith, inl, inr}
 use Rattle.std.specs.Prelude.{◌↔◌, ◌&&◌, ◌==◌, MatchBool, Option, Some, None, Result, Ok, Err, OnOk, slice_index_or}
 use Rattle.std.specs.Ordering.{is_eq}
 use Rattle.std.specs.Cmp.{Equal-is}
 use Rattle.std.specs.Cmp.Lexicographic.{nat_list_cmp_total}
 use Rattle.std.proofs.lemmas.Bool.Decides.{nat_tests}
 use Rattle.std.proofs.lemmas.Cmp.{tied_itself}
-use Rattle.std.proofs.lemmas.List.{map-append}
+use Rattle.std.proofs.lemmas.List.{map-append, take_more, at_drop_more}
 use Rattle.relations.specs.Sets.{In}
 use Rattle.relations.specs.Spans.{Span, span, covers}
 use Rattle.prima_base.specs.Order.{bytes_cmp}
@@ -16,6 +16,7 @@ use Rattle.schema_catalog.specs.Databases.{cell}
 use Rattle.history_store.specs.declared.scans.KeyEntry.{KeyEntry}
 use Rattle.history_store.specs.Store.{Cell, Store, shown_at, row_at, Fills, IsFilled, IsStore, named, column_of}
 use Rattle.history_store.specs.Scans.{keys_from}
+use Rattle.script_cli.specs.Projection.{count_in, entries_in}
 use Rattle.script_cli.specs.Parts.{Part, Has, HasBoth, Precedes, PrecedesAll, InTurn}
 use Rattle.script_cli.specs.Stretches.{key_part, cell_part, behind, IsThere, picked, IsGathered}
 
@@ -115,7 +116,7 @@ only v w vs e h = step (subst (λ (l : List Value). In v l) e h)
     step (inl k) = sym k
     step (inr k) = absurd k
 
-itself : (name : List ℕ) → is_eq (bytes_cmp name name) ≡ true
+pub itself : (name : List ℕ) → is_eq (bytes_cmp name name) ≡ true
 itself name = (Equal-is (bytes_cmp name name)).1 (tied_itself nat_list_cmp_total name)
 
 -- a column of this name is there
@@ -188,3 +189,20 @@ column_taken (Err x) s name cells parts more w e t both names g = tt
 -- the entries of a column are in turn
 pub entries_turn : (s : Store) (name : List ℕ) (cells : List Cell) → IsStore s → column_of s name ≡ Some cells → InTurn (map cell_part cells)
 entries_turn s name cells w e = ?
+
+-- the columns that are still to come
+pub keys_count : (base : ℕ) (keys : List Span) → length (keys_from base keys) ≡ length keys
+keys_count base [] = refl
+keys_count base (k ∷ keys) = ap suc (keys_count (base + 1) keys)
+
+pub in_at : {X : Type 0} (xs : List X) (i : ℕ) (x : X) → i < length xs → x ≡ get_or xs i x → In x xs
+in_at [] i x l e = absurd (omega arith)
+in_at (y ∷ xs) zero x l e = inl (sym e)
+in_at (y ∷ xs) (suc i) x l e = inr (in_at xs i x (omega arith) e)
+
+pub next_entries : (s : Store) (names : List (List ℕ)) (i : ℕ) (name : List ℕ) → i < length names → name ≡ get_or names i name
+    → entries_in s (drop i names) ≡ count_in (column_of s name) + entries_in s (drop (i + 1) names)
+next_entries s names i name l e = at_drop_more (entries_in s) names i name l ∙ ap (λ n. count_in (column_of s n) + entries_in s (drop (i + 1) names)) (sym e)
+
+pub next_names : (names : List (List ℕ)) (i : ℕ) (name : List ℕ) → i < length names → name ≡ get_or names i name → take (i + 1) names ≡ take i names ++ name ∷ []
+next_names names i name l e = take_more names i name l ∙ ap (λ n. take i names ++ n ∷ []) (sym e)

@@ -11,7 +11,6 @@ pub mod Runs
 pub mod ShowsPast
 pub mod Shows
 pub mod Codes
-pub mod Held
 pub mod Parts
 pub mod Merging
 pub mod Stretches
