@@ -1,11 +1,10 @@
--- What the columns of a flat row hold, and which values are lawful.
+-- What the columns of a flat row hold, and which rows are lawful.
 use Rattle.std.specs.Prelude.{ℕ, List, [], ◌∷◌, Bool, true, false, cond, ◌&&◌, ◌==◌, pos, ⊤}
 use Rattle.std.specs.Ordering.{is_eq}
-use Rattle.prima_base.specs.declared.values.Value.{Value}
-use Rattle.prima_base.specs.declared.values.Value.TheVariants.{Int, Text}
+use Rattle.prima_base.specs.declared.values.Value.TheVariants.{Int}
 use Rattle.prima_base.specs.declared.values.Val.{Val}
 use Rattle.prima_base.specs.declared.values.Val.TheVariants.{Int as ValInt, Slice, Own}
-use Rattle.prima_base.specs.Bytes.{IsTxt}
+pub use Rattle.prima_base.specs.Columns.{IsLawful}
 use Rattle.prima_base.specs.Order.{bytes_cmp, shown}
 use Rattle.cond_expr.specs.declared.exprs.Whose.{Whose}
 use Rattle.cond_expr.specs.declared.exprs.Whose.TheVariants.{Free, Alias, Atom}
@@ -26,11 +25,6 @@ abbrev pub flat : List Column → List Val → Cells
 flat [] vs w n = Int (pos 0)
 flat (c ∷ cs) [] w n = Int (pos 0)
 flat (c ∷ cs) (v ∷ vs) w n = cond (names w n c) (shown v) (flat cs vs w n)
-
--- an INT, or a TEXT of at most 4,096 bytes and no control byte
-abbrev pub IsLawful : Value → Type 0
-IsLawful (Int n) = ⊤
-IsLawful (Text t) = IsTxt t
 
 abbrev pub AreLawful : List Val → Type 0
 AreLawful [] = ⊤

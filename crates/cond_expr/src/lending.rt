@@ -5,16 +5,12 @@ ghost use Rattle.cond_expr.specs.Rows.{IsLawful, AreLawful};
 use prima_base::{NoMemory, Val, Value};
 use std::alloc::Global;
 
-/// The value, borrowed, and that it is lawful: a text of it has at most 4,096 bytes and no control
-/// byte. It takes no memory.
+/// The value, borrowed. It takes no memory.
 pub fn lend(value: &Value) -> Val<'_>
     ensures value { shown result ≡ value.now }
     ensures lawful { IsLawful (shown result) }
 {
-    match value {
-        Value::Int(n) => Val::Int(*n),
-        Value::Text(text) => Val::Slice(text.bytes()),
-    }
+    value.lend()
 }
 
 /// The values of a row, borrowed, as `eval` and `holds` take them.

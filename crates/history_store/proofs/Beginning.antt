@@ -7,7 +7,7 @@ use Rattle.prima_base.specs.declared.values.Value.{Value}
 use Rattle.history_store.specs.declared.columns.Write.{Write}
 use Rattle.history_store.specs.Log.{Log}
 use Rattle.history_store.specs.Logs.{cells_of}
-use Rattle.history_store.specs.Store.{Cell, Column, relation_at, AllBefore}
+use Rattle.history_store.specs.Store.{Cell, Column, AreColumns, relation_at, AllBefore}
 use Rattle.history_store.specs.Entries.{all_entries, IsHistory, AreHistories}
 use Rattle.history_store.specs.TableFields.{store_of, IsKept}
 use Rattle.history_store.specs.Handing.{unpaired, handed, new_keys, only_in}
@@ -22,12 +22,16 @@ no_histories (c ∷ logs) a =
     let e : c.cells ≡ [] = a 0 c (omega arith) in
     (subst (IsHistory []) (sym e) (record { known = λ w i. absurd i; fits = λ id h. absurd (omega (arith, h)) }), no_histories logs (λ k d h. a (suc k) d (omega (arith, h))))
 
-pub none_kept : (columns : List Column) (logs : List Log) → length logs ≡ length columns → All (λ c. c.cells ≡ []) logs → IsKept columns [] (cells_of logs) []
-none_kept columns logs w a = record {
+pub none_kept : (columns : List Column) (logs : List Log) → AreColumns columns → length logs ≡ length columns → All (λ c. c.cells ≡ []) logs → IsKept columns [] (cells_of logs) []
+none_kept columns logs n w a = record {
+  names = n;
   width = length-cells_of logs ∙ w;
   histories = no_histories logs a;
   stored = stored_more [] (cells_of logs) [] 0 forever (omega arith) (none_stored logs a);
   fitting = λ id i. absurd i;
+  lasting = λ id h. absurd (omega (arith, h));
+  fitted = λ m id h. absurd (let b = h.0 in omega (arith, b));
+  apart = λ m i j h. absurd (let b = h.0 in omega (arith, b));
 }
 
 none_entries : (logs : List (List Write)) (cells : List Cell) → In cells (all_entries [] logs) → cells ≡ []

@@ -20,16 +20,10 @@ use Rattle.history_store.proofs.Now.{rows_of_in, in_rows_of}
 use Rattle.history_store.proofs.Plans.{rows_other, next_rows, handed_is}
 use Rattle.history_store.proofs.Showing.{along_is, current_relation}
 use Rattle.history_store.proofs.Making.{all_wide, more_room}
+use Rattle.history_store.proofs.Moments.{same_id}
 use Rattle.history_store.proofs.Installing.{later, relation_from, along_after}
 
--- an id by its row
-same_id : (columns : List (List Write)) (ids : List ℕ) (p q : ℕ) → Ascends row_cmp (rows_of ids columns) → In p ids → In q ids → row_now p columns ≡ row_now q columns → p ≡ q
-same_id columns [] p q a i j e = absurd i
-same_id columns (x ∷ ids) p q a (inl i) (inl j) e = sym i ∙ j
-same_id columns (x ∷ ids) p q a (inl i) (inr j) e = absurd (row_exact.apart (row_now q columns) (subst (λ r. row_cmp r (row_now q columns) ≡ Less) (ap (λ n. row_now n columns) i ∙ e) (before_in row_cmp (row_now x columns) (row_now q columns) (rows_of ids columns) a.0 (rows_of_in q ids columns j))))
-same_id columns (x ∷ ids) p q a (inr i) (inl j) e = absurd (row_exact.apart (row_now p columns) (subst (λ r. row_cmp r (row_now p columns) ≡ Less) (ap (λ n. row_now n columns) j ∙ sym e) (before_in row_cmp (row_now x columns) (row_now p columns) (rows_of ids columns) a.0 (rows_of_in p ids columns i))))
-same_id columns (x ∷ ids) p q a (inr i) (inr j) e = same_id columns ids p q a.1 i j e
-
+-- ids of an ascending list
 distinct_ids : (columns : List (List Write)) (ids : List ℕ) → Ascends row_cmp (rows_of ids columns) → Distinct ids
 distinct_ids columns [] a = tt
 distinct_ids columns (x ∷ ids) a = (λ i. row_exact.apart (row_now x columns) (before_in row_cmp (row_now x columns) (row_now x columns) (rows_of ids columns) a.0 (rows_of_in x ids columns i)), distinct_ids columns ids a.1)

@@ -17,7 +17,8 @@ use Rattle.history_store.proofs.Plans.{stored_after, before_after, open_after, s
 use Rattle.history_store.proofs.Now.{at_now, rows_of_in}
 use Rattle.history_store.proofs.Histories.{below_rows}
 use Rattle.history_store.proofs.Entering.{Handed, hand_over, end_over}
-use Rattle.history_store.proofs.Showing.{AllBelow, logs_below, below_each, stored_at, stored_more, along_is, relation_is, all_before}
+use Rattle.history_store.proofs.Moments.{still_last, still_fit, still_apart}
+use Rattle.history_store.proofs.Showing.{AllBelow, logs_below, below_each, key_before, stored_at, stored_more, along_is, relation_is, all_before}
 
 pub rows_width : (ids : List ℕ) (rows : List (List Value)) (stamp : ℕ) (columns : List (List Write)) → length (put_rows ids rows stamp columns) ≡ length columns
 rows_width [] rows stamp columns = refl
@@ -82,6 +83,10 @@ module _ (columns : List Column) (keys : List Span) (logs : List (List Write)) (
       histories = second.histories;
       stored = stored_more (keys_handed keys lost gained stamp) (logs_handed keys logs lost gained stamp) after stamp forever (omega (arith, l)) stored_then;
       fitting = λ id i. r.fitting (row_now id (logs_handed keys logs lost gained stamp)) (rows_of_in id after (logs_handed keys logs lost gained stamp) i);
+      names = k.names;
+      lasting = still_last keys logs stamp lost gained l hands.lost_open k.lasting (λ id h. (key_before stamp keys b.keys id h).0);
+      fitted = still_fit keys logs stamp lost gained l hands.lost_open after stored_then columns r k.fitted;
+      apart = still_apart keys logs stamp lost gained l hands.lost_open after stored_then columns r k.apart;
     }
 
     pub before_then : (n m : ℕ) → m < stamp → relation_at (store_of columns (keys_handed keys lost gained stamp) (logs_handed keys logs lost gained stamp) n) m ≡ relation_at (store_of columns keys logs spare) m

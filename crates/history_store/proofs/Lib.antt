@@ -6,9 +6,11 @@ pub mod Reading
 pub mod Beginning
 pub mod Making
 pub mod Counting
+pub mod Moments
 pub mod Installing
 pub mod Following
 pub mod Showing
+pub mod Lawful
 pub mod Entering
 pub mod Histories
 pub mod Looking
@@ -25,3 +27,4 @@ pub mod Preparing
 pub mod Rule
 pub mod Inserting
 pub mod Counts
+pub mod Testing

@@ -102,16 +102,16 @@ set_start zero (suc id) stamp (p ∷ keys) = refl
 set_start (suc q) zero stamp (p ∷ keys) = refl
 set_start (suc q) (suc id) stamp (p ∷ keys) = set_start q id stamp keys
 
-ended_start : (q : ℕ) (ids : List ℕ) (stamp : ℕ) (keys : List Span) → (get_or (end_keys ids stamp keys) q no_span).start ≡ (get_or keys q no_span).start
+pub ended_start : (q : ℕ) (ids : List ℕ) (stamp : ℕ) (keys : List Span) → (get_or (end_keys ids stamp keys) q no_span).start ≡ (get_or keys q no_span).start
 ended_start q [] stamp keys = refl
 ended_start q (id ∷ ids) stamp keys = ended_start q ids stamp (set keys id (ended_at stamp (get_or keys id no_span))) ∙ set_start q id stamp keys
 
-ended_other : (q : ℕ) (ids : List ℕ) (stamp : ℕ) (keys : List Span) → (¬ (In q ids)) → get_or (end_keys ids stamp keys) q no_span ≡ get_or keys q no_span
+pub ended_other : (q : ℕ) (ids : List ℕ) (stamp : ℕ) (keys : List Span) → (¬ (In q ids)) → get_or (end_keys ids stamp keys) q no_span ≡ get_or keys q no_span
 ended_other q [] stamp keys n = refl
 ended_other q (id ∷ ids) stamp keys n =
     ended_other q ids stamp (set keys id (ended_at stamp (get_or keys id no_span))) (λ i. n (inr i)) ∙ get_or-set_other keys id q (ended_at stamp (get_or keys id no_span)) no_span (λ e. n (inl (sym e)))
 
-ended_same : (q : ℕ) (ids : List ℕ) (stamp : ℕ) (keys : List Span) → In q ids → q < length keys → (get_or (end_keys ids stamp keys) q no_span).end ≡ stamp
+pub ended_same : (q : ℕ) (ids : List ℕ) (stamp : ℕ) (keys : List Span) → In q ids → q < length keys → (get_or (end_keys ids stamp keys) q no_span).end ≡ stamp
 ended_same q [] stamp keys i h = absurd i
 ended_same q (id ∷ ids) stamp keys i h =
     elim (in_or_not q ids) [
@@ -123,7 +123,7 @@ pub length-new_keys : {A : Type 0} (stamp : ℕ) (xs : List A) → length (new_k
 length-new_keys stamp [] = refl
 length-new_keys stamp (x ∷ xs) = let e = length-new_keys stamp xs in grind arith
 
-new_key : {A : Type 0} (stamp : ℕ) (xs : List A) (k : ℕ) → k < length xs → get_or (new_keys stamp xs) k no_span ≡ record { start = stamp; end = forever }
+pub new_key : {A : Type 0} (stamp : ℕ) (xs : List A) (k : ℕ) → k < length xs → get_or (new_keys stamp xs) k no_span ≡ record { start = stamp; end = forever }
 new_key stamp [] k h = absurd (omega arith)
 new_key stamp (x ∷ xs) zero h = refl
 new_key stamp (x ∷ xs) (suc k) h = new_key stamp xs k (omega arith)
@@ -148,7 +148,7 @@ rows_new id m stamp [] (x ∷ xs) columns h =
 rows_new id m stamp (p ∷ keys) xs columns h = ap (λ rest. if covers p m then row_then id m columns ∷ rest else rest) (rows_new (id + 1) m stamp keys xs columns h)
 
 -- ending open keys at the stamp is not seen before
-holds_ended : (m stamp q : ℕ) (ids : List ℕ) (keys : List Span) → m < stamp → stamp < forever → q < length keys → ((id : ℕ) → In id ids → (get_or keys id no_span).end ≡ forever)
+pub holds_ended : (m stamp q : ℕ) (ids : List ℕ) (keys : List Span) → m < stamp → stamp < forever → q < length keys → ((id : ℕ) → In id ids → (get_or keys id no_span).end ≡ forever)
     → covers (get_or (end_keys ids stamp keys) q no_span) m ≡ covers (get_or keys q no_span) m
 holds_ended m stamp q ids keys h f l o =
     elim (in_or_not q ids) [

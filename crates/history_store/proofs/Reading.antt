@@ -1,5 +1,5 @@
 -- What is read of a table: a column, and whether a row is there.
-use Rattle.std.proofs.Common.{◌≡◌, ℕ, suc, ◌+◌, ◌<◌, ◌≤◌, Bool, true, false, List, [], ◌∷◌, length, get_or, refl, sym, ap, ◌∙◌, subst, arith, inl, inr}
+use Rattle.std.proofs.Common.{◌≡◌, ◌⊎◌, ℕ, suc, ◌+◌, ◌<◌, ◌≤◌, Bool, true, false, List, [], ◌∷◌, length, get_or, refl, sym, ap, ◌∙◌, subst, arith, inl, inr}
 use Rattle.std.proofs.lemmas.Bool.{cases_lt}
 use Rattle.std.specs.declared.cmp.Ordering.TheVariants.{Less, Equal, Greater}
 use Rattle.std.proofs.lemmas.Cmp.{tied_itself}
@@ -12,7 +12,7 @@ use Rattle.prima_base.specs.declared.values.Value.{Value}
 use Rattle.history_store.specs.declared.columns.Write.{Write}
 use Rattle.history_store.specs.Log.{Log}
 use Rattle.history_store.specs.Logs.{cells_of}
-use Rattle.history_store.specs.Store.{Column, relation_at, IsRow, AllBefore}
+use Rattle.history_store.specs.Store.{Column, Store, relation_at, IsRow, IsBefore, AllBefore}
 use Rattle.history_store.specs.Entries.{entries_from, all_entries, IsHistory}
 use Rattle.history_store.specs.Table.{row_now, rows_of}
 use Rattle.history_store.specs.TableFields.{store_of, IsKept}
@@ -77,3 +77,17 @@ module _ (columns : List Column) (keys : List Span) (logs : List (List Write)) (
     where
       no : (id : ℕ) × (In id live) × (row_now id logs ≡ row) → ⊥
       no r = n (row_wide columns row (subst (IsRow columns) r.2 (w.fitting r.0 r.1)))
+
+-- a moment later
+before_later : (m n : ℕ) (p : Span) → m ≤ n → IsBefore m p → IsBefore n p
+before_later m n p l h = (omega (arith, h.0), elim h.1 as (λ w. (p.end < n) ⊎ (p.end ≡ forever)) [ inl k ↦ inl (omega (arith, k)) | inr k ↦ inr k ])
+
+all_later : (s : Store) (m n : ℕ) → m ≤ n → AllBefore s m → AllBefore s n
+all_later s m n l h = record { keys = λ p i. before_later m n p l (h.keys p i); cells = λ cells i c j. before_later m n c.period l (h.cells cells i c j) }
+
+-- from the last stamp on the relation is one
+pub now_stays : (columns : List Column) (keys : List Span) (logs : List (List Write)) (live : List ℕ) (spare m n : ℕ) → IsKept columns keys logs live → AllBefore (store_of columns keys logs spare) (m + 1) → m ≤ n → n < forever
+    → relation_at (store_of columns keys logs spare) n ≡ relation_at (store_of columns keys logs spare) m
+now_stays columns keys logs live spare m n k b d l =
+    relation_now columns keys logs live spare n k (all_later (store_of columns keys logs spare) (m + 1) (n + 1) (omega arith) b) l
+    ∙ sym (relation_now columns keys logs live spare m k b (omega arith))

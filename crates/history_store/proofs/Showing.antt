@@ -32,7 +32,7 @@ over_some : (x : List Value) (v : Value) (y : List Value) → over (over x (v �
 over_some [] v y = refl
 over_some (w ∷ x) v y = refl
 
-value_is : (id m : ℕ) (cells : List Write) → value_at id m cells ≡ latest m (of_id id cells)
+pub value_is : (id m : ℕ) (cells : List Write) → value_at id m cells ≡ latest m (of_id id cells)
 value_is id m [] = refl
 value_is id m (c ∷ cells) =
     let e = value_is id m cells in
@@ -60,7 +60,7 @@ at_most_one m (c ∷ cells) = by_case (nat_le c.start m) (at_most_one m cells)
     by_case false (inl r) = inl (r.0, over_nil (latest m cells) ∙ r.1)
     by_case false (inr r) = inr (over_nil (latest m cells) ∙ r)
 
-some_value : (m : ℕ) (c : Write) (cells : List Write) → c.start ≤ m → (w : Value) × (latest m (c ∷ cells) ≡ w ∷ [])
+pub some_value : (m : ℕ) (c : Write) (cells : List Write) → c.start ≤ m → (w : Value) × (latest m (c ∷ cells) ≡ w ∷ [])
 some_value m c cells h =
     let t : nat_le c.start m ≡ true = grind (arith, nat_tests) in
     rw t (one_over (latest m cells) c.value (at_most_one m cells))
@@ -152,7 +152,7 @@ shown_from low (suc j) id m (k ∷ keys) cells e h f =
     ∙ ap (λ vs. vs ++ shown_at id m (entries_from (low + 1) keys cells)) (others_show id m (with_ends k.end (of_id low cells)) (segment_others low id k.end cells (λ q. omega (arith, q, e))))
     ∙ shown_from (low + 1) j id m keys cells (omega (arith, e)) (omega (arith, h)) f
 
-shown_is : (id m : ℕ) (keys : List Span) (cells : List Write) → IsHistory keys cells → id < length keys → shown_at id m (entries_from 0 keys cells) ≡ (if covers (get_or keys id no_span) m then value_at id m cells else [])
+pub shown_is : (id m : ℕ) (keys : List Span) (cells : List Write) → IsHistory keys cells → id < length keys → shown_at id m (entries_from 0 keys cells) ≡ (if covers (get_or keys id no_span) m then value_at id m cells else [])
 shown_is id m keys cells h b = shown_from 0 id id m keys cells (omega arith) b (h.fits id b)
 
 pub row_shown : (id m : ℕ) (keys : List Span) (columns : List (List Write)) → AreHistories keys columns → id < length keys → covers (get_or keys id no_span) m ≡ true → row_at id m (all_entries keys columns) ≡ row_then id m columns
@@ -183,43 +183,9 @@ pub relation_is : (columns : List Column) (keys : List Span) (logs : List (List 
 unfolding relation_at
 relation_is columns keys logs spare m h = ap (set_of row_cmp) (rows_shown 0 m keys keys logs h (λ j b. (let n : 0 + j ≡ j = omega arith in (rw n b, ap (λ i. get_or keys i no_span) n))))
 
--- each entry belongs to a key
-fills : (id : ℕ) (keys : List Span) (cells : List Write) → IsHistory keys cells → id < length keys → Fills (get_or keys id no_span) id (entries_from 0 keys cells)
-fills id keys cells h b m = by_case (covers (get_or keys id no_span) m) refl (shown_is id m keys cells h b)
-  where
-    there : (key : Span) (cs : List Write) → Fits key cs → covers key m ≡ true → (w : Value) × (latest m cs ≡ w ∷ [])
-    there key [] f t = absurd f
-    there key (c ∷ cs) f t = let s : c.start ≡ key.start = f.0 in some_value m c cs (grind (arith, nat_tests))
-
-    by_case : (q : Bool) → covers (get_or keys id no_span) m ≡ q → shown_at id m (entries_from 0 keys cells) ≡ (if q then value_at id m cells else []) → MatchBool q ((v : Value) × (shown_at id m (entries_from 0 keys cells) ≡ v ∷ [])) (shown_at id m (entries_from 0 keys cells) ≡ [])
-    by_case true t e = let v = there (get_or keys id no_span) (of_id id cells) (h.fits id b) t in (v.0, e ∙ value_is id m cells ∙ v.1)
-    by_case false t e = e
-
-ends_id : (to : ℕ) (id : ℕ) (cells : List Write) (e : Cell) → AllOf id cells → In e (with_ends to cells) → e.id ≡ id
-ends_id to id [] e a i = absurd i
-ends_id to id (c ∷ []) e a (inl i) = sym (ap (λ (x : Cell). x.id) i) ∙ a.0
-ends_id to id (c ∷ []) e a (inr i) = absurd i
-ends_id to id (c ∷ (d ∷ cells)) e a (inl i) = sym (ap (λ (x : Cell). x.id) i) ∙ a.0
-ends_id to id (c ∷ (d ∷ cells)) e a (inr i) = ends_id to id (d ∷ cells) e a.1 i
-
-entry_known : (low : ℕ) (keys : List Span) (cells : List Write) (e : Cell) → In e (entries_from low keys cells) → e.id < low + length keys
-entry_known low [] cells e i = absurd i
-entry_known low (k ∷ keys) cells e i = elim (in_append e (with_ends k.end (of_id low cells)) (entries_from (low + 1) keys cells) i) [
-  | inl j ↦ let n = ends_id k.end low (of_id low cells) e (all_of_id low cells) j in omega (arith, n)
-  | inr j ↦ let n = entry_known (low + 1) keys cells e j in omega (arith, n)
-]
-
 pub count_entries : (keys : List Span) (columns : List (List Write)) → length (all_entries keys columns) ≡ length columns
 count_entries keys [] = refl
 count_entries keys (c ∷ columns) = ap suc (count_entries keys columns)
-
-each_filled : (keys : List Span) (columns : List (List Write)) → AreHistories keys columns → (cells : List Cell) → In cells (all_entries keys columns) → IsFilled keys cells
-each_filled keys [] h cells i = absurd i
-each_filled keys (c ∷ columns) h cells (inl e) = subst (IsFilled keys) e (record { known = λ d j. (let n : 0 + length keys ≡ length keys = omega arith in subst (λ k. d.id < k) n (entry_known 0 keys c d j)); filled = λ id b. fills id keys c h.0 b })
-each_filled keys (c ∷ columns) h cells (inr i) = each_filled keys columns h.1 cells i
-
-pub is_store : (columns : List Column) (keys : List Span) (logs : List (List Write)) (live : List ℕ) (spare : ℕ) → IsKept columns keys logs live → IsStore (store_of columns keys logs spare)
-is_store columns keys logs live spare k = record { width = count_entries keys logs ∙ k.width; filled = each_filled keys logs k.histories }
 
 -- each write has an entry
 with_start : (to : ℕ) (cells : List Write) (c : Write) → In c cells → (e : Cell) × In e (with_ends to cells) × (e.period.start ≡ c.start)
@@ -343,7 +309,7 @@ each_before last m keys [] a l f cells i e j = absurd i
 each_before last m keys (c ∷ columns) a l f cells (inl q) e j = entries_before 0 last m keys c e a.0 l f (subst (λ (cs : List Cell). In e cs) (sym q) j)
 each_before last m keys (c ∷ columns) a l f cells (inr i) e j = each_before last m keys columns a.1 l f cells i e j
 
-key_at : (keys : List Span) (p : Span) → In p keys → (id : ℕ) × (id < length keys) × (get_or keys id no_span ≡ p)
+pub key_at : (keys : List Span) (p : Span) → In p keys → (id : ℕ) × (id < length keys) × (get_or keys id no_span ≡ p)
 key_at [] p i = absurd i
 key_at (k ∷ keys) p (inl e) = (0, omega arith, e)
 key_at (k ∷ keys) p (inr i) = let r = key_at keys p i in (suc r.0, (let h = r.1 in omega (arith, h)), r.2)

@@ -1,7 +1,8 @@
 -- What a stored table keeps, and the relation that it stands for at each moment.
-use Rattle.std.specs.Prelude.{◌≡◌, ℕ, ◌+◌, ◌<◌, ◌&&◌, ◌==◌, ◌⊎◌, List, [], ◌∷◌, ◌++◌, length, Option, Some, None, MatchBool, slice_index_or, if◌then◌else◌}
-use Rattle.std.specs.Ordering.{is_eq}
-use Rattle.relations.specs.Sets.{In, set_of}
+use Rattle.std.specs.Prelude.{◌≡◌, ℕ, ◌+◌, ◌<◌, ◌≤◌, ◌&&◌, ◌==◌, ◌⊎◌, true, List, [], ◌∷◌, ◌++◌, length, Option, Some, None, MatchBool, slice_index_or, if◌then◌else◌}
+use Rattle.std.specs.Ordering.{is_eq, nat_cmp, ordering_then}
+use Rattle.std.specs.declared.cmp.Ordering.{Ordering}
+use Rattle.relations.specs.Sets.{In, Ascends, set_of}
 use Rattle.relations.specs.Spans.{Span, span, forever, covers}
 use Rattle.prima_base.specs.Order.{row_cmp, bytes_cmp}
 use Rattle.prima_base.specs.declared.values.Value.{Value}
@@ -44,15 +45,35 @@ relation_at s m = set_of row_cmp (rows_from 0 m s.keys s.cells)
 abbrev pub Fills : Span → ℕ → List Cell → Type 0
 Fills key id cells = (m : ℕ) → MatchBool (covers key m) ((v : Value) × (shown_at id m cells ≡ v ∷ [])) (shown_at id m cells ≡ [])
 
--- the entries of a column belong to the keys and fill them
+-- at least one moment, and each before the end of all
+abbrev pub IsPeriod : Span → Type 0
+IsPeriod p = (p.start < p.end) × (p.end ≤ forever)
+
+-- by id, then start
+abbrev pub cell_cmp : Cell → Cell → Ordering
+cell_cmp a b = ordering_then (nat_cmp a.id b.id) (nat_cmp a.period.start b.period.start)
+
+-- the entries of a column belong to the keys and fill their periods, without gap or overlap; they ascend by id and
+-- start
 pub record IsFilled (keys : List Span) (cells : List Cell) : Type 0 where
   pub known : (c : Cell) → In c cells → c.id < length keys
+  pub lasting : (c : Cell) → In c cells → IsPeriod c.period
   pub filled : (id : ℕ) → id < length keys → Fills (slice_index_or keys id (span 0 0)) id cells
+  pub ascending : Ascends cell_cmp cells
 
--- each column's entries do
+-- the key with this id has the moment
+abbrev pub Holds : List Span → ℕ → ℕ → Type 0
+Holds keys id m = (id < length keys) × (covers (slice_index_or keys id (span 0 0)) m ≡ true)
+
+-- what is so of every stored table
 pub record IsStore (s : Store) : Type 0 where
+  pub columns : AreColumns s.columns
   pub width : length s.cells ≡ length s.columns
+  pub lasting : (p : Span) → In p s.keys → IsPeriod p
   pub filled : (cells : List Cell) → In cells s.cells → IsFilled s.keys cells
+  -- at each moment each id shows a row of the columns, and no two show the same
+  pub fitting : (m id : ℕ) → Holds s.keys id m → IsRow s.columns (row_at id m s.cells)
+  pub apart : (m i j : ℕ) → Holds s.keys i m → Holds s.keys j m → row_at i m s.cells ≡ row_at j m s.cells → i ≡ j
 
 -- the column with this name, of columns and what belongs to each
 abbrev pub named : {A : Type 0} → List ℕ → List Column → List A → Option A

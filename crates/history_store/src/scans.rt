@@ -115,7 +115,9 @@ fn first_of(first: &[usize], id: usize) -> usize
 }
 
 impl<'a> CellScan<'a> {
-    ghost use Rattle.std.specs.Prelude.{◌≡◌, ◌+◌, ◌++◌, [], ◌∷◌, length, IfNone, option_to_list, option_map};
+    ghost use Rattle.std.specs.Prelude.{◌≡◌, ◌+◌, ◌++◌, [], ◌∷◌, length, IfNone, IfSome, option_to_list, option_map};
+    ghost use Rattle.prima_base.specs.Order.{shown};
+    ghost use Rattle.prima_base.specs.Columns.{IsLawful};
     ghost use Rattle.history_store.specs.Chains.{IsChain};
     ghost use Rattle.history_store.specs.Entries.{entries_from, IsHistory};
     ghost use Rattle.history_store.specs.Scans.{seen_cell};
@@ -142,9 +144,11 @@ impl<'a> CellScan<'a> {
         }
     }
 
-    /// The next entry. Each one that is handed out is one step. It takes no memory.
+    /// The next entry; a text of it has at most 4,096 bytes and no control byte. Each one that is handed out is one
+    /// step. It takes no memory.
     pub fn next_cell<L: Ledger>(&mut self, steps: &mut Steps<L>) -> Option<CellEntry<'a>>
         ensures entries { self.old ≡ option_to_list (option_map seen_cell result) ++ self.new }
+        ensures lawful { IfSome result (λ e. IsLawful (shown e.value)) }
         ensures all { IfNone result (self.old ≡ []) }
         ensures cost { steps.new ≡ steps.old + length (option_to_list result) }
     {

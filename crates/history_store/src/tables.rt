@@ -75,6 +75,7 @@ impl StoredTable {
         ensures before { (m : ℕ) → m < stamp → IfOk result (λ t. relation_at t m ≡ []) }
         ensures from { (m : ℕ) → stamp ≤ m → m < forever → IfOk result (λ t. relation_at t m ≡ rows.now) }
         ensures later { (m : ℕ) → stamp < m → IfOk result (λ t. AllBefore t m) }
+        ensures lawful { IfOk result (λ t. IsStore t) }
     {
         let mut table = StoredTable {
             alloc,
@@ -187,6 +188,7 @@ impl StoredTable {
         ensures before { (m : ℕ) → m < prepared.stamp → relation_at self.new m ≡ relation_at self.old m }
         ensures from { (m : ℕ) → prepared.stamp ≤ m → m < forever → relation_at self.new m ≡ rows_after self.old prepared }
         ensures later { (m : ℕ) → prepared.stamp < m → AllBefore self.new m }
+        ensures lawful { IsStore self.new }
     {
         let Prepared {
             stamp,
@@ -206,9 +208,11 @@ impl StoredTable {
         copy_rows(self.alloc, &self.logs, &self.live)
     }
 
-    /// Whether the table has this row now, found by binary search. It takes no memory.
+    /// Whether the table has this row now, found by binary search. What the table has now it has from its last
+    /// stamp on. It takes no memory.
     pub fn holds(&self, row: &Row) -> bool
-        ensures { (m : ℕ) → m < forever → AllBefore self.now (m + 1) → result ≡ has row_cmp row.now (relation_at self.now m) }
+        ensures now { (m : ℕ) → m < forever → AllBefore self.now (m + 1) → result ≡ has row_cmp row.now (relation_at self.now m) }
+        ensures still { (m n : ℕ) → m ≤ n → n < forever → AllBefore self.now (m + 1) → relation_at self.now n ≡ relation_at self.now m }
     {
         if row.values().len() != self.columns.len() {
             return false;

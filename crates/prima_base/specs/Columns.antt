@@ -1,6 +1,7 @@
--- The columns of a table, and the relations that fit them.
-use Rattle.std.specs.Prelude.{◌≡◌, ℕ, Bool, true, false, List, [], ◌∷◌}
+-- Lawful values, the columns of a table, and the relations that fit them.
+use Rattle.std.specs.Prelude.{◌≡◌, ℕ, Bool, true, false, List, [], ◌∷◌, ⊤}
 use Rattle.relations.specs.Sets.{In, Ascends}
+use Rattle.prima_base.specs.Bytes.{IsTxt}
 use Rattle.prima_base.specs.Order.{row_cmp, bytes_cmp}
 use Rattle.prima_base.specs.declared.values.Value.{Value}
 use Rattle.prima_base.specs.declared.values.Value.TheVariants.{Int, Text}
@@ -10,6 +11,11 @@ use Rattle.prima_base.specs.declared.values.ColType.TheVariants.{Int as IntType,
 -- a column: its name and its type
 abbrev pub Column : Type 0
 Column = List ℕ × ColType
+
+-- an INT, or a TEXT of at most 4,096 bytes and no control byte
+abbrev pub IsLawful : Value → Type 0
+IsLawful (Int n) = ⊤
+IsLawful (Text t) = IsTxt t
 
 -- the value is of the column's type
 abbrev pub has_type : ColType → Value → Bool

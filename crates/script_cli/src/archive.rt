@@ -1,9 +1,7 @@
 //! What has been accepted: the one table with its history, and the last stamp.
 
-ghost use Rattle.std.specs.Prelude.{◌≡◌, ℕ, List, ◌-◌, ◌<◌, ◌≤◌, [], OnErr, OnOk, IfOk, IsTrue, None, is_some, length, MatchOption, insert};
-ghost use Rattle.relations.specs.Sets.{Ascends, put_in};
+ghost use Rattle.std.specs.Prelude.{◌≡◌, ℕ, List, ◌-◌, ◌<◌, ◌≤◌, [], OnErr, OnOk, IfOk, IsTrue, None, is_some, length};
 ghost use Rattle.relations.specs.Spans.{forever};
-ghost use Rattle.prima_base.specs.Order.{row_cmp};
 ghost use Rattle.prima_base.specs.declared.values.Value.{Value as OneValue};
 ghost use Rattle.history_store.specs.Store.{AllBefore, relation_at};
 ghost use Rattle.script_cli.specs.Past.{Past, beginning, created, inserted, gained, row_of, with_value};
@@ -13,7 +11,6 @@ ghost use Rattle.script_cli.specs.ShowsPast.{ShowsPast, IsOneInt};
 use history_store::StoredTable;
 use prima_base::{ColType, Name, NoMemory, Row, Value};
 use std::alloc::Global;
-use std::cmp::Ordering;
 
 /// The table with which version 1 began: one INT column.
 #[derive(Drop)]
@@ -30,21 +27,6 @@ pub(crate) struct Archive {
     pub(crate) table: Option<MadeTable>,
 }
 
-// The place where the row is to stand among ascending rows: none where it stands there already.
-fn place_of(rows: &[Row], row: &Row) -> Option<usize>
-    ensures place { MatchOption result (put_in row_cmp row.now rows.now ≡ rows.now)
-        (λ at. (at ≤ length rows.now) × (put_in row_cmp row.now rows.now ≡ insert rows.now at row.now)) }
-{
-    for (at, other) in rows.iter().enumerate() {
-        match row.cmp(other) {
-            Ordering::Less => return Some(at),
-            Ordering::Equal => return None,
-            Ordering::Greater => {}
-        }
-    }
-    Some(rows.len())
-}
-
 // The row of one value.
 fn row_of(alloc: Global, value: i64) -> Result<Row, NoMemory>
     ensures { IfOk result (λ row. row ≡ row_of value) }
@@ -52,21 +34,6 @@ fn row_of(alloc: Global, value: i64) -> Result<Row, NoMemory>
     let mut values = Vec::with_capacity(alloc, 1)?;
     values.push(Value::Int(value))?;
     Ok(Row::new(alloc, values))
-}
-
-// Puts the row of the value among ascending rows, where it is not there already.
-fn put_value(alloc: Global, rows: &mut Vec<Row>, value: i64) -> Result<(), NoMemory>
-    requires { Ascends row_cmp rows.old.items }
-    ensures { OnOk result (rows.new.items ≡ with_value value rows.old.items) }
-{
-    let row = row_of(alloc, value)?;
-    match place_of(rows, &row) {
-        None => Ok(()),
-        Some(at) => {
-            rows.insert(at, row)?;
-            Ok(())
-        }
-    }
 }
 
 impl Archive {
@@ -81,7 +48,9 @@ impl Archive {
     }
 }
 
-// From the stamp on the table has the value's row too; answers how many rows that gains.
+// From the stamp on the table has the value's row too; answers how many rows that gains. A row that is there
+// already changes nothing, and nothing is written. Either way the table's rows are not gone through: one is
+// found by binary search.
 fn gain(alloc: Global, store: &mut StoredTable, stamp: u64, value: i64) -> Result<usize, NoMemory>
     requires columns { IsOneInt store.old.columns }
     requires lawful { stamp < forever }
@@ -95,12 +64,13 @@ fn gain(alloc: Global, store: &mut StoredTable, stamp: u64, value: i64) -> Resul
     ensures err { OnErr result ((m : ℕ) → relation_at store.new m ≡ relation_at store.old m) }
     ensures err_before { OnErr result ((m : ℕ) → AllBefore store.old m → AllBefore store.new m) }
 {
-    let mut rows = store.current()?;
-    let before = rows.len();
-    put_value(alloc, &mut rows, value)?;
-    let prepared = store.prepare(stamp, &rows)?;
+    let row = row_of(alloc, value)?;
+    if store.holds(&row) {
+        return Ok(0);
+    }
+    let prepared = store.prepare_change(stamp, &[], &[row])?;
     store.install(prepared);
-    Ok(rows.len() - before)
+    Ok(1)
 }
 
 impl Archive {

@@ -18,7 +18,7 @@ returns-then-next-ne0-clause-entries g c =
     let a = c.self.inside in
     let h : a.id < length a.keys.now = grind (arith, common_steps, s.within) in
     let n : get_or a.next.now a.at 0 ≢ 0 = grind (arith, common_steps) in
-    rw (← c.self.view_is, c.lend.ensures, c.period_of-period.ensures) (scan_goes a.id a.at a.keys.now a.first.now a.next.now a.cells.now c.index-self-self.result c.index-self-next.result s h n)
+    rw (← c.self.view_is, c.lend.ensures.value, c.period_of-period.ensures) (scan_goes a.id a.at a.keys.now a.first.now a.next.now a.cells.now c.index-self-self.result c.index-self-next.result s h n)
 
 pub period_of-period-requires-2 : goal.period_of-period-requires-2
 period_of-period-requires-2 g c =
@@ -36,4 +36,4 @@ returns-clause-entries g c =
     let h : a.id < length a.keys.now = grind (arith, common_steps, s.within) in
     let z : get_or a.next.now a.at 0 ≡ 0 = grind (arith, common_steps) in
     let e : c.end.result ≡ (get_or a.keys.now a.id no_span).end = grind (arith, common_steps) in
-    rw (← c.self.view_is, c.lend-2.ensures, c.period_of-period-2.ensures, e, c.first_of-self-inside.ensures) (scan_ends a.id a.at a.keys.now a.first.now a.next.now a.cells.now c.index-self-self.result c.index-self-self.result s h z)
+    rw (← c.self.view_is, c.lend-2.ensures.value, c.period_of-period-2.ensures, e, c.first_of-self-inside.ensures) (scan_ends a.id a.at a.keys.now a.first.now a.next.now a.cells.now c.index-self-self.result c.index-self-self.result s h z)

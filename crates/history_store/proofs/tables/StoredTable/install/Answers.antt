@@ -5,6 +5,7 @@ use Rattle.history_store.specs.Logs.{cells_of}
 use Rattle.history_store.proofs.Carry.{known, spare_least, spare_each}
 use Rattle.history_store.proofs.Rows.{length-cells_of}
 use Rattle.history_store.proofs.Showing.{key_before}
+use Rattle.history_store.proofs.Lawful.{is_store}
 use Rattle.history_store.proofs.Installing.{plan_kept, plan_cells, plan_before, plan_from, plan_later}
 use Rattle.history_store.proofs.Rule.{key_count}
 use Rattle.history_store.proofs.Totals.{plan_count}
@@ -84,3 +85,9 @@ returns-clause-cell_count c k h =
     let f = rw (← c.self.view_is, ← c.prepared.view_is) at c.requires.fits in
     let b = rw (← c.self.view_is) at h in
     rw (c.carry_out.ensures.keys, c.carry_out.ensures.cells, c.deref.ensures.value, ← c.self.view_is, ← c.prepared.view_is) (plan_count a.columns.items a.keys.items (cells_of a.logs.items) a.live.items _ c.self.invariant.kept _ f k b)
+
+pub returns-clause-lawful : goal.returns-clause-lawful
+returns-clause-lawful c =
+    let a = c.self.inside in
+    let f = rw (← c.self.view_is, ← c.prepared.view_is) at c.requires.fits in
+    rw (c.carry_out.ensures.keys, c.carry_out.ensures.cells, c.deref.ensures.value) (is_store a.columns.items _ _ _ _ (plan_kept a.columns.items a.keys.items (cells_of a.logs.items) a.live.items _ c.self.invariant.kept _ f))

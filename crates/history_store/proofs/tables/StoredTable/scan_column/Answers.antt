@@ -3,7 +3,8 @@ use Rattle.history_store.specs.Logs.{cells_of}
 use Rattle.history_store.specs.Entries.{IsHistory}
 use Rattle.history_store.proofs.Rows.{length-cells_of}
 use Rattle.history_store.proofs.Reading.{here, history}
-use Rattle.history_store.proofs.Showing.{is_store, count_entries}
+use Rattle.history_store.proofs.Showing.{count_entries}
+use Rattle.history_store.proofs.Lawful.{is_store}
 use Rattle.history_store.proofs.tables.StoredTable.scan_column.Goals as goal
 
 pub index-requires : goal.index-requires
