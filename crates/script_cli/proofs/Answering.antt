@@ -8,7 +8,7 @@ use Rattle.relations.specs.Timeline.{relation_at}
 use Rattle.relations.proofs.ListingLaws.{one_listing, listing_same}
 use Rattle.prima_base.specs.Order.{row_cmp}
 use Rattle.prima_base.specs.OrderLaws.{row_exact}
-use Rattle.prima_base.specs.Columns.{Column, names_of, AreColumns}
+use Rattle.prima_base.specs.Columns.{Column, names_of}
 use Rattle.prima_base.specs.declared.values.Value.{Value}
 use Rattle.prima_base.specs.declared.values.ColType.TheVariants.{Int as IntType}
 use Rattle.history_store.specs.Store.{relation_at as stored_at}
@@ -32,5 +32,5 @@ is_answer made t past rows s h l =
 pub one_name : (columns : List Column) (column : List ℕ) (names : List (List ℕ)) → columns ≡ (column, IntType) ∷ [] → names ≡ column ∷ [] → AreNames columns names
 one_name columns column names e n = λ name h. subst (λ (cs : List Column). In name (names_of cs)) (sym e) (subst (In name) n h)
 
-pub all_columns : (columns : List Column) (column : List ℕ) (names : List (List ℕ)) → columns ≡ (column, IntType) ∷ [] → names ≡ column ∷ [] → AreColumns columns × (names ≡ names_of columns)
-all_columns columns column names e n = (subst AreColumns (sym e) (tt, tt), n ∙ ap names_of (sym e))
+pub all_names : (columns : List Column) (column : List ℕ) (names : List (List ℕ)) → columns ≡ (column, IntType) ∷ [] → names ≡ column ∷ [] → names ≡ names_of columns
+all_names columns column names e n = n ∙ ap names_of (sym e)

@@ -27,3 +27,4 @@ pub mod Errors
 pub mod OnlyReading
 pub mod MergeLaws
 pub mod Picked
+pub mod EntriesInTurn

@@ -14,11 +14,11 @@ use Rattle.prima_base.specs.Columns.{Column, names_of}
 use Rattle.prima_base.specs.declared.values.Value.{Value}
 use Rattle.schema_catalog.specs.Databases.{cell}
 use Rattle.history_store.specs.declared.scans.KeyEntry.{KeyEntry}
-use Rattle.history_store.specs.Store.{Cell, Store, shown_at, row_at, Fills, IsFilled, IsStore, named, column_of}
+use Rattle.history_store.specs.Store.{Cell, Store, shown_at, row_at, Holds, Fills, IsFilled, IsStore, named, column_of}
 use Rattle.history_store.specs.Scans.{keys_from}
 use Rattle.script_cli.specs.Projection.{count_in, entries_in}
 use Rattle.script_cli.specs.Parts.{Part, Has, HasBoth, Precedes, PrecedesAll, InTurn}
-use Rattle.script_cli.specs.Stretches.{key_part, cell_part, behind, IsThere, picked, IsGathered}
+use Rattle.script_cli.specs.Stretches.{key_part, cell_part, behind, picked, IsGathered}
 
 -- the keys, each with no value
 record IsKeyAt (base : ℕ) (keys : List Span) (id : ℕ) (period : Span) : Type 0 where
@@ -57,7 +57,7 @@ keys_turn base (k ∷ keys) = (keys_behind (record { id = base; item = []; perio
 pub keys_gathered : (s : Store) → IsGathered s [] (map key_part (keys_from 0 s.keys))
 keys_gathered s = record { turn = keys_turn 0 s.keys; has = λ id m values. (there id m values, back id m values) }
   where
-    there : (id m : ℕ) (values : List Value) → Has (map key_part (keys_from 0 s.keys)) id values m → IsThere s id m × (values ≡ picked s [] id m)
+    there : (id m : ℕ) (values : List Value) → Has (map key_part (keys_from 0 s.keys)) id values m → Holds s.keys id m × (values ≡ picked s [] id m)
     there id m values h =
         let r = from_keys 0 s.keys h.0 h.1 in
         let place = r.0.place in
@@ -67,7 +67,7 @@ keys_gathered s = record { turn = keys_turn 0 s.keys; has = λ id m values. (the
           sym h.3 ∙ r.1,
         )
 
-    back : (id m : ℕ) (values : List Value) → IsThere s id m × (values ≡ picked s [] id m) → Has (map key_part (keys_from 0 s.keys)) id values m
+    back : (id m : ℕ) (values : List Value) → Holds s.keys id m × (values ≡ picked s [] id m) → Has (map key_part (keys_from 0 s.keys)) id values m
     back id m values h =
         let e : 0 + id ≡ id = omega arith in
         (record { id = 0 + id; item = []; period = get_or s.keys id (span 0 0) }, in_keys 0 s.keys id h.0.0, e, sym h.1, h.0.1)
@@ -88,6 +88,9 @@ from_shown id m (c ∷ cells) v h = step (from_shown id m cells v) (c.id == id &
 test_true : (i id m : ℕ) (p : Span) → i ≡ id → covers p m ≡ true → (i == id && covers p m) ≡ true
 test_true i id m p e c = grind (arith, nat_tests)
 
+pub shown_once : (id m : ℕ) (c : Cell) (cells : List Cell) → c.id ≡ id → covers c.period m ≡ true → shown_at id m (c ∷ cells) ≡ c.value ∷ shown_at id m cells
+shown_once id m c cells i h = rw (test_true c.id id m c.period i h) refl
+
 pub in_shown : (id m : ℕ) (cells : List Cell) (v : Value) → Has (map cell_part cells) id v m → In v (shown_at id m cells)
 in_shown id m [] v h = absurd h.1
 in_shown id m (c ∷ cells) v (p, k, i, x, t) = step (λ r. in_shown id m cells v (p, r, i, x, t)) k
@@ -104,7 +107,7 @@ filling : (b : Bool) (P Q : Type 0) → b ≡ true → MatchBool b P Q → P
 filling true P Q e h = h
 filling false P Q e h = cc
 
-pub filled_at : (s : Store) (cells : List Cell) (id m : ℕ) → IsStore s → In cells s.cells → IsThere s id m → (v : Value) × (shown_at id m cells ≡ v ∷ [])
+pub filled_at : (s : Store) (cells : List Cell) (id m : ℕ) → IsStore s → In cells s.cells → Holds s.keys id m → (v : Value) × (shown_at id m cells ≡ v ∷ [])
 filled_at s cells id m w k t =
     let f = w.filled cells k in
     filling (covers (slice_index_or s.keys id (span 0 0)) m) ((v : Value) × (shown_at id m cells ≡ v ∷ [])) (shown_at id m cells ≡ []) t.1 (f.filled id t.0 m)
@@ -130,7 +133,7 @@ column_there {A} (c ∷ columns) (x ∷ xs) name l h = step (λ k. column_there 
     step f false q (inl e) = absurd (let t : is_eq (bytes_cmp c.0 name) ≡ true = ap (λ n. is_eq (bytes_cmp n name)) e ∙ itself name in cc)
     step f false q (inr k) = f k
 
-named_in : {A : Type 0} (columns : List Column) (xs : List A) (name : List ℕ) (x : A) → named name columns xs ≡ Some x → In x xs
+pub named_in : {A : Type 0} (columns : List Column) (xs : List A) (name : List ℕ) (x : A) → named name columns xs ≡ Some x → In x xs
 named_in [] xs name x e = absurd (cc)
 named_in (c ∷ columns) [] name x e = absurd (cc)
 named_in {A} (c ∷ columns) (y ∷ xs) name x e = step (λ k. named_in columns xs name x k) (is_eq (bytes_cmp c.0 name)) e
@@ -160,12 +163,12 @@ column_gathered s names name cells parts more w e g t both = record { turn = t; 
     is_in : In cells s.cells
     is_in = named_in s.columns s.cells name cells e
 
-    value_at : (id m : ℕ) (v : Value) → IsThere s id m → shown_at id m cells ≡ v ∷ [] → picked s (names ++ name ∷ []) id m ≡ behind (picked s names id m) v
+    value_at : (id m : ℕ) (v : Value) → Holds s.keys id m → shown_at id m cells ≡ v ∷ [] → picked s (names ++ name ∷ []) id m ≡ behind (picked s names id m) v
     value_at id m v k h =
         map-append (cell s.columns (row_at id m s.cells)) names (name ∷ [])
         ∙ ap (λ x. picked s names id m ++ x ∷ []) (cell_shown s.columns s.cells name cells id m v (λ cs i. filled_at s cs id m w i k) e h)
 
-    there : (id m : ℕ) (values : List Value) → Has more id values m → IsThere s id m × (values ≡ picked s (names ++ name ∷ []) id m)
+    there : (id m : ℕ) (values : List Value) → Has more id values m → Holds s.keys id m × (values ≡ picked s (names ++ name ∷ []) id m)
     there id m values h =
         let r = (both id m values).0 h in
         let k = (g.has id m r.0).0 r.3 in
@@ -173,7 +176,7 @@ column_gathered s names name cells parts more w e g t both = record { turn = t; 
         let same : r.1 ≡ v.0 = only r.1 v.0 (shown_at id m cells) v.1 (in_shown id m cells r.1 r.4) in
         (k.0, r.2 ∙ ap (λ x. behind x r.1) k.1 ∙ ap (behind (picked s names id m)) same ∙ sym (value_at id m v.0 k.0 v.1))
 
-    back : (id m : ℕ) (values : List Value) → IsThere s id m × (values ≡ picked s (names ++ name ∷ []) id m) → Has more id values m
+    back : (id m : ℕ) (values : List Value) → Holds s.keys id m × (values ≡ picked s (names ++ name ∷ []) id m) → Has more id values m
     back id m values h =
         let v = filled_at s cells id m w is_in h.0 in
         let shown : Has (map cell_part cells) id v.0 m = from_shown id m cells v.0 (subst (λ (l : List Value). In v.0 l) (sym v.1) (inl refl)) in
@@ -185,10 +188,6 @@ pub column_taken : {T E : Type 0} (result : Result T E) (s : Store) (name : List
     → (names : List (List ℕ)) → IsGathered s names parts → OnOk result (IsGathered s (names ++ name ∷ []) more)
 column_taken (Ok x) s name cells parts more w e t both names g = column_gathered s names name cells parts more w e g t both
 column_taken (Err x) s name cells parts more w e t both names g = tt
-
--- the entries of a column are in turn
-pub entries_turn : (s : Store) (name : List ℕ) (cells : List Cell) → IsStore s → column_of s name ≡ Some cells → InTurn (map cell_part cells)
-entries_turn s name cells w e = ?
 
 -- the columns that are still to come
 pub keys_count : (base : ℕ) (keys : List Span) → length (keys_from base keys) ≡ length keys

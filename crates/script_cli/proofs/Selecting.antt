@@ -1,27 +1,26 @@
 -- What the coalesced rows of a table list.
-use Rattle.std.proofs.Common.{◌≡◌, ◌<◌, ◌+◌, ℕ, zero, suc, Bool, true, false, List, [], ◌∷◌, ◌++◌, length, map, get_or, cond, refl, sym, ap, ◌∙◌, subst, arith, inl, inr, length-append}
+use Rattle.std.proofs.Common.{◌≡◌, ◌<◌, ◌+◌, ℕ, zero, suc, Bool, true, false, List, [], ◌∷◌, ◌++◌, length, map, get_or, cond, refl, sym, ap, ◌∙◌, subst, arith, inl, inr}
 use Rattle.std.specs.Prelude.{◌↔◌, Result, Ok, Err, IfOk}
-use Rattle.std.specs.Ordering.{is_eq}
-use Rattle.relations.specs.Sets.{In, BeforeAll}
+use Rattle.relations.specs.Sets.{In}
 use Rattle.relations.specs.Spans.{Span, span, forever, always, covers}
 use Rattle.relations.specs.Timed.{Entry, at}
 use Rattle.relations.specs.Listing.{IsListing}
 use Rattle.relations.proofs.Held.{in_at, IsHeld}
 use Rattle.relations.proofs.SetLaws.{in_map, from_map, in_set, from_set}
 use Rattle.relations.proofs.ListingLaws.{listing_same}
-use Rattle.prima_base.specs.Order.{row_cmp, bytes_cmp}
+use Rattle.prima_base.specs.Order.{row_cmp}
 use Rattle.prima_base.specs.OrderLaws.{row_exact}
-use Rattle.prima_base.specs.Columns.{Column, names_of, AreColumns}
+use Rattle.prima_base.specs.Columns.{Column, names_of}
 use Rattle.prima_base.specs.Timed.{entries_of, rows_at}
 use Rattle.prima_base.specs.declared.values.Value.{Value}
 use Rattle.prima_base.specs.declared.timed_rows.TimedRow.{TimedRow}
 use Rattle.schema_catalog.specs.Databases.{cell}
-use Rattle.history_store.specs.Store.{Cell, Store, row_at, rows_from, relation_at, IsStore, shown_at}
+use Rattle.schema_catalog.proofs.Cells.{cells_again}
+use Rattle.history_store.specs.Store.{Cell, Store, row_at, rows_from, relation_at, Holds, IsStore}
 use Rattle.script_cli.specs.declared.stretches.Stretch.{Stretch}
 use Rattle.script_cli.specs.Parts.{Part, Has}
-use Rattle.script_cli.specs.Stretches.{part_of, parts_of, entry_in, IsThere, picked, IsGathered}
+use Rattle.script_cli.specs.Stretches.{part_of, parts_of, entry_in, picked, IsGathered}
 use Rattle.script_cli.specs.Projection.{projected}
-use Rattle.script_cli.proofs.Picked.{itself, filled_at}
 
 -- the rows by key
 from_rows : (base m : ℕ) (keys : List Span) (columns : List (List Cell)) (x : List Value) (d : Span) → In x (rows_from base m keys columns)
@@ -49,14 +48,14 @@ in_rows base m (p ∷ keys) columns d (suc k) h c =
     elim (covers p m) as (λ b. In (row_at (base + suc k) m columns) (cond b (row_at base m columns ∷ rows_from (base + 1) m keys columns) (rows_from (base + 1) m keys columns))) [ true ↦ inr there | false ↦ there ]
 
 -- a row of the relation is that of a key that holds
-relation_row : (s : Store) (m : ℕ) (x : List Value) → In x (relation_at s m) → (id : ℕ) × IsThere s id m × (row_at id m s.cells ≡ x)
+relation_row : (s : Store) (m : ℕ) (x : List Value) → In x (relation_at s m) → (id : ℕ) × Holds s.keys id m × (row_at id m s.cells ≡ x)
 unfolding relation_at
 relation_row s m x h =
     let r = from_rows 0 m s.keys s.cells x (span 0 0) (from_set row_cmp row_exact x (rows_from 0 m s.keys s.cells) h) in
     let z : 0 + r.0 ≡ r.0 = omega arith in
     (r.0, (r.1, r.2), ap (λ i. row_at i m s.cells) (sym z) ∙ r.3)
 
-row_of_key : (s : Store) (m id : ℕ) → IsThere s id m → In (row_at id m s.cells) (relation_at s m)
+row_of_key : (s : Store) (m id : ℕ) → Holds s.keys id m → In (row_at id m s.cells) (relation_at s m)
 unfolding relation_at
 row_of_key s m id t =
     let z : 0 + id ≡ id = omega arith in
@@ -64,14 +63,14 @@ row_of_key s m id t =
     in_set row_cmp row_exact (row_at id m s.cells) (rows_from 0 m s.keys s.cells) (subst (λ i. In (row_at i m s.cells) (rows_from 0 m s.keys s.cells)) z there)
 
 -- the projection has the picked cells of the keys that hold
-from_projected : (s : Store) (names : List (List ℕ)) (m : ℕ) (x : List Value) → In x (projected s.columns names (relation_at s m)) → (id : ℕ) × IsThere s id m × (x ≡ picked s names id m)
+from_projected : (s : Store) (names : List (List ℕ)) (m : ℕ) (x : List Value) → In x (projected s.columns names (relation_at s m)) → (id : ℕ) × Holds s.keys id m × (x ≡ picked s names id m)
 from_projected s names m x h =
     let f : List Value → List Value = λ row. map (cell s.columns row) names in
     let r = from_map f x (relation_at s m) (from_set row_cmp row_exact x (map f (relation_at s m)) h) in
     let k = relation_row s m r.0 r.1 in
     (k.0, k.1, sym r.2 ∙ ap f (sym k.2))
 
-in_projected : (s : Store) (names : List (List ℕ)) (m id : ℕ) → IsThere s id m → In (picked s names id m) (projected s.columns names (relation_at s m))
+in_projected : (s : Store) (names : List (List ℕ)) (m id : ℕ) → Holds s.keys id m → In (picked s names id m) (projected s.columns names (relation_at s m))
 in_projected s names m id t =
     let f : List Value → List Value = λ row. map (cell s.columns row) names in
     in_set row_cmp row_exact (picked s names id m) (map f (relation_at s m)) (in_map f (row_at id m s.cells) (relation_at s m) (row_of_key s m id t))
@@ -112,51 +111,33 @@ selected s names stretches rows slice out g r a b l =
     let whole : IsListing row_cmp (λ m. at row_cmp (map entry_in (parts_of stretches)) m) always out = subst (λ (p : Span). IsListing row_cmp (λ m. at row_cmp (map entry_in (parts_of stretches)) m) p out) (all_moments slice a b) held in
     listing_same row_cmp (λ m. at row_cmp (map entry_in (parts_of stretches)) m) (λ m. projected s.columns names (relation_at s m)) always out (λ x m f t. gathered_holds s names (parts_of stretches) g x m) whole
 
--- a row of the relation has a value for each column
-row_long : (cells : List (List Cell)) (id m : ℕ) → ((cs : List Cell) → In cs cells → (v : Value) × (shown_at id m cs ≡ v ∷ [])) → length (row_at id m cells) ≡ length cells
-row_long [] id m f = refl
-row_long (cs ∷ cells) id m f =
-    let v = f cs (inl refl) in
-    let e = row_long cells id m (λ d k. f d (inr k)) in
-    omega (arith, length-append (shown_at id m cs) (row_at id m cells), ap length v.1)
-
--- and its cells in all columns are the row itself
-later_cells : (c : Column) (columns : List Column) (v : Value) (row : List Value) (names : List (List ℕ)) → BeforeAll bytes_cmp c.0 names → map (cell (c ∷ columns) (v ∷ row)) names ≡ map (cell columns row) names
-later_cells c columns v row [] h = refl
-later_cells c columns v row (n ∷ names) h =
-    ap (λ o. cond (is_eq o) v (cell columns row n) ∷ map (cell (c ∷ columns) (v ∷ row)) names) h.0
-    ∙ ap (λ l. cell columns row n ∷ l) (later_cells c columns v row names h.1)
-
-all_cells : (columns : List Column) (row : List Value) → AreColumns columns → length row ≡ length columns → map (cell columns row) (names_of columns) ≡ row
-all_cells [] [] a l = refl
-all_cells [] (v ∷ row) a l = absurd (omega arith)
-all_cells (c ∷ columns) [] a l = absurd (omega arith)
-all_cells (c ∷ columns) (v ∷ row) a l =
-    ap (λ b. cond b v (cell columns row c.0) ∷ map (cell (c ∷ columns) (v ∷ row)) (names_of columns)) (itself c.0)
-    ∙ ap (λ r. v ∷ r) (later_cells c columns v row (names_of columns) a.0 ∙ all_cells columns row a.1 (omega arith))
+-- the cells of all names are those of all columns
+all_cells : (columns : List Column) (row : List Value) (cs : List Column) → map (cell columns row) (names_of cs) ≡ map (λ (c : Column). cell columns row c.0) cs
+all_cells columns row [] = refl
+all_cells columns row (c ∷ cs) = ap (λ l. cell columns row c.0 ∷ l) (all_cells columns row cs)
 
 -- so all columns together are the relation
-picked_row : (s : Store) (id m : ℕ) → IsStore s → AreColumns s.columns → IsThere s id m → picked s (names_of s.columns) id m ≡ row_at id m s.cells
-picked_row s id m w a t = all_cells s.columns (row_at id m s.cells) a (row_long s.cells id m (λ cs k. filled_at s cs id m w k t) ∙ w.width)
+picked_row : (s : Store) (id m : ℕ) → IsStore s → Holds s.keys id m → picked s (names_of s.columns) id m ≡ row_at id m s.cells
+picked_row s id m w t = all_cells s.columns (row_at id m s.cells) s.columns ∙ cells_again s.columns (row_at id m s.cells) w.columns (w.fitting m id t)
 
-whole_relation : (s : Store) → IsStore s → AreColumns s.columns → (x : List Value) (m : ℕ) → In x (projected s.columns (names_of s.columns) (relation_at s m)) ↔ In x (relation_at s m)
-whole_relation s w a x m = (
+whole_relation : (s : Store) → IsStore s → (x : List Value) (m : ℕ) → In x (projected s.columns (names_of s.columns) (relation_at s m)) ↔ In x (relation_at s m)
+whole_relation s w x m = (
   λ h.
       let k = from_projected s (names_of s.columns) m x h in
-      subst (λ (y : List Value). In y (relation_at s m)) (sym (k.2 ∙ picked_row s k.0 m w a k.1)) (row_of_key s m k.0 k.1),
+      subst (λ (y : List Value). In y (relation_at s m)) (sym (k.2 ∙ picked_row s k.0 m w k.1)) (row_of_key s m k.0 k.1),
   λ h.
       let k = relation_row s m x h in
-      subst (λ (y : List Value). In y (projected s.columns (names_of s.columns) (relation_at s m))) (picked_row s k.0 m w a k.1 ∙ k.2) (in_projected s (names_of s.columns) m k.0 k.1),
+      subst (λ (y : List Value). In y (projected s.columns (names_of s.columns) (relation_at s m))) (picked_row s k.0 m w k.1 ∙ k.2) (in_projected s (names_of s.columns) m k.0 k.1),
 )
 
-whole_listed : (s : Store) (names : List (List ℕ)) (out : List (Entry (List Value))) → IsStore s → AreColumns s.columns → names ≡ names_of s.columns → IsListing row_cmp (λ m. projected s.columns names (relation_at s m)) always out
+whole_listed : (s : Store) (names : List (List ℕ)) (out : List (Entry (List Value))) → IsStore s → names ≡ names_of s.columns → IsListing row_cmp (λ m. projected s.columns names (relation_at s m)) always out
     → IsListing row_cmp (relation_at s) always out
-whole_listed s names out w a e l =
+whole_listed s names out w e l =
     let all : IsListing row_cmp (λ m. projected s.columns (names_of s.columns) (relation_at s m)) always out = subst (λ (ns : List (List ℕ)). IsListing row_cmp (λ m. projected s.columns ns (relation_at s m)) always out) e l in
-    listing_same row_cmp (λ m. projected s.columns (names_of s.columns) (relation_at s m)) (relation_at s) always out (λ x m f t. whole_relation s w a x m) all
+    listing_same row_cmp (λ m. projected s.columns (names_of s.columns) (relation_at s m)) (relation_at s) always out (λ x m f t. whole_relation s w x m) all
 
 -- the same of what a call answers
 pub whole_answered : {T E : Type 0} (result : Result T E) (entries : T → List (Entry (List Value))) (s : Store) (names : List (List ℕ)) → IsStore s → IfOk result (λ rows. IsListing row_cmp (λ m. projected s.columns names (relation_at s m)) always (entries rows))
-    → AreColumns s.columns → names ≡ names_of s.columns → IfOk result (λ rows. IsListing row_cmp (relation_at s) always (entries rows))
-whole_answered (Ok rows) entries s names w l a e = whole_listed s names (entries rows) w a e l
-whole_answered (Err x) entries s names w l a e = tt
+    → names ≡ names_of s.columns → IfOk result (λ rows. IsListing row_cmp (relation_at s) always (entries rows))
+whole_answered (Ok rows) entries s names w l e = whole_listed s names (entries rows) w e l
+whole_answered (Err x) entries s names w l e = tt

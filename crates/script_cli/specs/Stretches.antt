@@ -1,11 +1,10 @@
 -- What stretches, keys and entries stand for: parts of the histories of rows.
-use Rattle.std.specs.Prelude.{◌≡◌, ◌↔◌, ℕ, ◌<◌, true, List, [], ◌∷◌, ◌++◌, length, map, slice_index_or}
-use Rattle.relations.specs.Spans.{span, covers}
+use Rattle.std.specs.Prelude.{◌≡◌, ◌↔◌, ℕ, List, [], ◌∷◌, ◌++◌, map}
 use Rattle.relations.specs.Timed.{Entry}
 use Rattle.prima_base.specs.declared.values.Value.{Value}
 use Rattle.prima_base.specs.Order.{shown}
 use Rattle.schema_catalog.specs.Databases.{cell}
-use Rattle.history_store.specs.Store.{Cell, Store, row_at}
+use Rattle.history_store.specs.Store.{Cell, Store, Holds, row_at}
 use Rattle.history_store.specs.declared.scans.KeyEntry.{KeyEntry}
 use Rattle.script_cli.specs.declared.stretches.Stretch.{Stretch}
 use Rattle.script_cli.specs.Parts.{Part, Has, InTurn}
@@ -33,10 +32,6 @@ behind values v = values ++ v ∷ []
 abbrev pub entry_in : Part (List Value) → Entry (List Value)
 entry_in p = record { item = p.item; period = p.period }
 
--- the key with this id holds at the moment
-abbrev pub IsThere : Store → ℕ → ℕ → Type 0
-IsThere s id m = (id < length s.keys) × (covers (slice_index_or s.keys id (span 0 0)) m ≡ true)
-
 -- the cells of these names that the row with the id has at the moment
 abbrev pub picked : Store → List (List ℕ) → ℕ → ℕ → List Value
 picked s names id m = map (cell s.columns (row_at id m s.cells)) names
@@ -44,4 +39,4 @@ picked s names id m = map (cell s.columns (row_at id m s.cells)) names
 -- at each moment the parts have the cells of these names, for each key that holds
 pub record IsGathered (s : Store) (names : List (List ℕ)) (parts : List (Part (List Value))) : Type 0 where
   pub turn : InTurn parts
-  pub has : (id m : ℕ) (values : List Value) → Has parts id values m ↔ (IsThere s id m × (values ≡ picked s names id m))
+  pub has : (id m : ℕ) (values : List Value) → Has parts id values m ↔ (Holds s.keys id m × (values ≡ picked s names id m))

@@ -6,7 +6,7 @@ ghost use Rattle.relations.specs.Spans.{always};
 ghost use Rattle.relations.specs.Listing.{IsListing};
 ghost use Rattle.prima_base.specs.Order.{row_cmp};
 ghost use Rattle.prima_base.specs.Timed.{entries_of};
-ghost use Rattle.prima_base.specs.Columns.{AreColumns, names_of};
+ghost use Rattle.prima_base.specs.Columns.{names_of};
 ghost use Rattle.history_store.specs.Store.{relation_at, column_of, IsStore};
 ghost use Rattle.script_cli.specs.Parts.{InTurn};
 ghost use Rattle.script_cli.specs.Stretches.{parts_of, IsGathered};
@@ -108,8 +108,7 @@ pub(crate) fn select_all<'a>(
 ) -> Result<Vec<TimedRow<'a>>, NoMemory>
     requires { AreNames table.now.columns columns.now }
     ensures listing { IfOk result (λ rows. IsListing row_cmp (λ m. projected table.now.columns columns.now (relation_at table.now m)) always (entries_of rows.items)) }
-    ensures whole { AreColumns table.now.columns → columns.now ≡ names_of table.now.columns
-        → IfOk result (λ rows. IsListing row_cmp (relation_at table.now) always (entries_of rows.items)) }
+    ensures whole { columns.now ≡ names_of table.now.columns → IfOk result (λ rows. IsListing row_cmp (relation_at table.now) always (entries_of rows.items)) }
 {
     select_from::<Brand>(alloc, table, columns, Blank::new(1))
 }

@@ -1,5 +1,6 @@
 use Rattle.std.proofs.Common.{◌≡◌, ℕ, List, sym, ◌∙◌}
-use Rattle.script_cli.proofs.Picked.{column_there, column_taken, entries_turn}
+use Rattle.script_cli.proofs.EntriesInTurn.{entries_turn}
+use Rattle.script_cli.proofs.Picked.{column_there, column_taken}
 use Rattle.script_cli.proofs.queries.take_column.Goals as goal
 
 pub unreachable-requires : goal.unreachable-requires
