@@ -1,5 +1,5 @@
 -- The entries of a column are in turn.
-use Rattle.std.proofs.Common.{◌≡◌, ◌⊎◌, ◌<◌, ◌≤◌, ℕ, Bool, true, false, List, [], ◌∷◌, length, map, cond, refl, sym, ap, ◌∙◌, subst, arith, inl, inr}
+use Rattle.std.proofs.Common.{◌≡◌, ◌⊎◌, ◌<◌, ◌≤◌, ℕ, Bool, true, false, List, [], ◌∷◌, length, map, cond, refl, sym, ap, subst, arith, inl, inr}
 use Rattle.std.specs.Prelude.{Some, ◌&&◌, ◌==◌, MatchBool, slice_index_or}
 use Rattle.std.specs.Ordering.{nat_cmp, ordering_then}
 use Rattle.std.specs.FinMap.{nat_cmp-IsAntisymmetric}
@@ -12,8 +12,8 @@ use Rattle.relations.proofs.Held.{covers_is}
 use Rattle.relations.proofs.ListingLaws.{less_nat}
 use Rattle.relations.proofs.SetLaws.{in_map}
 use Rattle.prima_base.specs.declared.values.Value.{Value}
-use Rattle.history_store.specs.Store.{Cell, Store, IsPeriod, Fills, IsFilled, IsStore, shown_at, cell_cmp, column_of}
-use Rattle.script_cli.specs.Parts.{Part, Precedes, PrecedesAll, InTurn}
+use Rattle.history_store.specs.Store.{Cell, Store, IsPeriod, IsFilled, IsStore, shown_at, cell_cmp, column_of}
+use Rattle.script_cli.specs.Parts.{Precedes, PrecedesAll, InTurn}
 use Rattle.script_cli.specs.Stretches.{cell_part}
 use Rattle.script_cli.proofs.Picked.{in_shown, shown_once, named_in}
 

@@ -1,6 +1,6 @@
 -- What is gathered of a table's columns is what its relation has in them.
-use Rattle.std.proofs.Common.{◌≡◌, ◌⊎◌, ◌<◌, ◌≤◌, ◌+◌, ℕ, zero, suc, Bool, true, false, List, [], ◌∷◌, ◌++◌, length, map, get_or, take, drop, cond, refl, sym, ap, ◌∙◌, subst, arith, inl, inr}
-use Rattle.std.specs.Prelude.{◌↔◌, ◌&&◌, ◌==◌, MatchBool, Option, Some, None, Result, Ok, Err, OnOk, slice_index_or}
+use Rattle.std.proofs.Common.{◌≡◌, ◌<◌, ◌+◌, ℕ, zero, suc, Bool, true, false, List, [], ◌∷◌, ◌++◌, length, map, get_or, take, drop, cond, refl, sym, ap, ◌∙◌, subst, arith, inl, inr}
+use Rattle.std.specs.Prelude.{◌↔◌, ◌&&◌, ◌==◌, MatchBool, Some, Result, Ok, Err, OnOk, slice_index_or}
 use Rattle.std.specs.Ordering.{is_eq}
 use Rattle.std.specs.Cmp.{Equal-is}
 use Rattle.std.specs.Cmp.Lexicographic.{nat_list_cmp_total}
@@ -13,11 +13,10 @@ use Rattle.prima_base.specs.Order.{bytes_cmp}
 use Rattle.prima_base.specs.Columns.{Column, names_of}
 use Rattle.prima_base.specs.declared.values.Value.{Value}
 use Rattle.schema_catalog.specs.Databases.{cell}
-use Rattle.history_store.specs.declared.scans.KeyEntry.{KeyEntry}
-use Rattle.history_store.specs.Store.{Cell, Store, shown_at, row_at, Holds, Fills, IsFilled, IsStore, named, column_of}
+use Rattle.history_store.specs.Store.{Cell, Store, shown_at, row_at, Holds, IsStore, named, column_of}
 use Rattle.history_store.specs.Scans.{keys_from}
 use Rattle.script_cli.specs.Projection.{count_in, entries_in}
-use Rattle.script_cli.specs.Parts.{Part, Has, HasBoth, Precedes, PrecedesAll, InTurn}
+use Rattle.script_cli.specs.Parts.{Part, Has, HasBoth, PrecedesAll, InTurn}
 use Rattle.script_cli.specs.Stretches.{key_part, cell_part, behind, picked, IsGathered}
 
 -- the keys, each with no value
@@ -61,8 +60,7 @@ keys_gathered s = record { turn = keys_turn 0 s.keys; has = λ id m values. (the
     there id m values h =
         let r = from_keys 0 s.keys h.0 h.1 in
         let place = r.0.place in
-        let is : place ≡ id = omega (arith, r.0.is, h.2) in
-        (
+        let is : place ≡ id = omega (arith, r.0.is, h.2) in (
           (subst (λ i. i < length s.keys) is r.0.below, subst (λ i. covers (slice_index_or s.keys i (span 0 0)) m ≡ true) is (ap (λ (p : Span). covers p m) (sym r.0.key) ∙ h.4)),
           sym h.3 ∙ r.1,
         )

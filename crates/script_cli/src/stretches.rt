@@ -114,10 +114,7 @@ fn finish<'a>(
 }
 
 // The first stretch, taken out, where it is over when the entry is.
-fn next_over<'a>(
-    stretches: &mut VecDeque<Stretch<'a>>,
-    cell: &CellEntry<'a>,
-) -> Option<Stretch<'a>>
+fn next_over<'a>(stretches: &mut VecDeque<Stretch<'a>>, cell: &CellEntry<'a>) -> Option<Stretch<'a>>
     ensures left { stretches.old.items ≡ option_to_list result ++ stretches.new.items }
     ensures over { MatchOption result (is_first_over (parts_of stretches.old.items) (cell_part (seen_cell cell.now)) ≡ false)
         (λ stretch. is_over (part_of stretch) (cell_part (seen_cell cell.now)) ≡ true) }

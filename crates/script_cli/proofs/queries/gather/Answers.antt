@@ -1,8 +1,7 @@
-use Rattle.std.proofs.Common.{◌≡◌, ◌+◌, ℕ, List, [], length, map, take, sym, ap, ◌∙◌, subst, arith}
+use Rattle.std.proofs.Common.{List, [], length, map, take, sym, ap, ◌∙◌, subst, arith}
 use Rattle.prima_base.specs.declared.values.Value.{Value}
-use Rattle.history_store.specs.Scans.{keys_from}
 use Rattle.script_cli.specs.Parts.{Part}
-use Rattle.script_cli.specs.Stretches.{parts_of, key_part, IsGathered}
+use Rattle.script_cli.specs.Stretches.{key_part, IsGathered}
 use Rattle.script_cli.proofs.Picked.{keys_gathered, keys_count, in_at, next_entries, next_names}
 use Rattle.script_cli.proofs.queries.gather.Goals as goal
 

@@ -1,5 +1,4 @@
 use Rattle.std.proofs.Common.{◌≤◌, ◌+◌, take, drop}
-use Rattle.history_store.specs.Store.{IsStore}
 use Rattle.script_cli.specs.Projection.{entries_in}
 use Rattle.script_cli.specs.Stretches.{parts_of, IsGathered}
 use Rattle.script_cli.proofs.queries.gather.Given as goal

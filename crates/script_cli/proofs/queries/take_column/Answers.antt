@@ -1,4 +1,4 @@
-use Rattle.std.proofs.Common.{◌≡◌, ℕ, List, sym, ◌∙◌}
+use Rattle.std.proofs.Common.{sym}
 use Rattle.script_cli.proofs.EntriesInTurn.{entries_turn}
 use Rattle.script_cli.proofs.Picked.{column_there, column_taken}
 use Rattle.script_cli.proofs.queries.take_column.Goals as goal

@@ -1,5 +1,4 @@
-use Rattle.std.proofs.Common.{List, map, sym, subst, ap, ◌∙◌}
-use Rattle.std.specs.declared.collections.VecDeque.{VecDeque}
+use Rattle.std.proofs.Common.{map, ap, ◌∙◌}
 use Rattle.script_cli.specs.Merging.{merged}
 use Rattle.script_cli.specs.Stretches.{parts_of, cell_part, behind}
 use Rattle.script_cli.proofs.MergeLaws.{merged_turn, merged_both}
