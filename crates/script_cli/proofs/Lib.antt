@@ -6,9 +6,6 @@ pub mod Moments
 pub mod Reaching
 pub mod Feeding
 pub mod Answered
-pub mod HeldRows
-pub mod Scanning
-pub mod Columns
 pub mod Selecting
 pub mod Values
 pub mod Gaining
@@ -28,3 +25,6 @@ pub mod ReadingExamples
 pub mod Joined
 pub mod Errors
 pub mod OnlyReading
+pub mod MergeLaws
+pub mod Picked
+pub mod EntriesInTurn

@@ -11,6 +11,9 @@ pub mod Runs
 pub mod ShowsPast
 pub mod Shows
 pub mod Codes
-pub mod Held
+pub mod Parts
+pub mod Merging
+pub mod Stretches
+pub mod Projection
 pub mod Gathering
 pub mod Limits

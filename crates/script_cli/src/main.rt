@@ -10,6 +10,8 @@ mod forms;
 mod lines;
 mod listings;
 mod queries;
+#[cfg(test)]
+mod queries_tests;
 mod reader;
 #[cfg(test)]
 mod reader_tests;
@@ -23,6 +25,7 @@ mod runs_tests;
 mod sessions;
 mod statements;
 mod stops;
+mod stretches;
 mod tokens;
 
 use adapters::{ReaderSource, WriterSink};

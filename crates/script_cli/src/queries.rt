@@ -1,94 +1,80 @@
-//! The rows of a table of one column, each with the longest periods in which it holds.
+//! The rows of some columns of a table, each with the longest periods in which it holds.
 
-ghost use Rattle.std.specs.Prelude.{◌≡◌, ◌<◌, ◌++◌, ◌∷◌, [], OnOk, IfOk};
+ghost use Rattle.std.specs.Prelude.{◌≡◌, ℕ, ◌+◌, ◌<◌, ◌≤◌, ◌++◌, ◌∷◌, [], List, OnOk, IfOk};
+ghost use Rattle.relations.specs.Sets.{In};
 ghost use Rattle.relations.specs.Spans.{always};
 ghost use Rattle.relations.specs.Listing.{IsListing};
 ghost use Rattle.prima_base.specs.Order.{row_cmp};
 ghost use Rattle.prima_base.specs.Timed.{entries_of};
-ghost use Rattle.prima_base.specs.declared.values.ColType.TheVariants.{Int as IntType};
-ghost use Rattle.history_store.specs.Store.{relation_at};
-ghost use Rattle.history_store.specs.Scans.{seen_cell};
-ghost use Rattle.script_cli.specs.Held.{held_cell, held_cells};
+ghost use Rattle.prima_base.specs.Columns.{names_of};
+ghost use Rattle.history_store.specs.Store.{relation_at, column_of, IsStore};
+ghost use Rattle.script_cli.specs.Parts.{InTurn};
+ghost use Rattle.script_cli.specs.Stretches.{parts_of, IsGathered};
+ghost use Rattle.script_cli.specs.Projection.{AreNames, projected, count_in, reads};
 
+use crate::stretches::{Stretch, add_column, of_keys, rows_of};
 use coalesce::coalesce_in_place;
-use history_store::{CellEntry, CellScan, StoredTable};
-use prima_base::{Name, NoMemory, Period, Steps, TimedRow, meet};
+use history_store::StoredTable;
+use prima_base::{Name, NoMemory, Period, Steps, TimedRow};
 use std::alloc::Global;
+use std::collections::VecDeque;
 use std::marker::Brand;
 use std::sync::ledger::{Blank, Ledger};
 
-// The periods of the keys, by id.
-fn key_periods<L: Ledger>(
+// Takes the column of this name into what was gathered.
+fn take_column<'a, L: Ledger>(
     alloc: Global,
-    table: &StoredTable,
+    table: &'a StoredTable,
+    name: &Name,
+    stretches: &mut VecDeque<Stretch<'a>>,
     steps: &mut Steps<L>,
-) -> Result<Vec<Period>, NoMemory>
-    ensures { IfOk result (λ periods. periods.items ≡ table.now.keys) }
-{
-    let mut keys = table.scan_keys();
-    let mut periods = Vec::new(alloc);
-    'keys: while let Some(key) = keys.next_key(steps) {
-        periods.push(key.period)?;
-    }
-    Ok(periods)
-}
-
-// Adds the row of an entry, with the part of its period in which its key holds.
-fn add_row<'a>(
-    alloc: Global,
-    rows: &mut Vec<TimedRow<'a>>,
-    cell: CellEntry<'a>,
-    keys: &[Period],
 ) -> Result<(), NoMemory>
-    ensures { OnOk result (entries_of rows.new.items ≡ entries_of rows.old.items ++ held_cell keys.now (seen_cell cell.entry)) }
+    requires there { In name.now (names_of table.now.columns) }
+    requires turn { InTurn (parts_of stretches.old.items) }
+    ensures gathered { (names : List (List ℕ)) → IsGathered table.now names (parts_of stretches.old.items)
+        → OnOk result (IsGathered table.now (names ++ name.now ∷ []) (parts_of stretches.new.items)) }
+    ensures cost { steps.new ≤ steps.old + count_in (column_of table.now name.now) }
 {
-    let id = cell.id as usize;
-    if id >= keys.len() {
-        return Ok(());
-    }
-    match meet(keys[id], cell.period) {
-        None => Ok(()),
-        Some(period) => {
-            let mut values = Vec::with_capacity(alloc, 1)?;
-            values.push(cell.value)?;
-            rows.push(TimedRow { values, period })?;
-            Ok(())
-        }
-    }
+    let Some(cells) = table.scan_column(name) else {
+        unreachable!();
+    };
+    add_column(alloc, stretches, cells, steps)
 }
 
-// The rows of a column's entries.
-fn rows_of<'a, L: Ledger>(
+// What each row had in these columns, in turn.
+fn gather<'a, L: Ledger>(
     alloc: Global,
-    mut cells: CellScan<'a>,
-    keys: &[Period],
+    table: &'a StoredTable,
+    columns: &[Name],
     steps: &mut Steps<L>,
-) -> Result<Vec<TimedRow<'a>>, NoMemory>
-    ensures { IfOk result (λ rows. entries_of rows.items ≡ held_cells keys.now cells.entry) }
+) -> Result<VecDeque<Stretch<'a>>, NoMemory>
+    requires { AreNames table.now.columns columns.now }
+    ensures lawful { IsStore table.now }
+    ensures gathered { IfOk result (λ stretches. IsGathered table.now columns.now (parts_of stretches.items)) }
+    ensures cost { steps.new ≤ steps.old + reads table.now columns.now }
 {
-    let mut rows = Vec::new(alloc);
-    'cells: while let Some(cell) = cells.next_cell(steps) {
-        add_row(alloc, &mut rows, cell, keys)?;
+    let mut stretches = of_keys(alloc, table.scan_keys(), steps)?;
+    for name in columns {
+        take_column(alloc, table, name, &mut stretches, steps)?;
     }
-    Ok(rows)
+    Ok(stretches)
 }
 
-// The rows of a table whose one column has this name, with the longest periods in which they hold. It reads
-// the table by its scans, and coalesces once.
+// The rows of these columns with the longest periods in which they hold. It reads the keys and the entries of
+// these columns once, and coalesces once.
 fn select<'a, L: Ledger>(
     alloc: Global,
     table: &'a StoredTable,
-    column: &Name,
+    columns: &[Name],
     steps: &mut Steps<L>,
 ) -> Result<Vec<TimedRow<'a>>, NoMemory>
-    requires { table.now.columns ≡ (column.now, IntType) ∷ [] }
-    ensures { IfOk result (λ rows. IsListing row_cmp (relation_at table.now) always (entries_of rows.items)) }
+    requires { AreNames table.now.columns columns.now }
+    ensures lawful { IsStore table.now }
+    ensures listing { IfOk result (λ rows. IsListing row_cmp (λ m. projected table.now.columns columns.now (relation_at table.now m)) always (entries_of rows.items)) }
+    ensures cost { steps.new ≤ steps.old + reads table.now columns.now }
 {
-    let keys = key_periods(alloc, table, steps)?;
-    let Some(cells) = table.scan_column(column) else {
-        unreachable!();
-    };
-    let mut rows = rows_of(alloc, cells, &keys, steps)?;
+    let stretches = gather(alloc, table, columns, steps)?;
+    let mut rows = rows_of(alloc, stretches)?;
     coalesce_in_place(&mut rows, Period::from(0));
     Ok(rows)
 }
@@ -97,28 +83,32 @@ fn select<'a, L: Ledger>(
 fn select_from<'a, L: Ledger>(
     alloc: Global,
     table: &'a StoredTable,
-    column: &Name,
+    columns: &[Name],
     blank: Blank,
 ) -> Result<Vec<TimedRow<'a>>, NoMemory>
-    requires columns { table.now.columns ≡ (column.now, IntType) ∷ [] }
+    requires columns { AreNames table.now.columns columns.now }
     requires name { blank.name ≡ L.name }
     requires parts { blank.parts ≡ L.parts }
     requires some { 0 < blank.parts }
-    ensures { IfOk result (λ rows. IsListing row_cmp (relation_at table.now) always (entries_of rows.items)) }
+    ensures lawful { IsStore table.now }
+    ensures listing { IfOk result (λ rows. IsListing row_cmp (λ m. projected table.now.columns columns.now (relation_at table.now m)) always (entries_of rows.items)) }
 {
     let mut steps: Steps<L> = Steps::new(blank);
-    select(alloc, table, column, &mut steps)
+    select(alloc, table, columns, &mut steps)
 }
 
-/// The rows of a table whose one column has this name, each with the longest periods in which it holds,
-/// ascending by row and start. The values are lent by the table.
+/// The rows of these columns that the table has had, each with the longest periods in which it holds, ascending
+/// by row and start. The names are columns of the table, in any order, and may be repeated. All columns in the
+/// order of their names give the table's rows themselves. The values are lent by the table. It costs time in the
+/// order of n log n for n keys and entries of these columns. The one error is `NoMemory`, where memory runs out.
 pub(crate) fn select_all<'a>(
     alloc: Global,
     table: &'a StoredTable,
-    column: &Name,
+    columns: &[Name],
 ) -> Result<Vec<TimedRow<'a>>, NoMemory>
-    requires { table.now.columns ≡ (column.now, IntType) ∷ [] }
-    ensures { IfOk result (λ rows. IsListing row_cmp (relation_at table.now) always (entries_of rows.items)) }
+    requires { AreNames table.now.columns columns.now }
+    ensures listing { IfOk result (λ rows. IsListing row_cmp (λ m. projected table.now.columns columns.now (relation_at table.now m)) always (entries_of rows.items)) }
+    ensures whole { columns.now ≡ names_of table.now.columns → IfOk result (λ rows. IsListing row_cmp (relation_at table.now) always (entries_of rows.items)) }
 {
-    select_from::<Brand>(alloc, table, column, Blank::new(1))
+    select_from::<Brand>(alloc, table, columns, Blank::new(1))
 }

@@ -28,6 +28,7 @@ use crate::stops::Stop;
 use prima_base::{Name, NoMemory};
 use prima_io::{Failed, Sink};
 use std::alloc::Global;
+use std::slice;
 
 /// Refuses a statement at this place.
 pub(crate) fn refuse_syntax<K: Sink>(sink: &mut K, place: u32) -> Result<bool, Stop>
@@ -75,7 +76,7 @@ fn list<K: Sink>(alloc: Global, made: &MadeTable, sink: &mut K) -> Result<bool, 
         → Says (accepted (listing_text (answer past)) past) result (K.written sink.old) (K.written sink.new) }
     ensures cause { HasStopCause (K.faults sink.old) (K.faults sink.new) result }
 {
-    match select_all(alloc, &made.store, &made.column) {
+    match select_all(alloc, &made.store, slice::from_ref(&made.column)) {
         Ok(rows) => match put_listing(sink, &rows) {
             Ok(()) => Ok(false),
             Err(Failed) => Err(Stop::WriteFault),

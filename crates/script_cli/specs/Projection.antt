@@ -1,0 +1,29 @@
+-- What a relation has in some of its columns.
+use Rattle.std.specs.Prelude.{ℕ, ◌+◌, List, [], ◌∷◌, length, map, Option, Some, None}
+use Rattle.relations.specs.Sets.{In, set_of}
+use Rattle.prima_base.specs.Order.{row_cmp}
+use Rattle.prima_base.specs.Columns.{Column, names_of}
+use Rattle.prima_base.specs.declared.values.Value.{Value}
+use Rattle.schema_catalog.specs.Databases.{cell}
+use Rattle.history_store.specs.Store.{Cell, Store, column_of}
+
+-- each of the names is a column's
+abbrev pub AreNames : List Column → List (List ℕ) → Type 0
+AreNames columns names = (name : List ℕ) → In name names → In name (names_of columns)
+
+-- the rows' cells of these names, in the order of the names
+abbrev pub projected : List Column → List (List ℕ) → List (List Value) → List (List Value)
+projected columns names relation = set_of row_cmp (map (λ (row : List Value). map (cell columns row) names) relation)
+
+-- how many entries the column has
+abbrev pub count_in : Option (List Cell) → ℕ
+count_in None = 0
+count_in (Some cells) = length cells
+
+-- how many entries the columns of these names have, and how many are read of them: these, and the keys
+abbrev pub entries_in : Store → List (List ℕ) → ℕ
+entries_in s [] = 0
+entries_in s (name ∷ names) = count_in (column_of s name) + entries_in s names
+
+abbrev pub reads : Store → List (List ℕ) → ℕ
+reads s names = length s.keys + entries_in s names

@@ -1,0 +1,213 @@
+//! Stretches of the histories of rows: the values that a row has in the columns that were read so far, in a
+//! period in which it has just these.
+//!
+//! They begin as the keys of a table, with no value, and take in one column after another. Both the stretches
+//! and the entries of a column ascend by id, and those of one id follow one another, so that one walk along
+//! both finds all that meet: whichever ends first is left behind.
+
+ghost use Rattle.std.specs.Prelude.{◌≡◌, ℕ, ◌+◌, ◌≤◌, ◌++◌, ◌∷◌, [], ◌↔◌, List, true, false, length, map, IfOk, OnOk, MatchOption, option_to_list};
+ghost use Rattle.prima_base.specs.Order.{shown};
+ghost use Rattle.prima_base.specs.Timed.{entries_of, entry_of};
+ghost use Rattle.prima_base.specs.declared.values.Value.{Value};
+ghost use Rattle.history_store.specs.Scans.{seen_cell};
+ghost use Rattle.script_cli.specs.declared.stretches.Stretch.{Stretch as OneStretch};
+ghost use Rattle.script_cli.specs.Parts.{Has, HasBoth, InTurn};
+ghost use Rattle.script_cli.specs.Merging.{shared, in_both, is_over, given, left_by, merged, is_first_over, first_in_both};
+ghost use Rattle.script_cli.specs.Stretches.{part_of, parts_of, key_part, cell_part, behind, entry_in};
+
+use history_store::{CellEntry, CellScan, KeyScan};
+use prima_base::{NoMemory, Period, Steps, TimedRow, Val, meet};
+use std::alloc::Global;
+use std::collections::VecDeque;
+use std::mem;
+use std::sync::ledger::Ledger;
+
+/// A row, known by its id, with its values and their period. Texts are lent by the table.
+#[derive(Drop)]
+pub(crate) struct Stretch<'a> {
+    pub(crate) id: u64,
+    pub(crate) row: TimedRow<'a>,
+}
+
+/// A stretch without a value for each key.
+pub(crate) fn of_keys<'a, L: Ledger>(
+    alloc: Global,
+    mut keys: KeyScan<'_>,
+    steps: &mut Steps<L>,
+) -> Result<VecDeque<Stretch<'a>>, NoMemory>
+    ensures parts { IfOk result (λ stretches. parts_of stretches.items ≡ map key_part keys.entry) }
+    ensures cost { steps.new ≤ steps.old + length keys.entry }
+{
+    let mut stretches = VecDeque::new(alloc);
+    'keys: while let Some(key) = keys.next_key(steps) {
+        stretches.push_back(Stretch {
+            id: key.id,
+            row: TimedRow {
+                values: Vec::new(alloc),
+                period: key.period,
+            },
+        })?;
+    }
+    Ok(stretches)
+}
+
+// Whether the stretch ends before the entry does, or with it: then it has no moment of a later entry.
+fn is_over(stretch: &Stretch<'_>, cell: &CellEntry<'_>) -> bool
+    ensures { result ≡ is_over (part_of stretch.now) (cell_part (seen_cell cell.now)) }
+{
+    if stretch.id == cell.id {
+        stretch.row.period.end() <= cell.period.end()
+    } else {
+        stretch.id < cell.id
+    }
+}
+
+// The common moments of a stretch and an entry of one id.
+fn shared(stretch: &Stretch<'_>, cell: &CellEntry<'_>) -> Option<Period>
+    ensures { result ≡ shared (part_of stretch.now) (cell_part (seen_cell cell.now)) }
+{
+    if stretch.id == cell.id {
+        meet(stretch.row.period, cell.period)
+    } else {
+        None
+    }
+}
+
+// Puts a row with one value more behind the others.
+fn put<'a>(
+    stretches: &mut VecDeque<Stretch<'a>>,
+    id: u64,
+    row: TimedRow<'a>,
+    value: Val<'a>,
+    period: Period,
+) -> Result<(), NoMemory>
+    ensures { OnOk result (parts_of stretches.new.items ≡ parts_of stretches.old.items ++ record { id = id; item = behind (map shown row.entry.values.items) (shown value.entry); period = period } ∷ []) }
+{
+    let TimedRow {
+        mut values,
+        period: _,
+    } = row;
+    values.push(value)?;
+    stretches.push_back(Stretch {
+        id,
+        row: TimedRow { values, period },
+    })?;
+    Ok(())
+}
+
+// Puts what a stretch has with the entry's value, where they meet. The stretch is used up.
+fn finish<'a>(
+    done: &mut VecDeque<Stretch<'a>>,
+    stretch: Stretch<'a>,
+    cell: &CellEntry<'a>,
+) -> Result<(), NoMemory>
+    ensures { OnOk result (parts_of done.new.items ≡ parts_of done.old.items ++ in_both behind (part_of stretch.entry) (cell_part (seen_cell cell.now))) }
+{
+    match shared(&stretch, cell) {
+        None => Ok(()),
+        Some(period) => {
+            let value = cell.value.copy()?;
+            let Stretch { id, row } = stretch;
+            put(done, id, row, value, period)
+        }
+    }
+}
+
+// The first stretch, taken out, where it is over when the entry is.
+fn next_over<'a>(stretches: &mut VecDeque<Stretch<'a>>, cell: &CellEntry<'a>) -> Option<Stretch<'a>>
+    ensures left { stretches.old.items ≡ option_to_list result ++ stretches.new.items }
+    ensures over { MatchOption result (is_first_over (parts_of stretches.old.items) (cell_part (seen_cell cell.now)) ≡ false)
+        (λ stretch. is_over (part_of stretch) (cell_part (seen_cell cell.now)) ≡ true) }
+{
+    match stretches.front() {
+        Some(stretch) if is_over(stretch, cell) => stretches.pop_front(),
+        _ => None,
+    }
+}
+
+// Puts what the first stretch has with the entry's value, where they meet. The stretch goes on behind the
+// entry, so its values are copied.
+fn split_first<'a>(
+    done: &mut VecDeque<Stretch<'a>>,
+    stretches: &VecDeque<Stretch<'a>>,
+    cell: CellEntry<'a>,
+) -> Result<(), NoMemory>
+    ensures { OnOk result (parts_of done.new.items ≡ parts_of done.old.items ++ first_in_both behind (parts_of stretches.now.items) (cell_part (seen_cell cell.entry))) }
+{
+    match stretches.front() {
+        None => Ok(()),
+        Some(stretch) => match shared(stretch, &cell) {
+            None => Ok(()),
+            Some(period) => {
+                let row = stretch.row.copy()?;
+                put(done, stretch.id, row, cell.value, period)
+            }
+        },
+    }
+}
+
+// Puts all that the stretches have with the entry's value. Those that are over are used up.
+fn take_in<'a>(
+    done: &mut VecDeque<Stretch<'a>>,
+    stretches: &mut VecDeque<Stretch<'a>>,
+    cell: CellEntry<'a>,
+) -> Result<(), NoMemory>
+    ensures done { OnOk result (parts_of done.new.items ≡ parts_of done.old.items ++ given behind (parts_of stretches.old.items) (cell_part (seen_cell cell.entry))) }
+    ensures left { OnOk result (parts_of stretches.new.items ≡ left_by (parts_of stretches.old.items) (cell_part (seen_cell cell.entry))) }
+{
+    'over: while let Some(stretch) = next_over(stretches, &cell) {
+        finish(done, stretch, &cell)?;
+    }
+    split_first(done, stretches, cell)
+}
+
+// All that the entries give with the stretches.
+fn merge<'a, L: Ledger>(
+    alloc: Global,
+    mut stretches: VecDeque<Stretch<'a>>,
+    mut cells: CellScan<'a>,
+    steps: &mut Steps<L>,
+) -> Result<VecDeque<Stretch<'a>>, NoMemory>
+    ensures parts { IfOk result (λ done. parts_of done.items ≡ merged behind (parts_of stretches.entry.items) (map cell_part cells.entry)) }
+    ensures cost { steps.new ≤ steps.old + length cells.entry }
+{
+    let mut done = VecDeque::new(alloc);
+    'cells: while let Some(cell) = cells.next_cell(steps) {
+        take_in(&mut done, &mut stretches, cell)?;
+    }
+    Ok(done)
+}
+
+/// Takes in the entries of a column: at each moment the stretches have, for each that they had and the entry of
+/// its id, the values with the entry's value behind. One walk along both; a stretch is copied only where
+/// it is split, and its texts stay lent.
+pub(crate) fn add_column<'a, L: Ledger>(
+    alloc: Global,
+    stretches: &mut VecDeque<Stretch<'a>>,
+    cells: CellScan<'a>,
+    steps: &mut Steps<L>,
+) -> Result<(), NoMemory>
+    requires stretches { InTurn (parts_of stretches.old.items) }
+    requires entries { InTurn (map cell_part cells) }
+    ensures turn { OnOk result (InTurn (parts_of stretches.new.items)) }
+    ensures both { (id m : ℕ) → (values : List Value) → OnOk result (Has (parts_of stretches.new.items) id values m ↔ HasBoth behind (parts_of stretches.old.items) (map cell_part cells.entry) id values m) }
+    ensures cost { steps.new ≤ steps.old + length cells.entry }
+{
+    let before = mem::replace(stretches, VecDeque::new(alloc));
+    *stretches = merge(alloc, before, cells, steps)?;
+    Ok(())
+}
+
+/// The rows of the stretches.
+pub(crate) fn rows_of<'a>(
+    alloc: Global,
+    stretches: VecDeque<Stretch<'a>>,
+) -> Result<Vec<TimedRow<'a>>, NoMemory>
+    ensures { IfOk result (λ rows. rows.items ≡ map (λ (s : OneStretch). s.row) stretches.entry.items) }
+{
+    let rows = stretches
+        .into_iter()
+        .map(|stretch| stretch.row)
+        .collect(alloc)?;
+    Ok(rows)
+}
