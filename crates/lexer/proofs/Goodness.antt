@@ -8,39 +8,26 @@ use Rattle.cond_expr.specs.declared.exprs.CmpOp.TheVariants.{Eq, Ne, Lt, Le, Gt,
 use Rattle.cond_expr.specs.Trees.{Tree, Test, column, constant, length_of, joined, choose as chosen, never, always, compared, all_of, some_of, fails, a_tree, a_test}
 use Rattle.cond_expr.specs.Seen.{trees_of, tests_of}
 use Rattle.lexer.specs.Lexemes.{Lexeme, word, number, text, sign, is_word, is_sign, is_name, is_int}
-use Rattle.lexer.specs.Parsing.{Size, nothing_counted, both, one_node, so_wide, Parser, Stops, Good, bind, bindG, pure, pureG, lead, leadG, nodeG, openG, Arm, No, Takes, Counts, choose, map_to, mapG, more, AreMore, nodes_more, optionG}
+use Rattle.lexer.specs.Parsing.{Size, nothing_counted, both, one_node, so_wide, Parser, Stops, Good, bind, bindG, pure, pureG, lead, leadG, nodeG, openG, Arm, No, Counts, choose, map_to, mapG, more, AreMore, nodes_more, no_end, fresh, freshG, optionG}
 use Rattle.lexer.specs.Grammar as g
 use Rattle.lexer.specs.Grammar.{spelled, leaf, IsExpr, AreParts, IsFact, AreFacts, IsConj, AreConjs, IsCond}
-use Rattle.lexer.specs.Reader.{Level, name, name_arm, ref_rest, sign_op, op_arm, bracket, opens, length_rest, concat_rest, case_rest, atom_arm, expr_arm, expr, comparison, bracketed, fact_arm, fact, facts, conj, conjs, cond as whole, nothing, made, level, outermost, goes_expr, goes_conj, goes_cond}
-use Rattle.lexer.proofs.Parsing.{true_false, ArmGood, Live, good_iff, bind_good, pure_good, map_good, lead_good, pick_open_good, option_node_good, option_takes_good, more_good, nodes_good, no_end, bind_more, side, choose_good, arm_if, counts_good, opens_good, bracket_good, whole_good, open_good, bind_lead, bind_option, both_none, last_size}
-use Rattle.lexer.proofs.Grammar.{word_exact, sign_exact, word_is, sign_is, CASE, WHEN, THEN, ELSE, END, LENGTH, CONCAT, AND, OR, NOT, TRUE, FALSE, OPEN, CLOSE, COMMA, POINT, nameG, aliasG, refG, insideLengthG, lengthG, insideConcatG, concatG, caseG, expr_inv, length_up, concat_up, case_up, some_name, not_name, length_down, concat_down, case_down, atom_down, expr_not_none, opG, rightG, cmpG, bracketG, notG, fact_inv, cmp_up, bracket_up, not_up, not_down, bracket_down, true_down, false_down, cmp_down, fact_not_none, fact_nodes, conj_nodes, facts_up, facts_down, conjs_up, conjs_down}
+use Rattle.lexer.specs.Constants.{name, nameG}
+use Rattle.lexer.specs.Reader.{Level, ref_rest, sign_op, op_arm, bracket, opens, length_rest, concat_rest, case_rest, atom_arm, expr_arm, expr, comparison, bracketed, fact_arm, fact, facts, conj, conjs, cond as whole, nothing, made, level, outermost, goes_expr, goes_conj, goes_cond}
+use Rattle.lexer.proofs.Parsing.{true_false, ArmGood, Live, good_iff, bind_good, pure_good, map_good, lead_good, pick_open_good, option_node_good, option_takes_good, more_good, nodes_good, bind_more, side, choose_good, arm_if, counts_good, opens_good, bracket_good, whole_good, open_good, bind_lead, bind_option, both_none, last_size}
+use Rattle.lexer.proofs.Fresh.{fresh_good}
+use Rattle.lexer.proofs.Singles.{name_good, name_is}
+use Rattle.lexer.proofs.Grammar.{word_exact, sign_exact, word_is, sign_is, CASE, WHEN, THEN, ELSE, END, LENGTH, CONCAT, AND, OR, NOT, TRUE, FALSE, OPEN, CLOSE, COMMA, POINT, aliasG, refG, insideLengthG, lengthG, insideConcatG, concatG, caseG, expr_inv, length_up, concat_up, case_up, not_name, length_down, concat_down, case_down, atom_down, expr_not_none, opG, rightG, cmpG, bracketG, notG, fact_inv, cmp_up, bracket_up, not_up, not_down, bracket_down, true_down, false_down, cmp_down, fact_not_none, fact_nodes, conj_nodes, facts_up, facts_down, conjs_up, conjs_down}
 
 -- ---- references and constants
 
 module _ (d : ℕ) where
-  pub name_good : (goes : Lexeme → Bool) → Good 0 d name nameG goes
-  unfolding name
-  name_good goes = choose_good 0 d name_arm nameG goes (codes "a", nothing_counted, word (codes "a") ∷ [], (some_name, (refl, refl, refl))) (λ e s h. h) arms
-    where
-      arms : (x : Lexeme) → ArmGood 0 d (name_arm x) x nameG goes
-      arms (word n) = arm_if 0 d (is_name n) (Takes (pure n)) No (word n) nameG goes
-          (λ e. good_iff 0 d (pure n) (pureG n) (λ t s l. nameG t s (word n ∷ l)) goes (λ t s l h. (e, h)) (λ t s l h. h.1) (pure_good 0 d n goes))
-          (λ e t s l h. not_name n e h.0)
-      arms (number z) = λ t s l h. h
-      arms (text z) = λ t s l h. h
-      arms (sign z) = λ t s l h. h
-
   ref_good : (q : Bool) (n : List ℕ) → Good 0 d (ref_rest q n) (refG q n) (goes_expr q)
   unfolding ref_rest
   ref_good false n = pure_good 0 d (column (Atom 0) n) (goes_expr false)
-  ref_good true n = option_takes_good (is_sign POINT) (sign POINT) (sign_is POINT) (sign_exact POINT) 0 d (map_to (λ m. column (Alias n) m) name) (column Free n) (aliasG n) (goes_expr true) (λ x e. ap (λ b. b && true) e) (map_good 0 d (λ m. column (Alias n) m) name nameG (goes_expr true) (name_good (goes_expr true)))
+  ref_good true n = option_takes_good (is_sign POINT) (sign POINT) (sign_is POINT) (sign_exact POINT) 0 d (map_to (λ m. column (Alias n) m) name) (column Free n) (aliasG n) (goes_expr true) (λ x e. ap (λ b. b && true) e) (map_good 0 d (λ m. column (Alias n) m) name nameG (goes_expr true) (name_good 0 d (goes_expr true)))
 
   alias_up : (a n : List ℕ) (s : Size) (m : List Lexeme) → is_name a ≡ true → nameG n s m → IsExpr true (column (Alias a) n) (one_node s) (word a ∷ sign POINT ∷ m)
-  alias_up a n s [] e h = absurd h
-  alias_up a n s (word k ∷ l) e h = rw (h.1.0, h.1.1, h.1.2) (g.of_alias a k e h.0)
-  alias_up a n s (number z ∷ l) e h = absurd h
-  alias_up a n s (text z ∷ l) e h = absurd h
-  alias_up a n s (sign z ∷ l) e h = absurd h
+  alias_up a n s m e h = let k = name_is h.0 n h.1 in rw (h.2, h.3, k.0) (g.of_alias a n e k.1)
 
   ref_up : (q : Bool) (n : List ℕ) → is_name n ≡ true → (t : Tree) (s : Size) (l : List Lexeme) → refG q n t s l → IsExpr q t (one_node s) (word n ∷ l)
   ref_up false n e t s l h = rw (h.0, h.1, h.2) (g.of_atom n e)
@@ -340,3 +327,10 @@ level_good q (suc d) = made_good q true (suc d) (level q d) (λ e. (d, refl, lev
 pub outermost_good : (q : Bool) → LevelGood q 32 (outermost q)
 unfolding outermost
 outermost_good q = level_good q 32
+
+-- with counts of its own
+pub fresh_expr_good : (q : Bool) (low : ℕ) → Good low 32 (fresh (outermost q).expr) (freshG (IsExpr q)) (goes_expr q)
+fresh_expr_good q low = fresh_good 32 (outermost q).expr (IsExpr q) low (goes_expr q) (outermost_good q).expr
+
+pub fresh_cond_good : (q : Bool) (low : ℕ) → Good low 32 (fresh (outermost q).cond) (freshG (IsCond q)) (goes_cond q)
+fresh_cond_good q low = fresh_good 32 (outermost q).cond (IsCond q) low (goes_cond q) (outermost_good q).cond

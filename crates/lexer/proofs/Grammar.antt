@@ -1,5 +1,5 @@
 -- The readers of expressions and conditions read their grammar.
-use Rattle.std.proofs.Common.{inl, inr, ◌⊎◌, ◌≡◌, ℕ, ◌+◌, ◌≤◌, Bool, true, false, List, [], ◌∷◌, ◌++◌, refl, sym, ap, ◌∙◌, arith, ◌||◌, codes}
+use Rattle.std.proofs.Common.{inl, inr, ◌⊎◌, ◌≡◌, ℕ, ◌+◌, ◌≤◌, Bool, true, false, cond, Some, None, List, [], ◌∷◌, ◌++◌, refl, sym, ap, ◌∙◌, arith, ◌||◌, codes}
 use Rattle.std.proofs.lemmas.Slice.Eq.{bytes_eq-Decides}
 use Rattle.prima_base.specs.declared.refusals.What.TheVariants as what
 use Rattle.prima_base.specs.declared.values.Value.TheVariants.{Int, Text}
@@ -8,10 +8,11 @@ use Rattle.cond_expr.specs.declared.exprs.CmpOp.{CmpOp}
 use Rattle.cond_expr.specs.Trees.{Tree, Test, column, constant, length_of, joined, choose as chosen, never, always, compared, fails, a_tree}
 use Rattle.cond_expr.specs.Seen.{trees_of}
 use Rattle.lexer.specs.Lexemes.{Lexeme, word, number, text, sign, is_word, is_sign, is_name, is_int}
-use Rattle.lexer.specs.Parsing.{Size, nothing_counted, both, one_node, one_open, so_wide, bindG, pureG, leadG, nodeG, openG, mapG, AreMore, optionG}
+use Rattle.lexer.specs.Parsing.{Size, nothing_counted, both, one_node, one_open, so_wide, bindG, pureG, leadG, nodeG, openG, mapG, AreMore, no_end, optionG}
+use Rattle.lexer.specs.Constants.{nameG}
 use Rattle.lexer.specs.Grammar as g
 use Rattle.lexer.specs.Grammar.{spelled, leaf, IsExpr, AreParts, IsFact, AreFacts, IsConj, AreConjs, IsCond}
-use Rattle.lexer.proofs.Parsing.{true_false, behind_down, no_end, both_none, last_size}
+use Rattle.lexer.proofs.Parsing.{true_false, behind_down, both_none, last_size}
 
 -- ---- words and signs
 
@@ -115,11 +116,6 @@ conjs_down q j l s ts (g.a_conj p c r u v f k h m) = (u, v, f, k, refl, refl, h,
 
 -- ---- the forms of an expression
 
-abbrev pub nameG : List ℕ → Size → List Lexeme → Type 0
-nameG n s [] = ⊥
-nameG n s (word m ∷ l) = (is_name m ≡ true) × pureG m n s l
-nameG n s (_ ∷ l) = ⊥
-
 abbrev pub aliasG : List ℕ → Tree → Size → List Lexeme → Type 0
 aliasG a = mapG (λ n. column (Alias a) n) nameG
 
@@ -157,7 +153,7 @@ expr_inv q e s ts (g.an_int p z h) = inr (inr (inr (h, (nothing_counted, refl, (
 expr_inv q e s ts (g.a_text p t) = inr (inr (inr (nothing_counted, refl, (refl, refl, refl))))
 expr_inv q e s ts (g.of_atom n h) = inr (inr (inr (h, (nothing_counted, refl, (refl, refl, refl)))))
 expr_inv q e s ts (g.of_free n h) = inr (inr (inr (h, (nothing_counted, refl, inl (refl, refl, refl)))))
-expr_inv q e s ts (g.of_alias a n h k) = inr (inr (inr (h, (nothing_counted, refl, inr (word n ∷ [], refl, (n, refl, (k, (refl, refl, refl))))))))
+expr_inv q e s ts (g.of_alias a n h k) = inr (inr (inr (h, (nothing_counted, refl, inr (word n ∷ [], refl, (n, refl, (word n, ap (λ b. cond b (Some n) None) k, refl, refl)))))))
 expr_inv q e s ts (g.a_length p x u f h) =
     inl (sign OPEN ∷ (f ++ sign CLOSE ∷ []), refl, (one_open u, refl, (f ++ sign CLOSE ∷ [], refl, (u, refl, (x, u, nothing_counted, f, sign CLOSE ∷ [], sym (both_none u), refl, h, ([], refl, (refl, refl, refl)))))))
 expr_inv q e s ts (g.a_concat p x l u v f k h m) =

@@ -1,10 +1,13 @@
 pub mod Steps
-pub mod Numbers
+pub mod Digits
 pub mod Once
 pub mod Whole
 pub mod Parsing
+pub mod Fresh
 pub mod Grammar
+pub mod Singles
 pub mod Goodness
 pub mod ReadSteps
 pub mod Places
 pub mod Slices
+pub mod ManySteps

@@ -6,27 +6,33 @@
 #![tactic(auto)]
 
 ghost use Rattle.std.specs.Prelude.{◌≡◌, ◌+◌, ◌≤◌, ◌<◌, ℕ, List, length, drop, take, IfOk, IfErr, None, Some};
-ghost use Rattle.lexer.specs.Lexed.{Lexes, Gives, LexesOnce, TokensInPlace};
+ghost use Rattle.lexer.specs.Lexed.{Lexes, Gives};
 
 use std::alloc::{AllocError, Global};
 
 mod atoms;
+mod constants;
 mod faults;
 mod kinds;
+mod laws;
+mod numbers;
 mod parse;
 mod pieces;
 mod reader;
 mod reading;
 mod token;
+mod words;
 
-pub use atoms::{is_name, name};
+pub use constants::{constant, int, literal, moment, name, names, natural, small};
 pub use faults::LexFault;
 pub use kinds::TokenKind;
+pub use laws::{constants_are_read, lexes_once, tokens_in_place, trees_are_read};
 pub use parse::{ParseFault, parse_cond, parse_expr};
 use pieces::{Piece, gap, piece_at};
-pub use reader::{outer_cond, outer_expr};
+pub use reader::{fresh_cond, fresh_expr, outer_cond, outer_expr};
 pub use reading::{Cursor, Stop};
 pub use token::Token;
+pub use words::is_name;
 
 /// The tokens of a statement of at most 1,048,576 bytes, from the left, or its first lexical fault.
 /// Between tokens stand blanks and comments alone, and each token is the longest that fits. Inside
@@ -57,16 +63,6 @@ pub fn tokens<'a>(alloc: Global, text: &'a [u8]) -> Result<Vec<Token<'a>>, LexFa
         }
     }
 }
-
-/// A text has one list of tokens, or one first fault.
-pub fn lexes_once()
-    ensures { LexesOnce }
-{}
-
-/// Each token is a slice of its text at its place, and they stand in order.
-pub fn tokens_in_place()
-    ensures { TokensInPlace }
-{}
 
 #[cfg(test)]
 mod tests;
