@@ -245,15 +245,15 @@ case_up q x s l h0 =
 pub not_name : (w : List ℕ) → is_name w ≡ false → is_name w ≡ true → ⊥
 not_name w e h = true_false (sym h ∙ e)
 
-length_no_name : is_name LENGTH ≡ false
+pub length_no_name : is_name LENGTH ≡ false
 unfolding is_name
 length_no_name = refl
 
-concat_no_name : is_name CONCAT ≡ false
+pub concat_no_name : is_name CONCAT ≡ false
 unfolding is_name
 concat_no_name = refl
 
-case_no_name : is_name CASE ≡ false
+pub case_no_name : is_name CASE ≡ false
 unfolding is_name
 case_no_name = refl
 
@@ -298,13 +298,13 @@ atom_down q e s x l e1 e2 e3 (inr (inr (inl h))) = clash (is_word CASE) x (word 
 atom_down q e s x l e1 e2 e3 (inr (inr (inr h))) = h
 
 -- what an expression begins with
-abbrev starts_atom : Lexeme → Bool
+abbrev pub starts_atom : Lexeme → Bool
 starts_atom (word n) = is_name n
 starts_atom (number z) = true
 starts_atom (text t) = true
 starts_atom (sign s) = false
 
-abbrev starts_expr : Lexeme → Bool
+abbrev pub starts_expr : Lexeme → Bool
 starts_expr x = is_word LENGTH x || (is_word CONCAT x || (is_word CASE x || starts_atom x))
 
 or_right : (a b : Bool) → b ≡ true → (a || b) ≡ true
@@ -314,7 +314,7 @@ or_right false b e = e
 starts_it : (x : Lexeme) → starts_atom x ≡ true → starts_expr x ≡ true
 starts_it x h = or_right (is_word LENGTH x) _ (or_right (is_word CONCAT x) _ (or_right (is_word CASE x) _ h))
 
-expr_some : (q : Bool) (e : Tree) (s : Size) (ts : List Lexeme) → IsExpr q e s ts → (x : Lexeme) × (l : List Lexeme) × (ts ≡ x ∷ l) × (starts_expr x ≡ true)
+pub expr_some : (q : Bool) (e : Tree) (s : Size) (ts : List Lexeme) → IsExpr q e s ts → (x : Lexeme) × (l : List Lexeme) × (ts ≡ x ∷ l) × (starts_expr x ≡ true)
 expr_some q e s ts (g.an_int p z h) = (_, _, refl, starts_it (number z) refl)
 expr_some q e s ts (g.a_text p t) = (_, _, refl, starts_it (text t) refl)
 expr_some q e s ts (g.of_atom n h) = (_, _, refl, starts_it (word n) h)
@@ -374,16 +374,16 @@ no_cmp q c s x l e h =
     let k = expr_some q h.0 h.1 h.3 h.7 in
     clash starts_expr x k.0 l (k.1 ++ h.4) e k.3 (h.6 ∙ ap (λ u. u ++ h.4) k.2)
 
-starts_not : starts_expr (word NOT) ≡ false
+pub starts_not : starts_expr (word NOT) ≡ false
 starts_not = not_no_name
 
-starts_true : starts_expr (word TRUE) ≡ false
+pub starts_true : starts_expr (word TRUE) ≡ false
 starts_true = true_no_name
 
-starts_false : starts_expr (word FALSE) ≡ false
+pub starts_false : starts_expr (word FALSE) ≡ false
 starts_false = false_no_name
 
-starts_open : starts_expr (sign OPEN) ≡ false
+pub starts_open : starts_expr (sign OPEN) ≡ false
 starts_open = refl
 
 pub not_down : (q : Bool) (c : Test) (s : Size) (l : List Lexeme) → factG q c s (word NOT ∷ l) → nodeG (openG (notG q)) c s l

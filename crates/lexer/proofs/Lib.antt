@@ -7,7 +7,12 @@ pub mod Fresh
 pub mod Grammar
 pub mod Singles
 pub mod Goodness
+pub mod Marked
+pub mod MarkSizes
 pub mod ReadSteps
+pub mod MarksRead
+pub mod MarksJoined
+pub mod Passed
 pub mod Places
 pub mod Slices
 pub mod ManySteps

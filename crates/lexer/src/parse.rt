@@ -1,14 +1,16 @@
 //! An expression or a condition from a list of tokens.
 
-ghost use Rattle.std.specs.Prelude.{◌≡◌, ◌++◌, ◌<◌, ◌≤◌, ◌+◌, List, length, take, drop};
+ghost use Rattle.std.specs.Prelude.{◌≡◌, ◌++◌, ◌<◌, ◌≤◌, ◌+◌, ◌∷◌, List, length, take, drop};
 ghost use Rattle.cond_expr.specs.Trees.{Tree, Test};
 ghost use Rattle.cond_expr.specs.Seen.{tree, test};
 ghost use Rattle.lexer.specs.Lexemes.{Lexeme};
 ghost use Rattle.lexer.specs.declared.reading.Stop.TheVariants as stop;
 ghost use Rattle.lexer.specs.Grammar.{IsExpr, IsCond};
+ghost use Rattle.lexer.specs.Marks.{FirstPassed, expr_marks, cond_marks};
 ghost use Rattle.lexer.specs.Parsing.{Size, Stops, limit};
+ghost use Rattle.prima_base.specs.declared.refusals.What.{What as Counted};
 ghost use Rattle.lexer.specs.Reader.{goes_expr, goes_cond, outermost};
-ghost use Rattle.lexer.specs.Found.{IsRead, Finds, IsFirstFault, Follows, FaultAt, lexemes_from};
+ghost use Rattle.lexer.specs.Found.{IsRead, Finds, IsFirstFault, IsTooMany, Follows, FaultAt, lexemes_from};
 
 use crate::reader::{outer_cond, outer_expr};
 use crate::{Cursor, Stop, Token};
@@ -76,13 +78,16 @@ pub fn parse_expr(
     qualified: bool,
 ) -> Result<(Expr, usize), ParseFault>
     requires { from ≤ length list.now }
-    // What is read is in the grammar.
+    // What is read is in the grammar, and nothing of it goes on with the token behind it.
     ensures read { IsRead tree (IsExpr qualified) list.now from result }
     // What is in the grammar, up to a token that it does not go on with, is read if it is within the limits, and else refused.
     ensures only { (e : Tree) (s : Size) (front rest : List Lexeme) → lexemes_from list.now from ≡ front ++ rest → IsExpr qualified e s front → Stops (goes_expr qualified) rest →
         Finds tree e s (from + length front) result }
-    // A fault is at the first token with which nothing of the grammar goes on, or only what is too much.
-    ensures fault { IsFirstFault (IsExpr qualified) list.now from result }
+    // A fault is at the first token with which nothing of the grammar goes on, or at which a count passes its limit.
+    ensures fault { IsFirstFault (IsExpr qualified) (expr_marks qualified) list.now from result }
+    // A front that passes a limit at its last token is refused there for this count, whatever stands behind it.
+    ensures over { (w : Counted) (front rest more : List Lexeme) (x : Lexeme) (e : Tree) (s : Size) (h : IsExpr qualified e s (front ++ x ∷ more)) → lexemes_from list.now from ≡ front ++ x ∷ rest →
+        FirstPassed w (expr_marks qualified e s (front ++ x ∷ more) h) (length front) → IsTooMany w result }
     ensures exact { Follows tree ((outermost qualified).expr 0 (lexemes_from list.now from)) list.now result }
 {
     let mut cursor = Cursor {
@@ -106,7 +111,9 @@ pub fn parse_cond(
     ensures read { IsRead test (IsCond qualified) list.now from result }
     ensures only { (c : Test) (s : Size) (front rest : List Lexeme) → lexemes_from list.now from ≡ front ++ rest → IsCond qualified c s front → Stops (goes_cond qualified) rest →
         Finds test c s (from + length front) result }
-    ensures fault { IsFirstFault (IsCond qualified) list.now from result }
+    ensures fault { IsFirstFault (IsCond qualified) (cond_marks qualified) list.now from result }
+    ensures over { (w : Counted) (front rest more : List Lexeme) (x : Lexeme) (c : Test) (s : Size) (h : IsCond qualified c s (front ++ x ∷ more)) → lexemes_from list.now from ≡ front ++ x ∷ rest →
+        FirstPassed w (cond_marks qualified c s (front ++ x ∷ more) h) (length front) → IsTooMany w result }
     ensures exact { Follows test ((outermost qualified).cond 0 (lexemes_from list.now from)) list.now result }
 {
     let mut cursor = Cursor {
