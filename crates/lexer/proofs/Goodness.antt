@@ -16,7 +16,7 @@ use Rattle.lexer.specs.Reader.{Level, ref_rest, sign_op, op_arm, bracket, opens,
 use Rattle.lexer.proofs.Parsing.{true_false, ArmGood, Live, good_iff, bind_good, pure_good, map_good, lead_good, pick_open_good, option_node_good, option_takes_good, more_good, nodes_good, bind_more, side, choose_good, arm_if, counts_good, opens_good, bracket_good, whole_good, open_good, bind_lead, bind_option, both_none, last_size}
 use Rattle.lexer.proofs.Fresh.{fresh_good}
 use Rattle.lexer.proofs.Singles.{name_good, name_is}
-use Rattle.lexer.proofs.Grammar.{word_exact, sign_exact, word_is, sign_is, CASE, WHEN, THEN, ELSE, END, LENGTH, CONCAT, AND, OR, NOT, TRUE, FALSE, OPEN, CLOSE, COMMA, POINT, aliasG, refG, insideLengthG, lengthG, insideConcatG, concatG, caseG, expr_inv, length_up, concat_up, case_up, not_name, length_down, concat_down, case_down, atom_down, expr_not_none, opG, rightG, cmpG, bracketG, notG, fact_inv, cmp_up, bracket_up, not_up, not_down, bracket_down, true_down, false_down, cmp_down, fact_not_none, fact_nodes, conj_nodes, facts_up, facts_down, conjs_up, conjs_down}
+use Rattle.lexer.proofs.Grammar.{word_exact, sign_exact, word_is, sign_is, CASE, WHEN, THEN, ELSE, END, LENGTH, CONCAT, AND, OR, NOT, TRUE, FALSE, OPEN, CLOSE, COMMA, POINT, aliasG, refG, insideLengthG, lengthG, insideConcatG, concatG, caseG, expr_inv, length_up, concat_up, case_up, not_name, length_down, concat_down, case_down, atom_down, expr_not_none, opG, rightG, cmpG, bracketG, notG, fact_inv, cmp_up, bracket_up, not_up, not_down, bracket_down, true_down, false_down, cmp_down, fact_not_none, fact_nodes, conj_nodes, andG, orG, conj_up, conj_down, cond_up, cond_down}
 
 -- ---- references and constants
 
@@ -258,59 +258,31 @@ module _ (q may : Bool) (d : ℕ) (inside : Level) (deep : may ≡ true → (e :
 
   -- ---- facts joined by AND, and those joined by OR
 
-  abbrev andG : Test → Test → Size → List Lexeme → Type 0
-  andG c = bindG (IsFact q) (λ e. mapG (λ l. all_of (a_test c (a_test e (tests_of l)))) (AreMore (word AND) no_end (IsFact q) 0))
-
-  abbrev orG : Test → Test → Size → List Lexeme → Type 0
-  orG c = bindG (IsConj q) (λ e. mapG (λ l. some_of (a_test c (a_test e (tests_of l)))) (AreMore (word OR) no_end (IsConj q) 0))
-
-  facts_good : (c : Test) → Good 0 d (facts q may inside c) (optionG c (word AND) (nodeG (andG c))) (goes_conj q)
+  facts_good : (c : Test) → Good 0 d (facts q may inside c) (optionG c (word AND) (nodeG (andG q c))) (goes_conj q)
   unfolding facts
-  facts_good c = option_node_good (is_word AND) (word AND) (word_is AND) (word_exact AND) 0 d _ c (andG c) (goes_conj q) (λ x e. ap (λ b. b || goes_expr q x) e)
+  facts_good c = option_node_good (is_word AND) (word AND) (word_is AND) (word_exact AND) 0 d _ c (andG q c) (goes_conj q) (λ x e. ap (λ b. b || goes_expr q x) e)
       (bind_more (is_word AND) (word AND) (word_is AND) (word_exact AND) d (fact q may inside) (IsFact q) (goes_expr q) fact_good refl no_end 0 0 (nodes_more (is_word AND) (fact q may inside)) (λ e l. all_of (a_test c (a_test e (tests_of l))))
       (nodes_good (is_word AND) (word AND) (word_is AND) (word_exact AND) d (fact q may inside) (IsFact q) (goes_expr q) fact_good refl (fact_nodes q) 0))
 
-  conj_up : (c : Test) (s : Size) (l : List Lexeme) → bindG (IsFact q) (λ e. optionG e (word AND) (nodeG (andG e))) c s l → IsConj q c s l
-  conj_up c s l h = by_tail h.8
-    where
-      by_tail : optionG h.0 (word AND) (nodeG (andG h.0)) c h.2 h.4 → IsConj q c s l
-      by_tail (inl k) = rw (last_size s h.1 h.2 h.5 k.1, h.6, k.0, k.2, append-nil h.3) (g.one_fact q h.0 h.1 h.3 h.7)
-      by_tail (inr k) = let k1 = k.2 in let k2 = k1.2 in let k3 = k2.8 in rw (h.5, k1.1, k2.5, h.6, k.1, k2.6, k3.1) (g.an_and q h.0 k2.0 k3.0 h.1 k2.1 k2.2 h.3 k2.3 k2.4 h.7 k2.7 (facts_up q 0 k3.0 k2.2 k2.4 k3.2))
-
-  conj_down : (c : Test) (s : Size) (l : List Lexeme) → IsConj q c s l → bindG (IsFact q) (λ e. optionG e (word AND) (nodeG (andG e))) c s l
-  conj_down c s l (g.one_fact p e u f h) = (e, u, nothing_counted, f, [], sym (both_none u), sym (append-nil f), h, inl (refl, refl, refl))
-  conj_down c s l (g.an_and p a e r u v w f k m ha hd hr) = (a, u, one_node (both v w), f, word AND ∷ (k ++ m), refl, refl, ha, inr (k ++ m, refl, (both v w, refl, (e, v, w, k, m, refl, refl, hd, (r, refl, facts_down p 0 r w m hr)))))
-
   pub conj_good : Good 0 d (conj q may inside) (IsConj q) (goes_conj q)
   unfolding conj
-  conj_good = good_iff 0 d _ _ (IsConj q) (goes_conj q) conj_up conj_down
-      (bind_option 0 d (fact q may inside) (facts q may inside) (IsFact q) (word AND) (λ e. nodeG (andG e)) (goes_expr q) (goes_conj q) refl (λ y h. or_off (is_word AND y) (goes_expr q y) h) fact_good facts_good)
+  conj_good = good_iff 0 d _ _ (IsConj q) (goes_conj q) (conj_up q) (conj_down q)
+      (bind_option 0 d (fact q may inside) (facts q may inside) (IsFact q) (word AND) (λ e. nodeG (andG q e)) (goes_expr q) (goes_conj q) refl (λ y h. or_off (is_word AND y) (goes_expr q y) h) fact_good facts_good)
     where
       or_off : (a b : Bool) → (a || b) ≡ false → b ≡ false
       or_off true b e = true_false e
       or_off false b e = e
 
-  conjs_good : (c : Test) → Good 0 d (conjs q may inside c) (optionG c (word OR) (nodeG (orG c))) (goes_cond q)
+  conjs_good : (c : Test) → Good 0 d (conjs q may inside c) (optionG c (word OR) (nodeG (orG q c))) (goes_cond q)
   unfolding conjs
-  conjs_good c = option_node_good (is_word OR) (word OR) (word_is OR) (word_exact OR) 0 d _ c (orG c) (goes_cond q) (λ x e. ap (λ b. b || goes_conj q x) e)
+  conjs_good c = option_node_good (is_word OR) (word OR) (word_is OR) (word_exact OR) 0 d _ c (orG q c) (goes_cond q) (λ x e. ap (λ b. b || goes_conj q x) e)
       (bind_more (is_word OR) (word OR) (word_is OR) (word_exact OR) d (conj q may inside) (IsConj q) (goes_conj q) conj_good refl no_end 0 0 (nodes_more (is_word OR) (conj q may inside)) (λ e l. some_of (a_test c (a_test e (tests_of l))))
       (nodes_good (is_word OR) (word OR) (word_is OR) (word_exact OR) d (conj q may inside) (IsConj q) (goes_conj q) conj_good refl (conj_nodes q) 0))
 
-  cond_up : (c : Test) (s : Size) (l : List Lexeme) → bindG (IsConj q) (λ e. optionG e (word OR) (nodeG (orG e))) c s l → IsCond q c s l
-  cond_up c s l h = by_tail h.8
-    where
-      by_tail : optionG h.0 (word OR) (nodeG (orG h.0)) c h.2 h.4 → IsCond q c s l
-      by_tail (inl k) = rw (last_size s h.1 h.2 h.5 k.1, h.6, k.0, k.2, append-nil h.3) (g.one_conj q h.0 h.1 h.3 h.7)
-      by_tail (inr k) = let k1 = k.2 in let k2 = k1.2 in let k3 = k2.8 in rw (h.5, k1.1, k2.5, h.6, k.1, k2.6, k3.1) (g.an_or q h.0 k2.0 k3.0 h.1 k2.1 k2.2 h.3 k2.3 k2.4 h.7 k2.7 (conjs_up q 0 k3.0 k2.2 k2.4 k3.2))
-
-  cond_down : (c : Test) (s : Size) (l : List Lexeme) → IsCond q c s l → bindG (IsConj q) (λ e. optionG e (word OR) (nodeG (orG e))) c s l
-  cond_down c s l (g.one_conj p e u f h) = (e, u, nothing_counted, f, [], sym (both_none u), sym (append-nil f), h, inl (refl, refl, refl))
-  cond_down c s l (g.an_or p a e r u v w f k m ha hd hr) = (a, u, one_node (both v w), f, word OR ∷ (k ++ m), refl, refl, ha, inr (k ++ m, refl, (both v w, refl, (e, v, w, k, m, refl, refl, hd, (r, refl, conjs_down p 0 r w m hr)))))
-
   pub cond_good : Good 0 d (whole q may inside) (IsCond q) (goes_cond q)
   unfolding whole
-  cond_good = good_iff 0 d _ _ (IsCond q) (goes_cond q) cond_up cond_down
-      (bind_option 0 d (conj q may inside) (conjs q may inside) (IsConj q) (word OR) (λ e. nodeG (orG e)) (goes_conj q) (goes_cond q) refl (λ y h. or_off (is_word OR y) (goes_conj q y) h) conj_good conjs_good)
+  cond_good = good_iff 0 d _ _ (IsCond q) (goes_cond q) (cond_up q) (cond_down q)
+      (bind_option 0 d (conj q may inside) (conjs q may inside) (IsConj q) (word OR) (λ e. nodeG (orG q e)) (goes_conj q) (goes_cond q) refl (λ y h. or_off (is_word OR y) (goes_conj q y) h) conj_good conjs_good)
     where
       or_off : (a b : Bool) → (a || b) ≡ false → b ≡ false
       or_off true b e = true_false e

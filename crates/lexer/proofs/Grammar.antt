@@ -1,12 +1,12 @@
 -- The readers of expressions and conditions read their grammar.
-use Rattle.std.proofs.Common.{inl, inr, ◌⊎◌, ◌≡◌, ℕ, ◌+◌, ◌≤◌, Bool, true, false, cond, Some, None, List, [], ◌∷◌, ◌++◌, refl, sym, ap, ◌∙◌, arith, ◌||◌, codes}
+use Rattle.std.proofs.Common.{inl, inr, ◌⊎◌, ◌≡◌, ℕ, ◌+◌, ◌≤◌, Bool, true, false, cond, Some, None, List, [], ◌∷◌, ◌++◌, refl, sym, ap, ◌∙◌, append-nil, arith, ◌||◌, codes}
 use Rattle.std.proofs.lemmas.Slice.Eq.{bytes_eq-Decides}
 use Rattle.prima_base.specs.declared.refusals.What.TheVariants as what
 use Rattle.prima_base.specs.declared.values.Value.TheVariants.{Int, Text}
 use Rattle.cond_expr.specs.declared.exprs.Whose.TheVariants.{Free, Alias, Atom}
 use Rattle.cond_expr.specs.declared.exprs.CmpOp.{CmpOp}
-use Rattle.cond_expr.specs.Trees.{Tree, Test, column, constant, length_of, joined, choose as chosen, never, always, compared, fails, a_tree}
-use Rattle.cond_expr.specs.Seen.{trees_of}
+use Rattle.cond_expr.specs.Trees.{Tree, Test, column, constant, length_of, joined, choose as chosen, never, always, compared, all_of, some_of, fails, a_tree, a_test}
+use Rattle.cond_expr.specs.Seen.{trees_of, tests_of}
 use Rattle.lexer.specs.Lexemes.{Lexeme, word, number, text, sign, is_word, is_sign, is_name, is_int}
 use Rattle.lexer.specs.Parsing.{Size, nothing_counted, both, one_node, one_open, so_wide, bindG, pureG, leadG, nodeG, openG, mapG, AreMore, no_end, optionG}
 use Rattle.lexer.specs.Constants.{nameG}
@@ -94,7 +94,7 @@ parts_up : (q : Bool) (j : ℕ) (l : List Tree) (s : Size) (ts : List Lexeme) �
 parts_up q j [] s ts h = rw (h.0, h.1) (g.no_part q j)
 parts_up q j (e ∷ l) s ts h = rw (h.4, h.5) (g.a_part q j e l h.0 h.1 h.2 h.3 h.6 (parts_up q (j + 1) l h.1 h.3 h.7))
 
-parts_down : (q : Bool) (j : ℕ) (l : List Tree) (s : Size) (ts : List Lexeme) → AreParts q j l s ts → AreMore (sign COMMA) (so_wide what.Parts) (IsExpr q) j l s ts
+pub parts_down : (q : Bool) (j : ℕ) (l : List Tree) (s : Size) (ts : List Lexeme) → AreParts q j l s ts → AreMore (sign COMMA) (so_wide what.Parts) (IsExpr q) j l s ts
 parts_down q j l s ts (g.no_part p i) = (refl, refl)
 parts_down q j l s ts (g.a_part p i e r u v f k h m) = (u, v, f, k, refl, refl, h, parts_down p (i + 1) r v k m)
 
@@ -427,6 +427,36 @@ fact_not_none q c s (inr (inl h)) = let e = h.1 in cc
 fact_not_none q c s (inr (inr (inl h))) = let e = h.1 in cc
 fact_not_none q c s (inr (inr (inr (inl h)))) = let e = h.1 in cc
 fact_not_none q c s (inr (inr (inr (inr h)))) = let k = expr_some q h.0 h.1 h.3 h.7 in let e : [] ≡ (k.0 ∷ k.1) ++ h.4 = h.6 ∙ ap (λ u. u ++ h.4) k.2 in cc
+
+-- ---- facts joined by AND, and those joined by OR
+
+abbrev pub andG : Bool → Test → Test → Size → List Lexeme → Type 0
+andG q c = bindG (IsFact q) (λ e. mapG (λ l. all_of (a_test c (a_test e (tests_of l)))) (AreMore (word AND) no_end (IsFact q) 0))
+
+abbrev pub orG : Bool → Test → Test → Size → List Lexeme → Type 0
+orG q c = bindG (IsConj q) (λ e. mapG (λ l. some_of (a_test c (a_test e (tests_of l)))) (AreMore (word OR) no_end (IsConj q) 0))
+
+pub conj_up : (q : Bool) (c : Test) (s : Size) (l : List Lexeme) → bindG (IsFact q) (λ e. optionG e (word AND) (nodeG (andG q e))) c s l → IsConj q c s l
+conj_up q c s l h = by_tail h.8
+  where
+    by_tail : optionG h.0 (word AND) (nodeG (andG q h.0)) c h.2 h.4 → IsConj q c s l
+    by_tail (inl k) = rw (last_size s h.1 h.2 h.5 k.1, h.6, k.0, k.2, append-nil h.3) (g.one_fact q h.0 h.1 h.3 h.7)
+    by_tail (inr k) = let k1 = k.2 in let k2 = k1.2 in let k3 = k2.8 in rw (h.5, k1.1, k2.5, h.6, k.1, k2.6, k3.1) (g.an_and q h.0 k2.0 k3.0 h.1 k2.1 k2.2 h.3 k2.3 k2.4 h.7 k2.7 (facts_up q 0 k3.0 k2.2 k2.4 k3.2))
+
+pub conj_down : (q : Bool) (c : Test) (s : Size) (l : List Lexeme) → IsConj q c s l → bindG (IsFact q) (λ e. optionG e (word AND) (nodeG (andG q e))) c s l
+conj_down q c s l (g.one_fact p e u f h) = (e, u, nothing_counted, f, [], sym (both_none u), sym (append-nil f), h, inl (refl, refl, refl))
+conj_down q c s l (g.an_and p a e r u v w f k m ha hd hr) = (a, u, one_node (both v w), f, word AND ∷ (k ++ m), refl, refl, ha, inr (k ++ m, refl, (both v w, refl, (e, v, w, k, m, refl, refl, hd, (r, refl, facts_down p 0 r w m hr)))))
+
+pub cond_up : (q : Bool) (c : Test) (s : Size) (l : List Lexeme) → bindG (IsConj q) (λ e. optionG e (word OR) (nodeG (orG q e))) c s l → IsCond q c s l
+cond_up q c s l h = by_tail h.8
+  where
+    by_tail : optionG h.0 (word OR) (nodeG (orG q h.0)) c h.2 h.4 → IsCond q c s l
+    by_tail (inl k) = rw (last_size s h.1 h.2 h.5 k.1, h.6, k.0, k.2, append-nil h.3) (g.one_conj q h.0 h.1 h.3 h.7)
+    by_tail (inr k) = let k1 = k.2 in let k2 = k1.2 in let k3 = k2.8 in rw (h.5, k1.1, k2.5, h.6, k.1, k2.6, k3.1) (g.an_or q h.0 k2.0 k3.0 h.1 k2.1 k2.2 h.3 k2.3 k2.4 h.7 k2.7 (conjs_up q 0 k3.0 k2.2 k2.4 k3.2))
+
+pub cond_down : (q : Bool) (c : Test) (s : Size) (l : List Lexeme) → IsCond q c s l → bindG (IsConj q) (λ e. optionG e (word OR) (nodeG (orG q e))) c s l
+cond_down q c s l (g.one_conj p e u f h) = (e, u, nothing_counted, f, [], sym (both_none u), sym (append-nil f), h, inl (refl, refl, refl))
+cond_down q c s l (g.an_or p a e r u v w f k m ha hd hr) = (a, u, one_node (both v w), f, word OR ∷ (k ++ m), refl, refl, ha, inr (k ++ m, refl, (both v w, refl, (e, v, w, k, m, refl, refl, hd, (r, refl, conjs_down p 0 r w m hr)))))
 
 -- ---- each has a node
 

@@ -14,5 +14,6 @@ pub mod MarksRead
 pub mod MarksJoined
 pub mod Passed
 pub mod Places
+pub mod Unambiguous
 pub mod Slices
 pub mod ManySteps

@@ -215,7 +215,7 @@ module _ (q : Bool) where
   text_read t d n h rest stops = ap (λ L. L.expr n (text t ∷ rest)) (level_is q d) ∙ sym (node_along d (constant (Text t)) n h [] (text t) rest)
 
   -- a name is no word of an expression
-  no_word : (w m : List ℕ) → is_name w ≡ false → is_name m ≡ true → is_word w (word m) ≡ false
+  pub no_word : (w m : List ℕ) → is_name w ≡ false → is_name m ≡ true → is_word w (word m) ≡ false
   no_word w m e f = by_test (is_word w (word m)) (λ t. let z : word m ≡ word w = word_exact w (word m) t in let y : m ≡ w = cc in true_false (sym f ∙ ap is_name y ∙ e)) (λ t. t)
 
   at_name : (m : List ℕ) → is_name m ≡ true → (d n : ℕ) (us : List Lexeme) → (level q d).expr n (word m ∷ us) ≡ cond (has_room n) (ref_rest q m (n + 1) us) (Over what.Nodes (word m ∷ us))
@@ -282,7 +282,7 @@ module _ (q : Bool) where
         ∙ sym (plain_along d c n h (ms ++ plain ∷ []) (sign OPEN) ((k ++ sign CLOSE ∷ []) ++ rest))
         ∙ sym (open_along d c n (plain ∷ (ms ++ plain ∷ [])) (sign OPEN ∷ ((k ++ sign CLOSE ∷ []) ++ rest)))
 
-  spelled_op : (o : CmpOp) → sign_op (spelled o) ≡ Some o
+  pub spelled_op : (o : CmpOp) → sign_op (spelled o) ≡ Some o
   spelled_op Eq = refl
   spelled_op Ne = refl
   spelled_op Lt = refl
@@ -290,7 +290,7 @@ module _ (q : Bool) where
   spelled_op Gt = refl
   spelled_op Ge = refl
 
-  no_point : (o : CmpOp) → goes_expr q (spelled o) ≡ false
+  pub no_point : (o : CmpOp) → goes_expr q (spelled o) ≡ false
   no_point Eq = refl
   no_point Ne = refl
   no_point Lt = refl

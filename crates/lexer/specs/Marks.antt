@@ -1,5 +1,5 @@
 -- What is counted at each token of an expression or a condition, and at which token a count first passes its limit.
-use Rattle.std.specs.Prelude.{◌≡◌, ℕ, suc, ◌+◌, ◌<◌, Bool, if◌then◌else◌, nat_lt, List, [], ◌∷◌, ◌++◌, map, take, get_or, Option, Some, None}
+use Rattle.std.specs.Prelude.{◌≡◌, ℕ, suc, ◌+◌, ◌<◌, Bool, if◌then◌else◌, nat_lt, List, [], ◌∷◌, ◌++◌, max, length, map, take, get_or, Option, Some, None}
 use Rattle.prima_base.specs.declared.refusals.What.{What}
 use Rattle.prima_base.specs.declared.refusals.What.TheVariants as what
 use Rattle.cond_expr.specs.Trees.{Tree, Test}
@@ -74,6 +74,15 @@ unfoldable mutual
 abbrev pub nodes_in : List Mark → ℕ
 nodes_in [] = 0
 nodes_in (m ∷ ms) = m.nodes + nodes_in ms
+
+-- the most constructs that are open at one token
+abbrev pub deepest : List Mark → ℕ
+deepest [] = 0
+deepest (m ∷ ms) = max m.depth (deepest ms)
+
+-- one mark for each lexeme, and together the size
+abbrev pub AddUp : List Mark → Size → List Lexeme → Type 0
+AddUp ms s f = (length ms ≡ length f) × (nodes_in ms ≡ s.nodes) × (deepest ms ≡ s.depth)
 
 -- with so many nodes up to this token, and constructs that may be opened: the first of its counts that passes its limit
 abbrev pub passed_by : ℕ → ℕ → Mark → Option What

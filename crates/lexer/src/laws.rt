@@ -1,11 +1,13 @@
 //! Laws of tokens and of readers. Each is proved and does nothing.
 
-ghost use Rattle.std.specs.Prelude.{ℕ, Bool, ◌||◌, false, codes};
+ghost use Rattle.std.specs.Prelude.{◌≡◌, ℕ, Bool, List, ◌||◌, false, codes};
+ghost use Rattle.cond_expr.specs.Trees.{Tree, Test};
 ghost use Rattle.lexer.specs.Lexed.{LexesOnce, TokensInPlace};
-ghost use Rattle.lexer.specs.Lexemes.{is_sign};
+ghost use Rattle.lexer.specs.Lexemes.{Lexeme, is_sign};
 ghost use Rattle.lexer.specs.Grammar.{IsExpr, IsCond};
 ghost use Rattle.lexer.specs.Reader.{outermost, goes_expr, goes_cond};
-ghost use Rattle.lexer.specs.Parsing.{Good, fresh, freshG};
+ghost use Rattle.lexer.specs.Marks.{AddUp, expr_marks, cond_marks};
+ghost use Rattle.lexer.specs.Parsing.{Size, Good, fresh, freshG};
 ghost use Rattle.lexer.specs.Constants as spec;
 
 /// A text has one list of tokens, or one first fault.
@@ -38,4 +40,16 @@ pub fn constants_are_read()
     ensures literal { (low d : ℕ) → Good low d spec.literal spec.literalG (λ x. false) }
     ensures constant { (low d : ℕ) → Good low d spec.constant spec.constantG (λ x. false) }
     ensures names { (d : ℕ) → Good 0 d spec.names spec.namesG (λ x. is_sign (codes ",") x || false) }
+{}
+
+/// A front of tokens that is in the grammar has one tree, of one size.
+pub fn trees_are_one()
+    ensures expr { (q : Bool) (a b : Tree) (s t : Size) (f : List Lexeme) → IsExpr q a s f → IsExpr q b t f → (a ≡ b) × (s ≡ t) }
+    ensures cond { (q : Bool) (a b : Test) (s t : Size) (f : List Lexeme) → IsCond q a s f → IsCond q b t f → (a ≡ b) × (s ≡ t) }
+{}
+
+/// What is counted at each token is together the size of the tree.
+pub fn marks_add_up()
+    ensures expr { (q : Bool) (e : Tree) (s : Size) (f : List Lexeme) (h : IsExpr q e s f) → AddUp (expr_marks q e s f h) s f }
+    ensures cond { (q : Bool) (c : Test) (s : Size) (f : List Lexeme) (h : IsCond q c s f) → AddUp (cond_marks q c s f h) s f }
 {}

@@ -26,7 +26,9 @@ mod words;
 pub use constants::{constant, int, literal, moment, name, names, natural, small};
 pub use faults::LexFault;
 pub use kinds::TokenKind;
-pub use laws::{constants_are_read, lexes_once, tokens_in_place, trees_are_read};
+pub use laws::{
+    constants_are_read, lexes_once, marks_add_up, tokens_in_place, trees_are_one, trees_are_read,
+};
 pub use parse::{ParseFault, parse_cond, parse_expr};
 use pieces::{Piece, gap, piece_at};
 pub use reader::{fresh_cond, fresh_expr, outer_cond, outer_expr};
