@@ -1,6 +1,8 @@
 pub mod Steps
 pub mod Digits
 pub mod Once
+pub mod Gaps
+pub mod Shapes
 pub mod Whole
 pub mod Parsing
 pub mod Fresh

@@ -3,6 +3,7 @@
 ghost use Rattle.std.specs.Prelude.{◌≡◌, ℕ, Bool, List, ◌||◌, false, codes};
 ghost use Rattle.cond_expr.specs.Trees.{Tree, Test};
 ghost use Rattle.lexer.specs.Lexed.{LexesOnce, TokensInPlace};
+ghost use Rattle.lexer.specs.Spaced.{TokensSpaced};
 ghost use Rattle.lexer.specs.Lexemes.{Lexeme, is_sign};
 ghost use Rattle.lexer.specs.Grammar.{IsExpr, IsCond};
 ghost use Rattle.lexer.specs.Reader.{outermost, goes_expr, goes_cond};
@@ -18,6 +19,12 @@ pub fn lexes_once()
 /// Each token is a slice of its text at its place, and they stand in order.
 pub fn tokens_in_place()
     ensures { TokensInPlace }
+{}
+
+/// Between tokens stand blanks and comments alone, each token has its kind's form, and what stands
+/// behind it does not continue it. Where there is no fault, nothing stands behind the last gap.
+pub fn tokens_are_spaced()
+    ensures { TokensSpaced }
 {}
 
 /// The readers of expressions and conditions, also with counts of their own, are good for their
