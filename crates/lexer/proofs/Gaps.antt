@@ -1,9 +1,9 @@
 -- Between tokens stand blanks and comments.
-use Rattle.std.proofs.Common.{◌≡◌, ℕ, zero, suc, ◌+◌, ◌-◌, Bool, true, false, cond, not, ◌&&◌, ◌==◌, eqb-true, List, [], ◌∷◌, ◌++◌, length, drop, refl, sym, ap, ◌∙◌, subst, append_assoc, append-nil, arith, length-append, ◌⊎◌, inl, inr}
+use Rattle.std.proofs.Common.{◌≡◌, ℕ, ◌+◌, Bool, true, false, cond, not, ◌&&◌, ◌==◌, eqb-true, List, [], ◌∷◌, ◌++◌, length, drop, refl, sym, ap, ◌∙◌, subst, append_assoc, append-nil, arith, length-append, ◌⊎◌, inl, inr}
 use Rattle.lexer.specs.Bytes.{is_blank, gap_len, gap_dash}
 use Rattle.lexer.specs.Spaced as s
 use Rattle.lexer.specs.Spaced.{Each, in_line, IsGap, GapEnds}
-use Rattle.lexer.proofs.Parsing.{true_false, by_test}
+use Rattle.lexer.proofs.Parsing.{by_test}
 
 -- a gap of these bytes, which ends m bytes behind a front n bytes before them
 abbrev Gapped : ℕ → List ℕ → ℕ → Type 0

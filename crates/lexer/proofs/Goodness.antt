@@ -1,5 +1,5 @@
 -- Each reader of expressions and conditions is good for its grammar.
-use Rattle.std.proofs.Common.{inl, inr, ◌≡◌, ℕ, zero, suc, pos, Bool, true, false, cond, List, [], ◌∷◌, ◌++◌, refl, sym, ap, ◌∙◌, subst, append_assoc, append-nil, ◌||◌, ◌&&◌, codes, Option, Some, None}
+use Rattle.std.proofs.Common.{inl, inr, ◌≡◌, ℕ, zero, suc, pos, Bool, true, false, cond, List, [], ◌∷◌, ◌++◌, refl, sym, ap, ◌∙◌, subst, append_assoc, ◌||◌, ◌&&◌, codes, Option, Some, None}
 use Rattle.prima_base.specs.declared.refusals.What.TheVariants as what
 use Rattle.prima_base.specs.declared.values.Value.TheVariants.{Int, Text}
 use Rattle.cond_expr.specs.declared.exprs.Whose.TheVariants.{Free, Alias, Atom}
@@ -8,12 +8,12 @@ use Rattle.cond_expr.specs.declared.exprs.CmpOp.TheVariants.{Eq, Ne, Lt, Le, Gt,
 use Rattle.cond_expr.specs.Trees.{Tree, Test, column, constant, length_of, joined, choose as chosen, never, always, compared, all_of, some_of, fails, a_tree, a_test}
 use Rattle.cond_expr.specs.Seen.{trees_of, tests_of}
 use Rattle.lexer.specs.Lexemes.{Lexeme, word, number, text, sign, is_word, is_sign, is_name, is_int}
-use Rattle.lexer.specs.Parsing.{Size, nothing_counted, both, one_node, so_wide, Parser, Stops, Good, bind, bindG, pure, pureG, lead, leadG, nodeG, openG, Arm, No, Counts, choose, map_to, mapG, more, AreMore, nodes_more, no_end, fresh, freshG, optionG}
+use Rattle.lexer.specs.Parsing.{Size, nothing_counted, both, one_node, so_wide, Parser, Stops, Good, bind, bindG, pure, pureG, lead, leadG, nodeG, openG, Arm, No, Counts, choose, map_to, more, AreMore, nodes_more, no_end, fresh, freshG, optionG}
 use Rattle.lexer.specs.Grammar as g
 use Rattle.lexer.specs.Grammar.{spelled, leaf, IsExpr, AreParts, IsFact, AreFacts, IsConj, AreConjs, IsCond}
 use Rattle.lexer.specs.Constants.{name, nameG}
 use Rattle.lexer.specs.Reader.{Level, ref_rest, sign_op, op_arm, bracket, opens, length_rest, concat_rest, case_rest, atom_arm, expr_arm, expr, comparison, bracketed, fact_arm, fact, facts, conj, conjs, cond as whole, nothing, made, level, outermost, goes_expr, goes_conj, goes_cond}
-use Rattle.lexer.proofs.Parsing.{true_false, ArmGood, Live, good_iff, bind_good, pure_good, map_good, lead_good, pick_open_good, option_node_good, option_takes_good, more_good, nodes_good, bind_more, side, choose_good, arm_if, counts_good, opens_good, bracket_good, whole_good, open_good, bind_lead, bind_option, both_none, last_size}
+use Rattle.lexer.proofs.Parsing.{true_false, ArmGood, Live, good_iff, bind_good, pure_good, map_good, lead_good, pick_open_good, option_node_good, option_takes_good, more_good, nodes_good, bind_more, side, choose_good, arm_if, counts_good, opens_good, bracket_good, whole_good, open_good, bind_lead, bind_option}
 use Rattle.lexer.proofs.Fresh.{fresh_good}
 use Rattle.lexer.proofs.Singles.{name_good, name_is}
 use Rattle.lexer.proofs.Grammar.{word_exact, sign_exact, word_is, sign_is, CASE, WHEN, THEN, ELSE, END, LENGTH, CONCAT, AND, OR, NOT, TRUE, FALSE, OPEN, CLOSE, COMMA, POINT, aliasG, refG, insideLengthG, lengthG, insideConcatG, concatG, caseG, expr_inv, length_up, concat_up, case_up, not_name, length_down, concat_down, case_down, atom_down, expr_not_none, opG, rightG, cmpG, bracketG, notG, fact_inv, cmp_up, bracket_up, not_up, not_down, bracket_down, true_down, false_down, cmp_down, fact_not_none, fact_nodes, conj_nodes, andG, orG, conj_up, conj_down, cond_up, cond_down}

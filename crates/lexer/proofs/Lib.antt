@@ -3,6 +3,7 @@ pub mod Digits
 pub mod Once
 pub mod Gaps
 pub mod Shapes
+pub mod Lawful
 pub mod Whole
 pub mod Parsing
 pub mod Fresh

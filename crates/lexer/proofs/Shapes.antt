@@ -1,5 +1,5 @@
 -- Each token has its kind's form, and what stands behind it does not continue it.
-use Rattle.std.proofs.Common.{◌≡◌, ℕ, zero, suc, ◌+◌, ◌≤◌, Bool, true, cond, ◌||◌, ◌&&◌, ◌==◌, eqb-true, nat_lt, get_or, List, [], ◌∷◌, ◌++◌, length, take, drop, false, refl, sym, ap, ◌∙◌, subst, append-nil, arith, length-append, ◌⊎◌, inl, inr, Option, None, Some}
+use Rattle.std.proofs.Common.{◌≡◌, ℕ, suc, ◌+◌, ◌≤◌, Bool, true, cond, ◌&&◌, ◌==◌, eqb-true, nat_lt, get_or, List, [], ◌∷◌, ◌++◌, length, take, drop, false, refl, sym, ap, ◌∙◌, subst, arith, inl, inr, Option, None, Some}
 use Rattle.std.specs.List.{prefix_len}
 use Rattle.std.proofs.lemmas.Bool.Decides.{nat_tests}
 use Rattle.prima_base.specs.Bytes.{is_control, is_digit, is_name_byte}
@@ -10,7 +10,7 @@ use Rattle.lexer.specs.declared.pieces.Piece.TheVariants.{End, Of, Bad, Open, Lo
 use Rattle.lexer.specs.declared.token.Token.{Token}
 use Rattle.lexer.specs.declared.faults.LexFault.{LexFault}
 use Rattle.lexer.specs.declared.faults.LexFault.TheVariants.{BadByte, OpenQuote, BigNumber, LongText}
-use Rattle.lexer.specs.Bytes.{is_word_start, digits_of, number, number_piece, is_big, text_value, text_from, text_quote, sized, sign, piece_of, piece, gap_len}
+use Rattle.lexer.specs.Bytes.{is_word_start, digits_of, number, number_piece, is_big, text_value, text_from, sized, sign, piece_of, piece, gap_len}
 use Rattle.lexer.specs.Lexed.{Lexes, EndsBy, behind_gap}
 use Rattle.lexer.specs.Spaced as s
 use Rattle.lexer.specs.Spaced.{Each, NoneNext, IsGap, GapEnds, is_quote, IsLiteral, are_sign, is_one_sign, IsToken, Spaced}

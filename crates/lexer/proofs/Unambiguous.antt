@@ -1,5 +1,5 @@
 -- What is in the grammar has one tree and one size, and one end in a list that goes on.
-use Rattle.std.proofs.Common.{inl, inr, ◌≡◌, ℕ, ℤ, suc, ◌+◌, Bool, true, false, cond, ◌||◌, ◌&&◌, Option, Some, None, List, [], ◌∷◌, ◌++◌, codes, refl, sym, ap, ◌∙◌, subst, append_assoc, append-nil}
+use Rattle.std.proofs.Common.{inl, inr, ◌≡◌, ℕ, ℤ, ◌+◌, Bool, true, false, cond, ◌||◌, Some, None, List, [], ◌∷◌, ◌++◌, refl, sym, ap, ◌∙◌, subst, append_assoc, append-nil}
 use Rattle.prima_base.specs.declared.refusals.What.TheVariants as what
 use Rattle.prima_base.specs.declared.values.Value.TheVariants.{Int, Text}
 use Rattle.cond_expr.specs.declared.exprs.Whose.TheVariants.{Free, Alias, Atom}
@@ -7,14 +7,14 @@ use Rattle.cond_expr.specs.declared.exprs.CmpOp.{CmpOp}
 use Rattle.cond_expr.specs.Trees.{Tree, Test, column, constant, length_of, joined, choose as chosen, never, always, compared, all_of, some_of, fails, a_tree, a_test}
 use Rattle.cond_expr.specs.Seen.{trees_of, tests_of}
 use Rattle.lexer.specs.Lexemes.{Lexeme, word, number, text, sign, is_word, is_sign, is_name}
-use Rattle.lexer.specs.Parsing.{Size, nothing_counted, both, one_node, one_open, so_wide, Stops, bindG, pureG, mapG, leadG, nodeG, openG, optionG, AreMore, no_end, singleG}
+use Rattle.lexer.specs.Parsing.{Size, nothing_counted, both, one_node, one_open, so_wide, Stops, bindG, pureG, mapG, leadG, nodeG, openG, optionG, AreMore, no_end}
 use Rattle.lexer.specs.Constants.{as_name, nameG}
 use Rattle.lexer.specs.Grammar as g
 use Rattle.lexer.specs.Grammar.{spelled, leaf, IsExpr, AreParts, IsFact, AreFacts, IsConj, AreConjs, IsCond}
 use Rattle.lexer.specs.Reader.{sign_op, goes_expr, goes_conj, goes_cond}
 use Rattle.lexer.proofs.Parsing.{true_false, by_test, both_none}
 use Rattle.lexer.proofs.MarksRead.{no_word, spelled_op, no_point}
-use Rattle.lexer.proofs.Grammar.{word_is, sign_is, word_exact, sign_exact, CASE, WHEN, THEN, ELSE, END, LENGTH, CONCAT, AND, OR, NOT, TRUE, FALSE, OPEN, CLOSE, COMMA, POINT, parts_down, aliasG, refG, insideLengthG, lengthG, insideConcatG, concatG, caseG, expr_inv, length_down, concat_down, case_down, atom_down, expr_not_none, expr_some, starts_expr, starts_not, starts_true, starts_false, starts_open, length_no_name, concat_no_name, case_no_name, opG, rightG, cmpG, bracketG, notG, fact_inv, not_down, bracket_down, true_down, false_down, cmp_down, fact_not_none, andG, orG, conj_down, cond_down, facts_down, conjs_down}
+use Rattle.lexer.proofs.Grammar.{word_is, sign_is, word_exact, sign_exact, CASE, WHEN, THEN, ELSE, END, LENGTH, CONCAT, AND, OR, NOT, TRUE, FALSE, OPEN, CLOSE, COMMA, POINT, parts_down, aliasG, refG, insideLengthG, lengthG, insideConcatG, concatG, caseG, expr_inv, length_down, concat_down, case_down, atom_down, expr_not_none, expr_some, starts_expr, starts_not, starts_true, starts_false, starts_open, length_no_name, concat_no_name, case_no_name, opG, rightG, cmpG, bracketG, notG, fact_inv, not_down, bracket_down, true_down, false_down, cmp_down, fact_not_none, conj_down, cond_down, facts_down, conjs_down}
 
 -- whatever else is read at the same place is this
 abbrev pub Only : {A : Type 0} → (A → Size → List Lexeme → Type 0) → (Lexeme → Bool) → A → Size → List Lexeme → Type 0

@@ -1,5 +1,5 @@
 -- The parts of a text in words of their own: gaps of blanks and comments, and tokens that are as long as can be.
-use Rattle.std.specs.Prelude.{◌≡◌, ℕ, ◌+◌, ◌≤◌, Bool, true, false, not, ◌||◌, ◌&&◌, ◌==◌, List, [], ◌∷◌, ◌++◌, length, Option, None, ◌⊎◌}
+use Rattle.std.specs.Prelude.{◌≡◌, ℕ, ◌≤◌, Bool, true, false, not, ◌||◌, ◌&&◌, ◌==◌, List, [], ◌∷◌, ◌++◌, length, Option, None, ◌⊎◌}
 use Rattle.prima_base.specs.Bytes.{is_control, is_digit, is_name_byte}
 use Rattle.lexer.specs.declared.kinds.TokenKind.{TokenKind}
 use Rattle.lexer.specs.declared.kinds.TokenKind.TheVariants.{Word, Number, Text, Sign}

@@ -5,7 +5,7 @@ ghost use Rattle.std.specs.Option.{option_map};
 ghost use Rattle.prima_base.specs.declared.refusals.What.TheVariants as what;
 ghost use Rattle.cond_expr.specs.Seen.{tree, test};
 ghost use Rattle.cond_expr.specs.Trees.{constant, always, never};
-ghost use Rattle.prima_base.specs.declared.values.Value.TheVariants.{Text};
+ghost use Rattle.prima_base.specs.Bytes.{IsName};
 ghost use Rattle.lexer.specs.Lexemes.{is_word, is_sign, integer, signed, is_name, is_one_of, reserved};
 ghost use Rattle.lexer.specs.Bytes.{text_value};
 ghost use Rattle.lexer.specs.Reads.{Reads, ReadsMore, ahead, sees, in_range, first_op};
@@ -66,6 +66,7 @@ fn reference(
     first: &[u8],
     qualified: bool,
 ) -> Result<Expr, Stop>
+    requires { IsName first.now }
     ensures { Reads tree (spec.ref_rest qualified first.now c.old.nodes (ahead c.old)) result c.new }
 {
     let first = name_of(alloc, first)?;
@@ -90,6 +91,7 @@ fn reference(
 }
 
 /// A constant or a reference.
+#[tactic(auto, using(crate::proofs::Lawful::named))]
 pub fn atom(alloc: Global, c: &mut Cursor<'_, '_>, qualified: bool) -> Result<Expr, Stop>
     ensures { Reads tree (parsing.choose (spec.atom_arm qualified true spec.nothing) c.old.nodes (ahead c.old)) result c.new }
 {

@@ -1,7 +1,10 @@
 //! Reading of names and constants, where a statement has them: each is one token.
 
 ghost use Rattle.std.specs.Prelude.{◌≡◌, ◌+◌, ◌≤◌, ◌<◌, length, drop, map, IfOk, IfErr, codes};
-ghost use Rattle.lexer.specs.Bytes.{text_value};
+ghost use Rattle.prima_base.specs.Bytes.{IsName, IsTxt};
+ghost use Rattle.lexer.specs.declared.kinds.TokenKind.TheVariants as kind;
+ghost use Rattle.lexer.specs.declared.pieces.Piece.TheVariants.{Of};
+ghost use Rattle.lexer.specs.Bytes.{text_value, piece};
 ghost use Rattle.lexer.specs.Lexemes.{is_sign};
 ghost use Rattle.lexer.specs.Reads.{Reads, ReadsMore, ahead};
 ghost use Rattle.lexer.specs.Constants as spec;
@@ -10,7 +13,7 @@ ghost use Rattle.lexer.specs.declared.reading.Stop.TheVariants as stop;
 use crate::numbers::{int_value, natural_value};
 use crate::words::is_name;
 use crate::{Cursor, Stop, TokenKind};
-use prima_base::{FOREVER, Name, Txt, Value};
+use prima_base::{FOREVER, Name, NameFault, Txt, TxtFault, Value};
 use std::alloc::Global;
 
 // The bytes that a text literal stands for, from behind its opening quote on.
@@ -35,34 +38,45 @@ fn undoubled(alloc: Global, bytes: &[u8]) -> Result<Vec<u8>, Stop>
     Ok(out)
 }
 
-// The bytes are a name's, so only memory can be missing.
+/// The name of these bytes. Only memory can be missing.
 pub fn name_of(alloc: Global, text: &[u8]) -> Result<Name, Stop>
+    requires { IsName text.now }
     ensures ok { IfOk result (λ n. n ≡ text.now) }
     ensures err { IfErr result (λ e. e ≡ stop.NoMemory) }
 {
     match Name::new(alloc, text) {
         Ok(name) => Ok(name),
-        Err(_) => Err(Stop::NoMemory),
+        Err(NameFault::NoMemory) => Err(Stop::NoMemory),
+        Err(_) => unreachable!(),
     }
 }
 
-// A literal token's bytes stand for a text, so only memory can be missing.
+// The text of these bytes. Only memory can be missing.
+fn lawful_text(alloc: Global, bytes: &[u8]) -> Result<Txt, Stop>
+    requires { IsTxt bytes.now }
+    ensures ok { IfOk result (λ t. t ≡ bytes.now) }
+    ensures err { IfErr result (λ e. e ≡ stop.NoMemory) }
+{
+    match Txt::new(alloc, bytes) {
+        Ok(text) => Ok(text),
+        Err(TxtFault::NoMemory) => Err(Stop::NoMemory),
+        Err(_) => unreachable!(),
+    }
+}
+
+/// The text that a whole literal stands for. Only memory can be missing.
+#[tactic(auto, using(crate::proofs::Lawful::texted))]
 pub fn text_of(alloc: Global, literal: &[u8]) -> Result<Txt, Stop>
+    requires { piece literal.now ≡ Of kind.Text (length literal.now) }
     ensures ok { IfOk result (λ t. t ≡ text_value (drop 1 literal.now)) }
     ensures err { IfErr result (λ e. e ≡ stop.NoMemory) }
 {
-    if literal.is_empty() {
-        return Err(Stop::NoMemory);
-    }
     let bytes = undoubled(alloc, &literal[1..])?;
-    match Txt::new(alloc, &bytes) {
-        Ok(text) => Ok(text),
-        Err(_) => Err(Stop::NoMemory),
-    }
+    lawful_text(alloc, &bytes)
 }
 
 /// A name: a word of at most 63 bytes that is not reserved.
-#[tactic(auto, unfolding(crate::specs::Constants::name))]
+#[tactic(auto, unfolding(crate::specs::Constants::name), using(crate::proofs::Lawful::named))]
 pub fn name(alloc: Global, c: &mut Cursor<'_, '_>) -> Result<Name, Stop>
     ensures { Reads (λ n. n) (spec.name c.old.nodes (ahead c.old)) result c.new }
 {
