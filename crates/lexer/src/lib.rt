@@ -68,4 +68,12 @@ pub fn tokens<'a>(alloc: Global, text: &'a [u8]) -> Result<Vec<Token<'a>>, LexFa
 }
 
 #[cfg(test)]
-mod tests;
+mod limit_tests;
+#[cfg(test)]
+mod reader_tests;
+#[cfg(test)]
+mod shown;
+#[cfg(test)]
+mod token_tests;
+#[cfg(test)]
+mod tree_tests;
