@@ -127,11 +127,11 @@ drop_front [] rest = refl
 drop_front (x ∷ front) rest = drop_front front rest
 
 -- what stands before the next token, and behind it
-pub gap_is : (bytes : List ℕ) → (gap : List ℕ) × (bytes ≡ gap ++ drop (gap_len false 0 bytes) bytes) × IsGap gap (drop (gap_len false 0 bytes) bytes) × GapEnds (drop (gap_len false 0 bytes) bytes)
+pub gap_is : (bytes : List ℕ) → (gap : List ℕ) × (bytes ≡ gap ++ drop (gap_len false 0 bytes) bytes) × IsGap gap (drop (gap_len false 0 bytes) bytes) × GapEnds (drop (gap_len false 0 bytes) bytes) × (gap_len false 0 bytes ≡ length gap)
 gap_is bytes =
     let h = outside 0 bytes in
     let len : gap_len false 0 bytes ≡ length h.0 = omega (arith, h.3) in
     let rest : h.1 ≡ drop (gap_len false 0 bytes) bytes = sym (ap (λ k. drop k bytes) len ∙ ap (drop (length h.0)) h.2 ∙ drop_front h.0 h.1) in
     let P : List ℕ → Type 0 = λ l. IsGap h.0 l in
     let Q : List ℕ → Type 0 = λ l. GapEnds l in
-    (h.0, h.2 ∙ ap (λ l. h.0 ++ l) rest, subst P rest h.4, subst Q rest h.5)
+    (h.0, h.2 ∙ ap (λ l. h.0 ++ l) rest, subst P rest h.4, subst Q rest h.5, len)

@@ -1,5 +1,5 @@
 -- Each token has its kind's form, and what stands behind it does not continue it.
-use Rattle.std.proofs.Common.{◌≡◌, ℕ, suc, ◌+◌, ◌≤◌, Bool, true, cond, ◌&&◌, ◌==◌, eqb-true, nat_lt, get_or, List, [], ◌∷◌, ◌++◌, length, take, drop, false, refl, sym, ap, ◌∙◌, subst, arith, inl, inr, Option, None, Some}
+use Rattle.std.proofs.Common.{◌≡◌, ℕ, suc, ◌+◌, ◌<◌, ◌≤◌, Bool, true, cond, ◌&&◌, ◌==◌, eqb-true, nat_lt, get_or, List, [], ◌∷◌, ◌++◌, length, take, drop, false, refl, sym, ap, ◌∙◌, subst, arith, inl, inr, Option, None, Some}
 use Rattle.std.specs.List.{prefix_len}
 use Rattle.std.proofs.lemmas.Bool.Decides.{nat_tests}
 use Rattle.prima_base.specs.Bytes.{is_control, is_digit, is_name_byte}
@@ -13,7 +13,7 @@ use Rattle.lexer.specs.declared.faults.LexFault.TheVariants.{BadByte, OpenQuote,
 use Rattle.lexer.specs.Bytes.{is_word_start, digits_of, number, number_piece, is_big, text_value, text_from, sized, sign, piece_of, piece, gap_len}
 use Rattle.lexer.specs.Lexed.{Lexes, EndsBy, behind_gap}
 use Rattle.lexer.specs.Spaced as s
-use Rattle.lexer.specs.Spaced.{Each, NoneNext, IsGap, GapEnds, is_quote, IsLiteral, are_sign, is_one_sign, IsToken, Spaced}
+use Rattle.lexer.specs.Spaced.{Each, NoneNext, IsGap, GapEnds, is_quote, IsLiteral, are_sign, is_one_sign, IsToken, IsOpen, BeginsNothing, IsFault, EndsSo, Spaced}
 use Rattle.lexer.proofs.Parsing.{true_false, by_test}
 use Rattle.lexer.proofs.Whole.{len_of, is_of, at_word, at_digit, at_quote, at_minus, at_sign, quote_step, plain_step, bad_step, open_step, last_step, doubled_step, closed_step, value_plain, value_doubled, value_closed, value_last, sized_of, and_left, and_right}
 use Rattle.lexer.proofs.Gaps.{gap_is}
@@ -121,20 +121,59 @@ doubles k b c bytes kind n q r h =
       h.5,
     )
 
-literal : (k : ℕ) (bytes : List ℕ) (kind : TokenKind) (n : ℕ) → text_from k bytes ≡ Of kind n → Literal k bytes kind n
-literal k [] kind n e = true_false (sym (ap is_of (sym (open_step k) ∙ e)))
-literal k (b ∷ []) kind n e = by_test (b == 39)
-    (λ q. closes k b [] kind n q (value_last b q) tt (sym (last_step k) ∙ sym (quote_step k b [] q) ∙ e))
+-- how what stands behind so many bytes of a literal ends
+abbrev TextEnds : ℕ → List ℕ → Piece → Type 0
+TextEnds k bytes (Of kind n) = Literal k bytes kind n
+TextEnds k bytes (Bad n) = (inner : List ℕ) × (c : ℕ) × (more : List ℕ) × (bytes ≡ inner ++ c ∷ more) × IsOpen inner × (is_control c ≡ true) × (n ≡ k + length inner)
+TextEnds k bytes Open = IsOpen bytes
+TextEnds k bytes _ = ⊥
+
+quote_open : (b : ℕ) (bytes : List ℕ) → (b == 39) ≡ true → IsOpen (39 ∷ bytes) → IsOpen (b ∷ bytes)
+quote_open b bytes e h = let P : ℕ → Type 0 = λ x. IsOpen (x ∷ bytes) in subst P (sym (eqb-true b 39 e)) h
+
+two_quotes : (b c : ℕ) (bytes : List ℕ) → (b == 39) ≡ true → (c == 39) ≡ true → IsOpen bytes → IsOpen (b ∷ c ∷ bytes)
+two_quotes b c bytes q r h = let P : ℕ → Type 0 = λ x. IsOpen (39 ∷ x ∷ bytes) in quote_open b (c ∷ bytes) q (subst P (sym (eqb-true c 39 r)) (s.a_quote_more bytes h))
+
+ends_on : (k b : ℕ) (bytes : List ℕ) (p : Piece) → (b == 39) ≡ false → is_control b ≡ false → TextEnds (k + 1) bytes p → TextEnds k (b ∷ bytes) p
+ends_on k b bytes (Of kind n) q c h = goes_on k b bytes kind n q c h
+ends_on k b bytes (Bad n) q c h = (b ∷ h.0, h.1, h.2, ap (λ l. b ∷ l) h.3, s.a_byte_more b h.0 q c h.4, h.5, omega (arith, h.6))
+ends_on k b bytes Open q c h = s.a_byte_more b bytes q c h
+ends_on k b bytes End q c h = h
+ends_on k b bytes Long q c h = h
+ends_on k b bytes Big q c h = h
+
+ends_doubled : (k b c : ℕ) (bytes : List ℕ) (p : Piece) → (b == 39) ≡ true → (c == 39) ≡ true → TextEnds (k + 2) bytes p → TextEnds k (b ∷ c ∷ bytes) p
+ends_doubled k b c bytes (Of kind n) q r h = doubles k b c bytes kind n q r h
+ends_doubled k b c bytes (Bad n) q r h = (b ∷ c ∷ h.0, h.1, h.2, ap (λ l. b ∷ c ∷ l) h.3, two_quotes b c h.0 q r h.4, h.5, omega (arith, h.6))
+ends_doubled k b c bytes Open q r h = two_quotes b c bytes q r h
+ends_doubled k b c bytes End q r h = h
+ends_doubled k b c bytes Long q r h = h
+ends_doubled k b c bytes Big q r h = h
+
+ends_as : (k : ℕ) (bytes : List ℕ) (p r : Piece) → p ≡ r → TextEnds k bytes r → TextEnds k bytes p
+ends_as k bytes p r e h = let P : Piece → Type 0 = λ x. TextEnds k bytes x in subst P (sym e) h
+
+-- a control byte ends it
+stops_at : (k b : ℕ) (bytes : List ℕ) → is_control b ≡ true → TextEnds k (b ∷ bytes) (Bad k)
+stops_at k b bytes c = ([], b, bytes, refl, s.opened, c, omega arith)
+
+text_ends : (k : ℕ) (bytes : List ℕ) → TextEnds k bytes (text_from k bytes)
+text_ends k [] = ends_as k [] (text_from k []) Open (open_step k) s.opened
+text_ends k (b ∷ []) = by_test (b == 39)
+    (λ q. ends_as k (b ∷ []) (text_from k (b ∷ [])) (Of Text (k + 1)) (quote_step k b [] q ∙ last_step k) (closes k b [] Text (k + 1) q (value_last b q) tt refl))
     (λ q. by_test (is_control b)
-    (λ c. true_false (sym (ap is_of (sym (bad_step k b [] q c) ∙ e))))
-    (λ c. true_false (sym (ap is_of (sym (open_step (k + 1)) ∙ sym (plain_step k b [] q c) ∙ e)))))
-literal k (b ∷ c ∷ bytes) kind n e = by_test (b == 39)
+    (λ c. ends_as k (b ∷ []) (text_from k (b ∷ [])) (Bad k) (bad_step k b [] q c) (stops_at k b [] c))
+    (λ c. ends_as k (b ∷ []) (text_from k (b ∷ [])) Open (plain_step k b [] q c ∙ open_step (k + 1)) (s.a_byte_more b [] q c s.opened)))
+text_ends k (b ∷ c ∷ bytes) = by_test (b == 39)
     (λ q. by_test (c == 39)
-    (λ r. doubles k b c bytes kind n q r (literal (k + 2) bytes kind n (sym (doubled_step k c bytes r) ∙ sym (quote_step k b (c ∷ bytes) q) ∙ e)))
-    (λ r. closes k b (c ∷ bytes) kind n q (value_closed b c bytes q r) r (sym (closed_step k c bytes r) ∙ sym (quote_step k b (c ∷ bytes) q) ∙ e)))
+    (λ r. ends_as k (b ∷ c ∷ bytes) (text_from k (b ∷ c ∷ bytes)) (text_from (k + 2) bytes) (quote_step k b (c ∷ bytes) q ∙ doubled_step k c bytes r) (ends_doubled k b c bytes (text_from (k + 2) bytes) q r (text_ends (k + 2) bytes)))
+    (λ r. ends_as k (b ∷ c ∷ bytes) (text_from k (b ∷ c ∷ bytes)) (Of Text (k + 1)) (quote_step k b (c ∷ bytes) q ∙ closed_step k c bytes r) (closes k b (c ∷ bytes) Text (k + 1) q (value_closed b c bytes q r) r refl)))
     (λ q. by_test (is_control b)
-    (λ f. true_false (sym (ap is_of (sym (bad_step k b (c ∷ bytes) q f) ∙ e))))
-    (λ f. goes_on k b (c ∷ bytes) kind n q f (literal (k + 1) (c ∷ bytes) kind n (sym (plain_step k b (c ∷ bytes) q f) ∙ e))))
+    (λ f. ends_as k (b ∷ c ∷ bytes) (text_from k (b ∷ c ∷ bytes)) (Bad k) (bad_step k b (c ∷ bytes) q f) (stops_at k b (c ∷ bytes) f))
+    (λ f. ends_as k (b ∷ c ∷ bytes) (text_from k (b ∷ c ∷ bytes)) (text_from (k + 1) (c ∷ bytes)) (plain_step k b (c ∷ bytes) q f) (ends_on k b (c ∷ bytes) (text_from (k + 1) (c ∷ bytes)) q f (text_ends (k + 1) (c ∷ bytes)))))
+
+literal : (k : ℕ) (bytes : List ℕ) (kind : TokenKind) (n : ℕ) → text_from k bytes ≡ Of kind n → Literal k bytes kind n
+literal k bytes kind n e = let P : Piece → Type 0 = λ x. TextEnds k bytes x in subst P e (text_ends k bytes)
 
 short_enough : (n : ℕ) → nat_lt 4096 n ≡ false → n ≤ 4096
 short_enough n e = grind (arith, nat_tests)
@@ -187,7 +226,7 @@ shape (b ∷ bytes) kind n e =
     by_test (b == 45 && is_digit (get_or bytes 0 0)) (λ m. minus_shape b bytes kind n m (sym (at_minus b bytes w d q m) ∙ e)) (λ m.
     sign_shape b bytes kind n (sym (at_sign b bytes w d q m) ∙ e)))))
 
--- ---- a whole text
+-- ---- fronts
 
 take_front : (front rest : List ℕ) → take (length front) (front ++ rest) ≡ front
 take_front [] rest = refl
@@ -197,64 +236,110 @@ drop_front : (front rest : List ℕ) → drop (length front) (front ++ rest) ≡
 drop_front [] rest = refl
 drop_front (x ∷ front) rest = drop_front front rest
 
--- ---- a byte is never the end
+-- ---- faults
 
-abbrev is_end : Piece → Bool
-is_end End = true
-is_end _ = false
+-- what ends the tokens where a piece is none
+by_none : (at : ℕ) (bytes : List ℕ) (e : Option LexFault) → e ≡ None → bytes ≡ [] → EndsSo at bytes e
+by_none at bytes e n h = let P : Option LexFault → Type 0 = λ x. EndsSo at bytes x in subst P (sym n) h
 
-text_goes_on : (k : ℕ) (bytes : List ℕ) → is_end (text_from k bytes) ≡ false
-text_goes_on k [] = ap is_end (open_step k)
-text_goes_on k (b ∷ []) = by_test (b == 39)
-    (λ q. ap is_end (quote_step k b [] q ∙ last_step k))
-    (λ q. by_test (is_control b) (λ c. ap is_end (bad_step k b [] q c)) (λ c. ap is_end (plain_step k b [] q c ∙ open_step (k + 1))))
-text_goes_on k (b ∷ c ∷ bytes) = by_test (b == 39)
-    (λ q. by_test (c == 39)
-    (λ r. ap is_end (quote_step k b (c ∷ bytes) q ∙ doubled_step k c bytes r) ∙ text_goes_on (k + 2) bytes)
-    (λ r. ap is_end (quote_step k b (c ∷ bytes) q ∙ closed_step k c bytes r)))
-    (λ q. by_test (is_control b) (λ f. ap is_end (bad_step k b (c ∷ bytes) q f)) (λ f. ap is_end (plain_step k b (c ∷ bytes) q f) ∙ text_goes_on (k + 1) (c ∷ bytes)))
+by_fault : (at : ℕ) (bytes : List ℕ) (e : Option LexFault) (f : LexFault) → e ≡ Some f → IsFault at bytes f → EndsSo at bytes e
+by_fault at bytes e f n h = let P : Option LexFault → Type 0 = λ x. EndsSo at bytes x in subst P (sym n) h
 
-sized_goes_on : (size : ℕ) (p : Piece) → is_end p ≡ false → is_end (sized size p) ≡ false
-sized_goes_on size (Of kind n) e = by_test (nat_lt 4096 size) (λ t. ap (λ u. is_end (cond u Long (Of kind n))) t) (λ t. ap (λ u. is_end (cond u Long (Of kind n))) t)
-sized_goes_on size End e = e
-sized_goes_on size (Bad n) e = e
-sized_goes_on size Open e = e
-sized_goes_on size Long e = e
-sized_goes_on size Big e = e
+no_end : {X : Type 0} (at : ℕ) (p : Piece) (kind : TokenKind) (n : ℕ) (e : Option LexFault) → p ≡ Of kind n → EndsBy at p e → X
+no_end at p kind n e h k = absurd (let P : Piece → Type 0 = λ q. EndsBy at q e in subst P h k)
 
-number_goes_on : (negative : Bool) (signs : ℕ) (digits : List ℕ) → is_end (number_piece negative signs digits) ≡ false
-number_goes_on negative signs digits = by_test (is_big negative (number digits))
-    (λ t. ap (λ u. is_end (cond u Big (Of Number (signs + length digits)))) t)
-    (λ t. ap (λ u. is_end (cond u Big (Of Number (signs + length digits)))) t)
+ends_by : (at : ℕ) (p r : Piece) (e : Option LexFault) → p ≡ r → EndsBy at p e → EndsBy at r e
+ends_by at p r e h k = let P : Piece → Type 0 = λ q. EndsBy at q e in subst P h k
 
-sign_goes_on : (b c : ℕ) → is_end (sign b c) ≡ false
-sign_goes_on b c = by_test (are_sign b c)
-    (λ t. ap (λ u. is_end (cond u (Of Sign 2) (single b))) t)
-    (λ t. ap (λ u. is_end (cond u (Of Sign 2) (single b))) t ∙ by_test (is_one_sign b) (λ o. ap (λ u. is_end (cond u (Of Sign 1) (Bad 0))) o) (λ o. ap (λ u. is_end (cond u (Of Sign 1) (Bad 0))) o))
+too_big : (n : ℕ) → is_big false n ≡ true → 18446744073709551615 < n
+too_big n e = grind (arith, nat_tests)
 
-goes_on_always : (b : ℕ) (bytes : List ℕ) → is_end (piece_of b bytes) ≡ false
-goes_on_always b bytes =
-    by_test (is_word_start b) (λ w. ap is_end (at_word b bytes w)) (λ w.
-    by_test (is_digit b) (λ d. ap is_end (at_digit b bytes w d) ∙ number_goes_on false 0 (digits_of (b ∷ bytes))) (λ d.
-    by_test (b == 39) (λ q. ap is_end (at_quote b bytes w d q) ∙ sized_goes_on (length (text_value bytes)) (text_from 1 bytes) (text_goes_on 1 bytes)) (λ q.
-    by_test (b == 45 && is_digit (get_or bytes 0 0)) (λ m. ap is_end (at_minus b bytes w d q m) ∙ number_goes_on true 1 (digits_of bytes)) (λ m.
-    ap is_end (at_sign b bytes w d q m) ∙ sign_goes_on b (get_or bytes 0 0)))))
+too_low : (n : ℕ) → is_big true n ≡ true → 9223372036854775808 < n
+too_low n e = grind (arith, nat_tests)
 
--- where there is no fault, nothing is left
-no_fault : (at : ℕ) (p : Piece) (e : Option LexFault) → e ≡ None → EndsBy at p e → is_end p ≡ true
-no_fault at End e n h = refl
-no_fault at (Of kind m) e n h = absurd h
-no_fault at (Bad m) e n h = let z : None ≡ Some (BadByte (at + m)) = sym n ∙ h in cc
-no_fault at Open e n h = let z : None ≡ Some (OpenQuote at) = sym n ∙ h in cc
-no_fault at Long e n h = let z : None ≡ Some (LongText at) = sym n ∙ h in cc
-no_fault at Big e n h = let z : None ≡ Some (BigNumber at) = sym n ∙ h in cc
+too_long : (n : ℕ) → nat_lt 4096 n ≡ true → 4096 < n
+too_long n e = grind (arith, nat_tests)
 
-no_rest : (at : ℕ) (l : List ℕ) (e : Option LexFault) → EndsBy at (piece l) e → e ≡ None → l ≡ []
-no_rest at [] e h n = refl
-no_rest at (b ∷ l) e h n = true_false (sym (no_fault at (piece_of b l) e n h) ∙ goes_on_always b l)
+digits_end : (at b : ℕ) (bytes : List ℕ) (e : Option LexFault) → is_digit b ≡ true → EndsBy at (number_piece false 0 (digits_of (b ∷ bytes))) e → EndsSo at (b ∷ bytes) e
+unfolding one_more
+digits_end at b bytes e d h = by_test (is_big false (number (digits_of (b ∷ bytes)))) big small
+  where
+    small : is_big false (number (digits_of (b ∷ bytes))) ≡ false → EndsSo at (b ∷ bytes) e
+    small f = no_end at (number_piece false 0 (digits_of (b ∷ bytes))) Number (0 + length (digits_of (b ∷ bytes))) e (ap (λ t. cond t Big (Of Number (0 + length (digits_of (b ∷ bytes))))) f) h
 
-pub spaced : (at : ℕ) (bytes : List ℕ) (ts : List Token) (e : Option LexFault) → Lexes at bytes ts e → Spaced bytes ts e
-spaced at bytes [] e h = let g = gap_is bytes in (g.0, behind_gap bytes, g.1, g.2, g.3, no_rest (at + gap_len false 0 bytes) (behind_gap bytes) e h)
+    big : is_big false (number (digits_of (b ∷ bytes))) ≡ true → EndsSo at (b ∷ bytes) e
+    big f =
+        let r = run is_digit bytes in
+        let o = one_more is_digit b bytes d r in
+        let same : digits_of (b ∷ bytes) ≡ b ∷ r.0 = o.4 in
+        let over : 18446744073709551615 < number (b ∷ r.0) = too_big (number (b ∷ r.0)) (sym (ap (λ l. is_big false (number l)) same) ∙ f) in
+        by_fault at (b ∷ bytes) e (BigNumber at) (ends_by at (number_piece false 0 (digits_of (b ∷ bytes))) Big e (ap (λ t. cond t Big (Of Number (0 + length (digits_of (b ∷ bytes))))) f) h)
+        (b, r.0, r.1, (d, r.5), r.6, refl, inl (o.2, over))
+
+minus_end : (at b : ℕ) (bytes : List ℕ) (e : Option LexFault) → (b == 45 && is_digit (get_or bytes 0 0)) ≡ true → EndsBy at (number_piece true 1 (digits_of bytes)) e → EndsSo at (b ∷ bytes) e
+unfolding one_more
+minus_end at b [] e m h = true_false (sym (and_right (b == 45) false m))
+minus_end at b (c ∷ bytes) e m h = by_test (is_big true (number (digits_of (c ∷ bytes)))) big small
+  where
+    d : is_digit c ≡ true
+    d = and_right (b == 45) (is_digit c) m
+
+    small : is_big true (number (digits_of (c ∷ bytes))) ≡ false → EndsSo at (b ∷ c ∷ bytes) e
+    small f = no_end at (number_piece true 1 (digits_of (c ∷ bytes))) Number (1 + length (digits_of (c ∷ bytes))) e (ap (λ t. cond t Big (Of Number (1 + length (digits_of (c ∷ bytes))))) f) h
+
+    big : is_big true (number (digits_of (c ∷ bytes))) ≡ true → EndsSo at (b ∷ c ∷ bytes) e
+    big f =
+        let r = run is_digit bytes in
+        let o = one_more is_digit c bytes d r in
+        let same : digits_of (c ∷ bytes) ≡ c ∷ r.0 = o.4 in
+        let over : 9223372036854775808 < number (c ∷ r.0) = too_low (number (c ∷ r.0)) (sym (ap (λ l. is_big true (number l)) same) ∙ f) in
+        let dash : b ≡ 45 = eqb-true b 45 (and_left (b == 45) (is_digit c) m) in
+        by_fault at (b ∷ c ∷ bytes) e (BigNumber at) (ends_by at (number_piece true 1 (digits_of (c ∷ bytes))) Big e (ap (λ t. cond t Big (Of Number (1 + length (digits_of (c ∷ bytes))))) f) h)
+        (c, r.0, r.1, (d, r.5), r.6, refl, inr (ap (λ x. x ∷ c ∷ bytes) dash ∙ ap (λ l. 45 ∷ l) o.2, over))
+
+text_end : (at b : ℕ) (bytes : List ℕ) (e : Option LexFault) → (b == 39) ≡ true → EndsBy at (sized (length (text_value bytes)) (text_from 1 bytes)) e → EndsSo at (b ∷ bytes) e
+text_end at b bytes e q h = by_piece (text_from 1 bytes) (text_ends 1 bytes) h
+  where
+    quote : b ≡ 39
+    quote = eqb-true b 39 q
+
+    long : (kind : TokenKind) (n : ℕ) → Literal 1 bytes kind n → nat_lt 4096 (length (text_value bytes)) ≡ true → IsFault at (b ∷ bytes) (LongText at)
+    long kind n t f = (text_value bytes, t.0, t.1, ap (λ x. x ∷ bytes) quote ∙ ap (λ l. 39 ∷ l) t.2, t.4, too_long (length (text_value bytes)) f, t.5, refl)
+
+    by_piece : (p : Piece) → TextEnds 1 bytes p → EndsBy at (sized (length (text_value bytes)) p) e → EndsSo at (b ∷ bytes) e
+    by_piece (Of kind n) t k = by_test (nat_lt 4096 (length (text_value bytes)))
+        (λ f. by_fault at (b ∷ bytes) e (LongText at) (ends_by at (cond (nat_lt 4096 (length (text_value bytes))) Long (Of kind n)) Long e (ap (λ u. cond u Long (Of kind n)) f) k) (long kind n t f))
+        (λ f. no_end at (cond (nat_lt 4096 (length (text_value bytes))) Long (Of kind n)) kind n e (ap (λ u. cond u Long (Of kind n)) f) k)
+    by_piece (Bad n) t k = by_fault at (b ∷ bytes) e (BadByte (at + n)) k (inr (t.0, t.1, t.2, ap (λ x. x ∷ bytes) quote ∙ ap (λ l. 39 ∷ l) t.3, t.4, t.5, omega (arith, t.6)))
+    by_piece Open t k = by_fault at (b ∷ bytes) e (OpenQuote at) k (bytes, ap (λ x. x ∷ bytes) quote, t, refl)
+    by_piece End t k = absurd t
+    by_piece Long t k = absurd t
+    by_piece Big t k = absurd t
+
+sign_end : (at b : ℕ) (bytes : List ℕ) (e : Option LexFault) → is_word_start b ≡ false → is_digit b ≡ false → (b == 39) ≡ false → (b == 45 && is_digit (get_or bytes 0 0)) ≡ false → EndsBy at (sign b (get_or bytes 0 0)) e → EndsSo at (b ∷ bytes) e
+sign_end at b bytes e w d q m h = by_test (are_sign b (get_or bytes 0 0)) (λ t. no_end at (sign b (get_or bytes 0 0)) Sign 2 e (ap (λ u. cond u (Of Sign 2) (single b)) t) h) (λ t. by_one (ends_by at (sign b (get_or bytes 0 0)) (single b) e (ap (λ u. cond u (Of Sign 2) (single b)) t) h))
+  where
+    by_one : EndsBy at (single b) e → EndsSo at (b ∷ bytes) e
+    by_one k = by_test (is_one_sign b)
+        (λ t. no_end at (single b) Sign 1 e (ap (λ u. cond u (Of Sign 1) (Bad 0)) t) k)
+        (λ t. by_fault at (b ∷ bytes) e (BadByte (at + 0)) (ends_by at (single b) (Bad 0) e (ap (λ u. cond u (Of Sign 1) (Bad 0)) t) k) (inl (omega arith, (w, d, q, t, m))))
+
+ends : (at : ℕ) (bytes : List ℕ) (e : Option LexFault) → EndsBy at (piece bytes) e → EndsSo at bytes e
+ends at [] e h = by_none at [] e h refl
+ends at (b ∷ bytes) e h =
+    by_test (is_word_start b) (λ w. no_end at (piece_of b bytes) Word (prefix_len is_name_byte bytes + 1) e (at_word b bytes w) h) (λ w.
+    by_test (is_digit b) (λ d. digits_end at b bytes e d (ends_by at (piece_of b bytes) (number_piece false 0 (digits_of (b ∷ bytes))) e (at_digit b bytes w d) h)) (λ d.
+    by_test (b == 39) (λ q. text_end at b bytes e q (ends_by at (piece_of b bytes) (sized (length (text_value bytes)) (text_from 1 bytes)) e (at_quote b bytes w d q) h)) (λ q.
+    by_test (b == 45 && is_digit (get_or bytes 0 0)) (λ m. minus_end at b bytes e m (ends_by at (piece_of b bytes) (number_piece true 1 (digits_of bytes)) e (at_minus b bytes w d q m) h)) (λ m.
+    sign_end at b bytes e w d q m (ends_by at (piece_of b bytes) (sign b (get_or bytes 0 0)) e (at_sign b bytes w d q m) h)))))
+
+-- ---- a whole text
+
+pub spaced : (at : ℕ) (bytes : List ℕ) (ts : List Token) (e : Option LexFault) → Lexes at bytes ts e → Spaced at bytes ts e
+spaced at bytes [] e h =
+    let g = gap_is bytes in
+    let P : ℕ → Type 0 = λ n. EndsSo (at + n) (behind_gap bytes) e in
+    (g.0, behind_gap bytes, g.1, g.2, g.3, subst P g.4 (ends (at + gap_len false 0 bytes) (behind_gap bytes) e h))
 spaced at bytes (t ∷ ts) e h =
     let g = gap_is bytes in
     let f = shape (behind_gap bytes) t.kind (length t.text.now) h.0 in
@@ -263,5 +348,5 @@ spaced at bytes (t ∷ ts) e h =
     let whole : behind_gap bytes ≡ t.text.now ++ f.1 = f.2 ∙ ap (λ l. l ++ f.1) text in
     let P : List ℕ → Type 0 = λ l. IsGap g.0 l in
     let Q : List ℕ → Type 0 = λ l. IsToken t.kind l f.1 in
-    let R : List ℕ → Type 0 = λ l. Spaced l ts e in
-    (g.0, f.1, g.1 ∙ ap (λ l. g.0 ++ l) whole, subst P whole g.2, subst Q text f.4, subst R (sym rest) (spaced (t.at + length t.text.now) (drop (length t.text.now) (behind_gap bytes)) ts e h.3))
+    let R : List ℕ → Type 0 = λ l. Spaced (t.at + length t.text.now) l ts e in
+    (g.0, f.1, g.1 ∙ ap (λ l. g.0 ++ l) whole, h.2 ∙ ap (λ n. at + n) g.4, subst P whole g.2, subst Q text f.4, subst R (sym rest) (spaced (t.at + length t.text.now) (drop (length t.text.now) (behind_gap bytes)) ts e h.3))

@@ -22,7 +22,7 @@ pub fn tokens_in_place()
 {}
 
 /// Between tokens stand blanks and comments alone, each token has its kind's form, and what stands
-/// behind it does not continue it. Where there is no fault, nothing stands behind the last gap.
+/// behind it does not continue it. Behind the last gap stands nothing, or the fault.
 pub fn tokens_are_spaced()
     ensures { TokensSpaced }
 {}

@@ -21,6 +21,7 @@ use std::alloc::Global;
 /// Why a list holds no expression or condition at a place.
 #[derive(Clone, Copy, Debug, PartialEq, Eq)]
 pub enum ParseFault {
+    /// The tree found no memory.
     NoMemory,
     /// The place in the statement of the first token with which nothing goes on.
     Syntax(u32),
@@ -69,8 +70,12 @@ fn fault_at(why: Stop, list: &[Token<'_>], left: usize) -> ParseFault
     }
 }
 
-/// The expression at a place of the list, and the place behind it. References are those of queries,
-/// `Free` or `Alias`, where `qualified`, and else columns of atom 0.
+/// The expression that begins at the token `from` of the list, and the place of the token behind it.
+/// Places count the list's tokens from 0; `from` is at most its length. The longest expression is
+/// read. References are those of queries, `Free` or `Alias`, where `qualified`, and else columns of
+/// atom 0. At most 256 nodes are read, at most 32 brackets, CASEs and NOTs are open at once, and a
+/// CONCAT has at most 8 parts: the first token that is one more is `TooMany`, and of two counts that
+/// pass at one token it is the nodes.
 pub fn parse_expr(
     alloc: Global,
     list: &[Token<'_>],
@@ -100,7 +105,8 @@ pub fn parse_expr(
     }
 }
 
-/// The condition at a place of the list, and the place behind it; as `parse_expr` does.
+/// The condition that begins at the token `from` of the list, and the place of the token behind it.
+/// Places, references and limits are those of `parse_expr`.
 pub fn parse_cond(
     alloc: Global,
     list: &[Token<'_>],

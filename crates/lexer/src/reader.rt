@@ -393,9 +393,9 @@ pub fn fresh_expr(alloc: Global, c: &mut Cursor<'_, '_>, qualified: bool) -> Res
 pub fn fresh_cond(alloc: Global, c: &mut Cursor<'_, '_>, qualified: bool) -> Result<Cond, Stop>
     ensures { Reads test (parsing.fresh (spec.outermost qualified).cond c.old.nodes (ahead c.old)) result c.new }
 {
-    let before = c.nodes;
+    let counted = c.nodes;
     c.nodes = 0;
     let found = outer_cond(alloc, c, qualified);
-    c.nodes = before;
+    c.nodes = counted;
     found
 }

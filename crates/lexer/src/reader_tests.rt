@@ -260,41 +260,71 @@ fn names_stand_between_commas(rt: HostRuntime) -> Result<(), Fail> {
     Ok(())
 }
 
-// An expression of 256 nodes where 256 were counted before it.
-#[test]
-fn fresh_expressions_count_anew(rt: HostRuntime) -> Result<(), Fail> {
-    let mut text = Vec::new(rt.alloc());
-    put(&mut text, b"CASE WHEN ")?;
-    put_many(&mut text, b"TRUE OR ", 251)?;
-    put(&mut text, b"TRUE THEN 1 ELSE 2 END, 3")?;
-    let Ok(list) = tokens(rt.alloc(), &text) else {
-        assert!(rt; false, "no tokens");
-        return Ok(());
+// What is read with counts of its own where so many nodes were counted before: whether it was, the
+// count behind it, and how many tokens are left.
+fn fresh(alloc: Global, text: &[u8], counted: u32, condition: bool) -> Result<Vec<u8>, AllocError> {
+    let mut out = Vec::new(alloc);
+    if text.len() > 1_048_576 || counted > 256 {
+        return Ok(out);
+    }
+    let Ok(list) = tokens(alloc, text) else {
+        return Ok(out);
     };
     let mut cursor = Cursor {
         rest: &list,
-        nodes: 256,
+        nodes: counted,
     };
-    let read = fresh_expr(rt.alloc(), &mut cursor, false);
-    assert!(rt; read.is_ok() && cursor.nodes == 256 && cursor.rest.len() == 2);
-    Ok(())
+    put_fresh(alloc, &mut out, &mut cursor, condition)?;
+    put(&mut out, b" ")?;
+    put_number(alloc, &mut out, u64::from(cursor.nodes))?;
+    put(&mut out, b" ")?;
+    put_number(alloc, &mut out, cursor.rest.len() as u64)?;
+    Ok(out)
+}
+
+fn put_fresh(
+    alloc: Global,
+    out: &mut Vec<u8>,
+    c: &mut Cursor<'_, '_>,
+    condition: bool,
+) -> Result<(), AllocError> {
+    if condition {
+        return match fresh_cond(alloc, c, false) {
+            Ok(_cond) => put(out, b"ok"),
+            Err(stop) => put_stop(out, stop),
+        };
+    }
+    match fresh_expr(alloc, c, false) {
+        Ok(_expr) => put(out, b"ok"),
+        Err(stop) => put_stop(out, stop),
+    }
 }
 
 // Nodes that were counted before do not count, and the count is as before behind it.
 #[test]
-fn fresh_conditions_count_anew(rt: HostRuntime) -> Result<(), Fail> {
-    let mut text = Vec::new(rt.alloc());
-    put_many(&mut text, b"TRUE OR ", 254)?;
-    put(&mut text, b"TRUE THEN")?;
-    let Ok(list) = tokens(rt.alloc(), &text) else {
-        assert!(rt; false, "no tokens");
-        return Ok(());
-    };
-    let mut cursor = Cursor {
-        rest: &list,
-        nodes: 200,
-    };
-    let read = fresh_cond(rt.alloc(), &mut cursor, false);
-    assert!(rt; read.is_ok() && cursor.nodes == 200 && cursor.rest.len() == 1);
+fn fresh_parts_count_anew(rt: HostRuntime) -> Result<(), Fail> {
+    let texts = [
+        (
+            true,
+            b"TRUE OR ".as_slice(),
+            254,
+            b"TRUE THEN".as_slice(),
+            200,
+            b"ok 200 1".as_slice(),
+        ),
+        (true, b"TRUE OR ", 254, b"TRUE", 256, b"ok 256 0"),
+        (true, b"TRUE OR ", 255, b"TRUE THEN", 0, b"TooMany 0 2"),
+        (true, b"TRUE OR ", 3, b")", 7, b"Stuck 7 1"),
+        (false, b"LENGTH(", 1, b"a), b", 256, b"ok 256 2"),
+        (false, b"LENGTH(", 1, b"TRUE", 5, b"Stuck 5 1"),
+        (false, b"LENGTH(", 33, b"a", 5, b"TooMany 5 2"),
+    ];
+    for (condition, first, count, end, counted, wanted) in texts {
+        let mut text = Vec::new(rt.alloc());
+        put_many(&mut text, first, count)?;
+        put(&mut text, end)?;
+        let read = fresh(rt.alloc(), &text, counted, condition)?;
+        assert!(rt; read.as_slice() == wanted, "at {first:?} {count} {end:?}");
+    }
     Ok(())
 }
