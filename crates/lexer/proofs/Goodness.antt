@@ -1,5 +1,5 @@
 -- Each reader of expressions and conditions is good for its grammar.
-use Rattle.std.proofs.Common.{inl, inr, ◌≡◌, ℕ, zero, suc, pos, Bool, true, false, cond, List, [], ◌∷◌, ◌++◌, refl, sym, ap, ◌∙◌, subst, append_assoc, append-nil, ◌||◌, ◌&&◌, codes, Option, Some, None}
+use Rattle.std.proofs.Common.{inl, inr, ◌≡◌, ℕ, zero, suc, pos, Bool, true, false, cond, List, [], ◌∷◌, ◌++◌, refl, sym, ap, ◌∙◌, subst, append_assoc, ◌||◌, ◌&&◌, codes, Option, Some, None}
 use Rattle.prima_base.specs.declared.refusals.What.TheVariants as what
 use Rattle.prima_base.specs.declared.values.Value.TheVariants.{Int, Text}
 use Rattle.cond_expr.specs.declared.exprs.Whose.TheVariants.{Free, Alias, Atom}
@@ -8,39 +8,26 @@ use Rattle.cond_expr.specs.declared.exprs.CmpOp.TheVariants.{Eq, Ne, Lt, Le, Gt,
 use Rattle.cond_expr.specs.Trees.{Tree, Test, column, constant, length_of, joined, choose as chosen, never, always, compared, all_of, some_of, fails, a_tree, a_test}
 use Rattle.cond_expr.specs.Seen.{trees_of, tests_of}
 use Rattle.lexer.specs.Lexemes.{Lexeme, word, number, text, sign, is_word, is_sign, is_name, is_int}
-use Rattle.lexer.specs.Parsing.{Size, nothing_counted, both, one_node, so_wide, Parser, Stops, Good, bind, bindG, pure, pureG, lead, leadG, nodeG, openG, Arm, No, Takes, Counts, choose, map_to, mapG, more, AreMore, nodes_more, optionG}
+use Rattle.lexer.specs.Parsing.{Size, nothing_counted, both, one_node, so_wide, Parser, Stops, Good, bind, bindG, pure, pureG, lead, leadG, nodeG, openG, Arm, No, Counts, choose, map_to, more, AreMore, nodes_more, no_end, fresh, freshG, optionG}
 use Rattle.lexer.specs.Grammar as g
 use Rattle.lexer.specs.Grammar.{spelled, leaf, IsExpr, AreParts, IsFact, AreFacts, IsConj, AreConjs, IsCond}
-use Rattle.lexer.specs.Reader.{Level, name, name_arm, ref_rest, sign_op, op_arm, bracket, opens, length_rest, concat_rest, case_rest, atom_arm, expr_arm, expr, comparison, bracketed, fact_arm, fact, facts, conj, conjs, cond as whole, nothing, made, level, outermost, goes_expr, goes_conj, goes_cond}
-use Rattle.lexer.proofs.Parsing.{true_false, ArmGood, Live, good_iff, bind_good, pure_good, map_good, lead_good, pick_open_good, option_node_good, option_takes_good, more_good, nodes_good, no_end, bind_more, side, choose_good, arm_if, counts_good, opens_good, bracket_good, whole_good, open_good, bind_lead, bind_option, both_none, last_size}
-use Rattle.lexer.proofs.Grammar.{word_exact, sign_exact, word_is, sign_is, CASE, WHEN, THEN, ELSE, END, LENGTH, CONCAT, AND, OR, NOT, TRUE, FALSE, OPEN, CLOSE, COMMA, POINT, nameG, aliasG, refG, insideLengthG, lengthG, insideConcatG, concatG, caseG, expr_inv, length_up, concat_up, case_up, some_name, not_name, length_down, concat_down, case_down, atom_down, expr_not_none, opG, rightG, cmpG, bracketG, notG, fact_inv, cmp_up, bracket_up, not_up, not_down, bracket_down, true_down, false_down, cmp_down, fact_not_none, fact_nodes, conj_nodes, facts_up, facts_down, conjs_up, conjs_down}
+use Rattle.lexer.specs.Constants.{name, nameG}
+use Rattle.lexer.specs.Reader.{Level, ref_rest, sign_op, op_arm, bracket, opens, length_rest, concat_rest, case_rest, atom_arm, expr_arm, expr, comparison, bracketed, fact_arm, fact, facts, conj, conjs, cond as whole, nothing, made, level, outermost, goes_expr, goes_conj, goes_cond}
+use Rattle.lexer.proofs.Parsing.{true_false, ArmGood, Live, good_iff, bind_good, pure_good, map_good, lead_good, pick_open_good, option_node_good, option_takes_good, more_good, nodes_good, bind_more, side, choose_good, arm_if, counts_good, opens_good, bracket_good, whole_good, open_good, bind_lead, bind_option}
+use Rattle.lexer.proofs.Fresh.{fresh_good}
+use Rattle.lexer.proofs.Singles.{name_good, name_is}
+use Rattle.lexer.proofs.Grammar.{word_exact, sign_exact, word_is, sign_is, CASE, WHEN, THEN, ELSE, END, LENGTH, CONCAT, AND, OR, NOT, TRUE, FALSE, OPEN, CLOSE, COMMA, POINT, aliasG, refG, insideLengthG, lengthG, insideConcatG, concatG, caseG, expr_inv, length_up, concat_up, case_up, not_name, length_down, concat_down, case_down, atom_down, expr_not_none, opG, rightG, cmpG, bracketG, notG, fact_inv, cmp_up, bracket_up, not_up, not_down, bracket_down, true_down, false_down, cmp_down, fact_not_none, fact_nodes, conj_nodes, andG, orG, conj_up, conj_down, cond_up, cond_down}
 
 -- ---- references and constants
 
 module _ (d : ℕ) where
-  pub name_good : (goes : Lexeme → Bool) → Good 0 d name nameG goes
-  unfolding name
-  name_good goes = choose_good 0 d name_arm nameG goes (codes "a", nothing_counted, word (codes "a") ∷ [], (some_name, (refl, refl, refl))) (λ e s h. h) arms
-    where
-      arms : (x : Lexeme) → ArmGood 0 d (name_arm x) x nameG goes
-      arms (word n) = arm_if 0 d (is_name n) (Takes (pure n)) No (word n) nameG goes
-          (λ e. good_iff 0 d (pure n) (pureG n) (λ t s l. nameG t s (word n ∷ l)) goes (λ t s l h. (e, h)) (λ t s l h. h.1) (pure_good 0 d n goes))
-          (λ e t s l h. not_name n e h.0)
-      arms (number z) = λ t s l h. h
-      arms (text z) = λ t s l h. h
-      arms (sign z) = λ t s l h. h
-
   ref_good : (q : Bool) (n : List ℕ) → Good 0 d (ref_rest q n) (refG q n) (goes_expr q)
   unfolding ref_rest
   ref_good false n = pure_good 0 d (column (Atom 0) n) (goes_expr false)
-  ref_good true n = option_takes_good (is_sign POINT) (sign POINT) (sign_is POINT) (sign_exact POINT) 0 d (map_to (λ m. column (Alias n) m) name) (column Free n) (aliasG n) (goes_expr true) (λ x e. ap (λ b. b && true) e) (map_good 0 d (λ m. column (Alias n) m) name nameG (goes_expr true) (name_good (goes_expr true)))
+  ref_good true n = option_takes_good (is_sign POINT) (sign POINT) (sign_is POINT) (sign_exact POINT) 0 d (map_to (λ m. column (Alias n) m) name) (column Free n) (aliasG n) (goes_expr true) (λ x e. ap (λ b. b && true) e) (map_good 0 d (λ m. column (Alias n) m) name nameG (goes_expr true) (name_good 0 d (goes_expr true)))
 
   alias_up : (a n : List ℕ) (s : Size) (m : List Lexeme) → is_name a ≡ true → nameG n s m → IsExpr true (column (Alias a) n) (one_node s) (word a ∷ sign POINT ∷ m)
-  alias_up a n s [] e h = absurd h
-  alias_up a n s (word k ∷ l) e h = rw (h.1.0, h.1.1, h.1.2) (g.of_alias a k e h.0)
-  alias_up a n s (number z ∷ l) e h = absurd h
-  alias_up a n s (text z ∷ l) e h = absurd h
-  alias_up a n s (sign z ∷ l) e h = absurd h
+  alias_up a n s m e h = let k = name_is h.0 n h.1 in rw (h.2, h.3, k.0) (g.of_alias a n e k.1)
 
   ref_up : (q : Bool) (n : List ℕ) → is_name n ≡ true → (t : Tree) (s : Size) (l : List Lexeme) → refG q n t s l → IsExpr q t (one_node s) (word n ∷ l)
   ref_up false n e t s l h = rw (h.0, h.1, h.2) (g.of_atom n e)
@@ -271,59 +258,31 @@ module _ (q may : Bool) (d : ℕ) (inside : Level) (deep : may ≡ true → (e :
 
   -- ---- facts joined by AND, and those joined by OR
 
-  abbrev andG : Test → Test → Size → List Lexeme → Type 0
-  andG c = bindG (IsFact q) (λ e. mapG (λ l. all_of (a_test c (a_test e (tests_of l)))) (AreMore (word AND) no_end (IsFact q) 0))
-
-  abbrev orG : Test → Test → Size → List Lexeme → Type 0
-  orG c = bindG (IsConj q) (λ e. mapG (λ l. some_of (a_test c (a_test e (tests_of l)))) (AreMore (word OR) no_end (IsConj q) 0))
-
-  facts_good : (c : Test) → Good 0 d (facts q may inside c) (optionG c (word AND) (nodeG (andG c))) (goes_conj q)
+  facts_good : (c : Test) → Good 0 d (facts q may inside c) (optionG c (word AND) (nodeG (andG q c))) (goes_conj q)
   unfolding facts
-  facts_good c = option_node_good (is_word AND) (word AND) (word_is AND) (word_exact AND) 0 d _ c (andG c) (goes_conj q) (λ x e. ap (λ b. b || goes_expr q x) e)
+  facts_good c = option_node_good (is_word AND) (word AND) (word_is AND) (word_exact AND) 0 d _ c (andG q c) (goes_conj q) (λ x e. ap (λ b. b || goes_expr q x) e)
       (bind_more (is_word AND) (word AND) (word_is AND) (word_exact AND) d (fact q may inside) (IsFact q) (goes_expr q) fact_good refl no_end 0 0 (nodes_more (is_word AND) (fact q may inside)) (λ e l. all_of (a_test c (a_test e (tests_of l))))
       (nodes_good (is_word AND) (word AND) (word_is AND) (word_exact AND) d (fact q may inside) (IsFact q) (goes_expr q) fact_good refl (fact_nodes q) 0))
 
-  conj_up : (c : Test) (s : Size) (l : List Lexeme) → bindG (IsFact q) (λ e. optionG e (word AND) (nodeG (andG e))) c s l → IsConj q c s l
-  conj_up c s l h = by_tail h.8
-    where
-      by_tail : optionG h.0 (word AND) (nodeG (andG h.0)) c h.2 h.4 → IsConj q c s l
-      by_tail (inl k) = rw (last_size s h.1 h.2 h.5 k.1, h.6, k.0, k.2, append-nil h.3) (g.one_fact q h.0 h.1 h.3 h.7)
-      by_tail (inr k) = let k1 = k.2 in let k2 = k1.2 in let k3 = k2.8 in rw (h.5, k1.1, k2.5, h.6, k.1, k2.6, k3.1) (g.an_and q h.0 k2.0 k3.0 h.1 k2.1 k2.2 h.3 k2.3 k2.4 h.7 k2.7 (facts_up q 0 k3.0 k2.2 k2.4 k3.2))
-
-  conj_down : (c : Test) (s : Size) (l : List Lexeme) → IsConj q c s l → bindG (IsFact q) (λ e. optionG e (word AND) (nodeG (andG e))) c s l
-  conj_down c s l (g.one_fact p e u f h) = (e, u, nothing_counted, f, [], sym (both_none u), sym (append-nil f), h, inl (refl, refl, refl))
-  conj_down c s l (g.an_and p a e r u v w f k m ha hd hr) = (a, u, one_node (both v w), f, word AND ∷ (k ++ m), refl, refl, ha, inr (k ++ m, refl, (both v w, refl, (e, v, w, k, m, refl, refl, hd, (r, refl, facts_down p 0 r w m hr)))))
-
   pub conj_good : Good 0 d (conj q may inside) (IsConj q) (goes_conj q)
   unfolding conj
-  conj_good = good_iff 0 d _ _ (IsConj q) (goes_conj q) conj_up conj_down
-      (bind_option 0 d (fact q may inside) (facts q may inside) (IsFact q) (word AND) (λ e. nodeG (andG e)) (goes_expr q) (goes_conj q) refl (λ y h. or_off (is_word AND y) (goes_expr q y) h) fact_good facts_good)
+  conj_good = good_iff 0 d _ _ (IsConj q) (goes_conj q) (conj_up q) (conj_down q)
+      (bind_option 0 d (fact q may inside) (facts q may inside) (IsFact q) (word AND) (λ e. nodeG (andG q e)) (goes_expr q) (goes_conj q) refl (λ y h. or_off (is_word AND y) (goes_expr q y) h) fact_good facts_good)
     where
       or_off : (a b : Bool) → (a || b) ≡ false → b ≡ false
       or_off true b e = true_false e
       or_off false b e = e
 
-  conjs_good : (c : Test) → Good 0 d (conjs q may inside c) (optionG c (word OR) (nodeG (orG c))) (goes_cond q)
+  conjs_good : (c : Test) → Good 0 d (conjs q may inside c) (optionG c (word OR) (nodeG (orG q c))) (goes_cond q)
   unfolding conjs
-  conjs_good c = option_node_good (is_word OR) (word OR) (word_is OR) (word_exact OR) 0 d _ c (orG c) (goes_cond q) (λ x e. ap (λ b. b || goes_conj q x) e)
+  conjs_good c = option_node_good (is_word OR) (word OR) (word_is OR) (word_exact OR) 0 d _ c (orG q c) (goes_cond q) (λ x e. ap (λ b. b || goes_conj q x) e)
       (bind_more (is_word OR) (word OR) (word_is OR) (word_exact OR) d (conj q may inside) (IsConj q) (goes_conj q) conj_good refl no_end 0 0 (nodes_more (is_word OR) (conj q may inside)) (λ e l. some_of (a_test c (a_test e (tests_of l))))
       (nodes_good (is_word OR) (word OR) (word_is OR) (word_exact OR) d (conj q may inside) (IsConj q) (goes_conj q) conj_good refl (conj_nodes q) 0))
 
-  cond_up : (c : Test) (s : Size) (l : List Lexeme) → bindG (IsConj q) (λ e. optionG e (word OR) (nodeG (orG e))) c s l → IsCond q c s l
-  cond_up c s l h = by_tail h.8
-    where
-      by_tail : optionG h.0 (word OR) (nodeG (orG h.0)) c h.2 h.4 → IsCond q c s l
-      by_tail (inl k) = rw (last_size s h.1 h.2 h.5 k.1, h.6, k.0, k.2, append-nil h.3) (g.one_conj q h.0 h.1 h.3 h.7)
-      by_tail (inr k) = let k1 = k.2 in let k2 = k1.2 in let k3 = k2.8 in rw (h.5, k1.1, k2.5, h.6, k.1, k2.6, k3.1) (g.an_or q h.0 k2.0 k3.0 h.1 k2.1 k2.2 h.3 k2.3 k2.4 h.7 k2.7 (conjs_up q 0 k3.0 k2.2 k2.4 k3.2))
-
-  cond_down : (c : Test) (s : Size) (l : List Lexeme) → IsCond q c s l → bindG (IsConj q) (λ e. optionG e (word OR) (nodeG (orG e))) c s l
-  cond_down c s l (g.one_conj p e u f h) = (e, u, nothing_counted, f, [], sym (both_none u), sym (append-nil f), h, inl (refl, refl, refl))
-  cond_down c s l (g.an_or p a e r u v w f k m ha hd hr) = (a, u, one_node (both v w), f, word OR ∷ (k ++ m), refl, refl, ha, inr (k ++ m, refl, (both v w, refl, (e, v, w, k, m, refl, refl, hd, (r, refl, conjs_down p 0 r w m hr)))))
-
   pub cond_good : Good 0 d (whole q may inside) (IsCond q) (goes_cond q)
   unfolding whole
-  cond_good = good_iff 0 d _ _ (IsCond q) (goes_cond q) cond_up cond_down
-      (bind_option 0 d (conj q may inside) (conjs q may inside) (IsConj q) (word OR) (λ e. nodeG (orG e)) (goes_conj q) (goes_cond q) refl (λ y h. or_off (is_word OR y) (goes_conj q y) h) conj_good conjs_good)
+  cond_good = good_iff 0 d _ _ (IsCond q) (goes_cond q) (cond_up q) (cond_down q)
+      (bind_option 0 d (conj q may inside) (conjs q may inside) (IsConj q) (word OR) (λ e. nodeG (orG q e)) (goes_conj q) (goes_cond q) refl (λ y h. or_off (is_word OR y) (goes_conj q y) h) conj_good conjs_good)
     where
       or_off : (a b : Bool) → (a || b) ≡ false → b ≡ false
       or_off true b e = true_false e
@@ -340,3 +299,10 @@ level_good q (suc d) = made_good q true (suc d) (level q d) (λ e. (d, refl, lev
 pub outermost_good : (q : Bool) → LevelGood q 32 (outermost q)
 unfolding outermost
 outermost_good q = level_good q 32
+
+-- with counts of its own
+pub fresh_expr_good : (q : Bool) (low : ℕ) → Good low 32 (fresh (outermost q).expr) (freshG (IsExpr q)) (goes_expr q)
+fresh_expr_good q low = fresh_good 32 (outermost q).expr (IsExpr q) low (goes_expr q) (outermost_good q).expr
+
+pub fresh_cond_good : (q : Bool) (low : ℕ) → Good low 32 (fresh (outermost q).cond) (freshG (IsCond q)) (goes_cond q)
+fresh_cond_good q low = fresh_good 32 (outermost q).cond (IsCond q) low (goes_cond q) (outermost_good q).cond

@@ -1,17 +1,18 @@
 -- The readers of expressions and conditions read their grammar.
-use Rattle.std.proofs.Common.{inl, inr, ◌⊎◌, ◌≡◌, ℕ, ◌+◌, ◌≤◌, Bool, true, false, List, [], ◌∷◌, ◌++◌, refl, sym, ap, ◌∙◌, arith, ◌||◌, codes}
+use Rattle.std.proofs.Common.{inl, inr, ◌⊎◌, ◌≡◌, ℕ, ◌+◌, ◌≤◌, Bool, true, false, cond, Some, None, List, [], ◌∷◌, ◌++◌, refl, sym, ap, ◌∙◌, append-nil, arith, ◌||◌, codes}
 use Rattle.std.proofs.lemmas.Slice.Eq.{bytes_eq-Decides}
 use Rattle.prima_base.specs.declared.refusals.What.TheVariants as what
 use Rattle.prima_base.specs.declared.values.Value.TheVariants.{Int, Text}
 use Rattle.cond_expr.specs.declared.exprs.Whose.TheVariants.{Free, Alias, Atom}
 use Rattle.cond_expr.specs.declared.exprs.CmpOp.{CmpOp}
-use Rattle.cond_expr.specs.Trees.{Tree, Test, column, constant, length_of, joined, choose as chosen, never, always, compared, fails, a_tree}
-use Rattle.cond_expr.specs.Seen.{trees_of}
+use Rattle.cond_expr.specs.Trees.{Tree, Test, column, constant, length_of, joined, choose as chosen, never, always, compared, all_of, some_of, fails, a_tree, a_test}
+use Rattle.cond_expr.specs.Seen.{trees_of, tests_of}
 use Rattle.lexer.specs.Lexemes.{Lexeme, word, number, text, sign, is_word, is_sign, is_name, is_int}
-use Rattle.lexer.specs.Parsing.{Size, nothing_counted, both, one_node, one_open, so_wide, bindG, pureG, leadG, nodeG, openG, mapG, AreMore, optionG}
+use Rattle.lexer.specs.Parsing.{Size, nothing_counted, both, one_node, one_open, so_wide, bindG, pureG, leadG, nodeG, openG, mapG, AreMore, no_end, optionG}
+use Rattle.lexer.specs.Constants.{nameG}
 use Rattle.lexer.specs.Grammar as g
 use Rattle.lexer.specs.Grammar.{spelled, leaf, IsExpr, AreParts, IsFact, AreFacts, IsConj, AreConjs, IsCond}
-use Rattle.lexer.proofs.Parsing.{true_false, behind_down, no_end, both_none, last_size}
+use Rattle.lexer.proofs.Parsing.{true_false, behind_down, both_none, last_size}
 
 -- ---- words and signs
 
@@ -93,7 +94,7 @@ parts_up : (q : Bool) (j : ℕ) (l : List Tree) (s : Size) (ts : List Lexeme) �
 parts_up q j [] s ts h = rw (h.0, h.1) (g.no_part q j)
 parts_up q j (e ∷ l) s ts h = rw (h.4, h.5) (g.a_part q j e l h.0 h.1 h.2 h.3 h.6 (parts_up q (j + 1) l h.1 h.3 h.7))
 
-parts_down : (q : Bool) (j : ℕ) (l : List Tree) (s : Size) (ts : List Lexeme) → AreParts q j l s ts → AreMore (sign COMMA) (so_wide what.Parts) (IsExpr q) j l s ts
+pub parts_down : (q : Bool) (j : ℕ) (l : List Tree) (s : Size) (ts : List Lexeme) → AreParts q j l s ts → AreMore (sign COMMA) (so_wide what.Parts) (IsExpr q) j l s ts
 parts_down q j l s ts (g.no_part p i) = (refl, refl)
 parts_down q j l s ts (g.a_part p i e r u v f k h m) = (u, v, f, k, refl, refl, h, parts_down p (i + 1) r v k m)
 
@@ -114,11 +115,6 @@ conjs_down q j l s ts (g.no_conj p) = (refl, refl)
 conjs_down q j l s ts (g.a_conj p c r u v f k h m) = (u, v, f, k, refl, refl, h, conjs_down p (j + 1) r v k m)
 
 -- ---- the forms of an expression
-
-abbrev pub nameG : List ℕ → Size → List Lexeme → Type 0
-nameG n s [] = ⊥
-nameG n s (word m ∷ l) = (is_name m ≡ true) × pureG m n s l
-nameG n s (_ ∷ l) = ⊥
 
 abbrev pub aliasG : List ℕ → Tree → Size → List Lexeme → Type 0
 aliasG a = mapG (λ n. column (Alias a) n) nameG
@@ -157,7 +153,7 @@ expr_inv q e s ts (g.an_int p z h) = inr (inr (inr (h, (nothing_counted, refl, (
 expr_inv q e s ts (g.a_text p t) = inr (inr (inr (nothing_counted, refl, (refl, refl, refl))))
 expr_inv q e s ts (g.of_atom n h) = inr (inr (inr (h, (nothing_counted, refl, (refl, refl, refl)))))
 expr_inv q e s ts (g.of_free n h) = inr (inr (inr (h, (nothing_counted, refl, inl (refl, refl, refl)))))
-expr_inv q e s ts (g.of_alias a n h k) = inr (inr (inr (h, (nothing_counted, refl, inr (word n ∷ [], refl, (n, refl, (k, (refl, refl, refl))))))))
+expr_inv q e s ts (g.of_alias a n h k) = inr (inr (inr (h, (nothing_counted, refl, inr (word n ∷ [], refl, (n, refl, (word n, ap (λ b. cond b (Some n) None) k, refl, refl)))))))
 expr_inv q e s ts (g.a_length p x u f h) =
     inl (sign OPEN ∷ (f ++ sign CLOSE ∷ []), refl, (one_open u, refl, (f ++ sign CLOSE ∷ [], refl, (u, refl, (x, u, nothing_counted, f, sign CLOSE ∷ [], sym (both_none u), refl, h, ([], refl, (refl, refl, refl)))))))
 expr_inv q e s ts (g.a_concat p x l u v f k h m) =
@@ -249,15 +245,15 @@ case_up q x s l h0 =
 pub not_name : (w : List ℕ) → is_name w ≡ false → is_name w ≡ true → ⊥
 not_name w e h = true_false (sym h ∙ e)
 
-length_no_name : is_name LENGTH ≡ false
+pub length_no_name : is_name LENGTH ≡ false
 unfolding is_name
 length_no_name = refl
 
-concat_no_name : is_name CONCAT ≡ false
+pub concat_no_name : is_name CONCAT ≡ false
 unfolding is_name
 concat_no_name = refl
 
-case_no_name : is_name CASE ≡ false
+pub case_no_name : is_name CASE ≡ false
 unfolding is_name
 case_no_name = refl
 
@@ -302,13 +298,13 @@ atom_down q e s x l e1 e2 e3 (inr (inr (inl h))) = clash (is_word CASE) x (word 
 atom_down q e s x l e1 e2 e3 (inr (inr (inr h))) = h
 
 -- what an expression begins with
-abbrev starts_atom : Lexeme → Bool
+abbrev pub starts_atom : Lexeme → Bool
 starts_atom (word n) = is_name n
 starts_atom (number z) = true
 starts_atom (text t) = true
 starts_atom (sign s) = false
 
-abbrev starts_expr : Lexeme → Bool
+abbrev pub starts_expr : Lexeme → Bool
 starts_expr x = is_word LENGTH x || (is_word CONCAT x || (is_word CASE x || starts_atom x))
 
 or_right : (a b : Bool) → b ≡ true → (a || b) ≡ true
@@ -318,7 +314,7 @@ or_right false b e = e
 starts_it : (x : Lexeme) → starts_atom x ≡ true → starts_expr x ≡ true
 starts_it x h = or_right (is_word LENGTH x) _ (or_right (is_word CONCAT x) _ (or_right (is_word CASE x) _ h))
 
-expr_some : (q : Bool) (e : Tree) (s : Size) (ts : List Lexeme) → IsExpr q e s ts → (x : Lexeme) × (l : List Lexeme) × (ts ≡ x ∷ l) × (starts_expr x ≡ true)
+pub expr_some : (q : Bool) (e : Tree) (s : Size) (ts : List Lexeme) → IsExpr q e s ts → (x : Lexeme) × (l : List Lexeme) × (ts ≡ x ∷ l) × (starts_expr x ≡ true)
 expr_some q e s ts (g.an_int p z h) = (_, _, refl, starts_it (number z) refl)
 expr_some q e s ts (g.a_text p t) = (_, _, refl, starts_it (text t) refl)
 expr_some q e s ts (g.of_atom n h) = (_, _, refl, starts_it (word n) h)
@@ -378,16 +374,16 @@ no_cmp q c s x l e h =
     let k = expr_some q h.0 h.1 h.3 h.7 in
     clash starts_expr x k.0 l (k.1 ++ h.4) e k.3 (h.6 ∙ ap (λ u. u ++ h.4) k.2)
 
-starts_not : starts_expr (word NOT) ≡ false
+pub starts_not : starts_expr (word NOT) ≡ false
 starts_not = not_no_name
 
-starts_true : starts_expr (word TRUE) ≡ false
+pub starts_true : starts_expr (word TRUE) ≡ false
 starts_true = true_no_name
 
-starts_false : starts_expr (word FALSE) ≡ false
+pub starts_false : starts_expr (word FALSE) ≡ false
 starts_false = false_no_name
 
-starts_open : starts_expr (sign OPEN) ≡ false
+pub starts_open : starts_expr (sign OPEN) ≡ false
 starts_open = refl
 
 pub not_down : (q : Bool) (c : Test) (s : Size) (l : List Lexeme) → factG q c s (word NOT ∷ l) → nodeG (openG (notG q)) c s l
@@ -431,6 +427,36 @@ fact_not_none q c s (inr (inl h)) = let e = h.1 in cc
 fact_not_none q c s (inr (inr (inl h))) = let e = h.1 in cc
 fact_not_none q c s (inr (inr (inr (inl h)))) = let e = h.1 in cc
 fact_not_none q c s (inr (inr (inr (inr h)))) = let k = expr_some q h.0 h.1 h.3 h.7 in let e : [] ≡ (k.0 ∷ k.1) ++ h.4 = h.6 ∙ ap (λ u. u ++ h.4) k.2 in cc
+
+-- ---- facts joined by AND, and those joined by OR
+
+abbrev pub andG : Bool → Test → Test → Size → List Lexeme → Type 0
+andG q c = bindG (IsFact q) (λ e. mapG (λ l. all_of (a_test c (a_test e (tests_of l)))) (AreMore (word AND) no_end (IsFact q) 0))
+
+abbrev pub orG : Bool → Test → Test → Size → List Lexeme → Type 0
+orG q c = bindG (IsConj q) (λ e. mapG (λ l. some_of (a_test c (a_test e (tests_of l)))) (AreMore (word OR) no_end (IsConj q) 0))
+
+pub conj_up : (q : Bool) (c : Test) (s : Size) (l : List Lexeme) → bindG (IsFact q) (λ e. optionG e (word AND) (nodeG (andG q e))) c s l → IsConj q c s l
+conj_up q c s l h = by_tail h.8
+  where
+    by_tail : optionG h.0 (word AND) (nodeG (andG q h.0)) c h.2 h.4 → IsConj q c s l
+    by_tail (inl k) = rw (last_size s h.1 h.2 h.5 k.1, h.6, k.0, k.2, append-nil h.3) (g.one_fact q h.0 h.1 h.3 h.7)
+    by_tail (inr k) = let k1 = k.2 in let k2 = k1.2 in let k3 = k2.8 in rw (h.5, k1.1, k2.5, h.6, k.1, k2.6, k3.1) (g.an_and q h.0 k2.0 k3.0 h.1 k2.1 k2.2 h.3 k2.3 k2.4 h.7 k2.7 (facts_up q 0 k3.0 k2.2 k2.4 k3.2))
+
+pub conj_down : (q : Bool) (c : Test) (s : Size) (l : List Lexeme) → IsConj q c s l → bindG (IsFact q) (λ e. optionG e (word AND) (nodeG (andG q e))) c s l
+conj_down q c s l (g.one_fact p e u f h) = (e, u, nothing_counted, f, [], sym (both_none u), sym (append-nil f), h, inl (refl, refl, refl))
+conj_down q c s l (g.an_and p a e r u v w f k m ha hd hr) = (a, u, one_node (both v w), f, word AND ∷ (k ++ m), refl, refl, ha, inr (k ++ m, refl, (both v w, refl, (e, v, w, k, m, refl, refl, hd, (r, refl, facts_down p 0 r w m hr)))))
+
+pub cond_up : (q : Bool) (c : Test) (s : Size) (l : List Lexeme) → bindG (IsConj q) (λ e. optionG e (word OR) (nodeG (orG q e))) c s l → IsCond q c s l
+cond_up q c s l h = by_tail h.8
+  where
+    by_tail : optionG h.0 (word OR) (nodeG (orG q h.0)) c h.2 h.4 → IsCond q c s l
+    by_tail (inl k) = rw (last_size s h.1 h.2 h.5 k.1, h.6, k.0, k.2, append-nil h.3) (g.one_conj q h.0 h.1 h.3 h.7)
+    by_tail (inr k) = let k1 = k.2 in let k2 = k1.2 in let k3 = k2.8 in rw (h.5, k1.1, k2.5, h.6, k.1, k2.6, k3.1) (g.an_or q h.0 k2.0 k3.0 h.1 k2.1 k2.2 h.3 k2.3 k2.4 h.7 k2.7 (conjs_up q 0 k3.0 k2.2 k2.4 k3.2))
+
+pub cond_down : (q : Bool) (c : Test) (s : Size) (l : List Lexeme) → IsCond q c s l → bindG (IsConj q) (λ e. optionG e (word OR) (nodeG (orG q e))) c s l
+cond_down q c s l (g.one_conj p e u f h) = (e, u, nothing_counted, f, [], sym (both_none u), sym (append-nil f), h, inl (refl, refl, refl))
+cond_down q c s l (g.an_or p a e r u v w f k m ha hd hr) = (a, u, one_node (both v w), f, word OR ∷ (k ++ m), refl, refl, ha, inr (k ++ m, refl, (both v w, refl, (e, v, w, k, m, refl, refl, hd, (r, refl, conjs_down p 0 r w m hr)))))
 
 -- ---- each has a node
 

@@ -1,11 +1,11 @@
 -- The laws of reading, for all grammars.
-use Rattle.std.proofs.Common.{◌≡◌, ℕ, zero, suc, ◌+◌, ◌-◌, ◌<◌, ◌≤◌, max, Bool, true, false, cond, nat_lt, ◌==◌, eq-eqb, eqb-true, get_or, List, [], ◌∷◌, ◌++◌, refl, sym, ap, ◌∙◌, subst, append_assoc, arith, append-nil, ◌||◌, inl, inr}
+use Rattle.std.proofs.Common.{◌≡◌, ℕ, zero, suc, ◌+◌, ◌-◌, ◌<◌, ◌≤◌, max, Bool, true, false, cond, nat_lt, ◌==◌, eq-eqb, eqb-true, get_or, List, [], ◌∷◌, ◌++◌, refl, sym, ap, ◌∙◌, subst, append_assoc, arith, append-nil, length, length-append, ◌||◌, inl, inr}
 use Rattle.std.proofs.Math.Nat.{le-max_left, le-max_right, max-le, max-zero, zero-max}
 use Rattle.std.proofs.lemmas.Bool.Decides.{nat_tests}
 use Rattle.prima_base.specs.declared.refusals.What.{What}
 use Rattle.prima_base.specs.declared.refusals.What.TheVariants as what
 use Rattle.lexer.specs.Lexemes.{Lexeme}
-use Rattle.lexer.specs.Parsing.{Size, nothing_counted, both, one_node, one_open, so_wide, rank, limit, limits, Out, Got, Stuck, Over, Parser, Same, Goes, Lawful, Explains, Stops, Exceeds, Fine, Good, and_then, bind, bindG, pure, pureG, lead, leadG, nodeG, openG, Arm, No, Takes, Counts, Whole, Refuses, Fills, arm_run, choose, option, map_to, mapG, more, AreMore, nodes_more, pick, optionG}
+use Rattle.lexer.specs.Parsing.{Size, nothing_counted, both, one_node, one_open, so_wide, rank, limit, limits, Out, Got, Stuck, Over, Parser, Same, Goes, Lawful, Explains, Stops, Exceeds, Fine, Good, and_then, bind, bindG, pure, pureG, lead, leadG, nodeG, openG, Arm, No, Takes, Counts, Whole, Refuses, Fills, arm_run, choose, option, map_to, mapG, more, AreMore, nodes_more, as_many, many, no_end, pick, optionG}
 
 pub true_false : {X : Type 0} → true ≡ false → X
 true_false e = absurd (let P : Bool → Type 0 = λ b. elim b as (λ _. Type 0) [ true ↦ Unit {0} | false ↦ ⊥ ] in subst P e tt)
@@ -118,12 +118,12 @@ module _ {A B : Type 0} (d : ℕ) (p : Parser A) (f : A → Parser B) (G : A →
   same_first make1 make f1 (x ∷ r) e s = λ other. ap (λ o. and_then o f) (s other) ∙ e (x ∷ other)
 
   outer : (low few : ℕ) → low ≤ n → ((a : A) (s : Size) (us : List Lexeme) → G a s us → few ≤ s.nodes) → (live : (a : A) → (b : B) × (t : Size) × (us : List Lexeme) × H a b t us) →
-      ((a : A) (m : ℕ) → low + few ≤ m → (us : List Lexeme) → Explains d (f a m) (H a) m us (f a m us)) → (o : Out A) → Explains d (p n) G n ts o → Explains d (bind p f n) (bindG G H) n ts (and_then o f)
-  outer low few at_least some live ef (Got a m rest) x = inner a x.1 m rest x.0 x.2 x.3 x.4 x.5 x.6 x.7 (f a m rest) (ef a m (omega (arith, at_least, x.4, some a x.1 x.0 x.3)) rest)
-  outer low few at_least some live ef (Stuck rest) x =
+      (o : Out A) → p n ts ≡ o → ((a : A) (m : ℕ) → low + few ≤ m → (us : List Lexeme) → o ≡ Got a m us → Explains d (f a m) (H a) m us (f a m us)) → Explains d (p n) G n ts o → Explains d (bind p f n) (bindG G H) n ts (and_then o f)
+  outer low few at_least some live (Got a m rest) e ef x = inner a x.1 m rest x.0 x.2 x.3 x.4 x.5 x.6 x.7 (f a m rest) (ef a m (omega (arith, at_least, x.4, some a x.1 x.0 x.3)) rest refl)
+  outer low few at_least some live (Stuck rest) e ef x =
       let a = x.2.1 in let h = live a in
       (x.0, x.1, (x.2.0 ++ h.2, h.0, both x.2.2 h.1, (a, x.2.2, h.1, x.0 ++ x.2.0, h.2, refl, sym (append_assoc x.0 x.2.0 h.2), x.2.3, h.3)), same_first Stuck Stuck x.0 rest (λ l. refl) x.3)
-  outer low few at_least some live ef (Over w rest) x = (x.0, x.1, goes_first live x.0 rest x.2, same_first (Over w) (Over w) x.0 rest (λ l. refl) x.3)
+  outer low few at_least some live (Over w rest) e ef x = (x.0, x.1, goes_first live x.0 rest x.2, same_first (Over w) (Over w) x.0 rest (λ l. refl) x.3)
 
   fine_second : (b : B) (s t : Size) (m : ℕ) (rest2 : List Lexeme) (o : Out B) → m ≡ n + s.nodes → Lawful d s → Fine d b t m rest2 o → Fine d b (both s t) n rest2 o
   fine_second b s t m rest2 (Got c k r) e l h = (h.0, h.1, omega (arith, e, h.2), lawful_both d s t l h.3)
@@ -144,7 +144,7 @@ pub bind_later : {A B : Type 0} (low few d : ℕ) (p : Parser A) (f : A → Pars
     Good low d (bind p f) (bindG G H) goes2
 bind_later {A} {B} low few d p f G H goes goes2 some gp gf side = record {
   live = (let x = gp.live in let y = (gf x.0).live in (y.0, both x.1 y.1, x.2 ++ y.2, (x.0, x.1, y.1, x.2, y.2, refl, refl, x.3, y.3)));
-  explains = λ n h ts. outer d p f G H n ts low few h some (λ a. (gf a).live) (λ a m k us. (gf a).explains m k us) (p n ts) (gp.explains n h ts);
+  explains = λ n h ts. outer d p f G H n ts low few h some (λ a. (gf a).live) (p n ts) refl (λ a m k us e. (gf a).explains m k us) (gp.explains n h ts);
   complete = complete;
 }
   where
@@ -274,8 +274,8 @@ fine_node d a s n rest (Got b m r) h = (h.0, h.1, omega (arith, h.2), h.3)
 fine_node d a s n rest (Stuck r) h = h
 fine_node d a s n rest (Over w r) h = exceeds_node w n d s h
 
-no_room : (n : ℕ) (s t : Size) → nat_lt n 256 ≡ false → s ≡ one_node t → 256 < n + s.nodes
-no_room n s t e h = let k : s.nodes ≡ t.nodes + 1 = ap (λ z. z.nodes) h in grind (arith, nat_tests)
+no_room : (n : ℕ) (s t : Size) → nat_lt n 256 ≡ false → s ≡ one_node t → 256 < max (n + s.nodes) (s.wide what.Nodes)
+no_room n s t e h = let k : s.nodes ≡ t.nodes + 1 = ap (λ z. z.nodes) h in let m : 256 ≤ n = grind (arith, nat_tests) in omega (arith, k, m)
 
 room_left : (n : ℕ) → nat_lt n 256 ≡ true → n + 1 ≤ 256
 room_left n e = grind (arith, nat_tests)
@@ -364,6 +364,21 @@ map_good {A} {B} low d f p G goes g =
     (bind_good low d p (λ a. pure (f a)) G (λ a. pureG (f a)) goes goes g (λ a. pure_good low d (f a) goes)
     (λ a b s ts rest h stops. let P : List Lexeme → Type 0 = λ t. Stops goes (t ++ rest) in subst P (sym h.2) stops))
 
+module _ {A B : Type 0} (d : ℕ) (f : A → B) (p : Parser A) (G : A → Size → List Lexeme → Type 0) where
+  explains_map : (n : ℕ) (ts : List Lexeme) (o : Out A) → Explains d (p n) G n ts o → Explains d (map_to f p n) (mapG f G) n ts (and_then o (λ a. pure (f a)))
+  explains_map n ts (Got a m rest) h = (h.0, h.1, h.2, (a, refl, h.3), h.4, h.5, h.6, same_first d p (λ a. pure (f a)) G (λ a. pureG (f a)) n ts (Got a m) (Got (f a) m) h.0 rest (λ l. refl) h.7)
+  explains_map n ts (Stuck rest) h = (h.0, h.1, (h.2.0, f h.2.1, h.2.2, (h.2.1, refl, h.2.3)), same_first d p (λ a. pure (f a)) G (λ a. pureG (f a)) n ts Stuck Stuck h.0 rest (λ l. refl) h.3)
+  explains_map n ts (Over w rest) h = (h.0, h.1, goes_map h.0 rest h.2, same_first d p (λ a. pure (f a)) G (λ a. pureG (f a)) n ts (Over w) (Over w) h.0 rest (λ l. refl) h.3)
+    where
+      goes_map : (front rest : List Lexeme) → Goes G front rest → Goes (mapG f G) front rest
+      goes_map front [] k = k
+      goes_map front (x ∷ rest) k = (k.0, f k.1, k.2, (k.1, refl, k.3))
+
+  fine_map : (a : A) (s : Size) (n : ℕ) (rest : List Lexeme) (o : Out A) → Fine d a s n rest o → Fine d (f a) s n rest (and_then o (λ b. pure (f b)))
+  fine_map a s n rest (Got b m r) h = (ap f h.0, h.1, h.2, h.3)
+  fine_map a s n rest (Stuck r) h = h
+  fine_map a s n rest (Over w r) h = h
+
 pub one_node_once : (s t : Size) → one_node s ≡ one_node t → s ≡ t
 one_node_once s t e = λ i. record { nodes = (let k : s.nodes ≡ t.nodes = omega (arith, ap (λ z. z.nodes) e) in k) i; depth = (e i).depth; wide = (e i).wide }
 
@@ -395,11 +410,47 @@ bracket_good {A} low d false p x G H goes live up down deep shallow =
 pub whole_good : {A : Type 0} (low d : ℕ) (p : Parser A) (W G : A → Size → List Lexeme → Type 0) (x : Lexeme) (goes : Lexeme → Bool) → Good low d p W goes → ((a : A) (s : Size) (l : List Lexeme) → W a s l → G a s l) → ((a : A) (s : Size) (l : List Lexeme) → G a s (x ∷ l) → W a s (x ∷ l)) → ArmGood low d (Whole p) x G goes
 whole_good {A} low d p W G x goes g up down = (λ n h ts. explains_iff d (p n) W G up n (x ∷ ts) (p n (x ∷ ts)) (g.explains n h (x ∷ ts)), λ n h a s front rest k stops. g.complete n h a s (x ∷ front) rest (down a s front k) stops)
 
--- ---- a lexeme, and lists behind separators
+-- ---- as many as there are
 
--- the end of a list that is not counted
-abbrev pub no_end : ℕ → Size
-no_end j = nothing_counted
+-- what stands behind what was read is no more than there was
+pub got_fewer : {A : Type 0} (low d : ℕ) (p : Parser A) (G : A → Size → List Lexeme → Type 0) (goes : Lexeme → Bool) → Good low d p G goes → (n : ℕ) → low ≤ n → (ts : List Lexeme) (a : A) (m : ℕ) (rest : List Lexeme) → p n ts ≡ Got a m rest → length rest ≤ length ts
+got_fewer {A} low d p G goes good n h ts a m rest e =
+    let P : Out A → Type 0 = λ o. Explains d (p n) G n ts o in
+    let x = subst P e (good.explains n h ts) in
+    omega (arith, ap length x.2, length-append x.0 rest)
+
+and_then_same : {A B : Type 0} (o : Out A) (f g : A → Parser B) → ((a : A) (m : ℕ) (rest : List Lexeme) → o ≡ Got a m rest → f a m rest ≡ g a m rest) → and_then o f ≡ and_then o g
+and_then_same (Got a m rest) f g h = h a m rest refl
+and_then_same (Stuck rest) f g h = refl
+and_then_same (Over w rest) f g h = refl
+
+module _ {A : Type 0} (is : Lexeme → Bool) (item : Parser A) (fewer : (n : ℕ) (ts : List Lexeme) (a : A) (m : ℕ) (rest : List Lexeme) → item n ts ≡ Got a m rest → length rest ≤ length ts) where
+  -- two bounds that are not reached
+  enough : (k j n : ℕ) (ts : List Lexeme) → length ts ≤ k → length ts ≤ j → as_many is item k n ts ≡ as_many is item j n ts
+  unfolding as_many
+  enough zero zero n ts h i = refl
+  enough zero (suc j) n [] h i = refl
+  enough zero (suc j) n (x ∷ ts) h i = absurd (omega (arith, h))
+  enough (suc k) zero n [] h i = refl
+  enough (suc k) zero n (x ∷ ts) h i = absurd (omega (arith, i))
+  enough (suc k) (suc j) n [] h i = refl
+  enough (suc k) (suc j) n (x ∷ ts) h i =
+      ap (λ o. cond (is x) o (Got [] n (x ∷ ts)))
+      (and_then_same (item n ts) (λ a. map_to (λ o. a ∷ o) (as_many is item k)) (λ a. map_to (λ o. a ∷ o) (as_many is item j))
+      (λ a m rest e. ap (λ o. and_then o (λ l. pure (a ∷ l))) (enough k j m rest (omega (arith, h, fewer n ts a m rest e)) (omega (arith, i, fewer n ts a m rest e)))))
+
+  pub many_none : (n : ℕ) → many is item n [] ≡ Got [] n []
+  unfolding as_many
+  many_none n = refl
+
+  pub many_some : (n : ℕ) (x : Lexeme) (ts : List Lexeme) → many is item n (x ∷ ts) ≡ cond (is x) (bind item (λ a. map_to (λ o. a ∷ o) (many is item)) n ts) (Got [] n (x ∷ ts))
+  unfolding as_many
+  many_some n x ts =
+      ap (λ o. cond (is x) o (Got [] n (x ∷ ts)))
+      (and_then_same (item n ts) (λ a. map_to (λ o. a ∷ o) (as_many is item (length ts))) (λ a. map_to (λ o. a ∷ o) (many is item))
+      (λ a m rest e. ap (λ o. and_then o (λ l. pure (a ∷ l))) (enough (length ts) (length rest) m rest (fewer n ts a m rest e) (omega arith))))
+
+-- ---- a lexeme, and lists behind separators
 
 module _ (is : Lexeme → Bool) (sep : Lexeme) (is_sep : is sep ≡ true) (exact : (x : Lexeme) → is x ≡ true → x ≡ sep) (low d : ℕ) where
   pub pick_good : {A : Type 0} (r : Arm A) (G : A → Size → List Lexeme → Type 0) (goes : Lexeme → Bool) → ((a : A) × (s : Size) × (l : List Lexeme) × G a s l) → ArmGood low d r sep (leadG sep G) goes → Good low d (pick is r) (leadG sep G) goes
@@ -577,7 +628,7 @@ module _ (is : Lexeme → Bool) (sep : Lexeme) (is_sep : is sep ≡ true) (exact
 
   -- ---- no more than nodes that are left
 
-  too_many : (low : ℕ) → 257 ≤ low → (j n : ℕ) → low ≤ n → (o : List A) (s : Size) (l : List Lexeme) → AreMore sep no_end G j o s (sep ∷ l) → 256 < n + s.nodes
+  too_many : (low : ℕ) → 257 ≤ low → (j n : ℕ) → low ≤ n → (o : List A) (s : Size) (l : List Lexeme) → AreMore sep no_end G j o s (sep ∷ l) → 256 < max (n + s.nodes) (s.wide what.Nodes)
   too_many low h j n z o s l g = omega (arith, h, z)
 
   nodes_by : (some : (a : A) (s : Size) (us : List Lexeme) → G a s us → 1 ≤ s.nodes) (k j : ℕ) → Good (257 - k) d (more is what.Nodes item k) (AreMore sep no_end G j) more_goes
@@ -593,6 +644,85 @@ module _ (is : Lexeme → Bool) (sep : Lexeme) (is_sep : is sep ≡ true) (exact
     live = ([], nothing_counted, [], (refl, refl));
     explains = λ n h ts. (nodes_by some (257 - n) j).explains n (omega arith) ts;
     complete = λ n h a s front rest g stops. (nodes_by some (257 - n) j).complete n (omega arith) a s front rest g stops;
+  }
+
+  -- ---- as many as there are
+
+  abbrev Many : ℕ → List A → Size → List Lexeme → Type 0
+  Many j = AreMore sep no_end G j
+
+  abbrev then_many : A → Parser (List A)
+  then_many a = map_to (λ o. a ∷ o) (many is item)
+
+  fewer : (n : ℕ) (ts : List Lexeme) (a : A) (m : ℕ) (rest : List Lexeme) → item n ts ≡ Got a m rest → length rest ≤ length ts
+  fewer n ts a m rest e = got_fewer 0 d item G goes good n (omega arith) ts a m rest e
+
+  many_not : (n : ℕ) (x : Lexeme) (ts : List Lexeme) → is x ≡ false → many is item n (x ∷ ts) ≡ Got [] n (x ∷ ts)
+  many_not n x ts e = many_some is item fewer n x ts ∙ ap (λ b. cond b (bind item then_many n ts) (Got [] n (x ∷ ts))) e
+
+  many_next : (n : ℕ) (ts : List Lexeme) → many is item n (sep ∷ ts) ≡ bind item then_many n ts
+  many_next n ts = many_some is item fewer n sep ts ∙ ap (λ b. cond b (bind item then_many n ts) (Got [] n (sep ∷ ts))) is_sep
+
+  live_many : (j : ℕ) (a : A) → (b : List A) × (t : Size) × (us : List Lexeme) × mapG (λ o. a ∷ o) (Many j) b t us
+  live_many j a = (a ∷ [], nothing_counted, [], ([], refl, (refl, refl)))
+
+  next_many : (j n : ℕ) (x : Lexeme) (ts : List Lexeme) → ((a : A) (m : ℕ) (us : List Lexeme) → item n ts ≡ Got a m us → Explains d (many is item m) (Many (j + 1)) m us (many is item m us)) →
+      Explains d (many is item n) (Many j) n (x ∷ ts) (many is item n (x ∷ ts))
+  next_many j n x ts others = by_test (is x) yes no
+    where
+      no : is x ≡ false → Explains d (many is item n) (Many j) n (x ∷ ts) (many is item n (x ∷ ts))
+      no e = let P : Out (List A) → Type 0 = λ o. Explains d (many is item n) (Many j) n (x ∷ ts) o in
+          subst P (sym (many_not n x ts e)) ([], nothing_counted, refl, (refl, refl), omega arith, (λ i. i), lawful_none d, λ other. many_not n x other e)
+
+      inside : Explains d (bind item then_many n) (NextG no_end j) n ts (bind item then_many n ts)
+      inside = outer d item then_many G (λ a. mapG (λ o. a ∷ o) (Many (j + 1))) n ts 0 0 (omega arith) (λ a s us g. omega arith) (live_many (j + 1)) (item n ts) refl
+          (λ a m low us e. explains_map d (λ o. a ∷ o) (many is item) (Many (j + 1)) m us (many is item m us) (others a m us e))
+          (good.explains n (omega arith) ts)
+
+      at_sep : Explains d (many is item n) (Many j) n (sep ∷ ts) (many is item n (sep ∷ ts))
+      at_sep = let P : Out (List A) → Type 0 = λ o. Explains d (many is item n) (Many j) n (sep ∷ ts) o in
+          subst P (sym (many_next n ts))
+          (explains_after (bind item then_many n) (many is item n) (NextG no_end j) (Many j) sep (λ s. s) d n n (λ s. refl) (λ i. i) (λ s i. i) (many_next n) (up no_end j) ts (bind item then_many n ts) inside)
+
+      yes : is x ≡ true → Explains d (many is item n) (Many j) n (x ∷ ts) (many is item n (x ∷ ts))
+      yes e = let P : Lexeme → Type 0 = λ y. Explains d (many is item n) (Many j) n (y ∷ ts) (many is item n (y ∷ ts)) in subst P (sym (exact x e)) at_sep
+
+  explains_many : (k j n : ℕ) (ts : List Lexeme) → length ts ≤ k → Explains d (many is item n) (Many j) n ts (many is item n ts)
+  explains_many k j n [] h =
+      let P : Out (List A) → Type 0 = λ o. Explains d (many is item n) (Many j) n [] o in
+      subst P (sym (many_none is item fewer n)) ([], nothing_counted, refl, (refl, refl), omega arith, (λ i. i), lawful_none d, tt)
+  explains_many zero j n (x ∷ ts) h = absurd (omega (arith, h))
+  explains_many (suc k) j n (x ∷ ts) h = next_many j n x ts (λ a m us e. explains_many k (j + 1) m us (omega (arith, h, fewer n ts a m us e)))
+
+  fine_none : (j n : ℕ) (s : Size) (rest : List Lexeme) → s ≡ nothing_counted → Stops more_goes rest → Fine d [] s n rest (many is item n rest)
+  fine_none j n s rest e stops = let Q : Size → Type 0 = λ z. Fine d [] z n rest (many is item n rest) in subst Q (sym e) (by_rest rest stops)
+    where
+      by_rest : (r : List Lexeme) → Stops more_goes r → Fine d [] nothing_counted n r (many is item n r)
+      by_rest [] k = let Q : Out (List A) → Type 0 = λ o. Fine d [] nothing_counted n [] o in subst Q (sym (many_none is item fewer n)) (refl, refl, omega arith, lawful_none d)
+      by_rest (x ∷ r) k = let Q : Out (List A) → Type 0 = λ o. Fine d [] nothing_counted n (x ∷ r) o in subst Q (sym (many_not n x r (off_left (is x) (goes x) k))) (refl, refl, omega arith, lawful_none d)
+        where
+          off_left : (b c : Bool) → (b || c) ≡ false → b ≡ false
+          off_left true c e = true_false e
+          off_left false c e = refl
+
+  fine_many : (j n : ℕ) (l : List A) (s : Size) (front rest : List Lexeme) → Many j l s front → Stops more_goes rest → Fine d l s n rest (many is item n (front ++ rest))
+  fine_many j n [] s front rest g stops = let P : List Lexeme → Type 0 = λ u. Fine d [] s n rest (many is item n (u ++ rest)) in subst P (sym g.1) (fine_none j n s rest g.0 stops)
+  fine_many j n (a ∷ l) s front rest g stops =
+      let others : List Lexeme = g.3 ++ rest in
+      let P : Size → Type 0 = λ z. Fine d (a ∷ l) z n rest (many is item n (front ++ rest)) in
+      let Q : Out (List A) → Type 0 = λ o. Fine d (a ∷ l) (both g.0 g.1) n rest o in
+      let same : many is item n (front ++ rest) ≡ and_then (item n (g.2 ++ others)) then_many =
+      ap (λ u. many is item n (u ++ rest)) g.5 ∙ ap (λ u. many is item n (sep ∷ u)) (append_assoc g.2 g.3 rest) ∙ many_next n (g.2 ++ others) in
+      subst P (sym g.4) (subst Q (sym same)
+      (fine_inner d item then_many G (λ a. mapG (λ o. a ∷ o) (Many (j + 1))) n (g.2 ++ others) a (a ∷ l) g.0 g.1 others rest (item n (g.2 ++ others))
+      (λ m e. fine_map d (λ o. a ∷ o) (many is item) (Many (j + 1)) l g.1 m rest (many is item m others) (fine_many (j + 1) m l g.1 g.3 rest g.7 stops))
+      (good.complete n (omega arith) a g.0 g.2 others g.6 (side no_end (j + 1) l g.1 g.3 rest g.7 stops))))
+
+  pub many_good : (j : ℕ) → Good 0 d (many is item) (AreMore sep no_end G j) more_goes
+  many_good j = record {
+    live = ([], nothing_counted, [], (refl, refl));
+    explains = λ n h ts. explains_many (length ts) j n ts (omega arith);
+    complete = λ n h l s front rest g stops. fine_many j n l s front rest g stops;
   }
 
 -- a part that begins with a lexeme stops what does not go on with it

@@ -9,8 +9,11 @@ use Rattle.lexer.specs.declared.reading.Stop.TheVariants as stop
 use Rattle.lexer.specs.declared.reading.Cursor.{Cursor}
 use Rattle.lexer.specs.Reads.{ahead, Fails}
 use Rattle.lexer.specs.Lexemes.{Lexeme, lexeme}
-use Rattle.lexer.specs.Parsing.{Size, Out, Got, Stuck, Over, Parser, Explains, Fine, Stops, CanGoOn, Lawful, Good}
-use Rattle.lexer.specs.Found.{lexemes_from, place, Finds, IsFirst, OnlyExceeds, IsFirstFault, Follows, FaultAt}
+use Rattle.lexer.specs.Parsing.{Size, Out, Got, Stuck, Over, Parser, Same, Explains, Fine, Stops, CanGoOn, Lawful, Good}
+use Rattle.lexer.specs.Found.{lexemes_from, place, Finds, Ends, IsFirst, PassesAt, IsFirstFault, IsTooMany, Follows, FaultAt}
+use Rattle.lexer.specs.Marks.{Mark, FirstPassed}
+use Rattle.lexer.proofs.Marked.{along}
+use Rattle.lexer.proofs.Passed.{too_many, passes_there}
 
 take_whole : {A : Type 0} (l : List A) (n : ℕ) → n ≡ length l → take n l ≡ l
 take_whole [] zero e = refl
@@ -68,17 +71,43 @@ module _ {A : Type 0} (p : Parser A) (G : A → Size → List Lexeme → Type 0)
   taken : (front rest : List Lexeme) (left : ℕ) → length rest ≡ left → ts ≡ front ++ rest → take (length list - left - from) ts ≡ front
   taken front rest left z e = let k : length list - left - from ≡ length front = omega (arith, z, lengths front rest e) in ap (λ n. take n ts) k ∙ ap (take (length front)) e ∙ take_front front rest
 
+  -- where it stands, by the first that is left
+  split : (front : List Lexeme) (x : Lexeme) (rest : List Lexeme) → ts ≡ front ++ x ∷ rest → take (length front + 1) ts ≡ front ++ x ∷ []
+  split front x rest e =
+      let k : length front + 1 ≡ length (front ++ x ∷ []) = omega (arith, length-append front (x ∷ [])) in
+      ap (λ n. take n ts) k ∙ ap (take (length (front ++ x ∷ []))) (e ∙ sym (append_assoc front (x ∷ []) rest)) ∙ take_front (front ++ x ∷ []) rest
+
+  -- however it goes on, reading ends there in the same way
+  ends_there : (front : List Lexeme) (x : Lexeme) (make : List Lexeme → Out A) → ((other : List Lexeme) → p 0 (front ++ x ∷ other) ≡ make (x ∷ other)) → (more : List Lexeme) (b : A) (s : Size) → G b s ((front ++ x ∷ []) ++ more) → Fine 32 b s 0 [] (make (x ∷ more))
+  ends_there front x make same more b s h =
+      let all : List Lexeme = (front ++ x ∷ []) ++ more in
+      let P : Out A → Type 0 = λ o. Fine 32 b s 0 [] o in
+      let Q : List Lexeme → Type 0 = λ l. Fine 32 b s 0 [] (p 0 l) in
+      subst P (ap (p 0) (append_assoc front (x ∷ []) more) ∙ same more) (subst Q (append-nil all) (good.complete 0 (omega arith) b s all [] h tt))
+
   -- ---- what was read
 
   module _ (a : A) (m : ℕ) (rest : List Lexeme) (left : ℕ) (z : length rest ≡ left) (e : p 0 ts ≡ Got a m rest) where
     pub got_fits : left ≤ length list
     got_fits = let h = explained (Got a m rest) e in omega (arith, z, lengths h.0 rest h.2)
 
-    pub got_read : (from ≤ length list - left) × (length list - left ≤ length list) × (s : Size) × G a s (take (length list - left - from) ts) × (s.nodes ≤ 256) × Lawful 32 s
+    -- nothing goes on with what stands behind it
+    got_ends : (front r : List Lexeme) → ts ≡ front ++ r → Same (p 0) front r (Got a m) → Ends G ts (length front)
+    got_ends front [] w same k more = absurd (omega (arith, k, ap length w, length-append front []))
+    got_ends front (x ∷ r) w same k more =
+        let C : List Lexeme → Type 0 = λ l. CanGoOn G l in
+        let on = subst C (split front x r w) more in
+        let f = ends_there front x (Got a m) same on.0 on.1 on.2 on.3 in
+        let e : x ∷ on.0 ≡ [] = f.1 in
+        cc
+
+    pub got_read : (from ≤ length list - left) × (length list - left ≤ length list) × (s : Size) × G a s (take (length list - left - from) ts) × (s.nodes ≤ 256) × Lawful 32 s × Ends G ts (length list - left - from)
     got_read =
         let h = explained (Got a m rest) e in
         let P : List Lexeme → Type 0 = λ l. G a h.1 l in
-        (omega (arith, z, lengths h.0 rest h.2), omega arith, h.1, subst P (sym (taken h.0 rest left z h.2)) h.3, omega (arith, h.4, h.5 (omega arith)), h.6)
+        let Q : ℕ → Type 0 = λ k. Ends G ts k in
+        let n : length list - left - from ≡ length h.0 = omega (arith, z, lengths h.0 rest h.2) in
+        (omega (arith, z, lengths h.0 rest h.2), omega arith, h.1, subst P (sym (taken h.0 rest left z h.2)) h.3, omega (arith, h.4, h.5 (omega arith)), h.6, subst Q (sym n) (got_ends h.0 rest h.2 h.7))
 
     pub got_only : (b : A) (s : Size) (front other : List Lexeme) → ts ≡ front ++ other → G b s front → Stops goes other → (a ≡ b) × (length list - left ≡ from + length front) × (s.nodes ≤ 256) × Lawful 32 s
     got_only b s front other w h stops =
@@ -96,20 +125,6 @@ module _ {A : Type 0} (p : Parser A) (G : A → Size → List Lexeme → Type 0)
   over_fits : (w : What) (rest : List Lexeme) → p 0 ts ≡ Over w rest → length rest ≤ length list
   over_fits w rest e = let h = explained (Over w rest) e in omega (arith, lengths h.0 rest h.1)
 
-  -- where it stands, by the first that is left
-  split : (front : List Lexeme) (x : Lexeme) (rest : List Lexeme) → ts ≡ front ++ x ∷ rest → take (length front + 1) ts ≡ front ++ x ∷ []
-  split front x rest e =
-      let k : length front + 1 ≡ length (front ++ x ∷ []) = omega (arith, length-append front (x ∷ [])) in
-      ap (λ n. take n ts) k ∙ ap (take (length (front ++ x ∷ []))) (e ∙ sym (append_assoc front (x ∷ []) rest)) ∙ take_front (front ++ x ∷ []) rest
-
-  -- however it goes on, reading ends there in the same way
-  ends_there : (front : List Lexeme) (x : Lexeme) (make : List Lexeme → Out A) → ((other : List Lexeme) → p 0 (front ++ x ∷ other) ≡ make (x ∷ other)) → (more : List Lexeme) (b : A) (s : Size) → G b s ((front ++ x ∷ []) ++ more) → Fine 32 b s 0 [] (make (x ∷ more))
-  ends_there front x make same more b s h =
-      let all : List Lexeme = (front ++ x ∷ []) ++ more in
-      let P : Out A → Type 0 = λ o. Fine 32 b s 0 [] o in
-      let Q : List Lexeme → Type 0 = λ l. Fine 32 b s 0 [] (p 0 l) in
-      subst P (ap (p 0) (append_assoc front (x ∷ []) more) ∙ same more) (subst Q (append-nil all) (good.complete 0 (omega arith) b s all [] h tt))
-
   stuck_first : (rest : List Lexeme) → p 0 ts ≡ Stuck rest → 0 < length rest → IsFirst G ts (length ts - length rest)
   stuck_first [] e z = absurd (omega arith)
   stuck_first (x ∷ rest) e z =
@@ -120,7 +135,7 @@ module _ {A : Type 0} (p : Parser A) (G : A → Size → List Lexeme → Type 0)
       subst P (sym n) (
         omega (arith, ap length h.1, length-append h.0 (x ∷ rest)),
         subst C (sym (ap (take (length h.0)) h.1 ∙ take_front h.0 (x ∷ rest))) h.2,
-        λ more. let k = subst C (split h.0 x rest h.1) more in ends_there h.0 x Stuck h.3 k.0 k.1 k.2 k.3,
+        λ z more. let k = subst C (split h.0 x rest h.1) more in ends_there h.0 x Stuck h.3 k.0 k.1 k.2 k.3,
       )
 
   stuck_out : (rest : List Lexeme) → p 0 ts ≡ Stuck rest → length rest ≡ 0 → CanGoOn G ts
@@ -130,19 +145,6 @@ module _ {A : Type 0} (p : Parser A) (G : A → Size → List Lexeme → Type 0)
   over_some : (w : What) (rest : List Lexeme) → p 0 ts ≡ Over w rest → 0 < length rest
   over_some w [] e = let h = explained (Over w []) e in absurd h.2
   over_some w (x ∷ rest) e = omega arith
-
-  over_only : (w : What) (rest : List Lexeme) → p 0 ts ≡ Over w rest → OnlyExceeds w G ts (length ts - length rest)
-  over_only w [] e = let h = explained (Over w []) e in absurd h.2
-  over_only w (x ∷ rest) e =
-      let h = explained (Over w (x ∷ rest)) e in
-      let n : length ts - length (x ∷ rest) ≡ length h.0 = omega (arith, ap length h.1, length-append h.0 (x ∷ rest)) in
-      let P : ℕ → Type 0 = λ k. OnlyExceeds w G ts k in
-      let C : List Lexeme → Type 0 = λ l. CanGoOn G l in
-      subst P (sym n) (
-        omega (arith, ap length h.1, length-append h.0 (x ∷ rest)),
-        subst C (sym (split h.0 x rest h.1)) h.2,
-        λ more b s k. let Q : List Lexeme → Type 0 = λ l. G b s (l ++ more) in ends_there h.0 x (Over w) h.3 more b s (subst Q (split h.0 x rest h.1) k),
-      )
 
   where_it_is : (rest : List Lexeme) → length rest ≤ length ts → length list - length rest ≡ from + (length ts - length rest)
   where_it_is rest h = omega (arith, h, fits, length_map lexeme (drop from list), length-drop from list)
@@ -171,16 +173,6 @@ module _ {A : Type 0} (p : Parser A) (G : A → Size → List Lexeme → Type 0)
       err_only stop.Stuck (fault.TooMany v m) h k b s front rest w g stops = absurd k
       err_only (stop.TooMany v) f h k b s front rest w g stops = let P : ParseFault → Type 0 = λ u. Finds view b s (from + length front) (Err u) in subst P (sym k) (fine (Over v (ahead cur)) h b s front rest w g stops)
 
-    pub err_fault : (X : Type 0) (why : Stop) (f : ParseFault) → Fails (p 0 ts) why cur → FaultAt why list left f → IsFirstFault {X = X} G list from (Err f)
-    err_fault X stop.NoMemory f h k = let P : ParseFault → Type 0 = λ v. IsFirstFault {X = X} G list from (Err v) in subst P (sym k) tt
-    err_fault X stop.Stuck (fault.Syntax at) h k =
-        let x = explained (Stuck (ahead cur)) h in
-        (length ts - length (ahead cur), k.1 ∙ ap (place list) (ap (λ n. length list - n) (sym same_left) ∙ where_it_is (ahead cur) (in_ts x.0 (ahead cur) x.1)), stuck_first (ahead cur) h (omega (arith, same_left, k.0)))
-    err_fault X stop.Stuck fault.RanOut h k = stuck_out (ahead cur) h (same_left ∙ k)
-    err_fault X stop.Stuck fault.NoMemory h k = tt
-    err_fault X stop.Stuck (fault.TooMany v m) h k = absurd k
-    err_fault X (stop.TooMany v) f h k = let P : ParseFault → Type 0 = λ u. IsFirstFault {X = X} G list from (Err u) in subst P (sym k) (refl, length ts - length (ahead cur), over_only v (ahead cur) h)
-
     module _ {X : Type 0} (view : X → A) where
       pub err_exact : (why : Stop) (f : ParseFault) → Fails (p 0 ts) why cur → FaultAt why list left f → Follows view (p 0 ts) list (Err f)
       err_exact stop.NoMemory f h k = let P : ParseFault → Type 0 = λ v. Follows view (p 0 ts) list (Err v) in subst P (sym k) tt
@@ -196,3 +188,45 @@ module _ {A : Type 0} (p : Parser A) (G : A → Size → List Lexeme → Type 0)
           let x = explained (Over v (ahead cur)) h in
           let P : ParseFault → Type 0 = λ u. Follows view (p 0 ts) list (Err u) in
           subst P (sym k) (refl, length list - left, omega (arith, same_left, over_fits v (ahead cur) h, over_some v (ahead cur) h), h ∙ ap (Over v) (rest_is x.0 (ahead cur) left same_left x.1))
+
+  -- ---- where it is too much
+
+  module _ (marks : (a : A) (s : Size) (f : List Lexeme) → G a s f → List Mark) (marked : (a : A) (s : Size) (f : List Lexeme) (h : G a s f) → p 0 f ≡ along 32 a 0 (marks a s f h) f)
+      (sized : (a : A) (s : Size) (f : List Lexeme) (h : G a s f) → length (marks a s f h) ≡ length f) where
+    abbrev Passing : What → List Lexeme → Type 0
+    Passing w front =
+        (rest more : List Lexeme) (x : Lexeme) (a : A) (s : Size) (h : G a s (front ++ x ∷ more)) → ts ≡ front ++ x ∷ rest → FirstPassed w (marks a s (front ++ x ∷ more) h) (length front) → p 0 ts ≡ Over w (x ∷ rest)
+
+    passing : (w : What) (front : List Lexeme) → Passing w front
+    passing w front rest more x a s h e f = too_many p G goes good marks marked sized ts w front x rest e more a s h f
+
+    pub got_over : (b : A) (m : ℕ) (left : List Lexeme) → p 0 ts ≡ Got b m left →
+        (w : What) (front rest more : List Lexeme) (x : Lexeme) (a : A) (s : Size) (h : G a s (front ++ x ∷ more)) → ts ≡ front ++ x ∷ rest → FirstPassed w (marks a s (front ++ x ∷ more) h) (length front) → ⊥
+    got_over b m left o w front rest more x a s h e f = let z : Got b m left ≡ Over w (x ∷ rest) = sym o ∙ passing w front rest more x a s h e f in cc
+
+    module _ (cur : Cursor) (X : Type 0) where
+      over_is : (why : Stop) (f : ParseFault) (w : What) (us : List Lexeme) → Fails (p 0 ts) why cur → FaultAt why list (length cur.rest.now) f → p 0 ts ≡ Over w us → IsTooMany {X = X} w (Err f)
+      over_is stop.NoMemory f w us h k o = let P : ParseFault → Type 0 = λ v. IsTooMany {X = X} w (Err v) in subst P (sym k) tt
+      over_is stop.Stuck f w us h k o = let z : ◌≡◌ {A = Out A} (Stuck (ahead cur)) (Over w us) = sym h ∙ o in cc
+      over_is (stop.TooMany v) f w us h k o =
+          let z : ◌≡◌ {A = Out A} (Over v (ahead cur)) (Over w us) = sym h ∙ o in
+          let P : ParseFault → Type 0 = λ v. IsTooMany {X = X} w (Err v) in
+          subst P (sym k) (let y : v ≡ w = cc in y)
+
+      pub err_over : (why : Stop) (f : ParseFault) → Fails (p 0 ts) why cur → FaultAt why list (length cur.rest.now) f →
+          (w : What) (front rest more : List Lexeme) (x : Lexeme) (a : A) (s : Size) (h : G a s (front ++ x ∷ more)) → ts ≡ front ++ x ∷ rest → FirstPassed w (marks a s (front ++ x ∷ more) h) (length front) → IsTooMany {X = X} w (Err f)
+      err_over why f fails at w front rest more x a s h e first = over_is why f w (x ∷ rest) fails at (passing w front rest more x a s h e first)
+
+      over_at : (w : What) (us : List Lexeme) → p 0 ts ≡ Over w us → (front : List Lexeme) × (x : Lexeme) × (rest : List Lexeme) × (ts ≡ front ++ x ∷ rest) × PassesAt G marks w front x
+      over_at w [] o = let h = explained (Over w []) o in absurd h.2
+      over_at w (x ∷ rest) o = let h = explained (Over w (x ∷ rest)) o in (h.0, x, rest, h.1, passes_there p G goes good marks marked sized ts w h.0 x rest h.1 o)
+
+      pub err_fault : (why : Stop) (f : ParseFault) → Fails (p 0 ts) why cur → FaultAt why list (length cur.rest.now) f → IsFirstFault {X = X} G marks list from (Err f)
+      err_fault stop.NoMemory f h k = let P : ParseFault → Type 0 = λ v. IsFirstFault {X = X} G marks list from (Err v) in subst P (sym k) tt
+      err_fault stop.Stuck (fault.Syntax at) h k =
+          let x = explained (Stuck (ahead cur)) h in
+          (length ts - length (ahead cur), k.1 ∙ ap (place list) (ap (λ n. length list - n) (sym (same_left cur)) ∙ where_it_is (ahead cur) (in_ts x.0 (ahead cur) x.1)), stuck_first (ahead cur) h (omega (arith, same_left cur, k.0)))
+      err_fault stop.Stuck fault.RanOut h k = stuck_out (ahead cur) h (same_left cur ∙ k)
+      err_fault stop.Stuck fault.NoMemory h k = tt
+      err_fault stop.Stuck (fault.TooMany v m) h k = absurd k
+      err_fault (stop.TooMany v) f h k = let P : ParseFault → Type 0 = λ u. IsFirstFault {X = X} G marks list from (Err u) in let o = over_at v (ahead cur) h in subst P (sym k) (refl, o.0, o.1, o.2, o.3, o.4)

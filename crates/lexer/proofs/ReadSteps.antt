@@ -3,14 +3,14 @@ use Rattle.std.proofs.Common.{◌≡◌, ℕ, zero, suc, ◌+◌, ◌-◌, ◌<�
 use Rattle.prima_base.specs.declared.refusals.What.{What}
 use Rattle.prima_base.specs.declared.refusals.What.TheVariants as what
 use Rattle.lexer.specs.Lexemes.{Lexeme, is_word, is_sign}
-use Rattle.lexer.specs.Parsing.{Out, Got, Stuck, Over, Parser, Arm, No, Takes, Counts, Whole, Refuses, Fills, arm_run, has_room, and_then, bind, pure, map_to, lead, option, pick, choose, more, prepend}
+use Rattle.lexer.specs.Parsing.{Out, Got, Stuck, Over, Parser, Arm, No, Takes, Counts, Whole, Refuses, Fills, arm_run, has_room, and_then, bind, pure, map_to, lead, option, pick, choose, more, set_back, prepend}
 use Rattle.cond_expr.specs.declared.exprs.CmpOp.{CmpOp}
 use Rattle.cond_expr.specs.Trees.{Test, always, never, fails}
 use Rattle.lexer.specs.Reader.{level, can, inside, nothing, made, expr, fact, comparison, bracketed, length_rest, concat_rest, case_rest, atom_arm, expr_arm, fact_arm, opens, sign_op, op_arm}
 use Rattle.lexer.specs.declared.reading.Stop.{Stop}
 use Rattle.lexer.specs.declared.reading.Stop.TheVariants as stop
 use Rattle.lexer.specs.declared.reading.Cursor.{Cursor}
-use Rattle.lexer.specs.Reads.{sees, first_op, Fails}
+use Rattle.lexer.specs.Reads.{ahead, sees, first_op, Fails}
 use Rattle.lexer.proofs.Parsing.{true_false}
 
 -- a test, an arm and the others
@@ -237,6 +237,21 @@ concat_stuck q d n ts e = pick_not (is_sign (codes "(")) _ n ts e
 pub got_at : {A : Type 0} (a : A) (n m : ℕ) (l r : List Lexeme) → m ≡ n → r ≡ l → Got a n l ≡ Got a m r
 got_at a n m l r e f = sym (ap (λ k. Got a k r) e ∙ ap (λ u. Got a n u) f)
 
+-- ---- counts of its own
+
+pub fresh_fails : {A : Type 0} (o : Out A) (n : ℕ) (e : Stop) (old new : Cursor) → ahead new ≡ ahead old → Fails o e old → Fails (set_back n o) e new
+fresh_fails o n stop.NoMemory old new a f = tt
+fresh_fails o n stop.Stuck old new a f = ap (set_back n) f ∙ ap Stuck (sym a)
+fresh_fails o n (stop.TooMany w) old new a f = ap (set_back n) f ∙ ap (Over w) (sym a)
+
+-- ---- behind a skipped lexeme
+
+pub behind : {A : Type 0} (p : Parser A) (o : Out A) (n m : ℕ) (ts us : List Lexeme) → m ≡ n → us ≡ drop 1 ts → p m us ≡ o → p n (drop 1 ts) ≡ o
+behind p o n m ts us e f h = ap (λ k. p k (drop 1 ts)) (sym e) ∙ ap (p m) (sym f) ∙ h
+
+pub behind_fails : {A : Type 0} (p : Parser A) (e : Stop) (cur : Cursor) (n m : ℕ) (ts us : List Lexeme) → m ≡ n → us ≡ drop 1 ts → Fails (p m us) e cur → Fails (p n (drop 1 ts)) e cur
+behind_fails p e cur n m ts us f g h = rw (← f, ← g) h
+
 -- ---- the turns of a loop that reads more items: o is the whole list's outcome
 
 pub prepend_none : {A : Type 0} (o : Out (List A)) → o ≡ prepend [] o
@@ -244,12 +259,12 @@ prepend_none (Got l n r) = refl
 prepend_none (Stuck r) = refl
 prepend_none (Over w r) = refl
 
-prepend_twice : {A : Type 0} (f h : List A) (o : Out (List A)) → prepend f (prepend h o) ≡ prepend (f ++ h) o
+pub prepend_twice : {A : Type 0} (f h : List A) (o : Out (List A)) → prepend f (prepend h o) ≡ prepend (f ++ h) o
 prepend_twice f h (Got l n r) = ap (λ x. Got x n r) (sym (append_assoc f h l))
 prepend_twice f h (Stuck r) = refl
 prepend_twice f h (Over w r) = refl
 
-as_prepend : {A : Type 0} (a : A) (o : Out (List A)) → and_then o (λ l. pure (a ∷ l)) ≡ prepend (a ∷ []) o
+pub as_prepend : {A : Type 0} (a : A) (o : Out (List A)) → and_then o (λ l. pure (a ∷ l)) ≡ prepend (a ∷ []) o
 as_prepend a (Got l n r) = refl
 as_prepend a (Stuck r) = refl
 as_prepend a (Over w r) = refl

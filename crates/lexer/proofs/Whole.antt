@@ -17,11 +17,11 @@ by_test : {X : Type 0} (b : Bool) → (b ≡ true → X) → (b ≡ false → X)
 by_test true f g = f refl
 by_test false f g = g refl
 
-abbrev len_of : Piece → ℕ
+abbrev pub len_of : Piece → ℕ
 len_of (Of kind n) = n
 len_of _ = 0
 
-abbrev is_of : Piece → Bool
+abbrev pub is_of : Piece → Bool
 is_of (Of kind n) = true
 is_of _ = false
 
@@ -51,29 +51,29 @@ digits_step b bytes e = ap (λ k. take k (b ∷ bytes)) (prefix_step is_digit b 
 -- ---- the cases of a piece
 
 module _ (b : ℕ) (bytes : List ℕ) where
-  at_word : is_word_start b ≡ true → piece_of b bytes ≡ Of Word (prefix_len is_name_byte bytes + 1)
+  pub at_word : is_word_start b ≡ true → piece_of b bytes ≡ Of Word (prefix_len is_name_byte bytes + 1)
   unfolding piece_of
   at_word e = ap (λ t. cond t (Of Word (prefix_len is_name_byte bytes + 1)) (cond (is_digit b) (number_piece false 0 (digits_of (b ∷ bytes))) (cond (b == 39) (sized (length (text_value bytes)) (text_from 1 bytes)) (cond (b == 45 && is_digit (get_or bytes 0 0)) (number_piece true 1 (digits_of bytes)) (sign b (get_or bytes 0 0)))))) e
 
-  at_digit : is_word_start b ≡ false → is_digit b ≡ true → piece_of b bytes ≡ number_piece false 0 (digits_of (b ∷ bytes))
+  pub at_digit : is_word_start b ≡ false → is_digit b ≡ true → piece_of b bytes ≡ number_piece false 0 (digits_of (b ∷ bytes))
   unfolding piece_of
   at_digit e f = ap (λ t. cond t (Of Word (prefix_len is_name_byte bytes + 1)) (cond (is_digit b) (number_piece false 0 (digits_of (b ∷ bytes))) (cond (b == 39) (sized (length (text_value bytes)) (text_from 1 bytes)) (cond (b == 45 && is_digit (get_or bytes 0 0)) (number_piece true 1 (digits_of bytes)) (sign b (get_or bytes 0 0)))))) e
       ∙ ap (λ t. cond t (number_piece false 0 (digits_of (b ∷ bytes))) (cond (b == 39) (sized (length (text_value bytes)) (text_from 1 bytes)) (cond (b == 45 && is_digit (get_or bytes 0 0)) (number_piece true 1 (digits_of bytes)) (sign b (get_or bytes 0 0))))) f
 
-  at_quote : is_word_start b ≡ false → is_digit b ≡ false → (b == 39) ≡ true → piece_of b bytes ≡ sized (length (text_value bytes)) (text_from 1 bytes)
+  pub at_quote : is_word_start b ≡ false → is_digit b ≡ false → (b == 39) ≡ true → piece_of b bytes ≡ sized (length (text_value bytes)) (text_from 1 bytes)
   unfolding piece_of
   at_quote e f g = ap (λ t. cond t (Of Word (prefix_len is_name_byte bytes + 1)) (cond (is_digit b) (number_piece false 0 (digits_of (b ∷ bytes))) (cond (b == 39) (sized (length (text_value bytes)) (text_from 1 bytes)) (cond (b == 45 && is_digit (get_or bytes 0 0)) (number_piece true 1 (digits_of bytes)) (sign b (get_or bytes 0 0)))))) e
       ∙ ap (λ t. cond t (number_piece false 0 (digits_of (b ∷ bytes))) (cond (b == 39) (sized (length (text_value bytes)) (text_from 1 bytes)) (cond (b == 45 && is_digit (get_or bytes 0 0)) (number_piece true 1 (digits_of bytes)) (sign b (get_or bytes 0 0))))) f
       ∙ ap (λ t. cond t (sized (length (text_value bytes)) (text_from 1 bytes)) (cond (b == 45 && is_digit (get_or bytes 0 0)) (number_piece true 1 (digits_of bytes)) (sign b (get_or bytes 0 0)))) g
 
-  at_minus : is_word_start b ≡ false → is_digit b ≡ false → (b == 39) ≡ false → (b == 45 && is_digit (get_or bytes 0 0)) ≡ true → piece_of b bytes ≡ number_piece true 1 (digits_of bytes)
+  pub at_minus : is_word_start b ≡ false → is_digit b ≡ false → (b == 39) ≡ false → (b == 45 && is_digit (get_or bytes 0 0)) ≡ true → piece_of b bytes ≡ number_piece true 1 (digits_of bytes)
   unfolding piece_of
   at_minus e f g m = ap (λ t. cond t (Of Word (prefix_len is_name_byte bytes + 1)) (cond (is_digit b) (number_piece false 0 (digits_of (b ∷ bytes))) (cond (b == 39) (sized (length (text_value bytes)) (text_from 1 bytes)) (cond (b == 45 && is_digit (get_or bytes 0 0)) (number_piece true 1 (digits_of bytes)) (sign b (get_or bytes 0 0)))))) e
       ∙ ap (λ t. cond t (number_piece false 0 (digits_of (b ∷ bytes))) (cond (b == 39) (sized (length (text_value bytes)) (text_from 1 bytes)) (cond (b == 45 && is_digit (get_or bytes 0 0)) (number_piece true 1 (digits_of bytes)) (sign b (get_or bytes 0 0))))) f
       ∙ ap (λ t. cond t (sized (length (text_value bytes)) (text_from 1 bytes)) (cond (b == 45 && is_digit (get_or bytes 0 0)) (number_piece true 1 (digits_of bytes)) (sign b (get_or bytes 0 0)))) g
       ∙ ap (λ t. cond t (number_piece true 1 (digits_of bytes)) (sign b (get_or bytes 0 0))) m
 
-  at_sign : is_word_start b ≡ false → is_digit b ≡ false → (b == 39) ≡ false → (b == 45 && is_digit (get_or bytes 0 0)) ≡ false → piece_of b bytes ≡ sign b (get_or bytes 0 0)
+  pub at_sign : is_word_start b ≡ false → is_digit b ≡ false → (b == 39) ≡ false → (b == 45 && is_digit (get_or bytes 0 0)) ≡ false → piece_of b bytes ≡ sign b (get_or bytes 0 0)
   unfolding piece_of
   at_sign e f g m = ap (λ t. cond t (Of Word (prefix_len is_name_byte bytes + 1)) (cond (is_digit b) (number_piece false 0 (digits_of (b ∷ bytes))) (cond (b == 39) (sized (length (text_value bytes)) (text_from 1 bytes)) (cond (b == 45 && is_digit (get_or bytes 0 0)) (number_piece true 1 (digits_of bytes)) (sign b (get_or bytes 0 0)))))) e
       ∙ ap (λ t. cond t (number_piece false 0 (digits_of (b ∷ bytes))) (cond (b == 39) (sized (length (text_value bytes)) (text_from 1 bytes)) (cond (b == 45 && is_digit (get_or bytes 0 0)) (number_piece true 1 (digits_of bytes)) (sign b (get_or bytes 0 0))))) f
@@ -114,11 +114,11 @@ next_digit : (bytes : List ℕ) → is_digit (get_or bytes 0 0) ≡ true → is_
 next_digit [] h = h
 next_digit (c ∷ bytes) h = ap (λ l. is_digit (get_or l 0 0)) (digits_step c bytes h) ∙ h
 
-and_right : (a b : Bool) → (a && b) ≡ true → b ≡ true
+pub and_right : (a b : Bool) → (a && b) ≡ true → b ≡ true
 and_right true b e = e
 and_right false b e = true_false (sym e)
 
-and_left : (a b : Bool) → (a && b) ≡ true → a ≡ true
+pub and_left : (a b : Bool) → (a && b) ≡ true → a ≡ true
 and_left true b e = refl
 and_left false b e = true_false (sym e)
 
@@ -137,47 +137,47 @@ minus_again b bytes kind n w d q m e =
 abbrev TextWithin : ℕ → List ℕ → TokenKind → ℕ → Type 0
 TextWithin k bytes kind n = (j : ℕ) × (n ≡ k + j) × (text_from k (take j bytes) ≡ Of kind n) × (text_value (take j bytes) ≡ text_value bytes)
 
-quote_step : (k b : ℕ) (bytes : List ℕ) → (b == 39) ≡ true → text_from k (b ∷ bytes) ≡ text_quote k bytes
+pub quote_step : (k b : ℕ) (bytes : List ℕ) → (b == 39) ≡ true → text_from k (b ∷ bytes) ≡ text_quote k bytes
 unfolding text_from
 quote_step k b bytes e = ap (λ t. cond t (text_quote k bytes) (cond (is_control b) (Bad k) (text_from (k + 1) bytes))) e
 
-plain_step : (k b : ℕ) (bytes : List ℕ) → (b == 39) ≡ false → is_control b ≡ false → text_from k (b ∷ bytes) ≡ text_from (k + 1) bytes
+pub plain_step : (k b : ℕ) (bytes : List ℕ) → (b == 39) ≡ false → is_control b ≡ false → text_from k (b ∷ bytes) ≡ text_from (k + 1) bytes
 unfolding text_from
 plain_step k b bytes e f = ap (λ t. cond t (text_quote k bytes) (cond (is_control b) (Bad k) (text_from (k + 1) bytes))) e ∙ ap (λ t. cond t (Bad k) (text_from (k + 1) bytes)) f
 
-bad_step : (k b : ℕ) (bytes : List ℕ) → (b == 39) ≡ false → is_control b ≡ true → text_from k (b ∷ bytes) ≡ Bad k
+pub bad_step : (k b : ℕ) (bytes : List ℕ) → (b == 39) ≡ false → is_control b ≡ true → text_from k (b ∷ bytes) ≡ Bad k
 unfolding text_from
 bad_step k b bytes e f = ap (λ t. cond t (text_quote k bytes) (cond (is_control b) (Bad k) (text_from (k + 1) bytes))) e ∙ ap (λ t. cond t (Bad k) (text_from (k + 1) bytes)) f
 
-open_step : (k : ℕ) → text_from k [] ≡ Open
+pub open_step : (k : ℕ) → text_from k [] ≡ Open
 unfolding text_from
 open_step k = refl
 
-last_step : (k : ℕ) → text_quote k [] ≡ Of Text (k + 1)
+pub last_step : (k : ℕ) → text_quote k [] ≡ Of Text (k + 1)
 unfolding text_quote
 last_step k = refl
 
-doubled_step : (k c : ℕ) (bytes : List ℕ) → (c == 39) ≡ true → text_quote k (c ∷ bytes) ≡ text_from (k + 2) bytes
+pub doubled_step : (k c : ℕ) (bytes : List ℕ) → (c == 39) ≡ true → text_quote k (c ∷ bytes) ≡ text_from (k + 2) bytes
 unfolding text_quote
 doubled_step k c bytes e = ap (λ t. cond t (text_from (k + 2) bytes) (Of Text (k + 1))) e
 
-closed_step : (k c : ℕ) (bytes : List ℕ) → (c == 39) ≡ false → text_quote k (c ∷ bytes) ≡ Of Text (k + 1)
+pub closed_step : (k c : ℕ) (bytes : List ℕ) → (c == 39) ≡ false → text_quote k (c ∷ bytes) ≡ Of Text (k + 1)
 unfolding text_quote
 closed_step k c bytes e = ap (λ t. cond t (text_from (k + 2) bytes) (Of Text (k + 1))) e
 
-value_plain : (b : ℕ) (bytes : List ℕ) → (b == 39) ≡ false → text_value (b ∷ bytes) ≡ b ∷ text_value bytes
+pub value_plain : (b : ℕ) (bytes : List ℕ) → (b == 39) ≡ false → text_value (b ∷ bytes) ≡ b ∷ text_value bytes
 unfolding text_value
 value_plain b bytes e = ap (λ t. cond t (quote_value bytes) (b ∷ text_value bytes)) e
 
-value_doubled : (b c : ℕ) (bytes : List ℕ) → (b == 39) ≡ true → (c == 39) ≡ true → text_value (b ∷ c ∷ bytes) ≡ 39 ∷ text_value bytes
+pub value_doubled : (b c : ℕ) (bytes : List ℕ) → (b == 39) ≡ true → (c == 39) ≡ true → text_value (b ∷ c ∷ bytes) ≡ 39 ∷ text_value bytes
 unfolding text_value
 value_doubled b c bytes e f = ap (λ t. cond t (cond (c == 39) (39 ∷ text_value bytes) []) (b ∷ text_value (c ∷ bytes))) e ∙ ap (λ t. cond t (39 ∷ text_value bytes) []) f
 
-value_closed : (b c : ℕ) (bytes : List ℕ) → (b == 39) ≡ true → (c == 39) ≡ false → text_value (b ∷ c ∷ bytes) ≡ []
+pub value_closed : (b c : ℕ) (bytes : List ℕ) → (b == 39) ≡ true → (c == 39) ≡ false → text_value (b ∷ c ∷ bytes) ≡ []
 unfolding text_value
 value_closed b c bytes e f = ap (λ t. cond t (cond (c == 39) (39 ∷ text_value bytes) []) (b ∷ text_value (c ∷ bytes))) e ∙ ap (λ t. cond t (39 ∷ text_value bytes) []) f
 
-value_last : (b : ℕ) → (b == 39) ≡ true → text_value (b ∷ []) ≡ []
+pub value_last : (b : ℕ) → (b == 39) ≡ true → text_value (b ∷ []) ≡ []
 unfolding text_value
 value_last b e = ap (λ t. cond t [] (b ∷ text_value [])) e
 
@@ -215,7 +215,7 @@ text_within k (b ∷ c ∷ bytes) kind n e = by_test (b == 39)
     (λ f. true_false (sym (ap is_of (sym (bad_step k b (c ∷ bytes) q f) ∙ e))))
     (λ f. within_longer k b c bytes kind n q f (text_within (k + 1) (c ∷ bytes) kind n (sym (plain_step k b (c ∷ bytes) q f) ∙ e))))
 
-sized_of : (size : ℕ) (p : Piece) (kind : TokenKind) (n : ℕ) → sized size p ≡ Of kind n → (p ≡ Of kind n) × (nat_lt 4096 size ≡ false)
+pub sized_of : (size : ℕ) (p : Piece) (kind : TokenKind) (n : ℕ) → sized size p ≡ Of kind n → (p ≡ Of kind n) × (nat_lt 4096 size ≡ false)
 sized_of size (Of k m) kind n e = by_size (nat_lt 4096 size) e
   where
     by_size : (t : Bool) → cond t Long (Of k m) ≡ Of kind n → (Of k m ≡ Of kind n) × (t ≡ false)
@@ -240,7 +240,7 @@ text_again b bytes kind n w d q e =
 
 -- ---- signs
 
-or_true : {X : Type 0} (a b : Bool) → (a || b) ≡ true → (a ≡ true → X) → (b ≡ true → X) → X
+pub or_true : {X : Type 0} (a b : Bool) → (a || b) ≡ true → (a ≡ true → X) → (b ≡ true → X) → X
 or_true true b e f g = f refl
 or_true false b e f g = g e
 

@@ -1,12 +1,23 @@
 -- Reading from the front of a list, what is counted meanwhile, and what it says of a grammar.
-use Rattle.std.specs.Prelude.{◌≡◌, ℕ, zero, suc, ◌+◌, ◌-◌, ◌<◌, ◌≤◌, max, Bool, false, ◌==◌, if◌then◌else◌, nat_lt, get_or, List, [], ◌∷◌, ◌++◌, ◌⊎◌}
+--
+-- A crate above makes a production in four steps.
+-- 1. Its reader, from the parsers below: `lead (is_word (codes "DROP")) (lead (is_word (codes "TABLE")) (map_to drop name))`.
+--    A part is `name` and the others of `Constants`, or `fresh (outermost q).expr` for an expression with counts of its own;
+--    a list is `more` (up to a limit of its kind) or `many`; a choice by the next lexeme is `choose`, a part that may be missing `option`.
+-- 2. Its grammar, from those beside the parsers (`leadG`, `bindG`, `mapG`, `AreMore`, `freshG`), or an inductive one with laws both ways (`good_iff`).
+-- 3. `Good 0 32 reader grammar goes`, by the law of each part: `lead_good`, `bind_lead`, `map_good`, `name_good`, `fresh_expr_good`, `more_good`, `many_good`.
+--    `goes` tells the lexemes with which the production itself goes on; `λ x. false` where it ends by itself.
+-- 4. The Rust function over the `Cursor`, which ensures `Reads view (reader c.old.nodes (ahead c.old)) result c.new`: what it calls ensures the same of
+--    its own part, and `lead_seen`, `lead_not`, `option_takes`, `option_not` and the steps of loops (`more_next`, `many_next`, ..) join them.
+-- What `Good` says then holds of every list of lexemes: what is read is in the grammar, what is in it is read, and a fault stands at the first place.
+use Rattle.std.specs.Prelude.{◌≡◌, ℕ, zero, suc, ◌+◌, ◌-◌, ◌<◌, ◌≤◌, max, Bool, false, ◌==◌, if◌then◌else◌, nat_lt, get_or, List, [], ◌∷◌, ◌++◌, length, Option, Some, None, ◌⊎◌}
 use Rattle.prima_base.specs.declared.refusals.What.{What}
 use Rattle.prima_base.specs.declared.refusals.What.TheVariants as what
 use Rattle.lexer.specs.Lexemes.{Lexeme}
 
 -- ---- counts
 
--- the nodes of what is read, the most constructs that are open at once, and the longest list of each kind
+-- the nodes of what is read, the most constructs that are open at once, and the longest list of each kind; of kind Nodes, the nodes of the largest part with counts of its own
 pub record Size : Type 0 where
   pub nodes : ℕ
   pub depth : ℕ
@@ -41,6 +52,10 @@ rank what.Versions = 10
 -- a list of so many
 abbrev pub so_wide : What → ℕ → Size
 so_wide w j = record { nodes = 0; depth = 0; wide = λ v. if rank v == rank w then j else 0 }
+
+-- a part with counts of its own: its nodes are none of those around it
+abbrev pub fresh_size : Size → Size
+fresh_size s = record { nodes = 0; depth = s.depth; wide = λ w. if rank w == 0 then max s.nodes (s.wide w) else s.wide w }
 
 -- the most of each, by its rank; no list of kinds 7, 8 and 10 is counted while it is read
 abbrev pub limits : List ℕ
@@ -98,7 +113,7 @@ Stops goes (x ∷ rest) = goes x ≡ false
 
 -- too much of this, with so many nodes before it and so many constructs that may be opened
 abbrev pub Exceeds : What → ℕ → ℕ → Size → Type 0
-Exceeds what.Nodes n d s = 256 < n + s.nodes
+Exceeds what.Nodes n d s = 256 < max (n + s.nodes) (s.wide what.Nodes)
 Exceeds what.Depth n d s = d < s.depth
 Exceeds w n d s = limit w < s.wide w
 
@@ -207,6 +222,42 @@ AreMore sep end G j (a ∷ others) s ts = (s1 : Size) × (s2 : Size) × (f : Lis
 -- each behind the separator, and each of at least one node, so that there are no more than nodes that are left
 unfoldable pub nodes_more : {A : Type 0} → (Lexeme → Bool) → Parser A → Parser (List A)
 nodes_more is item = λ n ts. more is what.Nodes item (257 - n) n ts
+
+-- each behind the separator, as many as there are, but no more than the first number
+unfoldable pub as_many : {A : Type 0} → (Lexeme → Bool) → Parser A → ℕ → Parser (List A)
+as_many is item zero = pure []
+as_many is item (suc k) = option is (Takes (bind item (λ a. map_to (λ others. a ∷ others) (as_many is item k)))) []
+
+-- as many as there are: each takes a lexeme at least, its separator
+abbrev pub many : {A : Type 0} → (Lexeme → Bool) → Parser A → Parser (List A)
+many is item = λ n ts. as_many is item (length ts) n ts
+
+-- the size of the end of a list that is not counted
+abbrev pub no_end : ℕ → Size
+no_end j = nothing_counted
+
+-- with counts of its own, which begin at nothing; behind it those before it go on
+abbrev pub set_back : {A : Type 0} → ℕ → Out A → Out A
+set_back n (Got a m rest) = Got a n rest
+set_back n (Stuck rest) = Stuck rest
+set_back n (Over w rest) = Over w rest
+
+abbrev pub fresh : {A : Type 0} → Parser A → Parser A
+fresh p = λ n ts. set_back n (p 0 ts)
+
+abbrev pub freshG : {A : Type 0} → (A → Size → List Lexeme → Type 0) → A → Size → List Lexeme → Type 0
+freshG G a s ts = (t : Size) × (s ≡ fresh_size t) × G a t ts
+
+-- one lexeme, by what it says
+abbrev pub single_arm : {A : Type 0} → Option A → Arm A
+single_arm None = No
+single_arm (Some a) = Takes (pure a)
+
+abbrev pub single : {A : Type 0} → (Lexeme → Option A) → Parser A
+single says = choose (λ x. single_arm (says x))
+
+abbrev pub singleG : {A : Type 0} → (Lexeme → Option A) → A → Size → List Lexeme → Type 0
+singleG says a s ts = (x : Lexeme) × (says x ≡ Some a) × (s ≡ nothing_counted) × (ts ≡ x ∷ [])
 
 -- behind what was read before
 abbrev pub prepend : {A : Type 0} → List A → Out (List A) → Out (List A)

@@ -8,6 +8,7 @@ use Rattle.cond_expr.specs.declared.exprs.CmpOp.TheVariants.{Eq, Ne, Lt, Le, Gt,
 use Rattle.cond_expr.specs.Trees.{Tree, Test, column, constant, length_of, joined, choose as chosen, never, always, compared, all_of, some_of, fails, a_tree, a_test}
 use Rattle.cond_expr.specs.Seen.{trees_of, tests_of}
 use Rattle.lexer.specs.Lexemes.{Lexeme, word, number, text, sign, is_word, is_sign, is_name, is_int}
+use Rattle.lexer.specs.Constants.{name}
 use Rattle.lexer.specs.Parsing.{Over, Parser, Arm, No, Takes, Counts, Whole, Refuses, Fills, bind, pure, lead, pick, choose, option, map_to, more, nodes_more}
 
 -- what stands inside one more open construct
@@ -15,14 +16,6 @@ pub record Level : Type 0 where
   pub expr : Parser Tree
   pub cond : Parser Test
   pub fact : Parser Test
-
--- a name
-abbrev pub name_arm : Lexeme → Arm (List ℕ)
-name_arm (word n) = if is_name n then Takes (pure n) else No
-name_arm _ = No
-
-unfoldable pub name : Parser (List ℕ)
-name = choose name_arm
 
 -- behind a name
 unfoldable pub ref_rest : Bool → List ℕ → Parser Tree

@@ -1,5 +1,5 @@
 -- What a function that reads ensures.
-use Rattle.std.specs.Prelude.{◌≡◌, ℤ, Bool, false, List, [], ◌∷◌, ◌++◌, map, Option, Some, None, Result, Ok, Err, if◌then◌else◌}
+use Rattle.std.specs.Prelude.{◌≡◌, ℕ, ℤ, pos, negsuc, nat_le, Bool, false, List, [], ◌∷◌, ◌++◌, map, Option, Some, None, Result, Ok, Err, if◌then◌else◌}
 use Rattle.lexer.specs.declared.reading.Stop.{Stop}
 use Rattle.lexer.specs.declared.reading.Stop.TheVariants as stop
 use Rattle.lexer.specs.declared.reading.Cursor.{Cursor}
@@ -33,6 +33,11 @@ ReadsMore out old all (Err e) new = Fails out e new
 
 abbrev pub in_range : ℤ → Option ℤ
 in_range z = if is_int z then Some z else None
+
+-- the number, if it is one from 0 to the most
+abbrev pub natural_in : ℕ → ℤ → Option ℕ
+natural_in most (pos n) = if nat_le n most then Some n else None
+natural_in most (negsuc n) = None
 
 -- the comparison that the next lexeme is
 abbrev pub first_op : List Lexeme → Option CmpOp

@@ -5,6 +5,7 @@ use std::alloc::AllocError;
 /// Why a text has no tokens. A place counts the text's bytes from 0.
 #[derive(Clone, Copy, Debug, PartialEq, Eq)]
 pub enum LexFault {
+    /// The list of tokens found no memory.
     NoMemory,
     /// The place of a byte that begins no token, or of a control byte inside a text literal.
     BadByte(u32),

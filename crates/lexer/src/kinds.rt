@@ -4,8 +4,13 @@
 /// or two bytes.
 #[derive(Clone, Copy, Debug, PartialEq, Eq)]
 pub enum TokenKind {
+    /// A letter or `_`, then letters, digits and `_`. Names and reserved words are words.
     Word,
+    /// Digits, or `-` and digits, of a value from -2^63 to 2^64 - 1.
     Number,
+    /// A text in single quotes, in which a quote is doubled. It stands for 0 to 4,096 bytes, none of
+    /// them a control byte.
     Text,
+    /// `(` `)` `,` `.` `=` `<>` `<=` `>=` `<` or `>`.
     Sign,
 }

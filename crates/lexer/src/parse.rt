@@ -1,14 +1,16 @@
 //! An expression or a condition from a list of tokens.
 
-ghost use Rattle.std.specs.Prelude.{◌≡◌, ◌++◌, ◌<◌, ◌≤◌, ◌+◌, List, length, take, drop};
+ghost use Rattle.std.specs.Prelude.{◌≡◌, ◌++◌, ◌<◌, ◌≤◌, ◌+◌, ◌∷◌, List, length, take, drop};
 ghost use Rattle.cond_expr.specs.Trees.{Tree, Test};
 ghost use Rattle.cond_expr.specs.Seen.{tree, test};
 ghost use Rattle.lexer.specs.Lexemes.{Lexeme};
 ghost use Rattle.lexer.specs.declared.reading.Stop.TheVariants as stop;
 ghost use Rattle.lexer.specs.Grammar.{IsExpr, IsCond};
+ghost use Rattle.lexer.specs.Marks.{FirstPassed, expr_marks, cond_marks};
 ghost use Rattle.lexer.specs.Parsing.{Size, Stops, limit};
+ghost use Rattle.prima_base.specs.declared.refusals.What.{What as Counted};
 ghost use Rattle.lexer.specs.Reader.{goes_expr, goes_cond, outermost};
-ghost use Rattle.lexer.specs.Found.{IsRead, Finds, IsFirstFault, Follows, FaultAt, lexemes_from};
+ghost use Rattle.lexer.specs.Found.{IsRead, Finds, IsFirstFault, IsTooMany, Follows, FaultAt, lexemes_from};
 
 use crate::reader::{outer_cond, outer_expr};
 use crate::{Cursor, Stop, Token};
@@ -19,6 +21,7 @@ use std::alloc::Global;
 /// Why a list holds no expression or condition at a place.
 #[derive(Clone, Copy, Debug, PartialEq, Eq)]
 pub enum ParseFault {
+    /// The tree found no memory.
     NoMemory,
     /// The place in the statement of the first token with which nothing goes on.
     Syntax(u32),
@@ -67,8 +70,12 @@ fn fault_at(why: Stop, list: &[Token<'_>], left: usize) -> ParseFault
     }
 }
 
-/// The expression at a place of the list, and the place behind it. References are those of queries,
-/// `Free` or `Alias`, where `qualified`, and else columns of atom 0.
+/// The expression that begins at the token `from` of the list, and the place of the token behind it.
+/// Places count the list's tokens from 0; `from` is at most its length. The longest expression is
+/// read. References are those of queries, `Free` or `Alias`, where `qualified`, and else columns of
+/// atom 0. At most 256 nodes are read, at most 32 brackets, CASEs and NOTs are open at once, and a
+/// CONCAT has at most 8 parts: the first token that is one more is `TooMany`, and of two counts that
+/// pass at one token it is the nodes.
 pub fn parse_expr(
     alloc: Global,
     list: &[Token<'_>],
@@ -76,13 +83,16 @@ pub fn parse_expr(
     qualified: bool,
 ) -> Result<(Expr, usize), ParseFault>
     requires { from ≤ length list.now }
-    // What is read is in the grammar.
+    // What is read is in the grammar, and nothing of it goes on with the token behind it.
     ensures read { IsRead tree (IsExpr qualified) list.now from result }
     // What is in the grammar, up to a token that it does not go on with, is read if it is within the limits, and else refused.
     ensures only { (e : Tree) (s : Size) (front rest : List Lexeme) → lexemes_from list.now from ≡ front ++ rest → IsExpr qualified e s front → Stops (goes_expr qualified) rest →
         Finds tree e s (from + length front) result }
-    // A fault is at the first token with which nothing of the grammar goes on, or only what is too much.
-    ensures fault { IsFirstFault (IsExpr qualified) list.now from result }
+    // A fault is at the first token with which nothing of the grammar goes on, or at which a count passes its limit.
+    ensures fault { IsFirstFault (IsExpr qualified) (expr_marks qualified) list.now from result }
+    // A front that passes a limit at its last token is refused there for this count, whatever stands behind it.
+    ensures over { (w : Counted) (front rest more : List Lexeme) (x : Lexeme) (e : Tree) (s : Size) (h : IsExpr qualified e s (front ++ x ∷ more)) → lexemes_from list.now from ≡ front ++ x ∷ rest →
+        FirstPassed w (expr_marks qualified e s (front ++ x ∷ more) h) (length front) → IsTooMany w result }
     ensures exact { Follows tree ((outermost qualified).expr 0 (lexemes_from list.now from)) list.now result }
 {
     let mut cursor = Cursor {
@@ -95,7 +105,8 @@ pub fn parse_expr(
     }
 }
 
-/// The condition at a place of the list, and the place behind it; as `parse_expr` does.
+/// The condition that begins at the token `from` of the list, and the place of the token behind it.
+/// Places, references and limits are those of `parse_expr`.
 pub fn parse_cond(
     alloc: Global,
     list: &[Token<'_>],
@@ -106,7 +117,9 @@ pub fn parse_cond(
     ensures read { IsRead test (IsCond qualified) list.now from result }
     ensures only { (c : Test) (s : Size) (front rest : List Lexeme) → lexemes_from list.now from ≡ front ++ rest → IsCond qualified c s front → Stops (goes_cond qualified) rest →
         Finds test c s (from + length front) result }
-    ensures fault { IsFirstFault (IsCond qualified) list.now from result }
+    ensures fault { IsFirstFault (IsCond qualified) (cond_marks qualified) list.now from result }
+    ensures over { (w : Counted) (front rest more : List Lexeme) (x : Lexeme) (c : Test) (s : Size) (h : IsCond qualified c s (front ++ x ∷ more)) → lexemes_from list.now from ≡ front ++ x ∷ rest →
+        FirstPassed w (cond_marks qualified c s (front ++ x ∷ more) h) (length front) → IsTooMany w result }
     ensures exact { Follows test ((outermost qualified).cond 0 (lexemes_from list.now from)) list.now result }
 {
     let mut cursor = Cursor {

@@ -10,8 +10,9 @@ use crate::kinds::TokenKind;
 /// What stands at the front.
 #[derive(Clone, Copy, Debug, PartialEq, Eq)]
 pub enum Piece {
+    /// Nothing.
     End,
-    /// A token of so many bytes.
+    /// A token of this kind and so many bytes.
     Of(TokenKind, usize),
     /// A byte so far behind the front that cannot stand there.
     Bad(usize),

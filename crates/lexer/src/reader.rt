@@ -374,3 +374,28 @@ pub fn outer_cond(alloc: Global, c: &mut Cursor<'_, '_>, qualified: bool) -> Res
 {
     cond(alloc, c, qualified, MOST_OPEN)
 }
+
+/// An expression with counts of its own: 256 nodes and 32 open constructs, whatever was counted
+/// before it. Behind it the cursor's count is as it was.
+#[tactic(auto, using(crate::proofs::ReadSteps::fresh_fails))]
+pub fn fresh_expr(alloc: Global, c: &mut Cursor<'_, '_>, qualified: bool) -> Result<Expr, Stop>
+    ensures { Reads tree (parsing.fresh (spec.outermost qualified).expr c.old.nodes (ahead c.old)) result c.new }
+{
+    let before = c.nodes;
+    c.nodes = 0;
+    let found = outer_expr(alloc, c, qualified);
+    c.nodes = before;
+    found
+}
+
+/// A condition with counts of its own, as `fresh_expr`.
+#[tactic(auto, using(crate::proofs::ReadSteps::fresh_fails))]
+pub fn fresh_cond(alloc: Global, c: &mut Cursor<'_, '_>, qualified: bool) -> Result<Cond, Stop>
+    ensures { Reads test (parsing.fresh (spec.outermost qualified).cond c.old.nodes (ahead c.old)) result c.new }
+{
+    let counted = c.nodes;
+    c.nodes = 0;
+    let found = outer_cond(alloc, c, qualified);
+    c.nodes = counted;
+    found
+}

@@ -11,10 +11,11 @@ use std::alloc::AllocError;
 /// Why nothing was read.
 #[derive(Clone, Copy, Debug, PartialEq, Eq)]
 pub enum Stop {
+    /// What was read found no memory. Where the cursor stands then is not said.
     NoMemory,
     /// With the token at the cursor nothing goes on, or the tokens ended.
     Stuck,
-    /// The token at the cursor is one too many.
+    /// The token at the cursor is one too many of this kind.
     TooMany(What),
 }
 
@@ -56,7 +57,9 @@ const MAX_NODES: u32 = 256;
 /// The tokens not yet read, and how many nodes were counted.
 #[derive(Drop)]
 pub struct Cursor<'a, 't> {
+    /// The tokens from the next one on.
     pub rest: &'a [Token<'t>],
+    /// The nodes of the outermost expression or condition that is being read, at most 256.
     pub nodes: u32,
     pub ghost few: { nodes ≤ 256 },
 }

@@ -10,8 +10,11 @@ use crate::kinds::TokenKind;
 /// front. The bytes are one whole token of the kind, with no lexical fault.
 #[derive(Clone, Copy)]
 pub struct Token<'a> {
+    /// What the token is.
     pub kind: TokenKind,
+    /// The token's bytes: a text has its quotes, a number its sign.
     pub text: &'a [u8],
+    /// The place of its first byte in the statement, from 0.
     pub at: u32,
     pub ghost whole: { piece text.now ≡ Of kind (length text.now) },
 }

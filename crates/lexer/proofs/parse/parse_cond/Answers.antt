@@ -7,7 +7,10 @@ use Rattle.lexer.specs.Reads.{ahead, Fails}
 use Rattle.lexer.specs.Grammar.{IsCond}
 use Rattle.lexer.specs.Reader.{outermost, goes_cond}
 use Rattle.lexer.proofs.Goodness.{outermost_good}
-use Rattle.lexer.proofs.Places.{length_map, got_fits, got_read, got_only, got_exact, err_fits, err_only, err_fault, err_exact}
+use Rattle.lexer.proofs.Places.{length_map, got_fits, got_read, got_only, got_exact, got_over, err_fits, err_only, err_fault, err_over, err_exact}
+use Rattle.lexer.proofs.MarksJoined.{cond_marked}
+use Rattle.lexer.proofs.MarkSizes.{cond_length}
+use Rattle.lexer.specs.Marks.{cond_marks}
 use Rattle.lexer.proofs.parse.parse_cond.Goals as goal
 
 pub overflow_sub-result : goal.overflow_sub-result
@@ -29,7 +32,13 @@ pub returns-in-Err-clause-only : goal.returns-in-Err-clause-only
 returns-in-Err-clause-only c = err_only (outermost c.args.qualified).cond (IsCond c.args.qualified) (goes_cond c.args.qualified) (outermost_good c.args.qualified).cond c.args.list.now c.args.from c.requires c.outer_cond.new.c test c.in-Err.stop c.fault_at.result (let P : List Token → Type 0 = λ l. Fails ((outermost c.args.qualified).cond 0 (map lexeme l)) c.in-Err.stop c.outer_cond.new.c in subst P c.tail.ensures c.in-Err.ensures) c.fault_at.ensures
 
 pub returns-in-Err-clause-fault : goal.returns-in-Err-clause-fault
-returns-in-Err-clause-fault c = err_fault (outermost c.args.qualified).cond (IsCond c.args.qualified) (goes_cond c.args.qualified) (outermost_good c.args.qualified).cond c.args.list.now c.args.from c.requires c.outer_cond.new.c Cond c.in-Err.stop c.fault_at.result (let P : List Token → Type 0 = λ l. Fails ((outermost c.args.qualified).cond 0 (map lexeme l)) c.in-Err.stop c.outer_cond.new.c in subst P c.tail.ensures c.in-Err.ensures) c.fault_at.ensures
+returns-in-Err-clause-fault c = err_fault (outermost c.args.qualified).cond (IsCond c.args.qualified) (goes_cond c.args.qualified) (outermost_good c.args.qualified).cond c.args.list.now c.args.from c.requires (cond_marks c.args.qualified) (cond_marked c.args.qualified) (cond_length c.args.qualified) c.outer_cond.new.c Cond c.in-Err.stop c.fault_at.result (let P : List Token → Type 0 = λ l. Fails ((outermost c.args.qualified).cond 0 (map lexeme l)) c.in-Err.stop c.outer_cond.new.c in subst P c.tail.ensures c.in-Err.ensures) c.fault_at.ensures
+
+pub returns-in-Err-clause-over : goal.returns-in-Err-clause-over
+returns-in-Err-clause-over c = err_over (outermost c.args.qualified).cond (IsCond c.args.qualified) (goes_cond c.args.qualified) (outermost_good c.args.qualified).cond c.args.list.now c.args.from c.requires (cond_marks c.args.qualified) (cond_marked c.args.qualified) (cond_length c.args.qualified) c.outer_cond.new.c Cond c.in-Err.stop c.fault_at.result (let P : List Token → Type 0 = λ l. Fails ((outermost c.args.qualified).cond 0 (map lexeme l)) c.in-Err.stop c.outer_cond.new.c in subst P c.tail.ensures c.in-Err.ensures) c.fault_at.ensures
+
+pub returns-in-Ok-clause-over : goal.returns-in-Ok-clause-over
+returns-in-Ok-clause-over c = got_over (outermost c.args.qualified).cond (IsCond c.args.qualified) (goes_cond c.args.qualified) (outermost_good c.args.qualified).cond c.args.list.now c.args.from c.requires (cond_marks c.args.qualified) (cond_marked c.args.qualified) (cond_length c.args.qualified) (test c.in-Ok.found) c.outer_cond.new.c.nodes (ahead c.outer_cond.new.c) (ap (λ l. (outermost c.args.qualified).cond 0 (map lexeme l)) (sym c.tail.ensures) ∙ c.in-Ok.ensures)
 
 pub returns-in-Err-clause-exact : goal.returns-in-Err-clause-exact
 returns-in-Err-clause-exact c = err_exact (outermost c.args.qualified).cond (IsCond c.args.qualified) (goes_cond c.args.qualified) (outermost_good c.args.qualified).cond c.args.list.now c.args.from c.requires c.outer_cond.new.c test c.in-Err.stop c.fault_at.result (let P : List Token → Type 0 = λ l. Fails ((outermost c.args.qualified).cond 0 (map lexeme l)) c.in-Err.stop c.outer_cond.new.c in subst P c.tail.ensures c.in-Err.ensures) c.fault_at.ensures

@@ -7,7 +7,10 @@ use Rattle.lexer.specs.Reads.{ahead, Fails}
 use Rattle.lexer.specs.Grammar.{IsExpr}
 use Rattle.lexer.specs.Reader.{outermost, goes_expr}
 use Rattle.lexer.proofs.Goodness.{outermost_good}
-use Rattle.lexer.proofs.Places.{length_map, got_fits, got_read, got_only, got_exact, err_fits, err_only, err_fault, err_exact}
+use Rattle.lexer.proofs.Places.{length_map, got_fits, got_read, got_only, got_exact, got_over, err_fits, err_only, err_fault, err_over, err_exact}
+use Rattle.lexer.proofs.MarksJoined.{expr_marked}
+use Rattle.lexer.proofs.MarkSizes.{expr_length}
+use Rattle.lexer.specs.Marks.{expr_marks}
 use Rattle.lexer.proofs.parse.parse_expr.Goals as goal
 
 pub overflow_sub-result : goal.overflow_sub-result
@@ -29,7 +32,13 @@ pub returns-in-Err-clause-only : goal.returns-in-Err-clause-only
 returns-in-Err-clause-only c = err_only (outermost c.args.qualified).expr (IsExpr c.args.qualified) (goes_expr c.args.qualified) (outermost_good c.args.qualified).expr c.args.list.now c.args.from c.requires c.outer_expr.new.c tree c.in-Err.stop c.fault_at.result (let P : List Token → Type 0 = λ l. Fails ((outermost c.args.qualified).expr 0 (map lexeme l)) c.in-Err.stop c.outer_expr.new.c in subst P c.tail.ensures c.in-Err.ensures) c.fault_at.ensures
 
 pub returns-in-Err-clause-fault : goal.returns-in-Err-clause-fault
-returns-in-Err-clause-fault c = err_fault (outermost c.args.qualified).expr (IsExpr c.args.qualified) (goes_expr c.args.qualified) (outermost_good c.args.qualified).expr c.args.list.now c.args.from c.requires c.outer_expr.new.c Expr c.in-Err.stop c.fault_at.result (let P : List Token → Type 0 = λ l. Fails ((outermost c.args.qualified).expr 0 (map lexeme l)) c.in-Err.stop c.outer_expr.new.c in subst P c.tail.ensures c.in-Err.ensures) c.fault_at.ensures
+returns-in-Err-clause-fault c = err_fault (outermost c.args.qualified).expr (IsExpr c.args.qualified) (goes_expr c.args.qualified) (outermost_good c.args.qualified).expr c.args.list.now c.args.from c.requires (expr_marks c.args.qualified) (expr_marked c.args.qualified) (expr_length c.args.qualified) c.outer_expr.new.c Expr c.in-Err.stop c.fault_at.result (let P : List Token → Type 0 = λ l. Fails ((outermost c.args.qualified).expr 0 (map lexeme l)) c.in-Err.stop c.outer_expr.new.c in subst P c.tail.ensures c.in-Err.ensures) c.fault_at.ensures
+
+pub returns-in-Err-clause-over : goal.returns-in-Err-clause-over
+returns-in-Err-clause-over c = err_over (outermost c.args.qualified).expr (IsExpr c.args.qualified) (goes_expr c.args.qualified) (outermost_good c.args.qualified).expr c.args.list.now c.args.from c.requires (expr_marks c.args.qualified) (expr_marked c.args.qualified) (expr_length c.args.qualified) c.outer_expr.new.c Expr c.in-Err.stop c.fault_at.result (let P : List Token → Type 0 = λ l. Fails ((outermost c.args.qualified).expr 0 (map lexeme l)) c.in-Err.stop c.outer_expr.new.c in subst P c.tail.ensures c.in-Err.ensures) c.fault_at.ensures
+
+pub returns-in-Ok-clause-over : goal.returns-in-Ok-clause-over
+returns-in-Ok-clause-over c = got_over (outermost c.args.qualified).expr (IsExpr c.args.qualified) (goes_expr c.args.qualified) (outermost_good c.args.qualified).expr c.args.list.now c.args.from c.requires (expr_marks c.args.qualified) (expr_marked c.args.qualified) (expr_length c.args.qualified) (tree c.in-Ok.found) c.outer_expr.new.c.nodes (ahead c.outer_expr.new.c) (ap (λ l. (outermost c.args.qualified).expr 0 (map lexeme l)) (sym c.tail.ensures) ∙ c.in-Ok.ensures)
 
 pub returns-in-Err-clause-exact : goal.returns-in-Err-clause-exact
 returns-in-Err-clause-exact c = err_exact (outermost c.args.qualified).expr (IsExpr c.args.qualified) (goes_expr c.args.qualified) (outermost_good c.args.qualified).expr c.args.list.now c.args.from c.requires c.outer_expr.new.c tree c.in-Err.stop c.fault_at.result (let P : List Token → Type 0 = λ l. Fails ((outermost c.args.qualified).expr 0 (map lexeme l)) c.in-Err.stop c.outer_expr.new.c in subst P c.tail.ensures c.in-Err.ensures) c.fault_at.ensures

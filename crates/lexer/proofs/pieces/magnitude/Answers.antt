@@ -1,5 +1,5 @@
 use Rattle.std.proofs.Common.{arith}
-use Rattle.lexer.proofs.Numbers.{too_large}
+use Rattle.lexer.proofs.Digits.{too_large}
 use Rattle.lexer.proofs.pieces.magnitude.Goals as goal
 
 pub returns-in-None : goal.returns-in-None

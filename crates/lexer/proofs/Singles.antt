@@ -1,0 +1,83 @@
+-- The readers of names and constants are good for their grammars.
+use Rattle.std.proofs.Common.{◌≡◌, ℕ, pos, Bool, true, false, cond, ◌||◌, Option, Some, None, List, [], ◌∷◌, codes, nat_le, refl, sym, ap, ◌∙◌, arith}
+use Rattle.std.proofs.lemmas.Bool.Decides.{nat_tests}
+use Rattle.prima_base.specs.declared.values.Value.TheVariants.{Int}
+use Rattle.lexer.specs.Lexemes.{Lexeme, word, number, text, sign, is_sign, is_name}
+use Rattle.lexer.specs.Parsing.{Size, nothing_counted, Good, pure, pureG, no_end, single, single_arm, singleG}
+use Rattle.lexer.specs.Constants.{as_name, as_natural, as_moment, as_small, as_int, as_text, as_constant, name, nameG, natural, naturalG, moment, momentG, small, smallG, int, intG, literal, literalG, constant, constantG, names, namesG, more_names}
+use Rattle.lexer.proofs.Parsing.{ArmGood, good_iff, choose_good, pure_good, bind_more, many_good}
+use Rattle.lexer.proofs.Grammar.{sign_exact, sign_is, COMMA, some_name}
+
+-- ---- one lexeme
+
+module _ {A : Type 0} (low d : ℕ) (says : Lexeme → Option A) (goes : Lexeme → Bool) where
+  arm_of : (x : Lexeme) (o : Option A) → says x ≡ o → ArmGood low d (single_arm o) x (singleG says) goes
+  arm_of x None e = λ a s l h. let same : x ∷ l ≡ h.0 ∷ [] = h.3 in let z : x ≡ h.0 = cc in let k : None ≡ Some a = sym e ∙ ap says z ∙ h.1 in cc
+  arm_of x (Some a) e = good_iff low d (pure a) (pureG a) (λ b s l. singleG says b s (x ∷ l)) goes up down (pure_good low d a goes)
+    where
+      up : (b : A) (s : Size) (l : List Lexeme) → pureG a b s l → singleG says b s (x ∷ l)
+      up b s l h = (x, e ∙ ap Some (sym h.0), h.1, ap (λ t. x ∷ t) h.2)
+
+      down : (b : A) (s : Size) (l : List Lexeme) → singleG says b s (x ∷ l) → pureG a b s l
+      down b s l h =
+          let same : x ∷ l ≡ h.0 ∷ [] = h.3 in
+          let z : x ≡ h.0 = cc in
+          let k : Some a ≡ Some b = sym e ∙ ap says z ∙ h.1 in
+          ((let m : b ≡ a = cc in m), h.2, (let m : l ≡ [] = cc in m))
+
+  pub single_good : (x : Lexeme) (a : A) → says x ≡ Some a → Good low d (single says) (singleG says) goes
+  single_good x a e = choose_good low d (λ y. single_arm (says y)) (singleG says) goes (a, nothing_counted, x ∷ [], (x, e, refl, refl)) (λ b s h. let same : [] ≡ h.0 ∷ [] = h.3 in cc) (λ y. arm_of y (says y) refl)
+
+-- ---- each of them
+
+a_name : as_name (word (codes "a")) ≡ Some (codes "a")
+a_name = ap (λ b. cond b (Some (codes "a")) None) some_name
+
+pub name_good : (low d : ℕ) (goes : Lexeme → Bool) → Good low d name nameG goes
+unfolding name
+name_good low d goes = single_good low d as_name goes (word (codes "a")) (codes "a") a_name
+
+pub natural_good : (most low d : ℕ) (goes : Lexeme → Bool) → Good low d (natural most) (naturalG most) goes
+unfolding natural
+natural_good most low d goes = let e : nat_le 0 most ≡ true = grind (arith, nat_tests) in single_good low d (as_natural most) goes (number (pos 0)) 0 (ap (λ b. cond b (Some 0) None) e)
+
+pub moment_good : (low d : ℕ) (goes : Lexeme → Bool) → Good low d moment momentG goes
+unfolding moment
+moment_good low d goes = single_good low d as_moment goes (number (pos 0)) 0 refl
+
+pub small_good : (low d : ℕ) (goes : Lexeme → Bool) → Good low d small smallG goes
+unfolding small
+small_good low d goes = single_good low d as_small goes (number (pos 0)) 0 refl
+
+pub int_good : (low d : ℕ) (goes : Lexeme → Bool) → Good low d int intG goes
+unfolding int
+int_good low d goes = single_good low d as_int goes (number (pos 0)) (pos 0) refl
+
+pub literal_good : (low d : ℕ) (goes : Lexeme → Bool) → Good low d literal literalG goes
+unfolding literal
+literal_good low d goes = single_good low d as_text goes (text []) [] refl
+
+pub constant_good : (low d : ℕ) (goes : Lexeme → Bool) → Good low d constant constantG goes
+unfolding constant
+constant_good low d goes = single_good low d as_constant goes (number (pos 0)) (Int (pos 0)) refl
+
+-- a lexeme that is this name
+pub name_is : (x : Lexeme) (n : List ℕ) → as_name x ≡ Some n → (x ≡ word n) × (is_name n ≡ true)
+name_is (word m) n e = by_name (is_name m) refl e
+  where
+    by_name : (b : Bool) → is_name m ≡ b → cond b (Some m) None ≡ Some n → (word m ≡ word n) × (is_name n ≡ true)
+    by_name true f h = let z : m ≡ n = cc in (ap word z, sym (ap is_name z) ∙ f)
+    by_name false f h = let z : None ≡ Some n = h in cc
+name_is (number z) n e = let z : None ≡ Some n = e in cc
+name_is (text t) n e = let z : None ≡ Some n = e in cc
+name_is (sign t) n e = let z : None ≡ Some n = e in cc
+
+-- ---- names
+
+abbrev pub comma : Lexeme → Bool
+comma x = is_sign (codes ",") x || false
+
+pub names_good : (d : ℕ) → Good 0 d names namesG comma
+unfolding names
+names_good d = bind_more (is_sign COMMA) (sign COMMA) (sign_is COMMA) (sign_exact COMMA) d name nameG (λ x. false) (name_good 0 d (λ x. false)) refl no_end 0 0 more_names (λ n l. n ∷ l)
+    (many_good (is_sign COMMA) (sign COMMA) (sign_is COMMA) (sign_exact COMMA) d name nameG (λ x. false) (name_good 0 d (λ x. false)) refl 0)
