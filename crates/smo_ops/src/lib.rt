@@ -1,0 +1,17 @@
+//! Schema modification operators, changes of rows, and the commands that are made of them: what each means,
+//! and the checks before a command is accepted.
+//!
+//! A contract sees an operator, a change and a command as plain mirrors of them (`specs/Operators.antt`,
+//! `specs/Changes.antt`, `specs/Commands.antt`), and speaks of relations, databases and pasts by the definitions
+//! in `specs/`.
+#![tactic(auto)]
+
+mod changes;
+mod commands;
+mod ops;
+mod versions;
+
+pub use changes::{Change, ChangeFault};
+pub use commands::{Body, Command};
+pub use ops::{Op, OpFault};
+pub use versions::{Version, Versions};
