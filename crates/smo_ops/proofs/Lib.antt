@@ -1,1 +1,3 @@
 mod Worked
+pub mod Firsts
+pub mod CountLaws

@@ -37,11 +37,11 @@ set_names (s ∷ sets) = s.0 ∷ set_names sets
 abbrev pub table_fault : Tables → List ℕ → Fault
 table_fault tables t = unless (contains_key tables t) (NoTable t)
 
--- of each name, behind these: whether it stood before, and whether it is unknown
+-- of each name: whether it stood before, where these stand in front, and whether it is unknown
 abbrev pub names_behind : List ℕ → List Column → List (List ℕ) → List (List ℕ) → List Fault
 names_behind t columns before [] = []
 names_behind t columns before (n ∷ names) =
-    where_so (among n before) (ColumnExists t n) ∷ unless (among n (names_of columns)) (NoColumn n) ∷ names_behind t columns (n ∷ before) names
+    where_so (among n before) (ColumnExists t n) ∷ unless (among n (names_of columns)) (NoColumn n) ∷ names_behind t columns (before ++ n ∷ []) names
 
 abbrev pub name_faults : List ℕ → List Column → List (List ℕ) → List Fault
 name_faults t columns names = names_behind t columns [] names

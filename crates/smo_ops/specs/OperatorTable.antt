@@ -1,6 +1,6 @@
 -- The table of operators: of each its preconditions in the order in which they are tested, the tables that it makes,
 -- and the tables that it consumes.
-use Rattle.std.specs.Prelude.{ℕ, List, [], ◌∷◌, ◌++◌, not}
+use Rattle.std.specs.Prelude.{ℕ, List, [], ◌∷◌, ◌++◌, not, map}
 use Rattle.std.specs.List.{filter}
 use Rattle.std.specs.FinMap.{get, insert, remove}
 use Rattle.prima_base.specs.Columns.{Column, names_of}
@@ -25,6 +25,9 @@ pub record Line : Type 0 where
 
 abbrev pub a_table : List ℕ → List Column → (Database → Entry) → Made
 a_table name columns entry = record { name = name; columns = columns; entry = entry }
+
+abbrev pub made_names : List Made → List (List ℕ)
+made_names made = map (λ (m : Made). m.name) made
 
 -- without the consumed tables, and with the made ones
 abbrev pub without_all : List (List ℕ) → Tables → Tables

@@ -31,10 +31,10 @@ Precondition = Option OpRefusal
 abbrev pub among : List ℕ → List (List ℕ) → Bool
 among name names = has bytes_cmp name names
 
--- the first name that stood before
+-- the first name that stood before, where these stand in front
 abbrev pub again_behind : List (List ℕ) → List (List ℕ) → Option (List ℕ)
 again_behind before [] = None
-again_behind before (n ∷ names) = if among n before then Some n else again_behind (n ∷ before) names
+again_behind before (n ∷ names) = if among n before then Some n else again_behind (before ++ n ∷ []) names
 
 abbrev pub first_again : List (List ℕ) → Option (List ℕ)
 first_again names = again_behind [] names

@@ -1,5 +1,6 @@
 use crate::{Change, Op};
-use prima_base::FOREVER;
+use prima_base::{FOREVER, NoMemory};
+use std::alloc::Global;
 use std::marker::Model;
 
 /// What a command does.
@@ -36,8 +37,9 @@ impl Model for Command {
 }
 
 impl Command {
-    ghost use Rattle.std.specs.Prelude.{◌≡◌, ◌≤◌, ◌<◌, MatchOption};
+    ghost use Rattle.std.specs.Prelude.{◌≡◌, ◌≤◌, ◌<◌, MatchOption, IfOk};
     ghost use Rattle.relations.specs.Spans.{forever};
+    ghost use Rattle.smo_ops.specs.Commands.{command_of};
 
     /// The command with this stamp and this body: `Some` exactly where the stamp is below `FOREVER`. It takes
     /// no memory.
@@ -72,5 +74,15 @@ impl Command {
     {
         let Command { stamp: _, body } = self;
         body
+    }
+
+    /// An equal command. The one error is `NoMemory`, where memory runs out.
+    pub fn copy(&self, alloc: Global) -> Result<Command, NoMemory>
+        ensures { IfOk result (λ c. command_of c ≡ command_of self.now) }
+    {
+        Ok(Command {
+            stamp: self.stamp,
+            body: self.body.copy(alloc)?,
+        })
     }
 }

@@ -8,10 +8,17 @@
 
 mod changes;
 mod commands;
+mod copies;
+mod counts;
+mod names;
 mod ops;
+mod touched;
 mod versions;
 
 pub use changes::{Change, ChangeFault};
 pub use commands::{Body, Command};
+pub use counts::check_counts;
+pub use names::Made;
 pub use ops::{Op, OpFault};
+pub use touched::{consumed, made};
 pub use versions::{Version, Versions};
