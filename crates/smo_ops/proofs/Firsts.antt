@@ -1,8 +1,9 @@
 -- The first refusal of joined tests, and of the tests of a list's members from a place on.
-use Rattle.std.proofs.Common.{◌≡◌, ◌<◌, ℕ, suc, ◌+◌, List, [], ◌∷◌, ◌++◌, length, map, drop, get_or, refl, sym, ap, ◌∙◌, arith, drop-cons, add-one}
+use Rattle.std.proofs.Common.{◌≡◌, ◌<◌, ℕ, suc, Bool, true, false, ◌+◌, List, [], ◌∷◌, ◌++◌, length, map, drop, get_or, refl, sym, ap, ◌∙◌, arith, drop-cons, add-one}
 use Rattle.std.specs.Prelude.{Option, Some, None}
 use Rattle.std.specs.List.{flat_map}
-use Rattle.smo_ops.specs.First.{first_refusal}
+use Rattle.std.specs.Option.{option_map}
+use Rattle.smo_ops.specs.First.{unless, first_refusal}
 
 pub first_behind : {R : Type 0} (a b : List (Option R)) → first_refusal a ≡ None → first_refusal (a ++ b) ≡ first_refusal b
 first_behind [] b e = refl
@@ -26,3 +27,21 @@ module _ {A B R : Type 0} (f : B → List (Option R)) (g : A → B) (xs : List A
 
   pub tests_stop : (r : R) → first_refusal (f (g x)) ≡ Some r → first_refusal (flat_map f (map g (drop i xs))) ≡ Some r
   tests_stop r e = ap first_refusal tests_at ∙ first_before (f (g x)) (flat_map f (map g (drop (i + 1) xs))) r e
+
+-- where no test refuses, none of its parts does
+pub none_of_both : {R : Type 0} (a b : List (Option R)) → first_refusal (a ++ b) ≡ None → (first_refusal a ≡ None) × (first_refusal b ≡ None)
+none_of_both [] b e = (refl, e)
+none_of_both (None ∷ a) b e = none_of_both a b e
+none_of_both (Some r ∷ a) b e = absurd (cc)
+
+pub none_of_first : {R : Type 0} (x : Option R) (xs : List (Option R)) → first_refusal (x ∷ xs) ≡ None → (x ≡ None) × (first_refusal xs ≡ None)
+none_of_first None xs e = (refl, e)
+none_of_first (Some r) xs e = absurd (cc)
+
+pub met : {R : Type 0} (b : Bool) (r : R) → unless b r ≡ None → b ≡ true
+met true r e = refl
+met false r e = absurd (cc)
+
+pub none_mapped : {A B : Type 0} (f : A → B) (o : Option A) → option_map f o ≡ None → o ≡ None
+none_mapped f None e = refl
+none_mapped f (Some x) e = absurd (cc)

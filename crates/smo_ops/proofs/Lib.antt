@@ -1,3 +1,9 @@
 mod Worked
 pub mod Firsts
 pub mod CountLaws
+pub mod NameLaws
+pub mod TypeLaws
+pub mod RelationLaws
+pub mod DatabaseLaws
+pub mod ColumnLaws
+pub mod AfterLaws
