@@ -7,3 +7,6 @@ pub mod RelationLaws
 pub mod DatabaseLaws
 pub mod ColumnLaws
 pub mod AfterLaws
+pub mod CheckLaws
+pub mod PassedOn
+pub mod Places

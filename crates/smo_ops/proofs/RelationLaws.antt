@@ -20,7 +20,7 @@ use Rattle.smo_ops.specs.First.{unless, first_refusal}
 use Rattle.smo_ops.specs.OneRow.{Row, Relation, same, own_kinds, own_cells, meets, given, row_of, set_value, with_sets, updated}
 use Rattle.smo_ops.specs.Effects.{relation_after}
 use Rattle.smo_ops.specs.Preconditions.{type_in, first_not_among}
-use Rattle.smo_ops.specs.Checks.{given_names, set_names, name_faults, missing_fault, cell_faults, reference_fault, set_references, tree_fault, test_fault, set_faults, sets_nodes, tests_behind}
+use Rattle.smo_ops.specs.Checks.{pair_names, name_faults, missing_fault, cell_faults, reference_fault, set_references, tree_fault, test_fault, set_faults, sets_nodes, tests_behind}
 use Rattle.cond_expr.specs.Faults.{test_references}
 use Rattle.smo_ops.proofs.Firsts.{none_of_both, none_of_first, met, none_mapped}
 use Rattle.smo_ops.proofs.NameLaws.{same_itself, same_is, in_names, own_type, of_type, type_of, same_known, cell_typed, row_from, none_missing}
@@ -40,7 +40,7 @@ filter_ascends p (row ∷ rows) a = elim (p row) as (λ b. Ascends row_cmp (cond
 
 -- each given value is of its column's type
 first_given : (b : Bool) (m n : List ℕ) (v : Value) (k : ColType) (cells : List (List ℕ × Value)) → (b ≡ true → m ≡ n) → (m ≡ n → b ≡ true)
-    → (m ≡ n → value_kind v ≡ k) → (In n (given_names cells) → value_kind (given cells n) ≡ k) → In n (m ∷ given_names cells)
+    → (m ≡ n → value_kind v ≡ k) → (In n (pair_names cells) → value_kind (given cells n) ≡ k) → In n (m ∷ pair_names cells)
     → value_kind (if b then v else given cells n) ≡ k
 first_given true m n v k cells is not_so f more i = f (is refl)
 first_given false m n v k cells is not_so f more (inl e) = absurd (let h = not_so e in cc)
@@ -50,7 +50,7 @@ same_made : (m n : List ℕ) → m ≡ n → same m n ≡ true
 same_made m n e = subst (λ (x : List ℕ). same m x ≡ true) e (same_itself m)
 
 pub given_typed : (columns : List Column) (at : ℕ) (cells : List (List ℕ × Value)) (n : List ℕ) (k : ColType) → first_refusal (cell_faults columns at cells) ≡ None
-    → In n (given_names cells) → type_in columns n ≡ Some k → value_kind (given cells n) ≡ k
+    → In n (pair_names cells) → type_in columns n ≡ Some k → value_kind (given cells n) ≡ k
 given_typed columns at [] n k e i t = absurd i
 given_typed columns at (c ∷ cells) n k e i t =
     let parts = none_of_first (unless (same_kind (type_in columns c.0) (Some (value_kind c.1))) (WrongType at)) (cell_faults columns (at + 1) cells) e in
@@ -65,11 +65,11 @@ given_typed columns at (c ∷ cells) n k e i t =
 pub inserted_row : (columns : List Column) (t : List ℕ) (cells : List (List ℕ × Value)) (at : ℕ) → AreColumns columns
     → first_refusal (tests_behind columns (insertion t cells) at) ≡ None → IsRow columns (row_of columns cells)
 inserted_row columns t cells at a e =
-    let parts = none_of_both (name_faults t columns (given_names cells)) (missing_fault t columns (given_names cells) ∷ cell_faults columns at cells) e in
-    let rest = none_of_first (missing_fault t columns (given_names cells)) (cell_faults columns at cells) parts.1 in
-    let whole = none_mapped (ColumnMissing t) (first_not_among (given_names cells) (names_of columns)) rest.0 in
+    let parts = none_of_both (name_faults t columns (pair_names cells)) (missing_fault t columns (pair_names cells) ∷ cell_faults columns at cells) e in
+    let rest = none_of_first (missing_fault t columns (pair_names cells)) (cell_faults columns at cells) parts.1 in
+    let whole = none_mapped (ColumnMissing t) (first_not_among (pair_names cells) (names_of columns)) rest.0 in
     row_from columns (λ c. given cells c.0) (λ c m. of_type (given cells c.0) c.1
-    (given_typed columns at cells c.0 c.1 rest.1 (none_missing (names_of columns) (given_names cells) c.0 whole (in_names columns c m)) (own_type columns c a m)))
+    (given_typed columns at cells c.0 c.1 rest.1 (none_missing (names_of columns) (pair_names cells) c.0 whole (in_names columns c m)) (own_type columns c a m)))
 
 -- what is set is of its column's type
 first_set : (b : Bool) (v x : Value) (k : ColType) → (b ≡ true → value_kind v ≡ k) → value_kind x ≡ k → value_kind (if b then v else x) ≡ k
@@ -119,7 +119,7 @@ keeps_relation columns (update t sets c) at rows a r e = record {
     typed : first_refusal (set_faults columns at sets) ≡ None
     typed = (none_of_both (set_faults columns at sets) (test_fault columns (at + sets_nodes sets) c ∷ [])
         (none_of_first (reference_fault columns (set_references sets ++ test_references c)) (set_faults columns at sets ++ test_fault columns (at + sets_nodes sets) c ∷ [])
-        (none_of_both (name_faults t columns (set_names sets))
+        (none_of_both (name_faults t columns (pair_names sets))
         (reference_fault columns (set_references sets ++ test_references c) ∷ (set_faults columns at sets ++ test_fault columns (at + sets_nodes sets) c ∷ [])) e).1).1).0
 
     made : (row : Row) → (old : Row) × In old rows × (updated columns sets c old ≡ row) → IsRow columns row

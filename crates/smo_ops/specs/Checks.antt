@@ -1,6 +1,6 @@
 -- What is wrong with a change: the first of its tests, in the one order, that is not met. A place counts nodes: of an
 -- INSERT each value is one, and a tree has its nodes in pre-order.
-use Rattle.std.specs.Prelude.{◌≡◌, ℕ, ◌+◌, List, [], ◌∷◌, ◌++◌, length, Option, Some, None, Result, Ok, Err, ⊤}
+use Rattle.std.specs.Prelude.{◌≡◌, ◌≤◌, ℕ, ◌+◌, List, [], ◌∷◌, ◌++◌, length, Option, Some, None, Result, Ok, Err, ⊤}
 use Rattle.std.specs.List.{flat_map}
 use Rattle.std.specs.Option.{option_map}
 use Rattle.std.specs.FinMap.{contains_key}
@@ -25,13 +25,10 @@ use Rattle.smo_ops.specs.Preconditions.{among, type_in, first_not_among}
 abbrev pub Fault : Type 0
 Fault = Option Refusal
 
-abbrev pub given_names : List (List ℕ × Value) → List (List ℕ)
-given_names [] = []
-given_names (c ∷ cells) = c.0 ∷ given_names cells
-
-abbrev pub set_names : List (List ℕ × Tree) → List (List ℕ)
-set_names [] = []
-set_names (s ∷ sets) = s.0 ∷ set_names sets
+-- the names of what is given or set
+abbrev pub pair_names : {X : Type 0} → List (List ℕ × X) → List (List ℕ)
+pair_names [] = []
+pair_names (p ∷ pairs) = p.0 ∷ pair_names pairs
 
 -- the table is there
 abbrev pub table_fault : Tables → List ℕ → Fault
@@ -70,12 +67,14 @@ tree_fault columns at t = option_map (λ place. WrongType (at + place)) (first_o
 abbrev pub test_fault : List Column → ℕ → Test → Fault
 test_fault columns at c = option_map (λ place. WrongType (at + place)) (first_of (test_untyped (own_kinds columns) 0 c))
 
--- each expression is typed, and of its column's type, before the next; the first one begins at node `at`
+-- an expression is typed, and of its column's type; its root is node `at`
+abbrev pub set_tests : List Column → ℕ → List ℕ × Tree → List Fault
+set_tests columns at s = tree_fault columns at s.1 ∷ unless (same_kind (type_in columns s.0) (kind_of (own_kinds columns) s.1)) (WrongType at) ∷ []
+
+-- each before the next; the first one begins at node `at`
 abbrev pub set_faults : List Column → ℕ → List (List ℕ × Tree) → List Fault
 set_faults columns at [] = []
-set_faults columns at (s ∷ sets) =
-    tree_fault columns at s.1 ∷ unless (same_kind (type_in columns s.0) (kind_of (own_kinds columns) s.1)) (WrongType at)
-    ∷ set_faults columns (at + nodes_of s.1) sets
+set_faults columns at (s ∷ sets) = set_tests columns at s ++ set_faults columns (at + nodes_of s.1) sets
 
 abbrev pub sets_nodes : List (List ℕ × Tree) → ℕ
 sets_nodes [] = 0
@@ -87,12 +86,22 @@ change_nodes (insertion t cells) = length cells
 change_nodes (deletion t c) = test_nodes c
 change_nodes (update t sets c) = sets_nodes sets + test_nodes c
 
+-- no tree of the change has more than 256 nodes
+abbrev pub AreSmall : List (List ℕ × Tree) → Type 0
+AreSmall [] = ⊤
+AreSmall (s ∷ sets) = (nodes_of s.1 ≤ 256) × AreSmall sets
+
+abbrev pub IsSmall : PlainChange → Type 0
+IsSmall (insertion t cells) = ⊤
+IsSmall (deletion t c) = test_nodes c ≤ 256
+IsSmall (update t sets c) = AreSmall sets × (test_nodes c ≤ 256)
+
 -- the tests of a change whose first node is node `at` of the statement
 abbrev pub tests_behind : List Column → PlainChange → ℕ → List Fault
-tests_behind columns (insertion t cells) at = name_faults t columns (given_names cells) ++ missing_fault t columns (given_names cells) ∷ cell_faults columns at cells
+tests_behind columns (insertion t cells) at = name_faults t columns (pair_names cells) ++ missing_fault t columns (pair_names cells) ∷ cell_faults columns at cells
 tests_behind columns (deletion t c) at = reference_fault columns (test_references c) ∷ test_fault columns at c ∷ []
 tests_behind columns (update t sets c) at =
-    name_faults t columns (set_names sets) ++ reference_fault columns (set_references sets ++ test_references c)
+    name_faults t columns (pair_names sets) ++ reference_fault columns (set_references sets ++ test_references c)
     ∷ (set_faults columns at sets ++ test_fault columns (at + sets_nodes sets) c ∷ [])
 
 abbrev pub change_tests : Tables → PlainChange → ℕ → List Fault

@@ -10,5 +10,6 @@ pub mod OperatorTable
 pub mod After
 pub mod Past
 pub mod Checks
+pub mod Walks
 pub mod Counts
 pub mod Accepts

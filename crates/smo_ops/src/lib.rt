@@ -7,15 +7,19 @@
 #![tactic(auto)]
 
 mod changes;
+mod checks;
+mod columns;
 mod commands;
 mod copies;
 mod counts;
 mod names;
 mod ops;
 mod touched;
+mod typing;
 mod versions;
 
 pub use changes::{Change, ChangeFault};
+pub use columns::OwnColumns;
 pub use commands::{Body, Command};
 pub use counts::check_counts;
 pub use names::Made;
