@@ -45,3 +45,15 @@ met false r e = absurd (cc)
 pub none_mapped : {A B : Type 0} (f : A → B) (o : Option A) → option_map f o ≡ None → o ≡ None
 none_mapped f None e = refl
 none_mapped f (Some x) e = absurd (cc)
+
+pub first_at : {R : Type 0} (x : Option R) (xs : List (Option R)) (r : R) → x ≡ Some r → first_refusal (x ∷ xs) ≡ Some r
+first_at None xs r e = absurd (cc)
+first_at (Some q) xs r e = e
+
+pub first_later : {R : Type 0} (x : Option R) (xs : List (Option R)) → x ≡ None → first_refusal (x ∷ xs) ≡ first_refusal xs
+first_later None xs e = refl
+first_later (Some q) xs e = absurd (cc)
+
+pub first_alone : {R : Type 0} (x : Option R) → first_refusal (x ∷ []) ≡ x
+first_alone None = refl
+first_alone (Some q) = refl

@@ -10,3 +10,5 @@ pub mod AfterLaws
 pub mod CheckLaws
 pub mod PassedOn
 pub mod Places
+pub mod FewNames
+pub mod ChangeTests

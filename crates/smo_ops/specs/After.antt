@@ -1,15 +1,14 @@
 -- What is behind an operator: the first precondition that fails, or the next schema; and its database.
-use Rattle.std.specs.Prelude.{◌≡◌, ◌≤◌, ℕ, length, List, [], ◌∷◌, Option, Some, None, Result, Ok, Err, ⊤}
-use Rattle.std.specs.FinMap.{get, insert, remove, len}
+use Rattle.std.specs.Prelude.{◌≡◌, ◌≤◌, ℕ, List, [], ◌∷◌, Option, Some, None, Result, Ok, Err, ⊤}
+use Rattle.std.specs.FinMap.{insert, remove, len}
 use Rattle.prima_base.specs.declared.refusals.OpRefusal.{OpRefusal}
-use Rattle.prima_base.specs.Columns.{Column}
 use Rattle.schema_catalog.specs.Tables.{Tables, IsSchema}
 use Rattle.schema_catalog.specs.Databases.{Database}
 use Rattle.smo_ops.specs.declared.ops.OpFault.{OpFault}
 use Rattle.smo_ops.specs.declared.ops.OpFault.TheVariants.{Refused, NoMemory}
 use Rattle.smo_ops.specs.Operators.{Operator, create_table}
 use Rattle.smo_ops.specs.First.{first_refusal}
-use Rattle.smo_ops.specs.Preconditions.{most_columns, most_tables}
+use Rattle.smo_ops.specs.Preconditions.{AreNarrow, most_tables}
 use Rattle.smo_ops.specs.OperatorTable.{Made, line, tables_behind}
 
 -- the first precondition that fails
@@ -42,7 +41,7 @@ IsAfter tables op (Err NoMemory) = ⊤
 -- a lawful schema: each table's columns stand in the order of their names, each once, and the limits are kept
 pub record IsLawful (tables : Tables) : Type 0 where
   pub schema : IsSchema tables
-  pub narrow : (name : List ℕ) (columns : List Column) → get tables name ≡ Some columns → length columns ≤ most_columns
+  pub narrow : AreNarrow tables
   pub few : len tables ≤ most_tables
 
 -- the operators of which `after` answers today

@@ -1,8 +1,8 @@
 -- What operators ask of the tables before them.
-use Rattle.std.specs.Prelude.{ℕ, List, [], ◌∷◌, ◌++◌, ◌&&◌, ◌||◌, Bool, true, false, not, nat_le, length, Option, Some, None, is_none, if◌then◌else◌}
+use Rattle.std.specs.Prelude.{◌≡◌, ◌≤◌, ℕ, List, [], ◌∷◌, ◌++◌, ◌&&◌, ◌||◌, Bool, true, false, not, nat_le, length, Option, Some, None, is_none, if◌then◌else◌}
 use Rattle.std.specs.List.{find, list_all, list_any}
 use Rattle.std.specs.Option.{option_map}
-use Rattle.std.specs.FinMap.{contains_key, len}
+use Rattle.std.specs.FinMap.{get, contains_key, len}
 use Rattle.relations.specs.Sets.{has}
 use Rattle.prima_base.specs.declared.refusals.What.TheVariants.{Tables as TABLES, Columns as COLUMNS}
 use Rattle.prima_base.specs.declared.refusals.OpRefusal.{OpRefusal}
@@ -23,6 +23,10 @@ most_columns = 32
 
 abbrev pub most_tables : ℕ
 most_tables = 64
+
+-- no table has more columns
+abbrev pub AreNarrow : Tables → Type 0
+AreNarrow tables = (name : List ℕ) (columns : List Column) → get tables name ≡ Some columns → length columns ≤ most_columns
 
 abbrev pub Precondition : Type 0
 Precondition = Option OpRefusal

@@ -40,3 +40,19 @@ impl From<NoMemory> for ChangeFault {
         ChangeFault::NoMemory
     }
 }
+
+impl Change {
+    ghost use Rattle.std.specs.Prelude.{◌≡◌};
+    ghost use Rattle.smo_ops.specs.Changes.{change_of, table_of};
+
+    /// The table that the change is of.
+    pub fn table(&self) -> &Name
+        ensures { result.now ≡ table_of (change_of self.now) }
+    {
+        match self {
+            Change::Insert { table, .. } => table,
+            Change::Delete { table, .. } => table,
+            Change::Update { table, .. } => table,
+        }
+    }
+}

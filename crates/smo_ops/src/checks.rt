@@ -1,12 +1,21 @@
-ghost use Rattle.std.specs.Prelude.{◌≡◌, ◌++◌, ◌+◌, ◌<◌, ◌≤◌, ◌^◌, length, OnOk};
+ghost use Rattle.std.specs.Prelude.{◌≡◌, ◌++◌, ◌+◌, ◌<◌, ◌≤◌, ◌^◌, ◌∷◌, [], length};
 ghost use Rattle.prima_base.specs.Columns.{AreColumns, names_of};
 ghost use Rattle.cond_expr.specs.Kinds.{value_kind};
 ghost use Rattle.smo_ops.specs.First.{first_refusal};
-ghost use Rattle.smo_ops.specs.Checks.{IsChecked, pair_names, name_faults, missing_fault, cell_faults};
+ghost use Rattle.cond_expr.specs.Seen.{test};
+ghost use Rattle.cond_expr.specs.Sizes.{test_nodes};
+ghost use Rattle.cond_expr.specs.Faults.{test_references};
+ghost use Rattle.smo_ops.specs.Changes.{insertion, update, change_of, sets_of};
+ghost use Rattle.smo_ops.specs.Preconditions.{AreNarrow};
+ghost use Rattle.smo_ops.specs.Checks.{IsChecked, IsSmall, AreSmall, pair_names, name_faults, missing_fault, cell_faults, reference_fault, test_fault, tests_behind, change_fault};
 
-use crate::ChangeFault;
-use crate::columns::{has_name, type_in};
+use crate::columns::{OwnColumns, has_name, type_in};
+use crate::typing::{check_all_references, check_sets, check_test_references, check_test_types};
+use crate::{Change, ChangeFault};
+use cond_expr::{Cond, Expr};
 use prima_base::{ColType, Name, Refusal, Value};
+use schema_catalog::Schema;
+use std::alloc::Global;
 
 // Of each name, in order: whether it stood before, and whether it is unknown. What stood before is known, so at most
 // one name more than there are columns is looked at.
@@ -67,5 +76,98 @@ fn kind_of(value: &Value) -> ColType
     match value {
         Value::Int(_) => ColType::Int,
         Value::Text(_) => ColType::Text,
+    }
+}
+
+fn check_insert(
+    table: &Name,
+    columns: &[(Name, ColType)],
+    cells: &[(Name, Value)],
+    at: u32,
+) -> Result<(), ChangeFault>
+    requires columns { AreColumns columns.now }
+    requires narrow { length columns.now ≤ 32 }
+    requires place { at < 2 ^ 31 }
+    ensures { IsChecked (first_refusal (tests_behind columns.now (insertion table.now cells.now) at)) result }
+{
+    check_names(table, columns, cells)?;
+    check_missing(table, columns, cells)?;
+    check_cells(columns, cells, at)
+}
+
+fn check_delete(own: &OwnColumns<'_>, cond: &Cond, at: u32) -> Result<(), ChangeFault>
+    requires small { test_nodes (test cond.now) ≤ 256 }
+    requires place { at < 2 ^ 31 }
+    ensures { IsChecked (first_refusal (reference_fault own.now (test_references (test cond.now)) ∷ test_fault own.now at (test cond.now) ∷ [])) result }
+{
+    check_test_references(own, cond)?;
+    check_test_types(own, cond, at)
+}
+
+fn check_update(
+    own: &OwnColumns<'_>,
+    table: &Name,
+    sets: &[(Name, Expr)],
+    cond: &Cond,
+    at: u32,
+) -> Result<(), ChangeFault>
+    requires columns { AreColumns own.now }
+    requires narrow { length own.now ≤ 32 }
+    requires sets { AreSmall (sets_of sets.now) }
+    requires test { test_nodes (test cond.now) ≤ 256 }
+    requires place { at < 2 ^ 31 }
+    ensures { IsChecked (first_refusal (tests_behind own.now (update table.now (sets_of sets.now) (test cond.now)) at)) result }
+{
+    check_names(table, own.columns(), sets)?;
+    check_all_references(own, sets, cond)?;
+    let next = check_sets(own, sets, at)?;
+    check_test_types(own, cond, next)
+}
+
+// The tests of a change of a table with these columns.
+fn check_in_table(
+    alloc: Global,
+    columns: &[(Name, ColType)],
+    change: &Change,
+    at: u32,
+) -> Result<(), ChangeFault>
+    requires columns { AreColumns columns.now }
+    requires narrow { length columns.now ≤ 32 }
+    requires small { IsSmall (change_of change.now) }
+    requires place { at < 2 ^ 31 }
+    ensures { IsChecked (first_refusal (tests_behind columns.now (change_of change.now) at)) result }
+{
+    match change {
+        Change::Insert { table, cells } => check_insert(table, columns, cells, at),
+        Change::Delete { cond, .. } => {
+            let own = OwnColumns::new(alloc, columns)?;
+            check_delete(&own, cond, at)
+        }
+        Change::Update { table, sets, cond } => {
+            let own = OwnColumns::new(alloc, columns)?;
+            check_update(&own, table, sets, cond, at)
+        }
+    }
+}
+
+/// Whether a change is accepted over a schema, and else its first refusal in the one order: its table (22); of the
+/// columns of an INSERT or the set columns of an UPDATE, in written order, for each whether it stood before (27) and
+/// whether it is unknown (23); of an INSERT the first missing column in name order (35); the references of its
+/// expressions and its condition, in written order (23); its types (25). Places count nodes from `first_node` on.
+pub fn check_change(
+    alloc: Global,
+    schema: &Schema,
+    change: &Change,
+    first_node: u32,
+) -> Result<(), ChangeFault>
+    requires small { IsSmall (change_of change.now) }
+    requires narrow { AreNarrow schema.now }
+    requires place { first_node < 2 ^ 31 }
+    ensures { IsChecked (change_fault schema.now (change_of change.now) first_node) result }
+{
+    let name = change.table();
+    match schema.table(name) {
+        Some(table) => check_in_table(alloc, table.columns(), change, first_node),
+        None => Err(ChangeFault::Refused(Refusal::NoTable(name.copy()?))),
     }
 }

@@ -7,6 +7,7 @@ ghost use Rattle.smo_ops.specs.Operators.{operator_of, operators_of};
 ghost use Rattle.smo_ops.specs.Changes.{change_of, changes_of, sets_of};
 ghost use Rattle.smo_ops.specs.Commands.{changing, evolving, body_of};
 ghost use Rattle.smo_ops.specs.First.{first_refusal};
+ghost use Rattle.smo_ops.specs.Checks.{sets_nodes, change_nodes};
 ghost use Rattle.smo_ops.specs.Counts.{at_most, tree_counts, test_counts, set_counts, change_counts, operator_counts, first_excess};
 
 use crate::{Body, Change, Command, Op};
@@ -14,9 +15,13 @@ use cond_expr::{Cond, Expr, TreeSize, cond_size, expr_size};
 use prima_base::{Name, What};
 
 const MAX_NODES: u64 = 256;
+
 const MAX_DEPTH: u64 = 32;
+
 const MAX_PARTS: u64 = 8;
+
 const MAX_CHANGES: usize = 65_536;
+
 const MAX_INVERSE: usize = 8;
 
 fn check_size(size: TreeSize) -> Result<(), (What, u64)>
@@ -128,5 +133,28 @@ pub fn check_counts(command: &Command) -> Result<(), (What, u64)>
     match command.body() {
         Body::Changes(changes) => check_changes(changes),
         Body::Evolve { op, inverse } => check_evolve(op, inverse),
+    }
+}
+
+fn nodes_of_sets(sets: &[(Name, Expr)]) -> u64
+    ensures { result ≡ min (sets_nodes (sets_of sets.now)) u64.MAX }
+{
+    let mut nodes = 0u64;
+    for (_, expr) in sets {
+        nodes = nodes.saturating_add(expr_size(expr).nodes);
+    }
+    nodes
+}
+
+/// How many nodes a change has: of an INSERT each value is one. The number stops at `u64::MAX`. It takes no memory.
+pub fn change_nodes(change: &Change) -> u64
+    ensures { result ≡ min (change_nodes (change_of change.now)) u64.MAX }
+{
+    match change {
+        Change::Insert { cells, .. } => cells.len() as u64,
+        Change::Delete { cond, .. } => cond_size(cond).nodes,
+        Change::Update { sets, cond, .. } => {
+            nodes_of_sets(sets).saturating_add(cond_size(cond).nodes)
+        }
     }
 }

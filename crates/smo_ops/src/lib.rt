@@ -19,9 +19,10 @@ mod typing;
 mod versions;
 
 pub use changes::{Change, ChangeFault};
+pub use checks::check_change;
 pub use columns::OwnColumns;
 pub use commands::{Body, Command};
-pub use counts::check_counts;
+pub use counts::{change_nodes, check_counts};
 pub use names::Made;
 pub use ops::{Op, OpFault};
 pub use touched::{consumed, made};

@@ -28,7 +28,7 @@ fn check_references(own: &OwnColumns<'_>, expr: &Expr) -> Result<(), ChangeFault
 }
 
 // The first reference of a condition to no column of the table.
-fn check_test_references(own: &OwnColumns<'_>, cond: &Cond) -> Result<(), ChangeFault>
+pub(crate) fn check_test_references(own: &OwnColumns<'_>, cond: &Cond) -> Result<(), ChangeFault>
     requires { test_nodes (test cond.now) ≤ 256 }
     ensures { IsChecked (reference_fault own.now (test_references (test cond.now))) result }
 {
