@@ -12,3 +12,5 @@ pub mod PassedOn
 pub mod Places
 pub mod FewNames
 pub mod ChangeTests
+pub mod SmallLaws
+pub mod ManyChanges

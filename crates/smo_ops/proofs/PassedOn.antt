@@ -1,6 +1,6 @@
 -- A refusal that is passed on.
-use Rattle.std.proofs.Common.{◌≡◌, ℕ, List}
-use Rattle.std.specs.Prelude.{Some, Err}
+use Rattle.std.proofs.Common.{◌≡◌, ℕ, List, refl, sym, ◌∙◌, inl, inr}
+use Rattle.std.specs.Prelude.{◌⊎◌, Some, None, Result, Ok, Err, IsOkUnless, IsErrOf}
 use Rattle.prima_base.specs.declared.refusals.Refusal.{Refusal}
 use Rattle.smo_ops.specs.declared.changes.ChangeFault.{ChangeFault}
 use Rattle.smo_ops.specs.declared.changes.ChangeFault.TheVariants.{Refused, NoMemory}
@@ -21,3 +21,17 @@ walked_on a b m n NoMemory h c = tt
 pub walk_passed : (a : List Fault) (m : ℕ) (g : Fault) (e : ChangeFault) → ((r : Refusal) → first_refusal a ≡ Some r → g ≡ Some r) → IsWalked a m (Err e) → IsChecked g (Err e)
 walk_passed a m g (Refused r) h c = h r c
 walk_passed a m g NoMemory h c = tt
+
+-- what is checked is answered
+pub accepted : (f : Fault) (r : Result (Unit {0}) ChangeFault) → IsChecked f r → f ≡ None → IsOkUnless r NoMemory
+accepted f (Ok u) c e = tt
+accepted f (Err (Refused q)) c e = absurd (cc)
+accepted f (Err NoMemory) c e = refl
+
+same_refusal : (p q : Refusal) → Some p ≡ Some q → p ≡ q
+same_refusal p q e = (cc)
+
+pub refused : (f : Fault) (r : Result (Unit {0}) ChangeFault) → IsChecked f r → (q : Refusal) → f ≡ Some q → IsErrOf r (Refused q) ⊎ IsErrOf r NoMemory
+refused f (Ok u) c q e = absurd (cc)
+refused f (Err (Refused p)) c q e = inl (let same : p ≡ q = same_refusal p q (sym c ∙ e) in cc)
+refused f (Err NoMemory) c q e = inr refl

@@ -96,6 +96,10 @@ IsSmall (insertion t cells) = ⊤
 IsSmall (deletion t c) = test_nodes c ≤ 256
 IsSmall (update t sets c) = AreSmall sets × (test_nodes c ≤ 256)
 
+abbrev pub AllSmall : List PlainChange → Type 0
+AllSmall [] = ⊤
+AllSmall (c ∷ changes) = IsSmall c × AllSmall changes
+
 -- the tests of a change whose first node is node `at` of the statement
 abbrev pub tests_behind : List Column → PlainChange → ℕ → List Fault
 tests_behind columns (insertion t cells) at = name_faults t columns (pair_names cells) ++ missing_fault t columns (pair_names cells) ∷ cell_faults columns at cells
@@ -115,6 +119,10 @@ change_fault tables change at = first_refusal (change_tests tables change at)
 abbrev pub changes_tests : Tables → List PlainChange → ℕ → List Fault
 changes_tests tables [] at = []
 changes_tests tables (c ∷ changes) at = change_tests tables c at ++ changes_tests tables changes (at + change_nodes c)
+
+-- the refusal of the changes of a command
+abbrev pub changes_fault : Tables → List PlainChange → Fault
+changes_fault tables changes = first_refusal (changes_tests tables changes 0)
 
 -- what the check of a change answers
 abbrev pub IsChecked : Fault → Result (Unit {0}) ChangeFault → Type 0

@@ -1,15 +1,20 @@
-ghost use Rattle.std.specs.Prelude.{◌≡◌, ◌++◌, ◌+◌, ◌<◌, ◌≤◌, ◌^◌, ◌∷◌, [], length};
+ghost use Rattle.std.specs.Prelude.{◌≡◌, ◌++◌, ◌+◌, ◌<◌, ◌≤◌, ◌^◌, ◌∷◌, [], ◌⊎◌, length, Some, None, IsOkUnless, IsErrOf};
 ghost use Rattle.prima_base.specs.Columns.{AreColumns, names_of};
 ghost use Rattle.cond_expr.specs.Kinds.{value_kind};
 ghost use Rattle.smo_ops.specs.First.{first_refusal};
 ghost use Rattle.cond_expr.specs.Seen.{test};
 ghost use Rattle.cond_expr.specs.Sizes.{test_nodes};
 ghost use Rattle.cond_expr.specs.Faults.{test_references};
-ghost use Rattle.smo_ops.specs.Changes.{insertion, update, change_of, sets_of};
+ghost use Rattle.prima_base.specs.declared.refusals.Refusal.{Refusal as OneRefusal};
+ghost use Rattle.schema_catalog.specs.Tables.{IsSchema};
+ghost use Rattle.smo_ops.specs.Commands.{changing};
+ghost use Rattle.smo_ops.specs.Counts.{first_excess};
+ghost use Rattle.smo_ops.specs.Changes.{insertion, update, change_of, changes_of, sets_of};
 ghost use Rattle.smo_ops.specs.Preconditions.{AreNarrow};
-ghost use Rattle.smo_ops.specs.Checks.{IsChecked, IsSmall, AreSmall, pair_names, name_faults, missing_fault, cell_faults, reference_fault, test_fault, tests_behind, change_fault};
+ghost use Rattle.smo_ops.specs.Checks.{IsChecked, IsSmall, AreSmall, pair_names, name_faults, missing_fault, cell_faults, reference_fault, test_fault, tests_behind, change_fault, changes_fault};
 
 use crate::columns::{OwnColumns, has_name, type_in};
+use crate::counts::change_nodes;
 use crate::typing::{check_all_references, check_sets, check_test_references, check_test_types};
 use crate::{Change, ChangeFault};
 use cond_expr::{Cond, Expr};
@@ -163,11 +168,43 @@ pub fn check_change(
     requires small { IsSmall (change_of change.now) }
     requires narrow { AreNarrow schema.now }
     requires place { first_node < 2 ^ 31 }
-    ensures { IsChecked (change_fault schema.now (change_of change.now) first_node) result }
+    ensures checked { IsChecked (change_fault schema.now (change_of change.now) first_node) result }
+    ensures accepted { change_fault schema.now (change_of change.now) first_node ≡ None → IsOkUnless result ChangeFault.NoMemory }
+    ensures refused { (r : OneRefusal) → change_fault schema.now (change_of change.now) first_node ≡ Some r
+        → IsErrOf result (ChangeFault.Refused r) ⊎ IsErrOf result ChangeFault.NoMemory }
+    ensures lawful { IsSchema schema.now }
 {
     let name = change.table();
     match schema.table(name) {
         Some(table) => check_in_table(alloc, table.columns(), change, first_node),
         None => Err(ChangeFault::Refused(Refusal::NoTable(name.copy()?))),
     }
+}
+
+// The changes one after the other, with the number of the first node of each.
+fn check_in_turn(alloc: Global, schema: &Schema, changes: &[Change]) -> Result<(), ChangeFault>
+    requires counted { first_excess (changing (changes_of changes.now)) ≡ None }
+    requires narrow { AreNarrow schema.now }
+    ensures { IsChecked (changes_fault schema.now (changes_of changes.now)) result }
+{
+    let mut at = 0u32;
+    for change in changes {
+        check_change(alloc, schema, change, at)?;
+        at += change_nodes(change) as u32;
+    }
+    Ok(())
+}
+
+/// Whether all changes of a command are accepted over a schema, each whole before the next, and else the first refusal.
+/// Places count nodes through the whole command. The counts of the command have to be within their limits
+/// (`check_counts`).
+pub fn check_changes(alloc: Global, schema: &Schema, changes: &[Change]) -> Result<(), ChangeFault>
+    requires counted { first_excess (changing (changes_of changes.now)) ≡ None }
+    requires narrow { AreNarrow schema.now }
+    ensures checked { IsChecked (changes_fault schema.now (changes_of changes.now)) result }
+    ensures accepted { changes_fault schema.now (changes_of changes.now) ≡ None → IsOkUnless result ChangeFault.NoMemory }
+    ensures refused { (r : OneRefusal) → changes_fault schema.now (changes_of changes.now) ≡ Some r
+        → IsErrOf result (ChangeFault.Refused r) ⊎ IsErrOf result ChangeFault.NoMemory }
+{
+    check_in_turn(alloc, schema, changes)
 }

@@ -19,7 +19,7 @@ mod typing;
 mod versions;
 
 pub use changes::{Change, ChangeFault};
-pub use checks::check_change;
+pub use checks::{check_change, check_changes};
 pub use columns::OwnColumns;
 pub use commands::{Body, Command};
 pub use counts::{change_nodes, check_counts};
