@@ -36,7 +36,7 @@ counted_none [] = refl
 counted_none (y ∷ ys) = (let h = counted_none ys in omega arith)
 
 -- one name more is among them where it is this one, or was before
-one_later : (y n : List ℕ) (before : List (List ℕ)) → among y (before ++ n ∷ []) ≡ (among y before || same y n)
+pub one_later : (y n : List ℕ) (before : List (List ℕ)) → among y (before ++ n ∷ []) ≡ (among y before || same y n)
 one_later y n [] = step (same y n)
   where
     step : (b : Bool) → (b || false) ≡ (false || b)

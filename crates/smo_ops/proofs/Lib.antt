@@ -14,3 +14,4 @@ pub mod FewNames
 pub mod ChangeTests
 pub mod SmallLaws
 pub mod ManyChanges
+pub mod MakingLaws

@@ -32,6 +32,12 @@ make_all (m ∷ made) before db = make_all made before (insert db m.name (m.entr
 abbrev pub carried : Tables → Operator → Database → Database
 carried tables op db = make_all (line tables op).made db (lose_all (line tables op).consumed db)
 
+-- what the tests of an operator answer
+abbrev pub IsAllowed : Option OpRefusal → Result (Unit {0}) OpFault → Type 0
+IsAllowed fault (Ok u) = fault ≡ None
+IsAllowed fault (Err (Refused refusal)) = fault ≡ Some refusal
+IsAllowed fault (Err NoMemory) = ⊤
+
 -- what `after` answers
 abbrev pub IsAfter : Tables → Operator → Result Tables OpFault → Type 0
 IsAfter tables op (Ok next) = (op_fault tables op ≡ None) × (next ≡ behind tables op)

@@ -11,5 +11,6 @@ pub mod After
 pub mod Past
 pub mod Checks
 pub mod Walks
+pub mod Placed
 pub mod Counts
 pub mod Accepts

@@ -6,18 +6,21 @@
 //! in `specs/`.
 #![tactic(auto)]
 
+mod afters;
 mod changes;
 mod checks;
 mod columns;
 mod commands;
 mod copies;
 mod counts;
+mod making;
 mod names;
 mod ops;
 mod touched;
 mod typing;
 mod versions;
 
+pub use afters::after;
 pub use changes::{Change, ChangeFault};
 pub use checks::{check_change, check_changes};
 pub use columns::OwnColumns;

@@ -1,4 +1,4 @@
-use Rattle.std.proofs.Common.{refl, length, ◌≡◌, ◌≤◌, ◌<◌, ◌∙◌, sym, arith}
+use Rattle.std.proofs.Common.{refl, ◌≡◌, ◌∙◌, arith}
 use Rattle.std.proofs.lemmas.Result.{err_from_is_err_and}
 use Rattle.std.proofs.lemmas.List.{length-map}
 use Rattle.smo_ops.specs.Changes.{change_of, changes_of}

@@ -1,4 +1,4 @@
-use Rattle.std.proofs.Common.{◌≡◌, ◌+◌, ◌*◌, ◌≤◌, drop}
+use Rattle.std.proofs.Common.{◌≡◌, ◌*◌, ◌≤◌, drop}
 use Rattle.smo_ops.specs.Changes.{changes_of}
 use Rattle.smo_ops.specs.First.{first_refusal}
 use Rattle.smo_ops.specs.Checks.{AllSmall, changes_tests, changes_fault}

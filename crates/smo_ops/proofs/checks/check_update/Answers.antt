@@ -1,4 +1,4 @@
-use Rattle.std.proofs.Common.{◌≡◌, List, ◌++◌, ◌+◌, ◌<◌, ◌^◌, arith, subst}
+use Rattle.std.proofs.Common.{◌≡◌, List, ◌++◌, ◌+◌, arith, subst}
 use Rattle.std.specs.Prelude.{Some, None}
 use Rattle.std.proofs.lemmas.Result.{err_from_is_err_and}
 use Rattle.prima_base.specs.Columns.{Column}

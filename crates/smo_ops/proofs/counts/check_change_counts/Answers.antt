@@ -1,9 +1,9 @@
-use Rattle.std.proofs.Common.{◌≡◌, sym, ap, ◌∙◌}
+use Rattle.std.proofs.Common.{sym, ap, ◌∙◌}
 use Rattle.std.proofs.lemmas.Result.{err_from_is_err_and}
 use Rattle.cond_expr.specs.Seen.{test}
-use Rattle.smo_ops.specs.Changes.{change_of, sets_of}
+use Rattle.smo_ops.specs.Changes.{sets_of}
 use Rattle.smo_ops.specs.First.{first_refusal}
-use Rattle.smo_ops.specs.Counts.{set_counts, test_counts, change_counts}
+use Rattle.smo_ops.specs.Counts.{set_counts, test_counts}
 use Rattle.smo_ops.proofs.Firsts.{first_behind, first_before}
 use Rattle.smo_ops.proofs.counts.check_change_counts.Goals as goal
 

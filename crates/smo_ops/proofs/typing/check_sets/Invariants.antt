@@ -1,4 +1,4 @@
-use Rattle.std.proofs.Common.{◌≡◌, ◌+◌, ◌<◌, ◌^◌, drop}
+use Rattle.std.proofs.Common.{◌≡◌, ◌+◌, drop}
 use Rattle.std.specs.Prelude.{None}
 use Rattle.cond_expr.specs.Faults.{first_unknown}
 use Rattle.smo_ops.specs.Changes.{sets_of}
