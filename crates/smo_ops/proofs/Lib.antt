@@ -15,3 +15,5 @@ pub mod ChangeTests
 pub mod SmallLaws
 pub mod ManyChanges
 pub mod MakingLaws
+pub mod GainLaws
+pub mod FlatLaws

@@ -69,7 +69,7 @@ impl<'a> OwnColumns<'a> {
     }
 }
 
-fn same_name(a: &Name, b: &Name) -> bool
+pub(crate) fn same_name(a: &Name, b: &Name) -> bool
     ensures { result ≡ same a.now b.now }
 {
     a.bytes() == b.bytes()

@@ -7,12 +7,14 @@
 #![tactic(auto)]
 
 mod afters;
+mod applies;
 mod changes;
 mod checks;
 mod columns;
 mod commands;
 mod copies;
 mod counts;
+mod laws;
 mod making;
 mod names;
 mod ops;
@@ -21,11 +23,15 @@ mod typing;
 mod versions;
 
 pub use afters::after;
+pub use applies::{meets, row_of, with_sets};
 pub use changes::{Change, ChangeFault};
 pub use checks::{check_change, check_changes};
 pub use columns::OwnColumns;
 pub use commands::{Body, Command};
 pub use counts::{change_nodes, check_counts};
+pub use laws::{
+    change_keeps_a_relation, changes_keep_a_database, create_table_is_lawful, gains_and_losses_fit,
+};
 pub use names::Made;
 pub use ops::{Op, OpFault};
 pub use touched::{consumed, made};
