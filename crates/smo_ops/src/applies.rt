@@ -1,4 +1,4 @@
-ghost use Rattle.std.specs.Prelude.{◌≡◌, map, IfOk};
+ghost use Rattle.std.specs.Prelude.{◌≡◌, ◌↔◌, map, IfOk, IsTrue};
 ghost use Rattle.prima_base.specs.Order.{shown};
 ghost use Rattle.prima_base.specs.Columns.{AreColumns, IsRow};
 ghost use Rattle.cond_expr.specs.Rows.{IsLawful, AreLawful};
@@ -8,6 +8,7 @@ ghost use Rattle.smo_ops.specs.OneRow.{meets, given, row_of, set_value, with_set
 ghost use Rattle.schema_catalog.specs.Databases.{cell};
 
 use crate::OwnColumns;
+use crate::checks::kind_of;
 use crate::columns::same_name;
 use cond_expr::{Cond, Expr, eval, holds, lend_row};
 use prima_base::{ColType, Name, NoMemory, Row, Txt, TxtFault, Val, Value};
@@ -20,6 +21,19 @@ pub fn meets(alloc: Global, own: &OwnColumns<'_>, cond: &Cond, row: &Row) -> Res
     let values = lend_row(alloc, row.values())?;
     let met = holds(alloc, cond, own.atoms(), &values)?;
     Ok(met)
+}
+
+/// Whether a row has a value of its type for each of the columns. It takes no memory.
+pub fn is_row(columns: &[(Name, ColType)], values: &[Value]) -> bool
+    ensures { IsTrue result ↔ IsRow columns.now values.now }
+{
+    match columns {
+        [] => values.is_empty(),
+        [first, rest @ ..] => match values {
+            [] => false,
+            [value, more @ ..] => kind_of(value) == first.1 && is_row(rest, more),
+        },
+    }
 }
 
 // The value given for the column with this name; a number where none is.

@@ -75,7 +75,7 @@ fn check_cells(
     Ok(())
 }
 
-fn kind_of(value: &Value) -> ColType
+pub(crate) fn kind_of(value: &Value) -> ColType
     ensures { result ≡ value_kind value.now }
 {
     match value {

@@ -8,22 +8,34 @@
 
 mod afters;
 mod applies;
+#[cfg(test)]
+mod applies_tests;
 mod changes;
 mod checks;
+#[cfg(test)]
+mod checks_tests;
 mod columns;
 mod commands;
+#[cfg(test)]
+mod commands_tests;
 mod copies;
 mod counts;
+#[cfg(test)]
+mod counts_tests;
 mod laws;
 mod making;
 mod names;
 mod ops;
+#[cfg(test)]
+mod ops_tests;
+#[cfg(test)]
+mod test_makers;
 mod touched;
 mod typing;
 mod versions;
 
 pub use afters::after;
-pub use applies::{meets, row_of, with_sets};
+pub use applies::{is_row, meets, row_of, with_sets};
 pub use changes::{Change, ChangeFault};
 pub use checks::{check_change, check_changes};
 pub use columns::OwnColumns;
