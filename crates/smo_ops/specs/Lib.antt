@@ -1,0 +1,16 @@
+pub mod Operators
+pub mod Changes
+pub mod Commands
+pub mod First
+pub mod OneRow
+pub mod Effects
+pub mod Preconditions
+pub mod Making
+pub mod OperatorTable
+pub mod After
+pub mod Past
+pub mod Checks
+pub mod Walks
+pub mod Placed
+pub mod Counts
+pub mod Accepts

@@ -1,0 +1,50 @@
+//! Schema modification operators, changes of rows, and the commands that are made of them: what each means,
+//! and the checks before a command is accepted.
+//!
+//! A contract sees an operator, a change and a command as plain mirrors of them (`specs/Operators.antt`,
+//! `specs/Changes.antt`, `specs/Commands.antt`), and speaks of relations, databases and pasts by the definitions
+//! in `specs/`.
+#![tactic(auto)]
+
+mod afters;
+mod applies;
+#[cfg(test)]
+mod applies_tests;
+mod changes;
+mod checks;
+#[cfg(test)]
+mod checks_tests;
+mod columns;
+mod commands;
+#[cfg(test)]
+mod commands_tests;
+mod copies;
+mod counts;
+#[cfg(test)]
+mod counts_tests;
+mod laws;
+mod making;
+mod names;
+mod ops;
+#[cfg(test)]
+mod ops_tests;
+#[cfg(test)]
+mod test_makers;
+mod touched;
+mod typing;
+mod versions;
+
+pub use afters::after;
+pub use applies::{is_row, meets, row_of, with_sets};
+pub use changes::{Change, ChangeFault};
+pub use checks::{check_change, check_changes};
+pub use columns::OwnColumns;
+pub use commands::{Body, Command};
+pub use counts::{change_nodes, check_counts};
+pub use laws::{
+    change_keeps_a_relation, changes_keep_a_database, create_table_is_lawful, gains_and_losses_fit,
+};
+pub use names::Made;
+pub use ops::{Op, OpFault};
+pub use touched::{consumed, made};
+pub use versions::{Version, Versions};

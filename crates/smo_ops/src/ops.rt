@@ -1,0 +1,88 @@
+use cond_expr::{Cond, Expr};
+use prima_base::{ColType, Name, NoMemory, OpRefusal};
+
+/// A schema modification operator (PRISM 2008). Each reference in a condition or an expression is to atom 0,
+/// the one table that the condition or the expression is over.
+#[derive(Drop)]
+pub enum Op {
+    /// Changes no table.
+    Nop,
+    /// A new table, without rows.
+    CreateTable {
+        table: Name,
+        columns: Vec<(Name, ColType)>,
+    },
+    DropTable {
+        table: Name,
+    },
+    RenameTable {
+        table: Name,
+        into: Name,
+    },
+    CopyTable {
+        table: Name,
+        into: Name,
+    },
+    /// The union of two tables with the same columns.
+    MergeTable {
+        left: Name,
+        right: Name,
+        into: Name,
+    },
+    /// The rows that meet the condition go into `yes`, the others into `no`.
+    PartitionTable {
+        table: Name,
+        yes: Name,
+        cond: Cond,
+        no: Name,
+    },
+    /// Two projections with a common column, which together have all columns.
+    DecomposeTable {
+        table: Name,
+        left: Name,
+        left_columns: Vec<Name>,
+        right: Name,
+        right_columns: Vec<Name>,
+    },
+    /// Each pair of rows that agrees on all common columns, joined, that meets the condition.
+    JoinTable {
+        left: Name,
+        right: Name,
+        into: Name,
+        cond: Cond,
+    },
+    /// One column more, with the expression's value.
+    AddColumn {
+        column: Name,
+        expr: Expr,
+        table: Name,
+    },
+    DropColumn {
+        column: Name,
+        table: Name,
+    },
+    RenameColumn {
+        column: Name,
+        table: Name,
+        into: Name,
+    },
+}
+
+/// Why an operator gives no next schema.
+#[derive(Drop)]
+pub enum OpFault {
+    /// The first precondition that fails.
+    Refused(OpRefusal),
+    NoMemory,
+}
+
+impl From<NoMemory> for OpFault {
+    ghost use Rattle.std.specs.Prelude.{◌≡◌};
+    ghost use Rattle.smo_ops.specs.declared.ops.OpFault.TheVariants.{NoMemory as OutOfMemory};
+
+    ghost from_gives = { λ _ e. e ≡ OutOfMemory };
+
+    fn from(_error: NoMemory) -> OpFault {
+        OpFault::NoMemory
+    }
+}
