@@ -17,3 +17,5 @@ pub mod ManyChanges
 pub mod MakingLaws
 pub mod GainLaws
 pub mod FlatLaws
+pub mod SortLaws
+pub mod EffectLaws

@@ -4,6 +4,7 @@ pub mod Commands
 pub mod First
 pub mod OneRow
 pub mod Effects
+pub mod Inserting
 pub mod Preconditions
 pub mod Making
 pub mod OperatorTable

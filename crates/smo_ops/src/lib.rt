@@ -7,9 +7,6 @@
 #![tactic(auto)]
 
 mod afters;
-mod applies;
-#[cfg(test)]
-mod applies_tests;
 mod changes;
 mod checks;
 #[cfg(test)]
@@ -22,6 +19,9 @@ mod copies;
 mod counts;
 #[cfg(test)]
 mod counts_tests;
+mod effects;
+#[cfg(test)]
+mod effects_tests;
 mod laws;
 mod making;
 mod names;
@@ -35,12 +35,12 @@ mod typing;
 mod versions;
 
 pub use afters::after;
-pub use applies::{is_row, meets, row_of, with_sets};
 pub use changes::{Change, ChangeFault};
 pub use checks::{check_change, check_changes};
 pub use columns::OwnColumns;
 pub use commands::{Body, Command};
 pub use counts::{change_nodes, check_counts};
+pub use effects::{apply_change, inserted_row, inserted_rows, insertions_are_a_union, make_set};
 pub use laws::{
     change_keeps_a_relation, changes_keep_a_database, create_table_is_lawful, gains_and_losses_fit,
 };

@@ -1,0 +1,159 @@
+-- A row that is lent as that of atom 0, and what changes make of lists of rows.
+use Rattle.std.proofs.Common.{◌≡◌, ℕ, ◌+◌, ◌<◌, Bool, true, false, cond, List, [], ◌∷◌, ◌++◌, append_assoc, Option, Some, None, length, map, take, drop, get_or, nat_eq, refl, sym, ap, ◌∙◌, subst, inl, inr, pos, arith}
+use Rattle.std.specs.Prelude.{◌==◌, zero, suc, if◌then◌else◌}
+use Rattle.std.specs.List.{AllZip, zip, filter}
+use Rattle.std.specs.Option.{option_map, unwrap_or}
+use Rattle.std.proofs.lemmas.List.{take_more, append-nil}
+use Rattle.std.proofs.lemmas.Option.{same_Some}
+use Rattle.std.specs.declared.cmp.Ordering.{Ordering}
+use Rattle.relations.specs.Sets.{In, Ascends, put_in, set_of, IsExact}
+use Rattle.relations.proofs.SetLaws.{one_list, set_ascends, in_set, from_set, set_same, in_left, in_right, in_append, in_map, from_map, in_filter, from_filter, below_each, before_in}
+use Rattle.std.proofs.lemmas.Slice.Zip.{all_zipped_more}
+use Rattle.std.specs.Cmp.Lexicographic.{nat_list_cmp_total, pointwise, texts_ties}
+use Rattle.std.proofs.lemmas.Cmp.{eq_by_cmp_equiv}
+use Rattle.std.proofs.lemmas.Bool.Decides.{nat_tests}
+use Rattle.std.specs.Ordering.{is_eq}
+use Rattle.prima_base.specs.declared.values.Value.{Value}
+use Rattle.prima_base.specs.declared.values.Value.TheVariants.{Int}
+use Rattle.prima_base.specs.declared.values.Val.{Val}
+use Rattle.prima_base.specs.Order.{bytes_cmp, row_cmp, shown}
+use Rattle.prima_base.specs.OrderLaws.{row_exact}
+use Rattle.prima_base.specs.Columns.{Column, AreColumns, IsRow}
+use Rattle.schema_catalog.specs.Databases.{cell}
+use Rattle.schema_catalog.proofs.Cells.{cells_again}
+use Rattle.cond_expr.specs.declared.exprs.Whose.{Whose}
+use Rattle.cond_expr.specs.declared.exprs.Whose.TheVariants.{Free, Alias, Atom}
+use Rattle.cond_expr.specs.Rows.{flat}
+use Rattle.cond_expr.specs.declared.exprs.Expr.{Expr}
+use Rattle.cond_expr.specs.Seen.{tree}
+use Rattle.cond_expr.specs.Values.{value}
+use Rattle.cond_expr.specs.Trees.{Tree}
+use Rattle.smo_ops.specs.OneRow.{Row, as_atom, own_cells, given, row_of, set_value, with_sets}
+use Rattle.smo_ops.specs.Changes.{PlainChange, insertion, deletion, update, sets_of}
+use Rattle.smo_ops.specs.Inserting.{relation_after_each, insertions}
+use Rattle.smo_ops.proofs.Firsts.{drop_at}
+
+none_free : (columns : List Column) (vs : List Val) (n : List ℕ) → flat (as_atom columns) vs Free n ≡ Int (pos 0)
+none_free [] vs n = refl
+none_free (c ∷ columns) [] n = refl
+none_free (c ∷ columns) (v ∷ vs) n = none_free columns vs n
+
+none_alias : (columns : List Column) (vs : List Val) (a n : List ℕ) → flat (as_atom columns) vs (Alias a) n ≡ Int (pos 0)
+none_alias [] vs a n = refl
+none_alias (c ∷ columns) [] a n = refl
+none_alias (c ∷ columns) (v ∷ vs) a n = none_alias columns vs a n
+
+-- two names are one in either order
+same_turn : (a b : List ℕ) → is_eq (bytes_cmp a b) ≡ is_eq (bytes_cmp b a)
+same_turn a b = (eq_by_cmp_equiv nat_list_cmp_total).symm a b
+
+no_atom : (i : ℕ) → (0 == suc i) ≡ false
+no_atom i = grind (arith, nat_tests)
+
+none_other : (columns : List Column) (vs : List Val) (i : ℕ) (n : List ℕ) → flat (as_atom columns) vs (Atom (suc i)) n ≡ Int (pos 0)
+none_other [] vs i n = refl
+none_other (c ∷ columns) [] i n = refl
+none_other (c ∷ columns) (v ∷ vs) i n = rw (no_atom i) (none_other columns vs i n)
+
+own : (columns : List Column) (vs : List Val) (n : List ℕ) → flat (as_atom columns) vs (Atom zero) n ≡ cell columns (map shown vs) n
+own [] vs n = refl
+own (c ∷ columns) [] n = refl
+own (c ∷ columns) (v ∷ vs) n = ap (λ b. cond b (shown v) (flat (as_atom columns) vs (Atom zero) n)) (same_turn n c.0) ∙ ap (λ x. cond (is_eq (bytes_cmp c.0 n)) (shown v) x) (own columns vs n)
+
+each : (columns : List Column) (vs : List Val) (w : Whose) (n : List ℕ) → flat (as_atom columns) vs w n ≡ own_cells columns (map shown vs) w n
+each columns vs Free n = none_free columns vs n
+each columns vs (Alias a) n = none_alias columns vs a n
+each columns vs (Atom zero) n = own columns vs n
+each columns vs (Atom (suc i)) n = none_other columns vs i n ∙ sym (ap (λ b. cond b (cell columns (map shown vs) n) (Int (pos 0))) (no_atom i))
+
+-- a lent row has what the row has
+pub lent_cells : (columns : List Column) (vs : List Val) (row : List Value) → map shown vs ≡ row → flat (as_atom columns) vs ≡ own_cells columns row
+lent_cells columns vs row e = (λ i. λ w n. each columns vs w n i) ∙ ap (own_cells columns) e
+
+-- what is given from a place on
+module _ (cells : List (List ℕ × Value)) (name : List ℕ) (i : ℕ) (cell : List ℕ × Value) (below : i < length cells) (is : cell ≡ get_or cells i cell) where
+  given_at : (b : Bool) → b ≡ pointwise nat_eq cell.0 name → given (drop i cells) name ≡ (if b then cell.1 else given (drop (i + 1) cells) name)
+  given_at b e = ap (λ l. given l name) (drop_at cells i cell below is) ∙ ap (λ t. cond t cell.1 (given (drop (i + 1) cells) name)) (sym (e ∙ texts_ties cell.0 name))
+
+  pub given_here : true ≡ pointwise nat_eq cell.0 name → given (drop i cells) name ≡ cell.1
+  given_here e = given_at true e
+
+  pub given_later : false ≡ pointwise nat_eq cell.0 name → given (drop i cells) name ≡ given (drop (i + 1) cells) name
+  given_later e = given_at false e
+
+-- what is set from a place on
+module _ (columns : List Column) (row : List Value) (sets : List (List ℕ × Expr)) (name : List ℕ) (i : ℕ) (s : List ℕ × Expr) (below : i < length sets) (is : s ≡ get_or sets i s) where
+  set_at : (b : Bool) → b ≡ pointwise nat_eq s.0 name
+      → set_value columns row (sets_of (drop i sets)) name ≡ (if b then value (own_cells columns row) (tree s.1) else set_value columns row (sets_of (drop (i + 1) sets)) name)
+  set_at b e = ap (λ l. set_value columns row (sets_of l) name) (drop_at sets i s below is)
+      ∙ ap (λ t. cond t (value (own_cells columns row) (tree s.1)) (set_value columns row (sets_of (drop (i + 1) sets)) name)) (sym (e ∙ texts_ties s.0 name))
+
+  pub set_here : true ≡ pointwise nat_eq s.0 name → set_value columns row (sets_of (drop i sets)) name ≡ value (own_cells columns row) (tree s.1)
+  set_here e = set_at true e
+
+  pub set_later : false ≡ pointwise nat_eq s.0 name → set_value columns row (sets_of (drop i sets)) name ≡ set_value columns row (sets_of (drop (i + 1) sets)) name
+  set_later e = set_at false e
+
+pub zipped_more : {A B : Type 0} (R : A → B → Type 0) (xs : List A) (ys more : List B) (i : ℕ) (x : A) (y : B) → i < length xs → x ≡ get_or xs i x → AllZip R (take i xs) ys → R x y → more ≡ ys ++ y ∷ []
+    → AllZip R (take (i + 1) xs) more
+zipped_more R xs ys more i x y below is h r e =
+    let front : take (i + 1) xs ≡ take i xs ++ x ∷ [] = take_more xs i x below ∙ ap (λ z. take i xs ++ z ∷ []) (sym is) in
+    rw (front, e) (all_zipped_more R (take i xs) ys x y h r)
+
+-- what is set put for what was there
+zipped_map : {A B : Type 0} (f g : A → B) (xs : List A) (os : List (Option B)) → AllZip (λ x o. unwrap_or o (f x) ≡ g x) xs os → map (λ (p : B × Option B). unwrap_or p.1 p.0) (zip (map f xs) os) ≡ map g xs
+zipped_map f g [] [] h = refl
+zipped_map f g [] (o ∷ os) h = absurd h
+zipped_map f g (x ∷ xs) [] h = absurd h
+zipped_map f g (x ∷ xs) (o ∷ os) h = ap (λ v. v ∷ map (λ p. unwrap_or p.1 p.0) (zip (map f xs) os)) h.0 ∙ ap (λ l. g x ∷ l) (zipped_map f g xs os h.1)
+
+pub sets_replaced : (columns : List Column) (sets : List (List ℕ × Tree)) (row : List Value) (os : List (Option Value)) → AreColumns columns → IsRow columns row
+    → AllZip (λ (c : Column) (o : Option Value). unwrap_or o (cell columns row c.0) ≡ set_value columns row sets c.0) columns os
+    → map (λ (p : Value × Option Value). unwrap_or p.1 p.0) (zip row os) ≡ with_sets columns sets row
+sets_replaced columns sets row os a r h = ap (λ l. map (λ (p : Value × Option Value). unwrap_or p.1 p.0) (zip l os)) (sym (cells_again columns row a r))
+    ∙ zipped_map (λ (c : Column). cell columns row c.0) (λ (c : Column). set_value columns row sets c.0) columns os h
+
+-- the relations of a list with one row more, of a filter and of a map
+ascends_filter : {X : Type 0} (cmp : X → X → Ordering) (p : X → Bool) (xs : List X) → Ascends cmp xs → Ascends cmp (filter p xs)
+ascends_filter cmp p [] a = tt
+ascends_filter {X} cmp p (x ∷ xs) a =
+    elim (p x) as (λ b. Ascends cmp (cond b (x ∷ filter p xs) (filter p xs))) [
+      | true ↦ (below_each cmp x (filter p xs) (λ y m. before_in cmp x y xs a.0 (from_filter p y xs m).0), ascends_filter cmp p xs a.1)
+      | false ↦ ascends_filter cmp p xs a.1
+    ]
+
+module _ {X : Type 0} (cmp : X → X → Ordering) (exact : IsExact cmp) where
+  pub set_pushed : (xs : List X) (x : X) → set_of cmp (xs ++ x ∷ []) ≡ put_in cmp x (set_of cmp xs)
+  unfolding set_of
+  set_pushed xs x = set_same cmp exact (xs ++ x ∷ []) (x ∷ xs) (record {
+    there = λ z m. elim (in_append z xs (x ∷ []) m) [ inl a ↦ inr a | inr b ↦ elim b [ inl e ↦ inl e | inr n ↦ absurd n ] ];
+    back = λ z m. elim m [ inl e ↦ in_right z xs (x ∷ []) (inl e) | inr n ↦ in_left z xs (x ∷ []) n ];
+  })
+
+  pub set_filtered : (p : X → Bool) (xs : List X) → set_of cmp (filter p xs) ≡ filter p (set_of cmp xs)
+  set_filtered p xs = one_list cmp exact (set_of cmp (filter p xs)) (filter p (set_of cmp xs)) (set_ascends cmp exact (filter p xs)) (ascends_filter cmp p (set_of cmp xs) (set_ascends cmp exact xs)) (record {
+    there = λ z m. let h = from_filter p z xs (from_set cmp exact z (filter p xs) m) in in_filter p z (set_of cmp xs) (in_set cmp exact z xs h.0) h.1;
+    back = λ z m. let h = from_filter p z (set_of cmp xs) m in in_set cmp exact z (filter p xs) (in_filter p z xs (from_set cmp exact z xs h.0) h.1);
+  })
+
+  pub set_mapped : (f : X → X) (xs : List X) → set_of cmp (map f xs) ≡ set_of cmp (map f (set_of cmp xs))
+  set_mapped f xs = set_same cmp exact (map f xs) (map f (set_of cmp xs)) (record {
+    there = λ z m. let h = from_map f z xs m in subst (λ (w : X). In w (map f (set_of cmp xs))) h.2 (in_map f h.0 (set_of cmp xs) (in_set cmp exact h.0 xs h.1));
+    back = λ z m. let h = from_map f z (set_of cmp xs) m in subst (λ (w : X). In w (map f xs)) h.2 (in_map f h.0 xs (from_set cmp exact h.0 xs h.1));
+  })
+
+-- INSERTs, one after the other, are the union with the rows that they give
+some_rest : (row : Row) (given : List Row) (o : Option (List Row)) → option_map (λ rows. row ∷ rows) o ≡ Some given → (rest : List Row) × (o ≡ Some rest) × (given ≡ row ∷ rest)
+some_rest row given None e = absurd (cc)
+some_rest row given (Some rest) e = (rest, refl, sym (same_Some (row ∷ rest) given e))
+
+pub union_of_insertions : (columns : List Column) (changes : List PlainChange) (given rows : List Row) → insertions columns changes ≡ Some given → relation_after_each columns changes (set_of row_cmp rows) ≡ set_of row_cmp (rows ++ given)
+union_of_insertions columns [] given rows e = ap (set_of row_cmp) (sym (append-nil rows) ∙ ap (λ more. rows ++ more) (same_Some [] given e))
+union_of_insertions columns (deletion t c ∷ changes) given rows e = absurd (cc)
+union_of_insertions columns (update t sets c ∷ changes) given rows e = absurd (cc)
+union_of_insertions columns (insertion t cells ∷ changes) given rows e =
+    let row = row_of columns cells in
+    let h = some_rest row given (insertions columns changes) e in
+    ap (relation_after_each columns changes) (sym (set_pushed row_cmp row_exact rows row))
+    ∙ union_of_insertions columns changes h.0 (rows ++ row ∷ []) h.1
+    ∙ ap (set_of row_cmp) (append_assoc rows (row ∷ []) h.0 ∙ ap (λ more. rows ++ more) (sym h.2))
