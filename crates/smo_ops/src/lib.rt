@@ -37,7 +37,6 @@ mod versions;
 pub use afters::after;
 pub use changes::{Change, ChangeFault};
 pub use checks::{check_change, check_changes};
-pub use columns::OwnColumns;
 pub use commands::{Body, Command};
 pub use counts::{change_nodes, check_counts};
 pub use effects::{apply_change, inserted_row, inserted_rows, insertions_are_a_union, make_set};
