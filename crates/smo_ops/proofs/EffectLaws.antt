@@ -1,4 +1,5 @@
--- A row that is lent as that of atom 0, and what changes make of lists of rows.
+-- A row that is lent as that of atom 0, the rows that an INSERT and an UPDATE make, and what changes make of lists of
+-- rows.
 use Rattle.std.proofs.Common.{◌≡◌, ℕ, ◌+◌, ◌<◌, Bool, true, false, cond, List, [], ◌∷◌, ◌++◌, append_assoc, Option, Some, None, length, map, take, drop, get_or, nat_eq, refl, sym, ap, ◌∙◌, subst, inl, inr, pos, arith}
 use Rattle.std.specs.Prelude.{◌==◌, zero, suc, if◌then◌else◌}
 use Rattle.std.specs.List.{AllZip, zip, filter}

@@ -14,7 +14,7 @@ ghost use Rattle.prima_base.specs.Order.{row_cmp, shown};
 ghost use Rattle.prima_base.specs.Columns.{Column as TableColumn, AreColumns, IsRow, IsRelation};
 ghost use Rattle.cond_expr.specs.Rows.{IsLawful, AreLawful};
 ghost use Rattle.cond_expr.specs.Seen.{test};
-ghost use Rattle.smo_ops.specs.OneRow.{as_atom, meets, given, row_of, set_value, updated};
+ghost use Rattle.smo_ops.specs.OneRow.{Relation, as_atom, meets, given, row_of, set_value, updated};
 ghost use Rattle.smo_ops.specs.Changes.{PlainChange, sets_of, change_of, changes_of};
 ghost use Rattle.smo_ops.specs.Effects.{relation_after};
 ghost use Rattle.smo_ops.specs.Inserting.{relation_after_each, insertions};
@@ -50,7 +50,8 @@ fn atom_columns(alloc: Global, columns: &[(Name, ColType)]) -> Result<Vec<Column
 
 // Whether the row meets the condition.
 fn row_meets(alloc: Global, cond: &Cond, atoms: &[Column], row: &Row) -> Result<bool, NoMemory>
-    ensures { (columns : List TableColumn) → atoms.now ≡ as_atom columns → IfOk result (λ b. b ≡ meets columns (test cond.now) row.now) }
+    ensures { (columns : List TableColumn) → atoms.now ≡ as_atom columns
+        → IfOk result (λ b. b ≡ meets columns (test cond.now) row.now) }
 {
     let values = lend_row(alloc, row.values())?;
     holds(alloc, cond, atoms, &values)
@@ -118,7 +119,8 @@ fn set_value(
 ) -> Result<Option<Value>, NoMemory>
     requires { AreLawful values.now }
     ensures { (columns : List TableColumn) → atoms.now ≡ as_atom columns
-        → IfOk result (λ v. unwrap_or v (cell columns (map shown values.now) name.now) ≡ set_value columns (map shown values.now) (sets_of sets.now) name.now) }
+        → IfOk result (λ v. unwrap_or v (cell columns (map shown values.now) name.now)
+        ≡ set_value columns (map shown values.now) (sets_of sets.now) name.now) }
 {
     for (column, expr) in sets {
         if *column == *name {
@@ -138,7 +140,8 @@ fn set_values(
     row: &Row,
 ) -> Result<Vec<Option<Value>>, NoMemory>
     requires { atoms.now ≡ as_atom columns.now }
-    ensures { IfOk result (λ v. AllZip (λ (c : TableColumn) (o : Option OneValue). unwrap_or o (cell columns.now row.now c.0) ≡ set_value columns.now row.now (sets_of sets.now) c.0) columns.now v.items) }
+    ensures { IfOk result (λ v. AllZip (λ (c : TableColumn) (o : Option OneValue).
+        unwrap_or o (cell columns.now row.now c.0) ≡ set_value columns.now row.now (sets_of sets.now) c.0) columns.now v.items) }
 {
     let values = lend_row(alloc, row.values())?;
     let mut set = Vec::with_capacity(alloc, columns.len())?;
@@ -154,7 +157,8 @@ fn replaced(
     values: Vec<Value>,
     set: Vec<Option<Value>>,
 ) -> Result<Vec<Value>, NoMemory>
-    ensures { IfOk result (λ v. v.items ≡ map (λ (p : OneValue × Option OneValue). unwrap_or p.1 p.0) (zip values.items set.items)) }
+    ensures { IfOk result (λ v. v.items
+        ≡ map (λ (p : OneValue × Option OneValue). unwrap_or p.1 p.0) (zip values.items set.items)) }
 {
     let replaced = values
         .into_iter()
@@ -201,7 +205,8 @@ fn kept_rows(
     cond: &Cond,
     rows: Vec<Row>,
 ) -> Result<Vec<Row>, NoMemory>
-    ensures { IfOk result (λ v. v.items ≡ filter (λ row. not (meets columns.now (test cond.now) row)) rows.items) }
+    ensures { IfOk result (λ v. v.items
+        ≡ filter (λ row. not (meets columns.now (test cond.now) row)) rows.items) }
 {
     let atoms = atom_columns(alloc, columns)?;
     let mut kept = Vec::with_capacity(alloc, rows.len())?;
@@ -223,7 +228,8 @@ fn updated_rows(
 ) -> Result<Vec<Row>, NoMemory>
     requires columns { AreColumns columns.now }
     requires rows { (row : List OneValue) → In row rows.items → IsRow columns.now row }
-    ensures { IfOk result (λ v. v.items ≡ map (updated columns.now (sets_of sets.now) (test cond.now)) rows.items) }
+    ensures { IfOk result (λ v. v.items
+        ≡ map (updated columns.now (sets_of sets.now) (test cond.now)) rows.items) }
 {
     let atoms = atom_columns(alloc, columns)?;
     let mut changed = Vec::with_capacity(alloc, rows.len())?;
@@ -244,7 +250,8 @@ pub fn apply_change(
 ) -> Result<Vec<Row>, NoMemory>
     requires columns { AreColumns columns.now }
     requires relation { IsRelation columns.now (set_of row_cmp rows.items) }
-    ensures { IfOk result (λ v. set_of row_cmp v.items ≡ relation_after columns.now (change_of change.now) (set_of row_cmp rows.items)) }
+    ensures { IfOk result (λ v. set_of row_cmp v.items
+        ≡ relation_after columns.now (change_of change.now) (set_of row_cmp rows.items)) }
 {
     match change {
         Change::Insert { cells, .. } => {
@@ -277,8 +284,10 @@ pub fn inserted_rows(
 
 /// Changes that are all INSERTs, one after the other, make of a relation its union with the rows that they give.
 pub fn insertions_are_a_union()
-    ensures relation { (columns : List TableColumn) → (changes : List PlainChange) → (given : List (List OneValue)) → (rows : List (List OneValue))
-        → Ascends row_cmp rows → insertions columns changes ≡ Some given → relation_after_each columns changes rows ≡ set_of row_cmp (rows ++ given) }
-    ensures listed { (columns : List TableColumn) → (changes : List PlainChange) → (given : List (List OneValue)) → (rows : List (List OneValue))
-        → insertions columns changes ≡ Some given → relation_after_each columns changes (set_of row_cmp rows) ≡ set_of row_cmp (rows ++ given) }
+    ensures relation { (columns : List TableColumn) → (changes : List PlainChange) → (given : Relation) → (rows : Relation)
+        → Ascends row_cmp rows → insertions columns changes ≡ Some given
+        → relation_after_each columns changes rows ≡ set_of row_cmp (rows ++ given) }
+    ensures listed { (columns : List TableColumn) → (changes : List PlainChange) → (given : Relation) → (rows : Relation)
+        → insertions columns changes ≡ Some given
+        → relation_after_each columns changes (set_of row_cmp rows) ≡ set_of row_cmp (rows ++ given) }
 {}
