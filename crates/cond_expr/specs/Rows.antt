@@ -5,7 +5,7 @@ use Rattle.prima_base.specs.declared.values.Value.TheVariants.{Int}
 use Rattle.prima_base.specs.declared.values.Val.{Val}
 use Rattle.prima_base.specs.declared.values.Val.TheVariants.{Int as ValInt, Slice, Own}
 pub use Rattle.prima_base.specs.Columns.{IsLawful}
-use Rattle.prima_base.specs.Order.{bytes_cmp, shown}
+use Rattle.prima_base.specs.Order.{bytes_cmp, shown, IsLent}
 use Rattle.cond_expr.specs.declared.exprs.Whose.{Whose}
 use Rattle.cond_expr.specs.declared.exprs.Whose.TheVariants.{Free, Alias, Atom}
 use Rattle.cond_expr.specs.declared.exprs.Column.{Column}
@@ -29,6 +29,10 @@ flat (c ∷ cs) (v ∷ vs) w n = cond (names w n c) (shown v) (flat cs vs w n)
 abbrev pub AreLawful : List Val → Type 0
 AreLawful [] = ⊤
 AreLawful (v ∷ vs) = IsLawful (shown v) × AreLawful vs
+
+abbrev pub AreLent : List Val → Type 0
+AreLent [] = ⊤
+AreLent (v ∷ vs) = IsLent v × AreLent vs
 
 -- a text that lies elsewhere
 abbrev pub is_borrowed : Val → Bool

@@ -1,6 +1,6 @@
 ghost use Rattle.std.specs.Prelude.{◌≡◌, IfOk, map};
-ghost use Rattle.prima_base.specs.Order.{shown};
-ghost use Rattle.cond_expr.specs.Rows.{IsLawful, AreLawful};
+ghost use Rattle.prima_base.specs.Order.{shown, IsLent};
+ghost use Rattle.cond_expr.specs.Rows.{IsLawful, AreLawful, AreLent};
 
 use prima_base::{NoMemory, Val, Value};
 use std::alloc::Global;
@@ -9,6 +9,7 @@ use std::alloc::Global;
 pub fn lend(value: &Value) -> Val<'_>
     ensures value { shown result ≡ value.now }
     ensures lawful { IsLawful (shown result) }
+    ensures lent { IsLent result }
 {
     value.lend()
 }
@@ -17,6 +18,7 @@ pub fn lend(value: &Value) -> Val<'_>
 pub fn lend_row<'a>(alloc: Global, row: &'a [Value]) -> Result<Vec<Val<'a>>, NoMemory>
     ensures values { IfOk result (λ v. map shown v.items ≡ row.now) }
     ensures lawful { IfOk result (λ v. AreLawful v.items) }
+    ensures lent { IfOk result (λ v. AreLent v.items) }
 {
     let mut lent = Vec::with_capacity(alloc, row.len())?;
     for value in row {

@@ -116,7 +116,7 @@ fn first_of(first: &[usize], id: usize) -> usize
 
 impl<'a> CellScan<'a> {
     ghost use Rattle.std.specs.Prelude.{◌≡◌, ◌+◌, ◌++◌, [], ◌∷◌, length, IfNone, IfSome, option_to_list, option_map};
-    ghost use Rattle.prima_base.specs.Order.{shown};
+    ghost use Rattle.prima_base.specs.Order.{shown, IsLent};
     ghost use Rattle.prima_base.specs.Columns.{IsLawful};
     ghost use Rattle.history_store.specs.Chains.{IsChain};
     ghost use Rattle.history_store.specs.Entries.{entries_from, IsHistory};
@@ -149,6 +149,7 @@ impl<'a> CellScan<'a> {
     pub fn next_cell<L: Ledger>(&mut self, steps: &mut Steps<L>) -> Option<CellEntry<'a>>
         ensures entries { self.old ≡ option_to_list (option_map seen_cell result) ++ self.new }
         ensures lawful { IfSome result (λ e. IsLawful (shown e.value)) }
+        ensures lent { IfSome result (λ e. IsLent e.value) }
         ensures all { IfNone result (self.old ≡ []) }
         ensures cost { steps.new ≡ steps.old + length (option_to_list result) }
     {

@@ -1,5 +1,5 @@
 -- The order of values, names and rows, and the value that a `Val` shows.
-use Rattle.std.specs.Prelude.{ℕ, Bool, List}
+use Rattle.std.specs.Prelude.{ℕ, Bool, List, ⊤}
 use Rattle.std.specs.declared.cmp.Ordering.{Ordering}
 use Rattle.std.specs.declared.cmp.Ordering.TheVariants.{Less, Greater}
 use Rattle.std.specs.Ordering.{nat_cmp, int_cmp, eq_by_cmp}
@@ -29,6 +29,12 @@ abbrev pub shown : Val → Value
 shown (ValInt n) = Int n
 shown (Slice s) = Text s.now
 shown (Own t) = Text t
+
+-- where it is a text, its bytes lie elsewhere
+abbrev pub IsLent : Val → Type 0
+IsLent (ValInt n) = ⊤
+IsLent (Slice s) = ⊤
+IsLent (Own t) = ⊥
 
 -- two values are equal where neither is before the other
 abbrev pub value_eq : Value → Value → Bool

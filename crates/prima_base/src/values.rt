@@ -31,13 +31,14 @@ impl Value {
 
 impl Value {
     ghost use Rattle.std.specs.Prelude.{◌≡◌};
-    ghost use Rattle.prima_base.specs.Order.{shown};
+    ghost use Rattle.prima_base.specs.Order.{shown, IsLent};
     ghost use Rattle.prima_base.specs.Columns.{IsLawful};
 
     /// The same value, borrowed; a text has at most 4,096 bytes and no control byte. It takes no memory.
     pub fn lend(&self) -> Val<'_>
         ensures value { shown result ≡ self.now }
         ensures lawful { IsLawful (shown result) }
+        ensures lent { IsLent result }
     {
         match self {
             Value::Int(n) => Val::Int(*n),
