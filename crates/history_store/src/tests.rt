@@ -372,8 +372,8 @@ fn holds_just(table: &StoredTable, rows: &[Row], candidates: &[(u64, Vec<Row>)])
 }
 
 // The stages of a table: at stamp 0, then one row gained, one lost, two times a value of one column that
-// differs (the second brings the first back), more lost than gained, more gained than lost, all lost, and one
-// row that was there before.
+// differs (the second brings the first back), more lost than gained, more gained than lost, all lost, one row
+// that was there before, one more, and two lost with two gained.
 const STAGES: &[(u64, &[(&str, i64)])] = &[
     (0, &[("a", 1), ("b", 2)]),
     (3, &[("a", 1), ("b", 2), ("c", 3)]),
@@ -384,6 +384,8 @@ const STAGES: &[(u64, &[(&str, i64)])] = &[
     (9, &[("a", 5), ("c", 1), ("d", 1)]),
     (10, &[]),
     (12, &[("a", 5)]),
+    (13, &[("a", 5), ("f", 6)]),
+    (15, &[("b", 7), ("g", 8)]),
 ];
 
 // The same stages behind the first, each as the rows that it loses and those that it gains.
@@ -396,6 +398,8 @@ const CHANGES: &[(u64, &[(&str, i64)], &[(&str, i64)])] = &[
     (9, &[("b", 1)], &[("a", 5), ("c", 1), ("d", 1)]),
     (10, &[("a", 5), ("c", 1), ("d", 1)], &[]),
     (12, &[], &[("a", 5)]),
+    (13, &[], &[("f", 6)]),
+    (15, &[("a", 5), ("f", 6)], &[("b", 7), ("g", 8)]),
 ];
 
 // The keys behind them, by id: the ids of lost rows without a partner are not used again.
@@ -406,6 +410,7 @@ const KEYS: &[(u64, u64, u64)] = &[
     (3, 9, 10),
     (4, 9, 10),
     (5, 12, FOREVER),
+    (6, 13, FOREVER),
 ];
 
 // The entries of the columns behind them, by id and start.
@@ -417,7 +422,10 @@ const ITEMS: &[(u64, &str, u64, u64)] = &[
     (2, "c", 3, 8),
     (3, "c", 9, 10),
     (4, "d", 9, 10),
-    (5, "a", 12, FOREVER),
+    (5, "a", 12, 15),
+    (5, "b", 15, FOREVER),
+    (6, "f", 13, 15),
+    (6, "g", 15, FOREVER),
 ];
 
 const STOCKS: &[(u64, i64, u64, u64)] = &[
@@ -429,7 +437,10 @@ const STOCKS: &[(u64, i64, u64, u64)] = &[
     (2, 3, 7, 8),
     (3, 1, 9, 10),
     (4, 1, 9, 10),
-    (5, 5, 12, FOREVER),
+    (5, 5, 12, 15),
+    (5, 7, 15, FOREVER),
+    (6, 6, 13, 15),
+    (6, 8, 15, FOREVER),
 ];
 
 fn stages_of(alloc: Global) -> Result<Vec<(u64, Vec<Row>)>, Fail> {
@@ -478,13 +489,13 @@ fn hands_ids_on(rt: HostRuntime) -> Result<(), Fail> {
     assert!(rt; keys_are(&table, KEYS));
     assert!(rt; cells_are(&table, &item, &item_entries(alloc)?));
     assert!(rt; cells_are(&table, &stock, &stock_entries(alloc)?));
-    assert_eq!(rt; table.keys(), 6);
-    assert_eq!(rt; table.entries(&item), Some(8));
-    assert_eq!(rt; table.entries(&stock), Some(9));
+    assert_eq!(rt; table.keys(), 7);
+    assert_eq!(rt; table.entries(&item), Some(11));
+    assert_eq!(rt; table.entries(&stock), Some(12));
     assert!(rt; table.scan_column(&price).is_none());
     assert!(rt; table.entries(&price).is_none());
     let now = table.current().map_err(|_| "memory")?;
-    assert!(rt; rows_are(&now, &stock_rows(alloc, &[("a", 5)])?));
+    assert!(rt; rows_are(&now, &stock_rows(alloc, &[("b", 7), ("g", 8)])?));
     Ok(())
 }
 
@@ -519,9 +530,9 @@ fn hands_ids_on_in_changes_of_few_rows(rt: HostRuntime) -> Result<(), Fail> {
     assert!(rt; keys_are(&table, KEYS));
     assert!(rt; cells_are(&table, &item, &item_entries(alloc)?));
     assert!(rt; cells_are(&table, &stock, &stock_entries(alloc)?));
-    assert_eq!(rt; table.keys(), 6);
-    assert_eq!(rt; table.entries(&item), Some(8));
-    assert_eq!(rt; table.entries(&stock), Some(9));
+    assert_eq!(rt; table.keys(), 7);
+    assert_eq!(rt; table.entries(&item), Some(11));
+    assert_eq!(rt; table.entries(&stock), Some(12));
     assert!(rt; !table.holds(&Row::new(alloc, Vec::new(alloc))));
     Ok(())
 }
