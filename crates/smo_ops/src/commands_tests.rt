@@ -15,21 +15,25 @@ fn changes(alloc: Global, list: &[Do]) -> Result<Vec<Change>, Fail> {
     Ok(changes)
 }
 
-// What the check of these changes answers, each with few nodes.
-fn checked(
+// A command of these changes.
+fn command(alloc: Global, list: &[Do]) -> Result<Command, Fail> {
+    let body = Body::Changes(changes(alloc, list)?);
+    Ok(Command::new(0, body.copy(alloc)?).ok_or("no command")?)
+}
+
+// Whether the check of the changes answers so; their counts are within the limits.
+fn is_answered(
     rt: &impl Abort,
     alloc: Global,
     schema: &Schema,
-    list: &[Do],
+    command: &Command,
     want: &Want,
-) -> Result<bool, Fail> {
-    let body = Body::Changes(changes(alloc, list)?).copy(alloc)?;
-    let command = Command::new(0, body).ok_or("no command")?.copy(alloc)?;
-    assert_eq!(rt; check_counts(&command), Ok(()));
-    let Body::Changes(changes) = command.body() else {
-        return Ok(false);
-    };
-    Ok(is_checked(&check_changes(alloc, schema, changes), want))
+) -> bool {
+    assert_eq!(rt; check_counts(command), Ok(()));
+    match command.body() {
+        Body::Changes(changes) => is_checked(&check_changes(alloc, schema, changes), want),
+        Body::Evolve { .. } => false,
+    }
 }
 
 const COMMANDS: [(&[Do], Want); 6] = [
@@ -78,7 +82,11 @@ fn places_count_through_a_command(rt: HostRuntime) -> Result<(), Fail> {
     let alloc = rt.alloc();
     let schema = two_tables(&rt, alloc)?;
     for (at, (list, want)) in COMMANDS.iter().enumerate() {
-        assert!(rt; checked(&rt, alloc, &schema, list, want)?, "command {at}");
+        let command = command(alloc, list)?.copy(alloc)?;
+        assert!(rt;
+            is_answered(&rt, alloc, &schema, &command, want),
+            "command {at}"
+        );
     }
     Ok(())
 }

@@ -6,22 +6,38 @@ use prima_base::What;
 use std::alloc::Global;
 use std::test::Fail;
 
-// A condition of so many nodes, side by side: an AND of TRUEs.
-fn wide(alloc: Global, nodes: u32) -> Result<Cond, Fail> {
-    let mut parts = Vec::new(alloc);
-    for _ in 1..nodes {
-        parts.push(Cond::True)?;
-    }
-    Ok(Cond::and(parts))
+type Excess = Option<(What, u64)>;
+
+const NODES: Excess = Some((What::Nodes, 256));
+
+const DEPTH: Excess = Some((What::Depth, 32));
+
+const PARTS: Excess = Some((What::Parts, 8));
+
+// A condition of so many nodes: an AND of TRUEs, or NOTs over a TRUE.
+#[derive(Clone, Copy)]
+enum Shape {
+    Wide(u32),
+    Deep(u32),
 }
 
-// A condition of so many nodes, one above the other: NOTs over TRUE.
-fn deep(alloc: Global, nodes: u32) -> Result<Cond, Fail> {
-    let mut cond = Cond::True;
-    for _ in 1..nodes {
-        cond = Cond::not(alloc, cond)?;
+fn shaped(alloc: Global, shape: Shape) -> Result<Cond, Fail> {
+    match shape {
+        Shape::Wide(nodes) => {
+            let mut parts = Vec::new(alloc);
+            for _ in 1..nodes {
+                parts.push(Cond::True)?;
+            }
+            Ok(Cond::and(parts))
+        }
+        Shape::Deep(nodes) => {
+            let mut cond = Cond::True;
+            for _ in 1..nodes {
+                cond = Cond::not(alloc, cond)?;
+            }
+            Ok(cond)
+        }
     }
-    Ok(cond)
 }
 
 // A CONCAT of so many parts.
@@ -33,183 +49,164 @@ fn joined(alloc: Global, count: u32) -> Result<Expr, Fail> {
     Ok(Expr::concat(parts))
 }
 
-fn delete(alloc: Global, cond: Cond) -> Result<Change, Fail> {
+fn delete(alloc: Global, shape: Shape) -> Result<Change, Fail> {
     let table = name(alloc, "t")?;
+    let cond = shaped(alloc, shape)?;
     Ok(Change::Delete { table, cond })
 }
 
-fn update(alloc: Global, first: Expr, second: Expr, cond: Cond) -> Result<Change, Fail> {
+fn update(alloc: Global, first: u32, second: u32, shape: Shape) -> Result<Change, Fail> {
     let mut sets = Vec::new(alloc);
-    sets.push((name(alloc, "a")?, first))?;
-    sets.push((name(alloc, "b")?, second))?;
+    sets.push((name(alloc, "a")?, joined(alloc, first)?))?;
+    sets.push((name(alloc, "b")?, joined(alloc, second)?))?;
     let table = name(alloc, "t")?;
+    let cond = shaped(alloc, shape)?;
     Ok(Change::Update { table, sets, cond })
 }
 
-fn counts_of(body: Body) -> Option<Result<(), (What, u64)>> {
-    match Command::new(5, body) {
-        Some(command) => Some(check_counts(&command)),
-        None => None,
+fn excess_of(body: Body) -> Result<Excess, Fail> {
+    let command = Command::new(5, body).ok_or("no command")?;
+    match check_counts(&command) {
+        Ok(()) => Ok(None),
+        Err(excess) => Ok(Some(excess)),
     }
 }
 
-// The counts of a command of one change.
-fn counts_of_change(alloc: Global, change: Change) -> Result<Option<(What, u64)>, Fail> {
+fn excess_of_one(alloc: Global, change: Change) -> Result<Excess, Fail> {
     let mut changes = Vec::new(alloc);
     changes.push(change)?;
-    match counts_of(Body::Changes(changes)) {
-        Some(Ok(())) => Ok(None),
-        Some(Err(excess)) => Ok(Some(excess)),
-        None => Err("no command".into()),
-    }
+    excess_of(Body::Changes(changes))
 }
+
+const DELETES: [(Shape, Excess); 5] = [
+    (Shape::Wide(256), None),
+    (Shape::Wide(257), NODES),
+    (Shape::Deep(32), None),
+    (Shape::Deep(33), DEPTH),
+    (Shape::Deep(257), NODES),
+];
+
+const UPDATES: [(u32, u32, Shape, Excess); 5] = [
+    (8, 8, Shape::Deep(32), None),
+    (8, 9, Shape::Wide(257), PARTS),
+    (256, 9, Shape::Deep(33), NODES),
+    (255, 1, Shape::Wide(257), PARTS),
+    (1, 1, Shape::Deep(33), DEPTH),
+];
 
 #[test]
 fn trees_are_counted(rt: HostRuntime) -> Result<(), Fail> {
-    let alloc = rt.alloc();
-    let nodes = Some((What::Nodes, 256));
-    let depth = Some((What::Depth, 32));
-    let parts = Some((What::Parts, 8));
-    for (cond, want) in [
-        (wide(alloc, 256)?, None),
-        (wide(alloc, 257)?, nodes),
-        (deep(alloc, 32)?, None),
-        (deep(alloc, 33)?, depth),
-        (deep(alloc, 257)?, nodes),
-        (cond(alloc, &[True, Not])?, None),
-    ] {
-        assert_eq!(rt; counts_of_change(alloc, delete(alloc, cond)?)?, want);
+    for (at, (shape, want)) in DELETES.iter().enumerate() {
+        let change = delete(rt.alloc(), *shape)?;
+        assert_eq!(rt; excess_of_one(rt.alloc(), change)?, *want, "delete {at}");
     }
-    let eight = update(alloc, joined(alloc, 8)?, joined(alloc, 8)?, Cond::True)?;
-    assert_eq!(rt; counts_of_change(alloc, eight)?, None);
-    let nine = update(
-        alloc,
-        joined(alloc, 8)?,
-        joined(alloc, 9)?,
-        wide(alloc, 257)?,
-    )?;
-    assert_eq!(rt; counts_of_change(alloc, nine)?, parts);
-    let first = update(
-        alloc,
-        joined(alloc, 256)?,
-        joined(alloc, 9)?,
-        deep(alloc, 33)?,
-    )?;
-    assert_eq!(rt; counts_of_change(alloc, first)?, nodes);
-    let last = update(
-        alloc,
-        joined(alloc, 1)?,
-        joined(alloc, 1)?,
-        deep(alloc, 33)?,
-    )?;
-    assert_eq!(rt; counts_of_change(alloc, last)?, depth);
+    for (at, (first, second, shape, want)) in UPDATES.iter().enumerate() {
+        let change = update(rt.alloc(), *first, *second, *shape)?;
+        assert_eq!(rt; excess_of_one(rt.alloc(), change)?, *want, "update {at}");
+    }
     Ok(())
 }
 
-// So many changes, the last one of them with the condition.
-fn many_changes(alloc: Global, count: u32, cond: Cond) -> Result<Vec<Change>, Fail> {
+// So many changes, one with the condition, and so many more.
+fn many_changes(alloc: Global, before: u32, shape: Shape, behind: u32) -> Result<Body, Fail> {
     let mut changes = Vec::new(alloc);
-    for _ in 1..count {
-        changes.push(delete(alloc, Cond::True)?)?;
+    for _ in 0..before {
+        changes.push(delete(alloc, Shape::Deep(1))?)?;
     }
-    changes.push(delete(alloc, cond)?)?;
-    Ok(changes)
+    changes.push(delete(alloc, shape)?)?;
+    for _ in 0..behind {
+        changes.push(delete(alloc, Shape::Deep(1))?)?;
+    }
+    Ok(Body::Changes(changes))
 }
+
+const CHANGES: [(u32, Shape, u32, Excess); 3] = [
+    (65_535, Shape::Deep(1), 0, None),
+    (65_536, Shape::Deep(33), 0, Some((What::Changes, 65_536))),
+    (65_535, Shape::Deep(33), 1, DEPTH),
+];
 
 #[test]
 fn changes_are_counted(rt: HostRuntime) -> Result<(), Fail> {
-    let alloc = rt.alloc();
-    let fits = many_changes(alloc, 65_536, Cond::True)?;
-    assert_eq!(rt; counts_of(Body::Changes(fits)), Some(Ok(())));
-    let late = many_changes(alloc, 65_537, deep(alloc, 33)?)?;
-    assert_eq!(rt;
-        counts_of(Body::Changes(late)),
-        Some(Err((What::Changes, 65_536)))
-    );
-    let mut early = many_changes(alloc, 65_536, deep(alloc, 33)?)?;
-    early.push(delete(alloc, Cond::True)?)?;
-    assert_eq!(rt;
-        counts_of(Body::Changes(early)),
-        Some(Err((What::Depth, 32)))
-    );
+    for (before, shape, behind, want) in &CHANGES {
+        let body = many_changes(rt.alloc(), *before, *shape, *behind)?;
+        assert_eq!(rt; excess_of(body)?, *want);
+    }
     Ok(())
 }
 
-fn add_column(alloc: Global, expr: Expr) -> Result<Op, Fail> {
+// An ADD COLUMN with a CONCAT of so many parts.
+fn add_column(alloc: Global, parts: u32) -> Result<Op, Fail> {
     Ok(Op::AddColumn {
         column: name(alloc, "c")?,
-        expr,
+        expr: joined(alloc, parts)?,
         table: name(alloc, "t")?,
     })
 }
 
-// So many NOPs, and an ADD COLUMN behind them.
-fn inverse(alloc: Global, nops: u32, expr: Expr) -> Result<Vec<Op>, Fail> {
+// So many NOPs, an ADD COLUMN, and so many NOPs more.
+fn inverse(alloc: Global, before: u32, parts: u32, behind: u32) -> Result<Vec<Op>, Fail> {
     let mut ops = Vec::new(alloc);
-    for _ in 0..nops {
+    for _ in 0..before {
         ops.push(Op::Nop)?;
     }
-    ops.push(add_column(alloc, expr)?)?;
+    ops.push(add_column(alloc, parts)?)?;
+    for _ in 0..behind {
+        ops.push(Op::Nop)?;
+    }
     Ok(ops)
 }
 
+// The parts of the operator, and of its inverse with so many NOPs before and behind.
+const EVOLVES: [(u32, u32, u32, u32, Excess); 4] = [
+    (8, 7, 8, 0, None),
+    (9, 8, 1, 0, PARTS),
+    (8, 8, 9, 0, Some((What::Inverse, 8))),
+    (8, 7, 9, 1, PARTS),
+];
+
 #[test]
 fn operators_are_counted(rt: HostRuntime) -> Result<(), Fail> {
-    let alloc = rt.alloc();
-    let parts = Some(Err((What::Parts, 8)));
-    let op = add_column(alloc, joined(alloc, 8)?)?;
-    let fits = inverse(alloc, 7, joined(alloc, 8)?)?;
-    assert_eq!(rt; counts_of(Body::Evolve { op, inverse: fits }), Some(Ok(())));
-    let op = add_column(alloc, joined(alloc, 9)?)?;
-    let long = inverse(alloc, 8, joined(alloc, 1)?)?;
-    assert_eq!(rt; counts_of(Body::Evolve { op, inverse: long }), parts);
-    let long = inverse(alloc, 8, joined(alloc, 9)?)?;
-    assert_eq!(rt;
-        counts_of(Body::Evolve {
-            op: Op::Nop,
-            inverse: long
-        }),
-        Some(Err((What::Inverse, 8)))
-    );
-    let mut early = inverse(alloc, 7, joined(alloc, 9)?)?;
-    early.push(Op::Nop)?;
-    assert_eq!(rt;
-        counts_of(Body::Evolve {
-            op: Op::Nop,
-            inverse: early
-        }),
-        parts
-    );
-    let op = Op::PartitionTable {
-        table: name(alloc, "t")?,
-        yes: name(alloc, "u")?,
-        cond: deep(alloc, 33)?,
-        no: name(alloc, "v")?,
-    };
-    assert_eq!(rt;
-        counts_of(Body::Evolve {
-            op,
-            inverse: Vec::new(alloc)
-        }),
-        Some(Err((What::Depth, 32)))
-    );
-    let op = Op::JoinTable {
-        left: name(alloc, "t")?,
-        right: name(alloc, "u")?,
-        into: name(alloc, "v")?,
-        cond: wide(alloc, 257)?,
-    };
-    assert_eq!(rt;
-        counts_of(Body::Evolve {
-            op,
-            inverse: Vec::new(alloc)
-        }),
-        Some(Err((What::Nodes, 256)))
-    );
+    for (parts, before, inner, behind, want) in &EVOLVES {
+        let op = add_column(rt.alloc(), *parts)?;
+        let inverse = inverse(rt.alloc(), *before, *inner, *behind)?;
+        assert_eq!(rt; excess_of(Body::Evolve { op, inverse })?, *want);
+    }
     Ok(())
 }
 
-const CHANGES: [(Do, u64); 4] = [
+fn partition(alloc: Global, shape: Shape) -> Result<Op, Fail> {
+    Ok(Op::PartitionTable {
+        table: name(alloc, "t")?,
+        yes: name(alloc, "u")?,
+        cond: shaped(alloc, shape)?,
+        no: name(alloc, "v")?,
+    })
+}
+
+fn join(alloc: Global, shape: Shape) -> Result<Op, Fail> {
+    Ok(Op::JoinTable {
+        left: name(alloc, "t")?,
+        right: name(alloc, "u")?,
+        into: name(alloc, "v")?,
+        cond: shaped(alloc, shape)?,
+    })
+}
+
+#[test]
+fn conditions_of_operators_are_counted(rt: HostRuntime) -> Result<(), Fail> {
+    for (shape, want) in &DELETES {
+        let op = partition(rt.alloc(), *shape)?;
+        let inverse = Vec::new(rt.alloc());
+        assert_eq!(rt; excess_of(Body::Evolve { op, inverse })?, *want);
+        let op = join(rt.alloc(), *shape)?;
+        let inverse = Vec::new(rt.alloc());
+        assert_eq!(rt; excess_of(Body::Evolve { op, inverse })?, *want);
+    }
+    Ok(())
+}
+
+const COUNTED: [(Do, u64); 4] = [
     (Do::Insert("t", &[("a", Int(1)), ("b", Text("x"))]), 2),
     (Do::Delete("t", &[Col("a"), Int(1), Eq, Not]), 4),
     (
@@ -225,7 +222,7 @@ const CHANGES: [(Do, u64); 4] = [
 
 #[test]
 fn nodes_of_a_change_are_counted(rt: HostRuntime) -> Result<(), Fail> {
-    for (what, nodes) in &CHANGES {
+    for (what, nodes) in &COUNTED {
         assert_eq!(rt; change_nodes(&change(rt.alloc(), what)?), *nodes);
     }
     Ok(())

@@ -7,37 +7,25 @@ use std::alloc::Global;
 use std::process::Abort;
 use std::test::Fail;
 
-// The columns c0, c1, .. in this order.
-fn many_columns(alloc: Global, count: u32) -> Result<Vec<(Name, ColType)>, Fail> {
-    let mut columns = Vec::new(alloc);
-    for i in 0..count {
-        let text = format!(in alloc; "c{i}")?;
-        columns.push((name(alloc, text.as_str())?, ColType::Int))?;
-    }
-    Ok(columns)
-}
-
 fn create(alloc: Global, table: &str, columns: Vec<(Name, ColType)>) -> Result<Op, Fail> {
     let table = name(alloc, table)?;
     Ok(Op::CreateTable { table, columns })
 }
 
-// Whether the operator is refused so.
-fn is_refused(
-    rt: &impl Abort,
-    alloc: Global,
-    schema: &Schema,
-    op: &Op,
-    want: &Want,
-) -> Result<bool, Fail> {
-    assert!(rt; matches!(op, Op::CreateTable { .. }));
-    match after(alloc, schema, op) {
-        Ok(_) => Ok(matches!(want, Want::Fine)),
-        Err(fault) => Ok(is_op_refused(&fault, want)),
+// A CREATE TABLE of the columns c0, c1, .., so many, and then these.
+fn wide(alloc: Global, table: &str, count: u32, more: &[&str]) -> Result<Op, Fail> {
+    let mut columns = Vec::new(alloc);
+    for i in 0..count {
+        let text = format!(in alloc; "c{i}")?;
+        columns.push((name(alloc, text.as_str())?, ColType::Int))?;
     }
+    for text in more {
+        columns.push((name(alloc, text)?, ColType::Text))?;
+    }
+    create(alloc, table, columns)
 }
 
-// So many tables behind one another, each of one column.
+// The tables t0, t1, .., so many, each of one column.
 fn many_tables(rt: &impl Abort, alloc: Global, count: u32) -> Result<Schema, Fail> {
     let mut schema = Schema::empty(alloc);
     for i in 0..count {
@@ -47,33 +35,36 @@ fn many_tables(rt: &impl Abort, alloc: Global, count: u32) -> Result<Schema, Fai
     Ok(schema)
 }
 
+// Whether a CREATE TABLE is answered so.
+fn is_answered(rt: &impl Abort, alloc: Global, schema: &Schema, op: &Op, want: &Want) -> bool {
+    assert!(rt; matches!(op, Op::CreateTable { .. }));
+    match after(alloc, schema, op) {
+        Ok(_) => matches!(want, Want::Fine),
+        Err(fault) => is_op_refused(&fault, want),
+    }
+}
+
+// Over so many tables, a new table of so many columns and these more.
+const TABLES: [(u32, &str, u32, &[&str], Want); 7] = [
+    (64, "t0", 0, &[], Want::Exists("t0")),
+    (64, "u", 0, &[], Want::LastColumn("u")),
+    (64, "u", 33, &["c7", "c3"], Want::ColumnExists("u", "c7")),
+    (64, "u", 33, &[], Want::TooMany(What::Columns, 32)),
+    (64, "u", 32, &[], Want::TooMany(What::Tables, 64)),
+    (63, "u", 32, &[], Want::Fine),
+    (0, "t0", 0, &["a"], Want::Fine),
+];
+
 #[test]
 fn a_table_is_refused_at_its_first_fault(rt: HostRuntime) -> Result<(), Fail> {
-    let alloc = rt.alloc();
-    let int = ColType::Int;
-    let full = many_tables(&rt, alloc, 64)?;
-    let none = create(alloc, "t0", columns(alloc, &[])?)?;
-    assert!(rt; is_refused(&rt, alloc, &full, &none, &Want::Exists("t0"))?);
-    let none = create(alloc, "u", columns(alloc, &[])?)?;
-    assert!(rt; is_refused(&rt, alloc, &full, &none, &Want::LastColumn("u"))?);
-    let mut twice = many_columns(alloc, 33)?;
-    twice.push((name(alloc, "c7")?, int))?;
-    twice.push((name(alloc, "c3")?, int))?;
-    let twice = create(alloc, "u", twice)?;
-    assert!(rt; is_refused(&rt, alloc, &full, &twice, &Want::ColumnExists("u", "c7"))?);
-    let wide = create(alloc, "u", many_columns(alloc, 33)?)?;
-    assert!(rt; is_refused(&rt, alloc, &full, &wide, &Want::TooMany(What::Columns, 32))?);
-    let fits = create(alloc, "u", many_columns(alloc, 32)?)?;
-    assert!(rt; is_refused(&rt, alloc, &full, &fits, &Want::TooMany(What::Tables, 64))?);
-    assert!(rt;
-        is_refused(
-            &rt,
-            alloc,
-            &many_tables(&rt, alloc, 63)?,
-            &fits,
-            &Want::Fine
-        )?
-    );
+    for (at, (tables, table, count, more, want)) in TABLES.iter().enumerate() {
+        let schema = many_tables(&rt, rt.alloc(), *tables)?;
+        let op = wide(rt.alloc(), table, *count, more)?;
+        assert!(rt;
+            is_answered(&rt, rt.alloc(), &schema, &op, want),
+            "table {at}"
+        );
+    }
     Ok(())
 }
 
