@@ -1,11 +1,10 @@
 -- The laws of the order of rows with periods.
-use Rattle.std.specs.Prelude.{◌≡◌, Some, List}
+use Rattle.std.specs.Prelude.{Some}
 use Rattle.std.specs.Cmp.{IsTotalOrder, IsPartialOrder, IsEquivalence, IsPartialEquivalence, on_total, partial_equiv_from_equiv, partial_order_from_total}
 use Rattle.std.specs.Cmp.Lexicographic.{lists_total}
-use Rattle.std.specs.Ordering.{nat_cmp, eq_by_cmp}
+use Rattle.std.specs.Ordering.{eq_by_cmp}
 use Rattle.std.proofs.lemmas.Cmp.{then_total, nat_cmp_total, eq_by_cmp_equiv}
-use Rattle.prima_base.specs.declared.timed_rows.TimedRow.{TimedRow}
-use Rattle.prima_base.specs.Timed.{timed_cmp, vals_cmp}
+use Rattle.prima_base.specs.Timed.{timed_cmp}
 use Rattle.prima_base.specs.OrderLaws.{val_total}
 
 pub timed_total : IsTotalOrder timed_cmp

@@ -42,9 +42,6 @@ same_relation s t n e m = ap (λ (u : Store). relation_at u m) e
 pub same_before : (s t : Store) (n : ℕ) → t ≡ record s { spare = n } → (m : ℕ) → AllBefore s m → AllBefore t m
 same_before s t n e m h = subst (λ (u : Store). AllBefore u m) (sym e) (record { keys = h.keys; cells = h.cells })
 
-pub same_columns : (s t : Store) (n : ℕ) → t ≡ record s { spare = n } → t.columns ≡ s.columns
-same_columns s t n e = ap (λ (u : Store). u.columns) e
-
 -- a row that is there already
 kept_value : (value : ℤ) (rows : List (List Value)) → Ascends row_cmp rows → In (row_of value) rows → with_value value rows ≡ rows
 kept_value value rows a i =

@@ -1,4 +1,4 @@
-use Rattle.std.proofs.Common.{◌≡◌, ◌≤◌, drop}
+use Rattle.std.proofs.Common.{◌≡◌, drop}
 use Rattle.prima_base.specs.Timed.{vals_cmp}
 use Rattle.prima_base.proofs.timed_rows.compare_rows.Given as goal
 
