@@ -143,8 +143,16 @@ fn decide(op: CmpOp, order: Ordering) -> bool
     }
 }
 
-/// The value of an expression over one value a column. The value of a plain column stays borrowed
-/// where it was. A reference that names no column has the value 0.
+/// The value of an expression over one value a column. The value of a plain column stays borrowed where it was. It
+/// fails only for want of memory.
+///
+/// The values are lawful: a text among them has at most 4,096 bytes and no control byte. `lend` and `lend_row` give
+/// lawful ones of any `Value`; of values that a store lends, its scan's contract has to say it. The constants of a tree
+/// are `Value`s, and so lawful as they are.
+///
+/// Where `type_of` accepts the expression, and the values are of the columns' types, one for one, the value is of that
+/// type (`accepted_has_a_value_of_its_type`). Elsewhere it is the one of the definition, which speaks of all trees: a
+/// reference that names no column, or a column without a value, has the value 0, and a number has no bytes.
 #[cycle(eval)]
 pub fn eval<'a>(
     alloc: Global,
@@ -195,7 +203,10 @@ fn join(
     text_of(alloc, &joined)
 }
 
-/// Whether a condition holds over one value a column.
+/// Whether a condition holds over one value a column. It fails only for want of memory.
+///
+/// The values are lawful, as for `eval`. Where `check_cond` accepts the condition, and the values are of the columns'
+/// types, one for one, each comparison is between two values of one type. Elsewhere an INT is before a TEXT.
 #[cycle(eval)]
 pub fn holds(
     alloc: Global,

@@ -4,15 +4,20 @@ use prima_base::{ColType, Name, NoMemory, Value};
 /// typed and evaluated names each column by its atom, counted from 0.
 #[derive(Drop)]
 pub enum Whose {
+    /// A column of any item of the FROM, as `a`.
     Free,
+    /// A column of the item with this alias, as `t.a`.
     Alias(Name),
+    /// A column of this atom.
     Atom(u32),
 }
 
 /// A reference to a column.
 #[derive(Drop)]
 pub struct ColRef {
+    /// Whose column it is.
     pub whose: Whose,
+    /// The column's name.
     pub name: Name,
 }
 
@@ -20,44 +25,61 @@ pub struct ColRef {
 #[cycle(tree)]
 #[derive(Drop)]
 pub enum Expr {
+    /// What the column holds that the reference names, of its type.
     Col(ColRef),
+    /// The value itself.
     Const(Value),
     /// The number of bytes of a text, an INT.
     Length(Box<Expr>),
-    /// The first 4,096 bytes of the joined texts. Of no part it is the empty text.
+    /// The first 4,096 bytes of the joined texts, a TEXT. Of no part it is the empty text.
     Concat(Vec<Expr>),
-    /// The first expression where the condition holds, and else the second.
+    /// The first expression where the condition holds, and else the second. Both are of one type.
     Case(Box<Cond>, Box<Expr>, Box<Expr>),
 }
 
-/// How two values of one type are compared.
+/// How two values of one type are compared: INTs by number, TEXTs by their bytes.
 #[derive(Clone, Copy, Debug, PartialEq, Eq)]
 pub enum CmpOp {
+    /// `=`
     Eq,
+    /// `<>`
     Ne,
+    /// `<`
     Lt,
+    /// `<=`
     Le,
+    /// `>`
     Gt,
+    /// `>=`
     Ge,
 }
 
-/// A condition. An empty `And` holds, and an empty `Or` does not.
+/// A condition.
 #[cycle(tree)]
 #[derive(Drop)]
 pub enum Cond {
+    /// It never holds.
     False,
+    /// It always holds.
     True,
+    /// A comparison of two expressions of one type, the left side first.
     Cmp(CmpOp, Box<Expr>, Box<Expr>),
+    /// All of these hold. An empty one holds.
     And(Vec<Cond>),
+    /// One of these holds. An empty one does not.
     Or(Vec<Cond>),
+    /// It does not hold.
     Not(Box<Cond>),
 }
 
 /// A column of an atom, with its type.
 #[derive(Drop)]
 pub struct Column {
+    /// The atom, counted from 0.
     pub atom: u32,
+    /// The column's name.
     pub name: Name,
+    /// The type of what it holds.
     pub kind: ColType,
 }
 
@@ -69,6 +91,7 @@ pub enum TypeFault {
     /// The number, in pre-order from 0, of the first node whose parts have types that it does not
     /// take.
     WrongType(u32),
+    /// The name of the unknown reference could not be copied.
     NoMemory,
 }
 

@@ -8,13 +8,16 @@ use std::alloc::Global;
 
 /// What is put for each reference of a tree.
 pub trait Fill {
+    /// What is put, as a function of whose column the reference names, and of the column's name.
     ghost puts: { Self → Filling };
 
+    /// What is put for the reference. The one error is that there was no memory for it.
     fn put(&self, alloc: Global, reference: &ColRef) -> Result<Expr, NoMemory>
         ensures { IfOk result (λ e. tree e ≡ puts self.now reference.now.whose reference.now.name) };
 }
 
-/// The expression in which each reference is replaced by what is put for it.
+/// The expression in which each reference is replaced by what is put for it: substitution, all at once. It fails
+/// only for want of memory, or where `put` does.
 #[cycle(fill)]
 pub fn fill_expr<F: Fill>(by: &F, alloc: Global, expr: &Expr) -> Result<Expr, NoMemory>
     ensures { IfOk result (λ e. tree e ≡ fill (F.puts by.now) (tree expr.now)) }
@@ -44,7 +47,8 @@ fn fill_exprs<F: Fill>(by: &F, alloc: Global, parts: &[Expr]) -> Result<Vec<Expr
     Ok(filled)
 }
 
-/// The condition in which each reference is replaced by what is put for it.
+/// The condition in which each reference is replaced by what is put for it: substitution, all at once. It fails
+/// only for want of memory, or where `put` does.
 #[cycle(fill)]
 pub fn fill_cond<F: Fill>(by: &F, alloc: Global, cond: &Cond) -> Result<Cond, NoMemory>
     ensures { IfOk result (λ c. test c ≡ fill_test (F.puts by.now) (test cond.now)) }

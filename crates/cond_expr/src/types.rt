@@ -233,8 +233,12 @@ fn conds_at(list: &[Cond], columns: &[Column], at: u32) -> Result<u32, u32>
     Ok(next)
 }
 
-/// The type of an expression over some columns. The first unknown reference comes before all types.
-/// `NoMemory` comes only where the name of an unknown reference is to be copied.
+/// The type of an expression over some columns. The first column that a reference names decides.
+///
+/// The first unknown reference, in written order, comes before all types; then the first node whose parts have types
+/// that it does not take, parts before their node and left before right. `NoMemory` comes only where the name of an
+/// unknown reference is to be copied. The tree has fewer than 2^32 nodes, so that each has a number that fits
+/// `WrongType`: `expr_size` counts them.
 #[tactic(auto, using(crate::proofs::FaultLaws::known_typed))]
 pub fn type_of(expr: &Expr, columns: &[Column]) -> Result<ColType, TypeFault>
     requires { nodes_of (tree expr.now) < 2 ^ 32 }
@@ -254,8 +258,10 @@ pub fn type_of(expr: &Expr, columns: &[Column]) -> Result<ColType, TypeFault>
     }
 }
 
-/// Whether a condition is well-typed over some columns. The first unknown reference comes before all
-/// types. `NoMemory` comes only where the name of an unknown reference is to be copied.
+/// Whether a condition is well-typed over some columns. The first column that a reference names decides.
+///
+/// The faults and their order are those of `type_of`. The tree has fewer than 2^32 nodes, so that each has a number that
+/// fits `WrongType`: `cond_size` counts them.
 #[tactic(auto, using(crate::proofs::FaultLaws::known_test))]
 pub fn check_cond(cond: &Cond, columns: &[Column]) -> Result<(), TypeFault>
     requires { test_nodes (test cond.now) < 2 ^ 32 }
