@@ -69,7 +69,7 @@ import subprocess, sys, time
 
 program, sizes = sys.argv[1], [int(word) for word in sys.argv[2:]]
 # One condition of 64 comparisons, with each kind of token, a comment and blanks.
-condition = " AND\n".join(f"name_{i} <> 'it''s {i}' -- a note" if i % 2 else f"( length_{i}>=-{i * 77} )" for i in range(64))
+condition = "\nAND ".join(f"name_{i} <> 'it''s {i}' -- a note" if i % 2 else f"( length_{i}>=-{i * 77} )" for i in range(64))
 condition_tokens = sum(3 if i % 2 else 5 for i in range(64)) + 63
 
 
