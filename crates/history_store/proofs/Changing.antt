@@ -1,21 +1,20 @@
 -- A change of few rows makes a plan.
-use Rattle.std.proofs.Common.{◌≡◌, ◌⊎◌, ℕ, suc, zero, ◌+◌, ◌<◌, ◌≤◌, Bool, true, false, List, [], ◌∷◌, ◌++◌, length, refl, sym, ap, ◌∙◌, subst, arith, inl, inr, if◌then◌else◌}
-use Rattle.relations.specs.Sets.{In, BeforeAll, Ascends, set_of, has}
+use Rattle.std.proofs.Common.{◌≡◌, ◌⊎◌, ℕ, ◌+◌, ◌<◌, Bool, true, false, List, [], ◌∷◌, ◌++◌, length, refl, sym, ap, ◌∙◌, subst, arith, inl, inr, if◌then◌else◌}
+use Rattle.relations.specs.Sets.{In, Ascends, set_of, has}
 use Rattle.relations.specs.Spans.{Span, forever}
-use Rattle.relations.proofs.SetLaws.{in_append, in_left, in_right, in_has, has_in}
+use Rattle.relations.proofs.SetLaws.{before_in, in_append, in_left, in_right, in_has, has_in}
 use Rattle.prima_base.specs.Order.{row_cmp}
 use Rattle.prima_base.specs.OrderLaws.{row_exact}
 use Rattle.prima_base.specs.declared.values.Value.{Value}
-use Rattle.std.specs.declared.cmp.Ordering.TheVariants.{Less}
 use Rattle.history_store.specs.declared.columns.Write.{Write}
-use Rattle.history_store.specs.Store.{Column, Store, relation_at, IsRow, IsRelation, AllBefore}
+use Rattle.history_store.specs.Store.{Column, relation_at, IsRow, IsRelation, AllBefore}
 use Rattle.history_store.specs.Entries.{all_entries}
 use Rattle.history_store.specs.Table.{row_now, rows_of, IsOpen, IsStored}
 use Rattle.history_store.specs.TableFields.{store_of, IsKept}
 use Rattle.history_store.specs.Handing.{AllWidth, IsHandOver, Distinct, Pairs, AllNext, handed, only_in, logs_handed}
 use Rattle.history_store.specs.Splices.{IsSplit, IsJoined}
-use Rattle.history_store.specs.Change.{Plan, IsPlan, rows_after, rows_along, changed}
-use Rattle.history_store.proofs.Sides.{before_in, set_is}
+use Rattle.history_store.specs.Change.{IsPlan, rows_after, rows_along, changed}
+use Rattle.history_store.proofs.Sides.{not_true, set_is}
 use Rattle.history_store.proofs.Now.{rows_of_in, in_rows_of}
 use Rattle.history_store.proofs.Plans.{rows_other, next_rows, handed_is}
 use Rattle.history_store.proofs.Showing.{along_is, current_relation}
@@ -50,10 +49,6 @@ from_only row (r ∷ rows) others i = by_case (has row_cmp r others) refl i (fro
     by_case true t i again = let p = again i in (inr p.0, p.1)
     by_case false t (inl e) again = (inl e, ap (λ x. has row_cmp x others) (sym e) ∙ t)
     by_case false t (inr i) again = let p = again i in (inr p.0, p.1)
-
-not_true : (b : Bool) → (b ≡ true → ⊥) → b ≡ false
-not_true true f = absurd (f refl)
-not_true false f = refl
 
 module _ (columns : List Column) (keys : List Span) (logs : List (List Write)) (live : List ℕ) (spare : ℕ) (k : IsKept columns keys logs live) (stamp : ℕ)
     (b : AllBefore (store_of columns keys logs spare) stamp) (l : stamp < forever) (lost gained : List (List Value)) (r : IsRelation columns lost) (g : IsRelation columns gained)

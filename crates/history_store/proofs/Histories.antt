@@ -16,6 +16,7 @@ use Rattle.history_store.specs.Entries.{Climbs, Fits, IsHistory, AreHistories}
 use Rattle.history_store.specs.Table.{no_span, IsOpen}
 use Rattle.history_store.specs.Handing.{is_value, put, put_row, put_rows, ended_at}
 use Rattle.history_store.proofs.Links.{of_id-append, other_id, same_id}
+use Rattle.history_store.proofs.Newest.{over_nil}
 
 abbrev pub written : ℕ → Value → ℕ → Write
 written id v stamp = record { id = id; value = v; start = stamp }
@@ -68,10 +69,6 @@ none_known k j (c ∷ cells) f l =
     let n : c.id < k = f c (inl refl) in
     let t : (c.id == j) ≡ false = grind (arith, nat_tests) in
     rw t (none_known k j cells (λ d i. f d (inr i)) l)
-
-over_nil : (x : List Value) → over x [] ≡ x
-over_nil [] = refl
-over_nil (v ∷ x) = refl
 
 -- the value of the last one
 abbrev pub last_value : List Write → List Value

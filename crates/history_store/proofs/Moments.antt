@@ -1,5 +1,5 @@
 -- What a change leaves of each moment: before its stamp all is as it was, from it on the ids of the new rows hold.
-use Rattle.std.proofs.Common.{◌≡◌, ◌⊎◌, ℕ, ◌+◌, ◌-◌, ◌<◌, ◌≤◌, true, false, List, [], ◌∷◌, ◌++◌, length, get_or, refl, sym, ap, ◌∙◌, subst, arith, nat_le, nat_lt, inl, inr, length-append}
+use Rattle.std.proofs.Common.{◌≡◌, ◌⊎◌, ℕ, ◌+◌, ◌-◌, ◌<◌, ◌≤◌, true, false, List, [], ◌∷◌, ◌++◌, length, get_or, sym, ap, ◌∙◌, subst, arith, nat_le, inl, inr, length-append}
 use Rattle.std.proofs.lemmas.Bool.{cases_lt}
 use Rattle.std.proofs.lemmas.Bool.Decides.{nat_tests}
 use Rattle.std.proofs.Math.ListN.{get_or-append}
@@ -13,8 +13,8 @@ use Rattle.prima_base.specs.declared.values.Value.{Value}
 use Rattle.history_store.specs.declared.columns.Write.{Write}
 use Rattle.history_store.specs.Store.{Column, IsRow, IsRelation, IsPeriod, Holds}
 use Rattle.history_store.specs.Table.{row_then, row_now, rows_of, no_span, IsOpen, IsStored}
-use Rattle.history_store.specs.Handing.{end_keys, unpaired, handed, new_keys, keys_handed, logs_handed}
-use Rattle.history_store.proofs.Sides.{before_in}
+use Rattle.history_store.specs.Handing.{unpaired, handed, new_keys, keys_handed, logs_handed}
+use Rattle.relations.proofs.SetLaws.{before_in}
 use Rattle.history_store.proofs.Now.{row_is_now, rows_of_in}
 use Rattle.history_store.proofs.Plans.{rows_before, in_or_not, length-end_keys, length-new_keys, new_key, ended_start, ended_other, ended_same, holds_ended, unpaired_in}
 

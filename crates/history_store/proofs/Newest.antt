@@ -12,7 +12,7 @@ over_assoc : (x y z : List Value) → over (over x y) z ≡ over x (over y z)
 over_assoc [] y z = refl
 over_assoc (v ∷ x) y z = refl
 
-over_nil : (x : List Value) → over x [] ≡ x
+pub over_nil : (x : List Value) → over x [] ≡ x
 over_nil [] = refl
 over_nil (v ∷ x) = refl
 

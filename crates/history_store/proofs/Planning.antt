@@ -1,11 +1,11 @@
 -- The ids that are found for the rows of the next relation make a plan.
-use Rattle.std.proofs.Common.{◌≡◌, ◌||◌, ℕ, Bool, true, false, List, [], ◌∷◌, length, refl, sym, ap, ◌∙◌, subst, if◌then◌else◌, inl, inr}
+use Rattle.std.proofs.Common.{◌≡◌, ℕ, Bool, true, false, List, [], ◌∷◌, length, refl, sym, ap, ◌∙◌, subst, if◌then◌else◌, inl, inr}
 use Rattle.std.specs.declared.cmp.Ordering.{Ordering}
 use Rattle.std.specs.declared.cmp.Ordering.TheVariants.{Less, Equal, Greater}
 use Rattle.std.specs.Ordering.{is_eq}
 use Rattle.prima_base.specs.Order.{row_cmp}
 use Rattle.relations.specs.Spans.{Span}
-use Rattle.prima_base.specs.OrderLaws.{row_total}
+use Rattle.prima_base.specs.OrderLaws.{row_exact, row_total}
 use Rattle.prima_base.specs.declared.values.Value.{Value}
 use Rattle.std.proofs.lemmas.Cmp.{tied_itself}
 use Rattle.history_store.specs.declared.columns.Write.{Write}
@@ -13,7 +13,8 @@ use Rattle.relations.specs.Sets.{has, In, Ascends}
 use Rattle.history_store.specs.Table.{row_now, rows_of, IsOpen, IsStored}
 use Rattle.history_store.specs.Handing.{lost_ids, handed, Distinct, AllWidth, Pairs, AllNext, IsHandOver, found, gained_by, gained_rows, id_by, lost_by, next_by, after_ids, logs_handed}
 use Rattle.history_store.proofs.Sides.{exact_rows}
-use Rattle.history_store.proofs.Sides.{before_in, not_self}
+use Rattle.relations.proofs.SetLaws.{before_in, in_has, has_in}
+use Rattle.history_store.proofs.Sides.{not_self}
 use Rattle.history_store.proofs.Now.{rows_of_in}
 use Rattle.history_store.proofs.Plans.{next_is, next_rows}
 
@@ -63,24 +64,6 @@ kept_is columns rows (j ∷ ids) id i n = by_case (has row_cmp (row_now j column
     by_case true t (inr i) n again = again i n
     by_case false t (inl e) n again = absurd (n (inl e))
     by_case false t (inr i) n again = again i (λ m. n (inr m))
-
-or_true : (b : Bool) → (b || true) ≡ true
-or_true true = refl
-or_true false = refl
-
-pub in_is : (row : List Value) (rows : List (List Value)) → has row_cmp row rows ≡ true → In row rows
-in_is row [] e = cc
-in_is row (r ∷ rows) e = by_case (row_cmp row r) refl e (in_is row rows)
-  where
-    by_case : (o : Ordering) → row_cmp row r ≡ o → (is_eq o || has row_cmp row rows) ≡ true → (has row_cmp row rows ≡ true → In row rows) → In row (r ∷ rows)
-    by_case Less t e again = inr (again e)
-    by_case Equal t e again = inl (sym (exact_rows row r t))
-    by_case Greater t e again = inr (again e)
-
-pub is_there : (row : List Value) (rows : List (List Value)) → In row rows → has row_cmp row rows ≡ true
-is_there row [] i = absurd i
-is_there row (r ∷ rows) (inl e) = let t : row_cmp row r ≡ Equal = ap (row_cmp row) e ∙ tied_itself row_total row in rw t refl
-is_there row (r ∷ rows) (inr i) = let t = is_there row rows i in rw t (or_true (is_eq (row_cmp row r)))
 
 distinct_lost : (columns : List (List Write)) (rows : List (List Value)) (ids : List ℕ) → Ascends row_cmp (rows_of ids columns) → Distinct (lost_ids columns ids rows)
 distinct_lost columns rows [] r = tt
@@ -140,7 +123,7 @@ module _ (columns : List (List Write)) (live : List ℕ) where
               (
                 (λ i.
                     let a : has row_cmp (row_now j columns) all ≡ false = (lost_is columns all live j (subst (In j) e i)).1 in
-                    let b : has row_cmp (row_now j columns) all ≡ true = ap (λ q. has row_cmp q all) f.1 ∙ is_there row all (m row (inl refl)) in
+                    let b : has row_cmp (row_now j columns) all ≡ true = ap (λ q. has row_cmp q all) f.1 ∙ in_has row_cmp row_exact row all (m row (inl refl)) in
                     cc),
                 f.1,
               ),
@@ -162,7 +145,7 @@ module _ (keys : List Span) (columns : List (List Write)) (live : List ℕ) (las
     distinct = distinct_lost columns rows live s.ordered;
     wide = wide_gained columns live (length columns) rows w;
     each = λ id i. next_is keys (lost_ids columns live rows) (gained_rows columns live rows) columns id (after_ids columns live (lost_ids columns live rows) (length keys) rows) rows next_found i;
-    kept = λ id o n. after_has columns live id (row_now id columns) (lost_ids columns live rows) (length keys) rows (finds columns id live (s.are_live id o) s.ordered) (in_is (row_now id columns) rows (kept_is columns rows live id (s.are_live id o) n));
+    kept = λ id o n. after_has columns live id (row_now id columns) (lost_ids columns live rows) (length keys) rows (finds columns id live (s.are_live id o) s.ordered) (has_in row_cmp row_exact (row_now id columns) rows (kept_is columns rows live id (s.are_live id o) n));
     given = λ id i. after_given columns live id (lost_ids columns live rows) (length keys) rows i;
   }
 

@@ -1,5 +1,5 @@
 -- What is read of a table: a column, and whether a row is there.
-use Rattle.std.proofs.Common.{◌≡◌, ◌⊎◌, ℕ, suc, ◌+◌, ◌<◌, ◌≤◌, Bool, true, false, List, [], ◌∷◌, length, get_or, refl, sym, ap, ◌∙◌, subst, arith, inl, inr}
+use Rattle.std.proofs.Common.{◌≡◌, ◌⊎◌, ℕ, suc, ◌+◌, ◌<◌, ◌≤◌, true, false, List, [], ◌∷◌, length, get_or, sym, ap, ◌∙◌, subst, arith, inl, inr}
 use Rattle.std.proofs.lemmas.Bool.{cases_lt}
 use Rattle.std.specs.declared.cmp.Ordering.TheVariants.{Less, Equal, Greater}
 use Rattle.std.proofs.lemmas.Cmp.{tied_itself}
@@ -19,7 +19,7 @@ use Rattle.history_store.specs.TableFields.{store_of, IsKept}
 use Rattle.history_store.proofs.Rows.{get_or-cells_of, length-cells_of}
 use Rattle.history_store.proofs.Counting.{column_count, column_entries, column_history}
 use Rattle.history_store.proofs.Now.{rows_of_in, in_rows_of}
-use Rattle.history_store.proofs.Sides.{exact_rows}
+use Rattle.history_store.proofs.Sides.{exact_rows, not_true}
 use Rattle.history_store.proofs.Carry.{in_get}
 use Rattle.history_store.proofs.Making.{row_wide}
 use Rattle.history_store.proofs.Showing.{relation_now}
@@ -46,10 +46,6 @@ place_in : (xs : List ℕ) (x : ℕ) → In x xs → (k : ℕ) × (k < length xs
 place_in [] x i = absurd i
 place_in (y ∷ xs) x (inl e) = (0, omega arith, e)
 place_in (y ∷ xs) x (inr i) = let r = place_in xs x i in (suc r.0, (let h = r.1 in omega (arith, h)), r.2)
-
-not_true : (b : Bool) → (b ≡ true → ⊥) → b ≡ false
-not_true true f = absurd (f refl)
-not_true false f = refl
 
 module _ (columns : List Column) (keys : List Span) (logs : List (List Write)) (live : List ℕ) (spare : ℕ) (w : IsKept columns keys logs live) (row : List Value) (m : ℕ) (l : m < forever) (b : AllBefore (store_of columns keys logs spare) (m + 1)) where
   now : relation_at (store_of columns keys logs spare) m ≡ rows_of live logs

@@ -1,6 +1,5 @@
 -- The entries show what the writes say, and the table stands for the rows of its live ids.
 use Rattle.std.proofs.Common.{◌≡◌, ◌⊎◌, ℕ, suc, zero, ◌+◌, ◌<◌, ◌≤◌, ◌&&◌, Bool, true, false, List, [], ◌∷◌, ◌++◌, length, get_or, refl, sym, ap, ◌∙◌, subst, arith, if◌then◌else◌, nat_le, nat_lt, ◌==◌, inl, inr, append-nil}
-use Rattle.std.specs.Prelude.{MatchBool}
 use Rattle.std.proofs.lemmas.Bool.Decides.{nat_tests}
 use Rattle.std.proofs.lemmas.Bool.{cases_lt}
 use Rattle.relations.specs.Sets.{In, set_of}
@@ -9,7 +8,7 @@ use Rattle.relations.proofs.SetLaws.{in_append, in_left, in_right}
 use Rattle.prima_base.specs.Order.{row_cmp}
 use Rattle.prima_base.specs.declared.values.Value.{Value}
 use Rattle.history_store.specs.declared.columns.Write.{Write}
-use Rattle.history_store.specs.Store.{Cell, Column, shown_at, row_at, rows_from, relation_at, Fills, IsFilled, IsStore, IsRow, IsRelation, IsBefore, AllBefore}
+use Rattle.history_store.specs.Store.{Cell, Column, shown_at, row_at, rows_from, relation_at, IsRow, IsRelation, IsBefore, AllBefore}
 use Rattle.history_store.specs.Log.{over, value_at}
 use Rattle.history_store.specs.Chains.{of_id}
 use Rattle.history_store.specs.Entries.{entry, with_ends, entries_from, all_entries, Climbs, Fits, IsHistory, AreHistories}
@@ -19,14 +18,11 @@ use Rattle.history_store.specs.Change.{rows_along}
 use Rattle.history_store.proofs.Histories.{Below, BelowEach}
 use Rattle.history_store.proofs.Entering.{Others, AllOf, all_of_id, segment_others, entries_others}
 use Rattle.history_store.proofs.Now.{at_now, row_is_now, in_rows_of}
+use Rattle.history_store.proofs.Newest.{over_nil}
 
 abbrev pub latest : ℕ → List Write → List Value
 latest m [] = []
 latest m (c ∷ cells) = over (latest m cells) (if nat_le c.start m then c.value ∷ [] else [])
-
-over_nil : (x : List Value) → over x [] ≡ x
-over_nil [] = refl
-over_nil (v ∷ x) = refl
 
 over_some : (x : List Value) (v : Value) (y : List Value) → over (over x (v ∷ [])) y ≡ over x (v ∷ [])
 over_some [] v y = refl

@@ -1,5 +1,6 @@
 -- Two ascending lists side by side.
 use Rattle.std.proofs.Common.{◌≡◌, ℕ, suc, zero, ◌+◌, ◌<◌, ◌≤◌, false, List, [], ◌∷◌, ◌++◌, length, get_or, drop, refl, sym, ap, ◌∙◌, subst, arith, inl, inr, append_assoc}
+use Rattle.std.specs.Prelude.{Option, Some, None}
 use Rattle.std.specs.declared.cmp.Ordering.{Ordering}
 use Rattle.std.specs.declared.cmp.Ordering.TheVariants.{Less, Equal, Greater}
 use Rattle.std.specs.Ordering.{ordering_reverse}
@@ -9,12 +10,13 @@ use Rattle.history_store.specs.declared.columns.Write.{Write}
 use Rattle.prima_base.specs.Order.{row_cmp}
 use Rattle.relations.specs.Sets.{has, BeforeAll, Ascends}
 use Rattle.history_store.specs.Table.{row_now, rows_of}
-use Rattle.history_store.specs.Handing.{lost_ids, first_order, id_order, found, gained_by, gained_rows, id_by, lost_by, next_by, after_ids, AllWidth}
+use Rattle.history_store.specs.Handing.{lost_ids, first_order, found, owner, owners, no_owners, gained_by, gained_rows, given_ids, id_by, lost_by, next_by, after_ids, AllWidth}
 use Rattle.std.proofs.lemmas.List.{drop_more}
 use Rattle.std.proofs.lemmas.Bool.{cases_lt}
 use Rattle.std.proofs.Math.ListN.{drop_of_length-le}
 use Rattle.history_store.proofs.Sides.{exact_rows}
-use Rattle.history_store.proofs.Sides.{before_more, before_in}
+use Rattle.relations.proofs.SetLaws.{before_in}
+use Rattle.history_store.proofs.Sides.{before_more}
 use Rattle.history_store.proofs.Now.{rows_of_in}
 use Rattle.history_store.proofs.Carry.{in_get}
 
@@ -119,75 +121,67 @@ gained_skip columns id ids (row ∷ rows) b =
     let f = gained_skip columns id ids rows b.1 in
     ap (λ fs. gained_by fs row (gained_rows columns (id ∷ ids) rows)) e ∙ ap (gained_by (found columns row ids) row) f
 
-after_skip : (columns : List (List Write)) (id : ℕ) (ids lost : List ℕ) (next : ℕ) (rows : List (List Value)) → BeforeAll row_cmp (row_now id columns) rows → after_ids columns (id ∷ ids) lost next rows ≡ after_ids columns ids lost next rows
-after_skip columns id ids lost next [] b = refl
-after_skip columns id ids lost next (row ∷ rows) b =
-    let e = found_skip columns id ids row b.0 in
-    ap (λ fs. id_by fs lost next ∷ after_ids columns (id ∷ ids) (lost_by fs lost) (next_by fs lost next) rows) e
-    ∙ ap (λ ns. id_by (found columns row ids) lost next ∷ ns) (after_skip columns id ids (lost_by (found columns row ids) lost) (next_by (found columns row ids) lost next) rows b.1)
+owners_skip : (columns : List (List Write)) (id : ℕ) (ids : List ℕ) (rows : List (List Value)) → BeforeAll row_cmp (row_now id columns) rows → owners columns (id ∷ ids) rows ≡ owners columns ids rows
+owners_skip columns id ids [] b = refl
+owners_skip columns id ids (row ∷ rows) b = let e = found_skip columns id ids row b.0 in ap (λ fs. owner fs ∷ owners columns (id ∷ ids) rows) e ∙ ap (λ os. owner (found columns row ids) ∷ os) (owners_skip columns id ids rows b.1)
+
+-- what the rows gain, and whose they are
+abbrev pub Differ : List (List Write) → List ℕ → List (List Value) → List (List Value) → List (Option ℕ) → Type 0
+Differ columns ids rows gained owned = (gained_rows columns ids rows ≡ gained) × (owners columns ids rows ≡ owned)
 
 -- the first id's row is before the rows, is the first of them, or is behind it
-module _ (columns : List (List Write)) (row : List Value) (rows : List (List Value)) (r : Ascends row_cmp (row ∷ rows)) where
-  pub skips : (id : ℕ) (ids lost : List ℕ) (next : ℕ) → row_cmp (row_now id columns) row ≡ Less
-      → (gained_rows columns (id ∷ ids) (row ∷ rows) ≡ gained_rows columns ids (row ∷ rows)) × (after_ids columns (id ∷ ids) lost next (row ∷ rows) ≡ after_ids columns ids lost next (row ∷ rows))
-  skips id ids lost next e =
-      let b : BeforeAll row_cmp (row_now id columns) (row ∷ rows) = (e, before_more row_cmp row_total exact_rows (row_now id columns) row rows e r.0) in
-      (gained_skip columns id ids (row ∷ rows) b, after_skip columns id ids lost next (row ∷ rows) b)
+skips : (columns : List (List Write)) (id : ℕ) (ids : List ℕ) (rows : List (List Value)) → Ascends row_cmp rows → first_order (row_now id columns) rows ≡ Less
+    → Differ columns (id ∷ ids) rows (gained_rows columns ids rows) (owners columns ids rows)
+skips columns id ids [] r e = (refl, refl)
+skips columns id ids (row ∷ rows) r e =
+    let b : BeforeAll row_cmp (row_now id columns) (row ∷ rows) = (e, before_more row_cmp row_total exact_rows (row_now id columns) row rows e r.0) in
+    (gained_skip columns id ids (row ∷ rows) b, owners_skip columns id ids (row ∷ rows) b)
 
-  pub matches : (id : ℕ) (ids lost : List ℕ) (next : ℕ) → row_cmp (row_now id columns) row ≡ Equal
-      → (gained_rows columns (id ∷ ids) (row ∷ rows) ≡ gained_rows columns ids rows) × (after_ids columns (id ∷ ids) lost next (row ∷ rows) ≡ id ∷ after_ids columns ids lost next rows)
-  matches id ids lost next e =
+module _ (columns : List (List Write)) (id : ℕ) (ids : List ℕ) (row : List Value) (rows : List (List Value)) where
+  matches : Ascends row_cmp (row ∷ rows) → row_cmp (row_now id columns) row ≡ Equal → Differ columns (id ∷ ids) (row ∷ rows) (gained_rows columns ids rows) (Some id ∷ owners columns ids rows)
+  matches r e =
       let b : BeforeAll row_cmp (row_now id columns) rows = subst (λ q. BeforeAll row_cmp q rows) (sym (exact_rows (row_now id columns) row e)) r.0 in
-      (rw e (gained_skip columns id ids rows b), rw e (ap (λ ns. id ∷ ns) (after_skip columns id ids lost next rows b)))
+      (rw e (gained_skip columns id ids rows b), rw e (ap (λ os. Some id ∷ os) (owners_skip columns id ids rows b)))
 
-  pub is_new : (ids lost : List ℕ) (next : ℕ) → Ascends row_cmp (rows_of ids columns) → id_order columns ids row ≡ Greater
-      → (gained_rows columns ids (row ∷ rows) ≡ row ∷ gained_rows columns ids rows) × (after_ids columns ids lost next (row ∷ rows) ≡ id_by [] lost next ∷ after_ids columns ids (lost_by [] lost) (next_by [] lost next) rows)
-  is_new [] lost next s e = (refl, refl)
-  is_new (id ∷ ids) lost next s e =
+  is_new : Ascends row_cmp (rows_of (id ∷ ids) columns) → row_cmp (row_now id columns) row ≡ Greater → Differ columns (id ∷ ids) (row ∷ rows) (row ∷ gained_rows columns (id ∷ ids) rows) (None ∷ owners columns (id ∷ ids) rows)
+  is_new s e =
       let l : row_cmp row (row_now id columns) ≡ Less = row_total.antisymm row (row_now id columns) ∙ ap ordering_reverse e in
       let f = found_none columns row (id ∷ ids) (l, before_more row_cmp row_total exact_rows row (row_now id columns) (rows_of ids columns) l s.0) in
       (rw f refl, rw f refl)
 
 -- the same where the rest of the lists is known by equations
-module _ (columns : List (List Write)) (ids0 : List ℕ) (rows0 : List (List Value)) (row : List Value) (rows : List (List Value)) (er : rows0 ≡ row ∷ rows)
-    (rr : Ascends row_cmp rows0) (lr : Ascends row_cmp (rows_of ids0 columns)) where
-  here : Ascends row_cmp (row ∷ rows)
-  here = subst (Ascends row_cmp) er rr
+module _ (columns : List (List Write)) (ids0 : List ℕ) (rows0 : List (List Value)) (id : ℕ) (ids : List ℕ) (ei : ids0 ≡ id ∷ ids) where
+  pub less_steps : Ascends row_cmp rows0 → first_order (row_now id columns) rows0 ≡ Less → Differ columns ids0 rows0 (gained_rows columns ids rows0) (owners columns ids rows0)
+  less_steps r e = rw ei (skips columns id ids rows0 r e)
 
-  pub rest_rises : Ascends row_cmp rows
-  rest_rises = here.1
+  pub equal_steps : (row : List Value) (rows : List (List Value)) → rows0 ≡ row ∷ rows → Ascends row_cmp rows0 → first_order (row_now id columns) rows0 ≡ Equal → Differ columns ids0 rows0 (gained_rows columns ids rows) (Some id ∷ owners columns ids rows)
+  equal_steps row rows er r e = rw (ei, er) (matches columns id ids row rows (subst (Ascends row_cmp) er r) (subst (λ rs. first_order (row_now id columns) rs ≡ Equal) er e))
 
-  pub rest_wide : (width : ℕ) → AllWidth width rows0 → AllWidth width rows
-  rest_wide width a = let b : AllWidth width (row ∷ rows) = subst (AllWidth width) er a in b.1
+  pub new_steps : (row : List Value) (rows : List (List Value)) → rows0 ≡ row ∷ rows → Ascends row_cmp (rows_of ids0 columns) → first_order (row_now id columns) rows0 ≡ Greater → Differ columns ids0 rows0 (row ∷ gained_rows columns ids0 rows) (None ∷ owners columns ids0 rows)
+  new_steps row rows er s e = rw (ei, er) (is_new columns id ids row rows (subst (λ is. Ascends row_cmp (rows_of is columns)) ei s) (subst (λ rs. first_order (row_now id columns) rs ≡ Greater) er e))
 
-  pub live_rest : (id : ℕ) (ids : List ℕ) → ids0 ≡ id ∷ ids → Ascends row_cmp (rows_of ids columns)
-  live_rest id ids ei = let b : Ascends row_cmp (rows_of (id ∷ ids) columns) = subst (λ is. Ascends row_cmp (rows_of is columns)) ei lr in b.1
+-- no id is left
+pub none_left : (columns : List (List Write)) (rows : List (List Value)) → Differ columns [] rows rows (no_owners rows)
+none_left columns [] = (refl, refl)
+none_left columns (row ∷ rows) = let r = none_left columns rows in (ap (λ rs. row ∷ rs) r.0, ap (λ os. None ∷ os) r.1)
 
-  at : (o : Ordering) (id : ℕ) (ids : List ℕ) → ids0 ≡ id ∷ ids → id_order columns ids0 row ≡ o → row_cmp (row_now id columns) row ≡ o
-  at o id ids ei e = ap (λ is. id_order columns is row) (sym ei) ∙ e
+pub no_owners-more : (rows : List (List Value)) (row : List Value) → no_owners (rows ++ row ∷ []) ≡ no_owners rows ++ None ∷ []
+no_owners-more [] row = refl
+no_owners-more (r ∷ rows) row = ap (λ os. None ∷ os) (no_owners-more rows row)
 
-  pub less_steps : (id : ℕ) (ids lost : List ℕ) (next : ℕ) → ids0 ≡ id ∷ ids → id_order columns ids0 row ≡ Less
-      → (gained_rows columns ids0 rows0 ≡ gained_rows columns ids rows0) × (after_ids columns ids0 lost next rows0 ≡ after_ids columns ids lost next rows0)
-  less_steps id ids lost next ei e =
-      let s = skips columns row rows here id ids lost next (at Less id ids ei e) in (
-        ap (λ is. gained_rows columns is rows0) ei ∙ ap (gained_rows columns (id ∷ ids)) er ∙ s.0 ∙ ap (gained_rows columns ids) (sym er),
-        ap (λ is. after_ids columns is lost next rows0) ei ∙ ap (after_ids columns (id ∷ ids) lost next) er ∙ s.1 ∙ ap (after_ids columns ids lost next) (sym er),
-      )
+pub length-owners : (columns : List (List Write)) (live : List ℕ) (rows : List (List Value)) → length (owners columns live rows) ≡ length rows
+length-owners columns live [] = refl
+length-owners columns live (row ∷ rows) = ap suc (length-owners columns live rows)
 
-  pub equal_steps : (id : ℕ) (ids lost : List ℕ) (next : ℕ) → ids0 ≡ id ∷ ids → id_order columns ids0 row ≡ Equal
-      → (gained_rows columns ids0 rows0 ≡ gained_rows columns ids rows) × (after_ids columns ids0 lost next rows0 ≡ id ∷ after_ids columns ids lost next rows)
-  equal_steps id ids lost next ei e =
-      let s = matches columns row rows here id ids lost next (at Equal id ids ei e) in (
-        ap (λ is. gained_rows columns is rows0) ei ∙ ap (gained_rows columns (id ∷ ids)) er ∙ s.0,
-        ap (λ is. after_ids columns is lost next rows0) ei ∙ ap (after_ids columns (id ∷ ids) lost next) er ∙ s.1,
-      )
-
-  pub new_steps : (lost : List ℕ) (next : ℕ) → id_order columns ids0 row ≡ Greater
-      → (gained_rows columns ids0 rows0 ≡ row ∷ gained_rows columns ids0 rows) × (after_ids columns ids0 lost next rows0 ≡ id_by [] lost next ∷ after_ids columns ids0 (lost_by [] lost) (next_by [] lost next) rows)
-  new_steps lost next e = let s = is_new columns row rows here ids0 lost next lr e in rw er s
-
-pub id_in : (columns : List (List Write)) (live : List ℕ) (i : ℕ) (row : List Value) (o : Ordering) → id_order columns (drop i live) row ≡ o → (Greater ≡ o → ⊥) → i < length live
-id_in columns live i row o e n = elim (cases_lt i (length live)) [ inl l ↦ l | inr l ↦ absurd (n (ap (λ is. id_order columns is row) (sym (drop_of_length-le live l)) ∙ e)) ]
+-- the ids that are given by the rows' owners
+pub given_after : (columns : List (List Write)) (live lost : List ℕ) (next : ℕ) (rows : List (List Value)) → given_ids (owners columns live rows) lost next ≡ after_ids columns live lost next rows
+given_after columns live lost next [] = refl
+given_after columns live lost next (row ∷ rows) = by_case (found columns row live) (λ ls n. given_after columns live ls n rows)
+  where
+    by_case : (f : List ℕ) → ((ls : List ℕ) (n : ℕ) → given_ids (owners columns live rows) ls n ≡ after_ids columns live ls n rows)
+        → given_ids (owner f ∷ owners columns live rows) lost next ≡ id_by f lost next ∷ after_ids columns live (lost_by f lost) (next_by f lost next) rows
+    by_case [] again = ap (λ ns. id_by [] lost next ∷ ns) (again (lost_by [] lost) (next_by [] lost next))
+    by_case (id ∷ ids) again = ap (λ ns. id ∷ ns) (again lost next)
 
 pub appended : {A : Type 0} (full xs : List A) (x : A) (a b : List A) → full ≡ xs ++ a → a ≡ x ∷ b → full ≡ (xs ++ x ∷ []) ++ b
 appended full xs x a b e f = e ∙ ap (λ r. xs ++ r) f ∙ sym (append_assoc xs (x ∷ []) b)

@@ -1,5 +1,5 @@
 -- Ascending lists, as the other files use them.
-use Rattle.std.proofs.Common.{◌≡◌, List, [], ◌∷◌, sym, ap, ◌∙◌, subst, inl, inr}
+use Rattle.std.proofs.Common.{◌≡◌, Bool, true, false, List, [], ◌∷◌, refl, sym, ap, ◌∙◌}
 use Rattle.std.specs.Cmp.{IsTotalOrder}
 use Rattle.std.specs.declared.cmp.Ordering.{Ordering}
 use Rattle.std.specs.declared.cmp.Ordering.TheVariants.{Less, Equal, Greater}
@@ -21,10 +21,9 @@ exact_values (Text a) (Text b) e = ap Text (exact_bytes a b e)
 pub exact_rows : (a b : List Value) → row_cmp a b ≡ Equal → a ≡ b
 exact_rows a b e = row_exact.same a b e
 
-pub before_in : {A : Type 0} (R : A → A → Ordering) (q r : A) (xs : List A) → BeforeAll R q xs → In r xs → R q r ≡ Less
-before_in R q r [] b i = absurd i
-before_in R q r (x ∷ xs) b (inl e) = subst (λ v. R q v ≡ Less) e b.0
-before_in R q r (x ∷ xs) b (inr i) = before_in R q r xs b.1 i
+pub not_true : (b : Bool) → (b ≡ true → ⊥) → b ≡ false
+not_true true f = absurd (f refl)
+not_true false f = refl
 
 module _ {A : Type 0} (R : A → A → Ordering) (o : IsTotalOrder R) (exact : (x y : A) → R x y ≡ Equal → x ≡ y) where
   not_both : (x y : A) → R x y ≡ Less → R y x ≡ Less → ⊥

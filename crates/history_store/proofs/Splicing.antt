@@ -1,10 +1,8 @@
 -- Ids taken out of an index, and put into one, one by one.
 use Rattle.std.proofs.Common.{◌≡◌, ◌⊎◌, ℕ, suc, zero, ◌+◌, ◌<◌, ◌≤◌, List, [], ◌∷◌, ◌++◌, length, get_or, take, drop, refl, sym, ap, ◌∙◌, subst, arith, inl, inr, append_assoc, append-nil}
-use Rattle.std.specs.declared.cmp.Ordering.{Ordering}
 use Rattle.std.specs.declared.cmp.Ordering.TheVariants.{Less, Equal, Greater}
-use Rattle.std.specs.Ordering.{ordering_reverse}
 use Rattle.std.proofs.lemmas.Bool.{cases_lt}
-use Rattle.relations.specs.Sets.{In, BeforeAll, Ascends}
+use Rattle.relations.specs.Sets.{In, Ascends}
 use Rattle.relations.proofs.SetLaws.{in_append, in_left, in_right, below_each}
 use Rattle.prima_base.specs.Order.{row_cmp}
 use Rattle.prima_base.specs.OrderLaws.{row_total, row_exact}
@@ -13,7 +11,7 @@ use Rattle.history_store.specs.declared.columns.Write.{Write}
 use Rattle.history_store.specs.Table.{row_now, rows_of}
 use Rattle.history_store.specs.Handing.{handed, id_by, lost_by, next_by}
 use Rattle.history_store.specs.Splices.{IsSplit, IsJoined}
-use Rattle.history_store.proofs.Sides.{before_in}
+use Rattle.relations.proofs.SetLaws.{before_in}
 use Rattle.history_store.proofs.Now.{rows_of_in, in_rows_of}
 use Rattle.history_store.proofs.Carry.{in_get}
 use Rattle.std.proofs.lemmas.Cmp.{tied_itself}

@@ -1,5 +1,5 @@
 -- What the tests look up of their rows.
-use Rattle.std.proofs.Common.{◌≡◌, ◌⊎◌, ◌≤◌, ◌-◌, ℕ, suc, Bool, true, false, List, [], ◌∷◌, length, get_or, take, drop, sym, ap, ◌∙◌, subst, arith, inl, inr}
+use Rattle.std.proofs.Common.{◌≡◌, ◌⊎◌, ◌≤◌, ◌-◌, suc, true, false, List, [], ◌∷◌, length, get_or, take, drop, sym, ◌∙◌, subst, arith, inl, inr}
 use Rattle.std.proofs.lemmas.List.{take_all}
 use Rattle.relations.specs.Sets.{In, has}
 use Rattle.relations.proofs.SetLaws.{has_in, has_not}

@@ -1,5 +1,5 @@
 -- What a stamp writes: the lost rows hand their ids to the gained rows.
-use Rattle.std.specs.Prelude.{◌≡◌, ℕ, ◌+◌, ◌<◌, ◌&&◌, ◌==◌, Bool, List, [], ◌∷◌, ◌++◌, length, if◌then◌else◌}
+use Rattle.std.specs.Prelude.{ℕ, ◌<◌, ◌&&◌, ◌==◌, Bool, List, [], ◌∷◌, ◌++◌, length, if◌then◌else◌}
 use Rattle.relations.specs.Sets.{set_of}
 use Rattle.relations.specs.Spans.{Span, span, forever}
 use Rattle.prima_base.specs.Order.{value_eq, row_cmp}

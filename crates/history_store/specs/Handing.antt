@@ -1,8 +1,8 @@
 -- What a stamp writes.
-use Rattle.std.specs.Prelude.{◌≡◌, ◌⊎◌, take, drop, length, ℕ, ◌+◌, Bool, false, List, [], ◌∷◌, ◌++◌, if◌then◌else◌, slice_index_or, slice_set}
+use Rattle.std.specs.Prelude.{◌≡◌, ◌⊎◌, take, drop, length, ℕ, ◌+◌, Bool, false, List, [], ◌∷◌, ◌++◌, if◌then◌else◌, slice_index_or, slice_set, Option, Some, None}
 use Rattle.std.specs.Ordering.{is_eq}
 use Rattle.std.specs.declared.cmp.Ordering.{Ordering}
-use Rattle.std.specs.declared.cmp.Ordering.TheVariants.{Less, Greater}
+use Rattle.std.specs.declared.cmp.Ordering.TheVariants.{Less}
 use Rattle.relations.specs.Spans.{Span, forever}
 use Rattle.prima_base.specs.Order.{row_cmp, value_eq}
 use Rattle.prima_base.specs.declared.values.Value.{Value}
@@ -147,10 +147,24 @@ after_ids columns live lost next (row ∷ rows) =
     id_by (found columns row live) lost next
     ∷ after_ids columns live (lost_by (found columns row live) lost) (next_by (found columns row live) lost next) rows
 
--- how the row of the first of these ids compares with a row; behind it at the end
-abbrev pub id_order : List (List Write) → List ℕ → List Value → Ordering
-id_order columns [] row = Greater
-id_order columns (id ∷ ids) row = row_cmp (row_now id columns) row
+-- the id that each row has, if any
+abbrev pub owner : List ℕ → Option ℕ
+owner [] = None
+owner (id ∷ ids) = Some id
+
+abbrev pub owners : List (List Write) → List ℕ → List (List Value) → List (Option ℕ)
+owners columns live [] = []
+owners columns live (row ∷ rows) = owner (found columns row live) ∷ owners columns live rows
+
+abbrev pub no_owners : List (List Value) → List (Option ℕ)
+no_owners [] = []
+no_owners (row ∷ rows) = None ∷ no_owners rows
+
+-- the same ids from those that rows have already
+abbrev pub given_ids : List (Option ℕ) → List ℕ → ℕ → List ℕ
+given_ids [] lost next = []
+given_ids (Some id ∷ owners) lost next = id ∷ given_ids owners lost next
+given_ids (None ∷ owners) lost next = id_by [] lost next ∷ given_ids owners (lost_by [] lost) (next_by [] lost next)
 
 -- the value of one column, as a list of one
 abbrev pub at_column : ℕ → List Value → List Value

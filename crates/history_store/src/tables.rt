@@ -2,7 +2,9 @@ use crate::changes::{carry_out, empty_columns, reserve_all};
 use crate::columns::Column;
 use crate::scans::{CellScan, KeyScan};
 use crate::splices::{copy_given, put_in, take_out};
-use crate::walks::{column_place, copy_columns, copy_rows, lost_ids, next_ids, place_of};
+use crate::walks::{
+    Difference, column_place, copy_columns, copy_rows, find_difference, next_ids, place_of,
+};
 use prima_base::{ColType, Name, NoMemory, Period, Row};
 use std::alloc::Global;
 use std::marker::Model;
@@ -89,7 +91,7 @@ impl StoredTable {
         Ok(table)
     }
 
-    /// Makes the change to these rows ready, and all the room that installing it needs, by walks along the
+    /// Makes the change to these rows ready, and all the room that installing it needs, by one walk along the
     /// current rows and these. Each stamp in the table is before this one. What the table stands for stays as
     /// it is. The one error is `NoMemory`, where memory runs out.
     pub fn prepare(&mut self, stamp: u64, rows: &[Row]) -> Result<Prepared, NoMemory>
@@ -108,15 +110,12 @@ impl StoredTable {
         if self.keys.len().checked_add(rows.len()).is_none() {
             return Err(NoMemory);
         }
-        let lost = lost_ids(self.alloc, &self.logs, &self.live, rows)?;
-        let (after, gained) = next_ids(
-            self.alloc,
-            &self.logs,
-            &self.live,
-            &lost,
-            self.keys.len(),
-            rows,
-        )?;
+        let Difference {
+            lost,
+            owners,
+            gained,
+        } = find_difference(self.alloc, &self.logs, &self.live, rows)?;
+        let after = next_ids(self.alloc, &owners, &lost, self.keys.len())?;
         self.keys.reserve(gained.len())?;
         reserve_all(&mut self.logs, gained.len())?;
         Ok(Prepared {

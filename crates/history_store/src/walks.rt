@@ -1,13 +1,13 @@
 ghost use Rattle.std.specs.Prelude.{IfSome, option_map, List};
 ghost use Rattle.history_store.specs.declared.columns.Write.{Write as OneWrite};
 ghost use Rattle.history_store.specs.Store.{Cell, named};
-ghost use Rattle.std.specs.Prelude.{◌≡◌, [], slice_index, IfErr, vec_len, vec_capacity, ◌⊎◌, ◌+◌, ◌^◌, ◌<◌, ◌≤◌, drop, length, All, slice_index_or, IfOk};
+ghost use Rattle.std.specs.Prelude.{◌≡◌, [], slice_index, IfErr, vec_len, vec_capacity, ◌⊎◌, ◌∷◌, ℕ, Option, ◌+◌, ◌^◌, ◌<◌, ◌≤◌, ◌++◌, drop, length, All, slice_index_or, IfOk, OnOk};
 ghost use Rattle.history_store.specs.Logs.{cells_of};
 ghost use Rattle.history_store.specs.Log.{Log};
 ghost use Rattle.prima_base.specs.Order.{row_cmp};
 ghost use Rattle.relations.specs.Sets.{Ascends, In};
 ghost use Rattle.history_store.specs.Table.{row_now, rows_of};
-ghost use Rattle.history_store.specs.Handing.{lost_ids, first_order, id_order, after_ids, gained_rows, id_by, lost_by, next_by, AllWidth};
+ghost use Rattle.history_store.specs.Handing.{lost_ids, first_order, owners, no_owners, gained_rows, given_ids, id_by, lost_by, next_by, AllWidth};
 
 use crate::columns::Column;
 use prima_base::{ColType, Name, NoMemory, Row, Value};
@@ -72,21 +72,49 @@ fn order_at(columns: &[Column], id: usize, rows: &[Row], j: usize) -> Ordering
     }
 }
 
-/// The ids whose rows are gone.
-pub fn lost_ids(
+/// How the next rows differ from the current ones: the ids whose rows are gone, the id of each row that has one,
+/// and the rows that no id has.
+pub struct Difference {
+    pub lost: Vec<usize>,
+    pub owners: Vec<Option<usize>>,
+    pub gained: Vec<Row>,
+}
+
+// These rows have no id.
+fn add_new(
+    owners: &mut Vec<Option<usize>>,
+    gained: &mut Vec<Row>,
+    rows: &[Row],
+) -> Result<(), NoMemory>
+    ensures owners { OnOk result (owners.new.items ≡ owners.old.items ++ no_owners rows.now) }
+    ensures gained { OnOk result (gained.new.items ≡ gained.old.items ++ rows.now) }
+{
+    for row in rows {
+        gained.push(row.copy()?)?;
+        owners.push(None)?;
+    }
+    Ok(())
+}
+
+/// The difference, by one walk along both.
+pub fn find_difference(
     alloc: Global,
     columns: &[Column],
     live: &[usize],
     rows: &[Row],
-) -> Result<Vec<usize>, NoMemory>
+) -> Result<Difference, NoMemory>
     requires wide { AllWidth (length columns.now) rows.now }
     requires known { (id : _) → (k : _) (d : Log) → id < length live.now → k < length columns.now
         → slice_index_or live.now id 0 < (slice_index_or columns.now k d).ids }
     requires live_rise { Ascends row_cmp (rows_of live.now (cells_of columns.now)) }
     requires rows_rise { Ascends row_cmp rows.now }
-    ensures { IfOk result (λ v. v.items ≡ lost_ids (cells_of columns.now) live.now rows.now) }
+    ensures lost { IfOk result (λ d. d.lost.items ≡ lost_ids (cells_of columns.now) live.now rows.now) }
+    ensures owners { IfOk result (λ d. d.owners.items ≡ owners (cells_of columns.now) live.now rows.now) }
+    ensures gained { IfOk result (λ d. d.gained.items ≡ gained_rows (cells_of columns.now) live.now rows.now) }
 {
     let mut lost = Vec::new(alloc);
+    let mut owners = Vec::with_capacity(alloc, rows.len())?;
+    let mut gained = Vec::new(alloc);
     let mut i = 0;
     let mut j = 0;
     'walk: while i < live.len() {
@@ -96,29 +124,23 @@ pub fn lost_ids(
                 i += 1;
             }
             Ordering::Equal => {
+                owners.push(Some(live[i]))?;
                 i += 1;
                 j += 1;
             }
-            Ordering::Greater => j += 1,
+            Ordering::Greater => {
+                gained.push(rows[j].copy()?)?;
+                owners.push(None)?;
+                j += 1;
+            }
         }
     }
-    Ok(lost)
-}
-
-// Compares the newest row of the id at this place with the row.
-fn id_order(columns: &[Column], live: &[usize], i: usize, row: &[Value]) -> Ordering
-    requires width { length row.now ≡ length columns.now }
-    requires known { (id : _) → (k : _) (d : Log) → id < length live.now → k < length columns.now
-        → slice_index_or live.now id 0 < (slice_index_or columns.now k d).ids }
-    requires within { i ≤ length live.now }
-    ensures order { result ≡ id_order (cells_of columns.now) (drop i live.now) row.now }
-    ensures more { i ≡ length live.now → result ≡ Ordering.Greater }
-{
-    if i < live.len() {
-        compare_now(columns, live[i], row)
-    } else {
-        Ordering::Greater
-    }
+    add_new(&mut owners, &mut gained, rows.split_at(j).1)?;
+    Ok(Difference {
+        lost,
+        owners,
+        gained,
+    })
 }
 
 /// The next lost id, or a new one.
@@ -138,46 +160,36 @@ pub fn handed_id(lost: &[usize], k: &mut usize, fresh: &mut usize) -> usize
     }
 }
 
-/// The id of each row, and the rows that no id has.
+// The id of a row: its own, or the next lost id, or a new one.
+fn id_for(owner: Option<usize>, lost: &[usize], k: &mut usize, fresh: &mut usize) -> usize
+    requires few { fresh.old + 1 < 2 ^ 64 }
+    ensures ids { (rest : List (Option ℕ)) → given_ids (owner ∷ rest) (drop k.old lost.now) fresh.old
+        ≡ result ∷ given_ids rest (drop k.new lost.now) fresh.new }
+    ensures few { fresh.new ≤ fresh.old + 1 }
+{
+    match owner {
+        Some(id) => id,
+        None => handed_id(lost, k, fresh),
+    }
+}
+
+/// The id of each row: its own, or that of the next lost row, or a new one.
 pub fn next_ids(
     alloc: Global,
-    columns: &[Column],
-    live: &[usize],
+    owners: &[Option<usize>],
     lost: &[usize],
     next: usize,
-    rows: &[Row],
-) -> Result<(Vec<usize>, Vec<Row>), NoMemory>
-    requires wide { AllWidth (length columns.now) rows.now }
-    requires known { (id : _) → (k : _) (d : Log) → id < length live.now → k < length columns.now
-        → slice_index_or live.now id 0 < (slice_index_or columns.now k d).ids }
-    requires live_rise { Ascends row_cmp (rows_of live.now (cells_of columns.now)) }
-    requires rows_rise { Ascends row_cmp rows.now }
-    requires few { next + length rows.now < 2 ^ 64 }
-    ensures after { IfOk result (λ (ids, _). ids.items ≡ after_ids (cells_of columns.now) live.now lost.now next rows.now) }
-    ensures gained { IfOk result (λ (_, gained). gained.items ≡ gained_rows (cells_of columns.now) live.now rows.now) }
+) -> Result<Vec<usize>, NoMemory>
+    requires { next + length owners.now < 2 ^ 64 }
+    ensures { IfOk result (λ ids. ids.items ≡ given_ids owners.now lost.now next) }
 {
-    let mut after = Vec::with_capacity(alloc, rows.len())?;
-    let mut gained = Vec::new(alloc);
-    let mut i = 0;
-    let mut j = 0;
+    let mut ids = Vec::with_capacity(alloc, owners.len())?;
     let mut k = 0;
     let mut fresh = next;
-    'walk: while j < rows.len() {
-        match id_order(columns, live, i, rows[j].values()) {
-            Ordering::Less => i += 1,
-            Ordering::Equal => {
-                after.push(live[i])?;
-                i += 1;
-                j += 1;
-            }
-            Ordering::Greater => {
-                gained.push(rows[j].copy()?)?;
-                after.push(handed_id(lost, &mut k, &mut fresh))?;
-                j += 1;
-            }
-        }
+    for owner in owners {
+        ids.push(id_for(*owner, lost, &mut k, &mut fresh))?;
     }
-    Ok((after, gained))
+    Ok(ids)
 }
 
 /// The newest row of the id.

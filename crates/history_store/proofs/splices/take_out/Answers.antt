@@ -1,12 +1,11 @@
-use Rattle.std.proofs.Common.{rules, ◌≡◌, ◌<◌, ◌≤◌, ◌+◌, ◌++◌, [], ◌∷◌, length, get_or, take, drop, arith, sym, ap, ◌∙◌, subst, inl, refl}
+use Rattle.std.proofs.Common.{rules, ◌≡◌, ◌+◌, ◌++◌, [], ◌∷◌, length, get_or, take, drop, arith, ◌∙◌, subst, inl, refl}
 use Rattle.std.proofs.lemmas.Grind.{common_steps}
 use Rattle.std.proofs.Math.ListN.{drop_of_length-le}
-use Rattle.relations.specs.Sets.{In}
 use Rattle.relations.proofs.SetLaws.{in_right}
 use Rattle.history_store.specs.Logs.{cells_of}
 use Rattle.history_store.specs.Handing.{AllWidth}
 use Rattle.history_store.proofs.SideBySide.{taken}
-use Rattle.history_store.proofs.Splicing.{IsTaken, rise_back, parted, taken_next, taken_all, taken_first}
+use Rattle.history_store.proofs.Splicing.{IsTaken, rise_back, parted, taken_next, taken_all}
 use Rattle.history_store.proofs.splices.take_out.Goals as goal
 
 pub found_place-at-requires-clause-known : goal.found_place-at-requires-clause-known

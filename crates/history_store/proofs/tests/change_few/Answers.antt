@@ -1,5 +1,4 @@
-use Rattle.std.proofs.Common.{arith, ◌≡◌, true, ◌+◌, refl}
-use Rattle.history_store.specs.Store.{AllBefore}
+use Rattle.std.proofs.Common.{arith, ◌+◌, refl}
 use Rattle.history_store.proofs.tests.change_few.Goals as goal
 
 pub prepare_change-requires-clause-there : goal.prepare_change-requires-clause-there

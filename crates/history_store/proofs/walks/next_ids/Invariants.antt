@@ -1,22 +1,9 @@
-use Rattle.std.proofs.Common.{◌≡◌, ◌≤◌, ◌+◌, ◌-◌, ◌++◌, length, drop}
-use Rattle.history_store.specs.Logs.{cells_of}
-use Rattle.prima_base.specs.Order.{row_cmp}
-use Rattle.relations.specs.Sets.{Ascends}
-use Rattle.history_store.specs.Table.{rows_of}
-use Rattle.history_store.specs.Handing.{after_ids, gained_rows, AllWidth}
+use Rattle.std.proofs.Common.{◌≡◌, ◌≤◌, ◌+◌, ◌++◌, drop}
+use Rattle.history_store.specs.Handing.{given_ids}
 use Rattle.history_store.proofs.walks.next_ids.Given as goal
 
-abbrev pub invariant-walk : goal.invariant-walk
-invariant-walk l = record {
-  i_in : l.i ≤ length l.live;
-  j_in : l.j ≤ length l.rows;
-  few : l.fresh ≤ l.next + l.j;
-  ids : after_ids (cells_of l.columns) l.live l.lost l.next l.rows ≡ l.after.items ++ after_ids (cells_of l.columns) (drop l.i l.live) (drop l.k l.lost) l.fresh (drop l.j l.rows);
-  new : gained_rows (cells_of l.columns) l.live l.rows ≡ l.gained.items ++ gained_rows (cells_of l.columns) (drop l.i l.live) (drop l.j l.rows);
-  wide : AllWidth (length l.columns) (drop l.j l.rows);
-  live_rise : Ascends row_cmp (rows_of (drop l.i l.live) (cells_of l.columns));
-  rows_rise : Ascends row_cmp (drop l.j l.rows);
+abbrev pub invariant-loop-owner : goal.invariant-loop-owner
+invariant-loop-owner l = record {
+  few : l.fresh ≤ l.next + l.owner-index;
+  ids : given_ids l.owners l.lost l.next ≡ l.ids.items ++ given_ids (drop l.owner-index l.owners) (drop l.k l.lost) l.fresh;
 }
-
-abbrev pub decreases-walk : goal.decreases-walk
-decreases-walk l = (length l.live - l.i) + (length l.rows - l.j)

@@ -1,9 +1,8 @@
-use Rattle.std.proofs.Common.{rules, ◌≡◌, ◌<◌, ◌≤◌, ◌-◌, length, arith, sym, ap, subst, ◌∙◌, vec_len, vec_capacity}
+use Rattle.std.proofs.Common.{rules, ◌≡◌, ◌-◌, length, arith, sym, ap, subst, ◌∙◌, vec_len, vec_capacity}
 use Rattle.std.proofs.lemmas.Grind.{common_steps}
 use Rattle.relations.specs.Sets.{In}
 use Rattle.history_store.specs.Handing.{AllWidth}
 use Rattle.history_store.specs.Logs.{cells_of}
-use Rattle.history_store.specs.Table.{rows_of}
 use Rattle.history_store.proofs.Rows.{length-cells_of, least_from}
 use Rattle.history_store.proofs.Making.{all_wide}
 use Rattle.history_store.proofs.Preparing.{all_known_in, least_is}
