@@ -4,12 +4,12 @@ use Rattle.std.proofs.Common.{refl, sym, ap, subst, ◌∙◌, inl, inr, arith}
 use Rattle.std.specs.List.{filter_map, cons_option}
 use Rattle.std.proofs.lemmas.Bool.Decides.{nat_tests}
 use Rattle.relations.specs.Sets.{In}
-use Rattle.relations.specs.Spans.{Span, span}
+use Rattle.relations.specs.Spans.{Span, span, common}
 use Rattle.relations.specs.Timed.{Entry}
 use Rattle.relations.specs.Listing.{Covered}
 use Rattle.prima_base.specs.declared.timed_rows.TimedRow.{TimedRow}
 use Rattle.prima_base.specs.Timed.{entry_of, entries_of}
-use Rattle.coalesce.specs.Cutting.{common, with_period, cut_row, entry_with, cut_entry}
+use Rattle.coalesce.specs.Cutting.{with_period, cut_row, entry_with, cut_entry}
 
 -- a list with a first one more covers what that covers, and what the others do
 abbrev pub Covers : {X : Type 0} → Entry X → X → ℕ → Type 0

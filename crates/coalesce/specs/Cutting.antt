@@ -1,13 +1,9 @@
 -- Rows and entries, cut to a slice.
-use Rattle.std.specs.Prelude.{ℕ, List, ◌++◌, take, drop, Option, Some, None, min, max, nat_lt, if◌then◌else◌}
+use Rattle.std.specs.Prelude.{ℕ, List, ◌++◌, take, drop, Option, Some, None}
 use Rattle.std.specs.List.{filter_map}
-use Rattle.relations.specs.Spans.{Span, span}
+use Rattle.relations.specs.Spans.{Span, common}
 use Rattle.relations.specs.Timed.{Entry}
 use Rattle.prima_base.specs.declared.timed_rows.TimedRow.{TimedRow}
-
--- the common moments of two periods, if there are any
-abbrev pub common : Span → Span → Option Span
-common p q = if nat_lt (max p.start q.start) (min p.end q.end) then Some (span (max p.start q.start) (min p.end q.end)) else None
 
 abbrev pub with_period : TimedRow → Option Span → Option TimedRow
 with_period row None = None

@@ -13,6 +13,8 @@ mod lending;
 mod makers;
 mod sizes;
 #[cfg(test)]
+mod spelled;
+#[cfg(test)]
 mod tests;
 mod types;
 

@@ -1,5 +1,5 @@
-ghost use Rattle.relations.specs.Spans.{covers};
-ghost use Rattle.std.specs.Prelude.{◌≡◌, ℕ, false, ◌&&◌, IfNone, ◌<◌, ◌↔◌, min, max, IsSome, IfSome};
+ghost use Rattle.relations.specs.Spans.{covers, common};
+ghost use Rattle.std.specs.Prelude.{◌≡◌, ℕ, false, ◌&&◌, IfNone, ◌<◌, ◌↔◌, max, IsSome, IfSome};
 
 use std::marker::Model;
 
@@ -81,10 +81,9 @@ impl Period {
 
 /// The common moments of two periods: `None` exactly where there are none. It takes no memory.
 pub fn meet(p: Period, q: Period) -> Option<Period>
-    ensures some { IsSome result ↔ (max p.start q.start < min p.end q.end) }
+    ensures common { result ≡ common p q }
     ensures moments { (m : ℕ) → IfSome result (λ r. covers r m ≡ (covers p m && covers q m)) }
     ensures none { IfNone result ((m : ℕ) → (covers p m && covers q m) ≡ false) }
-    ensures common { IfSome result (λ r. (r.start ≡ max p.start q.start) × (r.end ≡ min p.end q.end)) }
 {
     Period::new(p.start.max(q.start), p.end.min(q.end))
 }

@@ -3,10 +3,11 @@ use Rattle.std.specs.Prelude.{◌≡◌, ◌↔◌, ℕ, ◌<◌, ◌≤◌, Boo
 use Rattle.std.proofs.Common.{refl, ap, ◌∙◌, inl, inr, arith}
 use Rattle.std.specs.declared.cmp.Ordering.{Ordering}
 use Rattle.std.proofs.lemmas.Bool.Decides.{nat_tests}
-use Rattle.relations.specs.Sets.{In, IsExact}
+use Rattle.relations.specs.Sets.{In, Ascends, IsExact}
 use Rattle.relations.specs.Spans.{Span, covers}
 use Rattle.relations.specs.Timed.{Entry, held_at, at}
-use Rattle.relations.proofs.SetLaws.{in_set, from_set}
+use Rattle.relations.specs.Listing.{Covered}
+use Rattle.relations.proofs.SetLaws.{in_set, from_set, set_ascends}
 
 pub covers_is : (p : Span) (m : ℕ) → covers p m ≡ true ↔ ((p.start ≤ m) × (m < p.end))
 covers_is p m = (λ e. (grind (arith, nat_tests), grind (arith, nat_tests)), λ h. grind (arith, nat_tests))
@@ -41,4 +42,14 @@ unfolding at
 in_at cmp o entries x m = (
   λ h. from_held entries x m (from_set cmp o x (held_at entries m) h),
   λ h. in_set cmp o x (held_at entries m) (in_held entries x m h.0 h.1 h.2 h.3),
+)
+
+pub at_ascends : {X : Type 0} (cmp : X → X → Ordering) → IsExact cmp → (entries : List (Entry X)) (m : ℕ) → Ascends cmp (at cmp entries m)
+unfolding at
+at_ascends cmp o entries m = set_ascends cmp o (held_at entries m)
+
+pub held_is_covered : {X : Type 0} (entries : List (Entry X)) (x : X) (m : ℕ) → IsHeld entries x m ↔ Covered entries x m
+held_is_covered entries x m = (
+  λ h. let c = (covers_is h.0.period m).0 h.3 in (h.0, h.1, h.2, c.0, c.1),
+  λ h. (h.0, h.1, h.2, (covers_is h.0.period m).1 (h.3, h.4)),
 )

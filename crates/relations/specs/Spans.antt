@@ -1,5 +1,5 @@
 -- A period, as contracts see it: the moments from its start up to, and not at, its end.
-use Rattle.std.specs.Prelude.{ℕ, ◌&&◌, Bool, nat_le, nat_lt}
+use Rattle.std.specs.Prelude.{ℕ, ◌&&◌, Bool, nat_le, nat_lt, min, max, Option, Some, None, if◌then◌else◌}
 
 pub record Span : Type 0 where
   pub start : ℕ
@@ -19,3 +19,7 @@ always = span 0 forever
 -- the period has the moment
 abbrev pub covers : Span → ℕ → Bool
 covers p m = nat_le p.start m && nat_lt m p.end
+
+-- the common moments of two periods: None where there are none
+abbrev pub common : Span → Span → Option Span
+common p q = if nat_lt (max p.start q.start) (min p.end q.end) then Some (span (max p.start q.start) (min p.end q.end)) else None

@@ -4,7 +4,9 @@
 #![tactic(auto)]
 
 mod listings;
+mod moments;
 mod sets;
 
 pub use listings::{at_most_one_listing, timeline_is_listed};
+pub use moments::{common_moments_are_in_both, held_at_its_moments};
 pub use sets::{same_members_same_relation, set_is_the_relation};

@@ -3,10 +3,9 @@ use Rattle.std.proofs.Common.{◌≡◌, ◌⊎◌, ◌<◌, ◌≤◌, ℕ, Boo
 use Rattle.std.specs.Prelude.{◌↔◌, ◌==◌, Option, Some, None, nat_lt, nat_le, min, max}
 use Rattle.std.proofs.lemmas.Bool.Decides.{nat_tests}
 use Rattle.relations.specs.Sets.{In}
-use Rattle.relations.specs.Spans.{Span, span, covers}
+use Rattle.relations.specs.Spans.{Span, span, covers, common}
 use Rattle.relations.proofs.Held.{covers_is}
 use Rattle.relations.proofs.SetLaws.{in_append, in_left, in_right}
-use Rattle.coalesce.specs.Cutting.{common}
 use Rattle.script_cli.specs.Parts.{Part, Has, HasBoth, Precedes, PrecedesAll, InTurn}
 use Rattle.script_cli.specs.Merging.{shared, part_in, in_both, is_over, given, left_by, merged}
 

@@ -1,7 +1,6 @@
 -- How two lists of parts, both in turn, are merged: of each two that meet the common moments are kept.
 use Rattle.std.specs.Prelude.{ℕ, ◌==◌, Bool, false, nat_le, nat_lt, List, [], ◌∷◌, ◌++◌, Option, Some, None, if◌then◌else◌}
-use Rattle.relations.specs.Spans.{Span}
-use Rattle.coalesce.specs.Cutting.{common}
+use Rattle.relations.specs.Spans.{Span, common}
 use Rattle.script_cli.specs.Parts.{Part}
 
 -- the common moments of two parts of one id
