@@ -7,13 +7,12 @@
 
 ghost use Rattle.std.specs.Prelude.{◌≡◌, ℕ, ◌+◌, ◌≤◌, ◌++◌, ◌∷◌, [], ◌↔◌, List, true, false, length, map, IfOk, OnOk, MatchOption, option_to_list};
 ghost use Rattle.prima_base.specs.Order.{shown};
-ghost use Rattle.prima_base.specs.Timed.{entries_of, entry_of};
 ghost use Rattle.prima_base.specs.declared.values.Value.{Value};
 ghost use Rattle.history_store.specs.Scans.{seen_cell};
 ghost use Rattle.script_cli.specs.declared.stretches.Stretch.{Stretch as OneStretch};
 ghost use Rattle.script_cli.specs.Parts.{Has, HasBoth, InTurn};
 ghost use Rattle.script_cli.specs.Merging.{shared, in_both, is_over, given, left_by, merged, is_first_over, first_in_both};
-ghost use Rattle.script_cli.specs.Stretches.{part_of, parts_of, key_part, cell_part, behind, entry_in};
+ghost use Rattle.script_cli.specs.Stretches.{part_of, parts_of, key_part, cell_part, behind};
 
 use history_store::{CellEntry, CellScan, KeyScan};
 use prima_base::{NoMemory, Period, Steps, TimedRow, Val, meet};
