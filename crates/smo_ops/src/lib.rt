@@ -9,12 +9,8 @@
 mod afters;
 mod changes;
 mod checks;
-#[cfg(test)]
-mod checks_tests;
 mod columns;
 mod commands;
-#[cfg(test)]
-mod commands_tests;
 mod copies;
 mod counts;
 #[cfg(test)]

@@ -1,7 +1,7 @@
 // What the tests are made of: trees, changes, schemas, and what an answer is to be.
-use crate::{Change, ChangeFault, OpFault};
+use crate::{Change, OpFault};
 use cond_expr::{CmpOp, ColRef, Cond, Expr, Whose};
-use prima_base::{ColType, Name, OpRefusal, Refusal, Txt, Value, What};
+use prima_base::{ColType, Name, OpRefusal, Txt, Value, What};
 use schema_catalog::{Schema, Table, are_columns};
 use std::alloc::Global;
 use std::process::Abort;
@@ -35,13 +35,9 @@ pub enum Do {
 #[derive(Drop)]
 pub enum Want {
     Fine,
-    NoTable(&'static str),
-    NoColumn(&'static str),
-    WrongType(u32),
     Exists(&'static str),
     ColumnExists(&'static str, &'static str),
     LastColumn(&'static str),
-    ColumnMissing(&'static str, &'static str),
     TooMany(What, u64),
 }
 
@@ -227,25 +223,6 @@ pub fn two_tables(rt: &impl Abort, alloc: Global) -> Result<Schema, Fail> {
 
 fn is(name: &Name, text: &str) -> bool {
     name.bytes() == text.as_bytes()
-}
-
-fn is_refused(refusal: &Refusal, want: &Want) -> bool {
-    match (refusal, want) {
-        (Refusal::NoTable(t), Want::NoTable(u)) => is(t, u),
-        (Refusal::NoColumn(c), Want::NoColumn(d)) => is(c, d),
-        (Refusal::WrongType(p), Want::WrongType(q)) => p == q,
-        (Refusal::ColumnExists(t, c), Want::ColumnExists(u, d)) => is(t, u) && is(c, d),
-        (Refusal::ColumnMissing(t, c), Want::ColumnMissing(u, d)) => is(t, u) && is(c, d),
-        _ => false,
-    }
-}
-
-pub fn is_checked(answer: &Result<(), ChangeFault>, want: &Want) -> bool {
-    match answer {
-        Ok(()) => matches!(want, Want::Fine),
-        Err(ChangeFault::Refused(refusal)) => is_refused(refusal, want),
-        Err(ChangeFault::NoMemory) => false,
-    }
 }
 
 pub fn is_op_refused(fault: &OpFault, want: &Want) -> bool {
