@@ -90,3 +90,5 @@ mod shown;
 mod token_tests;
 #[cfg(test)]
 mod tree_tests;
+#[cfg(test)]
+mod value_tests;
