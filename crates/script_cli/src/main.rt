@@ -10,8 +10,6 @@ mod forms;
 mod lines;
 mod listings;
 mod queries;
-#[cfg(test)]
-mod queries_tests;
 mod reader;
 #[cfg(test)]
 mod reader_tests;
