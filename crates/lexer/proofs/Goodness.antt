@@ -2,7 +2,7 @@
 use Rattle.std.proofs.Common.{inl, inr, ◌≡◌, ℕ, zero, suc, pos, Bool, true, false, cond, List, [], ◌∷◌, ◌++◌, refl, sym, ap, ◌∙◌, subst, append_assoc, ◌||◌, ◌&&◌, codes, Option, Some, None}
 use Rattle.prima_base.specs.declared.refusals.What.TheVariants as what
 use Rattle.prima_base.specs.declared.values.Value.TheVariants.{Int, Text}
-use Rattle.cond_expr.specs.declared.exprs.Whose.TheVariants.{Free, Alias, Atom}
+use Rattle.cond_expr.specs.declared.exprs.Whose.TheVariants.{Free, Atom}
 use Rattle.cond_expr.specs.declared.exprs.CmpOp.{CmpOp}
 use Rattle.cond_expr.specs.declared.exprs.CmpOp.TheVariants.{Eq, Ne, Lt, Le, Gt, Ge}
 use Rattle.cond_expr.specs.Trees.{Tree, Test, column, constant, length_of, joined, choose as chosen, never, always, compared, all_of, some_of, fails, a_tree, a_test}
@@ -16,7 +16,7 @@ use Rattle.lexer.specs.Reader.{Level, ref_rest, sign_op, op_arm, bracket, opens,
 use Rattle.lexer.proofs.Parsing.{true_false, ArmGood, Live, good_iff, bind_good, pure_good, map_good, lead_good, pick_open_good, option_node_good, option_takes_good, more_good, nodes_good, bind_more, side, choose_good, arm_if, counts_good, opens_good, bracket_good, whole_good, open_good, bind_lead, bind_option}
 use Rattle.lexer.proofs.Fresh.{fresh_good}
 use Rattle.lexer.proofs.Singles.{name_good, name_is}
-use Rattle.lexer.proofs.Grammar.{word_exact, sign_exact, word_is, sign_is, CASE, WHEN, THEN, ELSE, END, LENGTH, CONCAT, AND, OR, NOT, TRUE, FALSE, OPEN, CLOSE, COMMA, POINT, aliasG, refG, insideLengthG, lengthG, insideConcatG, concatG, caseG, expr_inv, length_up, concat_up, case_up, not_name, length_down, concat_down, case_down, atom_down, expr_not_none, opG, rightG, cmpG, bracketG, notG, fact_inv, cmp_up, bracket_up, not_up, not_down, bracket_down, true_down, false_down, cmp_down, fact_not_none, fact_nodes, conj_nodes, andG, orG, conj_up, conj_down, cond_up, cond_down}
+use Rattle.lexer.proofs.Grammar.{word_exact, sign_exact, word_is, sign_is, CASE, WHEN, THEN, ELSE, END, LENGTH, CONCAT, AND, OR, NOT, TRUE, FALSE, OPEN, CLOSE, COMMA, POINT, aliased, aliasG, refG, insideLengthG, lengthG, insideConcatG, concatG, caseG, expr_inv, length_up, concat_up, case_up, not_name, length_down, concat_down, case_down, atom_down, expr_not_none, opG, rightG, cmpG, bracketG, notG, fact_inv, cmp_up, bracket_up, not_up, not_down, bracket_down, true_down, false_down, cmp_down, fact_not_none, fact_nodes, conj_nodes, andG, orG, conj_up, conj_down, cond_up, cond_down}
 
 -- ---- references and constants
 
@@ -24,9 +24,9 @@ module _ (d : ℕ) where
   ref_good : (q : Bool) (n : List ℕ) → Good 0 d (ref_rest q n) (refG q n) (goes_expr q)
   unfolding ref_rest
   ref_good false n = pure_good 0 d (column (Atom 0) n) (goes_expr false)
-  ref_good true n = option_takes_good (is_sign POINT) (sign POINT) (sign_is POINT) (sign_exact POINT) 0 d (map_to (λ m. column (Alias n) m) name) (column Free n) (aliasG n) (goes_expr true) (λ x e. ap (λ b. b && true) e) (map_good 0 d (λ m. column (Alias n) m) name nameG (goes_expr true) (name_good 0 d (goes_expr true)))
+  ref_good true n = option_takes_good (is_sign POINT) (sign POINT) (sign_is POINT) (sign_exact POINT) 0 d (map_to (λ m. aliased n m) name) (column Free n) (aliasG n) (goes_expr true) (λ x e. ap (λ b. b && true) e) (map_good 0 d (λ m. aliased n m) name nameG (goes_expr true) (name_good 0 d (goes_expr true)))
 
-  alias_up : (a n : List ℕ) (s : Size) (m : List Lexeme) → is_name a ≡ true → nameG n s m → IsExpr true (column (Alias a) n) (one_node s) (word a ∷ sign POINT ∷ m)
+  alias_up : (a n : List ℕ) (s : Size) (m : List Lexeme) → is_name a ≡ true → nameG n s m → IsExpr true (aliased a n) (one_node s) (word a ∷ sign POINT ∷ m)
   alias_up a n s m e h = let k = name_is h.0 n h.1 in rw (h.2, h.3, k.0) (g.of_alias a n e k.1)
 
   ref_up : (q : Bool) (n : List ℕ) → is_name n ≡ true → (t : Tree) (s : Size) (l : List Lexeme) → refG q n t s l → IsExpr q t (one_node s) (word n ∷ l)

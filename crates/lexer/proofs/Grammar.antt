@@ -116,8 +116,12 @@ conjs_down q j l s ts (g.a_conj p c r u v f k h m) = (u, v, f, k, refl, refl, h,
 
 -- ---- the forms of an expression
 
+-- a column behind the alias of its atom
+abbrev pub aliased : List ℕ → List ℕ → Tree
+aliased a n = column (Alias a) n
+
 abbrev pub aliasG : List ℕ → Tree → Size → List Lexeme → Type 0
-aliasG a = mapG (λ n. column (Alias a) n) nameG
+aliasG a = mapG (aliased a) nameG
 
 abbrev pub refG : Bool → List ℕ → Tree → Size → List Lexeme → Type 0
 refG false n = pureG (column (Atom 0) n)

@@ -13,10 +13,13 @@ pub mod Goodness
 pub mod Marked
 pub mod MarkSizes
 pub mod ReadSteps
+pub mod Endings
 pub mod MarksRead
 pub mod MarksJoined
 pub mod Passed
+pub mod Longest
 pub mod Places
 pub mod Unambiguous
+pub mod Fronts
 pub mod Slices
 pub mod ManySteps

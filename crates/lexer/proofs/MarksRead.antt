@@ -3,7 +3,7 @@ use Rattle.std.proofs.Common.{◌≡◌, ℕ, ℤ, zero, suc, ◌+◌, ◌≤◌
 use Rattle.std.proofs.lemmas.Bool.Decides.{nat_tests}
 use Rattle.prima_base.specs.declared.refusals.What.TheVariants as what
 use Rattle.prima_base.specs.declared.values.Value.TheVariants.{Int, Text}
-use Rattle.cond_expr.specs.declared.exprs.Whose.TheVariants.{Free, Alias, Atom}
+use Rattle.cond_expr.specs.declared.exprs.Whose.TheVariants.{Free, Atom}
 use Rattle.cond_expr.specs.declared.exprs.CmpOp.{CmpOp}
 use Rattle.cond_expr.specs.declared.exprs.CmpOp.TheVariants.{Eq, Ne, Lt, Le, Gt, Ge}
 use Rattle.cond_expr.specs.Trees.{Tree, Test, column, constant, length_of, joined, choose as chosen, never, always, compared, fails, a_tree}
@@ -16,7 +16,7 @@ use Rattle.lexer.specs.Constants.{name}
 use Rattle.lexer.specs.Reader.{level, can, inside, ref_rest, sign_op, op_arm, expr, length_rest, concat_rest, case_rest, comparison, bracketed, fact, conj, goes_expr, goes_conj, goes_cond}
 use Rattle.lexer.specs.Reads.{sees}
 use Rattle.lexer.proofs.Parsing.{true_false, by_test}
-use Rattle.lexer.proofs.Grammar.{word_exact, sign_exact, CASE, WHEN, THEN, ELSE, END, LENGTH, CONCAT, AND, OR, NOT, TRUE, FALSE, OPEN, CLOSE, COMMA, POINT, length_no_name, concat_no_name, case_no_name, expr_some, starts_expr, starts_not, starts_true, starts_false, starts_open}
+use Rattle.lexer.proofs.Grammar.{aliased, word_exact, sign_exact, CASE, WHEN, THEN, ELSE, END, LENGTH, CONCAT, AND, OR, NOT, TRUE, FALSE, OPEN, CLOSE, COMMA, POINT, length_no_name, concat_no_name, case_no_name, expr_some, starts_expr, starts_not, starts_true, starts_false, starts_open}
 use Rattle.lexer.proofs.ReadSteps.{level_is, option_not, expr_else, fact_else}
 use Rattle.lexer.proofs.Marked.{along, bind_along, map_along, open_along, plain_along, part_along, part_over, node_along, shut_along, shut_node_along}
 
@@ -30,10 +30,10 @@ in_room n u v o h = by_test (has_room n)
     (λ r. ap (λ b. cond b u o) r ∙ h (grind (arith, nat_tests)) ∙ sym (ap (λ b. cond b v o) r))
     (λ r. ap (λ b. cond b u o) r ∙ sym (ap (λ b. cond b v o) r))
 
--- ---- what reading along the marks says of each nonterminal
+-- ---- what reading along the marks says of each nonterminal; the second flag tells whether it ends in a column of no alias
 
-abbrev pub ExprRead : Bool → Tree → List Lexeme → List Mark → Type 0
-ExprRead q x k ms = (d n : ℕ) → n ≤ 256 → (us : List Lexeme) → Stops (goes_expr q) us → (level q d).expr n (k ++ us) ≡ along d x n ms (k ++ us)
+abbrev pub ExprRead : Bool → Bool → Tree → List Lexeme → List Mark → Type 0
+ExprRead q b x k ms = (d n : ℕ) → n ≤ 256 → (us : List Lexeme) → Stops (goes_expr b) us → (level q d).expr n (k ++ us) ≡ along d x n ms (k ++ us)
 
 abbrev pub PartsRead : Bool → ℕ → List Tree → List Lexeme → List Mark → Type 0
 PartsRead q j l k ms = (d i n : ℕ) → n ≤ 256 → j + i ≡ 8 → (us : List Lexeme) → more (is_sign COMMA) what.Parts (level q d).expr i n (k ++ sign CLOSE ∷ us) ≡ along d l n ms (k ++ sign CLOSE ∷ us)
@@ -41,23 +41,23 @@ PartsRead q j l k ms = (d i n : ℕ) → n ≤ 256 → j + i ≡ 8 → (us : Lis
 abbrev pub fact_at : Bool → ℕ → Parser Test
 fact_at q d = fact q (can d) (inside q d)
 
-abbrev pub FactRead : Bool → Test → List Lexeme → List Mark → Type 0
-FactRead q c k ms = (d n : ℕ) → n ≤ 256 → (us : List Lexeme) → Stops (goes_expr q) us → fact_at q d n (k ++ us) ≡ along d c n ms (k ++ us)
+abbrev pub FactRead : Bool → Bool → Test → List Lexeme → List Mark → Type 0
+FactRead q b c k ms = (d n : ℕ) → n ≤ 256 → (us : List Lexeme) → Stops (goes_expr b) us → fact_at q d n (k ++ us) ≡ along d c n ms (k ++ us)
 
-abbrev pub FactsRead : Bool → List Test → List Lexeme → List Mark → Type 0
-FactsRead q l k ms = (d i n : ℕ) → n ≤ 256 → 257 ≤ n + i → (us : List Lexeme) → Stops (goes_conj q) us → more (is_word AND) what.Nodes (fact_at q d) i n (k ++ us) ≡ along d l n ms (k ++ us)
+abbrev pub FactsRead : Bool → Bool → List Test → List Lexeme → List Mark → Type 0
+FactsRead q b l k ms = (d i n : ℕ) → n ≤ 256 → 257 ≤ n + i → (us : List Lexeme) → Stops (goes_conj b) us → more (is_word AND) what.Nodes (fact_at q d) i n (k ++ us) ≡ along d l n ms (k ++ us)
 
 abbrev pub conj_at : Bool → ℕ → Parser Test
 conj_at q d = conj q (can d) (inside q d)
 
-abbrev pub ConjRead : Bool → Test → List Lexeme → List Mark → Type 0
-ConjRead q c k ms = (d n : ℕ) → n ≤ 256 → (us : List Lexeme) → Stops (goes_conj q) us → conj_at q d n (k ++ us) ≡ along d c n ms (k ++ us)
+abbrev pub ConjRead : Bool → Bool → Test → List Lexeme → List Mark → Type 0
+ConjRead q b c k ms = (d n : ℕ) → n ≤ 256 → (us : List Lexeme) → Stops (goes_conj b) us → conj_at q d n (k ++ us) ≡ along d c n ms (k ++ us)
 
-abbrev pub ConjsRead : Bool → List Test → List Lexeme → List Mark → Type 0
-ConjsRead q l k ms = (d i n : ℕ) → n ≤ 256 → 257 ≤ n + i → (us : List Lexeme) → Stops (goes_cond q) us → more (is_word OR) what.Nodes (conj_at q d) i n (k ++ us) ≡ along d l n ms (k ++ us)
+abbrev pub ConjsRead : Bool → Bool → List Test → List Lexeme → List Mark → Type 0
+ConjsRead q b l k ms = (d i n : ℕ) → n ≤ 256 → 257 ≤ n + i → (us : List Lexeme) → Stops (goes_cond b) us → more (is_word OR) what.Nodes (conj_at q d) i n (k ++ us) ≡ along d l n ms (k ++ us)
 
-abbrev pub CondRead : Bool → Test → List Lexeme → List Mark → Type 0
-CondRead q c k ms = (d n : ℕ) → n ≤ 256 → (us : List Lexeme) → Stops (goes_cond q) us → (level q d).cond n (k ++ us) ≡ along d c n ms (k ++ us)
+abbrev pub CondRead : Bool → Bool → Test → List Lexeme → List Mark → Type 0
+CondRead q b c k ms = (d n : ℕ) → n ≤ 256 → (us : List Lexeme) → Stops (goes_cond b) us → (level q d).cond n (k ++ us) ≡ along d c n ms (k ++ us)
 
 module _ (q : Bool) where
   -- ---- closing
@@ -68,7 +68,7 @@ module _ (q : Bool) where
 
   -- ---- LENGTH
 
-  module _ (x : Tree) (k : List Lexeme) (ms : List Mark) (len : length ms ≡ length k) (part : ExprRead q x k ms) where
+  module _ (b : Bool) (x : Tree) (k : List Lexeme) (ms : List Mark) (len : length ms ≡ length k) (part : ExprRead q b x k ms) where
     abbrev length_inner : List Lexeme → List Lexeme
     length_inner rest = (k ++ sign CLOSE ∷ []) ++ rest
 
@@ -82,7 +82,7 @@ module _ (q : Bool) where
         ∙ sym (plain_along d (length_of x) n h (ms ++ plain ∷ []) (sign OPEN) (length_inner rest))
         ∙ sym (open_along d (length_of x) n (plain ∷ (ms ++ plain ∷ [])) (sign OPEN ∷ length_inner rest))
 
-    pub length_read : ExprRead q (length_of x) (word LENGTH ∷ sign OPEN ∷ (k ++ sign CLOSE ∷ [])) (node ∷ opened (plain ∷ (ms ++ plain ∷ [])))
+    pub length_read : ExprRead q false (length_of x) (word LENGTH ∷ sign OPEN ∷ (k ++ sign CLOSE ∷ [])) (node ∷ opened (plain ∷ (ms ++ plain ∷ [])))
     unfolding expr
     length_read d n h rest stops =
         ap (λ L. L.expr n (word LENGTH ∷ sign OPEN ∷ length_inner rest)) (level_is q d)
@@ -91,8 +91,8 @@ module _ (q : Bool) where
 
   -- ---- CONCAT
 
-  module _ (x : Tree) (l : List Tree) (k m : List Lexeme) (ms ks : List Mark) (len : length ms ≡ length k) (parts_len : length ks ≡ length m) (part : ExprRead q x k ms) (parts : PartsRead q 1 l m ks)
-      (parts_stop : (us : List Lexeme) → Stops (goes_expr q) (m ++ sign CLOSE ∷ us)) where
+  module _ (b : Bool) (x : Tree) (l : List Tree) (k m : List Lexeme) (ms ks : List Mark) (len : length ms ≡ length k) (parts_len : length ks ≡ length m) (part : ExprRead q b x k ms) (parts : PartsRead q 1 l m ks)
+      (parts_stop : (us : List Lexeme) → Stops (goes_expr b) (m ++ sign CLOSE ∷ us)) where
     abbrev concat_inner : List Lexeme → List Lexeme
     concat_inner rest = (k ++ (m ++ sign CLOSE ∷ [])) ++ rest
 
@@ -120,7 +120,7 @@ module _ (q : Bool) where
         ∙ sym (plain_along d joins n h concat_marks (sign OPEN) (concat_inner rest))
         ∙ sym (open_along d joins n (plain ∷ concat_marks) (sign OPEN ∷ concat_inner rest))
 
-    pub concat_read : ExprRead q joins (word CONCAT ∷ sign OPEN ∷ (k ++ (m ++ sign CLOSE ∷ []))) (node ∷ opened (plain ∷ concat_marks))
+    pub concat_read : ExprRead q false joins (word CONCAT ∷ sign OPEN ∷ (k ++ (m ++ sign CLOSE ∷ []))) (node ∷ opened (plain ∷ concat_marks))
     unfolding expr
     concat_read d n h rest stops =
         ap (λ L. L.expr n (word CONCAT ∷ sign OPEN ∷ concat_inner rest)) (level_is q d)
@@ -132,8 +132,8 @@ module _ (q : Bool) where
   no_part_read j d zero n h e us = refl
   no_part_read j d (suc i) n h e us = refl
 
-  module _ (j : ℕ) (x : Tree) (l : List Tree) (k m : List Lexeme) (ms ks : List Mark) (len : length ms ≡ length k) (part : ExprRead q x k ms) (parts : PartsRead q (j + 1) l m ks)
-      (parts_stop : (us : List Lexeme) → Stops (goes_expr q) (m ++ sign CLOSE ∷ us)) where
+  module _ (b : Bool) (j : ℕ) (x : Tree) (l : List Tree) (k m : List Lexeme) (ms ks : List Mark) (len : length ms ≡ length k) (part : ExprRead q b x k ms) (parts : PartsRead q (j + 1) l m ks)
+      (parts_stop : (us : List Lexeme) → Stops (goes_expr b) (m ++ sign CLOSE ∷ us)) where
     part_rest : (d i n : ℕ) → n ≤ 256 → j + suc i ≡ 8 → (us : List Lexeme) → bind (level q d).expr (λ a. map_to (λ o. a ∷ o) (more (is_sign COMMA) what.Parts (level q d).expr i)) n (k ++ (m ++ sign CLOSE ∷ us)) ≡ along d (x ∷ l) n (ms ++ ks) (k ++ (m ++ sign CLOSE ∷ us))
     part_rest d i n h e us =
         bind_along d (level q d).expr (λ a. map_to (λ o. a ∷ o) (more (is_sign COMMA) what.Parts (level q d).expr i)) x (x ∷ l) ms ks k (m ++ sign CLOSE ∷ us) n h len (part d n h (m ++ sign CLOSE ∷ us) (parts_stop us)) (λ o p z.
@@ -148,8 +148,8 @@ module _ (q : Bool) where
 
   -- ---- CASE
 
-  module _ (c : Test) (a b : Tree) (k m o : List Lexeme) (mc ma mb : List Mark) (len_c : length mc ≡ length k) (len_a : length ma ≡ length m) (len_b : length mb ≡ length o)
-      (when : CondRead q c k mc) (yes : ExprRead q a m ma) (no : ExprRead q b o mb) where
+  module _ (fc fa fb : Bool) (c : Test) (a b : Tree) (k m o : List Lexeme) (mc ma mb : List Mark) (len_c : length mc ≡ length k) (len_a : length ma ≡ length m) (len_b : length mb ≡ length o)
+      (when : CondRead q fc c k mc) (yes : ExprRead q fa a m ma) (no : ExprRead q fb b o mb) where
     abbrev case_inner : List Lexeme → List Lexeme
     case_inner rest = (k ++ word THEN ∷ (m ++ word ELSE ∷ (o ++ word END ∷ []))) ++ rest
 
@@ -193,7 +193,7 @@ module _ (q : Bool) where
           at (bind (level q d).cond at_then n) (along d (chosen c a b) n when_marks) (case_inner rest) (case_flat rest) (case_same rest) (case_parts n h rest)
           ∙ sym (plain_along d (chosen c a b) n h when_marks (word WHEN) (case_inner rest))
 
-    pub case_read : ExprRead q (chosen c a b) (word CASE ∷ word WHEN ∷ (k ++ word THEN ∷ (m ++ word ELSE ∷ (o ++ word END ∷ [])))) (opened (node ∷ plain ∷ when_marks))
+    pub case_read : ExprRead q false (chosen c a b) (word CASE ∷ word WHEN ∷ (k ++ word THEN ∷ (m ++ word ELSE ∷ (o ++ word END ∷ [])))) (opened (node ∷ plain ∷ when_marks))
     unfolding expr
     case_read zero n h rest stops = sym (shut_node_along (chosen c a b) n h (opened (plain ∷ when_marks)) (word CASE) (word WHEN ∷ case_inner rest))
     case_read (suc d) n h rest stops =
@@ -203,14 +203,14 @@ module _ (q : Bool) where
 
   -- ---- constants and references
 
-  pub int_read : (z : ℤ) → is_int z ≡ true → ExprRead q (constant (Int z)) (number z ∷ []) (node ∷ [])
+  pub int_read : (z : ℤ) → is_int z ≡ true → ExprRead q false (constant (Int z)) (number z ∷ []) (node ∷ [])
   unfolding expr
   int_read z e d n h rest stops =
       ap (λ L. L.expr n (number z ∷ rest)) (level_is q d)
       ∙ ap (λ b. arm_run (cond b (Counts (pure (constant (Int z)))) No) (number z) n rest) e
       ∙ sym (node_along d (constant (Int z)) n h [] (number z) rest)
 
-  pub text_read : (t : List ℕ) → ExprRead q (constant (Text t)) (text t ∷ []) (node ∷ [])
+  pub text_read : (t : List ℕ) → ExprRead q false (constant (Text t)) (text t ∷ []) (node ∷ [])
   unfolding expr
   text_read t d n h rest stops = ap (λ L. L.expr n (text t ∷ rest)) (level_is q d) ∙ sym (node_along d (constant (Text t)) n h [] (text t) rest)
 
@@ -231,39 +231,48 @@ module _ (q : Bool) where
       and_true true f = f
       and_true false f = refl
 
-pub of_atom_read : (m : List ℕ) → is_name m ≡ true → ExprRead false (column (Atom 0) m) (word m ∷ []) (node ∷ [])
+pub of_atom_read : (m : List ℕ) → is_name m ≡ true → ExprRead false false (column (Atom 0) m) (word m ∷ []) (node ∷ [])
 unfolding ref_rest
 of_atom_read m e d n h rest stops = at_name false m e d n rest ∙ sym (node_along d (column (Atom 0) m) n h [] (word m) rest)
 
-pub of_free_read : (m : List ℕ) → is_name m ≡ true → ExprRead true (column Free m) (word m ∷ []) (node ∷ [])
+pub of_free_read : (m : List ℕ) → is_name m ≡ true → ExprRead true true (column Free m) (word m ∷ []) (node ∷ [])
 unfolding ref_rest
 of_free_read m e d n h rest stops =
     at_name true m e d n rest
-    ∙ ap (λ o. cond (has_room n) o (Over what.Nodes (word m ∷ rest))) (option_not (is_sign POINT) (Takes (map_to (λ c. column (Alias m) c) name)) (column Free m) (n + 1) rest (no_sign true m rest stops))
+    ∙ ap (λ o. cond (has_room n) o (Over what.Nodes (word m ∷ rest))) (option_not (is_sign POINT) (Takes (map_to (λ c. aliased m c) name)) (column Free m) (n + 1) rest (no_sign true m rest stops))
     ∙ sym (node_along d (column Free m) n h [] (word m) rest)
 
-pub of_alias_read : (a m : List ℕ) → is_name a ≡ true → is_name m ≡ true → ExprRead true (column (Alias a) m) (word a ∷ sign POINT ∷ word m ∷ []) (node ∷ plain ∷ plain ∷ [])
+pub of_alias_read : (a m : List ℕ) → is_name a ≡ true → is_name m ≡ true → ExprRead true false (aliased a m) (word a ∷ sign POINT ∷ word m ∷ []) (node ∷ plain ∷ plain ∷ [])
 unfolding ref_rest name
 of_alias_read a m e f d n h rest stops =
     at_name true a e d n (sign POINT ∷ word m ∷ rest)
-    ∙ ap (λ b. cond (has_room n) (and_then (arm_run (single_arm (cond b (Some m) None)) (word m) (n + 1) rest) (λ c. pure (column (Alias a) c))) (Over what.Nodes (word a ∷ sign POINT ∷ word m ∷ rest))) f
-    ∙ in_room n (Got (column (Alias a) m) (n + 1) rest) (along d (column (Alias a) m) (n + 1) (plain ∷ plain ∷ []) (sign POINT ∷ word m ∷ rest)) _
-    (λ i. sym (plain_along d (column (Alias a) m) (n + 1) i (plain ∷ []) (sign POINT) (word m ∷ rest) ∙ plain_along d (column (Alias a) m) (n + 1) i [] (word m) rest))
-    ∙ sym (node_along d (column (Alias a) m) n h (plain ∷ plain ∷ []) (word a) (sign POINT ∷ word m ∷ rest))
+    ∙ ap (λ b. cond (has_room n) (and_then (arm_run (single_arm (cond b (Some m) None)) (word m) (n + 1) rest) (λ c. pure (aliased a c))) (Over what.Nodes (word a ∷ sign POINT ∷ word m ∷ rest))) f
+    ∙ in_room n (Got (aliased a m) (n + 1) rest) (along d (aliased a m) (n + 1) (plain ∷ plain ∷ []) (sign POINT ∷ word m ∷ rest)) _
+    (λ i. sym (plain_along d (aliased a m) (n + 1) i (plain ∷ []) (sign POINT) (word m ∷ rest) ∙ plain_along d (aliased a m) (n + 1) i [] (word m) rest))
+    ∙ sym (node_along d (aliased a m) n h (plain ∷ plain ∷ []) (word a) (sign POINT ∷ word m ∷ rest))
+
+module _ (q : Bool) where
+  pub no_point : (o : CmpOp) → goes_expr q (spelled o) ≡ false
+  no_point Eq = refl
+  no_point Ne = refl
+  no_point Lt = refl
+  no_point Le = refl
+  no_point Gt = refl
+  no_point Ge = refl
 
 -- ---- facts
 
 module _ (q : Bool) where
-  pub truth_read : FactRead q always (word TRUE ∷ []) (node ∷ [])
+  pub truth_read : FactRead q false always (word TRUE ∷ []) (node ∷ [])
   unfolding fact
   truth_read d n h rest stops = sym (node_along d always n h [] (word TRUE) rest)
 
-  pub falsehood_read : FactRead q never (word FALSE ∷ []) (node ∷ [])
+  pub falsehood_read : FactRead q false never (word FALSE ∷ []) (node ∷ [])
   unfolding fact
   falsehood_read d n h rest stops = sym (node_along d never n h [] (word FALSE) rest)
 
-  module _ (c : Test) (k : List Lexeme) (ms : List Mark) (part : FactRead q c k ms) where
-    pub not_read : FactRead q (fails c) (word NOT ∷ k) (opened (node ∷ ms))
+  module _ (b : Bool) (c : Test) (k : List Lexeme) (ms : List Mark) (part : FactRead q b c k ms) where
+    pub not_read : FactRead q b (fails c) (word NOT ∷ k) (opened (node ∷ ms))
     unfolding fact
     not_read zero n h rest stops = sym (shut_node_along (fails c) n h (opened ms) (word NOT) (k ++ rest))
     not_read (suc d) n h rest stops =
@@ -272,8 +281,8 @@ module _ (q : Bool) where
         ∙ sym (node_along d (fails c) n h ms (word NOT) (k ++ rest))
         ∙ sym (open_along d (fails c) n (node ∷ ms) (word NOT ∷ (k ++ rest)))
 
-  module _ (c : Test) (k : List Lexeme) (ms : List Mark) (len : length ms ≡ length k) (part : CondRead q c k ms) where
-    pub bracket_read : FactRead q c (sign OPEN ∷ (k ++ sign CLOSE ∷ [])) (opened (plain ∷ (ms ++ plain ∷ [])))
+  module _ (b : Bool) (c : Test) (k : List Lexeme) (ms : List Mark) (len : length ms ≡ length k) (part : CondRead q b c k ms) where
+    pub bracket_read : FactRead q false c (sign OPEN ∷ (k ++ sign CLOSE ∷ [])) (opened (plain ∷ (ms ++ plain ∷ [])))
     unfolding fact bracketed
     bracket_read zero n h rest stops = sym (shut_along c n h (opened (ms ++ plain ∷ [])) (sign OPEN) ((k ++ sign CLOSE ∷ []) ++ rest))
     bracket_read (suc d) n h rest stops =
@@ -290,14 +299,6 @@ module _ (q : Bool) where
   spelled_op Gt = refl
   spelled_op Ge = refl
 
-  pub no_point : (o : CmpOp) → goes_expr q (spelled o) ≡ false
-  no_point Eq = refl
-  no_point Ne = refl
-  no_point Lt = refl
-  no_point Le = refl
-  no_point Gt = refl
-  no_point Ge = refl
-
   -- what begins as an expression begins with none of these
   begins_not : (is : Lexeme → Bool) (y : Lexeme) → ((x : Lexeme) → is x ≡ true → x ≡ y) → starts_expr y ≡ false → (a : Tree) (s : Size) (k us : List Lexeme) → IsExpr q a s k → sees is (k ++ us) ≡ false
   begins_not is y exact e a s k us h =
@@ -305,19 +306,19 @@ module _ (q : Bool) where
       let not : is x.0 ≡ false = by_test (is x.0) (λ t. true_false (sym x.3 ∙ ap starts_expr (exact x.0 t) ∙ e)) (λ t. t) in
       ap (λ l. sees is (l ++ us)) x.2 ∙ not
 
-  module _ (o : CmpOp) (a b : Tree) (s : Size) (k m : List Lexeme) (ms ks : List Mark) (len : length ms ≡ length k) (first : IsExpr q a s k) (left : ExprRead q a k ms) (right : ExprRead q b m ks) where
+  module _ (fa fb : Bool) (o : CmpOp) (a b : Tree) (s : Size) (k m : List Lexeme) (ms ks : List Mark) (len : length ms ≡ length k) (first : IsExpr q a s k) (left : ExprRead q fa a k ms) (right : ExprRead q fb b m ks) where
     abbrev rest_of : ℕ → Tree → Parser Test
     rest_of d u = choose (λ x. op_arm (λ p. Counts (map_to (λ v. compared p u v) (level q d).expr)) (sign_op x))
 
-    right_part : (d n : ℕ) → n ≤ 256 → (rest : List Lexeme) → Stops (goes_expr q) rest → rest_of d a n (spelled o ∷ (m ++ rest)) ≡ along d (compared o a b) n (node ∷ ks) (spelled o ∷ (m ++ rest))
+    right_part : (d n : ℕ) → n ≤ 256 → (rest : List Lexeme) → Stops (goes_expr fb) rest → rest_of d a n (spelled o ∷ (m ++ rest)) ≡ along d (compared o a b) n (node ∷ ks) (spelled o ∷ (m ++ rest))
     right_part d n h rest stops =
         ap (λ p. arm_run (op_arm (λ p. Counts (map_to (λ v. compared p a v) (level q d).expr)) p) (spelled o) n (m ++ rest)) (spelled_op o)
         ∙ in_room n (map_to (λ v. compared o a v) (level q d).expr (n + 1) (m ++ rest)) (along d (compared o a b) (n + 1) ks (m ++ rest)) _
         (λ i. ap (λ r. and_then r (λ v. pure (compared o a v))) (right d (n + 1) i rest stops) ∙ map_along d (λ v. compared o a v) b (n + 1) ks (m ++ rest))
         ∙ sym (node_along d (compared o a b) n h ks (spelled o) (m ++ rest))
 
-    both_parts : (d n : ℕ) → n ≤ 256 → (rest : List Lexeme) → Stops (goes_expr q) rest → bind (level q d).expr (rest_of d) n (k ++ spelled o ∷ (m ++ rest)) ≡ along d (compared o a b) n (ms ++ node ∷ ks) (k ++ spelled o ∷ (m ++ rest))
-    both_parts d n h rest stops = bind_along d (level q d).expr (rest_of d) a (compared o a b) ms (node ∷ ks) k (spelled o ∷ (m ++ rest)) n h len (left d n h (spelled o ∷ (m ++ rest)) (no_point o)) (λ j i z. right_part d j i rest stops)
+    both_parts : (d n : ℕ) → n ≤ 256 → (rest : List Lexeme) → Stops (goes_expr fb) rest → bind (level q d).expr (rest_of d) n (k ++ spelled o ∷ (m ++ rest)) ≡ along d (compared o a b) n (ms ++ node ∷ ks) (k ++ spelled o ∷ (m ++ rest))
+    both_parts d n h rest stops = bind_along d (level q d).expr (rest_of d) a (compared o a b) ms (node ∷ ks) k (spelled o ∷ (m ++ rest)) n h len (left d n h (spelled o ∷ (m ++ rest)) (no_point fa o)) (λ j i z. right_part d j i rest stops)
 
     as_fact : (d n : ℕ) (ts : List Lexeme) → fact_at q d n ts ≡ (level q d).fact n ts
     as_fact d n ts = sym (ap (λ L. L.fact n ts) (level_is q d))
@@ -330,7 +331,7 @@ module _ (q : Bool) where
         (begins_not (is_word TRUE) (word TRUE) (word_exact TRUE) starts_true a s k us first) (begins_not (is_word FALSE) (word FALSE) (word_exact FALSE) starts_false a s k us first)
         ∙ sym (ap (λ L. bind L.expr (λ u. choose (λ x. op_arm (λ p. Counts (map_to (λ v. compared p u v) L.expr)) (sign_op x))) n (k ++ us)) (level_is q d))
 
-    pub compared_read : FactRead q (compared o a b) (k ++ spelled o ∷ m) (ms ++ node ∷ ks)
+    pub compared_read : FactRead q fb (compared o a b) (k ++ spelled o ∷ m) (ms ++ node ∷ ks)
     compared_read d n h rest stops =
         at (fact_at q d n) (along d (compared o a b) n (ms ++ node ∷ ks)) ((k ++ spelled o ∷ m) ++ rest) (k ++ spelled o ∷ (m ++ rest)) (append_assoc k (spelled o ∷ m) rest)
         (as_compared d n (spelled o ∷ (m ++ rest)) ∙ both_parts d n h rest stops)

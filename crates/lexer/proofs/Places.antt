@@ -57,8 +57,8 @@ module _ {A : Type 0} (p : Parser A) (G : A → Size → List Lexeme → Type 0)
   explained : (o : Out A) → p 0 ts ≡ o → Explains 32 (p 0) G 0 ts o
   explained o e = let P : Out A → Type 0 = λ o. Explains 32 (p 0) G 0 ts o in subst P e (good.explains 0 (omega arith) ts)
 
-  fine : (o : Out A) → p 0 ts ≡ o → (a : A) (s : Size) (front rest : List Lexeme) → ts ≡ front ++ rest → G a s front → Stops goes rest → Fine 32 a s 0 rest o
-  fine o e a s front rest w h stops = let P : Out A → Type 0 = λ o. Fine 32 a s 0 rest o in subst P (ap (p 0) (sym w) ∙ e) (good.complete 0 (omega arith) a s front rest h stops)
+  fine : (a : A) (s : Size) (front rest : List Lexeme) → ts ≡ front ++ rest → G a s front → Stops goes rest → Fine 32 a s 0 rest (p 0 ts)
+  fine a s front rest w h stops = let P : List Lexeme → Type 0 = λ l. Fine 32 a s 0 rest (p 0 l) in subst P (sym w) (good.complete 0 (omega arith) a s front rest h stops)
 
   lengths : (front rest : List Lexeme) → ts ≡ front ++ rest → length list ≡ from + length front + length rest
   lengths front rest e = omega (arith, fits, length_map lexeme (drop from list), length-drop from list, ap length e, length-append front rest)
@@ -109,10 +109,13 @@ module _ {A : Type 0} (p : Parser A) (G : A → Size → List Lexeme → Type 0)
         let n : length list - left - from ≡ length h.0 = omega (arith, z, lengths h.0 rest h.2) in
         (omega (arith, z, lengths h.0 rest h.2), omega arith, h.1, subst P (sym (taken h.0 rest left z h.2)) h.3, omega (arith, h.4, h.5 (omega arith)), h.6, subst Q (sym n) (got_ends h.0 rest h.2 h.7))
 
-    pub got_only : (b : A) (s : Size) (front other : List Lexeme) → ts ≡ front ++ other → G b s front → Stops goes other → (a ≡ b) × (length list - left ≡ from + length front) × (s.nodes ≤ 256) × Lawful 32 s
-    got_only b s front other w h stops =
-        let f = fine (Got a m rest) e b s front other w h stops in
+    pub got_found : (b : A) (s : Size) (front other : List Lexeme) → ts ≡ front ++ other → Fine 32 b s 0 other (p 0 ts) → (a ≡ b) × (length list - left ≡ from + length front) × (s.nodes ≤ 256) × Lawful 32 s
+    got_found b s front other w found =
+        let f = subst (Fine 32 b s 0 other) e found in
         (f.0, (let k : length rest ≡ length other = ap length f.1 in omega (arith, z, k, lengths front other w)), (let h = explained (Got a m rest) e in omega (arith, f.2, h.5 (omega arith))), f.3)
+
+    pub got_only : (b : A) (s : Size) (front other : List Lexeme) → ts ≡ front ++ other → G b s front → Stops goes other → (a ≡ b) × (length list - left ≡ from + length front) × (s.nodes ≤ 256) × Lawful 32 s
+    got_only b s front other w h stops = got_found b s front other w (fine b s front other w h stops)
 
     pub got_exact : p 0 ts ≡ Got a m (lexemes_from list (length list - left))
     got_exact = let h = explained (Got a m rest) e in e ∙ ap (Got a m) (rest_is h.0 rest left z h.2)
@@ -165,13 +168,16 @@ module _ {A : Type 0} (p : Parser A) (G : A → Size → List Lexeme → Type 0)
     err_fits (stop.TooMany w) f e = omega (arith, same_left, over_fits w (ahead cur) f)
 
     module _ {X : Type 0} (view : X → A) where
+      pub err_found : (why : Stop) (f : ParseFault) → Fails (p 0 ts) why cur → FaultAt why list left f → (b : A) (s : Size) (front rest : List Lexeme) → Fine 32 b s 0 rest (p 0 ts) → Finds view b s (from + length front) (Err f)
+      err_found stop.NoMemory f h k b s front rest found = let P : ParseFault → Type 0 = λ v. Finds view b s (from + length front) (Err v) in subst P (sym k) tt
+      err_found stop.Stuck (fault.Syntax at) h k b s front rest found = subst (Fine 32 b s 0 rest) h found
+      err_found stop.Stuck fault.RanOut h k b s front rest found = subst (Fine 32 b s 0 rest) h found
+      err_found stop.Stuck fault.NoMemory h k b s front rest found = tt
+      err_found stop.Stuck (fault.TooMany v m) h k b s front rest found = absurd k
+      err_found (stop.TooMany v) f h k b s front rest found = let P : ParseFault → Type 0 = λ u. Finds view b s (from + length front) (Err u) in subst P (sym k) (subst (Fine 32 b s 0 rest) h found)
+
       pub err_only : (why : Stop) (f : ParseFault) → Fails (p 0 ts) why cur → FaultAt why list left f → (b : A) (s : Size) (front rest : List Lexeme) → ts ≡ front ++ rest → G b s front → Stops goes rest → Finds view b s (from + length front) (Err f)
-      err_only stop.NoMemory f h k b s front rest w g stops = let P : ParseFault → Type 0 = λ v. Finds view b s (from + length front) (Err v) in subst P (sym k) tt
-      err_only stop.Stuck (fault.Syntax at) h k b s front rest w g stops = fine (Stuck (ahead cur)) h b s front rest w g stops
-      err_only stop.Stuck fault.RanOut h k b s front rest w g stops = fine (Stuck (ahead cur)) h b s front rest w g stops
-      err_only stop.Stuck fault.NoMemory h k b s front rest w g stops = tt
-      err_only stop.Stuck (fault.TooMany v m) h k b s front rest w g stops = absurd k
-      err_only (stop.TooMany v) f h k b s front rest w g stops = let P : ParseFault → Type 0 = λ u. Finds view b s (from + length front) (Err u) in subst P (sym k) (fine (Over v (ahead cur)) h b s front rest w g stops)
+      err_only why f h k b s front rest w g stops = err_found why f h k b s front rest (fine b s front rest w g stops)
 
     module _ {X : Type 0} (view : X → A) where
       pub err_exact : (why : Stop) (f : ParseFault) → Fails (p 0 ts) why cur → FaultAt why list left f → Follows view (p 0 ts) list (Err f)

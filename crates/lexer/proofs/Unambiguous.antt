@@ -2,7 +2,7 @@
 use Rattle.std.proofs.Common.{inl, inr, ◌≡◌, ℕ, ℤ, ◌+◌, Bool, true, false, cond, ◌||◌, Some, None, List, [], ◌∷◌, ◌++◌, refl, sym, ap, ◌∙◌, subst, append_assoc, append-nil}
 use Rattle.prima_base.specs.declared.refusals.What.TheVariants as what
 use Rattle.prima_base.specs.declared.values.Value.TheVariants.{Int, Text}
-use Rattle.cond_expr.specs.declared.exprs.Whose.TheVariants.{Free, Alias, Atom}
+use Rattle.cond_expr.specs.declared.exprs.Whose.TheVariants.{Free, Atom}
 use Rattle.cond_expr.specs.declared.exprs.CmpOp.{CmpOp}
 use Rattle.cond_expr.specs.Trees.{Tree, Test, column, constant, length_of, joined, choose as chosen, never, always, compared, all_of, some_of, fails, a_tree, a_test}
 use Rattle.cond_expr.specs.Seen.{trees_of, tests_of}
@@ -14,7 +14,7 @@ use Rattle.lexer.specs.Grammar.{spelled, leaf, IsExpr, AreParts, IsFact, AreFact
 use Rattle.lexer.specs.Reader.{sign_op, goes_expr, goes_conj, goes_cond}
 use Rattle.lexer.proofs.Parsing.{true_false, by_test, both_none}
 use Rattle.lexer.proofs.MarksRead.{no_word, spelled_op, no_point}
-use Rattle.lexer.proofs.Grammar.{word_is, sign_is, word_exact, sign_exact, CASE, WHEN, THEN, ELSE, END, LENGTH, CONCAT, AND, OR, NOT, TRUE, FALSE, OPEN, CLOSE, COMMA, POINT, parts_down, aliasG, refG, insideLengthG, lengthG, insideConcatG, concatG, caseG, expr_inv, length_down, concat_down, case_down, atom_down, expr_not_none, expr_some, starts_expr, starts_not, starts_true, starts_false, starts_open, length_no_name, concat_no_name, case_no_name, opG, rightG, cmpG, bracketG, notG, fact_inv, not_down, bracket_down, true_down, false_down, cmp_down, fact_not_none, conj_down, cond_down, facts_down, conjs_down}
+use Rattle.lexer.proofs.Grammar.{word_is, sign_is, word_exact, sign_exact, CASE, WHEN, THEN, ELSE, END, LENGTH, CONCAT, AND, OR, NOT, TRUE, FALSE, OPEN, CLOSE, COMMA, POINT, parts_down, aliased, aliasG, refG, insideLengthG, lengthG, insideConcatG, concatG, caseG, expr_inv, length_down, concat_down, case_down, atom_down, expr_not_none, expr_some, starts_expr, starts_not, starts_true, starts_false, starts_open, length_no_name, concat_no_name, case_no_name, opG, rightG, cmpG, bracketG, notG, fact_inv, not_down, bracket_down, true_down, false_down, cmp_down, fact_not_none, conj_down, cond_down, facts_down, conjs_down}
 
 -- whatever else is read at the same place is this
 abbrev pub Only : {A : Type 0} → (A → Size → List Lexeme → Type 0) → (Lexeme → Bool) → A → Size → List Lexeme → Type 0
@@ -134,7 +134,7 @@ only_then G x H goes goes2 off a b s t f k here first second =
     first (only_lead (H a) goes2 x b t k second)
 
 -- a part and the lexeme that closes it
-only_closed : {A B : Type 0} (G : A → Size → List Lexeme → Type 0) (x : Lexeme) (φ : A → B) (goes goes2 : Lexeme → Bool) → goes x ≡ false → (a : A) (s : Size) (f : List Lexeme) →
+pub only_closed : {A B : Type 0} (G : A → Size → List Lexeme → Type 0) (x : Lexeme) (φ : A → B) (goes goes2 : Lexeme → Bool) → goes x ≡ false → (a : A) (s : Size) (f : List Lexeme) →
     Only G goes a s f → Only (bindG G (λ c. leadG x (pureG (φ c)))) goes2 (φ a) s (f ++ x ∷ [])
 only_closed {A} {B} G x φ goes goes2 off a s f first =
     only_sized (bindG G (λ c. leadG x (pureG (φ c)))) goes2 (φ a) (both s nothing_counted) s (f ++ x ∷ []) (both_none s)
@@ -236,7 +236,7 @@ module _ (q : Bool) where
   only_falsehood : Only (IsFact q) goes never leaf (word FALSE ∷ [])
   only_falsehood = first_fact (nodeG (pureG never)) (word FALSE) (λ b t l h. false_down q b t l (fact_inv q b t (word FALSE ∷ l) h)) never leaf [] (only_node (pureG never) goes never nothing_counted [] (only_pure (pureG never) goes never))
 
-  abbrev signG : Tree → Test → Size → List Lexeme → Type 0
+  abbrev pub signG : Tree → Test → Size → List Lexeme → Type 0
   signG a = opG (λ o. nodeG (rightG q a o))
 
   only_sign : (a : Tree) (o : CmpOp) (c : Test) (s : Size) (f : List Lexeme) → Only (nodeG (rightG q a o)) goes c s f → Only (signG a) goes c s (spelled o ∷ f)
@@ -256,19 +256,22 @@ module _ (q : Bool) where
       only_bind (IsExpr q) signG goes goes a (compared o a b) s (one_node t) f (spelled o ∷ k) (o, (k, refl, (t, refl, (b, refl, hb)))) sign_side oa
       (only_sign a o (compared o a b) (one_node t) k (only_node (rightG q a o) goes (compared o a b) t k (only_map (λ y. compared o a y) (IsExpr q) goes b t k ob)))
 
+  unlike : (is : Lexeme → Bool) (m : Lexeme) → ((x : Lexeme) → is x ≡ true → x ≡ m) → starts_expr m ≡ false → (y : Lexeme) → starts_expr y ≡ true → is y ≡ false
+  unlike is m exact off y on = by_test (is y) (λ t. true_false (sym on ∙ ap starts_expr (exact y t) ∙ off)) (λ t. t)
+
   -- what begins as an expression is a comparison
+  pub as_cmp : (b : Test) (t : Size) (y : Lexeme) (l : List Lexeme) → starts_expr y ≡ true → IsFact q b t (y ∷ l) → cmpG q b t (y ∷ l)
+  as_cmp b t y l starts h =
+      cmp_down q b t y l (unlike (is_word NOT) (word NOT) (word_exact NOT) starts_not y starts) (unlike (is_sign OPEN) (sign OPEN) (sign_exact OPEN) starts_open y starts)
+      (unlike (is_word TRUE) (word TRUE) (word_exact TRUE) starts_true y starts) (unlike (is_word FALSE) (word FALSE) (word_exact FALSE) starts_false y starts) (fact_inv q b t (y ∷ l) h)
+
   by_cmp : (a : Tree) (s : Size) (f : List Lexeme) → IsExpr q a s f → (c : Test) (u : Size) (k : List Lexeme) → Only (cmpG q) goes c u (f ++ k) → Only (IsFact q) goes c u (f ++ k)
   by_cmp a s f h c u k o b t [] us vs g su sv e = absurd (fact_not_none q b t (fact_inv q b t [] g))
   by_cmp a s f h c u k o b t (y ∷ l) us vs g su sv e =
       let x = expr_some q a s f h in
       let z : x.0 ∷ ((x.1 ++ k) ++ us) ≡ y ∷ (l ++ vs) = sym (ap (λ m. (m ++ k) ++ us) x.2) ∙ e in
       let w : y ≡ x.0 = cc in
-      let starts : starts_expr y ≡ true = ap starts_expr w ∙ x.3 in
-      o b t (y ∷ l) us vs (cmp_down q b t y l (unlike (is_word NOT) (word NOT) (word_exact NOT) starts_not y starts) (unlike (is_sign OPEN) (sign OPEN) (sign_exact OPEN) starts_open y starts)
-      (unlike (is_word TRUE) (word TRUE) (word_exact TRUE) starts_true y starts) (unlike (is_word FALSE) (word FALSE) (word_exact FALSE) starts_false y starts) (fact_inv q b t (y ∷ l) g)) su sv e
-    where
-      unlike : (is : Lexeme → Bool) (m : Lexeme) → ((x : Lexeme) → is x ≡ true → x ≡ m) → starts_expr m ≡ false → (y : Lexeme) → starts_expr y ≡ true → is y ≡ false
-      unlike is m exact off y on = by_test (is y) (λ t. true_false (sym on ∙ ap starts_expr (exact y t) ∙ off)) (λ t. t)
+      o b t (y ∷ l) us vs (as_cmp b t y l (ap starts_expr w ∙ x.3) g) su sv e
 
 -- ---- joined by AND and OR
 
@@ -315,10 +318,10 @@ module _ (w : List ℕ) (make : Test → Test → List Test → Test) (G : Test 
 only_down : {A : Type 0} (G K : A → Size → List Lexeme → Type 0) (goes : Lexeme → Bool) → ((b : A) (t : Size) (k : List Lexeme) → G b t k → K b t k) → (a : A) (s : Size) (f : List Lexeme) → Only K goes a s f → Only G goes a s f
 only_down G K goes down a s f o b t k us vs h su sv e = o b t k us vs (down b t k h) su sv e
 
-abbrev and_all : Test → Test → List Test → Test
+abbrev pub and_all : Test → Test → List Test → Test
 and_all c e l = all_of (a_test c (a_test e (tests_of l)))
 
-abbrev or_all : Test → Test → List Test → Test
+abbrev pub or_all : Test → Test → List Test → Test
 or_all c e l = some_of (a_test c (a_test e (tests_of l)))
 
 -- ---- whatever is in the grammar
@@ -330,8 +333,8 @@ mutual
   only_expr q e s f (g.of_atom n h) = only_named false n h (column (Atom 0) n) [] (only_pure (pureG (column (Atom 0) n)) (goes_expr false) (column (Atom 0) n))
   only_expr q e s f (g.of_free n h) = only_named true n h (column Free n) [] (only_none (aliasG n) (goes_expr true) (column Free n) (sign POINT) refl)
   only_expr q e s f (g.of_alias a n h k) =
-      only_named true a h (column (Alias a) n) (sign POINT ∷ word n ∷ [])
-      (only_some (aliasG a) (goes_expr true) (column Free a) (sign POINT) (column (Alias a) n) nothing_counted (word n ∷ []) refl (only_map (λ m. column (Alias a) m) nameG (goes_expr true) n nothing_counted (word n ∷ []) (only_name (goes_expr true) n k)))
+      only_named true a h (aliased a n) (sign POINT ∷ word n ∷ [])
+      (only_some (aliasG a) (goes_expr true) (column Free a) (sign POINT) (aliased a n) nothing_counted (word n ∷ []) refl (only_map (λ m. aliased a m) nameG (goes_expr true) n nothing_counted (word n ∷ []) (only_name (goes_expr true) n k)))
   only_expr q e s f (g.a_length p x u k h) = only_length p x u k (only_expr p x u k h)
   only_expr q e s f (g.a_concat p x l u v k m h hl) = only_concat p x l u v k m hl (only_expr p x u k h) (only_parts p 1 l v m hl)
   only_expr q e s f (g.a_case p c a b u v w k m o hc ha hb) = only_case p c a b u v w k m o ha hb (only_cond p c u k hc) (only_expr p a v m ha) (only_expr p b w o hb)

@@ -1,11 +1,12 @@
 //! Laws of tokens and of readers. Each is proved and does nothing.
 
-ghost use Rattle.std.specs.Prelude.{◌≡◌, ℕ, Bool, List, ◌||◌, false, codes};
+ghost use Rattle.std.specs.Prelude.{◌≡◌, ℕ, Bool, List, ◌++◌, ◌||◌, false, codes};
 ghost use Rattle.cond_expr.specs.Trees.{Tree, Test};
 ghost use Rattle.lexer.specs.Lexed.{LexesOnce, TokensInPlace};
 ghost use Rattle.lexer.specs.Spaced.{TokensSpaced};
 ghost use Rattle.lexer.specs.Lexemes.{Lexeme, is_sign};
 ghost use Rattle.lexer.specs.Grammar.{IsExpr, IsCond};
+ghost use Rattle.lexer.specs.Fronts.{DetermineEachOther};
 ghost use Rattle.lexer.specs.Reader.{outermost, goes_expr, goes_cond};
 ghost use Rattle.lexer.specs.Marks.{AddUp, expr_marks, cond_marks};
 ghost use Rattle.lexer.specs.Parsing.{Size, Good, fresh, freshG};
@@ -53,6 +54,20 @@ pub fn constants_are_read()
 pub fn trees_are_one()
     ensures expr { (q : Bool) (a b : Tree) (s t : Size) (f : List Lexeme) → IsExpr q a s f → IsExpr q b t f → (a ≡ b) × (s ≡ t) }
     ensures cond { (q : Bool) (a b : Test) (s t : Size) (f : List Lexeme) → IsCond q a s f → IsCond q b t f → (a ≡ b) × (s ≡ t) }
+{}
+
+/// A list of tokens has one front that spells a tree: two fronts of one list with one and the same
+/// tree are the same front, and so is what stands behind them.
+pub fn fronts_are_one()
+    ensures expr { (q : Bool) (a : Tree) (s t : Size) (f g us vs : List Lexeme) → IsExpr q a s f → IsExpr q a t g → f ++ us ≡ g ++ vs → (f ≡ g) × (us ≡ vs) × (s ≡ t) }
+    ensures cond { (q : Bool) (a : Test) (s t : Size) (f g us vs : List Lexeme) → IsCond q a s f → IsCond q a t g → f ++ us ≡ g ++ vs → (f ≡ g) × (us ≡ vs) × (s ≡ t) }
+{}
+
+/// In a list of tokens the tree that stands at its front and the rest behind it determine each
+/// other.
+pub fn trees_and_rests()
+    ensures expr { (q : Bool) → DetermineEachOther (IsExpr q) }
+    ensures cond { (q : Bool) → DetermineEachOther (IsCond q) }
 {}
 
 /// What is counted at each token is together the size of the tree.

@@ -38,8 +38,8 @@ pub use constants::{constant, int, literal, moment, name, names, natural, small}
 pub use faults::LexFault;
 pub use kinds::TokenKind;
 pub use laws::{
-    constants_are_read, lexes_once, marks_add_up, tokens_are_spaced, tokens_in_place,
-    trees_are_one, trees_are_read,
+    constants_are_read, fronts_are_one, lexes_once, marks_add_up, tokens_are_spaced,
+    tokens_in_place, trees_and_rests, trees_are_one, trees_are_read,
 };
 pub use parse::{ParseFault, parse_cond, parse_expr};
 use pieces::{Piece, gap, piece_at};

@@ -10,7 +10,7 @@ ghost use Rattle.lexer.specs.Marks.{FirstPassed, expr_marks, cond_marks};
 ghost use Rattle.lexer.specs.Parsing.{Size, Stops, limit};
 ghost use Rattle.prima_base.specs.declared.refusals.What.{What as Counted};
 ghost use Rattle.lexer.specs.Reader.{goes_expr, goes_cond, outermost};
-ghost use Rattle.lexer.specs.Found.{IsRead, Finds, IsFirstFault, IsTooMany, Follows, FaultAt, lexemes_from};
+ghost use Rattle.lexer.specs.Found.{IsRead, Finds, Ends, IsFirstFault, IsTooMany, Follows, FaultAt, lexemes_from};
 
 use crate::reader::{outer_cond, outer_expr};
 use crate::{Cursor, Stop, Token};
@@ -88,6 +88,9 @@ pub fn parse_expr(
     // What is in the grammar, up to a token that it does not go on with, is read if it is within the limits, and else refused.
     ensures only { (e : Tree) (s : Size) (front rest : List Lexeme) → lexemes_from list.now from ≡ front ++ rest → IsExpr qualified e s front → Stops (goes_expr qualified) rest →
         Finds tree e s (from + length front) result }
+    // What is in the grammar, where nothing of it goes on with the token behind it, is read if it is within the limits, and else refused.
+    ensures longest { (e : Tree) (s : Size) (front rest : List Lexeme) → lexemes_from list.now from ≡ front ++ rest → IsExpr qualified e s front → Ends (IsExpr qualified) (lexemes_from list.now from) (length front) →
+        Finds tree e s (from + length front) result }
     // A fault is at the first token with which nothing of the grammar goes on, or at which a count passes its limit.
     ensures fault { IsFirstFault (IsExpr qualified) (expr_marks qualified) list.now from result }
     // A front that passes a limit at its last token is refused there for this count, whatever stands behind it.
@@ -116,6 +119,8 @@ pub fn parse_cond(
     requires { from ≤ length list.now }
     ensures read { IsRead test (IsCond qualified) list.now from result }
     ensures only { (c : Test) (s : Size) (front rest : List Lexeme) → lexemes_from list.now from ≡ front ++ rest → IsCond qualified c s front → Stops (goes_cond qualified) rest →
+        Finds test c s (from + length front) result }
+    ensures longest { (c : Test) (s : Size) (front rest : List Lexeme) → lexemes_from list.now from ≡ front ++ rest → IsCond qualified c s front → Ends (IsCond qualified) (lexemes_from list.now from) (length front) →
         Finds test c s (from + length front) result }
     ensures fault { IsFirstFault (IsCond qualified) (cond_marks qualified) list.now from result }
     ensures over { (w : Counted) (front rest more : List Lexeme) (x : Lexeme) (c : Test) (s : Size) (h : IsCond qualified c s (front ++ x ∷ more)) → lexemes_from list.now from ≡ front ++ x ∷ rest →

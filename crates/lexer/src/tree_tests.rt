@@ -59,6 +59,9 @@ fn expressions_have_their_trees(rt: HostRuntime) -> Result<(), Fail> {
         (b"a + 1", false, b""),
         (b"a b", false, b"0:a 1"),
         (b"(a)", false, b"Syntax 0"),
+        (b"t.a.b", true, b"t.a 3"),
+        (b"5.a", true, b"5 1"),
+        (b"LENGTH(a).b", true, b"(len a) 4"),
         (b"", false, b"RanOut"),
     ];
     for (text, qualified, wanted) in texts {
@@ -109,6 +112,8 @@ fn conditions_have_their_trees(rt: HostRuntime) -> Result<(), Fail> {
         (b"a = 1 AND OR", b"Syntax 10"),
         (b"t.a.b = 1", b"Syntax 3"),
         (b"'1' = 1", b"(eq [1] 1) 3"),
+        (b"a = t.b.c", b"(eq a t.b) 5"),
+        (b"NOT (a = b).c", b"(not (eq a b)) 6"),
     ];
     for (text, wanted) in texts {
         let found = read_cond(rt.alloc(), text)?;

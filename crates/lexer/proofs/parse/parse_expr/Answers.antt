@@ -7,7 +7,9 @@ use Rattle.lexer.specs.Reads.{ahead, Fails}
 use Rattle.lexer.specs.Grammar.{IsExpr}
 use Rattle.lexer.specs.Reader.{outermost, goes_expr}
 use Rattle.lexer.proofs.Goodness.{outermost_good}
-use Rattle.lexer.proofs.Places.{length_map, got_fits, got_read, got_only, got_exact, got_over, err_fits, err_only, err_fault, err_over, err_exact}
+use Rattle.lexer.proofs.Places.{length_map, got_fits, got_read, got_found, got_only, got_exact, got_over, err_fits, err_found, err_only, err_fault, err_over, err_exact}
+use Rattle.lexer.specs.Found.{lexemes_from}
+use Rattle.lexer.proofs.Longest.{expr_longest}
 use Rattle.lexer.proofs.MarksJoined.{expr_marked}
 use Rattle.lexer.proofs.MarkSizes.{expr_length}
 use Rattle.lexer.specs.Marks.{expr_marks}
@@ -42,3 +44,9 @@ returns-in-Ok-clause-over c = got_over (outermost c.args.qualified).expr (IsExpr
 
 pub returns-in-Err-clause-exact : goal.returns-in-Err-clause-exact
 returns-in-Err-clause-exact c = err_exact (outermost c.args.qualified).expr (IsExpr c.args.qualified) (goes_expr c.args.qualified) (outermost_good c.args.qualified).expr c.args.list.now c.args.from c.requires c.outer_expr.new.c tree c.in-Err.stop c.fault_at.result (let P : List Token → Type 0 = λ l. Fails ((outermost c.args.qualified).expr 0 (map lexeme l)) c.in-Err.stop c.outer_expr.new.c in subst P c.tail.ensures c.in-Err.ensures) c.fault_at.ensures
+
+pub returns-in-Ok-clause-longest : goal.returns-in-Ok-clause-longest
+returns-in-Ok-clause-longest c = λ e s front rest w h ends. got_found (outermost c.args.qualified).expr (IsExpr c.args.qualified) (goes_expr c.args.qualified) (outermost_good c.args.qualified).expr c.args.list.now c.args.from c.requires (tree c.in-Ok.found) c.outer_expr.new.c.nodes (ahead c.outer_expr.new.c) (length c.outer_expr.new.c.rest.now) (length_map lexeme c.outer_expr.new.c.rest.now) (ap (λ l. (outermost c.args.qualified).expr 0 (map lexeme l)) (sym c.tail.ensures) ∙ c.in-Ok.ensures) e s front rest w (expr_longest c.args.qualified e s front rest (lexemes_from c.args.list.now c.args.from) w h ends)
+
+pub returns-in-Err-clause-longest : goal.returns-in-Err-clause-longest
+returns-in-Err-clause-longest c = λ e s front rest w h ends. err_found (outermost c.args.qualified).expr (IsExpr c.args.qualified) (goes_expr c.args.qualified) (outermost_good c.args.qualified).expr c.args.list.now c.args.from c.requires c.outer_expr.new.c tree c.in-Err.stop c.fault_at.result (let P : List Token → Type 0 = λ l. Fails ((outermost c.args.qualified).expr 0 (map lexeme l)) c.in-Err.stop c.outer_expr.new.c in subst P c.tail.ensures c.in-Err.ensures) c.fault_at.ensures e s front rest (expr_longest c.args.qualified e s front rest (lexemes_from c.args.list.now c.args.from) w h ends)
