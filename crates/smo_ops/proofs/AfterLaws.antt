@@ -1,23 +1,22 @@
 -- The schema and the database behind an accepted CREATE TABLE.
-use Rattle.std.proofs.Common.{◌<◌, ◌+◌, ◌≡◌, ◌≤◌, ℕ, Bool, true, false, List, [], ◌∷◌, length, refl, sym, ap, subst, ◌∙◌, arith}
-use Rattle.std.specs.Prelude.{cond, not, ◌||◌, nat_le, is_some, Option, Some, None, MatchOption}
+use Rattle.std.proofs.Common.{◌<◌, ◌+◌, ◌≡◌, ◌≤◌, ℕ, Bool, true, false, List, [], ◌∷◌, length, sym, ap, subst, ◌∙◌, arith}
+use Rattle.std.specs.Prelude.{cond, not, ◌||◌, nat_le, is_some, Option, Some, None, MatchOption, Result, Ok, Err, IfOk}
 use Rattle.std.specs.Option.{option_map}
 use Rattle.std.specs.Ordering.{eq_by_cmp}
 use Rattle.std.specs.FinMap.{get, insert, len, get-insert, len-insert}
 use Rattle.std.specs.Cmp.Lexicographic.{nat_list_cmp_total}
-use Rattle.prima_base.specs.declared.values.Value.{Value}
 use Rattle.prima_base.specs.declared.refusals.What.TheVariants.{Tables as TABLES, Columns as COLUMNS}
 use Rattle.prima_base.specs.declared.refusals.OpRefusal.TheVariants.{Exists, LastColumn, ColumnExists, TooMany}
 use Rattle.prima_base.specs.Order.{bytes_cmp}
 use Rattle.prima_base.specs.Columns.{Column, names_of, AreColumns, IsRelation}
-use Rattle.schema_catalog.specs.Tables.{Tables, IsSchema}
-use Rattle.schema_catalog.specs.Databases.{Entry, Rows, Database, IsEntry, IsDatabase}
-use Rattle.smo_ops.specs.Operators.{create_table}
-use Rattle.smo_ops.specs.First.{unless, first_refusal}
-use Rattle.smo_ops.specs.OneRow.{same}
-use Rattle.smo_ops.specs.Preconditions.{Precondition, is_free, is_some_column, each_once, few_columns, few_tables, most_columns, most_tables, first_again}
+use Rattle.schema_catalog.specs.Tables.{Tables}
+use Rattle.schema_catalog.specs.Databases.{Rows, Database, IsEntry, IsDatabase}
+use Rattle.smo_ops.specs.Operators.{Operator, create_table}
+use Rattle.smo_ops.specs.First.{unless}
+use Rattle.smo_ops.specs.Preconditions.{AreNarrow, is_free, is_some_column, each_once, few_columns, few_tables, most_columns, most_tables, first_again}
 use Rattle.smo_ops.specs.Making.{in_order}
-use Rattle.smo_ops.specs.After.{op_fault, behind, carried, IsLawful}
+use Rattle.smo_ops.specs.After.{op_fault, behind, carried, IsLawful, IsAfter, IsCreateTable}
+use Rattle.smo_ops.specs.declared.ops.OpFault.{OpFault}
 use Rattle.smo_ops.proofs.Firsts.{none_of_first, met, first_later, first_alone}
 use Rattle.smo_ops.proofs.ColumnLaws.{in_order_are_columns, in_order_length}
 
@@ -35,6 +34,10 @@ each_with P tables r columns h p n cs e = step (eq_by_cmp bytes_cmp n r) (sym (g
     step : (b : Bool) → cond b (Some columns) (get tables n) ≡ Some cs → P cs
     step true q = subst P (one q) p
     step false q = h n cs q
+
+-- tables stay narrow with a narrow one more
+pub narrow_with : (tables next : Tables) (r : List ℕ) (columns : List Column) → next ≡ insert tables r columns → length columns ≤ 32 → AreNarrow tables → AreNarrow next
+narrow_with tables next r columns e few h = subst AreNarrow (sym e) (each_with (λ cs. length cs ≤ most_columns) tables r columns h few)
 
 pub created_is_lawful : (tables : Tables) (r : List ℕ) (cs : List Column) → IsLawful tables → op_fault tables (create_table r cs) ≡ None
     → IsLawful (behind tables (create_table r cs))
@@ -99,3 +102,8 @@ room_for_table tables r cs free some once few l =
 pub not_there : {A : Type 0} (r : Option A) (g : Option (List Column)) (Q : A → Type 0) → MatchOption r (g ≡ None) Q → is_some r ≡ false → g ≡ None
 not_there None g Q h e = h
 not_there (Some x) g Q h e = absurd (cc)
+
+pub still_lawful : (tables : Tables) (op : Operator) (answer : Result Tables OpFault) → IsCreateTable op → IsAfter tables op answer → IsLawful tables → IfOk answer IsLawful
+still_lawful tables (create_table r cs) (Ok next) c a h = subst IsLawful (sym a.1) (created_is_lawful tables r cs h a.0)
+still_lawful tables op (Err e) c a h = tt
+still_lawful tables _ (Ok next) c a h = absurd c

@@ -1,14 +1,13 @@
 -- The tests of an INSERT and of an UPDATE, part by part.
-use Rattle.std.proofs.Common.{◌≡◌, ◌≤◌, ◌<◌, ◌+◌, ◌*◌, ◌^◌, ℕ, List, [], ◌∷◌, ◌++◌, length, refl, sym, ap, subst, ◌∙◌, arith}
-use Rattle.std.specs.Prelude.{Option, Some, None}
+use Rattle.std.proofs.Common.{◌≡◌, ◌≤◌, ◌<◌, ◌+◌, ◌*◌, ◌^◌, ℕ, List, [], ◌∷◌, ◌++◌, length, refl, sym, ap, ◌∙◌, arith}
+use Rattle.std.specs.Prelude.{Some, None}
 use Rattle.prima_base.specs.declared.values.Value.{Value}
 use Rattle.prima_base.specs.declared.refusals.Refusal.{Refusal}
 use Rattle.prima_base.specs.declared.refusals.Refusal.TheVariants.{NoColumn}
 use Rattle.prima_base.specs.Columns.{Column, AreColumns}
 use Rattle.cond_expr.specs.declared.exprs.Expr.{Expr}
-use Rattle.cond_expr.specs.Trees.{Tree, Test}
-use Rattle.cond_expr.specs.Seen.{tree}
-use Rattle.cond_expr.specs.Faults.{references, test_references, first_unknown}
+use Rattle.cond_expr.specs.Trees.{Test}
+use Rattle.cond_expr.specs.Faults.{test_references, first_unknown}
 use Rattle.smo_ops.specs.Changes.{insertion, update, sets_of}
 use Rattle.smo_ops.specs.First.{first_refusal}
 use Rattle.smo_ops.specs.OneRow.{own_kinds}

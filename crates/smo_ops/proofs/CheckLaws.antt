@@ -1,15 +1,13 @@
 -- The tests of named columns and of values, from a place on.
-use Rattle.std.proofs.Common.{subst, append_assoc, ◌≡◌, ◌<◌, ◌≤◌, ◌+◌, ℕ, suc, Bool, true, false, List, [], ◌∷◌, ◌++◌, length, take, drop, get_or, refl, sym, ap, ◌∙◌, arith, add_assoc}
-use Rattle.std.specs.Prelude.{Option, Some, None, cond, not}
+use Rattle.std.proofs.Common.{subst, append_assoc, ◌≡◌, ◌<◌, ◌≤◌, ◌+◌, ℕ, true, false, List, [], ◌∷◌, ◌++◌, length, take, drop, get_or, refl, sym, ap, ◌∙◌}
+use Rattle.std.specs.Prelude.{Option, Some, None}
 use Rattle.std.specs.Option.{option_map}
 use Rattle.std.proofs.lemmas.List.{take_more}
-use Rattle.prima_base.specs.declared.values.Value.{Value}
-use Rattle.prima_base.specs.declared.refusals.Refusal.TheVariants.{NoColumn, WrongType, ColumnExists, ColumnMissing}
+use Rattle.prima_base.specs.declared.refusals.Refusal.TheVariants.{NoColumn, ColumnExists}
 use Rattle.prima_base.specs.Columns.{Column, names_of}
-use Rattle.cond_expr.specs.Kinds.{same_kind, value_kind}
 use Rattle.smo_ops.specs.First.{unless, where_so, first_refusal}
-use Rattle.smo_ops.specs.Preconditions.{among, type_in, first_not_among}
-use Rattle.smo_ops.specs.Checks.{pair_names, names_behind, missing_fault, cell_faults}
+use Rattle.smo_ops.specs.Preconditions.{among}
+use Rattle.smo_ops.specs.Checks.{pair_names, names_behind}
 use Rattle.prima_base.specs.declared.refusals.Refusal.{Refusal}
 use Rattle.cond_expr.specs.declared.exprs.Expr.{Expr}
 use Rattle.cond_expr.specs.declared.exprs.ColRef.{ColRef}

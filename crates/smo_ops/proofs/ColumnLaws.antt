@@ -1,17 +1,13 @@
 -- Columns in the order of their names.
-use Rattle.std.proofs.Common.{◌≡◌, ◌≤◌, ◌+◌, ℕ, Bool, true, false, List, [], ◌∷◌, ◌++◌, length, refl, sym, ap, subst, ◌∙◌, inl, inr, arith}
-use Rattle.std.specs.Prelude.{◌⊎◌, ◌↔◌, ◌||◌, cond, Option, Some, None, if◌then◌else◌}
+use Rattle.std.proofs.Common.{◌≡◌, ◌≤◌, ◌+◌, List, [], ◌∷◌, length, refl, ap, ◌∙◌, arith}
 use Rattle.std.specs.declared.cmp.Ordering.{Ordering}
 use Rattle.std.specs.declared.cmp.Ordering.TheVariants.{Less, Equal, Greater}
-use Rattle.std.specs.Ordering.{is_eq}
-use Rattle.relations.specs.Sets.{In, put_in, placed, set_of, has}
+use Rattle.relations.specs.Sets.{put_in, placed, set_of}
 use Rattle.relations.proofs.SetLaws.{set_ascends}
 use Rattle.prima_base.specs.Order.{bytes_cmp}
 use Rattle.prima_base.specs.OrderLaws.{bytes_exact}
 use Rattle.prima_base.specs.Columns.{Column, names_of, AreColumns}
-use Rattle.smo_ops.specs.Preconditions.{among, again_behind}
 use Rattle.smo_ops.specs.Making.{column_cmp, in_order}
-use Rattle.smo_ops.proofs.NameLaws.{in_names, in_among}
 
 names_placed : (o : Ordering) (c d : Column) (ds more : List Column) → names_of (placed o c d ds more) ≡ placed o c.0 d.0 (names_of ds) (names_of more)
 names_placed Less c d ds more = refl

@@ -1,6 +1,6 @@
 -- The counts of a list's members up to a limit, and then of one too many.
 use Rattle.std.proofs.Common.{◌≡◌, ◌<◌, ◌≤◌, ℕ, Bool, true, false, List, [], ◌∷◌, ◌++◌, length, map, take, min, refl, sym, ap, ◌∙◌, arith}
-use Rattle.std.specs.Prelude.{Option, Some, None, nat_le}
+use Rattle.std.specs.Prelude.{Some, None, nat_le}
 use Rattle.std.specs.List.{flat_map}
 use Rattle.std.proofs.lemmas.List.{take-map, take_min, length-map}
 use Rattle.prima_base.specs.declared.refusals.What.{What}

@@ -1,13 +1,11 @@
 -- Names that are known and stand once are no more than the columns.
 use Rattle.std.proofs.Common.{◌≡◌, ◌≤◌, ◌+◌, ℕ, Bool, true, false, List, [], ◌∷◌, ◌++◌, length, refl, sym, ap, subst, ◌∙◌, inl, inr, arith}
-use Rattle.std.specs.Prelude.{◌⊎◌, ◌||◌, cond, Some, None}
-use Rattle.std.specs.Ordering.{is_eq}
-use Rattle.std.specs.declared.cmp.Ordering.TheVariants.{Less, Equal, Greater}
+use Rattle.std.specs.Prelude.{◌||◌, cond, None}
+use Rattle.std.specs.declared.cmp.Ordering.TheVariants.{Less}
 use Rattle.relations.specs.Sets.{In, Ascends, BeforeAll}
 use Rattle.relations.proofs.SetLaws.{before_in}
 use Rattle.prima_base.specs.declared.refusals.Refusal.TheVariants.{NoColumn, ColumnExists}
 use Rattle.prima_base.specs.Order.{bytes_cmp}
-use Rattle.prima_base.specs.OrderLaws.{bytes_exact}
 use Rattle.prima_base.specs.Columns.{Column, names_of, AreColumns}
 use Rattle.smo_ops.specs.First.{unless, where_so, first_refusal}
 use Rattle.smo_ops.specs.OneRow.{same}

@@ -1,10 +1,9 @@
 -- The rows gained and lost fit the lengths of the relations.
-use Rattle.std.proofs.Common.{◌≡◌, ◌+◌, ℕ, suc, Bool, true, false, List, [], ◌∷◌, length, refl, sym, ap, ◌∙◌, arith}
+use Rattle.std.proofs.Common.{◌≡◌, ◌+◌, Bool, true, false, [], ◌∷◌, length, refl, ap, arith}
 use Rattle.std.specs.Prelude.{cond, not}
 use Rattle.std.specs.List.{filter}
-use Rattle.relations.specs.Sets.{In, Ascends, has, Same}
+use Rattle.relations.specs.Sets.{Ascends, has}
 use Rattle.relations.proofs.SetLaws.{in_filter, from_filter, in_has, has_in, one_list}
-use Rattle.prima_base.specs.declared.values.Value.{Value}
 use Rattle.prima_base.specs.Order.{row_cmp}
 use Rattle.prima_base.specs.OrderLaws.{row_exact}
 use Rattle.smo_ops.specs.OneRow.{Row, Relation}

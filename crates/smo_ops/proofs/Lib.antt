@@ -19,3 +19,9 @@ pub mod GainLaws
 pub mod FlatLaws
 pub mod SortLaws
 pub mod EffectLaws
+pub mod CountingLaws
+pub mod SameDatabases
+pub mod PastLaws
+pub mod DistinctStates
+pub mod PastSteps
+pub mod HistoryLaws

@@ -1,6 +1,6 @@
 -- Names that stood before, and columns put in order, step by step.
-use Rattle.std.proofs.Common.{◌≡◌, ◌≤◌, ◌<◌, ◌+◌, ◌-◌, ℕ, Bool, true, false, List, [], ◌∷◌, ◌++◌, length, take, drop, get_or, refl, sym, ap, subst, ◌∙◌, arith}
-use Rattle.std.specs.Prelude.{◌||◌, cond, if◌then◌else◌, Option, Some, None}
+use Rattle.std.proofs.Common.{◌≡◌, ◌≤◌, ◌<◌, ◌+◌, ◌-◌, ℕ, Bool, true, false, List, [], ◌∷◌, ◌++◌, length, take, drop, get_or, refl, sym, ap, ◌∙◌, arith}
+use Rattle.std.specs.Prelude.{◌||◌, cond, if◌then◌else◌, Some}
 use Rattle.std.proofs.lemmas.List.{take_more, take_all}
 use Rattle.relations.specs.Sets.{put_in, set_of}
 use Rattle.prima_base.specs.Columns.{Column, names_of}

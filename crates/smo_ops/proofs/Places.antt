@@ -1,6 +1,6 @@
 -- The place of an ill-typed node lies in its tree.
-use Rattle.std.proofs.Common.{◌≡◌, ◌<◌, ◌+◌, ℕ, Bool, true, false, List, [], ◌∷◌, ◌++◌, refl, sym, subst, arith, inl, inr}
-use Rattle.std.specs.Prelude.{◌⊎◌, not, is_none, Option, Some, None}
+use Rattle.std.proofs.Common.{◌≡◌, ◌<◌, ◌+◌, ℕ, Bool, true, false, List, [], ◌∷◌, ◌++◌, arith, inl, inr}
+use Rattle.std.specs.Prelude.{not, is_none, Some}
 use Rattle.relations.specs.Sets.{In}
 use Rattle.relations.proofs.SetLaws.{in_append}
 use Rattle.cond_expr.specs.Trees.{Tree, column, constant, length_of, joined, choose, Trees, no_trees, a_tree, Test, never, always, compared, all_of, some_of, fails, Tests, no_tests, a_test}

@@ -1,17 +1,17 @@
 -- An accepted change keeps a relation of the table's columns.
 use Rattle.std.proofs.Common.{◌≡◌, ◌+◌, ℕ, Bool, true, false, List, [], ◌∷◌, ◌++◌, map, refl, sym, ap, subst, ◌∙◌, inl, inr}
-use Rattle.std.specs.Prelude.{cond, not, Option, Some, None, if◌then◌else◌}
+use Rattle.std.specs.Prelude.{cond, not, Some, None, if◌then◌else◌}
 use Rattle.std.specs.List.{filter}
-use Rattle.relations.specs.Sets.{In, BeforeAll, Ascends, put_in, set_of}
+use Rattle.relations.specs.Sets.{In, Ascends, put_in, set_of}
 use Rattle.relations.proofs.SetLaws.{from_filter, from_map, below_each, before_in, set_ascends, set_itself, from_set}
 use Rattle.prima_base.specs.declared.values.Value.{Value}
 use Rattle.prima_base.specs.declared.values.ColType.{ColType}
 use Rattle.prima_base.specs.declared.refusals.Refusal.TheVariants.{WrongType, ColumnMissing}
 use Rattle.prima_base.specs.Order.{row_cmp}
 use Rattle.prima_base.specs.OrderLaws.{row_exact}
-use Rattle.prima_base.specs.Columns.{Column, names_of, AreColumns, IsRow, IsRelation, has_type}
+use Rattle.prima_base.specs.Columns.{Column, names_of, AreColumns, IsRow, IsRelation}
 use Rattle.schema_catalog.specs.Databases.{cell}
-use Rattle.cond_expr.specs.Trees.{Tree, Test}
+use Rattle.cond_expr.specs.Trees.{Tree}
 use Rattle.cond_expr.specs.Sizes.{nodes_of}
 use Rattle.cond_expr.specs.Values.{value}
 use Rattle.cond_expr.specs.Kinds.{value_kind, same_kind, kind_of}

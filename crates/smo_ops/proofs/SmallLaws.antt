@@ -1,11 +1,10 @@
 -- What the counts of a command tell of its changes, and how many nodes an accepted change has.
-use Rattle.std.proofs.Common.{◌≡◌, ◌≤◌, ◌<◌, ◌+◌, ◌*◌, ℕ, Bool, true, List, [], ◌∷◌, ◌++◌, length, take, refl, sym, ap, subst, ◌∙◌, arith}
+use Rattle.std.proofs.Common.{◌≡◌, ◌≤◌, ◌+◌, ◌*◌, ℕ, Bool, true, List, [], ◌∷◌, ◌++◌, length, take, refl, sym, subst, ◌∙◌, arith}
 use Rattle.std.specs.Prelude.{Option, Some, None, nat_le, is_some}
 use Rattle.std.specs.Option.{unwrap_or}
 use Rattle.std.specs.List.{flat_map}
 use Rattle.std.specs.FinMap.{get, contains_key}
 use Rattle.std.proofs.lemmas.List.{take_all}
-use Rattle.prima_base.specs.declared.values.Value.{Value}
 use Rattle.prima_base.specs.declared.refusals.What.{What}
 use Rattle.prima_base.specs.declared.refusals.What.TheVariants.{Nodes, Depth, Parts, Changes}
 use Rattle.prima_base.specs.declared.refusals.Refusal.TheVariants.{NoTable}
@@ -16,10 +15,10 @@ use Rattle.cond_expr.specs.Faults.{test_references}
 use Rattle.cond_expr.specs.Sizes.{nodes_of, depth_of, longest_of, test_nodes, test_depth, test_longest}
 use Rattle.smo_ops.specs.Changes.{PlainChange, insertion, deletion, update, table_of}
 use Rattle.smo_ops.specs.Commands.{changing}
-use Rattle.smo_ops.specs.First.{unless, first_refusal}
+use Rattle.smo_ops.specs.First.{first_refusal}
 use Rattle.smo_ops.specs.Effects.{columns_of}
 use Rattle.smo_ops.specs.Preconditions.{AreNarrow}
-use Rattle.smo_ops.specs.Counts.{Excess, at_most, tree_counts, test_counts, set_counts, change_counts, first_excess}
+use Rattle.smo_ops.specs.Counts.{at_most, tree_counts, test_counts, set_counts, change_counts, first_excess}
 use Rattle.smo_ops.specs.Checks.{AreSmall, IsSmall, AllSmall, pair_names, name_faults, missing_fault, cell_faults, reference_fault, set_references, set_faults, sets_nodes, test_fault, table_fault, tests_behind, change_tests, change_nodes}
 use Rattle.smo_ops.proofs.Firsts.{none_of_both, none_of_first, met, first_alone}
 use Rattle.smo_ops.proofs.ChangeTests.{few_pairs}
@@ -92,3 +91,13 @@ few_nodes tables c at i n s e = step (get tables (table_of c)) refl (met (contai
     step (Some columns) q there =
         few_in_table columns c at (i (table_of c) columns q) (n (table_of c) columns q) s
         (subst (λ (o : Option (List Column)). first_refusal (tests_behind (unwrap_or o []) c at) ≡ None) q parts.1)
+
+-- a change with few nodes in all has small trees
+tree_below : (sets : List (List ℕ × Tree)) (n : ℕ) → sets_nodes sets ≤ n → n ≤ 256 → AreSmall sets
+tree_below [] n h l = tt
+tree_below (s ∷ sets) n h l = (omega arith, tree_below sets n (omega arith) l)
+
+pub small_in_all : (c : PlainChange) → change_nodes c ≤ 256 → IsSmall c
+small_in_all (insertion t cells) h = tt
+small_in_all (deletion t c) h = h
+small_in_all (update t sets c) h = (tree_below sets 256 (omega arith) (omega arith), omega arith)

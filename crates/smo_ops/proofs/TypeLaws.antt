@@ -1,12 +1,10 @@
 -- Over a row of a table's columns, what has a type has a value of that type.
-use Rattle.std.proofs.Common.{◌≡◌, ℕ, Bool, true, false, List, [], ◌∷◌, map, refl, sym, ap, subst, ◌∙◌}
-use Rattle.std.specs.Prelude.{cond, ◌==◌, ◌&&◌, Option, Some, None, pos, if◌then◌else◌}
-use Rattle.prima_base.specs.declared.values.Value.{Value}
+use Rattle.std.proofs.Common.{◌≡◌, ℕ, Bool, true, false, List, [], ◌∷◌, refl, sym, ap, ◌∙◌}
+use Rattle.std.specs.Prelude.{cond, ◌==◌, ◌&&◌, Some, None, pos, if◌then◌else◌}
 use Rattle.prima_base.specs.declared.values.Value.TheVariants.{Int}
 use Rattle.prima_base.specs.declared.values.ColType.{ColType}
-use Rattle.prima_base.specs.Columns.{Column, IsRow, has_type}
+use Rattle.prima_base.specs.Columns.{Column, IsRow}
 use Rattle.schema_catalog.specs.Databases.{cell}
-use Rattle.cond_expr.specs.declared.exprs.Whose.{Whose}
 use Rattle.cond_expr.specs.declared.exprs.Whose.TheVariants.{Free, Alias, Atom}
 use Rattle.cond_expr.specs.Trees.{Tree}
 use Rattle.cond_expr.specs.Values.{value}

@@ -5,15 +5,15 @@ use Rattle.prima_base.specs.declared.values.Value.{Value}
 use Rattle.prima_base.specs.declared.values.Value.TheVariants.{Int, Text}
 use Rattle.prima_base.specs.declared.values.ColType.TheVariants.{Int as INT, Text as TEXT}
 use Rattle.prima_base.specs.declared.refusals.What.TheVariants.{Parts, Inverse}
-use Rattle.prima_base.specs.declared.refusals.Refusal.TheVariants.{NoTable, NoColumn, WrongType, ColumnExists, ColumnMissing}
+use Rattle.prima_base.specs.declared.refusals.Refusal.TheVariants.{NoColumn, WrongType, ColumnExists, ColumnMissing}
 use Rattle.prima_base.specs.declared.refusals.OpRefusal.TheVariants.{LastColumn, ColumnExists as Twice}
 use Rattle.prima_base.specs.Columns.{Column}
 use Rattle.cond_expr.specs.declared.exprs.Whose.TheVariants.{Free, Atom}
 use Rattle.cond_expr.specs.declared.exprs.CmpOp.TheVariants.{Eq, Gt}
-use Rattle.cond_expr.specs.Trees.{Tree, column, constant, length_of, joined, Trees, no_trees, a_tree, Test, always, compared, fails}
-use Rattle.smo_ops.specs.Operators.{Operator, nop, create_table, partition_table, add_column}
+use Rattle.cond_expr.specs.Trees.{Tree, column, constant, length_of, joined, no_trees, a_tree, always, compared}
+use Rattle.smo_ops.specs.Operators.{nop, add_column}
 use Rattle.smo_ops.specs.Changes.{insertion, deletion, update}
-use Rattle.smo_ops.specs.Commands.{changing, evolving}
+use Rattle.smo_ops.specs.Commands.{evolving}
 use Rattle.smo_ops.specs.First.{first_refusal}
 use Rattle.smo_ops.specs.OneRow.{Relation}
 use Rattle.smo_ops.specs.Effects.{relation_after, gained_rows}

@@ -1,6 +1,6 @@
 -- What changes do to a relation and to a database, and which rows are gained and lost.
 use Rattle.std.specs.Prelude.{ℕ, ◌+◌, List, [], ◌∷◌, not, map, length, Option, Some, None}
-use Rattle.std.specs.List.{filter, sum_by}
+use Rattle.std.specs.List.{filter}
 use Rattle.std.specs.Option.{unwrap_or}
 use Rattle.std.specs.FinMap.{get, insert, entries}
 use Rattle.relations.specs.Sets.{set_of, put_in, has}
@@ -55,8 +55,12 @@ rows_at None = []
 rows_at (Some entry) = rows_of entry
 
 -- the rows gained and lost from one database to another, summed over the tables
+abbrev pub gained_from : Database → List (List ℕ × Entry) → ℕ
+gained_from old [] = 0
+gained_from old (e ∷ entries) = length (gained_rows (rows_at (get old e.0)) (rows_of e.1)) + gained_from old entries
+
 abbrev pub gained : Database → Database → ℕ
-gained old new = sum_by (λ (e : List ℕ × Entry). length (gained_rows (rows_at (get old e.0)) (rows_of e.1))) (entries new)
+gained old new = gained_from old (entries new)
 
 abbrev pub lost : Database → Database → ℕ
 lost old new = gained new old

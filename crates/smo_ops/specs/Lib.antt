@@ -15,3 +15,5 @@ pub mod Walks
 pub mod Placed
 pub mod Counts
 pub mod Accepts
+pub mod LawfulPast
+pub mod History

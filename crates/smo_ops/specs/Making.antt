@@ -1,5 +1,5 @@
 -- The columns and the rows of the tables that operators make.
-use Rattle.std.specs.Prelude.{ℕ, List, [], ◌∷◌, ◌++◌, ◌||◌, Bool, not, map, Option, Some, None, is_some, if◌then◌else◌}
+use Rattle.std.specs.Prelude.{ℕ, List, [], ◌++◌, ◌||◌, Bool, not, map, Option, Some, None, if◌then◌else◌}
 use Rattle.std.specs.List.{filter, flat_map, list_all}
 use Rattle.std.specs.Option.{unwrap_or}
 use Rattle.std.specs.declared.cmp.Ordering.{Ordering}
@@ -14,7 +14,7 @@ use Rattle.cond_expr.specs.Trees.{Tree, Test}
 use Rattle.cond_expr.specs.Values.{value}
 use Rattle.cond_expr.specs.Kinds.{kind_of}
 use Rattle.smo_ops.specs.OneRow.{Row, Relation, same, own_kinds, own_cells, meets}
-use Rattle.smo_ops.specs.Preconditions.{among, type_in}
+use Rattle.smo_ops.specs.Preconditions.{among}
 
 -- columns by their names
 abbrev pub column_cmp : Column → Column → Ordering

@@ -6,7 +6,6 @@ use Rattle.std.specs.FinMap.{empty}
 use Rattle.schema_catalog.specs.Tables.{Tables}
 use Rattle.schema_catalog.specs.Databases.{Database}
 use Rattle.smo_ops.specs.Operators.{Operator}
-use Rattle.smo_ops.specs.Changes.{PlainChange}
 use Rattle.smo_ops.specs.Commands.{PlainBody, changing, evolving, PlainCommand, PlainVersion}
 use Rattle.smo_ops.specs.Effects.{after_each, gained, lost}
 use Rattle.smo_ops.specs.After.{behind, carried}
@@ -105,9 +104,14 @@ evolved_to version new past = record {
 abbrev pub next_version : ℕ → Operator → List Operator → Past → PlainVersion
 next_version stamp op inverse past = record { stamp = stamp; op = op; inverse = inverse; tables = behind (newest_tables past) op }
 
+-- the database from the stamp on: the newest one changed, or carried over the operator
+abbrev pub database_behind : PlainBody → Past → Database
+database_behind (changing changes) past = after_each (newest_tables past) changes (newest_database past)
+database_behind (evolving op inverse) past = carried (newest_tables past) op (newest_database past)
+
 abbrev pub past_behind : ℕ → PlainBody → Past → Past
-past_behind stamp (changing changes) past = changed_to stamp (after_each (newest_tables past) changes (newest_database past)) past
-past_behind stamp (evolving op inverse) past = evolved_to (next_version stamp op inverse past) (carried (newest_tables past) op (newest_database past)) past
+past_behind stamp (changing changes) past = changed_to stamp (database_behind (changing changes) past) past
+past_behind stamp (evolving op inverse) past = evolved_to (next_version stamp op inverse past) (database_behind (evolving op inverse) past) past
 
 -- the past with one command more
 abbrev pub past_with : Past → PlainCommand → Past

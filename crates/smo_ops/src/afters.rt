@@ -1,10 +1,11 @@
-ghost use Rattle.std.specs.Prelude.{◌≡◌};
+ghost use Rattle.std.specs.Prelude.{◌≡◌, IfOk};
 ghost use Rattle.smo_ops.specs.Operators.{create_table, operator_of};
-ghost use Rattle.smo_ops.specs.After.{op_fault, IsAllowed, IsAfter, IsCreateTable};
+ghost use Rattle.smo_ops.specs.Accepts.{refusal_of};
+ghost use Rattle.smo_ops.specs.After.{op_fault, IsAllowed, IsAfter, IsCreateTable, IsLawful};
 
 use crate::making::{first_again, in_order};
 use crate::{Op, OpFault};
-use prima_base::{ColType, Name, OpRefusal, What};
+use prima_base::{ColType, Name, OpRefusal, Refusal, What};
 use schema_catalog::{Schema, Table};
 use std::alloc::Global;
 
@@ -58,10 +59,29 @@ fn create(
 /// twice (27), and at most 32 (38); behind it there are at most 64 tables (38).
 pub fn after(alloc: Global, schema: &Schema, op: &Op) -> Result<Schema, OpFault>
     requires { IsCreateTable (operator_of op.now) }
-    ensures { IsAfter schema.now (operator_of op.now) result }
+    ensures after { IsAfter schema.now (operator_of op.now) result }
+    ensures lawful { IsLawful schema.now → IfOk result (λ s. IsLawful s) }
 {
     match op {
         Op::CreateTable { table, columns } => create(alloc, schema, table, columns),
         _ => unreachable!(),
+    }
+}
+
+/// An operator's refusal as that of its statement. It takes no memory.
+pub fn refusal_of(refusal: OpRefusal) -> Refusal
+    ensures { result ≡ refusal_of refusal }
+{
+    match refusal {
+        OpRefusal::Exists(table) => Refusal::Exists(table),
+        OpRefusal::NoTable(table) => Refusal::NoTable(table),
+        OpRefusal::ColumnExists(table, column) => Refusal::ColumnExists(table, column),
+        OpRefusal::NoColumn(_, column) => Refusal::NoColumn(column),
+        OpRefusal::ColumnsDiffer(left, right) => Refusal::ColumnsDiffer(left, right),
+        OpRefusal::BadCover(table) => Refusal::BadCover(table),
+        OpRefusal::LastColumn(table) => Refusal::LastColumn(table),
+        OpRefusal::SameTable(table) => Refusal::SameTable(table),
+        OpRefusal::WrongType(place) => Refusal::WrongType(place),
+        OpRefusal::TooMany(what, limit) => Refusal::TooMany(what, limit),
     }
 }

@@ -27,6 +27,7 @@ pub enum Change {
 pub enum ChangeFault {
     /// The first of the refusals 22, 27, 23, 35 and 25 in the one order.
     Refused(Refusal),
+    /// Memory ran out.
     NoMemory,
 }
 

@@ -158,7 +158,8 @@ fn check_in_table(
 /// Whether a change is accepted over a schema, and else its first refusal in the one order: its table (22); of the
 /// columns of an INSERT or the set columns of an UPDATE, in written order, for each whether it stood before (27) and
 /// whether it is unknown (23); of an INSERT the first missing column in name order (35); the references of its
-/// expressions and its condition, in written order (23); its types (25). Places count nodes from `first_node` on.
+/// expressions and its condition, in written order (23); its types (25). Places count nodes from `first_node` on, which is
+/// below 2^31; each tree has at most 256 nodes, and each table of the schema at most 32 columns.
 pub fn check_change(
     alloc: Global,
     schema: &Schema,
@@ -197,7 +198,7 @@ fn check_in_turn(alloc: Global, schema: &Schema, changes: &[Change]) -> Result<(
 
 /// Whether all changes of a command are accepted over a schema, each whole before the next, and else the first refusal.
 /// Places count nodes through the whole command. The counts of the command have to be within their limits
-/// (`check_counts`).
+/// (`check_counts`), and each table of the schema has at most 32 columns.
 pub fn check_changes(alloc: Global, schema: &Schema, changes: &[Change]) -> Result<(), ChangeFault>
     requires counted { first_excess (changing (changes_of changes.now)) ≡ None }
     requires narrow { AreNarrow schema.now }

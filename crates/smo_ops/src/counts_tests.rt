@@ -65,11 +65,8 @@ fn update(alloc: Global, first: u32, second: u32, shape: Shape) -> Result<Change
 }
 
 fn excess_of(body: Body) -> Result<Excess, Fail> {
-    let command = Command::new(5, body).ok_or("no command")?;
-    match check_counts(&command) {
-        Ok(()) => Ok(None),
-        Err(excess) => Ok(Some(excess)),
-    }
+    let command = command(body)?;
+    Ok(check_counts(&command).err())
 }
 
 fn excess_of_one(alloc: Global, change: Change) -> Result<Excess, Fail> {
@@ -165,12 +162,23 @@ const EVOLVES: [(u32, u32, u32, u32, Excess); 4] = [
     (8, 7, 9, 1, PARTS),
 ];
 
+fn excess_of_inverse(
+    alloc: Global,
+    parts: u32,
+    before: u32,
+    inner: u32,
+    behind: u32,
+) -> Result<Excess, Fail> {
+    let inverse = inverse(alloc, before, inner, behind)?;
+    let op = add_column(alloc, parts)?;
+    excess_of(Body::Evolve { op, inverse })
+}
+
 #[test]
 fn operators_are_counted(rt: HostRuntime) -> Result<(), Fail> {
     for (parts, before, inner, behind, want) in &EVOLVES {
-        let op = add_column(rt.alloc(), *parts)?;
-        let inverse = inverse(rt.alloc(), *before, *inner, *behind)?;
-        assert_eq!(rt; excess_of(Body::Evolve { op, inverse })?, *want);
+        let excess = excess_of_inverse(rt.alloc(), *parts, *before, *inner, *behind)?;
+        assert_eq!(rt; excess, *want);
     }
     Ok(())
 }
@@ -193,20 +201,22 @@ fn join(alloc: Global, shape: Shape) -> Result<Op, Fail> {
     })
 }
 
+fn excess_of_op(alloc: Global, op: Op) -> Result<Excess, Fail> {
+    let inverse = Vec::new(alloc);
+    excess_of(Body::Evolve { op, inverse })
+}
+
 #[test]
 fn conditions_of_operators_are_counted(rt: HostRuntime) -> Result<(), Fail> {
+    let alloc = rt.alloc();
     for (shape, want) in &DELETES {
-        let op = partition(rt.alloc(), *shape)?;
-        let inverse = Vec::new(rt.alloc());
-        assert_eq!(rt; excess_of(Body::Evolve { op, inverse })?, *want);
-        let op = join(rt.alloc(), *shape)?;
-        let inverse = Vec::new(rt.alloc());
-        assert_eq!(rt; excess_of(Body::Evolve { op, inverse })?, *want);
+        assert_eq!(rt; excess_of_op(alloc, partition(alloc, *shape)?)?, *want);
+        assert_eq!(rt; excess_of_op(alloc, join(alloc, *shape)?)?, *want);
     }
     Ok(())
 }
 
-const COUNTED: [(Do, u64); 4] = [
+const COUNTED: &[(Do, u64)] = &[
     (Do::Insert("t", &[("a", Int(1)), ("b", Text("x"))]), 2),
     (Do::Delete("t", &[Col("a"), Int(1), Eq, Not]), 4),
     (
@@ -222,7 +232,7 @@ const COUNTED: [(Do, u64); 4] = [
 
 #[test]
 fn nodes_of_a_change_are_counted(rt: HostRuntime) -> Result<(), Fail> {
-    for (what, nodes) in &COUNTED {
+    for (what, nodes) in COUNTED {
         assert_eq!(rt; change_nodes(&change(rt.alloc(), what)?), *nodes);
     }
     Ok(())

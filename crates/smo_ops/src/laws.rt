@@ -1,14 +1,20 @@
-ghost use Rattle.std.specs.Prelude.{◌≡◌, ◌+◌, ◌<◌, ◌≤◌, ℕ, List, None, length};
+ghost use Rattle.std.specs.Prelude.{◌≡◌, ◌+◌, ◌<◌, ◌≤◌, ℕ, List, Some, None, length};
+ghost use Rattle.std.specs.FinMap.{get, insert};
 ghost use Rattle.prima_base.specs.Columns.{Column, AreColumns, IsRelation};
 ghost use Rattle.schema_catalog.specs.Tables.{Tables, IsSchema};
-ghost use Rattle.schema_catalog.specs.Databases.{Database, IsDatabase};
+ghost use Rattle.schema_catalog.specs.Databases.{Database, IsDatabase, Rows};
 ghost use Rattle.smo_ops.specs.Operators.{create_table};
 ghost use Rattle.smo_ops.specs.Changes.{PlainChange};
 ghost use Rattle.smo_ops.specs.First.{first_refusal};
 ghost use Rattle.smo_ops.specs.OneRow.{Relation};
-ghost use Rattle.smo_ops.specs.Effects.{relation_after, after_each, gained_rows};
+ghost use Rattle.smo_ops.specs.Effects.{relation_after, after_each, gained_rows, gained, lost};
 ghost use Rattle.smo_ops.specs.After.{op_fault, behind, carried, IsLawful};
 ghost use Rattle.smo_ops.specs.Checks.{tests_behind, changes_fault};
+ghost use Rattle.smo_ops.specs.Commands.{PlainCommand};
+ghost use Rattle.smo_ops.specs.Past.{Past, beginning, past_with, database_at, database_behind};
+ghost use Rattle.smo_ops.specs.LawfulPast.{IsPast, IsOfToday};
+ghost use Rattle.smo_ops.specs.Accepts.{command_fault};
+ghost use Rattle.smo_ops.specs.History.{past_of, state_at, IsHistory, AllOfToday, HasState};
 
 /// A change that the check accepts keeps a relation of the table's columns: its rows stay in ascending order, each with
 /// a value of its type for each column.
@@ -35,4 +41,54 @@ pub fn create_table_is_lawful()
 pub fn gains_and_losses_fit()
     ensures { (columns : List Column) → (old : Relation) → (new : Relation) → IsRelation columns old → IsRelation columns new
         → length new + length (gained_rows new old) ≡ length old + length (gained_rows old new) }
+{}
+
+/// The rows gained and lost are counted table by table: from a database to itself none are; and where one table's rows
+/// `was`, which are `a` in the old database, become `now`, only that table's counts change.
+pub fn counts_are_by_table()
+    ensures none { (database : Database) → (gained database database ≡ 0) × (lost database database ≡ 0) }
+    ensures gained { (old : Database) → (new : Database) → (t : List ℕ) → (a : Relation) → (was : Relation) → (now : Relation)
+        → get old t ≡ Some (Rows a) → get new t ≡ Some (Rows was)
+        → gained old (insert new t (Rows now)) + length (gained_rows a was) ≡ gained old new + length (gained_rows a now) }
+    ensures lost { (old : Database) → (new : Database) → (t : List ℕ) → (a : Relation) → (was : Relation) → (now : Relation)
+        → get old t ≡ Some (Rows a) → get new t ≡ Some (Rows was)
+        → lost old (insert new t (Rows now)) + length (gained_rows was a) ≡ lost old new + length (gained_rows now a) }
+{}
+
+/// Two databases of the same tables are one where no row is gained and none lost from one to the other.
+pub fn no_gain_and_no_loss_is_no_change()
+    ensures { (tables : Tables) → (a : Database) → (b : Database) → IsDatabase tables a → IsDatabase tables b → gained a b ≡ 0 → lost a b ≡ 0 → a ≡ b }
+{}
+
+/// A past that accepted commands of changes and CREATE TABLEs have made is lawful: its newest database is one of its newest schema, its states
+/// ascend from moment 0, and neither a state nor a version begins behind the last stamp. A state begins with each version,
+/// and else only where the database changes.
+pub fn commands_make_lawful_pasts()
+    ensures beginning { IsPast beginning }
+    ensures step { (past : Past) → (command : PlainCommand) → IsPast past → command_fault past command ≡ None → IsOfToday command.body
+        → IsPast (past_with past command) }
+{}
+
+/// With an accepted command the past is as before at each moment before the command's stamp, and from the stamp on it
+/// has the changed or carried database.
+pub fn a_command_is_seen_from_its_stamp_on()
+    ensures before { (past : Past) → (command : PlainCommand) → (m : ℕ) → m < command.stamp
+        → database_at (past_with past command) m ≡ database_at past m }
+    ensures from { (past : Past) → (command : PlainCommand) → (m : ℕ) → IsPast past → command_fault past command ≡ None → command.stamp ≤ m
+        → database_at (past_with past command) m ≡ database_behind command.body past }
+{}
+
+/// The past of a history of changes and CREATE TABLEs, in which each command is accepted after those before it, has at each moment what the commands
+/// of stamp at most it make one after the other, from version 0 and the empty database: the version in force, its tables,
+/// and a database of them. And it counts the commands.
+pub fn a_past_has_the_states_of_its_history()
+    ensures states { (commands : List PlainCommand) → (m : ℕ) → IsHistory commands → AllOfToday commands
+        → HasState (past_of commands) m (state_at commands m) }
+    ensures count { (commands : List PlainCommand) → (past_of commands).commands ≡ length commands }
+{}
+
+/// Two lawful pasts of the same versions that have the same database at each moment have the same states.
+pub fn pasts_that_agree_have_the_same_states()
+    ensures { (p : Past) → (q : Past) → IsPast p → IsPast q → p.versions ≡ q.versions → ((m : ℕ) → database_at p m ≡ database_at q m)
+        → p.states ≡ q.states }
 {}

@@ -12,13 +12,16 @@ pub enum Op {
         table: Name,
         columns: Vec<(Name, ColType)>,
     },
+    /// The table goes.
     DropTable {
         table: Name,
     },
+    /// The table under another name.
     RenameTable {
         table: Name,
         into: Name,
     },
+    /// The table and an equal one.
     CopyTable {
         table: Name,
         into: Name,
@@ -57,10 +60,12 @@ pub enum Op {
         expr: Expr,
         table: Name,
     },
+    /// One column less; rows that become equal are one.
     DropColumn {
         column: Name,
         table: Name,
     },
+    /// The column under another name.
     RenameColumn {
         column: Name,
         table: Name,
@@ -73,6 +78,7 @@ pub enum Op {
 pub enum OpFault {
     /// The first precondition that fails.
     Refused(OpRefusal),
+    /// Memory ran out.
     NoMemory,
 }
 

@@ -1,19 +1,27 @@
+ghost use Rattle.std.specs.Prelude.{IfOk};
+ghost use Rattle.smo_ops.specs.Operators.{operator_of};
+ghost use Rattle.smo_ops.specs.After.{IsCreateTable};
+
 use crate::test_makers::Step::{Col, Int, Length, Lt, True};
 use crate::test_makers::*;
 use crate::*;
-use prima_base::{ColType, Name, What};
+use prima_base::{ColType, Name, OpKind, What};
 use schema_catalog::Schema;
 use std::alloc::Global;
 use std::process::Abort;
 use std::test::Fail;
 
-fn create(alloc: Global, table: &str, columns: Vec<(Name, ColType)>) -> Result<Op, Fail> {
+fn create(alloc: Global, table: &str, columns: Vec<(Name, ColType)>) -> Result<Op, Fail>
+    ensures { IfOk result (λ op. IsCreateTable (operator_of op)) }
+{
     let table = name(alloc, table)?;
     Ok(Op::CreateTable { table, columns })
 }
 
 // A CREATE TABLE of the columns c0, c1, .., so many, and then these.
-fn wide(alloc: Global, table: &str, count: u32, more: &[&str]) -> Result<Op, Fail> {
+fn wide(alloc: Global, table: &str, count: u32, more: &[&str]) -> Result<Op, Fail>
+    ensures { IfOk result (λ op. IsCreateTable (operator_of op)) }
+{
     let mut columns = Vec::new(alloc);
     for i in 0..count {
         let text = format!(in alloc; "c{i}")?;
@@ -36,16 +44,19 @@ fn many_tables(rt: &impl Abort, alloc: Global, count: u32) -> Result<Schema, Fai
 }
 
 // Whether a CREATE TABLE is answered so.
-fn is_answered(rt: &impl Abort, alloc: Global, schema: &Schema, op: &Op, want: &Want) -> bool {
-    assert!(rt; matches!(op, Op::CreateTable { .. }));
+fn is_answered(alloc: Global, schema: &Schema, op: &Op, want: &Want) -> bool
+    requires { IsCreateTable (operator_of op.now) }
+{
     match after(alloc, schema, op) {
         Ok(_) => matches!(want, Want::Fine),
         Err(fault) => is_op_refused(&fault, want),
     }
 }
 
-// Over so many tables, a new table of so many columns and these more.
-const TABLES: [(u32, &str, u32, &[&str], Want); 7] = [
+// Over so many tables, a CREATE TABLE of a table with so many columns and these more, and its answer.
+type Case = (u32, &'static str, u32, &'static [&'static str], Want);
+
+const TABLES: &[Case] = &[
     (64, "t0", 0, &[], Want::Exists("t0")),
     (64, "u", 0, &[], Want::LastColumn("u")),
     (64, "u", 33, &["c7", "c3"], Want::ColumnExists("u", "c7")),
@@ -55,84 +66,116 @@ const TABLES: [(u32, &str, u32, &[&str], Want); 7] = [
     (0, "t0", 0, &["a"], Want::Fine),
 ];
 
+fn is_refused_so(rt: &impl Abort, alloc: Global, case: &Case) -> Result<bool, Fail> {
+    let (tables, table, count, more, want) = case;
+    let schema = many_tables(rt, alloc, *tables)?;
+    let op = wide(alloc, table, *count, more)?;
+    Ok(is_answered(alloc, &schema, &op, want))
+}
+
 #[test]
 fn a_table_is_refused_at_its_first_fault(rt: HostRuntime) -> Result<(), Fail> {
-    for (at, (tables, table, count, more, want)) in TABLES.iter().enumerate() {
-        let schema = many_tables(&rt, rt.alloc(), *tables)?;
-        let op = wide(rt.alloc(), table, *count, more)?;
-        assert!(rt;
-            is_answered(&rt, rt.alloc(), &schema, &op, want),
-            "table {at}"
-        );
+    for (at, case) in TABLES.iter().enumerate() {
+        let is_so = is_refused_so(&rt, rt.alloc(), case)?;
+        assert!(rt; is_so, "table {at}");
     }
     Ok(())
 }
 
-#[test]
-fn a_new_table_has_its_columns_in_order(rt: HostRuntime) -> Result<(), Fail> {
-    let alloc = rt.alloc();
-    let given = [
-        ("b", ColType::Text),
-        ("B", ColType::Int),
-        ("ab", ColType::Int),
-        ("a", ColType::Text),
-    ];
-    let op = create(alloc, "u", columns(alloc, &given)?)?;
-    assert!(rt; matches!(&op, Op::CreateTable { .. }));
-    let Ok(next) = after(alloc, &two_tables(&rt, alloc)?, &op) else {
-        return Err("refused".into());
-    };
-    assert_eq!(rt; next.len(), 3);
-    let table = next.table(&name(alloc, "u")?).ok_or("no table")?;
+fn accepted(alloc: Global, schema: &Schema, op: &Op) -> Result<Schema, Fail>
+    requires { IsCreateTable (operator_of op.now) }
+{
+    match after(alloc, schema, op) {
+        Ok(next) => Ok(next),
+        Err(_) => Err("refused".into()),
+    }
+}
+
+// The schema behind a CREATE TABLE of these columns, over two tables.
+fn with_new(
+    rt: &impl Abort,
+    alloc: Global,
+    table: &str,
+    columns: Vec<(Name, ColType)>,
+) -> Result<Schema, Fail> {
+    let schema = two_tables(rt, alloc)?;
+    let op = create(alloc, table, columns)?;
+    accepted(alloc, &schema, &op)
+}
+
+// The names of the table's columns, `#` behind an INT and `$` behind a TEXT.
+fn columns_text(alloc: Global, schema: &Schema, table: &str) -> Result<Vec<u8>, Fail> {
+    let table = schema.table(&name(alloc, table)?).ok_or("no table")?;
     let mut text = Vec::new(alloc);
     for (column, kind) in table.columns() {
         text.extend_from_slice(column.bytes())?;
         text.push(if *kind == ColType::Int { b'#' } else { b'$' })?;
     }
-    assert_eq!(rt; text.as_slice(), b"B#a$ab#b$".as_slice());
-    assert!(rt; next.table(&name(alloc, "t")?).is_some());
+    Ok(text)
+}
+
+const GIVEN: [(&str, ColType); 4] = [
+    ("b", ColType::Text),
+    ("B", ColType::Int),
+    ("ab", ColType::Int),
+    ("a", ColType::Text),
+];
+
+#[test]
+fn a_new_table_has_its_columns_in_order(rt: HostRuntime) -> Result<(), Fail> {
+    let alloc = rt.alloc();
+    let next = with_new(&rt, alloc, "u", columns(alloc, &GIVEN)?)?;
+    assert_eq!(rt; next.len(), 3);
+    assert_eq!(rt;
+        columns_text(alloc, &next, "t")?.as_slice(),
+        b"a#b$".as_slice()
+    );
+    assert_eq!(rt;
+        columns_text(alloc, &next, "u")?.as_slice(),
+        b"B#a$ab#b$".as_slice()
+    );
     Ok(())
 }
 
-// An operator of each kind, in the order of their kinds.
-fn of_each_kind(alloc: Global) -> Result<Vec<Op>, Fail> {
-    let mut ops = Vec::new(alloc);
-    ops.push(Op::Nop)?;
-    ops.push(create(alloc, "r", columns(alloc, &[("a", ColType::Int)])?)?)?;
-    ops.push(Op::DropTable {
-        table: name(alloc, "r")?,
-    })?;
-    ops.push(Op::RenameTable {
-        table: name(alloc, "r")?,
-        into: name(alloc, "t")?,
-    })?;
-    ops.push(Op::CopyTable {
-        table: name(alloc, "r")?,
-        into: name(alloc, "t")?,
-    })?;
-    ops.push(Op::MergeTable {
-        left: name(alloc, "r")?,
-        right: name(alloc, "s")?,
-        into: name(alloc, "t")?,
-    })?;
-    ops.push(partition(alloc)?)?;
-    ops.push(decompose(alloc)?)?;
-    ops.push(join(alloc)?)?;
-    ops.push(Op::AddColumn {
-        column: name(alloc, "c")?,
-        expr: expr(alloc, &[Col("b"), Length])?,
-        table: name(alloc, "r")?,
-    })?;
-    ops.push(Op::DropColumn {
-        column: name(alloc, "c")?,
-        table: name(alloc, "r")?,
-    })?;
-    ops.push(Op::RenameColumn {
-        column: name(alloc, "c")?,
-        table: name(alloc, "r")?,
-        into: name(alloc, "d")?,
-    })?;
-    Ok(ops)
+// An operator of this kind.
+fn of_kind(alloc: Global, kind: OpKind) -> Result<Op, Fail> {
+    match kind {
+        OpKind::Nop => Ok(Op::Nop),
+        OpKind::CreateTable => create(alloc, "r", columns(alloc, &[("a", ColType::Int)])?),
+        OpKind::DropTable => Ok(Op::DropTable {
+            table: name(alloc, "r")?,
+        }),
+        OpKind::RenameTable => Ok(Op::RenameTable {
+            table: name(alloc, "r")?,
+            into: name(alloc, "t")?,
+        }),
+        OpKind::CopyTable => Ok(Op::CopyTable {
+            table: name(alloc, "r")?,
+            into: name(alloc, "t")?,
+        }),
+        OpKind::MergeTable => Ok(Op::MergeTable {
+            left: name(alloc, "r")?,
+            right: name(alloc, "s")?,
+            into: name(alloc, "t")?,
+        }),
+        OpKind::PartitionTable => partition(alloc),
+        OpKind::DecomposeTable => decompose(alloc),
+        OpKind::JoinTable => join(alloc),
+        OpKind::AddColumn => Ok(Op::AddColumn {
+            column: name(alloc, "c")?,
+            expr: expr(alloc, &[Col("b"), Length])?,
+            table: name(alloc, "r")?,
+        }),
+        OpKind::DropColumn => Ok(Op::DropColumn {
+            column: name(alloc, "c")?,
+            table: name(alloc, "r")?,
+        }),
+        OpKind::RenameColumn => Ok(Op::RenameColumn {
+            column: name(alloc, "c")?,
+            table: name(alloc, "r")?,
+            into: name(alloc, "d")?,
+        }),
+    }
 }
 
 fn partition(alloc: Global) -> Result<Op, Fail> {
@@ -180,22 +223,44 @@ fn add_names(text: &mut Vec<u8>, names: Made<'_>) -> Result<(), Fail> {
     Ok(())
 }
 
+// Of each kind, the tables that the operator makes, and those that it consumes.
+const TOUCHED: &[(OpKind, &[u8])] = &[
+    (OpKind::Nop, b" / "),
+    (OpKind::CreateTable, b"r / "),
+    (OpKind::DropTable, b" /r "),
+    (OpKind::RenameTable, b"t /r "),
+    (OpKind::CopyTable, b"t / "),
+    (OpKind::MergeTable, b"t /r,s "),
+    (OpKind::PartitionTable, b"s,t /r "),
+    (OpKind::DecomposeTable, b"s,t /r "),
+    (OpKind::JoinTable, b"t /r,s "),
+    (OpKind::AddColumn, b"r /r "),
+    (OpKind::DropColumn, b"r /r "),
+    (OpKind::RenameColumn, b"r /r "),
+];
+
+fn touched(alloc: Global, op: &Op) -> Result<Vec<u8>, Fail> {
+    let mut text = Vec::new(alloc);
+    add_names(&mut text, made(op))?;
+    text.push(b'/')?;
+    add_names(&mut text, consumed(op))?;
+    Ok(text)
+}
+
+fn copied(alloc: Global, kind: OpKind) -> Result<Op, Fail> {
+    let op = of_kind(alloc, kind)?;
+    Ok(op.copy(alloc)?)
+}
+
+fn touched_by(alloc: Global, kind: OpKind) -> Result<Vec<u8>, Fail> {
+    let op = copied(alloc, kind)?;
+    touched(alloc, &op)
+}
+
 #[test]
 fn operators_make_and_consume_tables(rt: HostRuntime) -> Result<(), Fail> {
-    let mut all_made = Vec::new(rt.alloc());
-    let mut all_consumed = Vec::new(rt.alloc());
-    for op in &of_each_kind(rt.alloc())? {
-        let op = op.copy(rt.alloc())?;
-        add_names(&mut all_made, made(&op))?;
-        add_names(&mut all_consumed, consumed(&op))?;
+    for (kind, want) in TOUCHED {
+        assert_eq!(rt; touched_by(rt.alloc(), *kind)?.as_slice(), *want);
     }
-    assert_eq!(rt;
-        all_made.as_slice(),
-        b" r  t t t s,t s,t t r r r ".as_slice()
-    );
-    assert_eq!(rt;
-        all_consumed.as_slice(),
-        b"  r r  r,s r r r,s r r r ".as_slice()
-    );
     Ok(())
 }

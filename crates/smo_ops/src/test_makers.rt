@@ -1,14 +1,16 @@
 // What the tests are made of: trees, changes, schemas, and what an answer is to be.
-use crate::{Change, OpFault};
+ghost use Rattle.std.specs.Prelude.{IfOk};
+ghost use Rattle.smo_ops.specs.Preconditions.{AreNarrow};
+
+use crate::{Body, Change, ChangeFault, Command, OpFault};
 use cond_expr::{CmpOp, ColRef, Cond, Expr, Whose};
-use prima_base::{ColType, Name, OpRefusal, Txt, Value, What};
+use prima_base::{ColType, Name, OpRefusal, Refusal, Txt, Value, What};
 use schema_catalog::{Schema, Table, are_columns};
 use std::alloc::Global;
 use std::process::Abort;
 use std::test::Fail;
 
 // One step of a tree's making, parts before their node.
-#[derive(Drop)]
 pub enum Step {
     Col(&'static str),
     Free(&'static str),
@@ -24,7 +26,6 @@ pub enum Step {
 }
 
 // A change by the steps of its trees.
-#[derive(Drop)]
 pub enum Do {
     Insert(&'static str, &'static [(&'static str, Step)]),
     Delete(&'static str, &'static [Step]),
@@ -32,12 +33,15 @@ pub enum Do {
 }
 
 // What is answered.
-#[derive(Drop)]
 pub enum Want {
     Fine,
+    NoTable(&'static str),
+    NoColumn(&'static str),
+    WrongType(u32),
     Exists(&'static str),
     ColumnExists(&'static str, &'static str),
     LastColumn(&'static str),
+    ColumnMissing(&'static str, &'static str),
     TooMany(What, u64),
 }
 
@@ -89,30 +93,37 @@ impl Making {
             Step::Length => {
                 let part = self.expr()?;
                 self.exprs.push(Expr::length(self.alloc, part)?)?;
+                Ok(())
             }
-            Step::Concat(count) => {
-                let mut parts = Vec::new(self.alloc);
-                for _ in 0..*count {
-                    parts.push(self.expr()?)?;
-                }
-                parts.reverse();
-                self.exprs.push(Expr::concat(parts))?;
-            }
-            Step::Case => {
-                let second = self.expr()?;
-                let first = self.expr()?;
-                let cond = self.cond()?;
-                self.exprs
-                    .push(Expr::case(self.alloc, cond, first, second)?)?;
-            }
-            Step::Eq => self.compare(CmpOp::Eq)?,
-            Step::Lt => self.compare(CmpOp::Lt)?,
+            Step::Concat(count) => self.join(*count),
+            Step::Case => self.choose(),
+            Step::Eq => self.compare(CmpOp::Eq),
+            Step::Lt => self.compare(CmpOp::Lt),
             Step::Not => {
                 let part = self.cond()?;
                 self.conds.push(Cond::not(self.alloc, part)?)?;
+                Ok(())
             }
-            _ => {}
+            _ => Ok(()),
         }
+    }
+
+    fn join(&mut self, count: u32) -> Result<(), Fail> {
+        let mut parts = Vec::new(self.alloc);
+        for _ in 0..count {
+            parts.push(self.expr()?)?;
+        }
+        parts.reverse();
+        self.exprs.push(Expr::concat(parts))?;
+        Ok(())
+    }
+
+    fn choose(&mut self) -> Result<(), Fail> {
+        let cond = self.cond()?;
+        let second = self.expr()?;
+        let first = self.expr()?;
+        self.exprs
+            .push(Expr::case(self.alloc, cond, first, second)?)?;
         Ok(())
     }
 
@@ -193,6 +204,14 @@ pub fn change(alloc: Global, what: &Do) -> Result<Change, Fail> {
     }
 }
 
+// A command that does this.
+pub fn command(body: Body) -> Result<Command, Fail> {
+    match Command::new(5, body) {
+        Some(command) => Ok(command),
+        None => Err("no command".into()),
+    }
+}
+
 pub fn columns(alloc: Global, names: &[(&str, ColType)]) -> Result<Vec<(Name, ColType)>, Fail> {
     let mut columns = Vec::new(alloc);
     for (text, kind) in names {
@@ -207,14 +226,21 @@ pub fn with_table(
     schema: &Schema,
     table: &str,
     names: &[(&str, ColType)],
-) -> Result<Schema, Fail> {
+) -> Result<Schema, Fail>
+    ensures { AreNarrow schema.now → IfOk result (λ s. AreNarrow s) }
+{
     let columns = columns(alloc, names)?;
     assert!(rt; are_columns(&columns), "columns out of order");
-    Ok(schema.with(Table::new(alloc, name(alloc, table)?, columns))?)
+    assert!(rt; columns.len() <= 32, "too many columns");
+    let table = Table::new(alloc, name(alloc, table)?, columns);
+    let next = schema.with(table)?;
+    Ok(next)
 }
 
 // The schema with t (a INT, b TEXT), and w (a INT, b INT, c INT).
-pub fn two_tables(rt: &impl Abort, alloc: Global) -> Result<Schema, Fail> {
+pub fn two_tables(rt: &impl Abort, alloc: Global) -> Result<Schema, Fail>
+    ensures { IfOk result (λ s. AreNarrow s) }
+{
     let int = ColType::Int;
     let none = Schema::empty(alloc);
     let one = with_table(rt, alloc, &none, "t", &[("a", int), ("b", ColType::Text)])?;
@@ -223,6 +249,25 @@ pub fn two_tables(rt: &impl Abort, alloc: Global) -> Result<Schema, Fail> {
 
 fn is(name: &Name, text: &str) -> bool {
     name.bytes() == text.as_bytes()
+}
+
+fn is_refused(refusal: &Refusal, want: &Want) -> bool {
+    match (refusal, want) {
+        (Refusal::NoTable(t), Want::NoTable(u)) => is(t, u),
+        (Refusal::NoColumn(c), Want::NoColumn(d)) => is(c, d),
+        (Refusal::WrongType(p), Want::WrongType(q)) => p == q,
+        (Refusal::ColumnExists(t, c), Want::ColumnExists(u, d)) => is(t, u) && is(c, d),
+        (Refusal::ColumnMissing(t, c), Want::ColumnMissing(u, d)) => is(t, u) && is(c, d),
+        _ => false,
+    }
+}
+
+pub fn is_checked(answer: &Result<(), ChangeFault>, want: &Want) -> bool {
+    match answer {
+        Ok(()) => matches!(want, Want::Fine),
+        Err(ChangeFault::Refused(refusal)) => is_refused(refusal, want),
+        Err(ChangeFault::NoMemory) => false,
+    }
 }
 
 pub fn is_op_refused(fault: &OpFault, want: &Want) -> bool {

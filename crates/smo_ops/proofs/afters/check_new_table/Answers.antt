@@ -1,5 +1,5 @@
-use Rattle.std.proofs.Common.{◌≡◌, ◌≤◌, ℕ, List, length, false, sym, ap, ◌∙◌, arith}
-use Rattle.std.specs.Prelude.{Option, None, ◌==◌}
+use Rattle.std.proofs.Common.{◌≡◌, ◌≤◌, List, length, false, sym, ap, ◌∙◌, arith}
+use Rattle.std.specs.Prelude.{None, ◌==◌}
 use Rattle.std.specs.Option.{option_copied}
 use Rattle.prima_base.specs.Columns.{Column, names_of}
 use Rattle.smo_ops.specs.Preconditions.{first_again}
