@@ -11,6 +11,7 @@ use Rattle.history_store.specs.Store.{Cell, Column, AreColumns, relation_at, All
 use Rattle.history_store.specs.Entries.{all_entries, IsHistory, AreHistories}
 use Rattle.history_store.specs.TableFields.{store_of, IsKept}
 use Rattle.history_store.specs.Handing.{unpaired, handed, new_keys, only_in}
+use Rattle.history_store.specs.Indexes.{Index}
 use Rattle.history_store.specs.Change.{Plan, IsPlan, keys_after, cells_after, write_rows, close_all, no_cells}
 use Rattle.history_store.proofs.Rows.{length-cells_of}
 use Rattle.history_store.proofs.Preparing.{none_stored}
@@ -71,11 +72,11 @@ no_close : (stamp : ℕ) (cells : List (List Cell)) → close_all [] stamp cells
 no_close stamp [] = refl
 no_close stamp (c ∷ cells) = ap (λ cs. c ∷ cs) (no_close stamp cells)
 
-pub first_keys : (columns : List Column) (logs : List (List Write)) (spare : ℕ) (stamp : ℕ) (rows : List (List Value)) (after : List ℕ)
+pub first_keys : (columns : List Column) (logs : List (List Write)) (spare : ℕ) (stamp : ℕ) (rows : List (List Value)) (after : Index)
     → keys_after (store_of columns [] logs spare) (record { stamp = stamp; lost = []; gained = rows; after = after }) ≡ new_keys stamp rows
 first_keys columns logs spare stamp rows after = rw (no_left rows) refl
 
-pub first_cells : (columns : List Column) (logs : List (List Write)) (spare : ℕ) (stamp : ℕ) (rows : List (List Value)) (after : List ℕ) → length logs ≡ length columns
+pub first_cells : (columns : List Column) (logs : List (List Write)) (spare : ℕ) (stamp : ℕ) (rows : List (List Value)) (after : Index) → length logs ≡ length columns
     → cells_after (store_of columns [] logs spare) (record { stamp = stamp; lost = []; gained = rows; after = after }) ≡ write_rows (handed [] 0 rows) rows stamp (no_cells columns)
 first_cells columns logs spare stamp rows after e = rw (no_left rows, none_cells columns logs e) (no_close stamp (write_rows (handed [] 0 rows) rows stamp (no_cells columns)))
 

@@ -1,5 +1,5 @@
 -- What is needed where a plan is carried out.
-use Rattle.std.proofs.Common.{◌≡◌, ℕ, zero, suc, ◌<◌, ◌≤◌, List, [], ◌∷◌, ◌++◌, length, get_or, set, drop, refl, sym, ap, ◌∙◌, subst, arith, inl, inr}
+use Rattle.std.proofs.Common.{◌≡◌, ℕ, zero, suc, ◌+◌, ◌-◌, ◌<◌, ◌≤◌, List, [], ◌∷◌, ◌++◌, length, get_or, set, drop, refl, sym, ap, ◌∙◌, subst, arith, inl, inr}
 use Rattle.std.specs.Prelude.{min, All}
 use Rattle.std.proofs.Math.ListN.{length-set, get_or-append}
 use Rattle.relations.specs.Spans.{Span}
@@ -57,6 +57,13 @@ carried keys lost gained stamp mid e a =
 pub spare_least : (n least : ℕ) (columns : List Log) → n ≤ least_spare least columns → n ≤ least
 spare_least n least [] h = h
 spare_least n least (c ∷ columns) h = spare_least n least columns (grind arith)
+
+-- room for what is gained, among the keys and in the index
+pub key_room : (capacity len index gained : ℕ) → gained ≤ min (capacity - len) index → len ≤ capacity → len + gained ≤ capacity
+key_room capacity len index gained s w = grind arith
+
+pub index_room : (keys capacity len gained more : ℕ) → gained ≤ min keys (capacity - len) → len ≤ capacity → more ≤ gained → len + more ≤ capacity
+index_room keys capacity len gained more s w m = grind arith
 
 pub spare_each : (n least : ℕ) (columns : List Log) → n ≤ least_spare least columns → All (λ c. n ≤ c.spare) columns
 spare_each n least [] h k d b = absurd (omega arith)

@@ -1,5 +1,5 @@
 -- A change of few rows makes a plan.
-use Rattle.std.proofs.Common.{◌≡◌, ◌⊎◌, ℕ, ◌+◌, ◌<◌, Bool, true, false, List, [], ◌∷◌, ◌++◌, length, refl, sym, ap, ◌∙◌, subst, arith, inl, inr, if◌then◌else◌}
+use Rattle.std.proofs.Common.{◌≡◌, ◌⊎◌, ℕ, ◌+◌, ◌<◌, ◌≤◌, Bool, true, false, List, [], ◌∷◌, ◌++◌, length, refl, sym, ap, ◌∙◌, subst, arith, inl, inr, if◌then◌else◌}
 use Rattle.relations.specs.Sets.{In, Ascends, set_of, has}
 use Rattle.relations.specs.Spans.{Span, forever}
 use Rattle.relations.proofs.SetLaws.{before_in, in_append, in_left, in_right, in_has, has_in}
@@ -11,16 +11,17 @@ use Rattle.history_store.specs.Store.{Column, relation_at, IsRow, IsRelation, Al
 use Rattle.history_store.specs.Entries.{all_entries}
 use Rattle.history_store.specs.Table.{row_now, rows_of, IsOpen, IsStored}
 use Rattle.history_store.specs.TableFields.{store_of, IsKept}
-use Rattle.history_store.specs.Handing.{AllWidth, IsHandOver, Distinct, Pairs, AllNext, handed, only_in, logs_handed}
-use Rattle.history_store.specs.Splices.{IsSplit, IsJoined}
-use Rattle.history_store.specs.Change.{IsPlan, rows_after, rows_along, changed}
+use Rattle.history_store.specs.Handing.{unpaired, AllWidth, IsHandOver, Distinct, Pairs, AllNext, handed, only_in, logs_handed}
+use Rattle.history_store.specs.Splices.{IsSplit, IsJoined, IsSpliced}
+use Rattle.history_store.specs.Indexes.{Index, ids_behind, more_ids, IsPlaced}
+use Rattle.history_store.specs.Change.{IsPlan, ids_at, rows_after, rows_along, changed, write_rows, close_all}
 use Rattle.history_store.proofs.Sides.{not_true, set_is}
 use Rattle.history_store.proofs.Now.{rows_of_in, in_rows_of}
 use Rattle.history_store.proofs.Plans.{rows_other, next_rows, handed_is}
 use Rattle.history_store.proofs.Showing.{along_is, current_relation}
 use Rattle.history_store.proofs.Making.{all_wide, more_room}
 use Rattle.history_store.proofs.Moments.{same_id}
-use Rattle.history_store.proofs.Installing.{later, relation_from, along_after}
+use Rattle.history_store.proofs.Installing.{later, relation_from, live_is, along_after}
 
 -- ids of an ascending list
 distinct_ids : (columns : List (List Write)) (ids : List ℕ) → Ascends row_cmp (rows_of ids columns) → Distinct ids
@@ -52,7 +53,22 @@ from_only row (r ∷ rows) others i = by_case (has row_cmp r others) refl i (fro
 
 module _ (columns : List Column) (keys : List Span) (logs : List (List Write)) (live : List ℕ) (spare : ℕ) (k : IsKept columns keys logs live) (stamp : ℕ)
     (b : AllBefore (store_of columns keys logs spare) stamp) (l : stamp < forever) (lost gained : List (List Value)) (r : IsRelation columns lost) (g : IsRelation columns gained)
-    (found kept after : List ℕ) (s : IsSplit logs live found kept lost) (j : IsJoined logs kept (handed found (length keys) gained) after gained) where
+    (found : List ℕ) (index : Index) (spliced : IsSpliced logs live lost (length keys) gained found (ids_behind index live (length keys)))
+    (placed : IsPlaced index live) (more : more_ids index ≤ length gained) where
+  after : List ℕ
+  after = ids_behind index live (length keys)
+
+  kept : List ℕ
+  kept = spliced.kept
+
+  s : IsSplit logs live found kept lost
+  unfolding kept
+  s = spliced.split
+
+  j : IsJoined logs kept (handed found (length keys) gained) after gained
+  unfolding kept after
+  j = spliced.joined
+
   new : List (List Write)
   new = logs_handed keys logs found gained stamp
 
@@ -128,25 +144,30 @@ module _ (columns : List Column) (keys : List Span) (logs : List (List Write)) (
       by (inl x) = (current_relation columns keys logs live k).fitting q (from_only q (rows_of live logs) lost x).0
       by (inr x) = g.fitting q x
 
-  along : (n : ℕ) → rows_after (store_of columns keys logs n) (record { stamp = stamp; lost = found; gained = gained; after = after }) ≡ rows_of after new
-  unfolding rows_after new
-  along n = along_after columns keys logs live n k stamp found gained after (more_room columns keys logs spare n stamp b) l hands
+  before : (n : ℕ) → ids_at (store_of columns keys logs n) stamp ≡ live
+  before n = live_is columns keys logs live n stamp k (more_room columns keys logs spare n stamp b) l
 
-  pub change_fits : (n : ℕ) → IsPlan (store_of columns keys logs n) (record { stamp = stamp; lost = found; gained = gained; after = after })
+  along : (n : ℕ) → rows_after (store_of columns keys logs n) (record { stamp = stamp; lost = found; gained = gained; after = index }) ≡ rows_of after new
+  unfolding rows_after new after
+  along n =
+      ap (λ ids. rows_along (ids_behind index ids (length keys)) stamp (close_all (unpaired found gained) stamp (write_rows (handed found (length keys) gained) gained stamp (all_entries keys logs)))) (before n)
+      ∙ along_after columns keys logs live n k stamp found gained after (more_room columns keys logs spare n stamp b) l hands
+
+  pub change_fits : (n : ℕ) → IsPlan (store_of columns keys logs n) (record { stamp = stamp; lost = found; gained = gained; after = index })
+  unfolding after
   change_fits n = record {
     before = more_room columns keys logs spare n stamp b;
     lawful = l;
-    hands = hands;
+    placed = subst (IsPlaced index) (sym (before n)) placed;
+    more = more;
+    hands = subst (λ ids. IsHandOver keys (length columns) found gained (ids_behind index ids (length keys))) (sym (before n)) hands;
     relation = subst (IsRelation columns) (sym (along n)) (record { ascending = rises; fitting = fits_in });
   }
 
-  pub change_leads : (n : ℕ) → rows_after (store_of columns keys logs n) (record { stamp = stamp; lost = found; gained = gained; after = after }) ≡ changed (relation_at (store_of columns keys logs spare) stamp) lost gained
+  pub change_leads : (n : ℕ) → rows_after (store_of columns keys logs n) (record { stamp = stamp; lost = found; gained = gained; after = index }) ≡ changed (relation_at (store_of columns keys logs spare) stamp) lost gained
   change_leads n =
       along n ∙ sym (set_is (only_in (rows_of live logs) lost ++ gained) (rows_of after new) rises to_rows from_rows)
       ∙ ap (λ rs. set_of row_cmp (only_in rs lost ++ gained)) (sym (relation_from columns keys logs live spare stamp stamp k b (omega arith) l))
 
   pub change_lost : rows_along found stamp (all_entries keys logs) ≡ lost
   change_lost = along_is found stamp stamp keys logs k.histories stored.columns_fit (omega arith) l opens stored.started ∙ s.rows
-
-pub kept_there : (logs : List (List Write)) (live found kept : List ℕ) (lost : List (List Value)) (s : IsSplit logs live found kept lost) (row : List Value) → In row (rows_of kept logs) → In row (rows_of live logs)
-kept_there logs live found kept lost s row i = let w = in_rows_of row kept logs i in subst (λ y. In y (rows_of live logs)) w.2 (rows_of_in w.0 live logs (s.kept_in w.0 w.1))

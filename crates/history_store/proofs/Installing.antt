@@ -11,12 +11,14 @@ use Rattle.history_store.specs.Entries.{all_entries}
 use Rattle.history_store.specs.Table.{row_now, rows_of, no_span, IsOpen, IsStored}
 use Rattle.history_store.specs.TableFields.{store_of, IsKept}
 use Rattle.history_store.specs.Handing.{put_row, put_rows, unpaired, handed, new_keys, keys_handed, logs_handed, Distinct, IsHandOver}
-use Rattle.history_store.specs.Change.{Plan, IsPlan, rows_after, rows_along, cells_after, write_rows, close_all}
+use Rattle.history_store.specs.Change.{Plan, IsPlan, ids_at, ids_after, rows_after, rows_along, cells_after, write_rows, close_all}
+use Rattle.history_store.specs.Indexes.{IsPlaced, ids_behind}
 use Rattle.history_store.proofs.Puts.{row_width}
 use Rattle.history_store.proofs.Plans.{stored_after, before_after, open_after, started_after, unpaired_in, not_both, rows_all}
 use Rattle.history_store.proofs.Now.{at_now, rows_of_in}
 use Rattle.history_store.proofs.Histories.{below_rows}
 use Rattle.history_store.proofs.Entering.{Handed, hand_over, end_over}
+use Rattle.history_store.proofs.Indexing.{ids_are}
 use Rattle.history_store.proofs.Moments.{still_last, still_fit, still_apart}
 use Rattle.history_store.proofs.Showing.{AllBelow, logs_below, below_each, key_before, stored_at, stored_more, along_is, relation_is, all_before}
 
@@ -43,6 +45,11 @@ later columns keys logs live spare stamp m k b l = stored_at columns keys logs l
 pub relation_from : (columns : List Column) (keys : List Span) (logs : List (List Write)) (live : List ℕ) (spare stamp m : ℕ) → IsKept columns keys logs live → AllBefore (store_of columns keys logs spare) stamp → stamp ≤ m → m < forever
     → relation_at (store_of columns keys logs spare) m ≡ rows_of live logs
 relation_from columns keys logs live spare stamp m k b l f = relation_is columns keys logs spare m k.histories ∙ at_now keys logs live m m (later columns keys logs live spare stamp m k b l) (omega arith) f
+
+-- the ids that the table keeps are those of its rows from its last stamp on
+pub live_is : (columns : List Column) (keys : List Span) (logs : List (List Write)) (live : List ℕ) (spare stamp : ℕ) → IsKept columns keys logs live → AllBefore (store_of columns keys logs spare) stamp → stamp < forever
+    → ids_at (store_of columns keys logs spare) stamp ≡ live
+live_is columns keys logs live spare stamp k b l = ids_are columns keys logs live spare stamp k.histories (later columns keys logs live spare stamp stamp k b (omega arith)) l
 
 module _ (columns : List Column) (keys : List Span) (logs : List (List Write)) (live : List ℕ) (spare : ℕ) (k : IsKept columns keys logs live)
     (stamp : ℕ) (lost : List ℕ) (gained : List (List Value)) (after : List ℕ) (b : AllBefore (store_of columns keys logs spare) stamp) (l : stamp < forever) (w : IsHandOver keys (length columns) lost gained after) where
@@ -105,24 +112,30 @@ module _ (columns : List Column) (keys : List Span) (logs : List (List Write)) (
 
 -- the same from a plan
 module _ (columns : List Column) (keys : List Span) (logs : List (List Write)) (live : List ℕ) (spare : ℕ) (k : IsKept columns keys logs live) (p : Plan) (f : IsPlan (store_of columns keys logs spare) p) where
-  pub rows_are : rows_after (store_of columns keys logs spare) p ≡ rows_of p.after (logs_handed keys logs p.lost p.gained p.stamp)
-  unfolding rows_after
-  rows_are = along_after columns keys logs live spare k p.stamp p.lost p.gained p.after f.before f.lawful f.hands
+  pub ids_then : ids_after (store_of columns keys logs spare) p ≡ ids_behind p.after live (length keys)
+  ids_then = ap (λ ids. ids_behind p.after ids (length keys)) (live_is columns keys logs live spare p.stamp k f.before f.lawful)
 
-  pub relation_then : IsRelation columns (rows_of p.after (logs_handed keys logs p.lost p.gained p.stamp))
+  pub placed_then : IsPlaced p.after live
+  placed_then = subst (IsPlaced p.after) (live_is columns keys logs live spare p.stamp k f.before f.lawful) f.placed
+
+  pub rows_are : rows_after (store_of columns keys logs spare) p ≡ rows_of (ids_after (store_of columns keys logs spare) p) (logs_handed keys logs p.lost p.gained p.stamp)
+  unfolding rows_after
+  rows_are = along_after columns keys logs live spare k p.stamp p.lost p.gained (ids_after (store_of columns keys logs spare) p) f.before f.lawful f.hands
+
+  pub relation_then : IsRelation columns (rows_of (ids_after (store_of columns keys logs spare) p) (logs_handed keys logs p.lost p.gained p.stamp))
   relation_then = subst (IsRelation columns) rows_are f.relation
 
-  pub plan_kept : IsKept columns (keys_handed keys p.lost p.gained p.stamp) (logs_handed keys logs p.lost p.gained p.stamp) p.after
-  plan_kept = kept_then columns keys logs live spare k p.stamp p.lost p.gained p.after f.before f.lawful f.hands relation_then
+  pub plan_kept : IsKept columns (keys_handed keys p.lost p.gained p.stamp) (logs_handed keys logs p.lost p.gained p.stamp) (ids_behind p.after live (length keys))
+  plan_kept = subst (IsKept columns (keys_handed keys p.lost p.gained p.stamp) (logs_handed keys logs p.lost p.gained p.stamp)) ids_then (kept_then columns keys logs live spare k p.stamp p.lost p.gained (ids_after (store_of columns keys logs spare) p) f.before f.lawful f.hands relation_then)
 
   pub plan_cells : all_entries (keys_handed keys p.lost p.gained p.stamp) (logs_handed keys logs p.lost p.gained p.stamp) ≡ cells_after (store_of columns keys logs spare) p
-  plan_cells = entries_are columns keys logs live spare k p.stamp p.lost p.gained p.after f.before f.lawful f.hands
+  plan_cells = entries_are columns keys logs live spare k p.stamp p.lost p.gained (ids_after (store_of columns keys logs spare) p) f.before f.lawful f.hands
 
   pub plan_before : (n m : ℕ) → m < p.stamp → relation_at (store_of columns (keys_handed keys p.lost p.gained p.stamp) (logs_handed keys logs p.lost p.gained p.stamp) n) m ≡ relation_at (store_of columns keys logs spare) m
-  plan_before = before_then columns keys logs live spare k p.stamp p.lost p.gained p.after f.before f.lawful f.hands relation_then
+  plan_before = before_then columns keys logs live spare k p.stamp p.lost p.gained (ids_after (store_of columns keys logs spare) p) f.before f.lawful f.hands relation_then
 
   pub plan_from : (n m : ℕ) → p.stamp ≤ m → m < forever → relation_at (store_of columns (keys_handed keys p.lost p.gained p.stamp) (logs_handed keys logs p.lost p.gained p.stamp) n) m ≡ rows_after (store_of columns keys logs spare) p
-  plan_from n m h l = from_then columns keys logs live spare k p.stamp p.lost p.gained p.after f.before f.lawful f.hands relation_then n m h l ∙ sym rows_are
+  plan_from n m h l = from_then columns keys logs live spare k p.stamp p.lost p.gained (ids_after (store_of columns keys logs spare) p) f.before f.lawful f.hands relation_then n m h l ∙ sym rows_are
 
   pub plan_later : (n m : ℕ) → p.stamp < m → AllBefore (store_of columns (keys_handed keys p.lost p.gained p.stamp) (logs_handed keys logs p.lost p.gained p.stamp) n) m
-  plan_later = later_then columns keys logs live spare k p.stamp p.lost p.gained p.after f.before f.lawful f.hands relation_then
+  plan_later = later_then columns keys logs live spare k p.stamp p.lost p.gained (ids_after (store_of columns keys logs spare) p) f.before f.lawful f.hands relation_then

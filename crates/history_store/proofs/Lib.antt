@@ -8,6 +8,7 @@ pub mod Making
 pub mod Counting
 pub mod Moments
 pub mod Installing
+pub mod Indexing
 pub mod Following
 pub mod Showing
 pub mod Lawful

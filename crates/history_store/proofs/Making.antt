@@ -9,6 +9,7 @@ use Rattle.history_store.specs.Entries.{all_entries}
 use Rattle.history_store.specs.Table.{IsStored}
 use Rattle.history_store.specs.TableFields.{store_of, IsKept}
 use Rattle.history_store.specs.Handing.{AllWidth, IsHandOver, only_in, lost_ids, gained_rows, after_ids}
+use Rattle.history_store.specs.Indexes.{Whole}
 use Rattle.history_store.specs.Change.{Plan, IsPlan, rows_after, rows_along}
 use Rattle.history_store.proofs.Planning.{is_plan, plan_rows, lost_is}
 use Rattle.history_store.proofs.Rule.{lost_rule, gained_rule}
@@ -33,7 +34,7 @@ pub more_room : (columns : List Column) (keys : List Span) (logs : List (List Wr
 more_room columns keys logs spare n stamp b = record { keys = b.keys; cells = b.cells }
 
 abbrev pub made : ℕ → List Span → List (List Write) → List ℕ → List (List Value) → Plan
-made stamp keys logs live rows = record { stamp = stamp; lost = lost_ids logs live rows; gained = gained_rows logs live rows; after = after_ids logs live (lost_ids logs live rows) (length keys) rows }
+made stamp keys logs live rows = record { stamp = stamp; lost = lost_ids logs live rows; gained = gained_rows logs live rows; after = Whole (after_ids logs live (lost_ids logs live rows) (length keys) rows) }
 
 module _ (columns : List Column) (keys : List Span) (logs : List (List Write)) (live : List ℕ) (spare : ℕ) (k : IsKept columns keys logs live) (stamp : ℕ)
     (b : AllBefore (store_of columns keys logs spare) stamp) (l : stamp < forever) (rows : List (List Value)) (r : IsRelation columns rows) where
@@ -53,7 +54,7 @@ module _ (columns : List Column) (keys : List Span) (logs : List (List Write)) (
       ∙ plan_rows keys logs live stamp rows s r.ascending w stamp
 
   pub made_fits : (n : ℕ) → IsPlan (store_of columns keys logs n) (made stamp keys logs live rows)
-  made_fits n = record { before = more_room columns keys logs spare n stamp b; lawful = l; hands = hands; relation = subst (IsRelation columns) (sym (made_leads n)) r }
+  made_fits n = record { before = more_room columns keys logs spare n stamp b; lawful = l; placed = tt; more = omega arith; hands = hands; relation = subst (IsRelation columns) (sym (made_leads n)) r }
 
   pub made_gained : gained_rows logs live rows ≡ only_in rows (relation_at (store_of columns keys logs spare) stamp)
   made_gained = gained_rule logs live rows ∙ ap (only_in rows) (sym (relation_from columns keys logs live spare stamp stamp k b (omega arith) l))

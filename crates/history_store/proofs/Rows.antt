@@ -99,7 +99,7 @@ least_more [] k c d least h l = absurd (omega arith)
 least_more (b ∷ columns) zero c d least h l = grind arith
 least_more (b ∷ columns) (suc k) c d least h l = let r = least_more columns k c d least (omega arith) l in grind arith
 
-least_up : (a b : ℕ) (columns : List Log) → a ≤ b → least_spare a columns ≤ least_spare b columns
+pub least_up : (a b : ℕ) (columns : List Log) → a ≤ b → least_spare a columns ≤ least_spare b columns
 least_up a b [] l = l
 least_up a b (c ∷ columns) l = let r = least_up a b columns l in grind arith
 

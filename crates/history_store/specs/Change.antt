@@ -1,19 +1,22 @@
 -- What a stamp writes: the lost rows hand their ids to the gained rows.
-use Rattle.std.specs.Prelude.{ℕ, ◌<◌, ◌&&◌, ◌==◌, Bool, List, [], ◌∷◌, ◌++◌, length, if◌then◌else◌}
+use Rattle.std.specs.Prelude.{ℕ, ◌+◌, ◌<◌, ◌≤◌, ◌&&◌, ◌==◌, Bool, List, [], ◌∷◌, ◌++◌, length, if◌then◌else◌}
+use Rattle.std.specs.Ordering.{nat_cmp, ordering_then}
+use Rattle.std.specs.declared.cmp.Ordering.{Ordering}
 use Rattle.relations.specs.Sets.{set_of}
-use Rattle.relations.specs.Spans.{Span, span, forever}
+use Rattle.relations.specs.Spans.{Span, span, forever, covers}
 use Rattle.prima_base.specs.Order.{value_eq, row_cmp}
 use Rattle.prima_base.specs.declared.values.Value.{Value}
 use Rattle.history_store.specs.Store.{Cell, Column, Store, row_at, IsRelation, AllBefore}
 use Rattle.history_store.specs.Handing.{unpaired, handed, keys_handed, only_in, IsHandOver}
+use Rattle.history_store.specs.Indexes.{Index, ids_behind, more_ids, IsPlaced}
 
--- a change that was made ready: its stamp, the ids of the lost rows, the gained rows, and the ids of the rows
--- behind it in the order of their rows
+-- a change that was made ready: its stamp, the ids of the lost rows, the gained rows, and how the ids of the rows
+-- behind it come from those before it, both in the order of their rows
 pub record Plan : Type 0 where
   pub stamp : ℕ
   pub lost : List ℕ
   pub gained : List (List Value)
-  pub after : List ℕ
+  pub after : Index
 
 -- the entry of this id that still goes on
 abbrev pub goes_on : ℕ → Cell → Bool
@@ -62,6 +65,23 @@ keys_after s p = keys_handed s.keys p.lost p.gained p.stamp
 abbrev pub cells_after : Store → Plan → List (List Cell)
 cells_after s p = close_all (unpaired p.lost p.gained) p.stamp (write_rows (handed p.lost (length s.keys) p.gained) p.gained p.stamp s.cells)
 
+-- the ids whose keys hold at the moment
+abbrev pub ids_from : ℕ → ℕ → List Span → List ℕ
+ids_from id m [] = []
+ids_from id m (k ∷ keys) = if covers k m then id ∷ ids_from (id + 1) m keys else ids_from (id + 1) m keys
+
+-- by the rows of two ids at the moment, then by the ids
+abbrev pub by_rows : ℕ → List (List Cell) → ℕ → ℕ → Ordering
+by_rows m columns i j = ordering_then (row_cmp (row_at i m columns) (row_at j m columns)) (nat_cmp i j)
+
+-- the ids of the rows at the moment, in the order of their rows
+unfoldable pub ids_at : Store → ℕ → List ℕ
+ids_at s m = set_of (by_rows m s.cells) (ids_from 0 m s.keys)
+
+-- the ids of the rows behind the change
+abbrev pub ids_after : Store → Plan → List ℕ
+ids_after s p = ids_behind p.after (ids_at s p.stamp) (length s.keys)
+
 -- the rows of these ids at the moment
 abbrev pub rows_along : List ℕ → ℕ → List (List Cell) → List (List Value)
 rows_along [] m columns = []
@@ -69,7 +89,7 @@ rows_along (id ∷ ids) m columns = row_at id m columns ∷ rows_along ids m col
 
 -- the relation that the change leads to
 unfoldable pub rows_after : Store → Plan → List (List Value)
-rows_after s p = rows_along p.after p.stamp (cells_after s p)
+rows_after s p = rows_along (ids_after s p) p.stamp (cells_after s p)
 
 -- the relation without the lost rows and with the gained ones
 abbrev pub changed : List (List Value) → List (List Value) → List (List Value) → List (List Value)
@@ -79,7 +99,9 @@ changed rows lost gained = set_of row_cmp (only_in rows lost ++ gained)
 pub record IsPlan (s : Store) (p : Plan) : Type 0 where
   pub before : AllBefore s p.stamp
   pub lawful : p.stamp < forever
-  pub hands : IsHandOver s.keys (length s.columns) p.lost p.gained p.after
+  pub placed : IsPlaced p.after (ids_at s p.stamp)
+  pub more : more_ids p.after ≤ length p.gained
+  pub hands : IsHandOver s.keys (length s.columns) p.lost p.gained (ids_after s p)
   pub relation : IsRelation s.columns (rows_after s p)
 
 -- the columns without an entry

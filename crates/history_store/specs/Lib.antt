@@ -7,6 +7,7 @@ pub mod Table
 pub mod Entries
 pub mod Handing
 pub mod Splices
+pub mod Indexes
 pub mod Change
 pub mod TableFields
 pub mod Scans

@@ -1,5 +1,5 @@
 -- The fields of a table.
-use Rattle.std.specs.Prelude.{◌≡◌, ℕ, ◌-◌, ◌<◌, List, length, All, vec_len, vec_capacity, slice_index_or}
+use Rattle.std.specs.Prelude.{◌≡◌, ℕ, ◌-◌, ◌<◌, min, List, length, All, vec_len, vec_capacity, slice_index_or}
 use Rattle.relations.specs.Sets.{In}
 use Rattle.relations.specs.Spans.{Span, forever}
 use Rattle.history_store.specs.declared.columns.Write.{Write}
@@ -14,7 +14,7 @@ abbrev pub store_of : List Column → List Span → List (List Write) → ℕ �
 store_of columns keys logs spare = record { columns = columns; keys = keys; cells = all_entries keys logs; spare = spare }
 
 abbrev pub table_view : Inside → Store
-table_view a = store_of a.columns.items a.keys.items (cells_of a.logs.items) (least_spare (vec_capacity a.keys - vec_len a.keys) a.logs.items)
+table_view a = store_of a.columns.items a.keys.items (cells_of a.logs.items) (least_spare (min (vec_capacity a.keys - vec_len a.keys) (vec_capacity a.live - vec_len a.live)) a.logs.items)
 
 -- the entries of each id fill its key, and `live` has the ids of the current rows in the order of their rows; at
 -- each moment, as now, each id has a row of the columns, and no two have the same

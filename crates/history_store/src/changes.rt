@@ -1,4 +1,4 @@
-ghost use Rattle.std.specs.Prelude.{◌≡◌, OnOk, IfOk, [], ◌+◌, ◌++◌, vec_len, vec_capacity, ◌<◌, ◌≤◌, max, length, All, slice_index_or};
+ghost use Rattle.std.specs.Prelude.{◌≡◌, OnOk, IfOk, [], ◌+◌, ◌-◌, min, ◌++◌, vec_len, vec_capacity, ◌<◌, ◌≤◌, max, length, All, slice_index_or};
 ghost use Rattle.history_store.specs.Logs.{cells_of, least_spare};
 ghost use Rattle.history_store.specs.Handing.{ended_at, put_row, put_rows, handed, unpaired, new_keys, end_keys, keys_handed, logs_handed, AllWidth};
 ghost use Rattle.history_store.specs.Log.{Log};
@@ -121,6 +121,28 @@ pub fn reserve_all(columns: &mut Vec<Column>, more: usize) -> Result<(), NoMemor
         columns[k].reserve(more)?;
     }
     Ok(())
+}
+
+/// Room for this many rows more: for their keys, for their ids in the index, and for a cell of each in each column.
+pub fn reserve_rows(
+    keys: &mut Vec<Period>,
+    live: &mut Vec<usize>,
+    columns: &mut Vec<Column>,
+    more: usize,
+) -> Result<(), NoMemory>
+    ensures keys { keys.new.items ≡ keys.old.items }
+    ensures live { live.new.items ≡ live.old.items }
+    ensures len { vec_len columns.new ≡ vec_len columns.old }
+    ensures cells { cells_of columns.new.items ≡ cells_of columns.old.items }
+    ensures ids { (k : _) (d : Log) → k < vec_len columns.old
+        → (slice_index_or columns.new.items k d).ids ≡ (slice_index_or columns.old.items k d).ids }
+    ensures spare { least_spare (min (vec_capacity keys.old - vec_len keys.old) (vec_capacity live.old - vec_len live.old)) columns.old.items
+        ≤ least_spare (min (vec_capacity keys.new - vec_len keys.new) (vec_capacity live.new - vec_len live.new)) columns.new.items }
+    ensures room { OnOk result (more ≤ least_spare (min (vec_capacity keys.new - vec_len keys.new) (vec_capacity live.new - vec_len live.new)) columns.new.items) }
+{
+    keys.reserve(more)?;
+    live.reserve(more)?;
+    reserve_all(columns, more)
 }
 
 /// Columns without rows.

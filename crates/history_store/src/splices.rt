@@ -1,7 +1,8 @@
 //! The ids of lost rows taken out of the index, and the ids of gained rows put into it. Each row is found by
-//! binary search; the rest is moved without a look at its rows.
+//! binary search; the rest is moved without a look at its rows. Where one row comes and none goes, its place alone
+//! is kept, and nothing is moved before the change is carried out.
 
-ghost use Rattle.std.specs.Prelude.{◌≡◌, ◌+◌, ◌^◌, ◌<◌, ◌≤◌, IfOk, List, ℕ, length, slice_index, slice_index_or};
+ghost use Rattle.std.specs.Prelude.{◌≡◌, ◌+◌, ◌^◌, ◌<◌, ◌≤◌, IfOk, List, ℕ, length, slice_index, slice_index_or, vec_len, vec_capacity};
 ghost use Rattle.std.specs.declared.cmp.Ordering.TheVariants.{Less, Greater};
 ghost use Rattle.relations.specs.Sets.{Ascends, In};
 ghost use Rattle.prima_base.specs.Order.{row_cmp};
@@ -10,12 +11,22 @@ ghost use Rattle.history_store.specs.Log.{Log};
 ghost use Rattle.history_store.specs.Logs.{cells_of};
 ghost use Rattle.history_store.specs.Table.{row_now, rows_of};
 ghost use Rattle.history_store.specs.Handing.{handed, AllWidth};
-ghost use Rattle.history_store.specs.Splices.{IsSplit, IsJoined};
+ghost use Rattle.history_store.specs.Splices.{IsSplit, IsJoined, IsSpliced};
+ghost use Rattle.history_store.specs.Indexes.{index_of, ids_behind, more_ids, IsPlaced};
 
 use crate::columns::Column;
-use crate::walks::{handed_id, place_of};
+use crate::walks::{handed_id, index_in, place_of};
 use prima_base::{NoMemory, Row, Value};
 use std::alloc::Global;
+
+/// The index behind a change.
+#[derive(Drop)]
+pub enum After {
+    /// All its ids.
+    Whole(Vec<usize>),
+    /// The ids of the index before the change, and the next new one at this place.
+    OneMore(usize),
+}
 
 // The place of the id whose row this is.
 fn found_place(columns: &[Column], ids: &[usize], row: &[Value]) -> usize
@@ -104,6 +115,50 @@ pub fn put_in(
     }
     after.extend_from_slice(rest)?;
     Ok(after)
+}
+
+/// The ids of the lost rows, and the index behind the change. For one gained row and none lost that is its place,
+/// which takes no memory.
+pub fn splice(
+    alloc: Global,
+    columns: &[Column],
+    live: &[usize],
+    lost: &[Row],
+    next: usize,
+    gained: &[Row],
+) -> Result<(Vec<usize>, After), NoMemory>
+    requires lost_wide { AllWidth (length columns.now) lost.now }
+    requires gained_wide { AllWidth (length columns.now) gained.now }
+    requires known { (id : ℕ) → In id live.now → (k : ℕ) (d : Log) → k < length columns.now → id < (slice_index_or columns.now k d).ids }
+    requires live_rise { Ascends row_cmp (rows_of live.now (cells_of columns.now)) }
+    requires lost_rise { Ascends row_cmp lost.now }
+    requires gained_rise { Ascends row_cmp gained.now }
+    requires there { (row : List OneValue) → In row lost.now → In row (rows_of live.now (cells_of columns.now)) }
+    requires fresh { (row : List OneValue) → In row gained.now → In row (rows_of live.now (cells_of columns.now)) → ⊥ }
+    requires few { next + length gained.now < 2 ^ 64 }
+    ensures spliced { IfOk result (λ (found, after). IsSpliced (cells_of columns.now) live.now lost.now next gained.now found.items (ids_behind (index_of after) live.now next)) }
+    ensures placed { IfOk result (λ (_found, after). IsPlaced (index_of after) live.now) }
+    ensures more { IfOk result (λ (_found, after). more_ids (index_of after) ≤ length gained.now) }
+{
+    if lost.is_empty() && gained.len() == 1 {
+        let at = free_place(columns, live, gained[0].values());
+        return Ok((Vec::new(alloc), After::OneMore(at)));
+    }
+    let (found, kept) = take_out(alloc, columns, live, lost)?;
+    let after = put_in(alloc, columns, &kept, &found, next, gained)?;
+    Ok((found, After::Whole(after)))
+}
+
+/// Makes the index the one behind the change. It takes no memory.
+pub fn change_index(live: &mut Vec<usize>, after: After, next: usize)
+    requires placed { IsPlaced (index_of after) live.old.items }
+    requires room { vec_len live.old + more_ids (index_of after) ≤ vec_capacity live.old }
+    ensures { live.new.items ≡ ids_behind (index_of after) live.old.items next }
+{
+    match after {
+        After::Whole(ids) => *live = ids,
+        After::OneMore(at) => index_in(live, at, next),
+    }
 }
 
 /// Equal rows.

@@ -1,7 +1,7 @@
-use crate::changes::{carry_out, empty_columns, reserve_all};
+use crate::changes::{carry_out, empty_columns, reserve_rows};
 use crate::columns::Column;
 use crate::scans::{CellScan, KeyScan};
-use crate::splices::{copy_given, put_in, take_out};
+use crate::splices::{After, change_index, copy_given, splice};
 use crate::walks::{
     Difference, column_place, copy_columns, copy_rows, find_difference, next_ids, place_of,
 };
@@ -38,7 +38,7 @@ pub struct Prepared {
     stamp: u64,
     lost: Vec<usize>,
     gained: Vec<Row>,
-    after: Vec<usize>,
+    after: After,
 }
 
 impl Model for Prepared {
@@ -46,7 +46,27 @@ impl Model for Prepared {
 
     ghost Value = { Plan };
 
-    ghost view = { λ p. record { stamp = p.stamp; lost = p.lost.items; gained = p.gained.items; after = p.after.items } };
+    ghost use Rattle.history_store.specs.Indexes.{index_of};
+
+    ghost view = { λ p. record { stamp = p.stamp; lost = p.lost.items; gained = p.gained.items; after = index_of p.after } };
+}
+
+impl Prepared {
+    ghost use Rattle.std.specs.Prelude.{◌≡◌, length};
+
+    /// How many rows the change gains.
+    pub fn gained(&self) -> u64
+        ensures { result ≡ length self.now.gained }
+    {
+        self.gained.len() as u64
+    }
+
+    /// How many rows the change loses.
+    pub fn lost(&self) -> u64
+        ensures { result ≡ length self.now.lost }
+    {
+        self.lost.len() as u64
+    }
 }
 
 impl StoredTable {
@@ -116,19 +136,20 @@ impl StoredTable {
             gained,
         } = find_difference(self.alloc, &self.logs, &self.live, rows)?;
         let after = next_ids(self.alloc, &owners, &lost, self.keys.len())?;
-        self.keys.reserve(gained.len())?;
-        reserve_all(&mut self.logs, gained.len())?;
+        reserve_rows(&mut self.keys, &mut self.live, &mut self.logs, gained.len())?;
         Ok(Prepared {
             stamp,
             lost,
             gained,
-            after,
+            after: After::Whole(after),
         })
     }
 
     /// Makes the change that loses and gains these rows ready, and all the room that installing it needs. Each
     /// row is found by binary search: for m rows in a table of n that is in the order of m log n comparisons of
-    /// rows. The one error is `NoMemory`, where memory runs out.
+    /// rows. Where one row is gained and none lost, the index of the current rows is not copied: the place of the new
+    /// id in it is kept, and room for one more reserved, as `Vec::reserve` does. The one error is `NoMemory`, where
+    /// memory runs out.
     pub fn prepare_change(
         &mut self,
         stamp: u64,
@@ -153,18 +174,16 @@ impl StoredTable {
         if self.keys.len().checked_add(gained.len()).is_none() {
             return Err(NoMemory);
         }
-        let (found, kept) = take_out(self.alloc, &self.logs, &self.live, lost)?;
-        let after = put_in(
+        let (found, after) = splice(
             self.alloc,
             &self.logs,
-            &kept,
-            &found,
+            &self.live,
+            lost,
             self.keys.len(),
             gained,
         )?;
         let gained = copy_given(self.alloc, gained)?;
-        self.keys.reserve(gained.len())?;
-        reserve_all(&mut self.logs, gained.len())?;
+        reserve_rows(&mut self.keys, &mut self.live, &mut self.logs, gained.len())?;
         Ok(Prepared {
             stamp,
             lost: found,
@@ -174,7 +193,8 @@ impl StoredTable {
     }
 
     /// Carries out what was made ready: from its stamp on the relation is the one that it was made for,
-    /// and before it nothing changes. It takes no memory.
+    /// and before it nothing changes. It takes no memory. The index of the current rows gets the one new id at its
+    /// place, which moves the ids behind it, or it is replaced by the whole one that was made ready.
     pub fn install(&mut self, prepared: Prepared)
         requires fits { IsPlan self.old prepared }
         requires room { length prepared.gained ≤ self.old.spare }
@@ -195,8 +215,9 @@ impl StoredTable {
             gained,
             after,
         } = prepared;
+        let next = self.keys.len();
         carry_out(&mut self.keys, &mut self.logs, &lost, gained, stamp);
-        self.live = after;
+        change_index(&mut self.live, after, next);
     }
 
     /// Copies of the current rows, ascending. The one error is `NoMemory`, where memory runs out.

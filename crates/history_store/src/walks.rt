@@ -2,6 +2,7 @@ ghost use Rattle.std.specs.Prelude.{IfSome, option_map, List};
 ghost use Rattle.history_store.specs.declared.columns.Write.{Write as OneWrite};
 ghost use Rattle.history_store.specs.Store.{Cell, named};
 ghost use Rattle.std.specs.Prelude.{◌≡◌, [], slice_index, IfErr, vec_len, vec_capacity, ◌⊎◌, ◌∷◌, ℕ, Option, ◌+◌, ◌^◌, ◌<◌, ◌≤◌, ◌++◌, drop, length, All, slice_index_or, IfOk, OnOk};
+ghost use Rattle.std.specs.List.{insert};
 ghost use Rattle.history_store.specs.Logs.{cells_of};
 ghost use Rattle.history_store.specs.Log.{Log};
 ghost use Rattle.prima_base.specs.Order.{row_cmp};
@@ -245,19 +246,10 @@ pub fn place_of(columns: &[Column], live: &[usize], row: &[Value]) -> Result<usi
 }
 
 /// Puts the id at this place of the index. It takes no memory.
-pub fn index_in(columns: &[Column], live: &mut Vec<usize>, id: usize, at: usize)
+pub fn index_in(live: &mut Vec<usize>, at: usize, id: usize)
     requires room { vec_len live.old < vec_capacity live.old }
     requires within { at ≤ vec_len live.old }
-    requires live_rise { Ascends row_cmp (rows_of live.old.items (cells_of columns.now)) }
-    requires before { (k : _) → k < at → row_cmp (row_now (slice_index live.old.items k) (cells_of columns.now))
-        (row_now id (cells_of columns.now)) ≡ Ordering.Less }
-    requires after { (k : _) → at ≤ k → k < vec_len live.old → row_cmp (row_now (slice_index live.old.items k) (cells_of columns.now))
-        (row_now id (cells_of columns.now)) ≡ Ordering.Greater }
-    ensures live_rise { Ascends row_cmp (rows_of live.new.items (cells_of columns.now)) }
-    ensures mine { In id live.new.items }
-    ensures old { (q : _) → In q live.old.items → In q live.new.items }
-    ensures new { (q : _) → In q live.new.items → (q ≡ id) ⊎ In q live.old.items }
-    ensures room { vec_capacity live.new ≡ vec_capacity live.old }
+    ensures { live.new.items ≡ insert live.old.items at id }
 {
     if live.insert(at, id).is_err() {
         unreachable!();

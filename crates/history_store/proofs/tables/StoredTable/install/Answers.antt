@@ -1,12 +1,12 @@
-use Rattle.std.proofs.Common.{rules, length, sym, ◌∙◌, subst, arith, vec_len, vec_capacity, ◌≤◌}
+use Rattle.std.proofs.Common.{rules, ◌≡◌, ◌-◌, length, sym, ◌∙◌, subst, arith, vec_len, vec_capacity, ◌≤◌}
 use Rattle.std.proofs.lemmas.Grind.{common_steps}
 use Rattle.history_store.specs.Handing.{AllWidth}
 use Rattle.history_store.specs.Logs.{cells_of}
-use Rattle.history_store.proofs.Carry.{known, spare_least, spare_each}
+use Rattle.history_store.proofs.Carry.{known, spare_least, spare_each, key_room, index_room}
 use Rattle.history_store.proofs.Rows.{length-cells_of}
 use Rattle.history_store.proofs.Showing.{key_before}
 use Rattle.history_store.proofs.Lawful.{is_store}
-use Rattle.history_store.proofs.Installing.{plan_kept, plan_cells, plan_before, plan_from, plan_later}
+use Rattle.history_store.proofs.Installing.{placed_then, plan_kept, plan_cells, plan_before, plan_from, plan_later}
 use Rattle.history_store.proofs.Rule.{key_count}
 use Rattle.history_store.proofs.Totals.{plan_count}
 use Rattle.history_store.proofs.tables.StoredTable.install.Goals as goal
@@ -36,14 +36,30 @@ carry_out-requires-clause-key_room c =
     let r = rw (← c.self.view_is, ← c.prepared.view_is) at c.requires.room in
     let s = spare_least (length c.prepared.inside.gained.items) _ c.self.inside.logs.items r in
     let w : vec_len c.self.inside.keys ≤ vec_capacity c.self.inside.keys = grind (arith, common_steps) in
-    omega (arith, s)
+    key_room (vec_capacity c.self.inside.keys) (vec_len c.self.inside.keys) (vec_capacity c.self.inside.live - vec_len c.self.inside.live) _ s w
+
+pub change_index-requires-clause-placed : goal.change_index-requires-clause-placed
+change_index-requires-clause-placed c =
+    let a = c.self.inside in
+    let f = rw (← c.self.view_is, ← c.prepared.view_is) at c.requires.fits in
+    placed_then a.columns.items a.keys.items (cells_of a.logs.items) a.live.items _ c.self.invariant.kept _ f
+
+pub change_index-requires-clause-room : goal.change_index-requires-clause-room
+change_index-requires-clause-room c =
+    let a = c.self.inside in
+    let f = rw (← c.self.view_is, ← c.prepared.view_is) at c.requires.fits in
+    let r = rw (← c.self.view_is, ← c.prepared.view_is) at c.requires.room in
+    let s = spare_least (length c.prepared.inside.gained.items) _ a.logs.items r in
+    let w : vec_len a.live ≤ vec_capacity a.live = grind (arith, common_steps) in
+    index_room (vec_capacity a.keys - vec_len a.keys) (vec_capacity a.live) (vec_len a.live) _ _ s w f.more
 
 pub invariant_of-self : goal.invariant_of-self
 invariant_of-self c =
     let a = c.self.inside in
     let f = rw (← c.self.view_is, ← c.prepared.view_is) at c.requires.fits in
+    let n : c.len-next.result ≡ length a.keys.items = search rules in
     record {
-      kept = rw (c.carry_out.ensures.keys, c.carry_out.ensures.cells, c.deref.ensures.value) (plan_kept a.columns.items a.keys.items (cells_of a.logs.items) a.live.items _ c.self.invariant.kept _ f);
+      kept = rw (c.carry_out.ensures.keys, c.carry_out.ensures.cells, c.deref.ensures.value, c.change_index.ensures, n) (plan_kept a.columns.items a.keys.items (cells_of a.logs.items) a.live.items _ c.self.invariant.kept _ f);
       ids = λ k d b. c.carry_out.ensures.ids k d b ∙ search rules;
     }
 
