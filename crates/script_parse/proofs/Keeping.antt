@@ -2,11 +2,10 @@
 use Rattle.std.proofs.Common.{◌≡◌, ◌≤◌, ◌+◌, ℕ, Bool, true, false, List, [], ◌∷◌, ◌++◌, length, refl, sym, ap, ◌∙◌, arith, length-append}
 use Rattle.std.specs.Prelude.{◌&&◌, nat_lt}
 use Rattle.std.proofs.lemmas.Bool.Decides.{nat_tests}
-use Rattle.script_parse.specs.Script.{next, is_too_long, mode_after, all_quiet, is_quiet}
+use Rattle.script_parse.specs.Script.{next, is_too_long, mode_after, all_quiet, is_quiet, longest_statement}
 use Rattle.script_parse.specs.Splitting.{keep, IsTracked}
 use Rattle.script_parse.specs.declared.modes.Mode.{Mode}
 use Rattle.script_parse.specs.declared.modes.Mode.TheVariants.{Plain}
-use Rattle.script_parse.specs.declared.TheConstants.{MAX_STATEMENT}
 
 pub mode_append : (xs : List ℕ) (m : Mode) (b : ℕ) → mode_after m (xs ++ b ∷ []) ≡ next (mode_after m xs) b
 mode_append [] m b = refl
@@ -33,7 +32,7 @@ room m b c h = grind (arith, length-append c (b ∷ []), nat_tests)
 -- one more byte that was kept
 tracked_kept : (m : Mode) (c : List ℕ) (q : Bool) (b : ℕ) → is_too_long c ≡ false → IsTracked m c q → IsTracked (next m b) (c ++ b ∷ []) (q && is_quiet m b)
 tracked_kept m c q b short h = record {
-  short = room MAX_STATEMENT b c short;
+  short = room longest_statement b c short;
   mode_is = λ e. ap (λ n. next n b) (h.mode_is short) ∙ sym (mode_append c Plain b);
   quiet_is = λ e. ap (λ n. q && is_quiet n b) (h.mode_is short) ∙ ap (λ p. p && is_quiet (mode_after Plain c) b) (h.quiet_is short) ∙ sym (quiet_append c Plain b);
 }

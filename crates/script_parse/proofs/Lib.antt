@@ -1,4 +1,14 @@
-pub mod Reading
+pub mod ScriptReading
 pub mod Keeping
 pub mod Joins
 pub mod Padding
+mod Worked
+pub mod TextLexing
+pub mod Alternatives
+pub mod StatementGoodness
+pub mod FirstFaults
+pub mod ReadingLaws
+pub mod ConstantSteps
+pub mod BodySteps
+pub mod TokenReading
+pub mod OneReading

@@ -2,3 +2,8 @@ pub mod Joining
 pub mod Pads
 pub mod Script
 pub mod Splitting
+pub mod Statements
+pub mod Lexing
+pub mod Productions
+pub mod StatementReader
+pub mod Reading

@@ -5,7 +5,10 @@ use Rattle.script_parse.specs.declared.modes.Mode.{Mode}
 use Rattle.script_parse.specs.declared.modes.Mode.TheVariants.{Plain, Dash, Quoted, Comment}
 use Rattle.script_parse.specs.declared.splitter.Tail.{Tail}
 use Rattle.script_parse.specs.declared.splitter.Tail.TheVariants.{Clean, Unfinished, TooLong}
-use Rattle.script_parse.specs.declared.TheConstants.{MAX_STATEMENT}
+
+-- the most bytes of a statement, without its `;`: 2 ^ 20
+abbrev pub longest_statement : ℕ
+longest_statement = 1048576
 
 -- where a byte leaves a script: a quote (39) opens a text literal and closes it, so a doubled one closes it and
 -- opens it again; two dashes (45) outside one open a comment, which ends at the next LF (10)
@@ -44,7 +47,7 @@ abbrev pub tail_of : List ℕ → List ℕ
 tail_of script = tail_from Plain [] script
 
 abbrev pub is_too_long : List ℕ → Bool
-is_too_long statement = nat_lt MAX_STATEMENT (length statement)
+is_too_long statement = nat_lt longest_statement (length statement)
 
 -- what is handed on of a statement: its bytes, or that it is too long
 pub data Piece : Type 0 where

@@ -1,7 +1,6 @@
 -- What a splitter knows of the statement that it is in.
-use Rattle.std.specs.Prelude.{◌≡◌, ℕ, ◌+◌, ◌-◌, ◌≤◌, List, [], ◌∷◌, ◌++◌, Bool, false, length, drop, if◌then◌else◌}
-use Rattle.script_parse.specs.Script.{next, mode_after, all_quiet, is_too_long, Piece, Whole, Skipped}
-use Rattle.script_parse.specs.declared.TheConstants.{MAX_STATEMENT}
+use Rattle.std.specs.Prelude.{◌≡◌, ℕ, ◌+◌, ◌-◌, ◌<◌, ◌≤◌, List, [], ◌∷◌, ◌++◌, Bool, false, length, drop, if◌then◌else◌}
+use Rattle.script_parse.specs.Script.{next, mode_after, all_quiet, is_too_long, Piece, Whole, Skipped, longest_statement}
 use Rattle.script_parse.specs.declared.modes.Mode.{Mode}
 use Rattle.script_parse.specs.declared.modes.Mode.TheVariants.{Plain}
 use Rattle.script_parse.specs.declared.splitter.Cut.{Cut}
@@ -27,7 +26,7 @@ step state byte = record { mode = next state.mode byte; kept = keep state.kept b
 
 -- what is kept of a statement that is not too long leaves the script in `mode`, and is `quiet` or not
 pub record IsTracked (mode : Mode) (kept : List ℕ) (quiet : Bool) : Type 0 where
-  pub short : length kept ≤ MAX_STATEMENT + 1
+  pub short : length kept ≤ longest_statement + 1
   pub mode_is : is_too_long kept ≡ false → mode ≡ mode_after Plain kept
   pub quiet_is : is_too_long kept ≡ false → quiet ≡ all_quiet Plain kept
 
@@ -46,3 +45,15 @@ abbrev pub IsSettled : Cut → List ℕ → State → Type 0
 IsSettled More rest state = rest ≡ []
 IsSettled (Text statement) rest state = state ≡ fresh
 IsSettled TooLong rest state = state ≡ fresh
+
+-- behind a cut fewer bytes are left
+abbrev pub IsFewer : Cut → List ℕ → List ℕ → Type 0
+IsFewer More rest bytes = Unit {0}
+IsFewer (Text statement) rest bytes = length rest < length bytes
+IsFewer TooLong rest bytes = length rest < length bytes
+
+-- a statement that is handed on is not too long
+abbrev pub IsWithin : Cut → Type 0
+IsWithin More = Unit {0}
+IsWithin (Text statement) = length statement.items ≤ longest_statement
+IsWithin TooLong = Unit {0}

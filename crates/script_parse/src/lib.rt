@@ -1,12 +1,26 @@
-//! Scripts, as they come in: cut into statements, wherever the pieces in which they come begin and end.
+//! Scripts, as they come in: cut into statements, wherever the pieces in which they come begin and end, and
+//! each statement read from its text.
 //!
 //! A statement goes up to the next `;` that stands neither in a text literal nor in a comment. A contract
-//! sees a splitter as what it knows of the current statement; `specs/` reads a whole script.
+//! sees a splitter as what it knows of the current statement; `specs/Script.antt` reads a whole script.
+//!
+//! The grammar of statements stands in `specs/Productions.antt`, over the one of expressions and conditions.
+//! What a text is read as is defined twice: as a function (`reading`), and in the words of the grammar
+//! (`IsReading`, in `specs/Reading.antt`). Laws join the two.
 #![tactic(auto)]
 
+mod change_reader;
+mod evolve_reader;
 mod laws;
 mod modes;
+#[cfg(test)]
+mod shown;
 mod splitter;
+mod statement_laws;
+mod statement_reader;
+#[cfg(test)]
+mod statement_tests;
+mod statements;
 #[cfg(test)]
 mod tests;
 
@@ -14,6 +28,12 @@ pub use laws::{
     clean_is_blanks_and_comments, script_is_its_statements, statements_are_of_a_script,
 };
 pub use splitter::{Cut, Splitter, Tail};
+pub use statement_laws::{
+    readings_are_of_the_grammar, readings_are_one, statements_are_good, statements_are_read,
+    texts_are_lexed,
+};
+pub use statement_reader::read;
+pub use statements::{Reading, Selection, Statement};
 
 /// The bytes of the longest statement, without its `;`.
 pub const MAX_STATEMENT: usize = 1_048_576;

@@ -1,3 +1,5 @@
+//! Where a script stands behind some bytes: in plain text, a text literal or a comment.
+
 ghost use Rattle.std.specs.Prelude.{◌≡◌, ◌==◌, ◌&&◌, if◌then◌else◌};
 ghost use Rattle.script_parse.specs.Script.{next, is_end, is_blank, is_quiet, is_settled};
 

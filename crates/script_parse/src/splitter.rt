@@ -1,3 +1,5 @@
+//! The splitter: from pieces of a script to its statements.
+
 use crate::MAX_STATEMENT;
 use crate::modes::Mode;
 use prima_base::NoMemory;
@@ -50,8 +52,8 @@ pub enum Tail {
 }
 
 ghost use Rattle.std.specs.Prelude.{◌≡◌, ◌+◌, ◌≤◌, ℕ, List, [], ◌∷◌, ◌++◌, ◌&&◌, false, true, length, IfOk, OnOk, OnErr};
-ghost use Rattle.script_parse.specs.Script.{is_end, is_too_long, piece_of, pieces_from, tail_from, ending, all_quiet, is_settled};
-ghost use Rattle.script_parse.specs.Splitting.{State, fresh, keep, step, found, IsEndOf, IsSettled};
+ghost use Rattle.script_parse.specs.Script.{is_end, is_too_long, longest_statement, piece_of, pieces_from, tail_from, ending, all_quiet, is_settled};
+ghost use Rattle.script_parse.specs.Splitting.{State, fresh, keep, step, found, IsEndOf, IsSettled, IsFewer, IsWithin};
 
 fn is_too_long(statement: &[u8]) -> bool
     ensures { result ≡ is_too_long statement.now }
@@ -94,7 +96,7 @@ impl Splitter {
     fn keep(&mut self, byte: u8) -> Result<(), NoMemory>
         ensures ok { OnOk result (self.new ≡ step self.old byte) }
         ensures err { OnErr result (self.new.spent ≡ true) }
-        ensures short { length self.new.kept ≤ MAX_STATEMENT + 1 }
+        ensures short { length self.new.kept ≤ longest_statement + 1 }
     {
         match put(&mut self.kept, byte) {
             Ok(()) => {
@@ -113,6 +115,7 @@ impl Splitter {
     fn end(&mut self) -> Cut
         requires { self.old.spent ≡ false }
         ensures cut { found result ≡ piece_of self.old.kept ∷ [] }
+        ensures within { IsWithin result }
         ensures next { self.new ≡ fresh }
     {
         let kept = mem::replace(&mut self.kept, Vec::new(self.alloc));
@@ -128,15 +131,17 @@ impl Splitter {
     /// Takes the bytes up to the end of a statement, or all of them, and answers the cut and the bytes
     /// that are left. The one error is `NoMemory`, where memory runs out; the splitter is spent then, and
     /// answers `NoMemory` from then on.
-    #[tactic(auto, using(crate::proofs::Reading::rest_is_end))]
+    #[tactic(auto, using(crate::proofs::ScriptReading::rest_is_end))]
     pub fn feed<'b>(&mut self, bytes: &'b [u8]) -> Result<(Cut, &'b [u8]), NoMemory>
         ensures statements { (more : List ℕ) → IfOk result (λ r. pieces_from self.old.mode self.old.kept (bytes.now ++ more)
             ≡ found r.0 ++ pieces_from self.new.mode self.new.kept (r.1.now ++ more)) }
         ensures tail { (more : List ℕ) → IfOk result (λ r. ending (tail_from self.old.mode self.old.kept (bytes.now ++ more))
             ≡ ending (tail_from self.new.mode self.new.kept (r.1.now ++ more))) }
         ensures rest { IfOk result (λ r. IsEndOf r.1.now bytes.now) }
+        ensures fewer { IfOk result (λ r. IsFewer r.0 r.1.now bytes.now) }
+        ensures within { IfOk result (λ r. IsWithin r.0) }
         ensures settled { IfOk result (λ r. IsSettled r.0 r.1.now self.new) }
-        ensures kept { length self.new.kept ≤ MAX_STATEMENT + 1 }
+        ensures kept { length self.new.kept ≤ longest_statement + 1 }
         ensures before { OnOk result (self.old.spent ≡ false) }
         ensures after { OnOk result (self.new.spent ≡ false) }
         ensures spent { OnErr result (self.new.spent ≡ true) }

@@ -101,7 +101,7 @@ fn cuts_are_the_same_in_any_pieces(rt: HostRuntime) -> Result<(), Fail> {
     for size in 1..41usize {
         assert_eq!(rt; cuts_of(rt.alloc(), SCRIPT, 0, size)?.as_slice(), CUTS);
     }
-    for first in 0..SCRIPT.len() {
+    for first in 0..=SCRIPT.len() {
         assert_eq!(rt; cuts_of(rt.alloc(), SCRIPT, first, 200)?.as_slice(), CUTS);
     }
     let mut splitter = Splitter::new(rt.alloc());

@@ -1,5 +1,5 @@
 use Rattle.std.proofs.Common.{◌∙◌, sym}
-use Rattle.script_parse.proofs.Reading.{pieces_turn, endings_turn}
+use Rattle.script_parse.proofs.ScriptReading.{pieces_turn, endings_turn}
 use Rattle.script_parse.proofs.splitter.Splitter.feed.Goals as goal
 
 pub loop-i-preserved : goal.loop-i-preserved

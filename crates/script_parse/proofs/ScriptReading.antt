@@ -3,12 +3,11 @@ use Rattle.std.proofs.Common.{◌≡◌, ◌<◌, ◌≤◌, ◌+◌, ◌-◌, �
 use Rattle.std.specs.Prelude.{cond, nat_lt}
 use Rattle.std.proofs.lemmas.Bool.Decides.{nat_tests}
 use Rattle.std.proofs.lemmas.List.{drop_more, take_all}
-use Rattle.script_parse.specs.Script.{next, is_end, is_too_long, statements_from, tail_from, Skipped, piece_of, pieces_from, ending}
+use Rattle.script_parse.specs.Script.{next, is_end, is_too_long, statements_from, tail_from, Skipped, piece_of, pieces_from, ending, longest_statement}
 use Rattle.script_parse.specs.Splitting.{keep, IsEndOf}
 use Rattle.script_parse.specs.declared.modes.Mode.{Mode}
 use Rattle.script_parse.specs.declared.modes.Mode.TheVariants.{Plain}
 use Rattle.script_parse.specs.declared.splitter.Tail.TheVariants.{TooLong}
-use Rattle.script_parse.specs.declared.TheConstants.{MAX_STATEMENT}
 
 -- a too long statement stays too long
 still_long : (m b : ℕ) (c : List ℕ) → nat_lt m (length c) ≡ true → nat_lt m (length (c ++ b ∷ [])) ≡ true
@@ -27,7 +26,7 @@ pieces_alike (b ∷ bs) m c d hc hd =
     elim (is_end m b) as (λ v. map piece_of (cond v (c ∷ statements_from Plain [] bs) (statements_from (next m b) (c ++ b ∷ []) bs))
     ≡ map piece_of (cond v (d ∷ statements_from Plain [] bs) (statements_from (next m b) (d ++ b ∷ []) bs))) [
       | true ↦ ap (λ p. p ∷ pieces_from Plain [] bs) (piece_long c hc ∙ sym (piece_long d hd))
-      | false ↦ pieces_alike bs (next m b) (c ++ b ∷ []) (d ++ b ∷ []) (still_long MAX_STATEMENT b c hc) (still_long MAX_STATEMENT b d hd)
+      | false ↦ pieces_alike bs (next m b) (c ++ b ∷ []) (d ++ b ∷ []) (still_long longest_statement b c hc) (still_long longest_statement b d hd)
     ]
 
 pub endings_alike : (bs : List ℕ) (m : Mode) (c d : List ℕ) → is_too_long c ≡ true → is_too_long d ≡ true → ending (tail_from m c bs) ≡ ending (tail_from m d bs)
@@ -36,21 +35,21 @@ endings_alike (b ∷ bs) m c d hc hd =
     elim (is_end m b) as (λ v. ending (cond v (tail_from Plain [] bs) (tail_from (next m b) (c ++ b ∷ []) bs))
     ≡ ending (cond v (tail_from Plain [] bs) (tail_from (next m b) (d ++ b ∷ []) bs))) [
       | true ↦ refl
-      | false ↦ endings_alike bs (next m b) (c ++ b ∷ []) (d ++ b ∷ []) (still_long MAX_STATEMENT b c hc) (still_long MAX_STATEMENT b d hd)
+      | false ↦ endings_alike bs (next m b) (c ++ b ∷ []) (d ++ b ∷ []) (still_long longest_statement b c hc) (still_long longest_statement b d hd)
     ]
 
 kept_pieces : (bs : List ℕ) (m : Mode) (c : List ℕ) (b : ℕ) → pieces_from m (c ++ b ∷ []) bs ≡ pieces_from m (keep c b) bs
 kept_pieces bs m c b = by (is_too_long c) refl
   where
     by : (v : Bool) → is_too_long c ≡ v → pieces_from m (c ++ b ∷ []) bs ≡ pieces_from m (keep c b) bs
-    by true e = rw e (pieces_alike bs m (c ++ b ∷ []) c (still_long MAX_STATEMENT b c e) e)
+    by true e = rw e (pieces_alike bs m (c ++ b ∷ []) c (still_long longest_statement b c e) e)
     by false e = rw e refl
 
 kept_endings : (bs : List ℕ) (m : Mode) (c : List ℕ) (b : ℕ) → ending (tail_from m (c ++ b ∷ []) bs) ≡ ending (tail_from m (keep c b) bs)
 kept_endings bs m c b = by (is_too_long c) refl
   where
     by : (v : Bool) → is_too_long c ≡ v → ending (tail_from m (c ++ b ∷ []) bs) ≡ ending (tail_from m (keep c b) bs)
-    by true e = rw e (endings_alike bs m (c ++ b ∷ []) c (still_long MAX_STATEMENT b c e) e)
+    by true e = rw e (endings_alike bs m (c ++ b ∷ []) c (still_long longest_statement b c e) e)
     by false e = rw e refl
 
 -- a byte of a statement

@@ -1,0 +1,84 @@
+-- What a text is read as, by the grammar.
+use Rattle.std.proofs.Common.{◌≡◌, ℕ, zero, suc, ◌-◌, ◌<◌, ◌≤◌, List, [], ◌∷◌, length, inl, inr, refl, sym, ap, ◌∙◌, subst, arith}
+use Rattle.lexer.specs.Parsing.{Size, Out, Got, Stuck, Over, Fine}
+use Rattle.lexer.specs.Found.{IsFirst}
+use Rattle.script_parse.specs.Statements.{PlainStatement}
+use Rattle.script_parse.specs.Lexing.{Placed, Lexed, Tokens, Faulty, lexed, saying}
+use Rattle.script_parse.specs.Productions.{IsStatement}
+use Rattle.script_parse.specs.StatementReader.{statement, goes_statement}
+use Rattle.script_parse.specs.Reading.{Whole, place, place_before, answered, read_as, reading, IsWithin, IsWrongAt, IsReading, IsExceeded, ReadingsAreOfTheGrammar, StatementsAreRead}
+use Rattle.script_parse.proofs.FirstFaults.{within_none, explained, fine, got_all, got_first, stuck_first, stuck_out, over_only}
+use Rattle.script_parse.proofs.StatementGoodness.{statement_good, statement_not_none}
+
+-- ---- places
+
+length_saying : (tokens : List Placed) → length (saying tokens) ≡ length tokens
+length_saying [] = refl
+length_saying (t ∷ tokens) = ap suc (length_saying tokens)
+
+-- within the list the end does not matter
+same_place : (tokens : List Placed) (k m n : ℕ) → k < length tokens → place tokens k m ≡ place tokens k n
+same_place [] k m n h = absurd (omega (arith, h))
+same_place (t ∷ tokens) zero m n h = refl
+same_place (t ∷ tokens) (suc k) m n h = same_place tokens k m n (omega (arith, h))
+
+-- behind the last token is the end
+past_all : (tokens : List Placed) (n : ℕ) → place tokens (length tokens) n ≡ n
+past_all [] n = refl
+past_all (t ∷ tokens) n = past_all tokens n
+
+pub at_end : (tokens : List Placed) (n : ℕ) → place_before tokens 0 n ≡ n
+at_end tokens n = let e : length tokens - 0 ≡ length tokens = omega arith in ap (λ k. place tokens k n) e ∙ past_all tokens n
+
+pub wrong_at : (tokens : List Placed) (end left : ℕ) → IsFirst IsStatement (saying tokens) (length (saying tokens) - left) → IsWrongAt tokens (place_before tokens left end)
+wrong_at tokens end left h =
+    let P : ℕ → Type 0 = λ n. IsFirst IsStatement (saying tokens) (n - left) in
+    let k = subst P (length_saying tokens) h in
+    (length tokens - left, same_place tokens (length tokens - left) end 0 (omega (arith, k.0, length_saying tokens)), k)
+
+-- ---- readings are of the grammar
+
+module _ (text : List ℕ) (t : Placed) (others : List Placed) (l : lexed text ≡ Tokens (t ∷ others)) where
+  abbrev tokens : List Placed
+  tokens = t ∷ others
+
+  by_out : (o : Out PlainStatement) → statement 0 (saying tokens) ≡ o → IsReading text (answered tokens (length text) o)
+  by_out (Got s m []) e = let k = got_all statement IsStatement goes_statement statement_good (saying tokens) s m e in (tokens, l, k.0, k.1, k.2)
+  by_out (Got s m (x ∷ rest)) e = inr (tokens, l, inl (wrong_at tokens (length text) (length (x ∷ rest)) (got_first statement IsStatement goes_statement statement_good (saying tokens) s m x rest e)))
+  by_out (Stuck []) e = inr (tokens, l, inr (at_end tokens (length text), stuck_out statement IsStatement goes_statement statement_good (saying tokens) e))
+  by_out (Stuck (x ∷ rest)) e = inr (tokens, l, inl (wrong_at tokens (length text) (length (x ∷ rest)) (stuck_first statement IsStatement goes_statement statement_good (saying tokens) x rest e)))
+  by_out (Over w rest) e = (refl, tokens, l, (length (saying tokens) - length rest, over_only statement IsStatement goes_statement statement_good (saying tokens) w rest e))
+
+by_lexed : (text : List ℕ) (l : Lexed) → lexed text ≡ l → IsReading text (read_as (length text) l)
+by_lexed text (Faulty at) e = inl e
+by_lexed text (Tokens []) e = e
+by_lexed text (Tokens (t ∷ others)) e = by_out text t others e (statement 0 (saying (t ∷ others))) refl
+
+pub of_the_grammar : ReadingsAreOfTheGrammar
+unfolding reading
+of_the_grammar text = by_lexed text (lexed text) refl
+
+-- ---- statements are read
+
+module _ (t : Placed) (others : List Placed) (end : ℕ) (s : PlainStatement) (size : Size) (g : IsStatement s size (saying (t ∷ others))) where
+  abbrev all : List Placed
+  all = t ∷ others
+
+  by_fine : (o : Out PlainStatement) → statement 0 (saying all) ≡ o → Fine 32 s size 0 [] o → (IsWithin size → answered all end o ≡ Whole s) × ((IsWithin size → ⊥) → IsExceeded size (answered all end o))
+  by_fine (Got b m r) e f = (
+    λ h. ap (λ u. answered all end (Got b m u)) f.1 ∙ ap Whole f.0,
+    λ h. absurd (h (few, f.3)),
+  )
+    where
+      few : size.nodes ≤ 256
+      few = let x = explained statement IsStatement goes_statement statement_good (saying all) (Got b m r) e in omega (arith, f.2, x.5 (omega arith))
+  by_fine (Stuck r) e f = absurd f
+  by_fine (Over w r) e f = (λ h. absurd (within_none w size h f), λ h. (w, f, refl))
+
+pub are_read : StatementsAreRead
+unfolding reading
+are_read text [] s size e g = absurd (statement_not_none s size g)
+are_read text (t ∷ others) s size e g =
+    let h = by_fine t others (length text) s size g (statement 0 (saying (t ∷ others))) refl (fine statement IsStatement goes_statement statement_good (saying (t ∷ others)) (statement 0 (saying (t ∷ others))) refl s size g) in
+    let P : Lexed → Type 0 = λ l. (IsWithin size → read_as (length text) l ≡ Whole s) × ((IsWithin size → ⊥) → IsExceeded size (read_as (length text) l)) in
+    subst P (sym e) h

@@ -1,0 +1,100 @@
+-- What tokens are read as, by where the reader of statements ends in them.
+use Rattle.std.proofs.Common.{◌≡◌, ℕ, zero, suc, ◌-◌, ◌<◌, ◌≤◌, List, [], ◌∷◌, length, map, slice_index_or, Some, None, refl, sym, ap, ◌∙◌, arith, length-append}
+use Rattle.prima_base.specs.declared.refusals.Refusal.TheVariants.{Syntax, TooMany}
+use Rattle.prima_base.specs.declared.refusals.What.{What}
+use Rattle.lexer.specs.declared.faults.LexFault.{LexFault}
+use Rattle.lexer.specs.declared.faults.LexFault.TheVariants.{NoMemory, BadByte, OpenQuote, BigNumber, LongText}
+use Rattle.lexer.specs.declared.token.Token.{Token}
+use Rattle.lexer.specs.Lexed.{Lexes, Gives}
+use Rattle.lexer.specs.Lexemes.{Lexeme, lexeme}
+use Rattle.lexer.specs.Spaced.{Spaced}
+use Rattle.lexer.specs.Parsing.{Got, Stuck, Over, limit}
+use Rattle.lexer.proofs.Places.{length_map}
+use Rattle.script_parse.specs.Statements.{PlainStatement}
+use Rattle.script_parse.specs.Lexing.{Placed, Tokens, placed, saying, lexed, fault_place}
+use Rattle.script_parse.specs.Productions.{IsStatement}
+use Rattle.script_parse.specs.StatementReader.{statement, goes_statement}
+use Rattle.script_parse.specs.Reading.{Refused, Whole, place, place_before, answered, read_as, reading}
+use Rattle.script_parse.proofs.FirstFaults.{explained}
+use Rattle.script_parse.proofs.StatementGoodness.{statement_good}
+use Rattle.script_parse.proofs.TextLexing.{texts_are_lexed}
+
+same_says : (list : List Token) → saying (map placed list) ≡ map lexeme list
+same_says [] = refl
+same_says (t ∷ list) = ap (λ l. lexeme t ∷ l) (same_says list)
+
+as_answered : (list : List Token) (end : ℕ) → 0 < length list → read_as end (Tokens (map placed list)) ≡ answered (map placed list) end (statement 0 (map lexeme list))
+as_answered [] end h = absurd (omega arith)
+as_answered (t ∷ list) end h = ap (λ l. answered (map placed (t ∷ list)) end (statement 0 l)) (same_says (t ∷ list))
+
+answered_all : (tokens : List Placed) (end : ℕ) (s : PlainStatement) (m : ℕ) (rest : List Lexeme) → length rest ≡ 0 → answered tokens end (Got s m rest) ≡ Whole s
+answered_all tokens end s m [] h = refl
+answered_all tokens end s m (x ∷ rest) h = absurd (omega (arith, h))
+
+answered_some : (tokens : List Placed) (end : ℕ) (s : PlainStatement) (m : ℕ) (rest : List Lexeme) → 0 < length rest → answered tokens end (Got s m rest) ≡ Refused (Syntax (place_before tokens (length rest) end))
+answered_some tokens end s m [] h = absurd (omega arith)
+answered_some tokens end s m (x ∷ rest) h = refl
+
+module _ (list rest : List Token) (end : ℕ) where
+  abbrev at : ℕ → ℕ
+  at left = place_before (map placed list) left end
+
+  pub got_fits : (s : PlainStatement) (m : ℕ) → statement 0 (map lexeme list) ≡ Got s m (map lexeme rest) → length rest ≤ length list
+  got_fits s m e =
+      let h = explained statement IsStatement goes_statement statement_good (map lexeme list) (Got s m (map lexeme rest)) e in
+      omega (arith, ap length h.2, length-append h.0 (map lexeme rest), length_map lexeme list, length_map lexeme rest)
+
+  pub stuck_fits : statement 0 (map lexeme list) ≡ Stuck (map lexeme rest) → length rest ≤ length list
+  stuck_fits e =
+      let h = explained statement IsStatement goes_statement statement_good (map lexeme list) (Stuck (map lexeme rest)) e in
+      omega (arith, ap length h.1, length-append h.0 (map lexeme rest), length_map lexeme list, length_map lexeme rest)
+
+  module _ (some : 0 < length list) where
+    pub got_whole : (s : PlainStatement) (m : ℕ) → statement 0 (map lexeme list) ≡ Got s m (map lexeme rest) → length rest ≡ 0 → read_as end (Tokens (map placed list)) ≡ Whole s
+    got_whole s m e z = as_answered list end some ∙ ap (answered (map placed list) end) e ∙ answered_all (map placed list) end s m (map lexeme rest) (length_map lexeme rest ∙ z)
+
+    pub got_more : (s : PlainStatement) (m : ℕ) → statement 0 (map lexeme list) ≡ Got s m (map lexeme rest) → 0 < length rest → read_as end (Tokens (map placed list)) ≡ Refused (Syntax (at (length rest)))
+    got_more s m e z =
+        let k : 0 < length (map lexeme rest) = omega (arith, z, length_map lexeme rest) in
+        as_answered list end some ∙ ap (answered (map placed list) end) e ∙ answered_some (map placed list) end s m (map lexeme rest) k ∙ ap (λ n. Refused (Syntax (at n))) (length_map lexeme rest)
+
+    pub stuck_there : statement 0 (map lexeme list) ≡ Stuck (map lexeme rest) → read_as end (Tokens (map placed list)) ≡ Refused (Syntax (at (length rest)))
+    stuck_there e = as_answered list end some ∙ ap (answered (map placed list) end) e ∙ ap (λ n. Refused (Syntax (at n))) (length_map lexeme rest)
+
+    pub over_there : (w : What) → statement 0 (map lexeme list) ≡ Over w (map lexeme rest) → read_as end (Tokens (map placed list)) ≡ Refused (TooMany w (limit w))
+    over_there w e = as_answered list end some ∙ ap (answered (map placed list) end) e
+
+-- ---- places
+
+token_place : (list : List Token) (k : ℕ) (d : Token) (n : ℕ) → k < length list → (slice_index_or list k d).at ≡ place (map placed list) k n
+token_place [] k d n h = absurd (omega (arith, h))
+token_place (t ∷ list) zero d n h = refl
+token_place (t ∷ list) (suc k) d n h = token_place list k d n (omega (arith, h))
+
+pub token_before : (list : List Token) (left end : ℕ) (d : Token) → 0 < left → left ≤ length list → (slice_index_or list (length list - left) d).at ≡ place_before (map placed list) left end
+token_before list left end d h k =
+    token_place list (length list - left) d end (omega (arith, h, k)) ∙ ap (λ n. place (map placed list) (n - left) end) (sym (length_map placed list))
+
+-- ---- of a text
+
+pub text_read : (text : List ℕ) (ts : List Token) → Lexes 0 text ts None → read_as (length text) (Tokens (map placed ts)) ≡ reading text
+unfolding reading
+text_read text ts h = ap (read_as (length text)) (sym ((texts_are_lexed text ts).0 h))
+
+pub text_faulty : (text : List ℕ) (f : LexFault) (at : ℕ) → Gives f (λ e. (ts : List Token) × Lexes 0 text ts (Some e) × Spaced 0 text ts (Some e)) → Some at ≡ fault_place f → reading text ≡ Refused (Syntax at)
+unfolding reading
+text_faulty text f at g h = by_fault f g h
+  where
+    so : (f : LexFault) → (ts : List Token) × Lexes 0 text ts (Some f) × Spaced 0 text ts (Some f) → Some at ≡ fault_place f → read_as (length text) (lexed text) ≡ Refused (Syntax at)
+    so f k e =
+        let x = (texts_are_lexed text k.0).1 f k.1 in
+        let z : Some at ≡ Some x.0 = e ∙ x.1 in
+        let y : x.0 ≡ at = cc in
+        ap (read_as (length text)) x.2 ∙ ap (λ n. Refused (Syntax n)) y
+
+    by_fault : (f : LexFault) → Gives f (λ e. (ts : List Token) × Lexes 0 text ts (Some e) × Spaced 0 text ts (Some e)) → Some at ≡ fault_place f → read_as (length text) (lexed text) ≡ Refused (Syntax at)
+    by_fault NoMemory k e = let z : Some at ≡ None = e in cc
+    by_fault (BadByte n) k e = so (BadByte n) k e
+    by_fault (OpenQuote n) k e = so (OpenQuote n) k e
+    by_fault (BigNumber n) k e = so (BigNumber n) k e
+    by_fault (LongText n) k e = so (LongText n) k e

@@ -1,0 +1,90 @@
+-- Worked rows: what texts by hand are read as.
+use Rattle.std.specs.Prelude.{◌≡◌, ℕ, ◌∷◌, [], List, pos, negsuc, codes, refl}
+use Rattle.prima_base.specs.declared.refusals.Refusal.TheVariants.{Syntax, TooMany}
+use Rattle.prima_base.specs.declared.refusals.What.TheVariants.{Depth, Parts}
+use Rattle.prima_base.specs.declared.values.Value.{Value}
+use Rattle.prima_base.specs.declared.values.Value.TheVariants.{Int, Text}
+use Rattle.prima_base.specs.declared.values.ColType.TheVariants.{Int as INT, Text as TEXT}
+use Rattle.cond_expr.specs.declared.exprs.Whose.TheVariants.{Atom}
+use Rattle.cond_expr.specs.declared.exprs.CmpOp.TheVariants.{Eq, Gt}
+use Rattle.cond_expr.specs.Trees.{Tree, column, constant, always, compared}
+use Rattle.smo_ops.specs.Operators.{create_table}
+use Rattle.smo_ops.specs.Changes.{insertion, deletion, update}
+use Rattle.smo_ops.specs.Commands.{PlainBody, changing, evolving}
+use Rattle.lexer.specs.Bytes.{gap_len, gap_dash, piece_of, text_value, quote_value, text_from, text_quote}
+use Rattle.lexer.specs.Lexemes.{is_name}
+use Rattle.lexer.specs.Parsing.{as_many, more, nodes_more}
+use Rattle.lexer.specs.Constants.{name, names, small, moment, constant as const}
+use Rattle.lexer.specs.Reader.{ref_rest, concat_rest, expr, comparison, bracketed, fact, facts, conj, conjs, cond, outermost}
+use Rattle.script_parse.specs.Statements.{ask, write}
+use Rattle.script_parse.specs.Lexing.{lexed_from}
+use Rattle.script_parse.specs.StatementReader.{where_part, more_constants, constants, row, insert_rest, delete_rest, setting, settings, update_rest, change, changes, column_type, column as a_column, columns, evolve_rest, body, write_rest, ask_rest, statement}
+use Rattle.script_parse.specs.Reading.{Reading, Blank, Refused, Whole, reading}
+
+-- text = reading
+abbrev Reads : List ℕ → Reading → Type 0
+Reads text r = reading text ≡ r
+
+-- no token, and lexical faults, which come first
+blanks : Reads (codes "") Blank × Reads (codes " -- AT 1") Blank × Reads (codes "AT $ 'b") (Refused (Syntax 3)) × Reads (codes "QUERY foo 18446744073709551616") (Refused (Syntax 10))
+unfolding reading lexed_from gap_len gap_dash piece_of text_value quote_value text_from text_quote
+blanks = (refl, refl, refl, refl)
+
+-- ---- queries
+
+abbrev a : List ℕ
+a = codes "a"
+
+abbrev b : List ℕ
+b = codes "b"
+
+abbrev t : List ℕ
+t = codes "t"
+
+queries :
+    Reads (codes "QUERY VERSION 1 SELECT a FROM t") (Whole (ask 1 (a ∷ []) t))
+    × Reads (codes "QUERY VERSION 007 SELECT a,b FROM t ") (Whole (ask 7 (a ∷ b ∷ []) t))
+    × Reads (codes "QUERY VERSION 4294967296 SELECT a FROM t") (Refused (Syntax 14))
+    × Reads (codes "QUERY VERSION 1 SELECT FROM t") (Refused (Syntax 23))
+    × Reads (codes "QUERY VERSION 1 SELECT a FROM t, t") (Refused (Syntax 31))
+    × Reads (codes "QUERY VERSION 1 SELECT a ") (Refused (Syntax 25))
+unfolding reading lexed_from gap_len gap_dash piece_of is_name name names small as_many statement ask_rest
+queries = (refl, refl, refl, refl, refl, refl)
+
+-- ---- commands
+
+abbrev at : ℕ → PlainBody → Reading
+at stamp does = Whole (write (record { stamp = stamp; body = does }))
+
+abbrev number : ℕ → Value
+number n = Int (pos n)
+
+abbrev col : List ℕ → Tree
+col n = column (Atom 0) n
+
+evolutions :
+    Reads (codes "AT 1EVOLVE CREATE TABLE t (a INT, b TEXT)") (at 1 (evolving (create_table t ((a, INT) ∷ (b, TEXT) ∷ [])) []))
+    × Reads (codes "AT -0 EVOLVE CREATE TABLE t (a INT)") (at 0 (evolving (create_table t ((a, INT) ∷ [])) []))
+    × Reads (codes "AT 18446744073709551615 EVOLVE CREATE TABLE t (a INT)") (Refused (Syntax 3))
+    × Reads (codes "AT 1 EVOLVE CREATE TABLE t ()") (Refused (Syntax 28))
+    × Reads (codes "AT 1 EVOLVE NOP") (Refused (Syntax 12))
+unfolding reading lexed_from gap_len gap_dash piece_of is_name name moment as_many statement write_rest body evolve_rest columns a_column column_type
+evolutions = (refl, refl, refl, refl, refl)
+
+insertions :
+    Reads (codes "AT 5 INSERT INTO t (a, b) VALUES (1, 'it''s')") (at 5 (changing (insertion t ((a, number 1) ∷ (b, Text (codes "it's")) ∷ []) ∷ [])))
+    × Reads (codes "AT 5 INSERT INTO t (a) VALUES (1) THEN DELETE FROM t") (at 5 (changing (insertion t ((a, number 1) ∷ []) ∷ deletion t always ∷ [])))
+    × Reads (codes "AT 5 INSERT INTO t (a, b) VALUES (1)") (Refused (Syntax 35))
+    × Reads (codes "AT 5 INSERT INTO t (a) VALUES (1, 2)") (Refused (Syntax 32))
+unfolding reading lexed_from gap_len gap_dash piece_of text_value quote_value text_from text_quote is_name name names moment const as_many statement write_rest body changes change insert_rest row constants more_constants delete_rest where_part
+insertions = (refl, refl, refl, refl)
+
+conditions :
+    Reads (codes "AT 5 DELETE FROM t WHERE a > -1") (at 5 (changing (deletion t (compared Gt (col a) (constant (Int (negsuc 0)))) ∷ [])))
+    × Reads (codes "AT 5 UPDATE t SET a = b, b = 2 WHERE a = b") (at 5 (changing (update t ((a, col b) ∷ (b, constant (number 2)) ∷ []) (compared Eq (col a) (col b)) ∷ [])))
+    × Reads (codes "AT 5 UPDATE t SET a = 1") (at 5 (changing (update t ((a, constant (number 1)) ∷ []) always ∷ [])))
+    × Reads (codes "AT 5 UPDATE t SET a = t.b") (Refused (Syntax 23))
+    × Reads (codes "AT 5 DELETE FROM t WHERE ((((((((((((((((((((((((((((((((( x") (Refused (TooMany Depth 32))
+    × Reads (codes "AT 5 UPDATE t SET a = CONCAT(1,2,3,4,5,6,7,8,9)") (Refused (TooMany Parts 8))
+unfolding reading lexed_from gap_len gap_dash piece_of is_name name moment as_many statement write_rest body changes change delete_rest update_rest settings setting where_part ref_rest concat_rest expr comparison bracketed fact facts conj conjs cond outermost more nodes_more
+conditions = (refl, refl, refl, refl, refl, refl)

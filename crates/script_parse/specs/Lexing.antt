@@ -1,0 +1,67 @@
+-- A text as its tokens, or as its first lexical fault.
+use Rattle.std.specs.Prelude.{◌≡◌, ℕ, zero, suc, ◌+◌, false, List, [], ◌∷◌, length, map, take, drop, Option, Some, None}
+use Rattle.lexer.specs.declared.faults.LexFault.{LexFault}
+use Rattle.lexer.specs.declared.faults.LexFault.TheVariants.{NoMemory, BadByte, OpenQuote, BigNumber, LongText}
+use Rattle.lexer.specs.declared.kinds.TokenKind.{TokenKind}
+use Rattle.lexer.specs.declared.pieces.Piece.{Piece}
+use Rattle.lexer.specs.declared.pieces.Piece.TheVariants.{End, Of, Bad, Open, Long, Big}
+use Rattle.lexer.specs.Bytes.{gap_len, piece}
+use Rattle.lexer.specs.declared.token.Token.{Token}
+use Rattle.lexer.specs.Lexed.{Lexes, behind_gap}
+use Rattle.lexer.specs.Lexemes.{Lexeme, says, lexeme}
+
+-- what a token says, and the place of its first byte
+pub record Placed : Type 0 where
+  pub says : Lexeme
+  pub at : ℕ
+
+abbrev pub a_token : TokenKind → List ℕ → ℕ → Placed
+a_token kind bytes at = record { says = says kind bytes; at = at }
+
+pub data Lexed : Type 0 where
+  Tokens : List Placed → Lexed
+  -- the place of the first lexical fault
+  Faulty : ℕ → Lexed
+
+abbrev pub behind_token : Placed → Lexed → Lexed
+behind_token t (Tokens ts) = Tokens (t ∷ ts)
+behind_token t (Faulty at) = Faulty at
+
+-- by what stands in front of these bytes, which begin at a place, and what the bytes behind it are
+abbrev pub by_piece : ℕ → List ℕ → (ℕ → List ℕ → Lexed) → Piece → Lexed
+by_piece at bytes others End = Tokens []
+by_piece at bytes others (Of kind n) = behind_token (a_token kind (take n bytes) at) (others (at + n) (drop n bytes))
+by_piece at bytes others (Bad n) = Faulty (at + n)
+by_piece at bytes others Open = Faulty at
+by_piece at bytes others Long = Faulty at
+by_piece at bytes others Big = Faulty at
+
+-- the bytes from a place on, with no more than so many tokens: each is the longest behind the blanks and comments before it
+unfoldable pub lexed_from : ℕ → ℕ → List ℕ → Lexed
+lexed_from zero at bytes = Tokens []
+lexed_from (suc n) at bytes = by_piece (at + gap_len false 0 bytes) (behind_gap bytes) (lexed_from n) (piece (behind_gap bytes))
+
+-- each token takes a byte at least, so there are no more than bytes
+abbrev pub lexed : List ℕ → Lexed
+lexed text = lexed_from (length text) 0 text
+
+abbrev pub saying : List Placed → List Lexeme
+saying ts = map (λ (t : Placed). t.says) ts
+
+-- ---- the same as a relation has it
+
+abbrev pub placed : Token → Placed
+placed t = record { says = lexeme t; at = t.at }
+
+-- where a fault is; want of memory is in no text
+abbrev pub fault_place : LexFault → Option ℕ
+fault_place NoMemory = None
+fault_place (BadByte at) = Some at
+fault_place (OpenQuote at) = Some at
+fault_place (BigNumber at) = Some at
+fault_place (LongText at) = Some at
+
+-- the text's tokens, or the place of its first fault
+abbrev pub TextsAreLexed : Type 0
+TextsAreLexed = (text : List ℕ) (ts : List Token) →
+    (Lexes 0 text ts None → lexed text ≡ Tokens (map placed ts)) × ((e : LexFault) → Lexes 0 text ts (Some e) → (at : ℕ) × (fault_place e ≡ Some at) × (lexed text ≡ Faulty at))

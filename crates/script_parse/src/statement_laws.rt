@@ -1,0 +1,35 @@
+//! Laws of statements and of their texts. Each is proved and does nothing.
+
+ghost use Rattle.lexer.specs.Parsing.{Good};
+ghost use Rattle.script_parse.specs.Lexing.{TextsAreLexed};
+ghost use Rattle.script_parse.specs.Productions.{IsStatement};
+ghost use Rattle.script_parse.specs.StatementReader.{statement, goes_statement};
+ghost use Rattle.script_parse.specs.Reading.{ReadingsAreOfTheGrammar, ReadingsAreOne, StatementsAreRead};
+
+/// The function from a text to its tokens, or to its first lexical fault, agrees with the relation
+/// between them.
+pub fn texts_are_lexed()
+    ensures { TextsAreLexed }
+{}
+
+/// The reader of statements is good for their grammar: what is read is in it, what is in it is read, and
+/// a fault stands at the first place.
+pub fn statements_are_good()
+    ensures { Good 0 32 statement IsStatement goes_statement }
+{}
+
+/// What a text is read as is so by the grammar.
+pub fn readings_are_of_the_grammar()
+    ensures { ReadingsAreOfTheGrammar }
+{}
+
+/// Tokens that spell a statement within the limits are read as it, and over them they are refused for
+/// what is too much.
+pub fn statements_are_read()
+    ensures { StatementsAreRead }
+{}
+
+/// But for what is too much, a text has one reading by the grammar, the one that it is read as.
+pub fn readings_are_one()
+    ensures { ReadingsAreOne }
+{}
