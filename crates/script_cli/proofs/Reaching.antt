@@ -1,37 +1,61 @@
 -- How far a run has come, and what it leaves.
-use Rattle.std.proofs.Common.{◌≡◌, ◌≤◌, ◌+◌, ℕ, true, refl, List, [], ◌++◌, length, take, sym, ap, ◌∙◌, subst, append-nil, arith, length-append, inl, inr, take-append-drop, drop}
-use Rattle.std.specs.Prelude.{Option, Some, None}
+use Rattle.std.proofs.Common.{◌≡◌, ◌≤◌, ◌+◌, ℕ, true, false, refl, List, [], ◌++◌, length, take, sym, ap, ◌∙◌, subst, append-nil, arith, length-append, inl, inr, take-append-drop, drop}
+use Rattle.std.specs.Prelude.{Option, Some, None, ◌||◌}
 use Rattle.std.specs.Io.KnownBytes.{Consumes, Appends, IsAtEnd, Keeps}
 use Rattle.std.proofs.KnownBytes.{Consumes-trans, Consumes-kept, Appends-trans}
 use Rattle.std.proofs.lemmas.List.{take_at}
 use Rattle.prima_io.specs.Moves.{AppendsFront}
 use Rattle.prima_io.proofs.Fronts.{after, longer, whole}
-use Rattle.script_cli.specs.Split.{statements_from}
-use Rattle.script_cli.specs.Past.{beginning}
-use Rattle.script_cli.specs.Split.{tail_of}
-use Rattle.script_cli.specs.Output.{output, replies, past_of, replies_of, tail_text}
+use Rattle.script_parse.specs.Script.{pieces_from, tail_from, tail_of, ending}
+use Rattle.script_parse.specs.Splitting.{fresh}
+use Rattle.smo_ops.specs.Past.{Past, beginning}
+use Rattle.script_cli.specs.ShowsPast.{ShowsPast}
+use Rattle.script_cli.specs.Output.{output, replies, past_after, any_error, pieces_of, ending_of, past_of, replies_of, has_error, tail_text, tail_is_due}
 use Rattle.script_cli.specs.declared.sessions.Session.{Session}
-use Rattle.script_cli.specs.Shows.{ShowsState}
-use Rattle.script_cli.specs.Machine.{State, start, steps, says}
-use Rattle.script_cli.specs.Runs.{Ran, WroteAll, WroteFront, WhereTold, is_whole, Ends}
+use Rattle.script_cli.specs.Shows.{Took, pieces_behind, ending_behind}
+use Rattle.script_cli.specs.Runs.{Ran, WroteAll, WroteFront, WhereTold, is_whole, is_faulty, Ends}
 use Rattle.script_cli.specs.Limits.{longest_script}
 use Rattle.script_cli.specs.declared.runs.Status.{Status}
 use Rattle.script_cli.specs.declared.runs.Status.TheVariants.{Done, Refused, Words, ReadFault, WriteFault, NoMemory, InputLimit}
-use Rattle.script_cli.proofs.Splits.{statements-append, replies-append}
-use Rattle.script_cli.proofs.Shown.{steps-append, says-append}
-use Rattle.script_cli.proofs.Refines.{says_replies, tail_script, faulty_script}
+use Rattle.script_cli.proofs.Taking.{replies-append, took_none, took_more, took_longer}
+use Rattle.script_cli.proofs.Fronts.{mode_after_script, pieces-append}
 
--- these bytes were taken, the session stands for the machine behind them, and all that it says of them was written
+-- the session that began the run read nothing yet
+pub record IsStart (start : Session) : Type 0 where
+  pub splitter : start.splitter ≡ fresh
+  pub refused : start.refused ≡ false
+
+-- these bytes were taken, and the statements that ended in them were answered
 pub record Reached (left_old left_new written_old written_new : Option (List ℕ)) (session : Session) (count : ℕ) : Type 0 where
+  pub start : Session
+  pub begun : IsStart start
   pub taken : List ℕ
   pub consumed : Consumes left_old left_new taken
-  pub shows : ShowsState session (steps start taken)
   pub counted : count ≡ length taken
-  pub wrote : Appends written_old written_new (says start taken)
+  pub took : Took beginning start session taken [] written_old written_new
+
+module _ (start session : Session) (begun : IsStart start) (taken : List ℕ) (u v : Option (List ℕ)) (took : Took beginning start session taken [] u v) where
+  pub pieces_is : (more : List ℕ) → pieces_of (taken ++ more) ≡ took.pieces ++ pieces_behind session more
+  pieces_is more = ap (λ s. pieces_from s.mode s.kept (taken ++ more)) (sym begun.splitter) ∙ took.cut more
+
+  pub ending_is : ending_of taken ≡ ending_behind session []
+  ending_is = ap ending_of (sym (append-nil taken)) ∙ ap (λ s. ending (tail_from s.mode s.kept (taken ++ []))) (sym begun.splitter) ∙ took.end []
+
+  pub all_pieces : pieces_of taken ≡ took.pieces
+  all_pieces = ap pieces_of (sym (append-nil taken)) ∙ pieces_is [] ∙ append-nil took.pieces
+
+  pub replies_are : replies beginning took.pieces ≡ replies_of taken
+  replies_are = ap (replies beginning) (sym all_pieces)
+
+  pub faulty_is : is_faulty session ≡ has_error taken
+  faulty_is =
+      ap (λ b. b || tail_is_due (ending_behind session [])) (took.refused ∙ ap (λ b. b || any_error beginning took.pieces) begun.refused)
+      ∙ ap (λ l. any_error beginning l || tail_is_due (ending_behind session [])) (sym all_pieces)
+      ∙ ap (λ e. any_error beginning (pieces_of taken) || tail_is_due e) (sym ending_is)
 
 module _ {a b u v : Option (List ℕ)} {s : Session} {n : ℕ} where
   pub wrote_replies : (r : Reached a b u v s n) → Appends u v (replies_of r.taken)
-  wrote_replies r = subst (Appends u v) (says_replies r.taken) r.wrote
+  wrote_replies r = subst (Appends u v) (replies_are r.start s r.begun r.taken u v r.took) r.took.wrote
 
   consumed_still : (c : Option (List ℕ)) (r : Reached a b u v s n) → Consumes b c [] → Consumes a c r.taken
   consumed_still c r k = subst (Consumes a c) (append-nil r.taken) (Consumes-trans a b c r.taken [] r.consumed k)
@@ -39,20 +63,24 @@ module _ {a b u v : Option (List ℕ)} {s : Session} {n : ℕ} where
   taken_within : (r : Reached a b u v s n) (piece : List ℕ) → n + length piece ≤ longest_script → length (r.taken ++ piece) ≤ longest_script
   taken_within r piece l = subst (λ m. m ≤ longest_script) (sym (length-append r.taken piece)) (subst (λ m. m + length piece ≤ longest_script) r.counted l)
 
-  front_piece : (w : Option (List ℕ)) (r : Reached a b u v s n) (piece : List ℕ) → AppendsFront v w (says (steps start r.taken) piece) → AppendsFront u w (replies_of (r.taken ++ piece))
+  -- the past behind what was taken
+  pub past_reached : Reached a b u v s n → Past
+  past_reached r = past_after beginning r.took.pieces
+
+  front_piece : (w : Option (List ℕ)) (r : Reached a b u v s n) (piece : List ℕ) → AppendsFront v w (replies (past_after beginning r.took.pieces) (pieces_behind s piece)) → AppendsFront u w (replies_of (r.taken ++ piece))
   front_piece w r piece p =
-      subst (AppendsFront u w) (sym (says-append start r.taken piece) ∙ says_replies (r.taken ++ piece))
-      (after u v w (says start r.taken) (says (steps start r.taken) piece) r.wrote p)
+      subst (AppendsFront u w) (sym (ap (replies beginning) (pieces_is r.start s r.begun r.taken u v r.took piece) ∙ replies-append beginning r.took.pieces (pieces_behind s piece)))
+      (after u v w (replies beginning r.took.pieces) _ r.took.wrote p)
 
-  all_said : (w : Option (List ℕ)) (r : Reached a b u v s n) → Appends v w (tail_text (steps start r.taken).kept) → Appends u w (output r.taken)
-  all_said w r p = Appends-trans u v w (replies_of r.taken) (tail_text (tail_of r.taken)) (wrote_replies r) (subst (Appends v w) (tail_script r.taken) p)
+  all_said : (w : Option (List ℕ)) (r : Reached a b u v s n) → Appends v w (tail_text (ending_behind s [])) → Appends u w (output r.taken)
+  all_said w r p = Appends-trans u v w (replies_of r.taken) (tail_text (ending_of r.taken)) (wrote_replies r) (subst (λ e. Appends v w (tail_text e)) (sym (ending_is r.start s r.begun r.taken u v r.took)) p)
 
-  front_said : (w : Option (List ℕ)) (r : Reached a b u v s n) → AppendsFront v w (tail_text (steps start r.taken).kept) → AppendsFront u w (output r.taken)
-  front_said w r p = after u v w (replies_of r.taken) (tail_text (tail_of r.taken)) (wrote_replies r) (subst (AppendsFront v w) (tail_script r.taken) p)
+  front_said : (w : Option (List ℕ)) (r : Reached a b u v s n) → AppendsFront v w (tail_text (ending_behind s [])) → AppendsFront u w (output r.taken)
+  front_said w r p = after u v w (replies_of r.taken) (tail_text (ending_of r.taken)) (wrote_replies r) (subst (λ e. AppendsFront v w (tail_text e)) (sym (ending_is r.start s r.begun r.taken u v r.took)) p)
 
 -- the start of a run
-pub reach_start : (a u : Option (List ℕ)) (s : Session) → ShowsState s start → Consumes a a [] → Appends u u [] → Reached a a u u s 0
-reach_start a u s h k p = record { taken = []; consumed = k; shows = h; counted = refl; wrote = p }
+pub reach_start : (a u : Option (List ℕ)) (s : Session) → IsStart s → ShowsPast s.archive beginning → Consumes a a [] → Reached a a u u s 0
+reach_start a u s h shows k = record { start = s; begun = h; taken = []; consumed = k; counted = refl; took = took_none beginning s [] u shows }
 
 module _ {a b c u v : Option (List ℕ)} {s : Session} {n : ℕ} where
   pub ran_read : Reached a b u v s n → n ≤ longest_script → Keeps b c → Ran a c u v ReadFault
@@ -67,44 +95,43 @@ module _ {a b c u v : Option (List ℕ)} {s : Session} {n : ℕ} where
 
 module _ {a b c u v w : Option (List ℕ)} {s : Session} {n : ℕ} where
   pub reach : (r : Reached a b u v s n) (piece : List ℕ) (m : ℕ) (next : Session) → Consumes b c piece → m ≡ n + length piece
-      → ((state : State) → ShowsState s state → ShowsState next (steps state piece)) → ((state : State) → ShowsState s state → Appends v w (says state piece)) → Reached a c u w next m
-  reach r piece m next k l f p = record {
+      → ((past : Past) → ShowsPast s.archive past → Took past s next piece [] v w) → Reached a c u w next m
+  unfolding took_longer
+  reach r piece m next k l f = record {
+    start = r.start;
+    begun = r.begun;
     taken = r.taken ++ piece;
     consumed = Consumes-trans a b c r.taken piece r.consumed k;
-    shows = subst (ShowsState next) (sym (steps-append start r.taken piece)) (f (steps start r.taken) r.shows);
     counted = l ∙ ap (λ k. k + length piece) r.counted ∙ sym (length-append r.taken piece);
-    wrote = subst (Appends u w) (sym (says-append start r.taken piece)) (Appends-trans u v w (says start r.taken) (says (steps start r.taken) piece) r.wrote (p (steps start r.taken) r.shows));
+    took = took_more beginning r.start s next (r.taken ++ piece) piece [] u v w (took_longer beginning r.start s r.taken [] piece u v r.took) (f (past_after beginning r.took.pieces) r.took.shows);
   }
 
-  pub ran_memory : (r : Reached a b u v s n) (piece : List ℕ) → n + length piece ≤ longest_script → Consumes b c piece → ((state : State) → ShowsState s state → AppendsFront v w (says state piece)) → Ran a c u w NoMemory
-  ran_memory r piece l k p = record { taken = r.taken ++ piece; consumed = Consumes-trans a b c r.taken piece r.consumed k; wrote = (taken_within r piece l, inl (front_piece w r piece (p (steps start r.taken) r.shows))) }
+  pub ran_memory : (r : Reached a b u v s n) (piece : List ℕ) → n + length piece ≤ longest_script → Consumes b c piece → ((past : Past) → ShowsPast s.archive past → AppendsFront v w (replies past (pieces_behind s piece))) → Ran a c u w NoMemory
+  ran_memory r piece l k p = record { taken = r.taken ++ piece; consumed = Consumes-trans a b c r.taken piece r.consumed k; wrote = (taken_within r piece l, inl (front_piece w r piece (p (past_after beginning r.took.pieces) r.took.shows))) }
 
-  pub ran_write : (r : Reached a b u v s n) (piece : List ℕ) → n + length piece ≤ longest_script → Consumes b c piece → ((state : State) → ShowsState s state → AppendsFront v w (says state piece)) → Ran a c u w WriteFault
-  ran_write r piece l k p = record { taken = r.taken ++ piece; consumed = Consumes-trans a b c r.taken piece r.consumed k; wrote = (taken_within r piece l, inl (front_piece w r piece (p (steps start r.taken) r.shows))) }
+  pub ran_write : (r : Reached a b u v s n) (piece : List ℕ) → n + length piece ≤ longest_script → Consumes b c piece → ((past : Past) → ShowsPast s.archive past → AppendsFront v w (replies past (pieces_behind s piece))) → Ran a c u w WriteFault
+  ran_write r piece l k p = record { taken = r.taken ++ piece; consumed = Consumes-trans a b c r.taken piece r.consumed k; wrote = (taken_within r piece l, inl (front_piece w r piece (p (past_after beginning r.took.pieces) r.took.shows))) }
 
-  wrote_all : (r : Reached a b u v s n) → n ≤ longest_script → IsAtEnd c → Appends v w (tail_text (steps start r.taken).kept) → WroteAll r.taken c u w
+  wrote_all : (r : Reached a b u v s n) → n ≤ longest_script → IsAtEnd c → Appends v w (tail_text (ending_behind s [])) → WroteAll r.taken c u w
   wrote_all r le end p = record { end = end; within = subst (λ m. m ≤ longest_script) r.counted le; all = all_said w r p }
 
-  pub ran_end : (status : Status) (r : Reached a b u v s n) → n ≤ longest_script → Consumes b c [] → IsAtEnd c → ((state : State) → ShowsState s state → Ends status state v w) → Ran a c u w status
-  ran_end status r le k end f = by status (f (steps start r.taken) r.shows)
-    where
-      by : (status : Status) → Ends status (steps start r.taken) v w → Ran a c u w status
-      by Done e = record { taken = r.taken; consumed = consumed_still c r k; wrote = (wrote_all r le end e.0, sym (faulty_script r.taken) ∙ e.1) }
-      by Refused e = record { taken = r.taken; consumed = consumed_still c r k; wrote = (wrote_all r le end e.0, sym (faulty_script r.taken) ∙ e.1) }
-      by WriteFault e = record { taken = r.taken; consumed = consumed_still c r k; wrote = (subst (λ m. m ≤ longest_script) r.counted le, inr (end, front_said w r e)) }
-      by NoMemory e = record { taken = r.taken; consumed = consumed_still c r k; wrote = (subst (λ m. m ≤ longest_script) r.counted le, inr (end, front_said w r e)) }
-      by ReadFault e = absurd e
-      by Words e = absurd e
-      by InputLimit e = absurd e
+  pub ran_end : (status : Status) (r : Reached a b u v s n) → n ≤ longest_script → Consumes b c [] → IsAtEnd c → Ends status s v w → Ran a c u w status
+  ran_end Done r le k end e = record { taken = r.taken; consumed = consumed_still c r k; wrote = (wrote_all r le end e.0, sym (faulty_is r.start s r.begun r.taken u v r.took) ∙ e.1) }
+  ran_end Refused r le k end e = record { taken = r.taken; consumed = consumed_still c r k; wrote = (wrote_all r le end e.0, sym (faulty_is r.start s r.begun r.taken u v r.took) ∙ e.1) }
+  ran_end WriteFault r le k end e = record { taken = r.taken; consumed = consumed_still c r k; wrote = (subst (λ m. m ≤ longest_script) r.counted le, inr (end, front_said w r e)) }
+  ran_end NoMemory r le k end e = record { taken = r.taken; consumed = consumed_still c r k; wrote = (subst (λ m. m ≤ longest_script) r.counted le, inr (end, front_said w r e)) }
+  ran_end ReadFault r le k end e = absurd e
+  ran_end Words r le k end e = absurd e
+  ran_end InputLimit r le k end e = absurd e
 
 -- a script's replies begin with those to its front
-replies_begin : (xs ys : List ℕ) → replies_of (xs ++ ys) ≡ replies_of xs ++ replies (past_of xs) (statements_from (tail_of xs) ys)
-replies_begin xs ys = ap (replies beginning) (statements-append [] xs ys) ∙ replies-append beginning (statements_from [] xs) (statements_from (tail_of xs) ys)
+replies_begin : (xs ys : List ℕ) → replies_of (xs ++ ys) ≡ replies_of xs ++ replies (past_of xs) (pieces_from (mode_after_script xs) (tail_of xs) ys)
+replies_begin xs ys = ap (replies beginning) (pieces-append xs ys) ∙ replies-append beginning (pieces_of xs) (pieces_from (mode_after_script xs) (tail_of xs) ys)
 
 -- a front of the replies to a front is a front of the output
 pub front_more : (u w : Option (List ℕ)) (xs ys : List ℕ) → AppendsFront u w (replies_of xs) → AppendsFront u w (output (xs ++ ys))
 front_more u w xs ys p =
-    longer u w (replies_of (xs ++ ys)) (tail_text (tail_of (xs ++ ys))) (subst (AppendsFront u w) (sym (replies_begin xs ys)) (longer u w (replies_of xs) _ p))
+    longer u w (replies_of (xs ++ ys)) (tail_text (ending_of (xs ++ ys))) (subst (AppendsFront u w) (sym (replies_begin xs ys)) (longer u w (replies_of xs) _ p))
 
 -- the script that was there, where it was told
 script_is : (script ys taken : List ℕ) → Consumes (Some script) (Some ys) taken → script ≡ taken ++ ys

@@ -1,11 +1,12 @@
 -- What a run takes, writes and answers.
-use Rattle.std.specs.Prelude.{◌≡◌, ℕ, ◌+◌, ◌≤◌, nat_eq, List, [], ◌∷◌, length, take, Bool, ◌⊎◌, true, false, Option, Some, None, codes}
+use Rattle.std.specs.Prelude.{◌≡◌, ℕ, ◌+◌, ◌≤◌, nat_eq, List, [], ◌∷◌, length, take, Bool, ◌⊎◌, ◌||◌, true, false, Option, Some, None, codes}
 use Rattle.std.specs.Io.KnownBytes.{Consumes, Appends, IsAtEnd, Keeps}
 use Rattle.std.specs.Cmp.Lexicographic.{pointwise}
 use Rattle.prima_io.specs.Causes.{Rose}
 use Rattle.prima_io.specs.Moves.{AppendsFront, AppendsLess}
-use Rattle.script_cli.specs.Output.{output, replies_of, has_error, tail_text}
-use Rattle.script_cli.specs.Machine.{State, is_faulty}
+use Rattle.script_cli.specs.Output.{output, replies_of, has_error, tail_text, tail_is_due}
+use Rattle.script_cli.specs.declared.sessions.Session.{Session}
+use Rattle.script_cli.specs.Shows.{ending_behind}
 use Rattle.script_cli.specs.Texts.{wrong_words_text}
 use Rattle.script_cli.specs.Limits.{longest_script}
 use Rattle.script_cli.specs.declared.runs.Status.{Status}
@@ -57,10 +58,14 @@ pub record RefusedWords (left_old left_new written_old written_new : Option (Lis
 abbrev pub are_accepted : List (List ℕ) → Bool
 are_accepted words = pointwise (pointwise nat_eq) words (codes "run" ∷ [])
 
+-- an `error` line was put, or is due at the script's end
+abbrev pub is_faulty : Session → Bool
+is_faulty session = session.refused || tail_is_due (ending_behind session [])
+
 -- how the line behind the last statement ended a run
-abbrev pub Ends : Status → State → Option (List ℕ) → Option (List ℕ) → Type 0
-Ends Done state old new = Appends old new (tail_text state.kept) × (is_faulty state ≡ false)
-Ends Refused state old new = Appends old new (tail_text state.kept) × (is_faulty state ≡ true)
-Ends WriteFault state old new = AppendsFront old new (tail_text state.kept)
-Ends NoMemory state old new = AppendsFront old new (tail_text state.kept)
-Ends other state old new = ⊥
+abbrev pub Ends : Status → Session → Option (List ℕ) → Option (List ℕ) → Type 0
+Ends Done session old new = Appends old new (tail_text (ending_behind session [])) × (is_faulty session ≡ false)
+Ends Refused session old new = Appends old new (tail_text (ending_behind session [])) × (is_faulty session ≡ true)
+Ends WriteFault session old new = AppendsFront old new (tail_text (ending_behind session []))
+Ends NoMemory session old new = AppendsFront old new (tail_text (ending_behind session []))
+Ends other session old new = ⊥

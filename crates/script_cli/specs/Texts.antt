@@ -7,25 +7,13 @@ use Rattle.prima_base.specs.declared.periods.TheConstants.{FOREVER}
 use Rattle.prima_base.specs.declared.values.Value.{Value}
 use Rattle.prima_base.specs.declared.values.Value.TheVariants.{Int, Text}
 
--- the first version was made at this moment
-unfoldable pub created_text : ℕ → List ℕ
-created_text stamp = codes "ok " ++ decimal stamp ++ codes " version 1\n"
+-- so many rows were gained and lost at this moment
+unfoldable pub changed_text : ℕ → ℕ → ℕ → List ℕ
+changed_text stamp gained lost = codes "ok " ++ decimal stamp ++ codes " +" ++ decimal gained ++ codes " -" ++ decimal lost ++ codes "\n"
 
--- so many rows were gained at this moment, and none was lost
-unfoldable pub inserted_text : ℕ → ℕ → List ℕ
-inserted_text stamp gained = codes "ok " ++ decimal stamp ++ codes " +" ++ decimal gained ++ codes " -0\n"
-
--- no statement goes on at this place
-unfoldable pub syntax_text : ℕ → List ℕ
-syntax_text place = codes "error 10 " ++ decimal place ++ codes "\n"
-
--- the given stamp is not later than the last one
-unfoldable pub stamp_text : ℕ → ℕ → List ℕ
-stamp_text given last = codes "error 20 " ++ decimal given ++ codes " " ++ decimal last ++ codes "\n"
-
--- there is no table of this name
-unfoldable pub no_table_text : List ℕ → List ℕ
-no_table_text name = codes "error 22 " ++ name ++ codes "\n"
+-- this version was made at this moment
+unfoldable pub evolved_text : ℕ → ℕ → List ℕ
+evolved_text stamp version = codes "ok " ++ decimal stamp ++ codes " version " ++ decimal version ++ codes "\n"
 
 -- the words of the call are wrong
 unfoldable pub wrong_words_text : List ℕ

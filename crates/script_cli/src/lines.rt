@@ -1,3 +1,5 @@
+//! A line of a reply, gathered in memory and put when its room is full or it ends.
+
 ghost use Rattle.std.specs.Prelude.{◌≡◌, ◌+◌, ◌≤◌, ◌++◌, [], List, ℕ, length, take, OnOk, OnErr, decimal};
 ghost use Rattle.std.specs.Io.KnownBytes.{Appends};
 ghost use Rattle.prima_io.specs.Causes.{HasCause};

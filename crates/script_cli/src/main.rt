@@ -6,13 +6,16 @@
 
 mod adapters;
 mod archive;
-mod forms;
+mod asking;
+mod changing;
+#[cfg(test)]
+mod language_tests;
+#[cfg(test)]
+mod limit_tests;
 mod lines;
 mod listings;
 mod queries;
-mod reader;
-#[cfg(test)]
-mod reader_tests;
+mod refusals;
 mod replies;
 #[cfg(test)]
 mod replies_tests;
@@ -21,18 +24,14 @@ mod runs;
 #[cfg(test)]
 mod runs_tests;
 mod sessions;
-mod statements;
 mod stops;
 mod stretches;
-mod tokens;
+mod tables;
 
 use adapters::{ReaderSource, WriterSink};
 pub use runs::{Status, Word, run};
 use std::process::ExitCode;
 use std::{env, io};
-
-/// The longest statement, in bytes, without its `;`.
-pub const MAX_STATEMENT: usize = 1_048_576;
 
 /// The longest script of one run, in bytes.
 pub const SCRIPT_LIMIT: u64 = 1_099_511_627_776;

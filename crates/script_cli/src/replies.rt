@@ -1,33 +1,26 @@
+//! The lines of accepted commands, and that of wrong words.
+
 ghost use Rattle.std.specs.Prelude.{OnOk, OnErr};
 ghost use Rattle.std.specs.Io.KnownBytes.{Appends};
 ghost use Rattle.prima_io.specs.Causes.{HasCause};
 ghost use Rattle.prima_io.specs.Moves.{AppendsLess};
-ghost use Rattle.script_cli.specs.Texts.{created_text, inserted_text, syntax_text, stamp_text, no_table_text, wrong_words_text};
+ghost use Rattle.script_cli.specs.Texts.{changed_text, evolved_text, wrong_words_text};
 
 use crate::lines::Line;
 use prima_io::{Failed, Sink, put_all};
 
-/// Puts the reply to the statement that made the first version at this moment. `Failed`, here and
-/// below, comes only where the sink's count of faults rose; a front of the line, and not all of it, was
+/// Puts the reply to a command of changes at this moment that gained and lost so many rows. `Failed`, here
+/// and below, comes only where the sink's count of faults rose; a front of the line, and not all of it, was
 /// then put.
-#[tactic(auto, unfolding(crate::specs::Texts::created_text))]
-pub(crate) fn put_created<K: Sink>(sink: &mut K, stamp: u64) -> Result<(), Failed>
-    ensures all { OnOk result (Appends (K.written sink.old) (K.written sink.new) (created_text stamp)) }
-    ensures part { OnErr result (AppendsLess (K.written sink.old) (K.written sink.new) (created_text stamp)) }
-    ensures cause { HasCause (K.faults sink.old) (K.faults sink.new) result }
-{
-    let mut line = Line::new();
-    line.add(b"ok ");
-    line.add_number(stamp);
-    line.add(b" version 1\n");
-    line.flush(sink)
-}
-
-/// Puts the reply to an insert at this moment that gained so many rows.
-#[tactic(auto, unfolding(crate::specs::Texts::inserted_text))]
-pub(crate) fn put_inserted<K: Sink>(sink: &mut K, stamp: u64, gained: u64) -> Result<(), Failed>
-    ensures all { OnOk result (Appends (K.written sink.old) (K.written sink.new) (inserted_text stamp gained)) }
-    ensures part { OnErr result (AppendsLess (K.written sink.old) (K.written sink.new) (inserted_text stamp gained)) }
+#[tactic(auto, unfolding(crate::specs::Texts::changed_text))]
+pub(crate) fn put_changed<K: Sink>(
+    sink: &mut K,
+    stamp: u64,
+    gained: u64,
+    lost: u64,
+) -> Result<(), Failed>
+    ensures all { OnOk result (Appends (K.written sink.old) (K.written sink.new) (changed_text stamp gained lost)) }
+    ensures part { OnErr result (AppendsLess (K.written sink.old) (K.written sink.new) (changed_text stamp gained lost)) }
     ensures cause { HasCause (K.faults sink.old) (K.faults sink.new) result }
 {
     let mut line = Line::new();
@@ -35,51 +28,25 @@ pub(crate) fn put_inserted<K: Sink>(sink: &mut K, stamp: u64, gained: u64) -> Re
     line.add_number(stamp);
     line.add(b" +");
     line.add_number(gained);
-    line.add(b" -0\n");
-    line.flush(sink)
-}
-
-/// Puts the refusal of a text that is no statement from this place, in bytes, on.
-#[tactic(auto, unfolding(crate::specs::Texts::syntax_text))]
-pub(crate) fn put_syntax_refusal<K: Sink>(sink: &mut K, place: u64) -> Result<(), Failed>
-    ensures all { OnOk result (Appends (K.written sink.old) (K.written sink.new) (syntax_text place)) }
-    ensures part { OnErr result (AppendsLess (K.written sink.old) (K.written sink.new) (syntax_text place)) }
-    ensures cause { HasCause (K.faults sink.old) (K.faults sink.new) result }
-{
-    let mut line = Line::new();
-    line.add(b"error 10 ");
-    line.add_number(place);
+    line.add(b" -");
+    line.add_number(lost);
     line.add(b"\n");
     line.flush(sink)
 }
 
-/// Puts the refusal of a given stamp that is not later than the last one.
-#[tactic(auto, unfolding(crate::specs::Texts::stamp_text))]
-pub(crate) fn put_stamp_refusal<K: Sink>(sink: &mut K, given: u64, last: u64) -> Result<(), Failed>
-    ensures all { OnOk result (Appends (K.written sink.old) (K.written sink.new) (stamp_text given last)) }
-    ensures part { OnErr result (AppendsLess (K.written sink.old) (K.written sink.new) (stamp_text given last)) }
+/// Puts the reply to an operator that made this version at this moment.
+#[tactic(auto, unfolding(crate::specs::Texts::evolved_text))]
+pub(crate) fn put_evolved<K: Sink>(sink: &mut K, stamp: u64, version: u32) -> Result<(), Failed>
+    ensures all { OnOk result (Appends (K.written sink.old) (K.written sink.new) (evolved_text stamp version)) }
+    ensures part { OnErr result (AppendsLess (K.written sink.old) (K.written sink.new) (evolved_text stamp version)) }
     ensures cause { HasCause (K.faults sink.old) (K.faults sink.new) result }
 {
     let mut line = Line::new();
-    line.add(b"error 20 ");
-    line.add_number(given);
-    line.add(b" ");
-    line.add_number(last);
+    line.add(b"ok ");
+    line.add_number(stamp);
+    line.add(b" version ");
+    line.add_number(u64::from(version));
     line.add(b"\n");
-    line.flush(sink)
-}
-
-/// Puts the refusal of a table's name, by its bytes, where there is no such table.
-#[tactic(auto, unfolding(crate::specs::Texts::no_table_text))]
-pub(crate) fn put_no_table<K: Sink>(sink: &mut K, name: &[u8]) -> Result<(), Failed>
-    ensures all { OnOk result (Appends (K.written sink.old) (K.written sink.new) (no_table_text name.now)) }
-    ensures part { OnErr result (AppendsLess (K.written sink.old) (K.written sink.new) (no_table_text name.now)) }
-    ensures cause { HasCause (K.faults sink.old) (K.faults sink.new) result }
-{
-    let mut line = Line::new();
-    line.add(b"error 22 ");
-    line.push(sink, name)?;
-    line.push(sink, b"\n")?;
     line.flush(sink)
 }
 

@@ -1,8 +1,7 @@
 use crate::listings::put_listing;
-use crate::replies::{
-    put_created, put_inserted, put_no_table, put_stamp_refusal, put_syntax_refusal, put_wrong_words,
-};
-use prima_base::{Period, TimedRow, Txt, Val};
+use crate::refusals::put_refusal;
+use crate::replies::{put_changed, put_evolved, put_wrong_words};
+use prima_base::{Name, OpKind, OpRefusal, Period, Refusal, TimedRow, Txt, Val, What};
 use prima_io::{Failed, MemSink};
 use std::alloc::Global;
 use std::slice;
@@ -12,16 +11,93 @@ use std::test::Fail;
 fn puts_each_line(rt: HostRuntime) -> Result<(), Fail> {
     let alloc = rt.alloc();
     let mut sink = MemSink::new(alloc, 1000, Vec::new(alloc))?;
-    assert_eq!(rt; put_created(&mut sink, 7), Ok(()));
-    assert_eq!(rt; put_inserted(&mut sink, 18446744073709551614, 3), Ok(()));
-    assert_eq!(rt; put_syntax_refusal(&mut sink, 0), Ok(()));
-    assert_eq!(rt; put_stamp_refusal(&mut sink, 5, 120), Ok(()));
-    assert_eq!(rt; put_no_table(&mut sink, b"stock_1"), Ok(()));
+    assert_eq!(rt; put_evolved(&mut sink, 7, 1), Ok(()));
+    assert_eq!(rt; put_changed(&mut sink, 18446744073709551614, 3, 20), Ok(()));
     assert_eq!(rt; put_wrong_words(&mut sink), Ok(()));
     assert_eq!(rt;
         sink.written(),
-        b"ok 7 version 1\nok 18446744073709551614 +3 -0\nerror 10 0\nerror 20 5 120\nerror 22 stock_1\nfault 2\n".as_slice()
+        b"ok 7 version 1\nok 18446744073709551614 +3 -20\nfault 2\n".as_slice()
     );
+    Ok(())
+}
+
+fn name(alloc: Global, bytes: &[u8]) -> Result<Name, Fail> {
+    Ok(Name::new(alloc, bytes)?)
+}
+
+// One refusal of each kind.
+fn each_refusal(alloc: Global) -> Result<Vec<Refusal>, Fail> {
+    let mut all = Vec::new(alloc);
+    all.push(Refusal::Syntax(0))?;
+    all.push(Refusal::Unfinished)?;
+    all.push(Refusal::TooLong)?;
+    all.push(Refusal::StampNotLater(5, 120))?;
+    all.push(Refusal::NoVersion(9, 1))?;
+    all.push(Refusal::NoTable(name(alloc, b"stock_1")?))?;
+    all.push(Refusal::NoColumn(name(alloc, b"c")?))?;
+    all.push(Refusal::Ambiguous(name(alloc, b"k")?))?;
+    all.push(Refusal::WrongType(7))?;
+    all.push(Refusal::Exists(name(alloc, b"t")?))?;
+    all.push(Refusal::ColumnExists(name(alloc, b"t")?, name(alloc, b"c")?))?;
+    all.push(Refusal::ColumnsDiffer(name(alloc, b"r")?, name(alloc, b"s")?))?;
+    all.push(Refusal::BadCover(name(alloc, b"t")?))?;
+    all.push(Refusal::LastColumn(name(alloc, b"t")?))?;
+    all.push(Refusal::SameTable(name(alloc, b"t")?))?;
+    all.push(Refusal::InverseMisses(name(alloc, b"u")?))?;
+    all.push(Refusal::InverseOp(1, OpRefusal::NoTable(name(alloc, b"zz")?)))?;
+    all.push(Refusal::InverseOp(
+        2,
+        OpRefusal::NoColumn(name(alloc, b"t")?, name(alloc, b"c")?),
+    ))?;
+    all.push(Refusal::InverseOp(3, OpRefusal::TooMany(What::Columns, 32)))?;
+    all.push(Refusal::NoInverse(2, OpKind::DropTable))?;
+    all.push(Refusal::NoInverse(3, OpKind::Nop))?;
+    all.push(Refusal::EmptyPeriod(5, 5))?;
+    all.push(Refusal::ColumnMissing(name(alloc, b"u")?, name(alloc, b"b")?))?;
+    all.push(Refusal::Arity(2))?;
+    all.push(Refusal::JournalFull(38, 42, 79))?;
+    all.push(Refusal::TooMany(What::Versions, 1))?;
+    all.push(Refusal::TooWide(1000001))?;
+    Ok(all)
+}
+
+const EACH_LINE: &[u8] = b"error 10 0
+error 11
+error 12
+error 20 5 120
+error 21 9 1
+error 22 stock_1
+error 23 c
+error 24 k
+error 25 7
+error 26 t
+error 27 t c
+error 28 r s
+error 29 t
+error 30 t
+error 31 t
+error 32 u
+error 32 1 22 zz
+error 32 2 23 c
+error 32 3 38 columns 32
+error 33 2 DROP TABLE
+error 33 3 NOP
+error 34 5 5
+error 35 u b
+error 36 2
+error 37 38 42 79
+error 38 versions 1
+error 39 1000001
+";
+
+#[test]
+fn puts_each_refusal(rt: HostRuntime) -> Result<(), Fail> {
+    let alloc = rt.alloc();
+    let mut sink = MemSink::new(alloc, 1000, Vec::new(alloc))?;
+    for refusal in &each_refusal(alloc)? {
+        assert_eq!(rt; put_refusal(&mut sink, refusal), Ok(()));
+    }
+    assert_eq!(rt; sink.written(), EACH_LINE);
     Ok(())
 }
 

@@ -1,28 +1,34 @@
 //! A run: from the words, the bytes of the script and what the sink takes to a status.
 
-ghost use Rattle.std.specs.Prelude.{◌≡◌, ◌+◌, ◌<◌, ◌≤◌, ◌↔◌, ◌⊎◌, List, ℕ, length, take, true, false, map, string_bytes, IfOk, MatchResult};
+ghost use Rattle.std.specs.Prelude.{◌≡◌, ◌+◌, ◌<◌, ◌≤◌, ◌↔◌, ◌⊎◌, List, ℕ, length, take, true, false, None, map, string_bytes, IfOk, MatchResult};
 ghost use Rattle.std.specs.Io.KnownBytes.{Appends, Consumes, IsAtEnd, Keeps};
 ghost use Rattle.prima_io.specs.Causes.{HasCause, Rose};
 ghost use Rattle.prima_io.specs.Moves.{AppendsFront, AppendsLess};
 ghost use Rattle.relations.specs.Spans.{always};
 ghost use Rattle.relations.specs.Listing.{IsListing};
-ghost use Rattle.relations.specs.Timeline.{relation_at};
 ghost use Rattle.prima_base.specs.Order.{row_cmp};
-ghost use Rattle.script_cli.specs.Past.{Past, beginning, answer};
-ghost use Rattle.script_cli.specs.Split.{statements_of, tail_of, joined, AreStatements, IsOneStatement};
-ghost use Rattle.script_cli.specs.Machine.{State};
+ghost use Rattle.smo_ops.specs.Accepts.{command_fault};
+ghost use Rattle.smo_ops.specs.Commands.{PlainCommand};
+ghost use Rattle.smo_ops.specs.Past.{Past, beginning, database_at, database_behind, past_with};
+ghost use Rattle.script_cli.specs.Asking.{query_fault, asked_at, answer};
+ghost use Rattle.script_parse.specs.Script.{Piece, statements_of, tail_of};
+ghost use Rattle.script_parse.specs.Joining.{joined, IsStatement, IsTail, Each};
 ghost use Rattle.script_cli.specs.Output.{output, past_after, reply, is_error_line};
 ghost use Rattle.script_cli.specs.Texts.{wrong_words_text};
-ghost use Rattle.script_cli.specs.Reading.{IsReading, reading};
-ghost use Rattle.script_cli.specs.declared.statements.Reading.{Reading};
+ghost use Rattle.script_parse.specs.Lexing.{TextsAreLexed};
+ghost use Rattle.script_parse.specs.Reading.{IsReading, ReadingsAreOne, StatementsAreRead, reading};
 ghost use Rattle.script_cli.specs.Runs.{Ran, RefusedWords, WhereTold, is_whole, are_accepted, Ends};
-ghost use Rattle.script_cli.specs.Shows.{ShowsState};
 
 use crate::SCRIPT_LIMIT;
 use crate::replies::put_wrong_words;
 use crate::sessions::Session;
 use crate::stops::Stop;
 use prima_io::{Failed, Sink, Source};
+use script_parse::{
+    readings_are_of_the_grammar, readings_are_one, script_is_its_statements, statements_are_read,
+    texts_are_lexed,
+};
+use smo_ops::a_command_is_seen_from_its_stamp_on;
 use std::alloc::Global;
 
 /// One word of the command line behind the program's name.
@@ -98,8 +104,9 @@ fn take_some<S: Source>(source: &mut S, chunk: &mut [u8], room: usize) -> Result
 }
 
 // Puts what is due at the script's end.
-fn finish<K: Sink>(session: &Session, sink: &mut K) -> Status
-    ensures ends { (state : State) → ShowsState session.now state → Ends result state (K.written sink.old) (K.written sink.new) }
+fn finish<K: Sink>(session: Session, sink: &mut K) -> Status
+    requires { session.splitter.spent ≡ false }
+    ensures ends { Ends result session (K.written sink.old) (K.written sink.new) }
     ensures later { K.faults sink.old ≤ K.faults sink.new }
     ensures write { result ≡ Status.WriteFault → Rose (K.faults sink.old) (K.faults sink.new) }
 {
@@ -127,7 +134,7 @@ fn drive<S: Source, K: Sink>(alloc: Global, source: &mut S, sink: &mut K) -> Sta
             Err(Failed) => return Status::ReadFault,
         };
         if taken == 0 {
-            return finish(&session, sink);
+            return finish(session, sink);
         }
         if count == SCRIPT_LIMIT {
             return Status::InputLimit;
@@ -166,11 +173,15 @@ fn refuse_words<K: Sink>(sink: &mut K) -> Status
 /// statement's when it ends. The words are judged first.
 ///
 /// `output` is defined over the script's bytes alone, however they are cut: the replies to its
-/// statements in order, then the line for what stands behind the last `;`. Four laws say what it is
-/// made of: `splits` that the statements and the tail are the script, cut at each `;`; `reads` that a
-/// statement is refused at the first byte or token from which none goes on; `answers` that a query
-/// lists each row with the longest periods in which it holds, moment by moment; `errors` that just the
-/// refused statements have an `error` line.
+/// statements in order, then the line for what stands behind the last `;`. Laws say what it is made of:
+/// - `splits`: the statements and the tail are the script, cut at each `;`;
+/// - `lexes`: what the tokens of a text are;
+/// - `reads`: a statement is read as the grammar has it, and another text is refused at the first byte
+///   or token from which no statement goes on, or for what is too much;
+/// - `readable` and `only`: each statement of the grammar is read, and no text is read otherwise;
+/// - `seen`: an accepted command changes the database of each moment from its stamp on, and of no other;
+/// - `answers`: a query lists each row with the longest periods in which it holds, moment by moment;
+/// - `errors`: just the refused statements have an `error` line.
 pub fn run<S: Source, K: Sink>(
     alloc: Global,
     words: &[Word],
@@ -196,20 +207,40 @@ pub fn run<S: Source, K: Sink>(
     ensures read { result ≡ Status.ReadFault → Rose (S.faults source.old) (S.faults source.new) }
     ensures write { result ≡ Status.WriteFault → Rose (K.faults sink.old) (K.faults sink.new) }
 
-    // What a statement's bytes are read as, and nothing else: a form's statement, or the place from which none goes on.
-    ensures reads { (text : List ℕ) (r : Reading) → IsReading text r ↔ (r ≡ reading text) }
+    // What a statement's bytes are read as is so in the words of the grammar.
+    ensures reads { (text : List ℕ) → IsReading text (reading text) }
 
-    // The answer to a query behind some statements, by moments.
-    ensures answers { (statements : List (List ℕ)) → let past = past_after beginning statements in
-        IsListing row_cmp (relation_at past.stages) always (answer past) }
+    // Each statement of the grammar is read if it is within the limits, and else refused for what is over its limit.
+    ensures readable { StatementsAreRead }
+
+    // But for what is too much, no text has another reading.
+    ensures only { ReadingsAreOne }
+
+    // The tokens of a text, or its first lexical fault, are the one list, or the one fault, of the lexer's relation.
+    ensures lexes { TextsAreLexed }
+
+    // The answer to a query that is not refused, behind some statements, by moments.
+    ensures answers { (statements : List Piece) → (version : ℕ) → (columns : List (List ℕ)) → (table : List ℕ) → let past = past_after beginning statements in
+        query_fault past version columns table ≡ None → IsListing row_cmp (asked_at past version columns table) always (answer past version columns table) }
+
+    // A command that is accepted behind some statements is seen from its stamp on: before it each moment's database is as it was.
+    ensures seen { (statements : List Piece) → (command : PlainCommand) → (m : ℕ) → let past = past_after beginning statements in
+        command_fault past command ≡ None
+        → (m < command.stamp → database_at (past_with past command) m ≡ database_at past m) × (command.stamp ≤ m → database_at (past_with past command) m ≡ database_behind command.body past) }
 
     // The statements of a script are what stands between its `;`s, and the tail is what stands behind them.
     ensures splits { (script : List ℕ) → (joined (statements_of script) (tail_of script) ≡ script)
-        × AreStatements (statements_of script) × IsOneStatement (tail_of script) }
+        × Each IsStatement (statements_of script) × IsTail (tail_of script) }
 
     // A reply counts as an error exactly where its line begins with `error `.
     ensures errors { (past : Past) → (text : List ℕ) → (reply past text).is_error ≡ is_error_line (reply past text).text }
 {
+    script_is_its_statements();
+    texts_are_lexed();
+    readings_are_of_the_grammar();
+    statements_are_read();
+    readings_are_one();
+    a_command_is_seen_from_its_stamp_on();
     if !are_accepted(words) {
         return refuse_words(sink);
     }

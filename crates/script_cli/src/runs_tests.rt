@@ -48,74 +48,6 @@ fn first_insert_in_any_chunks(rt: HostRuntime) -> Result<(), Fail> {
     Ok(())
 }
 
-#[test]
-fn scripts_by_hand(rt: HostRuntime) -> Result<(), Fail> {
-    let cases: [(&[u8], Status, &[u8]); 12] = [
-        (b"", Status::Done, b""),
-        (b";", Status::Done, b""),
-        (b" \t\r\n;; ", Status::Done, b""),
-        // A refused stamp is not kept as the last one; a row that is there changes nothing.
-        (
-            b"AT 1 EVOLVE CREATE TABLE t (a INT); AT 5 INSERT INTO t (a) VALUES (7); AT 4 INSERT INTO t (a) VALUES (8); AT 6 INSERT INTO t (a) VALUES (7); AT 8 INSERT INTO t (a) VALUES (-3); QUERY VERSION 1 SELECT a FROM t;",
-            Status::Refused,
-            b"ok 1 version 1\nok 5 +1 -0\nerror 20 4 5\nok 6 +0 -0\nok 8 +1 -0\nrow 8 now -3\nrow 5 now 7\nend 2\n",
-        ),
-        // 0 is a lawful first stamp.
-        (
-            b"AT 0 EVOLVE CREATE TABLE t (a INT); QUERY VERSION 1 SELECT a FROM t;",
-            Status::Done,
-            b"ok 0 version 1\nend 0\n",
-        ),
-        // One table: a second EVOLVE is refused at that word, before its stamp is looked at.
-        (
-            b"AT 3 EVOLVE CREATE TABLE t (a INT); AT 2 EVOLVE CREATE TABLE u (a INT);",
-            Status::Refused,
-            b"ok 3 version 1\nerror 10 6\n",
-        ),
-        // A version that is not there is refused at its number; version 0 has no table.
-        (
-            b"QUERY VERSION 1 SELECT a FROM t;QUERY VERSION 0 SELECT a FROM t;",
-            Status::Refused,
-            b"error 10 14\nerror 22 t\n",
-        ),
-        // The column is judged before the stamp where the table is there.
-        (
-            b"AT 1 EVOLVE CREATE TABLE t (a INT);AT 1 INSERT INTO t (b) VALUES (1);AT 1 INSERT INTO u (b) VALUES (1);AT 2 INSERT INTO u (b) VALUES (1);",
-            Status::Refused,
-            b"ok 1 version 1\nerror 10 20\nerror 20 1 1\nerror 22 u\n",
-        ),
-        // A rest is refused, at its length where it is a whole form.
-        (
-            b"AT 1 EVOLVE CREATE TABLE t (a INT); QUERY VERSION 9 SELECT a FROM t",
-            Status::Refused,
-            b"ok 1 version 1\nerror 10 32\n",
-        ),
-        (b"AT 1", Status::Refused, b"error 10 4\n"),
-        (b"-- note;", Status::Refused, b"error 10 0\n"),
-        (
-            b"AT 1 EVOLVE CREATE TABLE t (a INT) x;",
-            Status::Refused,
-            b"error 10 35\n",
-        ),
-    ];
-    for (script, status, replies) in cases {
-        expect_run(&rt, rt.alloc(), script, 7, status, replies)?;
-    }
-    Ok(())
-}
-
-#[test]
-fn refusals_behind_the_first_insert(rt: HostRuntime) -> Result<(), Fail> {
-    let mut script = Vec::from_slice(rt.alloc(), FIRST)?;
-    script.extend_from_slice(
-        b"AT 5 INSERT INTO t (a) VALUES (2);QUERY VERSION 0 SELECT a FROM t;QUERY VERSION 1 SELECT b FROM t;",
-    )?;
-    let mut replies = Vec::from_slice(rt.alloc(), FIRST_REPLIES)?;
-    replies.extend_from_slice(b"error 20 5 5\nerror 22 t\nerror 10 23\n")?;
-    expect_run(&rt, rt.alloc(), &script, 64, Status::Refused, &replies)?;
-    Ok(())
-}
-
 // A statement, or a rest, of this many blanks and a word.
 fn long_script(alloc: Global, length: usize, ended: bool) -> Result<Vec<u8>, AllocError> {
     let mut script = Vec::new(alloc);
@@ -132,26 +64,27 @@ fn long_script(alloc: Global, length: usize, ended: bool) -> Result<Vec<u8>, All
 #[test]
 fn the_longest_statement(rt: HostRuntime) -> Result<(), Fail> {
     let alloc = rt.alloc();
-    for ended in [true, false] {
+    for (ended, reply) in [
+        (true, b"error 10 1048575\n".as_slice()),
+        (false, b"error 11\n"),
+    ] {
         let longest = long_script(alloc, 1_048_576, ended)?;
-        expect_run(
-            &rt,
-            alloc,
-            &longest,
-            65536,
-            Status::Refused,
-            b"error 10 1048575\n",
-        )?;
+        expect_run(&rt, alloc, &longest, 65536, Status::Refused, reply)?;
         let longer = long_script(alloc, 1_048_577, ended)?;
-        expect_run(
-            &rt,
-            alloc,
-            &longer,
-            65536,
-            Status::Refused,
-            b"error 10 1048576\n",
-        )?;
+        expect_run(&rt, alloc, &longer, 65536, Status::Refused, b"error 12\n")?;
     }
+    Ok(())
+}
+
+// A statement that is too long does not swallow the next.
+#[test]
+fn behind_a_long_statement(rt: HostRuntime) -> Result<(), Fail> {
+    let alloc = rt.alloc();
+    let mut script = long_script(alloc, 1_048_577, true)?;
+    script.extend_from_slice(FIRST)?;
+    let mut replies = Vec::from_slice(alloc, b"error 12\n")?;
+    replies.extend_from_slice(FIRST_REPLIES)?;
+    expect_run(&rt, alloc, &script, 4096, Status::Refused, &replies)?;
     Ok(())
 }
 

@@ -1,3 +1,5 @@
+//! Why a run stops before the script's end.
+
 /// Why reading a script stopped before its end.
 #[derive(Clone, Copy, Debug, PartialEq, Eq)]
 pub(crate) enum Stop {

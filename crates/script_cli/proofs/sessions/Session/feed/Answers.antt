@@ -1,23 +1,25 @@
 use Rattle.std.proofs.Common.{arith}
-use Rattle.std.proofs.KnownBytes.{Appends-trans}
-use Rattle.std.proofs.lemmas.List.{take_more}
-use Rattle.script_cli.specs.Machine.{steps}
-use Rattle.std.proofs.Common.{take, refl}
-use Rattle.script_cli.proofs.Shown.{says_begins, says_more}
-use Rattle.script_cli.proofs.Feeding.{shows_more}
+use Rattle.smo_ops.specs.Past.{Past}
+use Rattle.script_cli.specs.ShowsPast.{ShowsPast}
+use Rattle.script_cli.specs.Shows.{Took}
+use Rattle.script_cli.proofs.Taking.{took_more, front_more, left_none, left_some}
 use Rattle.script_cli.proofs.sessions.Session.feed.Goals as goal
 
-pub returns-in-Err-clause-part : goal.returns-in-Err-clause-part
-returns-in-Err-clause-part g c = λ state shows.
-    says_begins state c.args.piece.now c.loop-byte.byte-index _ (take_more c.args.piece.now c.loop-byte.byte-index 0 (omega arith)) (steps state (take c.loop-byte.byte-index c.args.piece.now)) refl _ _ _
-    (c.loop-byte.invariant.wrote state shows) (c.in-Err.ensures.part _ (c.loop-byte.invariant.shows state shows))
-
-pub loop-byte-preserved : goal.loop-byte-preserved
-loop-byte-preserved g c =
-    let more = take_more c.args.piece.now c.loop-byte.byte-index 0 (omega arith) in record {
-      shows = λ state shows. shows_more _ state c.args.piece.now c.loop-byte.byte-index _ more (c.in-Ok.ensures.ok _ (c.loop-byte.invariant.shows state shows));
-      wrote = λ state shows.
-          rw (says_more state c.args.piece.now c.loop-byte.byte-index _ more (steps state (take c.loop-byte.byte-index c.args.piece.now)) refl)
-          (Appends-trans _ _ _ _ _ (c.loop-byte.invariant.wrote state shows) (c.in-Ok.ensures.all _ (c.loop-byte.invariant.shows state shows)));
-      later = omega (arith, c.in-Ok.ensures.cause.later);
+pub turns-preserved : goal.turns-preserved
+turns-preserved g c =
+    let step : (past : Past) → ShowsPast c.args.self.now.archive past → Took past c.args.self.now c.turn.new.self c.args.piece.now c.in-Some.left.now (g.K.Sink.written c.args.sink.now) (g.K.Sink.written c.turn.new.sink) = (λ past h.
+    let before = c.turns.invariant.took past h in
+    took_more past _ _ _ _ _ _ _ _ _ before (left_some _ _ _ _ c.in-Some.is (c.in-Ok.ensures.none _ before.shows))) in record {
+      took = step;
+      shows = (_, (step c.requires.shows.0 c.requires.shows.1).shows);
+      ready = c.in-Ok.ensures.ready;
+      later = omega (arith, c.turns.invariant.later, c.in-Ok.ensures.cause.later);
     }
+
+pub returns-in-None-clause-took : goal.returns-in-None-clause-took
+returns-in-None-clause-took g c = λ past h.
+    let before = c.turns.invariant.took past h in
+    took_more past _ _ _ _ _ _ _ _ _ before (left_none _ _ _ c.in-None.is (c.in-Ok.ensures.none _ before.shows))
+
+pub returns-in-Err-clause-part : goal.returns-in-Err-clause-part
+returns-in-Err-clause-part g c = λ past h. front_more past _ _ _ _ _ _ _ (c.turns.invariant.took past h) (c.in-Err.ensures.part _ (c.turns.invariant.took past h).shows)

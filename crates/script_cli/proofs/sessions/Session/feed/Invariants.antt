@@ -1,12 +1,16 @@
-use Rattle.std.proofs.Common.{◌≤◌, take}
-use Rattle.std.specs.Io.KnownBytes.{Appends}
-use Rattle.script_cli.specs.Machine.{State, steps, says}
-use Rattle.script_cli.specs.Shows.{ShowsState}
+use Rattle.std.proofs.Common.{◌≡◌, ◌≤◌, false, length}
+use Rattle.smo_ops.specs.Past.{Past}
+use Rattle.script_cli.specs.ShowsPast.{ShowsPast}
+use Rattle.script_cli.specs.Shows.{Took}
 use Rattle.script_cli.proofs.sessions.Session.feed.Given as goal
 
-abbrev pub invariant-loop-byte : goal.invariant-loop-byte
-invariant-loop-byte g l = record {
-  shows : (state : State) → ShowsState l.initial.self state → ShowsState l.self (steps state (take l.byte-index l.piece));
-  wrote : (state : State) → ShowsState l.initial.self state → Appends (g.K.Sink.written l.initial.sink) (g.K.Sink.written l.sink) (says state (take l.byte-index l.piece));
+abbrev pub invariant-turns : goal.invariant-turns
+invariant-turns g l = record {
+  took : (past : Past) → ShowsPast l.initial.self.archive past → Took past l.initial.self l.self l.piece l.rest (g.K.Sink.written l.initial.sink) (g.K.Sink.written l.sink);
+  shows : (past : Past) × ShowsPast l.self.archive past;
+  ready : l.self.splitter.spent ≡ false;
   later : g.K.Sink.faults l.initial.sink ≤ g.K.Sink.faults l.sink;
 }
+
+abbrev pub decreases-turns : goal.decreases-turns
+decreases-turns g l = length l.rest

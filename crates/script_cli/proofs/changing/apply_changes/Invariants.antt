@@ -1,0 +1,15 @@
+use Rattle.std.proofs.Common.{◌≡◌, drop}
+use Rattle.relations.specs.Sets.{set_of}
+use Rattle.prima_base.specs.Order.{row_cmp}
+use Rattle.prima_base.specs.Columns.{IsRelation}
+use Rattle.smo_ops.specs.Changes.{changes_of}
+use Rattle.smo_ops.specs.Inserting.{relation_after_each}
+use Rattle.script_cli.specs.Changing.{AreAccepted}
+use Rattle.script_cli.proofs.changing.apply_changes.Given as goal
+
+abbrev pub invariant-loop-change : goal.invariant-loop-change
+invariant-loop-change l = record {
+  relation : IsRelation l.columns (set_of row_cmp l.rows.items);
+  accepted : AreAccepted l.columns (changes_of (drop l.change-index l.changes));
+  applied : relation_after_each l.columns (changes_of l.changes) l.fn.rows.items ≡ relation_after_each l.columns (changes_of (drop l.change-index l.changes)) (set_of row_cmp l.rows.items);
+}
