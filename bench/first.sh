@@ -1,7 +1,7 @@
 #!/usr/bin/env bash
 # Times a script of n inserts of distinct rows and one query, for each n (500, 2,000 and 8,000 unless told
 # otherwise, ascending), over the built program: seconds, and the peak memory of the largest run so far.
-# One insert may cost time in proportion to the table's rows, nothing may cost more.
+# A script of ten times the inserts may take little more than ten times as long.
 set -eu
 top=$(cd "$(dirname "$0")/.." && pwd)
 "$top/prima" run </dev/null # builds what is missing
