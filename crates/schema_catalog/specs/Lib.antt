@@ -1,3 +1,4 @@
 pub mod Databases
+pub mod Differences
 pub mod Places
 pub mod Tables

@@ -1,9 +1,10 @@
 -- Tables in the order of their names, and the place of a name among them.
 use Rattle.std.specs.Prelude.{◌≡◌, ℕ, ◌<◌, ◌≤◌, List, [], ◌∷◌, T, ⊤, Result, Ok, Err, length, slice_index_or}
-use Rattle.std.specs.FinMap.{is_sorted}
+use Rattle.std.specs.FinMap.{is_sorted, from_sorted}
 use Rattle.std.specs.declared.cmp.Ordering.TheVariants.{Less, Equal, Greater}
 use Rattle.prima_base.specs.Order.{bytes_cmp}
 use Rattle.prima_base.specs.Columns.{Column, AreColumns}
+use Rattle.schema_catalog.specs.Tables.{Tables}
 
 -- a table: its name and its columns
 abbrev pub Entry : Type 0
@@ -17,6 +18,11 @@ EachAreColumns (t ∷ tables) = AreColumns t.1 × EachAreColumns tables
 pub record AreTables (tables : List Entry) : Type 0 where
   pub sorted : T (is_sorted bytes_cmp tables)
   pub columns : EachAreColumns tables
+
+-- the tables of a schema, in the order of their names
+pub record AreTablesOf (tables : List Entry) (schema : Tables) : Type 0 where
+  pub sorted : T (is_sorted bytes_cmp tables)
+  pub is : schema ≡ from_sorted tables
 
 -- where the table with this name stands, or else where one would go
 abbrev pub IsPlace : List Entry → List ℕ → Result ℕ ℕ → Type 0

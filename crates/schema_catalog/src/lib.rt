@@ -4,6 +4,7 @@
 //! `specs/` also has the databases of a schema.
 #![tactic(auto)]
 
+mod differences;
 mod laws;
 mod places;
 mod schemas;
@@ -11,6 +12,7 @@ mod tables;
 #[cfg(test)]
 mod tests;
 
+pub use differences::{SameFault, same};
 pub use laws::{database_with_table, empty_database, row_is_its_cells};
 pub use schemas::Schema;
 pub use tables::{Table, are_columns};

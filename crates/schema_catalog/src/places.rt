@@ -1,5 +1,7 @@
-ghost use Rattle.std.specs.Prelude.{◌≡◌, IfOk, OnOk, T};
+ghost use Rattle.std.specs.Prelude.{◌≡◌, [], ◌∷◌, ◌++◌, IfOk, OnOk, T, not, if◌then◌else◌};
+ghost use Rattle.std.specs.Ordering.{eq_by_cmp};
 ghost use Rattle.std.specs.FinMap.{is_sorted, put};
+ghost use Rattle.std.specs.FinMap.Entries.{where_key};
 ghost use Rattle.prima_base.specs.Order.{bytes_cmp};
 ghost use Rattle.prima_base.specs.Columns.{AreColumns};
 ghost use Rattle.schema_catalog.specs.Places.{IsPlace};
@@ -42,6 +44,32 @@ pub(crate) fn copy_tables(alloc: Global, tables: &[Table]) -> Result<Vec<Table>,
     let mut copied = Vec::with_capacity(alloc, tables.len().saturating_add(1))?;
     for table in tables {
         copied.push(table.copy()?)?;
+    }
+    Ok(copied)
+}
+
+// Puts an equal table behind the others, unless it has this name.
+fn push_unless(copied: &mut Vec<Table>, table: &Table, name: &Name) -> Result<(), NoMemory>
+    ensures { OnOk result (copied.new.items ≡ copied.old.items ++ (if eq_by_cmp bytes_cmp name.now table.now.0 then [] else table.now ∷ [])) }
+{
+    if name == table.name() {
+        return Ok(());
+    }
+    copied.push(table.copy()?)?;
+    Ok(())
+}
+
+/// Equal tables, without the one of this name.
+pub(crate) fn copy_without(
+    alloc: Global,
+    tables: &[Table],
+    name: &Name,
+) -> Result<Vec<Table>, NoMemory>
+    ensures { IfOk result (λ v. v.items ≡ where_key bytes_cmp (λ n. not (eq_by_cmp bytes_cmp name.now n)) tables.now) }
+{
+    let mut copied = Vec::with_capacity(alloc, tables.len())?;
+    for table in tables {
+        push_unless(&mut copied, table, name)?;
     }
     Ok(copied)
 }

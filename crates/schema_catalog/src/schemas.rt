@@ -1,4 +1,4 @@
-use crate::places::{copy_tables, place_of, put_table};
+use crate::places::{copy_tables, copy_without, place_of, put_table};
 use crate::tables::Table;
 use prima_base::{Name, NoMemory};
 use std::alloc::Global;
@@ -29,6 +29,7 @@ impl Schema {
     ghost use Rattle.std.specs.Prelude.{◌≡◌, ◌≤◌, Some, None, length, slice_get, MatchOption, IfOk};
     ghost use Rattle.std.specs.FinMap as map;
     ghost use Rattle.schema_catalog.specs.Tables.{IsSchema};
+    ghost use Rattle.schema_catalog.specs.Places.{AreTablesOf};
 
     /// The schema with no table. It takes no memory.
     pub fn empty(alloc: Global) -> Schema
@@ -69,6 +70,16 @@ impl Schema {
         self.tables.get(i as usize)
     }
 
+    /// An equal schema. The one error is `NoMemory`, where memory runs out.
+    pub fn copy(&self) -> Result<Schema, NoMemory>
+        ensures { IfOk result (λ s. s ≡ self.now) }
+    {
+        Ok(Schema {
+            alloc: self.alloc,
+            tables: copy_tables(self.alloc, &self.tables)?,
+        })
+    }
+
     /// The schema with this table, in place of one with its name if there is such a one; the old schema
     /// stays. The one error is `NoMemory`, where memory runs out.
     pub fn with(&self, table: Table) -> Result<Schema, NoMemory>
@@ -80,5 +91,23 @@ impl Schema {
             alloc: self.alloc,
             tables,
         })
+    }
+
+    /// The schema without the table of this name, if there is such a one; the old schema stays. The one error is
+    /// `NoMemory`, where memory runs out.
+    pub fn without(&self, name: &Name) -> Result<Schema, NoMemory>
+        ensures { IfOk result (λ s. s ≡ map.remove self.now name.now) }
+    {
+        Ok(Schema {
+            alloc: self.alloc,
+            tables: copy_without(self.alloc, &self.tables, name)?,
+        })
+    }
+
+    // The tables, in the order of their names.
+    pub(crate) fn tables(&self) -> &[Table]
+        ensures { AreTablesOf result.now self.now }
+    {
+        &self.tables
     }
 }

@@ -102,6 +102,99 @@ fn tables_stand_in_the_order_of_names(rt: HostRuntime) -> Result<(), Fail> {
     Ok(())
 }
 
+// The schema with these tables.
+fn schema_of(
+    rt: &impl Abort,
+    alloc: Global,
+    tables: &[(&[u8], &[(&[u8], ColType)])],
+) -> Result<Schema, AllocError> {
+    let mut made = Schema::empty(alloc);
+    for (name, columns) in tables {
+        made = with(&made, table_of(rt, alloc, name, columns)?)?;
+    }
+    Ok(made)
+}
+
+fn without(schema: &Schema, name: &Name) -> Result<Schema, AllocError> {
+    match schema.without(name) {
+        Ok(schema) => Ok(schema),
+        Err(NoMemory) => Err(AllocError),
+    }
+}
+
+#[test]
+fn a_table_goes(rt: HostRuntime) -> Result<(), Fail> {
+    let alloc = rt.alloc();
+    let all = schema_of(
+        &rt,
+        alloc,
+        &[
+            (b"m", &[(b"x", ColType::Int)]),
+            (b"a", &[]),
+            (b"z", &[(b"y", ColType::Text)]),
+        ],
+    )?;
+    let cases: [(&[u8], &[u8]); 4] = [
+        (b"a", b"m:x#;z:y$;"),
+        (b"m", b"a:;z:y$;"),
+        (b"z", b"a:;m:x#;"),
+        (b"zz", b"a:;m:x#;z:y$;"),
+    ];
+    for (name, want) in cases {
+        let rest = without(&all, &name_of(alloc, name)?)?;
+        assert_eq!(rt; text_of(alloc, &rest)?.as_slice(), want);
+    }
+    assert_eq!(rt;
+        text_of(alloc, &all)?.as_slice(),
+        b"a:;m:x#;z:y$;".as_slice()
+    );
+    match all.copy() {
+        Ok(copied) => assert_eq!(rt;
+            text_of(alloc, &copied)?.as_slice(),
+            b"a:;m:x#;z:y$;".as_slice()
+        ),
+        Err(NoMemory) => return Err(Fail::from(AllocError)),
+    }
+    Ok(())
+}
+
+// The name under which two schemas differ; empty where they are the same.
+fn difference_of(alloc: Global, a: &Schema, b: &Schema) -> Result<Vec<u8>, AllocError> {
+    match same(a, b) {
+        Ok(()) => Ok(Vec::new(alloc)),
+        Err(SameFault::Differs(name)) => name.bytes().to_vec(alloc),
+        Err(SameFault::NoMemory) => Err(AllocError),
+    }
+}
+
+#[test]
+fn schemas_differ_first_at(rt: HostRuntime) -> Result<(), Fail> {
+    let alloc = rt.alloc();
+    let x: &[(&[u8], ColType)] = &[(b"x", ColType::Int)];
+    let y: &[(&[u8], ColType)] = &[(b"y", ColType::Int)];
+    let text: &[(&[u8], ColType)] = &[(b"x", ColType::Text)];
+    let more: &[(&[u8], ColType)] = &[(b"x", ColType::Int), (b"y", ColType::Int)];
+    let base: &[(&[u8], &[(&[u8], ColType)])] = &[(b"b", x), (b"m", y), (b"z", x)];
+    let cases: [(&[(&[u8], &[(&[u8], ColType)])], &[u8]); 9] = [
+        (&[(b"b", x), (b"m", y), (b"z", x)], b""),
+        (&[], b"b"),
+        (&[(b"b", x), (b"m", y)], b"z"),
+        (&[(b"b", x), (b"z", x)], b"m"),
+        (&[(b"a", x), (b"b", x), (b"m", y), (b"z", y)], b"a"),
+        (&[(b"b", x), (b"c", x), (b"m", x), (b"z", x)], b"c"),
+        (&[(b"b", text), (b"m", y), (b"z", y)], b"b"),
+        (&[(b"b", x), (b"m", more), (b"z", y)], b"m"),
+        (&[(b"b", x), (b"m", y), (b"z", x), (b"zz", x)], b"zz"),
+    ];
+    let first = schema_of(&rt, alloc, base)?;
+    for (tables, want) in cases {
+        let second = schema_of(&rt, alloc, tables)?;
+        assert_eq!(rt; difference_of(alloc, &first, &second)?.as_slice(), want);
+        assert_eq!(rt; difference_of(alloc, &second, &first)?.as_slice(), want);
+    }
+    Ok(())
+}
+
 #[test]
 fn columns_ascend(rt: HostRuntime) -> Result<(), Fail> {
     let alloc = rt.alloc();
