@@ -8,17 +8,17 @@ use Rattle.std.specs.Cmp.Lexicographic.{nat_list_cmp_total}
 use Rattle.prima_base.specs.declared.refusals.What.TheVariants.{Tables as TABLES, Columns as COLUMNS}
 use Rattle.prima_base.specs.declared.refusals.OpRefusal.TheVariants.{Exists, LastColumn, ColumnExists, TooMany}
 use Rattle.prima_base.specs.Order.{bytes_cmp}
-use Rattle.prima_base.specs.Columns.{Column, names_of, AreColumns, IsRelation}
+use Rattle.prima_base.specs.Columns.{Column, names_of, IsRelation}
 use Rattle.schema_catalog.specs.Tables.{Tables}
 use Rattle.schema_catalog.specs.Databases.{Rows, Database, IsEntry, IsDatabase}
 use Rattle.smo_ops.specs.Operators.{Operator, create_table}
 use Rattle.smo_ops.specs.First.{unless}
 use Rattle.smo_ops.specs.Preconditions.{AreNarrow, is_free, is_some_column, each_once, few_columns, few_tables, most_columns, most_tables, first_again}
 use Rattle.smo_ops.specs.Making.{in_order}
-use Rattle.smo_ops.specs.After.{op_fault, behind, carried, IsLawful, IsAfter, IsCreateTable}
+use Rattle.smo_ops.specs.After.{op_fault, behind, carried, IsLawful, IsAfter}
 use Rattle.smo_ops.specs.declared.ops.OpFault.{OpFault}
-use Rattle.smo_ops.proofs.Firsts.{none_of_first, met, first_later, first_alone}
-use Rattle.smo_ops.proofs.ColumnLaws.{in_order_are_columns, in_order_length}
+use Rattle.smo_ops.proofs.Firsts.{first_later, first_alone}
+use Rattle.smo_ops.proofs.NextSchemas.{next_is_lawful}
 
 at_most_is : (n limit : ℕ) → nat_le n limit ≡ true → n ≤ limit
 at_most_is n limit e = grind (arith, e)
@@ -38,22 +38,6 @@ each_with P tables r columns h p n cs e = step (eq_by_cmp bytes_cmp n r) (sym (g
 -- tables stay narrow with a narrow one more
 pub narrow_with : (tables next : Tables) (r : List ℕ) (columns : List Column) → next ≡ insert tables r columns → length columns ≤ 32 → AreNarrow tables → AreNarrow next
 narrow_with tables next r columns e few h = subst AreNarrow (sym e) (each_with (λ cs. length cs ≤ most_columns) tables r columns h few)
-
-pub created_is_lawful : (tables : Tables) (r : List ℕ) (cs : List Column) → IsLawful tables → op_fault tables (create_table r cs) ≡ None
-    → IsLawful (behind tables (create_table r cs))
-created_is_lawful tables r cs h e =
-    let t1 = none_of_first (is_free tables [] r) (is_some_column r cs ∷ each_once r (names_of cs) ∷ few_columns cs ∷ few_tables (insert tables r (in_order cs)) ∷ []) e in
-    let t2 = none_of_first (is_some_column r cs) (each_once r (names_of cs) ∷ few_columns cs ∷ few_tables (insert tables r (in_order cs)) ∷ []) t1.1 in
-    let t3 = none_of_first (each_once r (names_of cs)) (few_columns cs ∷ few_tables (insert tables r (in_order cs)) ∷ []) t2.1 in
-    let t4 = none_of_first (few_columns cs) (few_tables (insert tables r (in_order cs)) ∷ []) t3.1 in
-    let t5 = none_of_first (few_tables (insert tables r (in_order cs))) [] t4.1 in
-    let narrow : length cs ≤ 32 = at_most_is (length cs) 32 (met (nat_le (length cs) most_columns) (TooMany COLUMNS most_columns) t4.0) in
-    let shorter : length (in_order cs) ≤ length cs = in_order_length cs in
-    record {
-      schema = each_with AreColumns tables r (in_order cs) h.schema (in_order_are_columns cs);
-      narrow = each_with (λ columns. length columns ≤ most_columns) tables r (in_order cs) h.narrow (omega arith);
-      few = at_most_is (len (insert tables r (in_order cs))) 64 (met (nat_le (len (insert tables r (in_order cs))) most_tables) (TooMany TABLES most_tables) t5.0);
-    }
 
 no_rows : (columns : List Column) → IsRelation columns []
 no_rows columns = record { ascending = tt; fitting = λ row m. absurd m }
@@ -103,7 +87,6 @@ pub not_there : {A : Type 0} (r : Option A) (g : Option (List Column)) (Q : A �
 not_there None g Q h e = h
 not_there (Some x) g Q h e = absurd (cc)
 
-pub still_lawful : (tables : Tables) (op : Operator) (answer : Result Tables OpFault) → IsCreateTable op → IsAfter tables op answer → IsLawful tables → IfOk answer IsLawful
-still_lawful tables (create_table r cs) (Ok next) c a h = subst IsLawful (sym a.1) (created_is_lawful tables r cs h a.0)
-still_lawful tables op (Err e) c a h = tt
-still_lawful tables _ (Ok next) c a h = absurd c
+pub still_lawful : (tables : Tables) (op : Operator) (answer : Result Tables OpFault) → IsAfter tables op answer → IsLawful tables → IfOk answer IsLawful
+still_lawful tables op (Ok next) a h = subst IsLawful (sym a.1) (next_is_lawful tables op h a.0)
+still_lawful tables op (Err e) a h = tt

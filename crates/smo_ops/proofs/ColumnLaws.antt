@@ -14,7 +14,7 @@ names_placed Less c d ds more = refl
 names_placed Equal c d ds more = refl
 names_placed Greater c d ds more = refl
 
-names_put : (c : Column) (ds : List Column) → names_of (put_in column_cmp c ds) ≡ put_in bytes_cmp c.0 (names_of ds)
+pub names_put : (c : Column) (ds : List Column) → names_of (put_in column_cmp c ds) ≡ put_in bytes_cmp c.0 (names_of ds)
 names_put c [] = refl
 names_put c (d ∷ ds) =
     names_placed (bytes_cmp c.0 d.0) c d ds (put_in column_cmp c ds)
@@ -33,7 +33,7 @@ length_placed Less c d ds more h = omega arith
 length_placed Equal c d ds more h = omega arith
 length_placed Greater c d ds more h = omega arith
 
-length_put : (c : Column) (ds : List Column) → length (put_in column_cmp c ds) ≤ length ds + 1
+pub length_put : (c : Column) (ds : List Column) → length (put_in column_cmp c ds) ≤ length ds + 1
 length_put c [] = omega arith
 length_put c (d ∷ ds) = (let h = length_placed (bytes_cmp c.0 d.0) c d ds (put_in column_cmp c ds) (length_put c ds) in omega arith)
 

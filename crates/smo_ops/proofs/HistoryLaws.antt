@@ -12,11 +12,11 @@ use Rattle.smo_ops.specs.After.{behind, carried}
 use Rattle.smo_ops.specs.Past.{Past, no_tables, no_database, tables_from, tables_of, newest_from, newest_tables, version_at, database_at, latest_from, newest_database, from_stamp, next_version, past_with}
 use Rattle.smo_ops.specs.LawfulPast.{AllInForce, last_or_nought, IsPast}
 use Rattle.smo_ops.specs.Accepts.{body_tests}
-use Rattle.smo_ops.specs.History.{past_after, AllAccepted, AllOfToday, Standing, a_standing, stands_after, stands_after_all, up_to, HasState}
+use Rattle.smo_ops.specs.History.{past_after, AllAccepted, Standing, a_standing, stands_after, stands_after_all, up_to, HasState}
 use Rattle.smo_ops.proofs.DatabaseLaws.{changes_keep}
 use Rattle.smo_ops.proofs.SameDatabases.{same_database}
 use Rattle.smo_ops.proofs.PastLaws.{not_at, at_least, up_to_later, newest_holds, latest_is, newest_added}
-use Rattle.smo_ops.proofs.PastSteps.{stamp_accepted, later_stamp, body_accepted, no_sum, stays_past, before_command}
+use Rattle.smo_ops.proofs.PastSteps.{stamp_accepted, later_stamp, body_accepted, no_sum, stays_lawful, before_command}
 
 is_at_most : (m n : ℕ) → nat_le m n ≡ true → m ≤ n
 is_at_most m n e = grind (arith, e)
@@ -139,12 +139,12 @@ still_newest past commands m h later l = record {
   lawful = h.database;
 }
 
-pub has_state : (past : Past) (commands : List PlainCommand) (m : ℕ) → IsPast past → AllAccepted past commands → AllOfToday commands → last_or_nought past.last ≤ m
+pub has_state : (past : Past) (commands : List PlainCommand) (m : ℕ) → IsPast past → AllAccepted past commands → last_or_nought past.last ≤ m
     → HasState (past_after past commands) m (stands_after_all (newest past) (up_to m commands))
-has_state past [] m h a today l = still_newest past [] m h tt l
-has_state past (c ∷ commands) m h a today l =
-    let next : IsPast (past_with past c) = stays_past past c.stamp c.body h (stamp_accepted past c a.0) (body_accepted past c a.0) today.0 in
-    step (nat_le c.stamp m) refl (has_state (past_with past c) commands m next a.1 today.1)
+has_state past [] m h a l = still_newest past [] m h tt l
+has_state past (c ∷ commands) m h a l =
+    let next : IsPast (past_with past c) = stays_lawful past c.stamp c.body h (stamp_accepted past c a.0) (body_accepted past c a.0) in
+    step (nat_le c.stamp m) refl (has_state (past_with past c) commands m next a.1)
   where
     reached : nat_le c.stamp m ≡ true → last_or_nought (past_with past c).last ≤ m
     reached q = (let same = last_is past c.stamp c.body in let low = is_at_most c.stamp m q in omega arith)

@@ -73,7 +73,7 @@ type_of (Int n) TEXT e = absurd (cc)
 type_of (Text t) INT e = absurd (cc)
 type_of (Text t) TEXT e = refl
 
-same_types : (x y : ColType) → same_type x y ≡ true → x ≡ y
+pub same_types : (x y : ColType) → same_type x y ≡ true → x ≡ y
 same_types INT INT h = refl
 same_types INT TEXT h = absurd (cc)
 same_types TEXT INT h = absurd (cc)

@@ -9,7 +9,7 @@ use Rattle.prima_base.specs.Order.{bytes_cmp}
 use Rattle.prima_base.specs.Columns.{Column}
 use Rattle.schema_catalog.specs.Tables.{Tables}
 use Rattle.schema_catalog.specs.Databases.{Entry, Database, IsDatabase}
-use Rattle.smo_ops.specs.Operators.{Operator, create_table}
+use Rattle.smo_ops.specs.Operators.{Operator}
 use Rattle.smo_ops.specs.Commands.{PlainBody, changing, evolving, PlainCommand, PlainVersion}
 use Rattle.smo_ops.specs.First.{unless, first_refusal}
 use Rattle.smo_ops.specs.Effects.{after_each, gained, lost}
@@ -17,10 +17,12 @@ use Rattle.smo_ops.specs.After.{op_fault, behind, carried, IsLawful}
 use Rattle.smo_ops.specs.Past.{State, Past, no_tables, no_database, beginning, newest_from, newest_tables, database_from, database_at, latest_from, newest_database, from_stamp, next_version, past_with, database_behind}
 use Rattle.smo_ops.specs.LawfulPast.{AreStates, AllUpTo, AreDistinct, EachStarts, last_or_nought, IsPast, IsOfToday}
 use Rattle.smo_ops.specs.Counts.{first_excess}
-use Rattle.smo_ops.specs.Accepts.{refusal_of, inverse_tests, count_fault, stamp_fault, most_versions, body_tests, command_fault}
+use Rattle.smo_ops.specs.Inverses.{inverse_tests}
+use Rattle.smo_ops.specs.Accepts.{refusal_of, count_fault, stamp_fault, most_versions, body_tests, command_fault}
 use Rattle.smo_ops.proofs.Firsts.{none_of_first, none_mapped, met}
 use Rattle.smo_ops.proofs.DatabaseLaws.{changes_keep}
-use Rattle.smo_ops.proofs.AfterLaws.{created_is_lawful, created_database}
+use Rattle.smo_ops.proofs.NextSchemas.{next_is_lawful}
+use Rattle.smo_ops.proofs.CarriedDatabases.{carried_database}
 use Rattle.smo_ops.proofs.CountingLaws.{self_gains_nothing}
 use Rattle.smo_ops.proofs.SameDatabases.{same_database}
 use Rattle.smo_ops.proofs.PastLaws.{earlier_states, later_states, newest_holds, latest_is, still_states, ends_at, up_to_later, newest_added, in_force_later, in_force_added}
@@ -104,9 +106,9 @@ changed_is_other old new e q =
     let l : lost old new ≡ 0 = ap (lost old) q ∙ self_gains_nothing old in
     grind (arith, e)
 
-pub stays_past : (past : Past) (stamp : ℕ) (body : PlainBody) → IsPast past → stamp_fault past.last stamp ≡ None → first_refusal (body_tests past body) ≡ None → IsOfToday body
+pub stays_lawful : (past : Past) (stamp : ℕ) (body : PlainBody) → IsPast past → stamp_fault past.last stamp ≡ None → first_refusal (body_tests past body) ≡ None
     → IsPast (past_with past (record { stamp = stamp; body = body }))
-stays_past past stamp (changing changes) h f e today =
+stays_lawful past stamp (changing changes) h f e =
     let l : last_or_nought past.last ≤ stamp = stamp_is_later past.last stamp f in
     let new : Database = after_each (newest_tables past) changes (newest_database past) in
     let same : Bool = gained (newest_database past) new + lost (newest_database past) new == 0 in
@@ -121,16 +123,16 @@ stays_past past stamp (changing changes) h f e today =
       begun = if_begun past.versions same stamp new past.states h.begun (each_still_starts past.last stamp new past.states h.states h.ended f past.versions h.begun);
       ended = if_ended same stamp new past.states (up_to_later (last_or_nought past.last) stamp past.states l h.ended);
     }
-stays_past past stamp (evolving (create_table r cs) inverse) h f e today =
+stays_lawful past stamp (evolving op inverse) h f e =
     let l : last_or_nought past.last ≤ stamp = stamp_is_later past.last stamp f in
-    let op : Operator = create_table r cs in
+    let accepted : op_fault (newest_tables past) op ≡ None = operator_accepted past op inverse e in
     let new : Database = carried (newest_tables past) op (newest_database past) in
     let version : PlainVersion = next_version stamp op inverse past in
     let tables : newest_from no_tables (past.versions ++ next_version stamp op inverse past ∷ []) ≡ behind (newest_tables past) op = newest_added no_tables past.versions (next_version stamp op inverse past) in
     record {
-      tables = subst IsLawful (sym tables) (created_is_lawful (newest_tables past) r cs h.tables (operator_accepted past op inverse e));
+      tables = subst IsLawful (sym tables) (next_is_lawful (newest_tables past) op h.tables accepted);
       database = subst (λ (t : Tables). IsDatabase t (latest_from no_database (from_stamp stamp new past.states))) (sym tables)
-          (subst (IsDatabase (behind (newest_tables past) op)) (sym (latest_is stamp new no_database past.states)) (created_database (newest_tables past) (newest_database past) r cs h.database));
+          (subst (IsDatabase (behind (newest_tables past) op)) (sym (latest_is stamp new no_database past.states)) (carried_database (newest_tables past) op (newest_database past) h.tables.schema accepted h.database));
       versions = in_force_added stamp past.versions (next_version stamp op inverse past) (in_force_later (last_or_nought past.last) stamp past.versions l h.versions) (omega arith);
       states = still_states stamp new past.states h.states;
       distinct = still_distinct past.last stamp new past.states h.states h.ended f (past.versions ++ version ∷ []) (distinct_still past.versions version past.states h.distinct)
@@ -138,7 +140,10 @@ stays_past past stamp (evolving (create_table r cs) inverse) h f e today =
       begun = each_starts_with past.last stamp new past.states h.states h.ended f past.versions version refl h.begun;
       ended = ends_at stamp new past.states;
     }
-stays_past past stamp (evolving _ inverse) h f e today = absurd today
+
+pub stays_past : (past : Past) (stamp : ℕ) (body : PlainBody) → IsPast past → stamp_fault past.last stamp ≡ None → first_refusal (body_tests past body) ≡ None → IsOfToday body
+    → IsPast (past_with past (record { stamp = stamp; body = body }))
+stays_past past stamp body h f e today = stays_lawful past stamp body h f e
 
 -- earlier moments
 pub before_command : (past : Past) (stamp : ℕ) (body : PlainBody) (m : ℕ) → m < stamp

@@ -23,16 +23,16 @@ use Rattle.smo_ops.specs.Checks.{AreSmall, IsSmall, AllSmall, pair_names, name_f
 use Rattle.smo_ops.proofs.Firsts.{none_of_both, none_of_first, met, first_alone}
 use Rattle.smo_ops.proofs.ChangeTests.{few_pairs}
 
-fits : (what : What) (limit n : ℕ) → at_most what limit n ≡ None → n ≤ limit
+pub fits : (what : What) (limit n : ℕ) → at_most what limit n ≡ None → n ≤ limit
 fits what limit n e = step (nat_le n limit) refl (met {R = What × ℕ} (nat_le n limit) (what, limit) e)
   where
     step : (b : Bool) → nat_le n limit ≡ b → nat_le n limit ≡ true → n ≤ limit
     step b q h = grind (arith, h)
 
-small_tree : (t : Tree) → first_refusal (tree_counts t) ≡ None → nodes_of t ≤ 256
+pub small_tree : (t : Tree) → first_refusal (tree_counts t) ≡ None → nodes_of t ≤ 256
 small_tree t e = fits Nodes 256 (nodes_of t) (none_of_first (at_most Nodes 256 (nodes_of t)) (at_most Depth 32 (depth_of t) ∷ at_most Parts 8 (longest_of t) ∷ []) e).0
 
-small_test : (c : Test) → first_refusal (test_counts c) ≡ None → test_nodes c ≤ 256
+pub small_test : (c : Test) → first_refusal (test_counts c) ≡ None → test_nodes c ≤ 256
 small_test c e = fits Nodes 256 (test_nodes c) (none_of_first (at_most Nodes 256 (test_nodes c)) (at_most Depth 32 (test_depth c) ∷ at_most Parts 8 (test_longest c) ∷ []) e).0
 
 small_sets : (sets : List (List ℕ × Tree)) → first_refusal (set_counts sets) ≡ None → AreSmall sets

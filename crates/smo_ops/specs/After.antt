@@ -1,12 +1,13 @@
 -- What is behind an operator: the first precondition that fails, or the next schema; and its database.
-use Rattle.std.specs.Prelude.{◌≡◌, ◌≤◌, ℕ, List, [], ◌∷◌, Option, Some, None, Result, Ok, Err, ⊤}
+use Rattle.std.specs.Prelude.{◌≡◌, ◌<◌, ◌≤◌, ◌^◌, ℕ, List, [], ◌∷◌, Option, Some, None, Result, Ok, Err, ⊤}
 use Rattle.std.specs.FinMap.{insert, remove, len}
 use Rattle.prima_base.specs.declared.refusals.OpRefusal.{OpRefusal}
 use Rattle.schema_catalog.specs.Tables.{Tables, IsSchema}
 use Rattle.schema_catalog.specs.Databases.{Database}
+use Rattle.cond_expr.specs.Sizes.{nodes_of, test_nodes}
 use Rattle.smo_ops.specs.declared.ops.OpFault.{OpFault}
 use Rattle.smo_ops.specs.declared.ops.OpFault.TheVariants.{Refused, NoMemory}
-use Rattle.smo_ops.specs.Operators.{Operator, create_table}
+use Rattle.smo_ops.specs.Operators.{Operator, nop, create_table, drop_table, rename_table, copy_table, merge_table, partition_table, decompose_table, join_table, add_column, drop_column, rename_column}
 use Rattle.smo_ops.specs.First.{first_refusal}
 use Rattle.smo_ops.specs.Preconditions.{AreNarrow, most_tables}
 use Rattle.smo_ops.specs.OperatorTable.{Made, line, tables_behind}
@@ -32,12 +33,6 @@ make_all (m ∷ made) before db = make_all made before (insert db m.name (m.entr
 abbrev pub carried : Tables → Operator → Database → Database
 carried tables op db = make_all (line tables op).made db (lose_all (line tables op).consumed db)
 
--- what the tests of an operator answer
-abbrev pub IsAllowed : Option OpRefusal → Result (Unit {0}) OpFault → Type 0
-IsAllowed fault (Ok u) = fault ≡ None
-IsAllowed fault (Err (Refused refusal)) = fault ≡ Some refusal
-IsAllowed fault (Err NoMemory) = ⊤
-
 -- what `after` answers
 abbrev pub IsAfter : Tables → Operator → Result Tables OpFault → Type 0
 IsAfter tables op (Ok next) = (op_fault tables op ≡ None) × (next ≡ behind tables op)
@@ -50,7 +45,26 @@ pub record IsLawful (tables : Tables) : Type 0 where
   pub narrow : AreNarrow tables
   pub few : len tables ≤ most_tables
 
--- the operators of which `after` answers today
+-- the operator's tree, where it has one, has so few nodes that the number of each fits a refusal
+abbrev pub HasFewNodes : Operator → Type 0
+HasFewNodes nop = ⊤
+HasFewNodes (create_table r cs) = ⊤
+HasFewNodes (drop_table r) = ⊤
+HasFewNodes (rename_table r t) = ⊤
+HasFewNodes (copy_table r t) = ⊤
+HasFewNodes (merge_table r s t) = ⊤
+HasFewNodes (partition_table r s c t) = test_nodes c < 2 ^ 32
+HasFewNodes (decompose_table r s xs t ys) = ⊤
+HasFewNodes (join_table r s t c) = test_nodes c < 2 ^ 32
+HasFewNodes (add_column c e r) = nodes_of e < 2 ^ 32
+HasFewNodes (drop_column c r) = ⊤
+HasFewNodes (rename_column b r c) = ⊤
+
+abbrev pub HaveFewNodes : List Operator → Type 0
+HaveFewNodes [] = ⊤
+HaveFewNodes (op ∷ ops) = HasFewNodes op × HaveFewNodes ops
+
+-- the operators that the program takes today
 abbrev pub IsCreateTable : Operator → Type 0
 IsCreateTable (create_table r cs) = ⊤
 IsCreateTable _ = ⊥

@@ -7,7 +7,6 @@ use Rattle.smo_ops.specs.Commands.{PlainBody, changing, evolving, PlainCommand}
 use Rattle.smo_ops.specs.Effects.{after_each}
 use Rattle.smo_ops.specs.After.{behind, carried}
 use Rattle.smo_ops.specs.Past.{Past, no_tables, no_database, beginning, tables_of, version_at, database_at, past_with}
-use Rattle.smo_ops.specs.LawfulPast.{IsOfToday}
 use Rattle.smo_ops.specs.Accepts.{command_fault}
 
 -- the past with these commands, one after the other
@@ -26,11 +25,6 @@ AllAccepted past (c ∷ commands) = (command_fault past c ≡ None) × AllAccept
 
 abbrev pub IsHistory : List PlainCommand → Type 0
 IsHistory commands = AllAccepted beginning commands
-
--- changes, and the one operator of which `after` answers today
-abbrev pub AllOfToday : List PlainCommand → Type 0
-AllOfToday [] = ⊤
-AllOfToday (c ∷ commands) = IsOfToday c.body × AllOfToday commands
 
 -- the number of a version, its tables, and their database
 pub record Standing : Type 0 where

@@ -8,12 +8,17 @@ pub mod Inserting
 pub mod Preconditions
 pub mod Making
 pub mod OperatorTable
+pub mod Touching
+pub mod Losses
+pub mod RowMeaning
 pub mod After
+pub mod Tested
 pub mod Past
 pub mod Checks
 pub mod Walks
 pub mod Placed
 pub mod Counts
+pub mod Inverses
 pub mod Accepts
 pub mod LawfulPast
 pub mod History

@@ -1,17 +1,32 @@
 ghost use Rattle.std.specs.Prelude.{◌≡◌, IfOk};
 ghost use Rattle.smo_ops.specs.Operators.{create_table, operator_of};
 ghost use Rattle.smo_ops.specs.Accepts.{refusal_of};
-ghost use Rattle.smo_ops.specs.After.{op_fault, IsAllowed, IsAfter, IsCreateTable, IsLawful};
+ghost use Rattle.smo_ops.specs.After.{op_fault, IsAfter, HasFewNodes, IsLawful};
+ghost use Rattle.smo_ops.specs.Tested.{IsTested};
 
+mod column_preconditions;
+mod decompose;
+mod one_column;
+mod partition;
+mod preconditions;
+mod tree_preconditions;
+mod two_tables;
+mod whole_tables;
+
+use crate::afters::decompose::after_decompose;
+use crate::afters::one_column::{after_add_column, after_drop_column, after_rename_column};
+use crate::afters::partition::after_partition;
+use crate::afters::two_tables::{after_join, after_merge};
+use crate::afters::whole_tables::{after_copy, after_drop, after_nop, after_rename};
 use crate::making::{first_again, in_order};
 use crate::{Op, OpFault};
 use prima_base::{ColType, Name, OpRefusal, Refusal, What};
 use schema_catalog::{Schema, Table};
 use std::alloc::Global;
 
-const MAX_COLUMNS: usize = 32;
+pub(crate) const MAX_COLUMNS: usize = 32;
 
-const MAX_TABLES: usize = 64;
+pub(crate) const MAX_TABLES: usize = 64;
 
 // The preconditions of CREATE TABLE, in their order.
 fn check_new_table(
@@ -20,7 +35,7 @@ fn check_new_table(
     table: &Name,
     columns: &[(Name, ColType)],
 ) -> Result<(), OpFault>
-    ensures { IsAllowed (op_fault schema.now (create_table table.now columns.now)) result }
+    ensures { IsTested (op_fault schema.now (create_table table.now columns.now)) result }
 {
     if schema.table(table).is_some() {
         return Err(OpFault::Refused(OpRefusal::Exists(table.copy()?)));
@@ -54,18 +69,96 @@ fn create(
     Ok(next)
 }
 
-/// The schema behind an operator, or the first precondition that fails, in the order of the table of operators. The
-/// old schema stays. Today the operator is a CREATE TABLE: the table is not there yet (26); it has a column (30), none
-/// twice (27), and at most 32 (38); behind it there are at most 64 tables (38).
+// The schema behind an operator, kind by kind.
+fn next_schema(alloc: Global, schema: &Schema, op: &Op) -> Result<Schema, OpFault>
+    requires { HasFewNodes (operator_of op.now) }
+    ensures { IsAfter schema.now (operator_of op.now) result }
+{
+    match op {
+        Op::Nop => after_nop(schema),
+        Op::CreateTable { table, columns } => create(alloc, schema, table, columns),
+        Op::DropTable { table } => after_drop(schema, table),
+        Op::RenameTable { table, into } => after_rename(alloc, schema, table, into),
+        Op::CopyTable { table, into } => after_copy(alloc, schema, table, into),
+        Op::MergeTable { left, right, into } => after_merge(alloc, schema, left, right, into),
+        Op::PartitionTable {
+            table,
+            yes,
+            cond,
+            no,
+        } => after_partition(alloc, schema, table, yes, cond, no),
+        Op::DecomposeTable {
+            table,
+            left,
+            left_columns,
+            right,
+            right_columns,
+        } => {
+            after_decompose(
+                alloc,
+                schema,
+                table,
+                left,
+                left_columns,
+                right,
+                right_columns,
+            )
+        }
+        Op::JoinTable {
+            left,
+            right,
+            into,
+            cond,
+        } => after_join(alloc, schema, left, right, into, cond),
+        Op::AddColumn {
+            column,
+            expr,
+            table,
+        } => after_add_column(alloc, schema, column, expr, table),
+        Op::DropColumn { column, table } => after_drop_column(alloc, schema, column, table),
+        Op::RenameColumn {
+            column,
+            table,
+            into,
+        } => after_rename_column(alloc, schema, column, table, into),
+    }
+}
+
+/// The schema behind an operator, or the first of its preconditions that fails; the old schema stays. They are tested in
+/// this order, each with the number of its refusal:
+///
+/// - NOP has none.
+/// - CREATE TABLE: no table has the name (26); there is a column (30); no column is named twice (27); there are at most 32
+///   columns (38); behind it there are at most 64 tables (38).
+/// - DROP TABLE: the table is there (22).
+/// - RENAME TABLE: the table is there (22); the new name is another (31), and free (26).
+/// - COPY TABLE: the table is there (22); the new name is free (26); behind it there are at most 64 tables (38).
+/// - MERGE TABLE: the first table is there, then the second (22); they are not one (31); the new name is free (26); the
+///   two have the same columns and types (28).
+/// - PARTITION TABLE: the table is there (22); the new names are not one (31); the first is free, then the second (26);
+///   each reference of the condition is to a column of the table (23); the condition is well-typed (25); behind it there
+///   are at most 64 tables (38).
+/// - DECOMPOSE TABLE: the table is there (22); the new names are not one (31); the first is free, then the second (26); the
+///   columns that are named are the table's, those of the first part before those of the second (23); no column is named
+///   twice for the first part, then for the second (27); neither part is empty, the two have a common column, and together
+///   they have all columns (29); behind it there are at most 64 tables (38).
+/// - JOIN TABLE: the first table is there, then the second (22); they are not one (31); the new name is free (26); common
+///   columns have equal types (28); the made table has at most 32 columns (38); each reference of the condition is to a
+///   column of it (23); the condition is well-typed (25).
+/// - ADD COLUMN: the table is there (22), without the column (27); each reference of the expression is to a column of the
+///   table (23); the expression is well-typed (25); with the new column there are at most 32 (38).
+/// - DROP COLUMN: the table is there (22), with the column (23) and another one (30).
+/// - RENAME COLUMN: the table is there (22), with the column (23) and without one of the new name (27).
+///
+/// A name is free where no table has it, or where the operator consumes the table that has it. `WrongType` has the number
+/// of the first node whose parts have types that it does not take, in pre-order from 0; so each tree of the operator has
+/// fewer than 2^32 nodes. Where memory runs out the answer is `NoMemory`.
 pub fn after(alloc: Global, schema: &Schema, op: &Op) -> Result<Schema, OpFault>
-    requires { IsCreateTable (operator_of op.now) }
+    requires { HasFewNodes (operator_of op.now) }
     ensures after { IsAfter schema.now (operator_of op.now) result }
     ensures lawful { IsLawful schema.now → IfOk result (λ s. IsLawful s) }
 {
-    match op {
-        Op::CreateTable { table, columns } => create(alloc, schema, table, columns),
-        _ => unreachable!(),
-    }
+    next_schema(alloc, schema, op)
 }
 
 /// An operator's refusal as that of its statement. It takes no memory.

@@ -9,7 +9,7 @@ use cond_expr::{Cond, Expr};
 use prima_base::{ColType, Name, NoMemory, Value};
 use std::alloc::Global;
 
-fn copy_columns(
+pub(crate) fn copy_columns(
     alloc: Global,
     columns: &[(Name, ColType)],
 ) -> Result<Vec<(Name, ColType)>, NoMemory>

@@ -155,9 +155,11 @@ fn inverse(alloc: Global, before: u32, parts: u32, behind: u32) -> Result<Vec<Op
 }
 
 // The parts of the operator, and of its inverse with so many NOPs before and behind.
-const EVOLVES: [(u32, u32, u32, u32, Excess); 4] = [
+const EVOLVES: [(u32, u32, u32, u32, Excess); 6] = [
     (8, 7, 8, 0, None),
-    (9, 8, 1, 0, PARTS),
+    (9, 8, 256, 0, PARTS),
+    (256, 8, 9, 0, NODES),
+    (8, 7, 256, 9, NODES),
     (8, 8, 9, 0, Some((What::Inverse, 8))),
     (8, 7, 9, 1, PARTS),
 ];
@@ -206,12 +208,22 @@ fn excess_of_op(alloc: Global, op: Op) -> Result<Excess, Fail> {
     excess_of(Body::Evolve { op, inverse })
 }
 
+fn excess_of_member(alloc: Global, op: Op) -> Result<Excess, Fail> {
+    let mut inverse = Vec::new(alloc);
+    inverse.push(op)?;
+    excess_of(Body::Evolve {
+        op: Op::Nop,
+        inverse,
+    })
+}
+
 #[test]
 fn conditions_of_operators_are_counted(rt: HostRuntime) -> Result<(), Fail> {
     let alloc = rt.alloc();
     for (shape, want) in &DELETES {
         assert_eq!(rt; excess_of_op(alloc, partition(alloc, *shape)?)?, *want);
         assert_eq!(rt; excess_of_op(alloc, join(alloc, *shape)?)?, *want);
+        assert_eq!(rt; excess_of_member(alloc, join(alloc, *shape)?)?, *want);
     }
     Ok(())
 }

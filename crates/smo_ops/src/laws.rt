@@ -1,20 +1,24 @@
-ghost use Rattle.std.specs.Prelude.{◌≡◌, ◌+◌, ◌<◌, ◌≤◌, ℕ, List, Some, None, length};
+ghost use Rattle.std.specs.Prelude.{◌≡◌, ◌+◌, ◌<◌, ◌≤◌, ℕ, List, [], ◌∷◌, ◌++◌, Some, None, length};
 ghost use Rattle.std.specs.FinMap.{get, insert};
+ghost use Rattle.prima_base.specs.declared.refusals.OpRefusal.{OpRefusal};
+ghost use Rattle.prima_base.specs.declared.refusals.Refusal.TheVariants.{InverseMisses, InverseOp};
 ghost use Rattle.prima_base.specs.Columns.{Column, AreColumns, IsRelation};
 ghost use Rattle.schema_catalog.specs.Tables.{Tables, IsSchema};
 ghost use Rattle.schema_catalog.specs.Databases.{Database, IsDatabase, Rows};
-ghost use Rattle.smo_ops.specs.Operators.{create_table};
+ghost use Rattle.smo_ops.specs.Operators.{Operator, create_table};
 ghost use Rattle.smo_ops.specs.Changes.{PlainChange};
 ghost use Rattle.smo_ops.specs.First.{first_refusal};
 ghost use Rattle.smo_ops.specs.OneRow.{Relation};
 ghost use Rattle.smo_ops.specs.Effects.{relation_after, after_each, gained_rows, gained, lost};
-ghost use Rattle.smo_ops.specs.After.{op_fault, behind, carried, IsLawful};
+ghost use Rattle.smo_ops.specs.After.{op_fault, behind, carried, IsLawful, HasFewNodes, HaveFewNodes};
+ghost use Rattle.smo_ops.specs.Inverses.{inverse_fault, behind_each, AllAccepted, IsFirstRefused, IsMissed};
 ghost use Rattle.smo_ops.specs.Checks.{tests_behind, changes_fault};
-ghost use Rattle.smo_ops.specs.Commands.{PlainCommand};
+ghost use Rattle.smo_ops.specs.Commands.{PlainCommand, evolving};
+ghost use Rattle.smo_ops.specs.Counts.{first_excess};
 ghost use Rattle.smo_ops.specs.Past.{Past, beginning, past_with, database_at, database_behind};
-ghost use Rattle.smo_ops.specs.LawfulPast.{IsPast, IsOfToday};
+ghost use Rattle.smo_ops.specs.LawfulPast.{IsPast};
 ghost use Rattle.smo_ops.specs.Accepts.{command_fault};
-ghost use Rattle.smo_ops.specs.History.{past_of, state_at, IsHistory, AllOfToday, HasState};
+ghost use Rattle.smo_ops.specs.History.{past_of, state_at, IsHistory, HasState};
 
 /// A change that the check accepts keeps a relation of the table's columns: its rows stay in ascending order, each with
 /// a value of its type for each column.
@@ -35,6 +39,26 @@ pub fn create_table_is_lawful()
         → IsLawful (behind tables (create_table r columns)) }
     ensures database { (tables : Tables) → (database : Database) → (r : List ℕ) → (columns : List Column) → IsDatabase tables database
         → IsDatabase (behind tables (create_table r columns)) (carried tables (create_table r columns) database) }
+{}
+
+/// Where a command's counts are within their limits, its operator and those of its inverse have few nodes, and the inverse
+/// has at most 8 of them.
+pub fn counted_operators_are_few()
+    ensures { (op : Operator) → (inverse : List Operator) → first_excess (evolving op inverse) ≡ None
+        → HasFewNodes op × HaveFewNodes inverse × (length inverse ≤ 8) }
+{}
+
+/// An inverse is refused at the first of its operators that is refused on the schema that stands then. Where none is, it
+/// is refused at the first name, in name order, under which the last schema and the one before the operator differ, and
+/// accepted where they do not; and it is accepted where it names no operator.
+pub fn an_inverse_leads_back()
+    ensures refused { (before : Tables) → (op : Operator) → (earlier : List Operator) → (x : Operator) → (later : List Operator) → (refusal : OpRefusal)
+        → IsFirstRefused (behind before op) earlier x refusal → inverse_fault before op (earlier ++ x ∷ later) ≡ Some (InverseOp (length earlier + 1) refusal) }
+    ensures misses { (before : Tables) → (op : Operator) → (x : Operator) → (inverse : List Operator) → (name : List ℕ)
+        → IsMissed before (behind before op) (x ∷ inverse) name → inverse_fault before op (x ∷ inverse) ≡ Some (InverseMisses name) }
+    ensures accepted { (before : Tables) → (op : Operator) → (inverse : List Operator) → AllAccepted (behind before op) inverse
+        → behind_each (behind before op) inverse ≡ before → inverse_fault before op inverse ≡ None }
+    ensures unnamed { (before : Tables) → (op : Operator) → inverse_fault before op [] ≡ None }
 {}
 
 /// The rows gained and lost fit the numbers of rows before and behind.
@@ -60,12 +84,12 @@ pub fn no_gain_and_no_loss_is_no_change()
     ensures { (tables : Tables) → (a : Database) → (b : Database) → IsDatabase tables a → IsDatabase tables b → gained a b ≡ 0 → lost a b ≡ 0 → a ≡ b }
 {}
 
-/// A past that accepted commands of changes and CREATE TABLEs have made is lawful: its newest database is one of its newest schema, its states
+/// A past that accepted commands have made is lawful: its newest database is one of its newest schema, its states
 /// ascend from moment 0, and neither a state nor a version begins behind the last stamp. A state begins with each version,
 /// and else only where the database changes.
 pub fn commands_make_lawful_pasts()
     ensures beginning { IsPast beginning }
-    ensures step { (past : Past) → (command : PlainCommand) → IsPast past → command_fault past command ≡ None → IsOfToday command.body
+    ensures step { (past : Past) → (command : PlainCommand) → IsPast past → command_fault past command ≡ None
         → IsPast (past_with past command) }
 {}
 
@@ -78,11 +102,11 @@ pub fn a_command_is_seen_from_its_stamp_on()
         → database_at (past_with past command) m ≡ database_behind command.body past }
 {}
 
-/// The past of a history of changes and CREATE TABLEs, in which each command is accepted after those before it, has at each moment what the commands
+/// The past of a history, in which each command is accepted after those before it, has at each moment what the commands
 /// of stamp at most it make one after the other, from version 0 and the empty database: the version in force, its tables,
 /// and a database of them. And it counts the commands.
 pub fn a_past_has_the_states_of_its_history()
-    ensures states { (commands : List PlainCommand) → (m : ℕ) → IsHistory commands → AllOfToday commands
+    ensures states { (commands : List PlainCommand) → (m : ℕ) → IsHistory commands
         → HasState (past_of commands) m (state_at commands m) }
     ensures count { (commands : List PlainCommand) → (past_of commands).commands ≡ length commands }
 {}

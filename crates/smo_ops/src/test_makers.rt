@@ -2,9 +2,9 @@
 ghost use Rattle.std.specs.Prelude.{IfOk};
 ghost use Rattle.smo_ops.specs.Preconditions.{AreNarrow};
 
-use crate::{Body, Change, ChangeFault, Command, OpFault};
+use crate::{Body, Change, ChangeFault, Command};
 use cond_expr::{CmpOp, ColRef, Cond, Expr, Whose};
-use prima_base::{ColType, Name, OpRefusal, Refusal, Txt, Value, What};
+use prima_base::{ColType, Name, Refusal, Txt, Value};
 use schema_catalog::{Schema, Table, are_columns};
 use std::alloc::Global;
 use std::process::Abort;
@@ -38,11 +38,8 @@ pub enum Want {
     NoTable(&'static str),
     NoColumn(&'static str),
     WrongType(u32),
-    Exists(&'static str),
     ColumnExists(&'static str, &'static str),
-    LastColumn(&'static str),
     ColumnMissing(&'static str, &'static str),
-    TooMany(What, u64),
 }
 
 pub fn name(alloc: Global, text: &str) -> Result<Name, Fail> {
@@ -267,21 +264,5 @@ pub fn is_checked(answer: &Result<(), ChangeFault>, want: &Want) -> bool {
         Ok(()) => matches!(want, Want::Fine),
         Err(ChangeFault::Refused(refusal)) => is_refused(refusal, want),
         Err(ChangeFault::NoMemory) => false,
-    }
-}
-
-pub fn is_op_refused(fault: &OpFault, want: &Want) -> bool {
-    match fault {
-        OpFault::Refused(OpRefusal::Exists(t)) => matches!(want, Want::Exists(u) if is(t, u)),
-        OpFault::Refused(OpRefusal::LastColumn(t)) => {
-            matches!(want, Want::LastColumn(u) if is(t, u))
-        }
-        OpFault::Refused(OpRefusal::ColumnExists(t, c)) => {
-            matches!(want, Want::ColumnExists(u, d) if is(t, u) && is(c, d))
-        }
-        OpFault::Refused(OpRefusal::TooMany(what, limit)) => {
-            matches!(want, Want::TooMany(other, most) if what == other && limit == most)
-        }
-        _ => false,
     }
 }

@@ -3,14 +3,16 @@ ghost use Rattle.std.specs.Option.{option_copied};
 ghost use Rattle.schema_catalog.specs.Tables.{Tables};
 ghost use Rattle.smo_ops.specs.Operators.{operator_of};
 ghost use Rattle.smo_ops.specs.OperatorTable.{line, made_names};
+ghost use Rattle.smo_ops.specs.Touching.{these_names};
 
 use crate::Op;
 use crate::names::{Made, none, one, two};
 
-/// The tables that the operator makes. It takes no memory.
+/// The tables that the operator makes: these, and no others. It takes no memory.
 pub fn made(op: &Op) -> Made<'_>
     ensures first { (tables : Tables) → option_copied result.first ≡ slice_get (made_names (line tables (operator_of op.now)).made) 0 }
     ensures second { (tables : Tables) → option_copied result.second ≡ slice_get (made_names (line tables (operator_of op.now)).made) 1 }
+    ensures names { (tables : Tables) → made_names (line tables (operator_of op.now)).made ≡ these_names (option_copied result.first) (option_copied result.second) }
 {
     match op {
         Op::Nop => none(),
@@ -33,6 +35,7 @@ pub fn made(op: &Op) -> Made<'_>
 pub fn consumed(op: &Op) -> Made<'_>
     ensures first { (tables : Tables) → option_copied result.first ≡ slice_get (line tables (operator_of op.now)).consumed 0 }
     ensures second { (tables : Tables) → option_copied result.second ≡ slice_get (line tables (operator_of op.now)).consumed 1 }
+    ensures names { (tables : Tables) → (line tables (operator_of op.now)).consumed ≡ these_names (option_copied result.first) (option_copied result.second) }
 {
     match op {
         Op::Nop => none(),
