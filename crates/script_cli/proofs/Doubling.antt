@@ -4,7 +4,7 @@ use Rattle.std.proofs.Common.{◌≡◌, ◌≢◌, ◌+◌, ◌-◌, ◌<◌, �
 use Rattle.std.specs.Prelude.{◌==◌, if◌then◌else◌}
 use Rattle.std.proofs.lemmas.List.{take_more, drop_more, drop_all, get_or-drop}
 use Rattle.std.proofs.lemmas.Bool.Decides.{nat_tests}
-use Rattle.script_cli.specs.Texts.{doubled}
+use Rattle.smo_parse.specs.TreeTexts.{doubled}
 
 -- the piece up to the byte, and the byte
 piece_more : (xs : List ℕ) (s i : ℕ) → s ≤ i → i < length xs → take (i + 1 - s) (drop s xs) ≡ take (i - s) (drop s xs) ++ get_or xs i 0 ∷ []

@@ -1,11 +1,10 @@
 -- The lines of replies, by their bytes. Each is ended by a line feed.
-use Rattle.std.specs.Prelude.{ℕ, List, [], ◌∷◌, ◌++◌, ◌==◌, length, codes, decimal, if◌then◌else◌}
+use Rattle.std.specs.Prelude.{ℕ, List, ◌++◌, ◌==◌, length, codes, decimal, if◌then◌else◌}
 use Rattle.std.specs.List.{flat_map}
-use Rattle.std.specs.Fmt.{signed_decimal}
 use Rattle.relations.specs.Timed.{Entry}
 use Rattle.prima_base.specs.declared.periods.TheConstants.{FOREVER}
 use Rattle.prima_base.specs.declared.values.Value.{Value}
-use Rattle.prima_base.specs.declared.values.Value.TheVariants.{Int, Text}
+use Rattle.smo_parse.specs.TreeTexts.{value_text}
 
 -- so many rows were gained and lost at this moment
 unfoldable pub changed_text : ℕ → ℕ → ℕ → List ℕ
@@ -18,16 +17,6 @@ evolved_text stamp version = codes "ok " ++ decimal stamp ++ codes " version " +
 -- the words of the call are wrong
 unfoldable pub wrong_words_text : List ℕ
 wrong_words_text = codes "fault 2\n"
-
--- each quote is doubled
-abbrev pub doubled : List ℕ → List ℕ
-doubled [] = []
-doubled (b ∷ bytes) = if b == 39 then 39 ∷ 39 ∷ doubled bytes else b ∷ doubled bytes
-
--- a number, or a text in quotes
-abbrev pub value_text : Value → List ℕ
-value_text (Int n) = signed_decimal n
-value_text (Text bytes) = codes "'" ++ doubled bytes ++ codes "'"
 
 -- the end of a period, which may still go on
 abbrev pub end_text : ℕ → List ℕ

@@ -9,7 +9,8 @@ ghost use Rattle.prima_io.specs.Moves.{AppendsLess};
 ghost use Rattle.prima_base.specs.Order.{shown};
 ghost use Rattle.prima_base.specs.Timed.{entry_of, entries_of};
 ghost use Rattle.script_cli.specs.Gathering.{Gathers};
-ghost use Rattle.script_cli.specs.Texts.{doubled, value_text, values_text, end_text, period_text, row_text, count_text, listing_text};
+ghost use Rattle.smo_parse.specs.TreeTexts.{doubled, value_text};
+ghost use Rattle.script_cli.specs.Texts.{values_text, end_text, period_text, row_text, count_text, listing_text};
 
 use crate::lines::Line;
 use itoa::Buffer;

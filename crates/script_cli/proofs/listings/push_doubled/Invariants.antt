@@ -1,6 +1,6 @@
 use Rattle.std.proofs.Common.{◌≡◌, ◌≤◌, ◌-◌, ℕ, List, ◌++◌, take, drop}
 use Rattle.script_cli.specs.Gathering.{Gathers}
-use Rattle.script_cli.specs.Texts.{doubled}
+use Rattle.smo_parse.specs.TreeTexts.{doubled}
 use Rattle.script_cli.proofs.listings.push_doubled.Given as goal
 
 abbrev pub invariant-loop-i : goal.invariant-loop-i

@@ -1,6 +1,6 @@
 use Rattle.std.proofs.Common.{refl, [], codes, ◌++◌}
 use Rattle.std.proofs.lemmas.Result.{on_ok_weaker, on_err_weaker}
-use Rattle.script_cli.specs.Texts.{doubled}
+use Rattle.smo_parse.specs.TreeTexts.{doubled}
 use Rattle.script_cli.proofs.Gathered.{on_err, more, nothing, less_within, less_behind}
 use Rattle.script_cli.proofs.listings.push_text.Goals as goal
 

@@ -1,6 +1,6 @@
 use Rattle.std.proofs.Common.{◌++◌, codes, arith}
 use Rattle.prima_base.specs.Order.{shown}
-use Rattle.script_cli.specs.Texts.{value_text}
+use Rattle.smo_parse.specs.TreeTexts.{value_text}
 use Rattle.script_cli.proofs.Gathered.{on_err, more, less_within}
 use Rattle.script_cli.proofs.Listed.{next_text, sent_text}
 use Rattle.script_cli.proofs.listings.push_values.Goals as goal

@@ -1,0 +1,241 @@
+-- The longest operator is read.
+use Rattle.std.proofs.Common.{◌≡◌, ℕ, suc, ◌+◌, true, false, cond, List, [], ◌∷◌, ◌++◌, length, take, codes, inl, inr, refl, sym, ap, ◌∙◌, subst, arith, length-append}
+use Rattle.cond_expr.specs.Trees.{Test, always}
+use Rattle.smo_ops.specs.Operators.{Operator, join_table}
+use Rattle.lexer.specs.Lexemes.{Lexeme, word, is_word}
+use Rattle.lexer.specs.Parsing.{Size, nothing_counted, both, Out, Got, Stuck, Over, Parser, Fine, Lawful, CanGoOn, Good, and_then, pure}
+use Rattle.lexer.specs.Grammar as g
+use Rattle.lexer.specs.Grammar.{leaf, IsCond}
+use Rattle.lexer.specs.Reader.{outermost}
+use Rattle.lexer.specs.Found.{Ends}
+use Rattle.lexer.proofs.Parsing.{by_test, none_both}
+use Rattle.lexer.proofs.Grammar.{word_exact}
+use Rattle.lexer.proofs.Longest.{cond_longest}
+use Rattle.smo_parse.specs.Productions.{IsTest, IsWhere, IsNop, IsJoinTable, IsOperator}
+use Rattle.smo_parse.specs.OperatorReader.{operator, where_part, create_rest, drop_rest, rename_rest, copy_rest, merge_rest, partition_rest, decompose_rest, add_rest}
+use Rattle.smo_parse.proofs.Alternatives.{stops_never}
+use Rattle.smo_parse.proofs.OperatorGoodness.{ends, create_good, drop_good, rename_good, copy_good, merge_good, partition_good, decompose_good, add_good}
+use Rattle.smo_parse.proofs.OperatorMarked.{in_join, join_run, join_tokens}
+
+-- it is read whatever follows
+abbrev ReadsOn : Operator → Size → List Lexeme → List Lexeme → Type 0
+ReadsOn o s front rest = Fine 32 o s 0 rest (operator 0 (front ++ rest))
+
+-- ---- those that end by themselves, by their first words
+
+by_word : (w : List ℕ) (p : Parser Operator) (G : Operator → Size → List Lexeme → Type 0) → Good 0 32 p G ends → ((ts : List Lexeme) → operator 0 (word w ∷ ts) ≡ p 0 ts) →
+    (o : Operator) (s : Size) (front more rest : List Lexeme) → front ≡ word w ∷ more → G o s more → ReadsOn o s front rest
+by_word w p G good run o s front more rest e h =
+    let P : Out Operator → Type 0 = λ out. Fine 32 o s 0 rest out in
+    subst P (sym (ap (λ l. operator 0 (l ++ rest)) e ∙ run (more ++ rest))) (good.complete 0 (omega arith) o s more rest h (stops_never rest))
+
+nop_on : (o : Operator) (s : Size) (front rest : List Lexeme) → IsNop o s front → ReadsOn o s front rest
+unfolding operator
+nop_on o s front rest h =
+    let same : front ≡ word (codes "NOP") ∷ [] = h.1 ∙ ap (λ l. word (codes "NOP") ∷ l) h.2.2 in
+    let P : Out Operator → Type 0 = λ out. Fine 32 o s 0 rest out in
+    let Q : Size → Type 0 = λ u. Lawful 32 u in
+    subst P (sym (ap (λ l. operator 0 (l ++ rest)) same))
+    (sym h.2.0, refl, omega (arith, ap (λ z. z.nodes) h.2.1), subst Q (sym h.2.1) (omega arith, λ w. omega arith))
+
+module _ (ts : List Lexeme) where
+  unfold_create : operator 0 (word (codes "CREATE") ∷ ts) ≡ create_rest 0 ts
+  unfolding operator
+  unfold_create = refl
+
+  unfold_drop : operator 0 (word (codes "DROP") ∷ ts) ≡ drop_rest 0 ts
+  unfolding operator
+  unfold_drop = refl
+
+  unfold_rename : operator 0 (word (codes "RENAME") ∷ ts) ≡ rename_rest 0 ts
+  unfolding operator
+  unfold_rename = refl
+
+  unfold_copy : operator 0 (word (codes "COPY") ∷ ts) ≡ copy_rest 0 ts
+  unfolding operator
+  unfold_copy = refl
+
+  unfold_merge : operator 0 (word (codes "MERGE") ∷ ts) ≡ merge_rest 0 ts
+  unfolding operator
+  unfold_merge = refl
+
+  unfold_partition : operator 0 (word (codes "PARTITION") ∷ ts) ≡ partition_rest 0 ts
+  unfolding operator
+  unfold_partition = refl
+
+  unfold_decompose : operator 0 (word (codes "DECOMPOSE") ∷ ts) ≡ decompose_rest 0 ts
+  unfolding operator
+  unfold_decompose = refl
+
+  unfold_add : operator 0 (word (codes "ADD") ∷ ts) ≡ add_rest 0 ts
+  unfolding operator
+  unfold_add = refl
+
+-- ---- JOIN, whose condition may go on
+
+where_none : where_part 0 [] ≡ Got always 0 []
+unfolding where_part
+where_none = refl
+
+where_not : (x : Lexeme) (rest : List Lexeme) → is_word (codes "WHERE") x ≡ false → where_part 0 (x ∷ rest) ≡ Got always 0 (x ∷ rest)
+unfolding where_part
+where_not x rest f = ap (λ b. cond b ((outermost false).cond 0 rest) (Got always 0 (x ∷ rest))) f
+
+where_some : (rest : List Lexeme) → where_part 0 (word (codes "WHERE") ∷ rest) ≡ (outermost false).cond 0 rest
+unfolding where_part
+where_some rest = refl
+
+missing : (c : Test) (u : Size) (k rest : List Lexeme) → c ≡ always → u ≡ nothing_counted → k ≡ [] → where_part 0 rest ≡ Got always 0 rest → Fine 32 c u 0 rest (where_part 0 (k ++ rest))
+missing c u k rest ec eu ek run =
+    let P : Out Test → Type 0 = λ out. Fine 32 c u 0 rest out in
+    let Q : Size → Type 0 = λ z. Lawful 32 z in
+    subst P (sym (ap (λ l. where_part 0 (l ++ rest)) ek ∙ run)) (sym ec, refl, omega (arith, ap (λ z. z.nodes) eu), subst Q (sym eu) (omega arith, λ w. omega arith))
+
+with_true : (x : Lexeme) → is_word (codes "WHERE") x ≡ true → IsWhere always leaf (x ∷ word (codes "TRUE") ∷ [])
+with_true x t = inr (word (codes "TRUE") ∷ [], ap (λ y. y ∷ word (codes "TRUE") ∷ []) (word_exact (codes "WHERE") x t), g.one_conj false always leaf _ (g.one_fact false always leaf _ (g.truth false)))
+
+take_next : {A : Type 0} (f : List A) (x : A) (rest : List A) → take (length f + 1) (f ++ x ∷ rest) ≡ f ++ x ∷ []
+take_next [] x rest = refl
+take_next (y ∷ f) x rest = let e : length (y ∷ f) + 1 ≡ suc (length f + 1) = omega arith in ap (λ n. take n (y ∷ (f ++ x ∷ rest))) e ∙ ap (λ l. y ∷ l) (take_next f x rest)
+
+-- with what stands behind it nothing goes on
+halts : {A : Type 0} (G : A → Size → List Lexeme → Type 0) (front : List Lexeme) (x : Lexeme) (rest : List Lexeme) → Ends G (front ++ x ∷ rest) (length front) → CanGoOn G (front ++ x ∷ []) → ⊥
+halts G front x rest e h =
+    let P : List Lexeme → Type 0 = λ l. CanGoOn G l in
+    e (omega (arith, length-append front (x ∷ rest))) (subst P (sym (take_next front x rest)) h)
+
+-- another value of what was read
+mapped : {A B : Type 0} (make : A → B) (a : A) (u : Size) (rest : List Lexeme) (out : Out A) → Fine 32 a u 0 rest out → Fine 32 (make a) u 0 rest (and_then out (λ x. pure (make x)))
+mapped make a u rest (Got b m r) h = (ap make h.0, h.1, h.2, h.3)
+mapped make a u rest (Stuck r) h = h
+mapped make a u rest (Over w r) h = h
+
+module _ (o : Operator) (s : Size) (front : List Lexeme) (h : IsJoinTable o s front) where
+  -- its tokens with others from the WHERE on
+  abbrev with_where : List Lexeme → List Lexeme
+  with_where l = in_join h.2.2.7.0 h.2.2.8.2.7.0 h.2.2.8.2.8.2.7.0 l
+
+  -- another condition in its place
+  other : (c : Test) (u : Size) (l : List Lexeme) → IsWhere c u l → (p : Operator) × (v : Size) × IsOperator p v (with_where l)
+  other c u l i =
+      let r = h.2.2 in
+      let q = r.8.2 in
+      let w = q.8.2 in
+      let named : Lexeme → List Lexeme = λ x. x ∷ [] in (
+        join_table r.0 q.0 w.0 c,
+        both nothing_counted (both nothing_counted (both nothing_counted u)),
+        inr (inr (inr (inr (inr (inr (inr (inr (inl (
+          _,
+          refl,
+          (
+            _,
+            refl,
+            (
+              r.0,
+              nothing_counted,
+              both nothing_counted (both nothing_counted u),
+              named r.7.0,
+              _,
+              refl,
+              refl,
+              (r.7.0, r.7.1, refl, refl),
+              (
+                _,
+                refl,
+                (
+                  q.0,
+                  nothing_counted,
+                  both nothing_counted u,
+                  named q.7.0,
+                  _,
+                  refl,
+                  refl,
+                  (q.7.0, q.7.1, refl, refl),
+                  (
+                    _,
+                    refl,
+                    (
+                      w.0,
+                      nothing_counted,
+                      u,
+                      named w.7.0,
+                      l,
+                      refl,
+                      refl,
+                      (w.7.0, w.7.1, refl, refl),
+                      (c, refl, i),
+                    ),
+                  ),
+                ),
+              ),
+            ),
+          ),
+        ))))))))),
+      )
+
+  -- a longer condition would be a longer operator
+  longer : (k : List Lexeme) (x : Lexeme) → front ≡ with_where k → ((more : List Lexeme) (c : Test) (u : Size) → IsWhere c u ((k ++ x ∷ []) ++ more) → CanGoOn IsOperator (front ++ x ∷ []))
+  longer k x e more c u i =
+      let j = other c u ((k ++ x ∷ []) ++ more) i in
+      let P : List Lexeme → Type 0 = λ l. CanGoOn IsOperator (l ++ x ∷ []) in
+      subst P (sym e) (more, j.0, j.1, j.2)
+
+  size_is : s ≡ h.2.2.8.2.8.2.2
+  size_is =
+      let r = h.2.2 in
+      let q = r.8.2 in
+      let w = q.8.2 in
+      r.5 ∙ ap (λ z. both z r.2) r.7.2 ∙ none_both r.2 ∙ q.5 ∙ ap (λ z. both z q.2) q.7.2 ∙ none_both q.2 ∙ w.5 ∙ ap (λ z. both z w.2) w.7.2 ∙ none_both w.2
+
+  cond_ends : (k m : List Lexeme) → k ≡ word (codes "WHERE") ∷ m → front ≡ with_where k → (l : List Lexeme) → Ends IsOperator (front ++ l) (length front) → Ends IsTest (m ++ l) (length m)
+  cond_ends k m i w [] e some = absurd (omega (arith, some, length-append m []))
+  cond_ends k m i w (x ∷ l) e some = λ can.
+      let C : List Lexeme → Type 0 = λ m. CanGoOn IsTest m in
+      let on = subst C (take_next m x l) can in
+      let Q : List Lexeme → Type 0 = λ n. IsWhere on.1 on.2 ((n ++ x ∷ []) ++ on.0) in
+      halts IsOperator front x l e (longer k x w on.0 on.1 on.2 (subst Q (sym i) (inr ((m ++ x ∷ []) ++ on.0, refl, on.3))))
+
+  by_where : (c : Test) (u : Size) (k : List Lexeme) → IsWhere c u k → front ≡ with_where k → (rest : List Lexeme) → Ends IsOperator (front ++ rest) (length front) → Fine 32 c u 0 rest (where_part 0 (k ++ rest))
+  by_where c u k (inl i) w [] e = missing c u k [] i.0 i.1 i.2 where_none
+  by_where c u k (inl i) w (x ∷ rest) e = by_test (is_word (codes "WHERE") x)
+      (λ t. let P : List Lexeme → Type 0 = λ l. IsWhere always leaf ((l ++ x ∷ []) ++ word (codes "TRUE") ∷ []) in
+      absurd (halts IsOperator front x rest e (longer k x w (word (codes "TRUE") ∷ []) always leaf (subst P (sym i.2) (with_true x t)))))
+      (λ f. missing c u k (x ∷ rest) i.0 i.1 i.2 (where_not x rest f))
+  by_where c u k (inr i) w rest e =
+      let P : Out Test → Type 0 = λ out. Fine 32 c u 0 rest out in
+      subst P (sym (ap (λ l. where_part 0 (l ++ rest)) i.1 ∙ where_some (i.0 ++ rest))) (cond_longest false c u i.0 rest (i.0 ++ rest) refl i.2 (cond_ends k i.0 i.1 w rest e))
+
+  join_on : (rest : List Lexeme) → Ends IsOperator (front ++ rest) (length front) → ReadsOn o s front rest
+  join_on rest e =
+      let r = h.2.2 in
+      let q = r.8.2 in
+      let w = q.8.2 in
+      let make : Test → Operator = λ c. join_table r.0 q.0 w.0 c in
+      let fine : Fine 32 w.8.0 w.2 0 rest (where_part 0 (w.4 ++ rest)) = by_where w.8.0 w.2 w.4 w.8.2 (join_tokens o s front h) rest e in
+      let P : Out Operator → Type 0 = λ out. Fine 32 o s 0 rest out in
+      let Q : Size → Type 0 = λ z. Fine 32 o z 0 rest (and_then (where_part 0 (w.4 ++ rest)) (λ c. pure (make c))) in
+      let R : Operator → Type 0 = λ v. Fine 32 v w.2 0 rest (and_then (where_part 0 (w.4 ++ rest)) (λ c. pure (make c))) in
+      subst P (sym (ap (λ l. operator 0 (l ++ rest)) (join_tokens o s front h) ∙ join_run r.7.0 r.0 q.7.0 q.0 w.7.0 w.0 (w.4 ++ rest) r.7.1 q.7.1 w.7.1))
+      (subst Q (sym size_is) (subst R (sym w.8.1) (mapped make w.8.0 w.2 rest (where_part 0 (w.4 ++ rest)) fine)))
+
+-- ---- any operator
+
+on : (o : Operator) (s : Size) (front rest : List Lexeme) → IsOperator o s front → Ends IsOperator (front ++ rest) (length front) → ReadsOn o s front rest
+on o s front rest (inl h) e = nop_on o s front rest h
+on o s front rest (inr (inl h)) e = by_word (codes "CREATE") create_rest _ (create_good ends) unfold_create o s front h.0 rest h.1 h.2
+on o s front rest (inr (inr (inl h))) e = by_word (codes "DROP") drop_rest _ (drop_good ends) unfold_drop o s front h.0 rest h.1 (inl h.2)
+on o s front rest (inr (inr (inr (inl h)))) e = by_word (codes "RENAME") rename_rest _ (rename_good ends) unfold_rename o s front h.0 rest h.1 (inl h.2)
+on o s front rest (inr (inr (inr (inr (inl h))))) e = by_word (codes "COPY") copy_rest _ (copy_good ends) unfold_copy o s front h.0 rest h.1 h.2
+on o s front rest (inr (inr (inr (inr (inr (inl h)))))) e = by_word (codes "MERGE") merge_rest _ (merge_good ends) unfold_merge o s front h.0 rest h.1 h.2
+on o s front rest (inr (inr (inr (inr (inr (inr (inl h))))))) e = by_word (codes "PARTITION") partition_rest _ (partition_good ends) unfold_partition o s front h.0 rest h.1 h.2
+on o s front rest (inr (inr (inr (inr (inr (inr (inr (inl h)))))))) e = by_word (codes "DECOMPOSE") decompose_rest _ (decompose_good ends) unfold_decompose o s front h.0 rest h.1 h.2
+on o s front rest (inr (inr (inr (inr (inr (inr (inr (inr (inl h))))))))) e = join_on o s front h rest e
+on o s front rest (inr (inr (inr (inr (inr (inr (inr (inr (inr (inl h)))))))))) e = by_word (codes "ADD") add_rest _ (add_good ends) unfold_add o s front h.0 rest h.1 h.2
+on o s front rest (inr (inr (inr (inr (inr (inr (inr (inr (inr (inr (inl h))))))))))) e = by_word (codes "DROP") drop_rest _ (drop_good ends) unfold_drop o s front h.0 rest h.1 (inr h.2)
+on o s front rest (inr (inr (inr (inr (inr (inr (inr (inr (inr (inr (inr h))))))))))) e = by_word (codes "RENAME") rename_rest _ (rename_good ends) unfold_rename o s front h.0 rest h.1 (inr h.2)
+
+pub operator_longest : (o : Operator) (s : Size) (front rest ts : List Lexeme) → ts ≡ front ++ rest → IsOperator o s front → Ends IsOperator ts (length front) → Fine 32 o s 0 rest (operator 0 ts)
+operator_longest o s front rest ts w h e =
+    let P : List Lexeme → Type 0 = λ l. Ends IsOperator l (length front) in
+    let Q : List Lexeme → Type 0 = λ l. Fine 32 o s 0 rest (operator 0 l) in
+    subst Q (sym w) (on o s front rest h (subst P w e))

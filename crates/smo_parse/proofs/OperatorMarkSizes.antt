@@ -1,0 +1,99 @@
+-- What is counted at each token of an operator is together its size.
+use Rattle.std.proofs.Common.{◌≡◌, ℕ, zero, suc, max, false, List, [], ◌∷◌, ◌++◌, inl, inr, refl, sym, ap, ◌∙◌, arith}
+use Rattle.std.proofs.Math.Nat.{zero-max}
+use Rattle.cond_expr.specs.Trees.{Test}
+use Rattle.smo_ops.specs.Operators.{Operator}
+use Rattle.lexer.specs.Lexemes.{Lexeme}
+use Rattle.lexer.specs.Parsing.{Size, nothing_counted, both}
+use Rattle.lexer.specs.Marks.{Mark, plain, nodes_in, deepest, expr_marks, cond_marks, AddUp}
+use Rattle.lexer.proofs.Parsing.{both_none, none_both}
+use Rattle.lexer.proofs.MarkSizes.{nodes_append, expr_adds_up, cond_adds_up}
+use Rattle.smo_parse.specs.Productions.{IsWhere, IsPartitionTable, IsJoinTable, IsAddColumn, IsOperator}
+use Rattle.smo_parse.specs.OperatorMarks.{uncounted, partition_marks, where_marks, join_marks, add_marks, operator_marks}
+use Rattle.smo_parse.proofs.OperatorMarked.{Uncounted, operator_length, nop_counts, create_counts, drop_table_counts, rename_table_counts, copy_counts, merge_counts, decompose_counts, drop_column_counts, rename_column_counts}
+
+-- the nodes and the depth
+abbrev Together : List Mark → Size → Type 0
+Together ms s = (nodes_in ms ≡ s.nodes) × (deepest ms ≡ s.depth)
+
+same_size : (ms : List Mark) (s t : Size) → s ≡ t → Together ms t → Together ms s
+same_size ms s t e h = (h.0 ∙ ap (λ z. z.nodes) (sym e), h.1 ∙ ap (λ z. z.depth) (sym e))
+
+-- a token that counts nothing before them
+one_more : (ms : List Mark) (s : Size) → Together ms s → Together (plain ∷ ms) s
+one_more ms s h = (omega (arith, h.0), zero-max (deepest ms) ∙ h.1)
+
+-- so many of them
+abbrev plains : ℕ → List Mark → List Mark
+plains zero ms = ms
+plains (suc k) ms = plain ∷ plains k ms
+
+several_more : (k : ℕ) (ms : List Mark) (s : Size) → Together ms s → Together (plains k ms) s
+several_more zero ms s h = h
+several_more (suc k) ms s h = one_more (plains k ms) s (several_more k ms s h)
+
+none_at_all : (f : List Lexeme) → Together (uncounted f) nothing_counted
+none_at_all [] = (refl, refl)
+none_at_all (x ∷ f) = one_more (uncounted f) nothing_counted (none_at_all f)
+
+-- and behind them
+deepest_behind : (ms ks : List Mark) → deepest ks ≡ 0 → deepest (ms ++ ks) ≡ deepest ms
+deepest_behind [] ks e = e
+deepest_behind (m ∷ ms) ks e = ap (max m.depth) (deepest_behind ms ks e)
+
+two_behind : (ms : List Mark) (s : Size) → Together ms s → Together (ms ++ plain ∷ plain ∷ []) s
+two_behind ms s h = (omega (arith, nodes_append ms (plain ∷ plain ∷ []), h.0), deepest_behind ms (plain ∷ plain ∷ []) refl ∙ h.1)
+
+bare_together : (s : Size) (f : List Lexeme) → Uncounted s → Together (uncounted f) s
+bare_together s f z = let h = none_at_all f in (h.0 ∙ sym z.no_nodes, h.1 ∙ sym z.not_deep)
+
+partition_together : (o : Operator) (s : Size) (f : List Lexeme) (h : IsPartitionTable o s f) → Together (partition_marks o s f h) s
+partition_together o s f h =
+    let r = h.2.2 in
+    let q = r.8.2 in
+    let c = q.8.2 in
+    let size : s ≡ c.1 = r.5 ∙ ap (λ z. both z r.2) r.7.2 ∙ none_both r.2 ∙ q.5 ∙ ap (λ z. both z q.2) q.7.2 ∙ none_both q.2 ∙ c.5 ∙ ap (both c.1) c.8.2.2.2 ∙ both_none c.1 in
+    let ms : List Mark = cond_marks false c.0 c.1 c.3 c.7 ++ plain ∷ plain ∷ [] in
+    let a = cond_adds_up false c.0 c.1 c.3 c.7 in
+    same_size (partition_marks o s f h) s c.1 size
+    (several_more 6 ms c.1 (two_behind (cond_marks false c.0 c.1 c.3 c.7) c.1 (a.1, a.2)))
+
+where_together : (c : Test) (s : Size) (f : List Lexeme) (h : IsWhere c s f) → Together (where_marks c s f h) s
+where_together c s f (inl h) = same_size [] s nothing_counted h.1 (refl, refl)
+where_together c s f (inr h) = let a = cond_adds_up false c s h.0 h.2 in one_more (cond_marks false c s h.0 h.2) s (a.1, a.2)
+
+join_together : (o : Operator) (s : Size) (f : List Lexeme) (h : IsJoinTable o s f) → Together (join_marks o s f h) s
+join_together o s f h =
+    let r = h.2.2 in
+    let q = r.8.2 in
+    let w = q.8.2 in
+    let size : s ≡ w.2 = r.5 ∙ ap (λ z. both z r.2) r.7.2 ∙ none_both r.2 ∙ q.5 ∙ ap (λ z. both z q.2) q.7.2 ∙ none_both q.2 ∙ w.5 ∙ ap (λ z. both z w.2) w.7.2 ∙ none_both w.2 in
+    same_size (join_marks o s f h) s w.2 size
+    (several_more 7 (where_marks w.8.0 w.2 w.4 w.8.2) w.2 (where_together w.8.0 w.2 w.4 w.8.2))
+
+add_together : (o : Operator) (s : Size) (f : List Lexeme) (h : IsAddColumn o s f) → Together (add_marks o s f h) s
+add_together o s f h =
+    let n = h.2.2 in
+    let e = n.8.2 in
+    let size : s ≡ e.1 = n.5 ∙ ap (λ z. both z n.2) n.7.2 ∙ none_both n.2 ∙ e.5 ∙ ap (both e.1) e.8.2.2.2 ∙ both_none e.1 in
+    let ms : List Mark = expr_marks false e.0 e.1 e.3 e.7 ++ plain ∷ plain ∷ [] in
+    let a = expr_adds_up false e.0 e.1 e.3 e.7 in
+    same_size (add_marks o s f h) s e.1 size
+    (several_more 4 ms e.1 (two_behind (expr_marks false e.0 e.1 e.3 e.7) e.1 (a.1, a.2)))
+
+together : (o : Operator) (s : Size) (f : List Lexeme) (h : IsOperator o s f) → Together (operator_marks o s f h) s
+together o s f (inl h) = bare_together s f (nop_counts o s f h)
+together o s f (inr (inl h)) = bare_together s f (create_counts o s f h)
+together o s f (inr (inr (inl h))) = bare_together s f (drop_table_counts o s f h)
+together o s f (inr (inr (inr (inl h)))) = bare_together s f (rename_table_counts o s f h)
+together o s f (inr (inr (inr (inr (inl h))))) = bare_together s f (copy_counts o s f h)
+together o s f (inr (inr (inr (inr (inr (inl h)))))) = bare_together s f (merge_counts o s f h)
+together o s f (inr (inr (inr (inr (inr (inr (inl h))))))) = partition_together o s f h
+together o s f (inr (inr (inr (inr (inr (inr (inr (inl h)))))))) = bare_together s f (decompose_counts o s f h)
+together o s f (inr (inr (inr (inr (inr (inr (inr (inr (inl h))))))))) = join_together o s f h
+together o s f (inr (inr (inr (inr (inr (inr (inr (inr (inr (inl h)))))))))) = add_together o s f h
+together o s f (inr (inr (inr (inr (inr (inr (inr (inr (inr (inr (inl h))))))))))) = bare_together s f (drop_column_counts o s f h)
+together o s f (inr (inr (inr (inr (inr (inr (inr (inr (inr (inr (inr h))))))))))) = bare_together s f (rename_column_counts o s f h)
+
+pub operator_adds_up : (o : Operator) (s : Size) (f : List Lexeme) (h : IsOperator o s f) → AddUp (operator_marks o s f h) s f
+operator_adds_up o s f h = let t = together o s f h in (operator_length o s f h, t.0, t.1)

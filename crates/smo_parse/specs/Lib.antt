@@ -1,0 +1,6 @@
+pub mod Productions
+pub mod OperatorReader
+pub mod TreeTexts
+pub mod Texts
+pub mod Printed
+pub mod OperatorMarks

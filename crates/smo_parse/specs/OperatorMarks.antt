@@ -1,0 +1,51 @@
+-- What is counted at each token of an operator: at those of its expression or condition what is counted there, and at each other nothing.
+use Rattle.std.specs.Prelude.{false, List, [], ◌∷◌, ◌++◌, map}
+use mathlib.Core.Logic.{inl, inr}
+use Rattle.smo_ops.specs.Operators.{Operator}
+use Rattle.cond_expr.specs.Trees.{Test}
+use Rattle.lexer.specs.Lexemes.{Lexeme}
+use Rattle.lexer.specs.Parsing.{Size}
+use Rattle.lexer.specs.Marks.{Mark, plain, expr_marks, cond_marks}
+use Rattle.smo_parse.specs.Productions.{IsWhere, IsPartitionTable, IsJoinTable, IsAddColumn, IsOperator}
+
+-- nothing at each of these
+abbrev pub uncounted : List Lexeme → List Mark
+uncounted f = map (λ x. plain) f
+
+-- PARTITION TABLE name INTO name WITH, the condition, a comma and a name. (The production behind its two words, behind the name and INTO, and behind the name and WITH: there stands the condition.)
+abbrev pub partition_marks : (o : Operator) (s : Size) (f : List Lexeme) → IsPartitionTable o s f → List Mark
+partition_marks o s f h =
+    let c = h.2.2.8.2.8.2 in
+    plain ∷ plain ∷ plain ∷ plain ∷ plain ∷ plain ∷ (cond_marks false c.0 c.1 c.3 c.7 ++ plain ∷ plain ∷ [])
+
+-- nothing, or WHERE and the condition
+abbrev pub where_marks : (c : Test) (s : Size) (f : List Lexeme) → IsWhere c s f → List Mark
+where_marks c s f (inl h) = []
+where_marks c s f (inr h) = plain ∷ cond_marks false c s h.0 h.2
+
+-- JOIN TABLE name , name INTO name, and what may follow. (Behind the two words, behind the name and the comma, and behind the name and INTO.)
+abbrev pub join_marks : (o : Operator) (s : Size) (f : List Lexeme) → IsJoinTable o s f → List Mark
+join_marks o s f h =
+    let w = h.2.2.8.2.8.2 in
+    plain ∷ plain ∷ plain ∷ plain ∷ plain ∷ plain ∷ plain ∷ where_marks w.8.0 w.2 w.4 w.8.2
+
+-- ADD COLUMN name AS, the expression, INTO and a name. (Behind the two words, and behind the name and AS.)
+abbrev pub add_marks : (o : Operator) (s : Size) (f : List Lexeme) → IsAddColumn o s f → List Mark
+add_marks o s f h =
+    let e = h.2.2.8.2 in
+    plain ∷ plain ∷ plain ∷ plain ∷ (expr_marks false e.0 e.1 e.3 e.7 ++ plain ∷ plain ∷ [])
+
+-- by the production, in their order
+abbrev pub operator_marks : (o : Operator) (s : Size) (f : List Lexeme) → IsOperator o s f → List Mark
+operator_marks o s f (inl h) = uncounted f
+operator_marks o s f (inr (inl h)) = uncounted f
+operator_marks o s f (inr (inr (inl h))) = uncounted f
+operator_marks o s f (inr (inr (inr (inl h)))) = uncounted f
+operator_marks o s f (inr (inr (inr (inr (inl h))))) = uncounted f
+operator_marks o s f (inr (inr (inr (inr (inr (inl h)))))) = uncounted f
+operator_marks o s f (inr (inr (inr (inr (inr (inr (inl h))))))) = partition_marks o s f h
+operator_marks o s f (inr (inr (inr (inr (inr (inr (inr (inl h)))))))) = uncounted f
+operator_marks o s f (inr (inr (inr (inr (inr (inr (inr (inr (inl h))))))))) = join_marks o s f h
+operator_marks o s f (inr (inr (inr (inr (inr (inr (inr (inr (inr (inl h)))))))))) = add_marks o s f h
+operator_marks o s f (inr (inr (inr (inr (inr (inr (inr (inr (inr (inr (inl h))))))))))) = uncounted f
+operator_marks o s f (inr (inr (inr (inr (inr (inr (inr (inr (inr (inr (inr h))))))))))) = uncounted f

@@ -1,0 +1,113 @@
+-- Reading operators, from left to right.
+use Rattle.std.specs.Prelude.{ℕ, Bool, false, if◌then◌else◌, ◌||◌, List, ◌∷◌, codes}
+use Rattle.prima_base.specs.declared.values.ColType.{ColType}
+use Rattle.prima_base.specs.declared.values.ColType.TheVariants.{Int, Text}
+use Rattle.prima_base.specs.Columns.{Column}
+use Rattle.cond_expr.specs.Trees.{Test, always}
+use Rattle.smo_ops.specs.Operators.{Operator, nop, create_table, drop_table, rename_table, copy_table, merge_table, partition_table, decompose_table, join_table, add_column, drop_column, rename_column}
+use Rattle.lexer.specs.Lexemes.{Lexeme, is_word, is_sign}
+use Rattle.lexer.specs.Parsing.{Parser, Arm, No, Takes, bind, pure, map_to, lead, choose, option, many}
+use Rattle.lexer.specs.Reader.{outermost, goes_cond}
+use Rattle.lexer.specs.Constants.{name, names}
+
+-- ---- parts of operators
+
+abbrev pub type_arm : Lexeme → Arm ColType
+type_arm x = if is_word (codes "INT") x then Takes (pure Int) else (if is_word (codes "TEXT") x then Takes (pure Text) else No)
+
+unfoldable pub column_type : Parser ColType
+column_type = choose type_arm
+
+unfoldable pub column : Parser Column
+column = bind name (λ n. map_to (λ k. (n, k)) column_type)
+
+unfoldable pub columns : Parser (List Column)
+columns = bind column (λ c. map_to (λ l. c ∷ l) (many (is_sign (codes ",")) column))
+
+unfoldable pub where_part : Parser Test
+where_part = option (is_word (codes "WHERE")) (Takes (outermost false).cond) always
+
+-- ---- the operators, each behind its first word or words
+
+-- behind CREATE
+unfoldable pub create_rest : Parser Operator
+create_rest = lead (is_word (codes "TABLE")) (bind name (λ r. lead (is_sign (codes "(")) (bind columns (λ l. lead (is_sign (codes ")")) (pure (create_table r l))))))
+
+-- behind DROP TABLE
+unfoldable pub drop_table_rest : Parser Operator
+drop_table_rest = map_to (λ r. drop_table r) name
+
+-- behind DROP COLUMN
+unfoldable pub drop_column_rest : Parser Operator
+drop_column_rest = bind name (λ n. lead (is_word (codes "FROM")) (map_to (λ r. drop_column n r) name))
+
+abbrev pub drop_arm : Lexeme → Arm Operator
+drop_arm x = if is_word (codes "TABLE") x then Takes drop_table_rest else (if is_word (codes "COLUMN") x then Takes drop_column_rest else No)
+
+-- behind DROP
+unfoldable pub drop_rest : Parser Operator
+drop_rest = choose drop_arm
+
+-- behind RENAME TABLE
+unfoldable pub rename_table_rest : Parser Operator
+rename_table_rest = bind name (λ r. lead (is_word (codes "INTO")) (map_to (λ t. rename_table r t) name))
+
+-- behind RENAME COLUMN
+unfoldable pub rename_column_rest : Parser Operator
+rename_column_rest = bind name (λ b. lead (is_word (codes "IN")) (bind name (λ r. lead (is_word (codes "TO")) (map_to (λ c. rename_column b r c) name))))
+
+abbrev pub rename_arm : Lexeme → Arm Operator
+rename_arm x = if is_word (codes "TABLE") x then Takes rename_table_rest else (if is_word (codes "COLUMN") x then Takes rename_column_rest else No)
+
+-- behind RENAME
+unfoldable pub rename_rest : Parser Operator
+rename_rest = choose rename_arm
+
+-- behind COPY
+unfoldable pub copy_rest : Parser Operator
+copy_rest = lead (is_word (codes "TABLE")) (bind name (λ r. lead (is_word (codes "INTO")) (map_to (λ t. copy_table r t) name)))
+
+-- behind MERGE
+unfoldable pub merge_rest : Parser Operator
+merge_rest = lead (is_word (codes "TABLE")) (bind name (λ r. lead (is_sign (codes ",")) (bind name (λ s. lead (is_word (codes "INTO")) (map_to (λ t. merge_table r s t) name)))))
+
+-- behind PARTITION
+unfoldable pub partition_rest : Parser Operator
+partition_rest = lead (is_word (codes "TABLE")) (bind name (λ r. lead (is_word (codes "INTO")) (bind name (λ s. lead (is_word (codes "WITH"))
+    (bind (outermost false).cond (λ c. lead (is_sign (codes ",")) (map_to (λ t. partition_table r s c t) name)))))))
+
+-- a table's name and, in brackets, the names of its columns
+unfoldable pub part : Parser (List ℕ × List (List ℕ))
+part = bind name (λ s. lead (is_sign (codes "(")) (bind names (λ xs. lead (is_sign (codes ")")) (pure (s, xs)))))
+
+-- behind DECOMPOSE
+unfoldable pub decompose_rest : Parser Operator
+decompose_rest = lead (is_word (codes "TABLE")) (bind name (λ r. lead (is_word (codes "INTO")) (bind part (λ p. lead (is_sign (codes ",")) (map_to (λ q. decompose_table r p.0 p.1 q.0 q.1) part)))))
+
+-- behind JOIN
+unfoldable pub join_rest : Parser Operator
+join_rest = lead (is_word (codes "TABLE")) (bind name (λ r. lead (is_sign (codes ",")) (bind name (λ s. lead (is_word (codes "INTO")) (bind name (λ t. map_to (λ c. join_table r s t c) where_part))))))
+
+-- behind ADD
+unfoldable pub add_rest : Parser Operator
+add_rest = lead (is_word (codes "COLUMN")) (bind name (λ n. lead (is_word (codes "AS")) (bind (outermost false).expr (λ e. lead (is_word (codes "INTO")) (map_to (λ r. add_column n e r) name)))))
+
+abbrev pub operator_arm : Lexeme → Arm Operator
+operator_arm x =
+    if is_word (codes "NOP") x then Takes (pure nop) else (if is_word (codes "CREATE") x then Takes create_rest else
+    (if is_word (codes "DROP") x then Takes drop_rest else (if is_word (codes "RENAME") x then Takes rename_rest else
+    (if is_word (codes "COPY") x then Takes copy_rest else (if is_word (codes "MERGE") x then Takes merge_rest else
+    (if is_word (codes "PARTITION") x then Takes partition_rest else (if is_word (codes "DECOMPOSE") x then Takes decompose_rest else
+    (if is_word (codes "JOIN") x then Takes join_rest else (if is_word (codes "ADD") x then Takes add_rest else No)))))))))
+
+unfoldable pub operator : Parser Operator
+operator = choose operator_arm
+
+-- ---- what each goes on with
+
+abbrev pub goes_where : Lexeme → Bool
+goes_where x = is_word (codes "WHERE") x || goes_cond false x
+
+-- a JOIN alone goes on
+abbrev pub goes_operator : Lexeme → Bool
+goes_operator = goes_where

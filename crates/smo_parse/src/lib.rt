@@ -1,0 +1,27 @@
+//! The texts of operators: each is read from tokens, and has one canonical text, which is printed.
+//!
+//! The grammar of the twelve operators stands in `specs/Productions.antt`, over the one of expressions
+//! and conditions of the lexer's crate; `specs/OperatorReader.antt` reads it from left to right. The canonical
+//! texts stand in `specs/Texts.antt`, and those of expressions and conditions, for all who print such, in
+//! `specs/TreeTexts.antt`.
+#![tactic(auto)]
+
+mod laws;
+#[cfg(test)]
+mod op_makers;
+mod op_printer;
+#[cfg(test)]
+mod op_shown;
+#[cfg(test)]
+mod op_text_tests;
+mod operator_reader;
+mod parse;
+#[cfg(test)]
+mod parse_op_tests;
+mod tree_printer;
+
+pub use laws::{operator_marks_add_up, operators_are_good, printed_operators_are_read};
+pub use op_printer::op_text;
+pub use operator_reader::operator;
+pub use parse::parse_op;
+pub use tree_printer::{write_cond, write_expr};

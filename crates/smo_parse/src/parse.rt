@@ -1,0 +1,90 @@
+//! An operator from a list of tokens.
+
+ghost use Rattle.std.specs.Prelude.{◌≡◌, ◌++◌, ◌<◌, ◌≤◌, ◌+◌, ◌∷◌, List, length, drop};
+ghost use Rattle.smo_ops.specs.Operators.{Operator, operator_of};
+ghost use Rattle.lexer.specs.Lexemes.{Lexeme};
+ghost use Rattle.lexer.specs.declared.reading.Stop.TheVariants as stop;
+ghost use Rattle.lexer.specs.Parsing.{Size, Stops, limit};
+ghost use Rattle.lexer.specs.Found.{IsRead, Finds, Ends, IsFirstFault, IsTooMany, Follows, FaultAt, lexemes_from};
+ghost use Rattle.lexer.specs.Marks.{FirstPassed};
+ghost use Rattle.prima_base.specs.declared.refusals.What.{What as Counted};
+ghost use Rattle.smo_parse.specs.Productions.{IsOperator};
+ghost use Rattle.smo_parse.specs.OperatorMarks.{operator_marks};
+ghost use Rattle.smo_parse.specs.OperatorReader as spec;
+
+use crate::operator_reader::operator;
+use lexer::{Cursor, ParseFault, Stop, Token};
+use prima_base::What;
+use smo_ops::Op;
+use std::alloc::Global;
+
+// The most of each kind that may be counted.
+fn limit_of(what: What) -> u64
+    ensures { result ≡ limit what }
+{
+    match what {
+        What::Nodes => 256,
+        What::Depth | What::Outputs => 32,
+        What::Parts | What::Tables | What::Keeps | What::Inverse => 8,
+        What::Branches => 16,
+        What::Changes | What::Columns | What::Versions => 0,
+    }
+}
+
+// What follows a place of the list.
+#[tactic(auto, using(lexer::proofs::Places::tail_is))]
+fn tail<'a, 't>(list: &'a [Token<'t>], from: usize) -> &'a [Token<'t>]
+    requires { from ≤ length list.now }
+    ensures { result.now ≡ drop from list.now }
+{
+    &list[from..]
+}
+
+// The fault of a stop before so many tokens that are left.
+fn fault_at(why: Stop, list: &[Token<'_>], left: usize) -> ParseFault
+    requires { why ≡ stop.Stuck → left ≤ length list.now }
+    ensures { FaultAt why list.now left result }
+{
+    match why {
+        Stop::NoMemory => ParseFault::NoMemory,
+        Stop::TooMany(what) => ParseFault::TooMany(what, limit_of(what)),
+        Stop::Stuck => {
+            if left == 0 {
+                ParseFault::RanOut
+            } else {
+                ParseFault::Syntax(list[list.len() - left].at)
+            }
+        }
+    }
+}
+
+/// The operator that begins at the token `from` of the list, and the place of the token behind it.
+/// Places count the list's tokens from 0; `from` is at most its length. The longest operator is read.
+/// References of its expression or condition are to atom 0, and its limits are those of `parse_expr` and
+/// `parse_cond`: the first token that is one more is `TooMany`.
+pub fn parse_op(alloc: Global, list: &[Token<'_>], from: usize) -> Result<(Op, usize), ParseFault>
+    requires { from ≤ length list.now }
+    // What is read is in the grammar, and nothing of it goes on with the token behind it.
+    ensures read { IsRead operator_of IsOperator list.now from result }
+    // What is in the grammar, up to a token that it does not go on with, is read if it is within the limits, and else refused.
+    ensures only { (o : Operator) (s : Size) (front rest : List Lexeme) → lexemes_from list.now from ≡ front ++ rest → IsOperator o s front → Stops spec.goes_operator rest →
+        Finds operator_of o s (from + length front) result }
+    // What is in the grammar, where nothing of it goes on with the token behind it, is read if it is within the limits, and else refused.
+    ensures longest { (o : Operator) (s : Size) (front rest : List Lexeme) → lexemes_from list.now from ≡ front ++ rest → IsOperator o s front → Ends IsOperator (lexemes_from list.now from) (length front) →
+        Finds operator_of o s (from + length front) result }
+    // A fault is at the first token with which nothing of the grammar goes on, or at which a count passes its limit.
+    ensures fault { IsFirstFault IsOperator operator_marks list.now from result }
+    // A front that passes a limit at its last token is refused there for this count, whatever stands behind it.
+    ensures over { (w : Counted) (front rest more : List Lexeme) (x : Lexeme) (o : Operator) (s : Size) (h : IsOperator o s (front ++ x ∷ more)) → lexemes_from list.now from ≡ front ++ x ∷ rest →
+        FirstPassed w (operator_marks o s (front ++ x ∷ more) h) (length front) → IsTooMany w result }
+    ensures exact { Follows operator_of (spec.operator 0 (lexemes_from list.now from)) list.now result }
+{
+    let mut cursor = Cursor {
+        rest: tail(list, from),
+        nodes: 0,
+    };
+    match operator(alloc, &mut cursor) {
+        Ok(found) => Ok((found, list.len() - cursor.rest.len())),
+        Err(stop) => Err(fault_at(stop, list, cursor.rest.len())),
+    }
+}
