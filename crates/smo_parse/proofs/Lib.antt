@@ -3,6 +3,7 @@ pub mod OperatorGoodness
 pub mod Behind
 pub mod SeveralTests
 mod WorkedTexts
+mod WorkedOperators
 pub mod Spellings
 pub mod Spelled
 pub mod PrintedTrees
@@ -12,3 +13,4 @@ pub mod PrintThenRead
 pub mod OperatorMarked
 pub mod OperatorMarkSizes
 pub mod OperatorLongest
+pub mod StillThere

@@ -74,6 +74,22 @@ empty_or = refl
 and_of_one : cond_text (all_of (a_test p no_tests)) ≡ codes "(a = 'x')"
 and_of_one = refl
 
+or_of_one : cond_text (some_of (a_test p no_tests)) ≡ codes "(a = 'x')"
+or_of_one = refl
+
+-- and those as parts, which stand in brackets as any AND and OR does
+empty_and_as_a_part : cond_text (all_of (two (all_of no_tests) p)) ≡ codes "(TRUE) AND a = 'x'"
+empty_and_as_a_part = refl
+
+empty_or_as_a_part : cond_text (fails (some_of no_tests)) ≡ codes "NOT (FALSE)"
+empty_or_as_a_part = refl
+
+one_as_a_part : cond_text (all_of (two (some_of (a_test p no_tests)) p)) ≡ codes "((a = 'x')) AND a = 'x'"
+one_as_a_part = refl
+
+one_round_two : cond_text (some_of (a_test (all_of (two p p)) no_tests)) ≡ codes "(a = 'x' AND a = 'x')"
+one_round_two = refl
+
 -- ---- expressions
 
 every_sign : cond_text (all_of (a_test (compared Ne a a) (a_test (compared Lt a a) (a_test (compared Le a a) (a_test (compared Gt a a) (a_test (compared Ge a a) no_tests)))))) ≡ codes "a <> a AND a < a AND a <= a AND a > a AND a >= a"
@@ -134,6 +150,10 @@ decomposed = refl
 joined_so : operator_text (join_table r s t always) ≡ codes "JOIN TABLE r, s INTO t WHERE TRUE"
 unfolding operator_text
 joined_so = refl
+
+joined_where : operator_text (join_table r s t (all_of (two (compared Le a a) (fails (some_of (two p never)))))) ≡ codes "JOIN TABLE r, s INTO t WHERE a <= a AND NOT (a = 'x' OR FALSE)"
+unfolding operator_text
+joined_where = refl
 
 added : operator_text (add_column (codes "c") (text (codes "x")) r) ≡ codes "ADD COLUMN c AS 'x' INTO r"
 unfolding operator_text

@@ -103,11 +103,12 @@ operator_arm x =
 unfoldable pub operator : Parser Operator
 operator = choose operator_arm
 
--- ---- what each goes on with
+-- ---- what may stand behind a whole one and still go on with it
 
 abbrev pub goes_where : Lexeme → Bool
 goes_where x = is_word (codes "WHERE") x || goes_cond false x
 
--- a JOIN alone goes on
+-- The lexemes with which some whole operator goes on: WHERE, of a JOIN without one, and AND and OR, of a JOIN's condition. In front of
+-- each other lexeme every operator is at its end.
 abbrev pub goes_operator : Lexeme → Bool
 goes_operator = goes_where

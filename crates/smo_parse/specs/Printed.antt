@@ -37,8 +37,8 @@ IsWhole o n (Err (fault.Syntax at)) = ⊥
 IsWhole o n (Err fault.RanOut) = ⊥
 IsWhole o n (Err (fault.TooMany w most)) = ⊥
 
--- The operator's text has tokens, with no fault; these are read as this operator, with nothing left; and so it is with whatever call
--- keeps what reading operators ensures.
+-- Whatever tokens the operator's text has by the lexical grammar, they come without a fault and are read as this operator, with nothing
+-- left; and so it is with whatever call keeps what reading operators ensures.
 abbrev pub IsReadAgain : Operator → Type 0
 IsReadAgain o = (ts : List Token) (e : Option LexFault) → Lexes 0 (operator_text o) ts e →
     (e ≡ None)

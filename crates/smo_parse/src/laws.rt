@@ -24,9 +24,10 @@ pub fn operator_marks_add_up()
     ensures { (o : Operator) (s : Size) (f : List Lexeme) (h : IsOperator o s f) → AddUp (operator_marks o s f h) s f }
 {}
 
-/// Print, then read: the canonical text of an operator has tokens, with no fault, and reading them
-/// gives the operator, whole. It holds of every operator that tokens spell within the limits of
-/// reading, and so of whatever `parse_op` gives, where its expression or condition is at most 32 deep.
+/// Print, then read: whatever tokens the lexer finds in the canonical text of an operator, they come without a fault, and
+/// reading them gives the operator, whole. (`tokens` finds them, or memory runs out.) It holds of every operator that
+/// tokens spell within the limits of reading, and so of whatever `parse_op` gives, where its expression or condition is at
+/// most 32 deep.
 pub fn printed_operators_are_read()
     ensures spelled { (o : Operator) (s : Size) (list : List Token) → IsOperator o s (map lexeme list) → s.nodes ≤ 256 → Lawful 32 s → tree_depth o ≤ 32 → IsReadAgain o }
     ensures given { (list : List Token) (from : ℕ) (op : AnOp) (place : ℕ) → IsRead operator_of IsOperator list from (Ok (op, place)) → tree_depth (operator_of op) ≤ 32 → IsReadAgain (operator_of op) }

@@ -19,6 +19,8 @@ mod parse;
 #[cfg(test)]
 mod parse_op_tests;
 mod tree_printer;
+#[cfg(test)]
+mod tree_shown;
 
 pub use laws::{operator_marks_add_up, operators_are_good, printed_operators_are_read};
 pub use op_printer::op_text;

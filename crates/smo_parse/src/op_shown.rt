@@ -1,8 +1,8 @@
-//! What tests of reading compare: operators and faults as short texts.
+//! What tests of reading compare: operators and faults as short texts, apart from the printer.
 
-use crate::{op_text, parse_op, write_cond, write_expr};
-use cond_expr::{Cond, Expr};
-use lexer::{ParseFault, tokens};
+use crate::tree_shown::{put_cond, put_expr};
+use crate::{op_text, parse_op};
+use lexer::{LexFault, ParseFault, tokens};
 use prima_base::{ColType, Name, NoMemory, What};
 use smo_ops::Op;
 use std::alloc::Global;
@@ -20,7 +20,7 @@ pub fn put_many(out: &mut Vec<u8>, text: &[u8], count: u32) -> Result<(), NoMemo
     Ok(())
 }
 
-fn put_number(alloc: Global, out: &mut Vec<u8>, number: u64) -> Result<(), NoMemory> {
+pub fn put_number(alloc: Global, out: &mut Vec<u8>, number: u64) -> Result<(), NoMemory> {
     let digits = format!(in alloc; "{number}")?;
     put(out, digits.as_bytes())
 }
@@ -67,18 +67,6 @@ fn put_three(
     put_name(out, third)
 }
 
-fn put_cond(out: &mut Vec<u8>, cond: &Cond) -> Result<(), NoMemory> {
-    put(out, b" [")?;
-    write_cond(out, cond, false, false)?;
-    put(out, b"]")
-}
-
-fn put_expr(out: &mut Vec<u8>, expr: &Expr) -> Result<(), NoMemory> {
-    put(out, b" [")?;
-    write_expr(out, expr, false)?;
-    put(out, b"]")
-}
-
 fn put_parts(
     out: &mut Vec<u8>,
     table: &Name,
@@ -93,7 +81,7 @@ fn put_parts(
     put_names(out, right.1)
 }
 
-fn put_op(out: &mut Vec<u8>, op: &Op) -> Result<(), NoMemory> {
+fn put_op(alloc: Global, out: &mut Vec<u8>, op: &Op) -> Result<(), NoMemory> {
     match op {
         Op::Nop => put(out, b"nop"),
         Op::CreateTable { table, columns } => {
@@ -115,7 +103,8 @@ fn put_op(out: &mut Vec<u8>, op: &Op) -> Result<(), NoMemory> {
             no,
         } => {
             put_three(out, b"partition", table, yes, no)?;
-            put_cond(out, cond)
+            put(out, b" ")?;
+            put_cond(alloc, out, cond)
         }
         Op::DecomposeTable {
             table,
@@ -131,7 +120,8 @@ fn put_op(out: &mut Vec<u8>, op: &Op) -> Result<(), NoMemory> {
             cond,
         } => {
             put_three(out, b"join", left, right, into)?;
-            put_cond(out, cond)
+            put(out, b" ")?;
+            put_cond(alloc, out, cond)
         }
         Op::AddColumn {
             column,
@@ -139,7 +129,8 @@ fn put_op(out: &mut Vec<u8>, op: &Op) -> Result<(), NoMemory> {
             table,
         } => {
             put_two(out, b"add", column, table)?;
-            put_expr(out, expr)
+            put(out, b" ")?;
+            put_expr(alloc, out, expr)
         }
         Op::DropColumn { column, table } => put_two(out, b"drop column", column, table),
         Op::RenameColumn {
@@ -174,14 +165,28 @@ fn put_fault(alloc: Global, out: &mut Vec<u8>, fault: ParseFault) -> Result<(), 
     }
 }
 
+fn put_lexical(alloc: Global, out: &mut Vec<u8>, fault: LexFault) -> Result<(), NoMemory> {
+    match fault {
+        LexFault::BigNumber(at) => {
+            put(out, b"BigNumber ")?;
+            put_number(alloc, out, u64::from(at))
+        }
+        _ => put(out, b"no tokens"),
+    }
+}
+
 /// The operator at a token of a text, whole or not at all, and the place behind it, or the fault.
 pub fn read_op(alloc: Global, text: &[u8], from: usize, whole: bool) -> Result<Vec<u8>, NoMemory> {
     let mut out = Vec::new(alloc);
     if text.len() > 1_048_576 {
         return Ok(out);
     }
-    let Ok(list) = tokens(alloc, text) else {
-        return Ok(out);
+    let list = match tokens(alloc, text) {
+        Ok(list) => list,
+        Err(fault) => {
+            put_lexical(alloc, &mut out, fault)?;
+            return Ok(out);
+        }
     };
     if from > list.len() {
         return Ok(out);
@@ -189,7 +194,7 @@ pub fn read_op(alloc: Global, text: &[u8], from: usize, whole: bool) -> Result<V
     match parse_op(alloc, &list, from) {
         Ok((op, place)) => {
             if whole {
-                put_op(&mut out, &op)?;
+                put_op(alloc, &mut out, &op)?;
                 put(&mut out, b" ")?;
             }
             put_number(alloc, &mut out, place as u64)?;

@@ -60,8 +60,14 @@ fn fault_at(why: Stop, list: &[Token<'_>], left: usize) -> ParseFault
 
 /// The operator that begins at the token `from` of the list, and the place of the token behind it.
 /// Places count the list's tokens from 0; `from` is at most its length. The longest operator is read.
-/// References of its expression or condition are to atom 0, and its limits are those of `parse_expr` and
-/// `parse_cond`: the first token that is one more is `TooMany`.
+/// References of its expression or condition are columns of atom 0.
+///
+/// `Syntax` has the place in the statement, in bytes as `Token::at`, of the first token with which no operator goes on:
+/// the tokens before it begin one that is not whole yet, and with this token they begin none. `RanOut` comes where the list
+/// ends inside of one: its tokens begin one that is not whole yet. The limits of its expression or condition are those of `parse_expr` and `parse_cond` (256 nodes, 32
+/// open brackets, CASEs and NOTs, 8 parts of a CONCAT): `TooMany` has the count and its limit where the first token that
+/// is one more comes before any wrong one, and of two counts that pass at one token it is the nodes. `NoMemory` comes where
+/// memory runs out, whatever the tokens are.
 pub fn parse_op(alloc: Global, list: &[Token<'_>], from: usize) -> Result<(Op, usize), ParseFault>
     requires { from ≤ length list.now }
     // What is read is in the grammar, and nothing of it goes on with the token behind it.

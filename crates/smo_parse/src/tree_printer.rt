@@ -1,6 +1,6 @@
 //! Printing of expressions and conditions, as `specs/TreeTexts.antt` has their texts.
 
-ghost use Rattle.std.specs.Prelude.{◌≡◌, ℕ, ◌<◌, length, ◌++◌, ◌∷◌, [], ◌==◌, List, drop, map, codes, if◌then◌else◌, OnOk};
+ghost use Rattle.std.specs.Prelude.{◌≡◌, ℕ, ◌<◌, length, ◌++◌, ◌∷◌, [], ◌==◌, List, take, drop, map, codes, if◌then◌else◌, OnOk};
 ghost use Rattle.cond_expr.specs.Seen.{tree, test, trees_of, tests_of};
 ghost use Rattle.smo_parse.specs.TreeTexts.{doubled, value_text, reference_text, sign_text, bracketed, tree_text, trees_text, more_trees_text, test_text, tests_text, more_tests_text};
 
@@ -10,7 +10,8 @@ use prima_base::{NoMemory, Value};
 
 /// Writes these bytes behind what is there.
 pub(crate) fn put(out: &mut Vec<u8>, bytes: &[u8]) -> Result<(), NoMemory>
-    ensures { OnOk result (out.new.items ≡ out.old.items ++ bytes.now) }
+    ensures ok { OnOk result (out.new.items ≡ out.old.items ++ bytes.now) }
+    ensures front { take (length out.old.items) out.new.items ≡ out.old.items }
 {
     out.extend_from_slice(bytes)?;
     Ok(())
@@ -18,7 +19,8 @@ pub(crate) fn put(out: &mut Vec<u8>, bytes: &[u8]) -> Result<(), NoMemory>
 
 // A byte of a text; a quote is doubled.
 fn put_byte(out: &mut Vec<u8>, byte: u8) -> Result<(), NoMemory>
-    ensures { OnOk result (out.new.items ≡ out.old.items ++ (if byte == 39 then 39 ∷ 39 ∷ [] else byte ∷ [])) }
+    ensures ok { OnOk result (out.new.items ≡ out.old.items ++ (if byte == 39 then 39 ∷ 39 ∷ [] else byte ∷ [])) }
+    ensures front { take (length out.old.items) out.new.items ≡ out.old.items }
 {
     if byte == b'\'' {
         return put(out, b"''");
@@ -28,8 +30,10 @@ fn put_byte(out: &mut Vec<u8>, byte: u8) -> Result<(), NoMemory>
 }
 
 // The bytes of a text with each quote doubled.
+#[tactic(auto, using(crate::proofs::StillThere::still_there))]
 fn put_doubled(out: &mut Vec<u8>, bytes: &[u8]) -> Result<(), NoMemory>
-    ensures { OnOk result (out.new.items ≡ out.old.items ++ doubled bytes.now) }
+    ensures ok { OnOk result (out.new.items ≡ out.old.items ++ doubled bytes.now) }
+    ensures front { take (length out.old.items) out.new.items ≡ out.old.items }
 {
     for byte in bytes {
         put_byte(out, *byte)?;
@@ -39,7 +43,8 @@ fn put_doubled(out: &mut Vec<u8>, bytes: &[u8]) -> Result<(), NoMemory>
 
 // A number, or a text in quotes.
 fn write_value(out: &mut Vec<u8>, value: &Value) -> Result<(), NoMemory>
-    ensures { OnOk result (out.new.items ≡ out.old.items ++ value_text value.now) }
+    ensures ok { OnOk result (out.new.items ≡ out.old.items ++ value_text value.now) }
+    ensures front { take (length out.old.items) out.new.items ≡ out.old.items }
 {
     match value {
         Value::Int(number) => put(out, Buffer::new().format(*number).as_bytes()),
@@ -53,7 +58,8 @@ fn write_value(out: &mut Vec<u8>, value: &Value) -> Result<(), NoMemory>
 
 // What stands before a column's name.
 fn write_owner(out: &mut Vec<u8>, whose: &Whose, numbered: bool) -> Result<(), NoMemory>
-    ensures { (n : List ℕ) → OnOk result (out.new.items ++ n ≡ out.old.items ++ reference_text numbered whose.now n) }
+    ensures ok { (n : List ℕ) → OnOk result (out.new.items ++ n ≡ out.old.items ++ reference_text numbered whose.now n) }
+    ensures front { take (length out.old.items) out.new.items ≡ out.old.items }
 {
     match whose {
         Whose::Free => Ok(()),
@@ -74,7 +80,8 @@ fn write_owner(out: &mut Vec<u8>, whose: &Whose, numbered: bool) -> Result<(), N
 
 // A reference.
 fn write_reference(out: &mut Vec<u8>, reference: &ColRef, numbered: bool) -> Result<(), NoMemory>
-    ensures { OnOk result (out.new.items ≡ out.old.items ++ reference_text numbered reference.now.whose reference.now.name) }
+    ensures ok { OnOk result (out.new.items ≡ out.old.items ++ reference_text numbered reference.now.whose reference.now.name) }
+    ensures front { take (length out.old.items) out.new.items ≡ out.old.items }
 {
     write_owner(out, &reference.whose, numbered)?;
     put(out, reference.name.bytes())
@@ -113,11 +120,13 @@ fn conds_behind(parts: &[Cond]) -> &[Cond]
 }
 
 /// Writes an expression's text behind what is there. Where atoms are numbered, a column of atom 0 is
-/// `t0.name`, and else the name alone. After `NoMemory` a part of the text may stand there.
+/// `t0.name`, and else the name alone. After `NoMemory` what was there still stands, and behind it may stand a
+/// part of the text.
 #[cycle(writes)]
 #[tactic(auto, using(cond_expr::proofs::SeenLaws::tree_of_concat, cond_expr::proofs::SeenLaws::tree_of_case))]
 pub fn write_expr(out: &mut Vec<u8>, expr: &Expr, numbered: bool) -> Result<(), NoMemory>
-    ensures { OnOk result (out.new.items ≡ out.old.items ++ tree_text numbered (tree expr.now)) }
+    ensures ok { OnOk result (out.new.items ≡ out.old.items ++ tree_text numbered (tree expr.now)) }
+    ensures front { take (length out.old.items) out.new.items ≡ out.old.items }
 {
     match expr {
         Expr::Col(reference) => write_reference(out, reference, numbered),
@@ -135,19 +144,28 @@ pub fn write_expr(out: &mut Vec<u8>, expr: &Expr, numbered: bool) -> Result<(), 
         Expr::Case(cond, first, second) => {
             put(out, b"CASE WHEN ")?;
             write_cond(out, cond, numbered, false)?;
-            put(out, b" THEN ")?;
-            write_expr(out, first, numbered)?;
-            put(out, b" ELSE ")?;
-            write_expr(out, second, numbered)?;
+            write_behind(out, b" THEN ", first, numbered)?;
+            write_behind(out, b" ELSE ", second, numbered)?;
             put(out, b" END")
         }
     }
 }
 
+// A word, and an expression behind it.
+#[cycle(writes)]
+fn write_behind(out: &mut Vec<u8>, word: &[u8], expr: &Expr, numbered: bool) -> Result<(), NoMemory>
+    ensures ok { OnOk result (out.new.items ≡ out.old.items ++ (word.now ++ tree_text numbered (tree expr.now))) }
+    ensures front { take (length out.old.items) out.new.items ≡ out.old.items }
+{
+    put(out, word)?;
+    write_expr(out, expr, numbered)
+}
+
 // Expressions with commas between them.
 #[cycle(writes)]
 fn write_exprs(out: &mut Vec<u8>, parts: &[Expr], numbered: bool) -> Result<(), NoMemory>
-    ensures { OnOk result (out.new.items ≡ out.old.items ++ trees_text numbered (trees_of (map tree parts.now))) }
+    ensures ok { OnOk result (out.new.items ≡ out.old.items ++ trees_text numbered (trees_of (map tree parts.now))) }
+    ensures front { take (length out.old.items) out.new.items ≡ out.old.items }
 {
     match parts {
         [] => Ok(()),
@@ -160,8 +178,10 @@ fn write_exprs(out: &mut Vec<u8>, parts: &[Expr], numbered: bool) -> Result<(), 
 
 // Expressions, each behind a comma.
 #[cycle(writes)]
+#[tactic(auto, using(crate::proofs::StillThere::still_there))]
 fn write_more_exprs(out: &mut Vec<u8>, parts: &[Expr], numbered: bool) -> Result<(), NoMemory>
-    ensures { OnOk result (out.new.items ≡ out.old.items ++ more_trees_text numbered (trees_of (map tree parts.now))) }
+    ensures ok { OnOk result (out.new.items ≡ out.old.items ++ more_trees_text numbered (trees_of (map tree parts.now))) }
+    ensures front { take (length out.old.items) out.new.items ≡ out.old.items }
 {
     for part in parts {
         put(out, b", ")?;
@@ -180,7 +200,8 @@ pub fn write_cond(
     numbered: bool,
     part: bool,
 ) -> Result<(), NoMemory>
-    ensures { OnOk result (out.new.items ≡ out.old.items ++ test_text numbered part (test cond.now)) }
+    ensures ok { OnOk result (out.new.items ≡ out.old.items ++ test_text numbered part (test cond.now)) }
+    ensures front { take (length out.old.items) out.new.items ≡ out.old.items }
 {
     match cond {
         Cond::False => put(out, b"FALSE"),
@@ -211,7 +232,8 @@ fn write_bracketed(
     none: &[u8],
     word: &[u8],
 ) -> Result<(), NoMemory>
-    ensures { OnOk result (out.new.items ≡ out.old.items ++ bracketed part (tests_text numbered none.now word.now (tests_of (map test parts.now)))) }
+    ensures ok { OnOk result (out.new.items ≡ out.old.items ++ bracketed part (tests_text numbered none.now word.now (tests_of (map test parts.now)))) }
+    ensures front { take (length out.old.items) out.new.items ≡ out.old.items }
 {
     if !part {
         return write_conds(out, parts, numbered, none, word);
@@ -230,7 +252,8 @@ fn write_conds(
     none: &[u8],
     word: &[u8],
 ) -> Result<(), NoMemory>
-    ensures { OnOk result (out.new.items ≡ out.old.items ++ tests_text numbered none.now word.now (tests_of (map test parts.now))) }
+    ensures ok { OnOk result (out.new.items ≡ out.old.items ++ tests_text numbered none.now word.now (tests_of (map test parts.now))) }
+    ensures front { take (length out.old.items) out.new.items ≡ out.old.items }
 {
     match parts {
         [] => put(out, none),
@@ -248,13 +271,15 @@ fn write_conds(
 
 // Conditions, each behind the word.
 #[cycle(writes)]
+#[tactic(auto, using(crate::proofs::StillThere::still_there))]
 fn write_more_conds(
     out: &mut Vec<u8>,
     parts: &[Cond],
     numbered: bool,
     word: &[u8],
 ) -> Result<(), NoMemory>
-    ensures { OnOk result (out.new.items ≡ out.old.items ++ more_tests_text numbered word.now (tests_of (map test parts.now))) }
+    ensures ok { OnOk result (out.new.items ≡ out.old.items ++ more_tests_text numbered word.now (tests_of (map test parts.now))) }
+    ensures front { take (length out.old.items) out.new.items ≡ out.old.items }
 {
     for part in parts {
         put(out, word)?;
