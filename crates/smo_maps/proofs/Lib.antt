@@ -1,0 +1,7 @@
+mod KeptRows
+mod MadeNames
+mod OwnAtoms
+mod Places
+mod KeyLaws
+mod Arms
+mod GroupLaws

@@ -1,0 +1,13 @@
+use Rattle.std.proofs.Common.{List, ℕ, [], ◌∙◌}
+use Rattle.std.specs.Prelude.{if◌then◌else◌}
+use Rattle.std.proofs.lemmas.Result.{IfOk-weaker}
+use Rattle.smo_ops.specs.OneRow.{Row, same}
+use Rattle.smo_ops.specs.Making.{renamed, moved}
+use Rattle.smo_maps.specs.Picking.{source_of}
+use Rattle.smo_maps.proofs.Places.{picked_moved, shown_image}
+use Rattle.smo_maps.proofs.columns.under_another_name.Goals as goal
+
+pub returns : goal.returns
+returns c = IfOk-weaker c.image.result _ _ (λ v h. h ∙ shown_image (λ (n : List ℕ). source_of c.args.columns.now [] (if same c.args.into.now n then c.args.column.now else n)) (λ (row : Row). [])
+    (moved c.args.columns.now c.args.column.now c.args.into.now) (renamed c.args.column.now c.args.into.now c.args.columns.now) c.deref-2.result.now c.deref.result.now c.args.rows.now
+    (c.deref-2.ensures.value ∙ c.in_ok-sources.ensures) (c.deref.ensures.value ∙ c.in_ok-names.ensures) (picked_moved c.args.columns.now c.args.column.now c.args.into.now)) c.image.ensures

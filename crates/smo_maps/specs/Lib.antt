@@ -1,0 +1,4 @@
+pub mod Picking
+pub mod Atoms
+pub mod Keys
+pub mod Carrying

@@ -1,0 +1,24 @@
+//! Instance maps: the rows of the tables that a schema modification operator makes, from those of the tables that it
+//! is given. (PRISM 2008.)
+//!
+//! The definition is the whole-instance map of `smo_ops` (`carried` in its `specs/After.antt`); `specs/Carrying.antt`
+//! says that what is answered here is what it has under the names of the made tables.
+#![tactic(auto)]
+
+#[cfg(test)]
+mod carry_tests;
+mod columns;
+mod groups;
+mod join;
+mod maps;
+mod names;
+mod one_row;
+mod one_table;
+mod sources;
+#[cfg(test)]
+mod test_inputs;
+#[cfg(test)]
+mod test_makers;
+mod union;
+
+pub use maps::{Carried, carry};
