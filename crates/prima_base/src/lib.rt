@@ -6,6 +6,7 @@
 
 mod counters;
 mod failures;
+mod keeps;
 mod names;
 mod periods;
 mod refusals;
@@ -16,6 +17,7 @@ mod values;
 
 pub use counters::Steps;
 pub use failures::{Failed, NoMemory};
+pub use keeps::Keep;
 pub use names::{Name, NameFault};
 pub use periods::{FOREVER, Period, meet};
 pub use refusals::{OpKind, OpRefusal, Refusal, What};

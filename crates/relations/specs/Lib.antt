@@ -1,4 +1,5 @@
 pub mod Sets
+pub mod Choices
 pub mod Spans
 pub mod Timed
 pub mod Listing
