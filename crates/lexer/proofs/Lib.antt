@@ -8,6 +8,7 @@ pub mod Whole
 pub mod Parsing
 pub mod Fresh
 pub mod Grammar
+pub mod Alternatives
 pub mod Singles
 pub mod Goodness
 pub mod Marked
@@ -19,6 +20,8 @@ pub mod MarksJoined
 pub mod Passed
 pub mod Longest
 pub mod Places
+pub mod Passing
+pub mod AlongParts
 pub mod Unambiguous
 pub mod Fronts
 pub mod Slices

@@ -192,20 +192,20 @@ both_false false b e k = k
 no_point : (x : Lexeme) (b : Bool) → (x ≡ sign POINT → b ≡ true → ⊥) → goes_expr b x ≡ false
 no_point x b halts = by_test (is_sign POINT x) (λ t. by_test b (λ r. absurd (halts (sign_exact POINT x t) r)) (λ r. ap (λ z. is_sign POINT x && z) r ∙ ap (λ z. z && false) t)) (λ t. ap (λ z. z && b) t)
 
-expr_stops : (q : Bool) (e : Tree) (s : Size) (f : List Lexeme) (h : IsExpr q e s f) (x : Lexeme) → (CanGoOn (IsExpr q) (f ++ x ∷ []) → ⊥) → goes_expr (expr_free q e s f h) x ≡ false
+pub expr_stops : (q : Bool) (e : Tree) (s : Size) (f : List Lexeme) (h : IsExpr q e s f) (x : Lexeme) → (CanGoOn (IsExpr q) (f ++ x ∷ []) → ⊥) → goes_expr (expr_free q e s f h) x ≡ false
 expr_stops q e s f h x halts = no_point x (expr_free q e s f h) (λ z r. halts (can (IsExpr q) f x (sign POINT) (word (codes "a") ∷ []) z (expr_grows q e s f h r)))
 
-cond_stops : (q : Bool) (c : Test) (s : Size) (f : List Lexeme) (h : IsCond q c s f) (x : Lexeme) → (CanGoOn (IsCond q) (f ++ x ∷ []) → ⊥) → goes_cond (cond_free q c s f h) x ≡ false
+pub cond_stops : (q : Bool) (c : Test) (s : Size) (f : List Lexeme) (h : IsCond q c s f) (x : Lexeme) → (CanGoOn (IsCond q) (f ++ x ∷ []) → ⊥) → goes_cond (cond_free q c s f h) x ≡ false
 cond_stops q c s f h x halts =
     both_false (is_word OR x) _ (by_test (is_word OR x) (λ t. absurd (halts (can (IsCond q) f x (word OR) (word TRUE ∷ []) (word_exact OR x t) (cond_or q c s f h)))) (λ t. t))
     (both_false (is_word AND x) _ (by_test (is_word AND x) (λ t. absurd (halts (can (IsCond q) f x (word AND) (word TRUE ∷ []) (word_exact AND x t) (by_last q c s f h and_true (λ d u k i r. conj_and q d u k i))))) (λ t. t))
     (no_point x (cond_free q c s f h) (λ z r. halts (can (IsCond q) f x (sign POINT) (word (codes "a") ∷ []) z (by_last q c s f h behind (λ d u k i r2. conj_grows q d u k i (sym r2 ∙ r)))))))
 
-take_next : {A : Type 0} (f : List A) (x : A) (rest : List A) → take (length f + 1) (f ++ x ∷ rest) ≡ f ++ x ∷ []
+pub take_next : {A : Type 0} (f : List A) (x : A) (rest : List A) → take (length f + 1) (f ++ x ∷ rest) ≡ f ++ x ∷ []
 take_next [] x rest = refl
 take_next (y ∷ f) x rest = let e : length (y ∷ f) + 1 ≡ suc (length f + 1) = omega arith in ap (λ n. take n (y ∷ (f ++ x ∷ rest))) e ∙ ap (λ l. y ∷ l) (take_next f x rest)
 
-stops_behind : {A : Type 0} (G : A → Size → List Lexeme → Type 0) (goes : Lexeme → Bool) (f rest : List Lexeme) → Ends G (f ++ rest) (length f) → ((x : Lexeme) → (CanGoOn G (f ++ x ∷ []) → ⊥) → goes x ≡ false) → Stops goes rest
+pub stops_behind : {A : Type 0} (G : A → Size → List Lexeme → Type 0) (goes : Lexeme → Bool) (f rest : List Lexeme) → Ends G (f ++ rest) (length f) → ((x : Lexeme) → (CanGoOn G (f ++ x ∷ []) → ⊥) → goes x ≡ false) → Stops goes rest
 stops_behind G goes f [] ends stops = tt
 stops_behind G goes f (x ∷ rest) ends stops =
     let P : List Lexeme → Type 0 = λ l. CanGoOn G l in

@@ -167,7 +167,7 @@ pub bind_good : {A B : Type 0} (low d : ℕ) (p : Parser A) (f : A → Parser B)
     Good low d (bind p f) (bindG G H) goes2
 bind_good low d p f G H goes goes2 gp gf side = bind_later low 0 d p f G H goes goes2 (λ a s us g. omega arith) gp (λ a. later low (low + 0) d (f a) (H a) goes2 (omega arith) (gf a)) side
 
-lawful_none : (d : ℕ) → Lawful d nothing_counted
+pub lawful_none : (d : ℕ) → Lawful d nothing_counted
 lawful_none d = (omega arith, λ w. omega arith)
 
 pub pure_good : {A : Type 0} (low d : ℕ) (a : A) (goes : Lexeme → Bool) → Good low d (pure a) (pureG a) goes

@@ -49,12 +49,12 @@ module _ {A : Type 0} (d : ℕ) (a : A) where
 
 -- ---- fronts
 
-drop_front : {A : Type 0} (front rest : List A) → drop (length front) (front ++ rest) ≡ rest
+pub drop_front : {A : Type 0} (front rest : List A) → drop (length front) (front ++ rest) ≡ rest
 drop_front [] rest = refl
 drop_front (x ∷ front) rest = drop_front front rest
 
 -- two fronts of as many lexemes are one
-same_front : {A : Type 0} (f g r u : List A) → length r ≡ length u → f ++ r ≡ g ++ u → f ≡ g
+pub same_front : {A : Type 0} (f g r u : List A) → length r ≡ length u → f ++ r ≡ g ++ u → f ≡ g
 same_front [] [] r u h e = refl
 same_front [] (y ∷ g) r u h e = absurd (omega (arith, h, ap length e, length-append g u))
 same_front (x ∷ f) [] r u h e = absurd (omega (arith, h, ap length e, length-append f r))

@@ -195,6 +195,22 @@ module _ {A : Type 0} (p : Parser A) (G : A → Size → List Lexeme → Type 0)
           let P : ParseFault → Type 0 = λ u. Follows view (p 0 ts) list (Err u) in
           subst P (sym k) (refl, length list - left, omega (arith, same_left, over_fits v (ahead cur) h, over_some v (ahead cur) h), h ∙ ap (Over v) (rest_is x.0 (ahead cur) left same_left x.1))
 
+  -- ---- a fault that is no count
+
+  module _ (cur : Cursor) where
+    pub err_syntax : (why : Stop) (f : ParseFault) → Fails (p 0 ts) why cur → FaultAt why list (length cur.rest.now) f → (at : ℕ) → f ≡ fault.Syntax at → why ≡ stop.Stuck → (k : ℕ) × (at ≡ place list (from + k)) × IsFirst G ts k
+    err_syntax why f h k at e i =
+        let fails : p 0 ts ≡ Stuck (ahead cur) = (let P : Stop → Type 0 = λ w. Fails (p 0 ts) w cur in subst P i h) in
+        let found : FaultAt stop.Stuck list (length cur.rest.now) (fault.Syntax at) = (let P : Stop → Type 0 = λ w. FaultAt w list (length cur.rest.now) (fault.Syntax at) in let Q : ParseFault → Type 0 = λ v. FaultAt why list (length cur.rest.now) v in subst P i (subst Q e k)) in
+        let x = explained (Stuck (ahead cur)) fails in
+        (length ts - length (ahead cur), found.1 ∙ ap (place list) (ap (λ n. length list - n) (sym (same_left cur)) ∙ where_it_is (ahead cur) (in_ts x.0 (ahead cur) x.1)), stuck_first (ahead cur) fails (omega (arith, same_left cur, found.0)))
+
+    pub err_ran_out : (why : Stop) (f : ParseFault) → Fails (p 0 ts) why cur → FaultAt why list (length cur.rest.now) f → f ≡ fault.RanOut → why ≡ stop.Stuck → CanGoOn G ts
+    err_ran_out why f h k e i =
+        let fails : p 0 ts ≡ Stuck (ahead cur) = (let P : Stop → Type 0 = λ w. Fails (p 0 ts) w cur in subst P i h) in
+        let found : length cur.rest.now ≡ 0 = (let P : Stop → Type 0 = λ w. FaultAt w list (length cur.rest.now) fault.RanOut in let Q : ParseFault → Type 0 = λ v. FaultAt why list (length cur.rest.now) v in subst P i (subst Q e k)) in
+        stuck_out (ahead cur) fails (same_left cur ∙ found)
+
   -- ---- where it is too much
 
   module _ (marks : (a : A) (s : Size) (f : List Lexeme) → G a s f → List Mark) (marked : (a : A) (s : Size) (f : List Lexeme) (h : G a s f) → p 0 f ≡ along 32 a 0 (marks a s f h) f)

@@ -1,9 +1,9 @@
 -- One step of reading, as the code takes it.
-use Rattle.std.proofs.Common.{◌≡◌, ℕ, zero, suc, ◌+◌, ◌-◌, ◌<◌, Bool, true, false, cond, Some, None, List, [], ◌∷◌, ◌++◌, length, drop, refl, sym, ap, ◌∙◌, append_assoc, append-nil, arith, codes}
+use Rattle.std.proofs.Common.{◌≡◌, ℕ, zero, suc, ◌+◌, ◌-◌, ◌<◌, Bool, true, false, cond, is_some, Option, Some, None, List, [], ◌∷◌, ◌++◌, length, drop, refl, sym, ap, ◌∙◌, append_assoc, append-nil, arith, codes}
 use Rattle.prima_base.specs.declared.refusals.What.{What}
 use Rattle.prima_base.specs.declared.refusals.What.TheVariants as what
 use Rattle.lexer.specs.Lexemes.{Lexeme, is_word, is_sign}
-use Rattle.lexer.specs.Parsing.{Out, Got, Stuck, Over, Parser, Arm, No, Takes, Counts, Whole, Refuses, Fills, arm_run, has_room, and_then, bind, pure, map_to, lead, option, pick, choose, more, set_back, prepend}
+use Rattle.lexer.specs.Parsing.{Out, Got, Stuck, Over, Parser, Arm, No, Takes, Counts, Whole, Refuses, Fills, arm_run, has_room, and_then, bind, pure, map_to, lead, option, pick, choose, more, set_back, single, single_arm, said_or, maybe, prepend}
 use Rattle.cond_expr.specs.declared.exprs.CmpOp.{CmpOp}
 use Rattle.cond_expr.specs.Trees.{Test, always, never, fails}
 use Rattle.lexer.specs.Reader.{level, can, inside, nothing, made, expr, fact, comparison, bracketed, length_rest, concat_rest, case_rest, atom_arm, expr_arm, fact_arm, opens, sign_op, op_arm}
@@ -74,6 +74,23 @@ option_takes is p v n (x ∷ ts) e = ap (λ b. cond b (arm_run (Takes p) x n ts)
 pub option_refuses : {A : Type 0} (is : Lexeme → Bool) (w : What) (v : A) (n : ℕ) (ts : List Lexeme) → sees is ts ≡ true → option is (Refuses w) v n ts ≡ Over w ts
 option_refuses is w v n [] e = true_false (sym e)
 option_refuses is w v n (x ∷ ts) e = ap (λ b. cond b (arm_run (Refuses w) x n ts) (Got v n (x ∷ ts))) e
+
+-- a value that the next lexeme says, or one that takes none
+pub maybe_not : {A : Type 0} (says : Lexeme → Option A) (v : A) (n : ℕ) (ts : List Lexeme) → sees (λ x. is_some (says x)) ts ≡ false → maybe says v n ts ≡ Got v n ts
+maybe_not says v n [] e = refl
+maybe_not {A} says v n (x ∷ ts) e = by_said (says x) e
+  where
+    by_said : (o : Option A) → is_some o ≡ false → said_or o v x n ts ≡ Got v n (x ∷ ts)
+    by_said None e = refl
+    by_said (Some a) e = true_false e
+
+pub maybe_says : {A : Type 0} (says : Lexeme → Option A) (v : A) (n : ℕ) (ts : List Lexeme) → sees (λ x. is_some (says x)) ts ≡ true → maybe says v n ts ≡ single says n ts
+maybe_says says v n [] e = true_false (sym e)
+maybe_says {A} says v n (x ∷ ts) e = by_said (says x) e
+  where
+    by_said : (o : Option A) → is_some o ≡ true → said_or o v x n ts ≡ arm_run (single_arm o) x n ts
+    by_said None e = true_false (sym e)
+    by_said (Some a) e = refl
 
 pub some_left : (is : Lexeme → Bool) (ts : List Lexeme) → sees is ts ≡ true → 0 < length ts
 some_left is [] e = true_false (sym e)

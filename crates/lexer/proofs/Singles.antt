@@ -1,11 +1,11 @@
 -- The readers of names and constants are good for their grammars.
-use Rattle.std.proofs.Common.{◌≡◌, ℕ, pos, Bool, true, false, cond, ◌||◌, Option, Some, None, List, [], ◌∷◌, codes, nat_le, refl, sym, ap, ◌∙◌, arith}
+use Rattle.std.proofs.Common.{◌≡◌, ℕ, pos, Bool, true, false, cond, ◌||◌, Option, Some, None, List, [], ◌∷◌, ◌++◌, codes, nat_le, inl, inr, refl, sym, ap, ◌∙◌, subst, arith}
 use Rattle.std.proofs.lemmas.Bool.Decides.{nat_tests}
 use Rattle.prima_base.specs.declared.values.Value.TheVariants.{Int}
 use Rattle.lexer.specs.Lexemes.{Lexeme, word, number, text, sign, is_sign, is_name}
-use Rattle.lexer.specs.Parsing.{Size, nothing_counted, Good, pure, pureG, no_end, single, single_arm, singleG}
+use Rattle.lexer.specs.Parsing.{Size, nothing_counted, Out, Got, Same, Explains, Stops, Fine, Lawful, Good, pure, pureG, no_end, single, single_arm, singleG, said_or, maybe, maybeG}
 use Rattle.lexer.specs.Constants.{as_name, as_natural, as_moment, as_small, as_int, as_text, as_constant, name, nameG, natural, naturalG, moment, momentG, small, smallG, int, intG, literal, literalG, constant, constantG, names, namesG, more_names}
-use Rattle.lexer.proofs.Parsing.{ArmGood, good_iff, choose_good, pure_good, bind_more, many_good}
+use Rattle.lexer.proofs.Parsing.{ArmGood, good_iff, choose_good, pure_good, lawful_none, bind_more, many_good}
 use Rattle.lexer.proofs.Grammar.{sign_exact, sign_is, COMMA, some_name}
 
 -- ---- one lexeme
@@ -27,6 +27,52 @@ module _ {A : Type 0} (low d : ℕ) (says : Lexeme → Option A) (goes : Lexeme 
 
   pub single_good : (x : Lexeme) (a : A) → says x ≡ Some a → Good low d (single says) (singleG says) goes
   single_good x a e = choose_good low d (λ y. single_arm (says y)) (singleG says) goes (a, nothing_counted, x ∷ [], (x, e, refl, refl)) (λ b s h. let same : [] ≡ h.0 ∷ [] = h.3 in cc) (λ y. arm_of y (says y) refl)
+
+-- ---- one lexeme, or a value that takes none
+
+module _ {A : Type 0} (low d : ℕ) (says : Lexeme → Option A) (v : A) (goes : Lexeme → Bool) (silent : (x : Lexeme) → goes x ≡ false → says x ≡ None) where
+  none_said : (n : ℕ) (x : Lexeme) (ts : List Lexeme) → says x ≡ None → maybe says v n (x ∷ ts) ≡ Got v n (x ∷ ts)
+  none_said n x ts e = ap (λ o. said_or o v x n ts) e
+
+  some_said : (n : ℕ) (x : Lexeme) (a : A) (ts : List Lexeme) → says x ≡ Some a → maybe says v n (x ∷ ts) ≡ Got a n ts
+  some_said n x a ts e = ap (λ o. said_or o v x n ts) e
+
+  maybe_explains : (n : ℕ) (ts : List Lexeme) → Explains d (maybe says v n) (maybeG says v) n ts (maybe says v n ts)
+  maybe_explains n [] = ([], nothing_counted, refl, inl (refl, refl, refl), omega arith, (λ k. k), lawful_none d, tt)
+  maybe_explains n (x ∷ ts) = by_said (says x) refl
+    where
+      same : (a : A) → says x ≡ Some a → (rest : List Lexeme) → Same (maybe says v n) (x ∷ []) rest (Got a n)
+      same a e [] = tt
+      same a e (y ∷ rest) = λ other. some_said n x a (y ∷ other) e
+
+      by_said : (o : Option A) → says x ≡ o → Explains d (maybe says v n) (maybeG says v) n (x ∷ ts) (said_or o v x n ts)
+      by_said None e = ([], nothing_counted, refl, inl (refl, refl, refl), omega arith, (λ k. k), lawful_none d, λ other. none_said n x other e)
+      by_said (Some a) e = (x ∷ [], nothing_counted, refl, inr (x, e, refl, refl), omega arith, (λ k. k), lawful_none d, same a e ts)
+
+  at_none : (n : ℕ) (rest : List Lexeme) → Stops goes rest → Fine d v nothing_counted n rest (maybe says v n rest)
+  at_none n [] stops = (refl, refl, omega arith, lawful_none d)
+  at_none n (x ∷ rest) stops = let P : Out A → Type 0 = λ o. Fine d v nothing_counted n (x ∷ rest) o in subst P (sym (none_said n x rest (silent x stops))) (refl, refl, omega arith, lawful_none d)
+
+  at_some : (n : ℕ) (x : Lexeme) (a : A) (rest : List Lexeme) → says x ≡ Some a → Fine d a nothing_counted n rest (maybe says v n (x ∷ rest))
+  at_some n x a rest e = let P : Out A → Type 0 = λ o. Fine d a nothing_counted n rest o in subst P (sym (some_said n x a rest e)) (refl, refl, omega arith, lawful_none d)
+
+  maybe_complete : (n : ℕ) (a : A) (s : Size) (front rest : List Lexeme) → maybeG says v a s front → Stops goes rest → Fine d a s n rest (maybe says v n (front ++ rest))
+  maybe_complete n a s front rest (inl h) stops =
+      let P : A → Type 0 = λ b. Fine d b s n rest (maybe says v n (front ++ rest)) in
+      let Q : Size → Type 0 = λ z. Fine d v z n rest (maybe says v n (front ++ rest)) in
+      let R : List Lexeme → Type 0 = λ l. Fine d v nothing_counted n rest (maybe says v n (l ++ rest)) in
+      subst P (sym h.0) (subst Q (sym h.1) (subst R (sym h.2) (at_none n rest stops)))
+  maybe_complete n a s front rest (inr h) stops =
+      let Q : Size → Type 0 = λ z. Fine d a z n rest (maybe says v n (front ++ rest)) in
+      let R : List Lexeme → Type 0 = λ l. Fine d a nothing_counted n rest (maybe says v n (l ++ rest)) in
+      subst Q (sym h.2) (subst R (sym h.3) (at_some n h.0 a rest h.1))
+
+  pub maybe_good : Good low d (maybe says v) (maybeG says v) goes
+  maybe_good = record {
+    live = (v, nothing_counted, [], inl (refl, refl, refl));
+    explains = λ n h ts. maybe_explains n ts;
+    complete = λ n h a s front rest g stops. maybe_complete n a s front rest g stops;
+  }
 
 -- ---- each of them
 

@@ -259,6 +259,29 @@ single says = choose (λ x. single_arm (says x))
 abbrev pub singleG : {A : Type 0} → (Lexeme → Option A) → A → Size → List Lexeme → Type 0
 singleG says a s ts = (x : Lexeme) × (says x ≡ Some a) × (s ≡ nothing_counted) × (ts ≡ x ∷ [])
 
+-- one lexeme, by what it says; or, where it says nothing, a value that takes none
+abbrev pub said_or : {A : Type 0} → Option A → A → Lexeme → ℕ → List Lexeme → Out A
+said_or None a x n ts = Got a n (x ∷ ts)
+said_or (Some b) a x n ts = Got b n ts
+
+abbrev pub maybe_by : {A : Type 0} → (Lexeme → Option A) → A → ℕ → List Lexeme → Out A
+maybe_by says a n [] = Got a n []
+maybe_by says a n (x ∷ ts) = said_or (says x) a x n ts
+
+abbrev pub maybe : {A : Type 0} → (Lexeme → Option A) → A → Parser A
+maybe says a = λ n ts. maybe_by says a n ts
+
+abbrev pub maybeG : {A : Type 0} → (Lexeme → Option A) → A → A → Size → List Lexeme → Type 0
+maybeG says a b s ts = pureG a b s ts ⊎ singleG says b s ts
+
+-- the one or the other
+abbrev pub eitherG : {A : Type 0} → (A → Size → List Lexeme → Type 0) → (A → Size → List Lexeme → Type 0) → A → Size → List Lexeme → Type 0
+eitherG G H a s ts = G a s ts ⊎ H a s ts
+
+-- G { separator G }
+abbrev pub listG : {A : Type 0} → Lexeme → (A → Size → List Lexeme → Type 0) → List A → Size → List Lexeme → Type 0
+listG separator G = bindG G (λ a. mapG (λ l. a ∷ l) (AreMore separator no_end G 0))
+
 -- behind what was read before
 abbrev pub prepend : {A : Type 0} → List A → Out (List A) → Out (List A)
 prepend front (Got l n rest) = Got (front ++ l) n rest

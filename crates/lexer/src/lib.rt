@@ -41,7 +41,7 @@ pub use laws::{
     constants_are_read, fronts_are_one, lexes_once, marks_add_up, tokens_are_spaced,
     tokens_in_place, trees_and_rests, trees_are_one, trees_are_read,
 };
-pub use parse::{ParseFault, parse_cond, parse_expr};
+pub use parse::{ParseFault, fault_at, parse_cond, parse_expr, tail};
 use pieces::{Piece, gap, piece_at};
 pub use reader::{fresh_cond, fresh_expr, outer_cond, outer_expr};
 pub use reading::{Cursor, Stop};

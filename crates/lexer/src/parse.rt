@@ -43,17 +43,17 @@ fn limit_of(what: What) -> u64
     }
 }
 
-// What follows a place of the list.
+/// The tokens from a place on; the place is at most the list's length.
 #[tactic(auto, using(crate::proofs::Places::tail_is))]
-fn tail<'a, 't>(list: &'a [Token<'t>], from: usize) -> &'a [Token<'t>]
+pub fn tail<'a, 't>(list: &'a [Token<'t>], from: usize) -> &'a [Token<'t>]
     requires { from ≤ length list.now }
     ensures { result.now ≡ drop from list.now }
 {
     &list[from..]
 }
 
-// The fault of a stop before so many tokens that are left.
-fn fault_at(why: Stop, list: &[Token<'_>], left: usize) -> ParseFault
+/// The fault of reading that stopped before so many tokens that are left of the list.
+pub fn fault_at(why: Stop, list: &[Token<'_>], left: usize) -> ParseFault
     requires { why ≡ stop.Stuck → left ≤ length list.now }
     ensures { FaultAt why list.now left result }
 {

@@ -1,4 +1,3 @@
-pub mod Alternatives
 pub mod OperatorGoodness
 pub mod Behind
 pub mod SeveralTests

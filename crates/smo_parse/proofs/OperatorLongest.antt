@@ -11,9 +11,9 @@ use Rattle.lexer.specs.Found.{Ends}
 use Rattle.lexer.proofs.Parsing.{by_test, none_both}
 use Rattle.lexer.proofs.Grammar.{word_exact}
 use Rattle.lexer.proofs.Longest.{cond_longest}
-use Rattle.smo_parse.specs.Productions.{IsTest, IsWhere, IsNop, IsJoinTable, IsOperator}
-use Rattle.smo_parse.specs.OperatorReader.{operator, where_part, create_rest, drop_rest, rename_rest, copy_rest, merge_rest, partition_rest, decompose_rest, add_rest}
-use Rattle.smo_parse.proofs.Alternatives.{stops_never}
+use Rattle.smo_parse.specs.Productions.{IsTest, IsWhere, IsNop, IsCreateTable, IsDropTable, IsRenameTable, IsCopyTable, IsMergeTable, IsPartitionTable, IsDecomposeTable, IsJoinTable, IsAddColumn, IsDropColumn, IsRenameColumn, IsOperator}
+use Rattle.smo_parse.specs.OperatorReader.{operator, where_part, create_rest, drop_rest, rename_rest, copy_rest, merge_rest, partition_rest, decompose_rest, add_rest, goes_operator}
+use Rattle.lexer.proofs.Alternatives.{stops_never}
 use Rattle.smo_parse.proofs.OperatorGoodness.{ends, create_good, drop_good, rename_good, copy_good, merge_good, partition_good, decompose_good, add_good}
 use Rattle.smo_parse.proofs.OperatorMarked.{in_join, join_run, join_tokens}
 

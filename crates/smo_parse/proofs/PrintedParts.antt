@@ -9,13 +9,15 @@ use Rattle.prima_base.specs.declared.values.ColType.TheVariants.{Int, Text}
 use Rattle.cond_expr.specs.Trees.{Tree, Test, always}
 use Rattle.cond_expr.specs.Sizes.{depth_of, test_depth}
 use Rattle.lexer.specs.Lexemes.{Lexeme, word, sign, is_name}
-use Rattle.lexer.specs.Parsing.{Size, nothing_counted, both, no_end, limit, AreMore, bindG, pureG, leadG, mapG}
+use Rattle.lexer.specs.Parsing.{Size, nothing_counted, both, no_end, limit, AreMore, bindG, pureG, leadG, mapG, optionG, listG}
 use Rattle.lexer.specs.Grammar as g
 use Rattle.lexer.specs.Grammar.{leaf, IsExpr, IsCond}
 use Rattle.lexer.specs.Constants.{nameG, namesG}
 use Rattle.lexer.proofs.Singles.{name_is}
-use Rattle.smo_parse.specs.Productions.{listG, IsType, IsColumn, AreColumns, IsPart, IsTest, IsTree, IsWhere}
-use Rattle.smo_parse.specs.Texts.{more_listed, listed, type_text, column_text, part_text, expr_text, cond_text}
+use Rattle.smo_parse.specs.Productions.{IsType, IsColumn, AreColumns, IsPart, IsTest, IsTree, IsWhere, IsNop, IsCreateTable, IsDropTable, IsRenameTable, IsCopyTable, IsMergeTable, IsPartitionTable, IsDecomposeTable, IsJoinTable, IsAddColumn, IsDropColumn, IsRenameColumn, IsOperator}
+use Rattle.smo_parse.specs.TreeTexts.{tree_text, test_text}
+use Rattle.smo_parse.specs.Texts.{more_listed, listed, type_text, column_text, part_text, expr_text, cond_text, operator_text}
+use Rattle.smo_parse.specs.Printed.{tree_depth}
 use Rattle.smo_parse.proofs.Spellings.{Closing}
 use Rattle.smo_parse.proofs.Spelled.{Spells, none, a_space, a_token, an_open, single, join, as_text, right3, right4}
 use Rattle.smo_parse.proofs.PrintedTrees.{Lawful, AllLawful, lawful_left, lawful_right, OPEN, CLOSE, TRUE, spaced, first, expr_printed, cond_printed}

@@ -1,25 +1,15 @@
 -- The grammar of operators: which lexemes spell which operator, and of what size it is. An operator has one expression
 -- or condition at most, and its size is that of this tree.
-use Rattle.std.specs.Prelude.{ℕ, false, List, ◌∷◌, codes, ◌⊎◌}
+use Rattle.std.specs.Prelude.{ℕ, false, List, codes}
 use Rattle.prima_base.specs.declared.values.ColType.{ColType}
 use Rattle.prima_base.specs.declared.values.ColType.TheVariants.{Int, Text}
 use Rattle.prima_base.specs.Columns.{Column}
 use Rattle.cond_expr.specs.Trees.{Tree, Test, always}
 use Rattle.smo_ops.specs.Operators.{Operator, nop, create_table, drop_table, rename_table, copy_table, merge_table, partition_table, decompose_table, join_table, add_column, drop_column, rename_column}
-use Rattle.lexer.specs.Lexemes.{Lexeme, word, sign}
-use Rattle.lexer.specs.Parsing.{Size, Grammar, no_end, AreMore, bindG, pureG, leadG, mapG, optionG}
+use Rattle.lexer.specs.Lexemes.{word, sign}
+use Rattle.lexer.specs.Parsing.{Grammar, bindG, pureG, leadG, mapG, optionG, eitherG, listG}
 use Rattle.lexer.specs.Grammar.{IsExpr, IsCond}
 use Rattle.lexer.specs.Constants.{nameG, namesG}
-
--- ---- for any grammar
-
--- the one or the other
-abbrev pub eitherG : {A : Type 0} → (A → Size → List Lexeme → Type 0) → (A → Size → List Lexeme → Type 0) → A → Size → List Lexeme → Type 0
-eitherG G H a s ts = G a s ts ⊎ H a s ts
-
--- G { separator G }
-abbrev pub listG : {A : Type 0} → Lexeme → (A → Size → List Lexeme → Type 0) → List A → Size → List Lexeme → Type 0
-listG separator G = bindG G (λ a. mapG (λ l. a ∷ l) (AreMore separator no_end G 0))
 
 -- ---- parts of operators
 

@@ -13,50 +13,9 @@ ghost use Rattle.smo_parse.specs.OperatorMarks.{operator_marks};
 ghost use Rattle.smo_parse.specs.OperatorReader as spec;
 
 use crate::operator_reader::operator;
-use lexer::{Cursor, ParseFault, Stop, Token};
-use prima_base::What;
+use lexer::{Cursor, ParseFault, Token, fault_at, tail};
 use smo_ops::Op;
 use std::alloc::Global;
-
-// The most of each kind that may be counted.
-fn limit_of(what: What) -> u64
-    ensures { result ≡ limit what }
-{
-    match what {
-        What::Nodes => 256,
-        What::Depth | What::Outputs => 32,
-        What::Parts | What::Tables | What::Keeps | What::Inverse => 8,
-        What::Branches => 16,
-        What::Changes | What::Columns | What::Versions => 0,
-    }
-}
-
-// What follows a place of the list.
-#[tactic(auto, using(lexer::proofs::Places::tail_is))]
-fn tail<'a, 't>(list: &'a [Token<'t>], from: usize) -> &'a [Token<'t>]
-    requires { from ≤ length list.now }
-    ensures { result.now ≡ drop from list.now }
-{
-    &list[from..]
-}
-
-// The fault of a stop before so many tokens that are left.
-fn fault_at(why: Stop, list: &[Token<'_>], left: usize) -> ParseFault
-    requires { why ≡ stop.Stuck → left ≤ length list.now }
-    ensures { FaultAt why list.now left result }
-{
-    match why {
-        Stop::NoMemory => ParseFault::NoMemory,
-        Stop::TooMany(what) => ParseFault::TooMany(what, limit_of(what)),
-        Stop::Stuck => {
-            if left == 0 {
-                ParseFault::RanOut
-            } else {
-                ParseFault::Syntax(list[list.len() - left].at)
-            }
-        }
-    }
-}
 
 /// The operator that begins at the token `from` of the list, and the place of the token behind it.
 /// Places count the list's tokens from 0; `from` is at most its length. The longest operator is read.

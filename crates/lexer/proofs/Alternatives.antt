@@ -1,10 +1,9 @@
 -- Readers that go by the next lexeme, and lists.
-use Rattle.std.proofs.Common.{◌≡◌, ℕ, Bool, true, false, cond, ◌||◌, List, [], ◌∷◌, inl, inr, refl, sym, subst}
+use Rattle.std.proofs.Common.{◌≡◌, ℕ, Bool, true, false, cond, ◌||◌, List, [], ◌∷◌, ◌++◌, inl, inr, refl, sym, subst}
 use Rattle.lexer.specs.Lexemes.{Lexeme}
-use Rattle.lexer.specs.Parsing.{Size, Out, Got, Stuck, Over, Parser, Arm, No, Takes, Counts, Whole, Refuses, Fills, one_node, Goes, Explains, Stops, Good, no_end, bind, map_to, many, leadG}
+use Rattle.lexer.specs.Parsing.{Size, Out, Got, Stuck, Over, Parser, Arm, No, Takes, Counts, Whole, Refuses, Fills, one_node, Goes, Explains, Stops, Good, no_end, bind, map_to, many, leadG, eitherG, listG}
 use Rattle.lexer.proofs.Parsing.{true_false, ArmGood, good_iff, arm_if, bind_more, many_good, behind_down, behind_good}
 use Rattle.lexer.proofs.Grammar.{clash}
-use Rattle.smo_parse.specs.Productions.{eitherG, listG}
 
 -- ---- what stops
 
@@ -46,6 +45,20 @@ either_not_none G H g h a s (inr k) = h a s k
 pub either_not_first : {A : Type 0} (x : Lexeme) (G H : A → Size → List Lexeme → Type 0) → NotFirst G x → NotFirst H x → NotFirst (eitherG G H) x
 either_not_first x G H g h a s l (inl k) = g a s l k
 either_not_first x G H g h a s l (inr k) = h a s l k
+
+pub list_not_none : {A : Type 0} (sep : Lexeme) (G : A → Size → List Lexeme → Type 0) → NotNone G → NotNone (listG sep G)
+list_not_none {A} sep G none a s h = by_front h.3 h.4 h.6 h.7
+  where
+    by_front : (f g : List Lexeme) → [] ≡ f ++ g → G h.0 h.1 f → ⊥
+    by_front [] g e k = none h.0 h.1 k
+    by_front (y ∷ f) g e k = cc
+
+pub list_not_first : {A : Type 0} (x sep : Lexeme) (G : A → Size → List Lexeme → Type 0) → NotNone G → NotFirst G x → NotFirst (listG sep G) x
+list_not_first {A} x sep G none first a s l h = by_front h.3 h.4 h.6 h.7
+  where
+    by_front : (f g : List Lexeme) → x ∷ l ≡ f ++ g → G h.0 h.1 f → ⊥
+    by_front [] g e k = none h.0 h.1 k
+    by_front (y ∷ f) g e k = let z : y ≡ x = cc in let P : Lexeme → Type 0 = λ u. G h.0 h.1 (u ∷ f) in first h.0 h.1 f (subst P z k)
 
 -- ---- lists
 
