@@ -43,3 +43,4 @@ pub mod JoinedRows
 pub mod DecomposedTables
 pub mod ColumnsByName
 pub mod LossLaws
+pub mod LossesByName

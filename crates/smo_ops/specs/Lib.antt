@@ -22,3 +22,4 @@ pub mod Inverses
 pub mod Accepts
 pub mod LawfulPast
 pub mod History
+pub mod Migration

@@ -31,6 +31,7 @@ mod joining;
 mod laws;
 mod making;
 mod name_lists;
+mod migrations;
 mod names;
 #[cfg(test)]
 mod op_makers;
@@ -59,6 +60,7 @@ pub use laws::{
     create_table_is_lawful, gains_and_losses_fit, no_gain_and_no_loss_is_no_change,
     pasts_that_agree_have_the_same_states,
 };
+pub use migrations::names_tell_what_is_lost;
 pub use names::Made;
 pub use operator_laws::{
     add_column_keeps_the_cells, carried_database_is_of_the_next_schema, consumed_tables_are_gone,
