@@ -1,0 +1,278 @@
+-- Worked rows: a table that is renamed with an inverse. Its past, the table migrated to the version before and the one
+-- behind, and the answers to queries on both versions.
+use Rattle.std.specs.Prelude.{◌≡◌, ◌==◌, ℕ, ◌+◌, List, [], ◌∷◌, ◌++◌, Option, Some, if◌then◌else◌}
+use Rattle.std.proofs.Common.{refl, ap, ◌∙◌, arith}
+use Rattle.std.specs.Option.{unwrap_or}
+use Rattle.std.specs.FinMap.{get, insert, remove}
+use Rattle.relations.specs.Sets.{set_of}
+use Rattle.relations.specs.Spans.{span, forever}
+use Rattle.relations.specs.Timeline.{Stage, listing_of}
+use Rattle.prima_base.specs.Order.{row_cmp}
+use Rattle.prima_base.specs.Keeping.{kept}
+use Rattle.prima_base.specs.declared.refusals.Refusal.TheVariants.{NoVersion}
+use Rattle.prima_base.specs.Columns.{Column}
+use Rattle.schema_catalog.specs.Tables.{Tables}
+use Rattle.schema_catalog.specs.Databases.{Entry, Rows, Database}
+use Rattle.cond_expr.specs.declared.exprs.CmpOp.TheVariants.{Eq}
+use Rattle.cond_expr.specs.Trees.{constant, always, compared}
+use Rattle.smo_ops.specs.Operators.{create_table, rename_table}
+use Rattle.smo_ops.specs.Changes.{PlainChange, insertion, update}
+use Rattle.smo_ops.specs.Commands.{PlainBody, PlainCommand, PlainVersion, changing, evolving}
+use Rattle.smo_ops.specs.OneRow.{Row, Relation}
+use Rattle.smo_ops.specs.Making.{from_one}
+use Rattle.smo_ops.specs.Effects.{columns_of, relation_after, with_changed, after_each, gained, lost, rows_at}
+use Rattle.smo_ops.specs.After.{behind, carried}
+use Rattle.smo_ops.specs.Past.{State, Past, a_state, no_tables, no_database, beginning, changed_to, evolved_to, past_with, from_stamp}
+use Rattle.smo_ops.specs.History.{past_of}
+use Rattle.smo_ops.specs.Migration.{migrated}
+use Rattle.smo_ops.proofs.CountingLaws.{self_gains_nothing, gained_step, lost_with}
+use Rattle.temporal_lang.specs.declared.whens.When.TheVariants.{Always}
+use Rattle.temporal_lang.specs.Branches.{PlainBranch}
+use Rattle.temporal_lang.specs.Queries.{PlainQuery, a_query}
+use Rattle.temporal_lang.specs.Meaning.{answers_over, plain}
+use Rattle.temporal_lang.specs.Answers.{asked_at, stages, answer}
+use Rattle.temporal_lang.specs.Accepted.{version_fault}
+use Rattle.temporal_lang.proofs.WorkedWords.{a, b, x, y, t, u, int, text, at_atom, ab_columns, t_there, u_there}
+
+-- AT 1 EVOLVE CREATE TABLE t (a INT, b TEXT); AT 5 INSERT INTO t (a, b) VALUES (1, 'x');
+-- AT 7 UPDATE t SET b = 'y' WHERE a = 1; AT 9 EVOLVE RENAME TABLE t INTO u INVERSE RENAME TABLE u INTO t;
+abbrev inserting : PlainChange
+inserting = insertion t ((a, int 1) ∷ (b, text x) ∷ [])
+
+abbrev updating : PlainChange
+updating = update t ((b, constant (text y)) ∷ []) (compared Eq (at_atom 0 a) (constant (int 1)))
+
+abbrev command : ℕ → PlainBody → PlainCommand
+command stamp body = record { stamp = stamp; body = body }
+
+abbrev commands : List PlainCommand
+commands = command 1 (evolving (create_table t ab_columns) []) ∷ command 5 (changing (inserting ∷ [])) ∷ command 7 (changing (updating ∷ []))
+    ∷ command 9 (evolving (rename_table t u) (rename_table u t ∷ [])) ∷ []
+
+-- the rows of t at 5 and at 7
+abbrev x_rows : Relation
+x_rows = (int 1 ∷ text x ∷ []) ∷ []
+
+abbrev y_rows : Relation
+y_rows = (int 1 ∷ text y ∷ []) ∷ []
+
+-- the tables of the versions, and the databases from 1, 5, 7 and 9 on
+abbrev tables_1 : Tables
+tables_1 = insert no_tables t ab_columns
+
+abbrev tables_2 : Tables
+tables_2 = behind tables_1 (rename_table t u)
+
+abbrev from_1 : Database
+from_1 = insert no_database t (Rows [])
+
+abbrev from_5 : Database
+from_5 = insert from_1 t (Rows x_rows)
+
+abbrev from_7 : Database
+from_7 = insert from_5 t (Rows y_rows)
+
+abbrev from_9 : Database
+from_9 = insert (remove from_7 t) u (Rows y_rows)
+
+abbrev version_1 : PlainVersion
+version_1 = record { stamp = 1; op = create_table t ab_columns; inverse = []; tables = tables_1 }
+
+abbrev version_2 : PlainVersion
+version_2 = record { stamp = 9; op = rename_table t u; inverse = rename_table u t ∷ []; tables = tables_2 }
+
+abbrev past_1 : Past
+past_1 = record { versions = version_1 ∷ []; last = Some 1; commands = 1; states = a_state 0 no_database ∷ a_state 1 from_1 ∷ [] }
+
+abbrev past_5 : Past
+past_5 = record { versions = version_1 ∷ []; last = Some 5; commands = 2; states = a_state 0 no_database ∷ a_state 1 from_1 ∷ a_state 5 from_5 ∷ [] }
+
+abbrev past_7 : Past
+past_7 = record { versions = version_1 ∷ []; last = Some 7; commands = 3; states = a_state 0 no_database ∷ a_state 1 from_1 ∷ a_state 5 from_5 ∷ a_state 7 from_7 ∷ [] }
+
+abbrev past_9 : Past
+past_9 = record {
+  versions = version_1 ∷ version_2 ∷ [];
+  last = Some 9;
+  commands = 4;
+  states = a_state 0 no_database ∷ a_state 1 from_1 ∷ a_state 5 from_5 ∷ a_state 7 from_7 ∷ a_state 9 from_9 ∷ [];
+}
+
+-- ---- the past, command by command
+
+created : past_with beginning (command 1 (evolving (create_table t ab_columns) [])) ≡ past_1
+unfolding set_of
+created = refl
+
+columns_are : get tables_1 t ≡ Some ab_columns
+columns_are = t_there no_tables ab_columns
+
+inserted : after_each tables_1 (inserting ∷ []) from_1 ≡ from_5
+inserted =
+    ap (λ o. with_changed (relation_after (unwrap_or o []) inserting) (get from_1 t) t from_1) columns_are
+    ∙ ap (λ e. with_changed (relation_after ab_columns inserting) e t from_1) (t_there no_database (Rows []))
+
+updated : after_each tables_1 (updating ∷ []) from_5 ≡ from_7
+unfolding set_of
+updated =
+    ap (λ o. with_changed (relation_after (unwrap_or o []) updating) (get from_5 t) t from_5) columns_are
+    ∙ ap (λ e. with_changed (relation_after ab_columns updating) e t from_5) (t_there from_1 (Rows x_rows))
+
+-- one row is gained and none lost, and one is gained and one lost
+one_gained : gained from_1 from_5 + lost from_1 from_5 ≡ 1
+one_gained =
+    let nothing : gained from_1 from_1 ≡ 0 = self_gains_nothing from_1 in
+    let gain : gained from_1 from_5 + 0 ≡ gained from_1 from_1 + 1 = gained_step from_1 t (Rows []) (Rows x_rows) from_1 (Rows []) (t_there no_database (Rows [])) (t_there no_database (Rows [])) in
+    let loss : lost from_1 from_5 + 0 ≡ lost from_1 from_1 + 0 = lost_with from_1 t (Rows []) (Rows x_rows) (t_there no_database (Rows [])) from_1 (Rows []) (t_there no_database (Rows [])) in
+    omega (arith, nothing, gain, loss)
+
+one_changed : gained from_5 from_7 + lost from_5 from_7 ≡ 2
+one_changed =
+    let nothing : gained from_5 from_5 ≡ 0 = self_gains_nothing from_5 in
+    let gain : gained from_5 from_7 + 0 ≡ gained from_5 from_5 + 1 = gained_step from_5 t (Rows x_rows) (Rows y_rows) from_5 (Rows x_rows) (t_there from_1 (Rows x_rows)) (t_there from_1 (Rows x_rows)) in
+    let loss : lost from_5 from_7 + 0 ≡ lost from_5 from_5 + 1 = lost_with from_5 t (Rows x_rows) (Rows y_rows) (t_there from_1 (Rows x_rows)) from_5 (Rows x_rows) (t_there from_1 (Rows x_rows)) in
+    omega (arith, nothing, gain, loss)
+
+abbrev changed : ℕ → ℕ → ℕ → Database → List State → Past
+changed stamp count n new states = record {
+  versions = version_1 ∷ [];
+  last = Some stamp;
+  commands = count;
+  states = if n == 0 then states else from_stamp stamp new states;
+}
+
+at_5 : past_with past_1 (command 5 (changing (inserting ∷ []))) ≡ past_5
+at_5 = ap (λ db. changed_to 5 db past_1) inserted ∙ ap (λ n. changed 5 2 n from_5 past_1.states) one_gained
+
+at_7 : past_with past_5 (command 7 (changing (updating ∷ []))) ≡ past_7
+at_7 = ap (λ db. changed_to 7 db past_5) updated ∙ ap (λ n. changed 7 3 n from_7 past_5.states) one_changed
+
+at_9 : past_with past_7 (command 9 (evolving (rename_table t u) (rename_table u t ∷ []))) ≡ past_9
+at_9 = ap (λ e. evolved_to version_2 (insert (remove from_7 t) u (from_one (λ rows. rows) e)) past_7) (t_there from_5 (Rows y_rows))
+
+-- five states: the table is empty from 1 on, has (1, 'x') from 5 on and (1, 'y') from 7 on, and is called u from 9 on
+past_is : past_of commands ≡ past_9
+past_is =
+    ap (λ p. past_with (past_with (past_with p (command 5 (changing (inserting ∷ [])))) (command 7 (changing (updating ∷ [])))) (command 9 (evolving (rename_table t u) (rename_table u t ∷ [])))) created
+    ∙ ap (λ p. past_with (past_with p (command 7 (changing (updating ∷ [])))) (command 9 (evolving (rename_table t u) (rename_table u t ∷ [])))) at_5
+    ∙ ap (λ p. past_with p (command 9 (evolving (rename_table t u) (rename_table u t ∷ [])))) at_7
+    ∙ at_9
+
+-- ---- the migrated table
+
+-- from 9 on version 2 is in force; in version 1 its table is t again
+back_at_9 : get (migrated past_9 9 1) t ≡ Some (Rows y_rows)
+back_at_9 =
+    t_there (remove from_9 u) (from_one (λ rows. rows) (get from_9 u))
+    ∙ ap (λ e. Some (from_one (λ rows. rows) e)) (u_there (remove from_7 t) (Rows y_rows))
+
+-- at 5 version 1 is in force; in version 2 its table is u
+forward_at_5 : get (migrated past_9 5 2) u ≡ Some (Rows x_rows)
+forward_at_5 =
+    u_there (remove from_5 t) (from_one (λ rows. rows) (get from_5 t))
+    ∙ ap (λ e. Some (from_one (λ rows. rows) e)) (t_there from_1 (Rows x_rows))
+
+-- at 0 no table is there; in version 1 it is empty
+forward_at_0 : get (migrated past_9 0 1) t ≡ Some (Rows [])
+unfolding set_of
+forward_at_0 = t_there no_database (Rows [])
+
+-- ---- QUERY VERSION 1 SELECT b FROM t
+
+abbrev select_b : PlainBranch
+select_b = record { outs = at_atom 0 b ∷ []; from = (t, t) ∷ []; cond = always }
+
+abbrev query : PlainQuery
+query = a_query 1 (select_b ∷ []) Always []
+
+abbrev b_of : Option (List Column) → Option Entry → List Row
+b_of columns entry = answers_over (unwrap_or columns [] ∷ []) (rows_at entry ∷ []) select_b ++ []
+
+asked_of : (db : Database) (rows : Relation) → get db t ≡ Some (Rows rows) → plain tables_1 (select_b ∷ []) db ≡ set_of row_cmp (b_of (Some ab_columns) (Some (Rows rows)))
+asked_of db rows h =
+    ap (λ o. set_of row_cmp (b_of o (get db t))) columns_are
+    ∙ ap (λ e. set_of row_cmp (b_of (Some ab_columns) e)) h
+
+asked_0 : asked_at past_9 query 0 ≡ []
+unfolding set_of
+asked_0 = asked_of (migrated past_9 0 1) [] forward_at_0
+
+asked_1 : asked_at past_9 query 1 ≡ []
+unfolding set_of
+asked_1 = asked_of from_1 [] (t_there no_database (Rows []))
+
+asked_5 : asked_at past_9 query 5 ≡ (text x ∷ []) ∷ []
+unfolding set_of
+asked_5 = asked_of from_5 x_rows (t_there from_1 (Rows x_rows))
+
+asked_7 : asked_at past_9 query 7 ≡ (text y ∷ []) ∷ []
+unfolding set_of
+asked_7 = asked_of from_7 y_rows (t_there from_5 (Rows y_rows))
+
+asked_9 : asked_at past_9 query 9 ≡ (text y ∷ []) ∷ []
+unfolding set_of
+asked_9 = asked_of (migrated past_9 9 1) y_rows back_at_9
+
+abbrev stage : ℕ → Relation → Stage Row
+stage m items = record { start = m; items = items }
+
+stages_are : stages past_9 query ≡ stage 0 [] ∷ stage 1 [] ∷ stage 5 ((text x ∷ []) ∷ []) ∷ stage 7 ((text y ∷ []) ∷ []) ∷ stage 9 ((text y ∷ []) ∷ []) ∷ []
+stages_are = λ i. stage 0 (asked_0 i) ∷ stage 1 (asked_1 i) ∷ stage 5 (asked_5 i) ∷ stage 7 (asked_7 i) ∷ stage 9 (asked_9 i) ∷ []
+
+-- 'x' from 5 to 7, and 'y' from 7 on: the rename does not cut it
+answer_is : answer past_9 query ≡ record { item = text x ∷ []; period = span 5 7 } ∷ record { item = text y ∷ []; period = span 7 forever } ∷ []
+unfolding set_of listing_of
+answer_is = ap (λ ss. kept [] (listing_of row_cmp ss)) stages_are
+
+-- ---- QUERY VERSION 9, of which there is none, and a query on version 2: SELECT a FROM u
+
+no_such_version : version_fault past_9 9 ≡ Some (NoVersion 9 2)
+no_such_version = refl
+
+abbrev select_a : PlainBranch
+select_a = record { outs = at_atom 0 a ∷ []; from = (u, u) ∷ []; cond = always }
+
+abbrev later_query : PlainQuery
+later_query = a_query 2 (select_a ∷ []) Always []
+
+columns_behind : get tables_2 u ≡ Some ab_columns
+columns_behind = u_there (remove tables_1 t) (columns_of tables_1 t) ∙ ap (λ o. Some (unwrap_or o [])) columns_are
+
+abbrev a_of : Option (List Column) → Option Entry → List Row
+a_of columns entry = answers_over (unwrap_or columns [] ∷ []) (rows_at entry ∷ []) select_a ++ []
+
+asked_later : (db : Database) (rows : Relation) → get db u ≡ Some (Rows rows) → plain tables_2 (select_a ∷ []) db ≡ set_of row_cmp (a_of (Some ab_columns) (Some (Rows rows)))
+asked_later db rows h =
+    ap (λ o. set_of row_cmp (a_of o (get db u))) columns_behind
+    ∙ ap (λ e. set_of row_cmp (a_of (Some ab_columns) e)) h
+
+renamed_from : (db : Database) (rows : Relation) → get db t ≡ Some (Rows rows) → get (carried tables_1 (rename_table t u) db) u ≡ Some (Rows rows)
+renamed_from db rows h = u_there (remove db t) (from_one (λ rows. rows) (get db t)) ∙ ap (λ e. Some (from_one (λ rows. rows) e)) h
+
+later_0 : asked_at past_9 later_query 0 ≡ []
+unfolding set_of
+later_0 = asked_later (migrated past_9 0 2) [] (renamed_from (migrated past_9 0 1) [] forward_at_0)
+
+later_1 : asked_at past_9 later_query 1 ≡ []
+unfolding set_of
+later_1 = asked_later (migrated past_9 1 2) [] (renamed_from from_1 [] (t_there no_database (Rows [])))
+
+later_5 : asked_at past_9 later_query 5 ≡ (int 1 ∷ []) ∷ []
+unfolding set_of
+later_5 = asked_later (migrated past_9 5 2) x_rows forward_at_5
+
+later_7 : asked_at past_9 later_query 7 ≡ (int 1 ∷ []) ∷ []
+unfolding set_of
+later_7 = asked_later (migrated past_9 7 2) y_rows (renamed_from from_7 y_rows (t_there from_5 (Rows y_rows)))
+
+later_9 : asked_at past_9 later_query 9 ≡ (int 1 ∷ []) ∷ []
+unfolding set_of
+later_9 = asked_later from_9 y_rows (u_there (remove from_7 t) (Rows y_rows))
+
+later_stages : stages past_9 later_query ≡ stage 0 [] ∷ stage 1 [] ∷ stage 5 ((int 1 ∷ []) ∷ []) ∷ stage 7 ((int 1 ∷ []) ∷ []) ∷ stage 9 ((int 1 ∷ []) ∷ []) ∷ []
+later_stages = λ i. stage 0 (later_0 i) ∷ stage 1 (later_1 i) ∷ stage 5 (later_5 i) ∷ stage 7 (later_7 i) ∷ stage 9 (later_9 i) ∷ []
+
+-- 1 from 5 on: neither the update of the other column nor the rename cuts it
+later_answer : answer past_9 later_query ≡ record { item = int 1 ∷ []; period = span 5 forever } ∷ []
+unfolding set_of listing_of
+later_answer = ap (λ ss. kept [] (listing_of row_cmp ss)) later_stages

@@ -1,0 +1,13 @@
+use Rattle.relations.proofs.ListingLaws.{one_listing}
+use Rattle.prima_base.specs.Order.{row_cmp}
+use Rattle.prima_base.specs.OrderLaws.{row_exact}
+use Rattle.temporal_lang.specs.Queries.{slice_of}
+use Rattle.temporal_lang.specs.Answers.{asked_at}
+use Rattle.temporal_lang.proofs.StageLaws.{listing_is}
+use Rattle.temporal_lang.proofs.laws.listing_is_the_one_list.Goals as goal
+
+pub returns-clause-is : goal.returns-clause-is
+returns-clause-is c = listing_is
+
+pub returns-clause-one : goal.returns-clause-one
+returns-clause-one c = λ past query a b p q. one_listing row_cmp row_exact (asked_at past query) (slice_of query.when) a b p q

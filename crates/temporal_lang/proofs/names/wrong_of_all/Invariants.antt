@@ -1,0 +1,9 @@
+use Rattle.std.proofs.Common.{◌≡◌, map, drop}
+use Rattle.smo_ops.specs.First.{first_refusal}
+use Rattle.temporal_lang.specs.Atoms.{sources_of}
+use Rattle.temporal_lang.specs.Checking.{reference_test}
+use Rattle.temporal_lang.specs.Wrongs.{lent}
+use Rattle.temporal_lang.proofs.names.wrong_of_all.Given as goal
+
+abbrev pub invariant-loop-reference : goal.invariant-loop-reference
+invariant-loop-reference l = first_refusal (map (reference_test (sources_of l.schema l.from)) (lent l.references)) ≡ first_refusal (map (reference_test (sources_of l.schema l.from)) (lent (drop l.reference-index l.references)))

@@ -1,0 +1,54 @@
+-- Whether a query is accepted after a past: the first refusal in the one order.
+use Rattle.std.specs.Prelude.{ℕ, ◌-◌, List, [], ◌∷◌, ◌++◌, length, nat_le, Option, Some, None, slice_get}
+use Rattle.std.specs.Option.{option_map}
+use Rattle.prima_base.specs.declared.refusals.OpKind.{OpKind}
+use Rattle.prima_base.specs.declared.refusals.OpKind.TheVariants.{Nop, CreateTable, DropTable, RenameTable, CopyTable, MergeTable, PartitionTable, DecomposeTable, JoinTable, AddColumn, DropColumn, RenameColumn}
+use Rattle.prima_base.specs.declared.refusals.Refusal.{Refusal}
+use Rattle.prima_base.specs.declared.refusals.Refusal.TheVariants.{NoVersion, NoInverse}
+use Rattle.smo_ops.specs.Operators.{Operator, nop, create_table, drop_table, rename_table, copy_table, merge_table, partition_table, decompose_table, join_table, add_column, drop_column, rename_column}
+use Rattle.smo_ops.specs.Commands.{PlainVersion}
+use Rattle.smo_ops.specs.First.{unless, first_refusal}
+use Rattle.smo_ops.specs.Checks.{Fault}
+use Rattle.smo_ops.specs.Past.{Past, tables_of}
+use Rattle.smo_ops.specs.Migration.{Loss}
+use Rattle.temporal_lang.specs.Queries.{PlainQuery}
+use Rattle.temporal_lang.specs.Checking.{excess_of, excess_fault, query_tests}
+use Rattle.temporal_lang.specs.Losing.{first_lost}
+
+abbrev pub kind_of : Operator → OpKind
+kind_of nop = Nop
+kind_of (create_table r cs) = CreateTable
+kind_of (drop_table r) = DropTable
+kind_of (rename_table r t) = RenameTable
+kind_of (copy_table r t) = CopyTable
+kind_of (merge_table r s t) = MergeTable
+kind_of (partition_table r s c t) = PartitionTable
+kind_of (decompose_table r s xs t ys) = DecomposeTable
+kind_of (join_table r s t c) = JoinTable
+kind_of (add_column c e r) = AddColumn
+kind_of (drop_column c r) = DropColumn
+kind_of (rename_column b r c) = RenameColumn
+
+-- the operator's kind
+abbrev pub version_kind : Option PlainVersion → OpKind
+version_kind None = Nop
+version_kind (Some v) = kind_of v.op
+
+-- the version whose operator is not gone back over, and the operator's kind
+abbrev pub no_way_back : List PlainVersion → Loss → Refusal
+no_way_back versions loss = NoInverse loss.0 (version_kind (slice_get versions (loss.0 - 1)))
+
+abbrev pub loss_fault : List PlainVersion → Option Loss → Fault
+loss_fault versions loss = option_map (no_way_back versions) loss
+
+abbrev pub version_fault : Past → ℕ → Fault
+version_fault past version = unless (nat_le version (length past.versions)) (NoVersion version (length past.versions))
+
+-- counts, the version, and then names, types and periods over its tables; last the first loss
+abbrev pub tests_of_query : Past → PlainQuery → List Fault
+tests_of_query past query = excess_fault (excess_of query) ∷ version_fault past query.version
+    ∷ (query_tests (tables_of past query.version) query ++ loss_fault past.versions (first_lost past query) ∷ [])
+
+-- the refusal of a query; none where it is accepted
+abbrev pub fault_of_query : Past → PlainQuery → Fault
+fault_of_query past query = first_refusal (tests_of_query past query)

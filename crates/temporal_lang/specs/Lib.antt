@@ -1,0 +1,14 @@
+pub mod Branches
+pub mod Queries
+pub mod Meaning
+pub mod Answers
+pub mod Losing
+pub mod Atoms
+pub mod Checking
+pub mod Accepted
+pub mod QueryGrammar
+pub mod QueryReader
+pub mod QueryPasses
+pub mod Resolved
+pub mod Wrongs
+pub mod Typings

@@ -1,0 +1,56 @@
+ghost use Rattle.std.specs.Prelude.{◌≡◌, ◌++◌, ◌≤◌, ◌<◌, OnOk, IfOk, length};
+ghost use Rattle.temporal_lang.specs.Atoms.{sources_of, columns_at, atoms_from};
+ghost use Rattle.smo_ops.specs.Effects.{columns_of};
+
+use cond_expr::Column;
+use prima_base::{ColType, Name, NoMemory};
+use schema_catalog::Schema;
+use std::alloc::Global;
+
+// Puts a table's columns, as those of an atom, behind what is there.
+fn push_columns(
+    into: &mut Vec<Column>,
+    atom: u32,
+    columns: &[(Name, ColType)],
+) -> Result<(), NoMemory>
+    ensures { OnOk result (into.new.items ≡ into.old.items ++ columns_at atom columns.now) }
+{
+    for (name, kind) in columns {
+        into.push(Column {
+            atom,
+            name: name.copy()?,
+            kind: *kind,
+        })?;
+    }
+    Ok(())
+}
+
+fn push_table(
+    into: &mut Vec<Column>,
+    atom: u32,
+    schema: &Schema,
+    table: &Name,
+) -> Result<(), NoMemory>
+    ensures { OnOk result (into.new.items ≡ into.old.items ++ columns_at atom (columns_of schema.now table.now)) }
+{
+    match schema.table(table) {
+        Some(found) => push_columns(into, atom, found.columns()),
+        None => Ok(()),
+    }
+}
+
+/// The columns of the items, each as those of the atom that is the item's place.
+pub(crate) fn atom_columns(
+    alloc: Global,
+    schema: &Schema,
+    from: &[(Name, Name)],
+) -> Result<Vec<Column>, NoMemory>
+    requires { length from.now ≤ 8 }
+    ensures { IfOk result (λ v. v.items ≡ atoms_from 0 (sources_of schema.now from.now)) }
+{
+    let mut columns = Vec::new(alloc);
+    for (i, (table, _)) in from.iter().enumerate() {
+        push_table(&mut columns, i as u32, schema, table)?;
+    }
+    Ok(columns)
+}

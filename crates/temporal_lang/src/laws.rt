@@ -1,0 +1,27 @@
+ghost use Rattle.std.specs.Prelude.{◌≡◌, ◌≤◌, ◌<◌, ℕ, List, Some, None};
+ghost use Rattle.relations.specs.Spans.{forever};
+ghost use Rattle.relations.specs.Timed.{Entry};
+ghost use Rattle.smo_ops.specs.OneRow.{Row};
+ghost use Rattle.smo_ops.specs.Past.{Past};
+ghost use Rattle.smo_ops.specs.LawfulPast.{AreStates, EachStarts};
+ghost use Rattle.smo_ops.specs.Migration.{Loss};
+ghost use Rattle.temporal_lang.specs.Losing.{loss_at, first_lost};
+ghost use Rattle.temporal_lang.specs.Queries.{PlainQuery, slice_of, IsLasting};
+ghost use Rattle.temporal_lang.specs.Answers.{IsListingOf, listing};
+
+/// The listing that is made stage by stage is the list of what a query asks of each moment of its slice, and at most one
+/// list is: over a past whose states ascend from moment 0 and begin with each version.
+pub fn listing_is_the_one_list()
+    ensures is { (past : Past) → (query : PlainQuery) → AreStates past.states → EachStarts past.states past.versions → IsLasting query.when
+        → (slice_of query.when).end ≤ forever → IsListingOf past query (listing past query) }
+    ensures one { (past : Past) → (query : PlainQuery) → (a : List (Entry Row)) → (b : List (Entry Row)) → IsListingOf past query a → IsListingOf past query b → a ≡ b }
+{}
+
+/// The first loss is that of the least moment of the slice at which a table of the query is lost, and none where none is at
+/// any moment of it.
+pub fn first_loss_is_at_the_least_moment()
+    ensures some { (past : Past) → (query : PlainQuery) → (m : ℕ) → (loss : Loss) → (slice_of query.when).start ≤ m → m < (slice_of query.when).end
+        → ((n : ℕ) → (slice_of query.when).start ≤ n → n < m → loss_at past query n ≡ None) → loss_at past query m ≡ Some loss → first_lost past query ≡ Some loss }
+    ensures none { (past : Past) → (query : PlainQuery) → ((n : ℕ) → (slice_of query.when).start ≤ n → n < (slice_of query.when).end → loss_at past query n ≡ None)
+        → first_lost past query ≡ None }
+{}

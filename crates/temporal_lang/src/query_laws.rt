@@ -1,0 +1,27 @@
+//! Laws of reading queries. Each is proved and does nothing.
+
+ghost use Rattle.std.specs.Prelude.{◌≡◌, ℕ, List, length, get_or, None};
+ghost use Rattle.prima_base.specs.declared.refusals.What.{What};
+ghost use Rattle.lexer.specs.Lexemes.{Lexeme};
+ghost use Rattle.lexer.specs.Parsing.{Size, Good, Exceeds, Lawful};
+ghost use Rattle.lexer.specs.Passes.{IsFirstPass};
+ghost use Rattle.temporal_lang.specs.Queries.{PlainQuery};
+ghost use Rattle.temporal_lang.specs.QueryGrammar.{IsBranch, IsAsk};
+ghost use Rattle.temporal_lang.specs.QueryPasses.{ask_passes};
+ghost use Rattle.temporal_lang.specs.QueryReader as spec;
+
+/// The readers of queries and their branches are good for their grammars: what is read is in them,
+/// what is in them is read, and a fault stands at the first place.
+pub fn queries_are_good()
+    ensures branch { Good 0 32 spec.branch IsBranch spec.goes_branch }
+    ensures ask { Good 0 32 spec.ask IsAsk spec.goes_ask }
+{}
+
+/// The tokens at which a count passes its limit tell what is too much in a query: of what first
+/// passes its limit there is more than it, and where nothing does, there is more of nothing. Each
+/// token of the query has its place among them.
+pub fn passes_tell_what_is_too_much()
+    ensures some { (q : PlainQuery) (s : Size) (f : List Lexeme) (h : IsAsk q s f) (w : What) (k : ℕ) → IsFirstPass w (ask_passes q s f h) k → Exceeds w 0 32 s }
+    ensures none { (q : PlainQuery) (s : Size) (f : List Lexeme) (h : IsAsk q s f) → ((k : ℕ) → get_or (ask_passes q s f h) k None ≡ None) → Lawful 32 s }
+    ensures each { (q : PlainQuery) (s : Size) (f : List Lexeme) (h : IsAsk q s f) → length (ask_passes q s f h) ≡ length f }
+{}
