@@ -4,7 +4,7 @@ pub mod Joins
 pub mod Padding
 mod Worked
 pub mod TextLexing
-pub mod Alternatives
+pub mod BlankTexts
 pub mod StatementGoodness
 pub mod FirstFaults
 pub mod ReadingLaws
@@ -12,3 +12,7 @@ pub mod ConstantSteps
 pub mod BodySteps
 pub mod TokenReading
 pub mod OneReading
+pub mod NextGoodness
+pub mod NextAlong
+pub mod NextReadingLaws
+pub mod NextTokens

@@ -12,12 +12,12 @@ use Rattle.script_parse.proofs.StatementGoodness.{statement_good, statement_not_
 
 -- ---- places
 
-length_saying : (tokens : List Placed) → length (saying tokens) ≡ length tokens
+pub length_saying : (tokens : List Placed) → length (saying tokens) ≡ length tokens
 length_saying [] = refl
 length_saying (t ∷ tokens) = ap suc (length_saying tokens)
 
 -- within the list the end does not matter
-same_place : (tokens : List Placed) (k m n : ℕ) → k < length tokens → place tokens k m ≡ place tokens k n
+pub same_place : (tokens : List Placed) (k m n : ℕ) → k < length tokens → place tokens k m ≡ place tokens k n
 same_place [] k m n h = absurd (omega (arith, h))
 same_place (t ∷ tokens) zero m n h = refl
 same_place (t ∷ tokens) (suc k) m n h = same_place tokens k m n (omega (arith, h))

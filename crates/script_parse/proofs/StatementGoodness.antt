@@ -7,7 +7,7 @@ use Rattle.smo_ops.specs.Operators.{create_table}
 use Rattle.smo_ops.specs.Changes.{PlainChange, insertion, deletion, update}
 use Rattle.smo_ops.specs.Commands.{PlainBody, changing, evolving}
 use Rattle.lexer.specs.Lexemes.{Lexeme, word, sign, is_word, is_sign}
-use Rattle.lexer.specs.Parsing.{Size, nothing_counted, Parser, Good, Stops, No, Takes, Whole, no_end, AreMore, bind, bindG, pure, pureG, lead, leadG, map_to, mapG, fresh, freshG}
+use Rattle.lexer.specs.Parsing.{Size, nothing_counted, Parser, Good, Stops, No, Takes, Whole, no_end, AreMore, bind, bindG, pure, pureG, lead, leadG, map_to, mapG, fresh, freshG, eitherG, listG}
 use Rattle.lexer.specs.Grammar.{IsExpr, IsCond}
 use Rattle.lexer.specs.Reader.{outermost, goes_expr, goes_cond}
 use Rattle.lexer.specs.Constants.{name, nameG, names, namesG, moment, momentG, small, smallG, constant, constantG}
@@ -16,23 +16,23 @@ use Rattle.lexer.proofs.Grammar.{word_is, word_exact, sign_is, sign_exact}
 use Rattle.lexer.proofs.Singles.{name_good, names_good, moment_good, small_good, constant_good}
 use Rattle.lexer.proofs.Goodness.{fresh_expr_good, fresh_cond_good}
 use Rattle.script_parse.specs.Statements.{PlainStatement, write, ask}
-use Rattle.script_parse.specs.Productions.{eitherG, listG, IsWhere, AreSoMany, IsRow, IsInsert, IsDelete, IsSetting, IsUpdate, IsChange, IsType, IsColumn, IsEvolve, IsBody, IsWrite, IsAsk, IsStatement}
+use Rattle.script_parse.specs.Productions.{IsWhere, AreSoMany, IsRow, IsInsert, IsDelete, IsSetting, IsUpdate, IsChange, IsType, IsColumn, IsEvolve, IsBody, IsWrite, IsAsk, IsStatement}
 use Rattle.script_parse.specs.StatementReader.{where_part, more_constants, constants, row, insert_rest, delete_rest, setting, settings, update_rest, change_arm, change, changes, type_arm, column_type, column, columns, evolve_rest, body_arm, body, write_rest, ask_rest, statement_arm, statement, goes_where, goes_settings, goes_change, goes_statement}
-use Rattle.script_parse.proofs.Alternatives.{stops_never, or_left, or_right, stops_fewer, NotFirst, NotNone, lead_not_none, lead_not_first, either_not_none, either_not_first, list_not_none, list_not_first, list_good, last_arm, first_arm}
+use Rattle.lexer.proofs.Alternatives.{stops_never, or_left, or_right, stops_fewer, NotFirst, NotNone, lead_not_none, lead_not_first, either_not_none, either_not_first, list_not_none, list_not_first, list_good, last_arm, first_arm}
 
 -- goes on with nothing
-abbrev ends : Lexeme → Bool
+abbrev pub ends : Lexeme → Bool
 ends x = false
 
 -- a word, or a sign, and what follows it
-word_good : {A : Type 0} (w : List ℕ) (p : Parser A) (G : A → Size → List Lexeme → Type 0) (goes : Lexeme → Bool) → Good 0 32 p G goes → Good 0 32 (lead (is_word w) p) (leadG (word w) G) goes
+pub word_good : {A : Type 0} (w : List ℕ) (p : Parser A) (G : A → Size → List Lexeme → Type 0) (goes : Lexeme → Bool) → Good 0 32 p G goes → Good 0 32 (lead (is_word w) p) (leadG (word w) G) goes
 word_good w p G goes g = lead_good (is_word w) (word w) (word_is w) (word_exact w) 0 32 p G goes g
 
 sign_good : {A : Type 0} (w : List ℕ) (p : Parser A) (G : A → Size → List Lexeme → Type 0) (goes : Lexeme → Bool) → Good 0 32 p G goes → Good 0 32 (lead (is_sign w) p) (leadG (sign w) G) goes
 sign_good w p G goes g = lead_good (is_sign w) (sign w) (sign_is w) (sign_exact w) 0 32 p G goes g
 
 -- a part that ends by itself, and what follows it
-single_then : {A B : Type 0} (p : Parser A) (f : A → Parser B) (G : A → Size → List Lexeme → Type 0) (H : A → B → Size → List Lexeme → Type 0) (goes : Lexeme → Bool) →
+pub single_then : {A B : Type 0} (p : Parser A) (f : A → Parser B) (G : A → Size → List Lexeme → Type 0) (H : A → B → Size → List Lexeme → Type 0) (goes : Lexeme → Bool) →
     Good 0 32 p G ends → ((a : A) → Good 0 32 (f a) (H a) goes) → Good 0 32 (bind p f) (bindG G H) goes
 single_then p f G H goes g h = bind_good 0 32 p f G H ends goes g h (λ a b s ts rest k stops. stops_never (ts ++ rest))
 
@@ -114,13 +114,13 @@ row_good ns goes = sign_good (codes "(") _ _ goes (bind_lead 0 32 (constants (le
 
 -- ---- changes
 
-where_change : (x : Lexeme) → goes_change x ≡ false → goes_where x ≡ false
+pub where_change : (x : Lexeme) → goes_change x ≡ false → goes_where x ≡ false
 where_change x h = or_right (goes_settings x) (goes_where x) h
 
 where_then : Good 0 32 where_part IsWhere goes_change
 where_then = good_goes 0 32 where_part IsWhere goes_where goes_change where_change where_good
 
-settings_change : (x : Lexeme) → goes_change x ≡ false → goes_settings x ≡ false
+pub settings_change : (x : Lexeme) → goes_change x ≡ false → goes_settings x ≡ false
 settings_change x h = or_left (goes_settings x) (goes_where x) h
 
 -- behind INSERT, DELETE and UPDATE
@@ -151,23 +151,24 @@ settings_good : Good 0 32 settings (listG (sign (codes ",")) IsSetting) goes_set
 unfolding settings
 settings_good = list_good (is_sign (codes ",")) (sign (codes ",")) (sign_is (codes ",")) (sign_exact (codes ",")) 32 setting IsSetting (goes_expr false) setting_good refl
 
+-- a WHERE, or what no change goes on with
+pub where_side : (c : Test) (s : Size) (ts rest : List Lexeme) → IsWhere c s ts → Stops goes_change rest → Stops goes_settings (ts ++ rest)
+where_side c s ts rest (inl k) stops = let P : List Lexeme → Type 0 = λ u. Stops goes_settings (u ++ rest) in subst P (sym k.2) (stops_fewer goes_settings goes_change settings_change rest stops)
+where_side c s ts rest (inr k) stops = let P : List Lexeme → Type 0 = λ u. Stops goes_settings (u ++ rest) in subst P (sym k.1) refl
+
 update_good : Good 0 32 update_rest UpdateRest goes_change
 unfolding update_rest
 update_good = single_then name _ nameG _ goes_change (name_good 0 32 ends) (λ t. word_good (codes "SET") _ _ goes_change
     (bind_good 0 32 settings (λ l. map_to (λ c. update t l c) where_part) (listG (sign (codes ",")) IsSetting) (λ l. mapG (λ c. update t l c) IsWhere) goes_settings goes_change settings_good
     (λ l. map_good 0 32 (λ c. update t l c) where_part IsWhere goes_change where_then)
     (λ l c s ts rest h stops. where_side h.0 s ts rest h.2 stops)))
-  where
-    where_side : (c : Test) (s : Size) (ts rest : List Lexeme) → IsWhere c s ts → Stops goes_change rest → Stops goes_settings (ts ++ rest)
-    where_side c s ts rest (inl k) stops = let P : List Lexeme → Type 0 = λ u. Stops goes_settings (u ++ rest) in subst P (sym k.2) (stops_fewer goes_settings goes_change settings_change rest stops)
-    where_side c s ts rest (inr k) stops = let P : List Lexeme → Type 0 = λ u. Stops goes_settings (u ++ rest) in subst P (sym k.1) refl
 
 -- no change is without a lexeme
-change_not_none : NotNone IsChange
+pub change_not_none : NotNone IsChange
 change_not_none = either_not_none IsInsert (eitherG IsDelete IsUpdate) (lead_not_none (word (codes "INSERT")) InsertRest) (either_not_none IsDelete IsUpdate (lead_not_none (word (codes "DELETE")) DeleteRest) (lead_not_none (word (codes "UPDATE")) UpdateRest))
 
 -- a word with which no change begins
-change_not_first : (w : List ℕ) → is_word (codes "INSERT") (word w) ≡ false → is_word (codes "DELETE") (word w) ≡ false → is_word (codes "UPDATE") (word w) ≡ false → NotFirst IsChange (word w)
+pub change_not_first : (w : List ℕ) → is_word (codes "INSERT") (word w) ≡ false → is_word (codes "DELETE") (word w) ≡ false → is_word (codes "UPDATE") (word w) ≡ false → NotFirst IsChange (word w)
 change_not_first w e f g = either_not_first (word w) IsInsert (eitherG IsDelete IsUpdate) (apart (codes "INSERT") InsertRest e) (either_not_first (word w) IsDelete IsUpdate (apart (codes "DELETE") DeleteRest f) (apart (codes "UPDATE") UpdateRest g))
   where
     apart : (v : List ℕ) (G : PlainChange → Size → List Lexeme → Type 0) → is_word v (word w) ≡ false → NotFirst (leadG (word v) G) (word w)
@@ -187,7 +188,7 @@ change_good = choose_good 0 32 change_arm IsChange goes_change (deletion_live in
     deletion_live : (a : PlainChange) × (s : Size) × (ts : List Lexeme) × InsertRest a s ts → (a : PlainChange) × (s : Size) × (ts : List Lexeme) × IsChange a s ts
     deletion_live l = (l.0, l.1, word (codes "INSERT") ∷ l.2, inl (l.2, refl, l.3))
 
-changes_good : Good 0 32 changes (listG (word (codes "THEN")) IsChange) goes_statement
+pub changes_good : Good 0 32 changes (listG (word (codes "THEN")) IsChange) goes_statement
 unfolding changes
 changes_good = list_good (is_word (codes "THEN")) (word (codes "THEN")) (word_is (codes "THEN")) (word_exact (codes "THEN")) 32 change IsChange goes_change change_good refl
 

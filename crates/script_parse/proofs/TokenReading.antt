@@ -19,7 +19,7 @@ use Rattle.script_parse.proofs.FirstFaults.{explained}
 use Rattle.script_parse.proofs.StatementGoodness.{statement_good}
 use Rattle.script_parse.proofs.TextLexing.{texts_are_lexed}
 
-same_says : (list : List Token) → saying (map placed list) ≡ map lexeme list
+pub same_says : (list : List Token) → saying (map placed list) ≡ map lexeme list
 same_says [] = refl
 same_says (t ∷ list) = ap (λ l. lexeme t ∷ l) (same_says list)
 

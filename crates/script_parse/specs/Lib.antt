@@ -7,3 +7,8 @@ pub mod Lexing
 pub mod Productions
 pub mod StatementReader
 pub mod Reading
+pub mod NextStatements
+pub mod NextProductions
+pub mod NextReader
+pub mod NextPasses
+pub mod NextReading

@@ -1,5 +1,5 @@
 -- The grammar of statements: which lexemes spell which statement, and of what size it is.
-use Rattle.std.specs.Prelude.{◌≡◌, ℕ, false, List, [], ◌∷◌, length, zip, codes, ◌⊎◌}
+use Rattle.std.specs.Prelude.{◌≡◌, ℕ, false, List, [], ◌∷◌, length, zip, codes}
 use Rattle.prima_base.specs.declared.values.Value.{Value}
 use Rattle.prima_base.specs.declared.values.ColType.{ColType}
 use Rattle.prima_base.specs.declared.values.ColType.TheVariants.{Int, Text}
@@ -8,21 +8,11 @@ use Rattle.cond_expr.specs.Trees.{Tree, Test, always}
 use Rattle.smo_ops.specs.Operators.{create_table}
 use Rattle.smo_ops.specs.Changes.{PlainChange, insertion, deletion, update}
 use Rattle.smo_ops.specs.Commands.{PlainBody, changing, evolving}
-use Rattle.lexer.specs.Lexemes.{Lexeme, word, sign}
-use Rattle.lexer.specs.Parsing.{Size, Grammar, nothing_counted, no_end, AreMore, bindG, pureG, leadG, mapG, optionG, freshG}
+use Rattle.lexer.specs.Lexemes.{word, sign}
+use Rattle.lexer.specs.Parsing.{Grammar, nothing_counted, bindG, pureG, leadG, mapG, optionG, freshG, eitherG, listG}
 use Rattle.lexer.specs.Grammar.{IsExpr, IsCond}
 use Rattle.lexer.specs.Constants.{nameG, namesG, momentG, smallG, constantG}
 use Rattle.script_parse.specs.Statements.{PlainStatement, write, ask}
-
--- ---- for any grammar
-
--- the one or the other
-abbrev pub eitherG : {A : Type 0} → (A → Size → List Lexeme → Type 0) → (A → Size → List Lexeme → Type 0) → A → Size → List Lexeme → Type 0
-eitherG G H a s ts = G a s ts ⊎ H a s ts
-
--- G { separator G }
-abbrev pub listG : {A : Type 0} → Lexeme → (A → Size → List Lexeme → Type 0) → List A → Size → List Lexeme → Type 0
-listG separator G = bindG G (λ a. mapG (λ l. a ∷ l) (AreMore separator no_end G 0))
 
 -- ---- changes
 

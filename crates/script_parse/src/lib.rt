@@ -7,12 +7,24 @@
 //! The grammar of statements stands in `specs/Productions.antt`, over the one of expressions and conditions.
 //! What a text is read as is defined twice: as a function (`reading`), and in the words of the grammar
 //! (`IsReading`, in `specs/Reading.antt`). Laws join the two.
+//!
+//! `next_statement` reads statements with all operators, their inverses and queries (module `next`); no program calls
+//! it yet. Its grammar stands in `specs/NextProductions.antt`, over those of changes, operators and queries, and at
+//! which tokens a count passes its limit in `specs/NextPasses.antt`.
 #![tactic(auto)]
 
 mod change_reader;
 mod evolve_reader;
+mod inverse_reader;
 mod laws;
 mod modes;
+pub mod next;
+mod next_laws;
+mod next_reader;
+#[cfg(test)]
+mod next_shown;
+#[cfg(test)]
+mod next_statement_tests;
 #[cfg(test)]
 mod shown;
 mod splitter;
@@ -27,6 +39,8 @@ mod tests;
 pub use laws::{
     clean_is_blanks_and_comments, script_is_its_statements, statements_are_of_a_script,
 };
+pub use next_laws::next_statements_are_good;
+pub use next_reader::next_statement;
 pub use splitter::{Cut, Splitter, Tail};
 pub use statement_laws::{
     readings_are_of_the_grammar, readings_are_one, statements_are_good, statements_are_read,

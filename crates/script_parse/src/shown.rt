@@ -150,7 +150,7 @@ fn put_sets(alloc: Global, out: &mut Vec<u8>, sets: &[(Name, Expr)]) -> Result<(
     Ok(())
 }
 
-fn put_change(alloc: Global, out: &mut Vec<u8>, change: &Change) -> Result<(), AllocError> {
+pub fn put_change(alloc: Global, out: &mut Vec<u8>, change: &Change) -> Result<(), AllocError> {
     match change {
         Change::Insert { table, cells } => {
             put(out, b" + ")?;

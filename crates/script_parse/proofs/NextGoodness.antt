@@ -1,0 +1,191 @@
+-- The readers of statements are good for their grammars.
+use Rattle.std.proofs.Common.{◌≡◌, ℕ, Bool, false, cond, ◌||◌, List, [], ◌∷◌, ◌++◌, inl, inr, refl, sym, ap, ◌∙◌, subst, codes}
+use Rattle.prima_base.specs.declared.refusals.What.TheVariants.{Inverse}
+use Rattle.smo_ops.specs.Operators.{Operator}
+use Rattle.smo_ops.specs.Commands.{PlainBody, changing, evolving}
+use Rattle.lexer.specs.Lexemes.{Lexeme, word, is_word}
+use Rattle.lexer.specs.Parsing.{Size, Good, Stops, No, Takes, Whole, AreMore, so_wide, bind, bindG, pure, pureG, leadG, map_to, mapG, more, eitherG, listG}
+use Rattle.lexer.specs.Constants.{moment, momentG, small, smallG}
+use Rattle.lexer.proofs.Parsing.{good_iff, good_goes, bind_good, map_good, pure_good, choose_good, option_takes_good, whole_good, more_good, bind_more}
+use Rattle.lexer.proofs.Grammar.{word_is, word_exact}
+use Rattle.lexer.proofs.Singles.{moment_good, small_good}
+use Rattle.lexer.proofs.Fresh.{fresh_good}
+use Rattle.lexer.proofs.Alternatives.{or_left, or_right, stops_fewer, NotNone, lead_not_none, lead_not_first, either_not_none, either_not_first, list_not_none, list_not_first, last_arm, first_arm}
+use Rattle.smo_parse.specs.Productions.{IsOperator}
+use Rattle.smo_parse.specs.OperatorReader.{operator, goes_operator}
+use Rattle.smo_parse.proofs.OperatorGoodness.{operator_good}
+use Rattle.temporal_lang.specs.QueryGrammar.{IsAsk}
+use Rattle.temporal_lang.specs.QueryReader as query
+use Rattle.temporal_lang.proofs.QueryGoodness.{ask_good}
+use Rattle.script_parse.specs.StatementReader as old
+use Rattle.script_parse.specs.Productions.{IsChange}
+use Rattle.script_parse.specs.NextStatements.{PlainStatement, write, ask, show_versions, show_schema}
+use Rattle.script_parse.specs.NextProductions.{IsOp, AreOps, IsInverse, IsEvolve, AreChanges, IsBody, IsWrite, IsQuery, IsShowVersions, IsShowSchema, IsStatement}
+use Rattle.script_parse.specs.NextReader.{op, ops, inverse, evolve_rest, body_arm, body, write_rest, ask_rest, schema_rest, show_arm, show_rest, statement_arm, statement, goes_ops, goes_evolve, goes_body, goes_statement}
+use Rattle.script_parse.proofs.StatementGoodness.{ends, word_good, single_then, change_not_none, change_not_first, changes_good}
+
+-- ---- operators
+
+pub op_good : Good 0 32 op IsOp goes_operator
+unfolding op
+op_good = fresh_good 32 operator IsOperator 0 goes_operator operator_good
+
+more_ops_good : Good 0 32 (more (is_word (codes "THEN")) Inverse op 7) (AreMore (word (codes "THEN")) (so_wide Inverse) IsOp 1) goes_ops
+more_ops_good = more_good (is_word (codes "THEN")) (word (codes "THEN")) (word_is (codes "THEN")) (word_exact (codes "THEN")) 32 op IsOp goes_operator op_good refl Inverse (λ s n h. h) 7 1 refl
+
+ops_good : Good 0 32 ops AreOps goes_ops
+unfolding ops
+ops_good = bind_more (is_word (codes "THEN")) (word (codes "THEN")) (word_is (codes "THEN")) (word_exact (codes "THEN")) 32 op IsOp goes_operator op_good refl (so_wide Inverse) 0 1
+    (more (is_word (codes "THEN")) Inverse op 7) (λ o l. o ∷ l) more_ops_good
+
+pub fewer_ops : (x : Lexeme) → goes_evolve x ≡ false → goes_ops x ≡ false
+fewer_ops x h = or_right (is_word (codes "INVERSE") x) (goes_ops x) h
+
+pub fewer_op : (x : Lexeme) → goes_evolve x ≡ false → goes_operator x ≡ false
+fewer_op x h = or_right (is_word (codes "THEN") x) (goes_operator x) (fewer_ops x h)
+
+inverse_good : Good 0 32 inverse IsInverse goes_evolve
+unfolding inverse
+inverse_good = option_takes_good (is_word (codes "INVERSE")) (word (codes "INVERSE")) (word_is (codes "INVERSE")) (word_exact (codes "INVERSE")) 0 32 ops [] AreOps goes_evolve
+    (λ x e. ap (λ b. b || goes_ops x) e)
+    (good_goes 0 32 ops AreOps goes_ops goes_evolve fewer_ops ops_good)
+
+-- an INVERSE, or what no EVOLVE goes on with
+pub inverse_side : (l : List Operator) (s : Size) (ts rest : List Lexeme) → IsInverse l s ts → Stops goes_evolve rest → Stops goes_operator (ts ++ rest)
+inverse_side l s ts rest (inl k) stops = let P : List Lexeme → Type 0 = λ u. Stops goes_operator (u ++ rest) in subst P (sym k.2) (stops_fewer goes_operator goes_evolve fewer_op rest stops)
+inverse_side l s ts rest (inr k) stops = let P : List Lexeme → Type 0 = λ u. Stops goes_operator (u ++ rest) in subst P (sym k.1) refl
+
+abbrev EvolveRest : PlainBody → Size → List Lexeme → Type 0
+EvolveRest = bindG IsOp (λ o. mapG (λ l. evolving o l) IsInverse)
+
+evolve_good : Good 0 32 evolve_rest EvolveRest goes_evolve
+unfolding evolve_rest
+evolve_good = bind_good 0 32 op (λ o. map_to (λ l. evolving o l) inverse) IsOp (λ o. mapG (λ l. evolving o l) IsInverse) goes_operator goes_evolve op_good
+    (λ o. map_good 0 32 (λ l. evolving o l) inverse IsInverse goes_evolve inverse_good)
+    (λ o b s ts rest h stops. inverse_side h.0 s ts rest h.2 stops)
+
+-- ---- what a command does
+
+pub fewer_evolve : (x : Lexeme) → goes_body x ≡ false → goes_evolve x ≡ false
+fewer_evolve x h = or_left (goes_evolve x) (old.goes_change x) h
+
+-- THEN is among what an inverse goes on with
+pub fewer_changes : (x : Lexeme) → goes_body x ≡ false → old.goes_statement x ≡ false
+fewer_changes x h = neither (is_word (codes "THEN") x) (old.goes_change x) (or_left (is_word (codes "THEN") x) (goes_operator x) (fewer_ops x (fewer_evolve x h))) (or_right (goes_evolve x) (old.goes_change x) h)
+  where
+    neither : (a b : Bool) → a ≡ false → b ≡ false → (a || b) ≡ false
+    neither a b e f = ap (λ c. c || b) e ∙ f
+
+evolve_then : Good 0 32 evolve_rest EvolveRest goes_body
+evolve_then = good_goes 0 32 evolve_rest EvolveRest goes_evolve goes_body fewer_evolve evolve_good
+
+changes_then : Good 0 32 (map_to (λ l. changing l) old.changes) AreChanges goes_body
+changes_then = map_good 0 32 (λ l. changing l) old.changes (listG (word (codes "THEN")) IsChange) goes_body
+    (good_goes 0 32 old.changes (listG (word (codes "THEN")) IsChange) old.goes_statement goes_body fewer_changes changes_good)
+
+body_good : Good 0 32 body IsBody goes_body
+unfolding body
+body_good = choose_good 0 32 body_arm IsBody goes_body (live evolve_then.live)
+    (either_not_none IsEvolve AreChanges (lead_not_none (word (codes "EVOLVE")) EvolveRest) (λ a s h. list_not_none (word (codes "THEN")) IsChange change_not_none h.0 s h.2))
+    (λ x. first_arm (is_word (codes "EVOLVE")) (word (codes "EVOLVE")) (word_is (codes "EVOLVE")) (word_exact (codes "EVOLVE")) 32 evolve_rest EvolveRest goes_body evolve_then
+    (λ y. Whole (map_to (λ l. changing l) old.changes)) AreChanges
+    (λ a s l h. list_not_first (word (codes "EVOLVE")) (word (codes "THEN")) IsChange change_not_none (change_not_first (codes "EVOLVE") refl refl refl) h.0 s l h.2) x
+    (whole_good 0 32 (map_to (λ l. changing l) old.changes) AreChanges AreChanges x goes_body changes_then (λ a s l h. h) (λ a s l h. h)))
+  where
+    live : (a : PlainBody) × (s : Size) × (ts : List Lexeme) × EvolveRest a s ts → (a : PlainBody) × (s : Size) × (ts : List Lexeme) × IsBody a s ts
+    live l = (l.0, l.1, word (codes "EVOLVE") ∷ l.2, inl (l.2, refl, l.3))
+
+-- ---- statements
+
+pub fewer_body : (x : Lexeme) → goes_statement x ≡ false → goes_body x ≡ false
+fewer_body x h = or_left (goes_body x) (query.goes_ask x) h
+
+pub fewer_ask : (x : Lexeme) → goes_statement x ≡ false → query.goes_ask x ≡ false
+fewer_ask x h = or_right (goes_body x) (query.goes_ask x) h
+
+abbrev WriteRest : PlainStatement → Size → List Lexeme → Type 0
+WriteRest = bindG momentG (λ m. mapG (λ b. write (record { stamp = m; body = b })) IsBody)
+
+abbrev AskRest : PlainStatement → Size → List Lexeme → Type 0
+AskRest = mapG (λ q. ask q) IsAsk
+
+abbrev VersionsRest : PlainStatement → Size → List Lexeme → Type 0
+VersionsRest = pureG show_versions
+
+abbrev SchemaRest : PlainStatement → Size → List Lexeme → Type 0
+SchemaRest = mapG (λ version. show_schema version) smallG
+
+abbrev ShowRest : PlainStatement → Size → List Lexeme → Type 0
+ShowRest = eitherG (leadG (word (codes "VERSIONS")) VersionsRest) (leadG (word (codes "SCHEMA")) SchemaRest)
+
+write_good : Good 0 32 write_rest WriteRest goes_statement
+unfolding write_rest
+write_good = single_then moment _ momentG _ goes_statement (moment_good 0 32 ends)
+    (λ m. map_good 0 32 (λ b. write (record { stamp = m; body = b })) body IsBody goes_statement (good_goes 0 32 body IsBody goes_body goes_statement fewer_body body_good))
+
+ask_rest_good : Good 0 32 ask_rest AskRest goes_statement
+unfolding ask_rest
+ask_rest_good = map_good 0 32 (λ q. ask q) query.ask IsAsk goes_statement (good_goes 0 32 query.ask IsAsk query.goes_ask goes_statement fewer_ask ask_good)
+
+schema_good : (goes : Lexeme → Bool) → Good 0 32 schema_rest SchemaRest goes
+unfolding schema_rest
+schema_good goes = map_good 0 32 (λ version. show_schema version) small smallG goes (small_good 0 32 goes)
+
+show_good : (goes : Lexeme → Bool) → Good 0 32 show_rest ShowRest goes
+unfolding show_rest
+show_good goes = choose_good 0 32 show_arm ShowRest goes (live (pure_good 0 32 show_versions goes).live)
+    (either_not_none (leadG (word (codes "VERSIONS")) VersionsRest) (leadG (word (codes "SCHEMA")) SchemaRest) (lead_not_none (word (codes "VERSIONS")) VersionsRest) (lead_not_none (word (codes "SCHEMA")) SchemaRest))
+    (λ x. first_arm (is_word (codes "VERSIONS")) (word (codes "VERSIONS")) (word_is (codes "VERSIONS")) (word_exact (codes "VERSIONS")) 32 (pure show_versions) VersionsRest goes (pure_good 0 32 show_versions goes)
+    (λ y. cond (is_word (codes "SCHEMA") y) (Takes schema_rest) No) (leadG (word (codes "SCHEMA")) SchemaRest)
+    (lead_not_first (is_word (codes "SCHEMA")) (word (codes "VERSIONS")) (word (codes "SCHEMA")) SchemaRest refl (word_is (codes "SCHEMA"))) x
+    (last_arm (is_word (codes "SCHEMA")) (word (codes "SCHEMA")) (word_is (codes "SCHEMA")) (word_exact (codes "SCHEMA")) 32 schema_rest SchemaRest goes (schema_good goes) x))
+  where
+    live : (a : PlainStatement) × (s : Size) × (ts : List Lexeme) × VersionsRest a s ts → (a : PlainStatement) × (s : Size) × (ts : List Lexeme) × ShowRest a s ts
+    live l = (l.0, l.1, word (codes "VERSIONS") ∷ l.2, inl (l.2, refl, l.3))
+
+-- the grammar by first words
+abbrev FromShow : PlainStatement → Size → List Lexeme → Type 0
+FromShow = leadG (word (codes "SHOW")) ShowRest
+
+abbrev FromQuery : PlainStatement → Size → List Lexeme → Type 0
+FromQuery = eitherG IsQuery FromShow
+
+abbrev FromAt : PlainStatement → Size → List Lexeme → Type 0
+FromAt = eitherG IsWrite FromQuery
+
+at_first : (v : List ℕ) → is_word (codes "QUERY") (word v) ≡ false → is_word (codes "SHOW") (word v) ≡ false → (a : PlainStatement) (s : Size) (l : List Lexeme) → FromQuery a s (word v ∷ l) → ⊥
+at_first v e f = either_not_first (word v) IsQuery FromShow (lead_not_first (is_word (codes "QUERY")) (word v) (word (codes "QUERY")) AskRest e (word_is (codes "QUERY"))) (lead_not_first (is_word (codes "SHOW")) (word v) (word (codes "SHOW")) ShowRest f (word_is (codes "SHOW")))
+
+by_words_not_none : NotNone FromAt
+by_words_not_none = either_not_none IsWrite FromQuery (lead_not_none (word (codes "AT")) WriteRest) (either_not_none IsQuery FromShow (lead_not_none (word (codes "QUERY")) AskRest) (lead_not_none (word (codes "SHOW")) ShowRest))
+
+by_words_good : Good 0 32 statement FromAt goes_statement
+unfolding statement
+by_words_good = choose_good 0 32 statement_arm FromAt goes_statement (live write_good.live) by_words_not_none
+    (λ x. first_arm (is_word (codes "AT")) (word (codes "AT")) (word_is (codes "AT")) (word_exact (codes "AT")) 32 write_rest WriteRest goes_statement write_good
+    (λ y. cond (is_word (codes "QUERY") y) (Takes ask_rest) (cond (is_word (codes "SHOW") y) (Takes show_rest) No)) FromQuery (at_first (codes "AT") refl refl) x
+    (first_arm (is_word (codes "QUERY")) (word (codes "QUERY")) (word_is (codes "QUERY")) (word_exact (codes "QUERY")) 32 ask_rest AskRest goes_statement ask_rest_good
+    (λ y. cond (is_word (codes "SHOW") y) (Takes show_rest) No) FromShow
+    (lead_not_first (is_word (codes "SHOW")) (word (codes "QUERY")) (word (codes "SHOW")) ShowRest refl (word_is (codes "SHOW"))) x
+    (last_arm (is_word (codes "SHOW")) (word (codes "SHOW")) (word_is (codes "SHOW")) (word_exact (codes "SHOW")) 32 show_rest ShowRest goes_statement (show_good goes_statement) x)))
+  where
+    live : (a : PlainStatement) × (s : Size) × (ts : List Lexeme) × WriteRest a s ts → (a : PlainStatement) × (s : Size) × (ts : List Lexeme) × FromAt a s ts
+    live l = (l.0, l.1, word (codes "AT") ∷ l.2, inl (l.2, refl, l.3))
+
+up : (a : PlainStatement) (s : Size) (l : List Lexeme) → FromAt a s l → IsStatement a s l
+up a s l (inl h) = inl h
+up a s l (inr (inl h)) = inr (inl h)
+up a s l (inr (inr (more, e, inl h))) = inr (inr (inl (more, e, h)))
+up a s l (inr (inr (more, e, inr h))) = inr (inr (inr (more, e, h)))
+
+down : (a : PlainStatement) (s : Size) (l : List Lexeme) → IsStatement a s l → FromAt a s l
+down a s l (inl h) = inl h
+down a s l (inr (inl h)) = inr (inl h)
+down a s l (inr (inr (inl h))) = inr (inr (h.0, h.1, inl h.2))
+down a s l (inr (inr (inr h))) = inr (inr (h.0, h.1, inr h.2))
+
+pub statement_good : Good 0 32 statement IsStatement goes_statement
+statement_good = good_iff 0 32 statement FromAt IsStatement goes_statement up down by_words_good
+
+pub statement_not_none : NotNone IsStatement
+statement_not_none a s h = by_words_not_none a s (down a s [] h)

@@ -1,0 +1,100 @@
+-- What tokens are read as, by where the reader of statements ends in them.
+use Rattle.std.proofs.Common.{◌≡◌, ℕ, ◌<◌, ◌≤◌, List, [], ◌∷◌, length, map, Option, Some, None, Ok, Err, Result, refl, sym, ap, ◌∙◌, subst, arith, length-append}
+use Rattle.prima_base.specs.declared.refusals.What.{What}
+use Rattle.lexer.specs.declared.faults.LexFault.{LexFault}
+use Rattle.lexer.specs.declared.faults.LexFault.TheVariants as lexical
+use Rattle.lexer.specs.declared.token.Token.{Token}
+use Rattle.lexer.specs.Lexed.{Lexes, Gives as FaultGives}
+use Rattle.lexer.specs.Lexemes.{Lexeme, lexeme}
+use Rattle.lexer.specs.Spaced.{Spaced}
+use Rattle.lexer.specs.Parsing.{Got, Stuck, Over, limit}
+use Rattle.lexer.proofs.Places.{length_map}
+use Rattle.script_parse.specs.declared.next.ReadFault.{ReadFault}
+use Rattle.script_parse.specs.declared.next.ReadFault.TheVariants.{NoMemory, Syntax, TooMany}
+use Rattle.script_parse.specs.declared.next.Statement.{Statement}
+use Rattle.script_parse.specs.NextStatements.{PlainStatement}
+use Rattle.script_parse.specs.Lexing.{Placed, Tokens, Faulty, placed, saying, lexed, fault_place}
+use Rattle.script_parse.specs.Reading.{place_before}
+use Rattle.script_parse.specs.NextProductions.{IsStatement}
+use Rattle.script_parse.specs.NextReader.{statement, goes_statement}
+use Rattle.script_parse.specs.NextReading.{Answer, answered, read_as, reading, Gives, IsOfPlace}
+use Rattle.script_parse.proofs.FirstFaults.{explained}
+use Rattle.script_parse.proofs.NextGoodness.{statement_good}
+use Rattle.script_parse.proofs.TextLexing.{texts_are_lexed}
+use Rattle.script_parse.proofs.TokenReading.{same_says}
+
+as_answered : (list : List Token) (end : ℕ) → 0 < length list → read_as end (Tokens (map placed list)) ≡ answered (map placed list) end (statement 0 (map lexeme list))
+as_answered [] end h = absurd (omega arith)
+as_answered (t ∷ list) end h = ap (λ l. answered (map placed (t ∷ list)) end (statement 0 l)) (same_says (t ∷ list))
+
+answered_all : (tokens : List Placed) (end : ℕ) (s : PlainStatement) (m : ℕ) (rest : List Lexeme) → length rest ≡ 0 → answered tokens end (Got s m rest) ≡ Ok (Some s)
+answered_all tokens end s m [] h = refl
+answered_all tokens end s m (x ∷ rest) h = absurd (omega (arith, h))
+
+answered_some : (tokens : List Placed) (end : ℕ) (s : PlainStatement) (m : ℕ) (rest : List Lexeme) → 0 < length rest → answered tokens end (Got s m rest) ≡ Err (Syntax (place_before tokens (length rest) end))
+answered_some tokens end s m [] h = absurd (omega arith)
+answered_some tokens end s m (x ∷ rest) h = refl
+
+pub no_tokens : (list : List Token) (end : ℕ) → length list ≡ 0 → Ok None ≡ read_as end (Tokens (map placed list))
+no_tokens [] end h = refl
+no_tokens (t ∷ list) end h = absurd (omega (arith, h))
+
+module _ (list rest : List Token) (end : ℕ) where
+  abbrev at : ℕ → ℕ
+  at left = place_before (map placed list) left end
+
+  pub got_fits : (s : PlainStatement) (m : ℕ) → statement 0 (map lexeme list) ≡ Got s m (map lexeme rest) → length rest ≤ length list
+  got_fits s m e =
+      let h = explained statement IsStatement goes_statement statement_good (map lexeme list) (Got s m (map lexeme rest)) e in
+      omega (arith, ap length h.2, length-append h.0 (map lexeme rest), length_map lexeme list, length_map lexeme rest)
+
+  pub stuck_fits : statement 0 (map lexeme list) ≡ Stuck (map lexeme rest) → length rest ≤ length list
+  stuck_fits e =
+      let h = explained statement IsStatement goes_statement statement_good (map lexeme list) (Stuck (map lexeme rest)) e in
+      omega (arith, ap length h.1, length-append h.0 (map lexeme rest), length_map lexeme list, length_map lexeme rest)
+
+  module _ (some : 0 < length list) where
+    pub got_whole : (s : PlainStatement) (m : ℕ) → statement 0 (map lexeme list) ≡ Got s m (map lexeme rest) → length rest ≡ 0 → Ok (Some s) ≡ read_as end (Tokens (map placed list))
+    got_whole s m e z = sym (as_answered list end some ∙ ap (answered (map placed list) end) e ∙ answered_all (map placed list) end s m (map lexeme rest) (length_map lexeme rest ∙ z))
+
+    pub got_more : (s : PlainStatement) (m : ℕ) → statement 0 (map lexeme list) ≡ Got s m (map lexeme rest) → 0 < length rest → (p : ℕ) → p ≡ at (length rest) → Err (Syntax p) ≡ read_as end (Tokens (map placed list))
+    got_more s m e z p q =
+        let k : 0 < length (map lexeme rest) = omega (arith, z, length_map lexeme rest) in
+        sym (as_answered list end some ∙ ap (answered (map placed list) end) e ∙ answered_some (map placed list) end s m (map lexeme rest) k ∙ ap (λ n. Err (Syntax (at n))) (length_map lexeme rest) ∙ ap (λ n. Err (Syntax n)) (sym q))
+
+    pub stuck_there : statement 0 (map lexeme list) ≡ Stuck (map lexeme rest) → (p : ℕ) → p ≡ at (length rest) → Err (Syntax p) ≡ read_as end (Tokens (map placed list))
+    stuck_there e p q = sym (as_answered list end some ∙ ap (answered (map placed list) end) e ∙ ap (λ n. Err (Syntax (at n))) (length_map lexeme rest) ∙ ap (λ n. Err (Syntax n)) (sym q))
+
+    pub over_there : (w : What) → statement 0 (map lexeme list) ≡ Over w (map lexeme rest) → (most : ℕ) → most ≡ limit w → Err (TooMany w most) ≡ read_as end (Tokens (map placed list))
+    over_there w e most q = sym (as_answered list end some ∙ ap (answered (map placed list) end) e ∙ ap (λ n. Err (TooMany w n)) (sym q))
+
+-- ---- of a text
+
+pub text_read : (text : List ℕ) (ts : List Token) → Lexes 0 text ts None → read_as (length text) (Tokens (map placed ts)) ≡ reading text
+unfolding reading
+text_read text ts h = ap (read_as (length text)) (sym ((texts_are_lexed text ts).0 h))
+
+pub text_faulty : (text : List ℕ) (f : LexFault) (found : ReadFault) → FaultGives f (λ e. (ts : List Token) × Lexes 0 text ts (Some e) × Spaced 0 text ts (Some e)) → IsOfPlace (fault_place f) found → Gives (reading text) (Err found)
+unfolding reading
+text_faulty text f found g h = by_fault f g h
+  where
+    so : (f : LexFault) → (ts : List Token) × Lexes 0 text ts (Some f) × Spaced 0 text ts (Some f) → (at : ℕ) → Some at ≡ fault_place f → found ≡ Syntax at → Gives (read_as (length text) (lexed text)) (Err found)
+    so f k at e q =
+        let x = (texts_are_lexed text k.0).1 f k.1 in
+        let z : Some at ≡ Some x.0 = e ∙ x.1 in
+        let y : at ≡ x.0 = cc in
+        let P : ReadFault → Type 0 = λ r. Gives (read_as (length text) (lexed text)) (Err r) in
+        subst P (sym q) (ap (λ n. Err (Syntax n)) y ∙ sym (ap (read_as (length text)) x.2))
+
+    by_fault : (f : LexFault) → FaultGives f (λ e. (ts : List Token) × Lexes 0 text ts (Some e) × Spaced 0 text ts (Some e)) → IsOfPlace (fault_place f) found → Gives (read_as (length text) (lexed text)) (Err found)
+    by_fault lexical.NoMemory k e = let P : ReadFault → Type 0 = λ r. Gives (read_as (length text) (lexed text)) (Err r) in subst P (sym e) tt
+    by_fault (lexical.BadByte n) k e = so (lexical.BadByte n) k n refl e
+    by_fault (lexical.OpenQuote n) k e = so (lexical.OpenQuote n) k n refl e
+    by_fault (lexical.BigNumber n) k e = so (lexical.BigNumber n) k n refl e
+    by_fault (lexical.LongText n) k e = so (lexical.LongText n) k n refl e
+
+pub text_answer : (text : List ℕ) (ts l : List Token) (found : Result (Option Statement) ReadFault) → Lexes 0 text ts None → l ≡ ts → Gives (read_as (length text) (Tokens (map placed l))) found → Gives (reading text) found
+text_answer text ts l found h e g =
+    let P : List Token → Type 0 = λ u. Gives (read_as (length text) (Tokens (map placed u))) found in
+    let Q : Answer → Type 0 = λ r. Gives r found in
+    subst Q (text_read text ts h) (subst P e g)

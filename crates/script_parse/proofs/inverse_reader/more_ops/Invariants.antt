@@ -1,0 +1,15 @@
+use Rattle.std.proofs.Common.{◌≡◌, ◌≤◌, ◌++◌, List, codes}
+use Rattle.prima_base.specs.declared.refusals.What.TheVariants.{Inverse}
+use Rattle.smo_ops.specs.Operators.{Operator, operators_of}
+use Rattle.lexer.specs.Lexemes.{is_word}
+use Rattle.lexer.specs.Reads.{ahead}
+use Rattle.lexer.specs.Parsing.{more, prepend}
+use Rattle.script_parse.specs.NextReader.{op}
+use Rattle.script_parse.proofs.inverse_reader.more_ops.Given as goal
+
+abbrev pub invariant-loop-alloc : goal.invariant-loop-alloc
+invariant-loop-alloc l = (l.left ≤ 7) × (read : List Operator) × (operators_of l.list.items ≡ operators_of l.fn.list.items ++ read) ×
+    (more (is_word (codes "THEN")) Inverse op 7 l.fn.c.nodes (ahead l.fn.c) ≡ prepend read (more (is_word (codes "THEN")) Inverse op l.left l.c.nodes (ahead l.c)))
+
+abbrev pub decreases-loop-alloc : goal.decreases-loop-alloc
+decreases-loop-alloc l = l.left

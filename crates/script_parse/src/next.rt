@@ -1,0 +1,30 @@
+//! Statements with all operators, their inverses and queries.
+
+use prima_base::What;
+use smo_ops::Command;
+use temporal_lang::Query;
+
+/// A statement.
+#[derive(Drop)]
+pub enum Statement {
+    /// A command that is to become part of the history.
+    Write(Command),
+    /// A query, which changes nothing.
+    Ask(Query),
+    /// The list of all versions.
+    ShowVersions,
+    /// The tables of the version with this number.
+    ShowSchema(u32),
+}
+
+/// Why a text is no statement.
+#[derive(Clone, Copy, Debug, PartialEq, Eq)]
+pub enum ReadFault {
+    /// Reading found no memory.
+    NoMemory,
+    /// The place in the text of the first lexical fault, or else of the first token with which no
+    /// statement goes on; where the tokens run out, the text's length.
+    Syntax(u32),
+    /// The counted thing, and its limit, which is passed at a token.
+    TooMany(What, u64),
+}

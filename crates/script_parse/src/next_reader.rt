@@ -1,0 +1,205 @@
+//! Reading of statements with all operators, their inverses and queries, from their texts.
+
+ghost use Rattle.std.specs.Prelude.{◌≡◌, ◌≤◌, ◌<◌, ◌++◌, ◌∷◌, List, length, map};
+ghost use Rattle.smo_ops.specs.Commands.{body_of};
+ghost use Rattle.prima_base.specs.declared.refusals.What.{What as Counted};
+ghost use Rattle.lexer.specs.Lexemes.{Lexeme};
+ghost use Rattle.lexer.specs.Parsing.{Size, limit};
+ghost use Rattle.lexer.specs.Passes.{IsFirstPass};
+ghost use Rattle.lexer.specs.Reads.{Reads, ahead};
+ghost use Rattle.script_parse.specs.declared.next.ReadFault.TheVariants as fault;
+ghost use Rattle.script_parse.specs.Pads.{ArePads};
+ghost use Rattle.script_parse.specs.Lexing.{Placed, Tokens, lexed, placed, saying, fault_place};
+ghost use Rattle.script_parse.specs.Reading.{place_before};
+ghost use Rattle.script_parse.specs.NextStatements.{PlainStatement, statement_of};
+ghost use Rattle.script_parse.specs.NextProductions.{IsStatement};
+ghost use Rattle.script_parse.specs.NextPasses.{statement_passes};
+ghost use Rattle.script_parse.specs.NextReading.{Finds, Gives, IsAnswer, IsNone, IsOfPlace, IsOver, read_as, reading, seen};
+ghost use Rattle.script_parse.specs.NextReader as spec;
+
+use crate::change_reader::changes;
+use crate::inverse_reader::evolve_rest;
+use crate::next::{ReadFault, Statement};
+use lexer::{Cursor, LexFault, Stop, Token, moment, small, tokens};
+use prima_base::What;
+use smo_ops::{Body, Command};
+use std::alloc::Global;
+use temporal_lang::ask;
+
+// What a command does.
+#[tactic(auto, using(crate::proofs::BodySteps::next_body_evolves, crate::proofs::BodySteps::next_body_changes))]
+fn body(alloc: Global, c: &mut Cursor<'_, '_>) -> Result<Body, Stop>
+    ensures { Reads body_of (spec.body c.old.nodes (ahead c.old)) result c.new }
+{
+    if c.sees_word(b"EVOLVE") {
+        c.skip();
+        return evolve_rest(alloc, c);
+    }
+    let list = changes(alloc, c)?;
+    Ok(Body::Changes(list))
+}
+
+// What stands behind AT.
+#[tactic(auto, unfolding(crate::specs::NextReader::write_rest))]
+fn write_rest(alloc: Global, c: &mut Cursor<'_, '_>) -> Result<Statement, Stop>
+    ensures { Reads statement_of (spec.write_rest c.old.nodes (ahead c.old)) result c.new }
+{
+    let stamp = moment(c)?;
+    let body = body(alloc, c)?;
+    match Command::new(stamp, body) {
+        Some(command) => Ok(Statement::Write(command)),
+        // A moment is below FOREVER.
+        None => unreachable!(),
+    }
+}
+
+// What stands behind QUERY.
+#[tactic(auto, unfolding(crate::specs::NextReader::ask_rest))]
+fn ask_rest(alloc: Global, c: &mut Cursor<'_, '_>) -> Result<Statement, Stop>
+    ensures { Reads statement_of (spec.ask_rest c.old.nodes (ahead c.old)) result c.new }
+{
+    let query = ask(alloc, c)?;
+    Ok(Statement::Ask(query))
+}
+
+// What stands behind SHOW SCHEMA.
+#[tactic(auto, unfolding(crate::specs::NextReader::schema_rest))]
+fn schema_rest(c: &mut Cursor<'_, '_>) -> Result<Statement, Stop>
+    ensures { Reads statement_of (spec.schema_rest c.old.nodes (ahead c.old)) result c.new }
+{
+    let version = small(c)?;
+    Ok(Statement::ShowSchema(version))
+}
+
+// What stands behind SHOW.
+#[tactic(auto, unfolding(crate::specs::NextReader::show_rest), using(lexer::proofs::ReadSteps::choose_takes, lexer::proofs::ReadSteps::choose_no))]
+fn show_rest(c: &mut Cursor<'_, '_>) -> Result<Statement, Stop>
+    ensures { Reads statement_of (spec.show_rest c.old.nodes (ahead c.old)) result c.new }
+{
+    if c.sees_word(b"VERSIONS") {
+        c.skip();
+        return Ok(Statement::ShowVersions);
+    }
+    if c.sees_word(b"SCHEMA") {
+        c.skip();
+        return schema_rest(c);
+    }
+    Err(Stop::Stuck)
+}
+
+// A statement.
+#[tactic(auto, unfolding(crate::specs::NextReader::statement), using(lexer::proofs::ReadSteps::choose_takes, lexer::proofs::ReadSteps::choose_no))]
+fn statement(alloc: Global, c: &mut Cursor<'_, '_>) -> Result<Statement, Stop>
+    ensures { Reads statement_of (spec.statement c.old.nodes (ahead c.old)) result c.new }
+{
+    if c.sees_word(b"AT") {
+        c.skip();
+        return write_rest(alloc, c);
+    }
+    if c.sees_word(b"QUERY") {
+        c.skip();
+        return ask_rest(alloc, c);
+    }
+    if c.sees_word(b"SHOW") {
+        c.skip();
+        return show_rest(c);
+    }
+    Err(Stop::Stuck)
+}
+
+// The most of each kind that may be counted.
+fn limit_of(what: What) -> u64
+    ensures { result ≡ limit what }
+{
+    match what {
+        What::Nodes => 256,
+        What::Depth | What::Outputs => 32,
+        What::Parts | What::Tables | What::Keeps | What::Inverse => 8,
+        What::Branches => 16,
+        What::Changes | What::Columns | What::Versions => 0,
+    }
+}
+
+// The place of the token before which so many are left, or the text's end where none is.
+fn place_of(list: &[Token<'_>], left: usize, end: usize) -> u32
+    requires fits { left ≤ length list.now }
+    requires short { end ≤ 1048576 }
+    ensures { result ≡ place_before (map placed list.now) left end }
+{
+    if left == 0 {
+        return end as u32;
+    }
+    list[list.len() - left].at
+}
+
+// What the tokens of a text of so many bytes are read as.
+fn read_tokens(
+    alloc: Global,
+    list: &[Token<'_>],
+    end: usize,
+) -> Result<Option<Statement>, ReadFault>
+    requires { end ≤ 1048576 }
+    ensures { Gives (read_as end (Tokens (map placed list.now))) result }
+{
+    if list.is_empty() {
+        return Ok(None);
+    }
+    let mut cursor = Cursor {
+        rest: list,
+        nodes: 0,
+    };
+    let found = statement(alloc, &mut cursor);
+    let left = cursor.rest.len();
+    match found {
+        Ok(whole) => {
+            if left == 0 {
+                Ok(Some(whole))
+            } else {
+                Err(ReadFault::Syntax(place_of(list, left, end)))
+            }
+        }
+        Err(stop) => match stop {
+            Stop::NoMemory => Err(ReadFault::NoMemory),
+            Stop::Stuck => Err(ReadFault::Syntax(place_of(list, left, end))),
+            Stop::TooMany(what) => Err(ReadFault::TooMany(what, limit_of(what))),
+        },
+    }
+}
+
+// A lexical fault as one of reading.
+fn lexical(fault: LexFault) -> ReadFault
+    ensures { IsOfPlace (fault_place fault) result }
+{
+    match fault {
+        LexFault::NoMemory => ReadFault::NoMemory,
+        LexFault::BadByte(at)
+        | LexFault::OpenQuote(at)
+        | LexFault::BigNumber(at)
+        | LexFault::LongText(at) => ReadFault::Syntax(at),
+    }
+}
+
+/// The statement that a text of at most 1,048,576 bytes is; `None` exactly for blanks and comments
+/// alone. A lexical fault anywhere in the text comes first, then the first token with which no
+/// statement goes on or at which a count passes its limit; at one token `Syntax` comes first. Where the
+/// tokens run out, the place is the text's length. Each expression and condition has the limits of
+/// `parse_expr` and `parse_cond`, which begin anew in each of them, and an inverse has at most eight
+/// operators. `NoMemory` where memory runs out.
+pub fn next_statement(alloc: Global, text: &[u8]) -> Result<Option<Statement>, ReadFault>
+    requires { length text.now ≤ 1048576 }
+    // Each answer has its cause in the grammar.
+    ensures read { IsAnswer text.now (seen result) }
+    // Blanks and comments alone are none.
+    ensures none { ArePads text.now → IsNone (seen result) }
+    // What is a statement is read if it is within the limits, and else refused for what is too much.
+    ensures only { (tokens : List Placed) (s : PlainStatement) (size : Size) → lexed text.now ≡ Tokens tokens → IsStatement s size (saying tokens) → Finds s size (seen result) }
+    // A front that passes a limit at its last token is refused there for this count, whatever stands behind it.
+    ensures over { (w : Counted) (tokens : List Placed) (front rest more : List Lexeme) (x : Lexeme) (s : PlainStatement) (size : Size) (h : IsStatement s size (front ++ x ∷ more)) → lexed text.now ≡ Tokens tokens → saying tokens ≡ front ++ x ∷ rest →
+        IsFirstPass w (statement_passes s size (front ++ x ∷ more) h) (length front) → IsOver w (seen result) }
+    ensures exact { Gives (reading text.now) result }
+{
+    match tokens(alloc, text) {
+        Ok(list) => read_tokens(alloc, &list, text.len()),
+        Err(fault) => Err(lexical(fault)),
+    }
+}
