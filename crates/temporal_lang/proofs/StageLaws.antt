@@ -16,6 +16,7 @@ use Rattle.smo_ops.specs.Past.{State, Past, no_database, tables_of, version_at, 
 use Rattle.smo_ops.specs.LawfulPast.{Rise, AreStates, Starts, EachStarts}
 use Rattle.smo_ops.specs.Migration.{migrated_from}
 use Rattle.temporal_lang.specs.Queries.{PlainQuery, slice_of, IsLasting}
+use Rattle.temporal_lang.specs.Atoms.{branches_with_atoms}
 use Rattle.temporal_lang.specs.Meaning.{plain}
 use Rattle.temporal_lang.specs.Answers.{asked_at, IsListingOf, stage_at, is_inside, beginnings, behind_slice, listing}
 use Rattle.temporal_lang.proofs.Slicing.{sliced}
@@ -77,8 +78,8 @@ same_database low m before (s ∷ states) l a =
 stays : (past : Past) (query : PlainQuery) (low m : ℕ) → EachStarts past.states past.versions → low ≤ m → Apart low m past.states → asked_at past query low ≡ asked_at past query m
 stays past query low m h l a =
     let tables = tables_of past query.version in
-    ap (λ n. plain tables query.branches (migrated_from past.versions n query.version (database_at past low))) (ap length (same_version low m past.states past.versions l a h))
-    ∙ ap (λ d. plain tables query.branches (migrated_from past.versions (version_at past m) query.version d)) (same_database low m no_database past.states l a)
+    ap (λ n. plain tables (branches_with_atoms tables query.branches) (migrated_from past.versions n query.version (database_at past low))) (ap length (same_version low m past.states past.versions l a h))
+    ∙ ap (λ d. plain tables (branches_with_atoms tables query.branches) (migrated_from past.versions (version_at past m) query.version d)) (same_database low m no_database past.states l a)
 
 -- ---- the stages at each moment
 

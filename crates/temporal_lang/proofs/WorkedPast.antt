@@ -31,8 +31,8 @@ use Rattle.temporal_lang.specs.Branches.{PlainBranch}
 use Rattle.temporal_lang.specs.Queries.{PlainQuery, a_query}
 use Rattle.temporal_lang.specs.Meaning.{answers_over, plain}
 use Rattle.temporal_lang.specs.Answers.{asked_at, stages, answer}
-use Rattle.temporal_lang.specs.Accepted.{version_fault}
-use Rattle.temporal_lang.proofs.WorkedWords.{a, b, x, y, t, u, int, text, at_atom, ab_columns, t_there, u_there}
+use Rattle.temporal_lang.specs.Accepted.{fault_of_query}
+use Rattle.temporal_lang.proofs.WorkedWords.{a, b, x, y, s, t, u, int, text, at_atom, ab_columns, t_there, u_there}
 
 -- AT 1 EVOLVE CREATE TABLE t (a INT, b TEXT); AT 5 INSERT INTO t (a, b) VALUES (1, 'x');
 -- AT 7 UPDATE t SET b = 'y' WHERE a = 1; AT 9 EVOLVE RENAME TABLE t INTO u INVERSE RENAME TABLE u INTO t;
@@ -226,7 +226,8 @@ answer_is = ap (λ ss. kept [] (listing_of row_cmp ss)) stages_are
 
 -- ---- QUERY VERSION 9, of which there is none, and a query on version 2: SELECT a FROM u
 
-no_such_version : version_fault past_9 9 ≡ Some (NoVersion 9 2)
+-- the version comes before the names: no version has a table with the name s
+no_such_version : fault_of_query past_9 (a_query 9 (record { outs = at_atom 0 a ∷ []; from = (s, s) ∷ []; cond = always } ∷ []) Always []) ≡ Some (NoVersion 9 2)
 no_such_version = refl
 
 abbrev select_a : PlainBranch

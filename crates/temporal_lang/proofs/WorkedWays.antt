@@ -1,4 +1,4 @@
--- Worked rows: two tables that are merged and parted again, and a table that is dropped for good.
+-- Worked rows: two tables that are merged and parted again, a table that is renamed twice, and one that is dropped for good.
 use Rattle.std.specs.Prelude.{◌≡◌, ℕ, zero, suc, ◌+◌, ◌<◌, List, [], ◌∷◌, not, Option, Some, None}
 use Rattle.std.proofs.Common.{refl, ap, ◌∙◌, arith}
 use Rattle.std.specs.List.{filter}
@@ -15,7 +15,7 @@ use Rattle.cond_expr.specs.declared.exprs.CmpOp.TheVariants.{Lt}
 use Rattle.cond_expr.specs.Trees.{Test, constant, always, compared}
 use Rattle.prima_base.specs.declared.refusals.OpKind.TheVariants.{DropTable}
 use Rattle.prima_base.specs.declared.refusals.Refusal.TheVariants.{NoInverse}
-use Rattle.smo_ops.specs.Operators.{create_table, drop_table, merge_table, partition_table}
+use Rattle.smo_ops.specs.Operators.{create_table, drop_table, rename_table, merge_table, partition_table}
 use Rattle.smo_ops.specs.Commands.{PlainVersion}
 use Rattle.smo_ops.specs.OneRow.{Row, Relation, meets}
 use Rattle.smo_ops.specs.Making.{from_one, from_two, union}
@@ -28,7 +28,7 @@ use Rattle.temporal_lang.specs.Queries.{PlainQuery, a_query}
 use Rattle.temporal_lang.specs.Losing.{loss_at, first_lost}
 use Rattle.temporal_lang.specs.Accepted.{no_way_back}
 use Rattle.temporal_lang.proofs.FirstLaws.{first_is, first_none}
-use Rattle.temporal_lang.proofs.WorkedWords.{a, r, s, t, int, at_atom, a_columns, t_there, s_there, r_there, r_under_s}
+use Rattle.temporal_lang.proofs.WorkedWords.{a, r, s, t, u, int, at_atom, a_columns, t_there, s_there, u_there, r_there, r_under_s}
 
 abbrev row : ℕ → Row
 row n = int n ∷ []
@@ -86,18 +86,43 @@ s_back db h =
     s_there (insert (remove db t) r (low_of (columns_of merged t) (get db t))) (high_of (columns_of merged t) (get db t))
     ∙ ap (λ cs. Some (high_of cs (get db t))) merged_columns ∙ ap (λ e. Some (high_of a_columns e)) h
 
--- ---- AT 1 EVOLVE CREATE TABLE t (a INT); AT 4 EVOLVE DROP TABLE t; AT 6 EVOLVE CREATE TABLE t (a INT)
+-- ---- t is renamed to u with an inverse of two operators, RENAME TABLE u INTO s THEN RENAME TABLE s INTO t; and then to r
 
 abbrev with_t : Tables
 with_t = insert no_tables t a_columns
+
+abbrev u_tables : Tables
+u_tables = behind with_t (rename_table t u)
+
+abbrev renames : List PlainVersion
+renames = record { stamp = 1; op = create_table t a_columns; inverse = []; tables = with_t }
+    ∷ record { stamp = 2; op = rename_table t u; inverse = rename_table u s ∷ rename_table s t ∷ []; tables = u_tables }
+    ∷ record { stamp = 3; op = rename_table u r; inverse = rename_table r u ∷ []; tables = behind u_tables (rename_table u r) } ∷ []
+
+abbrev same_rows : Option Entry → Entry
+same_rows entry = from_one (λ rows. rows) entry
+
+-- the operators of an inverse are gone back over first to last
+first_to_last : (db : Database) (rows : Relation) → get db u ≡ Some (Rows rows) → get (migrated_from renames 2 1 db) t ≡ Some (Rows rows)
+first_to_last db rows h =
+    t_there (remove (insert (remove db u) s (same_rows (get db u))) s) (same_rows (get (insert (remove db u) s (same_rows (get db u))) s))
+    ∙ ap (λ e. Some (same_rows e)) (s_there (remove db u) (same_rows (get db u))) ∙ ap (λ e. Some (same_rows (Some (same_rows e)))) h
+
+-- and the versions last to first
+last_to_first : (db : Database) (rows : Relation) → get db r ≡ Some (Rows rows) → get (migrated_from renames 3 1 db) t ≡ Some (Rows rows)
+last_to_first db rows h =
+    first_to_last (insert (remove db r) u (same_rows (get db r))) rows (u_there (remove db r) (same_rows (get db r)) ∙ ap (λ e. Some (same_rows e)) h)
+
+-- ---- AT 1 EVOLVE CREATE TABLE t (a INT); AT 4 EVOLVE DROP TABLE t; AT 6 EVOLVE CREATE TABLE t (a INT). Losses look at versions
+-- alone, so the past has no more states than its first.
 
 abbrev dropped : Past
 dropped = record {
   versions = record { stamp = 1; op = create_table t a_columns; inverse = []; tables = with_t }
       ∷ record { stamp = 4; op = drop_table t; inverse = []; tables = remove with_t t }
       ∷ record { stamp = 6; op = create_table t a_columns; inverse = []; tables = insert (remove with_t t) t a_columns } ∷ [];
-  last = Some 7;
-  commands = 5;
+  last = Some 6;
+  commands = 3;
   states = a_state 0 no_database ∷ [];
 }
 

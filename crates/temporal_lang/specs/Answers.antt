@@ -12,11 +12,12 @@ use Rattle.smo_ops.specs.OneRow.{Row, Relation}
 use Rattle.smo_ops.specs.Past.{State, Past, tables_of}
 use Rattle.smo_ops.specs.Migration.{migrated}
 use Rattle.temporal_lang.specs.Queries.{PlainQuery, slice_of}
+use Rattle.temporal_lang.specs.Atoms.{branches_with_atoms}
 use Rattle.temporal_lang.specs.Meaning.{plain}
 
--- what is asked of a moment
+-- what is asked of a moment; each reference, as it is written, is to an atom of its branch
 abbrev pub asked_at : Past → PlainQuery → ℕ → Relation
-asked_at past query m = plain (tables_of past query.version) query.branches (migrated past m query.version)
+asked_at past query m = plain (tables_of past query.version) (branches_with_atoms (tables_of past query.version) query.branches) (migrated past m query.version)
 
 -- the row holds at the moment
 abbrev pub Holds : Past → PlainQuery → Row → ℕ → Type 0

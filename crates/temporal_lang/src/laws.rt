@@ -7,13 +7,17 @@ ghost use Rattle.smo_ops.specs.LawfulPast.{AreStates, EachStarts};
 ghost use Rattle.smo_ops.specs.Migration.{Loss};
 ghost use Rattle.temporal_lang.specs.Losing.{loss_at, first_lost};
 ghost use Rattle.temporal_lang.specs.Queries.{PlainQuery, slice_of, IsLasting};
-ghost use Rattle.temporal_lang.specs.Answers.{IsListingOf, listing};
+ghost use Rattle.prima_base.specs.Keeping.{kept};
+ghost use Rattle.temporal_lang.specs.Answers.{IsListingOf, listing, answer};
 
 /// The listing that is made stage by stage is the list of what a query asks of each moment of its slice, and at most one
-/// list is: over a past whose states ascend from moment 0 and begin with each version.
+/// list is: over a past whose states ascend from moment 0 and begin with each version. The answer is what of that list
+/// meets every condition of KEEP.
 pub fn listing_is_the_one_list()
     ensures is { (past : Past) → (query : PlainQuery) → AreStates past.states → EachStarts past.states past.versions → IsLasting query.when
         → (slice_of query.when).end ≤ forever → IsListingOf past query (listing past query) }
+    ensures answer { (past : Past) → (query : PlainQuery) → (entries : List (Entry Row)) → AreStates past.states → EachStarts past.states past.versions → IsLasting query.when
+        → (slice_of query.when).end ≤ forever → IsListingOf past query entries → answer past query ≡ kept query.keep entries }
     ensures one { (past : Past) → (query : PlainQuery) → (a : List (Entry Row)) → (b : List (Entry Row)) → IsListingOf past query a → IsListingOf past query b → a ≡ b }
 {}
 
