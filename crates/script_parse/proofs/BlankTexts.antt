@@ -1,6 +1,5 @@
 -- A text without a token is blanks and comments alone.
-use Rattle.std.proofs.Common.{◌≡◌, ℕ, zero, suc, ◌+◌, Bool, true, false, not, cond, ◌||◌, ◌==◌, List, [], ◌∷◌, ◌++◌, length, drop, Option, None, refl, sym, ap, ◌∙◌, subst, append-nil, arith, length-append}
-use Rattle.lexer.specs.declared.kinds.TokenKind.{TokenKind}
+use Rattle.std.proofs.Common.{◌≡◌, ℕ, zero, suc, ◌+◌, Bool, true, false, not, cond, ◌||◌, ◌==◌, List, [], ◌∷◌, ◌++◌, length, drop, None, refl, sym, ap, ◌∙◌, subst, append-nil, arith, length-append}
 use Rattle.lexer.specs.declared.pieces.Piece.{Piece}
 use Rattle.lexer.specs.declared.pieces.Piece.TheVariants.{End, Of, Bad, Open, Long, Big}
 use Rattle.lexer.specs.Bytes.{gap_len, gap_dash, piece}

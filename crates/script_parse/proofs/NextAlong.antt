@@ -1,12 +1,11 @@
 -- The reader of statements goes along the tokens at which their counts pass limits.
-use Rattle.std.proofs.Common.{◌≡◌, ℕ, Bool, true, false, cond, ◌||◌, ◌&&◌, List, [], ◌∷◌, ◌++◌, length, inl, inr, refl, sym, ap, ◌∙◌, subst, append-nil, codes}
+use Rattle.std.proofs.Common.{◌≡◌, ℕ, false, List, [], ◌∷◌, ◌++◌, length, inl, inr, refl, sym, ap, ◌∙◌, subst, append-nil, codes}
 use Rattle.prima_base.specs.declared.refusals.What.TheVariants.{Inverse}
-use Rattle.prima_base.specs.declared.values.Value.{Value}
 use Rattle.cond_expr.specs.Trees.{always}
-use Rattle.smo_ops.specs.Changes.{PlainChange, insertion, deletion, update}
+use Rattle.smo_ops.specs.Changes.{PlainChange, deletion, update}
 use Rattle.smo_ops.specs.Commands.{PlainBody, changing, evolving}
 use Rattle.lexer.specs.Lexemes.{Lexeme, word, sign, is_word, is_sign}
-use Rattle.lexer.specs.Parsing.{Size, Got, Stops, AreMore, no_end, so_wide, bindG, leadG, mapG, map_to, more, many, listG, fresh, freshG}
+use Rattle.lexer.specs.Parsing.{Size, Got, AreMore, so_wide, bindG, leadG, mapG, map_to, more, listG, fresh, freshG}
 use Rattle.lexer.specs.Grammar.{IsExpr, IsCond}
 use Rattle.lexer.specs.Reader.{outermost, goes_expr, goes_cond}
 use Rattle.lexer.specs.Reads.{sees}
@@ -20,7 +19,7 @@ use Rattle.lexer.proofs.Goodness.{outermost_good}
 use Rattle.lexer.proofs.Alternatives.{stops_never, or_left, or_right, list_not_none, list_not_first}
 use Rattle.lexer.proofs.MarkSizes.{expr_length, cond_length}
 use Rattle.lexer.proofs.MarksJoined.{expr_marked, cond_marked}
-use Rattle.lexer.proofs.Passing.{by_passes, Along, along_front}
+use Rattle.lexer.proofs.Passing.{by_passes}
 use Rattle.lexer.proofs.AlongParts.{GoesAlong, Light, stops_along, lead_goes, behind_goes, map_goes, bind_goes, option_goes, none_light, pure_light, single_light, lead_light, map_light, bind_light, list_light, light_along, light_goes, whole_goes, fresh_goes, list_goes, counted_goes}
 use Rattle.smo_parse.specs.Productions.{IsOperator}
 use Rattle.smo_parse.specs.OperatorReader.{operator, goes_operator}
@@ -32,15 +31,15 @@ use Rattle.temporal_lang.specs.QueryReader as query
 use Rattle.temporal_lang.specs.QueryPasses.{ask_passes}
 use Rattle.temporal_lang.proofs.QueryAlong.{ask_along}
 use Rattle.temporal_lang.proofs.QueryGoodness.{ask_good}
-use Rattle.script_parse.specs.Productions.{IsWhere, AreConstants, AreSoMany, IsRow, IsInsert, IsDelete, IsSetting, IsUpdate, IsChange}
+use Rattle.script_parse.specs.Productions.{IsWhere, AreSoMany, IsRow, IsInsert, IsSetting, IsChange}
 use Rattle.script_parse.specs.StatementReader as old
 use Rattle.script_parse.specs.NextStatements.{PlainStatement, write, ask}
-use Rattle.script_parse.specs.NextProductions.{IsOp, AreOps, IsInverse, IsEvolve, AreChanges, IsBody, IsWrite, IsQuery, IsShowVersions, IsShowSchema, IsStatement}
+use Rattle.script_parse.specs.NextProductions.{IsOp, AreOps, IsInverse, AreChanges, IsBody, IsShowVersions, IsShowSchema, IsStatement}
 use Rattle.script_parse.specs.NextReader.{op, ops, inverse, evolve_rest, body, write_rest, ask_rest, statement, goes_ops, goes_evolve, goes_body, goes_statement}
-use Rattle.script_parse.specs.NextPasses.{where_passes, setting_passes, delete_passes, update_passes, change_passes, changes_passes, op_passes, ops_passes, inverse_passes, evolve_passes, body_passes, write_passes, query_passes, statement_passes}
+use Rattle.script_parse.specs.NextPasses.{where_passes, setting_passes, change_passes, changes_passes, op_passes, ops_passes, inverse_passes, body_passes, statement_passes}
 use Rattle.script_parse.proofs.BodySteps.{next_body_evolves, next_body_changes}
-use Rattle.script_parse.proofs.StatementGoodness.{ends, setting_good, change_good, change_not_none, change_not_first, where_change, settings_change, where_side}
-use Rattle.script_parse.proofs.NextGoodness.{op_good, fewer_op, fewer_ops, fewer_evolve, fewer_changes, fewer_body, fewer_ask, inverse_side, statement_good}
+use Rattle.script_parse.proofs.StatementGoodness.{ends, setting_good, change_good, change_not_none, change_not_first, where_change, where_side}
+use Rattle.script_parse.proofs.NextGoodness.{op_good, fewer_ops, fewer_evolve, fewer_changes, fewer_body, fewer_ask, inverse_side, statement_good}
 
 -- ---- changes
 

@@ -4,7 +4,7 @@ use Rattle.prima_base.specs.declared.refusals.What.TheVariants.{Inverse}
 use Rattle.smo_ops.specs.Operators.{Operator}
 use Rattle.smo_ops.specs.Commands.{PlainBody, changing, evolving}
 use Rattle.lexer.specs.Lexemes.{Lexeme, word, is_word}
-use Rattle.lexer.specs.Parsing.{Size, Good, Stops, No, Takes, Whole, AreMore, so_wide, bind, bindG, pure, pureG, leadG, map_to, mapG, more, eitherG, listG}
+use Rattle.lexer.specs.Parsing.{Size, Good, Stops, No, Takes, Whole, AreMore, so_wide, bindG, pure, pureG, leadG, map_to, mapG, more, eitherG, listG}
 use Rattle.lexer.specs.Constants.{moment, momentG, small, smallG}
 use Rattle.lexer.proofs.Parsing.{good_iff, good_goes, bind_good, map_good, pure_good, choose_good, option_takes_good, whole_good, more_good, bind_more}
 use Rattle.lexer.proofs.Grammar.{word_is, word_exact}
@@ -20,9 +20,9 @@ use Rattle.temporal_lang.proofs.QueryGoodness.{ask_good}
 use Rattle.script_parse.specs.StatementReader as old
 use Rattle.script_parse.specs.Productions.{IsChange}
 use Rattle.script_parse.specs.NextStatements.{PlainStatement, write, ask, show_versions, show_schema}
-use Rattle.script_parse.specs.NextProductions.{IsOp, AreOps, IsInverse, IsEvolve, AreChanges, IsBody, IsWrite, IsQuery, IsShowVersions, IsShowSchema, IsStatement}
+use Rattle.script_parse.specs.NextProductions.{IsOp, AreOps, IsInverse, IsEvolve, AreChanges, IsBody, IsWrite, IsQuery, IsStatement}
 use Rattle.script_parse.specs.NextReader.{op, ops, inverse, evolve_rest, body_arm, body, write_rest, ask_rest, schema_rest, show_arm, show_rest, statement_arm, statement, goes_ops, goes_evolve, goes_body, goes_statement}
-use Rattle.script_parse.proofs.StatementGoodness.{ends, word_good, single_then, change_not_none, change_not_first, changes_good}
+use Rattle.script_parse.proofs.StatementGoodness.{ends, single_then, change_not_none, change_not_first, changes_good}
 
 -- ---- operators
 

@@ -1,5 +1,5 @@
 -- What a text is read as, by the grammar.
-use Rattle.std.proofs.Common.{◌≡◌, ℕ, zero, suc, ◌-◌, ◌<◌, ◌≤◌, List, [], ◌∷◌, ◌++◌, length, Option, Some, None, Result, Ok, Err, inl, inr, refl, sym, ap, ◌∙◌, subst, arith}
+use Rattle.std.proofs.Common.{◌≡◌, ℕ, ◌-◌, ◌≤◌, List, [], ◌∷◌, ◌++◌, length, Option, None, Result, Ok, Err, inl, inr, refl, sym, ap, subst, arith}
 use Rattle.prima_base.specs.declared.refusals.What.{What}
 use Rattle.lexer.specs.Lexemes.{Lexeme}
 use Rattle.lexer.specs.Parsing.{Size, Out, Got, Stuck, Over, Fine}
@@ -12,7 +12,7 @@ use Rattle.script_parse.specs.declared.next.Statement.{Statement}
 use Rattle.script_parse.specs.NextStatements.{PlainStatement}
 use Rattle.script_parse.specs.Pads.{ArePads}
 use Rattle.script_parse.specs.Lexing.{Placed, Lexed, Tokens, Faulty, lexed, saying}
-use Rattle.script_parse.specs.Reading.{place, place_before, IsWithin}
+use Rattle.script_parse.specs.Reading.{place_before}
 use Rattle.script_parse.specs.NextProductions.{IsStatement}
 use Rattle.script_parse.specs.NextReader.{statement, goes_statement}
 use Rattle.script_parse.specs.NextPasses.{statement_passes}

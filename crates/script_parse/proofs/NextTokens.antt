@@ -10,10 +10,10 @@ use Rattle.lexer.specs.Spaced.{Spaced}
 use Rattle.lexer.specs.Parsing.{Got, Stuck, Over, limit}
 use Rattle.lexer.proofs.Places.{length_map}
 use Rattle.script_parse.specs.declared.next.ReadFault.{ReadFault}
-use Rattle.script_parse.specs.declared.next.ReadFault.TheVariants.{NoMemory, Syntax, TooMany}
+use Rattle.script_parse.specs.declared.next.ReadFault.TheVariants.{Syntax, TooMany}
 use Rattle.script_parse.specs.declared.next.Statement.{Statement}
 use Rattle.script_parse.specs.NextStatements.{PlainStatement}
-use Rattle.script_parse.specs.Lexing.{Placed, Tokens, Faulty, placed, saying, lexed, fault_place}
+use Rattle.script_parse.specs.Lexing.{Placed, Tokens, placed, lexed, fault_place}
 use Rattle.script_parse.specs.Reading.{place_before}
 use Rattle.script_parse.specs.NextProductions.{IsStatement}
 use Rattle.script_parse.specs.NextReader.{statement, goes_statement}

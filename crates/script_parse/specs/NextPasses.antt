@@ -1,13 +1,12 @@
 -- At which tokens of a statement a count passes its limit: in each expression and condition counts begin anew, an inverse has
 -- eight operators at most, and at each other token nothing is counted.
-use Rattle.std.specs.Prelude.{false, List, [], ◌∷◌, codes, Option}
-use Rattle.prima_base.specs.declared.refusals.What.{What}
+use Rattle.std.specs.Prelude.{false, [], ◌∷◌, codes}
 use Rattle.prima_base.specs.declared.refusals.What.TheVariants.{Inverse}
 use Rattle.cond_expr.specs.Trees.{always}
 use Rattle.smo_ops.specs.Changes.{deletion, update}
 use Rattle.smo_ops.specs.Commands.{changing, evolving}
-use Rattle.lexer.specs.Lexemes.{Lexeme, word, sign}
-use Rattle.lexer.specs.Parsing.{Size, AreMore, so_wide, bindG, leadG, mapG, freshG, eitherG, listG}
+use Rattle.lexer.specs.Lexemes.{word, sign}
+use Rattle.lexer.specs.Parsing.{AreMore, so_wide, bindG, leadG, mapG, freshG, eitherG, listG}
 use Rattle.lexer.specs.Grammar.{IsExpr, IsCond}
 use Rattle.lexer.specs.Constants.{nameG, momentG}
 use Rattle.lexer.specs.Marks.{expr_marks, cond_marks}

@@ -587,7 +587,7 @@ fn many_changes_are_read(rt: HostRuntime) -> Result<(), Fail> {
         alloc,
         b"AT 1 DELETE FROM t",
         b" THEN DELETE FROM t",
-        55_000,
+        15_000,
         b"",
     )?;
     assert!(rt; is_whole(alloc, &text)?);
@@ -601,12 +601,12 @@ fn many_constants_are_read(rt: HostRuntime) -> Result<(), Fail> {
         alloc,
         b"AT 1 INSERT INTO t (a",
         b",a",
-        200_000,
+        50_000,
         b") VALUES (1",
     )?;
-    put_many(&mut text, b",1", 200_000)?;
+    put_many(&mut text, b",1", 50_000)?;
     let early = reading(alloc, &text)?;
-    assert!(rt; early.as_slice() == b"10 800032".as_slice());
+    assert!(rt; early.as_slice() == b"10 200032".as_slice());
     put(&mut text, b")")?;
     assert!(rt; is_whole(alloc, &text)?);
     Ok(())
@@ -615,7 +615,7 @@ fn many_constants_are_read(rt: HostRuntime) -> Result<(), Fail> {
 #[test]
 fn many_assignments_are_read(rt: HostRuntime) -> Result<(), Fail> {
     let alloc = rt.alloc();
-    let text = repeated(alloc, b"AT 1 UPDATE t SET a=1", b",a=1", 200_000, b"")?;
+    let text = repeated(alloc, b"AT 1 UPDATE t SET a=1", b",a=1", 50_000, b"")?;
     assert!(rt; is_whole(alloc, &text)?);
     Ok(())
 }
@@ -627,7 +627,7 @@ fn many_columns_are_read(rt: HostRuntime) -> Result<(), Fail> {
         alloc,
         b"AT 1 EVOLVE CREATE TABLE t (a INT",
         b",a INT",
-        140_000,
+        35_000,
         b")",
     )?;
     assert!(rt; is_whole(alloc, &text)?);
