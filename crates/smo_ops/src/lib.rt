@@ -30,8 +30,8 @@ mod inverses_tests;
 mod joining;
 mod laws;
 mod making;
-mod name_lists;
 mod migrations;
+mod name_lists;
 mod names;
 #[cfg(test)]
 mod op_makers;
