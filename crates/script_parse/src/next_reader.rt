@@ -4,7 +4,7 @@ ghost use Rattle.std.specs.Prelude.{◌≡◌, ◌≤◌, ◌<◌, ◌++◌, ◌
 ghost use Rattle.smo_ops.specs.Commands.{body_of};
 ghost use Rattle.prima_base.specs.declared.refusals.What.{What as Counted};
 ghost use Rattle.lexer.specs.Lexemes.{Lexeme};
-ghost use Rattle.lexer.specs.Parsing.{Size, limit};
+ghost use Rattle.lexer.specs.Parsing.{Size};
 ghost use Rattle.lexer.specs.Passes.{IsFirstPass};
 ghost use Rattle.lexer.specs.Reads.{Reads, ahead};
 ghost use Rattle.script_parse.specs.declared.next.ReadFault.TheVariants as fault;
@@ -20,8 +20,8 @@ ghost use Rattle.script_parse.specs.NextReader as spec;
 use crate::change_reader::changes;
 use crate::inverse_reader::evolve_rest;
 use crate::next::{ReadFault, Statement};
+use crate::statement_reader::limit_of;
 use lexer::{Cursor, LexFault, Stop, Token, moment, small, tokens};
-use prima_base::What;
 use smo_ops::{Body, Command};
 use std::alloc::Global;
 use temporal_lang::ask;
@@ -105,19 +105,6 @@ fn statement(alloc: Global, c: &mut Cursor<'_, '_>) -> Result<Statement, Stop>
         return show_rest(c);
     }
     Err(Stop::Stuck)
-}
-
-// The most of each kind that may be counted.
-fn limit_of(what: What) -> u64
-    ensures { result ≡ limit what }
-{
-    match what {
-        What::Nodes => 256,
-        What::Depth | What::Outputs => 32,
-        What::Parts | What::Tables | What::Keeps | What::Inverse => 8,
-        What::Branches => 16,
-        What::Changes | What::Columns | What::Versions => 0,
-    }
 }
 
 // The place of the token before which so many are left, or the text's end where none is.

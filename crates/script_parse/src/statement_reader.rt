@@ -79,8 +79,8 @@ fn statement(alloc: Global, c: &mut Cursor<'_, '_>) -> Result<Statement, Stop>
     Err(Stop::Stuck)
 }
 
-// The most of each kind that may be counted.
-fn limit_of(what: What) -> u64
+/// The most of each kind that may be counted.
+pub(crate) fn limit_of(what: What) -> u64
     ensures { result ≡ limit what }
 {
     match what {
