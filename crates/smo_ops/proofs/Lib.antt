@@ -44,3 +44,4 @@ pub mod DecomposedTables
 pub mod ColumnsByName
 pub mod LossLaws
 pub mod LossesByName
+pub mod VersionsInTurn

@@ -15,9 +15,9 @@ use Rattle.smo_ops.specs.First.{unless, first_refusal}
 use Rattle.smo_ops.specs.Effects.{after_each, gained, lost}
 use Rattle.smo_ops.specs.After.{op_fault, behind, carried, IsLawful}
 use Rattle.smo_ops.specs.Past.{State, Past, no_tables, no_database, beginning, newest_from, newest_tables, database_from, database_at, latest_from, newest_database, from_stamp, next_version, past_with, database_behind}
-use Rattle.smo_ops.specs.LawfulPast.{AreStates, AllUpTo, AreDistinct, EachStarts, last_or_nought, IsPast, IsOfToday}
+use Rattle.smo_ops.specs.LawfulPast.{AreStates, AllUpTo, AreDistinct, EachStarts, last_or_nought, IsPast}
 use Rattle.smo_ops.specs.Counts.{first_excess}
-use Rattle.smo_ops.specs.Inverses.{inverse_tests}
+use Rattle.smo_ops.specs.Inverses.{inverse_tests, inverse_fault}
 use Rattle.smo_ops.specs.Accepts.{refusal_of, count_fault, stamp_fault, most_versions, body_tests, command_fault}
 use Rattle.smo_ops.proofs.Firsts.{none_of_first, none_mapped, met}
 use Rattle.smo_ops.proofs.DatabaseLaws.{changes_keep}
@@ -26,6 +26,7 @@ use Rattle.smo_ops.proofs.CarriedDatabases.{carried_database}
 use Rattle.smo_ops.proofs.CountingLaws.{self_gains_nothing}
 use Rattle.smo_ops.proofs.SameDatabases.{same_database}
 use Rattle.smo_ops.proofs.PastLaws.{earlier_states, later_states, newest_holds, latest_is, still_states, ends_at, up_to_later, newest_added, in_force_later, in_force_added}
+use Rattle.smo_ops.proofs.VersionsInTurn.{versions_with}
 use Rattle.smo_ops.proofs.DistinctStates.{same_states, distinct_still, begins_last, still_distinct, each_still_starts, each_starts_with}
 
 no_table : (n : List ℕ) → ◌≡◌ {A = Option (List Column)} (get (empty {R = bytes_cmp}) n) None
@@ -43,6 +44,8 @@ beginning_is_past = record {
   };
   database = λ n. rw (no_table n, no_entry n) tt;
   versions = tt;
+  evolved = tt;
+  without = λ e. refl;
   distinct = tt;
   begun = tt;
   states = (refl, tt);
@@ -67,6 +70,12 @@ module _ (past : Past) (command : PlainCommand) (accepted : command_fault past c
 
   pub body_accepted : first_refusal (body_tests past command.body) ≡ None
   body_accepted = parts.1
+
+inverse_accepted : (past : Past) (op : Operator) (inverse : List Operator) → first_refusal (body_tests past (evolving op inverse)) ≡ None → inverse_fault (newest_tables past) op inverse ≡ None
+inverse_accepted past op inverse e =
+    let rest = none_of_first (unless (nat_lt (length past.versions) most_versions) (TooMany Versions most_versions))
+    (option_map refusal_of (op_fault (newest_tables past) op) ∷ inverse_tests (newest_tables past) op inverse) e in
+    (none_of_first (option_map refusal_of (op_fault (newest_tables past) op)) (inverse_tests (newest_tables past) op inverse) rest.1).1
 
 operator_accepted : (past : Past) (op : Operator) (inverse : List Operator) → first_refusal (body_tests past (evolving op inverse)) ≡ None → op_fault (newest_tables past) op ≡ None
 operator_accepted past op inverse e =
@@ -117,6 +126,8 @@ stays_lawful past stamp (changing changes) h f e =
       database = if_database (newest_tables past) same stamp new past.states h.database
           (changes_keep (newest_tables past) (newest_database past) changes 0 h.tables.schema h.database e);
       versions = in_force_later (last_or_nought past.last) stamp past.versions l h.versions;
+      evolved = h.evolved;
+      without = λ q. absurd (cc);
       states = if_states same stamp new past.states h.states;
       distinct = if_distinct past.versions same stamp new past.states h.distinct
           (λ q. still_distinct past.last stamp new past.states h.states h.ended f past.versions h.distinct (inl (changed_is_other (newest_database past) new q)));
@@ -134,16 +145,14 @@ stays_lawful past stamp (evolving op inverse) h f e =
       database = subst (λ (t : Tables). IsDatabase t (latest_from no_database (from_stamp stamp new past.states))) (sym tables)
           (subst (IsDatabase (behind (newest_tables past) op)) (sym (latest_is stamp new no_database past.states)) (carried_database (newest_tables past) op (newest_database past) h.tables.schema accepted h.database));
       versions = in_force_added stamp past.versions (next_version stamp op inverse past) (in_force_later (last_or_nought past.last) stamp past.versions l h.versions) (omega arith);
+      evolved = versions_with no_tables past.versions past.last version h.without h.versions h.evolved f accepted (inverse_accepted past op inverse e) refl;
+      without = λ q. absurd (cc);
       states = still_states stamp new past.states h.states;
       distinct = still_distinct past.last stamp new past.states h.states h.ended f (past.versions ++ version ∷ []) (distinct_still past.versions version past.states h.distinct)
           (inr (begins_last past.versions version));
       begun = each_starts_with past.last stamp new past.states h.states h.ended f past.versions version refl h.begun;
       ended = ends_at stamp new past.states;
     }
-
-pub stays_past : (past : Past) (stamp : ℕ) (body : PlainBody) → IsPast past → stamp_fault past.last stamp ≡ None → first_refusal (body_tests past body) ≡ None → IsOfToday body
-    → IsPast (past_with past (record { stamp = stamp; body = body }))
-stays_past past stamp body h f e today = stays_lawful past stamp body h f e
 
 -- earlier moments
 pub before_command : (past : Past) (stamp : ℕ) (body : PlainBody) (m : ℕ) → m < stamp

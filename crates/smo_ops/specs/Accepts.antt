@@ -35,9 +35,9 @@ abbrev pub stamp_fault : Option ℕ → ℕ → Fault
 stamp_fault None stamp = None
 stamp_fault (Some last) stamp = unless (nat_lt last stamp) (StampNotLater stamp last)
 
--- the most versions after version 0: rows cannot be carried to further ones yet
+-- the most versions after version 0
 abbrev pub most_versions : ℕ
-most_versions = 1
+most_versions = 512
 
 abbrev pub body_tests : Past → PlainBody → List Fault
 body_tests past (changing changes) = changes_tests (newest_tables past) changes 0

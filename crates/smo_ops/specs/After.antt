@@ -63,8 +63,3 @@ HasFewNodes (rename_column b r c) = ⊤
 abbrev pub HaveFewNodes : List Operator → Type 0
 HaveFewNodes [] = ⊤
 HaveFewNodes (op ∷ ops) = HasFewNodes op × HaveFewNodes ops
-
--- the operators that the program takes today
-abbrev pub IsCreateTable : Operator → Type 0
-IsCreateTable (create_table r cs) = ⊤
-IsCreateTable _ = ⊥

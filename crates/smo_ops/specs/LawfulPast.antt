@@ -1,9 +1,11 @@
 -- What holds of each past that accepted commands make.
 use Rattle.std.specs.Prelude.{◌≡◌, ◌≤◌, ◌<◌, ◌⊎◌, ℕ, List, [], ◌∷◌, Option, Some, None, ⊤}
 use Rattle.schema_catalog.specs.Databases.{Database, IsDatabase}
-use Rattle.smo_ops.specs.Commands.{PlainBody, changing, evolving, PlainVersion}
-use Rattle.smo_ops.specs.After.{IsLawful, IsCreateTable}
-use Rattle.smo_ops.specs.Past.{State, Past, newest_tables, newest_database}
+use Rattle.smo_ops.specs.Commands.{PlainVersion}
+use Rattle.schema_catalog.specs.Tables.{Tables}
+use Rattle.smo_ops.specs.After.{op_fault, behind, IsLawful}
+use Rattle.smo_ops.specs.Inverses.{inverse_fault}
+use Rattle.smo_ops.specs.Past.{State, Past, no_tables, newest_tables, newest_database}
 
 -- each state begins above the one before
 abbrev pub Rise : ℕ → List State → Type 0
@@ -55,16 +57,31 @@ abbrev pub last_or_nought : Option ℕ → ℕ
 last_or_nought None = 0
 last_or_nought (Some last) = last
 
+-- the moment is later than the last stamp
+abbrev pub IsLater : Option ℕ → ℕ → Type 0
+IsLater None moment = ⊤
+IsLater (Some last) moment = last < moment
+
+-- a version that is accepted behind the tables `before`: its stamp is later than the last version's, its operator and its
+-- inverse are not refused, and its tables are those behind the operator
+pub record IsVersion (last : Option ℕ) (before : Tables) (v : PlainVersion) : Type 0 where
+  pub later : IsLater last v.stamp
+  pub accepted : op_fault before v.op ≡ None
+  pub inverse : inverse_fault before v.op v.inverse ≡ None
+  pub tables : v.tables ≡ behind before v.op
+
+-- each version is accepted behind the one before
+abbrev pub AreVersions : Option ℕ → Tables → List PlainVersion → Type 0
+AreVersions last before [] = ⊤
+AreVersions last before (v ∷ versions) = IsVersion last before v × AreVersions (Some v.stamp) v.tables versions
+
 pub record IsPast (past : Past) : Type 0 where
   pub tables : IsLawful (newest_tables past)
   pub database : IsDatabase (newest_tables past) (newest_database past)
   pub versions : AllInForce (last_or_nought past.last) past.versions
+  pub evolved : AreVersions None no_tables past.versions
+  pub without : past.last ≡ None → past.versions ≡ []
   pub states : AreStates past.states
   pub distinct : AreDistinct past.versions past.states
   pub begun : EachStarts past.states past.versions
   pub ended : AllUpTo (last_or_nought past.last) past.states
-
--- changes, or the one operator of which `after` answers today
-abbrev pub IsOfToday : PlainBody → Type 0
-IsOfToday (changing changes) = ⊤
-IsOfToday (evolving op inverse) = IsCreateTable op

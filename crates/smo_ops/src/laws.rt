@@ -87,6 +87,7 @@ pub fn no_gain_and_no_loss_is_no_change()
 /// A past that accepted commands have made is lawful: its newest database is one of its newest schema, its states
 /// ascend from moment 0, and neither a state nor a version begins behind the last stamp. A state begins with each version,
 /// and else only where the database changes.
+/// Each version has evolved from the one before, by an operator and an inverse that are not refused there.
 pub fn commands_make_lawful_pasts()
     ensures beginning { IsPast beginning }
     ensures step { (past : Past) → (command : PlainCommand) → IsPast past → command_fault past command ≡ None
