@@ -1,0 +1,42 @@
+-- What an archive answers to a command.
+use Rattle.std.specs.Prelude.{◌≡◌, ℕ, length, Option, Some, None, Result, Ok, Err, ⊤}
+use Rattle.smo_ops.specs.Commands.{PlainBody, changing, evolving, PlainCommand}
+use Rattle.smo_ops.specs.Checks.{Fault}
+use Rattle.smo_ops.specs.Accepts.{command_fault}
+use Rattle.smo_ops.specs.Past.{Past, past_with}
+use Rattle.version_groups.specs.Room.{IsSame}
+use Rattle.version_groups.specs.Steps.{rows_gained, rows_lost}
+use Rattle.archive_core.specs.declared.archives.Done.{Done}
+use Rattle.archive_core.specs.declared.faults.CommitFault.{CommitFault}
+use Rattle.archive_core.specs.declared.faults.CommitFault.TheVariants.{Refused, NoMemory}
+use Rattle.archive_core.specs.Standing.{Standing, ShowsPast}
+
+-- what a test answers: it is met, or this is its refusal
+abbrev pub IsJudged : {A : Type 0} → Fault → Result A CommitFault → Type 0
+IsJudged fault (Ok a) = fault ≡ None
+IsJudged fault (Err (Refused r)) = fault ≡ Some r
+IsJudged fault (Err NoMemory) = ⊤
+
+-- the newest version, where the command made it
+abbrev pub version_made : PlainBody → ℕ → Option ℕ
+version_made (changing changes) newest = None
+version_made (evolving op inverse) newest = Some newest
+
+-- what an accepted command did behind the past
+pub record IsDone (past : Past) (command : PlainCommand) (done : Done) : Type 0 where
+  pub stamp : done.stamp ≡ command.stamp
+  pub gained : done.gained ≡ rows_gained past command.body
+  pub lost : done.lost ≡ rows_lost past command.body
+  pub version : done.version ≡ version_made command.body (length (past_with past command).versions)
+
+-- the archive is as it was, but for room that was made
+pub record IsAsBefore (old new : Standing) : Type 0 where
+  pub groups : IsSame old.groups new.groups
+  pub last : new.last ≡ old.last
+
+-- an accepted command leads to the next past; another is refused by its first refusal, and the archive is what it was; where
+-- memory runs out it is as it was, too
+abbrev pub Commits : Past → PlainCommand → Standing → Result Done CommitFault → Standing → Type 0
+Commits past command old (Ok done) new = (command_fault past command ≡ None) × IsDone past command done × ShowsPast new (past_with past command)
+Commits past command old (Err (Refused r)) new = (command_fault past command ≡ Some r) × (new ≡ old)
+Commits past command old (Err NoMemory) new = IsAsBefore old new × ShowsPast new past

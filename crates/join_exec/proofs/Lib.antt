@@ -1,0 +1,13 @@
+pub mod MergeLaws
+pub mod CutLaws
+pub mod ValueLaws
+pub mod Picked
+pub mod EntriesInTurn
+pub mod ReferenceLaws
+pub mod NamedCells
+pub mod KnownNames
+pub mod RelationRows
+pub mod ReadingLaws
+pub mod LentLaws
+pub mod SameValues
+pub mod BranchAnswers

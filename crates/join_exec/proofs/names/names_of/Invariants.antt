@@ -1,0 +1,6 @@
+use Rattle.std.proofs.Common.{◌≡◌, take}
+use Rattle.join_exec.specs.Naming.{lent, written_names}
+use Rattle.join_exec.proofs.names.names_of.Given as goal
+
+abbrev pub invariant-loop-reference : goal.invariant-loop-reference
+invariant-loop-reference l = l.names.items ≡ written_names (lent (take l.reference-index l.references))

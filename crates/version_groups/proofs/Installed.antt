@@ -1,0 +1,282 @@
+-- Groups that show a past show the past with the command, once it is carried out.
+use Rattle.std.proofs.Common.{◌≡◌, ◌≤◌, ◌<◌, ◌+◌, ℕ, suc, Bool, true, false, cond, List, [], ◌∷◌, ◌++◌, length, get_or, refl, sym, ap, subst, ◌∙◌, arith, length-append, inl, inr}
+use Rattle.std.specs.Prelude.{Option, Some, None, ◌⊎◌}
+use Rattle.std.specs.FinMap.{get}
+use Rattle.relations.specs.Spans.{forever}
+use Rattle.prima_base.specs.Columns.{Column}
+use Rattle.schema_catalog.specs.Tables.{Tables}
+use Rattle.schema_catalog.specs.Databases.{Database}
+use Rattle.history_store.specs.Store.{Store, relation_at, AllBefore}
+use Rattle.history_store.specs.Change.{Plan, rows_after}
+use Rattle.smo_ops.specs.Accepts.{command_fault, body_tests}
+use Rattle.smo_ops.specs.First.{first_refusal}
+use Rattle.smo_ops.specs.Changes.{PlainChange}
+use Rattle.smo_ops.specs.Commands.{PlainBody, changing, evolving, PlainCommand, PlainVersion}
+use Rattle.smo_ops.specs.Operators.{Operator}
+use Rattle.smo_ops.specs.OneRow.{Relation}
+use Rattle.smo_ops.specs.Effects.{rows_at}
+use Rattle.smo_ops.specs.LawfulPast.{last_or_nought, IsLater, IsPast}
+use Rattle.smo_ops.specs.Past.{Past, no_tables, no_database, tables_of, tables_from, version_at, database_at, newest_database, next_version, database_behind, past_with}
+use Rattle.smo_ops.proofs.PastLaws.{newest_holds, up_to_later}
+use Rattle.smo_ops.proofs.PastSteps.{stamp_accepted, later_stamp, body_accepted, stays_lawful, before_command, from_command}
+use Rattle.version_groups.specs.declared.made_tables.MadeTable.{MadeTable}
+use Rattle.version_groups.specs.Groups.{Kept, versions_in, group_of, table_in, stored_as}
+use Rattle.version_groups.specs.Showing.{ShowsTable, ShowsEntry, Shows}
+use Rattle.version_groups.specs.Becoming.{Becomes, Begins, IsChange, Leads, IsMade}
+use Rattle.version_groups.specs.Steps.{a_command, AreChanges, BeginsEntry, IsNextVersion}
+use Rattle.version_groups.proofs.PastMoments.{not_in_force, all_in_force, few_in_force, all_with_one, tables_still, tables_added, is_later, still_later, before_or_not}
+use Rattle.version_groups.proofs.Pairs.{Found, Paired, paired}
+
+-- what is stored under a name, before and behind
+abbrev pub Follows : (List Column → Store → Store → Type 0) → Option Store → Option Store → Type 0
+Follows T None None = Unit {0}
+Follows T None (Some new) = ⊥
+Follows T (Some old) None = ⊥
+Follows T (Some old) (Some new) = (columns : List Column) → T columns old new
+
+pub entry_follows : (past next : Past) (k : ℕ) (name : List ℕ) (o : Option (List Column)) (old new : Option Store)
+    → Follows (λ columns s t. ShowsTable past k name columns s → ShowsTable next k name columns t) old new → ShowsEntry past k name o old → ShowsEntry next k name o new
+entry_follows past next k name None None None f h = tt
+entry_follows past next k name None None (Some new) f h = absurd f
+entry_follows past next k name None (Some old) new f h = absurd h
+entry_follows past next k name (Some columns) None new f h = absurd h
+entry_follows past next k name (Some columns) (Some old) None f h = absurd f
+entry_follows past next k name (Some columns) (Some old) (Some new) f h = f columns h
+
+entry_still : (past next : Past) (k : ℕ) (name : List ℕ) (o : Option (List Column)) (s : Option Store)
+    → ((columns : List Column) (store : Store) → ShowsTable past k name columns store → ShowsTable next k name columns store) → ShowsEntry past k name o s → ShowsEntry next k name o s
+entry_still past next k name None None f h = tt
+entry_still past next k name None (Some store) f h = absurd h
+entry_still past next k name (Some columns) None f h = absurd h
+entry_still past next k name (Some columns) (Some store) f h = f columns store h
+
+entry_begins : (next : Past) (k stamp : ℕ) (name : List ℕ) (rows : Relation) (o : Option (List Column)) (s : Option Store)
+    → ((columns : List Column) (store : Store) → Begins columns stamp rows store → ShowsTable next k name columns store) → BeginsEntry stamp rows o s → ShowsEntry next k name o s
+entry_begins next k stamp name rows None None f h = tt
+entry_begins next k stamp name rows None (Some store) f h = absurd h
+entry_begins next k stamp name rows (Some columns) None f h = absurd h
+entry_begins next k stamp name rows (Some columns) (Some store) f h = f columns store h
+
+-- version k is the newest, or an earlier one
+newest_or_not : (k n : ℕ) → k ≤ n → (k ≡ n) ⊎ (k < n)
+newest_or_not k n l = elim (before_or_not k n) [ inl h ↦ inr h | inr h ↦ inl (omega (arith, l, h)) ]
+
+module _ (kept : Kept) (past : Past) (stamp : ℕ) (body : PlainBody) (shows : Shows kept past) (lawful : stamp < forever) (accepted : command_fault past (a_command stamp body) ≡ None) where
+  abbrev next : Past
+  next = past_with past (a_command stamp body)
+
+  later : IsLater past.last stamp
+  later = is_later past.last stamp (stamp_accepted past (a_command stamp body) accepted)
+
+  not_before : last_or_nought past.last ≤ stamp
+  not_before = later_stamp past (a_command stamp body) accepted
+
+  pub next_is_lawful : IsPast next
+  next_is_lawful = stays_lawful past stamp body shows.lawful (stamp_accepted past (a_command stamp body) accepted) (body_accepted past (a_command stamp body) accepted)
+
+  pub all_later : (m : ℕ) → stamp < m → IsLater past.last m
+  all_later m l = still_later past.last stamp m later (omega (arith, l))
+
+  -- from the stamp on all versions of the past are in force, and the database is its newest one
+  pub newest_then : (m : ℕ) → stamp ≤ m → version_at past m ≡ length past.versions
+  newest_then m l = ap length (all_in_force (last_or_nought past.last) m past.versions shows.lawful.versions (omega (arith, l, not_before)))
+
+  pub newest_is : (m : ℕ) → stamp ≤ m → database_at past m ≡ newest_database past
+  newest_is m l = newest_holds no_database past.states m (up_to_later (last_or_nought past.last) m past.states (omega (arith, l, not_before)) shows.lawful.ended)
+
+  pub as_before : (m : ℕ) → m < stamp → database_at next m ≡ database_at past m
+  as_before m l = before_command past stamp body m l
+
+  pub from_then : (m : ℕ) → stamp ≤ m → database_at next m ≡ database_behind body past
+  from_then m l = from_command past stamp body shows.lawful not_before (body_accepted past (a_command stamp body) accepted) m l
+
+-- ---- changes
+
+module _ (kept : Kept) (past : Past) (stamp : ℕ) (changes : List PlainChange) (shows : Shows kept past) (lawful : stamp < forever)
+    (accepted : command_fault past (a_command stamp (changing changes)) ≡ None) where
+  abbrev behind : Past
+  behind = past_with past (a_command stamp (changing changes))
+
+  abbrev changed_rows : List ℕ → Relation
+  changed_rows name = rows_at (get (database_behind (changing changes) past) name)
+
+  -- a table of an earlier version
+  earlier_table : (k : ℕ) (name : List ℕ) → k < length past.versions → (columns : List Column) (store : Store) → ShowsTable past k name columns store → ShowsTable behind k name columns store
+  earlier_table k name l columns store h = record {
+    columns = h.columns;
+    shown = λ m f e. elim (before_or_not m stamp) [
+      | inl b ↦ h.shown m f e ∙ ap (λ d. rows_at (get d name)) (sym (as_before kept past stamp (changing changes) shows lawful accepted m b))
+      | inr b ↦ absurd (let n = newest_then kept past stamp (changing changes) shows lawful accepted m b in omega (arith, l, e, n))
+    ];
+    before = h.before;
+    stamps = λ m b. h.stamps m (all_later kept past stamp (changing changes) shows lawful accepted m b);
+  }
+
+  -- a table of the newest version, with its change
+  abbrev IsChanged : MadeTable → MadeTable → Type 0
+  IsChanged t u = (p : Option Plan) × Leads t.store stamp (changed_rows t.name) p × IsMade t p u
+
+  keeps_name : (t u : MadeTable) → IsChanged t u → u.name ≡ t.name
+  keeps_name t u h = step h.0 h.2
+    where
+      step : (p : Option Plan) → IsMade t p u → u.name ≡ t.name
+      step None e = ap (λ (x : MadeTable). x.name) e
+      step (Some p) e = e.0
+
+  changed_table : (name : List ℕ) (t u : MadeTable) → t.name ≡ name → IsChanged t u → (columns : List Column) → ShowsTable past (length past.versions) name columns t.store
+      → ShowsTable behind (length past.versions) name columns u.store
+  changed_table name t u named c columns h = step c.0 c.1 c.2
+    where
+      n : ℕ
+      n = length past.versions
+
+      step : (p : Option Plan) → Leads t.store stamp (changed_rows t.name) p → IsMade t p u → ShowsTable behind n name columns u.store
+      step None leads e =
+          let is : u.store ≡ t.store = ap (λ (x : MadeTable). x.store) e in
+          let shown : (m : ℕ) → m < forever → version_at past m ≡ n → relation_at t.store m ≡ rows_at (get (database_at behind m) name) = λ m f v. elim (before_or_not m stamp) [
+            | inl b ↦ h.shown m f v ∙ ap (λ d. rows_at (get d name)) (sym (as_before kept past stamp (changing changes) shows lawful accepted m b))
+            | inr b ↦
+                h.shown m f v ∙ ap (λ d. rows_at (get d name)) (newest_is kept past stamp (changing changes) shows lawful accepted m b)
+                ∙ sym (ap (λ d. rows_at (get d name)) (newest_is kept past stamp (changing changes) shows lawful accepted stamp (omega arith)))
+                ∙ sym (h.shown stamp lawful (newest_then kept past stamp (changing changes) shows lawful accepted stamp (omega arith)))
+                ∙ leads ∙ ap changed_rows named
+                ∙ ap (λ d. rows_at (get d name)) (sym (from_then kept past stamp (changing changes) shows lawful accepted m b))
+          ] in
+          subst (λ (s : Store). ShowsTable behind n name columns s) (sym is) (record {
+            columns = h.columns;
+            shown = shown;
+            before = h.before;
+            stamps = λ m b. h.stamps m (all_later kept past stamp (changing changes) shows lawful accepted m b);
+          })
+      step (Some p) leads e =
+          let b : Becomes t.store u.store p.stamp (rows_after t.store p) = e.1 in
+          let at : p.stamp ≡ stamp = leads.at in
+          record {
+            columns = b.columns ∙ h.columns;
+            shown = λ m f v. elim (before_or_not m stamp) [
+              | inl l ↦ b.before m (omega (arith, l, at)) ∙ h.shown m f v ∙ ap (λ d. rows_at (get d name)) (sym (as_before kept past stamp (changing changes) shows lawful accepted m l))
+              | inr l ↦ b.from m (omega (arith, l, at)) f ∙ leads.leads ∙ ap changed_rows named
+                  ∙ ap (λ d. rows_at (get d name)) (sym (from_then kept past stamp (changing changes) shows lawful accepted m l))
+            ];
+            before = λ m v. elim (before_or_not m stamp) [
+              | inl l ↦ b.before m (omega (arith, l, at)) ∙ h.before m v
+              | inr l ↦ absurd (let w = newest_then kept past stamp (changing changes) shows lawful accepted m l in omega (arith, v, w))
+            ];
+            stamps = λ m l. b.later m (omega (arith, l, at));
+          }
+
+  -- the changes are made
+  pub shows_changed : (new : Kept) (plans : List (Option Plan)) → versions_in new ≡ versions_in kept → ((k : ℕ) → k < length past.versions → group_of new k ≡ group_of kept k)
+      → length (group_of new (length past.versions)) ≡ length (group_of kept (length past.versions))
+      → AreChanges stamp (database_behind (changing changes) past) (group_of kept (length past.versions)) plans
+      → ((k : ℕ) (d : MadeTable) → k < length (group_of kept (length past.versions)) → IsMade (get_or (group_of kept (length past.versions)) k d) (get_or plans k None) (get_or (group_of new (length past.versions)) k d))
+      → Shows new behind
+  shows_changed new plans versions groups count ready made = record {
+    lawful = next_is_lawful kept past stamp (changing changes) shows lawful accepted;
+    ends = lawful;
+    versions = versions ∙ shows.versions;
+    tables = λ k name l. elim (newest_or_not k n l) [
+      | inl e ↦ subst (λ j. ShowsEntry behind j name (get (tables_of behind j) name) (table_in new j name)) (sym e) (newest name)
+      | inr e ↦
+          subst (λ (g : List MadeTable). ShowsEntry behind k name (get (tables_of behind k) name) (stored_as name g)) (sym (groups k e))
+          (entry_still past behind k name (get (tables_of past k) name) (table_in kept k name) (earlier_table k name e) (shows.tables k name l))
+    ];
+  }
+    where
+      n : ℕ
+      n = length past.versions
+
+      each : (k : ℕ) (d : MadeTable) → k < length (group_of kept n) → IsChanged (get_or (group_of kept n) k d) (get_or (group_of new n) k d)
+      each k d l = (get_or plans k None, ready.each k d l, made k d l)
+
+      entry : (name : List ℕ) → Paired IsChanged name (group_of kept n) (group_of new n) → ShowsEntry past n name (get (tables_of past n) name) (stored_as name (group_of kept n))
+          → ShowsEntry behind n name (get (tables_of past n) name) (stored_as name (group_of new n))
+      entry name (inl none) h =
+          subst (λ (s : Option Store). ShowsEntry behind n name (get (tables_of past n) name) s) (sym none.1)
+          (entry_follows past behind n name (get (tables_of past n) name) None None tt (subst (λ (s : Option Store). ShowsEntry past n name (get (tables_of past n) name) s) none.0 h))
+      entry name (inr f) h =
+          subst (λ (s : Option Store). ShowsEntry behind n name (get (tables_of past n) name) s) (sym f.now)
+          (entry_follows past behind n name (get (tables_of past n) name) (Some f.before.store) (Some f.behind.store) (changed_table name f.before f.behind f.named f.related)
+          (subst (λ (s : Option Store). ShowsEntry past n name (get (tables_of past n) name) s) f.was h))
+
+      newest : (name : List ℕ) → ShowsEntry behind n name (get (tables_of behind n) name) (table_in new n name)
+      newest name = entry name (paired IsChanged keeps_name name (group_of kept n) (group_of new n) count each) (shows.tables n name (omega arith))
+
+-- ---- an operator
+
+module _ (kept : Kept) (past : Past) (stamp : ℕ) (op : Operator) (inverse : List Operator) (shows : Shows kept past) (lawful : stamp < forever)
+    (accepted : command_fault past (a_command stamp (evolving op inverse)) ≡ None) where
+  abbrev evolved : Past
+  evolved = past_with past (a_command stamp (evolving op inverse))
+
+  abbrev version : PlainVersion
+  version = next_version stamp op inverse past
+
+  version_before : (m : ℕ) → m < stamp → version_at evolved m ≡ version_at past m
+  version_before m l = ap length (not_in_force m past.versions version l)
+
+  version_then : (m : ℕ) → stamp ≤ m → version_at evolved m ≡ length past.versions + 1
+  version_then m l =
+      let low = later_stamp past (a_command stamp (evolving op inverse)) accepted in
+      all_with_one (last_or_nought past.last) m past.versions version shows.lawful.versions (omega (arith, l, low)) l
+
+  -- a table of an earlier version
+  older_table : (k : ℕ) (name : List ℕ) → k ≤ length past.versions → (columns : List Column) (store : Store) → ShowsTable past k name columns store → ShowsTable evolved k name columns store
+  older_table k name l columns store h = record {
+    columns = h.columns;
+    shown = λ m f e. elim (before_or_not m stamp) [
+      | inl b ↦ h.shown m f (sym (version_before m b) ∙ e) ∙ ap (λ d. rows_at (get d name)) (sym (as_before kept past stamp (evolving op inverse) shows lawful accepted m b))
+      | inr b ↦ absurd (let n = version_then m b in omega (arith, l, e, n))
+    ];
+    before = λ m e. elim (before_or_not m stamp) [
+      | inl b ↦ h.before m (subst (λ j. j < k) (version_before m b) e)
+      | inr b ↦ absurd (let n = version_then m b in omega (arith, l, e, n))
+    ];
+    stamps = λ m b. h.stamps m (all_later kept past stamp (evolving op inverse) shows lawful accepted m b);
+  }
+
+  -- a table of the new version
+  new_table : (name : List ℕ) (columns : List Column) (store : Store) → Begins columns stamp (rows_at (get (database_behind (evolving op inverse) past) name)) store
+      → ShowsTable evolved (length past.versions + 1) name columns store
+  new_table name columns store b = record {
+    columns = b.columns;
+    shown = λ m f e. elim (before_or_not m stamp) [
+      | inl l ↦ absurd (let n = version_before m l in let few = few_in_force m past.versions in omega (arith, e, n, few))
+      | inr l ↦ b.from m l f ∙ ap (λ d. rows_at (get d name)) (sym (from_then kept past stamp (evolving op inverse) shows lawful accepted m l))
+    ];
+    before = λ m e. elim (before_or_not m stamp) [
+      | inl l ↦ b.before m l
+      | inr l ↦ absurd (let n = version_then m l in omega (arith, e, n))
+    ];
+    stamps = λ m l. b.later m l;
+  }
+
+  -- the version is there, with its tables
+  pub shows_evolved : (new : Kept) (made : PlainVersion) (tables : List MadeTable) → IsNextVersion kept version (database_behind (evolving op inverse) past) made tables
+      → versions_in new ≡ versions_in kept ++ made ∷ [] → ((k : ℕ) → k ≤ length past.versions → group_of new k ≡ group_of kept k) → group_of new (length past.versions + 1) ≡ tables
+      → Shows new evolved
+  shows_evolved new made tables is versions groups last = record {
+    lawful = next_is_lawful kept past stamp (evolving op inverse) shows lawful accepted;
+    ends = lawful;
+    versions = versions ∙ ap (λ (vs : List PlainVersion). vs ++ made ∷ []) shows.versions ∙ ap (λ (v : PlainVersion). past.versions ++ v ∷ []) is.version;
+    tables = λ k name l. each k name (before_or_not n k) (subst (λ j. k ≤ j) (length-append past.versions (version ∷ [])) l);
+  }
+    where
+      n : ℕ
+      n = length past.versions
+
+      added : tables_of evolved (n + 1) ≡ version.tables
+      added = subst (λ j. tables_from no_tables (past.versions ++ version ∷ []) j ≡ version.tables) (let e : suc n ≡ n + 1 = omega arith in e) (tables_added no_tables past.versions version)
+
+      newest : (name : List ℕ) → ShowsEntry evolved (n + 1) name (get (tables_of evolved (n + 1)) name) (table_in new (n + 1) name)
+      newest name =
+          subst (λ (t : Tables). ShowsEntry evolved (n + 1) name (get t name) (table_in new (n + 1) name)) (sym added)
+          (subst (λ (g : List MadeTable). ShowsEntry evolved (n + 1) name (get version.tables name) (stored_as name g)) (sym last)
+          (entry_begins evolved (n + 1) stamp name (rows_at (get (database_behind (evolving op inverse) past) name)) (get version.tables name) (stored_as name tables) (new_table name) (is.tables name)))
+
+      each : (k : ℕ) (name : List ℕ) → (n < k) ⊎ (k ≤ n) → k ≤ n + 1 → ShowsEntry evolved k name (get (tables_of evolved k) name) (table_in new k name)
+      each k name (inl l) m = subst (λ j. ShowsEntry evolved j name (get (tables_of evolved j) name) (table_in new j name)) (let e : n + 1 ≡ k = omega (arith, l, m) in e) (newest name)
+      each k name (inr l) m =
+          subst (λ (t : Tables). ShowsEntry evolved k name (get t name) (table_in new k name)) (sym (tables_still no_tables past.versions version k l))
+          (subst (λ (g : List MadeTable). ShowsEntry evolved k name (get (tables_of past k) name) (stored_as name g)) (sym (groups k l))
+          (entry_still past evolved k name (get (tables_of past k) name) (table_in kept k name) (older_table k name l) (shows.tables k name l)))

@@ -1,0 +1,17 @@
+pub mod PastMoments
+pub mod StoredUnder
+pub mod Pairs
+pub mod Installed
+pub mod GroupPlaces
+pub mod TablesChanged
+pub mod TablesCounted
+pub mod Newest
+pub mod CarriedOut
+pub mod GivenTables
+pub mod NextTables
+pub mod BegunTables
+pub mod TablesInTurn
+pub mod VersionsKept
+pub mod Readied
+pub mod Becoming
+pub mod Applying

@@ -1,0 +1,189 @@
+-- What was made ready, of a past that is shown.
+use Rattle.std.proofs.Common.{◌≡◌, ◌≤◌, ◌<◌, ◌+◌, ℕ, suc, zero, Bool, true, false, List, [], ◌∷◌, ◌++◌, map, length, get_or, refl, sym, ap, subst, ◌∙◌, arith, inl, inr}
+use Rattle.std.specs.Prelude.{Option, Some, None, ◌⊎◌, ◌^◌, nat_lt}
+use Rattle.std.specs.Option.{option_map}
+use Rattle.std.specs.FinMap.{get, get-empty}
+use Rattle.relations.specs.Sets.{Ascends}
+use Rattle.relations.specs.Spans.{forever}
+use Rattle.prima_base.specs.Order.{bytes_cmp}
+use Rattle.prima_base.specs.Columns.{Column}
+use Rattle.schema_catalog.specs.Tables.{Tables}
+use Rattle.history_store.specs.Store.{Store, relation_at}
+use Rattle.history_store.specs.Change.{Plan}
+use Rattle.smo_ops.specs.declared.commands.Body.{Body}
+use Rattle.smo_ops.specs.declared.versions.Version.{Version}
+use Rattle.smo_ops.specs.Accepts.{command_fault, count_fault, stamp_fault, refusal_of, most_versions, body_tests}
+use Rattle.smo_ops.specs.After.{op_fault, HasFewNodes}
+use Rattle.smo_ops.specs.Counts.{first_excess}
+use Rattle.smo_ops.specs.First.{unless, first_refusal}
+use Rattle.smo_ops.specs.Inverses.{inverse_tests}
+use Rattle.prima_base.specs.declared.refusals.What.TheVariants.{Versions}
+use Rattle.prima_base.specs.declared.refusals.Refusal.TheVariants.{TooMany as OverLimit}
+use Rattle.std.proofs.lemmas.Bool.Decides.{nat_tests}
+use Rattle.smo_ops.proofs.Firsts.{met, none_of_first, none_mapped}
+use Rattle.smo_ops.proofs.CountedOperators.{counted_operator}
+use Rattle.smo_ops.specs.Changes.{PlainChange}
+use Rattle.smo_ops.specs.Commands.{PlainBody, changing, evolving, PlainCommand, PlainVersion, version_of, body_of, command_of}
+use Rattle.smo_ops.specs.Operators.{Operator}
+use Rattle.smo_ops.specs.Past.{Past, beginning, no_tables, newest_from, tables_of, version_at, newest_tables, newest_database, next_version, database_behind}
+use Rattle.smo_ops.proofs.PastSteps.{beginning_is_past, body_accepted}
+use Rattle.version_groups.specs.declared.made_tables.MadeTable.{MadeTable}
+use Rattle.version_groups.specs.declared.next.Step.{Step}
+use Rattle.version_groups.specs.Groups.{Kept, versions_in, group_of, newest_group, table_in, stored_as, names_of}
+use Rattle.version_groups.specs.Showing.{ShowsTable, ShowsEntry, Shows}
+use Rattle.version_groups.specs.Room.{IsSameTable, AreSameTables, IsSame}
+use Rattle.version_groups.specs.Changing.{AreChangeable, AreReady, all_gained, all_lost}
+use Rattle.version_groups.specs.Evolving.{IsEvolved}
+use Rattle.version_groups.specs.Standing.{AreStored}
+use Rattle.version_groups.specs.Steps.{a_command, step_of, changed, evolved, AreChanges, IsNextVersion, IsStep, Readied, IsReady, Prepares}
+use Rattle.version_groups.proofs.Becoming.{same_relation, same_before, same_columns}
+use Rattle.version_groups.proofs.CarriedOut.{as_many}
+use Rattle.version_groups.proofs.Installed.{Follows, entry_follows}
+use Rattle.version_groups.proofs.Newest.{stands, changeable, are_changes, counts}
+use Rattle.version_groups.proofs.Pairs.{Found, Paired, paired}
+use Rattle.version_groups.proofs.TablesInTurn.{same_table, same_behind}
+
+-- ---- nothing was accepted
+
+none_stored : (k : ℕ) (name : List ℕ) (groups : List (List MadeTable)) → groups ≡ [] ∷ [] → stored_as name (get_or groups k []) ≡ None
+none_stored zero name groups e = ap (λ (gs : List (List MadeTable)). stored_as name (get_or gs 0 [])) e
+none_stored (suc k) name groups e = ap (λ (gs : List (List MadeTable)). stored_as name (get_or gs (suc k) [])) e
+
+pub new_shows : (kept : Kept) → kept.versions ≡ [] → kept.groups ≡ [] ∷ [] → Shows kept beginning
+new_shows kept versions groups = record {
+  lawful = beginning_is_past;
+  ends = omega arith;
+  versions = ap (map version_of) versions;
+  tables = λ k name l.
+      subst (λ (o : Option (List Column)). ShowsEntry beginning k name o (table_in kept k name)) (sym (get-empty bytes_cmp name))
+      (subst (λ (s : Option Store). ShowsEntry beginning k name None s) (sym (none_stored k name kept.groups groups)) tt);
+}
+
+-- ---- what is as it was shows what it showed
+
+still_shown : (past : Past) (k : ℕ) (name : List ℕ) (t u : MadeTable) → IsSameTable t u → (columns : List Column) → ShowsTable past k name columns t.store → ShowsTable past k name columns u.store
+still_shown past k name t u same columns h =
+    let n : ℕ = u.store.spare in
+    record {
+      columns = same_columns t.store u.store n same.store ∙ h.columns;
+      shown = λ m f e. same_relation t.store u.store n same.store m ∙ h.shown m f e;
+      before = λ m e. same_relation t.store u.store n same.store m ∙ h.before m e;
+      stamps = λ m l. same_before t.store u.store n same.store m (h.stamps m l);
+    }
+
+pub shows_same : (old new : Kept) → IsSame old new → (past : Past) → Shows old past → Shows new past
+shows_same old new same past shows = record {
+  lawful = shows.lawful;
+  ends = shows.ends;
+  versions = ap (map version_of) same.versions ∙ shows.versions;
+  tables = λ k name l. entry k name (paired IsSameTable (λ t u h. h.name) name (group_of old k) (group_of new k) (same.groups k).count (same.groups k).each) (shows.tables k name l);
+}
+  where
+    entry : (k : ℕ) (name : List ℕ) → Paired IsSameTable name (group_of old k) (group_of new k) → ShowsEntry past k name (get (tables_of past k) name) (table_in old k name)
+        → ShowsEntry past k name (get (tables_of past k) name) (table_in new k name)
+    entry k name (inl none) h =
+        subst (λ (s : Option Store). ShowsEntry past k name (get (tables_of past k) name) s) (sym none.1)
+        (subst (λ (s : Option Store). ShowsEntry past k name (get (tables_of past k) name) s) none.0 h)
+    entry k name (inr f) h =
+        subst (λ (s : Option Store). ShowsEntry past k name (get (tables_of past k) name) s) (sym f.now)
+        (entry_follows past past k name (get (tables_of past k) name) (Some f.before.store) (Some f.behind.store) (still_shown past k name f.before f.behind f.related)
+        (subst (λ (s : Option Store). ShowsEntry past k name (get (tables_of past k) name) s) f.was h))
+
+pub is_same : (kept : Kept) → IsSame kept kept
+is_same kept = record { versions = refl; count = refl; groups = λ k. record { count = refl; each = λ j d l. same_table (get_or (group_of kept k) j d) }; spare = omega arith }
+
+-- ---- changes
+
+module _ (kept : Kept) (past : Past) (stamp : ℕ) (changes : List PlainChange) (shows : Shows kept past) (lawful : stamp < forever)
+    (accepted : command_fault past (a_command stamp (changing changes)) ≡ None) (ordered : Ascends bytes_cmp (names_of (newest_group kept))) where
+  number : length kept.versions ≡ length past.versions
+  number = as_many kept past shows
+
+  in_order : Ascends bytes_cmp (names_of (group_of kept (length past.versions)))
+  in_order = subst (λ j. Ascends bytes_cmp (names_of (group_of kept j))) number ordered
+
+  pub changeable_now : AreChangeable (newest_tables past) stamp changes (newest_group kept)
+  changeable_now =
+      subst (λ j. AreChangeable (newest_tables past) stamp changes (group_of kept j)) (sym number)
+      (changeable (newest_tables past) (newest_database past) stamp (group_of kept (length past.versions)) in_order (stands kept past stamp (changing changes) shows lawful accepted) changes
+      (body_accepted past (a_command stamp (changing changes)) accepted))
+
+  pub changes_ready : (new : Kept) → IsSame kept new → (plans : List (Option Plan)) → AreReady stamp changes (newest_group new) plans → (next : Readied) → step_of next.step ≡ changed plans
+      → next.gained ≡ all_gained stamp changes (newest_group kept) → next.lost ≡ all_lost stamp changes (newest_group kept) → Prepares new past (a_command stamp (changing changes)) next
+  changes_ready new same plans ready next is gains loses =
+      let n = length past.versions in
+      let e : length new.versions ≡ length past.versions = ap length same.versions ∙ number in
+      let stored = stands kept past stamp (changing changes) shows lawful accepted in
+      let own = body_accepted past (a_command stamp (changing changes)) accepted in
+      let c = counts (newest_tables past) (newest_database past) stamp (group_of kept n) in_order stored shows.lawful.tables.schema shows.lawful.database changes own in
+      let group = same.groups n in
+      record {
+        ready = record {
+          accepted = accepted;
+          lawful = lawful;
+          step = subst (IsStep new past stamp (changing changes)) (sym is)
+              (subst (λ j. AreChanges stamp (database_behind (changing changes) past) (group_of new j) plans) (sym e)
+              (are_changes (newest_tables past) (newest_database past) stamp (group_of kept n) in_order stored shows.lawful.database changes (group_of new n) plans
+              (subst (λ j. AreReady stamp changes (group_of new j) plans) e ready) group.count
+              (λ k d l. ((group.each k d l).name, same_behind stamp changes (get_or (group_of kept n) k d) (get_or (group_of new n) k d) (group.each k d l)))));
+        };
+        gained = gains ∙ ap (λ j. all_gained stamp changes (group_of kept j)) number ∙ c.0;
+        lost = loses ∙ ap (λ j. all_lost stamp changes (group_of kept j)) number ∙ c.1;
+      }
+
+-- ---- commands and schemas of the groups' fields
+
+pub command_is : (c : ℕ × Body) (stamp : ℕ) (body : PlainBody) → stamp ≡ c.0 → body ≡ body_of c.1 → a_command stamp body ≡ command_of c
+command_is c stamp body e b = ap (λ n. a_command n body) e ∙ ap (a_command c.0) b
+
+pub schema_is : (kept : Kept) (past : Past) → Shows kept past → (nothing : Tables) (versions : List Version) → nothing ≡ no_tables → versions ≡ kept.versions → newest_from nothing (map version_of versions) ≡ newest_tables past
+schema_is kept past shows nothing versions n e =
+    ap (λ t. newest_from t (map version_of versions)) n ∙ ap (newest_from no_tables) (ap (map version_of) e ∙ shows.versions)
+
+-- ---- an operator
+
+module _ (kept : Kept) (past : Past) (stamp : ℕ) (op : Operator) (inverse : List Operator) (shows : Shows kept past) (lawful : stamp < forever)
+    (accepted : command_fault past (a_command stamp (evolving op inverse)) ≡ None) where
+  tests : first_refusal (body_tests past (evolving op inverse)) ≡ None
+  tests = body_accepted past (a_command stamp (evolving op inverse)) accepted
+
+  pub op_accepted : op_fault (newest_tables past) op ≡ None
+  op_accepted =
+      let rest = none_of_first (unless (nat_lt (length past.versions) most_versions) (OverLimit Versions most_versions))
+      (option_map refusal_of (op_fault (newest_tables past) op) ∷ inverse_tests (newest_tables past) op inverse) tests in
+      none_mapped refusal_of (op_fault (newest_tables past) op)
+      (none_of_first (option_map refusal_of (op_fault (newest_tables past) op)) (inverse_tests (newest_tables past) op inverse) rest.1).0
+
+  pub few_nodes : HasFewNodes op
+  few_nodes =
+      counted_operator op inverse
+      (none_mapped (λ e. OverLimit e.0 e.1) (first_excess (evolving op inverse))
+      (none_of_first (count_fault (first_excess (evolving op inverse))) (stamp_fault past.last stamp ∷ body_tests past (evolving op inverse)) accepted).0)
+
+  few_versions : length past.versions < most_versions
+  few_versions =
+      let h = met (nat_lt (length past.versions) most_versions) (OverLimit Versions most_versions)
+      (none_of_first (unless (nat_lt (length past.versions) most_versions) (OverLimit Versions most_versions)) (option_map refusal_of (op_fault (newest_tables past) op) ∷ inverse_tests (newest_tables past) op inverse) tests).0 in
+      grind (arith, nat_tests, h)
+
+  pub stored_now : AreStored (newest_tables past) (newest_database past) stamp (newest_group kept)
+  stored_now = subst (λ j. AreStored (newest_tables past) (newest_database past) stamp (group_of kept j)) (sym (as_many kept past shows)) (stands kept past stamp (evolving op inverse) shows lawful accepted)
+
+  pub operator_ready : (new : Kept) → IsSame kept new → 1 ≤ new.spare → (version : Version) (tables : List MadeTable)
+      → IsEvolved (newest_tables past) (newest_database past) stamp op inverse (version_of version) tables → (next : Readied) → step_of next.step ≡ evolved (version_of version) tables
+      → next.gained ≡ 0 → next.lost ≡ 0 → Prepares new past (a_command stamp (evolving op inverse)) next
+  operator_ready new same room version tables h next is g l = record {
+    ready = record {
+      accepted = accepted;
+      lawful = lawful;
+      step = subst (IsStep new past stamp (evolving op inverse)) (sym is) (record {
+        version = h.version;
+        ordered = h.ordered;
+        tables = h.tables;
+        room = room;
+        fits = (let few = few_versions in let e = ap length same.versions in let n = as_many kept past shows in omega (arith, few, e, n));
+      });
+    };
+    gained = g;
+    lost = l;
+  }

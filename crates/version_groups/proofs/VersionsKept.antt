@@ -1,0 +1,56 @@
+-- The versions that are kept, and those of a past.
+use Rattle.std.proofs.Common.{◌≡◌, ◌≤◌, ◌<◌, ◌+◌, ℕ, suc, zero, Bool, true, false, cond, List, [], ◌∷◌, ◌++◌, map, length, drop, get_or, refl, sym, ap, subst, ◌∙◌, arith}
+use Rattle.std.specs.Prelude.{Option, Some, None, nat_le}
+use Rattle.std.specs.List.{filter}
+use Rattle.std.proofs.lemmas.List.{length-map}
+use Rattle.schema_catalog.specs.Tables.{Tables}
+use Rattle.smo_ops.specs.declared.versions.Version.{Version}
+use Rattle.smo_ops.specs.Commands.{PlainVersion, version_of}
+use Rattle.smo_ops.specs.Past.{tables_from, newest_from}
+use Rattle.version_groups.specs.Groups.{begun_by}
+use Rattle.version_groups.proofs.PastMoments.{in_force}
+
+-- ---- how many begin by a moment
+
+pub begun_few : (versions : List Version) (m : ℕ) → begun_by versions m ≤ length versions
+begun_few [] m = omega arith
+begun_few (v ∷ versions) m = step (begun_few versions m) (nat_le v.stamp m)
+  where
+    step : begun_by versions m ≤ length versions → (b : Bool) → length (cond b (v ∷ filter (λ (v : Version). nat_le v.stamp m) versions) (filter (λ (v : Version). nat_le v.stamp m) versions)) ≤ suc (length versions)
+    step h true = omega (arith, h)
+    step h false = omega (arith, h)
+
+-- they are the versions that are in force
+pub begun_in_force : (versions : List Version) (m : ℕ) → begun_by versions m ≡ length (in_force m (map version_of versions))
+begun_in_force [] m = refl
+begun_in_force (v ∷ versions) m = step (begun_in_force versions m) (nat_le v.stamp m)
+  where
+    step : begun_by versions m ≡ length (in_force m (map version_of versions)) → (b : Bool)
+        → length (cond b (v ∷ filter (λ (v : Version). nat_le v.stamp m) versions) (filter (λ (v : Version). nat_le v.stamp m) versions)) ≡ length (cond b (version_of v ∷ in_force m (map version_of versions)) (in_force m (map version_of versions)))
+    step h true = ap suc h
+    step h false = h
+
+-- ---- schemas
+
+-- the last version's schema is the newest
+pub last_schema : (before : Tables) (versions : List Version) (i : ℕ) (v : Version) → i + 1 ≡ length versions → v ≡ get_or versions i v → v.schema ≡ newest_from before (map version_of versions)
+last_schema before [] i v e is = absurd (omega (arith, e))
+last_schema before (w ∷ []) zero v e is = ap (λ (x : Version). x.schema) is
+last_schema before (w ∷ []) (suc i) v e is = absurd (omega (arith, e))
+last_schema before (w ∷ x ∷ versions) zero v e is = absurd (omega (arith, e))
+last_schema before (w ∷ x ∷ versions) (suc i) v e is = last_schema w.schema (x ∷ versions) i v (omega (arith, e)) is
+
+pub no_schema : (before : Tables) (versions : List Version) → length versions ≡ 0 → before ≡ newest_from before (map version_of versions)
+no_schema before [] e = refl
+no_schema before (v ∷ versions) e = absurd (omega (arith, e))
+
+-- version k + 1 is the one at place k
+pub schema_at : (before : Tables) (versions : List Version) (k : ℕ) (v : Version) → k < length versions → v ≡ get_or versions k v → v.schema ≡ tables_from before (map version_of versions) (suc k)
+schema_at before [] k v l is = absurd (omega (arith, l))
+schema_at before (w ∷ []) zero v l is = ap (λ (x : Version). x.schema) is
+schema_at before (w ∷ x ∷ versions) zero v l is = ap (λ (x : Version). x.schema) is
+schema_at before (w ∷ versions) (suc k) v l is = schema_at w.schema versions k v (omega (arith, l)) is
+
+pub at_nought : (before : Tables) (versions : List PlainVersion) → tables_from before versions 0 ≡ before
+at_nought before [] = refl
+at_nought before (v ∷ versions) = refl

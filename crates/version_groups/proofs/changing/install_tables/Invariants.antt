@@ -1,0 +1,11 @@
+use Rattle.std.proofs.Common.{◌≡◌, ◌≤◌, length, drop}
+use Rattle.std.specs.Vec.Iter.{into_iter_items}
+use Rattle.version_groups.proofs.TablesInTurn.{MadeTo}
+use Rattle.version_groups.proofs.changing.install_tables.Given as goal
+
+abbrev pub invariant-loop-plan : goal.invariant-loop-plan
+invariant-loop-plan l = record {
+  left : into_iter_items l.plan-iterator ≡ drop l.i l.fn.plans.items;
+  within : l.i ≤ length l.fn.plans.items;
+  made : MadeTo l.initial.tables.items l.tables.items l.fn.plans.items l.i;
+}

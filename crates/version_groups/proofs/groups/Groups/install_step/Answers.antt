@@ -1,0 +1,43 @@
+use Rattle.std.proofs.Common.{◌≡◌, ◌<◌, ◌+◌, List, [], ◌∷◌, length, ap, subst, ◌∙◌, arith}
+use Rattle.std.proofs.lemmas.List.{length-append}
+use Rattle.smo_ops.specs.declared.versions.Version.{Version}
+use Rattle.smo_ops.specs.Commands.{version_of}
+use Rattle.version_groups.specs.Steps.{changed, evolved, step_of, IsStep}
+use Rattle.version_groups.proofs.CarriedOut.{changes_made, version_made, have_room, is_room}
+use Rattle.version_groups.proofs.groups.Groups.install_step.Goals as goal
+
+pub install_changes-requires : goal.install_changes-requires
+install_changes-requires c =
+    let past = c.requires.0 in
+    let command = c.requires.1 in
+    let is : step_of c.args.step ≡ changed c.in-Changed.plans.items = ap step_of c.in-Changed.is in
+    have_room c.args.self.now past command.stamp command.body c.in-Changed.plans.items (subst (IsStep c.args.self.now past command.stamp command.body) is c.requires.5)
+
+pub returns-in-Changed-clause-shows : goal.returns-in-Changed-clause-shows
+returns-in-Changed-clause-shows c = λ past command shows accepted lawful ready.
+    let is : step_of c.args.step ≡ changed c.in-Changed.plans.items = ap step_of c.in-Changed.is in
+    changes_made c.args.self.now c.install_changes.new.self past shows c.in-Changed.plans.items c.install_changes.ensures command.stamp command.body lawful accepted
+    (subst (IsStep c.args.self.now past command.stamp command.body) is ready)
+
+pub install_version-requires : goal.install_version-requires
+install_version-requires c =
+    let past = c.requires.0 in
+    let command = c.requires.1 in
+    let is : step_of c.args.step ≡ evolved (version_of c.in-Evolved.version) c.in-Evolved.tables.items = ap step_of c.in-Evolved.is in
+    let r = is_room c.args.self.now past command.stamp command.body (version_of c.in-Evolved.version) c.in-Evolved.tables.items (subst (IsStep c.args.self.now past command.stamp command.body) is c.requires.5) in
+    record { ordered = r.ordered; room = r.room; fits = r.fits }
+
+pub returns-in-Evolved-clause-shows : goal.returns-in-Evolved-clause-shows
+returns-in-Evolved-clause-shows c = λ past command shows accepted lawful ready.
+    let is : step_of c.args.step ≡ evolved (version_of c.in-Evolved.version) c.in-Evolved.tables.items = ap step_of c.in-Evolved.is in
+    version_made c.args.self.now c.install_version.new.self past shows c.in-Evolved.version c.in-Evolved.tables.items c.install_version.ensures command.stamp command.body lawful accepted
+    (subst (IsStep c.args.self.now past command.stamp command.body) is ready)
+
+pub returns-in-Changed-clause-earlier : goal.returns-in-Changed-clause-earlier
+returns-in-Changed-clause-earlier c = λ k l. c.install_changes.ensures.groups k (subst (λ (vs : List Version). k < length vs) c.install_changes.ensures.versions l)
+
+pub returns-in-Evolved-clause-earlier : goal.returns-in-Evolved-clause-earlier
+returns-in-Evolved-clause-earlier c =
+    let one_more : length c.install_version.new.self.versions ≡ length c.args.self.now.versions + 1 =
+    ap (λ (vs : List Version). length vs) c.install_version.ensures.versions ∙ length-append c.args.self.now.versions (c.in-Evolved.version ∷ []) in
+    λ k l. c.install_version.ensures.groups k (omega (arith, l))

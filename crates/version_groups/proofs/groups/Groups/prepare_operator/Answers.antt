@@ -1,0 +1,65 @@
+use Rattle.std.proofs.Common.{◌≡◌, None, refl, sym, ap, subst, ◌∙◌, arith}
+use Rattle.std.specs.Prelude.{List}
+use Rattle.schema_catalog.specs.Tables.{Tables}
+use Rattle.schema_catalog.specs.Databases.{IsDatabase}
+use Rattle.smo_ops.specs.After.{op_fault, IsLawful}
+use Rattle.smo_ops.specs.Commands.{version_of}
+use Rattle.smo_ops.specs.Operators.{operator_of, operators_of}
+use Rattle.smo_ops.specs.Past.{newest_tables, newest_database}
+use Rattle.version_groups.specs.declared.made_tables.MadeTable.{MadeTable}
+use Rattle.version_groups.specs.Groups.{Kept, newest_group}
+use Rattle.version_groups.specs.Evolving.{IsEvolved}
+use Rattle.version_groups.specs.Standing.{AreStored}
+use Rattle.version_groups.proofs.GroupPlaces.{newest_is}
+use Rattle.version_groups.proofs.Readied.{schema_is, op_accepted, few_nodes, stored_now, operator_ready, is_same}
+use Rattle.version_groups.proofs.groups.Groups.prepare_operator.Goals as goal
+
+pub prepare_version-requires-clause-schema : goal.prepare_version-requires-clause-schema
+prepare_version-requires-clause-schema c =
+    let a = c.self.inside in
+    let h = c.requires.accepted in
+    let schema = c.newest_schema-schema.ensures ∙ schema_is c.args.self.now h.0 h.1 a.nothing a.versions.list.items c.self.invariant.nothing (ap (λ (k : Kept). k.versions) c.self.view_is) in
+    subst IsLawful (sym schema) h.1.lawful.tables
+
+pub prepare_version-requires-clause-accepted : goal.prepare_version-requires-clause-accepted
+prepare_version-requires-clause-accepted c =
+    let a = c.self.inside in
+    let h = c.requires.accepted in
+    let schema = c.newest_schema-schema.ensures ∙ schema_is c.args.self.now h.0 h.1 a.nothing a.versions.list.items c.self.invariant.nothing (ap (λ (k : Kept). k.versions) c.self.view_is) in
+    subst (λ (t : Tables). op_fault t (operator_of c.args.op.now) ≡ None) (sym schema)
+    (op_accepted c.args.self.now h.0 c.args.stamp (operator_of c.args.op.now) (operators_of c.args.inverse.now) h.1 c.requires.lawful h.2)
+
+pub prepare_version-requires-clause-few : goal.prepare_version-requires-clause-few
+prepare_version-requires-clause-few c =
+    let h = c.requires.accepted in
+    few_nodes c.args.self.now h.0 c.args.stamp (operator_of c.args.op.now) (operators_of c.args.inverse.now) h.1 c.requires.lawful h.2
+
+pub prepare_version-requires-clause-stored : goal.prepare_version-requires-clause-stored
+prepare_version-requires-clause-stored c =
+    let a = c.self.inside in
+    let h = c.requires.accepted in
+    let schema = c.newest_schema-schema.ensures ∙ schema_is c.args.self.now h.0 h.1 a.nothing a.versions.list.items c.self.invariant.nothing (ap (λ (k : Kept). k.versions) c.self.view_is) in
+    let group : newest_group c.args.self.now ≡ c.deref.result.now = ap newest_group (sym c.self.view_is) ∙ newest_is a c.self.invariant ∙ sym c.deref.ensures.value in (
+      newest_database h.0,
+      subst (λ (t : Tables). IsDatabase t (newest_database h.0)) (sym schema) h.1.lawful.database,
+      subst (λ (t : Tables). AreStored t (newest_database h.0) c.args.stamp c.deref.result.now) (sym schema)
+          (subst (AreStored (newest_tables h.0) (newest_database h.0) c.args.stamp) group
+          (stored_now c.args.self.now h.0 c.args.stamp (operator_of c.args.op.now) (operators_of c.args.inverse.now) h.1 c.requires.lawful h.2)),
+    )
+
+pub returns-in_err-evolved-clause-same : goal.returns-in_err-evolved-clause-same
+returns-in_err-evolved-clause-same c = is_same c.args.self.now
+
+pub returns-clause-next : goal.returns-clause-next
+returns-clause-next c = λ past shows accepted.
+    let a = c.self.inside in
+    let op = operator_of c.args.op.now in
+    let inverse = operators_of c.args.inverse.now in
+    let schema = c.newest_schema-schema.ensures ∙ schema_is c.args.self.now past shows a.nothing a.versions.list.items c.self.invariant.nothing (ap (λ (k : Kept). k.versions) c.self.view_is) in
+    let group : newest_group c.args.self.now ≡ c.deref.result.now = ap newest_group (sym c.self.view_is) ∙ newest_is a c.self.invariant ∙ sym c.deref.ensures.value in
+    let stored = subst (λ (t : Tables). AreStored t (newest_database past) c.args.stamp c.deref.result.now) (sym schema)
+    (subst (AreStored (newest_tables past) (newest_database past) c.args.stamp) group (stored_now c.args.self.now past c.args.stamp op inverse shows c.requires.lawful accepted)) in
+    let made = c.in_ok-evolved.ensures (newest_database past) (subst (λ (t : Tables). IsDatabase t (newest_database past)) (sym schema) shows.lawful.database) stored in
+    operator_ready c.args.self.now past c.args.stamp op inverse shows c.requires.lawful accepted c.reserve_version.new.self c.reserve_version.ensures.same c.in_ok-reserve_version.ensures.room
+    c.in_ok-evolved.evolved.version c.in_ok-evolved.evolved.tables.items
+    (subst (λ (t : Tables). IsEvolved t (newest_database past) c.args.stamp op inverse (version_of c.in_ok-evolved.evolved.version) c.in_ok-evolved.evolved.tables.items) schema made) _ refl refl refl

@@ -1,0 +1,44 @@
+-- What a stored table is from a stamp on, by its relation at each moment.
+use Rattle.std.specs.Prelude.{◌≡◌, ℕ, ◌<◌, ◌≤◌, List, [], Option, Some, None, length, ⊤}
+use Rattle.relations.specs.Spans.{forever}
+use Rattle.prima_base.specs.Columns.{Column}
+use Rattle.history_store.specs.Store.{Store, relation_at, AllBefore}
+use Rattle.history_store.specs.Change.{Plan, IsPlan, rows_after}
+use Rattle.smo_ops.specs.OneRow.{Relation}
+use Rattle.version_groups.specs.declared.made_tables.MadeTable.{MadeTable}
+
+-- from the stamp on the table has the rows, and before it what it had
+pub record Becomes (old new : Store) (stamp : ℕ) (rows : Relation) : Type 0 where
+  pub columns : new.columns ≡ old.columns
+  pub before : (m : ℕ) → m < stamp → relation_at new m ≡ relation_at old m
+  pub from : (m : ℕ) → stamp ≤ m → m < forever → relation_at new m ≡ rows
+  pub later : (m : ℕ) → stamp < m → AllBefore new m
+
+-- a table of these columns that has the rows from the stamp on, and none before it
+pub record Begins (its : List Column) (stamp : ℕ) (rows : Relation) (store : Store) : Type 0 where
+  pub columns : store.columns ≡ its
+  pub before : (m : ℕ) → m < stamp → relation_at store m ≡ []
+  pub from : (m : ℕ) → stamp ≤ m → m < forever → relation_at store m ≡ rows
+  pub later : (m : ℕ) → stamp < m → AllBefore store m
+
+-- a change of the table that is ready, has its room, and leads to these rows from the stamp on
+pub record IsChange (store : Store) (stamp : ℕ) (rows : Relation) (plan : Plan) : Type 0 where
+  pub at : plan.stamp ≡ stamp
+  pub fits : IsPlan store plan
+  pub room : length plan.gained ≤ store.spare
+  pub leads : rows_after store plan ≡ rows
+
+-- a change that is ready and has its room, or none
+abbrev pub HasRoom : Store → Option Plan → Type 0
+HasRoom store None = ⊤
+HasRoom store (Some plan) = IsPlan store plan × (length plan.gained ≤ store.spare)
+
+-- a change that leads to these rows; none where these are the table's rows
+abbrev pub Leads : Store → ℕ → Relation → Option Plan → Type 0
+Leads store stamp rows None = relation_at store stamp ≡ rows
+Leads store stamp rows (Some plan) = IsChange store stamp rows plan
+
+-- the change is made; where there is none the table is as it was
+abbrev pub IsMade : MadeTable → Option Plan → MadeTable → Type 0
+IsMade old None new = new ≡ old
+IsMade old (Some plan) new = (new.name ≡ old.name) × Becomes old.store new.store plan.stamp (rows_after old.store plan)

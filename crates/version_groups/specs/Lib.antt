@@ -1,0 +1,11 @@
+pub mod Groups
+pub mod GroupFields
+pub mod Showing
+pub mod Becoming
+pub mod Changing
+pub mod Steps
+pub mod Room
+pub mod Installing
+pub mod Standing
+pub mod MadeRows
+pub mod Evolving

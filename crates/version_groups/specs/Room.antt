@@ -1,0 +1,24 @@
+-- What is as it was, with no less room.
+use Rattle.std.specs.Prelude.{◌≡◌, ℕ, ◌<◌, ◌≤◌, List, length, slice_index_or}
+use Rattle.history_store.specs.Store.{Store}
+use Rattle.smo_ops.specs.Commands.{PlainVersion}
+use Rattle.version_groups.specs.declared.made_tables.MadeTable.{MadeTable}
+use Rattle.version_groups.specs.Groups.{Kept, group_of}
+
+-- the same columns, keys and entries
+pub record IsSameTable (old new : MadeTable) : Type 0 where
+  pub name : new.name ≡ old.name
+  pub store : new.store ≡ record old.store { spare = new.store.spare }
+  pub spare : old.store.spare ≤ new.store.spare
+
+-- the same tables, one by one
+pub record AreSameTables (old new : List MadeTable) : Type 0 where
+  pub count : length new ≡ length old
+  pub each : (k : ℕ) → (d : MadeTable) → k < length old → IsSameTable (slice_index_or old k d) (slice_index_or new k d)
+
+-- the same versions, and the same stored tables of each
+pub record IsSame (old new : Kept) : Type 0 where
+  pub versions : new.versions ≡ old.versions
+  pub count : length new.groups ≡ length old.groups
+  pub groups : (k : ℕ) → AreSameTables (group_of old k) (group_of new k)
+  pub spare : old.spare ≤ new.spare

@@ -1,0 +1,51 @@
+-- The stored tables of the newest version, and those of the next.
+use Rattle.std.specs.Prelude.{◌≡◌, ℕ, Bool, false, List, [], ◌∷◌, Option, Some, None, ⊤, if◌then◌else◌}
+use Rattle.std.specs.FinMap.{get}
+use Rattle.prima_base.specs.Columns.{Column, IsRelation}
+use Rattle.schema_catalog.specs.Tables.{Tables}
+use Rattle.schema_catalog.specs.Databases.{Database}
+use Rattle.history_store.specs.Store.{Store, AllBefore, relation_at}
+use Rattle.smo_ops.specs.Effects.{rows_at}
+use Rattle.smo_ops.specs.OneRow.{Relation, same}
+use Rattle.version_groups.specs.declared.made_tables.MadeTable.{MadeTable}
+use Rattle.version_groups.specs.Groups.{stored_as}
+
+-- it has these columns, at the stamp these rows, and each of its stamps is earlier
+pub record StandsFor (its : List Column) (stamp : ℕ) (now : Relation) (store : Store) : Type 0 where
+  pub columns : store.columns ≡ its
+  pub rows : relation_at store stamp ≡ now
+  pub before : AllBefore store stamp
+
+abbrev pub StandsEntry : ℕ → Relation → Option (List Column) → Option Store → Type 0
+StandsEntry stamp rows None None = ⊤
+StandsEntry stamp rows None (Some store) = ⊥
+StandsEntry stamp rows (Some columns) None = ⊥
+StandsEntry stamp rows (Some columns) (Some store) = StandsFor columns stamp rows store
+
+-- the tables are those of the schema, and have what the database has of them
+abbrev pub AreStored : Tables → Database → ℕ → List MadeTable → Type 0
+AreStored tables database stamp made = (name : List ℕ) → StandsEntry stamp (rows_at (get database name)) (get tables name) (stored_as name made)
+
+abbrev pub rows_stored : ℕ → Option Store → Relation
+rows_stored stamp None = []
+rows_stored stamp (Some store) = relation_at store stamp
+
+-- the name is this one
+abbrev pub is_name : Option (List ℕ) → List ℕ → Bool
+is_name None name = false
+is_name (Some n) name = same n name
+
+-- at most two tables that are made, by their names, and their rows
+pub record MadeRows : Type 0 where
+  pub first : Option (List ℕ)
+  pub second : Option (List ℕ)
+  pub rows : Relation
+  pub others : Relation
+
+-- the rows of a table of the next version: those that were made, or else those that it had
+abbrev pub next_rows : MadeRows → ℕ → List MadeTable → List ℕ → Relation
+next_rows made stamp tables name = if is_name made.first name then made.rows else if is_name made.second name then made.others else rows_stored stamp (stored_as name tables)
+
+-- each table of the next version has a relation of its columns
+abbrev pub FitNext : Tables → MadeRows → ℕ → List MadeTable → Type 0
+FitNext next made stamp tables = (name : List ℕ) → (columns : List Column) → get next name ≡ Some columns → IsRelation columns (next_rows made stamp tables name)

@@ -1,0 +1,87 @@
+-- What a command does to groups, made ready.
+use Rattle.std.specs.Prelude.{◌≡◌, ℕ, ◌+◌, ◌<◌, ◌≤◌, ◌^◌, List, [], ◌∷◌, map, length, slice_index_or, Option, Some, None, ⊤}
+use Rattle.std.specs.FinMap.{get}
+use Rattle.relations.specs.Sets.{Ascends}
+use Rattle.relations.specs.Spans.{forever}
+use Rattle.prima_base.specs.Columns.{Column}
+use Rattle.prima_base.specs.Order.{bytes_cmp}
+use Rattle.history_store.specs.Store.{Store}
+use Rattle.history_store.specs.Change.{Plan}
+use Rattle.schema_catalog.specs.Databases.{Database}
+use Rattle.smo_ops.specs.Accepts.{command_fault}
+use Rattle.smo_ops.specs.Commands.{PlainBody, changing, evolving, PlainCommand, PlainVersion, version_of}
+use Rattle.smo_ops.specs.Effects.{rows_at, gained, lost}
+use Rattle.smo_ops.specs.OneRow.{Relation}
+use Rattle.smo_ops.specs.Past.{Past, newest_tables, newest_database, next_version, database_behind}
+use Rattle.version_groups.specs.declared.made_tables.MadeTable.{MadeTable}
+use Rattle.version_groups.specs.declared.next.Step.{Step}
+use Rattle.version_groups.specs.declared.next.Step.TheVariants.{Changed, Evolved}
+use Rattle.version_groups.specs.Groups.{Kept, group_of, stored_as, names_of}
+use Rattle.version_groups.specs.Becoming.{Begins, Leads}
+
+-- a change of each table of the newest version, or none; or the next version, and its tables
+pub data PlainStep : Type 0 where
+  changed : List (Option Plan) → PlainStep
+  evolved : PlainVersion → List MadeTable → PlainStep
+
+abbrev pub step_of : Step → PlainStep
+step_of (Changed plans) = changed plans.items
+step_of (Evolved version tables) = evolved (version_of version) tables.items
+
+-- how many rows are gained and lost, and what is to be done
+pub record Readied : Type 0 where
+  pub gained : ℕ
+  pub lost : ℕ
+  pub step : Step
+
+-- of each table, in turn, a change that leads to what the database has of it from the stamp on
+pub record AreChanges (stamp : ℕ) (next : Database) (tables : List MadeTable) (plans : List (Option Plan)) : Type 0 where
+  pub count : length plans ≡ length tables
+  pub each : (k : ℕ) → (d : MadeTable) → k < length tables
+      → Leads (slice_index_or tables k d).store stamp (rows_at (get next (slice_index_or tables k d).name)) (slice_index_or plans k None)
+
+-- a table is stored just where the next version has one; it begins with these rows
+abbrev pub BeginsEntry : ℕ → Relation → Option (List Column) → Option Store → Type 0
+BeginsEntry stamp rows None None = ⊤
+BeginsEntry stamp rows None (Some store) = ⊥
+BeginsEntry stamp rows (Some columns) None = ⊥
+BeginsEntry stamp rows (Some columns) (Some store) = Begins columns stamp rows store
+
+-- the next version, with its tables in the order of their names, and the room for it
+pub record IsNextVersion (kept : Kept) (due : PlainVersion) (next : Database) (made : PlainVersion) (begun : List MadeTable) : Type 0 where
+  pub version : made ≡ due
+  pub ordered : Ascends bytes_cmp (names_of begun)
+  pub tables : (name : List ℕ) → BeginsEntry due.stamp (rows_at (get next name)) (get due.tables name) (stored_as name begun)
+  pub room : 1 ≤ kept.spare
+  pub fits : length kept.versions + 1 < 2 ^ 32
+
+abbrev pub IsStep : Kept → Past → ℕ → PlainBody → PlainStep → Type 0
+IsStep kept past stamp (changing changes) (changed plans) = AreChanges stamp (database_behind (changing changes) past) (group_of kept (length kept.versions)) plans
+IsStep kept past stamp (changing changes) (evolved version tables) = ⊥
+IsStep kept past stamp (evolving op inverse) (changed plans) = ⊥
+IsStep kept past stamp (evolving op inverse) (evolved version tables) =
+    IsNextVersion kept (next_version stamp op inverse past) (database_behind (evolving op inverse) past) version tables
+
+-- the command is accepted after the past, and what it does was made ready from these groups, which have the room for it
+pub record IsReady (kept : Kept) (past : Past) (command : PlainCommand) (next : Readied) : Type 0 where
+  pub accepted : command_fault past command ≡ None
+  pub lawful : command.stamp < forever
+  pub step : IsStep kept past command.stamp command.body (step_of next.step)
+
+-- the rows that the command gains and loses, over all tables; none where it makes a version
+abbrev pub rows_gained : Past → PlainBody → ℕ
+rows_gained past (changing changes) = gained (newest_database past) (database_behind (changing changes) past)
+rows_gained past (evolving op inverse) = 0
+
+abbrev pub rows_lost : Past → PlainBody → ℕ
+rows_lost past (changing changes) = lost (newest_database past) (database_behind (changing changes) past)
+rows_lost past (evolving op inverse) = 0
+
+abbrev pub a_command : ℕ → PlainBody → PlainCommand
+a_command stamp body = record { stamp = stamp; body = body }
+
+-- what `prepare` makes of a command that is accepted after the past
+pub record Prepares (kept : Kept) (past : Past) (command : PlainCommand) (next : Readied) : Type 0 where
+  pub ready : IsReady kept past command next
+  pub gained : next.gained ≡ rows_gained past command.body
+  pub lost : next.lost ≡ rows_lost past command.body

@@ -1,0 +1,185 @@
+//! What the changes of a command make of one table.
+
+ghost use Rattle.std.specs.Prelude.{◌≡◌, ◌+◌, ◌<◌, ◌≤◌, ◌++◌, ℕ, List, [], ◌∷◌, length, nat_lt, IfOk, None};
+ghost use Rattle.std.specs.Option.{option_map};
+ghost use Rattle.std.specs.FinMap.{get};
+ghost use Rattle.relations.specs.Sets.{set_of};
+ghost use Rattle.relations.specs.Spans.{forever};
+ghost use Rattle.prima_base.specs.Order.{row_cmp};
+ghost use Rattle.prima_base.specs.Columns.{AreColumns, IsRelation};
+ghost use Rattle.history_store.specs.Store.{AllBefore, relation_at};
+ghost use Rattle.smo_ops.specs.Changes.{change_of, changes_of};
+ghost use Rattle.smo_ops.specs.Effects.{gained_rows};
+ghost use Rattle.smo_ops.specs.Inserting.{relation_after_each, insertions};
+ghost use Rattle.version_groups.specs.Becoming.{IsChange};
+ghost use Rattle.version_groups.specs.Changing.{AreAccepted, of_table};
+
+use crate::made_tables::same_name;
+use history_store::{Prepared, StoredTable};
+use prima_base::{ColType, Name, NoMemory, Row};
+use smo_ops::{Change, apply_change, inserted_row, insertions_are_a_union, make_set};
+use std::alloc::Global;
+
+/// Whether one of the changes is of the table with this name. It takes no memory.
+pub(crate) fn is_touched(changes: &[Change], name: &Name) -> bool
+    ensures { result ≡ nat_lt 0 (length (of_table name.now (changes_of changes.now))) }
+{
+    for change in changes {
+        if same_name(change.table(), name) {
+            return true;
+        }
+    }
+    false
+}
+
+// The rows, and the one that the change gives where it is of the table; none where it is no INSERT.
+fn add_given(
+    alloc: Global,
+    columns: &[(Name, ColType)],
+    name: &Name,
+    change: &Change,
+    rows: Vec<Row>,
+) -> Result<Option<Vec<Row>>, NoMemory>
+    ensures { IfOk result (λ o. option_map (λ v. v.items) o
+        ≡ option_map (λ more. rows.items ++ more) (insertions columns.now (of_table name.now (change_of change.now ∷ [])))) }
+{
+    if !same_name(change.table(), name) {
+        return Ok(Some(rows));
+    }
+    let Change::Insert { cells, .. } = change else {
+        return Ok(None);
+    };
+    let mut rows = rows;
+    rows.push(inserted_row(alloc, columns, cells)?)?;
+    Ok(Some(rows))
+}
+
+// The rows that the table's changes give, in order; none where one of them is no INSERT.
+fn given_rows(
+    alloc: Global,
+    columns: &[(Name, ColType)],
+    name: &Name,
+    changes: &[Change],
+) -> Result<Option<Vec<Row>>, NoMemory>
+    ensures { IfOk result (λ o. option_map (λ v. v.items) o ≡ insertions columns.now (of_table name.now (changes_of changes.now))) }
+{
+    let mut rows = Vec::new(alloc);
+    for change in changes {
+        let Some(more) = add_given(alloc, columns, name, change, rows)? else {
+            return Ok(None);
+        };
+        rows = more;
+    }
+    Ok(Some(rows))
+}
+
+// The rows that the table does not have.
+fn keep_fresh(alloc: Global, store: &StoredTable, rows: Vec<Row>) -> Result<Vec<Row>, NoMemory>
+    ensures { (m : ℕ) → m < forever → AllBefore store.now (m + 1) → IfOk result (λ v. v.items ≡ gained_rows (relation_at store.now m) rows.items) }
+{
+    let mut fresh = Vec::new(alloc);
+    for row in rows {
+        if !store.holds(&row) {
+            fresh.push(row)?;
+        }
+    }
+    Ok(fresh)
+}
+
+// The rows behind the change, where it is of the table.
+fn apply_own(
+    alloc: Global,
+    columns: &[(Name, ColType)],
+    name: &Name,
+    change: &Change,
+    rows: Vec<Row>,
+) -> Result<Vec<Row>, NoMemory>
+    requires columns { AreColumns columns.now }
+    requires relation { IsRelation columns.now (set_of row_cmp rows.items) }
+    ensures { IfOk result (λ v. set_of row_cmp v.items
+        ≡ relation_after_each columns.now (of_table name.now (change_of change.now ∷ [])) (set_of row_cmp rows.items)) }
+{
+    if !same_name(change.table(), name) {
+        return Ok(rows);
+    }
+    apply_change(alloc, columns, change, rows)
+}
+
+// The rows behind the table's changes, one after the other.
+fn apply_changes(
+    alloc: Global,
+    columns: &[(Name, ColType)],
+    name: &Name,
+    changes: &[Change],
+    rows: Vec<Row>,
+) -> Result<Vec<Row>, NoMemory>
+    requires columns { AreColumns columns.now }
+    requires accepted { AreAccepted columns.now (of_table name.now (changes_of changes.now)) }
+    requires relation { IsRelation columns.now rows.items }
+    ensures { IfOk result (λ v. v.items ≡ relation_after_each columns.now (of_table name.now (changes_of changes.now)) rows.items) }
+{
+    let mut rows = rows;
+    for change in changes {
+        rows = apply_own(alloc, columns, name, change, rows)?;
+    }
+    make_set(&mut rows);
+    Ok(rows)
+}
+
+// Makes ready that the table gets these rows too, from the stamp on.
+fn prepare_given(
+    alloc: Global,
+    store: &mut StoredTable,
+    stamp: u64,
+    rows: Vec<Row>,
+) -> Result<Prepared, NoMemory>
+    requires before { AllBefore store.old stamp }
+    requires lawful { stamp < forever }
+    requires relation { IsRelation store.old.columns (set_of row_cmp rows.items) }
+    ensures same { store.new ≡ record store.old { spare = store.new.spare } }
+    ensures spare { store.old.spare ≤ store.new.spare }
+    ensures change { IfOk result (λ p. IsChange store.new stamp (set_of row_cmp (relation_at store.old stamp ++ rows.items)) p) }
+    ensures gained { IfOk result (λ p. length p.gained ≡ length (gained_rows (relation_at store.old stamp) (set_of row_cmp (relation_at store.old stamp ++ rows.items)))) }
+    ensures lost { IfOk result (λ p. length p.lost ≡ length (gained_rows (set_of row_cmp (relation_at store.old stamp ++ rows.items)) (relation_at store.old stamp))) }
+{
+    let mut rows = rows;
+    make_set(&mut rows);
+    let fresh = keep_fresh(alloc, store, rows)?;
+    let prepared = store.prepare_change(stamp, &[], &fresh)?;
+    Ok(prepared)
+}
+
+/// Makes the table's changes ready, from the stamp on, and all the room that installing them needs. INSERTs alone cost
+/// as many searches as there are rows; others cost a copy of the current rows, a walk along them for each change, and a
+/// sort. The one error is `NoMemory`, where memory runs out. What the table stands for stays as it is.
+pub(crate) fn prepare_table(
+    alloc: Global,
+    columns: &[(Name, ColType)],
+    name: &Name,
+    store: &mut StoredTable,
+    stamp: u64,
+    changes: &[Change],
+) -> Result<Prepared, NoMemory>
+    requires columns { AreColumns columns.now }
+    requires same { store.old.columns ≡ columns.now }
+    requires accepted { AreAccepted columns.now (of_table name.now (changes_of changes.now)) }
+    requires before { AllBefore store.old stamp }
+    requires lawful { stamp < forever }
+    ensures same { store.new ≡ record store.old { spare = store.new.spare } }
+    ensures spare { store.old.spare ≤ store.new.spare }
+    ensures change { IfOk result (λ p. IsChange store.new stamp (relation_after_each columns.now (of_table name.now (changes_of changes.now)) (relation_at store.old stamp)) p) }
+    ensures gained { IfOk result (λ p. length p.gained ≡ length (gained_rows (relation_at store.old stamp) (relation_after_each columns.now (of_table name.now (changes_of changes.now)) (relation_at store.old stamp)))) }
+    ensures lost { IfOk result (λ p. length p.lost ≡ length (gained_rows (relation_after_each columns.now (of_table name.now (changes_of changes.now)) (relation_at store.old stamp)) (relation_at store.old stamp))) }
+{
+    insertions_are_a_union();
+    let given = given_rows(alloc, columns, name, changes)?;
+    match given {
+        Some(rows) => prepare_given(alloc, store, stamp, rows),
+        None => {
+            let current = store.current()?;
+            let rows = apply_changes(alloc, columns, name, changes, current)?;
+            let prepared = store.prepare(stamp, &rows)?;
+            Ok(prepared)
+        }
+    }
+}

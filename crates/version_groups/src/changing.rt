@@ -1,0 +1,162 @@
+//! What the changes of a command make of the tables of the newest version.
+
+ghost use Rattle.std.specs.Prelude.{◌≡◌, ◌+◌, ◌<◌, length, IfOk};
+ghost use Rattle.relations.specs.Spans.{forever};
+ghost use Rattle.smo_ops.specs.Changes.{changes_of};
+ghost use Rattle.smo_ops.specs.Effects.{gained_rows};
+ghost use Rattle.version_groups.specs.Becoming.{IsChange, Leads, IsMade, HasRoom};
+ghost use Rattle.version_groups.specs.Changing.{IsChangeable, AreChangeable, AreReady, HaveRoom, AreMade, rows_now, rows_behind, all_gained, all_lost, gained_by, lost_by};
+ghost use Rattle.version_groups.specs.Room.{IsSameTable, AreSameTables};
+
+use crate::changes::{is_touched, prepare_table};
+use crate::made_tables::MadeTable;
+use history_store::Prepared;
+use prima_base::NoMemory;
+use schema_catalog::Schema;
+use smo_ops::Change;
+use std::alloc::Global;
+
+/// The changes of tables that are ready, and the rows that they gain and lose.
+#[derive(Drop)]
+pub(crate) struct Changes {
+    pub(crate) gained: u64,
+    pub(crate) lost: u64,
+    pub(crate) plans: Vec<Option<Prepared>>,
+}
+
+// Makes the changes of one table ready.
+fn prepare_touched(
+    alloc: Global,
+    schema: &Schema,
+    table: &mut MadeTable,
+    stamp: u64,
+    changes: &[Change],
+) -> Result<Prepared, NoMemory>
+    requires changeable { IsChangeable schema.now stamp (changes_of changes.now) table.old }
+    requires lawful { stamp < forever }
+    ensures same { IsSameTable table.old table.new }
+    ensures change { IfOk result (λ p. IsChange table.new.store stamp (rows_behind stamp (changes_of changes.now) table.old) p) }
+    ensures gained { IfOk result (λ p. length p.gained ≡ length (gained_rows (rows_now stamp table.old) (rows_behind stamp (changes_of changes.now) table.old))) }
+    ensures lost { IfOk result (λ p. length p.lost ≡ length (gained_rows (rows_behind stamp (changes_of changes.now) table.old) (rows_now stamp table.old))) }
+{
+    let Some(of_schema) = schema.table(&table.name) else {
+        unreachable!();
+    };
+    let columns = of_schema.columns();
+    prepare_table(
+        alloc,
+        columns,
+        &table.name,
+        &mut table.store,
+        stamp,
+        changes,
+    )
+}
+
+// Makes the changes of one table ready, where there are any.
+fn prepare_one(
+    alloc: Global,
+    schema: &Schema,
+    table: &mut MadeTable,
+    stamp: u64,
+    changes: &[Change],
+) -> Result<Option<Prepared>, NoMemory>
+    requires changeable { IsChangeable schema.now stamp (changes_of changes.now) table.old }
+    requires lawful { stamp < forever }
+    ensures same { IsSameTable table.old table.new }
+    ensures leads { IfOk result (λ p. Leads table.new.store stamp (rows_behind stamp (changes_of changes.now) table.old) p) }
+    ensures gained { IfOk result (λ p. gained_by p ≡ length (gained_rows (rows_now stamp table.old) (rows_behind stamp (changes_of changes.now) table.old))) }
+    ensures lost { IfOk result (λ p. lost_by p ≡ length (gained_rows (rows_behind stamp (changes_of changes.now) table.old) (rows_now stamp table.old))) }
+{
+    if is_touched(changes, &table.name) {
+        let prepared = prepare_touched(alloc, schema, table, stamp, changes)?;
+        return Ok(Some(prepared));
+    }
+    Ok(None)
+}
+
+// The rows that a change gains.
+fn gained_by(plan: &Option<Prepared>) -> u64
+    ensures { result ≡ gained_by plan.now }
+{
+    match plan {
+        None => 0,
+        Some(prepared) => prepared.gained(),
+    }
+}
+
+// The rows that a change loses.
+fn lost_by(plan: &Option<Prepared>) -> u64
+    ensures { result ≡ lost_by plan.now }
+{
+    match plan {
+        None => 0,
+        Some(prepared) => prepared.lost(),
+    }
+}
+
+// The sum of two counts. No table has so many rows that it would not fit: there is no memory for them.
+fn sum(a: u64, b: u64) -> Result<u64, NoMemory>
+    ensures { IfOk result (λ n. n ≡ a + b) }
+{
+    match a.checked_add(b) {
+        Some(n) => Ok(n),
+        None => Err(NoMemory),
+    }
+}
+
+/// Makes the changes of each table ready, from the stamp on, and all the room that installing them needs. Only tables
+/// that a change is of are looked at. The one error is `NoMemory`, where memory runs out. What the tables stand for stays
+/// as it is.
+pub(crate) fn prepare_tables(
+    alloc: Global,
+    schema: &Schema,
+    tables: &mut Vec<MadeTable>,
+    stamp: u64,
+    changes: &[Change],
+) -> Result<Changes, NoMemory>
+    requires changeable { AreChangeable schema.now stamp (changes_of changes.now) tables.old.items }
+    requires lawful { stamp < forever }
+    ensures same { AreSameTables tables.old.items tables.new.items }
+    ensures ready { IfOk result (λ c. AreReady stamp (changes_of changes.now) tables.new.items c.plans.items) }
+    ensures gained { IfOk result (λ c. c.gained ≡ all_gained stamp (changes_of changes.now) tables.old.items) }
+    ensures lost { IfOk result (λ c. c.lost ≡ all_lost stamp (changes_of changes.now) tables.old.items) }
+{
+    let mut plans = Vec::with_capacity(alloc, tables.len())?;
+    let mut gained = 0;
+    let mut lost = 0;
+    for i in 0..tables.len() {
+        let plan = prepare_one(alloc, schema, &mut tables[i], stamp, changes)?;
+        gained = sum(gained, gained_by(&plan))?;
+        lost = sum(lost, lost_by(&plan))?;
+        plans.push(plan)?;
+    }
+    Ok(Changes {
+        gained,
+        lost,
+        plans,
+    })
+}
+
+// Makes the change of one table. It takes no memory.
+fn install_one(table: &mut MadeTable, plan: Option<Prepared>)
+    requires { HasRoom table.old.store plan }
+    ensures { IsMade table.old plan table.new }
+{
+    match plan {
+        None => {}
+        Some(prepared) => table.store.install(prepared),
+    }
+}
+
+/// Makes the changes that are ready. It takes no memory.
+pub(crate) fn install_tables(tables: &mut Vec<MadeTable>, plans: Vec<Option<Prepared>>)
+    requires { HaveRoom tables.old.items plans.items }
+    ensures { AreMade tables.old.items plans.items tables.new.items }
+{
+    let mut i = 0;
+    for plan in plans {
+        install_one(&mut tables[i], plan);
+        i += 1;
+    }
+}

@@ -1,0 +1,51 @@
+use crate::made_tables::MadeTable;
+use history_store::Prepared;
+use smo_ops::Version;
+use std::marker::Model;
+
+/// What a command does.
+#[derive(Drop)]
+pub(crate) enum Step {
+    /// A change of each table of the newest version, or none.
+    Changed(Vec<Option<Prepared>>),
+    /// The next version, and its tables.
+    Evolved(Version, Vec<MadeTable>),
+}
+
+/// A command that was made ready: it is installed into the groups that prepared it.
+#[derive(Drop)]
+pub struct Next {
+    pub(crate) gained: u64,
+    pub(crate) lost: u64,
+    pub(crate) step: Step,
+}
+
+impl Model for Next {
+    ghost use Rattle.version_groups.specs.Steps.{Readied};
+    ghost use Rattle.version_groups.specs.contracts.next.Step as step_row;
+    ghost use Rattle.std.specs.Coded.{codes};
+
+    ghost Value = { Readied };
+
+    ghost coded = { Prim.hlevel (codes, step_row.the_row.coded) };
+
+    ghost view = { λ n. record { gained = n.gained; lost = n.lost; step = n.step } };
+}
+
+impl Next {
+    ghost use Rattle.std.specs.Prelude.{◌≡◌};
+
+    /// How many rows the command gains, over all tables; 0 for an operator.
+    pub fn gained(&self) -> u64
+        ensures { result ≡ self.now.gained }
+    {
+        self.gained
+    }
+
+    /// How many rows the command loses, over all tables; 0 for an operator.
+    pub fn lost(&self) -> u64
+        ensures { result ≡ self.now.lost }
+    {
+        self.lost
+    }
+}
