@@ -10,13 +10,15 @@ use Rattle.script_parse.specs.declared.splitter.Tail.TheVariants as tail
 use Rattle.smo_ops.specs.Commands.{PlainBody, changing, evolving, PlainCommand}
 use Rattle.smo_ops.specs.Checks.{Fault}
 use Rattle.smo_ops.specs.Effects.{gained, lost}
-use Rattle.smo_ops.specs.Past.{Past, beginning, newest_database, past_with}
+use Rattle.smo_ops.specs.Past.{Past, beginning, newest_database, database_behind, past_with, tables_of}
 use Rattle.smo_ops.specs.Accepts.{command_fault}
-use Rattle.script_parse.specs.Statements.{PlainStatement, write, ask}
+use Rattle.temporal_lang.specs.Queries.{PlainQuery}
+use Rattle.temporal_lang.specs.Accepted.{version_fault}
+use Rattle.script_parse.specs.Statements.{PlainStatement, write, ask, show_versions, show_schema}
 use Rattle.script_parse.specs.Reading.{Reading, Blank, Refused, Whole, reading}
-use Rattle.script_cli.specs.Asking.{query_fault, answer}
+use Rattle.archive_core.specs.Asking.{query_fault, own_answer}
 use Rattle.script_cli.specs.RefusalTexts.{refusal_text}
-use Rattle.script_cli.specs.Texts.{changed_text, evolved_text, listing_text}
+use Rattle.script_cli.specs.Texts.{changed_text, evolved_text, listing_text, versions_text, schema_text}
 
 -- a reply: its bytes, the past behind the statement, and whether it is an `error` line
 pub record Reply : Type 0 where
@@ -35,9 +37,9 @@ abbrev pub refused_or : Fault → Past → Reply → Reply
 refused_or None past reply = reply
 refused_or (Some r) past reply = refused r past
 
--- the line of an accepted command, by the past behind it: the rows that it gained and lost, or its version
+-- the line of an accepted command: the rows gained and lost from the newest database to that behind the changes, or the number of the version
 abbrev pub body_text : ℕ → PlainBody → Past → Past → List ℕ
-body_text stamp (changing changes) past next = changed_text stamp (gained (newest_database past) (newest_database next)) (lost (newest_database past) (newest_database next))
+body_text stamp (changing changes) past next = changed_text stamp (gained (newest_database past) (database_behind (changing changes) past)) (lost (newest_database past) (database_behind (changing changes) past))
 body_text stamp (evolving op inverse) past next = evolved_text stamp (length next.versions)
 
 abbrev pub command_text : PlainCommand → Past → Past → List ℕ
@@ -46,12 +48,17 @@ command_text command past next = body_text command.stamp command.body past next
 abbrev pub command_reply : PlainCommand → Past → Reply
 command_reply command past = refused_or (command_fault past command) past (accepted (command_text command past (past_with past command)) (past_with past command))
 
-abbrev pub query_reply : ℕ → List (List ℕ) → List ℕ → Past → Reply
-query_reply version names table past = refused_or (query_fault past version names table) past (accepted (listing_text (answer past version names table)) past)
+abbrev pub query_reply : PlainQuery → Past → Reply
+query_reply query past = refused_or (query_fault past query) past (accepted (listing_text (own_answer past query)) past)
+
+abbrev pub schema_reply : ℕ → Past → Reply
+schema_reply version past = refused_or (version_fault past version) past (accepted (schema_text (tables_of past version)) past)
 
 abbrev pub statement_reply : PlainStatement → Past → Reply
 statement_reply (write command) past = command_reply command past
-statement_reply (ask version names table) past = query_reply version names table past
+statement_reply (ask query) past = query_reply query past
+statement_reply show_versions past = accepted (versions_text past.versions) past
+statement_reply (show_schema version) past = schema_reply version past
 
 abbrev pub reading_reply : Reading → Past → Reply
 reading_reply Blank past = accepted [] past

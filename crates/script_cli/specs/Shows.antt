@@ -4,12 +4,11 @@ use Rattle.std.specs.Io.KnownBytes.{Appends}
 use Rattle.prima_io.specs.Causes.{Rose}
 use Rattle.prima_io.specs.Moves.{AppendsFront}
 use Rattle.script_parse.specs.Script.{Piece, pieces_from, tail_from, ending}
-use Rattle.script_cli.specs.declared.archive.Archive.{Archive}
+use Rattle.archive_core.specs.Standing.{Standing, ShowsPast}
 use Rattle.script_cli.specs.declared.sessions.Session.{Session}
 use Rattle.script_cli.specs.declared.stops.Stop.{Stop}
 use Rattle.script_cli.specs.declared.stops.Stop.TheVariants.{WriteFault}
 use Rattle.smo_ops.specs.Past.{Past}
-use Rattle.script_cli.specs.ShowsPast.{ShowsPast}
 use Rattle.script_cli.specs.Output.{Reply, replies, past_after, any_error}
 use Rattle.script_parse.specs.declared.splitter.Tail.{Tail}
 
@@ -18,13 +17,13 @@ abbrev pub Says : Reply → Result Bool Stop → Option (List ℕ) → Option (L
 Says reply result old new = MatchResult result (λ is_error. (is_error ≡ reply.is_error) × Appends old new reply.text) (λ _. AppendsFront old new reply.text)
 
 -- the whole reply was put, and the archive shows the past behind it
-pub record Replied (reply : Reply) (is_error : Bool) (archive : Archive) (written_old written_new : Option (List ℕ)) : Type 0 where
+pub record Replied (reply : Reply) (is_error : Bool) (archive : Standing) (written_old written_new : Option (List ℕ)) : Type 0 where
   pub is : is_error ≡ reply.is_error
   pub past : ShowsPast archive reply.past
   pub text : Appends written_old written_new reply.text
 
 -- it was, or a front of it was put
-abbrev pub Responds : Reply → Result Bool Stop → Archive → Option (List ℕ) → Option (List ℕ) → Type 0
+abbrev pub Responds : Reply → Result Bool Stop → Standing → Option (List ℕ) → Option (List ℕ) → Type 0
 Responds reply result archive old new = MatchResult result (λ is_error. Replied reply is_error archive old new) (λ _. AppendsFront old new reply.text)
 
 -- the sink's count has not fallen, and a stop by the sink has raised it

@@ -5,16 +5,17 @@
 #![tactic(auto)]
 
 mod adapters;
-mod archive;
-mod asking;
-mod changing;
+mod bytes;
+#[cfg(test)]
+mod evolve_tests;
+#[cfg(test)]
+mod inverse_tests;
 #[cfg(test)]
 mod language_tests;
 #[cfg(test)]
 mod limit_tests;
 mod lines;
 mod listings;
-mod queries;
 mod refusals;
 mod replies;
 #[cfg(test)]
@@ -23,10 +24,10 @@ mod responses;
 mod runs;
 #[cfg(test)]
 mod runs_tests;
+mod schemas;
 mod sessions;
 mod stops;
-mod stretches;
-mod tables;
+mod versions;
 
 use adapters::{ReaderSource, WriterSink};
 pub use runs::{Status, Word, run};

@@ -1,12 +1,15 @@
 //! The lines of accepted commands, and that of wrong words.
 
-ghost use Rattle.std.specs.Prelude.{OnOk, OnErr};
+ghost use Rattle.std.specs.Prelude.{◌≡◌, ℕ, List, OnOk, OnErr, IfOk};
 ghost use Rattle.std.specs.Io.KnownBytes.{Appends};
 ghost use Rattle.prima_io.specs.Causes.{HasCause};
-ghost use Rattle.prima_io.specs.Moves.{AppendsLess};
+ghost use Rattle.prima_io.specs.Moves.{AppendsLess, AppendsFront};
+ghost use Rattle.script_cli.specs.Shows.{HasStopCause};
 ghost use Rattle.script_cli.specs.Texts.{changed_text, evolved_text, wrong_words_text};
 
 use crate::lines::Line;
+use crate::stops::Stop;
+use prima_base::NoMemory;
 use prima_io::{Failed, Sink, put_all};
 
 /// Puts the reply to a command of changes at this moment that gained and lost so many rows. `Failed`, here
@@ -58,4 +61,20 @@ pub(crate) fn put_wrong_words<K: Sink>(sink: &mut K) -> Result<(), Failed>
     ensures cause { HasCause (K.faults sink.old) (K.faults sink.new) result }
 {
     put_all(sink, b"fault 2\n")
+}
+
+/// Puts lines that were made in memory, or stops where they were not. `WriteFault` comes only where the sink's count of
+/// faults rose; a front of the lines was then put, as of those that found no memory.
+pub(crate) fn put_lines<K: Sink>(sink: &mut K, lines: Result<Vec<u8>, NoMemory>) -> Result<(), Stop>
+    ensures all { (text : List ℕ) → IfOk lines (λ l. l.items ≡ text) → OnOk result (Appends (K.written sink.old) (K.written sink.new) text) }
+    ensures part { (text : List ℕ) → IfOk lines (λ l. l.items ≡ text) → OnErr result (AppendsFront (K.written sink.old) (K.written sink.new) text) }
+    ensures cause { HasStopCause (K.faults sink.old) (K.faults sink.new) result }
+{
+    match lines {
+        Ok(lines) => match put_all(sink, &lines) {
+            Ok(()) => Ok(()),
+            Err(Failed) => Err(Stop::WriteFault),
+        },
+        Err(NoMemory) => Err(Stop::NoMemory),
+    }
 }

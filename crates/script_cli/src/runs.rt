@@ -1,22 +1,23 @@
 //! A run: from the words, the bytes of the script and what the sink takes to a status.
 
-ghost use Rattle.std.specs.Prelude.{◌≡◌, ◌+◌, ◌<◌, ◌≤◌, ◌↔◌, ◌⊎◌, List, ℕ, length, take, true, false, None, map, string_bytes, IfOk, MatchResult};
+ghost use Rattle.std.specs.Prelude.{◌≡◌, ◌+◌, ◌<◌, ◌≤◌, ◌↔◌, ◌⊎◌, List, [], ℕ, length, take, true, false, Some, None, map, string_bytes, IfOk, MatchResult};
 ghost use Rattle.std.specs.Io.KnownBytes.{Appends, Consumes, IsAtEnd, Keeps};
 ghost use Rattle.prima_io.specs.Causes.{HasCause, Rose};
 ghost use Rattle.prima_io.specs.Moves.{AppendsFront, AppendsLess};
-ghost use Rattle.relations.specs.Spans.{always};
+ghost use Rattle.relations.specs.Spans.{Span};
 ghost use Rattle.relations.specs.Listing.{IsListing};
 ghost use Rattle.prima_base.specs.Order.{row_cmp};
 ghost use Rattle.smo_ops.specs.Accepts.{command_fault};
 ghost use Rattle.smo_ops.specs.Commands.{PlainCommand};
 ghost use Rattle.smo_ops.specs.Past.{Past, beginning, database_at, database_behind, past_with};
-ghost use Rattle.script_cli.specs.Asking.{query_fault, asked_at, answer};
+ghost use Rattle.temporal_lang.specs.Queries.{PlainQuery};
+ghost use Rattle.archive_core.specs.Asking.{query_fault, own_slice, own_asked, own_answer};
 ghost use Rattle.script_parse.specs.Script.{Piece, statements_of, tail_of};
 ghost use Rattle.script_parse.specs.Joining.{joined, IsStatement, IsTail, Each};
 ghost use Rattle.script_cli.specs.Output.{output, past_after, reply, is_error_line};
 ghost use Rattle.script_cli.specs.Texts.{wrong_words_text};
 ghost use Rattle.script_parse.specs.Lexing.{TextsAreLexed};
-ghost use Rattle.script_parse.specs.Reading.{IsReading, ReadingsAreOne, StatementsAreRead, reading};
+ghost use Rattle.script_parse.specs.Reading.{IsReading, LimitsAreKept, ReadingsAreOne, StatementsAreRead, reading};
 ghost use Rattle.script_cli.specs.Runs.{Ran, RefusedWords, WhereTold, is_whole, are_accepted, Ends};
 
 use crate::SCRIPT_LIMIT;
@@ -25,8 +26,8 @@ use crate::sessions::Session;
 use crate::stops::Stop;
 use prima_io::{Failed, Sink, Source};
 use script_parse::{
-    readings_are_of_the_grammar, readings_are_one, script_is_its_statements, statements_are_read,
-    texts_are_lexed,
+    limits_are_kept, readings_are_of_the_grammar, readings_are_one, script_is_its_statements,
+    statements_are_read, texts_are_lexed,
 };
 use smo_ops::a_command_is_seen_from_its_stamp_on;
 use std::alloc::Global;
@@ -179,8 +180,10 @@ fn refuse_words<K: Sink>(sink: &mut K) -> Status
 /// - `reads`: a statement is read as the grammar has it, and another text is refused at the first byte
 ///   or token from which no statement goes on, or for what is too much;
 /// - `readable` and `only`: each statement of the grammar is read, and no text is read otherwise;
+/// - `limits`: what is too much is refused at the token at which it is;
 /// - `seen`: an accepted command changes the database of each moment from its stamp on, and of no other;
-/// - `answers`: a query lists each row with the longest periods in which it holds, moment by moment;
+/// - `answers`: a query lists each row with the longest periods in which it holds, moment by moment, while its
+///   version is in force;
 /// - `errors`: just the refused statements have an `error` line.
 pub fn run<S: Source, K: Sink>(
     alloc: Global,
@@ -213,15 +216,19 @@ pub fn run<S: Source, K: Sink>(
     // Each statement of the grammar is read if it is within the limits, and else refused for what is over its limit.
     ensures readable { StatementsAreRead }
 
-    // But for what is too much, no text has another reading.
+    // No text has another reading.
     ensures only { ReadingsAreOne }
+
+    // A count that passes its limit at a token is refused, whatever stands behind that token.
+    ensures limits { LimitsAreKept }
 
     // The tokens of a text, or its first lexical fault, are the one list, or the one fault, of the lexer's relation.
     ensures lexes { TextsAreLexed }
 
-    // The answer to a query that is not refused, behind some statements, by moments.
-    ensures answers { (statements : List Piece) → (version : ℕ) → (columns : List (List ℕ)) → (table : List ℕ) → let past = past_after beginning statements in
-        query_fault past version columns table ≡ None → IsListing row_cmp (asked_at past version columns table) always (answer past version columns table) }
+    // The answer to a query that is not refused, behind some statements: each row with the longest periods in which it holds, among the
+    // moments of the slice at which the asked version is in force. What holds at such a moment is asked of that moment's database.
+    ensures answers { (statements : List Piece) → (query : PlainQuery) → (slice : Span) → let past = past_after beginning statements in
+        query_fault past query ≡ None → query.keep ≡ [] → own_slice past query ≡ Some slice → IsListing row_cmp (own_asked past query) slice (own_answer past query) }
 
     // A command that is accepted behind some statements is seen from its stamp on: before it each moment's database is as it was.
     ensures seen { (statements : List Piece) → (command : PlainCommand) → (m : ℕ) → let past = past_after beginning statements in
@@ -240,6 +247,7 @@ pub fn run<S: Source, K: Sink>(
     readings_are_of_the_grammar();
     statements_are_read();
     readings_are_one();
+    limits_are_kept();
     a_command_is_seen_from_its_stamp_on();
     if !are_accepted(words) {
         return refuse_words(sink);

@@ -7,13 +7,13 @@ ghost use Rattle.prima_base.specs.declared.refusals.Refusal.TheVariants as refus
 ghost use Rattle.script_parse.specs.Splitting.{fresh};
 ghost use Rattle.script_cli.specs.RefusalTexts.{refusal_text};
 ghost use Rattle.smo_ops.specs.Past.{Past, beginning};
-ghost use Rattle.script_cli.specs.ShowsPast.{ShowsPast};
+ghost use Rattle.archive_core.specs.Standing.{ShowsPast};
 ghost use Rattle.script_cli.specs.Output.{reply, replies, refused, tail_text, tail_is_due};
 ghost use Rattle.script_cli.specs.Shows.{HasStopCause, Took, Answered, pieces_behind, ending_behind};
 
-use crate::archive::Archive;
 use crate::responses::{refuse, respond};
 use crate::stops::Stop;
+use archive_core::Archive;
 use prima_base::{NoMemory, Refusal};
 use prima_io::Sink;
 use script_parse::{Cut, Splitter, Tail};

@@ -6,7 +6,6 @@ use Rattle.lexer.specs.Parsing.{Takes, Whole, arm_run, map_to}
 use Rattle.lexer.specs.Reads.{sees}
 use Rattle.lexer.proofs.ReadSteps.{choose_takes}
 use Rattle.script_parse.specs.StatementReader.{evolve_rest, change, changes, body}
-use Rattle.script_parse.specs.NextReader as next
 
 pub body_evolves : (n : ℕ) (ts : List Lexeme) → sees (is_word (codes "EVOLVE")) ts ≡ true → body n ts ≡ evolve_rest n (drop 1 ts)
 unfolding body
@@ -16,12 +15,3 @@ pub body_changes : (n : ℕ) (ts : List Lexeme) → sees (is_word (codes "EVOLVE
 unfolding body changes change
 body_changes n [] e = refl
 body_changes n (x ∷ ts) e = ap (λ b. arm_run (cond b (Takes evolve_rest) (Whole (map_to (λ l. changing l) changes))) x n ts) e
-
-pub next_body_evolves : (n : ℕ) (ts : List Lexeme) → sees (is_word (codes "EVOLVE")) ts ≡ true → next.body n ts ≡ next.evolve_rest n (drop 1 ts)
-unfolding next.body
-next_body_evolves n ts e = choose_takes (is_word (codes "EVOLVE")) next.evolve_rest (λ x. Whole (map_to (λ l. changing l) changes)) n ts e
-
-pub next_body_changes : (n : ℕ) (ts : List Lexeme) → sees (is_word (codes "EVOLVE")) ts ≡ false → next.body n ts ≡ map_to (λ l. changing l) changes n ts
-unfolding next.body changes change
-next_body_changes n [] e = refl
-next_body_changes n (x ∷ ts) e = ap (λ b. arm_run (cond b (Takes next.evolve_rest) (Whole (map_to (λ l. changing l) changes))) x n ts) e

@@ -6,7 +6,7 @@ use Rattle.prima_base.specs.declared.refusals.What.TheVariants as what
 use Rattle.lexer.specs.Lexemes.{Lexeme}
 use Rattle.lexer.specs.Parsing.{Size, Out, Got, Stuck, Over, Parser, Explains, Fine, CanGoOn, Exceeds, Good}
 use Rattle.lexer.specs.Found.{IsFirst}
-use Rattle.script_parse.specs.Reading.{IsWithin, OnlyExceeds}
+use Rattle.script_parse.specs.Reading.{IsWithin}
 
 -- what is within the limits exceeds none
 pub within_none : (w : What) (s : Size) → IsWithin s → Exceeds w 0 32 s → ⊥
@@ -62,13 +62,6 @@ module _ {A : Type 0} (p : Parser A) (G : A → Size → List Lexeme → Type 0)
         let C : List Lexeme → Type 0 = λ l. CanGoOn G l in
         subst P (sym number) (omega (arith, lengths), subst C (sym before) can, λ within more. let k = subst C with_it more in never_fine k.1 k.2 k.0 (ends_there front x make same k.0 k.1 k.2 k.3))
 
-    -- it goes on, but only to what is too much
-    only : (w : What) → CanGoOn G (front ++ x ∷ []) → ((other : List Lexeme) → p 0 (front ++ x ∷ other) ≡ Over w (x ∷ other)) → OnlyExceeds w G ts (length ts - length (x ∷ rest))
-    only w can same =
-        let P : ℕ → Type 0 = λ k. OnlyExceeds w G ts k in
-        let C : List Lexeme → Type 0 = λ l. CanGoOn G l in
-        subst P (sym number) (omega (arith, lengths), subst C (sym with_it) can, λ more b s k. let Q : List Lexeme → Type 0 = λ l. G b s (l ++ more) in ends_there front x (Over w) same more b s (subst Q with_it k))
-
   -- ---- by what reading says
 
   pub got_all : (a : A) (m : ℕ) → p 0 ts ≡ Got a m [] → (s : Size) × G a s ts × IsWithin s
@@ -91,7 +84,3 @@ module _ {A : Type 0} (p : Parser A) (G : A → Size → List Lexeme → Type 0)
       let h = explained (Stuck []) e in
       let P : List Lexeme → Type 0 = λ l. CanGoOn G l in
       (subst P (sym (h.1 ∙ append-nil h.0)) h.2, λ a s g. fine (Stuck []) e a s g)
-
-  pub over_only : (w : What) (rest : List Lexeme) → p 0 ts ≡ Over w rest → OnlyExceeds w G ts (length ts - length rest)
-  over_only w [] e = let h = explained (Over w []) e in absurd h.2
-  over_only w (x ∷ rest) e = let h = explained (Over w (x ∷ rest)) e in only h.0 x rest h.1 w h.2 h.3

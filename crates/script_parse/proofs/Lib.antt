@@ -5,14 +5,13 @@ pub mod Padding
 mod Worked
 pub mod TextLexing
 pub mod BlankTexts
+pub mod ChangeGoodness
 pub mod StatementGoodness
+pub mod StatementAlong
 pub mod FirstFaults
 pub mod ReadingLaws
 pub mod ConstantSteps
 pub mod BodySteps
 pub mod TokenReading
 pub mod OneReading
-pub mod NextGoodness
-pub mod NextAlong
-pub mod NextReadingLaws
-pub mod NextTokens
+pub mod AnswersRead

@@ -1,21 +1,26 @@
--- But for what is too much, a text has one reading by the grammar.
+-- By the grammar a text has one reading.
 use Rattle.std.proofs.Common.{◌≡◌, ℕ, zero, suc, ◌+◌, ◌-◌, ◌<◌, ◌≤◌, nat_lt, List, [], ◌∷◌, ◌++◌, ◌⊎◌, length, take, drop, inl, inr, refl, sym, ap, ◌∙◌, subst, append_assoc, append-nil, arith}
 use Rattle.std.proofs.lemmas.List.{take-append-drop}
 use Rattle.std.proofs.lemmas.Bool.Decides.{nat_tests}
 use Rattle.prima_base.specs.declared.refusals.Refusal.{Refusal}
 use Rattle.prima_base.specs.declared.refusals.Refusal.TheVariants as refusal
+use Rattle.prima_base.specs.declared.refusals.What.{What}
 use Rattle.lexer.specs.Lexemes.{Lexeme}
-use Rattle.lexer.specs.Parsing.{Size, Out, Got, Stuck, Over, CanGoOn}
+use Rattle.lexer.specs.Parsing.{Size, Out, Got, Stuck, Over, CanGoOn, limit}
 use Rattle.lexer.specs.Found.{IsFirst}
 use Rattle.lexer.proofs.Parsing.{by_test}
+use Rattle.lexer.proofs.Passing.{over_at}
 use Rattle.script_parse.specs.Statements.{PlainStatement}
 use Rattle.script_parse.specs.Lexing.{Placed, Lexed, Tokens, Faulty, lexed, saying}
 use Rattle.script_parse.specs.Productions.{IsStatement}
 use Rattle.script_parse.specs.StatementReader.{statement, goes_statement}
-use Rattle.script_parse.specs.Reading.{Reading, Blank, Refused, Whole, place, place_before, answered, read_as, reading, IsWrongAt, IsUnfinished, IsReading, IsOver, ReadingsAreOne}
+use Rattle.script_parse.specs.StatementPasses.{statement_passes}
+use Rattle.script_parse.specs.Reading.{Reading, Blank, Refused, Whole, place, place_before, answered, read_as, reading, IsTooMuch, IsWrongAt, IsUnfinished, EndsWrong, IsReading, ReadingsAreOne}
+use Rattle.script_parse.proofs.BlankTexts.{pads_are_blank}
 use Rattle.script_parse.proofs.FirstFaults.{got_all, got_first, stuck_first, stuck_out}
 use Rattle.script_parse.proofs.StatementGoodness.{statement_good}
-use Rattle.script_parse.proofs.ReadingLaws.{wrong_at, at_end, are_read}
+use Rattle.script_parse.proofs.StatementAlong.{statement_reads, statement_sized}
+use Rattle.script_parse.proofs.ReadingLaws.{wrong_at, at_end, are_read, too_much}
 
 -- ---- what can go on could before
 
@@ -53,64 +58,73 @@ module _ {A : Type 0} (G : A → Size → List Lexeme → Type 0) (ts : List Lex
 
 -- ---- by what the reader of statements says
 
-abbrev Agrees : Reading → Reading → Type 0
-Agrees found r = (found ≡ r) ⊎ (IsOver found ⊎ IsOver r)
-
-module _ (tokens : List Placed) (end : ℕ) where
+module _ (tokens : List Placed) (end : ℕ) (none : (w : What) → IsTooMuch w tokens → ⊥) where
   abbrev all : List Lexeme
   all = saying tokens
 
-  same_place : (at left : ℕ) → IsWrongAt tokens at → IsFirst IsStatement all (length all - left) → Agrees (Refused (refusal.Syntax (place_before tokens left end))) (Refused (refusal.Syntax at))
+  not_over : (w : What) (rest : List Lexeme) → statement 0 all ≡ Over w rest → ⊥
+  not_over w rest e = none w (over_at statement IsStatement goes_statement statement_good statement_passes statement_reads statement_sized all w rest e)
+
+  same_place : (at left : ℕ) → IsWrongAt tokens at → IsFirst IsStatement all (length all - left) → Refused (refusal.Syntax (place_before tokens left end)) ≡ Refused (refusal.Syntax at)
   same_place at left h first =
       let found = wrong_at tokens end left first in
       let same : found.0 ≡ h.0 = one_first IsStatement all found.0 h.0 found.2 h.2 in
-      inl (ap (λ p. Refused (refusal.Syntax p)) (found.1 ∙ ap (λ k. place tokens k 0) same ∙ sym h.1))
+      ap (λ p. Refused (refusal.Syntax p)) (found.1 ∙ ap (λ k. place tokens k 0) same ∙ sym h.1)
 
-  wrong_agrees : (at : ℕ) → IsWrongAt tokens at → (o : Out PlainStatement) → statement 0 all ≡ o → Agrees (answered tokens end o) (Refused (refusal.Syntax at))
-  wrong_agrees at h (Got s m []) e = let k = got_all statement IsStatement goes_statement statement_good all s m e in absurd (not_all IsStatement all h.0 h.2 (is_all IsStatement all s k.0 k.1))
-  wrong_agrees at h (Got s m (x ∷ rest)) e = same_place at (length (x ∷ rest)) h (got_first statement IsStatement goes_statement statement_good all s m x rest e)
-  wrong_agrees at h (Stuck []) e = let k = stuck_out statement IsStatement goes_statement statement_good all e in absurd (not_all IsStatement all h.0 h.2 k.0)
-  wrong_agrees at h (Stuck (x ∷ rest)) e = same_place at (length (x ∷ rest)) h (stuck_first statement IsStatement goes_statement statement_good all x rest e)
-  wrong_agrees at h (Over w rest) e = inr (inl (w, refl))
+  is_wrong : (at : ℕ) → IsWrongAt tokens at → (o : Out PlainStatement) → statement 0 all ≡ o → answered tokens end o ≡ Refused (refusal.Syntax at)
+  is_wrong at h (Got s m []) e = let k = got_all statement IsStatement goes_statement statement_good all s m e in absurd (not_all IsStatement all h.0 h.2 (is_all IsStatement all s k.0 k.1))
+  is_wrong at h (Got s m (x ∷ rest)) e = same_place at (length (x ∷ rest)) h (got_first statement IsStatement goes_statement statement_good all s m x rest e)
+  is_wrong at h (Stuck []) e = let k = stuck_out statement IsStatement goes_statement statement_good all e in absurd (not_all IsStatement all h.0 h.2 k.0)
+  is_wrong at h (Stuck (x ∷ rest)) e = same_place at (length (x ∷ rest)) h (stuck_first statement IsStatement goes_statement statement_good all x rest e)
+  is_wrong at h (Over w rest) e = absurd (not_over w rest e)
 
-  unfinished_agrees : CanGoOn IsStatement all → ((s : PlainStatement) (size : Size) → IsStatement s size all → ⊥) → (o : Out PlainStatement) → statement 0 all ≡ o → Agrees (answered tokens end o) (Refused (refusal.Syntax end))
-  unfinished_agrees can none (Got s m []) e = let k = got_all statement IsStatement goes_statement statement_good all s m e in absurd (none s k.0 k.1)
-  unfinished_agrees can none (Got s m (x ∷ rest)) e = absurd (not_all IsStatement all (length all - length (x ∷ rest)) (got_first statement IsStatement goes_statement statement_good all s m x rest e) can)
-  unfinished_agrees can none (Stuck []) e = inl (ap (λ p. Refused (refusal.Syntax p)) (at_end tokens end))
-  unfinished_agrees can none (Stuck (x ∷ rest)) e = absurd (not_all IsStatement all (length all - length (x ∷ rest)) (stuck_first statement IsStatement goes_statement statement_good all x rest e) can)
-  unfinished_agrees can none (Over w rest) e = inr (inl (w, refl))
+  is_unfinished : CanGoOn IsStatement all → ((s : PlainStatement) (size : Size) → IsStatement s size all → ⊥) → (o : Out PlainStatement) → statement 0 all ≡ o → answered tokens end o ≡ Refused (refusal.Syntax end)
+  is_unfinished can never (Got s m []) e = let k = got_all statement IsStatement goes_statement statement_good all s m e in absurd (never s k.0 k.1)
+  is_unfinished can never (Got s m (x ∷ rest)) e = absurd (not_all IsStatement all (length all - length (x ∷ rest)) (got_first statement IsStatement goes_statement statement_good all s m x rest e) can)
+  is_unfinished can never (Stuck []) e = ap (λ p. Refused (refusal.Syntax p)) (at_end tokens end)
+  is_unfinished can never (Stuck (x ∷ rest)) e = absurd (not_all IsStatement all (length all - length (x ∷ rest)) (stuck_first statement IsStatement goes_statement statement_good all x rest e) can)
+  is_unfinished can never (Over w rest) e = absurd (not_over w rest e)
 
--- some token is wrong, so there is one
-wrong_read : (tokens : List Placed) (end at : ℕ) → IsWrongAt tokens at → Agrees (read_as end (Tokens tokens)) (Refused (refusal.Syntax at))
-wrong_read [] end at h = let k = h.2.0 in absurd (omega (arith, k))
-wrong_read (t ∷ tokens) end at h = wrong_agrees (t ∷ tokens) end at h (statement 0 (saying (t ∷ tokens))) refl
+-- some token is wrong, or a statement goes on with them all, so there is one
+wrong_read : (tokens : List Placed) (end at : ℕ) → ((w : What) → IsTooMuch w tokens → ⊥) → IsWrongAt tokens at → read_as end (Tokens tokens) ≡ Refused (refusal.Syntax at)
+wrong_read [] end at none h = let k = h.2.0 in absurd (omega (arith, k))
+wrong_read (t ∷ tokens) end at none h = is_wrong (t ∷ tokens) end none at h (statement 0 (saying (t ∷ tokens))) refl
 
-unfinished_read : (tokens : List Placed) (end : ℕ) → IsUnfinished tokens → Agrees (read_as end (Tokens tokens)) (Refused (refusal.Syntax end))
-unfinished_read [] end h = absurd h
-unfinished_read (t ∷ tokens) end h = unfinished_agrees (t ∷ tokens) end h.0 h.1 (statement 0 (saying (t ∷ tokens))) refl
+unfinished_read : (tokens : List Placed) (end : ℕ) → ((w : What) → IsTooMuch w tokens → ⊥) → IsUnfinished tokens → read_as end (Tokens tokens) ≡ Refused (refusal.Syntax end)
+unfinished_read [] end none h = absurd h
+unfinished_read (t ∷ tokens) end none h = is_unfinished (t ∷ tokens) end none h.0 h.1 (statement 0 (saying (t ∷ tokens))) refl
+
+-- some token is too much, so there is one
+over_read : (tokens : List Placed) (end : ℕ) (w : What) → IsTooMuch w tokens → read_as end (Tokens tokens) ≡ Refused (refusal.TooMany w (limit w))
+over_read [] end w h = absurd (no_front h.0 h.1 h.2 h.3)
+  where
+    no_front : (front : List Lexeme) (x : Lexeme) (rest : List Lexeme) → [] ≡ front ++ x ∷ rest → ⊥
+    no_front [] x rest e = cc
+    no_front (y ∷ front) x rest e = cc
+over_read (t ∷ tokens) end w h = let k = too_much (t ∷ tokens) w h in ap (answered (t ∷ tokens) end) k.1
 
 -- ---- of a text
 
-abbrev AgreesWith : List ℕ → Reading → Type 0
-AgreesWith text r = Agrees (reading text) r
-
-by_tokens : (text : List ℕ) (l : Lexed) (r : Reading) → lexed text ≡ l → Agrees (read_as (length text) l) r → AgreesWith text r
+by_tokens : (text : List ℕ) (l : Lexed) (r : Reading) → lexed text ≡ l → read_as (length text) l ≡ r → reading text ≡ r
 unfolding reading
-by_tokens text l r e h = let P : Lexed → Type 0 = λ k. Agrees (read_as (length text) k) r in subst P (sym e) h
+by_tokens text l r e h = ap (read_as (length text)) e ∙ h
 
-syntax_read : (text : List ℕ) (at : ℕ) → IsReading text (Refused (refusal.Syntax at)) → AgreesWith text (Refused (refusal.Syntax at))
-syntax_read text at (inl e) = by_tokens text (Faulty at) (Refused (refusal.Syntax at)) e (inl refl)
-syntax_read text at (inr (tokens, e, inl h)) = by_tokens text (Tokens tokens) (Refused (refusal.Syntax at)) e (wrong_read tokens (length text) at h)
-syntax_read text at (inr (tokens, e, inr h)) =
-    let P : ℕ → Type 0 = λ n. AgreesWith text (Refused (refusal.Syntax n)) in
-    subst P (sym h.0) (by_tokens text (Tokens tokens) (Refused (refusal.Syntax (length text))) e (unfinished_read tokens (length text) h.1))
+ends_wrong : (text : List ℕ) (tokens : List Placed) (at : ℕ) → lexed text ≡ Tokens tokens → ((w : What) → IsTooMuch w tokens → ⊥) → EndsWrong text tokens at → reading text ≡ Refused (refusal.Syntax at)
+ends_wrong text tokens at e none (inl h) = by_tokens text (Tokens tokens) (Refused (refusal.Syntax at)) e (wrong_read tokens (length text) at none h)
+ends_wrong text tokens at e none (inr h) =
+    let P : ℕ → Type 0 = λ n. reading text ≡ Refused (refusal.Syntax n) in
+    subst P (sym h.0) (by_tokens text (Tokens tokens) (Refused (refusal.Syntax (length text))) e (unfinished_read tokens (length text) none h.1))
 
-refused_read : (text : List ℕ) (f : Refusal) → IsReading text (Refused f) → AgreesWith text (Refused f)
+syntax_read : (text : List ℕ) (at : ℕ) → IsReading text (Refused (refusal.Syntax at)) → reading text ≡ Refused (refusal.Syntax at)
+syntax_read text at (inl e) = by_tokens text (Faulty at) (Refused (refusal.Syntax at)) e refl
+syntax_read text at (inr h) = ends_wrong text h.0 at h.1 h.3 h.2
+
+refused_read : (text : List ℕ) (f : Refusal) → IsReading text (Refused f) → reading text ≡ Refused f
 refused_read text (refusal.Syntax at) h = syntax_read text at h
-refused_read text (refusal.TooMany w most) h = inr (inr (w, ap (λ n. Refused (refusal.TooMany w n)) h.0))
+refused_read text (refusal.TooMany w most) h = by_tokens text (Tokens h.1) (Refused (refusal.TooMany w most)) h.2 (over_read h.1 (length text) w h.3 ∙ ap (λ n. Refused (refusal.TooMany w n)) (sym h.0))
 refused_read text _ h = absurd h
 
 pub are_one : ReadingsAreOne
-are_one text Blank h = by_tokens text (Tokens []) Blank h (inl refl)
-are_one text (Whole s) h = inl ((are_read text h.0 s h.2 h.1 h.3).0 h.4)
+are_one text Blank h = by_tokens text (Tokens []) Blank (pads_are_blank text h) refl
+are_one text (Whole s) h = (are_read text h.0 s h.2 h.1 h.3).0 h.4
 are_one text (Refused f) h = refused_read text f h

@@ -1,23 +1,29 @@
--- What a text is read as, by the grammar.
-use Rattle.std.proofs.Common.{◌≡◌, ℕ, zero, suc, ◌-◌, ◌<◌, ◌≤◌, List, [], ◌∷◌, length, inl, inr, refl, sym, ap, ◌∙◌, subst, arith}
+-- What a text is read as is so by the grammar, and what is a statement is read.
+use Rattle.std.proofs.Common.{◌≡◌, ℕ, zero, suc, ◌-◌, ◌<◌, ◌≤◌, List, [], ◌∷◌, ◌++◌, length, inl, inr, refl, sym, ap, ◌∙◌, subst, append_assoc, arith}
+use Rattle.prima_base.specs.declared.refusals.What.{What}
+use Rattle.lexer.specs.Lexemes.{Lexeme}
 use Rattle.lexer.specs.Parsing.{Size, Out, Got, Stuck, Over, Fine}
 use Rattle.lexer.specs.Found.{IsFirst}
+use Rattle.lexer.proofs.Passing.{over_at, passing_is_over}
 use Rattle.script_parse.specs.Statements.{PlainStatement}
 use Rattle.script_parse.specs.Lexing.{Placed, Lexed, Tokens, Faulty, lexed, saying}
 use Rattle.script_parse.specs.Productions.{IsStatement}
 use Rattle.script_parse.specs.StatementReader.{statement, goes_statement}
-use Rattle.script_parse.specs.Reading.{Whole, place, place_before, answered, read_as, reading, IsWithin, IsWrongAt, IsReading, IsExceeded, ReadingsAreOfTheGrammar, StatementsAreRead}
-use Rattle.script_parse.proofs.FirstFaults.{within_none, explained, fine, got_all, got_first, stuck_first, stuck_out, over_only}
+use Rattle.script_parse.specs.StatementPasses.{statement_passes}
+use Rattle.script_parse.specs.Reading.{Whole, place, place_before, answered, read_as, reading, IsWithin, IsTooMuch, IsWrongAt, IsReading, IsReadAs, ReadingsAreOfTheGrammar, StatementsAreRead, LimitsAreKept, IsOver}
+use Rattle.script_parse.proofs.BlankTexts.{blank_is_pads}
+use Rattle.script_parse.proofs.FirstFaults.{within_none, explained, fine, got_all, got_first, stuck_first, stuck_out}
 use Rattle.script_parse.proofs.StatementGoodness.{statement_good, statement_not_none}
+use Rattle.script_parse.proofs.StatementAlong.{statement_reads, statement_sized}
 
 -- ---- places
 
-pub length_saying : (tokens : List Placed) → length (saying tokens) ≡ length tokens
+length_saying : (tokens : List Placed) → length (saying tokens) ≡ length tokens
 length_saying [] = refl
 length_saying (t ∷ tokens) = ap suc (length_saying tokens)
 
 -- within the list the end does not matter
-pub same_place : (tokens : List Placed) (k m n : ℕ) → k < length tokens → place tokens k m ≡ place tokens k n
+same_place : (tokens : List Placed) (k m n : ℕ) → k < length tokens → place tokens k m ≡ place tokens k n
 same_place [] k m n h = absurd (omega (arith, h))
 same_place (t ∷ tokens) zero m n h = refl
 same_place (t ∷ tokens) (suc k) m n h = same_place tokens k m n (omega (arith, h))
@@ -36,22 +42,40 @@ wrong_at tokens end left h =
     let k = subst P (length_saying tokens) h in
     (length tokens - left, same_place tokens (length tokens - left) end 0 (omega (arith, k.0, length_saying tokens)), k)
 
+-- ---- what is too much is refused there
+
+pub too_much : (tokens : List Placed) (w : What) → IsTooMuch w tokens → (rest : List Lexeme) × (statement 0 (saying tokens) ≡ Over w rest)
+too_much tokens w h =
+    let all = saying tokens in
+    let front = h.0 in
+    let x = h.1 in
+    let can = h.4.0 in
+    let P : List Lexeme → Type 0 = λ l. IsStatement can.1 can.2 l in
+    let g : IsStatement can.1 can.2 (front ++ x ∷ can.0) = subst P (append_assoc front (x ∷ []) can.0) can.3 in
+    (x ∷ h.2, passing_is_over statement IsStatement goes_statement statement_good statement_passes statement_reads statement_sized all w front x h.2 h.3 can.0 can.1 can.2 g (h.4.1 can.0 can.1 can.2 g))
+
 -- ---- readings are of the grammar
 
 module _ (text : List ℕ) (t : Placed) (others : List Placed) (l : lexed text ≡ Tokens (t ∷ others)) where
   abbrev tokens : List Placed
   tokens = t ∷ others
 
+  got_none : (s : PlainStatement) (m : ℕ) (rest : List Lexeme) → statement 0 (saying tokens) ≡ Got s m rest → (w : What) → IsTooMuch w tokens → ⊥
+  got_none s m rest e w h = let k = too_much tokens w h in let z : Got s m rest ≡ Over w k.0 = sym e ∙ k.1 in cc
+
+  stuck_none : (rest : List Lexeme) → statement 0 (saying tokens) ≡ Stuck rest → (w : What) → IsTooMuch w tokens → ⊥
+  stuck_none rest e w h = let k = too_much tokens w h in let z : ◌≡◌ {A = Out PlainStatement} (Stuck rest) (Over w k.0) = sym e ∙ k.1 in cc
+
   by_out : (o : Out PlainStatement) → statement 0 (saying tokens) ≡ o → IsReading text (answered tokens (length text) o)
   by_out (Got s m []) e = let k = got_all statement IsStatement goes_statement statement_good (saying tokens) s m e in (tokens, l, k.0, k.1, k.2)
-  by_out (Got s m (x ∷ rest)) e = inr (tokens, l, inl (wrong_at tokens (length text) (length (x ∷ rest)) (got_first statement IsStatement goes_statement statement_good (saying tokens) s m x rest e)))
-  by_out (Stuck []) e = inr (tokens, l, inr (at_end tokens (length text), stuck_out statement IsStatement goes_statement statement_good (saying tokens) e))
-  by_out (Stuck (x ∷ rest)) e = inr (tokens, l, inl (wrong_at tokens (length text) (length (x ∷ rest)) (stuck_first statement IsStatement goes_statement statement_good (saying tokens) x rest e)))
-  by_out (Over w rest) e = (refl, tokens, l, (length (saying tokens) - length rest, over_only statement IsStatement goes_statement statement_good (saying tokens) w rest e))
+  by_out (Got s m (x ∷ rest)) e = inr (tokens, l, inl (wrong_at tokens (length text) (length (x ∷ rest)) (got_first statement IsStatement goes_statement statement_good (saying tokens) s m x rest e)), got_none s m (x ∷ rest) e)
+  by_out (Stuck []) e = inr (tokens, l, inr (at_end tokens (length text), stuck_out statement IsStatement goes_statement statement_good (saying tokens) e), stuck_none [] e)
+  by_out (Stuck (x ∷ rest)) e = inr (tokens, l, inl (wrong_at tokens (length text) (length (x ∷ rest)) (stuck_first statement IsStatement goes_statement statement_good (saying tokens) x rest e)), stuck_none (x ∷ rest) e)
+  by_out (Over w rest) e = (refl, tokens, l, over_at statement IsStatement goes_statement statement_good statement_passes statement_reads statement_sized (saying tokens) w rest e)
 
 by_lexed : (text : List ℕ) (l : Lexed) → lexed text ≡ l → IsReading text (read_as (length text) l)
 by_lexed text (Faulty at) e = inl e
-by_lexed text (Tokens []) e = e
+by_lexed text (Tokens []) e = blank_is_pads text e
 by_lexed text (Tokens (t ∷ others)) e = by_out text t others e (statement 0 (saying (t ∷ others))) refl
 
 pub of_the_grammar : ReadingsAreOfTheGrammar
@@ -64,7 +88,7 @@ module _ (t : Placed) (others : List Placed) (end : ℕ) (s : PlainStatement) (s
   abbrev all : List Placed
   all = t ∷ others
 
-  by_fine : (o : Out PlainStatement) → statement 0 (saying all) ≡ o → Fine 32 s size 0 [] o → (IsWithin size → answered all end o ≡ Whole s) × ((IsWithin size → ⊥) → IsExceeded size (answered all end o))
+  by_fine : (o : Out PlainStatement) → statement 0 (saying all) ≡ o → Fine 32 s size 0 [] o → IsReadAs s size (answered all end o)
   by_fine (Got b m r) e f = (
     λ h. ap (λ u. answered all end (Got b m u)) f.1 ∙ ap Whole f.0,
     λ h. absurd (h (few, f.3)),
@@ -80,5 +104,20 @@ unfolding reading
 are_read text [] s size e g = absurd (statement_not_none s size g)
 are_read text (t ∷ others) s size e g =
     let h = by_fine t others (length text) s size g (statement 0 (saying (t ∷ others))) refl (fine statement IsStatement goes_statement statement_good (saying (t ∷ others)) (statement 0 (saying (t ∷ others))) refl s size g) in
-    let P : Lexed → Type 0 = λ l. (IsWithin size → read_as (length text) l ≡ Whole s) × ((IsWithin size → ⊥) → IsExceeded size (read_as (length text) l)) in
+    let P : Lexed → Type 0 = λ l. IsReadAs s size (read_as (length text) l) in
     subst P (sym e) h
+
+-- ---- limits are kept
+
+no_front : (front : List Lexeme) (x : Lexeme) (rest : List Lexeme) → [] ≡ front ++ x ∷ rest → ⊥
+no_front [] x rest e = cc
+no_front (y ∷ front) x rest e = cc
+
+pub are_kept : LimitsAreKept
+unfolding reading
+are_kept text w [] front rest more x s size h l e f = absurd (no_front front x rest e)
+are_kept text w (t ∷ others) front rest more x s size h l e f =
+    let over = passing_is_over statement IsStatement goes_statement statement_good statement_passes statement_reads statement_sized (saying (t ∷ others)) w front x rest e more s size h f in
+    let P : Lexed → Type 0 = λ u. IsOver w (read_as (length text) u) in
+    let Q : Out PlainStatement → Type 0 = λ o. IsOver w (answered (t ∷ others) (length text) o) in
+    subst P (sym l) (subst Q (sym over) refl)

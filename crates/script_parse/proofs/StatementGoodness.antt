@@ -1,269 +1,189 @@
 -- The readers of statements are good for their grammars.
-use Rattle.std.proofs.Common.{◌≡◌, ℕ, zero, suc, ◌+◌, Bool, false, cond, ◌||◌, List, [], ◌∷◌, ◌++◌, zip, length, inl, inr, refl, sym, ap, ◌∙◌, subst, codes, arith}
-use Rattle.prima_base.specs.declared.values.Value.{Value}
-use Rattle.prima_base.specs.declared.values.ColType.TheVariants.{Int, Text}
-use Rattle.cond_expr.specs.Trees.{Test, always}
-use Rattle.smo_ops.specs.Operators.{create_table}
-use Rattle.smo_ops.specs.Changes.{PlainChange, insertion, deletion, update}
+use Rattle.std.proofs.Common.{◌≡◌, ℕ, Bool, false, cond, ◌||◌, List, [], ◌∷◌, ◌++◌, inl, inr, refl, sym, ap, ◌∙◌, subst, codes}
+use Rattle.prima_base.specs.declared.refusals.What.TheVariants.{Inverse}
+use Rattle.smo_ops.specs.Operators.{Operator}
 use Rattle.smo_ops.specs.Commands.{PlainBody, changing, evolving}
-use Rattle.lexer.specs.Lexemes.{Lexeme, word, sign, is_word, is_sign}
-use Rattle.lexer.specs.Parsing.{Size, nothing_counted, Parser, Good, Stops, No, Takes, Whole, no_end, AreMore, bind, bindG, pure, pureG, lead, leadG, map_to, mapG, fresh, freshG, eitherG, listG}
-use Rattle.lexer.specs.Grammar.{IsExpr, IsCond}
-use Rattle.lexer.specs.Reader.{outermost, goes_expr, goes_cond}
-use Rattle.lexer.specs.Constants.{name, nameG, names, namesG, moment, momentG, small, smallG, constant, constantG}
-use Rattle.lexer.proofs.Parsing.{good_iff, good_goes, bind_good, bind_lead, lead_good, map_good, pure_good, choose_good, option_takes_good, whole_good}
-use Rattle.lexer.proofs.Grammar.{word_is, word_exact, sign_is, sign_exact}
-use Rattle.lexer.proofs.Singles.{name_good, names_good, moment_good, small_good, constant_good}
-use Rattle.lexer.proofs.Goodness.{fresh_expr_good, fresh_cond_good}
-use Rattle.script_parse.specs.Statements.{PlainStatement, write, ask}
-use Rattle.script_parse.specs.Productions.{IsWhere, AreSoMany, IsRow, IsInsert, IsDelete, IsSetting, IsUpdate, IsChange, IsType, IsColumn, IsEvolve, IsBody, IsWrite, IsAsk, IsStatement}
-use Rattle.script_parse.specs.StatementReader.{where_part, more_constants, constants, row, insert_rest, delete_rest, setting, settings, update_rest, change_arm, change, changes, type_arm, column_type, column, columns, evolve_rest, body_arm, body, write_rest, ask_rest, statement_arm, statement, goes_where, goes_settings, goes_change, goes_statement}
-use Rattle.lexer.proofs.Alternatives.{stops_never, or_left, or_right, stops_fewer, NotFirst, NotNone, lead_not_none, lead_not_first, either_not_none, either_not_first, list_not_none, list_not_first, list_good, last_arm, first_arm}
-
--- goes on with nothing
-abbrev pub ends : Lexeme → Bool
-ends x = false
-
--- a word, or a sign, and what follows it
-pub word_good : {A : Type 0} (w : List ℕ) (p : Parser A) (G : A → Size → List Lexeme → Type 0) (goes : Lexeme → Bool) → Good 0 32 p G goes → Good 0 32 (lead (is_word w) p) (leadG (word w) G) goes
-word_good w p G goes g = lead_good (is_word w) (word w) (word_is w) (word_exact w) 0 32 p G goes g
-
-sign_good : {A : Type 0} (w : List ℕ) (p : Parser A) (G : A → Size → List Lexeme → Type 0) (goes : Lexeme → Bool) → Good 0 32 p G goes → Good 0 32 (lead (is_sign w) p) (leadG (sign w) G) goes
-sign_good w p G goes g = lead_good (is_sign w) (sign w) (sign_is w) (sign_exact w) 0 32 p G goes g
-
--- a part that ends by itself, and what follows it
-pub single_then : {A B : Type 0} (p : Parser A) (f : A → Parser B) (G : A → Size → List Lexeme → Type 0) (H : A → B → Size → List Lexeme → Type 0) (goes : Lexeme → Bool) →
-    Good 0 32 p G ends → ((a : A) → Good 0 32 (f a) (H a) goes) → Good 0 32 (bind p f) (bindG G H) goes
-single_then p f G H goes g h = bind_good 0 32 p f G H ends goes g h (λ a b s ts rest k stops. stops_never (ts ++ rest))
-
--- ---- WHERE
-
-cond_where : (x : Lexeme) → goes_where x ≡ false → goes_cond false x ≡ false
-cond_where x h = or_right (is_word (codes "WHERE") x) (goes_cond false x) h
-
-where_good : Good 0 32 where_part IsWhere goes_where
-unfolding where_part
-where_good = option_takes_good (is_word (codes "WHERE")) (word (codes "WHERE")) (word_is (codes "WHERE")) (word_exact (codes "WHERE")) 0 32 (fresh (outermost false).cond) always (freshG (IsCond false)) goes_where
-    (λ x e. ap (λ b. b || goes_cond false x) e)
-    (good_goes 0 32 (fresh (outermost false).cond) (freshG (IsCond false)) (goes_cond false) goes_where cond_where (fresh_cond_good false 0))
-
--- ---- VALUES
-
--- so many more constants, behind some
-abbrev SoManyMore : ℕ → ℕ → List Value → Size → List Lexeme → Type 0
-SoManyMore n j values s ts = (length values ≡ n) × AreMore (sign (codes ",")) no_end constantG j values s ts
-
--- a constant, and what is read behind it
-abbrev Next : (List Value → Size → List Lexeme → Type 0) → List Value → Size → List Lexeme → Type 0
-Next G = bindG constantG (λ v. mapG (λ l. v ∷ l) G)
-
-module _ (goes : Lexeme → Bool) where
-  next_good : (p : Parser (List Value)) (G : List Value → Size → List Lexeme → Type 0) → Good 0 32 p G goes → Good 0 32 (bind constant (λ v. map_to (λ l. v ∷ l) p)) (Next G) goes
-  next_good p G g = single_then constant (λ v. map_to (λ l. v ∷ l) p) constantG (λ v. mapG (λ l. v ∷ l) G) goes (constant_good 0 32 ends) (λ v. map_good 0 32 (λ l. v ∷ l) p G goes g)
-
-  no_more_up : (j : ℕ) (l : List Value) (s : Size) (ts : List Lexeme) → pureG [] l s ts → SoManyMore 0 j l s ts
-  no_more_up j l s ts h = rw h.0 (refl, (h.1, h.2))
-
-  no_more_down : (j : ℕ) (l : List Value) (s : Size) (ts : List Lexeme) → SoManyMore 0 j l s ts → pureG [] l s ts
-  no_more_down j [] s ts h = (refl, h.1.0, h.1.1)
-  no_more_down j (v ∷ l) s ts h = absurd (omega (arith, h.0))
-
-  more_up : (n j : ℕ) (l : List Value) (s : Size) (ts : List Lexeme) → leadG (sign (codes ",")) (Next (SoManyMore n (j + 1))) l s ts → SoManyMore (suc n) j l s ts
-  more_up n j l s ts h =
-      let k = h.2 in let m = k.8 in
-      rw m.1 (ap suc m.2.0, (k.1, k.2, k.3, k.4, k.5, h.1 ∙ ap (λ u. sign (codes ",") ∷ u) k.6, k.7, m.2.1))
-
-  more_down : (n j : ℕ) (l : List Value) (s : Size) (ts : List Lexeme) → SoManyMore (suc n) j l s ts → leadG (sign (codes ",")) (Next (SoManyMore n (j + 1))) l s ts
-  more_down n j [] s ts h = absurd (omega (arith, h.0))
-  more_down n j (v ∷ l) s ts h = let k = h.1 in (k.2 ++ k.3, k.5, (v, k.0, k.1, k.2, k.3, k.4, refl, k.6, (l, refl, ((let z : length l ≡ n = omega (arith, h.0) in z), k.7))))
-
-  more_constants_good : (n j : ℕ) → Good 0 32 (more_constants n) (SoManyMore n j) goes
-  unfolding more_constants
-  more_constants_good zero j = good_iff 0 32 (pure []) (pureG []) (SoManyMore 0 j) goes (no_more_up j) (no_more_down j) (pure_good 0 32 [] goes)
-  more_constants_good (suc n) j =
-      good_iff 0 32 _ _ (SoManyMore (suc n) j) goes (more_up n j) (more_down n j)
-      (sign_good (codes ",") (bind constant (λ v. map_to (λ l. v ∷ l) (more_constants n))) (Next (SoManyMore n (j + 1))) goes (next_good (more_constants n) (SoManyMore n (j + 1)) (more_constants_good n (j + 1))))
-
-  none_up : (l : List Value) (s : Size) (ts : List Lexeme) → pureG [] l s ts → AreSoMany 0 l s ts
-  none_up l s ts h = rw h.0 (refl, (h.1, h.2))
-
-  none_down : (l : List Value) (s : Size) (ts : List Lexeme) → AreSoMany 0 l s ts → pureG [] l s ts
-  none_down [] s ts h = (refl, h.1.0, h.1.1)
-  none_down (v ∷ l) s ts h = absurd (omega (arith, h.0))
-
-  some_up : (n : ℕ) (l : List Value) (s : Size) (ts : List Lexeme) → Next (SoManyMore n 0) l s ts → AreSoMany (suc n) l s ts
-  some_up n l s ts h = let m = h.8 in rw m.1 (ap suc m.2.0, (h.0, h.1, h.2, h.3, h.4, h.5, h.6, h.7, (m.0, refl, m.2.1)))
-
-  some_down : (n : ℕ) (l : List Value) (s : Size) (ts : List Lexeme) → AreSoMany (suc n) l s ts → Next (SoManyMore n 0) l s ts
-  some_down n [] s ts h = absurd (omega (arith, h.0))
-  some_down n (v ∷ l) s ts h =
-      let k = h.1 in
-      let m = k.8 in
-      let z : v ∷ l ≡ k.0 ∷ m.0 = m.1 in
-      let few : length m.0 ≡ n = omega (arith, h.0, ap length z) in
-      (k.0, k.1, k.2, k.3, k.4, k.5, k.6, k.7, (m.0, z, (few, m.2)))
-
-  constants_good : (n : ℕ) → Good 0 32 (constants n) (AreSoMany n) goes
-  unfolding constants
-  constants_good zero = good_iff 0 32 (pure []) (pureG []) (AreSoMany 0) goes none_up none_down (pure_good 0 32 [] goes)
-  constants_good (suc n) = good_iff 0 32 _ _ (AreSoMany (suc n)) goes (some_up n) (some_down n) (next_good (more_constants n) (SoManyMore n 0) (more_constants_good n 0))
-
-row_good : (ns : List (List ℕ)) (goes : Lexeme → Bool) → Good 0 32 (row ns) (IsRow ns) goes
-unfolding row
-row_good ns goes = sign_good (codes "(") _ _ goes (bind_lead 0 32 (constants (length ns)) _ (AreSoMany (length ns)) (sign (codes ")")) (λ l. pureG (zip ns l)) ends goes refl (constants_good ends (length ns)) (λ l. sign_good (codes ")") (pure (zip ns l)) (pureG (zip ns l)) goes (pure_good 0 32 (zip ns l) goes)))
-
--- ---- changes
-
-pub where_change : (x : Lexeme) → goes_change x ≡ false → goes_where x ≡ false
-where_change x h = or_right (goes_settings x) (goes_where x) h
-
-where_then : Good 0 32 where_part IsWhere goes_change
-where_then = good_goes 0 32 where_part IsWhere goes_where goes_change where_change where_good
-
-pub settings_change : (x : Lexeme) → goes_change x ≡ false → goes_settings x ≡ false
-settings_change x h = or_left (goes_settings x) (goes_where x) h
-
--- behind INSERT, DELETE and UPDATE
-abbrev InsertRest : PlainChange → Size → List Lexeme → Type 0
-InsertRest = leadG (word (codes "INTO")) (bindG nameG (λ t. leadG (sign (codes "(")) (bindG namesG (λ ns. leadG (sign (codes ")")) (leadG (word (codes "VALUES")) (mapG (λ l. insertion t l) (IsRow ns)))))))
-
-abbrev DeleteRest : PlainChange → Size → List Lexeme → Type 0
-DeleteRest = leadG (word (codes "FROM")) (bindG nameG (λ t. mapG (λ c. deletion t c) IsWhere))
-
-abbrev UpdateRest : PlainChange → Size → List Lexeme → Type 0
-UpdateRest = bindG nameG (λ t. leadG (word (codes "SET")) (bindG (listG (sign (codes ",")) IsSetting) (λ l. mapG (λ c. update t l c) IsWhere)))
-
-insert_good : Good 0 32 insert_rest InsertRest goes_change
-unfolding insert_rest
-insert_good = word_good (codes "INTO") _ _ goes_change (single_then name _ nameG _ goes_change (name_good 0 32 ends) (λ t. sign_good (codes "(") _ _ goes_change
-    (bind_lead 0 32 names _ namesG (sign (codes ")")) _ (λ x. is_sign (codes ",") x || false) goes_change refl (names_good 32) (λ ns. sign_good (codes ")") _ _ goes_change
-    (word_good (codes "VALUES") _ _ goes_change (map_good 0 32 (λ l. insertion t l) (row ns) (IsRow ns) goes_change (row_good ns goes_change)))))))
-
-delete_good : Good 0 32 delete_rest DeleteRest goes_change
-unfolding delete_rest
-delete_good = word_good (codes "FROM") _ _ goes_change (single_then name _ nameG _ goes_change (name_good 0 32 ends) (λ t. map_good 0 32 (λ c. deletion t c) where_part IsWhere goes_change where_then))
-
-pub setting_good : Good 0 32 setting IsSetting (goes_expr false)
-unfolding setting
-setting_good = single_then name _ nameG _ (goes_expr false) (name_good 0 32 ends) (λ n. sign_good (codes "=") _ _ (goes_expr false) (map_good 0 32 (λ e. (n, e)) (fresh (outermost false).expr) (freshG (IsExpr false)) (goes_expr false) (fresh_expr_good false 0)))
-
-settings_good : Good 0 32 settings (listG (sign (codes ",")) IsSetting) goes_settings
-unfolding settings
-settings_good = list_good (is_sign (codes ",")) (sign (codes ",")) (sign_is (codes ",")) (sign_exact (codes ",")) 32 setting IsSetting (goes_expr false) setting_good refl
-
--- a WHERE, or what no change goes on with
-pub where_side : (c : Test) (s : Size) (ts rest : List Lexeme) → IsWhere c s ts → Stops goes_change rest → Stops goes_settings (ts ++ rest)
-where_side c s ts rest (inl k) stops = let P : List Lexeme → Type 0 = λ u. Stops goes_settings (u ++ rest) in subst P (sym k.2) (stops_fewer goes_settings goes_change settings_change rest stops)
-where_side c s ts rest (inr k) stops = let P : List Lexeme → Type 0 = λ u. Stops goes_settings (u ++ rest) in subst P (sym k.1) refl
-
-update_good : Good 0 32 update_rest UpdateRest goes_change
-unfolding update_rest
-update_good = single_then name _ nameG _ goes_change (name_good 0 32 ends) (λ t. word_good (codes "SET") _ _ goes_change
-    (bind_good 0 32 settings (λ l. map_to (λ c. update t l c) where_part) (listG (sign (codes ",")) IsSetting) (λ l. mapG (λ c. update t l c) IsWhere) goes_settings goes_change settings_good
-    (λ l. map_good 0 32 (λ c. update t l c) where_part IsWhere goes_change where_then)
-    (λ l c s ts rest h stops. where_side h.0 s ts rest h.2 stops)))
-
--- no change is without a lexeme
-pub change_not_none : NotNone IsChange
-change_not_none = either_not_none IsInsert (eitherG IsDelete IsUpdate) (lead_not_none (word (codes "INSERT")) InsertRest) (either_not_none IsDelete IsUpdate (lead_not_none (word (codes "DELETE")) DeleteRest) (lead_not_none (word (codes "UPDATE")) UpdateRest))
-
--- a word with which no change begins
-pub change_not_first : (w : List ℕ) → is_word (codes "INSERT") (word w) ≡ false → is_word (codes "DELETE") (word w) ≡ false → is_word (codes "UPDATE") (word w) ≡ false → NotFirst IsChange (word w)
-change_not_first w e f g = either_not_first (word w) IsInsert (eitherG IsDelete IsUpdate) (apart (codes "INSERT") InsertRest e) (either_not_first (word w) IsDelete IsUpdate (apart (codes "DELETE") DeleteRest f) (apart (codes "UPDATE") UpdateRest g))
-  where
-    apart : (v : List ℕ) (G : PlainChange → Size → List Lexeme → Type 0) → is_word v (word w) ≡ false → NotFirst (leadG (word v) G) (word w)
-    apart v G h = lead_not_first (is_word v) (word w) (word v) G h (word_is v)
-
-pub change_good : Good 0 32 change IsChange goes_change
-unfolding change
-change_good = choose_good 0 32 change_arm IsChange goes_change (deletion_live insert_good.live) change_not_none
-    (λ x. first_arm (is_word (codes "INSERT")) (word (codes "INSERT")) (word_is (codes "INSERT")) (word_exact (codes "INSERT")) 32 insert_rest InsertRest goes_change insert_good
-    (λ y. cond (is_word (codes "DELETE") y) (Takes delete_rest) (cond (is_word (codes "UPDATE") y) (Takes update_rest) No)) (eitherG IsDelete IsUpdate)
-    (either_not_first (word (codes "INSERT")) IsDelete IsUpdate (lead_not_first (is_word (codes "DELETE")) (word (codes "INSERT")) (word (codes "DELETE")) DeleteRest refl (word_is (codes "DELETE"))) (lead_not_first (is_word (codes "UPDATE")) (word (codes "INSERT")) (word (codes "UPDATE")) UpdateRest refl (word_is (codes "UPDATE")))) x
-    (first_arm (is_word (codes "DELETE")) (word (codes "DELETE")) (word_is (codes "DELETE")) (word_exact (codes "DELETE")) 32 delete_rest DeleteRest goes_change delete_good
-    (λ y. cond (is_word (codes "UPDATE") y) (Takes update_rest) No) IsUpdate
-    (lead_not_first (is_word (codes "UPDATE")) (word (codes "DELETE")) (word (codes "UPDATE")) UpdateRest refl (word_is (codes "UPDATE"))) x
-    (last_arm (is_word (codes "UPDATE")) (word (codes "UPDATE")) (word_is (codes "UPDATE")) (word_exact (codes "UPDATE")) 32 update_rest UpdateRest goes_change update_good x)))
-  where
-    deletion_live : (a : PlainChange) × (s : Size) × (ts : List Lexeme) × InsertRest a s ts → (a : PlainChange) × (s : Size) × (ts : List Lexeme) × IsChange a s ts
-    deletion_live l = (l.0, l.1, word (codes "INSERT") ∷ l.2, inl (l.2, refl, l.3))
-
-pub changes_good : Good 0 32 changes (listG (word (codes "THEN")) IsChange) goes_statement
-unfolding changes
-changes_good = list_good (is_word (codes "THEN")) (word (codes "THEN")) (word_is (codes "THEN")) (word_exact (codes "THEN")) 32 change IsChange goes_change change_good refl
+use Rattle.lexer.specs.Lexemes.{Lexeme, word, is_word}
+use Rattle.lexer.specs.Parsing.{Size, Good, Stops, No, Takes, Whole, AreMore, so_wide, bind, bindG, pure, pureG, leadG, map_to, mapG, more, eitherG, listG}
+use Rattle.lexer.specs.Constants.{moment, momentG, small, smallG}
+use Rattle.lexer.proofs.Parsing.{good_iff, good_goes, bind_good, map_good, pure_good, choose_good, option_takes_good, whole_good, more_good, bind_more}
+use Rattle.lexer.proofs.Grammar.{word_is, word_exact}
+use Rattle.lexer.proofs.Singles.{moment_good, small_good}
+use Rattle.lexer.proofs.Fresh.{fresh_good}
+use Rattle.lexer.proofs.Alternatives.{or_left, or_right, stops_fewer, NotNone, lead_not_none, lead_not_first, either_not_none, either_not_first, list_not_none, list_not_first, last_arm, first_arm}
+use Rattle.smo_parse.specs.Productions.{IsOperator}
+use Rattle.smo_parse.specs.OperatorReader.{operator, goes_operator}
+use Rattle.smo_parse.proofs.OperatorGoodness.{operator_good}
+use Rattle.temporal_lang.specs.QueryGrammar.{IsAsk}
+use Rattle.temporal_lang.specs.QueryReader as query
+use Rattle.temporal_lang.proofs.QueryGoodness.{ask_good}
+use Rattle.script_parse.specs.Statements.{PlainStatement, write, ask, show_versions, show_schema}
+use Rattle.script_parse.specs.Productions.{IsChange, IsOp, AreOps, IsInverse, IsEvolve, AreChanges, IsBody, IsWrite, IsQuery, IsShowVersions, IsShowSchema, IsStatement}
+use Rattle.script_parse.specs.StatementReader.{changes, op, ops, inverse, evolve_rest, body_arm, body, write_rest, ask_rest, schema_rest, show_arm, show_rest, statement_arm, statement, goes_change, goes_changes, goes_ops, goes_evolve, goes_body, goes_statement}
+use Rattle.script_parse.proofs.ChangeGoodness.{ends, word_good, single_then, change_not_none, change_not_first, changes_good}
 
 -- ---- operators
 
-type_good : (goes : Lexeme → Bool) → Good 0 32 column_type IsType goes
-unfolding column_type
-type_good goes = choose_good 0 32 type_arm IsType goes (Int, nothing_counted, word (codes "INT") ∷ [], inl ([], refl, (refl, refl, refl)))
-    (either_not_none (leadG (word (codes "INT")) (pureG Int)) (leadG (word (codes "TEXT")) (pureG Text)) (lead_not_none (word (codes "INT")) (pureG Int)) (lead_not_none (word (codes "TEXT")) (pureG Text)))
-    (λ x. first_arm (is_word (codes "INT")) (word (codes "INT")) (word_is (codes "INT")) (word_exact (codes "INT")) 32 (pure Int) (pureG Int) goes (pure_good 0 32 Int goes)
-    (λ y. cond (is_word (codes "TEXT") y) (Takes (pure Text)) No) (leadG (word (codes "TEXT")) (pureG Text))
-    (lead_not_first (is_word (codes "TEXT")) (word (codes "INT")) (word (codes "TEXT")) (pureG Text) refl (word_is (codes "TEXT"))) x
-    (last_arm (is_word (codes "TEXT")) (word (codes "TEXT")) (word_is (codes "TEXT")) (word_exact (codes "TEXT")) 32 (pure Text) (pureG Text) goes (pure_good 0 32 Text goes) x))
+pub op_good : Good 0 32 op IsOp goes_operator
+unfolding op
+op_good = fresh_good 32 operator IsOperator 0 goes_operator operator_good
 
-pub column_good : Good 0 32 column IsColumn ends
-unfolding column
-column_good = single_then name _ nameG _ ends (name_good 0 32 ends) (λ n. map_good 0 32 (λ k. (n, k)) column_type IsType ends (type_good ends))
+more_ops_good : Good 0 32 (more (is_word (codes "THEN")) Inverse op 7) (AreMore (word (codes "THEN")) (so_wide Inverse) IsOp 1) goes_ops
+more_ops_good = more_good (is_word (codes "THEN")) (word (codes "THEN")) (word_is (codes "THEN")) (word_exact (codes "THEN")) 32 op IsOp goes_operator op_good refl Inverse (λ s n h. h) 7 1 refl
 
-columns_good : Good 0 32 columns (listG (sign (codes ",")) IsColumn) (λ x. is_sign (codes ",") x || false)
-unfolding columns
-columns_good = list_good (is_sign (codes ",")) (sign (codes ",")) (sign_is (codes ",")) (sign_exact (codes ",")) 32 column IsColumn ends column_good refl
+ops_good : Good 0 32 ops AreOps goes_ops
+unfolding ops
+ops_good = bind_more (is_word (codes "THEN")) (word (codes "THEN")) (word_is (codes "THEN")) (word_exact (codes "THEN")) 32 op IsOp goes_operator op_good refl (so_wide Inverse) 0 1
+    (more (is_word (codes "THEN")) Inverse op 7) (λ o l. o ∷ l) more_ops_good
+
+pub fewer_ops : (x : Lexeme) → goes_evolve x ≡ false → goes_ops x ≡ false
+fewer_ops x h = or_right (is_word (codes "INVERSE") x) (goes_ops x) h
+
+pub fewer_op : (x : Lexeme) → goes_evolve x ≡ false → goes_operator x ≡ false
+fewer_op x h = or_right (is_word (codes "THEN") x) (goes_operator x) (fewer_ops x h)
+
+inverse_good : Good 0 32 inverse IsInverse goes_evolve
+unfolding inverse
+inverse_good = option_takes_good (is_word (codes "INVERSE")) (word (codes "INVERSE")) (word_is (codes "INVERSE")) (word_exact (codes "INVERSE")) 0 32 ops [] AreOps goes_evolve
+    (λ x e. ap (λ b. b || goes_ops x) e)
+    (good_goes 0 32 ops AreOps goes_ops goes_evolve fewer_ops ops_good)
+
+-- an INVERSE, or what no EVOLVE goes on with
+pub inverse_side : (l : List Operator) (s : Size) (ts rest : List Lexeme) → IsInverse l s ts → Stops goes_evolve rest → Stops goes_operator (ts ++ rest)
+inverse_side l s ts rest (inl k) stops = let P : List Lexeme → Type 0 = λ u. Stops goes_operator (u ++ rest) in subst P (sym k.2) (stops_fewer goes_operator goes_evolve fewer_op rest stops)
+inverse_side l s ts rest (inr k) stops = let P : List Lexeme → Type 0 = λ u. Stops goes_operator (u ++ rest) in subst P (sym k.1) refl
 
 abbrev EvolveRest : PlainBody → Size → List Lexeme → Type 0
-EvolveRest = leadG (word (codes "CREATE")) (leadG (word (codes "TABLE")) (bindG nameG (λ t. leadG (sign (codes "(")) (bindG (listG (sign (codes ",")) IsColumn) (λ l. leadG (sign (codes ")")) (pureG (evolving (create_table t l) [])))))))
+EvolveRest = bindG IsOp (λ o. mapG (λ l. evolving o l) IsInverse)
 
-evolve_good : (goes : Lexeme → Bool) → Good 0 32 evolve_rest EvolveRest goes
+evolve_good : Good 0 32 evolve_rest EvolveRest goes_evolve
 unfolding evolve_rest
-evolve_good goes = word_good (codes "CREATE") _ _ goes (word_good (codes "TABLE") _ _ goes (single_then name _ nameG _ goes (name_good 0 32 ends) (λ t. sign_good (codes "(") _ _ goes
-    (bind_lead 0 32 columns _ (listG (sign (codes ",")) IsColumn) (sign (codes ")")) (λ l. pureG (evolving (create_table t l) [])) (λ x. is_sign (codes ",") x || false) goes refl columns_good
-    (λ l. sign_good (codes ")") (pure (evolving (create_table t l) [])) (pureG (evolving (create_table t l) [])) goes (pure_good 0 32 (evolving (create_table t l) []) goes))))))
+evolve_good = bind_good 0 32 op (λ o. map_to (λ l. evolving o l) inverse) IsOp (λ o. mapG (λ l. evolving o l) IsInverse) goes_operator goes_evolve op_good
+    (λ o. map_good 0 32 (λ l. evolving o l) inverse IsInverse goes_evolve inverse_good)
+    (λ o b s ts rest h stops. inverse_side h.0 s ts rest h.2 stops)
 
--- ---- statements
+-- ---- what a command does
 
-abbrev Changing : PlainBody → Size → List Lexeme → Type 0
-Changing = mapG (λ l. changing l) (listG (word (codes "THEN")) IsChange)
+pub fewer_evolve : (x : Lexeme) → goes_body x ≡ false → goes_evolve x ≡ false
+fewer_evolve x h = or_left (goes_evolve x) (goes_change x) h
 
-body_good : Good 0 32 body IsBody goes_statement
+-- THEN is among what an inverse goes on with
+pub fewer_changes : (x : Lexeme) → goes_body x ≡ false → goes_changes x ≡ false
+fewer_changes x h = neither (is_word (codes "THEN") x) (goes_change x) (or_left (is_word (codes "THEN") x) (goes_operator x) (fewer_ops x (fewer_evolve x h))) (or_right (goes_evolve x) (goes_change x) h)
+  where
+    neither : (a b : Bool) → a ≡ false → b ≡ false → (a || b) ≡ false
+    neither a b e f = ap (λ c. c || b) e ∙ f
+
+evolve_then : Good 0 32 evolve_rest EvolveRest goes_body
+evolve_then = good_goes 0 32 evolve_rest EvolveRest goes_evolve goes_body fewer_evolve evolve_good
+
+changes_then : Good 0 32 (map_to (λ l. changing l) changes) AreChanges goes_body
+changes_then = map_good 0 32 (λ l. changing l) changes (listG (word (codes "THEN")) IsChange) goes_body
+    (good_goes 0 32 changes (listG (word (codes "THEN")) IsChange) goes_changes goes_body fewer_changes changes_good)
+
+body_good : Good 0 32 body IsBody goes_body
 unfolding body
-body_good = choose_good 0 32 body_arm IsBody goes_statement (live (evolve_good goes_statement).live)
-    (either_not_none IsEvolve Changing (lead_not_none (word (codes "EVOLVE")) EvolveRest) (λ a s h. list_not_none (word (codes "THEN")) IsChange change_not_none h.0 s h.2))
-    (λ x. first_arm (is_word (codes "EVOLVE")) (word (codes "EVOLVE")) (word_is (codes "EVOLVE")) (word_exact (codes "EVOLVE")) 32 evolve_rest EvolveRest goes_statement (evolve_good goes_statement)
-    (λ y. Whole (map_to (λ l. changing l) changes)) Changing
+body_good = choose_good 0 32 body_arm IsBody goes_body (live evolve_then.live)
+    (either_not_none IsEvolve AreChanges (lead_not_none (word (codes "EVOLVE")) EvolveRest) (λ a s h. list_not_none (word (codes "THEN")) IsChange change_not_none h.0 s h.2))
+    (λ x. first_arm (is_word (codes "EVOLVE")) (word (codes "EVOLVE")) (word_is (codes "EVOLVE")) (word_exact (codes "EVOLVE")) 32 evolve_rest EvolveRest goes_body evolve_then
+    (λ y. Whole (map_to (λ l. changing l) changes)) AreChanges
     (λ a s l h. list_not_first (word (codes "EVOLVE")) (word (codes "THEN")) IsChange change_not_none (change_not_first (codes "EVOLVE") refl refl refl) h.0 s l h.2) x
-    (whole_good 0 32 (map_to (λ l. changing l) changes) Changing Changing x goes_statement (map_good 0 32 (λ l. changing l) changes (listG (word (codes "THEN")) IsChange) goes_statement changes_good) (λ a s l h. h) (λ a s l h. h)))
+    (whole_good 0 32 (map_to (λ l. changing l) changes) AreChanges AreChanges x goes_body changes_then (λ a s l h. h) (λ a s l h. h)))
   where
     live : (a : PlainBody) × (s : Size) × (ts : List Lexeme) × EvolveRest a s ts → (a : PlainBody) × (s : Size) × (ts : List Lexeme) × IsBody a s ts
     live l = (l.0, l.1, word (codes "EVOLVE") ∷ l.2, inl (l.2, refl, l.3))
+
+-- ---- statements
+
+pub fewer_body : (x : Lexeme) → goes_statement x ≡ false → goes_body x ≡ false
+fewer_body x h = or_left (goes_body x) (query.goes_ask x) h
+
+pub fewer_ask : (x : Lexeme) → goes_statement x ≡ false → query.goes_ask x ≡ false
+fewer_ask x h = or_right (goes_body x) (query.goes_ask x) h
 
 abbrev WriteRest : PlainStatement → Size → List Lexeme → Type 0
 WriteRest = bindG momentG (λ m. mapG (λ b. write (record { stamp = m; body = b })) IsBody)
 
 abbrev AskRest : PlainStatement → Size → List Lexeme → Type 0
-AskRest = leadG (word (codes "VERSION")) (bindG smallG (λ v. leadG (word (codes "SELECT")) (bindG namesG (λ ns. leadG (word (codes "FROM")) (mapG (λ t. ask v ns t) nameG)))))
+AskRest = mapG (λ q. ask q) IsAsk
+
+abbrev VersionsRest : PlainStatement → Size → List Lexeme → Type 0
+VersionsRest = pureG show_versions
+
+abbrev SchemaRest : PlainStatement → Size → List Lexeme → Type 0
+SchemaRest = mapG (λ version. show_schema version) smallG
+
+abbrev ShowRest : PlainStatement → Size → List Lexeme → Type 0
+ShowRest = eitherG (leadG (word (codes "VERSIONS")) VersionsRest) (leadG (word (codes "SCHEMA")) SchemaRest)
 
 write_good : Good 0 32 write_rest WriteRest goes_statement
 unfolding write_rest
-write_good = single_then moment _ momentG _ goes_statement (moment_good 0 32 ends) (λ m. map_good 0 32 (λ b. write (record { stamp = m; body = b })) body IsBody goes_statement body_good)
+write_good = single_then moment _ momentG _ goes_statement (moment_good 0 32 ends)
+    (λ m. map_good 0 32 (λ b. write (record { stamp = m; body = b })) body IsBody goes_statement (good_goes 0 32 body IsBody goes_body goes_statement fewer_body body_good))
 
-ask_good : (goes : Lexeme → Bool) → Good 0 32 ask_rest AskRest goes
+ask_rest_good : Good 0 32 ask_rest AskRest goes_statement
 unfolding ask_rest
-ask_good goes = word_good (codes "VERSION") _ _ goes (single_then small _ smallG _ goes (small_good 0 32 ends) (λ v. word_good (codes "SELECT") _ _ goes
-    (bind_lead 0 32 names _ namesG (word (codes "FROM")) (λ ns. mapG (λ t. ask v ns t) nameG) (λ x. is_sign (codes ",") x || false) goes refl (names_good 32)
-    (λ ns. word_good (codes "FROM") _ _ goes (map_good 0 32 (λ t. ask v ns t) name nameG goes (name_good 0 32 goes))))))
+ask_rest_good = map_good 0 32 (λ q. ask q) query.ask IsAsk goes_statement (good_goes 0 32 query.ask IsAsk query.goes_ask goes_statement fewer_ask ask_good)
 
-pub statement_good : Good 0 32 statement IsStatement goes_statement
-unfolding statement
-statement_good = choose_good 0 32 statement_arm IsStatement goes_statement (live write_good.live)
-    (either_not_none IsWrite IsAsk (lead_not_none (word (codes "AT")) WriteRest) (lead_not_none (word (codes "QUERY")) AskRest))
-    (λ x. first_arm (is_word (codes "AT")) (word (codes "AT")) (word_is (codes "AT")) (word_exact (codes "AT")) 32 write_rest WriteRest goes_statement write_good
-    (λ y. cond (is_word (codes "QUERY") y) (Takes ask_rest) No) IsAsk
-    (lead_not_first (is_word (codes "QUERY")) (word (codes "AT")) (word (codes "QUERY")) AskRest refl (word_is (codes "QUERY"))) x
-    (last_arm (is_word (codes "QUERY")) (word (codes "QUERY")) (word_is (codes "QUERY")) (word_exact (codes "QUERY")) 32 ask_rest AskRest goes_statement (ask_good goes_statement) x))
+schema_good : (goes : Lexeme → Bool) → Good 0 32 schema_rest SchemaRest goes
+unfolding schema_rest
+schema_good goes = map_good 0 32 (λ version. show_schema version) small smallG goes (small_good 0 32 goes)
+
+show_good : (goes : Lexeme → Bool) → Good 0 32 show_rest ShowRest goes
+unfolding show_rest
+show_good goes = choose_good 0 32 show_arm ShowRest goes (live (pure_good 0 32 show_versions goes).live)
+    (either_not_none (leadG (word (codes "VERSIONS")) VersionsRest) (leadG (word (codes "SCHEMA")) SchemaRest) (lead_not_none (word (codes "VERSIONS")) VersionsRest) (lead_not_none (word (codes "SCHEMA")) SchemaRest))
+    (λ x. first_arm (is_word (codes "VERSIONS")) (word (codes "VERSIONS")) (word_is (codes "VERSIONS")) (word_exact (codes "VERSIONS")) 32 (pure show_versions) VersionsRest goes (pure_good 0 32 show_versions goes)
+    (λ y. cond (is_word (codes "SCHEMA") y) (Takes schema_rest) No) (leadG (word (codes "SCHEMA")) SchemaRest)
+    (lead_not_first (is_word (codes "SCHEMA")) (word (codes "VERSIONS")) (word (codes "SCHEMA")) SchemaRest refl (word_is (codes "SCHEMA"))) x
+    (last_arm (is_word (codes "SCHEMA")) (word (codes "SCHEMA")) (word_is (codes "SCHEMA")) (word_exact (codes "SCHEMA")) 32 schema_rest SchemaRest goes (schema_good goes) x))
   where
-    live : (a : PlainStatement) × (s : Size) × (ts : List Lexeme) × WriteRest a s ts → (a : PlainStatement) × (s : Size) × (ts : List Lexeme) × IsStatement a s ts
+    live : (a : PlainStatement) × (s : Size) × (ts : List Lexeme) × VersionsRest a s ts → (a : PlainStatement) × (s : Size) × (ts : List Lexeme) × ShowRest a s ts
+    live l = (l.0, l.1, word (codes "VERSIONS") ∷ l.2, inl (l.2, refl, l.3))
+
+-- the grammar by first words
+abbrev FromShow : PlainStatement → Size → List Lexeme → Type 0
+FromShow = leadG (word (codes "SHOW")) ShowRest
+
+abbrev FromQuery : PlainStatement → Size → List Lexeme → Type 0
+FromQuery = eitherG IsQuery FromShow
+
+abbrev FromAt : PlainStatement → Size → List Lexeme → Type 0
+FromAt = eitherG IsWrite FromQuery
+
+at_first : (v : List ℕ) → is_word (codes "QUERY") (word v) ≡ false → is_word (codes "SHOW") (word v) ≡ false → (a : PlainStatement) (s : Size) (l : List Lexeme) → FromQuery a s (word v ∷ l) → ⊥
+at_first v e f = either_not_first (word v) IsQuery FromShow (lead_not_first (is_word (codes "QUERY")) (word v) (word (codes "QUERY")) AskRest e (word_is (codes "QUERY"))) (lead_not_first (is_word (codes "SHOW")) (word v) (word (codes "SHOW")) ShowRest f (word_is (codes "SHOW")))
+
+by_words_not_none : NotNone FromAt
+by_words_not_none = either_not_none IsWrite FromQuery (lead_not_none (word (codes "AT")) WriteRest) (either_not_none IsQuery FromShow (lead_not_none (word (codes "QUERY")) AskRest) (lead_not_none (word (codes "SHOW")) ShowRest))
+
+by_words_good : Good 0 32 statement FromAt goes_statement
+unfolding statement
+by_words_good = choose_good 0 32 statement_arm FromAt goes_statement (live write_good.live) by_words_not_none
+    (λ x. first_arm (is_word (codes "AT")) (word (codes "AT")) (word_is (codes "AT")) (word_exact (codes "AT")) 32 write_rest WriteRest goes_statement write_good
+    (λ y. cond (is_word (codes "QUERY") y) (Takes ask_rest) (cond (is_word (codes "SHOW") y) (Takes show_rest) No)) FromQuery (at_first (codes "AT") refl refl) x
+    (first_arm (is_word (codes "QUERY")) (word (codes "QUERY")) (word_is (codes "QUERY")) (word_exact (codes "QUERY")) 32 ask_rest AskRest goes_statement ask_rest_good
+    (λ y. cond (is_word (codes "SHOW") y) (Takes show_rest) No) FromShow
+    (lead_not_first (is_word (codes "SHOW")) (word (codes "QUERY")) (word (codes "SHOW")) ShowRest refl (word_is (codes "SHOW"))) x
+    (last_arm (is_word (codes "SHOW")) (word (codes "SHOW")) (word_is (codes "SHOW")) (word_exact (codes "SHOW")) 32 show_rest ShowRest goes_statement (show_good goes_statement) x)))
+  where
+    live : (a : PlainStatement) × (s : Size) × (ts : List Lexeme) × WriteRest a s ts → (a : PlainStatement) × (s : Size) × (ts : List Lexeme) × FromAt a s ts
     live l = (l.0, l.1, word (codes "AT") ∷ l.2, inl (l.2, refl, l.3))
 
+up : (a : PlainStatement) (s : Size) (l : List Lexeme) → FromAt a s l → IsStatement a s l
+up a s l (inl h) = inl h
+up a s l (inr (inl h)) = inr (inl h)
+up a s l (inr (inr (more, e, inl h))) = inr (inr (inl (more, e, h)))
+up a s l (inr (inr (more, e, inr h))) = inr (inr (inr (more, e, h)))
+
+down : (a : PlainStatement) (s : Size) (l : List Lexeme) → IsStatement a s l → FromAt a s l
+down a s l (inl h) = inl h
+down a s l (inr (inl h)) = inr (inl h)
+down a s l (inr (inr (inl h))) = inr (inr (h.0, h.1, inl h.2))
+down a s l (inr (inr (inr h))) = inr (inr (h.0, h.1, inr h.2))
+
+pub statement_good : Good 0 32 statement IsStatement goes_statement
+statement_good = good_iff 0 32 statement FromAt IsStatement goes_statement up down by_words_good
+
 pub statement_not_none : NotNone IsStatement
-statement_not_none = either_not_none IsWrite IsAsk (lead_not_none (word (codes "AT")) WriteRest) (lead_not_none (word (codes "QUERY")) AskRest)
+statement_not_none a s h = by_words_not_none a s (down a s [] h)

@@ -1,25 +1,28 @@
 -- What tokens are read as, by where the reader of statements ends in them.
-use Rattle.std.proofs.Common.{◌≡◌, ℕ, zero, suc, ◌-◌, ◌<◌, ◌≤◌, List, [], ◌∷◌, length, map, slice_index_or, Some, None, refl, sym, ap, ◌∙◌, arith, length-append}
+use Rattle.std.proofs.Common.{◌≡◌, ℕ, zero, suc, ◌-◌, ◌<◌, ◌≤◌, List, [], ◌∷◌, length, map, slice_index_or, Option, Some, None, Ok, Err, Result, refl, sym, ap, ◌∙◌, subst, arith, length-append}
 use Rattle.prima_base.specs.declared.refusals.Refusal.TheVariants.{Syntax, TooMany}
 use Rattle.prima_base.specs.declared.refusals.What.{What}
 use Rattle.lexer.specs.declared.faults.LexFault.{LexFault}
-use Rattle.lexer.specs.declared.faults.LexFault.TheVariants.{NoMemory, BadByte, OpenQuote, BigNumber, LongText}
+use Rattle.lexer.specs.declared.faults.LexFault.TheVariants as lexical
 use Rattle.lexer.specs.declared.token.Token.{Token}
-use Rattle.lexer.specs.Lexed.{Lexes, Gives}
+use Rattle.lexer.specs.Lexed.{Lexes, Gives as FaultGives}
 use Rattle.lexer.specs.Lexemes.{Lexeme, lexeme}
 use Rattle.lexer.specs.Spaced.{Spaced}
 use Rattle.lexer.specs.Parsing.{Got, Stuck, Over, limit}
 use Rattle.lexer.proofs.Places.{length_map}
+use Rattle.script_parse.specs.declared.statements.ReadFault.{ReadFault}
+use Rattle.script_parse.specs.declared.statements.ReadFault.TheVariants as fault
+use Rattle.script_parse.specs.declared.statements.Statement.{Statement}
 use Rattle.script_parse.specs.Statements.{PlainStatement}
-use Rattle.script_parse.specs.Lexing.{Placed, Tokens, placed, saying, lexed, fault_place}
+use Rattle.script_parse.specs.Lexing.{Placed, Tokens, Faulty, placed, saying, lexed, fault_place}
+use Rattle.script_parse.specs.Reading.{Reading, Blank, Refused, Whole, place, place_before, answered, read_as, reading, Gives, IsOfPlace}
 use Rattle.script_parse.specs.Productions.{IsStatement}
 use Rattle.script_parse.specs.StatementReader.{statement, goes_statement}
-use Rattle.script_parse.specs.Reading.{Refused, Whole, place, place_before, answered, read_as, reading}
 use Rattle.script_parse.proofs.FirstFaults.{explained}
 use Rattle.script_parse.proofs.StatementGoodness.{statement_good}
 use Rattle.script_parse.proofs.TextLexing.{texts_are_lexed}
 
-pub same_says : (list : List Token) → saying (map placed list) ≡ map lexeme list
+same_says : (list : List Token) → saying (map placed list) ≡ map lexeme list
 same_says [] = refl
 same_says (t ∷ list) = ap (λ l. lexeme t ∷ l) (same_says list)
 
@@ -34,6 +37,10 @@ answered_all tokens end s m (x ∷ rest) h = absurd (omega (arith, h))
 answered_some : (tokens : List Placed) (end : ℕ) (s : PlainStatement) (m : ℕ) (rest : List Lexeme) → 0 < length rest → answered tokens end (Got s m rest) ≡ Refused (Syntax (place_before tokens (length rest) end))
 answered_some tokens end s m [] h = absurd (omega arith)
 answered_some tokens end s m (x ∷ rest) h = refl
+
+pub no_tokens : (list : List Token) (end : ℕ) → length list ≡ 0 → Blank ≡ read_as end (Tokens (map placed list))
+no_tokens [] end h = refl
+no_tokens (t ∷ list) end h = absurd (omega (arith, h))
 
 module _ (list rest : List Token) (end : ℕ) where
   abbrev at : ℕ → ℕ
@@ -50,19 +57,19 @@ module _ (list rest : List Token) (end : ℕ) where
       omega (arith, ap length h.1, length-append h.0 (map lexeme rest), length_map lexeme list, length_map lexeme rest)
 
   module _ (some : 0 < length list) where
-    pub got_whole : (s : PlainStatement) (m : ℕ) → statement 0 (map lexeme list) ≡ Got s m (map lexeme rest) → length rest ≡ 0 → read_as end (Tokens (map placed list)) ≡ Whole s
-    got_whole s m e z = as_answered list end some ∙ ap (answered (map placed list) end) e ∙ answered_all (map placed list) end s m (map lexeme rest) (length_map lexeme rest ∙ z)
+    pub got_whole : (s : PlainStatement) (m : ℕ) → statement 0 (map lexeme list) ≡ Got s m (map lexeme rest) → length rest ≡ 0 → Whole s ≡ read_as end (Tokens (map placed list))
+    got_whole s m e z = sym (as_answered list end some ∙ ap (answered (map placed list) end) e ∙ answered_all (map placed list) end s m (map lexeme rest) (length_map lexeme rest ∙ z))
 
-    pub got_more : (s : PlainStatement) (m : ℕ) → statement 0 (map lexeme list) ≡ Got s m (map lexeme rest) → 0 < length rest → read_as end (Tokens (map placed list)) ≡ Refused (Syntax (at (length rest)))
-    got_more s m e z =
+    pub got_more : (s : PlainStatement) (m : ℕ) → statement 0 (map lexeme list) ≡ Got s m (map lexeme rest) → 0 < length rest → (p : ℕ) → p ≡ at (length rest) → Refused (Syntax p) ≡ read_as end (Tokens (map placed list))
+    got_more s m e z p q =
         let k : 0 < length (map lexeme rest) = omega (arith, z, length_map lexeme rest) in
-        as_answered list end some ∙ ap (answered (map placed list) end) e ∙ answered_some (map placed list) end s m (map lexeme rest) k ∙ ap (λ n. Refused (Syntax (at n))) (length_map lexeme rest)
+        sym (as_answered list end some ∙ ap (answered (map placed list) end) e ∙ answered_some (map placed list) end s m (map lexeme rest) k ∙ ap (λ n. Refused (Syntax (at n))) (length_map lexeme rest) ∙ ap (λ n. Refused (Syntax n)) (sym q))
 
-    pub stuck_there : statement 0 (map lexeme list) ≡ Stuck (map lexeme rest) → read_as end (Tokens (map placed list)) ≡ Refused (Syntax (at (length rest)))
-    stuck_there e = as_answered list end some ∙ ap (answered (map placed list) end) e ∙ ap (λ n. Refused (Syntax (at n))) (length_map lexeme rest)
+    pub stuck_there : statement 0 (map lexeme list) ≡ Stuck (map lexeme rest) → (p : ℕ) → p ≡ at (length rest) → Refused (Syntax p) ≡ read_as end (Tokens (map placed list))
+    stuck_there e p q = sym (as_answered list end some ∙ ap (answered (map placed list) end) e ∙ ap (λ n. Refused (Syntax (at n))) (length_map lexeme rest) ∙ ap (λ n. Refused (Syntax n)) (sym q))
 
-    pub over_there : (w : What) → statement 0 (map lexeme list) ≡ Over w (map lexeme rest) → read_as end (Tokens (map placed list)) ≡ Refused (TooMany w (limit w))
-    over_there w e = as_answered list end some ∙ ap (answered (map placed list) end) e
+    pub over_there : (w : What) → statement 0 (map lexeme list) ≡ Over w (map lexeme rest) → (most : ℕ) → most ≡ limit w → Refused (TooMany w most) ≡ read_as end (Tokens (map placed list))
+    over_there w e most q = sym (as_answered list end some ∙ ap (answered (map placed list) end) e ∙ ap (λ n. Refused (TooMany w n)) (sym q))
 
 -- ---- places
 
@@ -81,20 +88,27 @@ pub text_read : (text : List ℕ) (ts : List Token) → Lexes 0 text ts None →
 unfolding reading
 text_read text ts h = ap (read_as (length text)) (sym ((texts_are_lexed text ts).0 h))
 
-pub text_faulty : (text : List ℕ) (f : LexFault) (at : ℕ) → Gives f (λ e. (ts : List Token) × Lexes 0 text ts (Some e) × Spaced 0 text ts (Some e)) → Some at ≡ fault_place f → reading text ≡ Refused (Syntax at)
+pub text_faulty : (text : List ℕ) (f : LexFault) (found : ReadFault) → FaultGives f (λ e. (ts : List Token) × Lexes 0 text ts (Some e) × Spaced 0 text ts (Some e)) → IsOfPlace (fault_place f) found → Gives (reading text) (Err found)
 unfolding reading
-text_faulty text f at g h = by_fault f g h
+text_faulty text f found g h = by_fault f g h
   where
-    so : (f : LexFault) → (ts : List Token) × Lexes 0 text ts (Some f) × Spaced 0 text ts (Some f) → Some at ≡ fault_place f → read_as (length text) (lexed text) ≡ Refused (Syntax at)
-    so f k e =
+    so : (f : LexFault) → (ts : List Token) × Lexes 0 text ts (Some f) × Spaced 0 text ts (Some f) → (at : ℕ) → Some at ≡ fault_place f → found ≡ fault.Syntax at → Gives (read_as (length text) (lexed text)) (Err found)
+    so f k at e q =
         let x = (texts_are_lexed text k.0).1 f k.1 in
         let z : Some at ≡ Some x.0 = e ∙ x.1 in
-        let y : x.0 ≡ at = cc in
-        ap (read_as (length text)) x.2 ∙ ap (λ n. Refused (Syntax n)) y
+        let y : at ≡ x.0 = cc in
+        let P : ReadFault → Type 0 = λ r. Gives (read_as (length text) (lexed text)) (Err r) in
+        subst P (sym q) (ap (λ n. Refused (Syntax n)) y ∙ sym (ap (read_as (length text)) x.2))
 
-    by_fault : (f : LexFault) → Gives f (λ e. (ts : List Token) × Lexes 0 text ts (Some e) × Spaced 0 text ts (Some e)) → Some at ≡ fault_place f → read_as (length text) (lexed text) ≡ Refused (Syntax at)
-    by_fault NoMemory k e = let z : Some at ≡ None = e in cc
-    by_fault (BadByte n) k e = so (BadByte n) k e
-    by_fault (OpenQuote n) k e = so (OpenQuote n) k e
-    by_fault (BigNumber n) k e = so (BigNumber n) k e
-    by_fault (LongText n) k e = so (LongText n) k e
+    by_fault : (f : LexFault) → FaultGives f (λ e. (ts : List Token) × Lexes 0 text ts (Some e) × Spaced 0 text ts (Some e)) → IsOfPlace (fault_place f) found → Gives (read_as (length text) (lexed text)) (Err found)
+    by_fault lexical.NoMemory k e = let P : ReadFault → Type 0 = λ r. Gives (read_as (length text) (lexed text)) (Err r) in subst P (sym e) tt
+    by_fault (lexical.BadByte n) k e = so (lexical.BadByte n) k n refl e
+    by_fault (lexical.OpenQuote n) k e = so (lexical.OpenQuote n) k n refl e
+    by_fault (lexical.BigNumber n) k e = so (lexical.BigNumber n) k n refl e
+    by_fault (lexical.LongText n) k e = so (lexical.LongText n) k n refl e
+
+pub text_answer : (text : List ℕ) (ts l : List Token) (found : Result (Option Statement) ReadFault) → Lexes 0 text ts None → l ≡ ts → Gives (read_as (length text) (Tokens (map placed l))) found → Gives (reading text) found
+text_answer text ts l found h e g =
+    let P : List Token → Type 0 = λ u. Gives (read_as (length text) (Tokens (map placed u))) found in
+    let Q : Reading → Type 0 = λ r. Gives r found in
+    subst Q (text_read text ts h) (subst P e g)

@@ -1,14 +1,14 @@
 -- Worked rows: what texts by hand are read as.
 use Rattle.std.specs.Prelude.{◌≡◌, ℕ, ◌∷◌, [], List, pos, negsuc, codes, refl}
 use Rattle.prima_base.specs.declared.refusals.Refusal.TheVariants.{Syntax, TooMany}
-use Rattle.prima_base.specs.declared.refusals.What.TheVariants.{Depth, Parts}
+use Rattle.prima_base.specs.declared.refusals.What.TheVariants.{Depth, Parts, Inverse}
 use Rattle.prima_base.specs.declared.values.Value.{Value}
 use Rattle.prima_base.specs.declared.values.Value.TheVariants.{Int, Text}
 use Rattle.prima_base.specs.declared.values.ColType.TheVariants.{Int as INT, Text as TEXT}
-use Rattle.cond_expr.specs.declared.exprs.Whose.TheVariants.{Atom}
+use Rattle.cond_expr.specs.declared.exprs.Whose.TheVariants.{Alias, Atom, Free}
 use Rattle.cond_expr.specs.declared.exprs.CmpOp.TheVariants.{Eq, Gt}
 use Rattle.cond_expr.specs.Trees.{Tree, column, constant, always, compared}
-use Rattle.smo_ops.specs.Operators.{create_table}
+use Rattle.smo_ops.specs.Operators.{nop, create_table, drop_table, rename_table, join_table}
 use Rattle.smo_ops.specs.Changes.{insertion, deletion, update}
 use Rattle.smo_ops.specs.Commands.{PlainBody, changing, evolving}
 use Rattle.lexer.specs.Bytes.{gap_len, gap_dash, piece_of, text_value, quote_value, text_from, text_quote}
@@ -16,9 +16,14 @@ use Rattle.lexer.specs.Lexemes.{is_name}
 use Rattle.lexer.specs.Parsing.{as_many, more, nodes_more}
 use Rattle.lexer.specs.Constants.{name, names, small, moment, constant as const}
 use Rattle.lexer.specs.Reader.{ref_rest, concat_rest, expr, comparison, bracketed, fact, facts, conj, conjs, cond, outermost}
-use Rattle.script_parse.specs.Statements.{ask, write}
+use Rattle.smo_parse.specs.OperatorReader as smo
+use Rattle.temporal_lang.specs.declared.whens.When.TheVariants.{Always}
+use Rattle.temporal_lang.specs.Branches.{a_branch}
+use Rattle.temporal_lang.specs.Queries.{PlainQuery, a_query}
+use Rattle.temporal_lang.specs.QueryReader as query
+use Rattle.script_parse.specs.Statements.{ask, write, show_versions, show_schema}
 use Rattle.script_parse.specs.Lexing.{lexed_from}
-use Rattle.script_parse.specs.StatementReader.{where_part, more_constants, constants, row, insert_rest, delete_rest, setting, settings, update_rest, change, changes, column_type, column as a_column, columns, evolve_rest, body, write_rest, ask_rest, statement}
+use Rattle.script_parse.specs.StatementReader.{where_part, more_constants, constants, row, insert_rest, delete_rest, setting, settings, update_rest, change, changes, op, ops, inverse, evolve_rest, body, write_rest, ask_rest, schema_rest, show_rest, statement}
 use Rattle.script_parse.specs.Reading.{Reading, Blank, Refused, Whole, reading}
 
 -- text = reading
@@ -41,15 +46,27 @@ b = codes "b"
 abbrev t : List ℕ
 t = codes "t"
 
+-- one branch over one table
+abbrev from_t : ℕ → List Tree → List ℕ → PlainQuery
+from_t version outs named = a_query version (a_branch outs ((t, named) ∷ []) always ∷ []) Always []
+
 queries :
-    Reads (codes "QUERY VERSION 1 SELECT a FROM t") (Whole (ask 1 (a ∷ []) t))
-    × Reads (codes "QUERY VERSION 007 SELECT a,b FROM t ") (Whole (ask 7 (a ∷ b ∷ []) t))
+    Reads (codes "QUERY VERSION 1 SELECT a FROM t") (Whole (ask (from_t 1 (column Free a ∷ []) t)))
+    × Reads (codes "QUERY VERSION 007 SELECT b.a,b FROM t b ") (Whole (ask (from_t 7 (column (Alias b) a ∷ column Free b ∷ []) b)))
     × Reads (codes "QUERY VERSION 4294967296 SELECT a FROM t") (Refused (Syntax 14))
     × Reads (codes "QUERY VERSION 1 SELECT FROM t") (Refused (Syntax 23))
     × Reads (codes "QUERY VERSION 1 SELECT a FROM t, t") (Refused (Syntax 31))
     × Reads (codes "QUERY VERSION 1 SELECT a ") (Refused (Syntax 25))
-unfolding reading lexed_from gap_len gap_dash piece_of is_name name names small as_many statement ask_rest
+unfolding reading lexed_from gap_len gap_dash piece_of is_name name small as_many statement ask_rest query.ask query.branch query.outputs query.output query.item query.alias query.where_part expr ref_rest outermost
 queries = (refl, refl, refl, refl, refl, refl)
+
+shown :
+    Reads (codes "SHOW VERSIONS") (Whole show_versions)
+    × Reads (codes "SHOW SCHEMA 07") (Whole (show_schema 7))
+    × Reads (codes "SHOW SCHEMA 4294967296") (Refused (Syntax 12))
+    × Reads (codes "SHOW SIZES") (Refused (Syntax 5))
+unfolding reading lexed_from gap_len gap_dash piece_of small statement show_rest schema_rest
+shown = (refl, refl, refl, refl)
 
 -- ---- commands
 
@@ -64,12 +81,16 @@ col n = column (Atom 0) n
 
 evolutions :
     Reads (codes "AT 1EVOLVE CREATE TABLE t (a INT, b TEXT)") (at 1 (evolving (create_table t ((a, INT) ∷ (b, TEXT) ∷ [])) []))
-    × Reads (codes "AT -0 EVOLVE CREATE TABLE t (a INT)") (at 0 (evolving (create_table t ((a, INT) ∷ [])) []))
+    × Reads (codes "AT -0 EVOLVE NOP INVERSE NOP") (at 0 (evolving nop (nop ∷ [])))
+    × Reads (codes "AT 2 EVOLVE RENAME TABLE t INTO b INVERSE JOIN TABLE a, b INTO t THEN DROP TABLE a") (at 2 (evolving (rename_table t b) (join_table a b t always ∷ drop_table a ∷ [])))
     × Reads (codes "AT 18446744073709551615 EVOLVE CREATE TABLE t (a INT)") (Refused (Syntax 3))
     × Reads (codes "AT 1 EVOLVE CREATE TABLE t ()") (Refused (Syntax 28))
-    × Reads (codes "AT 1 EVOLVE NOP") (Refused (Syntax 12))
-unfolding reading lexed_from gap_len gap_dash piece_of is_name name moment as_many statement write_rest body evolve_rest columns a_column column_type
-evolutions = (refl, refl, refl, refl, refl)
+    × Reads (codes "AT 1 EVOLVE NOP THEN NOP") (Refused (Syntax 16))
+    × Reads (codes "AT 1 EVOLVE NOP INVERSE") (Refused (Syntax 23))
+    × Reads (codes "AT 1 EVOLVE NOP INVERSE NOP THEN NOP THEN NOP THEN NOP THEN NOP THEN NOP THEN NOP THEN NOP THEN") (Refused (TooMany Inverse 8))
+    × Reads (codes "AT 1 EVOLVE NOP INVERSE NOP THEN NOP THEN NOP THEN NOP THEN NOP THEN NOP THEN NOP THEN NOP NOP") (Refused (Syntax 91))
+unfolding reading lexed_from gap_len gap_dash piece_of is_name name moment as_many more statement write_rest body evolve_rest inverse ops op smo.operator smo.create_rest smo.columns smo.column smo.column_type smo.rename_rest smo.rename_table_rest smo.join_rest smo.where_part smo.drop_rest smo.drop_table_rest
+evolutions = (refl, refl, refl, refl, refl, refl, refl, refl, refl)
 
 insertions :
     Reads (codes "AT 5 INSERT INTO t (a, b) VALUES (1, 'it''s')") (at 5 (changing (insertion t ((a, number 1) ∷ (b, Text (codes "it's")) ∷ []) ∷ [])))

@@ -6,9 +6,5 @@ pub mod Statements
 pub mod Lexing
 pub mod Productions
 pub mod StatementReader
+pub mod StatementPasses
 pub mod Reading
-pub mod NextStatements
-pub mod NextProductions
-pub mod NextReader
-pub mod NextPasses
-pub mod NextReading

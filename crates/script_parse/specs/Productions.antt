@@ -1,18 +1,19 @@
--- The grammar of statements: which lexemes spell which statement, and of what size it is.
+-- The grammar of statements: which lexemes spell which statement, and of what size it is. It stands on the grammars of
+-- expressions, conditions, names, operators and queries.
 use Rattle.std.specs.Prelude.{◌≡◌, ℕ, false, List, [], ◌∷◌, length, zip, codes}
+use Rattle.prima_base.specs.declared.refusals.What.TheVariants.{Inverse}
 use Rattle.prima_base.specs.declared.values.Value.{Value}
-use Rattle.prima_base.specs.declared.values.ColType.{ColType}
-use Rattle.prima_base.specs.declared.values.ColType.TheVariants.{Int, Text}
-use Rattle.prima_base.specs.Columns.{Column}
 use Rattle.cond_expr.specs.Trees.{Tree, Test, always}
-use Rattle.smo_ops.specs.Operators.{create_table}
+use Rattle.smo_ops.specs.Operators.{Operator}
 use Rattle.smo_ops.specs.Changes.{PlainChange, insertion, deletion, update}
 use Rattle.smo_ops.specs.Commands.{PlainBody, changing, evolving}
 use Rattle.lexer.specs.Lexemes.{word, sign}
-use Rattle.lexer.specs.Parsing.{Grammar, nothing_counted, bindG, pureG, leadG, mapG, optionG, freshG, eitherG, listG}
+use Rattle.lexer.specs.Parsing.{Grammar, AreMore, so_wide, nothing_counted, bindG, pureG, leadG, mapG, optionG, freshG, eitherG, listG}
 use Rattle.lexer.specs.Grammar.{IsExpr, IsCond}
 use Rattle.lexer.specs.Constants.{nameG, namesG, momentG, smallG, constantG}
-use Rattle.script_parse.specs.Statements.{PlainStatement, write, ask}
+use Rattle.smo_parse.specs.Productions.{IsOperator}
+use Rattle.temporal_lang.specs.QueryGrammar.{IsAsk}
+use Rattle.script_parse.specs.Statements.{PlainStatement, write, ask, show_versions, show_schema}
 
 -- ---- changes
 
@@ -53,36 +54,48 @@ IsUpdate = leadG (word (codes "UPDATE")) (bindG nameG (λ table. leadG (word (co
 abbrev pub IsChange : Grammar PlainChange
 IsChange = eitherG IsInsert (eitherG IsDelete IsUpdate)
 
+-- change { THEN change }
+abbrev pub AreChanges : Grammar PlainBody
+AreChanges = mapG (λ l. changing l) (listG (word (codes "THEN")) IsChange)
+
 -- ---- operators
 
--- INT | TEXT
-abbrev pub IsType : Grammar ColType
-IsType = eitherG (leadG (word (codes "INT")) (pureG Int)) (leadG (word (codes "TEXT")) (pureG Text))
+-- an operator, with counts of its own
+abbrev pub IsOp : Grammar Operator
+IsOp = freshG IsOperator
 
--- name type
-abbrev pub IsColumn : Grammar Column
-IsColumn = bindG nameG (λ column. mapG (λ kind. (column, kind)) IsType)
+-- op { THEN op }: they are counted
+abbrev pub AreOps : Grammar (List Operator)
+AreOps = bindG IsOp (λ op. mapG (λ l. op ∷ l) (AreMore (word (codes "THEN")) (so_wide Inverse) IsOp 1))
 
--- EVOLVE CREATE TABLE name ( name type { , name type } )
+-- [ INVERSE op { THEN op } ]: what is missing has none
+abbrev pub IsInverse : Grammar (List Operator)
+IsInverse = optionG [] (word (codes "INVERSE")) AreOps
+
+-- EVOLVE op [ INVERSE op { THEN op } ]
 abbrev pub IsEvolve : Grammar PlainBody
-IsEvolve = leadG (word (codes "EVOLVE")) (leadG (word (codes "CREATE")) (leadG (word (codes "TABLE")) (bindG nameG (λ table.
-    leadG (sign (codes "(")) (bindG (listG (sign (codes ",")) IsColumn) (λ columns. leadG (sign (codes ")"))
-    (pureG (evolving (create_table table columns) []))))))))
+IsEvolve = leadG (word (codes "EVOLVE")) (bindG IsOp (λ op. mapG (λ inverse. evolving op inverse) IsInverse))
 
 -- ---- statements
 
--- change { THEN change } | EVOLVE ..
 abbrev pub IsBody : Grammar PlainBody
-IsBody = eitherG IsEvolve (mapG (λ l. changing l) (listG (word (codes "THEN")) IsChange))
+IsBody = eitherG IsEvolve AreChanges
 
 -- AT moment body
 abbrev pub IsWrite : Grammar PlainStatement
 IsWrite = leadG (word (codes "AT")) (bindG momentG (λ stamp. mapG (λ body. write (record { stamp = stamp; body = body })) IsBody))
 
--- QUERY VERSION small SELECT name { , name } FROM name
-abbrev pub IsAsk : Grammar PlainStatement
-IsAsk = leadG (word (codes "QUERY")) (leadG (word (codes "VERSION")) (bindG smallG (λ version.
-    leadG (word (codes "SELECT")) (bindG namesG (λ columns. leadG (word (codes "FROM")) (mapG (λ table. ask version columns table) nameG))))))
+-- QUERY ask
+abbrev pub IsQuery : Grammar PlainStatement
+IsQuery = leadG (word (codes "QUERY")) (mapG (λ q. ask q) IsAsk)
+
+-- SHOW VERSIONS
+abbrev pub IsShowVersions : Grammar PlainStatement
+IsShowVersions = leadG (word (codes "SHOW")) (leadG (word (codes "VERSIONS")) (pureG show_versions))
+
+-- SHOW SCHEMA small
+abbrev pub IsShowSchema : Grammar PlainStatement
+IsShowSchema = leadG (word (codes "SHOW")) (leadG (word (codes "SCHEMA")) (mapG (λ version. show_schema version) smallG))
 
 abbrev pub IsStatement : Grammar PlainStatement
-IsStatement = eitherG IsWrite IsAsk
+IsStatement = eitherG IsWrite (eitherG IsQuery (eitherG IsShowVersions IsShowSchema))

@@ -1,28 +1,28 @@
 -- What a text is read as: as a function, and in the words of the grammar.
-use Rattle.std.specs.Prelude.{◌≡◌, ℕ, ◌+◌, ◌-◌, ◌<◌, ◌≤◌, List, [], ◌∷◌, ◌++◌, length, take, map, get_or, ◌⊎◌}
+use Rattle.std.specs.Prelude.{◌≡◌, ℕ, ◌-◌, ◌≤◌, List, [], ◌∷◌, ◌++◌, length, map, get_or, Option, Some, None, Result, Ok, Err, ◌⊎◌}
 use Rattle.prima_base.specs.declared.refusals.Refusal.{Refusal}
 use Rattle.prima_base.specs.declared.refusals.Refusal.TheVariants.{Syntax, TooMany}
 use Rattle.prima_base.specs.declared.refusals.What.{What}
 use Rattle.lexer.specs.Lexemes.{Lexeme}
 use Rattle.lexer.specs.Parsing.{Size, Out, Got, Stuck, Over, CanGoOn, Lawful, Exceeds, limit}
 use Rattle.lexer.specs.Found.{IsFirst}
-use Rattle.script_parse.specs.declared.statements.Reading.{Reading as ReadingSeen}
-use Rattle.script_parse.specs.declared.statements.Reading.TheVariants as seen
+use Rattle.lexer.specs.Passes.{IsFirstPass, PassesFirst}
+use Rattle.script_parse.specs.declared.statements.ReadFault.{ReadFault}
+use Rattle.script_parse.specs.declared.statements.ReadFault.TheVariants as fault
+use Rattle.script_parse.specs.declared.statements.Statement.{Statement}
 use Rattle.script_parse.specs.Statements.{PlainStatement, statement_of}
+use Rattle.script_parse.specs.Pads.{ArePads}
 use Rattle.script_parse.specs.Lexing.{Placed, Lexed, Tokens, Faulty, lexed, saying}
 use Rattle.script_parse.specs.Productions.{IsStatement}
 use Rattle.script_parse.specs.StatementReader.{statement}
+use Rattle.script_parse.specs.StatementPasses.{statement_passes}
 
 pub data Reading : Type 0 where
   -- blanks and comments alone
   Blank : Reading
+  -- no statement, and why
   Refused : Refusal → Reading
   Whole : PlainStatement → Reading
-
-abbrev pub reading_of : ReadingSeen → Reading
-reading_of seen.Blank = Blank
-reading_of (seen.Refused r) = Refused r
-reading_of (seen.Whole s) = Whole (statement_of s)
 
 -- ---- the function
 
@@ -50,11 +50,34 @@ read_as end (Tokens (t ∷ tokens)) = answered (t ∷ tokens) end (statement 0 (
 unfoldable pub reading : List ℕ → Reading
 reading text = read_as (length text) (lexed text)
 
+-- ---- answers of the code
+
+-- what is answered is so, unless memory ran out
+abbrev pub Answers : (Reading → Type 0) → Result (Option Statement) ReadFault → Type 0
+Answers P (Ok None) = P Blank
+Answers P (Ok (Some s)) = P (Whole (statement_of s))
+Answers P (Err fault.NoMemory) = Unit {0}
+Answers P (Err (fault.Syntax at)) = P (Refused (Syntax at))
+Answers P (Err (fault.TooMany w most)) = P (Refused (TooMany w most))
+
+-- this is answered, unless memory ran out
+abbrev pub Gives : Reading → Result (Option Statement) ReadFault → Type 0
+Gives wanted found = Answers (λ r. r ≡ wanted) found
+
+-- the fault of a lexical one at this place; none is want of memory
+abbrev pub IsOfPlace : Option ℕ → ReadFault → Type 0
+IsOfPlace None f = f ≡ fault.NoMemory
+IsOfPlace (Some at) f = f ≡ fault.Syntax at
+
 -- ---- the relation
 
 -- nothing is more than its limit
 abbrev pub IsWithin : Size → Type 0
 IsWithin s = (s.nodes ≤ 256) × Lawful 32 s
+
+-- however a statement goes on behind the front and this token, it is the first at which a count passes its limit, and this count
+abbrev pub IsTooMuch : What → List Placed → Type 0
+IsTooMuch w tokens = (front : List Lexeme) × (x : Lexeme) × (rest : List Lexeme) × (saying tokens ≡ front ++ x ∷ rest) × PassesFirst IsStatement statement_passes w front x
 
 -- the token at this place is the first with which no statement goes on
 abbrev pub IsWrongAt : List Placed → ℕ → Type 0
@@ -65,20 +88,20 @@ abbrev pub IsUnfinished : List Placed → Type 0
 IsUnfinished [] = ⊥
 IsUnfinished (t ∷ tokens) = CanGoOn IsStatement (saying (t ∷ tokens)) × ((s : PlainStatement) (size : Size) → IsStatement s size (saying (t ∷ tokens)) → ⊥)
 
--- the grammar goes on with the token so far behind the front, but only to what is too much
-abbrev pub OnlyExceeds : {A : Type 0} → What → (A → Size → List Lexeme → Type 0) → List Lexeme → ℕ → Type 0
-OnlyExceeds {A} w G ts k = (k < length ts) × CanGoOn G (take (k + 1) ts) × ((rest : List Lexeme) (a : A) (s : Size) → G a s (take (k + 1) ts ++ rest) → Exceeds w 0 32 s)
+-- the first token that is wrong, or their end
+abbrev pub EndsWrong : List ℕ → List Placed → ℕ → Type 0
+EndsWrong text tokens at = IsWrongAt tokens at ⊎ ((at ≡ length text) × IsUnfinished tokens)
 
--- at a token a statement goes on, but only to what is too much
-abbrev pub IsTooMuch : What → List Placed → Type 0
-IsTooMuch w tokens = (k : ℕ) × OnlyExceeds w IsStatement (saying tokens) k
+-- the first lexical fault of the text; or without one the first token that is wrong, or its end, and no count has passed its limit before
+abbrev pub IsFaultAt : List ℕ → ℕ → Type 0
+IsFaultAt text at =
+    (lexed text ≡ Faulty at) ⊎
+    ((tokens : List Placed) × (lexed text ≡ Tokens tokens) × EndsWrong text tokens at × ((w : What) → IsTooMuch w tokens → ⊥))
 
 abbrev pub IsReading : List ℕ → Reading → Type 0
-IsReading text Blank = lexed text ≡ Tokens []
+IsReading text Blank = ArePads text
 IsReading text (Whole s) = (tokens : List Placed) × (lexed text ≡ Tokens tokens) × (size : Size) × IsStatement s size (saying tokens) × IsWithin size
-IsReading text (Refused (Syntax at)) =
-    (lexed text ≡ Faulty at) ⊎
-    ((tokens : List Placed) × (lexed text ≡ Tokens tokens) × (IsWrongAt tokens at ⊎ ((at ≡ length text) × IsUnfinished tokens)))
+IsReading text (Refused (Syntax at)) = IsFaultAt text at
 IsReading text (Refused (TooMany w most)) = (most ≡ limit w) × (tokens : List Placed) × (lexed text ≡ Tokens tokens) × IsTooMuch w tokens
 IsReading text (Refused _) = ⊥
 
@@ -88,19 +111,26 @@ IsReading text (Refused _) = ⊥
 abbrev pub ReadingsAreOfTheGrammar : Type 0
 ReadingsAreOfTheGrammar = (text : List ℕ) → IsReading text (reading text)
 
+-- the grammar tells one reading of each text
+abbrev pub ReadingsAreOne : Type 0
+ReadingsAreOne = (text : List ℕ) (r : Reading) → IsReading text r → reading text ≡ r
+
 -- refused since something is too much that is so in this size
 abbrev pub IsExceeded : Size → Reading → Type 0
 IsExceeded size r = (w : What) × Exceeds w 0 32 size × (r ≡ Refused (TooMany w (limit w)))
 
--- each statement is read if it is within the limits, and else refused for what is over its limit
+-- read as this statement if it is within the limits, and else refused for what is over its limit
+abbrev pub IsReadAs : PlainStatement → Size → Reading → Type 0
+IsReadAs s size r = (IsWithin size → r ≡ Whole s) × ((IsWithin size → ⊥) → IsExceeded size r)
+
 abbrev pub StatementsAreRead : Type 0
-StatementsAreRead = (text : List ℕ) (tokens : List Placed) (s : PlainStatement) (size : Size) → lexed text ≡ Tokens tokens → IsStatement s size (saying tokens) →
-    (IsWithin size → reading text ≡ Whole s) × ((IsWithin size → ⊥) → IsExceeded size (reading text))
+StatementsAreRead = (text : List ℕ) (tokens : List Placed) (s : PlainStatement) (size : Size) → lexed text ≡ Tokens tokens → IsStatement s size (saying tokens) → IsReadAs s size (reading text)
 
--- refused since something is too much
-abbrev pub IsOver : Reading → Type 0
-IsOver r = (w : What) × (r ≡ Refused (TooMany w (limit w)))
+-- refused for this count
+abbrev pub IsOver : What → Reading → Type 0
+IsOver w r = r ≡ Refused (TooMany w (limit w))
 
--- but for what is too much, the grammar tells one reading of each text
-abbrev pub ReadingsAreOne : Type 0
-ReadingsAreOne = (text : List ℕ) (r : Reading) → IsReading text r → (reading text ≡ r) ⊎ (IsOver (reading text) ⊎ IsOver r)
+-- a front that passes a limit at its last token, in one statement that begins with it, is refused there, whatever stands behind it
+abbrev pub LimitsAreKept : Type 0
+LimitsAreKept = (text : List ℕ) (w : What) (tokens : List Placed) (front rest more : List Lexeme) (x : Lexeme) (s : PlainStatement) (size : Size) (h : IsStatement s size (front ++ x ∷ more)) →
+    lexed text ≡ Tokens tokens → saying tokens ≡ front ++ x ∷ rest → IsFirstPass w (statement_passes s size (front ++ x ∷ more) h) (length front) → IsOver w (reading text)

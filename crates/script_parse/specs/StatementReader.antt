@@ -1,18 +1,18 @@
 -- Reading statements, from left to right.
 use Rattle.std.specs.Prelude.{ℕ, zero, suc, Bool, false, if◌then◌else◌, ◌||◌, List, [], ◌∷◌, length, zip, codes}
+use Rattle.prima_base.specs.declared.refusals.What.TheVariants.{Inverse}
 use Rattle.prima_base.specs.declared.values.Value.{Value}
-use Rattle.prima_base.specs.declared.values.ColType.{ColType}
-use Rattle.prima_base.specs.declared.values.ColType.TheVariants.{Int, Text}
-use Rattle.prima_base.specs.Columns.{Column}
 use Rattle.cond_expr.specs.Trees.{Tree, Test, always}
-use Rattle.smo_ops.specs.Operators.{create_table}
+use Rattle.smo_ops.specs.Operators.{Operator}
 use Rattle.smo_ops.specs.Changes.{PlainChange, insertion, deletion, update}
 use Rattle.smo_ops.specs.Commands.{PlainBody, changing, evolving}
 use Rattle.lexer.specs.Lexemes.{Lexeme, is_word, is_sign}
-use Rattle.lexer.specs.Parsing.{Parser, Arm, No, Takes, Whole, bind, pure, map_to, lead, choose, option, many, fresh}
+use Rattle.lexer.specs.Parsing.{Parser, Arm, No, Takes, Whole, bind, pure, map_to, lead, choose, option, more, many, fresh}
 use Rattle.lexer.specs.Reader.{outermost, goes_expr, goes_cond}
 use Rattle.lexer.specs.Constants.{name, names, moment, small, constant}
-use Rattle.script_parse.specs.Statements.{PlainStatement, write, ask}
+use Rattle.smo_parse.specs.OperatorReader.{operator, goes_operator}
+use Rattle.temporal_lang.specs.QueryReader as query
+use Rattle.script_parse.specs.Statements.{PlainStatement, write, ask, show_versions, show_schema}
 
 -- ---- changes
 
@@ -63,21 +63,19 @@ changes = bind change (λ c. map_to (λ l. c ∷ l) (many (is_word (codes "THEN"
 
 -- ---- operators
 
-abbrev pub type_arm : Lexeme → Arm ColType
-type_arm x = if is_word (codes "INT") x then Takes (pure Int) else (if is_word (codes "TEXT") x then Takes (pure Text) else No)
+unfoldable pub op : Parser Operator
+op = fresh operator
 
-unfoldable pub column_type : Parser ColType
-column_type = choose type_arm
+-- behind INVERSE: eight at most
+unfoldable pub ops : Parser (List Operator)
+ops = bind op (λ o. map_to (λ l. o ∷ l) (more (is_word (codes "THEN")) Inverse op 7))
 
-unfoldable pub column : Parser Column
-column = bind name (λ n. map_to (λ k. (n, k)) column_type)
-
-unfoldable pub columns : Parser (List Column)
-columns = bind column (λ c. map_to (λ l. c ∷ l) (many (is_sign (codes ",")) column))
+unfoldable pub inverse : Parser (List Operator)
+inverse = option (is_word (codes "INVERSE")) (Takes ops) []
 
 -- behind EVOLVE
 unfoldable pub evolve_rest : Parser PlainBody
-evolve_rest = lead (is_word (codes "CREATE")) (lead (is_word (codes "TABLE")) (bind name (λ t. lead (is_sign (codes "(")) (bind columns (λ l. lead (is_sign (codes ")")) (pure (evolving (create_table t l) [])))))))
+evolve_rest = bind op (λ o. map_to (λ l. evolving o l) inverse)
 
 -- ---- statements
 
@@ -93,10 +91,23 @@ write_rest = bind moment (λ m. map_to (λ b. write (record { stamp = m; body = 
 
 -- behind QUERY
 unfoldable pub ask_rest : Parser PlainStatement
-ask_rest = lead (is_word (codes "VERSION")) (bind small (λ v. lead (is_word (codes "SELECT")) (bind names (λ ns. lead (is_word (codes "FROM")) (map_to (λ t. ask v ns t) name)))))
+ask_rest = map_to (λ q. ask q) query.ask
+
+-- behind SHOW SCHEMA
+unfoldable pub schema_rest : Parser PlainStatement
+schema_rest = map_to (λ version. show_schema version) small
+
+abbrev pub show_arm : Lexeme → Arm PlainStatement
+show_arm x = if is_word (codes "VERSIONS") x then Takes (pure show_versions) else (if is_word (codes "SCHEMA") x then Takes schema_rest else No)
+
+-- behind SHOW
+unfoldable pub show_rest : Parser PlainStatement
+show_rest = choose show_arm
 
 abbrev pub statement_arm : Lexeme → Arm PlainStatement
-statement_arm x = if is_word (codes "AT") x then Takes write_rest else (if is_word (codes "QUERY") x then Takes ask_rest else No)
+statement_arm x =
+    if is_word (codes "AT") x then Takes write_rest else (if is_word (codes "QUERY") x then Takes ask_rest else
+    (if is_word (codes "SHOW") x then Takes show_rest else No))
 
 unfoldable pub statement : Parser PlainStatement
 statement = choose statement_arm
@@ -109,9 +120,21 @@ goes_where x = is_word (codes "WHERE") x || goes_cond false x
 abbrev pub goes_settings : Lexeme → Bool
 goes_settings x = is_sign (codes ",") x || goes_expr false x
 
--- a change, and all behind it
 abbrev pub goes_change : Lexeme → Bool
 goes_change x = goes_settings x || goes_where x
 
+abbrev pub goes_changes : Lexeme → Bool
+goes_changes x = is_word (codes "THEN") x || goes_change x
+
+-- an operator alone, and with its inverse, whose last may be a JOIN
+abbrev pub goes_ops : Lexeme → Bool
+goes_ops x = is_word (codes "THEN") x || goes_operator x
+
+abbrev pub goes_evolve : Lexeme → Bool
+goes_evolve x = is_word (codes "INVERSE") x || goes_ops x
+
+abbrev pub goes_body : Lexeme → Bool
+goes_body x = goes_evolve x || goes_change x
+
 abbrev pub goes_statement : Lexeme → Bool
-goes_statement x = is_word (codes "THEN") x || goes_change x
+goes_statement x = goes_body x || query.goes_ask x

@@ -1,14 +1,19 @@
 -- Statements as plain data, and the one that a statement of the code stands for.
-use Rattle.std.specs.Prelude.{ℕ, List}
+use Rattle.std.specs.Prelude.{ℕ}
 use Rattle.smo_ops.specs.Commands.{PlainCommand, command_of}
+use Rattle.temporal_lang.specs.Queries.{PlainQuery, query_of}
 use Rattle.script_parse.specs.declared.statements.Statement.{Statement}
-use Rattle.script_parse.specs.declared.statements.Statement.TheVariants.{Write, Ask}
+use Rattle.script_parse.specs.declared.statements.Statement.TheVariants.{Write, Ask, ShowVersions, ShowSchema}
 
 pub data PlainStatement : Type 0 where
   write : PlainCommand → PlainStatement
-  -- the version, the columns' names, and the table
-  ask : ℕ → List (List ℕ) → List ℕ → PlainStatement
+  ask : PlainQuery → PlainStatement
+  show_versions : PlainStatement
+  -- the version's number
+  show_schema : ℕ → PlainStatement
 
 abbrev pub statement_of : Statement → PlainStatement
 statement_of (Write c) = write (command_of c)
-statement_of (Ask s) = ask s.version s.columns.items s.table
+statement_of (Ask q) = ask (query_of q)
+statement_of ShowVersions = show_versions
+statement_of (ShowSchema version) = show_schema version

@@ -7,7 +7,7 @@ ghost use Rattle.smo_ops.specs.Commands.{body_of};
 ghost use Rattle.lexer.specs.Lexemes.{is_word};
 ghost use Rattle.lexer.specs.Parsing.{more};
 ghost use Rattle.lexer.specs.Reads.{Reads, ReadsMore, ahead};
-ghost use Rattle.script_parse.specs.NextReader as spec;
+ghost use Rattle.script_parse.specs.StatementReader as spec;
 
 use lexer::{Cursor, Stop};
 use prima_base::What;
@@ -16,7 +16,7 @@ use smo_parse::operator;
 use std::alloc::Global;
 
 // An operator, with counts of its own.
-#[tactic(auto, unfolding(crate::specs::NextReader::op), using(lexer::proofs::ReadSteps::fresh_fails))]
+#[tactic(auto, unfolding(crate::specs::StatementReader::op), using(lexer::proofs::ReadSteps::fresh_fails))]
 fn op(alloc: Global, c: &mut Cursor<'_, '_>) -> Result<Op, Stop>
     ensures { Reads operator_of (spec.op c.old.nodes (ahead c.old)) result c.new }
 {
@@ -44,7 +44,7 @@ fn more_ops(alloc: Global, c: &mut Cursor<'_, '_>, list: &mut Vec<Op>) -> Result
 }
 
 // The operators of an inverse.
-#[tactic(auto, unfolding(crate::specs::NextReader::ops))]
+#[tactic(auto, unfolding(crate::specs::StatementReader::ops))]
 fn ops(alloc: Global, c: &mut Cursor<'_, '_>) -> Result<Vec<Op>, Stop>
     ensures { Reads (λ v. operators_of v.items) (spec.ops c.old.nodes (ahead c.old)) result c.new }
 {
@@ -55,7 +55,7 @@ fn ops(alloc: Global, c: &mut Cursor<'_, '_>) -> Result<Vec<Op>, Stop>
 }
 
 // The inverse; a missing one has no operators.
-#[tactic(auto, unfolding(crate::specs::NextReader::inverse), using(lexer::proofs::ReadSteps::option_not, lexer::proofs::ReadSteps::option_takes))]
+#[tactic(auto, unfolding(crate::specs::StatementReader::inverse), using(lexer::proofs::ReadSteps::option_not, lexer::proofs::ReadSteps::option_takes))]
 fn inverse(alloc: Global, c: &mut Cursor<'_, '_>) -> Result<Vec<Op>, Stop>
     ensures { Reads (λ v. operators_of v.items) (spec.inverse c.old.nodes (ahead c.old)) result c.new }
 {
@@ -67,7 +67,7 @@ fn inverse(alloc: Global, c: &mut Cursor<'_, '_>) -> Result<Vec<Op>, Stop>
 }
 
 /// What stands behind EVOLVE: an operator, and its inverse if one is named.
-#[tactic(auto, unfolding(crate::specs::NextReader::evolve_rest))]
+#[tactic(auto, unfolding(crate::specs::StatementReader::evolve_rest))]
 pub fn evolve_rest(alloc: Global, c: &mut Cursor<'_, '_>) -> Result<Body, Stop>
     ensures { Reads body_of (spec.evolve_rest c.old.nodes (ahead c.old)) result c.new }
 {

@@ -4,27 +4,16 @@
 //! A statement goes up to the next `;` that stands neither in a text literal nor in a comment. A contract
 //! sees a splitter as what it knows of the current statement; `specs/Script.antt` reads a whole script.
 //!
-//! The grammar of statements stands in `specs/Productions.antt`, over the one of expressions and conditions.
-//! What a text is read as is defined twice: as a function (`reading`), and in the words of the grammar
-//! (`IsReading`, in `specs/Reading.antt`). Laws join the two.
-//!
-//! `next_statement` reads statements with all operators, their inverses and queries (module `next`); no program calls
-//! it yet. Its grammar stands in `specs/NextProductions.antt`, over those of changes, operators and queries, and at
-//! which tokens a count passes its limit in `specs/NextPasses.antt`.
+//! The grammar of statements stands in `specs/Productions.antt`, over those of expressions, conditions, operators and
+//! queries, and at which tokens a count passes its limit in `specs/StatementPasses.antt`. What a text is read as is
+//! defined twice: as a function (`reading`), and in the words of the grammar (`IsReading`, in `specs/Reading.antt`).
+//! Laws say that the two are one.
 #![tactic(auto)]
 
 mod change_reader;
-mod evolve_reader;
 mod inverse_reader;
 mod laws;
 mod modes;
-pub mod next;
-mod next_laws;
-mod next_reader;
-#[cfg(test)]
-mod next_shown;
-#[cfg(test)]
-mod next_statement_tests;
 #[cfg(test)]
 mod shown;
 mod splitter;
@@ -39,15 +28,13 @@ mod tests;
 pub use laws::{
     clean_is_blanks_and_comments, script_is_its_statements, statements_are_of_a_script,
 };
-pub use next_laws::next_statements_are_good;
-pub use next_reader::next_statement;
 pub use splitter::{Cut, Splitter, Tail};
 pub use statement_laws::{
-    readings_are_of_the_grammar, readings_are_one, statements_are_good, statements_are_read,
-    texts_are_lexed,
+    limits_are_kept, readings_are_of_the_grammar, readings_are_one, statements_are_good,
+    statements_are_read, texts_are_lexed,
 };
-pub use statement_reader::read;
-pub use statements::{Reading, Selection, Statement};
+pub use statement_reader::next_statement;
+pub use statements::{ReadFault, Statement};
 
 /// The bytes of the longest statement, without its `;`.
 pub const MAX_STATEMENT: usize = 1_048_576;

@@ -1,10 +1,13 @@
-//! A reading as a short text, for tests.
+//! What a text is read as, as a short text, for tests. Operators and what a query asks stand by their canonical texts,
+//! the trees of changes by their form.
 
-use crate::{Reading, Selection, Statement};
+use crate::{ReadFault, Statement};
 use cond_expr::{CmpOp, Cond, Expr, Whose};
-use prima_base::{ColType, Name, Refusal, Value, What};
+use prima_base::{Name, NoMemory, Value, What};
 use smo_ops::{Body, Change, Op};
+use smo_parse::{op_text, write_cond, write_expr};
 use std::alloc::{AllocError, Global};
+use temporal_lang::{Branch, Query, When};
 
 pub fn put(out: &mut Vec<u8>, bytes: &[u8]) -> Result<(), AllocError> {
     for byte in bytes {
@@ -150,7 +153,7 @@ fn put_sets(alloc: Global, out: &mut Vec<u8>, sets: &[(Name, Expr)]) -> Result<(
     Ok(())
 }
 
-pub fn put_change(alloc: Global, out: &mut Vec<u8>, change: &Change) -> Result<(), AllocError> {
+fn put_change(alloc: Global, out: &mut Vec<u8>, change: &Change) -> Result<(), AllocError> {
     match change {
         Change::Insert { table, cells } => {
             put(out, b" + ")?;
@@ -173,30 +176,23 @@ pub fn put_change(alloc: Global, out: &mut Vec<u8>, change: &Change) -> Result<(
     }
 }
 
-fn put_columns(out: &mut Vec<u8>, columns: &[(Name, ColType)]) -> Result<(), AllocError> {
-    for (name, kind) in columns {
-        put(out, b" ")?;
-        put(out, name.bytes())?;
-        match kind {
-            ColType::Int => put(out, b":int")?,
-            ColType::Text => put(out, b":text")?,
+// The operators, each behind these bytes or, from the second on, behind a slash.
+fn put_ops(alloc: Global, out: &mut Vec<u8>, behind: &[u8], ops: &[Op]) -> Result<(), NoMemory> {
+    let mut first = true;
+    for op in ops {
+        if first {
+            put(out, behind)?;
+        } else {
+            put(out, b" / ")?;
         }
+        first = false;
+        let text = op_text(alloc, op)?;
+        put(out, &text)?;
     }
     Ok(())
 }
 
-fn put_op(out: &mut Vec<u8>, op: &Op) -> Result<(), AllocError> {
-    match op {
-        Op::CreateTable { table, columns } => {
-            put(out, b" create ")?;
-            put(out, table.bytes())?;
-            put_columns(out, columns)
-        }
-        _ => put(out, b" another operator"),
-    }
-}
-
-fn put_body(alloc: Global, out: &mut Vec<u8>, body: &Body) -> Result<(), AllocError> {
+fn put_body(alloc: Global, out: &mut Vec<u8>, body: &Body) -> Result<(), NoMemory> {
     match body {
         Body::Changes(changes) => {
             for change in changes {
@@ -205,62 +201,92 @@ fn put_body(alloc: Global, out: &mut Vec<u8>, body: &Body) -> Result<(), AllocEr
             Ok(())
         }
         Body::Evolve { op, inverse } => {
-            put_op(out, op)?;
-            if inverse.is_empty() {
-                Ok(())
-            } else {
-                put(out, b" inverse")
-            }
+            put(out, b" ")?;
+            let text = op_text(alloc, op)?;
+            put(out, &text)?;
+            put_ops(alloc, out, b" back ", inverse)
         }
     }
 }
 
-fn put_selection(
-    alloc: Global,
-    out: &mut Vec<u8>,
-    selection: &Selection,
-) -> Result<(), AllocError> {
-    put(out, b"of ")?;
-    put_number(alloc, out, u64::from(selection.version))?;
-    for column in &selection.columns {
+fn put_branch(out: &mut Vec<u8>, branch: &Branch) -> Result<(), NoMemory> {
+    for expr in &branch.outs {
         put(out, b" ")?;
-        put(out, column.bytes())?;
+        write_expr(out, expr, false)?;
     }
-    put(out, b" from ")?;
-    put(out, selection.table.bytes())
+    put(out, b" from")?;
+    for (table, alias) in &branch.from {
+        put(out, b" ")?;
+        put(out, table.bytes())?;
+        put(out, b"/")?;
+        put(out, alias.bytes())?;
+    }
+    put(out, b" where ")?;
+    write_cond(out, &branch.cond, false, false)
 }
 
-fn put_refusal(alloc: Global, out: &mut Vec<u8>, refusal: &Refusal) -> Result<(), AllocError> {
-    match refusal {
-        Refusal::Syntax(at) => {
-            put(out, b"10 ")?;
-            put_number(alloc, out, u64::from(*at))
+fn put_query(alloc: Global, out: &mut Vec<u8>, query: &Query) -> Result<(), NoMemory> {
+    put(out, b"of ")?;
+    put_number(alloc, out, u64::from(query.version))?;
+    put(out, b":")?;
+    for branch in &query.branches {
+        put_branch(out, branch)?;
+    }
+    match query.when {
+        When::Always => {}
+        _ => put(out, b" at some moments")?,
+    }
+    if query.keep.is_empty() {
+        Ok(())
+    } else {
+        Ok(put(out, b" kept")?)
+    }
+}
+
+fn what_name(what: What) -> &'static [u8] {
+    match what {
+        What::Nodes => b"nodes ",
+        What::Depth => b"depth ",
+        What::Parts => b"parts ",
+        What::Inverse => b"inverse ",
+        _ => b"others ",
+    }
+}
+
+fn put_statement(alloc: Global, out: &mut Vec<u8>, statement: &Statement) -> Result<(), NoMemory> {
+    match statement {
+        Statement::Write(command) => {
+            put(out, b"at ")?;
+            put_number(alloc, out, command.stamp())?;
+            put_body(alloc, out, command.body())
         }
-        Refusal::TooMany(what, limit) => {
-            put(out, b"38 ")?;
-            match what {
-                What::Nodes => put(out, b"nodes ")?,
-                What::Depth => put(out, b"depth ")?,
-                What::Parts => put(out, b"parts ")?,
-                _ => put(out, b"others ")?,
-            }
-            put_number(alloc, out, *limit)
+        Statement::Ask(query) => put_query(alloc, out, query),
+        Statement::ShowVersions => Ok(put(out, b"versions")?),
+        Statement::ShowSchema(version) => {
+            put(out, b"schema ")?;
+            Ok(put_number(alloc, out, u64::from(*version))?)
         }
-        _ => put(out, b"another refusal"),
     }
 }
 
 /// What a text is read as.
-pub fn shown(alloc: Global, reading: &Reading) -> Result<Vec<u8>, AllocError> {
+pub fn shown(
+    alloc: Global,
+    found: &Result<Option<Statement>, ReadFault>,
+) -> Result<Vec<u8>, NoMemory> {
     let mut out = Vec::new(alloc);
-    match reading {
-        Reading::Blank => put(&mut out, b"blank")?,
-        Reading::Refused(refusal) => put_refusal(alloc, &mut out, refusal)?,
-        Reading::Whole(Statement::Ask(selection)) => put_selection(alloc, &mut out, selection)?,
-        Reading::Whole(Statement::Write(command)) => {
-            put(&mut out, b"at ")?;
-            put_number(alloc, &mut out, command.stamp())?;
-            put_body(alloc, &mut out, command.body())?;
+    match found {
+        Ok(None) => put(&mut out, b"none")?,
+        Ok(Some(statement)) => put_statement(alloc, &mut out, statement)?,
+        Err(ReadFault::NoMemory) => put(&mut out, b"no memory")?,
+        Err(ReadFault::Syntax(at)) => {
+            put(&mut out, b"10 ")?;
+            put_number(alloc, &mut out, u64::from(*at))?;
+        }
+        Err(ReadFault::TooMany(what, limit)) => {
+            put(&mut out, b"38 ")?;
+            put(&mut out, what_name(*what))?;
+            put_number(alloc, &mut out, *limit)?;
         }
     }
     Ok(out)

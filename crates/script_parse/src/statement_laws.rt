@@ -4,7 +4,7 @@ ghost use Rattle.lexer.specs.Parsing.{Good};
 ghost use Rattle.script_parse.specs.Lexing.{TextsAreLexed};
 ghost use Rattle.script_parse.specs.Productions.{IsStatement};
 ghost use Rattle.script_parse.specs.StatementReader.{statement, goes_statement};
-ghost use Rattle.script_parse.specs.Reading.{ReadingsAreOfTheGrammar, ReadingsAreOne, StatementsAreRead};
+ghost use Rattle.script_parse.specs.Reading.{LimitsAreKept, ReadingsAreOfTheGrammar, ReadingsAreOne, StatementsAreRead};
 
 /// The function from a text to its tokens, or to its first lexical fault, agrees with the relation
 /// between them.
@@ -23,13 +23,18 @@ pub fn readings_are_of_the_grammar()
     ensures { ReadingsAreOfTheGrammar }
 {}
 
+/// By the grammar a text has one reading, the one that it is read as.
+pub fn readings_are_one()
+    ensures { ReadingsAreOne }
+{}
+
 /// Tokens that spell a statement within the limits are read as it, and over them they are refused for
 /// what is too much.
 pub fn statements_are_read()
     ensures { StatementsAreRead }
 {}
 
-/// But for what is too much, a text has one reading by the grammar, the one that it is read as.
-pub fn readings_are_one()
-    ensures { ReadingsAreOne }
+/// A count that passes its limit at a token is refused, whatever stands behind that token.
+pub fn limits_are_kept()
+    ensures { LimitsAreKept }
 {}

@@ -1,22 +1,28 @@
 //! Reading of statements from their texts.
 
-ghost use Rattle.std.specs.Prelude.{◌≡◌, ◌≤◌, ◌<◌, length, map, IfOk};
+ghost use Rattle.std.specs.Prelude.{◌≡◌, ◌≤◌, ◌<◌, ◌++◌, ◌∷◌, List, length, map};
 ghost use Rattle.smo_ops.specs.Commands.{body_of};
-ghost use Rattle.prima_base.specs.declared.refusals.Refusal.TheVariants as refusal;
-ghost use Rattle.lexer.specs.Parsing.{limit};
+ghost use Rattle.prima_base.specs.declared.refusals.What.{What as Counted};
+ghost use Rattle.lexer.specs.Lexemes.{Lexeme};
+ghost use Rattle.lexer.specs.Parsing.{Size, limit};
+ghost use Rattle.lexer.specs.Passes.{IsFirstPass};
 ghost use Rattle.lexer.specs.Reads.{Reads, ahead};
-ghost use Rattle.script_parse.specs.Statements.{statement_of};
-ghost use Rattle.script_parse.specs.Lexing.{Tokens, placed, fault_place};
-ghost use Rattle.script_parse.specs.Reading.{Refused, place_before, read_as, reading, reading_of};
+ghost use Rattle.script_parse.specs.declared.statements.ReadFault.TheVariants as fault;
+ghost use Rattle.script_parse.specs.Lexing.{Placed, Tokens, lexed, placed, saying, fault_place};
+ghost use Rattle.script_parse.specs.Statements.{PlainStatement, statement_of};
+ghost use Rattle.script_parse.specs.Productions.{IsStatement};
+ghost use Rattle.script_parse.specs.StatementPasses.{statement_passes};
+ghost use Rattle.script_parse.specs.Reading.{Answers, Gives, IsOfPlace, IsOver, IsReadAs, IsReading, Reading, place_before, read_as, reading};
 ghost use Rattle.script_parse.specs.StatementReader as spec;
 
 use crate::change_reader::changes;
-use crate::evolve_reader::evolve_rest;
-use crate::{Reading, Selection, Statement};
-use lexer::{Cursor, LexFault, Stop, Token, moment, name, names, small, tokens};
-use prima_base::{NoMemory, Refusal, What};
+use crate::inverse_reader::evolve_rest;
+use crate::{ReadFault, Statement};
+use lexer::{Cursor, LexFault, Stop, Token, moment, small, tokens};
+use prima_base::What;
 use smo_ops::{Body, Command};
 use std::alloc::Global;
+use temporal_lang::ask;
 
 // What a command does.
 #[tactic(auto, using(crate::proofs::BodySteps::body_evolves, crate::proofs::BodySteps::body_changes))]
@@ -46,21 +52,37 @@ fn write_rest(alloc: Global, c: &mut Cursor<'_, '_>) -> Result<Statement, Stop>
 }
 
 // What stands behind QUERY.
-#[tactic(auto, unfolding(crate::specs::StatementReader::ask_rest), using(lexer::proofs::ReadSteps::lead_seen, lexer::proofs::ReadSteps::lead_not))]
+#[tactic(auto, unfolding(crate::specs::StatementReader::ask_rest))]
 fn ask_rest(alloc: Global, c: &mut Cursor<'_, '_>) -> Result<Statement, Stop>
     ensures { Reads statement_of (spec.ask_rest c.old.nodes (ahead c.old)) result c.new }
 {
-    c.expect_word(b"VERSION")?;
+    let query = ask(alloc, c)?;
+    Ok(Statement::Ask(query))
+}
+
+// What stands behind SHOW SCHEMA.
+#[tactic(auto, unfolding(crate::specs::StatementReader::schema_rest))]
+fn schema_rest(c: &mut Cursor<'_, '_>) -> Result<Statement, Stop>
+    ensures { Reads statement_of (spec.schema_rest c.old.nodes (ahead c.old)) result c.new }
+{
     let version = small(c)?;
-    c.expect_word(b"SELECT")?;
-    let columns = names(alloc, c)?;
-    c.expect_word(b"FROM")?;
-    let table = name(alloc, c)?;
-    Ok(Statement::Ask(Selection {
-        version,
-        columns,
-        table,
-    }))
+    Ok(Statement::ShowSchema(version))
+}
+
+// What stands behind SHOW.
+#[tactic(auto, unfolding(crate::specs::StatementReader::show_rest), using(lexer::proofs::ReadSteps::choose_takes, lexer::proofs::ReadSteps::choose_no))]
+fn show_rest(c: &mut Cursor<'_, '_>) -> Result<Statement, Stop>
+    ensures { Reads statement_of (spec.show_rest c.old.nodes (ahead c.old)) result c.new }
+{
+    if c.sees_word(b"VERSIONS") {
+        c.skip();
+        return Ok(Statement::ShowVersions);
+    }
+    if c.sees_word(b"SCHEMA") {
+        c.skip();
+        return schema_rest(c);
+    }
+    Err(Stop::Stuck)
 }
 
 // A statement.
@@ -76,11 +98,15 @@ fn statement(alloc: Global, c: &mut Cursor<'_, '_>) -> Result<Statement, Stop>
         c.skip();
         return ask_rest(alloc, c);
     }
+    if c.sees_word(b"SHOW") {
+        c.skip();
+        return show_rest(c);
+    }
     Err(Stop::Stuck)
 }
 
-/// The most of each kind that may be counted.
-pub(crate) fn limit_of(what: What) -> u64
+// The most of each kind that may be counted.
+fn limit_of(what: What) -> u64
     ensures { result ≡ limit what }
 {
     match what {
@@ -92,25 +118,29 @@ pub(crate) fn limit_of(what: What) -> u64
     }
 }
 
-// Refused at the token before which so many are left, or at the text's end where none is.
-fn refused_before(list: &[Token<'_>], left: usize, end: usize) -> Reading
+// The place of the token before which so many are left, or the text's end where none is.
+fn place_of(list: &[Token<'_>], left: usize, end: usize) -> u32
     requires fits { left ≤ length list.now }
     requires short { end ≤ 1048576 }
-    ensures { reading_of result ≡ Refused (refusal.Syntax (place_before (map placed list.now) left end)) }
+    ensures { result ≡ place_before (map placed list.now) left end }
 {
     if left == 0 {
-        return Reading::Refused(Refusal::Syntax(end as u32));
+        return end as u32;
     }
-    Reading::Refused(Refusal::Syntax(list[list.len() - left].at))
+    list[list.len() - left].at
 }
 
 // What the tokens of a text of so many bytes are read as.
-fn read_tokens(alloc: Global, list: &[Token<'_>], end: usize) -> Result<Reading, NoMemory>
+fn read_tokens(
+    alloc: Global,
+    list: &[Token<'_>],
+    end: usize,
+) -> Result<Option<Statement>, ReadFault>
     requires { end ≤ 1048576 }
-    ensures { IfOk result (λ r. reading_of r ≡ read_as end (Tokens (map placed list.now))) }
+    ensures { Gives (read_as end (Tokens (map placed list.now))) result }
 {
     if list.is_empty() {
-        return Ok(Reading::Blank);
+        return Ok(None);
     }
     let mut cursor = Cursor {
         rest: list,
@@ -121,45 +151,52 @@ fn read_tokens(alloc: Global, list: &[Token<'_>], end: usize) -> Result<Reading,
     match found {
         Ok(whole) => {
             if left == 0 {
-                Ok(Reading::Whole(whole))
+                Ok(Some(whole))
             } else {
-                Ok(refused_before(list, left, end))
+                Err(ReadFault::Syntax(place_of(list, left, end)))
             }
         }
         Err(stop) => match stop {
-            Stop::NoMemory => Err(NoMemory),
-            Stop::Stuck => Ok(refused_before(list, left, end)),
-            Stop::TooMany(what) => Ok(Reading::Refused(Refusal::TooMany(what, limit_of(what)))),
+            Stop::NoMemory => Err(ReadFault::NoMemory),
+            Stop::Stuck => Err(ReadFault::Syntax(place_of(list, left, end))),
+            Stop::TooMany(what) => Err(ReadFault::TooMany(what, limit_of(what))),
         },
     }
 }
 
-// The place of a lexical fault; none where memory ran out.
-fn place_of(fault: LexFault) -> Option<u32>
-    ensures { result ≡ fault_place fault }
+// A lexical fault as one of reading.
+fn lexical(fault: LexFault) -> ReadFault
+    ensures { IsOfPlace (fault_place fault) result }
 {
     match fault {
-        LexFault::NoMemory => None,
+        LexFault::NoMemory => ReadFault::NoMemory,
         LexFault::BadByte(at)
         | LexFault::OpenQuote(at)
         | LexFault::BigNumber(at)
-        | LexFault::LongText(at) => Some(at),
+        | LexFault::LongText(at) => ReadFault::Syntax(at),
     }
 }
 
-/// What a text of at most 1,048,576 bytes is read as: nothing, a statement that takes all of it, or a
-/// refusal. A lexical fault anywhere in the text comes first, then the first token with which no
-/// statement goes on or at which a count passes its limit; where the tokens run out, the place is the
-/// text's length. The one error is `NoMemory`, where memory runs out.
-pub fn read(alloc: Global, text: &[u8]) -> Result<Reading, NoMemory>
+/// The statement that a text of at most 1,048,576 bytes is; `None` exactly for blanks and comments
+/// alone. A lexical fault anywhere in the text comes first, then the first token with which no
+/// statement goes on or at which a count passes its limit; at one token `Syntax` comes first. Where the
+/// tokens run out, the place is the text's length. Each expression and condition has the limits of
+/// `parse_expr` and `parse_cond`, which begin anew in each of them, and an inverse has at most eight
+/// operators. `NoMemory` where memory runs out.
+pub fn next_statement(alloc: Global, text: &[u8]) -> Result<Option<Statement>, ReadFault>
     requires { length text.now ≤ 1048576 }
-    ensures { IfOk result (λ r. reading_of r ≡ reading text.now) }
+    // What is answered is so by the grammar, and what is so by the grammar is answered.
+    ensures read { Answers (IsReading text.now) result }
+    ensures one { (r : Reading) → IsReading text.now r → Gives r result }
+    // A statement within the limits is read as itself, and any other is refused for what is too much.
+    ensures only { (tokens : List Placed) (s : PlainStatement) (size : Size) → lexed text.now ≡ Tokens tokens → IsStatement s size (saying tokens) → Answers (IsReadAs s size) result }
+    // A front that passes a limit at its last token is refused there for this count, whatever stands behind it.
+    ensures over { (w : Counted) (tokens : List Placed) (front rest more : List Lexeme) (x : Lexeme) (s : PlainStatement) (size : Size) (h : IsStatement s size (front ++ x ∷ more)) → lexed text.now ≡ Tokens tokens → saying tokens ≡ front ++ x ∷ rest →
+        IsFirstPass w (statement_passes s size (front ++ x ∷ more) h) (length front) → Answers (IsOver w) result }
+    ensures exact { Gives (reading text.now) result }
 {
     match tokens(alloc, text) {
         Ok(list) => read_tokens(alloc, &list, text.len()),
-        Err(fault) => match place_of(fault) {
-            Some(at) => Ok(Reading::Refused(Refusal::Syntax(at))),
-            None => Err(NoMemory),
-        },
+        Err(fault) => Err(lexical(fault)),
     }
 }

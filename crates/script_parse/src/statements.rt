@@ -1,35 +1,30 @@
-//! What a text is read as.
+//! Statements, and why a text is none.
 
-use prima_base::{Name, Refusal};
+use prima_base::What;
 use smo_ops::Command;
+use temporal_lang::Query;
 
 /// A statement.
 #[derive(Drop)]
 pub enum Statement {
     /// A command that is to become part of the history.
     Write(Command),
-    /// A question about the history, which changes nothing.
-    Ask(Selection),
+    /// A query, which changes nothing.
+    Ask(Query),
+    /// The list of all versions.
+    ShowVersions,
+    /// The tables of the version with this number.
+    ShowSchema(u32),
 }
 
-/// The named columns of a table, as a version of the schema has it. Version 0 is the empty one.
-#[derive(Drop)]
-pub struct Selection {
-    /// The version's number.
-    pub version: u32,
-    /// The columns in the order in which they are listed; they may be repeated.
-    pub columns: Vec<Name>,
-    pub table: Name,
-}
-
-/// What a text is read as.
-#[derive(Drop)]
-pub enum Reading {
-    /// Blanks and comments alone: no statement.
-    Blank,
-    /// No statement, and why: `Syntax` with its place in the text, or `TooMany` with what is counted and
-    /// its limit.
-    Refused(Refusal),
-    /// A statement, which takes the whole text.
-    Whole(Statement),
+/// Why a text is no statement.
+#[derive(Clone, Copy, Debug, PartialEq, Eq)]
+pub enum ReadFault {
+    /// Reading found no memory.
+    NoMemory,
+    /// The place in the text of the first lexical fault, or else of the first token with which no
+    /// statement goes on; where the tokens run out, the text's length.
+    Syntax(u32),
+    /// The counted thing, and its limit, which is passed at a token.
+    TooMany(What, u64),
 }

@@ -1,5 +1,5 @@
-use Rattle.script_cli.proofs.CommandsRead.{read_built}
+use Rattle.script_cli.proofs.WrittenStatements.{read_written}
 use Rattle.script_cli.proofs.responses.respond.Goals as goal
 
-pub respond_write-requires-clause-built : goal.respond_write-requires-clause-built
-respond_write-requires-clause-built g c = read_built c.args.text.now c.in-Ok-Whole.field-0 c.in-Ok-Whole.statement c.in-Write.command c.in-Ok-Whole.ensures c.in-Ok-Whole.field-0-is c.in-Write.is
+pub respond_statement-requires-clause-written : goal.respond_statement-requires-clause-written
+respond_statement-requires-clause-written g c = read_written c.args.text.now c.in-Ok-Some.statement (rw c.in-Ok-Some.field-0-is at c.in-Ok-Some.ensures.exact)

@@ -9,7 +9,7 @@ use Rattle.lexer.proofs.ReadSteps.{behind, behind_fails}
 use Rattle.lexer.proofs.ManySteps.{many_first, many_smaller, many_next, many_done, many_err}
 use Rattle.script_parse.specs.StatementReader.{change}
 use Rattle.script_parse.specs.Productions.{IsChange}
-use Rattle.script_parse.proofs.StatementGoodness.{change_good}
+use Rattle.script_parse.proofs.ChangeGoodness.{change_good}
 use Rattle.script_parse.proofs.change_reader.more_changes.Goals as goal
 
 pub loop-alloc-init : goal.loop-alloc-init

@@ -9,7 +9,7 @@ use Rattle.lexer.proofs.ReadSteps.{behind, behind_fails}
 use Rattle.lexer.proofs.ManySteps.{many_first, many_smaller, many_next, many_done, many_err}
 use Rattle.script_parse.specs.StatementReader.{setting}
 use Rattle.script_parse.specs.Productions.{IsSetting}
-use Rattle.script_parse.proofs.StatementGoodness.{setting_good}
+use Rattle.script_parse.proofs.ChangeGoodness.{setting_good}
 use Rattle.script_parse.proofs.change_reader.more_settings.Goals as goal
 
 pub loop-alloc-init : goal.loop-alloc-init

@@ -7,7 +7,7 @@ use Rattle.lexer.specs.Lexemes.{is_word}
 use Rattle.lexer.specs.Parsing.{more}
 use Rattle.lexer.specs.Reads.{ahead}
 use Rattle.lexer.proofs.ReadSteps.{behind, behind_fails, prepend_none, more_next, more_err, more_full, more_done}
-use Rattle.script_parse.specs.NextReader.{op}
+use Rattle.script_parse.specs.StatementReader.{op}
 use Rattle.script_parse.proofs.inverse_reader.more_ops.Goals as goal
 
 pub loop-alloc-init : goal.loop-alloc-init

@@ -4,7 +4,7 @@ use Rattle.smo_ops.specs.Operators.{Operator, operators_of}
 use Rattle.lexer.specs.Lexemes.{is_word}
 use Rattle.lexer.specs.Reads.{ahead}
 use Rattle.lexer.specs.Parsing.{more, prepend}
-use Rattle.script_parse.specs.NextReader.{op}
+use Rattle.script_parse.specs.StatementReader.{op}
 use Rattle.script_parse.proofs.inverse_reader.more_ops.Given as goal
 
 abbrev pub invariant-loop-alloc : goal.invariant-loop-alloc

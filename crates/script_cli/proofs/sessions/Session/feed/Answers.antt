@@ -1,6 +1,6 @@
 use Rattle.std.proofs.Common.{arith}
 use Rattle.smo_ops.specs.Past.{Past}
-use Rattle.script_cli.specs.ShowsPast.{ShowsPast}
+use Rattle.archive_core.specs.Standing.{ShowsPast}
 use Rattle.script_cli.specs.Shows.{Took}
 use Rattle.script_cli.proofs.Taking.{took_more, front_more, left_none, left_some}
 use Rattle.script_cli.proofs.sessions.Session.feed.Goals as goal
