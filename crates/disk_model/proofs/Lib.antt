@@ -1,0 +1,4 @@
+pub mod Shapes
+pub mod Following
+pub mod Pushing
+pub mod Keeping

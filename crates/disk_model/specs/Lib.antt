@@ -1,0 +1,11 @@
+pub mod Meaning
+pub mod Moments
+pub mod DeviceCalls
+pub mod MomentLaws
+pub mod Images
+pub mod Calls
+pub mod Memory
+pub mod MemoryLaws
+pub mod Disks
+pub mod DiskLaws
+pub mod BorrowLaws

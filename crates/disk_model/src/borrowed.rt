@@ -1,0 +1,26 @@
+use crate::{Disk, Failed};
+
+impl<D: Disk> Disk for &mut D {
+    ghost use Rattle.disk_model.specs.Meaning.{borrowed_as};
+    ghost use Rattle.disk_model.specs.DiskLaws.{lawful_borrowed};
+
+    ghost meaning = { λ d. borrowed_as d.ghost_name (D.meaning d.now) };
+
+    ghost lawful = { λ d. lawful_borrowed d.ghost_name (D.meaning d.now) (D.lawful d.now) };
+
+    fn len(&mut self) -> Result<u64, Failed> {
+        Disk::len(&mut **self)
+    }
+
+    fn read_at(&mut self, at: u64, buf: &mut [u8]) -> Result<(), Failed> {
+        Disk::read_at(&mut **self, at, buf)
+    }
+
+    fn write_at(&mut self, at: u64, bytes: &[u8]) -> Result<(), Failed> {
+        Disk::write_at(&mut **self, at, bytes)
+    }
+
+    fn sync(&mut self) -> Result<(), Failed> {
+        Disk::sync(&mut **self)
+    }
+}

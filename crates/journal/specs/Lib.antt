@@ -1,0 +1,13 @@
+pub mod Records
+pub mod Sealing
+pub mod Standing
+pub mod SyncedWrites
+pub mod Damage
+pub mod Reading
+pub mod Mounting
+pub mod Fields
+pub mod RecordLaws
+pub mod DamageLaws
+pub mod Puts
+pub mod PutLaws
+pub mod MountLaws

@@ -1,0 +1,20 @@
+//! The journal: records on a disk that may stop at any moment.
+//!
+//! A record counts once the gate before it is open. Putting one writes it behind the closed gate,
+//! with a closed gate of its own behind it, syncs, opens the gate, and syncs again; so at each
+//! moment a crash leaves the records before, with the new one or without.
+#![tactic(auto)]
+
+mod fault;
+mod journal;
+mod mount;
+mod reader;
+mod rec;
+mod sealed;
+mod synced_write;
+
+pub use disk_model::{Disk, Failed, NoMemory};
+pub use fault::{JournalFault, PutFault};
+pub use journal::Journal;
+pub use rec::Rec;
+pub use sealed::Sealed;

@@ -1,0 +1,31 @@
+//! Cases of journals: files in hexadecimal, what mounting them answers, and what is put into them.
+//!
+//! They stand in `stdin`, and what each is answered in `stdout`, written by hand from the rules of
+//! frames. A line `== name` begins a case, with no file and no limit. Then come, in any number:
+//!
+//! - `file HEX` puts bytes behind those of the file;
+//! - `limit N` is the limit of the journal;
+//! - `open` mounts the file and tells its records, or the damage, and the file that is left;
+//! - `put HEX` mounts it, puts a command of this payload, and keeps the file that is left;
+//! - `cuts` mounts each prefix of the file, the shortest first, and tells what it holds;
+//! - `bytes N` mounts the file with each byte in turn set to N, and tells what it holds;
+//! - `fuses HEX` mounts it and puts a command of this payload, over disks that fail from their
+//!   first call on, from their second one, and so on, and tells which call answered.
+#![tactic(auto)]
+
+mod answer;
+mod case;
+mod groups;
+mod hex;
+mod line;
+
+use crate::case::play;
+use std::io;
+use std::io::{Read, Write};
+
+fn main(rt: HostRuntime) -> io::Result<()> {
+    let mut cases = Vec::new(rt.alloc());
+    rt.reader().read_to_end(&mut cases)?;
+    let answers = play(rt.alloc(), &cases)?;
+    io::writer(&rt).write_all(&answers)
+}
