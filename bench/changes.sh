@@ -8,7 +8,7 @@
 set -eu
 top=$(cd "$(dirname "$0")/.." && pwd)
 if [ -z "${PROGRAM:-}" ]; then
-    PROGRAM=$top/crates/script_cli/out/script_cli
+    PROGRAM=$top/crates/prima/out/prima
     "$top/prima" run </dev/null # builds what is missing
 fi
 [ $# -gt 0 ] || set -- 2000 20000

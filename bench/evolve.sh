@@ -7,7 +7,7 @@ set -eu
 top=$(cd "$(dirname "$0")/.." && pwd)
 "$top/prima" run </dev/null # builds what is missing
 [ $# -gt 0 ] || set -- 4000 16000 64000
-exec python3 - "$top/crates/script_cli/out/script_cli" "$@" <<'PYTHON'
+exec python3 - "$top/crates/prima/out/prima" "$@" <<'PYTHON'
 import subprocess, sys, time
 
 program, sizes = sys.argv[1], [int(word) for word in sys.argv[2:]]

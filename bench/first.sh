@@ -6,7 +6,7 @@ set -eu
 top=$(cd "$(dirname "$0")/.." && pwd)
 "$top/prima" run </dev/null # builds what is missing
 [ $# -gt 0 ] || set -- 500 2000 8000
-exec python3 - "$top/crates/script_cli/out/script_cli" "$@" <<'PYTHON'
+exec python3 - "$top/crates/prima/out/prima" "$@" <<'PYTHON'
 import resource, subprocess, sys, time
 
 program, sizes = sys.argv[1], [int(word) for word in sys.argv[2:]]
