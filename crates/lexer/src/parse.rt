@@ -3,33 +3,22 @@
 ghost use Rattle.std.specs.Prelude.{◌≡◌, ◌++◌, ◌<◌, ◌≤◌, ◌+◌, ◌∷◌, List, length, take, drop};
 ghost use Rattle.cond_expr.specs.Trees.{Tree, Test};
 ghost use Rattle.cond_expr.specs.Seen.{tree, test};
-ghost use Rattle.lexer.specs.Lexemes.{Lexeme};
-ghost use Rattle.lexer.specs.declared.reading.Stop.TheVariants as stop;
-ghost use Rattle.lexer.specs.Grammar.{IsExpr, IsCond};
-ghost use Rattle.lexer.specs.Marks.{FirstPassed, expr_marks, cond_marks};
-ghost use Rattle.lexer.specs.Parsing.{Size, Stops, limit};
+ghost use Rattle.lexical_grammar.specs.Lexemes.{Lexeme};
+ghost use Rattle.parser_combinators.specs.declared.reading.Stop.TheVariants as stop;
+ghost use Rattle.expr_grammar.specs.Grammar.{IsExpr, IsCond};
+ghost use Rattle.parser_combinators.specs.Marks.{FirstPassed};
+ghost use Rattle.expr_grammar.specs.TreeMarks.{expr_marks, cond_marks};
+ghost use Rattle.parser_combinators.specs.Parsing.{Size, Stops, limit};
 ghost use Rattle.prima_base.specs.declared.refusals.What.{What as Counted};
-ghost use Rattle.lexer.specs.Reader.{goes_expr, goes_cond, outermost};
-ghost use Rattle.lexer.specs.Found.{IsRead, Finds, Ends, IsFirstFault, IsTooMany, Follows, FaultAt, lexemes_from};
+ghost use Rattle.expr_grammar.specs.Reader.{goes_expr, goes_cond, outermost};
+ghost use Rattle.parser_combinators.specs.Found.{IsRead, Finds, Ends, IsFirstFault, IsTooMany, Follows, FaultAt, lexemes_from};
 
 use crate::reader::{outer_cond, outer_expr};
-use crate::{Cursor, Stop, Token};
 use cond_expr::{Cond, Expr};
+use lexical_grammar::Token;
+use parser_combinators::{Cursor, ParseFault, Stop};
 use prima_base::What;
 use std::alloc::Global;
-
-/// Why a list holds no expression or condition at a place.
-#[derive(Clone, Copy, Debug, PartialEq, Eq)]
-pub enum ParseFault {
-    /// The tree found no memory.
-    NoMemory,
-    /// The place in the statement of the first token with which nothing goes on.
-    Syntax(u32),
-    /// The list ends before what is read is whole.
-    RanOut,
-    /// The counted thing, and its limit: a node, an open construct or a part of a CONCAT more.
-    TooMany(What, u64),
-}
 
 fn limit_of(what: What) -> u64
     ensures { result ≡ limit what }
@@ -44,7 +33,7 @@ fn limit_of(what: What) -> u64
 }
 
 /// The tokens from a place on; the place is at most the list's length.
-#[tactic(auto, using(crate::proofs::Places::tail_is))]
+#[tactic(auto, using(lexical_grammar::proofs::Cuts::tail_is))]
 pub fn tail<'a, 't>(list: &'a [Token<'t>], from: usize) -> &'a [Token<'t>]
     requires { from ≤ length list.now }
     ensures { result.now ≡ drop from list.now }

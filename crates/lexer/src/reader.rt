@@ -3,22 +3,22 @@
 ghost use Rattle.std.specs.Prelude.{◌≡◌, ◌+◌, ◌-◌, ◌≤◌, ◌<◌, ◌++◌, ℕ, List, length, drop, map, take, true, false, codes, [], ◌∷◌, IfOk, IfErr, OnOk, OnErr};
 ghost use Rattle.prima_base.specs.declared.refusals.What.TheVariants as what;
 ghost use Rattle.cond_expr.specs.Seen.{tree, test};
-ghost use Rattle.lexer.specs.Lexemes.{is_word, is_sign};
-ghost use Rattle.lexer.specs.Reads.{Reads, ReadsMore, ahead};
-ghost use Rattle.lexer.specs.Reader as spec;
-ghost use Rattle.lexer.specs.Parsing as parsing;
+ghost use Rattle.lexical_grammar.specs.Lexemes.{is_word, is_sign};
+ghost use Rattle.parser_combinators.specs.Reads.{Reads, ReadsMore, ahead};
+ghost use Rattle.expr_grammar.specs.Reader as spec;
+ghost use Rattle.parser_combinators.specs.Parsing as parsing;
 
-use crate::atoms::{atom, falsehood, no_bracket, sees_op, truth};
-use crate::{Cursor, Stop};
 use cond_expr::{Cond, Expr};
+use parser_combinators::{Cursor, Stop};
 use prima_base::What;
 use std::alloc::Global;
+use token_readers::{atom, falsehood, no_bracket, sees_op, truth};
 
 // How many constructs may be open at once.
 const MOST_OPEN: u32 = 32;
 
 #[cycle(reads)]
-#[tactic(auto, unfolding(crate::specs::Reader::length_rest), using(crate::proofs::ReadSteps::lead_seen, crate::proofs::ReadSteps::lead_not))]
+#[tactic(auto, unfolding(expr_grammar::specs::Reader::length_rest), using(parser_combinators::proofs::ReadSteps::lead_seen, parser_combinators::proofs::ReadSteps::lead_not))]
 fn length_inside(
     alloc: Global,
     c: &mut Cursor<'_, '_>,
@@ -35,7 +35,7 @@ fn length_inside(
 }
 
 #[cycle(reads)]
-#[tactic(auto, using(crate::proofs::ReadSteps::length_open, crate::proofs::ReadSteps::length_shut, crate::proofs::ReadSteps::length_stuck))]
+#[tactic(auto, using(expr_grammar::proofs::TreeSteps::length_open, expr_grammar::proofs::TreeSteps::length_shut, expr_grammar::proofs::TreeSteps::length_stuck))]
 fn length_rest(
     alloc: Global,
     c: &mut Cursor<'_, '_>,
@@ -77,7 +77,7 @@ fn more_exprs(
 }
 
 #[cycle(reads)]
-#[tactic(auto, unfolding(crate::specs::Reader::concat_rest), using(crate::proofs::ReadSteps::lead_seen, crate::proofs::ReadSteps::lead_not))]
+#[tactic(auto, unfolding(expr_grammar::specs::Reader::concat_rest), using(parser_combinators::proofs::ReadSteps::lead_seen, parser_combinators::proofs::ReadSteps::lead_not))]
 fn concat_inside(
     alloc: Global,
     c: &mut Cursor<'_, '_>,
@@ -96,7 +96,7 @@ fn concat_inside(
 }
 
 #[cycle(reads)]
-#[tactic(auto, using(crate::proofs::ReadSteps::concat_open, crate::proofs::ReadSteps::concat_shut, crate::proofs::ReadSteps::concat_stuck))]
+#[tactic(auto, using(expr_grammar::proofs::TreeSteps::concat_open, expr_grammar::proofs::TreeSteps::concat_shut, expr_grammar::proofs::TreeSteps::concat_stuck))]
 fn concat_rest(
     alloc: Global,
     c: &mut Cursor<'_, '_>,
@@ -113,7 +113,7 @@ fn concat_rest(
 }
 
 #[cycle(reads)]
-#[tactic(auto, unfolding(crate::specs::Reader::case_rest), using(crate::proofs::ReadSteps::lead_seen, crate::proofs::ReadSteps::lead_not))]
+#[tactic(auto, unfolding(expr_grammar::specs::Reader::case_rest), using(parser_combinators::proofs::ReadSteps::lead_seen, parser_combinators::proofs::ReadSteps::lead_not))]
 fn case_rest(
     alloc: Global,
     c: &mut Cursor<'_, '_>,
@@ -134,7 +134,7 @@ fn case_rest(
 }
 
 #[cycle(reads)]
-#[tactic(auto, using(crate::proofs::ReadSteps::expr_length, crate::proofs::ReadSteps::expr_length_full, crate::proofs::ReadSteps::expr_concat, crate::proofs::ReadSteps::expr_concat_full, crate::proofs::ReadSteps::expr_case, crate::proofs::ReadSteps::expr_case_full, crate::proofs::ReadSteps::expr_case_deep, crate::proofs::ReadSteps::expr_case_deep_full, crate::proofs::ReadSteps::expr_else))]
+#[tactic(auto, using(expr_grammar::proofs::TreeSteps::expr_length, expr_grammar::proofs::TreeSteps::expr_length_full, expr_grammar::proofs::TreeSteps::expr_concat, expr_grammar::proofs::TreeSteps::expr_concat_full, expr_grammar::proofs::TreeSteps::expr_case, expr_grammar::proofs::TreeSteps::expr_case_full, expr_grammar::proofs::TreeSteps::expr_case_deep, expr_grammar::proofs::TreeSteps::expr_case_deep_full, expr_grammar::proofs::TreeSteps::expr_else))]
 /// An expression, inside which so many constructs may be opened.
 pub fn expr(
     alloc: Global,
@@ -164,7 +164,7 @@ pub fn expr(
 }
 
 #[cycle(reads)]
-#[tactic(auto, unfolding(crate::specs::Reader::comparison), using(crate::proofs::ReadSteps::op_none, crate::proofs::ReadSteps::op_counts, crate::proofs::ReadSteps::op_full))]
+#[tactic(auto, unfolding(expr_grammar::specs::Reader::comparison), using(expr_grammar::proofs::TreeSteps::op_none, expr_grammar::proofs::TreeSteps::op_counts, expr_grammar::proofs::TreeSteps::op_full))]
 fn comparison(
     alloc: Global,
     c: &mut Cursor<'_, '_>,
@@ -184,7 +184,7 @@ fn comparison(
 }
 
 #[cycle(reads)]
-#[tactic(auto, unfolding(crate::specs::Reader::bracketed), using(crate::proofs::ReadSteps::lead_seen, crate::proofs::ReadSteps::lead_not))]
+#[tactic(auto, unfolding(expr_grammar::specs::Reader::bracketed), using(parser_combinators::proofs::ReadSteps::lead_seen, parser_combinators::proofs::ReadSteps::lead_not))]
 fn bracketed(
     alloc: Global,
     c: &mut Cursor<'_, '_>,
@@ -200,7 +200,7 @@ fn bracketed(
 }
 
 #[cycle(reads)]
-#[tactic(auto, using(crate::proofs::ReadSteps::fact_not, crate::proofs::ReadSteps::fact_not_full, crate::proofs::ReadSteps::fact_not_deep, crate::proofs::ReadSteps::fact_not_deep_full, crate::proofs::ReadSteps::fact_bracket, crate::proofs::ReadSteps::fact_bracket_deep, crate::proofs::ReadSteps::fact_true, crate::proofs::ReadSteps::fact_true_full, crate::proofs::ReadSteps::fact_false, crate::proofs::ReadSteps::fact_false_full, crate::proofs::ReadSteps::fact_else))]
+#[tactic(auto, using(expr_grammar::proofs::TreeSteps::fact_not, expr_grammar::proofs::TreeSteps::fact_not_full, expr_grammar::proofs::TreeSteps::fact_not_deep, expr_grammar::proofs::TreeSteps::fact_not_deep_full, expr_grammar::proofs::TreeSteps::fact_bracket, expr_grammar::proofs::TreeSteps::fact_bracket_deep, expr_grammar::proofs::TreeSteps::fact_true, expr_grammar::proofs::TreeSteps::fact_true_full, expr_grammar::proofs::TreeSteps::fact_false, expr_grammar::proofs::TreeSteps::fact_false_full, expr_grammar::proofs::TreeSteps::fact_else))]
 /// A condition without AND and OR outside brackets.
 pub fn fact(
     alloc: Global,
@@ -264,7 +264,7 @@ fn more_facts(
 }
 
 #[cycle(reads)]
-#[tactic(auto, unfolding(crate::specs::Reader::facts), using(crate::proofs::ReadSteps::option_not, crate::proofs::ReadSteps::option_counts, crate::proofs::ReadSteps::option_full))]
+#[tactic(auto, unfolding(expr_grammar::specs::Reader::facts), using(parser_combinators::proofs::ReadSteps::option_not, parser_combinators::proofs::ReadSteps::option_counts, parser_combinators::proofs::ReadSteps::option_full))]
 fn facts(
     alloc: Global,
     c: &mut Cursor<'_, '_>,
@@ -286,7 +286,7 @@ fn facts(
 }
 
 #[cycle(reads)]
-#[tactic(auto, unfolding(crate::specs::Reader::conj))]
+#[tactic(auto, unfolding(expr_grammar::specs::Reader::conj))]
 fn conj(alloc: Global, c: &mut Cursor<'_, '_>, qualified: bool, depth: u32) -> Result<Cond, Stop>
     requires { depth ≤ 32 }
     ensures { Reads test (spec.conj qualified (spec.can depth) (spec.inside qualified depth) c.old.nodes (ahead c.old)) result c.new }
@@ -322,7 +322,7 @@ fn more_conjs(
 }
 
 #[cycle(reads)]
-#[tactic(auto, unfolding(crate::specs::Reader::conjs), using(crate::proofs::ReadSteps::option_not, crate::proofs::ReadSteps::option_counts, crate::proofs::ReadSteps::option_full))]
+#[tactic(auto, unfolding(expr_grammar::specs::Reader::conjs), using(parser_combinators::proofs::ReadSteps::option_not, parser_combinators::proofs::ReadSteps::option_counts, parser_combinators::proofs::ReadSteps::option_full))]
 fn conjs(
     alloc: Global,
     c: &mut Cursor<'_, '_>,
@@ -344,7 +344,7 @@ fn conjs(
 }
 
 #[cycle(reads)]
-#[tactic(auto, unfolding(crate::specs::Reader::cond))]
+#[tactic(auto, unfolding(expr_grammar::specs::Reader::cond))]
 /// A condition, inside which so many constructs may be opened.
 pub fn cond(
     alloc: Global,
@@ -360,7 +360,7 @@ pub fn cond(
 }
 
 /// An expression inside which nothing is open yet.
-#[tactic(auto, unfolding(crate::specs::Reader::outermost))]
+#[tactic(auto, unfolding(expr_grammar::specs::Reader::outermost))]
 pub fn outer_expr(alloc: Global, c: &mut Cursor<'_, '_>, qualified: bool) -> Result<Expr, Stop>
     ensures { Reads tree ((spec.outermost qualified).expr c.old.nodes (ahead c.old)) result c.new }
 {
@@ -368,7 +368,7 @@ pub fn outer_expr(alloc: Global, c: &mut Cursor<'_, '_>, qualified: bool) -> Res
 }
 
 /// A condition inside which nothing is open yet.
-#[tactic(auto, unfolding(crate::specs::Reader::outermost))]
+#[tactic(auto, unfolding(expr_grammar::specs::Reader::outermost))]
 pub fn outer_cond(alloc: Global, c: &mut Cursor<'_, '_>, qualified: bool) -> Result<Cond, Stop>
     ensures { Reads test ((spec.outermost qualified).cond c.old.nodes (ahead c.old)) result c.new }
 {
@@ -377,7 +377,7 @@ pub fn outer_cond(alloc: Global, c: &mut Cursor<'_, '_>, qualified: bool) -> Res
 
 /// An expression with counts of its own: 256 nodes and 32 open constructs, whatever was counted
 /// before it. Behind it the cursor's count is as it was.
-#[tactic(auto, using(crate::proofs::ReadSteps::fresh_fails))]
+#[tactic(auto, using(parser_combinators::proofs::ReadSteps::fresh_fails))]
 pub fn fresh_expr(alloc: Global, c: &mut Cursor<'_, '_>, qualified: bool) -> Result<Expr, Stop>
     ensures { Reads tree (parsing.fresh (spec.outermost qualified).expr c.old.nodes (ahead c.old)) result c.new }
 {
@@ -389,7 +389,7 @@ pub fn fresh_expr(alloc: Global, c: &mut Cursor<'_, '_>, qualified: bool) -> Res
 }
 
 /// A condition with counts of its own, as `fresh_expr`.
-#[tactic(auto, using(crate::proofs::ReadSteps::fresh_fails))]
+#[tactic(auto, using(parser_combinators::proofs::ReadSteps::fresh_fails))]
 pub fn fresh_cond(alloc: Global, c: &mut Cursor<'_, '_>, qualified: bool) -> Result<Cond, Stop>
     ensures { Reads test (parsing.fresh (spec.outermost qualified).cond c.old.nodes (ahead c.old)) result c.new }
 {

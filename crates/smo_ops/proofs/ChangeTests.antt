@@ -8,13 +8,13 @@ use Rattle.prima_base.specs.Columns.{Column, AreColumns}
 use Rattle.cond_expr.specs.declared.exprs.Expr.{Expr}
 use Rattle.cond_expr.specs.Trees.{Test}
 use Rattle.cond_expr.specs.Faults.{test_references, first_unknown}
-use Rattle.smo_ops.specs.Changes.{insertion, update, sets_of}
-use Rattle.smo_ops.specs.First.{first_refusal}
-use Rattle.smo_ops.specs.OneRow.{own_kinds}
-use Rattle.smo_ops.specs.Checks.{Fault, AreSmall, pair_names, name_faults, missing_fault, cell_faults, reference_fault, set_references, set_faults, sets_nodes, test_fault, tests_behind}
-use Rattle.smo_ops.proofs.Firsts.{first_behind, first_before, first_at, first_later, first_alone, none_mapped}
+use Rattle.smo_types.specs.Changes.{insertion, update, sets_of}
+use Rattle.smo_meaning.specs.First.{first_refusal}
+use Rattle.smo_meaning.specs.OneRow.{own_kinds}
+use Rattle.smo_meaning.specs.Checks.{Fault, AreSmall, pair_names, name_faults, missing_fault, cell_faults, reference_fault, set_references, set_faults, sets_nodes, test_fault, tests_behind}
+use Rattle.smo_meaning.proofs.Firsts.{first_behind, first_before, first_at, first_later, first_alone, none_mapped}
 use Rattle.smo_ops.proofs.CheckLaws.{known_both}
-use Rattle.smo_ops.proofs.FewNames.{few_names}
+use Rattle.smo_meaning.proofs.FewNames.{few_names}
 
 length_pairs : {X : Type 0} (pairs : List (List ℕ × X)) → length (pair_names pairs) ≡ length pairs
 length_pairs [] = refl

@@ -5,9 +5,9 @@ use Rattle.std.specs.Option.{option_map}
 use Rattle.std.proofs.lemmas.List.{take_more}
 use Rattle.prima_base.specs.declared.refusals.Refusal.TheVariants.{NoColumn, ColumnExists}
 use Rattle.prima_base.specs.Columns.{Column, names_of}
-use Rattle.smo_ops.specs.First.{unless, where_so, first_refusal}
-use Rattle.smo_ops.specs.Preconditions.{among}
-use Rattle.smo_ops.specs.Checks.{pair_names, names_behind}
+use Rattle.smo_meaning.specs.First.{unless, where_so, first_refusal}
+use Rattle.smo_meaning.specs.Preconditions.{among}
+use Rattle.smo_meaning.specs.Checks.{pair_names, names_behind}
 use Rattle.prima_base.specs.declared.refusals.Refusal.{Refusal}
 use Rattle.cond_expr.specs.declared.exprs.Expr.{Expr}
 use Rattle.cond_expr.specs.declared.exprs.ColRef.{ColRef}
@@ -15,10 +15,10 @@ use Rattle.cond_expr.specs.Seen.{tree}
 use Rattle.cond_expr.specs.Sizes.{nodes_of}
 use Rattle.cond_expr.specs.Faults.{references, first_unknown, earlier}
 use Rattle.cond_expr.proofs.FaultLaws.{unknown_append}
-use Rattle.smo_ops.specs.Changes.{sets_of}
-use Rattle.smo_ops.specs.OneRow.{own_kinds}
-use Rattle.smo_ops.specs.Checks.{AreSmall, reference_fault, set_references, set_tests, set_faults, sets_nodes}
-use Rattle.smo_ops.proofs.Firsts.{drop_at, none_mapped, first_before, first_behind}
+use Rattle.smo_types.specs.Changes.{sets_of}
+use Rattle.smo_meaning.specs.OneRow.{own_kinds}
+use Rattle.smo_meaning.specs.Checks.{AreSmall, reference_fault, set_references, set_tests, set_faults, sets_nodes}
+use Rattle.smo_meaning.proofs.Firsts.{drop_at, none_mapped, first_before, first_behind}
 
 pub pair_names_of : (columns : List Column) → pair_names columns ≡ names_of columns
 pair_names_of [] = refl

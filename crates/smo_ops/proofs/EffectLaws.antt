@@ -1,14 +1,13 @@
--- A row that is lent as that of atom 0, the rows that an INSERT and an UPDATE make, and what changes make of lists of
--- rows.
-use Rattle.std.proofs.Common.{◌≡◌, ℕ, ◌+◌, ◌<◌, Bool, true, false, cond, List, [], ◌∷◌, ◌++◌, append_assoc, Option, Some, None, length, map, take, drop, get_or, nat_eq, refl, sym, ap, ◌∙◌, subst, inl, inr, pos, arith}
+-- A row that is lent as that of atom 0, the rows that an INSERT and an UPDATE make, and what DELETE and UPDATE make of
+-- lists of rows.
+use Rattle.std.proofs.Common.{◌≡◌, ℕ, ◌+◌, ◌<◌, Bool, true, false, cond, List, [], ◌∷◌, ◌++◌, Option, length, map, take, drop, get_or, nat_eq, refl, sym, ap, ◌∙◌, subst, pos, arith}
 use Rattle.std.specs.Prelude.{◌==◌, zero, suc, if◌then◌else◌}
 use Rattle.std.specs.List.{AllZip, zip, filter}
-use Rattle.std.specs.Option.{option_map, unwrap_or}
-use Rattle.std.proofs.lemmas.List.{take_more, append-nil}
-use Rattle.std.proofs.lemmas.Option.{same_Some}
+use Rattle.std.specs.Option.{unwrap_or}
+use Rattle.std.proofs.lemmas.List.{take_more}
 use Rattle.std.specs.declared.cmp.Ordering.{Ordering}
-use Rattle.relations.specs.Sets.{In, Ascends, put_in, set_of, IsExact}
-use Rattle.relations.proofs.SetLaws.{one_list, set_ascends, in_set, from_set, set_same, in_left, in_right, in_append, in_map, from_map, in_filter, from_filter, below_each, before_in}
+use Rattle.relations.specs.Sets.{In, Ascends, set_of, IsExact}
+use Rattle.relations.proofs.SetLaws.{one_list, set_ascends, in_set, from_set, set_same, in_map, from_map, in_filter, from_filter, below_each, before_in}
 use Rattle.std.proofs.lemmas.Slice.Zip.{all_zipped_more}
 use Rattle.std.specs.Cmp.Lexicographic.{nat_list_cmp_total, pointwise, texts_ties}
 use Rattle.std.proofs.lemmas.Cmp.{eq_by_cmp_equiv}
@@ -17,8 +16,7 @@ use Rattle.std.specs.Ordering.{is_eq}
 use Rattle.prima_base.specs.declared.values.Value.{Value}
 use Rattle.prima_base.specs.declared.values.Value.TheVariants.{Int}
 use Rattle.prima_base.specs.declared.values.Val.{Val}
-use Rattle.prima_base.specs.Order.{bytes_cmp, row_cmp, shown}
-use Rattle.prima_base.specs.OrderLaws.{row_exact}
+use Rattle.prima_base.specs.Order.{bytes_cmp, shown}
 use Rattle.prima_base.specs.Columns.{Column, AreColumns, IsRow}
 use Rattle.schema_catalog.specs.Databases.{cell}
 use Rattle.schema_catalog.proofs.Cells.{cells_again}
@@ -29,10 +27,9 @@ use Rattle.cond_expr.specs.declared.exprs.Expr.{Expr}
 use Rattle.cond_expr.specs.Seen.{tree}
 use Rattle.cond_expr.specs.Values.{value}
 use Rattle.cond_expr.specs.Trees.{Tree}
-use Rattle.smo_ops.specs.OneRow.{Row, as_atom, own_cells, given, row_of, set_value, with_sets}
-use Rattle.smo_ops.specs.Changes.{PlainChange, insertion, deletion, update, sets_of}
-use Rattle.smo_ops.specs.Inserting.{relation_after_each, insertions}
-use Rattle.smo_ops.proofs.Firsts.{drop_at}
+use Rattle.smo_meaning.specs.OneRow.{as_atom, own_cells, given, set_value, with_sets}
+use Rattle.smo_types.specs.Changes.{sets_of}
+use Rattle.smo_meaning.proofs.Firsts.{drop_at}
 
 none_free : (columns : List Column) (vs : List Val) (n : List ℕ) → flat (as_atom columns) vs Free n ≡ Int (pos 0)
 none_free [] vs n = refl
@@ -114,7 +111,7 @@ pub sets_replaced : (columns : List Column) (sets : List (List ℕ × Tree)) (ro
 sets_replaced columns sets row os a r h = ap (λ l. map (λ (p : Value × Option Value). unwrap_or p.1 p.0) (zip l os)) (sym (cells_again columns row a r))
     ∙ zipped_map (λ (c : Column). cell columns row c.0) (λ (c : Column). set_value columns row sets c.0) columns os h
 
--- the relations of a list with one row more, of a filter and of a map
+-- the relations of a filter and of a map
 ascends_filter : {X : Type 0} (cmp : X → X → Ordering) (p : X → Bool) (xs : List X) → Ascends cmp xs → Ascends cmp (filter p xs)
 ascends_filter cmp p [] a = tt
 ascends_filter {X} cmp p (x ∷ xs) a =
@@ -124,13 +121,6 @@ ascends_filter {X} cmp p (x ∷ xs) a =
     ]
 
 module _ {X : Type 0} (cmp : X → X → Ordering) (exact : IsExact cmp) where
-  pub set_pushed : (xs : List X) (x : X) → set_of cmp (xs ++ x ∷ []) ≡ put_in cmp x (set_of cmp xs)
-  unfolding set_of
-  set_pushed xs x = set_same cmp exact (xs ++ x ∷ []) (x ∷ xs) (record {
-    there = λ z m. elim (in_append z xs (x ∷ []) m) [ inl a ↦ inr a | inr b ↦ elim b [ inl e ↦ inl e | inr n ↦ absurd n ] ];
-    back = λ z m. elim m [ inl e ↦ in_right z xs (x ∷ []) (inl e) | inr n ↦ in_left z xs (x ∷ []) n ];
-  })
-
   pub set_filtered : (p : X → Bool) (xs : List X) → set_of cmp (filter p xs) ≡ filter p (set_of cmp xs)
   set_filtered p xs = one_list cmp exact (set_of cmp (filter p xs)) (filter p (set_of cmp xs)) (set_ascends cmp exact (filter p xs)) (ascends_filter cmp p (set_of cmp xs) (set_ascends cmp exact xs)) (record {
     there = λ z m. let h = from_filter p z xs (from_set cmp exact z (filter p xs) m) in in_filter p z (set_of cmp xs) (in_set cmp exact z xs h.0) h.1;
@@ -142,19 +132,3 @@ module _ {X : Type 0} (cmp : X → X → Ordering) (exact : IsExact cmp) where
     there = λ z m. let h = from_map f z xs m in subst (λ (w : X). In w (map f (set_of cmp xs))) h.2 (in_map f h.0 (set_of cmp xs) (in_set cmp exact h.0 xs h.1));
     back = λ z m. let h = from_map f z (set_of cmp xs) m in subst (λ (w : X). In w (map f xs)) h.2 (in_map f h.0 xs (from_set cmp exact h.0 xs h.1));
   })
-
--- INSERTs, one after the other, are the union with the rows that they give
-some_rest : (row : Row) (given : List Row) (o : Option (List Row)) → option_map (λ rows. row ∷ rows) o ≡ Some given → (rest : List Row) × (o ≡ Some rest) × (given ≡ row ∷ rest)
-some_rest row given None e = absurd (cc)
-some_rest row given (Some rest) e = (rest, refl, sym (same_Some (row ∷ rest) given e))
-
-pub union_of_insertions : (columns : List Column) (changes : List PlainChange) (given rows : List Row) → insertions columns changes ≡ Some given → relation_after_each columns changes (set_of row_cmp rows) ≡ set_of row_cmp (rows ++ given)
-union_of_insertions columns [] given rows e = ap (set_of row_cmp) (sym (append-nil rows) ∙ ap (λ more. rows ++ more) (same_Some [] given e))
-union_of_insertions columns (deletion t c ∷ changes) given rows e = absurd (cc)
-union_of_insertions columns (update t sets c ∷ changes) given rows e = absurd (cc)
-union_of_insertions columns (insertion t cells ∷ changes) given rows e =
-    let row = row_of columns cells in
-    let h = some_rest row given (insertions columns changes) e in
-    ap (relation_after_each columns changes) (sym (set_pushed row_cmp row_exact rows row))
-    ∙ union_of_insertions columns changes h.0 (rows ++ row ∷ []) h.1
-    ∙ ap (set_of row_cmp) (append_assoc rows (row ∷ []) h.0 ∙ ap (λ more. rows ++ more) (sym h.2))

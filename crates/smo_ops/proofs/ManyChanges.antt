@@ -3,11 +3,11 @@ use Rattle.std.proofs.Common.{◌≡◌, ◌<◌, ◌+◌, ℕ, List, ◌++◌, 
 use Rattle.std.specs.Prelude.{Some, None}
 use Rattle.prima_base.specs.declared.refusals.Refusal.{Refusal}
 use Rattle.schema_catalog.specs.Tables.{Tables}
-use Rattle.smo_ops.specs.declared.changes.Change.{Change}
-use Rattle.smo_ops.specs.Changes.{change_of, changes_of}
-use Rattle.smo_ops.specs.First.{first_refusal}
-use Rattle.smo_ops.specs.Checks.{IsSmall, AllSmall, change_tests, changes_tests, change_nodes}
-use Rattle.smo_ops.proofs.Firsts.{drop_at, first_before, first_behind}
+use Rattle.smo_types.specs.declared.changes.Change.{Change}
+use Rattle.smo_types.specs.Changes.{change_of, changes_of}
+use Rattle.smo_meaning.specs.First.{first_refusal}
+use Rattle.smo_meaning.specs.Checks.{IsSmall, AllSmall, change_tests, changes_tests, change_nodes}
+use Rattle.smo_meaning.proofs.Firsts.{drop_at, first_before, first_behind}
 
 module _ (tables : Tables) (changes : List Change) (i at : ℕ) (c : Change) (below : i < length changes) (is : c ≡ get_or changes i c) where
   here : changes_tests tables (changes_of (drop i changes)) at

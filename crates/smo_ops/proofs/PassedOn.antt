@@ -2,10 +2,10 @@
 use Rattle.std.proofs.Common.{◌≡◌, ℕ, List, refl, sym, ◌∙◌, inl, inr}
 use Rattle.std.specs.Prelude.{◌⊎◌, Some, None, Result, Ok, Err, IsOkUnless, IsErrOf}
 use Rattle.prima_base.specs.declared.refusals.Refusal.{Refusal}
-use Rattle.smo_ops.specs.declared.changes.ChangeFault.{ChangeFault}
-use Rattle.smo_ops.specs.declared.changes.ChangeFault.TheVariants.{Refused, NoMemory}
-use Rattle.smo_ops.specs.First.{first_refusal}
-use Rattle.smo_ops.specs.Checks.{Fault, IsChecked}
+use Rattle.smo_types.specs.declared.changes.ChangeFault.{ChangeFault}
+use Rattle.smo_types.specs.declared.changes.ChangeFault.TheVariants.{Refused, NoMemory}
+use Rattle.smo_meaning.specs.First.{first_refusal}
+use Rattle.smo_meaning.specs.Checks.{Fault, IsChecked}
 use Rattle.smo_ops.specs.Walks.{IsWalked}
 
 -- what is refused by one test is refused by tests of which it is the first that is not met

@@ -1,39 +1,26 @@
 -- What the counts of a command tell of its changes, and how many nodes an accepted change has.
-use Rattle.std.proofs.Common.{◌≡◌, ◌≤◌, ◌+◌, ◌*◌, ℕ, Bool, true, List, [], ◌∷◌, ◌++◌, length, take, refl, sym, subst, ◌∙◌, arith}
-use Rattle.std.specs.Prelude.{Option, Some, None, nat_le, is_some}
+use Rattle.std.proofs.Common.{◌≡◌, ◌≤◌, ◌+◌, ◌*◌, ℕ, true, List, [], ◌∷◌, ◌++◌, length, take, refl, sym, subst, ◌∙◌, arith}
+use Rattle.std.specs.Prelude.{Option, Some, None, is_some}
 use Rattle.std.specs.Option.{unwrap_or}
 use Rattle.std.specs.List.{flat_map}
 use Rattle.std.specs.FinMap.{get, contains_key}
 use Rattle.std.proofs.lemmas.List.{take_all}
-use Rattle.prima_base.specs.declared.refusals.What.{What}
-use Rattle.prima_base.specs.declared.refusals.What.TheVariants.{Nodes, Depth, Parts, Changes}
+use Rattle.prima_base.specs.declared.refusals.What.TheVariants.{Changes}
 use Rattle.prima_base.specs.declared.refusals.Refusal.TheVariants.{NoTable}
 use Rattle.prima_base.specs.Columns.{Column, AreColumns}
 use Rattle.schema_catalog.specs.Tables.{Tables, IsSchema}
-use Rattle.cond_expr.specs.Trees.{Tree, Test}
+use Rattle.cond_expr.specs.Trees.{Tree}
 use Rattle.cond_expr.specs.Faults.{test_references}
-use Rattle.cond_expr.specs.Sizes.{nodes_of, depth_of, longest_of, test_nodes, test_depth, test_longest}
-use Rattle.smo_ops.specs.Changes.{PlainChange, insertion, deletion, update, table_of}
-use Rattle.smo_ops.specs.Commands.{changing}
-use Rattle.smo_ops.specs.First.{first_refusal}
-use Rattle.smo_ops.specs.Effects.{columns_of}
-use Rattle.smo_ops.specs.Preconditions.{AreNarrow}
-use Rattle.smo_ops.specs.Counts.{at_most, tree_counts, test_counts, set_counts, change_counts, first_excess}
-use Rattle.smo_ops.specs.Checks.{AreSmall, IsSmall, AllSmall, pair_names, name_faults, missing_fault, cell_faults, reference_fault, set_references, set_faults, sets_nodes, test_fault, table_fault, tests_behind, change_tests, change_nodes}
-use Rattle.smo_ops.proofs.Firsts.{none_of_both, none_of_first, met, first_alone}
+use Rattle.smo_types.specs.Changes.{PlainChange, insertion, deletion, update, table_of}
+use Rattle.smo_types.specs.Commands.{changing}
+use Rattle.smo_meaning.specs.First.{first_refusal}
+use Rattle.smo_meaning.specs.Effects.{columns_of}
+use Rattle.smo_meaning.specs.Preconditions.{AreNarrow}
+use Rattle.smo_meaning.specs.Counts.{at_most, tree_counts, test_counts, set_counts, change_counts, first_excess}
+use Rattle.smo_meaning.specs.Checks.{AreSmall, IsSmall, AllSmall, pair_names, name_faults, missing_fault, cell_faults, reference_fault, set_references, set_faults, sets_nodes, test_fault, table_fault, tests_behind, change_tests, change_nodes}
+use Rattle.smo_meaning.proofs.Firsts.{none_of_both, none_of_first, met, first_alone}
 use Rattle.smo_ops.proofs.ChangeTests.{few_pairs}
-
-pub fits : (what : What) (limit n : ℕ) → at_most what limit n ≡ None → n ≤ limit
-fits what limit n e = step (nat_le n limit) refl (met {R = What × ℕ} (nat_le n limit) (what, limit) e)
-  where
-    step : (b : Bool) → nat_le n limit ≡ b → nat_le n limit ≡ true → n ≤ limit
-    step b q h = grind (arith, h)
-
-pub small_tree : (t : Tree) → first_refusal (tree_counts t) ≡ None → nodes_of t ≤ 256
-small_tree t e = fits Nodes 256 (nodes_of t) (none_of_first (at_most Nodes 256 (nodes_of t)) (at_most Depth 32 (depth_of t) ∷ at_most Parts 8 (longest_of t) ∷ []) e).0
-
-pub small_test : (c : Test) → first_refusal (test_counts c) ≡ None → test_nodes c ≤ 256
-small_test c e = fits Nodes 256 (test_nodes c) (none_of_first (at_most Nodes 256 (test_nodes c)) (at_most Depth 32 (test_depth c) ∷ at_most Parts 8 (test_longest c) ∷ []) e).0
+use Rattle.smo_meaning.proofs.SmallTrees.{fits, small_tree, small_test}
 
 small_sets : (sets : List (List ℕ × Tree)) → first_refusal (set_counts sets) ≡ None → AreSmall sets
 small_sets [] e = tt
@@ -91,13 +78,3 @@ few_nodes tables c at i n s e = step (get tables (table_of c)) refl (met (contai
     step (Some columns) q there =
         few_in_table columns c at (i (table_of c) columns q) (n (table_of c) columns q) s
         (subst (λ (o : Option (List Column)). first_refusal (tests_behind (unwrap_or o []) c at) ≡ None) q parts.1)
-
--- a change with few nodes in all has small trees
-tree_below : (sets : List (List ℕ × Tree)) (n : ℕ) → sets_nodes sets ≤ n → n ≤ 256 → AreSmall sets
-tree_below [] n h l = tt
-tree_below (s ∷ sets) n h l = (omega arith, tree_below sets n (omega arith) l)
-
-pub small_in_all : (c : PlainChange) → change_nodes c ≤ 256 → IsSmall c
-small_in_all (insertion t cells) h = tt
-small_in_all (deletion t c) h = h
-small_in_all (update t sets c) h = (tree_below sets 256 (omega arith) (omega arith), omega arith)

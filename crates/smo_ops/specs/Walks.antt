@@ -1,9 +1,9 @@
 -- What a walk over the trees of a change has found: the number of the node behind them, or the first refusal.
 use Rattle.std.specs.Prelude.{◌≡◌, ℕ, List, Some, None, Result, Ok, Err, ⊤}
-use Rattle.smo_ops.specs.declared.changes.ChangeFault.{ChangeFault}
-use Rattle.smo_ops.specs.declared.changes.ChangeFault.TheVariants.{Refused, NoMemory}
-use Rattle.smo_ops.specs.First.{first_refusal}
-use Rattle.smo_ops.specs.Checks.{Fault}
+use Rattle.smo_types.specs.declared.changes.ChangeFault.{ChangeFault}
+use Rattle.smo_types.specs.declared.changes.ChangeFault.TheVariants.{Refused, NoMemory}
+use Rattle.smo_meaning.specs.First.{first_refusal}
+use Rattle.smo_meaning.specs.Checks.{Fault}
 
 abbrev pub IsWalked : List Fault → ℕ → Result ℕ ChangeFault → Type 0
 IsWalked tests behind (Ok next) = (first_refusal tests ≡ None) × (next ≡ behind)

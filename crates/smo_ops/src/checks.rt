@@ -1,25 +1,25 @@
 ghost use Rattle.std.specs.Prelude.{◌≡◌, ◌++◌, ◌+◌, ◌<◌, ◌≤◌, ◌^◌, ◌∷◌, [], ◌⊎◌, length, Some, None, IsOkUnless, IsErrOf};
 ghost use Rattle.prima_base.specs.Columns.{AreColumns, names_of};
 ghost use Rattle.cond_expr.specs.Kinds.{value_kind};
-ghost use Rattle.smo_ops.specs.First.{first_refusal};
+ghost use Rattle.smo_meaning.specs.First.{first_refusal};
 ghost use Rattle.cond_expr.specs.Seen.{test};
 ghost use Rattle.cond_expr.specs.Sizes.{test_nodes};
 ghost use Rattle.cond_expr.specs.Faults.{test_references};
 ghost use Rattle.prima_base.specs.declared.refusals.Refusal.{Refusal as OneRefusal};
 ghost use Rattle.schema_catalog.specs.Tables.{IsSchema};
-ghost use Rattle.smo_ops.specs.Commands.{changing};
-ghost use Rattle.smo_ops.specs.Counts.{first_excess};
-ghost use Rattle.smo_ops.specs.Changes.{insertion, update, change_of, changes_of, sets_of};
-ghost use Rattle.smo_ops.specs.Preconditions.{AreNarrow};
-ghost use Rattle.smo_ops.specs.Checks.{IsChecked, IsSmall, AreSmall, pair_names, name_faults, missing_fault, cell_faults, reference_fault, test_fault, tests_behind, change_fault, changes_fault};
+ghost use Rattle.smo_types.specs.Commands.{changing};
+ghost use Rattle.smo_meaning.specs.Counts.{first_excess};
+ghost use Rattle.smo_types.specs.Changes.{insertion, update, change_of, changes_of, sets_of};
+ghost use Rattle.smo_meaning.specs.Preconditions.{AreNarrow};
+ghost use Rattle.smo_meaning.specs.Checks.{IsChecked, IsSmall, AreSmall, pair_names, name_faults, missing_fault, cell_faults, reference_fault, test_fault, tests_behind, change_fault, changes_fault};
 
-use crate::columns::{OwnColumns, has_name, type_in};
 use crate::counts::change_nodes;
 use crate::typing::{check_all_references, check_sets, check_test_references, check_test_types};
-use crate::{Change, ChangeFault};
 use cond_expr::{Cond, Expr};
 use prima_base::{ColType, Name, Refusal, Value};
 use schema_catalog::Schema;
+use smo_schemas::{OwnColumns, has_name, type_in};
+use smo_types::{Change, ChangeFault};
 use std::alloc::Global;
 
 // Of each name, in order: whether it stood before, and whether it is unknown. What stood before is known, so at most

@@ -1,18 +1,20 @@
-ghost use Rattle.std.specs.Prelude.{◌≡◌, ◌+◌, ◌∷◌, [], min, take};
+ghost use Rattle.std.specs.Prelude.{◌≡◌, ◌+◌, ◌∷◌, [], min, take, OnOk};
 ghost use Rattle.std.specs.Result.{result_err};
 ghost use Rattle.std.specs.List.{flat_map};
 ghost use Rattle.prima_base.specs.declared.refusals.What.TheVariants.{Nodes, Depth, Parts, Changes, Inverse};
 ghost use Rattle.cond_expr.specs.Seen.{tree, test};
-ghost use Rattle.smo_ops.specs.Operators.{operator_of, operators_of};
-ghost use Rattle.smo_ops.specs.Changes.{change_of, changes_of, sets_of};
-ghost use Rattle.smo_ops.specs.Commands.{changing, evolving, body_of};
-ghost use Rattle.smo_ops.specs.First.{first_refusal};
-ghost use Rattle.smo_ops.specs.Checks.{sets_nodes, change_nodes};
-ghost use Rattle.smo_ops.specs.Counts.{at_most, tree_counts, test_counts, set_counts, change_counts, operator_counts, first_excess};
+ghost use Rattle.cond_expr.specs.Constants.{HasLawful};
+ghost use Rattle.smo_meaning.specs.LawfulValues.{CellsHold, SetsHold, ChangeHolds, ChangesHold, OperatorHolds, OperatorsHold, BodyHolds};
+ghost use Rattle.smo_types.specs.Operators.{operator_of, operators_of};
+ghost use Rattle.smo_types.specs.Changes.{change_of, changes_of, sets_of};
+ghost use Rattle.smo_types.specs.Commands.{changing, evolving, body_of};
+ghost use Rattle.smo_meaning.specs.First.{first_refusal};
+ghost use Rattle.smo_meaning.specs.Checks.{sets_nodes, change_nodes};
+ghost use Rattle.smo_meaning.specs.Counts.{at_most, tree_counts, test_counts, set_counts, change_counts, operator_counts, first_excess};
 
-use crate::{Body, Change, Command, Op};
 use cond_expr::{Cond, Expr, TreeSize, cond_size, expr_size};
-use prima_base::{Name, What};
+use prima_base::{Name, Value, What};
+use smo_types::{Body, Change, Command, Op};
 
 const MAX_NODES: u64 = 256;
 
@@ -39,8 +41,10 @@ fn check_size(size: TreeSize) -> Result<(), (What, u64)>
     Ok(())
 }
 
+// Its walk meets each constant, and each is a lawful value.
 fn check_expr(expr: &Expr) -> Result<(), (What, u64)>
-    ensures { result_err result ≡ first_refusal (tree_counts (tree expr.now)) }
+    ensures counts { result_err result ≡ first_refusal (tree_counts (tree expr.now)) }
+    ensures constants { HasLawful (tree expr.now) }
 {
     check_size(expr_size(expr))
 }
@@ -52,7 +56,8 @@ fn check_test(cond: &Cond) -> Result<(), (What, u64)>
 }
 
 fn check_sets(sets: &[(Name, Expr)]) -> Result<(), (What, u64)>
-    ensures { result_err result ≡ first_refusal (set_counts (sets_of sets.now)) }
+    ensures counts { result_err result ≡ first_refusal (set_counts (sets_of sets.now)) }
+    ensures constants { OnOk result (SetsHold (sets_of sets.now)) }
 {
     for (_, expr) in sets {
         check_expr(expr)?;
@@ -60,11 +65,24 @@ fn check_sets(sets: &[(Name, Expr)]) -> Result<(), (What, u64)>
     Ok(())
 }
 
+// The values that are given are lawful.
+fn meet_cells(cells: &[(Name, Value)])
+    ensures { CellsHold cells.now }
+{
+    for (_, value) in cells {
+        let _lawful = value.lend();
+    }
+}
+
 fn check_change_counts(change: &Change) -> Result<(), (What, u64)>
-    ensures { result_err result ≡ first_refusal (change_counts (change_of change.now)) }
+    ensures counts { result_err result ≡ first_refusal (change_counts (change_of change.now)) }
+    ensures constants { OnOk result (ChangeHolds (change_of change.now)) }
 {
     match change {
-        Change::Insert { .. } => Ok(()),
+        Change::Insert { cells, .. } => {
+            meet_cells(cells);
+            Ok(())
+        }
         Change::Delete { cond, .. } => check_test(cond),
         Change::Update { sets, cond, .. } => {
             check_sets(sets)?;
@@ -74,7 +92,8 @@ fn check_change_counts(change: &Change) -> Result<(), (What, u64)>
 }
 
 fn check_each_change(changes: &[Change]) -> Result<(), (What, u64)>
-    ensures { result_err result ≡ first_refusal (flat_map change_counts (changes_of changes.now)) }
+    ensures counts { result_err result ≡ first_refusal (flat_map change_counts (changes_of changes.now)) }
+    ensures constants { OnOk result (ChangesHold (changes_of changes.now)) }
 {
     for change in changes {
         check_change_counts(change)?;
@@ -83,7 +102,8 @@ fn check_each_change(changes: &[Change]) -> Result<(), (What, u64)>
 }
 
 fn check_op_counts(op: &Op) -> Result<(), (What, u64)>
-    ensures { result_err result ≡ first_refusal (operator_counts (operator_of op.now)) }
+    ensures counts { result_err result ≡ first_refusal (operator_counts (operator_of op.now)) }
+    ensures constants { OperatorHolds (operator_of op.now) }
 {
     match op {
         Op::PartitionTable { cond, .. } => check_test(cond),
@@ -94,7 +114,8 @@ fn check_op_counts(op: &Op) -> Result<(), (What, u64)>
 }
 
 fn check_each_op(ops: &[Op]) -> Result<(), (What, u64)>
-    ensures { result_err result ≡ first_refusal (flat_map operator_counts (operators_of ops.now)) }
+    ensures counts { result_err result ≡ first_refusal (flat_map operator_counts (operators_of ops.now)) }
+    ensures constants { OnOk result (OperatorsHold (operators_of ops.now)) }
 {
     for op in ops {
         check_op_counts(op)?;
@@ -104,7 +125,8 @@ fn check_each_op(ops: &[Op]) -> Result<(), (What, u64)>
 
 // A member too many stands where it begins, behind those before it.
 fn check_changes(changes: &[Change]) -> Result<(), (What, u64)>
-    ensures { result_err result ≡ first_excess (changing (changes_of changes.now)) }
+    ensures counts { result_err result ≡ first_excess (changing (changes_of changes.now)) }
+    ensures constants { OnOk result (ChangesHold (changes_of changes.now)) }
 {
     check_each_change(&changes[..changes.len().min(MAX_CHANGES)])?;
     if changes.len() > MAX_CHANGES {
@@ -114,7 +136,8 @@ fn check_changes(changes: &[Change]) -> Result<(), (What, u64)>
 }
 
 fn check_evolve(op: &Op, inverse: &[Op]) -> Result<(), (What, u64)>
-    ensures { result_err result ≡ first_excess (evolving (operator_of op.now) (operators_of inverse.now)) }
+    ensures counts { result_err result ≡ first_excess (evolving (operator_of op.now) (operators_of inverse.now)) }
+    ensures constants { OnOk result (OperatorHolds (operator_of op.now) × OperatorsHold (operators_of inverse.now)) }
 {
     check_op_counts(op)?;
     check_each_op(&inverse[..inverse.len().min(MAX_INVERSE)])?;
@@ -126,9 +149,11 @@ fn check_evolve(op: &Op, inverse: &[Op]) -> Result<(), (What, u64)>
 
 /// The first count of a command, in written order, that is above its limit, and the limit: in a tree the nodes
 /// (256), then the depth (32), then the parts of a CONCAT (8); the changes (65,536) where one too many begins,
-/// and the operators of the inverse (8) likewise. It takes no memory.
+/// and the operators of the inverse (8) likewise. Where none is, each constant that can come into a row has been met, and is
+/// a lawful value. It takes no memory.
 pub fn check_counts(command: &Command) -> Result<(), (What, u64)>
-    ensures { result_err result ≡ first_excess (body_of command.now.1) }
+    ensures counts { result_err result ≡ first_excess (body_of command.now.1) }
+    ensures constants { OnOk result (BodyHolds (body_of command.now.1)) }
 {
     match command.body() {
         Body::Changes(changes) => check_changes(changes),

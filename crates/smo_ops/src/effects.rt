@@ -7,22 +7,23 @@
 ghost use Rattle.std.specs.Prelude.{◌≡◌, ◌++◌, ◌∷◌, [], List, IfOk, Option, Some, map, not};
 ghost use Rattle.std.specs.List.{AllZip, zip, filter};
 ghost use Rattle.std.specs.Option.{option_map, unwrap_or};
-ghost use Rattle.relations.specs.Sets.{set_of, Ascends, In};
+ghost use Rattle.relations.specs.Sets.{set_of, In};
 ghost use Rattle.prima_base.specs.Bytes.{IsTxt};
 ghost use Rattle.prima_base.specs.declared.values.Value.{Value as OneValue};
 ghost use Rattle.prima_base.specs.Order.{row_cmp, shown};
 ghost use Rattle.prima_base.specs.Columns.{Column as TableColumn, AreColumns, IsRow, IsRelation};
 ghost use Rattle.cond_expr.specs.Rows.{IsLawful, AreLawful};
 ghost use Rattle.cond_expr.specs.Seen.{test};
-ghost use Rattle.smo_ops.specs.OneRow.{Relation, as_atom, meets, given, row_of, set_value, updated};
-ghost use Rattle.smo_ops.specs.Changes.{PlainChange, sets_of, change_of, changes_of};
-ghost use Rattle.smo_ops.specs.Effects.{relation_after};
-ghost use Rattle.smo_ops.specs.Inserting.{relation_after_each, insertions};
+ghost use Rattle.smo_meaning.specs.OneRow.{as_atom, meets, given, row_of, set_value, updated};
+ghost use Rattle.smo_types.specs.Changes.{sets_of, change_of, changes_of};
+ghost use Rattle.smo_meaning.specs.Effects.{relation_after};
+ghost use Rattle.smo_meaning.specs.Inserting.{insertions};
 ghost use Rattle.schema_catalog.specs.Databases.{cell};
 
-use crate::Change;
 use cond_expr::{Column, Cond, Expr, eval, holds, lend_row};
 use prima_base::{ColType, Name, NoMemory, Row, Txt, TxtFault, Val, Value};
+use smo_schemas::as_atoms;
+use smo_types::Change;
 use std::alloc::Global;
 
 /// The relation that the rows stand for: each row once, ascending. It takes no memory.
@@ -31,21 +32,6 @@ pub fn make_set(rows: &mut Vec<Row>)
 {
     rows.sort_unstable();
     rows.dedup();
-}
-
-// The columns of a table as those of atom 0.
-fn atom_columns(alloc: Global, columns: &[(Name, ColType)]) -> Result<Vec<Column>, NoMemory>
-    ensures { IfOk result (λ v. v.items ≡ as_atom columns.now) }
-{
-    let mut atoms = Vec::with_capacity(alloc, columns.len())?;
-    for (name, kind) in columns {
-        atoms.push(Column {
-            atom: 0,
-            name: name.copy()?,
-            kind: *kind,
-        })?;
-    }
-    Ok(atoms)
 }
 
 // Whether the row meets the condition.
@@ -208,7 +194,7 @@ fn kept_rows(
     ensures { IfOk result (λ v. v.items
         ≡ filter (λ row. not (meets columns.now (test cond.now) row)) rows.items) }
 {
-    let atoms = atom_columns(alloc, columns)?;
+    let atoms = as_atoms(alloc, columns)?;
     let mut kept = Vec::with_capacity(alloc, rows.len())?;
     for row in rows {
         if !row_meets(alloc, cond, &atoms, &row)? {
@@ -231,7 +217,7 @@ fn updated_rows(
     ensures { IfOk result (λ v. v.items
         ≡ map (updated columns.now (sets_of sets.now) (test cond.now)) rows.items) }
 {
-    let atoms = atom_columns(alloc, columns)?;
+    let atoms = as_atoms(alloc, columns)?;
     let mut changed = Vec::with_capacity(alloc, rows.len())?;
     for row in rows {
         changed.push(updated_row(alloc, columns, &atoms, sets, cond, row)?)?;
@@ -281,13 +267,3 @@ pub fn inserted_rows(
     }
     Ok(Some(rows))
 }
-
-/// Changes that are all INSERTs, one after the other, make of a relation its union with the rows that they give.
-pub fn insertions_are_a_union()
-    ensures relation { (columns : List TableColumn) → (changes : List PlainChange) → (given : Relation) → (rows : Relation)
-        → Ascends row_cmp rows → insertions columns changes ≡ Some given
-        → relation_after_each columns changes rows ≡ set_of row_cmp (rows ++ given) }
-    ensures listed { (columns : List TableColumn) → (changes : List PlainChange) → (given : Relation) → (rows : Relation)
-        → insertions columns changes ≡ Some given
-        → relation_after_each columns changes (set_of row_cmp rows) ≡ set_of row_cmp (rows ++ given) }
-{}

@@ -2,15 +2,15 @@ ghost use Rattle.std.specs.Prelude.{◌≡◌, ◌++◌, ◌+◌, ◌<◌, ◌�
 ghost use Rattle.cond_expr.specs.Seen.{tree, test};
 ghost use Rattle.cond_expr.specs.Sizes.{nodes_of, test_nodes};
 ghost use Rattle.cond_expr.specs.Faults.{references, test_references, first_unknown};
-ghost use Rattle.smo_ops.specs.Changes.{sets_of};
-ghost use Rattle.smo_ops.specs.OneRow.{own_kinds};
-ghost use Rattle.smo_ops.specs.Checks.{AreSmall, IsChecked, reference_fault, set_references, set_tests, set_faults, sets_nodes, test_fault};
+ghost use Rattle.smo_types.specs.Changes.{sets_of};
+ghost use Rattle.smo_meaning.specs.OneRow.{own_kinds};
+ghost use Rattle.smo_meaning.specs.Checks.{AreSmall, IsChecked, reference_fault, set_references, set_tests, set_faults, sets_nodes, test_fault};
 ghost use Rattle.smo_ops.specs.Walks.{IsWalked};
 
-use crate::ChangeFault;
-use crate::columns::{OwnColumns, type_in};
 use cond_expr::{Cond, Expr, TypeFault, check_cond, expr_size, type_of};
 use prima_base::{Name, Refusal};
+use smo_schemas::{OwnColumns, type_in};
+use smo_types::ChangeFault;
 
 // The first reference of an expression to no column of the table.
 fn check_references(own: &OwnColumns<'_>, expr: &Expr) -> Result<(), ChangeFault>

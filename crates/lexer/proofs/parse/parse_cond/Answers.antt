@@ -1,18 +1,18 @@
 use Rattle.std.proofs.Common.{sym, ap, ◌∙◌, subst, map, length, List}
 use Rattle.cond_expr.specs.declared.exprs.Cond.{Cond}
 use Rattle.cond_expr.specs.Seen.{test}
-use Rattle.lexer.specs.declared.token.Token.{Token}
-use Rattle.lexer.specs.Lexemes.{lexeme}
-use Rattle.lexer.specs.Reads.{ahead, Fails}
-use Rattle.lexer.specs.Grammar.{IsCond}
-use Rattle.lexer.specs.Reader.{outermost, goes_cond}
-use Rattle.lexer.proofs.Goodness.{outermost_good}
-use Rattle.lexer.proofs.Places.{length_map, got_fits, got_read, got_found, got_only, got_exact, got_over, err_fits, err_found, err_only, err_fault, err_over, err_exact}
-use Rattle.lexer.specs.Found.{lexemes_from}
-use Rattle.lexer.proofs.Longest.{cond_longest}
-use Rattle.lexer.proofs.MarksJoined.{cond_marked}
-use Rattle.lexer.proofs.MarkSizes.{cond_length}
-use Rattle.lexer.specs.Marks.{cond_marks}
+use Rattle.lexical_grammar.specs.declared.token.Token.{Token}
+use Rattle.lexical_grammar.specs.Lexemes.{lexeme}
+use Rattle.parser_combinators.specs.Reads.{ahead, Fails}
+use Rattle.expr_grammar.specs.Grammar.{IsCond}
+use Rattle.expr_grammar.specs.Reader.{outermost, goes_cond}
+use Rattle.expr_grammar.proofs.Goodness.{outermost_good}
+use Rattle.parser_combinators.proofs.Places.{length_map, got_fits, got_read, got_found, got_only, got_exact, got_over, err_fits, err_found, err_only, err_fault, err_over, err_exact}
+use Rattle.parser_combinators.specs.Found.{lexemes_from}
+use Rattle.expr_grammar.proofs.Longest.{cond_longest}
+use Rattle.expr_grammar.proofs.MarksJoined.{cond_marked}
+use Rattle.expr_grammar.proofs.MarkSizes.{cond_length}
+use Rattle.expr_grammar.specs.TreeMarks.{cond_marks}
 use Rattle.lexer.proofs.parse.parse_cond.Goals as goal
 
 pub overflow_sub-result : goal.overflow_sub-result

@@ -1,8 +1,8 @@
 use Rattle.std.proofs.Common.{refl, ◌≡◌, ◌∙◌, arith}
 use Rattle.std.proofs.lemmas.Result.{err_from_is_err_and}
 use Rattle.std.proofs.lemmas.List.{length-map}
-use Rattle.smo_ops.specs.Changes.{change_of, changes_of}
-use Rattle.smo_ops.specs.Checks.{change_fault, changes_fault, change_nodes}
+use Rattle.smo_types.specs.Changes.{change_of, changes_of}
+use Rattle.smo_meaning.specs.Checks.{change_fault, changes_fault, change_nodes}
 use Rattle.smo_ops.proofs.SmallLaws.{counted_few, counted_small, few_nodes}
 use Rattle.smo_ops.proofs.ManyChanges.{change_refused, change_accepted, change_is_small}
 use Rattle.smo_ops.proofs.PassedOn.{passed_on}

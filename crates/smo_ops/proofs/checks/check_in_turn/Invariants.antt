@@ -1,7 +1,7 @@
 use Rattle.std.proofs.Common.{◌≡◌, ◌*◌, ◌≤◌, drop}
-use Rattle.smo_ops.specs.Changes.{changes_of}
-use Rattle.smo_ops.specs.First.{first_refusal}
-use Rattle.smo_ops.specs.Checks.{AllSmall, changes_tests, changes_fault}
+use Rattle.smo_types.specs.Changes.{changes_of}
+use Rattle.smo_meaning.specs.First.{first_refusal}
+use Rattle.smo_meaning.specs.Checks.{AllSmall, changes_tests, changes_fault}
 use Rattle.smo_ops.proofs.checks.check_in_turn.Given as goal
 
 abbrev pub invariant-loop-change : goal.invariant-loop-change

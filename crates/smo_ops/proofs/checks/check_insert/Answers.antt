@@ -1,8 +1,8 @@
 use Rattle.std.proofs.Common.{arith}
 use Rattle.std.proofs.lemmas.Result.{err_from_is_err_and}
-use Rattle.smo_ops.specs.First.{first_refusal}
-use Rattle.smo_ops.specs.Changes.{insertion}
-use Rattle.smo_ops.specs.Checks.{pair_names, name_faults, missing_fault, tests_behind}
+use Rattle.smo_meaning.specs.First.{first_refusal}
+use Rattle.smo_types.specs.Changes.{insertion}
+use Rattle.smo_meaning.specs.Checks.{pair_names, name_faults, missing_fault, tests_behind}
 use Rattle.smo_ops.proofs.ChangeTests.{few_pairs, insert_names, insert_missing, insert_cells}
 use Rattle.smo_ops.proofs.PassedOn.{passed_on}
 use Rattle.smo_ops.proofs.checks.check_insert.Goals as goal

@@ -4,9 +4,9 @@ use Rattle.std.proofs.lemmas.Result.{err_from_is_err_and}
 use Rattle.prima_base.specs.Columns.{Column}
 use Rattle.cond_expr.specs.Seen.{test}
 use Rattle.cond_expr.specs.Faults.{test_references}
-use Rattle.smo_ops.specs.First.{first_refusal}
-use Rattle.smo_ops.specs.Changes.{update, sets_of}
-use Rattle.smo_ops.specs.Checks.{pair_names, name_faults, reference_fault, set_references, set_faults, sets_nodes, tests_behind}
+use Rattle.smo_meaning.specs.First.{first_refusal}
+use Rattle.smo_types.specs.Changes.{update, sets_of}
+use Rattle.smo_meaning.specs.Checks.{pair_names, name_faults, reference_fault, set_references, set_faults, sets_nodes, tests_behind}
 use Rattle.smo_ops.proofs.ChangeTests.{update_names, update_references, update_room, sets_known, test_known, update_sets, update_test}
 use Rattle.smo_ops.proofs.PassedOn.{passed_on, walk_passed}
 use Rattle.smo_ops.proofs.checks.check_update.Goals as goal

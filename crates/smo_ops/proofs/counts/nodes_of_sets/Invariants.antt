@@ -1,6 +1,6 @@
 use Rattle.std.proofs.Common.{◌≡◌, ◌+◌, ◌≤◌, drop, min}
-use Rattle.smo_ops.specs.Changes.{sets_of}
-use Rattle.smo_ops.specs.Checks.{sets_nodes}
+use Rattle.smo_types.specs.Changes.{sets_of}
+use Rattle.smo_meaning.specs.Checks.{sets_nodes}
 use Rattle.smo_ops.proofs.counts.nodes_of_sets.Given as goal
 
 abbrev pub invariant-loop-expr : goal.invariant-loop-expr

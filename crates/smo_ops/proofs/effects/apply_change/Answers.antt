@@ -6,9 +6,10 @@ use Rattle.relations.proofs.SetLaws.{in_set}
 use Rattle.prima_base.specs.Order.{row_cmp}
 use Rattle.prima_base.specs.OrderLaws.{row_exact}
 use Rattle.cond_expr.specs.Seen.{test}
-use Rattle.smo_ops.specs.OneRow.{row_of, meets, updated}
-use Rattle.smo_ops.specs.Changes.{sets_of}
-use Rattle.smo_ops.proofs.EffectLaws.{set_pushed, set_filtered, set_mapped}
+use Rattle.smo_meaning.specs.OneRow.{row_of, meets, updated}
+use Rattle.smo_types.specs.Changes.{sets_of}
+use Rattle.smo_meaning.proofs.Insertions.{set_pushed}
+use Rattle.smo_ops.proofs.EffectLaws.{set_filtered, set_mapped}
 use Rattle.smo_ops.proofs.effects.apply_change.Goals as goal
 
 pub updated_rows-requires-clause-rows : goal.updated_rows-requires-clause-rows

@@ -1,5 +1,5 @@
 use Rattle.std.proofs.Common.{◌≡◌, take}
-use Rattle.smo_ops.specs.OneRow.{row_of}
+use Rattle.smo_meaning.specs.OneRow.{row_of}
 use Rattle.smo_ops.proofs.effects.inserted_row.Given as goal
 
 abbrev pub invariant-loop-column : goal.invariant-loop-column

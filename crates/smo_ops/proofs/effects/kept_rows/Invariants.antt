@@ -3,7 +3,7 @@ use Rattle.std.specs.Prelude.{not}
 use Rattle.std.specs.List.{filter}
 use Rattle.std.specs.Vec.Iter.{into_iter_items}
 use Rattle.cond_expr.specs.Seen.{test}
-use Rattle.smo_ops.specs.OneRow.{meets}
+use Rattle.smo_meaning.specs.OneRow.{meets}
 use Rattle.smo_ops.proofs.effects.kept_rows.Given as goal
 
 abbrev pub invariant-loop-row : goal.invariant-loop-row

@@ -3,8 +3,8 @@ use Rattle.std.specs.Option.{unwrap_or}
 use Rattle.prima_base.specs.declared.values.Value.{Value}
 use Rattle.prima_base.specs.Order.{shown}
 use Rattle.schema_catalog.specs.Databases.{cell}
-use Rattle.smo_ops.specs.OneRow.{set_value}
-use Rattle.smo_ops.specs.Changes.{sets_of}
+use Rattle.smo_meaning.specs.OneRow.{set_value}
+use Rattle.smo_types.specs.Changes.{sets_of}
 use Rattle.smo_ops.proofs.EffectLaws.{zipped_more}
 use Rattle.smo_ops.proofs.effects.set_values.Goals as goal
 

@@ -4,8 +4,8 @@ use Rattle.std.specs.Option.{unwrap_or}
 use Rattle.prima_base.specs.declared.values.Value.{Value}
 use Rattle.prima_base.specs.Columns.{Column}
 use Rattle.schema_catalog.specs.Databases.{cell}
-use Rattle.smo_ops.specs.OneRow.{set_value}
-use Rattle.smo_ops.specs.Changes.{sets_of}
+use Rattle.smo_meaning.specs.OneRow.{set_value}
+use Rattle.smo_types.specs.Changes.{sets_of}
 use Rattle.smo_ops.proofs.effects.set_values.Given as goal
 
 abbrev pub invariant-loop-name : goal.invariant-loop-name

@@ -3,8 +3,8 @@ use Rattle.std.specs.List.{zip}
 use Rattle.std.specs.Option.{unwrap_or}
 use Rattle.prima_base.specs.declared.values.Value.{Value}
 use Rattle.cond_expr.specs.Seen.{test}
-use Rattle.smo_ops.specs.OneRow.{meets, with_sets}
-use Rattle.smo_ops.specs.Changes.{sets_of}
+use Rattle.smo_meaning.specs.OneRow.{meets, with_sets}
+use Rattle.smo_types.specs.Changes.{sets_of}
 use Rattle.smo_ops.proofs.EffectLaws.{sets_replaced}
 use Rattle.smo_ops.proofs.effects.updated_row.Goals as goal
 

@@ -1,8 +1,8 @@
 use Rattle.std.proofs.Common.{◌≡◌, ◌++◌, map}
 use Rattle.std.specs.Vec.Iter.{into_iter_items}
 use Rattle.cond_expr.specs.Seen.{test}
-use Rattle.smo_ops.specs.OneRow.{updated}
-use Rattle.smo_ops.specs.Changes.{sets_of}
+use Rattle.smo_meaning.specs.OneRow.{updated}
+use Rattle.smo_types.specs.Changes.{sets_of}
 use Rattle.smo_ops.proofs.effects.updated_rows.Given as goal
 
 abbrev pub invariant-loop-row : goal.invariant-loop-row

@@ -5,7 +5,7 @@ use Rattle.cond_expr.specs.Seen.{tree}
 use Rattle.cond_expr.specs.Sizes.{nodes_of}
 use Rattle.cond_expr.specs.Kinds.{kinds_of}
 use Rattle.cond_expr.specs.Faults.{Judged}
-use Rattle.smo_ops.proofs.Places.{place_in_tree}
+use Rattle.smo_meaning.proofs.Places.{place_in_tree}
 use Rattle.smo_ops.proofs.typing.check_set.Goals as goal
 
 pub overflow_add-result-in-WrongType : goal.overflow_add-result-in-WrongType

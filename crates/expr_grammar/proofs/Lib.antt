@@ -1,0 +1,11 @@
+pub mod Grammar
+pub mod Singles
+pub mod Goodness
+pub mod TreeSteps
+pub mod MarkSizes
+pub mod Endings
+pub mod MarksRead
+pub mod MarksJoined
+pub mod Longest
+pub mod Unambiguous
+pub mod Fronts

@@ -1,0 +1,4 @@
+pub mod Constants
+pub mod Grammar
+pub mod Reader
+pub mod TreeMarks

@@ -1,5 +1,0 @@
-use Rattle.lexer.proofs.Once.{lexes_once}
-use Rattle.lexer.proofs.laws.lexes_once.Goals as goal
-
-pub returns : goal.returns
-returns c = lexes_once

@@ -1,0 +1,9 @@
+pub mod Cases
+pub mod Cuts
+pub mod Whole
+pub mod Gaps
+pub mod Shapes
+pub mod Once
+pub mod Slices
+pub mod Lawful
+pub mod LexemeTests

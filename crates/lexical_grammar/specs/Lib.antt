@@ -1,0 +1,4 @@
+pub mod Bytes
+pub mod Lexed
+pub mod Spaced
+pub mod Lexemes

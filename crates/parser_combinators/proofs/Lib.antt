@@ -1,0 +1,10 @@
+pub mod Parsing
+pub mod Fresh
+pub mod Alternatives
+pub mod Marked
+pub mod Passed
+pub mod Passing
+pub mod ReadSteps
+pub mod ManySteps
+pub mod Places
+pub mod AlongParts

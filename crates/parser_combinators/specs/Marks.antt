@@ -1,0 +1,54 @@
+-- What is counted at each token of an expression or a condition, and at which token a count first passes its limit.
+use Rattle.std.specs.Prelude.{◌≡◌, ℕ, suc, ◌+◌, ◌<◌, if◌then◌else◌, nat_lt, List, [], ◌∷◌, max, length, map, take, get_or, Option, Some, None}
+use Rattle.prima_base.specs.declared.refusals.What.{What}
+use Rattle.prima_base.specs.declared.refusals.What.TheVariants as what
+use Rattle.lexical_grammar.specs.Lexemes.{Lexeme}
+use Rattle.parser_combinators.specs.Parsing.{Size}
+
+-- the nodes counted at a token (none or one), the brackets, CASEs and NOTs that are open at it, and which part of a CONCAT it begins
+pub record Mark : Type 0 where
+  pub nodes : ℕ
+  pub depth : ℕ
+  pub part : ℕ
+
+abbrev pub plain : Mark
+plain = record { nodes = 0; depth = 0; part = 0 }
+
+abbrev pub node : Mark
+node = record { nodes = 1; depth = 0; part = 0 }
+
+abbrev pub begins : ℕ → Mark
+begins j = record { nodes = 0; depth = 0; part = j }
+
+abbrev pub deeper : Mark → Mark
+deeper m = record { nodes = m.nodes; depth = m.depth + 1; part = m.part }
+
+-- the tokens of a construct that is open from its first to its last
+abbrev pub opened : List Mark → List Mark
+opened ms = map deeper ms
+
+-- the nodes of a front
+abbrev pub nodes_in : List Mark → ℕ
+nodes_in [] = 0
+nodes_in (m ∷ ms) = m.nodes + nodes_in ms
+
+-- the most constructs that are open at one token
+abbrev pub deepest : List Mark → ℕ
+deepest [] = 0
+deepest (m ∷ ms) = max m.depth (deepest ms)
+
+-- one mark for each lexeme, and together the size
+abbrev pub AddUp : List Mark → Size → List Lexeme → Type 0
+AddUp ms s f = (length ms ≡ length f) × (nodes_in ms ≡ s.nodes) × (deepest ms ≡ s.depth)
+
+-- with so many nodes up to this token, and constructs that may be opened: the first of its counts that passes its limit
+abbrev pub passed_by : ℕ → ℕ → Mark → Option What
+passed_by d n m = if nat_lt 256 n then Some what.Nodes else (if nat_lt d m.depth then Some what.Depth else (if nat_lt 8 m.part then Some what.Parts else None))
+
+-- the count that passes its limit at the k-th token, from 0
+abbrev pub passed_at : List Mark → ℕ → Option What
+passed_at ms k = passed_by 32 (nodes_in (take (suc k) ms)) (get_or ms k plain)
+
+-- the k-th token is the first at which a count passes its limit, and it is this count
+abbrev pub FirstPassed : What → List Mark → ℕ → Type 0
+FirstPassed w ms k = (passed_at ms k ≡ Some w) × ((j : ℕ) → j < k → passed_at ms j ≡ None)

@@ -1,0 +1,30 @@
+-- What a function that reads ensures.
+use Rattle.std.specs.Prelude.{◌≡◌, Bool, false, List, [], ◌∷◌, ◌++◌, map, Result, Ok, Err}
+use Rattle.parser_combinators.specs.declared.reading.Stop.{Stop}
+use Rattle.parser_combinators.specs.declared.reading.Stop.TheVariants as stop
+use Rattle.parser_combinators.specs.declared.reading.Cursor.{Cursor}
+use Rattle.lexical_grammar.specs.Lexemes.{Lexeme, lexeme}
+use Rattle.parser_combinators.specs.Parsing.{Out, Got, Stuck, Over}
+
+-- what stands in front of the cursor
+abbrev pub ahead : Cursor → List Lexeme
+ahead c = map lexeme c.rest.now
+
+abbrev pub sees : (Lexeme → Bool) → List Lexeme → Bool
+sees is [] = false
+sees is (x ∷ more) = is x
+
+abbrev pub Fails : {A : Type 0} → Out A → Stop → Cursor → Type 0
+Fails out stop.NoMemory new = Unit {0}
+Fails out stop.Stuck new = out ≡ Stuck (ahead new)
+Fails out (stop.TooMany w) new = out ≡ Over w (ahead new)
+
+-- it was read, or failed, as reading says; want of memory is free
+abbrev pub Reads : {A X : Type 0} → (X → A) → Out A → Result X Stop → Cursor → Type 0
+Reads view out (Ok x) new = out ≡ Got (view x) new.nodes (ahead new)
+Reads view out (Err e) new = Fails out e new
+
+-- more items were read behind those that were there
+abbrev pub ReadsMore : {A : Type 0} → Out (List A) → List A → List A → Result (Unit {0}) Stop → Cursor → Type 0
+ReadsMore {A} out old all (Ok x) new = (l : List A) × (out ≡ Got l new.nodes (ahead new)) × (all ≡ old ++ l)
+ReadsMore out old all (Err e) new = Fails out e new

@@ -1,0 +1,16 @@
+use Rattle.smo_meaning.specs.Past.{beginning}
+use Rattle.smo_meaning.proofs.PastSteps.{beginning_is_past}
+use Rattle.smo_meaning.proofs.ValueLaws.{carried_values, changes_values, values_stay, beginning_holds, history_holds}
+use Rattle.smo_meaning.proofs.laws.lawful_values_stay.Goals as goal
+
+pub returns-clause-carried : goal.returns-clause-carried
+returns-clause-carried c = carried_values
+
+pub returns-clause-changed : goal.returns-clause-changed
+returns-clause-changed c = changes_values
+
+pub returns-clause-step : goal.returns-clause-step
+returns-clause-step c = λ past command is accepted holds each. values_stay past command is accepted each holds
+
+pub returns-clause-history : goal.returns-clause-history
+returns-clause-history c = λ commands is hold. history_holds beginning commands beginning_is_past is hold beginning_holds

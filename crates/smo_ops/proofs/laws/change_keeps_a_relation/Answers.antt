@@ -1,5 +1,0 @@
-use Rattle.smo_ops.proofs.RelationLaws.{keeps_relation}
-use Rattle.smo_ops.proofs.laws.change_keeps_a_relation.Goals as goal
-
-pub returns : goal.returns
-returns c = keeps_relation

@@ -1,5 +1,0 @@
-use Rattle.smo_ops.proofs.SameDatabases.{same_database}
-use Rattle.smo_ops.proofs.laws.no_gain_and_no_loss_is_no_change.Goals as goal
-
-pub returns : goal.returns
-returns c = same_database

@@ -1,5 +1,0 @@
-use Rattle.smo_ops.proofs.PastSteps.{agreeing_states}
-use Rattle.smo_ops.proofs.laws.pasts_that_agree_have_the_same_states.Goals as goal
-
-pub returns : goal.returns
-returns c = agreeing_states

@@ -1,5 +1,0 @@
-use Rattle.smo_ops.proofs.JoinedRows.{joined_rows}
-use Rattle.smo_ops.proofs.operator_laws.join_has_the_cells_of_both.Goals as goal
-
-pub returns : goal.returns
-returns c = joined_rows

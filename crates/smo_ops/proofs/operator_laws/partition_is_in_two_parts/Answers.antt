@@ -1,5 +1,0 @@
-use Rattle.smo_ops.proofs.WholeTables.{partition_parts}
-use Rattle.smo_ops.proofs.operator_laws.partition_is_in_two_parts.Goals as goal
-
-pub returns : goal.returns
-returns c = partition_parts

@@ -1,0 +1,18 @@
+use Rattle.version_ways.specs.Migration.{carry, back}
+use Rattle.version_ways.proofs.WaySteps.{stays, one_forward, one_back, forward_by, back_by}
+use Rattle.version_ways.proofs.laws.the_way_is_step_by_step.Goals as goal
+
+pub returns-clause-stays : goal.returns-clause-stays
+returns-clause-stays c = λ versions v db. stays (carry versions) (back versions) v db
+
+pub returns-clause-forward : goal.returns-clause-forward
+returns-clause-forward c = λ versions v q db l. one_forward (carry versions) (back versions) v q db l
+
+pub returns-clause-back : goal.returns-clause-back
+returns-clause-back c = λ versions v q db l. one_back (carry versions) (back versions) v q db l
+
+pub returns-clause-forward_by : goal.returns-clause-forward_by
+returns-clause-forward_by c = λ versions v m q db l r. forward_by (carry versions) (back versions) v m q db l r
+
+pub returns-clause-back_by : goal.returns-clause-back_by
+returns-clause-back_by c = λ versions v m q db l r. back_by (carry versions) (back versions) v m q db l r

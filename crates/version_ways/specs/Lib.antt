@@ -1,0 +1,4 @@
+pub mod Ways
+pub mod Migration
+pub mod LostNames
+pub mod Whole

@@ -1,0 +1,15 @@
+//! The ways between the versions of a past: a database taken from version to version, forward over
+//! the operators and back over their inverses, and the tables that are lost on the way, by names
+//! alone. Definitions (`specs/`) and their laws.
+#![tactic(auto)]
+
+mod laws;
+mod round_trips;
+
+pub use laws::{
+    a_lost_table_may_be_taken_for_an_empty_one, names_tell_what_is_lost, the_way_is_step_by_step,
+    the_way_keeps_a_database,
+};
+pub use round_trips::{
+    copied_and_dropped_is_as_before, partitioned_and_merged_is_as_before, renamed_back_is_as_before,
+};
