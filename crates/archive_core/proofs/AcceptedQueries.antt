@@ -5,10 +5,10 @@ use Rattle.std.specs.FinMap.{contains_key}
 use Rattle.prima_base.specs.declared.refusals.Refusal.TheVariants.{NoTable}
 use Rattle.schema_catalog.specs.Tables.{Tables}
 use Rattle.cond_expr.specs.Faults.{first_unknown}
-use Rattle.smo_ops.specs.First.{unless, first_refusal}
-use Rattle.smo_ops.specs.Past.{Past, tables_of}
-use Rattle.smo_ops.proofs.Firsts.{none_of_first, none_of_both, met}
-use Rattle.temporal_lang.specs.Branches.{Item, PlainBranch}
+use Rattle.smo_meaning.specs.First.{unless, first_refusal}
+use Rattle.smo_meaning.specs.Past.{Past, tables_of}
+use Rattle.smo_meaning.proofs.Firsts.{none_of_first, none_of_both, met}
+use Rattle.plain_answers.specs.Branches.{Item, PlainBranch}
 use Rattle.temporal_lang.specs.Queries.{PlainQuery}
 use Rattle.temporal_lang.specs.Atoms.{branch_with_atoms, branches_with_atoms, with_atoms, atom_kinds}
 use Rattle.temporal_lang.specs.Accepted.{version_fault}

@@ -3,9 +3,9 @@ use Rattle.std.proofs.Common.{◌≡◌, ◌-◌, ◌<◌, ◌≤◌, ℕ, zero,
 use Rattle.std.specs.Prelude.{map, Option, slice_get, slice_index_or, option_map}
 use Rattle.std.specs.Option.{option_copied}
 use Rattle.std.proofs.lemmas.Option.{slice_get-map, slice_get_past, slice_get_read}
-use Rattle.smo_ops.specs.declared.versions.Version.{Version}
-use Rattle.smo_ops.specs.Commands.{version_of}
-use Rattle.archive_core.specs.Asking.{stamp_of, begins_at}
+use Rattle.smo_types.specs.declared.versions.Version.{Version}
+use Rattle.smo_types.specs.Commands.{version_of}
+use Rattle.smo_meaning.specs.InForce.{stamp_of, begins_at}
 
 -- what `get` answers is what stands at the place
 pub found_at : (versions : List Version) (k : ℕ) (found : Option (Bor Version)) → MatchOption found (length versions ≤ k) (λ x. (k < length versions) × ((d : Version) → x.now ≡ slice_index_or versions k d))

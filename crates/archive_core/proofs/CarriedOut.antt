@@ -2,8 +2,8 @@
 use Rattle.std.proofs.Common.{◌≡◌, ℕ, length, refl, sym, ap, ◌∙◌}
 use Rattle.std.specs.Prelude.{Option, Some}
 use Rattle.std.proofs.lemmas.List.{length-map}
-use Rattle.smo_ops.specs.Commands.{PlainBody, changing, evolving, PlainCommand, version_of}
-use Rattle.smo_ops.specs.Past.{Past, past_behind, past_with}
+use Rattle.smo_types.specs.Commands.{PlainBody, changing, evolving, PlainCommand, version_of}
+use Rattle.smo_meaning.specs.Past.{Past, past_behind, past_with}
 use Rattle.version_groups.specs.Groups.{Kept}
 use Rattle.version_groups.specs.Showing.{Shows}
 use Rattle.archive_core.specs.Standing.{ShowsPast}

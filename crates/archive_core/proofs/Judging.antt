@@ -5,17 +5,17 @@ use Rattle.std.proofs.lemmas.List.{length-map}
 use Rattle.prima_base.specs.declared.refusals.Refusal.{Refusal}
 use Rattle.prima_base.specs.declared.refusals.What.{What}
 use Rattle.schema_catalog.specs.Tables.{Tables}
-use Rattle.smo_ops.specs.declared.ops.Op.{Op}
-use Rattle.smo_ops.specs.Operators.{Operator, operator_of, operators_of}
-use Rattle.smo_ops.specs.Commands.{PlainCommand, evolving}
-use Rattle.smo_ops.specs.Checks.{Fault}
-use Rattle.smo_ops.specs.Counts.{first_excess}
-use Rattle.smo_ops.specs.Accepts.{count_fault, command_fault}
-use Rattle.smo_ops.specs.First.{first_refusal}
-use Rattle.smo_ops.specs.Preconditions.{AreNarrow}
-use Rattle.smo_ops.specs.Past.{Past, newest_tables}
-use Rattle.smo_ops.proofs.CountedOperators.{counted_length}
-use Rattle.smo_ops.proofs.Firsts.{first_at, first_later}
+use Rattle.smo_types.specs.declared.ops.Op.{Op}
+use Rattle.smo_types.specs.Operators.{Operator, operator_of, operators_of}
+use Rattle.smo_types.specs.Commands.{PlainCommand, evolving}
+use Rattle.smo_meaning.specs.Checks.{Fault}
+use Rattle.smo_meaning.specs.Counts.{first_excess}
+use Rattle.smo_meaning.specs.Accepts.{count_fault, command_fault}
+use Rattle.smo_meaning.specs.First.{first_refusal}
+use Rattle.smo_meaning.specs.Preconditions.{AreNarrow}
+use Rattle.smo_meaning.specs.Past.{Past, newest_tables}
+use Rattle.smo_meaning.proofs.CountedOperators.{counted_length}
+use Rattle.smo_meaning.proofs.Firsts.{first_at, first_later}
 use Rattle.version_groups.specs.Groups.{Kept}
 use Rattle.version_groups.specs.Showing.{Shows}
 use Rattle.version_groups.proofs.Readied.{is_same}

@@ -1,4 +1,3 @@
-pub mod VersionsInForce
 pub mod OwnAnswers
 pub mod AcceptedQueries
 pub mod OneTable
@@ -7,4 +6,3 @@ pub mod Judging
 pub mod BegunVersions
 pub mod ListedOwn
 pub mod CarriedOut
-pub mod StillStanding

@@ -7,8 +7,8 @@ use Rattle.relations.specs.Listing.{IsListing}
 use Rattle.relations.proofs.ListingLaws.{one_listing}
 use Rattle.prima_base.specs.Order.{row_cmp}
 use Rattle.prima_base.specs.OrderLaws.{row_exact}
-use Rattle.smo_ops.specs.OneRow.{Row}
-use Rattle.smo_ops.specs.Past.{Past, tables_of}
+use Rattle.smo_meaning.specs.OneRow.{Row}
+use Rattle.smo_meaning.specs.Past.{Past, tables_of}
 use Rattle.temporal_lang.specs.Queries.{PlainQuery}
 use Rattle.temporal_lang.specs.Atoms.{with_atoms}
 use Rattle.version_groups.specs.Groups.{Kept}

@@ -2,11 +2,11 @@
 use Rattle.std.proofs.Common.{◌≡◌, ℕ, length, sym, ap, ◌∙◌}
 use Rattle.std.proofs.lemmas.List.{length-map}
 use Rattle.schema_catalog.specs.Tables.{Tables}
-use Rattle.smo_ops.specs.Commands.{version_of}
-use Rattle.smo_ops.specs.Past.{Past, no_tables, tables_from, newest_tables}
+use Rattle.smo_types.specs.Commands.{version_of}
+use Rattle.smo_meaning.specs.Past.{Past, no_tables, tables_from, newest_tables}
 use Rattle.version_groups.specs.Groups.{Kept, versions_in}
 use Rattle.version_groups.specs.Showing.{Shows}
-use Rattle.version_groups.proofs.PastMoments.{newest_tables_from}
+use Rattle.smo_meaning.proofs.PastMoments.{newest_tables_from}
 
 pub newest_is : (kept : Kept) (past : Past) (n : ℕ) (tables : Tables) → Shows kept past → n ≡ length kept.versions → tables ≡ tables_from no_tables (versions_in kept) n → tables ≡ newest_tables past
 newest_is kept past n tables shows e is =

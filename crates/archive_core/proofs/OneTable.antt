@@ -1,5 +1,5 @@
 -- What a branch over a stored table answers at a moment is what the query asks of it.
-use Rattle.std.proofs.Common.{◌≡◌, ◌≤◌, ◌<◌, ℕ, true, List, [], ◌∷◌, refl, sym, ap, subst, ◌∙◌, arith, append-nil}
+use Rattle.std.proofs.Common.{◌≡◌, ◌+◌, ◌≤◌, ◌<◌, ℕ, true, List, [], ◌∷◌, refl, sym, ap, subst, ◌∙◌, arith, append-nil}
 use Rattle.std.specs.Prelude.{Option, Some, None, is_some}
 use Rattle.std.specs.Option.{unwrap_or}
 use Rattle.std.specs.FinMap.{get}
@@ -14,20 +14,33 @@ use Rattle.prima_base.specs.Columns.{Column}
 use Rattle.cond_expr.specs.Faults.{first_unknown}
 use Rattle.cond_expr.specs.Kinds.{kinds_of}
 use Rattle.history_store.specs.Store.{Store, relation_at}
-use Rattle.smo_ops.specs.OneRow.{Row, Relation, as_atom, own_kinds}
-use Rattle.smo_ops.specs.LawfulPast.{last_or_nought}
-use Rattle.smo_ops.specs.Effects.{columns_of, rows_at}
-use Rattle.smo_ops.specs.Past.{Past, tables_of, database_at}
-use Rattle.temporal_lang.specs.Branches.{Item, PlainBranch}
+use Rattle.smo_meaning.specs.OneRow.{Row, Relation, as_atom, own_kinds}
+use Rattle.smo_meaning.specs.Effects.{columns_of, rows_at}
+use Rattle.smo_meaning.specs.Past.{Past, tables_of, database_at}
+use Rattle.plain_answers.specs.Branches.{Item, PlainBranch}
 use Rattle.temporal_lang.specs.Queries.{PlainQuery}
 use Rattle.temporal_lang.specs.Atoms.{atom_kinds}
 use Rattle.temporal_lang.specs.Checking.{branch_references}
-use Rattle.temporal_lang.specs.Meaning.{answers_over, item_columns, item_rows, branch_answers, plain}
+use Rattle.plain_answers.specs.Branches.{item_columns, item_rows, branch_answers, plain}
+use Rattle.plain_answers.specs.Choosing.{answers_over}
 use Rattle.version_groups.specs.Groups.{Kept, table_in}
 use Rattle.version_groups.specs.Showing.{ShowsTable, ShowsEntry, Shows}
 use Rattle.join_exec.specs.Naming.{AreKnown}
-use Rattle.archive_core.specs.Asking.{asked_now, own_slice, IsOfOne}
-use Rattle.archive_core.proofs.OwnAnswers.{own_version, own_moments, stamp_within}
+use Rattle.plain_answers.specs.Naming.{names_at}
+use Rattle.join_exec.specs.Reading.{reads}
+use Rattle.archive_core.specs.Asking.{asked_now, own_slice, reads_of, item_reads, branch_reads, IsOfOne}
+use Rattle.archive_core.proofs.OwnAnswers.{own_moment}
+
+no_more : (n : ℕ) → n + 0 + 0 ≡ n
+no_more n = omega arith
+
+-- what one branch reads of its one item
+pub one_reads : (kept : Kept) (version : ℕ) (b : PlainBranch) (i : Item) (store : Store) → b.from ≡ i ∷ [] → table_in kept version i.0 ≡ Some store
+    → branch_reads kept version (b ∷ []) ≡ reads store (names_at 0 (branch_references b))
+one_reads kept version b i store f e =
+    ap (λ (from : List Item). item_reads kept version 0 (branch_references b) from + 0) f
+    ∙ ap (λ (o : Option Store). reads_of o (names_at 0 (branch_references b)) + 0 + 0) e
+    ∙ no_more (reads store (names_at 0 (branch_references b)))
 
 module _ (past : Past) (query : PlainQuery) (of : IsOfOne past query) where
   abbrev name : List ℕ
@@ -44,9 +57,9 @@ module _ (past : Past) (query : PlainQuery) (of : IsOfOne past query) where
       ap (λ k. first_unknown k (branch_references of.branch)) (sym (from ∙ own)) ∙ of.known
 
   -- over the columns and the rows of the one table
-  pub asked_of_one : (m : ℕ) → set_of row_cmp (answers_over (columns ∷ []) (rows_at (get (database_at past m) name) ∷ []) of.branch) ≡ asked_now past query m
+  pub asked_of_one : (m : ℕ) → set_of row_cmp (answers_over (columns ∷ []) (rows_at (get (database_at past m) name) ∷ []) of.branch.outs of.branch.cond) ≡ asked_now past query m
   asked_of_one m =
-      ap (λ (from : List Item). set_of row_cmp (answers_over (item_columns (tables_of past query.version) from) (item_rows (database_at past m) from) of.branch)) (sym of.from)
+      ap (λ (from : List Item). set_of row_cmp (answers_over (item_columns (tables_of past query.version) from) (item_rows (database_at past m) from) of.branch.outs of.branch.cond)) (sym of.from)
       ∙ ap (λ rows. set_of row_cmp rows) (sym (append-nil (branch_answers (tables_of past query.version) (database_at past m) of.branch)))
       ∙ ap (λ bs. plain (tables_of past query.version) bs (database_at past m)) (sym of.branches)
 
@@ -80,22 +93,18 @@ module _ (past : Past) (query : PlainQuery) (of : IsOfOne past query) where
     module _ (slice : Span) (own : own_slice past query ≡ Some slice) (b : PlainBranch) (store : Store) (same : b ≡ of.branch) (e : table_in kept query.version name ≡ Some store) where
       -- at a moment of the slice the stored relation is the database's
       stored_then : (m : ℕ) → slice.start ≤ m → m < slice.end → relation_at store m ≡ rows_at (get (database_at past m) name)
-      stored_then m first last =
-          let inside = own_moments past shows.lawful shows.ends query of.keep of.there slice own in
-          let most = stamp_within (last_or_nought past.last) past.versions query.version shows.lawful.versions shows.ends in
-          let behind = inside.behind in
-          (found store e).shown m (omega arith) (own_version past shows.lawful shows.ends query of.keep of.there slice own m first last)
+      stored_then m first last = (found store e).shown m (own_moment past shows.lawful shows.ends query of.keep of.there slice own m first last)
 
-      answers_then : (m : ℕ) → slice.start ≤ m → m < slice.end → set_of row_cmp (answers_over (store.columns ∷ []) (relation_at store m ∷ []) b) ≡ asked_now past query m
+      answers_then : (m : ℕ) → slice.start ≤ m → m < slice.end → set_of row_cmp (answers_over (store.columns ∷ []) (relation_at store m ∷ []) b.outs b.cond) ≡ asked_now past query m
       answers_then m first last =
-          ap (λ cs. set_of row_cmp (answers_over (cs ∷ []) (relation_at store m ∷ []) b)) (found store e).columns
-          ∙ ap (λ rows. set_of row_cmp (answers_over (columns ∷ []) (rows ∷ []) b)) (stored_then m first last)
-          ∙ ap (λ (x : PlainBranch). set_of row_cmp (answers_over (columns ∷ []) (rows_at (get (database_at past m) name) ∷ []) x)) same
+          ap (λ cs. set_of row_cmp (answers_over (cs ∷ []) (relation_at store m ∷ []) b.outs b.cond)) (found store e).columns
+          ∙ ap (λ rows. set_of row_cmp (answers_over (columns ∷ []) (rows ∷ []) b.outs b.cond)) (stored_then m first last)
+          ∙ ap (λ (x : PlainBranch). set_of row_cmp (answers_over (columns ∷ []) (rows_at (get (database_at past m) name) ∷ []) x.outs x.cond)) same
           ∙ asked_of_one m
 
       -- so what is listed of the rows that the branch answers is what the query asks
       pub listed_here : (rows : ℕ → Relation) (entries : List (Entry Row))
-          → ((m : ℕ) → covers slice m ≡ true → rows m ≡ set_of row_cmp (answers_over (store.columns ∷ []) (relation_at store m ∷ []) b))
+          → ((m : ℕ) → covers slice m ≡ true → rows m ≡ set_of row_cmp (answers_over (store.columns ∷ []) (relation_at store m ∷ []) b.outs b.cond))
           → IsListing row_cmp rows slice entries → IsListing row_cmp (asked_now past query) slice entries
       listed_here rows entries answer h = listing_same row_cmp rows (asked_now past query) slice entries
           (λ x m first last.

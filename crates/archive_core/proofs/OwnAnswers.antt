@@ -1,6 +1,6 @@
 -- What a query asks and lists at the moments at which its version is in force.
-use Rattle.std.proofs.Common.{◌≡◌, ◌≤◌, ◌<◌, ◌-◌, ℕ, zero, suc, Bool, true, false, cond, List, [], ◌∷◌, length, refl, sym, ap, subst, ◌∙◌, arith}
-use Rattle.std.specs.Prelude.{nat_le, nat_lt, min, max, Some, None, slice_get}
+use Rattle.std.proofs.Common.{◌≡◌, ◌≤◌, ◌<◌, ◌-◌, ℕ, Bool, true, false, cond, List, [], ◌∷◌, length, refl, sym, ap, subst, ◌∙◌, arith}
+use Rattle.std.specs.Prelude.{nat_le, nat_lt, min, max, Some, None}
 use Rattle.std.proofs.lemmas.Bool.Decides.{nat_tests}
 use Rattle.relations.specs.Sets.{In}
 use Rattle.relations.specs.Spans.{Span, span, common, forever}
@@ -10,23 +10,26 @@ use Rattle.relations.proofs.ListingLaws.{listing_same}
 use Rattle.prima_base.specs.Order.{row_cmp}
 use Rattle.prima_base.specs.Keeping.{kept}
 use Rattle.schema_catalog.specs.Tables.{Tables}
-use Rattle.smo_ops.specs.Commands.{PlainVersion}
-use Rattle.smo_ops.specs.LawfulPast.{AllInForce, last_or_nought, IsPast}
-use Rattle.smo_ops.specs.Migration.{forward, backward, along, carry, back, migrated}
-use Rattle.smo_ops.specs.OneRow.{Row, Relation}
-use Rattle.smo_ops.specs.Past.{Past, no_tables, tables_of, version_at, database_at}
-use Rattle.smo_ops.proofs.PastLaws.{at_least}
+use Rattle.smo_meaning.specs.InForce.{in_force}
+use Rattle.smo_meaning.specs.LawfulPast.{last_or_nought, IsPast}
+use Rattle.version_ways.specs.Ways.{along}
+use Rattle.version_ways.specs.Migration.{carry, back, migrated}
+use Rattle.version_ways.proofs.WaySteps.{stays}
+use Rattle.smo_meaning.specs.OneRow.{Row, Relation}
+use Rattle.smo_meaning.specs.Past.{Past, tables_of, database_at}
+use Rattle.smo_meaning.proofs.PastLaws.{at_least}
 use Rattle.temporal_lang.specs.Queries.{PlainQuery, slice_of}
-use Rattle.temporal_lang.specs.Meaning.{plain}
+use Rattle.plain_answers.specs.Branches.{plain}
 use Rattle.temporal_lang.specs.Atoms.{branches_with_atoms}
 use Rattle.temporal_lang.specs.Answers.{asked_at, listing}
 use Rattle.temporal_lang.proofs.StageLaws.{listing_is}
 use Rattle.prima_base.specs.declared.refusals.Refusal.TheVariants.{NoVersion}
-use Rattle.smo_ops.proofs.Firsts.{none_of_first, met}
+use Rattle.smo_meaning.proofs.Firsts.{none_of_first, met}
 use Rattle.temporal_lang.specs.Accepted.{version_fault}
 use Rattle.temporal_lang.specs.Checking.{excess_of, excess_fault, query_tests}
-use Rattle.archive_core.specs.Asking.{stamp_of, in_force, query_fault, own_slice, during, answer_in, own_asked, own_answer}
-use Rattle.archive_core.proofs.VersionsInForce.{in_force_at}
+use Rattle.version_groups.specs.Showing.{IsInForce}
+use Rattle.version_groups.proofs.OwnMoments.{own_version, stamp_within}
+use Rattle.archive_core.specs.Asking.{query_fault, own_slice, during, answer_in, own_asked, own_answer}
 
 -- ---- common moments
 
@@ -54,19 +57,6 @@ are_common p q r e = step (nat_lt (max p.start q.start) (min p.end q.end)) refl 
     step true t k = let same : span (max p.start q.start) (min p.end q.end) ≡ r = cc in subst (AreCommon p q) same (made_common p q t)
     step false t k = absurd (cc)
 
--- each version begins before the end of time
-pub stamp_within : (low : ℕ) (versions : List PlainVersion) (k : ℕ) → AllInForce low versions → low < forever → stamp_of (slice_get versions k) ≤ forever
-stamp_within low [] k h l = omega arith
-stamp_within low (v ∷ versions) zero h l = (let first = h.0 in omega arith)
-stamp_within low (v ∷ versions) (suc k) h l = stamp_within low versions k h.1 l
-
--- ---- a way of no step
-
-along_none : {X : Type 0} (over back_over : ℕ → X → X) (v : ℕ) (x : X) → along over back_over v v x ≡ x
-along_none over back_over v x =
-    let none : v - v ≡ 0 = omega arith in
-    ap (λ b. cond b (forward over v (v - v) x) (backward back_over v (v - v) x)) (at_least v v (omega arith)) ∙ ap (λ n. forward over v n x) none
-
 -- ---- with no condition all entries are kept
 
 all_kept : (entries : List (Entry Row)) → kept [] entries ≡ entries
@@ -82,16 +72,14 @@ module _ (past : Past) (h : IsPast past) (ends : last_or_nought past.last < fore
   own_moments = are_common (slice_of query.when) (in_force past.versions query.version) slice own
 
   -- at each of these moments the version is in force
-  pub own_version : (m : ℕ) → slice.start ≤ m → m < slice.end → version_at past m ≡ query.version
-  own_version m a b =
-      let inside = own_moments in
-      in_force_at None no_tables past.versions query.version m h.evolved there (let s = inside.second in omega arith) (let s = inside.behind in omega arith)
+  pub own_moment : (m : ℕ) → slice.start ≤ m → m < slice.end → IsInForce past.versions query.version m
+  own_moment m a b = let inside = own_moments in ((let start = inside.second in omega arith), (let end = inside.behind in omega arith))
 
   -- so its database is asked as it is
   not_moved : (m : ℕ) → slice.start ≤ m → m < slice.end → migrated past m query.version ≡ database_at past m
   not_moved m a b =
-      ap (λ v. along (carry past.versions) (back past.versions) v query.version (database_at past m)) (own_version m a b)
-      ∙ along_none (carry past.versions) (back past.versions) query.version (database_at past m)
+      ap (λ v. along (carry past.versions) (back past.versions) v query.version (database_at past m)) (own_version past h query.version m there (own_moment m a b))
+      ∙ stays (carry past.versions) (back past.versions) query.version (database_at past m)
 
   asked_is : (m : ℕ) → slice.start ≤ m → m < slice.end → asked_at past (during query slice) m ≡ own_asked past query m
   asked_is m a b = ap (plain tables (branches_with_atoms tables query.branches)) (not_moved m a b)

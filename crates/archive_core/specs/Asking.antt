@@ -1,5 +1,5 @@
 -- What a query asks of the version that it names, at the moments at which this version is in force.
-use Rattle.std.specs.Prelude.{◌≡◌, ℕ, zero, suc, List, [], ◌∷◌, length, Option, Some, None, Bool, true, false, Result, MatchResult, ◌≤◌, slice_get, ⊤}
+use Rattle.std.specs.Prelude.{◌≡◌, ℕ, ◌+◌, zero, suc, List, [], ◌∷◌, length, Option, Some, None, Bool, true, false, Result, MatchResult, ◌≤◌, slice_get, ⊤}
 use Rattle.relations.specs.Spans.{Span, span, common, forever}
 use Rattle.relations.specs.Timed.{Entry}
 use Rattle.prima_base.specs.Timed.{entries_of}
@@ -10,41 +10,26 @@ use Rattle.cond_expr.specs.declared.exprs.ColRef.{ColRef}
 use Rattle.cond_expr.specs.Faults.{first_unknown}
 use Rattle.history_store.specs.Store.{Store}
 use Rattle.version_groups.specs.Groups.{Kept, table_in}
-use Rattle.join_exec.specs.Naming.{names_in}
+use Rattle.plain_answers.specs.Naming.{names_at}
 use Rattle.join_exec.specs.Reading.{reads}
-use Rattle.smo_ops.specs.Checks.{Fault}
-use Rattle.smo_ops.specs.Commands.{PlainVersion}
-use Rattle.smo_ops.specs.First.{first_refusal}
-use Rattle.smo_ops.specs.OneRow.{Row, Relation}
-use Rattle.smo_ops.specs.Past.{Past, tables_of, database_at}
+use Rattle.smo_meaning.specs.Checks.{Fault}
+use Rattle.smo_types.specs.Commands.{PlainVersion}
+use Rattle.smo_meaning.specs.First.{first_refusal}
+use Rattle.smo_meaning.specs.OneRow.{Row, Relation}
+use Rattle.smo_meaning.specs.InForce.{in_force}
+use Rattle.smo_meaning.specs.Past.{Past, tables_of, database_at}
 use Rattle.temporal_lang.specs.declared.whens.When.{When}
 use Rattle.temporal_lang.specs.declared.whens.When.TheVariants.{Always, AsOf, During}
 use Rattle.temporal_lang.specs.declared.queries.Query.{Query}
-use Rattle.temporal_lang.specs.Branches.{Item, PlainBranch}
+use Rattle.plain_answers.specs.Branches.{Item, PlainBranch}
 use Rattle.temporal_lang.specs.Queries.{PlainQuery, a_query, query_of, slice_of, IsLasting}
 use Rattle.temporal_lang.specs.Answers.{answer}
 use Rattle.temporal_lang.specs.Accepted.{version_fault}
-use Rattle.temporal_lang.specs.Meaning.{plain}
+use Rattle.plain_answers.specs.Branches.{plain}
 use Rattle.temporal_lang.specs.Atoms.{with_atoms, atom_kinds}
 use Rattle.temporal_lang.specs.Checking.{excess_of, excess_fault, query_tests, branch_references}
 use Rattle.archive_core.specs.declared.faults.AskFault.{AskFault}
 use Rattle.archive_core.specs.declared.faults.AskFault.TheVariants.{Refused, NoMemory}
-
--- ---- the moments at which a version is in force
-
--- the stamp of a version; the end of time where there is none
-abbrev pub stamp_of : Option PlainVersion → ℕ
-stamp_of None = forever
-stamp_of (Some v) = v.stamp
-
--- from its stamp, version 0 from moment 0
-abbrev pub begins_at : List PlainVersion → ℕ → ℕ
-begins_at versions zero = 0
-begins_at versions (suc k) = stamp_of (slice_get versions k)
-
--- up to the stamp of the next
-abbrev pub in_force : List PlainVersion → ℕ → Span
-in_force versions k = span (begins_at versions k) (stamp_of (slice_get versions k))
 
 -- ---- queries
 
@@ -114,13 +99,16 @@ abbrev pub reads_of : Option Store → List (List ℕ) → ℕ
 reads_of None names = 0
 reads_of (Some store) names = reads store names
 
-abbrev pub item_reads : Kept → ℕ → List ColRef → List Item → ℕ
-item_reads kept version references [] = 0
-item_reads kept version references (i ∷ from) = reads_of (table_in kept version i.0) (names_in references)
+-- of the table of each item, the first of which has this place, by what the references name of it
+abbrev pub item_reads : Kept → ℕ → ℕ → List ColRef → List Item → ℕ
+item_reads kept version place references [] = 0
+item_reads kept version place references (i ∷ from) =
+    reads_of (table_in kept version i.0) (names_at place references) + item_reads kept version (place + 1) references from
 
+-- of the items of each branch
 abbrev pub branch_reads : Kept → ℕ → List PlainBranch → ℕ
 branch_reads kept version [] = 0
-branch_reads kept version (b ∷ branches) = item_reads kept version (branch_references b) b.from
+branch_reads kept version (b ∷ branches) = item_reads kept version 0 (branch_references b) b.from + branch_reads kept version branches
 
 -- nothing where the version is in force at no moment of the slice
 abbrev pub reads_in : Option Span → ℕ → ℕ
@@ -135,7 +123,7 @@ abbrev pub reads_accepted : Fault → ℕ → ℕ
 reads_accepted None reads = reads
 reads_accepted (Some r) reads = 0
 
--- of the table of the query's one item, with its references to atoms
+-- of the tables of the query's items, with its references to atoms
 abbrev pub needed : Kept → Past → PlainQuery → ℕ
 needed kept past query = reads_accepted (query_fault past query) (own_reads kept past (with_atoms (tables_of past query.version) query))
 

@@ -1,9 +1,9 @@
 -- What an archive answers to a command.
 use Rattle.std.specs.Prelude.{◌≡◌, ℕ, length, Option, Some, None, Result, Ok, Err, ⊤}
-use Rattle.smo_ops.specs.Commands.{PlainBody, changing, evolving, PlainCommand}
-use Rattle.smo_ops.specs.Checks.{Fault}
-use Rattle.smo_ops.specs.Accepts.{command_fault}
-use Rattle.smo_ops.specs.Past.{Past, past_with}
+use Rattle.smo_types.specs.Commands.{PlainBody, changing, evolving, PlainCommand}
+use Rattle.smo_meaning.specs.Checks.{Fault}
+use Rattle.smo_meaning.specs.Accepts.{command_fault}
+use Rattle.smo_meaning.specs.Past.{Past, past_with}
 use Rattle.version_groups.specs.Room.{IsSame}
 use Rattle.version_groups.specs.Steps.{rows_gained, rows_lost}
 use Rattle.archive_core.specs.declared.archives.Done.{Done}

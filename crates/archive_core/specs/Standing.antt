@@ -1,6 +1,6 @@
 -- When an archive stands for a past.
 use Rattle.std.specs.Prelude.{◌≡◌, ℕ, Option}
-use Rattle.smo_ops.specs.Past.{Past}
+use Rattle.smo_meaning.specs.Past.{Past}
 use Rattle.version_groups.specs.Groups.{Kept}
 use Rattle.version_groups.specs.Showing.{Shows}
 

@@ -4,17 +4,17 @@ ghost use Rattle.std.specs.Prelude.{◌≡◌, ◌≤◌, ◌∷◌, List, [], l
 ghost use Rattle.std.specs.Option.{option_map};
 ghost use Rattle.prima_base.specs.declared.refusals.What.TheVariants.{Versions};
 ghost use Rattle.prima_base.specs.declared.refusals.Refusal.TheVariants.{TooMany};
-ghost use Rattle.smo_ops.specs.First.{unless, first_refusal};
-ghost use Rattle.smo_ops.specs.Commands.{changing, evolving, body_of, command_of};
-ghost use Rattle.smo_ops.specs.Operators.{operator_of, operators_of};
-ghost use Rattle.smo_ops.specs.Changes.{changes_of};
-ghost use Rattle.smo_ops.specs.Checks.{changes_fault};
-ghost use Rattle.smo_ops.specs.Counts.{first_excess};
-ghost use Rattle.smo_ops.specs.After.{op_fault, HasFewNodes, HaveFewNodes};
-ghost use Rattle.smo_ops.specs.Inverses.{inverse_fault};
-ghost use Rattle.smo_ops.specs.Preconditions.{AreNarrow};
-ghost use Rattle.smo_ops.specs.Accepts.{refusal_of, count_fault, stamp_fault, body_tests, command_fault, most_versions};
-ghost use Rattle.smo_ops.specs.Past.{Past, newest_tables};
+ghost use Rattle.smo_meaning.specs.First.{unless, first_refusal};
+ghost use Rattle.smo_types.specs.Commands.{changing, evolving, body_of, command_of};
+ghost use Rattle.smo_types.specs.Operators.{operator_of, operators_of};
+ghost use Rattle.smo_types.specs.Changes.{changes_of};
+ghost use Rattle.smo_meaning.specs.Checks.{changes_fault};
+ghost use Rattle.smo_meaning.specs.Counts.{first_excess};
+ghost use Rattle.smo_meaning.specs.After.{op_fault, HasFewNodes, HaveFewNodes};
+ghost use Rattle.smo_meaning.specs.Inverses.{inverse_fault};
+ghost use Rattle.smo_meaning.specs.Preconditions.{AreNarrow};
+ghost use Rattle.smo_meaning.specs.Accepts.{refusal_of, count_fault, stamp_fault, body_tests, command_fault, most_versions};
+ghost use Rattle.smo_meaning.specs.Past.{Past, newest_tables};
 ghost use Rattle.version_groups.specs.Showing.{Shows};
 ghost use Rattle.archive_core.specs.Committing.{IsJudged};
 

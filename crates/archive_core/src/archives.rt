@@ -20,7 +20,7 @@ pub struct Archive {
 
 impl Model for Archive {
     ghost use Rattle.archive_core.specs.Standing.{Standing};
-    ghost use Rattle.smo_ops.specs.contracts.versions.Version as version_row;
+    ghost use Rattle.smo_types.specs.contracts.versions.Version as version_row;
     ghost use Rattle.std.specs.Coded.{codes};
 
     ghost Value = { Standing };
@@ -32,7 +32,7 @@ impl Model for Archive {
 
 /// What an accepted command did: its stamp; how many rows it gained and lost over all tables, none for an operator; and
 /// the version that an operator made.
-#[derive(Clone, Copy, Debug, PartialEq, Eq)]
+#[derive(Clone, Copy)]
 pub struct Done {
     pub stamp: u64,
     pub gained: u64,
@@ -41,7 +41,7 @@ pub struct Done {
 }
 
 ghost use Rattle.std.specs.Prelude.{◌≡◌};
-ghost use Rattle.smo_ops.specs.Commands.{body_of};
+ghost use Rattle.smo_types.specs.Commands.{body_of};
 ghost use Rattle.archive_core.specs.Committing.{version_made};
 
 // The newest version, where the command made it.
@@ -56,9 +56,9 @@ fn version_made(command: &Command, newest: u32) -> Option<u32>
 
 impl Archive {
     ghost use Rattle.std.specs.Prelude.{◌≡◌, ◌+◌, ◌≤◌, None};
-    ghost use Rattle.smo_ops.specs.Commands.{command_of};
-    ghost use Rattle.smo_ops.specs.Accepts.{command_fault};
-    ghost use Rattle.smo_ops.specs.Past.{Past, beginning, past_with};
+    ghost use Rattle.smo_types.specs.Commands.{command_of};
+    ghost use Rattle.smo_meaning.specs.Accepts.{command_fault};
+    ghost use Rattle.smo_meaning.specs.Past.{Past, beginning, past_with};
     ghost use Rattle.version_groups.specs.Steps.{Prepares};
     ghost use Rattle.archive_core.specs.Standing.{ShowsPast};
     ghost use Rattle.temporal_lang.specs.Queries.{query_of};

@@ -9,8 +9,6 @@ mod accepting;
 mod archives;
 mod asking;
 mod faults;
-#[cfg(test)]
-mod tests;
 
 pub use archives::{Archive, Done};
 pub use faults::{AskFault, CommitFault};

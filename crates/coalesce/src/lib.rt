@@ -5,8 +5,6 @@
 
 mod cutting;
 mod joining;
-#[cfg(test)]
-mod tests;
 
 ghost use Rattle.relations.specs.Listing.{IsListing};
 ghost use Rattle.prima_base.specs.Order.{row_cmp};

@@ -6,3 +6,4 @@ pub mod ListedLaws
 pub mod KindLaws
 pub mod AtomLaws
 pub mod LawfulLaws
+pub mod ConstantLaws

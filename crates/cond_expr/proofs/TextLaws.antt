@@ -34,24 +34,24 @@ none_anywhere p i k (x ∷ a) f =
     let s = none_step (p x) i (first_from p (i + 1) a) f in
     rw s.0 (none_anywhere p (i + 1) (k + 1) a s.1)
 
-none_in_both : (p : ℕ → Bool) (i j k : ℕ) (a b : List ℕ) → first_from p i a ≡ None → first_from p j b ≡ None → first_from p k (a ++ b) ≡ None
+pub none_in_both : (p : ℕ → Bool) (i j k : ℕ) (a b : List ℕ) → first_from p i a ≡ None → first_from p j b ≡ None → first_from p k (a ++ b) ≡ None
 none_in_both p i j k [] b f g = none_anywhere p j k b g
 none_in_both p i j k (x ∷ a) b f g =
     let s = none_step (p x) i (first_from p (i + 1) a) f in
     rw s.0 (none_in_both p (i + 1) j (k + 1) a b s.1 g)
 
-none_in_front : (p : ℕ → Bool) (i n : ℕ) (a : List ℕ) → first_from p i a ≡ None → first_from p i (take n a) ≡ None
+pub none_in_front : (p : ℕ → Bool) (i n : ℕ) (a : List ℕ) → first_from p i a ≡ None → first_from p i (take n a) ≡ None
 none_in_front p i zero a f = refl
 none_in_front p i (suc n) [] f = refl
 none_in_front p i (suc n) (x ∷ a) f =
     let s = none_step (p x) i (first_from p (i + 1) a) f in
     rw s.0 (none_in_front p (i + 1) n a s.1)
 
-none_in_value : (v : Value) → IsLawful v → first_control (bytes_of v) ≡ None
+pub none_in_value : (v : Value) → IsLawful v → first_control (bytes_of v) ≡ None
 none_in_value (Int n) l = refl
 none_in_value (Text t) l = l.1
 
-front_is_short : (n : ℕ) (a : List ℕ) → length (take n a) ≤ n
+pub front_is_short : (n : ℕ) (a : List ℕ) → length (take n a) ≤ n
 front_is_short n a = omega (arith, length-take n a)
 
 pub joined_is_text : (a : List ℕ) (v : Value) → IsTxt a → IsLawful v → IsTxt (take 4096 (a ++ bytes_of v))

@@ -6,3 +6,4 @@ pub mod Rows
 pub mod Kinds
 pub mod Faults
 pub mod Walks
+pub mod Constants

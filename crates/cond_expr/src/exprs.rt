@@ -38,7 +38,7 @@ pub enum Expr {
 }
 
 /// How two values of one type are compared: INTs by number, TEXTs by their bytes.
-#[derive(Clone, Copy, Debug, PartialEq, Eq)]
+#[derive(Clone, Copy, PartialEq, Eq)]
 pub enum CmpOp {
     /// `=`
     Eq,
@@ -107,7 +107,7 @@ impl From<NoMemory> for TypeFault {
 }
 
 /// How large a tree is. Each number stops at `u64::MAX`.
-#[derive(Clone, Copy, Debug, PartialEq, Eq)]
+#[derive(Clone, Copy)]
 pub struct TreeSize {
     /// The expressions and conditions in the tree, itself included.
     pub nodes: u64,

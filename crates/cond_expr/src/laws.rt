@@ -6,6 +6,9 @@ ghost use Rattle.cond_expr.specs.declared.exprs.Column.{Column as OneColumn};
 ghost use Rattle.cond_expr.specs.Trees.{Tree, Test, Filling, fill, fill_test, for_atoms, column, Within, TestWithin};
 ghost use Rattle.cond_expr.specs.Values.{Cells, over, value, truth};
 ghost use Rattle.cond_expr.specs.Kinds.{Kinds, kind_of, is_typed, kinds_of, value_kind, Fits, AreOf};
+ghost use Rattle.prima_base.specs.Columns.{IsLawful};
+ghost use Rattle.cond_expr.specs.declared.exprs.Whose.{Whose};
+ghost use Rattle.cond_expr.specs.Constants.{HasLawful};
 ghost use Rattle.cond_expr.specs.Rows.{flat};
 
 /// A filled tree has the value and the type that the tree has where each reference stands for what
@@ -46,4 +49,10 @@ pub fn accepted_has_a_value_of_its_type()
         → value_kind (value at t) ≡ k }
     ensures row { (columns : List OneColumn) → (values : List OneVal) → AreOf columns values
         → Fits (kinds_of columns) (flat columns values) }
+{}
+
+/// An expression has a lawful value where each reference stands for one and its constants are lawful: an INT from -2^63 to 2^63 - 1,
+/// or a TEXT of at most 4,096 bytes and no control byte.
+pub fn lawful_values_are_computed()
+    ensures { (at : Cells) → ((w : Whose) → (n : List ℕ) → IsLawful (at w n)) → (t : Tree) → HasLawful t → IsLawful (value at t) }
 {}

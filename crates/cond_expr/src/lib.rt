@@ -12,10 +12,6 @@ mod laws;
 mod lending;
 mod makers;
 mod sizes;
-#[cfg(test)]
-mod spelled;
-#[cfg(test)]
-mod tests;
 mod types;
 
 pub use evals::{eval, holds};
@@ -23,7 +19,7 @@ pub use exprs::{CmpOp, ColRef, Column, Cond, Expr, TreeSize, TypeFault, Whose};
 pub use fills::{Fill, fill_cond, fill_expr};
 pub use laws::{
     accepted_has_a_value_of_its_type, filling_atoms_is_substitution, filling_is_substitution,
-    fillings_compose, values_depend_on_references_alone,
+    fillings_compose, lawful_values_are_computed, values_depend_on_references_alone,
 };
 pub use lending::{lend, lend_row};
 pub use sizes::{cond_size, expr_size};

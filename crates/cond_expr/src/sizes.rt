@@ -1,5 +1,6 @@
 ghost use Rattle.std.specs.Prelude.{◌≡◌, ◌+◌, min, max, map};
 ghost use Rattle.cond_expr.specs.Seen.{tree, test, trees_of, tests_of};
+ghost use Rattle.cond_expr.specs.Constants.{HasLawful, HaveLawful};
 ghost use Rattle.cond_expr.specs.Sizes.{nodes_of, trees_nodes, test_nodes, tests_nodes, depth_of, trees_depth, test_depth, tests_depth, count_of, longest_of, trees_longest, test_longest, tests_longest};
 
 use crate::{Cond, Expr, TreeSize};
@@ -57,15 +58,20 @@ fn above_list(inner: TreeSize, count: u64) -> TreeSize
     }
 }
 
-/// The size of an expression. It takes no memory.
+/// The size of an expression, whose constants are lawful values: its walk meets each. It takes no memory.
 #[cycle(sizes)]
 pub fn expr_size(expr: &Expr) -> TreeSize
+    ensures constants { HasLawful (tree expr.now) }
     ensures nodes { result.nodes ≡ min (nodes_of (tree expr.now)) u64.MAX }
     ensures depth { result.depth ≡ min (depth_of (tree expr.now)) u64.MAX }
     ensures parts { result.parts ≡ min (longest_of (tree expr.now)) u64.MAX }
 {
     match expr {
-        Expr::Col(_) | Expr::Const(_) => above(nothing()),
+        Expr::Col(_) => above(nothing()),
+        Expr::Const(constant) => {
+            let _lawful = constant.lend();
+            above(nothing())
+        }
         Expr::Length(part) => above(expr_size(part)),
         Expr::Concat(parts) => above_list(exprs_size(parts), parts.len() as u64),
         Expr::Case(cond, first, second) => {
@@ -77,6 +83,7 @@ pub fn expr_size(expr: &Expr) -> TreeSize
 
 #[cycle(sizes)]
 fn exprs_size(list: &[Expr]) -> TreeSize
+    ensures constants { HaveLawful (trees_of (map tree list.now)) }
     ensures nodes { result.nodes ≡ min (trees_nodes (trees_of (map tree list.now))) u64.MAX }
     ensures depth { result.depth ≡ min (trees_depth (trees_of (map tree list.now))) u64.MAX }
     ensures parts { result.parts ≡ min (trees_longest (trees_of (map tree list.now))) u64.MAX }

@@ -28,4 +28,3 @@ pub mod Preparing
 pub mod Rule
 pub mod Inserting
 pub mod Counts
-pub mod Testing

@@ -21,6 +21,3 @@ mod walks;
 
 pub use scans::{CellEntry, CellScan, KeyEntry, KeyScan};
 pub use tables::{Prepared, StoredTable};
-
-#[cfg(test)]
-mod tests;

@@ -16,15 +16,16 @@ use Rattle.prima_base.specs.declared.values.Value.{Value}
 use Rattle.cond_expr.specs.declared.exprs.Column.{Column as AtomColumn}
 use Rattle.cond_expr.specs.Trees.{Tree, Test}
 use Rattle.cond_expr.specs.Values.{value, truth}
-use Rattle.smo_ops.specs.OneRow.{Row, Relation}
+use Rattle.smo_meaning.specs.OneRow.{Row, Relation}
 use Rattle.history_store.specs.Store.{Store, relation_at, row_at}
-use Rattle.temporal_lang.specs.Branches.{PlainBranch}
-use Rattle.temporal_lang.specs.Meaning.{chosen_cells, is_met, answered, answers_over}
+use Rattle.plain_answers.specs.Branches.{PlainBranch}
+use Rattle.plain_answers.specs.Choosing.{chosen_cells, is_met, answered, answers_over}
 use Rattle.join_exec.specs.declared.row_parts.Stretch.{Stretch}
 use Rattle.join_exec.specs.Parts.{Part}
 use Rattle.join_exec.specs.Stretches.{part_of, parts_of, picked, HoldsIn, IsGathered}
 use Rattle.join_exec.specs.Answering.{read_columns, cells_in, answers_of, all_answers}
-use Rattle.join_exec.specs.Naming.{all_references, names_in, AreKnown}
+use Rattle.plain_answers.specs.Naming.{all_references, names_in}
+use Rattle.join_exec.specs.Naming.{AreKnown}
 use Rattle.join_exec.proofs.RelationRows.{relation_row, row_of_key}
 use Rattle.join_exec.proofs.SameValues.{same_outputs, same_truth}
 
@@ -32,27 +33,27 @@ use Rattle.join_exec.proofs.SameValues.{same_outputs, same_truth}
 abbrev IsAnswer : List Column → Relation → PlainBranch → Row → Type 0
 IsAnswer columns relation b x = (row : Row) × In row relation × (truth (chosen_cells (columns ∷ []) (row ∷ [])) b.cond ≡ true) × (map (value (chosen_cells (columns ∷ []) (row ∷ []))) b.outs ≡ x)
 
-from_answers : (columns : List Column) (relation : Relation) (b : PlainBranch) (x : Row) → In x (answers_over (columns ∷ []) (relation ∷ []) b) → IsAnswer columns relation b x
+from_answers : (columns : List Column) (relation : Relation) (b : PlainBranch) (x : Row) → In x (answers_over (columns ∷ []) (relation ∷ []) b.outs b.cond) → IsAnswer columns relation b x
 from_answers columns relation b x h =
-    let r = from_map (answered (columns ∷ []) b) x (filter (is_met (columns ∷ []) b) (choices (relation ∷ []))) h in
-    let f = from_filter (is_met (columns ∷ []) b) r.0 (choices (relation ∷ [])) r.1 in
+    let r = from_map (answered (columns ∷ []) b.outs) x (filter (is_met (columns ∷ []) b.cond) (choices (relation ∷ []))) h in
+    let f = from_filter (is_met (columns ∷ []) b.cond) r.0 (choices (relation ∷ [])) r.1 in
     let c = from_flat_map (λ (y : Row). map (λ (rest : List Row). y ∷ rest) (choices [])) r.0 relation f.0 in
     let same : c.0 ∷ [] ≡ r.0 = alone c.0 r.0 c.2 in (
       c.0,
       c.1,
-      ap (is_met (columns ∷ []) b) same ∙ f.1,
-      ap (answered (columns ∷ []) b) same ∙ r.2,
+      ap (is_met (columns ∷ []) b.cond) same ∙ f.1,
+      ap (answered (columns ∷ []) b.outs) same ∙ r.2,
     )
   where
     alone : (y : Row) (choice : List Row) → In choice (map (λ (rest : List Row). y ∷ rest) (choices [])) → y ∷ [] ≡ choice
     alone y choice (inl e) = e
     alone y choice (inr k) = absurd k
 
-in_answers : (columns : List Column) (relation : Relation) (b : PlainBranch) (x : Row) → IsAnswer columns relation b x → In x (answers_over (columns ∷ []) (relation ∷ []) b)
+in_answers : (columns : List Column) (relation : Relation) (b : PlainBranch) (x : Row) → IsAnswer columns relation b x → In x (answers_over (columns ∷ []) (relation ∷ []) b.outs b.cond)
 in_answers columns relation b x (row, k, t, e) =
     let there : In (row ∷ []) (choices (relation ∷ [])) = in_flat_map (λ (y : Row). map (λ (rest : List Row). y ∷ rest) (choices [])) row (row ∷ []) relation k (inl refl) in
-    let kept : In (row ∷ []) (filter (is_met (columns ∷ []) b) (choices (relation ∷ []))) = in_filter (is_met (columns ∷ []) b) (row ∷ []) (choices (relation ∷ [])) there t in
-    subst (λ (y : Row). In y (answers_over (columns ∷ []) (relation ∷ []) b)) e (in_map (answered (columns ∷ []) b) (row ∷ []) (filter (is_met (columns ∷ []) b) (choices (relation ∷ []))) kept)
+    let kept : In (row ∷ []) (filter (is_met (columns ∷ []) b.cond) (choices (relation ∷ []))) = in_filter (is_met (columns ∷ []) b.cond) (row ∷ []) (choices (relation ∷ [])) there t in
+    subst (λ (y : Row). In y (answers_over (columns ∷ []) (relation ∷ []) b.outs b.cond)) e (in_map (answered (columns ∷ []) b.outs) (row ∷ []) (filter (is_met (columns ∷ []) b.cond) (choices (relation ∷ []))) kept)
 
 -- what is answered of one stretch
 from_one : (columns : List AtomColumn) (outs : List Tree) (c : Test) (s : Stretch) (e : Entry (List Value)) → In e (answers_of columns outs c s)
@@ -78,7 +79,7 @@ module _ (s : Store) (slice : Span) (b : PlainBranch) (stretches : List Stretch)
   held : (t : Stretch) (m : ℕ) → In t stretches → covers t.row.period m ≡ true → HoldsIn slice s.keys t.id m × (map shown t.row.values.items ≡ picked s names t.id m)
   held t m i p = (g.has t.id m (map shown t.row.values.items)).0 (part_of t, in_map part_of t stretches i, refl, refl, p)
 
-  answer_there : (x : Row) (m : ℕ) → IsHeld entries x m → In x (answers_over (s.columns ∷ []) (relation_at s m ∷ []) b) × (covers slice m ≡ true)
+  answer_there : (x : Row) (m : ℕ) → IsHeld entries x m → In x (answers_over (s.columns ∷ []) (relation_at s m ∷ []) b.outs b.cond) × (covers slice m ≡ true)
   answer_there x m (e, i, same, p) =
       let r = from_flat_map (answers_of (read_columns names) b.outs b.cond) e stretches i in
       let t = r.0 in
@@ -95,7 +96,7 @@ module _ (s : Store) (slice : Span) (b : PlainBranch) (stretches : List Stretch)
         k.0.1,
       )
 
-  answer_back : (x : Row) (m : ℕ) → covers slice m ≡ true → In x (answers_over (s.columns ∷ []) (relation_at s m ∷ []) b) → IsHeld entries x m
+  answer_back : (x : Row) (m : ℕ) → covers slice m ≡ true → In x (answers_over (s.columns ∷ []) (relation_at s m ∷ []) b.outs b.cond) → IsHeld entries x m
   answer_back x m inside h =
       let a = from_answers s.columns (relation_at s m) b x h in
       let k = relation_row s m a.0 a.1 in
@@ -116,10 +117,10 @@ module _ (s : Store) (slice : Span) (b : PlainBranch) (stretches : List Stretch)
       )
 
   -- at a moment of the slice these are the branch's answers
-  pub answers_at : (m : ℕ) → covers slice m ≡ true → at row_cmp entries m ≡ set_of row_cmp (answers_over (s.columns ∷ []) (relation_at s m ∷ []) b)
-  answers_at m inside = one_list row_cmp row_exact (at row_cmp entries m) (set_of row_cmp (answers_over (s.columns ∷ []) (relation_at s m ∷ []) b)) (at_ascends row_cmp row_exact entries m) (set_ascends row_cmp row_exact (answers_over (s.columns ∷ []) (relation_at s m ∷ []) b)) (record {
-    there = λ x h. in_set row_cmp row_exact x (answers_over (s.columns ∷ []) (relation_at s m ∷ []) b) (answer_there x m ((in_at row_cmp row_exact entries x m).0 h)).0;
-    back = λ x h. (in_at row_cmp row_exact entries x m).1 (answer_back x m inside (from_set row_cmp row_exact x (answers_over (s.columns ∷ []) (relation_at s m ∷ []) b) h));
+  pub answers_at : (m : ℕ) → covers slice m ≡ true → at row_cmp entries m ≡ set_of row_cmp (answers_over (s.columns ∷ []) (relation_at s m ∷ []) b.outs b.cond)
+  answers_at m inside = one_list row_cmp row_exact (at row_cmp entries m) (set_of row_cmp (answers_over (s.columns ∷ []) (relation_at s m ∷ []) b.outs b.cond)) (at_ascends row_cmp row_exact entries m) (set_ascends row_cmp row_exact (answers_over (s.columns ∷ []) (relation_at s m ∷ []) b.outs b.cond)) (record {
+    there = λ x h. in_set row_cmp row_exact x (answers_over (s.columns ∷ []) (relation_at s m ∷ []) b.outs b.cond) (answer_there x m ((in_at row_cmp row_exact entries x m).0 h)).0;
+    back = λ x h. (in_at row_cmp row_exact entries x m).1 (answer_back x m inside (from_set row_cmp row_exact x (answers_over (s.columns ∷ []) (relation_at s m ∷ []) b.outs b.cond) h));
   })
 
   -- and at any other there is none
@@ -142,7 +143,7 @@ module _ (s : Store) (slice : Span) (b : PlainBranch) (names : List (List ℕ)) 
   answers : entries_of rows ≡ all_answers (read_columns (names_in (all_references b.outs b.cond))) b.outs b.cond stretches
   answers = made ∙ ap (λ (cs : List AtomColumn). all_answers cs b.outs b.cond stretches) (read ∙ ap read_columns named)
 
-  pub made_at : (m : ℕ) → covers slice m ≡ true → rows_at rows m ≡ set_of row_cmp (answers_over (s.columns ∷ []) (relation_at s m ∷ []) b)
+  pub made_at : (m : ℕ) → covers slice m ≡ true → rows_at rows m ≡ set_of row_cmp (answers_over (s.columns ∷ []) (relation_at s m ∷ []) b.outs b.cond)
   made_at m inside = ap (λ (es : List (Entry (List Value))). at row_cmp es m) answers ∙ answers_at s slice b stretches known gathered m inside
 
   pub made_outside : (m : ℕ) → covers slice m ≡ false → rows_at rows m ≡ []

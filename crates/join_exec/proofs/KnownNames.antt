@@ -1,7 +1,8 @@
 -- What is known to be a column of a table, as atom 0.
-use Rattle.std.proofs.Common.{◌≡◌, ℕ, Bool, true, false, cond, List, [], ◌∷◌, refl, sym, ap, inl, inr, subst, arith}
+use Rattle.std.proofs.Common.{◌≡◌, ℕ, Bool, true, false, cond, List, [], ◌∷◌, refl, sym, ap, ◌∙◌, inl, inr, subst, arith}
 use Rattle.std.specs.Prelude.{◌&&◌, ◌==◌, Some, None, is_none}
 use Rattle.std.proofs.lemmas.Bool.Decides.{nat_tests}
+use Rattle.std.specs.List.{filter}
 use Rattle.relations.specs.Sets.{In}
 use Rattle.relations.proofs.SetLaws.{in_map, from_map, in_set, from_set}
 use Rattle.prima_base.specs.Order.{bytes_cmp}
@@ -13,11 +14,12 @@ use Rattle.cond_expr.specs.declared.exprs.ColRef.{ColRef}
 use Rattle.cond_expr.specs.Rows.{same}
 use Rattle.cond_expr.specs.Kinds.{Kinds}
 use Rattle.cond_expr.specs.Faults.{first_unknown}
-use Rattle.smo_ops.specs.OneRow.{own_kinds}
-use Rattle.join_exec.specs.Naming.{written_names, names_in, AreKnown}
+use Rattle.smo_meaning.specs.OneRow.{own_kinds}
+use Rattle.plain_answers.specs.Naming.{is_atom, is_to, written_names, names_in, names_at}
+use Rattle.join_exec.specs.Naming.{AreKnown}
 use Rattle.join_exec.specs.Reading.{AreNames}
 use Rattle.join_exec.proofs.NamedCells.{same_is}
-use Rattle.join_exec.proofs.ReferenceLaws.{Each}
+use Rattle.plain_answers.proofs.ReferenceLaws.{Each}
 
 -- it is to atom 0, and to a column
 abbrev pub IsOwn : List Column → Whose → List ℕ → Type 0
@@ -52,6 +54,16 @@ each_own columns rs e = λ r h. known_own columns r.whose r.name (each_some (own
 -- the names of the references
 pub name_in : (rs : List ColRef) (r : ColRef) → In r rs → In r.name (names_in rs)
 name_in rs r h = in_set bytes_cmp bytes_exact r.name (written_names rs) (in_map (λ (q : ColRef). q.name) r rs h)
+
+-- all of them are of the one table
+pub named_of_one : (columns : List Column) (rs : List ColRef) → AreKnown columns rs → names_at 0 rs ≡ names_in rs
+named_of_one columns rs e = ap names_in (kept rs (λ r h. ap (is_atom 0) (each_own columns rs e r h).0))
+  where
+    kept : (qs : List ColRef) → ((r : ColRef) → In r qs → is_to 0 r ≡ true) → filter (is_to 0) qs ≡ qs
+    kept [] f = refl
+    kept (q ∷ qs) f =
+        ap (λ (b : Bool). cond b (q ∷ filter (is_to 0) qs) (filter (is_to 0) qs)) (f q (inl refl))
+        ∙ ap (λ (xs : List ColRef). q ∷ xs) (kept qs (λ r h. f r (inr h)))
 
 pub are_names : (columns : List Column) (rs : List ColRef) → AreKnown columns rs → AreNames columns (names_in rs)
 are_names columns rs e = λ name h.

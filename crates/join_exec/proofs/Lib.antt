@@ -3,7 +3,6 @@ pub mod CutLaws
 pub mod ValueLaws
 pub mod Picked
 pub mod EntriesInTurn
-pub mod ReferenceLaws
 pub mod NamedCells
 pub mod KnownNames
 pub mod RelationRows

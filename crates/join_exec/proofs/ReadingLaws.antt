@@ -1,21 +1,29 @@
 -- What is read depends on which columns are named alone.
-use Rattle.std.proofs.Common.{◌≡◌, ◌+◌, List, [], ◌∷◌, length, ap, arith}
-use Rattle.relations.specs.Sets.{Same, set_of}
-use Rattle.relations.proofs.SetLaws.{set_same}
-use Rattle.prima_base.specs.Order.{bytes_cmp}
-use Rattle.prima_base.specs.OrderLaws.{bytes_exact}
+use Rattle.std.proofs.Common.{◌≡◌, ◌+◌, ℕ, Bool, true, cond, List, [], ◌∷◌, length, ap, ◌∙◌, arith}
+use Rattle.std.specs.Prelude.{◌==◌, ◌↔◌}
+use Rattle.relations.specs.Sets.{set_of}
 use Rattle.cond_expr.specs.declared.exprs.ColRef.{ColRef}
+use Rattle.cond_expr.specs.declared.exprs.Whose.TheVariants.{Atom}
 use Rattle.history_store.specs.Store.{Store, column_of}
-use Rattle.join_exec.specs.Naming.{written_names, names_in}
+use Rattle.plain_answers.specs.Naming.{IsNamed, names_in, names_at}
+use Rattle.plain_answers.proofs.NameLaws.{names_alike}
 use Rattle.join_exec.specs.Reading.{reads, count_in}
 
-pub none_read : (s : Store) → reads s (names_in []) ≡ length s.keys
+pub none_read : (s : Store) (i : ℕ) → reads s (names_at i []) ≡ length s.keys
 unfolding set_of
-none_read s = omega arith
+none_read s i = omega arith
 
-pub one_read : (s : Store) (r : ColRef) → reads s (names_in (r ∷ [])) ≡ length s.keys + count_in (column_of s r.name)
+one_name : (s : Store) (r : ColRef) → reads s (names_in (r ∷ [])) ≡ length s.keys + count_in (column_of s r.name)
 unfolding set_of
-one_read s r = omega arith
+one_name s r = omega arith
 
-pub same_read : (s : Store) (a b : List ColRef) → Same (written_names a) (written_names b) → reads s (names_in a) ≡ reads s (names_in b)
-same_read s a b h = ap (reads s) (set_same bytes_cmp bytes_exact (written_names a) (written_names b) h)
+pub one_read : (s : Store) (i : ℕ) (name : List ℕ) → reads s (names_at i (record { whose = Atom i; name = name } ∷ [])) ≡ length s.keys + count_in (column_of s name)
+one_read s i name =
+    ap (λ (b : Bool). reads s (names_in (cond b (record { whose = Atom i; name = name } ∷ []) []))) (itself i)
+    ∙ one_name s (record { whose = Atom i; name = name })
+  where
+    itself : (j : ℕ) → (j == j) ≡ true
+    itself j = grind (arith)
+
+pub same_read : (s : Store) (i : ℕ) (a b : List ColRef) → ((name : List ℕ) → IsNamed i a name ↔ IsNamed i b name) → reads s (names_at i a) ≡ reads s (names_at i b)
+same_read s i a b h = ap (reads s) (names_alike i a b h)

@@ -12,13 +12,14 @@ use Rattle.cond_expr.specs.Values.{Cells, value, truth}
 use Rattle.cond_expr.specs.Rows.{flat}
 use Rattle.cond_expr.specs.Faults.{references, test_references}
 use Rattle.cond_expr.proofs.TreeLaws.{value_like, truth_like}
-use Rattle.smo_ops.specs.OneRow.{Row}
-use Rattle.temporal_lang.specs.Meaning.{chosen_cells}
+use Rattle.smo_meaning.specs.OneRow.{Row}
+use Rattle.plain_answers.specs.Choosing.{chosen_cells}
 use Rattle.join_exec.specs.Answering.{read_columns}
-use Rattle.join_exec.specs.Naming.{all_references, names_in, AreKnown}
+use Rattle.plain_answers.specs.Naming.{all_references, names_in}
+use Rattle.join_exec.specs.Naming.{AreKnown}
 use Rattle.join_exec.proofs.NamedCells.{named_cell}
 use Rattle.join_exec.proofs.KnownNames.{each_own, name_in}
-use Rattle.join_exec.proofs.ReferenceLaws.{Each, each_first, each_second, within_each, test_within_each}
+use Rattle.plain_answers.proofs.ReferenceLaws.{Each, each_first, each_second, within_each, test_within_each}
 
 -- values depend on the references alone
 module _ (at by : Cells) where

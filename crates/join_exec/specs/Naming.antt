@@ -1,4 +1,4 @@
--- The names of the columns that outputs and a condition name.
+-- References that are lent, and references to the columns of one table.
 use Rattle.std.specs.Prelude.{◌≡◌, ℕ, List, ◌++◌, map, None}
 use Rattle.std.specs.List.{flat_map}
 use Rattle.std.specs.Borrow.{Bor}
@@ -8,23 +8,11 @@ use Rattle.prima_base.specs.Columns.{Column}
 use Rattle.cond_expr.specs.declared.exprs.ColRef.{ColRef}
 use Rattle.cond_expr.specs.Trees.{Tree, Test}
 use Rattle.cond_expr.specs.Faults.{references, test_references, first_unknown}
-use Rattle.smo_ops.specs.OneRow.{own_kinds}
+use Rattle.smo_meaning.specs.OneRow.{own_kinds}
 
 -- the references that are lent
 abbrev pub lent : List (Bor ColRef) → List ColRef
 lent references = map (λ (r : Bor ColRef). r.now) references
-
--- the references of outputs, and then of a condition, in written order
-abbrev pub all_references : List Tree → Test → List ColRef
-all_references outs cond = flat_map references outs ++ test_references cond
-
--- the name of each reference
-abbrev pub written_names : List ColRef → List (List ℕ)
-written_names references = map (λ (r : ColRef). r.name) references
-
--- the names, ascending, each once
-abbrev pub names_in : List ColRef → List (List ℕ)
-names_in references = set_of bytes_cmp (written_names references)
 
 -- each reference is to a column of the table, as atom 0
 abbrev pub AreKnown : List Column → List ColRef → Type 0

@@ -13,10 +13,6 @@ mod names;
 mod references;
 mod row_parts;
 mod stretches;
-#[cfg(test)]
-mod test_tables;
-#[cfg(test)]
-mod tests;
 
 pub use branches::run_branch;
 pub use laws::reads_depend_on_the_columns_named;

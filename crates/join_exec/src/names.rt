@@ -4,7 +4,8 @@ ghost use Rattle.std.specs.Prelude.{◌≡◌, map, IfOk};
 ghost use Rattle.relations.specs.Sets.{set_of};
 ghost use Rattle.prima_base.specs.Order.{bytes_cmp};
 ghost use Rattle.cond_expr.specs.Seen.{tree, test};
-ghost use Rattle.join_exec.specs.Naming.{lent, written_names, all_references, names_in};
+ghost use Rattle.plain_answers.specs.Naming.{all_references, written_names, names_in};
+ghost use Rattle.join_exec.specs.Naming.{lent};
 
 use crate::references::gather_references;
 use cond_expr::{ColRef, Cond, Expr};

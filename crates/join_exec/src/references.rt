@@ -4,7 +4,8 @@ ghost use Rattle.std.specs.Prelude.{◌≡◌, ◌++◌, OnOk, map};
 ghost use Rattle.std.specs.List.{flat_map};
 ghost use Rattle.cond_expr.specs.Seen.{tree, test, trees_of, tests_of};
 ghost use Rattle.cond_expr.specs.Faults.{references, trees_references, test_references, tests_references};
-ghost use Rattle.join_exec.specs.Naming.{lent, all_references};
+ghost use Rattle.plain_answers.specs.Naming.{all_references};
+ghost use Rattle.join_exec.specs.Naming.{lent};
 
 use cond_expr::{ColRef, Cond, Expr};
 use prima_base::NoMemory;

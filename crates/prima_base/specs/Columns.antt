@@ -1,5 +1,5 @@
 -- Lawful values, the columns of a table, and the relations that fit them.
-use Rattle.std.specs.Prelude.{◌≡◌, ℕ, Bool, true, false, List, [], ◌∷◌, ⊤}
+use Rattle.std.specs.Prelude.{◌≡◌, ℕ, ◌^◌, ◌-◌, pos, neg_ℤ, ◌≤ℤ◌, Bool, true, false, List, [], ◌∷◌}
 use Rattle.relations.specs.Sets.{In, Ascends}
 use Rattle.prima_base.specs.Bytes.{IsTxt}
 use Rattle.prima_base.specs.Order.{row_cmp, bytes_cmp}
@@ -12,9 +12,9 @@ use Rattle.prima_base.specs.declared.values.ColType.TheVariants.{Int as IntType,
 abbrev pub Column : Type 0
 Column = List ℕ × ColType
 
--- an INT, or a TEXT of at most 4,096 bytes and no control byte
+-- an INT from -2^63 to 2^63 - 1, or a TEXT of at most 4,096 bytes and no control byte
 abbrev pub IsLawful : Value → Type 0
-IsLawful (Int n) = ⊤
+IsLawful (Int n) = (neg_ℤ (pos (2 ^ 63)) ≤ℤ n) × (n ≤ℤ pos (2 ^ 63 - 1))
 IsLawful (Text t) = IsTxt t
 
 -- the value is of the column's type

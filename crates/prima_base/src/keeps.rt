@@ -1,7 +1,7 @@
 /// A condition of KEEP on the period of an answer's entry, which is cut to the slice of the query. Of two bounds
 /// the first is the least moment or length that is kept, and the second the first that is not; a second bound of
 /// `FOREVER` sets no upper limit.
-#[derive(Clone, Copy, Debug, PartialEq, Eq)]
+#[derive(Clone, Copy, PartialEq, Eq)]
 pub enum Keep {
     /// The start lies between the bounds.
     Starting(u64, u64),

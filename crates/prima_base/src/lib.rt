@@ -25,6 +25,3 @@ pub use rows::{Row, rows_are_told_apart};
 pub use texts::{Txt, TxtFault};
 pub use timed_rows::TimedRow;
 pub use values::{ColType, Val, Value};
-
-#[cfg(test)]
-mod tests;

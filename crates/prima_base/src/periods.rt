@@ -7,7 +7,7 @@ use std::marker::Model;
 pub const FOREVER: u64 = u64::MAX;
 
 /// The moments from `start` up to, and not at, `end`. There is at least one.
-#[derive(Clone, Copy, Debug, PartialEq, Eq)]
+#[derive(Clone, Copy, PartialEq, Eq)]
 pub struct Period {
     start: u64,
     end: u64,

@@ -1,7 +1,7 @@
 use crate::Name;
 
 /// The kinds of schema modification operators (PRISM 2008), and NOP, which changes no table.
-#[derive(Clone, Copy, Debug, PartialEq, Eq)]
+#[derive(Clone, Copy, PartialEq, Eq)]
 pub enum OpKind {
     Nop,
     CreateTable,
@@ -18,7 +18,7 @@ pub enum OpKind {
 }
 
 /// What there can be too many of.
-#[derive(Clone, Copy, Debug, PartialEq, Eq)]
+#[derive(Clone, Copy, PartialEq, Eq)]
 pub enum What {
     /// Nodes of an expression or a condition.
     Nodes,

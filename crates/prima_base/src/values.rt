@@ -2,7 +2,7 @@ use crate::{NoMemory, Txt};
 use std::cmp::Ordering;
 
 /// The type of a column.
-#[derive(Clone, Copy, Debug, PartialEq, Eq)]
+#[derive(Clone, Copy, PartialEq, Eq)]
 pub enum ColType {
     Int,
     Text,

@@ -15,6 +15,3 @@ pub use prima_base::Failed;
 pub use sure::{SureSink, SureSource};
 pub use traits::{Sink, Source};
 pub use writing::put_all;
-
-#[cfg(test)]
-mod tests;

@@ -3,10 +3,12 @@
 //! Nothing runs here. Each function states a law, for the order of any type; `specs/` has the definitions.
 #![tactic(auto)]
 
+mod choices;
 mod listings;
 mod moments;
 mod sets;
 
+pub use choices::choices_are_all;
 pub use listings::{at_most_one_listing, timeline_is_listed};
 pub use moments::{common_moments_are_in_both, held_at_its_moments};
 pub use sets::{same_members_same_relation, set_is_the_relation};

@@ -9,8 +9,6 @@ mod laws;
 mod places;
 mod schemas;
 mod tables;
-#[cfg(test)]
-mod tests;
 
 pub use differences::{SameFault, same};
 pub use laws::{database_with_table, empty_database, row_is_its_cells};

@@ -7,10 +7,10 @@ use Rattle.prima_base.specs.Columns.{Column}
 use Rattle.prima_base.specs.declared.values.Value.{Value}
 use Rattle.prima_base.specs.declared.refusals.Refusal.{Refusal}
 use Rattle.schema_catalog.specs.Tables.{Tables}
-use Rattle.smo_ops.specs.Commands.{PlainBody, changing, evolving, PlainVersion}
-use Rattle.smo_ops.specs.Checks.{Fault}
-use Rattle.smo_ops.specs.Past.{Past, past_with, tables_of}
-use Rattle.smo_ops.specs.Accepts.{command_fault}
+use Rattle.smo_types.specs.Commands.{PlainBody, changing, evolving, PlainVersion}
+use Rattle.smo_meaning.specs.Checks.{Fault}
+use Rattle.smo_meaning.specs.Past.{Past, past_with, tables_of}
+use Rattle.smo_meaning.specs.Accepts.{command_fault}
 use Rattle.temporal_lang.specs.Accepted.{version_fault}
 use Rattle.script_parse.specs.Statements.{PlainStatement, write, ask, show_versions, show_schema}
 use Rattle.script_parse.specs.Reading.{Reading, Blank, Refused, Whole, reading}

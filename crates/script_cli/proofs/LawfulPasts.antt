@@ -4,12 +4,12 @@ use Rattle.std.specs.Prelude.{Some, None}
 use Rattle.relations.specs.Spans.{Span, forever}
 use Rattle.relations.specs.Listing.{IsListing}
 use Rattle.prima_base.specs.Order.{row_cmp}
-use Rattle.smo_ops.specs.Commands.{PlainBody, changing, evolving, PlainCommand}
-use Rattle.smo_ops.specs.Checks.{Fault}
-use Rattle.smo_ops.specs.Accepts.{command_fault}
-use Rattle.smo_ops.specs.LawfulPast.{last_or_nought, IsPast}
-use Rattle.smo_ops.specs.Past.{Past, beginning, past_behind, past_with, tables_of}
-use Rattle.smo_ops.proofs.PastSteps.{beginning_is_past, stays_lawful, stamp_accepted, body_accepted}
+use Rattle.smo_types.specs.Commands.{PlainBody, changing, evolving, PlainCommand}
+use Rattle.smo_meaning.specs.Checks.{Fault}
+use Rattle.smo_meaning.specs.Accepts.{command_fault}
+use Rattle.smo_meaning.specs.LawfulPast.{last_or_nought, IsPast}
+use Rattle.smo_meaning.specs.Past.{Past, beginning, past_behind, past_with, tables_of}
+use Rattle.smo_meaning.proofs.PastSteps.{beginning_is_past, stays_lawful, stamp_accepted, counts_accepted, body_accepted}
 use Rattle.temporal_lang.specs.Accepted.{version_fault}
 use Rattle.temporal_lang.specs.Queries.{PlainQuery}
 use Rattle.script_parse.specs.Script.{Piece, Whole as Text, Skipped}
@@ -37,7 +37,7 @@ last_is past stamp (evolving op inverse) = refl
 command_keeps : (past : Past) (command : PlainCommand) → IsOfScript past → command.stamp < forever → (fault : Fault) → command_fault past command ≡ fault
     → IsOfScript (refused_or fault past (accepted (command_text command past (past_with past command)) (past_with past command))).past
 command_keeps past command h written None e = record {
-  made = stays_lawful past command.stamp command.body h.made (stamp_accepted past command e) (body_accepted past command e);
+  made = stays_lawful past command.stamp command.body h.made (stamp_accepted past command e) (counts_accepted past command e) (body_accepted past command e);
   ends = subst (λ n. n < forever) (sym (last_is past command.stamp command.body)) written;
 }
 command_keeps past command h written (Some r) e = h

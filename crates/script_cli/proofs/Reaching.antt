@@ -8,7 +8,7 @@ use Rattle.prima_io.specs.Moves.{AppendsFront}
 use Rattle.prima_io.proofs.Fronts.{after, longer, whole}
 use Rattle.script_parse.specs.Script.{pieces_from, tail_from, tail_of, ending}
 use Rattle.script_parse.specs.Splitting.{fresh}
-use Rattle.smo_ops.specs.Past.{Past, beginning}
+use Rattle.smo_meaning.specs.Past.{Past, beginning}
 use Rattle.archive_core.specs.Standing.{ShowsPast}
 use Rattle.script_cli.specs.Output.{output, replies, past_after, any_error, pieces_of, ending_of, past_of, replies_of, has_error, tail_text, tail_is_due}
 use Rattle.script_cli.specs.declared.sessions.Session.{Session}

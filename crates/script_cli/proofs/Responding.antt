@@ -5,10 +5,10 @@ use Rattle.std.specs.Io.KnownBytes.{Appends}
 use Rattle.std.proofs.KnownBytes.{Appends-nil}
 use Rattle.prima_io.specs.Moves.{AppendsFront}
 use Rattle.prima_base.specs.declared.refusals.Refusal.{Refusal}
-use Rattle.smo_ops.specs.Checks.{Fault}
-use Rattle.smo_ops.specs.Past.{Past, past_with}
-use Rattle.smo_ops.specs.Commands.{PlainBody, changing, evolving, PlainCommand}
-use Rattle.smo_ops.specs.Accepts.{command_fault}
+use Rattle.smo_meaning.specs.Checks.{Fault}
+use Rattle.smo_meaning.specs.Past.{Past, past_with}
+use Rattle.smo_types.specs.Commands.{PlainBody, changing, evolving, PlainCommand}
+use Rattle.smo_meaning.specs.Accepts.{command_fault}
 use Rattle.version_groups.specs.Steps.{rows_gained, rows_lost}
 use Rattle.archive_core.specs.declared.archives.Done.{Done}
 use Rattle.archive_core.specs.Standing.{Standing, ShowsPast}

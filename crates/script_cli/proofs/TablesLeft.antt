@@ -6,7 +6,7 @@ use Rattle.std.proofs.lemmas.List.{drop_more, drop_all}
 use Rattle.std.proofs.lemmas.Option.{slice_get_past, get_or_from_slice_get}
 use Rattle.prima_base.specs.Columns.{Column}
 use Rattle.schema_catalog.specs.Tables.{Tables}
-use Rattle.version_groups.proofs.PastMoments.{before_or_not}
+use Rattle.smo_meaning.proofs.PastMoments.{before_or_not}
 use Rattle.script_cli.specs.Texts.{table_text, tables_text, count_text, schema_text}
 
 abbrev Entry : Type 0

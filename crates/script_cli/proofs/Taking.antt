@@ -10,7 +10,7 @@ use Rattle.script_parse.specs.Splitting.{found, IsSettled, State}
 use Rattle.script_parse.specs.declared.splitter.Cut.{Cut}
 use Rattle.script_parse.specs.declared.splitter.Cut.TheVariants.{More}
 use Rattle.script_cli.specs.declared.sessions.Session.{Session}
-use Rattle.smo_ops.specs.Past.{Past}
+use Rattle.smo_meaning.specs.Past.{Past}
 use Rattle.archive_core.specs.Standing.{ShowsPast}
 use Rattle.script_cli.specs.Output.{piece_reply, replies, past_after, any_error}
 use Rattle.script_cli.specs.Shows.{Took, pieces_behind, ending_behind}

@@ -3,11 +3,11 @@ use Rattle.std.proofs.Common.{◌≡◌, ◌<◌, ◌≤◌, ℕ, Bool, true, fa
 use Rattle.std.specs.Prelude.{Some, None, nat_le, pos, negsuc}
 use Rattle.std.proofs.lemmas.Bool.Decides.{nat_tests}
 use Rattle.relations.specs.Spans.{forever}
-use Rattle.lexer.specs.Lexemes.{Lexeme}
-use Rattle.lexer.specs.Lexemes as lexeme
-use Rattle.lexer.specs.Parsing.{Size}
-use Rattle.lexer.specs.Constants.{as_natural, momentG}
-use Rattle.temporal_lang.specs.Branches.{PlainBranch}
+use Rattle.lexical_grammar.specs.Lexemes.{Lexeme}
+use Rattle.lexical_grammar.specs.Lexemes as lexeme
+use Rattle.parser_combinators.specs.Parsing.{Size}
+use Rattle.expr_grammar.specs.Constants.{as_natural, momentG}
+use Rattle.plain_answers.specs.Branches.{PlainBranch}
 use Rattle.temporal_lang.specs.Queries.{PlainQuery}
 use Rattle.temporal_lang.specs.QueryGrammar.{IsAsk}
 use Rattle.script_parse.specs.Statements.{PlainStatement, statement_of}

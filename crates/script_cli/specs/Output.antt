@@ -7,11 +7,11 @@ use Rattle.script_parse.specs.Script.{Piece, Whole as Text, Skipped, pieces_from
 use Rattle.script_parse.specs.declared.modes.Mode.TheVariants.{Plain}
 use Rattle.script_parse.specs.declared.splitter.Tail.{Tail}
 use Rattle.script_parse.specs.declared.splitter.Tail.TheVariants as tail
-use Rattle.smo_ops.specs.Commands.{PlainBody, changing, evolving, PlainCommand}
-use Rattle.smo_ops.specs.Checks.{Fault}
-use Rattle.smo_ops.specs.Effects.{gained, lost}
-use Rattle.smo_ops.specs.Past.{Past, beginning, newest_database, database_behind, past_with, tables_of}
-use Rattle.smo_ops.specs.Accepts.{command_fault}
+use Rattle.smo_types.specs.Commands.{PlainBody, changing, evolving, PlainCommand}
+use Rattle.smo_meaning.specs.Checks.{Fault}
+use Rattle.smo_meaning.specs.Effects.{gained, lost}
+use Rattle.smo_meaning.specs.Past.{Past, beginning, newest_database, database_behind, past_with, tables_of}
+use Rattle.smo_meaning.specs.Accepts.{command_fault}
 use Rattle.temporal_lang.specs.Queries.{PlainQuery}
 use Rattle.temporal_lang.specs.Accepted.{version_fault}
 use Rattle.script_parse.specs.Statements.{PlainStatement, write, ask, show_versions, show_schema}

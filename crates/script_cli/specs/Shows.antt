@@ -8,7 +8,7 @@ use Rattle.archive_core.specs.Standing.{Standing, ShowsPast}
 use Rattle.script_cli.specs.declared.sessions.Session.{Session}
 use Rattle.script_cli.specs.declared.stops.Stop.{Stop}
 use Rattle.script_cli.specs.declared.stops.Stop.TheVariants.{WriteFault}
-use Rattle.smo_ops.specs.Past.{Past}
+use Rattle.smo_meaning.specs.Past.{Past}
 use Rattle.script_cli.specs.Output.{Reply, replies, past_after, any_error}
 use Rattle.script_parse.specs.declared.splitter.Tail.{Tail}
 

@@ -7,8 +7,8 @@ use Rattle.prima_base.specs.declared.periods.TheConstants.{FOREVER}
 use Rattle.prima_base.specs.declared.values.Value.{Value}
 use Rattle.prima_base.specs.Columns.{Column}
 use Rattle.schema_catalog.specs.Tables.{Tables}
-use Rattle.smo_ops.specs.Operators.{Operator}
-use Rattle.smo_ops.specs.Commands.{PlainVersion}
+use Rattle.smo_types.specs.Operators.{Operator}
+use Rattle.smo_types.specs.Commands.{PlainVersion}
 use Rattle.archive_core.specs.declared.archives.Done.{Done}
 use Rattle.smo_parse.specs.TreeTexts.{value_text}
 use Rattle.smo_parse.specs.Texts.{listed, column_text, operator_text}

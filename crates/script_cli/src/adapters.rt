@@ -7,14 +7,14 @@ use std::io::{Read, Write};
 
 /// A source over a reader. Each error of the reader counts as a fault.
 #[derive(Drop)]
-pub(crate) struct ReaderSource<R: Read + Drop> {
+pub struct ReaderSource<R: Read + Drop> {
     reader: R,
     faults: u64,
 }
 
 impl<R: Read + Drop> ReaderSource<R> {
     /// A source that has not failed.
-    pub(crate) fn new(reader: R) -> ReaderSource<R> {
+    pub fn new(reader: R) -> ReaderSource<R> {
         ReaderSource { reader, faults: 0 }
     }
 }
@@ -38,14 +38,14 @@ impl<R: Read + Drop> Source for ReaderSource<R> {
 /// A sink over a writer. Each error of the writer counts as a fault, and so does a writer that takes
 /// nothing of a piece that is not empty.
 #[derive(Drop)]
-pub(crate) struct WriterSink<W: Write + Drop> {
+pub struct WriterSink<W: Write + Drop> {
     writer: W,
     faults: u64,
 }
 
 impl<W: Write + Drop> WriterSink<W> {
     /// A sink that has not failed.
-    pub(crate) fn new(writer: W) -> WriterSink<W> {
+    pub fn new(writer: W) -> WriterSink<W> {
         WriterSink { writer, faults: 0 }
     }
 }

@@ -6,8 +6,8 @@ ghost use Rattle.std.specs.Prelude.{◌≡◌, ◌<◌, ◌≤◌, ◌^◌, leng
 ghost use Rattle.std.specs.Io.KnownBytes.{Appends};
 ghost use Rattle.prima_base.specs.Timed.{entries_of};
 ghost use Rattle.prima_io.specs.Moves.{AppendsFront};
-ghost use Rattle.smo_ops.specs.Commands.{command_of};
-ghost use Rattle.smo_ops.specs.Past.{Past};
+ghost use Rattle.smo_types.specs.Commands.{command_of};
+ghost use Rattle.smo_meaning.specs.Past.{Past};
 ghost use Rattle.temporal_lang.specs.Queries.{query_of};
 ghost use Rattle.script_parse.specs.Statements.{statement_of};
 ghost use Rattle.archive_core.specs.Standing.{ShowsPast};

@@ -7,13 +7,14 @@ ghost use Rattle.prima_io.specs.Moves.{AppendsFront, AppendsLess};
 ghost use Rattle.relations.specs.Spans.{Span};
 ghost use Rattle.relations.specs.Listing.{IsListing};
 ghost use Rattle.prima_base.specs.Order.{row_cmp};
-ghost use Rattle.smo_ops.specs.Accepts.{command_fault};
-ghost use Rattle.smo_ops.specs.Commands.{PlainCommand};
-ghost use Rattle.smo_ops.specs.Past.{Past, beginning, database_at, database_behind, past_with};
+ghost use Rattle.smo_meaning.specs.Accepts.{command_fault};
+ghost use Rattle.smo_types.specs.Commands.{PlainCommand};
+ghost use Rattle.smo_meaning.specs.Past.{Past, beginning, database_at, database_behind, past_with};
 ghost use Rattle.temporal_lang.specs.Queries.{PlainQuery};
 ghost use Rattle.archive_core.specs.Asking.{query_fault, own_slice, own_asked, own_answer};
 ghost use Rattle.script_parse.specs.Script.{Piece, statements_of, tail_of};
-ghost use Rattle.script_parse.specs.Joining.{joined, IsStatement, IsTail, Each};
+ghost use Rattle.script_parse.specs.Joining.{Each};
+ghost use Rattle.script_laws.specs.Parts.{IsOpenFault, IsScript};
 ghost use Rattle.script_cli.specs.Output.{output, past_after, reply, is_error_line};
 ghost use Rattle.script_cli.specs.Texts.{wrong_words_text};
 ghost use Rattle.script_parse.specs.Lexing.{TextsAreLexed};
@@ -25,9 +26,10 @@ use crate::replies::put_wrong_words;
 use crate::sessions::Session;
 use crate::stops::Stop;
 use prima_io::{Failed, Sink, Source};
+use script_laws::{a_script_is_read_in_one_way, a_statement_has_no_open_text};
 use script_parse::{
-    limits_are_kept, readings_are_of_the_grammar, readings_are_one, script_is_its_statements,
-    statements_are_read, texts_are_lexed,
+    limits_are_kept, readings_are_of_the_grammar, readings_are_one, statements_are_read,
+    texts_are_lexed,
 };
 use smo_ops::a_command_is_seen_from_its_stamp_on;
 use std::alloc::Global;
@@ -36,7 +38,7 @@ use std::alloc::Global;
 pub type Word = String;
 
 /// How a run ended.
-#[derive(Clone, Copy, Debug, PartialEq, Eq)]
+#[derive(Clone, Copy, PartialEq, Eq)]
 pub enum Status {
     /// The script was read to its end, and no `error` line was due.
     Done,
@@ -175,7 +177,9 @@ fn refuse_words<K: Sink>(sink: &mut K) -> Status
 ///
 /// `output` is defined over the script's bytes alone, however they are cut: the replies to its
 /// statements in order, then the line for what stands behind the last `;`. Laws say what it is made of:
-/// - `splits`: the statements and the tail are the script, cut at each `;`;
+/// - `splits` and `once`: the statements and the tail are the one reading of the script, cut at each `;` that
+///   stands in no text and no comment;
+/// - `closed`: no statement has a text that does not end;
 /// - `lexes`: what the tokens of a text are;
 /// - `reads`: a statement is read as the grammar has it, and another text is refused at the first byte
 ///   or token from which no statement goes on, or for what is too much;
@@ -235,14 +239,22 @@ pub fn run<S: Source, K: Sink>(
         command_fault past command ≡ None
         → (m < command.stamp → database_at (past_with past command) m ≡ database_at past m) × (command.stamp ≤ m → database_at (past_with past command) m ≡ database_behind command.body past) }
 
-    // The statements of a script are what stands between its `;`s, and the tail is what stands behind them.
-    ensures splits { (script : List ℕ) → (joined (statements_of script) (tail_of script) ≡ script)
-        × Each IsStatement (statements_of script) × IsTail (tail_of script) }
+    // A script is its statements, each of whole texts, comments and other bytes and with a `;` behind it, and the tail.
+    ensures splits { (script : List ℕ) → IsScript script (statements_of script) (tail_of script) }
+
+    // It is no others.
+    ensures once { (script : List ℕ) → (statements : List (List ℕ)) → (tail : List ℕ) → IsScript script statements tail
+        → (statements ≡ statements_of script) × (tail ≡ tail_of script) }
+
+    // In no statement of a script does the lexer find a text that does not end.
+    ensures closed { (script : List ℕ) → (statements : List (List ℕ)) → (tail : List ℕ) → IsScript script statements tail
+        → Each (λ s. IsOpenFault s → ⊥) statements }
 
     // A reply counts as an error exactly where its line begins with `error `.
     ensures errors { (past : Past) → (text : List ℕ) → (reply past text).is_error ≡ is_error_line (reply past text).text }
 {
-    script_is_its_statements();
+    a_script_is_read_in_one_way();
+    a_statement_has_no_open_text();
     texts_are_lexed();
     readings_are_of_the_grammar();
     statements_are_read();

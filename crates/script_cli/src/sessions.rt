@@ -6,7 +6,7 @@ ghost use Rattle.prima_io.specs.Moves.{AppendsFront};
 ghost use Rattle.prima_base.specs.declared.refusals.Refusal.TheVariants as refusal;
 ghost use Rattle.script_parse.specs.Splitting.{fresh};
 ghost use Rattle.script_cli.specs.RefusalTexts.{refusal_text};
-ghost use Rattle.smo_ops.specs.Past.{Past, beginning};
+ghost use Rattle.smo_meaning.specs.Past.{Past, beginning};
 ghost use Rattle.archive_core.specs.Standing.{ShowsPast};
 ghost use Rattle.script_cli.specs.Output.{reply, replies, refused, tail_text, tail_is_due};
 ghost use Rattle.script_cli.specs.Shows.{HasStopCause, Took, Answered, pieces_behind, ending_behind};

@@ -3,8 +3,8 @@
 ghost use Rattle.std.specs.Prelude.{◌≡◌, ◌++◌, ◌+◌, ◌<◌, ◌^◌, length, map, IfOk, OnOk, OnErr};
 ghost use Rattle.std.specs.Io.KnownBytes.{Appends};
 ghost use Rattle.prima_io.specs.Moves.{AppendsFront};
-ghost use Rattle.smo_ops.specs.Operators.{operator_of, operators_of};
-ghost use Rattle.smo_ops.specs.Commands.{version_of};
+ghost use Rattle.smo_types.specs.Operators.{operator_of, operators_of};
+ghost use Rattle.smo_types.specs.Commands.{version_of};
 ghost use Rattle.smo_parse.specs.Texts.{operator_text};
 ghost use Rattle.script_cli.specs.Shows.{HasStopCause};
 ghost use Rattle.script_cli.specs.Texts.{more_operators, inverse_text, version_head, first_version_text, version_text, next_stamp, version_texts, versions_text};

@@ -1,9 +1,9 @@
 -- What is given as the reading of a text has what its reading has.
 use Rattle.std.proofs.Common.{◌≡◌, ℕ, List, ◌∷◌, ◌++◌, length, Option, Some, None, Result, Ok, Err, sym, subst}
 use Rattle.prima_base.specs.declared.refusals.What.{What}
-use Rattle.lexer.specs.Lexemes.{Lexeme}
-use Rattle.lexer.specs.Parsing.{Size}
-use Rattle.lexer.specs.Passes.{IsFirstPass}
+use Rattle.lexical_grammar.specs.Lexemes.{Lexeme}
+use Rattle.parser_combinators.specs.Parsing.{Size}
+use Rattle.parser_combinators.specs.Passes.{IsFirstPass}
 use Rattle.script_parse.specs.declared.statements.ReadFault.{ReadFault}
 use Rattle.script_parse.specs.declared.statements.ReadFault.TheVariants.{NoMemory, Syntax, TooMany}
 use Rattle.script_parse.specs.declared.statements.Statement.{Statement}

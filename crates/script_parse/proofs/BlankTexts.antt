@@ -1,12 +1,12 @@
 -- A text without a token is blanks and comments alone.
 use Rattle.std.proofs.Common.{◌≡◌, ℕ, zero, suc, ◌+◌, Bool, true, false, not, cond, ◌||◌, ◌==◌, List, [], ◌∷◌, ◌++◌, length, drop, None, refl, sym, ap, ◌∙◌, subst, append-nil, arith, length-append}
-use Rattle.lexer.specs.declared.pieces.Piece.{Piece}
-use Rattle.lexer.specs.declared.pieces.Piece.TheVariants.{End, Of, Bad, Open, Long, Big}
-use Rattle.lexer.specs.Bytes.{gap_len, gap_dash, piece}
-use Rattle.lexer.specs.Bytes as lexer
-use Rattle.lexer.specs.Lexed.{Lexes, EndsBy, behind_gap}
-use Rattle.lexer.specs.Spaced.{Each, in_line, IsGap, no_gap, a_blank, a_comment, last_comment}
-use Rattle.lexer.proofs.Shapes.{spaced}
+use Rattle.lexical_grammar.specs.declared.pieces.Piece.{Piece}
+use Rattle.lexical_grammar.specs.declared.pieces.Piece.TheVariants.{End, Of, Bad, Open, Long, Big}
+use Rattle.lexical_grammar.specs.Bytes.{gap_len, gap_dash, piece}
+use Rattle.lexical_grammar.specs.Bytes as lexer
+use Rattle.lexical_grammar.specs.Lexed.{Lexes, EndsBy, behind_gap}
+use Rattle.lexical_grammar.specs.Spaced.{Each, in_line, IsGap, no_gap, a_blank, a_comment, last_comment}
+use Rattle.lexical_grammar.proofs.Shapes.{spaced}
 use Rattle.script_parse.specs.Script.{is_blank}
 use Rattle.script_parse.specs.Pads.{has_line_end, ArePads, none, blank, comment, last}
 use Rattle.script_parse.specs.Lexing.{Placed, Lexed, Tokens, Faulty, behind_token, by_piece, lexed_from, lexed}

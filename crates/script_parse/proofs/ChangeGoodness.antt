@@ -2,17 +2,17 @@
 use Rattle.std.proofs.Common.{◌≡◌, ℕ, zero, suc, ◌+◌, Bool, false, cond, ◌||◌, List, [], ◌∷◌, ◌++◌, zip, length, inl, inr, refl, sym, ap, ◌∙◌, subst, codes, arith}
 use Rattle.prima_base.specs.declared.values.Value.{Value}
 use Rattle.cond_expr.specs.Trees.{Test, always}
-use Rattle.smo_ops.specs.Changes.{PlainChange, insertion, deletion, update}
-use Rattle.lexer.specs.Lexemes.{Lexeme, word, sign, is_word, is_sign}
-use Rattle.lexer.specs.Parsing.{Size, Parser, Good, Stops, No, Takes, no_end, AreMore, bind, bindG, pure, pureG, lead, leadG, map_to, mapG, fresh, freshG, eitherG, listG}
-use Rattle.lexer.specs.Grammar.{IsExpr, IsCond}
-use Rattle.lexer.specs.Reader.{outermost, goes_expr, goes_cond}
-use Rattle.lexer.specs.Constants.{name, nameG, names, namesG, constant, constantG}
-use Rattle.lexer.proofs.Parsing.{good_iff, good_goes, bind_good, bind_lead, lead_good, map_good, pure_good, choose_good, option_takes_good}
-use Rattle.lexer.proofs.Grammar.{word_is, word_exact, sign_is, sign_exact}
-use Rattle.lexer.proofs.Singles.{name_good, names_good, constant_good}
-use Rattle.lexer.proofs.Goodness.{fresh_expr_good, fresh_cond_good}
-use Rattle.lexer.proofs.Alternatives.{stops_never, or_left, or_right, stops_fewer, NotFirst, NotNone, lead_not_none, lead_not_first, either_not_none, either_not_first, list_good, last_arm, first_arm}
+use Rattle.smo_types.specs.Changes.{PlainChange, insertion, deletion, update}
+use Rattle.lexical_grammar.specs.Lexemes.{Lexeme, word, sign, is_word, is_sign}
+use Rattle.parser_combinators.specs.Parsing.{Size, Parser, Good, Stops, No, Takes, no_end, AreMore, bind, bindG, pure, pureG, lead, leadG, map_to, mapG, fresh, freshG, eitherG, listG}
+use Rattle.expr_grammar.specs.Grammar.{IsExpr, IsCond}
+use Rattle.expr_grammar.specs.Reader.{outermost, goes_expr, goes_cond}
+use Rattle.expr_grammar.specs.Constants.{name, nameG, names, namesG, constant, constantG}
+use Rattle.parser_combinators.proofs.Parsing.{good_iff, good_goes, bind_good, bind_lead, lead_good, map_good, pure_good, choose_good, option_takes_good}
+use Rattle.lexical_grammar.proofs.LexemeTests.{word_is, word_exact, sign_is, sign_exact}
+use Rattle.expr_grammar.proofs.Singles.{name_good, names_good, constant_good}
+use Rattle.expr_grammar.proofs.Goodness.{fresh_expr_good, fresh_cond_good}
+use Rattle.parser_combinators.proofs.Alternatives.{stops_never, or_left, or_right, stops_fewer, NotFirst, NotNone, lead_not_none, lead_not_first, either_not_none, either_not_first, list_good, last_arm, first_arm}
 use Rattle.script_parse.specs.Productions.{IsWhere, AreSoMany, IsRow, IsInsert, IsDelete, IsSetting, IsUpdate, IsChange}
 use Rattle.script_parse.specs.StatementReader.{where_part, more_constants, constants, row, insert_rest, delete_rest, setting, settings, update_rest, change_arm, change, changes, goes_where, goes_settings, goes_change, goes_changes}
 

@@ -1,14 +1,14 @@
 -- The turns of a loop that reads so many more constants: o is the whole list's outcome.
 use Rattle.std.proofs.Common.{◌≡◌, ℕ, zero, suc, ◌-◌, ◌<◌, true, false, List, [], ◌∷◌, ◌++◌, drop, ap, ◌∙◌, append-nil, arith, codes, refl}
 use Rattle.prima_base.specs.declared.values.Value.{Value}
-use Rattle.lexer.specs.Lexemes.{Lexeme, is_sign}
-use Rattle.lexer.specs.Parsing.{Out, Got, Stuck, and_then, bind, map_to, prepend}
-use Rattle.lexer.specs.Constants.{constant}
-use Rattle.lexer.specs.Reads.{sees, Fails}
-use Rattle.lexer.specs.declared.reading.Stop.{Stop}
-use Rattle.lexer.specs.declared.reading.Stop.TheVariants as stop
-use Rattle.lexer.specs.declared.reading.Cursor.{Cursor}
-use Rattle.lexer.proofs.ReadSteps.{lead_seen, lead_not, prepend_none, prepend_twice, as_prepend}
+use Rattle.lexical_grammar.specs.Lexemes.{Lexeme, is_sign}
+use Rattle.parser_combinators.specs.Parsing.{Out, Got, Stuck, and_then, bind, map_to, prepend}
+use Rattle.expr_grammar.specs.Constants.{constant}
+use Rattle.parser_combinators.specs.Reads.{sees, Fails}
+use Rattle.parser_combinators.specs.declared.reading.Stop.{Stop}
+use Rattle.parser_combinators.specs.declared.reading.Stop.TheVariants as stop
+use Rattle.parser_combinators.specs.declared.reading.Cursor.{Cursor}
+use Rattle.parser_combinators.proofs.ReadSteps.{lead_seen, lead_not, prepend_none, prepend_twice, as_prepend}
 use Rattle.script_parse.specs.StatementReader.{more_constants}
 
 step : (k n : ℕ) (ts : List Lexeme) → 0 < k → sees (is_sign (codes ",")) ts ≡ true → more_constants k n ts ≡ and_then (constant n (drop 1 ts)) (λ v. map_to (λ l. v ∷ l) (more_constants (k - 1)))

@@ -5,11 +5,11 @@ use Rattle.std.proofs.lemmas.Bool.Decides.{nat_tests}
 use Rattle.prima_base.specs.declared.refusals.Refusal.{Refusal}
 use Rattle.prima_base.specs.declared.refusals.Refusal.TheVariants as refusal
 use Rattle.prima_base.specs.declared.refusals.What.{What}
-use Rattle.lexer.specs.Lexemes.{Lexeme}
-use Rattle.lexer.specs.Parsing.{Size, Out, Got, Stuck, Over, CanGoOn, limit}
-use Rattle.lexer.specs.Found.{IsFirst}
-use Rattle.lexer.proofs.Parsing.{by_test}
-use Rattle.lexer.proofs.Passing.{over_at}
+use Rattle.lexical_grammar.specs.Lexemes.{Lexeme}
+use Rattle.parser_combinators.specs.Parsing.{Size, Out, Got, Stuck, Over, CanGoOn, limit}
+use Rattle.parser_combinators.specs.Found.{IsFirst}
+use Rattle.lexical_grammar.proofs.Cases.{by_test}
+use Rattle.parser_combinators.proofs.Passing.{over_at}
 use Rattle.script_parse.specs.Statements.{PlainStatement}
 use Rattle.script_parse.specs.Lexing.{Placed, Lexed, Tokens, Faulty, lexed, saying}
 use Rattle.script_parse.specs.Productions.{IsStatement}

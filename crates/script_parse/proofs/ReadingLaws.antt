@@ -1,10 +1,10 @@
 -- What a text is read as is so by the grammar, and what is a statement is read.
 use Rattle.std.proofs.Common.{◌≡◌, ℕ, zero, suc, ◌-◌, ◌<◌, ◌≤◌, List, [], ◌∷◌, ◌++◌, length, inl, inr, refl, sym, ap, ◌∙◌, subst, append_assoc, arith}
 use Rattle.prima_base.specs.declared.refusals.What.{What}
-use Rattle.lexer.specs.Lexemes.{Lexeme}
-use Rattle.lexer.specs.Parsing.{Size, Out, Got, Stuck, Over, Fine}
-use Rattle.lexer.specs.Found.{IsFirst}
-use Rattle.lexer.proofs.Passing.{over_at, passing_is_over}
+use Rattle.lexical_grammar.specs.Lexemes.{Lexeme}
+use Rattle.parser_combinators.specs.Parsing.{Size, Out, Got, Stuck, Over, Fine}
+use Rattle.parser_combinators.specs.Found.{IsFirst}
+use Rattle.parser_combinators.proofs.Passing.{over_at, passing_is_over}
 use Rattle.script_parse.specs.Statements.{PlainStatement}
 use Rattle.script_parse.specs.Lexing.{Placed, Lexed, Tokens, Faulty, lexed, saying}
 use Rattle.script_parse.specs.Productions.{IsStatement}

@@ -3,25 +3,26 @@ use Rattle.std.proofs.Common.{◌≡◌, ℕ, Bool, true, false, cond, ◌||◌,
 use Rattle.prima_base.specs.declared.refusals.What.TheVariants.{Inverse}
 use Rattle.prima_base.specs.declared.values.Value.{Value}
 use Rattle.cond_expr.specs.Trees.{always}
-use Rattle.smo_ops.specs.Changes.{PlainChange, insertion, deletion, update}
-use Rattle.smo_ops.specs.Commands.{PlainBody, changing, evolving}
-use Rattle.lexer.specs.Lexemes.{Lexeme, word, sign, is_word, is_sign}
-use Rattle.lexer.specs.Parsing.{Size, Got, Stops, AreMore, no_end, so_wide, bindG, leadG, mapG, map_to, more, many, listG, fresh, freshG}
-use Rattle.lexer.specs.Grammar.{IsExpr, IsCond}
-use Rattle.lexer.specs.Reader.{outermost, goes_expr, goes_cond}
-use Rattle.lexer.specs.Reads.{sees}
-use Rattle.lexer.specs.Constants.{as_name, as_moment, as_small, as_constant, name, nameG, namesG, moment, momentG, smallG, constantG}
-use Rattle.lexer.specs.Marks.{expr_marks, cond_marks}
-use Rattle.lexer.specs.Passings.{Passing, none_pass, fresh_pass, lead_pass, map_pass, bind_pass, list_pass, counted_pass}
-use Rattle.lexer.proofs.Parsing.{by_test, side}
-use Rattle.lexer.proofs.Grammar.{word_is, word_exact, sign_is, sign_exact}
-use Rattle.lexer.proofs.Singles.{name_good, moment_good}
-use Rattle.lexer.proofs.Goodness.{outermost_good}
-use Rattle.lexer.proofs.Alternatives.{stops_never, or_left, or_right, list_not_none, list_not_first}
-use Rattle.lexer.proofs.MarkSizes.{expr_length, cond_length}
-use Rattle.lexer.proofs.MarksJoined.{expr_marked, cond_marked}
-use Rattle.lexer.proofs.Passing.{by_passes, Along, along_front}
-use Rattle.lexer.proofs.AlongParts.{GoesAlong, Light, stops_along, lead_goes, behind_goes, map_goes, bind_goes, option_goes, none_light, pure_light, single_light, lead_light, map_light, bind_light, list_light, light_along, light_goes, whole_goes, fresh_goes, list_goes, counted_goes}
+use Rattle.smo_types.specs.Changes.{PlainChange, insertion, deletion, update}
+use Rattle.smo_types.specs.Commands.{PlainBody, changing, evolving}
+use Rattle.lexical_grammar.specs.Lexemes.{Lexeme, word, sign, is_word, is_sign}
+use Rattle.parser_combinators.specs.Parsing.{Size, Got, Stops, AreMore, no_end, so_wide, bindG, leadG, mapG, map_to, more, many, listG, fresh, freshG}
+use Rattle.expr_grammar.specs.Grammar.{IsExpr, IsCond}
+use Rattle.expr_grammar.specs.Reader.{outermost, goes_expr, goes_cond}
+use Rattle.parser_combinators.specs.Reads.{sees}
+use Rattle.expr_grammar.specs.Constants.{as_name, as_moment, as_small, as_constant, name, nameG, namesG, moment, momentG, smallG, constantG}
+use Rattle.expr_grammar.specs.TreeMarks.{expr_marks, cond_marks}
+use Rattle.parser_combinators.specs.Passings.{Passing, none_pass, fresh_pass, lead_pass, map_pass, bind_pass, list_pass, counted_pass}
+use Rattle.lexical_grammar.proofs.Cases.{by_test}
+use Rattle.parser_combinators.proofs.Parsing.{side}
+use Rattle.lexical_grammar.proofs.LexemeTests.{word_is, word_exact, sign_is, sign_exact}
+use Rattle.expr_grammar.proofs.Singles.{name_good, moment_good}
+use Rattle.expr_grammar.proofs.Goodness.{outermost_good}
+use Rattle.parser_combinators.proofs.Alternatives.{stops_never, or_left, or_right, list_not_none, list_not_first}
+use Rattle.expr_grammar.proofs.MarkSizes.{expr_length, cond_length}
+use Rattle.expr_grammar.proofs.MarksJoined.{expr_marked, cond_marked}
+use Rattle.parser_combinators.proofs.Passing.{by_passes, Along, along_front}
+use Rattle.parser_combinators.proofs.AlongParts.{GoesAlong, Light, stops_along, lead_goes, behind_goes, map_goes, bind_goes, option_goes, none_light, pure_light, single_light, lead_light, map_light, bind_light, list_light, light_along, light_goes, whole_goes, fresh_goes, list_goes, counted_goes}
 use Rattle.smo_parse.specs.Productions.{IsOperator}
 use Rattle.smo_parse.specs.OperatorReader.{operator, goes_operator}
 use Rattle.smo_parse.specs.OperatorMarks.{operator_marks}

@@ -1,16 +1,16 @@
 -- The readers of statements are good for their grammars.
 use Rattle.std.proofs.Common.{◌≡◌, ℕ, Bool, false, cond, ◌||◌, List, [], ◌∷◌, ◌++◌, inl, inr, refl, sym, ap, ◌∙◌, subst, codes}
 use Rattle.prima_base.specs.declared.refusals.What.TheVariants.{Inverse}
-use Rattle.smo_ops.specs.Operators.{Operator}
-use Rattle.smo_ops.specs.Commands.{PlainBody, changing, evolving}
-use Rattle.lexer.specs.Lexemes.{Lexeme, word, is_word}
-use Rattle.lexer.specs.Parsing.{Size, Good, Stops, No, Takes, Whole, AreMore, so_wide, bind, bindG, pure, pureG, leadG, map_to, mapG, more, eitherG, listG}
-use Rattle.lexer.specs.Constants.{moment, momentG, small, smallG}
-use Rattle.lexer.proofs.Parsing.{good_iff, good_goes, bind_good, map_good, pure_good, choose_good, option_takes_good, whole_good, more_good, bind_more}
-use Rattle.lexer.proofs.Grammar.{word_is, word_exact}
-use Rattle.lexer.proofs.Singles.{moment_good, small_good}
-use Rattle.lexer.proofs.Fresh.{fresh_good}
-use Rattle.lexer.proofs.Alternatives.{or_left, or_right, stops_fewer, NotNone, lead_not_none, lead_not_first, either_not_none, either_not_first, list_not_none, list_not_first, last_arm, first_arm}
+use Rattle.smo_types.specs.Operators.{Operator}
+use Rattle.smo_types.specs.Commands.{PlainBody, changing, evolving}
+use Rattle.lexical_grammar.specs.Lexemes.{Lexeme, word, is_word}
+use Rattle.parser_combinators.specs.Parsing.{Size, Good, Stops, No, Takes, Whole, AreMore, so_wide, bind, bindG, pure, pureG, leadG, map_to, mapG, more, eitherG, listG}
+use Rattle.expr_grammar.specs.Constants.{moment, momentG, small, smallG}
+use Rattle.parser_combinators.proofs.Parsing.{good_iff, good_goes, bind_good, map_good, pure_good, choose_good, option_takes_good, whole_good, more_good, bind_more}
+use Rattle.lexical_grammar.proofs.LexemeTests.{word_is, word_exact}
+use Rattle.expr_grammar.proofs.Singles.{moment_good, small_good}
+use Rattle.parser_combinators.proofs.Fresh.{fresh_good}
+use Rattle.parser_combinators.proofs.Alternatives.{or_left, or_right, stops_fewer, NotNone, lead_not_none, lead_not_first, either_not_none, either_not_first, list_not_none, list_not_first, last_arm, first_arm}
 use Rattle.smo_parse.specs.Productions.{IsOperator}
 use Rattle.smo_parse.specs.OperatorReader.{operator, goes_operator}
 use Rattle.smo_parse.proofs.OperatorGoodness.{operator_good}

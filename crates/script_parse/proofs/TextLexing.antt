@@ -1,13 +1,13 @@
 -- The function that makes tokens of a text makes those that the relation tells.
 use Rattle.std.proofs.Common.{◌≡◌, ℕ, zero, suc, ◌+◌, ◌<◌, ◌≤◌, false, List, [], ◌∷◌, length, map, take, drop, Option, Some, None, unwrap_or, refl, sym, ap, ◌∙◌, subst, arith, length-drop}
-use Rattle.lexer.specs.declared.faults.LexFault.{LexFault}
-use Rattle.lexer.specs.declared.faults.LexFault.TheVariants.{NoMemory, BadByte, OpenQuote, BigNumber, LongText}
-use Rattle.lexer.specs.declared.kinds.TokenKind.{TokenKind}
-use Rattle.lexer.specs.declared.pieces.Piece.{Piece}
-use Rattle.lexer.specs.declared.pieces.Piece.TheVariants.{End, Of, Bad, Open, Long, Big}
-use Rattle.lexer.specs.declared.token.Token.{Token}
-use Rattle.lexer.specs.Bytes.{gap_len, piece}
-use Rattle.lexer.specs.Lexed.{Lexes, EndsBy, behind_gap}
+use Rattle.lexical_grammar.specs.declared.faults.LexFault.{LexFault}
+use Rattle.lexical_grammar.specs.declared.faults.LexFault.TheVariants.{NoMemory, BadByte, OpenQuote, BigNumber, LongText}
+use Rattle.lexical_grammar.specs.declared.kinds.TokenKind.{TokenKind}
+use Rattle.lexical_grammar.specs.declared.pieces.Piece.{Piece}
+use Rattle.lexical_grammar.specs.declared.pieces.Piece.TheVariants.{End, Of, Bad, Open, Long, Big}
+use Rattle.lexical_grammar.specs.declared.token.Token.{Token}
+use Rattle.lexical_grammar.specs.Bytes.{gap_len, piece}
+use Rattle.lexical_grammar.specs.Lexed.{Lexes, EndsBy, behind_gap}
 use Rattle.script_parse.specs.Lexing.{Placed, Lexed, Tokens, Faulty, a_token, behind_token, by_piece, lexed_from, placed, fault_place, TextsAreLexed}
 
 -- how the text ends

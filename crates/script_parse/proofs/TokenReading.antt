@@ -2,14 +2,14 @@
 use Rattle.std.proofs.Common.{◌≡◌, ℕ, zero, suc, ◌-◌, ◌<◌, ◌≤◌, List, [], ◌∷◌, length, map, slice_index_or, Option, Some, None, Ok, Err, Result, refl, sym, ap, ◌∙◌, subst, arith, length-append}
 use Rattle.prima_base.specs.declared.refusals.Refusal.TheVariants.{Syntax, TooMany}
 use Rattle.prima_base.specs.declared.refusals.What.{What}
-use Rattle.lexer.specs.declared.faults.LexFault.{LexFault}
-use Rattle.lexer.specs.declared.faults.LexFault.TheVariants as lexical
-use Rattle.lexer.specs.declared.token.Token.{Token}
-use Rattle.lexer.specs.Lexed.{Lexes, Gives as FaultGives}
-use Rattle.lexer.specs.Lexemes.{Lexeme, lexeme}
-use Rattle.lexer.specs.Spaced.{Spaced}
-use Rattle.lexer.specs.Parsing.{Got, Stuck, Over, limit}
-use Rattle.lexer.proofs.Places.{length_map}
+use Rattle.lexical_grammar.specs.declared.faults.LexFault.{LexFault}
+use Rattle.lexical_grammar.specs.declared.faults.LexFault.TheVariants as lexical
+use Rattle.lexical_grammar.specs.declared.token.Token.{Token}
+use Rattle.lexical_grammar.specs.Lexed.{Lexes, Gives as FaultGives}
+use Rattle.lexical_grammar.specs.Lexemes.{Lexeme, lexeme}
+use Rattle.lexical_grammar.specs.Spaced.{Spaced}
+use Rattle.parser_combinators.specs.Parsing.{Got, Stuck, Over, limit}
+use Rattle.parser_combinators.proofs.Places.{length_map}
 use Rattle.script_parse.specs.declared.statements.ReadFault.{ReadFault}
 use Rattle.script_parse.specs.declared.statements.ReadFault.TheVariants as fault
 use Rattle.script_parse.specs.declared.statements.Statement.{Statement}

@@ -8,17 +8,17 @@ use Rattle.prima_base.specs.declared.values.ColType.TheVariants.{Int as INT, Tex
 use Rattle.cond_expr.specs.declared.exprs.Whose.TheVariants.{Alias, Atom, Free}
 use Rattle.cond_expr.specs.declared.exprs.CmpOp.TheVariants.{Eq, Gt}
 use Rattle.cond_expr.specs.Trees.{Tree, column, constant, always, compared}
-use Rattle.smo_ops.specs.Operators.{nop, create_table, drop_table, rename_table, join_table}
-use Rattle.smo_ops.specs.Changes.{insertion, deletion, update}
-use Rattle.smo_ops.specs.Commands.{PlainBody, changing, evolving}
-use Rattle.lexer.specs.Bytes.{gap_len, gap_dash, piece_of, text_value, quote_value, text_from, text_quote}
-use Rattle.lexer.specs.Lexemes.{is_name}
-use Rattle.lexer.specs.Parsing.{as_many, more, nodes_more}
-use Rattle.lexer.specs.Constants.{name, names, small, moment, constant as const}
-use Rattle.lexer.specs.Reader.{ref_rest, concat_rest, expr, comparison, bracketed, fact, facts, conj, conjs, cond, outermost}
+use Rattle.smo_types.specs.Operators.{nop, create_table, drop_table, rename_table, join_table}
+use Rattle.smo_types.specs.Changes.{insertion, deletion, update}
+use Rattle.smo_types.specs.Commands.{PlainBody, changing, evolving}
+use Rattle.lexical_grammar.specs.Bytes.{gap_len, gap_dash, piece_of, text_value, quote_value, text_from, text_quote}
+use Rattle.lexical_grammar.specs.Lexemes.{is_name}
+use Rattle.parser_combinators.specs.Parsing.{as_many, more, nodes_more}
+use Rattle.expr_grammar.specs.Constants.{name, names, small, moment, constant as const}
+use Rattle.expr_grammar.specs.Reader.{ref_rest, concat_rest, expr, comparison, bracketed, fact, facts, conj, conjs, cond, outermost}
 use Rattle.smo_parse.specs.OperatorReader as smo
 use Rattle.temporal_lang.specs.declared.whens.When.TheVariants.{Always}
-use Rattle.temporal_lang.specs.Branches.{a_branch}
+use Rattle.plain_answers.specs.Branches.{a_branch}
 use Rattle.temporal_lang.specs.Queries.{PlainQuery, a_query}
 use Rattle.temporal_lang.specs.QueryReader as query
 use Rattle.script_parse.specs.Statements.{ask, write, show_versions, show_schema}

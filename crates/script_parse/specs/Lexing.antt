@@ -1,14 +1,14 @@
 -- A text as its tokens, or as its first lexical fault.
 use Rattle.std.specs.Prelude.{◌≡◌, ℕ, zero, suc, ◌+◌, false, List, [], ◌∷◌, length, map, take, drop, Option, Some, None}
-use Rattle.lexer.specs.declared.faults.LexFault.{LexFault}
-use Rattle.lexer.specs.declared.faults.LexFault.TheVariants.{NoMemory, BadByte, OpenQuote, BigNumber, LongText}
-use Rattle.lexer.specs.declared.kinds.TokenKind.{TokenKind}
-use Rattle.lexer.specs.declared.pieces.Piece.{Piece}
-use Rattle.lexer.specs.declared.pieces.Piece.TheVariants.{End, Of, Bad, Open, Long, Big}
-use Rattle.lexer.specs.Bytes.{gap_len, piece}
-use Rattle.lexer.specs.declared.token.Token.{Token}
-use Rattle.lexer.specs.Lexed.{Lexes, behind_gap}
-use Rattle.lexer.specs.Lexemes.{Lexeme, says, lexeme}
+use Rattle.lexical_grammar.specs.declared.faults.LexFault.{LexFault}
+use Rattle.lexical_grammar.specs.declared.faults.LexFault.TheVariants.{NoMemory, BadByte, OpenQuote, BigNumber, LongText}
+use Rattle.lexical_grammar.specs.declared.kinds.TokenKind.{TokenKind}
+use Rattle.lexical_grammar.specs.declared.pieces.Piece.{Piece}
+use Rattle.lexical_grammar.specs.declared.pieces.Piece.TheVariants.{End, Of, Bad, Open, Long, Big}
+use Rattle.lexical_grammar.specs.Bytes.{gap_len, piece}
+use Rattle.lexical_grammar.specs.declared.token.Token.{Token}
+use Rattle.lexical_grammar.specs.Lexed.{Lexes, behind_gap}
+use Rattle.lexical_grammar.specs.Lexemes.{Lexeme, says, lexeme}
 
 -- what a token says, and the place of its first byte
 pub record Placed : Type 0 where

@@ -4,13 +4,13 @@ use Rattle.std.specs.Prelude.{◌≡◌, ℕ, false, List, [], ◌∷◌, length
 use Rattle.prima_base.specs.declared.refusals.What.TheVariants.{Inverse}
 use Rattle.prima_base.specs.declared.values.Value.{Value}
 use Rattle.cond_expr.specs.Trees.{Tree, Test, always}
-use Rattle.smo_ops.specs.Operators.{Operator}
-use Rattle.smo_ops.specs.Changes.{PlainChange, insertion, deletion, update}
-use Rattle.smo_ops.specs.Commands.{PlainBody, changing, evolving}
-use Rattle.lexer.specs.Lexemes.{word, sign}
-use Rattle.lexer.specs.Parsing.{Grammar, AreMore, so_wide, nothing_counted, bindG, pureG, leadG, mapG, optionG, freshG, eitherG, listG}
-use Rattle.lexer.specs.Grammar.{IsExpr, IsCond}
-use Rattle.lexer.specs.Constants.{nameG, namesG, momentG, smallG, constantG}
+use Rattle.smo_types.specs.Operators.{Operator}
+use Rattle.smo_types.specs.Changes.{PlainChange, insertion, deletion, update}
+use Rattle.smo_types.specs.Commands.{PlainBody, changing, evolving}
+use Rattle.lexical_grammar.specs.Lexemes.{word, sign}
+use Rattle.parser_combinators.specs.Parsing.{Grammar, AreMore, so_wide, nothing_counted, bindG, pureG, leadG, mapG, optionG, freshG, eitherG, listG}
+use Rattle.expr_grammar.specs.Grammar.{IsExpr, IsCond}
+use Rattle.expr_grammar.specs.Constants.{nameG, namesG, momentG, smallG, constantG}
 use Rattle.smo_parse.specs.Productions.{IsOperator}
 use Rattle.temporal_lang.specs.QueryGrammar.{IsAsk}
 use Rattle.script_parse.specs.Statements.{PlainStatement, write, ask, show_versions, show_schema}

@@ -3,10 +3,10 @@ use Rattle.std.specs.Prelude.{◌≡◌, ℕ, ◌-◌, ◌≤◌, List, [], ◌�
 use Rattle.prima_base.specs.declared.refusals.Refusal.{Refusal}
 use Rattle.prima_base.specs.declared.refusals.Refusal.TheVariants.{Syntax, TooMany}
 use Rattle.prima_base.specs.declared.refusals.What.{What}
-use Rattle.lexer.specs.Lexemes.{Lexeme}
-use Rattle.lexer.specs.Parsing.{Size, Out, Got, Stuck, Over, CanGoOn, Lawful, Exceeds, limit}
-use Rattle.lexer.specs.Found.{IsFirst}
-use Rattle.lexer.specs.Passes.{IsFirstPass, PassesFirst}
+use Rattle.lexical_grammar.specs.Lexemes.{Lexeme}
+use Rattle.parser_combinators.specs.Parsing.{Size, Out, Got, Stuck, Over, CanGoOn, Lawful, Exceeds, limit}
+use Rattle.parser_combinators.specs.Found.{IsFirst}
+use Rattle.parser_combinators.specs.Passes.{IsFirstPass, PassesFirst}
 use Rattle.script_parse.specs.declared.statements.ReadFault.{ReadFault}
 use Rattle.script_parse.specs.declared.statements.ReadFault.TheVariants as fault
 use Rattle.script_parse.specs.declared.statements.Statement.{Statement}

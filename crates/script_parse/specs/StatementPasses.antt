@@ -3,14 +3,14 @@
 use Rattle.std.specs.Prelude.{false, [], ◌∷◌, codes}
 use Rattle.prima_base.specs.declared.refusals.What.TheVariants.{Inverse}
 use Rattle.cond_expr.specs.Trees.{always}
-use Rattle.smo_ops.specs.Changes.{deletion, update}
-use Rattle.smo_ops.specs.Commands.{changing, evolving}
-use Rattle.lexer.specs.Lexemes.{word, sign}
-use Rattle.lexer.specs.Parsing.{AreMore, so_wide, bindG, leadG, mapG, freshG, eitherG, listG}
-use Rattle.lexer.specs.Grammar.{IsExpr, IsCond}
-use Rattle.lexer.specs.Constants.{nameG, momentG}
-use Rattle.lexer.specs.Marks.{expr_marks, cond_marks}
-use Rattle.lexer.specs.Passings.{Passing, none_pass, fresh_pass, lead_pass, map_pass, bind_pass, option_pass, either_pass, list_pass, counted_pass}
+use Rattle.smo_types.specs.Changes.{deletion, update}
+use Rattle.smo_types.specs.Commands.{changing, evolving}
+use Rattle.lexical_grammar.specs.Lexemes.{word, sign}
+use Rattle.parser_combinators.specs.Parsing.{AreMore, so_wide, bindG, leadG, mapG, freshG, eitherG, listG}
+use Rattle.expr_grammar.specs.Grammar.{IsExpr, IsCond}
+use Rattle.expr_grammar.specs.Constants.{nameG, momentG}
+use Rattle.expr_grammar.specs.TreeMarks.{expr_marks, cond_marks}
+use Rattle.parser_combinators.specs.Passings.{Passing, none_pass, fresh_pass, lead_pass, map_pass, bind_pass, option_pass, either_pass, list_pass, counted_pass}
 use Rattle.smo_parse.specs.Productions.{IsOperator}
 use Rattle.smo_parse.specs.OperatorMarks.{operator_marks}
 use Rattle.temporal_lang.specs.QueryGrammar.{IsAsk}

@@ -3,13 +3,13 @@ use Rattle.std.specs.Prelude.{ℕ, zero, suc, Bool, false, if◌then◌else◌, 
 use Rattle.prima_base.specs.declared.refusals.What.TheVariants.{Inverse}
 use Rattle.prima_base.specs.declared.values.Value.{Value}
 use Rattle.cond_expr.specs.Trees.{Tree, Test, always}
-use Rattle.smo_ops.specs.Operators.{Operator}
-use Rattle.smo_ops.specs.Changes.{PlainChange, insertion, deletion, update}
-use Rattle.smo_ops.specs.Commands.{PlainBody, changing, evolving}
-use Rattle.lexer.specs.Lexemes.{Lexeme, is_word, is_sign}
-use Rattle.lexer.specs.Parsing.{Parser, Arm, No, Takes, Whole, bind, pure, map_to, lead, choose, option, more, many, fresh}
-use Rattle.lexer.specs.Reader.{outermost, goes_expr, goes_cond}
-use Rattle.lexer.specs.Constants.{name, names, moment, small, constant}
+use Rattle.smo_types.specs.Operators.{Operator}
+use Rattle.smo_types.specs.Changes.{PlainChange, insertion, deletion, update}
+use Rattle.smo_types.specs.Commands.{PlainBody, changing, evolving}
+use Rattle.lexical_grammar.specs.Lexemes.{Lexeme, is_word, is_sign}
+use Rattle.parser_combinators.specs.Parsing.{Parser, Arm, No, Takes, Whole, bind, pure, map_to, lead, choose, option, more, many, fresh}
+use Rattle.expr_grammar.specs.Reader.{outermost, goes_expr, goes_cond}
+use Rattle.expr_grammar.specs.Constants.{name, names, moment, small, constant}
 use Rattle.smo_parse.specs.OperatorReader.{operator, goes_operator}
 use Rattle.temporal_lang.specs.QueryReader as query
 use Rattle.script_parse.specs.Statements.{PlainStatement, write, ask, show_versions, show_schema}

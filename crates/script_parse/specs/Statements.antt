@@ -1,6 +1,6 @@
 -- Statements as plain data, and the one that a statement of the code stands for.
 use Rattle.std.specs.Prelude.{ℕ}
-use Rattle.smo_ops.specs.Commands.{PlainCommand, command_of}
+use Rattle.smo_types.specs.Commands.{PlainCommand, command_of}
 use Rattle.temporal_lang.specs.Queries.{PlainQuery, query_of}
 use Rattle.script_parse.specs.declared.statements.Statement.{Statement}
 use Rattle.script_parse.specs.declared.statements.Statement.TheVariants.{Write, Ask, ShowVersions, ShowSchema}

@@ -3,10 +3,10 @@
 ghost use Rattle.std.specs.Prelude.{◌≡◌, ◌<◌, ◌≤◌, length, map, zip, codes, IfOk};
 ghost use Rattle.cond_expr.specs.Seen.{tree, test};
 ghost use Rattle.cond_expr.specs.Trees.{always};
-ghost use Rattle.smo_ops.specs.Changes.{change_of, changes_of, set_of_expr, sets_of};
-ghost use Rattle.lexer.specs.Lexemes.{is_word, is_sign};
-ghost use Rattle.lexer.specs.Parsing.{many};
-ghost use Rattle.lexer.specs.Reads.{Reads, ReadsMore, ahead};
+ghost use Rattle.smo_types.specs.Changes.{change_of, changes_of, set_of_expr, sets_of};
+ghost use Rattle.lexical_grammar.specs.Lexemes.{is_word, is_sign};
+ghost use Rattle.parser_combinators.specs.Parsing.{many};
+ghost use Rattle.parser_combinators.specs.Reads.{Reads, ReadsMore, ahead};
 ghost use Rattle.script_parse.specs.StatementReader as spec;
 
 use cond_expr::{Cond, Expr};
@@ -23,7 +23,7 @@ fn everywhere() -> Cond
 }
 
 // The condition of a change; a missing one is TRUE.
-#[tactic(auto, unfolding(crate::specs::StatementReader::where_part), using(lexer::proofs::ReadSteps::option_not, lexer::proofs::ReadSteps::option_takes))]
+#[tactic(auto, unfolding(crate::specs::StatementReader::where_part), using(parser_combinators::proofs::ReadSteps::option_not, parser_combinators::proofs::ReadSteps::option_takes))]
 fn where_part(alloc: Global, c: &mut Cursor<'_, '_>) -> Result<Cond, Stop>
     ensures { Reads test (spec.where_part c.old.nodes (ahead c.old)) result c.new }
 {
@@ -78,7 +78,7 @@ fn paired(
 }
 
 // The constants of a row in their brackets, one for each name.
-#[tactic(auto, unfolding(crate::specs::StatementReader::row), using(lexer::proofs::ReadSteps::lead_seen, lexer::proofs::ReadSteps::lead_not))]
+#[tactic(auto, unfolding(crate::specs::StatementReader::row), using(parser_combinators::proofs::ReadSteps::lead_seen, parser_combinators::proofs::ReadSteps::lead_not))]
 fn row(alloc: Global, c: &mut Cursor<'_, '_>, names: Vec<Name>) -> Result<Vec<(Name, Value)>, Stop>
     ensures { Reads (λ v. v.items) (spec.row names.items c.old.nodes (ahead c.old)) result c.new }
 {
@@ -89,7 +89,7 @@ fn row(alloc: Global, c: &mut Cursor<'_, '_>, names: Vec<Name>) -> Result<Vec<(N
 }
 
 // What stands behind INSERT.
-#[tactic(auto, unfolding(crate::specs::StatementReader::insert_rest), using(lexer::proofs::ReadSteps::lead_seen, lexer::proofs::ReadSteps::lead_not))]
+#[tactic(auto, unfolding(crate::specs::StatementReader::insert_rest), using(parser_combinators::proofs::ReadSteps::lead_seen, parser_combinators::proofs::ReadSteps::lead_not))]
 fn insert_rest(alloc: Global, c: &mut Cursor<'_, '_>) -> Result<Change, Stop>
     ensures { Reads change_of (spec.insert_rest c.old.nodes (ahead c.old)) result c.new }
 {
@@ -104,7 +104,7 @@ fn insert_rest(alloc: Global, c: &mut Cursor<'_, '_>) -> Result<Change, Stop>
 }
 
 // What stands behind DELETE.
-#[tactic(auto, unfolding(crate::specs::StatementReader::delete_rest), using(lexer::proofs::ReadSteps::lead_seen, lexer::proofs::ReadSteps::lead_not))]
+#[tactic(auto, unfolding(crate::specs::StatementReader::delete_rest), using(parser_combinators::proofs::ReadSteps::lead_seen, parser_combinators::proofs::ReadSteps::lead_not))]
 fn delete_rest(alloc: Global, c: &mut Cursor<'_, '_>) -> Result<Change, Stop>
     ensures { Reads change_of (spec.delete_rest c.old.nodes (ahead c.old)) result c.new }
 {
@@ -115,7 +115,7 @@ fn delete_rest(alloc: Global, c: &mut Cursor<'_, '_>) -> Result<Change, Stop>
 }
 
 // A column, and what it is to have.
-#[tactic(auto, unfolding(crate::specs::StatementReader::setting), using(lexer::proofs::ReadSteps::lead_seen, lexer::proofs::ReadSteps::lead_not))]
+#[tactic(auto, unfolding(crate::specs::StatementReader::setting), using(parser_combinators::proofs::ReadSteps::lead_seen, parser_combinators::proofs::ReadSteps::lead_not))]
 fn setting(alloc: Global, c: &mut Cursor<'_, '_>) -> Result<(Name, Expr), Stop>
     ensures { Reads set_of_expr (spec.setting c.old.nodes (ahead c.old)) result c.new }
 {
@@ -151,7 +151,7 @@ fn settings(alloc: Global, c: &mut Cursor<'_, '_>) -> Result<Vec<(Name, Expr)>, 
 }
 
 // What stands behind UPDATE.
-#[tactic(auto, unfolding(crate::specs::StatementReader::update_rest), using(lexer::proofs::ReadSteps::lead_seen, lexer::proofs::ReadSteps::lead_not))]
+#[tactic(auto, unfolding(crate::specs::StatementReader::update_rest), using(parser_combinators::proofs::ReadSteps::lead_seen, parser_combinators::proofs::ReadSteps::lead_not))]
 fn update_rest(alloc: Global, c: &mut Cursor<'_, '_>) -> Result<Change, Stop>
     ensures { Reads change_of (spec.update_rest c.old.nodes (ahead c.old)) result c.new }
 {
@@ -163,7 +163,7 @@ fn update_rest(alloc: Global, c: &mut Cursor<'_, '_>) -> Result<Change, Stop>
 }
 
 // A change.
-#[tactic(auto, unfolding(crate::specs::StatementReader::change), using(lexer::proofs::ReadSteps::choose_takes, lexer::proofs::ReadSteps::choose_no))]
+#[tactic(auto, unfolding(crate::specs::StatementReader::change), using(parser_combinators::proofs::ReadSteps::choose_takes, parser_combinators::proofs::ReadSteps::choose_no))]
 fn change(alloc: Global, c: &mut Cursor<'_, '_>) -> Result<Change, Stop>
     ensures { Reads change_of (spec.change c.old.nodes (ahead c.old)) result c.new }
 {

@@ -14,16 +14,10 @@ mod change_reader;
 mod inverse_reader;
 mod laws;
 mod modes;
-#[cfg(test)]
-mod shown;
 mod splitter;
 mod statement_laws;
 mod statement_reader;
-#[cfg(test)]
-mod statement_tests;
 mod statements;
-#[cfg(test)]
-mod tests;
 
 pub use laws::{
     clean_is_blanks_and_comments, script_is_its_statements, statements_are_of_a_script,

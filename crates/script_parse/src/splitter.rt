@@ -41,7 +41,7 @@ pub enum Cut {
 }
 
 /// What stands behind the last `;` of a script.
-#[derive(Clone, Copy, Debug, PartialEq, Eq)]
+#[derive(Clone, Copy, PartialEq, Eq)]
 pub enum Tail {
     /// Blanks and comments alone: no statement.
     Clean,

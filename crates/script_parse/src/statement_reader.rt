@@ -1,12 +1,12 @@
 //! Reading of statements from their texts.
 
 ghost use Rattle.std.specs.Prelude.{◌≡◌, ◌≤◌, ◌<◌, ◌++◌, ◌∷◌, List, length, map};
-ghost use Rattle.smo_ops.specs.Commands.{body_of};
+ghost use Rattle.smo_types.specs.Commands.{body_of};
 ghost use Rattle.prima_base.specs.declared.refusals.What.{What as Counted};
-ghost use Rattle.lexer.specs.Lexemes.{Lexeme};
-ghost use Rattle.lexer.specs.Parsing.{Size, limit};
-ghost use Rattle.lexer.specs.Passes.{IsFirstPass};
-ghost use Rattle.lexer.specs.Reads.{Reads, ahead};
+ghost use Rattle.lexical_grammar.specs.Lexemes.{Lexeme};
+ghost use Rattle.parser_combinators.specs.Parsing.{Size, limit};
+ghost use Rattle.parser_combinators.specs.Passes.{IsFirstPass};
+ghost use Rattle.parser_combinators.specs.Reads.{Reads, ahead};
 ghost use Rattle.script_parse.specs.declared.statements.ReadFault.TheVariants as fault;
 ghost use Rattle.script_parse.specs.Lexing.{Placed, Tokens, lexed, placed, saying, fault_place};
 ghost use Rattle.script_parse.specs.Statements.{PlainStatement, statement_of};
@@ -70,7 +70,7 @@ fn schema_rest(c: &mut Cursor<'_, '_>) -> Result<Statement, Stop>
 }
 
 // What stands behind SHOW.
-#[tactic(auto, unfolding(crate::specs::StatementReader::show_rest), using(lexer::proofs::ReadSteps::choose_takes, lexer::proofs::ReadSteps::choose_no))]
+#[tactic(auto, unfolding(crate::specs::StatementReader::show_rest), using(parser_combinators::proofs::ReadSteps::choose_takes, parser_combinators::proofs::ReadSteps::choose_no))]
 fn show_rest(c: &mut Cursor<'_, '_>) -> Result<Statement, Stop>
     ensures { Reads statement_of (spec.show_rest c.old.nodes (ahead c.old)) result c.new }
 {
@@ -86,7 +86,7 @@ fn show_rest(c: &mut Cursor<'_, '_>) -> Result<Statement, Stop>
 }
 
 // A statement.
-#[tactic(auto, unfolding(crate::specs::StatementReader::statement), using(lexer::proofs::ReadSteps::choose_takes, lexer::proofs::ReadSteps::choose_no))]
+#[tactic(auto, unfolding(crate::specs::StatementReader::statement), using(parser_combinators::proofs::ReadSteps::choose_takes, parser_combinators::proofs::ReadSteps::choose_no))]
 fn statement(alloc: Global, c: &mut Cursor<'_, '_>) -> Result<Statement, Stop>
     ensures { Reads statement_of (spec.statement c.old.nodes (ahead c.old)) result c.new }
 {

@@ -18,7 +18,7 @@ pub enum Statement {
 }
 
 /// Why a text is no statement.
-#[derive(Clone, Copy, Debug, PartialEq, Eq)]
+#[derive(Clone, Copy, PartialEq, Eq)]
 pub enum ReadFault {
     /// Reading found no memory.
     NoMemory,

@@ -11,10 +11,10 @@ use Rattle.prima_base.specs.declared.values.ColType.{ColType}
 use Rattle.prima_base.specs.Order.{bytes_cmp}
 use Rattle.prima_base.specs.OrderLaws.{bytes_exact}
 use Rattle.prima_base.specs.Columns.{Column, names_of, AreColumns}
-use Rattle.smo_ops.specs.OneRow.{same}
-use Rattle.smo_ops.specs.Making.{column_cmp, with_column, renamed, joined_columns}
-use Rattle.smo_ops.proofs.EffectLaws.{set_pushed}
-use Rattle.smo_ops.proofs.ColumnLaws.{names_in_order}
+use Rattle.smo_meaning.specs.OneRow.{same}
+use Rattle.smo_meaning.specs.Making.{column_cmp, with_column, renamed, joined_columns}
+use Rattle.smo_meaning.proofs.Insertions.{set_pushed}
+use Rattle.smo_meaning.proofs.ColumnLaws.{names_in_order}
 
 module _ (p : Column → Bool) where
   kept_more : (xs : List Column) (x : Column) → names_of (filter p (xs ++ x ∷ [])) ≡ names_of (filter p xs) ++ cond (p x) (x.0 ∷ []) []

@@ -11,7 +11,7 @@ use Rattle.schema_catalog.specs.Databases.{cell}
 use Rattle.cond_expr.specs.declared.exprs.Column.{Column as AtomColumn}
 use Rattle.cond_expr.specs.Rows.{flat}
 use Rattle.cond_expr.specs.Values.{Cells, over}
-use Rattle.smo_ops.specs.OneRow.{Row, same, as_atom, own_cells}
+use Rattle.smo_meaning.specs.OneRow.{Row, same, as_atom, own_cells}
 use Rattle.smo_ops.proofs.EffectLaws.{lent_cells}
 use Rattle.smo_maps.specs.Atoms.{atoms_named}
 

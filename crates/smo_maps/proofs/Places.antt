@@ -9,10 +9,10 @@ use Rattle.prima_base.specs.declared.values.ColType.{ColType}
 use Rattle.prima_base.specs.Order.{row_cmp}
 use Rattle.prima_base.specs.Columns.{Column, names_of}
 use Rattle.schema_catalog.specs.Databases.{cell}
-use Rattle.smo_ops.specs.OneRow.{Row, Relation, same}
-use Rattle.smo_ops.specs.Preconditions.{among}
-use Rattle.smo_ops.specs.Making.{image, joined_value, joined_columns, joined_row}
-use Rattle.smo_ops.proofs.NameLaws.{same_turned, same_is}
+use Rattle.smo_meaning.specs.OneRow.{Row, Relation, same}
+use Rattle.smo_meaning.specs.Preconditions.{among}
+use Rattle.smo_meaning.specs.Making.{image, joined_value, joined_columns, joined_row}
+use Rattle.smo_meaning.proofs.NameLaws.{same_turned, same_is}
 use Rattle.smo_maps.specs.declared.sources.Source.{Source}
 use Rattle.smo_maps.specs.Picking.{place_of, source_of, value_at, picked, picked_row}
 

@@ -3,10 +3,10 @@ use Rattle.std.specs.Prelude.{◌≡◌, List, [], ◌∷◌, ℕ, Some}
 use Rattle.std.specs.FinMap.{get}
 use Rattle.schema_catalog.specs.Tables.{Tables}
 use Rattle.schema_catalog.specs.Databases.{Database, Rows}
-use Rattle.smo_ops.specs.Operators.{Operator, nop, create_table, drop_table, rename_table, copy_table, merge_table, partition_table, decompose_table, join_table, add_column, drop_column, rename_column}
-use Rattle.smo_ops.specs.OneRow.{Relation}
-use Rattle.smo_ops.specs.OperatorTable.{Made, line, made_names}
-use Rattle.smo_ops.specs.After.{carried}
+use Rattle.smo_types.specs.Operators.{Operator, nop, create_table, drop_table, rename_table, copy_table, merge_table, partition_table, decompose_table, join_table, add_column, drop_column, rename_column}
+use Rattle.smo_meaning.specs.OneRow.{Relation}
+use Rattle.smo_meaning.specs.OperatorTable.{Made, line, made_names}
+use Rattle.smo_meaning.specs.After.{carried}
 
 -- the tables that an operator is given, in the order in which it names them
 abbrev pub given_tables : Operator → List (List ℕ)

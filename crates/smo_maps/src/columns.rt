@@ -8,9 +8,9 @@ ghost use Rattle.prima_base.specs.Columns.{Column as TableColumn, names_of, AreC
 ghost use Rattle.schema_catalog.specs.Databases.{cell};
 ghost use Rattle.cond_expr.specs.Seen.{tree};
 ghost use Rattle.cond_expr.specs.Values.{value};
-ghost use Rattle.smo_ops.specs.OneRow.{same, own_cells, Row as OneRow};
-ghost use Rattle.smo_ops.specs.Preconditions.{among};
-ghost use Rattle.smo_ops.specs.Making.{named, without, renamed, with_column, image, added, moved};
+ghost use Rattle.smo_meaning.specs.OneRow.{same, own_cells, Row as OneRow};
+ghost use Rattle.smo_meaning.specs.Preconditions.{among};
+ghost use Rattle.smo_meaning.specs.Making.{named, without, renamed, with_column, image, added, moved};
 ghost use Rattle.smo_maps.specs.Atoms.{atoms_named};
 ghost use Rattle.smo_maps.specs.Picking.{picked_row, source_of};
 

@@ -5,8 +5,6 @@
 //! says that what is answered here is what it has under the names of the made tables.
 #![tactic(auto)]
 
-#[cfg(test)]
-mod carry_tests;
 mod columns;
 mod groups;
 mod join;
@@ -15,10 +13,6 @@ mod names;
 mod one_row;
 mod one_table;
 mod sources;
-#[cfg(test)]
-mod test_inputs;
-#[cfg(test)]
-mod test_makers;
 mod union;
 
 pub use maps::{Carried, carry};

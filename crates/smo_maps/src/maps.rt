@@ -1,8 +1,8 @@
 ghost use Rattle.std.specs.Prelude.{◌≡◌, [], None, IfOk};
 ghost use Rattle.prima_base.specs.Columns.{AreColumns};
-ghost use Rattle.smo_ops.specs.Effects.{columns_of};
-ghost use Rattle.smo_ops.specs.Operators.{operator_of};
-ghost use Rattle.smo_ops.specs.After.{op_fault};
+ghost use Rattle.smo_meaning.specs.Effects.{columns_of};
+ghost use Rattle.smo_types.specs.Operators.{operator_of};
+ghost use Rattle.smo_meaning.specs.After.{op_fault};
 ghost use Rattle.smo_maps.specs.Carrying.{IsCarried};
 
 use crate::columns::{under_another_name, with_names, with_value, without_column};

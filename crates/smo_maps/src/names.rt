@@ -6,9 +6,9 @@ ghost use Rattle.relations.specs.Sets.{set_of};
 ghost use Rattle.prima_base.specs.declared.values.ColType.{ColType as OneType};
 ghost use Rattle.prima_base.specs.Order.{bytes_cmp};
 ghost use Rattle.prima_base.specs.Columns.{names_of, AreColumns};
-ghost use Rattle.smo_ops.specs.OneRow.{same};
-ghost use Rattle.smo_ops.specs.Preconditions.{among};
-ghost use Rattle.smo_ops.specs.Making.{named, without, renamed, with_column, joined_columns};
+ghost use Rattle.smo_meaning.specs.OneRow.{same};
+ghost use Rattle.smo_meaning.specs.Preconditions.{among};
+ghost use Rattle.smo_meaning.specs.Making.{named, without, renamed, with_column, joined_columns};
 
 use crate::sources::same_name;
 use prima_base::{ColType, Name, NoMemory};

@@ -6,7 +6,7 @@ ghost use Rattle.prima_base.specs.Order.{shown};
 ghost use Rattle.prima_base.specs.Columns.{Column as TableColumn, names_of, IsLawful};
 ghost use Rattle.cond_expr.specs.Seen.{tree, test};
 ghost use Rattle.cond_expr.specs.Values.{value};
-ghost use Rattle.smo_ops.specs.OneRow.{own_cells, meets};
+ghost use Rattle.smo_meaning.specs.OneRow.{own_cells, meets};
 ghost use Rattle.smo_maps.specs.Atoms.{atoms_named};
 
 use crate::names::names_of;

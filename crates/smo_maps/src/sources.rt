@@ -1,7 +1,7 @@
 //! Where the values of a made row come from: found once for an operator, and then used for each row.
 
 ghost use Rattle.std.specs.Prelude.{◌≡◌, IfOk, map};
-ghost use Rattle.smo_ops.specs.OneRow.{same};
+ghost use Rattle.smo_meaning.specs.OneRow.{same};
 ghost use Rattle.smo_maps.specs.Picking.{place_of, source_of, value_at, picked, picked_row};
 
 use prima_base::{ColType, Name, NoMemory, Row, Value};

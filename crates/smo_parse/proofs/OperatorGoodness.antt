@@ -2,18 +2,18 @@
 use Rattle.std.proofs.Common.{◌≡◌, ℕ, Bool, false, cond, ◌||◌, List, [], ◌∷◌, ◌++◌, inl, inr, refl, ap, codes}
 use Rattle.prima_base.specs.declared.values.ColType.TheVariants.{Int, Text}
 use Rattle.cond_expr.specs.Trees.{always}
-use Rattle.smo_ops.specs.Operators.{Operator, nop, create_table, drop_table, rename_table, copy_table, merge_table, partition_table, decompose_table, join_table, add_column, drop_column, rename_column}
-use Rattle.lexer.specs.Lexemes.{Lexeme, word, sign, is_word, is_sign, is_one_of}
-use Rattle.lexer.specs.Parsing.{Size, nothing_counted, Parser, Arm, Good, No, Takes, bind, bindG, pure, pureG, lead, leadG, map_to, mapG, eitherG}
-use Rattle.lexer.specs.Reader.{outermost, goes_expr, goes_cond}
-use Rattle.lexer.specs.Constants.{name, nameG, names, namesG}
-use Rattle.lexer.proofs.Parsing.{good_iff, good_goes, bind_good, bind_lead, lead_good, map_good, pure_good, choose_good, option_takes_good, ArmGood}
-use Rattle.lexer.proofs.Grammar.{word_is, word_exact, sign_is, sign_exact}
-use Rattle.lexer.proofs.Singles.{name_good, names_good, comma}
-use Rattle.lexer.proofs.Goodness.{outermost_good}
+use Rattle.smo_types.specs.Operators.{Operator, nop, create_table, drop_table, rename_table, copy_table, merge_table, partition_table, decompose_table, join_table, add_column, drop_column, rename_column}
+use Rattle.lexical_grammar.specs.Lexemes.{Lexeme, word, sign, is_word, is_sign, is_one_of}
+use Rattle.parser_combinators.specs.Parsing.{Size, nothing_counted, Parser, Arm, Good, No, Takes, bind, bindG, pure, pureG, lead, leadG, map_to, mapG, eitherG}
+use Rattle.expr_grammar.specs.Reader.{outermost, goes_expr, goes_cond}
+use Rattle.expr_grammar.specs.Constants.{name, nameG, names, namesG}
+use Rattle.parser_combinators.proofs.Parsing.{good_iff, good_goes, bind_good, bind_lead, lead_good, map_good, pure_good, choose_good, option_takes_good, ArmGood}
+use Rattle.lexical_grammar.proofs.LexemeTests.{word_is, word_exact, sign_is, sign_exact}
+use Rattle.expr_grammar.proofs.Singles.{name_good, names_good, comma}
+use Rattle.expr_grammar.proofs.Goodness.{outermost_good}
 use Rattle.smo_parse.specs.Productions.{IsType, IsColumn, AreColumns, IsPart, IsTest, IsTree, IsWhere, IsOperator}
 use Rattle.smo_parse.specs.OperatorReader.{type_arm, column_type, column, columns, where_part, create_rest, drop_table_rest, drop_column_rest, drop_arm, drop_rest, rename_table_rest, rename_column_rest, rename_arm, rename_rest, copy_rest, merge_rest, partition_rest, part, decompose_rest, join_rest, add_rest, operator_arm, operator, goes_where, goes_operator}
-use Rattle.lexer.proofs.Alternatives.{stops_never, or_left, or_right, NotFirst, NotNone, lead_not_none, lead_not_first, either_not_none, either_not_first, list_good, last_arm, first_arm}
+use Rattle.parser_combinators.proofs.Alternatives.{stops_never, or_left, or_right, NotFirst, NotNone, lead_not_none, lead_not_first, either_not_none, either_not_first, list_good, last_arm, first_arm}
 
 -- goes on with nothing
 abbrev pub ends : Lexeme → Bool

@@ -1,19 +1,20 @@
 -- The longest operator is read.
 use Rattle.std.proofs.Common.{◌≡◌, ℕ, suc, ◌+◌, true, false, cond, List, [], ◌∷◌, ◌++◌, length, take, codes, inl, inr, refl, sym, ap, ◌∙◌, subst, arith, length-append}
 use Rattle.cond_expr.specs.Trees.{Test, always}
-use Rattle.smo_ops.specs.Operators.{Operator, join_table}
-use Rattle.lexer.specs.Lexemes.{Lexeme, word, is_word}
-use Rattle.lexer.specs.Parsing.{Size, nothing_counted, both, Out, Got, Stuck, Over, Parser, Fine, Lawful, CanGoOn, Good, and_then, pure}
-use Rattle.lexer.specs.Grammar as g
-use Rattle.lexer.specs.Grammar.{leaf, IsCond}
-use Rattle.lexer.specs.Reader.{outermost}
-use Rattle.lexer.specs.Found.{Ends}
-use Rattle.lexer.proofs.Parsing.{by_test, none_both}
-use Rattle.lexer.proofs.Grammar.{word_exact}
-use Rattle.lexer.proofs.Longest.{cond_longest}
+use Rattle.smo_types.specs.Operators.{Operator, join_table}
+use Rattle.lexical_grammar.specs.Lexemes.{Lexeme, word, is_word}
+use Rattle.parser_combinators.specs.Parsing.{Size, nothing_counted, both, Out, Got, Stuck, Over, Parser, Fine, Lawful, CanGoOn, Good, and_then, pure}
+use Rattle.expr_grammar.specs.Grammar as g
+use Rattle.expr_grammar.specs.Grammar.{leaf, IsCond}
+use Rattle.expr_grammar.specs.Reader.{outermost}
+use Rattle.parser_combinators.specs.Found.{Ends}
+use Rattle.lexical_grammar.proofs.Cases.{by_test}
+use Rattle.parser_combinators.proofs.Parsing.{none_both}
+use Rattle.lexical_grammar.proofs.LexemeTests.{word_exact}
+use Rattle.expr_grammar.proofs.Longest.{cond_longest}
 use Rattle.smo_parse.specs.Productions.{IsTest, IsWhere, IsNop, IsCreateTable, IsDropTable, IsRenameTable, IsCopyTable, IsMergeTable, IsPartitionTable, IsDecomposeTable, IsJoinTable, IsAddColumn, IsDropColumn, IsRenameColumn, IsOperator}
 use Rattle.smo_parse.specs.OperatorReader.{operator, where_part, create_rest, drop_rest, rename_rest, copy_rest, merge_rest, partition_rest, decompose_rest, add_rest, goes_operator}
-use Rattle.lexer.proofs.Alternatives.{stops_never}
+use Rattle.parser_combinators.proofs.Alternatives.{stops_never}
 use Rattle.smo_parse.proofs.OperatorGoodness.{ends, create_good, drop_good, rename_good, copy_good, merge_good, partition_good, decompose_good, add_good}
 use Rattle.smo_parse.proofs.OperatorMarked.{in_join, join_run, join_tokens}
 

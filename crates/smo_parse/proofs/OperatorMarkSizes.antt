@@ -2,12 +2,13 @@
 use Rattle.std.proofs.Common.{◌≡◌, ℕ, zero, suc, max, false, List, [], ◌∷◌, ◌++◌, inl, inr, refl, sym, ap, ◌∙◌, arith}
 use Rattle.std.proofs.Math.Nat.{zero-max}
 use Rattle.cond_expr.specs.Trees.{Test}
-use Rattle.smo_ops.specs.Operators.{Operator}
-use Rattle.lexer.specs.Lexemes.{Lexeme}
-use Rattle.lexer.specs.Parsing.{Size, nothing_counted, both}
-use Rattle.lexer.specs.Marks.{Mark, plain, nodes_in, deepest, expr_marks, cond_marks, AddUp}
-use Rattle.lexer.proofs.Parsing.{both_none, none_both}
-use Rattle.lexer.proofs.MarkSizes.{nodes_append, expr_adds_up, cond_adds_up}
+use Rattle.smo_types.specs.Operators.{Operator}
+use Rattle.lexical_grammar.specs.Lexemes.{Lexeme}
+use Rattle.parser_combinators.specs.Parsing.{Size, nothing_counted, both}
+use Rattle.parser_combinators.specs.Marks.{Mark, plain, nodes_in, deepest, AddUp}
+use Rattle.expr_grammar.specs.TreeMarks.{expr_marks, cond_marks}
+use Rattle.parser_combinators.proofs.Parsing.{both_none, none_both}
+use Rattle.expr_grammar.proofs.MarkSizes.{nodes_append, expr_adds_up, cond_adds_up}
 use Rattle.smo_parse.specs.Productions.{IsWhere, IsPartitionTable, IsJoinTable, IsAddColumn, IsOperator}
 use Rattle.smo_parse.specs.OperatorMarks.{uncounted, partition_marks, where_marks, join_marks, add_marks, operator_marks}
 use Rattle.smo_parse.proofs.OperatorMarked.{Uncounted, operator_length, nop_counts, create_counts, drop_table_counts, rename_table_counts, copy_counts, merge_counts, decompose_counts, drop_column_counts, rename_column_counts}

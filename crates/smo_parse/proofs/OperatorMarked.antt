@@ -2,17 +2,18 @@
 use Rattle.std.proofs.Common.{◌≡◌, ℕ, ◌+◌, ◌≤◌, max, false, List, [], ◌∷◌, ◌++◌, length, codes, Some, inl, inr, refl, sym, ap, ◌∙◌, subst, append-nil, arith, length-append}
 use Rattle.prima_base.specs.declared.refusals.What.{What}
 use Rattle.cond_expr.specs.Trees.{Tree, Test}
-use Rattle.smo_ops.specs.Operators.{Operator, partition_table, join_table, add_column}
-use Rattle.lexer.specs.Lexemes.{Lexeme, word, sign, is_word, is_sign}
-use Rattle.lexer.specs.Parsing.{Size, nothing_counted, both, no_end, Out, Got, Stuck, Over, Parser, Stops, Fine, Exceeds, limit, AreMore, arm_run, single_arm, and_then, bind, pure, map_to, lead, bindG, pureG, leadG, mapG, optionG, listG}
-use Rattle.lexer.specs.Constants.{as_name, name, nameG, namesG}
-use Rattle.lexer.specs.Marks.{Mark, plain, expr_marks, cond_marks}
-use Rattle.lexer.specs.Reader.{outermost, level, goes_expr, goes_cond}
-use Rattle.lexer.proofs.Endings.{expr_free, cond_free}
-use Rattle.lexer.proofs.Marked.{along, bind_along, map_along, plain_along}
-use Rattle.lexer.proofs.MarkSizes.{expr_length, cond_length}
-use Rattle.lexer.proofs.MarksJoined.{expr_read, cond_read, cond_marked}
-use Rattle.lexer.proofs.Places.{length_map}
+use Rattle.smo_types.specs.Operators.{Operator, partition_table, join_table, add_column}
+use Rattle.lexical_grammar.specs.Lexemes.{Lexeme, word, sign, is_word, is_sign}
+use Rattle.parser_combinators.specs.Parsing.{Size, nothing_counted, both, no_end, Out, Got, Stuck, Over, Parser, Stops, Fine, Exceeds, limit, AreMore, arm_run, single_arm, and_then, bind, pure, map_to, lead, bindG, pureG, leadG, mapG, optionG, listG}
+use Rattle.expr_grammar.specs.Constants.{as_name, name, nameG, namesG}
+use Rattle.parser_combinators.specs.Marks.{Mark, plain}
+use Rattle.expr_grammar.specs.TreeMarks.{expr_marks, cond_marks}
+use Rattle.expr_grammar.specs.Reader.{outermost, level, goes_expr, goes_cond}
+use Rattle.expr_grammar.proofs.Endings.{expr_free, cond_free}
+use Rattle.parser_combinators.proofs.Marked.{along, bind_along, map_along, plain_along}
+use Rattle.expr_grammar.proofs.MarkSizes.{expr_length, cond_length}
+use Rattle.expr_grammar.proofs.MarksJoined.{expr_read, cond_read, cond_marked}
+use Rattle.parser_combinators.proofs.Places.{length_map}
 use Rattle.smo_parse.specs.Productions.{IsType, IsColumn, AreColumns, IsPart, IsTest, IsTree, IsWhere, IsNop, IsCreateTable, IsDropTable, IsRenameTable, IsCopyTable, IsMergeTable, IsPartitionTable, IsDecomposeTable, IsJoinTable, IsAddColumn, IsDropColumn, IsRenameColumn, IsOperator}
 use Rattle.smo_parse.specs.OperatorReader.{operator, operator_arm, partition_rest, join_rest, add_rest, where_part, goes_operator}
 use Rattle.smo_parse.specs.OperatorMarks.{uncounted, partition_marks, where_marks, join_marks, add_marks, operator_marks}

@@ -3,19 +3,19 @@ use Rattle.std.proofs.Common.{◌≡◌, ℕ, zero, suc, ◌+◌, ◌-◌, ◌�
 use Rattle.std.proofs.Math.Nat.{max-le}
 use Rattle.prima_base.specs.declared.refusals.What.{What}
 use Rattle.prima_base.specs.declared.refusals.What.TheVariants as what
-use Rattle.smo_ops.specs.declared.ops.Op.{Op}
-use Rattle.smo_ops.specs.Operators.{Operator, operator_of}
-use Rattle.lexer.specs.declared.token.Token.{Token}
-use Rattle.lexer.specs.declared.kinds.TokenKind.{TokenKind}
-use Rattle.lexer.specs.declared.kinds.TokenKind.TheVariants.{Word, Number, Text, Sign}
-use Rattle.lexer.specs.declared.pieces.Piece.TheVariants.{Of}
-use Rattle.lexer.specs.declared.parse.ParseFault.{ParseFault}
-use Rattle.lexer.specs.declared.parse.ParseFault.TheVariants as fault
-use Rattle.lexer.specs.Bytes.{piece}
-use Rattle.lexer.specs.Lexemes.{Lexeme, says, lexeme}
-use Rattle.lexer.specs.Parsing.{Size, Out, Got, Stuck, Over, Fine, Exceeds, Lawful as WithinLimits, limit}
-use Rattle.lexer.specs.Found.{IsRead, Follows, lexemes_from}
-use Rattle.lexer.proofs.Lawful.{named, texted}
+use Rattle.smo_types.specs.declared.ops.Op.{Op}
+use Rattle.smo_types.specs.Operators.{Operator, operator_of}
+use Rattle.lexical_grammar.specs.declared.token.Token.{Token}
+use Rattle.lexical_grammar.specs.declared.kinds.TokenKind.{TokenKind}
+use Rattle.lexical_grammar.specs.declared.kinds.TokenKind.TheVariants.{Word, Number, Text, Sign}
+use Rattle.lexical_grammar.specs.declared.pieces.Piece.TheVariants.{Of}
+use Rattle.parser_combinators.specs.declared.faults.ParseFault.{ParseFault}
+use Rattle.parser_combinators.specs.declared.faults.ParseFault.TheVariants as fault
+use Rattle.lexical_grammar.specs.Bytes.{piece}
+use Rattle.lexical_grammar.specs.Lexemes.{Lexeme, says, lexeme}
+use Rattle.parser_combinators.specs.Parsing.{Size, Out, Got, Stuck, Over, Fine, Exceeds, Lawful as WithinLimits, limit}
+use Rattle.parser_combinators.specs.Found.{IsRead, Follows, lexemes_from}
+use Rattle.lexical_grammar.proofs.Lawful.{named, texted}
 use Rattle.smo_parse.specs.Productions.{IsOperator}
 use Rattle.smo_parse.specs.OperatorReader.{operator}
 use Rattle.smo_parse.specs.Texts.{operator_text}

@@ -1,9 +1,9 @@
 -- Each operator that can be read, and whose tree is at most 32 deep, prints as a text whose tokens are in the grammar again.
 use Rattle.std.proofs.Common.{◌≤◌, List, ◌++◌, codes, map, inl, inr, refl, sym, ap, subst, arith}
 use Rattle.prima_base.specs.declared.refusals.What.{What}
-use Rattle.smo_ops.specs.Operators.{Operator, nop, merge_table, partition_table, decompose_table, join_table, rename_column}
-use Rattle.lexer.specs.Lexemes.{Lexeme}
-use Rattle.lexer.specs.Parsing.{Size, limit}
+use Rattle.smo_types.specs.Operators.{Operator, nop, merge_table, partition_table, decompose_table, join_table, rename_column}
+use Rattle.lexical_grammar.specs.Lexemes.{Lexeme}
+use Rattle.parser_combinators.specs.Parsing.{Size, limit}
 use Rattle.smo_parse.specs.Productions.{AreColumns, IsPart, IsTest, IsTree, IsWhere, IsNop, IsCreateTable, IsDropTable, IsRenameTable, IsCopyTable, IsMergeTable, IsPartitionTable, IsDecomposeTable, IsJoinTable, IsAddColumn, IsDropColumn, IsRenameColumn, IsOperator}
 use Rattle.smo_parse.specs.Texts.{listed, column_text, part_text, expr_text, cond_text, operator_text}
 use Rattle.smo_parse.specs.Printed.{tree_depth}

@@ -8,12 +8,12 @@ use Rattle.prima_base.specs.declared.values.ColType.{ColType}
 use Rattle.prima_base.specs.declared.values.ColType.TheVariants.{Int, Text}
 use Rattle.cond_expr.specs.Trees.{Tree, Test, always}
 use Rattle.cond_expr.specs.Sizes.{depth_of, test_depth}
-use Rattle.lexer.specs.Lexemes.{Lexeme, word, sign, is_name}
-use Rattle.lexer.specs.Parsing.{Size, nothing_counted, both, no_end, limit, AreMore, bindG, pureG, leadG, mapG, optionG, listG}
-use Rattle.lexer.specs.Grammar as g
-use Rattle.lexer.specs.Grammar.{leaf, IsExpr, IsCond}
-use Rattle.lexer.specs.Constants.{nameG, namesG}
-use Rattle.lexer.proofs.Singles.{name_is}
+use Rattle.lexical_grammar.specs.Lexemes.{Lexeme, word, sign, is_name}
+use Rattle.parser_combinators.specs.Parsing.{Size, nothing_counted, both, no_end, limit, AreMore, bindG, pureG, leadG, mapG, optionG, listG}
+use Rattle.expr_grammar.specs.Grammar as g
+use Rattle.expr_grammar.specs.Grammar.{leaf, IsExpr, IsCond}
+use Rattle.expr_grammar.specs.Constants.{nameG, namesG}
+use Rattle.expr_grammar.proofs.Singles.{name_is}
 use Rattle.smo_parse.specs.Productions.{IsType, IsColumn, AreColumns, IsPart, IsTest, IsTree, IsWhere, IsNop, IsCreateTable, IsDropTable, IsRenameTable, IsCopyTable, IsMergeTable, IsPartitionTable, IsDecomposeTable, IsJoinTable, IsAddColumn, IsDropColumn, IsRenameColumn, IsOperator}
 use Rattle.smo_parse.specs.TreeTexts.{tree_text, test_text}
 use Rattle.smo_parse.specs.Texts.{more_listed, listed, type_text, column_text, part_text, expr_text, cond_text, operator_text}

@@ -9,10 +9,10 @@ use Rattle.cond_expr.specs.declared.exprs.CmpOp.TheVariants.{Eq, Ne, Lt, Le, Gt,
 use Rattle.cond_expr.specs.Trees.{Tree, Test, never, always, all_of, some_of, fails, compared, a_test}
 use Rattle.cond_expr.specs.Seen.{trees_of, tests_of}
 use Rattle.cond_expr.specs.Sizes.{depth_of, trees_depth, test_depth, tests_depth}
-use Rattle.lexer.specs.Lexemes.{Lexeme, word, number, text, sign, is_name}
-use Rattle.lexer.specs.Parsing.{Size, nothing_counted, both, one_node, one_open, so_wide}
-use Rattle.lexer.specs.Grammar as g
-use Rattle.lexer.specs.Grammar.{spelled, leaf, IsExpr, AreParts, IsFact, AreFacts, IsConj, AreConjs, IsCond}
+use Rattle.lexical_grammar.specs.Lexemes.{Lexeme, word, number, text, sign, is_name}
+use Rattle.parser_combinators.specs.Parsing.{Size, nothing_counted, both, one_node, one_open, so_wide}
+use Rattle.expr_grammar.specs.Grammar as g
+use Rattle.expr_grammar.specs.Grammar.{spelled, leaf, IsExpr, AreParts, IsFact, AreFacts, IsConj, AreConjs, IsCond}
 use Rattle.smo_parse.specs.TreeTexts.{sign_text, tree_text, more_trees_text, test_text, more_tests_text}
 use Rattle.smo_parse.proofs.Spellings.{Closing}
 use Rattle.smo_parse.proofs.Spelled.{Spells, none, a_space, a_token, an_open, a_point, single, join, as_text, right3, right5, right7}

@@ -1,13 +1,13 @@
 -- Lexemes and their bytes: a text that spells them has just their tokens.
 use Rattle.std.proofs.Common.{◌≡◌, ℕ, suc, ◌+◌, Bool, true, false, cond, not, ◌==◌, List, [], ◌∷◌, ◌++◌, length, map, take, drop, codes, Option, None, refl, sym, ap, ◌∙◌, subst, arith, append_assoc, append-nil}
-use Rattle.lexer.specs.declared.token.Token.{Token as Piece_token}
-use Rattle.lexer.specs.declared.kinds.TokenKind.{TokenKind}
-use Rattle.lexer.specs.declared.pieces.Piece.{Piece}
-use Rattle.lexer.specs.declared.pieces.Piece.TheVariants.{End, Of}
-use Rattle.lexer.specs.declared.faults.LexFault.{LexFault}
-use Rattle.lexer.specs.Bytes.{is_blank, gap_len, gap_dash, piece}
-use Rattle.lexer.specs.Lexed.{Lexes, EndsBy, behind_gap}
-use Rattle.lexer.specs.Lexemes.{Lexeme, sign, says, lexeme}
+use Rattle.lexical_grammar.specs.declared.token.Token.{Token as Piece_token}
+use Rattle.lexical_grammar.specs.declared.kinds.TokenKind.{TokenKind}
+use Rattle.lexical_grammar.specs.declared.pieces.Piece.{Piece}
+use Rattle.lexical_grammar.specs.declared.pieces.Piece.TheVariants.{End, Of}
+use Rattle.lexical_grammar.specs.declared.faults.LexFault.{LexFault}
+use Rattle.lexical_grammar.specs.Bytes.{is_blank, gap_len, gap_dash, piece}
+use Rattle.lexical_grammar.specs.Lexed.{Lexes, EndsBy, behind_gap}
+use Rattle.lexical_grammar.specs.Lexemes.{Lexeme, sign, says, lexeme}
 use Rattle.smo_parse.proofs.Spellings.{kind_of, written, Writable, Closing, closing_append, Token, token_of, open_token, point_token}
 
 -- these bytes spell these lexemes: behind each stands what continues it not

@@ -8,15 +8,15 @@ use Rattle.std.proofs.lemmas.Bool.Decides.{nat_tests}
 use Rattle.std.proofs.lemmas.Fmt.{digits_decimal, digits_value-decimal, decimal_nonempty}
 use Rattle.std.proofs.lemmas.Str.Parse.{IsNumeralModel, numerals_by_fold}
 use Rattle.prima_base.specs.Bytes.{is_control, is_digit, is_name_byte, first_from, IsName, IsTxt}
-use Rattle.lexer.specs.declared.kinds.TokenKind.{TokenKind}
-use Rattle.lexer.specs.declared.kinds.TokenKind.TheVariants.{Word, Number, Text, Sign}
-use Rattle.lexer.specs.declared.pieces.Piece.TheVariants.{Of, Long, Big}
-use Rattle.lexer.specs.Bytes.{is_word_start, is_blank, gap_len, gap_dash, number_from, number as value_of, is_big, number_piece, digits_of, text_value, text_from, text_quote, sized, sign as sign_piece, piece}
-use Rattle.lexer.specs.Spaced.{Each, NoneNext, is_quote}
-use Rattle.lexer.specs.Lexemes.{Lexeme, word, number, text, sign, signed, integer, says, is_int, is_one_of}
-use Rattle.lexer.proofs.Parsing.{true_false, by_test}
-use Rattle.lexer.proofs.Whole.{at_word, at_digit, at_quote, at_minus, at_sign, quote_step, plain_step, doubled_step, closed_step, last_step, value_plain, value_doubled, value_closed, value_last, or_true}
-use Rattle.lexer.proofs.Grammar.{sign_exact}
+use Rattle.lexical_grammar.specs.declared.kinds.TokenKind.{TokenKind}
+use Rattle.lexical_grammar.specs.declared.kinds.TokenKind.TheVariants.{Word, Number, Text, Sign}
+use Rattle.lexical_grammar.specs.declared.pieces.Piece.TheVariants.{Of, Long, Big}
+use Rattle.lexical_grammar.specs.Bytes.{is_word_start, is_blank, gap_len, gap_dash, number_from, number as value_of, is_big, number_piece, digits_of, text_value, text_from, text_quote, sized, sign as sign_piece, piece}
+use Rattle.lexical_grammar.specs.Spaced.{Each, NoneNext, is_quote}
+use Rattle.lexical_grammar.specs.Lexemes.{Lexeme, word, number, text, sign, signed, integer, says, is_int, is_one_of}
+use Rattle.lexical_grammar.proofs.Cases.{true_false, by_test}
+use Rattle.lexical_grammar.proofs.Whole.{at_word, at_digit, at_quote, at_minus, at_sign, quote_step, plain_step, doubled_step, closed_step, last_step, value_plain, value_doubled, value_closed, value_last, or_true}
+use Rattle.lexical_grammar.proofs.LexemeTests.{sign_exact}
 use Rattle.smo_parse.specs.TreeTexts.{doubled}
 
 abbrev pub kind_of : Lexeme → TokenKind

@@ -7,11 +7,11 @@ use Rattle.prima_base.specs.declared.values.ColType.TheVariants.{Int as INT_TYPE
 use Rattle.cond_expr.specs.declared.exprs.Whose.TheVariants.{Atom}
 use Rattle.cond_expr.specs.declared.exprs.CmpOp.TheVariants.{Eq}
 use Rattle.cond_expr.specs.Trees.{Tree, Test, column, constant, length_of, always, compared, all_of, no_tests, a_test}
-use Rattle.smo_ops.specs.Operators.{Operator, nop, create_table, drop_table, rename_table, copy_table, merge_table, partition_table, decompose_table, join_table, add_column, drop_column, rename_column}
-use Rattle.lexer.specs.Lexemes.{Lexeme, word, number, sign, is_name}
-use Rattle.lexer.specs.Parsing.{nothing_counted, Out, Got, Stuck, Over, as_many, more, nodes_more}
-use Rattle.lexer.specs.Constants.{name, names}
-use Rattle.lexer.specs.Reader.{ref_rest, length_rest, concat_rest, expr, comparison, bracketed, fact, facts, conj, conjs, cond, outermost}
+use Rattle.smo_types.specs.Operators.{Operator, nop, create_table, drop_table, rename_table, copy_table, merge_table, partition_table, decompose_table, join_table, add_column, drop_column, rename_column}
+use Rattle.lexical_grammar.specs.Lexemes.{Lexeme, word, number, sign, is_name}
+use Rattle.parser_combinators.specs.Parsing.{nothing_counted, Out, Got, Stuck, Over, as_many, more, nodes_more}
+use Rattle.expr_grammar.specs.Constants.{name, names}
+use Rattle.expr_grammar.specs.Reader.{ref_rest, length_rest, concat_rest, expr, comparison, bracketed, fact, facts, conj, conjs, cond, outermost}
 use Rattle.smo_parse.specs.Productions.{IsOperator}
 use Rattle.smo_parse.specs.OperatorReader.{operator, column_type, column as a_column, columns, where_part, create_rest, drop_table_rest, drop_column_rest, drop_rest, rename_table_rest, rename_column_rest, rename_rest, copy_rest, merge_rest, partition_rest, part, decompose_rest, join_rest, add_rest}
 

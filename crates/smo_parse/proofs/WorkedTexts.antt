@@ -5,7 +5,7 @@ use Rattle.prima_base.specs.declared.values.ColType.TheVariants.{Int as INT, Tex
 use Rattle.cond_expr.specs.declared.exprs.Whose.TheVariants.{Alias, Atom}
 use Rattle.cond_expr.specs.declared.exprs.CmpOp.TheVariants.{Eq, Ne, Lt, Le, Gt, Ge}
 use Rattle.cond_expr.specs.Trees.{Tree, Test, Tests, column, constant, length_of, joined, choose, no_trees, a_tree, never, always, compared, all_of, some_of, fails, no_tests, a_test}
-use Rattle.smo_ops.specs.Operators.{nop, create_table, drop_table, rename_table, copy_table, merge_table, partition_table, decompose_table, join_table, add_column, drop_column, rename_column}
+use Rattle.smo_types.specs.Operators.{nop, create_table, drop_table, rename_table, copy_table, merge_table, partition_table, decompose_table, join_table, add_column, drop_column, rename_column}
 use Rattle.smo_parse.specs.TreeTexts.{tree_text}
 use Rattle.smo_parse.specs.Texts.{operator_text, cond_text, expr_text}
 

@@ -1,11 +1,12 @@
 -- What is counted at each token of an operator: at those of its expression or condition what is counted there, and at each other nothing.
 use Rattle.std.specs.Prelude.{false, List, [], ◌∷◌, ◌++◌, map}
 use mathlib.Core.Logic.{inl, inr}
-use Rattle.smo_ops.specs.Operators.{Operator}
+use Rattle.smo_types.specs.Operators.{Operator}
 use Rattle.cond_expr.specs.Trees.{Test}
-use Rattle.lexer.specs.Lexemes.{Lexeme}
-use Rattle.lexer.specs.Parsing.{Size}
-use Rattle.lexer.specs.Marks.{Mark, plain, expr_marks, cond_marks}
+use Rattle.lexical_grammar.specs.Lexemes.{Lexeme}
+use Rattle.parser_combinators.specs.Parsing.{Size}
+use Rattle.parser_combinators.specs.Marks.{Mark, plain}
+use Rattle.expr_grammar.specs.TreeMarks.{expr_marks, cond_marks}
 use Rattle.smo_parse.specs.Productions.{IsWhere, IsPartitionTable, IsJoinTable, IsAddColumn, IsOperator}
 
 -- nothing at each of these

@@ -4,11 +4,11 @@ use Rattle.prima_base.specs.declared.values.ColType.{ColType}
 use Rattle.prima_base.specs.declared.values.ColType.TheVariants.{Int, Text}
 use Rattle.prima_base.specs.Columns.{Column}
 use Rattle.cond_expr.specs.Trees.{Test, always}
-use Rattle.smo_ops.specs.Operators.{Operator, nop, create_table, drop_table, rename_table, copy_table, merge_table, partition_table, decompose_table, join_table, add_column, drop_column, rename_column}
-use Rattle.lexer.specs.Lexemes.{Lexeme, is_word, is_sign}
-use Rattle.lexer.specs.Parsing.{Parser, Arm, No, Takes, bind, pure, map_to, lead, choose, option, many}
-use Rattle.lexer.specs.Reader.{outermost, goes_cond}
-use Rattle.lexer.specs.Constants.{name, names}
+use Rattle.smo_types.specs.Operators.{Operator, nop, create_table, drop_table, rename_table, copy_table, merge_table, partition_table, decompose_table, join_table, add_column, drop_column, rename_column}
+use Rattle.lexical_grammar.specs.Lexemes.{Lexeme, is_word, is_sign}
+use Rattle.parser_combinators.specs.Parsing.{Parser, Arm, No, Takes, bind, pure, map_to, lead, choose, option, many}
+use Rattle.expr_grammar.specs.Reader.{outermost, goes_cond}
+use Rattle.expr_grammar.specs.Constants.{name, names}
 
 -- ---- parts of operators
 

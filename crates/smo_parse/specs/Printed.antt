@@ -1,15 +1,15 @@
 -- Printing an operator and reading it again.
 use Rattle.std.specs.Prelude.{◌≡◌, ℕ, List, [], length, Option, None, Result, Ok, Err}
 use Rattle.cond_expr.specs.Sizes.{depth_of, test_depth}
-use Rattle.smo_ops.specs.declared.ops.Op.{Op}
-use Rattle.smo_ops.specs.Operators.{Operator, operator_of, nop, create_table, drop_table, rename_table, copy_table, merge_table, partition_table, decompose_table, join_table, add_column, drop_column, rename_column}
-use Rattle.lexer.specs.declared.token.Token.{Token}
-use Rattle.lexer.specs.declared.faults.LexFault.{LexFault}
-use Rattle.lexer.specs.declared.parse.ParseFault.{ParseFault}
-use Rattle.lexer.specs.declared.parse.ParseFault.TheVariants as fault
-use Rattle.lexer.specs.Lexed.{Lexes}
-use Rattle.lexer.specs.Parsing.{Got}
-use Rattle.lexer.specs.Found.{IsRead, Follows, lexemes_from}
+use Rattle.smo_types.specs.declared.ops.Op.{Op}
+use Rattle.smo_types.specs.Operators.{Operator, operator_of, nop, create_table, drop_table, rename_table, copy_table, merge_table, partition_table, decompose_table, join_table, add_column, drop_column, rename_column}
+use Rattle.lexical_grammar.specs.declared.token.Token.{Token}
+use Rattle.lexical_grammar.specs.declared.faults.LexFault.{LexFault}
+use Rattle.parser_combinators.specs.declared.faults.ParseFault.{ParseFault}
+use Rattle.parser_combinators.specs.declared.faults.ParseFault.TheVariants as fault
+use Rattle.lexical_grammar.specs.Lexed.{Lexes}
+use Rattle.parser_combinators.specs.Parsing.{Got}
+use Rattle.parser_combinators.specs.Found.{IsRead, Follows, lexemes_from}
 use Rattle.smo_parse.specs.Productions.{IsOperator}
 use Rattle.smo_parse.specs.OperatorReader.{operator}
 use Rattle.smo_parse.specs.Texts.{operator_text}

@@ -5,11 +5,11 @@ use Rattle.prima_base.specs.declared.values.ColType.{ColType}
 use Rattle.prima_base.specs.declared.values.ColType.TheVariants.{Int, Text}
 use Rattle.prima_base.specs.Columns.{Column}
 use Rattle.cond_expr.specs.Trees.{Tree, Test, always}
-use Rattle.smo_ops.specs.Operators.{Operator, nop, create_table, drop_table, rename_table, copy_table, merge_table, partition_table, decompose_table, join_table, add_column, drop_column, rename_column}
-use Rattle.lexer.specs.Lexemes.{word, sign}
-use Rattle.lexer.specs.Parsing.{Grammar, bindG, pureG, leadG, mapG, optionG, eitherG, listG}
-use Rattle.lexer.specs.Grammar.{IsExpr, IsCond}
-use Rattle.lexer.specs.Constants.{nameG, namesG}
+use Rattle.smo_types.specs.Operators.{Operator, nop, create_table, drop_table, rename_table, copy_table, merge_table, partition_table, decompose_table, join_table, add_column, drop_column, rename_column}
+use Rattle.lexical_grammar.specs.Lexemes.{word, sign}
+use Rattle.parser_combinators.specs.Parsing.{Grammar, bindG, pureG, leadG, mapG, optionG, eitherG, listG}
+use Rattle.expr_grammar.specs.Grammar.{IsExpr, IsCond}
+use Rattle.expr_grammar.specs.Constants.{nameG, namesG}
 
 -- ---- parts of operators
 

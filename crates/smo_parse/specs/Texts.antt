@@ -4,7 +4,7 @@ use Rattle.prima_base.specs.declared.values.ColType.{ColType}
 use Rattle.prima_base.specs.declared.values.ColType.TheVariants.{Int, Text}
 use Rattle.prima_base.specs.Columns.{Column}
 use Rattle.cond_expr.specs.Trees.{Tree, Test}
-use Rattle.smo_ops.specs.Operators.{Operator, nop, create_table, drop_table, rename_table, copy_table, merge_table, partition_table, decompose_table, join_table, add_column, drop_column, rename_column}
+use Rattle.smo_types.specs.Operators.{Operator, nop, create_table, drop_table, rename_table, copy_table, merge_table, partition_table, decompose_table, join_table, add_column, drop_column, rename_column}
 use Rattle.smo_parse.specs.TreeTexts.{tree_text, test_text}
 
 -- each behind a comma

@@ -1,13 +1,13 @@
 //! Laws of the texts of operators. Each is proved and does nothing.
 
 ghost use Rattle.std.specs.Prelude.{ℕ, ◌≤◌, List, map, Ok};
-ghost use Rattle.smo_ops.specs.Operators.{Operator, operator_of};
-ghost use Rattle.smo_ops.specs.declared.ops.Op.{Op as AnOp};
-ghost use Rattle.lexer.specs.declared.token.Token.{Token};
-ghost use Rattle.lexer.specs.Lexemes.{Lexeme, lexeme};
-ghost use Rattle.lexer.specs.Marks.{AddUp};
-ghost use Rattle.lexer.specs.Parsing.{Size, Good, Lawful};
-ghost use Rattle.lexer.specs.Found.{IsRead};
+ghost use Rattle.smo_types.specs.Operators.{Operator, operator_of};
+ghost use Rattle.smo_types.specs.declared.ops.Op.{Op as AnOp};
+ghost use Rattle.lexical_grammar.specs.declared.token.Token.{Token};
+ghost use Rattle.lexical_grammar.specs.Lexemes.{Lexeme, lexeme};
+ghost use Rattle.parser_combinators.specs.Marks.{AddUp};
+ghost use Rattle.parser_combinators.specs.Parsing.{Size, Good, Lawful};
+ghost use Rattle.parser_combinators.specs.Found.{IsRead};
 ghost use Rattle.smo_parse.specs.Productions.{IsOperator};
 ghost use Rattle.smo_parse.specs.OperatorReader.{operator, goes_operator};
 ghost use Rattle.smo_parse.specs.OperatorMarks.{operator_marks};

@@ -7,20 +7,10 @@
 #![tactic(auto)]
 
 mod laws;
-#[cfg(test)]
-mod op_makers;
 mod op_printer;
-#[cfg(test)]
-mod op_shown;
-#[cfg(test)]
-mod op_text_tests;
 mod operator_reader;
 mod parse;
-#[cfg(test)]
-mod parse_op_tests;
 mod tree_printer;
-#[cfg(test)]
-mod tree_shown;
 
 pub use laws::{operator_marks_add_up, operators_are_good, printed_operators_are_read};
 pub use op_printer::op_text;

@@ -3,10 +3,10 @@
 ghost use Rattle.std.specs.Prelude.{◌≡◌, ◌<◌, length, codes};
 ghost use Rattle.cond_expr.specs.Seen.{tree, test};
 ghost use Rattle.cond_expr.specs.Trees.{always};
-ghost use Rattle.smo_ops.specs.Operators.{operator_of};
-ghost use Rattle.lexer.specs.Lexemes.{is_word, is_sign};
-ghost use Rattle.lexer.specs.Parsing.{many};
-ghost use Rattle.lexer.specs.Reads.{Reads, ReadsMore, ahead};
+ghost use Rattle.smo_types.specs.Operators.{operator_of};
+ghost use Rattle.lexical_grammar.specs.Lexemes.{is_word, is_sign};
+ghost use Rattle.parser_combinators.specs.Parsing.{many};
+ghost use Rattle.parser_combinators.specs.Reads.{Reads, ReadsMore, ahead};
 ghost use Rattle.smo_parse.specs.OperatorReader as spec;
 
 use cond_expr::Cond;
@@ -16,7 +16,7 @@ use smo_ops::Op;
 use std::alloc::Global;
 
 // A column's type.
-#[tactic(auto, unfolding(crate::specs::OperatorReader::column_type), using(lexer::proofs::ReadSteps::choose_takes, lexer::proofs::ReadSteps::choose_no))]
+#[tactic(auto, unfolding(crate::specs::OperatorReader::column_type), using(parser_combinators::proofs::ReadSteps::choose_takes, parser_combinators::proofs::ReadSteps::choose_no))]
 fn column_type(c: &mut Cursor<'_, '_>) -> Result<ColType, Stop>
     ensures { Reads (λ k. k) (spec.column_type c.old.nodes (ahead c.old)) result c.new }
 {
@@ -75,7 +75,7 @@ fn everywhere() -> Cond
 }
 
 // The condition of a JOIN; a missing one is TRUE.
-#[tactic(auto, unfolding(crate::specs::OperatorReader::where_part), using(lexer::proofs::ReadSteps::option_not, lexer::proofs::ReadSteps::option_takes))]
+#[tactic(auto, unfolding(crate::specs::OperatorReader::where_part), using(parser_combinators::proofs::ReadSteps::option_not, parser_combinators::proofs::ReadSteps::option_takes))]
 fn where_part(alloc: Global, c: &mut Cursor<'_, '_>) -> Result<Cond, Stop>
     ensures { Reads test (spec.where_part c.old.nodes (ahead c.old)) result c.new }
 {
@@ -87,7 +87,7 @@ fn where_part(alloc: Global, c: &mut Cursor<'_, '_>) -> Result<Cond, Stop>
 }
 
 // A table's name and, in brackets, the names of its columns.
-#[tactic(auto, unfolding(crate::specs::OperatorReader::part), using(lexer::proofs::ReadSteps::lead_seen, lexer::proofs::ReadSteps::lead_not))]
+#[tactic(auto, unfolding(crate::specs::OperatorReader::part), using(parser_combinators::proofs::ReadSteps::lead_seen, parser_combinators::proofs::ReadSteps::lead_not))]
 fn part(alloc: Global, c: &mut Cursor<'_, '_>) -> Result<(Name, Vec<Name>), Stop>
     ensures { Reads (λ p. (p.0, p.1.items)) (spec.part c.old.nodes (ahead c.old)) result c.new }
 {
@@ -99,7 +99,7 @@ fn part(alloc: Global, c: &mut Cursor<'_, '_>) -> Result<(Name, Vec<Name>), Stop
 }
 
 // What stands behind CREATE.
-#[tactic(auto, unfolding(crate::specs::OperatorReader::create_rest), using(lexer::proofs::ReadSteps::lead_seen, lexer::proofs::ReadSteps::lead_not))]
+#[tactic(auto, unfolding(crate::specs::OperatorReader::create_rest), using(parser_combinators::proofs::ReadSteps::lead_seen, parser_combinators::proofs::ReadSteps::lead_not))]
 fn create_rest(alloc: Global, c: &mut Cursor<'_, '_>) -> Result<Op, Stop>
     ensures { Reads operator_of (spec.create_rest c.old.nodes (ahead c.old)) result c.new }
 {
@@ -121,7 +121,7 @@ fn drop_table_rest(alloc: Global, c: &mut Cursor<'_, '_>) -> Result<Op, Stop>
 }
 
 // What stands behind DROP COLUMN.
-#[tactic(auto, unfolding(crate::specs::OperatorReader::drop_column_rest), using(lexer::proofs::ReadSteps::lead_seen, lexer::proofs::ReadSteps::lead_not))]
+#[tactic(auto, unfolding(crate::specs::OperatorReader::drop_column_rest), using(parser_combinators::proofs::ReadSteps::lead_seen, parser_combinators::proofs::ReadSteps::lead_not))]
 fn drop_column_rest(alloc: Global, c: &mut Cursor<'_, '_>) -> Result<Op, Stop>
     ensures { Reads operator_of (spec.drop_column_rest c.old.nodes (ahead c.old)) result c.new }
 {
@@ -132,7 +132,7 @@ fn drop_column_rest(alloc: Global, c: &mut Cursor<'_, '_>) -> Result<Op, Stop>
 }
 
 // What stands behind DROP.
-#[tactic(auto, unfolding(crate::specs::OperatorReader::drop_rest), using(lexer::proofs::ReadSteps::choose_takes, lexer::proofs::ReadSteps::choose_no))]
+#[tactic(auto, unfolding(crate::specs::OperatorReader::drop_rest), using(parser_combinators::proofs::ReadSteps::choose_takes, parser_combinators::proofs::ReadSteps::choose_no))]
 fn drop_rest(alloc: Global, c: &mut Cursor<'_, '_>) -> Result<Op, Stop>
     ensures { Reads operator_of (spec.drop_rest c.old.nodes (ahead c.old)) result c.new }
 {
@@ -148,7 +148,7 @@ fn drop_rest(alloc: Global, c: &mut Cursor<'_, '_>) -> Result<Op, Stop>
 }
 
 // What stands behind RENAME TABLE.
-#[tactic(auto, unfolding(crate::specs::OperatorReader::rename_table_rest), using(lexer::proofs::ReadSteps::lead_seen, lexer::proofs::ReadSteps::lead_not))]
+#[tactic(auto, unfolding(crate::specs::OperatorReader::rename_table_rest), using(parser_combinators::proofs::ReadSteps::lead_seen, parser_combinators::proofs::ReadSteps::lead_not))]
 fn rename_table_rest(alloc: Global, c: &mut Cursor<'_, '_>) -> Result<Op, Stop>
     ensures { Reads operator_of (spec.rename_table_rest c.old.nodes (ahead c.old)) result c.new }
 {
@@ -159,7 +159,7 @@ fn rename_table_rest(alloc: Global, c: &mut Cursor<'_, '_>) -> Result<Op, Stop>
 }
 
 // What stands behind RENAME COLUMN.
-#[tactic(auto, unfolding(crate::specs::OperatorReader::rename_column_rest), using(lexer::proofs::ReadSteps::lead_seen, lexer::proofs::ReadSteps::lead_not))]
+#[tactic(auto, unfolding(crate::specs::OperatorReader::rename_column_rest), using(parser_combinators::proofs::ReadSteps::lead_seen, parser_combinators::proofs::ReadSteps::lead_not))]
 fn rename_column_rest(alloc: Global, c: &mut Cursor<'_, '_>) -> Result<Op, Stop>
     ensures { Reads operator_of (spec.rename_column_rest c.old.nodes (ahead c.old)) result c.new }
 {
@@ -176,7 +176,7 @@ fn rename_column_rest(alloc: Global, c: &mut Cursor<'_, '_>) -> Result<Op, Stop>
 }
 
 // What stands behind RENAME.
-#[tactic(auto, unfolding(crate::specs::OperatorReader::rename_rest), using(lexer::proofs::ReadSteps::choose_takes, lexer::proofs::ReadSteps::choose_no))]
+#[tactic(auto, unfolding(crate::specs::OperatorReader::rename_rest), using(parser_combinators::proofs::ReadSteps::choose_takes, parser_combinators::proofs::ReadSteps::choose_no))]
 fn rename_rest(alloc: Global, c: &mut Cursor<'_, '_>) -> Result<Op, Stop>
     ensures { Reads operator_of (spec.rename_rest c.old.nodes (ahead c.old)) result c.new }
 {
@@ -192,7 +192,7 @@ fn rename_rest(alloc: Global, c: &mut Cursor<'_, '_>) -> Result<Op, Stop>
 }
 
 // What stands behind COPY.
-#[tactic(auto, unfolding(crate::specs::OperatorReader::copy_rest), using(lexer::proofs::ReadSteps::lead_seen, lexer::proofs::ReadSteps::lead_not))]
+#[tactic(auto, unfolding(crate::specs::OperatorReader::copy_rest), using(parser_combinators::proofs::ReadSteps::lead_seen, parser_combinators::proofs::ReadSteps::lead_not))]
 fn copy_rest(alloc: Global, c: &mut Cursor<'_, '_>) -> Result<Op, Stop>
     ensures { Reads operator_of (spec.copy_rest c.old.nodes (ahead c.old)) result c.new }
 {
@@ -204,7 +204,7 @@ fn copy_rest(alloc: Global, c: &mut Cursor<'_, '_>) -> Result<Op, Stop>
 }
 
 // What stands behind MERGE.
-#[tactic(auto, unfolding(crate::specs::OperatorReader::merge_rest), using(lexer::proofs::ReadSteps::lead_seen, lexer::proofs::ReadSteps::lead_not))]
+#[tactic(auto, unfolding(crate::specs::OperatorReader::merge_rest), using(parser_combinators::proofs::ReadSteps::lead_seen, parser_combinators::proofs::ReadSteps::lead_not))]
 fn merge_rest(alloc: Global, c: &mut Cursor<'_, '_>) -> Result<Op, Stop>
     ensures { Reads operator_of (spec.merge_rest c.old.nodes (ahead c.old)) result c.new }
 {
@@ -218,7 +218,7 @@ fn merge_rest(alloc: Global, c: &mut Cursor<'_, '_>) -> Result<Op, Stop>
 }
 
 // What stands behind PARTITION.
-#[tactic(auto, unfolding(crate::specs::OperatorReader::partition_rest), using(lexer::proofs::ReadSteps::lead_seen, lexer::proofs::ReadSteps::lead_not))]
+#[tactic(auto, unfolding(crate::specs::OperatorReader::partition_rest), using(parser_combinators::proofs::ReadSteps::lead_seen, parser_combinators::proofs::ReadSteps::lead_not))]
 fn partition_rest(alloc: Global, c: &mut Cursor<'_, '_>) -> Result<Op, Stop>
     ensures { Reads operator_of (spec.partition_rest c.old.nodes (ahead c.old)) result c.new }
 {
@@ -239,7 +239,7 @@ fn partition_rest(alloc: Global, c: &mut Cursor<'_, '_>) -> Result<Op, Stop>
 }
 
 // What stands behind DECOMPOSE.
-#[tactic(auto, unfolding(crate::specs::OperatorReader::decompose_rest), using(lexer::proofs::ReadSteps::lead_seen, lexer::proofs::ReadSteps::lead_not))]
+#[tactic(auto, unfolding(crate::specs::OperatorReader::decompose_rest), using(parser_combinators::proofs::ReadSteps::lead_seen, parser_combinators::proofs::ReadSteps::lead_not))]
 fn decompose_rest(alloc: Global, c: &mut Cursor<'_, '_>) -> Result<Op, Stop>
     ensures { Reads operator_of (spec.decompose_rest c.old.nodes (ahead c.old)) result c.new }
 {
@@ -259,7 +259,7 @@ fn decompose_rest(alloc: Global, c: &mut Cursor<'_, '_>) -> Result<Op, Stop>
 }
 
 // What stands behind JOIN.
-#[tactic(auto, unfolding(crate::specs::OperatorReader::join_rest), using(lexer::proofs::ReadSteps::lead_seen, lexer::proofs::ReadSteps::lead_not))]
+#[tactic(auto, unfolding(crate::specs::OperatorReader::join_rest), using(parser_combinators::proofs::ReadSteps::lead_seen, parser_combinators::proofs::ReadSteps::lead_not))]
 fn join_rest(alloc: Global, c: &mut Cursor<'_, '_>) -> Result<Op, Stop>
     ensures { Reads operator_of (spec.join_rest c.old.nodes (ahead c.old)) result c.new }
 {
@@ -279,7 +279,7 @@ fn join_rest(alloc: Global, c: &mut Cursor<'_, '_>) -> Result<Op, Stop>
 }
 
 // What stands behind ADD.
-#[tactic(auto, unfolding(crate::specs::OperatorReader::add_rest), using(lexer::proofs::ReadSteps::lead_seen, lexer::proofs::ReadSteps::lead_not))]
+#[tactic(auto, unfolding(crate::specs::OperatorReader::add_rest), using(parser_combinators::proofs::ReadSteps::lead_seen, parser_combinators::proofs::ReadSteps::lead_not))]
 fn add_rest(alloc: Global, c: &mut Cursor<'_, '_>) -> Result<Op, Stop>
     ensures { Reads operator_of (spec.add_rest c.old.nodes (ahead c.old)) result c.new }
 {
@@ -297,7 +297,7 @@ fn add_rest(alloc: Global, c: &mut Cursor<'_, '_>) -> Result<Op, Stop>
 }
 
 /// An operator, with the counts of its tree behind those that the cursor has.
-#[tactic(auto, unfolding(crate::specs::OperatorReader::operator), using(lexer::proofs::ReadSteps::choose_takes, lexer::proofs::ReadSteps::choose_no))]
+#[tactic(auto, unfolding(crate::specs::OperatorReader::operator), using(parser_combinators::proofs::ReadSteps::choose_takes, parser_combinators::proofs::ReadSteps::choose_no))]
 pub fn operator(alloc: Global, c: &mut Cursor<'_, '_>) -> Result<Op, Stop>
     ensures { Reads operator_of (spec.operator c.old.nodes (ahead c.old)) result c.new }
 {

@@ -1,12 +1,12 @@
 //! An operator from a list of tokens.
 
 ghost use Rattle.std.specs.Prelude.{◌≡◌, ◌++◌, ◌<◌, ◌≤◌, ◌+◌, ◌∷◌, List, length, drop};
-ghost use Rattle.smo_ops.specs.Operators.{Operator, operator_of};
-ghost use Rattle.lexer.specs.Lexemes.{Lexeme};
-ghost use Rattle.lexer.specs.declared.reading.Stop.TheVariants as stop;
-ghost use Rattle.lexer.specs.Parsing.{Size, Stops, limit};
-ghost use Rattle.lexer.specs.Found.{IsRead, Finds, Ends, IsFirstFault, IsTooMany, Follows, FaultAt, lexemes_from};
-ghost use Rattle.lexer.specs.Marks.{FirstPassed};
+ghost use Rattle.smo_types.specs.Operators.{Operator, operator_of};
+ghost use Rattle.lexical_grammar.specs.Lexemes.{Lexeme};
+ghost use Rattle.parser_combinators.specs.declared.reading.Stop.TheVariants as stop;
+ghost use Rattle.parser_combinators.specs.Parsing.{Size, Stops, limit};
+ghost use Rattle.parser_combinators.specs.Found.{IsRead, Finds, Ends, IsFirstFault, IsTooMany, Follows, FaultAt, lexemes_from};
+ghost use Rattle.parser_combinators.specs.Marks.{FirstPassed};
 ghost use Rattle.prima_base.specs.declared.refusals.What.{What as Counted};
 ghost use Rattle.smo_parse.specs.Productions.{IsOperator};
 ghost use Rattle.smo_parse.specs.OperatorMarks.{operator_marks};

@@ -102,7 +102,7 @@ fn sign_of(op: CmpOp) -> &'static [u8]
 }
 
 // The expressions behind the first.
-#[tactic(auto, using(lexer::proofs::Places::tail_is))]
+#[tactic(auto, using(lexical_grammar::proofs::Cuts::tail_is))]
 fn exprs_behind(parts: &[Expr]) -> &[Expr]
     requires { 0 < length parts.now }
     ensures { result.now ≡ drop 1 parts.now }
@@ -111,7 +111,7 @@ fn exprs_behind(parts: &[Expr]) -> &[Expr]
 }
 
 // The conditions behind the first.
-#[tactic(auto, using(lexer::proofs::Places::tail_is))]
+#[tactic(auto, using(lexical_grammar::proofs::Cuts::tail_is))]
 fn conds_behind(parts: &[Cond]) -> &[Cond]
     requires { 0 < length parts.now }
     ensures { result.now ≡ drop 1 parts.now }

@@ -13,16 +13,20 @@ use Rattle.cond_expr.specs.Trees.{Tree, Test, fill, fill_test}
 use Rattle.cond_expr.specs.Sizes.{nodes_of, depth_of, longest_of, test_nodes, test_depth, test_longest}
 use Rattle.cond_expr.specs.Kinds.{kinds_of}
 use Rattle.cond_expr.specs.Faults.{references, test_references, first_unknown}
-use Rattle.smo_ops.specs.First.{unless, first_refusal}
-use Rattle.smo_ops.specs.Counts.{at_most, tree_counts, test_counts}
-use Rattle.smo_ops.proofs.Firsts.{none_of_both, none_of_first}
-use Rattle.temporal_lang.specs.Branches.{PlainBranch, has_parts, have_parts}
+use Rattle.smo_meaning.specs.First.{unless, first_refusal}
+use Rattle.smo_meaning.specs.Counts.{at_most, tree_counts, test_counts}
+use Rattle.smo_meaning.proofs.Firsts.{none_of_both, none_of_first}
+use Rattle.plain_answers.specs.Branches.{Item, PlainBranch, item_columns}
+use Rattle.temporal_lang.specs.Branches.{has_parts, have_parts}
 use Rattle.temporal_lang.specs.Queries.{PlainQuery}
-use Rattle.temporal_lang.specs.Atoms.{Source, sources_of, to_atoms, filled_branch, branches_with_atoms, atoms_from}
+use Rattle.plain_answers.specs.AtomColumns.{atoms_from, kinds_of_atoms}
+use Rattle.prima_base.specs.Columns.{Column}
+use Rattle.smo_meaning.specs.Effects.{columns_of}
+use Rattle.temporal_lang.specs.Atoms.{Source, sources_of, to_atoms, filled_branch, branches_with_atoms}
 use Rattle.temporal_lang.specs.Checking.{output_counts, branch_counts, branches_counts, excess_of, item_tests, reference_test, branch_references, branch_names, names_tests}
 use Rattle.temporal_lang.specs.Resolved.{HaveFew, AreSmall, IsSmall, AllSmall, AllKnown}
 use Rattle.temporal_lang.proofs.FillLaws.{nodes_filled, test_nodes_filled, both, together, known_filled, known_test}
-use Rattle.temporal_lang.proofs.KnownLaws.{known_reference}
+use Rattle.temporal_lang.proofs.KnownLaws.{source_columns, known_reference}
 
 -- ---- references
 
@@ -35,27 +39,34 @@ module _ (sources : List Source) where
   abbrev passes : List ColRef → Type 0
   passes rs = first_refusal (map (reference_test sources) rs) ≡ None
 
-  outputs_known : (ts : List Tree) → passes (flat_map references ts) → first_unknown (kinds_of (atoms_from 0 sources)) (flat_map references (map (fill (to_atoms sources)) ts)) ≡ None
+  outputs_known : (ts : List Tree) → passes (flat_map references ts) → first_unknown (kinds_of (atoms_from 0 (source_columns sources))) (flat_map references (map (fill (to_atoms sources)) ts)) ≡ None
   outputs_known [] h = refl
   outputs_known (t ∷ ts) h =
-      let p = both (to_atoms sources) (kinds_of (atoms_from 0 sources)) (reference_test sources) (known_reference sources) (references t) (flat_map references ts) h in
-      together (to_atoms sources) (kinds_of (atoms_from 0 sources)) (reference_test sources) (known_reference sources) (references (fill (to_atoms sources) t)) (flat_map references (map (fill (to_atoms sources)) ts))
-      (known_filled (to_atoms sources) (kinds_of (atoms_from 0 sources)) (reference_test sources) (known_reference sources) t p.0)
+      let p = both (to_atoms sources) (kinds_of (atoms_from 0 (source_columns sources))) (reference_test sources) (known_reference sources) (references t) (flat_map references ts) h in
+      together (to_atoms sources) (kinds_of (atoms_from 0 (source_columns sources))) (reference_test sources) (known_reference sources) (references (fill (to_atoms sources) t)) (flat_map references (map (fill (to_atoms sources)) ts))
+      (known_filled (to_atoms sources) (kinds_of (atoms_from 0 (source_columns sources))) (reference_test sources) (known_reference sources) t p.0)
       (outputs_known ts p.1)
 
-  branch_known : (b : PlainBranch) → passes (branch_references b) → first_unknown (kinds_of (atoms_from 0 sources)) (branch_references (filled_branch (to_atoms sources) b)) ≡ None
+  branch_known : (b : PlainBranch) → passes (branch_references b) → first_unknown (kinds_of (atoms_from 0 (source_columns sources))) (branch_references (filled_branch (to_atoms sources) b)) ≡ None
   branch_known b h =
-      let p = both (to_atoms sources) (kinds_of (atoms_from 0 sources)) (reference_test sources) (known_reference sources) (flat_map references b.outs) (test_references b.cond) h in
-      together (to_atoms sources) (kinds_of (atoms_from 0 sources)) (reference_test sources) (known_reference sources) (flat_map references (map (fill (to_atoms sources)) b.outs)) (test_references (fill_test (to_atoms sources) b.cond))
+      let p = both (to_atoms sources) (kinds_of (atoms_from 0 (source_columns sources))) (reference_test sources) (known_reference sources) (flat_map references b.outs) (test_references b.cond) h in
+      together (to_atoms sources) (kinds_of (atoms_from 0 (source_columns sources))) (reference_test sources) (known_reference sources) (flat_map references (map (fill (to_atoms sources)) b.outs)) (test_references (fill_test (to_atoms sources) b.cond))
       (outputs_known b.outs p.0)
-      (known_test (to_atoms sources) (kinds_of (atoms_from 0 sources)) (reference_test sources) (known_reference sources) b.cond p.1)
+      (known_test (to_atoms sources) (kinds_of (atoms_from 0 (source_columns sources))) (reference_test sources) (known_reference sources) b.cond p.1)
+
+same_columns : (tables : Tables) (from : List Item) → source_columns (sources_of tables from) ≡ item_columns tables from
+same_columns tables [] = refl
+same_columns tables (i ∷ from) = ap (λ (cs : List (List Column)). columns_of tables i.0 ∷ cs) (same_columns tables from)
 
 pub all_known : (tables : Tables) (branches : List PlainBranch) → first_refusal (names_tests tables branches) ≡ None → AllKnown tables (branches_with_atoms tables branches)
 all_known tables [] h = tt
 all_known tables (b ∷ branches) h =
     let p = none_of_both (branch_names tables b) (names_tests tables branches) h in
-    let q = none_of_both (item_tests tables b.from) (map (reference_test (sources_of tables b.from)) (branch_references b)) p.0 in
-    (branch_known (sources_of tables b.from) b q.1, all_known tables branches p.1)
+    let q = none_of_both (item_tests tables b.from) (map (reference_test (sources_of tables b.from)) (branch_references b)) p.0 in (
+      subst (λ (cs : List (List Column)). first_unknown (kinds_of_atoms cs) (branch_references (filled_branch (to_atoms (sources_of tables b.from)) b)) ≡ None) (same_columns tables b.from)
+          (branch_known (sources_of tables b.from) b q.1),
+      all_known tables branches p.1,
+    )
 
 -- ---- counts
 

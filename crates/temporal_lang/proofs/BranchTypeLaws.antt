@@ -5,12 +5,13 @@ use Rattle.prima_base.specs.declared.refusals.Refusal.{Refusal}
 use Rattle.schema_catalog.specs.Tables.{Tables}
 use Rattle.cond_expr.specs.Kinds.{Kinds}
 use Rattle.cond_expr.specs.Faults.{first_unknown}
-use Rattle.smo_ops.specs.First.{first_refusal}
-use Rattle.smo_ops.proofs.Firsts.{first_behind, first_before, drop_at}
+use Rattle.smo_meaning.specs.First.{first_refusal}
+use Rattle.smo_meaning.proofs.Firsts.{first_behind, first_before, drop_at}
 use Rattle.temporal_lang.specs.declared.branches.Branch.{Branch}
 use Rattle.temporal_lang.specs.declared.faults.QueryFault.{QueryFault}
 use Rattle.temporal_lang.specs.declared.faults.QueryFault.TheVariants.{Refused, NoMemory}
-use Rattle.temporal_lang.specs.Branches.{PlainBranch, branch_of, branches_of}
+use Rattle.plain_answers.specs.Branches.{PlainBranch}
+use Rattle.temporal_lang.specs.Branches.{branch_of, branches_of}
 use Rattle.temporal_lang.specs.Atoms.{atom_kinds}
 use Rattle.temporal_lang.specs.Checking.{IsPassed, branch_types, branch_nodes, branch_references, types_from, typing_tests, arities, output_kinds}
 use Rattle.temporal_lang.specs.Resolved.{IsSmall, AllSmall, AllKnown, HaveFew}

@@ -5,15 +5,16 @@ use Rattle.std.proofs.lemmas.List.{length-map}
 use Rattle.prima_base.specs.declared.keeps.Keep.{Keep}
 use Rattle.prima_base.specs.declared.refusals.Refusal.{Refusal}
 use Rattle.schema_catalog.specs.Tables.{Tables}
-use Rattle.smo_ops.specs.First.{first_refusal}
-use Rattle.smo_ops.specs.Checks.{Fault}
-use Rattle.smo_ops.proofs.Firsts.{first_behind, first_before, first_later}
+use Rattle.smo_meaning.specs.First.{first_refusal}
+use Rattle.smo_meaning.specs.Checks.{Fault}
+use Rattle.smo_meaning.proofs.Firsts.{first_behind, first_before, first_later}
 use Rattle.temporal_lang.specs.declared.branches.Branch.{Branch}
 use Rattle.temporal_lang.specs.declared.queries.Query.{Query}
 use Rattle.temporal_lang.specs.declared.whens.When.{When}
 use Rattle.temporal_lang.specs.declared.faults.QueryFault.{QueryFault}
 use Rattle.temporal_lang.specs.declared.faults.QueryFault.TheVariants.{Refused, NoMemory}
-use Rattle.temporal_lang.specs.Branches.{PlainBranch, branch_of, branches_of, IsQuery}
+use Rattle.plain_answers.specs.Branches.{PlainBranch}
+use Rattle.temporal_lang.specs.Branches.{branch_of, branches_of, IsQuery}
 use Rattle.temporal_lang.specs.Queries.{PlainQuery}
 use Rattle.temporal_lang.specs.Atoms.{branch_with_atoms, branches_with_atoms}
 use Rattle.temporal_lang.specs.Checking.{IsPassed, IsQueryChecked, excess_of, excess_fault, names_tests, typing_tests, period_tests, query_tests, query_fault}

@@ -9,9 +9,9 @@ use Rattle.cond_expr.specs.Sizes.{nodes_of, trees_nodes, test_nodes, tests_nodes
 use Rattle.cond_expr.specs.Kinds.{Kinds}
 use Rattle.cond_expr.specs.Faults.{references, trees_references, test_references, tests_references, first_unknown, earlier}
 use Rattle.cond_expr.proofs.FaultLaws.{unknown_append}
-use Rattle.smo_ops.specs.First.{first_refusal}
-use Rattle.smo_ops.specs.Checks.{Fault}
-use Rattle.smo_ops.proofs.Firsts.{none_of_both, none_of_first}
+use Rattle.smo_meaning.specs.First.{first_refusal}
+use Rattle.smo_meaning.specs.Checks.{Fault}
+use Rattle.smo_meaning.proofs.Firsts.{none_of_both, none_of_first}
 
 -- ---- nodes
 

@@ -2,8 +2,8 @@
 use Rattle.std.specs.Prelude.{◌≡◌, ℕ, zero, suc, ◌+◌, ◌-◌, ◌<◌, ◌≤◌, Option, Some, None}
 use Rattle.std.proofs.Common.{refl, sym, ap, ◌∙◌, arith}
 use Rattle.std.specs.Option.{option_or}
-use Rattle.smo_ops.specs.Past.{Past}
-use Rattle.smo_ops.specs.Migration.{Loss}
+use Rattle.smo_meaning.specs.Past.{Past}
+use Rattle.smo_meaning.specs.Losses.{Loss}
 use Rattle.temporal_lang.specs.Queries.{PlainQuery, slice_of}
 use Rattle.temporal_lang.specs.Losing.{loss_at, first_from, first_lost}
 

@@ -5,11 +5,12 @@ use Rattle.std.proofs.lemmas.List.{take_more}
 use Rattle.std.specs.FinMap.{contains_key}
 use Rattle.prima_base.specs.declared.refusals.Refusal.TheVariants.{NoTable, Ambiguous}
 use Rattle.schema_catalog.specs.Tables.{Tables}
-use Rattle.smo_ops.specs.First.{unless, where_so, first_refusal}
-use Rattle.smo_ops.specs.Checks.{Fault}
-use Rattle.smo_ops.specs.Preconditions.{among}
-use Rattle.smo_ops.proofs.Firsts.{drop_at}
-use Rattle.temporal_lang.specs.Branches.{Item, aliases_of}
+use Rattle.smo_meaning.specs.First.{unless, where_so, first_refusal}
+use Rattle.smo_meaning.specs.Checks.{Fault}
+use Rattle.smo_meaning.specs.Preconditions.{among}
+use Rattle.smo_meaning.proofs.Firsts.{drop_at}
+use Rattle.plain_answers.specs.Branches.{Item}
+use Rattle.temporal_lang.specs.Branches.{aliases_of}
 use Rattle.temporal_lang.specs.Checking.{items_behind}
 
 aliases_append : (a b : List Item) → aliases_of (a ++ b) ≡ aliases_of a ++ aliases_of b

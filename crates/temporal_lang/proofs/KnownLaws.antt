@@ -1,5 +1,5 @@
 -- A reference that is accepted is made one to a column of its item.
-use Rattle.std.specs.Prelude.{◌≡◌, ◌==◌, ◌&&◌, ◌||◌, not, ℕ, ◌+◌, Bool, true, false, cond, List, [], ◌∷◌, ◌++◌, length, nat_le, is_none, Option, Some, None}
+use Rattle.std.specs.Prelude.{◌≡◌, ◌==◌, ◌&&◌, ◌||◌, not, ℕ, ◌+◌, Bool, true, false, cond, List, [], ◌∷◌, ◌++◌, length, map, nat_le, is_none, Option, Some, None}
 use Rattle.std.proofs.Common.{refl, sym, ap, ◌∙◌, arith}
 use Rattle.std.specs.List.{filter, find, position_or_len}
 use Rattle.prima_base.specs.declared.refusals.Refusal.TheVariants.{NoColumn, Ambiguous}
@@ -11,11 +11,16 @@ use Rattle.cond_expr.specs.declared.exprs.Column.{Column as AtomColumn}
 use Rattle.cond_expr.specs.Rows.{same}
 use Rattle.cond_expr.specs.Kinds.{kinds_of}
 use Rattle.cond_expr.specs.Faults.{references, first_unknown}
-use Rattle.smo_ops.specs.First.{unless}
-use Rattle.smo_ops.specs.Preconditions.{among}
-use Rattle.smo_ops.proofs.Firsts.{none_of_first, met}
-use Rattle.temporal_lang.specs.Atoms.{Source, has_column, has_alias, place_of_column, place_of_alias, to_atoms, columns_at, atoms_from}
+use Rattle.smo_meaning.specs.First.{unless}
+use Rattle.smo_meaning.specs.Preconditions.{among}
+use Rattle.smo_meaning.proofs.Firsts.{none_of_first, met}
+use Rattle.plain_answers.specs.AtomColumns.{columns_at, atoms_from}
+use Rattle.temporal_lang.specs.Atoms.{Source, has_column, has_alias, place_of_column, place_of_alias, to_atoms}
 use Rattle.temporal_lang.specs.Checking.{holders, column_fault, whose_fault, reference_test}
+
+-- the columns of each
+abbrev pub source_columns : List Source → List (List Column)
+source_columns sources = map (λ (s : Source). s.columns) sources
 
 itself : (i : ℕ) → (i == i) ≡ true
 itself i = grind (arith)
@@ -50,23 +55,23 @@ shifted i j = omega arith
 
 -- the first item that meets a test, and has the column
 at_place : (test : Source → Bool) (n : List ℕ) (i : ℕ) (sources : List Source) (s : Source) → find test sources ≡ Some s → has_column n s ≡ true
-    → none_there (atoms_from i sources) n (i + position_or_len test sources) ≡ false
+    → none_there (atoms_from i (source_columns sources)) n (i + position_or_len test sources) ≡ false
 at_place test n i [] s e h = absurd (cc)
 at_place test n i (x ∷ sources) s e h = step (at_place test n (i + 1) sources s) (test x) refl
   where
     there : Some x ≡ Some s → x ≡ s
     there p = cc
 
-    step : (find test sources ≡ Some s → has_column n s ≡ true → none_there (atoms_from (i + 1) sources) n (i + 1 + position_or_len test sources) ≡ false)
-        → (b : Bool) → test x ≡ b → none_there (atoms_from i (x ∷ sources)) n (i + cond (not b) (1 + position_or_len test sources) 0) ≡ false
+    step : (find test sources ≡ Some s → has_column n s ≡ true → none_there (atoms_from (i + 1) (source_columns sources)) n (i + 1 + position_or_len test sources) ≡ false)
+        → (b : Bool) → test x ≡ b → none_there (atoms_from i (source_columns (x ∷ sources))) n (i + cond (not b) (1 + position_or_len test sources) 0) ≡ false
     step rec true q =
         let found : x ≡ s = there (ap (λ b. cond b (Some x) (find test sources)) (sym q) ∙ e) in
         let here : i + 0 ≡ i = omega arith in
-        ap (λ k. none_there (columns_at i x.columns ++ atoms_from (i + 1) sources) n k) here
-        ∙ own i n x.columns (atoms_from (i + 1) sources) (ap (λ (y : Source). has_column n y) found ∙ h)
+        ap (λ k. none_there (columns_at i x.columns ++ atoms_from (i + 1) (source_columns sources)) n k) here
+        ∙ own i n x.columns (atoms_from (i + 1) (source_columns sources)) (ap (λ (y : Source). has_column n y) found ∙ h)
     step rec false q =
-        ap is_none (behind i (position_or_len test sources) n x.columns (atoms_from (i + 1) sources))
-        ∙ ap (λ k. none_there (atoms_from (i + 1) sources) n k) (shifted i (position_or_len test sources))
+        ap is_none (behind i (position_or_len test sources) n x.columns (atoms_from (i + 1) (source_columns sources)))
+        ∙ ap (λ k. none_there (atoms_from (i + 1) (source_columns sources)) n k) (shifted i (position_or_len test sources))
         ∙ rec (ap (λ b. cond b (Some x) (find test sources)) (sym q) ∙ e) h
 
 -- an item has the column where several have it, or one
@@ -83,23 +88,23 @@ a_holder (x ∷ sources) n h = step (a_holder sources n) (has_column n x) refl
         let rest = rec (ap (λ b. nat_le 1 (length (cond b (x ∷ filter (has_column n) sources) (filter (has_column n) sources)))) (sym q) ∙ h) in
         (rest.0, ap (λ b. cond b (Some x) (find (has_column n) sources)) q ∙ rest.1, rest.2)
 
-from_nought : (sources : List Source) (p : ℕ) (n : List ℕ) → none_there (atoms_from 0 sources) n (0 + p) ≡ false → none_there (atoms_from 0 sources) n p ≡ false
-from_nought sources p n h = (let same : p ≡ 0 + p = omega arith in ap (λ k. none_there (atoms_from 0 sources) n k) same ∙ h)
+from_nought : (sources : List Source) (p : ℕ) (n : List ℕ) → none_there (atoms_from 0 (source_columns sources)) n (0 + p) ≡ false → none_there (atoms_from 0 (source_columns sources)) n p ≡ false
+from_nought sources p n h = (let same : p ≡ 0 + p = omega arith in ap (λ k. none_there (atoms_from 0 (source_columns sources)) n k) same ∙ h)
 
-is_known : (sources : List Source) (place : ℕ) (n : List ℕ) → none_there (atoms_from 0 sources) n place ≡ false
-    → cond (none_there (atoms_from 0 sources) n place) (Some n) None ≡ None
+is_known : (sources : List Source) (place : ℕ) (n : List ℕ) → none_there (atoms_from 0 (source_columns sources)) n place ≡ false
+    → cond (none_there (atoms_from 0 (source_columns sources)) n place) (Some n) None ≡ None
 is_known sources place n h = ap (λ b. cond b (Some n) None) h
 
 pub known_reference : (sources : List Source) (r : ColRef) → reference_test sources r ≡ None
-    → first_unknown (kinds_of (atoms_from 0 sources)) (references (to_atoms sources r.whose r.name)) ≡ None
+    → first_unknown (kinds_of (atoms_from 0 (source_columns sources))) (references (to_atoms sources r.whose r.name)) ≡ None
 known_reference sources r h = step r.whose r.name h
   where
     in_alias : (o : Option Source) (alias n : List ℕ) → find (has_alias alias) sources ≡ o → column_fault o alias n ≡ None
-        → none_there (atoms_from 0 sources) n (place_of_alias sources alias) ≡ false
+        → none_there (atoms_from 0 (source_columns sources)) n (place_of_alias sources alias) ≡ false
     in_alias None alias n e h = absurd (cc)
     in_alias (Some s) alias n e h = from_nought sources (place_of_alias sources alias) n (at_place (has_alias alias) n 0 sources s e (met (has_column n s) (NoColumn n) h))
 
-    step : (w : Whose) (n : List ℕ) → whose_fault sources w n ≡ None → first_unknown (kinds_of (atoms_from 0 sources)) (references (to_atoms sources w n)) ≡ None
+    step : (w : Whose) (n : List ℕ) → whose_fault sources w n ≡ None → first_unknown (kinds_of (atoms_from 0 (source_columns sources))) (references (to_atoms sources w n)) ≡ None
     step Free n h =
         let parts = none_of_first (unless (nat_le 1 (holders sources n)) (NoColumn n)) (unless (nat_le (holders sources n) 1) (Ambiguous n) ∷ []) h in
         let held = a_holder sources n (met (nat_le 1 (holders sources n)) (NoColumn n) parts.0) in

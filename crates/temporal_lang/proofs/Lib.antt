@@ -5,7 +5,6 @@ pub mod FillLaws
 pub mod KnownLaws
 pub mod BranchLaws
 pub mod ItemLaws
-mod WorkedWords
 mod WorkedBranches
 mod WorkedPast
 mod WorkedWays

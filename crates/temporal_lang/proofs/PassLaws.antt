@@ -3,7 +3,7 @@ use Rattle.std.specs.Prelude.{◌≡◌, Some, Err}
 use Rattle.prima_base.specs.declared.refusals.Refusal.{Refusal}
 use Rattle.temporal_lang.specs.declared.faults.QueryFault.{QueryFault}
 use Rattle.temporal_lang.specs.declared.faults.QueryFault.TheVariants.{Refused, NoMemory}
-use Rattle.smo_ops.specs.Checks.{Fault}
+use Rattle.smo_meaning.specs.Checks.{Fault}
 use Rattle.temporal_lang.specs.Checking.{IsPassed}
 
 -- what is refused by one test is refused by tests of which it is the first that is not met

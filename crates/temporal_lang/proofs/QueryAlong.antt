@@ -2,24 +2,25 @@
 use Rattle.std.proofs.Common.{◌≡◌, ℕ, ◌+◌, Bool, true, false, cond, is_some, ◌||◌, ◌&&◌, Option, Some, None, List, [], ◌∷◌, ◌++◌, inl, inr, refl, sym, ap, ◌∙◌, subst, arith, codes}
 use Rattle.prima_base.specs.declared.refusals.What.{What}
 use Rattle.cond_expr.specs.Trees.{Tree, Test, always}
-use Rattle.lexer.specs.Lexemes.{Lexeme, word, sign, is_word, is_sign}
-use Rattle.lexer.specs.Parsing.{Size, Got, Stops, AreMore, no_end, Takes, fresh, arm_run, single_arm, and_then, bind, map_to, many, pure, said_or, set_back}
-use Rattle.lexer.specs.Marks.{expr_marks, cond_marks}
-use Rattle.lexer.specs.Passes.{no_passes}
-use Rattle.lexer.specs.Reader.{outermost, goes_expr, goes_cond}
-use Rattle.lexer.specs.Reads.{sees}
-use Rattle.lexer.specs.Constants.{as_name, as_small, name, small}
-use Rattle.lexer.proofs.Parsing.{true_false, got_fewer, many_some, side}
-use Rattle.lexer.proofs.Grammar.{word_is, sign_is, sign_exact}
-use Rattle.lexer.proofs.Endings.{expr_free, cond_free}
-use Rattle.lexer.proofs.MarkSizes.{expr_length, cond_length}
-use Rattle.lexer.proofs.MarksJoined.{expr_read, cond_read}
-use Rattle.lexer.proofs.ManySteps.{many_first, many_done}
-use Rattle.lexer.proofs.ReadSteps.{maybe_not, option_not}
-use Rattle.lexer.proofs.Alternatives.{or_left, or_right}
-use Rattle.lexer.proofs.Passing.{fresh_along, nothing_passes, no_passes_length, passes_length, Along, along_front, along_value, along_map, along_bind, along_lead, along_single}
+use Rattle.lexical_grammar.specs.Lexemes.{Lexeme, word, sign, is_word, is_sign}
+use Rattle.parser_combinators.specs.Parsing.{Size, Got, Stops, AreMore, no_end, Takes, fresh, arm_run, single_arm, and_then, bind, map_to, many, pure, said_or, set_back}
+use Rattle.expr_grammar.specs.TreeMarks.{expr_marks, cond_marks}
+use Rattle.parser_combinators.specs.Passes.{no_passes}
+use Rattle.expr_grammar.specs.Reader.{outermost, goes_expr, goes_cond}
+use Rattle.parser_combinators.specs.Reads.{sees}
+use Rattle.expr_grammar.specs.Constants.{as_name, as_small, name, small}
+use Rattle.lexical_grammar.proofs.Cases.{true_false}
+use Rattle.parser_combinators.proofs.Parsing.{got_fewer, many_some, side}
+use Rattle.lexical_grammar.proofs.LexemeTests.{word_is, sign_is, sign_exact}
+use Rattle.expr_grammar.proofs.Endings.{expr_free, cond_free}
+use Rattle.expr_grammar.proofs.MarkSizes.{expr_length, cond_length}
+use Rattle.expr_grammar.proofs.MarksJoined.{expr_read, cond_read}
+use Rattle.parser_combinators.proofs.ManySteps.{many_first, many_done}
+use Rattle.parser_combinators.proofs.ReadSteps.{maybe_not, option_not}
+use Rattle.parser_combinators.proofs.Alternatives.{or_left, or_right}
+use Rattle.parser_combinators.proofs.Passing.{fresh_along, nothing_passes, no_passes_length, passes_length, Along, along_front, along_value, along_map, along_bind, along_lead, along_single}
 use Rattle.temporal_lang.specs.declared.whens.When.TheVariants.{Always}
-use Rattle.temporal_lang.specs.Branches.{Item, PlainBranch, a_branch}
+use Rattle.plain_answers.specs.Branches.{Item, PlainBranch, a_branch}
 use Rattle.temporal_lang.specs.Queries.{PlainQuery, a_query}
 use Rattle.temporal_lang.specs.QueryGrammar.{IsOutput, AreOutputs, IsAlias, IsItem, IsWhere, IsBranch, IsAsk}
 use Rattle.temporal_lang.specs.QueryReader.{output, outputs, alias, item, where_part, branch, ask, goes_item}

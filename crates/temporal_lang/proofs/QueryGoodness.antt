@@ -1,19 +1,20 @@
 -- The reader of queries is good for their grammar.
 use Rattle.std.proofs.Common.{◌≡◌, ℕ, Bool, true, false, is_some, Option, Some, None, ◌||◌, List, [], ◌∷◌, ◌++◌, inl, inr, refl, sym, ap, subst, codes}
 use Rattle.cond_expr.specs.Trees.{Tree, Test, always}
-use Rattle.lexer.specs.Lexemes.{Lexeme, word, sign, is_word, is_sign, is_name}
-use Rattle.lexer.specs.Parsing.{Size, Good, Stops, bind, bindG, lead, leadG, map_to, mapG, fresh, freshG}
-use Rattle.lexer.specs.Grammar.{IsExpr, IsCond}
-use Rattle.lexer.specs.Reader.{outermost, goes_expr, goes_cond}
-use Rattle.lexer.specs.Constants.{as_name, name, nameG, small, smallG}
-use Rattle.lexer.proofs.Parsing.{true_false, good_goes, bind_good, bind_lead, lead_good, map_good, option_takes_good}
-use Rattle.lexer.proofs.Grammar.{word_is, word_exact, sign_is, sign_exact}
-use Rattle.lexer.proofs.Alternatives.{stops_never, or_left, or_right, stops_fewer, list_good}
-use Rattle.lexer.proofs.Singles.{name_good, small_good, maybe_good}
-use Rattle.lexer.proofs.Fresh.{fresh_good}
-use Rattle.lexer.proofs.Goodness.{outermost_good}
+use Rattle.lexical_grammar.specs.Lexemes.{Lexeme, word, sign, is_word, is_sign, is_name}
+use Rattle.parser_combinators.specs.Parsing.{Size, Good, Stops, bind, bindG, lead, leadG, map_to, mapG, fresh, freshG}
+use Rattle.expr_grammar.specs.Grammar.{IsExpr, IsCond}
+use Rattle.expr_grammar.specs.Reader.{outermost, goes_expr, goes_cond}
+use Rattle.expr_grammar.specs.Constants.{as_name, name, nameG, small, smallG}
+use Rattle.lexical_grammar.proofs.Cases.{true_false}
+use Rattle.parser_combinators.proofs.Parsing.{good_goes, bind_good, bind_lead, lead_good, map_good, option_takes_good}
+use Rattle.lexical_grammar.proofs.LexemeTests.{word_is, word_exact, sign_is, sign_exact}
+use Rattle.parser_combinators.proofs.Alternatives.{stops_never, or_left, or_right, stops_fewer, list_good}
+use Rattle.expr_grammar.proofs.Singles.{name_good, small_good, maybe_good}
+use Rattle.parser_combinators.proofs.Fresh.{fresh_good}
+use Rattle.expr_grammar.proofs.Goodness.{outermost_good}
 use Rattle.temporal_lang.specs.declared.whens.When.TheVariants.{Always}
-use Rattle.temporal_lang.specs.Branches.{Item, PlainBranch, a_branch}
+use Rattle.plain_answers.specs.Branches.{Item, PlainBranch, a_branch}
 use Rattle.temporal_lang.specs.Queries.{a_query}
 use Rattle.temporal_lang.specs.QueryGrammar.{IsOutput, AreOutputs, IsAlias, IsItem, IsWhere, IsBranch, IsAsk}
 use Rattle.temporal_lang.specs.QueryReader.{output, outputs, alias, item, where_part, branch, ask, goes_item, goes_where, goes_branch, goes_ask}

@@ -1,18 +1,18 @@
 -- The longest query is read.
 use Rattle.std.proofs.Common.{◌≡◌, ℕ, Bool, true, false, is_some, Option, Some, None, ◌||◌, List, [], ◌∷◌, ◌++◌, length, inl, inr, refl, sym, ap, ◌∙◌, subst, append_assoc, append-nil, codes}
 use Rattle.cond_expr.specs.Trees.{Test, always}
-use Rattle.lexer.specs.Lexemes.{Lexeme, word, is_word}
-use Rattle.lexer.specs.Parsing.{Size, nothing_counted, both, fresh_size, Got, CanGoOn, Fine, Stops, bindG, mapG}
-use Rattle.lexer.specs.Grammar as g
-use Rattle.lexer.specs.Grammar.{leaf, IsCond}
-use Rattle.lexer.specs.Constants.{as_name}
-use Rattle.lexer.specs.Found.{Ends}
-use Rattle.lexer.proofs.Parsing.{true_false, by_test}
-use Rattle.lexer.proofs.Grammar.{word_exact}
-use Rattle.lexer.proofs.Longest.{cond_stops, stops_behind}
-use Rattle.lexer.proofs.Passing.{by_passes, whole_along, read_before}
+use Rattle.lexical_grammar.specs.Lexemes.{Lexeme, word, is_word}
+use Rattle.parser_combinators.specs.Parsing.{Size, nothing_counted, both, fresh_size, Got, CanGoOn, Fine, Stops, bindG, mapG}
+use Rattle.expr_grammar.specs.Grammar as g
+use Rattle.expr_grammar.specs.Grammar.{leaf, IsCond}
+use Rattle.expr_grammar.specs.Constants.{as_name}
+use Rattle.parser_combinators.specs.Found.{Ends}
+use Rattle.lexical_grammar.proofs.Cases.{true_false, by_test}
+use Rattle.lexical_grammar.proofs.LexemeTests.{word_exact}
+use Rattle.expr_grammar.proofs.Longest.{cond_stops, stops_behind}
+use Rattle.parser_combinators.proofs.Passing.{by_passes, whole_along, read_before}
 use Rattle.temporal_lang.specs.declared.whens.When.TheVariants.{Always}
-use Rattle.temporal_lang.specs.Branches.{Item, a_branch}
+use Rattle.plain_answers.specs.Branches.{Item, a_branch}
 use Rattle.temporal_lang.specs.Queries.{PlainQuery, a_query}
 use Rattle.temporal_lang.specs.QueryGrammar.{IsAlias, IsItem, IsWhere, IsAsk}
 use Rattle.temporal_lang.specs.QueryReader.{ask, goes_ask}

@@ -10,14 +10,14 @@ use Rattle.relations.proofs.ListingLaws.{at_or_below}
 use Rattle.prima_base.specs.Order.{row_cmp}
 use Rattle.prima_base.specs.OrderLaws.{row_exact}
 use Rattle.schema_catalog.specs.Databases.{Database}
-use Rattle.smo_ops.specs.OneRow.{Row, Relation}
-use Rattle.smo_ops.specs.Commands.{PlainVersion}
-use Rattle.smo_ops.specs.Past.{State, Past, no_database, tables_of, version_at, database_from, database_at}
-use Rattle.smo_ops.specs.LawfulPast.{Rise, AreStates, Starts, EachStarts}
-use Rattle.smo_ops.specs.Migration.{migrated_from}
+use Rattle.smo_meaning.specs.OneRow.{Row, Relation}
+use Rattle.smo_types.specs.Commands.{PlainVersion}
+use Rattle.smo_meaning.specs.Past.{State, Past, no_database, tables_of, version_at, database_from, database_at}
+use Rattle.smo_meaning.specs.LawfulPast.{Rise, AreStates, Starts, EachStarts}
+use Rattle.version_ways.specs.Migration.{migrated_from}
 use Rattle.temporal_lang.specs.Queries.{PlainQuery, slice_of, IsLasting}
 use Rattle.temporal_lang.specs.Atoms.{branches_with_atoms}
-use Rattle.temporal_lang.specs.Meaning.{plain}
+use Rattle.plain_answers.specs.Branches.{plain}
 use Rattle.temporal_lang.specs.Answers.{asked_at, IsListingOf, stage_at, is_inside, beginnings, behind_slice, listing}
 use Rattle.temporal_lang.proofs.Slicing.{sliced}
 

@@ -12,11 +12,11 @@ use Rattle.cond_expr.specs.Sizes.{nodes_of}
 use Rattle.cond_expr.specs.Kinds.{Kinds}
 use Rattle.cond_expr.specs.Faults.{references, untyped, test_untyped, first_of, first_unknown, earlier}
 use Rattle.cond_expr.proofs.FaultLaws.{unknown_append}
-use Rattle.smo_ops.specs.First.{first_refusal}
-use Rattle.smo_ops.proofs.Firsts.{first_behind, first_before, first_at, first_later, first_alone, drop_at}
+use Rattle.smo_meaning.specs.First.{first_refusal}
+use Rattle.smo_meaning.proofs.Firsts.{first_behind, first_before, first_at, first_later, first_alone, drop_at}
 use Rattle.temporal_lang.specs.declared.faults.QueryFault.{QueryFault}
 use Rattle.temporal_lang.specs.declared.faults.QueryFault.TheVariants.{Refused, NoMemory}
-use Rattle.temporal_lang.specs.Branches.{PlainBranch}
+use Rattle.plain_answers.specs.Branches.{PlainBranch}
 use Rattle.temporal_lang.specs.Checking.{trees_types, outputs_nodes, branch_types, branch_nodes}
 use Rattle.temporal_lang.specs.Resolved.{AreSmall, IsSmall}
 use Rattle.temporal_lang.specs.Typings.{OutputsTyped, BranchTyped}

@@ -11,14 +11,15 @@ use Rattle.cond_expr.specs.declared.exprs.Whose.TheVariants.{Free, Alias, Atom}
 use Rattle.cond_expr.specs.declared.exprs.CmpOp.TheVariants.{Eq}
 use Rattle.cond_expr.specs.Trees.{column, constant, length_of, always, compared, fill}
 use Rattle.cond_expr.specs.Kinds.{kinds_of, kind_of}
-use Rattle.smo_ops.specs.First.{first_refusal}
-use Rattle.smo_ops.specs.OneRow.{Relation}
+use Rattle.smo_meaning.specs.First.{first_refusal}
+use Rattle.smo_meaning.specs.OneRow.{Relation}
 use Rattle.temporal_lang.specs.declared.whens.When.TheVariants.{During}
-use Rattle.temporal_lang.specs.Branches.{PlainBranch}
-use Rattle.temporal_lang.specs.Meaning.{answers_over}
-use Rattle.temporal_lang.specs.Atoms.{Source, to_atoms, atoms_from}
+use Rattle.plain_answers.specs.Branches.{PlainBranch}
+use Rattle.plain_answers.specs.Choosing.{answers_over}
+use Rattle.plain_answers.specs.AtomColumns.{kinds_of_atoms}
+use Rattle.temporal_lang.specs.Atoms.{Source, to_atoms}
 use Rattle.temporal_lang.specs.Checking.{whose_fault, branch_types, branch_nodes, arities, period_tests}
-use Rattle.temporal_lang.proofs.WorkedWords.{a, b, k, x, y, r, s, t, int, text, at_atom, a_columns, ab_columns, kx_columns, ky_columns}
+use Rattle.version_ways.proofs.WorkedWords.{a, b, k, x, y, r, s, t, int, text, at_atom, a_columns, ab_columns, kx_columns, ky_columns}
 
 -- r has (1, 'a') and (2, 'b'), s has (1, 5)
 abbrev r_rows : Relation
@@ -34,7 +35,7 @@ joining = record { outs = at_atom 0 x ∷ at_atom 1 y ∷ []; from = (r, r) ∷ 
 two_choices : choices (r_rows ∷ s_rows ∷ []) ≡ ((int 1 ∷ text a ∷ []) ∷ (int 1 ∷ int 5 ∷ []) ∷ []) ∷ ((int 2 ∷ text b ∷ []) ∷ (int 1 ∷ int 5 ∷ []) ∷ []) ∷ []
 two_choices = refl
 
-joined_rows : answers_over (kx_columns ∷ ky_columns ∷ []) (r_rows ∷ s_rows ∷ []) joining ≡ (text a ∷ int 5 ∷ []) ∷ []
+joined_rows : answers_over (kx_columns ∷ ky_columns ∷ []) (r_rows ∷ s_rows ∷ []) joining.outs joining.cond ≡ (text a ∷ int 5 ∷ []) ∷ []
 joined_rows = refl
 
 -- SELECT x FROM r UNION SELECT x FROM r r2 WHERE r2.k = 2
@@ -44,12 +45,12 @@ all_x = record { outs = at_atom 0 x ∷ []; from = (r, r) ∷ []; cond = always 
 abbrev second_x : PlainBranch
 second_x = record { outs = at_atom 0 x ∷ []; from = (r, x) ∷ []; cond = compared Eq (at_atom 0 k) (constant (int 2)) }
 
-either : set_of row_cmp (answers_over (kx_columns ∷ []) (r_rows ∷ []) all_x ++ answers_over (kx_columns ∷ []) (r_rows ∷ []) second_x) ≡ (text a ∷ []) ∷ (text b ∷ []) ∷ []
+either : set_of row_cmp (answers_over (kx_columns ∷ []) (r_rows ∷ []) all_x.outs all_x.cond ++ answers_over (kx_columns ∷ []) (r_rows ∷ []) second_x.outs second_x.cond) ≡ (text a ∷ []) ∷ (text b ∷ []) ∷ []
 unfolding set_of
 either = refl
 
 -- an item of an empty table leaves no choice
-no_choice : answers_over (kx_columns ∷ ky_columns ∷ []) (r_rows ∷ [] ∷ []) joining ≡ []
+no_choice : answers_over (kx_columns ∷ ky_columns ∷ []) (r_rows ∷ [] ∷ []) joining.outs joining.cond ≡ []
 no_choice = refl
 
 -- of the entries 5 to 8 and 12 to now: ENDING 0 TO 100 keeps the first, LASTING 4 TO now the second
@@ -112,16 +113,16 @@ plain_a = record { outs = at_atom 0 a ∷ []; from = (t, t) ∷ []; cond = alway
 first_nodes : branch_nodes plain_a ≡ 2
 first_nodes = refl
 
-third_node : first_refusal (branch_types (kinds_of (atoms_from 0 (record { alias = t; columns = a_columns } ∷ []))) (branch_nodes plain_a) lengths) ≡ Some (WrongType 2)
+third_node : first_refusal (branch_types (kinds_of_atoms (a_columns ∷ [])) (branch_nodes plain_a) lengths) ≡ Some (WrongType 2)
 third_node = refl
 
 -- WHERE a = b: the fault is at the comparison, behind the one node of SELECT a
-compared_node : first_refusal (branch_types (kinds_of (atoms_from 0 (record { alias = t; columns = ab_columns } ∷ []))) 0
+compared_node : first_refusal (branch_types (kinds_of_atoms (ab_columns ∷ [])) 0
     (record { outs = at_atom 0 a ∷ []; from = (t, t) ∷ []; cond = compared Eq (at_atom 0 a) (at_atom 0 b) })) ≡ Some (WrongType 1)
 compared_node = refl
 
 -- SELECT a FROM t UNION SELECT b FROM t: an INT and a TEXT
-second_differs : first_refusal (arities (map (λ n. kind_of (kinds_of (atoms_from 0 (record { alias = t; columns = ab_columns } ∷ []))) (at_atom 0 n) ∷ []) (a ∷ b ∷ []))) ≡ Some (Arity 2)
+second_differs : first_refusal (arities (map (λ n. kind_of (kinds_of_atoms (ab_columns ∷ [])) (at_atom 0 n) ∷ []) (a ∷ b ∷ []))) ≡ Some (Arity 2)
 second_differs = refl
 
 -- DURING 5 TO 5 comes before KEEP STARTING 9 TO 3

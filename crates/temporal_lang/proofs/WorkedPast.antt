@@ -1,6 +1,6 @@
 -- Worked rows: a table that is renamed with an inverse. Its past, the table migrated to the version before and the one
 -- behind, and the answers to queries on both versions.
-use Rattle.std.specs.Prelude.{◌≡◌, ◌==◌, ℕ, ◌+◌, List, [], ◌∷◌, ◌++◌, Option, Some, if◌then◌else◌}
+use Rattle.std.specs.Prelude.{◌≡◌, ◌==◌, ℕ, ◌+◌, List, [], ◌∷◌, ◌++◌, Option, Some, None, if◌then◌else◌}
 use Rattle.std.proofs.Common.{refl, ap, ◌∙◌, arith}
 use Rattle.std.specs.Option.{unwrap_or}
 use Rattle.std.specs.FinMap.{get, insert, remove}
@@ -15,24 +15,27 @@ use Rattle.schema_catalog.specs.Tables.{Tables}
 use Rattle.schema_catalog.specs.Databases.{Entry, Rows, Database}
 use Rattle.cond_expr.specs.declared.exprs.CmpOp.TheVariants.{Eq}
 use Rattle.cond_expr.specs.Trees.{constant, always, compared}
-use Rattle.smo_ops.specs.Operators.{create_table, rename_table}
-use Rattle.smo_ops.specs.Changes.{PlainChange, insertion, update}
-use Rattle.smo_ops.specs.Commands.{PlainBody, PlainCommand, PlainVersion, changing, evolving}
-use Rattle.smo_ops.specs.OneRow.{Row, Relation}
-use Rattle.smo_ops.specs.Making.{from_one}
-use Rattle.smo_ops.specs.Effects.{columns_of, relation_after, with_changed, after_each, gained, lost, rows_at}
-use Rattle.smo_ops.specs.After.{behind, carried}
-use Rattle.smo_ops.specs.Past.{State, Past, a_state, no_tables, no_database, beginning, changed_to, evolved_to, past_with, from_stamp}
-use Rattle.smo_ops.specs.History.{past_of}
-use Rattle.smo_ops.specs.Migration.{migrated}
-use Rattle.smo_ops.proofs.CountingLaws.{self_gains_nothing, gained_step, lost_with}
+use Rattle.smo_types.specs.Operators.{create_table, rename_table}
+use Rattle.smo_types.specs.Changes.{PlainChange, insertion, update}
+use Rattle.smo_types.specs.Commands.{PlainBody, PlainCommand, PlainVersion, changing, evolving}
+use Rattle.smo_meaning.specs.OneRow.{Row, Relation}
+use Rattle.smo_meaning.specs.Making.{from_one}
+use Rattle.smo_meaning.specs.Effects.{columns_of, relation_after, with_changed, after_each, gained, lost, rows_at}
+use Rattle.smo_meaning.specs.After.{behind, carried}
+use Rattle.smo_meaning.specs.Past.{State, Past, a_state, no_tables, no_database, tables_of, version_at, database_at, beginning, changed_to, evolved_to, past_with, from_stamp}
+use Rattle.smo_meaning.specs.Counts.{first_excess}
+use Rattle.smo_meaning.specs.InForce.{in_force}
+use Rattle.smo_meaning.specs.History.{past_of}
+use Rattle.version_ways.specs.Migration.{migrated}
+use Rattle.smo_meaning.proofs.CountingLaws.{self_gains_nothing, gained_step, lost_with}
 use Rattle.temporal_lang.specs.declared.whens.When.TheVariants.{Always}
-use Rattle.temporal_lang.specs.Branches.{PlainBranch}
+use Rattle.plain_answers.specs.Branches.{PlainBranch}
 use Rattle.temporal_lang.specs.Queries.{PlainQuery, a_query}
-use Rattle.temporal_lang.specs.Meaning.{answers_over, plain}
+use Rattle.plain_answers.specs.Branches.{plain}
+use Rattle.plain_answers.specs.Choosing.{answers_over}
 use Rattle.temporal_lang.specs.Answers.{asked_at, stages, answer}
 use Rattle.temporal_lang.specs.Accepted.{fault_of_query}
-use Rattle.temporal_lang.proofs.WorkedWords.{a, b, x, y, s, t, u, int, text, at_atom, ab_columns, t_there, u_there}
+use Rattle.version_ways.proofs.WorkedWords.{a, b, x, y, s, t, u, int, text, at_atom, ab_columns, t_there, u_there}
 
 -- AT 1 EVOLVE CREATE TABLE t (a INT, b TEXT); AT 5 INSERT INTO t (a, b) VALUES (1, 'x');
 -- AT 7 UPDATE t SET b = 'y' WHERE a = 1; AT 9 EVOLVE RENAME TABLE t INTO u INVERSE RENAME TABLE u INTO t;
@@ -158,6 +161,32 @@ past_is =
     ∙ ap (λ p. past_with p (command 9 (evolving (rename_table t u) (rename_table u t ∷ [])))) at_7
     ∙ at_9
 
+-- ---- the versions in force, and the database of each moment
+
+-- version 0 is in force up to 1, version 1 up to 9, and version 2 to the end of time
+first_in_force : in_force past_9.versions 1 ≡ span 1 9
+first_in_force = refl
+
+second_in_force : in_force past_9.versions 2 ≡ span 9 forever
+second_in_force = refl
+
+-- the inverse's counts are within their limits
+counted : first_excess (evolving (rename_table t u) (rename_table u t ∷ [])) ≡ None
+counted = refl
+
+-- just before the rename the table is t, and from it on u, in the version then in force and in the database of the moment
+tables_at_8 : get (tables_of past_9 (version_at past_9 8)) t ≡ Some ab_columns
+tables_at_8 = columns_are
+
+rows_at_8 : get (database_at past_9 8) t ≡ Some (Rows y_rows)
+rows_at_8 = t_there from_5 (Rows y_rows)
+
+tables_at_9 : get (tables_of past_9 (version_at past_9 9)) u ≡ Some ab_columns
+tables_at_9 = u_there (remove tables_1 t) (columns_of tables_1 t) ∙ ap (λ o. Some (unwrap_or o [])) columns_are
+
+rows_at_9 : get (database_at past_9 9) u ≡ Some (Rows y_rows)
+rows_at_9 = u_there (remove from_7 t) (Rows y_rows)
+
 -- ---- the migrated table
 
 -- from 9 on version 2 is in force; in version 1 its table is t again
@@ -186,7 +215,7 @@ abbrev query : PlainQuery
 query = a_query 1 (select_b ∷ []) Always []
 
 abbrev b_of : Option (List Column) → Option Entry → List Row
-b_of columns entry = answers_over (unwrap_or columns [] ∷ []) (rows_at entry ∷ []) select_b ++ []
+b_of columns entry = answers_over (unwrap_or columns [] ∷ []) (rows_at entry ∷ []) select_b.outs select_b.cond ++ []
 
 asked_of : (db : Database) (rows : Relation) → get db t ≡ Some (Rows rows) → plain tables_1 (select_b ∷ []) db ≡ set_of row_cmp (b_of (Some ab_columns) (Some (Rows rows)))
 asked_of db rows h =
@@ -236,15 +265,12 @@ select_a = record { outs = at_atom 0 a ∷ []; from = (u, u) ∷ []; cond = alwa
 abbrev later_query : PlainQuery
 later_query = a_query 2 (select_a ∷ []) Always []
 
-columns_behind : get tables_2 u ≡ Some ab_columns
-columns_behind = u_there (remove tables_1 t) (columns_of tables_1 t) ∙ ap (λ o. Some (unwrap_or o [])) columns_are
-
 abbrev a_of : Option (List Column) → Option Entry → List Row
-a_of columns entry = answers_over (unwrap_or columns [] ∷ []) (rows_at entry ∷ []) select_a ++ []
+a_of columns entry = answers_over (unwrap_or columns [] ∷ []) (rows_at entry ∷ []) select_a.outs select_a.cond ++ []
 
 asked_later : (db : Database) (rows : Relation) → get db u ≡ Some (Rows rows) → plain tables_2 (select_a ∷ []) db ≡ set_of row_cmp (a_of (Some ab_columns) (Some (Rows rows)))
 asked_later db rows h =
-    ap (λ o. set_of row_cmp (a_of o (get db u))) columns_behind
+    ap (λ o. set_of row_cmp (a_of o (get db u))) tables_at_9
     ∙ ap (λ e. set_of row_cmp (a_of (Some ab_columns) e)) h
 
 renamed_from : (db : Database) (rows : Relation) → get db t ≡ Some (Rows rows) → get (carried tables_1 (rename_table t u) db) u ≡ Some (Rows rows)

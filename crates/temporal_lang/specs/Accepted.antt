@@ -2,37 +2,23 @@
 use Rattle.std.specs.Prelude.{ℕ, ◌-◌, List, [], ◌∷◌, ◌++◌, length, nat_le, Option, Some, None, slice_get}
 use Rattle.std.specs.Option.{option_map}
 use Rattle.prima_base.specs.declared.refusals.OpKind.{OpKind}
-use Rattle.prima_base.specs.declared.refusals.OpKind.TheVariants.{Nop, CreateTable, DropTable, RenameTable, CopyTable, MergeTable, PartitionTable, DecomposeTable, JoinTable, AddColumn, DropColumn, RenameColumn}
+use Rattle.prima_base.specs.declared.refusals.OpKind.TheVariants.{Nop}
 use Rattle.prima_base.specs.declared.refusals.Refusal.{Refusal}
 use Rattle.prima_base.specs.declared.refusals.Refusal.TheVariants.{NoVersion, NoInverse}
-use Rattle.smo_ops.specs.Operators.{Operator, nop, create_table, drop_table, rename_table, copy_table, merge_table, partition_table, decompose_table, join_table, add_column, drop_column, rename_column}
-use Rattle.smo_ops.specs.Commands.{PlainVersion}
-use Rattle.smo_ops.specs.First.{unless, first_refusal}
-use Rattle.smo_ops.specs.Checks.{Fault}
-use Rattle.smo_ops.specs.Past.{Past, tables_of}
-use Rattle.smo_ops.specs.Migration.{Loss}
+use Rattle.smo_types.specs.Commands.{PlainVersion}
+use Rattle.smo_meaning.specs.First.{unless, first_refusal}
+use Rattle.smo_meaning.specs.Checks.{Fault}
+use Rattle.smo_meaning.specs.Past.{Past, tables_of}
+use Rattle.smo_meaning.specs.Losses.{Loss}
+use Rattle.smo_meaning.specs.OperatorKinds.{operator_kind}
 use Rattle.temporal_lang.specs.Queries.{PlainQuery}
 use Rattle.temporal_lang.specs.Checking.{excess_of, excess_fault, query_tests}
 use Rattle.temporal_lang.specs.Losing.{first_lost}
 
-abbrev pub kind_of : Operator → OpKind
-kind_of nop = Nop
-kind_of (create_table r cs) = CreateTable
-kind_of (drop_table r) = DropTable
-kind_of (rename_table r t) = RenameTable
-kind_of (copy_table r t) = CopyTable
-kind_of (merge_table r s t) = MergeTable
-kind_of (partition_table r s c t) = PartitionTable
-kind_of (decompose_table r s xs t ys) = DecomposeTable
-kind_of (join_table r s t c) = JoinTable
-kind_of (add_column c e r) = AddColumn
-kind_of (drop_column c r) = DropColumn
-kind_of (rename_column b r c) = RenameColumn
-
 -- the operator's kind
 abbrev pub version_kind : Option PlainVersion → OpKind
 version_kind None = Nop
-version_kind (Some v) = kind_of v.op
+version_kind (Some v) = operator_kind v.op
 
 -- the version whose operator is not gone back over, and the operator's kind
 abbrev pub no_way_back : List PlainVersion → Loss → Refusal

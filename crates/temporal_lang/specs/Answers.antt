@@ -8,12 +8,12 @@ use Rattle.relations.specs.Listing.{IsListing}
 use Rattle.relations.specs.Timeline.{Stage, listing_of}
 use Rattle.prima_base.specs.Order.{row_cmp}
 use Rattle.prima_base.specs.Keeping.{kept}
-use Rattle.smo_ops.specs.OneRow.{Row, Relation}
-use Rattle.smo_ops.specs.Past.{State, Past, tables_of}
-use Rattle.smo_ops.specs.Migration.{migrated}
+use Rattle.smo_meaning.specs.OneRow.{Row, Relation}
+use Rattle.smo_meaning.specs.Past.{State, Past, tables_of}
+use Rattle.version_ways.specs.Migration.{migrated}
 use Rattle.temporal_lang.specs.Queries.{PlainQuery, slice_of}
 use Rattle.temporal_lang.specs.Atoms.{branches_with_atoms}
-use Rattle.temporal_lang.specs.Meaning.{plain}
+use Rattle.plain_answers.specs.Branches.{plain}
 
 -- what is asked of a moment; each reference, as it is written, is to an atom of its branch
 abbrev pub asked_at : Past → PlainQuery → ℕ → Relation

@@ -7,10 +7,12 @@ use Rattle.cond_expr.specs.declared.exprs.Column.{Column as AtomColumn}
 use Rattle.cond_expr.specs.declared.exprs.Whose.TheVariants.{Free, Alias, Atom}
 use Rattle.cond_expr.specs.Trees.{column, Filling, fill, fill_test}
 use Rattle.cond_expr.specs.Kinds.{Kinds, kinds_of}
-use Rattle.smo_ops.specs.OneRow.{same}
-use Rattle.smo_ops.specs.Effects.{columns_of}
-use Rattle.smo_ops.specs.Preconditions.{among}
-use Rattle.temporal_lang.specs.Branches.{Item, PlainBranch}
+use Rattle.smo_meaning.specs.OneRow.{same}
+use Rattle.smo_meaning.specs.Effects.{columns_of}
+use Rattle.smo_meaning.specs.Preconditions.{among}
+use Rattle.plain_answers.specs.Branches.{Item, PlainBranch}
+use Rattle.plain_answers.specs.Branches.{item_columns}
+use Rattle.plain_answers.specs.AtomColumns.{kinds_of_atoms}
 use Rattle.temporal_lang.specs.Queries.{PlainQuery, a_query}
 
 -- an item as references see it: its alias, and its table's columns
@@ -55,13 +57,6 @@ branches_with_atoms tables branches = map (branch_with_atoms tables) branches
 abbrev pub with_atoms : Tables → PlainQuery → PlainQuery
 with_atoms tables query = a_query query.version (branches_with_atoms tables query.branches) query.when query.keep
 
--- the columns of the items, as those of atoms, the first of which has this number
-abbrev pub columns_at : ℕ → List Column → List AtomColumn
-columns_at i columns = map (λ (c : Column). record { atom = i; name = c.0; kind = c.1 }) columns
-
-abbrev pub atoms_from : ℕ → List Source → List AtomColumn
-atoms_from i [] = []
-atoms_from i (s ∷ sources) = columns_at i s.columns ++ atoms_from (i + 1) sources
-
+-- what the references of a branch to the columns of its items are
 abbrev pub atom_kinds : Tables → List Item → Kinds
-atom_kinds tables from = kinds_of (atoms_from 0 (sources_of tables from))
+atom_kinds tables from = kinds_of_atoms (item_columns tables from)

@@ -1,4 +1,4 @@
--- Branches of queries as plain data, and what is so of each query.
+-- The plain branch that a branch of a query is, and what is so of each query.
 use Rattle.std.specs.Prelude.{◌≡◌, ℕ, ◌≤◌, ◌&&◌, Bool, true, List, [], ◌∷◌, map, length, nat_le, nat_lt}
 use Rattle.std.specs.List.{list_all}
 use Rattle.relations.specs.Spans.{forever}
@@ -6,25 +6,15 @@ use Rattle.prima_base.specs.declared.keeps.Keep.{Keep}
 use Rattle.prima_base.specs.declared.keeps.Keep.TheVariants.{Starting, Ending, Lasting, Covering, Overlapping}
 use Rattle.cond_expr.specs.Trees.{Tree, Test}
 use Rattle.cond_expr.specs.Seen.{tree, test}
+use Rattle.plain_answers.specs.Branches.{Item, PlainBranch, a_branch}
 use Rattle.temporal_lang.specs.declared.branches.Branch.{Branch}
 use Rattle.temporal_lang.specs.declared.whens.When.{When}
 use Rattle.temporal_lang.specs.declared.whens.When.TheVariants.{Always, AsOf, During}
 
--- an item of a FROM: its table, and its alias
-abbrev pub Item : Type 0
-Item = List ℕ × List ℕ
-
+-- the aliases of the items of a FROM
 abbrev pub aliases_of : List Item → List (List ℕ)
 aliases_of [] = []
 aliases_of (i ∷ from) = i.1 ∷ aliases_of from
-
-pub record PlainBranch : Type 0 where
-  pub outs : List Tree
-  pub from : List Item
-  pub cond : Test
-
-abbrev pub a_branch : List Tree → List Item → Test → PlainBranch
-a_branch outs from cond = record { outs = outs; from = from; cond = cond }
 
 abbrev pub branch_of : Branch → PlainBranch
 branch_of b = a_branch (map tree b.outs.items) b.from.items (test b.cond)

@@ -17,15 +17,16 @@ use Rattle.cond_expr.specs.Trees.{Tree}
 use Rattle.cond_expr.specs.Sizes.{nodes_of, test_nodes}
 use Rattle.cond_expr.specs.Kinds.{Kinds, kind_of, same_kind}
 use Rattle.cond_expr.specs.Faults.{references, test_references, untyped, test_untyped, first_of}
-use Rattle.smo_ops.specs.First.{unless, where_so, first_refusal}
-use Rattle.smo_ops.specs.Checks.{Fault}
-use Rattle.smo_ops.specs.Counts.{Excess, at_most, tree_counts, test_counts}
-use Rattle.smo_ops.specs.Preconditions.{among}
+use Rattle.smo_meaning.specs.First.{unless, where_so, first_refusal}
+use Rattle.smo_meaning.specs.Checks.{Fault}
+use Rattle.smo_meaning.specs.Counts.{Excess, at_most, tree_counts, test_counts}
+use Rattle.smo_meaning.specs.Preconditions.{among}
 use Rattle.temporal_lang.specs.declared.whens.When.{When}
 use Rattle.temporal_lang.specs.declared.whens.When.TheVariants.{Always, AsOf, During}
 use Rattle.temporal_lang.specs.declared.faults.QueryFault.{QueryFault}
 use Rattle.temporal_lang.specs.declared.faults.QueryFault.TheVariants.{Refused, NoMemory}
-use Rattle.temporal_lang.specs.Branches.{Item, PlainBranch}
+use Rattle.plain_answers.specs.Branches.{Item, PlainBranch}
+use Rattle.plain_answers.specs.Naming.{all_references}
 use Rattle.temporal_lang.specs.declared.queries.Query.{Query}
 use Rattle.temporal_lang.specs.Queries.{PlainQuery, query_of}
 use Rattle.temporal_lang.specs.Atoms.{Source, sources_of, has_column, has_alias, branches_with_atoms, with_atoms, atom_kinds}
@@ -78,7 +79,7 @@ abbrev pub reference_test : List Source → ColRef → Fault
 reference_test sources r = whose_fault sources r.whose r.name
 
 abbrev pub branch_references : PlainBranch → List ColRef
-branch_references b = flat_map references b.outs ++ test_references b.cond
+branch_references b = all_references b.outs b.cond
 
 abbrev pub branch_names : Tables → PlainBranch → List Fault
 branch_names tables b = item_tests tables b.from ++ map (reference_test (sources_of tables b.from)) (branch_references b)

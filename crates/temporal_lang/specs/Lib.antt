@@ -1,6 +1,5 @@
 pub mod Branches
 pub mod Queries
-pub mod Meaning
 pub mod Answers
 pub mod Losing
 pub mod Atoms

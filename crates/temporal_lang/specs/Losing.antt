@@ -2,10 +2,12 @@
 use Rattle.std.specs.Prelude.{ℕ, zero, suc, ◌+◌, ◌-◌, List, map, Option, None}
 use Rattle.std.specs.List.{flat_map}
 use Rattle.std.specs.Option.{option_or}
+use Rattle.std.specs.FinMap.{get}
 use Rattle.relations.specs.Spans.{Span}
-use Rattle.smo_ops.specs.Past.{Past, version_at}
-use Rattle.smo_ops.specs.Migration.{Loss, first_loss, lost_names}
-use Rattle.temporal_lang.specs.Branches.{Item, PlainBranch}
+use Rattle.smo_meaning.specs.Past.{Past, version_at}
+use Rattle.smo_meaning.specs.Losses.{Loss, first_loss}
+use Rattle.version_ways.specs.LostNames.{lost_names}
+use Rattle.plain_answers.specs.Branches.{Item, PlainBranch}
 use Rattle.temporal_lang.specs.Queries.{PlainQuery, slice_of}
 
 -- the query's tables, in text order
@@ -17,7 +19,7 @@ query_tables branches = flat_map branch_tables branches
 
 -- the loss of the first of them that is lost on the way from the version in force at the moment
 abbrev pub loss_at : Past → PlainQuery → ℕ → Option Loss
-loss_at past query m = first_loss (query_tables query.branches) (lost_names past.versions (version_at past m) query.version)
+loss_at past query m = first_loss (get (lost_names past.versions (version_at past m) query.version)) (query_tables query.branches)
 
 -- what there is at the first of so many moments, from m on, at which there is something
 unfoldable pub first_from : {X : Type 0} → (ℕ → Option X) → ℕ → ℕ → Option X

@@ -5,7 +5,8 @@ use Rattle.prima_base.specs.declared.keeps.Keep.{Keep}
 use Rattle.temporal_lang.specs.declared.queries.Query.{Query}
 use Rattle.temporal_lang.specs.declared.whens.When.{When}
 use Rattle.temporal_lang.specs.declared.whens.When.TheVariants.{Always, AsOf, During}
-use Rattle.temporal_lang.specs.Branches.{PlainBranch, branches_of}
+use Rattle.plain_answers.specs.Branches.{PlainBranch}
+use Rattle.temporal_lang.specs.Branches.{branches_of}
 
 pub record PlainQuery : Type 0 where
   pub version : ℕ

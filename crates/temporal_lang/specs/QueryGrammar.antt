@@ -2,12 +2,12 @@
 -- outermost expression and condition has counts of its own.
 use Rattle.std.specs.Prelude.{ℕ, true, List, [], ◌∷◌, codes}
 use Rattle.cond_expr.specs.Trees.{Tree, Test, always}
-use Rattle.lexer.specs.Lexemes.{word, sign}
-use Rattle.lexer.specs.Parsing.{Grammar, bindG, leadG, mapG, optionG, maybeG, listG, freshG}
-use Rattle.lexer.specs.Grammar.{IsExpr, IsCond}
-use Rattle.lexer.specs.Constants.{as_name, nameG, smallG}
+use Rattle.lexical_grammar.specs.Lexemes.{word, sign}
+use Rattle.parser_combinators.specs.Parsing.{Grammar, bindG, leadG, mapG, optionG, maybeG, listG, freshG}
+use Rattle.expr_grammar.specs.Grammar.{IsExpr, IsCond}
+use Rattle.expr_grammar.specs.Constants.{as_name, nameG, smallG}
 use Rattle.temporal_lang.specs.declared.whens.When.TheVariants.{Always}
-use Rattle.temporal_lang.specs.Branches.{Item, PlainBranch, a_branch}
+use Rattle.plain_answers.specs.Branches.{Item, PlainBranch, a_branch}
 use Rattle.temporal_lang.specs.Queries.{PlainQuery, a_query}
 
 -- expr

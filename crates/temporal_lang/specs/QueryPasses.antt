@@ -4,11 +4,11 @@ use Rattle.std.specs.Prelude.{ℕ, ◌+◌, true, List, [], ◌∷◌, ◌++◌,
 use mathlib.Core.Logic.{inl, inr}
 use Rattle.prima_base.specs.declared.refusals.What.{What}
 use Rattle.cond_expr.specs.Trees.{Tree, Test}
-use Rattle.lexer.specs.Lexemes.{Lexeme, sign}
-use Rattle.lexer.specs.Parsing.{Size, AreMore, no_end}
-use Rattle.lexer.specs.Marks.{expr_marks, cond_marks}
-use Rattle.lexer.specs.Passes.{passes, no_passes}
-use Rattle.temporal_lang.specs.Branches.{PlainBranch}
+use Rattle.lexical_grammar.specs.Lexemes.{Lexeme, sign}
+use Rattle.parser_combinators.specs.Parsing.{Size, AreMore, no_end}
+use Rattle.expr_grammar.specs.TreeMarks.{expr_marks, cond_marks}
+use Rattle.parser_combinators.specs.Passes.{passes, no_passes}
+use Rattle.plain_answers.specs.Branches.{PlainBranch}
 use Rattle.temporal_lang.specs.Queries.{PlainQuery}
 use Rattle.temporal_lang.specs.QueryGrammar.{IsOutput, AreOutputs, IsWhere, IsBranch, IsAsk}
 

@@ -1,12 +1,12 @@
 -- Reading queries, from left to right.
 use Rattle.std.specs.Prelude.{ℕ, true, is_some, Bool, ◌||◌, List, [], ◌∷◌, codes}
 use Rattle.cond_expr.specs.Trees.{Tree, Test, always}
-use Rattle.lexer.specs.Lexemes.{Lexeme, is_word, is_sign}
-use Rattle.lexer.specs.Parsing.{Parser, Takes, bind, map_to, lead, option, maybe, many, fresh}
-use Rattle.lexer.specs.Reader.{outermost, goes_cond}
-use Rattle.lexer.specs.Constants.{as_name, name, small}
+use Rattle.lexical_grammar.specs.Lexemes.{Lexeme, is_word, is_sign}
+use Rattle.parser_combinators.specs.Parsing.{Parser, Takes, bind, map_to, lead, option, maybe, many, fresh}
+use Rattle.expr_grammar.specs.Reader.{outermost, goes_cond}
+use Rattle.expr_grammar.specs.Constants.{as_name, name, small}
 use Rattle.temporal_lang.specs.declared.whens.When.TheVariants.{Always}
-use Rattle.temporal_lang.specs.Branches.{Item, PlainBranch, a_branch}
+use Rattle.plain_answers.specs.Branches.{Item, PlainBranch, a_branch}
 use Rattle.temporal_lang.specs.Queries.{PlainQuery, a_query}
 
 unfoldable pub output : Parser Tree

@@ -6,7 +6,7 @@ use Rattle.temporal_lang.specs.Atoms.{atom_kinds}
 use Rattle.temporal_lang.specs.Checking.{branch_references}
 use Rattle.cond_expr.specs.Trees.{Tree}
 use Rattle.cond_expr.specs.Sizes.{nodes_of, test_nodes}
-use Rattle.temporal_lang.specs.Branches.{PlainBranch}
+use Rattle.plain_answers.specs.Branches.{PlainBranch}
 
 -- no branch has more than eight items
 abbrev pub HaveFew : List PlainBranch → Type 0

@@ -8,11 +8,11 @@ use Rattle.schema_catalog.specs.Tables.{Tables}
 use Rattle.cond_expr.specs.Trees.{Tree, Test}
 use Rattle.cond_expr.specs.Kinds.{Kinds, kind_of}
 use Rattle.cond_expr.specs.Faults.{untyped, test_untyped, first_of}
-use Rattle.smo_ops.specs.First.{first_refusal}
+use Rattle.smo_meaning.specs.First.{first_refusal}
 use Rattle.temporal_lang.specs.declared.faults.QueryFault.{QueryFault}
 use Rattle.temporal_lang.specs.declared.faults.QueryFault.TheVariants.{Refused, NoMemory}
 use Rattle.temporal_lang.specs.declared.typing.Typed.{Typed}
-use Rattle.temporal_lang.specs.Branches.{PlainBranch}
+use Rattle.plain_answers.specs.Branches.{PlainBranch}
 use Rattle.temporal_lang.specs.Checking.{trees_types, outputs_nodes, branch_types, branch_nodes, types_from, output_kinds}
 
 -- the type, where no node is ill-typed; else the place of the first that is, the root being node `at`

@@ -5,7 +5,7 @@ use Rattle.std.specs.Option.{option_map}
 use Rattle.prima_base.specs.declared.refusals.Refusal.{Refusal}
 use Rattle.prima_base.specs.declared.refusals.Refusal.TheVariants as refusal
 use Rattle.cond_expr.specs.declared.exprs.ColRef.{ColRef}
-use Rattle.smo_ops.specs.Checks.{Fault}
+use Rattle.smo_meaning.specs.Checks.{Fault}
 use Rattle.temporal_lang.specs.declared.wrongs.Wrong.{Wrong}
 use Rattle.temporal_lang.specs.declared.wrongs.Wrong.TheVariants.{NoTable, NoColumn, Ambiguous, WrongType, Arity, EmptyPeriod, TooMany}
 

@@ -1,5 +1,5 @@
 ghost use Rattle.std.specs.Prelude.{◌≡◌, ◌<◌, ◌^◌, ◌+◌, map, length, Some};
-ghost use Rattle.smo_ops.specs.First.{first_refusal};
+ghost use Rattle.smo_meaning.specs.First.{first_refusal};
 ghost use Rattle.temporal_lang.specs.Checking.{alike, arities_from, arities};
 ghost use Rattle.temporal_lang.specs.Typings.{kind_lists};
 ghost use Rattle.temporal_lang.specs.Wrongs.{fault_of};

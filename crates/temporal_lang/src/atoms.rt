@@ -1,6 +1,7 @@
 ghost use Rattle.std.specs.Prelude.{◌≡◌, ◌++◌, ◌≤◌, ◌<◌, OnOk, IfOk, length};
-ghost use Rattle.temporal_lang.specs.Atoms.{sources_of, columns_at, atoms_from};
-ghost use Rattle.smo_ops.specs.Effects.{columns_of};
+ghost use Rattle.plain_answers.specs.AtomColumns.{columns_at, atoms_from};
+ghost use Rattle.plain_answers.specs.Branches.{item_columns};
+ghost use Rattle.smo_meaning.specs.Effects.{columns_of};
 
 use cond_expr::Column;
 use prima_base::{ColType, Name, NoMemory};
@@ -46,7 +47,7 @@ pub(crate) fn atom_columns(
     from: &[(Name, Name)],
 ) -> Result<Vec<Column>, NoMemory>
     requires { length from.now ≤ 8 }
-    ensures { IfOk result (λ v. v.items ≡ atoms_from 0 (sources_of schema.now from.now)) }
+    ensures { IfOk result (λ v. v.items ≡ atoms_from 0 (item_columns schema.now from.now)) }
 {
     let mut columns = Vec::new(alloc);
     for (i, (table, _)) in from.iter().enumerate() {

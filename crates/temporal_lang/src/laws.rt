@@ -1,10 +1,10 @@
 ghost use Rattle.std.specs.Prelude.{◌≡◌, ◌≤◌, ◌<◌, ℕ, List, Some, None};
 ghost use Rattle.relations.specs.Spans.{forever};
 ghost use Rattle.relations.specs.Timed.{Entry};
-ghost use Rattle.smo_ops.specs.OneRow.{Row};
-ghost use Rattle.smo_ops.specs.Past.{Past};
-ghost use Rattle.smo_ops.specs.LawfulPast.{AreStates, EachStarts};
-ghost use Rattle.smo_ops.specs.Migration.{Loss};
+ghost use Rattle.smo_meaning.specs.OneRow.{Row};
+ghost use Rattle.smo_meaning.specs.Past.{Past};
+ghost use Rattle.smo_meaning.specs.LawfulPast.{AreStates, EachStarts};
+ghost use Rattle.smo_meaning.specs.Losses.{Loss};
 ghost use Rattle.temporal_lang.specs.Losing.{loss_at, first_lost};
 ghost use Rattle.temporal_lang.specs.Queries.{PlainQuery, slice_of, IsLasting};
 ghost use Rattle.prima_base.specs.Keeping.{kept};

@@ -16,21 +16,15 @@ mod laws;
 mod lists;
 mod names;
 mod parse;
-#[cfg(test)]
-mod parse_query_tests;
 mod periods;
 mod queries;
 mod query_laws;
 mod query_reader;
-#[cfg(test)]
-mod query_shown;
 mod references;
 mod refusing;
 mod resolving;
 mod sizes;
 mod slices;
-#[cfg(test)]
-mod tests;
 mod to_atoms;
 mod typing;
 mod whens;

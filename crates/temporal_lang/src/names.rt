@@ -1,5 +1,5 @@
 ghost use Rattle.std.specs.Prelude.{◌≡◌, map};
-ghost use Rattle.smo_ops.specs.First.{first_refusal};
+ghost use Rattle.smo_meaning.specs.First.{first_refusal};
 ghost use Rattle.temporal_lang.specs.Branches.{branch_of, branches_of};
 ghost use Rattle.temporal_lang.specs.Atoms.{sources_of};
 ghost use Rattle.temporal_lang.specs.Checking.{IsPassed, whose_fault, column_fault, reference_test, branch_names, names_tests};

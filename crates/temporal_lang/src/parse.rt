@@ -2,10 +2,10 @@
 
 ghost use Rattle.std.specs.Prelude.{◌≡◌, ◌++◌, ◌≤◌, ◌+◌, ◌∷◌, List, length};
 ghost use Rattle.prima_base.specs.declared.refusals.What.{What as Counted};
-ghost use Rattle.lexer.specs.Lexemes.{Lexeme};
-ghost use Rattle.lexer.specs.Parsing.{Size, Stops};
-ghost use Rattle.lexer.specs.Found.{IsRead, Finds, Ends, IsTooMany, Follows, lexemes_from};
-ghost use Rattle.lexer.specs.Passes.{IsFirstPass, IsFaultOf};
+ghost use Rattle.lexical_grammar.specs.Lexemes.{Lexeme};
+ghost use Rattle.parser_combinators.specs.Parsing.{Size, Stops};
+ghost use Rattle.parser_combinators.specs.Found.{IsRead, Finds, Ends, IsTooMany, Follows, lexemes_from};
+ghost use Rattle.parser_combinators.specs.Passes.{IsFirstPass, IsFaultOf};
 ghost use Rattle.temporal_lang.specs.Queries.{PlainQuery, query_of};
 ghost use Rattle.temporal_lang.specs.QueryGrammar.{IsAsk};
 ghost use Rattle.temporal_lang.specs.QueryPasses.{ask_passes};

@@ -1,5 +1,5 @@
 ghost use Rattle.std.specs.Prelude.{◌≡◌, map};
-ghost use Rattle.smo_ops.specs.First.{first_refusal};
+ghost use Rattle.smo_meaning.specs.First.{first_refusal};
 ghost use Rattle.temporal_lang.specs.Checking.{bounds_fault, when_fault, keep_fault, period_tests};
 ghost use Rattle.temporal_lang.specs.Wrongs.{fault_of};
 

@@ -2,9 +2,9 @@
 
 ghost use Rattle.std.specs.Prelude.{◌≡◌, ℕ, List, length, get_or, None};
 ghost use Rattle.prima_base.specs.declared.refusals.What.{What};
-ghost use Rattle.lexer.specs.Lexemes.{Lexeme};
-ghost use Rattle.lexer.specs.Parsing.{Size, Good, Exceeds, Lawful};
-ghost use Rattle.lexer.specs.Passes.{IsFirstPass};
+ghost use Rattle.lexical_grammar.specs.Lexemes.{Lexeme};
+ghost use Rattle.parser_combinators.specs.Parsing.{Size, Good, Exceeds, Lawful};
+ghost use Rattle.parser_combinators.specs.Passes.{IsFirstPass};
 ghost use Rattle.temporal_lang.specs.Queries.{PlainQuery};
 ghost use Rattle.temporal_lang.specs.QueryGrammar.{IsBranch, IsAsk};
 ghost use Rattle.temporal_lang.specs.QueryPasses.{ask_passes};

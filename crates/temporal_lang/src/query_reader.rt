@@ -3,10 +3,10 @@
 ghost use Rattle.std.specs.Prelude.{◌≡◌, ◌<◌, ◌≤◌, length, map, true, codes, is_some, [], ◌∷◌, IfOk};
 ghost use Rattle.cond_expr.specs.Seen.{tree, test};
 ghost use Rattle.cond_expr.specs.Trees.{always};
-ghost use Rattle.lexer.specs.Lexemes.{is_word, is_sign};
-ghost use Rattle.lexer.specs.Constants.{as_name};
-ghost use Rattle.lexer.specs.Parsing.{many};
-ghost use Rattle.lexer.specs.Reads.{Reads, ReadsMore, ahead, sees};
+ghost use Rattle.lexical_grammar.specs.Lexemes.{is_word, is_sign};
+ghost use Rattle.expr_grammar.specs.Constants.{as_name};
+ghost use Rattle.parser_combinators.specs.Parsing.{many};
+ghost use Rattle.parser_combinators.specs.Reads.{Reads, ReadsMore, ahead, sees};
 ghost use Rattle.temporal_lang.specs.declared.whens.When.TheVariants.{Always as EachMoment};
 ghost use Rattle.temporal_lang.specs.Branches.{branch_of, have_parts};
 ghost use Rattle.temporal_lang.specs.Queries.{a_query, query_of};
@@ -64,7 +64,7 @@ fn sees_name(c: &Cursor<'_, '_>) -> bool
 }
 
 // The alias of a table; a missing one is the table's name.
-#[tactic(auto, unfolding(crate::specs::QueryReader::alias, lexer::specs::Constants::name), using(lexer::proofs::ReadSteps::maybe_not, lexer::proofs::ReadSteps::maybe_says))]
+#[tactic(auto, unfolding(crate::specs::QueryReader::alias, expr_grammar::specs::Constants::name), using(parser_combinators::proofs::ReadSteps::maybe_not, parser_combinators::proofs::ReadSteps::maybe_says))]
 fn alias(alloc: Global, c: &mut Cursor<'_, '_>, table: &Name) -> Result<Name, Stop>
     ensures { Reads (λ n. n) (spec.alias table.now c.old.nodes (ahead c.old)) result c.new }
 {
@@ -92,7 +92,7 @@ fn everywhere() -> Cond
 }
 
 // The condition of a branch; a missing one is TRUE.
-#[tactic(auto, unfolding(crate::specs::QueryReader::where_part), using(lexer::proofs::ReadSteps::option_not, lexer::proofs::ReadSteps::option_takes))]
+#[tactic(auto, unfolding(crate::specs::QueryReader::where_part), using(parser_combinators::proofs::ReadSteps::option_not, parser_combinators::proofs::ReadSteps::option_takes))]
 fn where_part(alloc: Global, c: &mut Cursor<'_, '_>) -> Result<Cond, Stop>
     ensures { Reads test (spec.where_part c.old.nodes (ahead c.old)) result c.new }
 {
@@ -104,7 +104,7 @@ fn where_part(alloc: Global, c: &mut Cursor<'_, '_>) -> Result<Cond, Stop>
 }
 
 // A branch, which has an output and an item.
-#[tactic(auto, unfolding(crate::specs::QueryReader::branch), using(lexer::proofs::ReadSteps::lead_seen, lexer::proofs::ReadSteps::lead_not))]
+#[tactic(auto, unfolding(crate::specs::QueryReader::branch), using(parser_combinators::proofs::ReadSteps::lead_seen, parser_combinators::proofs::ReadSteps::lead_not))]
 fn branch(alloc: Global, c: &mut Cursor<'_, '_>) -> Result<Branch, Stop>
     ensures read { Reads branch_of (spec.branch c.old.nodes (ahead c.old)) result c.new }
     ensures parts { IfOk result (λ b. have_parts (branch_of b ∷ []) ≡ true) }
@@ -133,7 +133,7 @@ fn of_one(alloc: Global, version: u32, branch: Branch) -> Result<Query, NoMemory
 }
 
 /// A query, with counts of its own in each outermost expression and condition.
-#[tactic(auto, unfolding(crate::specs::QueryReader::ask), using(lexer::proofs::ReadSteps::lead_seen, lexer::proofs::ReadSteps::lead_not))]
+#[tactic(auto, unfolding(crate::specs::QueryReader::ask), using(parser_combinators::proofs::ReadSteps::lead_seen, parser_combinators::proofs::ReadSteps::lead_not))]
 pub fn ask(alloc: Global, c: &mut Cursor<'_, '_>) -> Result<Query, Stop>
     ensures { Reads query_of (spec.ask c.old.nodes (ahead c.old)) result c.new }
 {

@@ -7,7 +7,7 @@ ghost use Rattle.cond_expr.specs.Faults.{references, test_references, first_unkn
 ghost use Rattle.temporal_lang.specs.Branches.{branch_of, branches_of};
 ghost use Rattle.temporal_lang.specs.Atoms.{atom_kinds};
 ghost use Rattle.temporal_lang.specs.Checking.{IsPassed, typing_tests, outputs_nodes, branch_references, branch_nodes};
-ghost use Rattle.smo_ops.specs.First.{first_refusal};
+ghost use Rattle.smo_meaning.specs.First.{first_refusal};
 ghost use Rattle.temporal_lang.specs.Resolved.{AreSmall, IsSmall, AllSmall, HaveFew, AllKnown};
 ghost use Rattle.temporal_lang.specs.Typings.{IsTyped, IsTypedTest, OutputsTyped, BranchTyped, BranchesTyped};
 

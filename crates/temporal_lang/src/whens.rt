@@ -1,5 +1,5 @@
 /// Which moments a query asks of.
-#[derive(Clone, Copy, Debug, PartialEq, Eq)]
+#[derive(Clone, Copy, PartialEq, Eq)]
 pub enum When {
     /// All of them.
     Always,

@@ -9,16 +9,16 @@ use Rattle.prima_base.specs.OrderLaws.{row_exact}
 use Rattle.prima_base.specs.Columns.{Column, AreColumns, IsRow, IsRelation}
 use Rattle.prima_base.specs.declared.values.Value.{Value}
 use Rattle.history_store.specs.Store.{Store, rows_from, relation_at, IsBefore, AllBefore}
-use Rattle.smo_ops.specs.First.{first_refusal}
-use Rattle.smo_ops.specs.Changes.{PlainChange, insertion, deletion, update, table_of, change_of, changes_of}
-use Rattle.smo_ops.specs.Checks.{tests_behind}
-use Rattle.smo_ops.specs.Effects.{relation_after, gained_rows}
+use Rattle.smo_meaning.specs.First.{first_refusal}
+use Rattle.smo_types.specs.Changes.{PlainChange, insertion, deletion, update, table_of, change_of, changes_of}
+use Rattle.smo_meaning.specs.Checks.{tests_behind}
+use Rattle.smo_meaning.specs.Effects.{relation_after, gained_rows}
 use Rattle.std.specs.Option.{option_map}
-use Rattle.smo_ops.specs.Inserting.{relation_after_each, insertions}
-use Rattle.smo_ops.specs.OneRow.{row_of, same}
-use Rattle.smo_ops.specs.declared.changes.Change.{Change}
-use Rattle.smo_ops.proofs.Firsts.{drop_at}
-use Rattle.smo_ops.proofs.RelationLaws.{keeps_relation, filter_ascends, inserted_row}
+use Rattle.smo_meaning.specs.Inserting.{relation_after_each, insertions}
+use Rattle.smo_meaning.specs.OneRow.{row_of, same}
+use Rattle.smo_types.specs.declared.changes.Change.{Change}
+use Rattle.smo_meaning.proofs.Firsts.{drop_at}
+use Rattle.smo_meaning.proofs.RelationLaws.{keeps_relation, filter_ascends, inserted_row}
 use Rattle.version_groups.specs.Changing.{AreAccepted, of_table}
 
 abbrev Rows : Type 0

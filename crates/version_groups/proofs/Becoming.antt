@@ -8,7 +8,7 @@ use Rattle.prima_base.specs.declared.values.Value.{Value}
 use Rattle.history_store.specs.Store.{Store, Cell, relation_at, AllBefore}
 use Rattle.history_store.specs.Handing.{only_in}
 use Rattle.history_store.specs.Change.{changed, rows_along}
-use Rattle.smo_ops.specs.Effects.{gained_rows}
+use Rattle.smo_meaning.specs.Effects.{gained_rows}
 
 -- a store that has other room alone
 module _ (s t : Store) (n : ℕ) (e : t ≡ record s { spare = n }) where

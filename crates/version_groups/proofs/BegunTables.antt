@@ -14,8 +14,8 @@ use Rattle.prima_base.specs.Order.{bytes_cmp}
 use Rattle.prima_base.specs.Columns.{Column}
 use Rattle.schema_catalog.specs.Tables.{Tables}
 use Rattle.history_store.specs.Store.{Store}
-use Rattle.smo_ops.specs.OneRow.{Relation, same}
-use Rattle.smo_ops.proofs.NameLaws.{same_itself, same_is, same_not, same_turned}
+use Rattle.smo_meaning.specs.OneRow.{Relation, same}
+use Rattle.smo_meaning.proofs.NameLaws.{same_itself, same_is, same_not, same_turned}
 use Rattle.version_groups.specs.declared.made_tables.MadeTable.{MadeTable}
 use Rattle.version_groups.specs.Groups.{stored_as, names_of}
 use Rattle.version_groups.specs.Becoming.{Begins}

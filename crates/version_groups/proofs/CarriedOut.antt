@@ -8,18 +8,18 @@ use Rattle.relations.specs.Sets.{Ascends}
 use Rattle.prima_base.specs.Order.{bytes_cmp}
 use Rattle.history_store.specs.Store.{Store}
 use Rattle.history_store.specs.Change.{Plan}
-use Rattle.smo_ops.specs.declared.versions.Version.{Version}
-use Rattle.smo_ops.specs.Effects.{rows_at}
-use Rattle.smo_ops.specs.OneRow.{Relation}
-use Rattle.smo_ops.specs.Accepts.{command_fault}
-use Rattle.smo_ops.specs.Commands.{PlainBody, changing, evolving, PlainCommand, PlainVersion, version_of}
-use Rattle.smo_ops.specs.Past.{Past, next_version, database_behind, past_with}
+use Rattle.smo_types.specs.declared.versions.Version.{Version}
+use Rattle.smo_meaning.specs.Effects.{rows_at}
+use Rattle.smo_meaning.specs.OneRow.{Relation}
+use Rattle.smo_meaning.specs.Accepts.{command_fault}
+use Rattle.smo_types.specs.Commands.{PlainBody, changing, evolving, PlainCommand, PlainVersion, version_of}
+use Rattle.smo_meaning.specs.Past.{Past, next_version, database_behind, past_with}
 use Rattle.version_groups.specs.declared.made_tables.MadeTable.{MadeTable}
-use Rattle.version_groups.specs.Groups.{Kept, versions_in, group_of, newest_group, names_of}
+use Rattle.version_groups.specs.Groups.{Kept, versions_in, group_of, newest_group, stored_as, names_of}
 use Rattle.version_groups.specs.Showing.{Shows}
 use Rattle.version_groups.specs.Becoming.{HasRoom, Leads, IsMade}
 use Rattle.version_groups.specs.Changing.{HaveRoom}
-use Rattle.version_groups.specs.Installing.{HasChanges, HasVersion}
+use Rattle.version_groups.specs.Installing.{StaysEntry, HasChanges, HasVersion}
 use Rattle.version_groups.specs.Steps.{PlainStep, changed, evolved, a_command, AreChanges, IsNextVersion, IsStep}
 use Rattle.version_groups.proofs.Installed.{shows_changed, shows_evolved}
 
@@ -46,6 +46,15 @@ module _ (kept new : Kept) (past : Past) (shows : Shows kept past) where
       shows_evolved kept past stamp op inverse shows lawful accepted new (version_of made) tables ready
       (ap (map version_of) m.versions ∙ map-append version_of kept.versions (made ∷ [])) (λ k l. m.groups k (omega (arith, l, n)))
       (subst (λ j. group_of new (j + 1) ≡ tables) n m.last)
+
+-- tables that are what they were stay at each moment
+entry_stays : (versions : List PlainVersion) (k : ℕ) (s : Option Store) → StaysEntry versions k s s
+entry_stays versions k None = tt
+entry_stays versions k (Some store) = record { columns = refl; relation = λ m own. refl }
+
+pub group_stays : (versions : List PlainVersion) (k : ℕ) (name : List ℕ) (old new : List MadeTable) → new ≡ old → StaysEntry versions k (stored_as name old) (stored_as name new)
+group_stays versions k name old new e =
+    subst (λ (g : List MadeTable). StaysEntry versions k (stored_as name old) (stored_as name g)) (sym e) (entry_stays versions k (stored_as name old))
 
 -- what is ready has its room
 has_room : (store : Store) (stamp : ℕ) (rows : Relation) (o : Option Plan) → Leads store stamp rows o → HasRoom store o

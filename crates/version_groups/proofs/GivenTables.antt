@@ -7,15 +7,15 @@ use Rattle.prima_base.specs.Columns.{Column}
 use Rattle.schema_catalog.specs.Tables.{Tables}
 use Rattle.schema_catalog.specs.Databases.{Database, Entry, Rows, Lost, IsEntry, IsDatabase}
 use Rattle.history_store.specs.Store.{Store}
-use Rattle.smo_ops.specs.declared.ops.Op.{Op}
-use Rattle.smo_ops.specs.declared.ops.Op.TheVariants.{Nop, CreateTable, DropTable, RenameTable, CopyTable, MergeTable, PartitionTable, DecomposeTable, JoinTable, AddColumn, DropColumn, RenameColumn}
-use Rattle.smo_ops.specs.Operators.{Operator, operator_of, nop, create_table, drop_table, rename_table, copy_table, merge_table, partition_table, decompose_table, join_table, add_column, drop_column, rename_column}
-use Rattle.smo_ops.specs.OperatorTable.{line}
-use Rattle.smo_ops.specs.After.{op_fault}
-use Rattle.smo_ops.specs.Effects.{rows_at}
-use Rattle.smo_ops.specs.OneRow.{Relation}
-use Rattle.smo_ops.proofs.StepLaws.{AllMet}
-use Rattle.smo_ops.proofs.NextSchemas.{all_preconditions, is_table}
+use Rattle.smo_types.specs.declared.ops.Op.{Op}
+use Rattle.smo_types.specs.declared.ops.Op.TheVariants.{Nop, CreateTable, DropTable, RenameTable, CopyTable, MergeTable, PartitionTable, DecomposeTable, JoinTable, AddColumn, DropColumn, RenameColumn}
+use Rattle.smo_types.specs.Operators.{Operator, operator_of, nop, create_table, drop_table, rename_table, copy_table, merge_table, partition_table, decompose_table, join_table, add_column, drop_column, rename_column}
+use Rattle.smo_meaning.specs.OperatorTable.{line}
+use Rattle.smo_meaning.specs.After.{op_fault}
+use Rattle.smo_meaning.specs.Effects.{rows_at}
+use Rattle.smo_meaning.specs.OneRow.{Relation}
+use Rattle.smo_meaning.proofs.StepLaws.{AllMet}
+use Rattle.smo_meaning.proofs.NextSchemas.{all_preconditions, is_table}
 use Rattle.smo_maps.specs.Carrying.{given_tables, Has}
 use Rattle.version_groups.specs.declared.made_tables.MadeTable.{MadeTable}
 use Rattle.version_groups.specs.Groups.{stored_as}

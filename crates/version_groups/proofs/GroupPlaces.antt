@@ -5,7 +5,7 @@ use Rattle.std.specs.Prelude.{Option, Some, None, ◌^◌}
 use Rattle.relations.specs.Sets.{Ascends}
 use Rattle.prima_base.specs.Order.{bytes_cmp}
 use Rattle.history_store.specs.Change.{Plan}
-use Rattle.smo_ops.specs.declared.versions.Version.{Version}
+use Rattle.smo_types.specs.declared.versions.Version.{Version}
 use Rattle.version_groups.specs.declared.made_tables.MadeTable.{MadeTable}
 use Rattle.version_groups.specs.declared.groups.Groups.TheInside.{Inside}
 use Rattle.version_groups.specs.Groups.{group_of, newest_group, names_of}

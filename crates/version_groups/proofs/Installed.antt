@@ -8,24 +8,25 @@ use Rattle.schema_catalog.specs.Tables.{Tables}
 use Rattle.schema_catalog.specs.Databases.{Database}
 use Rattle.history_store.specs.Store.{Store, relation_at, AllBefore}
 use Rattle.history_store.specs.Change.{Plan, rows_after}
-use Rattle.smo_ops.specs.Accepts.{command_fault, body_tests}
-use Rattle.smo_ops.specs.First.{first_refusal}
-use Rattle.smo_ops.specs.Changes.{PlainChange}
-use Rattle.smo_ops.specs.Commands.{PlainBody, changing, evolving, PlainCommand, PlainVersion}
-use Rattle.smo_ops.specs.Operators.{Operator}
-use Rattle.smo_ops.specs.OneRow.{Relation}
-use Rattle.smo_ops.specs.Effects.{rows_at}
-use Rattle.smo_ops.specs.LawfulPast.{last_or_nought, IsLater, IsPast}
-use Rattle.smo_ops.specs.Past.{Past, no_tables, no_database, tables_of, tables_from, version_at, database_at, newest_database, next_version, database_behind, past_with}
-use Rattle.smo_ops.proofs.PastLaws.{newest_holds, up_to_later}
-use Rattle.smo_ops.proofs.PastSteps.{stamp_accepted, later_stamp, body_accepted, stays_lawful, before_command, from_command}
+use Rattle.smo_meaning.specs.Accepts.{command_fault, body_tests}
+use Rattle.smo_meaning.specs.First.{first_refusal}
+use Rattle.smo_types.specs.Changes.{PlainChange}
+use Rattle.smo_types.specs.Commands.{PlainBody, changing, evolving, PlainCommand, PlainVersion}
+use Rattle.smo_types.specs.Operators.{Operator}
+use Rattle.smo_meaning.specs.OneRow.{Relation}
+use Rattle.smo_meaning.specs.Effects.{rows_at}
+use Rattle.smo_meaning.specs.LawfulPast.{last_or_nought, IsLater, IsPast}
+use Rattle.smo_meaning.specs.Past.{Past, no_tables, no_database, tables_of, tables_from, version_at, database_at, newest_database, next_version, database_behind, past_with}
+use Rattle.smo_meaning.proofs.PastLaws.{newest_holds, up_to_later}
+use Rattle.smo_meaning.proofs.PastSteps.{counts_accepted, stamp_accepted, later_stamp, body_accepted, stays_lawful, before_command, from_command}
 use Rattle.version_groups.specs.declared.made_tables.MadeTable.{MadeTable}
 use Rattle.version_groups.specs.Groups.{Kept, versions_in, group_of, table_in, stored_as}
-use Rattle.version_groups.specs.Showing.{ShowsTable, ShowsEntry, Shows}
+use Rattle.version_groups.specs.Showing.{IsInForce, ShowsTable, ShowsEntry, Shows}
 use Rattle.version_groups.specs.Becoming.{Becomes, Begins, IsChange, Leads, IsMade}
 use Rattle.version_groups.specs.Steps.{a_command, AreChanges, BeginsEntry, IsNextVersion}
-use Rattle.version_groups.proofs.PastMoments.{not_in_force, all_in_force, few_in_force, all_with_one, tables_still, tables_added, is_later, still_later, before_or_not}
+use Rattle.smo_meaning.proofs.PastMoments.{not_begun, all_begun, few_begun, all_with_one, tables_still, tables_added, is_later, still_later, before_or_not}
 use Rattle.version_groups.proofs.Pairs.{Found, Paired, paired}
+use Rattle.version_groups.proofs.OwnMoments.{own_version, own_moment, own_within}
 
 -- what is stored under a name, before and behind
 abbrev pub Follows : (List Column → Store → Store → Type 0) → Option Store → Option Store → Type 0
@@ -72,14 +73,18 @@ module _ (kept : Kept) (past : Past) (stamp : ℕ) (body : PlainBody) (shows : S
   not_before = later_stamp past (a_command stamp body) accepted
 
   pub next_is_lawful : IsPast next
-  next_is_lawful = stays_lawful past stamp body shows.lawful (stamp_accepted past (a_command stamp body) accepted) (body_accepted past (a_command stamp body) accepted)
+  next_is_lawful = stays_lawful past stamp body shows.lawful (stamp_accepted past (a_command stamp body) accepted) (counts_accepted past (a_command stamp body) accepted) (body_accepted past (a_command stamp body) accepted)
 
   pub all_later : (m : ℕ) → stamp < m → IsLater past.last m
   all_later m l = still_later past.last stamp m later (omega (arith, l))
 
   -- from the stamp on all versions of the past are in force, and the database is its newest one
   pub newest_then : (m : ℕ) → stamp ≤ m → version_at past m ≡ length past.versions
-  newest_then m l = ap length (all_in_force (last_or_nought past.last) m past.versions shows.lawful.versions (omega (arith, l, not_before)))
+  newest_then m l = ap length (all_begun (last_or_nought past.last) m past.versions shows.lawful.versions (omega (arith, l, not_before)))
+
+  -- so the stamp is a moment of the newest version
+  pub newest_own : IsInForce past.versions (length past.versions) stamp
+  newest_own = own_moment past shows.lawful (length past.versions) stamp lawful (newest_then stamp (omega arith))
 
   pub newest_is : (m : ℕ) → stamp ≤ m → database_at past m ≡ newest_database past
   newest_is m l = newest_holds no_database past.states m (up_to_later (last_or_nought past.last) m past.states (omega (arith, l, not_before)) shows.lawful.ended)
@@ -104,13 +109,19 @@ module _ (kept : Kept) (past : Past) (stamp : ℕ) (changes : List PlainChange) 
   earlier_table : (k : ℕ) (name : List ℕ) → k < length past.versions → (columns : List Column) (store : Store) → ShowsTable past k name columns store → ShowsTable behind k name columns store
   earlier_table k name l columns store h = record {
     columns = h.columns;
-    shown = λ m f e. elim (before_or_not m stamp) [
-      | inl b ↦ h.shown m f e ∙ ap (λ d. rows_at (get d name)) (sym (as_before kept past stamp (changing changes) shows lawful accepted m b))
-      | inr b ↦ absurd (let n = newest_then kept past stamp (changing changes) shows lawful accepted m b in omega (arith, l, e, n))
+    shown = λ m own. elim (before_or_not m stamp) [
+      | inl b ↦ h.shown m own ∙ ap (λ d. rows_at (get d name)) (sym (as_before kept past stamp (changing changes) shows lawful accepted m b))
+      | inr b ↦ absurd (ended m own b)
     ];
-    before = h.before;
-    stamps = λ m b. h.stamps m (all_later kept past stamp (changing changes) shows lawful accepted m b);
+    stamps = λ m own b. h.stamps m own (all_later kept past stamp (changing changes) shows lawful accepted m b);
   }
+    where
+      -- from the stamp on it is not in force
+      ended : (m : ℕ) → IsInForce past.versions k m → stamp ≤ m → ⊥
+      ended m own b =
+          let e = own_version past shows.lawful k m (omega (arith, l)) own in
+          let n = newest_then kept past stamp (changing changes) shows lawful accepted m b in
+          omega (arith, l, e, n)
 
   -- a table of the newest version, with its change
   abbrev IsChanged : MadeTable → MadeTable → Type 0
@@ -133,36 +144,31 @@ module _ (kept : Kept) (past : Past) (stamp : ℕ) (changes : List PlainChange) 
       step : (p : Option Plan) → Leads t.store stamp (changed_rows t.name) p → IsMade t p u → ShowsTable behind n name columns u.store
       step None leads e =
           let is : u.store ≡ t.store = ap (λ (x : MadeTable). x.store) e in
-          let shown : (m : ℕ) → m < forever → version_at past m ≡ n → relation_at t.store m ≡ rows_at (get (database_at behind m) name) = λ m f v. elim (before_or_not m stamp) [
-            | inl b ↦ h.shown m f v ∙ ap (λ d. rows_at (get d name)) (sym (as_before kept past stamp (changing changes) shows lawful accepted m b))
+          let shown : (m : ℕ) → IsInForce past.versions n m → relation_at t.store m ≡ rows_at (get (database_at behind m) name) = λ m own. elim (before_or_not m stamp) [
+            | inl b ↦ h.shown m own ∙ ap (λ d. rows_at (get d name)) (sym (as_before kept past stamp (changing changes) shows lawful accepted m b))
             | inr b ↦
-                h.shown m f v ∙ ap (λ d. rows_at (get d name)) (newest_is kept past stamp (changing changes) shows lawful accepted m b)
+                h.shown m own ∙ ap (λ d. rows_at (get d name)) (newest_is kept past stamp (changing changes) shows lawful accepted m b)
                 ∙ sym (ap (λ d. rows_at (get d name)) (newest_is kept past stamp (changing changes) shows lawful accepted stamp (omega arith)))
-                ∙ sym (h.shown stamp lawful (newest_then kept past stamp (changing changes) shows lawful accepted stamp (omega arith)))
+                ∙ sym (h.shown stamp (newest_own kept past stamp (changing changes) shows lawful accepted))
                 ∙ leads ∙ ap changed_rows named
                 ∙ ap (λ d. rows_at (get d name)) (sym (from_then kept past stamp (changing changes) shows lawful accepted m b))
           ] in
           subst (λ (s : Store). ShowsTable behind n name columns s) (sym is) (record {
             columns = h.columns;
             shown = shown;
-            before = h.before;
-            stamps = λ m b. h.stamps m (all_later kept past stamp (changing changes) shows lawful accepted m b);
+            stamps = λ m own b. h.stamps m own (all_later kept past stamp (changing changes) shows lawful accepted m b);
           })
       step (Some p) leads e =
           let b : Becomes t.store u.store p.stamp (rows_after t.store p) = e.1 in
           let at : p.stamp ≡ stamp = leads.at in
           record {
             columns = b.columns ∙ h.columns;
-            shown = λ m f v. elim (before_or_not m stamp) [
-              | inl l ↦ b.before m (omega (arith, l, at)) ∙ h.shown m f v ∙ ap (λ d. rows_at (get d name)) (sym (as_before kept past stamp (changing changes) shows lawful accepted m l))
-              | inr l ↦ b.from m (omega (arith, l, at)) f ∙ leads.leads ∙ ap changed_rows named
+            shown = λ m own. elim (before_or_not m stamp) [
+              | inl l ↦ b.before m (omega (arith, l, at)) ∙ h.shown m own ∙ ap (λ d. rows_at (get d name)) (sym (as_before kept past stamp (changing changes) shows lawful accepted m l))
+              | inr l ↦ b.from m (omega (arith, l, at)) (own_within past shows.lawful n m shows.ends own) ∙ leads.leads ∙ ap changed_rows named
                   ∙ ap (λ d. rows_at (get d name)) (sym (from_then kept past stamp (changing changes) shows lawful accepted m l))
             ];
-            before = λ m v. elim (before_or_not m stamp) [
-              | inl l ↦ b.before m (omega (arith, l, at)) ∙ h.before m v
-              | inr l ↦ absurd (let w = newest_then kept past stamp (changing changes) shows lawful accepted m l in omega (arith, v, w))
-            ];
-            stamps = λ m l. b.later m (omega (arith, l, at));
+            stamps = λ m own l. b.later m (omega (arith, l, at));
           }
 
   -- the changes are made
@@ -213,53 +219,73 @@ module _ (kept : Kept) (past : Past) (stamp : ℕ) (op : Operator) (inverse : Li
   version = next_version stamp op inverse past
 
   version_before : (m : ℕ) → m < stamp → version_at evolved m ≡ version_at past m
-  version_before m l = ap length (not_in_force m past.versions version l)
+  version_before m l = ap length (not_begun m past.versions version l)
 
   version_then : (m : ℕ) → stamp ≤ m → version_at evolved m ≡ length past.versions + 1
   version_then m l =
       let low = later_stamp past (a_command stamp (evolving op inverse)) accepted in
       all_with_one (last_or_nought past.last) m past.versions version shows.lawful.versions (omega (arith, l, low)) l
 
+  is_past : IsPast evolved
+  is_past = next_is_lawful kept past stamp (evolving op inverse) shows lawful accepted
+
+  one_more : length evolved.versions ≡ length past.versions + 1
+  one_more = length-append past.versions (version ∷ [])
+
   -- a table of an earlier version
   older_table : (k : ℕ) (name : List ℕ) → k ≤ length past.versions → (columns : List Column) (store : Store) → ShowsTable past k name columns store → ShowsTable evolved k name columns store
   older_table k name l columns store h = record {
     columns = h.columns;
-    shown = λ m f e. elim (before_or_not m stamp) [
-      | inl b ↦ h.shown m f (sym (version_before m b) ∙ e) ∙ ap (λ d. rows_at (get d name)) (sym (as_before kept past stamp (evolving op inverse) shows lawful accepted m b))
-      | inr b ↦ absurd (let n = version_then m b in omega (arith, l, e, n))
+    shown = λ m own. elim (before_or_not m stamp) [
+      | inl b ↦
+          h.shown m (own_moment past shows.lawful k m (own_within evolved is_past k m lawful own) (sym (version_before m b) ∙ is m own))
+          ∙ ap (λ d. rows_at (get d name)) (sym (as_before kept past stamp (evolving op inverse) shows lawful accepted m b))
+      | inr b ↦ absurd (ended m own b)
     ];
-    before = λ m e. elim (before_or_not m stamp) [
-      | inl b ↦ h.before m (subst (λ j. j < k) (version_before m b) e)
-      | inr b ↦ absurd (let n = version_then m b in omega (arith, l, e, n))
-    ];
-    stamps = λ m b. h.stamps m (all_later kept past stamp (evolving op inverse) shows lawful accepted m b);
+    stamps = λ m own b. absurd (ended m own (omega (arith, b)));
   }
+    where
+      is : (m : ℕ) → IsInForce evolved.versions k m → version_at evolved m ≡ k
+      is m own = own_version evolved is_past k m (omega (arith, l, one_more)) own
+
+      -- from the stamp on it is no longer in force
+      ended : (m : ℕ) → IsInForce evolved.versions k m → stamp ≤ m → ⊥
+      ended m own b =
+          let e = is m own in
+          let n = version_then m b in
+          omega (arith, l, e, n)
 
   -- a table of the new version
   new_table : (name : List ℕ) (columns : List Column) (store : Store) → Begins columns stamp (rows_at (get (database_behind (evolving op inverse) past) name)) store
       → ShowsTable evolved (length past.versions + 1) name columns store
   new_table name columns store b = record {
     columns = b.columns;
-    shown = λ m f e. elim (before_or_not m stamp) [
-      | inl l ↦ absurd (let n = version_before m l in let few = few_in_force m past.versions in omega (arith, e, n, few))
-      | inr l ↦ b.from m l f ∙ ap (λ d. rows_at (get d name)) (sym (from_then kept past stamp (evolving op inverse) shows lawful accepted m l))
+    shown = λ m own. elim (before_or_not m stamp) [
+      | inl l ↦ absurd (begun m own l)
+      | inr l ↦
+          b.from m l (own_within evolved is_past (length past.versions + 1) m lawful own)
+          ∙ ap (λ d. rows_at (get d name)) (sym (from_then kept past stamp (evolving op inverse) shows lawful accepted m l))
     ];
-    before = λ m e. elim (before_or_not m stamp) [
-      | inl l ↦ b.before m l
-      | inr l ↦ absurd (let n = version_then m l in omega (arith, e, n))
-    ];
-    stamps = λ m l. b.later m l;
+    stamps = λ m own l. b.later m l;
   }
+    where
+      -- before the stamp it is not in force
+      begun : (m : ℕ) → IsInForce evolved.versions (length past.versions + 1) m → m < stamp → ⊥
+      begun m own l =
+          let e = own_version evolved is_past (length past.versions + 1) m (omega (arith, one_more)) own in
+          let n = version_before m l in
+          let few = few_begun m past.versions in
+          omega (arith, e, n, few)
 
   -- the version is there, with its tables
   pub shows_evolved : (new : Kept) (made : PlainVersion) (tables : List MadeTable) → IsNextVersion kept version (database_behind (evolving op inverse) past) made tables
       → versions_in new ≡ versions_in kept ++ made ∷ [] → ((k : ℕ) → k ≤ length past.versions → group_of new k ≡ group_of kept k) → group_of new (length past.versions + 1) ≡ tables
       → Shows new evolved
   shows_evolved new made tables is versions groups last = record {
-    lawful = next_is_lawful kept past stamp (evolving op inverse) shows lawful accepted;
+    lawful = is_past;
     ends = lawful;
     versions = versions ∙ ap (λ (vs : List PlainVersion). vs ++ made ∷ []) shows.versions ∙ ap (λ (v : PlainVersion). past.versions ++ v ∷ []) is.version;
-    tables = λ k name l. each k name (before_or_not n k) (subst (λ j. k ≤ j) (length-append past.versions (version ∷ [])) l);
+    tables = λ k name l. each k name (before_or_not n k) (subst (λ j. k ≤ j) one_more l);
   }
     where
       n : ℕ

@@ -1,6 +1,6 @@
-pub mod PastMoments
 pub mod StoredUnder
 pub mod Pairs
+pub mod OwnMoments
 pub mod Installed
 pub mod GroupPlaces
 pub mod TablesChanged

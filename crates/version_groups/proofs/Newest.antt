@@ -12,17 +12,17 @@ use Rattle.schema_catalog.specs.Tables.{Tables, IsSchema}
 use Rattle.schema_catalog.specs.Databases.{Database, Entry, Rows, Lost, IsEntry, IsDatabase}
 use Rattle.history_store.specs.Store.{Store, relation_at, AllBefore}
 use Rattle.history_store.specs.Change.{Plan}
-use Rattle.smo_ops.specs.Accepts.{command_fault}
-use Rattle.smo_ops.specs.Changes.{PlainChange}
-use Rattle.smo_ops.specs.Checks.{changes_tests, changes_fault}
-use Rattle.smo_ops.specs.First.{first_refusal}
-use Rattle.smo_ops.specs.Commands.{PlainBody, changing, evolving}
-use Rattle.smo_ops.specs.Effects.{rows_at, after_each, gained, lost}
-use Rattle.smo_ops.specs.Inserting.{relation_after_each}
-use Rattle.smo_ops.specs.Past.{Past, no_tables, tables_of, database_at, newest_tables, newest_database}
-use Rattle.smo_ops.proofs.CountingLaws.{self_gains_nothing}
-use Rattle.smo_ops.proofs.DatabaseLaws.{changes_keep}
-use Rattle.smo_ops.proofs.PastSteps.{stamp_accepted}
+use Rattle.smo_meaning.specs.Accepts.{command_fault}
+use Rattle.smo_types.specs.Changes.{PlainChange}
+use Rattle.smo_meaning.specs.Checks.{changes_tests, changes_fault}
+use Rattle.smo_meaning.specs.First.{first_refusal}
+use Rattle.smo_types.specs.Commands.{PlainBody, changing, evolving}
+use Rattle.smo_meaning.specs.Effects.{rows_at, after_each, gained, lost}
+use Rattle.smo_meaning.specs.Inserting.{relation_after_each}
+use Rattle.smo_meaning.specs.Past.{Past, no_tables, tables_of, database_at, newest_tables, newest_database}
+use Rattle.smo_meaning.proofs.CountingLaws.{self_gains_nothing}
+use Rattle.smo_meaning.proofs.DatabaseLaws.{changes_keep}
+use Rattle.smo_meaning.proofs.PastSteps.{stamp_accepted}
 use Rattle.version_groups.specs.declared.made_tables.MadeTable.{MadeTable}
 use Rattle.version_groups.specs.Groups.{Kept, group_of, table_in, stored_as, names_of}
 use Rattle.version_groups.specs.Showing.{ShowsTable, ShowsEntry, Shows}
@@ -30,8 +30,8 @@ use Rattle.version_groups.specs.Becoming.{Leads}
 use Rattle.version_groups.specs.Changing.{of_table, AreAccepted, rows_now, rows_behind, IsChangeable, AreChangeable, AreReady, all_gained, all_lost}
 use Rattle.version_groups.specs.Standing.{StandsFor, StandsEntry, AreStored}
 use Rattle.version_groups.specs.Steps.{a_command, AreChanges}
-use Rattle.version_groups.proofs.PastMoments.{newest_tables_from, is_later}
-use Rattle.version_groups.proofs.Installed.{newest_then, newest_is}
+use Rattle.smo_meaning.proofs.PastMoments.{newest_tables_from, is_later}
+use Rattle.version_groups.proofs.Installed.{newest_own, newest_is}
 use Rattle.version_groups.proofs.TablesChanged.{accepted_of, behind_each, stored_there}
 use Rattle.version_groups.proofs.TablesCounted.{with_behind, HasNow, counted, got, not_stored, IsStored, is_stored}
 
@@ -42,11 +42,13 @@ module _ (kept : Kept) (past : Past) (stamp : ℕ) (body : PlainBody) (shows : S
   stands_entry name None None h = tt
   stands_entry name None (Some store) h = absurd h
   stands_entry name (Some columns) None h = absurd h
-  stands_entry name (Some columns) (Some store) h = record {
-    columns = h.columns;
-    rows = h.shown stamp lawful (newest_then kept past stamp body shows lawful accepted stamp (omega arith)) ∙ ap (λ d. rows_at (get d name)) (newest_is kept past stamp body shows lawful accepted stamp (omega arith));
-    before = h.stamps stamp (is_later past.last stamp (stamp_accepted past (a_command stamp body) accepted));
-  }
+  stands_entry name (Some columns) (Some store) h =
+      let own = newest_own kept past stamp body shows lawful accepted in
+      record {
+        columns = h.columns;
+        rows = h.shown stamp own ∙ ap (λ d. rows_at (get d name)) (newest_is kept past stamp body shows lawful accepted stamp (omega arith));
+        before = h.stamps stamp own (is_later past.last stamp (stamp_accepted past (a_command stamp body) accepted));
+      }
 
   pub stands : AreStored (newest_tables past) (newest_database past) stamp (group_of kept (length past.versions))
   stands name =

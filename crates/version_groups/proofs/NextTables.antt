@@ -6,16 +6,16 @@ use Rattle.prima_base.specs.Columns.{Column, IsRelation}
 use Rattle.schema_catalog.specs.Tables.{Tables, IsSchema}
 use Rattle.schema_catalog.specs.Databases.{Database, Entry, Rows, Lost, IsEntry, IsDatabase}
 use Rattle.history_store.specs.Store.{Store}
-use Rattle.smo_ops.specs.Operators.{Operator}
-use Rattle.smo_ops.specs.OperatorTable.{line, made_names}
-use Rattle.smo_ops.specs.After.{op_fault, behind, carried}
-use Rattle.smo_ops.specs.Effects.{rows_at}
-use Rattle.smo_ops.specs.OneRow.{Relation, same}
-use Rattle.smo_ops.specs.Preconditions.{among}
-use Rattle.smo_ops.specs.Touching.{makes, consumes, these_names}
-use Rattle.smo_ops.proofs.NameLaws.{same_is, same_turned}
-use Rattle.smo_ops.proofs.TouchedTables.{table_stays, entry_stays, table_gone}
-use Rattle.smo_ops.proofs.CarriedDatabases.{carried_database}
+use Rattle.smo_types.specs.Operators.{Operator}
+use Rattle.smo_meaning.specs.OperatorTable.{line, made_names}
+use Rattle.smo_meaning.specs.After.{op_fault, behind, carried}
+use Rattle.smo_meaning.specs.Effects.{rows_at}
+use Rattle.smo_meaning.specs.OneRow.{Relation, same}
+use Rattle.smo_meaning.specs.Preconditions.{among}
+use Rattle.smo_meaning.specs.Touching.{makes, consumes, these_names}
+use Rattle.smo_meaning.proofs.NameLaws.{same_is, same_turned}
+use Rattle.smo_meaning.proofs.TouchedTables.{table_stays, entry_stays, table_gone}
+use Rattle.smo_meaning.proofs.CarriedDatabases.{carried_database}
 use Rattle.smo_maps.specs.Carrying.{Has}
 use Rattle.version_groups.specs.declared.made_tables.MadeTable.{MadeTable}
 use Rattle.version_groups.specs.Groups.{stored_as}

@@ -2,8 +2,8 @@
 use Rattle.std.proofs.Common.{◌≡◌, ◌≤◌, ◌<◌, ◌+◌, ℕ, suc, Bool, true, false, cond, List, [], ◌∷◌, length, get_or, refl, sym, ap, subst, ◌∙◌, arith, inl, inr}
 use Rattle.std.specs.Prelude.{Option, Some, None, ◌⊎◌}
 use Rattle.history_store.specs.Store.{Store}
-use Rattle.smo_ops.specs.OneRow.{same}
-use Rattle.smo_ops.proofs.NameLaws.{same_is}
+use Rattle.smo_meaning.specs.OneRow.{same}
+use Rattle.smo_meaning.proofs.NameLaws.{same_is}
 use Rattle.version_groups.specs.declared.made_tables.MadeTable.{MadeTable}
 use Rattle.version_groups.specs.Groups.{stored_as}
 

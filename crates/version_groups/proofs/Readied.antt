@@ -10,23 +10,23 @@ use Rattle.prima_base.specs.Columns.{Column}
 use Rattle.schema_catalog.specs.Tables.{Tables}
 use Rattle.history_store.specs.Store.{Store, relation_at}
 use Rattle.history_store.specs.Change.{Plan}
-use Rattle.smo_ops.specs.declared.commands.Body.{Body}
-use Rattle.smo_ops.specs.declared.versions.Version.{Version}
-use Rattle.smo_ops.specs.Accepts.{command_fault, count_fault, stamp_fault, refusal_of, most_versions, body_tests}
-use Rattle.smo_ops.specs.After.{op_fault, HasFewNodes}
-use Rattle.smo_ops.specs.Counts.{first_excess}
-use Rattle.smo_ops.specs.First.{unless, first_refusal}
-use Rattle.smo_ops.specs.Inverses.{inverse_tests}
+use Rattle.smo_types.specs.declared.commands.Body.{Body}
+use Rattle.smo_types.specs.declared.versions.Version.{Version}
+use Rattle.smo_meaning.specs.Accepts.{command_fault, count_fault, stamp_fault, refusal_of, most_versions, body_tests}
+use Rattle.smo_meaning.specs.After.{op_fault, HasFewNodes}
+use Rattle.smo_meaning.specs.Counts.{first_excess}
+use Rattle.smo_meaning.specs.First.{unless, first_refusal}
+use Rattle.smo_meaning.specs.Inverses.{inverse_tests}
 use Rattle.prima_base.specs.declared.refusals.What.TheVariants.{Versions}
 use Rattle.prima_base.specs.declared.refusals.Refusal.TheVariants.{TooMany as OverLimit}
 use Rattle.std.proofs.lemmas.Bool.Decides.{nat_tests}
-use Rattle.smo_ops.proofs.Firsts.{met, none_of_first, none_mapped}
-use Rattle.smo_ops.proofs.CountedOperators.{counted_operator}
-use Rattle.smo_ops.specs.Changes.{PlainChange}
-use Rattle.smo_ops.specs.Commands.{PlainBody, changing, evolving, PlainCommand, PlainVersion, version_of, body_of, command_of}
-use Rattle.smo_ops.specs.Operators.{Operator}
-use Rattle.smo_ops.specs.Past.{Past, beginning, no_tables, newest_from, tables_of, version_at, newest_tables, newest_database, next_version, database_behind}
-use Rattle.smo_ops.proofs.PastSteps.{beginning_is_past, body_accepted}
+use Rattle.smo_meaning.proofs.Firsts.{met, none_of_first, none_mapped}
+use Rattle.smo_meaning.proofs.CountedOperators.{counted_operator}
+use Rattle.smo_types.specs.Changes.{PlainChange}
+use Rattle.smo_types.specs.Commands.{PlainBody, changing, evolving, PlainCommand, PlainVersion, version_of, body_of, command_of}
+use Rattle.smo_types.specs.Operators.{Operator}
+use Rattle.smo_meaning.specs.Past.{Past, beginning, no_tables, newest_from, tables_of, version_at, newest_tables, newest_database, next_version, database_behind}
+use Rattle.smo_meaning.proofs.PastSteps.{beginning_is_past, body_accepted}
 use Rattle.version_groups.specs.declared.made_tables.MadeTable.{MadeTable}
 use Rattle.version_groups.specs.declared.next.Step.{Step}
 use Rattle.version_groups.specs.Groups.{Kept, versions_in, group_of, newest_group, table_in, stored_as, names_of}
@@ -66,9 +66,8 @@ still_shown past k name t u same columns h =
     let n : ℕ = u.store.spare in
     record {
       columns = same_columns t.store u.store n same.store ∙ h.columns;
-      shown = λ m f e. same_relation t.store u.store n same.store m ∙ h.shown m f e;
-      before = λ m e. same_relation t.store u.store n same.store m ∙ h.before m e;
-      stamps = λ m l. same_before t.store u.store n same.store m (h.stamps m l);
+      shown = λ m own. same_relation t.store u.store n same.store m ∙ h.shown m own;
+      stamps = λ m own l. same_before t.store u.store n same.store m (h.stamps m own l);
     }
 
 pub shows_same : (old new : Kept) → IsSame old new → (past : Past) → Shows old past → Shows new past

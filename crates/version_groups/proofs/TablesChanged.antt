@@ -13,14 +13,14 @@ use Rattle.prima_base.specs.Columns.{Column, AreColumns}
 use Rattle.schema_catalog.specs.Tables.{Tables}
 use Rattle.schema_catalog.specs.Databases.{Database, Entry, Rows, Lost}
 use Rattle.history_store.specs.Store.{Store}
-use Rattle.smo_ops.specs.First.{first_refusal}
-use Rattle.smo_ops.specs.Changes.{PlainChange, table_of}
-use Rattle.smo_ops.specs.Checks.{table_fault, tests_behind, change_tests, changes_tests, change_nodes}
-use Rattle.smo_ops.specs.Effects.{relation_after, entry_after, columns_of, with_changed, database_after, after_each}
-use Rattle.smo_ops.specs.Inserting.{relation_after_each}
-use Rattle.smo_ops.specs.OneRow.{Relation, same}
-use Rattle.smo_ops.proofs.Firsts.{none_of_both, none_of_first}
-use Rattle.smo_ops.proofs.NameLaws.{same_itself, same_is, same_not, same_turned}
+use Rattle.smo_meaning.specs.First.{first_refusal}
+use Rattle.smo_types.specs.Changes.{PlainChange, table_of}
+use Rattle.smo_meaning.specs.Checks.{table_fault, tests_behind, change_tests, changes_tests, change_nodes}
+use Rattle.smo_meaning.specs.Effects.{relation_after, entry_after, columns_of, with_changed, database_after, after_each}
+use Rattle.smo_meaning.specs.Inserting.{relation_after_each}
+use Rattle.smo_meaning.specs.OneRow.{Relation, same}
+use Rattle.smo_meaning.proofs.Firsts.{none_of_both, none_of_first}
+use Rattle.smo_meaning.proofs.NameLaws.{same_itself, same_is, same_not, same_turned}
 use Rattle.version_groups.specs.declared.made_tables.MadeTable.{MadeTable}
 use Rattle.version_groups.specs.Groups.{stored_as, names_of}
 use Rattle.version_groups.specs.Changing.{of_table, AreAccepted}

@@ -7,18 +7,18 @@ use Rattle.std.proofs.Math.Seq.{get_or-append_seam}
 use Rattle.std.proofs.lemmas.List.{get_or_append_left, get_or_default, get_or_read}
 use Rattle.history_store.specs.Store.{Store, relation_at}
 use Rattle.history_store.specs.Change.{Plan}
-use Rattle.smo_ops.specs.Changes.{PlainChange}
-use Rattle.smo_ops.specs.Effects.{gained_rows}
-use Rattle.smo_ops.specs.Inserting.{relation_after_each}
-use Rattle.smo_ops.specs.OneRow.{Relation}
-use Rattle.smo_ops.proofs.CountingLaws.{gains_nothing}
-use Rattle.smo_ops.proofs.Firsts.{drop_at}
+use Rattle.smo_types.specs.Changes.{PlainChange}
+use Rattle.smo_meaning.specs.Effects.{gained_rows}
+use Rattle.smo_meaning.specs.Inserting.{relation_after_each}
+use Rattle.smo_meaning.specs.OneRow.{Relation}
+use Rattle.smo_meaning.proofs.CountingLaws.{gains_nothing}
+use Rattle.smo_meaning.proofs.Firsts.{drop_at}
 use Rattle.version_groups.specs.declared.made_tables.MadeTable.{MadeTable}
 use Rattle.version_groups.specs.Becoming.{Leads, IsMade}
 use Rattle.version_groups.specs.Changing.{of_table, rows_now, rows_behind, AreReady, all_gained, all_lost}
 use Rattle.version_groups.specs.Room.{IsSameTable, AreSameTables}
 use Rattle.version_groups.proofs.Becoming.{same_relation, same_columns}
-use Rattle.version_groups.proofs.PastMoments.{before_or_not}
+use Rattle.smo_meaning.proofs.PastMoments.{before_or_not}
 
 -- ---- a table that no change is of
 

@@ -4,31 +4,9 @@ use Rattle.std.specs.Prelude.{Option, Some, None, nat_le}
 use Rattle.std.specs.List.{filter}
 use Rattle.std.proofs.lemmas.List.{length-map}
 use Rattle.schema_catalog.specs.Tables.{Tables}
-use Rattle.smo_ops.specs.declared.versions.Version.{Version}
-use Rattle.smo_ops.specs.Commands.{PlainVersion, version_of}
-use Rattle.smo_ops.specs.Past.{tables_from, newest_from}
-use Rattle.version_groups.specs.Groups.{begun_by}
-use Rattle.version_groups.proofs.PastMoments.{in_force}
-
--- ---- how many begin by a moment
-
-pub begun_few : (versions : List Version) (m : ℕ) → begun_by versions m ≤ length versions
-begun_few [] m = omega arith
-begun_few (v ∷ versions) m = step (begun_few versions m) (nat_le v.stamp m)
-  where
-    step : begun_by versions m ≤ length versions → (b : Bool) → length (cond b (v ∷ filter (λ (v : Version). nat_le v.stamp m) versions) (filter (λ (v : Version). nat_le v.stamp m) versions)) ≤ suc (length versions)
-    step h true = omega (arith, h)
-    step h false = omega (arith, h)
-
--- they are the versions that are in force
-pub begun_in_force : (versions : List Version) (m : ℕ) → begun_by versions m ≡ length (in_force m (map version_of versions))
-begun_in_force [] m = refl
-begun_in_force (v ∷ versions) m = step (begun_in_force versions m) (nat_le v.stamp m)
-  where
-    step : begun_by versions m ≡ length (in_force m (map version_of versions)) → (b : Bool)
-        → length (cond b (v ∷ filter (λ (v : Version). nat_le v.stamp m) versions) (filter (λ (v : Version). nat_le v.stamp m) versions)) ≡ length (cond b (version_of v ∷ in_force m (map version_of versions)) (in_force m (map version_of versions)))
-    step h true = ap suc h
-    step h false = h
+use Rattle.smo_types.specs.declared.versions.Version.{Version}
+use Rattle.smo_types.specs.Commands.{PlainVersion, version_of}
+use Rattle.smo_meaning.specs.Past.{tables_from, newest_from}
 
 -- ---- schemas
 

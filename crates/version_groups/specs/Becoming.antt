@@ -1,10 +1,10 @@
 -- What a stored table is from a stamp on, by its relation at each moment.
-use Rattle.std.specs.Prelude.{◌≡◌, ℕ, ◌<◌, ◌≤◌, List, [], Option, Some, None, length, ⊤}
+use Rattle.std.specs.Prelude.{◌≡◌, ℕ, ◌<◌, ◌≤◌, List, Option, Some, None, length, ⊤}
 use Rattle.relations.specs.Spans.{forever}
 use Rattle.prima_base.specs.Columns.{Column}
 use Rattle.history_store.specs.Store.{Store, relation_at, AllBefore}
 use Rattle.history_store.specs.Change.{Plan, IsPlan, rows_after}
-use Rattle.smo_ops.specs.OneRow.{Relation}
+use Rattle.smo_meaning.specs.OneRow.{Relation}
 use Rattle.version_groups.specs.declared.made_tables.MadeTable.{MadeTable}
 
 -- from the stamp on the table has the rows, and before it what it had
@@ -14,10 +14,9 @@ pub record Becomes (old new : Store) (stamp : ℕ) (rows : Relation) : Type 0 wh
   pub from : (m : ℕ) → stamp ≤ m → m < forever → relation_at new m ≡ rows
   pub later : (m : ℕ) → stamp < m → AllBefore new m
 
--- a table of these columns that has the rows from the stamp on, and none before it
+-- a table of these columns that has the rows from the stamp on
 pub record Begins (its : List Column) (stamp : ℕ) (rows : Relation) (store : Store) : Type 0 where
   pub columns : store.columns ≡ its
-  pub before : (m : ℕ) → m < stamp → relation_at store m ≡ []
   pub from : (m : ℕ) → stamp ≤ m → m < forever → relation_at store m ≡ rows
   pub later : (m : ℕ) → stamp < m → AllBefore store m
 

@@ -6,12 +6,12 @@ use Rattle.prima_base.specs.Columns.{Column}
 use Rattle.schema_catalog.specs.Tables.{Tables}
 use Rattle.history_store.specs.Store.{AllBefore, relation_at}
 use Rattle.history_store.specs.Change.{Plan}
-use Rattle.smo_ops.specs.Changes.{PlainChange, table_of}
-use Rattle.smo_ops.specs.First.{first_refusal}
-use Rattle.smo_ops.specs.Checks.{tests_behind}
-use Rattle.smo_ops.specs.Effects.{gained_rows}
-use Rattle.smo_ops.specs.Inserting.{relation_after_each}
-use Rattle.smo_ops.specs.OneRow.{Relation, same}
+use Rattle.smo_types.specs.Changes.{PlainChange, table_of}
+use Rattle.smo_meaning.specs.First.{first_refusal}
+use Rattle.smo_meaning.specs.Checks.{tests_behind}
+use Rattle.smo_meaning.specs.Effects.{gained_rows}
+use Rattle.smo_meaning.specs.Inserting.{relation_after_each}
+use Rattle.smo_meaning.specs.OneRow.{Relation, same}
 use Rattle.version_groups.specs.declared.made_tables.MadeTable.{MadeTable}
 use Rattle.version_groups.specs.Becoming.{HasRoom, Leads, IsMade}
 

@@ -7,11 +7,11 @@ use Rattle.prima_base.specs.Order.{bytes_cmp}
 use Rattle.schema_catalog.specs.Tables.{Tables}
 use Rattle.schema_catalog.specs.Databases.{Database}
 use Rattle.history_store.specs.Store.{Store, AllBefore, relation_at}
-use Rattle.smo_ops.specs.After.{behind, carried}
-use Rattle.smo_ops.specs.Commands.{PlainVersion}
-use Rattle.smo_ops.specs.Effects.{rows_at}
-use Rattle.smo_ops.specs.OneRow.{Relation}
-use Rattle.smo_ops.specs.Operators.{Operator}
+use Rattle.smo_meaning.specs.After.{behind, carried}
+use Rattle.smo_types.specs.Commands.{PlainVersion}
+use Rattle.smo_meaning.specs.Effects.{rows_at}
+use Rattle.smo_meaning.specs.OneRow.{Relation}
+use Rattle.smo_types.specs.Operators.{Operator}
 use Rattle.version_groups.specs.declared.made_tables.MadeTable.{MadeTable}
 use Rattle.version_groups.specs.Groups.{stored_as, names_of}
 use Rattle.version_groups.specs.Standing.{rows_stored}

@@ -3,7 +3,7 @@ use Rattle.std.specs.Prelude.{◌≡◌, ℕ, ◌+◌, ◌-◌, ◌<◌, ◌^◌
 use Rattle.std.specs.Global.{Vec}
 use Rattle.relations.specs.Sets.{Ascends}
 use Rattle.prima_base.specs.Order.{bytes_cmp}
-use Rattle.smo_ops.specs.Past.{no_tables}
+use Rattle.smo_meaning.specs.Past.{no_tables}
 use Rattle.version_groups.specs.declared.made_tables.MadeTable.{MadeTable}
 use Rattle.version_groups.specs.declared.groups.Groups.TheInside.{Inside}
 use Rattle.version_groups.specs.Groups.{Kept, names_of}

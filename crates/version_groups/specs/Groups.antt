@@ -1,10 +1,10 @@
 -- The versions, and the stored tables of each.
 use Rattle.std.specs.Prelude.{ℕ, List, [], ◌∷◌, length, nat_le, map, Option, Some, None, slice_index_or, if◌then◌else◌}
 use Rattle.std.specs.List.{filter}
-use Rattle.smo_ops.specs.declared.versions.Version.{Version}
+use Rattle.smo_types.specs.declared.versions.Version.{Version}
 use Rattle.history_store.specs.Store.{Store}
-use Rattle.smo_ops.specs.Commands.{PlainVersion, version_of}
-use Rattle.smo_ops.specs.OneRow.{same}
+use Rattle.smo_types.specs.Commands.{PlainVersion, version_of}
+use Rattle.smo_meaning.specs.OneRow.{same}
 use Rattle.version_groups.specs.declared.made_tables.MadeTable.{MadeTable}
 
 -- versions 1 to the newest; the stored tables of each version, those of version 0 first; and how many versions more
@@ -37,7 +37,3 @@ table_in kept k name = stored_as name (group_of kept k)
 abbrev pub names_of : List MadeTable → List (List ℕ)
 names_of [] = []
 names_of (t ∷ tables) = t.name ∷ names_of tables
-
--- how many of the versions begin at the moment or before it
-abbrev pub begun_by : List Version → ℕ → ℕ
-begun_by versions moment = length (filter (λ (v : Version). nat_le v.stamp moment) versions)

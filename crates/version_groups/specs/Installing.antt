@@ -1,14 +1,29 @@
 -- What installing makes of groups.
-use Rattle.std.specs.Prelude.{◌≡◌, ℕ, ◌+◌, ◌<◌, ◌≤◌, List, [], ◌∷◌, ◌++◌, length, Option}
+use Rattle.std.specs.Prelude.{◌≡◌, ℕ, ◌+◌, ◌<◌, ◌≤◌, List, [], ◌∷◌, ◌++◌, length, Option, Some, None, ⊤}
+use Rattle.history_store.specs.Store.{Store, relation_at}
 use Rattle.history_store.specs.Change.{Plan}
-use Rattle.smo_ops.specs.declared.versions.Version.{Version}
+use Rattle.smo_types.specs.declared.versions.Version.{Version}
+use Rattle.smo_types.specs.Commands.{PlainVersion}
 use Rattle.version_groups.specs.declared.made_tables.MadeTable.{MadeTable}
-use Rattle.version_groups.specs.Groups.{Kept, group_of, newest_group}
+use Rattle.version_groups.specs.Groups.{Kept, versions_in, group_of, newest_group, table_in}
+use Rattle.version_groups.specs.Showing.{IsInForce}
 use Rattle.version_groups.specs.Changing.{AreMade}
 
--- the stored tables of each version before the one that is now the newest are as they were
+-- it has the columns that it had, and at each moment at which version k is in force the relation that it had
+pub record Stays (versions : List PlainVersion) (k : ℕ) (old new : Store) : Type 0 where
+  pub columns : new.columns ≡ old.columns
+  pub relation : (m : ℕ) → IsInForce versions k m → relation_at new m ≡ relation_at old m
+
+-- a table is stored just where one was
+abbrev pub StaysEntry : List PlainVersion → ℕ → Option Store → Option Store → Type 0
+StaysEntry versions k None None = ⊤
+StaysEntry versions k None (Some new) = ⊥
+StaysEntry versions k (Some old) None = ⊥
+StaysEntry versions k (Some old) (Some new) = Stays versions k old new
+
+-- each table of each version before the one that is now the newest stays at the moments at which its version is in force
 abbrev pub HasEarlier : Kept → Kept → Type 0
-HasEarlier kept new = (k : ℕ) → k < length new.versions → group_of new k ≡ group_of kept k
+HasEarlier kept new = (k : ℕ) → k < length new.versions → (name : List ℕ) → StaysEntry (versions_in new) k (table_in kept k name) (table_in new k name)
 
 -- the changes are made of the tables of the newest version
 pub record HasChanges (kept new : Kept) (plans : List (Option Plan)) : Type 0 where

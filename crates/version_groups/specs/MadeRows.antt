@@ -1,6 +1,6 @@
 -- The tables that an operator makes, with their rows.
 use Rattle.std.specs.Option.{option_copied}
-use Rattle.smo_ops.specs.declared.names.Made.{Made}
+use Rattle.smo_schemas.specs.declared.names.Made.{Made}
 use Rattle.smo_maps.specs.declared.maps.Carried.{Carried}
 use Rattle.version_groups.specs.Standing.{MadeRows}
 

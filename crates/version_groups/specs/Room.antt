@@ -1,7 +1,7 @@
 -- What is as it was, with no less room.
 use Rattle.std.specs.Prelude.{◌≡◌, ℕ, ◌<◌, ◌≤◌, List, length, slice_index_or}
 use Rattle.history_store.specs.Store.{Store}
-use Rattle.smo_ops.specs.Commands.{PlainVersion}
+use Rattle.smo_types.specs.Commands.{PlainVersion}
 use Rattle.version_groups.specs.declared.made_tables.MadeTable.{MadeTable}
 use Rattle.version_groups.specs.Groups.{Kept, group_of}
 

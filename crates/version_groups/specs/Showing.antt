@@ -1,21 +1,26 @@
 -- When groups show a past.
-use Rattle.std.specs.Prelude.{◌≡◌, ℕ, ◌<◌, ◌≤◌, List, [], Option, Some, None, length, ⊤}
+use Rattle.std.specs.Prelude.{◌≡◌, ℕ, ◌<◌, ◌≤◌, List, Option, Some, None, length, ⊤}
 use Rattle.std.specs.FinMap.{get}
 use Rattle.relations.specs.Spans.{forever}
 use Rattle.prima_base.specs.Columns.{Column}
 use Rattle.history_store.specs.Store.{Store, AllBefore, relation_at}
-use Rattle.smo_ops.specs.Effects.{rows_at}
-use Rattle.smo_ops.specs.LawfulPast.{last_or_nought, IsLater, IsPast}
-use Rattle.smo_ops.specs.Past.{Past, tables_of, version_at, database_at}
+use Rattle.smo_types.specs.Commands.{PlainVersion}
+use Rattle.smo_meaning.specs.Effects.{rows_at}
+use Rattle.smo_meaning.specs.InForce.{in_force}
+use Rattle.smo_meaning.specs.LawfulPast.{last_or_nought, IsLater, IsPast}
+use Rattle.smo_meaning.specs.Past.{Past, tables_of, database_at}
 use Rattle.version_groups.specs.Groups.{Kept, versions_in, table_in}
 
--- what is stored of a table of version k: its columns; its relation at each moment at which the version is in force;
--- nothing before the version began; and no stamp behind the last one
+-- version k is in force at the moment
+abbrev pub IsInForce : List PlainVersion → ℕ → ℕ → Type 0
+IsInForce versions k m = ((in_force versions k).start ≤ m) × (m < (in_force versions k).end)
+
+-- what is stored of a table of version k: its columns; and of each moment at which the version is in force, and of no
+-- other, its relation, and where the moment is later than the last stamp, that each stamp in it is earlier
 pub record ShowsTable (past : Past) (k : ℕ) (name : List ℕ) (its : List Column) (store : Store) : Type 0 where
   pub columns : store.columns ≡ its
-  pub shown : (m : ℕ) → m < forever → version_at past m ≡ k → relation_at store m ≡ rows_at (get (database_at past m) name)
-  pub before : (m : ℕ) → version_at past m < k → relation_at store m ≡ []
-  pub stamps : (m : ℕ) → IsLater past.last m → AllBefore store m
+  pub shown : (m : ℕ) → IsInForce past.versions k m → relation_at store m ≡ rows_at (get (database_at past m) name)
+  pub stamps : (m : ℕ) → IsInForce past.versions k m → IsLater past.last m → AllBefore store m
 
 -- a table is stored just where the version has one
 abbrev pub ShowsEntry : Past → ℕ → List ℕ → Option (List Column) → Option Store → Type 0

@@ -5,8 +5,8 @@ use Rattle.prima_base.specs.Columns.{Column, IsRelation}
 use Rattle.schema_catalog.specs.Tables.{Tables}
 use Rattle.schema_catalog.specs.Databases.{Database}
 use Rattle.history_store.specs.Store.{Store, AllBefore, relation_at}
-use Rattle.smo_ops.specs.Effects.{rows_at}
-use Rattle.smo_ops.specs.OneRow.{Relation, same}
+use Rattle.smo_meaning.specs.Effects.{rows_at}
+use Rattle.smo_meaning.specs.OneRow.{Relation, same}
 use Rattle.version_groups.specs.declared.made_tables.MadeTable.{MadeTable}
 use Rattle.version_groups.specs.Groups.{stored_as}
 

@@ -8,11 +8,11 @@ use Rattle.prima_base.specs.Order.{bytes_cmp}
 use Rattle.history_store.specs.Store.{Store}
 use Rattle.history_store.specs.Change.{Plan}
 use Rattle.schema_catalog.specs.Databases.{Database}
-use Rattle.smo_ops.specs.Accepts.{command_fault}
-use Rattle.smo_ops.specs.Commands.{PlainBody, changing, evolving, PlainCommand, PlainVersion, version_of}
-use Rattle.smo_ops.specs.Effects.{rows_at, gained, lost}
-use Rattle.smo_ops.specs.OneRow.{Relation}
-use Rattle.smo_ops.specs.Past.{Past, newest_tables, newest_database, next_version, database_behind}
+use Rattle.smo_meaning.specs.Accepts.{command_fault}
+use Rattle.smo_types.specs.Commands.{PlainBody, changing, evolving, PlainCommand, PlainVersion, version_of}
+use Rattle.smo_meaning.specs.Effects.{rows_at, gained, lost}
+use Rattle.smo_meaning.specs.OneRow.{Relation}
+use Rattle.smo_meaning.specs.Past.{Past, newest_tables, newest_database, next_version, database_behind}
 use Rattle.version_groups.specs.declared.made_tables.MadeTable.{MadeTable}
 use Rattle.version_groups.specs.declared.next.Step.{Step}
 use Rattle.version_groups.specs.declared.next.Step.TheVariants.{Changed, Evolved}

@@ -8,9 +8,9 @@ ghost use Rattle.relations.specs.Spans.{forever};
 ghost use Rattle.prima_base.specs.Order.{row_cmp};
 ghost use Rattle.prima_base.specs.Columns.{AreColumns, IsRelation};
 ghost use Rattle.history_store.specs.Store.{AllBefore, relation_at};
-ghost use Rattle.smo_ops.specs.Changes.{change_of, changes_of};
-ghost use Rattle.smo_ops.specs.Effects.{gained_rows};
-ghost use Rattle.smo_ops.specs.Inserting.{relation_after_each, insertions};
+ghost use Rattle.smo_types.specs.Changes.{change_of, changes_of};
+ghost use Rattle.smo_meaning.specs.Effects.{gained_rows};
+ghost use Rattle.smo_meaning.specs.Inserting.{relation_after_each, insertions};
 ghost use Rattle.version_groups.specs.Becoming.{IsChange};
 ghost use Rattle.version_groups.specs.Changing.{AreAccepted, of_table};
 

@@ -2,8 +2,8 @@
 
 ghost use Rattle.std.specs.Prelude.{◌≡◌, ◌+◌, ◌<◌, length, IfOk};
 ghost use Rattle.relations.specs.Spans.{forever};
-ghost use Rattle.smo_ops.specs.Changes.{changes_of};
-ghost use Rattle.smo_ops.specs.Effects.{gained_rows};
+ghost use Rattle.smo_types.specs.Changes.{changes_of};
+ghost use Rattle.smo_meaning.specs.Effects.{gained_rows};
 ghost use Rattle.version_groups.specs.Becoming.{IsChange, Leads, IsMade, HasRoom};
 ghost use Rattle.version_groups.specs.Changing.{IsChangeable, AreChangeable, AreReady, HaveRoom, AreMade, rows_now, rows_behind, all_gained, all_lost, gained_by, lost_by};
 ghost use Rattle.version_groups.specs.Room.{IsSameTable, AreSameTables};

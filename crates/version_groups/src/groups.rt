@@ -25,7 +25,7 @@ pub struct Groups {
 impl Model for Groups {
     ghost use Rattle.version_groups.specs.Groups.{Kept};
     ghost use Rattle.version_groups.specs.GroupFields.{groups_view, AreGroups};
-    ghost use Rattle.smo_ops.specs.contracts.versions.Version as version_row;
+    ghost use Rattle.smo_types.specs.contracts.versions.Version as version_row;
     ghost use Rattle.std.specs.Coded.{codes};
 
     ghost Value = { Kept };
@@ -37,14 +37,13 @@ impl Model for Groups {
     ghost invariant = { AreGroups };
 }
 
-ghost use Rattle.std.specs.Prelude.{◌≡◌, ◌-◌, ◌<◌, ◌≤◌, length, slice_index, IfOk, OnOk, vec_len, vec_capacity};
-ghost use Rattle.version_groups.specs.Groups.{begun_by};
-ghost use Rattle.smo_ops.specs.Commands.{versions_of};
-ghost use Rattle.smo_ops.specs.Past.{no_tables, newest_from, tables_from};
+ghost use Rattle.std.specs.Prelude.{◌≡◌, ◌-◌, ◌<◌, ◌≤◌, map, length, slice_index, IfOk, OnOk, vec_len, vec_capacity};
+ghost use Rattle.smo_types.specs.Commands.{version_of, versions_of};
+ghost use Rattle.smo_meaning.specs.Past.{no_tables, newest_from, tables_from, begun_at};
 
 // How many of the versions begin at the moment or before it.
 fn count_begun(versions: &[Version], moment: u64) -> usize
-    ensures { result ≡ begun_by versions.now moment }
+    ensures { result ≡ length (begun_at moment (map version_of versions.now)) }
 {
     let mut count = 0;
     for version in versions {
@@ -81,11 +80,11 @@ impl Groups {
     ghost use Rattle.relations.specs.Sets.{Ascends};
     ghost use Rattle.relations.specs.Spans.{forever};
     ghost use Rattle.prima_base.specs.Order.{bytes_cmp};
-    ghost use Rattle.smo_ops.specs.Operators.{operator_of, operators_of};
-    ghost use Rattle.smo_ops.specs.Changes.{changes_of};
-    ghost use Rattle.smo_ops.specs.Commands.{command_of, changing, evolving, PlainCommand};
-    ghost use Rattle.smo_ops.specs.Accepts.{command_fault};
-    ghost use Rattle.smo_ops.specs.Past.{Past, beginning, no_tables, tables_from, version_at, past_with};
+    ghost use Rattle.smo_types.specs.Operators.{operator_of, operators_of};
+    ghost use Rattle.smo_types.specs.Changes.{changes_of};
+    ghost use Rattle.smo_types.specs.Commands.{command_of, changing, evolving, PlainCommand};
+    ghost use Rattle.smo_meaning.specs.Accepts.{command_fault};
+    ghost use Rattle.smo_meaning.specs.Past.{Past, beginning, no_tables, tables_from, version_at, past_with};
     ghost use Rattle.version_groups.specs.Groups.{versions_in, table_in, newest_group, names_of};
     ghost use Rattle.version_groups.specs.Changing.{HaveRoom};
     ghost use Rattle.version_groups.specs.Installing.{HasEarlier, HasChanges, HasVersion};
@@ -181,8 +180,8 @@ impl Groups {
     }
 
     /// Carries out what was made ready: from the command's stamp on the past has the changed or carried database, and
-    /// each earlier moment is as before. The tables of each version before the one that is then the newest stay as
-    /// they are. It takes no memory.
+    /// each earlier moment is as before. Each table of each version before the one that is then the newest has at the
+    /// moments at which its version is in force what it had. It takes no memory.
     pub fn install(&mut self, next: Next)
         requires { (past : Past) × (command : PlainCommand) × Shows self.old past × IsReady self.old past command next }
         ensures shows { (past : Past) → (command : PlainCommand) → Shows self.old past → IsReady self.old past command next → Shows self.new (past_with past command) }

@@ -1,6 +1,6 @@
 ghost use Rattle.std.specs.Prelude.{◌≡◌};
 ghost use Rattle.std.specs.Option.{option_copied};
-ghost use Rattle.smo_ops.specs.OneRow.{same};
+ghost use Rattle.smo_meaning.specs.OneRow.{same};
 ghost use Rattle.version_groups.specs.Groups.{stored_as};
 
 use history_store::StoredTable;

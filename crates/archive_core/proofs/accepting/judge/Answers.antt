@@ -1,8 +1,8 @@
 use Rattle.std.proofs.Common.{ap, sym, subst, ◌∙◌}
-use Rattle.smo_ops.specs.First.{first_refusal}
-use Rattle.smo_ops.specs.Commands.{body_of}
-use Rattle.smo_ops.specs.Counts.{first_excess}
-use Rattle.smo_ops.specs.Accepts.{count_fault, stamp_fault, body_tests}
+use Rattle.smo_meaning.specs.First.{first_refusal}
+use Rattle.smo_types.specs.Commands.{body_of}
+use Rattle.smo_meaning.specs.Counts.{first_excess}
+use Rattle.smo_meaning.specs.Accepts.{count_fault, stamp_fault, body_tests}
 use Rattle.archive_core.specs.Committing.{IsJudged}
 use Rattle.archive_core.proofs.Judging.{no_excess, judged_behind}
 use Rattle.archive_core.proofs.accepting.judge.Goals as goal

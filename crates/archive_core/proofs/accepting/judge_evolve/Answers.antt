@@ -1,4 +1,4 @@
-use Rattle.smo_ops.specs.Operators.{operator_of}
+use Rattle.smo_types.specs.Operators.{operator_of}
 use Rattle.archive_core.proofs.Judging.{few_operators}
 use Rattle.archive_core.proofs.accepting.judge_evolve.Goals as goal
 

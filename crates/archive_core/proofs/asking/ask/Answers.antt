@@ -1,6 +1,6 @@
 use Rattle.std.proofs.Common.{◌≤◌, ◌+◌, ap, sym, subst, ◌∙◌}
-use Rattle.smo_ops.specs.Checks.{Fault}
-use Rattle.smo_ops.specs.Past.{tables_of}
+use Rattle.smo_meaning.specs.Checks.{Fault}
+use Rattle.smo_meaning.specs.Past.{tables_of}
 use Rattle.temporal_lang.specs.Atoms.{with_atoms}
 use Rattle.temporal_lang.specs.Queries.{PlainQuery, query_of}
 use Rattle.archive_core.specs.Asking.{tells_periods, own_reads, reads_accepted, IsChecked, IsOfOne}

@@ -1,5 +1,6 @@
 use Rattle.std.proofs.Common.{◌≡◌, ◌≤◌, ◌+◌, map, drop, min, max}
 use Rattle.cond_expr.specs.Seen.{tree, test, trees_of, tests_of}
+use Rattle.cond_expr.specs.Constants.{HaveLawful}
 use Rattle.cond_expr.specs.Sizes.{trees_nodes, tests_nodes, trees_depth, tests_depth, trees_longest, tests_longest}
 use Rattle.cond_expr.proofs.sizes.+sizes.Given as goal
 
@@ -15,6 +16,7 @@ invariant-conds_size-loop-part l = record {
 
 abbrev pub invariant-exprs_size-loop-part : goal.invariant-exprs_size-loop-part
 invariant-exprs_size-loop-part l = record {
+  constants : HaveLawful (trees_of (map tree (drop l.part-index l.list))) → HaveLawful (trees_of (map tree l.list));
   nodes : min (trees_nodes (trees_of (map tree l.list))) 18446744073709551615 ≡ min (l.size.nodes + trees_nodes (trees_of (map tree (drop l.part-index l.list)))) 18446744073709551615;
   depth : min (trees_depth (trees_of (map tree l.list))) 18446744073709551615 ≡ min (max l.size.depth (trees_depth (trees_of (map tree (drop l.part-index l.list))))) 18446744073709551615;
   parts : min (trees_longest (trees_of (map tree l.list))) 18446744073709551615 ≡ min (max l.size.parts (trees_longest (trees_of (map tree (drop l.part-index l.list))))) 18446744073709551615;

@@ -1,4 +1,4 @@
-use Rattle.smo_ops.specs.Commands.{command_of}
+use Rattle.smo_types.specs.Commands.{command_of}
 use Rattle.script_cli.proofs.Responding.{nothing_put, done_responds, refused_responds}
 use Rattle.script_cli.proofs.responses.respond_write.Goals as goal
 

@@ -1,11 +1,11 @@
 use Rattle.std.proofs.Common.{[], ◌∷◌, ◌++◌, sym, ap, ◌∙◌, append_assoc, arith, subst}
 use Rattle.std.proofs.lemmas.Result.{err_from_is_err_and}
-use Rattle.lexer.specs.Parsing.{Stuck}
-use Rattle.lexer.specs.Constants.{constant}
-use Rattle.lexer.specs.declared.reading.Stop.{Stop}
+use Rattle.parser_combinators.specs.Parsing.{Stuck}
+use Rattle.expr_grammar.specs.Constants.{constant}
+use Rattle.parser_combinators.specs.declared.reading.Stop.{Stop}
 use Rattle.script_parse.specs.StatementReader.{more_constants}
-use Rattle.lexer.specs.Reads.{ahead, Fails}
-use Rattle.lexer.proofs.ReadSteps.{behind, behind_fails}
+use Rattle.parser_combinators.specs.Reads.{ahead, Fails}
+use Rattle.parser_combinators.proofs.ReadSteps.{behind, behind_fails}
 use Rattle.script_parse.proofs.ConstantSteps.{constants_done, constants_next, constants_stuck, constants_err}
 use Rattle.script_parse.proofs.change_reader.more_constants.Goals as goal
 

@@ -1,12 +1,12 @@
 use Rattle.std.proofs.Common.{[], ◌∷◌, ◌++◌, map, sym, ap, ◌∙◌, append_assoc, append-nil, codes, false}
 use Rattle.std.proofs.lemmas.List.{map-append}
 use Rattle.std.proofs.lemmas.Result.{err_from_is_err_and}
-use Rattle.smo_ops.specs.Changes.{set_of_expr, sets_of}
-use Rattle.lexer.specs.Reader.{goes_expr}
-use Rattle.lexer.specs.Lexemes.{is_sign}
-use Rattle.lexer.specs.Reads.{ahead}
-use Rattle.lexer.proofs.ReadSteps.{behind, behind_fails}
-use Rattle.lexer.proofs.ManySteps.{many_first, many_smaller, many_next, many_done, many_err}
+use Rattle.smo_types.specs.Changes.{set_of_expr, sets_of}
+use Rattle.expr_grammar.specs.Reader.{goes_expr}
+use Rattle.lexical_grammar.specs.Lexemes.{is_sign}
+use Rattle.parser_combinators.specs.Reads.{ahead}
+use Rattle.parser_combinators.proofs.ReadSteps.{behind, behind_fails}
+use Rattle.parser_combinators.proofs.ManySteps.{many_first, many_smaller, many_next, many_done, many_err}
 use Rattle.script_parse.specs.StatementReader.{setting}
 use Rattle.script_parse.specs.Productions.{IsSetting}
 use Rattle.script_parse.proofs.ChangeGoodness.{setting_good}

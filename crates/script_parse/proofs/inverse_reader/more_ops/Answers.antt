@@ -2,11 +2,11 @@ use Rattle.std.proofs.Common.{[], ◌∷◌, ◌++◌, map, sym, ap, ◌∙◌, 
 use Rattle.std.proofs.lemmas.List.{map-append}
 use Rattle.std.proofs.lemmas.Result.{err_from_is_err_and}
 use Rattle.prima_base.specs.declared.refusals.What.TheVariants.{Inverse}
-use Rattle.smo_ops.specs.Operators.{operator_of, operators_of}
-use Rattle.lexer.specs.Lexemes.{is_word}
-use Rattle.lexer.specs.Parsing.{more}
-use Rattle.lexer.specs.Reads.{ahead}
-use Rattle.lexer.proofs.ReadSteps.{behind, behind_fails, prepend_none, more_next, more_err, more_full, more_done}
+use Rattle.smo_types.specs.Operators.{operator_of, operators_of}
+use Rattle.lexical_grammar.specs.Lexemes.{is_word}
+use Rattle.parser_combinators.specs.Parsing.{more}
+use Rattle.parser_combinators.specs.Reads.{ahead}
+use Rattle.parser_combinators.proofs.ReadSteps.{behind, behind_fails, prepend_none, more_next, more_err, more_full, more_done}
 use Rattle.script_parse.specs.StatementReader.{op}
 use Rattle.script_parse.proofs.inverse_reader.more_ops.Goals as goal
 

@@ -1,9 +1,9 @@
 use Rattle.std.proofs.Common.{◌≡◌, ◌≤◌, ◌++◌, List, codes}
 use Rattle.prima_base.specs.declared.refusals.What.TheVariants.{Inverse}
-use Rattle.smo_ops.specs.Operators.{Operator, operators_of}
-use Rattle.lexer.specs.Lexemes.{is_word}
-use Rattle.lexer.specs.Reads.{ahead}
-use Rattle.lexer.specs.Parsing.{more, prepend}
+use Rattle.smo_types.specs.Operators.{Operator, operators_of}
+use Rattle.lexical_grammar.specs.Lexemes.{is_word}
+use Rattle.parser_combinators.specs.Reads.{ahead}
+use Rattle.parser_combinators.specs.Parsing.{more, prepend}
 use Rattle.script_parse.specs.StatementReader.{op}
 use Rattle.script_parse.proofs.inverse_reader.more_ops.Given as goal
 

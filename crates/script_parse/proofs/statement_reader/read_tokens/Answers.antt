@@ -1,8 +1,8 @@
 use Rattle.std.proofs.Common.{◌<◌, length, map, sym, ap, ◌∙◌, subst, arith}
 use Rattle.std.proofs.lemmas.Bool.Decides.{nat_tests}
-use Rattle.lexer.specs.declared.reading.Stop.{Stop}
-use Rattle.lexer.specs.Lexemes.{lexeme}
-use Rattle.lexer.specs.Reads.{Fails}
+use Rattle.parser_combinators.specs.declared.reading.Stop.{Stop}
+use Rattle.lexical_grammar.specs.Lexemes.{lexeme}
+use Rattle.parser_combinators.specs.Reads.{Fails}
 use Rattle.script_parse.specs.Statements.{statement_of}
 use Rattle.script_parse.specs.StatementReader.{statement}
 use Rattle.script_parse.proofs.TokenReading.{got_fits, stuck_fits, got_whole, got_more, stuck_there, over_there}

@@ -1,8 +1,8 @@
 use Rattle.std.proofs.Common.{List, ℕ, [], ◌∙◌}
 use Rattle.std.specs.Prelude.{if◌then◌else◌}
 use Rattle.std.proofs.lemmas.Result.{IfOk-weaker}
-use Rattle.smo_ops.specs.OneRow.{Row, same}
-use Rattle.smo_ops.specs.Making.{renamed, moved}
+use Rattle.smo_meaning.specs.OneRow.{Row, same}
+use Rattle.smo_meaning.specs.Making.{renamed, moved}
 use Rattle.smo_maps.specs.Picking.{source_of}
 use Rattle.smo_maps.proofs.Places.{picked_moved, shown_image}
 use Rattle.smo_maps.proofs.columns.under_another_name.Goals as goal

@@ -2,7 +2,7 @@ use Rattle.std.proofs.Common.{◌≡◌, ◌++◌, List, take, map}
 use Rattle.std.specs.List.{filter}
 use Rattle.prima_base.specs.Columns.{Column, names_of}
 use Rattle.cond_expr.specs.Seen.{test}
-use Rattle.smo_ops.specs.OneRow.{meets}
+use Rattle.smo_meaning.specs.OneRow.{meets}
 use Rattle.smo_maps.specs.Atoms.{atoms_named}
 use Rattle.smo_maps.specs.Picking.{picked_row}
 use Rattle.smo_maps.proofs.join.append_joined.Given as goal

@@ -4,8 +4,8 @@ use Rattle.std.specs.BTreeMap.{get}
 use Rattle.relations.specs.Sets.{set_of}
 use Rattle.prima_base.specs.Order.{row_cmp}
 use Rattle.cond_expr.specs.Seen.{test}
-use Rattle.smo_ops.specs.OneRow.{Row}
-use Rattle.smo_ops.specs.Making.{joined_columns}
+use Rattle.smo_meaning.specs.OneRow.{Row}
+use Rattle.smo_meaning.specs.Making.{joined_columns}
 use Rattle.smo_maps.specs.Atoms.{atoms_named}
 use Rattle.smo_maps.specs.Picking.{source_of}
 use Rattle.smo_maps.proofs.KeyLaws.{pairs_joined}

@@ -5,7 +5,7 @@ use Rattle.std.specs.List.{filter, flat_map}
 use Rattle.prima_base.specs.Order.{row_cmp}
 use Rattle.prima_base.specs.Columns.{Column, names_of}
 use Rattle.cond_expr.specs.Seen.{test}
-use Rattle.smo_ops.specs.OneRow.{Row, meets}
+use Rattle.smo_meaning.specs.OneRow.{Row, meets}
 use Rattle.smo_maps.specs.Atoms.{atoms_named}
 use Rattle.smo_maps.specs.Picking.{picked_row}
 use Rattle.smo_maps.proofs.join.joined_pairs.Given as goal

@@ -1,5 +1,5 @@
 use Rattle.std.proofs.Common.{◌≡◌, drop}
-use Rattle.smo_ops.specs.Preconditions.{among}
+use Rattle.smo_meaning.specs.Preconditions.{among}
 use Rattle.smo_maps.proofs.names.is_among.Given as goal
 
 abbrev pub invariant-loop-other : goal.invariant-loop-other

@@ -1,5 +1,5 @@
 use Rattle.prima_base.specs.Columns.{Column}
-use Rattle.smo_ops.specs.Preconditions.{among}
+use Rattle.smo_meaning.specs.Preconditions.{among}
 use Rattle.smo_maps.proofs.MadeNames.{names_kept}
 use Rattle.smo_maps.proofs.names.names_among.Goals as goal
 

@@ -1,6 +1,6 @@
 use Rattle.std.proofs.Common.{◌≡◌, take}
 use Rattle.prima_base.specs.Columns.{names_of}
-use Rattle.smo_ops.specs.Making.{named}
+use Rattle.smo_meaning.specs.Making.{named}
 use Rattle.smo_maps.proofs.names.names_among.Given as goal
 
 abbrev pub invariant-loop-name : goal.invariant-loop-name

@@ -4,7 +4,7 @@ use Rattle.std.proofs.lemmas.List.{take_all}
 use Rattle.relations.specs.Sets.{set_of}
 use Rattle.prima_base.specs.Order.{bytes_cmp}
 use Rattle.prima_base.specs.Columns.{Column, names_of}
-use Rattle.smo_ops.specs.OneRow.{same}
+use Rattle.smo_meaning.specs.OneRow.{same}
 use Rattle.smo_maps.proofs.MadeNames.{names_shown, renamed_names}
 use Rattle.smo_maps.proofs.names.names_renamed.Goals as goal
 

@@ -1,7 +1,7 @@
 use Rattle.std.proofs.Common.{◌≡◌, take, map, List, ℕ}
 use Rattle.std.specs.Prelude.{if◌then◌else◌}
 use Rattle.prima_base.specs.Columns.{names_of}
-use Rattle.smo_ops.specs.OneRow.{same}
+use Rattle.smo_meaning.specs.OneRow.{same}
 use Rattle.smo_maps.proofs.names.names_renamed.Given as goal
 
 abbrev pub invariant-loop-name : goal.invariant-loop-name

@@ -1,7 +1,7 @@
 use Rattle.std.proofs.Common.{ap}
 use Rattle.std.specs.Prelude.{not}
 use Rattle.prima_base.specs.Columns.{Column}
-use Rattle.smo_ops.specs.OneRow.{same}
+use Rattle.smo_meaning.specs.OneRow.{same}
 use Rattle.smo_maps.proofs.MadeNames.{names_kept}
 use Rattle.smo_maps.proofs.names.names_without.Goals as goal
 

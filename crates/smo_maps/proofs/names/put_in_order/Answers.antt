@@ -3,7 +3,7 @@ use Rattle.std.specs.Cmp.Lexicographic.{pointwise, nat_list_eq_equiv, nat_list_c
 use Rattle.std.proofs.lemmas.List.Filters.{dedup_is}
 use Rattle.prima_base.specs.Order.{bytes_cmp}
 use Rattle.prima_base.specs.OrderLaws.{bytes_exact}
-use Rattle.smo_ops.proofs.SortLaws.{sorted_set}
+use Rattle.smo_meaning.proofs.SortLaws.{sorted_set}
 use Rattle.smo_maps.proofs.names.put_in_order.Goals as goal
 
 pub returns : goal.returns

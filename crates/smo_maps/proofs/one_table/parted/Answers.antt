@@ -1,7 +1,7 @@
 use Rattle.std.proofs.Common.{◌≡◌, [], ◌∷◌, ◌++◌, ap, ◌∙◌}
 use Rattle.std.specs.Prelude.{not}
 use Rattle.cond_expr.specs.Seen.{test}
-use Rattle.smo_ops.specs.OneRow.{Row, meets}
+use Rattle.smo_meaning.specs.OneRow.{Row, meets}
 use Rattle.smo_maps.proofs.KeptRows.{kept_more, turned}
 use Rattle.smo_maps.proofs.one_table.parted.Goals as goal
 

@@ -1,9 +1,9 @@
 use Rattle.std.proofs.Common.{[], ◌∷◌, ◌++◌, sym, ap, ◌∙◌, append_assoc, append-nil, codes, false}
 use Rattle.std.proofs.lemmas.Result.{err_from_is_err_and}
-use Rattle.lexer.specs.Lexemes.{is_sign}
-use Rattle.lexer.specs.Reads.{ahead}
-use Rattle.lexer.proofs.ReadSteps.{behind, behind_fails}
-use Rattle.lexer.proofs.ManySteps.{many_first, many_smaller, many_next, many_done, many_err}
+use Rattle.lexical_grammar.specs.Lexemes.{is_sign}
+use Rattle.parser_combinators.specs.Reads.{ahead}
+use Rattle.parser_combinators.proofs.ReadSteps.{behind, behind_fails}
+use Rattle.parser_combinators.proofs.ManySteps.{many_first, many_smaller, many_next, many_done, many_err}
 use Rattle.smo_parse.specs.OperatorReader.{column}
 use Rattle.smo_parse.specs.Productions.{IsColumn}
 use Rattle.smo_parse.proofs.OperatorGoodness.{column_good}

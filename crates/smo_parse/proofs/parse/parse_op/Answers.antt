@@ -1,11 +1,11 @@
 use Rattle.std.proofs.Common.{sym, ap, ◌∙◌, subst, map, length, List}
-use Rattle.smo_ops.specs.declared.ops.Op.{Op}
-use Rattle.smo_ops.specs.Operators.{operator_of}
-use Rattle.lexer.specs.Found.{lexemes_from}
-use Rattle.lexer.specs.declared.token.Token.{Token}
-use Rattle.lexer.specs.Lexemes.{lexeme}
-use Rattle.lexer.specs.Reads.{ahead, Fails}
-use Rattle.lexer.proofs.Places.{length_map, got_fits, got_read, got_found, got_only, got_exact, got_over, err_fits, err_found, err_only, err_fault, err_over, err_exact}
+use Rattle.smo_types.specs.declared.ops.Op.{Op}
+use Rattle.smo_types.specs.Operators.{operator_of}
+use Rattle.parser_combinators.specs.Found.{lexemes_from}
+use Rattle.lexical_grammar.specs.declared.token.Token.{Token}
+use Rattle.lexical_grammar.specs.Lexemes.{lexeme}
+use Rattle.parser_combinators.specs.Reads.{ahead, Fails}
+use Rattle.parser_combinators.proofs.Places.{length_map, got_fits, got_read, got_found, got_only, got_exact, got_over, err_fits, err_found, err_only, err_fault, err_over, err_exact}
 use Rattle.smo_parse.specs.Productions.{IsOperator}
 use Rattle.smo_parse.specs.OperatorReader.{operator, goes_operator}
 use Rattle.smo_parse.specs.OperatorMarks.{operator_marks}

@@ -1,6 +1,6 @@
 use Rattle.std.proofs.Common.{◌≡◌, ◌∙◌, sym, ap, subst}
 use Rattle.std.proofs.lemmas.Result.{err_from_is_err_and}
-use Rattle.smo_ops.specs.First.{first_refusal}
+use Rattle.smo_meaning.specs.First.{first_refusal}
 use Rattle.temporal_lang.specs.Branches.{branches_of, IsQuery}
 use Rattle.temporal_lang.specs.Queries.{query_of, a_query}
 use Rattle.temporal_lang.specs.Atoms.{branches_with_atoms}

@@ -1,5 +1,5 @@
 use Rattle.std.proofs.Common.{◌≡◌, drop}
-use Rattle.smo_ops.specs.Preconditions.{among}
+use Rattle.smo_meaning.specs.Preconditions.{among}
 use Rattle.temporal_lang.specs.Branches.{aliases_of}
 use Rattle.temporal_lang.proofs.items.has_alias.Given as goal
 

@@ -1,6 +1,6 @@
 use Rattle.std.proofs.Common.{◌≡◌, drop}
 use Rattle.prima_base.specs.Columns.{names_of}
-use Rattle.smo_ops.specs.Preconditions.{among}
+use Rattle.smo_meaning.specs.Preconditions.{among}
 use Rattle.temporal_lang.proofs.items.is_named.Given as goal
 
 abbrev pub invariant-loop-column : goal.invariant-loop-column

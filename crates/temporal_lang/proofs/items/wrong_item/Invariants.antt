@@ -1,5 +1,5 @@
 use Rattle.std.proofs.Common.{◌≡◌, take, drop}
-use Rattle.smo_ops.specs.First.{first_refusal}
+use Rattle.smo_meaning.specs.First.{first_refusal}
 use Rattle.temporal_lang.specs.Branches.{aliases_of}
 use Rattle.temporal_lang.specs.Checking.{item_tests, items_behind}
 use Rattle.temporal_lang.proofs.items.wrong_item.Given as goal

@@ -1,8 +1,8 @@
 use Rattle.std.proofs.Common.{sym, ap, subst, ◌≡◌, ◌++◌, ◌∙◌, map}
 use Rattle.std.specs.Prelude.{None}
 use Rattle.std.proofs.lemmas.Result.{err_from_is_err_and}
-use Rattle.smo_ops.specs.First.{first_refusal}
-use Rattle.smo_ops.proofs.Firsts.{first_behind, first_before}
+use Rattle.smo_meaning.specs.First.{first_refusal}
+use Rattle.smo_meaning.proofs.Firsts.{first_behind, first_before}
 use Rattle.temporal_lang.specs.Branches.{branch_of}
 use Rattle.temporal_lang.specs.Atoms.{sources_of}
 use Rattle.temporal_lang.specs.Checking.{IsPassed, item_tests, reference_test, branch_references, branch_names}

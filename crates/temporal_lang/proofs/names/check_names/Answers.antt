@@ -1,7 +1,7 @@
 use Rattle.std.proofs.Common.{◌∙◌}
 use Rattle.std.proofs.lemmas.Result.{err_from_is_err_and}
-use Rattle.smo_ops.specs.First.{first_refusal}
-use Rattle.smo_ops.proofs.Firsts.{tests_more, tests_stop}
+use Rattle.smo_meaning.specs.First.{first_refusal}
+use Rattle.smo_meaning.proofs.Firsts.{tests_more, tests_stop}
 use Rattle.temporal_lang.specs.Branches.{branch_of, branches_of}
 use Rattle.temporal_lang.specs.Checking.{branch_names, names_tests}
 use Rattle.temporal_lang.proofs.PassLaws.{passed_on}

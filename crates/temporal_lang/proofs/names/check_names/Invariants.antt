@@ -1,5 +1,5 @@
 use Rattle.std.proofs.Common.{◌≡◌, drop}
-use Rattle.smo_ops.specs.First.{first_refusal}
+use Rattle.smo_meaning.specs.First.{first_refusal}
 use Rattle.temporal_lang.specs.Branches.{branches_of}
 use Rattle.temporal_lang.specs.Checking.{names_tests}
 use Rattle.temporal_lang.proofs.names.check_names.Given as goal

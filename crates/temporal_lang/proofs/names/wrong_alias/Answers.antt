@@ -1,10 +1,10 @@
 use Rattle.std.proofs.Common.{sym, ap, ◌∙◌, get_or, arith}
 use Rattle.prima_base.specs.declared.refusals.Refusal.TheVariants.{NoColumn}
 use Rattle.prima_base.specs.Columns.{names_of}
-use Rattle.smo_ops.specs.First.{unless}
-use Rattle.smo_ops.specs.Effects.{columns_of}
-use Rattle.smo_ops.specs.Preconditions.{among}
-use Rattle.temporal_lang.specs.Branches.{Item}
+use Rattle.smo_meaning.specs.First.{unless}
+use Rattle.smo_meaning.specs.Effects.{columns_of}
+use Rattle.smo_meaning.specs.Preconditions.{among}
+use Rattle.plain_answers.specs.Branches.{Item}
 use Rattle.temporal_lang.specs.Atoms.{source_of, has_alias}
 use Rattle.temporal_lang.specs.Checking.{column_fault}
 use Rattle.temporal_lang.proofs.PlaceLaws.{nowhere, somewhere}

@@ -1,12 +1,12 @@
 use Rattle.std.proofs.Common.{sym, ap, ◌∙◌, subst, map, length, List}
-use Rattle.lexer.specs.Found.{lexemes_from}
-use Rattle.lexer.proofs.Passing.{got_passing, err_passing, err_of}
+use Rattle.parser_combinators.specs.Found.{lexemes_from}
+use Rattle.parser_combinators.proofs.Passing.{got_passing, err_passing, err_of}
 use Rattle.temporal_lang.specs.declared.queries.Query.{Query}
 use Rattle.temporal_lang.specs.Queries.{query_of}
-use Rattle.lexer.specs.declared.token.Token.{Token}
-use Rattle.lexer.specs.Lexemes.{lexeme}
-use Rattle.lexer.specs.Reads.{ahead, Fails}
-use Rattle.lexer.proofs.Places.{length_map, got_fits, got_read, got_found, got_only, got_exact, err_fits, err_found, err_only, err_exact, err_syntax, err_ran_out}
+use Rattle.lexical_grammar.specs.declared.token.Token.{Token}
+use Rattle.lexical_grammar.specs.Lexemes.{lexeme}
+use Rattle.parser_combinators.specs.Reads.{ahead, Fails}
+use Rattle.parser_combinators.proofs.Places.{length_map, got_fits, got_read, got_found, got_only, got_exact, err_fits, err_found, err_only, err_exact, err_syntax, err_ran_out}
 use Rattle.temporal_lang.specs.QueryGrammar.{IsAsk}
 use Rattle.temporal_lang.specs.QueryReader.{ask, goes_ask}
 use Rattle.temporal_lang.proofs.QueryGoodness.{ask_good}

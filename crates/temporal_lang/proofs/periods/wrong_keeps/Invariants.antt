@@ -1,5 +1,5 @@
 use Rattle.std.proofs.Common.{◌≡◌, map, drop}
-use Rattle.smo_ops.specs.First.{first_refusal}
+use Rattle.smo_meaning.specs.First.{first_refusal}
 use Rattle.temporal_lang.specs.Checking.{keep_fault}
 use Rattle.temporal_lang.proofs.periods.wrong_keeps.Given as goal
 

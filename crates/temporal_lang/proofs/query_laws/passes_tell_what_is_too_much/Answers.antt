@@ -1,4 +1,4 @@
-use Rattle.lexer.proofs.Passing.{pass_exceeds, no_pass_no_excess}
+use Rattle.parser_combinators.proofs.Passing.{pass_exceeds, no_pass_no_excess}
 use Rattle.temporal_lang.specs.QueryGrammar.{IsAsk}
 use Rattle.temporal_lang.specs.QueryReader.{ask, goes_ask}
 use Rattle.temporal_lang.specs.QueryPasses.{ask_passes}

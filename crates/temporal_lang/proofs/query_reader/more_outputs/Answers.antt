@@ -2,11 +2,11 @@ use Rattle.std.proofs.Common.{[], ◌∷◌, ◌++◌, map, sym, ap, ◌∙◌, 
 use Rattle.std.proofs.lemmas.List.{map-append}
 use Rattle.std.proofs.lemmas.Result.{err_from_is_err_and}
 use Rattle.cond_expr.specs.Seen.{tree}
-use Rattle.lexer.specs.Reader.{goes_expr}
-use Rattle.lexer.specs.Lexemes.{is_sign}
-use Rattle.lexer.specs.Reads.{ahead}
-use Rattle.lexer.proofs.ReadSteps.{behind, behind_fails}
-use Rattle.lexer.proofs.ManySteps.{many_first, many_smaller, many_next, many_done, many_err}
+use Rattle.expr_grammar.specs.Reader.{goes_expr}
+use Rattle.lexical_grammar.specs.Lexemes.{is_sign}
+use Rattle.parser_combinators.specs.Reads.{ahead}
+use Rattle.parser_combinators.proofs.ReadSteps.{behind, behind_fails}
+use Rattle.parser_combinators.proofs.ManySteps.{many_first, many_smaller, many_next, many_done, many_err}
 use Rattle.temporal_lang.specs.QueryReader.{output}
 use Rattle.temporal_lang.specs.QueryGrammar.{IsOutput}
 use Rattle.temporal_lang.proofs.QueryGoodness.{output_good}

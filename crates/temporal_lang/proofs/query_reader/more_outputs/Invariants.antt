@@ -1,9 +1,9 @@
 use Rattle.std.proofs.Common.{◌≡◌, ◌++◌, List, length, map, codes}
 use Rattle.cond_expr.specs.Trees.{Tree}
 use Rattle.cond_expr.specs.Seen.{tree}
-use Rattle.lexer.specs.Lexemes.{is_sign}
-use Rattle.lexer.specs.Reads.{ahead}
-use Rattle.lexer.specs.Parsing.{many, prepend}
+use Rattle.lexical_grammar.specs.Lexemes.{is_sign}
+use Rattle.parser_combinators.specs.Reads.{ahead}
+use Rattle.parser_combinators.specs.Parsing.{many, prepend}
 use Rattle.temporal_lang.specs.QueryReader.{output}
 use Rattle.temporal_lang.proofs.query_reader.more_outputs.Given as goal
 

@@ -2,9 +2,9 @@ use Rattle.std.proofs.Common.{sym, ap, ◌∷◌, ◌∙◌, length, map, arith}
 use Rattle.std.proofs.lemmas.Result.{err_from_is_err_and}
 use Rattle.prima_base.specs.declared.refusals.What.TheVariants.{Tables}
 use Rattle.cond_expr.specs.Seen.{tree, test}
-use Rattle.smo_ops.specs.First.{first_refusal}
-use Rattle.smo_ops.specs.Counts.{at_most, test_counts}
-use Rattle.smo_ops.proofs.Firsts.{first_behind, first_before, first_at, first_later}
+use Rattle.smo_meaning.specs.First.{first_refusal}
+use Rattle.smo_meaning.specs.Counts.{at_most, test_counts}
+use Rattle.smo_meaning.proofs.Firsts.{first_behind, first_before, first_at, first_later}
 use Rattle.temporal_lang.specs.Checking.{output_counts}
 use Rattle.temporal_lang.proofs.SizeLaws.{above_limit, within_limit}
 use Rattle.temporal_lang.proofs.sizes.check_branch.Goals as goal

@@ -2,7 +2,7 @@ use Rattle.std.proofs.lemmas.Result.{err_from_is_err_and}
 use Rattle.prima_base.specs.declared.refusals.What.TheVariants.{Branches}
 use Rattle.temporal_lang.specs.Branches.{branch_of}
 use Rattle.temporal_lang.specs.Checking.{branch_counts}
-use Rattle.smo_ops.proofs.CountLaws.{limited_before, limited_above, limited_within}
+use Rattle.smo_meaning.proofs.CountLaws.{limited_before, limited_above, limited_within}
 use Rattle.temporal_lang.proofs.sizes.check_branches.Goals as goal
 
 pub returns-in_err-check_each_branch : goal.returns-in_err-check_each_branch

@@ -1,6 +1,6 @@
 use Rattle.std.proofs.Common.{sym, ◌∙◌}
 use Rattle.std.proofs.lemmas.Result.{err_from_is_err_and}
-use Rattle.smo_ops.proofs.Firsts.{tests_more, tests_stop}
+use Rattle.smo_meaning.proofs.Firsts.{tests_more, tests_stop}
 use Rattle.temporal_lang.specs.Branches.{branch_of}
 use Rattle.temporal_lang.specs.Checking.{branch_counts}
 use Rattle.temporal_lang.proofs.sizes.check_each_branch.Goals as goal

@@ -1,6 +1,6 @@
 use Rattle.std.proofs.Common.{◌≡◌, drop}
 use Rattle.std.specs.List.{flat_map}
-use Rattle.smo_ops.specs.First.{first_refusal}
+use Rattle.smo_meaning.specs.First.{first_refusal}
 use Rattle.temporal_lang.specs.Branches.{branches_of}
 use Rattle.temporal_lang.specs.Checking.{branch_counts}
 use Rattle.temporal_lang.proofs.sizes.check_each_branch.Given as goal

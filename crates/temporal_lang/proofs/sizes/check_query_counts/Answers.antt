@@ -1,9 +1,9 @@
 use Rattle.std.proofs.Common.{sym, ap, ◌∷◌, [], ◌∙◌, length, arith}
 use Rattle.std.proofs.lemmas.Result.{err_from_is_err_and}
 use Rattle.prima_base.specs.declared.refusals.What.TheVariants.{Keeps}
-use Rattle.smo_ops.specs.First.{first_refusal}
-use Rattle.smo_ops.specs.Counts.{at_most}
-use Rattle.smo_ops.proofs.Firsts.{first_behind, first_before, first_alone}
+use Rattle.smo_meaning.specs.First.{first_refusal}
+use Rattle.smo_meaning.specs.Counts.{at_most}
+use Rattle.smo_meaning.proofs.Firsts.{first_behind, first_before, first_alone}
 use Rattle.temporal_lang.specs.Branches.{branches_of}
 use Rattle.temporal_lang.specs.Checking.{branches_counts}
 use Rattle.temporal_lang.proofs.SizeLaws.{above_limit, within_limit}

@@ -1,7 +1,7 @@
 use Rattle.std.proofs.Common.{◌≡◌, ◌∙◌, map, sym, ap, subst}
 use Rattle.std.proofs.lemmas.Result.{err_from_is_err_and}
-use Rattle.smo_ops.specs.First.{first_refusal}
-use Rattle.smo_ops.proofs.Firsts.{first_behind}
+use Rattle.smo_meaning.specs.First.{first_refusal}
+use Rattle.smo_meaning.proofs.Firsts.{first_behind}
 use Rattle.temporal_lang.specs.Branches.{branches_of}
 use Rattle.temporal_lang.specs.Checking.{IsPassed, types_from, typing_tests, arities, output_kinds}
 use Rattle.temporal_lang.specs.Typings.{kind_lists}

@@ -1,5 +1,5 @@
 use Rattle.std.proofs.Common.{◌≡◌, ◌≤◌, ◌*◌, ◌++◌, map, drop}
-use Rattle.smo_ops.specs.First.{first_refusal}
+use Rattle.smo_meaning.specs.First.{first_refusal}
 use Rattle.temporal_lang.specs.Branches.{branches_of}
 use Rattle.temporal_lang.specs.Checking.{types_from, output_kinds}
 use Rattle.temporal_lang.specs.Typings.{kind_lists}

@@ -5,7 +5,7 @@ use Rattle.cond_expr.specs.Seen.{test}
 use Rattle.cond_expr.specs.Sizes.{test_nodes}
 use Rattle.cond_expr.specs.Kinds.{kinds_of}
 use Rattle.cond_expr.specs.Faults.{TestJudged}
-use Rattle.smo_ops.proofs.Places.{place_in_test}
+use Rattle.smo_meaning.proofs.Places.{place_in_test}
 use Rattle.temporal_lang.proofs.typing.type_cond.Goals as goal
 
 pub overflow_add-result : goal.overflow_add-result

@@ -4,7 +4,7 @@ use Rattle.std.specs.List.{flat_map}
 use Rattle.cond_expr.specs.Seen.{tree}
 use Rattle.cond_expr.specs.Kinds.{kinds_of, kind_of}
 use Rattle.cond_expr.specs.Faults.{references, first_unknown}
-use Rattle.smo_ops.specs.First.{first_refusal}
+use Rattle.smo_meaning.specs.First.{first_refusal}
 use Rattle.temporal_lang.specs.Checking.{trees_types, outputs_nodes}
 use Rattle.temporal_lang.specs.Resolved.{AreSmall}
 use Rattle.temporal_lang.proofs.typing.type_outputs.Given as goal

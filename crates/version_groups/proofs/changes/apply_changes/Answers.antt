@@ -4,8 +4,8 @@ use Rattle.relations.proofs.SetLaws.{set_itself}
 use Rattle.prima_base.specs.Order.{row_cmp}
 use Rattle.prima_base.specs.OrderLaws.{row_exact}
 use Rattle.prima_base.specs.Columns.{IsRelation}
-use Rattle.smo_ops.specs.Changes.{change_of, changes_of}
-use Rattle.smo_ops.specs.Inserting.{relation_after_each}
+use Rattle.smo_types.specs.Changes.{change_of, changes_of}
+use Rattle.smo_meaning.specs.Inserting.{relation_after_each}
 use Rattle.version_groups.specs.Changing.{of_table}
 use Rattle.version_groups.proofs.Applying.{as_set, kept_each, accepted_next, applied_next}
 use Rattle.version_groups.proofs.changes.apply_changes.Goals as goal

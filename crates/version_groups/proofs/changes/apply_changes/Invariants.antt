@@ -2,8 +2,8 @@ use Rattle.std.proofs.Common.{◌≡◌, drop}
 use Rattle.relations.specs.Sets.{set_of}
 use Rattle.prima_base.specs.Order.{row_cmp}
 use Rattle.prima_base.specs.Columns.{IsRelation}
-use Rattle.smo_ops.specs.Changes.{changes_of}
-use Rattle.smo_ops.specs.Inserting.{relation_after_each}
+use Rattle.smo_types.specs.Changes.{changes_of}
+use Rattle.smo_meaning.specs.Inserting.{relation_after_each}
 use Rattle.version_groups.specs.Changing.{AreAccepted, of_table}
 use Rattle.version_groups.proofs.changes.apply_changes.Given as goal
 

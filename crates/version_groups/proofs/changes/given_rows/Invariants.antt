@@ -1,7 +1,7 @@
 use Rattle.std.proofs.Common.{◌≡◌, ◌++◌, drop}
 use Rattle.std.specs.Option.{option_map}
-use Rattle.smo_ops.specs.Changes.{changes_of}
-use Rattle.smo_ops.specs.Inserting.{insertions}
+use Rattle.smo_types.specs.Changes.{changes_of}
+use Rattle.smo_meaning.specs.Inserting.{insertions}
 use Rattle.version_groups.specs.Changing.{of_table}
 use Rattle.version_groups.proofs.changes.given_rows.Given as goal
 

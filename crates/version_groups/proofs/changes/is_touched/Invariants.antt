@@ -1,5 +1,5 @@
 use Rattle.std.proofs.Common.{◌≡◌, drop, length}
-use Rattle.smo_ops.specs.Changes.{changes_of}
+use Rattle.smo_types.specs.Changes.{changes_of}
 use Rattle.version_groups.specs.Changing.{of_table}
 use Rattle.version_groups.proofs.changes.is_touched.Given as goal
 

@@ -7,9 +7,9 @@ use Rattle.prima_base.specs.Order.{row_cmp}
 use Rattle.prima_base.specs.Columns.{IsRelation}
 use Rattle.prima_base.specs.declared.values.Value.{Value}
 use Rattle.history_store.specs.Store.{AllBefore, relation_at}
-use Rattle.smo_ops.specs.Changes.{changes_of}
-use Rattle.smo_ops.specs.Inserting.{relation_after_each, insertions}
-use Rattle.smo_ops.specs.Effects.{gained_rows}
+use Rattle.smo_types.specs.Changes.{changes_of}
+use Rattle.smo_meaning.specs.Inserting.{relation_after_each, insertions}
+use Rattle.smo_meaning.specs.Effects.{gained_rows}
 use Rattle.version_groups.specs.Becoming.{IsChange}
 use Rattle.version_groups.specs.Changing.{of_table}
 use Rattle.version_groups.proofs.Applying.{all_later, given_relation, kept_each, relation_ascends}

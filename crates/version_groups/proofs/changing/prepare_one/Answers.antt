@@ -1,5 +1,5 @@
 use Rattle.std.proofs.Common.{sym, ◌∙◌}
-use Rattle.smo_ops.specs.Changes.{changes_of}
+use Rattle.smo_types.specs.Changes.{changes_of}
 use Rattle.version_groups.proofs.TablesInTurn.{untouched_gained, untouched_lost}
 use Rattle.version_groups.proofs.changing.prepare_one.Goals as goal
 

@@ -2,7 +2,7 @@ use Rattle.std.proofs.Common.{◌≡◌, ◌<◌, ◌≤◌, ◌+◌, ◌∙◌,
 use Rattle.std.specs.Prelude.{Option}
 use Rattle.std.proofs.Math.ListN.{set}
 use Rattle.history_store.specs.Change.{Plan}
-use Rattle.smo_ops.specs.Changes.{changes_of}
+use Rattle.smo_types.specs.Changes.{changes_of}
 use Rattle.version_groups.proofs.TablesInTurn.{ReadyTo, none_ready, one_ready, all_same, gained_is, lost_is, are_ready}
 use Rattle.version_groups.proofs.changing.prepare_tables.Goals as goal
 

@@ -1,4 +1,4 @@
-use Rattle.smo_ops.specs.Changes.{changes_of}
+use Rattle.smo_types.specs.Changes.{changes_of}
 use Rattle.version_groups.proofs.TablesInTurn.{ReadyTo}
 use Rattle.version_groups.proofs.changing.prepare_tables.Given as goal
 

@@ -1,8 +1,8 @@
 use Rattle.std.proofs.Common.{sym, subst}
 use Rattle.std.proofs.lemmas.Result.{IfOk-weaker}
 use Rattle.schema_catalog.specs.Tables.{Tables}
-use Rattle.smo_ops.specs.Operators.{operator_of}
-use Rattle.smo_ops.specs.After.{IsLawful}
+use Rattle.smo_types.specs.Operators.{operator_of}
+use Rattle.smo_meaning.specs.After.{IsLawful}
 use Rattle.version_groups.specs.Groups.{stored_as}
 use Rattle.version_groups.specs.MadeRows.{made_rows}
 use Rattle.version_groups.proofs.GivenTables.{are_earlier}

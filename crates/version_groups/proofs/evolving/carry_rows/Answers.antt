@@ -1,7 +1,7 @@
 use Rattle.std.proofs.Common.{◌≡◌, ◌∙◌, Some, List, sym, ap, subst}
 use Rattle.std.specs.Option.{option_copied}
 use Rattle.std.proofs.lemmas.Result.{IfOk-weaker}
-use Rattle.smo_ops.specs.Operators.{operator_of}
+use Rattle.smo_types.specs.Operators.{operator_of}
 use Rattle.smo_maps.specs.Carrying.{given_tables, Has}
 use Rattle.version_groups.proofs.GivenTables.{given_there, are_earlier, has_given}
 use Rattle.version_groups.proofs.evolving.carry_rows.Goals as goal

@@ -1,5 +1,5 @@
 use Rattle.std.proofs.Common.{◌≡◌, take}
-use Rattle.smo_ops.specs.Operators.{operators_of}
+use Rattle.smo_types.specs.Operators.{operators_of}
 use Rattle.version_groups.proofs.evolving.copy_operators.Given as goal
 
 abbrev pub invariant-loop-op : goal.invariant-loop-op

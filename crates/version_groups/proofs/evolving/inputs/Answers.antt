@@ -1,6 +1,6 @@
 use Rattle.std.proofs.Common.{ap, ◌∙◌}
 use Rattle.std.specs.Prelude.{slice_get}
-use Rattle.smo_ops.specs.Past.{no_tables}
+use Rattle.smo_meaning.specs.Past.{no_tables}
 use Rattle.version_groups.proofs.GivenTables.{given_consumed}
 use Rattle.version_groups.proofs.evolving.inputs.Goals as goal
 

@@ -1,10 +1,10 @@
 use Rattle.std.proofs.Common.{ℕ, List, ap, subst, ◌∙◌}
 use Rattle.std.specs.FinMap.{get}
 use Rattle.schema_catalog.specs.Tables.{Tables}
-use Rattle.smo_ops.specs.After.{carried}
-use Rattle.smo_ops.specs.Commands.{PlainVersion}
-use Rattle.smo_ops.specs.Effects.{rows_at}
-use Rattle.smo_ops.specs.Operators.{Operator, operator_of, operators_of}
+use Rattle.smo_meaning.specs.After.{carried}
+use Rattle.smo_types.specs.Commands.{PlainVersion}
+use Rattle.smo_meaning.specs.Effects.{rows_at}
+use Rattle.smo_types.specs.Operators.{Operator, operator_of, operators_of}
 use Rattle.version_groups.specs.Groups.{stored_as}
 use Rattle.version_groups.specs.Steps.{BeginsEntry}
 use Rattle.version_groups.proofs.evolving.prepare_version.Goals as goal

@@ -1,9 +1,10 @@
-use Rattle.std.proofs.Common.{◌≡◌, ◌+◌, ◌≤◌, drop}
-use Rattle.version_groups.specs.Groups.{begun_by}
+use Rattle.std.proofs.Common.{◌≡◌, ◌+◌, ◌≤◌, drop, length, map}
+use Rattle.smo_types.specs.Commands.{version_of}
+use Rattle.smo_meaning.specs.Past.{begun_at}
 use Rattle.version_groups.proofs.groups.count_begun.Given as goal
 
 abbrev pub invariant-loop-version : goal.invariant-loop-version
 invariant-loop-version l = record {
-  counted : begun_by l.versions l.moment ≡ l.count + begun_by (drop l.version-index l.versions) l.moment;
+  counted : length (begun_at l.moment (map version_of l.versions)) ≡ l.count + length (begun_at l.moment (map version_of (drop l.version-index l.versions)));
   few : l.count ≤ l.version-index;
 }

@@ -1,6 +1,6 @@
 use Rattle.std.proofs.Common.{sym, subst, ap, ◌∙◌, Some}
-use Rattle.smo_ops.specs.Commands.{command_of}
-use Rattle.smo_ops.specs.Past.{past_with}
+use Rattle.smo_types.specs.Commands.{command_of}
+use Rattle.smo_meaning.specs.Past.{past_with}
 use Rattle.version_groups.specs.Steps.{Prepares}
 use Rattle.archive_core.specs.Committing.{version_made}
 use Rattle.archive_core.specs.Standing.{Standing, ShowsPast}

@@ -1,6 +1,6 @@
 use Rattle.std.proofs.Common.{sym, subst}
 use Rattle.std.specs.Prelude.{⊤}
-use Rattle.smo_ops.specs.Commands.{command_of}
+use Rattle.smo_types.specs.Commands.{command_of}
 use Rattle.archive_core.specs.Standing.{Standing, ShowsPast}
 use Rattle.archive_core.proofs.Judging.{refused_stands}
 use Rattle.archive_core.proofs.archives.Archive.commit.Goals as goal

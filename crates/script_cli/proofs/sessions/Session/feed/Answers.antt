@@ -1,5 +1,5 @@
 use Rattle.std.proofs.Common.{arith}
-use Rattle.smo_ops.specs.Past.{Past}
+use Rattle.smo_meaning.specs.Past.{Past}
 use Rattle.archive_core.specs.Standing.{ShowsPast}
 use Rattle.script_cli.specs.Shows.{Took}
 use Rattle.script_cli.proofs.Taking.{took_more, front_more, left_none, left_some}

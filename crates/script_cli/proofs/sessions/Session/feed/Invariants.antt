@@ -1,5 +1,5 @@
 use Rattle.std.proofs.Common.{◌≡◌, ◌≤◌, false, length}
-use Rattle.smo_ops.specs.Past.{Past}
+use Rattle.smo_meaning.specs.Past.{Past}
 use Rattle.archive_core.specs.Standing.{ShowsPast}
 use Rattle.script_cli.specs.Shows.{Took}
 use Rattle.script_cli.proofs.sessions.Session.feed.Given as goal

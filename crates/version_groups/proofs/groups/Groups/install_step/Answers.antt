@@ -1,9 +1,10 @@
 use Rattle.std.proofs.Common.{◌≡◌, ◌<◌, ◌+◌, List, [], ◌∷◌, length, ap, subst, ◌∙◌, arith}
 use Rattle.std.proofs.lemmas.List.{length-append}
-use Rattle.smo_ops.specs.declared.versions.Version.{Version}
-use Rattle.smo_ops.specs.Commands.{version_of}
+use Rattle.smo_types.specs.declared.versions.Version.{Version}
+use Rattle.smo_types.specs.Commands.{version_of}
 use Rattle.version_groups.specs.Steps.{changed, evolved, step_of, IsStep}
-use Rattle.version_groups.proofs.CarriedOut.{changes_made, version_made, have_room, is_room}
+use Rattle.version_groups.specs.Groups.{versions_in, group_of}
+use Rattle.version_groups.proofs.CarriedOut.{changes_made, version_made, have_room, is_room, group_stays}
 use Rattle.version_groups.proofs.groups.Groups.install_step.Goals as goal
 
 pub install_changes-requires : goal.install_changes-requires
@@ -34,10 +35,13 @@ returns-in-Evolved-clause-shows c = λ past command shows accepted lawful ready.
     (subst (IsStep c.args.self.now past command.stamp command.body) is ready)
 
 pub returns-in-Changed-clause-earlier : goal.returns-in-Changed-clause-earlier
-returns-in-Changed-clause-earlier c = λ k l. c.install_changes.ensures.groups k (subst (λ (vs : List Version). k < length vs) c.install_changes.ensures.versions l)
+returns-in-Changed-clause-earlier c = λ k l name.
+    group_stays (versions_in c.install_changes.new.self) k name (group_of c.args.self.now k) (group_of c.install_changes.new.self k)
+    (c.install_changes.ensures.groups k (subst (λ (vs : List Version). k < length vs) c.install_changes.ensures.versions l))
 
 pub returns-in-Evolved-clause-earlier : goal.returns-in-Evolved-clause-earlier
 returns-in-Evolved-clause-earlier c =
     let one_more : length c.install_version.new.self.versions ≡ length c.args.self.now.versions + 1 =
     ap (λ (vs : List Version). length vs) c.install_version.ensures.versions ∙ length-append c.args.self.now.versions (c.in-Evolved.version ∷ []) in
-    λ k l. c.install_version.ensures.groups k (omega (arith, l))
+    λ k l name. group_stays (versions_in c.install_version.new.self) k name (group_of c.args.self.now k) (group_of c.install_version.new.self k)
+    (c.install_version.ensures.groups k (omega (arith, l)))

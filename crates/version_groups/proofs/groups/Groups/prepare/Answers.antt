@@ -1,9 +1,9 @@
 use Rattle.std.proofs.Common.{◌≡◌, None, sym, ap, subst, ◌∙◌}
 use Rattle.std.specs.Result.{IfOk}
-use Rattle.smo_ops.specs.Accepts.{command_fault}
-use Rattle.smo_ops.specs.Changes.{changes_of}
-use Rattle.smo_ops.specs.Commands.{changing, evolving, body_of, command_of, PlainCommand}
-use Rattle.smo_ops.specs.Operators.{operator_of, operators_of}
+use Rattle.smo_meaning.specs.Accepts.{command_fault}
+use Rattle.smo_types.specs.Changes.{changes_of}
+use Rattle.smo_types.specs.Commands.{changing, evolving, body_of, command_of, PlainCommand}
+use Rattle.smo_types.specs.Operators.{operator_of, operators_of}
 use Rattle.version_groups.specs.Steps.{a_command, Prepares}
 use Rattle.version_groups.proofs.Readied.{command_is, shows_same}
 use Rattle.version_groups.proofs.groups.Groups.prepare.Goals as goal

@@ -2,7 +2,7 @@ use Rattle.std.proofs.Common.{◌≡◌, refl, sym, ap, subst, ◌∙◌, arith}
 use Rattle.relations.specs.Sets.{Ascends}
 use Rattle.prima_base.specs.Order.{bytes_cmp}
 use Rattle.schema_catalog.specs.Tables.{Tables}
-use Rattle.smo_ops.specs.Changes.{changes_of}
+use Rattle.smo_types.specs.Changes.{changes_of}
 use Rattle.version_groups.specs.declared.made_tables.MadeTable.{MadeTable}
 use Rattle.version_groups.specs.declared.groups.Groups.TheInside.{Inside}
 use Rattle.std.specs.Prelude.{List}

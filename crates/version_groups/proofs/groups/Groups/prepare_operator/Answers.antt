@@ -2,10 +2,10 @@ use Rattle.std.proofs.Common.{◌≡◌, None, refl, sym, ap, subst, ◌∙◌, 
 use Rattle.std.specs.Prelude.{List}
 use Rattle.schema_catalog.specs.Tables.{Tables}
 use Rattle.schema_catalog.specs.Databases.{IsDatabase}
-use Rattle.smo_ops.specs.After.{op_fault, IsLawful}
-use Rattle.smo_ops.specs.Commands.{version_of}
-use Rattle.smo_ops.specs.Operators.{operator_of, operators_of}
-use Rattle.smo_ops.specs.Past.{newest_tables, newest_database}
+use Rattle.smo_meaning.specs.After.{op_fault, IsLawful}
+use Rattle.smo_types.specs.Commands.{version_of}
+use Rattle.smo_types.specs.Operators.{operator_of, operators_of}
+use Rattle.smo_meaning.specs.Past.{newest_tables, newest_database}
 use Rattle.version_groups.specs.declared.made_tables.MadeTable.{MadeTable}
 use Rattle.version_groups.specs.Groups.{Kept, newest_group}
 use Rattle.version_groups.specs.Evolving.{IsEvolved}

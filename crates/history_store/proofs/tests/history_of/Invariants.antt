@@ -1,9 +1,0 @@
-use Rattle.std.proofs.Common.{◌≡◌, ◌<◌, ℕ}
-use Rattle.history_store.specs.Store.{AllBefore}
-use Rattle.history_store.proofs.tests.history_of.Given as goal
-
-abbrev pub invariant-loop-stamp : goal.invariant-loop-stamp
-invariant-loop-stamp l = record {
-  columns : l.table.columns ≡ l.columns;
-  later : (m : ℕ) → l.last < m → AllBefore l.table m;
-}

@@ -1,5 +1,0 @@
-use Rattle.std.proofs.Common.{length}
-use Rattle.join_exec.proofs.test_tables.+is_before_all.Given as goal
-
-abbrev pub decreases-is_before_all : goal.decreases-is_before_all
-decreases-is_before_all l = length l.rows.now

@@ -1,0 +1,65 @@
+-- Worked rows: what a branch names of each item, and what it answers over what is read.
+use Rattle.std.specs.Prelude.{◌≡◌, ℕ, List, [], ◌∷◌, pos, refl}
+use Rattle.relations.specs.Sets.{set_of}
+use Rattle.prima_base.specs.declared.values.Value.{Value}
+use Rattle.prima_base.specs.declared.values.Value.TheVariants.{Int}
+use Rattle.prima_base.specs.declared.values.ColType.TheVariants.{Int as INT}
+use Rattle.prima_base.specs.Columns.{Column}
+use Rattle.cond_expr.specs.declared.exprs.Whose.TheVariants.{Atom}
+use Rattle.cond_expr.specs.declared.exprs.CmpOp.TheVariants.{Eq, Lt}
+use Rattle.cond_expr.specs.Trees.{Tree, column, constant, Test, always, compared, all_of, no_tests, a_test, fill_test}
+use Rattle.smo_meaning.specs.OneRow.{Relation}
+use Rattle.plain_answers.specs.Choosing.{answers_over}
+use Rattle.plain_answers.specs.Branches.{PlainBranch}
+use Rattle.plain_answers.specs.Naming.{all_references, names_from}
+use Rattle.plain_answers.specs.Reading.{Read, read_columns, read_rows, parts, said_of}
+
+abbrev k : List ℕ
+k = 107 ∷ []
+
+abbrev x : List ℕ
+x = 120 ∷ []
+
+abbrev y : List ℕ
+y = 121 ∷ []
+
+abbrev int : ℕ → Value
+int n = Int (pos n)
+
+abbrev at : ℕ → List ℕ → Tree
+at i n = column (Atom i) n
+
+-- r (k, x, y) and s (k, x, y)
+abbrev columns : List Column
+columns = (k, INT) ∷ (x, INT) ∷ (y, INT) ∷ []
+
+abbrev r_rows : Relation
+r_rows = (int 1 ∷ int 5 ∷ int 0 ∷ []) ∷ (int 2 ∷ int 9 ∷ int 0 ∷ []) ∷ []
+
+abbrev s_rows : Relation
+s_rows = (int 1 ∷ int 0 ∷ int 7 ∷ []) ∷ (int 1 ∷ int 1 ∷ int 7 ∷ []) ∷ (int 2 ∷ int 1 ∷ int 8 ∷ []) ∷ []
+
+-- SELECT r.x, s.y FROM r, s WHERE r.k = s.k AND r.x < 6
+abbrev joining : PlainBranch
+joining = record {
+  outs = at 0 x ∷ at 1 y ∷ [];
+  from = ([], []) ∷ ([], []) ∷ [];
+  cond = all_of (a_test (compared Eq (at 0 k) (at 1 k)) (a_test (compared Lt (at 0 x) (constant (int 6))) no_tests));
+}
+
+-- of r it names k and x, of s k and y
+named_of_each : names_from 0 joining.from (all_references joining.outs joining.cond) ≡ (k ∷ x ∷ []) ∷ (k ∷ y ∷ []) ∷ []
+unfolding set_of
+named_of_each = refl
+
+-- x < 6, said of r, is its second part
+second_part : parts joining.cond ≡ compared Eq (at 0 k) (at 1 k) ∷ fill_test (said_of 0) (compared Lt (at 0 x) (constant (int 6))) ∷ []
+second_part = refl
+
+abbrev reads : List Read
+reads = record { test = compared Lt (at 0 x) (constant (int 6)); names = k ∷ x ∷ [] } ∷ record { test = always; names = k ∷ y ∷ [] } ∷ []
+
+read_here : read_rows reads (columns ∷ columns ∷ []) (r_rows ∷ s_rows ∷ [])
+    ≡ ((int 1 ∷ int 5 ∷ []) ∷ []) ∷ ((int 1 ∷ int 7 ∷ []) ∷ (int 2 ∷ int 8 ∷ []) ∷ []) ∷ []
+unfolding set_of
+read_here = refl

@@ -1,0 +1,7 @@
+pub mod Bytes
+pub mod PartModes
+pub mod Fronts
+pub mod PartsFound
+pub mod Scripts
+pub mod LexerTexts
+pub mod OpenTexts

@@ -1,0 +1,40 @@
+//! Laws of scripts. Each is proved and does nothing.
+
+ghost use Rattle.std.specs.Prelude.{◌≡◌, ◌↔◌, ◌∷◌, ◌++◌, List, ℕ};
+ghost use Rattle.lexical_grammar.specs.Spaced.{Each as EachByte, IsOpen};
+ghost use Rattle.script_parse.specs.Script.{statements_of, tail_of};
+ghost use Rattle.script_parse.specs.Joining.{Each};
+ghost use Rattle.script_laws.specs.Parts.{HasOpenText, IsClosed, IsInside, IsOpenFault, IsScript};
+ghost use Rattle.script_laws.specs.Parts.{IsShownText, is_shown};
+
+use lexer::tokens_are_spaced;
+use script_parse::{script_is_its_statements, statements_are_of_a_script};
+
+/// Each script has one reading as statements and a tail, and the splitter's are these.
+pub fn a_script_is_read_in_one_way()
+    ensures read { (script : List ℕ) → IsScript script (statements_of script) (tail_of script) }
+    ensures only { (script : List ℕ) → (statements : List (List ℕ)) → (tail : List ℕ)
+        → IsScript script statements tail
+        → (statements ≡ statements_of script) × (tail ≡ tail_of script) }
+{
+    script_is_its_statements();
+    statements_are_of_a_script();
+}
+
+/// A text that does not end cannot come from a script: no statement has one, and so none has the
+/// lexical fault `OpenQuote`.
+pub fn a_statement_has_no_open_text()
+    ensures texts { (script : List ℕ) → (statements : List (List ℕ)) → (tail : List ℕ)
+        → IsScript script statements tail → Each (λ s. HasOpenText s → ⊥) statements }
+    ensures faults { (script : List ℕ) → (statements : List (List ℕ)) → (tail : List ℕ)
+        → IsScript script statements tail → Each (λ s. IsOpenFault s → ⊥) statements }
+    ensures faulty { (text : List ℕ) → IsOpenFault text → HasOpenText text }
+{
+    tokens_are_spaced();
+}
+
+/// The texts of the lexer are those without a control byte, whether they end or not.
+pub fn texts_of_the_lexer_are_texts()
+    ensures closed { (bytes : List ℕ) → IsClosed bytes ↔ IsShownText bytes }
+    ensures open { (bytes : List ℕ) → IsOpen bytes ↔ (IsInside bytes × EachByte is_shown bytes) }
+{}
