@@ -8,6 +8,6 @@
 #![tactic(auto)]
 
 mod block;
-mod play;
+mod player;
 
-pub use play::play;
+pub use player::play;

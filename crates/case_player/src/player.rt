@@ -137,12 +137,12 @@ fn play_lines(alloc: Global, cases: &[u8]) -> Result<Vec<u8>, NoMemory> {
     let mut begin = 0;
     for at in 0..cases.len() {
         if cases[at] == b'\n' {
-            player.line(&cases[begin..at])?;
+            player.line(cases.get(begin..at).unwrap_or_default())?;
             begin = at + 1;
         }
     }
     if begin < cases.len() {
-        player.line(&cases[begin..])?;
+        player.line(cases.get(begin..).unwrap_or_default())?;
     }
     player.end_block()?;
     Ok(player.answers)
