@@ -7,3 +7,4 @@ pub mod Kinds
 pub mod Faults
 pub mod Walks
 pub mod Constants
+pub mod References

@@ -1,18 +1,14 @@
 -- What the columns of a flat row hold, and which rows are lawful.
 use Rattle.std.specs.Prelude.{ℕ, List, [], ◌∷◌, Bool, true, false, cond, ◌&&◌, ◌==◌, pos, ⊤}
-use Rattle.std.specs.Ordering.{is_eq}
 use Rattle.prima_base.specs.declared.values.Value.TheVariants.{Int}
 use Rattle.prima_base.specs.declared.values.Val.{Val}
-use Rattle.prima_base.specs.declared.values.Val.TheVariants.{Int as ValInt, Slice, Own}
 pub use Rattle.prima_base.specs.Columns.{IsLawful}
-use Rattle.prima_base.specs.Order.{bytes_cmp, shown, IsLent}
+pub use Rattle.prima_base.specs.Order.{same}
+use Rattle.prima_base.specs.Order.{shown, IsLent, is_borrowed}
 use Rattle.cond_expr.specs.declared.exprs.Whose.{Whose}
 use Rattle.cond_expr.specs.declared.exprs.Whose.TheVariants.{Free, Alias, Atom}
 use Rattle.cond_expr.specs.declared.exprs.Column.{Column}
 use Rattle.cond_expr.specs.Values.{Cells}
-
-abbrev pub same : List ℕ → List ℕ → Bool
-same a b = is_eq (bytes_cmp a b)
 
 -- the reference names this column
 abbrev pub names : Whose → List ℕ → Column → Bool
@@ -33,12 +29,6 @@ AreLawful (v ∷ vs) = IsLawful (shown v) × AreLawful vs
 abbrev pub AreLent : List Val → Type 0
 AreLent [] = ⊤
 AreLent (v ∷ vs) = IsLent v × AreLent vs
-
--- a text that lies elsewhere
-abbrev pub is_borrowed : Val → Bool
-is_borrowed (ValInt n) = false
-is_borrowed (Slice s) = true
-is_borrowed (Own t) = false
 
 -- whether what a reference stands for is such a text
 abbrev pub lies_elsewhere : List Column → List Val → Whose → List ℕ → Bool

@@ -1,25 +1,17 @@
 ghost use Rattle.std.specs.Prelude.{◌≡◌, ◌≤◌, ◌++◌, map, length, take, pos, IfOk, ℕ, List};
 ghost use Rattle.prima_base.specs.Bytes.{IsTxt};
-ghost use Rattle.prima_base.specs.Order.{shown};
+ghost use Rattle.prima_base.specs.Order.{shown, is_borrowed};
 ghost use Rattle.cond_expr.specs.Trees.{column};
 ghost use Rattle.cond_expr.specs.Values.{value, texts, truth, all_true, some_true, bytes_of, agrees};
 ghost use Rattle.cond_expr.specs.Seen.{tree, test, trees_of, tests_of};
-ghost use Rattle.cond_expr.specs.Rows.{same, names, flat, IsLawful, AreLawful, is_borrowed, lies_elsewhere};
+ghost use Rattle.cond_expr.specs.Rows.{names, flat, IsLawful, AreLawful, lies_elsewhere};
 ghost use Rattle.cond_expr.specs.declared.exprs.Whose.{Whose as WhoseColumn};
 
 use crate::{CmpOp, ColRef, Column, Cond, Expr, Whose};
-use prima_base::{Name, NoMemory, Txt, TxtFault, Val, Value};
+use prima_base::limits::MAX_TEXT;
+use prima_base::{NoMemory, Txt, Val, Value, same_name};
 use std::alloc::Global;
 use std::cmp::Ordering;
-
-/// The most bytes that a text has.
-const MAX_TEXT: usize = 4096;
-
-fn same_name(a: &Name, b: &Name) -> bool
-    ensures { result ≡ same a.now b.now }
-{
-    a.bytes() == b.bytes()
-}
 
 // Whether the reference names this column.
 pub(crate) fn names(reference: &ColRef, column: &Column) -> bool
@@ -28,18 +20,6 @@ pub(crate) fn names(reference: &ColRef, column: &Column) -> bool
     match reference.whose {
         Whose::Atom(atom) => column.atom == atom && same_name(&reference.name, &column.name),
         Whose::Free | Whose::Alias(_) => false,
-    }
-}
-
-// The same value. What lies elsewhere stays there.
-fn again<'a>(v: &Val<'a>) -> Result<Val<'a>, NoMemory>
-    ensures value { IfOk result (λ w. shown w ≡ shown v.now) }
-    ensures borrowed { IfOk result (λ w. is_borrowed w ≡ is_borrowed v.now) }
-{
-    match v {
-        Val::Int(n) => Ok(Val::Int(*n)),
-        Val::Slice(bytes) => Ok(Val::Slice(bytes)),
-        Val::Own(text) => Ok(Val::Own(text.copy()?)),
     }
 }
 
@@ -74,7 +54,7 @@ fn look_up<'a>(
             [] => Ok(Val::Int(0)),
             [value, more @ ..] => {
                 if names(reference, first) {
-                    return again(value);
+                    return value.copy();
                 }
                 look_up(rest, more, reference)
             }
@@ -116,18 +96,6 @@ fn append(joined: &mut Vec<u8>, v: &Val<'_>) -> Result<(), NoMemory>
     let fits = room.min(bytes.len());
     joined.extend_from_slice(&bytes[..fits])?;
     Ok(())
-}
-
-// The text of lawful bytes.
-fn text_of(alloc: Global, bytes: &[u8]) -> Result<Txt, NoMemory>
-    requires { IsTxt bytes.now }
-    ensures { IfOk result (λ t. t ≡ bytes.now) }
-{
-    match Txt::new(alloc, bytes) {
-        Ok(text) => Ok(text),
-        Err(TxtFault::NoMemory) => Err(NoMemory),
-        Err(TxtFault::Long(_) | TxtFault::Control(_)) => unreachable!(),
-    }
 }
 
 fn decide(op: CmpOp, order: Ordering) -> bool
@@ -200,7 +168,7 @@ fn join(
         let v = eval(alloc, part, columns, values)?;
         append(&mut joined, &v)?;
     }
-    text_of(alloc, &joined)
+    Txt::of(alloc, &joined)
 }
 
 /// Whether a condition holds over one value a column. It fails only for want of memory.

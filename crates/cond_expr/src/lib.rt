@@ -11,6 +11,7 @@ mod fills;
 mod laws;
 mod lending;
 mod makers;
+mod references;
 mod sizes;
 mod types;
 
@@ -22,5 +23,6 @@ pub use laws::{
     fillings_compose, lawful_values_are_computed, values_depend_on_references_alone,
 };
 pub use lending::{lend, lend_row};
+pub use references::gather_references;
 pub use sizes::{cond_size, expr_size};
-pub use types::{check_cond, type_of};
+pub use types::{check_cond, type_of, typed_cond, typed_expr, unknown_of_cond, unknown_of_expr};

@@ -1,4 +1,4 @@
-ghost use Rattle.std.specs.Prelude.{◌≡◌, ◌+◌, ◌<◌, ◌^◌, ◌⊎◌, ℕ, List, Some, None, Ok, Err, true, map, MatchOption, IsOk};
+ghost use Rattle.std.specs.Prelude.{◌≡◌, ◌+◌, ◌<◌, ◌^◌, ◌⊎◌, ℕ, List, Some, None, Ok, Err, true, map, IfOk, MatchOption, MatchResult, IsOk, OnOk};
 ghost use Rattle.prima_base.specs.declared.values.ColType.{ColType as Kind};
 ghost use Rattle.cond_expr.specs.declared.exprs.TypeFault.TheVariants.{NoColumn, WrongType, NoMemory as OutOfMemory};
 ghost use Rattle.cond_expr.specs.Trees.{length_of, joined};
@@ -231,6 +231,51 @@ fn conds_at(list: &[Cond], columns: &[Column], at: u32) -> Result<u32, u32>
         next = cond_at(part, columns, next)?;
     }
     Ok(next)
+}
+
+/// The name of the first reference of an expression, in written order, that names no column. It takes no memory.
+pub fn unknown_of_expr<'e>(expr: &'e Expr, columns: &[Column]) -> Option<&'e Name>
+    ensures { MatchOption result (first_unknown (kinds_of columns.now) (references (tree expr.now)) ≡ None)
+        (λ n. first_unknown (kinds_of columns.now) (references (tree expr.now)) ≡ Some n.now) }
+{
+    first_unknown(expr, columns)
+}
+
+/// The name of the first reference of a condition, in written order, that names no column. It takes no memory.
+pub fn unknown_of_cond<'e>(cond: &'e Cond, columns: &[Column]) -> Option<&'e Name>
+    ensures { MatchOption result (first_unknown (kinds_of columns.now) (test_references (test cond.now)) ≡ None)
+        (λ n. first_unknown (kinds_of columns.now) (test_references (test cond.now)) ≡ Some n.now) }
+{
+    first_unknown_of_cond(cond, columns)
+}
+
+/// The type of an expression, or the number, in pre-order from 0, of the first node whose parts have types that it does
+/// not take, parts before their node and left before right; a reference that names no column is such a node. It takes
+/// no memory.
+pub fn typed_expr(expr: &Expr, columns: &[Column]) -> Result<ColType, u32>
+    requires { nodes_of (tree expr.now) < 2 ^ 32 }
+    ensures kind { IfOk result (λ k. kind_of (kinds_of columns.now) (tree expr.now) ≡ Some k) }
+    ensures place { MatchResult result (λ _. first_of (untyped (kinds_of columns.now) 0 (tree expr.now)) ≡ None)
+        (λ p. first_of (untyped (kinds_of columns.now) 0 (tree expr.now)) ≡ Some p) }
+{
+    match type_at(expr, columns, 0) {
+        Ok(typed) => Ok(typed.kind),
+        Err(place) => Err(place),
+    }
+}
+
+/// Whether a condition is well-typed; if not, the number of the first node that is not, as for `typed_expr`. It takes
+/// no memory.
+pub fn typed_cond(cond: &Cond, columns: &[Column]) -> Result<(), u32>
+    requires { test_nodes (test cond.now) < 2 ^ 32 }
+    ensures typed { OnOk result (is_typed (kinds_of columns.now) (test cond.now) ≡ true) }
+    ensures place { MatchResult result (λ _. first_of (test_untyped (kinds_of columns.now) 0 (test cond.now)) ≡ None)
+        (λ p. first_of (test_untyped (kinds_of columns.now) 0 (test cond.now)) ≡ Some p) }
+{
+    match cond_at(cond, columns, 0) {
+        Ok(_) => Ok(()),
+        Err(place) => Err(place),
+    }
 }
 
 /// The type of an expression over some columns. The first column that a reference names decides.

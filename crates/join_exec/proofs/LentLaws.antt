@@ -12,7 +12,8 @@ use Rattle.cond_expr.specs.declared.exprs.Expr.{Expr}
 use Rattle.cond_expr.specs.Trees.{Tree, column, constant, length_of, joined, choose}
 use Rattle.cond_expr.specs.Values.{value}
 use Rattle.cond_expr.specs.Seen.{tree}
-use Rattle.cond_expr.specs.Rows.{AreLent, names, flat, is_borrowed, lies_elsewhere}
+use Rattle.prima_base.specs.Order.{is_borrowed}
+use Rattle.cond_expr.specs.Rows.{AreLent, names, flat, lies_elsewhere}
 use Rattle.join_exec.specs.Answering.{IsPlain, StaysLent, AllStayLent}
 
 -- one that shows what is lent, and lies elsewhere where that does

@@ -10,7 +10,6 @@ mod branches;
 mod gathering;
 mod laws;
 mod names;
-mod references;
 mod row_parts;
 mod stretches;
 

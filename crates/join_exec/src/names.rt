@@ -5,10 +5,9 @@ ghost use Rattle.relations.specs.Sets.{set_of};
 ghost use Rattle.prima_base.specs.Order.{bytes_cmp};
 ghost use Rattle.cond_expr.specs.Seen.{tree, test};
 ghost use Rattle.plain_answers.specs.Naming.{all_references, written_names, names_in};
-ghost use Rattle.join_exec.specs.Naming.{lent};
+ghost use Rattle.cond_expr.specs.References.{lent};
 
-use crate::references::gather_references;
-use cond_expr::{ColRef, Cond, Expr};
+use cond_expr::{ColRef, Cond, Expr, gather_references};
 use prima_base::{Name, NoMemory};
 use std::alloc::Global;
 

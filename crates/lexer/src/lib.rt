@@ -27,7 +27,7 @@ pub use expr_grammar::{
 pub use lexical_grammar::{
     LexFault, Token, TokenKind, lexes_once, tokens_are_spaced, tokens_in_place,
 };
-pub use parse::{fault_at, parse_cond, parse_expr, tail};
+pub use parse::{fault_at, limit_of, parse_cond, parse_expr, tail};
 pub use parser_combinators::{Cursor, ParseFault, Stop};
 pub use reader::{fresh_cond, fresh_expr, outer_cond, outer_expr};
 pub use token_readers::{

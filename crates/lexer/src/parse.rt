@@ -18,16 +18,25 @@ use cond_expr::{Cond, Expr};
 use lexical_grammar::Token;
 use parser_combinators::{Cursor, ParseFault, Stop};
 use prima_base::What;
+use prima_base::limits::{
+    MAX_BRANCH_TABLES, MAX_BRANCHES, MAX_DEPTH, MAX_INVERSE, MAX_KEEPS, MAX_NODES, MAX_OUTPUTS,
+    MAX_PARTS,
+};
 use std::alloc::Global;
 
-fn limit_of(what: What) -> u64
+/// The most of each kind that the tokens of one statement may count; 0 of what they do not count.
+pub fn limit_of(what: What) -> u64
     ensures { result ≡ limit what }
 {
     match what {
-        What::Nodes => 256,
-        What::Depth | What::Outputs => 32,
-        What::Parts | What::Tables | What::Keeps | What::Inverse => 8,
-        What::Branches => 16,
+        What::Nodes => MAX_NODES,
+        What::Depth => MAX_DEPTH,
+        What::Parts => MAX_PARTS,
+        What::Tables => MAX_BRANCH_TABLES as u64,
+        What::Branches => MAX_BRANCHES as u64,
+        What::Outputs => MAX_OUTPUTS as u64,
+        What::Keeps => MAX_KEEPS as u64,
+        What::Inverse => MAX_INVERSE as u64,
         What::Changes | What::Columns | What::Versions => 0,
     }
 }

@@ -5,7 +5,7 @@ ghost use Rattle.prima_base.specs.declared.refusals.What.TheVariants as what;
 ghost use Rattle.parser_combinators.specs.declared.reading.Stop.TheVariants as stop;
 
 use lexical_grammar::{Token, TokenKind};
-use prima_base::{NoMemory, What};
+use prima_base::{NoMemory, What, limits};
 use std::alloc::AllocError;
 
 /// Why nothing was read.
@@ -52,7 +52,7 @@ impl From<NoMemory> for Stop {
     }
 }
 
-const MAX_NODES: u32 = 256;
+const MAX_NODES: u32 = limits::MAX_NODES as u32;
 
 /// The tokens not yet read, and how many nodes were counted.
 #[derive(Drop)]

@@ -1,5 +1,5 @@
 -- The names of an atom's columns are those of the references to it.
-use Rattle.std.proofs.Common.{◌≡◌, ℕ, Bool, true, false, List, refl, sym, ap, subst, ◌∙◌, arith}
+use Rattle.std.proofs.Common.{◌≡◌, ℕ, true, List, ap, subst, ◌∙◌, arith}
 use Rattle.std.specs.Prelude.{◌==◌, ◌↔◌}
 use Rattle.std.specs.List.{filter}
 use Rattle.std.proofs.lemmas.Bool.Decides.{nat_tests}
@@ -10,7 +10,7 @@ use Rattle.prima_base.specs.OrderLaws.{bytes_exact}
 use Rattle.cond_expr.specs.declared.exprs.ColRef.{ColRef}
 use Rattle.cond_expr.specs.declared.exprs.Whose.{Whose}
 use Rattle.cond_expr.specs.declared.exprs.Whose.TheVariants.{Free, Alias, Atom}
-use Rattle.plain_answers.specs.Naming.{is_atom, is_to, IsNamed, written_names, names_in, names_at}
+use Rattle.plain_answers.specs.Naming.{is_atom, is_to, IsNamed, written_names, names_at}
 
 itself : (i : ℕ) → (i == i) ≡ true
 itself i = grind (arith)

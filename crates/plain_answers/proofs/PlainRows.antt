@@ -1,8 +1,8 @@
 -- A row is in the plain answer just where a branch and a choice give it.
-use Rattle.std.proofs.Common.{◌≡◌, Bool, true, List, map, subst}
+use Rattle.std.proofs.Common.{List, subst}
 use Rattle.std.specs.Prelude.{◌↔◌}
 use Rattle.std.specs.List.{filter, flat_map}
-use Rattle.relations.specs.Sets.{In, set_of}
+use Rattle.relations.specs.Sets.{In}
 use Rattle.relations.specs.Choices.{choices}
 use Rattle.relations.proofs.SetLaws.{in_map, from_map, in_filter, from_filter, in_flat_map, from_flat_map, in_set, from_set}
 use Rattle.relations.proofs.ChoiceLaws.{in_choices, from_choices}

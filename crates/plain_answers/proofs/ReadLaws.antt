@@ -1,13 +1,12 @@
 -- There are the same answers over what is read as over the whole relations.
-use Rattle.std.proofs.Common.{◌≡◌, ◌+◌, ◌++◌, ℕ, zero, suc, Bool, true, false, List, [], ◌∷◌, map, refl, sym, ap, subst, ◌∙◌, inl, inr, arith}
-use Rattle.std.specs.Prelude.{◌==◌}
+use Rattle.std.proofs.Common.{◌≡◌, ◌+◌, ℕ, zero, suc, true, List, [], ◌∷◌, map, refl, sym, ap, subst, ◌∙◌, arith}
 use Rattle.std.specs.List.{filter, flat_map}
-use Rattle.relations.specs.Sets.{In, Same, set_of}
+use Rattle.relations.specs.Sets.{In, Same}
 use Rattle.relations.specs.Choices.{Chosen}
 use Rattle.relations.proofs.SetLaws.{in_map, from_map, in_filter, from_filter, in_flat_map, from_flat_map, in_set, from_set, set_same}
 use Rattle.prima_base.specs.declared.values.Value.{Value}
-use Rattle.prima_base.specs.Order.{bytes_cmp, row_cmp}
-use Rattle.prima_base.specs.OrderLaws.{bytes_exact, row_exact}
+use Rattle.prima_base.specs.Order.{row_cmp}
+use Rattle.prima_base.specs.OrderLaws.{row_exact}
 use Rattle.prima_base.specs.Columns.{Column, names_of}
 use Rattle.schema_catalog.specs.Tables.{Tables}
 use Rattle.schema_catalog.specs.Databases.{cell, Database}
@@ -15,7 +14,7 @@ use Rattle.cond_expr.specs.declared.exprs.ColRef.{ColRef}
 use Rattle.cond_expr.specs.declared.exprs.Whose.{Whose}
 use Rattle.cond_expr.specs.declared.exprs.Whose.TheVariants.{Free, Alias, Atom}
 use Rattle.cond_expr.specs.Trees.{Tree, Test}
-use Rattle.cond_expr.specs.Values.{Cells, value, truth}
+use Rattle.cond_expr.specs.Values.{Cells, value}
 use Rattle.cond_expr.specs.Faults.{references, test_references}
 use Rattle.cond_expr.proofs.TreeLaws.{value_like, truth_like}
 use Rattle.smo_meaning.specs.OneRow.{Row, Relation, meets}
@@ -24,10 +23,10 @@ use Rattle.smo_meaning.specs.Making.{named}
 use Rattle.smo_meaning.proofs.NameLaws.{among_in, in_among, in_names}
 use Rattle.smo_meaning.proofs.MadeRows.{column_named}
 use Rattle.smo_meaning.proofs.MadeCells.{same_cell}
-use Rattle.plain_answers.specs.Choosing.{chosen_cell, chosen_cells, is_met, answered, answers_over, Gives}
+use Rattle.plain_answers.specs.Choosing.{chosen_cell, chosen_cells, is_met, answered, answers_over}
 use Rattle.plain_answers.specs.Branches.{Item, PlainBranch, item_columns, item_rows, branch_answers, plain}
 use Rattle.plain_answers.specs.Naming.{all_references, IsNamed, names_from}
-use Rattle.plain_answers.specs.Reading.{Read, read_columns, read_rows, AsMany, IsEnough, AreEnough, whole_rows, needed, answers_read, plain_read}
+use Rattle.plain_answers.specs.Reading.{Read, read_columns, read_rows, AsMany, AreEnough, whole_rows, needed, answers_read, plain_read}
 use Rattle.plain_answers.proofs.PlainRows.{in_answers, from_answers}
 use Rattle.plain_answers.proofs.PartLaws.{part_met}
 use Rattle.plain_answers.proofs.NameLaws.{in_names_at}

@@ -1,18 +1,21 @@
 -- Worked rows: what a branch names of each item, and what it answers over what is read.
 use Rattle.std.specs.Prelude.{◌≡◌, ℕ, List, [], ◌∷◌, pos, refl}
-use Rattle.relations.specs.Sets.{set_of}
+use Rattle.std.proofs.Common.{ap, inl, inr}
+use Rattle.relations.specs.Sets.{In, set_of}
 use Rattle.prima_base.specs.declared.values.Value.{Value}
 use Rattle.prima_base.specs.declared.values.Value.TheVariants.{Int}
 use Rattle.prima_base.specs.declared.values.ColType.TheVariants.{Int as INT}
+use Rattle.prima_base.specs.Order.{row_cmp}
 use Rattle.prima_base.specs.Columns.{Column}
 use Rattle.cond_expr.specs.declared.exprs.Whose.TheVariants.{Atom}
 use Rattle.cond_expr.specs.declared.exprs.CmpOp.TheVariants.{Eq, Lt}
-use Rattle.cond_expr.specs.Trees.{Tree, column, constant, Test, always, compared, all_of, no_tests, a_test, fill_test}
+use Rattle.cond_expr.specs.Trees.{Tree, column, constant, always, compared, all_of, no_tests, a_test, fill_test}
 use Rattle.smo_meaning.specs.OneRow.{Relation}
 use Rattle.plain_answers.specs.Choosing.{answers_over}
 use Rattle.plain_answers.specs.Branches.{PlainBranch}
-use Rattle.plain_answers.specs.Naming.{all_references, names_from}
-use Rattle.plain_answers.specs.Reading.{Read, read_columns, read_rows, parts, said_of}
+use Rattle.plain_answers.specs.Naming.{all_references, IsNamed, names_from}
+use Rattle.plain_answers.specs.Reading.{Read, read_columns, read_rows, parts, said_of, IsPartOf, AreEnough}
+use Rattle.plain_answers.proofs.NameLaws.{in_names_at}
 
 abbrev k : List ℕ
 k = 107 ∷ []
@@ -63,3 +66,32 @@ read_here : read_rows reads (columns ∷ columns ∷ []) (r_rows ∷ s_rows ∷ 
     ≡ ((int 1 ∷ int 5 ∷ []) ∷ []) ∷ ((int 1 ∷ int 7 ∷ []) ∷ (int 2 ∷ int 8 ∷ []) ∷ []) ∷ []
 unfolding set_of
 read_here = refl
+
+-- that is enough: the selection is a part of the condition, and each column that is named is kept
+first_is_a_part : IsPartOf 0 (compared Lt (at 0 x) (constant (int 6))) joining.cond
+first_is_a_part t (inl e) = inr (inl (ap (fill_test (said_of 0)) e))
+first_is_a_part t (inr m) = absurd m
+
+nothing_is_a_part : IsPartOf 1 always joining.cond
+nothing_is_a_part t m = absurd m
+
+kept_of_first : (name : List ℕ) → IsNamed 0 (all_references joining.outs joining.cond) name → In name (k ∷ x ∷ [])
+unfolding set_of
+kept_of_first name h = in_names_at 0 (all_references joining.outs joining.cond) name h
+
+kept_of_second : (name : List ℕ) → IsNamed 1 (all_references joining.outs joining.cond) name → In name (k ∷ y ∷ [])
+unfolding set_of
+kept_of_second name h = in_names_at 1 (all_references joining.outs joining.cond) name h
+
+are_enough : AreEnough 0 reads joining.outs joining.cond
+are_enough = (record { part = first_is_a_part; keeps = kept_of_first }, (record { part = nothing_is_a_part; keeps = kept_of_second }, tt))
+
+-- and so there are the same answers over what is read and over the whole rows
+answers_of_read : set_of row_cmp (answers_over (read_columns reads (columns ∷ columns ∷ [])) (read_rows reads (columns ∷ columns ∷ []) (r_rows ∷ s_rows ∷ [])) joining.outs joining.cond)
+    ≡ (int 5 ∷ int 7 ∷ []) ∷ []
+unfolding set_of
+answers_of_read = refl
+
+answers_of_whole : set_of row_cmp (answers_over (columns ∷ columns ∷ []) (r_rows ∷ s_rows ∷ []) joining.outs joining.cond) ≡ (int 5 ∷ int 7 ∷ []) ∷ []
+unfolding set_of
+answers_of_whole = refl

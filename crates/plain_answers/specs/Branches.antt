@@ -1,6 +1,6 @@
 -- Branches of queries as plain data, and the plain answer over one database. Each reference is to an atom: the place of an
 -- item in its branch.
-use Rattle.std.specs.Prelude.{ℕ, List, [], ◌∷◌, map}
+use Rattle.std.specs.Prelude.{ℕ, List, map}
 use Rattle.std.specs.List.{flat_map}
 use Rattle.std.specs.FinMap.{get}
 use Rattle.relations.specs.Sets.{set_of}

@@ -7,7 +7,6 @@ use Rattle.prima_base.specs.Order.{row_cmp}
 use Rattle.prima_base.specs.Columns.{Column}
 use Rattle.schema_catalog.specs.Tables.{Tables}
 use Rattle.schema_catalog.specs.Databases.{cell, Database}
-use Rattle.cond_expr.specs.declared.exprs.CmpOp.{CmpOp}
 use Rattle.cond_expr.specs.declared.exprs.Whose.TheVariants.{Atom}
 use Rattle.cond_expr.specs.Trees.{Tree, column, constant, Test, never, always, compared, all_of, some_of, fails, Tests, no_tests, a_test, Filling, for_atoms, fill_test}
 use Rattle.smo_meaning.specs.OneRow.{Row, Relation, meets}

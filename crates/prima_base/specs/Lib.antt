@@ -1,5 +1,6 @@
 pub mod Bytes
 pub mod Columns
+pub mod Faults
 pub mod Keeping
 pub mod Order
 pub mod OrderLaws

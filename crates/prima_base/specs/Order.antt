@@ -1,8 +1,8 @@
 -- The order of values, names and rows, and the value that a `Val` shows.
-use Rattle.std.specs.Prelude.{ℕ, Bool, List, ⊤}
+use Rattle.std.specs.Prelude.{ℕ, Bool, true, false, List, ⊤}
 use Rattle.std.specs.declared.cmp.Ordering.{Ordering}
 use Rattle.std.specs.declared.cmp.Ordering.TheVariants.{Less, Greater}
-use Rattle.std.specs.Ordering.{nat_cmp, int_cmp, eq_by_cmp}
+use Rattle.std.specs.Ordering.{nat_cmp, int_cmp, eq_by_cmp, is_eq}
 use Rattle.std.specs.Cmp.Lexicographic.{slice_cmp}
 use Rattle.prima_base.specs.declared.values.Value.{Value}
 use Rattle.prima_base.specs.declared.values.Value.TheVariants.{Int, Text}
@@ -12,6 +12,10 @@ use Rattle.prima_base.specs.declared.values.Val.TheVariants.{Int as ValInt, Slic
 -- texts and names, by their bytes
 abbrev pub bytes_cmp : List ℕ → List ℕ → Ordering
 bytes_cmp = slice_cmp nat_cmp
+
+-- two names are one
+abbrev pub same : List ℕ → List ℕ → Bool
+same a b = is_eq (bytes_cmp a b)
 
 -- every INT before every TEXT, INTs by number, TEXTs by their bytes
 abbrev pub value_cmp : Value → Value → Ordering
@@ -35,6 +39,12 @@ abbrev pub IsLent : Val → Type 0
 IsLent (ValInt n) = ⊤
 IsLent (Slice s) = ⊤
 IsLent (Own t) = ⊥
+
+-- a text that lies elsewhere
+abbrev pub is_borrowed : Val → Bool
+is_borrowed (ValInt n) = false
+is_borrowed (Slice s) = true
+is_borrowed (Own t) = false
 
 -- two values are equal where neither is before the other
 abbrev pub value_eq : Value → Value → Bool

@@ -6,7 +6,9 @@
 
 mod counters;
 mod failures;
+mod faults;
 mod keeps;
+pub mod limits;
 mod names;
 mod periods;
 mod refusals;
@@ -17,8 +19,9 @@ mod values;
 
 pub use counters::Steps;
 pub use failures::{Failed, NoMemory};
+pub use faults::CallFault;
 pub use keeps::Keep;
-pub use names::{Name, NameFault};
+pub use names::{Name, NameFault, same_name};
 pub use periods::{FOREVER, Period, meet};
 pub use refusals::{OpKind, OpRefusal, Refusal, What};
 pub use rows::{Row, rows_are_told_apart};

@@ -2,9 +2,11 @@ ghost use Rattle.std.specs.Prelude.{◌≡◌, ◌≤◌, ◌<◌, ◌↔◌, So
 ghost use Rattle.std.specs.Ordering.{nat_cmp};
 ghost use Rattle.std.specs.Cmp.Lexicographic.{pointwise, slice_cmp, nat_list_eq_equiv, nat_list_cmp_total, texts_ties, texts_po};
 ghost use Rattle.std.specs.Cmp.{partial_equiv_from_equiv};
+ghost use Rattle.prima_base.specs.Order.{same};
 ghost use Rattle.prima_base.specs.Bytes.{first_bad, is_name_byte, IsName};
 
 use crate::NoMemory;
+use crate::limits::MAX_NAME;
 use std::alloc::{AllocError, Global};
 use std::cmp::Ordering;
 use std::marker::Model;
@@ -54,8 +56,6 @@ impl From<AllocError> for NameFault {
         NameFault::NoMemory
     }
 }
-
-const MAX_NAME: usize = 63;
 
 fn is_name_byte(b: u8) -> bool
     ensures { result ≡ is_name_byte b }
@@ -108,6 +108,17 @@ impl Name {
         })
     }
 
+    /// The name of bytes that are a name's. The one error is `NoMemory`, where memory runs out.
+    pub fn of(alloc: Global, bytes: &[u8]) -> Result<Name, NoMemory>
+        requires { IsName bytes.now }
+        ensures { IfOk result (λ t. t ≡ bytes.now) }
+    {
+        Ok(Name {
+            alloc,
+            bytes: bytes.to_vec(alloc)?,
+        })
+    }
+
     /// The bytes. It takes no memory.
     pub fn bytes(&self) -> &[u8]
         ensures value { result.now ≡ self.now }
@@ -125,6 +136,13 @@ impl Name {
             bytes: self.bytes.to_vec(self.alloc)?,
         })
     }
+}
+
+/// Whether two names are one. It takes no memory.
+pub fn same_name(a: &Name, b: &Name) -> bool
+    ensures { result ≡ same a.now b.now }
+{
+    a == b
 }
 
 impl PartialEq for Name {

@@ -39,6 +39,15 @@ impl Period {
         }
     }
 
+    /// The moments from the start up to, and not at, the end, of which there is one at least. It takes no memory.
+    pub fn between(start: u64, end: u64) -> Period
+        requires { start < end }
+        ensures start { result.start ≡ start }
+        ensures end { result.end ≡ end }
+    {
+        Period { start, end }
+    }
+
     /// The moments from the start on.
     pub fn from(start: u64) -> Period
         requires { start < FOREVER }

@@ -5,6 +5,7 @@ ghost use Rattle.std.specs.Cmp.{partial_equiv_from_equiv};
 ghost use Rattle.prima_base.specs.Bytes.{first_control, IsTxt};
 
 use crate::NoMemory;
+use crate::limits::MAX_TEXT;
 use std::alloc::{AllocError, Global};
 use std::cmp::Ordering;
 use std::marker::Model;
@@ -53,8 +54,6 @@ impl From<AllocError> for TxtFault {
     }
 }
 
-const MAX_TEXT: usize = 4096;
-
 fn first_control(bytes: &[u8]) -> Option<usize>
     ensures place { result ≡ first_control bytes.now }
     ensures within { IfSome result (λ i. i < length bytes.now) }
@@ -86,6 +85,17 @@ impl Txt {
         if let Some(at) = first_control(bytes) {
             return Err(TxtFault::Control(at as u32));
         }
+        Ok(Txt {
+            alloc,
+            bytes: bytes.to_vec(alloc)?,
+        })
+    }
+
+    /// The text of bytes that are a text's. The one error is `NoMemory`, where memory runs out.
+    pub fn of(alloc: Global, bytes: &[u8]) -> Result<Txt, NoMemory>
+        requires { IsTxt bytes.now }
+        ensures { IfOk result (λ t. t ≡ bytes.now) }
+    {
         Ok(Txt {
             alloc,
             bytes: bytes.to_vec(alloc)?,

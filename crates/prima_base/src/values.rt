@@ -1,4 +1,5 @@
 use crate::{NoMemory, Txt};
+use std::alloc::Global;
 use std::cmp::Ordering;
 
 /// The type of a column.
@@ -58,11 +59,12 @@ pub enum Val<'a> {
 
 impl<'a> Val<'a> {
     ghost use Rattle.std.specs.Prelude.{◌≡◌, IfOk};
-    ghost use Rattle.prima_base.specs.Order.{shown};
+    ghost use Rattle.prima_base.specs.Order.{shown, is_borrowed};
 
-    /// One that shows the same value. A borrowed text stays borrowed.
+    /// One that shows the same value. A borrowed text stays borrowed, where it was.
     pub fn copy(&self) -> Result<Val<'a>, NoMemory>
-        ensures { IfOk result (λ v. shown v ≡ shown self.now) }
+        ensures value { IfOk result (λ v. shown v ≡ shown self.now) }
+        ensures borrowed { IfOk result (λ v. is_borrowed v ≡ is_borrowed self.now) }
     {
         match self {
             Val::Int(n) => Ok(Val::Int(*n)),
@@ -73,8 +75,22 @@ impl<'a> Val<'a> {
 }
 
 impl Val<'_> {
-    ghost use Rattle.std.specs.Prelude.{◌≡◌};
+    ghost use Rattle.std.specs.Prelude.{◌≡◌, IfOk};
     ghost use Rattle.prima_base.specs.Order.{shown, value_cmp};
+    ghost use Rattle.prima_base.specs.Columns.{IsLawful};
+
+    /// The value that is shown, to keep. A borrowed text is copied, an owned one is moved. The one error is
+    /// `NoMemory`, where memory runs out.
+    pub fn into_value(self, alloc: Global) -> Result<Value, NoMemory>
+        requires { IsLawful (shown self) }
+        ensures { IfOk result (λ v. v ≡ shown self.entry) }
+    {
+        match self {
+            Val::Int(n) => Ok(Value::Int(n)),
+            Val::Own(text) => Ok(Value::Text(text)),
+            Val::Slice(bytes) => Ok(Value::Text(Txt::of(alloc, bytes)?)),
+        }
+    }
 
     /// Compares the values that are shown.
     pub fn compare(&self, other: &Val<'_>) -> Ordering

@@ -1,5 +1,5 @@
 -- The choices of one member of each list.
-use Rattle.std.proofs.Common.{◌≡◌, List, [], ◌∷◌, map, refl, subst, inl, inr}
+use Rattle.std.proofs.Common.{List, [], ◌∷◌, map, refl, subst, inl, inr}
 use Rattle.relations.specs.Sets.{In}
 use Rattle.relations.specs.Choices.{Chosen, choices}
 use Rattle.relations.proofs.SetLaws.{in_map, from_map, in_flat_map, from_flat_map}

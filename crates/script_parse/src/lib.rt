@@ -29,6 +29,3 @@ pub use statement_laws::{
 };
 pub use statement_reader::next_statement;
 pub use statements::{ReadFault, Statement};
-
-/// The bytes of the longest statement, without its `;`.
-pub const MAX_STATEMENT: usize = 1_048_576;

@@ -1,8 +1,8 @@
 //! The splitter: from pieces of a script to its statements.
 
-use crate::MAX_STATEMENT;
 use crate::modes::Mode;
 use prima_base::NoMemory;
+use prima_base::limits::MAX_STATEMENT;
 use std::alloc::Global;
 use std::marker::Model;
 use std::mem;

@@ -4,7 +4,7 @@ ghost use Rattle.std.specs.Prelude.{◌≡◌, ◌≤◌, ◌<◌, ◌++◌, ◌
 ghost use Rattle.smo_types.specs.Commands.{body_of};
 ghost use Rattle.prima_base.specs.declared.refusals.What.{What as Counted};
 ghost use Rattle.lexical_grammar.specs.Lexemes.{Lexeme};
-ghost use Rattle.parser_combinators.specs.Parsing.{Size, limit};
+ghost use Rattle.parser_combinators.specs.Parsing.{Size};
 ghost use Rattle.parser_combinators.specs.Passes.{IsFirstPass};
 ghost use Rattle.parser_combinators.specs.Reads.{Reads, ahead};
 ghost use Rattle.script_parse.specs.declared.statements.ReadFault.TheVariants as fault;
@@ -18,8 +18,7 @@ ghost use Rattle.script_parse.specs.StatementReader as spec;
 use crate::change_reader::changes;
 use crate::inverse_reader::evolve_rest;
 use crate::{ReadFault, Statement};
-use lexer::{Cursor, LexFault, Stop, Token, moment, small, tokens};
-use prima_base::What;
+use lexer::{Cursor, LexFault, Stop, Token, limit_of, moment, small, tokens};
 use smo_ops::{Body, Command};
 use std::alloc::Global;
 use temporal_lang::ask;
@@ -103,19 +102,6 @@ fn statement(alloc: Global, c: &mut Cursor<'_, '_>) -> Result<Statement, Stop>
         return show_rest(c);
     }
     Err(Stop::Stuck)
-}
-
-// The most of each kind that may be counted.
-fn limit_of(what: What) -> u64
-    ensures { result ≡ limit what }
-{
-    match what {
-        What::Nodes => 256,
-        What::Depth | What::Outputs => 32,
-        What::Parts | What::Tables | What::Keeps | What::Inverse => 8,
-        What::Branches => 16,
-        What::Changes | What::Columns | What::Versions => 0,
-    }
 }
 
 // The place of the token before which so many are left, or the text's end where none is.

@@ -16,9 +16,9 @@ ghost use Rattle.smo_maps.specs.Picking.{picked_row, source_of};
 
 use crate::names::{names_among, names_renamed, names_with, names_without};
 use crate::one_row::{atoms_of, row_value};
-use crate::sources::{Source, picked_row, same_name, source_of, sources_of};
+use crate::sources::{Source, picked_row, source_of, sources_of};
 use cond_expr::{Column, Expr};
-use prima_base::{ColType, Name, NoMemory, Row};
+use prima_base::{ColType, Name, NoMemory, Row, same_name};
 use smo_ops::make_set;
 use std::alloc::Global;
 

@@ -10,8 +10,7 @@ ghost use Rattle.smo_meaning.specs.OneRow.{same};
 ghost use Rattle.smo_meaning.specs.Preconditions.{among};
 ghost use Rattle.smo_meaning.specs.Making.{named, without, renamed, with_column, joined_columns};
 
-use crate::sources::same_name;
-use prima_base::{ColType, Name, NoMemory};
+use prima_base::{ColType, Name, NoMemory, same_name};
 use std::alloc::Global;
 
 // Puts names in their order, each once.

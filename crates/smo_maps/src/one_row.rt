@@ -1,9 +1,7 @@
 //! What a condition and an expression have over one row of a table.
 
 ghost use Rattle.std.specs.Prelude.{◌≡◌, IfOk, List};
-ghost use Rattle.prima_base.specs.Bytes.{IsTxt};
-ghost use Rattle.prima_base.specs.Order.{shown};
-ghost use Rattle.prima_base.specs.Columns.{Column as TableColumn, names_of, IsLawful};
+ghost use Rattle.prima_base.specs.Columns.{Column as TableColumn, names_of};
 ghost use Rattle.cond_expr.specs.Seen.{tree, test};
 ghost use Rattle.cond_expr.specs.Values.{value};
 ghost use Rattle.smo_meaning.specs.OneRow.{own_cells, meets};
@@ -11,7 +9,7 @@ ghost use Rattle.smo_maps.specs.Atoms.{atoms_named};
 
 use crate::names::names_of;
 use cond_expr::{Column, Cond, Expr, eval, holds, lend_row};
-use prima_base::{ColType, Name, NoMemory, Row, Txt, TxtFault, Val, Value};
+use prima_base::{ColType, Name, NoMemory, Row, Value};
 use std::alloc::Global;
 
 /// Columns of atom 0 with these names, for `row_meets` and `row_value`. There no type is looked at, so each has the
@@ -53,30 +51,6 @@ pub(crate) fn row_meets(
     holds(alloc, cond, atoms, &values)
 }
 
-// The text of lawful bytes.
-fn text_of(alloc: Global, bytes: &[u8]) -> Result<Txt, NoMemory>
-    requires { IsTxt bytes.now }
-    ensures { IfOk result (λ t. t ≡ bytes.now) }
-{
-    match Txt::new(alloc, bytes) {
-        Ok(text) => Ok(text),
-        Err(TxtFault::NoMemory) => Err(NoMemory),
-        Err(TxtFault::Long(_) | TxtFault::Control(_)) => unreachable!(),
-    }
-}
-
-// The value that is shown, to keep.
-fn kept_value(alloc: Global, val: Val<'_>) -> Result<Value, NoMemory>
-    requires { IsLawful (shown val) }
-    ensures { IfOk result (λ v. v ≡ shown val.entry) }
-{
-    match val {
-        Val::Int(n) => Ok(Value::Int(n)),
-        Val::Own(text) => Ok(Value::Text(text)),
-        Val::Slice(bytes) => Ok(Value::Text(text_of(alloc, bytes)?)),
-    }
-}
-
 /// What the expression has over the row.
 pub(crate) fn row_value(
     alloc: Global,
@@ -89,5 +63,5 @@ pub(crate) fn row_value(
 {
     let values = lend_row(alloc, row.values())?;
     let val = eval(alloc, expr, atoms, &values)?;
-    kept_value(alloc, val)
+    val.into_value(alloc)
 }

@@ -1,10 +1,9 @@
 //! Where the values of a made row come from: found once for an operator, and then used for each row.
 
 ghost use Rattle.std.specs.Prelude.{◌≡◌, IfOk, map};
-ghost use Rattle.smo_meaning.specs.OneRow.{same};
 ghost use Rattle.smo_maps.specs.Picking.{place_of, source_of, value_at, picked, picked_row};
 
-use prima_base::{ColType, Name, NoMemory, Row, Value};
+use prima_base::{ColType, Name, NoMemory, Row, Value, same_name};
 use std::alloc::Global;
 
 /// The places of one name in the columns of two rows. The first row's is taken where there is one.
@@ -12,12 +11,6 @@ use std::alloc::Global;
 pub(crate) struct Source {
     pub(crate) first: Option<usize>,
     pub(crate) second: Option<usize>,
-}
-
-pub(crate) fn same_name(a: &Name, b: &Name) -> bool
-    ensures { result ≡ same a.now b.now }
-{
-    a.cmp(b).is_eq()
 }
 
 // The place of the column with the name. A table has few columns, so they are looked through.

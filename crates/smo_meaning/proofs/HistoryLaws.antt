@@ -2,7 +2,6 @@
 use Rattle.std.proofs.Common.{◌≡◌, ◌≤◌, ◌<◌, ◌+◌, ℕ, Bool, true, false, List, [], ◌∷◌, ◌++◌, length, refl, sym, ap, subst, ◌∙◌, arith, append_assoc, length-append}
 use Rattle.std.proofs.lemmas.List.{append-nil}
 use Rattle.std.specs.Prelude.{◌==◌, nat_le, cond, None, if◌then◌else◌}
-use Rattle.std.specs.List.{filter}
 use Rattle.schema_catalog.specs.Tables.{Tables}
 use Rattle.schema_catalog.specs.Databases.{Database}
 use Rattle.smo_types.specs.Commands.{PlainBody, changing, evolving, PlainCommand, PlainVersion}
@@ -10,12 +9,12 @@ use Rattle.smo_meaning.specs.First.{first_refusal}
 use Rattle.smo_meaning.specs.Effects.{after_each, gained, lost}
 use Rattle.smo_meaning.specs.After.{behind, carried}
 use Rattle.smo_meaning.specs.Past.{Past, no_tables, no_database, tables_from, tables_of, newest_from, newest_tables, version_at, database_at, latest_from, newest_database, from_stamp, next_version, past_with}
-use Rattle.smo_meaning.specs.LawfulPast.{AllInForce, last_or_nought, IsPast}
+use Rattle.smo_meaning.specs.LawfulPast.{last_or_nought, IsPast}
 use Rattle.smo_meaning.specs.Accepts.{body_tests}
 use Rattle.smo_meaning.specs.History.{past_after, AllAccepted, Standing, a_standing, stands_after, stands_after_all, up_to, HasState}
 use Rattle.smo_meaning.proofs.DatabaseLaws.{changes_keep}
 use Rattle.smo_meaning.proofs.SameDatabases.{same_database}
-use Rattle.smo_meaning.proofs.PastLaws.{not_at, at_least, up_to_later, newest_holds, latest_is, newest_added}
+use Rattle.smo_meaning.proofs.PastLaws.{not_at, up_to_later, newest_holds, latest_is, newest_added}
 use Rattle.smo_meaning.proofs.PastMoments.{not_begun, all_begun}
 use Rattle.smo_meaning.proofs.PastSteps.{counts_accepted, stamp_accepted, later_stamp, body_accepted, no_sum, stays_lawful, before_command}
 

@@ -1,5 +1,5 @@
 -- An inverse that is not refused: each of its operators is accepted on the schema that stands then, and the last schema is the one before.
-use Rattle.std.proofs.Common.{◌≡◌, ◌+◌, ℕ, List, [], ◌∷◌, refl, sym}
+use Rattle.std.proofs.Common.{◌≡◌, ◌+◌, ℕ, List, [], ◌∷◌, sym}
 use Rattle.std.specs.Prelude.{None}
 use Rattle.std.specs.Option.{option_map}
 use Rattle.prima_base.specs.declared.refusals.Refusal.TheVariants.{InverseMisses, InverseOp}

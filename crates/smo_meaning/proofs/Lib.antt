@@ -41,3 +41,5 @@ pub mod ValueLaws
 pub mod CountLaws
 pub mod Places
 pub mod SortLaws
+pub mod EvolvedVersions
+pub mod HeldValues

@@ -1,7 +1,8 @@
 -- Pasts that accepted commands make, and what one command more does.
-use Rattle.std.proofs.Common.{◌≡◌, ◌≤◌, ◌<◌, ◌+◌, ℕ, suc, Bool, true, false, List, [], ◌∷◌, ◌++◌, length, refl, sym, ap, subst, ◌∙◌, inl, inr, arith}
+use Rattle.std.proofs.Common.{◌≡◌, ◌≤◌, ◌<◌, ◌+◌, ℕ, suc, Bool, true, false, List, [], ◌∷◌, ◌++◌, length, refl, sym, ap, subst, ◌∙◌, inl, inr, arith, length-append}
 use Rattle.std.specs.Prelude.{◌==◌, nat_lt, nat_le, Option, Some, None, if◌then◌else◌}
 use Rattle.std.specs.Option.{option_map}
+use Rattle.std.proofs.lemmas.Bool.Decides.{nat_tests}
 use Rattle.std.specs.FinMap.{get, empty, get-empty, len-empty}
 use Rattle.prima_base.specs.declared.refusals.What.TheVariants.{Versions}
 use Rattle.prima_base.specs.declared.refusals.Refusal.TheVariants.{StampNotLater, TooMany}
@@ -50,6 +51,7 @@ beginning_is_past = record {
   evolved = tt;
   without = λ e. refl;
   distinct = tt;
+  few = omega arith;
   begun = tt;
   states = (refl, tt);
   ended = (omega arith, tt);
@@ -90,6 +92,16 @@ operator_accepted past op inverse e =
     (option_map refusal_of (op_fault (newest_tables past) op) ∷ inverse_tests (newest_tables past) op inverse) e in
     none_mapped refusal_of (op_fault (newest_tables past) op)
     (none_of_first (option_map refusal_of (op_fault (newest_tables past) op)) (inverse_tests (newest_tables past) op inverse) rest.1).0
+
+-- where a version is accepted there is room for it
+one_more_version : (past : Past) (op : Operator) (inverse : List Operator) (version : PlainVersion) → first_refusal (body_tests past (evolving op inverse)) ≡ None
+    → length (past.versions ++ version ∷ []) ≤ most_versions
+one_more_version past op inverse version e =
+    let h = met (nat_lt (length past.versions) most_versions) (TooMany Versions most_versions)
+    (none_of_first (unless (nat_lt (length past.versions) most_versions) (TooMany Versions most_versions)) (option_map refusal_of (op_fault (newest_tables past) op) ∷ inverse_tests (newest_tables past) op inverse) e).0 in
+    let more = length-append past.versions (version ∷ []) in
+    let few : length past.versions < most_versions = grind (arith, nat_tests, h) in
+    omega (arith, few, more)
 
 -- the states stay, or the new database holds from the stamp on
 if_states : (b : Bool) (stamp : ℕ) (new : Database) (states : List State) → AreStates states → AreStates (if b then states else from_stamp stamp new states)
@@ -207,6 +219,7 @@ stays_lawful past stamp (changing changes) h f c e =
       each = still_each past stamp changes h l e;
       versions = in_force_later (last_or_nought past.last) stamp past.versions l h.versions;
       evolved = h.evolved;
+      few = h.few;
       without = λ q. absurd (cc);
       states = if_states same stamp new past.states h.states;
       distinct = if_distinct past.versions same stamp new past.states h.distinct
@@ -227,6 +240,7 @@ stays_lawful past stamp (evolving op inverse) h f c e =
       each = each_evolved past stamp op inverse h l e;
       versions = in_force_added stamp past.versions (next_version stamp op inverse past) (in_force_later (last_or_nought past.last) stamp past.versions l h.versions) (omega arith);
       evolved = versions_with no_tables past.versions past.last version h.without h.versions h.evolved f c accepted (inverse_accepted past op inverse e) refl;
+      few = one_more_version past op inverse version e;
       without = λ q. absurd (cc);
       states = still_states stamp new past.states h.states;
       distinct = still_distinct past.last stamp new past.states h.states h.ended f (past.versions ++ version ∷ []) (distinct_still past.versions version past.states h.distinct)

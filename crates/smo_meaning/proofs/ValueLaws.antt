@@ -1,11 +1,10 @@
 -- Lawful values stay lawful: over operators, changes and commands.
-use Rattle.std.proofs.Common.{◌≡◌, ◌≤◌, ℕ, Bool, true, false, List, [], ◌∷◌, ◌++◌, map, refl, sym, ap, subst, ◌∙◌, inl, inr, arith, pos}
+use Rattle.std.proofs.Common.{◌≡◌, ◌≤◌, ℕ, Bool, true, false, List, [], ◌∷◌, ◌++◌, map, refl, sym, subst, inl, inr, arith, pos}
 use Rattle.std.specs.Prelude.{◌==◌, nat_le, cond, not, Option, Some, None, if◌then◌else◌}
-use Rattle.std.specs.List.{filter, flat_map}
+use Rattle.std.specs.List.{filter}
 use Rattle.std.specs.Ordering.{eq_by_cmp}
 use Rattle.std.specs.FinMap.{get, insert, remove, get-empty, get-insert, get-remove}
 use Rattle.std.specs.Cmp.Lexicographic.{nat_list_cmp_total}
-use Rattle.relations.specs.Sets.{In, set_of, put_in}
 use Rattle.relations.proofs.SetLaws.{from_filter, from_map, from_flat_map, in_append, from_set, put_back}
 use Rattle.prima_base.specs.declared.values.Value.{Value}
 use Rattle.prima_base.specs.declared.values.Value.TheVariants.{Int}
@@ -23,20 +22,20 @@ use Rattle.cond_expr.proofs.ConstantLaws.{small_number, value_lawful}
 use Rattle.smo_types.specs.Operators.{Operator, nop, create_table, drop_table, rename_table, copy_table, merge_table, partition_table, decompose_table, join_table, add_column, drop_column, rename_column}
 use Rattle.smo_types.specs.Changes.{PlainChange, insertion, deletion, update, table_of}
 use Rattle.smo_meaning.specs.OneRow.{Row, Relation, same, own_cells, meets, given, row_of, set_value, with_sets, updated}
-use Rattle.smo_meaning.specs.Effects.{columns_of, relation_after, entry_after, with_changed, database_after, after_each}
+use Rattle.smo_meaning.specs.Effects.{columns_of, relation_after, with_changed, database_after, after_each}
 use Rattle.smo_meaning.specs.Preconditions.{among}
 use Rattle.smo_meaning.specs.Making.{image, union, added, moved, joined_columns, joined_value, joined_row, agree, join_rows, from_one, from_two}
 use Rattle.smo_meaning.specs.OperatorTable.{Made, line}
 use Rattle.smo_meaning.specs.After.{lose_all, make_all, carried}
-use Rattle.smo_types.specs.Commands.{PlainBody, changing, evolving, PlainCommand}
-use Rattle.smo_meaning.specs.Past.{Past, no_database, newest_tables, newest_database, database_at, database_behind, past_with, beginning}
+use Rattle.smo_types.specs.Commands.{PlainBody, changing, evolving, PlainCommand, PlainVersion}
+use Rattle.smo_meaning.specs.Past.{Past, no_database, newest_tables, newest_database, next_version, database_at, database_behind, past_behind, past_with, beginning}
 use Rattle.smo_meaning.specs.History.{past_after, AllAccepted}
 use Rattle.smo_meaning.specs.LawfulPast.{last_or_nought, IsPast}
 use Rattle.smo_meaning.specs.Accepts.{command_fault}
 use Rattle.smo_meaning.proofs.PastLaws.{newest_holds, up_to_later}
 use Rattle.smo_meaning.proofs.PastMoments.{before_or_not}
-use Rattle.smo_meaning.proofs.PastSteps.{beginning_is_past, stamp_accepted, counts_accepted, stays_lawful, later_stamp, body_accepted, before_command, from_command}
-use Rattle.smo_meaning.specs.LawfulValues.{BodyHolds, CommandsHold, EachHolds, AreValues, HoldValues, EntryHolds, HoldsValues, OperatorHolds, CellsHold, SetsHold, ChangeHolds, ChangesHold}
+use Rattle.smo_meaning.proofs.PastSteps.{stamp_accepted, counts_accepted, stays_lawful, later_stamp, body_accepted, before_command, from_command}
+use Rattle.smo_meaning.specs.LawfulValues.{BodyHolds, CommandsHold, EachHolds, VersionsHold, PastHolds, AreValues, HoldValues, EntryHolds, HoldsValues, OperatorHolds, OperatorsHold, CellsHold, SetsHold, ChangeHolds, ChangesHold}
 
 -- ---- rows
 
@@ -133,7 +132,7 @@ put_lawful db r x h k n =
     subst EntryHolds (sym (get-insert nat_list_cmp_total db r x n))
     (elim (eq_by_cmp bytes_cmp n r) as (λ b. EntryHolds (cond b (Some x) (get db n))) [ true ↦ k | false ↦ h n ])
 
-less_lawful : (names : List (List ℕ)) (db : Database) → HoldsValues db → HoldsValues (lose_all names db)
+pub less_lawful : (names : List (List ℕ)) (db : Database) → HoldsValues db → HoldsValues (lose_all names db)
 less_lawful [] db h = h
 less_lawful (r ∷ names) db h = less_lawful names (remove db r) (λ n.
     subst EntryHolds (sym (get-remove nat_list_cmp_total db r n)) (elim (eq_by_cmp bytes_cmp n r) as (λ b. EntryHolds (cond b None (get db n))) [ true ↦ tt | false ↦ h n ]))
@@ -202,11 +201,27 @@ module _ (past : Past) (command : PlainCommand) (is : IsPast past) (accepted : c
   behind_values (changing changes) g = changes_values (newest_tables past) changes (newest_database past) g newest_values
   behind_values (evolving op inverse) g = carried_values (newest_tables past) op (newest_database past) g.0 newest_values
 
-  pub values_stay : BodyHolds command.body → EachHolds (past_with past command)
+  values_stay : BodyHolds command.body → EachHolds (past_with past command)
   values_stay g m = elim (before_or_not m command.stamp) [
     | inl b ↦ subst HoldsValues (sym (before_command past command.stamp command.body m b)) (each m)
     | inr b ↦ subst HoldsValues (sym (from_command past command.stamp command.body is (later_stamp past command accepted) (body_accepted past command accepted) m b)) (behind_values command.body g)
   ]
+
+-- ---- versions
+
+one_version_more : (versions : List PlainVersion) (v : PlainVersion) → VersionsHold versions → OperatorHolds v.op × OperatorsHold v.inverse → VersionsHold (versions ++ v ∷ [])
+one_version_more [] v h g = (g, tt)
+one_version_more (w ∷ versions) v h g = (h.0, one_version_more versions v h.1 g)
+
+versions_stay : (past : Past) (stamp : ℕ) (body : PlainBody) → BodyHolds body → VersionsHold past.versions → VersionsHold (past_behind stamp body past).versions
+versions_stay past stamp (changing changes) g h = h
+versions_stay past stamp (evolving op inverse) g h = one_version_more past.versions (next_version stamp op inverse past) h g
+
+pub past_stays : (past : Past) (command : PlainCommand) → IsPast past → command_fault past command ≡ None → BodyHolds command.body → PastHolds past → PastHolds (past_with past command)
+past_stays past command is accepted g h = record {
+  databases = values_stay past command is accepted h.databases g;
+  versions = versions_stay past command.stamp command.body g h.versions;
+}
 
 -- ---- histories
 
@@ -216,11 +231,11 @@ no_values m n = elim (nat_le 0 m) as (λ b. EntryHolds (get (if b then no_databa
     nothing : (q : List ℕ) → EntryHolds (get no_database q)
     nothing q = subst EntryHolds (sym (get-empty bytes_cmp q)) tt
 
-pub beginning_holds : EachHolds beginning
-beginning_holds = no_values
+pub beginning_holds : PastHolds beginning
+beginning_holds = record { databases = no_values; versions = tt }
 
-pub history_holds : (past : Past) (commands : List PlainCommand) → IsPast past → AllAccepted past commands → CommandsHold commands → EachHolds past → EachHolds (past_after past commands)
-history_holds past [] is a h each = each
-history_holds past (c ∷ commands) is a h each =
+pub history_holds : (past : Past) (commands : List PlainCommand) → IsPast past → AllAccepted past commands → CommandsHold commands → PastHolds past → PastHolds (past_after past commands)
+history_holds past [] is a h holds = holds
+history_holds past (c ∷ commands) is a h holds =
     history_holds (past_with past c) commands
-    (stays_lawful past c.stamp c.body is (stamp_accepted past c a.0) (counts_accepted past c a.0) (body_accepted past c a.0)) a.1 h.1 (values_stay past c is a.0 each h.0)
+    (stays_lawful past c.stamp c.body is (stamp_accepted past c a.0) (counts_accepted past c a.0) (body_accepted past c a.0)) a.1 h.1 (past_stays past c is a.0 h.0 holds)

@@ -1,5 +1,9 @@
 -- Worked rows: what the definitions give for tables, rows and commands by hand.
-use Rattle.std.specs.Prelude.{◌≡◌, ℕ, ◌∷◌, [], List, pos, Some, None, codes, length, refl, if◌then◌else◌}
+use Rattle.std.specs.Prelude.{◌≡◌, ◌^◌, ◌<◌, ℕ, zero, suc, ◌∷◌, [], List, pos, Some, None, ⊤, codes, length, refl, if◌then◌else◌}
+use Rattle.std.proofs.Common.{ap, inl, inr, arith}
+use Rattle.std.specs.FinMap.{insert, get-insert}
+use Rattle.std.specs.Cmp.Lexicographic.{nat_list_cmp_total}
+use Rattle.std.proofs.lemmas.Int.{ints}
 use Rattle.relations.specs.Sets.{set_of}
 use Rattle.relations.specs.Spans.{span, forever}
 use Rattle.prima_base.specs.declared.values.Value.{Value}
@@ -8,12 +12,12 @@ use Rattle.prima_base.specs.declared.values.ColType.TheVariants.{Int as INT, Tex
 use Rattle.prima_base.specs.declared.refusals.What.TheVariants.{Parts, Inverse}
 use Rattle.prima_base.specs.declared.refusals.Refusal.TheVariants.{NoColumn, WrongType, ColumnExists, ColumnMissing}
 use Rattle.prima_base.specs.declared.refusals.OpRefusal.TheVariants.{LastColumn, ColumnExists as Twice}
-use Rattle.prima_base.specs.Columns.{Column}
+use Rattle.prima_base.specs.Columns.{Column, IsLawful}
 use Rattle.schema_catalog.specs.Databases.{Rows, Lost}
 use Rattle.cond_expr.specs.declared.exprs.Whose.TheVariants.{Free, Atom}
 use Rattle.cond_expr.specs.declared.exprs.CmpOp.TheVariants.{Eq, Gt}
 use Rattle.cond_expr.specs.Trees.{Tree, column, constant, length_of, joined, no_trees, a_tree, always, compared}
-use Rattle.smo_types.specs.Operators.{nop, create_table, drop_table, merge_table, add_column}
+use Rattle.smo_types.specs.Operators.{nop, create_table, drop_table, rename_table, merge_table, add_column}
 use Rattle.smo_types.specs.Changes.{insertion, deletion, update}
 use Rattle.smo_types.specs.Commands.{evolving, PlainVersion}
 use Rattle.smo_meaning.specs.First.{first_refusal}
@@ -23,10 +27,12 @@ use Rattle.smo_meaning.specs.Preconditions.{is_some_column, each_once, few_colum
 use Rattle.smo_meaning.specs.Making.{in_order, union, from_two}
 use Rattle.smo_meaning.specs.Touching.{made_of}
 use Rattle.smo_meaning.specs.Losses.{first_loss}
-use Rattle.smo_meaning.specs.Past.{no_tables, begun_at}
+use Rattle.smo_meaning.specs.Past.{no_tables, no_database, begun_at}
 use Rattle.smo_meaning.specs.InForce.{in_force}
+use Rattle.smo_meaning.specs.LawfulValues.{HoldsValues, OperatorHolds, ChangeHolds, VersionsHold}
 use Rattle.smo_meaning.specs.Checks.{tests_behind}
 use Rattle.smo_meaning.specs.Counts.{first_excess}
+use Rattle.smo_meaning.proofs.HeldValues.{value_lawful_in}
 
 -- the table t (a INT, b TEXT), and the table u (a INT, b INT)
 abbrev a : List ℕ
@@ -183,3 +189,60 @@ begun_before_9 = refl
 
 begun_at_9 : length (begun_at 9 two_versions) ≡ 2
 begun_at_9 = refl
+
+-- ---- lawful values
+
+-- an INT of 2^63 is in no row of a database that holds lawful values
+past_the_range : IsLawful (Int (pos (2 ^ 63))) → ⊥
+past_the_range h = (let upper = h.1 in omega (arith, ints, upper))
+
+-- so a database that has it in a row holds no lawful values alone
+abbrev too_large : Relation
+too_large = (Int (pos (2 ^ 63)) ∷ text (codes "x") ∷ []) ∷ []
+
+too_large_is_refused : HoldsValues (insert no_database t (Rows too_large)) → ⊥
+too_large_is_refused h =
+    past_the_range (value_lawful_in (insert no_database t (Rows too_large)) t too_large (Int (pos (2 ^ 63)) ∷ text (codes "x") ∷ []) (Int (pos (2 ^ 63))) h
+    (get-insert nat_list_cmp_total no_database t (Rows too_large) t) (inl refl) (inl refl))
+
+-- and a TEXT of 4,097 bytes is in none
+abbrev xs : ℕ → List ℕ
+xs zero = []
+xs (suc n) = 120 ∷ xs n
+
+so_many : (n : ℕ) → length (xs n) ≡ n
+so_many zero = refl
+so_many (suc n) = ap suc (so_many n)
+
+too_long : (n : ℕ) → 4096 < n → IsLawful (text (xs n)) → ⊥
+too_long n l h = (let many = so_many n in let short = h.0 in omega (arith, many, short, l))
+
+abbrev with_text : ℕ → Relation
+with_text n = (int 1 ∷ text (xs n) ∷ []) ∷ []
+
+too_long_is_refused : (n : ℕ) → 4096 < n → HoldsValues (insert no_database t (Rows (with_text n))) → ⊥
+too_long_is_refused n l h =
+    too_long n l (value_lawful_in (insert no_database t (Rows (with_text n))) t (with_text n) (int 1 ∷ text (xs n) ∷ []) (text (xs n)) h
+    (get-insert nat_list_cmp_total no_database t (Rows (with_text n)) t) (inl refl) (inr (inl refl)))
+
+one_byte_too_long : HoldsValues (insert no_database t (Rows (with_text 4097))) → ⊥
+one_byte_too_long = too_long_is_refused 4097 (omega arith)
+
+-- t renamed to z, with the inverse: no constant of these is kept
+abbrev renamed : List PlainVersion
+renamed = record { stamp = 1; op = create_table t t_columns; inverse = []; tables = no_tables }
+    ∷ record { stamp = 9; op = rename_table t z; inverse = rename_table z t ∷ []; tables = no_tables } ∷ []
+
+renamed_hold : VersionsHold renamed
+renamed_hold = ((tt, tt), ((tt, (tt, tt)), tt))
+
+-- ADD COLUMN b AS 1 INTO t keeps its constant
+column_added : OperatorHolds (add_column b (constant (int 1)) t) ≡ IsLawful (int 1)
+column_added = refl
+
+-- and so does each value of an INSERT, and no condition: those of DELETE and WHERE come into no row
+inserted_holds : ChangeHolds (insertion t ((a, int 1) ∷ (b, text (codes "x")) ∷ [])) ≡ (IsLawful (int 1) × (IsLawful (text (codes "x")) × ⊤))
+inserted_holds = refl
+
+deleted_holds : ChangeHolds (deletion t (compared Eq (own a) (constant (Int (pos (2 ^ 63)))))) ≡ ⊤
+deleted_holds = refl

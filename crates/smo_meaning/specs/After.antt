@@ -5,8 +5,8 @@ use Rattle.prima_base.specs.declared.refusals.OpRefusal.{OpRefusal}
 use Rattle.schema_catalog.specs.Tables.{Tables, IsSchema}
 use Rattle.schema_catalog.specs.Databases.{Database}
 use Rattle.cond_expr.specs.Sizes.{nodes_of, test_nodes}
-use Rattle.smo_types.specs.declared.ops.OpFault.{OpFault}
-use Rattle.smo_types.specs.declared.ops.OpFault.TheVariants.{Refused, NoMemory}
+use Rattle.prima_base.specs.declared.faults.CallFault.{CallFault}
+use Rattle.prima_base.specs.declared.faults.CallFault.TheVariants.{Refused, NoMemory}
 use Rattle.smo_types.specs.Operators.{Operator, nop, create_table, drop_table, rename_table, copy_table, merge_table, partition_table, decompose_table, join_table, add_column, drop_column, rename_column}
 use Rattle.smo_meaning.specs.First.{first_refusal}
 use Rattle.smo_meaning.specs.Preconditions.{AreNarrow, most_tables}
@@ -34,7 +34,7 @@ abbrev pub carried : Tables → Operator → Database → Database
 carried tables op db = make_all (line tables op).made db (lose_all (line tables op).consumed db)
 
 -- what `after` answers
-abbrev pub IsAfter : Tables → Operator → Result Tables OpFault → Type 0
+abbrev pub IsAfter : Tables → Operator → Result Tables (CallFault OpRefusal) → Type 0
 IsAfter tables op (Ok next) = (op_fault tables op ≡ None) × (next ≡ behind tables op)
 IsAfter tables op (Err (Refused refusal)) = op_fault tables op ≡ Some refusal
 IsAfter tables op (Err NoMemory) = ⊤

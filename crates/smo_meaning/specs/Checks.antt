@@ -1,6 +1,6 @@
 -- What is wrong with a change: the first of its tests, in the one order, that is not met. A place counts nodes: of an
 -- INSERT each value is one, and a tree has its nodes in pre-order.
-use Rattle.std.specs.Prelude.{◌≡◌, ◌≤◌, ℕ, ◌+◌, List, [], ◌∷◌, ◌++◌, length, Option, Some, None, Result, Ok, Err, ⊤}
+use Rattle.std.specs.Prelude.{◌≡◌, ◌≤◌, ℕ, ◌+◌, List, [], ◌∷◌, ◌++◌, length, Option, Some, None, ⊤}
 use Rattle.std.specs.List.{flat_map}
 use Rattle.std.specs.Option.{option_map}
 use Rattle.std.specs.FinMap.{contains_key}
@@ -14,8 +14,6 @@ use Rattle.cond_expr.specs.Trees.{Tree, Test}
 use Rattle.cond_expr.specs.Sizes.{nodes_of, test_nodes}
 use Rattle.cond_expr.specs.Kinds.{kind_of, same_kind, value_kind}
 use Rattle.cond_expr.specs.Faults.{references, test_references, first_unknown, untyped, test_untyped, first_of}
-use Rattle.smo_types.specs.declared.changes.ChangeFault.{ChangeFault}
-use Rattle.smo_types.specs.declared.changes.ChangeFault.TheVariants.{Refused, NoMemory}
 use Rattle.smo_types.specs.Changes.{PlainChange, insertion, deletion, update, table_of}
 use Rattle.smo_meaning.specs.First.{unless, where_so, first_refusal}
 use Rattle.smo_meaning.specs.OneRow.{own_kinds}
@@ -123,9 +121,3 @@ changes_tests tables (c ∷ changes) at = change_tests tables c at ++ changes_te
 -- the refusal of the changes of a command
 abbrev pub changes_fault : Tables → List PlainChange → Fault
 changes_fault tables changes = first_refusal (changes_tests tables changes 0)
-
--- what the check of a change answers
-abbrev pub IsChecked : Fault → Result (Unit {0}) ChangeFault → Type 0
-IsChecked fault (Ok u) = fault ≡ None
-IsChecked fault (Err (Refused refusal)) = fault ≡ Some refusal
-IsChecked fault (Err NoMemory) = ⊤

@@ -1,8 +1,9 @@
 -- What holds of each past that accepted commands make.
-use Rattle.std.specs.Prelude.{◌≡◌, ◌≤◌, ◌<◌, ◌⊎◌, ℕ, List, [], ◌∷◌, Option, Some, None, ⊤}
+use Rattle.std.specs.Prelude.{◌≡◌, ◌≤◌, ◌<◌, ◌⊎◌, ℕ, List, [], ◌∷◌, length, Option, Some, None, ⊤}
 use Rattle.schema_catalog.specs.Databases.{Database, IsDatabase}
 use Rattle.smo_types.specs.Commands.{evolving, PlainVersion}
 use Rattle.schema_catalog.specs.Tables.{Tables}
+use Rattle.smo_meaning.specs.Accepts.{most_versions}
 use Rattle.smo_meaning.specs.After.{op_fault, behind, IsLawful}
 use Rattle.smo_meaning.specs.Counts.{first_excess}
 use Rattle.smo_meaning.specs.Inverses.{inverse_fault}
@@ -77,12 +78,16 @@ abbrev pub AreVersions : Option ℕ → Tables → List PlainVersion → Type 0
 AreVersions last before [] = ⊤
 AreVersions last before (v ∷ versions) = IsVersion last before v × AreVersions (Some v.stamp) v.tables versions
 
+-- a past that accepted commands can have made: its newest database is one of its newest tables, and at each moment its
+-- database is one of the version then in force; each version, of which there are not too many, is accepted behind the one
+-- before; and the states are as the versions and the changes made them
 pub record IsPast (past : Past) : Type 0 where
   pub tables : IsLawful (newest_tables past)
   pub database : IsDatabase (newest_tables past) (newest_database past)
   pub each : (moment : ℕ) → IsDatabase (tables_of past (version_at past moment)) (database_at past moment)
   pub versions : AllInForce (last_or_nought past.last) past.versions
   pub evolved : AreVersions None no_tables past.versions
+  pub few : length past.versions ≤ most_versions
   pub without : past.last ≡ None → past.versions ≡ []
   pub states : AreStates past.states
   pub distinct : AreDistinct past.versions past.states

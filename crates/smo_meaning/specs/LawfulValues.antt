@@ -1,4 +1,4 @@
--- Databases whose values are all lawful, and commands whose constants are.
+-- Databases and pasts whose values are all lawful, and commands whose constants are.
 use Rattle.std.specs.Prelude.{ℕ, List, [], ◌∷◌, Option, Some, None, ⊤}
 use Rattle.std.specs.FinMap.{get}
 use Rattle.relations.specs.Sets.{In}
@@ -9,7 +9,7 @@ use Rattle.cond_expr.specs.Trees.{Tree}
 use Rattle.cond_expr.specs.Constants.{HasLawful}
 use Rattle.smo_types.specs.Operators.{Operator, nop, create_table, drop_table, rename_table, copy_table, merge_table, partition_table, decompose_table, join_table, add_column, drop_column, rename_column}
 use Rattle.smo_types.specs.Changes.{PlainChange, insertion, deletion, update}
-use Rattle.smo_types.specs.Commands.{PlainBody, changing, evolving, PlainCommand}
+use Rattle.smo_types.specs.Commands.{PlainBody, changing, evolving, PlainCommand, PlainVersion}
 use Rattle.smo_meaning.specs.OneRow.{Row, Relation}
 use Rattle.smo_meaning.specs.Past.{Past, database_at}
 
@@ -77,3 +77,15 @@ BodyHolds (evolving op inverse) = OperatorHolds op × OperatorsHold inverse
 abbrev pub CommandsHold : List PlainCommand → Type 0
 CommandsHold [] = ⊤
 CommandsHold (c ∷ commands) = BodyHolds c.body × CommandsHold commands
+
+-- ---- pasts
+
+-- the constants of each version's operator, and of its inverse, are lawful
+abbrev pub VersionsHold : List PlainVersion → Type 0
+VersionsHold [] = ⊤
+VersionsHold (v ∷ versions) = (OperatorHolds v.op × OperatorsHold v.inverse) × VersionsHold versions
+
+-- a past that holds lawful values: in its database at each moment, and in what leads from version to version and back
+pub record PastHolds (past : Past) : Type 0 where
+  pub databases : EachHolds past
+  pub versions : VersionsHold past.versions

@@ -1,9 +1,8 @@
 -- What a condition and an expression have over one row of a table, and the rows that changes make.
 use Rattle.std.specs.Prelude.{ℕ, List, [], ◌∷◌, ◌==◌, Bool, pos, map, if◌then◌else◌}
-use Rattle.std.specs.Ordering.{is_eq}
 use Rattle.prima_base.specs.declared.values.Value.{Value}
 use Rattle.prima_base.specs.declared.values.Value.TheVariants.{Int}
-use Rattle.prima_base.specs.Order.{bytes_cmp}
+pub use Rattle.prima_base.specs.Order.{same}
 use Rattle.prima_base.specs.Columns.{Column}
 use Rattle.schema_catalog.specs.Databases.{cell}
 use Rattle.cond_expr.specs.declared.exprs.Column.{Column as AtomColumn}
@@ -16,10 +15,6 @@ Row = List Value
 
 abbrev pub Relation : Type 0
 Relation = List Row
-
--- two names are one
-abbrev pub same : List ℕ → List ℕ → Bool
-same a b = is_eq (bytes_cmp a b)
 
 -- the columns of a table, as those of atom 0
 abbrev pub as_atom : List Column → List AtomColumn

@@ -1,28 +1,29 @@
-ghost use Rattle.std.specs.Prelude.{◌≡◌, ◌↔◌, ◌+◌, ◌<◌, ◌≤◌, ℕ, List, [], ◌∷◌, ◌++◌, Some, None, length};
+ghost use Rattle.std.specs.Prelude.{◌≡◌, ◌↔◌, ◌+◌, ◌<◌, ◌≤◌, ℕ, List, [], ◌∷◌, ◌++◌, Some, None, length, slice_get};
 ghost use Rattle.std.specs.FinMap.{get, insert};
 ghost use Rattle.prima_base.specs.declared.refusals.OpRefusal.{OpRefusal};
 ghost use Rattle.prima_base.specs.declared.refusals.Refusal.TheVariants.{InverseMisses, InverseOp};
-ghost use Rattle.relations.specs.Sets.{Ascends, set_of};
+ghost use Rattle.relations.specs.Sets.{In, Ascends, set_of};
 ghost use Rattle.relations.specs.Spans.{forever};
 ghost use Rattle.prima_base.specs.Order.{row_cmp};
-ghost use Rattle.prima_base.specs.Columns.{Column, AreColumns, IsRelation};
+ghost use Rattle.prima_base.specs.declared.values.Value.{Value};
+ghost use Rattle.prima_base.specs.Columns.{Column, AreColumns, IsRelation, IsLawful as IsLawfulValue};
 ghost use Rattle.schema_catalog.specs.Tables.{Tables, IsSchema};
 ghost use Rattle.schema_catalog.specs.Databases.{Database, IsDatabase, Rows};
 ghost use Rattle.smo_types.specs.Operators.{Operator, create_table};
 ghost use Rattle.smo_types.specs.Changes.{PlainChange};
 ghost use Rattle.smo_meaning.specs.First.{first_refusal};
-ghost use Rattle.smo_meaning.specs.OneRow.{Relation};
+ghost use Rattle.smo_meaning.specs.OneRow.{Row, Relation};
 ghost use Rattle.smo_meaning.specs.Effects.{relation_after, after_each, gained_rows, gained, lost};
 ghost use Rattle.smo_meaning.specs.Inserting.{relation_after_each, insertions};
 ghost use Rattle.smo_meaning.specs.After.{op_fault, behind, carried, IsLawful, HasFewNodes, HaveFewNodes};
 ghost use Rattle.smo_meaning.specs.Inverses.{inverse_fault, behind_each, AllAccepted, IsFirstRefused, IsMissed};
 ghost use Rattle.smo_meaning.specs.Checks.{tests_behind, changes_fault};
-ghost use Rattle.smo_types.specs.Commands.{PlainCommand, evolving};
+ghost use Rattle.smo_types.specs.Commands.{PlainCommand, PlainVersion, evolving};
 ghost use Rattle.smo_meaning.specs.Counts.{first_excess};
-ghost use Rattle.smo_meaning.specs.Past.{Past, beginning, newest_tables, past_with, version_at, database_at, database_behind};
+ghost use Rattle.smo_meaning.specs.Past.{Past, beginning, newest_tables, tables_of, past_with, version_at, database_at, database_behind};
 ghost use Rattle.smo_meaning.specs.InForce.{in_force};
 ghost use Rattle.smo_meaning.specs.LawfulPast.{IsPast};
-ghost use Rattle.smo_meaning.specs.LawfulValues.{HoldsValues, EachHolds, OperatorHolds, ChangesHold, BodyHolds, CommandsHold};
+ghost use Rattle.smo_meaning.specs.LawfulValues.{HoldsValues, OperatorHolds, ChangesHold, BodyHolds, CommandsHold, PastHolds};
 ghost use Rattle.smo_meaning.specs.Accepts.{command_fault};
 ghost use Rattle.smo_meaning.specs.History.{past_of, state_at, IsHistory, HasState};
 
@@ -112,6 +113,14 @@ pub fn commands_make_lawful_pasts()
     ensures beginning { IsPast beginning }
     ensures step { (past : Past) → (command : PlainCommand) → IsPast past → command_fault past command ≡ None
         → IsPast (past_with past command) }
+    ensures counted { (past : Past) → (k : ℕ) → (v : PlainVersion) → IsPast past → slice_get past.versions k ≡ Some v
+        → first_excess (evolving v.op v.inverse) ≡ None }
+    ensures accepted { (past : Past) → (k : ℕ) → (v : PlainVersion) → IsPast past → slice_get past.versions k ≡ Some v
+        → op_fault (tables_of past k) v.op ≡ None }
+    ensures inverse { (past : Past) → (k : ℕ) → (v : PlainVersion) → IsPast past → slice_get past.versions k ≡ Some v
+        → inverse_fault (tables_of past k) v.op v.inverse ≡ None }
+    ensures evolved { (past : Past) → (k : ℕ) → (v : PlainVersion) → IsPast past → slice_get past.versions k ≡ Some v
+        → v.tables ≡ behind (tables_of past k) v.op }
 {}
 
 /// Whether a command is accepted depends on the newest schema, on how many versions there are, and on the last stamp alone.
@@ -151,14 +160,22 @@ pub fn pasts_that_agree_have_the_same_states()
         → p.states ≡ q.states }
 {}
 
-/// Lawful values stay lawful: over an operator and over changes whose constants are, and so at each moment of a past whose
-/// commands have lawful constants.
+/// A database holds lawful values just where each value of each row of each of its tables is lawful: an INT from -2^63 to
+/// 2^63 - 1, or a TEXT of at most 4,096 bytes and no control byte. Lawful values stay lawful: over an operator and over
+/// changes whose constants are; and so a past whose commands have lawful constants holds lawful values in its database at
+/// each moment, and in the operators and the inverses of its versions.
 pub fn lawful_values_stay()
     ensures carried { (tables : Tables) → (op : Operator) → (database : Database) → OperatorHolds op → HoldsValues database
         → HoldsValues (carried tables op database) }
     ensures changed { (tables : Tables) → (changes : List PlainChange) → (database : Database) → ChangesHold changes → HoldsValues database
         → HoldsValues (after_each tables changes database) }
-    ensures step { (past : Past) → (command : PlainCommand) → IsPast past → command_fault past command ≡ None → BodyHolds command.body → EachHolds past
-        → EachHolds (past_with past command) }
-    ensures history { (commands : List PlainCommand) → IsHistory commands → CommandsHold commands → EachHolds (past_of commands) }
+    ensures beginning { PastHolds beginning }
+    ensures step { (past : Past) → (command : PlainCommand) → IsPast past → command_fault past command ≡ None → BodyHolds command.body → PastHolds past
+        → PastHolds (past_with past command) }
+    ensures history { (commands : List PlainCommand) → IsHistory commands → CommandsHold commands → PastHolds (past_of commands) }
+    ensures each { (database : Database) → (n : List ℕ) → (rows : Relation) → (row : Row) → (v : Value) → HoldsValues database
+        → get database n ≡ Some (Rows rows) → In row rows → In v row → IsLawfulValue v }
+    ensures all { (database : Database)
+        → ((n : List ℕ) → (rows : Relation) → (row : Row) → (v : Value) → get database n ≡ Some (Rows rows) → In row rows → In v row → IsLawfulValue v)
+        → HoldsValues database }
 {}

@@ -11,7 +11,9 @@ ghost use Rattle.smo_types.specs.Commands.{changing};
 ghost use Rattle.smo_meaning.specs.Counts.{first_excess};
 ghost use Rattle.smo_types.specs.Changes.{insertion, update, change_of, changes_of, sets_of};
 ghost use Rattle.smo_meaning.specs.Preconditions.{AreNarrow};
-ghost use Rattle.smo_meaning.specs.Checks.{IsChecked, IsSmall, AreSmall, pair_names, name_faults, missing_fault, cell_faults, reference_fault, test_fault, tests_behind, change_fault, changes_fault};
+ghost use Rattle.prima_base.specs.Faults.{IsTested};
+ghost use Rattle.prima_base.specs.declared.faults.CallFault.TheVariants.{Refused, NoMemory as OutOfMemory};
+ghost use Rattle.smo_meaning.specs.Checks.{IsSmall, AreSmall, pair_names, name_faults, missing_fault, cell_faults, reference_fault, test_fault, tests_behind, change_fault, changes_fault};
 
 use crate::counts::change_nodes;
 use crate::typing::{check_all_references, check_sets, check_test_references, check_test_types};
@@ -29,7 +31,7 @@ fn check_names<T>(
     columns: &[(Name, ColType)],
     pairs: &[(Name, T)],
 ) -> Result<(), ChangeFault>
-    ensures { IsChecked (first_refusal (name_faults table.now columns.now (pair_names pairs.now))) result }
+    ensures { IsTested (first_refusal (name_faults table.now columns.now (pair_names pairs.now))) result }
 {
     for (i, (name, _)) in pairs.iter().enumerate() {
         if has_name(&pairs[..i], name) {
@@ -48,7 +50,7 @@ fn check_missing(
     columns: &[(Name, ColType)],
     cells: &[(Name, Value)],
 ) -> Result<(), ChangeFault>
-    ensures { IsChecked (missing_fault table.now columns.now (pair_names cells.now)) result }
+    ensures { IsTested (missing_fault table.now columns.now (pair_names cells.now)) result }
 {
     for (column, _) in columns {
         if !has_name(cells, column) {
@@ -65,7 +67,7 @@ fn check_cells(
     at: u32,
 ) -> Result<(), ChangeFault>
     requires { at + length cells.now < 2 ^ 32 }
-    ensures { IsChecked (first_refusal (cell_faults columns.now at cells.now)) result }
+    ensures { IsTested (first_refusal (cell_faults columns.now at cells.now)) result }
 {
     for (i, (name, value)) in cells.iter().enumerate() {
         if type_in(columns, name) != Some(kind_of(value)) {
@@ -93,7 +95,7 @@ fn check_insert(
     requires columns { AreColumns columns.now }
     requires narrow { length columns.now ≤ 32 }
     requires place { at < 2 ^ 31 }
-    ensures { IsChecked (first_refusal (tests_behind columns.now (insertion table.now cells.now) at)) result }
+    ensures { IsTested (first_refusal (tests_behind columns.now (insertion table.now cells.now) at)) result }
 {
     check_names(table, columns, cells)?;
     check_missing(table, columns, cells)?;
@@ -103,7 +105,7 @@ fn check_insert(
 fn check_delete(own: &OwnColumns<'_>, cond: &Cond, at: u32) -> Result<(), ChangeFault>
     requires small { test_nodes (test cond.now) ≤ 256 }
     requires place { at < 2 ^ 31 }
-    ensures { IsChecked (first_refusal (reference_fault own.now (test_references (test cond.now)) ∷ test_fault own.now at (test cond.now) ∷ [])) result }
+    ensures { IsTested (first_refusal (reference_fault own.now (test_references (test cond.now)) ∷ test_fault own.now at (test cond.now) ∷ [])) result }
 {
     check_test_references(own, cond)?;
     check_test_types(own, cond, at)
@@ -121,7 +123,7 @@ fn check_update(
     requires sets { AreSmall (sets_of sets.now) }
     requires test { test_nodes (test cond.now) ≤ 256 }
     requires place { at < 2 ^ 31 }
-    ensures { IsChecked (first_refusal (tests_behind own.now (update table.now (sets_of sets.now) (test cond.now)) at)) result }
+    ensures { IsTested (first_refusal (tests_behind own.now (update table.now (sets_of sets.now) (test cond.now)) at)) result }
 {
     check_names(table, own.columns(), sets)?;
     check_all_references(own, sets, cond)?;
@@ -140,7 +142,7 @@ fn check_in_table(
     requires narrow { length columns.now ≤ 32 }
     requires small { IsSmall (change_of change.now) }
     requires place { at < 2 ^ 31 }
-    ensures { IsChecked (first_refusal (tests_behind columns.now (change_of change.now) at)) result }
+    ensures { IsTested (first_refusal (tests_behind columns.now (change_of change.now) at)) result }
 {
     match change {
         Change::Insert { table, cells } => check_insert(table, columns, cells, at),
@@ -169,10 +171,10 @@ pub fn check_change(
     requires small { IsSmall (change_of change.now) }
     requires narrow { AreNarrow schema.now }
     requires place { first_node < 2 ^ 31 }
-    ensures checked { IsChecked (change_fault schema.now (change_of change.now) first_node) result }
-    ensures accepted { change_fault schema.now (change_of change.now) first_node ≡ None → IsOkUnless result ChangeFault.NoMemory }
+    ensures checked { IsTested (change_fault schema.now (change_of change.now) first_node) result }
+    ensures accepted { change_fault schema.now (change_of change.now) first_node ≡ None → IsOkUnless result OutOfMemory }
     ensures refused { (r : OneRefusal) → change_fault schema.now (change_of change.now) first_node ≡ Some r
-        → IsErrOf result (ChangeFault.Refused r) ⊎ IsErrOf result ChangeFault.NoMemory }
+        → IsErrOf result (Refused r) ⊎ IsErrOf result OutOfMemory }
     ensures lawful { IsSchema schema.now }
 {
     let name = change.table();
@@ -186,7 +188,7 @@ pub fn check_change(
 fn check_in_turn(alloc: Global, schema: &Schema, changes: &[Change]) -> Result<(), ChangeFault>
     requires counted { first_excess (changing (changes_of changes.now)) ≡ None }
     requires narrow { AreNarrow schema.now }
-    ensures { IsChecked (changes_fault schema.now (changes_of changes.now)) result }
+    ensures { IsTested (changes_fault schema.now (changes_of changes.now)) result }
 {
     let mut at = 0u32;
     for change in changes {
@@ -202,10 +204,10 @@ fn check_in_turn(alloc: Global, schema: &Schema, changes: &[Change]) -> Result<(
 pub fn check_changes(alloc: Global, schema: &Schema, changes: &[Change]) -> Result<(), ChangeFault>
     requires counted { first_excess (changing (changes_of changes.now)) ≡ None }
     requires narrow { AreNarrow schema.now }
-    ensures checked { IsChecked (changes_fault schema.now (changes_of changes.now)) result }
-    ensures accepted { changes_fault schema.now (changes_of changes.now) ≡ None → IsOkUnless result ChangeFault.NoMemory }
+    ensures checked { IsTested (changes_fault schema.now (changes_of changes.now)) result }
+    ensures accepted { changes_fault schema.now (changes_of changes.now) ≡ None → IsOkUnless result OutOfMemory }
     ensures refused { (r : OneRefusal) → changes_fault schema.now (changes_of changes.now) ≡ Some r
-        → IsErrOf result (ChangeFault.Refused r) ⊎ IsErrOf result ChangeFault.NoMemory }
+        → IsErrOf result (Refused r) ⊎ IsErrOf result OutOfMemory }
 {
     check_in_turn(alloc, schema, changes)
 }

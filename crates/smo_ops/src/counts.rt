@@ -13,18 +13,9 @@ ghost use Rattle.smo_meaning.specs.Checks.{sets_nodes, change_nodes};
 ghost use Rattle.smo_meaning.specs.Counts.{at_most, tree_counts, test_counts, set_counts, change_counts, operator_counts, first_excess};
 
 use cond_expr::{Cond, Expr, TreeSize, cond_size, expr_size};
+use prima_base::limits::{MAX_CHANGES, MAX_DEPTH, MAX_INVERSE, MAX_NODES, MAX_PARTS};
 use prima_base::{Name, Value, What};
 use smo_types::{Body, Change, Command, Op};
-
-const MAX_NODES: u64 = 256;
-
-const MAX_DEPTH: u64 = 32;
-
-const MAX_PARTS: u64 = 8;
-
-const MAX_CHANGES: usize = 65_536;
-
-const MAX_INVERSE: usize = 8;
 
 fn check_size(size: TreeSize) -> Result<(), (What, u64)>
     ensures { result_err result ≡ first_refusal (at_most Nodes 256 size.nodes ∷ at_most Depth 32 size.depth ∷ at_most Parts 8 size.parts ∷ []) }

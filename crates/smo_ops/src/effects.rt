@@ -8,11 +8,10 @@ ghost use Rattle.std.specs.Prelude.{◌≡◌, ◌++◌, ◌∷◌, [], List, If
 ghost use Rattle.std.specs.List.{AllZip, zip, filter};
 ghost use Rattle.std.specs.Option.{option_map, unwrap_or};
 ghost use Rattle.relations.specs.Sets.{set_of, In};
-ghost use Rattle.prima_base.specs.Bytes.{IsTxt};
 ghost use Rattle.prima_base.specs.declared.values.Value.{Value as OneValue};
 ghost use Rattle.prima_base.specs.Order.{row_cmp, shown};
 ghost use Rattle.prima_base.specs.Columns.{Column as TableColumn, AreColumns, IsRow, IsRelation};
-ghost use Rattle.cond_expr.specs.Rows.{IsLawful, AreLawful};
+ghost use Rattle.cond_expr.specs.Rows.{AreLawful};
 ghost use Rattle.cond_expr.specs.Seen.{test};
 ghost use Rattle.smo_meaning.specs.OneRow.{as_atom, meets, given, row_of, set_value, updated};
 ghost use Rattle.smo_types.specs.Changes.{sets_of, change_of, changes_of};
@@ -21,7 +20,7 @@ ghost use Rattle.smo_meaning.specs.Inserting.{insertions};
 ghost use Rattle.schema_catalog.specs.Databases.{cell};
 
 use cond_expr::{Column, Cond, Expr, eval, holds, lend_row};
-use prima_base::{ColType, Name, NoMemory, Row, Txt, TxtFault, Val, Value};
+use prima_base::{ColType, Name, NoMemory, Row, Val, Value};
 use smo_schemas::as_atoms;
 use smo_types::Change;
 use std::alloc::Global;
@@ -71,30 +70,6 @@ pub fn inserted_row(
     Ok(Row::new(alloc, values))
 }
 
-// The text of lawful bytes.
-fn text_of(alloc: Global, bytes: &[u8]) -> Result<Txt, NoMemory>
-    requires { IsTxt bytes.now }
-    ensures { IfOk result (λ t. t ≡ bytes.now) }
-{
-    match Txt::new(alloc, bytes) {
-        Ok(text) => Ok(text),
-        Err(TxtFault::NoMemory) => Err(NoMemory),
-        Err(TxtFault::Long(_) | TxtFault::Control(_)) => unreachable!(),
-    }
-}
-
-// The value that is shown, to keep.
-fn kept_value(alloc: Global, val: Val<'_>) -> Result<Value, NoMemory>
-    requires { IsLawful (shown val) }
-    ensures { IfOk result (λ v. v ≡ shown val.entry) }
-{
-    match val {
-        Val::Int(n) => Ok(Value::Int(n)),
-        Val::Own(text) => Ok(Value::Text(text)),
-        Val::Slice(bytes) => Ok(Value::Text(text_of(alloc, bytes)?)),
-    }
-}
-
 // What is set in the column with this name, computed from the row's values; none where nothing is.
 fn set_value(
     alloc: Global,
@@ -111,7 +86,7 @@ fn set_value(
     for (column, expr) in sets {
         if *column == *name {
             let val = eval(alloc, expr, atoms, values)?;
-            return Ok(Some(kept_value(alloc, val)?));
+            return Ok(Some(val.into_value(alloc)?));
         }
     }
     Ok(None)

@@ -34,5 +34,5 @@ pub use smo_types::{
 pub use version_ways::{
     a_lost_table_may_be_taken_for_an_empty_one, copied_and_dropped_is_as_before,
     names_tell_what_is_lost, partitioned_and_merged_is_as_before, renamed_back_is_as_before,
-    the_way_is_step_by_step, the_way_keeps_a_database,
+    the_way_is_step_by_step, the_way_keeps_a_database, the_way_keeps_lawful_values,
 };

@@ -4,10 +4,11 @@ ghost use Rattle.cond_expr.specs.Sizes.{nodes_of, test_nodes};
 ghost use Rattle.cond_expr.specs.Faults.{references, test_references, first_unknown};
 ghost use Rattle.smo_types.specs.Changes.{sets_of};
 ghost use Rattle.smo_meaning.specs.OneRow.{own_kinds};
-ghost use Rattle.smo_meaning.specs.Checks.{AreSmall, IsChecked, reference_fault, set_references, set_tests, set_faults, sets_nodes, test_fault};
+ghost use Rattle.prima_base.specs.Faults.{IsTested};
+ghost use Rattle.smo_meaning.specs.Checks.{AreSmall, reference_fault, set_references, set_tests, set_faults, sets_nodes, test_fault};
 ghost use Rattle.smo_ops.specs.Walks.{IsWalked};
 
-use cond_expr::{Cond, Expr, TypeFault, check_cond, expr_size, type_of};
+use cond_expr::{Cond, Expr, expr_size, typed_cond, typed_expr, unknown_of_cond, unknown_of_expr};
 use prima_base::{Name, Refusal};
 use smo_schemas::{OwnColumns, type_in};
 use smo_types::ChangeFault;
@@ -15,30 +16,22 @@ use smo_types::ChangeFault;
 // The first reference of an expression to no column of the table.
 fn check_references(own: &OwnColumns<'_>, expr: &Expr) -> Result<(), ChangeFault>
     requires { nodes_of (tree expr.now) ≤ 256 }
-    ensures { IsChecked (reference_fault own.now (references (tree expr.now))) result }
+    ensures { IsTested (reference_fault own.now (references (tree expr.now))) result }
 {
-    match type_of(expr, own.atoms()) {
-        Ok(_) => Ok(()),
-        Err(fault) => match fault {
-            TypeFault::NoColumn(name) => Err(ChangeFault::Refused(Refusal::NoColumn(name))),
-            TypeFault::WrongType(_) => Ok(()),
-            TypeFault::NoMemory => Err(ChangeFault::NoMemory),
-        },
+    match unknown_of_expr(expr, own.atoms()) {
+        Some(name) => Err(ChangeFault::Refused(Refusal::NoColumn(name.copy()?))),
+        None => Ok(()),
     }
 }
 
 // The first reference of a condition to no column of the table.
 pub(crate) fn check_test_references(own: &OwnColumns<'_>, cond: &Cond) -> Result<(), ChangeFault>
     requires { test_nodes (test cond.now) ≤ 256 }
-    ensures { IsChecked (reference_fault own.now (test_references (test cond.now))) result }
+    ensures { IsTested (reference_fault own.now (test_references (test cond.now))) result }
 {
-    match check_cond(cond, own.atoms()) {
-        Ok(()) => Ok(()),
-        Err(fault) => match fault {
-            TypeFault::NoColumn(name) => Err(ChangeFault::Refused(Refusal::NoColumn(name))),
-            TypeFault::WrongType(_) => Ok(()),
-            TypeFault::NoMemory => Err(ChangeFault::NoMemory),
-        },
+    match unknown_of_cond(cond, own.atoms()) {
+        Some(name) => Err(ChangeFault::Refused(Refusal::NoColumn(name.copy()?))),
+        None => Ok(()),
     }
 }
 
@@ -50,7 +43,7 @@ pub(crate) fn check_all_references(
 ) -> Result<(), ChangeFault>
     requires sets { AreSmall (sets_of sets.now) }
     requires test { test_nodes (test cond.now) ≤ 256 }
-    ensures { IsChecked (reference_fault own.now (set_references (sets_of sets.now) ++ test_references (test cond.now))) result }
+    ensures { IsTested (reference_fault own.now (set_references (sets_of sets.now) ++ test_references (test cond.now))) result }
 {
     for (_, expr) in sets {
         check_references(own, expr)?;
@@ -66,20 +59,14 @@ fn check_set(own: &OwnColumns<'_>, name: &Name, expr: &Expr, at: u32) -> Result<
     requires known { first_unknown (own_kinds own.now) (references (tree expr.now)) ≡ None }
     ensures { IsWalked (set_tests own.now at (name.now, tree expr.now)) (at + nodes_of (tree expr.now)) result }
 {
-    match type_of(expr, own.atoms()) {
+    match typed_expr(expr, own.atoms()) {
         Ok(kind) => {
             if type_in(own.columns(), name) == Some(kind) {
                 return Ok(at + expr_size(expr).nodes as u32);
             }
             Err(ChangeFault::Refused(Refusal::WrongType(at)))
         }
-        Err(fault) => match fault {
-            TypeFault::WrongType(place) => {
-                Err(ChangeFault::Refused(Refusal::WrongType(at + place)))
-            }
-            TypeFault::NoColumn(_) => unreachable!(),
-            TypeFault::NoMemory => unreachable!(),
-        },
+        Err(place) => Err(ChangeFault::Refused(Refusal::WrongType(at + place))),
     }
 }
 
@@ -110,16 +97,10 @@ pub(crate) fn check_test_types(
     requires small { test_nodes (test cond.now) ≤ 256 }
     requires room { at + test_nodes (test cond.now) < 2 ^ 32 }
     requires known { first_unknown (own_kinds own.now) (test_references (test cond.now)) ≡ None }
-    ensures { IsChecked (test_fault own.now at (test cond.now)) result }
+    ensures { IsTested (test_fault own.now at (test cond.now)) result }
 {
-    match check_cond(cond, own.atoms()) {
+    match typed_cond(cond, own.atoms()) {
         Ok(()) => Ok(()),
-        Err(fault) => match fault {
-            TypeFault::WrongType(place) => {
-                Err(ChangeFault::Refused(Refusal::WrongType(at + place)))
-            }
-            TypeFault::NoColumn(_) => unreachable!(),
-            TypeFault::NoMemory => unreachable!(),
-        },
+        Err(place) => Err(ChangeFault::Refused(Refusal::WrongType(at + place))),
     }
 }

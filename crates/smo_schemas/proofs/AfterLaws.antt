@@ -13,7 +13,8 @@ use Rattle.smo_meaning.specs.First.{unless}
 use Rattle.smo_meaning.specs.Preconditions.{is_free, is_some_column, each_once, few_columns, few_tables, most_columns, most_tables, first_again}
 use Rattle.smo_meaning.specs.Making.{in_order}
 use Rattle.smo_meaning.specs.After.{op_fault, IsLawful, IsAfter}
-use Rattle.smo_types.specs.declared.ops.OpFault.{OpFault}
+use Rattle.prima_base.specs.declared.refusals.OpRefusal.{OpRefusal}
+use Rattle.prima_base.specs.declared.faults.CallFault.{CallFault}
 use Rattle.smo_meaning.proofs.Firsts.{first_later, first_alone}
 use Rattle.smo_meaning.proofs.NextSchemas.{next_is_lawful}
 
@@ -53,6 +54,6 @@ pub not_there : {A : Type 0} (r : Option A) (g : Option (List Column)) (Q : A �
 not_there None g Q h e = h
 not_there (Some x) g Q h e = absurd (cc)
 
-pub still_lawful : (tables : Tables) (op : Operator) (answer : Result Tables OpFault) → IsAfter tables op answer → IsLawful tables → IfOk answer IsLawful
+pub still_lawful : (tables : Tables) (op : Operator) (answer : Result Tables (CallFault OpRefusal)) → IsAfter tables op answer → IsLawful tables → IfOk answer IsLawful
 still_lawful tables op (Ok next) a h = subst IsLawful (sym a.1) (next_is_lawful tables op h a.0)
 still_lawful tables op (Err e) a h = tt

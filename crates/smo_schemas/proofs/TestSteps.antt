@@ -6,20 +6,20 @@ use Rattle.prima_base.specs.declared.refusals.OpRefusal.{OpRefusal}
 use Rattle.prima_base.specs.declared.refusals.OpRefusal.TheVariants.{Exists}
 use Rattle.prima_base.specs.Columns.{Column}
 use Rattle.schema_catalog.specs.Tables.{Tables}
-use Rattle.smo_types.specs.declared.ops.OpFault.{OpFault}
-use Rattle.smo_types.specs.declared.ops.OpFault.TheVariants.{Refused, NoMemory}
+use Rattle.prima_base.specs.declared.faults.CallFault.{CallFault}
+use Rattle.prima_base.specs.declared.faults.CallFault.TheVariants.{Refused, NoMemory}
 use Rattle.smo_types.specs.Operators.{Operator}
 use Rattle.smo_meaning.specs.First.{unless, first_refusal}
 use Rattle.smo_meaning.specs.OneRow.{same}
 use Rattle.smo_meaning.specs.Preconditions.{is_free}
 use Rattle.smo_meaning.specs.OperatorTable.{line}
-use Rattle.smo_schemas.specs.Tested.{IsTested}
+use Rattle.prima_base.specs.Faults.{IsTested}
 use Rattle.smo_meaning.specs.After.{IsAfter, op_fault, behind}
 use Rattle.smo_meaning.proofs.Firsts.{first_at, first_later, first_before, first_behind}
 use Rattle.smo_meaning.proofs.StepLaws.{AllMet, all_met}
 
 -- the one of this number, from 0, answers a fault, and those before it are met
-abbrev pub Stops : List (Option OpRefusal) → ℕ → OpFault → Type 0
+abbrev pub Stops : List (Option OpRefusal) → ℕ → (CallFault OpRefusal) → Type 0
 Stops [] i e = ⊥
 Stops (p ∷ ps) zero e = IsTested {A = Unit {0}} p (Err e)
 Stops (p ∷ ps) (suc i) e = (p ≡ None) × Stops ps i e
@@ -29,7 +29,7 @@ stops_at [] i r h = absurd h
 stops_at (p ∷ ps) zero r h = first_at p ps r h
 stops_at (p ∷ ps) (suc i) r h = first_later p ps h.0 ∙ stops_at ps i r h.1
 
-pub stopped : (tables : Tables) (op : Operator) (i : ℕ) (e : OpFault) → Stops (line tables op).preconditions i e → IsAfter tables op (Err e)
+pub stopped : (tables : Tables) (op : Operator) (i : ℕ) (e : CallFault OpRefusal) → Stops (line tables op).preconditions i e → IsAfter tables op (Err e)
 stopped tables op i (Refused r) h = stops_at (line tables op).preconditions i r h
 stopped tables op i NoMemory h = tt
 
@@ -37,7 +37,7 @@ pub goes_on : (tables : Tables) (op : Operator) (next : Tables) → AllMet (line
 goes_on tables op next h e = (all_met (line tables op).preconditions h, e)
 
 -- tests in groups: one group answers a fault, and those before it are met
-pub group_stops : (before group behind : List (Option OpRefusal)) (e : OpFault) → first_refusal before ≡ None → IsTested {A = Unit {0}} (first_refusal group) (Err e)
+pub group_stops : (before group behind : List (Option OpRefusal)) (e : CallFault OpRefusal) → first_refusal before ≡ None → IsTested {A = Unit {0}} (first_refusal group) (Err e)
     → IsTested {A = Unit {0}} (first_refusal (before ++ (group ++ behind))) (Err e)
 group_stops before group behind (Refused r) h t = first_behind before (group ++ behind) h ∙ first_before group behind r t
 group_stops before group behind NoMemory h t = tt
@@ -46,7 +46,7 @@ pub groups_met : (a b : List (Option OpRefusal)) → first_refusal a ≡ None �
 groups_met a b f g = first_behind a b f ∙ g
 
 -- the operator's fault is that of its tests
-pub refused_so : (tables : Tables) (op : Operator) (e : OpFault) → IsTested {A = Unit {0}} (op_fault tables op) (Err e) → IsAfter tables op (Err e)
+pub refused_so : (tables : Tables) (op : Operator) (e : CallFault OpRefusal) → IsTested {A = Unit {0}} (op_fault tables op) (Err e) → IsAfter tables op (Err e)
 refused_so tables op (Refused r) t = t
 refused_so tables op NoMemory t = tt
 

@@ -2,7 +2,7 @@ ghost use Rattle.std.specs.Prelude.{◌≡◌, IfOk};
 ghost use Rattle.smo_types.specs.Operators.{create_table, operator_of};
 ghost use Rattle.smo_meaning.specs.Accepts.{refusal_of};
 ghost use Rattle.smo_meaning.specs.After.{op_fault, IsAfter, HasFewNodes, IsLawful};
-ghost use Rattle.smo_schemas.specs.Tested.{IsTested};
+ghost use Rattle.prima_base.specs.Faults.{IsTested};
 
 mod column_preconditions;
 mod decompose;
@@ -19,14 +19,11 @@ use crate::afters::partition::after_partition;
 use crate::afters::two_tables::{after_join, after_merge};
 use crate::afters::whole_tables::{after_copy, after_drop, after_nop, after_rename};
 use crate::making::{first_again, in_order};
+use prima_base::limits::{MAX_COLUMNS, MAX_TABLES};
 use prima_base::{ColType, Name, OpRefusal, Refusal, What};
 use schema_catalog::{Schema, Table};
 use smo_types::{Op, OpFault};
 use std::alloc::Global;
-
-pub(crate) const MAX_COLUMNS: usize = 32;
-
-pub(crate) const MAX_TABLES: usize = 64;
 
 // The preconditions of CREATE TABLE, in their order.
 fn check_new_table(

@@ -1,5 +1,5 @@
 use cond_expr::Column;
-use prima_base::{ColType, Name, NoMemory};
+use prima_base::{ColType, Name, NoMemory, same_name};
 use std::alloc::Global;
 use std::marker::Model;
 
@@ -24,7 +24,7 @@ impl<'a> Model for OwnColumns<'a> {
 }
 
 ghost use Rattle.std.specs.Prelude.{◌≡◌, IfOk};
-ghost use Rattle.smo_meaning.specs.OneRow.{as_atom, same};
+ghost use Rattle.smo_meaning.specs.OneRow.{as_atom};
 ghost use Rattle.smo_meaning.specs.Preconditions.{among, type_in};
 ghost use Rattle.smo_meaning.specs.Checks.{pair_names};
 
@@ -67,13 +67,6 @@ impl<'a> OwnColumns<'a> {
     {
         &self.atoms
     }
-}
-
-/// Whether two names are one.
-pub fn same_name(a: &Name, b: &Name) -> bool
-    ensures { result ≡ same a.now b.now }
-{
-    a.bytes() == b.bytes()
 }
 
 /// The type of the column with this name. A table has few columns, so they are looked through.

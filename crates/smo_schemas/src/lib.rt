@@ -13,7 +13,7 @@ mod splitting;
 mod touched;
 
 pub use afters::{after, refusal_of};
-pub use columns::{OwnColumns, as_atoms, has_name, same_name, type_in};
+pub use columns::{OwnColumns, as_atoms, has_name, type_in};
 pub use inverses::check_inverse;
 pub use names::Made;
 pub use touched::{consumed, made};

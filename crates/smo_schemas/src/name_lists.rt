@@ -4,8 +4,7 @@ ghost use Rattle.std.specs.List.{list_any};
 ghost use Rattle.std.specs.Option.{option_copied};
 ghost use Rattle.smo_meaning.specs.Preconditions.{among, first_again};
 
-use crate::columns::same_name;
-use prima_base::{Name, NoMemory};
+use prima_base::{Name, NoMemory, same_name};
 use std::alloc::Global;
 use std::collections::BTreeSet;
 

@@ -1,5 +1,5 @@
 use cond_expr::{Cond, Expr};
-use prima_base::{Name, NoMemory, Refusal, Value};
+use prima_base::{CallFault, Name, Refusal, Value};
 
 /// A change of one table's rows. Each reference in a condition or an expression is to atom 0, the table.
 #[derive(Drop)]
@@ -22,25 +22,9 @@ pub enum Change {
     },
 }
 
-/// Why a change is not accepted.
-#[derive(Drop)]
-pub enum ChangeFault {
-    /// The first of the refusals 22, 27, 23, 35 and 25 in the one order.
-    Refused(Refusal),
-    /// Memory ran out.
-    NoMemory,
-}
-
-impl From<NoMemory> for ChangeFault {
-    ghost use Rattle.std.specs.Prelude.{◌≡◌};
-    ghost use Rattle.smo_types.specs.declared.changes.ChangeFault.TheVariants.{NoMemory as OutOfMemory};
-
-    ghost from_gives = { λ _ e. e ≡ OutOfMemory };
-
-    fn from(_error: NoMemory) -> ChangeFault {
-        ChangeFault::NoMemory
-    }
-}
+/// Why a change is not accepted: the first of the refusals 22, 27, 23, 35 and 25 in the one order, or
+/// memory ran out.
+pub type ChangeFault = CallFault<Refusal>;
 
 impl Change {
     ghost use Rattle.std.specs.Prelude.{◌≡◌};

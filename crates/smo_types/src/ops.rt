@@ -1,5 +1,5 @@
 use cond_expr::{Cond, Expr};
-use prima_base::{ColType, Name, NoMemory, OpRefusal};
+use prima_base::{CallFault, ColType, Name, OpRefusal};
 
 /// A schema modification operator (PRISM 2008). Each reference in a condition or an expression is to atom 0,
 /// the one table that the condition or the expression is over.
@@ -73,25 +73,8 @@ pub enum Op {
     },
 }
 
-/// Why an operator gives no next schema.
-#[derive(Drop)]
-pub enum OpFault {
-    /// The first precondition that fails.
-    Refused(OpRefusal),
-    /// Memory ran out.
-    NoMemory,
-}
-
-impl From<NoMemory> for OpFault {
-    ghost use Rattle.std.specs.Prelude.{◌≡◌};
-    ghost use Rattle.smo_types.specs.declared.ops.OpFault.TheVariants.{NoMemory as OutOfMemory};
-
-    ghost from_gives = { λ _ e. e ≡ OutOfMemory };
-
-    fn from(_error: NoMemory) -> OpFault {
-        OpFault::NoMemory
-    }
-}
+/// Why an operator gives no next schema: the first precondition that fails, or memory ran out.
+pub type OpFault = CallFault<OpRefusal>;
 
 /// Why an inverse does not lead back.
 #[derive(Drop)]

@@ -8,12 +8,13 @@ use Rattle.cond_expr.specs.Faults.{first_unknown}
 use Rattle.smo_meaning.specs.First.{first_refusal}
 use Rattle.smo_meaning.proofs.Firsts.{first_behind, first_before, drop_at}
 use Rattle.temporal_lang.specs.declared.branches.Branch.{Branch}
-use Rattle.temporal_lang.specs.declared.faults.QueryFault.{QueryFault}
-use Rattle.temporal_lang.specs.declared.faults.QueryFault.TheVariants.{Refused, NoMemory}
+use Rattle.prima_base.specs.declared.faults.CallFault.{CallFault}
+use Rattle.prima_base.specs.declared.faults.CallFault.TheVariants.{Refused, NoMemory}
 use Rattle.plain_answers.specs.Branches.{PlainBranch}
 use Rattle.temporal_lang.specs.Branches.{branch_of, branches_of}
 use Rattle.temporal_lang.specs.Atoms.{atom_kinds}
-use Rattle.temporal_lang.specs.Checking.{IsPassed, branch_types, branch_nodes, branch_references, types_from, typing_tests, arities, output_kinds}
+use Rattle.prima_base.specs.Faults.{IsTested}
+use Rattle.temporal_lang.specs.Checking.{branch_types, branch_nodes, branch_references, types_from, typing_tests, arities, output_kinds}
 use Rattle.temporal_lang.specs.Resolved.{IsSmall, AllSmall, AllKnown, HaveFew}
 use Rattle.temporal_lang.specs.Typings.{BranchTyped, BranchesTyped}
 
@@ -43,14 +44,14 @@ module _ (tables : Tables) (xs : List Branch) (i : ℕ) (x : Branch) (below : i 
       ∙ ap (λ n. first_refusal (types_from tables n (branches_of (drop (i + 1) xs)))) (sym same)
 
 -- what one branch is refused for, all are
-pub branches_stop : (tables : Tables) (branches : List PlainBranch) (of : Kinds) (at : ℕ) (b : PlainBranch) (e : QueryFault)
+pub branches_stop : (tables : Tables) (branches : List PlainBranch) (of : Kinds) (at : ℕ) (b : PlainBranch) (e : CallFault Refusal)
     → ((r : Refusal) → first_refusal (branch_types of at b) ≡ Some r → first_refusal (types_from tables 0 branches) ≡ Some r)
     → BranchTyped of at b (Err e) → BranchesTyped tables branches (Err e)
 branches_stop tables branches of at b (Refused r) h k = h r k
 branches_stop tables branches of at b NoMemory h k = tt
 
 -- types before arities
-pub typing_stop : (tables : Tables) (branches : List PlainBranch) (e : QueryFault) → BranchesTyped tables branches (Err e)
-    → IsPassed {A = Unit {0}} (first_refusal (typing_tests tables branches)) (Err e)
+pub typing_stop : (tables : Tables) (branches : List PlainBranch) (e : CallFault Refusal) → BranchesTyped tables branches (Err e)
+    → IsTested {A = Unit {0}} (first_refusal (typing_tests tables branches)) (Err e)
 typing_stop tables branches (Refused r) h = first_before (types_from tables 0 branches) (arities (map (output_kinds tables) branches)) r h
 typing_stop tables branches NoMemory h = tt

@@ -11,13 +11,14 @@ use Rattle.smo_meaning.proofs.Firsts.{first_behind, first_before, first_later}
 use Rattle.temporal_lang.specs.declared.branches.Branch.{Branch}
 use Rattle.temporal_lang.specs.declared.queries.Query.{Query}
 use Rattle.temporal_lang.specs.declared.whens.When.{When}
-use Rattle.temporal_lang.specs.declared.faults.QueryFault.{QueryFault}
-use Rattle.temporal_lang.specs.declared.faults.QueryFault.TheVariants.{Refused, NoMemory}
+use Rattle.prima_base.specs.declared.faults.CallFault.{CallFault}
+use Rattle.prima_base.specs.declared.faults.CallFault.TheVariants.{Refused, NoMemory}
 use Rattle.plain_answers.specs.Branches.{PlainBranch}
 use Rattle.temporal_lang.specs.Branches.{branch_of, branches_of, IsQuery}
 use Rattle.temporal_lang.specs.Queries.{PlainQuery}
 use Rattle.temporal_lang.specs.Atoms.{branch_with_atoms, branches_with_atoms}
-use Rattle.temporal_lang.specs.Checking.{IsPassed, IsQueryChecked, excess_of, excess_fault, names_tests, typing_tests, period_tests, query_tests, query_fault}
+use Rattle.prima_base.specs.Faults.{IsTested}
+use Rattle.temporal_lang.specs.Checking.{IsQueryChecked, excess_of, excess_fault, names_tests, typing_tests, period_tests, query_tests, query_fault}
 use Rattle.temporal_lang.proofs.BranchLaws.{still_parts}
 
 -- ---- which test decides
@@ -51,18 +52,18 @@ both_ways o a p q = absurd (cc)
 same_some : {A : Type 0} (a b : A) → Some a ≡ Some b → a ≡ b
 same_some a b e = cc
 
-pub stop_checked : (tables : Tables) (query : PlainQuery) (f : Fault) (e : QueryFault) → ((r : Refusal) → f ≡ Some r → query_fault tables query ≡ Some r)
-    → IsPassed {A = Unit {0}} f (Err e) → IsQueryChecked tables query (Err e)
+pub stop_checked : (tables : Tables) (query : PlainQuery) (f : Fault) (e : CallFault Refusal) → ((r : Refusal) → f ≡ Some r → query_fault tables query ≡ Some r)
+    → IsTested {A = Unit {0}} f (Err e) → IsQueryChecked tables query (Err e)
 stop_checked tables query f (Refused r) decides h = decides r h
 stop_checked tables query f NoMemory decides h = tt
 
-pub stop_accepted : (tables : Tables) (query : PlainQuery) (f : Fault) (e : QueryFault) → ((r : Refusal) → f ≡ Some r → query_fault tables query ≡ Some r)
-    → IsPassed {A = Unit {0}} f (Err e) → query_fault tables query ≡ None → IsOkUnless {T = Query} (Err e) NoMemory
+pub stop_accepted : (tables : Tables) (query : PlainQuery) (f : Fault) (e : CallFault Refusal) → ((r : Refusal) → f ≡ Some r → query_fault tables query ≡ Some r)
+    → IsTested {A = Unit {0}} f (Err e) → query_fault tables query ≡ None → IsOkUnless {T = Query} (Err e) NoMemory
 stop_accepted tables query f (Refused r) decides h none = both_ways (query_fault tables query) r none (decides r h)
 stop_accepted tables query f NoMemory decides h none = refl
 
-pub stop_refused : (tables : Tables) (query : PlainQuery) (f : Fault) (e : QueryFault) → ((r : Refusal) → f ≡ Some r → query_fault tables query ≡ Some r)
-    → IsPassed {A = Unit {0}} f (Err e) → (r : Refusal) → query_fault tables query ≡ Some r
+pub stop_refused : (tables : Tables) (query : PlainQuery) (f : Fault) (e : CallFault Refusal) → ((r : Refusal) → f ≡ Some r → query_fault tables query ≡ Some r)
+    → IsTested {A = Unit {0}} f (Err e) → (r : Refusal) → query_fault tables query ≡ Some r
     → IsErrOf {T = Query} (Err e) (Refused r) ⊎ IsErrOf {T = Query} (Err e) NoMemory
 stop_refused tables query f (Refused q) decides h r k = inl (ap (λ (x : Refusal). Err (Refused x)) (same_some q r (sym (decides q h) ∙ k)))
 stop_refused tables query f NoMemory decides h r k = inr refl

@@ -6,8 +6,11 @@ pub mod KnownLaws
 pub mod BranchLaws
 pub mod ItemLaws
 mod WorkedBranches
+mod WorkedSelects
 mod WorkedPast
 mod WorkedWays
+mod WorkedMerge
+mod WorkedDecompose
 pub mod QueryGoodness
 pub mod QueryAlong
 pub mod QueryLongest

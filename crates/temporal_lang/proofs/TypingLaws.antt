@@ -14,8 +14,9 @@ use Rattle.cond_expr.specs.Faults.{references, untyped, test_untyped, first_of, 
 use Rattle.cond_expr.proofs.FaultLaws.{unknown_append}
 use Rattle.smo_meaning.specs.First.{first_refusal}
 use Rattle.smo_meaning.proofs.Firsts.{first_behind, first_before, first_at, first_later, first_alone, drop_at}
-use Rattle.temporal_lang.specs.declared.faults.QueryFault.{QueryFault}
-use Rattle.temporal_lang.specs.declared.faults.QueryFault.TheVariants.{Refused, NoMemory}
+use Rattle.prima_base.specs.declared.refusals.Refusal.{Refusal}
+use Rattle.prima_base.specs.declared.faults.CallFault.{CallFault}
+use Rattle.prima_base.specs.declared.faults.CallFault.TheVariants.{Refused, NoMemory}
 use Rattle.plain_answers.specs.Branches.{PlainBranch}
 use Rattle.temporal_lang.specs.Checking.{trees_types, outputs_nodes, branch_types, branch_nodes}
 use Rattle.temporal_lang.specs.Resolved.{AreSmall, IsSmall}
@@ -87,7 +88,7 @@ module _ (of : Kinds) (xs : List Expr) (i : ℕ) (x : Expr) (below : i < length 
 -- ---- a branch: its outputs, and then its condition
 
 module _ (of : Kinds) (at : ℕ) (b : PlainBranch) where
-  pub branch_stop : (e : QueryFault) → OutputsTyped of at b.outs (Err e) → BranchTyped of at b (Err e)
+  pub branch_stop : (e : CallFault Refusal) → OutputsTyped of at b.outs (Err e) → BranchTyped of at b (Err e)
   branch_stop (Refused r) h = first_before (trees_types of at b.outs) (option_map (λ p. WrongType (at + outputs_nodes b.outs + p)) (first_of (test_untyped of 0 b.cond)) ∷ []) r h
   branch_stop NoMemory h = tt
 

@@ -1,16 +1,21 @@
 -- Worked rows: a table that is renamed with an inverse. Its past, the table migrated to the version before and the one
 -- behind, and the answers to queries on both versions.
-use Rattle.std.specs.Prelude.{◌≡◌, ◌==◌, ℕ, ◌+◌, List, [], ◌∷◌, ◌++◌, Option, Some, None, if◌then◌else◌}
-use Rattle.std.proofs.Common.{refl, ap, ◌∙◌, arith}
-use Rattle.std.specs.Option.{unwrap_or}
-use Rattle.std.specs.FinMap.{get, insert, remove}
+use Rattle.std.specs.Prelude.{◌≡◌, ◌==◌, ◌≤◌, ◌||◌, ℕ, ◌+◌, List, [], ◌∷◌, ◌++◌, length, not, cond, is_some, nat_le, Option, Some, None, if◌then◌else◌}
+use Rattle.std.proofs.Common.{refl, ap, subst, ◌∙◌, arith}
+use Rattle.std.specs.Option.{unwrap_or, option_map}
+use Rattle.std.specs.FinMap.{get, insert, remove, len, get-empty, get-insert, len-empty, len-insert}
+use Rattle.std.specs.Cmp.Lexicographic.{nat_list_cmp_total}
+use Rattle.prima_base.specs.declared.refusals.What.TheVariants.{Tables as TABLES}
+use Rattle.prima_base.specs.declared.refusals.OpRefusal.{OpRefusal}
+use Rattle.prima_base.specs.declared.refusals.OpRefusal.TheVariants.{Exists, TooMany, NoTable as NoTableThere}
+use Rattle.prima_base.specs.Bytes.{IsTxt, first_control}
 use Rattle.relations.specs.Sets.{set_of}
 use Rattle.relations.specs.Spans.{span, forever}
 use Rattle.relations.specs.Timeline.{Stage, listing_of}
-use Rattle.prima_base.specs.Order.{row_cmp}
+use Rattle.prima_base.specs.Order.{bytes_cmp, row_cmp}
 use Rattle.prima_base.specs.Keeping.{kept}
-use Rattle.prima_base.specs.declared.refusals.Refusal.TheVariants.{NoVersion}
-use Rattle.prima_base.specs.Columns.{Column}
+use Rattle.prima_base.specs.declared.refusals.Refusal.TheVariants.{NoVersion, NoTable}
+use Rattle.prima_base.specs.Columns.{Column, IsLawful, names_of}
 use Rattle.schema_catalog.specs.Tables.{Tables}
 use Rattle.schema_catalog.specs.Databases.{Entry, Rows, Database}
 use Rattle.cond_expr.specs.declared.exprs.CmpOp.TheVariants.{Eq}
@@ -21,13 +26,23 @@ use Rattle.smo_types.specs.Commands.{PlainBody, PlainCommand, PlainVersion, chan
 use Rattle.smo_meaning.specs.OneRow.{Row, Relation}
 use Rattle.smo_meaning.specs.Making.{from_one}
 use Rattle.smo_meaning.specs.Effects.{columns_of, relation_after, with_changed, after_each, gained, lost, rows_at}
-use Rattle.smo_meaning.specs.After.{behind, carried}
+use Rattle.smo_meaning.specs.After.{op_fault, behind, carried}
 use Rattle.smo_meaning.specs.Past.{State, Past, a_state, no_tables, no_database, tables_of, version_at, database_at, beginning, changed_to, evolved_to, past_with, from_stamp}
 use Rattle.smo_meaning.specs.Counts.{first_excess}
+use Rattle.smo_meaning.specs.First.{unless, first_refusal}
+use Rattle.smo_meaning.specs.Preconditions.{among, differ, is_some_column, each_once, few_columns, most_tables}
+use Rattle.smo_meaning.specs.Inverses.{inverse_tests, inverse_fault}
+use Rattle.smo_meaning.specs.Checks.{Fault, tests_behind}
+use Rattle.smo_meaning.specs.Accepts.{refusal_of, command_fault}
+use Rattle.smo_meaning.specs.LawfulPast.{IsPast}
+use Rattle.smo_meaning.specs.LawfulValues.{PastHolds}
+use Rattle.smo_meaning.proofs.PastSteps.{beginning_is_past, stamp_accepted, counts_accepted, body_accepted, stays_lawful}
+use Rattle.smo_meaning.proofs.ValueLaws.{beginning_holds, history_holds}
+use Rattle.cond_expr.proofs.ConstantLaws.{small_number}
+use Rattle.version_ways.proofs.RoundTrips.{rename_inverse}
 use Rattle.smo_meaning.specs.InForce.{in_force}
-use Rattle.smo_meaning.specs.History.{past_of}
+use Rattle.smo_meaning.specs.History.{past_of, past_after, AllAccepted, IsHistory}
 use Rattle.version_ways.specs.Migration.{migrated}
-use Rattle.smo_meaning.proofs.CountingLaws.{self_gains_nothing, gained_step, lost_with}
 use Rattle.temporal_lang.specs.declared.whens.When.TheVariants.{Always}
 use Rattle.plain_answers.specs.Branches.{PlainBranch}
 use Rattle.temporal_lang.specs.Queries.{PlainQuery, a_query}
@@ -35,6 +50,7 @@ use Rattle.plain_answers.specs.Branches.{plain}
 use Rattle.plain_answers.specs.Choosing.{answers_over}
 use Rattle.temporal_lang.specs.Answers.{asked_at, stages, answer}
 use Rattle.temporal_lang.specs.Accepted.{fault_of_query}
+use Rattle.temporal_lang.proofs.WorkedSelects.{gained_is, lost_is}
 use Rattle.version_ways.proofs.WorkedWords.{a, b, x, y, s, t, u, int, text, at_atom, ab_columns, t_there, u_there}
 
 -- AT 1 EVOLVE CREATE TABLE t (a INT, b TEXT); AT 5 INSERT INTO t (a, b) VALUES (1, 'x');
@@ -121,20 +137,24 @@ updated =
     ap (λ o. with_changed (relation_after (unwrap_or o []) updating) (get from_5 t) t from_5) columns_are
     ∙ ap (λ e. with_changed (relation_after ab_columns updating) e t from_5) (t_there from_1 (Rows x_rows))
 
--- one row is gained and none lost, and one is gained and one lost
+-- one row is gained and none lost, and then one is gained and one lost
+first_gained : gained from_1 from_5 ≡ 1
+first_gained = gained_is from_1 t [] x_rows (t_there no_database (Rows []))
+
+first_kept : lost from_1 from_5 ≡ 0
+first_kept = lost_is from_1 t [] x_rows (t_there no_database (Rows []))
+
+then_gained : gained from_5 from_7 ≡ 1
+then_gained = gained_is from_5 t x_rows y_rows (t_there from_1 (Rows x_rows))
+
+then_lost : lost from_5 from_7 ≡ 1
+then_lost = lost_is from_5 t x_rows y_rows (t_there from_1 (Rows x_rows))
+
 one_gained : gained from_1 from_5 + lost from_1 from_5 ≡ 1
-one_gained =
-    let nothing : gained from_1 from_1 ≡ 0 = self_gains_nothing from_1 in
-    let gain : gained from_1 from_5 + 0 ≡ gained from_1 from_1 + 1 = gained_step from_1 t (Rows []) (Rows x_rows) from_1 (Rows []) (t_there no_database (Rows [])) (t_there no_database (Rows [])) in
-    let loss : lost from_1 from_5 + 0 ≡ lost from_1 from_1 + 0 = lost_with from_1 t (Rows []) (Rows x_rows) (t_there no_database (Rows [])) from_1 (Rows []) (t_there no_database (Rows [])) in
-    omega (arith, nothing, gain, loss)
+one_gained = ap (λ n. n + lost from_1 from_5) first_gained ∙ ap (λ n. 1 + n) first_kept
 
 one_changed : gained from_5 from_7 + lost from_5 from_7 ≡ 2
-one_changed =
-    let nothing : gained from_5 from_5 ≡ 0 = self_gains_nothing from_5 in
-    let gain : gained from_5 from_7 + 0 ≡ gained from_5 from_5 + 1 = gained_step from_5 t (Rows x_rows) (Rows y_rows) from_5 (Rows x_rows) (t_there from_1 (Rows x_rows)) (t_there from_1 (Rows x_rows)) in
-    let loss : lost from_5 from_7 + 0 ≡ lost from_5 from_5 + 1 = lost_with from_5 t (Rows x_rows) (Rows y_rows) (t_there from_1 (Rows x_rows)) from_5 (Rows x_rows) (t_there from_1 (Rows x_rows)) in
-    omega (arith, nothing, gain, loss)
+one_changed = ap (λ n. n + lost from_5 from_7) then_gained ∙ ap (λ n. 1 + n) then_lost
 
 abbrev changed : ℕ → ℕ → ℕ → Database → List State → Past
 changed stamp count n new states = record {
@@ -303,3 +323,90 @@ later_stages = λ i. stage 0 (later_0 i) ∷ stage 1 (later_1 i) ∷ stage 5 (la
 later_answer : answer past_9 later_query ≡ record { item = int 1 ∷ []; period = span 5 forever } ∷ []
 unfolding set_of listing_of
 later_answer = ap (λ ss. kept [] (listing_of row_cmp ss)) later_stages
+
+-- ---- the commands are a history: each is accepted after those before it
+
+abbrev create_by : Option (List Column) → ℕ → Option OpRefusal
+create_by o count =
+    first_refusal (unless (not (is_some o) || among t []) (Exists t) ∷ is_some_column t ab_columns ∷ each_once t (names_of ab_columns) ∷ few_columns ab_columns
+    ∷ unless (nat_le count most_tables) (TooMany TABLES most_tables) ∷ [])
+
+one_table : len tables_1 ≡ 1
+one_table =
+    len-insert nat_list_cmp_total no_tables t ab_columns
+    ∙ ap (λ (o : Option (List Column)). cond (is_some o) (len no_tables) (len no_tables + 1)) (get-empty bytes_cmp t) ∙ ap (λ n. n + 1) (len-empty bytes_cmp (List Column))
+
+create_accepted : op_fault no_tables (create_table t ab_columns) ≡ None
+unfolding set_of
+create_accepted = ap (λ (o : Option (List Column)). create_by o (len tables_1)) (get-empty bytes_cmp t) ∙ ap (create_by None) one_table
+
+accepted_1 : command_fault beginning (command 1 (evolving (create_table t ab_columns) [])) ≡ None
+accepted_1 = ap (λ (o : Option OpRefusal). first_refusal (option_map refusal_of o ∷ [])) create_accepted
+
+abbrev change_by : PlainChange → Option (List Column) → List Fault
+change_by change o = (unless (is_some o) (NoTable t) ∷ tests_behind (unwrap_or o []) change 0) ++ []
+
+accepted_5 : command_fault past_1 (command 5 (changing (inserting ∷ []))) ≡ None
+accepted_5 = ap (λ (o : Option (List Column)). first_refusal (change_by inserting o)) columns_are
+
+accepted_7 : command_fault past_5 (command 7 (changing (updating ∷ []))) ≡ None
+accepted_7 = ap (λ (o : Option (List Column)). first_refusal (change_by updating o)) columns_are
+
+abbrev rename_by : Option (List Column) → Option (List Column) → Option OpRefusal
+rename_by o free = first_refusal (unless (is_some o) (NoTableThere t) ∷ differ t u ∷ unless (not (is_some free) || among u (t ∷ [])) (Exists u) ∷ [])
+
+u_free : get tables_1 u ≡ None
+u_free = get-insert nat_list_cmp_total no_tables t ab_columns u ∙ get-empty bytes_cmp u
+
+rename_accepted : op_fault tables_1 (rename_table t u) ≡ None
+rename_accepted = ap (λ (o : Option (List Column)). rename_by o (get tables_1 u)) columns_are ∙ ap (rename_by (Some ab_columns)) u_free
+
+inverse_accepted : inverse_fault tables_1 (rename_table t u) (rename_table u t ∷ []) ≡ None
+inverse_accepted = rename_inverse tables_1 t u rename_accepted
+
+accepted_9 : command_fault past_7 (command 9 (evolving (rename_table t u) (rename_table u t ∷ []))) ≡ None
+accepted_9 =
+    ap (λ (o : Option OpRefusal). first_refusal (option_map refusal_of o ∷ inverse_tests tables_1 (rename_table t u) (rename_table u t ∷ []))) rename_accepted ∙ inverse_accepted
+
+is_history : IsHistory commands
+is_history =
+    let second = created in
+    let third = ap (λ p. past_with p (command 5 (changing (inserting ∷ [])))) created ∙ at_5 in
+    let fourth = ap (λ p. past_with (past_with p (command 5 (changing (inserting ∷ [])))) (command 7 (changing (updating ∷ [])))) created
+    ∙ ap (λ p. past_with p (command 7 (changing (updating ∷ [])))) at_5 ∙ at_7 in (
+      accepted_1,
+      (
+        ap (λ p. command_fault p (command 5 (changing (inserting ∷ [])))) second ∙ accepted_5,
+        (
+          ap (λ p. command_fault p (command 7 (changing (updating ∷ [])))) third ∙ accepted_7,
+          (ap (λ p. command_fault p (command 9 (evolving (rename_table t u) (rename_table u t ∷ [])))) fourth ∙ accepted_9, tt),
+        ),
+      ),
+    )
+
+-- so their past is lawful, and at each moment its database is one of the version then in force
+accepted_is_past : (past : Past) (c : PlainCommand) → IsPast past → command_fault past c ≡ None → IsPast (past_with past c)
+accepted_is_past past c is e = stays_lawful past c.stamp c.body is (stamp_accepted past c e) (counts_accepted past c e) (body_accepted past c e)
+
+history_is_past : (past : Past) (cs : List PlainCommand) → IsPast past → AllAccepted past cs → IsPast (past_after past cs)
+history_is_past past [] is a = is
+history_is_past past (c ∷ cs) is a = history_is_past (past_with past c) cs (accepted_is_past past c is a.0) a.1
+
+is_past : IsPast past_9
+is_past = subst IsPast past_is (history_is_past beginning commands beginning_is_past is_history)
+
+-- and it holds lawful values
+short_text : (bytes : List ℕ) → length bytes ≤ 1 → first_control bytes ≡ None → IsTxt bytes
+short_text bytes l e = (omega (arith, l), e)
+
+x_is : IsTxt x
+x_is = short_text x (omega arith) refl
+
+y_is : IsTxt y
+y_is = short_text y (omega arith) refl
+
+one_is : IsLawful (int 1)
+one_is = small_number 1 (omega arith)
+
+holds : PastHolds past_9
+holds = subst PastHolds past_is (history_holds beginning commands beginning_is_past is_history ((tt, tt), (((one_is, (x_is, tt)), tt), (((y_is, tt), tt), ((tt, (tt, tt)), tt)))) beginning_holds)

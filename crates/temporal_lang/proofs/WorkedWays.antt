@@ -1,41 +1,166 @@
--- Worked rows: a table that is dropped for good, and what is lost first for a query on the version before.
-use Rattle.std.specs.Prelude.{◌≡◌, ℕ, zero, suc, ◌+◌, ◌<◌, [], ◌∷◌, Option, Some, None}
-use Rattle.std.proofs.Common.{refl, ap, arith}
+-- Worked rows: a table that is dropped for good, and created again: its past, what is lost first for a query on the version
+-- before, and what queries answer up to the drop and on the version behind.
+use Rattle.std.specs.Prelude.{◌≡◌, ◌==◌, ℕ, zero, suc, ◌+◌, ◌<◌, ◌++◌, List, [], ◌∷◌, Option, Some, None, if◌then◌else◌}
+use Rattle.std.proofs.Common.{refl, ap, ◌∙◌, arith}
 use Rattle.std.specs.Option.{option_or}
 use Rattle.std.specs.FinMap.{get, insert, remove, empty, get-remove, get-empty}
 use Rattle.std.specs.Cmp.Lexicographic.{nat_list_cmp_total}
-use Rattle.relations.specs.Spans.{forever}
-use Rattle.prima_base.specs.Order.{bytes_cmp}
-use Rattle.cond_expr.specs.Trees.{always}
+use Rattle.relations.specs.Sets.{set_of}
+use Rattle.relations.specs.Spans.{span, forever}
+use Rattle.relations.specs.Timeline.{listing_of}
+use Rattle.prima_base.specs.Order.{bytes_cmp, row_cmp}
+use Rattle.prima_base.specs.Keeping.{kept}
+use Rattle.schema_catalog.specs.Tables.{Tables}
+use Rattle.schema_catalog.specs.Databases.{Rows, Database}
+use Rattle.cond_expr.specs.declared.exprs.Whose.TheVariants.{Free}
+use Rattle.cond_expr.specs.Trees.{column, always}
 use Rattle.prima_base.specs.declared.refusals.OpKind.TheVariants.{DropTable}
 use Rattle.prima_base.specs.declared.refusals.Refusal.TheVariants.{NoInverse}
+use Rattle.smo_types.specs.Operators.{create_table, drop_table}
+use Rattle.smo_types.specs.Changes.{PlainChange, insertion}
+use Rattle.smo_types.specs.Commands.{PlainCommand, PlainVersion, changing, evolving}
+use Rattle.smo_meaning.specs.First.{first_refusal}
+use Rattle.smo_meaning.specs.OneRow.{Relation}
+use Rattle.smo_meaning.specs.Effects.{after_each, gained, lost}
 use Rattle.smo_meaning.specs.Losses.{Loss}
-use Rattle.smo_meaning.specs.Past.{Past, a_state, no_database}
+use Rattle.smo_meaning.specs.Past.{Past, State, a_state, no_tables, no_database, beginning, changed_to, past_with, from_stamp}
+use Rattle.smo_meaning.specs.History.{past_of}
 use Rattle.version_ways.specs.LostNames.{Losses}
-use Rattle.version_ways.proofs.WorkedWords.{a, t, at_atom, t_there}
+use Rattle.version_ways.specs.Migration.{migrated}
+use Rattle.version_ways.proofs.WorkedWords.{a, t, int, a_columns, t_there}
 use Rattle.version_ways.proofs.WorkedWays.{dropped_versions}
 use Rattle.temporal_lang.specs.declared.whens.When.TheVariants.{Always, During}
 use Rattle.temporal_lang.specs.Queries.{PlainQuery, a_query}
+use Rattle.plain_answers.specs.Branches.{plain}
+use Rattle.temporal_lang.specs.Atoms.{branches_with_atoms}
+use Rattle.temporal_lang.specs.Answers.{asked_at, stages, answer}
 use Rattle.temporal_lang.specs.Losing.{loss_at, first_lost}
-use Rattle.temporal_lang.specs.Accepted.{no_way_back}
+use Rattle.temporal_lang.specs.Accepted.{no_way_back, loss_fault, fault_of_query}
 use Rattle.temporal_lang.proofs.FirstLaws.{first_is, first_none}
+use Rattle.temporal_lang.proofs.WorkedSelects.{command, stage, changed_at, gained_is, lost_is, select, selected, answers_by, tested}
 
--- ---- AT 1 EVOLVE CREATE TABLE t (a INT); AT 4 EVOLVE DROP TABLE t; AT 6 EVOLVE CREATE TABLE t (a INT). Losses look at versions
--- alone, so the past has no more states than its first.
+-- ---- AT 1 EVOLVE CREATE TABLE t (a INT); AT 2 INSERT INTO t (a) VALUES (1); AT 4 EVOLVE DROP TABLE t;
+-- AT 6 EVOLVE CREATE TABLE t (a INT); AT 7 INSERT INTO t (a) VALUES (2);
 
+abbrev inserting : ℕ → PlainChange
+inserting n = insertion t ((a, int n) ∷ [])
+
+abbrev creating : ℕ → PlainCommand
+creating stamp = command stamp (evolving (create_table t a_columns) [])
+
+abbrev dropping : PlainCommand
+dropping = command 4 (evolving (drop_table t) [])
+
+abbrev giving : ℕ → ℕ → PlainCommand
+giving stamp n = command stamp (changing (inserting n ∷ []))
+
+abbrev commands : List PlainCommand
+commands = creating 1 ∷ giving 2 1 ∷ dropping ∷ creating 6 ∷ giving 7 2 ∷ []
+
+abbrev row : ℕ → Relation
+row n = (int n ∷ []) ∷ []
+
+abbrev tables_1 : Tables
+tables_1 = insert no_tables t a_columns
+
+abbrev tables_2 : Tables
+tables_2 = remove tables_1 t
+
+abbrev tables_3 : Tables
+tables_3 = insert tables_2 t a_columns
+
+abbrev from_1 : Database
+from_1 = insert no_database t (Rows [])
+
+abbrev from_2 : Database
+from_2 = insert from_1 t (Rows (row 1))
+
+abbrev from_4 : Database
+from_4 = remove from_2 t
+
+abbrev from_6 : Database
+from_6 = insert from_4 t (Rows [])
+
+abbrev from_7 : Database
+from_7 = insert from_6 t (Rows (row 2))
+
+abbrev version_1 : PlainVersion
+version_1 = record { stamp = 1; op = create_table t a_columns; inverse = []; tables = tables_1 }
+
+abbrev version_2 : PlainVersion
+version_2 = record { stamp = 4; op = drop_table t; inverse = []; tables = tables_2 }
+
+abbrev past : List PlainVersion → ℕ → ℕ → List State → Past
+past versions last count states = record { versions = versions; last = Some last; commands = count; states = states }
+
+abbrev states_1 : List State
+states_1 = a_state 0 no_database ∷ a_state 1 from_1 ∷ []
+
+abbrev states_2 : List State
+states_2 = states_1 ++ a_state 2 from_2 ∷ []
+
+abbrev states_6 : List State
+states_6 = states_2 ++ a_state 4 from_4 ∷ a_state 6 from_6 ∷ []
+
+-- the past, with its six states
 abbrev dropped : Past
-dropped = record {
-  versions = dropped_versions;
-  last = Some 6;
-  commands = 3;
-  states = a_state 0 no_database ∷ [];
-}
+dropped = past dropped_versions 7 5 (states_6 ++ a_state 7 from_7 ∷ [])
+
+created : past_with beginning (creating 1) ≡ past (version_1 ∷ []) 1 1 states_1
+unfolding set_of
+created = refl
+
+first_given : after_each tables_1 (inserting 1 ∷ []) from_1 ≡ from_2
+first_given = changed_at tables_1 from_1 (inserting 1) a_columns [] (t_there no_tables a_columns) (t_there no_database (Rows []))
+
+second_given : after_each tables_3 (inserting 2 ∷ []) from_6 ≡ from_7
+second_given = changed_at tables_3 from_6 (inserting 2) a_columns [] (t_there tables_2 a_columns) (t_there from_4 (Rows []))
+
+-- one row is gained each time, and none lost
+first_gained : gained from_1 from_2 ≡ 1
+first_gained = gained_is from_1 t [] (row 1) (t_there no_database (Rows []))
+
+first_kept : lost from_1 from_2 ≡ 0
+first_kept = lost_is from_1 t [] (row 1) (t_there no_database (Rows []))
+
+second_gained : gained from_6 from_7 ≡ 1
+second_gained = gained_is from_6 t [] (row 2) (t_there from_4 (Rows []))
+
+second_kept : lost from_6 from_7 ≡ 0
+second_kept = lost_is from_6 t [] (row 2) (t_there from_4 (Rows []))
+
+abbrev changed : List PlainVersion → ℕ → ℕ → Database → List State → ℕ → Past
+changed versions stamp count new states n = past versions stamp count (if n == 0 then states else from_stamp stamp new states)
+
+at_2 : past_with (past (version_1 ∷ []) 1 1 states_1) (giving 2 1) ≡ past (version_1 ∷ []) 2 2 states_2
+at_2 =
+    ap (λ db. changed_to 2 db (past (version_1 ∷ []) 1 1 states_1)) first_given
+    ∙ ap (λ n. changed (version_1 ∷ []) 2 2 from_2 states_1 (n + lost from_1 from_2)) first_gained
+    ∙ ap (λ n. changed (version_1 ∷ []) 2 2 from_2 states_1 (1 + n)) first_kept
+
+evolved : past_with (past_with (past (version_1 ∷ []) 2 2 states_2) dropping) (creating 6) ≡ past dropped_versions 6 4 states_6
+unfolding set_of
+evolved = refl
+
+at_7 : past_with (past dropped_versions 6 4 states_6) (giving 7 2) ≡ dropped
+at_7 =
+    ap (λ db. changed_to 7 db (past dropped_versions 6 4 states_6)) second_given
+    ∙ ap (λ n. changed dropped_versions 7 5 from_7 states_6 (n + lost from_6 from_7)) second_gained
+    ∙ ap (λ n. changed dropped_versions 7 5 from_7 states_6 (1 + n)) second_kept
+
+past_is : past_of commands ≡ dropped
+past_is =
+    ap (λ p. past_with (past_with (past_with (past_with p (giving 2 1)) dropping) (creating 6)) (giving 7 2)) created
+    ∙ ap (λ p. past_with (past_with (past_with p dropping) (creating 6)) (giving 7 2)) at_2
+    ∙ ap (λ p. past_with p (giving 7 2)) evolved ∙ at_7
+
+-- ---- QUERY VERSION 1 SELECT a FROM t, and the same DURING 0 TO 4
 
 abbrev on_version_1 : PlainQuery
-on_version_1 = a_query 1 (record { outs = at_atom 0 a ∷ []; from = (t, t) ∷ []; cond = always } ∷ []) Always []
+on_version_1 = a_query 1 (select t (column Free a ∷ []) always) Always []
 
 abbrev before_4 : PlainQuery
-before_4 = a_query 1 (record { outs = at_atom 0 a ∷ []; from = (t, t) ∷ []; cond = always } ∷ []) (During 0 4) []
+before_4 = a_query 1 (select t (column Free a ∷ []) always) (During 0 4) []
 
 alone : (losses : Losses) (o : Option Loss) → get losses t ≡ o → option_or (get losses t) None ≡ option_or o None
 alone losses o h = ap (λ p. option_or p None) h
@@ -59,3 +184,80 @@ not_before = first_none (loss_at dropped before_4) 0 4 none_before
 
 no_inverse_of_it : no_way_back dropped.versions (2, 1) ≡ NoInverse 2 DropTable
 no_inverse_of_it = refl
+
+-- so the query is refused, and accepted up to the drop
+refused : fault_of_query dropped on_version_1 ≡ Some (NoInverse 2 DropTable)
+refused =
+    ap (λ tests. first_refusal (tests ++ loss_fault dropped.versions (first_lost dropped on_version_1) ∷ [])) (tested tables_1 1 t (column Free a ∷ []) always Always a_columns (t_there no_tables a_columns))
+    ∙ ap (λ loss. first_refusal (loss_fault dropped.versions loss ∷ [])) lost_first
+
+accepted : fault_of_query dropped before_4 ≡ None
+accepted =
+    ap (λ tests. first_refusal (tests ++ loss_fault dropped.versions (first_lost dropped before_4) ∷ [])) (tested tables_1 1 t (column Free a ∷ []) always (During 0 4) a_columns (t_there no_tables a_columns))
+    ∙ ap (λ loss. first_refusal (loss_fault dropped.versions loss ∷ [])) not_before
+
+on_1 : (db : Database) (rows : Relation) → get db t ≡ Some (Rows rows)
+    → plain tables_1 (branches_with_atoms tables_1 (select t (column Free a ∷ []) always)) db ≡ answers_by t (column Free a ∷ []) always (Some a_columns) (Some (Rows rows))
+on_1 db rows h = selected tables_1 db t (column Free a ∷ []) always a_columns rows (t_there no_tables a_columns) h
+
+asked_0 : asked_at dropped before_4 0 ≡ []
+unfolding set_of
+asked_0 = on_1 (migrated dropped 0 1) [] (t_there no_database (Rows []))
+
+asked_1 : asked_at dropped before_4 1 ≡ []
+unfolding set_of
+asked_1 = on_1 from_1 [] (t_there no_database (Rows []))
+
+asked_2 : asked_at dropped before_4 2 ≡ row 1
+unfolding set_of
+asked_2 = on_1 from_2 (row 1) (t_there from_1 (Rows (row 1)))
+
+stages_before : stages dropped before_4 ≡ stage 0 [] ∷ stage 1 [] ∷ stage 2 (row 1) ∷ stage 4 [] ∷ []
+stages_before = λ i. stage 0 (asked_0 i) ∷ stage 1 (asked_1 i) ∷ stage 2 (asked_2 i) ∷ stage 4 [] ∷ []
+
+-- 1 from 2 up to the drop
+answer_before : answer dropped before_4 ≡ record { item = int 1 ∷ []; period = span 2 4 } ∷ []
+unfolding set_of listing_of
+answer_before = ap (λ ss. kept [] (listing_of row_cmp ss)) stages_before
+
+-- ---- QUERY VERSION 3 SELECT a FROM t
+
+abbrev on_version_3 : PlainQuery
+on_version_3 = a_query 3 (select t (column Free a ∷ []) always) Always []
+
+on_3 : (db : Database) (rows : Relation) → get db t ≡ Some (Rows rows)
+    → plain tables_3 (branches_with_atoms tables_3 (select t (column Free a ∷ []) always)) db ≡ answers_by t (column Free a ∷ []) always (Some a_columns) (Some (Rows rows))
+on_3 db rows h = selected tables_3 db t (column Free a ∷ []) always a_columns rows (t_there tables_2 a_columns) h
+
+-- what is carried over the second CREATE TABLE is empty
+later_0 : asked_at dropped on_version_3 0 ≡ []
+unfolding set_of
+later_0 = on_3 (migrated dropped 0 3) [] (t_there (migrated dropped 0 2) (Rows []))
+
+later_1 : asked_at dropped on_version_3 1 ≡ []
+unfolding set_of
+later_1 = on_3 (migrated dropped 1 3) [] (t_there (migrated dropped 1 2) (Rows []))
+
+later_2 : asked_at dropped on_version_3 2 ≡ []
+unfolding set_of
+later_2 = on_3 (migrated dropped 2 3) [] (t_there (migrated dropped 2 2) (Rows []))
+
+later_4 : asked_at dropped on_version_3 4 ≡ []
+unfolding set_of
+later_4 = on_3 (migrated dropped 4 3) [] (t_there from_4 (Rows []))
+
+later_6 : asked_at dropped on_version_3 6 ≡ []
+unfolding set_of
+later_6 = on_3 from_6 [] (t_there from_4 (Rows []))
+
+later_7 : asked_at dropped on_version_3 7 ≡ row 2
+unfolding set_of
+later_7 = on_3 from_7 (row 2) (t_there from_6 (Rows (row 2)))
+
+later_stages : stages dropped on_version_3 ≡ stage 0 [] ∷ stage 1 [] ∷ stage 2 [] ∷ stage 4 [] ∷ stage 6 [] ∷ stage 7 (row 2) ∷ []
+later_stages = λ i. stage 0 (later_0 i) ∷ stage 1 (later_1 i) ∷ stage 2 (later_2 i) ∷ stage 4 (later_4 i) ∷ stage 6 (later_6 i) ∷ stage 7 (later_7 i) ∷ []
+
+-- 2 from 7 on
+later_answer : answer dropped on_version_3 ≡ record { item = int 2 ∷ []; period = span 7 forever } ∷ []
+unfolding set_of listing_of
+later_answer = ap (λ ss. kept [] (listing_of row_cmp ss)) later_stages

@@ -23,8 +23,9 @@ use Rattle.smo_meaning.specs.Counts.{Excess, at_most, tree_counts, test_counts}
 use Rattle.smo_meaning.specs.Preconditions.{among}
 use Rattle.temporal_lang.specs.declared.whens.When.{When}
 use Rattle.temporal_lang.specs.declared.whens.When.TheVariants.{Always, AsOf, During}
-use Rattle.temporal_lang.specs.declared.faults.QueryFault.{QueryFault}
-use Rattle.temporal_lang.specs.declared.faults.QueryFault.TheVariants.{Refused, NoMemory}
+use Rattle.prima_base.specs.declared.refusals.Refusal.{Refusal}
+use Rattle.prima_base.specs.declared.faults.CallFault.{CallFault}
+use Rattle.prima_base.specs.declared.faults.CallFault.TheVariants.{Refused, NoMemory}
 use Rattle.plain_answers.specs.Branches.{Item, PlainBranch}
 use Rattle.plain_answers.specs.Naming.{all_references}
 use Rattle.temporal_lang.specs.declared.queries.Query.{Query}
@@ -165,13 +166,7 @@ abbrev pub query_fault : Tables → PlainQuery → Fault
 query_fault tables query = first_refusal (excess_fault (excess_of query) ∷ query_tests tables query)
 
 -- what the check answers: the query with each reference made one to an atom, or its refusal
-abbrev pub IsQueryChecked : Tables → PlainQuery → Result Query QueryFault → Type 0
+abbrev pub IsQueryChecked : Tables → PlainQuery → Result Query (CallFault Refusal) → Type 0
 IsQueryChecked tables query (Ok q) = (query_fault tables query ≡ None) × (query_of q ≡ with_atoms tables query)
 IsQueryChecked tables query (Err (Refused refusal)) = query_fault tables query ≡ Some refusal
 IsQueryChecked tables query (Err NoMemory) = ⊤
-
--- what a step of the check answers
-abbrev pub IsPassed : {A : Type 0} → Fault → Result A QueryFault → Type 0
-IsPassed fault (Ok a) = fault ≡ None
-IsPassed fault (Err (Refused refusal)) = fault ≡ Some refusal
-IsPassed fault (Err NoMemory) = ⊤

@@ -9,8 +9,9 @@ use Rattle.cond_expr.specs.Trees.{Tree, Test}
 use Rattle.cond_expr.specs.Kinds.{Kinds, kind_of}
 use Rattle.cond_expr.specs.Faults.{untyped, test_untyped, first_of}
 use Rattle.smo_meaning.specs.First.{first_refusal}
-use Rattle.temporal_lang.specs.declared.faults.QueryFault.{QueryFault}
-use Rattle.temporal_lang.specs.declared.faults.QueryFault.TheVariants.{Refused, NoMemory}
+use Rattle.prima_base.specs.declared.refusals.Refusal.{Refusal}
+use Rattle.prima_base.specs.declared.faults.CallFault.{CallFault}
+use Rattle.prima_base.specs.declared.faults.CallFault.TheVariants.{Refused, NoMemory}
 use Rattle.temporal_lang.specs.declared.typing.Typed.{Typed}
 use Rattle.plain_answers.specs.Branches.{PlainBranch}
 use Rattle.temporal_lang.specs.Checking.{trees_types, outputs_nodes, branch_types, branch_nodes, types_from, output_kinds}
@@ -24,7 +25,7 @@ abbrev pub IsTypedTest : Kinds → ℕ → Test → Result (Unit {0}) ℕ → Ty
 IsTypedTest of at c (Ok u) = first_of (test_untyped of 0 c) ≡ None
 IsTypedTest of at c (Err place) = option_map (λ p. at + p) (first_of (test_untyped of 0 c)) ≡ Some place
 
-abbrev pub OutputsTyped : Kinds → ℕ → List Tree → Result Typed QueryFault → Type 0
+abbrev pub OutputsTyped : Kinds → ℕ → List Tree → Result Typed (CallFault Refusal) → Type 0
 OutputsTyped of at ts (Ok typed) = record {
   fine : first_refusal (trees_types of at ts) ≡ None;
   kinds : map Some typed.kinds.items ≡ map (kind_of of) ts;
@@ -33,7 +34,7 @@ OutputsTyped of at ts (Ok typed) = record {
 OutputsTyped of at ts (Err (Refused refusal)) = first_refusal (trees_types of at ts) ≡ Some refusal
 OutputsTyped of at ts (Err NoMemory) = ⊤
 
-abbrev pub BranchTyped : Kinds → ℕ → PlainBranch → Result Typed QueryFault → Type 0
+abbrev pub BranchTyped : Kinds → ℕ → PlainBranch → Result Typed (CallFault Refusal) → Type 0
 BranchTyped of at b (Ok typed) = record {
   fine : first_refusal (branch_types of at b) ≡ None;
   kinds : map Some typed.kinds.items ≡ map (kind_of of) b.outs;
@@ -46,7 +47,7 @@ BranchTyped of at b (Err NoMemory) = ⊤
 abbrev pub kind_lists : List (Vec ColType Global) → List (List (Option ColType))
 kind_lists kinds = map (λ (v : Vec ColType Global). map Some v.items) kinds
 
-abbrev pub BranchesTyped : Tables → List PlainBranch → Result (Vec (Vec ColType Global) Global) QueryFault → Type 0
+abbrev pub BranchesTyped : Tables → List PlainBranch → Result (Vec (Vec ColType Global) Global) (CallFault Refusal) → Type 0
 BranchesTyped tables branches (Ok kinds) = (first_refusal (types_from tables 0 branches) ≡ None) × (kind_lists kinds.items ≡ map (output_kinds tables) branches)
 BranchesTyped tables branches (Err (Refused refusal)) = first_refusal (types_from tables 0 branches) ≡ Some refusal
 BranchesTyped tables branches (Err NoMemory) = ⊤

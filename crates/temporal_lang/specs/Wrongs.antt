@@ -1,10 +1,8 @@
 -- What is wrong with a query, as it is found: named by what the query lends.
-use Rattle.std.specs.Prelude.{List, map, Option}
-use Rattle.std.specs.Borrow.{Bor}
+use Rattle.std.specs.Prelude.{Option}
 use Rattle.std.specs.Option.{option_map}
 use Rattle.prima_base.specs.declared.refusals.Refusal.{Refusal}
 use Rattle.prima_base.specs.declared.refusals.Refusal.TheVariants as refusal
-use Rattle.cond_expr.specs.declared.exprs.ColRef.{ColRef}
 use Rattle.smo_meaning.specs.Checks.{Fault}
 use Rattle.temporal_lang.specs.declared.wrongs.Wrong.{Wrong}
 use Rattle.temporal_lang.specs.declared.wrongs.Wrong.TheVariants.{NoTable, NoColumn, Ambiguous, WrongType, Arity, EmptyPeriod, TooMany}
@@ -21,7 +19,3 @@ refusal_of (TooMany what limit) = refusal.TooMany what limit
 -- the refusal of what was found, if something was
 abbrev pub fault_of : Option Wrong → Fault
 fault_of wrong = option_map refusal_of wrong
-
--- the references that are lent
-abbrev pub lent : List (Bor ColRef) → List ColRef
-lent references = map (λ (r : Bor ColRef). r.now) references

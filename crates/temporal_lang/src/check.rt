@@ -1,5 +1,6 @@
 ghost use Rattle.std.specs.Prelude.{◌≡◌, IfOk, IsOkUnless, IsErrOf, ◌⊎◌, Some, None};
 ghost use Rattle.prima_base.specs.declared.refusals.Refusal.{Refusal as OneRefusal};
+ghost use Rattle.prima_base.specs.declared.faults.CallFault.TheVariants.{Refused, NoMemory as OutOfMemory};
 ghost use Rattle.temporal_lang.specs.Queries.{query_of, IsLasting};
 ghost use Rattle.temporal_lang.specs.Checking.{query_fault, IsQueryChecked};
 
@@ -23,9 +24,9 @@ use std::alloc::Global;
 /// to an atom already is refused as an unknown column.
 pub fn check_query(alloc: Global, schema: &Schema, query: &Query) -> Result<Query, QueryFault>
     ensures checked { IsQueryChecked schema.now (query_of query.now) result }
-    ensures accepted { query_fault schema.now (query_of query.now) ≡ None → IsOkUnless result QueryFault.NoMemory }
+    ensures accepted { query_fault schema.now (query_of query.now) ≡ None → IsOkUnless result OutOfMemory }
     ensures refused { (r : OneRefusal) → query_fault schema.now (query_of query.now) ≡ Some r
-        → IsErrOf result (QueryFault.Refused r) ⊎ IsErrOf result QueryFault.NoMemory }
+        → IsErrOf result (Refused r) ⊎ IsErrOf result OutOfMemory }
     ensures lasting { IfOk result (λ q. IsLasting q.when) }
 {
     if let Err((what, limit)) = check_query_counts(query) {

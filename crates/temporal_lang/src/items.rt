@@ -2,7 +2,6 @@ ghost use Rattle.std.specs.Prelude.{◌≡◌, ◌≤◌, length, map, Some};
 ghost use Rattle.std.specs.FinMap.{contains_key};
 ghost use Rattle.prima_base.specs.Columns.{names_of};
 ghost use Rattle.schema_catalog.specs.Tables.{Tables};
-ghost use Rattle.smo_meaning.specs.OneRow.{same};
 ghost use Rattle.smo_meaning.specs.Effects.{columns_of};
 ghost use Rattle.smo_meaning.specs.Preconditions.{among};
 ghost use Rattle.smo_meaning.specs.First.{first_refusal};
@@ -12,14 +11,8 @@ ghost use Rattle.temporal_lang.specs.Checking.{item_tests, holders};
 ghost use Rattle.temporal_lang.specs.Wrongs.{fault_of};
 
 use crate::wrongs::Wrong;
-use prima_base::{ColType, Name};
+use prima_base::{ColType, Name, same_name};
 use schema_catalog::Schema;
-
-fn same_name(a: &Name, b: &Name) -> bool
-    ensures { result ≡ same a.now b.now }
-{
-    a.bytes() == b.bytes()
-}
 
 // Whether one of the columns has the name. A table has few columns, so they are looked through.
 fn is_named(columns: &[(Name, ColType)], name: &Name) -> bool

@@ -2,8 +2,10 @@ ghost use Rattle.std.specs.Prelude.{◌≡◌, map};
 ghost use Rattle.smo_meaning.specs.First.{first_refusal};
 ghost use Rattle.temporal_lang.specs.Branches.{branch_of, branches_of};
 ghost use Rattle.temporal_lang.specs.Atoms.{sources_of};
-ghost use Rattle.temporal_lang.specs.Checking.{IsPassed, whose_fault, column_fault, reference_test, branch_names, names_tests};
-ghost use Rattle.temporal_lang.specs.Wrongs.{fault_of, lent};
+ghost use Rattle.prima_base.specs.Faults.{IsTested};
+ghost use Rattle.temporal_lang.specs.Checking.{whose_fault, column_fault, reference_test, branch_names, names_tests};
+ghost use Rattle.cond_expr.specs.References.{lent};
+ghost use Rattle.temporal_lang.specs.Wrongs.{fault_of};
 
 use crate::items::{alias_place, column_place, has_column, holders_of, wrong_item};
 use crate::references::gather_branch;
@@ -79,7 +81,7 @@ fn wrong_of_all<'a>(
 
 // Of a branch the items of its FROM, and then its references, from left to right.
 fn check_branch_names(alloc: Global, schema: &Schema, branch: &Branch) -> Result<(), QueryFault>
-    ensures { IsPassed (first_refusal (branch_names schema.now (branch_of branch.now))) result }
+    ensures { IsTested (first_refusal (branch_names schema.now (branch_of branch.now))) result }
 {
     refuse(wrong_item(schema, &branch.from))?;
     let mut references = Vec::new(alloc);
@@ -93,7 +95,7 @@ pub(crate) fn check_names(
     schema: &Schema,
     branches: &[Branch],
 ) -> Result<(), QueryFault>
-    ensures { IsPassed (first_refusal (names_tests schema.now (branches_of branches.now))) result }
+    ensures { IsTested (first_refusal (names_tests schema.now (branches_of branches.now))) result }
 {
     for branch in branches {
         check_branch_names(alloc, schema, branch)?;

@@ -1,6 +1,6 @@
 ghost use Rattle.std.specs.Prelude.{◌≡◌, IfOk};
 ghost use Rattle.temporal_lang.specs.Wrongs.{refusal_of, fault_of};
-ghost use Rattle.temporal_lang.specs.Checking.{IsPassed};
+ghost use Rattle.prima_base.specs.Faults.{IsTested};
 
 use crate::QueryFault;
 use crate::wrongs::Wrong;
@@ -23,7 +23,7 @@ fn refusal_of(wrong: Wrong<'_>) -> Result<Refusal, NoMemory>
 
 // Nothing where nothing was found, and else the refusal of what was.
 pub(crate) fn refuse(wrong: Option<Wrong<'_>>) -> Result<(), QueryFault>
-    ensures { IsPassed (fault_of wrong.entry) result }
+    ensures { IsTested (fault_of wrong.entry) result }
 {
     match wrong {
         Some(wrong) => Err(QueryFault::Refused(refusal_of(wrong)?)),

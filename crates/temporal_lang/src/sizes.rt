@@ -12,26 +12,21 @@ ghost use Rattle.std.specs.Result.{result_err};
 use crate::{Branch, Query};
 use cond_expr::{Cond, Expr, TreeSize, cond_size, expr_size};
 use prima_base::What;
-
-const MAX_OUTPUTS: usize = 32;
-
-const MAX_TABLES: usize = 8;
-
-const MAX_BRANCHES: usize = 16;
-
-const MAX_KEEPS: usize = 8;
+use prima_base::limits::{
+    MAX_BRANCH_TABLES, MAX_BRANCHES, MAX_DEPTH, MAX_KEEPS, MAX_NODES, MAX_OUTPUTS, MAX_PARTS,
+};
 
 fn check_size(size: TreeSize) -> Result<(), (What, u64)>
     ensures { result_err result ≡ first_refusal (at_most Nodes 256 size.nodes ∷ at_most Depth 32 size.depth ∷ at_most Parts 8 size.parts ∷ []) }
 {
-    if size.nodes > 256 {
-        return Err((What::Nodes, 256));
+    if size.nodes > MAX_NODES {
+        return Err((What::Nodes, MAX_NODES));
     }
-    if size.depth > 32 {
-        return Err((What::Depth, 32));
+    if size.depth > MAX_DEPTH {
+        return Err((What::Depth, MAX_DEPTH));
     }
-    if size.parts > 8 {
-        return Err((What::Parts, 8));
+    if size.parts > MAX_PARTS {
+        return Err((What::Parts, MAX_PARTS));
     }
     Ok(())
 }
@@ -73,8 +68,8 @@ fn check_branch(branch: &Branch) -> Result<(), (What, u64)>
     ensures { result_err result ≡ first_refusal (branch_counts (branch_of branch.now)) }
 {
     check_some_outputs(&branch.outs)?;
-    if branch.from.len() > MAX_TABLES {
-        return Err((What::Tables, MAX_TABLES as u64));
+    if branch.from.len() > MAX_BRANCH_TABLES {
+        return Err((What::Tables, MAX_BRANCH_TABLES as u64));
     }
     check_condition(&branch.cond)
 }

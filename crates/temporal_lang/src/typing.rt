@@ -6,7 +6,8 @@ ghost use Rattle.cond_expr.specs.Kinds.{kinds_of};
 ghost use Rattle.cond_expr.specs.Faults.{references, test_references, first_unknown};
 ghost use Rattle.temporal_lang.specs.Branches.{branch_of, branches_of};
 ghost use Rattle.temporal_lang.specs.Atoms.{atom_kinds};
-ghost use Rattle.temporal_lang.specs.Checking.{IsPassed, typing_tests, outputs_nodes, branch_references, branch_nodes};
+ghost use Rattle.prima_base.specs.Faults.{IsTested};
+ghost use Rattle.temporal_lang.specs.Checking.{typing_tests, outputs_nodes, branch_references, branch_nodes};
 ghost use Rattle.smo_meaning.specs.First.{first_refusal};
 ghost use Rattle.temporal_lang.specs.Resolved.{AreSmall, IsSmall, AllSmall, HaveFew, AllKnown};
 ghost use Rattle.temporal_lang.specs.Typings.{IsTyped, IsTypedTest, OutputsTyped, BranchTyped, BranchesTyped};
@@ -16,7 +17,7 @@ use crate::atoms::atom_columns;
 use crate::lists::{push, with_room};
 use crate::refusing::refuse;
 use crate::{Branch, QueryFault};
-use cond_expr::{Column, Cond, Expr, TypeFault, check_cond, cond_size, expr_size, type_of};
+use cond_expr::{Column, Cond, Expr, cond_size, expr_size, typed_cond, typed_expr};
 use prima_base::{ColType, Refusal};
 use schema_catalog::Schema;
 use std::alloc::Global;
@@ -35,13 +36,9 @@ fn type_expr(expr: &Expr, columns: &[Column], at: u32) -> Result<ColType, u32>
     requires known { first_unknown (kinds_of columns.now) (references (tree expr.now)) ≡ None }
     ensures { IsTyped (kinds_of columns.now) at (tree expr.now) result }
 {
-    match type_of(expr, columns) {
+    match typed_expr(expr, columns) {
         Ok(kind) => Ok(kind),
-        Err(fault) => match fault {
-            TypeFault::WrongType(place) => Err(at + place),
-            TypeFault::NoColumn(_) => unreachable!(),
-            TypeFault::NoMemory => unreachable!(),
-        },
+        Err(place) => Err(at + place),
     }
 }
 
@@ -52,13 +49,9 @@ fn type_cond(cond: &Cond, columns: &[Column], at: u32) -> Result<(), u32>
     requires known { first_unknown (kinds_of columns.now) (test_references (test cond.now)) ≡ None }
     ensures { IsTypedTest (kinds_of columns.now) at (test cond.now) result }
 {
-    match check_cond(cond, columns) {
+    match typed_cond(cond, columns) {
         Ok(()) => Ok(()),
-        Err(fault) => match fault {
-            TypeFault::WrongType(place) => Err(at + place),
-            TypeFault::NoColumn(_) => unreachable!(),
-            TypeFault::NoMemory => unreachable!(),
-        },
+        Err(place) => Err(at + place),
     }
 }
 
@@ -142,7 +135,7 @@ pub(crate) fn check_typing(
     requires few { HaveFew (branches_of branches.now) }
     requires small { AllSmall (branches_of branches.now) }
     requires known { AllKnown schema.now (branches_of branches.now) }
-    ensures { IsPassed (first_refusal (typing_tests schema.now (branches_of branches.now))) result }
+    ensures { IsTested (first_refusal (typing_tests schema.now (branches_of branches.now))) result }
 {
     let kinds = type_branches(alloc, schema, branches)?;
     refuse(wrong_arity(&kinds))

@@ -1,7 +1,7 @@
 //! Reading of names and constants, where a statement has them: each is one token.
 
 ghost use Rattle.std.specs.Prelude.{◌≡◌, ◌+◌, ◌≤◌, ◌<◌, length, drop, map, IfOk, IfErr, codes};
-ghost use Rattle.prima_base.specs.Bytes.{IsName, IsTxt};
+ghost use Rattle.prima_base.specs.Bytes.{IsName};
 ghost use Rattle.lexical_grammar.specs.declared.kinds.TokenKind.TheVariants as kind;
 ghost use Rattle.lexical_grammar.specs.declared.pieces.Piece.TheVariants.{Of};
 ghost use Rattle.lexical_grammar.specs.Bytes.{text_value, piece};
@@ -14,7 +14,7 @@ use crate::numbers::{int_value, natural_value};
 use crate::words::is_name;
 use lexical_grammar::TokenKind;
 use parser_combinators::{Cursor, Stop};
-use prima_base::{FOREVER, Name, NameFault, Txt, TxtFault, Value};
+use prima_base::{FOREVER, Name, Txt, Value};
 use std::alloc::Global;
 
 // The bytes that a text literal stands for, from behind its opening quote on.
@@ -45,24 +45,7 @@ pub fn name_of(alloc: Global, text: &[u8]) -> Result<Name, Stop>
     ensures ok { IfOk result (λ n. n ≡ text.now) }
     ensures err { IfErr result (λ e. e ≡ stop.NoMemory) }
 {
-    match Name::new(alloc, text) {
-        Ok(name) => Ok(name),
-        Err(NameFault::NoMemory) => Err(Stop::NoMemory),
-        Err(_) => unreachable!(),
-    }
-}
-
-// The text of these bytes. Only memory can be missing.
-fn lawful_text(alloc: Global, bytes: &[u8]) -> Result<Txt, Stop>
-    requires { IsTxt bytes.now }
-    ensures ok { IfOk result (λ t. t ≡ bytes.now) }
-    ensures err { IfErr result (λ e. e ≡ stop.NoMemory) }
-{
-    match Txt::new(alloc, bytes) {
-        Ok(text) => Ok(text),
-        Err(TxtFault::NoMemory) => Err(Stop::NoMemory),
-        Err(_) => unreachable!(),
-    }
+    Ok(Name::of(alloc, text)?)
 }
 
 /// The text that a whole literal stands for. Only memory can be missing.
@@ -73,7 +56,7 @@ pub fn text_of(alloc: Global, literal: &[u8]) -> Result<Txt, Stop>
     ensures err { IfErr result (λ e. e ≡ stop.NoMemory) }
 {
     let bytes = undoubled(alloc, &literal[1..])?;
-    lawful_text(alloc, &bytes)
+    Ok(Txt::of(alloc, &bytes)?)
 }
 
 /// A name: a word of at most 63 bytes that is not reserved.

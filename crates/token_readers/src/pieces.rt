@@ -6,8 +6,7 @@ ghost use Rattle.prima_base.specs.Bytes as base;
 ghost use Rattle.lexical_grammar.specs.Bytes as spec;
 
 use lexical_grammar::{Piece, TokenKind};
-
-const MAX_TEXT: usize = 4096;
+use prima_base::limits::MAX_TEXT;
 
 fn is_digit(b: u8) -> bool
     ensures { result ≡ base.is_digit b }

@@ -3,7 +3,7 @@
 ghost use Rattle.std.specs.Prelude.{◌≡◌, map};
 ghost use Rattle.lexical_grammar.specs.Lexemes.{is_name, is_one_of, reserved};
 
-const MAX_NAME: usize = 63;
+use prima_base::limits::MAX_NAME;
 
 const RESERVED: [&[u8]; 60] = [
     b"ADD",

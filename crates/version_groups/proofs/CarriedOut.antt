@@ -12,6 +12,7 @@ use Rattle.smo_types.specs.declared.versions.Version.{Version}
 use Rattle.smo_meaning.specs.Effects.{rows_at}
 use Rattle.smo_meaning.specs.OneRow.{Relation}
 use Rattle.smo_meaning.specs.Accepts.{command_fault}
+use Rattle.smo_meaning.specs.LawfulValues.{BodyHolds}
 use Rattle.smo_types.specs.Commands.{PlainBody, changing, evolving, PlainCommand, PlainVersion, version_of}
 use Rattle.smo_meaning.specs.Past.{Past, next_version, database_behind, past_with}
 use Rattle.version_groups.specs.declared.made_tables.MadeTable.{MadeTable}
@@ -29,21 +30,21 @@ as_many kept past shows = sym (length-map kept.versions version_of) ∙ ap lengt
 
 module _ (kept new : Kept) (past : Past) (shows : Shows kept past) where
   pub changes_made : (plans : List (Option Plan)) → HasChanges kept new plans → (stamp : ℕ) (body : PlainBody) → stamp < forever → command_fault past (a_command stamp body) ≡ None
-      → IsStep kept past stamp body (changed plans) → Shows new (past_with past (a_command stamp body))
-  changes_made plans m stamp (evolving op inverse) lawful accepted ready = absurd ready
-  changes_made plans m stamp (changing changes) lawful accepted ready =
+      → BodyHolds body → IsStep kept past stamp body (changed plans) → Shows new (past_with past (a_command stamp body))
+  changes_made plans m stamp (evolving op inverse) lawful accepted hold ready = absurd ready
+  changes_made plans m stamp (changing changes) lawful accepted hold ready =
       let n = as_many kept past shows in
-      shows_changed kept past stamp changes shows lawful accepted new plans (ap (map version_of) m.versions) (λ k l. m.groups k (omega (arith, l, n)))
+      shows_changed kept past stamp changes shows lawful accepted hold new plans (ap (map version_of) m.versions) (λ k l. m.groups k (omega (arith, l, n)))
       (subst (λ j. length (group_of new j) ≡ length (group_of kept j)) n m.made.count)
       (subst (λ j. AreChanges stamp (database_behind (changing changes) past) (group_of kept j) plans) n ready)
       (subst (λ j. (k : ℕ) (d : MadeTable) → k < length (group_of kept j) → IsMade (get_or (group_of kept j) k d) (get_or plans k None) (get_or (group_of new j) k d)) n m.made.each)
 
   pub version_made : (made : Version) (tables : List MadeTable) → HasVersion kept new made tables → (stamp : ℕ) (body : PlainBody) → stamp < forever → command_fault past (a_command stamp body) ≡ None
-      → IsStep kept past stamp body (evolved (version_of made) tables) → Shows new (past_with past (a_command stamp body))
-  version_made made tables m stamp (changing changes) lawful accepted ready = absurd ready
-  version_made made tables m stamp (evolving op inverse) lawful accepted ready =
+      → BodyHolds body → IsStep kept past stamp body (evolved (version_of made) tables) → Shows new (past_with past (a_command stamp body))
+  version_made made tables m stamp (changing changes) lawful accepted hold ready = absurd ready
+  version_made made tables m stamp (evolving op inverse) lawful accepted hold ready =
       let n = as_many kept past shows in
-      shows_evolved kept past stamp op inverse shows lawful accepted new (version_of made) tables ready
+      shows_evolved kept past stamp op inverse shows lawful accepted hold new (version_of made) tables ready
       (ap (map version_of) m.versions ∙ map-append version_of kept.versions (made ∷ [])) (λ k l. m.groups k (omega (arith, l, n)))
       (subst (λ j. group_of new (j + 1) ≡ tables) n m.last)
 

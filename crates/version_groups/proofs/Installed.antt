@@ -16,8 +16,10 @@ use Rattle.smo_types.specs.Operators.{Operator}
 use Rattle.smo_meaning.specs.OneRow.{Relation}
 use Rattle.smo_meaning.specs.Effects.{rows_at}
 use Rattle.smo_meaning.specs.LawfulPast.{last_or_nought, IsLater, IsPast}
+use Rattle.smo_meaning.specs.LawfulValues.{BodyHolds, PastHolds}
 use Rattle.smo_meaning.specs.Past.{Past, no_tables, no_database, tables_of, tables_from, version_at, database_at, newest_database, next_version, database_behind, past_with}
 use Rattle.smo_meaning.proofs.PastLaws.{newest_holds, up_to_later}
+use Rattle.smo_meaning.proofs.ValueLaws.{past_stays}
 use Rattle.smo_meaning.proofs.PastSteps.{counts_accepted, stamp_accepted, later_stamp, body_accepted, stays_lawful, before_command, from_command}
 use Rattle.version_groups.specs.declared.made_tables.MadeTable.{MadeTable}
 use Rattle.version_groups.specs.Groups.{Kept, versions_in, group_of, table_in, stored_as}
@@ -74,6 +76,9 @@ module _ (kept : Kept) (past : Past) (stamp : ℕ) (body : PlainBody) (shows : S
 
   pub next_is_lawful : IsPast next
   next_is_lawful = stays_lawful past stamp body shows.lawful (stamp_accepted past (a_command stamp body) accepted) (counts_accepted past (a_command stamp body) accepted) (body_accepted past (a_command stamp body) accepted)
+
+  pub next_holds : BodyHolds body → PastHolds next
+  next_holds hold = past_stays past (a_command stamp body) shows.lawful accepted hold shows.values
 
   pub all_later : (m : ℕ) → stamp < m → IsLater past.last m
   all_later m l = still_later past.last stamp m later (omega (arith, l))
@@ -172,13 +177,14 @@ module _ (kept : Kept) (past : Past) (stamp : ℕ) (changes : List PlainChange) 
           }
 
   -- the changes are made
-  pub shows_changed : (new : Kept) (plans : List (Option Plan)) → versions_in new ≡ versions_in kept → ((k : ℕ) → k < length past.versions → group_of new k ≡ group_of kept k)
+  pub shows_changed : BodyHolds (changing changes) → (new : Kept) (plans : List (Option Plan)) → versions_in new ≡ versions_in kept → ((k : ℕ) → k < length past.versions → group_of new k ≡ group_of kept k)
       → length (group_of new (length past.versions)) ≡ length (group_of kept (length past.versions))
       → AreChanges stamp (database_behind (changing changes) past) (group_of kept (length past.versions)) plans
       → ((k : ℕ) (d : MadeTable) → k < length (group_of kept (length past.versions)) → IsMade (get_or (group_of kept (length past.versions)) k d) (get_or plans k None) (get_or (group_of new (length past.versions)) k d))
       → Shows new behind
-  shows_changed new plans versions groups count ready made = record {
+  shows_changed hold new plans versions groups count ready made = record {
     lawful = next_is_lawful kept past stamp (changing changes) shows lawful accepted;
+    values = next_holds kept past stamp (changing changes) shows lawful accepted hold;
     ends = lawful;
     versions = versions ∙ shows.versions;
     tables = λ k name l. elim (newest_or_not k n l) [
@@ -278,11 +284,12 @@ module _ (kept : Kept) (past : Past) (stamp : ℕ) (op : Operator) (inverse : Li
           omega (arith, e, n, few)
 
   -- the version is there, with its tables
-  pub shows_evolved : (new : Kept) (made : PlainVersion) (tables : List MadeTable) → IsNextVersion kept version (database_behind (evolving op inverse) past) made tables
+  pub shows_evolved : BodyHolds (evolving op inverse) → (new : Kept) (made : PlainVersion) (tables : List MadeTable) → IsNextVersion kept version (database_behind (evolving op inverse) past) made tables
       → versions_in new ≡ versions_in kept ++ made ∷ [] → ((k : ℕ) → k ≤ length past.versions → group_of new k ≡ group_of kept k) → group_of new (length past.versions + 1) ≡ tables
       → Shows new evolved
-  shows_evolved new made tables is versions groups last = record {
+  shows_evolved hold new made tables is versions groups last = record {
     lawful = is_past;
+    values = next_holds kept past stamp (evolving op inverse) shows lawful accepted hold;
     ends = lawful;
     versions = versions ∙ ap (λ (vs : List PlainVersion). vs ++ made ∷ []) shows.versions ∙ ap (λ (v : PlainVersion). past.versions ++ v ∷ []) is.version;
     tables = λ k name l. each k name (before_or_not n k) (subst (λ j. k ≤ j) one_more l);

@@ -1,6 +1,7 @@
 -- What was made ready, of a past that is shown.
 use Rattle.std.proofs.Common.{◌≡◌, ◌≤◌, ◌<◌, ◌+◌, ℕ, suc, zero, Bool, true, false, List, [], ◌∷◌, ◌++◌, map, length, get_or, refl, sym, ap, subst, ◌∙◌, arith, inl, inr}
-use Rattle.std.specs.Prelude.{Option, Some, None, ◌⊎◌, ◌^◌, nat_lt}
+use Rattle.std.specs.Prelude.{Option, Some, None, ◌⊎◌, ◌^◌, nat_lt, Result, Ok, Err, OnOk}
+use Rattle.std.specs.Result.{result_err}
 use Rattle.std.specs.Option.{option_map}
 use Rattle.std.specs.FinMap.{get, get-empty}
 use Rattle.relations.specs.Sets.{Ascends}
@@ -16,7 +17,9 @@ use Rattle.smo_meaning.specs.Accepts.{command_fault, count_fault, stamp_fault, r
 use Rattle.smo_meaning.specs.After.{op_fault, HasFewNodes}
 use Rattle.smo_meaning.specs.Counts.{first_excess}
 use Rattle.smo_meaning.specs.First.{unless, first_refusal}
+use Rattle.smo_meaning.specs.LawfulValues.{BodyHolds}
 use Rattle.smo_meaning.specs.Inverses.{inverse_tests}
+use Rattle.prima_base.specs.declared.refusals.What.{What}
 use Rattle.prima_base.specs.declared.refusals.What.TheVariants.{Versions}
 use Rattle.prima_base.specs.declared.refusals.Refusal.TheVariants.{TooMany as OverLimit}
 use Rattle.std.proofs.lemmas.Bool.Decides.{nat_tests}
@@ -26,7 +29,8 @@ use Rattle.smo_types.specs.Changes.{PlainChange}
 use Rattle.smo_types.specs.Commands.{PlainBody, changing, evolving, PlainCommand, PlainVersion, version_of, body_of, command_of}
 use Rattle.smo_types.specs.Operators.{Operator}
 use Rattle.smo_meaning.specs.Past.{Past, beginning, no_tables, newest_from, tables_of, version_at, newest_tables, newest_database, next_version, database_behind}
-use Rattle.smo_meaning.proofs.PastSteps.{beginning_is_past, body_accepted}
+use Rattle.smo_meaning.proofs.PastSteps.{beginning_is_past, body_accepted, counts_accepted}
+use Rattle.smo_meaning.proofs.ValueLaws.{beginning_holds}
 use Rattle.version_groups.specs.declared.made_tables.MadeTable.{MadeTable}
 use Rattle.version_groups.specs.declared.next.Step.{Step}
 use Rattle.version_groups.specs.Groups.{Kept, versions_in, group_of, newest_group, table_in, stored_as, names_of}
@@ -52,6 +56,7 @@ none_stored (suc k) name groups e = ap (λ (gs : List (List MadeTable)). stored_
 pub new_shows : (kept : Kept) → kept.versions ≡ [] → kept.groups ≡ [] ∷ [] → Shows kept beginning
 new_shows kept versions groups = record {
   lawful = beginning_is_past;
+  values = beginning_holds;
   ends = omega arith;
   versions = ap (map version_of) versions;
   tables = λ k name l.
@@ -73,6 +78,7 @@ still_shown past k name t u same columns h =
 pub shows_same : (old new : Kept) → IsSame old new → (past : Past) → Shows old past → Shows new past
 shows_same old new same past shows = record {
   lawful = shows.lawful;
+  values = shows.values;
   ends = shows.ends;
   versions = ap (map version_of) same.versions ∙ shows.versions;
   tables = λ k name l. entry k name (paired IsSameTable (λ t u h. h.name) name (group_of old k) (group_of new k) (same.groups k).count (same.groups k).each) (shows.tables k name l);
@@ -107,9 +113,9 @@ module _ (kept : Kept) (past : Past) (stamp : ℕ) (changes : List PlainChange) 
       (changeable (newest_tables past) (newest_database past) stamp (group_of kept (length past.versions)) in_order (stands kept past stamp (changing changes) shows lawful accepted) changes
       (body_accepted past (a_command stamp (changing changes)) accepted))
 
-  pub changes_ready : (new : Kept) → IsSame kept new → (plans : List (Option Plan)) → AreReady stamp changes (newest_group new) plans → (next : Readied) → step_of next.step ≡ changed plans
+  pub changes_ready : BodyHolds (changing changes) → (new : Kept) → IsSame kept new → (plans : List (Option Plan)) → AreReady stamp changes (newest_group new) plans → (next : Readied) → step_of next.step ≡ changed plans
       → next.gained ≡ all_gained stamp changes (newest_group kept) → next.lost ≡ all_lost stamp changes (newest_group kept) → Prepares new past (a_command stamp (changing changes)) next
-  changes_ready new same plans ready next is gains loses =
+  changes_ready hold new same plans ready next is gains loses =
       let n = length past.versions in
       let e : length new.versions ≡ length past.versions = ap length same.versions ∙ number in
       let stored = stands kept past stamp (changing changes) shows lawful accepted in
@@ -120,6 +126,7 @@ module _ (kept : Kept) (past : Past) (stamp : ℕ) (changes : List PlainChange) 
         ready = record {
           accepted = accepted;
           lawful = lawful;
+          constants = hold;
           step = subst (IsStep new past stamp (changing changes)) (sym is)
               (subst (λ j. AreChanges stamp (database_behind (changing changes) past) (group_of new j) plans) (sym e)
               (are_changes (newest_tables past) (newest_database past) stamp (group_of kept n) in_order stored shows.lawful.database changes (group_of new n) plans
@@ -138,6 +145,11 @@ command_is c stamp body e b = ap (λ n. a_command n body) e ∙ ap (a_command c.
 pub schema_is : (kept : Kept) (past : Past) → Shows kept past → (nothing : Tables) (versions : List Version) → nothing ≡ no_tables → versions ≡ kept.versions → newest_from nothing (map version_of versions) ≡ newest_tables past
 schema_is kept past shows nothing versions n e =
     ap (λ t. newest_from t (map version_of versions)) n ∙ ap (newest_from no_tables) (ap (map version_of) e ∙ shows.versions)
+
+-- what holds where no count is too large holds, where none is
+pub counted_hold : (r : Result (Unit {0}) (What × ℕ)) (body : PlainBody) → first_excess body ≡ None → result_err r ≡ first_excess body → OnOk r (BodyHolds body) → BodyHolds body
+counted_hold (Ok u) body few is h = h
+counted_hold (Err e) body few is h = absurd (cc)
 
 -- ---- an operator
 
@@ -168,13 +180,14 @@ module _ (kept : Kept) (past : Past) (stamp : ℕ) (op : Operator) (inverse : Li
   pub stored_now : AreStored (newest_tables past) (newest_database past) stamp (newest_group kept)
   stored_now = subst (λ j. AreStored (newest_tables past) (newest_database past) stamp (group_of kept j)) (sym (as_many kept past shows)) (stands kept past stamp (evolving op inverse) shows lawful accepted)
 
-  pub operator_ready : (new : Kept) → IsSame kept new → 1 ≤ new.spare → (version : Version) (tables : List MadeTable)
+  pub operator_ready : BodyHolds (evolving op inverse) → (new : Kept) → IsSame kept new → 1 ≤ new.spare → (version : Version) (tables : List MadeTable)
       → IsEvolved (newest_tables past) (newest_database past) stamp op inverse (version_of version) tables → (next : Readied) → step_of next.step ≡ evolved (version_of version) tables
       → next.gained ≡ 0 → next.lost ≡ 0 → Prepares new past (a_command stamp (evolving op inverse)) next
-  operator_ready new same room version tables h next is g l = record {
+  operator_ready hold new same room version tables h next is g l = record {
     ready = record {
       accepted = accepted;
       lawful = lawful;
+      constants = hold;
       step = subst (IsStep new past stamp (evolving op inverse)) (sym is) (record {
         version = h.version;
         ordered = h.ordered;

@@ -8,6 +8,7 @@ use Rattle.smo_types.specs.Commands.{PlainVersion}
 use Rattle.smo_meaning.specs.Effects.{rows_at}
 use Rattle.smo_meaning.specs.InForce.{in_force}
 use Rattle.smo_meaning.specs.LawfulPast.{last_or_nought, IsLater, IsPast}
+use Rattle.smo_meaning.specs.LawfulValues.{PastHolds}
 use Rattle.smo_meaning.specs.Past.{Past, tables_of, database_at}
 use Rattle.version_groups.specs.Groups.{Kept, versions_in, table_in}
 
@@ -29,9 +30,11 @@ ShowsEntry past k name None (Some store) = ⊥
 ShowsEntry past k name (Some columns) None = ⊥
 ShowsEntry past k name (Some columns) (Some store) = ShowsTable past k name columns store
 
--- the versions are those of the past, and so is each table of each version at each moment at which it is in force
+-- the past is lawful and holds lawful values; the versions are those of the past, and so is each table of each version at
+-- each moment at which it is in force
 pub record Shows (kept : Kept) (past : Past) : Type 0 where
   pub lawful : IsPast past
+  pub values : PastHolds past
   pub ends : last_or_nought past.last < forever
   pub versions : versions_in kept ≡ past.versions
   pub tables : (k : ℕ) → (name : List ℕ) → k ≤ length past.versions → ShowsEntry past k name (get (tables_of past k) name) (table_in kept k name)

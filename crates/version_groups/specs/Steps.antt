@@ -9,6 +9,7 @@ use Rattle.history_store.specs.Store.{Store}
 use Rattle.history_store.specs.Change.{Plan}
 use Rattle.schema_catalog.specs.Databases.{Database}
 use Rattle.smo_meaning.specs.Accepts.{command_fault}
+use Rattle.smo_meaning.specs.LawfulValues.{BodyHolds}
 use Rattle.smo_types.specs.Commands.{PlainBody, changing, evolving, PlainCommand, PlainVersion, version_of}
 use Rattle.smo_meaning.specs.Effects.{rows_at, gained, lost}
 use Rattle.smo_meaning.specs.OneRow.{Relation}
@@ -62,10 +63,12 @@ IsStep kept past stamp (evolving op inverse) (changed plans) = ⊥
 IsStep kept past stamp (evolving op inverse) (evolved version tables) =
     IsNextVersion kept (next_version stamp op inverse past) (database_behind (evolving op inverse) past) version tables
 
--- the command is accepted after the past, and what it does was made ready from these groups, which have the room for it
+-- the command is accepted after the past, its constants are lawful values, and what it does was made ready from these
+-- groups, which have the room for it
 pub record IsReady (kept : Kept) (past : Past) (command : PlainCommand) (next : Readied) : Type 0 where
   pub accepted : command_fault past command ≡ None
   pub lawful : command.stamp < forever
+  pub constants : BodyHolds command.body
   pub step : IsStep kept past command.stamp command.body (step_of next.step)
 
 -- the rows that the command gains and loses, over all tables; none where it makes a version

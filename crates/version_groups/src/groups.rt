@@ -5,7 +5,7 @@ use crate::next::{Next, Step};
 use history_store::{Prepared, StoredTable};
 use prima_base::{Name, NoMemory};
 use schema_catalog::Schema;
-use smo_ops::{Body, Change, Command, Op, Version, Versions};
+use smo_ops::{Body, Change, Command, Op, Version, Versions, check_counts};
 use std::alloc::Global;
 use std::marker::Model;
 use std::mem;
@@ -37,8 +37,10 @@ impl Model for Groups {
     ghost invariant = { AreGroups };
 }
 
-ghost use Rattle.std.specs.Prelude.{◌≡◌, ◌-◌, ◌<◌, ◌≤◌, map, length, slice_index, IfOk, OnOk, vec_len, vec_capacity};
-ghost use Rattle.smo_types.specs.Commands.{version_of, versions_of};
+ghost use Rattle.std.specs.Prelude.{◌≡◌, ◌-◌, ◌<◌, ◌≤◌, map, length, slice_index, IfOk, OnOk, None, vec_len, vec_capacity};
+ghost use Rattle.smo_types.specs.Commands.{version_of, versions_of, body_of};
+ghost use Rattle.smo_meaning.specs.Counts.{first_excess};
+ghost use Rattle.smo_meaning.specs.LawfulValues.{BodyHolds};
 ghost use Rattle.smo_meaning.specs.Past.{no_tables, newest_from, tables_from, begun_at};
 
 // How many of the versions begin at the moment or before it.
@@ -74,6 +76,15 @@ fn reserve_one<T: Drop>(list: &mut Vec<T>) -> Result<(), NoMemory>
     Ok(())
 }
 
+// Meets each constant of a command whose counts are within their limits: it is a value of the code, and so a lawful one.
+#[tactic(auto, using(crate::proofs::Readied::counted_hold))]
+fn meet_constants(command: &Command)
+    requires { first_excess (body_of command.now.1) ≡ None }
+    ensures { BodyHolds (body_of command.now.1) }
+{
+    let _counted = check_counts(command);
+}
+
 impl Groups {
     ghost use Rattle.std.specs.Prelude.{◌≡◌, ◌+◌, ◌<◌, ◌≤◌, ◌^◌, List, length, MatchOption, IfOk, OnOk, None};
     ghost use Rattle.std.specs.Option.{option_copied};
@@ -84,6 +95,7 @@ impl Groups {
     ghost use Rattle.smo_types.specs.Changes.{changes_of};
     ghost use Rattle.smo_types.specs.Commands.{command_of, changing, evolving, PlainCommand};
     ghost use Rattle.smo_meaning.specs.Accepts.{command_fault};
+    ghost use Rattle.smo_meaning.specs.LawfulValues.{BodyHolds};
     ghost use Rattle.smo_meaning.specs.Past.{Past, beginning, no_tables, tables_from, version_at, past_with};
     ghost use Rattle.version_groups.specs.Groups.{versions_in, table_in, newest_group, names_of};
     ghost use Rattle.version_groups.specs.Changing.{HaveRoom};
@@ -173,6 +185,7 @@ impl Groups {
         ensures next { (past : Past) → Shows self.old past → command_fault past (command_of command.now) ≡ None
             → IfOk result (λ next. Prepares self.new past (command_of command.now) next) }
     {
+        meet_constants(command);
         match command.body() {
             Body::Changes(changes) => self.prepare_changes(command.stamp(), changes),
             Body::Evolve { op, inverse } => self.prepare_operator(command.stamp(), op, inverse),
@@ -192,9 +205,10 @@ impl Groups {
 
     // Carries out a step of a command that is accepted after the past. It takes no memory.
     fn install_step(&mut self, step: Step)
-        requires { (past : Past) × (command : PlainCommand) × Shows self.old past × (command_fault past command ≡ None) × (command.stamp < forever) × IsStep self.old past command.stamp command.body (step_of step) }
+        requires { (past : Past) × (command : PlainCommand) × Shows self.old past × (command_fault past command ≡ None) × (command.stamp < forever) × BodyHolds command.body
+            × IsStep self.old past command.stamp command.body (step_of step) }
         ensures shows { (past : Past) → (command : PlainCommand) → Shows self.old past → command_fault past command ≡ None → command.stamp < forever
-            → IsStep self.old past command.stamp command.body (step_of step) → Shows self.new (past_with past command) }
+            → BodyHolds command.body → IsStep self.old past command.stamp command.body (step_of step) → Shows self.new (past_with past command) }
         ensures earlier { HasEarlier self.old self.new }
     {
         match step {
@@ -226,6 +240,7 @@ impl Groups {
     // Makes changes ready.
     fn prepare_changes(&mut self, stamp: u64, changes: &[Change]) -> Result<Next, NoMemory>
         requires lawful { stamp < forever }
+        requires constants { BodyHolds (changing (changes_of changes.now)) }
         requires accepted { (past : Past) × Shows self.old past × (command_fault past (a_command stamp (changing (changes_of changes.now))) ≡ None) }
         ensures same { IsSame self.old self.new }
         ensures next { (past : Past) → Shows self.old past → command_fault past (a_command stamp (changing (changes_of changes.now))) ≡ None
@@ -248,6 +263,7 @@ impl Groups {
     // Makes an operator ready.
     fn prepare_operator(&mut self, stamp: u64, op: &Op, inverse: &[Op]) -> Result<Next, NoMemory>
         requires lawful { stamp < forever }
+        requires constants { BodyHolds (evolving (operator_of op.now) (operators_of inverse.now)) }
         requires accepted { (past : Past) × Shows self.old past × (command_fault past (a_command stamp (evolving (operator_of op.now) (operators_of inverse.now))) ≡ None) }
         ensures same { IsSame self.old self.new }
         ensures next { (past : Past) → Shows self.old past → command_fault past (a_command stamp (evolving (operator_of op.now) (operators_of inverse.now))) ≡ None

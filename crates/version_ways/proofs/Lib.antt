@@ -1,6 +1,8 @@
 pub mod WaySteps
 pub mod VersionSteps
+pub mod OneSteps
 pub mod WayDatabases
+pub mod WayValues
 pub mod LossesByName
 pub mod WholeDatabases
 pub mod RoundTrips

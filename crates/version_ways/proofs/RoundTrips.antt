@@ -13,9 +13,9 @@ use Rattle.schema_catalog.specs.Databases.{Entry, Rows, Lost, Database}
 use Rattle.cond_expr.specs.Trees.{Test}
 use Rattle.smo_types.specs.Operators.{rename_table, copy_table, drop_table, partition_table, merge_table}
 use Rattle.smo_meaning.specs.First.{unless}
-use Rattle.smo_meaning.specs.OneRow.{Row, Relation, same, meets}
+use Rattle.smo_meaning.specs.OneRow.{Row, same, meets}
 use Rattle.smo_meaning.specs.Effects.{columns_of}
-use Rattle.smo_meaning.specs.Preconditions.{among, is_there, is_free, differ, alike, same_columns}
+use Rattle.smo_meaning.specs.Preconditions.{among, is_there, is_free, differ, alike}
 use Rattle.smo_meaning.specs.Making.{union, from_one, from_two}
 use Rattle.smo_meaning.specs.OperatorTable.{line}
 use Rattle.smo_meaning.specs.Losses.{IsEntryOrLost, IsDatabaseWithLosses}
@@ -61,7 +61,7 @@ module _ {X : Type 0} where
       step q true f = sym (ap (get m) (same_is q t f) ∙ free)
       step q false f = refl
 
-  merged_back : (m : FinMap bytes_cmp X) (r s t : List ℕ) (x a b : X) → get m r ≡ Some x → (same s r ≡ false → get m s ≡ None) → (same t r ≡ false → get m t ≡ None)
+  pub merged_back : (m : FinMap bytes_cmp X) (r s t : List ℕ) (x a b : X) → get m r ≡ Some x → (same s r ≡ false → get m s ≡ None) → (same t r ≡ false → get m t ≡ None)
       → insert (remove (remove (insert (insert (remove m r) s a) t b) s) t) r x ≡ m
   merged_back m r s t x a b is free also = same_map nat_list_cmp_total (slice_cmp-IsAntisymmetric nat_cmp-IsAntisymmetric) _ _ (λ q.
       get-insert nat_list_cmp_total (remove (remove (insert (insert (remove m r) s a) t b) s) t) r x q

@@ -1,10 +1,8 @@
 -- On the way each database is one of the version that is reached, with losses.
 use Rattle.std.proofs.Common.{◌≡◌, ◌+◌, ◌-◌, ℕ, zero, suc, Bool, true, false, List, [], ◌∷◌, refl, sym, ap, subst, ◌∙◌, arith}
 use Rattle.std.specs.Prelude.{cond, ◌||◌, is_some, nat_le, Option, Some, None, slice_get}
-use Rattle.std.specs.Ordering.{eq_by_cmp}
-use Rattle.std.specs.FinMap.{get, insert, remove, get-insert, get-remove}
+use Rattle.std.specs.FinMap.{get, insert, get-insert}
 use Rattle.std.specs.Cmp.Lexicographic.{nat_list_cmp_total}
-use Rattle.prima_base.specs.Order.{bytes_cmp}
 use Rattle.prima_base.specs.Columns.{Column}
 use Rattle.schema_catalog.specs.Tables.{Tables}
 use Rattle.schema_catalog.specs.Databases.{Entry, Rows, Lost, Database, IsEntry, IsDatabase}
@@ -27,7 +25,7 @@ use Rattle.smo_meaning.proofs.TouchedTables.{lost_others, table_stays, consumed_
 use Rattle.smo_meaning.proofs.PastSteps.{beginning_is_past}
 use Rattle.smo_meaning.proofs.VersionsInTurn.{lawful_from}
 use Rattle.smo_meaning.proofs.LawfulInverses.{accepted_leads_back}
-use Rattle.version_ways.proofs.VersionSteps.{Leads, leads, stands}
+use Rattle.version_ways.proofs.VersionSteps.{leads, stands}
 
 -- ---- losses among databases
 

@@ -1,8 +1,8 @@
 -- The way from one version to another, step by step.
 use Rattle.std.proofs.Common.{◌≡◌, ◌+◌, ◌-◌, ◌≤◌, ◌<◌, ℕ, zero, suc, Bool, true, false, refl, sym, ap, ◌∙◌, arith}
-use Rattle.std.specs.Prelude.{nat_le, if◌then◌else◌, cond}
+use Rattle.std.specs.Prelude.{nat_le, if◌then◌else◌}
 use Rattle.version_ways.specs.Ways.{forward, backward, along}
-use Rattle.smo_meaning.proofs.PastLaws.{at_least, not_at}
+use Rattle.smo_meaning.proofs.PastLaws.{at_least}
 
 module _ {X : Type 0} (over back : ℕ → X → X) where
   pub goes_forward : (v q : ℕ) (x : X) → v ≤ q → along over back v q x ≡ forward over v (q - v) x

@@ -8,7 +8,7 @@ use Rattle.std.specs.Cmp.Lexicographic.{nat_list_cmp_total}
 use Rattle.relations.specs.Sets.{In}
 use Rattle.relations.proofs.SetLaws.{from_map}
 use Rattle.prima_base.specs.Order.{bytes_cmp}
-use Rattle.prima_base.specs.Columns.{Column, IsRelation}
+use Rattle.prima_base.specs.Columns.{Column}
 use Rattle.schema_catalog.specs.Tables.{Tables}
 use Rattle.schema_catalog.specs.Databases.{Entry, Rows, Lost, Database, IsEntry, IsDatabase}
 use Rattle.smo_types.specs.Operators.{Operator}

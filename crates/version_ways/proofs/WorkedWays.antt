@@ -30,19 +30,19 @@ row n = int n ∷ []
 
 -- ---- r (a INT) and s (a INT) are merged into t, with PARTITION TABLE t INTO r WITH a < 10, s as the inverse
 
-abbrev low : Test
+abbrev pub low : Test
 low = compared Lt (at_atom 0 a) (constant (int 10))
 
-abbrev with_r : Tables
+abbrev pub with_r : Tables
 with_r = insert no_tables r a_columns
 
-abbrev with_s : Tables
+abbrev pub with_s : Tables
 with_s = insert with_r s a_columns
 
-abbrev merged : Tables
+abbrev pub merged : Tables
 merged = behind with_s (merge_table r s t)
 
-abbrev versions : List PlainVersion
+abbrev pub versions : List PlainVersion
 versions = record { stamp = 1; op = create_table r a_columns; inverse = []; tables = with_r }
     ∷ record { stamp = 2; op = create_table s a_columns; inverse = []; tables = with_s }
     ∷ record { stamp = 4; op = merge_table r s t; inverse = partition_table t r low s ∷ []; tables = merged } ∷ []
@@ -53,7 +53,7 @@ merged_columns =
     ∙ ap (λ o. unwrap_or o []) (r_under_s with_r a_columns ∙ r_there no_tables a_columns)
 
 -- its counts are within their limits
-merge_counted : first_excess (evolving (merge_table r s t) (partition_table t r low s ∷ [])) ≡ None
+pub merge_counted : first_excess (evolving (merge_table r s t) (partition_table t r low s ∷ [])) ≡ None
 merge_counted = refl
 
 -- 1 in r and 20 in s, in version 3
@@ -74,11 +74,14 @@ low_of columns entry = from_one (filter (meets columns low)) entry
 abbrev high_of : List Column → Option Entry → Entry
 high_of columns entry = from_one (filter (λ row. not (meets columns low row))) entry
 
-r_back : (db : Database) → get db t ≡ Some (Rows all_rows) → get (migrated_from versions 3 2 db) r ≡ Some (Rows (row 1 ∷ row 7 ∷ []))
-r_back db h =
+pub r_back_of : (db : Database) (rows : Relation) → get db t ≡ Some (Rows rows) → get (migrated_from versions 3 2 db) r ≡ Some (Rows (filter (meets a_columns low) rows))
+r_back_of db rows h =
     r_under_s (insert (remove db t) r (low_of (columns_of merged t) (get db t))) (high_of (columns_of merged t) (get db t))
     ∙ r_there (remove db t) (low_of (columns_of merged t) (get db t))
     ∙ ap (λ cs. Some (low_of cs (get db t))) merged_columns ∙ ap (λ e. Some (low_of a_columns e)) h
+
+r_back : (db : Database) → get db t ≡ Some (Rows all_rows) → get (migrated_from versions 3 2 db) r ≡ Some (Rows (row 1 ∷ row 7 ∷ []))
+r_back db h = r_back_of db all_rows h
 
 s_back : (db : Database) → get db t ≡ Some (Rows all_rows) → get (migrated_from versions 3 2 db) s ≡ Some (Rows (row 20 ∷ row 30 ∷ []))
 s_back db h =
@@ -115,57 +118,57 @@ last_to_first db rows h =
 -- ---- emp (id INT, name TEXT, city TEXT) is decomposed into who (id, name) and home (id, city), with JOIN TABLE who, home INTO
 -- emp WHERE TRUE as the inverse
 
-abbrev id : List ℕ
+abbrev pub id : List ℕ
 id = codes "id"
 
-abbrev name : List ℕ
+abbrev pub name : List ℕ
 name = codes "name"
 
-abbrev city : List ℕ
+abbrev pub city : List ℕ
 city = codes "city"
 
-abbrev emp : List ℕ
+abbrev pub emp : List ℕ
 emp = codes "emp"
 
-abbrev who : List ℕ
+abbrev pub who : List ℕ
 who = codes "who"
 
-abbrev home : List ℕ
+abbrev pub home : List ℕ
 home = codes "home"
 
-abbrev emp_columns : List Column
+abbrev pub emp_columns : List Column
 emp_columns = (city, TEXT) ∷ (id, INT) ∷ (name, TEXT) ∷ []
 
-abbrev with_emp : Tables
+abbrev pub with_emp : Tables
 with_emp = insert no_tables emp emp_columns
 
-abbrev in_two : Tables
+abbrev pub in_two : Tables
 in_two = behind with_emp (decompose_table emp who (id ∷ name ∷ []) home (id ∷ city ∷ []))
 
-abbrev decomposing : List PlainVersion
+abbrev pub decomposing : List PlainVersion
 decomposing = record { stamp = 1; op = create_table emp emp_columns; inverse = []; tables = with_emp }
     ∷ record { stamp = 3; op = decompose_table emp who (id ∷ name ∷ []) home (id ∷ city ∷ []); inverse = join_table who home emp always ∷ []; tables = in_two } ∷ []
 
 -- its counts are within their limits
-join_counted : first_excess (evolving (decompose_table emp who (id ∷ name ∷ []) home (id ∷ city ∷ [])) (join_table who home emp always ∷ [])) ≡ None
+pub join_counted : first_excess (evolving (decompose_table emp who (id ∷ name ∷ []) home (id ∷ city ∷ [])) (join_table who home emp always ∷ [])) ≡ None
 join_counted = refl
 
-all_columns : columns_of with_emp emp ≡ emp_columns
+pub all_columns : columns_of with_emp emp ≡ emp_columns
 all_columns = ap (λ o. unwrap_or o []) (get-insert nat_list_cmp_total no_tables emp emp_columns emp)
 
-who_columns : columns_of in_two who ≡ (id, INT) ∷ (name, TEXT) ∷ []
+pub who_columns : columns_of in_two who ≡ (id, INT) ∷ (name, TEXT) ∷ []
 who_columns =
     ap (λ o. unwrap_or o []) (get-insert nat_list_cmp_total (insert (remove with_emp emp) who (named (id ∷ name ∷ []) (columns_of with_emp emp))) home (named (id ∷ city ∷ []) (columns_of with_emp emp)) who
     ∙ get-insert nat_list_cmp_total (remove with_emp emp) who (named (id ∷ name ∷ []) (columns_of with_emp emp)) who)
     ∙ ap (named (id ∷ name ∷ [])) all_columns
 
-home_columns : columns_of in_two home ≡ (city, TEXT) ∷ (id, INT) ∷ []
+pub home_columns : columns_of in_two home ≡ (city, TEXT) ∷ (id, INT) ∷ []
 home_columns =
     ap (λ o. unwrap_or o []) (get-insert nat_list_cmp_total (insert (remove with_emp emp) who (named (id ∷ name ∷ []) (columns_of with_emp emp))) home (named (id ∷ city ∷ []) (columns_of with_emp emp)) home)
     ∙ ap (named (id ∷ city ∷ [])) all_columns
 
 -- (1, 'Ann', 'Oslo') gives (1, 'Oslo') to home
-abbrev projected : List (List ℕ) → List Column → Option Entry → Entry
+abbrev pub projected : List (List ℕ) → List Column → Option Entry → Entry
 projected names columns entry = from_one (image (named names columns) (cell columns)) entry
 
 home_forward : (db : Database) → get db emp ≡ Some (Rows ((text (codes "Oslo") ∷ int 1 ∷ text (codes "Ann") ∷ []) ∷ []))
@@ -175,19 +178,33 @@ home_forward db h =
     get-insert nat_list_cmp_total (insert (remove db emp) who (projected (id ∷ name ∷ []) (columns_of with_emp emp) (get db emp))) home (projected (id ∷ city ∷ []) (columns_of with_emp emp) (get db emp)) home
     ∙ ap (λ cs. Some (projected (id ∷ city ∷ []) cs (get db emp))) all_columns ∙ ap (λ e. Some (projected (id ∷ city ∷ []) emp_columns e)) h
 
+-- and (1, 'Ann') to who
+who_forward : (db : Database) → get db emp ≡ Some (Rows ((text (codes "Oslo") ∷ int 1 ∷ text (codes "Ann") ∷ []) ∷ []))
+    → get (migrated_from decomposing 1 2 db) who ≡ Some (Rows ((int 1 ∷ text (codes "Ann") ∷ []) ∷ []))
+unfolding set_of
+who_forward db h =
+    get-insert nat_list_cmp_total (insert (remove db emp) who (projected (id ∷ name ∷ []) (columns_of with_emp emp) (get db emp))) home (projected (id ∷ city ∷ []) (columns_of with_emp emp) (get db emp)) who
+    ∙ get-insert nat_list_cmp_total (remove db emp) who (projected (id ∷ name ∷ []) (columns_of with_emp emp) (get db emp)) who
+    ∙ ap (λ cs. Some (projected (id ∷ name ∷ []) cs (get db emp))) all_columns ∙ ap (λ e. Some (projected (id ∷ name ∷ []) emp_columns e)) h
+
 -- 'Ann' with id 1 in who and 'Bergen' with id 1 in home are joined again
 abbrev joined_again : List Column → List Column → Option Entry → Option Entry → Entry
 joined_again cs ds first second = from_two (join_rows cs ds always) first second
 
-emp_back : (db : Database) → get db who ≡ Some (Rows ((int 1 ∷ text (codes "Ann") ∷ []) ∷ [])) → get db home ≡ Some (Rows ((text (codes "Bergen") ∷ int 1 ∷ []) ∷ []))
-    → get (migrated_from decomposing 2 1 db) emp ≡ Some (Rows ((text (codes "Bergen") ∷ int 1 ∷ text (codes "Ann") ∷ []) ∷ []))
+pub emp_back_of : (db : Database) (ws hs : Relation) → get db who ≡ Some (Rows ws) → get db home ≡ Some (Rows hs)
+    → get (migrated_from decomposing 2 1 db) emp ≡ Some (Rows (join_rows ((id, INT) ∷ (name, TEXT) ∷ []) ((city, TEXT) ∷ (id, INT) ∷ []) always ws hs))
 unfolding set_of
-emp_back db h k =
+emp_back_of db ws hs h k =
     get-insert nat_list_cmp_total (remove (remove db who) home) emp (joined_again (columns_of in_two who) (columns_of in_two home) (get db who) (get db home)) emp
     ∙ ap (λ cs. Some (joined_again cs (columns_of in_two home) (get db who) (get db home))) who_columns
     ∙ ap (λ ds. Some (joined_again ((id, INT) ∷ (name, TEXT) ∷ []) ds (get db who) (get db home))) home_columns
     ∙ ap (λ e. Some (joined_again ((id, INT) ∷ (name, TEXT) ∷ []) ((city, TEXT) ∷ (id, INT) ∷ []) e (get db home))) h
-    ∙ ap (λ e. Some (joined_again ((id, INT) ∷ (name, TEXT) ∷ []) ((city, TEXT) ∷ (id, INT) ∷ []) (Some (Rows ((int 1 ∷ text (codes "Ann") ∷ []) ∷ []))) e)) k
+    ∙ ap (λ e. Some (joined_again ((id, INT) ∷ (name, TEXT) ∷ []) ((city, TEXT) ∷ (id, INT) ∷ []) (Some (Rows ws)) e)) k
+
+emp_back : (db : Database) → get db who ≡ Some (Rows ((int 1 ∷ text (codes "Ann") ∷ []) ∷ [])) → get db home ≡ Some (Rows ((text (codes "Bergen") ∷ int 1 ∷ []) ∷ []))
+    → get (migrated_from decomposing 2 1 db) emp ≡ Some (Rows ((text (codes "Bergen") ∷ int 1 ∷ text (codes "Ann") ∷ []) ∷ []))
+unfolding set_of
+emp_back db h k = emp_back_of db ((int 1 ∷ text (codes "Ann") ∷ []) ∷ []) ((text (codes "Bergen") ∷ int 1 ∷ []) ∷ []) h k
 
 -- where home was lost, so is emp, by the same loss
 lost_back : (db : Database) → get db who ≡ Some (Rows []) → get db home ≡ Some (Lost 4 1) → get (migrated_from decomposing 2 1 db) emp ≡ Some (Lost 4 1)

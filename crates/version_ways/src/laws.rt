@@ -1,21 +1,25 @@
-ghost use Rattle.std.specs.Prelude.{◌≡◌, ◌+◌, ◌<◌, ◌≤◌, ℕ, List, [], None, Some};
-ghost use Rattle.std.specs.FinMap.{get};
+ghost use Rattle.std.specs.Prelude.{◌≡◌, ◌+◌, ◌<◌, ◌≤◌, ℕ, List, [], ◌∷◌, None, Some, true, false, slice_get};
+ghost use Rattle.std.specs.FinMap.{get, empty};
 ghost use Rattle.schema_catalog.specs.Tables.{Tables};
-ghost use Rattle.schema_catalog.specs.Databases.{Database, IsDatabase, Rows};
+ghost use Rattle.schema_catalog.specs.Databases.{Database, IsDatabase, Rows, Lost};
 ghost use Rattle.smo_types.specs.Operators.{Operator};
 ghost use Rattle.smo_types.specs.Commands.{PlainVersion};
 ghost use Rattle.smo_meaning.specs.Losses.{IsDatabaseWithLosses, Loss, loss_in};
-ghost use Rattle.smo_meaning.specs.After.{op_fault, carried};
+ghost use Rattle.smo_meaning.specs.Touching.{makes, consumes};
+ghost use Rattle.smo_meaning.specs.After.{op_fault, behind, carried};
 ghost use Rattle.smo_meaning.specs.Past.{no_tables, tables_from};
 ghost use Rattle.smo_meaning.specs.LawfulPast.{AreVersions};
-ghost use Rattle.version_ways.specs.Migration.{carry, back, migrated_from};
-ghost use Rattle.version_ways.specs.LostNames.{AreLosses, lost_names};
+ghost use Rattle.smo_meaning.specs.LawfulValues.{HoldsValues, VersionsHold};
+ghost use Rattle.version_ways.specs.Ways.{over_each, to_next, from_next};
+ghost use Rattle.version_ways.specs.Migration.{carried_over, carry, back, migrated_from};
+ghost use Rattle.version_ways.specs.LostNames.{Losses, AreLosses, of_losses, losses_over, losses_undone, lost_names};
 ghost use Rattle.version_ways.specs.Whole.{whole};
 
 /// The way from version to version, one step at a time and by way of a version between: to where
 /// one stands it changes nothing; to the next version it is carrying over that version's operator
 /// behind the way up to it; to the version before it is the step back behind the way down to it;
-/// and by way of a version between it is the two ways one behind the other.
+/// and by way of a version between it is the two ways one behind the other. The same of the tables
+/// that are lost on it, by names alone: where one stands none is.
 pub fn the_way_is_step_by_step()
     ensures stays { (versions : List PlainVersion) → (v : ℕ) → (database : Database)
         → migrated_from versions v v database ≡ database }
@@ -35,6 +39,63 @@ pub fn the_way_is_step_by_step()
         → (database : Database) → q ≤ m → m ≤ v
         → migrated_from versions v q database
         ≡ migrated_from versions m q (migrated_from versions v m database) }
+    ensures losses_stay { (versions : List PlainVersion) → (v : ℕ)
+        → lost_names versions v v ≡ empty }
+    ensures losses_forward { (versions : List PlainVersion) → (v : ℕ) → (q : ℕ) → v ≤ q
+        → lost_names versions v (q + 1) ≡ to_next of_losses versions q (lost_names versions v q) }
+    ensures losses_back { (versions : List PlainVersion) → (v : ℕ) → (q : ℕ) → q < v
+        → lost_names versions v q ≡ from_next of_losses versions q (lost_names versions v (q + 1)) }
+{}
+
+/// What one step of a way is, at the version number `k + 1`, the one behind the tables of version
+/// `k`. To it a database is carried over the version's operator. Back from it, where an inverse is
+/// named, it is carried over the inverse's operators, first to last, each behind the one before; and
+/// where none is named, each table that the operator consumed is lost by the first operator of
+/// version `k + 1`, each that it made and did not consume is gone, and all others stay. The same of
+/// losses by names alone.
+pub fn a_step_is_over_its_version()
+    ensures forward { (versions : List PlainVersion) → (k : ℕ) → (v : PlainVersion)
+        → (database : Database) → slice_get versions k ≡ Some v
+        → carry versions k database
+        ≡ carried (tables_from no_tables versions k) v.op database }
+    ensures named { (versions : List PlainVersion) → (k : ℕ) → (v : PlainVersion)
+        → (database : Database) → (op : Operator) → (rest : List Operator)
+        → slice_get versions k ≡ Some v → v.inverse ≡ op ∷ rest
+        → back versions k database ≡ carried_over v.tables v.inverse database }
+    ensures over_none { (tables : Tables) → (database : Database)
+        → carried_over tables [] database ≡ database }
+    ensures over_each { (tables : Tables) → (op : Operator) → (ops : List Operator)
+        → (database : Database) → carried_over tables (op ∷ ops) database
+        ≡ carried_over (behind tables op) ops (carried tables op database) }
+    ensures lost { (versions : List PlainVersion) → (k : ℕ) → (v : PlainVersion)
+        → (database : Database) → (n : List ℕ)
+        → slice_get versions k ≡ Some v → v.inverse ≡ []
+        → consumes (tables_from no_tables versions k) v.op n ≡ true
+        → get (back versions k database) n ≡ Some (Lost (k + 1) 1) }
+    ensures gone { (versions : List PlainVersion) → (k : ℕ) → (v : PlainVersion)
+        → (database : Database) → (n : List ℕ)
+        → slice_get versions k ≡ Some v → v.inverse ≡ []
+        → makes (tables_from no_tables versions k) v.op n ≡ true
+        → consumes (tables_from no_tables versions k) v.op n ≡ false
+        → get (back versions k database) n ≡ None }
+    ensures others { (versions : List PlainVersion) → (k : ℕ) → (v : PlainVersion)
+        → (database : Database) → (n : List ℕ)
+        → slice_get versions k ≡ Some v → v.inverse ≡ []
+        → makes (tables_from no_tables versions k) v.op n ≡ false
+        → consumes (tables_from no_tables versions k) v.op n ≡ false
+        → get (back versions k database) n ≡ get database n }
+    ensures losses_over { (versions : List PlainVersion) → (k : ℕ) → (v : PlainVersion)
+        → (losses : Losses) → slice_get versions k ≡ Some v
+        → to_next of_losses versions k losses
+        ≡ losses_over (tables_from no_tables versions k) v.op losses }
+    ensures losses_named { (versions : List PlainVersion) → (k : ℕ) → (v : PlainVersion)
+        → (losses : Losses) → (op : Operator) → (rest : List Operator)
+        → slice_get versions k ≡ Some v → v.inverse ≡ op ∷ rest
+        → from_next of_losses versions k losses ≡ over_each of_losses v.tables v.inverse losses }
+    ensures losses_undone { (versions : List PlainVersion) → (k : ℕ) → (v : PlainVersion)
+        → (losses : Losses) → slice_get versions k ≡ Some v → v.inverse ≡ []
+        → from_next of_losses versions k losses
+        ≡ losses_undone (k + 1) (tables_from no_tables versions k) v.op losses }
 {}
 
 /// What is taken along the versions of a past is a database of the version that is reached, in
@@ -52,6 +113,18 @@ pub fn the_way_keeps_a_database()
         → AreVersions None no_tables versions
         → IsDatabaseWithLosses (tables_from no_tables versions (k + 1)) database
         → IsDatabaseWithLosses (tables_from no_tables versions k) (back versions k database) }
+{}
+
+/// Along versions whose operators and inverses have lawful constants lawful values stay lawful: over
+/// each operator, and back over each.
+pub fn the_way_keeps_lawful_values()
+    ensures way { (versions : List PlainVersion) → (v : ℕ) → (q : ℕ) → (database : Database)
+        → VersionsHold versions → HoldsValues database
+        → HoldsValues (migrated_from versions v q database) }
+    ensures forward { (versions : List PlainVersion) → (k : ℕ) → (database : Database)
+        → VersionsHold versions → HoldsValues database → HoldsValues (carry versions k database) }
+    ensures back { (versions : List PlainVersion) → (k : ℕ) → (database : Database)
+        → VersionsHold versions → HoldsValues database → HoldsValues (back versions k database) }
 {}
 
 /// The tables that are lost on the way from one version to another, by names alone, are just those

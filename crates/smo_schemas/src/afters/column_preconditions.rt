@@ -1,7 +1,7 @@
 // What operators ask of the columns of a table, or of two.
 ghost use Rattle.std.specs.Prelude.{◌≡◌};
 ghost use Rattle.smo_meaning.specs.Preconditions.{alike, joinable, each_known, each_once, cover};
-ghost use Rattle.smo_schemas.specs.Tested.{IsTested};
+ghost use Rattle.prima_base.specs.Faults.{IsTested};
 
 use crate::columns::has_name;
 use crate::joining::{are_joinable, same_columns};

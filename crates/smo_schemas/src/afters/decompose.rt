@@ -3,7 +3,7 @@ ghost use Rattle.std.specs.Prelude.{[], ◌∷◌, ◌++◌};
 ghost use Rattle.smo_types.specs.Operators.{decompose_table};
 ghost use Rattle.smo_meaning.specs.First.{first_refusal};
 ghost use Rattle.smo_meaning.specs.Preconditions.{each_known, each_once, cover};
-ghost use Rattle.smo_schemas.specs.Tested.{IsTested};
+ghost use Rattle.prima_base.specs.Faults.{IsTested};
 ghost use Rattle.smo_meaning.specs.After.{IsAfter};
 
 use crate::afters::column_preconditions::{check_cover, check_each_known, check_each_once};

@@ -3,11 +3,11 @@ ghost use Rattle.prima_base.specs.Columns.{AreColumns};
 ghost use Rattle.smo_meaning.specs.First.{first_refusal};
 ghost use Rattle.smo_meaning.specs.Effects.{columns_of};
 ghost use Rattle.smo_meaning.specs.Preconditions.{is_there, is_free, differ, few_tables, each_known, is_new, another_column};
-ghost use Rattle.smo_schemas.specs.Tested.{IsTested};
+ghost use Rattle.prima_base.specs.Faults.{IsTested};
 
-use crate::afters::MAX_TABLES;
-use crate::columns::{has_name, same_name};
-use prima_base::{ColType, Name, OpRefusal, What};
+use crate::columns::has_name;
+use prima_base::limits::MAX_TABLES;
+use prima_base::{ColType, Name, OpRefusal, What, same_name};
 use schema_catalog::Schema;
 use smo_types::OpFault;
 

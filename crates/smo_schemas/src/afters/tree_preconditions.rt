@@ -6,11 +6,11 @@ ghost use Rattle.smo_meaning.specs.First.{first_refusal};
 ghost use Rattle.smo_meaning.specs.OneRow.{own_kinds};
 ghost use Rattle.smo_meaning.specs.Preconditions.{few_columns, known_in, typed_in, test_known_in, test_typed_in};
 ghost use Rattle.smo_meaning.specs.Making.{type_of_value};
-ghost use Rattle.smo_schemas.specs.Tested.{IsTested};
+ghost use Rattle.prima_base.specs.Faults.{IsTested};
 
-use crate::afters::MAX_COLUMNS;
 use crate::columns::OwnColumns;
-use cond_expr::{Cond, Expr, TypeFault, check_cond, type_of};
+use cond_expr::{Cond, Expr, typed_cond, typed_expr, unknown_of_cond, unknown_of_expr};
+use prima_base::limits::MAX_COLUMNS;
 use prima_base::{ColType, Name, OpRefusal, What};
 use smo_types::OpFault;
 use std::alloc::Global;
@@ -35,15 +35,9 @@ pub(crate) fn check_test_known(
     ensures tested { IsTested (test_known_in table.now own.now (test cond.now)) result }
     ensures known { IfOk result (λ u. first_unknown (own_kinds own.now) (test_references (test cond.now)) ≡ None) }
 {
-    match check_cond(cond, own.atoms()) {
-        Ok(()) => Ok(()),
-        Err(fault) => match fault {
-            TypeFault::NoColumn(name) => {
-                Err(OpFault::Refused(OpRefusal::NoColumn(table.copy()?, name)))
-            }
-            TypeFault::WrongType(_) => Ok(()),
-            TypeFault::NoMemory => Err(OpFault::NoMemory),
-        },
+    match unknown_of_cond(cond, own.atoms()) {
+        Some(name) => Err(OpFault::Refused(OpRefusal::NoColumn(table.copy()?, name.copy()?))),
+        None => Ok(()),
     }
 }
 
@@ -53,13 +47,9 @@ pub(crate) fn check_test_typed(own: &OwnColumns<'_>, cond: &Cond) -> Result<(), 
     requires known { first_unknown (own_kinds own.now) (test_references (test cond.now)) ≡ None }
     ensures { IsTested (test_typed_in own.now (test cond.now)) result }
 {
-    match check_cond(cond, own.atoms()) {
+    match typed_cond(cond, own.atoms()) {
         Ok(()) => Ok(()),
-        Err(fault) => match fault {
-            TypeFault::WrongType(place) => Err(OpFault::Refused(OpRefusal::WrongType(place))),
-            TypeFault::NoColumn(_) => unreachable!(),
-            TypeFault::NoMemory => unreachable!(),
-        },
+        Err(place) => Err(OpFault::Refused(OpRefusal::WrongType(place))),
     }
 }
 
@@ -73,15 +63,9 @@ pub(crate) fn check_tree_known(
     ensures tested { IsTested (known_in table.now own.now (tree expr.now)) result }
     ensures known { IfOk result (λ u. first_unknown (own_kinds own.now) (references (tree expr.now)) ≡ None) }
 {
-    match type_of(expr, own.atoms()) {
-        Ok(_) => Ok(()),
-        Err(fault) => match fault {
-            TypeFault::NoColumn(name) => {
-                Err(OpFault::Refused(OpRefusal::NoColumn(table.copy()?, name)))
-            }
-            TypeFault::WrongType(_) => Ok(()),
-            TypeFault::NoMemory => Err(OpFault::NoMemory),
-        },
+    match unknown_of_expr(expr, own.atoms()) {
+        Some(name) => Err(OpFault::Refused(OpRefusal::NoColumn(table.copy()?, name.copy()?))),
+        None => Ok(()),
     }
 }
 
@@ -92,13 +76,9 @@ pub(crate) fn check_tree_typed(own: &OwnColumns<'_>, expr: &Expr) -> Result<ColT
     ensures tested { IsTested (typed_in own.now (tree expr.now)) result }
     ensures kind { IfOk result (λ k. k ≡ type_of_value own.now (tree expr.now)) }
 {
-    match type_of(expr, own.atoms()) {
+    match typed_expr(expr, own.atoms()) {
         Ok(kind) => Ok(kind),
-        Err(fault) => match fault {
-            TypeFault::WrongType(place) => Err(OpFault::Refused(OpRefusal::WrongType(place))),
-            TypeFault::NoColumn(_) => unreachable!(),
-            TypeFault::NoMemory => unreachable!(),
-        },
+        Err(place) => Err(OpFault::Refused(OpRefusal::WrongType(place))),
     }
 }
 

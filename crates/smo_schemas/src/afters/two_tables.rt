@@ -5,7 +5,7 @@ ghost use Rattle.cond_expr.specs.Sizes.{test_nodes};
 ghost use Rattle.smo_types.specs.Operators.{merge_table, join_table};
 ghost use Rattle.smo_meaning.specs.First.{first_refusal};
 ghost use Rattle.smo_meaning.specs.Preconditions.{few_columns, test_known_in, test_typed_in};
-ghost use Rattle.smo_schemas.specs.Tested.{IsTested};
+ghost use Rattle.prima_base.specs.Faults.{IsTested};
 ghost use Rattle.smo_meaning.specs.After.{IsAfter};
 
 use crate::afters::column_preconditions::{check_alike, check_joinable};

@@ -3,9 +3,8 @@ ghost use Rattle.smo_types.specs.Operators.{nop, drop_table, rename_table, copy_
 ghost use Rattle.smo_meaning.specs.After.{IsAfter};
 
 use crate::afters::preconditions::{check_differ, check_free, check_tables, columns_there};
-use crate::columns::same_name;
 use crate::making::with_table;
-use prima_base::Name;
+use prima_base::{Name, same_name};
 use schema_catalog::Schema;
 use smo_types::OpFault;
 use std::alloc::Global;

@@ -19,4 +19,4 @@ join-returns-clause-value t c =
     let whole = c.deref.ensures.value ∙ sym (c.loop-part.invariant.value
     ∙ joined_whole (flat c.args.columns.now c.args.values.now) 4096 c.args.parts.now c.loop-part.part-index
     c.loop-part.joined.items c.loop-part-test.false c.loop-part.invariant.lawful.0) in
-    rw whole at c.text_of.ensures
+    rw whole at c.of.ensures

@@ -1,6 +1,6 @@
 use Rattle.std.proofs.Common.{◌≡◌, take}
 use Rattle.plain_answers.specs.Naming.{written_names}
-use Rattle.join_exec.specs.Naming.{lent}
+use Rattle.cond_expr.specs.References.{lent}
 use Rattle.join_exec.proofs.names.names_of.Given as goal
 
 abbrev pub invariant-loop-reference : goal.invariant-loop-reference

@@ -1,6 +1,7 @@
 use Rattle.smo_meaning.specs.Past.{beginning}
 use Rattle.smo_meaning.proofs.PastSteps.{beginning_is_past}
-use Rattle.smo_meaning.proofs.ValueLaws.{carried_values, changes_values, values_stay, beginning_holds, history_holds}
+use Rattle.smo_meaning.proofs.HeldValues.{value_lawful_in, each_lawful}
+use Rattle.smo_meaning.proofs.ValueLaws.{carried_values, changes_values, past_stays, beginning_holds, history_holds}
 use Rattle.smo_meaning.proofs.laws.lawful_values_stay.Goals as goal
 
 pub returns-clause-carried : goal.returns-clause-carried
@@ -9,8 +10,17 @@ returns-clause-carried c = carried_values
 pub returns-clause-changed : goal.returns-clause-changed
 returns-clause-changed c = changes_values
 
+pub returns-clause-beginning : goal.returns-clause-beginning
+returns-clause-beginning c = beginning_holds
+
 pub returns-clause-step : goal.returns-clause-step
-returns-clause-step c = λ past command is accepted holds each. values_stay past command is accepted each holds
+returns-clause-step c = past_stays
 
 pub returns-clause-history : goal.returns-clause-history
 returns-clause-history c = λ commands is hold. history_holds beginning commands beginning_is_past is hold beginning_holds
+
+pub returns-clause-each : goal.returns-clause-each
+returns-clause-each c = value_lawful_in
+
+pub returns-clause-all : goal.returns-clause-all
+returns-clause-all c = each_lawful

@@ -8,7 +8,7 @@ use Rattle.smo_ops.proofs.effects.set_value.Goals as goal
 
 pub returns-then-eq : goal.returns-then-eq
 returns-then-eq c = λ columns atoms.
-    c.in_ok-kept_value.ensures
+    c.in_ok-into_value.ensures
     ∙ c.in_ok-val.ensures.value
     ∙ ap (λ at. value at (tree c.loop-column-item.result.1)) (ap (λ a. flat a c.args.values.now) atoms ∙ lent_cells columns c.args.values.now (map shown c.args.values.now) refl)
     ∙ sym (c.loop-column.invariant columns

@@ -5,8 +5,10 @@ use Rattle.smo_meaning.specs.First.{first_refusal}
 use Rattle.smo_meaning.proofs.Firsts.{first_behind, first_before}
 use Rattle.temporal_lang.specs.Branches.{branch_of}
 use Rattle.temporal_lang.specs.Atoms.{sources_of}
-use Rattle.temporal_lang.specs.Checking.{IsPassed, item_tests, reference_test, branch_references, branch_names}
-use Rattle.temporal_lang.specs.Wrongs.{fault_of, lent}
+use Rattle.prima_base.specs.Faults.{IsTested}
+use Rattle.temporal_lang.specs.Checking.{item_tests, reference_test, branch_references, branch_names}
+use Rattle.cond_expr.specs.References.{lent}
+use Rattle.temporal_lang.specs.Wrongs.{fault_of}
 use Rattle.temporal_lang.proofs.PassLaws.{passed_on}
 use Rattle.temporal_lang.proofs.names.check_branch_names.Goals as goal
 
@@ -32,4 +34,4 @@ returns c =
     ∙ ap (λ y. first_refusal (map (reference_test (sources_of c.args.schema.now from)) (lent y))) c.deref-3.ensures.value
     ∙ ap (λ z. first_refusal (map (reference_test (sources_of c.args.schema.now from)) z)) (c.in_ok-gather_branch.ensures ∙ ap (λ w. lent w ++ branch_references b) c.new-references.ensures.items)
     ∙ sym (first_behind (item_tests c.args.schema.now from) (map (reference_test (sources_of c.args.schema.now from)) (branch_references b)) none) in
-    subst (λ f. IsPassed f c.refuse-2.result) all c.refuse-2.ensures
+    subst (λ f. IsTested f c.refuse-2.result) all c.refuse-2.ensures

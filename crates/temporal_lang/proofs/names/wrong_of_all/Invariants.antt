@@ -2,7 +2,7 @@ use Rattle.std.proofs.Common.{◌≡◌, map, drop}
 use Rattle.smo_meaning.specs.First.{first_refusal}
 use Rattle.temporal_lang.specs.Atoms.{sources_of}
 use Rattle.temporal_lang.specs.Checking.{reference_test}
-use Rattle.temporal_lang.specs.Wrongs.{lent}
+use Rattle.cond_expr.specs.References.{lent}
 use Rattle.temporal_lang.proofs.names.wrong_of_all.Given as goal
 
 abbrev pub invariant-loop-reference : goal.invariant-loop-reference

@@ -17,10 +17,10 @@ returns-in_err-check_some_outputs c =
     (sym (first_before (output_counts (map tree b.outs.items)) (at_most Tables 8 (length b.from.items) ∷ test_counts (test b.cond)) _
     (ap (λ xs. first_refusal (output_counts (map tree xs))) (sym c.deref.ensures.value) ∙ sym c.in_err-check_some_outputs.ensures)))
 
-pub returns-then-len-gt-MAX_TABLES : goal.returns-then-len-gt-MAX_TABLES
-returns-then-len-gt-MAX_TABLES c =
+pub returns-then-len-gt-MAX_BRANCH_TABLES : goal.returns-then-len-gt-MAX_BRANCH_TABLES
+returns-then-len-gt-MAX_BRANCH_TABLES c =
     let b = c.args.branch.now in
-    let more = c.if-len-gt-MAX_TABLES.true in
+    let more = c.if-len-gt-MAX_BRANCH_TABLES.true in
     let count = c.len.ensures in
     sym (first_behind (output_counts (map tree b.outs.items)) (at_most Tables 8 (length b.from.items) ∷ test_counts (test b.cond))
     (ap (λ xs. first_refusal (output_counts (map tree xs))) (sym c.deref.ensures.value) ∙ sym c.in_ok-check_some_outputs.ensures)
@@ -29,7 +29,7 @@ returns-then-len-gt-MAX_TABLES c =
 pub returns : goal.returns
 returns c =
     let b = c.args.branch.now in
-    let few = c.if-len-gt-MAX_TABLES.false in
+    let few = c.if-len-gt-MAX_BRANCH_TABLES.false in
     let count = c.len.ensures in
     c.check_condition.ensures
     ∙ sym (first_behind (output_counts (map tree b.outs.items)) (at_most Tables 8 (length b.from.items) ∷ test_counts (test b.cond))

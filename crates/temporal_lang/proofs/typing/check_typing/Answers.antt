@@ -3,7 +3,8 @@ use Rattle.std.proofs.lemmas.Result.{err_from_is_err_and}
 use Rattle.smo_meaning.specs.First.{first_refusal}
 use Rattle.smo_meaning.proofs.Firsts.{first_behind}
 use Rattle.temporal_lang.specs.Branches.{branches_of}
-use Rattle.temporal_lang.specs.Checking.{IsPassed, types_from, typing_tests, arities, output_kinds}
+use Rattle.prima_base.specs.Faults.{IsTested}
+use Rattle.temporal_lang.specs.Checking.{types_from, typing_tests, arities, output_kinds}
 use Rattle.temporal_lang.specs.Typings.{kind_lists}
 use Rattle.temporal_lang.specs.Wrongs.{fault_of}
 use Rattle.temporal_lang.proofs.BranchTypeLaws.{typing_stop}
@@ -25,4 +26,4 @@ returns c =
     ∙ ap (λ ks. first_refusal (arities (kind_lists ks))) c.deref.ensures.value
     ∙ ap (λ ls. first_refusal (arities ls)) typed.1
     ∙ sym (first_behind (types_from tables 0 branches) (arities (map (output_kinds tables) branches)) typed.0) in
-    subst (λ f. IsPassed f c.refuse.result) all c.refuse.ensures
+    subst (λ f. IsTested f c.refuse.result) all c.refuse.ensures

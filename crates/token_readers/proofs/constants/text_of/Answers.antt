@@ -5,8 +5,8 @@ use Rattle.lexical_grammar.proofs.Cuts.{tail_is}
 use Rattle.lexical_grammar.proofs.Lawful.{texted}
 use Rattle.token_readers.proofs.constants.text_of.Goals as goal
 
-pub lawful_text-requires : goal.lawful_text-requires
-lawful_text-requires c =
+pub of-requires : goal.of-requires
+of-requires c =
     let P : List ℕ → Type 0 = λ l. IsTxt l in
     let e : c.deref.result.now ≡ text_value (drop 1 c.args.literal.now) = c.deref.ensures.value ∙ c.in_ok-bytes.ensures.ok ∙ ap text_value (tail_is c.args.literal.now 1) in
     let t = texted c.args.literal.now c.requires in

@@ -1,3 +1,6 @@
+use Rattle.std.specs.FinMap.{empty}
+use Rattle.version_ways.specs.Ways.{to_next, from_next}
+use Rattle.version_ways.specs.LostNames.{of_losses}
 use Rattle.version_ways.specs.Migration.{carry, back}
 use Rattle.version_ways.proofs.WaySteps.{stays, one_forward, one_back, forward_by, back_by}
 use Rattle.version_ways.proofs.laws.the_way_is_step_by_step.Goals as goal
@@ -16,3 +19,12 @@ returns-clause-forward_by c = λ versions v m q db l r. forward_by (carry versio
 
 pub returns-clause-back_by : goal.returns-clause-back_by
 returns-clause-back_by c = λ versions v m q db l r. back_by (carry versions) (back versions) v m q db l r
+
+pub returns-clause-losses_stay : goal.returns-clause-losses_stay
+returns-clause-losses_stay c = λ versions v. stays (to_next of_losses versions) (from_next of_losses versions) v empty
+
+pub returns-clause-losses_forward : goal.returns-clause-losses_forward
+returns-clause-losses_forward c = λ versions v q l. one_forward (to_next of_losses versions) (from_next of_losses versions) v q empty l
+
+pub returns-clause-losses_back : goal.returns-clause-losses_back
+returns-clause-losses_back c = λ versions v q l. one_back (to_next of_losses versions) (from_next of_losses versions) v q empty l

@@ -7,7 +7,7 @@ use Rattle.smo_types.specs.Operators.{Operator, decompose_table}
 use Rattle.smo_meaning.specs.First.{first_refusal}
 use Rattle.smo_meaning.specs.Effects.{columns_of}
 use Rattle.smo_meaning.specs.Preconditions.{is_there, differ, is_free, few_tables}
-use Rattle.smo_schemas.specs.Tested.{IsTested}
+use Rattle.prima_base.specs.Faults.{IsTested}
 use Rattle.smo_meaning.specs.After.{behind}
 use Rattle.smo_meaning.proofs.StepLaws.{all_met}
 use Rattle.smo_schemas.proofs.TestSteps.{refused_so, group_stops, groups_met}

@@ -3,7 +3,7 @@ use Rattle.std.specs.Prelude.{Option, Err}
 use Rattle.std.proofs.lemmas.Result.{err_from_is_err_and}
 use Rattle.prima_base.specs.declared.refusals.OpRefusal.{OpRefusal}
 use Rattle.smo_meaning.specs.Preconditions.{each_known, each_once, cover}
-use Rattle.smo_schemas.specs.Tested.{IsTested}
+use Rattle.prima_base.specs.Faults.{IsTested}
 use Rattle.smo_schemas.proofs.NameListLaws.{known_later, unknown_first}
 use Rattle.smo_schemas.proofs.PairedColumns.{part_tests}
 use Rattle.smo_schemas.proofs.GroupedTests.{tested_on, tests_stop_at, last_decides}

@@ -10,7 +10,7 @@ use Rattle.smo_meaning.specs.First.{first_refusal}
 use Rattle.smo_meaning.specs.Effects.{columns_of}
 use Rattle.smo_meaning.specs.Preconditions.{is_there, is_new, known_in, typed_in, few_columns}
 use Rattle.smo_meaning.specs.Making.{with_column, type_of_value}
-use Rattle.smo_schemas.specs.Tested.{IsTested}
+use Rattle.prima_base.specs.Faults.{IsTested}
 use Rattle.smo_meaning.proofs.NextSchemas.{put_are_columns}
 use Rattle.smo_meaning.proofs.StepLaws.{all_met, each_met}
 use Rattle.smo_schemas.proofs.TestSteps.{refused_so, group_stops, goes_on}

@@ -7,7 +7,7 @@ use Rattle.smo_types.specs.Operators.{rename_column}
 use Rattle.smo_meaning.specs.Effects.{columns_of}
 use Rattle.smo_meaning.specs.Preconditions.{each_known, is_new}
 use Rattle.smo_meaning.specs.Making.{renamed}
-use Rattle.smo_schemas.specs.Tested.{IsTested}
+use Rattle.prima_base.specs.Faults.{IsTested}
 use Rattle.smo_meaning.proofs.ColumnLaws.{in_order_are_columns}
 use Rattle.smo_schemas.proofs.TestSteps.{stopped, goes_on}
 use Rattle.smo_schemas.proofs.LeftColumns.{put_again}

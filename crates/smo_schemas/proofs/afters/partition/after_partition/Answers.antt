@@ -8,7 +8,7 @@ use Rattle.smo_types.specs.Operators.{partition_table}
 use Rattle.smo_meaning.specs.First.{first_refusal}
 use Rattle.smo_meaning.specs.Effects.{columns_of}
 use Rattle.smo_meaning.specs.Preconditions.{is_there, is_free, differ, test_known_in, test_typed_in, few_tables}
-use Rattle.smo_schemas.specs.Tested.{IsTested}
+use Rattle.prima_base.specs.Faults.{IsTested}
 use Rattle.smo_meaning.proofs.StepLaws.{all_met}
 use Rattle.smo_schemas.proofs.TestSteps.{refused_so, group_stops, groups_met}
 use Rattle.smo_schemas.proofs.afters.partition.after_partition.Goals as goal

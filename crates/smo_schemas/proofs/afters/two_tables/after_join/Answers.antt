@@ -9,7 +9,7 @@ use Rattle.smo_meaning.specs.First.{first_refusal}
 use Rattle.smo_meaning.specs.Effects.{columns_of}
 use Rattle.smo_meaning.specs.Preconditions.{is_there, differ, is_free, joinable, few_columns, test_known_in, test_typed_in}
 use Rattle.smo_meaning.specs.Making.{joined_columns}
-use Rattle.smo_schemas.specs.Tested.{IsTested}
+use Rattle.prima_base.specs.Faults.{IsTested}
 use Rattle.smo_meaning.proofs.ColumnLaws.{in_order_are_columns}
 use Rattle.smo_meaning.proofs.StepLaws.{all_met}
 use Rattle.smo_schemas.proofs.TestSteps.{refused_so, group_stops}

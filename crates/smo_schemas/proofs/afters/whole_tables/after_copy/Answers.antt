@@ -6,7 +6,7 @@ use Rattle.schema_catalog.specs.Tables.{Tables}
 use Rattle.smo_types.specs.Operators.{copy_table}
 use Rattle.smo_meaning.specs.Effects.{columns_of}
 use Rattle.smo_meaning.specs.Preconditions.{few_tables}
-use Rattle.smo_schemas.specs.Tested.{IsTested}
+use Rattle.prima_base.specs.Faults.{IsTested}
 use Rattle.smo_schemas.proofs.TestSteps.{stopped, goes_on, put_like}
 use Rattle.smo_schemas.proofs.afters.whole_tables.after_copy.Goals as goal
 

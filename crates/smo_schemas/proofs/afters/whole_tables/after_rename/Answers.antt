@@ -5,7 +5,7 @@ use Rattle.std.proofs.lemmas.Result.{err_from_is_err_and}
 use Rattle.prima_base.specs.declared.refusals.OpRefusal.{OpRefusal}
 use Rattle.smo_types.specs.Operators.{rename_table}
 use Rattle.smo_meaning.specs.Effects.{columns_of}
-use Rattle.smo_schemas.specs.Tested.{IsTested}
+use Rattle.prima_base.specs.Faults.{IsTested}
 use Rattle.smo_schemas.proofs.TestSteps.{stopped, goes_on, free_one, put_like}
 use Rattle.smo_schemas.proofs.afters.whole_tables.after_rename.Goals as goal
 

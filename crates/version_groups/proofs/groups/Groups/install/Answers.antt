@@ -8,9 +8,9 @@ install_step-requires c =
     let command = c.requires.1 in
     let ready = c.requires.3 in
     let is : step_of c.args.next.step ≡ step_of c.next.inside.step = ap (λ (r : Readied). step_of r.step) (sym c.next.view_is) in
-    (past, command, c.requires.2, ready.accepted, ready.lawful, subst (IsStep c.args.self.now past command.stamp command.body) is ready.step)
+    (past, command, c.requires.2, ready.accepted, ready.lawful, ready.constants, subst (IsStep c.args.self.now past command.stamp command.body) is ready.step)
 
 pub returns-clause-shows : goal.returns-clause-shows
 returns-clause-shows c = λ past command shows ready.
     let is : step_of c.args.next.step ≡ step_of c.next.inside.step = ap (λ (r : Readied). step_of r.step) (sym c.next.view_is) in
-    c.install_step.ensures.shows past command shows ready.accepted ready.lawful (subst (IsStep c.args.self.now past command.stamp command.body) is ready.step)
+    c.install_step.ensures.shows past command shows ready.accepted ready.lawful ready.constants (subst (IsStep c.args.self.now past command.stamp command.body) is ready.step)

@@ -12,12 +12,12 @@ install_changes-requires c =
     let past = c.requires.0 in
     let command = c.requires.1 in
     let is : step_of c.args.step ≡ changed c.in-Changed.plans.items = ap step_of c.in-Changed.is in
-    have_room c.args.self.now past command.stamp command.body c.in-Changed.plans.items (subst (IsStep c.args.self.now past command.stamp command.body) is c.requires.5)
+    have_room c.args.self.now past command.stamp command.body c.in-Changed.plans.items (subst (IsStep c.args.self.now past command.stamp command.body) is c.requires.6)
 
 pub returns-in-Changed-clause-shows : goal.returns-in-Changed-clause-shows
-returns-in-Changed-clause-shows c = λ past command shows accepted lawful ready.
+returns-in-Changed-clause-shows c = λ past command shows accepted lawful hold ready.
     let is : step_of c.args.step ≡ changed c.in-Changed.plans.items = ap step_of c.in-Changed.is in
-    changes_made c.args.self.now c.install_changes.new.self past shows c.in-Changed.plans.items c.install_changes.ensures command.stamp command.body lawful accepted
+    changes_made c.args.self.now c.install_changes.new.self past shows c.in-Changed.plans.items c.install_changes.ensures command.stamp command.body lawful accepted hold
     (subst (IsStep c.args.self.now past command.stamp command.body) is ready)
 
 pub install_version-requires : goal.install_version-requires
@@ -25,13 +25,13 @@ install_version-requires c =
     let past = c.requires.0 in
     let command = c.requires.1 in
     let is : step_of c.args.step ≡ evolved (version_of c.in-Evolved.version) c.in-Evolved.tables.items = ap step_of c.in-Evolved.is in
-    let r = is_room c.args.self.now past command.stamp command.body (version_of c.in-Evolved.version) c.in-Evolved.tables.items (subst (IsStep c.args.self.now past command.stamp command.body) is c.requires.5) in
+    let r = is_room c.args.self.now past command.stamp command.body (version_of c.in-Evolved.version) c.in-Evolved.tables.items (subst (IsStep c.args.self.now past command.stamp command.body) is c.requires.6) in
     record { ordered = r.ordered; room = r.room; fits = r.fits }
 
 pub returns-in-Evolved-clause-shows : goal.returns-in-Evolved-clause-shows
-returns-in-Evolved-clause-shows c = λ past command shows accepted lawful ready.
+returns-in-Evolved-clause-shows c = λ past command shows accepted lawful hold ready.
     let is : step_of c.args.step ≡ evolved (version_of c.in-Evolved.version) c.in-Evolved.tables.items = ap step_of c.in-Evolved.is in
-    version_made c.args.self.now c.install_version.new.self past shows c.in-Evolved.version c.in-Evolved.tables.items c.install_version.ensures command.stamp command.body lawful accepted
+    version_made c.args.self.now c.install_version.new.self past shows c.in-Evolved.version c.in-Evolved.tables.items c.install_version.ensures command.stamp command.body lawful accepted hold
     (subst (IsStep c.args.self.now past command.stamp command.body) is ready)
 
 pub returns-in-Changed-clause-earlier : goal.returns-in-Changed-clause-earlier

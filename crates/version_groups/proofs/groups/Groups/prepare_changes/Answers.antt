@@ -46,7 +46,7 @@ returns-clause-next c = λ past shows accepted.
     let same : IsSame c.args.self.now (groups_view b) = subst (λ (k : Kept). IsSame k (groups_view b)) c.self.view_is (view_same a b refl refl c.prepare_tables.ensures.same (omega arith)) in
     let now : newest_group (groups_view b) ≡ c.prepare_tables.new.tables.items = newest_is b
     (are_groups a b refl refl c.self.invariant refl (still_ordered a.newest.items c.prepare_tables.new.tables.items c.prepare_tables.ensures.same c.self.invariant.newest)) in
-    changes_ready c.args.self.now past c.args.stamp its shows c.requires.lawful accepted ordered (groups_view b) same c.in_ok-made.made.plans.items
+    changes_ready c.args.self.now past c.args.stamp its shows c.requires.lawful accepted ordered c.requires.constants (groups_view b) same c.in_ok-made.made.plans.items
     (subst (λ (ts : List MadeTable). AreReady c.args.stamp its ts c.in_ok-made.made.plans.items) (sym now) c.in_ok-made.ensures.ready) _ refl
     (c.in_ok-made.ensures.gained ∙ ap (all_gained c.args.stamp its) (sym group)) (c.in_ok-made.ensures.lost ∙ ap (all_lost c.args.stamp its) (sym group))
 

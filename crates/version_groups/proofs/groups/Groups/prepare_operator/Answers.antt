@@ -60,6 +60,6 @@ returns-clause-next c = λ past shows accepted.
     let stored = subst (λ (t : Tables). AreStored t (newest_database past) c.args.stamp c.deref.result.now) (sym schema)
     (subst (AreStored (newest_tables past) (newest_database past) c.args.stamp) group (stored_now c.args.self.now past c.args.stamp op inverse shows c.requires.lawful accepted)) in
     let made = c.in_ok-evolved.ensures (newest_database past) (subst (λ (t : Tables). IsDatabase t (newest_database past)) (sym schema) shows.lawful.database) stored in
-    operator_ready c.args.self.now past c.args.stamp op inverse shows c.requires.lawful accepted c.reserve_version.new.self c.reserve_version.ensures.same c.in_ok-reserve_version.ensures.room
+    operator_ready c.args.self.now past c.args.stamp op inverse shows c.requires.lawful accepted c.requires.constants c.reserve_version.new.self c.reserve_version.ensures.same c.in_ok-reserve_version.ensures.room
     c.in_ok-evolved.evolved.version c.in_ok-evolved.evolved.tables.items
     (subst (λ (t : Tables). IsEvolved t (newest_database past) c.args.stamp op inverse (version_of c.in_ok-evolved.evolved.version) c.in_ok-evolved.evolved.tables.items) schema made) _ refl refl refl

@@ -4,15 +4,14 @@ ghost use Rattle.std.specs.Prelude.{◌≡◌, ◌++◌, OnOk, map};
 ghost use Rattle.std.specs.List.{flat_map};
 ghost use Rattle.cond_expr.specs.Seen.{tree, test, trees_of, tests_of};
 ghost use Rattle.cond_expr.specs.Faults.{references, trees_references, test_references, tests_references};
-ghost use Rattle.plain_answers.specs.Naming.{all_references};
-ghost use Rattle.join_exec.specs.Naming.{lent};
+ghost use Rattle.cond_expr.specs.References.{lent};
 
-use cond_expr::{ColRef, Cond, Expr};
+use crate::{ColRef, Cond, Expr};
 use prima_base::NoMemory;
 
 // Puts the references of an expression, in written order, behind what is there.
 #[cycle(gathers)]
-#[tactic(auto, using(cond_expr::proofs::SeenLaws::tree_of_concat, cond_expr::proofs::SeenLaws::tree_of_case))]
+#[tactic(auto, using(crate::proofs::SeenLaws::tree_of_concat, crate::proofs::SeenLaws::tree_of_case))]
 fn gather<'e>(into: &mut Vec<&'e ColRef>, expr: &'e Expr) -> Result<(), NoMemory>
     ensures { OnOk result (lent into.new.items ≡ lent into.old.items ++ references (tree expr.now)) }
 {
@@ -43,7 +42,7 @@ fn gather_list<'e>(into: &mut Vec<&'e ColRef>, list: &'e [Expr]) -> Result<(), N
 }
 
 #[cycle(gathers)]
-#[tactic(auto, using(cond_expr::proofs::SeenLaws::test_of_and, cond_expr::proofs::SeenLaws::test_of_or, cond_expr::proofs::SeenLaws::test_of_cmp))]
+#[tactic(auto, using(crate::proofs::SeenLaws::test_of_and, crate::proofs::SeenLaws::test_of_or, crate::proofs::SeenLaws::test_of_cmp))]
 fn gather_cond<'e>(into: &mut Vec<&'e ColRef>, cond: &'e Cond) -> Result<(), NoMemory>
     ensures { OnOk result (lent into.new.items ≡ lent into.old.items ++ test_references (test cond.now)) }
 {
@@ -78,13 +77,14 @@ fn gather_outputs<'e>(into: &mut Vec<&'e ColRef>, outs: &'e [Expr]) -> Result<()
     Ok(())
 }
 
-/// Puts the references of outputs and then of a condition, in written order, behind what is there.
-pub(crate) fn gather_references<'e>(
+/// Puts the references of outputs and then of a condition, in written order, behind what is there. The one error is
+/// `NoMemory`, where memory runs out.
+pub fn gather_references<'e>(
     into: &mut Vec<&'e ColRef>,
     outs: &'e [Expr],
     cond: &'e Cond,
 ) -> Result<(), NoMemory>
-    ensures { OnOk result (lent into.new.items ≡ lent into.old.items ++ all_references (map tree outs.now) (test cond.now)) }
+    ensures { OnOk result (lent into.new.items ≡ lent into.old.items ++ (flat_map references (map tree outs.now) ++ test_references (test cond.now))) }
 {
     gather_outputs(into, outs)?;
     gather_cond(into, cond)

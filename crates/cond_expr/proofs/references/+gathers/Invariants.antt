@@ -1,8 +1,8 @@
 use Rattle.std.proofs.Common.{◌≡◌, ◌++◌, map, drop}
 use Rattle.cond_expr.specs.Seen.{tree, test, trees_of, tests_of}
 use Rattle.cond_expr.specs.Faults.{trees_references, tests_references}
-use Rattle.join_exec.specs.Naming.{lent}
-use Rattle.join_exec.proofs.references.+gathers.Given as goal
+use Rattle.cond_expr.specs.References.{lent}
+use Rattle.cond_expr.proofs.references.+gathers.Given as goal
 
 abbrev pub invariant-gather_list-loop-part : goal.invariant-gather_list-loop-part
 invariant-gather_list-loop-part l = lent l.into.items ++ trees_references (trees_of (map tree (drop l.part-index l.list))) ≡ lent l.initial.into.items ++ trees_references (trees_of (map tree l.list))

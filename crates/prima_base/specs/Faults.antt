@@ -1,0 +1,10 @@
+-- What a test answers.
+use Rattle.std.specs.Prelude.{◌≡◌, Option, Some, None, Result, Ok, Err, ⊤}
+use Rattle.prima_base.specs.declared.faults.CallFault.{CallFault}
+use Rattle.prima_base.specs.declared.faults.CallFault.TheVariants.{Refused, NoMemory}
+
+-- the test is met, or its refusal is answered; where memory runs out nothing is said
+abbrev pub IsTested : {A : Type 0} {R : Type 0} → Option R → Result A (CallFault R) → Type 0
+IsTested refusal (Ok a) = refusal ≡ None
+IsTested refusal (Err (Refused r)) = refusal ≡ Some r
+IsTested refusal (Err NoMemory) = ⊤

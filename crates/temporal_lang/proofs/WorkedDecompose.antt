@@ -1,0 +1,314 @@
+-- Worked rows: a table that is decomposed into two, with a join as the inverse. Its past, the two tables, and the answers to a
+-- query on the version before.
+use Rattle.std.specs.Prelude.{◌≡◌, ◌==◌, ◌++◌, ◌||◌, ℕ, ◌+◌, List, [], ◌∷◌, Bool, false, not, cond, is_some, codes, Option, Some, None, if◌then◌else◌}
+use Rattle.std.proofs.Common.{refl, ap, ◌∙◌}
+use Rattle.std.specs.Option.{unwrap_or}
+use Rattle.std.specs.FinMap.{get, insert, remove, get-empty, get-insert, get-remove}
+use Rattle.std.specs.Cmp.Lexicographic.{nat_list_cmp_total}
+use Rattle.relations.specs.Sets.{set_of}
+use Rattle.relations.specs.Spans.{span, forever}
+use Rattle.relations.specs.Timeline.{listing_of}
+use Rattle.prima_base.specs.declared.values.ColType.TheVariants.{Int as INT, Text as TEXT}
+use Rattle.prima_base.specs.Order.{bytes_cmp, row_cmp}
+use Rattle.prima_base.specs.Keeping.{kept}
+use Rattle.prima_base.specs.Columns.{Column}
+use Rattle.schema_catalog.specs.Tables.{Tables}
+use Rattle.schema_catalog.specs.Databases.{Entry, Rows, Database}
+use Rattle.cond_expr.specs.declared.exprs.Whose.TheVariants.{Free}
+use Rattle.cond_expr.specs.declared.exprs.CmpOp.TheVariants.{Eq}
+use Rattle.cond_expr.specs.Trees.{column, constant, always, compared}
+use Rattle.smo_types.specs.Operators.{Operator, create_table, decompose_table, join_table}
+use Rattle.smo_types.specs.Changes.{PlainChange, insertion, update}
+use Rattle.smo_types.specs.Commands.{PlainCommand, PlainVersion, changing, evolving}
+use Rattle.smo_meaning.specs.OneRow.{Row, Relation, same}
+use Rattle.smo_meaning.specs.Making.{named, joined_columns}
+use Rattle.smo_meaning.specs.Effects.{after_each, gained, lost}
+use Rattle.smo_meaning.specs.Past.{Past, State, a_state, no_tables, no_database, beginning, changed_to, evolved_to, past_with, from_stamp, database_at}
+use Rattle.smo_meaning.specs.History.{past_of}
+use Rattle.prima_base.specs.declared.refusals.OpRefusal.{OpRefusal}
+use Rattle.prima_base.specs.declared.refusals.OpRefusal.TheVariants.{Exists, NoTable}
+use Rattle.smo_meaning.specs.First.{unless, first_refusal}
+use Rattle.smo_meaning.specs.After.{op_fault, behind}
+use Rattle.smo_meaning.specs.Preconditions.{among, differ, joinable, few_columns, test_known_in, test_typed_in}
+use Rattle.smo_meaning.specs.Inverses.{inverse_fault}
+use Rattle.smo_meaning.proofs.InverseLaws.{accepted_so}
+use Rattle.version_ways.proofs.RoundTrips.{merged_back}
+use Rattle.version_ways.specs.Migration.{migrated}
+use Rattle.version_ways.proofs.WorkedWords.{int, text, at_atom}
+use Rattle.version_ways.proofs.WorkedWays.{id, name, city, emp, who, home, emp_columns, with_emp, in_two, projected, all_columns, emp_back_of}
+use Rattle.plain_answers.specs.Branches.{plain}
+use Rattle.temporal_lang.specs.declared.whens.When.TheVariants.{Always}
+use Rattle.temporal_lang.specs.Atoms.{branches_with_atoms}
+use Rattle.temporal_lang.specs.Queries.{PlainQuery, a_query}
+use Rattle.temporal_lang.specs.Answers.{asked_at, stages, answer}
+use Rattle.temporal_lang.proofs.WorkedSelects.{command, stage, changed_at, gained_is, lost_is, select, selected, answers_by}
+
+-- ---- AT 1 EVOLVE CREATE TABLE emp (id INT, name TEXT, city TEXT);
+-- AT 2 INSERT INTO emp (id, name, city) VALUES (1, 'Ann', 'Oslo');
+-- AT 3 EVOLVE DECOMPOSE TABLE emp INTO who (id, name), home (id, city) INVERSE JOIN TABLE who, home INTO emp WHERE TRUE;
+-- AT 5 UPDATE home SET city = 'Bergen' WHERE id = 1;
+
+abbrev written : List Column
+written = (id, INT) ∷ (name, TEXT) ∷ (city, TEXT) ∷ []
+
+abbrev inserting : PlainChange
+inserting = insertion emp ((id, int 1) ∷ (name, text (codes "Ann")) ∷ (city, text (codes "Oslo")) ∷ [])
+
+abbrev moving : PlainChange
+moving = update home ((city, constant (text (codes "Bergen"))) ∷ []) (compared Eq (at_atom 0 id) (constant (int 1)))
+
+abbrev creating : PlainCommand
+creating = command 1 (evolving (create_table emp written) [])
+
+abbrev giving : PlainCommand
+giving = command 2 (changing (inserting ∷ []))
+
+abbrev decomposing : PlainCommand
+decomposing = command 3 (evolving (decompose_table emp who (id ∷ name ∷ []) home (id ∷ city ∷ [])) (join_table who home emp always ∷ []))
+
+abbrev changing_5 : PlainCommand
+changing_5 = command 5 (changing (moving ∷ []))
+
+abbrev commands : List PlainCommand
+commands = creating ∷ giving ∷ decomposing ∷ changing_5 ∷ []
+
+-- the rows of emp, which has its columns in the order of their names, of who and of home
+abbrev ann_in : List ℕ → Relation
+ann_in place = (text place ∷ int 1 ∷ text (codes "Ann") ∷ []) ∷ []
+
+abbrev ann : Relation
+ann = (int 1 ∷ text (codes "Ann") ∷ []) ∷ []
+
+abbrev place : List ℕ → Relation
+place p = (text p ∷ int 1 ∷ []) ∷ []
+
+abbrev home_columns : List Column
+home_columns = (city, TEXT) ∷ (id, INT) ∷ []
+
+abbrev from_1 : Database
+from_1 = insert no_database emp (Rows [])
+
+abbrev from_2 : Database
+from_2 = insert from_1 emp (Rows (ann_in (codes "Oslo")))
+
+abbrev from_3 : Database
+from_3 = insert (insert (remove from_2 emp) who (Rows ann)) home (Rows (place (codes "Oslo")))
+
+abbrev from_5 : Database
+from_5 = insert from_3 home (Rows (place (codes "Bergen")))
+
+abbrev version_1 : PlainVersion
+version_1 = record { stamp = 1; op = create_table emp written; inverse = []; tables = with_emp }
+
+abbrev version_2 : PlainVersion
+version_2 = record { stamp = 3; op = decompose_table emp who (id ∷ name ∷ []) home (id ∷ city ∷ []); inverse = join_table who home emp always ∷ []; tables = in_two }
+
+abbrev versions : List PlainVersion
+versions = version_1 ∷ version_2 ∷ []
+
+abbrev past : List PlainVersion → ℕ → ℕ → List State → Past
+past vs last count states = record { versions = vs; last = Some last; commands = count; states = states }
+
+abbrev states_1 : List State
+states_1 = a_state 0 no_database ∷ a_state 1 from_1 ∷ []
+
+abbrev states_2 : List State
+states_2 = states_1 ++ a_state 2 from_2 ∷ []
+
+abbrev states_3 : List State
+states_3 = states_2 ++ a_state 3 from_3 ∷ []
+
+abbrev past_5 : Past
+past_5 = past versions 5 4 (states_3 ++ a_state 5 from_5 ∷ [])
+
+-- ---- what stands under the names
+
+emp_there : get with_emp emp ≡ Some emp_columns
+emp_there = get-insert nat_list_cmp_total no_tables emp emp_columns emp
+
+home_there : get in_two home ≡ Some home_columns
+home_there =
+    get-insert nat_list_cmp_total (insert (remove with_emp emp) who (named (id ∷ name ∷ []) (unwrap_or (get with_emp emp) []))) home (named (id ∷ city ∷ []) (unwrap_or (get with_emp emp) [])) home
+    ∙ ap (λ (o : Option (List Column)). Some (named (id ∷ city ∷ []) (unwrap_or o []))) emp_there
+
+empty_at_1 : get from_1 emp ≡ Some (Rows [])
+empty_at_1 = get-insert nat_list_cmp_total no_database emp (Rows []) emp
+
+emp_at_2 : get from_2 emp ≡ Some (Rows (ann_in (codes "Oslo")))
+emp_at_2 = get-insert nat_list_cmp_total from_1 emp (Rows (ann_in (codes "Oslo"))) emp
+
+-- behind the decomposition, at 3 and still at 4, who has (1, 'Ann') and home has (1, 'Oslo')
+who_at_3 : get (database_at past_5 3) who ≡ Some (Rows ann)
+who_at_3 =
+    get-insert nat_list_cmp_total (insert (remove from_2 emp) who (Rows ann)) home (Rows (place (codes "Oslo"))) who
+    ∙ get-insert nat_list_cmp_total (remove from_2 emp) who (Rows ann) who
+
+home_at_3 : get (database_at past_5 3) home ≡ Some (Rows (place (codes "Oslo")))
+home_at_3 = get-insert nat_list_cmp_total (insert (remove from_2 emp) who (Rows ann)) home (Rows (place (codes "Oslo"))) home
+
+home_at_4 : get (database_at past_5 4) home ≡ Some (Rows (place (codes "Oslo")))
+home_at_4 = home_at_3
+
+who_at_5 : get (database_at past_5 5) who ≡ Some (Rows ann)
+who_at_5 = get-insert nat_list_cmp_total from_3 home (Rows (place (codes "Bergen"))) who ∙ who_at_3
+
+home_at_5 : get (database_at past_5 5) home ≡ Some (Rows (place (codes "Bergen")))
+home_at_5 = get-insert nat_list_cmp_total from_3 home (Rows (place (codes "Bergen"))) home
+
+-- ---- the past, command by command
+
+created : past_with beginning creating ≡ past (version_1 ∷ []) 1 1 states_1
+unfolding set_of
+created = refl
+
+given : after_each with_emp (inserting ∷ []) from_1 ≡ from_2
+given = changed_at with_emp from_1 inserting emp_columns [] emp_there empty_at_1
+
+moved : after_each in_two (moving ∷ []) from_3 ≡ from_5
+unfolding set_of
+moved = changed_at in_two from_3 moving home_columns (place (codes "Oslo")) home_there home_at_3
+
+-- one row is gained and none lost, and then one is gained and one lost
+one_gained : gained from_1 from_2 ≡ 1
+one_gained = gained_is from_1 emp [] (ann_in (codes "Oslo")) empty_at_1
+
+none_lost : lost from_1 from_2 ≡ 0
+none_lost = lost_is from_1 emp [] (ann_in (codes "Oslo")) empty_at_1
+
+then_gained : gained from_3 from_5 ≡ 1
+then_gained = gained_is from_3 home (place (codes "Oslo")) (place (codes "Bergen")) home_at_3
+
+then_lost : lost from_3 from_5 ≡ 1
+then_lost = lost_is from_3 home (place (codes "Oslo")) (place (codes "Bergen")) home_at_3
+
+abbrev changed : List PlainVersion → ℕ → ℕ → Database → List State → ℕ → Past
+changed vs stamp count new states n = past vs stamp count (if n == 0 then states else from_stamp stamp new states)
+
+at_2 : past_with (past (version_1 ∷ []) 1 1 states_1) giving ≡ past (version_1 ∷ []) 2 2 states_2
+at_2 =
+    ap (λ db. changed_to 2 db (past (version_1 ∷ []) 1 1 states_1)) given
+    ∙ ap (λ n. changed (version_1 ∷ []) 2 2 from_2 states_1 (n + lost from_1 from_2)) one_gained
+    ∙ ap (λ n. changed (version_1 ∷ []) 2 2 from_2 states_1 (1 + n)) none_lost
+
+abbrev in_parts : List Column → Option Entry → Database
+in_parts columns entry = insert (insert (remove from_2 emp) who (projected (id ∷ name ∷ []) columns entry)) home (projected (id ∷ city ∷ []) columns entry)
+
+parts_are : in_parts (unwrap_or (get with_emp emp) []) (get from_2 emp) ≡ from_3
+unfolding set_of
+parts_are = ap (λ columns. in_parts columns (get from_2 emp)) all_columns ∙ ap (in_parts emp_columns) emp_at_2
+
+at_3 : past_with (past (version_1 ∷ []) 2 2 states_2) decomposing ≡ past versions 3 3 states_3
+at_3 = ap (λ db. evolved_to version_2 db (past (version_1 ∷ []) 2 2 states_2)) parts_are
+
+at_5 : past_with (past versions 3 3 states_3) changing_5 ≡ past_5
+at_5 =
+    ap (λ db. changed_to 5 db (past versions 3 3 states_3)) moved
+    ∙ ap (λ n. changed versions 5 4 from_5 states_3 (n + lost from_3 from_5)) then_gained
+    ∙ ap (λ n. changed versions 5 4 from_5 states_3 (1 + n)) then_lost
+
+past_is : past_of commands ≡ past_5
+past_is =
+    ap (λ p. past_with (past_with (past_with p giving) decomposing) changing_5) created
+    ∙ ap (λ p. past_with (past_with p decomposing) changing_5) at_2 ∙ ap (λ p. past_with p changing_5) at_3 ∙ at_5
+
+-- ---- QUERY VERSION 1 SELECT name, city FROM emp
+
+abbrev query : PlainQuery
+query = a_query 1 (select emp (column Free name ∷ column Free city ∷ []) always) Always []
+
+abbrev answered : List ℕ → Row
+answered place = text (codes "Ann") ∷ text place ∷ []
+
+on_1 : (db : Database) (rows : Relation) → get db emp ≡ Some (Rows rows)
+    → plain with_emp (branches_with_atoms with_emp (select emp (column Free name ∷ column Free city ∷ []) always)) db
+    ≡ answers_by emp (column Free name ∷ column Free city ∷ []) always (Some emp_columns) (Some (Rows rows))
+on_1 db rows h = selected with_emp db emp (column Free name ∷ column Free city ∷ []) always emp_columns rows emp_there h
+
+asked_0 : asked_at past_5 query 0 ≡ []
+unfolding set_of
+asked_0 = on_1 (migrated past_5 0 1) [] empty_at_1
+
+asked_1 : asked_at past_5 query 1 ≡ []
+unfolding set_of
+asked_1 = on_1 from_1 [] empty_at_1
+
+asked_2 : asked_at past_5 query 2 ≡ answered (codes "Oslo") ∷ []
+unfolding set_of
+asked_2 = on_1 from_2 (ann_in (codes "Oslo")) emp_at_2
+
+-- at 3, and still at 4, Ann is in Oslo
+asked_3 : asked_at past_5 query 3 ≡ answered (codes "Oslo") ∷ []
+unfolding set_of
+asked_3 = on_1 (migrated past_5 3 1) (ann_in (codes "Oslo")) (emp_back_of from_3 ann (place (codes "Oslo")) who_at_3 home_at_3)
+
+asked_4 : asked_at past_5 query 4 ≡ answered (codes "Oslo") ∷ []
+asked_4 = asked_3
+
+asked_5 : asked_at past_5 query 5 ≡ answered (codes "Bergen") ∷ []
+unfolding set_of
+asked_5 = on_1 (migrated past_5 5 1) (ann_in (codes "Bergen")) (emp_back_of from_5 ann (place (codes "Bergen")) who_at_5 home_at_5)
+
+stages_are : stages past_5 query
+    ≡ stage 0 [] ∷ stage 1 [] ∷ stage 2 (answered (codes "Oslo") ∷ []) ∷ stage 3 (answered (codes "Oslo") ∷ []) ∷ stage 5 (answered (codes "Bergen") ∷ []) ∷ []
+stages_are = λ i. stage 0 (asked_0 i) ∷ stage 1 (asked_1 i) ∷ stage 2 (asked_2 i) ∷ stage 3 (asked_3 i) ∷ stage 5 (asked_5 i) ∷ []
+
+-- Ann in Bergen from 5 on, and in Oslo from 2 to 5: the decomposition does not cut it
+answer_is : answer past_5 query ≡ record { item = answered (codes "Bergen"); period = span 5 forever } ∷ record { item = answered (codes "Oslo"); period = span 2 5 } ∷ []
+unfolding set_of listing_of
+answer_is = ap (λ ss. kept [] (listing_of row_cmp ss)) stages_are
+
+-- ---- the inverse leads back: JOIN TABLE who, home INTO emp WHERE TRUE is accepted behind the decomposition
+
+abbrev who_columns : List Column
+who_columns = (id, INT) ∷ (name, TEXT) ∷ []
+
+abbrev parting : Operator
+parting = decompose_table emp who (id ∷ name ∷ []) home (id ∷ city ∷ [])
+
+abbrev joining : Operator
+joining = join_table who home emp always
+
+abbrev some_of : List (List ℕ) → List Column
+some_of names = named names (unwrap_or (get with_emp emp) [])
+
+who_there : get in_two who ≡ Some who_columns
+who_there =
+    get-insert nat_list_cmp_total (insert (remove with_emp emp) who (some_of (id ∷ name ∷ []))) home (some_of (id ∷ city ∷ [])) who
+    ∙ get-insert nat_list_cmp_total (remove with_emp emp) who (some_of (id ∷ name ∷ [])) who
+    ∙ ap (λ (o : Option (List Column)). Some (named (id ∷ name ∷ []) (unwrap_or o []))) emp_there
+
+emp_gone : get in_two emp ≡ None
+emp_gone =
+    get-insert nat_list_cmp_total (insert (remove with_emp emp) who (some_of (id ∷ name ∷ []))) home (some_of (id ∷ city ∷ [])) emp
+    ∙ get-insert nat_list_cmp_total (remove with_emp emp) who (some_of (id ∷ name ∷ [])) emp ∙ get-remove nat_list_cmp_total with_emp emp emp
+
+free : (n : List ℕ) → same n emp ≡ false → get with_emp n ≡ None
+free n e =
+    get-insert nat_list_cmp_total no_tables emp emp_columns n
+    ∙ ap (λ (b : Bool). cond b (Some emp_columns) (get no_tables n)) e ∙ get-empty bytes_cmp n
+
+abbrev back_with : Option (List Column) → Option (List Column) → Tables
+back_with first second = insert (remove (remove in_two who) home) emp (joined_columns (unwrap_or first []) (unwrap_or second []))
+
+leads_back : behind in_two joining ≡ with_emp
+unfolding set_of
+leads_back =
+    ap (λ (o : Option (List Column)). back_with o (get in_two home)) who_there ∙ ap (back_with (Some who_columns)) home_there
+    ∙ merged_back with_emp emp who home emp_columns (some_of (id ∷ name ∷ [])) (some_of (id ∷ city ∷ [])) emp_there (free who) (free home)
+
+abbrev joining_by : Option (List Column) → Option (List Column) → Option (List Column) → Option OpRefusal
+joining_by first second third =
+    let columns : List Column = joined_columns (unwrap_or first []) (unwrap_or second []) in
+    first_refusal (unless (is_some first) (NoTable who) ∷ unless (is_some second) (NoTable home) ∷ differ who home
+    ∷ unless (not (is_some third) || among emp (who ∷ home ∷ [])) (Exists emp) ∷ joinable who (unwrap_or first []) home (unwrap_or second [])
+    ∷ few_columns columns ∷ test_known_in emp columns always ∷ test_typed_in columns always ∷ [])
+
+joining_accepted : op_fault in_two joining ≡ None
+unfolding set_of
+joining_accepted =
+    ap (λ (o : Option (List Column)). joining_by o (get in_two home) (get in_two emp)) who_there
+    ∙ ap (λ (o : Option (List Column)). joining_by (Some who_columns) o (get in_two emp)) home_there
+    ∙ ap (joining_by (Some who_columns) (Some home_columns)) emp_gone
+
+inverse_accepted : inverse_fault with_emp parting (joining ∷ []) ≡ None
+inverse_accepted = accepted_so with_emp parting (joining ∷ []) (joining_accepted, tt) leads_back
