@@ -37,13 +37,14 @@ impl FuseDisk {
 
 impl Disk for FuseDisk {
     ghost use Rattle.std.specs.Prelude.{◌+◌, ◌^◌, ◌<◌, ◌≤◌, ◌↔◌, ◌||◌, nat_eq, IsTrue, IsErr, IfOk};
-    ghost use Rattle.std.specs.Prelude.{OnOk, OnErr, length, take, drop};
+    ghost use Rattle.std.specs.Prelude.{OnOk, OnErr, length, take, drop, Some, None, [], ◌∷◌, ◌++◌};
     ghost use Rattle.prima_io.specs.Causes.{Rose};
     ghost use Rattle.disk_model.specs.Calls.{steps_of};
     ghost use Rattle.disk_model.specs.Meaning.{Only};
     ghost use Rattle.disk_model.specs.DeviceCalls.{Reads, Writes, Syncs, with_bytes};
     ghost use Rattle.disk_model.specs.Disks.{fuse_meaning, fuse_passes, fuse_inner, memory_meaning};
-    ghost use Rattle.disk_model.specs.Disks.{memory_bytes, write_fails, sync_fails};
+    ghost use Rattle.disk_model.specs.Disks.{memory_bytes, memory_first, memory_steps, SameMemory};
+    ghost use Rattle.disk_model.specs.Disks.{write_fails, sync_fails};
     ghost use Rattle.disk_model.specs.DiskLaws.{lawful_with};
     ghost use Rattle.disk_model.specs.MemoryLaws.{lawful};
 
@@ -63,6 +64,8 @@ impl Disk for FuseDisk {
             ((fuse_meaning self.new).faults ≡ (fuse_meaning self.old).faults) }
         ensures exact { IsErr result ↔ IsTrue (nat_eq (fuse_passes self.old) 0) }
         ensures blown { fuse_passes self.old ≡ 0 → fuse_inner self.new ≡ fuse_inner self.old }
+        ensures passed { 0 < fuse_passes self.old
+            → SameMemory (fuse_inner self.old) (fuse_inner self.new) }
         ensures passes { fuse_passes self.new ≡ fuse_passes self.old - 1 }
     {
         if self.passes == 0 {
@@ -89,6 +92,8 @@ impl Disk for FuseDisk {
             ((fuse_meaning self.new).faults ≡ (fuse_meaning self.old).faults) }
         ensures exact { IsErr result ↔ IsTrue (nat_eq (fuse_passes self.old) 0) }
         ensures blown { fuse_passes self.old ≡ 0 → fuse_inner self.new ≡ fuse_inner self.old }
+        ensures passed { 0 < fuse_passes self.old
+            → SameMemory (fuse_inner self.old) (fuse_inner self.new) }
         ensures passes { fuse_passes self.new ≡ fuse_passes self.old - 1 }
     {
         if self.passes == 0 {
@@ -118,6 +123,10 @@ impl Disk for FuseDisk {
             ↔ IsTrue (nat_eq (fuse_passes self.old) 0
             || write_fails (fuse_inner self.old) (length bytes.now)) }
         ensures blown { fuse_passes self.old ≡ 0 → fuse_inner self.new ≡ fuse_inner self.old }
+        ensures listed { OnOk result (memory_steps (fuse_inner self.new)
+            ≡ memory_steps (fuse_inner self.old) ++ Some (at, bytes.now) ∷ []) }
+        ensures first { memory_first (fuse_inner self.new) ≡ memory_first (fuse_inner self.old) }
+        ensures unchanged { OnErr result (SameMemory (fuse_inner self.old) (fuse_inner self.new)) }
         ensures passes { fuse_passes self.new ≡ fuse_passes self.old - 1 }
     {
         if self.passes == 0 {
@@ -144,6 +153,10 @@ impl Disk for FuseDisk {
         ensures exact { IsErr result
             ↔ IsTrue (nat_eq (fuse_passes self.old) 0 || sync_fails (fuse_inner self.old)) }
         ensures blown { fuse_passes self.old ≡ 0 → fuse_inner self.new ≡ fuse_inner self.old }
+        ensures listed { OnOk result (memory_steps (fuse_inner self.new)
+            ≡ memory_steps (fuse_inner self.old) ++ None ∷ []) }
+        ensures first { memory_first (fuse_inner self.new) ≡ memory_first (fuse_inner self.old) }
+        ensures unchanged { OnErr result (SameMemory (fuse_inner self.old) (fuse_inner self.new)) }
         ensures passes { fuse_passes self.new ≡ fuse_passes self.old - 1 }
     {
         if self.passes == 0 {

@@ -5,3 +5,4 @@ pub mod Walked
 pub mod Moments
 pub mod Emptied
 pub mod Examples
+pub mod Whole

@@ -1,5 +1,6 @@
 -- What a mount opens, and what a crash leaves of a mount and of the puts behind it.
-use Rattle.std.proofs.Common.{◌≡◌, inl, inr, ℕ, IsTrue, List, [], ◌∷◌, ◌++◌, length, sym}
+use Rattle.std.proofs.Common.{◌≡◌, inl, inr, ℕ, ◌+◌, ◌≤◌, IsTrue, List, [], ◌∷◌, ◌++◌, length}
+use Rattle.std.proofs.Common.{take, sym}
 use Rattle.std.proofs.Common.{ap, subst, arith}
 use Rattle.std.proofs.lemmas.List.{append-nil}
 use Rattle.disk_model.specs.Meaning.{Meaning, IsLawful}
@@ -10,17 +11,22 @@ use Rattle.journal.specs.RecordLaws.{none_in_nine, stands_for_one}
 use Rattle.journal.specs.Standing.{Stands}
 use Rattle.journal.specs.Reading.{IsOpened, records_in}
 use Rattle.journal.specs.Mounting.{SameOrNine}
-use Rattle.journal.specs.Puts.{Puts, ArePut, HoldsPrefix, StandsForPrefix}
-use Rattle.journal.specs.PutLaws.{have_put, leaves_one_more}
+use Rattle.journal.specs.Puts.{Puts, ArePut, HoldsPrefix, StandsForPrefix, HavePut}
+use Rattle.journal.specs.PutLaws.{have_put, leaves_one_more, exit_one_more}
+use Rattle.journal.specs.PutLaws as puts_behind
 use Rattle.journal.specs.declared.rec.Rec.{Rec}
+
+-- what is opened, the file stands for
+pub opened_stands : (file : List ℕ) (recs : List Rec) (at : ℕ) → IsOpened file recs at
+    → StandsFor file (records_in recs)
+opened_stands file recs at (inl short) = inl (short.0, ap records_in short.1)
+opened_stands file recs at (inr read) = inr read.1.holds
 
 -- what is opened is what the file stands for
 pub opened_records : (file : List ℕ) (rs : List Record) (recs : List Rec) (at : ℕ)
     → StandsFor file rs → IsOpened file recs at → rs ≡ records_in recs
-opened_records file rs recs at stands_for (inl short) =
-    stands_for_one file rs (records_in recs) stands_for (inl (short.0, ap records_in short.1))
-opened_records file rs recs at stands_for (inr read) =
-    stands_for_one file rs (records_in recs) stands_for (inr read.1.holds)
+opened_records file rs recs at stands_for opened =
+    stands_for_one file rs (records_in recs) stands_for (opened_stands file recs at opened)
 
 -- A journal is mounted, and puts follow: until the first sync has succeeded a crash leaves what it
 -- might have left before, and from then on the opening records and a prefix of those put.
@@ -73,3 +79,48 @@ mount_and_stop file opening put stands_for old start last new at gate r one turn
     (length (put ++ r ∷ [])) one turns
     (goes_trans start last new have.goes puts.goes)
     (leaves_one_more start last gate opening put honest have new r puts)
+
+-- Both bounds at once: some records are put, then more, and then one that may have failed. Since
+-- the first sync of the mount every crash leaves the opening records and a prefix of those put, and
+-- from the moment on at which the first of them had been answered Ok it leaves all of these.
+pub mount_and_close : (file : List ℕ) (opening put more : List Record) → StandsFor file opening
+    → (old start mid last new : Meaning) (at gate place : ℕ) (r : Record) → GoesOn old start
+    → Turns old start (SameOrNine file) → IsLawful start → IsLawful mid → IsTrue start.is_honest
+    → Stands start at opening → ArePut start at put mid gate → ArePut mid gate more last place
+    → Puts last new place r
+    → Turns old new (StandsForPrefix opening (put ++ (more ++ r ∷ [])) 0
+    (length (put ++ (more ++ r ∷ []))))
+    × Leaves mid new (StandsForPrefix opening (put ++ (more ++ r ∷ [])) (length put)
+    (length (put ++ (more ++ r ∷ []))))
+mount_and_close file opening put more stands_for old start mid last new at gate place r one turns
+    law law_mid honest stands before then puts =
+    let whole = put ++ (more ++ r ∷ []) in
+    let first = puts_behind.first start mid last at gate place opening put more law law_mid honest
+    stands before then in
+    let second = puts_behind.second start mid last at gate place opening put more law law_mid honest
+    stands before then in (
+      mount_then file opening whole stands_for old start new (length whole) one turns
+          (goes_trans start mid new first.goes (goes_trans mid last new second.goes puts.goes))
+          (puts_behind.all_the_while start mid last at gate place opening put more law law_mid honest
+          stands before then new r puts),
+      λ c left. let prefix = puts_behind.from_then_on_stopped start mid last at gate place opening put
+          more law law_mid honest stands before then new r puts c left in
+          (prefix.0, prefix.1, prefix.2, inr prefix.3),
+    )
+
+-- Mounting again: of what a crash leaves behind some puts that were answered Ok and one that may
+-- have failed, a mount opens the opening records and all of the first, and at most that one more.
+pub mounts_again : (start last new : Meaning) (gate : ℕ) (opening put : List Record)
+    → IsTrue start.is_honest → HavePut start last gate opening put → (r : Record) → IsLawful new
+    → Puts last new gate r → (c : List ℕ) → new.may_leave c → (recs : List Rec) (at : ℕ)
+    → IsOpened c recs at
+    → (n : ℕ) × (length put ≤ n) × (n ≤ length put + 1)
+    × (records_in recs ≡ opening ++ take n (put ++ r ∷ []))
+mounts_again start last new gate opening put honest have r law puts c left recs at opened =
+    let prefix = exit_one_more start last gate opening put honest have new r law puts c left in (
+      prefix.0,
+      prefix.1,
+      prefix.2,
+      sym (opened_records c (opening ++ take prefix.0 (put ++ r ∷ []))
+          recs at (inr prefix.3) opened),
+    )

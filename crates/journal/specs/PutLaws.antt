@@ -124,13 +124,13 @@ module _ (start mid last : Meaning) (at gate place : ℕ) (opening put more : Li
     (law : IsLawful start) (law_mid : IsLawful mid) (honest : IsTrue start.is_honest)
     (stands : Stands start at opening) (before : ArePut start at put mid gate)
     (then : ArePut mid gate more last place) where
-  first : HavePut start mid gate opening put
+  pub first : HavePut start mid gate opening put
   first = have_put start mid at gate opening put law honest stands before
 
   still : IsTrue mid.is_honest
   still = still_honest start mid first.goes honest
 
-  second : HavePut mid last place (opening ++ put) more
+  pub second : HavePut mid last place (opening ++ put) more
   second = have_put mid last gate place (opening ++ put) more law_mid still first.stands then
 
   pub from_then_on : Leaves mid last (HoldsPrefix opening (put ++ more) (length put)
@@ -151,3 +151,17 @@ module _ (start mid last : Meaning) (at gate place : ℕ) (opening put more : Li
       (omega (arith, length-append put (more ++ r ∷ [])))
       (behind opening put (more ++ r ∷ []) 0 (length (more ++ r ∷ [])) c
       (leaves_one_more mid last place (opening ++ put) more still second new r puts c left))
+
+  -- and from the start on: a prefix of them all
+  pub all_the_while : (new : Meaning) (r : Record) → Puts last new place r
+      → Leaves start new (HoldsPrefix opening (put ++ (more ++ r ∷ [])) 0
+      (length (put ++ (more ++ r ∷ []))))
+  all_the_while new r puts =
+      let whole = put ++ (more ++ r ∷ []) in
+      then_leaves start mid new (HoldsPrefix opening whole 0 (length whole))
+      (λ c left. wider opening whole 0 (length put) 0 (length whole) c (omega arith)
+      (omega (arith, length-append put (more ++ r ∷ [])))
+      (longer opening put (more ++ r ∷ []) 0 (length put) c (omega arith) (first.leaves c left)))
+      first.goes (goes_trans mid last new second.goes puts.goes)
+      (λ c left. wider opening whole (length put) (length whole) 0 (length whole) c (omega arith)
+      (omega arith) (from_then_on_stopped new r puts c left))

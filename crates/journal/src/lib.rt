@@ -7,6 +7,7 @@
 
 mod fault;
 mod journal;
+mod laws;
 mod mount;
 mod reader;
 mod rec;
@@ -16,5 +17,6 @@ mod synced_write;
 pub use disk_model::{Disk, Failed, NoMemory};
 pub use fault::{JournalFault, PutFault};
 pub use journal::Journal;
+pub use laws::a_file_stands_or_is_damaged;
 pub use rec::Rec;
 pub use sealed::Sealed;
