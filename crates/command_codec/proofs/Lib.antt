@@ -1,0 +1,5 @@
+pub mod Answering
+pub mod FieldSteps
+pub mod ListSteps
+pub mod ReadSteps
+pub mod TreeSteps

@@ -1,0 +1,15 @@
+-- What a function that reads ensures.
+use Rattle.std.specs.Prelude.{◌≡◌, ℕ, List, Result, Ok, Err}
+use Rattle.command_codec.specs.declared.reader.Stop.{Stop}
+use Rattle.command_codec.specs.declared.reader.Stop.TheVariants as stop
+use Rattle.command_spelling.specs.Reading.{Out, Got, Stuck}
+
+-- it stands at the byte with which nothing goes on; want of memory is free
+abbrev pub Fails : {A : Type 0} → Out A → Stop → List ℕ → Type 0
+Fails out stop.NoMemory new = Unit {0}
+Fails out stop.Stuck new = out ≡ Stuck new
+
+-- it was read, or failed, as reading says
+abbrev pub Reads : {A X : Type 0} → (X → A) → Out A → Result X Stop → List ℕ → Type 0
+Reads view out (Ok x) new = out ≡ Got (view x) new
+Reads view out (Err e) new = Fails out e new

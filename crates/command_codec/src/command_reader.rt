@@ -1,0 +1,143 @@
+//! Reading changes and commands.
+
+ghost use Rattle.smo_types.specs.Changes.{change_of, changes_of, set_of_expr, sets_of, insertion, deletion, update};
+ghost use Rattle.smo_types.specs.Commands.{body_of, command_of, changing, evolving};
+ghost use Rattle.command_spelling.specs.Reading.{map_to, pair};
+ghost use Rattle.command_spelling.specs.Reader as spec;
+ghost use Rattle.command_codec.specs.Reads.{Reads};
+
+use crate::fields::{name, value};
+use crate::operator_reader::{op, ops};
+use crate::reader::{Reader, Stop};
+use crate::tree_reader::{outer_cond, outer_expr};
+use cond_expr::Expr;
+use prima_base::{FOREVER, Name, Value};
+use smo_types::{Body, Change, Command};
+use std::alloc::Global;
+
+// A column's name and its value.
+#[tactic(auto, unfolding(command_spelling::specs::Reader::cell))]
+fn cell(alloc: Global, reader: &mut Reader<'_>) -> Result<(Name, Value), Stop>
+    ensures { Reads (λ c. c) (spec.cell reader.old.rest.now) result reader.new.rest.now }
+{
+    let column = name(alloc, reader)?;
+    let value = value(alloc, reader)?;
+    Ok((column, value))
+}
+
+// Cells, with their count before them.
+#[tactic(auto, unfolding(command_spelling::specs::Reader::cells))]
+fn cells(alloc: Global, reader: &mut Reader<'_>) -> Result<Vec<(Name, Value)>, Stop>
+    ensures { Reads (λ v. v.items) (spec.cells reader.old.rest.now) result reader.new.rest.now }
+{
+    let count = reader.number(4, 0xFFFF_FFFF)?;
+    let mut list = Vec::new(alloc);
+    for _ in 0..count {
+        list.push(cell(alloc, reader)?)?;
+    }
+    Ok(list)
+}
+
+// A column's name and what it is set to.
+#[tactic(auto, unfolding(command_spelling::specs::Reader::set))]
+fn set(alloc: Global, reader: &mut Reader<'_>) -> Result<(Name, Expr), Stop>
+    ensures { Reads set_of_expr (spec.set reader.old.rest.now) result reader.new.rest.now }
+{
+    let column = name(alloc, reader)?;
+    let expr = outer_expr(alloc, reader)?;
+    Ok((column, expr))
+}
+
+// What columns are set to, with their count before them.
+#[tactic(auto, unfolding(command_spelling::specs::Reader::sets))]
+fn sets(alloc: Global, reader: &mut Reader<'_>) -> Result<Vec<(Name, Expr)>, Stop>
+    ensures { Reads (λ v. sets_of v.items) (spec.sets reader.old.rest.now) result reader.new.rest.now }
+{
+    let count = reader.number(4, 0xFFFF_FFFF)?;
+    let mut list = Vec::new(alloc);
+    for _ in 0..count {
+        list.push(set(alloc, reader)?)?;
+    }
+    Ok(list)
+}
+
+// What stands after the tag of INSERT.
+fn insert(alloc: Global, reader: &mut Reader<'_>) -> Result<Change, Stop>
+    ensures { Reads change_of (map_to (λ x. insertion x.0 x.1) (pair spec.name spec.cells) reader.old.rest.now) result reader.new.rest.now }
+{
+    let table = name(alloc, reader)?;
+    let cells = cells(alloc, reader)?;
+    Ok(Change::Insert { table, cells })
+}
+
+// What stands after the tag of DELETE.
+fn delete(alloc: Global, reader: &mut Reader<'_>) -> Result<Change, Stop>
+    ensures { Reads change_of (map_to (λ x. deletion x.0 x.1) (pair spec.name spec.outermost.cond) reader.old.rest.now) result reader.new.rest.now }
+{
+    let table = name(alloc, reader)?;
+    let cond = outer_cond(alloc, reader)?;
+    Ok(Change::Delete { table, cond })
+}
+
+// What stands after the tag of UPDATE.
+fn update(alloc: Global, reader: &mut Reader<'_>) -> Result<Change, Stop>
+    ensures { Reads change_of (map_to (λ x. update x.0.0 x.0.1 x.1) (pair (pair spec.name spec.sets) spec.outermost.cond) reader.old.rest.now) result reader.new.rest.now }
+{
+    let table = name(alloc, reader)?;
+    let sets = sets(alloc, reader)?;
+    let cond = outer_cond(alloc, reader)?;
+    Ok(Change::Update { table, sets, cond })
+}
+
+// A change.
+#[tactic(auto, unfolding(command_spelling::specs::Reader::change))]
+fn change(alloc: Global, reader: &mut Reader<'_>) -> Result<Change, Stop>
+    ensures { Reads change_of (spec.change reader.old.rest.now) result reader.new.rest.now }
+{
+    match reader.tag(2)? {
+        0 => insert(alloc, reader),
+        1 => delete(alloc, reader),
+        _ => update(alloc, reader),
+    }
+}
+
+// Changes, with their count before them.
+#[tactic(auto, unfolding(command_spelling::specs::Reader::changes))]
+fn changes(alloc: Global, reader: &mut Reader<'_>) -> Result<Vec<Change>, Stop>
+    ensures { Reads (λ v. changes_of v.items) (spec.changes reader.old.rest.now) result reader.new.rest.now }
+{
+    let count = reader.number(4, 0xFFFF_FFFF)?;
+    let mut list = Vec::new(alloc);
+    for _ in 0..count {
+        list.push(change(alloc, reader)?)?;
+    }
+    Ok(list)
+}
+
+// What a command does.
+#[tactic(auto, unfolding(command_spelling::specs::Reader::body))]
+fn body(alloc: Global, reader: &mut Reader<'_>) -> Result<Body, Stop>
+    ensures { Reads body_of (spec.body reader.old.rest.now) result reader.new.rest.now }
+{
+    match reader.tag(1)? {
+        0 => Ok(Body::Changes(changes(alloc, reader)?)),
+        _ => {
+            let op = op(alloc, reader)?;
+            let inverse = ops(alloc, reader)?;
+            Ok(Body::Evolve { op, inverse })
+        }
+    }
+}
+
+/// A command.
+#[tactic(auto, unfolding(command_spelling::specs::Reader::command))]
+pub fn command(alloc: Global, reader: &mut Reader<'_>) -> Result<Command, Stop>
+    ensures { Reads command_of (spec.command reader.old.rest.now) result reader.new.rest.now }
+{
+    let stamp = reader.number(8, FOREVER - 1)?;
+    let body = body(alloc, reader)?;
+    match Command::new(stamp, body) {
+        Some(command) => Ok(command),
+        None => unreachable!(),
+    }
+}

@@ -1,0 +1,106 @@
+//! Reading names, texts, values, types and signs.
+
+ghost use Rattle.std.specs.Prelude.{◌≡◌, true, MatchResult};
+ghost use Rattle.prima_base.specs.Bytes.{IsName, IsTxt};
+ghost use Rattle.command_codec.specs.declared.reader.Stop.TheVariants as stop;
+ghost use Rattle.command_spelling.specs.Reader as spec;
+ghost use Rattle.command_codec.specs.Reads.{Reads};
+
+use crate::reader::{Alphabet, Reader, Stop};
+use cond_expr::CmpOp;
+use prima_base::{ColType, Name, NameFault, Txt, TxtFault, Value};
+use std::alloc::Global;
+
+const MOST_TEXT: u64 = 4096;
+
+// The name of these bytes. Only memory can be missing.
+fn lawful_name(alloc: Global, bytes: &[u8]) -> Result<Name, Stop>
+    requires { IsName bytes.now }
+    ensures { MatchResult result (λ n. n ≡ bytes.now) (λ e. e ≡ stop.NoMemory) }
+{
+    match Name::new(alloc, bytes) {
+        Ok(name) => Ok(name),
+        Err(NameFault::NoMemory) => Err(Stop::NoMemory),
+        Err(_) => unreachable!(),
+    }
+}
+
+// The text of these bytes. Only memory can be missing.
+fn lawful_text(alloc: Global, bytes: &[u8]) -> Result<Txt, Stop>
+    requires { IsTxt bytes.now }
+    ensures { MatchResult result (λ t. t ≡ bytes.now) (λ e. e ≡ stop.NoMemory) }
+{
+    match Txt::new(alloc, bytes) {
+        Ok(text) => Ok(text),
+        Err(TxtFault::NoMemory) => Err(Stop::NoMemory),
+        Err(_) => unreachable!(),
+    }
+}
+
+// So many bytes of a name.
+fn name_text<'a>(reader: &mut Reader<'a>, count: u8) -> Result<&'a [u8], Stop>
+    requires { spec.is_name_length count ≡ true }
+    ensures { Reads (λ s. s.now) (spec.name_text count reader.old.rest.now) result reader.new.rest.now }
+{
+    let start = reader.rest;
+    reader.name_start()?;
+    reader.run(Alphabet::Named, count as usize - 1)?;
+    Ok(&start[..count as usize])
+}
+
+/// A name.
+#[tactic(auto, unfolding(command_spelling::specs::Reader::name))]
+pub fn name(alloc: Global, reader: &mut Reader<'_>) -> Result<Name, Stop>
+    ensures { Reads (λ n. n) (spec.name reader.old.rest.now) result reader.new.rest.now }
+{
+    let count = reader.name_length()?;
+    let bytes = name_text(reader, count)?;
+    lawful_name(alloc, bytes)
+}
+
+// A text.
+#[tactic(auto, unfolding(command_spelling::specs::Reader::text))]
+fn text(alloc: Global, reader: &mut Reader<'_>) -> Result<Txt, Stop>
+    ensures { Reads (λ t. t) (spec.text reader.old.rest.now) result reader.new.rest.now }
+{
+    let count = reader.number(2, MOST_TEXT)?;
+    let bytes = reader.run(Alphabet::Printed, count as usize)?;
+    lawful_text(alloc, bytes)
+}
+
+/// A value.
+#[tactic(auto, unfolding(command_spelling::specs::Reader::value, command_spelling::specs::Reader::integer))]
+pub fn value(alloc: Global, reader: &mut Reader<'_>) -> Result<Value, Stop>
+    ensures { Reads (λ v. v) (spec.value reader.old.rest.now) result reader.new.rest.now }
+{
+    match reader.tag(1)? {
+        0 => Ok(Value::Int(reader.number(8, u64::MAX)?.cast_signed())),
+        _ => Ok(Value::Text(text(alloc, reader)?)),
+    }
+}
+
+/// A column's type.
+#[tactic(auto, unfolding(command_spelling::specs::Reader::column_type))]
+pub fn column_type(reader: &mut Reader<'_>) -> Result<ColType, Stop>
+    ensures { Reads (λ k. k) (spec.column_type reader.old.rest.now) result reader.new.rest.now }
+{
+    match reader.tag(1)? {
+        0 => Ok(ColType::Int),
+        _ => Ok(ColType::Text),
+    }
+}
+
+/// The sign of a comparison.
+#[tactic(auto, unfolding(command_spelling::specs::Reader::sign))]
+pub fn sign(reader: &mut Reader<'_>) -> Result<CmpOp, Stop>
+    ensures { Reads (λ o. o) (spec.sign reader.old.rest.now) result reader.new.rest.now }
+{
+    match reader.tag(5)? {
+        0 => Ok(CmpOp::Eq),
+        1 => Ok(CmpOp::Ne),
+        2 => Ok(CmpOp::Lt),
+        3 => Ok(CmpOp::Le),
+        4 => Ok(CmpOp::Gt),
+        _ => Ok(CmpOp::Ge),
+    }
+}

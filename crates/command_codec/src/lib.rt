@@ -1,0 +1,20 @@
+//! Commands as bytes, written and read.
+//!
+//! command_encoder writes them; here they are read: `decode` a command that is all of the bytes, and
+//! `read_name`, `read_value` and `read_op` a part that begins at a place. Which bytes they are says
+//! command_spelling, with its laws.
+#![tactic(auto)]
+
+mod command_reader;
+mod decoding;
+mod faults;
+mod fields;
+mod operator_reader;
+mod parts;
+mod reader;
+mod tree_reader;
+
+pub use command_encoder::{encode, put_name, put_op, put_value};
+pub use decoding::decode;
+pub use faults::CodecFault;
+pub use parts::{read_name, read_op, read_value};

@@ -1,0 +1,186 @@
+//! Reading bytes from the front.
+
+ghost use Rattle.std.specs.Prelude.{◌≡◌, ◌+◌, ◌*◌, ◌/◌, ◌≤◌, ◌<◌, ◌^◌, ◌&&◌, nat_lt, nat_le, ℕ, length, IfOk};
+ghost use Rattle.command_spelling.specs.Reading.{byte, digits, run, map_to};
+ghost use Rattle.command_spelling.specs.Reader as spec;
+ghost use Rattle.command_codec.specs.Reads.{Reads};
+ghost use Rattle.command_codec.specs.Answers.{takes as may_stand};
+
+use prima_base::NoMemory;
+use std::alloc::{AllocError, AllocFailed};
+
+/// Why nothing was read.
+#[derive(Clone, Copy, Debug, PartialEq, Eq)]
+pub enum Stop {
+    /// Memory ran out. Where the reader stands then is not said.
+    NoMemory,
+    /// With the byte at the reader no spelling goes on, or the bytes ended.
+    Stuck,
+}
+
+impl From<AllocError> for Stop {
+    ghost use Rattle.std.specs.Prelude.{◌≡◌};
+    ghost use Rattle.command_codec.specs.declared.reader.Stop.TheVariants.{NoMemory as OutOfMemory};
+
+    ghost from_gives = { λ _ e. e ≡ OutOfMemory };
+
+    fn from(_error: AllocError) -> Stop {
+        Stop::NoMemory
+    }
+}
+
+impl<T: Drop> From<AllocFailed<T>> for Stop {
+    ghost use Rattle.std.specs.Prelude.{◌≡◌};
+    ghost use Rattle.command_codec.specs.declared.reader.Stop.TheVariants.{NoMemory as OutOfMemory};
+
+    ghost from_gives = { λ _ e. e ≡ OutOfMemory };
+
+    fn from(_error: AllocFailed<T>) -> Stop {
+        Stop::NoMemory
+    }
+}
+
+impl From<NoMemory> for Stop {
+    ghost use Rattle.std.specs.Prelude.{◌≡◌};
+    ghost use Rattle.command_codec.specs.declared.reader.Stop.TheVariants.{NoMemory as OutOfMemory};
+
+    ghost from_gives = { λ _ e. e ≡ OutOfMemory };
+
+    fn from(_error: NoMemory) -> Stop {
+        Stop::NoMemory
+    }
+}
+
+/// Which bytes may stand in a row.
+#[derive(Clone, Copy, Debug, PartialEq, Eq)]
+pub enum Alphabet {
+    /// ASCII letters, digits and `_`.
+    Named,
+    /// All but those below 0x20 and 0x7F.
+    Printed,
+}
+
+impl Alphabet {
+    ghost use Rattle.std.specs.Prelude.{◌≡◌};
+    ghost use Rattle.command_codec.specs.Answers.{takes as may_stand};
+
+    // Whether the byte may stand there.
+    fn takes(self, byte: u8) -> bool
+        ensures { result ≡ may_stand self byte }
+    {
+        match self {
+            Alphabet::Named => byte.is_ascii_alphanumeric() || byte == b'_',
+            Alphabet::Printed => !(byte < 0x20 || byte == 0x7F),
+        }
+    }
+}
+
+/// The bytes that are not yet read.
+#[derive(Drop)]
+pub struct Reader<'a> {
+    /// The bytes from the next one on.
+    pub rest: &'a [u8],
+}
+
+impl<'a> Reader<'a> {
+    ghost use Rattle.std.specs.Prelude.{◌≡◌, ◌+◌, ◌*◌, ◌/◌, ◌≤◌, ◌<◌, ◌^◌, ◌&&◌, nat_lt, nat_le, ℕ, length, IfOk};
+    ghost use Rattle.command_spelling.specs.Reading.{byte, digits, run, map_to};
+    ghost use Rattle.command_spelling.specs.Reader as spec;
+    ghost use Rattle.command_codec.specs.Reads.{Reads};
+    ghost use Rattle.command_codec.specs.Answers.{takes as may_stand};
+
+    /// The next byte, if it is at most this.
+    pub fn tag(&mut self, most: u8) -> Result<u8, Stop>
+        ensures { Reads (λ b. b) (byte (spec.up_to most) self.old.rest.now) result self.new.rest.now }
+    {
+        match self.rest {
+            [first, rest @ ..] if *first <= most => {
+                self.rest = rest;
+                Ok(*first)
+            }
+            _ => Err(Stop::Stuck),
+        }
+    }
+
+    // A number that goes on with the next byte after `high`, if it is at most this.
+    fn digit(&mut self, high: u64, most: u64) -> Result<u64, Stop>
+        requires { high ≤ most / 256 }
+        ensures { Reads (λ n. n) (map_to (λ b. high * 256 + b) (byte (λ b. nat_lt b 256 && nat_le (high * 256 + b) most)) self.old.rest.now) result self.new.rest.now }
+    {
+        let [first, rest @ ..] = self.rest else {
+            return Err(Stop::Stuck);
+        };
+        let number = high * 256 + *first as u64;
+        if number > most {
+            return Err(Stop::Stuck);
+        }
+        self.rest = rest;
+        Ok(number)
+    }
+
+    /// A number of so many bytes, at most 8, the highest first, if it is at most `most`.
+    pub fn number(&mut self, width: u32, most: u64) -> Result<u64, Stop>
+        requires { width ≤ 8 }
+        ensures { Reads (λ n. n) (digits most width 0 self.old.rest.now) result self.new.rest.now }
+    {
+        let mut number = 0;
+        let mut left = width;
+        while left > 0 {
+            left -= 1;
+            number = self.digit(number, most >> (8 * left))?;
+        }
+        Ok(number)
+    }
+
+    /// The next byte, if it begins a name.
+    pub fn name_start(&mut self) -> Result<u8, Stop>
+        ensures { Reads (λ b. b) (byte spec.is_name_start self.old.rest.now) result self.new.rest.now }
+    {
+        match self.rest {
+            [first @ (b'a'..=b'z' | b'A'..=b'Z' | b'_'), rest @ ..] => {
+                self.rest = rest;
+                Ok(*first)
+            }
+            _ => Err(Stop::Stuck),
+        }
+    }
+
+    /// The next byte, if it is a name's length.
+    pub fn name_length(&mut self) -> Result<u8, Stop>
+        ensures { Reads (λ b. b) (byte spec.is_name_length self.old.rest.now) result self.new.rest.now }
+    {
+        match self.rest {
+            [first @ 1..=63, rest @ ..] => {
+                self.rest = rest;
+                Ok(*first)
+            }
+            _ => Err(Stop::Stuck),
+        }
+    }
+
+    // The next byte, if it may stand there.
+    fn one_of(&mut self, alphabet: Alphabet) -> Result<u8, Stop>
+        ensures { Reads (λ b. b) (byte (may_stand alphabet) self.old.rest.now) result self.new.rest.now }
+    {
+        match self.rest {
+            [first, rest @ ..] if alphabet.takes(*first) => {
+                self.rest = rest;
+                Ok(*first)
+            }
+            _ => Err(Stop::Stuck),
+        }
+    }
+
+    /// So many bytes, each of which may stand there.
+    pub fn run(&mut self, alphabet: Alphabet, count: usize) -> Result<&'a [u8], Stop>
+        ensures { Reads (λ s. s.now) (run (may_stand alphabet) count self.old.rest.now) result self.new.rest.now }
+    {
+        let start = self.rest;
+        let mut left = count;
+        while left > 0 {
+            self.one_of(alphabet)?;
+            left -= 1;
+        }
+        Ok(&start[..count])
+    }
+}

@@ -1,0 +1,5 @@
+pub mod Found
+pub mod Lawful
+pub mod Reader
+pub mod Reading
+pub mod Spelling
