@@ -10,4 +10,4 @@
 mod block;
 mod player;
 
-pub use player::play;
+pub use player::{play, run_with_rules};

@@ -5,8 +5,9 @@ ghost use Rattle.std.specs.Prelude.{◌≤◌, length};
 use crate::block::{Block, block_of};
 use itoa::Buffer;
 use prima_base::NoMemory;
-use prima_io::{MemSink, MemSource};
-use script_cli::{Word, run};
+use prima_io::{MemSink, MemSource, Sink, Source};
+use rewrite_rules::{Rule, RuleBook, push_every_rule};
+use script_cli::{Status, Word, run};
 use std::alloc::{AllocError, Global};
 
 // How many bytes the replies to one script may have.
@@ -22,14 +23,30 @@ struct Played {
     code: u8,
 }
 
-// Runs a script over an empty archive.
+/// Runs a script over an empty archive, with one rule for each kind of operator. The one error comes where there is no
+/// memory for the rules.
+pub fn run_with_rules<S: Source, K: Sink>(
+    alloc: Global,
+    words: &[Word],
+    source: &mut S,
+    sink: &mut K,
+) -> Result<Status, NoMemory> {
+    let mut rules: Vec<Box<dyn Rule>> = Vec::new(alloc);
+    push_every_rule!(alloc, rules);
+    let Ok(book) = RuleBook::new(alloc, rules) else {
+        return Err(NoMemory);
+    };
+    Ok(run(alloc, words, &book, source, sink))
+}
+
+// Plays one script.
 fn play_script(alloc: Global, script: &[u8]) -> Result<Played, NoMemory> {
     let mut words: Vec<Word> = Vec::new(alloc);
     words.push(String::from_str(alloc, "run")?)?;
     let bytes = Vec::from_slice(alloc, script)?;
     let mut source = MemSource::new(bytes, PIECE, Vec::new(alloc));
     let mut sink = MemSink::new(alloc, ROOM, Vec::new(alloc))?;
-    let status = run(alloc, &words, &mut source, &mut sink);
+    let status = run_with_rules(alloc, &words, &mut source, &mut sink)?;
     Ok(Played {
         replies: Vec::from_slice(alloc, sink.written())?,
         code: status.code(),

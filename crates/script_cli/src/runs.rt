@@ -26,6 +26,7 @@ use crate::replies::put_wrong_words;
 use crate::sessions::Session;
 use crate::stops::Stop;
 use prima_io::{Failed, Sink, Source};
+use rule_book::RuleBook;
 use script_laws::{a_script_is_read_in_one_way, a_statement_has_no_open_text};
 use script_parse::{
     limits_are_kept, readings_are_of_the_grammar, readings_are_one, statements_are_read,
@@ -173,7 +174,8 @@ fn refuse_words<K: Sink>(sink: &mut K) -> Status
 }
 
 /// Runs a script: reads it from the source to its end, and puts the replies into the sink, each
-/// statement's when it ends. The words are judged first.
+/// statement's when it ends. The words are judged first. The book has the rules by which queries will be taken from version
+/// to version; no statement asks it yet.
 ///
 /// `output` is defined over the script's bytes alone, however they are cut: the replies to its
 /// statements in order, then the line for what stands behind the last `;`. Laws say what it is made of:
@@ -192,6 +194,7 @@ fn refuse_words<K: Sink>(sink: &mut K) -> Status
 pub fn run<S: Source, K: Sink>(
     alloc: Global,
     words: &[Word],
+    book: &RuleBook,
     source: &mut S,
     sink: &mut K,
 ) -> Status
@@ -261,6 +264,7 @@ pub fn run<S: Source, K: Sink>(
     readings_are_one();
     limits_are_kept();
     a_command_is_seen_from_its_stamp_on();
+    let _ = book;
     if !are_accepted(words) {
         return refuse_words(sink);
     }

@@ -1,5 +1,5 @@
 //! What no script can say and only running shows: devices that fail at chosen calls, texts of more than a
-//! megabyte, and the adapters over files.
+//! megabyte, the adapters over files, books of boxed rules, and pieces with ample memory.
 //!
 //! Every other case is a script with its replies, in the crates whose names end in `_cases`.
 #![tactic(auto)]
@@ -8,5 +8,9 @@
 mod adapters;
 #[cfg(test)]
 mod devices;
+#[cfg(test)]
+mod pieces;
+#[cfg(test)]
+mod rule_books;
 #[cfg(test)]
 mod runs;

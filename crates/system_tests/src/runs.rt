@@ -1,6 +1,7 @@
 //! Runs over sources and sinks in memory, with replies written by hand.
-use prima_io::{MemSink, MemSource, SureSink, SureSource};
-use script_cli::{Status, Word, run};
+use case_player::run_with_rules;
+use prima_io::{MemSink, MemSource, Sink, Source, SureSink, SureSource};
+use script_cli::{Status, Word};
 use std::alloc::{AllocError, Global};
 use std::process::Abort;
 use std::test::Fail;
@@ -9,6 +10,19 @@ const FIRST: &[u8] =
     b"AT 1 EVOLVE CREATE TABLE t (a INT); AT 5 INSERT INTO t (a) VALUES (1); QUERY VERSION 1 SELECT a FROM t;";
 
 const FIRST_REPLIES: &[u8] = b"ok 1 version 1\nok 5 +1 -0\nrow 5 now 1\nend 1\n";
+
+// The status of a run with one rule for each kind of operator.
+fn run<S: Source, K: Sink>(
+    alloc: Global,
+    words: &[Word],
+    source: &mut S,
+    sink: &mut K,
+) -> Result<Status, AllocError> {
+    match run_with_rules(alloc, words, source, sink) {
+        Ok(status) => Ok(status),
+        Err(_no_memory) => Err(AllocError),
+    }
+}
 
 fn words_of(alloc: Global, word: &str) -> Result<Vec<Word>, AllocError> {
     let mut words = Vec::new(alloc);
@@ -31,7 +45,7 @@ fn expect_run(
     let Ok(mut sink) = MemSink::new(alloc, 4096, Vec::new(alloc)) else {
         return Err(AllocError);
     };
-    let status = run(alloc, &words, &mut source, &mut sink);
+    let status = run(alloc, &words, &mut source, &mut sink)?;
     assert!(rt; status == want, "status in chunks of {chunk}");
     assert!(rt; sink.written() == replies, "replies in chunks of {chunk}");
     Ok(())
@@ -125,7 +139,7 @@ fn wrong_words(rt: HostRuntime) -> Result<(), Fail> {
         let Ok(mut sink) = MemSink::new(alloc, 100, Vec::new(alloc)) else {
             return Err(AllocError.into());
         };
-        assert!(rt; run(alloc, &words, &mut source, &mut sink) == Status::Words);
+        assert!(rt; run(alloc, &words, &mut source, &mut sink)? == Status::Words);
         assert!(rt; sink.written() == b"fault 2\n".as_slice());
     }
     Ok(())
@@ -145,7 +159,7 @@ fn faults_of_source_and_sink(rt: HostRuntime) -> Result<(), Fail> {
         let Ok(mut sink) = MemSink::new(alloc, 100, Vec::new(alloc)) else {
             return Err(AllocError.into());
         };
-        assert!(rt; run(alloc, &words, &mut source, &mut sink) == Status::ReadFault);
+        assert!(rt; run(alloc, &words, &mut source, &mut sink)? == Status::ReadFault);
         assert!(rt; sink.written() == replies);
     }
     // The sink fails at its first call, and has room for the first line alone.
@@ -157,7 +171,7 @@ fn faults_of_source_and_sink(rt: HostRuntime) -> Result<(), Fail> {
         let Ok(mut sink) = MemSink::new(alloc, room, failing) else {
             return Err(AllocError.into());
         };
-        assert!(rt; run(alloc, &words, &mut source, &mut sink) == Status::WriteFault);
+        assert!(rt; run(alloc, &words, &mut source, &mut sink)? == Status::WriteFault);
         assert!(rt; sink.written() == replies);
     }
     Ok(())
@@ -169,6 +183,6 @@ fn sure_ends_never_fail(rt: HostRuntime) -> Result<(), Fail> {
     let words = words_of(alloc, "run")?;
     let mut source = SureSource::new(Vec::from_slice(alloc, FIRST)?);
     let mut sink = SureSink::new();
-    assert!(rt; run(alloc, &words, &mut source, &mut sink) == Status::Done);
+    assert!(rt; run(alloc, &words, &mut source, &mut sink)? == Status::Done);
     Ok(())
 }

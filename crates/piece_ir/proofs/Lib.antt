@@ -1,0 +1,4 @@
+pub mod ReferenceLists
+pub mod Placed
+pub mod ChosenViews
+pub mod PutValues

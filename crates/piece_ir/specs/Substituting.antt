@@ -1,0 +1,42 @@
+-- An expression put for a column of an atom, and whether a piece names a column.
+use Rattle.std.specs.Prelude.{◌≡◌, ℕ, ◌==◌, ◌&&◌, List, Bool, if◌then◌else◌}
+use Rattle.std.specs.List.{list_any}
+use Rattle.cond_expr.specs.declared.exprs.ColRef.{ColRef}
+use Rattle.prima_base.specs.declared.values.Value.{Value}
+use Rattle.cond_expr.specs.declared.exprs.Whose.{Whose}
+use Rattle.cond_expr.specs.declared.exprs.Whose.TheVariants.{Atom}
+use Rattle.cond_expr.specs.Trees.{Tree, column, Filling, for_atoms, fill, fill_test}
+use Rattle.cond_expr.specs.Values.{over, value}
+use Rattle.smo_meaning.specs.OneRow.{same}
+use Rattle.plain_answers.specs.Naming.{is_to, all_references}
+use Rattle.piece_meaning.specs.Pieces.{PlainPiece, out_trees}
+use Rattle.piece_meaning.specs.Unfolding.{filled_outs}
+
+-- each reference is to this atom
+abbrev pub to_atom : ℕ → Filling
+to_atom i w n = column (Atom i) n
+
+-- the expression, said of the atom, for its column; each other column of an atom for itself
+abbrev pub put_column : ℕ → List ℕ → Tree → Filling
+put_column i c e = for_atoms (λ j n. if (j == i) && same n c then fill (to_atom i) e else column (Atom j) n)
+
+abbrev pub substituted : PlainPiece → ℕ → List ℕ → Tree → PlainPiece
+substituted p i c e = record { atoms = p.atoms; cond = fill_test (put_column i c e) p.cond; outs = filled_outs (put_column i c e) p.outs }
+
+-- the reference is to this column of the atom
+abbrev pub is_column : ℕ → List ℕ → ColRef → Bool
+is_column i c r = is_to i r && same r.name c
+
+abbrev pub names_column : ℕ → List ℕ → List ColRef → Bool
+names_column i c references = list_any (is_column i c) references
+
+abbrev pub piece_references : PlainPiece → List ColRef
+piece_references p = all_references (out_trees p.outs) p.cond
+
+-- it is to atom 0: the one row that an expression is over
+abbrev pub IsOwn : Whose → List ℕ → Type 0
+IsOwn w n = w ≡ Atom 0
+
+-- the cells of atoms, where a column of one has the value of an expression over the atom's row
+abbrev pub with_value : (ℕ → List ℕ → Value) → ℕ → List ℕ → Tree → ℕ → List ℕ → Value
+with_value at i c e j n = if (j == i) && same n c then value (over (λ k m. at i m)) e else at j n

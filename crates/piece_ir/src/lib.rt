@@ -1,0 +1,20 @@
+//! Pieces of rewritten queries, and what is done with them: copied, substituted in, and unfolded by views.
+#![tactic(auto)]
+
+mod choosing;
+mod fillings;
+mod laws;
+mod names;
+mod outputs;
+mod pieces;
+mod references;
+mod substitutions;
+mod unfolding;
+mod views;
+
+pub use choosing::unfold_by;
+pub use laws::substitution_puts_a_value;
+pub use pieces::Piece;
+pub use substitutions::{needs, substitute};
+pub use unfolding::append_parts;
+pub use views::{TableViews, View};

@@ -1,0 +1,48 @@
+ghost use Rattle.std.specs.Prelude.{◌≡◌, IfOk};
+ghost use Rattle.smo_types.specs.Changes.{set_of_expr, sets_of};
+ghost use Rattle.piece_meaning.specs.Unfolding.{filled_out, filled_outs};
+
+use cond_expr::{Expr, Fill, fill_expr};
+use prima_base::{Name, NoMemory};
+use std::alloc::Global;
+
+fn copy_output(alloc: Global, out: &(Name, Expr)) -> Result<(Name, Expr), NoMemory>
+    ensures { IfOk result (λ o. set_of_expr o ≡ set_of_expr out.now) }
+{
+    Ok((out.0.copy()?, out.1.copy(alloc)?))
+}
+
+/// Equal outputs.
+pub(crate) fn copy_outputs(
+    alloc: Global,
+    outs: &[(Name, Expr)],
+) -> Result<Vec<(Name, Expr)>, NoMemory>
+    ensures { IfOk result (λ v. sets_of v.items ≡ sets_of outs.now) }
+{
+    let mut copied = Vec::with_capacity(alloc, outs.len())?;
+    for out in outs {
+        copied.push(copy_output(alloc, out)?)?;
+    }
+    Ok(copied)
+}
+
+fn fill_output<F: Fill>(by: &F, alloc: Global, out: &(Name, Expr)) -> Result<(Name, Expr), NoMemory>
+    ensures { IfOk result (λ o. set_of_expr o ≡ filled_out (F.puts by.now) (set_of_expr out.now)) }
+{
+    Ok((out.0.copy()?, fill_expr(by, alloc, &out.1)?))
+}
+
+/// The outputs in which each reference is replaced by what is put for it.
+pub(crate) fn fill_outputs<F: Fill>(
+    by: &F,
+    alloc: Global,
+    outs: &[(Name, Expr)],
+) -> Result<Vec<(Name, Expr)>, NoMemory>
+    ensures { IfOk result (λ v. sets_of v.items ≡ filled_outs (F.puts by.now) (sets_of outs.now)) }
+{
+    let mut filled = Vec::with_capacity(alloc, outs.len())?;
+    for out in outs {
+        filled.push(fill_output(by, alloc, out)?)?;
+    }
+    Ok(filled)
+}

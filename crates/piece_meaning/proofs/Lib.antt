@@ -1,0 +1,10 @@
+pub mod BookLaws
+pub mod KnownKinds
+pub mod AtomKinds
+pub mod JoinedChoices
+pub mod AddedParts
+pub mod UnfoldedMeaning
+pub mod UnfoldedTypes
+pub mod ViewsLaw
+pub mod GivenRows
+pub mod WorkedUnfoldings

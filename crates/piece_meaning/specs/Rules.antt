@@ -1,0 +1,59 @@
+-- The law of a rule: what the pieces that it answers to an operator, the tables before it, and a piece over the tables behind
+-- it have in common with that piece.
+use Rattle.std.specs.Prelude.{◌≡◌, ℕ, List, [], ◌∷◌, None, if◌then◌else◌}
+use Rattle.relations.specs.Sets.{In}
+use Rattle.prima_base.specs.declared.refusals.OpKind.{OpKind}
+use Rattle.schema_catalog.specs.Tables.{Tables}
+use Rattle.schema_catalog.specs.Databases.{Database, IsDatabase}
+use Rattle.smo_types.specs.Operators.{Operator}
+use Rattle.smo_meaning.specs.OperatorKinds.{operator_kind}
+use Rattle.smo_meaning.specs.Touching.{makes, made_of}
+use Rattle.smo_meaning.specs.After.{op_fault, behind, carried, IsLawful}
+use Rattle.smo_meaning.specs.LawfulValues.{HoldsValues}
+use Rattle.piece_meaning.specs.Pieces.{PlainPiece, means, all_mean}
+use Rattle.piece_meaning.specs.Typed.{IsTyped, AllTyped, output_types}
+use Rattle.piece_meaning.specs.Given.{AreViews}
+use Rattle.piece_meaning.specs.Unfolding.{unfoldings}
+use Rattle.piece_meaning.specs.Views.{Views}
+
+-- the source tables of a table: of one that the operator makes its inputs, and else itself
+abbrev pub sources_of : Tables → Operator → List ℕ → List (List ℕ)
+sources_of tables op a = if makes tables op a then made_of op else a ∷ []
+
+-- every database of the tables: it has just them, none is lost, and each value is lawful and of its column's type
+pub record IsLawfulDatabase (tables : Tables) (db : Database) : Type 0 where
+  pub database : IsDatabase tables db
+  pub values : HoldsValues db
+
+-- the new pieces over the tables before an operator, in place of a piece over those behind it
+pub record KeepsMeaning (tables : Tables) (op : Operator) (p : PlainPiece) (news : List PlainPiece) : Type 0 where
+  -- over every database they mean what the piece means over the carried one
+  pub law : (db : Database) → IsLawfulDatabase tables db → all_mean tables db news ≡ means (behind tables op) (carried tables op db) p
+  pub typed : AllTyped tables news
+  -- with the same output names and types
+  pub outputs : (q : PlainPiece) → In q news → output_types tables q ≡ output_types (behind tables op) p
+  -- each atom of a new piece is a source table of an atom of the old one
+  pub sources : (q : PlainPiece) → In q news → (n : List ℕ) → In n q.atoms → (a : List ℕ) × In a p.atoms × In n (sources_of tables op a)
+
+-- what a rule answers, or the rules of a book do, to an operator, the tables before it, and a piece over those behind it
+abbrev pub Book : Type 0
+Book = Operator → Tables → PlainPiece → List PlainPiece
+
+-- the law of a rule that handles one kind of operator
+pub record IsLawfulRule (kind : OpKind) (answers : Book) : Type 0 where
+  pub keeps : (tables : Tables) (op : Operator) (p : PlainPiece) → operator_kind op ≡ kind → IsLawful tables → op_fault tables op ≡ None
+      → IsTyped (behind tables op) p → KeepsMeaning tables op p (answers op tables p)
+
+-- the law of a book, which handles every kind
+pub record IsLawfulBook (book : Book) : Type 0 where
+  pub keeps : (tables : Tables) (op : Operator) (p : PlainPiece) → IsLawful tables → op_fault tables op ≡ None
+      → IsTyped (behind tables op) p → KeepsMeaning tables op p (book op tables p)
+
+-- the rule that unfolds by the views of each operator
+abbrev pub by_views : (Tables → Operator → Views) → Book
+by_views views op tables p = unfoldings (views tables op) p
+
+-- of the operators of one kind, these are the views
+abbrev pub HasViews : OpKind → (Tables → Operator → Views) → Type 0
+HasViews kind views = (tables : Tables) (op : Operator) → operator_kind op ≡ kind → IsLawful tables → op_fault tables op ≡ None
+    → AreViews tables op (views tables op)

@@ -1,0 +1,2 @@
+pub mod RuleLaw
+pub mod PairSteps
