@@ -1,0 +1,6 @@
+//! The periods of the versions inside a slice of time: where a query asks which version (PRIMA 2008).
+#![tactic(auto)]
+
+mod splitting;
+
+pub use splitting::split;

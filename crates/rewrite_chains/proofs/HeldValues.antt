@@ -1,0 +1,59 @@
+-- Lawful values along the versions, and the databases with losses that hold them.
+use Rattle.std.proofs.Common.{◌≡◌, ℕ, zero, suc, Bool, true, false, List, [], ◌∷◌, ◌++◌, sym, subst}
+use Rattle.std.specs.Prelude.{cond, Option, Some, None, slice_get}
+use Rattle.std.specs.Option.{option_map}
+use Rattle.std.specs.FinMap.{get}
+use Rattle.schema_catalog.specs.Tables.{Tables}
+use Rattle.schema_catalog.specs.Databases.{Entry, Rows, Lost, Database}
+use Rattle.smo_types.specs.Operators.{Operator}
+use Rattle.smo_types.specs.Commands.{PlainVersion, PlainBody, changing, evolving, PlainCommand}
+use Rattle.smo_meaning.specs.Touching.{makes, consumes}
+use Rattle.smo_meaning.specs.Losses.{IsDatabaseWithLosses}
+use Rattle.smo_meaning.specs.After.{op_fault}
+use Rattle.smo_meaning.specs.Past.{Past, past_with, past_behind, next_version}
+use Rattle.smo_meaning.specs.History.{past_after}
+use Rattle.smo_meaning.specs.LawfulValues.{EntryHolds, HoldsValues, BodyHolds, CommandsHold}
+use Rattle.version_ways.specs.Whole.{whole_entry, whole}
+use Rattle.version_ways.specs.Migration.{undone}
+use Rattle.version_ways.proofs.WayDatabases.{unnamed_at}
+use Rattle.version_ways.proofs.WholeDatabases.{whole_at, whole_database}
+use Rattle.piece_meaning.specs.Rules.{IsLawfulDatabase}
+use Rattle.smo_meaning.specs.LawfulValues.{VersionsHold}
+
+whole_holds : (x : Option Entry) → EntryHolds x → EntryHolds (option_map whole_entry x)
+whole_holds None h = tt
+whole_holds (Some (Rows rows)) h = h
+whole_holds (Some (Lost k i)) h = λ row m. absurd m
+
+pub whole_lawful : (tables : Tables) (db : Database) → IsDatabaseWithLosses tables db → HoldsValues db → IsLawfulDatabase tables (whole db)
+whole_lawful tables db h w = record {
+  database = whole_database tables db h;
+  values = λ n. subst EntryHolds (sym (whole_at db n)) (whole_holds (get db n) (w n));
+}
+
+pub undone_holds : (k : ℕ) (before : Tables) (op : Operator) (db : Database) → op_fault before op ≡ None → HoldsValues db → HoldsValues (undone k before op db)
+undone_holds k before op db accepted h = λ n. subst EntryHolds (sym (unnamed_at k before op accepted db n)) (step (consumes before op n) (makes before op n) (get db n) (h n))
+  where
+    step : (a b : Bool) (x : Option Entry) → EntryHolds x → EntryHolds (cond a (Some (Lost k 1)) (cond b None x))
+    step true b x h = tt
+    step false true x h = tt
+    step false false x h = h
+
+-- ---- versions
+
+pub version_holds : (versions : List PlainVersion) (k : ℕ) (v : PlainVersion) → VersionsHold versions → slice_get versions k ≡ Some v → BodyHolds (evolving v.op v.inverse)
+version_holds [] k v h e = absurd (cc)
+version_holds (w ∷ versions) zero v h e = (let same : w ≡ v = cc in subst (λ (x : PlainVersion). BodyHolds (evolving x.op x.inverse)) same h.0)
+version_holds (w ∷ versions) (suc k) v h e = version_holds versions k v h.1 e
+
+one_more : (versions : List PlainVersion) (v : PlainVersion) → VersionsHold versions → BodyHolds (evolving v.op v.inverse) → VersionsHold (versions ++ v ∷ [])
+one_more [] v h g = (g, tt)
+one_more (w ∷ versions) v h g = (h.0, one_more versions v h.1 g)
+
+pub held_behind : (past : Past) (stamp : ℕ) (body : PlainBody) → VersionsHold past.versions → BodyHolds body → VersionsHold (past_behind stamp body past).versions
+held_behind past stamp (changing changes) h g = h
+held_behind past stamp (evolving op inverse) h g = one_more past.versions (next_version stamp op inverse past) h g
+
+pub held_after : (past : Past) (commands : List PlainCommand) → VersionsHold past.versions → CommandsHold commands → VersionsHold (past_after past commands).versions
+held_after past [] h g = h
+held_after past (c ∷ commands) h g = held_after (past_with past c) commands (held_behind past c.stamp c.body h g.0) g.1

@@ -1,0 +1,10 @@
+pub mod PieceLaws
+pub mod EmptyDatabases
+pub mod HeldValues
+pub mod ChainSteps
+pub mod Chains
+pub mod StaysLost
+pub mod PiecesMean
+pub mod FirstPieces
+pub mod ReadMoments
+pub mod Standings

@@ -1,0 +1,11 @@
+use Rattle.rewrite_chains.proofs.ReadMoments.{table_means, table_typed, table_output}
+use Rattle.rewrite_chains.proofs.laws.the_pieces_of_a_table.Goals as goal
+
+pub returns-clause-means : goal.returns-clause-means
+returns-clause-means c = λ book lawful versions are hold v q table r asked none db h. table_means versions are book lawful v q table r asked none hold db h
+
+pub returns-clause-typed : goal.returns-clause-typed
+returns-clause-typed c = λ book lawful versions are v q table r asked none. table_typed versions are book lawful v q table r asked none
+
+pub returns-clause-outputs : goal.returns-clause-outputs
+returns-clause-outputs c = λ book lawful versions are v q table r asked none p m. table_output versions are book lawful v q table r asked none p m

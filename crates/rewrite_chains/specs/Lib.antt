@@ -1,0 +1,4 @@
+pub mod Chains
+pub mod Beginnings
+pub mod Reading
+pub mod Standing
