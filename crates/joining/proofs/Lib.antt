@@ -1,0 +1,6 @@
+pub mod ChoiceLaws
+pub mod Answered
+pub mod AtomCells
+pub mod AtomOrder
+pub mod NearRows
+pub mod TurnLaws

@@ -1,0 +1,36 @@
+ghost use Rattle.std.specs.Prelude.{◌≡◌, ℕ, true, false, List, [], IfOk, map};
+ghost use Rattle.relations.specs.Sets.{set_of};
+ghost use Rattle.relations.specs.Spans.{covers};
+ghost use Rattle.prima_base.specs.Columns.{Column as TableColumn};
+ghost use Rattle.prima_base.specs.Order.{row_cmp};
+ghost use Rattle.prima_base.specs.Timed.{rows_at};
+ghost use Rattle.cond_expr.specs.Seen.{tree, test};
+ghost use Rattle.plain_answers.specs.Choosing.{answers_over};
+ghost use Rattle.timed_choices.specs.Lending.{AllStayLent};
+ghost use Rattle.joining.specs.Sources.{AtomsLent, atom_rows, AreNumbered, HaveAtoms};
+
+use crate::orders::join_in_order;
+use crate::sources::Atom;
+use cond_expr::{Cond, Expr};
+use prima_base::{NoMemory, Period, TimedRow};
+use std::alloc::Global;
+
+/// What outputs and a condition answer over one list of rows with periods for each atom, at each moment of the slice: the
+/// outputs of the choices of one row of each that hold together and meet the condition. The rows have the periods in which
+/// they hold, all inside the slice, in no order; a row may stand several times.
+/// Where all values of the atoms are lent, those of plain columns stay lent.
+pub fn answer_choices<'a>(
+    alloc: Global,
+    outs: &[Expr],
+    cond: &Cond,
+    atoms: Vec<Atom<'a>>,
+    slice: Period,
+) -> Result<Vec<TimedRow<'a>>, NoMemory>
+    requires { AreNumbered atoms.items }
+    ensures lent { AtomsLent atoms.entry.items → IfOk result (λ rows. AllStayLent (map tree outs.now) rows.items) }
+    ensures inside { (m : ℕ) → covers slice m ≡ false → IfOk result (λ rows. rows_at rows.items m ≡ []) }
+    ensures rows { (columns : List (List TableColumn)) → HaveAtoms 0 columns atoms.entry.items → (m : ℕ) → covers slice m ≡ true
+        → IfOk result (λ rows. rows_at rows.items m ≡ set_of row_cmp (answers_over columns (atom_rows atoms.entry.items m) (map tree outs.now) (test cond.now))) }
+{
+    join_in_order(alloc, outs, cond, atoms, slice)
+}

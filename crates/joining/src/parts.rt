@@ -1,0 +1,50 @@
+//! The parts of a condition that all have to hold.
+
+ghost use Rattle.std.specs.Prelude.{◌≡◌, ◌++◌, OnOk, map};
+ghost use Rattle.cond_expr.specs.Seen.{test, tests_of};
+ghost use Rattle.timed_choices.specs.Keeping.{lent_tests};
+ghost use Rattle.timed_choices.specs.Placing.{parts, parts_of_all};
+
+use cond_expr::Cond;
+use prima_base::NoMemory;
+
+/// Puts the parts of a condition behind what is there. Parts of an AND inside an AND are parts; nothing under OR or NOT is.
+#[cycle(parts)]
+#[tactic(auto, using(cond_expr::proofs::SeenLaws::test_of_and, cond_expr::proofs::SeenLaws::test_of_or, cond_expr::proofs::SeenLaws::test_of_cmp))]
+pub(crate) fn gather_parts<'c>(into: &mut Vec<&'c Cond>, cond: &'c Cond) -> Result<(), NoMemory>
+    ensures { OnOk result (lent_tests into.new.items ≡ lent_tests into.old.items ++ parts (test cond.now)) }
+{
+    match cond {
+        Cond::And(conds) => gather_all(into, conds),
+        Cond::False => {
+            into.push(cond)?;
+            Ok(())
+        }
+        Cond::True => {
+            into.push(cond)?;
+            Ok(())
+        }
+        Cond::Cmp(_, _, _) => {
+            into.push(cond)?;
+            Ok(())
+        }
+        Cond::Or(_) => {
+            into.push(cond)?;
+            Ok(())
+        }
+        Cond::Not(_) => {
+            into.push(cond)?;
+            Ok(())
+        }
+    }
+}
+
+#[cycle(parts)]
+fn gather_all<'c>(into: &mut Vec<&'c Cond>, conds: &'c [Cond]) -> Result<(), NoMemory>
+    ensures { OnOk result (lent_tests into.new.items ≡ lent_tests into.old.items ++ parts_of_all (tests_of (map test conds.now))) }
+{
+    for cond in conds {
+        gather_parts(into, cond)?;
+    }
+    Ok(())
+}

@@ -1,0 +1,125 @@
+//! Where in a row references stand, and what that says of a part of a condition.
+
+ghost use Rattle.std.specs.Prelude.{◌≡◌, ◌+◌, ◌++◌, true, List, length, IfOk, IfSome};
+ghost use Rattle.std.specs.Ordering.{is_eq};
+ghost use Rattle.prima_base.specs.declared.values.Value.{Value as OneValue};
+ghost use Rattle.prima_base.specs.Order.{value_cmp};
+ghost use Rattle.cond_expr.specs.Rows.{names, same};
+ghost use Rattle.cond_expr.specs.Seen.{tree, test};
+ghost use Rattle.cond_expr.specs.Faults.{test_references};
+ghost use Rattle.cond_expr.specs.Values.{value};
+ghost use Rattle.timed_choices.specs.Keeping.{value_at, cells, meets, meets_all, picked, lent_tests};
+ghost use Rattle.timed_choices.specs.Placing.{lent, place, is_below, all_below};
+
+use crate::references::gather_cond;
+use cond_expr::{CmpOp, ColRef, Column, Cond, Expr, Whose};
+use prima_base::{Name, NoMemory};
+use std::alloc::Global;
+
+// Whether two names are the same.
+fn same_name(a: &Name, b: &Name) -> bool
+    ensures { result ≡ same a.now b.now }
+{
+    a.bytes() == b.bytes()
+}
+
+// Whether the reference names the column.
+fn is_named(reference: &ColRef, column: &Column) -> bool
+    ensures { result ≡ names reference.now.whose reference.now.name column.now }
+{
+    match reference.whose {
+        Whose::Atom(atom) => column.atom == atom && same_name(&reference.name, &column.name),
+        Whose::Free | Whose::Alias(_) => false,
+    }
+}
+
+/// The place of the first column that the reference names.
+pub(crate) fn place_of(columns: &[Column], reference: &ColRef) -> Option<usize>
+    ensures { result ≡ place columns.now reference.now.whose reference.now.name }
+{
+    columns
+        .iter()
+        .position(|column| is_named(reference, column))
+}
+
+// Whether the reference stands among so many values, and then so many more.
+fn is_within(columns: &[Column], reference: &ColRef, taken: usize, width: usize) -> bool
+    ensures { result ≡ is_below (taken + width) (place columns.now reference.now.whose reference.now.name) }
+{
+    match place_of(columns, reference) {
+        Some(i) => i < taken || i - taken < width,
+        None => false,
+    }
+}
+
+fn are_within(columns: &[Column], references: &[&ColRef], taken: usize, width: usize) -> bool
+    ensures { result ≡ all_below columns.now (taken + width) (lent references.now) }
+{
+    for reference in references {
+        if !is_within(columns, reference, taken, width) {
+            return false;
+        }
+    }
+    true
+}
+
+/// Whether all references of the condition stand among so many values, and then so many more.
+pub(crate) fn is_settled(
+    alloc: Global,
+    columns: &[Column],
+    cond: &Cond,
+    taken: usize,
+    width: usize,
+) -> Result<bool, NoMemory>
+    ensures { IfOk result (λ b. b ≡ all_below columns.now (taken + width) (test_references (test cond.now))) }
+{
+    let mut references = Vec::new(alloc);
+    gather_cond(&mut references, cond)?;
+    Ok(are_within(columns, &references, taken, width))
+}
+
+// The place whose value the expression is.
+fn column_place(columns: &[Column], expr: &Expr) -> Option<usize>
+    ensures { IfSome result (λ i. (row : List OneValue) → value (cells columns.now row) (tree expr.now) ≡ value_at row i) }
+{
+    match expr {
+        Expr::Col(reference) => place_of(columns, reference),
+        Expr::Const(_) | Expr::Length(_) | Expr::Concat(_) | Expr::Case(_, _, _) => None,
+    }
+}
+
+// The two places whose values the condition says are equal.
+#[tactic(auto, using(cond_expr::proofs::SeenLaws::test_of_cmp))]
+fn equal_places(columns: &[Column], cond: &Cond) -> Option<(usize, usize)>
+    ensures { IfSome result (λ r. (row : List OneValue) → meets columns.now (test cond.now) row ≡ is_eq (value_cmp (value_at row r.0) (value_at row r.1))) }
+{
+    match cond {
+        Cond::Cmp(CmpOp::Eq, first, second) => {
+            let a = column_place(columns, first)?;
+            let b = column_place(columns, second)?;
+            Some((a, b))
+        }
+        Cond::Cmp(_, _, _) | Cond::False | Cond::True | Cond::And(_) | Cond::Or(_) | Cond::Not(_) =>
+            None,
+    }
+}
+
+/// A place in a choice of so many values, and a place in a row of so many, that have one value in whatever the two
+/// begin that meets the condition.
+pub(crate) fn key_places(
+    columns: &[Column],
+    cond: &Cond,
+    taken: usize,
+    width: usize,
+) -> Option<(usize, usize)>
+    ensures { IfSome result (λ r. (p y c : List OneValue) → length p ≡ taken → length y ≡ width → meets columns.now (test cond.now) ((p ++ y) ++ c) ≡ true → value_at y r.1 ≡ value_at p r.0) }
+{
+    let (a, b) = equal_places(columns, cond)?;
+    if a < taken && taken <= b && b - taken < width {
+        Some((a, b - taken))
+    } else if b < taken && taken <= a && a - taken < width {
+        Some((b, a - taken))
+    } else {
+        None
+    }
+}

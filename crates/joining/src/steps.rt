@@ -1,0 +1,188 @@
+//! One more list of rows joined to the choices made so far.
+
+ghost use Rattle.std.specs.Prelude.{◌≡◌, ◌++◌, map, IfOk, OnOk, List};
+ghost use Rattle.std.specs.List.{flat_map};
+ghost use Rattle.std.specs.BTreeMap as tree;
+ghost use Rattle.prima_base.specs.declared.values.Value.{Value as OneValue};
+ghost use Rattle.prima_base.specs.Order.{row_cmp, shown, IsLent};
+ghost use Rattle.prima_base.specs.Timed.{entry_of, entries_of};
+ghost use Rattle.cond_expr.specs.Rows.{AreLawful, AreLent};
+ghost use Rattle.cond_expr.specs.Seen.{test};
+ghost use Rattle.timed_choices.specs.Lending.{AllLent};
+ghost use Rattle.timed_choices.specs.Choosing.{paired, pairs};
+ghost use Rattle.timed_choices.specs.Keeping.{picked, meets, meets_all, passing, kept, in_group, lent_tests, IsLawfulRow, AllLawful};
+
+use crate::groups::{Group, grouped};
+use crate::keys::{Key, key_of};
+use cond_expr::{Column, Cond, holds};
+use prima_base::{NoMemory, TimedRow, Val, meet};
+use std::alloc::Global;
+use std::collections::BTreeMap;
+
+// Whether the values meet the condition.
+#[tactic(auto, using(timed_choices::proofs::Tests::met_is))]
+pub(crate) fn is_met(
+    alloc: Global,
+    cond: &Cond,
+    columns: &[Column],
+    values: &[Val<'_>],
+) -> Result<bool, NoMemory>
+    requires { AreLawful values.now }
+    ensures { IfOk result (λ b. b ≡ meets columns.now (test cond.now) (map shown values.now)) }
+{
+    let met = holds(alloc, cond, columns, values)?;
+    Ok(met)
+}
+
+// Whether the values meet all of the conditions.
+fn all_met(
+    alloc: Global,
+    conds: &[&Cond],
+    columns: &[Column],
+    values: &[Val<'_>],
+) -> Result<bool, NoMemory>
+    requires { AreLawful values.now }
+    ensures { IfOk result (λ b. b ≡ meets_all columns.now (lent_tests conds.now) (map shown values.now)) }
+{
+    match conds {
+        [] => Ok(true),
+        [first, rest @ ..] => {
+            if !is_met(alloc, first, columns, values)? {
+                return Ok(false);
+            }
+            all_met(alloc, rest, columns, values)
+        }
+    }
+}
+
+// The same value. What is lent stays lent.
+fn again<'a>(value: &Val<'a>) -> Result<Val<'a>, NoMemory>
+    ensures same { IfOk result (λ v. shown v ≡ shown value.now) }
+    ensures lent { IsLent value.now → IfOk result (λ v. IsLent v) }
+{
+    match value {
+        Val::Int(n) => Ok(Val::Int(*n)),
+        Val::Slice(bytes) => Ok(Val::Slice(bytes)),
+        Val::Own(text) => Ok(Val::Own(text.copy()?)),
+    }
+}
+
+// Puts the values behind the others.
+fn append<'a>(into: &mut Vec<Val<'a>>, values: &[Val<'a>]) -> Result<(), NoMemory>
+    ensures values { OnOk result (map shown into.new.items ≡ map shown into.old.items ++ map shown values.now) }
+    ensures lent { AreLent into.old.items → AreLent values.now → OnOk result (AreLent into.new.items) }
+{
+    for value in values {
+        into.push(again(value)?)?;
+    }
+    Ok(())
+}
+
+// The values of both.
+fn of_both<'a>(
+    alloc: Global,
+    first: &[Val<'a>],
+    second: &[Val<'a>],
+) -> Result<Vec<Val<'a>>, NoMemory>
+    ensures values { IfOk result (λ v. map shown v.items ≡ map shown first.now ++ map shown second.now) }
+    ensures lent { AreLent first.now → AreLent second.now → IfOk result (λ v. AreLent v.items) }
+{
+    let mut values = Vec::with_capacity(alloc, first.len().saturating_add(second.len()))?;
+    append(&mut values, first)?;
+    append(&mut values, second)?;
+    Ok(values)
+}
+
+// Puts the choice with the row behind the others, in their common moments, where it has any and passes the tests.
+fn put_pair<'a>(
+    alloc: Global,
+    columns: &[Column],
+    tests: &[&Cond],
+    choice: &TimedRow<'a>,
+    row: &TimedRow<'a>,
+    into: &mut Vec<TimedRow<'a>>,
+) -> Result<(), NoMemory>
+    requires choice { IsLawfulRow (map shown choice.now.values.items) }
+    requires row { IsLawfulRow (map shown row.now.values.items) }
+    ensures lent { AllLent into.old.items → AreLent choice.now.values.items → AreLent row.now.values.items → OnOk result (AllLent into.new.items) }
+    ensures rows { OnOk result (entries_of into.new.items ≡ entries_of into.old.items ++ paired (passing columns.now (lent_tests tests.now)) (entry_of choice.now) (entry_of row.now)) }
+{
+    let Some(period) = meet(choice.period, row.period) else {
+        return Ok(());
+    };
+    let values = of_both(alloc, &choice.values, &row.values)?;
+    if !all_met(alloc, tests, columns, &values)? {
+        return Ok(());
+    }
+    into.push(TimedRow { values, period })?;
+    Ok(())
+}
+
+// The same of each row of a group.
+fn put_group<'a>(
+    alloc: Global,
+    columns: &[Column],
+    tests: &[&Cond],
+    choice: &TimedRow<'a>,
+    rows: &[TimedRow<'a>],
+    into: &mut Vec<TimedRow<'a>>,
+) -> Result<(), NoMemory>
+    requires choice { IsLawfulRow (map shown choice.now.values.items) }
+    requires rows { AllLawful (entries_of rows.now) }
+    ensures lent { AllLent into.old.items → AreLent choice.now.values.items → AllLent rows.now → OnOk result (AllLent into.new.items) }
+    ensures rows { OnOk result (entries_of into.new.items ≡ entries_of into.old.items ++ flat_map (paired (passing columns.now (lent_tests tests.now)) (entry_of choice.now)) (entries_of rows.now)) }
+{
+    for row in rows {
+        put_pair(alloc, columns, tests, choice, row, into)?;
+    }
+    Ok(())
+}
+
+// The same of each row that agrees with the choice.
+fn put_choice<'a>(
+    alloc: Global,
+    columns: &[Column],
+    own: &[usize],
+    tests: &[&Cond],
+    choice: &TimedRow<'a>,
+    groups: &BTreeMap<Key<'a>, Group<'a>>,
+    into: &mut Vec<TimedRow<'a>>,
+) -> Result<(), NoMemory>
+    requires choice { IsLawfulRow (map shown choice.now.values.items) }
+    requires rows { (key : List OneValue) → AllLawful (entries_of (in_group (tree.get row_cmp groups.now key))) }
+    ensures lent { AllLent into.old.items → AreLent choice.now.values.items → ((key : List OneValue) → AllLent (in_group (tree.get row_cmp groups.now key))) → OnOk result (AllLent into.new.items) }
+    ensures rows { OnOk result (entries_of into.new.items ≡ entries_of into.old.items
+        ++ flat_map (paired (passing columns.now (lent_tests tests.now)) (entry_of choice.now)) (entries_of (in_group (tree.get row_cmp groups.now (picked own.now (map shown choice.now.values.items)))))) }
+{
+    let key = key_of(alloc, own, &choice.values)?;
+    match groups.get(&key) {
+        Some(group) => {
+            let rows = group.near(choice.period);
+            put_group(alloc, columns, tests, choice, rows, into)
+        }
+        None => Ok(()),
+    }
+}
+
+/// The choices with each row behind that agrees with them, in their common moments, where they have any and pass the tests.
+pub(crate) fn put_choices<'a>(
+    alloc: Global,
+    columns: &[Column],
+    own: &[usize],
+    other: &[usize],
+    tests: &[&Cond],
+    choices: &[TimedRow<'a>],
+    rows: Vec<TimedRow<'a>>,
+) -> Result<Vec<TimedRow<'a>>, NoMemory>
+    requires choices { AllLawful (entries_of choices.now) }
+    requires rows { AllLawful (entries_of rows.items) }
+    ensures lent { AllLent choices.now → AllLent rows.entry.items → IfOk result (λ v. AllLent v.items) }
+    ensures rows { IfOk result (λ v. entries_of v.items ≡ pairs (kept columns.now own.now other.now (lent_tests tests.now)) (entries_of choices.now) (entries_of rows.entry.items)) }
+{
+    let groups = grouped(alloc, other, rows)?;
+    let mut made = Vec::new(alloc);
+    for choice in choices {
+        put_choice(alloc, columns, own, tests, choice, &groups, &mut made)?;
+    }
+    Ok(made)
+}

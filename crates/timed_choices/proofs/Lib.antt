@@ -1,0 +1,12 @@
+pub mod HeldPairs
+pub mod Pruning
+pub mod ShownOrder
+pub mod Groups
+pub mod Tests
+pub mod OneMore
+pub mod ReferenceLaws
+pub mod PlaceLaws
+pub mod ColumnTrees
+pub mod JoinLaws
+pub mod Reordering
+pub mod LentLaws

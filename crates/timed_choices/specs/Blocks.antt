@@ -1,0 +1,45 @@
+-- What is answered of choices of one row of each of several relations, each with its own columns.
+use Rattle.std.specs.Prelude.{◌≡◌, ℕ, List, [], ◌∷◌, map, length, ⊤}
+use Rattle.std.specs.List.{flat_map, filter}
+use Rattle.relations.specs.Sets.{In, set_of}
+use Rattle.relations.specs.Choices.{choices}
+use Rattle.prima_base.specs.declared.values.Value.{Value}
+use Rattle.prima_base.specs.Order.{row_cmp}
+use Rattle.cond_expr.specs.declared.exprs.Column.{Column}
+use Rattle.cond_expr.specs.Trees.{Tree, Test}
+use Rattle.timed_choices.specs.Keeping.{meets}
+use Rattle.timed_choices.specs.Fitting.{AreOwn}
+use Rattle.timed_choices.specs.Answering.{outputs, one_row}
+
+-- the columns of an atom, which has this number, and its relation
+pub record Block : Type 0 where
+  pub number : ℕ
+  pub columns : List Column
+  pub rows : List (List Value)
+
+abbrev pub types_of : List Block → List Column
+types_of blocks = flat_map (λ (b : Block). b.columns) blocks
+
+abbrev pub rows_of : List Block → List (List (List Value))
+rows_of blocks = map (λ (b : Block). b.rows) blocks
+
+-- the rows that are answered, with what they may repeat, and their relation
+abbrev pub answered_rows : List Tree → Test → List Block → List (List Value)
+answered_rows outs cond blocks = map (outputs (types_of blocks) outs) (filter (meets (types_of blocks) cond) (map one_row (choices (rows_of blocks))))
+
+abbrev pub answered : List Tree → Test → List Block → List (List Value)
+answered outs cond blocks = set_of row_cmp (answered_rows outs cond blocks)
+
+-- the columns are the atom's own, and each row has a value for each
+pub record IsBlock (b : Block) : Type 0 where
+  pub own : AreOwn b.number b.columns
+  pub wide : (row : List Value) → In row b.rows → length row ≡ length b.columns
+
+-- none of them has the number
+abbrev pub Apart : ℕ → List Block → Type 0
+Apart k [] = ⊤
+Apart k (b ∷ blocks) = (b.number ≡ k → ⊥) × Apart k blocks
+
+abbrev pub AreBlocks : List Block → Type 0
+AreBlocks [] = ⊤
+AreBlocks (b ∷ blocks) = IsBlock b × AreBlocks blocks

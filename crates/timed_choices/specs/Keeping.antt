@@ -1,0 +1,67 @@
+-- Which rows are kept beside a choice: those that agree with it on some places, and with which it passes some tests.
+use Rattle.std.specs.Prelude.{ℕ, Bool, true, ◌&&◌, List, [], ◌∷◌, ◌++◌, map, get_or, pos, cond, Option, Some, None, ⊤}
+use Rattle.relations.specs.Timed.{Entry}
+use Rattle.prima_base.specs.declared.timed_rows.TimedRow.{TimedRow}
+use Rattle.std.specs.Ordering.{is_eq}
+use Rattle.prima_base.specs.declared.values.Value.{Value}
+use Rattle.prima_base.specs.declared.values.Value.TheVariants.{Int}
+use Rattle.prima_base.specs.Order.{row_cmp}
+use Rattle.prima_base.specs.Columns.{IsLawful}
+use Rattle.relations.specs.Sets.{In}
+use Rattle.std.specs.Borrow.{Bor}
+use Rattle.cond_expr.specs.declared.exprs.Cond.{Cond}
+use Rattle.cond_expr.specs.Seen.{test}
+use Rattle.cond_expr.specs.declared.exprs.Column.{Column}
+use Rattle.cond_expr.specs.Trees.{Test}
+use Rattle.cond_expr.specs.Values.{Cells, truth}
+use Rattle.cond_expr.specs.Rows.{names}
+
+-- the value at a place
+abbrev pub value_at : List Value → ℕ → Value
+value_at values i = get_or values i (Int (pos 0))
+
+-- the values at some places
+abbrev pub picked : List ℕ → List Value → List Value
+picked places values = map (value_at values) places
+
+-- what a reference stands for in one value a column: the first column that it names decides
+abbrev pub cells : List Column → List Value → Cells
+cells [] vs w n = Int (pos 0)
+cells (c ∷ cs) [] w n = Int (pos 0)
+cells (c ∷ cs) (v ∷ vs) w n = cond (names w n c) v (cells cs vs w n)
+
+-- the row meets the condition, and each of some conditions
+abbrev pub meets : List Column → Test → List Value → Bool
+meets columns c row = truth (cells columns row) c
+
+abbrev pub meets_all : List Column → List Test → List Value → Bool
+meets_all columns [] row = true
+meets_all columns (c ∷ cs) row = meets columns c row && meets_all columns cs row
+
+-- the row agrees with a choice: it has at these places what the choice has at those
+abbrev pub agrees : List ℕ → List ℕ → List Value → List Value → Bool
+agrees own other p y = is_eq (row_cmp (picked other y) (picked own p))
+
+-- the two together pass the tests
+abbrev pub passing : List Column → List Test → List Value → List Value → Bool
+passing columns tests p y = meets_all columns tests (p ++ y)
+
+abbrev pub kept : List Column → List ℕ → List ℕ → List Test → List Value → List Value → Bool
+kept columns own other tests p y = agrees own other p y && passing columns tests p y
+
+-- the rows of a group, and none where there is no such group
+abbrev pub in_group : Option (List TimedRow) → List TimedRow
+in_group None = []
+in_group (Some rows) = rows
+
+-- each value is lawful, of a row and of the rows of entries
+abbrev pub IsLawfulRow : List Value → Type 0
+IsLawfulRow [] = ⊤
+IsLawfulRow (v ∷ row) = IsLawful v × IsLawfulRow row
+
+abbrev pub AllLawful : List (Entry (List Value)) → Type 0
+AllLawful entries = (e : Entry (List Value)) → In e entries → IsLawfulRow e.item
+
+-- the conditions that are lent
+abbrev pub lent_tests : List (Bor Cond) → List Test
+lent_tests conds = map (λ (c : Bor Cond). test c.now) conds

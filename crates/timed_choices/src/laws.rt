@@ -1,0 +1,19 @@
+ghost use Rattle.std.specs.Prelude.{◌≡◌, ℕ, Bool, List};
+ghost use Rattle.std.specs.List.{filter};
+ghost use Rattle.relations.specs.Timed.{Entry, held_at};
+ghost use Rattle.prima_base.specs.declared.values.Value.{Value};
+ghost use Rattle.timed_choices.specs.Choosing.{pairs, extended, extended_where, completed, Wide, IsSound};
+
+/// Pairs hold at a moment the choices that hold then, each with the rows behind that hold then and are kept beside it.
+pub fn what_pairs_hold()
+    ensures { (keep : List Value → List Value → Bool) → (m : ℕ) → (choices : List (Entry (List Value))) → (rows : List (Entry (List Value)))
+        → held_at (pairs keep choices rows) m ≡ extended_where keep (held_at choices m) (held_at rows m) }
+{}
+
+/// Of what a condition keeps of all completed choices nothing is lost where only that is left out early which leads to
+/// nothing that passes, whatever comes behind.
+pub fn what_is_hopeless_is_left_out()
+    ensures { (met : List Value → Bool) → (n : ℕ) → (w : ℕ) → (keep : List Value → List Value → Bool) → IsSound met n w keep
+        → (choices : List (List Value)) → (rows : List (List Value)) → (rest : List (List (List Value))) → Wide n choices → Wide w rows
+        → filter met (completed (extended_where keep choices rows) rest) ≡ filter met (completed (extended choices rows) rest) }
+{}

@@ -1,0 +1,7 @@
+//! Choices of one row of each of several lists of rows with periods, as flat rows: the rows of a choice one behind the other.
+//! Definitions (`specs/`) and their laws, under the engine of joins.
+#![tactic(auto)]
+
+mod laws;
+
+pub use laws::{what_is_hopeless_is_left_out, what_pairs_hold};
