@@ -1,0 +1,7 @@
+pub mod LeastLoss
+pub mod NamedColumns
+pub mod AskedQuestions
+pub mod ReadByPieces
+pub mod Gatherings
+pub mod RunPieces
+pub mod OneVersion
