@@ -7,3 +7,5 @@ pub mod KindLaws
 pub mod AtomLaws
 pub mod LawfulLaws
 pub mod ConstantLaws
+pub mod ReferenceLaws
+pub mod PinnedLaws

@@ -8,3 +8,6 @@ pub mod Faults
 pub mod Walks
 pub mod Constants
 pub mod References
+pub mod Parts
+pub mod AtomColumns
+pub mod PinnedParts

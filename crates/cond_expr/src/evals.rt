@@ -98,7 +98,8 @@ fn append(joined: &mut Vec<u8>, v: &Val<'_>) -> Result<(), NoMemory>
     Ok(())
 }
 
-fn decide(op: CmpOp, order: Ordering) -> bool
+/// Whether two values in this order meet the comparison. It takes no memory.
+pub fn decide(op: CmpOp, order: Ordering) -> bool
     ensures { result ≡ agrees op order }
 {
     match op {

@@ -11,11 +11,12 @@ mod fills;
 mod laws;
 mod lending;
 mod makers;
+mod pinning;
 mod references;
 mod sizes;
 mod types;
 
-pub use evals::{eval, holds};
+pub use evals::{decide, eval, holds};
 pub use exprs::{CmpOp, ColRef, Column, Cond, Expr, TreeSize, TypeFault, Whose};
 pub use fills::{Fill, fill_cond, fill_expr};
 pub use laws::{
@@ -23,6 +24,7 @@ pub use laws::{
     fillings_compose, lawful_values_are_computed, values_depend_on_references_alone,
 };
 pub use lending::{lend, lend_row};
+pub use pinning::{pinned, pinned_parts_hold};
 pub use references::gather_references;
 pub use sizes::{cond_size, expr_size};
 pub use types::{check_cond, type_of, typed_cond, typed_expr, unknown_of_cond, unknown_of_expr};

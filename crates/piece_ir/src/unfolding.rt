@@ -1,7 +1,7 @@
 ghost use Rattle.std.specs.Prelude.{◌≡◌, ◌+◌, ◌++◌, [], ◌∷◌, IfOk, OnOk, map};
 ghost use Rattle.cond_expr.specs.Seen.{test, tests_of};
 ghost use Rattle.cond_expr.specs.Trees.{fill_test, fill_tests};
-ghost use Rattle.plain_answers.specs.Reading.{parts as parts_of, all_parts as all_parts_of};
+ghost use Rattle.cond_expr.specs.Parts.{parts_but_true as parts_of, all_parts_but_true as all_parts_of};
 ghost use Rattle.piece_meaning.specs.Unfolding.{moved_on, parts_from, with_parts, atoms_of, unfolded};
 ghost use Rattle.piece_ir.specs.Shown.{piece_of, lent_views};
 ghost use Rattle.piece_ir.specs.Placing.{places_from};

@@ -8,7 +8,7 @@ use Rattle.cond_expr.specs.Trees.{Test, never, always, compared, all_of, some_of
 use Rattle.cond_expr.specs.Seen.{tests_of}
 use Rattle.cond_expr.specs.Values.{Cells, truth, all_true}
 use Rattle.cond_expr.specs.Kinds.{Kinds, is_typed, all_typed}
-use Rattle.plain_answers.specs.Reading.{parts, all_parts}
+use Rattle.cond_expr.specs.Parts.{parts_but_true as parts, all_parts_but_true as all_parts}
 use Rattle.plain_answers.proofs.PartLaws.{part_true, parts_true}
 use Rattle.piece_meaning.specs.Unfolding.{with_parts}
 

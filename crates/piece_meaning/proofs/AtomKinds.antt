@@ -11,7 +11,7 @@ use Rattle.cond_expr.specs.Kinds.{kinds_of}
 use Rattle.smo_meaning.specs.OneRow.{same}
 use Rattle.smo_meaning.specs.Preconditions.{type_in}
 use Rattle.smo_meaning.proofs.NameLaws.{same_turned, same_is}
-use Rattle.plain_answers.specs.AtomColumns.{columns_at, atoms_from, kinds_of_atoms}
+use Rattle.cond_expr.specs.AtomColumns.{columns_at, atoms_from, kinds_of_atoms}
 use Rattle.piece_meaning.proofs.KnownKinds.{Known}
 
 -- the type of a column of the atom at a place

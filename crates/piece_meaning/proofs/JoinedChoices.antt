@@ -10,7 +10,7 @@ use Rattle.cond_expr.specs.Values.{Cells, value, truth}
 use Rattle.cond_expr.specs.Kinds.{kind_of, is_typed}
 use Rattle.cond_expr.proofs.TreeLaws.{value_fill, truth_fill, value_like, truth_like}
 use Rattle.smo_meaning.specs.OneRow.{Row}
-use Rattle.plain_answers.specs.AtomColumns.{kinds_of_atoms}
+use Rattle.cond_expr.specs.AtomColumns.{kinds_of_atoms}
 use Rattle.plain_answers.specs.Choosing.{chosen_cell, chosen_cells}
 use Rattle.piece_meaning.specs.Unfolding.{moved_on}
 use Rattle.piece_meaning.proofs.KnownKinds.{Known, known_within, test_known_within}

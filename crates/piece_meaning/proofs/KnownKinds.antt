@@ -8,7 +8,7 @@ use Rattle.cond_expr.specs.Trees.{Tree, column, constant, length_of, joined, cho
 use Rattle.cond_expr.specs.Kinds.{Kinds, kind_of, all_text, is_typed, all_typed}
 use Rattle.cond_expr.specs.Faults.{references, test_references, first_unknown}
 use Rattle.cond_expr.proofs.FaultLaws.{known_tree, known_test}
-use Rattle.plain_answers.proofs.ReferenceLaws.{Each, within_each, test_within_each}
+use Rattle.cond_expr.proofs.ReferenceLaws.{Each, within_each, test_within_each}
 
 -- it refers to something that has a type
 abbrev pub Known : Kinds → Whose → List ℕ → Type 0

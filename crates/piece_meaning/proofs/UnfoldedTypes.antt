@@ -13,7 +13,7 @@ use Rattle.cond_expr.specs.Kinds.{Kinds, kind_of, is_typed}
 use Rattle.cond_expr.proofs.KindLaws.{kind_fill, typed_fill}
 use Rattle.smo_meaning.specs.Effects.{columns_of}
 use Rattle.smo_meaning.specs.Preconditions.{type_in}
-use Rattle.plain_answers.specs.AtomColumns.{kinds_of_atoms}
+use Rattle.cond_expr.specs.AtomColumns.{kinds_of_atoms}
 use Rattle.piece_meaning.specs.Pieces.{PlainPiece, out_names, out_trees, atom_columns}
 use Rattle.piece_meaning.specs.Typed.{AreThere, atom_kinds, HaveTypes, IsTyped, typed_names, output_types}
 use Rattle.piece_meaning.specs.Views.{PlainView, out_of}

@@ -4,12 +4,12 @@ use Rattle.std.specs.Prelude.{◌≡◌, ℕ, List, [], ◌∷◌, None, if◌th
 use Rattle.relations.specs.Sets.{In}
 use Rattle.prima_base.specs.declared.refusals.OpKind.{OpKind}
 use Rattle.schema_catalog.specs.Tables.{Tables}
-use Rattle.schema_catalog.specs.Databases.{Database, IsDatabase}
+use Rattle.schema_catalog.specs.Databases.{Database}
 use Rattle.smo_types.specs.Operators.{Operator}
 use Rattle.smo_meaning.specs.OperatorKinds.{operator_kind}
 use Rattle.smo_meaning.specs.Touching.{makes, made_of}
 use Rattle.smo_meaning.specs.After.{op_fault, behind, carried, IsLawful}
-use Rattle.smo_meaning.specs.LawfulValues.{HoldsValues}
+pub use Rattle.smo_meaning.specs.LawfulValues.{IsLawfulDatabase}
 use Rattle.piece_meaning.specs.Pieces.{PlainPiece, means, all_mean}
 use Rattle.piece_meaning.specs.Typed.{IsTyped, AllTyped, output_types}
 use Rattle.piece_meaning.specs.Given.{AreViews}
@@ -19,11 +19,6 @@ use Rattle.piece_meaning.specs.Views.{Views}
 -- the source tables of a table: of one that the operator makes its inputs, and else itself
 abbrev pub sources_of : Tables → Operator → List ℕ → List (List ℕ)
 sources_of tables op a = if makes tables op a then made_of op else a ∷ []
-
--- every database of the tables: it has just them, none is lost, and each value is lawful and of its column's type
-pub record IsLawfulDatabase (tables : Tables) (db : Database) : Type 0 where
-  pub database : IsDatabase tables db
-  pub values : HoldsValues db
 
 -- the new pieces over the tables before an operator, in place of a piece over those behind it
 pub record KeepsMeaning (tables : Tables) (op : Operator) (p : PlainPiece) (news : List PlainPiece) : Type 0 where

@@ -7,7 +7,7 @@ use Rattle.prima_base.specs.Order.{bytes_cmp}
 use Rattle.schema_catalog.specs.Tables.{Tables}
 use Rattle.cond_expr.specs.Trees.{Tree}
 use Rattle.cond_expr.specs.Kinds.{Kinds, kind_of, is_typed}
-use Rattle.plain_answers.specs.AtomColumns.{kinds_of_atoms}
+use Rattle.cond_expr.specs.AtomColumns.{kinds_of_atoms}
 use Rattle.piece_meaning.specs.Pieces.{PlainPiece, out_names, out_trees, atom_columns}
 
 -- each is a table

@@ -5,7 +5,7 @@ use Rattle.relations.specs.Choices.{choices}
 use Rattle.cond_expr.specs.declared.exprs.Whose.TheVariants.{Atom}
 use Rattle.cond_expr.specs.Trees.{Tree, column, Test, all_of, Filling, for_atoms, fill, fill_test}
 use Rattle.cond_expr.specs.Seen.{tests_of}
-use Rattle.plain_answers.specs.Reading.{parts}
+use Rattle.cond_expr.specs.Parts.{parts_but_true}
 use Rattle.piece_meaning.specs.Pieces.{PlainPiece}
 use Rattle.piece_meaning.specs.Views.{PlainView, out_of, Views, views_of}
 
@@ -31,7 +31,7 @@ parts_from off (v ∷ views) = map (fill_test (moved_on off)) v.parts ++ parts_f
 -- the parts of a condition, and then these, in one AND; where there are none of these, the condition
 abbrev pub with_parts : Test → List Test → Test
 with_parts c [] = c
-with_parts c (d ∷ more) = all_of (tests_of (parts c ++ d ∷ more))
+with_parts c (d ∷ more) = all_of (tests_of (parts_but_true c ++ d ∷ more))
 
 abbrev pub filled_out : Filling → List ℕ × Tree → List ℕ × Tree
 filled_out s o = (o.0, fill s o.1)

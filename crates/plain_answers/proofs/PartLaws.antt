@@ -14,7 +14,8 @@ use Rattle.cond_expr.specs.Values.{Cells, over, value, truth, all_true}
 use Rattle.cond_expr.proofs.AtomLaws.{truth_for_atoms}
 use Rattle.smo_meaning.specs.OneRow.{Row, own_cells, meets}
 use Rattle.plain_answers.specs.Choosing.{chosen_cell, is_met}
-use Rattle.plain_answers.specs.Reading.{parts, all_parts, said_of, IsPartOf}
+use Rattle.plain_answers.specs.Reading.{said_of, IsPartOf}
+use Rattle.cond_expr.specs.Parts.{parts_but_true as parts, all_parts_but_true as all_parts}
 
 both_true : (a b : Bool) → (a && b) ≡ true → (a ≡ true) × (b ≡ true)
 both_true true b e = (refl, e)

@@ -30,7 +30,7 @@ use Rattle.plain_answers.specs.Reading.{Read, read_columns, read_rows, AsMany, A
 use Rattle.plain_answers.proofs.PlainRows.{in_answers, from_answers}
 use Rattle.plain_answers.proofs.PartLaws.{part_met}
 use Rattle.plain_answers.proofs.NameLaws.{in_names_at}
-use Rattle.plain_answers.proofs.ReferenceLaws.{Each, each_first, each_second, within_each, test_within_each}
+use Rattle.cond_expr.proofs.ReferenceLaws.{Each, each_first, each_second, within_each, test_within_each}
 
 -- ---- one row, and a choice of rows, projected
 

@@ -14,7 +14,8 @@ use Rattle.smo_meaning.specs.OneRow.{Relation}
 use Rattle.plain_answers.specs.Choosing.{answers_over}
 use Rattle.plain_answers.specs.Branches.{PlainBranch}
 use Rattle.plain_answers.specs.Naming.{all_references, IsNamed, names_from}
-use Rattle.plain_answers.specs.Reading.{Read, read_columns, read_rows, parts, said_of, IsPartOf, AreEnough}
+use Rattle.plain_answers.specs.Reading.{Read, read_columns, read_rows, said_of, IsPartOf, AreEnough}
+use Rattle.cond_expr.specs.Parts.{parts_but_true as parts}
 use Rattle.plain_answers.proofs.NameLaws.{in_names_at}
 
 abbrev k : List ℕ

@@ -1,5 +1,5 @@
 pub mod Choosing
-pub mod AtomColumns
 pub mod Branches
 pub mod Naming
 pub mod Reading
+pub mod Pushing

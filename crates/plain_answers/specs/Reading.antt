@@ -1,5 +1,5 @@
 -- What is read of the relations of a branch: of each the rows that meet a condition of its own, and of these some columns.
-use Rattle.std.specs.Prelude.{ℕ, ◌+◌, ◌==◌, ◌++◌, List, [], ◌∷◌, map, pos, if◌then◌else◌, ⊤}
+use Rattle.std.specs.Prelude.{ℕ, ◌+◌, ◌==◌, List, [], ◌∷◌, map, pos, if◌then◌else◌, ⊤}
 use Rattle.std.specs.List.{filter, flat_map}
 use Rattle.relations.specs.Sets.{In, set_of}
 use Rattle.prima_base.specs.declared.values.Value.TheVariants.{Int}
@@ -8,7 +8,8 @@ use Rattle.prima_base.specs.Columns.{Column}
 use Rattle.schema_catalog.specs.Tables.{Tables}
 use Rattle.schema_catalog.specs.Databases.{cell, Database}
 use Rattle.cond_expr.specs.declared.exprs.Whose.TheVariants.{Atom}
-use Rattle.cond_expr.specs.Trees.{Tree, column, constant, Test, never, always, compared, all_of, some_of, fails, Tests, no_tests, a_test, Filling, for_atoms, fill_test}
+use Rattle.cond_expr.specs.Trees.{Tree, column, constant, Test, always, Filling, for_atoms, fill_test}
+use Rattle.cond_expr.specs.Parts.{parts_but_true}
 use Rattle.smo_meaning.specs.OneRow.{Row, Relation, meets}
 use Rattle.smo_meaning.specs.Making.{named, image}
 use Rattle.plain_answers.specs.Choosing.{answers_over}
@@ -45,27 +46,13 @@ AsMany (x ∷ xs) (y ∷ ys) = AsMany xs ys
 
 -- ---- when that is enough
 
--- the parts of which a condition is the AND
-abbrev mutual
-  pub parts : Test → List Test
-  parts never = never ∷ []
-  parts always = []
-  parts (compared o a b) = compared o a b ∷ []
-  parts (all_of cs) = all_parts cs
-  parts (some_of cs) = some_of cs ∷ []
-  parts (fails c) = fails c ∷ []
-
-  pub all_parts : Tests → List Test
-  all_parts no_tests = []
-  all_parts (a_test c cs) = parts c ++ all_parts cs
-
 -- what is said of atom 0, said of another; no other reference has a meaning
 abbrev pub said_of : ℕ → Filling
 said_of i = for_atoms (λ j n. if 0 == j then column (Atom i) n else constant (Int (pos 0)))
 
 -- each part of the first, said of the atom, is a part of the second
 abbrev pub IsPartOf : ℕ → Test → Test → Type 0
-IsPartOf i own cond = (t : Test) → In t (parts own) → In (fill_test (said_of i) t) (parts cond)
+IsPartOf i own cond = (t : Test) → In t (parts_but_true own) → In (fill_test (said_of i) t) (parts_but_true cond)
 
 -- of the atom with this number: what is selected is a part of the condition, and each column that is named is kept
 pub record IsEnough (i : ℕ) (r : Read) (outs : List Tree) (cond : Test) : Type 0 where

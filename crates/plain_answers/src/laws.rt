@@ -13,6 +13,7 @@ ghost use Rattle.plain_answers.specs.Choosing.{answers_over, Gives};
 ghost use Rattle.plain_answers.specs.Branches.{PlainBranch, plain, BranchGives};
 ghost use Rattle.plain_answers.specs.Naming.{IsNamed, names_at};
 ghost use Rattle.plain_answers.specs.Reading.{Read, read_columns, read_rows, AsMany, AreEnough, needed, plain_read};
+ghost use Rattle.plain_answers.specs.Pushing.{pushed_reads};
 
 /// A row is among the answers over relations just where a choice of one row of each, which meets the condition, gives it.
 pub fn answers_are_given()
@@ -40,7 +41,8 @@ pub fn columns_are_named_atom_by_atom()
 
 /// Over selections and projections of relations there are the same answers as over the whole ones, where each selection is a
 /// part of the condition, said of its relation, and each projection keeps the columns that are named of it; so are the plain
-/// answers of branches. To keep the columns that a branch names, item by item, is enough.
+/// answers of branches. To keep the columns that a branch names, item by item, is enough; and so it is to select by the
+/// pushed condition beside it: the AND of the top-level parts that name at least one column, and only columns of the item.
 pub fn what_is_named_and_selected_is_enough()
     ensures answers { (columns : List (List Column)) → (relations : List Relation) → (outs : List Tree) → (cond : Test) → (reads : List Read)
         → AsMany reads columns → AsMany columns relations → AreEnough 0 reads outs cond
@@ -50,4 +52,5 @@ pub fn what_is_named_and_selected_is_enough()
         → ((b : PlainBranch) → In b branches → AsMany (reads b) b.from × AreEnough 0 (reads b) b.outs b.cond)
         → plain_read tables reads branches db ≡ plain tables branches db }
     ensures needed { (b : PlainBranch) → AsMany (needed b) b.from × AreEnough 0 (needed b) b.outs b.cond }
+    ensures pushed { (b : PlainBranch) → AsMany (pushed_reads b) b.from × AreEnough 0 (pushed_reads b) b.outs b.cond }
 {}

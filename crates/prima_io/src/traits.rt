@@ -17,7 +17,8 @@ pub trait Source {
 
     /// Moves some of the bytes that are left into the front of `buf`, which has room for one at
     /// least, and answers how many. `Ok(0)` is the end of the input: nothing was left. `Failed`
-    /// comes only where the count of faults rose in this call, and what is left is then as it was.
+    /// comes only where the count of faults rose in this call, and what is left is then as it was;
+    /// `Ok` only where the count is as it was.
     fn take(&mut self, buf: &mut [u8]) -> Result<usize, Failed>
         requires { 0 < length buf.old }
         ensures bound { ReadsAtMost result buf.new }
@@ -35,7 +36,7 @@ pub trait Sink {
 
     /// Appends a front of `piece`, and answers how many bytes of it: one at least where `piece` is
     /// not empty. `Failed` comes only where the count of faults rose in this call, and nothing was
-    /// then appended.
+    /// then appended; `Ok` only where the count is as it was.
     fn put(&mut self, piece: &[u8]) -> Result<usize, Failed>
         ensures bound { WritesAtMost result piece.now }
         ensures some { TakesSome result piece.now }

@@ -22,7 +22,7 @@ use Rattle.smo_meaning.proofs.NameLaws.{same_itself, in_among, among_in, in_name
 use Rattle.smo_meaning.proofs.MadeRows.{column_named}
 use Rattle.smo_meaning.proofs.KeptColumns.{kept_are_columns}
 use Rattle.smo_meaning.proofs.NextSchemas.{ordered_columns}
-use Rattle.plain_answers.specs.AtomColumns.{columns_at, kinds_of_atoms}
+use Rattle.cond_expr.specs.AtomColumns.{columns_at, kinds_of_atoms}
 use Rattle.plain_answers.specs.Reading.{Read, read_of}
 use Rattle.plain_answers.proofs.OneRelation.{one_relation}
 use Rattle.piece_meaning.specs.Pieces.{out_names, out_trees, means}

@@ -14,7 +14,7 @@ use Rattle.schema_catalog.specs.Databases.{Database}
 use Rattle.cond_expr.specs.Kinds.{is_typed}
 use Rattle.smo_meaning.specs.OneRow.{Row, Relation}
 use Rattle.smo_meaning.specs.Effects.{columns_of, rows_at}
-use Rattle.plain_answers.specs.AtomColumns.{kinds_of_atoms}
+use Rattle.cond_expr.specs.AtomColumns.{kinds_of_atoms}
 use Rattle.plain_answers.specs.Choosing.{answers_over}
 use Rattle.piece_meaning.specs.Pieces.{PlainPiece, out_trees, atom_columns, atom_rows, piece_answers, means, all_mean}
 use Rattle.piece_meaning.specs.Typed.{HaveTypes, IsTyped, typed_names, output_types}

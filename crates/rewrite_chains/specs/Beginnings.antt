@@ -9,7 +9,7 @@ use Rattle.cond_expr.specs.declared.exprs.Whose.TheVariants.{Atom}
 use Rattle.cond_expr.specs.Trees.{Tree, column, Test}
 use Rattle.cond_expr.specs.Kinds.{is_typed}
 use Rattle.smo_meaning.specs.Effects.{columns_of}
-use Rattle.plain_answers.specs.AtomColumns.{kinds_of_atoms}
+use Rattle.cond_expr.specs.AtomColumns.{kinds_of_atoms}
 use Rattle.plain_answers.specs.Reading.{Read}
 use Rattle.piece_meaning.specs.Pieces.{PlainPiece}
 

@@ -37,12 +37,10 @@ impl Rule for CopyTableRule {
 
     ghost answers = { λ _. by_views operator_views };
 
+    #[tactic(auto, using(crate::proofs::RuleLaw::lawful))]
     fn kind(&self) -> OpKind {
         OpKind::CopyTable
     }
-
-    #[tactic(auto, using(crate::proofs::RuleLaw::lawful))]
-    fn known(&self) {}
 
     fn rewrite(
         &self,

@@ -42,12 +42,10 @@ impl Rule for CreateTableRule {
 
     ghost answers = { λ _. by_views operator_views };
 
+    #[tactic(auto, using(crate::proofs::RuleLaw::lawful))]
     fn kind(&self) -> OpKind {
         OpKind::CreateTable
     }
-
-    #[tactic(auto, using(crate::proofs::RuleLaw::lawful))]
-    fn known(&self) {}
 
     fn rewrite(
         &self,

@@ -37,12 +37,10 @@ impl Rule for DropColumnRule {
 
     ghost answers = { λ _. by_views operator_views };
 
+    #[tactic(auto, using(crate::proofs::RuleLaw::lawful))]
     fn kind(&self) -> OpKind {
         OpKind::DropColumn
     }
-
-    #[tactic(auto, using(crate::proofs::RuleLaw::lawful))]
-    fn known(&self) {}
 
     fn rewrite(
         &self,

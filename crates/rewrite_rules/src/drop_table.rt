@@ -34,12 +34,10 @@ impl Rule for DropTableRule {
 
     ghost answers = { λ _. by_views operator_views };
 
+    #[tactic(auto, using(crate::proofs::RuleLaw::lawful))]
     fn kind(&self) -> OpKind {
         OpKind::DropTable
     }
-
-    #[tactic(auto, using(crate::proofs::RuleLaw::lawful))]
-    fn known(&self) {}
 
     fn rewrite(
         &self,

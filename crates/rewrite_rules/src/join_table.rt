@@ -45,12 +45,10 @@ impl Rule for JoinTableRule {
 
     ghost answers = { λ _. by_views operator_views };
 
+    #[tactic(auto, using(crate::proofs::RuleLaw::lawful))]
     fn kind(&self) -> OpKind {
         OpKind::JoinTable
     }
-
-    #[tactic(auto, using(crate::proofs::RuleLaw::lawful))]
-    fn known(&self) {}
 
     fn rewrite(
         &self,

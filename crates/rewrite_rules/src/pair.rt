@@ -7,7 +7,7 @@ ghost use Rattle.cond_expr.specs.Seen.{test};
 ghost use Rattle.smo_types.specs.Changes.{sets_of};
 ghost use Rattle.smo_meaning.specs.Preconditions.{among};
 ghost use Rattle.smo_meaning.specs.Effects.{columns_of};
-ghost use Rattle.plain_answers.specs.Reading.{parts};
+ghost use Rattle.cond_expr.specs.Parts.{parts_but_true};
 ghost use Rattle.piece_meaning.specs.Views.{out_of};
 ghost use Rattle.piece_ir.specs.Shown.{view_of};
 ghost use Rattle.rule_views.specs.OperatorViews.{common_names, second_names, from_second, in_both, shown_in, paired};
@@ -105,7 +105,7 @@ fn common_parts(
 // All parts: that the rows agree, and then those of the condition.
 fn pair_parts(alloc: Global, pair: &Pair<'_>, cond: &Cond) -> Result<Vec<Cond>, NoMemory>
     ensures { IfOk result (λ v. map test v.items ≡ map in_both (common_names pair.now.first.now pair.now.second.now)
-        ++ parts (shown_in (map from_second (second_names pair.now.first.now pair.now.second.now)) (test cond.now))) }
+        ++ parts_but_true (shown_in (map from_second (second_names pair.now.first.now pair.now.second.now)) (test cond.now))) }
 {
     let mut tests = common_parts(alloc, pair.first, pair.second)?;
     append_parts(pair, alloc, cond, &mut tests)?;

@@ -1,7 +1,7 @@
 ghost use Rattle.std.specs.Prelude.{◌≡◌, [], ◌∷◌, IfOk, map};
 ghost use Rattle.cond_expr.specs.Trees.{fails};
 ghost use Rattle.cond_expr.specs.Seen.{test};
-ghost use Rattle.plain_answers.specs.Reading.{parts};
+ghost use Rattle.cond_expr.specs.Parts.{parts_but_true};
 
 use cond_expr::{ColRef, Cond, Expr, Fill};
 use piece_ir::append_parts;
@@ -24,7 +24,7 @@ impl Fill for Itself {
 
 /// The parts of the condition.
 pub(crate) fn parts_of(alloc: Global, cond: &Cond) -> Result<Vec<Cond>, NoMemory>
-    ensures { IfOk result (λ v. map test v.items ≡ parts (test cond.now)) }
+    ensures { IfOk result (λ v. map test v.items ≡ parts_but_true (test cond.now)) }
 {
     let mut parts = Vec::new(alloc);
     append_parts(&Itself, alloc, cond, &mut parts)?;

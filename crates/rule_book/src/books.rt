@@ -40,15 +40,10 @@ impl From<NoMemory> for BookFault {
 }
 
 fn kind_of_box(rule: &Box<dyn Rule>) -> OpKind
-    ensures { result ≡ handles rule.now }
+    ensures is { result ≡ handles rule.now }
+    ensures lawful { IsLawfulRule (handles rule.now) (answers rule.now) }
 {
     rule.kind()
-}
-
-fn known_box(rule: &Box<dyn Rule>)
-    ensures { IsLawfulRule (handles rule.now) (answers rule.now) }
-{
-    rule.known()
 }
 
 fn ask(
@@ -107,7 +102,7 @@ fn all_known(rules: &[Box<dyn Rule>])
     match rules {
         [] => {}
         [rule, rest @ ..] => {
-            known_box(rule);
+            kind_of_box(rule);
             all_known(rest);
         }
     }

@@ -22,13 +22,10 @@ pub trait Rule: Drop {
     /// What it answers: one list of pieces to an operator, the tables before it, and a piece over those behind it.
     ghost answers: { Self → Book };
 
-    /// The kind of operator that it handles.
+    /// The kind of operator that it handles, of which it is a lawful rule.
     fn kind(&self) -> OpKind
-        ensures { result ≡ handles self.now };
-
-    /// Nothing is done: the rule is lawful.
-    fn known(&self)
-        ensures { IsLawfulRule (handles self.now) (answers self.now) };
+        ensures is { result ≡ handles self.now }
+        ensures lawful { IsLawfulRule (handles self.now) (answers self.now) };
 
     /// Its answer. The operator is of its kind and is accepted on the lawful schema before it, and the piece is
     /// well-typed over the schema behind it. The one error is `NoMemory`, where memory runs out.

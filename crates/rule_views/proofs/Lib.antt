@@ -6,3 +6,4 @@ pub mod PairCells
 pub mod JoinViews
 pub mod EachOperator
 pub mod Worked
+mod WorkedMeanings

@@ -17,13 +17,14 @@ use Rattle.cond_expr.specs.Trees.{Tree, Test}
 use Rattle.cond_expr.specs.Values.{Cells, value, truth}
 use Rattle.cond_expr.specs.Kinds.{Kinds, kind_of, is_typed, kinds_of}
 use Rattle.smo_types.specs.Operators.{Operator}
-use Rattle.smo_meaning.specs.OneRow.{Row, Relation, as_atom, own_kinds, own_cells}
+use Rattle.smo_meaning.specs.OneRow.{Row, Relation, own_kinds, own_cells}
+use Rattle.cond_expr.specs.AtomColumns.{columns_at}
 use Rattle.smo_meaning.specs.Preconditions.{type_in}
 use Rattle.smo_meaning.specs.Effects.{columns_of, rows_of, rows_at}
 use Rattle.smo_meaning.specs.Making.{union, from_one, from_two}
 use Rattle.smo_meaning.specs.OperatorTable.{a_table}
 use Rattle.smo_meaning.specs.Touching.{made_of}
-use Rattle.plain_answers.specs.AtomColumns.{kinds_of_atoms}
+use Rattle.cond_expr.specs.AtomColumns.{kinds_of_atoms}
 use Rattle.plain_answers.proofs.OneRelation.{own_alike}
 use Rattle.piece_meaning.specs.Views.{PlainView, out_of}
 use Rattle.piece_meaning.specs.Given.{Picks, Shows, AreGiven, IsTypedView, IsGivenBy}
@@ -109,7 +110,7 @@ two_there f (Some columns) p (Some (Lost k i)) y s t e h = absurd e
 
 -- the types of one atom's columns
 pub alone_kinds : (columns : List Column) → kinds_of_atoms (columns ∷ []) ≡ own_kinds columns
-alone_kinds columns = ap kinds_of (append-nil (as_atom columns))
+alone_kinds columns = ap kinds_of (append-nil (columns_at 0 columns))
 
 module _ (tables : Tables) (r : List ℕ) (new : List Column) (parts : List Test) (outs : List (List ℕ × Tree)) where
   abbrev of : Kinds

@@ -25,9 +25,9 @@ use Rattle.smo_meaning.proofs.NameLaws.{same_turned, same_is, in_among, among_in
 use Rattle.smo_meaning.proofs.TypeLaws.{own_atom}
 use Rattle.smo_meaning.proofs.MadeRows.{from_in_order, column_named, one_kind, each_is, Joinable}
 use Rattle.smo_meaning.proofs.MadeCells.{made_cell}
-use Rattle.plain_answers.specs.AtomColumns.{kinds_of_atoms}
+use Rattle.cond_expr.specs.AtomColumns.{kinds_of_atoms}
 use Rattle.plain_answers.specs.Choosing.{chosen_cell, chosen_cells}
-use Rattle.plain_answers.specs.Reading.{parts}
+use Rattle.cond_expr.specs.Parts.{parts_but_true as parts}
 use Rattle.piece_meaning.specs.Views.{out_of}
 use Rattle.rule_views.specs.OperatorViews.{common_names, second_names, from_second, in_both, shown_in}
 use Rattle.piece_meaning.proofs.KnownKinds.{Known, test_known_within, typed_like}

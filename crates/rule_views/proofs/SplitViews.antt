@@ -25,7 +25,7 @@ use Rattle.smo_meaning.proofs.MadeRows.{columns_same}
 use Rattle.smo_meaning.proofs.NextSchemas.{all_preconditions, is_table}
 use Rattle.smo_meaning.proofs.OneColumns.{made_columns}
 use Rattle.smo_meaning.proofs.ColumnsByName.{decomposed_types}
-use Rattle.plain_answers.specs.Reading.{parts}
+use Rattle.cond_expr.specs.Parts.{parts_but_true as parts}
 use Rattle.piece_meaning.specs.Views.{PlainView, whole}
 use Rattle.piece_meaning.specs.Given.{AreGiven, IsTypedView, AreViews}
 use Rattle.rule_views.specs.OperatorViews.{operator_views}

@@ -10,7 +10,7 @@ use Rattle.cond_expr.specs.Values.{Cells, truth, all_true}
 use Rattle.cond_expr.specs.Kinds.{Kinds, is_typed, all_typed}
 use Rattle.cond_expr.specs.Sizes.{nodes_of, test_nodes}
 use Rattle.cond_expr.specs.Faults.{untyped, test_untyped, tests_untyped, if_so, first_of}
-use Rattle.plain_answers.specs.Reading.{parts, all_parts}
+use Rattle.cond_expr.specs.Parts.{parts_but_true as parts, all_parts_but_true as all_parts}
 use Rattle.piece_meaning.proofs.AddedParts.{both_true, and_true}
 
 none_both : (xs ys : List ℕ) → first_of (xs ++ ys) ≡ None → (first_of xs ≡ None) × (first_of ys ≡ None)

@@ -1,7 +1,6 @@
 -- Worked rows: pieces unfolded by the views of operators, and what the unfoldings answer over small relations.
 use Rattle.std.proofs.Common.{ap, ◌∙◌}
-use Rattle.std.specs.Prelude.{◌≡◌, ℕ, List, [], ◌∷◌, pos, not, map, refl}
-use Rattle.std.specs.List.{filter}
+use Rattle.std.specs.Prelude.{◌≡◌, ℕ, List, [], ◌∷◌, pos, map, refl}
 use Rattle.prima_base.specs.declared.values.Value.{Value}
 use Rattle.prima_base.specs.declared.values.Value.TheVariants.{Int, Text}
 use Rattle.prima_base.specs.declared.values.ColType.TheVariants.{Int as INT, Text as TEXT}
@@ -12,7 +11,6 @@ use Rattle.cond_expr.specs.declared.exprs.CmpOp.TheVariants.{Eq, Lt, Gt}
 use Rattle.cond_expr.specs.Trees.{Tree, column, constant, length_of, joined, choose, a_tree, no_trees, Test, always, compared, all_of, fails}
 use Rattle.cond_expr.specs.Seen.{tests_of}
 use Rattle.smo_types.specs.Operators.{nop, create_table, drop_table, rename_table, copy_table, merge_table, partition_table, decompose_table, join_table, add_column, drop_column, rename_column}
-use Rattle.smo_meaning.specs.OneRow.{Row, Relation, meets}
 use Rattle.smo_meaning.specs.Effects.{columns_of}
 use Rattle.plain_answers.specs.Choosing.{answers_over}
 use Rattle.piece_meaning.specs.Pieces.{PlainPiece}
@@ -21,16 +19,16 @@ use Rattle.piece_meaning.specs.Unfolding.{unfoldings}
 use Rattle.rule_views.specs.OperatorViews.{paired, operator_views}
 
 -- names: a, b, c, k, x, y; r, s, t, u
-abbrev a : List ℕ
+abbrev pub a : List ℕ
 a = 97 ∷ []
 
-abbrev b : List ℕ
+abbrev pub b : List ℕ
 b = 98 ∷ []
 
-abbrev c : List ℕ
+abbrev pub c : List ℕ
 c = 99 ∷ []
 
-abbrev k : List ℕ
+abbrev pub k : List ℕ
 k = 107 ∷ []
 
 abbrev x : List ℕ
@@ -39,31 +37,31 @@ x = 120 ∷ []
 abbrev y : List ℕ
 y = 121 ∷ []
 
-abbrev r : List ℕ
+abbrev pub r : List ℕ
 r = 114 ∷ []
 
-abbrev s : List ℕ
+abbrev pub s : List ℕ
 s = 115 ∷ []
 
-abbrev t : List ℕ
+abbrev pub t : List ℕ
 t = 116 ∷ []
 
-abbrev u : List ℕ
+abbrev pub u : List ℕ
 u = 117 ∷ []
 
-abbrev int : ℕ → Value
+abbrev pub int : ℕ → Value
 int n = Int (pos n)
 
-abbrev at : ℕ → List ℕ → Tree
+abbrev pub at : ℕ → List ℕ → Tree
 at i n = column (Atom i) n
 
-abbrev number : ℕ → Tree
+abbrev pub number : ℕ → Tree
 number n = constant (int n)
 
-abbrev a_piece : List (List ℕ) → Test → List (List ℕ × Tree) → PlainPiece
+abbrev pub a_piece : List (List ℕ) → Test → List (List ℕ × Tree) → PlainPiece
 a_piece atoms cond outs = record { atoms = atoms; cond = cond; outs = outs }
 
-abbrev below_ten : Test
+abbrev pub below_ten : Test
 below_ten = compared Lt (at 0 a) (number 10)
 
 -- PARTITION of t into r, where a < 10, and s
@@ -225,21 +223,3 @@ join_twice : unfoldings ((t, paired r first s second (compared Gt (at 0 y) (numb
     ∷ compared Gt (at 3 y) (number 0) ∷ [])))
     ((y, at 3 y) ∷ []) ∷ []
 join_twice = refl
-
--- ---- what a piece answers over the made rows, and what its unfoldings answer over the rows before
-abbrev columns : List Column
-columns = (a, INT) ∷ (b, TEXT) ∷ []
-
-abbrev rows : Relation
-rows = (int 5 ∷ Text (120 ∷ []) ∷ []) ∷ (int 20 ∷ Text (120 ∷ 121 ∷ []) ∷ []) ∷ []
-
-abbrev over : List (List Column) → List Relation → List Tree → Test → List Row
-over of_atoms of_rows outs cond = answers_over of_atoms of_rows outs cond
-
-partition_means : over (columns ∷ []) (filter (meets columns below_ten) rows ∷ []) (at 0 b ∷ []) always
-    ≡ over (columns ∷ []) (rows ∷ []) (at 0 b ∷ []) (all_of (tests_of (below_ten ∷ [])))
-partition_means = refl
-
-partition_others_mean : over (columns ∷ []) (filter (λ row. not (meets columns below_ten row)) rows ∷ []) (at 0 b ∷ []) always
-    ≡ over (columns ∷ []) (rows ∷ []) (at 0 b ∷ []) (all_of (tests_of (fails below_ten ∷ [])))
-partition_others_mean = refl

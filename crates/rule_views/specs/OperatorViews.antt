@@ -9,7 +9,7 @@ use Rattle.cond_expr.specs.Trees.{Tree, column, Test, compared, fails, for_atoms
 use Rattle.smo_types.specs.Operators.{Operator, nop, create_table, drop_table, rename_table, copy_table, merge_table, partition_table, decompose_table, join_table, add_column, drop_column, rename_column}
 use Rattle.smo_meaning.specs.Preconditions.{among}
 use Rattle.smo_meaning.specs.Effects.{columns_of}
-use Rattle.plain_answers.specs.Reading.{parts}
+use Rattle.cond_expr.specs.Parts.{parts_but_true}
 use Rattle.piece_meaning.specs.Views.{PlainView, out_of, whole, Views}
 
 -- the rows of one table that meet all of these
@@ -42,7 +42,7 @@ shown_in outs c = fill_test (for_atoms (λ i n. out_of outs n)) c
 abbrev pub paired : List ℕ → List Column → List ℕ → List Column → Test → PlainView
 paired r cs s ds c = record {
   atoms = r ∷ s ∷ [];
-  parts = map in_both (common_names cs ds) ++ parts (shown_in (map from_second (second_names cs ds)) c);
+  parts = map in_both (common_names cs ds) ++ parts_but_true (shown_in (map from_second (second_names cs ds)) c);
   outs = map from_second (second_names cs ds);
 }
 
@@ -56,7 +56,7 @@ operator_views tables (drop_table r) = []
 operator_views tables (rename_table r t) = (t, whole r ∷ []) ∷ []
 operator_views tables (copy_table r t) = (t, whole r ∷ []) ∷ []
 operator_views tables (merge_table r s t) = (t, whole r ∷ whole s ∷ []) ∷ []
-operator_views tables (partition_table r s c t) = (s, selected r (parts c) ∷ []) ∷ (t, selected r (fails c ∷ []) ∷ []) ∷ []
+operator_views tables (partition_table r s c t) = (s, selected r (parts_but_true c) ∷ []) ∷ (t, selected r (fails c ∷ []) ∷ []) ∷ []
 operator_views tables (decompose_table r s xs t ys) = (s, whole r ∷ []) ∷ (t, whole r ∷ []) ∷ []
 operator_views tables (join_table r s t c) = (t, paired r (columns_of tables r) s (columns_of tables s) c ∷ []) ∷ []
 operator_views tables (add_column c e r) = (r, computed r c e ∷ []) ∷ []

@@ -5,3 +5,4 @@ pub mod PartsFound
 pub mod Scripts
 pub mod LexerTexts
 pub mod OpenTexts
+pub mod CleanTails

@@ -1,8 +1,8 @@
 //! Laws of scripts. Each is proved and does nothing.
 
-ghost use Rattle.std.specs.Prelude.{◌≡◌, ◌↔◌, ◌∷◌, ◌++◌, List, ℕ};
-ghost use Rattle.lexical_grammar.specs.Spaced.{Each as EachByte, IsOpen};
-ghost use Rattle.script_parse.specs.Script.{statements_of, tail_of};
+ghost use Rattle.std.specs.Prelude.{◌≡◌, ◌↔◌, [], ◌∷◌, ◌++◌, List, ℕ, true};
+ghost use Rattle.lexical_grammar.specs.Spaced.{Each as EachByte, IsGap, IsOpen};
+ghost use Rattle.script_parse.specs.Script.{is_clean, statements_of, tail_of};
 ghost use Rattle.script_parse.specs.Joining.{Each};
 ghost use Rattle.script_laws.specs.Parts.{HasOpenText, IsClosed, IsInside, IsOpenFault, IsScript};
 ghost use Rattle.script_laws.specs.Parts.{IsShownText, is_shown};
@@ -37,4 +37,9 @@ pub fn a_statement_has_no_open_text()
 pub fn texts_of_the_lexer_are_texts()
     ensures closed { (bytes : List ℕ) → IsClosed bytes ↔ IsShownText bytes }
     ensures open { (bytes : List ℕ) → IsOpen bytes ↔ (IsInside bytes × EachByte is_shown bytes) }
+{}
+
+/// A tail is clean just where it is a gap of the lexer: blanks and comments alone.
+pub fn a_clean_tail_is_a_gap()
+    ensures { (tail : List ℕ) → (is_clean tail ≡ true) ↔ IsGap tail [] }
 {}

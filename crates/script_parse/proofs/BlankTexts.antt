@@ -17,7 +17,7 @@ or_assoc : (p q r s : Bool) → (p || (q || (r || s))) ≡ ((p || q) || (r || s)
 or_assoc true q r s = refl
 or_assoc false q r s = refl
 
-same_blanks : (b : ℕ) → lexer.is_blank b ≡ is_blank b
+pub same_blanks : (b : ℕ) → lexer.is_blank b ≡ is_blank b
 same_blanks b = or_assoc (b == 32) (b == 9) (b == 10) (b == 13)
 
 no_line_end_here : (here : Bool) {later : Bool} → not here ≡ true → later ≡ false → (here || later) ≡ false
@@ -30,7 +30,7 @@ no_line_end (b ∷ line) h = no_line_end_here (b == 10) h.0 (no_line_end line h.
 
 -- ---- what has no token is blanks and comments
 
-gap_is_pads : (gap rest : List ℕ) → IsGap gap rest → ArePads gap
+pub gap_is_pads : (gap rest : List ℕ) → IsGap gap rest → ArePads gap
 gap_is_pads gap rest (no_gap others) = none
 gap_is_pads gap rest (a_blank b more others e h) = blank b more (sym (same_blanks b) ∙ e) (gap_is_pads more others h)
 gap_is_pads gap rest (a_comment line more others e h) = comment line more (no_line_end line e) (gap_is_pads more others h)

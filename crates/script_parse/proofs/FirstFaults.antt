@@ -4,7 +4,7 @@ use Rattle.std.proofs.Math.Seq.{take-append_seam}
 use Rattle.prima_base.specs.declared.refusals.What.{What}
 use Rattle.prima_base.specs.declared.refusals.What.TheVariants as what
 use Rattle.lexical_grammar.specs.Lexemes.{Lexeme}
-use Rattle.parser_combinators.specs.Parsing.{Size, Out, Got, Stuck, Over, Parser, Explains, Fine, CanGoOn, Exceeds, Good}
+use Rattle.parser_combinators.specs.Parsing.{Size, Out, Got, Stuck, Parser, Explains, Fine, CanGoOn, Exceeds, Good}
 use Rattle.parser_combinators.specs.Found.{IsFirst}
 use Rattle.script_parse.specs.Reading.{IsWithin}
 

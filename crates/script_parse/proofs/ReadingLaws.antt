@@ -10,7 +10,7 @@ use Rattle.script_parse.specs.Lexing.{Placed, Lexed, Tokens, Faulty, lexed, sayi
 use Rattle.script_parse.specs.Productions.{IsStatement}
 use Rattle.script_parse.specs.StatementReader.{statement, goes_statement}
 use Rattle.script_parse.specs.StatementPasses.{statement_passes}
-use Rattle.script_parse.specs.Reading.{Whole, place, place_before, answered, read_as, reading, IsWithin, IsTooMuch, IsWrongAt, IsReading, IsReadAs, ReadingsAreOfTheGrammar, StatementsAreRead, LimitsAreKept, IsOver}
+use Rattle.script_parse.specs.Reading.{Whole, place, place_before, answered, read_as, reading, IsTooMuch, IsWrongAt, IsReading, IsReadAs, ReadingsAreOfTheGrammar, StatementsAreRead, LimitsAreKept, IsOver}
 use Rattle.script_parse.proofs.BlankTexts.{blank_is_pads}
 use Rattle.script_parse.proofs.FirstFaults.{within_none, explained, fine, got_all, got_first, stuck_first, stuck_out}
 use Rattle.script_parse.proofs.StatementGoodness.{statement_good, statement_not_none}

@@ -1,12 +1,11 @@
 -- The reader of statements goes along the tokens at which their counts pass limits.
-use Rattle.std.proofs.Common.{◌≡◌, ℕ, Bool, true, false, cond, ◌||◌, ◌&&◌, List, [], ◌∷◌, ◌++◌, length, inl, inr, refl, sym, ap, ◌∙◌, subst, append-nil, codes}
+use Rattle.std.proofs.Common.{◌≡◌, ℕ, false, List, [], ◌∷◌, ◌++◌, length, inl, inr, refl, sym, ap, ◌∙◌, subst, append-nil, codes}
 use Rattle.prima_base.specs.declared.refusals.What.TheVariants.{Inverse}
-use Rattle.prima_base.specs.declared.values.Value.{Value}
 use Rattle.cond_expr.specs.Trees.{always}
-use Rattle.smo_types.specs.Changes.{PlainChange, insertion, deletion, update}
+use Rattle.smo_types.specs.Changes.{PlainChange, deletion, update}
 use Rattle.smo_types.specs.Commands.{PlainBody, changing, evolving}
 use Rattle.lexical_grammar.specs.Lexemes.{Lexeme, word, sign, is_word, is_sign}
-use Rattle.parser_combinators.specs.Parsing.{Size, Got, Stops, AreMore, no_end, so_wide, bindG, leadG, mapG, map_to, more, many, listG, fresh, freshG}
+use Rattle.parser_combinators.specs.Parsing.{Size, Got, AreMore, so_wide, bindG, leadG, mapG, map_to, more, listG, fresh, freshG}
 use Rattle.expr_grammar.specs.Grammar.{IsExpr, IsCond}
 use Rattle.expr_grammar.specs.Reader.{outermost, goes_expr, goes_cond}
 use Rattle.parser_combinators.specs.Reads.{sees}
@@ -21,8 +20,8 @@ use Rattle.expr_grammar.proofs.Goodness.{outermost_good}
 use Rattle.parser_combinators.proofs.Alternatives.{stops_never, or_left, or_right, list_not_none, list_not_first}
 use Rattle.expr_grammar.proofs.MarkSizes.{expr_length, cond_length}
 use Rattle.expr_grammar.proofs.MarksJoined.{expr_marked, cond_marked}
-use Rattle.parser_combinators.proofs.Passing.{by_passes, Along, along_front}
-use Rattle.parser_combinators.proofs.AlongParts.{GoesAlong, Light, stops_along, lead_goes, behind_goes, map_goes, bind_goes, option_goes, none_light, pure_light, single_light, lead_light, map_light, bind_light, list_light, light_along, light_goes, whole_goes, fresh_goes, list_goes, counted_goes}
+use Rattle.parser_combinators.proofs.Passing.{by_passes}
+use Rattle.parser_combinators.proofs.AlongParts.{GoesAlong, Light, stops_along, lead_goes, behind_goes, map_goes, bind_goes, option_goes, none_light, pure_light, single_light, lead_light, map_light, bind_light, list_light, light_along, light_goes, fresh_goes, list_goes, counted_goes}
 use Rattle.smo_parse.specs.Productions.{IsOperator}
 use Rattle.smo_parse.specs.OperatorReader.{operator, goes_operator}
 use Rattle.smo_parse.specs.OperatorMarks.{operator_marks}
@@ -32,14 +31,13 @@ use Rattle.temporal_lang.specs.QueryGrammar.{IsAsk}
 use Rattle.temporal_lang.specs.QueryReader as query
 use Rattle.temporal_lang.specs.QueryPasses.{ask_passes}
 use Rattle.temporal_lang.proofs.QueryAlong.{ask_along}
-use Rattle.temporal_lang.proofs.QueryGoodness.{ask_good}
 use Rattle.script_parse.specs.Statements.{PlainStatement, write, ask}
-use Rattle.script_parse.specs.Productions.{IsWhere, AreConstants, AreSoMany, IsRow, IsInsert, IsDelete, IsSetting, IsUpdate, IsChange, IsOp, AreOps, IsInverse, IsEvolve, AreChanges, IsBody, IsWrite, IsQuery, IsShowVersions, IsShowSchema, IsStatement}
+use Rattle.script_parse.specs.Productions.{IsWhere, AreSoMany, IsRow, IsInsert, IsSetting, IsChange, IsOp, AreOps, IsInverse, AreChanges, IsBody, IsShowVersions, IsShowSchema, IsStatement}
 use Rattle.script_parse.specs.StatementReader.{where_part, setting, settings, delete_rest, update_rest, change, changes, op, ops, inverse, evolve_rest, body, write_rest, ask_rest, statement, goes_where, goes_settings, goes_change, goes_changes, goes_ops, goes_evolve, goes_body, goes_statement}
-use Rattle.script_parse.specs.StatementPasses.{where_passes, setting_passes, delete_passes, update_passes, change_passes, changes_passes, op_passes, ops_passes, inverse_passes, evolve_passes, body_passes, write_passes, query_passes, statement_passes}
+use Rattle.script_parse.specs.StatementPasses.{where_passes, setting_passes, change_passes, changes_passes, op_passes, ops_passes, inverse_passes, body_passes, statement_passes}
 use Rattle.script_parse.proofs.BodySteps.{body_evolves, body_changes}
-use Rattle.script_parse.proofs.ChangeGoodness.{ends, setting_good, change_good, change_not_none, change_not_first, where_change, settings_change, where_side}
-use Rattle.script_parse.proofs.StatementGoodness.{op_good, fewer_op, fewer_ops, fewer_evolve, fewer_changes, fewer_body, fewer_ask, inverse_side, statement_good}
+use Rattle.script_parse.proofs.ChangeGoodness.{ends, setting_good, change_good, change_not_none, change_not_first, where_change, where_side}
+use Rattle.script_parse.proofs.StatementGoodness.{op_good, fewer_ops, fewer_evolve, fewer_changes, fewer_body, fewer_ask, inverse_side, statement_good}
 
 -- ---- changes
 
@@ -181,15 +179,12 @@ write_along = bind_goes moment (λ m. map_to (λ b. write (record { stamp = m; b
     (λ m. map_goes (λ b. write (record { stamp = m; body = b })) body IsBody goes_statement body_passes (stops_along body IsBody goes_body goes_statement body_passes fewer_body body_along))
     (λ a b s ts rest h stops. stops_never (ts ++ rest))
 
-ask_whole : GoesAlong query.ask IsAsk query.goes_ask ask_passes
-ask_whole = whole_goes query.ask IsAsk query.goes_ask ask_good ask_passes (λ q s f h. ask_along q s f h 0 [] tt)
-
 abbrev query_rest_passes : Passing (mapG (λ q. ask q) IsAsk)
 query_rest_passes = map_pass (λ q. ask q) IsAsk ask_passes
 
 query_along : GoesAlong ask_rest (mapG (λ q. ask q) IsAsk) goes_statement query_rest_passes
 unfolding ask_rest
-query_along = map_goes (λ q. ask q) query.ask IsAsk goes_statement ask_passes (stops_along query.ask IsAsk query.goes_ask goes_statement ask_passes fewer_ask ask_whole)
+query_along = map_goes (λ q. ask q) query.ask IsAsk goes_statement ask_passes (stops_along query.ask IsAsk query.goes_ask goes_statement ask_passes fewer_ask ask_along)
 
 versions_light : Light IsShowVersions
 versions_light = lead_light _ _ (lead_light _ _ (pure_light _))

@@ -4,7 +4,7 @@ use Rattle.prima_base.specs.declared.refusals.What.TheVariants.{Inverse}
 use Rattle.smo_types.specs.Operators.{Operator}
 use Rattle.smo_types.specs.Commands.{PlainBody, changing, evolving}
 use Rattle.lexical_grammar.specs.Lexemes.{Lexeme, word, is_word}
-use Rattle.parser_combinators.specs.Parsing.{Size, Good, Stops, No, Takes, Whole, AreMore, so_wide, bind, bindG, pure, pureG, leadG, map_to, mapG, more, eitherG, listG}
+use Rattle.parser_combinators.specs.Parsing.{Size, Good, Stops, No, Takes, Whole, AreMore, so_wide, bindG, pure, pureG, leadG, map_to, mapG, more, eitherG, listG}
 use Rattle.expr_grammar.specs.Constants.{moment, momentG, small, smallG}
 use Rattle.parser_combinators.proofs.Parsing.{good_iff, good_goes, bind_good, map_good, pure_good, choose_good, option_takes_good, whole_good, more_good, bind_more}
 use Rattle.lexical_grammar.proofs.LexemeTests.{word_is, word_exact}
@@ -18,9 +18,9 @@ use Rattle.temporal_lang.specs.QueryGrammar.{IsAsk}
 use Rattle.temporal_lang.specs.QueryReader as query
 use Rattle.temporal_lang.proofs.QueryGoodness.{ask_good}
 use Rattle.script_parse.specs.Statements.{PlainStatement, write, ask, show_versions, show_schema}
-use Rattle.script_parse.specs.Productions.{IsChange, IsOp, AreOps, IsInverse, IsEvolve, AreChanges, IsBody, IsWrite, IsQuery, IsShowVersions, IsShowSchema, IsStatement}
+use Rattle.script_parse.specs.Productions.{IsChange, IsOp, AreOps, IsInverse, IsEvolve, AreChanges, IsBody, IsWrite, IsQuery, IsStatement}
 use Rattle.script_parse.specs.StatementReader.{changes, op, ops, inverse, evolve_rest, body_arm, body, write_rest, ask_rest, schema_rest, show_arm, show_rest, statement_arm, statement, goes_change, goes_changes, goes_ops, goes_evolve, goes_body, goes_statement}
-use Rattle.script_parse.proofs.ChangeGoodness.{ends, word_good, single_then, change_not_none, change_not_first, changes_good}
+use Rattle.script_parse.proofs.ChangeGoodness.{ends, single_then, change_not_none, change_not_first, changes_good}
 
 -- ---- operators
 

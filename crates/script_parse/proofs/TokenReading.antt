@@ -1,5 +1,5 @@
 -- What tokens are read as, by where the reader of statements ends in them.
-use Rattle.std.proofs.Common.{◌≡◌, ℕ, zero, suc, ◌-◌, ◌<◌, ◌≤◌, List, [], ◌∷◌, length, map, slice_index_or, Option, Some, None, Ok, Err, Result, refl, sym, ap, ◌∙◌, subst, arith, length-append}
+use Rattle.std.proofs.Common.{◌≡◌, ℕ, zero, suc, ◌-◌, ◌<◌, ◌≤◌, List, [], ◌∷◌, length, map, slice_index_or, Option, Some, None, Err, Result, refl, sym, ap, ◌∙◌, subst, arith, length-append}
 use Rattle.prima_base.specs.declared.refusals.Refusal.TheVariants.{Syntax, TooMany}
 use Rattle.prima_base.specs.declared.refusals.What.{What}
 use Rattle.lexical_grammar.specs.declared.faults.LexFault.{LexFault}
@@ -14,7 +14,7 @@ use Rattle.script_parse.specs.declared.statements.ReadFault.{ReadFault}
 use Rattle.script_parse.specs.declared.statements.ReadFault.TheVariants as fault
 use Rattle.script_parse.specs.declared.statements.Statement.{Statement}
 use Rattle.script_parse.specs.Statements.{PlainStatement}
-use Rattle.script_parse.specs.Lexing.{Placed, Tokens, Faulty, placed, saying, lexed, fault_place}
+use Rattle.script_parse.specs.Lexing.{Placed, Tokens, placed, saying, lexed, fault_place}
 use Rattle.script_parse.specs.Reading.{Reading, Blank, Refused, Whole, place, place_before, answered, read_as, reading, Gives, IsOfPlace}
 use Rattle.script_parse.specs.Productions.{IsStatement}
 use Rattle.script_parse.specs.StatementReader.{statement, goes_statement}

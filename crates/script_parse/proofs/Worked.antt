@@ -1,7 +1,9 @@
 -- Worked rows: what texts by hand are read as.
 use Rattle.std.specs.Prelude.{◌≡◌, ℕ, ◌∷◌, [], List, pos, negsuc, codes, refl}
 use Rattle.prima_base.specs.declared.refusals.Refusal.TheVariants.{Syntax, TooMany}
-use Rattle.prima_base.specs.declared.refusals.What.TheVariants.{Depth, Parts, Inverse}
+use Rattle.prima_base.specs.declared.refusals.What.TheVariants.{Depth, Parts, Inverse, Tables, Outputs, Branches, Keeps}
+use Rattle.relations.specs.Spans.{forever}
+use Rattle.prima_base.specs.declared.keeps.Keep.TheVariants.{Lasting, Covering}
 use Rattle.prima_base.specs.declared.values.Value.{Value}
 use Rattle.prima_base.specs.declared.values.Value.TheVariants.{Int, Text}
 use Rattle.prima_base.specs.declared.values.ColType.TheVariants.{Int as INT, Text as TEXT}
@@ -17,7 +19,7 @@ use Rattle.parser_combinators.specs.Parsing.{as_many, more, nodes_more}
 use Rattle.expr_grammar.specs.Constants.{name, names, small, moment, constant as const}
 use Rattle.expr_grammar.specs.Reader.{ref_rest, concat_rest, expr, comparison, bracketed, fact, facts, conj, conjs, cond, outermost}
 use Rattle.smo_parse.specs.OperatorReader as smo
-use Rattle.temporal_lang.specs.declared.whens.When.TheVariants.{Always}
+use Rattle.temporal_lang.specs.declared.whens.When.TheVariants.{Always, AsOf, During}
 use Rattle.plain_answers.specs.Branches.{a_branch}
 use Rattle.temporal_lang.specs.Queries.{PlainQuery, a_query}
 use Rattle.temporal_lang.specs.QueryReader as query
@@ -55,10 +57,27 @@ queries :
     × Reads (codes "QUERY VERSION 007 SELECT b.a,b FROM t b ") (Whole (ask (from_t 7 (column (Alias b) a ∷ column Free b ∷ []) b)))
     × Reads (codes "QUERY VERSION 4294967296 SELECT a FROM t") (Refused (Syntax 14))
     × Reads (codes "QUERY VERSION 1 SELECT FROM t") (Refused (Syntax 23))
-    × Reads (codes "QUERY VERSION 1 SELECT a FROM t, t") (Refused (Syntax 31))
     × Reads (codes "QUERY VERSION 1 SELECT a ") (Refused (Syntax 25))
-unfolding reading lexed_from gap_len gap_dash piece_of is_name name small as_many statement ask_rest query.ask query.branch query.outputs query.output query.item query.alias query.where_part expr ref_rest outermost
-queries = (refl, refl, refl, refl, refl, refl)
+unfolding reading lexed_from gap_len gap_dash piece_of is_name name small more statement ask_rest query.ask query.branches query.branch query.outputs query.output query.items query.item query.alias query.where_part expr ref_rest outermost query.when_part query.as_of query.range query.during query.keeping
+queries = (refl, refl, refl, refl, refl)
+
+-- several branches and items, and conditions of KEEP
+wide_queries :
+    Reads (codes "QUERY VERSION 2 SELECT a FROM t, t b UNION SELECT b FROM b DURING 1 TO now KEEP LASTING 2 TO 3 AND COVERING 1")
+    (Whole (ask (a_query 2 (a_branch (column Free a ∷ []) ((t, t) ∷ (t, b) ∷ []) always ∷ a_branch (column Free b ∷ []) ((b, b) ∷ []) always ∷ []) (During 1 forever) (Lasting 2 3 ∷ Covering 1 ∷ []))))
+    × Reads (codes "QUERY VERSION 1 SELECT a FROM t AS OF now") (Whole (ask (a_query 1 (a_branch (column Free a ∷ []) ((t, t) ∷ []) always ∷ []) (AsOf 18446744073709551614) [])))
+    × Reads (codes "QUERY VERSION 1 SELECT a FROM t AS OF 1 KEEP COVERING 1") (Refused (Syntax 40))
+    × Reads (codes "QUERY VERSION 1 SELECT a FROM t KEEP STARTING now TO now") (Refused (Syntax 46))
+    × Reads (codes "QUERY VERSION 1 SELECT a FROM t,t,t,t,t,t,t,t,") (Refused (TooMany Tables 8))
+    × Reads (codes "QUERY VERSION 1 SELECT 1,1,1,1,1,1,1,1,1,1,1,1,1,1,1,1,1,1,1,1,1,1,1,1,1,1,1,1,1,1,1,1,") (Refused (TooMany Outputs 32))
+    × Reads (codes "QUERY VERSION 1 SELECT a FROM t KEEP COVERING 1 AND COVERING 1 AND COVERING 1 AND COVERING 1 AND COVERING 1 AND COVERING 1 AND COVERING 1 AND COVERING 1 AND") (Refused (TooMany Keeps 8))
+unfolding reading lexed_from gap_len gap_dash piece_of is_name name small moment more statement ask_rest query.ask query.branches query.branch query.outputs query.output query.items query.item query.alias query.where_part expr ref_rest outermost query.when_part query.as_of query.range query.during query.keeping query.keeps query.keep query.between query.covering query.bounds query.moment_or
+wide_queries = (refl, refl, refl, refl, refl, refl, refl)
+
+-- the UNION before a seventeenth branch
+many_branches : Reads (codes "QUERY VERSION 1 SELECT 1 FROM t UNION SELECT 1 FROM t UNION SELECT 1 FROM t UNION SELECT 1 FROM t UNION SELECT 1 FROM t UNION SELECT 1 FROM t UNION SELECT 1 FROM t UNION SELECT 1 FROM t UNION SELECT 1 FROM t UNION SELECT 1 FROM t UNION SELECT 1 FROM t UNION SELECT 1 FROM t UNION SELECT 1 FROM t UNION SELECT 1 FROM t UNION SELECT 1 FROM t UNION SELECT 1 FROM t UNION") (Refused (TooMany Branches 16))
+unfolding reading lexed_from gap_len gap_dash piece_of is_name name small more statement ask_rest query.ask query.branches query.branch query.outputs query.output query.items query.item query.alias query.where_part expr ref_rest outermost
+many_branches = refl
 
 shown :
     Reads (codes "SHOW VERSIONS") (Whole show_versions)

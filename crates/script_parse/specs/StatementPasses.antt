@@ -1,5 +1,5 @@
 -- At which tokens of a statement a count passes its limit: in each expression and condition counts begin anew, an inverse has
--- eight operators at most, and at each other token nothing is counted.
+-- eight operators at most, a query has its own counts, and at each other token nothing is counted.
 use Rattle.std.specs.Prelude.{false, [], ◌∷◌, codes}
 use Rattle.prima_base.specs.declared.refusals.What.TheVariants.{Inverse}
 use Rattle.cond_expr.specs.Trees.{always}

@@ -167,8 +167,8 @@ fn lexical(fault: LexFault) -> ReadFault
 /// alone. A lexical fault anywhere in the text comes first, then the first token with which no
 /// statement goes on or at which a count passes its limit; at one token `Syntax` comes first. Where the
 /// tokens run out, the place is the text's length. Each expression and condition has the limits of
-/// `parse_expr` and `parse_cond`, which begin anew in each of them, and an inverse has at most eight
-/// operators. `NoMemory` where memory runs out.
+/// `parse_expr` and `parse_cond`, which begin anew in each of them, an inverse has at most eight
+/// operators, and a query the limits of `parse_query`. `NoMemory` where memory runs out.
 pub fn next_statement(alloc: Global, text: &[u8]) -> Result<Option<Statement>, ReadFault>
     requires { length text.now ≤ 1048576 }
     // What is answered is so by the grammar, and what is so by the grammar is answered.

@@ -11,7 +11,8 @@ use Rattle.schema_catalog.specs.Databases.{cell}
 use Rattle.cond_expr.specs.declared.exprs.Column.{Column as AtomColumn}
 use Rattle.cond_expr.specs.Rows.{flat}
 use Rattle.cond_expr.specs.Values.{Cells, over}
-use Rattle.smo_meaning.specs.OneRow.{Row, same, as_atom, own_cells}
+use Rattle.smo_meaning.specs.OneRow.{Row, same, own_cells}
+use Rattle.cond_expr.specs.AtomColumns.{columns_at}
 use Rattle.smo_ops.proofs.EffectLaws.{lent_cells}
 use Rattle.smo_maps.specs.Atoms.{atoms_named}
 
@@ -19,7 +20,7 @@ abbrev untyped : List Column → List Column
 untyped [] = []
 untyped (c ∷ columns) = (c.0, INT) ∷ untyped columns
 
-named_are : (columns : List Column) → atoms_named (names_of columns) ≡ as_atom (untyped columns)
+named_are : (columns : List Column) → atoms_named (names_of columns) ≡ columns_at 0 (untyped columns)
 named_are [] = refl
 named_are (c ∷ columns) = ap (λ (cs : List AtomColumn). record { atom = 0; name = c.0; kind = INT } ∷ cs) (named_are columns)
 

@@ -4,7 +4,8 @@ use Rattle.std.specs.FinMap.{get}
 use Rattle.relations.specs.Sets.{In}
 use Rattle.prima_base.specs.declared.values.Value.{Value}
 use Rattle.prima_base.specs.Columns.{IsLawful}
-use Rattle.schema_catalog.specs.Databases.{Entry, Rows, Lost, Database}
+use Rattle.schema_catalog.specs.Tables.{Tables}
+use Rattle.schema_catalog.specs.Databases.{Entry, Rows, Lost, Database, IsDatabase}
 use Rattle.cond_expr.specs.Trees.{Tree}
 use Rattle.cond_expr.specs.Constants.{HasLawful}
 use Rattle.smo_types.specs.Operators.{Operator, nop, create_table, drop_table, rename_table, copy_table, merge_table, partition_table, decompose_table, join_table, add_column, drop_column, rename_column}
@@ -28,6 +29,11 @@ EntryHolds (Some (Lost k i)) = ⊤
 
 abbrev pub HoldsValues : Database → Type 0
 HoldsValues db = (n : List ℕ) → EntryHolds (get db n)
+
+-- every database of the tables: it has just them, none is lost, and each value is lawful and of its column's type
+pub record IsLawfulDatabase (tables : Tables) (db : Database) : Type 0 where
+  pub database : IsDatabase tables db
+  pub values : HoldsValues db
 
 -- a past whose database holds lawful values at each moment
 abbrev pub EachHolds : Past → Type 0

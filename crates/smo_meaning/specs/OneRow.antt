@@ -5,10 +5,10 @@ use Rattle.prima_base.specs.declared.values.Value.TheVariants.{Int}
 pub use Rattle.prima_base.specs.Order.{same}
 use Rattle.prima_base.specs.Columns.{Column}
 use Rattle.schema_catalog.specs.Databases.{cell}
-use Rattle.cond_expr.specs.declared.exprs.Column.{Column as AtomColumn}
 use Rattle.cond_expr.specs.Trees.{Tree, Test}
 use Rattle.cond_expr.specs.Values.{Cells, over, value, truth}
 use Rattle.cond_expr.specs.Kinds.{Kinds, kinds_of}
+use Rattle.cond_expr.specs.AtomColumns.{columns_at}
 
 abbrev pub Row : Type 0
 Row = List Value
@@ -16,12 +16,9 @@ Row = List Value
 abbrev pub Relation : Type 0
 Relation = List Row
 
--- the columns of a table, as those of atom 0
-abbrev pub as_atom : List Column → List AtomColumn
-as_atom columns = map (λ (c : Column). record { atom = 0; name = c.0; kind = c.1 }) columns
-
+-- the kinds of references to the columns of a table, which are those of atom 0
 abbrev pub own_kinds : List Column → Kinds
-own_kinds columns = kinds_of (as_atom columns)
+own_kinds columns = kinds_of (columns_at 0 columns)
 
 -- a row of a table, as that of atom 0
 abbrev pub own_cells : List Column → Row → Cells

@@ -27,16 +27,17 @@ use Rattle.cond_expr.specs.declared.exprs.Expr.{Expr}
 use Rattle.cond_expr.specs.Seen.{tree}
 use Rattle.cond_expr.specs.Values.{value}
 use Rattle.cond_expr.specs.Trees.{Tree}
-use Rattle.smo_meaning.specs.OneRow.{as_atom, own_cells, given, set_value, with_sets}
+use Rattle.smo_meaning.specs.OneRow.{own_cells, given, set_value, with_sets}
+use Rattle.cond_expr.specs.AtomColumns.{columns_at}
 use Rattle.smo_types.specs.Changes.{sets_of}
 use Rattle.smo_meaning.proofs.Firsts.{drop_at}
 
-none_free : (columns : List Column) (vs : List Val) (n : List ℕ) → flat (as_atom columns) vs Free n ≡ Int (pos 0)
+none_free : (columns : List Column) (vs : List Val) (n : List ℕ) → flat (columns_at 0 columns) vs Free n ≡ Int (pos 0)
 none_free [] vs n = refl
 none_free (c ∷ columns) [] n = refl
 none_free (c ∷ columns) (v ∷ vs) n = none_free columns vs n
 
-none_alias : (columns : List Column) (vs : List Val) (a n : List ℕ) → flat (as_atom columns) vs (Alias a) n ≡ Int (pos 0)
+none_alias : (columns : List Column) (vs : List Val) (a n : List ℕ) → flat (columns_at 0 columns) vs (Alias a) n ≡ Int (pos 0)
 none_alias [] vs a n = refl
 none_alias (c ∷ columns) [] a n = refl
 none_alias (c ∷ columns) (v ∷ vs) a n = none_alias columns vs a n
@@ -48,24 +49,24 @@ same_turn a b = (eq_by_cmp_equiv nat_list_cmp_total).symm a b
 no_atom : (i : ℕ) → (0 == suc i) ≡ false
 no_atom i = grind (arith, nat_tests)
 
-none_other : (columns : List Column) (vs : List Val) (i : ℕ) (n : List ℕ) → flat (as_atom columns) vs (Atom (suc i)) n ≡ Int (pos 0)
+none_other : (columns : List Column) (vs : List Val) (i : ℕ) (n : List ℕ) → flat (columns_at 0 columns) vs (Atom (suc i)) n ≡ Int (pos 0)
 none_other [] vs i n = refl
 none_other (c ∷ columns) [] i n = refl
 none_other (c ∷ columns) (v ∷ vs) i n = rw (no_atom i) (none_other columns vs i n)
 
-own : (columns : List Column) (vs : List Val) (n : List ℕ) → flat (as_atom columns) vs (Atom zero) n ≡ cell columns (map shown vs) n
+own : (columns : List Column) (vs : List Val) (n : List ℕ) → flat (columns_at 0 columns) vs (Atom zero) n ≡ cell columns (map shown vs) n
 own [] vs n = refl
 own (c ∷ columns) [] n = refl
-own (c ∷ columns) (v ∷ vs) n = ap (λ b. cond b (shown v) (flat (as_atom columns) vs (Atom zero) n)) (same_turn n c.0) ∙ ap (λ x. cond (is_eq (bytes_cmp c.0 n)) (shown v) x) (own columns vs n)
+own (c ∷ columns) (v ∷ vs) n = ap (λ b. cond b (shown v) (flat (columns_at 0 columns) vs (Atom zero) n)) (same_turn n c.0) ∙ ap (λ x. cond (is_eq (bytes_cmp c.0 n)) (shown v) x) (own columns vs n)
 
-each : (columns : List Column) (vs : List Val) (w : Whose) (n : List ℕ) → flat (as_atom columns) vs w n ≡ own_cells columns (map shown vs) w n
+each : (columns : List Column) (vs : List Val) (w : Whose) (n : List ℕ) → flat (columns_at 0 columns) vs w n ≡ own_cells columns (map shown vs) w n
 each columns vs Free n = none_free columns vs n
 each columns vs (Alias a) n = none_alias columns vs a n
 each columns vs (Atom zero) n = own columns vs n
 each columns vs (Atom (suc i)) n = none_other columns vs i n ∙ sym (ap (λ b. cond b (cell columns (map shown vs) n) (Int (pos 0))) (no_atom i))
 
 -- a lent row has what the row has
-pub lent_cells : (columns : List Column) (vs : List Val) (row : List Value) → map shown vs ≡ row → flat (as_atom columns) vs ≡ own_cells columns row
+pub lent_cells : (columns : List Column) (vs : List Val) (row : List Value) → map shown vs ≡ row → flat (columns_at 0 columns) vs ≡ own_cells columns row
 lent_cells columns vs row e = (λ i. λ w n. each columns vs w n i) ∙ ap (own_cells columns) e
 
 -- what is given from a place on

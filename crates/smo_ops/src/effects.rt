@@ -13,7 +13,8 @@ ghost use Rattle.prima_base.specs.Order.{row_cmp, shown};
 ghost use Rattle.prima_base.specs.Columns.{Column as TableColumn, AreColumns, IsRow, IsRelation};
 ghost use Rattle.cond_expr.specs.Rows.{AreLawful};
 ghost use Rattle.cond_expr.specs.Seen.{test};
-ghost use Rattle.smo_meaning.specs.OneRow.{as_atom, meets, given, row_of, set_value, updated};
+ghost use Rattle.smo_meaning.specs.OneRow.{meets, given, row_of, set_value, updated};
+ghost use Rattle.cond_expr.specs.AtomColumns.{columns_at};
 ghost use Rattle.smo_types.specs.Changes.{sets_of, change_of, changes_of};
 ghost use Rattle.smo_meaning.specs.Effects.{relation_after};
 ghost use Rattle.smo_meaning.specs.Inserting.{insertions};
@@ -35,7 +36,7 @@ pub fn make_set(rows: &mut Vec<Row>)
 
 // Whether the row meets the condition.
 fn row_meets(alloc: Global, cond: &Cond, atoms: &[Column], row: &Row) -> Result<bool, NoMemory>
-    ensures { (columns : List TableColumn) → atoms.now ≡ as_atom columns
+    ensures { (columns : List TableColumn) → atoms.now ≡ columns_at 0 columns
         → IfOk result (λ b. b ≡ meets columns (test cond.now) row.now) }
 {
     let values = lend_row(alloc, row.values())?;
@@ -79,7 +80,7 @@ fn set_value(
     name: &Name,
 ) -> Result<Option<Value>, NoMemory>
     requires { AreLawful values.now }
-    ensures { (columns : List TableColumn) → atoms.now ≡ as_atom columns
+    ensures { (columns : List TableColumn) → atoms.now ≡ columns_at 0 columns
         → IfOk result (λ v. unwrap_or v (cell columns (map shown values.now) name.now)
         ≡ set_value columns (map shown values.now) (sets_of sets.now) name.now) }
 {
@@ -100,7 +101,7 @@ fn set_values(
     sets: &[(Name, Expr)],
     row: &Row,
 ) -> Result<Vec<Option<Value>>, NoMemory>
-    requires { atoms.now ≡ as_atom columns.now }
+    requires { atoms.now ≡ columns_at 0 columns.now }
     ensures { IfOk result (λ v. AllZip (λ (c : TableColumn) (o : Option OneValue).
         unwrap_or o (cell columns.now row.now c.0) ≡ set_value columns.now row.now (sets_of sets.now) c.0) columns.now v.items) }
 {
@@ -140,7 +141,7 @@ fn updated_row(
 ) -> Result<Row, NoMemory>
     requires columns { AreColumns columns.now }
     requires row { IsRow columns.now row }
-    requires atoms { atoms.now ≡ as_atom columns.now }
+    requires atoms { atoms.now ≡ columns_at 0 columns.now }
     ensures { IfOk result (λ r. r ≡ updated columns.now (sets_of sets.now) (test cond.now) row) }
 {
     if !row_meets(alloc, cond, atoms, &row)? {

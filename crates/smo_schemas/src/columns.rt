@@ -14,23 +14,23 @@ pub struct OwnColumns<'a> {
 impl<'a> Model for OwnColumns<'a> {
     ghost use Rattle.std.specs.Prelude.{◌≡◌, List};
     ghost use Rattle.prima_base.specs.Columns.{Column as OneColumn};
-    ghost use Rattle.smo_meaning.specs.OneRow.{as_atom};
+    ghost use Rattle.cond_expr.specs.AtomColumns.{columns_at};
 
     ghost Value = { List OneColumn };
 
     ghost view = { λ c. c.columns.now };
 
-    ghost invariant = { λ c. c.atoms.items ≡ as_atom c.columns.now };
+    ghost invariant = { λ c. c.atoms.items ≡ columns_at 0 c.columns.now };
 }
 
 ghost use Rattle.std.specs.Prelude.{◌≡◌, IfOk};
-ghost use Rattle.smo_meaning.specs.OneRow.{as_atom};
+ghost use Rattle.cond_expr.specs.AtomColumns.{columns_at};
 ghost use Rattle.smo_meaning.specs.Preconditions.{among, type_in};
 ghost use Rattle.smo_meaning.specs.Checks.{pair_names};
 
 /// The columns, as those of atom 0. The one error is `NoMemory`, where memory runs out.
 pub fn as_atoms(alloc: Global, columns: &[(Name, ColType)]) -> Result<Vec<Column>, NoMemory>
-    ensures { IfOk result (λ v. v.items ≡ as_atom columns.now) }
+    ensures { IfOk result (λ v. v.items ≡ columns_at 0 columns.now) }
 {
     let mut atoms = Vec::with_capacity(alloc, columns.len())?;
     for (name, kind) in columns {
@@ -63,7 +63,7 @@ impl<'a> OwnColumns<'a> {
 
     /// The same, as those of atom 0.
     pub fn atoms(&self) -> &[Column]
-        ensures { result.now ≡ as_atom self.now }
+        ensures { result.now ≡ columns_at 0 self.now }
     {
         &self.atoms
     }

@@ -19,7 +19,7 @@ use Rattle.smo_meaning.proofs.Firsts.{none_of_both, none_of_first}
 use Rattle.plain_answers.specs.Branches.{Item, PlainBranch, item_columns}
 use Rattle.temporal_lang.specs.Branches.{has_parts, have_parts}
 use Rattle.temporal_lang.specs.Queries.{PlainQuery}
-use Rattle.plain_answers.specs.AtomColumns.{atoms_from, kinds_of_atoms}
+use Rattle.cond_expr.specs.AtomColumns.{atoms_from, kinds_of_atoms}
 use Rattle.prima_base.specs.Columns.{Column}
 use Rattle.smo_meaning.specs.Effects.{columns_of}
 use Rattle.temporal_lang.specs.Atoms.{Source, sources_of, to_atoms, filled_branch, branches_with_atoms}

@@ -14,7 +14,7 @@ use Rattle.cond_expr.specs.Faults.{references, first_unknown}
 use Rattle.smo_meaning.specs.First.{unless}
 use Rattle.smo_meaning.specs.Preconditions.{among}
 use Rattle.smo_meaning.proofs.Firsts.{none_of_first, met}
-use Rattle.plain_answers.specs.AtomColumns.{columns_at, atoms_from}
+use Rattle.cond_expr.specs.AtomColumns.{columns_at, atoms_from}
 use Rattle.temporal_lang.specs.Atoms.{Source, has_column, has_alias, place_of_column, place_of_alias, to_atoms}
 use Rattle.temporal_lang.specs.Checking.{holders, column_fault, whose_fault, reference_test}
 

@@ -1,6 +1,7 @@
 pub mod Slicing
 pub mod StageLaws
 pub mod FirstLaws
+pub mod WayBackLaws
 pub mod FillLaws
 pub mod KnownLaws
 pub mod BranchLaws
@@ -11,6 +12,12 @@ mod WorkedPast
 mod WorkedWays
 mod WorkedMerge
 mod WorkedDecompose
+pub mod WholeFronts
+pub mod CountedLists
+pub mod BranchGoodness
+pub mod WhenGoodness
+pub mod BoundSteps
+pub mod LawfulQueries
 pub mod QueryGoodness
 pub mod QueryAlong
 pub mod QueryLongest

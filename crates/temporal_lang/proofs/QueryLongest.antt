@@ -1,132 +1,152 @@
--- The longest query is read.
-use Rattle.std.proofs.Common.{◌≡◌, ℕ, Bool, true, false, is_some, Option, Some, None, ◌||◌, List, [], ◌∷◌, ◌++◌, length, inl, inr, refl, sym, ap, ◌∙◌, subst, append_assoc, append-nil, codes}
-use Rattle.cond_expr.specs.Trees.{Test, always}
-use Rattle.lexical_grammar.specs.Lexemes.{Lexeme, word, is_word}
-use Rattle.parser_combinators.specs.Parsing.{Size, nothing_counted, both, fresh_size, Got, CanGoOn, Fine, Stops, bindG, mapG}
-use Rattle.expr_grammar.specs.Grammar as g
-use Rattle.expr_grammar.specs.Grammar.{leaf, IsCond}
-use Rattle.expr_grammar.specs.Constants.{as_name}
+-- The longest query is read: its reader is never stuck right behind a whole text.
+use Rattle.std.proofs.Common.{◌≡◌, ℕ, true, Option, Some, None, List, [], ◌++◌, length, inl, inr, refl, sym, subst, codes}
+use Rattle.prima_base.specs.declared.refusals.What.TheVariants.{Outputs, Tables, Branches, Keeps}
+use Rattle.prima_base.specs.declared.keeps.Keep.{Keep}
+use Rattle.prima_base.specs.declared.keeps.Keep.TheVariants.{Starting, Ending, Lasting, Covering, Overlapping}
+use Rattle.relations.specs.Spans.{forever}
+use Rattle.cond_expr.specs.Trees.{always}
+use Rattle.lexical_grammar.specs.Lexemes.{Lexeme, word, sign, is_word, is_sign}
+use Rattle.parser_combinators.specs.Parsing.{Size, Fine, Stops, map_to, mapG, leadG, singleG, fresh, freshG}
 use Rattle.parser_combinators.specs.Found.{Ends}
-use Rattle.lexical_grammar.proofs.Cases.{true_false, by_test}
-use Rattle.lexical_grammar.proofs.LexemeTests.{word_exact}
-use Rattle.expr_grammar.proofs.Longest.{cond_stops, stops_behind}
-use Rattle.parser_combinators.proofs.Passing.{by_passes, whole_along, read_before}
-use Rattle.temporal_lang.specs.declared.whens.When.TheVariants.{Always}
-use Rattle.plain_answers.specs.Branches.{Item, a_branch}
+use Rattle.expr_grammar.specs.Grammar.{IsExpr, IsCond}
+use Rattle.expr_grammar.specs.Reader.{outermost, goes_expr, goes_cond}
+use Rattle.expr_grammar.specs.Constants.{as_name, as_moment, as_small, name, small, moment, nameG, momentG, smallG}
+use Rattle.lexical_grammar.proofs.LexemeTests.{word_is, word_exact, sign_is, sign_exact}
+use Rattle.parser_combinators.proofs.Alternatives.{stops_never}
+use Rattle.parser_combinators.proofs.Fresh.{fresh_good}
+use Rattle.expr_grammar.proofs.Singles.{name_good, small_good, moment_good}
+use Rattle.expr_grammar.proofs.Goodness.{outermost_good}
+use Rattle.expr_grammar.proofs.Longest.{expr_longest, cond_longest}
+use Rattle.temporal_lang.specs.declared.whens.When.TheVariants.{Always, AsOf, During}
+use Rattle.plain_answers.specs.Branches.{a_branch}
 use Rattle.temporal_lang.specs.Queries.{PlainQuery, a_query}
-use Rattle.temporal_lang.specs.QueryGrammar.{IsAlias, IsItem, IsWhere, IsAsk}
-use Rattle.temporal_lang.specs.QueryReader.{ask, goes_ask}
-use Rattle.temporal_lang.specs.QueryPasses.{ask_passes}
-use Rattle.temporal_lang.proofs.QueryGoodness.{ask_good}
-use Rattle.temporal_lang.proofs.QueryAlong.{alias_goes, from_goes, item_goes, ask_goes_on, ask_along}
+use Rattle.temporal_lang.specs.QueryGrammar.{as_moment_or, last_moment, boundG, AreBounds, IsOutput, AreOutputs, IsAlias, IsItem, AreItems, IsWhere, IsBranch, AreBranches, IsDuring, IsKeep, AreKeeps, IsKeeping, IsRange, IsWhen, IsAsk}
+use Rattle.temporal_lang.specs.QueryReader.{output, outputs, alias, item, items, where_part, branch, branches, moment_or, bounds, as_of, as_of_rest, behind_as_of, during, between, covering, keep, keeps, keeping, range, when_part, ask, goes_item, goes_items, goes_branch, goes_branches, goes_range, goes_when, goes_ask}
+use Rattle.temporal_lang.proofs.WholeFronts.{StuckNowhere, pure_nowhere, single_nowhere, maybe_nowhere, behind_nowhere, lead_nowhere, map_nowhere, bind_nowhere, option_nowhere, fresh_nowhere, longest_read}
+use Rattle.temporal_lang.proofs.CountedLists.{counted_nowhere}
+use Rattle.temporal_lang.proofs.BranchGoodness.{ends, output_good, goes_outputs, outputs_good, named_good, item_good, items_good, where_good, where_then_good, behind_items, from_good, branch_good, union_ends, branches_good}
+use Rattle.temporal_lang.proofs.WhenGoodness.{to_good, BetweenRest, CoveringRest, keep_good, keeps_good, keeping_good, DuringRest, during_rest_good, during_good, keeping_then_good, behind_during, IsMaybeAsOf, AsOfRest, BehindAsOf, as_of_rest_good, as_of_good, behind_good, behind_as, as_by_as_of}
+use Rattle.temporal_lang.proofs.QueryGoodness.{when_then_good, behind_branches, branches_then_good, ask_good}
 
-both_false : (a b : Bool) → a ≡ false → b ≡ false → (a || b) ≡ false
-both_false true b e k = true_false e
-both_false false b e k = k
+-- ---- branches
 
--- the name that a lexeme says
-said : (o : Option (List ℕ)) → is_some o ≡ true → (a : List ℕ) × (o ≡ Some a)
-said None e = true_false (sym e)
-said (Some a) e = (a, refl)
+output_nowhere : StuckNowhere output IsOutput
+unfolding output
+output_nowhere = fresh_nowhere (outermost true).expr (IsExpr true) (goes_expr true) (outermost_good true).expr (expr_longest true)
 
-with_true : (x : Lexeme) → is_word (codes "WHERE") x ≡ true → IsWhere always (fresh_size leaf) (x ∷ word (codes "TRUE") ∷ [])
-with_true x t = inr (word (codes "TRUE") ∷ [], ap (λ y. y ∷ word (codes "TRUE") ∷ []) (word_exact (codes "WHERE") x t), (leaf, refl, g.one_conj true always leaf _ (g.one_fact true always leaf _ (g.truth true))))
+outputs_nowhere : StuckNowhere outputs AreOutputs
+unfolding outputs
+outputs_nowhere = counted_nowhere (is_sign (codes ",")) (sign (codes ",")) (sign_is (codes ",")) (sign_exact (codes ",")) output IsOutput (goes_expr true) output_good refl Outputs (λ s n h. h) 31 refl output_nowhere
 
-module _ (q : PlainQuery) (s : Size) (f : List Lexeme) (h : IsAsk q s f) where
-  -- its tokens up to the item, and others behind them
-  abbrev before : List Lexeme → List Lexeme
-  before l = word (codes "VERSION") ∷ (h.2.3 ++ word (codes "SELECT") ∷ (h.2.8.2.2.3 ++ word (codes "FROM") ∷ l))
+name_nowhere : StuckNowhere name nameG
+unfolding name
+name_nowhere = single_nowhere as_name
 
-  before_append : (l m : List Lexeme) → before l ++ m ≡ before (l ++ m)
-  before_append l m =
-      ap (λ t. word (codes "VERSION") ∷ t)
-      (append_assoc h.2.3 (word (codes "SELECT") ∷ (h.2.8.2.2.3 ++ word (codes "FROM") ∷ l)) m
-      ∙ ap (λ t. h.2.3 ++ word (codes "SELECT") ∷ t) (append_assoc h.2.8.2.2.3 (word (codes "FROM") ∷ l) m))
+alias_nowhere : (table : List ℕ) → StuckNowhere (alias table) (IsAlias table)
+unfolding alias
+alias_nowhere table = maybe_nowhere as_name table
 
-  abbrev from_part : bindG IsItem (λ i. mapG (λ c. a_branch h.2.8.2.2.0 (i ∷ []) c) IsWhere) h.2.8.0 h.2.8.2.2.2 h.2.8.2.2.8.0
-  from_part = h.2.8.2.2.8.2
+item_nowhere : StuckNowhere item IsItem
+unfolding item
+item_nowhere = bind_nowhere name (λ table. map_to (λ named. (table, named)) (alias table)) nameG (λ table. mapG (λ named. (table, named)) (IsAlias table)) ends goes_item (name_good 0 32 ends)
+    named_good (λ a b s ts rest h stops. stops_never (ts ++ rest)) name_nowhere (λ table. map_nowhere (λ named. (table, named)) (alias table) (IsAlias table) (alias_nowhere table))
 
-  -- the item's, and those of the condition
-  tokens : f ≡ before (from_part.3 ++ from_part.4)
-  tokens =
-      let v = h.2 in
-      let b = v.8.2 in
-      let o = b.2 in
-      let r = o.8 in
-      h.1 ∙ ap (λ t. word (codes "VERSION") ∷ t)
-      (v.6 ∙ ap (λ t. v.3 ++ t) (b.1 ∙ ap (λ t. word (codes "SELECT") ∷ t) (o.6 ∙ ap (λ t. o.3 ++ t) (r.1 ∙ ap (λ t. word (codes "FROM") ∷ t) r.2.6))))
+items_nowhere : StuckNowhere items AreItems
+unfolding items
+items_nowhere = counted_nowhere (is_sign (codes ",")) (sign (codes ",")) (sign_is (codes ",")) (sign_exact (codes ",")) item IsItem goes_item item_good refl Tables (λ s n h. h) 7 refl item_nowhere
 
-  -- another item and another condition in their places
-  other : (i : Item) (u : Size) (k : List Lexeme) → IsItem i u k → (c : Test) (z : Size) (m : List Lexeme) → IsWhere c z m → (p : PlainQuery) × (y : Size) × IsAsk p y (before (k ++ m))
-  other i u k hi c z m hw =
-      let v = h.2 in
-      let o = v.8.2.2 in (
-        a_query v.0 (a_branch o.0 (i ∷ []) c ∷ []) Always [],
-        both v.1 (both o.1 (both u z)),
-        (
-          _,
-          refl,
-          (
-            v.0,
-            v.1,
-            both o.1 (both u z),
-            v.3,
-            _,
-            refl,
-            refl,
-            v.7,
-            (
-              a_branch o.0 (i ∷ []) c,
-              refl,
-              (_, refl, (o.0, o.1, both u z, o.3, _, refl, refl, o.7, (_, refl, (i, u, z, k, m, refl, refl, hi, (c, refl, hw))))),
-            ),
-          ),
-        ),
-      )
+where_nowhere : StuckNowhere where_part IsWhere
+unfolding where_part
+where_nowhere = option_nowhere (is_word (codes "WHERE")) (word (codes "WHERE")) (word_is (codes "WHERE")) (word_exact (codes "WHERE")) (fresh (outermost true).cond) always (freshG (IsCond true)) _ where_good
+    (fresh_good 32 (outermost true).cond (IsCond true) 0 (goes_cond true) (outermost_good true).cond).live
+    (fresh_nowhere (outermost true).cond (IsCond true) (goes_cond true) (outermost_good true).cond (cond_longest true))
 
-  -- so it goes on with a lexeme that they go on with
-  can : (x : Lexeme) (more l : List Lexeme) → (from_part.3 ++ from_part.4) ++ x ∷ more ≡ l → ((p : PlainQuery) × (y : Size) × IsAsk p y (before l)) → CanGoOn IsAsk (f ++ x ∷ [])
-  can x more l e k =
-      let P : List Lexeme → Type 0 = λ t. IsAsk k.0 k.1 t in
-      let same : (f ++ x ∷ []) ++ more ≡ before l = append_assoc f (x ∷ []) more ∙ ap (λ t. t ++ x ∷ more) tokens ∙ before_append (from_part.3 ++ from_part.4) (x ∷ more) ∙ ap before e in
-      (more, k.0, k.1, subst P (sym same) k.2)
+branch_nowhere : StuckNowhere branch IsBranch
+unfolding branch
+branch_nowhere = lead_nowhere (is_word (codes "SELECT")) (word (codes "SELECT")) (word_is (codes "SELECT")) _ _
+    (bind_nowhere outputs _ AreOutputs _ goes_outputs goes_branch outputs_good from_good
+    (λ outs b s ts rest h stops. let P : List Lexeme → Type 0 = λ l. Stops goes_outputs (l ++ rest) in subst P (sym h.1) refl) outputs_nowhere
+    (λ outs. lead_nowhere (is_word (codes "FROM")) (word (codes "FROM")) (word_is (codes "FROM")) _ _
+    (bind_nowhere items _ AreItems _ goes_items goes_branch items_good (where_then_good outs) (behind_items outs) items_nowhere
+    (λ from. map_nowhere (λ c. a_branch outs from c) where_part IsWhere where_nowhere))))
 
-  module _ (x : Lexeme) (halts : CanGoOn IsAsk (f ++ x ∷ []) → ⊥) where
-    no_where : from_part.4 ≡ [] → is_word (codes "WHERE") x ≡ false
-    no_where none = by_test (is_word (codes "WHERE") x)
-        (λ t. absurd (halts (can x (word (codes "TRUE") ∷ []) (from_part.3 ++ x ∷ word (codes "TRUE") ∷ []) (ap (λ l. l ++ x ∷ word (codes "TRUE") ∷ []) (ap (λ l. from_part.3 ++ l) none ∙ append-nil from_part.3))
-        (other from_part.0 from_part.1 from_part.3 from_part.7 always (fresh_size leaf) (x ∷ word (codes "TRUE") ∷ []) (with_true x t)))))
-        (λ t. t)
+branches_nowhere : StuckNowhere branches AreBranches
+unfolding branches
+branches_nowhere = counted_nowhere (is_word (codes "UNION")) (word (codes "UNION")) (word_is (codes "UNION")) (word_exact (codes "UNION")) branch IsBranch goes_branch branch_good union_ends Branches (λ s n h. h) 15 refl branch_nowhere
 
-    no_alias : from_part.4 ≡ [] → (k : IsAlias from_part.7.0 from_part.7.8.0 from_part.7.2 from_part.7.4) → alias_goes from_part.7.0 from_part.7.8.0 from_part.7.2 from_part.7.4 k x ≡ false
-    no_alias none (inl k) = by_test (is_some (as_name x)) (λ t. absurd (halts (with_alias (said (as_name x) t)))) (λ t. t)
-      where
-        with_alias : (a : List ℕ) × (as_name x ≡ Some a) → CanGoOn IsAsk (f ++ x ∷ [])
-        with_alias n =
-            let i = from_part.7 in
-            let short : from_part.3 ++ from_part.4 ≡ i.3 = ap (λ l. from_part.3 ++ l) none ∙ append-nil from_part.3 ∙ i.6 ∙ ap (λ l. i.3 ++ l) k.2 ∙ append-nil i.3 in
-            can x [] ((i.3 ++ x ∷ []) ++ []) (ap (λ l. l ++ x ∷ []) short ∙ sym (append-nil (i.3 ++ x ∷ [])))
-            (other (i.0, n.0) (both i.1 nothing_counted) (i.3 ++ x ∷ []) (i.0, i.1, nothing_counted, i.3, x ∷ [], refl, refl, i.7, (n.0, refl, inr (x, n.1, refl, refl))) always nothing_counted [] (inl (refl, refl, refl)))
-    no_alias none (inr k) = refl
+-- ---- which moments are asked of, and which entries are kept
 
-    ends_from : (w : IsWhere from_part.8.0 from_part.2 from_part.4) → from_goes (item_goes from_part.0 from_part.1 from_part.3 from_part.7) from_part.8.0 from_part.2 from_part.4 w x ≡ false
-    ends_from (inl w) = both_false (is_word (codes "WHERE") x) (item_goes from_part.0 from_part.1 from_part.3 from_part.7 x) (no_where w.2) (no_alias w.2 from_part.7.8.2)
-    ends_from (inr w) = cond_stops true from_part.8.0 w.2.0 w.0 w.2.2 x (λ on. halts (can x on.0 (from_part.3 ++ word (codes "WHERE") ∷ ((w.0 ++ x ∷ []) ++ on.0))
-        (append_assoc from_part.3 from_part.4 (x ∷ on.0) ∙ ap (λ l. from_part.3 ++ (l ++ x ∷ on.0)) w.1 ∙ ap (λ l. from_part.3 ++ word (codes "WHERE") ∷ l) (sym (append_assoc w.0 (x ∷ []) on.0)))
-        (other from_part.0 from_part.1 from_part.3 from_part.7 on.1 (fresh_size on.2) (word (codes "WHERE") ∷ ((w.0 ++ x ∷ []) ++ on.0)) (inr ((w.0 ++ x ∷ []) ++ on.0, refl, (on.2, refl, on.3))))))
+moment_nowhere : StuckNowhere moment momentG
+unfolding moment
+moment_nowhere = single_nowhere as_moment
 
-    ask_stops : ask_goes_on q s f h x ≡ false
-    ask_stops = ends_from from_part.8.2
+moment_or_nowhere : (last : ℕ) → StuckNowhere (moment_or last) (singleG (as_moment_or last))
+unfolding moment_or
+moment_or_nowhere last = single_nowhere (as_moment_or last)
+
+bounds_nowhere : StuckNowhere bounds AreBounds
+unfolding bounds
+bounds_nowhere = bind_nowhere moment _ momentG (λ a. leadG (word (codes "TO")) (mapG (λ b. (a, b)) boundG)) ends ends (moment_good 0 32 ends) (to_good ends) (λ a b s ts rest h stops. stops_never (ts ++ rest)) moment_nowhere
+    (λ a. lead_nowhere (is_word (codes "TO")) (word (codes "TO")) (word_is (codes "TO")) _ _ (map_nowhere (λ b. (a, b)) (moment_or forever) boundG (moment_or_nowhere forever)))
+
+between_nowhere : (make : ℕ → ℕ → Keep) → StuckNowhere (between make) (BetweenRest make)
+unfolding between
+between_nowhere make = map_nowhere (λ b. make b.0 b.1) bounds AreBounds bounds_nowhere
+
+covering_nowhere : StuckNowhere covering CoveringRest
+unfolding covering
+covering_nowhere = map_nowhere (λ m. Covering m) moment momentG moment_nowhere
+
+keep_nowhere : StuckNowhere keep IsKeep
+unfolding keep
+keep_nowhere n a s f rest (inl h) e = behind_nowhere keep (between Starting) (word (codes "STARTING")) (λ n ts. refl) (BetweenRest Starting) (between_nowhere Starting) n a s f rest h e
+keep_nowhere n a s f rest (inr (inl h)) e = behind_nowhere keep (between Ending) (word (codes "ENDING")) (λ n ts. refl) (BetweenRest Ending) (between_nowhere Ending) n a s f rest h e
+keep_nowhere n a s f rest (inr (inr (inl h))) e = behind_nowhere keep (between Lasting) (word (codes "LASTING")) (λ n ts. refl) (BetweenRest Lasting) (between_nowhere Lasting) n a s f rest h e
+keep_nowhere n a s f rest (inr (inr (inr (inl h)))) e = behind_nowhere keep (between Overlapping) (word (codes "OVERLAPPING")) (λ n ts. refl) (BetweenRest Overlapping) (between_nowhere Overlapping) n a s f rest h e
+keep_nowhere n a s f rest (inr (inr (inr (inr h)))) e = behind_nowhere keep covering (word (codes "COVERING")) (λ n ts. refl) CoveringRest covering_nowhere n a s f rest h e
+
+keeps_nowhere : StuckNowhere keeps AreKeeps
+unfolding keeps
+keeps_nowhere = counted_nowhere (is_word (codes "AND")) (word (codes "AND")) (word_is (codes "AND")) (word_exact (codes "AND")) keep IsKeep ends keep_good refl Keeps (λ s n h. h) 7 refl keep_nowhere
+
+keeping_nowhere : StuckNowhere keeping IsKeeping
+unfolding keeping
+keeping_nowhere = option_nowhere (is_word (codes "KEEP")) (word (codes "KEEP")) (word_is (codes "KEEP")) (word_exact (codes "KEEP")) keeps [] AreKeeps _ keeping_good keeps_good.live keeps_nowhere
+
+during_nowhere : StuckNowhere during IsDuring
+unfolding during
+during_nowhere = option_nowhere (is_word (codes "DURING")) (word (codes "DURING")) (word_is (codes "DURING")) (word_exact (codes "DURING")) (map_to (λ b. During b.0 b.1) bounds) Always DuringRest _ during_good (during_rest_good ends).live
+    (map_nowhere (λ b. During b.0 b.1) bounds AreBounds bounds_nowhere)
+
+range_nowhere : StuckNowhere range IsRange
+unfolding range
+range_nowhere = bind_nowhere during _ IsDuring _ (is_word (codes "DURING")) goes_range during_good keeping_then_good behind_during during_nowhere (λ when. map_nowhere (λ l. (when, l)) keeping IsKeeping keeping_nowhere)
+
+as_of_nowhere : StuckNowhere as_of IsMaybeAsOf
+unfolding as_of
+as_of_nowhere = option_nowhere (is_word (codes "AS")) (word (codes "AS")) (word_is (codes "AS")) (word_exact (codes "AS")) as_of_rest None AsOfRest _ as_of_good as_of_rest_good.live
+    (lead_nowhere (is_word (codes "OF")) (word (codes "OF")) (word_is (codes "OF")) _ _ (map_nowhere (λ m. Some m) (moment_or last_moment) (singleG (as_moment_or last_moment)) (moment_or_nowhere last_moment)))
+
+behind_as_of_nowhere : (o : Option ℕ) → StuckNowhere (behind_as_of o) (BehindAsOf o)
+behind_as_of_nowhere (Some m) = pure_nowhere (AsOf m, [])
+behind_as_of_nowhere None = range_nowhere
+
+when_nowhere : StuckNowhere when_part IsWhen
+unfolding when_part
+when_nowhere n a s f rest h e = bind_nowhere as_of behind_as_of IsMaybeAsOf BehindAsOf (is_word (codes "AS")) goes_when as_of_good behind_good behind_as as_of_nowhere behind_as_of_nowhere n a s f rest (as_by_as_of a s f h) e
+
+-- ---- queries
+
+small_nowhere : StuckNowhere small smallG
+unfolding small
+small_nowhere = single_nowhere as_small
+
+ask_nowhere : StuckNowhere ask IsAsk
+unfolding ask
+ask_nowhere = lead_nowhere (is_word (codes "VERSION")) (word (codes "VERSION")) (word_is (codes "VERSION")) _ _
+    (bind_nowhere small _ smallG _ ends goes_ask (small_good 0 32 ends) branches_then_good (λ a b s ts rest h stops. stops_never (ts ++ rest)) small_nowhere
+    (λ version. bind_nowhere branches _ AreBranches _ goes_branches goes_ask branches_good (when_then_good version) (behind_branches version) branches_nowhere
+    (λ l. map_nowhere (λ w. a_query version l w.0 w.1) when_part IsWhen when_nowhere)))
 
 pub ask_longest : (q : PlainQuery) (s : Size) (front rest ts : List Lexeme) → ts ≡ front ++ rest → IsAsk q s front → Ends IsAsk ts (length front) → Fine 32 q s 0 rest (ask 0 ts)
-ask_longest q s front rest ts w h ends =
-    let P : List Lexeme → Type 0 = λ l. Ends IsAsk l (length front) in
-    let stops : Stops (ask_goes_on q s front h) rest = stops_behind IsAsk (ask_goes_on q s front h) front rest (subst P w ends) (ask_stops q s front h) in
-    read_before ask IsAsk goes_ask ask_good q s (ask_passes q s front h) front rest ts w h (ask_along q s front h 0 [] tt) (ask_along q s front h 0 rest stops)
-
--- a whole list that is a query is read along where its counts pass limits
-pub ask_whole : (q : PlainQuery) (s : Size) (f : List Lexeme) (h : IsAsk q s f) → ask 0 f ≡ by_passes (ask_passes q s f h) f (Got q 0 [])
-ask_whole q s f h = whole_along ask q 0 (ask_passes q s f h) f (ask_along q s f h 0 [] tt)
-
-pub ask_sized : (q : PlainQuery) (s : Size) (f : List Lexeme) (h : IsAsk q s f) → length (ask_passes q s f h) ≡ length f
-ask_sized q s f h = (ask_along q s f h 0 [] tt).sized
+ask_longest = longest_read ask IsAsk goes_ask ask_good ask_nowhere

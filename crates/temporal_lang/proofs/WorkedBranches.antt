@@ -10,13 +10,13 @@ use Rattle.prima_base.specs.Keeping.{keeps}
 use Rattle.cond_expr.specs.declared.exprs.Whose.TheVariants.{Free, Alias, Atom}
 use Rattle.cond_expr.specs.declared.exprs.CmpOp.TheVariants.{Eq}
 use Rattle.cond_expr.specs.Trees.{column, constant, length_of, always, compared, fill}
-use Rattle.cond_expr.specs.Kinds.{kinds_of, kind_of}
+use Rattle.cond_expr.specs.Kinds.{kind_of}
 use Rattle.smo_meaning.specs.First.{first_refusal}
 use Rattle.smo_meaning.specs.OneRow.{Relation}
 use Rattle.temporal_lang.specs.declared.whens.When.TheVariants.{During}
 use Rattle.plain_answers.specs.Branches.{PlainBranch}
 use Rattle.plain_answers.specs.Choosing.{answers_over}
-use Rattle.plain_answers.specs.AtomColumns.{kinds_of_atoms}
+use Rattle.cond_expr.specs.AtomColumns.{kinds_of_atoms}
 use Rattle.temporal_lang.specs.Atoms.{Source, to_atoms}
 use Rattle.temporal_lang.specs.Checking.{whose_fault, branch_types, branch_nodes, arities, period_tests}
 use Rattle.version_ways.proofs.WorkedWords.{a, b, k, x, y, r, s, t, int, text, at_atom, a_columns, ab_columns, kx_columns, ky_columns}

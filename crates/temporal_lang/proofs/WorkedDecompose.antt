@@ -1,9 +1,9 @@
 -- Worked rows: a table that is decomposed into two, with a join as the inverse. Its past, the two tables, and the answers to a
 -- query on the version before.
-use Rattle.std.specs.Prelude.{◌≡◌, ◌==◌, ◌++◌, ◌||◌, ℕ, ◌+◌, List, [], ◌∷◌, Bool, false, not, cond, is_some, codes, Option, Some, None, if◌then◌else◌}
-use Rattle.std.proofs.Common.{refl, ap, ◌∙◌}
-use Rattle.std.specs.Option.{unwrap_or}
-use Rattle.std.specs.FinMap.{get, insert, remove, get-empty, get-insert, get-remove}
+use Rattle.std.specs.Prelude.{◌≡◌, ◌==◌, ◌++◌, ◌||◌, ℕ, ◌+◌, List, [], ◌∷◌, Bool, false, not, cond, is_some, nat_le, codes, Option, Some, None, if◌then◌else◌}
+use Rattle.std.proofs.Common.{refl, ap, subst, ◌∙◌, arith}
+use Rattle.std.specs.Option.{unwrap_or, option_map}
+use Rattle.std.specs.FinMap.{get, insert, remove, len, get-empty, get-insert, get-remove, len-empty}
 use Rattle.std.specs.Cmp.Lexicographic.{nat_list_cmp_total}
 use Rattle.relations.specs.Sets.{set_of}
 use Rattle.relations.specs.Spans.{span, forever}
@@ -11,7 +11,6 @@ use Rattle.relations.specs.Timeline.{listing_of}
 use Rattle.prima_base.specs.declared.values.ColType.TheVariants.{Int as INT, Text as TEXT}
 use Rattle.prima_base.specs.Order.{bytes_cmp, row_cmp}
 use Rattle.prima_base.specs.Keeping.{kept}
-use Rattle.prima_base.specs.Columns.{Column}
 use Rattle.schema_catalog.specs.Tables.{Tables}
 use Rattle.schema_catalog.specs.Databases.{Entry, Rows, Database}
 use Rattle.cond_expr.specs.declared.exprs.Whose.TheVariants.{Free}
@@ -24,13 +23,21 @@ use Rattle.smo_meaning.specs.OneRow.{Row, Relation, same}
 use Rattle.smo_meaning.specs.Making.{named, joined_columns}
 use Rattle.smo_meaning.specs.Effects.{after_each, gained, lost}
 use Rattle.smo_meaning.specs.Past.{Past, State, a_state, no_tables, no_database, beginning, changed_to, evolved_to, past_with, from_stamp, database_at}
-use Rattle.smo_meaning.specs.History.{past_of}
+use Rattle.smo_meaning.specs.History.{past_of, IsHistory}
+use Rattle.smo_meaning.specs.Accepts.{refusal_of, command_fault}
+use Rattle.smo_meaning.specs.LawfulPast.{IsPast}
+use Rattle.smo_meaning.proofs.PastSteps.{beginning_is_past}
+use Rattle.cond_expr.proofs.ConstantLaws.{small_number}
+use Rattle.prima_base.specs.Columns.{Column, IsLawful}
+use Rattle.smo_meaning.specs.LawfulValues.{PastHolds}
+use Rattle.smo_meaning.proofs.ValueLaws.{beginning_holds, history_holds}
 use Rattle.prima_base.specs.declared.refusals.OpRefusal.{OpRefusal}
-use Rattle.prima_base.specs.declared.refusals.OpRefusal.TheVariants.{Exists, NoTable}
+use Rattle.prima_base.specs.declared.refusals.OpRefusal.TheVariants.{Exists, NoTable, TooMany}
+use Rattle.prima_base.specs.declared.refusals.What.TheVariants.{Tables as TABLES}
 use Rattle.smo_meaning.specs.First.{unless, first_refusal}
 use Rattle.smo_meaning.specs.After.{op_fault, behind}
-use Rattle.smo_meaning.specs.Preconditions.{among, differ, joinable, few_columns, test_known_in, test_typed_in}
-use Rattle.smo_meaning.specs.Inverses.{inverse_fault}
+use Rattle.smo_meaning.specs.Preconditions.{among, differ, joinable, few_columns, each_known, each_once, cover, most_tables, test_known_in, test_typed_in}
+use Rattle.smo_meaning.specs.Inverses.{inverse_tests, inverse_fault}
 use Rattle.smo_meaning.proofs.InverseLaws.{accepted_so}
 use Rattle.version_ways.proofs.RoundTrips.{merged_back}
 use Rattle.version_ways.specs.Migration.{migrated}
@@ -41,7 +48,8 @@ use Rattle.temporal_lang.specs.declared.whens.When.TheVariants.{Always}
 use Rattle.temporal_lang.specs.Atoms.{branches_with_atoms}
 use Rattle.temporal_lang.specs.Queries.{PlainQuery, a_query}
 use Rattle.temporal_lang.specs.Answers.{asked_at, stages, answer}
-use Rattle.temporal_lang.proofs.WorkedSelects.{command, stage, changed_at, gained_is, lost_is, select, selected, answers_by}
+use Rattle.temporal_lang.proofs.WorkedPast.{history_is_past, short_text}
+use Rattle.temporal_lang.proofs.WorkedSelects.{command, stage, changed_at, gained_is, lost_is, change_by, creates, one_more, one_less, select, selected, answers_by}
 
 -- ---- AT 1 EVOLVE CREATE TABLE emp (id INT, name TEXT, city TEXT);
 -- AT 2 INSERT INTO emp (id, name, city) VALUES (1, 'Ann', 'Oslo');
@@ -312,3 +320,85 @@ joining_accepted =
 
 inverse_accepted : inverse_fault with_emp parting (joining ∷ []) ≡ None
 inverse_accepted = accepted_so with_emp parting (joining ∷ []) (joining_accepted, tt) leads_back
+
+-- ---- the commands are a history: each is accepted after those before it
+
+one_table : len with_emp ≡ 1
+one_table = one_more no_tables emp emp_columns 0 (get-empty bytes_cmp emp) (len-empty bytes_cmp (List Column))
+
+without_emp : (n : List ℕ) → same n emp ≡ false → get (remove with_emp emp) n ≡ None
+without_emp n e =
+    get-remove nat_list_cmp_total with_emp emp n
+    ∙ ap (λ (b : Bool). cond b None (get with_emp n)) e ∙ free n e
+
+two_tables : len in_two ≡ 2
+two_tables =
+    let first : len (insert (remove with_emp emp) who (some_of (id ∷ name ∷ []))) ≡ 1 =
+    one_more (remove with_emp emp) who (some_of (id ∷ name ∷ [])) 0 (without_emp who refl) (one_less with_emp emp emp_columns 1 emp_there one_table) in
+    one_more (insert (remove with_emp emp) who (some_of (id ∷ name ∷ []))) home (some_of (id ∷ city ∷ [])) 1
+    (get-insert nat_list_cmp_total (remove with_emp emp) who (some_of (id ∷ name ∷ [])) home ∙ without_emp home refl) first
+
+create_accepted : op_fault no_tables (create_table emp written) ≡ None
+unfolding set_of
+create_accepted = creates no_tables emp written 1 (get-empty bytes_cmp emp) one_table
+
+abbrev parting_by : Option (List Column) → Option (List Column) → Option (List Column) → ℕ → Option OpRefusal
+parting_by o first second count =
+    let columns : List Column = unwrap_or o [] in
+    first_refusal (unless (is_some o) (NoTable emp) ∷ differ who home ∷ unless (not (is_some first) || among who (emp ∷ [])) (Exists who)
+    ∷ unless (not (is_some second) || among home (emp ∷ [])) (Exists home) ∷ each_known emp columns (id ∷ name ∷ id ∷ city ∷ [])
+    ∷ each_once who (id ∷ name ∷ []) ∷ each_once home (id ∷ city ∷ []) ∷ cover emp columns (id ∷ name ∷ []) (id ∷ city ∷ [])
+    ∷ unless (nat_le count most_tables) (TooMany TABLES most_tables) ∷ [])
+
+parting_accepted : op_fault with_emp parting ≡ None
+parting_accepted =
+    ap (λ (o : Option (List Column)). parting_by o (get with_emp who) (get with_emp home) (len in_two)) emp_there
+    ∙ ap (λ (o : Option (List Column)). parting_by (Some emp_columns) o (get with_emp home) (len in_two)) (free who refl)
+    ∙ ap (λ (o : Option (List Column)). parting_by (Some emp_columns) None o (len in_two)) (free home refl)
+    ∙ ap (parting_by (Some emp_columns) None None) two_tables
+
+accepted_1 : command_fault beginning creating ≡ None
+accepted_1 = ap (λ (o : Option OpRefusal). first_refusal (option_map refusal_of o ∷ [])) create_accepted
+
+accepted_2 : command_fault (past (version_1 ∷ []) 1 1 states_1) giving ≡ None
+accepted_2 = ap (λ (o : Option (List Column)). first_refusal (change_by inserting 0 o ++ [])) emp_there
+
+accepted_3 : command_fault (past (version_1 ∷ []) 2 2 states_2) decomposing ≡ None
+accepted_3 = ap (λ (o : Option OpRefusal). first_refusal (option_map refusal_of o ∷ inverse_tests with_emp parting (joining ∷ []))) parting_accepted ∙ inverse_accepted
+
+accepted_5 : command_fault (past versions 3 3 states_3) changing_5 ≡ None
+accepted_5 = ap (λ (o : Option (List Column)). first_refusal (change_by moving 0 o ++ [])) home_there
+
+is_history : IsHistory commands
+is_history =
+    let third = ap (λ p. past_with p giving) created ∙ at_2 in
+    let fourth = ap (λ p. past_with p decomposing) third ∙ at_3 in (
+      accepted_1,
+      (
+        ap (λ p. command_fault p giving) created ∙ accepted_2,
+        (ap (λ p. command_fault p decomposing) third ∙ accepted_3, (ap (λ p. command_fault p changing_5) fourth ∙ accepted_5, tt)),
+      ),
+    )
+
+-- so their past is lawful, and at each moment its database is one of the version then in force
+is_past : IsPast past_5
+is_past = subst IsPast past_is (history_is_past beginning commands beginning_is_past is_history)
+
+-- and it holds lawful values
+id_is : IsLawful (int 1)
+id_is = small_number 1 (omega arith)
+
+ann_is : IsLawful (text (codes "Ann"))
+ann_is = short_text (codes "Ann") (omega arith) refl
+
+oslo_is : IsLawful (text (codes "Oslo"))
+oslo_is = short_text (codes "Oslo") (omega arith) refl
+
+bergen_is : IsLawful (text (codes "Bergen"))
+bergen_is = short_text (codes "Bergen") (omega arith) refl
+
+holds : PastHolds past_5
+holds = subst PastHolds past_is (history_holds beginning commands beginning_is_past is_history (
+  (tt, tt),
+  (((id_is, (ann_is, (oslo_is, tt))), tt), ((tt, (tt, tt)), (((bergen_is, tt), tt), tt))),
+) beginning_holds)

@@ -1,17 +1,15 @@
 -- Worked rows: two tables that are merged, with a partition as the inverse. Their past, and the answers to queries on the
 -- versions before and behind.
 use Rattle.std.specs.Prelude.{◌≡◌, ◌==◌, ◌++◌, ◌||◌, ℕ, ◌+◌, List, [], ◌∷◌, Bool, true, false, not, cond, is_some, nat_le, Option, Some, None, if◌then◌else◌}
-use Rattle.std.proofs.Common.{refl, sym, ap, ◌∙◌, arith}
-use Rattle.std.specs.List.{filter}
-use Rattle.std.specs.Option.{unwrap_or}
-use Rattle.std.specs.FinMap.{FinMap, get, insert, remove, len, get-empty, get-insert, get-remove, len-empty, len-insert, same_map, slice_cmp-IsAntisymmetric, nat_cmp-IsAntisymmetric}
+use Rattle.std.proofs.Common.{refl, sym, ap, subst, ◌∙◌, arith}
+use Rattle.std.specs.Option.{unwrap_or, option_map}
+use Rattle.std.specs.FinMap.{FinMap, get, insert, remove, len, get-empty, get-insert, get-remove, len-empty, same_map, slice_cmp-IsAntisymmetric, nat_cmp-IsAntisymmetric, len-insert}
 use Rattle.std.specs.Cmp.Lexicographic.{nat_list_cmp_total}
 use Rattle.relations.specs.Sets.{set_of}
 use Rattle.relations.specs.Spans.{span, forever}
 use Rattle.relations.specs.Timeline.{listing_of}
 use Rattle.prima_base.specs.Order.{bytes_cmp, row_cmp}
 use Rattle.prima_base.specs.Keeping.{kept}
-use Rattle.prima_base.specs.Columns.{Column}
 use Rattle.schema_catalog.specs.Databases.{Entry, Rows, Database}
 use Rattle.cond_expr.specs.declared.exprs.Whose.TheVariants.{Free}
 use Rattle.cond_expr.specs.Trees.{column, always}
@@ -23,13 +21,20 @@ use Rattle.smo_meaning.specs.Making.{union, from_two}
 use Rattle.smo_meaning.specs.Effects.{database_after, after_each, gained, lost}
 use Rattle.smo_meaning.specs.After.{op_fault, behind, carried}
 use Rattle.smo_meaning.specs.Past.{Past, State, a_state, no_tables, no_database, beginning, changed_to, evolved_to, past_with, from_stamp}
-use Rattle.smo_meaning.specs.History.{past_of}
+use Rattle.smo_meaning.specs.History.{past_of, IsHistory}
+use Rattle.smo_meaning.specs.Accepts.{refusal_of, command_fault}
+use Rattle.smo_meaning.specs.LawfulPast.{IsPast}
+use Rattle.smo_meaning.proofs.PastSteps.{beginning_is_past}
+use Rattle.cond_expr.proofs.ConstantLaws.{small_number}
+use Rattle.prima_base.specs.Columns.{Column}
+use Rattle.smo_meaning.specs.LawfulValues.{PastHolds}
+use Rattle.smo_meaning.proofs.ValueLaws.{beginning_holds, history_holds}
 use Rattle.prima_base.specs.declared.refusals.What.TheVariants.{Tables as TABLES}
 use Rattle.prima_base.specs.declared.refusals.OpRefusal.{OpRefusal}
 use Rattle.prima_base.specs.declared.refusals.OpRefusal.TheVariants.{Exists, TooMany, NoTable}
 use Rattle.smo_meaning.specs.First.{unless, first_refusal}
-use Rattle.smo_meaning.specs.Preconditions.{among, differ, test_known_in, test_typed_in, most_tables}
-use Rattle.smo_meaning.specs.Inverses.{inverse_fault}
+use Rattle.smo_meaning.specs.Preconditions.{among, differ, alike, test_known_in, test_typed_in, most_tables}
+use Rattle.smo_meaning.specs.Inverses.{inverse_tests, inverse_fault}
 use Rattle.smo_meaning.proofs.InverseLaws.{accepted_so}
 use Rattle.smo_meaning.proofs.NameLaws.{same_is}
 use Rattle.smo_meaning.proofs.CountingLaws.{gained_step, lost_with}
@@ -41,7 +46,8 @@ use Rattle.temporal_lang.specs.declared.whens.When.TheVariants.{Always}
 use Rattle.temporal_lang.specs.Atoms.{branches_with_atoms}
 use Rattle.temporal_lang.specs.Queries.{PlainQuery, a_query}
 use Rattle.temporal_lang.specs.Answers.{asked_at, stages, answer}
-use Rattle.temporal_lang.proofs.WorkedSelects.{command, stage, changed_at, gained_is, lost_is, select, selected, answers_by}
+use Rattle.temporal_lang.proofs.WorkedPast.{history_is_past}
+use Rattle.temporal_lang.proofs.WorkedSelects.{command, stage, changed_at, gained_is, lost_is, change_by, creates, one_more, select, selected, answers_by}
 
 -- ---- AT 1 EVOLVE CREATE TABLE r (a INT); AT 2 EVOLVE CREATE TABLE s (a INT);
 -- AT 3 INSERT INTO r (a) VALUES (1) THEN INSERT INTO s (a) VALUES (20);
@@ -346,15 +352,16 @@ leads_back =
     ∙ parted_back with_s r s t a_columns a_columns (unwrap_or (get with_s r) []) r_columns (s_there with_r a_columns) t_free
 
 one_table : len with_r ≡ 1
-one_table =
-    len-insert nat_list_cmp_total no_tables r a_columns
-    ∙ ap (λ (o : Option (List Column)). cond (is_some o) (len no_tables) (len no_tables + 1)) (get-empty bytes_cmp r) ∙ ap (λ n. n + 1) (len-empty bytes_cmp (List Column))
+one_table = one_more no_tables r a_columns 0 (get-empty bytes_cmp r) (len-empty bytes_cmp (List Column))
+
+s_free : get with_r s ≡ None
+s_free = get-insert nat_list_cmp_total no_tables r a_columns s ∙ get-empty bytes_cmp s
+
+both_tables : len with_s ≡ 2
+both_tables = one_more with_r s a_columns 1 s_free one_table
 
 two_tables : len (behind merged parting) ≡ 2
-two_tables =
-    ap len leads_back ∙ len-insert nat_list_cmp_total with_r s a_columns
-    ∙ ap (λ (o : Option (List Column)). cond (is_some o) (len with_r) (len with_r + 1)) (get-insert nat_list_cmp_total no_tables r a_columns s ∙ get-empty bytes_cmp s)
-    ∙ ap (λ n. n + 1) one_table
+two_tables = ap len leads_back ∙ both_tables
 
 r_gone : get merged r ≡ None
 r_gone =
@@ -379,3 +386,80 @@ parting_accepted =
 
 inverse_accepted : inverse_fault with_s (merge_table r s t) (parting ∷ []) ≡ None
 inverse_accepted = accepted_so with_s (merge_table r s t) (parting ∷ []) (parting_accepted, tt) leads_back
+
+-- ---- the commands are a history: each is accepted after those before it
+
+abbrev past_1 : Past
+past_1 = past (version_1 ∷ []) 1 1 (a_state 0 no_database ∷ a_state 1 from_1 ∷ [])
+
+first_created : past_with beginning first_table ≡ past_1
+unfolding set_of
+first_created = refl
+
+first_create : op_fault no_tables (create_table r a_columns) ≡ None
+unfolding set_of
+first_create = creates no_tables r a_columns 1 (get-empty bytes_cmp r) one_table
+
+second_create : op_fault with_r (create_table s a_columns) ≡ None
+unfolding set_of
+second_create = creates with_r s a_columns 2 s_free both_tables
+
+accepted_1 : command_fault beginning first_table ≡ None
+accepted_1 = ap (λ (o : Option OpRefusal). first_refusal (option_map refusal_of o ∷ [])) first_create
+
+accepted_2 : command_fault past_1 second_table ≡ None
+accepted_2 = ap (λ (o : Option OpRefusal). first_refusal (option_map refusal_of o ∷ [])) second_create
+
+accepted_3 : command_fault (past before_merge 2 2 states_2) giving_3 ≡ None
+accepted_3 =
+    ap (λ (o : Option (List Column)). first_refusal (change_by (inserting r 1) 0 o ++ (change_by (inserting s 20) 1 (get with_s s) ++ []))) r_columns
+    ∙ ap (λ (o : Option (List Column)). first_refusal (change_by (inserting s 20) 1 o ++ [])) (s_there with_r a_columns)
+
+abbrev merging_by : Option (List Column) → Option (List Column) → Option (List Column) → Option OpRefusal
+merging_by first second third =
+    first_refusal (unless (is_some first) (NoTable r) ∷ unless (is_some second) (NoTable s) ∷ differ r s
+    ∷ unless (not (is_some third) || among t (r ∷ s ∷ [])) (Exists t) ∷ alike r (unwrap_or first []) s (unwrap_or second []) ∷ [])
+
+merge_accepted : op_fault with_s (merge_table r s t) ≡ None
+merge_accepted =
+    ap (λ (o : Option (List Column)). merging_by o (get with_s s) (get with_s t)) r_columns
+    ∙ ap (λ (o : Option (List Column)). merging_by (Some a_columns) o (get with_s t)) (s_there with_r a_columns)
+    ∙ ap (merging_by (Some a_columns) (Some a_columns)) t_free
+
+accepted_4 : command_fault (past before_merge 3 3 states_3) merging ≡ None
+accepted_4 =
+    ap (λ (o : Option OpRefusal). first_refusal (option_map refusal_of o ∷ inverse_tests with_s (merge_table r s t) (parting ∷ []))) merge_accepted ∙ inverse_accepted
+
+accepted_6 : command_fault (past versions 4 4 states_4) giving_6 ≡ None
+accepted_6 = ap (λ (o : Option (List Column)). first_refusal (change_by (inserting t 7) 0 o ++ (change_by (inserting t 30) 1 o ++ []))) t_columns
+
+is_history : IsHistory commands
+is_history =
+    let fourth = ap (λ p. past_with p giving_3) created ∙ at_3 in
+    let fifth = ap (λ p. past_with p merging) fourth ∙ at_4 in (
+      accepted_1,
+      (
+        ap (λ p. command_fault p second_table) first_created ∙ accepted_2,
+        (
+          ap (λ p. command_fault p giving_3) created ∙ accepted_3,
+          (ap (λ p. command_fault p merging) fourth ∙ accepted_4, (ap (λ p. command_fault p giving_6) fifth ∙ accepted_6, tt)),
+        ),
+      ),
+    )
+
+-- so their past is lawful, and at each moment its database is one of the version then in force
+is_past : IsPast past_6
+is_past = subst IsPast past_is (history_is_past beginning commands beginning_is_past is_history)
+
+-- and it holds lawful values
+holds : PastHolds past_6
+holds = subst PastHolds past_is (history_holds beginning commands beginning_is_past is_history (
+  (tt, tt),
+  (
+    (tt, tt),
+    (
+      ((small_number 1 (omega arith), tt), ((small_number 20 (omega arith), tt), tt)),
+      ((tt, (tt, tt)), (((small_number 7 (omega arith), tt), ((small_number 30 (omega arith), tt), tt)), tt)),
+    ),
+  ),
+) beginning_holds)

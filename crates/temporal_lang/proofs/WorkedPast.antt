@@ -1,21 +1,20 @@
 -- Worked rows: a table that is renamed with an inverse. Its past, the table migrated to the version before and the one
 -- behind, and the answers to queries on both versions.
-use Rattle.std.specs.Prelude.{◌≡◌, ◌==◌, ◌≤◌, ◌||◌, ℕ, ◌+◌, List, [], ◌∷◌, ◌++◌, length, not, cond, is_some, nat_le, Option, Some, None, if◌then◌else◌}
+use Rattle.std.specs.Prelude.{◌≡◌, ◌==◌, ◌≤◌, ◌||◌, ℕ, ◌+◌, List, [], ◌∷◌, ◌++◌, length, not, is_some, Option, Some, None, if◌then◌else◌}
 use Rattle.std.proofs.Common.{refl, ap, subst, ◌∙◌, arith}
 use Rattle.std.specs.Option.{unwrap_or, option_map}
-use Rattle.std.specs.FinMap.{get, insert, remove, len, get-empty, get-insert, len-empty, len-insert}
+use Rattle.std.specs.FinMap.{get, insert, remove, len, get-empty, get-insert, len-empty}
 use Rattle.std.specs.Cmp.Lexicographic.{nat_list_cmp_total}
-use Rattle.prima_base.specs.declared.refusals.What.TheVariants.{Tables as TABLES}
 use Rattle.prima_base.specs.declared.refusals.OpRefusal.{OpRefusal}
-use Rattle.prima_base.specs.declared.refusals.OpRefusal.TheVariants.{Exists, TooMany, NoTable as NoTableThere}
+use Rattle.prima_base.specs.declared.refusals.OpRefusal.TheVariants.{Exists, NoTable as NoTableThere}
 use Rattle.prima_base.specs.Bytes.{IsTxt, first_control}
 use Rattle.relations.specs.Sets.{set_of}
 use Rattle.relations.specs.Spans.{span, forever}
 use Rattle.relations.specs.Timeline.{Stage, listing_of}
 use Rattle.prima_base.specs.Order.{bytes_cmp, row_cmp}
 use Rattle.prima_base.specs.Keeping.{kept}
-use Rattle.prima_base.specs.declared.refusals.Refusal.TheVariants.{NoVersion, NoTable}
-use Rattle.prima_base.specs.Columns.{Column, IsLawful, names_of}
+use Rattle.prima_base.specs.declared.refusals.Refusal.TheVariants.{NoVersion}
+use Rattle.prima_base.specs.Columns.{Column, IsLawful}
 use Rattle.schema_catalog.specs.Tables.{Tables}
 use Rattle.schema_catalog.specs.Databases.{Entry, Rows, Database}
 use Rattle.cond_expr.specs.declared.exprs.CmpOp.TheVariants.{Eq}
@@ -30,9 +29,8 @@ use Rattle.smo_meaning.specs.After.{op_fault, behind, carried}
 use Rattle.smo_meaning.specs.Past.{State, Past, a_state, no_tables, no_database, tables_of, version_at, database_at, beginning, changed_to, evolved_to, past_with, from_stamp}
 use Rattle.smo_meaning.specs.Counts.{first_excess}
 use Rattle.smo_meaning.specs.First.{unless, first_refusal}
-use Rattle.smo_meaning.specs.Preconditions.{among, differ, is_some_column, each_once, few_columns, most_tables}
+use Rattle.smo_meaning.specs.Preconditions.{among, differ}
 use Rattle.smo_meaning.specs.Inverses.{inverse_tests, inverse_fault}
-use Rattle.smo_meaning.specs.Checks.{Fault, tests_behind}
 use Rattle.smo_meaning.specs.Accepts.{refusal_of, command_fault}
 use Rattle.smo_meaning.specs.LawfulPast.{IsPast}
 use Rattle.smo_meaning.specs.LawfulValues.{PastHolds}
@@ -50,7 +48,7 @@ use Rattle.plain_answers.specs.Branches.{plain}
 use Rattle.plain_answers.specs.Choosing.{answers_over}
 use Rattle.temporal_lang.specs.Answers.{asked_at, stages, answer}
 use Rattle.temporal_lang.specs.Accepted.{fault_of_query}
-use Rattle.temporal_lang.proofs.WorkedSelects.{gained_is, lost_is}
+use Rattle.temporal_lang.proofs.WorkedSelects.{gained_is, lost_is, change_by, creates, one_more}
 use Rattle.version_ways.proofs.WorkedWords.{a, b, x, y, s, t, u, int, text, at_atom, ab_columns, t_there, u_there}
 
 -- AT 1 EVOLVE CREATE TABLE t (a INT, b TEXT); AT 5 INSERT INTO t (a, b) VALUES (1, 'x');
@@ -326,31 +324,21 @@ later_answer = ap (λ ss. kept [] (listing_of row_cmp ss)) later_stages
 
 -- ---- the commands are a history: each is accepted after those before it
 
-abbrev create_by : Option (List Column) → ℕ → Option OpRefusal
-create_by o count =
-    first_refusal (unless (not (is_some o) || among t []) (Exists t) ∷ is_some_column t ab_columns ∷ each_once t (names_of ab_columns) ∷ few_columns ab_columns
-    ∷ unless (nat_le count most_tables) (TooMany TABLES most_tables) ∷ [])
-
 one_table : len tables_1 ≡ 1
-one_table =
-    len-insert nat_list_cmp_total no_tables t ab_columns
-    ∙ ap (λ (o : Option (List Column)). cond (is_some o) (len no_tables) (len no_tables + 1)) (get-empty bytes_cmp t) ∙ ap (λ n. n + 1) (len-empty bytes_cmp (List Column))
+one_table = one_more no_tables t ab_columns 0 (get-empty bytes_cmp t) (len-empty bytes_cmp (List Column))
 
 create_accepted : op_fault no_tables (create_table t ab_columns) ≡ None
 unfolding set_of
-create_accepted = ap (λ (o : Option (List Column)). create_by o (len tables_1)) (get-empty bytes_cmp t) ∙ ap (create_by None) one_table
+create_accepted = creates no_tables t ab_columns 1 (get-empty bytes_cmp t) one_table
 
 accepted_1 : command_fault beginning (command 1 (evolving (create_table t ab_columns) [])) ≡ None
 accepted_1 = ap (λ (o : Option OpRefusal). first_refusal (option_map refusal_of o ∷ [])) create_accepted
 
-abbrev change_by : PlainChange → Option (List Column) → List Fault
-change_by change o = (unless (is_some o) (NoTable t) ∷ tests_behind (unwrap_or o []) change 0) ++ []
-
 accepted_5 : command_fault past_1 (command 5 (changing (inserting ∷ []))) ≡ None
-accepted_5 = ap (λ (o : Option (List Column)). first_refusal (change_by inserting o)) columns_are
+accepted_5 = ap (λ (o : Option (List Column)). first_refusal (change_by inserting 0 o ++ [])) columns_are
 
 accepted_7 : command_fault past_5 (command 7 (changing (updating ∷ []))) ≡ None
-accepted_7 = ap (λ (o : Option (List Column)). first_refusal (change_by updating o)) columns_are
+accepted_7 = ap (λ (o : Option (List Column)). first_refusal (change_by updating 0 o ++ [])) columns_are
 
 abbrev rename_by : Option (List Column) → Option (List Column) → Option OpRefusal
 rename_by o free = first_refusal (unless (is_some o) (NoTableThere t) ∷ differ t u ∷ unless (not (is_some free) || among u (t ∷ [])) (Exists u) ∷ [])
@@ -388,7 +376,7 @@ is_history =
 accepted_is_past : (past : Past) (c : PlainCommand) → IsPast past → command_fault past c ≡ None → IsPast (past_with past c)
 accepted_is_past past c is e = stays_lawful past c.stamp c.body is (stamp_accepted past c e) (counts_accepted past c e) (body_accepted past c e)
 
-history_is_past : (past : Past) (cs : List PlainCommand) → IsPast past → AllAccepted past cs → IsPast (past_after past cs)
+pub history_is_past : (past : Past) (cs : List PlainCommand) → IsPast past → AllAccepted past cs → IsPast (past_after past cs)
 history_is_past past [] is a = is
 history_is_past past (c ∷ cs) is a = history_is_past (past_with past c) cs (accepted_is_past past c is a.0) a.1
 
@@ -396,7 +384,7 @@ is_past : IsPast past_9
 is_past = subst IsPast past_is (history_is_past beginning commands beginning_is_past is_history)
 
 -- and it holds lawful values
-short_text : (bytes : List ℕ) → length bytes ≤ 1 → first_control bytes ≡ None → IsTxt bytes
+pub short_text : (bytes : List ℕ) → length bytes ≤ 9 → first_control bytes ≡ None → IsTxt bytes
 short_text bytes l e = (omega (arith, l), e)
 
 x_is : IsTxt x

@@ -1,28 +1,36 @@
--- For worked rows: changes of one table, what they gain and lose, and queries of one branch over one table.
-use Rattle.std.specs.Prelude.{◌≡◌, ℕ, ◌+◌, ◌++◌, List, [], ◌∷◌, length, map, is_some, Option, Some, None}
+-- For worked rows: changes of one table, what they gain and lose, what is tested of a CREATE TABLE, and queries of one branch
+-- over one table.
+use Rattle.std.specs.Prelude.{◌≡◌, ℕ, ◌+◌, ◌-◌, ◌++◌, ◌||◌, List, [], ◌∷◌, not, cond, length, map, is_some, nat_le, Option, Some, None}
 use Rattle.std.proofs.Common.{ap, ◌∙◌, arith}
 use Rattle.std.specs.Option.{unwrap_or}
-use Rattle.std.specs.FinMap.{get, insert}
+use Rattle.std.specs.FinMap.{get, insert, remove, len, len-insert, len-remove}
+use Rattle.std.specs.Cmp.Lexicographic.{nat_list_cmp_total}
 use Rattle.relations.specs.Sets.{set_of}
 use Rattle.relations.specs.Timeline.{Stage}
 use Rattle.prima_base.specs.Order.{row_cmp}
 use Rattle.prima_base.specs.declared.refusals.Refusal.TheVariants.{NoTable, Ambiguous}
-use Rattle.prima_base.specs.Columns.{Column}
+use Rattle.prima_base.specs.declared.refusals.What.TheVariants.{Tables as TABLES}
+use Rattle.prima_base.specs.declared.refusals.OpRefusal.{OpRefusal}
+use Rattle.prima_base.specs.declared.refusals.OpRefusal.TheVariants.{Exists, TooMany}
+use Rattle.prima_base.specs.Columns.{Column, names_of}
 use Rattle.schema_catalog.specs.Tables.{Tables}
 use Rattle.schema_catalog.specs.Databases.{Entry, Rows, Database}
 use Rattle.cond_expr.specs.Trees.{Tree, Test, fill, fill_test}
+use Rattle.smo_types.specs.Operators.{create_table}
 use Rattle.smo_types.specs.Changes.{PlainChange, table_of}
 use Rattle.smo_types.specs.Commands.{PlainBody, PlainCommand}
-use Rattle.smo_meaning.specs.First.{unless, where_so}
-use Rattle.smo_meaning.specs.Checks.{Fault}
+use Rattle.smo_meaning.specs.First.{unless, where_so, first_refusal}
+use Rattle.smo_meaning.specs.Making.{in_order}
+use Rattle.smo_meaning.specs.After.{op_fault}
+use Rattle.smo_meaning.specs.Checks.{Fault, tests_behind}
 use Rattle.smo_meaning.specs.OneRow.{Row, Relation}
 use Rattle.smo_meaning.specs.Effects.{relation_after, with_changed, database_after, gained_rows, gained, lost, rows_at}
-use Rattle.smo_meaning.specs.Preconditions.{among}
+use Rattle.smo_meaning.specs.Preconditions.{among, is_some_column, each_once, few_columns, most_tables}
 use Rattle.smo_meaning.proofs.CountingLaws.{self_gains_nothing, gains_nothing, gained_step, lost_with}
 use Rattle.plain_answers.specs.Branches.{PlainBranch, plain}
 use Rattle.plain_answers.specs.Choosing.{answers_over}
 use Rattle.plain_answers.specs.Naming.{all_references}
-use Rattle.plain_answers.specs.AtomColumns.{kinds_of_atoms}
+use Rattle.cond_expr.specs.AtomColumns.{kinds_of_atoms}
 use Rattle.temporal_lang.specs.declared.whens.When.{When}
 use Rattle.temporal_lang.specs.Queries.{a_query}
 use Rattle.temporal_lang.specs.Atoms.{Source, to_atoms, filled_branch, branches_with_atoms}
@@ -58,6 +66,33 @@ module _ (db : Database) (n : List ℕ) (was now : Relation) (there : get db n �
       let none : length (gained_rows was was) ≡ 0 = ap length (gains_nothing was) in
       let loss : lost db (insert db n (Rows now)) + length (gained_rows was was) ≡ lost db db + length (gained_rows now was) = lost_with db n (Rows was) (Rows now) there db (Rows was) there in
       omega (arith, nothing, none, loss)
+
+-- what is tested of a change whose first node has this number, by its table's columns
+abbrev pub change_by : PlainChange → ℕ → Option (List Column) → List Fault
+change_by change at o = unless (is_some o) (NoTable (table_of change)) ∷ tests_behind (unwrap_or o []) change at
+
+-- ---- a CREATE TABLE, by what stands under its name and how many tables there are behind it
+
+abbrev pub creating_by : List ℕ → List Column → Option (List Column) → ℕ → Option OpRefusal
+creating_by n columns o count =
+    first_refusal (unless (not (is_some o) || among n []) (Exists n) ∷ is_some_column n columns ∷ each_once n (names_of columns) ∷ few_columns columns
+    ∷ unless (nat_le count most_tables) (TooMany TABLES most_tables) ∷ [])
+
+pub creates : (tables : Tables) (n : List ℕ) (columns : List Column) (count : ℕ) → get tables n ≡ None → len (insert tables n (in_order columns)) ≡ count
+    → op_fault tables (create_table n columns) ≡ creating_by n columns None count
+creates tables n columns count free many =
+    ap (λ (o : Option (List Column)). creating_by n columns o (len (insert tables n (in_order columns)))) free ∙ ap (creating_by n columns None) many
+
+-- how many tables there are with one more, and with one less
+pub one_more : (tables : Tables) (n : List ℕ) (columns : List Column) (count : ℕ) → get tables n ≡ None → len tables ≡ count → len (insert tables n columns) ≡ count + 1
+one_more tables n columns count free many =
+    len-insert nat_list_cmp_total tables n columns
+    ∙ ap (λ (o : Option (List Column)). cond (is_some o) (len tables) (len tables + 1)) free ∙ ap (λ k. k + 1) many
+
+pub one_less : (tables : Tables) (n : List ℕ) (columns : List Column) (count : ℕ) → get tables n ≡ Some columns → len tables ≡ count → len (remove tables n) ≡ count - 1
+one_less tables n columns count there many =
+    len-remove nat_list_cmp_total tables n
+    ∙ ap (λ (o : Option (List Column)). cond (is_some o) (len tables - 1) (len tables)) there ∙ ap (λ k. k - 1) many
 
 -- ---- SELECT outs FROM n WHERE cond, its references as they are written
 

@@ -1,9 +1,9 @@
 -- Worked rows: a table that is dropped for good, and created again: its past, what is lost first for a query on the version
 -- before, and what queries answer up to the drop and on the version behind.
-use Rattle.std.specs.Prelude.{◌≡◌, ◌==◌, ℕ, zero, suc, ◌+◌, ◌<◌, ◌++◌, List, [], ◌∷◌, Option, Some, None, if◌then◌else◌}
-use Rattle.std.proofs.Common.{refl, ap, ◌∙◌, arith}
-use Rattle.std.specs.Option.{option_or}
-use Rattle.std.specs.FinMap.{get, insert, remove, empty, get-remove, get-empty}
+use Rattle.std.specs.Prelude.{◌≡◌, ◌==◌, ℕ, zero, suc, ◌+◌, ◌<◌, ◌++◌, List, [], ◌∷◌, is_some, Option, Some, None, if◌then◌else◌}
+use Rattle.std.proofs.Common.{refl, ap, subst, ◌∙◌, arith}
+use Rattle.std.specs.Option.{option_or, option_map}
+use Rattle.std.specs.FinMap.{get, insert, remove, len, empty, get-remove, get-empty, len-empty}
 use Rattle.std.specs.Cmp.Lexicographic.{nat_list_cmp_total}
 use Rattle.relations.specs.Sets.{set_of}
 use Rattle.relations.specs.Spans.{span, forever}
@@ -16,15 +16,25 @@ use Rattle.cond_expr.specs.declared.exprs.Whose.TheVariants.{Free}
 use Rattle.cond_expr.specs.Trees.{column, always}
 use Rattle.prima_base.specs.declared.refusals.OpKind.TheVariants.{DropTable}
 use Rattle.prima_base.specs.declared.refusals.Refusal.TheVariants.{NoInverse}
+use Rattle.prima_base.specs.declared.refusals.OpRefusal.{OpRefusal}
+use Rattle.prima_base.specs.declared.refusals.OpRefusal.TheVariants.{NoTable}
 use Rattle.smo_types.specs.Operators.{create_table, drop_table}
 use Rattle.smo_types.specs.Changes.{PlainChange, insertion}
 use Rattle.smo_types.specs.Commands.{PlainCommand, PlainVersion, changing, evolving}
-use Rattle.smo_meaning.specs.First.{first_refusal}
+use Rattle.smo_meaning.specs.First.{unless, first_refusal}
+use Rattle.smo_meaning.specs.After.{op_fault}
+use Rattle.smo_meaning.specs.Accepts.{refusal_of, command_fault}
+use Rattle.smo_meaning.specs.LawfulPast.{IsPast}
+use Rattle.smo_meaning.proofs.PastSteps.{beginning_is_past}
+use Rattle.cond_expr.proofs.ConstantLaws.{small_number}
+use Rattle.prima_base.specs.Columns.{Column, IsLawful}
+use Rattle.smo_meaning.specs.LawfulValues.{PastHolds}
+use Rattle.smo_meaning.proofs.ValueLaws.{beginning_holds, history_holds}
 use Rattle.smo_meaning.specs.OneRow.{Relation}
 use Rattle.smo_meaning.specs.Effects.{after_each, gained, lost}
 use Rattle.smo_meaning.specs.Losses.{Loss}
 use Rattle.smo_meaning.specs.Past.{Past, State, a_state, no_tables, no_database, beginning, changed_to, past_with, from_stamp}
-use Rattle.smo_meaning.specs.History.{past_of}
+use Rattle.smo_meaning.specs.History.{past_of, IsHistory}
 use Rattle.version_ways.specs.LostNames.{Losses}
 use Rattle.version_ways.specs.Migration.{migrated}
 use Rattle.version_ways.proofs.WorkedWords.{a, t, int, a_columns, t_there}
@@ -37,7 +47,8 @@ use Rattle.temporal_lang.specs.Answers.{asked_at, stages, answer}
 use Rattle.temporal_lang.specs.Losing.{loss_at, first_lost}
 use Rattle.temporal_lang.specs.Accepted.{no_way_back, loss_fault, fault_of_query}
 use Rattle.temporal_lang.proofs.FirstLaws.{first_is, first_none}
-use Rattle.temporal_lang.proofs.WorkedSelects.{command, stage, changed_at, gained_is, lost_is, select, selected, answers_by, tested}
+use Rattle.temporal_lang.proofs.WorkedPast.{history_is_past}
+use Rattle.temporal_lang.proofs.WorkedSelects.{command, stage, changed_at, gained_is, lost_is, change_by, creates, one_more, one_less, select, selected, answers_by, tested}
 
 -- ---- AT 1 EVOLVE CREATE TABLE t (a INT); AT 2 INSERT INTO t (a) VALUES (1); AT 4 EVOLVE DROP TABLE t;
 -- AT 6 EVOLVE CREATE TABLE t (a INT); AT 7 INSERT INTO t (a) VALUES (2);
@@ -261,3 +272,87 @@ later_stages = λ i. stage 0 (later_0 i) ∷ stage 1 (later_1 i) ∷ stage 2 (la
 later_answer : answer dropped on_version_3 ≡ record { item = int 2 ∷ []; period = span 7 forever } ∷ []
 unfolding set_of listing_of
 later_answer = ap (λ ss. kept [] (listing_of row_cmp ss)) later_stages
+
+-- ---- the commands are a history: each is accepted after those before it
+
+columns_1 : get tables_1 t ≡ Some a_columns
+columns_1 = t_there no_tables a_columns
+
+free_1 : get no_tables t ≡ None
+free_1 = get-empty bytes_cmp t
+
+free_2 : get tables_2 t ≡ None
+free_2 = get-remove nat_list_cmp_total tables_1 t t
+
+many_1 : len tables_1 ≡ 1
+many_1 = one_more no_tables t a_columns 0 free_1 (len-empty bytes_cmp (List Column))
+
+many_2 : len tables_2 ≡ 0
+many_2 = one_less tables_1 t a_columns 1 columns_1 many_1
+
+many_3 : len tables_3 ≡ 1
+many_3 = one_more tables_2 t a_columns 0 free_2 many_2
+
+first_create : op_fault no_tables (create_table t a_columns) ≡ None
+unfolding set_of
+first_create = creates no_tables t a_columns 1 free_1 many_1
+
+second_create : op_fault tables_2 (create_table t a_columns) ≡ None
+unfolding set_of
+second_create = creates tables_2 t a_columns 1 free_2 many_3
+
+drop_accepted : op_fault tables_1 (drop_table t) ≡ None
+drop_accepted = ap (λ (o : Option (List Column)). first_refusal (unless (is_some o) (NoTable t) ∷ [])) columns_1
+
+accepted_1 : command_fault beginning (creating 1) ≡ None
+accepted_1 = ap (λ (o : Option OpRefusal). first_refusal (option_map refusal_of o ∷ [])) first_create
+
+accepted_2 : command_fault (past (version_1 ∷ []) 1 1 states_1) (giving 2 1) ≡ None
+accepted_2 = ap (λ (o : Option (List Column)). first_refusal (change_by (inserting 1) 0 o ++ [])) columns_1
+
+accepted_4 : command_fault (past (version_1 ∷ []) 2 2 states_2) dropping ≡ None
+accepted_4 = ap (λ (o : Option OpRefusal). first_refusal (option_map refusal_of o ∷ [])) drop_accepted
+
+abbrev until_drop : Past
+until_drop = past (version_1 ∷ version_2 ∷ []) 4 3 (states_2 ++ a_state 4 from_4 ∷ [])
+
+dropped_at_4 : past_with (past (version_1 ∷ []) 2 2 states_2) dropping ≡ until_drop
+dropped_at_4 = refl
+
+accepted_6 : command_fault until_drop (creating 6) ≡ None
+accepted_6 = ap (λ (o : Option OpRefusal). first_refusal (option_map refusal_of o ∷ [])) second_create
+
+accepted_7 : command_fault (past dropped_versions 6 4 states_6) (giving 7 2) ≡ None
+accepted_7 = ap (λ (o : Option (List Column)). first_refusal (change_by (inserting 2) 0 o ++ [])) (t_there tables_2 a_columns)
+
+is_history : IsHistory commands
+is_history =
+    let third = ap (λ p. past_with p (giving 2 1)) created ∙ at_2 in
+    let fourth = ap (λ p. past_with p dropping) third in
+    let fifth = ap (λ p. past_with p (creating 6)) fourth ∙ evolved in (
+      accepted_1,
+      (
+        ap (λ p. command_fault p (giving 2 1)) created ∙ accepted_2,
+        (
+          ap (λ p. command_fault p dropping) third ∙ accepted_4,
+          (ap (λ p. command_fault p (creating 6)) (fourth ∙ dropped_at_4) ∙ accepted_6, (ap (λ p. command_fault p (giving 7 2)) fifth ∙ accepted_7, tt)),
+        ),
+      ),
+    )
+
+-- so their past is lawful, and at each moment its database is one of the version then in force
+is_past : IsPast dropped
+is_past = subst IsPast past_is (history_is_past beginning commands beginning_is_past is_history)
+
+-- and it holds lawful values
+one_is : IsLawful (int 1)
+one_is = small_number 1 (omega arith)
+
+two_is : IsLawful (int 2)
+two_is = small_number 2 (omega arith)
+
+holds : PastHolds dropped
+holds = subst PastHolds past_is (history_holds beginning commands beginning_is_past is_history (
+  (tt, tt),
+  (((one_is, tt), tt), ((tt, tt), ((tt, tt), (((two_is, tt), tt), tt)))),
+) beginning_holds)

@@ -1,6 +1,8 @@
 -- Whether a query is accepted after a past: the first refusal in the one order.
-use Rattle.std.specs.Prelude.{ℕ, ◌-◌, List, [], ◌∷◌, ◌++◌, length, nat_le, Option, Some, None, slice_get}
+use Rattle.std.specs.Prelude.{◌≡◌, ℕ, ◌-◌, ◌<◌, ◌≤◌, List, [], ◌∷◌, ◌++◌, length, nat_le, Option, Some, None, slice_get}
 use Rattle.std.specs.Option.{option_map}
+use Rattle.std.specs.FinMap.{get}
+use Rattle.relations.specs.Sets.{In}
 use Rattle.prima_base.specs.declared.refusals.OpKind.{OpKind}
 use Rattle.prima_base.specs.declared.refusals.OpKind.TheVariants.{Nop}
 use Rattle.prima_base.specs.declared.refusals.Refusal.{Refusal}
@@ -8,12 +10,13 @@ use Rattle.prima_base.specs.declared.refusals.Refusal.TheVariants.{NoVersion, No
 use Rattle.smo_types.specs.Commands.{PlainVersion}
 use Rattle.smo_meaning.specs.First.{unless, first_refusal}
 use Rattle.smo_meaning.specs.Checks.{Fault}
-use Rattle.smo_meaning.specs.Past.{Past, tables_of}
+use Rattle.smo_meaning.specs.Past.{Past, tables_of, version_at}
 use Rattle.smo_meaning.specs.Losses.{Loss}
 use Rattle.smo_meaning.specs.OperatorKinds.{operator_kind}
-use Rattle.temporal_lang.specs.Queries.{PlainQuery}
+use Rattle.version_ways.specs.LostNames.{lost_names}
+use Rattle.temporal_lang.specs.Queries.{PlainQuery, slice_of}
 use Rattle.temporal_lang.specs.Checking.{excess_of, excess_fault, query_tests}
-use Rattle.temporal_lang.specs.Losing.{first_lost}
+use Rattle.temporal_lang.specs.Losing.{query_tables, loss_at, first_lost}
 
 -- the operator's kind
 abbrev pub version_kind : Option PlainVersion → OpKind
@@ -38,3 +41,21 @@ tests_of_query past query = excess_fault (excess_of query) ∷ version_fault pas
 -- the refusal of a query; none where it is accepted
 abbrev pub fault_of_query : Past → PlainQuery → Fault
 fault_of_query past query = first_refusal (tests_of_query past query)
+
+-- There is no way back over version k: at a moment of the query's slice a table of the query is lost, by names alone, on the way
+-- from the version in force back to the query's one, by version k, whose operator is of this kind and which names no inverse. At
+-- no earlier moment of the slice is a table of the query lost.
+pub record HasNoWayBack (past : Past) (query : PlainQuery) (k : ℕ) (kind : OpKind) : Type 0 where
+  pub moment : ℕ
+  pub after : (slice_of query.when).start ≤ moment
+  pub until : moment < (slice_of query.when).end
+  pub table : List ℕ
+  pub asked : In table (query_tables query.branches)
+  pub lost : get (lost_names past.versions (version_at past moment) query.version) table ≡ Some (k, 1)
+  pub first : (m : ℕ) → (slice_of query.when).start ≤ m → m < moment → loss_at past query m ≡ None
+  pub by : PlainVersion
+  pub is : slice_get past.versions (k - 1) ≡ Some by
+  pub unnamed : by.inverse ≡ []
+  pub of_kind : operator_kind by.op ≡ kind
+  pub behind : query.version < k
+  pub reached : k ≤ version_at past moment

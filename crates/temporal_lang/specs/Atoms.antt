@@ -1,18 +1,17 @@
 -- Which item's column each reference of a branch is to.
-use Rattle.std.specs.Prelude.{ℕ, ◌+◌, ◌++◌, Bool, List, [], ◌∷◌, map}
+use Rattle.std.specs.Prelude.{ℕ, Bool, List, map}
 use Rattle.std.specs.List.{position_or_len}
 use Rattle.prima_base.specs.Columns.{Column, names_of}
 use Rattle.schema_catalog.specs.Tables.{Tables}
-use Rattle.cond_expr.specs.declared.exprs.Column.{Column as AtomColumn}
 use Rattle.cond_expr.specs.declared.exprs.Whose.TheVariants.{Free, Alias, Atom}
 use Rattle.cond_expr.specs.Trees.{column, Filling, fill, fill_test}
-use Rattle.cond_expr.specs.Kinds.{Kinds, kinds_of}
+use Rattle.cond_expr.specs.Kinds.{Kinds}
 use Rattle.smo_meaning.specs.OneRow.{same}
 use Rattle.smo_meaning.specs.Effects.{columns_of}
 use Rattle.smo_meaning.specs.Preconditions.{among}
 use Rattle.plain_answers.specs.Branches.{Item, PlainBranch}
 use Rattle.plain_answers.specs.Branches.{item_columns}
-use Rattle.plain_answers.specs.AtomColumns.{kinds_of_atoms}
+use Rattle.cond_expr.specs.AtomColumns.{kinds_of_atoms}
 use Rattle.temporal_lang.specs.Queries.{PlainQuery, a_query}
 
 -- an item as references see it: its alias, and its table's columns

@@ -4,7 +4,6 @@ use Rattle.std.specs.List.{list_all}
 use Rattle.relations.specs.Spans.{forever}
 use Rattle.prima_base.specs.declared.keeps.Keep.{Keep}
 use Rattle.prima_base.specs.declared.keeps.Keep.TheVariants.{Starting, Ending, Lasting, Covering, Overlapping}
-use Rattle.cond_expr.specs.Trees.{Tree, Test}
 use Rattle.cond_expr.specs.Seen.{tree, test}
 use Rattle.plain_answers.specs.Branches.{Item, PlainBranch, a_branch}
 use Rattle.temporal_lang.specs.declared.branches.Branch.{Branch}

@@ -16,7 +16,7 @@ use Rattle.cond_expr.specs.declared.exprs.Whose.TheVariants.{Free, Alias, Atom}
 use Rattle.cond_expr.specs.Trees.{Tree}
 use Rattle.cond_expr.specs.Sizes.{nodes_of, test_nodes}
 use Rattle.cond_expr.specs.Kinds.{Kinds, kind_of, same_kind}
-use Rattle.cond_expr.specs.Faults.{references, test_references, untyped, test_untyped, first_of}
+use Rattle.cond_expr.specs.Faults.{untyped, test_untyped, first_of}
 use Rattle.smo_meaning.specs.First.{unless, where_so, first_refusal}
 use Rattle.smo_meaning.specs.Checks.{Fault}
 use Rattle.smo_meaning.specs.Counts.{Excess, at_most, tree_counts, test_counts}

@@ -1,42 +1,65 @@
--- At which tokens of a query a count passes its limit: in each output and in the condition counts begin anew, and at each
--- other token nothing is counted.
-use Rattle.std.specs.Prelude.{ℕ, ◌+◌, true, List, [], ◌∷◌, ◌++◌, codes, Option, None}
-use mathlib.Core.Logic.{inl, inr}
+-- At which tokens of a query a count passes its limit: in each output and in the condition counts begin anew, a branch has 32
+-- outputs and eight items at most, a query sixteen branches and eight conditions of KEEP, and at each other token nothing is
+-- counted.
+use Rattle.std.specs.Prelude.{true, [], ◌∷◌, codes}
 use Rattle.prima_base.specs.declared.refusals.What.{What}
-use Rattle.cond_expr.specs.Trees.{Tree, Test}
-use Rattle.lexical_grammar.specs.Lexemes.{Lexeme, sign}
-use Rattle.parser_combinators.specs.Parsing.{Size, AreMore, no_end}
+use Rattle.prima_base.specs.declared.refusals.What.TheVariants.{Outputs, Tables, Branches, Keeps}
+use Rattle.cond_expr.specs.Trees.{always}
+use Rattle.lexical_grammar.specs.Lexemes.{Lexeme, word, sign}
+use Rattle.parser_combinators.specs.Parsing.{Grammar, AreMore, so_wide, bindG, leadG, mapG, freshG}
+use Rattle.expr_grammar.specs.Grammar.{IsExpr, IsCond}
 use Rattle.expr_grammar.specs.TreeMarks.{expr_marks, cond_marks}
-use Rattle.parser_combinators.specs.Passes.{passes, no_passes}
-use Rattle.plain_answers.specs.Branches.{PlainBranch}
-use Rattle.temporal_lang.specs.Queries.{PlainQuery}
-use Rattle.temporal_lang.specs.QueryGrammar.{IsOutput, AreOutputs, IsWhere, IsBranch, IsAsk}
+use Rattle.expr_grammar.specs.Constants.{smallG}
+use Rattle.parser_combinators.specs.Passings.{Passing, none_pass, fresh_pass, lead_pass, map_pass, bind_pass, option_pass, either_pass, counted_pass}
+use Rattle.plain_answers.specs.Branches.{a_branch}
+use Rattle.temporal_lang.specs.Queries.{a_query}
+use Rattle.temporal_lang.specs.QueryGrammar.{countedG, IsOutput, AreOutputs, IsItem, AreItems, IsWhere, IsBranch, AreBranches, IsAsOf, IsDuring, IsKeep, AreKeeps, IsKeeping, IsRange, IsWhen, IsAsk}
 
-abbrev pub output_passes : (e : Tree) (s : Size) (f : List Lexeme) → IsOutput e s f → List (Option What)
-output_passes e s f h = passes (expr_marks true e h.0 f h.2)
+-- the first is before the first separator
+abbrev pub list_passes : {A : Type 0} (separator : Lexeme) (w : What) (G : Grammar A) → Passing G → Passing (countedG separator w G)
+list_passes separator w G ps = bind_pass G (λ a. mapG (λ l. a ∷ l) (AreMore separator (so_wide w) G 1)) ps
+    (λ a. map_pass (λ l. a ∷ l) (AreMore separator (so_wide w) G 1) (counted_pass w separator G ps 1))
 
--- a comma before each
-abbrev pub more_passes : (j : ℕ) (l : List Tree) (s : Size) (f : List Lexeme) → AreMore (sign (codes ",")) no_end IsOutput j l s f → List (Option What)
-more_passes j [] s f h = []
-more_passes j (e ∷ l) s f h = None ∷ (output_passes e h.0 h.2 h.6 ++ more_passes (j + 1) l h.1 h.3 h.7)
+-- ---- branches
 
-abbrev pub outputs_passes : (l : List Tree) (s : Size) (f : List Lexeme) → AreOutputs l s f → List (Option What)
-outputs_passes l s f h = output_passes h.0 h.1 h.3 h.7 ++ more_passes 0 h.8.0 h.2 h.4 h.8.2
+abbrev pub output_passes : Passing IsOutput
+output_passes = fresh_pass (IsExpr true) (expr_marks true)
 
--- nothing, or WHERE and the condition
-abbrev pub where_passes : (c : Test) (s : Size) (f : List Lexeme) → IsWhere c s f → List (Option What)
-where_passes c s f (inl h) = []
-where_passes c s f (inr h) = None ∷ passes (cond_marks true c h.2.0 h.0 h.2.2)
+abbrev pub outputs_passes : Passing AreOutputs
+outputs_passes = list_passes (sign (codes ",")) Outputs IsOutput output_passes
 
--- SELECT, the outputs, FROM, the item, and what may follow
-abbrev pub branch_passes : (b : PlainBranch) (s : Size) (f : List Lexeme) → IsBranch b s f → List (Option What)
-branch_passes b s f h =
-    let outs = h.2 in
-    let item = outs.8.2 in
-    None ∷ (outputs_passes outs.0 outs.1 outs.3 outs.7 ++ None ∷ (no_passes item.3 ++ where_passes item.8.0 item.2 item.4 item.8.2))
+abbrev pub items_passes : Passing AreItems
+items_passes = list_passes (sign (codes ",")) Tables IsItem (none_pass IsItem)
 
--- VERSION, its number, and the branch
-abbrev pub ask_passes : (q : PlainQuery) (s : Size) (f : List Lexeme) → IsAsk q s f → List (Option What)
-ask_passes q s f h =
-    let version = h.2 in
-    None ∷ None ∷ branch_passes version.8.0 version.2 version.4 version.8.2
+abbrev pub where_passes : Passing IsWhere
+where_passes = option_pass always (word (codes "WHERE")) (freshG (IsCond true)) (fresh_pass (IsCond true) (cond_marks true))
+
+abbrev pub branch_passes : Passing IsBranch
+branch_passes = lead_pass (word (codes "SELECT")) _ (bind_pass AreOutputs (λ outs. leadG (word (codes "FROM")) (bindG AreItems (λ from. mapG (λ c. a_branch outs from c) IsWhere))) outputs_passes
+    (λ outs. lead_pass (word (codes "FROM")) _ (bind_pass AreItems (λ from. mapG (λ c. a_branch outs from c) IsWhere) items_passes
+    (λ from. map_pass (λ c. a_branch outs from c) IsWhere where_passes))))
+
+abbrev pub branches_passes : Passing AreBranches
+branches_passes = list_passes (word (codes "UNION")) Branches IsBranch branch_passes
+
+-- ---- which moments are asked of, and which entries are kept
+
+abbrev pub keeps_passes : Passing AreKeeps
+keeps_passes = list_passes (word (codes "AND")) Keeps IsKeep (none_pass IsKeep)
+
+abbrev pub keeping_passes : Passing IsKeeping
+keeping_passes = option_pass [] (word (codes "KEEP")) AreKeeps keeps_passes
+
+abbrev pub range_passes : Passing IsRange
+range_passes = bind_pass IsDuring (λ when. mapG (λ keep. (when, keep)) IsKeeping) (none_pass IsDuring)
+    (λ when. map_pass (λ keep. (when, keep)) IsKeeping keeping_passes)
+
+abbrev pub when_passes : Passing IsWhen
+when_passes = either_pass IsAsOf IsRange (none_pass IsAsOf) range_passes
+
+-- ---- queries
+
+abbrev pub ask_passes : Passing IsAsk
+ask_passes = lead_pass (word (codes "VERSION")) _ (bind_pass smallG (λ version. bindG AreBranches (λ branches. mapG (λ when. a_query version branches when.0 when.1) IsWhen)) (none_pass smallG)
+    (λ version. bind_pass AreBranches (λ branches. mapG (λ when. a_query version branches when.0 when.1) IsWhen) branches_passes
+    (λ branches. map_pass (λ when. a_query version branches when.0 when.1) IsWhen when_passes)))

@@ -1,5 +1,5 @@
 ghost use Rattle.std.specs.Prelude.{◌≡◌, ◌++◌, ◌≤◌, ◌<◌, OnOk, IfOk, length};
-ghost use Rattle.plain_answers.specs.AtomColumns.{columns_at, atoms_from};
+ghost use Rattle.cond_expr.specs.AtomColumns.{columns_at, atoms_from};
 ghost use Rattle.plain_answers.specs.Branches.{item_columns};
 ghost use Rattle.smo_meaning.specs.Effects.{columns_of};
 

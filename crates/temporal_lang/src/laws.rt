@@ -5,6 +5,9 @@ ghost use Rattle.smo_meaning.specs.OneRow.{Row};
 ghost use Rattle.smo_meaning.specs.Past.{Past};
 ghost use Rattle.smo_meaning.specs.LawfulPast.{AreStates, EachStarts};
 ghost use Rattle.smo_meaning.specs.Losses.{Loss};
+ghost use Rattle.prima_base.specs.declared.refusals.OpKind.{OpKind};
+ghost use Rattle.prima_base.specs.declared.refusals.Refusal.TheVariants.{NoInverse};
+ghost use Rattle.temporal_lang.specs.Accepted.{fault_of_query, HasNoWayBack};
 ghost use Rattle.temporal_lang.specs.Losing.{loss_at, first_lost};
 ghost use Rattle.temporal_lang.specs.Queries.{PlainQuery, slice_of, IsLasting};
 ghost use Rattle.prima_base.specs.Keeping.{kept};
@@ -28,4 +31,11 @@ pub fn first_loss_is_at_the_least_moment()
         → ((n : ℕ) → (slice_of query.when).start ≤ n → n < m → loss_at past query n ≡ None) → loss_at past query m ≡ Some loss → first_lost past query ≡ Some loss }
     ensures none { (past : Past) → (query : PlainQuery) → ((n : ℕ) → (slice_of query.when).start ≤ n → n < (slice_of query.when).end → loss_at past query n ≡ None)
         → first_lost past query ≡ None }
+{}
+
+/// A query is refused for want of a way back over a version only where, at the least moment of its slice at which a table of it
+/// is lost by names alone, that version is gone back over on the way from the version in force to the query's one, names no
+/// inverse, and loses a table of the query; its operator is of the kind that is told.
+pub fn a_query_is_refused_for_want_of_a_named_inverse_alone()
+    ensures { (past : Past) → (query : PlainQuery) → (k : ℕ) → (kind : OpKind) → fault_of_query past query ≡ Some (NoInverse k kind) → HasNoWayBack past query k kind }
 {}

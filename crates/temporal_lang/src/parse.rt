@@ -18,11 +18,14 @@ use std::alloc::Global;
 
 /// The query that begins at the token `from` of the list, and the place of the token behind it.
 /// Places count the list's tokens from 0; `from` is at most its length. The longest query is read. A
-/// missing WHERE is TRUE, and a missing alias the table's name. References are as written, with an
-/// alias or without. Each output and the condition have the limits of `parse_expr` and `parse_cond`,
-/// which begin anew in each of them. `Syntax` is the place in the statement of the first token with
+/// missing WHERE is TRUE, a missing alias the table's name, a missing AS OF or DURING each moment, and
+/// a missing KEEP no condition; `AS OF now` is the last moment. References are as written, with an
+/// alias or without. Each output and each condition has the limits of `parse_expr` and `parse_cond`,
+/// which begin anew in each of them; a branch has at most 32 outputs and 8 items, a query at most 16
+/// branches and 8 conditions of KEEP. `Syntax` is the place in the statement of the first token with
 /// which no query goes on, `RanOut` comes where the list ends before a query is whole, and `TooMany`
-/// at the first token at which a count passes its limit.
+/// at the first token at which a count passes its limit: that of a list at the comma, UNION or AND
+/// before one member too many.
 pub fn parse_query(
     alloc: Global,
     list: &[Token<'_>],

@@ -1,6 +1,6 @@
 //! Laws of reading queries. Each is proved and does nothing.
 
-ghost use Rattle.std.specs.Prelude.{◌≡◌, ℕ, List, length, get_or, None};
+ghost use Rattle.std.specs.Prelude.{◌≡◌, ◌≤◌, ℕ, List, length, get_or, None};
 ghost use Rattle.prima_base.specs.declared.refusals.What.{What};
 ghost use Rattle.lexical_grammar.specs.Lexemes.{Lexeme};
 ghost use Rattle.parser_combinators.specs.Parsing.{Size, Good, Exceeds, Lawful};
@@ -15,6 +15,11 @@ ghost use Rattle.temporal_lang.specs.QueryReader as spec;
 pub fn queries_are_good()
     ensures branch { Good 0 32 spec.branch IsBranch spec.goes_branch }
     ensures ask { Good 0 32 spec.ask IsAsk spec.goes_ask }
+{}
+
+/// Tokens that spell a query within the limits spell no other one.
+pub fn queries_are_one()
+    ensures { (q r : PlainQuery) (s t : Size) (f : List Lexeme) → IsAsk q s f → IsAsk r t f → s.nodes ≤ 256 → Lawful 32 s → q ≡ r }
 {}
 
 /// The tokens at which a count passes its limit tell what is too much in a query: of what first

@@ -1,21 +1,22 @@
 //! Reading of queries, from left to right.
 
-ghost use Rattle.std.specs.Prelude.{◌≡◌, ◌<◌, ◌≤◌, length, map, true, codes, is_some, [], ◌∷◌, IfOk};
+ghost use Rattle.std.specs.Prelude.{◌≡◌, ◌<◌, length, map, codes, is_some};
+ghost use Rattle.prima_base.specs.declared.refusals.What.TheVariants as limited;
 ghost use Rattle.cond_expr.specs.Seen.{tree, test};
 ghost use Rattle.cond_expr.specs.Trees.{always};
 ghost use Rattle.lexical_grammar.specs.Lexemes.{is_word, is_sign};
 ghost use Rattle.expr_grammar.specs.Constants.{as_name};
-ghost use Rattle.parser_combinators.specs.Parsing.{many};
+ghost use Rattle.parser_combinators.specs.Parsing.{more};
 ghost use Rattle.parser_combinators.specs.Reads.{Reads, ReadsMore, ahead, sees};
-ghost use Rattle.temporal_lang.specs.declared.whens.When.TheVariants.{Always as EachMoment};
-ghost use Rattle.temporal_lang.specs.Branches.{branch_of, have_parts};
-ghost use Rattle.temporal_lang.specs.Queries.{a_query, query_of};
+ghost use Rattle.temporal_lang.specs.Branches.{branch_of, branches_of};
+ghost use Rattle.temporal_lang.specs.Queries.{query_of};
 ghost use Rattle.temporal_lang.specs.QueryReader as spec;
 
-use crate::{Branch, Query, When};
+use crate::when_reader::when_part;
+use crate::{Branch, Query};
 use cond_expr::{Cond, Expr};
 use lexer::{Cursor, Stop, TokenKind, fresh_cond, fresh_expr, is_name, name, small};
-use prima_base::{Name, NoMemory};
+use prima_base::{Name, What};
 use std::alloc::Global;
 
 // An output.
@@ -26,11 +27,16 @@ fn output(alloc: Global, c: &mut Cursor<'_, '_>) -> Result<Expr, Stop>
     fresh_expr(alloc, c, true)
 }
 
-// More outputs, each behind a comma, as many as there are.
+// More outputs behind a first, each behind a comma, 31 at most.
 fn more_outputs(alloc: Global, c: &mut Cursor<'_, '_>, list: &mut Vec<Expr>) -> Result<(), Stop>
-    ensures { ReadsMore (many (is_sign (codes ",")) spec.output c.old.nodes (ahead c.old)) (map tree list.old.items) (map tree list.new.items) result c.new }
+    ensures { ReadsMore (more (is_sign (codes ",")) limited.Outputs spec.output 31 c.old.nodes (ahead c.old)) (map tree list.old.items) (map tree list.new.items) result c.new }
 {
+    let mut left: u32 = 31;
     while c.sees_sign(b",") {
+        if left == 0 {
+            return Err(Stop::TooMany(What::Outputs));
+        }
+        left -= 1;
         c.skip();
         list.push(output(alloc, c)?)?;
     }
@@ -40,8 +46,7 @@ fn more_outputs(alloc: Global, c: &mut Cursor<'_, '_>, list: &mut Vec<Expr>) -> 
 // Outputs with commas between them, one at least.
 #[tactic(auto, unfolding(crate::specs::QueryReader::outputs))]
 fn outputs(alloc: Global, c: &mut Cursor<'_, '_>) -> Result<Vec<Expr>, Stop>
-    ensures read { Reads (λ v. map tree v.items) (spec.outputs c.old.nodes (ahead c.old)) result c.new }
-    ensures some { IfOk result (λ v. 1 ≤ length v.items) }
+    ensures { Reads (λ v. map tree v.items) (spec.outputs c.old.nodes (ahead c.old)) result c.new }
 {
     let first = output(alloc, c)?;
     let mut list = vec![in alloc; first]?;
@@ -84,6 +89,37 @@ fn item(alloc: Global, c: &mut Cursor<'_, '_>) -> Result<(Name, Name), Stop>
     Ok((table, named))
 }
 
+// More items behind a first, each behind a comma, seven at most.
+fn more_items(
+    alloc: Global,
+    c: &mut Cursor<'_, '_>,
+    list: &mut Vec<(Name, Name)>,
+) -> Result<(), Stop>
+    ensures { ReadsMore (more (is_sign (codes ",")) limited.Tables spec.item 7 c.old.nodes (ahead c.old)) list.old.items list.new.items result c.new }
+{
+    let mut left: u32 = 7;
+    while c.sees_sign(b",") {
+        if left == 0 {
+            return Err(Stop::TooMany(What::Tables));
+        }
+        left -= 1;
+        c.skip();
+        list.push(item(alloc, c)?)?;
+    }
+    Ok(())
+}
+
+// Items with commas between them, one at least.
+#[tactic(auto, unfolding(crate::specs::QueryReader::items))]
+fn items(alloc: Global, c: &mut Cursor<'_, '_>) -> Result<Vec<(Name, Name)>, Stop>
+    ensures { Reads (λ v. v.items) (spec.items c.old.nodes (ahead c.old)) result c.new }
+{
+    let first = item(alloc, c)?;
+    let mut list = vec![in alloc; first]?;
+    more_items(alloc, c, &mut list)?;
+    Ok(list)
+}
+
 // The condition that holds.
 fn everywhere() -> Cond
     ensures { test result ≡ always }
@@ -103,33 +139,44 @@ fn where_part(alloc: Global, c: &mut Cursor<'_, '_>) -> Result<Cond, Stop>
     fresh_cond(alloc, c, true)
 }
 
-// A branch, which has an output and an item.
+// A branch.
 #[tactic(auto, unfolding(crate::specs::QueryReader::branch), using(parser_combinators::proofs::ReadSteps::lead_seen, parser_combinators::proofs::ReadSteps::lead_not))]
 fn branch(alloc: Global, c: &mut Cursor<'_, '_>) -> Result<Branch, Stop>
-    ensures read { Reads branch_of (spec.branch c.old.nodes (ahead c.old)) result c.new }
-    ensures parts { IfOk result (λ b. have_parts (branch_of b ∷ []) ≡ true) }
+    ensures { Reads branch_of (spec.branch c.old.nodes (ahead c.old)) result c.new }
 {
     c.expect_word(b"SELECT")?;
     let outs = outputs(alloc, c)?;
     c.expect_word(b"FROM")?;
-    let first = item(alloc, c)?;
-    let from = vec![in alloc; first]?;
+    let from = items(alloc, c)?;
     let cond = where_part(alloc, c)?;
     Ok(Branch { outs, from, cond })
 }
 
-// The query of one branch, on each moment.
-fn of_one(alloc: Global, version: u32, branch: Branch) -> Result<Query, NoMemory>
-    requires { have_parts (branch_of branch ∷ []) ≡ true }
-    ensures { IfOk result (λ q. query_of q ≡ a_query version (branch_of branch ∷ []) EachMoment []) }
+// More branches behind a first, each behind UNION, fifteen at most.
+fn more_branches(alloc: Global, c: &mut Cursor<'_, '_>, list: &mut Vec<Branch>) -> Result<(), Stop>
+    ensures { ReadsMore (more (is_word (codes "UNION")) limited.Branches spec.branch 15 c.old.nodes (ahead c.old)) (branches_of list.old.items) (branches_of list.new.items) result c.new }
 {
-    let branches = vec![in alloc; branch]?;
-    Ok(Query {
-        version,
-        branches,
-        when: When::Always,
-        keep: Vec::new(alloc),
-    })
+    let mut left: u32 = 15;
+    while c.sees_word(b"UNION") {
+        if left == 0 {
+            return Err(Stop::TooMany(What::Branches));
+        }
+        left -= 1;
+        c.skip();
+        list.push(branch(alloc, c)?)?;
+    }
+    Ok(())
+}
+
+// Branches with UNION between them, one at least.
+#[tactic(auto, unfolding(crate::specs::QueryReader::branches))]
+fn branches(alloc: Global, c: &mut Cursor<'_, '_>) -> Result<Vec<Branch>, Stop>
+    ensures { Reads (λ v. branches_of v.items) (spec.branches c.old.nodes (ahead c.old)) result c.new }
+{
+    let first = branch(alloc, c)?;
+    let mut list = vec![in alloc; first]?;
+    more_branches(alloc, c, &mut list)?;
+    Ok(list)
 }
 
 /// A query, with counts of its own in each outermost expression and condition.
@@ -139,7 +186,12 @@ pub fn ask(alloc: Global, c: &mut Cursor<'_, '_>) -> Result<Query, Stop>
 {
     c.expect_word(b"VERSION")?;
     let version = small(c)?;
-    let first = branch(alloc, c)?;
-    let query = of_one(alloc, version, first)?;
-    Ok(query)
+    let branches = branches(alloc, c)?;
+    let (when, keep) = when_part(alloc, c)?;
+    Ok(Query {
+        version,
+        branches,
+        when,
+        keep,
+    })
 }

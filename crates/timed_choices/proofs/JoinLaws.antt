@@ -27,6 +27,25 @@ fit_lawful n es f = λ e i. (f e i).1
 held_wide : (n : ℕ) (es : List (Entry (List Value))) (m : ℕ) → Fit n es → Wide n (held_at es m)
 held_wide n es m f = λ x h. let r = from_held es x m h in ap length (sym r.2) ∙ (f r.0 r.1).0
 
+-- what a choice and a row make is their rows, one behind the other
+from_period : (x : List Value) (p q : Span) (e : Entry (List Value)) → In e (in_period x (common p q)) → e.item ≡ x
+from_period x p q e h = elim (common p q) as (λ o. In e (in_period x o) → e.item ≡ x) [
+  | None ↦ λ k. absurd k
+  | Some s ↦ λ k. elim k [ inl i ↦ ap (λ (r : Entry (List Value)). r.item) (sym i) | inr i ↦ absurd i ]
+] h
+
+from_pair : (keep : List Value → List Value → Bool) (p y e : Entry (List Value)) → In e (paired keep p y) → e.item ≡ p.item ++ y.item
+from_pair keep p y e h = elim (keep p.item y.item) as (λ b. In e (cond b (pair p y) []) → e.item ≡ p.item ++ y.item) [
+  | true ↦ λ k. from_period (p.item ++ y.item) p.period y.period e k
+  | false ↦ λ k. absurd k
+] h
+
+-- and lawful where both are
+pub paired_lawful : (keep : List Value → List Value → Bool) (p : Entry (List Value)) (ys : List (Entry (List Value))) → IsLawfulRow p.item → AllLawful ys → AllLawful (flat_map (paired keep p) ys)
+paired_lawful keep p ys a b = λ e h.
+    let s = from_flat_map (paired keep p) e ys h in
+    subst IsLawfulRow (sym (from_pair keep p s.0 e s.2)) (both_lawful p.item s.0.item a (b s.0 s.1))
+
 -- what is kept beside a choice is all that may lead to what passes
 module _ (cs : List Column) (ps : List Test) (own other : List ℕ) (tests : List Test) (n w : ℕ)
     (keys : (p y z : List Value) → length p ≡ n → length y ≡ w → meets_all cs ps ((p ++ y) ++ z) ≡ true → picked other y ≡ picked own p)
@@ -45,23 +64,11 @@ module _ (cs : List Column) (ps : List Test) (own other : List ℕ) (tests : Lis
       step z false t = t
 
 module _ (cs : List Column) (own other : List ℕ) (tests : List Test) (n w : ℕ) (ps ys es : List (Entry (List Value))) (made : es ≡ pairs (kept cs own other tests) ps ys) (fp : Fit n ps) (fy : Fit w ys) where
-  from_period : (x : List Value) (p q : Span) (e : Entry (List Value)) → In e (in_period x (common p q)) → e.item ≡ x
-  from_period x p q e h = elim (common p q) as (λ o. In e (in_period x o) → e.item ≡ x) [
-    | None ↦ λ k. absurd k
-    | Some s ↦ λ k. elim k [ inl i ↦ ap (λ (r : Entry (List Value)). r.item) (sym i) | inr i ↦ absurd i ]
-  ] h
-
-  from_pair : (p y e : Entry (List Value)) → In e (paired (kept cs own other tests) p y) → e.item ≡ p.item ++ y.item
-  from_pair p y e h = elim (kept cs own other tests p.item y.item) as (λ b. In e (cond b (pair p y) []) → e.item ≡ p.item ++ y.item) [
-    | true ↦ λ k. from_period (p.item ++ y.item) p.period y.period e k
-    | false ↦ λ k. absurd k
-  ] h
-
   pub fits : Fit (n + w) es
   fits = λ e h.
       let r = from_flat_map (λ (p : Entry (List Value)). flat_map (paired (kept cs own other tests) p) ys) e ps (subst (λ (l : List (Entry (List Value))). In e l) made h) in
       let s = from_flat_map (paired (kept cs own other tests) r.0) e ys r.2 in
-      let i : e.item ≡ r.0.item ++ s.0.item = from_pair r.0 s.0 e s.2 in
+      let i : e.item ≡ r.0.item ++ s.0.item = from_pair (kept cs own other tests) r.0 s.0 e s.2 in
       let a : length r.0.item ≡ n = (fp r.0 r.1).0 in
       let b : length s.0.item ≡ w = (fy s.0 s.1).0 in (
         ap length i ∙ rw (length-append, a, b) refl,

@@ -4,9 +4,9 @@ pub mod ShownOrder
 pub mod Groups
 pub mod Tests
 pub mod OneMore
-pub mod ReferenceLaws
 pub mod PlaceLaws
 pub mod ColumnTrees
 pub mod JoinLaws
 pub mod Reordering
+pub mod PrunedAtoms
 pub mod LentLaws

@@ -26,8 +26,9 @@ use Rattle.std.proofs.lemmas.List.{map-append}
 use Rattle.cond_expr.specs.declared.exprs.Cond.{Cond}
 use Rattle.cond_expr.specs.Seen.{test}
 use Rattle.timed_choices.specs.Keeping.{value_at, picked, cells, meets, meets_all, lent_tests}
-use Rattle.timed_choices.specs.Placing.{place, is_below, all_below, parts, parts_of_all}
-use Rattle.timed_choices.proofs.ReferenceLaws.{test_within_each}
+use Rattle.timed_choices.specs.Placing.{place, is_below, all_below}
+use Rattle.cond_expr.specs.Parts.{parts, all_parts as all_parts}
+use Rattle.cond_expr.proofs.ReferenceLaws.{Each, test_within_each}
 
 -- the cell of a reference stands at its place
 at_first : (cs : List Column) (vs : List Value) (w : Whose) (n : List ℕ) → position_or_len (names w n) cs < length cs → cells cs vs w n ≡ get_or vs (position_or_len (names w n) cs) (Int (pos 0))
@@ -87,23 +88,48 @@ module _ (cs : List Column) (c : Test) (a b taken width : ℕ) (h : (row : List 
   key_second k l m p y z e f t =
       sym (in_second p y z a e f l m) ∙ one_value (value_at ((p ++ y) ++ z) a) (value_at ((p ++ y) ++ z) b) (sym (h ((p ++ y) ++ z)) ∙ t) ∙ in_both p y z b e f k
 
+-- what is so of each reference that is placed below a bound
+each_below : (cs : List Column) (b : ℕ) (P : Whose → List ℕ → Type 0) → ((w : Whose) (n : List ℕ) → is_below b (place cs w n) ≡ true → P w n) → (rs : List ColRef) → all_below cs b rs ≡ true → Each P rs
+each_below cs b P f [] h r i = absurd i
+each_below cs b P f (q ∷ rs) h r i = step (each_below cs b P f rs) (is_below b (place cs q.whose q.name)) refl h i
+  where
+    step : (all_below cs b rs ≡ true → Each P rs) → (t : Bool) → is_below b (place cs q.whose q.name) ≡ t → (t && all_below cs b rs) ≡ true → In r (q ∷ rs) → P r.whose r.name
+    step g true e k (inl s) = subst (λ (y : ColRef). P y.whose y.name) s (f q.whose q.name e)
+    step g true e k (inr s) = g k r s
+    step g false e k s = absurd (cc)
+
 -- a condition whose references are all placed is decided
 module _ (cs : List Column) (x z : List Value) where
   one_alike : (w : Whose) (n : List ℕ) (o : Option ℕ) → place cs w n ≡ o → is_below (length x) o ≡ true → cells cs (x ++ z) w n ≡ cells cs x w n
   one_alike w n None e h = absurd (cc)
   one_alike w n (Some i) e h = at_each_place cs w n (Some i) e (x ++ z) ∙ first_value x z i (grind (arith, nat_tests)) ∙ sym (at_each_place cs w n (Some i) e x)
 
-  all_alike : (rs : List ColRef) → all_below cs (length x) rs ≡ true → (r : ColRef) → In r rs → cells cs (x ++ z) r.whose r.name ≡ cells cs x r.whose r.name
-  all_alike [] h r i = absurd i
-  all_alike (q ∷ rs) h r i = step (all_alike rs) (is_below (length x) (place cs q.whose q.name)) refl h i
-    where
-      step : (all_below cs (length x) rs ≡ true → (r : ColRef) → In r rs → cells cs (x ++ z) r.whose r.name ≡ cells cs x r.whose r.name) → (b : Bool) → is_below (length x) (place cs q.whose q.name) ≡ b → (b && all_below cs (length x) rs) ≡ true → In r (q ∷ rs) → cells cs (x ++ z) r.whose r.name ≡ cells cs x r.whose r.name
-      step f true e k (inl s) = subst (λ (y : ColRef). cells cs (x ++ z) y.whose y.name ≡ cells cs x y.whose y.name) s (one_alike q.whose q.name (place cs q.whose q.name) refl e)
-      step f true e k (inr s) = f k r s
-      step f false e k s = absurd (cc)
-
   pub settled : (c : Test) → all_below cs (length x) (test_references c) ≡ true → meets cs c (x ++ z) ≡ meets cs c x
-  settled c h = truth_like (λ w n. cells cs (x ++ z) w n ≡ cells cs x w n) (cells cs (x ++ z)) (cells cs x) (λ w n e. e) c (test_within_each (λ w n. cells cs (x ++ z) w n ≡ cells cs x w n) c (all_alike (test_references c) h))
+  settled c h = truth_like (λ w n. cells cs (x ++ z) w n ≡ cells cs x w n) (cells cs (x ++ z)) (cells cs x) (λ w n e. e) c
+      (test_within_each (λ w n. cells cs (x ++ z) w n ≡ cells cs x w n) c (each_below cs (length x) (λ w n. cells cs (x ++ z) w n ≡ cells cs x w n) (λ w n. one_alike w n (place cs w n) refl) (test_references c) h))
+
+-- further columns behind change nothing of it either
+module _ (rest : List Column) (z : List Value) where
+  first_cells : (cs : List Column) (x : List Value) (w : Whose) (n : List ℕ) → length x ≡ length cs → position_or_len (names w n) cs < length cs → cells (cs ++ rest) (x ++ z) w n ≡ cells cs x w n
+  first_cells [] x w n l h = absurd (omega arith)
+  first_cells (c ∷ cs) [] w n l h = absurd (omega arith)
+  first_cells (c ∷ cs) (v ∷ x) w n l h = step (first_cells cs x w n (omega arith)) (names w n c) h
+    where
+      step : (position_or_len (names w n) cs < length cs → cells (cs ++ rest) (x ++ z) w n ≡ cells cs x w n)
+          → (b : Bool) → cond (not b) (1 + position_or_len (names w n) cs) 0 < length (c ∷ cs) → cond b v (cells (cs ++ rest) (x ++ z) w n) ≡ cond b v (cells cs x w n)
+      step f true k = refl
+      step f false k = f (omega arith)
+
+  own_cells : (cs : List Column) (x : List Value) (w : Whose) (n : List ℕ) → length x ≡ length cs → is_below (length cs) (place cs w n) ≡ true → cells (cs ++ rest) (x ++ z) w n ≡ cells cs x w n
+  own_cells cs x w n l h = step (nat_lt (position_or_len (names w n) cs) (length cs)) refl h
+    where
+      step : (b : Bool) → nat_lt (position_or_len (names w n) cs) (length cs) ≡ b → is_below (length cs) (cond b (Some (position_or_len (names w n) cs)) None) ≡ true → cells (cs ++ rest) (x ++ z) w n ≡ cells cs x w n
+      step true e k = first_cells cs x w n l (grind (arith, nat_tests))
+      step false e k = absurd (cc)
+
+  pub settled_alone : (cs : List Column) (x : List Value) (c : Test) → length x ≡ length cs → all_below cs (length cs) (test_references c) ≡ true → meets (cs ++ rest) c (x ++ z) ≡ meets cs c x
+  settled_alone cs x c l h = truth_like (λ w n. cells (cs ++ rest) (x ++ z) w n ≡ cells cs x w n) (cells (cs ++ rest) (x ++ z)) (cells cs x) (λ w n e. e) c
+      (test_within_each (λ w n. cells (cs ++ rest) (x ++ z) w n ≡ cells cs x w n) c (each_below cs (length cs) (λ w n. cells (cs ++ rest) (x ++ z) w n ≡ cells cs x w n) (λ w n. own_cells cs x w n l) (test_references c) h))
 
 -- a condition holds where its parts do
 module _ (cs : List Column) (row : List Value) where
@@ -132,9 +158,9 @@ module _ (cs : List Column) (row : List Value) where
     parts_meet (some_of ts) = alone (meets cs (some_of ts) row)
     parts_meet (fails c) = alone (meets cs (fails c) row)
 
-    all_parts_meet : (ts : Tests) → meets_all cs (parts_of_all ts) row ≡ all_true (cells cs row) ts
+    all_parts_meet : (ts : Tests) → meets_all cs (all_parts ts) row ≡ all_true (cells cs row) ts
     all_parts_meet no_tests = refl
-    all_parts_meet (a_test c ts) = all_append (parts c) (parts_of_all ts) ∙ ap (λ b. b && meets_all cs (parts_of_all ts) row) (parts_meet c) ∙ ap (λ b. meets cs c row && b) (all_parts_meet ts)
+    all_parts_meet (a_test c ts) = all_append (parts c) (all_parts ts) ∙ ap (λ b. b && meets_all cs (all_parts ts) row) (parts_meet c) ∙ ap (λ b. meets cs c row && b) (all_parts_meet ts)
 
   -- each of them holds where all do, and one more with them
   pub part_met : (ps : List (Bor Cond)) (i : ℕ) (b : Bor Cond) → i < length ps → b ≡ get_or ps i b → meets_all cs (lent_tests ps) row ≡ true → meets cs (test b.now) row ≡ true

@@ -77,7 +77,7 @@ Alike cs row ds other = (rest : List Column) (more : List Value) → cells (cs +
 
 module _ (outs : List Tree) (c : Test) where
   -- the row is answered of a choice that begins so
-  abbrev Reach : List Column → List Value → List Block → List Value → Type 0
+  abbrev pub Reach : List Column → List Value → List Block → List Value → Type 0
   Reach cs row [] x = (meets cs c row ≡ true) × (outputs cs outs row ≡ x)
   Reach cs row (b ∷ blocks) x = (r : List Value) × In r b.rows × Reach (cs ++ b.columns) (row ++ r) blocks x
 
@@ -142,10 +142,10 @@ module _ (outs : List Tree) (c : Test) where
   behind (b ∷ before) as_was as_is cs row x f h l r = (r.0, r.1, behind before as_was as_is (cs ++ b.columns) (row ++ r.0) x f.1 h (longer b cs row r.0 f.0 r.1 l) r.2)
 
   -- what is reached is what is answered
-  abbrev Chosen : List Column → List Value → List Block → List Value → Type 0
+  abbrev pub Chosen : List Column → List Value → List Block → List Value → Type 0
   Chosen cs row blocks x = (choice : List (List Value)) × In choice (choices (rows_of blocks)) × (meets (cs ++ types_of blocks) c (row ++ one_row choice) ≡ true) × (outputs (cs ++ types_of blocks) outs (row ++ one_row choice) ≡ x)
 
-  chosen : (blocks : List Block) (cs : List Column) (row x : List Value) → Reach cs row blocks x → Chosen cs row blocks x
+  pub chosen : (blocks : List Block) (cs : List Column) (row x : List Value) → Reach cs row blocks x → Chosen cs row blocks x
   chosen [] cs row x r = ([], inl refl, rw (append-nil cs, append-nil row) r.0, rw (append-nil cs, append-nil row) r.1)
   chosen (b ∷ blocks) cs row x r =
       let s = chosen blocks (cs ++ b.columns) (row ++ r.0) x r.2 in (
@@ -172,14 +172,14 @@ module _ (outs : List Tree) (c : Test) where
         reached blocks (cs ++ b.columns) (row ++ r.0) x q.0 q.1 (rw (append_assoc cs b.columns (types_of blocks), append_assoc row r.0 (one_row q.0)) u) (rw (append_assoc cs b.columns (types_of blocks), append_assoc row r.0 (one_row q.0)) v),
       )
 
-  reach_answered : (blocks : List Block) (x : List Value) → In x (answered_rows outs c blocks) → Reach [] [] blocks x
+  pub reach_answered : (blocks : List Block) (x : List Value) → In x (answered_rows outs c blocks) → Reach [] [] blocks x
   reach_answered blocks x i =
       let r = from_map (outputs (types_of blocks) outs) x (filter (meets (types_of blocks) c) (map one_row (choices (rows_of blocks)))) i in
       let f = from_filter (meets (types_of blocks) c) r.0 (map one_row (choices (rows_of blocks))) r.1 in
       let ch = from_map one_row r.0 (choices (rows_of blocks)) f.0 in
       reached blocks [] [] x ch.0 ch.1 (ap (meets (types_of blocks) c) ch.2 ∙ f.1) (ap (outputs (types_of blocks) outs) ch.2 ∙ r.2)
 
-  answered_reach : (blocks : List Block) (x : List Value) → Reach [] [] blocks x → In x (answered_rows outs c blocks)
+  pub answered_reach : (blocks : List Block) (x : List Value) → Reach [] [] blocks x → In x (answered_rows outs c blocks)
   answered_reach blocks x r =
       let s = chosen blocks [] [] x r in
       subst (λ (y : List Value). In y (answered_rows outs c blocks)) s.3 (in_map (outputs (types_of blocks) outs) (one_row s.0) (filter (meets (types_of blocks) c) (map one_row (choices (rows_of blocks))))

@@ -1,5 +1,5 @@
 -- What is answered of choices of one row of each of several relations, each with its own columns.
-use Rattle.std.specs.Prelude.{◌≡◌, ℕ, List, [], ◌∷◌, map, length, ⊤}
+use Rattle.std.specs.Prelude.{◌≡◌, ℕ, true, List, [], ◌∷◌, ◌++◌, map, length, ⊤}
 use Rattle.std.specs.List.{flat_map, filter}
 use Rattle.relations.specs.Sets.{In, set_of}
 use Rattle.relations.specs.Choices.{choices}
@@ -7,7 +7,7 @@ use Rattle.prima_base.specs.declared.values.Value.{Value}
 use Rattle.prima_base.specs.Order.{row_cmp}
 use Rattle.cond_expr.specs.declared.exprs.Column.{Column}
 use Rattle.cond_expr.specs.Trees.{Tree, Test}
-use Rattle.timed_choices.specs.Keeping.{meets}
+use Rattle.timed_choices.specs.Keeping.{meets, meets_all}
 use Rattle.timed_choices.specs.Fitting.{AreOwn}
 use Rattle.timed_choices.specs.Answering.{outputs, one_row}
 
@@ -34,6 +34,13 @@ answered outs cond blocks = set_of row_cmp (answered_rows outs cond blocks)
 pub record IsBlock (b : Block) : Type 0 where
   pub own : AreOwn b.number b.columns
   pub wide : (row : List Value) → In row b.rows → length row ≡ length b.columns
+
+-- the same atom without rows of no use: each row stays that meets the conditions with some values of further columns behind
+pub record IsPruned (conds : List Test) (was is : Block) : Type 0 where
+  pub number : is.number ≡ was.number
+  pub columns : is.columns ≡ was.columns
+  pub only : (row : List Value) → In row is.rows → In row was.rows
+  pub useful : (row : List Value) → In row was.rows → (rest : List Column) (more : List Value) → meets_all (was.columns ++ rest) conds (row ++ more) ≡ true → In row is.rows
 
 -- none of them has the number
 abbrev pub Apart : ℕ → List Block → Type 0

@@ -1,5 +1,5 @@
 -- Which rows are kept beside a choice: those that agree with it on some places, and with which it passes some tests.
-use Rattle.std.specs.Prelude.{ℕ, Bool, true, ◌&&◌, List, [], ◌∷◌, ◌++◌, map, get_or, pos, cond, Option, Some, None, ⊤}
+use Rattle.std.specs.Prelude.{◌≡◌, ℕ, Bool, true, ◌&&◌, List, [], ◌∷◌, ◌++◌, map, length, get_or, pos, cond, Option, Some, None, ⊤}
 use Rattle.relations.specs.Timed.{Entry}
 use Rattle.prima_base.specs.declared.timed_rows.TimedRow.{TimedRow}
 use Rattle.std.specs.Ordering.{is_eq}
@@ -37,6 +37,10 @@ meets columns c row = truth (cells columns row) c
 abbrev pub meets_all : List Column → List Test → List Value → Bool
 meets_all columns [] row = true
 meets_all columns (c ∷ cs) row = meets columns c row && meets_all columns cs row
+
+-- what meets all the conditions, with any further columns behind, meets these with the first columns alone
+abbrev pub AreOwnParts : List Column → List Test → List Test → Type 0
+AreOwnParts columns conds own = (rest : List Column) (row more : List Value) → length row ≡ length columns → meets_all (columns ++ rest) conds (row ++ more) ≡ true → meets_all columns own row ≡ true
 
 -- the row agrees with a choice: it has at these places what the choice has at those
 abbrev pub agrees : List ℕ → List ℕ → List Value → List Value → Bool

@@ -4,4 +4,6 @@
 
 mod laws;
 
-pub use laws::{what_is_hopeless_is_left_out, what_pairs_hold};
+pub use laws::{
+    what_atoms_answer_without_hopeless_rows, what_is_hopeless_is_left_out, what_pairs_hold,
+};

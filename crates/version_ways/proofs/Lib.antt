@@ -4,6 +4,7 @@ pub mod OneSteps
 pub mod WayDatabases
 pub mod WayValues
 pub mod LossesByName
+pub mod LossCauses
 pub mod WholeDatabases
 pub mod RoundTrips
 pub mod WorkedWords

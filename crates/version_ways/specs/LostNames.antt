@@ -1,5 +1,5 @@
 -- The tables that are lost on the way from one version to another, by names alone.
-use Rattle.std.specs.Prelude.{◌≡◌, ℕ, List, [], ◌∷◌, Option, Some, None}
+use Rattle.std.specs.Prelude.{◌≡◌, ℕ, ◌+◌, ◌<◌, ◌≤◌, List, [], ◌∷◌, Option, Some, None, slice_get}
 use Rattle.std.specs.FinMap.{FinMap, get, insert, remove, empty}
 use Rattle.prima_base.specs.Order.{bytes_cmp}
 use Rattle.schema_catalog.specs.Tables.{Tables}
@@ -50,3 +50,14 @@ of_losses = record { over = losses_over; undone = losses_undone }
 -- the tables that are lost on the way from version v to version q
 abbrev pub lost_names : List PlainVersion → ℕ → ℕ → Losses
 lost_names versions v q = taken of_losses versions v q empty
+
+-- the loss is by a version that is gone back over on the way from version v to version q, and that names no inverse: the one
+-- behind version `before`, by its first operator
+pub record IsUnnamed (versions : List PlainVersion) (v q : ℕ) (loss : Loss) : Type 0 where
+  pub before : ℕ
+  pub by : PlainVersion
+  pub is : slice_get versions before ≡ Some by
+  pub unnamed : by.inverse ≡ []
+  pub from : q ≤ before
+  pub to : before < v
+  pub lost : loss ≡ (before + 1, 1)

@@ -12,7 +12,7 @@ ghost use Rattle.smo_meaning.specs.LawfulPast.{AreVersions};
 ghost use Rattle.smo_meaning.specs.LawfulValues.{HoldsValues, VersionsHold};
 ghost use Rattle.version_ways.specs.Ways.{over_each, to_next, from_next};
 ghost use Rattle.version_ways.specs.Migration.{carried_over, carry, back, migrated_from};
-ghost use Rattle.version_ways.specs.LostNames.{Losses, AreLosses, of_losses, losses_over, losses_undone, lost_names};
+ghost use Rattle.version_ways.specs.LostNames.{Losses, AreLosses, of_losses, losses_over, losses_undone, lost_names, IsUnnamed};
 ghost use Rattle.version_ways.specs.Whole.{whole};
 
 /// The way from version to version, one step at a time and by way of a version between: to where
@@ -133,6 +133,13 @@ pub fn names_tell_what_is_lost()
     ensures { (versions : List PlainVersion) → (v : ℕ) → (q : ℕ) → (database : Database)
         → IsDatabase (tables_from no_tables versions v) database
         → AreLosses (lost_names versions v q) (migrated_from versions v q database) }
+{}
+
+/// A table that is lost on the way from one version to another is lost by a version that is gone back over on that way, and
+/// that names no inverse. So nothing is lost on the way forward, nor back over versions that name their inverses.
+pub fn what_is_lost_has_no_named_inverse()
+    ensures { (versions : List PlainVersion) → (v : ℕ) → (q : ℕ) → (n : List ℕ) → (loss : Loss)
+        → get (lost_names versions v q) n ≡ Some loss → IsUnnamed versions v q loss }
 {}
 
 /// With the empty relation in the place of each lost table a database with losses is one without,

@@ -1,7 +1,7 @@
 use Rattle.std.proofs.Common.{◌≡◌, ◌++◌, drop, map}
 use Rattle.cond_expr.specs.Seen.{test, tests_of}
 use Rattle.cond_expr.specs.Trees.{fill_tests}
-use Rattle.plain_answers.specs.Reading.{all_parts}
+use Rattle.cond_expr.specs.Parts.{all_parts_but_true as all_parts}
 use Rattle.piece_ir.proofs.unfolding.+parts.Given as goal
 
 abbrev pub invariant-append_lists-loop-cond : goal.invariant-append_lists-loop-cond

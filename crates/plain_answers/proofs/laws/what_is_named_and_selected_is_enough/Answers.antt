@@ -4,6 +4,7 @@ use Rattle.prima_base.specs.OrderLaws.{row_exact}
 use Rattle.plain_answers.specs.Choosing.{answers_over}
 use Rattle.plain_answers.specs.Reading.{read_columns, read_rows}
 use Rattle.plain_answers.proofs.ReadLaws.{same_answers, same_plain, is_needed}
+use Rattle.plain_answers.proofs.PushedParts.{is_pushed}
 use Rattle.plain_answers.proofs.laws.what_is_named_and_selected_is_enough.Goals as goal
 
 pub returns-clause-answers : goal.returns-clause-answers
@@ -16,3 +17,6 @@ returns-clause-branches c = λ tables db branches reads h. same_plain tables db 
 
 pub returns-clause-needed : goal.returns-clause-needed
 returns-clause-needed c = is_needed
+
+pub returns-clause-pushed : goal.returns-clause-pushed
+returns-clause-pushed c = is_pushed

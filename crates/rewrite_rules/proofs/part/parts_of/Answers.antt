@@ -3,7 +3,7 @@ use Rattle.cond_expr.specs.declared.exprs.Cond.{Cond}
 use Rattle.cond_expr.specs.Trees.{column, fill_test}
 use Rattle.cond_expr.specs.Seen.{test}
 use Rattle.cond_expr.proofs.TreeLaws.{test_fill_itself}
-use Rattle.plain_answers.specs.Reading.{parts}
+use Rattle.cond_expr.specs.Parts.{parts_but_true as parts}
 use Rattle.rewrite_rules.proofs.part.parts_of.Goals as goal
 
 pub returns : goal.returns

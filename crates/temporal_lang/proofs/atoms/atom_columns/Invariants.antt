@@ -1,5 +1,5 @@
 use Rattle.std.proofs.Common.{◌≡◌, ◌++◌, drop}
-use Rattle.plain_answers.specs.AtomColumns.{atoms_from}
+use Rattle.cond_expr.specs.AtomColumns.{atoms_from}
 use Rattle.plain_answers.specs.Branches.{item_columns}
 use Rattle.temporal_lang.proofs.atoms.atom_columns.Given as goal
 

@@ -1,5 +1,5 @@
 use Rattle.std.proofs.Common.{◌≡◌, ◌++◌, drop}
-use Rattle.plain_answers.specs.AtomColumns.{columns_at}
+use Rattle.cond_expr.specs.AtomColumns.{columns_at}
 use Rattle.temporal_lang.proofs.atoms.push_columns.Given as goal
 
 abbrev pub invariant-loop-name : goal.invariant-loop-name

@@ -11,7 +11,8 @@ use Rattle.temporal_lang.specs.QueryGrammar.{IsAsk}
 use Rattle.temporal_lang.specs.QueryReader.{ask, goes_ask}
 use Rattle.temporal_lang.proofs.QueryGoodness.{ask_good}
 use Rattle.temporal_lang.specs.QueryPasses.{ask_passes}
-use Rattle.temporal_lang.proofs.QueryLongest.{ask_longest, ask_whole, ask_sized}
+use Rattle.temporal_lang.proofs.QueryAlong.{ask_whole, ask_sized}
+use Rattle.temporal_lang.proofs.QueryLongest.{ask_longest}
 use Rattle.temporal_lang.proofs.parse.parse_query.Goals as goal
 
 pub overflow_sub-result : goal.overflow_sub-result

@@ -3,7 +3,7 @@ use Rattle.temporal_lang.specs.QueryGrammar.{IsAsk}
 use Rattle.temporal_lang.specs.QueryReader.{ask, goes_ask}
 use Rattle.temporal_lang.specs.QueryPasses.{ask_passes}
 use Rattle.temporal_lang.proofs.QueryGoodness.{ask_good}
-use Rattle.temporal_lang.proofs.QueryLongest.{ask_whole, ask_sized}
+use Rattle.temporal_lang.proofs.QueryAlong.{ask_whole, ask_sized}
 use Rattle.temporal_lang.proofs.query_laws.passes_tell_what_is_too_much.Goals as goal
 
 pub returns-clause-some : goal.returns-clause-some

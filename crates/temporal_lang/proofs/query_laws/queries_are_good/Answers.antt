@@ -1,4 +1,5 @@
-use Rattle.temporal_lang.proofs.QueryGoodness.{branch_good, ask_good}
+use Rattle.temporal_lang.proofs.BranchGoodness.{branch_good}
+use Rattle.temporal_lang.proofs.QueryGoodness.{ask_good}
 use Rattle.temporal_lang.proofs.query_laws.queries_are_good.Goals as goal
 
 pub returns-clause-branch : goal.returns-clause-branch

@@ -6,7 +6,7 @@ use Rattle.cond_expr.specs.Seen.{tree}
 use Rattle.cond_expr.specs.Kinds.{kinds_of}
 use Rattle.cond_expr.specs.Faults.{references, test_references, first_unknown, test_untyped, first_of}
 use Rattle.temporal_lang.specs.Branches.{branch_of}
-use Rattle.plain_answers.specs.AtomColumns.{atoms_from}
+use Rattle.cond_expr.specs.AtomColumns.{atoms_from}
 use Rattle.plain_answers.specs.Branches.{item_columns}
 use Rattle.temporal_lang.specs.Atoms.{atom_kinds}
 use Rattle.temporal_lang.specs.Typings.{OutputsTyped, IsTypedTest}

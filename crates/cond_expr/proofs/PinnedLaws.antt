@@ -1,0 +1,198 @@
+-- A constant with which a part compares a column, where the condition holds.
+use Rattle.std.proofs.Common.{◌≡◌, ℕ, ◌+◌, ◌<◌, length, map, drop, get_or, Bool, true, false, cond, List, [], ◌∷◌, ◌++◌, refl, sym, ap, subst, ◌∙◌, arith, inl, inr}
+use Rattle.std.specs.Prelude.{◌&&◌, ◌==◌, ◌⊎◌, Option, Some, None}
+use Rattle.std.proofs.lemmas.Bool.Decides.{nat_tests}
+use Rattle.std.proofs.lemmas.List.{drop_more}
+use Rattle.std.specs.declared.cmp.Ordering.{Ordering}
+use Rattle.std.specs.declared.cmp.Ordering.TheVariants.{Less, Equal, Greater}
+use Rattle.std.specs.Ordering.{ordering_reverse, is_eq}
+use Rattle.relations.specs.Sets.{In}
+use Rattle.prima_base.specs.declared.values.Value.{Value}
+use Rattle.prima_base.specs.Order.{value_cmp, bytes_cmp, same}
+use Rattle.prima_base.specs.OrderLaws.{value_total, bytes_exact}
+use Rattle.cond_expr.specs.declared.exprs.Whose.{Whose}
+use Rattle.cond_expr.specs.declared.exprs.Whose.TheVariants.{Free, Alias, Atom}
+use Rattle.cond_expr.specs.declared.exprs.CmpOp.{CmpOp}
+use Rattle.cond_expr.specs.declared.exprs.CmpOp.TheVariants.{Eq, Ne, Lt, Le, Gt, Ge}
+use Rattle.cond_expr.specs.declared.exprs.Column.{Column}
+use Rattle.cond_expr.specs.declared.exprs.Cond.{Cond}
+use Rattle.cond_expr.specs.Seen.{test, tests_of}
+use Rattle.cond_expr.specs.Trees.{Tree, column, constant, length_of, joined, choose, Test, never, always, compared, all_of, some_of, fails, Tests, no_tests, a_test}
+use Rattle.cond_expr.specs.Values.{Cells, value, truth, all_true, agrees}
+use Rattle.cond_expr.specs.Parts.{parts, all_parts}
+use Rattle.cond_expr.specs.Rows.{names}
+use Rattle.cond_expr.specs.PinnedParts.{turned, same_way, is_column, constant_of, first_some, pinned_by, first_pinned, pinned}
+
+-- ---- a comparison and its turned one
+
+same_way_is : (o p : CmpOp) → same_way o p ≡ true → o ≡ p
+same_way_is Eq Eq e = refl
+same_way_is Eq Ne e = absurd (cc)
+same_way_is Eq Lt e = absurd (cc)
+same_way_is Eq Le e = absurd (cc)
+same_way_is Eq Gt e = absurd (cc)
+same_way_is Eq Ge e = absurd (cc)
+same_way_is Ne Eq e = absurd (cc)
+same_way_is Ne Ne e = refl
+same_way_is Ne Lt e = absurd (cc)
+same_way_is Ne Le e = absurd (cc)
+same_way_is Ne Gt e = absurd (cc)
+same_way_is Ne Ge e = absurd (cc)
+same_way_is Lt Eq e = absurd (cc)
+same_way_is Lt Ne e = absurd (cc)
+same_way_is Lt Lt e = refl
+same_way_is Lt Le e = absurd (cc)
+same_way_is Lt Gt e = absurd (cc)
+same_way_is Lt Ge e = absurd (cc)
+same_way_is Le Eq e = absurd (cc)
+same_way_is Le Ne e = absurd (cc)
+same_way_is Le Lt e = absurd (cc)
+same_way_is Le Le e = refl
+same_way_is Le Gt e = absurd (cc)
+same_way_is Le Ge e = absurd (cc)
+same_way_is Gt Eq e = absurd (cc)
+same_way_is Gt Ne e = absurd (cc)
+same_way_is Gt Lt e = absurd (cc)
+same_way_is Gt Le e = absurd (cc)
+same_way_is Gt Gt e = refl
+same_way_is Gt Ge e = absurd (cc)
+same_way_is Ge Eq e = absurd (cc)
+same_way_is Ge Ne e = absurd (cc)
+same_way_is Ge Lt e = absurd (cc)
+same_way_is Ge Le e = absurd (cc)
+same_way_is Ge Gt e = absurd (cc)
+same_way_is Ge Ge e = refl
+
+agrees_reversed : (o : CmpOp) (r : Ordering) → agrees (turned o) (ordering_reverse r) ≡ agrees o r
+agrees_reversed Eq Less = refl
+agrees_reversed Eq Equal = refl
+agrees_reversed Eq Greater = refl
+agrees_reversed Ne Less = refl
+agrees_reversed Ne Equal = refl
+agrees_reversed Ne Greater = refl
+agrees_reversed Lt Less = refl
+agrees_reversed Lt Equal = refl
+agrees_reversed Lt Greater = refl
+agrees_reversed Le Less = refl
+agrees_reversed Le Equal = refl
+agrees_reversed Le Greater = refl
+agrees_reversed Gt Less = refl
+agrees_reversed Gt Equal = refl
+agrees_reversed Gt Greater = refl
+agrees_reversed Ge Less = refl
+agrees_reversed Ge Equal = refl
+agrees_reversed Ge Greater = refl
+
+agrees_turned : (o : CmpOp) (x y : Value) → agrees (turned o) (value_cmp y x) ≡ agrees o (value_cmp x y)
+agrees_turned o x y = ap (agrees (turned o)) (value_total.antisymm y x) ∙ agrees_reversed o (value_cmp x y)
+
+-- ---- a tree that is a column, one that is a constant
+
+both : (a b : Bool) → (a && b) ≡ true → (a ≡ true) × (b ≡ true)
+both true b e = (refl, e)
+both false b e = absurd (cc)
+
+same_atom : (i j : ℕ) → (i == j) ≡ true → i ≡ j
+same_atom i j e = grind (arith, nat_tests)
+
+same_name : (a b : List ℕ) → same a b ≡ true → a ≡ b
+same_name a b e = step (bytes_cmp a b) refl e
+  where
+    step : (o : Ordering) → bytes_cmp a b ≡ o → is_eq o ≡ true → a ≡ b
+    step Less q h = absurd (cc)
+    step Equal q h = bytes_exact.same a b q
+    step Greater q h = absurd (cc)
+
+is_constant : (at : Cells) (t : Tree) (v : Value) → constant_of t ≡ Some v → value at t ≡ v
+is_constant at (column w n) v e = absurd (cc)
+is_constant at (constant x) v e = cc
+is_constant at (length_of t) v e = absurd (cc)
+is_constant at (joined ts) v e = absurd (cc)
+is_constant at (choose d a b) v e = absurd (cc)
+
+taken : (b : Bool) (o : Option Value) (v : Value) → cond b o None ≡ Some v → (b ≡ true) × (o ≡ Some v)
+taken true o v e = (refl, e)
+taken false o v e = absurd (cc)
+
+-- one of the two has it
+from_first : (a b : Option Value) (v : Value) → first_some a b ≡ Some v → (a ≡ Some v) ⊎ (b ≡ Some v)
+from_first None b v e = inr e
+from_first (Some x) b v e = inl e
+
+module _ (at : Cells) (c : Column) where
+  column_value : (t : Tree) → is_column c t ≡ true → value at t ≡ at (Atom c.atom) c.name
+  column_value (column Free n) e = absurd (cc)
+  column_value (column (Alias a) n) e = absurd (cc)
+  column_value (column (Atom i) n) e =
+      let b = both (c.atom == i) (same n c.name) e in
+      ap (λ (j : ℕ). at (Atom j) n) (sym (same_atom c.atom i b.0)) ∙ ap (at (Atom c.atom)) (same_name n c.name b.1)
+  column_value (constant v) e = absurd (cc)
+  column_value (length_of t) e = absurd (cc)
+  column_value (joined ts) e = absurd (cc)
+  column_value (choose d a b) e = absurd (cc)
+
+  -- the part compares so
+  part_holds : (o : CmpOp) (t : Test) (v : Value) → truth at t ≡ true → pinned_by o c t ≡ Some v → agrees o (value_cmp (at (Atom c.atom) c.name) v) ≡ true
+  part_holds o never v h e = absurd (cc)
+  part_holds o always v h e = absurd (cc)
+  part_holds o (compared p a b) v h e =
+      elim (from_first (cond (same_way o p && is_column c a) (constant_of b) None) (cond (same_way o (turned p) && is_column c b) (constant_of a) None) v e) [
+        | inl f ↦ plain (taken (same_way o p && is_column c a) (constant_of b) v f)
+        | inr f ↦ opposite (taken (same_way o (turned p) && is_column c b) (constant_of a) v f)
+      ]
+    where
+      plain : ((same_way o p && is_column c a) ≡ true) × (constant_of b ≡ Some v) → agrees o (value_cmp (at (Atom c.atom) c.name) v) ≡ true
+      plain (f, g) =
+          let k = both (same_way o p) (is_column c a) f in
+          ap (λ (w : CmpOp). agrees w (value_cmp (at (Atom c.atom) c.name) v)) (same_way_is o p k.0)
+          ∙ ap (λ (x : Value). agrees p (value_cmp x v)) (sym (column_value a k.1))
+          ∙ ap (λ (x : Value). agrees p (value_cmp (value at a) x)) (sym (is_constant at b v g)) ∙ h
+
+      opposite : ((same_way o (turned p) && is_column c b) ≡ true) × (constant_of a ≡ Some v) → agrees o (value_cmp (at (Atom c.atom) c.name) v) ≡ true
+      opposite (f, g) =
+          let k = both (same_way o (turned p)) (is_column c b) f in
+          ap (λ (w : CmpOp). agrees w (value_cmp (at (Atom c.atom) c.name) v)) (same_way_is o (turned p) k.0)
+          ∙ ap (λ (x : Value). agrees (turned p) (value_cmp x v)) (sym (column_value b k.1))
+          ∙ ap (λ (x : Value). agrees (turned p) (value_cmp (value at b) x)) (sym (is_constant at a v g))
+          ∙ agrees_turned p (value at a) (value at b) ∙ h
+  part_holds o (all_of cs) v h e = absurd (cc)
+  part_holds o (some_of cs) v h e = absurd (cc)
+  part_holds o (fails d) v h e = absurd (cc)
+
+first_of_both : (o : CmpOp) (c : Column) (ts us : List Test) → first_pinned o c (ts ++ us) ≡ first_some (first_pinned o c ts) (first_pinned o c us)
+first_of_both o c [] us = refl
+first_of_both o c (t ∷ ts) us =
+    elim (pinned_by o c t) as (λ (x : Option Value). first_some x (first_pinned o c (ts ++ us)) ≡ first_some (first_some x (first_pinned o c ts)) (first_pinned o c us)) [
+      | None ↦ first_of_both o c ts us
+      | Some v ↦ refl
+    ]
+
+one_some : (x : Option Value) → first_some x None ≡ x
+one_some None = refl
+one_some (Some v) = refl
+
+module _ (at : Cells) (o : CmpOp) (c : Column) where
+  mutual
+    pub pinned_holds : (t : Test) (v : Value) → truth at t ≡ true → pinned o c t ≡ Some v → agrees o (value_cmp (at (Atom c.atom) c.name) v) ≡ true
+    pinned_holds never v h e = absurd (cc)
+    pinned_holds always v h e = absurd (cc)
+    pinned_holds (compared p a b) v h e = part_holds at c o (compared p a b) v h (sym (one_some (pinned_by o c (compared p a b))) ∙ e)
+    pinned_holds (all_of cs) v h e = all_pinned_hold cs v h e
+    pinned_holds (some_of cs) v h e = absurd (cc)
+    pinned_holds (fails d) v h e = absurd (cc)
+
+    all_pinned_hold : (cs : Tests) (v : Value) → all_true at cs ≡ true → first_pinned o c (all_parts cs) ≡ Some v → agrees o (value_cmp (at (Atom c.atom) c.name) v) ≡ true
+    all_pinned_hold no_tests v h e = absurd (cc)
+    all_pinned_hold (a_test t cs) v h e =
+        let b = both (truth at t) (all_true at cs) h in
+        elim (from_first (pinned o c t) (first_pinned o c (all_parts cs)) v (sym (first_of_both o c (parts t) (all_parts cs)) ∙ e)) [
+          | inl f ↦ pinned_holds t v b.0 f
+          | inr f ↦ all_pinned_hold cs v b.1 f
+        ]
+
+-- the members of an AND from a place on
+pub pinned_from : (o : CmpOp) (c : Column) (list : List Cond) (i : ℕ) (part : Cond) → i < length list → part ≡ get_or list i part
+    → first_pinned o c (all_parts (tests_of (map test (drop i list)))) ≡ first_some (pinned o c (test part)) (first_pinned o c (all_parts (tests_of (map test (drop (i + 1) list)))))
+pinned_from o c list i part h is =
+    ap (λ (l : List Cond). first_pinned o c (all_parts (tests_of (map test l)))) (drop_more list i part h ∙ ap (λ (x : Cond). x ∷ drop (i + 1) list) (sym is))
+    ∙ first_of_both o c (parts (test part)) (all_parts (tests_of (map test (drop (i + 1) list))))
