@@ -4,3 +4,5 @@ pub mod Rows
 pub mod Joined
 pub mod Cut
 pub mod Sorted
+pub mod Values
+pub mod KeptEntries

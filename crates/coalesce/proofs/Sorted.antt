@@ -38,7 +38,7 @@ in_place [] k e kl is = absurd (omega arith)
 in_place (x ∷ xs) zero e kl is = inl is
 in_place (x ∷ xs) (suc k) e kl is = inr (in_place xs k e (omega arith) is)
 
-in_moved : {X : Type 0} (xs ys : List X) → IsPermutation xs ys → (e : X) → In e xs → In e ys
+pub in_moved : {X : Type 0} (xs ys : List X) → IsPermutation xs ys → (e : X) → In e xs → In e ys
 in_moved xs ys p e m = let c = Contains-permutation xs ys e p (contains_in xs e m) in in_place ys c.0 e c.1 c.2
 
 covered_moved : {X : Type 0} (xs ys : List (Entry X)) → IsPermutation xs ys → (x : X) (m : ℕ) → Covered xs x m → Covered ys x m

@@ -1,7 +1,8 @@
 -- Entries in order, joined where they touch.
-use Rattle.std.specs.Prelude.{ℕ, ◌&&◌, Bool, nat_le, max, List, [], ◌∷◌, ◌++◌, take, drop, if◌then◌else◌}
+use Rattle.std.specs.Prelude.{◌≡◌, ℕ, ◌&&◌, Bool, nat_le, max, List, [], ◌∷◌, ◌++◌, take, drop, if◌then◌else◌}
 use Rattle.std.specs.Ordering.{is_eq}
 use Rattle.std.specs.declared.cmp.Ordering.{Ordering}
+use Rattle.relations.specs.Sets.{In}
 use Rattle.relations.specs.Spans.{Span, span}
 use Rattle.relations.specs.Timed.{Entry}
 use Rattle.prima_base.specs.declared.timed_rows.TimedRow.{TimedRow}
@@ -41,3 +42,7 @@ goes_on touch join (e ∷ others) rest = into touch join e rest
 -- what the list stands for: what is kept, the last of it joined with what comes next
 unfoldable pub standing : {E : Type 0} → (E → E → Bool) → (E → E → E) → ℕ → ℕ → List E → List E
 standing touch join kept next rows = take kept rows ++ goes_on touch join (drop kept rows) (drop next rows)
+
+-- each row of the second list has the very values of a row of the first: what of them is lent stays lent
+abbrev pub HaveValuesOf : List TimedRow → List TimedRow → Type 0
+HaveValuesOf before after = (row : TimedRow) → In row after → (old : TimedRow) × In old before × (old.values.items ≡ row.values.items)

@@ -1,23 +1,29 @@
 //! Coalescing: the one list of what rows with periods hold inside a slice, made in place.
 //!
-//! The rows are cut to the slice, sorted, and joined where they touch. (Coalescing, PRIMA 2008.)
+//! The rows are cut to the slice, sorted, and joined where they touch. (Coalescing, PRIMA 2008.) Of the list `keep` keeps what
+//! meets the conditions of a KEEP.
 #![tactic(auto)]
 
 mod cutting;
 mod joining;
+mod keeping;
 
 ghost use Rattle.relations.specs.Listing.{IsListing};
+ghost use Rattle.coalesce.specs.Joining.{HaveValuesOf};
 ghost use Rattle.prima_base.specs.Order.{row_cmp};
 ghost use Rattle.prima_base.specs.Timed.{rows_at, entries_of};
 
 use crate::cutting::cut_rows;
 use crate::joining::join_sorted;
+pub use keeping::keep;
 use prima_base::{Period, TimedRow};
 
 /// Makes of rows with periods the one list of what they hold inside a slice: each row with its
-/// longest periods, ascending by row and start. It takes no memory. (Coalescing, PRIMA 2008.)
+/// longest periods, ascending by row and start. The values of each row are those of one that was there: what is lent stays
+/// lent. It takes no memory. (Coalescing, PRIMA 2008.)
 pub fn coalesce_in_place(rows: &mut Vec<TimedRow<'_>>, slice: Period)
-    ensures { IsListing row_cmp (rows_at rows.old.items) slice (entries_of rows.new.items) }
+    ensures listing { IsListing row_cmp (rows_at rows.old.items) slice (entries_of rows.new.items) }
+    ensures values { HaveValuesOf rows.old.items rows.new.items }
 {
     cut_rows(rows, slice);
     rows.sort_unstable();

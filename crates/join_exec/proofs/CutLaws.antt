@@ -10,14 +10,14 @@ use Rattle.join_exec.specs.Merging.{part_in, inside, cut}
 use Rattle.join_exec.proofs.MergeLaws.{common_some, common_at, from_part, each_behind, turn_append, part_turn}
 
 -- what comes of a part inside the slice
-record IsInside {X : Type 0} (slice : Span) (a c : Part X) : Type 0 where
+pub record IsInside {X : Type 0} (slice : Span) (a c : Part X) : Type 0 where
   id : c.id ≡ a.id
-  item : c.item ≡ a.item
+  pub item : c.item ≡ a.item
   start : c.period.start ≡ max a.period.start slice.start
   end : c.period.end ≡ min a.period.end slice.end
 
 module _ {X : Type 0} (slice : Span) where
-  from_inside : (a c : Part X) → In c (inside slice a) → IsInside slice a c
+  pub from_inside : (a c : Part X) → In c (inside slice a) → IsInside slice a c
   from_inside a c h =
       let r = from_part a.id a.item (common a.period slice) c h in
       let p = common_some a.period slice r.0 r.1 in

@@ -3,10 +3,11 @@ pub mod CutLaws
 pub mod ValueLaws
 pub mod Picked
 pub mod EntriesInTurn
-pub mod NamedCells
 pub mod KnownNames
 pub mod RelationRows
 pub mod ReadingLaws
 pub mod LentLaws
-pub mod SameValues
-pub mod BranchAnswers
+pub mod ReadRows
+pub mod AtomAnswers
+pub mod PieceAtoms
+pub mod AtomSteps

@@ -99,10 +99,10 @@ in_left_by {X} (x ∷ xs) y a h o = step (λ k. in_left_by xs y a k o) (is_over 
     step f false q k = k
 
 -- the common moments of two parts of one id, with what both make
-record IsMet {X Y Z : Type 0} (make : X → Y → Z) (a : Part X) (b : Part Y) (c : Part Z) : Type 0 where
+pub record IsMet {X Y Z : Type 0} (make : X → Y → Z) (a : Part X) (b : Part Y) (c : Part Z) : Type 0 where
   same : a.id ≡ b.id
   id : c.id ≡ a.id
-  item : c.item ≡ make a.item b.item
+  pub item : c.item ≡ make a.item b.item
   start : c.period.start ≡ max a.period.start b.period.start
   end : c.period.end ≡ min a.period.end b.period.end
 
@@ -175,7 +175,7 @@ module _ {X Y Z : Type 0} (make : X → Y → Z) where
       later true f k = let r = f k in (r.0, inr r.1, r.2)
       later false f k = absurd k
 
-  from_merged : (xs : List (Part X)) (ys : List (Part Y)) (c : Part Z) → In c (merged make xs ys) → (a : Part X) × (b : Part Y) × In a xs × In b ys × IsMet make a b c
+  pub from_merged : (xs : List (Part X)) (ys : List (Part Y)) (c : Part Z) → In c (merged make xs ys) → (a : Part X) × (b : Part Y) × In a xs × In b ys × IsMet make a b c
   from_merged xs [] c h = absurd h
   from_merged xs (y ∷ ys) c h =
       elim (in_append c (given make xs y) (merged make (left_by xs y) ys) h) [

@@ -6,6 +6,7 @@ use Rattle.std.specs.Cmp.{Equal-is}
 use Rattle.std.specs.Cmp.Lexicographic.{nat_list_cmp_total}
 use Rattle.std.proofs.lemmas.Bool.Decides.{nat_tests}
 use Rattle.std.proofs.lemmas.Cmp.{tied_itself}
+use Rattle.std.proofs.Common.{length-append}
 use Rattle.std.proofs.lemmas.List.{map-append, take_more, at_drop_more}
 use Rattle.relations.specs.Sets.{In}
 use Rattle.relations.specs.Spans.{Span, span, covers}
@@ -17,9 +18,11 @@ use Rattle.history_store.specs.Store.{Cell, Store, shown_at, row_at, Holds, IsSt
 use Rattle.history_store.specs.Scans.{keys_from}
 use Rattle.join_exec.specs.Reading.{count_in, entries_in}
 use Rattle.join_exec.specs.Parts.{Part, Has, HasBoth, PrecedesAll, InTurn}
-use Rattle.join_exec.specs.Merging.{cut}
-use Rattle.join_exec.specs.Stretches.{key_part, cell_part, behind, picked, HoldsIn, IsGathered}
-use Rattle.join_exec.proofs.CutLaws.{cut_has, cut_turn}
+use Rattle.join_exec.specs.Merging.{inside, cut, merged}
+use Rattle.relations.proofs.SetLaws.{from_flat_map}
+use Rattle.join_exec.specs.Stretches.{key_part, cell_part, behind, picked, HoldsIn, AreWide, IsGathered}
+use Rattle.join_exec.proofs.CutLaws.{cut_has, cut_turn, from_inside}
+use Rattle.join_exec.proofs.MergeLaws.{from_merged}
 
 -- the keys, each with no value
 record IsKeyAt (base : ℕ) (keys : List Span) (id : ℕ) (period : Span) : Type 0 where
@@ -76,6 +79,9 @@ keys_have s id m values = (there, back)
 pub keys_gathered : (s : Store) (slice : Span) → IsGathered s slice [] (cut slice (map key_part (keys_from 0 s.keys)))
 keys_gathered s slice = record {
   turn = cut_turn slice (map key_part (keys_from 0 s.keys)) (keys_turn 0 s.keys);
+  wide = λ p h.
+      let r = from_flat_map (inside slice) p (map key_part (keys_from 0 s.keys)) h in
+      ap length ((from_inside slice r.0 p r.2).item ∙ (from_keys 0 s.keys r.0 r.1).1);
   has = λ id m values. (there id m values, back id m values);
 }
   where
@@ -172,10 +178,16 @@ cell_shown (c ∷ columns) (cs ∷ all) name cells id m v f e h =
     step w q g true k = let same : cs ≡ cells = cc in let is : w ∷ [] ≡ v ∷ [] = sym q ∙ ap (shown_at id m) same ∙ h in cc
     step w q g false k = g k
 
+-- each part of a merge has one value more
+pub merged_wide : (n : ℕ) (xs : List (Part (List Value))) (ys : List (Part Value)) → AreWide n xs → AreWide (n + 1) (merged behind xs ys)
+merged_wide n xs ys h = λ p k.
+    let r = from_merged behind xs ys p k in
+    ap length r.4.item ∙ length-append r.0.item (r.1.item ∷ []) ∙ ap (λ j. j + 1) (h r.0 r.2)
+
 -- one column more
-pub column_gathered : (s : Store) (slice : Span) (names : List (List ℕ)) (name : List ℕ) (cells : List Cell) (parts more : List (Part (List Value))) → IsStore s → column_of s name ≡ Some cells → IsGathered s slice names parts → InTurn more
+pub column_gathered : (s : Store) (slice : Span) (names : List (List ℕ)) (name : List ℕ) (cells : List Cell) (parts more : List (Part (List Value))) → IsStore s → column_of s name ≡ Some cells → IsGathered s slice names parts → InTurn more → AreWide (length names + 1) more
     → ((id m : ℕ) (values : List Value) → Has more id values m ↔ HasBoth behind parts (map cell_part cells) id values m) → IsGathered s slice (names ++ name ∷ []) more
-column_gathered s slice names name cells parts more w e g t both = record { turn = t; has = λ id m values. (there id m values, back id m values) }
+column_gathered s slice names name cells parts more w e g t wide both = record { turn = t; wide = λ p h. wide p h ∙ sym (length-append names (name ∷ [])); has = λ id m values. (there id m values, back id m values) }
   where
     is_in : In cells s.cells
     is_in = named_in s.columns s.cells name cells e
@@ -201,10 +213,11 @@ column_gathered s slice names name cells parts more w e g t both = record { turn
 
 -- the same, where the column was taken in
 pub column_taken : {T E : Type 0} (result : Result T E) (s : Store) (name : List ℕ) (cells : List Cell) (parts more : List (Part (List Value))) → IsStore s → column_of s name ≡ Some cells → OnOk result (InTurn more)
+    → ((n : ℕ) → AreWide n parts → OnOk result (AreWide (n + 1) more))
     → ((id m : ℕ) (values : List Value) → OnOk result (Has more id values m ↔ HasBoth behind parts (map cell_part cells) id values m))
     → (slice : Span) → (names : List (List ℕ)) → IsGathered s slice names parts → OnOk result (IsGathered s slice (names ++ name ∷ []) more)
-column_taken (Ok x) s name cells parts more w e t both slice names g = column_gathered s slice names name cells parts more w e g t both
-column_taken (Err x) s name cells parts more w e t both slice names g = tt
+column_taken (Ok x) s name cells parts more w e t wide both slice names g = column_gathered s slice names name cells parts more w e g t (wide (length names) g.wide) both
+column_taken (Err x) s name cells parts more w e t wide both slice names g = tt
 
 -- the columns that are still to come
 pub keys_count : (base : ℕ) (keys : List Span) → length (keys_from base keys) ≡ length keys

@@ -1,7 +1,8 @@
-pub mod Answering
+pub mod Atoms
 pub mod LentValues
 pub mod Merging
-pub mod Naming
 pub mod Parts
+pub mod Pieces
+pub mod ReadColumns
 pub mod Reading
 pub mod Stretches

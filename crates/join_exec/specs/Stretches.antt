@@ -1,5 +1,6 @@
 -- What stretches, keys and entries stand for: parts of the histories of rows.
-use Rattle.std.specs.Prelude.{◌≡◌, ◌↔◌, ℕ, true, List, [], ◌∷◌, ◌++◌, map}
+use Rattle.std.specs.Prelude.{◌≡◌, ◌↔◌, ℕ, true, List, [], ◌∷◌, ◌++◌, map, length}
+use Rattle.relations.specs.Sets.{In}
 use Rattle.relations.specs.Spans.{Span, covers}
 use Rattle.prima_base.specs.declared.values.Value.{Value}
 use Rattle.prima_base.specs.Order.{shown}
@@ -36,8 +37,13 @@ picked s names id m = map (cell s.columns (row_at id m s.cells)) names
 abbrev pub HoldsIn : Span → List Span → ℕ → ℕ → Type 0
 HoldsIn slice keys id m = Holds keys id m × (covers slice m ≡ true)
 
+-- each part has so many values
+abbrev pub AreWide : ℕ → List (Part (List Value)) → Type 0
+AreWide n parts = (p : Part (List Value)) → In p parts → length p.item ≡ n
+
 -- at each moment of the slice the parts have the cells of these names, for each key that holds, and at no other moment
 -- they have any
 pub record IsGathered (s : Store) (slice : Span) (names : List (List ℕ)) (parts : List (Part (List Value))) : Type 0 where
   pub turn : InTurn parts
+  pub wide : AreWide (length names) parts
   pub has : (id m : ℕ) (values : List Value) → Has parts id values m ↔ (HoldsIn slice s.keys id m × (values ≡ picked s names id m))

@@ -1,26 +1,15 @@
-//! The names of the columns that outputs and a condition name.
+//! The names of the columns that references name of an atom.
 
-ghost use Rattle.std.specs.Prelude.{◌≡◌, map, IfOk};
+ghost use Rattle.std.specs.Prelude.{◌≡◌, IfOk};
+ghost use Rattle.std.specs.List.{filter};
 ghost use Rattle.relations.specs.Sets.{set_of};
 ghost use Rattle.prima_base.specs.Order.{bytes_cmp};
-ghost use Rattle.cond_expr.specs.Seen.{tree, test};
-ghost use Rattle.plain_answers.specs.Naming.{all_references, written_names, names_in};
+ghost use Rattle.plain_answers.specs.Naming.{written_names, is_to, names_at};
 ghost use Rattle.cond_expr.specs.References.{lent};
 
-use cond_expr::{ColRef, Cond, Expr, gather_references};
+use cond_expr::{ColRef, Whose};
 use prima_base::{Name, NoMemory};
 use std::alloc::Global;
-
-// The names of references, one for each.
-fn names_of(alloc: Global, references: &[&ColRef]) -> Result<Vec<Name>, NoMemory>
-    ensures { IfOk result (λ v. v.items ≡ written_names (lent references.now)) }
-{
-    let mut names = Vec::with_capacity(alloc, references.len())?;
-    for reference in references {
-        names.push(reference.name.copy()?)?;
-    }
-    Ok(names)
-}
 
 // Puts names in their order, each once.
 fn put_in_order(names: &mut Vec<Name>)
@@ -30,14 +19,34 @@ fn put_in_order(names: &mut Vec<Name>)
     names.dedup();
 }
 
-/// The names that outputs and a condition name, ascending, each once. For n references this is in the order of n log n
-/// comparisons of names.
-pub(crate) fn names_in(alloc: Global, outs: &[Expr], cond: &Cond) -> Result<Vec<Name>, NoMemory>
-    ensures { IfOk result (λ v. v.items ≡ names_in (all_references (map tree outs.now) (test cond.now))) }
+fn is_to(reference: &ColRef, atom: u32) -> bool
+    ensures { result ≡ is_to atom reference.now }
 {
-    let mut references = Vec::new(alloc);
-    gather_references(&mut references, outs, cond)?;
-    let mut names = names_of(alloc, &references)?;
+    match &reference.whose {
+        Whose::Atom(own) => atom == *own,
+        Whose::Free | Whose::Alias(_) => false,
+    }
+}
+
+// The names of the references to one atom, one for each.
+fn names_to(alloc: Global, references: &[&ColRef], atom: u32) -> Result<Vec<Name>, NoMemory>
+    ensures { IfOk result (λ v. v.items ≡ written_names (filter (is_to atom) (lent references.now))) }
+{
+    let mut names = Vec::new(alloc);
+    for reference in references {
+        if is_to(reference, atom) {
+            names.push(reference.name.copy()?)?;
+        }
+    }
+    Ok(names)
+}
+
+/// The names of the columns of an atom that are named, ascending, each once. For n references this is in the order of
+/// n log n comparisons of names.
+pub fn names_at(alloc: Global, references: &[&ColRef], atom: u32) -> Result<Vec<Name>, NoMemory>
+    ensures { IfOk result (λ v. v.items ≡ names_at atom (lent references.now)) }
+{
+    let mut names = names_to(alloc, references, atom)?;
     put_in_order(&mut names);
     Ok(names)
 }

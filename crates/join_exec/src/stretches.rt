@@ -13,7 +13,7 @@ ghost use Rattle.prima_base.specs.declared.values.Value.{Value};
 ghost use Rattle.history_store.specs.Scans.{seen_cell};
 ghost use Rattle.join_exec.specs.Parts.{Has, HasBoth, InTurn};
 ghost use Rattle.join_exec.specs.Merging.{inside, cut, shared, in_both, is_over, given, left_by, merged, is_first_over, first_in_both};
-ghost use Rattle.join_exec.specs.Stretches.{part_of, parts_of, key_part, cell_part, behind};
+ghost use Rattle.join_exec.specs.Stretches.{part_of, parts_of, key_part, cell_part, behind, AreWide};
 
 use crate::row_parts::Stretch;
 use history_store::{CellEntry, CellScan, KeyEntry, KeyScan};
@@ -246,6 +246,7 @@ pub(crate) fn add_column<'a, L: Ledger>(
     requires stretches { InTurn (parts_of stretches.old.items) }
     requires entries { InTurn (map cell_part cells) }
     ensures turn { OnOk result (InTurn (parts_of stretches.new.items)) }
+    ensures wide { (n : ℕ) → AreWide n (parts_of stretches.old.items) → OnOk result (AreWide (n + 1) (parts_of stretches.new.items)) }
     ensures both { (id m : ℕ) → (values : List Value) → OnOk result (Has (parts_of stretches.new.items) id values m ↔ HasBoth behind (parts_of stretches.old.items) (map cell_part cells.entry) id values m) }
     ensures cost { steps.new ≤ steps.old + length cells.entry }
 {

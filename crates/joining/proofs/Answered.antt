@@ -13,28 +13,35 @@ use Rattle.cond_expr.specs.Trees.{Tree, Test}
 use Rattle.joining.specs.declared.sources.Source.{Source}
 use Rattle.timed_choices.specs.Choosing.{completed}
 use Rattle.timed_choices.specs.Keeping.{meets, meets_all}
-use Rattle.timed_choices.specs.Placing.{parts}
+use Rattle.cond_expr.specs.Parts.{parts}
 use Rattle.timed_choices.specs.Answering.{one_row, outputs, answers}
 use Rattle.timed_choices.proofs.PlaceLaws.{parts_meet}
 use Rattle.timed_choices.proofs.JoinLaws.{filter_like, held_answers}
 use Rattle.joining.proofs.ChoiceLaws.{all_choices, of_relations}
 use Rattle.joining.specs.Sources.{held_of, relations_of}
 
-module _ (cs : List Column) (outs : List Tree) (c : Test) (ps : List Test) (rows : List TimedRow) (made : List (Entry (List Value))) (m : ℕ) (gathered : ps ≡ parts c) (answered : entries_of rows ≡ answers cs outs c made) where
-  at_moment : rows_at rows m ≡ set_of row_cmp (map (outputs cs outs) (filter (meets cs c) (held_at made m)))
-  unfolding at
-  at_moment = ap (set_of row_cmp) (ap (λ (es : List (Entry (List Value))). held_at es m) answered ∙ held_answers cs outs c m made)
+-- of nothing nothing is answered
+pub nothing_met : (cs : List Column) (outs : List Tree) (c : Test) (xs : List (List Value)) → xs ≡ [] → set_of row_cmp (map (outputs cs outs) (filter (meets cs c) xs)) ≡ []
+unfolding set_of
+nothing_met cs outs c xs h = ap (λ (ys : List (List Value)). set_of row_cmp (map (outputs cs outs) (filter (meets cs c) ys))) h
 
-  pub nothing_answered : held_at made m ≡ [] → rows_at rows m ≡ []
-  unfolding set_of
-  nothing_answered h = at_moment ∙ ap (λ (xs : List (List Value)). set_of row_cmp (map (outputs cs outs) (filter (meets cs c) xs))) h
+-- what holds of the answers of choices are the answers of the choices that hold
+pub answered_at : (cs : List Column) (outs : List Tree) (c : Test) (rows : List TimedRow) (made : List (Entry (List Value))) (m : ℕ) → entries_of rows ≡ answers cs outs c made
+    → rows_at rows m ≡ set_of row_cmp (map (outputs cs outs) (filter (meets cs c) (held_at made m)))
+unfolding at
+answered_at cs outs c rows made m answered = ap (set_of row_cmp) (ap (λ (es : List (Entry (List Value))). held_at es m) answered ∙ held_answers cs outs c m made)
 
-  by_parts : (xs : List (List Value)) → filter (meets cs c) xs ≡ filter (meets_all cs ps) xs
-  by_parts xs = filter_like (meets cs c) (meets_all cs ps) xs (λ x. sym (ap (λ (qs : List Test). meets_all cs qs x) gathered ∙ parts_meet cs x c))
+-- a choice meets the condition where it meets all its parts
+pub by_parts : (cs : List Column) (c : Test) (ps : List Test) → ps ≡ parts c → (xs : List (List Value)) → filter (meets cs c) xs ≡ filter (meets_all cs ps) xs
+by_parts cs c ps gathered xs = filter_like (meets cs c) (meets_all cs ps) xs (λ x. sym (ap (λ (qs : List Test). meets_all cs qs x) gathered ∙ parts_meet cs x c))
 
-  pub all_answered : (sources : List Source) → filter (meets_all cs ps) (held_at made m) ≡ filter (meets_all cs ps) (completed ([] ∷ []) (held_of sources m))
-      → rows_at rows m ≡ set_of row_cmp (map (outputs cs outs) (filter (meets cs c) (map one_row (choices (relations_of sources m)))))
-  all_answered sources h =
-      at_moment
-      ∙ ap (λ (xs : List (List Value)). set_of row_cmp (map (outputs cs outs) xs)) (by_parts (held_at made m) ∙ h ∙ sym (by_parts (completed ([] ∷ []) (held_of sources m))) ∙ ap (filter (meets cs c)) (all_choices (held_of sources m)))
-      ∙ of_relations sources m (meets cs c) (outputs cs outs)
+pub same_met : (cs : List Column) (c : Test) (ps : List Test) → ps ≡ parts c → (xs ys : List (List Value)) → filter (meets_all cs ps) xs ≡ filter (meets_all cs ps) ys → filter (meets cs c) xs ≡ filter (meets cs c) ys
+same_met cs c ps gathered xs ys h = by_parts cs c ps gathered xs ∙ h ∙ sym (by_parts cs c ps gathered ys)
+
+-- the choices of one row of each list
+pub all_answered : (cs : List Column) (outs : List Tree) (c : Test) (ps : List Test) → ps ≡ parts c → (sources : List Source) (m : ℕ) (xs : List (List Value))
+    → filter (meets_all cs ps) xs ≡ filter (meets_all cs ps) (completed ([] ∷ []) (held_of sources m))
+    → set_of row_cmp (map (outputs cs outs) (filter (meets cs c) xs)) ≡ set_of row_cmp (map (outputs cs outs) (filter (meets cs c) (map one_row (choices (relations_of sources m)))))
+all_answered cs outs c ps gathered sources m xs h =
+    ap (λ (ys : List (List Value)). set_of row_cmp (map (outputs cs outs) ys)) (same_met cs c ps gathered xs (completed ([] ∷ []) (held_of sources m)) h ∙ ap (filter (meets cs c)) (all_choices (held_of sources m)))
+    ∙ of_relations sources m (meets cs c) (outputs cs outs)

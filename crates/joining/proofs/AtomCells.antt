@@ -24,7 +24,7 @@ use Rattle.cond_expr.specs.declared.exprs.Whose.TheVariants.{Free, Alias, Atom}
 use Rattle.cond_expr.specs.declared.exprs.Column.{Column as AtomColumn}
 use Rattle.cond_expr.specs.Values.{Cells, value, truth}
 use Rattle.cond_expr.specs.Rows.{same}
-use Rattle.plain_answers.specs.AtomColumns.{columns_at}
+use Rattle.cond_expr.specs.AtomColumns.{columns_at}
 use Rattle.cond_expr.specs.Trees.{Tree, Test}
 use Rattle.plain_answers.specs.Choosing.{chosen_cell, chosen_cells, is_met, answered, answers_over}
 use Rattle.std.proofs.lemmas.List.{length-map}
@@ -33,7 +33,7 @@ use Rattle.timed_choices.specs.Keeping.{cells, meets}
 use Rattle.timed_choices.specs.Answering.{outputs, one_row}
 use Rattle.timed_choices.specs.Blocks.{types_of, rows_of, answered_rows}
 use Rattle.joining.specs.Sources.{HaveAtoms}
-use Rattle.plain_answers.specs.AtomColumns.{atoms_from}
+use Rattle.cond_expr.specs.AtomColumns.{atoms_from}
 use Rattle.joining.specs.Sources.{blocks_of}
 
 turned : (o : Ordering) → is_eq (ordering_reverse o) ≡ is_eq o

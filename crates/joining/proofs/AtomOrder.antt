@@ -35,7 +35,7 @@ numbered_without : (xs ys : List Atom) (a : Atom) → AreNumbered (xs ++ a ∷ y
 numbered_without [] ys a h = h.1
 numbered_without (x ∷ xs) ys a h = ((numbered_at x.number xs ys a h.0).1, numbered_without xs ys a h.1)
 
-apart_of : (m : ℕ) (xs ys : List Atom) (a : Atom) → AreNumbered (xs ++ a ∷ ys) → Apart a.number (blocks_of m xs)
+pub apart_of : (m : ℕ) (xs ys : List Atom) (a : Atom) → AreNumbered (xs ++ a ∷ ys) → Apart a.number (blocks_of m xs)
 apart_of m [] ys a h = tt
 apart_of m (x ∷ xs) ys a h = (λ e. (numbered_at x.number xs ys a h.0).0 (sym e), apart_of m xs ys a h.1)
 
@@ -91,7 +91,7 @@ pub atoms_lent : (xs ys : List Atom) → AtomsLent (xs ++ ys) → AtomsLent xs �
 atoms_lent [] ys h = (tt, h)
 atoms_lent (x ∷ xs) ys h = let r = atoms_lent xs ys h.1 in ((h.0, r.0), r.1)
 
-both_atoms : (xs ys : List Atom) → AtomsLent xs → AtomsLent ys → AtomsLent (xs ++ ys)
+pub both_atoms : (xs ys : List Atom) → AtomsLent xs → AtomsLent ys → AtomsLent (xs ++ ys)
 both_atoms [] ys h k = k
 both_atoms (x ∷ xs) ys h k = (h.0, both_atoms xs ys h.1 k)
 

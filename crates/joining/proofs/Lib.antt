@@ -4,3 +4,4 @@ pub mod AtomCells
 pub mod AtomOrder
 pub mod NearRows
 pub mod TurnLaws
+pub mod PrunedRows

@@ -6,7 +6,7 @@ use Rattle.prima_base.specs.declared.values.Value.{Value}
 use Rattle.prima_base.specs.Columns.{Column}
 use Rattle.prima_base.specs.Timed.{entries_of, rows_at}
 use Rattle.cond_expr.specs.declared.exprs.Column.{Column as AtomColumn}
-use Rattle.plain_answers.specs.AtomColumns.{columns_at}
+use Rattle.cond_expr.specs.AtomColumns.{columns_at}
 use Rattle.timed_choices.specs.Lending.{AllLent}
 use Rattle.timed_choices.specs.Blocks.{Block}
 use Rattle.joining.specs.declared.sources.Source.{Source}

@@ -56,21 +56,21 @@ fn put_answer<'a>(
     Ok(())
 }
 
-/// The values of the outputs of each choice that meets the condition, in its period.
-pub(crate) fn answer_all<'a>(
+/// Puts the values of the outputs of each choice that meets the condition, in its period, behind the other rows.
+pub(crate) fn put_answers<'a>(
     alloc: Global,
+    rows: &mut Vec<TimedRow<'a>>,
     outs: &[Expr],
     cond: &Cond,
     columns: &[Column],
     choices: &[TimedRow<'a>],
-) -> Result<Vec<TimedRow<'a>>, NoMemory>
+) -> Result<(), NoMemory>
     requires { AllLawful (entries_of choices.now) }
-    ensures lent { AllLent choices.now → IfOk result (λ rows. AllStayLent (map tree outs.now) rows.items) }
-    ensures rows { IfOk result (λ rows. entries_of rows.items ≡ answers columns.now (map tree outs.now) (test cond.now) (entries_of choices.now)) }
+    ensures lent { AllStayLent (map tree outs.now) rows.old.items → AllLent choices.now → OnOk result (AllStayLent (map tree outs.now) rows.new.items) }
+    ensures rows { OnOk result (entries_of rows.new.items ≡ entries_of rows.old.items ++ answers columns.now (map tree outs.now) (test cond.now) (entries_of choices.now)) }
 {
-    let mut rows = Vec::new(alloc);
     for choice in choices {
-        put_answer(alloc, &mut rows, outs, cond, columns, choice)?;
+        put_answer(alloc, rows, outs, cond, columns, choice)?;
     }
-    Ok(rows)
+    Ok(())
 }

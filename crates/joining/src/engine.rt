@@ -7,7 +7,8 @@ ghost use Rattle.prima_base.specs.Timed.{rows_at};
 ghost use Rattle.cond_expr.specs.Seen.{tree, test};
 ghost use Rattle.plain_answers.specs.Choosing.{answers_over};
 ghost use Rattle.timed_choices.specs.Lending.{AllStayLent};
-ghost use Rattle.joining.specs.Sources.{AtomsLent, atom_rows, AreNumbered, HaveAtoms};
+ghost use Rattle.timed_choices.specs.Blocks.{answered};
+ghost use Rattle.joining.specs.Sources.{AtomsLent, atom_rows, blocks_of, AreNumbered, HaveAtoms};
 
 use crate::orders::join_in_order;
 use crate::sources::Atom;
@@ -16,8 +17,9 @@ use prima_base::{NoMemory, Period, TimedRow};
 use std::alloc::Global;
 
 /// What outputs and a condition answer over one list of rows with periods for each atom, at each moment of the slice: the
-/// outputs of the choices of one row of each that hold together and meet the condition. The rows have the periods in which
-/// they hold, all inside the slice, in no order; a row may stand several times.
+/// outputs of the choices of one row of each that hold together and meet the condition. A reference is to the atom of its
+/// number, whatever place that has; where the numbers are those of the places, the answers are those over relations (clause
+/// `rows`). The rows have the periods in which they hold, all inside the slice, in no order; a row may stand several times.
 /// Where all values of the atoms are lent, those of plain columns stay lent.
 pub fn answer_choices<'a>(
     alloc: Global,
@@ -29,6 +31,7 @@ pub fn answer_choices<'a>(
     requires { AreNumbered atoms.items }
     ensures lent { AtomsLent atoms.entry.items → IfOk result (λ rows. AllStayLent (map tree outs.now) rows.items) }
     ensures inside { (m : ℕ) → covers slice m ≡ false → IfOk result (λ rows. rows_at rows.items m ≡ []) }
+    ensures numbered { (m : ℕ) → covers slice m ≡ true → IfOk result (λ rows. rows_at rows.items m ≡ answered (map tree outs.now) (test cond.now) (blocks_of m atoms.entry.items)) }
     ensures rows { (columns : List (List TableColumn)) → HaveAtoms 0 columns atoms.entry.items → (m : ℕ) → covers slice m ≡ true
         → IfOk result (λ rows. rows_at rows.items m ≡ set_of row_cmp (answers_over columns (atom_rows atoms.entry.items m) (map tree outs.now) (test cond.now))) }
 {

@@ -1,6 +1,6 @@
 //! Joins in an order in which each list is looked up by what came before it, where an equality allows that.
 
-ghost use Rattle.std.specs.Prelude.{◌≡◌, ◌<◌, ◌+◌, ◌++◌, ◌∷◌, ℕ, true, false, List, [], map, length, IfOk, OnOk};
+ghost use Rattle.std.specs.Prelude.{◌≡◌, ◌<◌, ◌+◌, ◌++◌, ◌∷◌, ℕ, true, false, List, [], map, length, IfOk, IfSome, OnOk};
 ghost use Rattle.std.specs.List.{sum_by};
 ghost use Rattle.std.specs.List.Sorted.{IsPermutation};
 ghost use Rattle.joining.specs.declared.sources.Source.{Source as OneSource};
@@ -13,6 +13,7 @@ ghost use Rattle.timed_choices.specs.Blocks.{answered, rows_of};
 ghost use Rattle.joining.specs.Sources.{EachLent, AtomsLent, relations_of, blocks_of, columns_of, AreNumbered};
 
 use crate::joins::join_rows;
+use crate::own_parts::pruned_atoms;
 use crate::parts::gather_parts;
 use crate::places::place_of;
 use crate::sources::{Atom, Source};
@@ -31,14 +32,17 @@ fn is_there(atoms: &[Atom<'_>], reference: &ColRef) -> bool {
     false
 }
 
-// Whether the part says that a column of these atoms and one of these columns are equal.
+// Whether the first reference is to one of these columns, and the second to another atom's, which is one of these.
+fn is_between(atoms: &[Atom<'_>], columns: &[Column], own: &ColRef, other: &ColRef) -> bool {
+    place_of(columns, own).is_some() && place_of(columns, other).is_none() && is_there(atoms, other)
+}
+
+// Whether the part says that one of these columns and a column of another of these atoms are equal.
 fn is_link(atoms: &[Atom<'_>], columns: &[Column], part: &Cond) -> bool {
     match part {
         Cond::Cmp(CmpOp::Eq, first, second) => match (&**first, &**second) {
-            (Expr::Col(a), Expr::Col(b)) => {
-                (is_there(atoms, a) && place_of(columns, b).is_some())
-                    || (is_there(atoms, b) && place_of(columns, a).is_some())
-            }
+            (Expr::Col(a), Expr::Col(b)) => is_between(atoms, columns, a, b)
+                || is_between(atoms, columns, b, a),
             _ => false,
         },
         _ => false,
@@ -54,20 +58,35 @@ fn is_linked(parts: &[&Cond], atoms: &[Atom<'_>], columns: &[Column]) -> bool {
     false
 }
 
-// The first of the atoms that are left that a part links to one of those before; the first of all where none is.
-fn next_of(parts: &[&Cond], done: &[Atom<'_>], left: &[Atom<'_>]) -> usize
+// The first of the atoms that are left that a part links to another one of these atoms.
+fn first_linked<'a>(parts: &[&Cond], atoms: &[Atom<'a>], left: &[Atom<'a>]) -> Option<usize>
+    ensures { IfSome result (λ i. i < length left.now) }
+{
+    for (i, atom) in left.iter().enumerate() {
+        if is_linked(parts, atoms, &atom.columns) {
+            return Some(i);
+        }
+    }
+    None
+}
+
+// The first of the atoms that are left that a part links to one of those before. Where none is, the first that is linked to
+// another one that is left: of two lists that no part links, no choices are made before the linked ones. Else the first.
+fn next_of<'a>(parts: &[&Cond], done: &[Atom<'a>], left: &[Atom<'a>]) -> usize
     requires { 0 < length left.now }
     ensures { result < length left.now }
 {
-    for (i, atom) in left.iter().enumerate() {
-        if is_linked(parts, done, &atom.columns) {
-            return i;
-        }
+    if let Some(i) = first_linked(parts, done, left) {
+        return i;
     }
-    0
+    match first_linked(parts, left, left) {
+        Some(i) => i,
+        None => 0,
+    }
 }
 
-// The atoms in an order in which each is linked to one before it, where one that is left is.
+// The atoms in an order in which each is linked to one before it, where one that is left is, and those that no part links
+// are last.
 fn in_order<'a>(
     alloc: Global,
     parts: &[&Cond],
@@ -153,7 +172,8 @@ pub(crate) fn join_in_order<'a>(
 {
     let mut parts = Vec::new(alloc);
     gather_parts(&mut parts, cond)?;
-    let atoms = in_order(alloc, &parts, atoms)?;
+    let left = pruned_atoms(alloc, &parts, atoms)?;
+    let atoms = in_order(alloc, &parts, left)?;
     let (types, sources) = taken_apart(alloc, atoms)?;
     join_rows(alloc, outs, cond, &types, sources, slice)
 }

@@ -3,7 +3,7 @@
 ghost use Rattle.std.specs.Prelude.{◌≡◌, ◌++◌, OnOk, map};
 ghost use Rattle.cond_expr.specs.Seen.{test, tests_of};
 ghost use Rattle.timed_choices.specs.Keeping.{lent_tests};
-ghost use Rattle.timed_choices.specs.Placing.{parts, parts_of_all};
+ghost use Rattle.cond_expr.specs.Parts.{parts, all_parts as all_parts};
 
 use cond_expr::Cond;
 use prima_base::NoMemory;
@@ -41,7 +41,7 @@ pub(crate) fn gather_parts<'c>(into: &mut Vec<&'c Cond>, cond: &'c Cond) -> Resu
 
 #[cycle(parts)]
 fn gather_all<'c>(into: &mut Vec<&'c Cond>, conds: &'c [Cond]) -> Result<(), NoMemory>
-    ensures { OnOk result (lent_tests into.new.items ≡ lent_tests into.old.items ++ parts_of_all (tests_of (map test conds.now))) }
+    ensures { OnOk result (lent_tests into.new.items ≡ lent_tests into.old.items ++ all_parts (tests_of (map test conds.now))) }
 {
     for cond in conds {
         gather_parts(into, cond)?;

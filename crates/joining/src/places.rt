@@ -9,7 +9,8 @@ ghost use Rattle.cond_expr.specs.Seen.{tree, test};
 ghost use Rattle.cond_expr.specs.Faults.{test_references};
 ghost use Rattle.cond_expr.specs.Values.{value};
 ghost use Rattle.timed_choices.specs.Keeping.{value_at, cells, meets, meets_all, picked, lent_tests};
-ghost use Rattle.timed_choices.specs.Placing.{lent, place, is_below, all_below};
+ghost use Rattle.timed_choices.specs.Placing.{place, is_below, all_below};
+ghost use Rattle.cond_expr.specs.References.{lent};
 
 use crate::references::gather_cond;
 use cond_expr::{CmpOp, ColRef, Column, Cond, Expr, Whose};
@@ -76,6 +77,28 @@ pub(crate) fn is_settled(
     let mut references = Vec::new(alloc);
     gather_cond(&mut references, cond)?;
     Ok(are_within(columns, &references, taken, width))
+}
+
+// Whether none of the references stands among the first so many values.
+fn are_behind(columns: &[Column], references: &[&ColRef], taken: usize) -> bool {
+    for reference in references {
+        if is_within(columns, reference, taken, 0) {
+            return false;
+        }
+    }
+    true
+}
+
+/// Whether no reference of the condition stands among the first so many values.
+pub(crate) fn is_behind(
+    alloc: Global,
+    columns: &[Column],
+    cond: &Cond,
+    taken: usize,
+) -> Result<bool, NoMemory> {
+    let mut references = Vec::new(alloc);
+    gather_cond(&mut references, cond)?;
+    Ok(are_behind(columns, &references, taken))
 }
 
 // The place whose value the expression is.

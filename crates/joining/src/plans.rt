@@ -7,7 +7,7 @@ ghost use Rattle.cond_expr.specs.Faults.{test_references};
 ghost use Rattle.timed_choices.specs.Placing.{all_below};
 ghost use Rattle.timed_choices.specs.Keeping.{meets_all, picked, lent_tests};
 
-use crate::places::{is_settled, key_places};
+use crate::places::{is_behind, is_settled, key_places};
 use cond_expr::{Column, Cond};
 use prima_base::NoMemory;
 use std::alloc::Global;
@@ -41,7 +41,8 @@ pub(crate) fn keys_of(
     Ok(Keys { own, other })
 }
 
-// Whether the part is first decided where a choice of so many values gets so many more, and not by its look-up.
+// Whether the part is first decided where a choice of so many values gets so many more, and not by its look-up. A part
+// that speaks of these alone is no longer open: the rows have met it before the join.
 fn is_due(
     alloc: Global,
     columns: &[Column],
@@ -55,6 +56,9 @@ fn is_due(
         return Ok(false);
     }
     if is_settled(alloc, columns, part, taken, 0)? {
+        return Ok(false);
+    }
+    if is_behind(alloc, columns, part, taken)? {
         return Ok(false);
     }
     is_settled(alloc, columns, part, taken, width)

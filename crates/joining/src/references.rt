@@ -3,7 +3,7 @@
 ghost use Rattle.std.specs.Prelude.{◌≡◌, ◌++◌, OnOk, map};
 ghost use Rattle.cond_expr.specs.Seen.{tree, test, trees_of, tests_of};
 ghost use Rattle.cond_expr.specs.Faults.{references, trees_references, test_references, tests_references};
-ghost use Rattle.timed_choices.specs.Placing.{lent};
+ghost use Rattle.cond_expr.specs.References.{lent};
 
 use cond_expr::{ColRef, Cond, Expr};
 use prima_base::NoMemory;

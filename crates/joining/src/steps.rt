@@ -35,7 +35,7 @@ pub(crate) fn is_met(
 }
 
 // Whether the values meet all of the conditions.
-fn all_met(
+pub(crate) fn all_met(
     alloc: Global,
     conds: &[&Cond],
     columns: &[Column],
@@ -138,8 +138,9 @@ fn put_group<'a>(
     Ok(())
 }
 
-// The same of each row that agrees with the choice.
-fn put_choice<'a>(
+/// Puts the choice with each row behind that agrees with it behind the others, in their common moments, where it has any and
+/// passes the tests.
+pub(crate) fn put_choice<'a>(
     alloc: Global,
     columns: &[Column],
     own: &[usize],

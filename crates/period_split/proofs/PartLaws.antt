@@ -1,6 +1,6 @@
 -- The parts of a slice, version by version, and the moments that they have.
 use Rattle.std.proofs.Common.{◌≡◌, ◌<◌, ◌≤◌, ◌+◌, ℕ, zero, suc, Bool, true, false, cond, List, [], ◌∷◌, ◌++◌, map, length, get_or, refl, sym, ap, ◌∙◌, subst, inl, inr, arith}
-use Rattle.std.specs.Prelude.{◌&&◌, nat_le, nat_lt, Option, Some, None, IfSome}
+use Rattle.std.specs.Prelude.{◌&&◌, nat_le, nat_lt, min, max, Option, Some, None, IfSome}
 use Rattle.std.specs.Option.{option_map}
 use Rattle.std.specs.List.{flat_map, range_with_len}
 use Rattle.std.proofs.lemmas.Bool.Decides.{nat_tests}
@@ -18,7 +18,7 @@ use Rattle.smo_meaning.specs.Past.{Past, version_at, begun_at}
 use Rattle.version_groups.specs.Groups.{Kept, versions_in}
 use Rattle.version_groups.specs.Showing.{Shows}
 use Rattle.version_groups.proofs.OwnMoments.{own_version, own_moment}
-use Rattle.period_split.specs.Splitting.{Part, as_part, part_of, parts_below, split_by, HasMoment}
+use Rattle.period_split.specs.Splitting.{Part, as_part, part_of, parts_below, split_by, HasMoment, AscendFrom}
 
 next_is : (k : ℕ) → k + 1 ≡ suc k
 next_is k = omega arith
@@ -45,6 +45,37 @@ one_more versions slice k from to e f =
     ∙ flat_map-append (part_of versions slice) (range_with_len 0 k) (k ∷ [])
     ∙ ap (λ (ps : List Part). parts_below versions slice k ++ ps) (append-nil (part_of versions slice k))
     )
+
+-- ---- the parts in turn
+
+lasting_common : (p q r : Span) → common p q ≡ Some r → r.start < r.end
+lasting_common p q r e = step (nat_lt (max p.start q.start) (min p.end q.end)) refl e
+  where
+    step : (b : Bool) → nat_lt (max p.start q.start) (min p.end q.end) ≡ b → cond b (Some (span (max p.start q.start) (min p.end q.end))) None ≡ Some r → r.start < r.end
+    step true t k = (let same : span (max p.start q.start) (min p.end q.end) ≡ r = cc in subst (λ (s : Span). s.start < s.end) same (grind (arith, nat_tests)))
+    step false t k = absurd (cc)
+
+pub from_lower : (a b : ℕ) (parts : List Part) → a ≤ b → AscendFrom b parts → AscendFrom a parts
+from_lower a b [] l h = tt
+from_lower a b (p ∷ parts) l h = (let v = h.0.version in record { version = omega (arith, v, l); lasting = h.0.lasting }, h.1)
+
+one_first : (k : ℕ) (o : Option Span) (parts : List Part) → IfSome o (λ p. p.start < p.end) → AscendFrom (k + 1) parts → AscendFrom k (as_part k o ++ parts)
+one_first k None parts l h = from_lower k (k + 1) parts (omega arith) h
+one_first k (Some p) parts l h = (record { version = omega arith; lasting = l }, h)
+
+module _ (versions : List PlainVersion) (slice : Span) where
+  one_lasting : (k : ℕ) (o : Option Span) → common (in_force versions k) slice ≡ o → IfSome o (λ p. p.start < p.end)
+  one_lasting k None e = tt
+  one_lasting k (Some p) e = lasting_common (in_force versions k) slice p e
+
+  in_turn : (k n : ℕ) → AscendFrom k (flat_map (part_of versions slice) (range_with_len k n))
+  in_turn k zero = tt
+  in_turn k (suc n) =
+      one_first k (common (in_force versions k) slice) (flat_map (part_of versions slice) (range_with_len (k + 1) n))
+      (one_lasting k (common (in_force versions k) slice) refl) (in_turn (k + 1) n)
+
+  pub split_ascends : AscendFrom 0 (split_by versions slice)
+  split_ascends = in_turn 0 (length versions + 1)
 
 -- ---- the moments of the parts
 

@@ -1,5 +1,5 @@
 -- A slice of time, split by the versions that are in force in it.
-use Rattle.std.specs.Prelude.{◌≡◌, ℕ, ◌+◌, true, List, [], ◌∷◌, length, Option, Some, None}
+use Rattle.std.specs.Prelude.{◌≡◌, ℕ, ◌+◌, ◌<◌, ◌≤◌, true, List, [], ◌∷◌, length, Option, Some, None, ⊤}
 use Rattle.std.specs.List.{flat_map, range_with_len}
 use Rattle.relations.specs.Sets.{In}
 use Rattle.relations.specs.Spans.{Span, covers, common}
@@ -29,3 +29,13 @@ split_by versions slice = parts_below versions slice (length versions + 1)
 -- one of the parts, of this version, has the moment
 abbrev pub HasMoment : List Part → ℕ → ℕ → Type 0
 HasMoment parts k m = (p : Span) × In (p, k) parts × (covers p m ≡ true)
+
+-- the part has moments, and its version is this one or a later one
+pub record IsPartFrom (low : ℕ) (p : Part) : Type 0 where
+  pub version : low ≤ p.1
+  pub lasting : p.0.start < p.0.end
+
+-- the versions of the parts ascend, from this one on
+abbrev pub AscendFrom : ℕ → List Part → Type 0
+AscendFrom low [] = ⊤
+AscendFrom low (p ∷ parts) = IsPartFrom low p × AscendFrom (p.1 + 1) parts

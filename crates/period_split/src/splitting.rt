@@ -5,7 +5,7 @@ ghost use Rattle.smo_meaning.specs.InForce.{begins_at};
 ghost use Rattle.smo_meaning.specs.Past.{Past, version_at};
 ghost use Rattle.version_groups.specs.Groups.{versions_in};
 ghost use Rattle.version_groups.specs.Showing.{Shows};
-ghost use Rattle.period_split.specs.Splitting.{as_part, parts_below, split_by, HasMoment};
+ghost use Rattle.period_split.specs.Splitting.{as_part, parts_below, split_by, HasMoment, AscendFrom};
 
 use prima_base::{FOREVER, NoMemory, Period, meet};
 use smo_ops::Version;
@@ -73,6 +73,7 @@ fn last_stamp(versions: &[Version]) -> u64
 /// stands there. For n versions it takes n steps. The one error is `NoMemory`, where memory runs out.
 pub fn split(groups: &Groups, slice: Period) -> Result<Vec<(Period, u32)>, NoMemory>
     ensures parts { IfOk result (λ v. v.items ≡ split_by (versions_in groups.now) slice) }
+    ensures ascending { IfOk result (λ v. AscendFrom 0 v.items) }
     ensures each { (past : Past) → Shows groups.now past → (m : ℕ) → m < forever → covers slice m ≡ true → IfOk result (λ v. HasMoment v.items (version_at past m) m) }
     ensures only { (past : Past) → Shows groups.now past → (k : ℕ) → (m : ℕ) → IfOk result (λ v. HasMoment v.items k m → (covers slice m ≡ true) × (version_at past m ≡ k)) }
 {

@@ -17,7 +17,7 @@ use Rattle.smo_meaning.specs.Effects.{columns_of}
 use Rattle.smo_meaning.specs.First.{unless, where_so, first_refusal}
 use Rattle.smo_meaning.specs.Preconditions.{among}
 use Rattle.smo_meaning.proofs.Firsts.{none_of_first, none_of_both, met}
-use Rattle.plain_answers.specs.AtomColumns.{atoms_from}
+use Rattle.cond_expr.specs.AtomColumns.{atoms_from}
 use Rattle.plain_answers.specs.Branches.{Item, PlainBranch, item_columns}
 use Rattle.plain_answers.specs.Naming.{names_from, names_at, written_names, is_to}
 use Rattle.plain_answers.specs.Reading.{needed, whole_rows}

@@ -11,7 +11,7 @@ use Rattle.cond_expr.specs.Kinds.{Kinds, kinds_of}
 use Rattle.cond_expr.specs.Faults.{first_unknown}
 use Rattle.smo_meaning.specs.OneRow.{same}
 use Rattle.smo_meaning.proofs.NameLaws.{same_is}
-use Rattle.plain_answers.specs.AtomColumns.{columns_at, atoms_from}
+use Rattle.cond_expr.specs.AtomColumns.{columns_at, atoms_from}
 
 -- each of these references names something
 pub known_each : (of : Kinds) (rs : List ColRef) → first_unknown of rs ≡ None → (r : ColRef) → In r rs → is_none (of r.whose r.name) ≡ false

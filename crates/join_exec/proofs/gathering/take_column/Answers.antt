@@ -15,4 +15,4 @@ add_column-requires-clause-entries g c =
     entries_turn c.args.table.now c.args.name.now c.in-Some.cells c.scan_column.ensures.lawful (sym c.in-Some.ensures.entries)
 
 pub returns-clause-gathered : goal.returns-clause-gathered
-returns-clause-gathered g c = column_taken c.add_column.result c.args.table.now c.args.name.now c.in-Some.cells _ _ c.scan_column.ensures.lawful (sym c.in-Some.ensures.entries) c.add_column.ensures.turn c.add_column.ensures.both
+returns-clause-gathered g c = column_taken c.add_column.result c.args.table.now c.args.name.now c.in-Some.cells _ _ c.scan_column.ensures.lawful (sym c.in-Some.ensures.entries) c.add_column.ensures.turn c.add_column.ensures.wide c.add_column.ensures.both

@@ -1,5 +1,6 @@
 use Rattle.std.proofs.Common.{◌≡◌, ◌+◌, drop}
-use Rattle.timed_choices.specs.Placing.{lent, all_below}
+use Rattle.timed_choices.specs.Placing.{all_below}
+use Rattle.cond_expr.specs.References.{lent}
 use Rattle.joining.proofs.places.are_within.Given as goal
 
 abbrev pub invariant-loop-reference : goal.invariant-loop-reference

@@ -1,7 +1,7 @@
 use Rattle.std.proofs.Common.{◌≡◌, ◌++◌, map, drop}
 use Rattle.cond_expr.specs.Seen.{tree, test, trees_of, tests_of}
 use Rattle.cond_expr.specs.Faults.{trees_references, tests_references}
-use Rattle.timed_choices.specs.Placing.{lent}
+use Rattle.cond_expr.specs.References.{lent}
 use Rattle.joining.proofs.references.+gathers.Given as goal
 
 abbrev pub invariant-gather_list-loop-part : goal.invariant-gather_list-loop-part

@@ -1,10 +1,10 @@
-use Rattle.std.proofs.Common.{◌≡◌, List, map, length, ap, ◌∙◌}
+use Rattle.std.proofs.Common.{◌≡◌, List, map, length, sym, ap, subst, ◌∙◌}
 use Rattle.smo_types.specs.Commands.{version_of}
 use Rattle.smo_types.specs.declared.versions.Version.{Version}
 use Rattle.smo_meaning.specs.InForce.{begins_at}
 use Rattle.version_groups.specs.Groups.{versions_in}
-use Rattle.period_split.specs.Splitting.{parts_below, split_by}
-use Rattle.period_split.proofs.PartLaws.{whole_split, each_moment, only_moments}
+use Rattle.period_split.specs.Splitting.{Part, parts_below, split_by, AscendFrom}
+use Rattle.period_split.proofs.PartLaws.{whole_split, each_moment, only_moments, split_ascends}
 use Rattle.period_split.proofs.splitting.split.Goals as goal
 use Rattle.period_split.proofs.splitting.split.Goals.{In_ok-put_part}
 
@@ -25,3 +25,8 @@ returns-clause-each c = λ past shows m l e. each_moment c.args.groups.now past 
 
 pub returns-clause-only : goal.returns-clause-only
 returns-clause-only c = λ past shows k m h. only_moments c.args.groups.now past c.args.slice shows c.put_part.new.parts.items (made (goal.at.returns-clause-only c).In_ok-put_part) k m h
+
+pub returns-clause-ascending : goal.returns-clause-ascending
+returns-clause-ascending c =
+    subst (λ (ps : List Part). AscendFrom 0 ps) (sym (made (goal.at.returns-clause-ascending c).In_ok-put_part))
+    (split_ascends (versions_in c.args.groups.now) c.args.slice)

@@ -1,0 +1,26 @@
+use Rattle.std.proofs.Common.{◌+◌, ◌<◌, arith}
+use Rattle.std.specs.Prelude.{◌^◌}
+use Rattle.cond_expr.specs.References.{lent}
+use Rattle.join_exec.proofs.AtomSteps.{one_more, next_ready, next_count, next_read, here_ready, here_read, here_count}
+use Rattle.join_exec.proofs.atoms.gather_atoms.Goals as goal
+
+pub read_atom-requires : goal.read_atom-requires
+read_atom-requires g c =
+    let rs = lent c.args.references.now in
+    here_ready c.args.groups.now c.args.version rs c.loop-name.name-index c.loop-name.number c.name-item.result _ c.in_ok-names.names.items c.loop-name.invariant.number c.table-table.ensures c.in_ok-names.ensures
+    (next_ready c.args.groups.now c.args.version rs c.args.tables.now c.loop-name.name-index c.name-item.result c.loop-name-test.true c.name-item.is c.loop-name.invariant.ready).0
+
+pub loop-name-preserved : goal.loop-name-preserved
+loop-name-preserved g c =
+    let rs = lent c.args.references.now in
+    let own = here_count c.args.groups.now c.args.version rs c.loop-name.name-index c.loop-name.number c.name-item.result _ c.in_ok-names.names.items c.loop-name.invariant.number c.table-table.ensures c.in_ok-names.ensures in
+    let more = next_count c.args.groups.now c.args.version rs c.args.tables.now c.loop-name.name-index c.name-item.result c.loop-name-test.true c.name-item.is in
+    let next = one_more c.checked_add.result c.ok_or.result (c.loop-name.number + 1 < 2 ^ 32) (c.loop-name.number + 1) c.in_ok-number.number c.checked_add.ensures c.ok_or.ensures.ok_part c.in_ok-number.was in
+    record {
+      number = omega (arith, c.loop-name.invariant.number, next);
+      ready = (next_ready c.args.groups.now c.args.version rs c.args.tables.now c.loop-name.name-index c.name-item.result c.loop-name-test.true c.name-item.is c.loop-name.invariant.ready).1;
+      read = next_read c.args.groups.now c.args.version rs c.args.slice c.args.tables.now c.loop-name.name-index c.name-item.result c.loop-name.atoms.items c.push.new.self.items c.in_ok-atom.atom c.loop-name-test.true c.name-item.is c.loop-name.invariant.read
+          (here_read c.args.groups.now c.args.version rs c.loop-name.name-index c.loop-name.number c.name-item.result _ c.in_ok-names.names.items c.loop-name.invariant.number c.table-table.ensures c.in_ok-names.ensures c.args.slice c.in_ok-atom.atom c.in_ok-atom.ensures.atom)
+          c.in_ok-push.ensures.items;
+      count = omega (arith, c.read_atom.ensures.cost, c.loop-name.invariant.count, own, more);
+    }

@@ -1,0 +1,13 @@
+use Rattle.std.proofs.Common.{◌≡◌}
+use Rattle.std.specs.List.{filter}
+use Rattle.std.specs.Vec.Iter.{into_iter_items}
+use Rattle.prima_base.specs.declared.timed_rows.TimedRow.{TimedRow}
+use Rattle.prima_base.specs.Timed.{entry_of, entries_of}
+use Rattle.timed_choices.specs.Keeping.{meets_all, lent_tests, AllLawful}
+use Rattle.joining.proofs.own_parts.passing.Given as goal
+
+abbrev pub invariant-loop-row : goal.invariant-loop-row
+invariant-loop-row l = record {
+  kept : l.kept.items ≡ filter (λ (t : TimedRow). meets_all l.columns (lent_tests l.conds) (entry_of t).item) l.yielded;
+  left : AllLawful (entries_of (into_iter_items l.row-iterator));
+}

@@ -1,0 +1,10 @@
+pub mod TotalLaws
+pub mod ListSteps
+pub mod TableReads
+pub mod PieceRows
+pub mod RouteLaws
+pub mod FirstLosses
+pub mod WalkSteps
+pub mod BranchRows
+pub mod ItemAtoms
+pub mod WholeAnswers

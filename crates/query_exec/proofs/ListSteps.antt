@@ -1,0 +1,26 @@
+-- One step more along a list.
+use Rattle.std.proofs.Common.{◌≡◌, ◌+◌, ◌<◌, ℕ, zero, suc, List, [], ◌∷◌, ◌++◌, length, get_or, take, drop, refl, sym, ap, subst, ◌∙◌, inl, inr, arith}
+use Rattle.std.proofs.lemmas.List.{drop_more, take_more, take_all, drop_all}
+use Rattle.relations.specs.Sets.{In}
+
+module _ {X : Type 0} (xs : List X) (i : ℕ) (x : X) (l : i < length xs) (e : x ≡ get_or xs i x) where
+  -- what is left begins with the next
+  pub left_is : drop i xs ≡ x ∷ drop (i + 1) xs
+  left_is = drop_more xs i x l ∙ ap (λ (y : X). y ∷ drop (i + 1) xs) (sym e)
+
+  -- and what was taken ends with it
+  pub taken_is : take (i + 1) xs ≡ take i xs ++ x ∷ []
+  taken_is = take_more xs i x l ∙ ap (λ (y : X). take i xs ++ y ∷ []) (sym e)
+
+pub among_taken : {X : Type 0} (xs : List X) (i : ℕ) (x : X) → i < length xs → x ≡ get_or xs i x → In x xs
+among_taken [] i x l e = absurd (omega arith)
+among_taken (y ∷ xs) zero x l e = inl (sym e)
+among_taken (y ∷ xs) (suc i) x l e = inr (among_taken xs i x (omega arith) e)
+
+-- the same in an equal list
+module _ {X : Type 0} (xs ys : List X) (same : xs ≡ ys) (i : ℕ) (x : X) where
+  pub within_same : i < length xs → i < length ys
+  within_same l = subst (λ (zs : List X). i < length zs) same l
+
+  pub at_same : x ≡ get_or xs i x → x ≡ get_or ys i x
+  at_same e = subst (λ (zs : List X). x ≡ get_or zs i x) same e

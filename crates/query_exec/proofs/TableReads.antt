@@ -1,0 +1,102 @@
+-- What is read of a table at each moment: the meaning of the pieces that stand for it, a set of rows of lawful values.
+use Rattle.std.proofs.Common.{◌≡◌, ◌≤◌, ◌<◌, ℕ, Bool, true, false, List, [], ◌∷◌, map, length, refl, sym, ap, subst, ◌∙◌, inl, inr, arith}
+use Rattle.std.specs.Prelude.{cond, Option, Some, None}
+use Rattle.std.specs.List.{filter}
+use Rattle.std.specs.FinMap.{get}
+use Rattle.std.proofs.lemmas.List.{length-map}
+use Rattle.relations.specs.Sets.{In, Ascends}
+use Rattle.relations.specs.Spans.{Span}
+use Rattle.relations.specs.Timed.{Entry, at}
+use Rattle.relations.specs.Listing.{IsListing, Covered}
+use Rattle.relations.proofs.SetLaws.{from_set, from_map, from_filter, set_ascends, one_list}
+use Rattle.relations.proofs.Held.{in_at, at_ascends, held_is_covered, IsHeld}
+use Rattle.prima_base.specs.declared.values.Value.{Value}
+use Rattle.prima_base.specs.Order.{row_cmp}
+use Rattle.prima_base.specs.OrderLaws.{row_exact}
+use Rattle.prima_base.specs.Columns.{Column, IsLawful}
+use Rattle.schema_catalog.specs.Databases.{Entry as Stored, Rows, Lost, Database, IsDatabase, cell}
+use Rattle.cond_expr.proofs.ConstantLaws.{small_number}
+use Rattle.smo_meaning.specs.Effects.{columns_of, rows_at}
+use Rattle.smo_meaning.specs.LawfulPast.{IsPast}
+use Rattle.smo_meaning.specs.LawfulValues.{PastHolds, AreValues, HoldValues, EntryHolds}
+use Rattle.smo_meaning.specs.Making.{named}
+use Rattle.smo_meaning.specs.OneRow.{Row, Relation, same, meets}
+use Rattle.smo_meaning.specs.Past.{Past, tables_of, version_at, database_at}
+use Rattle.version_ways.specs.Migration.{migrated, migrated_from}
+use Rattle.version_ways.proofs.WayValues.{way_values}
+use Rattle.plain_answers.specs.Reading.{Read, read_of}
+use Rattle.piece_meaning.specs.Pieces.{PlainPiece, all_mean}
+use Rattle.piece_meaning.specs.Rules.{Book, IsLawfulBook}
+use Rattle.rewrite_chains.specs.Beginnings.{IsQuestion}
+use Rattle.rewrite_chains.specs.Standing.{StandFor}
+use Rattle.rewrite_chains.proofs.ReadMoments.{table_means}
+use Rattle.timed_choices.specs.Fitting.{Fit}
+use Rattle.timed_choices.specs.Keeping.{IsLawfulRow}
+use Rattle.query_exec.specs.Questions.{whole, table_read}
+
+-- the pieces that stand at the version in force mean what is read of the table
+pub standing_means : (book : Book) → IsLawfulBook book → (past : Past) → IsPast past → PastHolds past → (q k m : ℕ) (table : List ℕ) (r : Read) (ps : List PlainPiece)
+    → IsQuestion (tables_of past q) table r → StandFor book past.versions k q table r ps → version_at past m ≡ k → all_mean (tables_of past k) (database_at past m) ps ≡ table_read past q table r m
+standing_means book lawful past is holds q k m table r ps asked h e =
+    ap (all_mean (tables_of past k) (database_at past m)) h.unfolded
+    ∙ table_means past.versions is.evolved book lawful k q table r asked h.kept holds.versions (database_at past m)
+    (record { database = subst (λ (v : ℕ). IsDatabase (tables_of past v) (database_at past m)) e (is.each m); values = holds.databases m })
+    ∙ ap (λ (v : ℕ). read_of r (columns_of (tables_of past q) table) (rows_at (get (migrated_from past.versions v q (database_at past m)) table))) (sym e)
+
+-- ---- sets of lawful rows
+
+pub read_ascends : (past : Past) (q : ℕ) (table : List ℕ) (r : Read) (m : ℕ) → Ascends row_cmp (table_read past q table r m)
+read_ascends past q table r m = set_ascends row_cmp row_exact _
+
+pub listed_at : (relation : ℕ → Relation) (slice : Span) (entries : List (Entry Row)) → IsListing row_cmp relation slice entries → (m : ℕ) → slice.start ≤ m → m < slice.end
+    → Ascends row_cmp (relation m) → at row_cmp entries m ≡ relation m
+listed_at relation slice entries h m a b ascends =
+    one_list row_cmp row_exact (at row_cmp entries m) (relation m) (at_ascends row_cmp row_exact entries m) ascends (record {
+      there = λ x k. there x ((held_is_covered entries x m).0 ((in_at row_cmp row_exact entries x m).0 k));
+      back = λ x k. (in_at row_cmp row_exact entries x m).1 ((held_is_covered entries x m).1 (h.complete x m a b k));
+    })
+  where
+    there : (x : Row) → Covered entries x m → In x (relation m)
+    there x c = subst (λ (y : Row). In y (relation m)) c.2 ((h.each c.0 c.1).holds m c.3 c.4)
+
+held_rows : (o : Option Stored) → EntryHolds o → HoldValues (rows_at o)
+held_rows None h = λ row m. absurd m
+held_rows (Some (Rows rows)) h = h
+held_rows (Some (Lost k i)) h = λ row m. absurd m
+
+cell_lawful : (columns : List Column) (row : Row) (n : List ℕ) → AreValues row → IsLawful (cell columns row n)
+cell_lawful [] row n h = small_number 0 (omega arith)
+cell_lawful (c ∷ columns) [] n h = small_number 0 (omega arith)
+cell_lawful (c ∷ columns) (v ∷ row) n h =
+    elim (same c.0 n) as (λ b. IsLawful (cond b v (cell columns row n))) [ true ↦ h v (inl refl) | false ↦ cell_lawful columns row n (λ w m. h w (inr m)) ]
+
+cells_lawful : (columns cs : List Column) (row : Row) → AreValues row → IsLawfulRow (map (λ (c : Column). cell columns row c.0) cs)
+cells_lawful columns [] row h = tt
+cells_lawful columns (c ∷ cs) row h = (cell_lawful columns row c.0 h, cells_lawful columns cs row h)
+
+module _ (past : Past) (holds : PastHolds past) (q : ℕ) (table : List ℕ) (names : List (List ℕ)) where
+  abbrev all : List Column
+  all = columns_of (tables_of past q) table
+
+  abbrev rows : ℕ → Relation
+  rows m = rows_at (get (migrated past m q) table)
+
+  rows_hold : (m : ℕ) → HoldValues (rows m)
+  rows_hold m = held_rows (get (migrated past m q) table) (way_values past.versions holds.versions (version_at past m) q (database_at past m) (holds.databases m) table)
+
+  abbrev cut : Row → Row
+  cut row = map (λ (c : Column). cell all row c.0) (named names all)
+
+  row_fits : (m : ℕ) (x : Row) → In x (table_read past q table (whole names) m) → (length x ≡ length (named names all)) × IsLawfulRow x
+  row_fits m x i =
+      let kept : List Row = filter (meets all (whole names).test) (rows m) in
+      let g = from_map cut x kept (from_set row_cmp row_exact x (map cut kept) i) in
+      subst (λ (y : Row). (length y ≡ length (named names all)) × IsLawfulRow y) g.2
+      (length-map (named names all) (λ (c : Column). cell all g.0 c.0), cells_lawful all (named names all) g.0 (rows_hold m g.0 (from_filter (meets all (whole names).test) g.0 (rows m) g.1).0))
+
+  -- what is listed fits the columns
+  pub listed_fit : (slice : Span) (entries : List (Entry Row)) → IsListing row_cmp (table_read past q table (whole names)) slice entries → (n : ℕ) → n ≡ length (named names all) → Fit n entries
+  listed_fit slice entries h n e x i =
+      let is = h.each x i in
+      let first : x.period.start ≤ x.period.start = omega arith in
+      subst (λ (k : ℕ). (length x.item ≡ k) × IsLawfulRow x.item) (sym e) (row_fits x.period.start x.item (is.holds x.period.start first is.lasting))

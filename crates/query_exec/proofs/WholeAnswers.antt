@@ -1,0 +1,141 @@
+-- A query that is not refused, over the whole slice: its tables may be read, and what is listed is its answer.
+use Rattle.std.proofs.Common.{◌≡◌, ◌+◌, ◌<◌, ◌≤◌, ℕ, true, List, [], ◌∷◌, ◌++◌, map, length, refl, sym, ap, subst, ◌∙◌, inl, inr, arith}
+use Rattle.std.specs.Prelude.{None, ◌↔◌}
+use Rattle.std.specs.FinMap.{get}
+use Rattle.relations.specs.Sets.{In}
+use Rattle.relations.specs.Spans.{Span, covers, forever}
+use Rattle.relations.specs.Timed.{Entry}
+use Rattle.relations.specs.Listing.{IsListing}
+use Rattle.relations.proofs.ListingLaws.{listing_same}
+use Rattle.prima_base.specs.Order.{row_cmp}
+use Rattle.prima_base.specs.Keeping.{kept}
+use Rattle.cond_expr.specs.declared.exprs.ColRef.{ColRef}
+use Rattle.smo_types.specs.Commands.{PlainVersion}
+use Rattle.smo_meaning.specs.LawfulPast.{IsPast}
+use Rattle.smo_meaning.specs.OneRow.{Row, Relation}
+use Rattle.smo_meaning.specs.Past.{Past, no_tables, tables_from, tables_of, version_at}
+use Rattle.version_ways.specs.LostNames.{lost_names}
+use Rattle.version_ways.specs.Migration.{migrated}
+use Rattle.version_groups.specs.Groups.{Kept, versions_in}
+use Rattle.version_groups.specs.Showing.{Shows}
+use Rattle.version_groups.proofs.OwnMoments.{own_version}
+use Rattle.plain_answers.specs.Branches.{Item, PlainBranch, plain}
+use Rattle.plain_answers.specs.Naming.{names_at, names_from, all_references}
+use Rattle.plain_answers.specs.Reading.{needed, whole_rows}
+use Rattle.piece_meaning.specs.Rules.{Book, IsLawfulBook}
+use Rattle.rewrite_chains.specs.Beginnings.{IsQuestion}
+use Rattle.rewrite_chains.specs.Reading.{AreQuestions, Suffices}
+use Rattle.temporal_lang.specs.Queries.{PlainQuery, slice_of, IsLasting}
+use Rattle.temporal_lang.specs.Atoms.{branches_with_atoms}
+use Rattle.temporal_lang.specs.Answers.{asked_at, answer}
+use Rattle.query_pieces.specs.Piecewise.{asked_branches, IsAskedOf}
+use Rattle.query_pieces.proofs.ReadByPieces.{is_lasting, enough_asked, items_kept, asked_is, answer_is}
+use Rattle.period_split.specs.Splitting.{Part, split_by}
+use Rattle.query_exec.specs.declared.routes.Route.{Route}
+use Rattle.query_exec.specs.Accepted.{IsAccepted, MayItems, MayBranch, MayBranches, IsShown}
+use Rattle.query_exec.specs.Questions.{whole}
+use Rattle.query_exec.specs.Reads.{part_read, parts_read, items_read, branch_read, query_read}
+use Rattle.query_exec.specs.Routes.{IsRoute}
+use Rattle.query_exec.specs.Totals.{total}
+use Rattle.query_exec.proofs.RouteLaws.{each_lasts, covers_start, asked_of, of_asked}
+
+module _ (versions : List PlainVersion) (route : Route) where
+  -- none of the tables is lost on the way from a part's version
+  abbrev NoneLost : List Item → Type 0
+  NoneLost from = (x : Item) → In x from → (p : Part) → In p route.later.items → get (lost_names versions p.1 route.asked) x.0 ≡ None
+
+module _ (past : Past) (is : IsPast past) (route : Route) where
+  may_items : (rs : List ColRef) (i : ℕ) (from : List Item) → AreQuestions (tables_of past route.asked) from (whole_rows (names_from i from rs)) → NoneLost past.versions route from
+      → MayItems past.versions route rs i from
+  may_items rs i [] asked none = tt
+  may_items rs i (x ∷ from) asked none = (
+    record { question = record { lawful = is.evolved; question = asked.0 }; kept = none x (inl refl) },
+    may_items rs (i + 1) from asked.1 (λ y m. none y (inr m)),
+  )
+
+  may_branches : (bs : List PlainBranch) → ((b : PlainBranch) → In b bs → Suffices (tables_of past route.asked) (needed b) b) → ((b : PlainBranch) → In b bs → NoneLost past.versions route b.from)
+      → MayBranches past.versions route bs
+  may_branches [] s none = tt
+  may_branches (b ∷ bs) s none =
+      (may_items (all_references b.outs b.cond) 0 b.from (s b (inl refl)).asked (none b (inl refl)), may_branches bs (λ c m. s c (inr m)) (λ c m. none c (inr m)))
+
+module _ (kept_ : Kept) (past : Past) (asked query : PlainQuery) (shows : Shows kept_ past) (h : IsAccepted past asked query) where
+  same_version : query.version ≡ asked.version
+  same_version = ap (λ (q : PlainQuery). q.version) h.atoms
+
+  same_when : query.when ≡ asked.when
+  same_when = ap (λ (q : PlainQuery). q.when) h.atoms
+
+  same_branches : query.branches ≡ branches_with_atoms (tables_of past asked.version) asked.branches
+  same_branches = ap (λ (q : PlainQuery). q.branches) h.atoms
+
+  pub lasts : IsLasting query.when
+  lasts = subst (λ w. IsLasting w) (sym same_when) (is_lasting past asked h.accepted)
+
+  module _ (route : Route) (r : IsRoute (versions_in kept_) route) (at : route.asked ≡ query.version) (over : route.slice ≡ slice_of query.when) where
+    here : IsRoute past.versions route
+    here = subst (λ (vs : List PlainVersion). IsRoute vs route) shows.versions r
+
+    part_asked : (p : Part) → In p route.later.items → IsAskedOf asked p.0.start × (version_at past p.0.start ≡ p.1)
+    part_asked p i =
+        let c = covers_start p.0 (each_lasts (route.asked + 1) route.later.items p here.on i) in
+        let own = here.later p i in (
+          asked_of asked p.0.start (subst (λ (s : Span). covers s p.0.start ≡ true) (over ∙ ap slice_of same_when) (here.within p i p.0.start c)),
+          own_version past shows.lawful p.1 p.0.start own.there (own.moments p.0.start c),
+        )
+
+    none_lost : (b : PlainBranch) → In b (asked_branches past asked) → NoneLost past.versions route b.from
+    none_lost b m x k p i =
+        let a = part_asked p i in
+        subst (λ (q : ℕ). get (lost_names past.versions p.1 q) x.0 ≡ None) (sym (at ∙ same_version))
+        (subst (λ (v : ℕ). get (lost_names past.versions v asked.version) x.0 ≡ None) a.1 (items_kept past asked h.accepted p.0.start a.0 b m x k))
+
+    may_asked : MayBranches past.versions route (asked_branches past asked)
+    may_asked =
+        may_branches past shows.lawful route (asked_branches past asked)
+        (λ b m. subst (λ (q : ℕ). Suffices (tables_of past q) (needed b) b) (sym (at ∙ same_version)) (enough_asked past asked h.accepted b m)) none_lost
+
+    -- the tables of its branches' items may be read
+    pub may_all : MayBranches (versions_in kept_) route query.branches
+    may_all =
+        subst (λ (bs : List PlainBranch). MayBranches (versions_in kept_) route bs) (sym same_branches)
+        (subst (λ (vs : List PlainVersion). MayBranches vs route (asked_branches past asked)) (sym shows.versions) may_asked)
+
+    module _ (relation : ℕ → Relation) (rows : (m : ℕ) → covers route.slice m ≡ true → relation m ≡ plain (tables_of past route.asked) query.branches (migrated past m route.asked)) where
+      read : (m : ℕ) → IsAskedOf asked m → relation m ≡ asked_at past asked m
+      read m k =
+          rows m (subst (λ (s : Span). covers s m ≡ true) (sym (over ∙ ap slice_of same_when)) (of_asked asked m k))
+          ∙ ap (λ (q : ℕ). plain (tables_of past q) query.branches (migrated past m q)) (at ∙ same_version)
+          ∙ ap (λ (bs : List PlainBranch). plain (tables_of past asked.version) bs (migrated past m asked.version)) same_branches
+
+      agree : (x : Row) (m : ℕ) → (slice_of asked.when).start ≤ m → m < (slice_of asked.when).end → In x (relation m) ↔ In x (asked_at past asked m)
+      agree x m a b =
+          let same : relation m ≡ asked_at past asked m = read m (record { from = a; to = b }) in
+          (λ i. subst (λ (r : Relation). In x r) same i, λ i. subst (λ (r : Relation). In x r) (sym same) i)
+
+      -- and what is listed of its branches' answers is the listing of what it asks of each moment
+      pub whole_listing : (entries : List (Entry Row)) → IsListing row_cmp relation (slice_of query.when) entries → IsListing row_cmp (asked_at past asked) (slice_of asked.when) entries
+      whole_listing entries listed =
+          listing_same row_cmp relation (asked_at past asked) (slice_of asked.when) entries agree (subst (λ w. IsListing row_cmp relation (slice_of w) entries) same_when listed)
+
+      -- of which its answer is what KEEP keeps
+      pub whole_answer : (book : Book) → IsLawfulBook book → (slice_of query.when).end ≤ forever → (entries : List (Entry Row)) → IsListing row_cmp relation (slice_of query.when) entries
+          → kept asked.keep entries ≡ answer past asked
+      whole_answer book lawful ends entries listed =
+          answer_is past asked h.accepted book lawful shows.lawful shows.values (subst (λ w. (slice_of w).end ≤ forever) same_when ends) relation
+          (λ m k. read m k ∙ asked_is past asked h.accepted book lawful shows.lawful shows.values m k) entries
+          (subst (λ w. IsListing row_cmp relation (slice_of w) entries) same_when listed)
+
+-- ---- what is read
+
+module _ (kept_ : Kept) (book : Book) (q : ℕ) (ps qs : List Part) (same : (f : Part → ℕ) → total f ps ≡ total f qs) where
+  items_same : (rs : List ColRef) (i : ℕ) (from : List Item) → items_read kept_ book q ps rs i from ≡ items_read kept_ book q qs rs i from
+  items_same rs i [] = refl
+  items_same rs i (x ∷ from) =
+      let a = same (part_read kept_ book q x.0 (whole (names_at i rs))) in
+      let b = items_same rs (i + 1) from in
+      omega arith
+
+  pub branches_same : (bs : List PlainBranch) → total (branch_read kept_ book q ps) bs ≡ total (branch_read kept_ book q qs) bs
+  branches_same [] = refl
+  branches_same (b ∷ bs) = (let a = items_same (all_references b.outs b.cond) 0 b.from in let d = branches_same bs in omega arith)

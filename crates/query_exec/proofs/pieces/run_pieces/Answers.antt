@@ -1,0 +1,43 @@
+use Rattle.std.proofs.Common.{◌<◌, List, length, ap, ◌∙◌, arith}
+use Rattle.std.proofs.lemmas.List.{take_all}
+use Rattle.prima_base.specs.declared.timed_rows.TimedRow.{TimedRow}
+use Rattle.prima_base.specs.Timed.{rows_at}
+use Rattle.piece_meaning.specs.Pieces.{all_mean}
+use Rattle.piece_ir.specs.Shown.{pieces_of}
+use Rattle.piece_ir.specs.declared.pieces.Piece.{Piece}
+use Rattle.query_pieces.proofs.RunPieces.{none_run}
+use Rattle.smo_meaning.specs.Past.{tables_of, database_at}
+use Rattle.rewrite.proofs.CodeSteps.{typed_at}
+use Rattle.query_exec.proofs.PieceRows.{next_run, none_behind, nothing_at, reads_left}
+use Rattle.query_exec.proofs.pieces.run_pieces.Goals as goal
+
+pub run_piece-requires : goal.run_piece-requires
+run_piece-requires g c =
+    let below : c.loop-piece.piece-index < length c.args.pieces.now = omega arith in
+    (c.requires.0, c.requires.1, c.requires.2, typed_at (tables_of c.requires.0 c.args.version) c.args.pieces.now c.loop-piece.piece-index c.piece-item.result below c.piece-item.is c.requires.3)
+
+pub loop-piece-preserved : goal.loop-piece-preserved
+loop-piece-preserved g c =
+    let below : c.loop-piece.piece-index < length c.args.pieces.now = omega arith in
+    record {
+      rows = λ past shows m inside force.
+          next_run c.args.pieces.now c.loop-piece.piece-index c.piece-item.result below c.piece-item.is (tables_of past c.args.version) (database_at past m)
+          c.loop-piece.rows.items c.in_ok-news.news.items c.append.new.self.items m c.in_ok-append.ensures.items
+          (c.loop-piece.invariant.rows past shows m inside force) (c.in_ok-news.ensures.rows past shows m inside force);
+      inside = λ m outside.
+          none_behind c.loop-piece.rows.items c.in_ok-news.news.items c.append.new.self.items m c.in_ok-append.ensures.items
+          (c.loop-piece.invariant.inside m outside) (c.in_ok-news.ensures.inside m outside);
+      count = omega (arith, c.loop-piece.invariant.count, c.run_piece.ensures.cost, reads_left c.args.pieces.now c.loop-piece.piece-index c.piece-item.result below c.piece-item.is c.args.groups.now c.args.version);
+    }
+
+pub loop-piece-init : goal.loop-piece-init
+loop-piece-init g c = record {
+  rows = λ past shows m inside force. ap (λ (rs : List TimedRow). rows_at rs m) c.new-rows.ensures.items ∙ none_run (tables_of past c.args.version) (database_at past m) m;
+  inside = λ m outside. ap (λ (rs : List TimedRow). rows_at rs m) c.new-rows.ensures.items ∙ nothing_at m;
+  count = omega arith;
+}
+
+pub returns-clause-rows : goal.returns-clause-rows
+returns-clause-rows g c = λ past shows m inside force.
+    c.loop-piece.invariant.rows past shows m inside force
+    ∙ ap (λ (ps : List Piece). all_mean (tables_of past c.args.version) (database_at past m) (pieces_of ps)) (take_all c.loop-piece.piece-index c.args.pieces.now c.loop-piece-test.false)

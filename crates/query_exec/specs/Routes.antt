@@ -1,0 +1,53 @@
+-- The parts of a slice, as they are reached from the version that is asked: back from it, and on behind it.
+use Rattle.std.specs.Prelude.{◌≡◌, ℕ, ◌+◌, ◌<◌, ◌≤◌, ◌++◌, true, nat_lt, List, [], ◌∷◌, length, map, None, ⊤, if◌then◌else◌}
+use Rattle.std.specs.List.{filter}
+use Rattle.std.specs.FinMap.{get}
+use Rattle.relations.specs.Sets.{In}
+use Rattle.relations.specs.Spans.{Span, covers, forever}
+use Rattle.smo_types.specs.Commands.{PlainVersion}
+use Rattle.version_ways.specs.LostNames.{lost_names}
+use Rattle.version_groups.specs.Showing.{IsInForce}
+use Rattle.plain_answers.specs.Reading.{Read}
+use Rattle.rewrite_chains.specs.Standing.{MayBeAsked}
+use Rattle.query_pieces.specs.Gathering.{HasMoment}
+use Rattle.period_split.specs.Splitting.{Part, AscendFrom}
+use Rattle.query_exec.specs.declared.routes.Route.{Route}
+
+-- those of the asked version and of versions before it, from the last to the first
+abbrev pub back_from : ℕ → List Part → List Part
+back_from asked [] = []
+back_from asked (p ∷ parts) = back_from asked parts ++ (if nat_lt asked p.1 then [] else p ∷ [])
+
+-- those of later versions
+abbrev pub on_from : ℕ → List Part → List Part
+on_from asked parts = filter (λ (p : Part). nat_lt asked p.1) parts
+
+-- no part has a later version than the one before it, and the first none later than this one
+abbrev pub DescendFrom : ℕ → List Part → Type 0
+DescendFrom high [] = ⊤
+DescendFrom high (p ∷ parts) = (p.1 ≤ high) × DescendFrom p.1 parts
+
+-- the version is there, and in force at each moment of the part
+pub record IsOwn (versions : List PlainVersion) (p : Part) : Type 0 where
+  pub there : p.1 ≤ length versions
+  pub moments : (m : ℕ) → covers p.0 m ≡ true → IsInForce versions p.1 m
+
+abbrev pub spans_of : List Part → List Span
+spans_of parts = map (λ (p : Part). p.0) parts
+
+-- the parts are in the order in which a walk from the asked version comes to them, each belongs to its version, and together
+-- they have each moment of the slice
+pub record IsRoute (versions : List PlainVersion) (route : Route) : Type 0 where
+  pub asked : route.asked ≤ length versions
+  pub ends : route.slice.end ≤ forever
+  pub back : DescendFrom route.asked route.earlier.items
+  pub on : AscendFrom (route.asked + 1) route.later.items
+  pub earlier : (p : Part) → In p route.earlier.items → IsOwn versions p
+  pub later : (p : Part) → In p route.later.items → IsOwn versions p
+  pub within : (p : Part) → In p route.later.items → (m : ℕ) → covers p.0 m ≡ true → covers route.slice m ≡ true
+  pub all : (m : ℕ) → m < forever → covers route.slice m ≡ true → HasMoment (spans_of route.earlier.items ++ spans_of route.later.items) m
+
+-- something is asked of the table, which is not lost on the way from any of the parts' versions
+pub record MayBeRead (versions : List PlainVersion) (route : Route) (table : List ℕ) (r : Read) : Type 0 where
+  pub question : MayBeAsked versions route.asked table r
+  pub kept : (p : Part) → In p route.later.items → get (lost_names versions p.1 route.asked) table ≡ None

@@ -1,0 +1,59 @@
+//! A query on any version, answered.
+
+ghost use Rattle.std.specs.Prelude.{◌≡◌, ◌+◌, ◌≤◌, IfOk, length};
+ghost use Rattle.relations.specs.Listing.{IsListing};
+ghost use Rattle.prima_base.specs.Keeping.{kept};
+ghost use Rattle.prima_base.specs.Order.{row_cmp};
+ghost use Rattle.prima_base.specs.Timed.{entries_of};
+ghost use Rattle.smo_meaning.specs.Past.{Past};
+ghost use Rattle.temporal_lang.specs.Answers.{asked_at, answer};
+ghost use Rattle.temporal_lang.specs.Queries.{PlainQuery, query_of, slice_of, IsLasting};
+ghost use Rattle.version_groups.specs.Showing.{Shows};
+ghost use Rattle.rewrite.specs.Books.{meaning_of, EachOf};
+ghost use Rattle.query_exec.specs.Accepted.{IsAccepted, IsShown};
+ghost use Rattle.query_exec.specs.Reads.{query_read};
+
+use crate::branches::answer_branches;
+use crate::routes::{ends_in_time, route_of};
+use coalesce::coalesce_in_place;
+use prima_base::{NoMemory, Steps, TimedRow};
+use rule_book::{Rule, RuleBook};
+use std::alloc::Global;
+use std::sync::ledger::Ledger;
+use temporal_lang::{Query, slice};
+use version_groups::Groups;
+
+/// What a query lists, over all of history: each row with the longest periods of its slice in which it holds, over the borders of
+/// versions too, ascending by row and start. KEEP is left to the caller. The query is one that is not refused, with each reference
+/// made one to an atom; the groups show the past, and the book has a rule for each kind of operator.
+///
+/// A table's pieces at a version are made from those at its neighbour, so each rule is asked once a version and piece. It takes at
+/// most as many steps as there are, for each version of the slice, item and piece, keys of the piece's tables and entries of the
+/// columns that it names of them. The one error is `NoMemory`, where memory runs out.
+pub fn answer<'a, L: Ledger>(
+    alloc: Global,
+    groups: &'a Groups,
+    book: &RuleBook,
+    query: &Query,
+    steps: &mut Steps<L>,
+) -> Result<Vec<TimedRow<'a>>, NoMemory>
+    requires each { EachOf book.now.rules.items (λ r. handles (r.vtable, r.value)) }
+    requires shown { IsShown groups.now (query_of query.now) }
+    requires there { query.now.version ≤ length groups.now.versions }
+    requires lasting { IsLasting query.now.when }
+    ensures listed { (past : Past) → (asked : PlainQuery) → Shows groups.now past → IsAccepted past asked (query_of query.now)
+        → IfOk result (λ rows. IsListing row_cmp (asked_at past asked) (slice_of asked.when) (entries_of rows.items)) }
+    ensures rows { (past : Past) → (asked : PlainQuery) → Shows groups.now past → IsAccepted past asked (query_of query.now) → IfOk result (λ rows. kept asked.keep (entries_of rows.items) ≡ answer past asked) }
+    ensures cost { steps.new ≤ steps.old + query_read groups.now (meaning_of book.now.rules.items (λ r. handles (r.vtable, r.value)) (λ r. answers (r.vtable, r.value))) (query_of query.now) }
+{
+    book.known();
+    let slice = slice(query);
+    ends_in_time(slice);
+    let route = route_of(alloc, groups, slice, query.version)?;
+    let Some(schema) = groups.schema(query.version) else {
+        unreachable!()
+    };
+    let mut rows = answer_branches(alloc, groups, book, &route, schema, &query.branches, steps)?;
+    coalesce_in_place(&mut rows, slice);
+    Ok(rows)
+}

@@ -1,0 +1,113 @@
+//! The table of an item of a FROM, read as an atom of a join.
+
+ghost use Rattle.std.specs.Prelude.{◌≡◌, ◌+◌, ◌++◌, ◌≤◌, IfOk, OnOk};
+ghost use Rattle.cond_expr.specs.References.{lent};
+ghost use Rattle.smo_meaning.specs.Effects.{columns_of};
+ghost use Rattle.smo_meaning.specs.Making.{named};
+ghost use Rattle.smo_meaning.specs.Past.{Past, no_tables, tables_from};
+ghost use Rattle.smo_meaning.specs.Preconditions.{among};
+ghost use Rattle.version_groups.specs.Groups.{versions_in};
+ghost use Rattle.version_groups.specs.Showing.{Shows};
+ghost use Rattle.cond_expr.specs.AtomColumns.{columns_at};
+ghost use Rattle.plain_answers.specs.Naming.{names_at};
+ghost use Rattle.rewrite.specs.Books.{meaning_of, EachOf};
+ghost use Rattle.query_exec.specs.Accepted.{IsRead};
+ghost use Rattle.query_exec.specs.Questions.{whole};
+ghost use Rattle.query_exec.specs.Routes.{IsRoute, MayBeRead};
+ghost use Rattle.query_exec.specs.Reads.{parts_read};
+
+use crate::routes::Route;
+use crate::tables::read_table;
+use cond_expr::{ColRef, Column};
+use join_exec::names_at;
+use joining::Atom;
+use prima_base::{ColType, Name, NoMemory, Steps, same_name};
+use rule_book::{Rule, RuleBook};
+use schema_catalog::Schema;
+use std::alloc::Global;
+use std::sync::ledger::Ledger;
+use version_groups::Groups;
+
+fn is_among(name: &Name, names: &[Name]) -> bool
+    ensures { result ≡ among name.now names.now }
+{
+    for other in names {
+        if same_name(name, other) {
+            return true;
+        }
+    }
+    false
+}
+
+// Puts the columns that are named, as those of an atom, behind what is there.
+fn push_named(
+    into: &mut Vec<Column>,
+    atom: u32,
+    columns: &[(Name, ColType)],
+    names: &[Name],
+) -> Result<(), NoMemory>
+    ensures { OnOk result (into.new.items ≡ into.old.items ++ columns_at atom (named names.now columns.now)) }
+{
+    match columns {
+        [] => Ok(()),
+        [column, rest @ ..] => {
+            if !is_among(&column.0, names) {
+                return push_named(into, atom, rest, names);
+            }
+            into.push(Column {
+                atom,
+                name: column.0.copy()?,
+                kind: column.1,
+            })?;
+            push_named(into, atom, rest, names)
+        }
+    }
+}
+
+// The columns of the table that are named, as those of an atom.
+fn named_columns(
+    alloc: Global,
+    atom: u32,
+    schema: &Schema,
+    table: &Name,
+    names: &[Name],
+) -> Result<Vec<Column>, NoMemory>
+    ensures { IfOk result (λ v. v.items ≡ columns_at atom (named names.now (columns_of schema.now table.now))) }
+{
+    let mut columns = Vec::new(alloc);
+    if let Some(found) = schema.table(table) {
+        push_named(&mut columns, atom, found.columns(), names)?;
+    }
+    Ok(columns)
+}
+
+/// What is read of an item's table over the slice, in the columns that are named of it, as the atom that is the item's place.
+pub(crate) fn read_item<'a, L: Ledger>(
+    alloc: Global,
+    groups: &'a Groups,
+    book: &RuleBook,
+    route: &Route,
+    schema: &Schema,
+    place: u32,
+    table: &Name,
+    references: &[&ColRef],
+    steps: &mut Steps<L>,
+) -> Result<Atom<'a>, NoMemory>
+    requires each { EachOf book.now.rules.items (λ r. handles (r.vtable, r.value)) }
+    requires shows { (past : Past) × Shows groups.now past }
+    requires route { IsRoute (versions_in groups.now) route.now }
+    requires schema { schema.now ≡ tables_from no_tables (versions_in groups.now) route.now.asked }
+    requires read { MayBeRead (versions_in groups.now) route.now table.now (whole (names_at place (lent references.now))) }
+    ensures atom { (past : Past) → Shows groups.now past → IfOk result (λ a. IsRead past route.now place table.now (names_at place (lent references.now)) a) }
+    ensures cost { steps.new ≤ steps.old + (parts_read groups.now (meaning_of book.now.rules.items (λ r. handles (r.vtable, r.value)) (λ r. answers (r.vtable, r.value))) route.now.asked table.now (whole (names_at place (lent references.now))) route.now.earlier.items
+        + parts_read groups.now (meaning_of book.now.rules.items (λ r. handles (r.vtable, r.value)) (λ r. answers (r.vtable, r.value))) route.now.asked table.now (whole (names_at place (lent references.now))) route.now.later.items) }
+{
+    let names = names_at(alloc, references, place)?;
+    let columns = named_columns(alloc, place, schema, table, &names)?;
+    let rows = read_table(alloc, groups, book, route, table, &names, steps)?;
+    Ok(Atom {
+        number: place,
+        columns,
+        rows,
+    })
+}

@@ -1,0 +1,15 @@
+//! Queries on any version: read version by version from the stored tables, through pieces that a book of rules takes along the
+//! versions, joined over time and listed over the whole slice (PRIMA 2008).
+#![tactic(auto)]
+
+mod answers;
+mod branches;
+mod items;
+mod losses;
+mod pieces;
+mod routes;
+mod tables;
+mod walks;
+
+pub use answers::answer;
+pub use losses::first_loss;
