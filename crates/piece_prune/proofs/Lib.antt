@@ -1,0 +1,3 @@
+pub mod LawfulCells
+pub mod Pruned
+pub mod PushedTypes
