@@ -28,3 +28,5 @@ pub mod Preparing
 pub mod Rule
 pub mod Inserting
 pub mod Counts
+pub mod Cutting
+pub mod Replacing

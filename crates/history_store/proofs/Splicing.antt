@@ -285,7 +285,7 @@ module _ (columns : List (List Write)) (live : List ℕ) (row : List Value) (nex
       first d [] = d
       first d (r ∷ rs) = r
 
-  one_joined : IsJoined columns live (next ∷ []) (insert live at next) (row ∷ [])
+  pub one_joined : IsJoined columns live (next ∷ []) (insert live at next) (row ∷ [])
   one_joined = record {
     stay = λ q i. insert_old live at next q h i;
     given = λ q i. elim i [ inl e ↦ subst (λ n. In n (insert live at next)) e (in_insert live at next h) | inr j ↦ absurd j ];

@@ -12,3 +12,4 @@ pub mod Change
 pub mod TableFields
 pub mod Scans
 pub mod ScanFields
+pub mod Cuts

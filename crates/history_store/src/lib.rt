@@ -14,10 +14,12 @@
 
 mod changes;
 mod columns;
+mod cuts;
 mod scans;
 mod splices;
 mod tables;
 mod walks;
 
+pub use cuts::{Cut, LentRows};
 pub use scans::{CellEntry, CellScan, KeyEntry, KeyScan};
 pub use tables::{Prepared, StoredTable};

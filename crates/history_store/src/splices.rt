@@ -1,8 +1,9 @@
 //! The ids of lost rows taken out of the index, and the ids of gained rows put into it. Each row is found by
-//! binary search; the rest is moved without a look at its rows. Where one row comes and none goes, its place alone
-//! is kept, and nothing is moved before the change is carried out.
+//! binary search; the rest is moved without a look at its rows. Where at most one row comes and
+//! at most one goes, their places alone are kept, and nothing is moved before the change is carried out.
 
-ghost use Rattle.std.specs.Prelude.{◌≡◌, ◌+◌, ◌^◌, ◌<◌, ◌≤◌, IfOk, List, ℕ, length, slice_index, slice_index_or, vec_len, vec_capacity};
+ghost use Rattle.std.specs.Prelude.{◌≡◌, ◌+◌, ◌-◌, ◌^◌, ◌<◌, ◌≤◌, IfOk, List, [], ◌∷◌, ℕ, length, nat_lt, if◌then◌else◌, slice_index, slice_index_or, vec_len, vec_capacity};
+ghost use Rattle.std.specs.List.{insert, remove};
 ghost use Rattle.std.specs.declared.cmp.Ordering.TheVariants.{Less, Greater};
 ghost use Rattle.relations.specs.Sets.{Ascends, In};
 ghost use Rattle.prima_base.specs.Order.{row_cmp};
@@ -26,6 +27,10 @@ pub enum After {
     Whole(Vec<usize>),
     /// The ids of the index before the change, and the next new one at this place.
     OneMore(usize),
+    /// Those ids, but for the one at this place.
+    OneLess(usize),
+    /// Those ids, where the one at the first place comes to the second among the others.
+    OneMoved(usize, usize),
 }
 
 // The place of the id whose row this is.
@@ -117,8 +122,68 @@ pub fn put_in(
     Ok(after)
 }
 
-/// The ids of the lost rows, and the index behind the change. For one gained row and none lost that is its place,
-/// which takes no memory.
+// The ids alone of one that goes.
+fn one_id(alloc: Global, id: usize) -> Result<Vec<usize>, NoMemory>
+    ensures { IfOk result (λ ids. ids.items ≡ id ∷ []) }
+{
+    let mut ids = Vec::with_capacity(alloc, 1)?;
+    ids.push(id)?;
+    Ok(ids)
+}
+
+// The same where one row is lost and none gained.
+fn splice_out(
+    alloc: Global,
+    columns: &[Column],
+    live: &[usize],
+    lost: &Row,
+) -> Result<(Vec<usize>, After), NoMemory>
+    requires lost_wide { length lost.now ≡ length columns.now }
+    requires known { (id : ℕ) → In id live.now → (k : ℕ) (d : Log) → k < length columns.now → id < (slice_index_or columns.now k d).ids }
+    requires live_rise { Ascends row_cmp (rows_of live.now (cells_of columns.now)) }
+    requires there { In lost.now (rows_of live.now (cells_of columns.now)) }
+    ensures spliced { (next : ℕ) → IfOk result (λ (found, after). IsSpliced (cells_of columns.now) live.now (lost.now ∷ []) next [] found.items (ids_behind (index_of after) live.now next)) }
+    ensures placed { IfOk result (λ (_found, after). IsPlaced (index_of after) live.now) }
+    ensures more { IfOk result (λ (_found, after). more_ids (index_of after) ≡ 0) }
+{
+    let at = found_place(columns, live, lost.values());
+    let found = one_id(alloc, live[at])?;
+    Ok((found, After::OneLess(at)))
+}
+
+// The place among the others, where one at this place is out.
+fn place_without(free: usize, from: usize) -> usize
+    ensures { result ≡ (if nat_lt from free then free - 1 else free) }
+{
+    if from < free { free - 1 } else { free }
+}
+
+// The same where one row is lost and one gained.
+fn splice_over(
+    alloc: Global,
+    columns: &[Column],
+    live: &[usize],
+    lost: &Row,
+    gained: &Row,
+) -> Result<(Vec<usize>, After), NoMemory>
+    requires lost_wide { length lost.now ≡ length columns.now }
+    requires gained_wide { length gained.now ≡ length columns.now }
+    requires known { (id : ℕ) → In id live.now → (k : ℕ) (d : Log) → k < length columns.now → id < (slice_index_or columns.now k d).ids }
+    requires live_rise { Ascends row_cmp (rows_of live.now (cells_of columns.now)) }
+    requires there { In lost.now (rows_of live.now (cells_of columns.now)) }
+    requires fresh { In gained.now (rows_of live.now (cells_of columns.now)) → ⊥ }
+    ensures spliced { (next : ℕ) → IfOk result (λ (found, after). IsSpliced (cells_of columns.now) live.now (lost.now ∷ []) next (gained.now ∷ []) found.items (ids_behind (index_of after) live.now next)) }
+    ensures placed { IfOk result (λ (_found, after). IsPlaced (index_of after) live.now) }
+    ensures more { IfOk result (λ (_found, after). more_ids (index_of after) ≡ 0) }
+{
+    let at = found_place(columns, live, lost.values());
+    let free = free_place(columns, live, gained.values());
+    let found = one_id(alloc, live[at])?;
+    Ok((found, After::OneMoved(at, place_without(free, at))))
+}
+
+/// The ids of the lost rows, and the index behind the change. Where at most one row is lost and at most one gained that
+/// is a place or two, and no index is copied.
 pub fn splice(
     alloc: Global,
     columns: &[Column],
@@ -144,12 +209,47 @@ pub fn splice(
         let at = free_place(columns, live, gained[0].values());
         return Ok((Vec::new(alloc), After::OneMore(at)));
     }
+    if lost.len() == 1 && gained.is_empty() {
+        return splice_out(alloc, columns, live, &lost[0]);
+    }
+    if lost.len() == 1 && gained.len() == 1 {
+        return splice_over(alloc, columns, live, &lost[0], &gained[0]);
+    }
     let (found, kept) = take_out(alloc, columns, live, lost)?;
     let after = put_in(alloc, columns, &kept, &found, next, gained)?;
     Ok((found, After::Whole(after)))
 }
 
-/// Makes the index the one behind the change. It takes no memory.
+// Moves the id at the first place up to the second.
+fn move_up(live: &mut Vec<usize>, from: usize, to: usize)
+    requires order { from ≤ to }
+    requires within { to < vec_len live.old }
+    ensures { live.new.items ≡ insert (remove live.old.items from) to (slice_index live.old.items from) }
+{
+    for at in from..to {
+        let later = live[at + 1];
+        live[at + 1] = live[at];
+        live[at] = later;
+    }
+}
+
+// Moves the id at the first place down to the second.
+fn move_down(live: &mut Vec<usize>, from: usize, to: usize)
+    requires order { to ≤ from }
+    requires within { from < vec_len live.old }
+    ensures { live.new.items ≡ insert (remove live.old.items from) to (slice_index live.old.items from) }
+{
+    let mut at = from;
+    'down: while to < at {
+        let earlier = live[at - 1];
+        live[at - 1] = live[at];
+        live[at] = earlier;
+        at -= 1;
+    }
+}
+
+/// Makes the index the one behind the change. It takes no memory; what is between two places is moved, and no row
+/// looked at.
 pub fn change_index(live: &mut Vec<usize>, after: After, next: usize)
     requires placed { IsPlaced (index_of after) live.old.items }
     requires room { vec_len live.old + more_ids (index_of after) ≤ vec_capacity live.old }
@@ -158,6 +258,16 @@ pub fn change_index(live: &mut Vec<usize>, after: After, next: usize)
     match after {
         After::Whole(ids) => *live = ids,
         After::OneMore(at) => index_in(live, at, next),
+        After::OneLess(at) => {
+            live.remove(at);
+        }
+        After::OneMoved(from, to) => {
+            if from < to {
+                move_up(live, from, to);
+            } else {
+                move_down(live, from, to);
+            }
+        }
     }
 }
 

@@ -1,5 +1,6 @@
 use crate::changes::{carry_out, empty_columns, reserve_rows};
 use crate::columns::Column;
+use crate::cuts::{Cut, LentRows, count_before};
 use crate::scans::{CellScan, KeyScan};
 use crate::splices::{After, change_index, copy_given, splice};
 use crate::walks::{
@@ -79,6 +80,7 @@ impl StoredTable {
     ghost use Rattle.history_store.specs.Handing.{new_keys, handed, only_in, cells_added};
     ghost use Rattle.history_store.specs.Change.{Plan, IsPlan, rows_after, rows_along, changed, keys_after, cells_after, write_rows, no_cells};
     ghost use Rattle.history_store.specs.Scans.{keys_from};
+    ghost use Rattle.history_store.specs.Cuts.{between};
 
     /// A table of these columns, which stand in the order of their names: from the stamp on its relation
     /// is `rows`, before it is empty. The one error is `NoMemory`, where memory runs out.
@@ -147,8 +149,8 @@ impl StoredTable {
 
     /// Makes the change that loses and gains these rows ready, and all the room that installing it needs. Each
     /// row is found by binary search: for m rows in a table of n that is in the order of m log n comparisons of
-    /// rows. Where one row is gained and none lost, the index of the current rows is not copied: the place of the new
-    /// id in it is kept, and room for one more reserved, as `Vec::reserve` does. The one error is `NoMemory`, where
+    /// rows. Where at most one row is gained and at most one lost, the index of the current rows is not copied: the
+    /// places in it are kept, and room for what is gained reserved, as `Vec::reserve` does. The one error is `NoMemory`, where
     /// memory runs out.
     pub fn prepare_change(
         &mut self,
@@ -193,8 +195,9 @@ impl StoredTable {
     }
 
     /// Carries out what was made ready: from its stamp on the relation is the one that it was made for,
-    /// and before it nothing changes. It takes no memory. The index of the current rows gets the one new id at its
-    /// place, which moves the ids behind it, or it is replaced by the whole one that was made ready.
+    /// and before it nothing changes. It takes no memory. The index of the current rows gets or loses the one id at its
+    /// place, which moves the ids behind it, or has one put at another place, which moves those between, or it is replaced
+    /// by the whole one that was made ready.
     pub fn install(&mut self, prepared: Prepared)
         requires fits { IsPlan self.old prepared }
         requires room { length prepared.gained ≤ self.old.spare }
@@ -228,6 +231,13 @@ impl StoredTable {
         copy_rows(self.alloc, &self.logs, &self.live)
     }
 
+    /// What the table has now is a relation of its columns.
+    pub fn rows_are_a_relation(&self)
+        ensures { (m : ℕ) → m < forever → AllBefore self.now (m + 1) → IsRelation self.now.columns (relation_at self.now m) }
+    {
+        let _count = self.live.len();
+    }
+
     /// Whether the table has this row now, found by binary search. What the table has now it has from its last
     /// stamp on. It takes no memory.
     pub fn holds(&self, row: &Row) -> bool
@@ -241,6 +251,19 @@ impl StoredTable {
             Ok(_) => true,
             Err(_) => false,
         }
+    }
+
+    /// The current rows from the one cut to the other, lent, ascending. They are found by binary search: for any number
+    /// of rows in a table of n it takes in the order of log n comparisons. What the table has now it has from its last
+    /// stamp on. It takes no memory.
+    pub fn between(&self, from: &Cut, to: &Cut) -> LentRows<'_>
+        requires from { length from.now.values ≤ length self.now.columns }
+        requires to { length to.now.values ≤ length self.now.columns }
+        ensures rows { (m : ℕ) → m < forever → AllBefore self.now (m + 1) → result ≡ between from.now to.now (relation_at self.now m) }
+    {
+        let end = count_before(&self.logs, &self.live, to);
+        let start = count_before(&self.logs, &self.live, from).min(end);
+        LentRows::over(&self.logs, &self.live[start..end])
     }
 
     /// A scan of the keys, ascending by id. It takes no memory.

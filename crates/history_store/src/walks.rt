@@ -1,7 +1,7 @@
 ghost use Rattle.std.specs.Prelude.{IfSome, option_map, List};
 ghost use Rattle.history_store.specs.declared.columns.Write.{Write as OneWrite};
 ghost use Rattle.history_store.specs.Store.{Cell, named};
-ghost use Rattle.std.specs.Prelude.{◌≡◌, [], slice_index, IfErr, vec_len, vec_capacity, ◌⊎◌, ◌∷◌, ℕ, Option, ◌+◌, ◌^◌, ◌<◌, ◌≤◌, ◌++◌, drop, length, All, slice_index_or, IfOk, OnOk};
+ghost use Rattle.std.specs.Prelude.{◌≡◌, [], slice_index, IfErr, vec_len, vec_capacity, ◌⊎◌, ◌∷◌, ℕ, Option, ◌+◌, ◌^◌, ◌<◌, ◌≤◌, ◌++◌, take, drop, length, All, slice_index_or, IfOk, OnOk};
 ghost use Rattle.std.specs.List.{insert};
 ghost use Rattle.history_store.specs.Logs.{cells_of};
 ghost use Rattle.history_store.specs.Log.{Log};
@@ -43,19 +43,29 @@ pub fn column_place(columns: &[(Name, ColType)], name: &Name) -> Option<usize>
     None
 }
 
-/// Compares the newest row of the id with this one.
-pub fn compare_now(columns: &[Column], id: usize, row: &[Value]) -> Ordering
-    requires width { length row.now ≡ length columns.now }
+/// Compares what the newest row of the id begins with with these values.
+pub fn compare_lead(columns: &[Column], id: usize, lead: &[Value]) -> Ordering
+    requires narrow { length lead.now ≤ length columns.now }
     requires known { All (λ c. id < c.ids) columns.now }
-    ensures { result ≡ row_cmp (row_now id (cells_of columns.now)) row.now }
+    ensures lead { result ≡ row_cmp (take (length lead.now) (row_now id (cells_of columns.now))) lead.now }
+    ensures whole { length lead.now ≡ length columns.now → result ≡ row_cmp (row_now id (cells_of columns.now)) lead.now }
 {
-    for (k, value) in row.iter().enumerate() {
+    for (k, value) in lead.iter().enumerate() {
         let order = columns[k].newest(id).cmp(value);
         if order != Ordering::Equal {
             return order;
         }
     }
     Ordering::Equal
+}
+
+/// Compares the newest row of the id with this one.
+pub fn compare_now(columns: &[Column], id: usize, row: &[Value]) -> Ordering
+    requires width { length row.now ≡ length columns.now }
+    requires known { All (λ c. id < c.ids) columns.now }
+    ensures { result ≡ row_cmp (row_now id (cells_of columns.now)) row.now }
+{
+    compare_lead(columns, id, row)
 }
 
 // Compares the newest row of the id with the row at this place.

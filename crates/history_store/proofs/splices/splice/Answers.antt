@@ -22,3 +22,14 @@ put_in-requires-clause-known c = λ id i k d h. c.requires.known id (c.in_ok-fou
 
 pub put_in-requires-clause-fresh : goal.put_in-requires-clause-fresh
 put_in-requires-clause-fresh c = λ row i j. c.requires.fresh row i (kept_there (cells_of c.args.columns.now) c.args.live.now c.in_ok-found.found.items c.in_ok-found.kept.items c.args.lost.now c.in_ok-found.ensures row (rw c.deref.ensures.value at j))
+
+pub splice_out-requires-clause-there : goal.splice_out-requires-clause-there
+splice_out-requires-clause-there c = c.requires.there c.index-lost-0.result (rw (one_item c.args.lost.now c.index-lost-0.result c.if-lost-eq1.true c.index-lost-0.is) (inl refl))
+
+pub splice_over-requires-clause-there : goal.splice_over-requires-clause-there
+splice_over-requires-clause-there c =
+    c.requires.there c.index-lost-0-then-gained-eq1-2.result (rw (one_item c.args.lost.now c.index-lost-0-then-gained-eq1-2.result c.if-lost-eq1-2.true c.index-lost-0-then-gained-eq1-2.is) (inl refl))
+
+pub splice_over-requires-clause-fresh : goal.splice_over-requires-clause-fresh
+splice_over-requires-clause-fresh c = λ i.
+    c.requires.fresh c.index-gained-0-then-gained-eq1-2.result (rw (one_item c.args.gained.now c.index-gained-0-then-gained-eq1-2.result c.if-gained-eq1-2.true c.index-gained-0-then-gained-eq1-2.is) (inl refl)) i

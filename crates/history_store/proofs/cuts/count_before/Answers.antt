@@ -1,0 +1,36 @@
+use Rattle.std.proofs.Common.{◌+◌, ◌-◌, ◌/◌, ◌<◌, arith, sym, ◌∙◌, get_or}
+use Rattle.history_store.specs.Logs.{cells_of}
+use Rattle.history_store.proofs.Carry.{in_get}
+use Rattle.history_store.proofs.Cutting.{all_before, none_before}
+use Rattle.history_store.proofs.cuts.count_before.Goals as goal
+
+pub is_before-requires-clause-known : goal.is_before-requires-clause-known
+is_before-requires-clause-known c =
+    let w = c.halves.invariant in
+    let t : c.halves.low < c.halves.high = c.halves-test.true in
+    let m : c.halves.low + (c.halves.high - c.halves.low) / 2 < c.halves.high = omega arith in
+    c.requires.known (get_or c.args.live.now (c.halves.low + (c.halves.high - c.halves.low) / 2) 0) (in_get c.args.live.now (c.halves.low + (c.halves.high - c.halves.low) / 2) 0 (omega (arith, w.inside)))
+
+pub halves-preserved-then-is_before : goal.halves-preserved-then-is_before
+halves-preserved-then-is_before c =
+    let w = c.halves.invariant in
+    let t : c.halves.low < c.halves.high = c.halves-test.true in
+    let m : c.halves.low + (c.halves.high - c.halves.low) / 2 < c.halves.high = omega arith in
+    record {
+      inside = w.inside;
+      apart = omega (arith, m);
+      below = all_before c.args.cut.now (cells_of c.args.columns.now) c.args.live.now _ c.requires.live_rise (omega (arith, w.inside)) (sym c.is_before.ensures ∙ c.if-is_before.true);
+      above = w.above;
+    }
+
+pub halves-preserved : goal.halves-preserved
+halves-preserved c =
+    let w = c.halves.invariant in
+    let t : c.halves.low < c.halves.high = c.halves-test.true in
+    let m : c.halves.low + (c.halves.high - c.halves.low) / 2 < c.halves.high = omega arith in
+    record {
+      inside = omega (arith, w.inside);
+      apart = omega arith;
+      below = w.below;
+      above = none_before c.args.cut.now (cells_of c.args.columns.now) c.args.live.now _ c.requires.live_rise (sym c.is_before.ensures ∙ c.if-is_before.false);
+    }

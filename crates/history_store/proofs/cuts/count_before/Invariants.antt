@@ -1,0 +1,16 @@
+use Rattle.std.proofs.Common.{◌≡◌, ◌<◌, ◌≤◌, ◌-◌, ℕ, true, false, length, get_or}
+use Rattle.history_store.specs.Cuts.{is_before}
+use Rattle.history_store.specs.Logs.{cells_of}
+use Rattle.history_store.specs.Table.{row_now}
+use Rattle.history_store.proofs.cuts.count_before.Given as goal
+
+abbrev pub invariant-halves : goal.invariant-halves
+invariant-halves l = record {
+  inside : l.high ≤ length l.live;
+  apart : l.low ≤ l.high;
+  below : (k : ℕ) → k < l.low → is_before l.cut (row_now (get_or l.live k 0) (cells_of l.columns)) ≡ true;
+  above : (k : ℕ) → l.high ≤ k → k < length l.live → is_before l.cut (row_now (get_or l.live k 0) (cells_of l.columns)) ≡ false;
+}
+
+abbrev pub decreases-halves : goal.decreases-halves
+decreases-halves l = l.high - l.low

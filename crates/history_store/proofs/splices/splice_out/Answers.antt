@@ -1,0 +1,8 @@
+use Rattle.std.proofs.Common.{◌∙◌}
+use Rattle.history_store.specs.Logs.{cells_of}
+use Rattle.history_store.proofs.Replacing.{out_spliced}
+use Rattle.history_store.proofs.splices.splice_out.Goals as goal
+
+pub returns-clause-spliced : goal.returns-clause-spliced
+returns-clause-spliced c = λ next. rw c.in_ok-found.ensures
+    (out_spliced (cells_of c.args.columns.now) c.args.live.now c.args.lost.now c.found_place-at.result next c.requires.live_rise c.found_place-at.ensures.within (c.found_place-at.ensures.row ∙ c.values.ensures))

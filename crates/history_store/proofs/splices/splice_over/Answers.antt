@@ -1,0 +1,9 @@
+use Rattle.std.proofs.Common.{◌∙◌}
+use Rattle.history_store.specs.Logs.{cells_of}
+use Rattle.history_store.proofs.Replacing.{over_spliced}
+use Rattle.history_store.proofs.splices.splice_over.Goals as goal
+
+pub returns-clause-spliced : goal.returns-clause-spliced
+returns-clause-spliced c = λ next. rw (c.in_ok-found.ensures, c.place_without.ensures)
+    (over_spliced (cells_of c.args.columns.now) c.args.live.now c.args.lost.now c.found_place-at.result next c.requires.live_rise c.found_place-at.ensures.within (c.found_place-at.ensures.row ∙ c.values.ensures)
+    c.args.gained.now c.free_place-free.result c.free_place-free.ensures.within (rw c.values-2.ensures at c.free_place-free.ensures.before) (rw c.values-2.ensures at c.free_place-free.ensures.after))

@@ -1,0 +1,32 @@
+-- Cuts in the order of rows, by the values that rows begin with.
+use Rattle.std.specs.Prelude.{ℕ, ◌<◌, Bool, not, ◌&&◌, List, length, take, if◌then◌else◌, slice_index_or}
+use Rattle.std.specs.List.{filter}
+use Rattle.std.specs.Ordering.{is_lt, is_le}
+use Rattle.relations.specs.Sets.{In}
+use Rattle.prima_base.specs.Order.{row_cmp}
+use Rattle.prima_base.specs.declared.values.Value.{Value}
+use Rattle.history_store.specs.Log.{Log}
+use Rattle.history_store.specs.Logs.{cells_of}
+use Rattle.history_store.specs.Table.{rows_of}
+use Rattle.history_store.specs.declared.cuts.LentRows.TheInside.{Inside as InsideRows}
+
+-- before all rows that begin with these values, or behind all of them
+pub record Cut : Type 0 where
+  pub values : List Value
+  pub behind : Bool
+
+-- the row is before the cut
+abbrev pub is_before : Cut → List Value → Bool
+is_before c row = if c.behind then is_le (row_cmp (take (length c.values) row) c.values) else is_lt (row_cmp (take (length c.values) row) c.values)
+
+-- the rows from the one cut to the other
+abbrev pub between : Cut → Cut → List (List Value) → List (List Value)
+between from to rows = filter (λ row. not (is_before from row) && is_before to row) rows
+
+-- the rows that are lent
+abbrev pub lent_rows : InsideRows → List (List Value)
+lent_rows a = rows_of a.ids.now (cells_of a.columns.now)
+
+-- each column has a value of each of them
+abbrev pub AreLent : InsideRows → Type 0
+AreLent a = (id : ℕ) → In id a.ids.now → (k : ℕ) (d : Log) → k < length a.columns.now → id < (slice_index_or a.columns.now k d).ids

@@ -1,0 +1,191 @@
+//! Rows of a table between two cuts in their order, lent.
+
+ghost use Rattle.std.specs.Prelude.{◌≡◌, ◌+◌, ◌++◌, ◌<◌, ◌≤◌, ℕ, All, OnOk, true, false, length, map, slice_index, slice_index_or};
+ghost use Rattle.relations.specs.Sets.{Ascends, In};
+ghost use Rattle.prima_base.specs.Order.{row_cmp, shown};
+ghost use Rattle.prima_base.specs.Columns.{IsLawful};
+ghost use Rattle.history_store.specs.Cuts.{is_before};
+ghost use Rattle.history_store.specs.Log.{Log};
+ghost use Rattle.history_store.specs.Logs.{cells_of};
+ghost use Rattle.history_store.specs.Table.{row_now, rows_of};
+
+use crate::columns::Column;
+use crate::walks::compare_lead;
+use prima_base::{NoMemory, Row, Val, Value};
+use std::cmp::Ordering;
+use std::marker::Model;
+
+/// A cut in the order of rows: before all rows that begin with its values, or behind all of them.
+#[derive(Drop)]
+pub struct Cut {
+    values: Vec<Value>,
+    behind: bool,
+}
+
+impl Model for Cut {
+    ghost use Rattle.history_store.specs.Cuts.{Cut as PlainCut};
+
+    ghost Value = { PlainCut };
+
+    ghost view = { λ c. record { values = c.values.items; behind = c.behind } };
+}
+
+impl Cut {
+    ghost use Rattle.std.specs.Prelude.{◌≡◌, true, false, if◌then◌else◌};
+    ghost use Rattle.std.specs.Ordering.{is_le, is_lt};
+    ghost use Rattle.history_store.specs.Cuts.{is_before};
+
+    /// The cut before all rows that begin with these values. It takes no memory.
+    pub fn before(values: Vec<Value>) -> Cut
+        ensures { result ≡ record { values = values.items; behind = false } }
+    {
+        Cut {
+            values,
+            behind: false,
+        }
+    }
+
+    /// The values that the rows at the cut begin with. It takes no memory.
+    pub fn values(&self) -> &[Value]
+        ensures { result.now ≡ self.now.values }
+    {
+        &self.values
+    }
+
+    // Whether what compares so with the values is before the cut.
+    fn is_past(&self, order: Ordering) -> bool
+        ensures { result ≡ (if self.now.behind then is_le order else is_lt order) }
+    {
+        if self.behind {
+            order != Ordering::Greater
+        } else {
+            order == Ordering::Less
+        }
+    }
+
+    /// Whether the row is before the cut. It takes no memory.
+    pub fn has_before(&self, row: &Row) -> bool
+        ensures { result ≡ is_before self.now row.now }
+    {
+        let values = row.values();
+        let width = self.values.len().min(values.len());
+        self.is_past(values.split_at(width).0.cmp(self.values.as_slice()))
+    }
+
+    /// The cut behind all rows that begin with these values. It takes no memory.
+    pub fn behind(values: Vec<Value>) -> Cut
+        ensures { result ≡ record { values = values.items; behind = true } }
+    {
+        Cut {
+            values,
+            behind: true,
+        }
+    }
+}
+
+// Whether the newest row of the id is before the cut.
+fn is_before(columns: &[Column], id: usize, cut: &Cut) -> bool
+    requires narrow { length cut.now.values ≤ length columns.now }
+    requires known { All (λ c. id < c.ids) columns.now }
+    ensures { result ≡ is_before cut.now (row_now id (cells_of columns.now)) }
+{
+    cut.is_past(compare_lead(columns, id, &cut.values))
+}
+
+/// How many of the live ids have rows before the cut: these stand first. It is found by binary search.
+pub(crate) fn count_before(columns: &[Column], live: &[usize], cut: &Cut) -> usize
+    requires narrow { length cut.now.values ≤ length columns.now }
+    requires known { (id : ℕ) → In id live.now → (k : ℕ) (d : Log) → k < length columns.now → id < (slice_index_or columns.now k d).ids }
+    requires live_rise { Ascends row_cmp (rows_of live.now (cells_of columns.now)) }
+    ensures within { result ≤ length live.now }
+    ensures before { (k : ℕ) → k < result → is_before cut.now (row_now (slice_index live.now k) (cells_of columns.now)) ≡ true }
+    ensures after { (k : ℕ) → result ≤ k → k < length live.now → is_before cut.now (row_now (slice_index live.now k) (cells_of columns.now)) ≡ false }
+{
+    let mut low = 0;
+    let mut high = live.len();
+    'halves: while low < high {
+        let middle = low + (high - low) / 2;
+        if is_before(columns, live[middle], cut) {
+            low = middle + 1;
+        } else {
+            high = middle;
+        }
+    }
+    low
+}
+
+// Lends the values of the newest row of the id at this place.
+fn lend_at<'a>(
+    columns: &'a [Column],
+    ids: &[usize],
+    at: usize,
+    row: &mut Vec<Val<'a>>,
+) -> Result<(), NoMemory>
+    requires within { at < length ids.now }
+    requires known { All (λ c. slice_index ids.now at < c.ids) columns.now }
+    ensures values { OnOk result (map shown row.new.items ≡ row_now (slice_index ids.now at) (cells_of columns.now)) }
+    ensures lawful { OnOk result (All (λ v. IsLawful (shown v)) row.new.items) }
+{
+    row.clear();
+    let id = ids[at];
+    for column in columns {
+        row.push(column.newest(id).lend())?;
+    }
+    Ok(())
+}
+
+/// Current rows of a table, ascending. Each can be looked at where it is.
+#[derive(Drop)]
+pub struct LentRows<'a> {
+    columns: &'a [Column],
+    ids: &'a [usize],
+}
+
+impl<'a> Model for LentRows<'a> {
+    ghost use Rattle.std.specs.Prelude.{List};
+    ghost use Rattle.prima_base.specs.declared.values.Value.{Value as OneValue};
+
+    ghost Value = { List (List OneValue) };
+
+    ghost use Rattle.history_store.specs.Cuts.{lent_rows, AreLent};
+
+    ghost view = { lent_rows };
+
+    ghost invariant = { AreLent };
+}
+
+impl<'a> LentRows<'a> {
+    ghost use Rattle.std.specs.Prelude.{◌≡◌, ◌<◌, ℕ, [], map, length, All, OnOk, slice_index_or};
+    ghost use Rattle.relations.specs.Sets.{In};
+    ghost use Rattle.prima_base.specs.Order.{shown};
+    ghost use Rattle.prima_base.specs.Columns.{IsLawful};
+    ghost use Rattle.history_store.specs.Log.{Log};
+    ghost use Rattle.history_store.specs.Logs.{cells_of};
+    ghost use Rattle.history_store.specs.Table.{rows_of};
+
+    /// The newest rows of these ids.
+    pub(crate) fn over(columns: &'a [Column], ids: &'a [usize]) -> LentRows<'a>
+        requires { (id : ℕ) → In id ids.now → (k : ℕ) (d : Log) → k < length columns.now → id < (slice_index_or columns.now k d).ids }
+        ensures { result ≡ rows_of ids.now (cells_of columns.now) }
+    {
+        LentRows { columns, ids }
+    }
+
+    /// How many rows there are.
+    pub fn len(&self) -> usize
+        ensures { result ≡ length self.now }
+    {
+        self.ids.len()
+    }
+
+    /// Puts the values of the row at this place into `row`, borrowed, in place of what it had; a text among them has at
+    /// most 4,096 bytes and no control byte. Where `row` has the room it takes no memory. The one error is `NoMemory`,
+    /// where memory runs out.
+    pub fn lend(&self, at: usize, row: &mut Vec<Val<'a>>) -> Result<(), NoMemory>
+        requires within { at < length self.now }
+        ensures values { OnOk result (map shown row.new.items ≡ slice_index_or self.now at []) }
+        ensures lawful { OnOk result (All (λ v. IsLawful (shown v)) row.new.items) }
+    {
+        lend_at(self.columns, self.ids, at, row)
+    }
+}
