@@ -6,6 +6,7 @@ ghost use Rattle.smo_types.specs.Operators.{Operator};
 ghost use Rattle.smo_types.specs.Commands.{PlainCommand};
 ghost use Rattle.smo_meaning.specs.After.{IsLawful};
 ghost use Rattle.smo_meaning.specs.Past.{Past, newest_tables};
+ghost use Rattle.smo_meaning.specs.LawfulPast.{IsPast};
 ghost use Rattle.smo_meaning.specs.Accepts.{command_fault};
 ghost use Rattle.prima_base.specs.Bytes.{IsName};
 ghost use Rattle.command_spelling.specs.Reading.{Good};
@@ -45,8 +46,10 @@ pub fn parts_are_read()
     ensures command { Good spec.command IsCommand command_bytes }
 {}
 
-/// A command that is accepted after a past of lawful tables can be written: its counts fit their fields, its
-/// references are to atom 0, and its trees are at most 32 deep.
+/// A command that is accepted after a past of lawful tables can be written: its counts fit their
+/// fields, its references are to atom 0, and its trees are at most 32 deep. Every past that accepted
+/// commands make is one of these (`past`).
 pub fn accepted_commands_can_be_written()
-    ensures { (past : Past) (command : PlainCommand) → IsLawful (newest_tables past) → command_fault past command ≡ None → IsWritable command }
+    ensures tables { (past : Past) (command : PlainCommand) → IsLawful (newest_tables past) → command_fault past command ≡ None → IsWritable command }
+    ensures past { (past : Past) (command : PlainCommand) → IsPast past → command_fault past command ≡ None → IsWritable command }
 {}

@@ -6,3 +6,5 @@ pub mod Moments
 pub mod Emptied
 pub mod Examples
 pub mod Whole
+pub mod PutEach
+pub mod MountAndPut

@@ -9,5 +9,6 @@ pub mod Fields
 pub mod RecordLaws
 pub mod DamageLaws
 pub mod Puts
+pub mod PutLists
 pub mod PutLaws
 pub mod MountLaws

@@ -57,3 +57,12 @@ impl<T: Drop> From<AllocFailed<T>> for JournalFault {
         JournalFault::NoMemory
     }
 }
+
+/// Why the records of a list were not all tried.
+#[derive(Clone, Copy, Debug, PartialEq, Eq)]
+pub enum PutsFault {
+    /// The journal was not mounted.
+    NotMounted(JournalFault),
+    /// The disk failed in a put, and its count of faults rose; so many records had been put before.
+    Stopped(usize),
+}

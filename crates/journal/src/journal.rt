@@ -1,4 +1,4 @@
-ghost use Rattle.std.specs.Prelude.{◌≡◌, ◌+◌, ◌-◌, ◌^◌, ◌<◌, ◌↔◌, Err, OnOk};
+ghost use Rattle.std.specs.Prelude.{◌≡◌, ◌+◌, ◌-◌, ◌^◌, ◌<◌, ◌↔◌, ℕ, Err, IfErr, OnOk};
 ghost use Rattle.prima_io.specs.Causes.{Rose};
 ghost use Rattle.disk_model.specs.Meaning.{Told};
 ghost use Rattle.journal.specs.Puts.{Puts, Acknowledges};
@@ -32,6 +32,10 @@ impl<D: Disk> Journal<D> {
         ensures full { (result ≡ Err (put.Full (place_of self.old)
             (needs (sealed_record sealed.now)) (limit_of self.old)))
             ↔ (limit_of self.old < place_of self.old + needs (sealed_record sealed.now)) }
+        ensures full_alone { (at need limit : ℕ) → result ≡ Err (put.Full at need limit)
+            → limit_of self.old < place_of self.old + needs (sealed_record sealed.now) }
+        ensures only_full { IfErr result (λ e. (e ≡ put.Disk → ⊥)
+            → limit_of self.old < place_of self.old + needs (sealed_record sealed.now)) }
         ensures unchanged { limit_of self.old < place_of self.old + needs (sealed_record sealed.now)
             → (disk_of self.new ≡ disk_of self.old) × (place_of self.new ≡ place_of self.old) }
         ensures limit { limit_of self.new ≡ limit_of self.old }
@@ -62,6 +66,13 @@ impl<D: Disk> Journal<D> {
         write_and_sync(&mut self.disk, self.at, &[1])?;
         self.at += need - 1;
         Ok(())
+    }
+
+    /// The place of the closed gate behind the records. It takes no memory.
+    pub fn place(&self) -> u64
+        ensures { result ≡ place_of self.now }
+    {
+        self.at
     }
 
     /// The disk as it stands. It takes no memory.

@@ -9,14 +9,16 @@ mod fault;
 mod journal;
 mod laws;
 mod mount;
+mod put_list;
 mod reader;
 mod rec;
 mod sealed;
 mod synced_write;
 
 pub use disk_model::{Disk, Failed, NoMemory};
-pub use fault::{JournalFault, PutFault};
+pub use fault::{JournalFault, PutFault, PutsFault};
 pub use journal::Journal;
 pub use laws::a_file_stands_or_is_damaged;
+pub use put_list::{mount_and_put, put_each};
 pub use rec::Rec;
 pub use sealed::Sealed;

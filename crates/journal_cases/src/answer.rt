@@ -1,16 +1,8 @@
 //! The texts of what a journal answers.
 
-use crate::hex::write_hex;
-use itoa::Buffer;
-use journal::{JournalFault, PutFault, Rec};
+use case_text::{write_hex, write_number};
+use journal::{JournalFault, PutFault, PutsFault, Rec};
 use prima_base::NoMemory;
-
-/// Puts a number behind a text.
-pub(crate) fn write_number(number: u64, text: &mut Vec<u8>) -> Result<(), NoMemory> {
-    let mut digits = Buffer::new();
-    text.extend_from_slice(digits.format(number).as_bytes())?;
-    Ok(())
-}
 
 /// Why a journal was not mounted.
 pub(crate) fn write_fault(fault: JournalFault, text: &mut Vec<u8>) -> Result<(), NoMemory> {
@@ -40,6 +32,24 @@ pub(crate) fn write_put(answer: Result<(), PutFault>, text: &mut Vec<u8>) -> Res
         }
     }
     Ok(())
+}
+
+/// What became of a list of records.
+pub(crate) fn write_puts(
+    answer: Result<usize, PutsFault>,
+    text: &mut Vec<u8>,
+) -> Result<(), NoMemory> {
+    match answer {
+        Ok(put) => {
+            text.extend_from_slice(b"put ")?;
+            write_number(put as u64, text)
+        }
+        Err(PutsFault::Stopped(put)) => {
+            text.extend_from_slice(b"stopped behind ")?;
+            write_number(put as u64, text)
+        }
+        Err(PutsFault::NotMounted(fault)) => write_fault(fault, text),
+    }
 }
 
 /// The places of the records' gates, behind one another.

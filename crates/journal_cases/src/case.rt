@@ -1,9 +1,9 @@
 //! A case: a file, and what is done to it.
 
 use crate::answer::{write_fault, write_places, write_put, write_records};
-use crate::groups::Groups;
-use crate::hex::{read_hex, write_hex};
 use crate::line::{Line, read_line};
+use crate::list::{put_over_fuse, put_over_memory, put_over_nothing, seal_each};
+use case_text::{Groups, read_hex, write_hex};
 use disk_model::{Disk, FuseDisk, MemDisk};
 use journal::{Journal, Sealed};
 use prima_base::NoMemory;
@@ -187,6 +187,29 @@ impl Case {
         groups.end(&mut self.answers)
     }
 
+    fn puts(&mut self, text: &[u8]) -> Result<(), NoMemory> {
+        let list = seal_each(self.alloc, text)?;
+        let mut disk = self.disk()?;
+        put_over_memory(self.alloc, &mut disk, self.limit, &list, &mut self.answers)?;
+        self.keep(disk)
+    }
+
+    fn steps(&mut self, text: &[u8]) -> Result<(), NoMemory> {
+        let list = seal_each(self.alloc, text)?;
+        let mut groups = Groups::new();
+        for passes in 0..FUSES {
+            let inner = self.disk()?;
+            let answer = put_over_fuse(self.alloc, inner, passes, self.limit, &list)?;
+            groups.add(passes, answer, &mut self.answers)?;
+        }
+        groups.end(&mut self.answers)
+    }
+
+    fn sure(&mut self, text: &[u8]) -> Result<(), NoMemory> {
+        let list = seal_each(self.alloc, text)?;
+        put_over_nothing(self.alloc, self.limit, &list, &mut self.answers)
+    }
+
     fn line(&mut self, line: &[u8]) -> Result<(), NoMemory> {
         match read_line(line) {
             Line::Name(name) => self.begin(name),
@@ -200,6 +223,9 @@ impl Case {
             Line::Cuts => self.cuts(),
             Line::Bytes(byte) => self.bytes(byte),
             Line::Fuses(hex) => self.fuses(hex),
+            Line::Puts(list) => self.puts(list),
+            Line::Steps(list) => self.steps(list),
+            Line::Sure(list) => self.sure(list),
             Line::Note => Ok(()),
         }
     }

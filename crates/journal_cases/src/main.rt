@@ -10,14 +10,18 @@
 //! - `cuts` mounts each prefix of the file, the shortest first, and tells what it holds;
 //! - `bytes N` mounts the file with each byte in turn set to N, and tells what it holds;
 //! - `fuses HEX` mounts it and puts a command of this payload, over disks that fail from their
-//!   first call on, from their second one, and so on, and tells which call answered.
+//!   first call on, from their second one, and so on, and tells which call answered;
+//! - `puts HEX, HEX, ..` mounts it and puts a command of each payload, over a disk that is lent, tells
+//!   how many were put and behind how many writes and syncs, and keeps the file that is left;
+//! - `steps HEX, HEX, ..` does so over disks that fail from their first call on, from their second one,
+//!   and so on, and tells how many writes and syncs the disk inside then has;
+//! - `sure HEX, HEX, ..` does so over an empty disk that keeps nothing, and mounts that once more.
 #![tactic(auto)]
 
 mod answer;
 mod case;
-mod groups;
-mod hex;
 mod line;
+mod list;
 
 use crate::case::play;
 use std::io;
