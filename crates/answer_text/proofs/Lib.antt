@@ -1,0 +1,4 @@
+pub mod Doubling
+pub mod Gathered
+pub mod Listed
+pub mod TablesLeft

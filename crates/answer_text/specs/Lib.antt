@@ -1,0 +1,5 @@
+pub mod Causes
+pub mod Gathering
+pub mod KeptValues
+pub mod RefusalTexts
+pub mod Texts

@@ -1,12 +1,21 @@
-//! What is answered to a query.
+//! The lines of replies: what is answered to a query and to a command, the versions, the tables of a schema, and the
+//! refusals. Each is put straight into a sink.
+//!
+//! `specs/Texts.antt` and `specs/RefusalTexts.antt` say each line by its bytes.
 #![tactic(auto)]
 
-use prima_base::TimedRow;
+mod bytes;
+mod line;
+mod listing;
+mod refusal;
+mod reply;
+mod schema;
+mod stop;
+mod versions;
 
-/// The answer to a query: its rows, each with a period in which it holds, ascending by row and start. The periods are
-/// told with the rows (`periods`), but for a query that asks of one moment. Texts of plain columns are lent by the archive.
-#[derive(Drop)]
-pub struct Listing<'a> {
-    pub rows: Vec<TimedRow<'a>>,
-    pub periods: bool,
-}
+pub use listing::{Listing, put_listing};
+pub use refusal::put_refusal;
+pub use reply::{put_changed, put_evolved, put_not_a_journal, put_wrong_words};
+pub use schema::put_schema;
+pub use stop::Stop;
+pub use versions::put_versions;

@@ -1,8 +1,7 @@
-pub mod OwnAnswers
-pub mod AcceptedQueries
-pub mod OneTable
-pub mod NewestSchema
-pub mod Judging
-pub mod BegunVersions
-pub mod ListedOwn
-pub mod CarriedOut
+pub mod Gates
+pub mod Decoded
+pub mod Readied
+pub mod Committed
+pub mod Replayed
+pub mod Mounted
+pub mod Held

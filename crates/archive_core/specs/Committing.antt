@@ -1,42 +1,48 @@
--- What an archive answers to a command.
-use Rattle.std.specs.Prelude.{◌≡◌, ℕ, length, Option, Some, None, Result, Ok, Err, ⊤}
-use Rattle.smo_types.specs.Commands.{PlainBody, changing, evolving, PlainCommand}
+-- What an archive on a disk answers to a command.
+use Rattle.std.specs.Prelude.{◌≡◌, ℕ, ◌+◌, ◌∷◌, [], nat_le, Some, None, Result, Ok, Err}
+use Rattle.prima_base.specs.declared.refusals.Refusal.TheVariants.{JournalFull}
+use Rattle.smo_types.specs.Commands.{PlainCommand}
+use Rattle.smo_meaning.specs.First.{unless, first_refusal}
 use Rattle.smo_meaning.specs.Checks.{Fault}
 use Rattle.smo_meaning.specs.Accepts.{command_fault}
 use Rattle.smo_meaning.specs.Past.{Past, past_with}
-use Rattle.version_groups.specs.Room.{IsSame}
-use Rattle.version_groups.specs.Steps.{rows_gained, rows_lost}
-use Rattle.archive_core.specs.declared.archives.Done.{Done}
+use Rattle.version_groups.specs.Steps.{Readied, Prepares}
+use Rattle.journal.specs.Standing.{needs}
+use Rattle.journal.specs.declared.sealed.Sealed.{Sealed}
+use Rattle.archive_file.specs.Opening.{record_of}
+use Rattle.archive_state.specs.declared.archives.Done.{Done}
+use Rattle.archive_state.specs.Standing.{Standing, ShowsPast}
+use Rattle.archive_state.specs.Committing.{IsAsBefore, IsDone}
 use Rattle.archive_core.specs.declared.faults.CommitFault.{CommitFault}
-use Rattle.archive_core.specs.declared.faults.CommitFault.TheVariants.{Refused, NoMemory}
-use Rattle.archive_core.specs.Standing.{Standing, ShowsPast}
+use Rattle.archive_core.specs.declared.faults.CommitFault.TheVariants.{Broken, Refused, Disk, NoMemory}
 
--- what a test answers: it is met, or this is its refusal
-abbrev pub IsJudged : {A : Type 0} → Fault → Result A CommitFault → Type 0
-IsJudged fault (Ok a) = fault ≡ None
-IsJudged fault (Err (Refused r)) = fault ≡ Some r
-IsJudged fault (Err NoMemory) = ⊤
+-- the record of the command, put behind the gate at `at`, ends within the limit
+abbrev pub room_fault : ℕ → ℕ → PlainCommand → Fault
+room_fault at limit command = unless (nat_le (at + needs (record_of command)) limit) (JournalFull at (needs (record_of command)) limit)
 
--- the newest version, where the command made it
-abbrev pub version_made : PlainBody → ℕ → Option ℕ
-version_made (changing changes) newest = None
-version_made (evolving op inverse) newest = Some newest
+-- the refusal of a command by its past, and behind all others that its record does not fit
+abbrev pub commit_fault : Past → ℕ → ℕ → PlainCommand → Fault
+commit_fault past at limit command = first_refusal (command_fault past command ∷ room_fault at limit command ∷ [])
 
--- what an accepted command did behind the past
-pub record IsDone (past : Past) (command : PlainCommand) (done : Done) : Type 0 where
-  pub stamp : done.stamp ≡ command.stamp
-  pub gained : done.gained ≡ rows_gained past command.body
-  pub lost : done.lost ≡ rows_lost past command.body
-  pub version : done.version ≡ version_made command.body (length (past_with past command).versions)
+-- the archive in memory is as it was, but for room that was made, and shows the past that it showed
+pub record IsUnchanged (past : Past) (old new : Standing) : Type 0 where
+  pub same : IsAsBefore old new
+  pub shows : ShowsPast new past
 
--- the archive is as it was, but for room that was made
-pub record IsAsBefore (old new : Standing) : Type 0 where
-  pub groups : IsSame old.groups new.groups
-  pub last : new.last ≡ old.last
+-- An accepted command whose record fits leads to the next past, and is answered Ok, or Disk where the disk fails. Another is
+-- refused by its first refusal. In memory all is as it was, but after Ok.
+abbrev pub Commits : Past → PlainCommand → ℕ → ℕ → Standing → Result Done CommitFault → Standing → Type 0
+Commits past command at limit old (Ok done) new = (commit_fault past at limit command ≡ None) × IsDone past command done × ShowsPast new (past_with past command)
+Commits past command at limit old (Err (Refused r)) new = (commit_fault past at limit command ≡ Some r) × IsUnchanged past old new
+Commits past command at limit old (Err Disk) new = (commit_fault past at limit command ≡ None) × IsUnchanged past old new
+Commits past command at limit old (Err Broken) new = new ≡ old
+Commits past command at limit old (Err NoMemory) new = IsUnchanged past old new
 
--- an accepted command leads to the next past; another is refused by its first refusal, and the archive is what it was; where
--- memory runs out it is as it was, too
-abbrev pub Commits : Past → PlainCommand → Standing → Result Done CommitFault → Standing → Type 0
-Commits past command old (Ok done) new = (command_fault past command ≡ None) × IsDone past command done × ShowsPast new (past_with past command)
-Commits past command old (Err (Refused r)) new = (command_fault past command ≡ Some r) × (new ≡ old)
-Commits past command old (Err NoMemory) new = IsAsBefore old new × ShowsPast new past
+-- a command that is accepted was made ready in memory
+abbrev pub MakesReady : Past → PlainCommand → Standing → Result (Readied × Sealed) CommitFault → Standing → Type 0
+MakesReady past command old (Ok ready) new =
+    (command_fault past command ≡ None) × IsUnchanged past old new × Prepares new.groups past command ready.0
+MakesReady past command old (Err (Refused r)) new = (command_fault past command ≡ Some r) × IsUnchanged past old new
+MakesReady past command old (Err Disk) new = ⊥
+MakesReady past command old (Err Broken) new = ⊥
+MakesReady past command old (Err NoMemory) new = IsUnchanged past old new

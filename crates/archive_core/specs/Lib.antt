@@ -1,3 +1,6 @@
-pub mod Standing
+pub mod Fields
+pub mod Holding
 pub mod Committing
-pub mod Asking
+pub mod Decoding
+pub mod Replaying
+pub mod Mounting

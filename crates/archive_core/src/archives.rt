@@ -1,148 +1,214 @@
-use crate::accepting::judge;
-use crate::asking::ask;
-use crate::{AskFault, CommitFault};
+ghost use Rattle.std.specs.Prelude.{◌≡◌, ◌⊎◌, ◌+◌, ◌-◌, ◌^◌, ◌≤◌, ◌↔◌, ◌++◌, ◌∷◌, [], IsTrue, ℕ, List, length, min, Some, Err, true, false, IfOk, IfErr, OnOk};
+ghost use Rattle.prima_io.specs.Causes.{Rose};
+ghost use Rattle.disk_model.specs.Meaning.{Tells, Told};
+ghost use Rattle.disk_model.specs.Moments.{GoesOn};
+ghost use Rattle.smo_types.specs.Commands.{PlainCommand, command_of};
+ghost use Rattle.smo_meaning.specs.Past.{Past};
+ghost use Rattle.command_spelling.specs.Lawful.{IsCommand};
+ghost use Rattle.temporal_lang.specs.Queries.{query_of};
+ghost use Rattle.rewrite.specs.Books.{meaning_of, EachOf};
+ghost use Rattle.journal.specs.Mounting.{IsNotSynced, KeepsFile};
+ghost use Rattle.journal.specs.Puts.{Puts, Acknowledges};
+ghost use Rattle.journal.specs.Records.{Record, StandsFor, opened_file};
+ghost use Rattle.journal.specs.Standing.{Stands, needs, with_record};
+ghost use Rattle.archive_file.specs.Opening.{Opens, Damages, record_of, records_of};
+ghost use Rattle.archive_state.specs.Standing.{ShowsPast, ShowsSome};
+ghost use Rattle.archive_state.specs.Asking.{IsAsked, needed};
+ghost use Rattle.archive_core.specs.declared.faults.CommitFault.TheVariants as fault;
+ghost use Rattle.archive_core.specs.declared.faults.MountFault.TheVariants as mounting;
+
+use crate::faults::mount_fault;
+use crate::readying::make_ready;
+use crate::replaying::restore;
+use crate::{AskFault, CommitFault, MountFault};
 use answer_text::Listing;
-use prima_base::Steps;
-use smo_ops::{Body, Command};
+use archive_state::{ArchiveState, Done};
+use disk_model::Disk;
+use journal::{Journal, PutFault};
+use prima_base::{Refusal, Steps};
+use rule_book::{Rule, RuleBook};
+use smo_types::Command;
 use std::alloc::Global;
-use std::marker::Model;
 use std::sync::ledger::Ledger;
 use temporal_lang::Query;
-use version_groups::{Groups, Next};
+use version_groups::Groups;
 
-/// What was accepted: the versions with their stored tables, and the last stamp.
+/// An archive whose accepted commands stand as records in a journal on a disk, and in memory as the past that they make.
 #[derive(Drop)]
-pub struct Archive {
+pub struct Archive<D: Disk> {
     alloc: Global,
-    groups: Groups,
-    last: Option<u64>,
+    pub(crate) state: ArchiveState,
+    pub(crate) journal: Journal<D>,
+    // a call has answered that the disk failed
+    pub(crate) broken: bool,
 }
 
-impl Model for Archive {
-    ghost use Rattle.archive_core.specs.Standing.{Standing};
-    ghost use Rattle.smo_types.specs.contracts.versions.Version as version_row;
-    ghost use Rattle.std.specs.Coded.{codes};
-
-    ghost Value = { Standing };
-
-    ghost coded = { Prim.hlevel (codes, version_row.the_row.coded) };
-
-    ghost view = { λ a. record { groups = a.groups; last = a.last } };
+/// What mounting found: how many commands the file has, and how many of them were carried out again, which is all.
+#[derive(Clone, Copy, Debug, PartialEq, Eq)]
+pub struct Opened {
+    pub commands: u64,
+    pub replayed: u64,
 }
 
-/// What an accepted command did: its stamp; how many rows it gained and lost over all tables, none for an operator; and
-/// the version that an operator made.
-#[derive(Clone, Copy)]
-pub struct Done {
-    pub stamp: u64,
-    pub gained: u64,
-    pub lost: u64,
-    pub version: Option<u32>,
-}
+impl<D: Disk> Archive<D> {
+    ghost use Rattle.archive_core.specs.Fields.{standing_of, disk_of, below, place_of, limit_of, is_broken, IsReady};
+    ghost use Rattle.archive_core.specs.Committing.{Commits};
+    ghost use Rattle.archive_core.specs.Holding.{HoldsAt};
+    ghost use Rattle.archive_core.specs.Mounting.{IsMounted};
 
-ghost use Rattle.std.specs.Prelude.{◌≡◌};
-ghost use Rattle.smo_types.specs.Commands.{body_of};
-ghost use Rattle.archive_core.specs.Committing.{version_made};
-
-// The newest version, where the command made it.
-fn version_made(command: &Command, newest: u32) -> Option<u32>
-    ensures { result ≡ version_made (body_of command.now.1) newest }
-{
-    match command.body() {
-        Body::Changes(_) => None,
-        Body::Evolve { op: _, inverse: _ } => Some(newest),
-    }
-}
-
-impl Archive {
-    ghost use Rattle.std.specs.Prelude.{◌≡◌, ◌+◌, ◌≤◌, None};
-    ghost use Rattle.smo_types.specs.Commands.{command_of};
-    ghost use Rattle.smo_meaning.specs.Accepts.{command_fault};
-    ghost use Rattle.smo_meaning.specs.Past.{Past, beginning, past_with};
-    ghost use Rattle.version_groups.specs.Steps.{Prepares};
-    ghost use Rattle.archive_core.specs.Standing.{ShowsPast};
-    ghost use Rattle.temporal_lang.specs.Queries.{query_of};
-    ghost use Rattle.archive_core.specs.Committing.{Commits, IsDone};
-    ghost use Rattle.archive_core.specs.Asking.{IsOverOneTable, IsAsked, needed};
-
-    /// An archive that has accepted nothing. It takes no memory.
-    pub fn new(alloc: Global) -> Archive
-        ensures { ShowsPast result beginning }
+    /// Opens the archive whose commands the file on a disk holds: its past is exactly that of these commands, in order. It
+    /// begins with a sync. A file of at most nine bytes is made the empty journal; any other is read alone. A limit of
+    /// `u64::MAX` bytes counts as one less. `Disk` comes only where the disk's count of faults rose, and `Damaged` exactly
+    /// where the file is damaged, with the place: its frames are judged first, then each payload, then each command behind
+    /// those before it. A fault hands the disk back as it then stands. It takes at most one step a command.
+    pub fn mount<L: Ledger>(
+        alloc: Global,
+        disk: D,
+        limit: u64,
+        steps: &mut Steps<L>,
+    ) -> Result<(Archive<D>, Opened), (D, MountFault)>
+        ensures opened { IfOk result (λ it. Tells (D.meaning disk).seen (λ file. IsMounted file (standing_of it.0) (place_of it.0) it.1.commands)) }
+        ensures replayed { IfOk result (λ it. it.1.replayed ≡ it.1.commands) }
+        ensures shows { IfOk result (λ it. ShowsSome (standing_of it.0)) }
+        ensures limit { IfOk result (λ it. limit_of it.0 ≡ min limit (2 ^ 64 - 2)) }
+        ensures whole { IfOk result (λ it. is_broken it.0 ≡ false) }
+        ensures ready { IfOk result (λ it. IsReady it.0) }
+        ensures file { IfOk result (λ it. Told (λ old new. new ≡ opened_file old) (D.meaning disk).seen (below it.0).seen) }
+        ensures stands { IfOk result (λ it. (file : List ℕ) (commands : List PlainCommand) → IsTrue (D.meaning disk).is_honest → (D.meaning disk).seen ≡ Some file
+            → Opens file commands → Stands (below it.0) (place_of it.0) (records_of commands)) }
+        ensures holds { IfOk result (λ it. (file : List ℕ) (commands : List PlainCommand) → (D.meaning disk).seen ≡ Some file
+            → Opens file commands → HoldsAt (below it.0) (place_of it.0) (records_of commands)) }
+        ensures goes { IfOk result (λ it. GoesOn (D.meaning disk) (below it.0)) }
+        ensures goes_err { IfErr result (λ it. GoesOn (D.meaning disk) (D.meaning it.0)) }
+        ensures turns { IfOk result (λ it. KeepsFile (D.meaning disk) (below it.0)) }
+        ensures turns_err { IfErr result (λ it. ((it.1 ≡ mounting.Disk) × IsNotSynced (D.meaning disk) (D.meaning it.0)) ⊎ KeepsFile (D.meaning disk) (D.meaning it.0)) }
+        ensures damaged { IfErr result (λ it. (place : ℕ) → it.1 ≡ mounting.Damaged place → Tells (D.meaning disk).seen (λ file. Damages file place)) }
+        ensures untouched { IfErr result (λ it. (place : ℕ) → it.1 ≡ mounting.Damaged place → (D.meaning it.0).seen ≡ (D.meaning disk).seen) }
+        ensures cause { IfErr result (λ it. it.1 ≡ mounting.Disk → Rose (D.meaning disk).faults (D.meaning it.0).faults) }
+        ensures unfailed { IfOk result (λ it. (below it.0).faults ≡ (D.meaning disk).faults) }
+        ensures unfailed_err { IfErr result (λ it. (it.1 ≡ mounting.Disk → ⊥) → (D.meaning it.0).faults ≡ (D.meaning disk).faults) }
+        ensures cost { Tells (D.meaning disk).seen (λ file. (records : List Record) → StandsFor file records → steps.new ≤ steps.old + length records) }
     {
-        Archive {
-            alloc,
-            groups: Groups::new(alloc),
-            last: None,
+        match Journal::mount(alloc, disk, limit) {
+            Err((disk, fault)) => Err((disk, mount_fault(fault))),
+            Ok((journal, recs)) => {
+                // a number of 64 bits, and so is each place before it
+                let _end = journal.place();
+                match restore(alloc, &recs, steps) {
+                    Err(fault) => Err((journal.into_disk(), fault)),
+                    Ok((state, commands)) => {
+                        let archive = Archive {
+                            alloc,
+                            state,
+                            journal,
+                            broken: false,
+                        };
+                        let opened = Opened {
+                            commands,
+                            replayed: commands,
+                        };
+                        Ok((archive, opened))
+                    }
+                }
+            }
         }
+    }
+
+    /// Accepts the command and puts its record, or refuses it. `Broken` comes first, exactly where an earlier call has
+    /// answered `Disk`. Then come the refusals in the one order, as those of the archive in memory, and behind them
+    /// `JournalFull`, exactly where the record would end past the limit. `Disk` comes only where the disk's count of faults
+    /// rose: the file then has the record or not. All memory is taken before the first call of the device. At each moment
+    /// of the call a crash leaves the records before, with the command's or without; after `Ok` every crash leaves it.
+    /// Behind `Ok` the archive stands for the past with the command, and else for the past that it stood for.
+    pub fn commit(&mut self, command: Command) -> Result<Done, CommitFault>
+        requires ready { IsReady self.old }
+        ensures broken { (result ≡ Err fault.Broken) ↔ (is_broken self.old ≡ true) }
+        ensures breaks { (is_broken self.new ≡ true) ↔ ((is_broken self.old ≡ true) ⊎ (result ≡ Err fault.Disk)) }
+        ensures commits { (past : Past) → ShowsPast (standing_of self.old) past
+            → Commits past (command_of command) (place_of self.old) (limit_of self.old) (standing_of self.old) result (standing_of self.new) }
+        ensures stands { is_broken self.old ≡ false → ShowsSome (standing_of self.old) × ShowsSome (standing_of self.new) }
+        ensures untouched { IfErr result (λ e. (e ≡ fault.Disk → ⊥) → (disk_of self.new ≡ disk_of self.old) × (place_of self.new ≡ place_of self.old)) }
+        ensures limit { limit_of self.new ≡ limit_of self.old }
+        ensures place { OnOk result (place_of self.new + 1 ≡ place_of self.old + needs (record_of (command_of command))) }
+        ensures ready { IsReady self.new }
+        ensures written { OnOk result (Told (λ old new. new ≡ with_record old (place_of self.old) (record_of (command_of command))) (below self.old).seen (below self.new).seen) }
+        ensures holds { OnOk result ((rs : List Record) → HoldsAt (below self.old) (place_of self.old) rs
+            → HoldsAt (below self.new) (place_of self.new) (rs ++ record_of (command_of command) ∷ [])) }
+        ensures spelled { OnOk result (IsCommand (command_of command)) }
+        ensures spelled_so_far { result ≡ Err fault.Disk → IsCommand (command_of command) }
+        ensures cause { result ≡ Err fault.Disk → Rose (below self.old).faults (below self.new).faults }
+        ensures unfailed { (result ≡ Err fault.Disk → ⊥) → (below self.new).faults ≡ (below self.old).faults }
+        ensures puts { Puts (below self.old) (below self.new) (place_of self.old) (record_of (command_of command)) }
+        ensures acknowledged { OnOk result (Acknowledges (below self.old) (below self.new) (place_of self.old) (place_of self.new) (record_of (command_of command))) }
+    {
+        self.accept(&command)
+    }
+
+    /// What a query lists over all of history, and else its first refusal in the one order, as the archive in memory answers
+    /// it (`ArchiveState::query`), and in at most as many steps. It calls no device, and may be asked behind any answer.
+    pub fn query<'a, L: Ledger>(
+        &'a self,
+        book: &RuleBook,
+        query: &Query,
+        steps: &mut Steps<L>,
+    ) -> Result<Listing<'a>, AskFault>
+        requires each { EachOf book.now.rules.items (λ r. handles (r.vtable, r.value)) }
+        ensures asked { (past : Past) → ShowsPast (standing_of self.now) past → IsAsked past (query_of query.now) result }
+        ensures stands { ShowsSome (standing_of self.now) }
+        ensures cost { (past : Past) → ShowsPast (standing_of self.now) past → steps.new ≤ steps.old + needed (standing_of self.now).groups (meaning_of book.now.rules.items (λ r. handles (r.vtable, r.value)) (λ r. answers (r.vtable, r.value))) past (query_of query.now) }
+    {
+        self.state.query(book, query, steps)
     }
 
     /// The versions with their stored tables. It takes no memory.
     pub fn groups(&self) -> &Groups
-        ensures { result.now ≡ self.now.groups }
+        ensures { result.now ≡ (standing_of self.now).groups }
     {
-        &self.groups
+        self.state.groups()
     }
 
-    /// Accepts the command, or refuses it by the first refusal in the one order: its counts (38); its stamp (20); of
-    /// changes, one after the other, each whole before the next (22, 27, 23, 35, 25); of an operator the number of versions
-    /// (38), its preconditions in written order, and then its inverse (32). Behind an accepted command the archive stands
-    /// for the past with this command. Else it is as it was: `NoMemory` comes where memory runs out, of which all is
-    /// taken before anything changes.
-    pub fn commit(&mut self, command: Command) -> Result<Done, CommitFault>
-        requires { (past : Past) × ShowsPast self.old past }
-        ensures { (past : Past) → ShowsPast self.old past → Commits past (command_of command) self.old result self.new }
+    /// The disk as it stands. It takes no memory.
+    pub fn into_disk(self) -> D
+        ensures { result ≡ disk_of self }
     {
-        match judge(self.alloc, &self.groups, self.last, &command) {
-            Ok(()) => self.accept(&command),
-            Err(fault) => Err(fault),
-        }
+        self.journal.into_disk()
     }
 
-    /// What a query of one table lists at the moments of its slice at which the version that it names is in force: each row
-    /// with its longest periods, ascending by row and start. Else the first refusal in the one order: its counts (38); the
-    /// version (21); and then the refusals of `check_query` over the version's tables. Nothing is listed where the version
-    /// is in force at no moment of the slice. Texts of plain columns are lent by the archive. It takes at most as many steps
-    /// as the table has keys and, in the columns that the query names, entries; and none where the query is refused, or the
-    /// version has no moment of the slice. The one other error is `NoMemory`, where memory runs out.
-    pub fn query<'a, L: Ledger>(
-        &'a self,
-        query: &Query,
-        steps: &mut Steps<L>,
-    ) -> Result<Listing<'a>, AskFault>
-        requires shows { (past : Past) × ShowsPast self.now past }
-        requires one { IsOverOneTable (query_of query.now) }
-        ensures asked { (past : Past) → ShowsPast self.now past → IsAsked past (query_of query.now) result }
-        ensures cost { (past : Past) → ShowsPast self.now past → steps.new ≤ steps.old + needed self.now.groups past (query_of query.now) }
-    {
-        ask(self.alloc, &self.groups, query, steps)
-    }
-
-    // Makes an accepted command ready, and carries it out.
+    // Makes the command ready, puts its record, and carries it out.
     fn accept(&mut self, command: &Command) -> Result<Done, CommitFault>
-        requires { (past : Past) × ShowsPast self.old past × (command_fault past (command_of command.now) ≡ None) }
-        ensures { (past : Past) → ShowsPast self.old past → command_fault past (command_of command.now) ≡ None
-            → Commits past (command_of command.now) self.old result self.new }
+        requires ready { IsReady self.old }
+        ensures broken { (result ≡ Err fault.Broken) ↔ (is_broken self.old ≡ true) }
+        ensures breaks { (is_broken self.new ≡ true) ↔ ((is_broken self.old ≡ true) ⊎ (result ≡ Err fault.Disk)) }
+        ensures commits { (past : Past) → ShowsPast (standing_of self.old) past
+            → Commits past (command_of command.now) (place_of self.old) (limit_of self.old) (standing_of self.old) result (standing_of self.new) }
+        ensures stands { is_broken self.old ≡ false → ShowsSome (standing_of self.old) × ShowsSome (standing_of self.new) }
+        ensures untouched { IfErr result (λ e. (e ≡ fault.Disk → ⊥) → (disk_of self.new ≡ disk_of self.old) × (place_of self.new ≡ place_of self.old)) }
+        ensures limit { limit_of self.new ≡ limit_of self.old }
+        ensures place { OnOk result (place_of self.new + 1 ≡ place_of self.old + needs (record_of (command_of command.now))) }
+        ensures ready { IsReady self.new }
+        ensures written { OnOk result (Told (λ old new. new ≡ with_record old (place_of self.old) (record_of (command_of command.now))) (below self.old).seen (below self.new).seen) }
+        ensures holds { OnOk result ((rs : List Record) → HoldsAt (below self.old) (place_of self.old) rs
+            → HoldsAt (below self.new) (place_of self.new) (rs ++ record_of (command_of command.now) ∷ [])) }
+        ensures spelled { OnOk result (IsCommand (command_of command.now)) }
+        ensures spelled_so_far { result ≡ Err fault.Disk → IsCommand (command_of command.now) }
+        ensures cause { result ≡ Err fault.Disk → Rose (below self.old).faults (below self.new).faults }
+        ensures unfailed { (result ≡ Err fault.Disk → ⊥) → (below self.new).faults ≡ (below self.old).faults }
+        ensures puts { Puts (below self.old) (below self.new) (place_of self.old) (record_of (command_of command.now)) }
+        ensures acknowledged { OnOk result (Acknowledges (below self.old) (below self.new) (place_of self.old) (place_of self.new) (record_of (command_of command.now))) }
     {
-        let next = self.groups.prepare(command)?;
-        Ok(self.carry_out(command, next))
-    }
-
-    // Carries out what was made ready.
-    #[tactic(auto, using(crate::proofs::CarriedOut::shows_next, crate::proofs::CarriedOut::newest_next))]
-    fn carry_out(&mut self, command: &Command, next: Next) -> Done
-        requires { (past : Past) × ShowsPast self.old past × Prepares self.old.groups past (command_of command.now) next }
-        ensures { (past : Past) → ShowsPast self.old past → Prepares self.old.groups past (command_of command.now) next
-            → IsDone past (command_of command.now) result × ShowsPast self.new (past_with past (command_of command.now)) }
-    {
-        let gained = next.gained();
-        let lost = next.lost();
-        self.groups.install(next);
-        self.last = Some(command.stamp());
-        Done {
-            stamp: command.stamp(),
-            gained,
-            lost,
-            version: version_made(command, self.groups.newest()),
+        if self.broken {
+            return Err(CommitFault::Broken);
+        }
+        let (next, sealed) = make_ready(self.alloc, &mut self.state, command)?;
+        match self.journal.put(&sealed) {
+            Ok(()) => Ok(self.state.carry_out(command, next)),
+            Err(PutFault::Full { at, need, limit }) => {
+                Err(CommitFault::Refused(Refusal::JournalFull(at, need, limit)))
+            }
+            Err(PutFault::Disk) => {
+                self.broken = true;
+                Err(CommitFault::Disk)
+            }
         }
     }
 }

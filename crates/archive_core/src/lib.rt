@@ -1,14 +1,17 @@
-//! The archive: it accepts commands, or refuses them, and answers queries from what was accepted. It keeps what it
-//! has in memory.
+//! The archive on a disk: what it has accepted stands in memory (archive_state), and as records in a journal that may stop at
+//! any moment (journal).
 //!
-//! `specs/Standing.antt` says when an archive stands for a past; a command that is accepted makes it stand for the
-//! past with this command.
+//! A command is judged, made ready, written as bytes and sealed before the first call of the device; then its record is put,
+//! and then it is carried out, which cannot fail. So the file and the memory go on together: what stands in memory is always
+//! the past of the file's records, or, after a disk failed, of these but for the last.
 #![tactic(auto)]
 
-mod accepting;
 mod archives;
-mod asking;
+mod decoding;
 mod faults;
+mod readying;
+mod replaying;
 
-pub use archives::{Archive, Done};
-pub use faults::{AskFault, CommitFault};
+pub use archive_state::{AskFault, Done};
+pub use archives::{Archive, Opened};
+pub use faults::{CommitFault, MountFault};

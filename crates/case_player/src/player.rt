@@ -3,6 +3,7 @@
 ghost use Rattle.std.specs.Prelude.{◌≤◌, length};
 
 use crate::block::{Block, block_of};
+use disk_model::MemDisk;
 use itoa::Buffer;
 use prima_base::NoMemory;
 use prima_io::{MemSink, MemSource, Sink, Source};
@@ -16,6 +17,11 @@ const ROOM: usize = 1 << 20;
 // How many bytes of a script are handed out at once.
 const PIECE: usize = 7;
 
+// How many writes and syncs the disk of a script has room for, and how many bytes.
+const DISK_CALLS: u64 = 1 << 16;
+
+const DISK_ROOM: u64 = 1 << 22;
+
 // The replies to a script, and the number of the status with which its run ended.
 #[derive(Drop)]
 struct Played {
@@ -23,8 +29,8 @@ struct Played {
     code: u8,
 }
 
-/// Runs a script over an empty archive, with one rule for each kind of operator. The one error comes where there is no
-/// memory for the rules.
+/// Runs a script over an empty disk in memory, with one rule for each kind of operator. The one error comes where there is no
+/// memory for the rules or the disk.
 pub fn run_with_rules<S: Source, K: Sink>(
     alloc: Global,
     words: &[Word],
@@ -36,7 +42,8 @@ pub fn run_with_rules<S: Source, K: Sink>(
     let Ok(book) = RuleBook::new(alloc, rules) else {
         return Err(NoMemory);
     };
-    Ok(run(alloc, words, &book, source, sink))
+    let mut disk = MemDisk::new(alloc, Vec::new(alloc), DISK_CALLS, DISK_ROOM)?;
+    Ok(run(alloc, words, &book, source, sink, &mut disk))
 }
 
 // Plays one script.

@@ -1,16 +1,21 @@
 //! PRIMA: a transaction-time archive under schema evolution (PRIMA 2008, PRISM 2008).
 //!
-//! The program: it hands the words of the command line, a book of the twelve rules, standard input and standard output
-//! to `run`, and ends with its status.
+//! The program: it hands the words of the command line, a book of the twelve rules, standard input, standard output
+//! and the file of the archive to `run`, and ends with its status.
 #![tactic(auto)]
 
+use disk_model::{Disk, SureDisk};
 use prima_base::NoMemory;
 use prima_io::{Sink, Source};
+use program_words::journal_limit;
 use rewrite_rules::{Rule, RuleBook, push_every_rule};
-use script_cli::{ReaderSource, Status, Word, WriterSink, run};
+use script_cli::{FileDisk, ReaderSource, Status, Word, WriterSink, run};
 use std::alloc::Global;
 use std::process::ExitCode;
 use std::{env, io};
+
+// The archive's file, in the current folder.
+const ARCHIVE: &str = "archive.prima";
 
 // How the program ends where its words cannot be had: memory ran out, or one is no UTF-8.
 fn without_words(error: &io::Error) -> Status {
@@ -22,11 +27,12 @@ fn without_words(error: &io::Error) -> Status {
 }
 
 // Runs the script with one rule for each kind of operator.
-fn run_with_rules<S: Source, K: Sink>(
+fn run_with_rules<S: Source, K: Sink, D: Disk>(
     alloc: Global,
     words: &[Word],
     source: &mut S,
     sink: &mut K,
+    disk: &mut D,
 ) -> Result<Status, NoMemory> {
     let mut rules: Vec<Box<dyn Rule>> = Vec::new(alloc);
     push_every_rule!(alloc, rules);
@@ -34,7 +40,24 @@ fn run_with_rules<S: Source, K: Sink>(
     let Ok(book) = RuleBook::new(alloc, rules) else {
         return Err(NoMemory);
     };
-    Ok(run(alloc, words, &book, source, sink))
+    Ok(run(alloc, words, &book, source, sink, disk))
+}
+
+// Runs over the file of the archive. The words are judged before it is opened, so that wrong ones make no file: then `run`, which
+// judges them again, gets a disk that it does not call.
+fn run_over_the_file<S: Source, K: Sink>(
+    rt: &HostRuntime,
+    words: &[Word],
+    source: &mut S,
+    sink: &mut K,
+) -> Result<Status, NoMemory> {
+    if journal_limit(rt.alloc(), words)?.is_none() {
+        return run_with_rules(rt.alloc(), words, source, sink, &mut SureDisk::new());
+    }
+    match FileDisk::open(rt, ARCHIVE) {
+        Ok(mut disk) => run_with_rules(rt.alloc(), words, source, sink, &mut disk),
+        Err(_) => Ok(Status::DiskFault),
+    }
 }
 
 fn main(rt: HostRuntime) -> ExitCode {
@@ -48,7 +71,7 @@ fn main(rt: HostRuntime) -> ExitCode {
     };
     let mut source = ReaderSource::new(rt.reader());
     let mut sink = WriterSink::new(io::writer(&rt));
-    match run_with_rules(rt.alloc(), &words, &mut source, &mut sink) {
+    match run_over_the_file(&rt, &words, &mut source, &mut sink) {
         Ok(status) => ExitCode::from(status.code()),
         Err(NoMemory) => ExitCode::from(Status::NoMemory.code()),
     }

@@ -1,5 +1,5 @@
 -- A reply counts as an error exactly where its line is one.
-use Rattle.std.proofs.Common.{◌≡◌, ℕ, false, List, [], ◌∷◌, ◌++◌, length, refl, sym}
+use Rattle.std.proofs.Common.{◌≡◌, ℕ, Bool, true, false, List, [], ◌∷◌, ◌++◌, length, refl, sym}
 use Rattle.std.specs.Prelude.{Some, None}
 use Rattle.std.specs.FinMap.{entries}
 use Rattle.relations.specs.Timed.{Entry}
@@ -7,63 +7,67 @@ use Rattle.prima_base.specs.Columns.{Column}
 use Rattle.prima_base.specs.declared.values.Value.{Value}
 use Rattle.prima_base.specs.declared.refusals.Refusal.{Refusal}
 use Rattle.schema_catalog.specs.Tables.{Tables}
-use Rattle.smo_types.specs.Commands.{PlainBody, changing, evolving, PlainVersion}
+use Rattle.smo_types.specs.Commands.{PlainBody, changing, evolving, PlainCommand, PlainVersion}
 use Rattle.smo_meaning.specs.Checks.{Fault}
 use Rattle.smo_meaning.specs.Past.{Past, past_with, tables_of}
-use Rattle.smo_meaning.specs.Accepts.{command_fault}
-use Rattle.temporal_lang.specs.Accepted.{version_fault}
+use Rattle.archive_core.specs.Committing.{commit_fault}
+use Rattle.temporal_lang.specs.Accepted.{version_fault, fault_of_query}
+use Rattle.temporal_lang.specs.Answers.{answer}
 use Rattle.script_parse.specs.Statements.{PlainStatement, write, ask, show_versions, show_schema}
 use Rattle.script_parse.specs.Reading.{Reading, Blank, Refused, Whole, reading}
-use Rattle.archive_core.specs.Asking.{query_fault, own_answer}
-use Rattle.script_cli.specs.Texts.{changed_text, evolved_text, listing_text, tables_text, count_text, version_head, versions_text, schema_text}
-use Rattle.script_cli.specs.RefusalTexts.{refusal_text}
-use Rattle.script_cli.specs.Output.{Reply, refused, accepted, refused_or, body_text, command_text, statement_reply, reading_reply, is_error_line, reply}
+use Rattle.archive_state.specs.Asking.{tells_periods}
+use Rattle.answer_text.specs.Texts.{changed_text, evolved_text, listing_text, tables_text, count_text, version_head, versions_text, schema_text}
+use Rattle.answer_text.specs.RefusalTexts.{refusal_text}
+use Rattle.script_cli.specs.Output.{Recorded, Reply, refused, answered, put, refused_or, body_text, statement_reply, reading_reply, is_error_line, reply}
 
 abbrev Told : Reply → Type 0
 Told r = r.is_error ≡ is_error_line r.text
 
-refusal_told : (r : Refusal) (past : Past) → Told (refused r past)
+refusal_told : (r : Refusal) (now : Recorded) → Told (refused r now)
 unfolding refusal_text
-refusal_told r past = refl
+refusal_told r now = refl
 
-body_told : (stamp : ℕ) (body : PlainBody) (past next last : Past) → Told (accepted (body_text stamp body past next) last)
+body_told : (stamp : ℕ) (body : PlainBody) (past next : Past) → is_error_line (body_text stamp body past next) ≡ false
 unfolding changed_text evolved_text
-body_told stamp (changing changes) past next last = refl
-body_told stamp (evolving op inverse) past next last = refl
+body_told stamp (changing changes) past next = refl
+body_told stamp (evolving op inverse) past next = refl
 
-listing_told : (entries : List (Entry (List Value))) (past : Past) → Told (accepted (listing_text entries) past)
+put_told : (command : PlainCommand) (now : Recorded) → Told (put command now)
+put_told command now = sym (body_told command.stamp command.body now.past (past_with now.past command))
+
+listing_told : (told : Bool) (entries : List (Entry (List Value))) (now : Recorded) → Told (answered (listing_text told entries) now)
 unfolding listing_text
-listing_told [] past = refl
-listing_told (e ∷ entries) past = refl
+listing_told told [] now = refl
+listing_told false (e ∷ entries) now = refl
+listing_told true (e ∷ entries) now = refl
 
-versions_told : (versions : List PlainVersion) (past : Past) → Told (accepted (versions_text versions) past)
+versions_told : (versions : List PlainVersion) (now : Recorded) → Told (answered (versions_text versions) now)
 unfolding versions_text version_head
-versions_told versions past = refl
+versions_told versions now = refl
 
 tables_told : (tables : List (List ℕ × List Column)) (n : ℕ) → is_error_line (tables_text tables ++ count_text n) ≡ false
 tables_told [] n = refl
 tables_told (t ∷ tables) n = refl
 
-schema_told : (tables : Tables) (past : Past) → Told (accepted (schema_text tables) past)
+schema_told : (tables : Tables) (now : Recorded) → Told (answered (schema_text tables) now)
 unfolding schema_text
-schema_told tables past = sym (tables_told (entries tables) (length (entries tables)))
+schema_told tables now = sym (tables_told (entries tables) (length (entries tables)))
 
-refused_told : (fault : Fault) (past : Past) (r : Reply) → Told r → Told (refused_or fault past r)
-refused_told None past r h = h
-refused_told (Some refusal) past r h = refusal_told refusal past
+refused_told : (fault : Fault) (now : Recorded) (r : Reply) → Told r → Told (refused_or fault now r)
+refused_told None now r h = h
+refused_told (Some refusal) now r h = refusal_told refusal now
 
-statement_told : (s : PlainStatement) (past : Past) → Told (statement_reply s past)
-statement_told (write command) past =
-    refused_told (command_fault past command) past (accepted (command_text command past (past_with past command)) (past_with past command)) (body_told command.stamp command.body past (past_with past command) (past_with past command))
-statement_told (ask query) past = refused_told (query_fault past query) past (accepted (listing_text (own_answer past query)) past) (listing_told (own_answer past query) past)
-statement_told show_versions past = versions_told past.versions past
-statement_told (show_schema version) past = refused_told (version_fault past version) past (accepted (schema_text (tables_of past version)) past) (schema_told (tables_of past version) past)
+statement_told : (limit : ℕ) (s : PlainStatement) (now : Recorded) → Told (statement_reply limit s now)
+statement_told limit (write command) now = refused_told (commit_fault now.past now.at limit command) now (put command now) (put_told command now)
+statement_told limit (ask query) now = refused_told (fault_of_query now.past query) now (answered (listing_text (tells_periods query.when) (answer now.past query)) now) (listing_told (tells_periods query.when) (answer now.past query) now)
+statement_told limit show_versions now = versions_told now.past.versions now
+statement_told limit (show_schema version) now = refused_told (version_fault now.past version) now (answered (schema_text (tables_of now.past version)) now) (schema_told (tables_of now.past version) now)
 
-reading_told : (r : Reading) (past : Past) → Told (reading_reply r past)
-reading_told Blank past = refl
-reading_told (Refused r) past = refusal_told r past
-reading_told (Whole s) past = statement_told s past
+reading_told : (limit : ℕ) (r : Reading) (now : Recorded) → Told (reading_reply limit r now)
+reading_told limit Blank now = refl
+reading_told limit (Refused r) now = refusal_told r now
+reading_told limit (Whole s) now = statement_told limit s now
 
-pub error_told : (past : Past) (text : List ℕ) → (reply past text).is_error ≡ is_error_line (reply past text).text
+pub error_told : (limit : ℕ) (now : Recorded) (text : List ℕ) → (reply limit now text).is_error ≡ is_error_line (reply limit now text).text
 unfolding reply
-error_told past text = reading_told (reading text) past
+error_told limit now text = reading_told limit (reading text) now

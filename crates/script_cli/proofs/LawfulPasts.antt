@@ -1,6 +1,7 @@
--- The past behind any statements is lawful.
+-- The past behind any statements is lawful, behind whatever opening commands.
 use Rattle.std.proofs.Common.{◌≡◌, ◌<◌, ℕ, List, [], ◌∷◌, refl, sym, subst, arith}
 use Rattle.std.specs.Prelude.{Some, None}
+use Rattle.archive_file.specs.Opening.{AreCommands}
 use Rattle.relations.specs.Spans.{Span, forever}
 use Rattle.relations.specs.Listing.{IsListing}
 use Rattle.prima_base.specs.Order.{row_cmp}
@@ -10,15 +11,18 @@ use Rattle.smo_meaning.specs.Accepts.{command_fault}
 use Rattle.smo_meaning.specs.LawfulPast.{last_or_nought, IsPast}
 use Rattle.smo_meaning.specs.Past.{Past, beginning, past_behind, past_with, tables_of}
 use Rattle.smo_meaning.proofs.PastSteps.{beginning_is_past, stays_lawful, stamp_accepted, counts_accepted, body_accepted}
-use Rattle.temporal_lang.specs.Accepted.{version_fault}
+use Rattle.temporal_lang.specs.Accepted.{version_fault, fault_of_query}
+use Rattle.temporal_lang.specs.Answers.{asked_at, listing, answer, IsListingOf}
 use Rattle.temporal_lang.specs.Queries.{PlainQuery}
 use Rattle.script_parse.specs.Script.{Piece, Whole as Text, Skipped}
 use Rattle.script_parse.specs.Statements.{PlainStatement, write, ask, show_versions, show_schema}
 use Rattle.script_parse.specs.Reading.{Reading, Blank, Refused, Whole, reading}
-use Rattle.archive_core.specs.Asking.{query_fault, own_slice, own_asked, own_answer}
-use Rattle.archive_core.proofs.OwnAnswers.{accepted_listed}
-use Rattle.script_cli.specs.Output.{accepted, refused_or, command_text, statement_reply, reading_reply, reply, piece_reply, past_after}
-use Rattle.script_cli.specs.Texts.{listing_text, schema_text}
+use Rattle.archive_state.specs.Asking.{tells_periods}
+use Rattle.smo_meaning.specs.History.{AllAccepted, IsHistory, past_after}
+use Rattle.smo_meaning.proofs.Firsts.{none_of_first}
+use Rattle.archive_core.specs.Committing.{room_fault, commit_fault}
+use Rattle.script_cli.specs.Output.{Recorded, recorded, answered, refused_or, put, statement_reply, reading_reply, reply, piece_reply, recorded_after}
+use Rattle.answer_text.specs.Texts.{listing_text, schema_text}
 use Rattle.script_cli.specs.Written.{IsWritten, HasWritten}
 use Rattle.script_cli.proofs.WrittenStatements.{has_written}
 
@@ -34,45 +38,47 @@ last_is : (past : Past) (stamp : ℕ) (body : PlainBody) → last_or_nought (pas
 last_is past stamp (changing changes) = refl
 last_is past stamp (evolving op inverse) = refl
 
-command_keeps : (past : Past) (command : PlainCommand) → IsOfScript past → command.stamp < forever → (fault : Fault) → command_fault past command ≡ fault
-    → IsOfScript (refused_or fault past (accepted (command_text command past (past_with past command)) (past_with past command))).past
-command_keeps past command h written None e = record {
+command_keeps : (past : Past) (command : PlainCommand) → IsOfScript past → command.stamp < forever → command_fault past command ≡ None → IsOfScript (past_with past command)
+command_keeps past command h written e = record {
   made = stays_lawful past command.stamp command.body h.made (stamp_accepted past command e) (counts_accepted past command e) (body_accepted past command e);
   ends = subst (λ n. n < forever) (sym (last_is past command.stamp command.body)) written;
 }
-command_keeps past command h written (Some r) e = h
 
-same_past : (past : Past) (fault : Fault) (text : List ℕ) → IsOfScript past → IsOfScript (refused_or fault past (accepted text past)).past
-same_past past None text h = h
-same_past past (Some r) text h = h
+put_keeps : (now : Recorded) (command : PlainCommand) → IsOfScript now.past → command.stamp < forever → (fault : Fault) → (fault ≡ None → command_fault now.past command ≡ None)
+    → IsOfScript (refused_or fault now (put command now)).behind.past
+put_keeps now command h written None met = command_keeps now.past command h written (met refl)
+put_keeps now command h written (Some r) met = h
 
-statement_keeps : (past : Past) (s : PlainStatement) → IsWritten s → IsOfScript past → IsOfScript (statement_reply s past).past
-statement_keeps past (write command) written h = command_keeps past command h written (command_fault past command) refl
-statement_keeps past (ask query) written h = same_past past (query_fault past query) (listing_text (own_answer past query)) h
-statement_keeps past show_versions written h = h
-statement_keeps past (show_schema version) written h = same_past past (version_fault past version) (schema_text (tables_of past version)) h
+same_past : (now : Recorded) (fault : Fault) (text : List ℕ) → IsOfScript now.past → IsOfScript (refused_or fault now (answered text now)).behind.past
+same_past now None text h = h
+same_past now (Some r) text h = h
 
-reading_keeps : (past : Past) (r : Reading) → HasWritten r → IsOfScript past → IsOfScript (reading_reply r past).past
-reading_keeps past Blank has h = h
-reading_keeps past (Refused r) has h = h
-reading_keeps past (Whole s) has h = statement_keeps past s has h
+module _ (limit : ℕ) where
+  statement_keeps : (now : Recorded) (s : PlainStatement) → IsWritten s → IsOfScript now.past → IsOfScript (statement_reply limit s now).behind.past
+  statement_keeps now (write command) written h =
+      put_keeps now command h written (commit_fault now.past now.at limit command) (λ e. (none_of_first (command_fault now.past command) (room_fault now.at limit command ∷ []) e).0)
+  statement_keeps now (ask query) written h = same_past now (fault_of_query now.past query) (listing_text (tells_periods query.when) (answer now.past query)) h
+  statement_keeps now show_versions written h = h
+  statement_keeps now (show_schema version) written h = same_past now (version_fault now.past version) (schema_text (tables_of now.past version)) h
 
-piece_keeps : (past : Past) (p : Piece) → IsOfScript past → IsOfScript (piece_reply past p).past
-unfolding reply
-piece_keeps past (Text text) h = reading_keeps past (reading text) (has_written text) h
-piece_keeps past Skipped h = h
+  reading_keeps : (now : Recorded) (r : Reading) → HasWritten r → IsOfScript now.past → IsOfScript (reading_reply limit r now).behind.past
+  reading_keeps now Blank has h = h
+  reading_keeps now (Refused r) has h = h
+  reading_keeps now (Whole s) has h = statement_keeps now s has h
 
-pub keeps : (pieces : List Piece) (past : Past) → IsOfScript past → IsOfScript (past_after past pieces)
-keeps [] past h = h
-keeps (p ∷ pieces) past h = keeps pieces (piece_reply past p).past (piece_keeps past p h)
+  piece_keeps : (now : Recorded) (p : Piece) → IsOfScript now.past → IsOfScript (piece_reply limit now p).behind.past
+  unfolding reply
+  piece_keeps now (Text text) h = reading_keeps now (reading text) (has_written text) h
+  piece_keeps now Skipped h = h
+
+  keeps : (pieces : List Piece) (now : Recorded) → IsOfScript now.past → IsOfScript (recorded_after limit now pieces).past
+  keeps [] now h = h
+  keeps (p ∷ pieces) now h = keeps pieces (piece_reply limit now p).behind (piece_keeps now p h)
+
+opening_keeps : (commands : List PlainCommand) (past : Past) → AreCommands commands → AllAccepted past commands → IsOfScript past → IsOfScript (past_after past commands)
+opening_keeps [] past are accepted h = h
+opening_keeps (c ∷ commands) past are accepted h = opening_keeps commands (past_with past c) are.1 accepted.1 (command_keeps past c h are.0.0 accepted.0)
 
 -- it is one that accepted commands make
-pub still_made : (pieces : List Piece) → IsPast (past_after beginning pieces)
-still_made pieces = (keeps pieces beginning beginning_is).made
-
--- a query behind them lists what it asks of each moment at which its version is in force
-pub answers_listed : (pieces : List Piece) (query : PlainQuery) (slice : Span) → query_fault (past_after beginning pieces) query ≡ None → query.keep ≡ [] → own_slice (past_after beginning pieces) query ≡ Some slice
-    → IsListing row_cmp (own_asked (past_after beginning pieces) query) slice (own_answer (past_after beginning pieces) query)
-answers_listed pieces query slice e keep own =
-    let h = keeps pieces beginning beginning_is in
-    accepted_listed (past_after beginning pieces) h.made h.ends query keep e slice own
+pub still_made : (limit : ℕ) (opening : List PlainCommand) (pieces : List Piece) → AreCommands opening → IsHistory opening → IsPast (recorded_after limit (recorded opening) pieces).past
+still_made limit opening pieces are history = (keeps limit pieces (recorded opening) (opening_keeps opening beginning are history beginning_is)).made

@@ -1,176 +1,226 @@
 -- How far a run has come, and what it leaves.
-use Rattle.std.proofs.Common.{◌≡◌, ◌≤◌, ◌+◌, ℕ, true, false, refl, List, [], ◌++◌, length, take, sym, ap, ◌∙◌, subst, append-nil, arith, length-append, inl, inr, take-append-drop, drop}
+use Rattle.std.proofs.Common.{◌≡◌, ◌≤◌, ◌+◌, ℕ, true, false, refl, List, [], ◌∷◌, ◌++◌, length, take, sym, ap, ◌∙◌, subst, append-nil, arith, length-append, inl, inr}
 use Rattle.std.specs.Prelude.{Option, Some, None, ◌||◌}
 use Rattle.std.specs.Io.KnownBytes.{Consumes, Appends, IsAtEnd, Keeps}
-use Rattle.std.proofs.KnownBytes.{Consumes-trans, Consumes-kept, Appends-trans}
+use Rattle.std.proofs.KnownBytes.{Consumes-trans, Consumes-kept}
 use Rattle.std.proofs.lemmas.List.{take_at}
 use Rattle.prima_io.specs.Moves.{AppendsFront}
-use Rattle.prima_io.proofs.Fronts.{after, longer, whole}
-use Rattle.script_parse.specs.Script.{pieces_from, tail_from, tail_of, ending}
+use Rattle.disk_model.specs.Meaning.{IsLawful}
+use Rattle.disk_model.specs.declared.disk.Disk.{Ghosts}
+use Rattle.archive_core.specs.declared.archives.Archive.{Archive}
+use Rattle.archive_core.specs.Fields.{below, place_of}
+use Rattle.script_parse.specs.Script.{Piece, pieces_from, tail_from, ending}
 use Rattle.script_parse.specs.Splitting.{fresh}
-use Rattle.smo_meaning.specs.Past.{Past, beginning}
-use Rattle.archive_core.specs.Standing.{ShowsPast}
-use Rattle.script_cli.specs.Output.{output, replies, past_after, any_error, pieces_of, ending_of, past_of, replies_of, has_error, tail_text, tail_is_due}
-use Rattle.script_cli.specs.declared.sessions.Session.{Session}
-use Rattle.script_cli.specs.Shows.{Took, pieces_behind, ending_behind}
-use Rattle.script_cli.specs.Runs.{Ran, WroteAll, WroteFront, WhereTold, is_whole, is_faulty, Ends}
+use Rattle.script_cli.specs.Output.{Recorded, piece_reply, replies, commands_put, recorded_after, any_error, pieces_of, ending_of, has_error, tail_text, tail_is_due}
+use Rattle.script_cli.specs.declared.script_run.ScriptRun.{ScriptRun}
+use Rattle.script_cli.specs.declared.halt.Halt.{Halt}
+use Rattle.script_cli.specs.declared.halt.Halt.TheVariants as halt
+use Rattle.script_cli.specs.Shows.{StandsAt, PutBetween, StopsIn, Took, Halted, next_reply, pieces_behind, ending_behind}
+use Rattle.script_cli.specs.Runs.{Ran, Wrote, WroteAll, begun}
+use Rattle.script_cli.specs.Driving.{Drove, PutBy, Ends, is_faulty, status_of}
 use Rattle.script_cli.specs.Limits.{longest_script}
-use Rattle.script_cli.specs.declared.runs.Status.{Status}
-use Rattle.script_cli.specs.declared.runs.Status.TheVariants.{Done, Refused, Words, ReadFault, WriteFault, NoMemory, InputLimit}
-use Rattle.script_cli.proofs.Taking.{replies-append, took_none, took_more, took_longer}
-use Rattle.script_cli.proofs.Fronts.{mode_after_script, pieces-append}
+use Rattle.script_cli.specs.declared.status.Status.{Status}
+use Rattle.script_cli.specs.declared.status.Status.TheVariants.{Done, Refused, Words, ReadFault, WriteFault, DiskFault, NotAJournal, NoMemory, InputLimit}
+use Rattle.script_cli.proofs.PutsBehind.{put_then, put_some}
+use Rattle.script_cli.proofs.Taking.{put-append, took_none, took_more, took_longer, halted_behind}
 
--- the session that began the run read nothing yet
-pub record IsStart (start : Session) : Type 0 where
+-- the run at its beginning, which read nothing yet
+pub record IsStart (start : ScriptRun) : Type 0 where
   pub splitter : start.splitter ≡ fresh
   pub refused : start.refused ≡ false
 
 -- these bytes were taken, and the statements that ended in them were answered
-pub record Reached (left_old left_new written_old written_new : Option (List ℕ)) (session : Session) (count : ℕ) : Type 0 where
-  pub start : Session
-  pub begun : IsStart start
+pub record Reached {D : Type 0} {g : Ghosts D} (limit : ℕ) (start : Recorded) (a b : Archive D g) (left_old left_new written_old written_new : Option (List ℕ)) (script_run : ScriptRun) (count : ℕ) : Type 0 where
+  pub run : ScriptRun
+  pub begun_so : IsStart run
   pub taken : List ℕ
   pub consumed : Consumes left_old left_new taken
   pub counted : count ≡ length taken
-  pub took : Took beginning start session taken [] written_old written_new
+  pub took : Took limit start run script_run a b taken [] written_old written_new
 
-module _ (start session : Session) (begun : IsStart start) (taken : List ℕ) (u v : Option (List ℕ)) (took : Took beginning start session taken [] u v) where
-  pub pieces_is : (more : List ℕ) → pieces_of (taken ++ more) ≡ took.pieces ++ pieces_behind session more
-  pieces_is more = ap (λ s. pieces_from s.mode s.kept (taken ++ more)) (sym begun.splitter) ∙ took.cut more
+module _ {D : Type 0} {g : Ghosts D} (limit : ℕ) (start : Recorded) (a b : Archive D g) (run script_run : ScriptRun) (begun_so : IsStart run) (taken : List ℕ) (u v : Option (List ℕ))
+    (took : Took limit start run script_run a b taken [] u v) where
+  pub pieces_is : (more : List ℕ) → pieces_of (taken ++ more) ≡ took.pieces ++ pieces_behind script_run more
+  pieces_is more = ap (λ s. pieces_from s.mode s.kept (taken ++ more)) (sym begun_so.splitter) ∙ took.cut more
 
-  pub ending_is : ending_of taken ≡ ending_behind session []
-  ending_is = ap ending_of (sym (append-nil taken)) ∙ ap (λ s. ending (tail_from s.mode s.kept (taken ++ []))) (sym begun.splitter) ∙ took.end []
+  pub ending_is : ending_of taken ≡ ending_behind script_run []
+  ending_is = ap ending_of (sym (append-nil taken)) ∙ ap (λ s. ending (tail_from s.mode s.kept (taken ++ []))) (sym begun_so.splitter) ∙ took.end []
 
   pub all_pieces : pieces_of taken ≡ took.pieces
   all_pieces = ap pieces_of (sym (append-nil taken)) ∙ pieces_is [] ∙ append-nil took.pieces
 
-  pub replies_are : replies beginning took.pieces ≡ replies_of taken
-  replies_are = ap (replies beginning) (sym all_pieces)
-
-  pub faulty_is : is_faulty session ≡ has_error taken
+  pub faulty_is : is_faulty script_run ≡ has_error limit start taken
   faulty_is =
-      ap (λ b. b || tail_is_due (ending_behind session [])) (took.refused ∙ ap (λ b. b || any_error beginning took.pieces) begun.refused)
-      ∙ ap (λ l. any_error beginning l || tail_is_due (ending_behind session [])) (sym all_pieces)
-      ∙ ap (λ e. any_error beginning (pieces_of taken) || tail_is_due e) (sym ending_is)
+      ap (λ x. x || tail_is_due (ending_behind script_run [])) (took.refused ∙ ap (λ x. x || any_error limit start took.pieces) begun_so.refused)
+      ∙ ap (λ l. any_error limit start l || tail_is_due (ending_behind script_run [])) (sym all_pieces)
+      ∙ ap (λ e. any_error limit start (pieces_of taken) || tail_is_due e) (sym ending_is)
 
-module _ {a b u v : Option (List ℕ)} {s : Session} {n : ℕ} where
-  pub wrote_replies : (r : Reached a b u v s n) → Appends u v (replies_of r.taken)
-  wrote_replies r = subst (Appends u v) (replies_are r.start s r.begun r.taken u v r.took) r.took.wrote
+  -- all that was to be put was put
+  pub puts_all : PutBetween a b (commands_put limit start (took.pieces ++ []))
+  puts_all = subst (λ l. PutBetween a b (commands_put limit start l)) (sym (append-nil took.pieces)) took.puts
 
-  consumed_still : (c : Option (List ℕ)) (r : Reached a b u v s n) → Consumes b c [] → Consumes a c r.taken
-  consumed_still c r k = subst (Consumes a c) (append-nil r.taken) (Consumes-trans a b c r.taken [] r.consumed k)
+-- what the first of these statements puts
+next_puts : (limit : ℕ) (now : Recorded) (rest : List Piece) → commands_put limit now (take 1 rest) ≡ (next_reply limit now rest).puts
+next_puts limit now [] = refl
+next_puts limit now (p ∷ rest) = append-nil (piece_reply limit now p).puts
 
-  taken_within : (r : Reached a b u v s n) (piece : List ℕ) → n + length piece ≤ longest_script → length (r.taken ++ piece) ≤ longest_script
-  taken_within r piece l = subst (λ m. m ≤ longest_script) (sym (length-append r.taken piece)) (subst (λ m. m + length piece ≤ longest_script) r.counted l)
-
-  -- the past behind what was taken
-  pub past_reached : Reached a b u v s n → Past
-  past_reached r = past_after beginning r.took.pieces
-
-  front_piece : (w : Option (List ℕ)) (r : Reached a b u v s n) (piece : List ℕ) → AppendsFront v w (replies (past_after beginning r.took.pieces) (pieces_behind s piece)) → AppendsFront u w (replies_of (r.taken ++ piece))
-  front_piece w r piece p =
-      subst (AppendsFront u w) (sym (ap (replies beginning) (pieces_is r.start s r.begun r.taken u v r.took piece) ∙ replies-append beginning r.took.pieces (pieces_behind s piece)))
-      (after u v w (replies beginning r.took.pieces) _ r.took.wrote p)
-
-  all_said : (w : Option (List ℕ)) (r : Reached a b u v s n) → Appends v w (tail_text (ending_behind s [])) → Appends u w (output r.taken)
-  all_said w r p = Appends-trans u v w (replies_of r.taken) (tail_text (ending_of r.taken)) (wrote_replies r) (subst (λ e. Appends v w (tail_text e)) (sym (ending_is r.start s r.begun r.taken u v r.took)) p)
-
-  front_said : (w : Option (List ℕ)) (r : Reached a b u v s n) → AppendsFront v w (tail_text (ending_behind s [])) → AppendsFront u w (output r.taken)
-  front_said w r p = after u v w (replies_of r.taken) (tail_text (ending_of r.taken)) (wrote_replies r) (subst (λ e. AppendsFront v w (tail_text e)) (sym (ending_is r.start s r.begun r.taken u v r.took)) p)
+next_put : (limit : ℕ) (start : Recorded) (whole rest : List Piece)
+    → commands_put limit start whole ++ (next_reply limit (recorded_after limit start whole) rest).puts ≡ commands_put limit start (whole ++ take 1 rest)
+next_put limit start whole rest =
+    ap (λ l. commands_put limit start whole ++ l) (sym (next_puts limit (recorded_after limit start whole) rest)) ∙ sym (put-append limit start whole (take 1 rest))
 
 -- the start of a run
-pub reach_start : (a u : Option (List ℕ)) (s : Session) → IsStart s → ShowsPast s.archive beginning → Consumes a a [] → Reached a a u u s 0
-reach_start a u s h shows k = record { start = s; begun = h; taken = []; consumed = k; counted = refl; took = took_none beginning s [] u shows }
+pub reach_start : {D : Type 0} {g : Ghosts D} (limit : ℕ) (start : Recorded) (archive : Archive D g) (a u : Option (List ℕ)) (s : ScriptRun) → IsLawful (below archive) → IsStart s
+    → StandsAt archive limit start → Consumes a a [] → Reached limit start archive archive a a u u s 0
+reach_start limit start archive a u s law h stands k = record { run = s; begun_so = h; taken = []; consumed = k; counted = refl; took = took_none limit start s archive [] u law stands }
 
-module _ {a b c u v : Option (List ℕ)} {s : Session} {n : ℕ} where
-  pub ran_read : Reached a b u v s n → n ≤ longest_script → Keeps b c → Ran a c u v ReadFault
-  ran_read r l k = record { taken = r.taken; consumed = Consumes-kept a b c r.taken r.consumed k; wrote = (subst (λ m. m ≤ longest_script) r.counted l, wrote_replies r) }
+consumed_still : (a b c : Option (List ℕ)) (taken : List ℕ) → Consumes a b taken → Consumes b c [] → Consumes a c taken
+consumed_still a b c taken k none = subst (Consumes a c) (append-nil taken) (Consumes-trans a b c taken [] k none)
 
-  pub ran_limit : (r : Reached a b u v s n) (piece : List ℕ) → Consumes b c piece → n ≡ longest_script → length piece ≡ 1 → Ran a c u v InputLimit
-  ran_limit r piece k e l = record {
-    taken = r.taken ++ piece;
-    consumed = Consumes-trans a b c r.taken piece r.consumed k;
-    wrote = (length-append r.taken piece ∙ omega (arith, r.counted), subst (λ t. Appends u v (replies_of t)) (sym (take_at r.taken piece longest_script (sym r.counted ∙ e))) (wrote_replies r));
+within_still : (n : ℕ) (taken : List ℕ) → n ≡ length taken → n ≤ longest_script → length taken ≤ longest_script
+within_still n taken counted l = subst (λ k. k ≤ longest_script) counted l
+
+module _ {D : Type 0} {g : Ghosts D} (limit : ℕ) (start : Recorded) (o m : Archive D g) {a b c u v : Option (List ℕ)} {s : ScriptRun} {n : ℕ} where
+  pub drove_read : Reached limit start o m a b u v s n → n ≤ longest_script → Keeps b c → Drove limit start ReadFault a c u v (below o) (below m) (place_of o)
+  drove_read r l k = record {
+    ran = record {
+      taken = r.taken;
+      consumed = Consumes-kept a b c r.taken r.consumed k;
+      whole = r.took.pieces;
+      rest = [];
+      are = all_pieces limit start o m r.run s r.begun_so r.taken u v r.took ∙ sym (append-nil r.took.pieces);
+      between = v;
+      replied = r.took.wrote;
+      wrote = (within_still n r.taken r.counted l, refl, refl);
+    };
+    puts = (place_of m, puts_all limit start o m r.run s r.begun_so r.taken u v r.took);
   }
 
-module _ {a b c u v w : Option (List ℕ)} {s : Session} {n : ℕ} where
-  pub reach : (r : Reached a b u v s n) (piece : List ℕ) (m : ℕ) (next : Session) → Consumes b c piece → m ≡ n + length piece
-      → ((past : Past) → ShowsPast s.archive past → Took past s next piece [] v w) → Reached a c u w next m
+  pub drove_limit : (r : Reached limit start o m a b u v s n) (piece : List ℕ) → Consumes b c piece → n ≡ longest_script → length piece ≡ 1
+      → Drove limit start InputLimit a c u v (below o) (below m) (place_of o)
+  drove_limit r piece k e l = record {
+    ran = record {
+      taken = r.taken ++ piece;
+      consumed = Consumes-trans a b c r.taken piece r.consumed k;
+      whole = r.took.pieces;
+      rest = pieces_behind s piece;
+      are = pieces_is limit start o m r.run s r.begun_so r.taken u v r.took piece;
+      between = v;
+      replied = r.took.wrote;
+      wrote = (
+        length-append r.taken piece ∙ omega (arith, r.counted, e, l),
+        sym (ap pieces_of (take_at r.taken piece longest_script (sym r.counted ∙ e)) ∙ all_pieces limit start o m r.run s r.begun_so r.taken u v r.took),
+        refl,
+      );
+    };
+    puts = (place_of m, puts_all limit start o m r.run s r.begun_so r.taken u v r.took);
+  }
+
+-- what the run had answered when it stopped, and in which reply it did
+stopped : {D : Type 0} {g : Ghosts D} (limit : ℕ) (start : Recorded) (o m e : Archive D g) (a b u v w : Option (List ℕ)) (s : ScriptRun) (n : ℕ) (h : Halt) (r : Reached limit start o m a b u v s n) (piece : List ℕ)
+    → ((l : ℕ) → (now : Recorded) → StandsAt m l now → Halted h l now (pieces_behind s piece) m e v w) → Halted h limit start (r.took.pieces ++ pieces_behind s piece) o e u w
+stopped limit start o m e a b u v w s n h r piece f =
+    halted_behind limit start h r.took.pieces (pieces_behind s piece) o m e u v w r.took.puts r.took.wrote (f limit (recorded_after limit start r.took.pieces) r.took.stands)
+
+module _ {D : Type 0} {g : Ghosts D} (limit : ℕ) (start : Recorded) (o e : Archive D g) (u w : Option (List ℕ)) where
+  wrote_halted : (h : Halt) (c : Option (List ℕ)) (taken : List ℕ) (pieces : List Piece) → length taken ≤ longest_script → (x : Halted h limit start pieces o e u w)
+      → Wrote (status_of h) limit start taken x.whole x.rest c x.between w
+  wrote_halted halt.WriteFault c taken pieces l x = (l, inl x.stops.0)
+  wrote_halted halt.DiskFault c taken pieces l x = (l, x.stops.0, (x.stops.1.command, x.stops.1.due))
+  wrote_halted halt.NoMemory c taken pieces l x = (l, x.stops.0)
+
+  puts_halted : (h : Halt) (pieces : List Piece) → IsLawful (below e) → (x : Halted h limit start pieces o e u w)
+      → PutBy (status_of h) (below o) (below e) (place_of o) (commands_put limit start x.whole) (commands_put limit start (x.whole ++ begun (status_of h) x.rest))
+  puts_halted halt.WriteFault pieces law x =
+      let next = next_reply limit (recorded_after limit start x.whole) x.rest in (
+        place_of e,
+        subst (PutBetween o e) (next_put limit start x.whole x.rest)
+            (put_then (below o) (below x.mid) (below e) (place_of o) (place_of x.mid) (place_of e) (commands_put limit start x.whole) next.puts x.puts x.stops.1),
+      )
+  puts_halted halt.DiskFault pieces law x =
+      let next = next_reply limit (recorded_after limit start x.whole) x.rest in
+      subst (λ l. PutBy DiskFault (below o) (below e) (place_of o) (commands_put limit start x.whole) l) (next_put limit start x.whole x.rest)
+      (put_some (below o) (below x.mid) (below e) (place_of o) (place_of x.mid) (commands_put limit start x.whole) next.puts law x.puts x.stops.1)
+  puts_halted halt.NoMemory pieces law x = (
+    place_of e,
+    subst (PutBetween o e) (append-nil (commands_put limit start x.whole) ∙ ap (commands_put limit start) (sym (append-nil x.whole)))
+        (put_then (below o) (below x.mid) (below e) (place_of o) (place_of x.mid) (place_of e) (commands_put limit start x.whole) [] x.puts x.stops.1),
+  )
+
+module _ {D : Type 0} {g : Ghosts D} (limit : ℕ) (start : Recorded) (o m e : Archive D g) {a b c u v w : Option (List ℕ)} {s : ScriptRun} {n : ℕ} where
+  pub reach : (r : Reached limit start o m a b u v s n) (piece : List ℕ) (k : ℕ) (next : ScriptRun) → Consumes b c piece → k ≡ n + length piece
+      → ((l : ℕ) → (now : Recorded) → StandsAt m l now → Took l now s next m e piece [] v w) → Reached limit start o e a c u w next k
   unfolding took_longer
-  reach r piece m next k l f = record {
-    start = r.start;
-    begun = r.begun;
+  reach r piece k next consumes is f = record {
+    run = r.run;
+    begun_so = r.begun_so;
     taken = r.taken ++ piece;
-    consumed = Consumes-trans a b c r.taken piece r.consumed k;
-    counted = l ∙ ap (λ k. k + length piece) r.counted ∙ sym (length-append r.taken piece);
-    took = took_more beginning r.start s next (r.taken ++ piece) piece [] u v w (took_longer beginning r.start s r.taken [] piece u v r.took) (f (past_after beginning r.took.pieces) r.took.shows);
+    consumed = Consumes-trans a b c r.taken piece r.consumed consumes;
+    counted = is ∙ ap (λ j. j + length piece) r.counted ∙ sym (length-append r.taken piece);
+    took = took_more limit start r.run s next o m e (r.taken ++ piece) piece [] u v w (took_longer limit start r.run s o m r.taken [] piece u v r.took)
+        (f limit (recorded_after limit start r.took.pieces) r.took.stands);
   }
 
-  pub ran_memory : (r : Reached a b u v s n) (piece : List ℕ) → n + length piece ≤ longest_script → Consumes b c piece → ((past : Past) → ShowsPast s.archive past → AppendsFront v w (replies past (pieces_behind s piece))) → Ran a c u w NoMemory
-  ran_memory r piece l k p = record { taken = r.taken ++ piece; consumed = Consumes-trans a b c r.taken piece r.consumed k; wrote = (taken_within r piece l, inl (front_piece w r piece (p (past_after beginning r.took.pieces) r.took.shows))) }
+  pub drove_halted : (h : Halt) (r : Reached limit start o m a b u v s n) (piece : List ℕ) → IsLawful (below e) → n + length piece ≤ longest_script → Consumes b c piece
+      → ((l : ℕ) → (now : Recorded) → StandsAt m l now → Halted h l now (pieces_behind s piece) m e v w) → Drove limit start (status_of h) a c u w (below o) (below e) (place_of o)
+  drove_halted h r piece law l k f =
+      let x = stopped limit start o m e a b u v w s n h r piece f in
+      let within : length (r.taken ++ piece) ≤ longest_script = omega (arith, l, r.counted, length-append r.taken piece) in
+      record {
+        ran = record {
+          taken = r.taken ++ piece;
+          consumed = Consumes-trans a b c r.taken piece r.consumed k;
+          whole = x.whole;
+          rest = x.rest;
+          are = pieces_is limit start o m r.run s r.begun_so r.taken u v r.took piece ∙ x.are;
+          between = x.between;
+          replied = x.wrote;
+          wrote = wrote_halted limit start o e u w h c (r.taken ++ piece) (r.took.pieces ++ pieces_behind s piece) within x;
+        };
+        puts = puts_halted limit start o e u w h (r.took.pieces ++ pieces_behind s piece) law x;
+      }
 
-  pub ran_write : (r : Reached a b u v s n) (piece : List ℕ) → n + length piece ≤ longest_script → Consumes b c piece → ((past : Past) → ShowsPast s.archive past → AppendsFront v w (replies past (pieces_behind s piece))) → Ran a c u w WriteFault
-  ran_write r piece l k p = record { taken = r.taken ++ piece; consumed = Consumes-trans a b c r.taken piece r.consumed k; wrote = (taken_within r piece l, inl (front_piece w r piece (p (past_after beginning r.took.pieces) r.took.shows))) }
+module _ {D : Type 0} {g : Ghosts D} (limit : ℕ) (start : Recorded) (o m : Archive D g) {a b c u v w : Option (List ℕ)} {s : ScriptRun} {n : ℕ} (r : Reached limit start o m a b u v s n)
+    (within : n ≤ longest_script) (consumes : Consumes b c []) (end : IsAtEnd c) where
+  ended : (status : Status) → Wrote status limit start r.taken r.took.pieces [] c v w → PutBy status (below o) (below m) (place_of o) (commands_put limit start r.took.pieces) (commands_put limit start (r.took.pieces ++ begun status []))
+      → Drove limit start status a c u w (below o) (below m) (place_of o)
+  ended status wrote puts = record {
+    ran = record {
+      taken = r.taken;
+      consumed = consumed_still a b c r.taken r.consumed consumes;
+      whole = r.took.pieces;
+      rest = [];
+      are = all_pieces limit start o m r.run s r.begun_so r.taken u v r.took ∙ sym (append-nil r.took.pieces);
+      between = v;
+      replied = r.took.wrote;
+      wrote = wrote;
+    };
+    puts = puts;
+  }
 
-  wrote_all : (r : Reached a b u v s n) → n ≤ longest_script → IsAtEnd c → Appends v w (tail_text (ending_behind s [])) → WroteAll r.taken c u w
-  wrote_all r le end p = record { end = end; within = subst (λ m. m ≤ longest_script) r.counted le; all = all_said w r p }
+  wrote_all : Appends v w (tail_text (ending_behind s [])) → WroteAll r.taken [] c v w
+  wrote_all p = record {
+    end = end;
+    within = within_still n r.taken r.counted within;
+    answered = refl;
+    all = subst (λ e. Appends v w (tail_text e)) (sym (ending_is limit start o m r.run s r.begun_so r.taken u v r.took)) p;
+  }
 
-  pub ran_end : (status : Status) (r : Reached a b u v s n) → n ≤ longest_script → Consumes b c [] → IsAtEnd c → Ends status s v w → Ran a c u w status
-  ran_end Done r le k end e = record { taken = r.taken; consumed = consumed_still c r k; wrote = (wrote_all r le end e.0, sym (faulty_is r.start s r.begun r.taken u v r.took) ∙ e.1) }
-  ran_end Refused r le k end e = record { taken = r.taken; consumed = consumed_still c r k; wrote = (wrote_all r le end e.0, sym (faulty_is r.start s r.begun r.taken u v r.took) ∙ e.1) }
-  ran_end WriteFault r le k end e = record { taken = r.taken; consumed = consumed_still c r k; wrote = (subst (λ m. m ≤ longest_script) r.counted le, inr (end, front_said w r e)) }
-  ran_end NoMemory r le k end e = record { taken = r.taken; consumed = consumed_still c r k; wrote = (subst (λ m. m ≤ longest_script) r.counted le, inr (end, front_said w r e)) }
-  ran_end ReadFault r le k end e = absurd e
-  ran_end Words r le k end e = absurd e
-  ran_end InputLimit r le k end e = absurd e
-
--- a script's replies begin with those to its front
-replies_begin : (xs ys : List ℕ) → replies_of (xs ++ ys) ≡ replies_of xs ++ replies (past_of xs) (pieces_from (mode_after_script xs) (tail_of xs) ys)
-replies_begin xs ys = ap (replies beginning) (pieces-append xs ys) ∙ replies-append beginning (pieces_of xs) (pieces_from (mode_after_script xs) (tail_of xs) ys)
-
--- a front of the replies to a front is a front of the output
-pub front_more : (u w : Option (List ℕ)) (xs ys : List ℕ) → AppendsFront u w (replies_of xs) → AppendsFront u w (output (xs ++ ys))
-front_more u w xs ys p =
-    longer u w (replies_of (xs ++ ys)) (tail_text (ending_of (xs ++ ys))) (subst (AppendsFront u w) (sym (replies_begin xs ys)) (longer u w (replies_of xs) _ p))
-
--- the script that was there, where it was told
-script_is : (script ys taken : List ℕ) → Consumes (Some script) (Some ys) taken → script ≡ taken ++ ys
-script_is script ys taken k = k
-
-front_told : (a c u w : Option (List ℕ)) (taken : List ℕ) → Consumes a c taken → AppendsFront u w (replies_of taken) → WhereTold a (λ script. AppendsFront u w (output script))
-front_told None c u w taken k p = tt
-front_told (Some script) None u w taken k p = absurd k
-front_told (Some script) (Some ys) u w taken k p = subst (λ s. AppendsFront u w (output s)) (sym k) (front_more u w taken ys p)
-
--- the whole script was taken
-told_end : (P : List ℕ → Type 0) (a c : Option (List ℕ)) (taken : List ℕ) → Consumes a c taken → IsAtEnd c → P taken → WhereTold a P
-told_end P None c taken k e p = tt
-told_end P (Some script) None taken k e p = absurd k
-told_end P (Some script) (Some ys) taken k e p = subst P (sym (k ∙ ap (λ l. taken ++ l) e ∙ append-nil taken)) p
-
-write_told : (a c u w : Option (List ℕ)) (taken : List ℕ) → Consumes a c taken → WroteFront taken c u w → WhereTold a (λ script. AppendsFront u w (output script))
-write_told a c u w taken k (inl p) = front_told a c u w taken k p
-write_told a c u w taken k (inr (e, p)) = told_end (λ script. AppendsFront u w (output script)) a c taken k e p
-
-limit_told : (a c u w : Option (List ℕ)) (taken : List ℕ) (n : ℕ) → Consumes a c taken → Appends u w (replies_of (take n taken)) → WhereTold a (λ script. AppendsFront u w (output script))
-limit_told a c u w taken n k p =
-    front_told a c u w taken k (subst (AppendsFront u w) (sym (ap replies_of (sym (take-append-drop n taken)) ∙ replies_begin (take n taken) (drop n taken)))
-    (longer u w (replies_of (take n taken)) _ (whole u w _ p)))
-
-pub ran_front : (a c u w : Option (List ℕ)) (status : Status) → Ran a c u w status → WhereTold a (λ script. AppendsFront u w (output script))
-ran_front a c u w Done r = told_end (λ script. AppendsFront u w (output script)) a c r.taken r.consumed r.wrote.0.end (whole u w _ r.wrote.0.all)
-ran_front a c u w Refused r = told_end (λ script. AppendsFront u w (output script)) a c r.taken r.consumed r.wrote.0.end (whole u w _ r.wrote.0.all)
-ran_front a c u w Words r = absurd r.wrote
-ran_front a c u w ReadFault r = front_told a c u w r.taken r.consumed (whole u w _ r.wrote.1)
-ran_front a c u w WriteFault r = write_told a c u w r.taken r.consumed r.wrote.1
-ran_front a c u w NoMemory r = write_told a c u w r.taken r.consumed r.wrote.1
-ran_front a c u w InputLimit r = limit_told a c u w r.taken longest_script r.consumed r.wrote.1
-
-pub ran_whole : (a c u w : Option (List ℕ)) (status : Status) → Ran a c u w status → is_whole status ≡ true → WhereTold a (λ script. Appends u w (output script))
-ran_whole a c u w Done r e = told_end (λ script. Appends u w (output script)) a c r.taken r.consumed r.wrote.0.end r.wrote.0.all
-ran_whole a c u w Refused r e = told_end (λ script. Appends u w (output script)) a c r.taken r.consumed r.wrote.0.end r.wrote.0.all
-ran_whole a c u w Words r e = cc
-ran_whole a c u w ReadFault r e = cc
-ran_whole a c u w WriteFault r e = cc
-ran_whole a c u w NoMemory r e = cc
-ran_whole a c u w InputLimit r e = cc
+  pub drove_end : (status : Status) → Ends status s v w → Drove limit start status a c u w (below o) (below m) (place_of o)
+  drove_end Done e = ended Done (wrote_all e.0, sym (faulty_is limit start o m r.run s r.begun_so r.taken u v r.took) ∙ e.1) (place_of m, puts_all limit start o m r.run s r.begun_so r.taken u v r.took)
+  drove_end Refused e = ended Refused (wrote_all e.0, sym (faulty_is limit start o m r.run s r.begun_so r.taken u v r.took) ∙ e.1) (place_of m, puts_all limit start o m r.run s r.begun_so r.taken u v r.took)
+  drove_end WriteFault e = ended WriteFault (
+    within_still n r.taken r.counted within,
+    inr (record {
+      end = end;
+      answered = refl;
+      front = subst (λ x. AppendsFront v w (tail_text x)) (sym (ending_is limit start o m r.run s r.begun_so r.taken u v r.took)) e;
+    }),
+  )
+      (place_of m, puts_all limit start o m r.run s r.begun_so r.taken u v r.took)
+  drove_end Words e = absurd e
+  drove_end ReadFault e = absurd e
+  drove_end DiskFault e = absurd e
+  drove_end (NotAJournal place) e = absurd e
+  drove_end NoMemory e = absurd e
+  drove_end InputLimit e = absurd e

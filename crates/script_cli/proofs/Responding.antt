@@ -1,23 +1,40 @@
 -- What was put of a reply.
-use Rattle.std.proofs.Common.{◌≡◌, ℕ, Bool, true, false, List, [], length, refl, sym, subst, ◌∙◌}
+use Rattle.std.proofs.Common.{◌≡◌, ℕ, Bool, true, false, List, [], ◌∷◌, length, refl, sym, subst, ap, ◌∙◌, arith, ◌+◌}
 use Rattle.std.specs.Prelude.{Option, Some, None, Result, Ok, Err, IfOk, OnOk, OnErr}
 use Rattle.std.specs.Io.KnownBytes.{Appends}
 use Rattle.std.proofs.KnownBytes.{Appends-nil}
 use Rattle.prima_io.specs.Moves.{AppendsFront}
+use Rattle.prima_io.specs.Causes.{HasCause, Rose}
 use Rattle.prima_base.specs.declared.refusals.Refusal.{Refusal}
+use Rattle.prima_base.specs.declared.failures.Failed.{Failed}
+use Rattle.disk_model.specs.Meaning.{Meaning, IsLawful}
+use Rattle.disk_model.specs.declared.disk.Disk.{Ghosts}
 use Rattle.smo_meaning.specs.Checks.{Fault}
 use Rattle.smo_meaning.specs.Past.{Past, past_with}
 use Rattle.smo_types.specs.Commands.{PlainBody, changing, evolving, PlainCommand}
-use Rattle.smo_meaning.specs.Accepts.{command_fault}
 use Rattle.version_groups.specs.Steps.{rows_gained, rows_lost}
-use Rattle.archive_core.specs.declared.archives.Done.{Done}
-use Rattle.archive_core.specs.Standing.{Standing, ShowsPast}
-use Rattle.archive_core.specs.Committing.{version_made, IsDone}
-use Rattle.script_cli.specs.declared.stops.Stop.{Stop}
-use Rattle.script_cli.specs.RefusalTexts.{refusal_text}
-use Rattle.script_cli.specs.Texts.{made_text, done_text}
-use Rattle.script_cli.specs.Output.{Reply, accepted, refused, refused_or, body_text, command_text, command_reply}
-use Rattle.script_cli.specs.Shows.{Says, Responds}
+use Rattle.archive_state.specs.declared.archives.Done.{Done}
+use Rattle.archive_state.specs.Committing.{version_made, IsDone}
+use Rattle.archive_core.specs.declared.archives.Archive.{Archive}
+use Rattle.journal.specs.Standing.{needs}
+use Rattle.archive_file.specs.Opening.{record_of}
+use Rattle.archive_state.specs.Standing.{ShowsPast}
+use Rattle.archive_core.specs.Fields.{standing_of, disk_of, below, place_of, limit_of, is_broken, IsReady}
+use Rattle.archive_core.specs.Committing.{commit_fault}
+use Rattle.answer_text.specs.RefusalTexts.{refusal_text}
+use Rattle.answer_text.specs.Texts.{made_text}
+use Rattle.script_parse.specs.Statements.{PlainStatement}
+use Rattle.script_parse.specs.Reading.{Reading, Blank, Refused, Whole, reading}
+use Rattle.script_cli.specs.Output.{Recorded, recorded_with, Reply, done_text, answered, refused, refused_or, put, body_text, command_text, command_reply, statement_reply, reading_reply, reply}
+use Rattle.script_cli.specs.declared.put.Put.{Put}
+use Rattle.script_cli.specs.declared.put.Put.TheVariants.{NoError}
+use Rattle.script_cli.specs.declared.halt.Halt.{Halt}
+use Rattle.script_cli.specs.declared.halt.Halt.TheVariants.{WriteFault, DiskFault, NoMemory}
+use Rattle.script_cli.specs.Halts.{or_write_fault, HaltCounted, SaidCounted}
+use Rattle.script_cli.specs.Puts.{is_error}
+use Rattle.script_cli.specs.Putting.{HasPut}
+use Rattle.script_cli.specs.Shows.{Says, Responds, StandsAt, TakesRecords, PutBetween}
+use Rattle.script_cli.proofs.PutsBehind.{put_nothing}
 
 -- the line tells what the command did
 body_said : (past next : Past) (stamp : ℕ) (body : PlainBody) → made_text stamp (rows_gained past body) (rows_lost past body) (version_made body (length next.versions)) ≡ body_text stamp body past next
@@ -30,45 +47,148 @@ done_said past command done h =
     = λ i. made_text (h.stamp i) (h.gained i) (h.lost i) (h.version i) in
     same ∙ body_said past (past_with past command) command.stamp command.body
 
-module _ (old new : Option (List ℕ)) where
-  -- a refusal
-  pub refused_says : (fault : Fault) (r : Refusal) (past : Past) (reply : Reply) (result : Result Bool Stop) → fault ≡ Some r
-      → IfOk result (λ is_error. is_error ≡ true) → OnOk result (Appends old new (refusal_text r)) → OnErr result (AppendsFront old new (refusal_text r)) → Says (refused_or fault past reply) result old new
-  refused_says None r past reply result e ok all part = absurd (cc)
-  refused_says (Some q) r past reply (Ok b) e ok all part = let same : r ≡ q = cc in (ok, subst (λ (x : Refusal). Appends old new (refusal_text x)) same all)
-  refused_says (Some q) r past reply (Err stop) e ok all part = let same : r ≡ q = cc in subst (λ (x : Refusal). AppendsFront old new (refusal_text x)) same part
-
-  -- an answer
-  pub answered_says : (fault : Fault) (past : Past) (text said : List ℕ) (result : Result Bool Stop) → fault ≡ None → said ≡ text
-      → IfOk result (λ is_error. is_error ≡ false) → OnOk result (Appends old new said) → OnErr result (AppendsFront old new said) → Says (refused_or fault past (accepted text past)) result old new
-  answered_says None past text said (Ok b) e same ok all part = (ok, subst (λ (t : List ℕ). Appends old new t) same all)
-  answered_says None past text said (Err stop) e same ok all part = subst (λ (t : List ℕ). AppendsFront old new t) same part
-  answered_says (Some r) past text said result e same ok all part = absurd (cc)
-
-  -- what an accepted command did
-  pub done_responds : (past : Past) (command : PlainCommand) (done : Done) (result : Result Bool Stop) (archive : Standing) → command_fault past command ≡ None → IsDone past command done
-      → ShowsPast archive (past_with past command) → IfOk result (λ is_error. is_error ≡ false) → OnOk result (Appends old new (done_text done)) → OnErr result (AppendsFront old new (done_text done))
-      → Responds (command_reply command past) result archive old new
-  done_responds past command done result archive e h stands ok all part =
-      let next : Past = past_with past command in
-      subst (λ (f : Fault). Responds (refused_or f past (accepted (command_text command past next) next)) result archive old new) (sym e) (step result ok all part)
-    where
-      step : (r : Result Bool Stop) → IfOk r (λ is_error. is_error ≡ false) → OnOk r (Appends old new (done_text done)) → OnErr r (AppendsFront old new (done_text done))
-          → Responds (accepted (command_text command past (past_with past command)) (past_with past command)) r archive old new
-      step (Ok b) ok all part = record { is = ok; past = stands; text = subst (λ (t : List ℕ). Appends old new t) (done_said past command done h) all }
-      step (Err stop) ok all part = subst (λ (t : List ℕ). AppendsFront old new t) (done_said past command done h) part
-
-  -- a command that is refused
-  pub refused_responds : (past : Past) (command : PlainCommand) (r : Refusal) (result : Result Bool Stop) (before behind : Standing) → command_fault past command ≡ Some r → behind ≡ before → ShowsPast before past
-      → IfOk result (λ is_error. is_error ≡ true) → OnOk result (Appends old new (refusal_text r)) → OnErr result (AppendsFront old new (refusal_text r)) → Responds (command_reply command past) result behind old new
-  refused_responds past command r result before behind e same stands ok all part =
-      let next : Past = past_with past command in
-      subst (λ (f : Fault). Responds (refused_or f past (accepted (command_text command past next) next)) result behind old new) (sym e) (step result ok all part)
-    where
-      step : (x : Result Bool Stop) → IfOk x (λ is_error. is_error ≡ true) → OnOk x (Appends old new (refusal_text r)) → OnErr x (AppendsFront old new (refusal_text r)) → Responds (refused r past) x behind old new
-      step (Ok b) ok all part = record { is = ok; past = subst (λ (s : Standing). ShowsPast s past) (sym same) stands; text = all }
-      step (Err stop) ok all part = part
-
 -- nothing was put
 pub nothing_put : (at : Option (List ℕ)) (text : List ℕ) → AppendsFront at at text
 nothing_put at text = ([], text, refl, Appends-nil at)
+
+-- the counts of faults of what calls no disk
+pub said_counted : (r : Result Put Failed) (before now : ℕ) → HasCause before now r → SaidCounted (or_write_fault r) before now
+said_counted (Ok p) before now h = h.kept
+said_counted (Err e) before now h = (h.later, h.failed)
+
+pub halt_counted : (r : Result Put Failed) (before now disk later : ℕ) → HasCause before now r → later ≡ disk → HaltCounted (or_write_fault r) before now disk later
+halt_counted (Ok p) before now disk later h same = (h.kept, same)
+halt_counted (Err e) before now disk later h same = ((h.later, h.failed), same)
+
+-- what is said without a disk is counted
+pub halt_said : (r : Result Put Halt) (before now disk : ℕ) → SaidCounted r before now → HaltCounted r before now disk disk
+halt_said (Ok p) before now disk h = (h, refl)
+halt_said (Err WriteFault) before now disk h = (h, refl)
+halt_said (Err DiskFault) before now disk h = absurd h
+halt_said (Err NoMemory) before now disk h = (h, refl)
+
+module _ (old new : Option (List ℕ)) where
+  -- a refusal
+  pub refused_says : (fault : Fault) (r : Refusal) (now : Recorded) (reply : Reply) (result : Result Put Failed) → fault ≡ Some r
+      → IfOk result (λ put. is_error put ≡ true) → OnOk result (Appends old new (refusal_text r)) → OnErr result (AppendsFront old new (refusal_text r))
+      → Says (refused_or fault now reply) (or_write_fault result) old new
+  refused_says None r now reply result e ok all part = absurd (cc)
+  refused_says (Some q) r now reply (Ok b) e ok all part = let same : r ≡ q = cc in (ok, subst (λ (x : Refusal). Appends old new (refusal_text x)) same all)
+  refused_says (Some q) r now reply (Err stop) e ok all part = let same : r ≡ q = cc in subst (λ (x : Refusal). AppendsFront old new (refusal_text x)) same part
+
+  -- an answer
+  pub answered_says : (fault : Fault) (now : Recorded) (text said : List ℕ) (result : Result Put Failed) → fault ≡ None → said ≡ text
+      → IfOk result (λ put. is_error put ≡ false) → OnOk result (Appends old new said) → OnErr result (AppendsFront old new said) → Says (refused_or fault now (answered text now)) (or_write_fault result) old new
+  answered_says None now text said (Ok b) e same ok all part = (ok, subst (λ (t : List ℕ). Appends old new t) same all)
+  answered_says None now text said (Err stop) e same ok all part = subst (λ (t : List ℕ). AppendsFront old new t) same part
+  answered_says (Some r) now text said result e same ok all part = absurd (cc)
+
+  module _ {D : Type 0} {g : Ghosts D} (limit : ℕ) (now : Recorded) (a b : Archive D g) where
+    -- a statement that calls no disk
+    pub says_responds : (reply : Reply) (result : Result Put Halt) → IsLawful (below a) → StandsAt a limit now → reply.puts ≡ [] → reply.behind ≡ now → Says reply result old new
+        → Responds limit reply result a a old new
+    says_responds reply (Ok put) law stands none same says = record {
+      is = says.0;
+      stands = subst (StandsAt a limit) (sym same) stands;
+      puts = subst (PutBetween a a) (sym none) (put_nothing (below a) (place_of a) law);
+      text = says.1;
+    }
+    says_responds reply (Err WriteFault) law stands none same says = (says, subst (PutBetween a a) (sym none) (put_nothing (below a) (place_of a) law))
+    says_responds reply (Err DiskFault) law stands none same says = absurd says
+    says_responds reply (Err NoMemory) law stands none same says = (says, put_nothing (below a) (place_of a) law)
+
+    -- an accepted command that was put
+    pub done_responds : (command : PlainCommand) (done : Done) (result : Result Put Failed) → commit_fault now.past now.at limit command ≡ None → IsDone now.past command done
+        → StandsAt b limit (put command now).behind → PutBetween a b (command ∷ []) → IfOk result (λ put. is_error put ≡ false) → OnOk result (Appends old new (done_text done))
+        → OnErr result (AppendsFront old new (done_text done)) → Responds limit (command_reply limit command now) (or_write_fault result) a b old new
+    done_responds command done result e h stands puts ok all part =
+        subst (λ (f : Fault). Responds limit (refused_or f now (put command now)) (or_write_fault result) a b old new) (sym e) (step result ok all part)
+      where
+        step : (r : Result Put Failed) → IfOk r (λ put. is_error put ≡ false) → OnOk r (Appends old new (done_text done)) → OnErr r (AppendsFront old new (done_text done))
+            → Responds limit (put command now) (or_write_fault r) a b old new
+        step (Ok p) ok all part = record { is = ok; stands = stands; puts = puts; text = subst (λ (t : List ℕ). Appends old new t) (done_said now.past command done h) all }
+        step (Err stop) ok all part = (subst (λ (t : List ℕ). AppendsFront old new t) (done_said now.past command done h) part, puts)
+
+    -- a command that is refused
+    pub refused_responds : (command : PlainCommand) (r : Refusal) (result : Result Put Failed) → commit_fault now.past now.at limit command ≡ Some r → StandsAt b limit now → PutBetween a b []
+        → IfOk result (λ put. is_error put ≡ true) → OnOk result (Appends old new (refusal_text r)) → OnErr result (AppendsFront old new (refusal_text r))
+        → Responds limit (command_reply limit command now) (or_write_fault result) a b old new
+    refused_responds command r result e stands puts ok all part =
+        subst (λ (f : Fault). Responds limit (refused_or f now (put command now)) (or_write_fault result) a b old new) (sym e) (step result ok all part)
+      where
+        step : (x : Result Put Failed) → IfOk x (λ put. is_error put ≡ true) → OnOk x (Appends old new (refusal_text r)) → OnErr x (AppendsFront old new (refusal_text r))
+            → Responds limit (refused r now) (or_write_fault x) a b old new
+        step (Ok p) ok all part = record { is = ok; stands = stands; puts = puts; text = all }
+        step (Err stop) ok all part = (part, puts)
+
+-- ---- what committing a command does
+
+pub fault_here : {D : Type 0} {g : Ghosts D} (a : Archive D g) (limit : ℕ) (now : Recorded) (command : PlainCommand) (fault : Fault) → StandsAt a limit now
+    → commit_fault now.past (place_of a) (limit_of a) command ≡ fault → commit_fault now.past now.at limit command ≡ fault
+fault_here a limit now command fault stands e =
+    ap (λ n. commit_fault now.past n limit command) (sym stands.place) ∙ ap (λ n. commit_fault now.past (place_of a) n command) (sym stands.limit_is) ∙ e
+
+module _ {D : Type 0} {g : Ghosts D} (a b : Archive D g) (limit : ℕ) (now : Recorded) (stands : StandsAt a limit now) where
+  -- it stands for what is behind a command that was put
+  pub stands_behind : (command : PlainCommand) → ShowsPast (standing_of b) (past_with now.past command) → place_of b + 1 ≡ place_of a + needs (record_of command) → limit_of b ≡ limit_of a
+      → StandsAt b limit (recorded_with now command)
+  stands_behind command shows place same = record { past = shows; place = omega (arith, place, stands.place); limit_is = same ∙ stands.limit_is }
+
+  -- it stands as it stood
+  pub stands_still : ShowsPast (standing_of b) now.past → place_of b ≡ place_of a → limit_of b ≡ limit_of a → StandsAt b limit now
+  stands_still shows place same = record { past = shows; place = place ∙ stands.place; limit_is = same ∙ stands.limit_is }
+
+-- no disk was called
+pub untouched_between : {D : Type 0} {g : Ghosts D} (a b : Archive D g) → IsLawful (below a) → disk_of b ≡ disk_of a → place_of b ≡ place_of a → PutBetween a b []
+untouched_between {D} {g} a b law disk place =
+    subst (λ d. HasPut (below a) (g.meaning d) (place_of a) (place_of b) []) (sym disk)
+    (subst (λ n. HasPut (below a) (below a) (place_of a) n []) (sym place) (put_nothing (below a) (place_of a) law))
+
+-- an accepted command puts itself
+pub puts_itself : (limit : ℕ) (now : Recorded) (command : PlainCommand) → commit_fault now.past now.at limit command ≡ None → (command_reply limit command now).puts ≡ command ∷ []
+puts_itself limit now command e = ap (λ (f : Fault). (refused_or f now (put command now)).puts) e
+
+-- it still takes records
+pub still_takes : {D : Type 0} {g : Ghosts D} (a : Archive D g) → (is_broken a ≡ true → ⊥) → IsReady a → TakesRecords a
+still_takes a not_broken ready = let whole = not_true (is_broken a) not_broken in (whole, ready whole)
+  where
+    not_true : (b : Bool) → (b ≡ true → ⊥) → b ≡ false
+    not_true true h = absurd (h refl)
+    not_true false h = refl
+
+pub on_ok : {T E : Type 0} (r : Result T E) (P : Type 0) → P → OnOk r P
+on_ok (Ok x) P p = p
+on_ok (Err e) P p = tt
+
+-- ---- a statement's bytes
+
+-- the reply is that to what they are read as
+reply_is : (limit : ℕ) (now : Recorded) (text : List ℕ) (r : Reading) → r ≡ reading text → reading_reply limit r now ≡ reply limit now text
+unfolding reply
+reply_is limit now text r e = ap (λ x. reading_reply limit x now) e
+
+module _ {D : Type 0} {g : Ghosts D} (a b : Archive D g) (limit : ℕ) (now : Recorded) (text : List ℕ) (u w : Option (List ℕ)) where
+  -- a statement
+  pub read_responds : (s : PlainStatement) (result : Result Put Halt) → Whole s ≡ reading text → Responds limit (statement_reply limit s now) result a b u w → Responds limit (reply limit now text) result a b u w
+  read_responds s result e h = subst (λ y. Responds limit y result a b u w) (reply_is limit now text (Whole s) e) h
+
+  -- no statement
+  pub blank_responds : Blank ≡ reading text → IsLawful (below a) → StandsAt a limit now → Responds limit (reply limit now text) (Ok NoError) a a u u
+  blank_responds e law stands = subst (λ y. Responds limit y (Ok NoError) a a u u) (reply_is limit now text Blank e)
+      (says_responds u u limit now a a (answered [] now) (Ok NoError) law stands refl refl (refl, Appends-nil u))
+
+  -- what is read as no statement is refused
+  pub unread_responds : (r : Refusal) (put : Result Put Failed) (said : Result Put Halt) → Refused r ≡ reading text → said ≡ or_write_fault put → IsLawful (below a) → StandsAt a limit now
+      → IfOk put (λ p. is_error p ≡ true) → OnOk put (Appends u w (refusal_text r)) → OnErr put (AppendsFront u w (refusal_text r)) → Responds limit (reply limit now text) said a a u w
+  unread_responds r put said e is law stands ok all part =
+      subst (λ x. Responds limit (reply limit now text) x a a u w) (sym is)
+      (subst (λ y. Responds limit y (or_write_fault put) a a u w) (reply_is limit now text (Refused r) e)
+      (says_responds u w limit now a a (refused r now) (or_write_fault put) law stands refl refl (refused_says u w (Some r) r now (refused r now) put refl ok all part)))
+
+  -- or memory ran out
+  pub memory_responds : (reply : Reply) → IsLawful (below a) → Responds limit reply (Err NoMemory) a a u u
+  memory_responds reply law = (nothing_put u reply.text, put_nothing (below a) (place_of a) law)
+
+-- the counts of faults of what is said without a disk
+pub said_halt : (put : Result Put Failed) (said : Result Put Halt) (before now disk : ℕ) → said ≡ or_write_fault put → HasCause before now put → HaltCounted said before now disk disk
+said_halt put said before now disk is cause = subst (λ x. HaltCounted x before now disk disk) (sym is) (halt_counted put before now disk disk cause refl)

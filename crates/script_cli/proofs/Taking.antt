@@ -1,19 +1,23 @@
--- What a session has made of the bytes that it took.
+-- What the run of a script has made of the bytes that it took.
 use Rattle.std.proofs.Common.{◌≡◌, ℕ, Bool, true, false, List, [], ◌∷◌, ◌++◌, refl, sym, ap, ◌∙◌, subst, append_assoc, append-nil}
 use Rattle.std.specs.Prelude.{◌||◌, Option, Some, None, MatchOption}
 use Rattle.std.specs.Io.KnownBytes.{Appends}
 use Rattle.std.proofs.KnownBytes.{Appends-trans, Appends-nil}
-use Rattle.prima_io.specs.Moves.{AppendsFront}
-use Rattle.prima_io.proofs.Fronts.{after, longer}
+use Rattle.disk_model.specs.Meaning.{IsLawful}
+use Rattle.disk_model.specs.declared.disk.Disk.{Ghosts}
+use Rattle.smo_types.specs.Commands.{PlainCommand}
+use Rattle.archive_core.specs.declared.archives.Archive.{Archive}
+use Rattle.archive_core.specs.Fields.{below, place_of}
 use Rattle.script_parse.specs.Script.{Piece, pieces_from, tail_from, ending}
 use Rattle.script_parse.specs.Splitting.{found, IsSettled, State}
 use Rattle.script_parse.specs.declared.splitter.Cut.{Cut}
 use Rattle.script_parse.specs.declared.splitter.Cut.TheVariants.{More}
-use Rattle.script_cli.specs.declared.sessions.Session.{Session}
-use Rattle.smo_meaning.specs.Past.{Past}
-use Rattle.archive_core.specs.Standing.{ShowsPast}
-use Rattle.script_cli.specs.Output.{piece_reply, replies, past_after, any_error}
-use Rattle.script_cli.specs.Shows.{Took, pieces_behind, ending_behind}
+use Rattle.script_cli.specs.declared.script_run.ScriptRun.{ScriptRun}
+use Rattle.script_cli.specs.declared.halt.Halt.{Halt}
+use Rattle.script_cli.specs.declared.halt.Halt.TheVariants.{NoMemory}
+use Rattle.script_cli.specs.Output.{Recorded, Reply, piece_reply, replies, commands_put, recorded_after, any_error}
+use Rattle.script_cli.specs.Shows.{StandsAt, PutBetween, StopsIn, Took, Halted, next_reply, pieces_behind, ending_behind}
+use Rattle.script_cli.proofs.PutsBehind.{put_nothing, put_then}
 
 pub or_assoc : (a b c : Bool) → (a || (b || c)) ≡ ((a || b) || c)
 or_assoc true b c = refl
@@ -25,69 +29,131 @@ or_false false = refl
 
 -- ---- statements one after the other
 
-pub past-append : (p : Past) (xs ys : List Piece) → past_after p (xs ++ ys) ≡ past_after (past_after p xs) ys
-past-append p [] ys = refl
-past-append p (x ∷ xs) ys = past-append (piece_reply p x).past xs ys
+module _ (limit : ℕ) where
+  pub after-append : (now : Recorded) (xs ys : List Piece) → recorded_after limit now (xs ++ ys) ≡ recorded_after limit (recorded_after limit now xs) ys
+  after-append now [] ys = refl
+  after-append now (x ∷ xs) ys = after-append (piece_reply limit now x).behind xs ys
 
-pub replies-append : (p : Past) (xs ys : List Piece) → replies p (xs ++ ys) ≡ replies p xs ++ replies (past_after p xs) ys
-replies-append p [] ys = refl
-replies-append p (x ∷ xs) ys =
-    ap (λ l. (piece_reply p x).text ++ l) (replies-append (piece_reply p x).past xs ys)
-    ∙ sym (append_assoc (piece_reply p x).text (replies (piece_reply p x).past xs) (replies (past_after (piece_reply p x).past xs) ys))
+  pub replies-append : (now : Recorded) (xs ys : List Piece) → replies limit now (xs ++ ys) ≡ replies limit now xs ++ replies limit (recorded_after limit now xs) ys
+  replies-append now [] ys = refl
+  replies-append now (x ∷ xs) ys =
+      let next = (piece_reply limit now x).behind in
+      ap (λ l. (piece_reply limit now x).text ++ l) (replies-append next xs ys)
+      ∙ sym (append_assoc (piece_reply limit now x).text (replies limit next xs) (replies limit (recorded_after limit next xs) ys))
 
-pub error-append : (p : Past) (xs ys : List Piece) → any_error p (xs ++ ys) ≡ (any_error p xs || any_error (past_after p xs) ys)
-error-append p [] ys = refl
-error-append p (x ∷ xs) ys =
-    ap (λ b. (piece_reply p x).is_error || b) (error-append (piece_reply p x).past xs ys)
-    ∙ or_assoc (piece_reply p x).is_error (any_error (piece_reply p x).past xs) (any_error (past_after (piece_reply p x).past xs) ys)
+  pub put-append : (now : Recorded) (xs ys : List Piece) → commands_put limit now (xs ++ ys) ≡ commands_put limit now xs ++ commands_put limit (recorded_after limit now xs) ys
+  put-append now [] ys = refl
+  put-append now (x ∷ xs) ys =
+      let next = (piece_reply limit now x).behind in
+      ap (λ l. (piece_reply limit now x).puts ++ l) (put-append next xs ys)
+      ∙ sym (append_assoc (piece_reply limit now x).puts (commands_put limit next xs) (commands_put limit (recorded_after limit next xs) ys))
+
+  pub error-append : (now : Recorded) (xs ys : List Piece) → any_error limit now (xs ++ ys) ≡ (any_error limit now xs || any_error limit (recorded_after limit now xs) ys)
+  error-append now [] ys = refl
+  error-append now (x ∷ xs) ys =
+      let next = (piece_reply limit now x).behind in
+      ap (λ b. (piece_reply limit now x).is_error || b) (error-append next xs ys)
+      ∙ or_assoc (piece_reply limit now x).is_error (any_error limit next xs) (any_error limit (recorded_after limit next xs) ys)
 
 -- ---- bytes one after the other
 
-module _ (past : Past) where
+module _ {D : Type 0} {g : Ghosts D} (limit : ℕ) (now : Recorded) where
   -- none was taken
-  pub took_none : (s : Session) (bytes : List ℕ) (w : Option (List ℕ)) → ShowsPast s.archive past → Took past s s bytes bytes w w
-  took_none s bytes w h = record { pieces = []; cut = λ more. refl; end = λ more. refl; shows = h; refused = or_false s.refused; wrote = Appends-nil w }
+  pub took_none : (s : ScriptRun) (a : Archive D g) (bytes : List ℕ) (w : Option (List ℕ)) → IsLawful (below a) → StandsAt a limit now → Took limit now s s a a bytes bytes w w
+  took_none s a bytes w law stands = record {
+    pieces = [];
+    cut = λ more. refl;
+    end = λ more. refl;
+    stands = stands;
+    refused = or_false s.refused;
+    puts = put_nothing (below a) (place_of a) law;
+    wrote = Appends-nil w;
+  }
 
   -- one ended
-  pub took_one : (a b : Session) (xs ys : List ℕ) (u v : Option (List ℕ)) (piece : Piece)
-      → ((more : List ℕ) → pieces_behind a (xs ++ more) ≡ piece ∷ pieces_behind b (ys ++ more)) → ((more : List ℕ) → ending_behind a (xs ++ more) ≡ ending_behind b (ys ++ more))
-      → ShowsPast b.archive (piece_reply past piece).past → b.refused ≡ (a.refused || (piece_reply past piece).is_error) → Appends u v (piece_reply past piece).text → Took past a b xs ys u v
-  took_one a b xs ys u v piece cut end h faulty wrote = record {
+  pub took_one : (s t : ScriptRun) (a b : Archive D g) (xs ys : List ℕ) (u v : Option (List ℕ)) (piece : Piece)
+      → ((more : List ℕ) → pieces_behind s (xs ++ more) ≡ piece ∷ pieces_behind t (ys ++ more)) → ((more : List ℕ) → ending_behind s (xs ++ more) ≡ ending_behind t (ys ++ more))
+      → StandsAt b limit (piece_reply limit now piece).behind → t.refused ≡ (s.refused || (piece_reply limit now piece).is_error) → PutBetween a b (piece_reply limit now piece).puts
+      → Appends u v (piece_reply limit now piece).text → Took limit now s t a b xs ys u v
+  took_one s t a b xs ys u v piece cut end stands faulty puts wrote = record {
     pieces = piece ∷ [];
     cut = cut;
     end = end;
-    shows = h;
-    refused = faulty ∙ ap (λ x. a.refused || x) (or_false (piece_reply past piece).is_error);
-    wrote = subst (Appends u v) (sym (append-nil (piece_reply past piece).text)) wrote;
+    stands = stands;
+    refused = faulty ∙ ap (λ x. s.refused || x) (or_false (piece_reply limit now piece).is_error);
+    puts = subst (PutBetween a b) (sym (append-nil (piece_reply limit now piece).puts)) puts;
+    wrote = subst (Appends u v) (sym (append-nil (piece_reply limit now piece).text)) wrote;
   }
 
   -- more were taken
-  pub took_more : (a b c : Session) (xs ys zs : List ℕ) (u v w : Option (List ℕ)) → (t : Took past a b xs ys u v) → Took (past_after past t.pieces) b c ys zs v w → Took past a c xs zs u w
-  took_more a b c xs ys zs u v w t n = record {
-    pieces = t.pieces ++ n.pieces;
-    cut = λ more. t.cut more ∙ ap (λ l. t.pieces ++ l) (n.cut more) ∙ sym (append_assoc t.pieces n.pieces (pieces_behind c (zs ++ more)));
-    end = λ more. t.end more ∙ n.end more;
-    shows = subst (ShowsPast c.archive) (sym (past-append past t.pieces n.pieces)) n.shows;
-    refused = n.refused ∙ ap (λ x. x || any_error (past_after past t.pieces) n.pieces) t.refused ∙ sym (or_assoc a.refused (any_error past t.pieces) (any_error (past_after past t.pieces) n.pieces)) ∙ ap (λ x. a.refused || x) (sym (error-append past t.pieces n.pieces));
-    wrote = subst (Appends u w) (sym (replies-append past t.pieces n.pieces)) (Appends-trans u v w (replies past t.pieces) (replies (past_after past t.pieces) n.pieces) t.wrote n.wrote);
-  }
+  pub took_more : (s t n : ScriptRun) (a b c : Archive D g) (xs ys zs : List ℕ) (u v w : Option (List ℕ)) → (k : Took limit now s t a b xs ys u v)
+      → Took limit (recorded_after limit now k.pieces) t n b c ys zs v w → Took limit now s n a c xs zs u w
+  took_more s t n a b c xs ys zs u v w k m =
+      let next = recorded_after limit now k.pieces in record {
+        pieces = k.pieces ++ m.pieces;
+        cut = λ more. k.cut more ∙ ap (λ l. k.pieces ++ l) (m.cut more) ∙ sym (append_assoc k.pieces m.pieces (pieces_behind n (zs ++ more)));
+        end = λ more. k.end more ∙ m.end more;
+        stands = subst (StandsAt c limit) (sym (after-append limit now k.pieces m.pieces)) m.stands;
+        refused = m.refused ∙ ap (λ x. x || any_error limit next m.pieces) k.refused ∙ sym (or_assoc s.refused (any_error limit now k.pieces) (any_error limit next m.pieces))
+            ∙ ap (λ x. s.refused || x) (sym (error-append limit now k.pieces m.pieces));
+        puts = subst (PutBetween a c) (sym (put-append limit now k.pieces m.pieces))
+            (put_then (below a) (below b) (below c) (place_of a) (place_of b) (place_of c) (commands_put limit now k.pieces) (commands_put limit next m.pieces) k.puts m.puts);
+        wrote = subst (Appends u w) (sym (replies-append limit now k.pieces m.pieces)) (Appends-trans u v w (replies limit now k.pieces) (replies limit next m.pieces) k.wrote m.wrote);
+      }
 
   -- the same bytes in front of others
-  unfoldable pub took_longer : (a b : Session) (xs ys zs : List ℕ) (u v : Option (List ℕ)) → Took past a b xs ys u v → Took past a b (xs ++ zs) (ys ++ zs) u v
-  took_longer a b xs ys zs u v t = record {
-    pieces = t.pieces;
-    cut = λ more. ap (pieces_behind a) (append_assoc xs zs more) ∙ t.cut (zs ++ more) ∙ ap (λ l. t.pieces ++ pieces_behind b l) (sym (append_assoc ys zs more));
-    end = λ more. ap (ending_behind a) (append_assoc xs zs more) ∙ t.end (zs ++ more) ∙ ap (ending_behind b) (sym (append_assoc ys zs more));
-    shows = t.shows;
-    refused = t.refused;
-    wrote = t.wrote;
+  unfoldable pub took_longer : (s t : ScriptRun) (a b : Archive D g) (xs ys zs : List ℕ) (u v : Option (List ℕ)) → Took limit now s t a b xs ys u v → Took limit now s t a b (xs ++ zs) (ys ++ zs) u v
+  took_longer s t a b xs ys zs u v k = record {
+    pieces = k.pieces;
+    cut = λ more. ap (pieces_behind s) (append_assoc xs zs more) ∙ k.cut (zs ++ more) ∙ ap (λ l. k.pieces ++ pieces_behind t l) (sym (append_assoc ys zs more));
+    end = λ more. ap (ending_behind s) (append_assoc xs zs more) ∙ k.end (zs ++ more) ∙ ap (ending_behind t) (sym (append_assoc ys zs more));
+    stands = k.stands;
+    refused = k.refused;
+    puts = k.puts;
+    wrote = k.wrote;
   }
 
-  -- behind bytes that were taken, the others were answered in part
-  pub front_more : (a b : Session) (xs ys : List ℕ) (u v w : Option (List ℕ)) → (t : Took past a b xs ys u v) → AppendsFront v w (replies (past_after past t.pieces) (pieces_behind b ys)) → AppendsFront u w (replies past (pieces_behind a xs))
-  front_more a b xs ys u v w t h =
-      let whole : pieces_behind a xs ≡ t.pieces ++ pieces_behind b ys = ap (pieces_behind a) (sym (append-nil xs)) ∙ t.cut [] ∙ ap (λ l. t.pieces ++ pieces_behind b l) (append-nil ys) in
-      subst (AppendsFront u w) (sym (ap (replies past) whole ∙ replies-append past t.pieces (pieces_behind b ys))) (after u v w (replies past t.pieces) _ t.wrote h)
+  -- behind statements that were answered the run stopped
+  pub halted_behind : (halt : Halt) (before pieces : List Piece) (a b c : Archive D g) (u v w : Option (List ℕ)) → PutBetween a b (commands_put limit now before)
+      → Appends u v (replies limit now before) → Halted halt limit (recorded_after limit now before) pieces b c v w → Halted halt limit now (before ++ pieces) a c u w
+  halted_behind halt before pieces a b c u v w puts wrote h =
+      let next = recorded_after limit now before in record {
+        whole = before ++ h.whole;
+        rest = h.rest;
+        are = ap (λ l. before ++ l) h.are ∙ sym (append_assoc before h.whole h.rest);
+        mid = h.mid;
+        between = h.between;
+        wrote = subst (Appends u h.between) (sym (replies-append limit now before h.whole)) (Appends-trans u v h.between (replies limit now before) (replies limit next h.whole) wrote h.wrote);
+        puts = subst (PutBetween a h.mid) (sym (put-append limit now before h.whole))
+            (put_then (below a) (below b) (below h.mid) (place_of a) (place_of b) (place_of h.mid) (commands_put limit now before) (commands_put limit next h.whole) puts h.puts);
+        stops = subst (λ n. StopsIn halt (next_reply limit n h.rest) h.mid c h.between w) (sym (after-append limit now before h.whole)) h.stops;
+      }
+
+  -- behind bytes that were taken
+  pub halted_more : (halt : Halt) (s t : ScriptRun) (a b c : Archive D g) (xs ys : List ℕ) (u v w : Option (List ℕ)) → (k : Took limit now s t a b xs ys u v)
+      → Halted halt limit (recorded_after limit now k.pieces) (pieces_behind t ys) b c v w → Halted halt limit now (pieces_behind s xs) a c u w
+  halted_more halt s t a b c xs ys u v w k h =
+      let all : pieces_behind s xs ≡ k.pieces ++ pieces_behind t ys = ap (pieces_behind s) (sym (append-nil xs)) ∙ k.cut [] ∙ ap (λ l. k.pieces ++ pieces_behind t l) (append-nil ys) in
+      subst (λ l. Halted halt limit now l a c u w) (sym all) (halted_behind halt k.pieces (pieces_behind t ys) a b c u v w k.puts k.wrote h)
+
+  -- the run stopped in the first of these
+  pub halted_first : (halt : Halt) (pieces : List Piece) (a b : Archive D g) (u v : Option (List ℕ)) → IsLawful (below a) → StopsIn halt (next_reply limit now pieces) a b u v
+      → Halted halt limit now pieces a b u v
+  halted_first halt pieces a b u v law stops = record {
+    whole = [];
+    rest = pieces;
+    are = refl;
+    mid = a;
+    between = u;
+    wrote = Appends-nil u;
+    puts = put_nothing (below a) (place_of a) law;
+    stops = stops;
+  }
+
+  -- memory ran out before any of these was answered
+  pub halted_memory : (pieces : List Piece) (a : Archive D g) (u : Option (List ℕ)) → IsLawful (below a) → Halted NoMemory limit now pieces a a u u
+  halted_memory pieces a u law =
+      halted_first NoMemory pieces a a u u law (([], (next_reply limit now pieces).text, refl, Appends-nil u), put_nothing (below a) (place_of a) law)
 
 -- what an answer is in its case
 pub left_none : {T : Type 0} (o : Option T) (A : Type 0) (B : T → Type 0) → o ≡ None → MatchOption o A B → A
@@ -100,32 +166,33 @@ left_some o t A B e h = subst (λ x. MatchOption x A B) e h
 pub all_taken : (cut : Cut) (rest : List ℕ) (state : State) → cut ≡ More → IsSettled cut rest state → rest ≡ []
 all_taken cut rest state e h = let P : Cut → Type 0 = λ k. IsSettled k rest state in subst P e h
 
-module _ (past : Past) (a b : Session) (s : State) (xs ys : List ℕ) (u v : Option (List ℕ)) (cut : Cut)
-    (statements : (more : List ℕ) → pieces_behind a (xs ++ more) ≡ found cut ++ pieces_from s.mode s.kept (ys ++ more))
-    (tail : (more : List ℕ) → ending_behind a (xs ++ more) ≡ ending (tail_from s.mode s.kept (ys ++ more)))
-    (same : b.splitter ≡ s) where
+module _ {D : Type 0} {g : Ghosts D} (limit : ℕ) (now : Recorded) (s t : ScriptRun) (z : State) (a b : Archive D g) (xs ys : List ℕ) (u v : Option (List ℕ)) (cut : Cut)
+    (statements : (more : List ℕ) → pieces_behind s (xs ++ more) ≡ found cut ++ pieces_from z.mode z.kept (ys ++ more))
+    (tail : (more : List ℕ) → ending_behind s (xs ++ more) ≡ ending (tail_from z.mode z.kept (ys ++ more)))
+    (same : t.splitter ≡ z) where
   -- no statement ended
-  pub took_all : cut ≡ More → ys ≡ [] → ShowsPast a.archive past → b.archive ≡ a.archive → b.refused ≡ a.refused → v ≡ u → Took past a b xs [] u v
-  took_all e all h archive faulty w = record {
+  pub took_all : cut ≡ More → ys ≡ [] → IsLawful (below a) → StandsAt a limit now → t.refused ≡ s.refused → Took limit now s t a a xs [] u u
+  took_all e all law stands faulty = record {
     pieces = [];
-    cut = λ more. statements more ∙ ap (λ k. found k ++ pieces_from s.mode s.kept (ys ++ more)) e ∙ ap (λ l. pieces_from s.mode s.kept (l ++ more)) all ∙ ap (λ z. pieces_from z.mode z.kept more) (sym same);
-    end = λ more. tail more ∙ ap (λ l. ending (tail_from s.mode s.kept (l ++ more))) all ∙ ap (λ z. ending (tail_from z.mode z.kept more)) (sym same);
-    shows = subst (λ x. ShowsPast x past) (sym archive) h;
-    refused = faulty ∙ or_false a.refused;
-    wrote = subst (λ x. Appends u x []) (sym w) (Appends-nil u);
+    cut = λ more. statements more ∙ ap (λ k. found k ++ pieces_from z.mode z.kept (ys ++ more)) e ∙ ap (λ l. pieces_from z.mode z.kept (l ++ more)) all ∙ ap (λ z. pieces_from z.mode z.kept more) (sym same);
+    end = λ more. tail more ∙ ap (λ l. ending (tail_from z.mode z.kept (l ++ more))) all ∙ ap (λ z. ending (tail_from z.mode z.kept more)) (sym same);
+    stands = stands;
+    refused = faulty ∙ or_false s.refused;
+    puts = put_nothing (below a) (place_of a) law;
+    wrote = Appends-nil u;
   }
 
   -- a statement ended, and was answered
-  pub took_answer : (piece : Piece) → found cut ≡ piece ∷ [] → ShowsPast b.archive (piece_reply past piece).past → b.refused ≡ (a.refused || (piece_reply past piece).is_error) → Appends u v (piece_reply past piece).text → Took past a b xs ys u v
-  took_answer piece e shows faulty wrote = took_one past a b xs ys u v piece
-      (λ more. statements more ∙ ap (λ l. l ++ pieces_from s.mode s.kept (ys ++ more)) e ∙ ap (λ z. piece ∷ pieces_from z.mode z.kept (ys ++ more)) (sym same))
+  pub took_answer : (piece : Piece) → found cut ≡ piece ∷ [] → StandsAt b limit (piece_reply limit now piece).behind → t.refused ≡ (s.refused || (piece_reply limit now piece).is_error)
+      → PutBetween a b (piece_reply limit now piece).puts → Appends u v (piece_reply limit now piece).text → Took limit now s t a b xs ys u v
+  took_answer piece e stands faulty puts wrote = took_one limit now s t a b xs ys u v piece
+      (λ more. statements more ∙ ap (λ l. l ++ pieces_from z.mode z.kept (ys ++ more)) e ∙ ap (λ z. piece ∷ pieces_from z.mode z.kept (ys ++ more)) (sym same))
       (λ more. tail more ∙ ap (λ z. ending (tail_from z.mode z.kept (ys ++ more))) (sym same))
-      shows faulty wrote
+      stands faulty puts wrote
 
--- a statement ended, and was answered in part
-pub front_answer : (past : Past) (a : Session) (s : State) (xs ys : List ℕ) (u v : Option (List ℕ)) (cut : Cut) (piece : Piece)
-    → ((more : List ℕ) → pieces_behind a (xs ++ more) ≡ found cut ++ pieces_from s.mode s.kept (ys ++ more)) → found cut ≡ piece ∷ []
-    → AppendsFront u v (piece_reply past piece).text → AppendsFront u v (replies past (pieces_behind a xs))
-front_answer past a s xs ys u v cut piece statements e h =
-    let whole : pieces_behind a xs ≡ piece ∷ pieces_from s.mode s.kept (ys ++ []) = ap (pieces_behind a) (sym (append-nil xs)) ∙ statements [] ∙ ap (λ l. l ++ pieces_from s.mode s.kept (ys ++ [])) e in
-    subst (λ l. AppendsFront u v (replies past l)) (sym whole) (longer u v (piece_reply past piece).text _ h)
+  -- or the run stopped in its reply
+  pub halted_answer : (halt : Halt) (piece : Piece) → found cut ≡ piece ∷ [] → IsLawful (below a) → StopsIn halt (piece_reply limit now piece) a b u v
+      → Halted halt limit now (pieces_behind s xs) a b u v
+  halted_answer halt piece e law stops =
+      let whole : pieces_behind s xs ≡ piece ∷ pieces_from z.mode z.kept (ys ++ []) = ap (pieces_behind s) (sym (append-nil xs)) ∙ statements [] ∙ ap (λ l. l ++ pieces_from z.mode z.kept (ys ++ [])) e in
+      subst (λ l. Halted halt limit now l a b u v) (sym whole) (halted_first limit now halt (piece ∷ pieces_from z.mode z.kept (ys ++ [])) a b u v law stops)

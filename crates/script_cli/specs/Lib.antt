@@ -1,10 +1,11 @@
 pub mod Codes
-pub mod Gathering
-pub mod KeptValues
 pub mod Limits
 pub mod Output
-pub mod RefusalTexts
-pub mod Runs
+pub mod Puts
+pub mod Halts
+pub mod Putting
 pub mod Shows
-pub mod Texts
+pub mod Files
+pub mod Runs
+pub mod Driving
 pub mod Written

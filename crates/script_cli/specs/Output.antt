@@ -1,5 +1,5 @@
--- The replies to a script.
-use Rattle.std.specs.Prelude.{ℕ, List, [], ◌∷◌, ◌++◌, ◌||◌, Bool, true, false, length, nat_eq, codes, Some, None}
+-- The replies to a script, and what its statements put.
+use Rattle.std.specs.Prelude.{ℕ, ◌+◌, List, [], ◌∷◌, ◌++◌, ◌||◌, Bool, true, false, length, nat_eq, codes, Some, None}
 use Rattle.std.specs.List.{starts_with}
 use Rattle.prima_base.specs.declared.refusals.Refusal.{Refusal}
 use Rattle.prima_base.specs.declared.refusals.Refusal.TheVariants as refusal
@@ -10,32 +10,54 @@ use Rattle.script_parse.specs.declared.splitter.Tail.TheVariants as tail
 use Rattle.smo_types.specs.Commands.{PlainBody, changing, evolving, PlainCommand}
 use Rattle.smo_meaning.specs.Checks.{Fault}
 use Rattle.smo_meaning.specs.Effects.{gained, lost}
-use Rattle.smo_meaning.specs.Past.{Past, beginning, newest_database, database_behind, past_with, tables_of}
-use Rattle.smo_meaning.specs.Accepts.{command_fault}
+use Rattle.smo_meaning.specs.History.{past_of}
+use Rattle.smo_meaning.specs.Past.{Past, newest_database, database_behind, past_with, tables_of}
+use Rattle.archive_file.specs.Opening.{record_of, gate_behind}
+use Rattle.archive_core.specs.Committing.{commit_fault}
 use Rattle.temporal_lang.specs.Queries.{PlainQuery}
-use Rattle.temporal_lang.specs.Accepted.{version_fault}
+use Rattle.temporal_lang.specs.Accepted.{version_fault, fault_of_query}
+use Rattle.temporal_lang.specs.Answers.{answer}
 use Rattle.script_parse.specs.Statements.{PlainStatement, write, ask, show_versions, show_schema}
 use Rattle.script_parse.specs.Reading.{Reading, Blank, Refused, Whole, reading}
-use Rattle.archive_core.specs.Asking.{query_fault, own_answer}
-use Rattle.script_cli.specs.RefusalTexts.{refusal_text}
-use Rattle.script_cli.specs.Texts.{changed_text, evolved_text, listing_text, versions_text, schema_text}
+use Rattle.archive_state.specs.declared.archives.Done.{Done}
+use Rattle.archive_state.specs.Asking.{tells_periods}
+use Rattle.answer_text.specs.RefusalTexts.{refusal_text}
+use Rattle.answer_text.specs.Texts.{made_text, changed_text, evolved_text, listing_text, versions_text, schema_text}
 
--- a reply: its bytes, the past behind the statement, and whether it is an `error` line
+-- what stands behind statements: the past, and the place of the gate behind the journal's records
+pub record Recorded : Type 0 where
+  pub past : Past
+  pub at : ℕ
+
+-- behind the records of these commands
+abbrev pub recorded : List PlainCommand → Recorded
+recorded commands = record { past = past_of commands; at = gate_behind commands }
+
+-- with one command more, whose record stands behind the gate
+abbrev pub recorded_with : Recorded → PlainCommand → Recorded
+recorded_with now command = record { past = past_with now.past command; at = now.at + 10 + length (record_of command).1 }
+
+-- a reply: its bytes; the command that is put, if one is; what stands behind the statement; and whether it is an `error` line
 pub record Reply : Type 0 where
   pub text : List ℕ
-  pub past : Past
+  pub puts : List PlainCommand
+  pub behind : Recorded
   pub is_error : Bool
 
-abbrev pub refused : Refusal → Past → Reply
-refused r past = record { text = refusal_text r; past = past; is_error = true }
+abbrev pub refused : Refusal → Recorded → Reply
+refused r now = record { text = refusal_text r; puts = []; behind = now; is_error = true }
 
-abbrev pub accepted : List ℕ → Past → Reply
-accepted text past = record { text = text; past = past; is_error = false }
+abbrev pub answered : List ℕ → Recorded → Reply
+answered text now = record { text = text; puts = []; behind = now; is_error = false }
 
 -- the refusal, if there is one; else the reply
-abbrev pub refused_or : Fault → Past → Reply → Reply
-refused_or None past reply = reply
-refused_or (Some r) past reply = refused r past
+abbrev pub refused_or : Fault → Recorded → Reply → Reply
+refused_or None now reply = reply
+refused_or (Some r) now reply = refused r now
+
+-- the line that tells what an accepted command did
+abbrev pub done_text : Done → List ℕ
+done_text done = made_text done.stamp done.gained done.lost done.version
 
 -- the line of an accepted command: the rows gained and lost from the newest database to that behind the changes, or the number of the version
 abbrev pub body_text : ℕ → PlainBody → Past → Past → List ℕ
@@ -45,34 +67,47 @@ body_text stamp (evolving op inverse) past next = evolved_text stamp (length nex
 abbrev pub command_text : PlainCommand → Past → Past → List ℕ
 command_text command past next = body_text command.stamp command.body past next
 
-abbrev pub command_reply : PlainCommand → Past → Reply
-command_reply command past = refused_or (command_fault past command) past (accepted (command_text command past (past_with past command)) (past_with past command))
+-- an accepted command is put
+abbrev pub put : PlainCommand → Recorded → Reply
+put command now = record {
+  text = command_text command now.past (past_with now.past command);
+  puts = command ∷ [];
+  behind = recorded_with now command;
+  is_error = false;
+}
 
-abbrev pub query_reply : PlainQuery → Past → Reply
-query_reply query past = refused_or (query_fault past query) past (accepted (listing_text (own_answer past query)) past)
+-- it is accepted where its past does not refuse it, and its record ends within the limit
+abbrev pub command_reply : ℕ → PlainCommand → Recorded → Reply
+command_reply limit command now = refused_or (commit_fault now.past now.at limit command) now (put command now)
 
-abbrev pub schema_reply : ℕ → Past → Reply
-schema_reply version past = refused_or (version_fault past version) past (accepted (schema_text (tables_of past version)) past)
+abbrev pub query_reply : PlainQuery → Recorded → Reply
+query_reply query now = refused_or (fault_of_query now.past query) now (answered (listing_text (tells_periods query.when) (answer now.past query)) now)
 
-abbrev pub statement_reply : PlainStatement → Past → Reply
-statement_reply (write command) past = command_reply command past
-statement_reply (ask query) past = query_reply query past
-statement_reply show_versions past = accepted (versions_text past.versions) past
-statement_reply (show_schema version) past = schema_reply version past
+abbrev pub versions_reply : Recorded → Reply
+versions_reply now = answered (versions_text now.past.versions) now
 
-abbrev pub reading_reply : Reading → Past → Reply
-reading_reply Blank past = accepted [] past
-reading_reply (Refused r) past = refused r past
-reading_reply (Whole statement) past = statement_reply statement past
+abbrev pub schema_reply : ℕ → Recorded → Reply
+schema_reply version now = refused_or (version_fault now.past version) now (answered (schema_text (tables_of now.past version)) now)
 
--- the reply to a statement of these bytes
-unfoldable pub reply : Past → List ℕ → Reply
-reply past text = reading_reply (reading text) past
+abbrev pub statement_reply : ℕ → PlainStatement → Recorded → Reply
+statement_reply limit (write command) now = command_reply limit command now
+statement_reply limit (ask query) now = query_reply query now
+statement_reply limit show_versions now = versions_reply now
+statement_reply limit (show_schema version) now = schema_reply version now
+
+abbrev pub reading_reply : ℕ → Reading → Recorded → Reply
+reading_reply limit Blank now = answered [] now
+reading_reply limit (Refused r) now = refused r now
+reading_reply limit (Whole statement) now = statement_reply limit statement now
+
+-- the reply to a statement of these bytes, where the journal may have so many bytes
+unfoldable pub reply : ℕ → Recorded → List ℕ → Reply
+reply limit now text = reading_reply limit (reading text) now
 
 -- the reply to what a script has in front of a `;`
-abbrev pub piece_reply : Past → Piece → Reply
-piece_reply past (Text text) = reply past text
-piece_reply past Skipped = refused refusal.TooLong past
+abbrev pub piece_reply : ℕ → Recorded → Piece → Reply
+piece_reply limit now (Text text) = reply limit now text
+piece_reply limit now Skipped = refused refusal.TooLong now
 
 -- the line for what stands behind the last `;`, if one is due
 abbrev pub tail_text : Tail → List ℕ
@@ -85,39 +120,44 @@ tail_is_due tail.Clean = false
 tail_is_due tail.Unfinished = true
 tail_is_due tail.TooLong = true
 
--- the statements one after the other
-abbrev pub replies : Past → List Piece → List ℕ
-replies past [] = []
-replies past (p ∷ pieces) = (piece_reply past p).text ++ replies (piece_reply past p).past pieces
+-- the statements one after the other: their replies, the commands that are put, what stands behind them, and whether an `error` line
+-- is among the replies
+abbrev pub replies : ℕ → Recorded → List Piece → List ℕ
+replies limit now [] = []
+replies limit now (p ∷ pieces) = (piece_reply limit now p).text ++ replies limit (piece_reply limit now p).behind pieces
 
-abbrev pub past_after : Past → List Piece → Past
-past_after past [] = past
-past_after past (p ∷ pieces) = past_after (piece_reply past p).past pieces
+abbrev pub commands_put : ℕ → Recorded → List Piece → List PlainCommand
+commands_put limit now [] = []
+commands_put limit now (p ∷ pieces) = (piece_reply limit now p).puts ++ commands_put limit (piece_reply limit now p).behind pieces
 
-abbrev pub any_error : Past → List Piece → Bool
-any_error past [] = false
-any_error past (p ∷ pieces) = (piece_reply past p).is_error || any_error (piece_reply past p).past pieces
+abbrev pub recorded_after : ℕ → Recorded → List Piece → Recorded
+recorded_after limit now [] = now
+recorded_after limit now (p ∷ pieces) = recorded_after limit (piece_reply limit now p).behind pieces
+
+abbrev pub any_error : ℕ → Recorded → List Piece → Bool
+any_error limit now [] = false
+any_error limit now (p ∷ pieces) = (piece_reply limit now p).is_error || any_error limit (piece_reply limit now p).behind pieces
 
 -- the line is an error
 abbrev pub is_error_line : List ℕ → Bool
 is_error_line text = starts_with nat_eq text (codes "error ")
 
--- of a script: its statements, the replies to them, the past behind them, all that is due, and whether an
--- `error` line is
+-- of a script: its statements, what is left behind the last `;`, the replies, all that is due, and whether an `error` line is
 abbrev pub pieces_of : List ℕ → List Piece
 pieces_of script = pieces_from Plain [] script
 
 abbrev pub ending_of : List ℕ → Tail
 ending_of script = ending (tail_of script)
 
-abbrev pub replies_of : List ℕ → List ℕ
-replies_of script = replies beginning (pieces_of script)
+abbrev pub replies_of : ℕ → Recorded → List ℕ → List ℕ
+replies_of limit now script = replies limit now (pieces_of script)
 
-abbrev pub past_of : List ℕ → Past
-past_of script = past_after beginning (pieces_of script)
+abbrev pub output : ℕ → Recorded → List ℕ → List ℕ
+output limit now script = replies_of limit now script ++ tail_text (ending_of script)
 
-abbrev pub output : List ℕ → List ℕ
-output script = replies_of script ++ tail_text (ending_of script)
+abbrev pub has_error : ℕ → Recorded → List ℕ → Bool
+has_error limit now script = any_error limit now (pieces_of script) || tail_is_due (ending_of script)
 
-abbrev pub has_error : List ℕ → Bool
-has_error script = any_error beginning (pieces_of script) || tail_is_due (ending_of script)
+-- the commands that a script's statements put
+abbrev pub script_puts : ℕ → Recorded → List ℕ → List PlainCommand
+script_puts limit now script = commands_put limit now (pieces_of script)

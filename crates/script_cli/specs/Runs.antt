@@ -1,31 +1,31 @@
--- What a run takes, writes and answers.
-use Rattle.std.specs.Prelude.{◌≡◌, ℕ, ◌+◌, ◌≤◌, nat_eq, List, [], ◌∷◌, length, take, Bool, ◌⊎◌, ◌||◌, true, false, Option, Some, None, codes}
+-- What a run takes, writes and answers, and what it leaves on the disk.
+use Rattle.std.specs.Prelude.{◌≡◌, ℕ, ◌+◌, ◌≤◌, ◌^◌, ◌-◌, min, IsTrue, List, [], ◌∷◌, ◌++◌, length, take, Bool, ◌⊎◌, ◌||◌, true, false, Option, Some, None}
 use Rattle.std.specs.Io.KnownBytes.{Consumes, Appends, IsAtEnd, Keeps}
-use Rattle.std.specs.Cmp.Lexicographic.{pointwise}
 use Rattle.prima_io.specs.Causes.{Rose}
 use Rattle.prima_io.specs.Moves.{AppendsFront, AppendsLess}
-use Rattle.script_cli.specs.Output.{output, replies_of, has_error, tail_text, tail_is_due}
-use Rattle.script_cli.specs.declared.sessions.Session.{Session}
-use Rattle.script_cli.specs.Shows.{ending_behind}
-use Rattle.script_cli.specs.Texts.{wrong_words_text}
+use Rattle.disk_model.specs.Meaning.{Meaning, Tells}
+use Rattle.disk_model.specs.Moments.{Turns}
+use Rattle.journal.specs.Mounting.{IsNotSynced, KeepsFile}
+use Rattle.smo_types.specs.Commands.{PlainCommand}
+use Rattle.archive_file.specs.Opening.{Opens, Damages}
+use Rattle.script_parse.specs.Script.{Piece}
+use Rattle.answer_text.specs.Texts.{wrong_words_text, not_a_journal_text}
+use Rattle.script_cli.specs.Output.{Recorded, recorded, replies, commands_put, recorded_after, pieces_of, ending_of, has_error, tail_text, tail_is_due}
 use Rattle.script_cli.specs.Limits.{longest_script}
-use Rattle.script_cli.specs.declared.runs.Status.{Status}
-use Rattle.script_cli.specs.declared.runs.Status.TheVariants.{Done, Refused, Words, ReadFault, WriteFault, NoMemory, InputLimit}
+use Rattle.script_cli.specs.Shows.{next_reply, ending_behind}
+use Rattle.script_cli.specs.Files.{OpensPrefix, EndsAs}
+use Rattle.script_cli.specs.declared.script_run.ScriptRun.{ScriptRun}
+use Rattle.script_cli.specs.declared.status.Status.{Status}
+use Rattle.script_cli.specs.declared.status.Status.TheVariants.{Done, Refused, Words, ReadFault, WriteFault, DiskFault, NotAJournal, NoMemory, InputLimit}
 
 -- a fact about the bytes, where they are told
 abbrev pub WhereTold : Option (List ℕ) → (List ℕ → Type 0) → Type 0
 WhereTold None P = Unit {0}
 WhereTold (Some bytes) P = P bytes
 
--- the script ended, and all that is due was written
-pub record WroteAll (taken : List ℕ) (left written_old written_new : Option (List ℕ)) : Type 0 where
-  pub end : IsAtEnd left
-  pub within : length taken ≤ longest_script
-  pub all : Appends written_old written_new (output taken)
-
--- a front of the replies was written, or the script ended and a front of all that is due was
-abbrev pub WroteFront : List ℕ → Option (List ℕ) → Option (List ℕ) → Option (List ℕ) → Type 0
-WroteFront taken left old new = AppendsFront old new (replies_of taken) ⊎ (IsAtEnd left × AppendsFront old new (output taken))
+-- a journal of at most 2 ^ 64 - 1 bytes counts as one of one byte less
+abbrev pub counted_limit : ℕ → ℕ
+counted_limit limit = min limit (2 ^ 64 - 2)
 
 -- the script was read to its end
 abbrev pub is_whole : Status → Bool
@@ -33,39 +33,142 @@ is_whole Done = true
 is_whole Refused = true
 is_whole other = false
 
--- what was written by the status of a run whose words are accepted; `taken` is what it took of the script
-abbrev pub Wrote : Status → List ℕ → Option (List ℕ) → Option (List ℕ) → Option (List ℕ) → Type 0
-Wrote Done taken left old new = WroteAll taken left old new × (has_error taken ≡ false)
-Wrote Refused taken left old new = WroteAll taken left old new × (has_error taken ≡ true)
-Wrote Words taken left old new = ⊥
-Wrote ReadFault taken left old new = (length taken ≤ longest_script) × Appends old new (replies_of taken)
-Wrote WriteFault taken left old new = (length taken ≤ longest_script) × WroteFront taken left old new
-Wrote NoMemory taken left old new = (length taken ≤ longest_script) × WroteFront taken left old new
-Wrote InputLimit taken left old new = (length taken ≡ longest_script + 1) × Appends old new (replies_of (take longest_script taken))
+-- ---- what was taken and written
 
--- these bytes were taken, and this was written
-pub record Ran (left_old left_new written_old written_new : Option (List ℕ)) (status : Status) : Type 0 where
+-- the script ended, all its statements were answered, and so was what stands behind the last `;`
+pub record WroteAll (taken : List ℕ) (rest : List Piece) (left written_old written_new : Option (List ℕ)) : Type 0 where
+  pub end : IsAtEnd left
+  pub within : length taken ≤ longest_script
+  pub answered : rest ≡ []
+  pub all : Appends written_old written_new (tail_text (ending_of taken))
+
+-- the script ended, all its statements were answered, and a front of what is due then was written
+pub record WroteTail (taken : List ℕ) (rest : List Piece) (left written_old written_new : Option (List ℕ)) : Type 0 where
+  pub end : IsAtEnd left
+  pub answered : rest ≡ []
+  pub front : AppendsFront written_old written_new (tail_text (ending_of taken))
+
+-- What was written behind the replies to the statements that were answered whole, by the status; `now` is what stood behind the
+-- statements, and `rest` are those of the bytes taken that were not answered whole.
+abbrev pub Wrote : Status → ℕ → Recorded → List ℕ → List Piece → List Piece → Option (List ℕ) → Option (List ℕ) → Option (List ℕ) → Type 0
+Wrote Done limit start taken whole rest left old new = WroteAll taken rest left old new × (has_error limit start taken ≡ false)
+Wrote Refused limit start taken whole rest left old new = WroteAll taken rest left old new × (has_error limit start taken ≡ true)
+Wrote ReadFault limit start taken whole rest left old new = (length taken ≤ longest_script) × (rest ≡ []) × (new ≡ old)
+Wrote WriteFault limit start taken whole rest left old new =
+    (length taken ≤ longest_script) × (AppendsFront old new (next_reply limit (recorded_after limit start whole) rest).text ⊎ WroteTail taken rest left old new)
+Wrote DiskFault limit start taken whole rest left old new =
+    (length taken ≤ longest_script) × (new ≡ old) × ((command : PlainCommand) × ((next_reply limit (recorded_after limit start whole) rest).puts ≡ command ∷ []))
+Wrote NoMemory limit start taken whole rest left old new =
+    (length taken ≤ longest_script) × AppendsFront old new (next_reply limit (recorded_after limit start whole) rest).text
+Wrote InputLimit limit start taken whole rest left old new =
+    (length taken ≡ longest_script + 1) × (whole ≡ pieces_of (take longest_script taken)) × (new ≡ old)
+Wrote other limit start taken whole rest left old new = ⊥
+
+-- the first of the statements that were not answered whole, whose command was put where the sink failed in its reply, and may have
+-- been where the disk failed
+abbrev pub begun : Status → List Piece → List Piece
+begun WriteFault rest = take 1 rest
+begun DiskFault rest = take 1 rest
+begun other rest = []
+
+-- These bytes of the script were taken. Of their statements these were answered whole, and then what the status tells was written.
+pub record Ran (limit : ℕ) (start : Recorded) (status : Status) (left_old left_new written_old written_new : Option (List ℕ)) : Type 0 where
   pub taken : List ℕ
   pub consumed : Consumes left_old left_new taken
-  pub wrote : Wrote status taken left_new written_old written_new
+  pub whole : List Piece
+  pub rest : List Piece
+  pub are : pieces_of taken ≡ whole ++ rest
+  pub between : Option (List ℕ)
+  pub replied : Appends written_old between (replies limit start whole)
+  pub wrote : Wrote status limit start taken whole rest left_new between written_new
 
--- no byte was taken, and the line for wrong words was written, or a proper front of it where the sink failed
-pub record RefusedWords (left_old left_new written_old written_new : Option (List ℕ)) (faults_old faults_new : ℕ) : Type 0 where
+-- ---- what is left on the disk
+
+-- Where the file opens as some commands at the start: from the first sync on a crash leaves them and a prefix of those that the
+-- statements put which were answered whole, and the next one; at the exit it leaves what the status tells; and so does a read give,
+-- unless the disk failed.
+pub record OnDisk (limit : ℕ) (status : Status) (whole rest : List Piece) (old new : Meaning) : Type 0 where
+  pub any_moment : (file : List ℕ) (opening : List PlainCommand) → IsTrue old.is_honest → old.seen ≡ Some file → Opens file opening
+      → Turns old new (OpensPrefix opening (commands_put limit (recorded opening) (whole ++ begun status rest)))
+  pub exit : (file : List ℕ) (opening : List PlainCommand) → IsTrue old.is_honest → old.seen ≡ Some file → Opens file opening → (c : List ℕ) → new.may_leave c
+      → EndsAs status opening (commands_put limit (recorded opening) whole) (commands_put limit (recorded opening) (whole ++ begun status rest)) c
+  pub given : (file : List ℕ) (opening : List PlainCommand) → (status ≡ DiskFault → ⊥) → old.seen ≡ Some file → Opens file opening
+      → (c : List ℕ) × (new.seen ≡ Some c) × EndsAs status opening (commands_put limit (recorded opening) whole) (commands_put limit (recorded opening) (whole ++ begun status rest)) c
+
+-- the start is that of the commands as which the file opened, where the disk tells it
+abbrev pub IsOpening : Recorded → Option (List ℕ) → Type 0
+IsOpening start seen = Tells seen (λ file. (opening : List PlainCommand) × Opens file opening × (start ≡ recorded opening))
+
+-- the file opened, and the script was run behind its commands
+pub record RanOpened (limit : ℕ) (status : Status) (left_old left_new written_old written_new : Option (List ℕ)) (old new : Meaning) : Type 0 where
+  pub start : Recorded
+  pub opened : IsOpening start old.seen
+  pub ran : Ran limit start status left_old left_new written_old written_new
+  pub disk : OnDisk limit status ran.whole ran.rest old new
+
+-- ---- runs that read no script
+
+-- a line was put whole, or less where the sink failed
+abbrev pub PutsLine : List ℕ → Option (List ℕ) → Option (List ℕ) → ℕ → ℕ → Type 0
+PutsLine line written_old written_new faults_old faults_new =
+    (Appends written_old written_new line × (faults_new ≡ faults_old)) ⊎ (AppendsLess written_old written_new line × Rose faults_old faults_new)
+
+-- what is told of a file that was not opened: where it is damaged, and then it stayed as it was
+abbrev pub ToldUnopened : Status → Option (List ℕ) → Option (List ℕ) → ℕ → ℕ → Option (List ℕ) → Option (List ℕ) → Type 0
+ToldUnopened (NotAJournal place) written_old written_new faults_old faults_new seen_old seen_new =
+    PutsLine (not_a_journal_text place) written_old written_new faults_old faults_new × Tells seen_old (λ file. Damages file place) × (seen_new ≡ seen_old)
+ToldUnopened DiskFault written_old written_new faults_old faults_new seen_old seen_new = written_new ≡ written_old
+ToldUnopened NoMemory written_old written_new faults_old faults_new seen_old seen_new = written_new ≡ written_old
+ToldUnopened other written_old written_new faults_old faults_new seen_old seen_new = ⊥
+
+-- The file was not opened: no byte of the script was taken. Until the first sync has succeeded a crash leaves what it might have left
+-- before, and from then on the file, or at most nine bytes where it had no more.
+pub record NotOpened (status : Status) (left_old left_new written_old written_new : Option (List ℕ)) (faults_old faults_new : ℕ) (old new : Meaning) : Type 0 where
   pub kept : Keeps left_old left_new
-  pub wrote : Appends written_old written_new wrong_words_text ⊎ (AppendsLess written_old written_new wrong_words_text × Rose faults_old faults_new)
+  pub told : ToldUnopened status written_old written_new faults_old faults_new old.seen new.seen
+  pub disk : ((status ≡ DiskFault) × IsNotSynced old new) ⊎ KeepsFile old new
 
--- the words are the one word `run`
-abbrev pub are_accepted : List (List ℕ) → Bool
-are_accepted words = pointwise (pointwise nat_eq) words (codes "run" ∷ [])
+-- the disk was called: the file was not opened, or it was and the script was run
+abbrev pub RunsOver : ℕ → Status → Option (List ℕ) → Option (List ℕ) → Option (List ℕ) → Option (List ℕ) → ℕ → ℕ → Meaning → Meaning → Type 0
+RunsOver limit status left_old left_new written_old written_new faults_old faults_new old new =
+    NotOpened status left_old left_new written_old written_new faults_old faults_new old new
+    ⊎ RanOpened (counted_limit limit) status left_old left_new written_old written_new old new
 
--- an `error` line was put, or is due at the script's end
-abbrev pub is_faulty : Session → Bool
-is_faulty session = session.refused || tail_is_due (ending_behind session [])
+module _ {D : Type 0} where
+  -- memory ran out before the disk was called
+  pub record IsUntouched (status : Status) (left_old left_new written_old written_new : Option (List ℕ)) (disk_old disk_new : D) : Type 0 where
+    pub memory : status ≡ NoMemory
+    pub kept : Keeps left_old left_new
+    pub wrote : written_new ≡ written_old
+    pub disk : disk_new ≡ disk_old
 
--- how the line behind the last statement ended a run
-abbrev pub Ends : Status → Session → Option (List ℕ) → Option (List ℕ) → Type 0
-Ends Done session old new = Appends old new (tail_text (ending_behind session [])) × (is_faulty session ≡ false)
-Ends Refused session old new = Appends old new (tail_text (ending_behind session [])) × (is_faulty session ≡ true)
-Ends WriteFault session old new = AppendsFront old new (tail_text (ending_behind session []))
-Ends NoMemory session old new = AppendsFront old new (tail_text (ending_behind session []))
-Ends other session old new = ⊥
+  -- The words are wrong: no byte was taken, no disk was called, and the line for wrong words was put, unless memory ran out.
+  pub record RefusedWords (status : Status) (left_old left_new written_old written_new : Option (List ℕ)) (faults_old faults_new : ℕ) (disk_old disk_new : D) : Type 0 where
+    pub kept : Keeps left_old left_new
+    pub disk : disk_new ≡ disk_old
+    pub wrote : ((status ≡ Words) × PutsLine wrong_words_text written_old written_new faults_old faults_new) ⊎ ((status ≡ NoMemory) × (written_new ≡ written_old))
+
+-- a damaged file is told with its place, unless the disk failed or memory ran out, and no byte is taken
+pub record RefusesFile (place : ℕ) (status : Status) (left_old left_new : Option (List ℕ)) : Type 0 where
+  pub kept : Keeps left_old left_new
+  pub status_is : (status ≡ NotAJournal place) ⊎ ((status ≡ DiskFault) ⊎ (status ≡ NoMemory))
+
+-- ---- counts of faults
+
+-- the source's count of faults after a run: it rose where the source failed, and else is as it was
+abbrev pub SourceCounted : Status → ℕ → ℕ → Type 0
+SourceCounted ReadFault old new = (old ≤ new) × Rose old new
+SourceCounted other old new = new ≡ old
+
+-- the sink's: it rose where the sink failed, and else is as it was; where the words are wrong or the file is none of ours it did not
+-- fall, and what was written tells when it rose
+abbrev pub SinkCounted : Status → ℕ → ℕ → Type 0
+SinkCounted WriteFault old new = (old ≤ new) × Rose old new
+SinkCounted Words old new = old ≤ new
+SinkCounted (NotAJournal place) old new = old ≤ new
+SinkCounted other old new = new ≡ old
+
+-- the disk's: it rose where the disk failed, and else is as it was
+abbrev pub DiskCounted : Status → ℕ → ℕ → Type 0
+DiskCounted DiskFault old new = (old ≤ new) × Rose old new
+DiskCounted other old new = new ≡ old

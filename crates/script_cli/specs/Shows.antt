@@ -1,61 +1,101 @@
--- When the session stands for a past, and what it makes of the bytes that it takes.
-use Rattle.std.specs.Prelude.{◌≡◌, ℕ, ◌≤◌, List, [], ◌++◌, ◌||◌, Bool, Option, Some, None, Result, MatchResult, Err}
+-- When the run of a script stands for a past, and what it makes of the bytes that it takes.
+use Rattle.std.specs.Prelude.{◌≡◌, ℕ, false, List, [], ◌∷◌, ◌++◌, ◌||◌, Option, Result, Ok, Err, MatchResult}
 use Rattle.std.specs.Io.KnownBytes.{Appends}
-use Rattle.prima_io.specs.Causes.{Rose}
 use Rattle.prima_io.specs.Moves.{AppendsFront}
+use Rattle.disk_model.specs.declared.disk.Disk.{Ghosts}
+use Rattle.journal.specs.Standing.{HasGate}
 use Rattle.script_parse.specs.Script.{Piece, pieces_from, tail_from, ending}
-use Rattle.archive_core.specs.Standing.{Standing, ShowsPast}
-use Rattle.script_cli.specs.declared.sessions.Session.{Session}
-use Rattle.script_cli.specs.declared.stops.Stop.{Stop}
-use Rattle.script_cli.specs.declared.stops.Stop.TheVariants.{WriteFault}
-use Rattle.smo_meaning.specs.Past.{Past}
-use Rattle.script_cli.specs.Output.{Reply, replies, past_after, any_error}
 use Rattle.script_parse.specs.declared.splitter.Tail.{Tail}
+use Rattle.smo_types.specs.Commands.{PlainCommand}
+use Rattle.archive_state.specs.Standing.{ShowsPast}
+use Rattle.archive_core.specs.declared.archives.Archive.{Archive}
+use Rattle.archive_core.specs.Fields.{standing_of, below, place_of, limit_of, is_broken}
+use Rattle.script_cli.specs.declared.script_run.ScriptRun.{ScriptRun}
+use Rattle.script_cli.specs.declared.put.Put.{Put}
+use Rattle.script_cli.specs.declared.halt.Halt.{Halt}
+use Rattle.script_cli.specs.declared.halt.Halt.TheVariants.{WriteFault, DiskFault, NoMemory}
+use Rattle.script_cli.specs.Puts.{is_error}
+use Rattle.script_cli.specs.Output.{Recorded, Reply, answered, piece_reply, replies, commands_put, recorded_after, any_error}
+use Rattle.script_cli.specs.Putting.{HasPut, MayHavePut}
 
--- the whole reply was put, or a front of it
-abbrev pub Says : Reply → Result Bool Stop → Option (List ℕ) → Option (List ℕ) → Type 0
-Says reply result old new = MatchResult result (λ is_error. (is_error ≡ reply.is_error) × Appends old new reply.text) (λ _. AppendsFront old new reply.text)
+-- the whole reply was put, or a front of it; no disk is called
+abbrev pub Says : Reply → Result Put Halt → Option (List ℕ) → Option (List ℕ) → Type 0
+Says reply (Ok put) old new = (is_error put ≡ reply.is_error) × Appends old new reply.text
+Says reply (Err WriteFault) old new = AppendsFront old new reply.text
+Says reply (Err DiskFault) old new = ⊥
+Says reply (Err NoMemory) old new = AppendsFront old new reply.text
 
--- the whole reply was put, and the archive shows the past behind it
-pub record Replied (reply : Reply) (is_error : Bool) (archive : Standing) (written_old written_new : Option (List ℕ)) : Type 0 where
-  pub is : is_error ≡ reply.is_error
-  pub past : ShowsPast archive reply.past
-  pub text : Appends written_old written_new reply.text
-
--- it was, or a front of it was put
-abbrev pub Responds : Reply → Result Bool Stop → Standing → Option (List ℕ) → Option (List ℕ) → Type 0
-Responds reply result archive old new = MatchResult result (λ is_error. Replied reply is_error archive old new) (λ _. AppendsFront old new reply.text)
-
--- the sink's count has not fallen, and a stop by the sink has raised it
-pub record HasStopCause {T : Type 0} (before now : ℕ) (result : Result T Stop) : Type 0 where
-  pub later : before ≤ now
-  pub failed : result ≡ Err WriteFault → Rose before now
-
--- the statements that bytes bring, behind what the session has of its current one
-abbrev pub pieces_behind : Session → List ℕ → List Piece
-pieces_behind session bytes = pieces_from session.splitter.mode session.splitter.kept bytes
+-- the statements that bytes bring, behind what the run has of its current one
+abbrev pub pieces_behind : ScriptRun → List ℕ → List Piece
+pieces_behind script_run bytes = pieces_from script_run.splitter.mode script_run.splitter.kept bytes
 
 -- and what they leave behind the last `;`
-abbrev pub ending_behind : Session → List ℕ → Tail
-ending_behind session bytes = ending (tail_from session.splitter.mode session.splitter.kept bytes)
+abbrev pub ending_behind : ScriptRun → List ℕ → Tail
+ending_behind script_run bytes = ending (tail_from script_run.splitter.mode script_run.splitter.kept bytes)
 
--- the bytes were taken up to the rest, and the statements that ended in them were answered
-pub record Took (past : Past) (old new : Session) (bytes rest : List ℕ) (written_old written_new : Option (List ℕ)) : Type 0 where
-  pub pieces : List Piece
-  pub cut : (more : List ℕ) → pieces_behind old (bytes ++ more) ≡ pieces ++ pieces_behind new (rest ++ more)
-  pub end : (more : List ℕ) → ending_behind old (bytes ++ more) ≡ ending_behind new (rest ++ more)
-  pub shows : ShowsPast new.archive (past_after past pieces)
-  pub refused : new.refused ≡ (old.refused || any_error past pieces)
-  pub wrote : Appends written_old written_new (replies past pieces)
+-- the reply that is due next: that to the first of these statements, or nothing where there is none
+abbrev pub next_reply : ℕ → Recorded → List Piece → Reply
+next_reply limit now [] = answered [] now
+next_reply limit now (p ∷ pieces) = piece_reply limit now p
 
--- one more statement ended
-pub record Answered (reply : Reply) (old new : Session) (written_old written_new : Option (List ℕ)) : Type 0 where
-  pub splitter : new.splitter ≡ old.splitter
-  pub shows : ShowsPast new.archive reply.past
-  pub refused : new.refused ≡ (old.refused || reply.is_error)
-  pub wrote : Appends written_old written_new reply.text
+module _ {D : Type 0} {g : Ghosts D} where
+  -- it has not failed, and there is a gate for the next record
+  abbrev pub TakesRecords : Archive D g → Type 0
+  TakesRecords archive = (is_broken archive ≡ false) × HasGate (below archive) (place_of archive)
 
--- what is left of the bytes
-abbrev pub rest_of : Option (List ℕ) → List ℕ
-rest_of None = []
-rest_of (Some rest) = rest
+  -- the archive shows this past, the next record is put at this place, and the journal may have so many bytes
+  pub record StandsAt (archive : Archive D g) (limit : ℕ) (now : Recorded) : Type 0 where
+    pub past : ShowsPast (standing_of archive) now.past
+    pub place : place_of archive ≡ now.at
+    pub limit_is : limit_of archive ≡ limit
+
+  -- these commands were put between two moments of an archive
+  abbrev pub PutBetween : Archive D g → Archive D g → List PlainCommand → Type 0
+  PutBetween old new put = HasPut (below old) (below new) (place_of old) (place_of new) put
+
+  -- A run stopped in this reply. Where the sink failed, what the statement puts had been put; where the disk failed, nothing of the
+  -- reply was written, and its command was put or not; where memory ran out, nothing was put.
+  abbrev pub StopsIn : Halt → Reply → Archive D g → Archive D g → Option (List ℕ) → Option (List ℕ) → Type 0
+  StopsIn WriteFault reply a b old new = AppendsFront old new reply.text × PutBetween a b reply.puts
+  StopsIn DiskFault reply a b old new = (new ≡ old) × MayHavePut (below a) (below b) (place_of a) reply.puts
+  StopsIn NoMemory reply a b old new = AppendsFront old new reply.text × PutBetween a b []
+
+  -- the whole reply was written, what it puts was put, and the archive stands for what is behind it
+  pub record Replied (limit : ℕ) (reply : Reply) (put : Put) (a b : Archive D g) (written_old written_new : Option (List ℕ)) : Type 0 where
+    pub is : is_error put ≡ reply.is_error
+    pub stands : StandsAt b limit reply.behind
+    pub puts : PutBetween a b reply.puts
+    pub text : Appends written_old written_new reply.text
+
+  -- it was, or the run stopped in it
+  abbrev pub Responds : ℕ → Reply → Result Put Halt → Archive D g → Archive D g → Option (List ℕ) → Option (List ℕ) → Type 0
+  Responds limit reply result a b old new = MatchResult result (λ put. Replied limit reply put a b old new) (λ halt. StopsIn halt reply a b old new)
+
+  -- one more statement ended
+  pub record Answered (limit : ℕ) (reply : Reply) (old new : ScriptRun) (a b : Archive D g) (written_old written_new : Option (List ℕ)) : Type 0 where
+    pub splitter : new.splitter ≡ old.splitter
+    pub stands : StandsAt b limit reply.behind
+    pub refused : new.refused ≡ (old.refused || reply.is_error)
+    pub puts : PutBetween a b reply.puts
+    pub wrote : Appends written_old written_new reply.text
+
+  -- the bytes were taken up to the rest, and the statements that ended in them were answered
+  pub record Took (limit : ℕ) (now : Recorded) (old new : ScriptRun) (a b : Archive D g) (bytes rest : List ℕ) (written_old written_new : Option (List ℕ)) : Type 0 where
+    pub pieces : List Piece
+    pub cut : (more : List ℕ) → pieces_behind old (bytes ++ more) ≡ pieces ++ pieces_behind new (rest ++ more)
+    pub end : (more : List ℕ) → ending_behind old (bytes ++ more) ≡ ending_behind new (rest ++ more)
+    pub stands : StandsAt b limit (recorded_after limit now pieces)
+    pub refused : new.refused ≡ (old.refused || any_error limit now pieces)
+    pub puts : PutBetween a b (commands_put limit now pieces)
+    pub wrote : Appends written_old written_new (replies limit now pieces)
+
+  -- some of these statements were answered whole, and the run stopped in the reply to the next, or before any other was whole
+  pub record Halted (halt : Halt) (limit : ℕ) (now : Recorded) (pieces : List Piece) (a b : Archive D g) (written_old written_new : Option (List ℕ)) : Type 0 where
+    pub whole : List Piece
+    pub rest : List Piece
+    pub are : pieces ≡ whole ++ rest
+    pub mid : Archive D g
+    pub between : Option (List ℕ)
+    pub wrote : Appends written_old between (replies limit now whole)
+    pub puts : PutBetween a mid (commands_put limit now whole)
+    pub stops : StopsIn halt (next_reply limit (recorded_after limit now whole) rest) mid b between written_new

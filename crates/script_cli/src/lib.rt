@@ -1,24 +1,29 @@
-//! The script language over an archive: what a script is answered, byte by byte.
+//! The script language over an archive on a disk: what a script is answered, byte by byte, and what it leaves in the file.
 //!
-//! `run` reads a script of statements from a source, answers each when it ends, and writes the replies to a
-//! sink. It carries the theorem of the whole. The adapters are such ends over the system's readers and writers.
+//! `run` judges the words, opens the archive, reads a script of statements from a source, answers each when it ends, and
+//! writes the replies to a sink. It carries the theorem of the whole. The adapters are such ends over the system's readers and
+//! writers.
 #![tactic(auto)]
 
 mod adapters;
-mod bytes;
-mod lines;
-mod listings;
-mod refusals;
-mod replies;
+mod driving;
+mod file_disk;
+mod halt;
+mod laws;
+mod opening;
+mod put;
 mod responses;
 mod runs;
-mod schemas;
-mod sessions;
-mod stops;
-mod versions;
+mod script_run;
+mod status;
+mod words;
 
 pub use adapters::{ReaderSource, WriterSink};
-pub use runs::{Status, Word, run};
+pub use file_disk::FileDisk;
+pub use laws::a_run_follows_a_run;
+pub use runs::run;
+pub use status::Status;
+pub use words::Word;
 
 /// The longest script of one run, in bytes.
 pub const SCRIPT_LIMIT: u64 = 1_099_511_627_776;

@@ -1,33 +1,38 @@
 //! The response to one statement: what the archive accepts of it, and the reply that is put.
 //!
-//! A command's `ok` line is put when the archive has it; a refused statement leaves the archive as it was.
+//! A command's `ok` line is put when its record is on the disk; a refused statement leaves the archive as it was. The disk is called
+//! for a command alone, before anything of its reply is put.
 
-ghost use Rattle.std.specs.Prelude.{◌≡◌, ◌<◌, ◌≤◌, ◌^◌, length, map, true, false, OnOk, OnErr, IfOk};
+ghost use Rattle.std.specs.Prelude.{◌≡◌, ◌<◌, ◌≤◌, ◌^◌, ℕ, length, map, true, false, OnOk, OnErr, IfOk};
 ghost use Rattle.std.specs.Io.KnownBytes.{Appends};
 ghost use Rattle.prima_base.specs.Timed.{entries_of};
+ghost use Rattle.prima_io.specs.Causes.{HasCause};
 ghost use Rattle.prima_io.specs.Moves.{AppendsFront};
 ghost use Rattle.smo_types.specs.Commands.{command_of};
 ghost use Rattle.smo_meaning.specs.Past.{Past};
 ghost use Rattle.temporal_lang.specs.Queries.{query_of};
 ghost use Rattle.script_parse.specs.Statements.{statement_of};
-ghost use Rattle.archive_core.specs.Standing.{ShowsPast};
-ghost use Rattle.archive_core.specs.Asking.{IsOverOneTable, IsAsked};
-ghost use Rattle.script_cli.specs.RefusalTexts.{refusal_text};
-ghost use Rattle.script_cli.specs.Texts.{changed_text, evolved_text, done_text, listing_text, versions_text};
-ghost use Rattle.script_cli.specs.Output.{reply, accepted, command_reply, query_reply, schema_reply, statement_reply};
-ghost use Rattle.script_cli.specs.Shows.{Says, Responds, HasStopCause};
-ghost use Rattle.script_cli.specs.Written.{IsWritten};
+ghost use Rattle.rewrite.specs.Books.{EachOf};
+ghost use Rattle.archive_state.specs.Asking.{IsAsked};
+ghost use Rattle.archive_state.specs.Standing.{ShowsPast};
+ghost use Rattle.archive_core.specs.Fields.{standing_of, below, limit_of};
+ghost use Rattle.answer_text.specs.RefusalTexts.{refusal_text};
+ghost use Rattle.answer_text.specs.Texts.{listing_text};
+ghost use Rattle.script_cli.specs.Output.{Recorded, reply, done_text, command_reply, query_reply, versions_reply, schema_reply, statement_reply};
+ghost use Rattle.script_cli.specs.Halts.{HaltCounted, SaidCounted};
+ghost use Rattle.script_cli.specs.Puts.{is_error};
+ghost use Rattle.script_cli.specs.Shows.{Says, Responds, StandsAt, TakesRecords};
 
-use crate::listings::put_listing;
-use crate::refusals::put_refusal;
-use crate::replies::{put_changed, put_evolved};
-use crate::schemas::put_schema;
-use crate::stops::Stop;
-use crate::versions::put_versions;
-use answer_text::Listing;
+use crate::halt::{Halt, or_write_fault};
+use crate::put::Put;
+use answer_text::{
+    Listing, Stop, put_changed, put_evolved, put_listing, put_refusal, put_schema, put_versions,
+};
 use archive_core::{Archive, AskFault, CommitFault, Done};
+use disk_model::Disk;
 use prima_base::{Refusal, Steps};
 use prima_io::{Failed, Sink};
+use rule_book::{Rule, RuleBook};
 use script_parse::{ReadFault, Statement, next_statement};
 use smo_ops::Command;
 use std::alloc::Global;
@@ -36,170 +41,190 @@ use std::sync::ledger::{Blank, Ledger};
 use temporal_lang::Query;
 
 /// Puts the line of a refusal.
-pub(crate) fn refuse<K: Sink>(sink: &mut K, refusal: &Refusal) -> Result<bool, Stop>
-    ensures ok { IfOk result (λ is_error. is_error ≡ true) }
+pub(crate) fn refuse<K: Sink>(sink: &mut K, refusal: &Refusal) -> Result<Put, Failed>
+    ensures ok { IfOk result (λ put. is_error put ≡ true) }
     ensures all { OnOk result (Appends (K.written sink.old) (K.written sink.new) (refusal_text refusal.now)) }
     ensures part { OnErr result (AppendsFront (K.written sink.old) (K.written sink.new) (refusal_text refusal.now)) }
-    ensures cause { HasStopCause (K.faults sink.old) (K.faults sink.new) result }
+    ensures cause { HasCause (K.faults sink.old) (K.faults sink.new) result }
 {
     match put_refusal(sink, refusal) {
-        Ok(()) => Ok(true),
-        Err(Failed) => Err(Stop::WriteFault),
+        Ok(()) => Ok(Put::ErrorLine),
+        Err(Failed) => Err(Failed),
     }
 }
 
 // Puts the `ok` line of an accepted command.
-fn put_done<K: Sink>(sink: &mut K, done: Done) -> Result<bool, Stop>
-    ensures ok { IfOk result (λ is_error. is_error ≡ false) }
+fn put_done<K: Sink>(sink: &mut K, done: Done) -> Result<Put, Failed>
+    ensures ok { IfOk result (λ put. is_error put ≡ false) }
     ensures all { OnOk result (Appends (K.written sink.old) (K.written sink.new) (done_text done)) }
     ensures part { OnErr result (AppendsFront (K.written sink.old) (K.written sink.new) (done_text done)) }
-    ensures cause { HasStopCause (K.faults sink.old) (K.faults sink.new) result }
+    ensures cause { HasCause (K.faults sink.old) (K.faults sink.new) result }
 {
     let put = match done.version {
         None => put_changed(sink, done.stamp, done.gained, done.lost),
         Some(version) => put_evolved(sink, done.stamp, version),
     };
     match put {
-        Ok(()) => Ok(false),
-        Err(Failed) => Err(Stop::WriteFault),
+        Ok(()) => Ok(Put::NoError),
+        Err(Failed) => Err(Failed),
     }
 }
 
-// Responds to a command: it is accepted, or refused by the first refusal in the one order.
-fn respond_write<K: Sink>(
-    archive: &mut Archive,
+// Responds to a command: its record is put and it is accepted, or it is refused by the first refusal in the one order. No earlier
+// call has failed, so that `Broken` never comes.
+fn respond_write<K: Sink, D: Disk>(
+    archive: &mut Archive<D>,
     sink: &mut K,
     command: Command,
-) -> Result<bool, Stop>
-    requires shows { (past : Past) × ShowsPast archive.old past }
-    ensures replies { (past : Past) → ShowsPast archive.old past
-        → Responds (command_reply (command_of command) past) result archive.new (K.written sink.old) (K.written sink.new) }
-    ensures cause { HasStopCause (K.faults sink.old) (K.faults sink.new) result }
+) -> Result<Put, Halt>
+    requires takes { TakesRecords archive.old }
+    ensures replies { (limit : ℕ) → (now : Recorded) → StandsAt archive.old limit now
+        → Responds limit (command_reply limit (command_of command) now) result archive.old archive.new (K.written sink.old) (K.written sink.new) }
+    ensures takes { OnOk result (TakesRecords archive.new) }
+    ensures counts { HaltCounted result (K.faults sink.old) (K.faults sink.new) (below archive.old).faults (below archive.new).faults }
 {
     match archive.commit(command) {
-        Ok(done) => put_done(sink, done),
-        Err(CommitFault::Refused(refusal)) => refuse(sink, &refusal),
-        Err(CommitFault::NoMemory) => Err(Stop::NoMemory),
+        Ok(done) => or_write_fault(put_done(sink, done)),
+        Err(CommitFault::Refused(refusal)) => or_write_fault(refuse(sink, &refusal)),
+        Err(CommitFault::Broken) => Err(Halt::DiskFault),
+        Err(CommitFault::Disk) => Err(Halt::DiskFault),
+        Err(CommitFault::NoMemory) => Err(Halt::NoMemory),
     }
 }
 
 // Puts the lines of an answer.
-fn put_answer<K: Sink>(sink: &mut K, listing: &Listing<'_>) -> Result<bool, Stop>
-    ensures ok { IfOk result (λ is_error. is_error ≡ false) }
-    ensures all { OnOk result (Appends (K.written sink.old) (K.written sink.new) (listing_text (entries_of listing.now.rows.items))) }
-    ensures part { OnErr result (AppendsFront (K.written sink.old) (K.written sink.new) (listing_text (entries_of listing.now.rows.items))) }
-    ensures cause { HasStopCause (K.faults sink.old) (K.faults sink.new) result }
+fn put_answer<K: Sink>(sink: &mut K, listing: &Listing<'_>) -> Result<Put, Failed>
+    ensures ok { IfOk result (λ put. is_error put ≡ false) }
+    ensures all { OnOk result (Appends (K.written sink.old) (K.written sink.new) (listing_text listing.now.periods (entries_of listing.now.rows.items))) }
+    ensures part { OnErr result (AppendsFront (K.written sink.old) (K.written sink.new) (listing_text listing.now.periods (entries_of listing.now.rows.items))) }
+    ensures cause { HasCause (K.faults sink.old) (K.faults sink.new) result }
 {
-    match put_listing(sink, &listing.rows) {
-        Ok(()) => Ok(false),
-        Err(Failed) => Err(Stop::WriteFault),
+    match put_listing(sink, listing) {
+        Ok(()) => Ok(Put::NoError),
+        Err(Failed) => Err(Failed),
     }
 }
 
 // What the archive answers to a query, with a counter of the ledger.
-fn ask_counted<'a, L: Ledger>(
-    archive: &'a Archive,
+fn ask_counted<'a, D: Disk, L: Ledger>(
+    archive: &'a Archive<D>,
+    book: &RuleBook,
     query: &Query,
     blank: Blank,
 ) -> Result<Listing<'a>, AskFault>
-    requires shows { (past : Past) × ShowsPast archive.now past }
-    requires one { IsOverOneTable (query_of query.now) }
+    requires each { EachOf book.now.rules.items (λ r. handles (r.vtable, r.value)) }
     requires name { blank.name ≡ L.name }
     requires parts { blank.parts ≡ L.parts }
     requires some { 0 < blank.parts }
-    ensures { (past : Past) → ShowsPast archive.now past → IsAsked past (query_of query.now) result }
+    ensures { (past : Past) → ShowsPast (standing_of archive.now) past → IsAsked past (query_of query.now) result }
 {
     let mut steps: Steps<L> = Steps::new(blank);
-    archive.query(query, &mut steps)
+    archive.query(book, query, &mut steps)
 }
 
 // Responds to a query.
-fn respond_ask<K: Sink>(archive: &Archive, sink: &mut K, query: &Query) -> Result<bool, Stop>
-    requires shows { (past : Past) × ShowsPast archive.now past }
-    requires one { IsOverOneTable (query_of query.now) }
-    ensures says { (past : Past) → ShowsPast archive.now past → Says (query_reply (query_of query.now) past) result (K.written sink.old) (K.written sink.new) }
-    ensures cause { HasStopCause (K.faults sink.old) (K.faults sink.new) result }
+fn respond_ask<K: Sink, D: Disk>(
+    archive: &Archive<D>,
+    book: &RuleBook,
+    sink: &mut K,
+    query: &Query,
+) -> Result<Put, Halt>
+    requires each { EachOf book.now.rules.items (λ r. handles (r.vtable, r.value)) }
+    ensures says { (now : Recorded) → ShowsPast (standing_of archive.now) now.past → Says (query_reply (query_of query.now) now) result (K.written sink.old) (K.written sink.new) }
+    ensures counts { SaidCounted result (K.faults sink.old) (K.faults sink.new) }
 {
-    match ask_counted::<Brand>(archive, query, Blank::new(1)) {
-        Ok(listing) => put_answer(sink, &listing),
-        Err(AskFault::Refused(refusal)) => refuse(sink, &refusal),
-        Err(AskFault::NoMemory) => Err(Stop::NoMemory),
+    match ask_counted::<D, Brand>(archive, book, query, Blank::new(1)) {
+        Ok(listing) => or_write_fault(put_answer(sink, &listing)),
+        Err(AskFault::Refused(refusal)) => or_write_fault(refuse(sink, &refusal)),
+        Err(AskFault::NoMemory) => Err(Halt::NoMemory),
     }
 }
 
 // Responds to SHOW VERSIONS.
-fn respond_versions<K: Sink>(alloc: Global, archive: &Archive, sink: &mut K) -> Result<bool, Stop>
-    requires shows { (past : Past) × ShowsPast archive.now past }
-    ensures says { (past : Past) → ShowsPast archive.now past → Says (accepted (versions_text past.versions) past) result (K.written sink.old) (K.written sink.new) }
-    ensures cause { HasStopCause (K.faults sink.old) (K.faults sink.new) result }
+fn respond_versions<K: Sink, D: Disk>(
+    alloc: Global,
+    archive: &Archive<D>,
+    sink: &mut K,
+) -> Result<Put, Halt>
+    ensures says { (now : Recorded) → ShowsPast (standing_of archive.now) now.past → Says (versions_reply now) result (K.written sink.old) (K.written sink.new) }
+    ensures counts { SaidCounted result (K.faults sink.old) (K.faults sink.new) }
 {
     match put_versions(alloc, sink, &archive.groups().versions().list) {
-        Ok(()) => Ok(false),
-        Err(stop) => Err(stop),
+        Ok(()) => Ok(Put::NoError),
+        Err(Stop::WriteFault) => Err(Halt::WriteFault),
+        Err(Stop::NoMemory) => Err(Halt::NoMemory),
     }
 }
 
 // Responds to SHOW SCHEMA.
-fn respond_schema<K: Sink>(
+fn respond_schema<K: Sink, D: Disk>(
     alloc: Global,
-    archive: &Archive,
+    archive: &Archive<D>,
     sink: &mut K,
     version: u32,
-) -> Result<bool, Stop>
-    requires shows { (past : Past) × ShowsPast archive.now past }
-    ensures says { (past : Past) → ShowsPast archive.now past → Says (schema_reply version past) result (K.written sink.old) (K.written sink.new) }
-    ensures cause { HasStopCause (K.faults sink.old) (K.faults sink.new) result }
+) -> Result<Put, Halt>
+    ensures says { (now : Recorded) → ShowsPast (standing_of archive.now) now.past → Says (schema_reply version now) result (K.written sink.old) (K.written sink.new) }
+    ensures counts { SaidCounted result (K.faults sink.old) (K.faults sink.new) }
 {
     let groups = archive.groups();
     match groups.schema(version) {
         Some(schema) => match put_schema(alloc, sink, schema) {
-            Ok(()) => Ok(false),
-            Err(stop) => Err(stop),
+            Ok(()) => Ok(Put::NoError),
+            Err(Stop::WriteFault) => Err(Halt::WriteFault),
+            Err(Stop::NoMemory) => Err(Halt::NoMemory),
         },
-        None => refuse(sink, &Refusal::NoVersion(version, groups.newest())),
+        None => or_write_fault(refuse(sink, &Refusal::NoVersion(version, groups.newest()))),
     }
 }
 
 // Responds to what was read.
-fn respond_statement<K: Sink>(
+fn respond_statement<K: Sink, D: Disk>(
     alloc: Global,
-    archive: &mut Archive,
+    archive: &mut Archive<D>,
+    book: &RuleBook,
     sink: &mut K,
     statement: Statement,
-) -> Result<bool, Stop>
-    requires shows { (past : Past) × ShowsPast archive.old past }
-    requires written { IsWritten (statement_of statement) }
-    ensures replies { (past : Past) → ShowsPast archive.old past
-        → Responds (statement_reply (statement_of statement) past) result archive.new (K.written sink.old) (K.written sink.new) }
-    ensures cause { HasStopCause (K.faults sink.old) (K.faults sink.new) result }
+) -> Result<Put, Halt>
+    requires each { EachOf book.now.rules.items (λ r. handles (r.vtable, r.value)) }
+    requires takes { TakesRecords archive.old }
+    ensures replies { (limit : ℕ) → (now : Recorded) → StandsAt archive.old limit now
+        → Responds limit (statement_reply limit (statement_of statement) now) result archive.old archive.new (K.written sink.old) (K.written sink.new) }
+    ensures takes { OnOk result (TakesRecords archive.new) }
+    ensures counts { HaltCounted result (K.faults sink.old) (K.faults sink.new) (below archive.old).faults (below archive.new).faults }
 {
     match statement {
         Statement::Write(command) => respond_write(archive, sink, command),
-        Statement::Ask(query) => respond_ask(archive, sink, &query),
+        Statement::Ask(query) => respond_ask(archive, book, sink, &query),
         Statement::ShowVersions => respond_versions(alloc, archive, sink),
         Statement::ShowSchema(version) => respond_schema(alloc, archive, sink, version),
     }
 }
 
-/// The response to the statement of these bytes; it answers whether the reply is an `error` line.
+/// The response to the statement of these bytes; it answers whether an `error` line was put.
 #[tactic(auto, unfolding(crate::specs::Output::reply))]
-pub(crate) fn respond<K: Sink>(
+pub(crate) fn respond<K: Sink, D: Disk>(
     alloc: Global,
-    archive: &mut Archive,
+    archive: &mut Archive<D>,
+    book: &RuleBook,
     sink: &mut K,
     text: &[u8],
-) -> Result<bool, Stop>
-    requires shows { (past : Past) × ShowsPast archive.old past }
+) -> Result<Put, Halt>
+    requires each { EachOf book.now.rules.items (λ r. handles (r.vtable, r.value)) }
     requires short { length text.now ≤ 1048576 }
-    ensures replies { (past : Past) → ShowsPast archive.old past
-        → Responds (reply past text.now) result archive.new (K.written sink.old) (K.written sink.new) }
-    ensures cause { HasStopCause (K.faults sink.old) (K.faults sink.new) result }
+    requires takes { TakesRecords archive.old }
+    ensures replies { (limit : ℕ) → (now : Recorded) → StandsAt archive.old limit now
+        → Responds limit (reply limit now text.now) result archive.old archive.new (K.written sink.old) (K.written sink.new) }
+    ensures takes { OnOk result (TakesRecords archive.new) }
+    ensures counts { HaltCounted result (K.faults sink.old) (K.faults sink.new) (below archive.old).faults (below archive.new).faults }
 {
     match next_statement(alloc, text) {
-        Ok(None) => Ok(false),
-        Ok(Some(statement)) => respond_statement(alloc, archive, sink, statement),
-        Err(ReadFault::Syntax(at)) => refuse(sink, &Refusal::Syntax(at)),
-        Err(ReadFault::TooMany(what, limit)) => refuse(sink, &Refusal::TooMany(what, limit)),
-        Err(ReadFault::NoMemory) => Err(Stop::NoMemory),
+        Ok(None) => Ok(Put::NoError),
+        Ok(Some(statement)) => respond_statement(alloc, archive, book, sink, statement),
+        Err(ReadFault::Syntax(at)) => or_write_fault(refuse(sink, &Refusal::Syntax(at))),
+        Err(ReadFault::TooMany(what, limit)) => or_write_fault(refuse(
+            sink,
+            &Refusal::TooMany(what, limit),
+        )),
+        Err(ReadFault::NoMemory) => Err(Halt::NoMemory),
     }
 }

@@ -1,32 +1,44 @@
-//! A run: from the words, the bytes of the script and what the sink takes to a status.
+//! A run: from the words, the bytes of the script, what the sink takes and the file on the disk to a status.
 
-ghost use Rattle.std.specs.Prelude.{◌≡◌, ◌+◌, ◌<◌, ◌≤◌, ◌↔◌, ◌⊎◌, List, [], ℕ, length, take, true, false, Some, None, map, string_bytes, IfOk, MatchResult};
-ghost use Rattle.std.specs.Io.KnownBytes.{Appends, Consumes, IsAtEnd, Keeps};
-ghost use Rattle.prima_io.specs.Causes.{HasCause, Rose};
-ghost use Rattle.prima_io.specs.Moves.{AppendsFront, AppendsLess};
-ghost use Rattle.relations.specs.Spans.{Span};
+ghost use Rattle.std.specs.Prelude.{◌≡◌, ◌<◌, ◌≤◌, ◌++◌, ◌⊎◌, List, ℕ, IsTrue, true, Some, None, map, string_bytes};
+ghost use Rattle.std.specs.Io.KnownBytes.{Appends};
+ghost use Rattle.prima_io.specs.Moves.{AppendsFront};
+ghost use Rattle.relations.specs.Spans.{forever};
 ghost use Rattle.relations.specs.Listing.{IsListing};
 ghost use Rattle.prima_base.specs.Order.{row_cmp};
-ghost use Rattle.smo_meaning.specs.Accepts.{command_fault};
+ghost use Rattle.disk_model.specs.Meaning.{Tells};
+ghost use Rattle.disk_model.specs.Moments.{GoesOn};
 ghost use Rattle.smo_types.specs.Commands.{PlainCommand};
-ghost use Rattle.smo_meaning.specs.Past.{Past, beginning, database_at, database_behind, past_with};
-ghost use Rattle.temporal_lang.specs.Queries.{PlainQuery};
-ghost use Rattle.archive_core.specs.Asking.{query_fault, own_slice, own_asked, own_answer};
+ghost use Rattle.smo_meaning.specs.Accepts.{command_fault};
+ghost use Rattle.smo_meaning.specs.History.{IsHistory};
+ghost use Rattle.smo_meaning.specs.Past.{database_at, database_behind, past_with};
+ghost use Rattle.temporal_lang.specs.Queries.{PlainQuery, slice_of};
+ghost use Rattle.temporal_lang.specs.Accepted.{fault_of_query};
+ghost use Rattle.temporal_lang.specs.Answers.{asked_at, listing, answer};
+ghost use Rattle.rewrite.specs.Books.{EachOf};
+ghost use Rattle.prima_base.specs.Keeping.{kept};
+ghost use Rattle.archive_file.specs.Opening.{AreCommands, Opens, Damages};
 ghost use Rattle.script_parse.specs.Script.{Piece, statements_of, tail_of};
 ghost use Rattle.script_parse.specs.Joining.{Each};
-ghost use Rattle.script_laws.specs.Parts.{IsOpenFault, IsScript};
-ghost use Rattle.script_cli.specs.Output.{output, past_after, reply, is_error_line};
-ghost use Rattle.script_cli.specs.Texts.{wrong_words_text};
 ghost use Rattle.script_parse.specs.Lexing.{TextsAreLexed};
 ghost use Rattle.script_parse.specs.Reading.{IsReading, LimitsAreKept, ReadingsAreOne, StatementsAreRead, reading};
-ghost use Rattle.script_cli.specs.Runs.{Ran, RefusedWords, WhereTold, is_whole, are_accepted, Ends};
+ghost use Rattle.script_laws.specs.Parts.{IsOpenFault, IsScript};
+ghost use Rattle.script_cli.specs.Output.{Recorded, recorded, output, script_puts, commands_put, recorded_after, reply, is_error_line};
+ghost use Rattle.program_words.specs.Words.{asked_for};
+ghost use Rattle.script_cli.specs.Files.{LeavesPrefix};
+ghost use Rattle.script_cli.specs.Runs.{IsUntouched, RunsOver, RefusedWords, RefusesFile, SourceCounted, SinkCounted, DiskCounted, WhereTold, counted_limit, is_whole};
+ghost use Rattle.script_cli.specs.declared.status.Status.TheVariants as Status;
 
-use crate::SCRIPT_LIMIT;
-use crate::replies::put_wrong_words;
-use crate::sessions::Session;
-use crate::stops::Stop;
-use prima_io::{Failed, Sink, Source};
-use rule_book::RuleBook;
+use crate::opening::run_over;
+use crate::status::Status;
+use crate::words::{Word, refuse_words};
+use archive_file::a_file_opens_or_is_damaged;
+use disk_model::Disk;
+use prima_base::NoMemory;
+use prima_io::{Sink, Source};
+use program_words::journal_limit;
+use query_pieces::an_accepted_query_asks_questions;
+use rule_book::{Rule, RuleBook};
 use script_laws::{a_script_is_read_in_one_way, a_statement_has_no_open_text};
 use script_parse::{
     limits_are_kept, readings_are_of_the_grammar, readings_are_one, statements_are_read,
@@ -34,150 +46,64 @@ use script_parse::{
 };
 use smo_ops::a_command_is_seen_from_its_stamp_on;
 use std::alloc::Global;
+use temporal_lang::listing_is_the_one_list;
 
-/// One word of the command line behind the program's name.
-pub type Word = String;
-
-/// How a run ended.
-#[derive(Clone, Copy, PartialEq, Eq)]
-pub enum Status {
-    /// The script was read to its end, and no `error` line was due.
-    Done,
-    /// The script was read to its end, and its replies have an `error` line.
-    Refused,
-    /// The words are not the one word `run`.
-    Words,
-    /// The source failed.
-    ReadFault,
-    /// The sink failed.
-    WriteFault,
-    /// Memory ran out.
-    NoMemory,
-    /// The script is longer than `SCRIPT_LIMIT` bytes.
-    InputLimit,
+// The run over a disk that is lent.
+fn run_lent<S: Source, K: Sink, D: Disk>(
+    alloc: Global,
+    limit: u64,
+    book: &RuleBook,
+    source: &mut S,
+    sink: &mut K,
+    disk: &mut D,
+) -> Status
+    requires each { EachOf book.now.rules.items (λ r. handles (r.vtable, r.value)) }
+    ensures goes { GoesOn (D.meaning disk.old) (D.meaning disk.new) }
+    ensures runs { RunsOver limit result (S.left source.old) (S.left source.new) (K.written sink.old) (K.written sink.new) (K.faults sink.old) (K.faults sink.new) (D.meaning disk.old) (D.meaning disk.new) }
+    ensures source { SourceCounted result (S.faults source.old) (S.faults source.new) }
+    ensures sink { SinkCounted result (K.faults sink.old) (K.faults sink.new) }
+    ensures disk { DiskCounted result (D.meaning disk.old).faults (D.meaning disk.new).faults }
+{
+    let ended = run_over(alloc, limit, book, source, sink, &mut *disk);
+    ended.0
 }
 
-const CHUNK: usize = 4096;
-
-impl Status {
-    ghost use Rattle.std.specs.Prelude.{◌≡◌};
-    ghost use Rattle.script_cli.specs.Codes.{code_of};
-
-    /// The status with which the program ends.
-    pub fn code(&self) -> u8
-        ensures { result ≡ code_of self.now }
-    {
-        match self {
-            Status::Done => 0,
-            Status::Refused => 1,
-            Status::Words => 2,
-            Status::ReadFault => 3,
-            Status::WriteFault => 4,
-            Status::NoMemory => 7,
-            Status::InputLimit => 8,
-        }
+// The words are judged, and then the run is made.
+fn judge_and_run<S: Source, K: Sink, D: Disk>(
+    alloc: Global,
+    words: &[Word],
+    book: &RuleBook,
+    source: &mut S,
+    sink: &mut K,
+    disk: &mut D,
+) -> Status
+    requires each { EachOf book.now.rules.items (λ r. handles (r.vtable, r.value)) }
+    ensures words { result ≡ Status.Words → asked_for (map string_bytes words.now) ≡ None }
+    ensures refused { asked_for (map string_bytes words.now) ≡ None
+        → RefusedWords result (S.left source.old) (S.left source.new) (K.written sink.old) (K.written sink.new) (K.faults sink.old) (K.faults sink.new) disk.old disk.new }
+    ensures runs { (limit : ℕ) → asked_for (map string_bytes words.now) ≡ Some limit
+        → IsUntouched result (S.left source.old) (S.left source.new) (K.written sink.old) (K.written sink.new) disk.old disk.new
+        ⊎ RunsOver limit result (S.left source.old) (S.left source.new) (K.written sink.old) (K.written sink.new) (K.faults sink.old) (K.faults sink.new) (D.meaning disk.old) (D.meaning disk.new) }
+    ensures goes { GoesOn (D.meaning disk.old) (D.meaning disk.new) }
+    ensures source { SourceCounted result (S.faults source.old) (S.faults source.new) }
+    ensures sink { SinkCounted result (K.faults sink.old) (K.faults sink.new) }
+    ensures disk { DiskCounted result (D.meaning disk.old).faults (D.meaning disk.new).faults }
+{
+    match journal_limit(alloc, words) {
+        Ok(asked) => match asked {
+            Some(limit) => run_lent(alloc, limit, book, source, sink, disk),
+            None => refuse_words(sink),
+        },
+        Err(NoMemory) => Status::NoMemory,
     }
 }
 
-// How many bytes the next take may hand out: up to the limit, and at the limit one.
-fn room_for(count: u64) -> usize
-    requires { count ≤ SCRIPT_LIMIT }
-    ensures some { 0 < result }
-    ensures chunk { result ≤ CHUNK }
-    ensures within { count < SCRIPT_LIMIT → count + result ≤ SCRIPT_LIMIT }
-    ensures last { count ≡ SCRIPT_LIMIT → result ≡ 1 }
-{
-    if count < SCRIPT_LIMIT {
-        (SCRIPT_LIMIT - count).min(CHUNK as u64) as usize
-    } else {
-        1
-    }
-}
-
-// Takes at most so many bytes into the front of the chunk.
-fn take_some<S: Source>(source: &mut S, chunk: &mut [u8], room: usize) -> Result<usize, Failed>
-    requires some { 0 < room }
-    requires fits { room ≤ length chunk.old }
-    ensures bound { IfOk result (λ n. n ≤ room) }
-    ensures bytes { MatchResult result
-        (λ n. Consumes (S.left source.old) (S.left source.new) (take n chunk.new) × (n ≡ 0 → IsAtEnd (S.left source.new)))
-        (λ _. Keeps (S.left source.old) (S.left source.new)) }
-    ensures cause { HasCause (S.faults source.old) (S.faults source.new) result }
-{
-    source.take(&mut chunk[..room])
-}
-
-// Puts what is due at the script's end.
-fn finish<K: Sink>(session: Session, sink: &mut K) -> Status
-    requires { session.splitter.spent ≡ false }
-    ensures ends { Ends result session (K.written sink.old) (K.written sink.new) }
-    ensures later { K.faults sink.old ≤ K.faults sink.new }
-    ensures write { result ≡ Status.WriteFault → Rose (K.faults sink.old) (K.faults sink.new) }
-{
-    match session.finish(sink) {
-        Ok(true) => Status::Refused,
-        Ok(false) => Status::Done,
-        Err(Stop::WriteFault) => Status::WriteFault,
-        Err(Stop::NoMemory) => Status::NoMemory,
-    }
-}
-
-// Reads the script to its end, the limit or a fault. Each turn takes a byte at least, or is the last.
-fn drive<S: Source, K: Sink>(alloc: Global, source: &mut S, sink: &mut K) -> Status
-    ensures ran { Ran (S.left source.old) (S.left source.new) (K.written sink.old) (K.written sink.new) result }
-    ensures read { result ≡ Status.ReadFault → Rose (S.faults source.old) (S.faults source.new) }
-    ensures write { result ≡ Status.WriteFault → Rose (K.faults sink.old) (K.faults sink.new) }
-{
-    let mut session = Session::new(alloc);
-    let mut chunk = [0u8; CHUNK];
-    let mut count: u64 = 0;
-    'turns: loop {
-        let room = room_for(count);
-        let taken = match take_some(source, &mut chunk, room) {
-            Ok(taken) => taken,
-            Err(Failed) => return Status::ReadFault,
-        };
-        if taken == 0 {
-            return finish(session, sink);
-        }
-        if count == SCRIPT_LIMIT {
-            return Status::InputLimit;
-        }
-        match session.feed(sink, &chunk[..taken]) {
-            Ok(()) => count += taken as u64,
-            Err(Stop::WriteFault) => return Status::WriteFault,
-            Err(Stop::NoMemory) => return Status::NoMemory,
-        }
-    }
-}
-
-// Whether the words are the one word `run`.
-fn are_accepted(words: &[Word]) -> bool
-    ensures { result ≡ are_accepted (map string_bytes words.now) }
-{
-    match words {
-        [word] => word.as_bytes() == b"run".as_slice(),
-        _ => false,
-    }
-}
-
-// Puts the line for wrong words. The status is the same where the sink fails.
-fn refuse_words<K: Sink>(sink: &mut K) -> Status
-    ensures status { result ≡ Status.Words }
-    ensures wrote { Appends (K.written sink.old) (K.written sink.new) wrong_words_text
-        ⊎ (AppendsLess (K.written sink.old) (K.written sink.new) wrong_words_text × Rose (K.faults sink.old) (K.faults sink.new)) }
-{
-    match put_wrong_words(sink) {
-        Ok(()) => Status::Words,
-        Err(Failed) => Status::Words,
-    }
-}
-
-/// Runs a script: reads it from the source to its end, and puts the replies into the sink, each
-/// statement's when it ends. The words are judged first. The book has the rules by which queries will be taken from version
-/// to version; no statement asks it yet.
+/// Runs a script over the archive on a disk: reads it from the source to its end, puts the accepted commands as records on the disk,
+/// and the replies into the sink, each statement's when it ends. The words are judged first; then the disk is opened; then the
+/// script is read. The first fault ends the run. The book has a rule for each kind of operator, by which queries are taken from
+/// version to version.
 ///
-/// `output` is defined over the script's bytes alone, however they are cut: the replies to its
+/// `output` is defined over the script's bytes, however they are cut, and what stood behind the opening commands: the replies to its
 /// statements in order, then the line for what stands behind the last `;`. Laws say what it is made of:
 /// - `splits` and `once`: the statements and the tail are the one reading of the script, cut at each `;` that
 ///   stands in no text and no comment;
@@ -187,35 +113,60 @@ fn refuse_words<K: Sink>(sink: &mut K) -> Status
 ///   or token from which no statement goes on, or for what is too much;
 /// - `readable` and `only`: each statement of the grammar is read, and no text is read otherwise;
 /// - `limits`: what is too much is refused at the token at which it is;
+/// - `records`: what stands behind statements is the past of the opening commands with those that were put, each accepted after those
+///   before it, and the gate behind their records;
 /// - `seen`: an accepted command changes the database of each moment from its stamp on, and of no other;
-/// - `answers`: a query lists each row with the longest periods in which it holds, moment by moment, while its
-///   version is in force;
+/// - `answers`: a query lists each row with the longest periods in which it holds, moment by moment, in the databases
+///   carried to the version that it names;
 /// - `errors`: just the refused statements have an `error` line.
-pub fn run<S: Source, K: Sink>(
+pub fn run<S: Source, K: Sink, D: Disk>(
     alloc: Global,
     words: &[Word],
     book: &RuleBook,
     source: &mut S,
     sink: &mut K,
+    disk: &mut D,
 ) -> Status
-    // Words comes exactly where they are not the one word `run`; nothing else is then taken or written.
-    ensures words { (result ≡ Status.Words) ↔ (are_accepted (map string_bytes words.now) ≡ false) }
-    ensures refused { are_accepted (map string_bytes words.now) ≡ false
-        → RefusedWords (S.left source.old) (S.left source.new) (K.written sink.old) (K.written sink.new) (K.faults sink.old) (K.faults sink.new) }
+    requires each { EachOf book.now.rules.items (λ r. handles (r.vtable, r.value)) }
 
-    // What was taken, and what was written by the status.
-    ensures ran { are_accepted (map string_bytes words.now) ≡ true
-        → Ran (S.left source.old) (S.left source.new) (K.written sink.old) (K.written sink.new) result }
+    // Words comes exactly where they are not accepted, unless memory ran out; nothing is then taken, and no disk called.
+    ensures words { result ≡ Status.Words → asked_for (map string_bytes words.now) ≡ None }
+    ensures refused { asked_for (map string_bytes words.now) ≡ None
+        → RefusedWords result (S.left source.old) (S.left source.new) (K.written sink.old) (K.written sink.new) (K.faults sink.old) (K.faults sink.new) disk.old disk.new }
+
+    // What is taken, written and left on the disk where they are, by the status: how many statements were answered whole, what was
+    // written behind their replies, and as what the file opens.
+    ensures runs { (limit : ℕ) → asked_for (map string_bytes words.now) ≡ Some limit
+        → IsUntouched result (S.left source.old) (S.left source.new) (K.written sink.old) (K.written sink.new) disk.old disk.new
+        ⊎ RunsOver limit result (S.left source.old) (S.left source.new) (K.written sink.old) (K.written sink.new) (K.faults sink.old) (K.faults sink.new) (D.meaning disk.old) (D.meaning disk.new) }
+
+    // NotAJournal comes exactly where the file is damaged, at its place, unless the disk failed or memory ran out.
+    ensures damaged { (place : ℕ) → result ≡ Status.NotAJournal place → Tells (D.meaning disk.old).seen (λ file. Damages file place) }
+    ensures refuses { (limit : ℕ) → (file : List ℕ) → (place : ℕ) → asked_for (map string_bytes words.now) ≡ Some limit → (D.meaning disk.old).seen ≡ Some file
+        → Damages file place → RefusesFile place result (S.left source.old) (S.left source.new) }
 
     // Whatever happens, a front of the script's output is written, and all of it where the script was read to its end.
-    ensures front { are_accepted (map string_bytes words.now) ≡ true
-        → WhereTold (S.left source.old) (λ script. AppendsFront (K.written sink.old) (K.written sink.new) (output script)) }
-    ensures whole { is_whole result ≡ true
-        → WhereTold (S.left source.old) (λ script. Appends (K.written sink.old) (K.written sink.new) (output script)) }
+    ensures front { (limit : ℕ) → (file : List ℕ) → (opening : List PlainCommand) → asked_for (map string_bytes words.now) ≡ Some limit
+        → (D.meaning disk.old).seen ≡ Some file → Opens file opening
+        → WhereTold (S.left source.old) (λ script. AppendsFront (K.written sink.old) (K.written sink.new) (output (counted_limit limit) (recorded opening) script)) }
+    ensures whole { (limit : ℕ) → (file : List ℕ) → (opening : List PlainCommand) → asked_for (map string_bytes words.now) ≡ Some limit
+        → (D.meaning disk.old).seen ≡ Some file → Opens file opening → is_whole result ≡ true
+        → WhereTold (S.left source.old) (λ script. Appends (K.written sink.old) (K.written sink.new) (output (counted_limit limit) (recorded opening) script)) }
 
-    // A fault is answered only where the count of its object rose in this call.
-    ensures read { result ≡ Status.ReadFault → Rose (S.faults source.old) (S.faults source.new) }
-    ensures write { result ≡ Status.WriteFault → Rose (K.faults sink.old) (K.faults sink.new) }
+    // Wherever the run is stopped: until its first sync has succeeded a crash leaves what it might have left before, and from then on,
+    // at each moment, a file that opens as the opening commands and a prefix of those that the script's statements put.
+    ensures crash { (limit : ℕ) → (file : List ℕ) → (opening : List PlainCommand) → asked_for (map string_bytes words.now) ≡ Some limit
+        → IsTrue (D.meaning disk.old).is_honest → (D.meaning disk.old).seen ≡ Some file → Opens file opening
+        → WhereTold (S.left source.old) (λ script. LeavesPrefix (D.meaning disk.old) (D.meaning disk.new) opening (script_puts (counted_limit limit) (recorded opening) script)) }
+
+    // A fault is answered only where the count of its object rose in this call, and with any
+    // other status the count is as it was.
+    ensures source { SourceCounted result (S.faults source.old) (S.faults source.new) }
+    ensures sink { SinkCounted result (K.faults sink.old) (K.faults sink.new) }
+    ensures disk { DiskCounted result (D.meaning disk.old).faults (D.meaning disk.new).faults }
+
+    // Its moments join those of the disk before it.
+    ensures goes { GoesOn (D.meaning disk.old) (D.meaning disk.new) }
 
     // What a statement's bytes are read as is so in the words of the grammar.
     ensures reads { (text : List ℕ) → IsReading text (reading text) }
@@ -232,13 +183,23 @@ pub fn run<S: Source, K: Sink>(
     // The tokens of a text, or its first lexical fault, are the one list, or the one fault, of the lexer's relation.
     ensures lexes { TextsAreLexed }
 
-    // The answer to a query that is not refused, behind some statements: each row with the longest periods in which it holds, among the
-    // moments of the slice at which the asked version is in force. What holds at such a moment is asked of that moment's database.
-    ensures answers { (statements : List Piece) → (query : PlainQuery) → (slice : Span) → let past = past_after beginning statements in
-        query_fault past query ≡ None → query.keep ≡ [] → own_slice past query ≡ Some slice → IsListing row_cmp (own_asked past query) slice (own_answer past query) }
+    // Behind statements stands the past of the opening commands with those that were put, each of which was accepted after those before
+    // it; and the gate stands behind their records.
+    ensures records { (limit : ℕ) → (opening : List PlainCommand) → (statements : List Piece) → IsHistory opening
+        → let put = commands_put limit (recorded opening) statements in
+        (recorded_after limit (recorded opening) statements ≡ recorded (opening ++ put)) × IsHistory (opening ++ put) }
+
+    // The answer to a query that is not refused, behind some statements: the one list of what is asked of each moment of its slice, each
+    // row with its longest periods, of which the entries stay that meet every condition of KEEP. What is asked of a moment is asked of that
+    // moment's database, carried to the version that the query names.
+    ensures answers { (limit : ℕ) → (opening : List PlainCommand) → (statements : List Piece) → (query : PlainQuery) → AreCommands opening → IsHistory opening
+        → let past = (recorded_after limit (recorded opening) statements).past in
+        fault_of_query past query ≡ None → (slice_of query.when).end ≤ forever
+        → IsListing row_cmp (asked_at past query) (slice_of query.when) (listing past query) × (answer past query ≡ kept query.keep (listing past query)) }
 
     // A command that is accepted behind some statements is seen from its stamp on: before it each moment's database is as it was.
-    ensures seen { (statements : List Piece) → (command : PlainCommand) → (m : ℕ) → let past = past_after beginning statements in
+    ensures seen { (limit : ℕ) → (opening : List PlainCommand) → (statements : List Piece) → (command : PlainCommand) → (m : ℕ) → AreCommands opening → IsHistory opening
+        → let past = (recorded_after limit (recorded opening) statements).past in
         command_fault past command ≡ None
         → (m < command.stamp → database_at (past_with past command) m ≡ database_at past m) × (command.stamp ≤ m → database_at (past_with past command) m ≡ database_behind command.body past) }
 
@@ -254,7 +215,7 @@ pub fn run<S: Source, K: Sink>(
         → Each (λ s. IsOpenFault s → ⊥) statements }
 
     // A reply counts as an error exactly where its line begins with `error `.
-    ensures errors { (past : Past) → (text : List ℕ) → (reply past text).is_error ≡ is_error_line (reply past text).text }
+    ensures errors { (limit : ℕ) → (now : Recorded) → (text : List ℕ) → (reply limit now text).is_error ≡ is_error_line (reply limit now text).text }
 {
     a_script_is_read_in_one_way();
     a_statement_has_no_open_text();
@@ -264,9 +225,8 @@ pub fn run<S: Source, K: Sink>(
     readings_are_one();
     limits_are_kept();
     a_command_is_seen_from_its_stamp_on();
-    let _ = book;
-    if !are_accepted(words) {
-        return refuse_words(sink);
-    }
-    drive(alloc, source, sink)
+    listing_is_the_one_list();
+    an_accepted_query_asks_questions();
+    a_file_opens_or_is_damaged();
+    judge_and_run(alloc, words, book, source, sink, disk)
 }

@@ -1,5 +1,6 @@
 //! What no script can say and only running shows: devices that fail at chosen calls, texts of more than a
-//! megabyte, the adapters over files, books of boxed rules, and pieces with ample memory.
+//! megabyte, the adapters over files, the boxed rules and their book, pieces and words with ample memory, and
+//! texts that are lent.
 //!
 //! Every other case is a script with its replies, in the crates whose names end in `_cases`.
 #![tactic(auto)]
@@ -7,10 +8,16 @@
 #[cfg(test)]
 mod adapters;
 #[cfg(test)]
+mod archive;
+#[cfg(test)]
 mod devices;
+#[cfg(test)]
+mod file_disks;
 #[cfg(test)]
 mod pieces;
 #[cfg(test)]
-mod rule_books;
+mod rules;
 #[cfg(test)]
 mod runs;
+#[cfg(test)]
+mod words;

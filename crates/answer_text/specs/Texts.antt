@@ -1,0 +1,110 @@
+-- The lines of replies, by their bytes. Each is ended by a line feed.
+use Rattle.std.specs.Prelude.{ℕ, Bool, true, false, List, [], ◌∷◌, ◌++◌, ◌+◌, ◌==◌, length, map, codes, decimal, Option, Some, None, if◌then◌else◌}
+use Rattle.std.specs.List.{flat_map}
+use Rattle.std.specs.FinMap.{entries}
+use Rattle.relations.specs.Timed.{Entry}
+use Rattle.prima_base.specs.declared.periods.TheConstants.{FOREVER}
+use Rattle.prima_base.specs.declared.values.Value.{Value}
+use Rattle.prima_base.specs.Columns.{Column}
+use Rattle.schema_catalog.specs.Tables.{Tables}
+use Rattle.smo_types.specs.Operators.{Operator}
+use Rattle.smo_types.specs.Commands.{PlainVersion}
+use Rattle.smo_parse.specs.TreeTexts.{value_text}
+use Rattle.smo_parse.specs.Texts.{listed, column_text, operator_text}
+
+-- so many rows were gained and lost at this moment
+unfoldable pub changed_text : ℕ → ℕ → ℕ → List ℕ
+changed_text stamp gained lost = codes "ok " ++ decimal stamp ++ codes " +" ++ decimal gained ++ codes " -" ++ decimal lost ++ codes "\n"
+
+-- this version was made at this moment
+unfoldable pub evolved_text : ℕ → ℕ → List ℕ
+evolved_text stamp version = codes "ok " ++ decimal stamp ++ codes " version " ++ decimal version ++ codes "\n"
+
+-- changes, or the version that was made
+abbrev pub made_text : ℕ → ℕ → ℕ → Option ℕ → List ℕ
+made_text stamp gained lost None = changed_text stamp gained lost
+made_text stamp gained lost (Some version) = evolved_text stamp version
+
+-- the words of the call are wrong
+unfoldable pub wrong_words_text : List ℕ
+wrong_words_text = codes "fault 2\n"
+
+-- the file is no journal, and this is where it is damaged
+unfoldable pub not_a_journal_text : ℕ → List ℕ
+not_a_journal_text place = codes "fault 6 " ++ decimal place ++ codes "\n"
+
+-- the end of a period, which may still go on
+abbrev pub end_text : ℕ → List ℕ
+end_text end = if end == FOREVER then codes "now" else decimal end
+
+-- the values of a row, each behind a space
+abbrev pub values_text : List Value → List ℕ
+values_text values = flat_map (λ v. codes " " ++ value_text v) values
+
+-- the head of a row's line, with the period where the periods are told
+abbrev pub head_text : Bool → ℕ → ℕ → List ℕ
+head_text false start end = codes "row"
+head_text true start end = codes "row " ++ decimal start ++ codes " " ++ end_text end
+
+-- a row, behind its period where the periods are told
+abbrev pub row_text : Bool → Entry (List Value) → List ℕ
+row_text told e = head_text told e.period.start e.period.end ++ values_text e.item ++ codes "\n"
+
+-- the line behind the rows
+abbrev pub count_text : ℕ → List ℕ
+count_text count = codes "end " ++ decimal count ++ codes "\n"
+
+-- the rows, and then how many they are
+unfoldable pub listing_text : Bool → List (Entry (List Value)) → List ℕ
+listing_text told entries = flat_map (row_text told) entries ++ count_text (length entries)
+
+-- ---- versions
+
+-- operators, each behind THEN
+abbrev pub more_operators : List Operator → List ℕ
+more_operators [] = []
+more_operators (op ∷ ops) = codes " THEN " ++ operator_text op ++ more_operators ops
+
+-- the inverse, where one is named
+abbrev pub inverse_text : List Operator → List ℕ
+inverse_text [] = []
+inverse_text (op ∷ ops) = codes " INVERSE " ++ operator_text op ++ more_operators ops
+
+-- the head of a version's line: its number, and the moments from which and up to which it is in force
+unfoldable pub version_head : ℕ → ℕ → ℕ → List ℕ
+version_head k start end = codes "version " ++ decimal k ++ codes " " ++ decimal start ++ codes " " ++ end_text end
+
+-- version 0, which no operator made
+abbrev pub first_version_text : ℕ → List ℕ
+first_version_text end = version_head 0 0 end ++ codes "\n"
+
+abbrev pub version_text : ℕ → PlainVersion → ℕ → List ℕ
+version_text k v end = version_head k v.stamp end ++ (codes " " ++ (operator_text v.op ++ (inverse_text v.inverse ++ codes "\n")))
+
+-- the stamp of the first of these versions; the end of time where there is none
+abbrev pub next_stamp : List PlainVersion → ℕ
+next_stamp [] = FOREVER
+next_stamp (v ∷ versions) = v.stamp
+
+-- versions, the first of which has this number
+abbrev pub version_texts : ℕ → List PlainVersion → List ℕ
+version_texts k [] = []
+version_texts k (v ∷ versions) = version_text k v (next_stamp versions) ++ version_texts (k + 1) versions
+
+-- all versions, and then how many they are
+unfoldable pub versions_text : List PlainVersion → List ℕ
+versions_text versions = first_version_text (next_stamp versions) ++ (version_texts 1 versions ++ count_text (length versions + 1))
+
+-- ---- tables
+
+-- a table with its columns
+abbrev pub table_text : List ℕ × List Column → List ℕ
+table_text t = codes "table " ++ (t.0 ++ (codes " " ++ (listed (map column_text t.1) ++ codes "\n")))
+
+abbrev pub tables_text : List (List ℕ × List Column) → List ℕ
+tables_text [] = []
+tables_text (t ∷ tables) = table_text t ++ tables_text tables
+
+-- the tables of a version, and then how many they are
+unfoldable pub schema_text : Tables → List ℕ
+schema_text tables = tables_text (entries tables) ++ count_text (length (entries tables))

@@ -1,0 +1,63 @@
+//! Replies that are made in memory before they are put.
+
+ghost use Rattle.std.specs.Prelude.{◌≡◌, ◌++◌, ℕ, List, OnOk, OnErr, IfOk, decimal};
+ghost use Rattle.std.specs.Io.KnownBytes.{Appends};
+ghost use Rattle.prima_io.specs.Moves.{AppendsFront};
+ghost use Rattle.answer_text.specs.Causes.{HasStopCause};
+ghost use Rattle.answer_text.specs.Texts.{end_text, count_text};
+
+use crate::stop::Stop;
+use itoa::Buffer;
+use prima_base::{FOREVER, NoMemory};
+use prima_io::{Failed, Sink, put_all};
+
+/// Adds bytes to the line. The one error, here and below, is `NoMemory`, where memory runs out.
+pub(crate) fn add(line: &mut Vec<u8>, bytes: &[u8]) -> Result<(), NoMemory>
+    ensures { OnOk result (line.new.items ≡ line.old.items ++ bytes.now) }
+{
+    line.extend_from_slice(bytes)?;
+    Ok(())
+}
+
+/// Adds a number in decimal digits.
+pub(crate) fn add_number(line: &mut Vec<u8>, number: u64) -> Result<(), NoMemory>
+    ensures { OnOk result (line.new.items ≡ line.old.items ++ decimal number) }
+{
+    add(line, Buffer::new().format(number).as_bytes())
+}
+
+/// Adds the end of a period, which may still go on.
+pub(crate) fn add_end(line: &mut Vec<u8>, end: u64) -> Result<(), NoMemory>
+    ensures { OnOk result (line.new.items ≡ line.old.items ++ end_text end) }
+{
+    if end == FOREVER {
+        add(line, b"now")
+    } else {
+        add_number(line, end)
+    }
+}
+
+/// Adds the line that counts the lines before it.
+pub(crate) fn add_count(line: &mut Vec<u8>, count: u64) -> Result<(), NoMemory>
+    ensures { OnOk result (line.new.items ≡ line.old.items ++ count_text count) }
+{
+    add(line, b"end ")?;
+    add_number(line, count)?;
+    add(line, b"\n")
+}
+
+/// Puts lines that were made in memory, or stops where they were not. `WriteFault` comes only where the sink's count of
+/// faults rose; a front of the lines was then put, as of those that found no memory.
+pub(crate) fn put_lines<K: Sink>(sink: &mut K, lines: Result<Vec<u8>, NoMemory>) -> Result<(), Stop>
+    ensures all { (text : List ℕ) → IfOk lines (λ l. l.items ≡ text) → OnOk result (Appends (K.written sink.old) (K.written sink.new) text) }
+    ensures part { (text : List ℕ) → IfOk lines (λ l. l.items ≡ text) → OnErr result (AppendsFront (K.written sink.old) (K.written sink.new) text) }
+    ensures cause { HasStopCause (K.faults sink.old) (K.faults sink.new) result }
+{
+    match lines {
+        Ok(lines) => match put_all(sink, &lines) {
+            Ok(()) => Ok(()),
+            Err(Failed) => Err(Stop::WriteFault),
+        },
+        Err(NoMemory) => Err(Stop::NoMemory),
+    }
+}

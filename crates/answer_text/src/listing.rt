@@ -1,0 +1,192 @@
+//! The listing of a query: a line for each row, and then how many they are.
+
+ghost use Rattle.std.specs.Prelude.{◌≡◌, ◌+◌, ◌≤◌, ◌++◌, length, map, OnOk, OnErr, codes};
+ghost use Rattle.std.specs.List.{flat_map};
+ghost use Rattle.std.specs.Fmt.{signed_decimal};
+ghost use Rattle.std.specs.Io.KnownBytes.{Appends};
+ghost use Rattle.prima_io.specs.Causes.{HasCause};
+ghost use Rattle.prima_io.specs.Moves.{AppendsLess};
+ghost use Rattle.prima_base.specs.Order.{shown};
+ghost use Rattle.prima_base.specs.Timed.{entry_of, entries_of};
+ghost use Rattle.answer_text.specs.Gathering.{Gathers};
+ghost use Rattle.smo_parse.specs.TreeTexts.{doubled, value_text};
+ghost use Rattle.answer_text.specs.Texts.{values_text, end_text, head_text, row_text, count_text, listing_text};
+
+use crate::line::Line;
+use itoa::Buffer;
+use prima_base::{FOREVER, Period, TimedRow, Val};
+use prima_io::{Failed, Sink};
+
+/// The answer to a query: its rows, each with a period in which it holds, ascending by row and start. The periods are
+/// told with the rows (`periods`), but for a query that asks of one moment. Texts of plain columns are lent by the archive.
+#[derive(Drop)]
+pub struct Listing<'a> {
+    pub rows: Vec<TimedRow<'a>>,
+    pub periods: bool,
+}
+
+/// Puts the rows, a line each, behind their periods where these are told, and then the line that counts them. It takes no
+/// memory. `Failed` comes only where the sink's count of faults rose; a prefix of the text, and not all of it, was then put.
+pub fn put_listing<K: Sink>(sink: &mut K, listing: &Listing<'_>) -> Result<(), Failed>
+    ensures all { OnOk result (Appends (K.written sink.old) (K.written sink.new) (listing_text listing.now.periods (entries_of listing.now.rows.items))) }
+    ensures part { OnErr result (AppendsLess (K.written sink.old) (K.written sink.new) (listing_text listing.now.periods (entries_of listing.now.rows.items))) }
+    ensures cause { HasCause (K.faults sink.old) (K.faults sink.new) result }
+{
+    put_rows(sink, &listing.rows, listing.periods)
+}
+
+#[tactic(auto, unfolding(crate::specs::Texts::listing_text))]
+fn put_rows<K: Sink>(sink: &mut K, rows: &[TimedRow<'_>], told: bool) -> Result<(), Failed>
+    ensures all { OnOk result (Appends (K.written sink.old) (K.written sink.new) (listing_text told (entries_of rows.now))) }
+    ensures part { OnErr result (AppendsLess (K.written sink.old) (K.written sink.new) (listing_text told (entries_of rows.now))) }
+    ensures cause { HasCause (K.faults sink.old) (K.faults sink.new) result }
+{
+    let mut line = Line::new();
+    push_rows(&mut line, sink, rows, told)?;
+    push_count(&mut line, sink, rows.len() as u64)?;
+    line.flush(sink)
+}
+
+fn push_rows<K: Sink>(
+    line: &mut Line,
+    sink: &mut K,
+    rows: &[TimedRow<'_>],
+    told: bool,
+) -> Result<(), Failed>
+    ensures all { OnOk result (Gathers (K.written sink.old) line.old (K.written sink.new) line.new (flat_map (row_text told) (entries_of rows.now))) }
+    ensures part { OnErr result (AppendsLess (K.written sink.old) (K.written sink.new) (line.old ++ flat_map (row_text told) (entries_of rows.now))) }
+    ensures cause { HasCause (K.faults sink.old) (K.faults sink.new) result }
+{
+    for row in rows {
+        push_row(line, sink, row, told)?;
+    }
+    Ok(())
+}
+
+fn push_count<K: Sink>(line: &mut Line, sink: &mut K, count: u64) -> Result<(), Failed>
+    ensures all { OnOk result (Gathers (K.written sink.old) line.old (K.written sink.new) line.new (count_text count)) }
+    ensures part { OnErr result (AppendsLess (K.written sink.old) (K.written sink.new) line.old) }
+    ensures cause { HasCause (K.faults sink.old) (K.faults sink.new) result }
+{
+    line.make_room(sink, 30)?;
+    line.add(b"end ");
+    line.add_number(count);
+    line.add(b"\n");
+    Ok(())
+}
+
+fn push_row<K: Sink>(
+    line: &mut Line,
+    sink: &mut K,
+    row: &TimedRow<'_>,
+    told: bool,
+) -> Result<(), Failed>
+    ensures all { OnOk result (Gathers (K.written sink.old) line.old (K.written sink.new) line.new (row_text told (entry_of row.now))) }
+    ensures part { OnErr result (AppendsLess (K.written sink.old) (K.written sink.new) (line.old ++ row_text told (entry_of row.now))) }
+    ensures cause { HasCause (K.faults sink.old) (K.faults sink.new) result }
+{
+    push_head(line, sink, row.period, told)?;
+    push_values(line, sink, &row.values)?;
+    line.push(sink, b"\n")
+}
+
+// The head of a row's line.
+fn push_head<K: Sink>(
+    line: &mut Line,
+    sink: &mut K,
+    period: Period,
+    told: bool,
+) -> Result<(), Failed>
+    ensures all { OnOk result (Gathers (K.written sink.old) line.old (K.written sink.new) line.new (head_text told period.start period.end)) }
+    ensures part { OnErr result (AppendsLess (K.written sink.old) (K.written sink.new) line.old) }
+    ensures cause { HasCause (K.faults sink.old) (K.faults sink.new) result }
+{
+    line.make_room(sink, 50)?;
+    add_head(line, period, told);
+    Ok(())
+}
+
+fn add_head(line: &mut Line, period: Period, told: bool)
+    requires { length line.old + 50 ≤ 4096 }
+    ensures { line.new ≡ line.old ++ head_text told period.start period.end }
+{
+    line.add(b"row");
+    if told {
+        line.add(b" ");
+        line.add_number(period.start());
+        line.add(b" ");
+        add_end(line, period.end());
+    }
+}
+
+fn add_end(line: &mut Line, end: u64)
+    requires { length line.old + 20 ≤ 4096 }
+    ensures { line.new ≡ line.old ++ end_text end }
+{
+    if end == FOREVER {
+        line.add(b"now");
+    } else {
+        line.add_number(end);
+    }
+}
+
+fn push_values<K: Sink>(line: &mut Line, sink: &mut K, values: &[Val<'_>]) -> Result<(), Failed>
+    ensures all { OnOk result (Gathers (K.written sink.old) line.old (K.written sink.new) line.new (values_text (map shown values.now))) }
+    ensures part { OnErr result (AppendsLess (K.written sink.old) (K.written sink.new) (line.old ++ values_text (map shown values.now))) }
+    ensures cause { HasCause (K.faults sink.old) (K.faults sink.new) result }
+{
+    for value in values {
+        push_value(line, sink, value)?;
+    }
+    Ok(())
+}
+
+// A space and the value.
+fn push_value<K: Sink>(line: &mut Line, sink: &mut K, value: &Val<'_>) -> Result<(), Failed>
+    ensures all { OnOk result (Gathers (K.written sink.old) line.old (K.written sink.new) line.new (codes " " ++ value_text (shown value.now))) }
+    ensures part { OnErr result (AppendsLess (K.written sink.old) (K.written sink.new) (line.old ++ (codes " " ++ value_text (shown value.now)))) }
+    ensures cause { HasCause (K.faults sink.old) (K.faults sink.new) result }
+{
+    match value {
+        Val::Int(n) => push_int(line, sink, *n),
+        Val::Slice(bytes) => push_text(line, sink, bytes),
+        Val::Own(text) => push_text(line, sink, text.bytes()),
+    }
+}
+
+fn push_int<K: Sink>(line: &mut Line, sink: &mut K, n: i64) -> Result<(), Failed>
+    ensures all { OnOk result (Gathers (K.written sink.old) line.old (K.written sink.new) line.new (codes " " ++ signed_decimal n)) }
+    ensures part { OnErr result (AppendsLess (K.written sink.old) (K.written sink.new) (line.old ++ (codes " " ++ signed_decimal n))) }
+    ensures cause { HasCause (K.faults sink.old) (K.faults sink.new) result }
+{
+    line.make_room(sink, 41)?;
+    line.add(b" ");
+    line.add(Buffer::new().format(n).as_bytes());
+    Ok(())
+}
+
+fn push_text<K: Sink>(line: &mut Line, sink: &mut K, bytes: &[u8]) -> Result<(), Failed>
+    ensures all { OnOk result (Gathers (K.written sink.old) line.old (K.written sink.new) line.new (codes " '" ++ doubled bytes.now ++ codes "'")) }
+    ensures part { OnErr result (AppendsLess (K.written sink.old) (K.written sink.new) (line.old ++ (codes " '" ++ doubled bytes.now ++ codes "'"))) }
+    ensures cause { HasCause (K.faults sink.old) (K.faults sink.new) result }
+{
+    line.push(sink, b" '")?;
+    push_doubled(line, sink, bytes)?;
+    line.push(sink, b"'")
+}
+
+// Each piece that is pushed ends with a quote, and the next begins with the same quote once more.
+fn push_doubled<K: Sink>(line: &mut Line, sink: &mut K, bytes: &[u8]) -> Result<(), Failed>
+    ensures all { OnOk result (Gathers (K.written sink.old) line.old (K.written sink.new) line.new (doubled bytes.now)) }
+    ensures part { OnErr result (AppendsLess (K.written sink.old) (K.written sink.new) (line.old ++ doubled bytes.now)) }
+    ensures cause { HasCause (K.faults sink.old) (K.faults sink.new) result }
+{
+    let mut start = 0;
+    for (i, b) in bytes.iter().enumerate() {
+        if *b == b'\'' {
+            line.push(sink, &bytes[start..=i])?;
+            start = i;
+        }
+    }
+    line.push(sink, &bytes[start..])
+}

@@ -1,0 +1,110 @@
+//! The lines of SHOW SCHEMA: each table of a version with its columns.
+
+ghost use Rattle.std.specs.Prelude.{◌≡◌, ◌++◌, map, drop, IfOk, OnOk, OnErr};
+ghost use Rattle.std.specs.FinMap.{entries};
+ghost use Rattle.std.specs.Io.KnownBytes.{Appends};
+ghost use Rattle.prima_io.specs.Moves.{AppendsFront};
+ghost use Rattle.smo_parse.specs.Texts.{type_text, column_text, listed, more_listed};
+ghost use Rattle.answer_text.specs.Causes.{HasStopCause};
+ghost use Rattle.answer_text.specs.Texts.{table_text, tables_text, schema_text};
+
+use crate::bytes::{add, add_count, put_lines};
+use crate::stop::Stop;
+use prima_base::{ColType, Name, NoMemory};
+use prima_io::Sink;
+use schema_catalog::{Schema, Table};
+use std::alloc::Global;
+
+// A type's word.
+fn word_of(kind: ColType) -> &'static [u8]
+    ensures { result.now ≡ type_text kind }
+{
+    match kind {
+        ColType::Int => b"INT",
+        ColType::Text => b"TEXT",
+    }
+}
+
+// A column's name and its type.
+fn add_column(line: &mut Vec<u8>, name: &Name, kind: ColType) -> Result<(), NoMemory>
+    ensures { OnOk result (line.new.items ≡ line.old.items ++ column_text (name.now, kind)) }
+{
+    add(line, name.bytes())?;
+    add(line, b" ")?;
+    add(line, word_of(kind))
+}
+
+// Columns, each behind a comma.
+fn add_more_columns(line: &mut Vec<u8>, columns: &[(Name, ColType)]) -> Result<(), NoMemory>
+    ensures { OnOk result (line.new.items ≡ line.old.items ++ more_listed (map column_text columns.now)) }
+{
+    match columns {
+        [] => Ok(()),
+        [(name, kind), more @ ..] => {
+            add(line, b", ")?;
+            add_column(line, name, *kind)?;
+            add_more_columns(line, more)
+        }
+    }
+}
+
+// Columns with commas between them.
+fn add_columns(line: &mut Vec<u8>, columns: &[(Name, ColType)]) -> Result<(), NoMemory>
+    ensures { OnOk result (line.new.items ≡ line.old.items ++ listed (map column_text columns.now)) }
+{
+    match columns {
+        [] => Ok(()),
+        [(name, kind), more @ ..] => {
+            add_column(line, name, *kind)?;
+            add_more_columns(line, more)
+        }
+    }
+}
+
+// The line of a table.
+fn add_table(lines: &mut Vec<u8>, table: &Table) -> Result<(), NoMemory>
+    ensures { OnOk result (lines.new.items ≡ lines.old.items ++ table_text table.now) }
+{
+    add(lines, b"table ")?;
+    add(lines, table.name().bytes())?;
+    add(lines, b" ")?;
+    add_columns(lines, table.columns())?;
+    add(lines, b"\n")
+}
+
+// The lines of the tables from this place on. There is no memory for more tables than a place can number.
+#[tactic(auto, using(crate::proofs::TablesLeft::with_one))]
+fn add_tables(lines: &mut Vec<u8>, schema: &Schema, at: u32) -> Result<(), NoMemory>
+    ensures { OnOk result (lines.new.items ≡ lines.old.items ++ tables_text (drop at (entries schema.now))) }
+{
+    match schema.at(at) {
+        None => Ok(()),
+        Some(table) => {
+            let Some(next) = at.checked_add(1) else {
+                return Err(NoMemory);
+            };
+            add_table(lines, table)?;
+            add_tables(lines, schema, next)
+        }
+    }
+}
+
+// The lines of all tables, and then how many they are.
+fn schema_lines(alloc: Global, schema: &Schema) -> Result<Vec<u8>, NoMemory>
+    ensures { IfOk result (λ lines. lines.items ≡ schema_text schema.now) }
+{
+    let mut lines = Vec::new(alloc);
+    add_tables(&mut lines, schema, 0)?;
+    add_count(&mut lines, schema.len() as u64)?;
+    Ok(lines)
+}
+
+/// Puts a line for each table of the schema, in the order of names, and then how many they are. A failing sink's count has
+/// risen; a front of the lines was then put, as where memory ran out.
+pub fn put_schema<K: Sink>(alloc: Global, sink: &mut K, schema: &Schema) -> Result<(), Stop>
+    ensures all { OnOk result (Appends (K.written sink.old) (K.written sink.new) (schema_text schema.now)) }
+    ensures part { OnErr result (AppendsFront (K.written sink.old) (K.written sink.new) (schema_text schema.now)) }
+    ensures cause { HasStopCause (K.faults sink.old) (K.faults sink.new) result }
+{
+    put_lines(sink, schema_lines(alloc, schema))
+}

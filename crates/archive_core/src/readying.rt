@@ -1,0 +1,56 @@
+//! All that a command needs before the disk is called.
+
+ghost use Rattle.std.specs.Prelude.{◌≡◌, IfOk, OnOk};
+ghost use Rattle.smo_types.specs.Commands.{command_of};
+ghost use Rattle.smo_meaning.specs.Past.{Past};
+ghost use Rattle.command_spelling.specs.Lawful.{IsCommand, IsWritable};
+ghost use Rattle.journal.specs.Standing.{sealed_record};
+ghost use Rattle.archive_state.specs.Standing.{ShowsPast, ShowsSome};
+ghost use Rattle.archive_file.specs.Opening.{record_of};
+ghost use Rattle.archive_core.specs.Committing.{MakesReady};
+
+use crate::CommitFault;
+use archive_state::{ArchiveState, CommitFault as StateFault};
+use command_codec::encode;
+use command_spelling::accepted_commands_can_be_written;
+use journal::Sealed;
+use prima_base::NoMemory;
+use smo_types::Command;
+use std::alloc::Global;
+use version_groups::Next;
+
+/// The kind of a record whose payload is a command.
+const COMMAND: u8 = 1;
+
+// The record of a command.
+fn seal(alloc: Global, command: &Command) -> Result<Sealed, NoMemory>
+    requires { IsWritable (command_of command.now) }
+    ensures sealed { IfOk result (λ s. sealed_record s ≡ record_of (command_of command.now)) }
+    ensures spelled { OnOk result (IsCommand (command_of command.now)) }
+{
+    let bytes = encode(alloc, command)?;
+    Sealed::new(alloc, COMMAND, &bytes)
+}
+
+/// Judges the command, makes it ready and seals its record. No device is called. The archive shows the past that it
+/// showed, and is as it was but for room.
+pub(crate) fn make_ready(
+    alloc: Global,
+    state: &mut ArchiveState,
+    command: &Command,
+) -> Result<(Next, Sealed), CommitFault>
+    ensures readies { (past : Past) → ShowsPast state.old past → MakesReady past (command_of command.now) state.old result state.new }
+    ensures sealed { IfOk result (λ it. sealed_record it.1 ≡ record_of (command_of command.now)) }
+    ensures spelled { OnOk result (IsCommand (command_of command.now)) }
+    ensures stands { ShowsSome state.old × ShowsSome state.new }
+{
+    match state.prepare(command) {
+        Ok(next) => {
+            accepted_commands_can_be_written();
+            let sealed = seal(alloc, command)?;
+            Ok((next, sealed))
+        }
+        Err(StateFault::Refused(refusal)) => Err(CommitFault::Refused(refusal)),
+        Err(StateFault::NoMemory) => Err(CommitFault::NoMemory),
+    }
+}

@@ -1,0 +1,3 @@
+pub mod RecordsOf
+pub mod Histories
+pub mod Files

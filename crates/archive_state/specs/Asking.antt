@@ -1,0 +1,76 @@
+-- What an archive answers to a query, over all of history.
+use Rattle.std.specs.Prelude.{◌≡◌, ℕ, ◌≤◌, List, [], ◌∷◌, ◌++◌, length, Option, Some, None, Bool, true, false, Result, Err, MatchResult, ⊤}
+use Rattle.prima_base.specs.Timed.{entries_of}
+use Rattle.answer_text.specs.declared.listing.Listing.{Listing}
+use Rattle.schema_catalog.specs.Tables.{Tables}
+use Rattle.version_groups.specs.Groups.{Kept}
+use Rattle.piece_meaning.specs.Rules.{Book}
+use Rattle.smo_meaning.specs.Checks.{Fault}
+use Rattle.smo_meaning.specs.First.{first_refusal}
+use Rattle.smo_meaning.specs.Past.{Past, tables_of}
+use Rattle.temporal_lang.specs.declared.whens.When.{When}
+use Rattle.temporal_lang.specs.declared.whens.When.TheVariants.{Always, AsOf, During}
+use Rattle.temporal_lang.specs.declared.queries.Query.{Query}
+use Rattle.temporal_lang.specs.Queries.{PlainQuery, query_of, IsLasting}
+use Rattle.temporal_lang.specs.Answers.{answer}
+use Rattle.prima_base.specs.declared.refusals.OpKind.{OpKind}
+use Rattle.prima_base.specs.declared.refusals.Refusal.TheVariants.{NoInverse}
+use Rattle.temporal_lang.specs.Accepted.{fault_of_query, HasNoWayBack}
+use Rattle.temporal_lang.specs.Atoms.{with_atoms}
+use Rattle.temporal_lang.specs.Checking.{excess_of, query_tests}
+use Rattle.query_exec.specs.Reads.{query_read}
+use Rattle.archive_state.specs.declared.faults.AskFault.{AskFault}
+use Rattle.archive_state.specs.declared.faults.AskFault.TheVariants.{Refused, NoMemory}
+
+-- the periods of the entries are told, but where one moment is asked of
+abbrev pub tells_periods : When → Bool
+tells_periods Always = true
+tells_periods (AsOf m) = false
+tells_periods (During a b) = true
+
+-- why a query is not answered: its first refusal; want of memory is free
+abbrev pub IsWrong : Past → PlainQuery → AskFault → Type 0
+IsWrong past query (Refused r) = fault_of_query past query ≡ Some r
+IsWrong past query NoMemory = ⊤
+
+-- the one listing of a query that is not refused
+pub record IsListed (past : Past) (query : PlainQuery) (listing : Listing) : Type 0 where
+  pub accepted : fault_of_query past query ≡ None
+  pub rows : entries_of listing.rows.items ≡ answer past query
+  pub periods : listing.periods ≡ tells_periods query.when
+
+-- what an archive answers to a query
+abbrev pub IsAsked : Past → PlainQuery → Result Listing AskFault → Type 0
+IsAsked past query result = MatchResult result (λ listing. IsListed past query listing) (λ fault. IsWrong past query fault)
+
+-- it is refused for want of a way back over a version only where there is none: at a moment of the slice that version is gone back
+-- over, names no inverse, and loses a table of the query
+abbrev pub TellsWayBack : Past → PlainQuery → Result Listing AskFault → Type 0
+TellsWayBack past query result = (k : ℕ) → (kind : OpKind) → result ≡ Err (Refused (NoInverse k kind)) → HasNoWayBack past query k kind
+
+-- ---- what is read
+
+-- nothing where the query is refused
+abbrev pub reads_accepted : Fault → ℕ → ℕ
+reads_accepted None reads = reads
+reads_accepted (Some r) reads = 0
+
+-- for each version of the slice, item and piece, with the query's references to atoms
+abbrev pub needed : Kept → Book → Past → PlainQuery → ℕ
+needed kept book past query = reads_accepted (fault_of_query past query) (query_read kept book (with_atoms (tables_of past query.version) query))
+
+-- ---- the steps of an answer
+
+-- the tables of the version that a query names, whose counts are within their limits
+pub record IsAskedSchema (past : Past) (query : PlainQuery) (tables : Tables) : Type 0 where
+  pub few : excess_of query ≡ None
+  pub there : query.version ≤ length past.versions
+  pub schema : tables ≡ tables_of past query.version
+
+-- a query that passes the tests over its version's tables, with each reference made one to an atom
+pub record IsChecked (past : Past) (query : PlainQuery) (checked : Query) : Type 0 where
+  pub few : excess_of query ≡ None
+  pub there : query.version ≤ length past.versions
+  pub tests : first_refusal (query_tests (tables_of past query.version) query) ≡ None
+  pub atoms : query_of checked ≡ with_atoms (tables_of past query.version) query
+  pub lasting : IsLasting query.when

@@ -1,0 +1,179 @@
+use crate::accepting::judge;
+use crate::asking::ask;
+use crate::{AskFault, CommitFault};
+use answer_text::Listing;
+use prima_base::Steps;
+use rule_book::{Rule, RuleBook};
+use smo_ops::{Body, Command};
+use std::alloc::Global;
+use std::marker::Model;
+use std::sync::ledger::Ledger;
+use temporal_lang::Query;
+use version_groups::{Groups, Next};
+
+/// What was accepted: the versions with their stored tables, and the last stamp. Every archive stands for a past.
+#[derive(Drop)]
+pub struct ArchiveState {
+    alloc: Global,
+    groups: Groups,
+    last: Option<u64>,
+}
+
+impl Model for ArchiveState {
+    ghost use Rattle.archive_state.specs.Standing.{Standing, ShowsSome};
+    ghost use Rattle.smo_types.specs.contracts.versions.Version as version_row;
+    ghost use Rattle.std.specs.Coded.{codes};
+
+    ghost Value = { Standing };
+
+    ghost coded = { Prim.hlevel (codes, version_row.the_row.coded) };
+
+    ghost view = { λ a. record { groups = a.groups; last = a.last } };
+
+    ghost invariant = { λ a. ShowsSome (record { groups = a.groups; last = a.last }) };
+}
+
+/// What an accepted command did: its stamp; how many rows it gained and lost over all tables, none for an operator; and
+/// the version that an operator made.
+#[derive(Clone, Copy)]
+pub struct Done {
+    pub stamp: u64,
+    pub gained: u64,
+    pub lost: u64,
+    pub version: Option<u32>,
+}
+
+ghost use Rattle.std.specs.Prelude.{◌≡◌};
+ghost use Rattle.smo_types.specs.Commands.{body_of};
+ghost use Rattle.archive_state.specs.Committing.{version_made};
+
+// The newest version, where the command made it.
+fn version_made(command: &Command, newest: u32) -> Option<u32>
+    ensures { result ≡ version_made (body_of command.now.1) newest }
+{
+    match command.body() {
+        Body::Changes(_) => None,
+        Body::Evolve { op: _, inverse: _ } => Some(newest),
+    }
+}
+
+impl ArchiveState {
+    ghost use Rattle.std.specs.Prelude.{◌≡◌, ◌+◌, ◌≤◌, [], None};
+    ghost use Rattle.smo_types.specs.Commands.{command_of};
+    ghost use Rattle.smo_meaning.specs.Accepts.{command_fault};
+    ghost use Rattle.smo_meaning.specs.Past.{Past, beginning, past_with};
+    ghost use Rattle.version_groups.specs.Steps.{Prepares};
+    ghost use Rattle.archive_state.specs.Standing.{ShowsPast, ShowsSome};
+    ghost use Rattle.temporal_lang.specs.Queries.{query_of};
+    ghost use Rattle.archive_state.specs.Committing.{Commits, Readies, IsDone};
+    ghost use Rattle.rewrite.specs.Books.{meaning_of, EachOf};
+    ghost use Rattle.archive_state.specs.Asking.{IsAsked, TellsWayBack, needed};
+
+    /// An archive that has accepted nothing. It takes no memory.
+    pub fn new(alloc: Global) -> ArchiveState
+        ensures { ShowsPast result beginning }
+    {
+        ArchiveState {
+            alloc,
+            groups: Groups::new(alloc),
+            last: None,
+        }
+    }
+
+    /// The versions with their stored tables. It takes no memory.
+    pub fn groups(&self) -> &Groups
+        ensures { result.now ≡ self.now.groups }
+    {
+        &self.groups
+    }
+
+    /// Accepts the command, or refuses it by the first refusal in the one order: its counts (38); its stamp (20); of
+    /// changes, one after the other, each whole before the next (22, 27, 23, 35, 25); of an operator the number of versions
+    /// (38), its preconditions in written order, and then its inverse (32). Behind an accepted command the archive stands
+    /// for the past with this command. Else it is as it was: `NoMemory` comes where memory runs out, of which all is
+    /// taken before anything changes.
+    pub fn commit(&mut self, command: Command) -> Result<Done, CommitFault>
+        ensures commits { (past : Past) → ShowsPast self.old past → Commits past (command_of command) self.old result self.new }
+        ensures stands { ShowsSome self.old × ShowsSome self.new }
+    {
+        self.accept(&command)
+    }
+
+    /// Judges the command, as `commit` does, and makes an accepted one ready: all the memory that it needs is taken, and
+    /// `carry_out` then accepts it. The archive stands for the past that it stood for, with the same stored tables but for
+    /// room; where the command is refused, it is as it was.
+    pub fn prepare(&mut self, command: &Command) -> Result<Next, CommitFault>
+        ensures readies { (past : Past) → ShowsPast self.old past → Readies past (command_of command.now) self.old result self.new }
+        ensures stands { ShowsSome self.old × ShowsSome self.new }
+    {
+        match judge(self.alloc, &self.groups, self.last, command) {
+            Ok(()) => self.make_ready(command),
+            Err(fault) => Err(fault),
+        }
+    }
+
+    /// Carries out what `prepare` made of the command and this very archive, which then stands for the past with the
+    /// command. It takes no memory, and cannot fail.
+    #[tactic(auto, using(crate::proofs::CarriedOut::shows_next, crate::proofs::CarriedOut::newest_next))]
+    pub fn carry_out(&mut self, command: &Command, next: Next) -> Done
+        requires { (past : Past) × ShowsPast self.old past × Prepares self.old.groups past (command_of command.now) next }
+        ensures done { (past : Past) → ShowsPast self.old past → Prepares self.old.groups past (command_of command.now) next
+            → IsDone past (command_of command.now) result × ShowsPast self.new (past_with past (command_of command.now)) }
+        ensures stands { ShowsSome self.new }
+    {
+        let gained = next.gained();
+        let lost = next.lost();
+        self.groups.install(next);
+        self.last = Some(command.stamp());
+        Done {
+            stamp: command.stamp(),
+            gained,
+            lost,
+            version: version_made(command, self.groups.newest()),
+        }
+    }
+
+    /// What a query lists over all of history: at each moment of its slice its plain answer over the database of that moment,
+    /// migrated to the version that it names; each row with its longest periods, ascending by row and start. Else the first refusal
+    /// in the one order: its counts (38); the version (21); then the refusals of `check_query` over the version's tables; and last
+    /// (33), where by names alone a table of the query is lost on the way from a version in force in its slice: only where at the
+    /// least such moment the version that is told is gone back over, names no inverse, and loses a table of the query. Of the
+    /// entries those stay that meet every condition of KEEP. The book has a rule for each kind of operator.
+    ///
+    /// It takes at most as many steps as there are, for each version of the slice, item and piece, keys of the piece's tables and
+    /// entries of the columns that it names of them; and none where the query is refused. The one other error is `NoMemory`, where
+    /// memory runs out.
+    pub fn query<'a, L: Ledger>(
+        &'a self,
+        book: &RuleBook,
+        query: &Query,
+        steps: &mut Steps<L>,
+    ) -> Result<Listing<'a>, AskFault>
+        requires each { EachOf book.now.rules.items (λ r. handles (r.vtable, r.value)) }
+        ensures asked { (past : Past) → ShowsPast self.now past → IsAsked past (query_of query.now) result }
+        ensures way_back { (past : Past) → ShowsPast self.now past → TellsWayBack past (query_of query.now) result }
+        ensures stands { ShowsSome self.now }
+        ensures cost { (past : Past) → ShowsPast self.now past → steps.new ≤ steps.old + needed self.now.groups (meaning_of book.now.rules.items (λ r. handles (r.vtable, r.value)) (λ r. answers (r.vtable, r.value))) past (query_of query.now) }
+    {
+        ask(self.alloc, &self.groups, book, query, steps)
+    }
+
+    // Makes the command ready, and carries it out.
+    fn accept(&mut self, command: &Command) -> Result<Done, CommitFault>
+        ensures commits { (past : Past) → ShowsPast self.old past → Commits past (command_of command.now) self.old result self.new }
+        ensures stands { ShowsSome self.old × ShowsSome self.new }
+    {
+        let next = self.prepare(command)?;
+        Ok(self.carry_out(command, next))
+    }
+
+    // Makes an accepted command ready.
+    fn make_ready(&mut self, command: &Command) -> Result<Next, CommitFault>
+        requires { (past : Past) × ShowsPast self.old past × (command_fault past (command_of command.now) ≡ None) }
+        ensures { (past : Past) → ShowsPast self.old past → command_fault past (command_of command.now) ≡ None
+            → Readies past (command_of command.now) self.old result self.new }
+    {
+        let next = self.groups.prepare(command)?;
+        Ok(next)
+    }
+}

@@ -1,0 +1,10 @@
+mod Examples
+mod WordKinds
+mod FoundRows
+mod WordsRead
+mod ClapSteps
+mod ClapWords
+mod Agreement
+mod Numerals
+mod OptionTexts
+mod Consists

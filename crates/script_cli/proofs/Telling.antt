@@ -1,0 +1,268 @@
+-- What a run wrote and left, said of the whole script where the source tells it.
+use Rattle.std.proofs.Common.{◌≡◌, ◌⊎◌, inl, inr, ⊎_elim, ℕ, ◌+◌, ◌≤◌, true, false, IsTrue, List, [], ◌∷◌, ◌++◌, length, take, drop, refl, sym, ap, ◌∙◌, subst, append-nil, append_assoc, take-append-drop}
+use Rattle.std.specs.Prelude.{Option, Some, None}
+use Rattle.std.specs.Io.KnownBytes.{Consumes, Appends, IsAtEnd, Keeps}
+use Rattle.std.proofs.KnownBytes.{Appends-trans, Appends-nil}
+use Rattle.prima_io.specs.Moves.{AppendsFront}
+use Rattle.prima_io.proofs.Fronts.{after, longer, whole as all_of}
+use Rattle.disk_model.specs.Meaning.{Meaning, Tells, IsLawful}
+use Rattle.disk_model.specs.Moments.{Leaves, Turns, UntilSynced}
+use Rattle.disk_model.specs.MomentLaws.{turns_weaker}
+use Rattle.journal.specs.Mounting.{SameOrNine, IsNotSynced, KeepsFile}
+use Rattle.smo_types.specs.Commands.{PlainCommand}
+use Rattle.archive_file.specs.Opening.{Opens, Damages}
+use Rattle.archive_file.proofs.Files.{opens_once, damaged_once, never_both}
+use Rattle.script_parse.specs.Script.{Piece, pieces_from, tail_of}
+use Rattle.script_cli.specs.Output.{Recorded, recorded, piece_reply, replies, replies_of, commands_put, script_puts, recorded_after, pieces_of, ending_of, output, tail_text}
+use Rattle.script_cli.specs.Shows.{next_reply}
+use Rattle.script_cli.specs.Files.{OpensPrefix, LeavesPrefix}
+use Rattle.script_cli.specs.Runs.{Ran, Wrote, WroteTail, OnDisk, RanOpened, IsOpening, NotOpened, ToldUnopened, IsUntouched, RunsOver, RefusesFile, WhereTold, begun, is_whole, counted_limit}
+use Rattle.script_cli.specs.Limits.{longest_script}
+use Rattle.script_cli.specs.declared.status.Status.{Status}
+use Rattle.script_cli.specs.declared.status.Status.TheVariants.{Done, Refused, Words, ReadFault, WriteFault, DiskFault, NotAJournal, NoMemory, InputLimit}
+use Rattle.script_cli.proofs.Taking.{replies-append, put-append}
+use Rattle.script_cli.proofs.Fronts.{mode_after_script, pieces-append}
+use Rattle.script_cli.proofs.OnDisks.{opens_none_yet, prefix_of_more, start_is}
+
+nothing_said : (u : Option (List ℕ)) (text : List ℕ) → AppendsFront u u text
+nothing_said u text = ([], text, refl, Appends-nil u)
+
+-- nothing more was written
+kept_front : (u v : Option (List ℕ)) (text : List ℕ) → v ≡ u → AppendsFront u v text
+kept_front u v text same = subst (λ x. AppendsFront u x text) (sym same) (nothing_said u text)
+
+module _ (limit : ℕ) (start : Recorded) where
+  -- the next reply is a front of the others
+  next_front : (now : Recorded) (rest : List Piece) (u v : Option (List ℕ)) → AppendsFront u v (next_reply limit now rest).text → AppendsFront u v (replies limit now rest)
+  next_front now [] u v p = p
+  next_front now (x ∷ rest) u v p = longer u v (piece_reply limit now x).text (replies limit (piece_reply limit now x).behind rest) p
+
+  -- a script's replies begin with those to its front
+  replies_begin : (xs ys : List ℕ) → replies_of limit start (xs ++ ys) ≡ replies_of limit start xs ++ replies limit (recorded_after limit start (pieces_of xs)) (pieces_from (mode_after_script xs) (tail_of xs) ys)
+  replies_begin xs ys = ap (replies limit start) (pieces-append xs ys) ∙ replies-append limit start (pieces_of xs) (pieces_from (mode_after_script xs) (tail_of xs) ys)
+
+  -- a front of the replies to a front is a front of the output
+  front_more : (u w : Option (List ℕ)) (xs ys : List ℕ) → AppendsFront u w (replies_of limit start xs) → AppendsFront u w (output limit start (xs ++ ys))
+  front_more u w xs ys p =
+      longer u w (replies_of limit start (xs ++ ys)) (tail_text (ending_of (xs ++ ys))) (subst (AppendsFront u w) (sym (replies_begin xs ys)) (longer u w (replies_of limit start xs) _ p))
+
+  front_told : (a c u w : Option (List ℕ)) (taken : List ℕ) → Consumes a c taken → AppendsFront u w (replies_of limit start taken) → WhereTold a (λ script. AppendsFront u w (output limit start script))
+  front_told None c u w taken k p = tt
+  front_told (Some script) None u w taken k p = absurd k
+  front_told (Some script) (Some ys) u w taken k p = subst (λ s. AppendsFront u w (output limit start s)) (sym k) (front_more u w taken ys p)
+
+  -- the whole script was taken
+  told_end : (P : List ℕ → Type 0) (a c : Option (List ℕ)) (taken : List ℕ) → Consumes a c taken → IsAtEnd c → P taken → WhereTold a P
+  told_end P None c taken k e p = tt
+  told_end P (Some script) None taken k e p = absurd k
+  told_end P (Some script) (Some ys) taken k e p = subst P (sym (k ∙ ap (λ l. taken ++ l) e ∙ append-nil taken)) p
+
+  module _ {status : Status} {a c u w : Option (List ℕ)} (ran : Ran limit start status a c u w) where
+    -- a front of the next reply was written
+    said_next : AppendsFront ran.between w (next_reply limit (recorded_after limit start ran.whole) ran.rest).text → AppendsFront u w (replies_of limit start ran.taken)
+    said_next p =
+        let now = recorded_after limit start ran.whole in
+        subst (AppendsFront u w) (sym (ap (replies limit start) ran.are ∙ replies-append limit start ran.whole ran.rest))
+        (after u ran.between w (replies limit start ran.whole) (replies limit now ran.rest) ran.replied (next_front now ran.rest ran.between w p))
+
+    said_front : AppendsFront ran.between w (next_reply limit (recorded_after limit start ran.whole) ran.rest).text → WhereTold a (λ script. AppendsFront u w (output limit start script))
+    said_front p = front_told a c u w ran.taken ran.consumed (said_next p)
+
+    said_nothing : w ≡ ran.between → WhereTold a (λ script. AppendsFront u w (output limit start script))
+    said_nothing same = said_front (kept_front ran.between w _ same)
+
+    -- all statements were answered
+    all_replies : ran.rest ≡ [] → Appends u ran.between (replies_of limit start ran.taken)
+    all_replies none = subst (λ l. Appends u ran.between (replies limit start l)) (sym (ran.are ∙ ap (λ l. ran.whole ++ l) none ∙ append-nil ran.whole)) ran.replied
+
+    said_tail : WroteTail ran.taken ran.rest c ran.between w → WhereTold a (λ script. AppendsFront u w (output limit start script))
+    said_tail t = told_end (λ script. AppendsFront u w (output limit start script)) a c ran.taken ran.consumed t.end
+        (after u ran.between w (replies_of limit start ran.taken) (tail_text (ending_of ran.taken)) (all_replies t.answered) t.front)
+
+    said_all : ran.rest ≡ [] → IsAtEnd c → Appends ran.between w (tail_text (ending_of ran.taken)) → WhereTold a (λ script. Appends u w (output limit start script))
+    said_all none end all = told_end (λ script. Appends u w (output limit start script)) a c ran.taken ran.consumed end
+        (Appends-trans u ran.between w (replies_of limit start ran.taken) (tail_text (ending_of ran.taken)) (all_replies none) all)
+
+  weaker_told : (a : Option (List ℕ)) (P Q : List ℕ → Type 0) → ((script : List ℕ) → P script → Q script) → WhereTold a P → WhereTold a Q
+  weaker_told None P Q f p = tt
+  weaker_told (Some script) P Q f p = f script p
+
+  pub ran_whole : (status : Status) (a c u w : Option (List ℕ)) → Ran limit start status a c u w → is_whole status ≡ true → WhereTold a (λ script. Appends u w (output limit start script))
+  ran_whole Done a c u w r e = said_all r r.wrote.0.answered r.wrote.0.end r.wrote.0.all
+  ran_whole Refused a c u w r e = said_all r r.wrote.0.answered r.wrote.0.end r.wrote.0.all
+  ran_whole Words a c u w r e = cc
+  ran_whole ReadFault a c u w r e = cc
+  ran_whole WriteFault a c u w r e = cc
+  ran_whole DiskFault a c u w r e = cc
+  ran_whole (NotAJournal place) a c u w r e = cc
+  ran_whole NoMemory a c u w r e = cc
+  ran_whole InputLimit a c u w r e = cc
+
+  pub ran_front : (status : Status) (a c u w : Option (List ℕ)) → Ran limit start status a c u w → WhereTold a (λ script. AppendsFront u w (output limit start script))
+  ran_front Done a c u w r = weaker_told a _ _ (λ script p. all_of u w (output limit start script) p) (ran_whole Done a c u w r refl)
+  ran_front Refused a c u w r = weaker_told a _ _ (λ script p. all_of u w (output limit start script) p) (ran_whole Refused a c u w r refl)
+  ran_front Words a c u w r = absurd r.wrote
+  ran_front ReadFault a c u w r = said_nothing r r.wrote.2
+  ran_front WriteFault a c u w r = ⊎_elim (λ p. said_front r p) (λ t. said_tail r t) r.wrote.1
+  ran_front DiskFault a c u w r = said_nothing r r.wrote.1
+  ran_front (NotAJournal place) a c u w r = absurd r.wrote
+  ran_front NoMemory a c u w r = said_front r r.wrote.1
+  ran_front InputLimit a c u w r = said_nothing r r.wrote.2
+
+-- ---- what is left on the disk
+
+-- those begun are the first of the rest, or none
+begun_is : (status : Status) (rest : List Piece) → (more : List Piece) × (rest ≡ begun status rest ++ more)
+begun_is Done rest = (rest, refl)
+begun_is Refused rest = (rest, refl)
+begun_is Words rest = (rest, refl)
+begun_is ReadFault rest = (rest, refl)
+begun_is WriteFault rest = (drop 1 rest, sym (take-append-drop 1 rest))
+begun_is DiskFault rest = (drop 1 rest, sym (take-append-drop 1 rest))
+begun_is (NotAJournal place) rest = (rest, refl)
+begun_is NoMemory rest = (rest, refl)
+begun_is InputLimit rest = (rest, refl)
+
+module _ (limit : ℕ) (start : Recorded) where
+  puts_begin : (xs ys : List ℕ) → script_puts limit start (xs ++ ys) ≡ script_puts limit start xs ++ commands_put limit (recorded_after limit start (pieces_of xs)) (pieces_from (mode_after_script xs) (tail_of xs) ys)
+  puts_begin xs ys = ap (commands_put limit start) (pieces-append xs ys) ∙ put-append limit start (pieces_of xs) (pieces_from (mode_after_script xs) (tail_of xs) ys)
+
+  -- those that were attempted are the first of those that the script puts
+  attempted_front : (status : Status) (taken ys : List ℕ) (whole rest : List Piece) → pieces_of taken ≡ whole ++ rest
+      → (more : List PlainCommand) × (script_puts limit start (taken ++ ys) ≡ commands_put limit start (whole ++ begun status rest) ++ more)
+  attempted_front status taken ys whole rest are =
+      let b = begun_is status rest in
+      let first : pieces_of taken ≡ (whole ++ begun status rest) ++ b.0 = are ∙ ap (λ l. whole ++ l) b.1 ∙ sym (append_assoc whole (begun status rest) b.0) in
+      let tried = commands_put limit start (whole ++ begun status rest) in
+      let others = commands_put limit (recorded_after limit start (whole ++ begun status rest)) b.0 in
+      let later = commands_put limit (recorded_after limit start (pieces_of taken)) (pieces_from (mode_after_script taken) (tail_of taken) ys) in (
+        others ++ later,
+        puts_begin taken ys ∙ ap (λ l. l ++ later) (ap (commands_put limit start) first ∙ put-append limit start (whole ++ begun status rest) b.0) ∙ append_assoc tried others later,
+      )
+
+prefix_told : (limit : ℕ) (opening : List PlainCommand) (status : Status) (a c : Option (List ℕ)) (taken : List ℕ) (whole rest : List Piece) (old new : Meaning) → Consumes a c taken → pieces_of taken ≡ whole ++ rest
+    → Turns old new (OpensPrefix opening (commands_put limit (recorded opening) (whole ++ begun status rest)))
+    → WhereTold a (λ script. LeavesPrefix old new opening (script_puts limit (recorded opening) script))
+prefix_told limit opening status None c taken whole rest old new k are turns = tt
+prefix_told limit opening status (Some script) None taken whole rest old new k are turns = absurd k
+prefix_told limit opening status (Some script) (Some ys) taken whole rest old new k are turns =
+    let f = attempted_front limit (recorded opening) status taken ys whole rest are in
+    let tried = commands_put limit (recorded opening) (whole ++ begun status rest) in
+    let all : script_puts limit (recorded opening) script ≡ tried ++ f.0 = ap (script_puts limit (recorded opening)) k ∙ f.1 in
+    inr (turns_weaker old new (OpensPrefix opening tried) (OpensPrefix opening (script_puts limit (recorded opening) script)) turns
+    (λ x p. subst (λ l. OpensPrefix opening l x) (sym all) (prefix_of_more opening tried f.0 x p)))
+
+told_always : (a : Option (List ℕ)) (P : List ℕ → Type 0) → ((script : List ℕ) → P script) → WhereTold a P
+told_always None P f = tt
+told_always (Some script) P f = f script
+
+-- ---- a file that was not opened
+
+-- no file that opens is told as damaged, and nothing was written for another fault
+unopened_kept : (status : Status) (u w : Option (List ℕ)) (f h : ℕ) (seen then : Option (List ℕ)) (file : List ℕ) (opening : List PlainCommand) → seen ≡ Some file → Opens file opening
+    → ToldUnopened status u w f h seen then → w ≡ u
+unopened_kept Done u w f h seen then file opening is opens t = absurd t
+unopened_kept Refused u w f h seen then file opening is opens t = absurd t
+unopened_kept Words u w f h seen then file opening is opens t = absurd t
+unopened_kept ReadFault u w f h seen then file opening is opens t = absurd t
+unopened_kept WriteFault u w f h seen then file opening is opens t = absurd t
+unopened_kept DiskFault u w f h seen then file opening is opens t = t
+unopened_kept (NotAJournal place) u w f h seen then file opening is opens t =
+    absurd (never_both file opening place opens (subst (λ s. Tells s (λ x. Damages x place)) is t.1))
+unopened_kept NoMemory u w f h seen then file opening is opens t = t
+unopened_kept InputLimit u w f h seen then file opening is opens t = absurd t
+
+unopened_not_whole : (status : Status) (u w : Option (List ℕ)) (f h : ℕ) (seen then : Option (List ℕ)) → ToldUnopened status u w f h seen then → is_whole status ≡ true → ⊥
+unopened_not_whole Done u w f h seen then t e = t
+unopened_not_whole Refused u w f h seen then t e = t
+unopened_not_whole Words u w f h seen then t e = t
+unopened_not_whole ReadFault u w f h seen then t e = t
+unopened_not_whole WriteFault u w f h seen then t e = t
+unopened_not_whole DiskFault u w f h seen then t e = cc
+unopened_not_whole (NotAJournal place) u w f h seen then t e = cc
+unopened_not_whole NoMemory u w f h seen then t e = cc
+unopened_not_whole InputLimit u w f h seen then t e = t
+
+-- where it is damaged, its place is told, unless the disk failed or memory ran out
+unopened_damaged : (status : Status) (u w : Option (List ℕ)) (f h : ℕ) (seen then : Option (List ℕ)) (file : List ℕ) (place : ℕ) → seen ≡ Some file → Damages file place
+    → ToldUnopened status u w f h seen then → (status ≡ NotAJournal place) ⊎ ((status ≡ DiskFault) ⊎ (status ≡ NoMemory))
+unopened_damaged Done u w f h seen then file place is damages t = absurd t
+unopened_damaged Refused u w f h seen then file place is damages t = absurd t
+unopened_damaged Words u w f h seen then file place is damages t = absurd t
+unopened_damaged ReadFault u w f h seen then file place is damages t = absurd t
+unopened_damaged WriteFault u w f h seen then file place is damages t = absurd t
+unopened_damaged DiskFault u w f h seen then file place is damages t = inr (inl refl)
+unopened_damaged (NotAJournal p) u w f h seen then file place is damages t =
+    inl (ap NotAJournal (damaged_once file p place (subst (λ s. Tells s (λ x. Damages x p)) is t.1) damages))
+unopened_damaged NoMemory u w f h seen then file place is damages t = inr (inr refl)
+unopened_damaged InputLimit u w f h seen then file place is damages t = absurd t
+
+unopened_told : (status : Status) (u w : Option (List ℕ)) (f h : ℕ) (seen then : Option (List ℕ)) (place : ℕ) → status ≡ NotAJournal place → ToldUnopened status u w f h seen then
+    → Tells seen (λ file. Damages file place)
+unopened_told status u w f h seen then place is t =
+    let here = subst (λ s. ToldUnopened s u w f h seen then) is t in here.1
+
+-- a file that opens is not damaged
+opens_not_damaged : (seen : Option (List ℕ)) (start : Recorded) (file : List ℕ) (place : ℕ) → seen ≡ Some file → IsOpening start seen → Damages file place → ⊥
+opens_not_damaged seen start file place is opened damages =
+    let here : IsOpening start (Some file) = subst (IsOpening start) is opened in never_both file here.0 place here.1 damages
+
+-- of a run that stands as told, no damage is told
+ran_not_damaged : (limit : ℕ) (start : Recorded) (status : Status) (place : ℕ) (a c u w : Option (List ℕ)) → status ≡ NotAJournal place → Ran limit start status a c u w → ⊥
+ran_not_damaged limit start status place a c u w is ran =
+    let here = subst (λ s. Ran limit start s a c u w) is ran in here.wrote
+
+-- ---- a run over a disk
+
+module _ (limit : ℕ) (status : Status) (a c u w : Option (List ℕ)) (f h : ℕ) (old new : Meaning) where
+  module _ (file : List ℕ) (opening : List PlainCommand) (is : old.seen ≡ Some file) (opens : Opens file opening) where
+    start_here : (r : RanOpened (counted_limit limit) status a c u w old new) → r.start ≡ recorded opening
+    start_here r = start_is old.seen r.start file opening is r.opened opens
+
+    pub front_over : RunsOver limit status a c u w f h old new → WhereTold a (λ script. AppendsFront u w (output (counted_limit limit) (recorded opening) script))
+    front_over (inl n) = told_always a (λ script. AppendsFront u w (output (counted_limit limit) (recorded opening) script))
+        (λ script. kept_front u w (output (counted_limit limit) (recorded opening) script) (unopened_kept status u w f h old.seen new.seen file opening is opens n.told))
+    front_over (inr r) = subst (λ s. WhereTold a (λ script. AppendsFront u w (output (counted_limit limit) s script))) (start_here r)
+        (ran_front (counted_limit limit) r.start status a c u w r.ran)
+
+    pub whole_over : is_whole status ≡ true → RunsOver limit status a c u w f h old new → WhereTold a (λ script. Appends u w (output (counted_limit limit) (recorded opening) script))
+    whole_over e (inl n) = absurd (unopened_not_whole status u w f h old.seen new.seen n.told e)
+    whole_over e (inr r) = subst (λ s. WhereTold a (λ script. Appends u w (output (counted_limit limit) s script))) (start_here r)
+        (ran_whole (counted_limit limit) r.start status a c u w r.ran e)
+
+    pub crash_over : IsTrue old.is_honest → RunsOver limit status a c u w f h old new
+        → WhereTold a (λ script. LeavesPrefix old new opening (script_puts (counted_limit limit) (recorded opening) script))
+    crash_over honest (inl n) = told_always a (λ script. LeavesPrefix old new opening (script_puts (counted_limit limit) (recorded opening) script))
+        (λ script. ⊎_elim (λ early. inl (early.1 honest))
+        (λ late. let put = script_puts (counted_limit limit) (recorded opening) script in
+        inr (turns_weaker old new (SameOrNine file) (OpensPrefix opening put) (late file honest is)
+        (λ x same. opens_none_yet file opening put opens x same))) n.disk)
+    crash_over honest (inr r) =
+        prefix_told (counted_limit limit) opening status a c r.ran.taken r.ran.whole r.ran.rest old new r.ran.consumed r.ran.are (r.disk.any_moment file opening honest is opens)
+
+  pub damaged_over : (place : ℕ) → status ≡ NotAJournal place → RunsOver limit status a c u w f h old new → Tells old.seen (λ file. Damages file place)
+  damaged_over place is (inl n) = unopened_told status u w f h old.seen new.seen place is n.told
+  damaged_over place is (inr r) = absurd (ran_not_damaged (counted_limit limit) r.start status place a c u w is r.ran)
+
+  pub refuses_over : (file : List ℕ) (place : ℕ) → old.seen ≡ Some file → Damages file place → RunsOver limit status a c u w f h old new → RefusesFile place status a c
+  refuses_over file place is damages (inl n) = record { kept = n.kept; status_is = unopened_damaged status u w f h old.seen new.seen file place is damages n.told }
+  refuses_over file place is damages (inr r) = absurd (opens_not_damaged old.seen r.start file place is r.opened damages)
+
+-- ---- a run that called no disk
+
+module _ {D : Type 0} (M : D → Meaning) (status : Status) (a c u w : Option (List ℕ)) (disk back : D) (none : IsUntouched status a c u w disk back) where
+  pub crash_untouched : IsLawful (M disk) → (limit : ℕ) (opening : List PlainCommand) → WhereTold a (λ script. LeavesPrefix (M disk) (M back) opening (script_puts limit (recorded opening) script))
+  crash_untouched law limit opening = told_always a (λ script. LeavesPrefix (M disk) (M back) opening (script_puts limit (recorded opening) script))
+      (λ script. inl (subst (λ d. Leaves (M disk) (M d) (M disk).may_leave) (sym none.disk) (λ x left. law.only_now x left)))
+
+  pub front_untouched : (limit : ℕ) (start : Recorded) → WhereTold a (λ script. AppendsFront u w (output limit start script))
+  front_untouched limit start = told_always a (λ script. AppendsFront u w (output limit start script)) (λ script. kept_front u w (output limit start script) none.wrote)
+
+  pub not_whole_untouched : is_whole status ≡ true → ⊥
+  not_whole_untouched e = let here : is_whole NoMemory ≡ true = subst (λ s. is_whole s ≡ true) none.memory e in cc
+
+  pub refuses_untouched : (place : ℕ) → RefusesFile place status a c
+  refuses_untouched place = record { kept = none.kept; status_is = inr (inr none.memory) }
+
+  pub not_damaged_untouched : (place : ℕ) → status ≡ NotAJournal place → ⊥
+  not_damaged_untouched place is = let here : NotAJournal place ≡ NoMemory = sym is ∙ none.memory in cc

@@ -1,5 +1,0 @@
-use Rattle.script_cli.proofs.Gathered.{on_err, less_longer}
-use Rattle.script_cli.proofs.listings.push_int.Goals as goal
-
-pub returns-in_err-make_room-clause-part : goal.returns-in_err-make_room-clause-part
-returns-in_err-make_room-clause-part g c = on_err _ _ (less_longer _ _ _ _ c.in_err-make_room.ensures.part)

@@ -1,0 +1,34 @@
+use Rattle.std.specs.Prelude.{Option, Some, None, List, ℕ}
+use Rattle.disk_model.specs.Meaning.{Tells}
+use Rattle.script_cli.proofs.opening.mount_counted.Goals as goal
+
+pub returns-in-Ok-clause-opened : goal.returns-in-Ok-clause-opened
+returns-in-Ok-clause-opened g c =
+    let it = c.in-Ok.ensures in
+    record {
+      mounted = tells_counted (g.D.Disk.meaning c.args.disk).seen _ c.in-Ok.opened.commands it.opened;
+      shows = it.shows;
+      limit_is = it.limit;
+      takes = (it.whole, it.ready it.whole);
+      goes = it.goes;
+      unfailed = it.unfailed;
+      turns = it.turns;
+      holds = it.holds;
+      stands = it.stands;
+    }
+  where
+    tells_counted : (seen : Option (List ℕ)) (P : List ℕ → ℕ → Type 0) (count : ℕ) → Tells seen (λ file. P file count) → Tells seen (λ file. (n : ℕ) × P file n)
+    tells_counted None P count told = tt
+    tells_counted (Some file) P count told = (count, told)
+
+pub returns-clause-fault : goal.returns-clause-fault
+returns-clause-fault g c =
+    let it = c.in-Err.ensures in
+    record {
+      goes = it.goes_err;
+      turns = it.turns_err;
+      damaged = it.damaged;
+      untouched = it.untouched;
+      cause = it.cause;
+      unfailed = it.unfailed_err;
+    }

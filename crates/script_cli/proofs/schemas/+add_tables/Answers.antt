@@ -1,5 +1,0 @@
-use Rattle.script_cli.proofs.TablesLeft.{none_of}
-use Rattle.script_cli.proofs.schemas.+add_tables.Goals as goal
-
-pub returns-in-None : goal.returns-in-None
-returns-in-None t c = none_of c.args.schema.now c.args.at c.args.lines.now.items c.in-None.ensures.table

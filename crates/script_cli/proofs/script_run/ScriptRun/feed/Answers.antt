@@ -1,0 +1,45 @@
+use Rattle.std.proofs.Common.{◌∙◌, refl, ℕ}
+use Rattle.archive_core.specs.Fields.{below}
+use Rattle.script_cli.specs.Output.{Recorded}
+use Rattle.script_cli.specs.Shows.{Took, StandsAt}
+use Rattle.script_cli.proofs.Counts.{stop_behind}
+use Rattle.script_cli.proofs.Taking.{took_none, took_more, halted_more, left_none, left_some}
+use Rattle.script_cli.proofs.script_run.ScriptRun.feed.Goals as goal
+
+pub turns-init : goal.turns-init
+turns-init g c = record {
+  took = λ limit now stands. took_none limit now c.args.self.now c.args.archive.now c.args.piece.now _ (g.met.D.Disk.lawful c.args.archive.now.journal.disk) stands;
+  ready = c.requires.ready;
+  takes = c.requires.takes;
+  kept = refl;
+  disk = refl;
+}
+
+pub turns-preserved : goal.turns-preserved
+turns-preserved g c = record {
+  took = λ limit now stands.
+      let before = c.turns.invariant.took limit now stands in
+      took_more limit now _ _ _ _ _ _ _ _ _ _ _ _ before (left_some _ _ _ _ c.in-Some.is (c.in-Ok.ensures.took limit _ before.stands));
+  ready = c.in-Ok.ensures.ready;
+  takes = c.in-Ok.ensures.takes;
+  kept = c.in-Ok.ensures.counts.0 ∙ c.turns.invariant.kept;
+  disk = c.in-Ok.ensures.counts.1 ∙ c.turns.invariant.disk;
+}
+
+pub returns-in-None-clause-took : goal.returns-in-None-clause-took
+returns-in-None-clause-took g c = λ limit now stands.
+    let before = c.turns.invariant.took limit now stands in
+    took_more limit now _ _ _ _ _ _ _ _ _ _ _ _ before (left_none _ _ _ c.in-None.is (c.in-Ok.ensures.took limit _ before.stands))
+
+pub returns-in-Err-clause-halted : goal.returns-in-Err-clause-halted
+returns-in-Err-clause-halted g c = λ limit now stands.
+    let before = c.turns.invariant.took limit now stands in
+    halted_more limit now c.in-Err.halt _ _ _ _ _ _ _ _ _ _ before (c.in-Err.ensures.halted limit _ before.stands)
+
+pub returns-in-None-clause-counts : goal.returns-in-None-clause-counts
+returns-in-None-clause-counts g c = (c.in-Ok.ensures.counts.0 ∙ c.turns.invariant.kept, c.in-Ok.ensures.counts.1 ∙ c.turns.invariant.disk)
+
+pub returns-in-Err-clause-counts : goal.returns-in-Err-clause-counts
+returns-in-Err-clause-counts g c =
+    stop_behind (Unit {0}) (Unit {0}) c.in-Err.halt (g.K.Sink.faults c.args.sink.now) (g.K.Sink.faults c.turns.sink) (g.K.Sink.faults c.turn.new.sink) (below c.args.archive.now).faults (below c.turns.archive).faults (below c.turn.new.archive).faults
+    c.turns.invariant.kept c.turns.invariant.disk c.in-Err.ensures.counts

@@ -1,0 +1,18 @@
+use Rattle.std.proofs.Common.{◌≡◌, ◌≤◌, ℕ, false, length}
+use Rattle.archive_core.specs.Fields.{below}
+use Rattle.script_cli.specs.Output.{Recorded}
+use Rattle.script_cli.specs.Shows.{Took, StandsAt, TakesRecords}
+use Rattle.script_cli.proofs.script_run.ScriptRun.feed.Given as goal
+
+abbrev pub invariant-turns : goal.invariant-turns
+invariant-turns g l = record {
+  took : (limit : ℕ) → (now : Recorded) → StandsAt l.initial.archive limit now
+      → Took limit now l.initial.self l.self l.initial.archive l.archive l.piece l.rest (g.K.Sink.written l.initial.sink) (g.K.Sink.written l.sink);
+  ready : l.self.splitter.spent ≡ false;
+  takes : TakesRecords l.archive;
+  kept : g.K.Sink.faults l.sink ≡ g.K.Sink.faults l.initial.sink;
+  disk : (below l.archive).faults ≡ (below l.initial.archive).faults;
+}
+
+abbrev pub decreases-turns : goal.decreases-turns
+decreases-turns g l = length l.rest

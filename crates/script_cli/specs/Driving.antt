@@ -1,0 +1,89 @@
+-- What the parts of a run do.
+use Rattle.std.specs.Prelude.{◌≡◌, ◌⊎◌, ℕ, ◌≤◌, ◌^◌, ◌-◌, min, IsTrue, List, [], ◌++◌, length, Bool, ◌||◌, true, false, Option, Some, None, Result, Ok, Err}
+use Rattle.std.specs.Io.KnownBytes.{Appends}
+use Rattle.prima_io.specs.Causes.{Rose}
+use Rattle.prima_io.specs.Moves.{AppendsFront}
+use Rattle.disk_model.specs.Meaning.{Meaning, Tells}
+use Rattle.disk_model.specs.Moments.{GoesOn}
+use Rattle.disk_model.specs.declared.disk.Disk.{Ghosts}
+use Rattle.journal.specs.Mounting.{IsNotSynced, KeepsFile}
+use Rattle.journal.specs.Standing.{Stands}
+use Rattle.smo_types.specs.Commands.{PlainCommand}
+use Rattle.archive_file.specs.Opening.{Opens, Damages, records_of}
+use Rattle.archive_state.specs.Standing.{ShowsSome}
+use Rattle.archive_core.specs.declared.archives.Archive.{Archive}
+use Rattle.archive_core.specs.declared.archives.Opened.{Opened}
+use Rattle.archive_core.specs.declared.faults.MountFault.{MountFault}
+use Rattle.archive_core.specs.declared.faults.MountFault.TheVariants as mounting
+use Rattle.archive_core.specs.Fields.{standing_of, below, place_of, limit_of}
+use Rattle.archive_core.specs.Holding.{HoldsAt}
+use Rattle.archive_core.specs.Mounting.{IsMounted}
+use Rattle.script_cli.specs.Output.{Recorded, commands_put, tail_text, tail_is_due}
+use Rattle.script_cli.specs.Putting.{HasPut, PutsSome}
+use Rattle.answer_text.specs.Texts.{not_a_journal_text}
+use Rattle.script_cli.specs.Runs.{Ran, PutsLine, begun, counted_limit}
+use Rattle.script_cli.specs.Shows.{TakesRecords, ending_behind}
+use Rattle.script_cli.specs.declared.script_run.ScriptRun.{ScriptRun}
+use Rattle.script_cli.specs.declared.halt.Halt.{Halt}
+use Rattle.script_cli.specs.declared.halt.Halt.TheVariants as halt
+use Rattle.script_cli.specs.declared.status.Status.{Status}
+use Rattle.script_cli.specs.declared.status.Status.TheVariants.{Done, Refused, Words, ReadFault, WriteFault, DiskFault, NotAJournal, NoMemory, InputLimit}
+
+-- an `error` line was put, or is due at the script's end
+abbrev pub is_faulty : ScriptRun → Bool
+is_faulty script_run = script_run.refused || tail_is_due (ending_behind script_run [])
+
+-- how the line behind the last statement ended a run
+abbrev pub Ends : Status → ScriptRun → Option (List ℕ) → Option (List ℕ) → Type 0
+Ends Done script_run old new = Appends old new (tail_text (ending_behind script_run [])) × (is_faulty script_run ≡ false)
+Ends Refused script_run old new = Appends old new (tail_text (ending_behind script_run [])) × (is_faulty script_run ≡ true)
+Ends WriteFault script_run old new = AppendsFront old new (tail_text (ending_behind script_run []))
+Ends other script_run old new = ⊥
+
+-- how a run ends that stops before the script's end
+abbrev pub status_of : Halt → Status
+status_of halt.WriteFault = WriteFault
+status_of halt.DiskFault = DiskFault
+status_of halt.NoMemory = NoMemory
+
+-- these were put, or where the disk failed all of them but the last
+abbrev pub PutBy : Status → Meaning → Meaning → ℕ → List PlainCommand → List PlainCommand → Type 0
+PutBy DiskFault old new at done put = PutsSome old new at done put
+PutBy other old new at done put = (next : ℕ) × HasPut old new at next put
+
+-- a script was read over an opened archive
+pub record Drove (limit : ℕ) (start : Recorded) (status : Status) (left_old left_new written_old written_new : Option (List ℕ)) (old new : Meaning) (at : ℕ) : Type 0 where
+  pub ran : Ran limit start status left_old left_new written_old written_new
+  pub puts : PutBy status old new at (commands_put limit start ran.whole) (commands_put limit start (ran.whole ++ begun status ran.rest))
+
+-- how a run ends whose file was not opened
+abbrev pub status_of_fault : MountFault → Status
+status_of_fault mounting.Disk = DiskFault
+status_of_fault (mounting.Damaged place) = NotAJournal place
+status_of_fault mounting.NoMemory = NoMemory
+
+-- of a damaged file the place is told, and nothing else
+abbrev pub PutsUnopened : MountFault → Option (List ℕ) → Option (List ℕ) → ℕ → ℕ → Type 0
+PutsUnopened (mounting.Damaged place) written_old written_new faults_old faults_new = PutsLine (not_a_journal_text place) written_old written_new faults_old faults_new
+PutsUnopened other written_old written_new faults_old faults_new = written_new ≡ written_old
+
+-- an archive was opened over this disk
+pub record HasOpened {D : Type 0} {g : Ghosts D} (old : Meaning) (limit : ℕ) (archive : Archive D g) : Type 0 where
+  pub mounted : Tells old.seen (λ file. (count : ℕ) × IsMounted file (standing_of archive) (place_of archive) count)
+  pub shows : ShowsSome (standing_of archive)
+  pub limit_is : limit_of archive ≡ counted_limit limit
+  pub takes : TakesRecords archive
+  pub goes : GoesOn old (below archive)
+  pub unfailed : (below archive).faults ≡ old.faults
+  pub turns : KeepsFile old (below archive)
+  pub holds : (file : List ℕ) (opening : List PlainCommand) → old.seen ≡ Some file → Opens file opening → HoldsAt (below archive) (place_of archive) (records_of opening)
+  pub stands : (file : List ℕ) (opening : List PlainCommand) → IsTrue old.is_honest → old.seen ≡ Some file → Opens file opening → Stands (below archive) (place_of archive) (records_of opening)
+
+-- none was, and this is why
+pub record HasNotOpened (old new : Meaning) (fault : MountFault) : Type 0 where
+  pub goes : GoesOn old new
+  pub turns : ((fault ≡ mounting.Disk) × IsNotSynced old new) ⊎ KeepsFile old new
+  pub damaged : (place : ℕ) → fault ≡ mounting.Damaged place → Tells old.seen (λ file. Damages file place)
+  pub untouched : (place : ℕ) → fault ≡ mounting.Damaged place → new.seen ≡ old.seen
+  pub cause : fault ≡ mounting.Disk → Rose old.faults new.faults
+  pub unfailed : (fault ≡ mounting.Disk → ⊥) → new.faults ≡ old.faults

@@ -1,0 +1,178 @@
+//! A script that is being read: cut into statements, each answered as it ends.
+
+ghost use Rattle.std.specs.Prelude.{◌≡◌, ◌<◌, ◌≤◌, ◌||◌, ℕ, List, [], true, false, length, OnOk, OnErr, IfOk, IfErr, MatchResult, MatchOption, option_map};
+ghost use Rattle.std.specs.Io.KnownBytes.{Appends};
+ghost use Rattle.prima_io.specs.Causes.{HasCause};
+ghost use Rattle.prima_io.specs.Moves.{AppendsFront};
+ghost use Rattle.prima_base.specs.declared.refusals.Refusal.TheVariants as refusal;
+ghost use Rattle.script_parse.specs.Splitting.{fresh};
+ghost use Rattle.rewrite.specs.Books.{EachOf};
+ghost use Rattle.archive_core.specs.Fields.{below};
+ghost use Rattle.answer_text.specs.RefusalTexts.{refusal_text};
+ghost use Rattle.script_cli.specs.Output.{Recorded, reply, refused, tail_text, tail_is_due};
+ghost use Rattle.script_cli.specs.Halts.{HaltCounted};
+ghost use Rattle.script_cli.specs.Puts.{is_error};
+ghost use Rattle.script_cli.specs.Shows.{Took, Answered, Halted, StopsIn, StandsAt, TakesRecords, pieces_behind, ending_behind};
+
+use crate::halt::Halt;
+use crate::put::Put;
+use crate::responses::{refuse, respond};
+use archive_core::Archive;
+use disk_model::Disk;
+use prima_base::{NoMemory, Refusal};
+use prima_io::{Failed, Sink};
+use rule_book::{Rule, RuleBook};
+use script_parse::{Cut, Splitter, Tail};
+use std::alloc::Global;
+
+/// What cuts the script, and whether an `error` line was put.
+#[derive(Drop)]
+pub(crate) struct ScriptRun {
+    alloc: Global,
+    splitter: Splitter,
+    refused: bool,
+}
+
+impl ScriptRun {
+    /// A run that has read nothing.
+    pub(crate) fn new(alloc: Global) -> ScriptRun
+        ensures splitter { result.splitter ≡ fresh }
+        ensures refused { result.refused ≡ false }
+    {
+        ScriptRun {
+            alloc,
+            splitter: Splitter::new(alloc),
+            refused: false,
+        }
+    }
+
+    // Puts the reply to a statement.
+    fn answer<K: Sink, D: Disk>(
+        &mut self,
+        archive: &mut Archive<D>,
+        book: &RuleBook,
+        sink: &mut K,
+        text: &[u8],
+    ) -> Result<(), Halt>
+        requires each { EachOf book.now.rules.items (λ r. handles (r.vtable, r.value)) }
+        requires short { length text.now ≤ 1048576 }
+        requires takes { TakesRecords archive.old }
+        ensures answered { (limit : ℕ) → (now : Recorded) → StandsAt archive.old limit now
+            → OnOk result (Answered limit (reply limit now text.now) self.old self.new archive.old archive.new (K.written sink.old) (K.written sink.new)) }
+        ensures stopped { (limit : ℕ) → (now : Recorded) → StandsAt archive.old limit now
+            → IfErr result (λ halt. StopsIn halt (reply limit now text.now) archive.old archive.new (K.written sink.old) (K.written sink.new)) }
+        ensures splitter { self.new.splitter ≡ self.old.splitter }
+        ensures takes { OnOk result (TakesRecords archive.new) }
+        ensures counts { HaltCounted result (K.faults sink.old) (K.faults sink.new) (below archive.old).faults (below archive.new).faults }
+    {
+        match respond(self.alloc, archive, book, sink, text) {
+            Ok(put) => {
+                self.refused = self.refused || put.is_error();
+                Ok(())
+            }
+            Err(halt) => Err(halt),
+        }
+    }
+
+    // Puts the refusal of a statement that is too long.
+    fn refuse_long<K: Sink>(&mut self, sink: &mut K) -> Result<(), Failed>
+        ensures all { OnOk result (Appends (K.written sink.old) (K.written sink.new) (refusal_text refusal.TooLong)) }
+        ensures part { OnErr result (AppendsFront (K.written sink.old) (K.written sink.new) (refusal_text refusal.TooLong)) }
+        ensures refused { OnOk result (self.new.refused ≡ true) }
+        ensures splitter { self.new.splitter ≡ self.old.splitter }
+        ensures cause { HasCause (K.faults sink.old) (K.faults sink.new) result }
+    {
+        match refuse(sink, &Refusal::TooLong) {
+            Ok(_) => {
+                self.refused = true;
+                Ok(())
+            }
+            Err(Failed) => Err(Failed),
+        }
+    }
+
+    // Takes the bytes up to the end of a statement, and puts its reply; answers what is left of them, `None`
+    // where no statement ended.
+    fn turn<'b, K: Sink, D: Disk>(
+        &mut self,
+        archive: &mut Archive<D>,
+        book: &RuleBook,
+        sink: &mut K,
+        bytes: &'b [u8],
+    ) -> Result<Option<&'b [u8]>, Halt>
+        requires each { EachOf book.now.rules.items (λ r. handles (r.vtable, r.value)) }
+        requires ready { self.old.splitter.spent ≡ false }
+        requires takes { TakesRecords archive.old }
+        ensures took { (limit : ℕ) → (now : Recorded) → StandsAt archive.old limit now
+            → IfOk result (λ rest. MatchOption rest (Took limit now self.old self.new archive.old archive.new bytes.now [] (K.written sink.old) (K.written sink.new))
+            (λ rest. Took limit now self.old self.new archive.old archive.new bytes.now rest.now (K.written sink.old) (K.written sink.new))) }
+        ensures halted { (limit : ℕ) → (now : Recorded) → StandsAt archive.old limit now
+            → IfErr result (λ halt. Halted halt limit now (pieces_behind self.old bytes.now) archive.old archive.new (K.written sink.old) (K.written sink.new)) }
+        ensures fewer { IfOk result (λ rest. MatchOption rest (Unit {0}) (λ rest. length rest.now < length bytes.now)) }
+        ensures ready { OnOk result (self.new.splitter.spent ≡ false) }
+        ensures takes { OnOk result (TakesRecords archive.new) }
+        ensures counts { HaltCounted result (K.faults sink.old) (K.faults sink.new) (below archive.old).faults (below archive.new).faults }
+    {
+        match self.splitter.feed(bytes) {
+            Ok((cut, rest)) => match cut {
+                Cut::More => Ok(None),
+                Cut::Text(text) => match self.answer(archive, book, sink, &text) {
+                    Ok(()) => Ok(Some(rest)),
+                    Err(halt) => Err(halt),
+                },
+                Cut::TooLong => match self.refuse_long(sink) {
+                    Ok(()) => Ok(Some(rest)),
+                    Err(Failed) => Err(Halt::WriteFault),
+                },
+            },
+            Err(NoMemory) => Err(Halt::NoMemory),
+        }
+    }
+
+    /// Takes the next piece of the script, and puts the replies to the statements that end in it. The first fault stops it.
+    pub(crate) fn feed<K: Sink, D: Disk>(
+        &mut self,
+        archive: &mut Archive<D>,
+        book: &RuleBook,
+        sink: &mut K,
+        piece: &[u8],
+    ) -> Result<(), Halt>
+        requires each { EachOf book.now.rules.items (λ r. handles (r.vtable, r.value)) }
+        requires ready { self.old.splitter.spent ≡ false }
+        requires takes { TakesRecords archive.old }
+        ensures took { (limit : ℕ) → (now : Recorded) → StandsAt archive.old limit now
+            → OnOk result (Took limit now self.old self.new archive.old archive.new piece.now [] (K.written sink.old) (K.written sink.new)) }
+        ensures halted { (limit : ℕ) → (now : Recorded) → StandsAt archive.old limit now
+            → IfErr result (λ halt. Halted halt limit now (pieces_behind self.old piece.now) archive.old archive.new (K.written sink.old) (K.written sink.new)) }
+        ensures ready { OnOk result (self.new.splitter.spent ≡ false) }
+        ensures takes { OnOk result (TakesRecords archive.new) }
+        ensures counts { HaltCounted result (K.faults sink.old) (K.faults sink.new) (below archive.old).faults (below archive.new).faults }
+    {
+        let mut rest = piece;
+        'turns: loop {
+            match self.turn(archive, book, sink, rest) {
+                Ok(left) => match left {
+                    Some(left) => rest = left,
+                    None => return Ok(()),
+                },
+                Err(halt) => return Err(halt),
+            }
+        }
+    }
+
+    /// Puts what is due at the script's end, and answers whether an `error` line was put or is.
+    pub(crate) fn finish<K: Sink>(self, sink: &mut K) -> Result<Put, Failed>
+        requires { self.splitter.spent ≡ false }
+        ensures ok { IfOk result (λ put. is_error put ≡ (self.refused || tail_is_due (ending_behind self []))) }
+        ensures all { OnOk result (Appends (K.written sink.old) (K.written sink.new) (tail_text (ending_behind self []))) }
+        ensures part { OnErr result (AppendsFront (K.written sink.old) (K.written sink.new) (tail_text (ending_behind self []))) }
+        ensures cause { HasCause (K.faults sink.old) (K.faults sink.new) result }
+    {
+        let refused = self.refused;
+        match self.splitter.finish() {
+            Tail::Clean => Ok(Put::new(refused)),
+            Tail::Unfinished => refuse(sink, &Refusal::Unfinished),
+            Tail::TooLong => refuse(sink, &Refusal::TooLong),
+        }
+    }
+}
