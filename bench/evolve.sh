@@ -5,18 +5,18 @@
 # the rows may take little more than ten times as long.
 set -eu
 top=$(cd "$(dirname "$0")/.." && pwd)
-"$top/prima" run </dev/null # builds what is missing
+"$top/prima" </dev/null >/dev/null || [ $? -eq 2 ] # builds what is missing; no words, no archive
 [ $# -gt 0 ] || set -- 4000 16000 64000
-exec python3 - "$top/crates/prima/out/prima" "$@" <<'PYTHON'
+exec python3 - "$top/examples/fresh" "$top/crates/prima/out/prima" "$@" <<'PYTHON'
 import subprocess, sys, time
 
-program, sizes = sys.argv[1], [int(word) for word in sys.argv[2:]]
+program, sizes = sys.argv[1:3], [int(word) for word in sys.argv[3:]]
 
 
 def seconds(statements):
     script = "\n".join(statements)
     begun = time.perf_counter()
-    run = subprocess.run([program, "run"], input=script.encode(), stdout=subprocess.PIPE)
+    run = subprocess.run([*program, "run"], input=script.encode(), stdout=subprocess.PIPE)
     taken = time.perf_counter() - begun
     assert run.returncode == 0 and run.stdout.count(b"\n") >= len(statements), run.stdout[-80:]
     return taken

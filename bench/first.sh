@@ -4,19 +4,19 @@
 # A script of ten times the inserts may take little more than ten times as long.
 set -eu
 top=$(cd "$(dirname "$0")/.." && pwd)
-"$top/prima" run </dev/null # builds what is missing
+"$top/prima" </dev/null >/dev/null || [ $? -eq 2 ] # builds what is missing; no words, no archive
 [ $# -gt 0 ] || set -- 500 2000 8000
-exec python3 - "$top/crates/prima/out/prima" "$@" <<'PYTHON'
+exec python3 - "$top/examples/fresh" "$top/crates/prima/out/prima" "$@" <<'PYTHON'
 import resource, subprocess, sys, time
 
-program, sizes = sys.argv[1], [int(word) for word in sys.argv[2:]]
+program, sizes = sys.argv[1:3], [int(word) for word in sys.argv[3:]]
 print(f"{'rows':>8} {'bytes':>10} {'seconds':>9} {'peak KiB':>9}")
 for n in sizes:
     # Values that jump about, so that new rows do not all stand behind the others.
     inserts = [f"AT {2 + i} INSERT INTO t (a) VALUES ({i * 7919 % (8 * n) * 2 + i % 2});" for i in range(n)]
     script = "\n".join(["AT 1 EVOLVE CREATE TABLE t (a INT);", *inserts, "QUERY VERSION 1 SELECT a FROM t;"])
     begun = time.perf_counter()
-    run = subprocess.run([program, "run"], input=script.encode(), stdout=subprocess.PIPE)
+    run = subprocess.run([*program, "run"], input=script.encode(), stdout=subprocess.PIPE)
     seconds = time.perf_counter() - begun
     assert run.returncode == 0 and run.stdout.endswith(b"end %d\n" % n), run.stdout[-80:]
     peak = resource.getrusage(resource.RUSAGE_CHILDREN).ru_maxrss

@@ -1,0 +1,71 @@
+#!/usr/bin/env bash
+# Times joins over time, over the built program: two tables of n rows each, and a third one, for each n (1,000, 10,000 and 100,000 unless told
+# otherwise). Prints the seconds that each question adds to the load, and the most memory in KiB: an equality on a key; an equality that nothing
+# meets; three tables; rows whose periods never overlap; KEEP over all entries; and a full listing, to compare with. Where an answer is short or as
+# long as the tables, ten times the rows should take little more than ten times as long.
+set -eu
+top=$(cd "$(dirname "$0")/.." && pwd)
+"$top/prima" </dev/null >/dev/null || [ $? -eq 2 ] # builds what is missing; no words, no archive
+[ $# -gt 0 ] || set -- 1000 10000 100000
+exec python3 - "$top/examples/fresh" "$top/crates/prima/out/prima" "$@" <<'PYTHON'
+import os, subprocess, sys, tempfile, time
+
+program, sizes = sys.argv[1:3], [int(word) for word in sys.argv[3:]]
+
+
+def play(statements):
+    """The seconds of the run, and the most memory that it had, in KiB."""
+    with tempfile.TemporaryFile() as script, tempfile.TemporaryFile() as replies:
+        script.write("\n".join(statements).encode())
+        script.seek(0)
+        begun = time.perf_counter()
+        run = subprocess.Popen([*program, "run"], stdin=script, stdout=replies)
+        _, status, used = os.wait4(run.pid, 0)
+        taken = time.perf_counter() - begun
+        replies.seek(0)
+        assert status == 0 and b"error" not in replies.read(), "a statement was refused"
+    return taken, used.ru_maxrss
+
+
+def insertions(table, columns, rows):
+    names = ", ".join(columns)
+    return [f"INSERT INTO {table} ({names}) VALUES ({', '.join(map(str, row))})" for row in rows]
+
+
+def loaded(n):
+    """Three tables of n rows, loaded by commands of 5,000 rows; those of `late` begin where those of `early` have ended."""
+    script = [f"AT {i} EVOLVE CREATE TABLE {t};" for i, t in enumerate(["r (k INT, x INT)", "s (k INT, y INT)", "u (k INT, z INT)", "early (k INT)", "late (k INT)"])]
+    changes = insertions("r", "kx", ((i, i * 7919 % n) for i in range(n))) + insertions("s", "ky", ((i * 31 % n, n + i) for i in range(n)))
+    changes += insertions("u", "kz", ((i * 17 % n, i) for i in range(n))) + insertions("early", "k", ((i,) for i in range(n)))
+    at = 10
+    for i in range(0, len(changes), 5000):
+        script.append(f"AT {at} " + " THEN ".join(changes[i : i + 5000]) + ";")
+        at += 1
+    script.append(f"AT {at} DELETE FROM early;")
+    changes = insertions("late", "k", ((i,) for i in range(n)))
+    for i in range(0, len(changes), 5000):
+        at += 1
+        script.append(f"AT {at} " + " THEN ".join(changes[i : i + 5000]) + ";")
+    return script
+
+
+QUESTIONS = [
+    ("listing", "SELECT k, x FROM r"),
+    ("key", "SELECT r.x, s.y FROM r, s WHERE r.k = s.k"),
+    ("nothing", "SELECT r.x FROM r, s WHERE r.k = s.y"),
+    ("three", "SELECT r.x, s.y, u.z FROM r, s, u WHERE r.k = s.k AND s.k = u.k"),
+    ("apart", "SELECT a.k FROM early a, late b WHERE a.k = b.k"),
+    ("kept", "SELECT r.x, s.y FROM r, s WHERE r.k = s.k KEEP LASTING 1 TO now"),
+    ("few", "SELECT r.x, s.y FROM r, s WHERE r.k = s.k AND r.x < 10"),
+]
+print(f"{'rows':>8} {'load':>8} " + " ".join(f"{name:>8}" for name, _ in QUESTIONS) + f" {'KiB':>9}")
+for n in sizes:
+    script = loaded(n)
+    alone, most = play(script)
+    taken = []
+    for _, question in QUESTIONS:
+        seconds, memory = play(script + [f"QUERY VERSION 5 {question};"])
+        taken.append(seconds - alone)
+        most = max(most, memory)
+    print(f"{n:>8} {alone:>8.3f} " + " ".join(f"{seconds:>8.3f}" for seconds in taken) + f" {most:>9}", flush=True)
+PYTHON

@@ -1,0 +1,67 @@
+#!/usr/bin/env bash
+# Times queries over many versions, over the built program: n rows entered under version 1, then V versions, and the same
+# question asked on version 1 and on the last one. The versions are renames with their inverses (a table and a column in turn),
+# ADD and DROP COLUMN in turn, or PARTITION and MERGE in turn, each the other's inverse; of the last at most 12, since each MERGE of what a
+# PARTITION has parted doubles the pieces of a question that goes over both. Prints the seconds of the load with
+# its operators, the seconds that each of the two questions adds, and the most memory in KiB. Until versions share what is
+# stored, time and memory grow as V + n times the versions that store the table.
+set -eu
+top=$(cd "$(dirname "$0")/.." && pwd)
+"$top/prima" </dev/null >/dev/null || [ $? -eq 2 ] # builds what is missing; no words, no archive
+[ $# -gt 0 ] || set -- 10 100 # even numbers
+exec python3 - "$top/examples/fresh" "$top/crates/prima/out/prima" "$@" <<'PYTHON'
+import os, subprocess, sys, tempfile, time
+
+program, counts = sys.argv[1:3], [int(word) for word in sys.argv[3:]]
+
+
+def play(statements):
+    """The seconds of the run, and the most memory that it had, in KiB."""
+    with tempfile.TemporaryFile() as script, tempfile.TemporaryFile() as replies:
+        script.write("\n".join(statements).encode())
+        script.seek(0)
+        begun = time.perf_counter()
+        run = subprocess.Popen([*program, "run"], stdin=script, stdout=replies)
+        _, status, used = os.wait4(run.pid, 0)
+        taken = time.perf_counter() - begun
+        replies.seek(0)
+        assert status == 0 and b"error" not in replies.read(), "a statement was refused"
+    return taken, used.ru_maxrss
+
+
+def renames(count):
+    pairs = [("TABLE t INTO u", "TABLE u INTO t"), ("COLUMN b IN u TO c", "COLUMN c IN u TO b"),
+             ("TABLE u INTO t", "TABLE t INTO u"), ("COLUMN c IN t TO b", "COLUMN b IN t TO c")]
+    for i in range(count):
+        there, back = pairs[i % 4]
+        yield f"RENAME {there} INVERSE RENAME {back}"
+
+
+def columns(count):
+    for i in range(count):
+        yield "ADD COLUMN c AS a INTO t INVERSE DROP COLUMN c FROM t" if i % 2 == 0 else "DROP COLUMN c FROM t INVERSE ADD COLUMN c AS a INTO t"
+
+
+def parts(count):
+    for i in range(count):
+        split, join = "PARTITION TABLE t INTO x WITH b < 1000, y", "MERGE TABLE x, y INTO t"
+        yield f"{split} INVERSE {join}" if i % 2 == 0 else f"{join} INVERSE {split}"
+
+
+def question(version, table):
+    return f"QUERY VERSION {version} SELECT a FROM {table} WHERE a < 10;"
+
+
+print(f"{'versions of':>12} {'V':>4} {'rows':>7} {'load':>8} {'on first':>9} {'on last':>9} {'KiB':>8}")
+for kind, make in (("renames", renames), ("columns", columns), ("parts", parts)):
+    for count in sorted({min(count, 12) for count in counts} if kind == "parts" else counts):
+        for n in (1000, 10000):
+            script = ["AT 1 EVOLVE CREATE TABLE t (a INT, b INT);"]
+            script += [f"AT {2 + i} INSERT INTO t (a, b) VALUES ({i}, {i * 7919 % n});" for i in range(n)]
+            script += [f"AT {n + 2 + i} EVOLVE {op};" for i, op in enumerate(make(count))]
+            load, _ = play(script)
+            first, _ = play(script + [question(1, "t")])
+            newest = "u" if kind == "renames" and count % 4 in (1, 2) else "t"
+            last, memory = play(script + [question(count + 1, newest)])
+            print(f"{kind:>12} {count:>4} {n:>7} {load:>8.3f} {first - load:>9.3f} {last - load:>9.3f} {memory:>8}", flush=True)
+PYTHON
