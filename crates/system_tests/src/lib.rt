@@ -1,14 +1,11 @@
 //! What no script can say and only running shows: devices that fail at chosen calls, texts of more than a
-//! megabyte, the adapters over files, the boxed rules and their book, pieces and words with ample memory, and
-//! texts that are lent.
+//! megabyte, the adapters over files, the boxed rules and their book, pieces and words with ample memory.
 //!
 //! Every other case is a script with its replies, in the crates whose names end in `_cases`.
 #![tactic(auto)]
 
 #[cfg(test)]
 mod adapters;
-#[cfg(test)]
-mod archive;
 #[cfg(test)]
 mod devices;
 #[cfg(test)]
