@@ -6,7 +6,8 @@ use Rattle.relations.specs.Spans.{Span}
 use Rattle.prima_base.specs.declared.values.Value.{Value}
 use Rattle.relations.specs.Sets.{In}
 use Rattle.history_store.specs.Log.{Log}
-use Rattle.history_store.specs.Logs.{least_spare}
+use Rattle.history_store.specs.Logs.{least_spare, with_index}
+use Rattle.history_store.specs.Indexes.{Index, Whole, OneMore, OneLess, OneMoved, more_ids}
 use Rattle.history_store.specs.Table.{no_span, IsOpen}
 use Rattle.history_store.specs.Handing.{ended_at, end_keys, unpaired, new_keys, keys_handed}
 
@@ -59,11 +60,28 @@ spare_least n least [] h = h
 spare_least n least (c ∷ columns) h = spare_least n least columns (grind arith)
 
 -- room for what is gained, among the keys and in the index
-pub key_room : (capacity len index gained : ℕ) → gained ≤ min (capacity - len) index → len ≤ capacity → len + gained ≤ capacity
-key_room capacity len index gained s w = grind arith
+pub key_room : (capacity len room gained : ℕ) → gained ≤ with_index room (capacity - len) → len ≤ capacity → len + gained ≤ capacity
+key_room capacity len zero gained s w = omega (arith, s, w)
+key_room capacity len (suc room) gained s w = omega (arith, s, w)
 
-pub index_room : (keys capacity len gained more : ℕ) → gained ≤ min keys (capacity - len) → len ≤ capacity → more ≤ gained → len + more ≤ capacity
-index_room keys capacity len gained more s w m = grind arith
+one_more : (after : Index) → more_ids after ≤ 1
+one_more (Whole ids) = omega arith
+one_more (OneMore at) = omega arith
+one_more (OneLess at) = omega arith
+one_more (OneMoved from to) = omega arith
+
+pub index_room : (room keys gained : ℕ) (after : Index) → gained ≤ with_index room keys → more_ids after ≤ gained → more_ids after ≤ room
+index_room zero keys gained after s m = omega (arith, s, m)
+index_room (suc room) keys gained after s m = let o = one_more after in omega (arith, o)
+
+pub more_with_index : (a b n m : ℕ) → a ≤ b → n ≤ m → with_index a n ≤ with_index b m
+more_with_index zero b n m h l = omega arith
+more_with_index (suc a) zero n m h l = absurd (omega arith)
+more_with_index (suc a) (suc b) n m h l = l
+
+pub some_with_index : (a n : ℕ) → 0 < a → with_index a n ≡ n
+some_with_index zero n h = absurd (omega arith)
+some_with_index (suc a) n h = refl
 
 pub spare_each : (n least : ℕ) (columns : List Log) → n ≤ least_spare least columns → All (λ c. n ≤ c.spare) columns
 spare_each n least [] h k d b = absurd (omega arith)

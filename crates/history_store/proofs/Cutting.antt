@@ -3,10 +3,11 @@ use Rattle.std.proofs.Common.{◌≡◌, ◌⊎◌, ℕ, zero, suc, ◌+◌, ◌
 use Rattle.std.specs.Prelude.{not, ◌&&◌, min}
 use Rattle.std.specs.List.{filter}
 use Rattle.std.proofs.lemmas.Bool.{cases_lt}
+use Rattle.std.proofs.lemmas.List.{length-take-le, length-drop, get_or-take, get_or-drop}
 use Rattle.std.specs.declared.cmp.Ordering.{Ordering}
 use Rattle.std.specs.declared.cmp.Ordering.TheVariants.{Less, Equal, Greater}
 use Rattle.std.specs.Ordering.{is_lt, is_le, ordering_then}
-use Rattle.relations.specs.Sets.{In, Ascends}
+use Rattle.relations.specs.Sets.{Ascends}
 use Rattle.prima_base.specs.Order.{value_cmp, row_cmp}
 use Rattle.prima_base.specs.OrderLaws.{value_total}
 use Rattle.prima_base.specs.declared.values.Value.{Value}
@@ -166,10 +167,13 @@ get_or-rows_of [] columns k h = absurd (omega arith)
 get_or-rows_of (id ∷ ids) columns zero h = refl
 get_or-rows_of (id ∷ ids) columns (suc k) h = get_or-rows_of ids columns k (omega arith)
 
--- a member of a part
-pub in_part : (xs : List ℕ) (i n x : ℕ) → In x (take n (drop i xs)) → In x xs
-in_part [] i n x h = absurd (subst (In x) (no_part i n) h)
-in_part (y ∷ xs) zero zero x h = absurd h
-in_part (y ∷ xs) zero (suc n) x (inl e) = inl e
-in_part (y ∷ xs) zero (suc n) x (inr h) = inr (in_part xs zero n x h)
-in_part (y ∷ xs) (suc i) n x h = inr (in_part xs i n x h)
+-- rows of a part of the ids
+pub length-part : (ids : List ℕ) (start end : ℕ) (columns : List (List Write)) → start ≤ end → end ≤ length ids → length (rows_of (take (end - start) (drop start ids)) columns) ≡ end - start
+length-part ids start end columns o h = let d = length-drop start ids in length-rows_of (take (end - start) (drop start ids)) columns ∙ length-take-le (end - start) (drop start ids) (omega (arith, d))
+
+pub get_or-part : (ids : List ℕ) (start end : ℕ) (columns : List (List Write)) (k : ℕ) → k < end - start → start ≤ end → end ≤ length ids → get_or (rows_of (take (end - start) (drop start ids)) columns) k [] ≡ row_now (get_or ids (start + k) 0) columns
+get_or-part ids start end columns k b o h =
+    let d = length-drop start ids in
+    let l = length-take-le (end - start) (drop start ids) (omega (arith, d)) in
+    get_or-rows_of (take (end - start) (drop start ids)) columns k (omega (arith, l, b))
+    ∙ ap (λ n. row_now n columns) (get_or-take (end - start) (drop start ids) k 0 b ∙ get_or-drop start ids k 0)

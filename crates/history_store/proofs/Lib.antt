@@ -30,3 +30,4 @@ pub mod Inserting
 pub mod Counts
 pub mod Cutting
 pub mod Replacing
+pub mod Blocking

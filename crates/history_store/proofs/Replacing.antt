@@ -1,5 +1,5 @@
 -- One id out of the index, and back in at another place.
-use Rattle.std.proofs.Common.{◌≡◌, ◌⊎◌, ℕ, suc, zero, ◌+◌, ◌-◌, ◌<◌, ◌≤◌, Bool, true, false, cond, List, [], ◌∷◌, length, get_or, set, nat_lt, refl, sym, ap, ◌∙◌, subst, arith, inl, inr}
+use Rattle.std.proofs.Common.{◌≡◌, ◌⊎◌, ℕ, suc, zero, ◌+◌, ◌-◌, ◌<◌, ◌≤◌, true, false, List, [], ◌∷◌, length, get_or, nat_lt, refl, sym, ap, ◌∙◌, subst, arith, inl, inr}
 use Rattle.std.specs.Prelude.{if◌then◌else◌}
 use Rattle.std.specs.List.{insert, remove}
 use Rattle.std.proofs.lemmas.Bool.{cases_lt}
@@ -12,10 +12,9 @@ use Rattle.prima_base.specs.Order.{row_cmp}
 use Rattle.prima_base.specs.OrderLaws.{row_exact}
 use Rattle.history_store.specs.declared.columns.Write.{Write}
 use Rattle.history_store.specs.Table.{row_now, rows_of}
-use Rattle.history_store.specs.Handing.{handed}
 use Rattle.history_store.specs.Splices.{IsSplit, IsJoined, IsSpliced}
 use Rattle.history_store.proofs.Carry.{in_get}
-use Rattle.history_store.proofs.Now.{rows_of_in, in_rows_of}
+use Rattle.history_store.proofs.Now.{rows_of_in}
 use Rattle.history_store.proofs.Splicing.{one_joined}
 
 -- ---- without the id at a place
@@ -142,48 +141,3 @@ module _ (columns : List (List Write)) where
             joined = one_joined columns (remove live from) gained (get_or live from 0) place (rises_removed live from h rise) (let p = placed.0 in omega (arith, n, p)) placed.1
                 (λ k b l. placed.2 k b (omega (arith, n, l)));
           }
-
--- ---- an id that is moved
-
-pub in_again : (xs : List ℕ) (i : ℕ) → i < length xs → insert (remove xs i) i (get_or xs i 0) ≡ xs
-in_again [] i h = absurd (omega arith)
-in_again (x ∷ xs) zero h = refl
-in_again (x ∷ xs) (suc i) h = ap (λ l. x ∷ l) (in_again xs i (omega arith))
-
-pub step_up : (xs : List ℕ) (k x : ℕ) → k < length xs → set (set (insert xs k x) (suc k) (get_or (insert xs k x) k 0)) k (get_or (insert xs k x) (suc k) 0) ≡ insert xs (suc k) x
-step_up [] k x h = absurd (omega arith)
-step_up (y ∷ xs) zero x h = refl
-step_up (y ∷ xs) (suc k) x h = ap (λ l. y ∷ l) (step_up xs k x (omega arith))
-
-pub step_down : (xs : List ℕ) (k x : ℕ) → k < length xs → set (set (insert xs (suc k) x) k (get_or (insert xs (suc k) x) (suc k) 0)) (suc k) (get_or (insert xs (suc k) x) k 0) ≡ insert xs k x
-step_down [] k x h = absurd (omega arith)
-step_down (y ∷ xs) zero x h = refl
-step_down (y ∷ xs) (suc k) x h = ap (λ l. y ∷ l) (step_down xs k x (omega arith))
-
-pub length-inserted : (xs : List ℕ) (n x : ℕ) → n ≤ length xs → length (insert xs n x) ≡ length xs + 1
-length-inserted xs zero x h = omega arith
-length-inserted [] (suc n) x h = absurd (omega arith)
-length-inserted (y ∷ xs) (suc n) x h = let r = length-inserted xs n x (omega arith) in omega (arith, r)
-
-get_any : (xs : List ℕ) (i d e : ℕ) → i < length xs → get_or xs i d ≡ get_or xs i e
-get_any [] i d e h = absurd (omega arith)
-get_any (x ∷ xs) zero d e h = refl
-get_any (x ∷ xs) (suc i) d e h = get_any xs i d e (omega arith)
-
--- one step of it, at places of the index
-pub moved_up : (xs ys : List ℕ) (at x y z : ℕ) → at < length xs → ys ≡ insert xs at x → z ≡ get_or ys at z → y ≡ get_or ys (at + 1) y → set (set ys (at + 1) z) at y ≡ insert xs (at + 1) x
-moved_up xs ys at x y z h e f g =
-    let n : at + 1 ≡ suc at = omega arith in
-    let l : length ys ≡ length xs + 1 = ap length e ∙ length-inserted xs at x (omega (arith, h)) in
-    let f' : z ≡ get_or ys at 0 = f ∙ get_any ys at z 0 (omega (arith, l, h)) in
-    let g' : y ≡ get_or ys (at + 1) 0 = g ∙ get_any ys (at + 1) y 0 (omega (arith, l, h)) in
-    rw (g', f', e, n) (step_up xs at x h)
-
-pub moved_down : (xs ys : List ℕ) (at x y z : ℕ) → 0 < at → at ≤ length xs → ys ≡ insert xs at x → z ≡ get_or ys at z → y ≡ get_or ys (at - 1) y → set (set ys (at - 1) z) at y ≡ insert xs (at - 1) x
-moved_down xs ys zero x y z b h e f g = absurd (omega arith)
-moved_down xs ys (suc k) x y z b h e f g =
-    let n : suc k - 1 ≡ k = omega arith in
-    let l : length ys ≡ length xs + 1 = ap length e ∙ length-inserted xs (suc k) x h in
-    let f' : z ≡ get_or ys (suc k) 0 = f ∙ get_any ys (suc k) z 0 (omega (arith, l, h)) in
-    let g' : y ≡ get_or ys k 0 = g ∙ ap (λ i. get_or ys i y) n ∙ get_any ys k y 0 (omega (arith, l, h)) in
-    rw (n, g', f', e) (step_down xs k x (omega (arith, h)))

@@ -1,5 +1,5 @@
 -- Cuts in the order of rows, by the values that rows begin with.
-use Rattle.std.specs.Prelude.{ℕ, ◌<◌, Bool, not, ◌&&◌, List, length, take, if◌then◌else◌, slice_index_or}
+use Rattle.std.specs.Prelude.{ℕ, ◌-◌, ◌<◌, ◌≤◌, Bool, not, ◌&&◌, List, length, take, drop, if◌then◌else◌, slice_index_or}
 use Rattle.std.specs.List.{filter}
 use Rattle.std.specs.Ordering.{is_lt, is_le}
 use Rattle.relations.specs.Sets.{In}
@@ -25,8 +25,10 @@ between from to rows = filter (λ row. not (is_before from row) && is_before to 
 
 -- the rows that are lent
 abbrev pub lent_rows : InsideRows → List (List Value)
-lent_rows a = rows_of a.ids.now (cells_of a.columns.now)
+lent_rows a = rows_of (take (a.end - a.start) (drop a.start a.index.now.ids)) (cells_of a.columns.now)
 
 -- each column has a value of each of them
-abbrev pub AreLent : InsideRows → Type 0
-AreLent a = (id : ℕ) → In id a.ids.now → (k : ℕ) (d : Log) → k < length a.columns.now → id < (slice_index_or a.columns.now k d).ids
+pub record AreLent (a : InsideRows) : Type 0 where
+  pub order : a.start ≤ a.end
+  pub within : a.end ≤ length a.index.now.ids
+  pub known : (id : ℕ) → In id a.index.now.ids → (k : ℕ) (d : Log) → k < length a.columns.now → id < (slice_index_or a.columns.now k d).ids

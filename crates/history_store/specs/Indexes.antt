@@ -13,7 +13,7 @@ pub data Index : Type 0 where
   OneMoved : (from to : ℕ) → Index
 
 abbrev pub index_of : After → Index
-index_of (given.Whole ids) = Whole ids.items
+index_of (given.Whole index) = Whole index.ids
 index_of (given.OneMore at) = OneMore at
 index_of (given.OneLess at) = OneLess at
 index_of (given.OneMoved from to) = OneMoved from to
@@ -25,12 +25,12 @@ ids_behind (OneMore at) before next = insert before at next
 ids_behind (OneLess at) before next = remove before at
 ids_behind (OneMoved from to) before next = insert (remove before from) to (slice_index before from)
 
--- how many ids more the index before the change must have room for
+-- how many ids are put into the index before the change
 abbrev pub more_ids : Index → ℕ
 more_ids (Whole ids) = 0
 more_ids (OneMore at) = 1
 more_ids (OneLess at) = 0
-more_ids (OneMoved from to) = 0
+more_ids (OneMoved from to) = 1
 
 -- each place is one among the ids before the change, or that of a new id behind them
 abbrev pub IsPlaced : Index → List ℕ → Type 0

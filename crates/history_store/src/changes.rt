@@ -1,11 +1,12 @@
-ghost use Rattle.std.specs.Prelude.{◌≡◌, OnOk, IfOk, [], ◌+◌, ◌-◌, min, ◌++◌, vec_len, vec_capacity, ◌<◌, ◌≤◌, max, length, All, slice_index_or};
-ghost use Rattle.history_store.specs.Logs.{cells_of, least_spare};
+ghost use Rattle.std.specs.Prelude.{◌≡◌, OnOk, IfOk, [], ◌+◌, ◌-◌, ◌++◌, vec_len, vec_capacity, ◌<◌, ◌≤◌, max, length, All, slice_index_or};
+ghost use Rattle.history_store.specs.Logs.{cells_of, least_spare, with_index};
 ghost use Rattle.history_store.specs.Handing.{ended_at, put_row, put_rows, handed, unpaired, new_keys, end_keys, keys_handed, logs_handed, AllWidth};
 ghost use Rattle.history_store.specs.Log.{Log};
 ghost use Rattle.history_store.specs.Table.{no_span};
 ghost use Rattle.relations.specs.Spans.{forever};
 
 use crate::columns::Column;
+use crate::row_index::RowIndex;
 use prima_base::{NoMemory, Period, Row, Value};
 use std::alloc::Global;
 
@@ -123,25 +124,25 @@ pub fn reserve_all(columns: &mut Vec<Column>, more: usize) -> Result<(), NoMemor
     Ok(())
 }
 
-/// Room for this many rows more: for their keys, for their ids in the index, and for a cell of each in each column.
+/// Room for this many rows more: for their keys, for an id in the index, and for a cell of each in each column.
 pub fn reserve_rows(
     keys: &mut Vec<Period>,
-    live: &mut Vec<usize>,
+    live: &mut RowIndex,
     columns: &mut Vec<Column>,
     more: usize,
 ) -> Result<(), NoMemory>
     ensures keys { keys.new.items ≡ keys.old.items }
-    ensures live { live.new.items ≡ live.old.items }
+    ensures live { live.new.ids ≡ live.old.ids }
     ensures len { vec_len columns.new ≡ vec_len columns.old }
     ensures cells { cells_of columns.new.items ≡ cells_of columns.old.items }
     ensures ids { (k : _) (d : Log) → k < vec_len columns.old
         → (slice_index_or columns.new.items k d).ids ≡ (slice_index_or columns.old.items k d).ids }
-    ensures spare { least_spare (min (vec_capacity keys.old - vec_len keys.old) (vec_capacity live.old - vec_len live.old)) columns.old.items
-        ≤ least_spare (min (vec_capacity keys.new - vec_len keys.new) (vec_capacity live.new - vec_len live.new)) columns.new.items }
-    ensures room { OnOk result (more ≤ least_spare (min (vec_capacity keys.new - vec_len keys.new) (vec_capacity live.new - vec_len live.new)) columns.new.items) }
+    ensures spare { least_spare (with_index live.old.room (vec_capacity keys.old - vec_len keys.old)) columns.old.items
+        ≤ least_spare (with_index live.new.room (vec_capacity keys.new - vec_len keys.new)) columns.new.items }
+    ensures room { OnOk result (more ≤ least_spare (with_index live.new.room (vec_capacity keys.new - vec_len keys.new)) columns.new.items) }
 {
     keys.reserve(more)?;
-    live.reserve(more)?;
+    live.reserve()?;
     reserve_all(columns, more)
 }
 

@@ -10,6 +10,7 @@ ghost use Rattle.history_store.specs.Logs.{cells_of};
 ghost use Rattle.history_store.specs.Table.{row_now, rows_of};
 
 use crate::columns::Column;
+use crate::row_index::RowIndex;
 use crate::walks::compare_lead;
 use prima_base::{NoMemory, Row, Val, Value};
 use std::cmp::Ordering;
@@ -93,19 +94,19 @@ fn is_before(columns: &[Column], id: usize, cut: &Cut) -> bool
 }
 
 /// How many of the live ids have rows before the cut: these stand first. It is found by binary search.
-pub(crate) fn count_before(columns: &[Column], live: &[usize], cut: &Cut) -> usize
+pub(crate) fn count_before(columns: &[Column], live: &RowIndex, cut: &Cut) -> usize
     requires narrow { length cut.now.values ≤ length columns.now }
-    requires known { (id : ℕ) → In id live.now → (k : ℕ) (d : Log) → k < length columns.now → id < (slice_index_or columns.now k d).ids }
-    requires live_rise { Ascends row_cmp (rows_of live.now (cells_of columns.now)) }
-    ensures within { result ≤ length live.now }
-    ensures before { (k : ℕ) → k < result → is_before cut.now (row_now (slice_index live.now k) (cells_of columns.now)) ≡ true }
-    ensures after { (k : ℕ) → result ≤ k → k < length live.now → is_before cut.now (row_now (slice_index live.now k) (cells_of columns.now)) ≡ false }
+    requires known { (id : ℕ) → In id live.now.ids → (k : ℕ) (d : Log) → k < length columns.now → id < (slice_index_or columns.now k d).ids }
+    requires live_rise { Ascends row_cmp (rows_of live.now.ids (cells_of columns.now)) }
+    ensures within { result ≤ length live.now.ids }
+    ensures before { (k : ℕ) → k < result → is_before cut.now (row_now (slice_index live.now.ids k) (cells_of columns.now)) ≡ true }
+    ensures after { (k : ℕ) → result ≤ k → k < length live.now.ids → is_before cut.now (row_now (slice_index live.now.ids k) (cells_of columns.now)) ≡ false }
 {
     let mut low = 0;
     let mut high = live.len();
     'halves: while low < high {
         let middle = low + (high - low) / 2;
-        if is_before(columns, live[middle], cut) {
+        if is_before(columns, live.id_at(middle), cut) {
             low = middle + 1;
         } else {
             high = middle;
@@ -114,20 +115,13 @@ pub(crate) fn count_before(columns: &[Column], live: &[usize], cut: &Cut) -> usi
     low
 }
 
-// Lends the values of the newest row of the id at this place.
-fn lend_at<'a>(
-    columns: &'a [Column],
-    ids: &[usize],
-    at: usize,
-    row: &mut Vec<Val<'a>>,
-) -> Result<(), NoMemory>
-    requires within { at < length ids.now }
-    requires known { All (λ c. slice_index ids.now at < c.ids) columns.now }
-    ensures values { OnOk result (map shown row.new.items ≡ row_now (slice_index ids.now at) (cells_of columns.now)) }
+// Lends the values of the newest row of the id.
+fn lend_now<'a>(columns: &'a [Column], id: usize, row: &mut Vec<Val<'a>>) -> Result<(), NoMemory>
+    requires { All (λ c. id < c.ids) columns.now }
+    ensures values { OnOk result (map shown row.new.items ≡ row_now id (cells_of columns.now)) }
     ensures lawful { OnOk result (All (λ v. IsLawful (shown v)) row.new.items) }
 {
     row.clear();
-    let id = ids[at];
     for column in columns {
         row.push(column.newest(id).lend())?;
     }
@@ -138,7 +132,9 @@ fn lend_at<'a>(
 #[derive(Drop)]
 pub struct LentRows<'a> {
     columns: &'a [Column],
-    ids: &'a [usize],
+    index: &'a RowIndex,
+    start: usize,
+    end: usize,
 }
 
 impl<'a> Model for LentRows<'a> {
@@ -155,7 +151,7 @@ impl<'a> Model for LentRows<'a> {
 }
 
 impl<'a> LentRows<'a> {
-    ghost use Rattle.std.specs.Prelude.{◌≡◌, ◌<◌, ℕ, [], map, length, All, OnOk, slice_index_or};
+    ghost use Rattle.std.specs.Prelude.{◌≡◌, ◌-◌, ◌<◌, ◌≤◌, ℕ, [], take, drop, map, length, All, OnOk, slice_index_or};
     ghost use Rattle.relations.specs.Sets.{In};
     ghost use Rattle.prima_base.specs.Order.{shown};
     ghost use Rattle.prima_base.specs.Columns.{IsLawful};
@@ -163,19 +159,31 @@ impl<'a> LentRows<'a> {
     ghost use Rattle.history_store.specs.Logs.{cells_of};
     ghost use Rattle.history_store.specs.Table.{rows_of};
 
-    /// The newest rows of these ids.
-    pub(crate) fn over(columns: &'a [Column], ids: &'a [usize]) -> LentRows<'a>
-        requires { (id : ℕ) → In id ids.now → (k : ℕ) (d : Log) → k < length columns.now → id < (slice_index_or columns.now k d).ids }
-        ensures { result ≡ rows_of ids.now (cells_of columns.now) }
+    /// The newest rows of the ids from the one place to the other.
+    pub(crate) fn over(
+        columns: &'a [Column],
+        index: &'a RowIndex,
+        start: usize,
+        end: usize,
+    ) -> LentRows<'a>
+        requires order { start ≤ end }
+        requires within { end ≤ length index.now.ids }
+        requires known { (id : ℕ) → In id index.now.ids → (k : ℕ) (d : Log) → k < length columns.now → id < (slice_index_or columns.now k d).ids }
+        ensures { result ≡ rows_of (take (end - start) (drop start index.now.ids)) (cells_of columns.now) }
     {
-        LentRows { columns, ids }
+        LentRows {
+            columns,
+            index,
+            start,
+            end,
+        }
     }
 
     /// How many rows there are.
     pub fn len(&self) -> usize
         ensures { result ≡ length self.now }
     {
-        self.ids.len()
+        self.end - self.start
     }
 
     /// Puts the values of the row at this place into `row`, borrowed, in place of what it had; a text among them has at
@@ -186,6 +194,6 @@ impl<'a> LentRows<'a> {
         ensures values { OnOk result (map shown row.new.items ≡ slice_index_or self.now at []) }
         ensures lawful { OnOk result (All (λ v. IsLawful (shown v)) row.new.items) }
     {
-        lend_at(self.columns, self.ids, at, row)
+        lend_now(self.columns, self.index.id_at(self.start + at), row)
     }
 }

@@ -15,6 +15,7 @@
 mod changes;
 mod columns;
 mod cuts;
+mod row_index;
 mod scans;
 mod splices;
 mod tables;

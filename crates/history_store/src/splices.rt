@@ -2,8 +2,7 @@
 //! binary search; the rest is moved without a look at its rows. Where at most one row comes and
 //! at most one goes, their places alone are kept, and nothing is moved before the change is carried out.
 
-ghost use Rattle.std.specs.Prelude.{◌≡◌, ◌+◌, ◌-◌, ◌^◌, ◌<◌, ◌≤◌, IfOk, List, [], ◌∷◌, ℕ, length, nat_lt, if◌then◌else◌, slice_index, slice_index_or, vec_len, vec_capacity};
-ghost use Rattle.std.specs.List.{insert, remove};
+ghost use Rattle.std.specs.Prelude.{◌≡◌, ◌+◌, ◌-◌, ◌^◌, ◌<◌, ◌≤◌, IfOk, List, [], ◌∷◌, ℕ, length, nat_lt, if◌then◌else◌, slice_index, slice_index_or};
 ghost use Rattle.std.specs.declared.cmp.Ordering.TheVariants.{Less, Greater};
 ghost use Rattle.relations.specs.Sets.{Ascends, In};
 ghost use Rattle.prima_base.specs.Order.{row_cmp};
@@ -16,7 +15,8 @@ ghost use Rattle.history_store.specs.Splices.{IsSplit, IsJoined, IsSpliced};
 ghost use Rattle.history_store.specs.Indexes.{index_of, ids_behind, more_ids, IsPlaced};
 
 use crate::columns::Column;
-use crate::walks::{handed_id, index_in, place_of};
+use crate::row_index::RowIndex;
+use crate::walks::{handed_id, place_in, place_of};
 use prima_base::{NoMemory, Row, Value};
 use std::alloc::Global;
 
@@ -24,7 +24,7 @@ use std::alloc::Global;
 #[derive(Drop)]
 pub enum After {
     /// All its ids.
-    Whole(Vec<usize>),
+    Whole(RowIndex),
     /// The ids of the index before the change, and the next new one at this place.
     OneMore(usize),
     /// Those ids, but for the one at this place.
@@ -59,6 +59,37 @@ fn free_place(columns: &[Column], ids: &[usize], row: &[Value]) -> usize
     ensures after { (k : ℕ) → result ≤ k → k < length ids.now → row_cmp (row_now (slice_index ids.now k) (cells_of columns.now)) row.now ≡ Greater }
 {
     match place_of(columns, ids, row) {
+        Ok(_) => unreachable!(),
+        Err(at) => at,
+    }
+}
+
+// The same in the index.
+fn found_in(columns: &[Column], index: &RowIndex, row: &[Value]) -> usize
+    requires width { length row.now ≡ length columns.now }
+    requires known { (id : ℕ) → In id index.now.ids → (k : ℕ) (d : Log) → k < length columns.now → id < (slice_index_or columns.now k d).ids }
+    requires rise { Ascends row_cmp (rows_of index.now.ids (cells_of columns.now)) }
+    requires there { In row.now (rows_of index.now.ids (cells_of columns.now)) }
+    ensures within { result < length index.now.ids }
+    ensures row { row_now (slice_index index.now.ids result) (cells_of columns.now) ≡ row.now }
+{
+    match place_in(columns, index, row) {
+        Ok(at) => at,
+        Err(_) => unreachable!(),
+    }
+}
+
+// The same in the index.
+fn free_in(columns: &[Column], index: &RowIndex, row: &[Value]) -> usize
+    requires width { length row.now ≡ length columns.now }
+    requires known { (id : ℕ) → In id index.now.ids → (k : ℕ) (d : Log) → k < length columns.now → id < (slice_index_or columns.now k d).ids }
+    requires rise { Ascends row_cmp (rows_of index.now.ids (cells_of columns.now)) }
+    requires fresh { In row.now (rows_of index.now.ids (cells_of columns.now)) → ⊥ }
+    ensures within { result ≤ length index.now.ids }
+    ensures before { (k : ℕ) → k < result → row_cmp (row_now (slice_index index.now.ids k) (cells_of columns.now)) row.now ≡ Less }
+    ensures after { (k : ℕ) → result ≤ k → k < length index.now.ids → row_cmp (row_now (slice_index index.now.ids k) (cells_of columns.now)) row.now ≡ Greater }
+{
+    match place_in(columns, index, row) {
         Ok(_) => unreachable!(),
         Err(at) => at,
     }
@@ -135,19 +166,19 @@ fn one_id(alloc: Global, id: usize) -> Result<Vec<usize>, NoMemory>
 fn splice_out(
     alloc: Global,
     columns: &[Column],
-    live: &[usize],
+    live: &RowIndex,
     lost: &Row,
 ) -> Result<(Vec<usize>, After), NoMemory>
     requires lost_wide { length lost.now ≡ length columns.now }
-    requires known { (id : ℕ) → In id live.now → (k : ℕ) (d : Log) → k < length columns.now → id < (slice_index_or columns.now k d).ids }
-    requires live_rise { Ascends row_cmp (rows_of live.now (cells_of columns.now)) }
-    requires there { In lost.now (rows_of live.now (cells_of columns.now)) }
-    ensures spliced { (next : ℕ) → IfOk result (λ (found, after). IsSpliced (cells_of columns.now) live.now (lost.now ∷ []) next [] found.items (ids_behind (index_of after) live.now next)) }
-    ensures placed { IfOk result (λ (_found, after). IsPlaced (index_of after) live.now) }
+    requires known { (id : ℕ) → In id live.now.ids → (k : ℕ) (d : Log) → k < length columns.now → id < (slice_index_or columns.now k d).ids }
+    requires live_rise { Ascends row_cmp (rows_of live.now.ids (cells_of columns.now)) }
+    requires there { In lost.now (rows_of live.now.ids (cells_of columns.now)) }
+    ensures spliced { (next : ℕ) → IfOk result (λ (found, after). IsSpliced (cells_of columns.now) live.now.ids (lost.now ∷ []) next [] found.items (ids_behind (index_of after) live.now.ids next)) }
+    ensures placed { IfOk result (λ (_found, after). IsPlaced (index_of after) live.now.ids) }
     ensures more { IfOk result (λ (_found, after). more_ids (index_of after) ≡ 0) }
 {
-    let at = found_place(columns, live, lost.values());
-    let found = one_id(alloc, live[at])?;
+    let at = found_in(columns, live, lost.values());
+    let found = one_id(alloc, live.id_at(at))?;
     Ok((found, After::OneLess(at)))
 }
 
@@ -162,23 +193,23 @@ fn place_without(free: usize, from: usize) -> usize
 fn splice_over(
     alloc: Global,
     columns: &[Column],
-    live: &[usize],
+    live: &RowIndex,
     lost: &Row,
     gained: &Row,
 ) -> Result<(Vec<usize>, After), NoMemory>
     requires lost_wide { length lost.now ≡ length columns.now }
     requires gained_wide { length gained.now ≡ length columns.now }
-    requires known { (id : ℕ) → In id live.now → (k : ℕ) (d : Log) → k < length columns.now → id < (slice_index_or columns.now k d).ids }
-    requires live_rise { Ascends row_cmp (rows_of live.now (cells_of columns.now)) }
-    requires there { In lost.now (rows_of live.now (cells_of columns.now)) }
-    requires fresh { In gained.now (rows_of live.now (cells_of columns.now)) → ⊥ }
-    ensures spliced { (next : ℕ) → IfOk result (λ (found, after). IsSpliced (cells_of columns.now) live.now (lost.now ∷ []) next (gained.now ∷ []) found.items (ids_behind (index_of after) live.now next)) }
-    ensures placed { IfOk result (λ (_found, after). IsPlaced (index_of after) live.now) }
-    ensures more { IfOk result (λ (_found, after). more_ids (index_of after) ≡ 0) }
+    requires known { (id : ℕ) → In id live.now.ids → (k : ℕ) (d : Log) → k < length columns.now → id < (slice_index_or columns.now k d).ids }
+    requires live_rise { Ascends row_cmp (rows_of live.now.ids (cells_of columns.now)) }
+    requires there { In lost.now (rows_of live.now.ids (cells_of columns.now)) }
+    requires fresh { In gained.now (rows_of live.now.ids (cells_of columns.now)) → ⊥ }
+    ensures spliced { (next : ℕ) → IfOk result (λ (found, after). IsSpliced (cells_of columns.now) live.now.ids (lost.now ∷ []) next (gained.now ∷ []) found.items (ids_behind (index_of after) live.now.ids next)) }
+    ensures placed { IfOk result (λ (_found, after). IsPlaced (index_of after) live.now.ids) }
+    ensures more { IfOk result (λ (_found, after). more_ids (index_of after) ≡ 1) }
 {
-    let at = found_place(columns, live, lost.values());
-    let free = free_place(columns, live, gained.values());
-    let found = one_id(alloc, live[at])?;
+    let at = found_in(columns, live, lost.values());
+    let free = free_in(columns, live, gained.values());
+    let found = one_id(alloc, live.id_at(at))?;
     Ok((found, After::OneMoved(at, place_without(free, at))))
 }
 
@@ -187,26 +218,26 @@ fn splice_over(
 pub fn splice(
     alloc: Global,
     columns: &[Column],
-    live: &[usize],
+    live: &RowIndex,
     lost: &[Row],
     next: usize,
     gained: &[Row],
 ) -> Result<(Vec<usize>, After), NoMemory>
     requires lost_wide { AllWidth (length columns.now) lost.now }
     requires gained_wide { AllWidth (length columns.now) gained.now }
-    requires known { (id : ℕ) → In id live.now → (k : ℕ) (d : Log) → k < length columns.now → id < (slice_index_or columns.now k d).ids }
-    requires live_rise { Ascends row_cmp (rows_of live.now (cells_of columns.now)) }
+    requires known { (id : ℕ) → In id live.now.ids → (k : ℕ) (d : Log) → k < length columns.now → id < (slice_index_or columns.now k d).ids }
+    requires live_rise { Ascends row_cmp (rows_of live.now.ids (cells_of columns.now)) }
     requires lost_rise { Ascends row_cmp lost.now }
     requires gained_rise { Ascends row_cmp gained.now }
-    requires there { (row : List OneValue) → In row lost.now → In row (rows_of live.now (cells_of columns.now)) }
-    requires fresh { (row : List OneValue) → In row gained.now → In row (rows_of live.now (cells_of columns.now)) → ⊥ }
+    requires there { (row : List OneValue) → In row lost.now → In row (rows_of live.now.ids (cells_of columns.now)) }
+    requires fresh { (row : List OneValue) → In row gained.now → In row (rows_of live.now.ids (cells_of columns.now)) → ⊥ }
     requires few { next + length gained.now < 2 ^ 64 }
-    ensures spliced { IfOk result (λ (found, after). IsSpliced (cells_of columns.now) live.now lost.now next gained.now found.items (ids_behind (index_of after) live.now next)) }
-    ensures placed { IfOk result (λ (_found, after). IsPlaced (index_of after) live.now) }
+    ensures spliced { IfOk result (λ (found, after). IsSpliced (cells_of columns.now) live.now.ids lost.now next gained.now found.items (ids_behind (index_of after) live.now.ids next)) }
+    ensures placed { IfOk result (λ (_found, after). IsPlaced (index_of after) live.now.ids) }
     ensures more { IfOk result (λ (_found, after). more_ids (index_of after) ≤ length gained.now) }
 {
     if lost.is_empty() && gained.len() == 1 {
-        let at = free_place(columns, live, gained[0].values());
+        let at = free_in(columns, live, gained[0].values());
         return Ok((Vec::new(alloc), After::OneMore(at)));
     }
     if lost.len() == 1 && gained.is_empty() {
@@ -215,58 +246,26 @@ pub fn splice(
     if lost.len() == 1 && gained.len() == 1 {
         return splice_over(alloc, columns, live, &lost[0], &gained[0]);
     }
-    let (found, kept) = take_out(alloc, columns, live, lost)?;
-    let after = put_in(alloc, columns, &kept, &found, next, gained)?;
-    Ok((found, After::Whole(after)))
+    let (found, kept) = take_out(alloc, columns, &live.copy()?, lost)?;
+    let ids = put_in(alloc, columns, &kept, &found, next, gained)?;
+    Ok((found, After::Whole(RowIndex::of(alloc, &ids)?)))
 }
 
-// Moves the id at the first place up to the second.
-fn move_up(live: &mut Vec<usize>, from: usize, to: usize)
-    requires order { from ≤ to }
-    requires within { to < vec_len live.old }
-    ensures { live.new.items ≡ insert (remove live.old.items from) to (slice_index live.old.items from) }
-{
-    for at in from..to {
-        let later = live[at + 1];
-        live[at + 1] = live[at];
-        live[at] = later;
-    }
-}
-
-// Moves the id at the first place down to the second.
-fn move_down(live: &mut Vec<usize>, from: usize, to: usize)
-    requires order { to ≤ from }
-    requires within { from < vec_len live.old }
-    ensures { live.new.items ≡ insert (remove live.old.items from) to (slice_index live.old.items from) }
-{
-    let mut at = from;
-    'down: while to < at {
-        let earlier = live[at - 1];
-        live[at - 1] = live[at];
-        live[at] = earlier;
-        at -= 1;
-    }
-}
-
-/// Makes the index the one behind the change. It takes no memory; what is between two places is moved, and no row
-/// looked at.
-pub fn change_index(live: &mut Vec<usize>, after: After, next: usize)
-    requires placed { IsPlaced (index_of after) live.old.items }
-    requires room { vec_len live.old + more_ids (index_of after) ≤ vec_capacity live.old }
-    ensures { live.new.items ≡ ids_behind (index_of after) live.old.items next }
+/// Makes the index the one behind the change. It takes no memory, and looks at no row.
+pub fn change_index(live: &mut RowIndex, after: After, next: usize)
+    requires placed { IsPlaced (index_of after) live.old.ids }
+    requires room { more_ids (index_of after) ≤ live.old.room }
+    ensures { live.new.ids ≡ ids_behind (index_of after) live.old.ids next }
 {
     match after {
-        After::Whole(ids) => *live = ids,
-        After::OneMore(at) => index_in(live, at, next),
+        After::Whole(index) => *live = index,
+        After::OneMore(at) => live.insert(at, next),
         After::OneLess(at) => {
             live.remove(at);
         }
         After::OneMoved(from, to) => {
-            if from < to {
-                move_up(live, from, to);
-            } else {
-                move_down(live, from, to);
-            }
+            let id = live.remove(from);
+            live.insert(to, id);
         }
     }
 }

@@ -1,10 +1,11 @@
 use crate::changes::{carry_out, empty_columns, reserve_rows};
 use crate::columns::Column;
 use crate::cuts::{Cut, LentRows, count_before};
+use crate::row_index::RowIndex;
 use crate::scans::{CellScan, KeyScan};
 use crate::splices::{After, change_index, copy_given, splice};
 use crate::walks::{
-    Difference, column_place, copy_columns, copy_rows, find_difference, next_ids, place_of,
+    Difference, column_place, copy_columns, copy_rows, find_difference, next_ids, place_in,
 };
 use prima_base::{ColType, Name, NoMemory, Period, Row};
 use std::alloc::Global;
@@ -18,7 +19,7 @@ pub struct StoredTable {
     columns: Vec<(Name, ColType)>,
     keys: Vec<Period>,
     logs: Vec<Column>,
-    live: Vec<usize>,
+    live: RowIndex,
 }
 
 impl Model for StoredTable {
@@ -106,7 +107,7 @@ impl StoredTable {
             columns: copy_columns(alloc, columns)?,
             keys: Vec::new(alloc),
             logs: empty_columns(alloc, columns.len())?,
-            live: Vec::new(alloc),
+            live: RowIndex::of(alloc, &[])?,
         };
         let prepared = table.prepare(stamp, rows)?;
         table.install(prepared);
@@ -136,8 +137,9 @@ impl StoredTable {
             lost,
             owners,
             gained,
-        } = find_difference(self.alloc, &self.logs, &self.live, rows)?;
-        let after = next_ids(self.alloc, &owners, &lost, self.keys.len())?;
+        } = find_difference(self.alloc, &self.logs, &self.live.copy()?, rows)?;
+        let ids = next_ids(self.alloc, &owners, &lost, self.keys.len())?;
+        let after = RowIndex::of(self.alloc, &ids)?;
         reserve_rows(&mut self.keys, &mut self.live, &mut self.logs, gained.len())?;
         Ok(Prepared {
             stamp,
@@ -150,8 +152,7 @@ impl StoredTable {
     /// Makes the change that loses and gains these rows ready, and all the room that installing it needs. Each
     /// row is found by binary search: for m rows in a table of n that is in the order of m log n comparisons of
     /// rows. Where at most one row is gained and at most one lost, the index of the current rows is not copied: the
-    /// places in it are kept, and room for what is gained reserved, as `Vec::reserve` does. The one error is `NoMemory`, where
-    /// memory runs out.
+    /// places in it are kept, and room for what is gained made. The one error is `NoMemory`, where memory runs out.
     pub fn prepare_change(
         &mut self,
         stamp: u64,
@@ -196,8 +197,8 @@ impl StoredTable {
 
     /// Carries out what was made ready: from its stamp on the relation is the one that it was made for,
     /// and before it nothing changes. It takes no memory. The index of the current rows gets or loses the one id at its
-    /// place, which moves the ids behind it, or has one put at another place, which moves those between, or it is replaced
-    /// by the whole one that was made ready.
+    /// place, which moves ids of its block alone, or has one put at another place, or it is replaced by the whole one
+    /// that was made ready.
     pub fn install(&mut self, prepared: Prepared)
         requires fits { IsPlan self.old prepared }
         requires room { length prepared.gained ≤ self.old.spare }
@@ -228,7 +229,7 @@ impl StoredTable {
         ensures rows { (m : ℕ) → m < forever → AllBefore self.now (m + 1) → IfOk result (λ rows. rows.items ≡ relation_at self.now m) }
         ensures relation { IfOk result (λ rows. IsRelation self.now.columns rows.items) }
     {
-        copy_rows(self.alloc, &self.logs, &self.live)
+        copy_rows(self.alloc, &self.logs, &self.live.copy()?)
     }
 
     /// What the table has now is a relation of its columns.
@@ -247,7 +248,7 @@ impl StoredTable {
         if row.values().len() != self.columns.len() {
             return false;
         }
-        match place_of(&self.logs, &self.live, row.values()) {
+        match place_in(&self.logs, &self.live, row.values()) {
             Ok(_) => true,
             Err(_) => false,
         }
@@ -263,7 +264,7 @@ impl StoredTable {
     {
         let end = count_before(&self.logs, &self.live, to);
         let start = count_before(&self.logs, &self.live, from).min(end);
-        LentRows::over(&self.logs, &self.live[start..end])
+        LentRows::over(&self.logs, &self.live, start, end)
     }
 
     /// A scan of the keys, ascending by id. It takes no memory.

@@ -1,8 +1,7 @@
 ghost use Rattle.std.specs.Prelude.{IfSome, option_map, List};
 ghost use Rattle.history_store.specs.declared.columns.Write.{Write as OneWrite};
 ghost use Rattle.history_store.specs.Store.{Cell, named};
-ghost use Rattle.std.specs.Prelude.{◌≡◌, [], slice_index, IfErr, vec_len, vec_capacity, ◌⊎◌, ◌∷◌, ℕ, Option, ◌+◌, ◌^◌, ◌<◌, ◌≤◌, ◌++◌, take, drop, length, All, slice_index_or, IfOk, OnOk};
-ghost use Rattle.std.specs.List.{insert};
+ghost use Rattle.std.specs.Prelude.{◌≡◌, [], slice_index, true, IfErr, ◌⊎◌, ◌∷◌, ℕ, Option, ◌+◌, ◌^◌, ◌<◌, ◌≤◌, ◌++◌, take, drop, length, All, slice_index_or, IfOk, OnOk};
 ghost use Rattle.history_store.specs.Logs.{cells_of};
 ghost use Rattle.history_store.specs.Log.{Log};
 ghost use Rattle.prima_base.specs.Order.{row_cmp};
@@ -11,6 +10,7 @@ ghost use Rattle.history_store.specs.Table.{row_now, rows_of};
 ghost use Rattle.history_store.specs.Handing.{lost_ids, first_order, owners, no_owners, gained_rows, given_ids, id_by, lost_by, next_by, AllWidth};
 
 use crate::columns::Column;
+use crate::row_index::RowIndex;
 use prima_base::{ColType, Name, NoMemory, Row, Value};
 use std::alloc::Global;
 use std::cmp::Ordering;
@@ -255,13 +255,47 @@ pub fn place_of(columns: &[Column], live: &[usize], row: &[Value]) -> Result<usi
     Err(low)
 }
 
-/// Puts the id at this place of the index. It takes no memory.
-pub fn index_in(live: &mut Vec<usize>, at: usize, id: usize)
-    requires room { vec_len live.old < vec_capacity live.old }
-    requires within { at ≤ vec_len live.old }
-    ensures { live.new.items ≡ insert live.old.items at id }
+// Whether the row belongs behind all that the index has.
+fn is_behind(columns: &[Column], live: &RowIndex, row: &[Value]) -> bool
+    requires width { length row.now ≡ length columns.now }
+    requires known { (id : _) → (k : _) (d : Log) → id < length live.now.ids → k < length columns.now
+        → slice_index_or live.now.ids id 0 < (slice_index_or columns.now k d).ids }
+    requires live_rise { Ascends row_cmp (rows_of live.now.ids (cells_of columns.now)) }
+    ensures { result ≡ true → (k : ℕ) → k < length live.now.ids → row_cmp (row_now (slice_index live.now.ids k) (cells_of columns.now)) row.now ≡ Ordering.Less }
 {
-    if live.insert(at, id).is_err() {
-        unreachable!();
+    let count = live.len();
+    if count == 0 {
+        return true;
     }
+    compare_now(columns, live.id_at(count - 1), row).is_lt()
+}
+
+/// The same in the index. Rows often come in order, and behind the last one nothing is searched.
+pub fn place_in(columns: &[Column], live: &RowIndex, row: &[Value]) -> Result<usize, usize>
+    requires width { length row.now ≡ length columns.now }
+    requires known { (id : _) → (k : _) (d : Log) → id < length live.now.ids → k < length columns.now
+        → slice_index_or live.now.ids id 0 < (slice_index_or columns.now k d).ids }
+    requires live_rise { Ascends row_cmp (rows_of live.now.ids (cells_of columns.now)) }
+    ensures found { IfOk result (λ at. (at < length live.now.ids)
+        × (row_cmp (row_now (slice_index live.now.ids at) (cells_of columns.now)) row.now ≡ Ordering.Equal)) }
+    ensures within { IfErr result (λ at. at ≤ length live.now.ids) }
+    ensures before { IfErr result (λ at. (k : _) → k < at
+        → row_cmp (row_now (slice_index live.now.ids k) (cells_of columns.now)) row.now ≡ Ordering.Less) }
+    ensures after { IfErr result (λ at. (k : _) → at ≤ k → k < length live.now.ids
+        → row_cmp (row_now (slice_index live.now.ids k) (cells_of columns.now)) row.now ≡ Ordering.Greater) }
+{
+    if is_behind(columns, live, row) {
+        return Err(live.len());
+    }
+    let mut low = 0;
+    let mut high = live.len();
+    'halves: while low < high {
+        let middle = low + (high - low) / 2;
+        match compare_now(columns, live.id_at(middle), row) {
+            Ordering::Less => low = middle + 1,
+            Ordering::Equal => return Ok(middle),
+            Ordering::Greater => high = middle,
+        }
+    }
+    Err(low)
 }

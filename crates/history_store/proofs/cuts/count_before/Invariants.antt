@@ -6,10 +6,10 @@ use Rattle.history_store.proofs.cuts.count_before.Given as goal
 
 abbrev pub invariant-halves : goal.invariant-halves
 invariant-halves l = record {
-  inside : l.high ≤ length l.live;
+  inside : l.high ≤ length l.live.ids;
   apart : l.low ≤ l.high;
-  below : (k : ℕ) → k < l.low → is_before l.cut (row_now (get_or l.live k 0) (cells_of l.columns)) ≡ true;
-  above : (k : ℕ) → l.high ≤ k → k < length l.live → is_before l.cut (row_now (get_or l.live k 0) (cells_of l.columns)) ≡ false;
+  below : (k : ℕ) → k < l.low → is_before l.cut (row_now (get_or l.live.ids k 0) (cells_of l.columns)) ≡ true;
+  above : (k : ℕ) → l.high ≤ k → k < length l.live.ids → is_before l.cut (row_now (get_or l.live.ids k 0) (cells_of l.columns)) ≡ false;
 }
 
 abbrev pub decreases-halves : goal.decreases-halves

@@ -4,6 +4,6 @@ use Rattle.history_store.proofs.Replacing.{over_spliced}
 use Rattle.history_store.proofs.splices.splice_over.Goals as goal
 
 pub returns-clause-spliced : goal.returns-clause-spliced
-returns-clause-spliced c = λ next. rw (c.in_ok-found.ensures, c.place_without.ensures)
-    (over_spliced (cells_of c.args.columns.now) c.args.live.now c.args.lost.now c.found_place-at.result next c.requires.live_rise c.found_place-at.ensures.within (c.found_place-at.ensures.row ∙ c.values.ensures)
-    c.args.gained.now c.free_place-free.result c.free_place-free.ensures.within (rw c.values-2.ensures at c.free_place-free.ensures.before) (rw c.values-2.ensures at c.free_place-free.ensures.after))
+returns-clause-spliced c = λ next. rw (c.in_ok-found.ensures, c.id_at.ensures, c.place_without.ensures)
+    (over_spliced (cells_of c.args.columns.now) c.args.live.now.ids c.args.lost.now c.found_in-at.result next c.requires.live_rise c.found_in-at.ensures.within (c.found_in-at.ensures.row ∙ c.values.ensures)
+    c.args.gained.now c.free_in-free.result c.free_in-free.ensures.within (rw c.values-2.ensures at c.free_in-free.ensures.before) (rw c.values-2.ensures at c.free_in-free.ensures.after))

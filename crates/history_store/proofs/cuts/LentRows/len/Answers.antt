@@ -1,7 +1,9 @@
 use Rattle.std.proofs.Common.{sym, ap, ◌∙◌, length}
+use Rattle.history_store.proofs.Cutting.{length-part}
 use Rattle.history_store.specs.Logs.{cells_of}
-use Rattle.history_store.proofs.Cutting.{length-rows_of}
 use Rattle.history_store.proofs.cuts.LentRows.len.Goals as goal
 
 pub returns : goal.returns
-returns c = sym (ap length (sym c.self.view_is) ∙ length-rows_of c.self.inside.ids.now (cells_of c.self.inside.columns.now))
+returns c =
+    let a = c.self.inside in
+    sym (ap length (sym c.self.view_is) ∙ length-part a.index.now.ids a.start a.end (cells_of a.columns.now) c.self.invariant.order c.self.invariant.within)

@@ -1,23 +1,31 @@
-use Rattle.std.proofs.Common.{◌<◌, sym, ap, ◌∙◌, length, subst, get_or, []}
+use Rattle.std.proofs.Common.{◌+◌, ◌-◌, ◌<◌, sym, ap, ◌∙◌, length, subst, get_or, [], arith}
 use Rattle.std.proofs.lemmas.Result.{on_ok_weaker}
 use Rattle.history_store.specs.Logs.{cells_of}
 use Rattle.history_store.proofs.Carry.{in_get}
-use Rattle.history_store.proofs.Cutting.{length-rows_of, get_or-rows_of}
+use Rattle.history_store.proofs.Cutting.{length-part, get_or-part}
 use Rattle.history_store.proofs.cuts.LentRows.lend.Goals as goal
 
-pub lend_at-requires-clause-within : goal.lend_at-requires-clause-within
-lend_at-requires-clause-within c =
+pub overflow_add-self-inside : goal.overflow_add-self-inside
+overflow_add-self-inside c =
     let a = c.self.inside in
-    subst (λ n. c.args.at < n) (ap length (sym c.self.view_is) ∙ length-rows_of a.ids.now (cells_of a.columns.now)) c.requires.within
+    let b : c.args.at < a.end - a.start = subst (λ n. c.args.at < n) (ap length (sym c.self.view_is) ∙ length-part a.index.now.ids a.start a.end (cells_of a.columns.now) c.self.invariant.order c.self.invariant.within) c.requires.within in
+    omega (arith, b)
 
-pub lend_at-requires-clause-known : goal.lend_at-requires-clause-known
-lend_at-requires-clause-known c = λ k d h.
+pub id_at-requires : goal.id_at-requires
+id_at-requires c =
     let a = c.self.inside in
-    let b : c.args.at < length a.ids.now = subst (λ n. c.args.at < n) (ap length (sym c.self.view_is) ∙ length-rows_of a.ids.now (cells_of a.columns.now)) c.requires.within in
-    c.self.invariant (get_or a.ids.now c.args.at 0) (in_get a.ids.now c.args.at 0 b) k d h
+    let b : c.args.at < a.end - a.start = subst (λ n. c.args.at < n) (ap length (sym c.self.view_is) ∙ length-part a.index.now.ids a.start a.end (cells_of a.columns.now) c.self.invariant.order c.self.invariant.within) c.requires.within in
+    omega (arith, b, c.self.invariant.order, c.self.invariant.within)
+
+pub lend_now-requires : goal.lend_now-requires
+lend_now-requires c = λ k d h.
+    let a = c.self.inside in
+    let b : c.args.at < a.end - a.start = subst (λ n. c.args.at < n) (ap length (sym c.self.view_is) ∙ length-part a.index.now.ids a.start a.end (cells_of a.columns.now) c.self.invariant.order c.self.invariant.within) c.requires.within in
+    rw c.id_at.ensures (c.self.invariant.known (get_or a.index.now.ids (a.start + c.args.at) 0) (in_get a.index.now.ids (a.start + c.args.at) 0 (omega (arith, b, c.self.invariant.order, c.self.invariant.within))) k d h)
 
 pub returns-clause-values : goal.returns-clause-values
 returns-clause-values c =
     let a = c.self.inside in
-    let b : c.args.at < length a.ids.now = subst (λ n. c.args.at < n) (ap length (sym c.self.view_is) ∙ length-rows_of a.ids.now (cells_of a.columns.now)) c.requires.within in
-    on_ok_weaker c.lend_at.result (λ e. e ∙ sym (ap (λ rows. get_or rows c.args.at []) (sym c.self.view_is) ∙ get_or-rows_of a.ids.now (cells_of a.columns.now) c.args.at b)) c.lend_at.ensures.values
+    let b : c.args.at < a.end - a.start = subst (λ n. c.args.at < n) (ap length (sym c.self.view_is) ∙ length-part a.index.now.ids a.start a.end (cells_of a.columns.now) c.self.invariant.order c.self.invariant.within) c.requires.within in
+    let v = rw c.id_at.ensures at c.lend_now.ensures.values in
+    on_ok_weaker c.lend_now.result (λ e. e ∙ sym (ap (λ rows. get_or rows c.args.at []) (sym c.self.view_is) ∙ get_or-part a.index.now.ids a.start a.end (cells_of a.columns.now) c.args.at b c.self.invariant.order c.self.invariant.within)) v

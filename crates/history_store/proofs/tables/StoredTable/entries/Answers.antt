@@ -21,7 +21,7 @@ returns-in-Some c =
     let h' : c.in-Some.column < length a.logs.items = subst (λ n. c.in-Some.column < n) (sym c.self.invariant.kept.width ∙ length-cells_of a.logs.items) h in
     let p = rw c.deref.ensures.value at (c.in-Some.ensures.place _ (count_entries a.keys.items (cells_of a.logs.items) ∙ c.self.invariant.kept.width ∙ ap length (sym c.deref.ensures.value))) in
     rw (← c.self.view_is) (
-    ap Some (c.count.ensures ∙ sym (counted a.columns.items a.keys.items a.logs.items a.live.items c.self.invariant.kept c.in-Some.column c.index.result.now h' c.index.ensures)) ∙ sym (ap (option_map (length {A = Cell})) p)
+    ap Some (c.count.ensures ∙ sym (counted a.columns.items a.keys.items a.logs.items a.live.ids c.self.invariant.kept c.in-Some.column c.index.result.now h' c.index.ensures)) ∙ sym (ap (option_map (length {A = Cell})) p)
     )
 
 pub returns-in-None : goal.returns-in-None

@@ -1,6 +1,7 @@
-use Rattle.std.proofs.Common.{rules, ◌≡◌, ◌-◌, length, sym, ◌∙◌, subst, arith, vec_len, vec_capacity, ◌≤◌}
+use Rattle.std.proofs.Common.{rules, ◌≡◌, length, sym, ◌∙◌, subst, arith, vec_len, vec_capacity, ◌≤◌}
 use Rattle.std.proofs.lemmas.Grind.{common_steps}
 use Rattle.history_store.specs.Handing.{AllWidth}
+use Rattle.history_store.specs.Indexes.{index_of}
 use Rattle.history_store.specs.Logs.{cells_of}
 use Rattle.history_store.proofs.Carry.{known, spare_least, spare_each, key_room, index_room}
 use Rattle.history_store.proofs.Rows.{length-cells_of}
@@ -36,13 +37,13 @@ carry_out-requires-clause-key_room c =
     let r = rw (← c.self.view_is, ← c.prepared.view_is) at c.requires.room in
     let s = spare_least (length c.prepared.inside.gained.items) _ c.self.inside.logs.items r in
     let w : vec_len c.self.inside.keys ≤ vec_capacity c.self.inside.keys = grind (arith, common_steps) in
-    key_room (vec_capacity c.self.inside.keys) (vec_len c.self.inside.keys) (vec_capacity c.self.inside.live - vec_len c.self.inside.live) _ s w
+    key_room (vec_capacity c.self.inside.keys) (vec_len c.self.inside.keys) c.self.inside.live.room _ s w
 
 pub change_index-requires-clause-placed : goal.change_index-requires-clause-placed
 change_index-requires-clause-placed c =
     let a = c.self.inside in
     let f = rw (← c.self.view_is, ← c.prepared.view_is) at c.requires.fits in
-    placed_then a.columns.items a.keys.items (cells_of a.logs.items) a.live.items _ c.self.invariant.kept _ f
+    placed_then a.columns.items a.keys.items (cells_of a.logs.items) a.live.ids _ c.self.invariant.kept _ f
 
 pub change_index-requires-clause-room : goal.change_index-requires-clause-room
 change_index-requires-clause-room c =
@@ -50,8 +51,7 @@ change_index-requires-clause-room c =
     let f = rw (← c.self.view_is, ← c.prepared.view_is) at c.requires.fits in
     let r = rw (← c.self.view_is, ← c.prepared.view_is) at c.requires.room in
     let s = spare_least (length c.prepared.inside.gained.items) _ a.logs.items r in
-    let w : vec_len a.live ≤ vec_capacity a.live = grind (arith, common_steps) in
-    index_room (vec_capacity a.keys - vec_len a.keys) (vec_capacity a.live) (vec_len a.live) _ _ s w f.more
+    index_room a.live.room _ _ (index_of c.prepared.inside.after) s f.more
 
 pub invariant_of-self : goal.invariant_of-self
 invariant_of-self c =
@@ -59,7 +59,7 @@ invariant_of-self c =
     let f = rw (← c.self.view_is, ← c.prepared.view_is) at c.requires.fits in
     let n : c.len-next.result ≡ length a.keys.items = search rules in
     record {
-      kept = rw (c.carry_out.ensures.keys, c.carry_out.ensures.cells, c.deref.ensures.value, c.change_index.ensures, n) (plan_kept a.columns.items a.keys.items (cells_of a.logs.items) a.live.items _ c.self.invariant.kept _ f);
+      kept = rw (c.carry_out.ensures.keys, c.carry_out.ensures.cells, c.deref.ensures.value, c.change_index.ensures, n) (plan_kept a.columns.items a.keys.items (cells_of a.logs.items) a.live.ids _ c.self.invariant.kept _ f);
       ids = λ k d b. c.carry_out.ensures.ids k d b ∙ search rules;
     }
 
@@ -67,28 +67,28 @@ pub returns-clause-cells : goal.returns-clause-cells
 returns-clause-cells c =
     let a = c.self.inside in
     let f = rw (← c.self.view_is, ← c.prepared.view_is) at c.requires.fits in
-    rw (c.carry_out.ensures.keys, c.carry_out.ensures.cells, c.deref.ensures.value, ← c.self.view_is, ← c.prepared.view_is) (plan_cells a.columns.items a.keys.items (cells_of a.logs.items) a.live.items _ c.self.invariant.kept _ f)
+    rw (c.carry_out.ensures.keys, c.carry_out.ensures.cells, c.deref.ensures.value, ← c.self.view_is, ← c.prepared.view_is) (plan_cells a.columns.items a.keys.items (cells_of a.logs.items) a.live.ids _ c.self.invariant.kept _ f)
 
 pub returns-clause-before : goal.returns-clause-before
 returns-clause-before c m h =
     let a = c.self.inside in
     let f = rw (← c.self.view_is, ← c.prepared.view_is) at c.requires.fits in
     let b = rw (← c.prepared.view_is) at h in
-    rw (c.carry_out.ensures.keys, c.carry_out.ensures.cells, c.deref.ensures.value, ← c.self.view_is) (plan_before a.columns.items a.keys.items (cells_of a.logs.items) a.live.items _ c.self.invariant.kept _ f _ m b)
+    rw (c.carry_out.ensures.keys, c.carry_out.ensures.cells, c.deref.ensures.value, ← c.self.view_is) (plan_before a.columns.items a.keys.items (cells_of a.logs.items) a.live.ids _ c.self.invariant.kept _ f _ m b)
 
 pub returns-clause-from : goal.returns-clause-from
 returns-clause-from c m h l =
     let a = c.self.inside in
     let f = rw (← c.self.view_is, ← c.prepared.view_is) at c.requires.fits in
     let b = rw (← c.prepared.view_is) at h in
-    rw (c.carry_out.ensures.keys, c.carry_out.ensures.cells, c.deref.ensures.value, ← c.self.view_is, ← c.prepared.view_is) (plan_from a.columns.items a.keys.items (cells_of a.logs.items) a.live.items _ c.self.invariant.kept _ f _ m b l)
+    rw (c.carry_out.ensures.keys, c.carry_out.ensures.cells, c.deref.ensures.value, ← c.self.view_is, ← c.prepared.view_is) (plan_from a.columns.items a.keys.items (cells_of a.logs.items) a.live.ids _ c.self.invariant.kept _ f _ m b l)
 
 pub returns-clause-later : goal.returns-clause-later
 returns-clause-later c m h =
     let a = c.self.inside in
     let f = rw (← c.self.view_is, ← c.prepared.view_is) at c.requires.fits in
     let b = rw (← c.prepared.view_is) at h in
-    rw (c.carry_out.ensures.keys, c.carry_out.ensures.cells, c.deref.ensures.value) (plan_later a.columns.items a.keys.items (cells_of a.logs.items) a.live.items _ c.self.invariant.kept _ f _ m b)
+    rw (c.carry_out.ensures.keys, c.carry_out.ensures.cells, c.deref.ensures.value) (plan_later a.columns.items a.keys.items (cells_of a.logs.items) a.live.ids _ c.self.invariant.kept _ f _ m b)
 
 pub returns-clause-key_count : goal.returns-clause-key_count
 returns-clause-key_count c =
@@ -100,10 +100,10 @@ returns-clause-cell_count c k h =
     let a = c.self.inside in
     let f = rw (← c.self.view_is, ← c.prepared.view_is) at c.requires.fits in
     let b = rw (← c.self.view_is) at h in
-    rw (c.carry_out.ensures.keys, c.carry_out.ensures.cells, c.deref.ensures.value, ← c.self.view_is, ← c.prepared.view_is) (plan_count a.columns.items a.keys.items (cells_of a.logs.items) a.live.items _ c.self.invariant.kept _ f k b)
+    rw (c.carry_out.ensures.keys, c.carry_out.ensures.cells, c.deref.ensures.value, ← c.self.view_is, ← c.prepared.view_is) (plan_count a.columns.items a.keys.items (cells_of a.logs.items) a.live.ids _ c.self.invariant.kept _ f k b)
 
 pub returns-clause-lawful : goal.returns-clause-lawful
 returns-clause-lawful c =
     let a = c.self.inside in
     let f = rw (← c.self.view_is, ← c.prepared.view_is) at c.requires.fits in
-    rw (c.carry_out.ensures.keys, c.carry_out.ensures.cells, c.deref.ensures.value) (is_store a.columns.items _ _ _ _ (plan_kept a.columns.items a.keys.items (cells_of a.logs.items) a.live.items _ c.self.invariant.kept _ f))
+    rw (c.carry_out.ensures.keys, c.carry_out.ensures.cells, c.deref.ensures.value) (is_store a.columns.items _ _ _ _ (plan_kept a.columns.items a.keys.items (cells_of a.logs.items) a.live.ids _ c.self.invariant.kept _ f))

@@ -10,7 +10,7 @@ use Rattle.history_store.proofs.tables.StoredTable.new.Goals as goal
 
 pub invariant_of-table : goal.invariant_of-table
 invariant_of-table c = record {
-  kept = rw (c.new.ensures.items, c.new-2.ensures.items) (none_kept c.in_ok-copy_columns.field-0.items c.in_ok-empty_columns.field-0.items (subst AreColumns (sym c.in_ok-copy_columns.ensures) c.requires.columns) (c.in_ok-empty_columns.ensures.width ∙ search rules) c.in_ok-empty_columns.ensures.cells);
+  kept = rw (c.new.ensures.items, c.in_ok-of.ensures) (none_kept c.in_ok-copy_columns.field-0.items c.in_ok-empty_columns.field-0.items (subst AreColumns (sym c.in_ok-copy_columns.ensures) c.requires.columns) (c.in_ok-empty_columns.ensures.width ∙ search rules) c.in_ok-empty_columns.ensures.cells);
   ids = λ k d h. c.in_ok-empty_columns.ensures.ids k d h ∙ sym (ap length c.new.ensures.items);
 }
 

@@ -17,7 +17,7 @@ find_difference-requires-clause-wide c =
 pub find_difference-requires-clause-known : goal.find_difference-requires-clause-known
 find_difference-requires-clause-known c =
     let a = c.self.inside in
-    all_known a.live.items c.deref-2.result.now a.keys.items a.logs.items c.deref.result.now c.deref-2.ensures.value c.deref.ensures.value c.self.invariant.kept.stored.are_open c.self.invariant.ids
+    all_known a.live.ids c.deref-2.result.now a.keys.items a.logs.items c.deref.result.now (c.deref-2.ensures.value ∙ c.in_ok-copy.ensures) c.deref.ensures.value c.self.invariant.kept.stored.are_open c.self.invariant.ids
 
 pub next_ids-requires : goal.next_ids-requires
 next_ids-requires c =
@@ -31,8 +31,8 @@ returns-clause-fits c =
     let b = rw (← c.self.view_is) at c.requires.before in
     let r = rw (← c.self.view_is) at c.requires.relation in
     let n : c.len-2.result ≡ length a.keys.items = search rules in
-    rw (c.reserve_rows.ensures.keys, c.reserve_rows.ensures.cells, c.in_ok-after.ensures, c.deref-3.ensures.value, c.deref-4.ensures.value, c.in_ok-lost.ensures.owners, c.in_ok-lost.ensures.lost, c.in_ok-lost.ensures.gained, c.deref.ensures.value, c.deref-2.ensures.value, n, given_after (cells_of a.logs.items) a.live.items)
-    (made_fits a.columns.items a.keys.items (cells_of a.logs.items) a.live.items _ c.self.invariant.kept c.args.stamp b c.requires.lawful c.args.rows.now r _)
+    rw (c.reserve_rows.ensures.keys, c.reserve_rows.ensures.cells, c.in_ok-after.ensures, c.deref-5.ensures.value, c.in_ok-ids.ensures, c.deref-3.ensures.value, c.deref-4.ensures.value, c.in_ok-lost.ensures.owners, c.in_ok-lost.ensures.lost, c.in_ok-lost.ensures.gained, c.deref.ensures.value, c.deref-2.ensures.value, c.in_ok-copy.ensures, n, given_after (cells_of a.logs.items) a.live.ids)
+    (made_fits a.columns.items a.keys.items (cells_of a.logs.items) a.live.ids _ c.self.invariant.kept c.args.stamp b c.requires.lawful c.args.rows.now r _)
 
 pub returns-clause-leads : goal.returns-clause-leads
 returns-clause-leads c =
@@ -40,21 +40,21 @@ returns-clause-leads c =
     let b = rw (← c.self.view_is) at c.requires.before in
     let r = rw (← c.self.view_is) at c.requires.relation in
     let n : c.len-2.result ≡ length a.keys.items = search rules in
-    rw (c.reserve_rows.ensures.keys, c.reserve_rows.ensures.cells, c.in_ok-after.ensures, c.deref-3.ensures.value, c.deref-4.ensures.value, c.in_ok-lost.ensures.owners, c.in_ok-lost.ensures.lost, c.in_ok-lost.ensures.gained, c.deref.ensures.value, c.deref-2.ensures.value, n, given_after (cells_of a.logs.items) a.live.items)
-    (made_leads a.columns.items a.keys.items (cells_of a.logs.items) a.live.items _ c.self.invariant.kept c.args.stamp b c.requires.lawful c.args.rows.now r _)
+    rw (c.reserve_rows.ensures.keys, c.reserve_rows.ensures.cells, c.in_ok-after.ensures, c.deref-5.ensures.value, c.in_ok-ids.ensures, c.deref-3.ensures.value, c.deref-4.ensures.value, c.in_ok-lost.ensures.owners, c.in_ok-lost.ensures.lost, c.in_ok-lost.ensures.gained, c.deref.ensures.value, c.deref-2.ensures.value, c.in_ok-copy.ensures, n, given_after (cells_of a.logs.items) a.live.ids)
+    (made_leads a.columns.items a.keys.items (cells_of a.logs.items) a.live.ids _ c.self.invariant.kept c.args.stamp b c.requires.lawful c.args.rows.now r _)
 
 pub returns-clause-lost : goal.returns-clause-lost
 returns-clause-lost c =
     let a = c.self.inside in
     let b = rw (← c.self.view_is) at c.requires.before in
     let r = rw (← c.self.view_is) at c.requires.relation in
-    rw (← c.self.view_is, c.in_ok-lost.ensures.lost, c.deref.ensures.value, c.deref-2.ensures.value)
-    (made_lost a.columns.items a.keys.items (cells_of a.logs.items) a.live.items _ c.self.invariant.kept c.args.stamp b c.requires.lawful c.args.rows.now r)
+    rw (← c.self.view_is, c.in_ok-lost.ensures.lost, c.deref.ensures.value, c.deref-2.ensures.value, c.in_ok-copy.ensures)
+    (made_lost a.columns.items a.keys.items (cells_of a.logs.items) a.live.ids _ c.self.invariant.kept c.args.stamp b c.requires.lawful c.args.rows.now r)
 
 pub returns-clause-gained : goal.returns-clause-gained
 returns-clause-gained c =
     let a = c.self.inside in
     let b = rw (← c.self.view_is) at c.requires.before in
     let r = rw (← c.self.view_is) at c.requires.relation in
-    rw (← c.self.view_is, c.in_ok-lost.ensures.gained, c.deref.ensures.value, c.deref-2.ensures.value)
-    (made_gained a.columns.items a.keys.items (cells_of a.logs.items) a.live.items _ c.self.invariant.kept c.args.stamp b c.requires.lawful c.args.rows.now r)
+    rw (← c.self.view_is, c.in_ok-lost.ensures.gained, c.deref.ensures.value, c.deref-2.ensures.value, c.in_ok-copy.ensures)
+    (made_gained a.columns.items a.keys.items (cells_of a.logs.items) a.live.ids _ c.self.invariant.kept c.args.stamp b c.requires.lawful c.args.rows.now r)

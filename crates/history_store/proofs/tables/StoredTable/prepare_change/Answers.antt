@@ -1,4 +1,4 @@
-use Rattle.std.proofs.Common.{rules, ◌≡◌, length, arith, sym, ap, subst, ◌∙◌}
+use Rattle.std.proofs.Common.{rules, ◌≡◌, length, arith, refl, sym, ap, subst, ◌∙◌}
 use Rattle.relations.specs.Sets.{In}
 use Rattle.history_store.specs.Handing.{AllWidth}
 use Rattle.history_store.specs.Logs.{cells_of}
@@ -24,22 +24,22 @@ splice-requires-clause-gained_wide c =
 pub splice-requires-clause-known : goal.splice-requires-clause-known
 splice-requires-clause-known c =
     let a = c.self.inside in
-    all_known_in a.live.items c.deref-2.result.now a.keys.items a.logs.items c.deref.result.now c.deref-2.ensures.value c.deref.ensures.value c.self.invariant.kept.stored.are_open c.self.invariant.ids
+    all_known_in a.live.ids a.live.ids a.keys.items a.logs.items c.deref.result.now refl c.deref.ensures.value c.self.invariant.kept.stored.are_open c.self.invariant.ids
 
 pub splice-requires-clause-there : goal.splice-requires-clause-there
 splice-requires-clause-there c = λ row i.
     let a = c.self.inside in
     let b = rw (← c.self.view_is) at c.requires.before in
     let t = rw (← c.self.view_is) at (c.requires.there row i) in
-    rw (c.deref.ensures.value, c.deref-2.ensures.value) (subst (In row) (relation_from a.columns.items a.keys.items (cells_of a.logs.items) a.live.items _ c.args.stamp c.args.stamp c.self.invariant.kept b (omega arith) c.requires.lawful) t)
+    rw c.deref.ensures.value (subst (In row) (relation_from a.columns.items a.keys.items (cells_of a.logs.items) a.live.ids _ c.args.stamp c.args.stamp c.self.invariant.kept b (omega arith) c.requires.lawful) t)
 
 pub splice-requires-clause-fresh : goal.splice-requires-clause-fresh
 splice-requires-clause-fresh c = λ row i h.
     let a = c.self.inside in
     let b = rw (← c.self.view_is) at c.requires.before in
-    let j = rw (c.deref.ensures.value, c.deref-2.ensures.value) at h in
+    let j = rw c.deref.ensures.value at h in
     let f = rw (← c.self.view_is) at (c.requires.fresh row i) in
-    f (subst (In row) (sym (relation_from a.columns.items a.keys.items (cells_of a.logs.items) a.live.items _ c.args.stamp c.args.stamp c.self.invariant.kept b (omega arith) c.requires.lawful)) j)
+    f (subst (In row) (sym (relation_from a.columns.items a.keys.items (cells_of a.logs.items) a.live.ids _ c.args.stamp c.args.stamp c.self.invariant.kept b (omega arith) c.requires.lawful)) j)
 
 pub returns-clause-fits : goal.returns-clause-fits
 returns-clause-fits c =
@@ -48,10 +48,10 @@ returns-clause-fits c =
     let r = rw (← c.self.view_is) at c.requires.lost in
     let g = rw (← c.self.view_is) at c.requires.gained in
     let n : c.len-2.result ≡ length a.keys.items = search rules in
-    let s = rw (c.deref.ensures.value, c.deref-2.ensures.value, n) at c.in_ok-found.ensures.spliced in
-    let p = rw (c.deref-2.ensures.value) at c.in_ok-found.ensures.placed in
+    let s = rw (c.deref.ensures.value, n) at c.in_ok-found.ensures.spliced in
+    let p = c.in_ok-found.ensures.placed in
     rw (c.reserve_rows.ensures.keys, c.reserve_rows.ensures.cells, c.in_ok-gained.ensures)
-    (change_fits a.columns.items a.keys.items (cells_of a.logs.items) a.live.items _ c.self.invariant.kept c.args.stamp b c.requires.lawful c.args.lost.now c.args.gained.now r g c.in_ok-found.found.items _ s p c.in_ok-found.ensures.more _)
+    (change_fits a.columns.items a.keys.items (cells_of a.logs.items) a.live.ids _ c.self.invariant.kept c.args.stamp b c.requires.lawful c.args.lost.now c.args.gained.now r g c.in_ok-found.found.items _ s p c.in_ok-found.ensures.more _)
 
 pub returns-clause-leads : goal.returns-clause-leads
 returns-clause-leads c =
@@ -60,10 +60,10 @@ returns-clause-leads c =
     let r = rw (← c.self.view_is) at c.requires.lost in
     let g = rw (← c.self.view_is) at c.requires.gained in
     let n : c.len-2.result ≡ length a.keys.items = search rules in
-    let s = rw (c.deref.ensures.value, c.deref-2.ensures.value, n) at c.in_ok-found.ensures.spliced in
-    let p = rw (c.deref-2.ensures.value) at c.in_ok-found.ensures.placed in
+    let s = rw (c.deref.ensures.value, n) at c.in_ok-found.ensures.spliced in
+    let p = c.in_ok-found.ensures.placed in
     rw (← c.self.view_is, c.reserve_rows.ensures.keys, c.reserve_rows.ensures.cells, c.in_ok-gained.ensures)
-    (change_leads a.columns.items a.keys.items (cells_of a.logs.items) a.live.items _ c.self.invariant.kept c.args.stamp b c.requires.lawful c.args.lost.now c.args.gained.now r g c.in_ok-found.found.items _ s p c.in_ok-found.ensures.more _)
+    (change_leads a.columns.items a.keys.items (cells_of a.logs.items) a.live.ids _ c.self.invariant.kept c.args.stamp b c.requires.lawful c.args.lost.now c.args.gained.now r g c.in_ok-found.found.items _ s p c.in_ok-found.ensures.more _)
 
 pub returns-clause-lost : goal.returns-clause-lost
 returns-clause-lost c =
@@ -72,7 +72,7 @@ returns-clause-lost c =
     let r = rw (← c.self.view_is) at c.requires.lost in
     let g = rw (← c.self.view_is) at c.requires.gained in
     let n : c.len-2.result ≡ length a.keys.items = search rules in
-    let s = rw (c.deref.ensures.value, c.deref-2.ensures.value, n) at c.in_ok-found.ensures.spliced in
-    let p = rw (c.deref-2.ensures.value) at c.in_ok-found.ensures.placed in
+    let s = rw (c.deref.ensures.value, n) at c.in_ok-found.ensures.spliced in
+    let p = c.in_ok-found.ensures.placed in
     rw (← c.self.view_is)
-    (change_lost a.columns.items a.keys.items (cells_of a.logs.items) a.live.items _ c.self.invariant.kept c.args.stamp b c.requires.lawful c.args.lost.now c.args.gained.now r g c.in_ok-found.found.items _ s p c.in_ok-found.ensures.more)
+    (change_lost a.columns.items a.keys.items (cells_of a.logs.items) a.live.ids _ c.self.invariant.kept c.args.stamp b c.requires.lawful c.args.lost.now c.args.gained.now r g c.in_ok-found.found.items _ s p c.in_ok-found.ensures.more)

@@ -6,5 +6,5 @@ pub returns : goal.returns
 returns c m l h =
     let a = c.self.inside in
     let b = rw (← c.self.view_is) at h in
-    let e = relation_now a.columns.items a.keys.items (cells_of a.logs.items) a.live.items _ m c.self.invariant.kept b l in
-    rw (← c.self.view_is, e) (current_relation a.columns.items a.keys.items (cells_of a.logs.items) a.live.items c.self.invariant.kept)
+    let e = relation_now a.columns.items a.keys.items (cells_of a.logs.items) a.live.ids _ m c.self.invariant.kept b l in
+    rw (← c.self.view_is, e) (current_relation a.columns.items a.keys.items (cells_of a.logs.items) a.live.ids c.self.invariant.kept)

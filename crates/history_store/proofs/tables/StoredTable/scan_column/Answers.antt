@@ -26,7 +26,7 @@ scan-requires-clause-history c =
     let a = c.self.inside in
     let h : c.in-Some.column < length a.columns.items = subst (λ n. c.in-Some.column < n) (ap length c.deref.ensures.value) c.in-Some.ensures.within in
     let h' : c.in-Some.column < length a.logs.items = subst (λ n. c.in-Some.column < n) (sym c.self.invariant.kept.width ∙ length-cells_of a.logs.items) h in
-    subst (λ ks. IsHistory ks c.index.result.now.cells) (sym c.deref-in-Some.ensures.value) (history a.columns.items a.keys.items a.logs.items a.live.items c.self.invariant.kept c.in-Some.column c.index.result.now h' c.index.ensures)
+    subst (λ ks. IsHistory ks c.index.result.now.cells) (sym c.deref-in-Some.ensures.value) (history a.columns.items a.keys.items a.logs.items a.live.ids c.self.invariant.kept c.in-Some.column c.index.result.now h' c.index.ensures)
 
 pub returns-in-Some-clause-entries : goal.returns-in-Some-clause-entries
 returns-in-Some-clause-entries c =
@@ -35,11 +35,11 @@ returns-in-Some-clause-entries c =
     let h' : c.in-Some.column < length a.logs.items = subst (λ n. c.in-Some.column < n) (sym c.self.invariant.kept.width ∙ length-cells_of a.logs.items) h in
     let p = rw c.deref.ensures.value at (c.in-Some.ensures.place _ (count_entries a.keys.items (cells_of a.logs.items) ∙ c.self.invariant.kept.width ∙ ap length (sym c.deref.ensures.value))) in
     rw (← c.self.view_is) (
-    ap Some (c.scan.ensures ∙ rw c.deref-in-Some.ensures.value (sym (here a.columns.items a.keys.items a.logs.items a.live.items c.self.invariant.kept c.in-Some.column c.index.result.now h' c.index.ensures))) ∙ sym p
+    ap Some (c.scan.ensures ∙ rw c.deref-in-Some.ensures.value (sym (here a.columns.items a.keys.items a.logs.items a.live.ids c.self.invariant.kept c.in-Some.column c.index.result.now h' c.index.ensures))) ∙ sym p
     )
 
 pub returns-in-Some-clause-lawful : goal.returns-in-Some-clause-lawful
-returns-in-Some-clause-lawful c = let a = c.self.inside in rw (← c.self.view_is) (is_store a.columns.items a.keys.items (cells_of a.logs.items) a.live.items _ c.self.invariant.kept)
+returns-in-Some-clause-lawful c = let a = c.self.inside in rw (← c.self.view_is) (is_store a.columns.items a.keys.items (cells_of a.logs.items) a.live.ids _ c.self.invariant.kept)
 
 pub returns-in-None-clause-entries : goal.returns-in-None-clause-entries
 returns-in-None-clause-entries c =
@@ -48,4 +48,4 @@ returns-in-None-clause-entries c =
     rw (← c.self.view_is) (sym p)
 
 pub returns-in-None-clause-lawful : goal.returns-in-None-clause-lawful
-returns-in-None-clause-lawful c = let a = c.self.inside in rw (← c.self.view_is) (is_store a.columns.items a.keys.items (cells_of a.logs.items) a.live.items _ c.self.invariant.kept)
+returns-in-None-clause-lawful c = let a = c.self.inside in rw (← c.self.view_is) (is_store a.columns.items a.keys.items (cells_of a.logs.items) a.live.ids _ c.self.invariant.kept)

@@ -4,7 +4,7 @@ use Rattle.prima_base.specs.Order.{shown}
 use Rattle.prima_base.specs.Columns.{IsLawful}
 use Rattle.history_store.specs.Logs.{cells_of}
 use Rattle.history_store.specs.Table.{row_now}
-use Rattle.history_store.proofs.cuts.lend_at.Given as goal
+use Rattle.history_store.proofs.cuts.lend_now.Given as goal
 
 abbrev pub invariant-loop-column : goal.invariant-loop-column
 invariant-loop-column l = record {
