@@ -1,13 +1,10 @@
--- A row that is lent as that of atom 0, the rows that an INSERT and an UPDATE make, and what DELETE and UPDATE make of
--- lists of rows.
+-- A row that is lent as that of atom 0, and the rows that an INSERT and an UPDATE make.
 use Rattle.std.proofs.Common.{◌≡◌, ℕ, ◌+◌, ◌<◌, Bool, true, false, cond, List, [], ◌∷◌, ◌++◌, Option, length, map, take, drop, get_or, nat_eq, refl, sym, ap, ◌∙◌, subst, pos, arith}
 use Rattle.std.specs.Prelude.{◌==◌, zero, suc, if◌then◌else◌}
-use Rattle.std.specs.List.{AllZip, zip, filter}
+use Rattle.std.specs.List.{AllZip, zip}
 use Rattle.std.specs.Option.{unwrap_or}
 use Rattle.std.proofs.lemmas.List.{take_more}
 use Rattle.std.specs.declared.cmp.Ordering.{Ordering}
-use Rattle.relations.specs.Sets.{In, Ascends, set_of, IsExact}
-use Rattle.relations.proofs.SetLaws.{one_list, set_ascends, in_set, from_set, set_same, in_map, from_map, in_filter, from_filter, below_each, before_in}
 use Rattle.std.proofs.lemmas.Slice.Zip.{all_zipped_more}
 use Rattle.std.specs.Cmp.Lexicographic.{nat_list_cmp_total, pointwise, texts_ties}
 use Rattle.std.proofs.lemmas.Cmp.{eq_by_cmp_equiv}
@@ -111,25 +108,3 @@ pub sets_replaced : (columns : List Column) (sets : List (List ℕ × Tree)) (ro
     → map (λ (p : Value × Option Value). unwrap_or p.1 p.0) (zip row os) ≡ with_sets columns sets row
 sets_replaced columns sets row os a r h = ap (λ l. map (λ (p : Value × Option Value). unwrap_or p.1 p.0) (zip l os)) (sym (cells_again columns row a r))
     ∙ zipped_map (λ (c : Column). cell columns row c.0) (λ (c : Column). set_value columns row sets c.0) columns os h
-
--- the relations of a filter and of a map
-ascends_filter : {X : Type 0} (cmp : X → X → Ordering) (p : X → Bool) (xs : List X) → Ascends cmp xs → Ascends cmp (filter p xs)
-ascends_filter cmp p [] a = tt
-ascends_filter {X} cmp p (x ∷ xs) a =
-    elim (p x) as (λ b. Ascends cmp (cond b (x ∷ filter p xs) (filter p xs))) [
-      | true ↦ (below_each cmp x (filter p xs) (λ y m. before_in cmp x y xs a.0 (from_filter p y xs m).0), ascends_filter cmp p xs a.1)
-      | false ↦ ascends_filter cmp p xs a.1
-    ]
-
-module _ {X : Type 0} (cmp : X → X → Ordering) (exact : IsExact cmp) where
-  pub set_filtered : (p : X → Bool) (xs : List X) → set_of cmp (filter p xs) ≡ filter p (set_of cmp xs)
-  set_filtered p xs = one_list cmp exact (set_of cmp (filter p xs)) (filter p (set_of cmp xs)) (set_ascends cmp exact (filter p xs)) (ascends_filter cmp p (set_of cmp xs) (set_ascends cmp exact xs)) (record {
-    there = λ z m. let h = from_filter p z xs (from_set cmp exact z (filter p xs) m) in in_filter p z (set_of cmp xs) (in_set cmp exact z xs h.0) h.1;
-    back = λ z m. let h = from_filter p z (set_of cmp xs) m in in_set cmp exact z (filter p xs) (in_filter p z xs (from_set cmp exact z xs h.0) h.1);
-  })
-
-  pub set_mapped : (f : X → X) (xs : List X) → set_of cmp (map f xs) ≡ set_of cmp (map f (set_of cmp xs))
-  set_mapped f xs = set_same cmp exact (map f xs) (map f (set_of cmp xs)) (record {
-    there = λ z m. let h = from_map f z xs m in subst (λ (w : X). In w (map f (set_of cmp xs))) h.2 (in_map f h.0 (set_of cmp xs) (in_set cmp exact h.0 xs h.1));
-    back = λ z m. let h = from_map f z (set_of cmp xs) m in subst (λ (w : X). In w (map f xs)) h.2 (in_map f h.0 xs (from_set cmp exact h.0 xs h.1));
-  })

@@ -1,28 +1,23 @@
-//! Changes of rows that are held in memory.
-//!
-//! While the changes of a command are applied the rows may stand in any order and more than once; what they stand
-//! for is the relation of them (`set_of`), and `make_set` makes them that relation at the end. So each change is
-//! one walk along the rows, and all of them together cost one sort.
+//! What changes make of rows: the rows that they give, which rows meet a condition, and what these are updated to.
 
-ghost use Rattle.std.specs.Prelude.{◌≡◌, ◌++◌, ◌∷◌, [], List, IfOk, Option, Some, map, not};
-ghost use Rattle.std.specs.List.{AllZip, zip, filter};
+ghost use Rattle.std.specs.Prelude.{◌≡◌, ◌++◌, ◌∷◌, [], List, IfOk, Option, Some, map};
+ghost use Rattle.std.specs.List.{AllZip, zip};
 ghost use Rattle.std.specs.Option.{option_map, unwrap_or};
-ghost use Rattle.relations.specs.Sets.{set_of, In};
+ghost use Rattle.relations.specs.Sets.{set_of};
 ghost use Rattle.prima_base.specs.declared.values.Value.{Value as OneValue};
 ghost use Rattle.prima_base.specs.Order.{row_cmp, shown};
-ghost use Rattle.prima_base.specs.Columns.{Column as TableColumn, AreColumns, IsRow, IsRelation};
+ghost use Rattle.prima_base.specs.Columns.{Column as TableColumn, AreColumns, IsRow};
 ghost use Rattle.cond_expr.specs.Rows.{AreLawful};
 ghost use Rattle.cond_expr.specs.Seen.{test};
-ghost use Rattle.smo_meaning.specs.OneRow.{meets, given, row_of, set_value, updated};
+ghost use Rattle.smo_meaning.specs.OneRow.{meets, given, row_of, set_value, with_sets};
 ghost use Rattle.cond_expr.specs.AtomColumns.{columns_at};
 ghost use Rattle.smo_types.specs.Changes.{sets_of, change_of, changes_of};
-ghost use Rattle.smo_meaning.specs.Effects.{relation_after};
 ghost use Rattle.smo_meaning.specs.Inserting.{insertions};
 ghost use Rattle.schema_catalog.specs.Databases.{cell};
 
 use cond_expr::{Column, Cond, Expr, eval, holds, lend_row};
 use prima_base::{ColType, Name, NoMemory, Row, Val, Value};
-use smo_schemas::as_atoms;
+use smo_schemas::OwnColumns;
 use smo_types::Change;
 use std::alloc::Global;
 
@@ -34,13 +29,18 @@ pub fn make_set(rows: &mut Vec<Row>)
     rows.dedup();
 }
 
-// Whether the row meets the condition.
-fn row_meets(alloc: Global, cond: &Cond, atoms: &[Column], row: &Row) -> Result<bool, NoMemory>
-    ensures { (columns : List TableColumn) → atoms.now ≡ columns_at 0 columns
-        → IfOk result (λ b. b ≡ meets columns (test cond.now) row.now) }
+/// Whether the row of a table of these columns that has these values meets the condition. The values are lawful, as for
+/// `holds`. The one error is `NoMemory`, where memory runs out.
+pub fn row_meets(
+    alloc: Global,
+    own: &OwnColumns<'_>,
+    cond: &Cond,
+    values: &[Val<'_>],
+) -> Result<bool, NoMemory>
+    requires { AreLawful values.now }
+    ensures { IfOk result (λ b. b ≡ meets own.now (test cond.now) (map shown values.now)) }
 {
-    let values = lend_row(alloc, row.values())?;
-    holds(alloc, cond, atoms, &values)
+    holds(alloc, cond, own.atoms(), values)
 }
 
 // The value that is given for the column with this name.
@@ -130,99 +130,20 @@ fn replaced(
     Ok(replaced)
 }
 
-// The row, with what is set where it meets the condition.
-fn updated_row(
+/// The row of a table of these columns with all that is set, each value computed from the row as it is given. The one
+/// error is `NoMemory`, where memory runs out.
+pub fn row_with_sets(
     alloc: Global,
-    columns: &[(Name, ColType)],
-    atoms: &[Column],
+    own: &OwnColumns<'_>,
     sets: &[(Name, Expr)],
-    cond: &Cond,
-    row: Row,
+    row: &Row,
 ) -> Result<Row, NoMemory>
-    requires columns { AreColumns columns.now }
-    requires row { IsRow columns.now row }
-    requires atoms { atoms.now ≡ columns_at 0 columns.now }
-    ensures { IfOk result (λ r. r ≡ updated columns.now (sets_of sets.now) (test cond.now) row) }
+    requires { AreColumns own.now }
+    ensures { IsRow own.now row.now → IfOk result (λ r. r ≡ with_sets own.now (sets_of sets.now) row.now) }
 {
-    if !row_meets(alloc, cond, atoms, &row)? {
-        return Ok(row);
-    }
-    let set = set_values(alloc, columns, atoms, sets, &row)?;
-    let values = replaced(alloc, row.into_values(), set)?;
+    let set = set_values(alloc, own.columns(), own.atoms(), sets, row)?;
+    let values = replaced(alloc, row.copy()?.into_values(), set)?;
     Ok(Row::new(alloc, values))
-}
-
-// The rows, and one more.
-fn with_row(mut rows: Vec<Row>, row: Row) -> Result<Vec<Row>, NoMemory>
-    ensures { IfOk result (λ v. v.items ≡ rows.items ++ row ∷ []) }
-{
-    rows.push(row)?;
-    Ok(rows)
-}
-
-// The rows that do not meet the condition.
-fn kept_rows(
-    alloc: Global,
-    columns: &[(Name, ColType)],
-    cond: &Cond,
-    rows: Vec<Row>,
-) -> Result<Vec<Row>, NoMemory>
-    ensures { IfOk result (λ v. v.items
-        ≡ filter (λ row. not (meets columns.now (test cond.now) row)) rows.items) }
-{
-    let atoms = as_atoms(alloc, columns)?;
-    let mut kept = Vec::with_capacity(alloc, rows.len())?;
-    for row in rows {
-        if !row_meets(alloc, cond, &atoms, &row)? {
-            kept.push(row)?;
-        }
-    }
-    Ok(kept)
-}
-
-// The rows, each as what it is updated to.
-fn updated_rows(
-    alloc: Global,
-    columns: &[(Name, ColType)],
-    sets: &[(Name, Expr)],
-    cond: &Cond,
-    rows: Vec<Row>,
-) -> Result<Vec<Row>, NoMemory>
-    requires columns { AreColumns columns.now }
-    requires rows { (row : List OneValue) → In row rows.items → IsRow columns.now row }
-    ensures { IfOk result (λ v. v.items
-        ≡ map (updated columns.now (sets_of sets.now) (test cond.now)) rows.items) }
-{
-    let atoms = as_atoms(alloc, columns)?;
-    let mut changed = Vec::with_capacity(alloc, rows.len())?;
-    for row in rows {
-        changed.push(updated_row(alloc, columns, &atoms, sets, cond, row)?)?;
-    }
-    Ok(changed)
-}
-
-/// The rows after the change, of a table of these columns. Both lists of rows may stand in any order, and rows may
-/// stand in them more than once: each list stands for the relation of its rows. The table's name in the change is
-/// not looked at. The one error is `NoMemory`, where memory runs out.
-pub fn apply_change(
-    alloc: Global,
-    columns: &[(Name, ColType)],
-    change: &Change,
-    rows: Vec<Row>,
-) -> Result<Vec<Row>, NoMemory>
-    requires columns { AreColumns columns.now }
-    requires relation { IsRelation columns.now (set_of row_cmp rows.items) }
-    ensures { IfOk result (λ v. set_of row_cmp v.items
-        ≡ relation_after columns.now (change_of change.now) (set_of row_cmp rows.items)) }
-{
-    match change {
-        Change::Insert { cells, .. } => {
-            let row = inserted_row(alloc, columns, cells)?;
-            with_row(rows, row)
-        }
-        Change::Delete { cond, .. } => kept_rows(alloc, columns, cond, rows),
-        Change::Update { sets, cond, .. } => updated_rows(alloc, columns, sets, cond, rows),
-    }
 }
 
 /// The rows that the changes give, in order, of a table of these columns; none exactly where one of the changes is

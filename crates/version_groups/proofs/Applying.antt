@@ -76,11 +76,11 @@ before_later m n p l h = (omega (arith, h.0), elim h.1 as (λ w. (p.end < n) ⊎
 pub all_later : (s : Store) (m n : ℕ) → m ≤ n → AllBefore s m → AllBefore s n
 all_later s m n l h = record { keys = λ p i. before_later m n p l (h.keys p i); cells = λ cells i c j. before_later m n c.period l (h.cells cells i c j) }
 
-not_true : (b : Bool) → not b ≡ true → b ≡ false
+pub not_true : (b : Bool) → not b ≡ true → b ≡ false
 not_true true e = cc
 not_true false e = refl
 
-not_of : (b : Bool) → b ≡ false → not b ≡ true
+pub not_of : (b : Bool) → b ≡ false → not b ≡ true
 not_of true e = cc
 not_of false e = refl
 

@@ -15,3 +15,8 @@ pub mod VersionsKept
 pub mod Readied
 pub mod Becoming
 pub mod Applying
+pub mod RangeLaws
+pub mod OverlayLaws
+pub mod OverlayWalks
+pub mod OverlaySteps
+pub mod Differences

@@ -9,3 +9,5 @@ pub mod Installing
 pub mod Standing
 pub mod MadeRows
 pub mod Evolving
+pub mod Overlay
+pub mod Ranges

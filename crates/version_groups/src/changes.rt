@@ -15,9 +15,10 @@ ghost use Rattle.version_groups.specs.Becoming.{IsChange};
 ghost use Rattle.version_groups.specs.Changing.{AreAccepted, of_table};
 
 use crate::made_tables::same_name;
+use crate::overlay::lost_and_gained;
 use history_store::{Prepared, StoredTable};
 use prima_base::{ColType, Name, NoMemory, Row};
-use smo_ops::{Change, apply_change, inserted_row, insertions_are_a_union, make_set};
+use smo_ops::{Change, inserted_row, insertions_are_a_union, make_set};
 use std::alloc::Global;
 
 /// Whether one of the changes is of the table with this name. It takes no memory.
@@ -86,46 +87,6 @@ fn keep_fresh(alloc: Global, store: &StoredTable, rows: Vec<Row>) -> Result<Vec<
     Ok(fresh)
 }
 
-// The rows behind the change, where it is of the table.
-fn apply_own(
-    alloc: Global,
-    columns: &[(Name, ColType)],
-    name: &Name,
-    change: &Change,
-    rows: Vec<Row>,
-) -> Result<Vec<Row>, NoMemory>
-    requires columns { AreColumns columns.now }
-    requires relation { IsRelation columns.now (set_of row_cmp rows.items) }
-    ensures { IfOk result (λ v. set_of row_cmp v.items
-        ≡ relation_after_each columns.now (of_table name.now (change_of change.now ∷ [])) (set_of row_cmp rows.items)) }
-{
-    if !same_name(change.table(), name) {
-        return Ok(rows);
-    }
-    apply_change(alloc, columns, change, rows)
-}
-
-// The rows behind the table's changes, one after the other.
-fn apply_changes(
-    alloc: Global,
-    columns: &[(Name, ColType)],
-    name: &Name,
-    changes: &[Change],
-    rows: Vec<Row>,
-) -> Result<Vec<Row>, NoMemory>
-    requires columns { AreColumns columns.now }
-    requires accepted { AreAccepted columns.now (of_table name.now (changes_of changes.now)) }
-    requires relation { IsRelation columns.now rows.items }
-    ensures { IfOk result (λ v. v.items ≡ relation_after_each columns.now (of_table name.now (changes_of changes.now)) rows.items) }
-{
-    let mut rows = rows;
-    for change in changes {
-        rows = apply_own(alloc, columns, name, change, rows)?;
-    }
-    make_set(&mut rows);
-    Ok(rows)
-}
-
 // Makes ready that the table gets these rows too, from the stamp on.
 fn prepare_given(
     alloc: Global,
@@ -149,9 +110,36 @@ fn prepare_given(
     Ok(prepared)
 }
 
+// Makes ready what the table's changes lose and gain, from the stamp on.
+fn prepare_overlay(
+    alloc: Global,
+    columns: &[(Name, ColType)],
+    name: &Name,
+    store: &mut StoredTable,
+    stamp: u64,
+    changes: &[Change],
+) -> Result<Prepared, NoMemory>
+    requires columns { AreColumns columns.now }
+    requires same { store.old.columns ≡ columns.now }
+    requires accepted { AreAccepted columns.now (of_table name.now (changes_of changes.now)) }
+    requires before { AllBefore store.old stamp }
+    requires lawful { stamp < forever }
+    ensures same { store.new ≡ record store.old { spare = store.new.spare } }
+    ensures spare { store.old.spare ≤ store.new.spare }
+    ensures change { IfOk result (λ p. IsChange store.new stamp (relation_after_each columns.now (of_table name.now (changes_of changes.now)) (relation_at store.old stamp)) p) }
+    ensures gained { IfOk result (λ p. length p.gained ≡ length (gained_rows (relation_at store.old stamp) (relation_after_each columns.now (of_table name.now (changes_of changes.now)) (relation_at store.old stamp)))) }
+    ensures lost { IfOk result (λ p. length p.lost ≡ length (gained_rows (relation_after_each columns.now (of_table name.now (changes_of changes.now)) (relation_at store.old stamp)) (relation_at store.old stamp))) }
+{
+    store.rows_are_a_relation();
+    let (lost, gained) = lost_and_gained(alloc, columns, name, store, changes)?;
+    let prepared = store.prepare_change(stamp, &lost, &gained)?;
+    Ok(prepared)
+}
+
 /// Makes the table's changes ready, from the stamp on, and all the room that installing them needs. INSERTs alone cost
-/// as many searches as there are rows; others cost a copy of the current rows, a walk along them for each change, and a
-/// sort. The one error is `NoMemory`, where memory runs out. What the table stands for stays as it is.
+/// as many searches as there are rows. An UPDATE or DELETE costs a look at each row between two cuts in the order of the
+/// rows, where its condition pins the first columns to constants, and else at each row; of the rows only those that are
+/// lost or gained are copied. The one error is `NoMemory`, where memory runs out. What the table stands for stays as it is.
 pub(crate) fn prepare_table(
     alloc: Global,
     columns: &[(Name, ColType)],
@@ -175,11 +163,6 @@ pub(crate) fn prepare_table(
     let given = given_rows(alloc, columns, name, changes)?;
     match given {
         Some(rows) => prepare_given(alloc, store, stamp, rows),
-        None => {
-            let current = store.current()?;
-            let rows = apply_changes(alloc, columns, name, changes, current)?;
-            let prepared = store.prepare(stamp, &rows)?;
-            Ok(prepared)
-        }
+        None => prepare_overlay(alloc, columns, name, store, stamp, changes),
     }
 }

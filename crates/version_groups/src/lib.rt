@@ -11,6 +11,9 @@ mod evolving;
 mod groups;
 mod made_tables;
 mod next;
+mod overlay;
+mod ranges;
 
 pub use groups::Groups;
 pub use next::Next;
+pub use ranges::hits_are_between_the_cuts;

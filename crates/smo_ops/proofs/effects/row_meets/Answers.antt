@@ -1,5 +1,6 @@
-use Rattle.std.proofs.Common.{ap, ◌∙◌}
+use Rattle.std.proofs.Common.{map, refl, ap, ◌∙◌}
 use Rattle.std.proofs.lemmas.Result.{IfOk-weaker}
+use Rattle.prima_base.specs.Order.{shown}
 use Rattle.cond_expr.specs.Rows.{flat}
 use Rattle.cond_expr.specs.Values.{truth}
 use Rattle.cond_expr.specs.Seen.{test}
@@ -7,5 +8,5 @@ use Rattle.smo_ops.proofs.EffectLaws.{lent_cells}
 use Rattle.smo_ops.proofs.effects.row_meets.Goals as goal
 
 pub returns : goal.returns
-returns c = λ columns atoms. IfOk-weaker c.holds.result _ _ (λ b e. e ∙ ap (λ at. truth at (test c.args.cond.now))
-    (ap (λ a. flat a c.deref.result.now) atoms ∙ ap (flat _) c.deref.ensures.value ∙ lent_cells columns c.in_ok-values.values.items c.args.row.now (c.in_ok-values.ensures.values ∙ c.values.ensures))) c.holds.ensures
+returns c = IfOk-weaker c.holds.result _ _ (λ b e. e ∙ ap (λ at. truth at (test c.args.cond.now))
+    (ap (λ a. flat a c.args.values.now) c.atoms.ensures ∙ lent_cells c.args.own.now c.args.values.now (map shown c.args.values.now) refl)) c.holds.ensures

@@ -3,7 +3,7 @@ use Rattle.std.specs.Prelude.{Option}
 use Rattle.std.proofs.Math.ListN.{set}
 use Rattle.history_store.specs.Change.{Plan}
 use Rattle.smo_types.specs.Changes.{changes_of}
-use Rattle.version_groups.proofs.TablesInTurn.{ReadyTo, none_ready, one_ready, all_same, gained_is, lost_is, are_ready}
+use Rattle.version_groups.proofs.TablesInTurn.{ReadyTo, none_ready, one_ready, set_same, all_same, gained_is, lost_is, are_ready}
 use Rattle.version_groups.proofs.changing.prepare_tables.Goals as goal
 
 pub loop-i-init : goal.loop-i-init
@@ -51,3 +51,19 @@ returns-clause-lost c =
     let n : c.len-i-end.result ≡ length c.args.tables.now.items = search rules in
     let past = c.loop-i-test.false in
     lost_is c.args.stamp (changes_of c.args.changes.now) c.args.tables.now.items c.loop-i.tables.items c.loop-i.plans.items c.loop-i.gained c.loop-i.lost c.loop-i.i c.loop-i.invariant (omega (arith, n, past))
+
+pub returns-in_err-gained-clause-same : goal.returns-in_err-gained-clause-same
+returns-in_err-gained-clause-same c =
+    let n : c.len-i-end.result ≡ length c.args.tables.now.items = search rules in
+    let long = c.loop-i.invariant.long in
+    let under = c.loop-i-test.true in
+    set_same c.args.stamp (changes_of c.args.changes.now) c.args.tables.now.items c.loop-i.tables.items c.loop-i.plans.items c.loop-i.gained c.loop-i.lost c.loop-i.i c.loop-i.invariant
+    c.index_mut.result.now c.prepare_one.new.table (omega (arith, n, long, under)) c.index_mut.ensures.value c.prepare_one.ensures.same
+
+pub returns-in_err-lost-clause-same : goal.returns-in_err-lost-clause-same
+returns-in_err-lost-clause-same c =
+    let n : c.len-i-end.result ≡ length c.args.tables.now.items = search rules in
+    let long = c.loop-i.invariant.long in
+    let under = c.loop-i-test.true in
+    set_same c.args.stamp (changes_of c.args.changes.now) c.args.tables.now.items c.loop-i.tables.items c.loop-i.plans.items c.loop-i.gained c.loop-i.lost c.loop-i.i c.loop-i.invariant
+    c.index_mut.result.now c.prepare_one.new.table (omega (arith, n, long, under)) c.index_mut.ensures.value c.prepare_one.ensures.same

@@ -1,0 +1,361 @@
+-- What is known of rows, over those that are stored, change by change.
+use Rattle.std.proofs.Common.{◌≡◌, ◌⊎◌, ℕ, Bool, true, false, cond, List, [], ◌∷◌, ◌++◌, length, map, take, refl, sym, ap, ◌∙◌, subst, inl, inr}
+use Rattle.std.specs.Prelude.{not, ◌&&◌, ◌||◌, Option, Some, None, if◌then◌else◌}
+use Rattle.std.specs.List.{filter, AllByRecursion}
+use Rattle.std.specs.List.Sorted.{IsStrictlySortedBy}
+use Rattle.std.specs.Option.{unwrap_or}
+use Rattle.std.specs.Map.{lookup, keys_of}
+use Rattle.std.specs.BTreeMap.{is_at}
+use Rattle.std.specs.declared.cmp.Ordering.{Ordering}
+use Rattle.std.specs.declared.cmp.Ordering.TheVariants.{Less, Equal, Greater}
+use Rattle.std.specs.Ordering.{is_eq, is_le, is_lt, ordering_reverse, ordering_then}
+use Rattle.std.proofs.lemmas.Cmp.{eq_by_cmp_equiv}
+use Rattle.relations.specs.Sets.{In, BeforeAll, Ascends, has, put_in, set_of}
+use Rattle.relations.proofs.SetLaws.{in_left, in_right, in_append, in_map, from_map, in_filter, from_filter, below_each, before_in, one_list, cmp_itself, in_has, has_in, has_not, put_back, set_ascends, in_set, from_set, set_itself}
+use Rattle.prima_base.specs.declared.values.Value.{Value}
+use Rattle.prima_base.specs.Order.{value_cmp, row_cmp}
+use Rattle.prima_base.specs.OrderLaws.{row_exact, row_total, value_total}
+use Rattle.history_store.specs.Cuts.{Cut, is_before, between}
+use Rattle.history_store.proofs.Cutting.{before_less}
+use Rattle.smo_meaning.specs.OneRow.{Row, Relation}
+use Rattle.smo_meaning.specs.Effects.{gained_rows}
+use Rattle.smo_meaning.proofs.RelationLaws.{put_is_set, filter_ascends}
+use Rattle.version_groups.specs.Overlay.{Known, is_there, is_kept, LeadsTo, lost_by_now, gained_by_now, known_hits, AreHits}
+use Rattle.version_groups.proofs.Applying.{not_true, not_of}
+
+-- ---- truths
+
+pub one_truth : (a b : Bool) → (a ≡ true → b ≡ true) → (b ≡ true → a ≡ true) → a ≡ b
+one_truth true b f g = sym (f refl)
+one_truth false true f g = g refl
+one_truth false false f g = refl
+
+both : (a b : Bool) → (a && b) ≡ true → (a ≡ true) × (b ≡ true)
+both true b e = (refl, e)
+both false b e = absurd (cc)
+
+pub and_true : (a b : Bool) → a ≡ true → b ≡ true → (a && b) ≡ true
+and_true true b e f = f
+and_true false b e f = absurd (cc)
+
+pub known_or_not : (b : Bool) → (b ≡ true) ⊎ (b ≡ false)
+known_or_not true = inl refl
+known_or_not false = inr refl
+
+pub never : (b : Bool) → b ≡ true → b ≡ false → ⊥
+never true e f = cc
+never false e f = cc
+
+pub not_in : (row : Row) (rows : Relation) → (In row rows → ⊥) → has row_cmp row rows ≡ false
+not_in row rows f = elim (known_or_not (has row_cmp row rows)) [ inl e ↦ absurd (f (has_in row_cmp row_exact row rows e)) | inr e ↦ e ]
+
+-- ---- rows that are looked up
+
+abbrev find : Row → Known → Option Bool
+find row known = lookup (is_at (row_cmp row)) known
+
+pub found_in : (known : Known) (row : Row) (b : Bool) → find row known ≡ Some b → In (row, b) known
+found_in [] row b h = absurd (cc)
+found_in (e ∷ known) row b h = step (row_cmp row e.0) refl h (λ k. found_in known row b k)
+  where
+    step : (o : Ordering) → row_cmp row e.0 ≡ o → cond (is_eq o) (Some e.1) (find row known) ≡ Some b → (find row known ≡ Some b → In (row, b) known) → In (row, b) (e ∷ known)
+    step Less q k again = inr (again k)
+    step Equal q k again = let v : e.1 ≡ b = cc in inl (ap (λ (r : Row). (r, e.1)) (sym (row_exact.same row e.0 q)) ∙ ap (λ (x : Bool). (row, x)) v)
+    step Greater q k again = inr (again k)
+
+pub in_found : (known : Known) (row : Row) (b : Bool) → Ascends row_cmp (keys_of known) → In (row, b) known → find row known ≡ Some b
+in_found [] row b a i = absurd i
+in_found (e ∷ known) row b a (inl q) =
+    let first : e.0 ≡ row = ap (λ (x : Row × Bool). x.0) q in
+    let second : e.1 ≡ b = ap (λ (x : Row × Bool). x.1) q in
+    let same : row_cmp row e.0 ≡ Equal = ap (row_cmp row) first ∙ cmp_itself row_cmp row_exact row in
+    ap (λ o. cond (is_eq o) (Some e.1) (find row known)) same ∙ ap Some second
+in_found (e ∷ known) row b a (inr i) =
+    let before : row_cmp e.0 row ≡ Less = before_in row_cmp e.0 row (keys_of known) a.0 (in_map (λ (x : Row × Bool). x.0) (row, b) known i) in
+    let behind : row_cmp row e.0 ≡ Greater = row_total.antisymm row e.0 ∙ ap ordering_reverse before in
+    ap (λ o. cond (is_eq o) (Some e.1) (find row known)) behind ∙ in_found known row b a.1 i
+
+-- the keys of a map ascend
+pub as_ascends : (rows : List Row) → IsStrictlySortedBy row_cmp rows → Ascends row_cmp rows
+unfolding IsStrictlySortedBy
+as_ascends [] s = tt
+as_ascends (row ∷ rows) s = (each rows s.0, as_ascends rows s.1)
+  where
+    each : (others : List Row) → AllByRecursion (λ y. row_cmp row y ≡ Less) others → BeforeAll row_cmp row others
+    each [] h = tt
+    each (other ∷ others) h = (h.0, each others h.1)
+
+-- ---- what is known of some rows
+
+pub picked : (p : Row × Bool → Bool) (known : Known) → Ascends row_cmp (keys_of known) → Ascends row_cmp (keys_of (filter p known))
+picked p [] a = tt
+picked p (e ∷ known) a = elim (p e) as (λ b. Ascends row_cmp (keys_of (cond b (e ∷ filter p known) (filter p known)))) [
+  | true ↦ (below_each row_cmp e.0 (keys_of (filter p known)) (λ row m. before_in row_cmp e.0 row (keys_of known) a.0 (still row m)), picked p known a.1)
+  | false ↦ picked p known a.1
+]
+  where
+    still : (row : Row) → In row (keys_of (filter p known)) → In row (keys_of known)
+    still row m =
+        let f = from_map (λ (x : Row × Bool). x.0) row (filter p known) m in
+        subst (λ (r : Row). In r (keys_of known)) f.2 (in_map (λ (x : Row × Bool). x.0) f.0 known (from_filter p f.0 known f.1).0)
+
+pub picked_is : (p : Row × Bool → Bool) (known : Known) (row : Row) → In row (keys_of (filter p known)) → (b : Bool) × In (row, b) known × (p (row, b) ≡ true)
+picked_is p known row m =
+    let f = from_map (λ (x : Row × Bool). x.0) row (filter p known) m in
+    let g = from_filter p f.0 known f.1 in
+    let e : f.0 ≡ (row, f.0.1) = ap (λ (r : Row). (r, f.0.1)) f.2 in
+    (f.0.1, subst (λ (x : Row × Bool). In x known) e g.0, subst (λ (x : Row × Bool). p x ≡ true) e g.1)
+
+pub is_picked : (p : Row × Bool → Bool) (known : Known) (row : Row) (b : Bool) → In (row, b) known → p (row, b) ≡ true → In row (keys_of (filter p known))
+is_picked p known row b i e = in_map (λ (x : Row × Bool). x.0) (row, b) (filter p known) (in_filter p (row, b) known i e)
+
+-- ---- from a cut on
+
+from_low : (vs row : List Value) (b : Bool) → cond b (is_le (row_cmp (take (length vs) row) vs)) (is_lt (row_cmp (take (length vs) row) vs)) ≡ false → is_le (row_cmp vs row) ≡ true
+from_low [] [] b h = refl
+from_low [] (x ∷ row) b h = refl
+from_low (v ∷ vs) [] true h = absurd (cc)
+from_low (v ∷ vs) [] false h = absurd (cc)
+from_low (v ∷ vs) (x ∷ row) b h = step (value_cmp x v) refl h (λ k. from_low vs row b k)
+  where
+    less_first : (b : Bool) → cond b (is_le Less) (is_lt Less) ≡ false → ⊥
+    less_first true k = cc
+    less_first false k = cc
+
+    step : (o : Ordering) → value_cmp x v ≡ o → cond b (is_le (ordering_then o (row_cmp (take (length vs) row) vs))) (is_lt (ordering_then o (row_cmp (take (length vs) row) vs))) ≡ false
+        → (cond b (is_le (row_cmp (take (length vs) row) vs)) (is_lt (row_cmp (take (length vs) row) vs)) ≡ false → is_le (row_cmp vs row) ≡ true) → is_le (ordering_then (value_cmp v x) (row_cmp vs row)) ≡ true
+    step Less e k again = absurd (less_first b k)
+    step Equal e k again = ap (λ o. is_le (ordering_then o (row_cmp vs row))) (value_total.antisymm v x ∙ ap ordering_reverse e) ∙ again k
+    step Greater e k again = ap (λ o. is_le (ordering_then o (row_cmp vs row))) (value_total.antisymm v x ∙ ap ordering_reverse e)
+
+pub from_cut : (c : Cut) (row : Row) → is_before c row ≡ false → is_le (row_cmp c.values row) ≡ true
+from_cut c row h = from_low c.values row c.behind h
+
+-- ---- the rows that meet a condition
+
+module _ (known : Known) (stored now : Relation) (ordered : Ascends row_cmp (keys_of known)) (leads : LeadsTo known stored now) where
+  pub there_in : (row : Row) → is_there known stored row ≡ true → In row now
+  there_in row e = has_in row_cmp row_exact row now (leads row ∙ e)
+
+  pub in_there : (row : Row) → In row now → is_there known stored row ≡ true
+  in_there row i = sym (leads row) ∙ in_has row_cmp row_exact row now i
+
+  module _ (passes : Row → Bool) (from to : Cut) (within : (row : Row) → In row now → passes row ≡ true → (is_before from row ≡ false) × (is_before to row ≡ true)) where
+    abbrev pick : Row × Bool → Bool
+    pick e = is_le (row_cmp from.values e.0) && (is_before to e.0 && (e.1 && passes e.0))
+
+    abbrev wanted : Row → Bool
+    wanted row = passes row && is_kept known row
+
+    abbrev lies : Row → Bool
+    lies row = not (is_before from row) && is_before to row
+
+    of_stored : (row : Row) → In row (filter wanted (between from to stored)) → In row now × (passes row ≡ true)
+    of_stored row m =
+        let f = from_filter wanted row (between from to stored) m in
+        let g = from_filter lies row stored f.0 in
+        let w = both (passes row) (is_kept known row) f.1 in
+        (there_in row (step (find row known) w.1 (in_has row_cmp row_exact row stored g.0)), w.0)
+      where
+        step : (o : Option Bool) → unwrap_or o true ≡ true → has row_cmp row stored ≡ true → unwrap_or o (has row_cmp row stored) ≡ true
+        step None k h = h
+        step (Some b) k h = k
+
+    of_known : (row : Row) → In row (keys_of (filter pick known)) → In row now × (passes row ≡ true)
+    of_known row m =
+        let f = picked_is pick known row m in
+        let g = both (is_le (row_cmp from.values row)) (is_before to row && (f.0 && passes row)) f.2 in
+        let h = both (is_before to row) (f.0 && passes row) g.1 in
+        let k = both f.0 (passes row) h.1 in
+        (there_in row (ap (λ (o : Option Bool). unwrap_or o (has row_cmp row stored)) (in_found known row f.0 ordered f.1) ∙ k.0), k.1)
+
+    pub hits_are : AreHits passes now (filter wanted (between from to stored) ++ known_hits from to passes known)
+    hits_are = record { only = only; all = all }
+      where
+        only : (row : Row) → In row (filter wanted (between from to stored) ++ keys_of (filter pick known)) → In row now × (passes row ≡ true)
+        only row m = elim (in_append row (filter wanted (between from to stored)) (keys_of (filter pick known)) m) [ inl i ↦ of_stored row i | inr i ↦ of_known row i ]
+
+        all : (row : Row) → In row now → passes row ≡ true → In row (filter wanted (between from to stored) ++ keys_of (filter pick known))
+        all row i p = step (find row known) refl (in_there row i)
+          where
+            step : (o : Option Bool) → find row known ≡ o → unwrap_or o (has row_cmp row stored) ≡ true → In row (filter wanted (between from to stored) ++ keys_of (filter pick known))
+            step None e k =
+                let l = within row i p in
+                let here = in_filter lies row stored (has_in row_cmp row_exact row stored k) (and_true (not (is_before from row)) (is_before to row) (not_of (is_before from row) l.0) l.1) in
+                in_left row (filter wanted (between from to stored)) (keys_of (filter pick known))
+                (in_filter wanted row (between from to stored) here (and_true (passes row) (is_kept known row) p (ap (λ (o : Option Bool). unwrap_or o true) e)))
+            step (Some true) e k =
+                let l = within row i p in
+                in_right row (filter wanted (between from to stored)) (keys_of (filter pick known))
+                (is_picked pick known row true (found_in known row true e)
+                (and_true (is_le (row_cmp from.values row)) (is_before to row && (true && passes row)) (from_cut from row l.0)
+                (and_true (is_before to row) (true && passes row) l.1 p)))
+            step (Some false) e k = absurd (cc)
+
+-- behind a row that is not before the cut none is
+pub none_past : (from to : Cut) (passes : Row → Bool) (e : Row × Bool) (rest : Known) → Ascends row_cmp (keys_of (e ∷ rest)) → is_before to e.0 ≡ false
+    → filter (λ (x : Row × Bool). is_before to x.0 && (x.1 && passes x.0)) (e ∷ rest) ≡ []
+none_past from to passes e rest a h = ap (λ b. cond (b && (e.1 && passes e.0)) (e ∷ filter p rest) (filter p rest)) h ∙ empty rest (λ x i. later x (before_in row_cmp e.0 x.0 (keys_of rest) a.0 (in_map (λ (y : Row × Bool). y.0) x rest i)))
+  where
+    p : Row × Bool → Bool
+    p x = is_before to x.0 && (x.1 && passes x.0)
+
+    later : (x : Row × Bool) → row_cmp e.0 x.0 ≡ Less → is_before to x.0 ≡ false
+    later x l = elim (known_or_not (is_before to x.0)) [ inl k ↦ absurd (never (is_before to e.0) (before_less to e.0 x.0 l k) h) | inr k ↦ k ]
+
+    empty : (es : Known) → ((x : Row × Bool) → In x es → is_before to x.0 ≡ false) → filter p es ≡ []
+    empty [] f = refl
+    empty (x ∷ es) f = ap (λ b. cond (b && (x.1 && passes x.0)) (x ∷ filter p es) (filter p es)) (f x (inl refl)) ∙ empty es (λ y i. f y (inr i))
+
+-- ---- change by change
+
+module _ (old new : Known) (stored now : Relation) (leads : LeadsTo old stored now) where
+  abbrev was : Row → Bool
+  was row = is_there old stored row
+
+  pub inserted : (row : Row) → Ascends row_cmp now → ((q : Row) → find q new ≡ cond (is_eq (row_cmp row q)) (Some true) (find q old)) → LeadsTo new stored (put_in row_cmp row now)
+  inserted row a h = λ q. one_truth (has row_cmp q (put_in row_cmp row now)) (is_there new stored q) (there q) (back q)
+    where
+      is_new : (q : Row) → is_there new stored q ≡ unwrap_or (cond (is_eq (row_cmp row q)) (Some true) (find q old)) (has row_cmp q stored)
+      is_new q = ap (λ (o : Option Bool). unwrap_or o (has row_cmp q stored)) (h q)
+
+      there : (q : Row) → has row_cmp q (put_in row_cmp row now) ≡ true → is_there new stored q ≡ true
+      there q e = is_new q ∙ step (is_eq (row_cmp row q)) refl (put_back row_cmp row_exact row q now (has_in row_cmp row_exact q (put_in row_cmp row now) e))
+        where
+          step : (b : Bool) → is_eq (row_cmp row q) ≡ b → In q (row ∷ now) → unwrap_or (cond b (Some true) (find q old)) (has row_cmp q stored) ≡ true
+          step true f i = refl
+          step false f (inl k) = absurd (never (is_eq (row_cmp row q)) (ap (λ (r : Row). is_eq (row_cmp row r)) (sym k) ∙ ap is_eq (cmp_itself row_cmp row_exact row)) f)
+          step false f (inr i) = sym (leads q) ∙ in_has row_cmp row_exact q now i
+
+      back : (q : Row) → is_there new stored q ≡ true → has row_cmp q (put_in row_cmp row now) ≡ true
+      back q e = in_has row_cmp row_exact q (put_in row_cmp row now) (subst (In q) (sym (put_is_set row now a)) (in_set row_cmp row_exact q (row ∷ now) (step (row_cmp row q) refl (sym (is_new q) ∙ e))))
+        where
+          step : (o : Ordering) → row_cmp row q ≡ o → unwrap_or (cond (is_eq o) (Some true) (find q old)) (has row_cmp q stored) ≡ true → In q (row ∷ now)
+          step Less f k = inr (has_in row_cmp row_exact q now (leads q ∙ k))
+          step Equal f k = inl (row_exact.same row q f)
+          step Greater f k = inr (has_in row_cmp row_exact q now (leads q ∙ k))
+
+  module _ (passes : Row → Bool) (hits : List Row) (are : AreHits passes now hits) where
+    deleted_row : (q : Row) → (b : Bool) → has row_cmp q hits ≡ b → has row_cmp q (filter (λ row. not (passes row)) now) ≡ unwrap_or (cond b (Some false) (find q old)) (has row_cmp q stored)
+    deleted_row q true e = not_in q (filter (λ row. not (passes row)) now) (λ m.
+        let f = from_filter (λ row. not (passes row)) q now m in
+        never (passes q) (are.only q (has_in row_cmp row_exact q hits e)).1 (not_true (passes q) f.1))
+    deleted_row q false e = one_truth (has row_cmp q (filter (λ row. not (passes row)) now)) (was q)
+        (λ m. sym (leads q) ∙ in_has row_cmp row_exact q now (from_filter (λ row. not (passes row)) q now (has_in row_cmp row_exact q (filter (λ row. not (passes row)) now) m)).0)
+        (λ m.
+        let i = has_in row_cmp row_exact q now (leads q ∙ m) in
+        in_has row_cmp row_exact q (filter (λ row. not (passes row)) now)
+        (in_filter (λ row. not (passes row)) q now i (not_of (passes q)
+        (elim (known_or_not (passes q)) [ inl p ↦ absurd (never (has row_cmp q hits) (in_has row_cmp row_exact q hits (are.all q i p)) e) | inr p ↦ p ]))))
+
+    pub deleted : ((q : Row) → find q new ≡ cond (has row_cmp q hits) (Some false) (find q old)) → LeadsTo new stored (filter (λ row. not (passes row)) now)
+    deleted h = λ q. deleted_row q (has row_cmp q hits) refl ∙ sym (ap (λ (o : Option Bool). unwrap_or o (has row_cmp q stored)) (h q))
+
+    module _ (f : Row → Row) where
+      abbrev made : Row → Row
+      made row = if passes row then f row else row
+
+      image_in : (q : Row) → In q (map f hits) → In q (map made now)
+      image_in q m =
+          let g = from_map f q hits m in
+          let h = are.only g.0 g.1 in
+          subst (λ (r : Row). In r (map made now)) (ap (λ b. if b then f g.0 else g.0) h.1 ∙ g.2) (in_map made g.0 now h.0)
+
+      stays_in : (q : Row) → In q now → has row_cmp q hits ≡ false → In q (map made now)
+      stays_in q i e = step (passes q) refl
+        where
+          step : (b : Bool) → passes q ≡ b → In q (map made now)
+          step true p = absurd (never (has row_cmp q hits) (in_has row_cmp row_exact q hits (are.all q i p)) e)
+          step false p = subst (λ (r : Row). In r (map made now)) (ap (λ b. if b then f q else q) p) (in_map made q now i)
+
+      from_made : (q : Row) → In q (map made now) → In q (map f hits) ⊎ (In q now × (has row_cmp q hits ≡ false))
+      from_made q m = let g = from_map made q now m in step g.0 g.1 g.2 (passes g.0) refl
+        where
+          step : (x : Row) → In x now → made x ≡ q → (b : Bool) → passes x ≡ b → In q (map f hits) ⊎ (In q now × (has row_cmp q hits ≡ false))
+          step x i e true p = inl (subst (λ (r : Row). In r (map f hits)) (sym (ap (λ b. if b then f x else x) p) ∙ e) (in_map f x hits (are.all x i p)))
+          step x i e false p =
+              let same : x ≡ q = sym (ap (λ b. if b then f x else x) p) ∙ e in
+              inr (subst (λ (r : Row). In r now × (has row_cmp r hits ≡ false)) same (i, not_in x hits (λ m. never (passes x) (are.only x m).1 p)))
+
+      updated_row : (q : Row) → (b : Bool) → has row_cmp q (map f hits) ≡ b → (d : Bool) → has row_cmp q hits ≡ d
+          → has row_cmp q (set_of row_cmp (map made now)) ≡ unwrap_or (cond b (Some true) (cond d (Some false) (find q old))) (has row_cmp q stored)
+      updated_row q true e d g = in_has row_cmp row_exact q (set_of row_cmp (map made now)) (in_set row_cmp row_exact q (map made now) (image_in q (has_in row_cmp row_exact q (map f hits) e)))
+      updated_row q false e true g = not_in q (set_of row_cmp (map made now)) (λ m. elim (from_made q (from_set row_cmp row_exact q (map made now) m)) [
+        | inl i ↦ never (has row_cmp q (map f hits)) (in_has row_cmp row_exact q (map f hits) i) e
+        | inr i ↦ never (has row_cmp q hits) g i.1
+      ])
+      updated_row q false e false g = one_truth (has row_cmp q (set_of row_cmp (map made now))) (was q) (λ m. there (from_made q (from_set row_cmp row_exact q (map made now) (has_in row_cmp row_exact q (set_of row_cmp (map made now)) m))))
+          (λ m. in_has row_cmp row_exact q (set_of row_cmp (map made now)) (in_set row_cmp row_exact q (map made now) (stays_in q (has_in row_cmp row_exact q now (leads q ∙ m)) g)))
+        where
+          there : In q (map f hits) ⊎ (In q now × (has row_cmp q hits ≡ false)) → was q ≡ true
+          there (inl i) = absurd (never (has row_cmp q (map f hits)) (in_has row_cmp row_exact q (map f hits) i) e)
+          there (inr i) = sym (leads q) ∙ in_has row_cmp row_exact q now i.0
+
+      pub updated : (mid : Known) → ((q : Row) → find q mid ≡ cond (has row_cmp q hits) (Some false) (find q old)) → ((q : Row) → find q new ≡ cond (has row_cmp q (map f hits)) (Some true) (find q mid))
+          → LeadsTo new stored (set_of row_cmp (map made now))
+      updated mid g h = λ q. updated_row q (has row_cmp q (map f hits)) refl (has row_cmp q hits) refl
+          ∙ sym (ap (λ (o : Option Bool). unwrap_or o (has row_cmp q stored)) (h q ∙ ap (λ (o : Option Bool). cond (has row_cmp q (map f hits)) (Some true) o) (g q)))
+
+-- ---- what is lost and gained in the end
+
+module _ (known : Known) (stored now : Relation) (ordered : Ascends row_cmp (keys_of known)) (there : Ascends row_cmp stored) (ascends : Ascends row_cmp now) (leads : LeadsTo known stored now) where
+  abbrev is_lost : Row × Bool → Bool
+  is_lost e = not e.1 && has row_cmp e.0 stored
+
+  abbrev is_gained : Row × Bool → Bool
+  is_gained e = e.1 && not (has row_cmp e.0 stored)
+
+  abbrev lost : Relation
+  lost = lost_by_now known stored
+
+  abbrev gained : Relation
+  gained = gained_by_now known stored
+
+  says : (row : Row) (b : Bool) → In (row, b) known → has row_cmp row now ≡ b
+  says row b i = leads row ∙ ap (λ (o : Option Bool). unwrap_or o (has row_cmp row stored)) (in_found known row b ordered i)
+
+  pub lost_was : (row : Row) → In row lost → In row stored × (has row_cmp row now ≡ false)
+  lost_was row m =
+      let f = picked_is is_lost known row m in
+      let g = both (not f.0) (has row_cmp row stored) f.2 in
+      (has_in row_cmp row_exact row stored g.1, says row f.0 f.1 ∙ not_true f.0 g.0)
+
+  pub gained_is : (row : Row) → In row gained → In row now × (has row_cmp row stored ≡ false)
+  gained_is row m =
+      let f = picked_is is_gained known row m in
+      let g = both f.0 (not (has row_cmp row stored)) f.2 in
+      (has_in row_cmp row_exact row now (says row f.0 f.1 ∙ g.0), not_true (has row_cmp row stored) g.1)
+
+  in_lost : (row : Row) → In row stored → has row_cmp row now ≡ false → In row lost
+  in_lost row i e = step (find row known) refl (sym (leads row) ∙ e)
+    where
+      step : (o : Option Bool) → find row known ≡ o → unwrap_or o (has row_cmp row stored) ≡ false → In row lost
+      step None f k = absurd (never (has row_cmp row stored) (in_has row_cmp row_exact row stored i) k)
+      step (Some true) f k = absurd (cc)
+      step (Some false) f k = is_picked is_lost known row false (found_in known row false f) (in_has row_cmp row_exact row stored i)
+
+  in_gained : (row : Row) → In row now → has row_cmp row stored ≡ false → In row gained
+  in_gained row i e = step (find row known) refl (sym (leads row) ∙ in_has row_cmp row_exact row now i)
+    where
+      step : (o : Option Bool) → find row known ≡ o → unwrap_or o (has row_cmp row stored) ≡ true → In row gained
+      step None f k = absurd (never (has row_cmp row stored) k e)
+      step (Some true) f k = is_picked is_gained known row true (found_in known row true f) (not_of (has row_cmp row stored) e)
+      step (Some false) f k = absurd (cc)
+
+  pub lost_ascends : Ascends row_cmp lost
+  lost_ascends = picked is_lost known ordered
+
+  pub gained_ascends : Ascends row_cmp gained
+  gained_ascends = picked is_gained known ordered
+
+  pub lost_are : lost ≡ gained_rows now stored
+  lost_are = one_list row_cmp row_exact lost (gained_rows now stored) lost_ascends (filter_ascends (λ row. not (has row_cmp row now)) stored there) (record {
+    there = λ row m. let h = lost_was row m in in_filter (λ r. not (has row_cmp r now)) row stored h.0 (not_of (has row_cmp row now) h.1);
+    back = λ row m. let h = from_filter (λ r. not (has row_cmp r now)) row stored m in in_lost row h.0 (not_true (has row_cmp row now) h.1);
+  })
+
+  pub gained_are : gained ≡ gained_rows stored now
+  gained_are = one_list row_cmp row_exact gained (gained_rows stored now) gained_ascends (filter_ascends (λ row. not (has row_cmp row stored)) now ascends) (record {
+    there = λ row m. let h = gained_is row m in in_filter (λ r. not (has row_cmp r stored)) row now h.0 (not_of (has row_cmp row stored) h.1);
+    back = λ row m. let h = from_filter (λ r. not (has row_cmp r stored)) row now m in in_gained row h.0 (not_true (has row_cmp row stored) h.1);
+  })

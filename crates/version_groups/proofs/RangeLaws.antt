@@ -1,0 +1,160 @@
+-- A row that meets a condition is between the condition's cuts.
+use Rattle.std.proofs.Common.{◌≡◌, ℕ, suc, ◌+◌, ◌<◌, ◌≤◌, Bool, true, false, cond, List, [], ◌∷◌, ◌++◌, length, map, take, drop, get_or, refl, sym, ap, ◌∙◌, subst, arith, append_assoc}
+use Rattle.std.specs.Prelude.{not, Option, Some, None, ⊤, if◌then◌else◌}
+use Rattle.std.proofs.lemmas.List.{length-map, drop_more}
+use Rattle.std.specs.declared.cmp.Ordering.{Ordering}
+use Rattle.std.specs.declared.cmp.Ordering.TheVariants.{Less, Equal, Greater}
+use Rattle.std.specs.Ordering.{is_eq, is_lt, is_gt, is_le, ordering_then}
+use Rattle.prima_base.specs.declared.values.Value.{Value}
+use Rattle.prima_base.specs.Order.{value_cmp, row_cmp}
+use Rattle.prima_base.specs.Columns.{Column, AreColumns, IsRow}
+use Rattle.schema_catalog.specs.Databases.{cell}
+use Rattle.schema_catalog.proofs.Cells.{cells_again}
+use Rattle.cond_expr.specs.declared.exprs.Whose.TheVariants.{Atom}
+use Rattle.cond_expr.specs.declared.exprs.CmpOp.{CmpOp}
+use Rattle.cond_expr.specs.declared.exprs.CmpOp.TheVariants.{Eq, Lt, Le, Gt, Ge}
+use Rattle.cond_expr.specs.declared.exprs.Column.{Column as AtomColumn}
+use Rattle.cond_expr.specs.AtomColumns.{columns_at}
+use Rattle.cond_expr.specs.Trees.{Test}
+use Rattle.cond_expr.specs.Values.{Cells, truth, agrees}
+use Rattle.cond_expr.specs.PinnedParts.{pinned}
+use Rattle.cond_expr.proofs.PinnedLaws.{pinned_holds}
+use Rattle.history_store.specs.Cuts.{Cut, is_before}
+use Rattle.smo_meaning.specs.OneRow.{own_cells, meets}
+use Rattle.version_groups.specs.Ranges.{cut_at, with_lead, led_by, bounded, low_cut, high_cut}
+
+-- the columns hold the row's values
+abbrev Shows : Cells → List AtomColumn → List Value → Type 0
+Shows at [] [] = ⊤
+Shows at [] (v ∷ row) = ⊥
+Shows at (c ∷ columns) [] = ⊥
+Shows at (c ∷ columns) (v ∷ row) = (at (Atom c.atom) c.name ≡ v) × Shows at columns row
+
+is_equal : (o : Ordering) → agrees Eq o ≡ true → o ≡ Equal
+is_equal Less e = absurd (cc)
+is_equal Equal e = refl
+is_equal Greater e = absurd (cc)
+
+-- the first value is that of the cut
+led : (x : Value) (k : Cut) (v : Value) (row : List Value) → value_cmp v x ≡ Equal → is_before (with_lead (x ∷ []) k) (v ∷ row) ≡ is_before k row
+led x k v row e =
+    ap (λ o. if k.behind then is_le (ordering_then o (row_cmp (take (length k.values) row) k.values)) else is_lt (ordering_then o (row_cmp (take (length k.values) row) k.values))) e
+
+-- cuts of one value
+above : (o : Ordering) → agrees Gt o ≡ true → is_le (ordering_then o Equal) ≡ false
+above Less e = absurd (cc)
+above Equal e = absurd (cc)
+above Greater e = refl
+
+from_it : (o : Ordering) → agrees Ge o ≡ true → is_lt (ordering_then o Equal) ≡ false
+from_it Less e = absurd (cc)
+from_it Equal e = refl
+from_it Greater e = refl
+
+below : (o : Ordering) → agrees Lt o ≡ true → is_lt (ordering_then o Equal) ≡ true
+below Less e = refl
+below Equal e = absurd (cc)
+below Greater e = absurd (cc)
+
+up_to_it : (o : Ordering) → agrees Le o ≡ true → is_le (ordering_then o Equal) ≡ true
+up_to_it Less e = refl
+up_to_it Equal e = refl
+up_to_it Greater e = absurd (cc)
+
+module _ (at : Cells) (t : Test) (met : truth at t ≡ true) where
+  compares : (o : CmpOp) (c : AtomColumn) (x v : Value) → pinned o c t ≡ Some x → at (Atom c.atom) c.name ≡ v → agrees o (value_cmp v x) ≡ true
+  compares o c x v e h = subst (λ y. agrees o (value_cmp y x) ≡ true) h (pinned_holds at o c t x met e)
+
+  low_end : (c : AtomColumn) (v : Value) (row : List Value) → at (Atom c.atom) c.name ≡ v → is_before (bounded (pinned Gt c t) true (pinned Ge c t) false false) (v ∷ row) ≡ false
+  low_end c v row h = strict (pinned Gt c t) refl
+    where
+      loose : (o : Option Value) → pinned Ge c t ≡ o → is_before (bounded None true o false false) (v ∷ row) ≡ false
+      loose None e = refl
+      loose (Some x) e = from_it (value_cmp v x) (compares Ge c x v e h)
+
+      strict : (o : Option Value) → pinned Gt c t ≡ o → is_before (bounded o true (pinned Ge c t) false false) (v ∷ row) ≡ false
+      strict None e = loose (pinned Ge c t) refl
+      strict (Some x) e = above (value_cmp v x) (compares Gt c x v e h)
+
+  high_end : (c : AtomColumn) (v : Value) (row : List Value) → at (Atom c.atom) c.name ≡ v → is_before (bounded (pinned Lt c t) false (pinned Le c t) true true) (v ∷ row) ≡ true
+  high_end c v row h = strict (pinned Lt c t) refl
+    where
+      loose : (o : Option Value) → pinned Le c t ≡ o → is_before (bounded None false o true true) (v ∷ row) ≡ true
+      loose None e = refl
+      loose (Some x) e = up_to_it (value_cmp v x) (compares Le c x v e h)
+
+      strict : (o : Option Value) → pinned Lt c t ≡ o → is_before (bounded o false (pinned Le c t) true true) (v ∷ row) ≡ true
+      strict None e = loose (pinned Le c t) refl
+      strict (Some x) e = below (value_cmp v x) (compares Lt c x v e h)
+
+  not_below : (columns : List AtomColumn) (row : List Value) → Shows at columns row → is_before (low_cut columns t) row ≡ false
+  not_below [] [] s = refl
+  not_below [] (v ∷ row) s = absurd s
+  not_below (c ∷ columns) [] s = absurd s
+  not_below (c ∷ columns) (v ∷ row) s = step (pinned Eq c t) refl (not_below columns row s.1)
+    where
+      step : (o : Option Value) → pinned Eq c t ≡ o → is_before (low_cut columns t) row ≡ false
+          → is_before (led_by o (low_cut columns t) (bounded (pinned Gt c t) true (pinned Ge c t) false false)) (v ∷ row) ≡ false
+      step None e r = low_end c v row s.0
+      step (Some x) e r = led x (low_cut columns t) v row (is_equal (value_cmp v x) (compares Eq c x v e s.0)) ∙ r
+
+  not_above : (columns : List AtomColumn) (row : List Value) → Shows at columns row → is_before (high_cut columns t) row ≡ true
+  not_above [] [] s = refl
+  not_above [] (v ∷ row) s = absurd s
+  not_above (c ∷ columns) [] s = absurd s
+  not_above (c ∷ columns) (v ∷ row) s = step (pinned Eq c t) refl (not_above columns row s.1)
+    where
+      step : (o : Option Value) → pinned Eq c t ≡ o → is_before (high_cut columns t) row ≡ true
+          → is_before (led_by o (high_cut columns t) (bounded (pinned Lt c t) false (pinned Le c t) true true)) (v ∷ row) ≡ true
+      step None e r = high_end c v row s.0
+      step (Some x) e r = led x (high_cut columns t) v row (is_equal (value_cmp v x) (compares Eq c x v e s.0)) ∙ r
+
+-- the columns of a table hold a row's values
+shown_in : (at : Cells) (f : List ℕ → Value) (columns : List Column) (row : List Value) → ((n : List ℕ) → at (Atom 0) n ≡ f n) → map (λ (c : Column). f c.0) columns ≡ row → Shows at (columns_at 0 columns) row
+shown_in at f [] [] h e = tt
+shown_in at f [] (v ∷ row) h e = absurd (cc)
+shown_in at f (c ∷ columns) [] h e = absurd (cc)
+shown_in at f (c ∷ columns) (v ∷ row) h e = (let first : f c.0 ≡ v = cc in h c.0 ∙ first, let rest : map (λ (d : Column). f d.0) columns ≡ row = cc in shown_in at f columns row h rest)
+
+module _ (columns : List Column) (t : Test) (row : List Value) (a : AreColumns columns) (r : IsRow columns row) (m : meets columns t row ≡ true) where
+  its_values : Shows (own_cells columns row) (columns_at 0 columns) row
+  its_values = shown_in (own_cells columns row) (cell columns row) columns row (λ n. refl) (cells_again columns row a r)
+
+  pub hit_not_below : is_before (low_cut (columns_at 0 columns) t) row ≡ false
+  hit_not_below = not_below (own_cells columns row) t m (columns_at 0 columns) row its_values
+
+  pub hit_not_above : is_before (high_cut (columns_at 0 columns) t) row ≡ true
+  hit_not_above = not_above (own_cells columns row) t m (columns_at 0 columns) row its_values
+
+-- ---- no more values than columns
+
+few_bounded : (o : Option Value) (s : Bool) (w : Option Value) (l n : Bool) → length (bounded o s w l n).values ≤ 1
+few_bounded (Some v) s w l n = omega arith
+few_bounded None s (Some w) l n = omega arith
+few_bounded None s None l n = omega arith
+
+few_led : (o : Option Value) (later here : Cut) (n : ℕ) → length later.values ≤ n → length here.values ≤ 1 → length (led_by o later here).values ≤ suc n
+few_led None later here n l h = omega (arith, h)
+few_led (Some v) later here n l h = omega (arith, l)
+
+low_few : (columns : List AtomColumn) (t : Test) → length (low_cut columns t).values ≤ length columns
+low_few [] t = omega arith
+low_few (c ∷ columns) t = few_led (pinned Eq c t) (low_cut columns t) (bounded (pinned Gt c t) true (pinned Ge c t) false false) (length columns) (low_few columns t) (few_bounded (pinned Gt c t) true (pinned Ge c t) false false)
+
+high_few : (columns : List AtomColumn) (t : Test) → length (high_cut columns t).values ≤ length columns
+high_few [] t = omega arith
+high_few (c ∷ columns) t = few_led (pinned Eq c t) (high_cut columns t) (bounded (pinned Lt c t) false (pinned Le c t) true true) (length columns) (high_few columns t) (few_bounded (pinned Lt c t) false (pinned Le c t) true true)
+
+pub low_narrow : (columns : List Column) (t : Test) → length (low_cut (columns_at 0 columns) t).values ≤ length columns
+low_narrow columns t = subst (λ n. length (low_cut (columns_at 0 columns) t).values ≤ n) (length-map columns (λ (c : Column). record { atom = 0; name = c.0; kind = c.1 })) (low_few (columns_at 0 columns) t)
+
+pub high_narrow : (columns : List Column) (t : Test) → length (high_cut (columns_at 0 columns) t).values ≤ length columns
+high_narrow columns t = subst (λ n. length (high_cut (columns_at 0 columns) t).values ≤ n) (length-map columns (λ (c : Column). record { atom = 0; name = c.0; kind = c.1 })) (high_few (columns_at 0 columns) t)
+
+-- ---- column by column
+
+pub lead_more : (values : List Value) (x : Value) (k : Cut) → with_lead values (with_lead (x ∷ []) k) ≡ with_lead (values ++ x ∷ []) k
+lead_more values x k = ap (λ vs. cut_at vs k.behind) (sym (append_assoc values (x ∷ []) k.values))
+
+pub column_here : (columns : List AtomColumn) (i : ℕ) (c : AtomColumn) → i < length columns → c ≡ get_or columns i c → drop i columns ≡ c ∷ drop (i + 1) columns
+column_here columns i c h is = drop_more columns i c h ∙ ap (λ (x : AtomColumn). x ∷ drop (i + 1) columns) (sym is)

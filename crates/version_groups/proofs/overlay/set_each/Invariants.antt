@@ -1,0 +1,14 @@
+use Rattle.std.proofs.Common.{◌≡◌, ◌++◌, cond, Some}
+use Rattle.std.specs.Map.{lookup}
+use Rattle.std.specs.BTreeMap.{is_at}
+use Rattle.std.specs.Vec.Iter.{into_iter_items}
+use Rattle.relations.specs.Sets.{has}
+use Rattle.prima_base.specs.Order.{row_cmp}
+use Rattle.smo_meaning.specs.OneRow.{Row}
+use Rattle.version_groups.proofs.overlay.set_each.Given as goal
+
+abbrev pub invariant-loop-row : goal.invariant-loop-row
+invariant-loop-row l = record {
+  left : l.fn.rows.items ≡ l.yielded ++ into_iter_items l.row-iterator;
+  put : (row : Row) → lookup (is_at (row_cmp row)) l.overlay.entries ≡ cond (has row_cmp row l.yielded) (Some l.there) (lookup (is_at (row_cmp row)) l.fn.overlay.entries);
+}

@@ -1,0 +1,340 @@
+//! What the changes of a command make of one table, row by row over the rows that are stored.
+//!
+//! Of each row that a change comes to, a map keeps whether the table has it now; what is not in the map is as it is
+//! stored. So a change costs what it comes to, whatever the table holds: an INSERT one row, and an UPDATE or DELETE the
+//! rows between two cuts, of those that are stored and of those in the map. Stored rows are lent while they are tested.
+
+ghost use Rattle.std.specs.Prelude.{◌≡◌, ◌≤◌, ◌+◌, ◌<◌, ◌++◌, ◌&&◌, ℕ, List, [], ◌∷◌, map, cond, length, Some, Bool, IfOk, OnOk, if◌then◌else◌};
+ghost use Rattle.std.specs.List.{filter};
+ghost use Rattle.std.specs.Map.{lookup, keys_of};
+ghost use Rattle.std.specs.List.Sorted.{IsStrictlySortedBy};
+ghost use Rattle.std.specs.BTreeMap.{is_at};
+ghost use Rattle.relations.specs.Sets.{In, has};
+ghost use Rattle.relations.specs.Spans.{forever};
+ghost use Rattle.prima_base.specs.Order.{row_cmp, shown};
+ghost use Rattle.prima_base.specs.Columns.{AreColumns, IsRow, IsRelation};
+ghost use Rattle.prima_base.specs.declared.values.Value.{Value as OneValue};
+ghost use Rattle.cond_expr.specs.Rows.{AreLawful};
+ghost use Rattle.cond_expr.specs.Seen.{test};
+ghost use Rattle.history_store.specs.Store.{AllBefore, relation_at};
+ghost use Rattle.history_store.specs.Cuts.{is_before, between};
+ghost use Rattle.smo_types.specs.Changes.{change_of, changes_of, sets_of};
+ghost use Rattle.smo_meaning.specs.OneRow.{Relation, meets, with_sets};
+ghost use Rattle.smo_meaning.specs.Effects.{relation_after, gained_rows};
+ghost use Rattle.smo_meaning.specs.Inserting.{relation_after_each};
+ghost use Rattle.version_groups.specs.Changing.{of_table, AreAccepted};
+ghost use Rattle.version_groups.specs.Overlay.{is_kept, known_hits, LeadsTo, AreHits, lost_by_now, gained_by_now};
+
+use crate::made_tables::same_name;
+use crate::ranges::{high_cut, hits_are_between_the_cuts, low_cut};
+use cond_expr::{Cond, Expr, lend_row};
+use history_store::{Cut, LentRows, StoredTable};
+use prima_base::{ColType, Name, NoMemory, Row, Val, Value};
+use smo_ops::{Change, OwnColumns, inserted_row, row_meets, row_with_sets};
+use std::alloc::Global;
+use std::collections::BTreeMap;
+
+// Whether no change has lost the row.
+fn is_kept(overlay: &BTreeMap<Row, bool>, row: &Row) -> bool
+    ensures { result ≡ is_kept overlay.now.entries row.now }
+{
+    match overlay.get(row) {
+        Some(there) => *there,
+        None => true,
+    }
+}
+
+// The row that is lent.
+fn owned_row(alloc: Global, values: &[Val<'_>]) -> Result<Row, NoMemory>
+    requires { AreLawful values.now }
+    ensures { IfOk result (λ row. row ≡ map shown values.now) }
+{
+    let mut owned = Vec::with_capacity(alloc, values.len())?;
+    for value in values {
+        owned.push(value.copy()?.into_value(alloc)?)?;
+    }
+    Ok(Row::new(alloc, owned))
+}
+
+// Puts a copy of the stored row behind the hits where it meets the condition and no change has lost it.
+fn put_stored(
+    alloc: Global,
+    overlay: &BTreeMap<Row, bool>,
+    own: &OwnColumns<'_>,
+    cond: &Cond,
+    values: &[Val<'_>],
+    hits: &mut Vec<Row>,
+) -> Result<(), NoMemory>
+    requires { AreLawful values.now }
+    ensures { OnOk result (hits.new.items ≡ hits.old.items ++ (if meets own.now (test cond.now) (map shown values.now) && is_kept overlay.now.entries (map shown values.now) then map shown values.now ∷ [] else [])) }
+{
+    if !row_meets(alloc, own, cond, values)? {
+        return Ok(());
+    }
+    let row = owned_row(alloc, values)?;
+    if !is_kept(overlay, &row) {
+        return Ok(());
+    }
+    hits.push(row)?;
+    Ok(())
+}
+
+// Copies of those of the stored rows that meet the condition and that no change has lost.
+fn stored_hits(
+    alloc: Global,
+    rows: &LentRows<'_>,
+    overlay: &BTreeMap<Row, bool>,
+    own: &OwnColumns<'_>,
+    cond: &Cond,
+) -> Result<Vec<Row>, NoMemory>
+    ensures { IfOk result (λ v. v.items ≡ filter (λ row. meets own.now (test cond.now) row && is_kept overlay.now.entries row) rows.now) }
+{
+    let mut values = Vec::with_capacity(alloc, own.columns().len())?;
+    let mut hits = Vec::new(alloc);
+    for at in 0..rows.len() {
+        rows.lend(at, &mut values)?;
+        put_stored(alloc, overlay, own, cond, &values, &mut hits)?;
+    }
+    Ok(hits)
+}
+
+// Puts a copy of the row behind the hits where the table has it now and it meets the condition.
+fn put_known(
+    alloc: Global,
+    own: &OwnColumns<'_>,
+    cond: &Cond,
+    row: &Row,
+    there: bool,
+    hits: &mut Vec<Row>,
+) -> Result<(), NoMemory>
+    ensures { OnOk result (hits.new.items ≡ hits.old.items ++ (if there && meets own.now (test cond.now) row.now then row.now ∷ [] else [])) }
+{
+    if !there {
+        return Ok(());
+    }
+    let values = lend_row(alloc, row.values())?;
+    if !row_meets(alloc, own, cond, &values)? {
+        return Ok(());
+    }
+    hits.push(row.copy()?)?;
+    Ok(())
+}
+
+// A row of these values.
+fn row_of(alloc: Global, values: &[Value]) -> Result<Row, NoMemory>
+    ensures { IfOk result (λ row. row ≡ values.now) }
+{
+    let mut copies = Vec::with_capacity(alloc, values.len())?;
+    for value in values {
+        copies.push(value.copy()?)?;
+    }
+    Ok(Row::new(alloc, copies))
+}
+
+// Puts copies of the rows in the map, from the first cut on and before the other, behind the hits where the table has
+// them now and they meet the condition.
+fn put_all_known(
+    alloc: Global,
+    overlay: &BTreeMap<Row, bool>,
+    own: &OwnColumns<'_>,
+    cond: &Cond,
+    from: &Cut,
+    to: &Cut,
+    hits: &mut Vec<Row>,
+) -> Result<(), NoMemory>
+    ensures { OnOk result (hits.new.items ≡ hits.old.items ++ known_hits from.now to.now (meets own.now (test cond.now)) overlay.now.entries) }
+{
+    let first = row_of(alloc, from.values())?;
+    for (row, there) in overlay.range(first..) {
+        if !to.has_before(row) {
+            return Ok(());
+        }
+        put_known(alloc, own, cond, row, *there, hits)?;
+    }
+    Ok(())
+}
+
+// The rows that the table has now and that meet the condition, in any order.
+fn find_hits(
+    alloc: Global,
+    store: &StoredTable,
+    overlay: &BTreeMap<Row, bool>,
+    own: &OwnColumns<'_>,
+    cond: &Cond,
+) -> Result<Vec<Row>, NoMemory>
+    requires columns { AreColumns own.now }
+    requires same { store.now.columns ≡ own.now }
+    ensures { (m : ℕ) (now : Relation) → m < forever → AllBefore store.now (m + 1) → IsRelation own.now now → LeadsTo overlay.now.entries (relation_at store.now m) now
+        → IfOk result (λ v. AreHits (meets own.now (test cond.now)) now v.items) }
+{
+    hits_are_between_the_cuts();
+    let from = low_cut(alloc, cond, own.atoms())?;
+    let to = high_cut(alloc, cond, own.atoms())?;
+    let rows = store.between(&from, &to);
+    let known = overlay.len();
+    let mut hits = stored_hits(alloc, &rows, overlay, own, cond)?;
+    put_all_known(alloc, overlay, own, cond, &from, &to, &mut hits)?;
+    Ok(hits)
+}
+
+// The table has these rows now, or has them no more.
+fn set_each(overlay: &mut BTreeMap<Row, bool>, rows: Vec<Row>, there: bool) -> Result<(), NoMemory>
+    ensures { OnOk result ((row : List OneValue) → lookup (is_at (row_cmp row)) overlay.new.entries ≡ cond (has row_cmp row rows.items) (Some there) (lookup (is_at (row_cmp row)) overlay.old.entries)) }
+{
+    for row in rows {
+        overlay.insert(row, there)?;
+    }
+    Ok(())
+}
+
+// What the rows are updated to.
+fn images(
+    alloc: Global,
+    own: &OwnColumns<'_>,
+    sets: &[(Name, Expr)],
+    rows: &[Row],
+) -> Result<Vec<Row>, NoMemory>
+    requires { AreColumns own.now }
+    ensures { ((row : List OneValue) → In row rows.now → IsRow own.now row) → IfOk result (λ v. v.items ≡ map (with_sets own.now (sets_of sets.now)) rows.now) }
+{
+    let mut images = Vec::with_capacity(alloc, rows.len())?;
+    for row in rows {
+        images.push(row_with_sets(alloc, own, sets, row)?)?;
+    }
+    Ok(images)
+}
+
+// Carries out the change over what those before it have made.
+fn apply(
+    alloc: Global,
+    store: &StoredTable,
+    overlay: &mut BTreeMap<Row, bool>,
+    own: &OwnColumns<'_>,
+    change: &Change,
+) -> Result<(), NoMemory>
+    requires columns { AreColumns own.now }
+    requires same { store.now.columns ≡ own.now }
+    ensures { (m : ℕ) (now : Relation) → m < forever → AllBefore store.now (m + 1) → IsRelation own.now now → LeadsTo overlay.old.entries (relation_at store.now m) now
+        → OnOk result (LeadsTo overlay.new.entries (relation_at store.now m) (relation_after own.now (change_of change.now) now)) }
+{
+    match change {
+        Change::Insert { cells, .. } => {
+            overlay.insert(inserted_row(alloc, own.columns(), cells)?, true)?;
+            Ok(())
+        }
+        Change::Delete { cond, .. } => {
+            let lost = find_hits(alloc, store, overlay, own, cond)?;
+            set_each(overlay, lost, false)
+        }
+        Change::Update { sets, cond, .. } => {
+            let lost = find_hits(alloc, store, overlay, own, cond)?;
+            let gained = images(alloc, own, sets, &lost)?;
+            set_each(overlay, lost, false)?;
+            set_each(overlay, gained, true)
+        }
+    }
+}
+
+// The same where the change is of the table.
+fn apply_own(
+    alloc: Global,
+    store: &StoredTable,
+    overlay: &mut BTreeMap<Row, bool>,
+    own: &OwnColumns<'_>,
+    name: &Name,
+    change: &Change,
+) -> Result<(), NoMemory>
+    requires columns { AreColumns own.now }
+    requires same { store.now.columns ≡ own.now }
+    ensures { (m : ℕ) (now : Relation) → m < forever → AllBefore store.now (m + 1) → IsRelation own.now now → LeadsTo overlay.old.entries (relation_at store.now m) now
+        → OnOk result (LeadsTo overlay.new.entries (relation_at store.now m) (relation_after_each own.now (of_table name.now (change_of change.now ∷ [])) now)) }
+{
+    if !same_name(change.table(), name) {
+        return Ok(());
+    }
+    apply(alloc, store, overlay, own, change)
+}
+
+// What the table's changes, one after the other, make of its rows: of rows that they come to, whether the table has them
+// behind the changes.
+fn overlay_of(
+    alloc: Global,
+    store: &StoredTable,
+    own: &OwnColumns<'_>,
+    name: &Name,
+    changes: &[Change],
+) -> Result<BTreeMap<Row, bool>, NoMemory>
+    requires columns { AreColumns own.now }
+    requires same { store.now.columns ≡ own.now }
+    requires accepted { AreAccepted own.now (of_table name.now (changes_of changes.now)) }
+    ensures { (m : ℕ) → m < forever → AllBefore store.now (m + 1)
+        → IfOk result (λ o. LeadsTo o.entries (relation_at store.now m) (relation_after_each own.now (of_table name.now (changes_of changes.now)) (relation_at store.now m))) }
+{
+    store.rows_are_a_relation();
+    let mut overlay = BTreeMap::new(alloc);
+    for change in changes {
+        apply_own(alloc, store, &mut overlay, own, name, change)?;
+    }
+    Ok(overlay)
+}
+
+// Puts the row behind those that are gained, or behind those that are lost.
+fn put_row(
+    row: Row,
+    there: bool,
+    lost: &mut Vec<Row>,
+    gained: &mut Vec<Row>,
+) -> Result<(), NoMemory>
+    ensures lost { OnOk result (lost.new.items ≡ lost.old.items ++ (if there then [] else row ∷ [])) }
+    ensures gained { OnOk result (gained.new.items ≡ gained.old.items ++ (if there then row ∷ [] else [])) }
+{
+    if there {
+        gained.push(row)?;
+    } else {
+        lost.push(row)?;
+    }
+    Ok(())
+}
+
+// The rows of the map that are lost and those that are gained.
+fn lost_and_gained_by_now(
+    alloc: Global,
+    store: &StoredTable,
+    overlay: BTreeMap<Row, bool>,
+) -> Result<(Vec<Row>, Vec<Row>), NoMemory>
+    ensures lost { (m : ℕ) → m < forever → AllBefore store.now (m + 1) → IfOk result (λ (lost, _gained). lost.items ≡ lost_by_now overlay.entries (relation_at store.now m)) }
+    ensures gained { (m : ℕ) → m < forever → AllBefore store.now (m + 1) → IfOk result (λ (_lost, gained). gained.items ≡ gained_by_now overlay.entries (relation_at store.now m)) }
+    ensures ordered { IsStrictlySortedBy row_cmp (keys_of overlay.entries) }
+{
+    let mut lost = Vec::new(alloc);
+    let mut gained = Vec::new(alloc);
+    for (row, there) in overlay {
+        if there != store.holds(&row) {
+            put_row(row, there, &mut lost, &mut gained)?;
+        }
+    }
+    Ok((lost, gained))
+}
+
+/// The rows that the table loses by its changes, and those that it gains, each ascending. The one error is `NoMemory`,
+/// where memory runs out.
+pub(crate) fn lost_and_gained(
+    alloc: Global,
+    columns: &[(Name, ColType)],
+    name: &Name,
+    store: &StoredTable,
+    changes: &[Change],
+) -> Result<(Vec<Row>, Vec<Row>), NoMemory>
+    requires columns { AreColumns columns.now }
+    requires same { store.now.columns ≡ columns.now }
+    requires accepted { AreAccepted columns.now (of_table name.now (changes_of changes.now)) }
+    ensures lost { (m : ℕ) → m < forever → AllBefore store.now (m + 1) → IfOk result (λ (lost, _gained). lost.items
+        ≡ gained_rows (relation_after_each columns.now (of_table name.now (changes_of changes.now)) (relation_at store.now m)) (relation_at store.now m)) }
+    ensures gained { (m : ℕ) → m < forever → AllBefore store.now (m + 1) → IfOk result (λ (_lost, gained). gained.items
+        ≡ gained_rows (relation_at store.now m) (relation_after_each columns.now (of_table name.now (changes_of changes.now)) (relation_at store.now m))) }
+{
+    store.rows_are_a_relation();
+    let own = OwnColumns::new(alloc, columns)?;
+    let overlay = overlay_of(alloc, store, &own, name, changes)?;
+    lost_and_gained_by_now(alloc, store, overlay)
+}
