@@ -1,9 +1,10 @@
--- What an archive answers to a query, over all of history.
+-- What an archive answers to a query, over all of history, and tells of it.
 use Rattle.std.specs.Prelude.{◌≡◌, ℕ, ◌≤◌, List, [], ◌∷◌, ◌++◌, length, Option, Some, None, Bool, true, false, Result, Err, MatchResult, ⊤}
+use Rattle.std.specs.declared.vec.Vec.{Vec}
+use Rattle.std.specs.declared.alloc.Global.{Global}
 use Rattle.prima_base.specs.Timed.{entries_of}
 use Rattle.answer_text.specs.declared.listing.Listing.{Listing}
 use Rattle.schema_catalog.specs.Tables.{Tables}
-use Rattle.version_groups.specs.Groups.{Kept}
 use Rattle.piece_meaning.specs.Rules.{Book}
 use Rattle.smo_meaning.specs.Checks.{Fault}
 use Rattle.smo_meaning.specs.First.{first_refusal}
@@ -18,7 +19,9 @@ use Rattle.prima_base.specs.declared.refusals.Refusal.TheVariants.{NoInverse}
 use Rattle.temporal_lang.specs.Accepted.{fault_of_query, HasNoWayBack}
 use Rattle.temporal_lang.specs.Atoms.{with_atoms}
 use Rattle.temporal_lang.specs.Checking.{excess_of, query_tests}
-use Rattle.query_exec.specs.Reads.{query_read}
+use Rattle.piece_texts.specs.ExplainedPieces.{PlainExplained, all_explained}
+use Rattle.piece_texts.specs.declared.explained.Explained.{Explained}
+use Rattle.query_exec.specs.QueryPieces.{ArePieces}
 use Rattle.archive_state.specs.declared.faults.AskFault.{AskFault}
 use Rattle.archive_state.specs.declared.faults.AskFault.TheVariants.{Refused, NoMemory}
 
@@ -48,16 +51,27 @@ IsAsked past query result = MatchResult result (λ listing. IsListed past query 
 abbrev pub TellsWayBack : Past → PlainQuery → Result Listing AskFault → Type 0
 TellsWayBack past query result = (k : ℕ) → (kind : OpKind) → result ≡ Err (Refused (NoInverse k kind)) → HasNoWayBack past query k kind
 
--- ---- what is read
+-- ---- the pieces of a query
 
--- nothing where the query is refused
-abbrev pub reads_accepted : Fault → ℕ → ℕ
-reads_accepted None reads = reads
-reads_accepted (Some r) reads = 0
+-- none where it is refused
+abbrev pub IfAccepted : Fault → Type 0 → List PlainExplained → Type 0
+IfAccepted None are pieces = are
+IfAccepted (Some r) are pieces = pieces ≡ []
 
--- for each version of the slice, item and piece, with the query's references to atoms
-abbrev pub needed : Kept → Book → Past → PlainQuery → ℕ
-needed kept book past query = reads_accepted (fault_of_query past query) (query_read kept book (with_atoms (tables_of past query.version) query))
+-- else those of the query with each reference made one to an atom
+abbrev pub ArePiecesOf : Book → Past → PlainQuery → List PlainExplained → Type 0
+ArePiecesOf book past query pieces =
+    IfAccepted (fault_of_query past query) (ArePieces book past.versions (with_atoms (tables_of past query.version) query) pieces) pieces
+
+-- the pieces of a query that is not refused, told
+pub record AreTold (book : Book) (past : Past) (query : PlainQuery) (pieces : List PlainExplained) : Type 0 where
+  pub accepted : fault_of_query past query ≡ None
+  pub are : ArePieces book past.versions (with_atoms (tables_of past query.version) query) pieces
+
+-- what an archive tells of a query: its pieces, or why it is refused
+abbrev pub IsExplained : Book → Past → PlainQuery → Result (Vec Explained Global) AskFault → Type 0
+IsExplained book past query result =
+    MatchResult result (λ list. AreTold book past query (all_explained list.items)) (λ fault. IsWrong past query fault)
 
 -- ---- the steps of an answer
 
@@ -72,5 +86,12 @@ pub record IsChecked (past : Past) (query : PlainQuery) (checked : Query) : Type
   pub few : excess_of query ≡ None
   pub there : query.version ≤ length past.versions
   pub tests : first_refusal (query_tests (tables_of past query.version) query) ≡ None
+  pub atoms : query_of checked ≡ with_atoms (tables_of past query.version) query
+  pub lasting : IsLasting query.when
+
+-- a query that is not refused, with each reference made one to an atom
+pub record IsReady (past : Past) (query : PlainQuery) (checked : Query) : Type 0 where
+  pub accepted : fault_of_query past query ≡ None
+  pub there : query.version ≤ length past.versions
   pub atoms : query_of checked ≡ with_atoms (tables_of past query.version) query
   pub lasting : IsLasting query.when

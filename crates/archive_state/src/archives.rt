@@ -1,7 +1,8 @@
 use crate::accepting::judge;
-use crate::asking::ask;
+use crate::asking::{ask, explain_query};
 use crate::{AskFault, CommitFault};
 use answer_text::Listing;
+use piece_texts::Explained;
 use prima_base::Steps;
 use rule_book::{Rule, RuleBook};
 use smo_ops::{Body, Command};
@@ -58,7 +59,7 @@ fn version_made(command: &Command, newest: u32) -> Option<u32>
 }
 
 impl ArchiveState {
-    ghost use Rattle.std.specs.Prelude.{◌≡◌, ◌+◌, ◌≤◌, [], None};
+    ghost use Rattle.std.specs.Prelude.{◌≡◌, ◌+◌, ◌≤◌, [], None, List};
     ghost use Rattle.smo_types.specs.Commands.{command_of};
     ghost use Rattle.smo_meaning.specs.Accepts.{command_fault};
     ghost use Rattle.smo_meaning.specs.Past.{Past, beginning, past_with};
@@ -67,7 +68,9 @@ impl ArchiveState {
     ghost use Rattle.temporal_lang.specs.Queries.{query_of};
     ghost use Rattle.archive_state.specs.Committing.{Commits, Readies, IsDone};
     ghost use Rattle.rewrite.specs.Books.{meaning_of, EachOf};
-    ghost use Rattle.archive_state.specs.Asking.{IsAsked, TellsWayBack, needed};
+    ghost use Rattle.piece_texts.specs.ExplainedPieces.{PlainExplained};
+    ghost use Rattle.query_exec.specs.Reads.{reads_of};
+    ghost use Rattle.archive_state.specs.Asking.{IsAsked, IsExplained, TellsWayBack, ArePiecesOf};
 
     /// An archive that has accepted nothing. It takes no memory.
     pub fn new(alloc: Global) -> ArchiveState
@@ -140,9 +143,9 @@ impl ArchiveState {
     /// least such moment the version that is told is gone back over, names no inverse, and loses a table of the query. Of the
     /// entries those stay that meet every condition of KEEP. The book has a rule for each kind of operator.
     ///
-    /// It takes at most as many steps as there are, for each version of the slice, item and piece, keys of the piece's tables and
-    /// entries of the columns that it names of them; and none where the query is refused. The one other error is `NoMemory`, where
-    /// memory runs out.
+    /// It takes at most as many steps as there are, for each of the query's pieces, which are those that `explain` tells, keys of the
+    /// piece's tables and entries of the columns that it names of them; and none where the query is refused. The one other error is
+    /// `NoMemory`, where memory runs out.
     pub fn query<'a, L: Ledger>(
         &'a self,
         book: &RuleBook,
@@ -153,9 +156,21 @@ impl ArchiveState {
         ensures asked { (past : Past) → ShowsPast self.now past → IsAsked past (query_of query.now) result }
         ensures way_back { (past : Past) → ShowsPast self.now past → TellsWayBack past (query_of query.now) result }
         ensures stands { ShowsSome self.now }
-        ensures cost { (past : Past) → ShowsPast self.now past → steps.new ≤ steps.old + needed self.now.groups (meaning_of book.now.rules.items (λ r. handles (r.vtable, r.value)) (λ r. answers (r.vtable, r.value))) past (query_of query.now) }
+        ensures cost { (past : Past) → ShowsPast self.now past → (pieces : List PlainExplained) → ArePiecesOf (meaning_of book.now.rules.items (λ r. handles (r.vtable, r.value)) (λ r. answers (r.vtable, r.value))) past (query_of query.now) pieces → steps.new ≤ steps.old + reads_of self.now.groups pieces }
     {
         ask(self.alloc, &self.groups, book, query, steps)
+    }
+
+    /// The pieces of a query, just those that `query` reads: for each branch and item in text order, and for each version that is in
+    /// force in the slice, those into which what is asked of the item's table unfolds there, the rows that meet the condition that is
+    /// pushed to it with the columns that the branch names, but for the dead. A query is refused as by `query`. The book has a rule for
+    /// each kind of operator. The one other error is `NoMemory`, where memory runs out.
+    pub fn explain(&self, book: &RuleBook, query: &Query) -> Result<Vec<Explained>, AskFault>
+        requires each { EachOf book.now.rules.items (λ r. handles (r.vtable, r.value)) }
+        ensures explained { (past : Past) → ShowsPast self.now past → IsExplained (meaning_of book.now.rules.items (λ r. handles (r.vtable, r.value)) (λ r. answers (r.vtable, r.value))) past (query_of query.now) result }
+        ensures stands { ShowsSome self.now }
+    {
+        explain_query(self.alloc, &self.groups, book, query)
     }
 
     // Makes the command ready, and carries it out.

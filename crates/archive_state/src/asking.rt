@@ -1,19 +1,22 @@
-//! A query, judged and answered over all of history.
+//! A query, judged, and answered over all of history or told piece by piece.
 
-ghost use Rattle.std.specs.Prelude.{◌≡◌, ◌≤◌, ◌+◌, IfOk, MatchResult, None, length};
+ghost use Rattle.std.specs.Prelude.{◌≡◌, ◌≤◌, ◌+◌, List, MatchResult, None};
 ghost use Rattle.smo_types.specs.Commands.{versions_of};
 ghost use Rattle.smo_meaning.specs.Past.{Past};
 ghost use Rattle.temporal_lang.specs.Accepted.{no_way_back, fault_of_query};
 ghost use Rattle.temporal_lang.specs.Queries.{query_of};
+ghost use Rattle.piece_texts.specs.ExplainedPieces.{PlainExplained};
+ghost use Rattle.query_exec.specs.Reads.{reads_of};
 ghost use Rattle.version_groups.specs.Showing.{Shows};
 ghost use Rattle.rewrite.specs.Books.{meaning_of, EachOf};
-ghost use Rattle.archive_state.specs.Asking.{tells_periods, needed, IsAsked, IsWrong, IsAskedSchema, IsChecked};
+ghost use Rattle.archive_state.specs.Asking.{tells_periods, ArePiecesOf, IsAsked, IsExplained, IsWrong, IsAskedSchema, IsChecked, IsReady};
 
 use crate::AskFault;
 use answer_text::Listing;
 use coalesce::keep;
+use piece_texts::Explained;
 use prima_base::{OpKind, Refusal, Steps};
-use query_exec::{answer, first_loss};
+use query_exec::{answer, explain, first_loss};
 use rule_book::{Rule, RuleBook, kind_of};
 use schema_catalog::Schema;
 use smo_ops::Versions;
@@ -79,6 +82,18 @@ fn judge_losses(
     }
 }
 
+// The query with each reference made one to an atom, where it is not refused.
+fn judged(alloc: Global, groups: &Groups, query: &Query) -> Result<Query, AskFault>
+    requires { (past : Past) × Shows groups.now past }
+    ensures { (past : Past) → Shows groups.now past
+        → MatchResult result (λ checked. IsReady past (query_of query.now) checked) (λ fault. IsWrong past (query_of query.now) fault) }
+{
+    let schema = asked_schema(groups, query)?;
+    let atoms = checked(alloc, schema, query)?;
+    judge_losses(alloc, groups, query, &atoms)?;
+    Ok(atoms)
+}
+
 // Whether the periods of the entries are told.
 fn tells_periods(when: When) -> bool
     ensures { result ≡ tells_periods when }
@@ -101,15 +116,29 @@ pub(crate) fn ask<'a, L: Ledger>(
     requires each { EachOf book.now.rules.items (λ r. handles (r.vtable, r.value)) }
     requires shows { (past : Past) × Shows groups.now past }
     ensures asked { (past : Past) → Shows groups.now past → IsAsked past (query_of query.now) result }
-    ensures cost { (past : Past) → Shows groups.now past → steps.new ≤ steps.old + needed groups.now (meaning_of book.now.rules.items (λ r. handles (r.vtable, r.value)) (λ r. answers (r.vtable, r.value))) past (query_of query.now) }
+    ensures cost { (past : Past) → Shows groups.now past → (pieces : List PlainExplained) → ArePiecesOf (meaning_of book.now.rules.items (λ r. handles (r.vtable, r.value)) (λ r. answers (r.vtable, r.value))) past (query_of query.now) pieces → steps.new ≤ steps.old + reads_of groups.now pieces }
 {
-    let schema = asked_schema(groups, query)?;
-    let atoms = checked(alloc, schema, query)?;
-    judge_losses(alloc, groups, query, &atoms)?;
+    let atoms = judged(alloc, groups, query)?;
     let mut rows = answer(alloc, groups, book, &atoms, steps)?;
     keep(&mut rows, &query.keep);
     Ok(Listing {
         rows,
         periods: tells_periods(query.when),
     })
+}
+
+/// The pieces of a query, just those that are read to answer it.
+pub(crate) fn explain_query(
+    alloc: Global,
+    groups: &Groups,
+    book: &RuleBook,
+    query: &Query,
+) -> Result<Vec<Explained>, AskFault>
+    requires each { EachOf book.now.rules.items (λ r. handles (r.vtable, r.value)) }
+    requires shows { (past : Past) × Shows groups.now past }
+    ensures { (past : Past) → Shows groups.now past → IsExplained (meaning_of book.now.rules.items (λ r. handles (r.vtable, r.value)) (λ r. answers (r.vtable, r.value))) past (query_of query.now) result }
+{
+    let atoms = judged(alloc, groups, query)?;
+    let pieces = explain(alloc, groups, book, &atoms)?;
+    Ok(pieces)
 }

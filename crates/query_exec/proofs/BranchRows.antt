@@ -1,8 +1,8 @@
 -- What branches answer, one after the other.
-use Rattle.std.proofs.Common.{◌≡◌, ◌+◌, ◌<◌, ℕ, List, [], ◌∷◌, ◌++◌, map, length, get_or, take, drop, refl, sym, ap, subst, ◌∙◌, inl, inr, append-nil}
+use Rattle.std.proofs.Common.{◌≡◌, ◌+◌, ◌<◌, ◌≤◌, ℕ, List, [], ◌∷◌, ◌++◌, map, length, get_or, take, drop, refl, sym, ap, subst, ◌∙◌, inl, inr, append-nil, append_assoc, arith}
 use Rattle.std.specs.Prelude.{◌⊎◌}
 use Rattle.std.specs.List.{flat_map}
-use Rattle.std.proofs.lemmas.List.{map-append}
+use Rattle.std.proofs.lemmas.List.{map-append, length-map, length-take-le}
 use Rattle.relations.specs.Sets.{In, set_of}
 use Rattle.relations.specs.Timed.{Entry, at}
 use Rattle.relations.proofs.SetLaws.{in_left, in_right, in_append, in_set, from_set, in_flat_map, from_flat_map, one_list, set_ascends}
@@ -16,22 +16,30 @@ use Rattle.schema_catalog.specs.Databases.{Database}
 use Rattle.smo_types.specs.Commands.{PlainVersion}
 use Rattle.smo_meaning.specs.OneRow.{Row, Relation}
 use Rattle.plain_answers.specs.Branches.{PlainBranch, branch_answers, plain}
-use Rattle.plain_answers.specs.Reading.{needed, answers_read}
-use Rattle.plain_answers.proofs.ReadLaws.{same_plain, is_needed}
+use Rattle.plain_answers.specs.Pushing.{pushed_reads}
+use Rattle.plain_answers.specs.Reading.{answers_read}
+use Rattle.plain_answers.proofs.ReadLaws.{same_plain}
+use Rattle.plain_answers.proofs.PushedParts.{is_pushed}
 use Rattle.temporal_lang.specs.Branches.{branch_of, branches_of}
 use Rattle.temporal_lang.specs.declared.branches.Branch.{Branch}
 use Rattle.query_pieces.proofs.Gatherings.{of_either, of_first, of_second}
+use Rattle.piece_meaning.specs.Rules.{Book}
+use Rattle.piece_texts.specs.ExplainedPieces.{PlainExplained}
+use Rattle.period_split.specs.Splitting.{Part}
 use Rattle.query_exec.specs.declared.routes.Route.{Route}
 use Rattle.query_exec.specs.Accepted.{MayBranch, MayBranches}
-use Rattle.query_exec.specs.Totals.{total}
+use Rattle.query_exec.specs.QueryPieces.{branch_pieces, branches_pieces, AreAlive}
+use Rattle.query_exec.specs.Reads.{reads_of}
+use Rattle.query_exec.proofs.AliveLaws.{Owes, owes_less}
+use Rattle.version_groups.specs.Groups.{Kept}
 use Rattle.query_exec.proofs.ListSteps.{left_is, taken_is}
 use Rattle.query_exec.proofs.PieceRows.{joined_entries}
 
 -- over what is read of its tables a branch answers what it answers over the whole ones
-pub needed_answers : (tables : Tables) (db : Database) (b : PlainBranch) → set_of row_cmp (answers_read tables db needed b) ≡ set_of row_cmp (branch_answers tables db b)
-needed_answers tables db b =
-    ap (λ (rows : List Row). set_of row_cmp rows) (sym (append-nil (answers_read tables db needed b)))
-    ∙ same_plain tables db (b ∷ []) needed (λ x k. is_needed x)
+pub pushed_answers : (tables : Tables) (db : Database) (b : PlainBranch) → set_of row_cmp (answers_read tables db pushed_reads b) ≡ set_of row_cmp (branch_answers tables db b)
+pushed_answers tables db b =
+    ap (λ (rows : List Row). set_of row_cmp rows) (sym (append-nil (answers_read tables db pushed_reads b)))
+    ∙ same_plain tables db (b ∷ []) pushed_reads (λ x k. is_pushed x)
     ∙ ap (λ (rows : List Row). set_of row_cmp rows) (append-nil (branch_answers tables db b))
 
 -- ---- entries of several answers
@@ -65,6 +73,18 @@ module _ {X : Type 0} (f : X → List Row) where
           of_second a b y m (subst (λ (r : Relation). In y r) (sym g) (in_set row_cmp row_exact y (f x) (subst (λ (w : X). In y (f w)) (sym s) i)))
       back y z i (inr (inr k)) = absurd k
 
+-- the pieces of one branch more
+branches_last : (book : Book) (versions : List PlainVersion) (q : ℕ) (parts : List Part) (n : ℕ) (bs : List PlainBranch) (b : PlainBranch)
+    → branches_pieces book versions q parts n (bs ++ b ∷ []) ≡ branches_pieces book versions q parts n bs ++ branch_pieces book versions q parts (n + length bs) b
+branches_last book versions q parts n [] b =
+    let e : n ≡ n + 0 = omega arith in
+    append-nil (branch_pieces book versions q parts n b) ∙ ap (λ (k : ℕ). branch_pieces book versions q parts k b) e
+branches_last book versions q parts n (c ∷ bs) b =
+    let e : (n + 1) + length bs ≡ n + length (c ∷ bs) = omega arith in
+    ap (λ (es : List PlainExplained). branch_pieces book versions q parts n c ++ es) (branches_last book versions q parts (n + 1) bs b)
+    ∙ sym (append_assoc (branch_pieces book versions q parts n c) (branches_pieces book versions q parts (n + 1) bs) (branch_pieces book versions q parts ((n + 1) + length bs) b))
+    ∙ ap (λ (k : ℕ). branches_pieces book versions q parts n (c ∷ bs) ++ branch_pieces book versions q parts k b) e
+
 module _ (branches : List Branch) (i : ℕ) (b : Branch) (l : i < length branches) (is : b ≡ get_or branches i b) where
   taken_branches : branches_of (take (i + 1) branches) ≡ branches_of (take i branches) ++ branch_of b ∷ []
   taken_branches = ap branches_of (taken_is branches i b l is) ∙ map-append branch_of (take i branches) (b ∷ [])
@@ -77,8 +97,29 @@ module _ (branches : List Branch) (i : ℕ) (b : Branch) (l : i < length branche
       ∙ more_answered (branch_answers tables db) (branches_of (take i branches)) (branch_of b) (entries_of old) (entries_of news) m f g
       ∙ ap (λ (bs : List PlainBranch). plain tables bs db) (sym taken_branches)
 
-  pub branches_left : (f : PlainBranch → ℕ) → total f (branches_of (drop i branches)) ≡ f (branch_of b) + total f (branches_of (drop (i + 1) branches))
-  branches_left f = ap (λ (bs : List Branch). total f (branches_of bs)) (left_is branches i b l is)
+  pub branches_left : (book : Book) (versions : List PlainVersion) (q : ℕ) (parts : List Part) (n : ℕ)
+      → branches_pieces book versions q parts n (branches_of (drop i branches)) ≡ branch_pieces book versions q parts n (branch_of b) ++ branches_pieces book versions q parts (n + 1) (branches_of (drop (i + 1) branches))
+  branches_left book versions q parts n = ap (λ (bs : List Branch). branches_pieces book versions q parts n (branches_of bs)) (left_is branches i b l is)
+
+  pub branch_owes : (kept : Kept) (book : Book) (versions : List PlainVersion) (q : ℕ) (parts : List Part) (number : ℕ) (steps all new : ℕ)
+      → Owes kept versions (branches_pieces book versions q parts (number + i) (branches_of (drop i branches))) steps all
+      → ((own : List PlainExplained) → AreAlive versions (branch_pieces book versions q parts (number + i) (branch_of b)) own → new ≤ steps + reads_of kept own)
+      → Owes kept versions (branches_pieces book versions q parts (number + (i + 1)) (branches_of (drop (i + 1) branches))) new all
+  branch_owes kept book versions q parts number steps all new o h =
+      let e : (number + i) + 1 ≡ number + (i + 1) = omega arith in
+      subst (λ (n : ℕ). Owes kept versions (branches_pieces book versions q parts n (branches_of (drop (i + 1) branches))) new all) e
+      (owes_less kept versions (branch_pieces book versions q parts (number + i) (branch_of b)) (branches_pieces book versions q parts ((number + i) + 1) (branches_of (drop (i + 1) branches))) steps all new
+      (subst (λ (es : List PlainExplained). Owes kept versions es steps all) (branches_left book versions q parts (number + i)) o) h)
+
+  pub branches_more : (book : Book) (versions : List PlainVersion) (q : ℕ) (parts : List Part)
+      → branches_pieces book versions q parts 1 (branches_of (take (i + 1) branches)) ≡ branches_pieces book versions q parts 1 (branches_of (take i branches)) ++ branch_pieces book versions q parts (i + 1) (branch_of b)
+  branches_more book versions q parts =
+      let many : length (take i branches) ≡ i = length-take-le i branches (omega (arith, l)) in
+      let mapped : length (branches_of (take i branches)) ≡ length (take i branches) = length-map (take i branches) branch_of in
+      let place : 1 + length (branches_of (take i branches)) ≡ i + 1 = omega (arith, many, mapped) in
+      ap (branches_pieces book versions q parts 1) taken_branches
+      ∙ branches_last book versions q parts 1 (branches_of (take i branches)) (branch_of b)
+      ∙ ap (λ (n : ℕ). branches_pieces book versions q parts 1 (branches_of (take i branches)) ++ branch_pieces book versions q parts n (branch_of b)) place
 
   pub may_next_branch : (versions : List PlainVersion) (route : Route) → MayBranches versions route (branches_of (drop i branches)) → MayBranch versions route (branch_of b) × MayBranches versions route (branches_of (drop (i + 1) branches))
   may_next_branch versions route h = subst (λ (bs : List Branch). MayBranches versions route (branches_of bs)) (left_is branches i b l is) h

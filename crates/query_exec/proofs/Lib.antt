@@ -4,7 +4,10 @@ pub mod TableReads
 pub mod PieceRows
 pub mod RouteLaws
 pub mod FirstLosses
+pub mod AliveLaws
 pub mod WalkSteps
+pub mod PlanLaws
+pub mod LivingLaws
 pub mod BranchRows
 pub mod ItemAtoms
 pub mod WholeAnswers

@@ -1,9 +1,9 @@
 -- The parts of a slice in the order in which they are walked to.
-use Rattle.std.proofs.Common.{◌≡◌, ◌+◌, ◌<◌, ◌≤◌, ℕ, Bool, true, false, cond, List, [], ◌∷◌, ◌++◌, map, length, refl, sym, ap, subst, ◌∙◌, inl, inr, arith}
+use Rattle.std.proofs.Common.{◌≡◌, ◌+◌, ◌<◌, ◌≤◌, ℕ, Bool, true, false, cond, List, [], ◌∷◌, ◌++◌, map, length, reverse, refl, sym, ap, subst, ◌∙◌, inl, inr, arith}
 use Rattle.std.specs.Prelude.{◌⊎◌, ◌↔◌, ◌&&◌, nat_le, nat_lt}
 use Rattle.std.specs.List.{filter}
 use Rattle.std.proofs.lemmas.Bool.Decides.{nat_tests}
-use Rattle.std.proofs.lemmas.List.{append-nil}
+use Rattle.std.proofs.lemmas.List.{append-nil, reverse-append}
 use Rattle.relations.specs.Sets.{In}
 use Rattle.relations.specs.Spans.{Span, covers, forever}
 use Rattle.relations.specs.Timed.{Entry, at}
@@ -13,7 +13,7 @@ use Rattle.prima_base.specs.Order.{row_cmp}
 use Rattle.smo_meaning.specs.OneRow.{Row, Relation}
 use Rattle.smo_meaning.specs.Past.{Past}
 use Rattle.plain_answers.specs.Reading.{Read}
-use Rattle.relations.proofs.SetLaws.{in_left, in_right, in_append, in_map, in_filter, from_filter}
+use Rattle.relations.proofs.SetLaws.{in_append, in_map, from_filter}
 use Rattle.smo_types.specs.Commands.{PlainVersion}
 use Rattle.smo_meaning.specs.InForce.{in_force}
 use Rattle.version_groups.specs.Showing.{IsInForce}
@@ -25,10 +25,8 @@ use Rattle.period_split.specs.Splitting.{Part, split_by, AscendFrom, HasMoment a
 use Rattle.period_split.proofs.PartLaws.{from_split}
 use Rattle.query_exec.specs.declared.routes.Route.{Route}
 use Rattle.query_exec.specs.Questions.{table_read}
-use Rattle.query_exec.specs.Totals.{total}
 use Rattle.query_exec.proofs.TableReads.{read_ascends}
 use Rattle.query_exec.specs.Routes.{back_from, on_from, DescendFrom, IsOwn, spans_of, IsRoute}
-use Rattle.query_exec.proofs.TotalLaws.{total_joined}
 
 -- ---- parts that ascend
 
@@ -105,29 +103,38 @@ module _ (asked : ℕ) where
 
   -- ---- both
 
-  pub in_either : (parts : List Part) (x : Part) → In x parts → In x (back_from asked parts) ⊎ In x (on_from asked parts)
-  in_either [] x m = absurd m
-  in_either (p ∷ parts) x (inl e) = subst (λ (y : Part). In y (back_from asked (p ∷ parts)) ⊎ In y (on_from asked (p ∷ parts))) e (step (nat_lt asked p.1))
-    where
-      step : (b : Bool) → In p (back_from asked parts ++ cond b [] (p ∷ [])) ⊎ In p (cond b (p ∷ on_from asked parts) (on_from asked parts))
-      step true = inr (inl refl)
-      step false = inl (in_right p (back_from asked parts) (p ∷ []) (inl refl))
-  in_either (p ∷ parts) x (inr m) = step (nat_lt asked p.1) (in_either parts x m)
-    where
-      step : (b : Bool) → In x (back_from asked parts) ⊎ In x (on_from asked parts)
-          → In x (back_from asked parts ++ cond b [] (p ∷ [])) ⊎ In x (cond b (p ∷ on_from asked parts) (on_from asked parts))
-      step b (inl k) = inl (in_left x (back_from asked parts) (cond b [] (p ∷ [])) k)
-      step true (inr k) = inr (inr k)
-      step false (inr k) = inr k
+  -- where all are later, none is earlier
+  none_back : (low : ℕ) (parts : List Part) → asked < low → AscendFrom low parts → back_from asked parts ≡ []
+  none_back low [] l h = refl
+  none_back low (p ∷ parts) l h =
+      (let v = h.0.version in
+      let later : nat_lt asked p.1 ≡ true = grind (arith, nat_tests) in
+      ap (λ (b : Bool). back_from asked parts ++ cond b [] (p ∷ [])) later
+      ∙ append-nil (back_from asked parts)
+      ∙ none_back (p.1 + 1) parts (omega (arith, l, v)) h.1)
 
-  pub total_both : (f : Part → ℕ) (parts : List Part) → total f (back_from asked parts) + total f (on_from asked parts) ≡ total f parts
-  total_both f [] = omega arith
-  total_both f (p ∷ parts) = step (nat_lt asked p.1) (total_both f parts)
+  all_on : (low : ℕ) (parts : List Part) → asked < low → AscendFrom low parts → on_from asked parts ≡ parts
+  all_on low [] l h = refl
+  all_on low (p ∷ parts) l h =
+      (let v = h.0.version in
+      let later : nat_lt asked p.1 ≡ true = grind (arith, nat_tests) in
+      ap (λ (b : Bool). cond b (p ∷ on_from asked parts) (on_from asked parts)) later
+      ∙ ap (λ (ps : List Part). p ∷ ps) (all_on (p.1 + 1) parts (omega (arith, l, v)) h.1))
+
+  -- back and on from the asked version they are all
+  pub in_order : (low : ℕ) (parts : List Part) → AscendFrom low parts → parts ≡ reverse (back_from asked parts) ++ on_from asked parts
+  in_order low [] h = refl
+  in_order low (p ∷ parts) h = step (nat_lt asked p.1) refl (in_order (p.1 + 1) parts h.1)
     where
-      step : (b : Bool) → total f (back_from asked parts) + total f (on_from asked parts) ≡ total f parts
-          → total f (back_from asked parts ++ cond b [] (p ∷ [])) + total f (cond b (p ∷ on_from asked parts) (on_from asked parts)) ≡ f p + total f parts
-      step true h = (let e = total_joined f (back_from asked parts) [] in omega arith)
-      step false h = (let e = total_joined f (back_from asked parts) (p ∷ []) in omega arith)
+      step : (b : Bool) → nat_lt asked p.1 ≡ b → parts ≡ reverse (back_from asked parts) ++ on_from asked parts
+          → p ∷ parts ≡ reverse (back_from asked parts ++ cond b [] (p ∷ [])) ++ cond b (p ∷ on_from asked parts) (on_from asked parts)
+      step true e more =
+          let l : asked < p.1 + 1 = grind (arith, nat_tests) in
+          ap (λ (ps : List Part). p ∷ ps) (sym (all_on (p.1 + 1) parts l h.1))
+          ∙ sym (ap (λ (ps : List Part). reverse (ps ++ []) ++ p ∷ on_from asked parts) (none_back (p.1 + 1) parts l h.1))
+      step false e more =
+          ap (λ (ps : List Part). p ∷ ps) more
+          ∙ sym (ap (λ (ps : List Part). ps ++ on_from asked parts) (reverse-append (back_from asked parts) (p ∷ [])))
 
 -- ---- the route
 
@@ -149,9 +156,9 @@ module _ (versions : List PlainVersion) (slice : Span) (parts : List Part) (made
   is_within p i m c = (let h = own_part p i m c in (both_hold (covers (in_force versions p.1) m) (covers slice m) h.1).1)
 
 pub is_route : (versions : List PlainVersion) (r : Route) (parts : List Part) → r.asked ≤ length versions → parts ≡ split_by versions r.slice → AscendFrom 0 parts
-    → r.slice.end ≤ forever → r.earlier.items ≡ back_from r.asked parts → r.later.items ≡ on_from r.asked parts
+    → r.slice.end ≤ forever → r.parts.items ≡ parts → r.earlier.items ≡ back_from r.asked parts → r.later.items ≡ on_from r.asked parts
     → ((m : ℕ) → m < forever → covers r.slice m ≡ true → (k : ℕ) × HasPart parts k m) → IsRoute versions r
-is_route versions r parts there made up ends back on each = record {
+is_route versions r parts there made up ends all back on each = record {
   ends = ends;
   asked = there;
   back = subst (λ (ps : List Part). DescendFrom r.asked ps) (sym back) (back_descends r.asked 0 parts up);
@@ -159,26 +166,20 @@ is_route versions r parts there made up ends back on each = record {
   earlier = λ p i. is_own versions r.slice parts made up p (from_back r.asked parts p (subst (λ (ps : List Part). In p ps) back i));
   later = λ p i. is_own versions r.slice parts made up p (later_in p i);
   within = λ p i. is_within versions r.slice parts made up p (later_in p i);
-  all = λ m l c. (let h = each m l c in all_in (h.0) m h.1);
+  order = all ∙ in_order r.asked 0 parts up ∙ ap (λ (ps : List Part). reverse ps ++ on_from r.asked parts) (sym back) ∙ ap (λ (ps : List Part). reverse r.earlier.items ++ ps) (sym on);
+  each = λ p i. is_own versions r.slice parts made up p (subst (λ (ps : List Part). In p ps) all i);
+  all = λ m l c. (let h = each m l c in all_in h.0 m h.1);
 }
   where
     later_in : (p : Part) → In p r.later.items → In p parts
     later_in p i = (from_filter (λ (q : Part). nat_lt r.asked q.1) p parts (subst (λ (ps : List Part). In p ps) on i)).0
 
-    all_in : (k m : ℕ) → HasPart parts k m → HasMoment (spans_of r.earlier.items ++ spans_of r.later.items) m
-    all_in k m h = (h.0, step (in_either r.asked parts (h.0, k) h.1), h.2)
-      where
-        step : In (h.0, k) (back_from r.asked parts) ⊎ In (h.0, k) (on_from r.asked parts) → In h.0 (spans_of r.earlier.items ++ spans_of r.later.items)
-        step (inl i) =
-            in_left h.0 (spans_of r.earlier.items) (spans_of r.later.items)
-            (in_map (λ (p : Part). p.0) (h.0, k) r.earlier.items (subst (λ (ps : List Part). In (h.0, k) ps) (sym back) i))
-        step (inr i) =
-            in_right h.0 (spans_of r.earlier.items) (spans_of r.later.items)
-            (in_map (λ (p : Part). p.0) (h.0, k) r.later.items (subst (λ (ps : List Part). In (h.0, k) ps) (sym on) i))
+    all_in : (k m : ℕ) → HasPart parts k m → HasMoment (spans_of r.parts.items) m
+    all_in k m h = (h.0, in_map (λ (p : Part). p.0) (h.0, k) r.parts.items (subst (λ (ps : List Part). In (h.0, k) ps) (sym all) h.1), h.2)
 
 -- what was gathered of all its parts, listed
 pub gathered_listed : {versions : List PlainVersion} (past : Past) (r : Route) → IsRoute versions r → (table : List ℕ) (read : Read) (gathered entries : List (Entry Row))
-    → IsGathered (table_read past r.asked table read) (spans_of r.earlier.items ++ spans_of r.later.items) gathered → IsListing row_cmp (at row_cmp gathered) r.slice entries
+    → IsGathered (table_read past r.asked table read) (spans_of r.parts.items) gathered → IsListing row_cmp (at row_cmp gathered) r.slice entries
     → IsListing row_cmp (table_read past r.asked table read) r.slice entries
 gathered_listed past r is table read gathered entries g listed =
     listing_same row_cmp (at row_cmp gathered) (table_read past r.asked table read) r.slice entries agree listed
@@ -186,7 +187,7 @@ gathered_listed past r is table read gathered entries g listed =
     same : (m : ℕ) → r.slice.start ≤ m → m < r.slice.end → at row_cmp gathered m ≡ table_read past r.asked table read m
     same m a b =
         let ends = is.ends in
-        all_gathered (table_read past r.asked table read) (spans_of r.earlier.items ++ spans_of r.later.items) gathered g m (is.all m (omega arith) (covering r.slice m a b))
+        all_gathered (table_read past r.asked table read) (spans_of r.parts.items) gathered g m (is.all m (omega arith) (covering r.slice m a b))
         (read_ascends past r.asked table read m)
 
     agree : (x : Row) (m : ℕ) → r.slice.start ≤ m → m < r.slice.end → In x (at row_cmp gathered m) ↔ In x (table_read past r.asked table read m)

@@ -32,7 +32,7 @@ use Rattle.rewrite_chains.specs.Standing.{StandFor}
 use Rattle.rewrite_chains.proofs.ReadMoments.{table_means}
 use Rattle.timed_choices.specs.Fitting.{Fit}
 use Rattle.timed_choices.specs.Keeping.{IsLawfulRow}
-use Rattle.query_exec.specs.Questions.{whole, table_read}
+use Rattle.query_exec.specs.Questions.{table_read}
 
 -- the pieces that stand at the version in force mean what is read of the table
 pub standing_means : (book : Book) → IsLawfulBook book → (past : Past) → IsPast past → PastHolds past → (q k m : ℕ) (table : List ℕ) (r : Read) (ps : List PlainPiece)
@@ -74,7 +74,7 @@ cells_lawful : (columns cs : List Column) (row : Row) → AreValues row → IsLa
 cells_lawful columns [] row h = tt
 cells_lawful columns (c ∷ cs) row h = (cell_lawful columns row c.0 h, cells_lawful columns cs row h)
 
-module _ (past : Past) (holds : PastHolds past) (q : ℕ) (table : List ℕ) (names : List (List ℕ)) where
+module _ (past : Past) (holds : PastHolds past) (q : ℕ) (table : List ℕ) (r : Read) where
   abbrev all : List Column
   all = columns_of (tables_of past q) table
 
@@ -85,17 +85,17 @@ module _ (past : Past) (holds : PastHolds past) (q : ℕ) (table : List ℕ) (na
   rows_hold m = held_rows (get (migrated past m q) table) (way_values past.versions holds.versions (version_at past m) q (database_at past m) (holds.databases m) table)
 
   abbrev cut : Row → Row
-  cut row = map (λ (c : Column). cell all row c.0) (named names all)
+  cut row = map (λ (c : Column). cell all row c.0) (named r.names all)
 
-  row_fits : (m : ℕ) (x : Row) → In x (table_read past q table (whole names) m) → (length x ≡ length (named names all)) × IsLawfulRow x
+  row_fits : (m : ℕ) (x : Row) → In x (table_read past q table r m) → (length x ≡ length (named r.names all)) × IsLawfulRow x
   row_fits m x i =
-      let kept : List Row = filter (meets all (whole names).test) (rows m) in
+      let kept : List Row = filter (meets all r.test) (rows m) in
       let g = from_map cut x kept (from_set row_cmp row_exact x (map cut kept) i) in
-      subst (λ (y : Row). (length y ≡ length (named names all)) × IsLawfulRow y) g.2
-      (length-map (named names all) (λ (c : Column). cell all g.0 c.0), cells_lawful all (named names all) g.0 (rows_hold m g.0 (from_filter (meets all (whole names).test) g.0 (rows m) g.1).0))
+      subst (λ (y : Row). (length y ≡ length (named r.names all)) × IsLawfulRow y) g.2
+      (length-map (named r.names all) (λ (c : Column). cell all g.0 c.0), cells_lawful all (named r.names all) g.0 (rows_hold m g.0 (from_filter (meets all r.test) g.0 (rows m) g.1).0))
 
   -- what is listed fits the columns
-  pub listed_fit : (slice : Span) (entries : List (Entry Row)) → IsListing row_cmp (table_read past q table (whole names)) slice entries → (n : ℕ) → n ≡ length (named names all) → Fit n entries
+  pub listed_fit : (slice : Span) (entries : List (Entry Row)) → IsListing row_cmp (table_read past q table r) slice entries → (n : ℕ) → n ≡ length (named r.names all) → Fit n entries
   listed_fit slice entries h n e x i =
       let is = h.each x i in
       let first : x.period.start ≤ x.period.start = omega arith in

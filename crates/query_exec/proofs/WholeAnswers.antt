@@ -9,7 +9,7 @@ use Rattle.relations.specs.Listing.{IsListing}
 use Rattle.relations.proofs.ListingLaws.{listing_same}
 use Rattle.prima_base.specs.Order.{row_cmp}
 use Rattle.prima_base.specs.Keeping.{kept}
-use Rattle.cond_expr.specs.declared.exprs.ColRef.{ColRef}
+use Rattle.cond_expr.specs.Trees.{Tree, Test}
 use Rattle.smo_types.specs.Commands.{PlainVersion}
 use Rattle.smo_meaning.specs.LawfulPast.{IsPast}
 use Rattle.smo_meaning.specs.OneRow.{Row, Relation}
@@ -20,8 +20,8 @@ use Rattle.version_groups.specs.Groups.{Kept, versions_in}
 use Rattle.version_groups.specs.Showing.{Shows}
 use Rattle.version_groups.proofs.OwnMoments.{own_version}
 use Rattle.plain_answers.specs.Branches.{Item, PlainBranch, plain}
-use Rattle.plain_answers.specs.Naming.{names_at, names_from, all_references}
-use Rattle.plain_answers.specs.Reading.{needed, whole_rows}
+use Rattle.plain_answers.specs.Naming.{all_references}
+use Rattle.plain_answers.specs.Pushing.{pushed_from, pushed_reads}
 use Rattle.piece_meaning.specs.Rules.{Book, IsLawfulBook}
 use Rattle.rewrite_chains.specs.Beginnings.{IsQuestion}
 use Rattle.rewrite_chains.specs.Reading.{AreQuestions, Suffices}
@@ -29,14 +29,12 @@ use Rattle.temporal_lang.specs.Queries.{PlainQuery, slice_of, IsLasting}
 use Rattle.temporal_lang.specs.Atoms.{branches_with_atoms}
 use Rattle.temporal_lang.specs.Answers.{asked_at, answer}
 use Rattle.query_pieces.specs.Piecewise.{asked_branches, IsAskedOf}
-use Rattle.query_pieces.proofs.ReadByPieces.{is_lasting, enough_asked, items_kept, asked_is, answer_is}
+use Rattle.query_pieces.proofs.ReadByPieces.{is_lasting, pushed_enough, items_kept, asked_is, answer_is}
 use Rattle.period_split.specs.Splitting.{Part, split_by}
 use Rattle.query_exec.specs.declared.routes.Route.{Route}
 use Rattle.query_exec.specs.Accepted.{IsAccepted, MayItems, MayBranch, MayBranches, IsShown}
-use Rattle.query_exec.specs.Questions.{whole}
-use Rattle.query_exec.specs.Reads.{part_read, parts_read, items_read, branch_read, query_read}
+use Rattle.query_exec.specs.QueryPieces.{branches_pieces, all_pieces}
 use Rattle.query_exec.specs.Routes.{IsRoute}
-use Rattle.query_exec.specs.Totals.{total}
 use Rattle.query_exec.proofs.RouteLaws.{each_lasts, covers_start, asked_of, of_asked}
 
 module _ (versions : List PlainVersion) (route : Route) where
@@ -45,19 +43,19 @@ module _ (versions : List PlainVersion) (route : Route) where
   NoneLost from = (x : Item) → In x from → (p : Part) → In p route.later.items → get (lost_names versions p.1 route.asked) x.0 ≡ None
 
 module _ (past : Past) (is : IsPast past) (route : Route) where
-  may_items : (rs : List ColRef) (i : ℕ) (from : List Item) → AreQuestions (tables_of past route.asked) from (whole_rows (names_from i from rs)) → NoneLost past.versions route from
-      → MayItems past.versions route rs i from
-  may_items rs i [] asked none = tt
-  may_items rs i (x ∷ from) asked none = (
+  may_items : (outs : List Tree) (c : Test) (i : ℕ) (from : List Item) → AreQuestions (tables_of past route.asked) from (pushed_from i from outs c) → NoneLost past.versions route from
+      → MayItems past.versions route (all_references outs c) c i from
+  may_items outs c i [] asked none = tt
+  may_items outs c i (x ∷ from) asked none = (
     record { question = record { lawful = is.evolved; question = asked.0 }; kept = none x (inl refl) },
-    may_items rs (i + 1) from asked.1 (λ y m. none y (inr m)),
+    may_items outs c (i + 1) from asked.1 (λ y m. none y (inr m)),
   )
 
-  may_branches : (bs : List PlainBranch) → ((b : PlainBranch) → In b bs → Suffices (tables_of past route.asked) (needed b) b) → ((b : PlainBranch) → In b bs → NoneLost past.versions route b.from)
+  may_branches : (bs : List PlainBranch) → ((b : PlainBranch) → In b bs → Suffices (tables_of past route.asked) (pushed_reads b) b) → ((b : PlainBranch) → In b bs → NoneLost past.versions route b.from)
       → MayBranches past.versions route bs
   may_branches [] s none = tt
   may_branches (b ∷ bs) s none =
-      (may_items (all_references b.outs b.cond) 0 b.from (s b (inl refl)).asked (none b (inl refl)), may_branches bs (λ c m. s c (inr m)) (λ c m. none c (inr m)))
+      (may_items b.outs b.cond 0 b.from (s b (inl refl)).asked (none b (inl refl)), may_branches bs (λ c m. s c (inr m)) (λ c m. none c (inr m)))
 
 module _ (kept_ : Kept) (past : Past) (asked query : PlainQuery) (shows : Shows kept_ past) (h : IsAccepted past asked query) where
   same_version : query.version ≡ asked.version
@@ -93,7 +91,7 @@ module _ (kept_ : Kept) (past : Past) (asked query : PlainQuery) (shows : Shows 
     may_asked : MayBranches past.versions route (asked_branches past asked)
     may_asked =
         may_branches past shows.lawful route (asked_branches past asked)
-        (λ b m. subst (λ (q : ℕ). Suffices (tables_of past q) (needed b) b) (sym (at ∙ same_version)) (enough_asked past asked h.accepted b m)) none_lost
+        (λ b m. subst (λ (q : ℕ). Suffices (tables_of past q) (pushed_reads b) b) (sym (at ∙ same_version)) (pushed_enough past asked h.accepted b m)) none_lost
 
     -- the tables of its branches' items may be read
     pub may_all : MayBranches (versions_in kept_) route query.branches
@@ -126,16 +124,10 @@ module _ (kept_ : Kept) (past : Past) (asked query : PlainQuery) (shows : Shows 
           (λ m k. read m k ∙ asked_is past asked h.accepted book lawful shows.lawful shows.values m k) entries
           (subst (λ w. IsListing row_cmp relation (slice_of w) entries) same_when listed)
 
--- ---- what is read
-
-module _ (kept_ : Kept) (book : Book) (q : ℕ) (ps qs : List Part) (same : (f : Part → ℕ) → total f ps ≡ total f qs) where
-  items_same : (rs : List ColRef) (i : ℕ) (from : List Item) → items_read kept_ book q ps rs i from ≡ items_read kept_ book q qs rs i from
-  items_same rs i [] = refl
-  items_same rs i (x ∷ from) =
-      let a = same (part_read kept_ book q x.0 (whole (names_at i rs))) in
-      let b = items_same rs (i + 1) from in
-      omega arith
-
-  pub branches_same : (bs : List PlainBranch) → total (branch_read kept_ book q ps) bs ≡ total (branch_read kept_ book q qs) bs
-  branches_same [] = refl
-  branches_same (b ∷ bs) = (let a = items_same (all_references b.outs b.cond) 0 b.from in let d = branches_same bs in omega arith)
+-- the pieces of a query are those of its branches over the parts of its slice
+pub pieces_here : (book : Book) (versions : List PlainVersion) (query : PlainQuery) (q : ℕ) (parts : List Part) (slice : Span) (bs : List PlainBranch) → q ≡ query.version
+    → parts ≡ split_by versions slice → slice ≡ slice_of query.when → bs ≡ query.branches → branches_pieces book versions q parts 1 bs ≡ all_pieces book versions query
+pieces_here book versions query q parts slice bs e f h k =
+    ap (λ (v : ℕ). branches_pieces book versions v parts 1 bs) e
+    ∙ ap (λ (ps : List Part). branches_pieces book versions query.version ps 1 bs) (f ∙ ap (split_by versions) h)
+    ∙ ap (λ (xs : List PlainBranch). branches_pieces book versions query.version (split_by versions (slice_of query.when)) 1 xs) k

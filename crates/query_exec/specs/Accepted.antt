@@ -3,13 +3,15 @@ use Rattle.std.specs.Prelude.{◌≡◌, ℕ, ◌+◌, true, List, [], ◌∷◌
 use Rattle.relations.specs.Spans.{covers}
 use Rattle.prima_base.specs.Timed.{rows_at}
 use Rattle.cond_expr.specs.declared.exprs.ColRef.{ColRef}
+use Rattle.cond_expr.specs.Trees.{Test}
 use Rattle.smo_types.specs.Commands.{PlainVersion}
 use Rattle.smo_meaning.specs.Effects.{columns_of}
 use Rattle.smo_meaning.specs.Making.{named}
 use Rattle.smo_meaning.specs.Past.{Past, tables_of}
 use Rattle.cond_expr.specs.AtomColumns.{columns_at}
 use Rattle.plain_answers.specs.Branches.{Item, PlainBranch}
-use Rattle.plain_answers.specs.Naming.{names_at, all_references}
+use Rattle.plain_answers.specs.Naming.{all_references}
+use Rattle.plain_answers.specs.Reading.{Read}
 use Rattle.temporal_lang.specs.Queries.{PlainQuery}
 use Rattle.temporal_lang.specs.Atoms.{with_atoms}
 use Rattle.temporal_lang.specs.Accepted.{fault_of_query}
@@ -17,7 +19,7 @@ use Rattle.version_groups.specs.Groups.{Kept}
 use Rattle.version_groups.specs.Showing.{Shows}
 use Rattle.joining.specs.declared.sources.Atom.{Atom}
 use Rattle.query_exec.specs.declared.routes.Route.{Route}
-use Rattle.query_exec.specs.Questions.{whole, table_read}
+use Rattle.query_exec.specs.Questions.{own_read, table_read}
 use Rattle.query_exec.specs.Routes.{MayBeRead}
 
 -- the query is not refused, and this is the one with each reference made one to an atom
@@ -25,14 +27,14 @@ pub record IsAccepted (past : Past) (asked query : PlainQuery) : Type 0 where
   pub accepted : fault_of_query past asked ≡ None
   pub atoms : query ≡ with_atoms (tables_of past asked.version) asked
 
--- the table of each item, the first of which has this place, may be read in the columns that are named of it
-abbrev pub MayItems : List PlainVersion → Route → List ColRef → ℕ → List Item → Type 0
-MayItems versions route references i [] = ⊤
-MayItems versions route references i (x ∷ from) =
-    MayBeRead versions route x.0 (whole (names_at i references)) × MayItems versions route references (i + 1) from
+-- what is asked of the table of each item, the first of which has this place, may be read
+abbrev pub MayItems : List PlainVersion → Route → List ColRef → Test → ℕ → List Item → Type 0
+MayItems versions route references cond i [] = ⊤
+MayItems versions route references cond i (x ∷ from) =
+    MayBeRead versions route x.0 (own_read i references cond) × MayItems versions route references cond (i + 1) from
 
 abbrev pub MayBranch : List PlainVersion → Route → PlainBranch → Type 0
-MayBranch versions route b = MayItems versions route (all_references b.outs b.cond) 0 b.from
+MayBranch versions route b = MayItems versions route (all_references b.outs b.cond) b.cond 0 b.from
 
 abbrev pub MayBranches : List PlainVersion → Route → List PlainBranch → Type 0
 MayBranches versions route [] = ⊤
@@ -45,16 +47,16 @@ pub record IsShown (kept : Kept) (query : PlainQuery) : Type 0 where
   pub shows : Shows kept past
   pub accepted : IsAccepted past asked query
 
--- the atom has this number, the columns with these names, and at each moment of the slice what is read of the table
-pub record IsRead (past : Past) (route : Route) (place : ℕ) (table : List ℕ) (names : List (List ℕ)) (a : Atom) : Type 0 where
+-- the atom has this number, the columns that are asked for, and at each moment of the slice what is read of the table
+pub record IsRead (past : Past) (route : Route) (place : ℕ) (table : List ℕ) (r : Read) (a : Atom) : Type 0 where
   pub number : a.number ≡ place
-  pub columns : a.columns.items ≡ columns_at place (named names (columns_of (tables_of past route.asked) table))
-  pub rows : (m : ℕ) → covers route.slice m ≡ true → rows_at a.rows.items m ≡ table_read past route.asked table (whole names) m
+  pub columns : a.columns.items ≡ columns_at place (named r.names (columns_of (tables_of past route.asked) table))
+  pub rows : (m : ℕ) → covers route.slice m ≡ true → rows_at a.rows.items m ≡ table_read past route.asked table r m
 
 -- there is such an atom for each item, the first of which has this place
-abbrev pub AreRead : Past → Route → List ColRef → ℕ → List Item → List Atom → Type 0
-AreRead past route references i [] [] = ⊤
-AreRead past route references i [] (a ∷ atoms) = ⊥
-AreRead past route references i (x ∷ from) [] = ⊥
-AreRead past route references i (x ∷ from) (a ∷ atoms) =
-    IsRead past route i x.0 (names_at i references) a × AreRead past route references (i + 1) from atoms
+abbrev pub AreRead : Past → Route → List ColRef → Test → ℕ → List Item → List Atom → Type 0
+AreRead past route references cond i [] [] = ⊤
+AreRead past route references cond i [] (a ∷ atoms) = ⊥
+AreRead past route references cond i (x ∷ from) [] = ⊥
+AreRead past route references cond i (x ∷ from) (a ∷ atoms) =
+    IsRead past route i x.0 (own_read i references cond) a × AreRead past route references cond (i + 1) from atoms

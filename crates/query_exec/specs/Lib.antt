@@ -1,5 +1,8 @@
 pub mod Totals
 pub mod Questions
+pub mod Asked
+pub mod QueryPieces
+pub mod Planned
 pub mod Losing
 pub mod Routes
 pub mod Standing

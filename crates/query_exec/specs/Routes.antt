@@ -1,5 +1,5 @@
 -- The parts of a slice, as they are reached from the version that is asked: back from it, and on behind it.
-use Rattle.std.specs.Prelude.{◌≡◌, ℕ, ◌+◌, ◌<◌, ◌≤◌, ◌++◌, true, nat_lt, List, [], ◌∷◌, length, map, None, ⊤, if◌then◌else◌}
+use Rattle.std.specs.Prelude.{◌≡◌, ℕ, ◌+◌, ◌<◌, ◌≤◌, ◌++◌, true, nat_lt, List, [], ◌∷◌, length, map, reverse, None, ⊤, if◌then◌else◌}
 use Rattle.std.specs.List.{filter}
 use Rattle.std.specs.FinMap.{get}
 use Rattle.relations.specs.Sets.{In}
@@ -35,8 +35,8 @@ pub record IsOwn (versions : List PlainVersion) (p : Part) : Type 0 where
 abbrev pub spans_of : List Part → List Span
 spans_of parts = map (λ (p : Part). p.0) parts
 
--- the parts are in the order in which a walk from the asked version comes to them, each belongs to its version, and together
--- they have each moment of the slice
+-- the parts that are earlier, and those that are later, are in the order in which a walk from the asked version comes to them; each
+-- part belongs to its version, and together they have each moment of the slice
 pub record IsRoute (versions : List PlainVersion) (route : Route) : Type 0 where
   pub asked : route.asked ≤ length versions
   pub ends : route.slice.end ≤ forever
@@ -45,7 +45,9 @@ pub record IsRoute (versions : List PlainVersion) (route : Route) : Type 0 where
   pub earlier : (p : Part) → In p route.earlier.items → IsOwn versions p
   pub later : (p : Part) → In p route.later.items → IsOwn versions p
   pub within : (p : Part) → In p route.later.items → (m : ℕ) → covers p.0 m ≡ true → covers route.slice m ≡ true
-  pub all : (m : ℕ) → m < forever → covers route.slice m ≡ true → HasMoment (spans_of route.earlier.items ++ spans_of route.later.items) m
+  pub order : route.parts.items ≡ reverse route.earlier.items ++ route.later.items
+  pub each : (p : Part) → In p route.parts.items → IsOwn versions p
+  pub all : (m : ℕ) → m < forever → covers route.slice m ≡ true → HasMoment (spans_of route.parts.items) m
 
 -- something is asked of the table, which is not lost on the way from any of the parts' versions
 pub record MayBeRead (versions : List PlainVersion) (route : Route) (table : List ℕ) (r : Read) : Type 0 where

@@ -1,6 +1,6 @@
 //! A query on any version, answered.
 
-ghost use Rattle.std.specs.Prelude.{◌≡◌, ◌+◌, ◌≤◌, IfOk, length};
+ghost use Rattle.std.specs.Prelude.{◌≡◌, ◌+◌, ◌≤◌, List, IfOk, length};
 ghost use Rattle.relations.specs.Listing.{IsListing};
 ghost use Rattle.prima_base.specs.Keeping.{kept};
 ghost use Rattle.prima_base.specs.Order.{row_cmp};
@@ -8,10 +8,13 @@ ghost use Rattle.prima_base.specs.Timed.{entries_of};
 ghost use Rattle.smo_meaning.specs.Past.{Past};
 ghost use Rattle.temporal_lang.specs.Answers.{asked_at, answer};
 ghost use Rattle.temporal_lang.specs.Queries.{PlainQuery, query_of, slice_of, IsLasting};
+ghost use Rattle.version_groups.specs.Groups.{versions_in};
 ghost use Rattle.version_groups.specs.Showing.{Shows};
 ghost use Rattle.rewrite.specs.Books.{meaning_of, EachOf};
 ghost use Rattle.query_exec.specs.Accepted.{IsAccepted, IsShown};
-ghost use Rattle.query_exec.specs.Reads.{query_read};
+ghost use Rattle.piece_texts.specs.ExplainedPieces.{PlainExplained};
+ghost use Rattle.query_exec.specs.QueryPieces.{ArePieces};
+ghost use Rattle.query_exec.specs.Reads.{reads_of};
 
 use crate::branches::answer_branches;
 use crate::routes::{ends_in_time, route_of};
@@ -28,8 +31,8 @@ use version_groups::Groups;
 /// made one to an atom; the groups show the past, and the book has a rule for each kind of operator.
 ///
 /// A table's pieces at a version are made from those at its neighbour, so each rule is asked once a version and piece. It takes at
-/// most as many steps as there are, for each version of the slice, item and piece, keys of the piece's tables and entries of the
-/// columns that it names of them. The one error is `NoMemory`, where memory runs out.
+/// most as many steps as there are, for each of the query's pieces, keys of the piece's tables and entries of the columns that it
+/// names of them: just the pieces that `explain` answers. The one error is `NoMemory`, where memory runs out.
 pub fn answer<'a, L: Ledger>(
     alloc: Global,
     groups: &'a Groups,
@@ -44,7 +47,7 @@ pub fn answer<'a, L: Ledger>(
     ensures listed { (past : Past) → (asked : PlainQuery) → Shows groups.now past → IsAccepted past asked (query_of query.now)
         → IfOk result (λ rows. IsListing row_cmp (asked_at past asked) (slice_of asked.when) (entries_of rows.items)) }
     ensures rows { (past : Past) → (asked : PlainQuery) → Shows groups.now past → IsAccepted past asked (query_of query.now) → IfOk result (λ rows. kept asked.keep (entries_of rows.items) ≡ answer past asked) }
-    ensures cost { steps.new ≤ steps.old + query_read groups.now (meaning_of book.now.rules.items (λ r. handles (r.vtable, r.value)) (λ r. answers (r.vtable, r.value))) (query_of query.now) }
+    ensures cost { (pieces : List PlainExplained) → ArePieces (meaning_of book.now.rules.items (λ r. handles (r.vtable, r.value)) (λ r. answers (r.vtable, r.value))) (versions_in groups.now) (query_of query.now) pieces → steps.new ≤ steps.old + reads_of groups.now pieces }
 {
     book.known();
     let slice = slice(query);

@@ -1,12 +1,13 @@
 //! Branches of a query, answered over what is read of their items' tables.
 
-ghost use Rattle.std.specs.Prelude.{◌≡◌, ℕ, ◌+◌, ◌++◌, ◌≤◌, true, IfOk};
+ghost use Rattle.std.specs.Prelude.{◌≡◌, ℕ, ◌+◌, ◌≤◌, List, true, IfOk};
 ghost use Rattle.std.specs.List.{flat_map};
 ghost use Rattle.relations.specs.Sets.{set_of};
 ghost use Rattle.relations.specs.Spans.{covers};
 ghost use Rattle.prima_base.specs.Order.{row_cmp};
 ghost use Rattle.prima_base.specs.Timed.{rows_at};
 ghost use Rattle.cond_expr.specs.References.{lent};
+ghost use Rattle.cond_expr.specs.Seen.{test};
 ghost use Rattle.smo_meaning.specs.Past.{Past, no_tables, tables_from, tables_of};
 ghost use Rattle.version_ways.specs.Migration.{migrated};
 ghost use Rattle.version_groups.specs.Groups.{versions_in};
@@ -16,12 +17,13 @@ ghost use Rattle.temporal_lang.specs.Branches.{branch_of, branches_of};
 ghost use Rattle.rewrite.specs.Books.{meaning_of, EachOf};
 ghost use Rattle.query_exec.specs.Accepted.{MayItems, MayBranch, MayBranches, AreRead};
 ghost use Rattle.query_exec.specs.Routes.{IsRoute};
-ghost use Rattle.query_exec.specs.Reads.{items_read, branch_read};
-ghost use Rattle.query_exec.specs.Totals.{total};
+ghost use Rattle.piece_texts.specs.ExplainedPieces.{PlainExplained};
+ghost use Rattle.query_exec.specs.QueryPieces.{items_pieces, branch_pieces, branches_pieces, AreAlive};
+ghost use Rattle.query_exec.specs.Reads.{reads_of};
 
 use crate::items::read_item;
 use crate::routes::Route;
-use cond_expr::{ColRef, gather_references};
+use cond_expr::{ColRef, Cond, gather_references};
 use joining::{Atom, answer_choices};
 use prima_base::{Name, NoMemory, Steps, TimedRow};
 use rule_book::{Rule, RuleBook};
@@ -40,21 +42,23 @@ fn read_items<'a, L: Ledger>(
     schema: &Schema,
     from: &[(Name, Name)],
     references: &[&ColRef],
+    cond: &Cond,
     steps: &mut Steps<L>,
 ) -> Result<Vec<Atom<'a>>, NoMemory>
     requires each { EachOf book.now.rules.items (λ r. handles (r.vtable, r.value)) }
     requires shows { (past : Past) × Shows groups.now past }
     requires route { IsRoute (versions_in groups.now) route.now }
     requires schema { schema.now ≡ tables_from no_tables (versions_in groups.now) route.now.asked }
-    requires read { MayItems (versions_in groups.now) route.now (lent references.now) 0 from.now }
-    ensures atoms { (past : Past) → Shows groups.now past → IfOk result (λ atoms. AreRead past route.now (lent references.now) 0 from.now atoms.items) }
-    ensures cost { steps.new ≤ steps.old + items_read groups.now (meaning_of book.now.rules.items (λ r. handles (r.vtable, r.value)) (λ r. answers (r.vtable, r.value))) route.now.asked (route.now.earlier.items ++ route.now.later.items) (lent references.now) 0 from.now }
+    requires read { MayItems (versions_in groups.now) route.now (lent references.now) (test cond.now) 0 from.now }
+    ensures atoms { (past : Past) → Shows groups.now past → IfOk result (λ atoms. AreRead past route.now (lent references.now) (test cond.now) 0 from.now atoms.items) }
+    ensures cost { (branch : ℕ) → (alive : List PlainExplained)
+        → AreAlive (versions_in groups.now) (items_pieces (meaning_of book.now.rules.items (λ r. handles (r.vtable, r.value)) (λ r. answers (r.vtable, r.value))) (versions_in groups.now) route.now.asked route.now.parts.items (lent references.now) (test cond.now) branch 0 from.now) alive → steps.new ≤ steps.old + reads_of groups.now alive }
 {
     let mut atoms = Vec::new(alloc);
     let mut place: u32 = 0;
     for item in from {
         let atom = read_item(
-            alloc, groups, book, route, schema, place, &item.0, references, steps,
+            alloc, groups, book, route, schema, place, &item.0, references, cond, steps,
         )?;
         atoms.push(atom)?;
         // no branch in memory has more items
@@ -80,7 +84,8 @@ fn answer_branch<'a, L: Ledger>(
     requires read { MayBranch (versions_in groups.now) route.now (branch_of branch.now) }
     ensures rows { (past : Past) → Shows groups.now past → (m : ℕ) → covers route.now.slice m ≡ true
         → IfOk result (λ rows. rows_at rows.items m ≡ set_of row_cmp (branch_answers (tables_of past route.now.asked) (migrated past m route.now.asked) (branch_of branch.now))) }
-    ensures cost { steps.new ≤ steps.old + branch_read groups.now (meaning_of book.now.rules.items (λ r. handles (r.vtable, r.value)) (λ r. answers (r.vtable, r.value))) route.now.asked (route.now.earlier.items ++ route.now.later.items) (branch_of branch.now) }
+    ensures cost { (number : ℕ) → (alive : List PlainExplained)
+        → AreAlive (versions_in groups.now) (branch_pieces (meaning_of book.now.rules.items (λ r. handles (r.vtable, r.value)) (λ r. answers (r.vtable, r.value))) (versions_in groups.now) route.now.asked route.now.parts.items number (branch_of branch.now)) alive → steps.new ≤ steps.old + reads_of groups.now alive }
 {
     let mut references = Vec::new(alloc);
     gather_references(&mut references, &branch.outs, &branch.cond)?;
@@ -92,6 +97,7 @@ fn answer_branch<'a, L: Ledger>(
         schema,
         &branch.from,
         &references,
+        &branch.cond,
         steps,
     )?;
     answer_choices(alloc, &branch.outs, &branch.cond, atoms, route.slice)
@@ -114,7 +120,8 @@ pub(crate) fn answer_branches<'a, L: Ledger>(
     requires read { MayBranches (versions_in groups.now) route.now (branches_of branches.now) }
     ensures rows { (past : Past) → Shows groups.now past → (m : ℕ) → covers route.now.slice m ≡ true
         → IfOk result (λ rows. rows_at rows.items m ≡ plain (tables_of past route.now.asked) (branches_of branches.now) (migrated past m route.now.asked)) }
-    ensures cost { steps.new ≤ steps.old + total (branch_read groups.now (meaning_of book.now.rules.items (λ r. handles (r.vtable, r.value)) (λ r. answers (r.vtable, r.value))) route.now.asked (route.now.earlier.items ++ route.now.later.items)) (branches_of branches.now) }
+    ensures cost { (number : ℕ) → (alive : List PlainExplained)
+        → AreAlive (versions_in groups.now) (branches_pieces (meaning_of book.now.rules.items (λ r. handles (r.vtable, r.value)) (λ r. answers (r.vtable, r.value))) (versions_in groups.now) route.now.asked route.now.parts.items number (branches_of branches.now)) alive → steps.new ≤ steps.old + reads_of groups.now alive }
 {
     let mut rows = Vec::new(alloc);
     for branch in branches {

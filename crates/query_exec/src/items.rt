@@ -1,7 +1,8 @@
 //! The table of an item of a FROM, read as an atom of a join.
 
-ghost use Rattle.std.specs.Prelude.{◌≡◌, ◌+◌, ◌++◌, ◌≤◌, IfOk, OnOk};
+ghost use Rattle.std.specs.Prelude.{◌≡◌, ℕ, ◌+◌, ◌++◌, ◌≤◌, List, IfOk, OnOk};
 ghost use Rattle.cond_expr.specs.References.{lent};
+ghost use Rattle.cond_expr.specs.Seen.{test};
 ghost use Rattle.smo_meaning.specs.Effects.{columns_of};
 ghost use Rattle.smo_meaning.specs.Making.{named};
 ghost use Rattle.smo_meaning.specs.Past.{Past, no_tables, tables_from};
@@ -9,17 +10,18 @@ ghost use Rattle.smo_meaning.specs.Preconditions.{among};
 ghost use Rattle.version_groups.specs.Groups.{versions_in};
 ghost use Rattle.version_groups.specs.Showing.{Shows};
 ghost use Rattle.cond_expr.specs.AtomColumns.{columns_at};
-ghost use Rattle.plain_answers.specs.Naming.{names_at};
 ghost use Rattle.rewrite.specs.Books.{meaning_of, EachOf};
 ghost use Rattle.query_exec.specs.Accepted.{IsRead};
-ghost use Rattle.query_exec.specs.Questions.{whole};
+ghost use Rattle.query_exec.specs.Questions.{own_read};
+ghost use Rattle.piece_texts.specs.ExplainedPieces.{PlainExplained};
+ghost use Rattle.query_exec.specs.QueryPieces.{table_pieces, AreAlive};
 ghost use Rattle.query_exec.specs.Routes.{IsRoute, MayBeRead};
-ghost use Rattle.query_exec.specs.Reads.{parts_read};
+ghost use Rattle.query_exec.specs.Reads.{reads_of};
 
+use crate::questions::question_of;
 use crate::routes::Route;
 use crate::tables::read_table;
-use cond_expr::{ColRef, Column};
-use join_exec::names_at;
+use cond_expr::{ColRef, Column, Cond};
 use joining::Atom;
 use prima_base::{ColType, Name, NoMemory, Steps, same_name};
 use rule_book::{Rule, RuleBook};
@@ -81,7 +83,8 @@ fn named_columns(
     Ok(columns)
 }
 
-/// What is read of an item's table over the slice, in the columns that are named of it, as the atom that is the item's place.
+/// What is read of an item's table over the slice, in the columns that are named of it and the rows that meet the condition that is
+/// pushed to it, as the atom that is the item's place.
 pub(crate) fn read_item<'a, L: Ledger>(
     alloc: Global,
     groups: &'a Groups,
@@ -91,20 +94,22 @@ pub(crate) fn read_item<'a, L: Ledger>(
     place: u32,
     table: &Name,
     references: &[&ColRef],
+    cond: &Cond,
     steps: &mut Steps<L>,
 ) -> Result<Atom<'a>, NoMemory>
     requires each { EachOf book.now.rules.items (λ r. handles (r.vtable, r.value)) }
     requires shows { (past : Past) × Shows groups.now past }
     requires route { IsRoute (versions_in groups.now) route.now }
     requires schema { schema.now ≡ tables_from no_tables (versions_in groups.now) route.now.asked }
-    requires read { MayBeRead (versions_in groups.now) route.now table.now (whole (names_at place (lent references.now))) }
-    ensures atom { (past : Past) → Shows groups.now past → IfOk result (λ a. IsRead past route.now place table.now (names_at place (lent references.now)) a) }
-    ensures cost { steps.new ≤ steps.old + (parts_read groups.now (meaning_of book.now.rules.items (λ r. handles (r.vtable, r.value)) (λ r. answers (r.vtable, r.value))) route.now.asked table.now (whole (names_at place (lent references.now))) route.now.earlier.items
-        + parts_read groups.now (meaning_of book.now.rules.items (λ r. handles (r.vtable, r.value)) (λ r. answers (r.vtable, r.value))) route.now.asked table.now (whole (names_at place (lent references.now))) route.now.later.items) }
+    requires read { MayBeRead (versions_in groups.now) route.now table.now (own_read place (lent references.now) (test cond.now)) }
+    ensures atom { (past : Past) → Shows groups.now past → IfOk result (λ a. IsRead past route.now place table.now (own_read place (lent references.now) (test cond.now)) a) }
+    ensures cost { (branch : ℕ) → (atom : ℕ) → (alive : List PlainExplained)
+        → AreAlive (versions_in groups.now) (table_pieces (meaning_of book.now.rules.items (λ r. handles (r.vtable, r.value)) (λ r. answers (r.vtable, r.value))) (versions_in groups.now) route.now.asked table.now (own_read place (lent references.now) (test cond.now)) branch atom route.now.parts.items) alive
+        → steps.new ≤ steps.old + reads_of groups.now alive }
 {
-    let names = names_at(alloc, references, place)?;
-    let columns = named_columns(alloc, place, schema, table, &names)?;
-    let rows = read_table(alloc, groups, book, route, table, &names, steps)?;
+    let question = question_of(alloc, references, cond, place)?;
+    let columns = named_columns(alloc, place, schema, table, &question.names)?;
+    let rows = read_table(alloc, groups, book, route, table, &question, steps)?;
     Ok(Atom {
         number: place,
         columns,

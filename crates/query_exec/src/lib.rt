@@ -4,12 +4,16 @@
 
 mod answers;
 mod branches;
+mod explaining;
 mod items;
 mod losses;
+mod part_pieces;
 mod pieces;
+mod questions;
 mod routes;
 mod tables;
 mod walks;
 
 pub use answers::answer;
+pub use explaining::explain;
 pub use losses::first_loss;

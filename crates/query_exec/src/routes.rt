@@ -1,12 +1,11 @@
 //! A slice, split by versions, in the order in which they are walked to.
 
-ghost use Rattle.std.specs.Prelude.{◌≡◌, ℕ, ◌+◌, ◌≤◌, IfOk, length};
+ghost use Rattle.std.specs.Prelude.{◌≡◌, ◌≤◌, IfOk, length};
 ghost use Rattle.relations.specs.Spans.{forever};
 ghost use Rattle.smo_meaning.specs.Past.{Past};
 ghost use Rattle.version_groups.specs.Groups.{versions_in};
 ghost use Rattle.version_groups.specs.Showing.{Shows};
-ghost use Rattle.period_split.specs.Splitting.{Part, split_by};
-ghost use Rattle.query_exec.specs.Totals.{total};
+ghost use Rattle.period_split.specs.Splitting.{split_by};
 ghost use Rattle.query_exec.specs.Routes.{back_from, on_from, IsRoute};
 
 use period_split::split;
@@ -14,12 +13,13 @@ use prima_base::{NoMemory, Period};
 use std::alloc::Global;
 use version_groups::Groups;
 
-/// The parts of a slice, one for each version that is in force in it: those of the asked version and of versions before it, from
-/// the last to the first, and those of later versions.
+/// The parts of a slice, one for each version that is in force in it; of these those of the asked version and of versions before it,
+/// from the last to the first, and those of later versions.
 #[derive(Drop)]
 pub(crate) struct Route {
     pub(crate) asked: u32,
     pub(crate) slice: Period,
+    pub(crate) parts: Vec<(Period, u32)>,
     pub(crate) earlier: Vec<(Period, u32)>,
     pub(crate) later: Vec<(Period, u32)>,
 }
@@ -79,7 +79,7 @@ pub(crate) fn route_of(
     ensures route { IfOk result (λ r. IsRoute (versions_in groups.now) r) }
     ensures asked { IfOk result (λ r. r.asked ≡ asked) }
     ensures slice { IfOk result (λ r. r.slice ≡ slice) }
-    ensures sums { (f : Part → ℕ) → IfOk result (λ r. total f r.earlier.items + total f r.later.items ≡ total f (split_by (versions_in groups.now) slice)) }
+    ensures parts { IfOk result (λ r. r.parts.items ≡ split_by (versions_in groups.now) slice) }
 {
     ends_in_time(slice);
     let parts = split(groups, slice)?;
@@ -88,6 +88,7 @@ pub(crate) fn route_of(
     Ok(Route {
         asked,
         slice,
+        parts,
         earlier,
         later,
     })

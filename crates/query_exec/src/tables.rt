@@ -1,24 +1,36 @@
 //! A table of the asked version, read over a whole slice.
 
-ghost use Rattle.std.specs.Prelude.{◌≡◌, ◌+◌, ◌≤◌, IfOk, length};
+ghost use Rattle.std.specs.Prelude.{◌≡◌, ℕ, ◌+◌, ◌≤◌, List, true, IfOk, map, length};
+ghost use Rattle.relations.specs.Sets.{In};
+ghost use Rattle.relations.specs.Spans.{covers};
 ghost use Rattle.relations.specs.Listing.{IsListing};
 ghost use Rattle.prima_base.specs.Order.{row_cmp};
 ghost use Rattle.prima_base.specs.Timed.{entries_of};
 ghost use Rattle.prima_base.specs.declared.timed_rows.TimedRow.{TimedRow as OneRow};
-ghost use Rattle.schema_catalog.specs.Tables.{Tables};
-ghost use Rattle.smo_meaning.specs.Effects.{columns_of};
-ghost use Rattle.smo_meaning.specs.Making.{named};
-ghost use Rattle.smo_meaning.specs.Past.{Past, tables_of};
+ghost use Rattle.smo_meaning.specs.OneRow.{Relation};
+ghost use Rattle.smo_meaning.specs.Past.{Past, tables_of, database_at};
 ghost use Rattle.version_groups.specs.Groups.{versions_in};
 ghost use Rattle.version_groups.specs.Showing.{Shows};
-ghost use Rattle.cond_expr.specs.AtomColumns.{columns_at};
+ghost use Rattle.piece_meaning.specs.Pieces.{all_mean};
+ghost use Rattle.piece_meaning.specs.Typed.{AllTyped};
+ghost use Rattle.piece_ir.specs.Shown.{pieces_of};
 ghost use Rattle.rewrite.specs.Books.{meaning_of, EachOf};
-ghost use Rattle.query_exec.specs.Questions.{whole, table_read};
-ghost use Rattle.query_exec.specs.Routes.{IsRoute, MayBeRead};
-ghost use Rattle.query_exec.specs.Reads.{parts_read};
+ghost use Rattle.query_pieces.specs.Gathering.{IsGathered};
+ghost use Rattle.query_exec.specs.Asked.{read_asked};
+ghost use Rattle.query_exec.specs.Questions.{table_read};
+ghost use Rattle.query_exec.specs.Planned.{ArePlanned, planned_spans};
+ghost use Rattle.piece_texts.specs.ExplainedPieces.{PlainExplained};
+ghost use Rattle.query_exec.specs.QueryPieces.{table_pieces, AreAlive};
+ghost use Rattle.query_exec.specs.Routes.{IsOwn, IsRoute, MayBeRead};
+ghost use Rattle.query_exec.specs.Reads.{part_read, reads_of};
+ghost use Rattle.query_exec.specs.Totals.{total};
+ghost use Rattle.query_exec.specs.declared.part_pieces.PartPieces.{PartPieces as OnePart};
 
+use crate::part_pieces::PartPieces;
+use crate::pieces::read_part;
+use crate::questions::Question;
 use crate::routes::Route;
-use crate::walks::{read_back, read_on};
+use crate::walks::{pieces_back, pieces_on};
 use coalesce::coalesce_in_place;
 use prima_base::{Name, NoMemory, Steps, TimedRow};
 use rule_book::{Rule, RuleBook};
@@ -26,28 +38,72 @@ use std::alloc::Global;
 use std::sync::ledger::Ledger;
 use version_groups::Groups;
 
-/// What the columns of these names have in the table, migrated to the asked version, at each moment of the slice: each row with
-/// its longest periods, over the borders of versions too. Each rule of the book is asked once a version and piece.
+/// The pieces of the table over each version of the slice, in the order of the versions. Each rule of the book is asked once a
+/// version and piece.
+pub(crate) fn table_pieces(
+    alloc: Global,
+    groups: &Groups,
+    book: &RuleBook,
+    route: &Route,
+    table: &Name,
+    question: &Question,
+) -> Result<Vec<PartPieces>, NoMemory>
+    requires each { EachOf book.now.rules.items (λ r. handles (r.vtable, r.value)) }
+    requires shows { (past : Past) × Shows groups.now past }
+    requires route { IsRoute (versions_in groups.now) route.now }
+    requires read { MayBeRead (versions_in groups.now) route.now table.now (read_asked question.now) }
+    ensures { IfOk result (λ v. ArePlanned (meaning_of book.now.rules.items (λ r. handles (r.vtable, r.value)) (λ r. answers (r.vtable, r.value))) (versions_in groups.now) route.now.asked table.now (read_asked question.now) route.now.parts.items v.items) }
+{
+    let mut plan = pieces_back(alloc, groups, book, route, table, question)?;
+    plan.reverse();
+    let mut later = pieces_on(alloc, groups, book, route, table, question)?;
+    plan.append(&mut later)?;
+    Ok(plan)
+}
+
+// What pieces mean at the moments of their parts, part by part.
+fn read_parts<'a, L: Ledger>(
+    alloc: Global,
+    groups: &'a Groups,
+    plan: &[PartPieces],
+    steps: &mut Steps<L>,
+) -> Result<Vec<TimedRow<'a>>, NoMemory>
+    requires ready { (past : Past) × Shows groups.now past × ((x : OnePart) → In x plan.now → IsOwn (versions_in groups.now) x.part × AllTyped (tables_of past x.part.1) (pieces_of x.pieces.items)) }
+    ensures rows { (past : Past) → Shows groups.now past → (relation : ℕ → Relation)
+        → ((x : OnePart) → In x plan.now → (m : ℕ) → covers x.part.0 m ≡ true → all_mean (tables_of past x.part.1) (database_at past m) (pieces_of x.pieces.items) ≡ relation m)
+        → IfOk result (λ rows. IsGathered relation (planned_spans plan.now) (entries_of rows.items)) }
+    ensures cost { steps.new ≤ steps.old + total (part_read groups.now) plan.now }
+{
+    let mut rows = Vec::new(alloc);
+    for own in plan {
+        read_part(alloc, groups, own.part, &own.pieces, &mut rows, steps)?;
+    }
+    Ok(rows)
+}
+
+/// What is asked of the table, migrated to the asked version, at each moment of the slice: each row with its longest periods, over
+/// the borders of versions too. Its pieces are read, and nothing else.
 pub(crate) fn read_table<'a, L: Ledger>(
     alloc: Global,
     groups: &'a Groups,
     book: &RuleBook,
     route: &Route,
     table: &Name,
-    names: &[Name],
+    question: &Question,
     steps: &mut Steps<L>,
 ) -> Result<Vec<TimedRow<'a>>, NoMemory>
     requires each { EachOf book.now.rules.items (λ r. handles (r.vtable, r.value)) }
     requires shows { (past : Past) × Shows groups.now past }
     requires route { IsRoute (versions_in groups.now) route.now }
-    requires read { MayBeRead (versions_in groups.now) route.now table.now (whole names.now) }
-    ensures rows { (past : Past) → Shows groups.now past → IfOk result (λ rows. IsListing row_cmp (table_read past route.now.asked table.now (whole names.now)) route.now.slice (entries_of rows.items)) }
-    ensures cost { steps.new ≤ steps.old + (parts_read groups.now (meaning_of book.now.rules.items (λ r. handles (r.vtable, r.value)) (λ r. answers (r.vtable, r.value))) route.now.asked table.now (whole names.now) route.now.earlier.items
-        + parts_read groups.now (meaning_of book.now.rules.items (λ r. handles (r.vtable, r.value)) (λ r. answers (r.vtable, r.value))) route.now.asked table.now (whole names.now) route.now.later.items) }
+    requires read { MayBeRead (versions_in groups.now) route.now table.now (read_asked question.now) }
+    ensures rows { (past : Past) → Shows groups.now past → IfOk result (λ rows. IsListing row_cmp (table_read past route.now.asked table.now (read_asked question.now)) route.now.slice (entries_of rows.items)) }
+    ensures cost { (branch : ℕ) → (atom : ℕ) → (alive : List PlainExplained)
+        → AreAlive (versions_in groups.now) (table_pieces (meaning_of book.now.rules.items (λ r. handles (r.vtable, r.value)) (λ r. answers (r.vtable, r.value))) (versions_in groups.now) route.now.asked table.now (read_asked question.now) branch atom route.now.parts.items) alive
+        → steps.new ≤ steps.old + reads_of groups.now alive }
 {
-    let mut rows = Vec::new(alloc);
-    read_back(alloc, groups, book, route, table, names, &mut rows, steps)?;
-    read_on(alloc, groups, book, route, table, names, &mut rows, steps)?;
+    book.known();
+    let plan = table_pieces(alloc, groups, book, route, table, question)?;
+    let mut rows = read_parts(alloc, groups, &plan, steps)?;
     coalesce_in_place(&mut rows, route.slice);
     Ok(rows)
 }

@@ -1,9 +1,7 @@
-//! A table of the asked version, read along the versions of a slice.
+//! A table of the asked version, taken along the versions of a slice.
 
-ghost use Rattle.std.specs.Prelude.{◌≡◌, ℕ, ◌+◌, ◌<◌, ◌≤◌, ◌^◌, ◌++◌, List, None, IfOk, OnOk, vec_len, length};
+ghost use Rattle.std.specs.Prelude.{◌≡◌, ℕ, ◌+◌, ◌<◌, ◌≤◌, ◌^◌, List, None, IfOk, vec_len, length};
 ghost use Rattle.std.specs.FinMap.{get};
-ghost use Rattle.relations.specs.Spans.{Span};
-ghost use Rattle.prima_base.specs.Timed.{entries_of};
 ghost use Rattle.smo_types.specs.Commands.{versions_of};
 ghost use Rattle.smo_meaning.specs.Past.{Past};
 ghost use Rattle.version_ways.specs.LostNames.{lost_names};
@@ -13,21 +11,19 @@ ghost use Rattle.plain_answers.specs.Reading.{Read};
 ghost use Rattle.piece_ir.specs.Shown.{pieces_of};
 ghost use Rattle.rewrite.specs.Books.{meaning_of, EachOf};
 ghost use Rattle.rewrite_chains.specs.Standing.{MayBeAsked, StandFor};
-ghost use Rattle.query_pieces.specs.Gathering.{IsGathered};
-ghost use Rattle.query_exec.specs.Questions.{whole, table_read};
-ghost use Rattle.query_exec.specs.Routes.{spans_of, IsRoute, MayBeRead};
+ghost use Rattle.query_exec.specs.Asked.{read_asked};
+ghost use Rattle.query_exec.specs.Planned.{ArePlanned};
+ghost use Rattle.query_exec.specs.Routes.{IsRoute, MayBeRead};
 ghost use Rattle.query_exec.specs.Standing.{AreBack, AreOn};
-ghost use Rattle.query_exec.specs.Reads.{parts_read};
 
-use crate::pieces::read_part;
+use crate::part_pieces::{PartPieces, part_pieces};
+use crate::questions::Question;
 use crate::routes::Route;
-use cond_expr::Cond;
-use prima_base::{Name, NoMemory, Steps, TimedRow};
+use prima_base::{Name, NoMemory};
 use rewrite::Walk;
 use rule_book::{Rule, RuleBook};
 use smo_types::Versions;
 use std::alloc::Global;
-use std::sync::ledger::Ledger;
 use version_groups::Groups;
 
 // Back to an earlier version, or to the same.
@@ -80,64 +76,56 @@ fn on_to(
     Ok(walk)
 }
 
-/// Puts what is read of the table at the moments of the asked version, and of versions before it, behind the rows.
-pub(crate) fn read_back<'a, L: Ledger>(
+/// What is planned for the table at the asked version, and at versions before it, from the last to the first.
+pub(crate) fn pieces_back(
     alloc: Global,
-    groups: &'a Groups,
+    groups: &Groups,
     book: &RuleBook,
     route: &Route,
     table: &Name,
-    names: &[Name],
-    rows: &mut Vec<TimedRow<'a>>,
-    steps: &mut Steps<L>,
-) -> Result<(), NoMemory>
+    question: &Question,
+) -> Result<Vec<PartPieces>, NoMemory>
     requires each { EachOf book.now.rules.items (λ r. handles (r.vtable, r.value)) }
     requires shows { (past : Past) × Shows groups.now past }
     requires route { IsRoute (versions_in groups.now) route.now }
-    requires read { MayBeRead (versions_in groups.now) route.now table.now (whole names.now) }
-    ensures rows { (past : Past) → Shows groups.now past → (spans : List Span)
-        → IsGathered (table_read past route.now.asked table.now (whole names.now)) spans (entries_of rows.old.items)
-        → OnOk result (IsGathered (table_read past route.now.asked table.now (whole names.now)) (spans ++ spans_of route.now.earlier.items) (entries_of rows.new.items)) }
-    ensures cost { steps.new ≤ steps.old + parts_read groups.now (meaning_of book.now.rules.items (λ r. handles (r.vtable, r.value)) (λ r. answers (r.vtable, r.value))) route.now.asked table.now (whole names.now) route.now.earlier.items }
+    requires read { MayBeRead (versions_in groups.now) route.now table.now (read_asked question.now) }
+    ensures { IfOk result (λ v. ArePlanned (meaning_of book.now.rules.items (λ r. handles (r.vtable, r.value)) (λ r. answers (r.vtable, r.value))) (versions_in groups.now) route.now.asked table.now (read_asked question.now) route.now.earlier.items v.items) }
 {
     book.known();
-    let start = Walk::start(alloc, route.asked, table, &Cond::True, names)?;
+    let start = Walk::start(alloc, route.asked, table, &question.cond, &question.names)?;
     let versions = groups.versions();
     let mut walk = start;
+    let mut plan = Vec::new(alloc);
     for part in &route.earlier {
         walk = back_to(book, alloc, versions, walk, part.1)?;
-        read_part(alloc, groups, *part, &walk.pieces, rows, steps)?;
+        plan.push(part_pieces(alloc, groups, *part, &walk.pieces)?)?;
     }
-    Ok(())
+    Ok(plan)
 }
 
-/// Puts what is read of the table at the moments of versions behind the asked one behind the rows.
-pub(crate) fn read_on<'a, L: Ledger>(
+/// What is planned for the table at versions behind the asked one.
+pub(crate) fn pieces_on(
     alloc: Global,
-    groups: &'a Groups,
+    groups: &Groups,
     book: &RuleBook,
     route: &Route,
     table: &Name,
-    names: &[Name],
-    rows: &mut Vec<TimedRow<'a>>,
-    steps: &mut Steps<L>,
-) -> Result<(), NoMemory>
+    question: &Question,
+) -> Result<Vec<PartPieces>, NoMemory>
     requires each { EachOf book.now.rules.items (λ r. handles (r.vtable, r.value)) }
     requires shows { (past : Past) × Shows groups.now past }
     requires route { IsRoute (versions_in groups.now) route.now }
-    requires read { MayBeRead (versions_in groups.now) route.now table.now (whole names.now) }
-    ensures rows { (past : Past) → Shows groups.now past → (spans : List Span)
-        → IsGathered (table_read past route.now.asked table.now (whole names.now)) spans (entries_of rows.old.items)
-        → OnOk result (IsGathered (table_read past route.now.asked table.now (whole names.now)) (spans ++ spans_of route.now.later.items) (entries_of rows.new.items)) }
-    ensures cost { steps.new ≤ steps.old + parts_read groups.now (meaning_of book.now.rules.items (λ r. handles (r.vtable, r.value)) (λ r. answers (r.vtable, r.value))) route.now.asked table.now (whole names.now) route.now.later.items }
+    requires read { MayBeRead (versions_in groups.now) route.now table.now (read_asked question.now) }
+    ensures { IfOk result (λ v. ArePlanned (meaning_of book.now.rules.items (λ r. handles (r.vtable, r.value)) (λ r. answers (r.vtable, r.value))) (versions_in groups.now) route.now.asked table.now (read_asked question.now) route.now.later.items v.items) }
 {
     book.known();
-    let start = Walk::start(alloc, route.asked, table, &Cond::True, names)?;
+    let start = Walk::start(alloc, route.asked, table, &question.cond, &question.names)?;
     let versions = groups.versions();
     let mut walk = start;
+    let mut plan = Vec::new(alloc);
     for part in &route.later {
         walk = on_to(book, alloc, versions, walk, part.1)?;
-        read_part(alloc, groups, *part, &walk.pieces, rows, steps)?;
+        plan.push(part_pieces(alloc, groups, *part, &walk.pieces)?)?;
     }
-    Ok(())
+    Ok(plan)
 }

@@ -1,15 +1,20 @@
 -- What is read at the moments of one version, and of one table.
-use Rattle.std.proofs.Common.{◌≡◌, ℕ, List, [], ◌∷◌, sym, ap, ◌∙◌, append-nil}
+use Rattle.std.proofs.Common.{◌≡◌, ℕ, List, [], ◌∷◌, sym, ap, subst, ◌∙◌, append-nil}
 use Rattle.std.specs.List.{flat_map}
 use Rattle.relations.specs.Sets.{set_of}
 use Rattle.prima_base.specs.Order.{row_cmp}
+use Rattle.schema_catalog.specs.Databases.{IsDatabase}
 use Rattle.smo_meaning.specs.OneRow.{Row}
+use Rattle.smo_meaning.specs.LawfulPast.{IsPast}
+use Rattle.smo_meaning.specs.LawfulValues.{PastHolds}
 use Rattle.smo_meaning.specs.Past.{Past, tables_of, version_at, database_at}
 use Rattle.plain_answers.specs.Choosing.{answers_over}
 use Rattle.plain_answers.specs.Branches.{PlainBranch, item_columns}
 use Rattle.plain_answers.specs.Reading.{Read, needed, read_columns}
 use Rattle.piece_meaning.specs.Pieces.{PlainPiece, all_mean}
 use Rattle.piece_meaning.specs.Rules.{Book}
+use Rattle.piece_prune.specs.DeadPieces.{AreLiving}
+use Rattle.piece_prune.proofs.Pruned.{mean_the_same}
 use Rattle.rewrite_chains.specs.Beginnings.{first_piece}
 use Rattle.rewrite_chains.specs.Chains.{unfolded_to}
 use Rattle.rewrite_chains.specs.Reading.{unfolded_read, unfolded_reads, unfolded_answers}
@@ -23,6 +28,15 @@ pub standing_read : (book : Book) (past : Past) (m q k : ℕ) (table : List ℕ)
 standing_read book past m q k table r ps e h =
     ap (λ (xs : List PlainPiece). all_mean (tables_of past k) (database_at past m) xs) h.unfolded
     ∙ ap (λ (v : ℕ). all_mean (tables_of past v) (database_at past m) (unfolded_to book past.versions v q (first_piece table r ∷ []))) (sym e)
+
+-- and so do those that are not dead
+pub living_read : (book : Book) (past : Past) → IsPast past → PastHolds past → (m q k : ℕ) (table : List ℕ) (r : Read) (ps living : List PlainPiece) → version_at past m ≡ k
+    → StandFor book past.versions k q table r ps → AreLiving (tables_of past k) ps living
+    → all_mean (tables_of past k) (database_at past m) living ≡ unfolded_read book past m q table r
+living_read book past is holds m q k table r ps living e h a =
+    mean_the_same (tables_of past k) (database_at past m)
+    (record { database = subst (λ (v : ℕ). IsDatabase (tables_of past v) (database_at past m)) e (is.each m); values = holds.databases m }) ps living a
+    ∙ standing_read book past m q k table r ps e h
 
 -- one branch
 pub one_branch_read : (book : Book) (past : Past) (query : PlainQuery) (b : PlainBranch) (m : ℕ) → asked_branches past query ≡ b ∷ []

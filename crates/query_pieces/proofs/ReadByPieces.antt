@@ -22,6 +22,7 @@ use Rattle.smo_meaning.specs.OneRow.{Row, Relation}
 use Rattle.smo_meaning.proofs.Firsts.{none_of_first, none_of_both, none_mapped, met}
 use Rattle.version_ways.specs.LostNames.{lost_names}
 use Rattle.plain_answers.specs.Branches.{Item, PlainBranch}
+use Rattle.plain_answers.specs.Pushing.{pushed_reads}
 use Rattle.plain_answers.specs.Reading.{needed}
 use Rattle.piece_meaning.specs.Rules.{Book, IsLawfulBook}
 use Rattle.rewrite_chains.specs.Reading.{Suffices}
@@ -31,13 +32,14 @@ use Rattle.temporal_lang.specs.declared.whens.When.TheVariants.{Always, AsOf, Du
 use Rattle.temporal_lang.specs.Queries.{PlainQuery, slice_of, IsLasting}
 use Rattle.temporal_lang.specs.Atoms.{branch_with_atoms, branches_with_atoms}
 use Rattle.temporal_lang.specs.Losing.{branch_tables, query_tables, first_lost}
-use Rattle.temporal_lang.specs.Checking.{excess_of, excess_fault, query_tests, names_tests, typing_tests, period_tests, when_fault, keep_fault}
+use Rattle.temporal_lang.specs.Checking.{excess_of, excess_fault, query_tests, names_tests, types_from, arities, output_kinds, typing_tests, period_tests, when_fault, keep_fault}
 use Rattle.temporal_lang.specs.Accepted.{no_way_back, loss_fault, version_fault, fault_of_query}
 use Rattle.temporal_lang.specs.Answers.{asked_at, listing, answer}
 use Rattle.temporal_lang.proofs.StageLaws.{listing_is}
-use Rattle.query_pieces.specs.Piecewise.{asked_branches, pieces_at, IsAskedOf, IsReadByPieces}
+use Rattle.query_pieces.specs.Piecewise.{asked_branches, pieces_at, pushed_at, IsAskedOf, IsReadByPieces}
 use Rattle.query_pieces.proofs.LeastLoss.{none_at, kept_at}
 use Rattle.query_pieces.proofs.AskedQuestions.{suffices}
+use Rattle.query_pieces.proofs.PushedQuestions.{pushed_suffices}
 
 -- the table of an item is one of the query's
 item_there : (tables : Tables) (branches : List PlainBranch) (b : PlainBranch) → In b (branches_with_atoms tables branches) → (i : Item) → In i b.from → In i.0 (query_tables branches)
@@ -87,6 +89,14 @@ module _ (past : Past) (query : PlainQuery) (accepted : fault_of_query past quer
       suffices tables query.branches
       (none_of_both (names_tests tables query.branches) (typing_tests tables (branches_with_atoms tables query.branches) ++ period_tests query.when query.keep) tests_met).0
 
+  -- and so it does of the rows alone that meet the pushed conditions
+  pub pushed_enough : (b : PlainBranch) → In b (asked_branches past query) → Suffices tables (pushed_reads b) b
+  pushed_enough =
+      pushed_suffices tables query.branches
+      (none_of_both (names_tests tables query.branches) (typing_tests tables (branches_with_atoms tables query.branches) ++ period_tests query.when query.keep) tests_met).0
+      (none_of_both (types_from tables 0 (branches_with_atoms tables query.branches)) (arities (map (output_kinds tables) (branches_with_atoms tables query.branches)))
+      (none_of_both (typing_tests tables (branches_with_atoms tables query.branches)) (period_tests query.when query.keep) behind_names).0).0
+
   -- no table of an item is lost on the way from a version in force in the slice
   pub items_kept : (m : ℕ) → IsAskedOf query m → (b : PlainBranch) → In b (asked_branches past query) → (i : Item) → In i b.from
       → get (lost_names past.versions (version_at past m) query.version) i.0 ≡ None
@@ -98,6 +108,11 @@ module _ (past : Past) (query : PlainQuery) (accepted : fault_of_query past quer
     pub asked_is : (m : ℕ) → IsAskedOf query m → asked_at past query m ≡ pieces_at book past query m
     asked_is m asked =
         moment_read book lawful past is holds.databases holds.versions m query.version needed (asked_branches past query) enough_asked
+        (items_kept m asked)
+
+    pub pushed_is : (m : ℕ) → IsAskedOf query m → asked_at past query m ≡ pushed_at book past query m
+    pushed_is m asked =
+        moment_read book lawful past is holds.databases holds.versions m query.version pushed_reads (asked_branches past query) pushed_enough
         (items_kept m asked)
 
     pub answer_is : (slice_of query.when).end ≤ forever → (relation : ℕ → Relation) → IsReadByPieces book past query relation → (entries : List (Entry Row))

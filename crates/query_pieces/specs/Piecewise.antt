@@ -7,6 +7,7 @@ use Rattle.smo_meaning.specs.Losses.{Loss, first_loss}
 use Rattle.smo_meaning.specs.Past.{Past, tables_of}
 use Rattle.version_ways.specs.LostNames.{lost_names}
 use Rattle.plain_answers.specs.Branches.{PlainBranch}
+use Rattle.plain_answers.specs.Pushing.{pushed_reads}
 use Rattle.plain_answers.specs.Reading.{needed}
 use Rattle.piece_meaning.specs.Rules.{Book}
 use Rattle.rewrite_chains.specs.Reading.{asked_by_pieces}
@@ -25,6 +26,10 @@ asked_branches past query = branches_with_atoms (tables_of past query.version) q
 -- what the branches answer at the moment over the pieces of their items' tables, of which the columns that they name are read
 abbrev pub pieces_at : Book → Past → PlainQuery → ℕ → Relation
 pieces_at book past query m = asked_by_pieces book past m query.version needed (asked_branches past query)
+
+-- the same, with of each table the rows alone that meet the condition which is pushed to the item
+abbrev pub pushed_at : Book → Past → PlainQuery → ℕ → Relation
+pushed_at book past query m = asked_by_pieces book past m query.version pushed_reads (asked_branches past query)
 
 -- the moment is one of the query's slice
 pub record IsAskedOf (query : PlainQuery) (m : ℕ) : Type 0 where

@@ -17,9 +17,11 @@ ghost use Rattle.smo_meaning.specs.LawfulValues.{PastHolds};
 ghost use Rattle.version_ways.specs.LostNames.{lost_names};
 ghost use Rattle.plain_answers.specs.Branches.{Item, PlainBranch, item_columns};
 ghost use Rattle.plain_answers.specs.Choosing.{answers_over};
+ghost use Rattle.plain_answers.specs.Pushing.{pushed_reads};
 ghost use Rattle.plain_answers.specs.Reading.{Read, needed, read_columns};
 ghost use Rattle.piece_meaning.specs.Pieces.{PlainPiece, means, all_mean};
 ghost use Rattle.piece_meaning.specs.Rules.{Book, IsLawfulBook};
+ghost use Rattle.piece_prune.specs.DeadPieces.{AreLiving};
 ghost use Rattle.rewrite_chains.specs.Reading.{Suffices, unfolded_read, unfolded_reads};
 ghost use Rattle.rewrite_chains.specs.Standing.{StandFor};
 ghost use Rattle.temporal_lang.specs.Queries.{PlainQuery, slice_of, IsLasting};
@@ -27,7 +29,7 @@ ghost use Rattle.temporal_lang.specs.Losing.{first_lost};
 ghost use Rattle.temporal_lang.specs.Accepted.{fault_of_query};
 ghost use Rattle.temporal_lang.specs.Answers.{asked_at, answer};
 ghost use Rattle.query_pieces.specs.Gathering.{IsOfPart, IsGathered, HasMoment};
-ghost use Rattle.query_pieces.specs.Piecewise.{loss_from, asked_branches, pieces_at, IsAskedOf, IsReadByPieces};
+ghost use Rattle.query_pieces.specs.Piecewise.{loss_from, asked_branches, pieces_at, pushed_at, IsAskedOf, IsReadByPieces};
 
 /// The first loss of a query is decided version by version. From an earlier version no more is lost. None is lost where none is
 /// from a version that is at least each one in force in the slice. Else the loss is that of the least of these versions from
@@ -45,22 +47,27 @@ pub fn the_least_lost_version_decides()
 {}
 
 /// A query that is not refused has a slice with moments; of the table of each item it asks a question, that of the columns which
-/// its branch names, and these are enough for the branch; and no such table is lost on the way from a version in force in the
-/// slice.
+/// its branch names, and these are enough for the branch; so it does of the rows alone that meet the pushed condition; and no such
+/// table is lost on the way from a version in force in the slice.
 pub fn an_accepted_query_asks_questions()
     ensures lasting { (past : Past) → (query : PlainQuery) → fault_of_query past query ≡ None → IsLasting query.when }
     ensures enough { (past : Past) → (query : PlainQuery) → fault_of_query past query ≡ None → (b : PlainBranch) → In b (asked_branches past query)
         → Suffices (tables_of past query.version) (needed b) b }
+    ensures pushed { (past : Past) → (query : PlainQuery) → fault_of_query past query ≡ None → (b : PlainBranch) → In b (asked_branches past query)
+        → Suffices (tables_of past query.version) (pushed_reads b) b }
     ensures kept { (past : Past) → (query : PlainQuery) → fault_of_query past query ≡ None → (m : ℕ) → IsAskedOf query m
         → (b : PlainBranch) → In b (asked_branches past query) → (i : Item) → In i b.from → get (lost_names past.versions (version_at past m) query.version) i.0 ≡ None }
 {}
 
 /// A query that is not refused asks of each moment of its slice what its branches answer over the pieces of their items' tables,
-/// unfolded to the version then in force, by any lawful book. So a relation that is this at each moment of the slice, listed over
-/// the whole slice with the longest periods, over the borders of versions too, and then cut by KEEP, is the query's answer.
+/// unfolded to the version then in force, by any lawful book; of each table the rows that meet the pushed condition are enough.
+/// So a relation that is this at each moment of the slice, listed over the whole slice with the longest periods, over the borders
+/// of versions too, and then cut by KEEP, is the query's answer.
 pub fn a_query_is_answered_by_pieces()
     ensures moment { (book : Book) → IsLawfulBook book → (past : Past) → IsPast past → PastHolds past → (query : PlainQuery) → fault_of_query past query ≡ None
         → (m : ℕ) → IsAskedOf query m → asked_at past query m ≡ pieces_at book past query m }
+    ensures pushed { (book : Book) → IsLawfulBook book → (past : Past) → IsPast past → PastHolds past → (query : PlainQuery) → fault_of_query past query ≡ None
+        → (m : ℕ) → IsAskedOf query m → asked_at past query m ≡ pushed_at book past query m }
     ensures answer { (book : Book) → IsLawfulBook book → (past : Past) → IsPast past → PastHolds past → (query : PlainQuery) → fault_of_query past query ≡ None
         → (slice_of query.when).end ≤ forever → (relation : ℕ → Relation) → IsReadByPieces book past query relation
         → (entries : List (Entry Row)) → IsListing row_cmp relation (slice_of query.when) entries → kept query.keep entries ≡ answer past query }
@@ -86,10 +93,13 @@ pub fn pieces_are_run_one_by_one()
 {}
 
 /// The pieces that stand at the version in force for what is asked of a table mean, over the database of the moment, what is read
-/// of the table by pieces. A query of one branch reads by pieces what this branch answers over what is read of its items' tables.
+/// of the table by pieces; so do those of them that are not dead, alone. A query of one branch reads by pieces what this branch answers over what is read of its items' tables.
 pub fn one_version_is_read()
     ensures table { (book : Book) → (past : Past) → (m : ℕ) → (q : ℕ) → (k : ℕ) → (table : List ℕ) → (r : Read) → (ps : List PlainPiece) → version_at past m ≡ k
         → StandFor book past.versions k q table r ps → all_mean (tables_of past k) (database_at past m) ps ≡ unfolded_read book past m q table r }
+    ensures living { (book : Book) → (past : Past) → IsPast past → PastHolds past → (m : ℕ) → (q : ℕ) → (k : ℕ) → (table : List ℕ) → (r : Read) → (ps : List PlainPiece)
+        → (living : List PlainPiece) → version_at past m ≡ k → StandFor book past.versions k q table r ps → AreLiving (tables_of past k) ps living
+        → all_mean (tables_of past k) (database_at past m) living ≡ unfolded_read book past m q table r }
     ensures branch { (book : Book) → (past : Past) → (query : PlainQuery) → (b : PlainBranch) → (m : ℕ) → asked_branches past query ≡ b ∷ []
         → pieces_at book past query m ≡ set_of row_cmp (answers_over (read_columns (needed b) (item_columns (tables_of past query.version) b.from))
         (unfolded_reads book past m query.version (needed b) b.from) b.outs b.cond) }

@@ -8,15 +8,13 @@ use Rattle.version_ways.specs.Migration.{migrated}
 use Rattle.version_groups.specs.Groups.{versions_in}
 use Rattle.plain_answers.specs.Branches.{PlainBranch, plain}
 use Rattle.piece_meaning.specs.Books.{book_of}
+use Rattle.piece_texts.specs.ExplainedPieces.{PlainExplained}
 use Rattle.temporal_lang.specs.Branches.{branches_of}
 use Rattle.temporal_lang.specs.declared.branches.Branch.{Branch}
 use Rattle.temporal_lang.specs.Queries.{query_of, slice_of}
-use Rattle.period_split.specs.Splitting.{Part, split_by}
 use Rattle.query_exec.specs.Accepted.{MayBranches}
-use Rattle.query_exec.specs.Reads.{branch_read, query_read}
-use Rattle.query_exec.specs.Totals.{total}
-use Rattle.query_exec.proofs.TotalLaws.{total_joined}
-use Rattle.query_exec.proofs.WholeAnswers.{may_all, whole_listing, whole_answer, branches_same}
+use Rattle.query_exec.specs.QueryPieces.{AreAlive}
+use Rattle.query_exec.proofs.WholeAnswers.{may_all, whole_listing, whole_answer, pieces_here}
 use Rattle.query_exec.proofs.answers.answer.Goals as goal
 
 pub answer_branches-requires-clause-schema : goal.answer_branches-requires-clause-schema
@@ -30,18 +28,9 @@ answer_branches-requires-clause-read g c =
     (may_all c.args.groups.now h.past h.asked (query_of c.args.query.now) h.shows h.accepted c.in_ok-route.route c.in_ok-route.ensures.route c.in_ok-route.ensures.asked (c.in_ok-route.ensures.slice ∙ c.slice-slice.ensures.value))
 
 pub returns-in_err-rows-clause-cost : goal.returns-in_err-rows-clause-cost
-returns-in_err-rows-clause-cost g c =
-    let q = query_of c.args.query.now in
-    let bs : List PlainBranch = branches_of c.args.query.now.branches.items in
-    let of : List Part = c.in_ok-route.route.earlier.items ++ c.in_ok-route.route.later.items in
-    let all : List Part = split_by (versions_in c.args.groups.now) (slice_of c.args.query.now.when) in
-    let same : (f : Part → ℕ) → total f of ≡ total f all = λ (f : Part → ℕ). total_joined f c.in_ok-route.route.earlier.items c.in_ok-route.route.later.items ∙ c.in_ok-route.ensures.sums f
-    ∙ ap (λ (s : Span). total f (split_by (versions_in c.args.groups.now) s)) c.slice-slice.ensures.value in
-    let reads : total (branch_read c.args.groups.now (book_of (λ r. (goal.Rule-dyn g (r.vtable, r.value)).handles r.value) (λ r. (goal.Rule-dyn g (r.vtable, r.value)).answers r.value) c.args.book.now.rules.items) c.in_ok-route.route.asked of) (branches_of c.deref.result.now) ≡ query_read c.args.groups.now (book_of (λ r. (goal.Rule-dyn g (r.vtable, r.value)).handles r.value) (λ r. (goal.Rule-dyn g (r.vtable, r.value)).answers r.value) c.args.book.now.rules.items) q =
-    ap (λ (xs : List Branch). total (branch_read c.args.groups.now (book_of (λ r. (goal.Rule-dyn g (r.vtable, r.value)).handles r.value) (λ r. (goal.Rule-dyn g (r.vtable, r.value)).answers r.value) c.args.book.now.rules.items) c.in_ok-route.route.asked of) (branches_of xs)) c.deref.ensures.value
-    ∙ ap (λ (v : ℕ). total (branch_read c.args.groups.now (book_of (λ r. (goal.Rule-dyn g (r.vtable, r.value)).handles r.value) (λ r. (goal.Rule-dyn g (r.vtable, r.value)).answers r.value) c.args.book.now.rules.items) v of) bs) c.in_ok-route.ensures.asked
-    ∙ branches_same c.args.groups.now (book_of (λ r. (goal.Rule-dyn g (r.vtable, r.value)).handles r.value) (λ r. (goal.Rule-dyn g (r.vtable, r.value)).answers r.value) c.args.book.now.rules.items) c.args.query.now.version of all same bs in
-    subst (λ (n : ℕ). c.answer_branches.new.steps ≤ c.args.steps.now + n) reads c.answer_branches.ensures.cost
+returns-in_err-rows-clause-cost g c = λ pieces h. c.answer_branches.ensures.cost 1 pieces
+    (subst (λ (all : List PlainExplained). AreAlive (versions_in c.args.groups.now) all pieces)
+    (sym (pieces_here (book_of (λ r. (goal.Rule-dyn g (r.vtable, r.value)).handles r.value) (λ r. (goal.Rule-dyn g (r.vtable, r.value)).answers r.value) c.args.book.now.rules.items) (versions_in c.args.groups.now) (query_of c.args.query.now) c.in_ok-route.route.asked c.in_ok-route.route.parts.items c.slice-slice.result (branches_of c.deref.result.now) c.in_ok-route.ensures.asked c.in_ok-route.ensures.parts c.slice-slice.ensures.value (ap branches_of c.deref.ensures.value))) h)
 
 pub returns-clause-rows : goal.returns-clause-rows
 returns-clause-rows g c = λ past asked shows accepted.
@@ -63,15 +52,6 @@ returns-clause-listed g c = λ past asked shows accepted.
     (subst (λ (s : Span). IsListing row_cmp (λ m. rows_at c.in_ok-rows.rows.items m) s (entries_of c.coalesce_in_place.new.rows.items)) c.slice-slice.ensures.value c.coalesce_in_place.ensures.listing)
 
 pub returns-clause-cost : goal.returns-clause-cost
-returns-clause-cost g c =
-    let q = query_of c.args.query.now in
-    let bs : List PlainBranch = branches_of c.args.query.now.branches.items in
-    let of : List Part = c.in_ok-route.route.earlier.items ++ c.in_ok-route.route.later.items in
-    let all : List Part = split_by (versions_in c.args.groups.now) (slice_of c.args.query.now.when) in
-    let same : (f : Part → ℕ) → total f of ≡ total f all = λ (f : Part → ℕ). total_joined f c.in_ok-route.route.earlier.items c.in_ok-route.route.later.items ∙ c.in_ok-route.ensures.sums f
-    ∙ ap (λ (s : Span). total f (split_by (versions_in c.args.groups.now) s)) c.slice-slice.ensures.value in
-    let reads : total (branch_read c.args.groups.now (book_of (λ r. (goal.Rule-dyn g (r.vtable, r.value)).handles r.value) (λ r. (goal.Rule-dyn g (r.vtable, r.value)).answers r.value) c.args.book.now.rules.items) c.in_ok-route.route.asked of) (branches_of c.deref.result.now) ≡ query_read c.args.groups.now (book_of (λ r. (goal.Rule-dyn g (r.vtable, r.value)).handles r.value) (λ r. (goal.Rule-dyn g (r.vtable, r.value)).answers r.value) c.args.book.now.rules.items) q =
-    ap (λ (xs : List Branch). total (branch_read c.args.groups.now (book_of (λ r. (goal.Rule-dyn g (r.vtable, r.value)).handles r.value) (λ r. (goal.Rule-dyn g (r.vtable, r.value)).answers r.value) c.args.book.now.rules.items) c.in_ok-route.route.asked of) (branches_of xs)) c.deref.ensures.value
-    ∙ ap (λ (v : ℕ). total (branch_read c.args.groups.now (book_of (λ r. (goal.Rule-dyn g (r.vtable, r.value)).handles r.value) (λ r. (goal.Rule-dyn g (r.vtable, r.value)).answers r.value) c.args.book.now.rules.items) v of) bs) c.in_ok-route.ensures.asked
-    ∙ branches_same c.args.groups.now (book_of (λ r. (goal.Rule-dyn g (r.vtable, r.value)).handles r.value) (λ r. (goal.Rule-dyn g (r.vtable, r.value)).answers r.value) c.args.book.now.rules.items) c.args.query.now.version of all same bs in
-    subst (λ (n : ℕ). c.answer_branches.new.steps ≤ c.args.steps.now + n) reads c.answer_branches.ensures.cost
+returns-clause-cost g c = λ pieces h. c.answer_branches.ensures.cost 1 pieces
+    (subst (λ (all : List PlainExplained). AreAlive (versions_in c.args.groups.now) all pieces)
+    (sym (pieces_here (book_of (λ r. (goal.Rule-dyn g (r.vtable, r.value)).handles r.value) (λ r. (goal.Rule-dyn g (r.vtable, r.value)).answers r.value) c.args.book.now.rules.items) (versions_in c.args.groups.now) (query_of c.args.query.now) c.in_ok-route.route.asked c.in_ok-route.route.parts.items c.slice-slice.result (branches_of c.deref.result.now) c.in_ok-route.ensures.asked c.in_ok-route.ensures.parts c.slice-slice.ensures.value (ap branches_of c.deref.ensures.value))) h)

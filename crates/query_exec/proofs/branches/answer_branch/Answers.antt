@@ -13,12 +13,13 @@ use Rattle.version_groups.specs.Groups.{versions_in}
 use Rattle.plain_answers.specs.Branches.{Item, PlainBranch, item_columns}
 use Rattle.plain_answers.specs.Choosing.{answers_over}
 use Rattle.plain_answers.specs.Naming.{all_references}
-use Rattle.plain_answers.specs.Reading.{needed, read_columns}
+use Rattle.plain_answers.specs.Pushing.{pushed_reads}
+use Rattle.plain_answers.specs.Reading.{read_columns}
 use Rattle.piece_meaning.specs.Books.{book_of}
 use Rattle.joining.specs.Sources.{atom_rows}
 use Rattle.temporal_lang.specs.Branches.{branch_of}
 use Rattle.query_exec.specs.Accepted.{MayItems}
-use Rattle.query_exec.specs.Reads.{items_read}
+use Rattle.query_exec.specs.QueryPieces.{items_pieces, AreAlive}
 use Rattle.query_exec.proofs.ItemAtoms.{are_numbered, branch_atoms, branch_rows}
 use Rattle.query_exec.proofs.branches.answer_branch.Goals as goal
 
@@ -28,8 +29,8 @@ read_items-requires-clause-read g c =
     let same : lent c.deref-3.result.now ≡ all_references b.outs b.cond = ap lent c.deref-3.ensures.value ∙ c.in_ok-gather_references.ensures
     ∙ ap (λ (xs : List Expr). lent c.new-references.result.items ++ all_references (map tree xs) (test c.args.branch.now.cond)) c.deref.ensures.value
     ∙ ap (λ (rs : List (Bor ColRef)). lent rs ++ all_references b.outs b.cond) c.new-references.ensures.items in
-    subst (λ (rs : List ColRef). MayItems (versions_in c.args.groups.now) c.args.route.now rs 0 c.deref-2.result.now) (sym same)
-    (subst (λ (from : List Item). MayItems (versions_in c.args.groups.now) c.args.route.now (all_references b.outs b.cond) 0 from) (sym c.deref-2.ensures.value) c.requires.read)
+    subst (λ (rs : List ColRef). MayItems (versions_in c.args.groups.now) c.args.route.now rs b.cond 0 c.deref-2.result.now) (sym same)
+    (subst (λ (from : List Item). MayItems (versions_in c.args.groups.now) c.args.route.now (all_references b.outs b.cond) b.cond 0 from) (sym c.deref-2.ensures.value) c.requires.read)
 
 pub returns-in_err-atoms-clause-cost : goal.returns-in_err-atoms-clause-cost
 returns-in_err-atoms-clause-cost g c =
@@ -37,12 +38,13 @@ returns-in_err-atoms-clause-cost g c =
     let same : lent c.deref-3.result.now ≡ all_references b.outs b.cond = ap lent c.deref-3.ensures.value ∙ c.in_ok-gather_references.ensures
     ∙ ap (λ (xs : List Expr). lent c.new-references.result.items ++ all_references (map tree xs) (test c.args.branch.now.cond)) c.deref.ensures.value
     ∙ ap (λ (rs : List (Bor ColRef)). lent rs ++ all_references b.outs b.cond) c.new-references.ensures.items in
-    subst (λ (from : List Item). c.read_items.new.steps ≤ c.args.steps.now + items_read c.args.groups.now (book_of (λ r. (goal.Rule-dyn g (r.vtable, r.value)).handles r.value) (λ r. (goal.Rule-dyn g (r.vtable, r.value)).answers r.value) c.args.book.now.rules.items) c.args.route.now.asked (c.args.route.now.earlier.items ++ c.args.route.now.later.items) (all_references b.outs b.cond) 0 from) c.deref-2.ensures.value
-    (subst (λ (rs : List ColRef). c.read_items.new.steps ≤ c.args.steps.now + items_read c.args.groups.now (book_of (λ r. (goal.Rule-dyn g (r.vtable, r.value)).handles r.value) (λ r. (goal.Rule-dyn g (r.vtable, r.value)).answers r.value) c.args.book.now.rules.items) c.args.route.now.asked (c.args.route.now.earlier.items ++ c.args.route.now.later.items) rs 0 c.deref-2.result.now) same c.read_items.ensures.cost)
+    λ number alive h. c.read_items.ensures.cost number alive
+    (subst (λ (from : List Item). AreAlive (versions_in c.args.groups.now) (items_pieces (book_of (λ r. (goal.Rule-dyn g (r.vtable, r.value)).handles r.value) (λ r. (goal.Rule-dyn g (r.vtable, r.value)).answers r.value) c.args.book.now.rules.items) (versions_in c.args.groups.now) c.args.route.now.asked c.args.route.now.parts.items (lent c.deref-3.result.now) b.cond number 0 from) alive) (sym c.deref-2.ensures.value)
+    (subst (λ (rs : List ColRef). AreAlive (versions_in c.args.groups.now) (items_pieces (book_of (λ r. (goal.Rule-dyn g (r.vtable, r.value)).handles r.value) (λ r. (goal.Rule-dyn g (r.vtable, r.value)).answers r.value) c.args.book.now.rules.items) (versions_in c.args.groups.now) c.args.route.now.asked c.args.route.now.parts.items rs b.cond number 0 b.from) alive) (sym same) h))
 
 pub answer_choices-requires : goal.answer_choices-requires
 answer_choices-requires g c =
-    are_numbered c.requires.shows.0 c.args.route.now (lent c.deref-3.result.now) 0 c.deref-2.result.now c.in_ok-atoms.atoms.items (c.in_ok-atoms.ensures.atoms c.requires.shows.0 c.requires.shows.1)
+    are_numbered c.requires.shows.0 c.args.route.now (lent c.deref-3.result.now) (test c.args.branch.now.cond) 0 c.deref-2.result.now c.in_ok-atoms.atoms.items (c.in_ok-atoms.ensures.atoms c.requires.shows.0 c.requires.shows.1)
 
 pub returns-clause-rows : goal.returns-clause-rows
 returns-clause-rows g c = λ past shows m inside.
@@ -53,8 +55,8 @@ returns-clause-rows g c = λ past shows m inside.
     let read = c.in_ok-atoms.ensures.atoms past shows in
     IfOk-weaker c.answer_choices.result _ _
     (λ rows q. branch_rows past c.args.route.now b (lent c.deref-3.result.now) c.deref-2.result.now c.in_ok-atoms.atoms.items same c.deref-2.ensures.value read m inside (rows_at rows.items m)
-    (q ∙ ap (λ (xs : List Expr). set_of row_cmp (answers_over (read_columns (needed b) (item_columns (tables_of past c.args.route.now.asked) b.from)) (atom_rows c.in_ok-atoms.atoms.items m) (map tree xs) (test c.args.branch.now.cond))) c.deref-4.ensures.value))
-    (c.answer_choices.ensures.rows (read_columns (needed b) (item_columns (tables_of past c.args.route.now.asked) b.from)) (branch_atoms past c.args.route.now b (lent c.deref-3.result.now) c.deref-2.result.now c.in_ok-atoms.atoms.items same c.deref-2.ensures.value read) m inside)
+    (q ∙ ap (λ (xs : List Expr). set_of row_cmp (answers_over (read_columns (pushed_reads b) (item_columns (tables_of past c.args.route.now.asked) b.from)) (atom_rows c.in_ok-atoms.atoms.items m) (map tree xs) (test c.args.branch.now.cond))) c.deref-4.ensures.value))
+    (c.answer_choices.ensures.rows (read_columns (pushed_reads b) (item_columns (tables_of past c.args.route.now.asked) b.from)) (branch_atoms past c.args.route.now b (lent c.deref-3.result.now) c.deref-2.result.now c.in_ok-atoms.atoms.items same c.deref-2.ensures.value read) m inside)
 
 pub returns-clause-cost : goal.returns-clause-cost
 returns-clause-cost g c =
@@ -62,5 +64,6 @@ returns-clause-cost g c =
     let same : lent c.deref-3.result.now ≡ all_references b.outs b.cond = ap lent c.deref-3.ensures.value ∙ c.in_ok-gather_references.ensures
     ∙ ap (λ (xs : List Expr). lent c.new-references.result.items ++ all_references (map tree xs) (test c.args.branch.now.cond)) c.deref.ensures.value
     ∙ ap (λ (rs : List (Bor ColRef)). lent rs ++ all_references b.outs b.cond) c.new-references.ensures.items in
-    subst (λ (from : List Item). c.read_items.new.steps ≤ c.args.steps.now + items_read c.args.groups.now (book_of (λ r. (goal.Rule-dyn g (r.vtable, r.value)).handles r.value) (λ r. (goal.Rule-dyn g (r.vtable, r.value)).answers r.value) c.args.book.now.rules.items) c.args.route.now.asked (c.args.route.now.earlier.items ++ c.args.route.now.later.items) (all_references b.outs b.cond) 0 from) c.deref-2.ensures.value
-    (subst (λ (rs : List ColRef). c.read_items.new.steps ≤ c.args.steps.now + items_read c.args.groups.now (book_of (λ r. (goal.Rule-dyn g (r.vtable, r.value)).handles r.value) (λ r. (goal.Rule-dyn g (r.vtable, r.value)).answers r.value) c.args.book.now.rules.items) c.args.route.now.asked (c.args.route.now.earlier.items ++ c.args.route.now.later.items) rs 0 c.deref-2.result.now) same c.read_items.ensures.cost)
+    λ number alive h. c.read_items.ensures.cost number alive
+    (subst (λ (from : List Item). AreAlive (versions_in c.args.groups.now) (items_pieces (book_of (λ r. (goal.Rule-dyn g (r.vtable, r.value)).handles r.value) (λ r. (goal.Rule-dyn g (r.vtable, r.value)).answers r.value) c.args.book.now.rules.items) (versions_in c.args.groups.now) c.args.route.now.asked c.args.route.now.parts.items (lent c.deref-3.result.now) b.cond number 0 from) alive) (sym c.deref-2.ensures.value)
+    (subst (λ (rs : List ColRef). AreAlive (versions_in c.args.groups.now) (items_pieces (book_of (λ r. (goal.Rule-dyn g (r.vtable, r.value)).handles r.value) (λ r. (goal.Rule-dyn g (r.vtable, r.value)).answers r.value) c.args.book.now.rules.items) (versions_in c.args.groups.now) c.args.route.now.asked c.args.route.now.parts.items rs b.cond number 0 b.from) alive) (sym same) h))

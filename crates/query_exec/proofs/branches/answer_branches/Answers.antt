@@ -10,17 +10,20 @@ use Rattle.piece_meaning.specs.Books.{book_of}
 use Rattle.temporal_lang.specs.Branches.{branch_of, branches_of}
 use Rattle.temporal_lang.specs.declared.branches.Branch.{Branch}
 use Rattle.query_exec.specs.Accepted.{MayBranch, MayBranches}
-use Rattle.query_exec.specs.Reads.{branch_read}
-use Rattle.query_exec.specs.Totals.{total}
-use Rattle.query_exec.proofs.BranchRows.{none_answered, next_branch, branches_left, may_next_branch}
-use Rattle.query_exec.proofs.TotalLaws.{cost_step, cost_within}
+use Rattle.query_exec.specs.QueryPieces.{branches_pieces}
+use Rattle.query_exec.specs.Reads.{reads_of}
+use Rattle.query_exec.proofs.AliveLaws.{Owes, owes_all, owes_within}
+use Rattle.query_exec.proofs.BranchRows.{none_answered, next_branch, branch_owes, may_next_branch}
 use Rattle.query_exec.proofs.branches.answer_branches.Goals as goal
 
 pub loop-branch-init : goal.loop-branch-init
 loop-branch-init g c = record {
   may = c.requires.read;
   rows = λ past shows m inside. ap (λ (rs : List TimedRow). rows_at rs m) c.new-rows.ensures.items ∙ none_answered (branch_answers (tables_of past c.args.route.now.asked) (migrated past m c.args.route.now.asked)) m;
-  count = omega arith;
+  count = λ number alive h.
+      let e : number ≡ number + 0 = omega arith in
+      subst (λ (n : ℕ). Owes c.args.groups.now (versions_in c.args.groups.now) (branches_pieces (book_of (λ r. (goal.Rule-dyn g (r.vtable, r.value)).handles r.value) (λ r. (goal.Rule-dyn g (r.vtable, r.value)).answers r.value) c.args.book.now.rules.items) (versions_in c.args.groups.now) c.args.route.now.asked c.args.route.now.parts.items n (branches_of c.args.branches.now)) c.args.steps.now (c.args.steps.now + reads_of c.args.groups.now alive)) e
+      (owes_all c.args.groups.now (versions_in c.args.groups.now) (branches_pieces (book_of (λ r. (goal.Rule-dyn g (r.vtable, r.value)).handles r.value) (λ r. (goal.Rule-dyn g (r.vtable, r.value)).answers r.value) c.args.book.now.rules.items) (versions_in c.args.groups.now) c.args.route.now.asked c.args.route.now.parts.items number (branches_of c.args.branches.now)) alive c.args.steps.now h);
 }
 
 pub answer_branch-requires-clause-read : goal.answer_branch-requires-clause-read
@@ -44,8 +47,8 @@ loop-branch-preserved g c =
       rows = λ past shows m inside.
           next_branch bs i b below is (tables_of past c.args.route.now.asked) (migrated past m c.args.route.now.asked) c.loop-branch.rows.items c.in_ok-news.news.items c.append.new.self.items m c.in_ok-append.ensures.items
           (c.loop-branch.invariant.rows past shows m inside) (c.in_ok-news.ensures.rows past shows m inside);
-      count = cost_step c.answer_branch.new.steps c.loop-branch.steps (branch_read c.args.groups.now (book_of (λ r. (goal.Rule-dyn g (r.vtable, r.value)).handles r.value) (λ r. (goal.Rule-dyn g (r.vtable, r.value)).answers r.value) c.args.book.now.rules.items) c.args.route.now.asked (c.args.route.now.earlier.items ++ c.args.route.now.later.items) (branch_of b)) (branch_read c.args.groups.now (book_of (λ r. (goal.Rule-dyn g (r.vtable, r.value)).handles r.value) (λ r. (goal.Rule-dyn g (r.vtable, r.value)).answers r.value) c.args.book.now.rules.items) c.args.route.now.asked (c.args.route.now.earlier.items ++ c.args.route.now.later.items) (branch_of b)) (total (branch_read c.args.groups.now (book_of (λ r. (goal.Rule-dyn g (r.vtable, r.value)).handles r.value) (λ r. (goal.Rule-dyn g (r.vtable, r.value)).answers r.value) c.args.book.now.rules.items) c.args.route.now.asked (c.args.route.now.earlier.items ++ c.args.route.now.later.items)) (branches_of (drop i bs))) (total (branch_read c.args.groups.now (book_of (λ r. (goal.Rule-dyn g (r.vtable, r.value)).handles r.value) (λ r. (goal.Rule-dyn g (r.vtable, r.value)).answers r.value) c.args.book.now.rules.items) c.args.route.now.asked (c.args.route.now.earlier.items ++ c.args.route.now.later.items)) (branches_of (drop (i + 1) bs))) (c.args.steps.now + total (branch_read c.args.groups.now (book_of (λ r. (goal.Rule-dyn g (r.vtable, r.value)).handles r.value) (λ r. (goal.Rule-dyn g (r.vtable, r.value)).answers r.value) c.args.book.now.rules.items) c.args.route.now.asked (c.args.route.now.earlier.items ++ c.args.route.now.later.items)) (branches_of bs))
-          c.answer_branch.ensures.cost refl (branches_left bs i b below is (branch_read c.args.groups.now (book_of (λ r. (goal.Rule-dyn g (r.vtable, r.value)).handles r.value) (λ r. (goal.Rule-dyn g (r.vtable, r.value)).answers r.value) c.args.book.now.rules.items) c.args.route.now.asked (c.args.route.now.earlier.items ++ c.args.route.now.later.items))) c.loop-branch.invariant.count;
+      count = λ number alive h. branch_owes bs i b below is c.args.groups.now (book_of (λ r. (goal.Rule-dyn g (r.vtable, r.value)).handles r.value) (λ r. (goal.Rule-dyn g (r.vtable, r.value)).answers r.value) c.args.book.now.rules.items) (versions_in c.args.groups.now) c.args.route.now.asked c.args.route.now.parts.items number c.loop-branch.steps (c.args.steps.now + reads_of c.args.groups.now alive) c.answer_branch.new.steps
+          (c.loop-branch.invariant.count number alive h) (λ own k. c.answer_branch.ensures.cost (number + i) own k);
     }
 
 pub returns-in_err-news-clause-cost : goal.returns-in_err-news-clause-cost
@@ -55,9 +58,10 @@ returns-in_err-news-clause-cost g c =
     let b : Branch = c.branch-item.result in
     let below : i < length bs = c.loop-branch-test.true in
     let is : b ≡ get_or bs i b = c.branch-item.is in
-    cost_within c.answer_branch.new.steps (total (branch_read c.args.groups.now (book_of (λ r. (goal.Rule-dyn g (r.vtable, r.value)).handles r.value) (λ r. (goal.Rule-dyn g (r.vtable, r.value)).answers r.value) c.args.book.now.rules.items) c.args.route.now.asked (c.args.route.now.earlier.items ++ c.args.route.now.later.items)) (branches_of (drop (i + 1) bs))) (c.args.steps.now + total (branch_read c.args.groups.now (book_of (λ r. (goal.Rule-dyn g (r.vtable, r.value)).handles r.value) (λ r. (goal.Rule-dyn g (r.vtable, r.value)).answers r.value) c.args.book.now.rules.items) c.args.route.now.asked (c.args.route.now.earlier.items ++ c.args.route.now.later.items)) (branches_of bs))
-    (cost_step c.answer_branch.new.steps c.loop-branch.steps (branch_read c.args.groups.now (book_of (λ r. (goal.Rule-dyn g (r.vtable, r.value)).handles r.value) (λ r. (goal.Rule-dyn g (r.vtable, r.value)).answers r.value) c.args.book.now.rules.items) c.args.route.now.asked (c.args.route.now.earlier.items ++ c.args.route.now.later.items) (branch_of b)) (branch_read c.args.groups.now (book_of (λ r. (goal.Rule-dyn g (r.vtable, r.value)).handles r.value) (λ r. (goal.Rule-dyn g (r.vtable, r.value)).answers r.value) c.args.book.now.rules.items) c.args.route.now.asked (c.args.route.now.earlier.items ++ c.args.route.now.later.items) (branch_of b)) (total (branch_read c.args.groups.now (book_of (λ r. (goal.Rule-dyn g (r.vtable, r.value)).handles r.value) (λ r. (goal.Rule-dyn g (r.vtable, r.value)).answers r.value) c.args.book.now.rules.items) c.args.route.now.asked (c.args.route.now.earlier.items ++ c.args.route.now.later.items)) (branches_of (drop i bs))) (total (branch_read c.args.groups.now (book_of (λ r. (goal.Rule-dyn g (r.vtable, r.value)).handles r.value) (λ r. (goal.Rule-dyn g (r.vtable, r.value)).answers r.value) c.args.book.now.rules.items) c.args.route.now.asked (c.args.route.now.earlier.items ++ c.args.route.now.later.items)) (branches_of (drop (i + 1) bs))) (c.args.steps.now + total (branch_read c.args.groups.now (book_of (λ r. (goal.Rule-dyn g (r.vtable, r.value)).handles r.value) (λ r. (goal.Rule-dyn g (r.vtable, r.value)).answers r.value) c.args.book.now.rules.items) c.args.route.now.asked (c.args.route.now.earlier.items ++ c.args.route.now.later.items)) (branches_of bs))
-    c.answer_branch.ensures.cost refl (branches_left bs i b below is (branch_read c.args.groups.now (book_of (λ r. (goal.Rule-dyn g (r.vtable, r.value)).handles r.value) (λ r. (goal.Rule-dyn g (r.vtable, r.value)).answers r.value) c.args.book.now.rules.items) c.args.route.now.asked (c.args.route.now.earlier.items ++ c.args.route.now.later.items))) c.loop-branch.invariant.count)
+    λ number alive h.
+    owes_within c.args.groups.now (versions_in c.args.groups.now) (branches_pieces (book_of (λ r. (goal.Rule-dyn g (r.vtable, r.value)).handles r.value) (λ r. (goal.Rule-dyn g (r.vtable, r.value)).answers r.value) c.args.book.now.rules.items) (versions_in c.args.groups.now) c.args.route.now.asked c.args.route.now.parts.items (number + (i + 1)) (branches_of (drop (i + 1) bs))) c.answer_branch.new.steps (c.args.steps.now + reads_of c.args.groups.now alive)
+    (branch_owes bs i b below is c.args.groups.now (book_of (λ r. (goal.Rule-dyn g (r.vtable, r.value)).handles r.value) (λ r. (goal.Rule-dyn g (r.vtable, r.value)).answers r.value) c.args.book.now.rules.items) (versions_in c.args.groups.now) c.args.route.now.asked c.args.route.now.parts.items number c.loop-branch.steps (c.args.steps.now + reads_of c.args.groups.now alive) c.answer_branch.new.steps
+    (c.loop-branch.invariant.count number alive h) (λ own k. c.answer_branch.ensures.cost (number + i) own k))
 
 pub returns-in_err-append-clause-cost : goal.returns-in_err-append-clause-cost
 returns-in_err-append-clause-cost g c =
@@ -66,11 +70,17 @@ returns-in_err-append-clause-cost g c =
     let b : Branch = c.branch-item.result in
     let below : i < length bs = c.loop-branch-test.true in
     let is : b ≡ get_or bs i b = c.branch-item.is in
-    cost_within c.answer_branch.new.steps (total (branch_read c.args.groups.now (book_of (λ r. (goal.Rule-dyn g (r.vtable, r.value)).handles r.value) (λ r. (goal.Rule-dyn g (r.vtable, r.value)).answers r.value) c.args.book.now.rules.items) c.args.route.now.asked (c.args.route.now.earlier.items ++ c.args.route.now.later.items)) (branches_of (drop (i + 1) bs))) (c.args.steps.now + total (branch_read c.args.groups.now (book_of (λ r. (goal.Rule-dyn g (r.vtable, r.value)).handles r.value) (λ r. (goal.Rule-dyn g (r.vtable, r.value)).answers r.value) c.args.book.now.rules.items) c.args.route.now.asked (c.args.route.now.earlier.items ++ c.args.route.now.later.items)) (branches_of bs))
-    (cost_step c.answer_branch.new.steps c.loop-branch.steps (branch_read c.args.groups.now (book_of (λ r. (goal.Rule-dyn g (r.vtable, r.value)).handles r.value) (λ r. (goal.Rule-dyn g (r.vtable, r.value)).answers r.value) c.args.book.now.rules.items) c.args.route.now.asked (c.args.route.now.earlier.items ++ c.args.route.now.later.items) (branch_of b)) (branch_read c.args.groups.now (book_of (λ r. (goal.Rule-dyn g (r.vtable, r.value)).handles r.value) (λ r. (goal.Rule-dyn g (r.vtable, r.value)).answers r.value) c.args.book.now.rules.items) c.args.route.now.asked (c.args.route.now.earlier.items ++ c.args.route.now.later.items) (branch_of b)) (total (branch_read c.args.groups.now (book_of (λ r. (goal.Rule-dyn g (r.vtable, r.value)).handles r.value) (λ r. (goal.Rule-dyn g (r.vtable, r.value)).answers r.value) c.args.book.now.rules.items) c.args.route.now.asked (c.args.route.now.earlier.items ++ c.args.route.now.later.items)) (branches_of (drop i bs))) (total (branch_read c.args.groups.now (book_of (λ r. (goal.Rule-dyn g (r.vtable, r.value)).handles r.value) (λ r. (goal.Rule-dyn g (r.vtable, r.value)).answers r.value) c.args.book.now.rules.items) c.args.route.now.asked (c.args.route.now.earlier.items ++ c.args.route.now.later.items)) (branches_of (drop (i + 1) bs))) (c.args.steps.now + total (branch_read c.args.groups.now (book_of (λ r. (goal.Rule-dyn g (r.vtable, r.value)).handles r.value) (λ r. (goal.Rule-dyn g (r.vtable, r.value)).answers r.value) c.args.book.now.rules.items) c.args.route.now.asked (c.args.route.now.earlier.items ++ c.args.route.now.later.items)) (branches_of bs))
-    c.answer_branch.ensures.cost refl (branches_left bs i b below is (branch_read c.args.groups.now (book_of (λ r. (goal.Rule-dyn g (r.vtable, r.value)).handles r.value) (λ r. (goal.Rule-dyn g (r.vtable, r.value)).answers r.value) c.args.book.now.rules.items) c.args.route.now.asked (c.args.route.now.earlier.items ++ c.args.route.now.later.items))) c.loop-branch.invariant.count)
+    λ number alive h.
+    owes_within c.args.groups.now (versions_in c.args.groups.now) (branches_pieces (book_of (λ r. (goal.Rule-dyn g (r.vtable, r.value)).handles r.value) (λ r. (goal.Rule-dyn g (r.vtable, r.value)).answers r.value) c.args.book.now.rules.items) (versions_in c.args.groups.now) c.args.route.now.asked c.args.route.now.parts.items (number + (i + 1)) (branches_of (drop (i + 1) bs))) c.answer_branch.new.steps (c.args.steps.now + reads_of c.args.groups.now alive)
+    (branch_owes bs i b below is c.args.groups.now (book_of (λ r. (goal.Rule-dyn g (r.vtable, r.value)).handles r.value) (λ r. (goal.Rule-dyn g (r.vtable, r.value)).answers r.value) c.args.book.now.rules.items) (versions_in c.args.groups.now) c.args.route.now.asked c.args.route.now.parts.items number c.loop-branch.steps (c.args.steps.now + reads_of c.args.groups.now alive) c.answer_branch.new.steps
+    (c.loop-branch.invariant.count number alive h) (λ own k. c.answer_branch.ensures.cost (number + i) own k))
 
 pub returns-clause-rows : goal.returns-clause-rows
 returns-clause-rows g c = λ past shows m inside.
     c.loop-branch.invariant.rows past shows m inside
     ∙ ap (λ (bs : List Branch). plain (tables_of past c.args.route.now.asked) (branches_of bs) (migrated past m c.args.route.now.asked)) (take_all c.loop-branch.branch-index c.args.branches.now c.loop-branch-test.false)
+
+pub returns-clause-cost : goal.returns-clause-cost
+returns-clause-cost g c = λ number alive h.
+    owes_within c.args.groups.now (versions_in c.args.groups.now) (branches_pieces (book_of (λ r. (goal.Rule-dyn g (r.vtable, r.value)).handles r.value) (λ r. (goal.Rule-dyn g (r.vtable, r.value)).answers r.value) c.args.book.now.rules.items) (versions_in c.args.groups.now) c.args.route.now.asked c.args.route.now.parts.items (number + c.loop-branch.branch-index) (branches_of (drop c.loop-branch.branch-index c.args.branches.now))) c.loop-branch.steps (c.args.steps.now + reads_of c.args.groups.now alive)
+    (c.loop-branch.invariant.count number alive h)

@@ -1,4 +1,4 @@
-use Rattle.std.proofs.Common.{◌≡◌, ◌+◌, ◌≤◌, ◌++◌, ℕ, true, take, drop}
+use Rattle.std.proofs.Common.{◌≡◌, ◌+◌, ℕ, List, true, take, drop}
 use Rattle.relations.specs.Spans.{covers}
 use Rattle.prima_base.specs.Timed.{rows_at}
 use Rattle.smo_meaning.specs.Past.{Past, tables_of}
@@ -7,10 +7,12 @@ use Rattle.version_groups.specs.Groups.{versions_in}
 use Rattle.version_groups.specs.Showing.{Shows}
 use Rattle.plain_answers.specs.Branches.{plain}
 use Rattle.piece_meaning.specs.Books.{book_of}
+use Rattle.piece_texts.specs.ExplainedPieces.{PlainExplained}
 use Rattle.temporal_lang.specs.Branches.{branches_of}
 use Rattle.query_exec.specs.Accepted.{MayBranches}
-use Rattle.query_exec.specs.Reads.{branch_read}
-use Rattle.query_exec.specs.Totals.{total}
+use Rattle.query_exec.specs.QueryPieces.{branches_pieces, AreAlive}
+use Rattle.query_exec.specs.Reads.{reads_of}
+use Rattle.query_exec.proofs.AliveLaws.{Owes}
 use Rattle.query_exec.proofs.branches.answer_branches.Given as goal
 
 abbrev pub invariant-loop-branch : goal.invariant-loop-branch
@@ -18,6 +20,6 @@ invariant-loop-branch g l = record {
   may : MayBranches (versions_in l.groups) l.route (branches_of (drop l.branch-index l.branches));
   rows : (past : Past) → Shows l.groups past → (m : ℕ) → covers l.route.slice m ≡ true
       → rows_at l.rows.items m ≡ plain (tables_of past l.route.asked) (branches_of (take l.branch-index l.branches)) (migrated past m l.route.asked);
-  count : l.steps + total (branch_read l.groups (book_of (λ r. (goal.Rule-dyn g (r.vtable, r.value)).handles r.value) (λ r. (goal.Rule-dyn g (r.vtable, r.value)).answers r.value) l.book.rules.items) l.route.asked (l.route.earlier.items ++ l.route.later.items)) (branches_of (drop l.branch-index l.branches))
-      ≤ l.initial.steps + total (branch_read l.groups (book_of (λ r. (goal.Rule-dyn g (r.vtable, r.value)).handles r.value) (λ r. (goal.Rule-dyn g (r.vtable, r.value)).answers r.value) l.book.rules.items) l.route.asked (l.route.earlier.items ++ l.route.later.items)) (branches_of l.branches);
+  count : (number : ℕ) → (alive : List PlainExplained) → AreAlive (versions_in l.groups) (branches_pieces (book_of (λ r. (goal.Rule-dyn g (r.vtable, r.value)).handles r.value) (λ r. (goal.Rule-dyn g (r.vtable, r.value)).answers r.value) l.book.rules.items) (versions_in l.groups) l.route.asked l.route.parts.items number (branches_of l.branches)) alive
+      → Owes l.groups (versions_in l.groups) (branches_pieces (book_of (λ r. (goal.Rule-dyn g (r.vtable, r.value)).handles r.value) (λ r. (goal.Rule-dyn g (r.vtable, r.value)).answers r.value) l.book.rules.items) (versions_in l.groups) l.route.asked l.route.parts.items (number + l.branch-index) (branches_of (drop l.branch-index l.branches))) l.steps (l.initial.steps + reads_of l.groups alive);
 }

@@ -1,18 +1,22 @@
-use Rattle.std.proofs.Common.{◌≡◌, ◌+◌, ◌≤◌, ◌++◌, take, drop}
+use Rattle.std.proofs.Common.{◌≡◌, ◌+◌, ℕ, List, take, drop}
 use Rattle.cond_expr.specs.References.{lent}
+use Rattle.cond_expr.specs.Seen.{test}
 use Rattle.smo_meaning.specs.Past.{Past}
 use Rattle.version_groups.specs.Groups.{versions_in}
 use Rattle.version_groups.specs.Showing.{Shows}
 use Rattle.piece_meaning.specs.Books.{book_of}
+use Rattle.piece_texts.specs.ExplainedPieces.{PlainExplained}
 use Rattle.query_exec.specs.Accepted.{MayItems, AreRead}
-use Rattle.query_exec.specs.Reads.{items_read}
+use Rattle.query_exec.specs.QueryPieces.{items_pieces, AreAlive}
+use Rattle.query_exec.specs.Reads.{reads_of}
+use Rattle.query_exec.proofs.AliveLaws.{Owes}
 use Rattle.query_exec.proofs.branches.read_items.Given as goal
 
 abbrev pub invariant-loop-item : goal.invariant-loop-item
 invariant-loop-item g l = record {
   place : l.place ≡ l.item-index;
-  may : MayItems (versions_in l.groups) l.route (lent l.references) l.item-index (drop l.item-index l.from);
-  read : (past : Past) → Shows l.groups past → AreRead past l.route (lent l.references) 0 (take l.item-index l.from) l.atoms.items;
-  count : l.steps + items_read l.groups (book_of (λ r. (goal.Rule-dyn g (r.vtable, r.value)).handles r.value) (λ r. (goal.Rule-dyn g (r.vtable, r.value)).answers r.value) l.book.rules.items) l.route.asked (l.route.earlier.items ++ l.route.later.items) (lent l.references) l.item-index (drop l.item-index l.from)
-      ≤ l.initial.steps + items_read l.groups (book_of (λ r. (goal.Rule-dyn g (r.vtable, r.value)).handles r.value) (λ r. (goal.Rule-dyn g (r.vtable, r.value)).answers r.value) l.book.rules.items) l.route.asked (l.route.earlier.items ++ l.route.later.items) (lent l.references) 0 l.from;
+  may : MayItems (versions_in l.groups) l.route (lent l.references) (test l.cond) l.item-index (drop l.item-index l.from);
+  read : (past : Past) → Shows l.groups past → AreRead past l.route (lent l.references) (test l.cond) 0 (take l.item-index l.from) l.atoms.items;
+  count : (branch : ℕ) → (alive : List PlainExplained) → AreAlive (versions_in l.groups) (items_pieces (book_of (λ r. (goal.Rule-dyn g (r.vtable, r.value)).handles r.value) (λ r. (goal.Rule-dyn g (r.vtable, r.value)).answers r.value) l.book.rules.items) (versions_in l.groups) l.route.asked l.route.parts.items (lent l.references) (test l.cond) branch 0 l.from) alive
+      → Owes l.groups (versions_in l.groups) (items_pieces (book_of (λ r. (goal.Rule-dyn g (r.vtable, r.value)).handles r.value) (λ r. (goal.Rule-dyn g (r.vtable, r.value)).answers r.value) l.book.rules.items) (versions_in l.groups) l.route.asked l.route.parts.items (lent l.references) (test l.cond) branch l.item-index (drop l.item-index l.from)) l.steps (l.initial.steps + reads_of l.groups alive);
 }

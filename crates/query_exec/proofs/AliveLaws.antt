@@ -1,0 +1,126 @@
+-- The pieces that are not dead, of several lists; and what is read for them.
+use Rattle.std.proofs.Common.{◌≡◌, ◌+◌, ◌≤◌, ℕ, List, [], ◌∷◌, ◌++◌, map, refl, sym, ap, subst, ◌∙◌, arith}
+use Rattle.smo_types.specs.Commands.{PlainVersion}
+use Rattle.smo_meaning.specs.Past.{no_tables, tables_from}
+use Rattle.plain_answers.specs.Reading.{Read}
+use Rattle.version_groups.specs.Groups.{Kept}
+use Rattle.piece_meaning.specs.Pieces.{PlainPiece}
+use Rattle.piece_meaning.specs.Rules.{Book}
+use Rattle.piece_ir.specs.Shown.{pieces_of}
+use Rattle.piece_prune.specs.DeadPieces.{IsDeadPiece, AreLiving, none_left, a_dead_one, a_living_one}
+use Rattle.piece_texts.specs.ExplainedPieces.{PlainExplained}
+use Rattle.rewrite_chains.specs.Beginnings.{first_piece}
+use Rattle.rewrite_chains.specs.Chains.{unfolded_to}
+use Rattle.period_split.specs.Splitting.{Part}
+use Rattle.join_exec.specs.Pieces.{piece_reads}
+use Rattle.query_exec.specs.declared.part_pieces.PartPieces.{PartPieces}
+use Rattle.query_exec.specs.QueryPieces.{explained_in, part_pieces, table_pieces, AreAlive, none_alive, one_dead, one_alive}
+use Rattle.query_exec.specs.Planned.{IsPlanned, ArePlanned, own_pieces, planned_pieces}
+use Rattle.query_exec.specs.Reads.{pieces_read, part_read, explained_read, reads_of}
+use Rattle.query_exec.specs.Totals.{total}
+use Rattle.query_exec.proofs.TotalLaws.{total_joined}
+
+-- those of two lists, one behind the other
+pub record Halves (versions : List PlainVersion) (xs ys alive : List PlainExplained) : Type 0 where
+  pub first : List PlainExplained
+  pub second : List PlainExplained
+  pub both : alive ≡ first ++ second
+  pub left : AreAlive versions xs first
+  pub right : AreAlive versions ys second
+
+module _ (versions : List PlainVersion) where
+  pub alive_joined : (xs ys first second : List PlainExplained) → AreAlive versions xs first → AreAlive versions ys second → AreAlive versions (xs ++ ys) (first ++ second)
+  alive_joined xs ys first second none_alive k = k
+  alive_joined xs ys first second (one_dead e es alive d h) k = one_dead e (es ++ ys) (alive ++ second) d (alive_joined es ys alive second h k)
+  alive_joined xs ys first second (one_alive e es alive n h) k = one_alive e (es ++ ys) (alive ++ second) n (alive_joined es ys alive second h k)
+
+  more_dead : (e : PlainExplained) (xs ys alive : List PlainExplained) → IsDeadPiece (tables_from no_tables versions e.version) e.piece → Halves versions xs ys alive → Halves versions (e ∷ xs) ys alive
+  more_dead e xs ys alive d h = record { first = h.first; second = h.second; both = h.both; left = one_dead e xs h.first d h.left; right = h.right }
+
+  more_alive : (e : PlainExplained) (xs ys alive : List PlainExplained) → ¬ IsDeadPiece (tables_from no_tables versions e.version) e.piece → Halves versions xs ys alive
+      → Halves versions (e ∷ xs) ys (e ∷ alive)
+  more_alive e xs ys alive n h =
+      record { first = e ∷ h.first; second = h.second; both = ap (λ (es : List PlainExplained). e ∷ es) h.both; left = one_alive e xs h.first n h.left; right = h.right }
+
+  pub halved : (xs ys alive : List PlainExplained) → AreAlive versions (xs ++ ys) alive → Halves versions xs ys alive
+  halved [] ys alive h = record { first = []; second = alive; both = refl; left = none_alive; right = h }
+  halved (x ∷ xs) ys alive (one_dead e es rest d h) = more_dead x xs ys rest d (halved xs ys rest h)
+  halved (x ∷ xs) ys alive (one_alive e es rest n h) = more_alive x xs ys rest n (halved xs ys rest h)
+
+  -- there is one such list
+  pub one_list : (xs first second : List PlainExplained) → AreAlive versions xs first → AreAlive versions xs second → first ≡ second
+  one_list [] first second none_alive none_alive = refl
+  one_list (x ∷ xs) first second (one_dead e es alive d h) (one_dead f fs others c k) = one_list xs alive others h k
+  one_list (x ∷ xs) first second (one_dead e es alive d h) (one_alive f fs others n k) = absurd (n d)
+  one_list (x ∷ xs) first second (one_alive e es alive n h) (one_dead f fs others d k) = absurd (n d)
+  one_list (x ∷ xs) first second (one_alive e es alive n h) (one_alive f fs others m k) = ap (λ (es : List PlainExplained). x ∷ es) (one_list xs alive others h k)
+
+  -- pieces over the version of one part
+  pub living_alive : (branch atom : ℕ) (p : Part) (ps living : List PlainPiece) → AreLiving (tables_from no_tables versions p.1) ps living
+      → AreAlive versions (map (explained_in branch atom p) ps) (map (explained_in branch atom p) living)
+  living_alive branch atom p ps living none_left = none_alive
+  living_alive branch atom p ps living (a_dead_one x xs left d h) =
+      one_dead (explained_in branch atom p x) (map (explained_in branch atom p) xs) (map (explained_in branch atom p) left) d (living_alive branch atom p xs left h)
+  living_alive branch atom p ps living (a_living_one x xs left n h) =
+      one_alive (explained_in branch atom p x) (map (explained_in branch atom p) xs) (map (explained_in branch atom p) left) n (living_alive branch atom p xs left h)
+
+  module _ (book : Book) (q : ℕ) (table : List ℕ) (r : Read) (branch atom : ℕ) where
+    own_alive : (p : Part) (x : PartPieces) → IsPlanned book versions q table r p x → AreAlive versions (part_pieces book versions q table r branch atom p) (own_pieces branch atom x)
+    own_alive p x h =
+        subst (λ (own : Part). AreAlive versions (part_pieces book versions q table r branch atom p) (map (explained_in branch atom own) (pieces_of x.pieces.items))) (sym h.part)
+        (living_alive branch atom p (unfolded_to book versions p.1 q (first_piece table r ∷ [])) (pieces_of x.pieces.items) h.living)
+
+    -- what is planned are the pieces
+    pub planned_alive : (parts : List Part) (plan : List PartPieces) → ArePlanned book versions q table r parts plan
+        → AreAlive versions (table_pieces book versions q table r branch atom parts) (planned_pieces branch atom plan)
+    planned_alive [] [] h = none_alive
+    planned_alive [] (x ∷ plan) h = absurd h
+    planned_alive (p ∷ parts) [] h = absurd h
+    planned_alive (p ∷ parts) (x ∷ plan) h =
+        alive_joined (part_pieces book versions q table r branch atom p) (table_pieces book versions q table r branch atom parts) (own_pieces branch atom x) (planned_pieces branch atom plan)
+        (own_alive p x h.0) (planned_alive parts plan h.1)
+
+-- ---- what is read
+
+module _ (kept : Kept) where
+  own_read : (branch atom : ℕ) (p : Part) (ps : List PlainPiece) → reads_of kept (map (explained_in branch atom p) ps) ≡ pieces_read kept p.1 ps
+  own_read branch atom p [] = refl
+  own_read branch atom p (x ∷ ps) = ap (λ (n : ℕ). piece_reads kept p.1 x + n) (own_read branch atom p ps)
+
+  pub planned_read : (branch atom : ℕ) (plan : List PartPieces) → reads_of kept (planned_pieces branch atom plan) ≡ total (part_read kept) plan
+  planned_read branch atom [] = refl
+  planned_read branch atom (x ∷ plan) =
+      total_joined (explained_read kept) (own_pieces branch atom x) (planned_pieces branch atom plan)
+      ∙ ap (λ (n : ℕ). n + reads_of kept (planned_pieces branch atom plan)) (own_read branch atom x.part (pieces_of x.pieces.items))
+      ∙ ap (λ (n : ℕ). part_read kept x + n) (planned_read branch atom plan)
+
+  -- a plan reads what its pieces read
+  pub plan_cost : (versions : List PlainVersion) (book : Book) (q : ℕ) (table : List ℕ) (r : Read) (branch atom : ℕ) (parts : List Part) (plan : List PartPieces)
+      → ArePlanned book versions q table r parts plan → (alive : List PlainExplained) → AreAlive versions (table_pieces book versions q table r branch atom parts) alive
+      → total (part_read kept) plan ≡ reads_of kept alive
+  plan_cost versions book q table r branch atom parts plan h alive k =
+      sym (planned_read branch atom plan)
+      ∙ ap (reads_of kept)
+      (one_list versions (table_pieces book versions q table r branch atom parts) (planned_pieces branch atom plan) alive (planned_alive versions book q table r branch atom parts plan h) k)
+
+  -- what may still be read: for those of these pieces that are not dead
+  pub record Owes (versions : List PlainVersion) (left : List PlainExplained) (steps all : ℕ) : Type 0 where
+    pub alive : List PlainExplained
+    pub are : AreAlive versions left alive
+    pub within : steps + reads_of kept alive ≤ all
+
+  -- at first, and after the first of them
+  pub owes_all : (versions : List PlainVersion) (xs alive : List PlainExplained) (steps : ℕ) → AreAlive versions xs alive → Owes versions xs steps (steps + reads_of kept alive)
+  owes_all versions xs alive steps h = record { alive = alive; are = h; within = omega arith }
+
+  pub owes_less : (versions : List PlainVersion) (xs ys : List PlainExplained) (steps all new : ℕ) → Owes versions (xs ++ ys) steps all
+      → ((alive : List PlainExplained) → AreAlive versions xs alive → new ≤ steps + reads_of kept alive) → Owes versions ys new all
+  owes_less versions xs ys steps all new o h =
+      let halves = halved versions xs ys o.alive o.are in
+      let sum : reads_of kept o.alive ≡ reads_of kept halves.first + reads_of kept halves.second = ap (reads_of kept) halves.both ∙ total_joined (explained_read kept) halves.first halves.second in
+      let here = h halves.first halves.left in
+      let within = o.within in
+      record { alive = halves.second; are = halves.right; within = omega (arith, sum, here, within) }
+
+  pub owes_within : (versions : List PlainVersion) (xs : List PlainExplained) (steps all : ℕ) → Owes versions xs steps all → steps ≤ all
+  owes_within versions xs steps all o = (let within = o.within in omega (arith, within))

@@ -1,0 +1,23 @@
+use Rattle.std.proofs.Common.{◌≡◌, ◌+◌, ◌≤◌, ℕ, true, take, drop}
+use Rattle.relations.specs.Sets.{In}
+use Rattle.relations.specs.Spans.{covers}
+use Rattle.prima_base.specs.Timed.{entries_of}
+use Rattle.smo_meaning.specs.OneRow.{Relation}
+use Rattle.smo_meaning.specs.Past.{Past, tables_of, database_at}
+use Rattle.version_groups.specs.Showing.{Shows}
+use Rattle.piece_meaning.specs.Pieces.{all_mean}
+use Rattle.piece_ir.specs.Shown.{pieces_of}
+use Rattle.query_pieces.specs.Gathering.{IsGathered}
+use Rattle.query_exec.specs.declared.part_pieces.PartPieces.{PartPieces}
+use Rattle.query_exec.specs.Planned.{planned_spans}
+use Rattle.query_exec.specs.Reads.{part_read}
+use Rattle.query_exec.specs.Totals.{total}
+use Rattle.query_exec.proofs.tables.read_parts.Given as goal
+
+abbrev pub invariant-loop-own : goal.invariant-loop-own
+invariant-loop-own g l = record {
+  rows : (past : Past) → Shows l.groups past → (relation : ℕ → Relation)
+      → ((x : PartPieces) → In x l.plan → (m : ℕ) → covers x.part.0 m ≡ true → all_mean (tables_of past x.part.1) (database_at past m) (pieces_of x.pieces.items) ≡ relation m)
+      → IsGathered relation (planned_spans (take l.own-index l.plan)) (entries_of l.rows.items);
+  count : l.steps + total (part_read l.groups) (drop l.own-index l.plan) ≤ l.initial.steps + total (part_read l.groups) l.plan;
+}

@@ -1,0 +1,63 @@
+-- The pieces of a query: for each branch and item in text order, and for each version that is in force in the slice, those into which
+-- what is asked of the item's table unfolds there, but for the dead.
+use Rattle.std.specs.Prelude.{ℕ, ◌+◌, ◌++◌, List, [], ◌∷◌, map}
+use Rattle.std.specs.List.{flat_map}
+use Rattle.cond_expr.specs.declared.exprs.ColRef.{ColRef}
+use Rattle.cond_expr.specs.Trees.{Test}
+use Rattle.smo_types.specs.Commands.{PlainVersion}
+use Rattle.smo_meaning.specs.Past.{no_tables, tables_from}
+use Rattle.plain_answers.specs.Branches.{Item, PlainBranch}
+use Rattle.plain_answers.specs.Naming.{all_references}
+use Rattle.plain_answers.specs.Reading.{Read}
+use Rattle.piece_meaning.specs.Pieces.{PlainPiece}
+use Rattle.piece_meaning.specs.Rules.{Book}
+use Rattle.piece_prune.specs.DeadPieces.{IsDeadPiece}
+use Rattle.piece_texts.specs.ExplainedPieces.{PlainExplained}
+use Rattle.rewrite_chains.specs.Beginnings.{first_piece}
+use Rattle.rewrite_chains.specs.Chains.{unfolded_to}
+use Rattle.temporal_lang.specs.Queries.{PlainQuery, slice_of}
+use Rattle.period_split.specs.Splitting.{Part, split_by}
+use Rattle.query_exec.specs.Questions.{own_read}
+
+-- a piece over the version of a part, for this item of this branch, each numbered from 1
+abbrev pub explained_in : ℕ → ℕ → Part → PlainPiece → PlainExplained
+explained_in branch atom p piece = record { period = p.0; branch = branch; atom = atom; version = p.1; piece = piece }
+
+-- what is asked of a table of version q, in one part of a slice, dead pieces too; and in several
+abbrev pub part_pieces : Book → List PlainVersion → ℕ → List ℕ → Read → ℕ → ℕ → Part → List PlainExplained
+part_pieces book versions q table r branch atom p =
+    map (explained_in branch atom p) (unfolded_to book versions p.1 q (first_piece table r ∷ []))
+
+abbrev pub table_pieces : Book → List PlainVersion → ℕ → List ℕ → Read → ℕ → ℕ → List Part → List PlainExplained
+table_pieces book versions q table r branch atom parts = flat_map (part_pieces book versions q table r branch atom) parts
+
+-- of items, the first of which has this place
+abbrev pub items_pieces : Book → List PlainVersion → ℕ → List Part → List ColRef → Test → ℕ → ℕ → List Item → List PlainExplained
+items_pieces book versions q parts references cond branch i [] = []
+items_pieces book versions q parts references cond branch i (x ∷ from) =
+    table_pieces book versions q x.0 (own_read i references cond) branch (i + 1) parts ++ items_pieces book versions q parts references cond branch (i + 1) from
+
+abbrev pub branch_pieces : Book → List PlainVersion → ℕ → List Part → ℕ → PlainBranch → List PlainExplained
+branch_pieces book versions q parts n b = items_pieces book versions q parts (all_references b.outs b.cond) b.cond n 0 b.from
+
+-- of branches, the first of which has this number
+abbrev pub branches_pieces : Book → List PlainVersion → ℕ → List Part → ℕ → List PlainBranch → List PlainExplained
+branches_pieces book versions q parts n [] = []
+branches_pieces book versions q parts n (b ∷ branches) = branch_pieces book versions q parts n b ++ branches_pieces book versions q parts (n + 1) branches
+
+-- of a query whose references are to atoms
+abbrev pub all_pieces : Book → List PlainVersion → PlainQuery → List PlainExplained
+all_pieces book versions query =
+    branches_pieces book versions query.version (split_by versions (slice_of query.when)) 1 query.branches
+
+-- those that are not dead, in their order
+pub data AreAlive (versions : List PlainVersion) : List PlainExplained → List PlainExplained → Type 0 where
+  none_alive : AreAlive versions [] []
+  one_dead : (e : PlainExplained) (es alive : List PlainExplained) → IsDeadPiece (tables_from no_tables versions e.version) e.piece → AreAlive versions es alive
+      → AreAlive versions (e ∷ es) alive
+  one_alive : (e : PlainExplained) (es alive : List PlainExplained) → ¬ IsDeadPiece (tables_from no_tables versions e.version) e.piece → AreAlive versions es alive
+      → AreAlive versions (e ∷ es) (e ∷ alive)
+
+-- the pieces of a query
+abbrev pub ArePieces : Book → List PlainVersion → PlainQuery → List PlainExplained → Type 0
+ArePieces book versions query list = AreAlive versions (all_pieces book versions query) list
