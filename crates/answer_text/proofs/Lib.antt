@@ -2,3 +2,4 @@ pub mod Doubling
 pub mod Gathered
 pub mod Listed
 pub mod TablesLeft
+mod Worked

@@ -11,6 +11,8 @@ use Rattle.smo_types.specs.Operators.{Operator}
 use Rattle.smo_types.specs.Commands.{PlainVersion}
 use Rattle.smo_parse.specs.TreeTexts.{value_text}
 use Rattle.smo_parse.specs.Texts.{listed, column_text, operator_text}
+use Rattle.piece_texts.specs.ExplainedPieces.{PlainExplained}
+use Rattle.piece_texts.specs.PieceTexts.{piece_text}
 
 -- so many rows were gained and lost at this moment
 unfoldable pub changed_text : ℕ → ℕ → ℕ → List ℕ
@@ -57,6 +59,21 @@ count_text count = codes "end " ++ decimal count ++ codes "\n"
 -- the rows, and then how many they are
 unfoldable pub listing_text : Bool → List (Entry (List Value)) → List ℕ
 listing_text told entries = flat_map (row_text told) entries ++ count_text (length entries)
+
+-- ---- the pieces of a query
+
+-- the head of a piece's line: the moments in which it is run, the branch and the atom that it is run for, and the version that it reads
+unfoldable pub piece_head : PlainExplained → List ℕ
+piece_head e =
+    codes "piece " ++ decimal e.period.start ++ codes " " ++ end_text e.period.end
+    ++ codes " " ++ decimal e.branch ++ codes " " ++ decimal e.atom ++ codes " " ++ decimal e.version ++ codes " "
+
+abbrev pub explained_text : PlainExplained → List ℕ
+explained_text e = piece_head e ++ (piece_text e.piece ++ codes "\n")
+
+-- the pieces, and then how many they are
+unfoldable pub explain_text : List PlainExplained → List ℕ
+explain_text list = flat_map explained_text list ++ count_text (length list)
 
 -- ---- versions
 

@@ -1,9 +1,10 @@
 //! Replies that are made in memory before they are put.
 
-ghost use Rattle.std.specs.Prelude.{◌≡◌, ◌++◌, ℕ, List, OnOk, OnErr, IfOk, decimal};
+ghost use Rattle.std.specs.Prelude.{◌≡◌, ◌++◌, ℕ, List, OnOk, OnErr, IfOk, decimal, Err};
 ghost use Rattle.std.specs.Io.KnownBytes.{Appends};
 ghost use Rattle.prima_io.specs.Moves.{AppendsFront};
 ghost use Rattle.answer_text.specs.Causes.{HasStopCause};
+ghost use Rattle.answer_text.specs.declared.stop.Stop.TheVariants as stop;
 ghost use Rattle.answer_text.specs.Texts.{end_text, count_text};
 
 use crate::stop::Stop;
@@ -47,10 +48,11 @@ pub(crate) fn add_count(line: &mut Vec<u8>, count: u64) -> Result<(), NoMemory>
 }
 
 /// Puts lines that were made in memory, or stops where they were not. `WriteFault` comes only where the sink's count of
-/// faults rose; a front of the lines was then put, as of those that found no memory.
+/// faults rose; a front of the lines was then put. Of lines that found no memory nothing was put.
 pub(crate) fn put_lines<K: Sink>(sink: &mut K, lines: Result<Vec<u8>, NoMemory>) -> Result<(), Stop>
     ensures all { (text : List ℕ) → IfOk lines (λ l. l.items ≡ text) → OnOk result (Appends (K.written sink.old) (K.written sink.new) text) }
     ensures part { (text : List ℕ) → IfOk lines (λ l. l.items ≡ text) → OnErr result (AppendsFront (K.written sink.old) (K.written sink.new) text) }
+    ensures unsaid { result ≡ Err stop.NoMemory → K.written sink.new ≡ K.written sink.old }
     ensures cause { HasStopCause (K.faults sink.old) (K.faults sink.new) result }
 {
     match lines {

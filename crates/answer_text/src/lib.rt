@@ -1,10 +1,11 @@
-//! The lines of replies: what is answered to a query and to a command, the versions, the tables of a schema, and the
-//! refusals. Each is put straight into a sink.
+//! The lines of replies: what is answered to a query and to a command, the pieces that a query runs, the versions, the
+//! tables of a schema, and the refusals. Each is put into a sink.
 //!
 //! `specs/Texts.antt` and `specs/RefusalTexts.antt` say each line by its bytes.
 #![tactic(auto)]
 
 mod bytes;
+mod explanation;
 mod line;
 mod listing;
 mod refusal;
@@ -13,7 +14,9 @@ mod schema;
 mod stop;
 mod versions;
 
+pub use explanation::{explain_text, put_explained};
 pub use listing::{Listing, put_listing};
+pub use piece_texts::Explained;
 pub use refusal::put_refusal;
 pub use reply::{put_changed, put_evolved, put_not_a_journal, put_wrong_words};
 pub use schema::put_schema;

@@ -1,11 +1,12 @@
 //! The lines of SHOW SCHEMA: each table of a version with its columns.
 
-ghost use Rattle.std.specs.Prelude.{◌≡◌, ◌++◌, map, drop, IfOk, OnOk, OnErr};
+ghost use Rattle.std.specs.Prelude.{◌≡◌, ◌++◌, map, drop, IfOk, OnOk, OnErr, Err};
 ghost use Rattle.std.specs.FinMap.{entries};
 ghost use Rattle.std.specs.Io.KnownBytes.{Appends};
 ghost use Rattle.prima_io.specs.Moves.{AppendsFront};
 ghost use Rattle.smo_parse.specs.Texts.{type_text, column_text, listed, more_listed};
 ghost use Rattle.answer_text.specs.Causes.{HasStopCause};
+ghost use Rattle.answer_text.specs.declared.stop.Stop.TheVariants as stop;
 ghost use Rattle.answer_text.specs.Texts.{table_text, tables_text, schema_text};
 
 use crate::bytes::{add, add_count, put_lines};
@@ -100,10 +101,11 @@ fn schema_lines(alloc: Global, schema: &Schema) -> Result<Vec<u8>, NoMemory>
 }
 
 /// Puts a line for each table of the schema, in the order of names, and then how many they are. A failing sink's count has
-/// risen; a front of the lines was then put, as where memory ran out.
+/// risen; a front of the lines was then put. Where memory ran out nothing was put.
 pub fn put_schema<K: Sink>(alloc: Global, sink: &mut K, schema: &Schema) -> Result<(), Stop>
     ensures all { OnOk result (Appends (K.written sink.old) (K.written sink.new) (schema_text schema.now)) }
     ensures part { OnErr result (AppendsFront (K.written sink.old) (K.written sink.new) (schema_text schema.now)) }
+    ensures unsaid { result ≡ Err stop.NoMemory → K.written sink.new ≡ K.written sink.old }
     ensures cause { HasStopCause (K.faults sink.old) (K.faults sink.new) result }
 {
     put_lines(sink, schema_lines(alloc, schema))

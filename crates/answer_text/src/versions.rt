@@ -1,12 +1,13 @@
 //! The lines of SHOW VERSIONS: each version with the moments at which it is in force, its operator and its inverse.
 
-ghost use Rattle.std.specs.Prelude.{◌≡◌, ◌++◌, ◌+◌, ◌<◌, ◌^◌, length, map, IfOk, OnOk, OnErr};
+ghost use Rattle.std.specs.Prelude.{◌≡◌, ◌++◌, ◌+◌, ◌<◌, ◌^◌, length, map, IfOk, OnOk, OnErr, Err};
 ghost use Rattle.std.specs.Io.KnownBytes.{Appends};
 ghost use Rattle.prima_io.specs.Moves.{AppendsFront};
 ghost use Rattle.smo_types.specs.Operators.{operator_of, operators_of};
 ghost use Rattle.smo_types.specs.Commands.{version_of};
 ghost use Rattle.smo_parse.specs.Texts.{operator_text};
 ghost use Rattle.answer_text.specs.Causes.{HasStopCause};
+ghost use Rattle.answer_text.specs.declared.stop.Stop.TheVariants as stop;
 ghost use Rattle.answer_text.specs.Texts.{more_operators, inverse_text, version_head, first_version_text, version_text, next_stamp, version_texts, versions_text};
 
 use crate::bytes::{add, add_count, add_end, add_number, put_lines};
@@ -131,10 +132,11 @@ fn version_lines(alloc: Global, versions: &[Version]) -> Result<Vec<u8>, NoMemor
 }
 
 /// Puts a line for each version, version 0 first, and then how many they are. A failing sink's count has risen; a front
-/// of the lines was then put, as where memory ran out.
+/// of the lines was then put. Where memory ran out nothing was put.
 pub fn put_versions<K: Sink>(alloc: Global, sink: &mut K, versions: &[Version]) -> Result<(), Stop>
     ensures all { OnOk result (Appends (K.written sink.old) (K.written sink.new) (versions_text (map version_of versions.now))) }
     ensures part { OnErr result (AppendsFront (K.written sink.old) (K.written sink.new) (versions_text (map version_of versions.now))) }
+    ensures unsaid { result ≡ Err stop.NoMemory → K.written sink.new ≡ K.written sink.old }
     ensures cause { HasStopCause (K.faults sink.old) (K.faults sink.new) result }
 {
     put_lines(sink, version_lines(alloc, versions))

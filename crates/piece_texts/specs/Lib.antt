@@ -1,1 +1,2 @@
+pub mod ExplainedPieces
 pub mod PieceTexts

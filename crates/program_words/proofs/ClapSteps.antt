@@ -8,9 +8,9 @@ use Rattle.clap.specs.Simple.{built, Shape, matches_of}
 use Rattle.clap.specs.declared.error.kind.ErrorKind.{ErrorKind}
 use Rattle.clap.proofs.FaultLemmas.{leaf_fault}
 use Rattle.program_words.specs.Reading.{program, parts_in, parsed}
-use Rattle.program_words.specs.Words.{Word, Parts, with_limit}
+use Rattle.program_words.specs.Words.{Word, Parts, Setting, journal_limit, size, setting_name, with_value}
 use Rattle.program_words.proofs.WordsRead.{with_other}
-use Rattle.program_words.proofs.FoundRows.{Keeps, limit_name, word_name, more_limits, same_other, same_has, word_limits, word_other, word_has}
+use Rattle.program_words.proofs.FoundRows.{Keeps, word_name, more_of, word_of}
 
 abbrev pub shape : Shape
 shape = (built program).top
@@ -32,17 +32,17 @@ walk_at rows pending waiting position trailing = record {
 
 pub data Pending : Type 0 where
   nothing : Pending
-  a_limit : Word → Pending
+  a_value : Setting → Word → Pending
   a_word : Word → Pending
 
 abbrev pub pending_text : Pending → Option (Text × List Text)
 pending_text nothing = None
-pending_text (a_limit word) = Some (limit_name, word ∷ [])
+pending_text (a_value setting word) = Some (setting_name setting, word ∷ [])
 pending_text (a_word word) = Some (word_name, word ∷ [])
 
 abbrev pub parts_with : Pending → Parts → Parts
 parts_with nothing parts = parts
-parts_with (a_limit word) parts = with_limit word parts
+parts_with (a_value setting word) parts = with_value setting word parts
 parts_with (a_word word) parts = with_other word parts
 
 abbrev pub Fits : Pending → Parts → Type 0
@@ -57,22 +57,16 @@ rows_with pending rows = settled_rows rules_built (pending_text pending) rows
 
 pub keeps_with : (pending : Pending) (rows : List Row) (parts : Parts) → Keeps rows parts → Fits pending parts → Keeps (rows_with pending rows) (parts_with pending parts)
 keeps_with nothing rows parts k f = k
-keeps_with (a_limit word) rows parts k f = record {
-  limits = more_limits _ word rows ∙ ap (λ (l : List Word). l ++ word ∷ []) k.limits;
-  other = same_other _ word rows ∙ k.other;
-  has = same_has _ word rows ∙ k.has;
-}
+keeps_with (a_value journal_limit word) rows parts k f = more_of journal_limit _ word rows parts k
+keeps_with (a_value size word) rows parts k f = more_of size _ word rows parts k
 keeps_with (a_word word) rows parts k f =
-    let lacks : has_row word_name rows ≡ false = k.has ∙ ap is_some f in record {
-      limits = ap (λ (o : Option (List Word)). unwrap_or o []) (word_limits _ word rows lacks) ∙ k.limits;
-      other = word_other _ word rows lacks;
-      has = word_has _ word rows lacks;
-    }
+    let lacks : has_row word_name rows ≡ false = k.has ∙ ap is_some f in word_of _ word rows parts lacks k
 
 pub settles : (pending : Pending) (rows : List Row) (parts : Parts) → Keeps rows parts → Fits pending parts
     → settle_fault rules_built false (held_at rows (pending_text pending)) ≡ []
 settles nothing rows parts k f = refl
-settles (a_limit word) rows parts k f = refl
+settles (a_value journal_limit word) rows parts k f = refl
+settles (a_value size word) rows parts k f = refl
 settles (a_word word) rows parts k f =
     let lacks : has_row word_name rows ≡ false = k.has ∙ ap is_some f in rw lacks
 
@@ -126,6 +120,12 @@ pub is_refused : (w : Walk) (word : Word) (words : List Word) (kind : ErrorKind)
 unfolding walk_fault
 is_refused w word words kind fault = rw fault
 
+abbrev some_parts : List Word → List Word → Option Word → Option Parts
+some_parts limits sizes other = Some (record { limits = limits; sizes = sizes; other = other })
+
+same_parts : {l k s t : List Word} {o u : Option Word} → l ≡ k → s ≡ t → o ≡ u → some_parts l s o ≡ some_parts k t u
+same_parts {l} {k} {s} {t} {o} {u} e f g = ap (λ (x : List Word). some_parts x s o) e ∙ ap (λ (x : List Word). some_parts k x o) f ∙ ap (λ (x : Option Word). some_parts k t x) g
+
 pub ends : (rows : List Row) (parts : Parts) (pending : Pending) (waiting : Waiting) (position : ℕ) (trailing : Bool)
     → Keeps rows parts → Fits pending parts
     → outcome (walk_at rows (pending_text pending) waiting position trailing) [] ≡ Some (parts_with pending parts)
@@ -135,9 +135,10 @@ ends rows parts pending waiting position trailing k f =
     let d = defaults_pass (rows_with pending rows) in
     let after = keeps_with pending rows parts k f in
     let n = no_defaults (held_at rows (pending_text pending)) in
-    rw (s, d, n) (ap₂ (λ (l : List Word) (o : Option Word). Some (record { limits = l; other = o })) after.limits after.other)
+    rw (s, d, n) (same_parts (after.values journal_limit) (after.values size) after.other)
 
-pub ends_waiting : (rows : List Row) (waiting : Waiting) (position : ℕ) (trailing : Bool)
-    → outcome (walk_at rows (Some (limit_name, [])) waiting position trailing) [] ≡ None
+pub ends_waiting : (setting : Setting) (rows : List Row) (waiting : Waiting) (position : ℕ) (trailing : Bool)
+    → outcome (walk_at rows (Some (setting_name setting, [])) waiting position trailing) [] ≡ None
 unfolding walk_fault
-ends_waiting rows waiting position trailing = refl
+ends_waiting journal_limit rows waiting position trailing = refl
+ends_waiting size rows waiting position trailing = refl

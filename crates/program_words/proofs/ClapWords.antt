@@ -6,10 +6,11 @@ use Rattle.std.proofs.lemmas.Str.{encode_ascii, IsUtf8-past_char, encodes-chars}
 use Rattle.clap.specs.Walk.{Row, Text, Waiting, walked, idle, option, positional}
 use Rattle.clap.specs.Faults.{turn_fault, settle_fault, flags_fault}
 use Rattle.clap.specs.declared.error.kind.ErrorKind.TheVariants.{InvalidValue, UnknownArgument}
-use Rattle.program_words.specs.Words.{Word, Parts, option_name, option_value}
+use Rattle.program_words.specs.Words.{Word, Parts, Setting, journal_limit, size, setting_name, option_value}
 use Rattle.program_words.proofs.WordKinds.{IsPlainWord}
-use Rattle.program_words.proofs.FoundRows.{Keeps, limit_name}
-use Rattle.program_words.proofs.ClapSteps.{walk_at, shape, rules_built, Pending, nothing, a_limit, a_word, pending_text, parts_with, Fits, held_at, rows_with, settles}
+use Rattle.program_words.proofs.FoundRows.{Keeps}
+use Rattle.program_words.proofs.WordsRead.{IsNamed, IsUnknown}
+use Rattle.program_words.proofs.ClapSteps.{walk_at, shape, rules_built, Pending, nothing, a_value, a_word, pending_text, parts_with, Fits, held_at, rows_with, settles}
 
 -- ---- `--`
 
@@ -49,48 +50,61 @@ short_refused x xs utf8 e rows pending positional position = let first = (first_
 -- ---- two hyphens and more
 
 module _ (x : ℕ) (xs : List ℕ) where
-  pub unknown_refused : bytes_eq limit_name (option_name (x ∷ xs)) ≡ false → (rows : List Row) (pending : Option (Text × List Text)) (waiting : Waiting) (position : ℕ)
+  pub unknown_refused : IsUnknown (x ∷ xs) → (rows : List Row) (pending : Option (Text × List Text)) (waiting : Waiting) (position : ℕ)
       → turn_fault shape [] (walk_at rows pending waiting position false) (45 ∷ 45 ∷ x ∷ xs) ≡ UnknownArgument ∷ []
-  unknown_refused e rows pending idle position = rw e
-  unknown_refused e rows pending (option id) position = rw e
-  unknown_refused e rows pending positional position = rw e
+  unknown_refused e rows pending idle position = rw (e.0, e.1)
+  unknown_refused e rows pending (option id) position = rw (e.0, e.1)
+  unknown_refused e rows pending positional position = rw (e.0, e.1)
 
-  module _ (named : bytes_eq limit_name (option_name (x ∷ xs)) ≡ true) (rows : List Row) (parts : Parts) (pending : Pending) (position : ℕ) (k : Keeps rows parts) (f : Fits pending parts) where
-    pub joined_passes : (text : Word) → option_value (x ∷ xs) ≡ Some text
+  module _ (rows : List Row) (parts : Parts) (pending : Pending) (position : ℕ) (k : Keeps rows parts) (f : Fits pending parts) where
+    pub joined_passes : (setting : Setting) → IsNamed setting (x ∷ xs) → (text : Word) → option_value (x ∷ xs) ≡ Some text
         → turn_fault shape [] (walk_at rows (pending_text pending) idle position false) (45 ∷ 45 ∷ x ∷ xs) ≡ []
-    joined_passes text e = let s = settles pending rows parts k f in rw (named, e, s)
+    joined_passes journal_limit named text e = let s = settles pending rows parts k f in rw (named, e, s)
+    joined_passes size named text e = let s = settles pending rows parts k f in rw (named.0, named.1, e, s)
 
-    pub joined_walked : (text : Word) → option_value (x ∷ xs) ≡ Some text
+    pub joined_walked : (setting : Setting) → IsNamed setting (x ∷ xs) → (text : Word) → option_value (x ∷ xs) ≡ Some text
         → walked rules_built [] (walk_at rows (pending_text pending) idle position false) (45 ∷ 45 ∷ x ∷ xs)
-        ≡ walk_at (rows_with (a_limit text) (rows_with pending rows)) None idle position false
+        ≡ walk_at (rows_with (a_value setting text) (rows_with pending rows)) None idle position false
     unfolding walked
-    joined_walked text e = rw (named, e)
+    joined_walked journal_limit named text e = rw (named, e)
+    joined_walked size named text e = rw (named.0, named.1, e)
 
-    pub apart_passes : option_value (x ∷ xs) ≡ None
+    pub apart_passes : (setting : Setting) → IsNamed setting (x ∷ xs) → option_value (x ∷ xs) ≡ None
         → turn_fault shape [] (walk_at rows (pending_text pending) idle position false) (45 ∷ 45 ∷ x ∷ xs) ≡ []
-    apart_passes e = let s = settles pending rows parts k f in rw (named, e, s)
+    apart_passes journal_limit named e = let s = settles pending rows parts k f in rw (named, e, s)
+    apart_passes size named e = let s = settles pending rows parts k f in rw (named.0, named.1, e, s)
 
-    pub apart_walked : option_value (x ∷ xs) ≡ None
+    pub apart_walked : (setting : Setting) → IsNamed setting (x ∷ xs) → option_value (x ∷ xs) ≡ None
         → walked rules_built [] (walk_at rows (pending_text pending) idle position false) (45 ∷ 45 ∷ x ∷ xs)
-        ≡ walk_at (rows_with pending rows) (Some (limit_name, [])) (option limit_name) position false
+        ≡ walk_at (rows_with pending rows) (Some (setting_name setting, [])) (option (setting_name setting)) position false
     unfolding walked
-    apart_walked e = rw (named, e)
+    apart_walked journal_limit named e = rw (named, e)
+    apart_walked size named e = rw (named.0, named.1, e)
 
-  pub waiting_refused : bytes_eq limit_name (option_name (x ∷ xs)) ≡ true → (value : Option Word) → option_value (x ∷ xs) ≡ value → (rows : List Row) (position : ℕ)
-      → turn_fault shape [] (walk_at rows (Some (limit_name, [])) (option limit_name) position false) (45 ∷ 45 ∷ x ∷ xs) ≡ InvalidValue ∷ []
-  waiting_refused e None v rows position = rw (e, v)
-  waiting_refused e (Some text) v rows position = rw (e, v)
+  -- an option that waits, and the option whose name then comes
+  pub waiting_refused : (waits setting : Setting) → IsNamed setting (x ∷ xs) → (value : Option Word) → option_value (x ∷ xs) ≡ value → (rows : List Row) (position : ℕ)
+      → turn_fault shape [] (walk_at rows (Some (setting_name waits, [])) (option (setting_name waits)) position false) (45 ∷ 45 ∷ x ∷ xs) ≡ InvalidValue ∷ []
+  waiting_refused journal_limit journal_limit e None v rows position = rw (e, v)
+  waiting_refused journal_limit journal_limit e (Some text) v rows position = rw (e, v)
+  waiting_refused journal_limit size e None v rows position = rw (e.0, e.1, v)
+  waiting_refused journal_limit size e (Some text) v rows position = rw (e.0, e.1, v)
+  waiting_refused size journal_limit e None v rows position = rw (e, v)
+  waiting_refused size journal_limit e (Some text) v rows position = rw (e, v)
+  waiting_refused size size e None v rows position = rw (e.0, e.1, v)
+  waiting_refused size size e (Some text) v rows position = rw (e.0, e.1, v)
 
--- ---- the value of the option
+-- ---- the value of an option
 
 module _ (word : Word) (plain : IsPlainWord word) (rows : List Row) (position : ℕ) where
-  pub value_passes : turn_fault shape [] (walk_at rows (Some (limit_name, [])) (option limit_name) position false) word ≡ []
-  value_passes = rw (plain.more, plain.long, plain.short)
+  pub value_passes : (setting : Setting) → turn_fault shape [] (walk_at rows (Some (setting_name setting, [])) (option (setting_name setting)) position false) word ≡ []
+  value_passes journal_limit = rw (plain.more, plain.long, plain.short)
+  value_passes size = rw (plain.more, plain.long, plain.short)
 
-  pub value_walked : walked rules_built [] (walk_at rows (Some (limit_name, [])) (option limit_name) position false) word
-      ≡ walk_at rows (pending_text (a_limit word)) idle position false
+  pub value_walked : (setting : Setting) → walked rules_built [] (walk_at rows (Some (setting_name setting, [])) (option (setting_name setting)) position false) word
+      ≡ walk_at rows (pending_text (a_value setting word)) idle position false
   unfolding walked
-  value_walked = rw (plain.more, plain.long, plain.short)
+  value_walked journal_limit = rw (plain.more, plain.long, plain.short)
+  value_walked size = rw (plain.more, plain.long, plain.short)
 
 -- ---- the other word
 
@@ -98,7 +112,8 @@ module _ (word : Word) (rows : List Row) (parts : Parts) (pending : Pending) (k 
   no_word_pends : (p : Pending) → (parts_with p parts).other ≡ None → Fits p parts → settle_fault rules_built false (held_at rows (pending_text p)) ≡ []
       → turn_fault shape [] (walk_at rows (pending_text p) idle 1 true) word ≡ []
   no_word_pends nothing e g s = refl
-  no_word_pends (a_limit v) e g s = refl
+  no_word_pends (a_value journal_limit v) e g s = refl
+  no_word_pends (a_value size v) e g s = refl
   no_word_pends (a_word v) e g s = absurd (cc)
 
   pub other_passes_behind : turn_fault shape [] (walk_at rows (pending_text pending) idle 1 true) word ≡ []
@@ -108,7 +123,8 @@ module _ (word : Word) (rows : List Row) (parts : Parts) (pending : Pending) (k 
       → walked rules_built [] (walk_at rows (pending_text p) idle 1 true) word ≡ walk_at (rows_with p rows) (pending_text (a_word word)) idle 2 true
   unfolding walked
   walked_behind nothing e = refl
-  walked_behind (a_limit v) e = refl
+  walked_behind (a_value journal_limit v) e = refl
+  walked_behind (a_value size v) e = refl
   walked_behind (a_word v) e = absurd (cc)
 
   pub other_walked_behind : walked rules_built [] (walk_at rows (pending_text pending) idle 1 true) word ≡ walk_at (rows_with pending rows) (pending_text (a_word word)) idle 2 true
@@ -118,7 +134,8 @@ module _ (word : Word) (rows : List Row) (parts : Parts) (pending : Pending) (k 
     passes_plain : (p : Pending) → (parts_with p parts).other ≡ None
         → turn_fault shape [] (walk_at rows (pending_text p) idle 1 false) word ≡ []
     passes_plain nothing e = rw (plain.more, plain.long, plain.short)
-    passes_plain (a_limit v) e = rw (plain.more, plain.long, plain.short)
+    passes_plain (a_value journal_limit v) e = rw (plain.more, plain.long, plain.short)
+    passes_plain (a_value size v) e = rw (plain.more, plain.long, plain.short)
     passes_plain (a_word v) e = absurd (cc)
 
     pub other_passes : turn_fault shape [] (walk_at rows (pending_text pending) idle 1 false) word ≡ []
@@ -128,7 +145,8 @@ module _ (word : Word) (rows : List Row) (parts : Parts) (pending : Pending) (k 
         → walked rules_built [] (walk_at rows (pending_text p) idle 1 false) word ≡ walk_at (rows_with p rows) (pending_text (a_word word)) idle 2 false
     unfolding walked
     walked_plain nothing e = rw (plain.more, plain.long, plain.short)
-    walked_plain (a_limit v) e = rw (plain.more, plain.long, plain.short)
+    walked_plain (a_value journal_limit v) e = rw (plain.more, plain.long, plain.short)
+    walked_plain (a_value size v) e = rw (plain.more, plain.long, plain.short)
     walked_plain (a_word v) e = absurd (cc)
 
     pub other_walked : walked rules_built [] (walk_at rows (pending_text pending) idle 1 false) word ≡ walk_at (rows_with pending rows) (pending_text (a_word word)) idle 2 false
@@ -146,8 +164,10 @@ second_refused_behind word rows pending = refl
 
 -- ---- behind a `--` that stands where a value was due
 
-pub due_refused : (word : Word) (rows : List Row) → turn_fault shape [] (walk_at rows (Some (limit_name, [])) (option limit_name) 1 true) word ≡ InvalidValue ∷ []
-due_refused word rows = refl
+pub due_refused : (setting : Setting) (word : Word) (rows : List Row) → turn_fault shape [] (walk_at rows (Some (setting_name setting, [])) (option (setting_name setting)) 1 true) word ≡ InvalidValue ∷ []
+due_refused journal_limit word rows = refl
+due_refused size word rows = refl
 
-pub due_refused_second : (word : Word) (rows : List Row) → turn_fault shape [] (walk_at rows (Some (limit_name, [])) (option limit_name) 2 true) word ≡ UnknownArgument ∷ []
-due_refused_second word rows = refl
+pub due_refused_second : (setting : Setting) (word : Word) (rows : List Row) → turn_fault shape [] (walk_at rows (Some (setting_name setting, [])) (option (setting_name setting)) 2 true) word ≡ UnknownArgument ∷ []
+due_refused_second journal_limit word rows = refl
+due_refused_second size word rows = refl

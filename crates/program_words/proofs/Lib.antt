@@ -8,3 +8,4 @@ mod Agreement
 mod Numerals
 mod OptionTexts
 mod Consists
+mod Requests

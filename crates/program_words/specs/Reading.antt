@@ -13,11 +13,17 @@ limit_rule = record (new_rule (codes "journal-limit")) {
   action = Some Append;
 }
 
--- an option, which may come more than once as far as clap is concerned, and one other word
+abbrev pub size_rule : Rule
+size_rule = record (new_rule (codes "size")) {
+  long = Some (codes "size");
+  action = Some Append;
+}
+
+-- two options, each of which may come more than once as far as clap is concerned, and one other word
 abbrev pub program : App
 program = record {
   top = record (new_shape (codes "prima")) {
-    rules = limit_rule ∷ new_rule (codes "word") ∷ [];
+    rules = limit_rule ∷ size_rule ∷ new_rule (codes "word") ∷ [];
     no_binary_name = true;
     disable_help_flag = true;
   };
@@ -27,6 +33,7 @@ program = record {
 abbrev pub parts_in : List Row → Parts
 parts_in rows = record {
   limits = unwrap_or (all_of (codes "journal-limit") rows) [];
+  sizes = unwrap_or (all_of (codes "size") rows) [];
   other = first_of (codes "word") rows;
 }
 

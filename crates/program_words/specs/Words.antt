@@ -1,11 +1,14 @@
 -- What the words of a call ask the program for.
-use Rattle.std.specs.Prelude.{ℕ, ◌==◌, ◌&&◌, ◌^◌, nat_le, nat_lt, Bool, false, List, [], ◌∷◌}
+use Rattle.std.specs.Prelude.{ℕ, ◌==◌, ◌&&◌, ◌^◌, nat_le, nat_lt, Bool, true, false, List, [], ◌∷◌}
 use Rattle.std.specs.Prelude.{◌++◌, length, Option, Some, None, is_some, codes, if◌then◌else◌}
-use Rattle.std.specs.Prelude.{option_and_then}
+use Rattle.std.specs.Prelude.{option_and_then, option_map}
 use Rattle.std.specs.Char.{is_ascii_digit}
 use Rattle.std.specs.List.{before_first, after_first, list_all, list_any}
 use Rattle.std.specs.Str.{bytes_eq}
 use Rattle.std.specs.Str.Parse.{digits_value}
+use Rattle.program_words.specs.declared.request.Mode.{Mode}
+use Rattle.program_words.specs.declared.request.Mode.TheVariants.{Run, Sample}
+use Rattle.program_words.specs.declared.request.Request.{Request}
 
 abbrev pub Word : Type 0
 Word = List ℕ
@@ -36,50 +39,83 @@ option_name = before_first is_equals
 abbrev pub option_value : Word → Option Word
 option_value text = if list_any is_equals text then Some (after_first is_equals text) else None
 
+-- ---- the options, each of which sets a number
+
+pub data Setting : Type 0 where
+  journal_limit : Setting
+  size : Setting
+
+abbrev pub setting_name : Setting → Word
+setting_name journal_limit = codes "journal-limit"
+setting_name size = codes "size"
+
+-- the option of this name
+abbrev pub setting_of : Word → Option Setting
+setting_of name =
+    if bytes_eq (codes "journal-limit") name then Some journal_limit
+    else (if bytes_eq (codes "size") name then Some size else None)
+
 -- ---- reading them from the left
 
--- the values of `--journal-limit`, in their order, and the other word
+-- the values of each option, in their order, and the other word
 pub record Parts : Type 0 where
   pub limits : List Word
+  pub sizes : List Word
   pub other : Option Word
 
 abbrev pub no_parts : Parts
-no_parts = record { limits = []; other = None }
+no_parts = record { limits = []; sizes = []; other = None }
 
 -- what comes next: any word, the value of an option, or, behind `--`, a word that is no option
 pub data Next : Type 0 where
   any : Next
-  value : Next
+  value : Setting → Next
   no_option : Next
 
-abbrev pub with_limit : Word → Parts → Parts
-with_limit word parts = record parts { limits = parts.limits ++ word ∷ [] }
+abbrev pub limits_with : Setting → Word → List Word → List Word
+limits_with journal_limit word limits = limits ++ word ∷ []
+limits_with size word limits = limits
+
+abbrev pub sizes_with : Setting → Word → List Word → List Word
+sizes_with journal_limit word sizes = sizes
+sizes_with size word sizes = sizes ++ word ∷ []
+
+-- one value more of an option
+abbrev pub with_value : Setting → Word → Parts → Parts
+with_value setting word parts = record parts {
+  limits = limits_with setting word parts.limits;
+  sizes = sizes_with setting word parts.sizes;
+}
 
 -- there is one other word at most
 abbrev pub other_read : Next → Word → Parts → Option (Next × Parts)
 other_read next word parts =
     if is_some parts.other then None else Some (next, record parts { other = Some word })
 
-abbrev pub limit_read : Option Word → Parts → Next × Parts
-limit_read (Some text) parts = (any, with_limit text parts)
-limit_read None parts = (value, parts)
+abbrev pub value_read : Setting → Option Word → Parts → Next × Parts
+value_read setting (Some text) parts = (any, with_value setting text parts)
+value_read setting None parts = (value setting, parts)
+
+abbrev pub option_read : Option Setting → Option Word → Parts → Option (Next × Parts)
+option_read (Some setting) given parts = Some (value_read setting given parts)
+option_read None given parts = None
 
 abbrev pub option_or_other : Word → Option Word → Parts → Option (Next × Parts)
 option_or_other word (Some text) parts =
-    if bytes_eq (codes "journal-limit") (option_name text)
-    then Some (limit_read (option_value text) parts) else None
+    option_read (setting_of (option_name text)) (option_value text) parts
 option_or_other word None parts = if is_dashed word then None else other_read any word parts
 
 abbrev pub word_read : Next → Word → Parts → Option (Next × Parts)
 word_read any word parts =
     if ends_options word then Some (no_option, parts)
     else option_or_other word (option_text word) parts
-word_read value word parts = if is_dashed word then None else Some (any, with_limit word parts)
+word_read (value setting) word parts =
+    if is_dashed word then None else Some (any, with_value setting word parts)
 word_read no_option word parts = other_read no_option word parts
 
 -- an option waits for no value
 abbrev pub at_end : Next → Parts → Option Parts
-at_end value parts = None
+at_end (value setting) parts = None
 at_end _ parts = Some parts
 
 abbrev pub words_read : Next → Parts → List Word → Option Parts
@@ -103,15 +139,47 @@ limit_of [] = Some (2 ^ 30)
 limit_of (text ∷ []) = number_of text
 limit_of _ = None
 
-abbrev pub is_run : Option Word → Bool
-is_run (Some word) = bytes_eq word (codes "run")
-is_run None = false
+-- the size of a sample: 1 to 2,000
+abbrev pub as_size : ℕ → Option ℕ
+as_size n = if nat_le 1 n && nat_le n 2000 then Some n else None
 
--- the limit of the journal where the parts ask for a run
-abbrev pub asked_by : Option Parts → Option ℕ
-asked_by (Some parts) = if is_run parts.other then limit_of parts.limits else None
+-- the one that is given, or 500
+abbrev pub size_of : List Word → Option ℕ
+size_of [] = Some 500
+size_of (text ∷ []) = option_and_then as_size (number_of text)
+size_of _ = None
+
+-- `run`, or `sample`, which makes a script of the size
+abbrev pub mode_of : Option Word → ℕ → Option Mode
+mode_of (Some word) n =
+    if bytes_eq word (codes "run") then Some Run
+    else (if bytes_eq word (codes "sample") then Some (Sample n) else None)
+mode_of None n = None
+
+abbrev pub request : ℕ → Mode → Request
+request limit mode = record { journal_limit = limit; mode = mode }
+
+-- the limit and the size are judged in each mode
+abbrev pub asked_with : Option ℕ → Option ℕ → Option Word → Option Request
+asked_with (Some limit) (Some n) other = option_map (request limit) (mode_of other n)
+asked_with _ _ other = None
+
+abbrev pub asked_by : Option Parts → Option Request
+asked_by (Some parts) = asked_with (limit_of parts.limits) (size_of parts.sizes) parts.other
 asked_by None = None
 
--- The words ask for a run with this limit of its journal, or they are not accepted.
+-- What the words ask for, or they are not accepted.
+abbrev pub asked : List Word → Option Request
+asked words = asked_by (words_read any no_parts words)
+
+-- the limit of the journal, where a script is to be read
+abbrev pub limit_in : Mode → ℕ → Option ℕ
+limit_in Run limit = Some limit
+limit_in (Sample n) limit = None
+
+abbrev pub limit_of_run : Request → Option ℕ
+limit_of_run r = limit_in r.mode r.journal_limit
+
+-- The words ask for a run with this limit of its journal, or for none.
 abbrev pub asked_for : List Word → Option ℕ
-asked_for words = asked_by (words_read any no_parts words)
+asked_for words = option_and_then limit_of_run (asked words)

@@ -4,5 +4,7 @@
 mod limit;
 mod numbers;
 mod parsing;
+mod request;
 
-pub use limit::{JOURNAL_LIMIT, journal_limit};
+pub use limit::journal_limit;
+pub use request::{GREATEST_SIZE, JOURNAL_LIMIT, Mode, Request, SAMPLE_SIZE, asked};

@@ -9,8 +9,8 @@ ghost use Rattle.program_words.specs.Reading.{program};
 use clap::{Arg, ArgAction, ArgMatches, Command, Error};
 use std::alloc::Global;
 
-// The words as clap reads them: an option, which may come more than once as far as clap is concerned, and
-// one other word.
+// The words as clap reads them: two options, each of which may come more than once as far as clap is
+// concerned, and one other word.
 pub fn parse<'a>(alloc: Global, words: &'a [String]) -> Result<ArgMatches<'a>, Error>
     ensures rows { IfOk result (λ m. rows_of (found_of m) ≡ matches_of program (map string_bytes words.entry.now)) }
     ensures fails { FailsBy (fault_of program (map string_bytes words.entry.now)) result }
@@ -18,11 +18,15 @@ pub fn parse<'a>(alloc: Global, words: &'a [String]) -> Result<ArgMatches<'a>, E
     let limit = Arg::new(alloc, "journal-limit")
         .long("journal-limit")
         .action(ArgAction::Append);
+    let size = Arg::new(alloc, "size")
+        .long("size")
+        .action(ArgAction::Append);
     let word = Arg::new(alloc, "word");
     let command = Command::new(alloc, "prima")
         .no_binary_name(true)
         .disable_help_flag(true)
         .arg(limit)?
+        .arg(size)?
         .arg(word)?;
     command.try_get_matches_from(words)
 }

@@ -3,15 +3,15 @@ use Rattle.clap.specs.Matches.{found_of}
 use Rattle.clap.specs.Walk.{rows_of}
 use Rattle.program_words.proofs.Agreement.{asked_where_taken, asked_where_refused}
 use Rattle.program_words.proofs.Consists.{asked_consist}
-use Rattle.program_words.proofs.limit.journal_limit.Goals as goal
+use Rattle.program_words.proofs.request.asked.Goals as goal
 
 pub returns-in-Ok-clause-asked : goal.returns-in-Ok-clause-asked
 returns-in-Ok-clause-asked c =
-    c.found_limit.ensures ∙ asked_where_taken c.args.words.now (rows_of (found_of c.in-Ok.matches)) c.in-Ok.ensures.fails c.in-Ok.ensures.rows
+    c.found.ensures ∙ asked_where_taken c.args.words.now (rows_of (found_of c.in-Ok.matches)) c.in-Ok.ensures.fails c.in-Ok.ensures.rows
 
 pub returns-in-Ok-clause-consist : goal.returns-in-Ok-clause-consist
-returns-in-Ok-clause-consist c = asked_consist (map string_bytes c.args.words.now) c.found_limit.result
-    (c.found_limit.ensures ∙ asked_where_taken c.args.words.now (rows_of (found_of c.in-Ok.matches)) c.in-Ok.ensures.fails c.in-Ok.ensures.rows)
+returns-in-Ok-clause-consist c = asked_consist (map string_bytes c.args.words.now) c.found.result
+    (c.found.ensures ∙ asked_where_taken c.args.words.now (rows_of (found_of c.in-Ok.matches)) c.in-Ok.ensures.fails c.in-Ok.ensures.rows)
 
 pub returns-clause-asked : goal.returns-clause-asked
 returns-clause-asked c = elim c.in-Err.ensures.fails [

@@ -1,0 +1,8 @@
+use Rattle.std.proofs.Common.{◌≡◌, drop}
+use Rattle.sample_script.specs.Tallied.{errors_in, ends_in}
+use Rattle.sample_script.proofs.tally.tally_of.Given as goal
+
+abbrev pub invariant-loop-byte : goal.invariant-loop-byte
+invariant-loop-byte l =
+    (errors_in l.initial.tally l.replies ≡ errors_in l.tally (drop l.byte-index l.replies))
+    × (ends_in l.initial.tally l.replies ≡ ends_in l.tally (drop l.byte-index l.replies))

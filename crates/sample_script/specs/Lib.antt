@@ -1,0 +1,5 @@
+pub mod Left
+pub mod Source
+pub mod Statements
+pub mod Summary
+pub mod Tallied
