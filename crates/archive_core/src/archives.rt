@@ -13,7 +13,9 @@ ghost use Rattle.journal.specs.Records.{Record, StandsFor, opened_file};
 ghost use Rattle.journal.specs.Standing.{Stands, needs, with_record};
 ghost use Rattle.archive_file.specs.Opening.{Opens, Damages, record_of, records_of};
 ghost use Rattle.archive_state.specs.Standing.{ShowsPast, ShowsSome};
-ghost use Rattle.archive_state.specs.Asking.{IsAsked, needed};
+ghost use Rattle.archive_state.specs.Asking.{IsAsked, IsExplained, TellsWayBack, ArePiecesOf};
+ghost use Rattle.piece_texts.specs.ExplainedPieces.{PlainExplained};
+ghost use Rattle.query_exec.specs.Reads.{reads_of};
 ghost use Rattle.archive_core.specs.declared.faults.CommitFault.TheVariants as fault;
 ghost use Rattle.archive_core.specs.declared.faults.MountFault.TheVariants as mounting;
 
@@ -25,6 +27,7 @@ use answer_text::Listing;
 use archive_state::{ArchiveState, Done};
 use disk_model::Disk;
 use journal::{Journal, PutFault};
+use piece_texts::Explained;
 use prima_base::{Refusal, Steps};
 use rule_book::{Rule, RuleBook};
 use smo_types::Command;
@@ -88,6 +91,7 @@ impl<D: Disk> Archive<D> {
         ensures unfailed { IfOk result (λ it. (below it.0).faults ≡ (D.meaning disk).faults) }
         ensures unfailed_err { IfErr result (λ it. (it.1 ≡ mounting.Disk → ⊥) → (D.meaning it.0).faults ≡ (D.meaning disk).faults) }
         ensures cost { Tells (D.meaning disk).seen (λ file. (records : List Record) → StandsFor file records → steps.new ≤ steps.old + length records) }
+        ensures steps { IfOk result (λ it. steps.new ≤ steps.old + it.1.replayed) }
     {
         match Journal::mount(alloc, disk, limit) {
             Err((disk, fault)) => Err((disk, mount_fault(fault))),
@@ -154,10 +158,21 @@ impl<D: Disk> Archive<D> {
     ) -> Result<Listing<'a>, AskFault>
         requires each { EachOf book.now.rules.items (λ r. handles (r.vtable, r.value)) }
         ensures asked { (past : Past) → ShowsPast (standing_of self.now) past → IsAsked past (query_of query.now) result }
+        ensures way_back { (past : Past) → ShowsPast (standing_of self.now) past → TellsWayBack past (query_of query.now) result }
         ensures stands { ShowsSome (standing_of self.now) }
-        ensures cost { (past : Past) → ShowsPast (standing_of self.now) past → steps.new ≤ steps.old + needed (standing_of self.now).groups (meaning_of book.now.rules.items (λ r. handles (r.vtable, r.value)) (λ r. answers (r.vtable, r.value))) past (query_of query.now) }
+        ensures cost { (past : Past) → ShowsPast (standing_of self.now) past → (pieces : List PlainExplained) → ArePiecesOf (meaning_of book.now.rules.items (λ r. handles (r.vtable, r.value)) (λ r. answers (r.vtable, r.value))) past (query_of query.now) pieces → steps.new ≤ steps.old + reads_of (standing_of self.now).groups pieces }
     {
         self.state.query(book, query, steps)
+    }
+
+    /// The pieces that a query reads, and else its first refusal in the one order, as the archive in memory tells them
+    /// (`ArchiveState::explain`). It calls no device, and may be asked behind any answer.
+    pub fn explain(&self, book: &RuleBook, query: &Query) -> Result<Vec<Explained>, AskFault>
+        requires each { EachOf book.now.rules.items (λ r. handles (r.vtable, r.value)) }
+        ensures explained { (past : Past) → ShowsPast (standing_of self.now) past → IsExplained (meaning_of book.now.rules.items (λ r. handles (r.vtable, r.value)) (λ r. answers (r.vtable, r.value))) past (query_of query.now) result }
+        ensures stands { ShowsSome (standing_of self.now) }
+    {
+        self.state.explain(book, query)
     }
 
     /// The versions with their stored tables. It takes no memory.

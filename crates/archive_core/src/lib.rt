@@ -15,3 +15,4 @@ mod replaying;
 pub use archive_state::{AskFault, Done};
 pub use archives::{Archive, Opened};
 pub use faults::{CommitFault, MountFault};
+pub use piece_texts::Explained;

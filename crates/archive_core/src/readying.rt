@@ -13,14 +13,11 @@ use crate::CommitFault;
 use archive_state::{ArchiveState, CommitFault as StateFault};
 use command_codec::encode;
 use command_spelling::accepted_commands_can_be_written;
-use journal::Sealed;
+use journal::{COMMAND, Sealed};
 use prima_base::NoMemory;
 use smo_types::Command;
 use std::alloc::Global;
 use version_groups::Next;
-
-/// The kind of a record whose payload is a command.
-const COMMAND: u8 = 1;
 
 // The record of a command.
 fn seal(alloc: Global, command: &Command) -> Result<Sealed, NoMemory>

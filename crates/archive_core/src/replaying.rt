@@ -68,6 +68,7 @@ pub(crate) fn restore<L: Ledger>(
     ensures damaged { (place : _) → result ≡ Err (mounting.Damaged place) → AreInPlace recs.now → HasFaultAt (records_in recs.now) place }
     ensures disk { result ≡ Err mounting.Disk → ⊥ }
     ensures cost { steps.new ≤ steps.old + length recs.now }
+    ensures steps { IfOk result (λ it. steps.new ≤ steps.old + it.1) }
 {
     let commands = decode_all(alloc, recs)?;
     let state = replay(alloc, recs, &commands, steps)?;

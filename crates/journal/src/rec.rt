@@ -2,7 +2,7 @@ ghost use Rattle.std.specs.Prelude.{◌≡◌};
 ghost use Rattle.journal.specs.Records.{is_known as known};
 
 /// The kind of a record whose payload is a command.
-const COMMAND: u8 = 1;
+pub const COMMAND: u8 = 1;
 
 /// A record of a journal: the place of its gate in the file, its kind, and its payload.
 #[derive(Drop)]

@@ -5,7 +5,7 @@ use crate::line::{Line, read_line};
 use crate::list::{put_over_fuse, put_over_memory, put_over_nothing, seal_each};
 use case_text::{Groups, read_hex, write_hex};
 use disk_model::{Disk, FuseDisk, MemDisk};
-use journal::{Journal, Sealed};
+use journal::{COMMAND, Journal, Sealed};
 use prima_base::NoMemory;
 use std::alloc::{AllocError, Global};
 
@@ -20,9 +20,6 @@ const ROOM: u64 = 1 << 16;
 
 // Over how many disks that fail a mount and a put are tried.
 const FUSES: u64 = 12;
-
-// The kind of a command.
-const COMMAND: u8 = 1;
 
 // The file of the case that is being played, the limit of its journal, and the answers so far.
 #[derive(Drop)]

@@ -3,12 +3,9 @@
 use crate::answer::{write_fault, write_puts};
 use case_text::{read_hex, write_number};
 use disk_model::{Disk, FuseDisk, MemDisk, SureDisk};
-use journal::{Journal, Sealed, mount_and_put};
+use journal::{COMMAND, Journal, Sealed, mount_and_put};
 use prima_base::NoMemory;
 use std::alloc::Global;
-
-// The kind of a command.
-const COMMAND: u8 = 1;
 
 // A command of the payload that a text spells.
 fn seal(alloc: Global, hex: &[u8]) -> Result<Sealed, NoMemory> {

@@ -28,6 +28,7 @@ module _ (name other : ℕ) (old new : Meaning) where
         borrowed_turns name other old new (OpensPrefix opening (commands_put limit (recorded opening) (whole ++ begun status rest))) (d.any_moment file opening honest seen opens);
     exit = d.exit;
     given = d.given;
+    holds = d.holds;
   }
 
   pub runs_borrowed : (limit : ℕ) (status : Status) (a c u w : Option (List ℕ)) (f h : ℕ) → RunsOver limit status a c u w f h (borrowed_as name old) (borrowed_as other new)

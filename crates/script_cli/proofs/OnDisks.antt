@@ -133,6 +133,13 @@ module _ (old mid new : Meaning) (at : ℕ) (file : List ℕ) (opening done put 
       (now.file, now.seen, all.2 opening now.file (opens_all opening put opens.spelled all.1.spelled history now.file (inr now.holds))))
       (some_or_all status mid new at done put puts)
 
+  pub held_of : (status : Status) → (status ≡ DiskFault → ⊥) → PutBy status mid new at done put → HoldsAt mid at (records_of opening)
+      → (c : List ℕ) × (new.seen ≡ Some c) × Holds c (records_of (opening ++ put))
+  held_of status not_failed puts held = ⊎_elim
+      (λ some. absurd (not_failed some.0))
+      (λ all. let now = all.1.holds opening held in (now.file, now.seen, now.holds))
+      (some_or_all status mid new at done put puts)
+
 -- ---- what an opened archive stands for
 
 module _ {D : Type 0} {g : Ghosts D} (old : Meaning) (limit : ℕ) (archive : Archive D g) (has : HasOpened old limit archive) where
@@ -195,6 +202,9 @@ module _ {D : Type 0} {g : Ghosts D} (old : Meaning) (limit : ℕ) (archive : Ar
           (still_honest old (below archive) has.goes honest) status (puts file opening is opens);
       given = λ file opening not_failed is opens.
           given_of old (below archive) new (place_of archive) file opening (done file opening is opens) (put file opening is opens) opens (history file opening is opens)
+          (done_history file opening is opens) status not_failed (puts file opening is opens) (has.holds file opening is opens);
+      holds = λ file opening not_failed is opens.
+          held_of old (below archive) new (place_of archive) file opening (done file opening is opens) (put file opening is opens) opens (history file opening is opens)
           (done_history file opening is opens) status not_failed (puts file opening is opens) (has.holds file opening is opens);
     };
   }

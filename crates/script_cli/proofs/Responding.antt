@@ -187,7 +187,7 @@ module _ {D : Type 0} {g : Ghosts D} (a b : Archive D g) (limit : ℕ) (now : Re
 
   -- or memory ran out
   pub memory_responds : (reply : Reply) → IsLawful (below a) → Responds limit reply (Err NoMemory) a a u u
-  memory_responds reply law = (nothing_put u reply.text, put_nothing (below a) (place_of a) law)
+  memory_responds reply law = (refl, put_nothing (below a) (place_of a) law)
 
 -- the counts of faults of what is said without a disk
 pub said_halt : (put : Result Put Failed) (said : Result Put Halt) (before now disk : ℕ) → said ≡ or_write_fault put → HasCause before now put → HaltCounted said before now disk disk

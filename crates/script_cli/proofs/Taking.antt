@@ -153,7 +153,7 @@ module _ {D : Type 0} {g : Ghosts D} (limit : ℕ) (now : Recorded) where
   -- memory ran out before any of these was answered
   pub halted_memory : (pieces : List Piece) (a : Archive D g) (u : Option (List ℕ)) → IsLawful (below a) → Halted NoMemory limit now pieces a a u u
   halted_memory pieces a u law =
-      halted_first NoMemory pieces a a u u law (([], (next_reply limit now pieces).text, refl, Appends-nil u), put_nothing (below a) (place_of a) law)
+      halted_first NoMemory pieces a a u u law (refl, put_nothing (below a) (place_of a) law)
 
 -- what an answer is in its case
 pub left_none : {T : Type 0} (o : Option T) (A : Type 0) (B : T → Type 0) → o ≡ None → MatchOption o A B → A

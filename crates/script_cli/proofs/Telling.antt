@@ -106,7 +106,7 @@ module _ (limit : ℕ) (start : Recorded) where
   ran_front WriteFault a c u w r = ⊎_elim (λ p. said_front r p) (λ t. said_tail r t) r.wrote.1
   ran_front DiskFault a c u w r = said_nothing r r.wrote.1
   ran_front (NotAJournal place) a c u w r = absurd r.wrote
-  ran_front NoMemory a c u w r = said_front r r.wrote.1
+  ran_front NoMemory a c u w r = said_nothing r r.wrote.1
   ran_front InputLimit a c u w r = said_nothing r r.wrote.2
 
 -- ---- what is left on the disk

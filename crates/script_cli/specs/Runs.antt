@@ -7,7 +7,8 @@ use Rattle.disk_model.specs.Meaning.{Meaning, Tells}
 use Rattle.disk_model.specs.Moments.{Turns}
 use Rattle.journal.specs.Mounting.{IsNotSynced, KeepsFile}
 use Rattle.smo_types.specs.Commands.{PlainCommand}
-use Rattle.archive_file.specs.Opening.{Opens, Damages}
+use Rattle.journal.specs.Records.{Holds}
+use Rattle.archive_file.specs.Opening.{Opens, Damages, records_of}
 use Rattle.script_parse.specs.Script.{Piece}
 use Rattle.answer_text.specs.Texts.{wrong_words_text, not_a_journal_text}
 use Rattle.script_cli.specs.Output.{Recorded, recorded, replies, commands_put, recorded_after, pieces_of, ending_of, has_error, tail_text, tail_is_due}
@@ -58,8 +59,7 @@ Wrote WriteFault limit start taken whole rest left old new =
     (length taken ≤ longest_script) × (AppendsFront old new (next_reply limit (recorded_after limit start whole) rest).text ⊎ WroteTail taken rest left old new)
 Wrote DiskFault limit start taken whole rest left old new =
     (length taken ≤ longest_script) × (new ≡ old) × ((command : PlainCommand) × ((next_reply limit (recorded_after limit start whole) rest).puts ≡ command ∷ []))
-Wrote NoMemory limit start taken whole rest left old new =
-    (length taken ≤ longest_script) × AppendsFront old new (next_reply limit (recorded_after limit start whole) rest).text
+Wrote NoMemory limit start taken whole rest left old new = (length taken ≤ longest_script) × (new ≡ old)
 Wrote InputLimit limit start taken whole rest left old new =
     (length taken ≡ longest_script + 1) × (whole ≡ pieces_of (take longest_script taken)) × (new ≡ old)
 Wrote other limit start taken whole rest left old new = ⊥
@@ -86,7 +86,7 @@ pub record Ran (limit : ℕ) (start : Recorded) (status : Status) (left_old left
 
 -- Where the file opens as some commands at the start: from the first sync on a crash leaves them and a prefix of those that the
 -- statements put which were answered whole, and the next one; at the exit it leaves what the status tells; and so does a read give,
--- unless the disk failed.
+-- unless the disk failed: the header, their records behind one another, and a gate that is not open.
 pub record OnDisk (limit : ℕ) (status : Status) (whole rest : List Piece) (old new : Meaning) : Type 0 where
   pub any_moment : (file : List ℕ) (opening : List PlainCommand) → IsTrue old.is_honest → old.seen ≡ Some file → Opens file opening
       → Turns old new (OpensPrefix opening (commands_put limit (recorded opening) (whole ++ begun status rest)))
@@ -94,6 +94,8 @@ pub record OnDisk (limit : ℕ) (status : Status) (whole rest : List Piece) (old
       → EndsAs status opening (commands_put limit (recorded opening) whole) (commands_put limit (recorded opening) (whole ++ begun status rest)) c
   pub given : (file : List ℕ) (opening : List PlainCommand) → (status ≡ DiskFault → ⊥) → old.seen ≡ Some file → Opens file opening
       → (c : List ℕ) × (new.seen ≡ Some c) × EndsAs status opening (commands_put limit (recorded opening) whole) (commands_put limit (recorded opening) (whole ++ begun status rest)) c
+  pub holds : (file : List ℕ) (opening : List PlainCommand) → (status ≡ DiskFault → ⊥) → old.seen ≡ Some file → Opens file opening
+      → (c : List ℕ) × (new.seen ≡ Some c) × Holds c (records_of (opening ++ commands_put limit (recorded opening) (whole ++ begun status rest)))
 
 -- the start is that of the commands as which the file opened, where the disk tells it
 abbrev pub IsOpening : Recorded → Option (List ℕ) → Type 0

@@ -18,12 +18,12 @@ use Rattle.script_cli.specs.Puts.{is_error}
 use Rattle.script_cli.specs.Output.{Recorded, Reply, answered, piece_reply, replies, commands_put, recorded_after, any_error}
 use Rattle.script_cli.specs.Putting.{HasPut, MayHavePut}
 
--- the whole reply was put, or a front of it; no disk is called
+-- The whole reply was put, or a front of it where the sink failed, and nothing where memory ran out; no disk is called.
 abbrev pub Says : Reply → Result Put Halt → Option (List ℕ) → Option (List ℕ) → Type 0
 Says reply (Ok put) old new = (is_error put ≡ reply.is_error) × Appends old new reply.text
 Says reply (Err WriteFault) old new = AppendsFront old new reply.text
 Says reply (Err DiskFault) old new = ⊥
-Says reply (Err NoMemory) old new = AppendsFront old new reply.text
+Says reply (Err NoMemory) old new = new ≡ old
 
 -- the statements that bytes bring, behind what the run has of its current one
 abbrev pub pieces_behind : ScriptRun → List ℕ → List Piece
@@ -54,11 +54,12 @@ module _ {D : Type 0} {g : Ghosts D} where
   PutBetween old new put = HasPut (below old) (below new) (place_of old) (place_of new) put
 
   -- A run stopped in this reply. Where the sink failed, what the statement puts had been put; where the disk failed, nothing of the
-  -- reply was written, and its command was put or not; where memory ran out, nothing was put.
+  -- reply was written, and its command was put or not; where memory ran out, nothing of the reply was
+  -- written and nothing was put.
   abbrev pub StopsIn : Halt → Reply → Archive D g → Archive D g → Option (List ℕ) → Option (List ℕ) → Type 0
   StopsIn WriteFault reply a b old new = AppendsFront old new reply.text × PutBetween a b reply.puts
   StopsIn DiskFault reply a b old new = (new ≡ old) × MayHavePut (below a) (below b) (place_of a) reply.puts
-  StopsIn NoMemory reply a b old new = AppendsFront old new reply.text × PutBetween a b []
+  StopsIn NoMemory reply a b old new = (new ≡ old) × PutBetween a b []
 
   -- the whole reply was written, what it puts was put, and the archive stands for what is behind it
   pub record Replied (limit : ℕ) (reply : Reply) (put : Put) (a b : Archive D g) (written_old written_new : Option (List ℕ)) : Type 0 where

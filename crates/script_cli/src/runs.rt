@@ -6,6 +6,8 @@ ghost use Rattle.prima_io.specs.Moves.{AppendsFront};
 ghost use Rattle.relations.specs.Spans.{forever};
 ghost use Rattle.relations.specs.Listing.{IsListing};
 ghost use Rattle.prima_base.specs.Order.{row_cmp};
+ghost use Rattle.prima_base.specs.declared.refusals.OpKind.{OpKind};
+ghost use Rattle.prima_base.specs.declared.refusals.Refusal.TheVariants.{NoInverse};
 ghost use Rattle.disk_model.specs.Meaning.{Tells};
 ghost use Rattle.disk_model.specs.Moments.{GoesOn};
 ghost use Rattle.smo_types.specs.Commands.{PlainCommand};
@@ -13,7 +15,7 @@ ghost use Rattle.smo_meaning.specs.Accepts.{command_fault};
 ghost use Rattle.smo_meaning.specs.History.{IsHistory};
 ghost use Rattle.smo_meaning.specs.Past.{database_at, database_behind, past_with};
 ghost use Rattle.temporal_lang.specs.Queries.{PlainQuery, slice_of};
-ghost use Rattle.temporal_lang.specs.Accepted.{fault_of_query};
+ghost use Rattle.temporal_lang.specs.Accepted.{fault_of_query, HasNoWayBack};
 ghost use Rattle.temporal_lang.specs.Answers.{asked_at, listing, answer};
 ghost use Rattle.rewrite.specs.Books.{EachOf};
 ghost use Rattle.prima_base.specs.Keeping.{kept};
@@ -46,7 +48,9 @@ use script_parse::{
 };
 use smo_ops::a_command_is_seen_from_its_stamp_on;
 use std::alloc::Global;
-use temporal_lang::listing_is_the_one_list;
+use temporal_lang::{
+    a_query_is_refused_for_want_of_a_named_inverse_alone, listing_is_the_one_list,
+};
 
 // The run over a disk that is lent.
 fn run_lent<S: Source, K: Sink, D: Disk>(
@@ -118,6 +122,7 @@ fn judge_and_run<S: Source, K: Sink, D: Disk>(
 /// - `seen`: an accepted command changes the database of each moment from its stamp on, and of no other;
 /// - `answers`: a query lists each row with the longest periods in which it holds, moment by moment, in the databases
 ///   carried to the version that it names;
+/// - `inverse`: a query is refused for want of a way back only by an operator on the way that names no inverse;
 /// - `errors`: just the refused statements have an `error` line.
 pub fn run<S: Source, K: Sink, D: Disk>(
     alloc: Global,
@@ -197,6 +202,12 @@ pub fn run<S: Source, K: Sink, D: Disk>(
         fault_of_query past query ≡ None → (slice_of query.when).end ≤ forever
         → IsListing row_cmp (asked_at past query) (slice_of query.when) (listing past query) × (answer past query ≡ kept query.keep (listing past query)) }
 
+    // A query is refused for want of a way back only by an operator on the way that names no inverse: at the least moment of the query's
+    // slice at which a table of it is lost, the version that is told is gone back over, names none, and loses a table of the query.
+    ensures inverse { (limit : ℕ) → (opening : List PlainCommand) → (statements : List Piece) → (query : PlainQuery) → (k : ℕ) → (kind : OpKind)
+        → let past = (recorded_after limit (recorded opening) statements).past in
+        fault_of_query past query ≡ Some (NoInverse k kind) → HasNoWayBack past query k kind }
+
     // A command that is accepted behind some statements is seen from its stamp on: before it each moment's database is as it was.
     ensures seen { (limit : ℕ) → (opening : List PlainCommand) → (statements : List Piece) → (command : PlainCommand) → (m : ℕ) → AreCommands opening → IsHistory opening
         → let past = (recorded_after limit (recorded opening) statements).past in
@@ -226,6 +237,7 @@ pub fn run<S: Source, K: Sink, D: Disk>(
     limits_are_kept();
     a_command_is_seen_from_its_stamp_on();
     listing_is_the_one_list();
+    a_query_is_refused_for_want_of_a_named_inverse_alone();
     an_accepted_query_asks_questions();
     a_file_opens_or_is_damaged();
     judge_and_run(alloc, words, book, source, sink, disk)

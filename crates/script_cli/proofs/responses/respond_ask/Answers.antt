@@ -1,4 +1,4 @@
-use Rattle.std.proofs.Common.{ap, sym, subst, ◌∙◌}
+use Rattle.std.proofs.Common.{ap, refl, sym, subst, ◌∙◌}
 use Rattle.prima_base.specs.Timed.{entries_of}
 use Rattle.temporal_lang.specs.Queries.{query_of}
 use Rattle.temporal_lang.specs.Accepted.{fault_of_query}
@@ -8,7 +8,7 @@ use Rattle.answer_text.specs.Texts.{listing_text}
 use Rattle.script_cli.specs.Output.{query_reply}
 use Rattle.script_cli.specs.Halts.{SaidCounted}
 use Rattle.script_cli.specs.Shows.{Says}
-use Rattle.script_cli.proofs.Responding.{answered_says, refused_says, said_counted, nothing_put}
+use Rattle.script_cli.proofs.Responding.{answered_says, refused_says, said_counted}
 use Rattle.script_cli.proofs.responses.respond_ask.Goals as goal
 
 pub returns-in-Ok-clause-says : goal.returns-in-Ok-clause-says
@@ -28,7 +28,7 @@ returns-in-Err-Refused-clause-says g c = λ now shows.
     (refused_says _ _ _ c.in-Err-Refused.refusal now _ c.refuse.result (rw c.in-Err-Refused.field-0-is at (c.in-Err-Refused.ensures now.past shows)) c.refuse.ensures.ok c.refuse.ensures.all c.refuse.ensures.part)
 
 pub returns-in-Err-NoMemory-clause-says : goal.returns-in-Err-NoMemory-clause-says
-returns-in-Err-NoMemory-clause-says g c = λ now shows. nothing_put _ _
+returns-in-Err-NoMemory-clause-says g c = λ now shows. refl
 
 pub returns-in-Ok-clause-counts : goal.returns-in-Ok-clause-counts
 returns-in-Ok-clause-counts g c = subst (λ r. SaidCounted r (g.K.Sink.faults c.args.sink.now) (g.K.Sink.faults c.put_answer.new.sink)) (sym c.or_write_fault.ensures) (said_counted c.put_answer.result _ _ c.put_answer.ensures.cause)

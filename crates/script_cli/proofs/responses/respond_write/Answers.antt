@@ -6,7 +6,7 @@ use Rattle.script_cli.specs.Output.{command_reply}
 use Rattle.script_cli.specs.Halts.{HaltCounted}
 use Rattle.script_cli.specs.Shows.{Responds, TakesRecords}
 use Rattle.script_cli.proofs.PutsBehind.{put_one}
-use Rattle.script_cli.proofs.Responding.{nothing_put, done_responds, refused_responds, fault_here, stands_behind, stands_still, untouched_between, puts_itself, still_takes, on_ok, halt_counted}
+use Rattle.script_cli.proofs.Responding.{done_responds, refused_responds, fault_here, stands_behind, stands_still, untouched_between, puts_itself, still_takes, on_ok, halt_counted}
 use Rattle.script_cli.proofs.responses.respond_write.Goals as goal
 
 pub returns-in-Ok-clause-replies : goal.returns-in-Ok-clause-replies
@@ -57,7 +57,7 @@ returns-in-Err-NoMemory-clause-replies g c = λ limit now stands.
     let a = c.args.archive.now in
     let b = c.commit.new.self in
     let same = c.in-Err-NoMemory.ensures.untouched (λ e. cc (e, c.in-Err-NoMemory.field-0-is)) in
-    (nothing_put _ _, untouched_between a b (g.met.D.Disk.lawful a.journal.disk) same.0 same.1)
+    (refl, untouched_between a b (g.met.D.Disk.lawful a.journal.disk) same.0 same.1)
 
 -- ---- it takes records still, and the counts of faults
 
