@@ -3,6 +3,7 @@
 # that writes the same bytes at the same places with the same two syncs for each: seconds, microseconds for each, and how many times as long
 # as the bare loop. Both take turns over a few rounds, of which the least counts. FOLDER names the folder on whose disk the files are made
 # (the present one unless told otherwise): in memory, as /dev/shm, no disk is waited for, and the ratio says nothing.
+# Ends with 1 where a run takes more than 1.25 times as long, or more than four calls of the disk a commit.
 # Then, where strace is there: the calls of the disk for each commit. Then, over files in memory, what opening an archive of 20,000 and of
 # 200,000 commands takes, and what a command of 5,000 inserts does, and how many commands come first (NUMBERS names others).
 # PROGRAM names another build to be timed in place of this one.
@@ -95,10 +96,11 @@ def run(folder, statements, replies, before=()):
     return taken, used.ru_maxrss
 
 
+too_much = []
 print(f"{'commits':>8} {'seconds':>9} {'us each':>9} {'bare':>9} {'us each':>9} {'times':>6}")
 for n in sizes:
     ours, theirs = [], []
-    for _ in range(max(1, 6000 // n)):
+    for _ in range(max(3, 6000 // n)):
         with tempfile.TemporaryDirectory(dir=on_disk) as folder:
             run(folder, [TABLE], 1)
             ours.append(run(folder, inserts(0, n), n)[0])
@@ -106,6 +108,8 @@ for n in sizes:
             theirs.append(float(subprocess.check_output([bare, bytes_of, os.path.join(folder, "bare.bytes")])))
     a, b = min(ours), min(theirs)
     print(f"{n:>8} {a:>9.3f} {1e6 * a / n:>9.1f} {b:>9.3f} {1e6 * b / (n + 1):>9.1f} {a / b:>6.2f}", flush=True)
+    if a > 1.25 * b:
+        too_much.append(f"{n} commits took {a / b:.2f} times as long as the bare loop")
 
 CALLS = ("pread64", "pwrite64", "fdatasync", "fsync", "fstat", "newfstatat", "statx", "lseek")
 if shutil.which("strace"):
@@ -123,6 +127,8 @@ if shutil.which("strace"):
     few, many = calls(100), calls(300)
     each = {name: (many[name] - few[name]) / 200 for name in CALLS if many[name] != few[name]}
     print("calls of the disk for each commit:", ", ".join(f"{name} {count:g}" for name, count in each.items()), f"(sum {sum(each.values()):g})")
+    if sum(each.values()) > 4:
+        too_much.append(f"a commit calls the disk {sum(each.values()):g} times")
 
 print(f"{'commands':>9} {'bytes':>10} {'opened in':>10} {'KiB':>8}")
 for n in numbers:
@@ -136,4 +142,6 @@ for n in numbers:
         opened = run(folder, [], 0)[0]
         taken = run(folder, [one], 1)[0] - opened
         print(f"{'':>9} a command of {many} inserts there: {taken:.3f} seconds, {many / taken:,.0f} rows a second", flush=True)
+if too_much:
+    sys.exit("; ".join(too_much))
 PYTHON

@@ -17,12 +17,12 @@ use std::{env, io};
 // The archive's file, in the current folder.
 const ARCHIVE: &str = "archive.prima";
 
-// How the program ends where its words cannot be had: memory ran out, or one is no UTF-8.
-fn without_words(error: &io::Error) -> Status {
+// How the program ends where the system did not give what it was asked for: memory ran out, or else as told.
+fn without(error: &io::Error, otherwise: Status) -> Status {
     if error.kind() == io::ErrorKind::OutOfMemory {
         Status::NoMemory
     } else {
-        Status::Words
+        otherwise
     }
 }
 
@@ -56,14 +56,15 @@ fn run_over_the_file<S: Source, K: Sink>(
     }
     match FileDisk::open(rt, ARCHIVE) {
         Ok(mut disk) => run_with_rules(rt.alloc(), words, source, sink, &mut disk),
-        Err(_) => Ok(Status::DiskFault),
+        Err(error) => Ok(without(&error, Status::DiskFault)),
     }
 }
 
 fn main(rt: HostRuntime) -> ExitCode {
     let mut arguments = match env::args(&rt) {
         Ok(arguments) => arguments,
-        Err(error) => return ExitCode::from(without_words(&error).code()),
+        // One of them is no UTF-8.
+        Err(error) => return ExitCode::from(without(&error, Status::Words).code()),
     };
     let _program = arguments.next();
     let Ok(words) = arguments.collect::<Vec<Word>>(rt.alloc()) else {

@@ -130,54 +130,6 @@ fn behind_a_long_statement(rt: HostRuntime) -> Result<(), Fail> {
 }
 
 #[test]
-fn wrong_words(rt: HostRuntime) -> Result<(), Fail> {
-    let alloc = rt.alloc();
-    let mut two = words_of(alloc, "run")?;
-    two.push(String::from_str(alloc, "run")?)?;
-    for words in [Vec::new(alloc), words_of(alloc, "walk")?, two] {
-        let mut source = SureSource::new(Vec::from_slice(alloc, FIRST)?);
-        let Ok(mut sink) = MemSink::new(alloc, 100, Vec::new(alloc)) else {
-            return Err(AllocError.into());
-        };
-        assert!(rt; run(alloc, &words, &mut source, &mut sink)? == Status::Words);
-        assert!(rt; sink.written() == b"fault 2\n".as_slice());
-    }
-    Ok(())
-}
-
-#[test]
-fn faults_of_source_and_sink(rt: HostRuntime) -> Result<(), Fail> {
-    let alloc = rt.alloc();
-    let words = words_of(alloc, "run")?;
-    // The source fails at its first call, and behind the first statement.
-    for (first, replies) in [(0u64, b"".as_slice()), (1, b"ok 1 version 1\n".as_slice())] {
-        let mut source = MemSource::new(
-            Vec::from_slice(alloc, FIRST)?,
-            35,
-            Vec::from_slice(alloc, &[first])?,
-        );
-        let Ok(mut sink) = MemSink::new(alloc, 100, Vec::new(alloc)) else {
-            return Err(AllocError.into());
-        };
-        assert!(rt; run(alloc, &words, &mut source, &mut sink)? == Status::ReadFault);
-        assert!(rt; sink.written() == replies);
-    }
-    // The sink fails at its first call, and has room for the first line alone.
-    for (room, failing, replies) in [
-        (100usize, Vec::from_slice(alloc, &[0u64])?, b"".as_slice()),
-        (16, Vec::new(alloc), b"ok 1 version 1\n".as_slice()),
-    ] {
-        let mut source = SureSource::new(Vec::from_slice(alloc, FIRST)?);
-        let Ok(mut sink) = MemSink::new(alloc, room, failing) else {
-            return Err(AllocError.into());
-        };
-        assert!(rt; run(alloc, &words, &mut source, &mut sink)? == Status::WriteFault);
-        assert!(rt; sink.written() == replies);
-    }
-    Ok(())
-}
-
-#[test]
 fn sure_ends_never_fail(rt: HostRuntime) -> Result<(), Fail> {
     let alloc = rt.alloc();
     let words = words_of(alloc, "run")?;

@@ -1,0 +1,68 @@
+#!/usr/bin/env bash
+# Times what pruning saves, over the built program: a table of n rows (500 unless told otherwise) is cut into sixteen by PARTITIONs, each with
+# a MERGE as its inverse, and then renamed until there are V versions (100 and 500 unless told otherwise), each rename with its inverse. Asked on the
+# last version are all sixteen tables, as one union: without a condition, and with one that rules out all rows of fifteen of them, so that of
+# the pieces at each version all but one are dead. Prints the seconds that each question adds to the load, and their ratio.
+# ROWS names another n. PROGRAM names another build to be timed in place of this one.
+set -eu
+top=$(cd "$(dirname "$0")/.." && pwd)
+if [ -z "${PROGRAM:-}" ]; then
+    PROGRAM=$top/crates/prima/out/prima
+    "$top/prima" </dev/null >/dev/null || [ $? -eq 2 ] # builds what is missing; no words, no archive
+fi
+[ $# -gt 0 ] || set -- 100 500
+exec python3 - "$top/examples/fresh" "$PROGRAM" "${ROWS:-500}" "$@" <<'PYTHON'
+import subprocess, sys, tempfile, time
+
+program, n, sizes = sys.argv[1:3], int(sys.argv[3]), [int(word) for word in sys.argv[4:]]
+PARTS = 16
+
+
+def play(statements):
+    """The seconds of the run, and the lines of its replies."""
+    with tempfile.TemporaryFile() as script, tempfile.TemporaryFile() as replies:
+        script.write("\n".join(statements).encode())
+        script.seek(0)
+        begun = time.perf_counter()
+        status = subprocess.run([*program, "run"], stdin=script, stdout=replies).returncode
+        taken = time.perf_counter() - begun
+        replies.seek(0)
+        lines = replies.read().decode().splitlines()
+        assert status == 0, lines[-1]
+    return taken, lines
+
+
+def loaded(versions):
+    """The rows under version 1, the sixteen tables `p1` to `p16`, and then renames of `p16` there and back; with the number of the last version."""
+    step = -(-n // PARTS)
+    script = ["AT 1 EVOLVE CREATE TABLE t0 (k INT, x INT);"]
+    script.append("AT 2 " + " THEN ".join(f"INSERT INTO t0 (k, x) VALUES ({k}, {k * 7919 % n})" for k in range(n)) + ";")
+    at, version = 3, 1
+    for i in range(1, PARTS):
+        rest = f"t{i}" if i < PARTS - 1 else f"p{PARTS}"
+        script.append(f"AT {at} EVOLVE PARTITION TABLE t{i - 1} INTO p{i} WITH k < {i * step}, {rest} INVERSE MERGE TABLE p{i}, {rest} INTO t{i - 1};")
+        at, version = at + 1, version + 1
+    names = [f"p{PARTS}", "q"]
+    while version < versions or names[0] != f"p{PARTS}":
+        script.append(f"AT {at} EVOLVE RENAME TABLE {names[0]} INTO {names[1]} INVERSE RENAME TABLE {names[1]} INTO {names[0]};")
+        names.reverse()
+        at, version = at + 1, version + 1
+    return script, version
+
+
+def union(version, where):
+    return f"QUERY VERSION {version} " + " UNION ".join(f"SELECT k, x FROM p{i}{where}" for i in range(1, PARTS + 1)) + ";"
+
+
+print(f"{'versions':>8} {'rows':>8} {'load':>8} {'all':>8} {'one':>8} {'times':>6}")
+for versions in sizes:
+    script, last = loaded(versions)
+    alone = min(play(script)[0] for _ in range(3))
+    costs = []
+    for where, rows in (("", n), (" WHERE k = 1", 1)):
+        runs = [play(script + [union(last, where)]) for _ in range(3)]
+        assert runs[0][1][-1] == f"end {rows}", runs[0][1][-1]
+        costs.append(max(min(taken for taken, _ in runs) - alone, 0))
+    ratio = costs[1] / costs[0] if costs[0] else 0
+    print(f"{last:>8} {n:>8} {alone:>8.3f} {costs[0]:>8.3f} {costs[1]:>8.3f} {ratio:>6.2f}", flush=True)
+PYTHON

@@ -1,0 +1,40 @@
+//! The lines of a case.
+
+use case_text::read_number;
+
+/// What a line says.
+#[derive(Clone, Copy)]
+pub(crate) enum Line<'a> {
+    Name(&'a [u8]),
+    File(&'a [u8]),
+    Words(&'a [u8]),
+    Script(&'a [u8]),
+    Later(&'a [u8]),
+    Piece(u64),
+    Run,
+    Sources,
+    Sinks,
+    Rooms,
+    Disks,
+    Fuses,
+    Note,
+}
+
+/// Reads a line; what is none of the lines of a case is a note.
+pub(crate) fn read_line(line: &[u8]) -> Line<'_> {
+    match line {
+        [b'=', b'=', b' ', name @ ..] => Line::Name(name),
+        [b'f', b'i', b'l', b'e', b' ', hex @ ..] => Line::File(hex),
+        [b'w', b'o', b'r', b'd', b's', list @ ..] => Line::Words(list),
+        [b's', b'c', b'r', b'i', b'p', b't', b' ', text @ ..] => Line::Script(text),
+        [b'l', b'a', b't', b'e', b'r', b' ', text @ ..] => Line::Later(text),
+        [b'p', b'i', b'e', b'c', b'e', b' ', text @ ..] => Line::Piece(read_number(text)),
+        [b'r', b'u', b'n'] => Line::Run,
+        [b's', b'o', b'u', b'r', b'c', b'e', b's'] => Line::Sources,
+        [b's', b'i', b'n', b'k', b's'] => Line::Sinks,
+        [b'r', b'o', b'o', b'm', b's'] => Line::Rooms,
+        [b'd', b'i', b's', b'k', b's'] => Line::Disks,
+        [b'f', b'u', b's', b'e', b's'] => Line::Fuses,
+        _ => Line::Note,
+    }
+}
