@@ -1,13 +1,14 @@
 -- What is needed where a plan is carried out.
-use Rattle.std.proofs.Common.{◌≡◌, ℕ, zero, suc, ◌+◌, ◌-◌, ◌<◌, ◌≤◌, List, [], ◌∷◌, ◌++◌, length, get_or, set, drop, refl, sym, ap, ◌∙◌, subst, arith, inl, inr}
-use Rattle.std.specs.Prelude.{min, All}
+use Rattle.std.proofs.Common.{◌≡◌, true, false, ℕ, zero, suc, ◌+◌, ◌-◌, ◌<◌, ◌≤◌, List, [], ◌∷◌, ◌++◌, length, get_or, set, drop, refl, sym, ap, ◌∙◌, subst, arith, inl, inr}
+use Rattle.std.specs.Prelude.{min, All, if◌then◌else◌, nat_le}
+use Rattle.std.proofs.lemmas.Bool.{cases_lt}
+use Rattle.std.proofs.lemmas.Bool.Decides.{nat_tests}
 use Rattle.std.proofs.Math.ListN.{length-set, get_or-append}
 use Rattle.relations.specs.Spans.{Span}
 use Rattle.prima_base.specs.declared.values.Value.{Value}
 use Rattle.relations.specs.Sets.{In}
 use Rattle.history_store.specs.Log.{Log}
-use Rattle.history_store.specs.Logs.{least_spare, with_index}
-use Rattle.history_store.specs.Indexes.{Index, Whole, OneMore, OneLess, OneMoved, more_ids}
+use Rattle.history_store.specs.Logs.{least_spare, with_index, few_rows}
 use Rattle.history_store.specs.Table.{no_span, IsOpen}
 use Rattle.history_store.specs.Handing.{ended_at, end_keys, unpaired, new_keys, keys_handed}
 
@@ -60,28 +61,30 @@ spare_least n least [] h = h
 spare_least n least (c ∷ columns) h = spare_least n least columns (grind arith)
 
 -- room for what is gained, among the keys and in the index
+module _ (room n : ℕ) where
+  with_room : few_rows ≤ room → with_index room n ≡ n
+  with_room h = let t : nat_le few_rows room ≡ true = grind (arith, nat_tests) in ap (λ b. if b then n else min room n) t
+
+  without_room : room < few_rows → with_index room n ≡ min room n
+  without_room h = let t : nat_le few_rows room ≡ false = grind (arith, nat_tests) in ap (λ b. if b then n else min room n) t
+
+  no_more : with_index room n ≤ n
+  no_more = elim (cases_lt room few_rows) [ inl h ↦ (let e = without_room h in grind (arith)) | inr h ↦ (let e = with_room h in omega (arith, e)) ]
+
+  pub index_room : (gained more : ℕ) → gained ≤ with_index room n → more ≤ gained → more ≤ few_rows → more ≤ room
+  index_room gained more g m f = elim (cases_lt room few_rows) [ inl h ↦ (let e = without_room h in grind (arith)) | inr h ↦ omega (arith, f, h) ]
+
+  pub some_with_index : (more few : ℕ) → few ≡ min more few_rows → few ≤ room → more ≤ n → more ≤ with_index room n
+  some_with_index more few q f l = elim (cases_lt room few_rows) [ inl h ↦ (let e = without_room h in grind (arith)) | inr h ↦ (let e = with_room h in omega (arith, e, l)) ]
+
 pub key_room : (capacity len room gained : ℕ) → gained ≤ with_index room (capacity - len) → len ≤ capacity → len + gained ≤ capacity
-key_room capacity len zero gained s w = omega (arith, s, w)
-key_room capacity len (suc room) gained s w = omega (arith, s, w)
-
-one_more : (after : Index) → more_ids after ≤ 1
-one_more (Whole ids) = omega arith
-one_more (OneMore at) = omega arith
-one_more (OneLess at) = omega arith
-one_more (OneMoved from to) = omega arith
-
-pub index_room : (room keys gained : ℕ) (after : Index) → gained ≤ with_index room keys → more_ids after ≤ gained → more_ids after ≤ room
-index_room zero keys gained after s m = omega (arith, s, m)
-index_room (suc room) keys gained after s m = let o = one_more after in omega (arith, o)
+key_room capacity len room gained s w = let n = no_more room (capacity - len) in omega (arith, s, w, n)
 
 pub more_with_index : (a b n m : ℕ) → a ≤ b → n ≤ m → with_index a n ≤ with_index b m
-more_with_index zero b n m h l = omega arith
-more_with_index (suc a) zero n m h l = absurd (omega arith)
-more_with_index (suc a) (suc b) n m h l = l
-
-pub some_with_index : (a n : ℕ) → 0 < a → with_index a n ≡ n
-some_with_index zero n h = absurd (omega arith)
-some_with_index (suc a) n h = refl
+more_with_index a b n m h l = elim (cases_lt b few_rows) [
+  | inl q ↦ (let e = without_room b m q in let f = without_room a n (omega (arith, h, q)) in grind (arith))
+  | inr q ↦ (let e = with_room b m q in let f = no_more a n in omega (arith, e, f, l))
+]
 
 pub spare_each : (n least : ℕ) (columns : List Log) → n ≤ least_spare least columns → All (λ c. n ≤ c.spare) columns
 spare_each n least [] h k d b = absurd (omega arith)

@@ -53,10 +53,10 @@ from_only row (r ∷ rows) others i = by_case (has row_cmp r others) refl i (fro
 
 module _ (columns : List Column) (keys : List Span) (logs : List (List Write)) (live : List ℕ) (spare : ℕ) (k : IsKept columns keys logs live) (stamp : ℕ)
     (b : AllBefore (store_of columns keys logs spare) stamp) (l : stamp < forever) (lost gained : List (List Value)) (r : IsRelation columns lost) (g : IsRelation columns gained)
-    (found : List ℕ) (index : Index) (spliced : IsSpliced logs live lost (length keys) gained found (ids_behind index live (length keys)))
+    (found : List ℕ) (index : Index) (spliced : IsSpliced logs live lost (length keys) gained found (ids_behind index live))
     (placed : IsPlaced index live) (more : more_ids index ≤ length gained) where
   after : List ℕ
-  after = ids_behind index live (length keys)
+  after = ids_behind index live
 
   kept : List ℕ
   kept = spliced.kept
@@ -150,7 +150,7 @@ module _ (columns : List Column) (keys : List Span) (logs : List (List Write)) (
   along : (n : ℕ) → rows_after (store_of columns keys logs n) (record { stamp = stamp; lost = found; gained = gained; after = index }) ≡ rows_of after new
   unfolding rows_after new after
   along n =
-      ap (λ ids. rows_along (ids_behind index ids (length keys)) stamp (close_all (unpaired found gained) stamp (write_rows (handed found (length keys) gained) gained stamp (all_entries keys logs)))) (before n)
+      ap (λ ids. rows_along (ids_behind index ids) stamp (close_all (unpaired found gained) stamp (write_rows (handed found (length keys) gained) gained stamp (all_entries keys logs)))) (before n)
       ∙ along_after columns keys logs live n k stamp found gained after (more_room columns keys logs spare n stamp b) l hands
 
   pub change_fits : (n : ℕ) → IsPlan (store_of columns keys logs n) (record { stamp = stamp; lost = found; gained = gained; after = index })
@@ -160,7 +160,7 @@ module _ (columns : List Column) (keys : List Span) (logs : List (List Write)) (
     lawful = l;
     placed = subst (IsPlaced index) (sym (before n)) placed;
     more = more;
-    hands = subst (λ ids. IsHandOver keys (length columns) found gained (ids_behind index ids (length keys))) (sym (before n)) hands;
+    hands = subst (λ ids. IsHandOver keys (length columns) found gained (ids_behind index ids)) (sym (before n)) hands;
     relation = subst (IsRelation columns) (sym (along n)) (record { ascending = rises; fitting = fits_in });
   }
 

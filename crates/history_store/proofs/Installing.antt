@@ -112,8 +112,8 @@ module _ (columns : List Column) (keys : List Span) (logs : List (List Write)) (
 
 -- the same from a plan
 module _ (columns : List Column) (keys : List Span) (logs : List (List Write)) (live : List ℕ) (spare : ℕ) (k : IsKept columns keys logs live) (p : Plan) (f : IsPlan (store_of columns keys logs spare) p) where
-  pub ids_then : ids_after (store_of columns keys logs spare) p ≡ ids_behind p.after live (length keys)
-  ids_then = ap (λ ids. ids_behind p.after ids (length keys)) (live_is columns keys logs live spare p.stamp k f.before f.lawful)
+  pub ids_then : ids_after (store_of columns keys logs spare) p ≡ ids_behind p.after live
+  ids_then = ap (λ ids. ids_behind p.after ids) (live_is columns keys logs live spare p.stamp k f.before f.lawful)
 
   pub placed_then : IsPlaced p.after live
   placed_then = subst (IsPlaced p.after) (live_is columns keys logs live spare p.stamp k f.before f.lawful) f.placed
@@ -125,7 +125,7 @@ module _ (columns : List Column) (keys : List Span) (logs : List (List Write)) (
   pub relation_then : IsRelation columns (rows_of (ids_after (store_of columns keys logs spare) p) (logs_handed keys logs p.lost p.gained p.stamp))
   relation_then = subst (IsRelation columns) rows_are f.relation
 
-  pub plan_kept : IsKept columns (keys_handed keys p.lost p.gained p.stamp) (logs_handed keys logs p.lost p.gained p.stamp) (ids_behind p.after live (length keys))
+  pub plan_kept : IsKept columns (keys_handed keys p.lost p.gained p.stamp) (logs_handed keys logs p.lost p.gained p.stamp) (ids_behind p.after live)
   plan_kept = subst (IsKept columns (keys_handed keys p.lost p.gained p.stamp) (logs_handed keys logs p.lost p.gained p.stamp)) ids_then (kept_then columns keys logs live spare k p.stamp p.lost p.gained (ids_after (store_of columns keys logs spare) p) f.before f.lawful f.hands relation_then)
 
   pub plan_cells : all_entries (keys_handed keys p.lost p.gained p.stamp) (logs_handed keys logs p.lost p.gained p.stamp) ≡ cells_after (store_of columns keys logs spare) p

@@ -26,8 +26,6 @@ pub mod Planning
 pub mod Links
 pub mod Preparing
 pub mod Rule
-pub mod Inserting
 pub mod Counts
 pub mod Cutting
-pub mod Replacing
-pub mod Blocking
+pub mod Places

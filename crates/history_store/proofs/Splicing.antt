@@ -10,9 +10,7 @@ use Rattle.prima_base.specs.declared.values.Value.{Value}
 use Rattle.history_store.specs.declared.columns.Write.{Write}
 use Rattle.history_store.specs.Table.{row_now, rows_of}
 use Rattle.history_store.specs.Handing.{handed, id_by, lost_by, next_by}
-use Rattle.history_store.specs.Splices.{IsSplit, IsJoined, IsSpliced}
-use Rattle.std.specs.List.{insert}
-use Rattle.history_store.proofs.Inserting.{in_insert, insert_old, insert_new, rises_insert}
+use Rattle.history_store.specs.Splices.{IsSplit, IsJoined}
 use Rattle.relations.proofs.SetLaws.{before_in}
 use Rattle.history_store.proofs.Now.{rows_of_in, in_rows_of}
 use Rattle.history_store.proofs.Carry.{in_get}
@@ -261,37 +259,3 @@ handed_next (id ∷ lost) next row rows = refl
 
 pub kept_there : (logs : List (List Write)) (live found kept : List ℕ) (lost : List (List Value)) (s : IsSplit logs live found kept lost) (row : List Value) → In row (rows_of kept logs) → In row (rows_of live logs)
 kept_there logs live found kept lost s row i = let w = in_rows_of row kept logs i in subst (λ y. In y (rows_of live logs)) w.2 (rows_of_in w.0 live logs (s.kept_in w.0 w.1))
-
--- one row more, and none lost
-pub one_item : {A : Type 0} (xs : List A) (x : A) → length xs ≡ 1 → x ≡ get_or xs 0 x → xs ≡ x ∷ []
-one_item [] x l e = absurd (omega arith)
-one_item (y ∷ []) x l e = ap (λ z. z ∷ []) (sym e)
-one_item (y ∷ (z ∷ xs)) x l e = absurd (omega arith)
-
--- an ascending index has the next id at the place of its row
-module _ (columns : List (List Write)) (live : List ℕ) (row : List Value) (next at : ℕ) (rise : Ascends row_cmp (rows_of live columns)) (h : at ≤ length live)
-    (before : (k : ℕ) → k < at → row_cmp (row_now (get_or live k 0) columns) row ≡ Less) (after : (k : ℕ) → at ≤ k → k < length live → row_cmp (row_now (get_or live k 0) columns) row ≡ Greater) where
-  whole : IsSplit columns live [] live []
-  whole = record { rows = refl; rises = rise; both = λ q i. inr i; found_in = λ q i. absurd i; kept_in = λ q i. i; apart = λ q i j. i }
-
-  order : (others : List (List Write)) → ((q : ℕ) → In q live → row_now q others ≡ row_now q columns) → rows_of (next ∷ []) others ≡ row ∷ [] → Ascends row_cmp (rows_of (insert live at next) others)
-  order others s e =
-      let here : row_now next others ≡ row = ap (first row) e in
-      rises_insert others live at next h (subst (Ascends row_cmp) (sym (same_rows columns others live s)) rise)
-      (λ k l. (let i : k < length live = omega (arith, h) in rw (s (get_or live k 0) (in_get live k 0 i), here) (before k l)))
-      (λ k g l. rw (s (get_or live k 0) (in_get live k 0 l), here) (after k g l))
-    where
-      first : List Value → List (List Value) → List Value
-      first d [] = d
-      first d (r ∷ rs) = r
-
-  pub one_joined : IsJoined columns live (next ∷ []) (insert live at next) (row ∷ [])
-  one_joined = record {
-    stay = λ q i. insert_old live at next q h i;
-    given = λ q i. elim i [ inl e ↦ subst (λ n. In n (insert live at next)) e (in_insert live at next h) | inr j ↦ absurd j ];
-    only = λ q i. elim (insert_new live at next q h i) [ inl e ↦ inr (inl (sym e)) | inr j ↦ inl j ];
-    order = order;
-  }
-
-  pub one_spliced : IsSpliced columns live [] next (row ∷ []) [] (insert live at next)
-  one_spliced = record { kept = live; split = whole; joined = one_joined }

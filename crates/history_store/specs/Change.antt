@@ -80,7 +80,7 @@ ids_at s m = set_of (by_rows m s.cells) (ids_from 0 m s.keys)
 
 -- the ids of the rows behind the change
 abbrev pub ids_after : Store → Plan → List ℕ
-ids_after s p = ids_behind p.after (ids_at s p.stamp) (length s.keys)
+ids_after s p = ids_behind p.after (ids_at s p.stamp)
 
 -- the rows of these ids at the moment
 abbrev pub rows_along : List ℕ → ℕ → List (List Cell) → List (List Value)

@@ -6,7 +6,6 @@ pub mod ColumnFields
 pub mod Table
 pub mod Entries
 pub mod Handing
-pub mod Blocks
 pub mod Splices
 pub mod Indexes
 pub mod Change

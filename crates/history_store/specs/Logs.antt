@@ -1,5 +1,5 @@
 -- Several columns.
-use Rattle.std.specs.Prelude.{ℕ, zero, suc, min, List, [], ◌∷◌}
+use Rattle.std.specs.Prelude.{ℕ, min, List, [], ◌∷◌, if◌then◌else◌, nat_le}
 use Rattle.history_store.specs.declared.columns.Write.{Write}
 use Rattle.history_store.specs.Log.{Log}
 
@@ -7,10 +7,13 @@ abbrev pub cells_of : List Log → List (List Write)
 cells_of [] = []
 cells_of (c ∷ columns) = c.cells ∷ cells_of columns
 
--- as much room, or none where the index has none
+-- a change that gains and loses no more rows than so many keeps their places alone
+abbrev pub few_rows : ℕ
+few_rows = 64
+
+-- as much room, or no more than the index has where that is less than room for few rows
 abbrev pub with_index : ℕ → ℕ → ℕ
-with_index zero n = 0
-with_index (suc room) n = n
+with_index room n = if nat_le few_rows room then n else min room n
 
 -- the least room of all
 abbrev pub least_spare : ℕ → List Log → ℕ

@@ -6,8 +6,9 @@ ghost use Rattle.history_store.specs.Table.{no_span};
 ghost use Rattle.relations.specs.Spans.{forever};
 
 use crate::columns::Column;
-use crate::row_index::RowIndex;
+use crate::splices::FEW_ROWS;
 use prima_base::{NoMemory, Period, Row, Value};
+use row_index::RowIndex;
 use std::alloc::Global;
 
 /// From the stamp on, the row with this id has these values. It takes no memory.
@@ -124,7 +125,8 @@ pub fn reserve_all(columns: &mut Vec<Column>, more: usize) -> Result<(), NoMemor
     Ok(())
 }
 
-/// Room for this many rows more: for their keys, for an id in the index, and for a cell of each in each column.
+/// Room for this many rows more: for their keys, for the ids of few of them in the index, and for a cell of each in each
+/// column.
 pub fn reserve_rows(
     keys: &mut Vec<Period>,
     live: &mut RowIndex,
@@ -142,7 +144,7 @@ pub fn reserve_rows(
     ensures room { OnOk result (more ≤ least_spare (with_index live.new.room (vec_capacity keys.new - vec_len keys.new)) columns.new.items) }
 {
     keys.reserve(more)?;
-    live.reserve()?;
+    live.reserve(more.min(FEW_ROWS))?;
     reserve_all(columns, more)
 }
 

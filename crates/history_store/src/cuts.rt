@@ -10,9 +10,9 @@ ghost use Rattle.history_store.specs.Logs.{cells_of};
 ghost use Rattle.history_store.specs.Table.{row_now, rows_of};
 
 use crate::columns::Column;
-use crate::row_index::RowIndex;
 use crate::walks::compare_lead;
 use prima_base::{NoMemory, Row, Val, Value};
+use row_index::RowIndex;
 use std::cmp::Ordering;
 use std::marker::Model;
 
@@ -135,6 +135,7 @@ pub struct LentRows<'a> {
     index: &'a RowIndex,
     start: usize,
     end: usize,
+    near: usize,
 }
 
 impl<'a> Model for LentRows<'a> {
@@ -176,6 +177,7 @@ impl<'a> LentRows<'a> {
             index,
             start,
             end,
+            near: 0,
         }
     }
 
@@ -187,13 +189,15 @@ impl<'a> LentRows<'a> {
     }
 
     /// Puts the values of the row at this place into `row`, borrowed, in place of what it had; a text among them has at
-    /// most 4,096 bytes and no control byte. Where `row` has the room it takes no memory. The one error is `NoMemory`,
-    /// where memory runs out.
-    pub fn lend(&self, at: usize, row: &mut Vec<Val<'a>>) -> Result<(), NoMemory>
-        requires within { at < length self.now }
-        ensures values { OnOk result (map shown row.new.items ≡ slice_index_or self.now at []) }
+    /// most 4,096 bytes and no control byte. Rows that are looked at one after the other are found at once. Where `row`
+    /// has the room it takes no memory. The one error is `NoMemory`, where memory runs out.
+    pub fn lend(&mut self, at: usize, row: &mut Vec<Val<'a>>) -> Result<(), NoMemory>
+        requires within { at < length self.old }
+        ensures same { self.new ≡ self.old }
+        ensures values { OnOk result (map shown row.new.items ≡ slice_index_or self.old at []) }
         ensures lawful { OnOk result (All (λ v. IsLawful (shown v)) row.new.items) }
     {
-        lend_now(self.columns, self.index.id_at(self.start + at), row)
+        let id = self.index.id_near(self.start + at, &mut self.near);
+        lend_now(self.columns, id, row)
     }
 }

@@ -15,7 +15,6 @@
 mod changes;
 mod columns;
 mod cuts;
-mod row_index;
 mod scans;
 mod splices;
 mod tables;

@@ -1,36 +1,36 @@
 //! The ids of lost rows taken out of the index, and the ids of gained rows put into it. Each row is found by
-//! binary search; the rest is moved without a look at its rows. Where at most one row comes and
-//! at most one goes, their places alone are kept, and nothing is moved before the change is carried out.
+//! binary search; the rest is moved without a look at its rows. Where few rows come and go, their places alone
+//! are kept, and nothing is moved before the change is carried out.
 
-ghost use Rattle.std.specs.Prelude.{◌≡◌, ◌+◌, ◌-◌, ◌^◌, ◌<◌, ◌≤◌, IfOk, List, [], ◌∷◌, ℕ, length, nat_lt, if◌then◌else◌, slice_index, slice_index_or};
+ghost use Rattle.std.specs.Prelude.{◌≡◌, ◌+◌, ◌^◌, ◌<◌, ◌≤◌, IfOk, List, ℕ, length, slice_index, slice_index_or};
 ghost use Rattle.std.specs.declared.cmp.Ordering.TheVariants.{Less, Greater};
 ghost use Rattle.relations.specs.Sets.{Ascends, In};
 ghost use Rattle.prima_base.specs.Order.{row_cmp};
 ghost use Rattle.prima_base.specs.declared.values.Value.{Value as OneValue};
 ghost use Rattle.history_store.specs.Log.{Log};
-ghost use Rattle.history_store.specs.Logs.{cells_of};
+ghost use Rattle.history_store.specs.Logs.{cells_of, few_rows};
 ghost use Rattle.history_store.specs.Table.{row_now, rows_of};
 ghost use Rattle.history_store.specs.Handing.{handed, AllWidth};
 ghost use Rattle.history_store.specs.Splices.{IsSplit, IsJoined, IsSpliced};
-ghost use Rattle.history_store.specs.Indexes.{index_of, ids_behind, more_ids, IsPlaced};
+ghost use Rattle.history_store.specs.Indexes.{without, with_each, place_without, AreAmong, AreAlong, index_of, ids_behind, more_ids, IsPlaced};
 
 use crate::columns::Column;
-use crate::row_index::RowIndex;
 use crate::walks::{handed_id, place_in, place_of};
 use prima_base::{NoMemory, Row, Value};
+use row_index::RowIndex;
 use std::alloc::Global;
+
+/// How many rows a change may lose, and how many gain, for their places alone to be kept.
+pub const FEW_ROWS: usize = 64;
 
 /// The index behind a change.
 #[derive(Drop)]
 pub enum After {
     /// All its ids.
     Whole(RowIndex),
-    /// The ids of the index before the change, and the next new one at this place.
-    OneMore(usize),
-    /// Those ids, but for the one at this place.
-    OneLess(usize),
-    /// Those ids, where the one at the first place comes to the second among the others.
-    OneMoved(usize, usize),
+    /// The ids of the index before the change: first those at these places go, each a place among the ids that are left
+    /// by then, and then each id comes to the place beside it, the last one first.
+    Moved(Vec<usize>, Vec<(usize, usize)>),
 }
 
 // The place of the id whose row this is.
@@ -153,68 +153,108 @@ pub fn put_in(
     Ok(after)
 }
 
-// The ids alone of one that goes.
-fn one_id(alloc: Global, id: usize) -> Result<Vec<usize>, NoMemory>
-    ensures { IfOk result (λ ids. ids.items ≡ id ∷ []) }
-{
-    let mut ids = Vec::with_capacity(alloc, 1)?;
-    ids.push(id)?;
-    Ok(ids)
-}
-
-// The same where one row is lost and none gained.
-fn splice_out(
+// The ids of these rows, and their places, each among the ids that are left where those before it are out.
+fn lost_places(
     alloc: Global,
     columns: &[Column],
     live: &RowIndex,
-    lost: &Row,
-) -> Result<(Vec<usize>, After), NoMemory>
-    requires lost_wide { length lost.now ≡ length columns.now }
+    lost: &[Row],
+) -> Result<(Vec<usize>, Vec<usize>), NoMemory>
+    requires wide { AllWidth (length columns.now) lost.now }
     requires known { (id : ℕ) → In id live.now.ids → (k : ℕ) (d : Log) → k < length columns.now → id < (slice_index_or columns.now k d).ids }
     requires live_rise { Ascends row_cmp (rows_of live.now.ids (cells_of columns.now)) }
-    requires there { In lost.now (rows_of live.now.ids (cells_of columns.now)) }
-    ensures spliced { (next : ℕ) → IfOk result (λ (found, after). IsSpliced (cells_of columns.now) live.now.ids (lost.now ∷ []) next [] found.items (ids_behind (index_of after) live.now.ids next)) }
-    ensures placed { IfOk result (λ (_found, after). IsPlaced (index_of after) live.now.ids) }
-    ensures more { IfOk result (λ (_found, after). more_ids (index_of after) ≡ 0) }
+    requires lost_rise { Ascends row_cmp lost.now }
+    requires there { (row : List OneValue) → In row lost.now → In row (rows_of live.now.ids (cells_of columns.now)) }
+    ensures split { IfOk result (λ (found, from). IsSplit (cells_of columns.now) live.now.ids found.items (without from.items live.now.ids) lost.now) }
+    ensures placed { IfOk result (λ (_found, from). AreAmong from.items live.now.ids) }
 {
-    let at = found_in(columns, live, lost.values());
-    let found = one_id(alloc, live.id_at(at))?;
-    Ok((found, After::OneLess(at)))
+    let mut found = Vec::with_capacity(alloc, lost.len())?;
+    let mut from = Vec::with_capacity(alloc, lost.len())?;
+    for row in lost {
+        let at = found_in(columns, live, row.values());
+        let gone = from.len();
+        from.push(at - gone)?;
+        found.push(live.id_at(at))?;
+    }
+    Ok((found, from))
 }
 
-// The place among the others, where one at this place is out.
-fn place_without(free: usize, from: usize) -> usize
-    ensures { result ≡ (if nat_lt from free then free - 1 else free) }
+// Where the place comes to when the ids at these places are out.
+fn place_without(from: &[usize], free: usize) -> usize
+    ensures { result ≡ place_without from.now free }
 {
-    if from < free { free - 1 } else { free }
+    let mut place = free;
+    for at in from {
+        if *at < place {
+            place -= 1;
+        }
+    }
+    place
 }
 
-// The same where one row is lost and one gained.
-fn splice_over(
+// The places of the gained rows among the ids that are left, each with its id: the lost ids in turn, and then new ones.
+fn gained_places(
     alloc: Global,
     columns: &[Column],
     live: &RowIndex,
-    lost: &Row,
-    gained: &Row,
-) -> Result<(Vec<usize>, After), NoMemory>
-    requires lost_wide { length lost.now ≡ length columns.now }
-    requires gained_wide { length gained.now ≡ length columns.now }
+    from: &[usize],
+    lost: &[usize],
+    next: usize,
+    gained: &[Row],
+) -> Result<Vec<(usize, usize)>, NoMemory>
+    requires wide { AllWidth (length columns.now) gained.now }
     requires known { (id : ℕ) → In id live.now.ids → (k : ℕ) (d : Log) → k < length columns.now → id < (slice_index_or columns.now k d).ids }
     requires live_rise { Ascends row_cmp (rows_of live.now.ids (cells_of columns.now)) }
-    requires there { In lost.now (rows_of live.now.ids (cells_of columns.now)) }
-    requires fresh { In gained.now (rows_of live.now.ids (cells_of columns.now)) → ⊥ }
-    ensures spliced { (next : ℕ) → IfOk result (λ (found, after). IsSpliced (cells_of columns.now) live.now.ids (lost.now ∷ []) next (gained.now ∷ []) found.items (ids_behind (index_of after) live.now.ids next)) }
-    ensures placed { IfOk result (λ (_found, after). IsPlaced (index_of after) live.now.ids) }
-    ensures more { IfOk result (λ (_found, after). more_ids (index_of after) ≡ 1) }
+    requires kept_rise { Ascends row_cmp (rows_of (without from.now live.now.ids) (cells_of columns.now)) }
+    requires gained_rise { Ascends row_cmp gained.now }
+    requires fresh { (row : List OneValue) → In row gained.now → In row (rows_of live.now.ids (cells_of columns.now)) → ⊥ }
+    requires placed { AreAmong from.now live.now.ids }
+    requires few { next + length gained.now < 2 ^ 64 }
+    ensures joined { IfOk result (λ to. IsJoined (cells_of columns.now) (without from.now live.now.ids) (handed lost.now next gained.now) (with_each to.items (without from.now live.now.ids)) gained.now) }
+    ensures placed { IfOk result (λ to. AreAlong to.items (length (without from.now live.now.ids))) }
+    ensures count { IfOk result (λ to. length to.items ≡ length gained.now) }
 {
-    let at = found_in(columns, live, lost.values());
-    let free = free_in(columns, live, gained.values());
-    let found = one_id(alloc, live.id_at(at))?;
-    Ok((found, After::OneMoved(at, place_without(free, at))))
+    let mut to = Vec::with_capacity(alloc, gained.len())?;
+    let mut k = 0;
+    let mut fresh = next;
+    for row in gained {
+        let free = free_in(columns, live, row.values());
+        let id = handed_id(lost, &mut k, &mut fresh);
+        to.push((place_without(from, free), id))?;
+    }
+    Ok(to)
 }
 
-/// The ids of the lost rows, and the index behind the change. Where at most one row is lost and at most one gained that
-/// is a place or two, and no index is copied.
+// The ids of the lost rows, and the places of a change of few rows.
+fn splice_few(
+    alloc: Global,
+    columns: &[Column],
+    live: &RowIndex,
+    lost: &[Row],
+    next: usize,
+    gained: &[Row],
+) -> Result<(Vec<usize>, After), NoMemory>
+    requires lost_wide { AllWidth (length columns.now) lost.now }
+    requires gained_wide { AllWidth (length columns.now) gained.now }
+    requires known { (id : ℕ) → In id live.now.ids → (k : ℕ) (d : Log) → k < length columns.now → id < (slice_index_or columns.now k d).ids }
+    requires live_rise { Ascends row_cmp (rows_of live.now.ids (cells_of columns.now)) }
+    requires lost_rise { Ascends row_cmp lost.now }
+    requires gained_rise { Ascends row_cmp gained.now }
+    requires there { (row : List OneValue) → In row lost.now → In row (rows_of live.now.ids (cells_of columns.now)) }
+    requires fresh { (row : List OneValue) → In row gained.now → In row (rows_of live.now.ids (cells_of columns.now)) → ⊥ }
+    requires few { next + length gained.now < 2 ^ 64 }
+    requires few_gained { length gained.now ≤ few_rows }
+    ensures spliced { IfOk result (λ (found, after). IsSpliced (cells_of columns.now) live.now.ids lost.now next gained.now found.items (ids_behind (index_of after) live.now.ids)) }
+    ensures placed { IfOk result (λ (_found, after). IsPlaced (index_of after) live.now.ids) }
+    ensures more { IfOk result (λ (_found, after). more_ids (index_of after) ≤ length gained.now) }
+{
+    let (found, from) = lost_places(alloc, columns, live, lost)?;
+    let to = gained_places(alloc, columns, live, &from, &found, next, gained)?;
+    Ok((found, After::Moved(from, to)))
+}
+
+/// The ids of the lost rows, and the index behind the change. Where few rows are lost and few gained that is their
+/// places, and no index is copied.
 pub fn splice(
     alloc: Global,
     columns: &[Column],
@@ -232,40 +272,62 @@ pub fn splice(
     requires there { (row : List OneValue) → In row lost.now → In row (rows_of live.now.ids (cells_of columns.now)) }
     requires fresh { (row : List OneValue) → In row gained.now → In row (rows_of live.now.ids (cells_of columns.now)) → ⊥ }
     requires few { next + length gained.now < 2 ^ 64 }
-    ensures spliced { IfOk result (λ (found, after). IsSpliced (cells_of columns.now) live.now.ids lost.now next gained.now found.items (ids_behind (index_of after) live.now.ids next)) }
+    ensures spliced { IfOk result (λ (found, after). IsSpliced (cells_of columns.now) live.now.ids lost.now next gained.now found.items (ids_behind (index_of after) live.now.ids)) }
     ensures placed { IfOk result (λ (_found, after). IsPlaced (index_of after) live.now.ids) }
     ensures more { IfOk result (λ (_found, after). more_ids (index_of after) ≤ length gained.now) }
 {
-    if lost.is_empty() && gained.len() == 1 {
-        let at = free_in(columns, live, gained[0].values());
-        return Ok((Vec::new(alloc), After::OneMore(at)));
-    }
-    if lost.len() == 1 && gained.is_empty() {
-        return splice_out(alloc, columns, live, &lost[0]);
-    }
-    if lost.len() == 1 && gained.len() == 1 {
-        return splice_over(alloc, columns, live, &lost[0], &gained[0]);
+    if lost.len() <= FEW_ROWS && gained.len() <= FEW_ROWS {
+        return splice_few(alloc, columns, live, lost, next, gained);
     }
     let (found, kept) = take_out(alloc, columns, &live.copy()?, lost)?;
     let ids = put_in(alloc, columns, &kept, &found, next, gained)?;
     Ok((found, After::Whole(RowIndex::of(alloc, &ids)?)))
 }
 
+// Takes out the ids at these places, one after the other.
+fn take_each(live: &mut RowIndex, from: &[usize])
+    requires { AreAmong from.now live.old.ids }
+    ensures ids { live.new.ids ≡ without from.now live.old.ids }
+    ensures room { live.old.room ≤ live.new.room }
+{
+    for at in from {
+        live.remove(*at);
+    }
+}
+
+// The place and the id that stand here.
+fn place_and_id(to: &[(usize, usize)], k: usize) -> (usize, usize)
+    requires { k < length to.now }
+    ensures { result ≡ slice_index_or to.now k result }
+{
+    to[k]
+}
+
+// Puts each id at its place, the last one first. It takes no memory.
+fn put_each(live: &mut RowIndex, to: &[(usize, usize)])
+    requires placed { AreAlong to.now (length live.old.ids) }
+    requires room { length to.now ≤ live.old.room }
+    ensures { live.new.ids ≡ with_each to.now live.old.ids }
+{
+    let mut k = to.len();
+    'put: while k > 0 {
+        k -= 1;
+        let (at, id) = place_and_id(to, k);
+        live.insert(at, id);
+    }
+}
+
 /// Makes the index the one behind the change. It takes no memory, and looks at no row.
-pub fn change_index(live: &mut RowIndex, after: After, next: usize)
+pub fn change_index(live: &mut RowIndex, after: After)
     requires placed { IsPlaced (index_of after) live.old.ids }
     requires room { more_ids (index_of after) ≤ live.old.room }
-    ensures { live.new.ids ≡ ids_behind (index_of after) live.old.ids next }
+    ensures { live.new.ids ≡ ids_behind (index_of after) live.old.ids }
 {
     match after {
         After::Whole(index) => *live = index,
-        After::OneMore(at) => live.insert(at, next),
-        After::OneLess(at) => {
-            live.remove(at);
-        }
-        After::OneMoved(from, to) => {
-            let id = live.remove(from);
-            live.insert(to, id);
+        After::Moved(from, to) => {
+            take_each(live, &from);
+            put_each(live, &to);
         }
     }
 }

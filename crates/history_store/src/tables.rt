@@ -1,13 +1,13 @@
 use crate::changes::{carry_out, empty_columns, reserve_rows};
 use crate::columns::Column;
 use crate::cuts::{Cut, LentRows, count_before};
-use crate::row_index::RowIndex;
 use crate::scans::{CellScan, KeyScan};
 use crate::splices::{After, change_index, copy_given, splice};
 use crate::walks::{
     Difference, column_place, copy_columns, copy_rows, find_difference, next_ids, place_in,
 };
 use prima_base::{ColType, Name, NoMemory, Period, Row};
+use row_index::RowIndex;
 use std::alloc::Global;
 use std::marker::Model;
 
@@ -151,7 +151,7 @@ impl StoredTable {
 
     /// Makes the change that loses and gains these rows ready, and all the room that installing it needs. Each
     /// row is found by binary search: for m rows in a table of n that is in the order of m log n comparisons of
-    /// rows. Where at most one row is gained and at most one lost, the index of the current rows is not copied: the
+    /// rows. Where at most 64 rows are gained and at most 64 lost, the index of the current rows is not copied: the
     /// places in it are kept, and room for what is gained made. The one error is `NoMemory`, where memory runs out.
     pub fn prepare_change(
         &mut self,
@@ -196,9 +196,9 @@ impl StoredTable {
     }
 
     /// Carries out what was made ready: from its stamp on the relation is the one that it was made for,
-    /// and before it nothing changes. It takes no memory. The index of the current rows gets or loses the one id at its
-    /// place, which moves ids of its block alone, or has one put at another place, or it is replaced by the whole one
-    /// that was made ready.
+    /// and before it nothing changes. It takes no memory. The index of the current rows loses the ids at the places that
+    /// were found and gets the gained ones at theirs, each of which moves ids of its block alone, or it is replaced by
+    /// the whole one that was made ready.
     pub fn install(&mut self, prepared: Prepared)
         requires fits { IsPlan self.old prepared }
         requires room { length prepared.gained ≤ self.old.spare }
@@ -219,9 +219,8 @@ impl StoredTable {
             gained,
             after,
         } = prepared;
-        let next = self.keys.len();
         carry_out(&mut self.keys, &mut self.logs, &lost, gained, stamp);
-        change_index(&mut self.live, after, next);
+        change_index(&mut self.live, after);
     }
 
     /// Copies of the current rows, ascending. The one error is `NoMemory`, where memory runs out.

@@ -10,8 +10,8 @@ ghost use Rattle.history_store.specs.Table.{row_now, rows_of};
 ghost use Rattle.history_store.specs.Handing.{lost_ids, first_order, owners, no_owners, gained_rows, given_ids, id_by, lost_by, next_by, AllWidth};
 
 use crate::columns::Column;
-use crate::row_index::RowIndex;
 use prima_base::{ColType, Name, NoMemory, Row, Value};
+use row_index::RowIndex;
 use std::alloc::Global;
 use std::cmp::Ordering;
 

@@ -1,4 +1,4 @@
-use Rattle.std.proofs.Common.{◌-◌, arith, vec_len, vec_capacity, sym, subst, ◌≤◌}
+use Rattle.std.proofs.Common.{◌-◌, arith, vec_len, vec_capacity}
 use Rattle.std.proofs.lemmas.Grind.{common_steps}
 use Rattle.std.proofs.lemmas.Result.{on_ok_weaker}
 use Rattle.history_store.specs.Logs.{with_index}
@@ -26,5 +26,5 @@ pub returns-clause-room : goal.returns-clause-room
 returns-clause-room c =
     on_ok_weaker c.reserve_all.result
     (λ room. least_is c.args.more (with_index c.reserve-2.new.self.room (vec_capacity c.reserve.new.self - vec_len c.reserve.new.self)) c.reserve_all.new.columns.items
-    (subst (λ n. c.args.more ≤ n) (sym (some_with_index c.reserve-2.new.self.room _ c.in_ok-reserve-2.ensures.room)) (grind (arith, common_steps))) room)
+    (some_with_index c.reserve-2.new.self.room _ c.args.more _ c.min.ensures c.in_ok-reserve-2.ensures.room (grind (arith, common_steps))) room)
     c.reserve_all.ensures.room

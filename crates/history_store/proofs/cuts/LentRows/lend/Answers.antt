@@ -11,8 +11,8 @@ overflow_add-self-inside c =
     let b : c.args.at < a.end - a.start = subst (λ n. c.args.at < n) (ap length (sym c.self.view_is) ∙ length-part a.index.now.ids a.start a.end (cells_of a.columns.now) c.self.invariant.order c.self.invariant.within) c.requires.within in
     omega (arith, b)
 
-pub id_at-requires : goal.id_at-requires
-id_at-requires c =
+pub id_near-id-requires : goal.id_near-id-requires
+id_near-id-requires c =
     let a = c.self.inside in
     let b : c.args.at < a.end - a.start = subst (λ n. c.args.at < n) (ap length (sym c.self.view_is) ∙ length-part a.index.now.ids a.start a.end (cells_of a.columns.now) c.self.invariant.order c.self.invariant.within) c.requires.within in
     omega (arith, b, c.self.invariant.order, c.self.invariant.within)
@@ -21,11 +21,11 @@ pub lend_now-requires : goal.lend_now-requires
 lend_now-requires c = λ k d h.
     let a = c.self.inside in
     let b : c.args.at < a.end - a.start = subst (λ n. c.args.at < n) (ap length (sym c.self.view_is) ∙ length-part a.index.now.ids a.start a.end (cells_of a.columns.now) c.self.invariant.order c.self.invariant.within) c.requires.within in
-    rw c.id_at.ensures (c.self.invariant.known (get_or a.index.now.ids (a.start + c.args.at) 0) (in_get a.index.now.ids (a.start + c.args.at) 0 (omega (arith, b, c.self.invariant.order, c.self.invariant.within))) k d h)
+    rw c.id_near-id.ensures (c.self.invariant.known (get_or a.index.now.ids (a.start + c.args.at) 0) (in_get a.index.now.ids (a.start + c.args.at) 0 (omega (arith, b, c.self.invariant.order, c.self.invariant.within))) k d h)
 
 pub returns-clause-values : goal.returns-clause-values
 returns-clause-values c =
     let a = c.self.inside in
     let b : c.args.at < a.end - a.start = subst (λ n. c.args.at < n) (ap length (sym c.self.view_is) ∙ length-part a.index.now.ids a.start a.end (cells_of a.columns.now) c.self.invariant.order c.self.invariant.within) c.requires.within in
-    let v = rw c.id_at.ensures at c.lend_now.ensures.values in
+    let v = rw c.id_near-id.ensures at c.lend_now.ensures.values in
     on_ok_weaker c.lend_now.result (λ e. e ∙ sym (ap (λ rows. get_or rows c.args.at []) (sym c.self.view_is) ∙ get_or-part a.index.now.ids a.start a.end (cells_of a.columns.now) c.args.at b c.self.invariant.order c.self.invariant.within)) v

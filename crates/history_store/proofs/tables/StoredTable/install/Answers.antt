@@ -1,8 +1,9 @@
-use Rattle.std.proofs.Common.{rules, ◌≡◌, length, sym, ◌∙◌, subst, arith, vec_len, vec_capacity, ◌≤◌}
+use Rattle.std.proofs.Common.{rules, length, sym, ◌∙◌, subst, arith, vec_len, vec_capacity, ◌≤◌}
 use Rattle.std.proofs.lemmas.Grind.{common_steps}
 use Rattle.history_store.specs.Handing.{AllWidth}
 use Rattle.history_store.specs.Indexes.{index_of}
 use Rattle.history_store.specs.Logs.{cells_of}
+use Rattle.history_store.proofs.Places.{few_placed}
 use Rattle.history_store.proofs.Carry.{known, spare_least, spare_each, key_room, index_room}
 use Rattle.history_store.proofs.Rows.{length-cells_of}
 use Rattle.history_store.proofs.Showing.{key_before}
@@ -51,15 +52,15 @@ change_index-requires-clause-room c =
     let f = rw (← c.self.view_is, ← c.prepared.view_is) at c.requires.fits in
     let r = rw (← c.self.view_is, ← c.prepared.view_is) at c.requires.room in
     let s = spare_least (length c.prepared.inside.gained.items) _ a.logs.items r in
-    index_room a.live.room _ _ (index_of c.prepared.inside.after) s f.more
+    let p = placed_then a.columns.items a.keys.items (cells_of a.logs.items) a.live.ids _ c.self.invariant.kept _ f in
+    index_room a.live.room _ (length c.prepared.inside.gained.items) _ s f.more (few_placed (index_of c.prepared.inside.after) a.live.ids p)
 
 pub invariant_of-self : goal.invariant_of-self
 invariant_of-self c =
     let a = c.self.inside in
     let f = rw (← c.self.view_is, ← c.prepared.view_is) at c.requires.fits in
-    let n : c.len-next.result ≡ length a.keys.items = search rules in
     record {
-      kept = rw (c.carry_out.ensures.keys, c.carry_out.ensures.cells, c.deref.ensures.value, c.change_index.ensures, n) (plan_kept a.columns.items a.keys.items (cells_of a.logs.items) a.live.ids _ c.self.invariant.kept _ f);
+      kept = rw (c.carry_out.ensures.keys, c.carry_out.ensures.cells, c.deref.ensures.value, c.change_index.ensures) (plan_kept a.columns.items a.keys.items (cells_of a.logs.items) a.live.ids _ c.self.invariant.kept _ f);
       ids = λ k d b. c.carry_out.ensures.ids k d b ∙ search rules;
     }
 

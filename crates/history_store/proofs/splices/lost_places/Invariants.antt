@@ -1,0 +1,11 @@
+use Rattle.std.proofs.Common.{length, drop}
+use Rattle.history_store.specs.Logs.{cells_of}
+use Rattle.history_store.specs.Handing.{AllWidth}
+use Rattle.history_store.proofs.Places.{ArePlaces}
+use Rattle.history_store.proofs.splices.lost_places.Given as goal
+
+abbrev pub invariant-loop-row : goal.invariant-loop-row
+invariant-loop-row l = record {
+  places : ArePlaces (cells_of l.columns) l.live.ids l.found.items l.from.items l.lost (drop l.row-index l.lost);
+  wide : AllWidth (length l.columns) (drop l.row-index l.lost);
+}

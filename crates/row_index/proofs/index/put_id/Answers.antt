@@ -1,0 +1,53 @@
+use Rattle.std.proofs.Common.{◌≤◌, length, sym, subst}
+use Rattle.row_index.proofs.Blocking.{was_is, put_plain, put_split, few_more, count_set, count_split, last_empty, front_empty}
+use Rattle.row_index.proofs.index.put_id.Goals as goal
+
+pub insert-requires-clause-within : goal.insert-requires-clause-within
+insert-requires-clause-within c =
+    let p = rw c.deref.ensures.value at c.place_at-block.ensures in
+    subst (λ b. c.place_at-block.result.1 ≤ length b) (sym (was_is c.args.blocks.now.items c.place_at-block.result.0 c.index_mut.result.now p.block c.index_mut.ensures.value)) p.inside
+
+pub recount-requires-clause-counted : goal.recount-requires-clause-counted
+recount-requires-clause-counted c = rw c.deref-then-len-lt-BLOCK_SIZE.ensures.value (count_set c.args.starts.now.items c.args.blocks.now.items c.place_at-block.result.0 c.insert.new.self c.requires.counted)
+
+pub recount-requires-clause-few : goal.recount-requires-clause-few
+recount-requires-clause-few c =
+    let p = rw c.deref.ensures.value at c.place_at-block.ensures in
+    rw c.deref-then-len-lt-BLOCK_SIZE.ensures.value (few_more _ _ c.args.at c.args.id _
+    (put_plain c.args.blocks.now.items c.place_at-block.result.0 c.place_at-block.result.1 c.args.at c.args.id c.index_mut.result.now c.insert.new.self p.block p.place p.inside c.index_mut.ensures.value c.insert.ensures)
+    c.requires.within c.requires.few)
+
+pub returns-then-len-lt-BLOCK_SIZE-clause-ids : goal.returns-then-len-lt-BLOCK_SIZE-clause-ids
+returns-then-len-lt-BLOCK_SIZE-clause-ids c =
+    let p = rw c.deref.ensures.value at c.place_at-block.ensures in
+    put_plain c.args.blocks.now.items c.place_at-block.result.0 c.place_at-block.result.1 c.args.at c.args.id c.index_mut.result.now c.insert.new.self p.block p.place p.inside c.index_mut.ensures.value c.insert.ensures
+
+pub insert_split-upper-requires-clause-spare : goal.insert_split-upper-requires-clause-spare
+insert_split-upper-requires-clause-spare c = last_empty c.args.spare.now.items c.take_last.new.self.items c.take_last.result c.requires.empty c.take_last.ensures.items
+
+pub insert_split-upper-requires-clause-within : goal.insert_split-upper-requires-clause-within
+insert_split-upper-requires-clause-within c =
+    let p = rw c.deref.ensures.value at c.place_at-block.ensures in
+    subst (λ b. c.place_at-block.result.1 ≤ length b) (sym (was_is c.args.blocks.now.items c.place_at-block.result.0 c.index_mut-2.result.now p.block c.index_mut-2.ensures.value)) p.inside
+
+pub recount-requires-2-clause-counted : goal.recount-requires-2-clause-counted
+recount-requires-2-clause-counted c =
+    let p = rw c.deref.ensures.value at c.place_at-block.ensures in
+    rw (c.deref-3.ensures.value, c.insert_reserved.ensures.items, c.insert_reserved-2.ensures.items)
+    (count_split c.args.starts.now.items c.args.blocks.now.items c.place_at-block.result.0 c.insert_split-upper.new.self c.insert_split-upper.result c.requires.counted p.block)
+
+pub recount-requires-2-clause-few : goal.recount-requires-2-clause-few
+recount-requires-2-clause-few c =
+    let p = rw c.deref.ensures.value at c.place_at-block.ensures in
+    rw (c.deref-3.ensures.value, c.insert_reserved.ensures.items) (few_more _ _ c.args.at c.args.id _
+    (put_split c.args.blocks.now.items c.place_at-block.result.0 c.place_at-block.result.1 c.args.at c.args.id c.index_mut-2.result.now c.insert_split-upper.new.self c.insert_split-upper.result p.block p.place p.inside c.index_mut-2.ensures.value c.insert_split-upper.ensures)
+    c.requires.within c.requires.few)
+
+pub returns-clause-ids : goal.returns-clause-ids
+returns-clause-ids c =
+    let p = rw c.deref.ensures.value at c.place_at-block.ensures in
+    rw c.insert_reserved.ensures.items
+    (put_split c.args.blocks.now.items c.place_at-block.result.0 c.place_at-block.result.1 c.args.at c.args.id c.index_mut-2.result.now c.insert_split-upper.new.self c.insert_split-upper.result p.block p.place p.inside c.index_mut-2.ensures.value c.insert_split-upper.ensures)
+
+pub returns-clause-empty : goal.returns-clause-empty
+returns-clause-empty c = front_empty c.args.spare.now.items c.take_last.new.self.items c.take_last.result c.requires.empty c.take_last.ensures.items
