@@ -9,9 +9,7 @@ use Rattle.prima_base.specs.OrderLaws.{row_exact}
 use Rattle.prima_base.specs.Columns.{Column, AreColumns, IsRow, IsRelation}
 use Rattle.prima_base.specs.declared.values.Value.{Value}
 use Rattle.history_store.specs.Store.{Store, rows_from, relation_at, IsBefore, AllBefore}
-use Rattle.smo_meaning.specs.First.{first_refusal}
 use Rattle.smo_types.specs.Changes.{PlainChange, insertion, deletion, update, table_of, change_of, changes_of}
-use Rattle.smo_meaning.specs.Checks.{tests_behind}
 use Rattle.smo_meaning.specs.Effects.{relation_after, gained_rows}
 use Rattle.std.specs.Option.{option_map}
 use Rattle.smo_meaning.specs.Inserting.{relation_after_each, insertions}

@@ -1,8 +1,7 @@
 -- What a prepared change makes of a stored table.
-use Rattle.std.proofs.Common.{◌≡◌, ◌<◌, ◌≤◌, ℕ, true, false, List, [], ◌∷◌, ◌++◌, length, refl, sym, ap, ◌∙◌, subst, arith, cond}
+use Rattle.std.proofs.Common.{◌≡◌, ℕ, true, false, List, [], ◌∷◌, ◌++◌, length, refl, sym, ap, subst, arith, cond}
 use Rattle.std.specs.Prelude.{not}
 use Rattle.relations.specs.Sets.{has, set_of}
-use Rattle.relations.specs.Spans.{forever}
 use Rattle.prima_base.specs.Order.{row_cmp}
 use Rattle.prima_base.specs.declared.values.Value.{Value}
 use Rattle.history_store.specs.Store.{Store, Cell, relation_at, AllBefore}

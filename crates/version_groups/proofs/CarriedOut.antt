@@ -1,28 +1,31 @@
 -- What was made ready, carried out.
-use Rattle.std.proofs.Common.{◌≡◌, ◌≤◌, ◌<◌, ◌+◌, ℕ, suc, List, [], ◌∷◌, ◌++◌, map, length, get_or, refl, sym, ap, subst, ◌∙◌, arith}
+use Rattle.std.proofs.Common.{◌≡◌, ◌≤◌, ◌<◌, ◌+◌, ℕ, List, [], ◌∷◌, ◌++◌, map, length, get_or, refl, sym, ap, subst, ◌∙◌, arith, inl, inr}
 use Rattle.std.specs.Prelude.{Option, Some, None, ◌^◌}
 use Rattle.std.specs.FinMap.{get}
 use Rattle.std.proofs.lemmas.List.{length-map, map-append}
 use Rattle.relations.specs.Spans.{forever}
-use Rattle.relations.specs.Sets.{Ascends}
+use Rattle.relations.specs.Sets.{In, Ascends}
 use Rattle.prima_base.specs.Order.{bytes_cmp}
-use Rattle.history_store.specs.Store.{Store}
+use Rattle.history_store.specs.Store.{Store, relation_at}
 use Rattle.history_store.specs.Change.{Plan}
 use Rattle.smo_types.specs.declared.versions.Version.{Version}
 use Rattle.smo_meaning.specs.Effects.{rows_at}
 use Rattle.smo_meaning.specs.OneRow.{Relation}
 use Rattle.smo_meaning.specs.Accepts.{command_fault}
 use Rattle.smo_meaning.specs.LawfulValues.{BodyHolds}
-use Rattle.smo_types.specs.Commands.{PlainBody, changing, evolving, PlainCommand, PlainVersion, version_of}
-use Rattle.smo_meaning.specs.Past.{Past, next_version, database_behind, past_with}
+use Rattle.smo_types.specs.Commands.{PlainBody, changing, evolving, PlainVersion, version_of}
+use Rattle.smo_meaning.specs.Past.{Past, database_behind, past_with}
 use Rattle.version_groups.specs.declared.made_tables.MadeTable.{MadeTable}
-use Rattle.version_groups.specs.Groups.{Kept, versions_in, group_of, newest_group, stored_as, names_of}
-use Rattle.version_groups.specs.Showing.{Shows}
+use Rattle.version_groups.specs.Groups.{Kept, versions_in, group_of, newest_group, table_in, stored_as, names_of}
+use Rattle.version_groups.specs.Places.{at_places, AreWithin}
+use Rattle.version_groups.specs.Showing.{IsInForce, Shows}
 use Rattle.version_groups.specs.Becoming.{HasRoom, Leads, IsMade}
 use Rattle.version_groups.specs.Changing.{HaveRoom}
-use Rattle.version_groups.specs.Installing.{StaysEntry, HasChanges, HasVersion}
-use Rattle.version_groups.specs.Steps.{PlainStep, changed, evolved, a_command, AreChanges, IsNextVersion, IsStep}
-use Rattle.version_groups.proofs.Installed.{shows_changed, shows_evolved}
+use Rattle.version_groups.specs.Installing.{Stays, StaysEntry, IsAmong, IsMadeBy, HasChanges, HasVersion}
+use Rattle.version_groups.specs.Steps.{changed, evolved, a_command, AreChanges, IsStep}
+use Rattle.smo_meaning.proofs.PastMoments.{before_or_not}
+use Rattle.version_groups.proofs.Pairs.{Paired, paired}
+use Rattle.version_groups.proofs.Installed.{made_name, plans_at, ended, shows_changed, shows_evolved}
 
 -- as many versions as the past has
 pub as_many : (kept : Kept) (past : Past) → Shows kept past → length kept.versions ≡ length past.versions
@@ -39,14 +42,49 @@ module _ (kept new : Kept) (past : Past) (shows : Shows kept past) where
       (subst (λ j. AreChanges stamp (database_behind (changing changes) past) (group_of kept j) plans) n ready)
       (subst (λ j. (k : ℕ) (d : MadeTable) → k < length (group_of kept j) → IsMade (get_or (group_of kept j) k d) (get_or plans k None) (get_or (group_of new j) k d)) n m.made.each)
 
-  pub version_made : (made : Version) (tables : List MadeTable) → HasVersion kept new made tables → (stamp : ℕ) (body : PlainBody) → stamp < forever → command_fault past (a_command stamp body) ≡ None
-      → BodyHolds body → IsStep kept past stamp body (evolved (version_of made) tables) → Shows new (past_with past (a_command stamp body))
-  version_made made tables m stamp (changing changes) lawful accepted hold ready = absurd ready
-  version_made made tables m stamp (evolving op inverse) lawful accepted hold ready =
+  pub version_made : (made : Version) (begun : List MadeTable) (places : List ℕ) → HasVersion kept new made begun places → (stamp : ℕ) (body : PlainBody) → stamp < forever
+      → command_fault past (a_command stamp body) ≡ None → BodyHolds body → IsStep kept past stamp body (evolved (version_of made) begun places) → Shows new (past_with past (a_command stamp body))
+  version_made made begun places m stamp (changing changes) lawful accepted hold ready = absurd ready
+  version_made made begun places m stamp (evolving op inverse) lawful accepted hold ready =
       let n = as_many kept past shows in
-      shows_evolved kept past stamp op inverse shows lawful accepted hold new (version_of made) tables ready
+      shows_evolved kept past stamp op inverse shows lawful accepted hold new (version_of made) begun places ready
       (ap (map version_of) m.versions ∙ map-append version_of kept.versions (made ∷ [])) (λ k l. m.groups k (omega (arith, l, n)))
-      (subst (λ j. group_of new (j + 1) ≡ tables) n m.last)
+      (subst (λ j. group_of new (j + 1) ≡ at_places (kept.stored ++ begun) places) n m.last)
+
+  -- the tables of earlier versions stay at the moments at which these are in force
+  pub changes_leave : (plans : List (Option Plan)) → HasChanges kept new plans → (stamp : ℕ) (body : PlainBody) → stamp < forever → command_fault past (a_command stamp body) ≡ None
+      → IsStep kept past stamp body (changed plans) → (k : ℕ) → k < length kept.versions → (name : List ℕ) → StaysEntry (versions_in new) k (table_in kept k name) (table_in new k name)
+  changes_leave plans m stamp (evolving op inverse) lawful accepted ready k l name = absurd ready
+  changes_leave plans m stamp (changing changes) lawful accepted ready k l name =
+      step (paired (IsMadeBy plans) (λ t u h. made_name t h.plan u h.made) name (group_of kept k) (group_of new k) (m.groups k l).count (m.groups k l).each)
+    where
+      n : length kept.versions ≡ length past.versions
+      n = as_many kept past shows
+
+      at : (plan : Plan) → In (Some plan) plans → plan.stamp ≡ stamp
+      at = plans_at stamp (database_behind (changing changes) past) (group_of kept (length past.versions)) plans
+          (subst (λ j. AreChanges stamp (database_behind (changing changes) past) (group_of kept j) plans) n ready)
+
+      own : (t : ℕ) → IsInForce (versions_in new) k t → t < stamp
+      own t f =
+          let past_own : IsInForce past.versions k t = subst (λ (vs : List PlainVersion). IsInForce vs k t) (ap (map version_of) m.versions ∙ shows.versions) f in
+          elim (before_or_not t stamp) [ inl b ↦ b | inr b ↦ absurd (ended kept past stamp changes shows lawful accepted k (omega (arith, l, n)) t past_own b) ]
+
+      stays : (t u : MadeTable) (p : Option Plan) → IsAmong p plans → IsMade t p u → Stays (versions_in new) k t.store u.store
+      stays t u None among e =
+          let is : u.store ≡ t.store = ap (λ (x : MadeTable). x.store) e in
+          record { columns = ap (λ (x : Store). x.columns) is; relation = λ j f. ap (λ (x : Store). relation_at x j) is }
+      stays t u (Some p) among e =
+          let same = at p among in
+          record { columns = e.1.columns; relation = λ j f. e.1.before j (let b = own j f in omega (arith, b, same)) }
+
+      step : Paired (IsMadeBy plans) name (group_of kept k) (group_of new k) → StaysEntry (versions_in new) k (stored_as name (group_of kept k)) (stored_as name (group_of new k))
+      step (inl none) =
+          subst (λ (o : Option Store). StaysEntry (versions_in new) k o (stored_as name (group_of new k))) (sym none.0)
+          (subst (λ (o : Option Store). StaysEntry (versions_in new) k None o) (sym none.1) tt)
+      step (inr f) =
+          subst (λ (o : Option Store). StaysEntry (versions_in new) k o (stored_as name (group_of new k))) (sym f.was)
+          (subst (λ (o : Option Store). StaysEntry (versions_in new) k (Some f.before.store) o) (sym f.now) (stays f.before f.behind f.related.plan f.related.among f.related.made))
 
 -- tables that are what they were stay at each moment
 entry_stays : (versions : List PlainVersion) (k : ℕ) (s : Option Store) → StaysEntry versions k s s
@@ -70,11 +108,14 @@ have_room kept past stamp (changing changes) plans h = record {
 }
 
 -- the room for a version that is ready
-pub record IsRoomFor (kept : Kept) (tables : List MadeTable) : Type 0 where
-  pub ordered : Ascends bytes_cmp (names_of tables)
+pub record IsRoomFor (kept : Kept) (begun : List MadeTable) (places : List ℕ) : Type 0 where
+  pub there : AreWithin places (length kept.stored + length begun)
+  pub ordered : Ascends bytes_cmp (names_of (at_places (kept.stored ++ begun) places))
   pub room : 1 ≤ kept.spare
+  pub beginnings : length begun ≤ kept.beginnings
   pub fits : length kept.versions + 1 < 2 ^ 32
 
-pub is_room : (kept : Kept) (past : Past) (stamp : ℕ) (body : PlainBody) (made : PlainVersion) (tables : List MadeTable) → IsStep kept past stamp body (evolved made tables) → IsRoomFor kept tables
-is_room kept past stamp (changing changes) made tables h = absurd h
-is_room kept past stamp (evolving op inverse) made tables h = record { ordered = h.ordered; room = h.room; fits = h.fits }
+pub is_room : (kept : Kept) (past : Past) (stamp : ℕ) (body : PlainBody) (made : PlainVersion) (begun : List MadeTable) (places : List ℕ) → IsStep kept past stamp body (evolved made begun places)
+    → IsRoomFor kept begun places
+is_room kept past stamp (changing changes) made begun places h = absurd h
+is_room kept past stamp (evolving op inverse) made begun places h = record { there = h.there; ordered = h.ordered; room = h.room; beginnings = h.beginnings; fits = h.fits }

@@ -1,5 +1,5 @@
 -- What is lost and gained from one relation to another.
-use Rattle.std.proofs.Common.{◌≡◌, Bool, true, false, List, ◌++◌, sym, ap, ◌∙◌, inl, inr}
+use Rattle.std.proofs.Common.{◌≡◌, false, List, ◌++◌, ap, ◌∙◌, inl, inr}
 use Rattle.std.specs.Prelude.{not}
 use Rattle.relations.specs.Sets.{In, has, set_of}
 use Rattle.relations.proofs.SetLaws.{in_filter, from_filter, in_append, in_left, in_right, in_set, from_set, set_ascends, one_list, in_has, has_in}

@@ -1,5 +1,5 @@
 -- The stored tables of a version among those of all.
-use Rattle.std.proofs.Common.{◌≡◌, ◌≤◌, ◌<◌, ◌+◌, ℕ, suc, zero, List, [], ◌∷◌, ◌++◌, map, length, get_or, refl, sym, ap, subst, ◌∙◌, arith, append_assoc, length-append}
+use Rattle.std.proofs.Common.{◌≡◌, ◌≤◌, ◌<◌, ◌+◌, ℕ, suc, zero, List, [], ◌∷◌, ◌++◌, length, get_or, refl, sym, ap, subst, ◌∙◌, arith, length-append}
 use Rattle.std.specs.Global.{Vec}
 use Rattle.std.specs.Prelude.{Option, Some, None, ◌^◌}
 use Rattle.relations.specs.Sets.{Ascends}
@@ -9,63 +9,77 @@ use Rattle.smo_types.specs.declared.versions.Version.{Version}
 use Rattle.version_groups.specs.declared.made_tables.MadeTable.{MadeTable}
 use Rattle.version_groups.specs.declared.groups.Groups.TheInside.{Inside}
 use Rattle.version_groups.specs.Groups.{group_of, newest_group, names_of}
-use Rattle.version_groups.specs.GroupFields.{all_groups, items_of, AllInOrder, groups_view, AreGroups}
+use Rattle.version_groups.specs.GroupFields.{all_places, items_of, AllInOrder, AllWithin, groups_view, AreGroups}
+use Rattle.version_groups.specs.Places.{at_places, AreWithin}
 use Rattle.version_groups.specs.Becoming.{IsMade}
 use Rattle.version_groups.specs.Changing.{AreMade}
-use Rattle.version_groups.specs.Installing.{HasChanges, HasVersion}
+use Rattle.version_groups.specs.Installing.{IsMadeBy, AreMadeBy, HasChanges, HasVersion}
 use Rattle.version_groups.specs.Room.{AreSameTables, IsSame}
-use Rattle.version_groups.proofs.TablesInTurn.{same_table}
+use Rattle.version_groups.proofs.Places.{places_within, AreAlike, alike_at, at_more}
 
-pub last_group : (earlier : List (Vec MadeTable)) (newest : List MadeTable) → get_or (all_groups (items_of earlier) newest) (length earlier) [] ≡ newest
-last_group [] newest = refl
-last_group (g ∷ earlier) newest = last_group earlier newest
+last_places : (earlier : List (Vec ℕ)) (newest : List ℕ) → get_or (all_places (items_of earlier) newest) (length earlier) [] ≡ newest
+last_places [] newest = refl
+last_places (g ∷ earlier) newest = last_places earlier newest
 
-pub earlier_group : (earlier : List (Vec MadeTable)) (newest : List MadeTable) (k : ℕ) (d : Vec MadeTable) → k < length earlier → get_or (all_groups (items_of earlier) newest) k [] ≡ (get_or earlier k d).items
-earlier_group [] newest k d l = absurd (omega (arith, l))
-earlier_group (g ∷ earlier) newest zero d l = refl
-earlier_group (g ∷ earlier) newest (suc k) d l = earlier_group earlier newest k d (omega (arith, l))
+earlier_places : (earlier : List (Vec ℕ)) (newest : List ℕ) (k : ℕ) (d : Vec ℕ) → k < length earlier → get_or (all_places (items_of earlier) newest) k [] ≡ (get_or earlier k d).items
+earlier_places [] newest k d l = absurd (omega (arith, l))
+earlier_places (g ∷ earlier) newest zero d l = refl
+earlier_places (g ∷ earlier) newest (suc k) d l = earlier_places earlier newest k d (omega (arith, l))
 
-pub no_group : (earlier : List (Vec MadeTable)) (newest : List MadeTable) (k : ℕ) → length earlier < k → get_or (all_groups (items_of earlier) newest) k [] ≡ []
-no_group [] newest zero l = absurd (omega (arith, l))
-no_group [] newest (suc k) l = refl
-no_group (g ∷ earlier) newest zero l = absurd (omega (arith, l))
-no_group (g ∷ earlier) newest (suc k) l = no_group earlier newest k (omega (arith, l))
-
--- other tables of the newest version leave those of the earlier ones
-pub others_stay : (earlier : List (Vec MadeTable)) (newest tables : List MadeTable) (k : ℕ) → k < length earlier → get_or (all_groups (items_of earlier) tables) k [] ≡ get_or (all_groups (items_of earlier) newest) k []
-others_stay [] newest tables k l = absurd (omega (arith, l))
-others_stay (g ∷ earlier) newest tables zero l = refl
-others_stay (g ∷ earlier) newest tables (suc k) l = others_stay earlier newest tables k (omega (arith, l))
+no_places : (earlier : List (Vec ℕ)) (newest : List ℕ) (k : ℕ) → length earlier < k → get_or (all_places (items_of earlier) newest) k [] ≡ []
+no_places [] newest zero l = absurd (omega (arith, l))
+no_places [] newest (suc k) l = refl
+no_places (g ∷ earlier) newest zero l = absurd (omega (arith, l))
+no_places (g ∷ earlier) newest (suc k) l = no_places earlier newest k (omega (arith, l))
 
 -- one version more
-pub groups_stay : (earlier : List (Vec MadeTable)) (newest : Vec MadeTable) (tables : List MadeTable) (k : ℕ) → k ≤ length earlier
-    → get_or (all_groups (items_of (earlier ++ newest ∷ [])) tables) k [] ≡ get_or (all_groups (items_of earlier) newest.items) k []
-groups_stay [] newest tables zero l = refl
-groups_stay [] newest tables (suc k) l = absurd (omega (arith, l))
-groups_stay (g ∷ earlier) newest tables zero l = refl
-groups_stay (g ∷ earlier) newest tables (suc k) l = groups_stay earlier newest tables k (omega (arith, l))
+places_stay : (earlier : List (Vec ℕ)) (newest : Vec ℕ) (places : List ℕ) (k : ℕ) → k ≤ length earlier
+    → get_or (all_places (items_of (earlier ++ newest ∷ [])) places) k [] ≡ get_or (all_places (items_of earlier) newest.items) k []
+places_stay [] newest places zero l = refl
+places_stay [] newest places (suc k) l = absurd (omega (arith, l))
+places_stay (g ∷ earlier) newest places zero l = refl
+places_stay (g ∷ earlier) newest places (suc k) l = places_stay earlier newest places k (omega (arith, l))
 
-pub new_group : (earlier : List (Vec MadeTable)) (newest : Vec MadeTable) (tables : List MadeTable) → get_or (all_groups (items_of (earlier ++ newest ∷ [])) tables) (suc (length earlier)) [] ≡ tables
-new_group [] newest tables = refl
-new_group (g ∷ earlier) newest tables = new_group earlier newest tables
+new_places : (earlier : List (Vec ℕ)) (newest : Vec ℕ) (places : List ℕ) → get_or (all_places (items_of (earlier ++ newest ∷ [])) places) (suc (length earlier)) [] ≡ places
+new_places [] newest places = refl
+new_places (g ∷ earlier) newest places = new_places earlier newest places
 
--- tables of the newest version that are as they were
-pub same_groups : (earlier : List (Vec MadeTable)) (newest tables : List MadeTable) → AreSameTables newest tables → (k : ℕ)
-    → AreSameTables (get_or (all_groups (items_of earlier) newest) k []) (get_or (all_groups (items_of earlier) tables) k [])
-same_groups [] newest tables h zero = h
-same_groups [] newest tables h (suc k) = record { count = refl; each = λ j d l. same_table (get_or [] j d) }
-same_groups (g ∷ earlier) newest tables h zero = record { count = refl; each = λ j d l. same_table (get_or g.items j d) }
-same_groups (g ∷ earlier) newest tables h (suc k) = same_groups earlier newest tables h k
+-- the tables of a version
+pub newest_is : (a : Inside) → AreGroups a → newest_group (groups_view a) ≡ at_places a.stored.items a.newest.items
+newest_is a h =
+    subst (λ j. at_places a.stored.items (get_or (all_places (items_of a.earlier.items) a.newest.items) j []) ≡ at_places a.stored.items a.newest.items) h.count
+    (ap (at_places a.stored.items) (last_places a.earlier.items a.newest.items))
 
-pub groups_count : (earlier : List (Vec MadeTable)) (newest tables : List MadeTable) → length (all_groups (items_of earlier) tables) ≡ length (all_groups (items_of earlier) newest)
-groups_count [] newest tables = refl
-groups_count (g ∷ earlier) newest tables = ap suc (groups_count earlier newest tables)
+pub earlier_is : (a : Inside) (k : ℕ) (d : Vec ℕ) → k < length a.earlier.items → group_of (groups_view a) k ≡ at_places a.stored.items (get_or a.earlier.items k d).items
+earlier_is a k d l = ap (at_places a.stored.items) (earlier_places a.earlier.items a.newest.items k d l)
 
--- the newest version is the one behind the earlier ones
-pub newest_is : (a : Inside) → AreGroups a → newest_group (groups_view a) ≡ a.newest.items
-newest_is a h = subst (λ j. get_or (all_groups (items_of a.earlier.items) a.newest.items) j [] ≡ a.newest.items) h.count (last_group a.earlier.items a.newest.items)
+pub none_is : (a : Inside) (k : ℕ) → length a.earlier.items < k → group_of (groups_view a) k ≡ []
+none_is a k l = ap (at_places a.stored.items) (no_places a.earlier.items a.newest.items k l)
 
--- tables of the same names stand in the same order
+pub newest_at : (a : Inside) (k : ℕ) → k ≡ length a.earlier.items → group_of (groups_view a) k ≡ at_places a.stored.items a.newest.items
+newest_at a k e = ap (λ j. at_places a.stored.items (get_or (all_places (items_of a.earlier.items) a.newest.items) j [])) e ∙ ap (at_places a.stored.items) (last_places a.earlier.items a.newest.items)
+
+-- each version's places are there
+pub each_within : (earlier : List (Vec ℕ)) (n k : ℕ) (d : Vec ℕ) → AllWithin (items_of earlier) n → k < length earlier → AreWithin (get_or earlier k d).items n
+each_within [] n k d h l = absurd (omega (arith, l))
+each_within (g ∷ earlier) n zero d h l = h.0
+each_within (g ∷ earlier) n (suc k) d h l = each_within earlier n k d h.1 (omega (arith, l))
+
+all_within : (earlier : List (Vec ℕ)) (newest : List ℕ) (n k : ℕ) → AllWithin (items_of earlier) n → AreWithin newest n → AreWithin (get_or (all_places (items_of earlier) newest) k []) n
+all_within [] newest n zero h w = w
+all_within [] newest n (suc k) h w = tt
+all_within (g ∷ earlier) newest n zero h w = h.0
+all_within (g ∷ earlier) newest n (suc k) h w = all_within earlier newest n k h.1 w
+
+pub group_within : (a : Inside) → AreGroups a → (k : ℕ) → AreWithin (get_or (groups_view a).places k []) (length a.stored.items)
+group_within a h k = all_within a.earlier.items a.newest.items (length a.stored.items) k h.earlier_there h.newest_there
+
+still_within : (groups : List (List ℕ)) (m n : ℕ) → m ≤ n → AllWithin groups m → AllWithin groups n
+still_within [] m n l h = tt
+still_within (g ∷ groups) m n l h = (places_within g m n l h.0, still_within groups m n l h.1)
+
+-- ---- tables of the same names stand in the same order
+
 names_same : (old new : List MadeTable) → length new ≡ length old → ((k : ℕ) (d : MadeTable) → k < length old → (get_or new k d).name ≡ (get_or old k d).name) → names_of new ≡ names_of old
 names_same [] [] e h = refl
 names_same [] (u ∷ new) e h = absurd (omega (arith, e))
@@ -73,78 +87,133 @@ names_same (t ∷ old) [] e h = absurd (omega (arith, e))
 names_same (t ∷ old) (u ∷ new) e h =
     ap (λ n. n ∷ names_of new) (h 0 t (omega arith)) ∙ ap (λ ns. t.name ∷ ns) (names_same old new (omega (arith, e)) (λ k d l. h (suc k) d (omega (arith, l))))
 
-pub still_ordered : (old new : List MadeTable) → AreSameTables old new → Ascends bytes_cmp (names_of old) → Ascends bytes_cmp (names_of new)
-still_ordered old new h o = subst (Ascends bytes_cmp) (sym (names_same old new h.count (λ k d l. (h.each k d l).name))) o
-
 keeps_name : (t : MadeTable) (p : Option Plan) (u : MadeTable) → IsMade t p u → u.name ≡ t.name
 keeps_name t None u e = ap (λ (x : MadeTable). x.name) e
 keeps_name t (Some plan) u h = h.0
 
-pub made_ordered : (old new : List MadeTable) (plans : List (Option Plan)) → AreMade old plans new → Ascends bytes_cmp (names_of old) → Ascends bytes_cmp (names_of new)
-made_ordered old new plans h o =
-    subst (Ascends bytes_cmp) (sym (names_same old new h.count (λ k d l. keeps_name (get_or old k d) (get_or plans k None) (get_or new k d) (h.each k d l)))) o
+pub made_names : (plans : List (Option Plan)) (old new : List MadeTable) → AreMadeBy plans old new → (k : ℕ) (d : MadeTable) → k < length old → (get_or new k d).name ≡ (get_or old k d).name
+made_names plans old new h k d l = (let m = h.each k d l in keeps_name (get_or old k d) m.plan (get_or new k d) m.made)
 
-all_ordered_with : (earlier : List (Vec MadeTable)) (g : Vec MadeTable) → AllInOrder (items_of earlier) → Ascends bytes_cmp (names_of g.items) → AllInOrder (items_of (earlier ++ g ∷ []))
-all_ordered_with [] g h o = (o, tt)
-all_ordered_with (e ∷ earlier) g h o = (h.0, all_ordered_with earlier g h.1 o)
+-- tables each of which has the name that it had
+abbrev pub KeepNames : List MadeTable → List MadeTable → Type 0
+KeepNames old new = AreAlike (λ t u. u.name ≡ t.name) old new
 
--- groups whose newest tables are others
-module _ (a b : Inside) (versions : b.versions.list.items ≡ a.versions.list.items) (earlier : b.earlier.items ≡ a.earlier.items) where
-  groups_are : (groups_view b).groups ≡ all_groups (items_of a.earlier.items) b.newest.items
-  groups_are = ap (λ e. all_groups (items_of e) b.newest.items) earlier
+still_ordered : (old new : List MadeTable) (places : List ℕ) → KeepNames old new → Ascends bytes_cmp (names_of (at_places old places)) → Ascends bytes_cmp (names_of (at_places new places))
+still_ordered old new places h o =
+    let own = alike_at (λ t u. u.name ≡ t.name) old new h places in
+    subst (Ascends bytes_cmp) (sym (names_same (at_places old places) (at_places new places) own.count own.each)) o
 
-  pub view_same : AreSameTables a.newest.items b.newest.items → (groups_view a).spare ≤ (groups_view b).spare → IsSame (groups_view a) (groups_view b)
-  view_same tables spare = record {
+all_still_ordered : (old new : List MadeTable) (groups : List (List ℕ)) → KeepNames old new → AllInOrder old groups → AllInOrder new groups
+all_still_ordered old new [] h o = tt
+all_still_ordered old new (g ∷ groups) h o = (still_ordered old new g h o.0, all_still_ordered old new groups h o.1)
+
+-- ---- groups whose tables are others
+
+module _ (a b : Inside) (versions : b.versions.list.items ≡ a.versions.list.items) (earlier : b.earlier.items ≡ a.earlier.items) (newest : b.newest.items ≡ a.newest.items) where
+  same_places : (groups_view b).places ≡ (groups_view a).places
+  same_places = ap (λ (e : List (Vec ℕ)). all_places (items_of e) b.newest.items) earlier ∙ ap (all_places (items_of a.earlier.items)) newest
+
+  pub view_same : AreSameTables a.stored.items b.stored.items → (groups_view a).spare ≤ (groups_view b).spare → (groups_view a).beginnings ≤ (groups_view b).beginnings → IsSame (groups_view a) (groups_view b)
+  view_same tables spare beginnings = record { versions = versions; places = same_places; stored = tables; spare = spare; beginnings = beginnings }
+
+  pub are_groups : AreGroups a → b.nothing ≡ a.nothing → KeepNames a.stored.items b.stored.items → AreGroups b
+  are_groups h nothing names =
+      let n = length b.stored.items in
+      let m = length a.stored.items in
+      let count = names.count in
+      let low : m ≤ n = omega (arith, count) in
+      record {
+        count = ap length earlier ∙ h.count ∙ sym (ap length versions);
+        fits = (let few = h.fits in let same = ap length versions in omega (arith, few, same));
+        nothing = nothing ∙ h.nothing;
+        earlier_there = subst (λ (e : List (Vec ℕ)). AllWithin (items_of e) n) (sym earlier) (still_within (items_of a.earlier.items) m n low h.earlier_there);
+        newest_there = subst (λ (e : List ℕ). AreWithin e n) (sym newest) (places_within a.newest.items m n low h.newest_there);
+        earlier = subst (λ (e : List (Vec ℕ)). AllInOrder b.stored.items (items_of e)) (sym earlier) (all_still_ordered a.stored.items b.stored.items (items_of a.earlier.items) names h.earlier);
+        newest = subst (λ (e : List ℕ). Ascends bytes_cmp (names_of (at_places b.stored.items e))) (sym newest) (still_ordered a.stored.items b.stored.items a.newest.items names h.newest);
+      }
+
+  pub has_changes : AreGroups a → (plans : List (Option Plan)) → AreMade (at_places a.stored.items a.newest.items) plans (at_places b.stored.items a.newest.items) → AreMadeBy plans a.stored.items b.stored.items
+      → HasChanges (groups_view a) (groups_view b) plans
+  has_changes h plans made by = record {
     versions = versions;
-    count = ap length groups_are ∙ groups_count a.earlier.items a.newest.items b.newest.items;
-    groups = λ k. subst (λ (gs : List (List MadeTable)). AreSameTables (group_of (groups_view a) k) (get_or gs k [])) (sym groups_are) (same_groups a.earlier.items a.newest.items b.newest.items tables k);
-    spare = spare;
-  }
-
-  pub are_groups : AreGroups a → b.nothing ≡ a.nothing → Ascends bytes_cmp (names_of b.newest.items) → AreGroups b
-  are_groups h nothing ordered = record {
-    count = ap length earlier ∙ h.count ∙ sym (ap length versions);
-    fits = (let few = h.fits in let same = ap length versions in omega (arith, few, same));
-    nothing = nothing ∙ h.nothing;
-    earlier = subst (λ (e : List (Vec MadeTable)). AllInOrder (items_of e)) (sym earlier) h.earlier;
-    newest = ordered;
-  }
-
-  pub has_changes : AreGroups a → (plans : List (Option Plan)) → AreMade a.newest.items plans b.newest.items → HasChanges (groups_view a) (groups_view b) plans
-  has_changes h plans made = record {
-    versions = versions;
-    groups = λ k l. ap (λ (gs : List (List MadeTable)). get_or gs k []) groups_are
-        ∙ others_stay a.earlier.items a.newest.items b.newest.items k (let count = h.count in omega (arith, l, count));
+    groups = λ k l.
+        let own = alike_at (IsMadeBy plans) a.stored.items b.stored.items (record { count = by.count; each = by.each }) (get_or (groups_view a).places k []) in
+        subst (λ (ps : List (List ℕ)). AreMadeBy plans (group_of (groups_view a) k) (at_places b.stored.items (get_or ps k []))) (sym same_places) (record { count = own.count; each = own.each });
     made = subst (λ (g : List MadeTable). AreMade g plans (group_of (groups_view b) (length a.versions.list.items))) (sym (newest_is a h))
-        (subst (AreMade a.newest.items plans) (sym last) made);
+        (subst (AreMade (at_places a.stored.items a.newest.items) plans) (sym last) made);
   }
     where
-      last : group_of (groups_view b) (length a.versions.list.items) ≡ b.newest.items
-      last = ap (λ (gs : List (List MadeTable)). get_or gs (length a.versions.list.items) []) groups_are
-          ∙ subst (λ j. get_or (all_groups (items_of a.earlier.items) b.newest.items) j [] ≡ b.newest.items) h.count (last_group a.earlier.items b.newest.items)
+      last : group_of (groups_view b) (length a.versions.list.items) ≡ at_places b.stored.items a.newest.items
+      last = ap (λ (ps : List (List ℕ)). at_places b.stored.items (get_or ps (length a.versions.list.items) [])) same_places
+          ∙ subst (λ j. at_places b.stored.items (get_or (all_places (items_of a.earlier.items) a.newest.items) j []) ≡ at_places b.stored.items a.newest.items) h.count
+          (ap (at_places b.stored.items) (last_places a.earlier.items a.newest.items))
 
--- groups with one version more
-module _ (a b : Inside) (version : Version) (g : Vec MadeTable) (before : g.items ≡ a.newest.items) (versions : b.versions.list.items ≡ a.versions.list.items ++ version ∷ [])
-    (earlier : b.earlier.items ≡ a.earlier.items ++ g ∷ []) (h : AreGroups a) where
-  groups_with : (groups_view b).groups ≡ all_groups (items_of (a.earlier.items ++ g ∷ [])) b.newest.items
-  groups_with = ap (λ e. all_groups (items_of e) b.newest.items) earlier
+pub names_kept : (old new : List MadeTable) → AreSameTables old new → KeepNames old new
+names_kept old new h = record { count = h.count; each = λ k d l. (h.each k d l).name }
 
-  pub has_version : HasVersion (groups_view a) (groups_view b) version b.newest.items
+pub names_made : (plans : List (Option Plan)) (old new : List MadeTable) → AreMadeBy plans old new → KeepNames old new
+names_made plans old new h = record { count = h.count; each = made_names plans old new h }
+
+-- ---- groups with one version more
+
+all_ordered_with : (tables : List MadeTable) (earlier : List (Vec ℕ)) (g : Vec ℕ) → AllInOrder tables (items_of earlier) → Ascends bytes_cmp (names_of (at_places tables g.items)) → AllInOrder tables (items_of (earlier ++ g ∷ []))
+all_ordered_with tables [] g h o = (o, tt)
+all_ordered_with tables (e ∷ earlier) g h o = (h.0, all_ordered_with tables earlier g h.1 o)
+
+all_within_with : (n : ℕ) (earlier : List (Vec ℕ)) (g : Vec ℕ) → AllWithin (items_of earlier) n → AreWithin g.items n → AllWithin (items_of (earlier ++ g ∷ [])) n
+all_within_with n [] g h o = (o, tt)
+all_within_with n (e ∷ earlier) g h o = (h.0, all_within_with n earlier g h.1 o)
+
+all_ordered_more : (tables more : List MadeTable) (groups : List (List ℕ)) → AllWithin groups (length tables) → AllInOrder tables groups → AllInOrder (tables ++ more) groups
+all_ordered_more tables more [] w o = tt
+all_ordered_more tables more (g ∷ groups) w o =
+    (subst (λ (ts : List MadeTable). Ascends bytes_cmp (names_of ts)) (sym (at_more tables more g w.0)) o.0, all_ordered_more tables more groups w.1 o.1)
+
+module _ (a b : Inside) (version : Version) (g : Vec ℕ) (begun : List MadeTable) (before : g.items ≡ a.newest.items) (versions : b.versions.list.items ≡ a.versions.list.items ++ version ∷ [])
+    (stored : b.stored.items ≡ a.stored.items ++ begun) (earlier : b.earlier.items ≡ a.earlier.items ++ g ∷ []) (h : AreGroups a) where
+  places_with : (groups_view b).places ≡ all_places (items_of (a.earlier.items ++ g ∷ [])) b.newest.items
+  places_with = ap (λ (e : List (Vec ℕ)). all_places (items_of e) b.newest.items) earlier
+
+  kept_places : (k : ℕ) → k ≤ length a.versions.list.items → get_or (groups_view b).places k [] ≡ get_or (groups_view a).places k []
+  kept_places k l =
+      ap (λ (ps : List (List ℕ)). get_or ps k []) places_with
+      ∙ places_stay a.earlier.items g b.newest.items k (let count = h.count in omega (arith, l, count))
+      ∙ ap (λ (ps : List ℕ). get_or (all_places (items_of a.earlier.items) ps) k []) before
+
+  pub has_version : HasVersion (groups_view a) (groups_view b) version begun b.newest.items
   has_version = record {
     versions = versions;
-    groups = λ k l. ap (λ (gs : List (List MadeTable)). get_or gs k []) groups_with
-        ∙ groups_stay a.earlier.items g b.newest.items k (let count = h.count in omega (arith, l, count))
-        ∙ ap (λ (ts : List MadeTable). get_or (all_groups (items_of a.earlier.items) ts) k []) before;
-    last = ap (λ (gs : List (List MadeTable)). get_or gs (length a.versions.list.items + 1) []) groups_with
-        ∙ ap (λ j. get_or (all_groups (items_of (a.earlier.items ++ g ∷ [])) b.newest.items) j []) (let count = h.count in let e : length a.versions.list.items + 1 ≡ suc (length a.earlier.items) = omega (arith, count) in e)
-        ∙ new_group a.earlier.items g b.newest.items;
+    groups = λ k l.
+        ap (λ (ts : List MadeTable). at_places ts (get_or (groups_view b).places k [])) stored
+        ∙ ap (at_places (a.stored.items ++ begun)) (kept_places k l)
+        ∙ at_more a.stored.items begun (get_or (groups_view a).places k []) (group_within a h k);
+    last =
+        ap (λ (ts : List MadeTable). at_places ts (get_or (groups_view b).places (length a.versions.list.items + 1) [])) stored
+        ∙ ap (at_places (a.stored.items ++ begun)) (
+        ap (λ (ps : List (List ℕ)). get_or ps (length a.versions.list.items + 1) []) places_with
+        ∙ ap (λ j. get_or (all_places (items_of (a.earlier.items ++ g ∷ [])) b.newest.items) j []) (let count = h.count in let e : length a.versions.list.items + 1 ≡ suc (length a.earlier.items) = omega (arith, count) in e)
+        ∙ new_places a.earlier.items g b.newest.items
+        );
   }
 
-  pub are_groups_with : b.nothing ≡ a.nothing → length a.versions.list.items + 1 < 2 ^ 32 → Ascends bytes_cmp (names_of b.newest.items) → AreGroups b
-  are_groups_with nothing few ordered = record {
-    count = ap length earlier ∙ length-append a.earlier.items (g ∷ []) ∙ ap (λ n. n + 1) h.count ∙ sym (length-append a.versions.list.items (version ∷ [])) ∙ sym (ap length versions);
-    fits = (let e = ap length versions in let f = length-append a.versions.list.items (version ∷ []) in omega (arith, few, e, f));
-    nothing = nothing ∙ h.nothing;
-    earlier = subst (λ (e : List (Vec MadeTable)). AllInOrder (items_of e)) (sym earlier) (all_ordered_with a.earlier.items g h.earlier (subst (λ (ts : List MadeTable). Ascends bytes_cmp (names_of ts)) (sym before) h.newest));
-    newest = ordered;
-  }
+  pub are_groups_with : b.nothing ≡ a.nothing → length a.versions.list.items + 1 < 2 ^ 32 → AreWithin b.newest.items (length a.stored.items + length begun)
+      → Ascends bytes_cmp (names_of (at_places (a.stored.items ++ begun) b.newest.items)) → AreGroups b
+  are_groups_with nothing few there ordered =
+      let n = length b.stored.items in
+      let long : n ≡ length a.stored.items + length begun = ap length stored ∙ length-append a.stored.items begun in
+      let low : length a.stored.items ≤ n = omega (arith, long) in
+      record {
+        count = ap length earlier ∙ length-append a.earlier.items (g ∷ []) ∙ ap (λ n. n + 1) h.count ∙ sym (length-append a.versions.list.items (version ∷ [])) ∙ sym (ap length versions);
+        fits = (let e = ap length versions in let f = length-append a.versions.list.items (version ∷ []) in omega (arith, few, e, f));
+        nothing = nothing ∙ h.nothing;
+        earlier_there = subst (λ (e : List (Vec ℕ)). AllWithin (items_of e) n) (sym earlier)
+            (all_within_with n a.earlier.items g (still_within (items_of a.earlier.items) (length a.stored.items) n low h.earlier_there)
+            (subst (λ (ps : List ℕ). AreWithin ps n) (sym before) (places_within a.newest.items (length a.stored.items) n low h.newest_there)));
+        newest_there = subst (AreWithin b.newest.items) (sym long) there;
+        earlier = subst (λ (e : List (Vec ℕ)). AllInOrder b.stored.items (items_of e)) (sym earlier)
+            (subst (λ (ts : List MadeTable). AllInOrder ts (items_of (a.earlier.items ++ g ∷ []))) (sym stored)
+            (all_ordered_with (a.stored.items ++ begun) a.earlier.items g (all_ordered_more a.stored.items begun (items_of a.earlier.items) h.earlier_there h.earlier)
+            (subst (λ (ps : List ℕ). Ascends bytes_cmp (names_of (at_places (a.stored.items ++ begun) ps))) (sym before)
+            (subst (λ (ts : List MadeTable). Ascends bytes_cmp (names_of ts)) (sym (at_more a.stored.items begun a.newest.items h.newest_there)) h.newest))));
+        newest = subst (λ (ts : List MadeTable). Ascends bytes_cmp (names_of (at_places ts b.newest.items))) (sym stored) ordered;
+      }

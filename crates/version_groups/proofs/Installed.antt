@@ -1,17 +1,17 @@
 -- Groups that show a past show the past with the command, once it is carried out.
-use Rattle.std.proofs.Common.{◌≡◌, ◌≤◌, ◌<◌, ◌+◌, ℕ, suc, Bool, true, false, cond, List, [], ◌∷◌, ◌++◌, length, get_or, refl, sym, ap, subst, ◌∙◌, arith, length-append, inl, inr}
+use Rattle.std.proofs.Common.{◌≡◌, ◌≤◌, ◌<◌, ◌+◌, ℕ, suc, List, [], ◌∷◌, ◌++◌, length, get_or, sym, ap, subst, ◌∙◌, arith, length-append, inl, inr}
 use Rattle.std.specs.Prelude.{Option, Some, None, ◌⊎◌}
 use Rattle.std.specs.FinMap.{get}
+use Rattle.relations.specs.Sets.{In}
 use Rattle.relations.specs.Spans.{forever}
 use Rattle.prima_base.specs.Columns.{Column}
 use Rattle.schema_catalog.specs.Tables.{Tables}
 use Rattle.schema_catalog.specs.Databases.{Database}
-use Rattle.history_store.specs.Store.{Store, relation_at, AllBefore}
+use Rattle.history_store.specs.Store.{Store, relation_at}
 use Rattle.history_store.specs.Change.{Plan, rows_after}
-use Rattle.smo_meaning.specs.Accepts.{command_fault, body_tests}
-use Rattle.smo_meaning.specs.First.{first_refusal}
+use Rattle.smo_meaning.specs.Accepts.{command_fault}
 use Rattle.smo_types.specs.Changes.{PlainChange}
-use Rattle.smo_types.specs.Commands.{PlainBody, changing, evolving, PlainCommand, PlainVersion}
+use Rattle.smo_types.specs.Commands.{PlainBody, changing, evolving, PlainVersion}
 use Rattle.smo_types.specs.Operators.{Operator}
 use Rattle.smo_meaning.specs.OneRow.{Relation}
 use Rattle.smo_meaning.specs.Effects.{rows_at}
@@ -24,10 +24,13 @@ use Rattle.smo_meaning.proofs.PastSteps.{counts_accepted, stamp_accepted, later_
 use Rattle.version_groups.specs.declared.made_tables.MadeTable.{MadeTable}
 use Rattle.version_groups.specs.Groups.{Kept, versions_in, group_of, table_in, stored_as}
 use Rattle.version_groups.specs.Showing.{IsInForce, ShowsTable, ShowsEntry, Shows}
-use Rattle.version_groups.specs.Becoming.{Becomes, Begins, IsChange, Leads, IsMade}
+use Rattle.version_groups.specs.Becoming.{Becomes, Begins, Leads, IsMade}
+use Rattle.version_groups.specs.Installing.{IsAmong, IsMadeBy, AreMadeBy}
+use Rattle.version_groups.specs.Places.{at_places}
 use Rattle.version_groups.specs.Steps.{a_command, AreChanges, BeginsEntry, IsNextVersion}
 use Rattle.smo_meaning.proofs.PastMoments.{not_begun, all_begun, few_begun, all_with_one, tables_still, tables_added, is_later, still_later, before_or_not}
-use Rattle.version_groups.proofs.Pairs.{Found, Paired, paired}
+use Rattle.version_groups.proofs.Pairs.{Paired, paired}
+use Rattle.version_groups.proofs.Places.{something_at}
 use Rattle.version_groups.proofs.OwnMoments.{own_version, own_moment, own_within}
 
 -- what is stored under a name, before and behind
@@ -102,6 +105,27 @@ module _ (kept : Kept) (past : Past) (stamp : ℕ) (body : PlainBody) (shows : S
 
 -- ---- changes
 
+pub made_name : (t : MadeTable) (p : Option Plan) (u : MadeTable) → IsMade t p u → u.name ≡ t.name
+made_name t None u e = ap (λ (x : MadeTable). x.name) e
+made_name t (Some p) u e = e.0
+
+-- each of the changes is made at the stamp
+found_plan : (plans : List (Option Plan)) (p : Option Plan) → In p plans → (i : ℕ) × (i < length plans) × (get_or plans i None ≡ p)
+found_plan [] p m = absurd m
+found_plan (q ∷ plans) p (inl e) = (0, omega arith, e)
+found_plan (q ∷ plans) p (inr m) = (let h = found_plan plans p m in let l = h.1 in (suc h.0, omega (arith, l), h.2))
+
+pub plans_at : (stamp : ℕ) (next : Database) (tables : List MadeTable) (plans : List (Option Plan)) → AreChanges stamp next tables plans → (plan : Plan) → In (Some plan) plans → plan.stamp ≡ stamp
+plans_at stamp next tables plans h plan m =
+    let f = found_plan plans (Some plan) m in
+    let l = f.1 in
+    let count = h.count in
+    let within : f.0 < length tables = omega (arith, l, count) in
+    let t = something_at tables f.0 within in
+    let leads : Leads (get_or tables f.0 t).store stamp (rows_at (get next (get_or tables f.0 t).name)) (Some plan) =
+    subst (λ (o : Option Plan). Leads (get_or tables f.0 t).store stamp (rows_at (get next (get_or tables f.0 t).name)) o) f.2 (h.each f.0 t within) in
+    leads.at
+
 module _ (kept : Kept) (past : Past) (stamp : ℕ) (changes : List PlainChange) (shows : Shows kept past) (lawful : stamp < forever)
     (accepted : command_fault past (a_command stamp (changing changes)) ≡ None) where
   abbrev behind : Past
@@ -110,34 +134,50 @@ module _ (kept : Kept) (past : Past) (stamp : ℕ) (changes : List PlainChange) 
   abbrev changed_rows : List ℕ → Relation
   changed_rows name = rows_at (get (database_behind (changing changes) past) name)
 
-  -- a table of an earlier version
-  earlier_table : (k : ℕ) (name : List ℕ) → k < length past.versions → (columns : List Column) (store : Store) → ShowsTable past k name columns store → ShowsTable behind k name columns store
-  earlier_table k name l columns store h = record {
-    columns = h.columns;
-    shown = λ m own. elim (before_or_not m stamp) [
-      | inl b ↦ h.shown m own ∙ ap (λ d. rows_at (get d name)) (sym (as_before kept past stamp (changing changes) shows lawful accepted m b))
-      | inr b ↦ absurd (ended m own b)
-    ];
-    stamps = λ m own b. h.stamps m own (all_later kept past stamp (changing changes) shows lawful accepted m b);
-  }
+  -- from the stamp on an earlier version is not in force
+  pub ended : (k : ℕ) → k < length past.versions → (m : ℕ) → IsInForce past.versions k m → stamp ≤ m → ⊥
+  ended k l m own b =
+      let e = own_version past shows.lawful k m (omega (arith, l)) own in
+      let n = newest_then kept past stamp (changing changes) shows lawful accepted m b in
+      omega (arith, l, e, n)
+
+  -- a table of an earlier version, of which a change is made or none
+  abbrev IsAtStamp : List (Option Plan) → Type 0
+  IsAtStamp plans = (plan : Plan) → In (Some plan) plans → plan.stamp ≡ stamp
+
+  earlier_table : (plans : List (Option Plan)) → IsAtStamp plans → (k : ℕ) (name : List ℕ) → k < length past.versions → (t u : MadeTable) → IsMadeBy plans t u → (columns : List Column)
+      → ShowsTable past k name columns t.store → ShowsTable behind k name columns u.store
+  earlier_table plans at k name l t u by columns h = step by.plan by.among by.made
     where
-      -- from the stamp on it is not in force
-      ended : (m : ℕ) → IsInForce past.versions k m → stamp ≤ m → ⊥
-      ended m own b =
-          let e = own_version past shows.lawful k m (omega (arith, l)) own in
-          let n = newest_then kept past stamp (changing changes) shows lawful accepted m b in
-          omega (arith, l, e, n)
+      before : (m : ℕ) → IsInForce past.versions k m → (m < stamp → relation_at u.store m ≡ relation_at t.store m) → relation_at u.store m ≡ rows_at (get (database_at behind m) name)
+      before m own same = elim (before_or_not m stamp) [
+        | inl b ↦ same b ∙ h.shown m own ∙ ap (λ d. rows_at (get d name)) (sym (as_before kept past stamp (changing changes) shows lawful accepted m b))
+        | inr b ↦ absurd (ended k l m own b)
+      ]
+
+      step : (p : Option Plan) → IsAmong p plans → IsMade t p u → ShowsTable behind k name columns u.store
+      step None among e =
+          let is : u.store ≡ t.store = ap (λ (x : MadeTable). x.store) e in
+          record {
+            columns = ap (λ (x : Store). x.columns) is ∙ h.columns;
+            shown = λ m own. before m own (λ b. ap (λ (x : Store). relation_at x m) is);
+            stamps = λ m own b. absurd (ended k l m own (omega (arith, b)));
+          }
+      step (Some p) among e =
+          let b : Becomes t.store u.store p.stamp (rows_after t.store p) = e.1 in
+          let same : p.stamp ≡ stamp = at p among in
+          record {
+            columns = b.columns ∙ h.columns;
+            shown = λ m own. before m own (λ l. b.before m (omega (arith, l, same)));
+            stamps = λ m own b. absurd (ended k l m own (omega (arith, b)));
+          }
 
   -- a table of the newest version, with its change
   abbrev IsChanged : MadeTable → MadeTable → Type 0
   IsChanged t u = (p : Option Plan) × Leads t.store stamp (changed_rows t.name) p × IsMade t p u
 
   keeps_name : (t u : MadeTable) → IsChanged t u → u.name ≡ t.name
-  keeps_name t u h = step h.0 h.2
-    where
-      step : (p : Option Plan) → IsMade t p u → u.name ≡ t.name
-      step None e = ap (λ (x : MadeTable). x.name) e
-      step (Some p) e = e.0
+  keeps_name t u h = made_name t h.0 u h.2
 
   changed_table : (name : List ℕ) (t u : MadeTable) → t.name ≡ name → IsChanged t u → (columns : List Column) → ShowsTable past (length past.versions) name columns t.store
       → ShowsTable behind (length past.versions) name columns u.store
@@ -177,7 +217,7 @@ module _ (kept : Kept) (past : Past) (stamp : ℕ) (changes : List PlainChange) 
           }
 
   -- the changes are made
-  pub shows_changed : BodyHolds (changing changes) → (new : Kept) (plans : List (Option Plan)) → versions_in new ≡ versions_in kept → ((k : ℕ) → k < length past.versions → group_of new k ≡ group_of kept k)
+  pub shows_changed : BodyHolds (changing changes) → (new : Kept) (plans : List (Option Plan)) → versions_in new ≡ versions_in kept → ((k : ℕ) → k < length past.versions → AreMadeBy plans (group_of kept k) (group_of new k))
       → length (group_of new (length past.versions)) ≡ length (group_of kept (length past.versions))
       → AreChanges stamp (database_behind (changing changes) past) (group_of kept (length past.versions)) plans
       → ((k : ℕ) (d : MadeTable) → k < length (group_of kept (length past.versions)) → IsMade (get_or (group_of kept (length past.versions)) k d) (get_or plans k None) (get_or (group_of new (length past.versions)) k d))
@@ -189,14 +229,28 @@ module _ (kept : Kept) (past : Past) (stamp : ℕ) (changes : List PlainChange) 
     versions = versions ∙ shows.versions;
     tables = λ k name l. elim (newest_or_not k n l) [
       | inl e ↦ subst (λ j. ShowsEntry behind j name (get (tables_of behind j) name) (table_in new j name)) (sym e) (newest name)
-      | inr e ↦
-          subst (λ (g : List MadeTable). ShowsEntry behind k name (get (tables_of behind k) name) (stored_as name g)) (sym (groups k e))
-          (entry_still past behind k name (get (tables_of past k) name) (table_in kept k name) (earlier_table k name e) (shows.tables k name l))
+      | inr e ↦ earlier k e name (paired (IsMadeBy plans) names name (group_of kept k) (group_of new k) (groups k e).count (groups k e).each) (shows.tables k name (omega (arith, e)))
     ];
   }
     where
       n : ℕ
       n = length past.versions
+
+      at : IsAtStamp plans
+      at = plans_at stamp (database_behind (changing changes) past) (group_of kept n) plans ready
+
+      names : (t u : MadeTable) → IsMadeBy plans t u → u.name ≡ t.name
+      names t u h = made_name t h.plan u h.made
+
+      earlier : (k : ℕ) → k < n → (name : List ℕ) → Paired (IsMadeBy plans) name (group_of kept k) (group_of new k) → ShowsEntry past k name (get (tables_of past k) name) (stored_as name (group_of kept k))
+          → ShowsEntry behind k name (get (tables_of past k) name) (stored_as name (group_of new k))
+      earlier k l name (inl none) h =
+          subst (λ (s : Option Store). ShowsEntry behind k name (get (tables_of past k) name) s) (sym none.1)
+          (entry_follows past behind k name (get (tables_of past k) name) None None tt (subst (λ (s : Option Store). ShowsEntry past k name (get (tables_of past k) name) s) none.0 h))
+      earlier k l name (inr f) h =
+          subst (λ (s : Option Store). ShowsEntry behind k name (get (tables_of past k) name) s) (sym f.now)
+          (entry_follows past behind k name (get (tables_of past k) name) (Some f.before.store) (Some f.behind.store) (earlier_table plans at k name l f.before f.behind f.related)
+          (subst (λ (s : Option Store). ShowsEntry past k name (get (tables_of past k) name) s) f.was h))
 
       each : (k : ℕ) (d : MadeTable) → k < length (group_of kept n) → IsChanged (get_or (group_of kept n) k d) (get_or (group_of new n) k d)
       each k d l = (get_or plans k None, ready.each k d l, made k d l)
@@ -284,10 +338,12 @@ module _ (kept : Kept) (past : Past) (stamp : ℕ) (op : Operator) (inverse : Li
           omega (arith, e, n, few)
 
   -- the version is there, with its tables
-  pub shows_evolved : BodyHolds (evolving op inverse) → (new : Kept) (made : PlainVersion) (tables : List MadeTable) → IsNextVersion kept version (database_behind (evolving op inverse) past) made tables
-      → versions_in new ≡ versions_in kept ++ made ∷ [] → ((k : ℕ) → k ≤ length past.versions → group_of new k ≡ group_of kept k) → group_of new (length past.versions + 1) ≡ tables
+  pub shows_evolved : BodyHolds (evolving op inverse) → (new : Kept) (made : PlainVersion) (begun : List MadeTable) (places : List ℕ)
+      → IsNextVersion kept version (database_behind (evolving op inverse) past) made begun places
+      → versions_in new ≡ versions_in kept ++ made ∷ [] → ((k : ℕ) → k ≤ length past.versions → group_of new k ≡ group_of kept k)
+      → group_of new (length past.versions + 1) ≡ at_places (kept.stored ++ begun) places
       → Shows new evolved
-  shows_evolved hold new made tables is versions groups last = record {
+  shows_evolved hold new made begun places is versions groups last = record {
     lawful = is_past;
     values = next_holds kept past stamp (evolving op inverse) shows lawful accepted hold;
     ends = lawful;
@@ -305,7 +361,7 @@ module _ (kept : Kept) (past : Past) (stamp : ℕ) (op : Operator) (inverse : Li
       newest name =
           subst (λ (t : Tables). ShowsEntry evolved (n + 1) name (get t name) (table_in new (n + 1) name)) (sym added)
           (subst (λ (g : List MadeTable). ShowsEntry evolved (n + 1) name (get version.tables name) (stored_as name g)) (sym last)
-          (entry_begins evolved (n + 1) stamp name (rows_at (get (database_behind (evolving op inverse) past) name)) (get version.tables name) (stored_as name tables) (new_table name) (is.tables name)))
+          (entry_begins evolved (n + 1) stamp name (rows_at (get (database_behind (evolving op inverse) past) name)) (get version.tables name) (stored_as name (at_places (kept.stored ++ begun) places)) (new_table name) (is.tables name)))
 
       each : (k : ℕ) (name : List ℕ) → (n < k) ⊎ (k ≤ n) → k ≤ n + 1 → ShowsEntry evolved k name (get (tables_of evolved k) name) (table_in new k name)
       each k name (inl l) m = subst (λ j. ShowsEntry evolved j name (get (tables_of evolved j) name) (table_in new j name)) (let e : n + 1 ≡ k = omega (arith, l, m) in e) (newest name)

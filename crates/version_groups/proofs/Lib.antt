@@ -1,4 +1,7 @@
-pub mod StoredUnder
+pub mod Places
+pub mod StillStored
+pub mod MadeBy
+pub mod NextPlaces
 pub mod Pairs
 pub mod OwnMoments
 pub mod Installed

@@ -1,12 +1,12 @@
 -- The stored tables of the newest version: what they stand for, and what changes make of them.
-use Rattle.std.proofs.Common.{◌≡◌, ◌≤◌, ◌<◌, ◌+◌, ℕ, suc, Bool, true, false, cond, List, [], ◌∷◌, length, get_or, refl, sym, ap, subst, ◌∙◌, arith, inl, inr}
-use Rattle.std.specs.Prelude.{Option, Some, None, ◌⊎◌}
+use Rattle.std.proofs.Common.{◌≡◌, ◌<◌, ℕ, suc, List, [], ◌∷◌, length, get_or, refl, sym, ap, subst, ◌∙◌, arith}
+use Rattle.std.specs.Prelude.{Option, Some, None}
 use Rattle.std.specs.FinMap.{get, same_map, slice_cmp-IsAntisymmetric, nat_cmp-IsAntisymmetric}
 use Rattle.std.specs.Cmp.Lexicographic.{nat_list_cmp_total}
 use Rattle.relations.specs.Spans.{forever}
 use Rattle.relations.specs.Sets.{Ascends}
 use Rattle.prima_base.specs.Order.{bytes_cmp}
-use Rattle.prima_base.specs.Columns.{Column, IsRelation}
+use Rattle.prima_base.specs.Columns.{Column}
 use Rattle.prima_base.specs.declared.values.Value.{Value}
 use Rattle.schema_catalog.specs.Tables.{Tables, IsSchema}
 use Rattle.schema_catalog.specs.Databases.{Database, Entry, Rows, Lost, IsEntry, IsDatabase}
@@ -14,21 +14,19 @@ use Rattle.history_store.specs.Store.{Store, relation_at, AllBefore}
 use Rattle.history_store.specs.Change.{Plan}
 use Rattle.smo_meaning.specs.Accepts.{command_fault}
 use Rattle.smo_types.specs.Changes.{PlainChange}
-use Rattle.smo_meaning.specs.Checks.{changes_tests, changes_fault}
-use Rattle.smo_meaning.specs.First.{first_refusal}
-use Rattle.smo_types.specs.Commands.{PlainBody, changing, evolving}
+use Rattle.smo_meaning.specs.Checks.{changes_fault}
+use Rattle.smo_types.specs.Commands.{PlainBody}
 use Rattle.smo_meaning.specs.Effects.{rows_at, after_each, gained, lost}
-use Rattle.smo_meaning.specs.Inserting.{relation_after_each}
-use Rattle.smo_meaning.specs.Past.{Past, no_tables, tables_of, database_at, newest_tables, newest_database}
+use Rattle.smo_meaning.specs.Past.{Past, no_tables, tables_of, newest_tables, newest_database}
 use Rattle.smo_meaning.proofs.CountingLaws.{self_gains_nothing}
 use Rattle.smo_meaning.proofs.DatabaseLaws.{changes_keep}
 use Rattle.smo_meaning.proofs.PastSteps.{stamp_accepted}
 use Rattle.version_groups.specs.declared.made_tables.MadeTable.{MadeTable}
 use Rattle.version_groups.specs.Groups.{Kept, group_of, table_in, stored_as, names_of}
-use Rattle.version_groups.specs.Showing.{ShowsTable, ShowsEntry, Shows}
+use Rattle.version_groups.specs.Showing.{ShowsEntry, Shows}
 use Rattle.version_groups.specs.Becoming.{Leads}
-use Rattle.version_groups.specs.Changing.{of_table, AreAccepted, rows_now, rows_behind, IsChangeable, AreChangeable, AreReady, all_gained, all_lost}
-use Rattle.version_groups.specs.Standing.{StandsFor, StandsEntry, AreStored}
+use Rattle.version_groups.specs.Changing.{rows_now, rows_behind, AreChangeable, AreReady, all_gained, all_lost}
+use Rattle.version_groups.specs.Standing.{StandsEntry, AreStored}
 use Rattle.version_groups.specs.Steps.{a_command, AreChanges}
 use Rattle.smo_meaning.proofs.PastMoments.{newest_tables_from, is_later}
 use Rattle.version_groups.proofs.Installed.{newest_own, newest_is}

@@ -1,5 +1,5 @@
 -- The rows of the tables of the next version are those of the carried database.
-use Rattle.std.proofs.Common.{◌≡◌, ◌<◌, ℕ, Bool, true, false, cond, List, [], ◌∷◌, refl, sym, ap, subst, ◌∙◌, inl, inr}
+use Rattle.std.proofs.Common.{◌≡◌, ℕ, Bool, true, false, cond, List, [], ◌∷◌, refl, sym, ap, subst, ◌∙◌}
 use Rattle.std.specs.Prelude.{Option, Some, None, slice_get, ◌||◌, if◌then◌else◌}
 use Rattle.std.specs.FinMap.{get}
 use Rattle.prima_base.specs.Columns.{Column, IsRelation}
@@ -20,16 +20,16 @@ use Rattle.smo_maps.specs.Carrying.{Has}
 use Rattle.version_groups.specs.declared.made_tables.MadeTable.{MadeTable}
 use Rattle.version_groups.specs.Groups.{stored_as}
 use Rattle.version_groups.specs.Becoming.{Begins}
-use Rattle.version_groups.specs.Standing.{StandsEntry, AreStored, rows_stored, MadeRows, is_name, next_rows, FitNext}
+use Rattle.version_groups.specs.Standing.{StandsEntry, AreStored, rows_stored, MadeRows, is_name, next_rows, FitNext, IsStoredBefore, OthersStay}
 use Rattle.version_groups.specs.Steps.{BeginsEntry}
+
+not_named : (name a : List ℕ) (names : List (List ℕ)) → same a name ≡ false → among name names ≡ false → among name (a ∷ names) ≡ false
+not_named name a names q h = ap (λ b. b || among name names) (same_turned name a ∙ q) ∙ h
 
 -- what a database has under a name, by the rows of at most two names and of the others
 module _ (database : Database) (name : List ℕ) (rows others rest : Relation) where
   found : (a : List ℕ) (r : Relation) → same a name ≡ true → get database a ≡ Some (Rows r) → r ≡ rows_at (get database name)
   found a r q h = sym (ap (λ n. rows_at (get database n)) (sym (same_is a name q)) ∙ ap rows_at h)
-
-  not_here : (a : List ℕ) (names : List (List ℕ)) → same a name ≡ false → among name names ≡ false → among name (a ∷ names) ≡ false
-  not_here a names q h = ap (λ b. b || among name names) (same_turned name a ∙ q) ∙ h
 
   pub by_names : (f s : Option (List ℕ)) → s ≡ slice_get (these_names f s) 1 → Has (these_names f s) database rows others → (among name (these_names f s) ≡ false → rest ≡ rows_at (get database name))
       → (if is_name f name then rows else if is_name s name then others else rest) ≡ rows_at (get database name)
@@ -39,13 +39,20 @@ module _ (database : Database) (name : List ℕ) (rows others rest : Relation) w
     where
       step : (t : Bool) → same a name ≡ t → cond t rows rest ≡ rows_at (get database name)
       step true q = found a rows q h.0
-      step false q = k (not_here a [] q refl)
+      step false q = k (not_named name a [] q refl)
   by_names (Some a) (Some b) e h k = step (same a name) refl (same b name) refl
     where
       step : (t : Bool) → same a name ≡ t → (u : Bool) → same b name ≡ u → cond t rows (cond u others rest) ≡ rows_at (get database name)
       step true q u p = found a rows q h.0
       step false q true p = found b others p h.1
-      step false q false p = k (not_here a (b ∷ []) q (not_here b [] p refl))
+      step false q false p = k (not_named name a (b ∷ []) q (not_named name b [] p refl))
+
+-- neither of at most two names is this one
+neither : (f s : Option (List ℕ)) (name : List ℕ) → is_name f name ≡ false → is_name s name ≡ false → among name (these_names f s) ≡ false
+neither None None name a b = refl
+neither None (Some y) name a b = refl
+neither (Some x) None name a b = not_named name x [] a refl
+neither (Some x) (Some y) name a b = not_named name x (y ∷ []) a (not_named name y [] b refl)
 
 module _ (before : Tables) (op : Operator) (database : Database) (stamp : ℕ) (made : List MadeTable) (schema : IsSchema before) (accepted : op_fault before op ≡ None)
     (whole : IsDatabase before database) (stored : AreStored before database stamp made) where
@@ -84,6 +91,23 @@ module _ (before : Tables) (op : Operator) (database : Database) (stamp : ℕ) (
         subst (IsRelation columns) (sym (next_is name columns there))
         (of_entry columns (get next name) (subst (λ (o : Option (List Column)). IsEntry o (get next name)) there (carried_database before op database schema accepted whole name)))
 
+    -- a table that is not made is stored
+    stored_before : (columns : List Column) (rows : Relation) (s : Option Store) → StandsEntry stamp rows (Some columns) s → IsStoredBefore stamp columns s
+    stored_before columns rows None h = absurd h
+    stored_before columns rows (Some store) h = (h.columns, h.before)
+
+    pub others_next : OthersStay (behind before op) it stamp made
+    others_next name columns there first other = step (consumes before op name) refl
+      where
+        unmade : makes before op name ≡ false
+        unmade = ap (among name) names ∙ neither it.first it.second name first other
+
+        step : (b : Bool) → consumes before op name ≡ b → IsStoredBefore stamp columns (stored_as name made)
+        step true q = absurd (let gone = table_gone before op name unmade q in cc)
+        step false q =
+            stored_before columns (rows_at (get database name)) (stored_as name made)
+            (subst (λ (o : Option (List Column)). StandsEntry stamp (rows_at (get database name)) o (stored_as name made)) (sym (table_stays before op name unmade q) ∙ there) (stored name))
+
     pub begins_next : (name : List ℕ) (s : Option Store) → BeginsEntry stamp (next_rows it stamp made name) (get (behind before op) name) s → BeginsEntry stamp (rows_at (get next name)) (get (behind before op) name) s
     begins_next name s = step (get (behind before op) name) refl s
       where
@@ -102,3 +126,6 @@ module _ (before : Tables) (op : Operator) (database : Database) (stamp : ℕ) (
       begins_after name s h =
           subst (λ (t : Tables). BeginsEntry stamp (rows_at (get next name)) (get t name) s) (sym is)
           (begins_next name s (subst (λ (t : Tables). BeginsEntry stamp (next_rows it stamp made name) (get t name) s) is h))
+
+      pub others_after : OthersStay after it stamp made
+      others_after = subst (λ (t : Tables). OthersStay t it stamp made) (sym is) others_next

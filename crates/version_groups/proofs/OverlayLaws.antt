@@ -1,6 +1,6 @@
 -- What is known of rows, over those that are stored, change by change.
-use Rattle.std.proofs.Common.{◌≡◌, ◌⊎◌, ℕ, Bool, true, false, cond, List, [], ◌∷◌, ◌++◌, length, map, take, refl, sym, ap, ◌∙◌, subst, inl, inr}
-use Rattle.std.specs.Prelude.{not, ◌&&◌, ◌||◌, Option, Some, None, if◌then◌else◌}
+use Rattle.std.proofs.Common.{◌≡◌, ◌⊎◌, Bool, true, false, cond, List, [], ◌∷◌, ◌++◌, length, map, take, refl, sym, ap, ◌∙◌, subst, inl, inr}
+use Rattle.std.specs.Prelude.{not, ◌&&◌, Option, Some, None, if◌then◌else◌}
 use Rattle.std.specs.List.{filter, AllByRecursion}
 use Rattle.std.specs.List.Sorted.{IsStrictlySortedBy}
 use Rattle.std.specs.Option.{unwrap_or}
@@ -9,9 +9,8 @@ use Rattle.std.specs.BTreeMap.{is_at}
 use Rattle.std.specs.declared.cmp.Ordering.{Ordering}
 use Rattle.std.specs.declared.cmp.Ordering.TheVariants.{Less, Equal, Greater}
 use Rattle.std.specs.Ordering.{is_eq, is_le, is_lt, ordering_reverse, ordering_then}
-use Rattle.std.proofs.lemmas.Cmp.{eq_by_cmp_equiv}
 use Rattle.relations.specs.Sets.{In, BeforeAll, Ascends, has, put_in, set_of}
-use Rattle.relations.proofs.SetLaws.{in_left, in_right, in_append, in_map, from_map, in_filter, from_filter, below_each, before_in, one_list, cmp_itself, in_has, has_in, has_not, put_back, set_ascends, in_set, from_set, set_itself}
+use Rattle.relations.proofs.SetLaws.{in_left, in_right, in_append, in_map, from_map, in_filter, from_filter, below_each, before_in, one_list, cmp_itself, in_has, has_in, put_back, in_set, from_set}
 use Rattle.prima_base.specs.declared.values.Value.{Value}
 use Rattle.prima_base.specs.Order.{value_cmp, row_cmp}
 use Rattle.prima_base.specs.OrderLaws.{row_exact, row_total, value_total}
@@ -20,7 +19,7 @@ use Rattle.history_store.proofs.Cutting.{before_less}
 use Rattle.smo_meaning.specs.OneRow.{Row, Relation}
 use Rattle.smo_meaning.specs.Effects.{gained_rows}
 use Rattle.smo_meaning.proofs.RelationLaws.{put_is_set, filter_ascends}
-use Rattle.version_groups.specs.Overlay.{Known, is_there, is_kept, LeadsTo, lost_by_now, gained_by_now, known_hits, AreHits}
+use Rattle.version_groups.specs.Overlay.{Known, told, is_kept, LeadsTo, lost_by_now, gained_by_now, known_hits, AreHits}
 use Rattle.version_groups.proofs.Applying.{not_true, not_of}
 
 -- ---- truths
@@ -48,6 +47,45 @@ never false e f = cc
 
 pub not_in : (row : Row) (rows : Relation) → (In row rows → ⊥) → has row_cmp row rows ≡ false
 not_in row rows f = elim (known_or_not (has row_cmp row rows)) [ inl e ↦ absurd (f (has_in row_cmp row_exact row rows e)) | inr e ↦ e ]
+
+-- ---- what is told of a row
+
+pub told_same : (a b : Bool) → a ≡ b → told a b ≡ None
+told_same true true e = refl
+told_same true false e = absurd (cc)
+told_same false true e = absurd (cc)
+told_same false false e = refl
+
+pub told_other : (a b : Bool) → (a ≡ b → ⊥) → told a b ≡ Some b
+told_other true true n = absurd (n refl)
+told_other true false n = refl
+told_other false true n = refl
+told_other false false n = absurd (n refl)
+
+told_now : (a b c : Bool) → told a b ≡ Some c → b ≡ c
+told_now true true c e = absurd (cc)
+told_now true false c e = cc
+told_now false true c e = cc
+told_now false false c e = absurd (cc)
+
+told_stored : (a b c : Bool) → told a b ≡ Some c → a ≡ not c
+told_stored true true c e = absurd (cc)
+told_stored true false true e = absurd (cc)
+told_stored true false false e = refl
+told_stored false true true e = refl
+told_stored false true false e = absurd (cc)
+told_stored false false c e = absurd (cc)
+
+not_told : (a b : Bool) → told a b ≡ None → a ≡ b
+not_told true true e = refl
+not_told true false e = absurd (cc)
+not_told false true e = absurd (cc)
+not_told false false e = refl
+
+told_kept : (a b : Bool) → a ≡ true → unwrap_or (told a b) true ≡ true → b ≡ true
+told_kept true true e f = refl
+told_kept true false e f = absurd (cc)
+told_kept false b e f = absurd (cc)
 
 -- ---- rows that are looked up
 
@@ -134,11 +172,14 @@ from_cut c row h = from_low c.values row c.behind h
 -- ---- the rows that meet a condition
 
 module _ (known : Known) (stored now : Relation) (ordered : Ascends row_cmp (keys_of known)) (leads : LeadsTo known stored now) where
-  pub there_in : (row : Row) → is_there known stored row ≡ true → In row now
-  there_in row e = has_in row_cmp row_exact row now (leads row ∙ e)
+  says : (row : Row) (b : Bool) → In (row, b) known → told (has row_cmp row stored) (has row_cmp row now) ≡ Some b
+  says row b i = sym (leads row) ∙ in_found known row b ordered i
 
-  pub in_there : (row : Row) → In row now → is_there known stored row ≡ true
-  in_there row i = sym (leads row) ∙ in_has row_cmp row_exact row now i
+  pub has_now : (row : Row) (b : Bool) → In (row, b) known → has row_cmp row now ≡ b
+  has_now row b i = told_now (has row_cmp row stored) (has row_cmp row now) b (says row b i)
+
+  pub has_stored : (row : Row) (b : Bool) → In (row, b) known → has row_cmp row stored ≡ not b
+  has_stored row b i = told_stored (has row_cmp row stored) (has row_cmp row now) b (says row b i)
 
   module _ (passes : Row → Bool) (from to : Cut) (within : (row : Row) → In row now → passes row ≡ true → (is_before from row ≡ false) × (is_before to row ≡ true)) where
     abbrev pick : Row × Bool → Bool
@@ -155,11 +196,8 @@ module _ (known : Known) (stored now : Relation) (ordered : Ascends row_cmp (key
         let f = from_filter wanted row (between from to stored) m in
         let g = from_filter lies row stored f.0 in
         let w = both (passes row) (is_kept known row) f.1 in
-        (there_in row (step (find row known) w.1 (in_has row_cmp row_exact row stored g.0)), w.0)
-      where
-        step : (o : Option Bool) → unwrap_or o true ≡ true → has row_cmp row stored ≡ true → unwrap_or o (has row_cmp row stored) ≡ true
-        step None k h = h
-        step (Some b) k h = k
+        let kept = told_kept (has row_cmp row stored) (has row_cmp row now) (in_has row_cmp row_exact row stored g.0) (sym (ap (λ (o : Option Bool). unwrap_or o true) (leads row)) ∙ w.1) in
+        (has_in row_cmp row_exact row now kept, w.0)
 
     of_known : (row : Row) → In row (keys_of (filter pick known)) → In row now × (passes row ≡ true)
     of_known row m =
@@ -167,7 +205,7 @@ module _ (known : Known) (stored now : Relation) (ordered : Ascends row_cmp (key
         let g = both (is_le (row_cmp from.values row)) (is_before to row && (f.0 && passes row)) f.2 in
         let h = both (is_before to row) (f.0 && passes row) g.1 in
         let k = both f.0 (passes row) h.1 in
-        (there_in row (ap (λ (o : Option Bool). unwrap_or o (has row_cmp row stored)) (in_found known row f.0 ordered f.1) ∙ k.0), k.1)
+        (has_in row_cmp row_exact row now (has_now row f.0 f.1 ∙ k.0), k.1)
 
     pub hits_are : AreHits passes now (filter wanted (between from to stored) ++ known_hits from to passes known)
     hits_are = record { only = only; all = all }
@@ -176,12 +214,13 @@ module _ (known : Known) (stored now : Relation) (ordered : Ascends row_cmp (key
         only row m = elim (in_append row (filter wanted (between from to stored)) (keys_of (filter pick known)) m) [ inl i ↦ of_stored row i | inr i ↦ of_known row i ]
 
         all : (row : Row) → In row now → passes row ≡ true → In row (filter wanted (between from to stored) ++ keys_of (filter pick known))
-        all row i p = step (find row known) refl (in_there row i)
+        all row i p = step (find row known) refl (in_has row_cmp row_exact row now i)
           where
-            step : (o : Option Bool) → find row known ≡ o → unwrap_or o (has row_cmp row stored) ≡ true → In row (filter wanted (between from to stored) ++ keys_of (filter pick known))
+            step : (o : Option Bool) → find row known ≡ o → has row_cmp row now ≡ true → In row (filter wanted (between from to stored) ++ keys_of (filter pick known))
             step None e k =
                 let l = within row i p in
-                let here = in_filter lies row stored (has_in row_cmp row_exact row stored k) (and_true (not (is_before from row)) (is_before to row) (not_of (is_before from row) l.0) l.1) in
+                let h = not_told (has row_cmp row stored) (has row_cmp row now) (sym (leads row) ∙ e) ∙ k in
+                let here = in_filter lies row stored (has_in row_cmp row_exact row stored h) (and_true (not (is_before from row)) (is_before to row) (not_of (is_before from row) l.0) l.1) in
                 in_left row (filter wanted (between from to stored)) (keys_of (filter pick known))
                 (in_filter wanted row (between from to stored) here (and_true (passes row) (is_kept known row) p (ap (λ (o : Option Bool). unwrap_or o true) e)))
             step (Some true) e k =
@@ -190,7 +229,7 @@ module _ (known : Known) (stored now : Relation) (ordered : Ascends row_cmp (key
                 (is_picked pick known row true (found_in known row true e)
                 (and_true (is_le (row_cmp from.values row)) (is_before to row && (true && passes row)) (from_cut from row l.0)
                 (and_true (is_before to row) (true && passes row) l.1 p)))
-            step (Some false) e k = absurd (cc)
+            step (Some false) e k = absurd (never (has row_cmp row now) k (has_now row false (found_in known row false e)))
 
 -- behind a row that is not before the cut none is
 pub none_past : (from to : Cut) (passes : Row → Bool) (e : Row × Bool) (rest : Known) → Ascends row_cmp (keys_of (e ∷ rest)) → is_before to e.0 ≡ false
@@ -207,49 +246,42 @@ none_past from to passes e rest a h = ap (λ b. cond (b && (e.1 && passes e.0)) 
     empty [] f = refl
     empty (x ∷ es) f = ap (λ b. cond (b && (x.1 && passes x.0)) (x ∷ filter p es) (filter p es)) (f x (inl refl)) ∙ empty es (λ y i. f y (inr i))
 
--- ---- change by change
+-- ---- the rows behind a change
 
-module _ (old new : Known) (stored now : Relation) (leads : LeadsTo old stored now) where
-  abbrev was : Row → Bool
-  was row = is_there old stored row
-
-  pub inserted : (row : Row) → Ascends row_cmp now → ((q : Row) → find q new ≡ cond (is_eq (row_cmp row q)) (Some true) (find q old)) → LeadsTo new stored (put_in row_cmp row now)
-  inserted row a h = λ q. one_truth (has row_cmp q (put_in row_cmp row now)) (is_there new stored q) (there q) (back q)
+module _ (now : Relation) where
+  pub has_put : (row : Row) → Ascends row_cmp now → (q : Row) → has row_cmp q (put_in row_cmp row now) ≡ cond (is_eq (row_cmp row q)) true (has row_cmp q now)
+  has_put row a q = one_truth (has row_cmp q (put_in row_cmp row now)) (cond (is_eq (row_cmp row q)) true (has row_cmp q now))
+      (λ e. there (is_eq (row_cmp row q)) refl (put_back row_cmp row_exact row q now (has_in row_cmp row_exact q (put_in row_cmp row now) e)))
+      (λ e. in_has row_cmp row_exact q (put_in row_cmp row now) (subst (In q) (sym (put_is_set row now a)) (in_set row_cmp row_exact q (row ∷ now) (back (row_cmp row q) refl e))))
     where
-      is_new : (q : Row) → is_there new stored q ≡ unwrap_or (cond (is_eq (row_cmp row q)) (Some true) (find q old)) (has row_cmp q stored)
-      is_new q = ap (λ (o : Option Bool). unwrap_or o (has row_cmp q stored)) (h q)
+      there : (b : Bool) → is_eq (row_cmp row q) ≡ b → In q (row ∷ now) → cond b true (has row_cmp q now) ≡ true
+      there true f i = refl
+      there false f (inl k) = absurd (never (is_eq (row_cmp row q)) (ap (λ (r : Row). is_eq (row_cmp row r)) (sym k) ∙ ap is_eq (cmp_itself row_cmp row_exact row)) f)
+      there false f (inr i) = in_has row_cmp row_exact q now i
 
-      there : (q : Row) → has row_cmp q (put_in row_cmp row now) ≡ true → is_there new stored q ≡ true
-      there q e = is_new q ∙ step (is_eq (row_cmp row q)) refl (put_back row_cmp row_exact row q now (has_in row_cmp row_exact q (put_in row_cmp row now) e))
-        where
-          step : (b : Bool) → is_eq (row_cmp row q) ≡ b → In q (row ∷ now) → unwrap_or (cond b (Some true) (find q old)) (has row_cmp q stored) ≡ true
-          step true f i = refl
-          step false f (inl k) = absurd (never (is_eq (row_cmp row q)) (ap (λ (r : Row). is_eq (row_cmp row r)) (sym k) ∙ ap is_eq (cmp_itself row_cmp row_exact row)) f)
-          step false f (inr i) = sym (leads q) ∙ in_has row_cmp row_exact q now i
-
-      back : (q : Row) → is_there new stored q ≡ true → has row_cmp q (put_in row_cmp row now) ≡ true
-      back q e = in_has row_cmp row_exact q (put_in row_cmp row now) (subst (In q) (sym (put_is_set row now a)) (in_set row_cmp row_exact q (row ∷ now) (step (row_cmp row q) refl (sym (is_new q) ∙ e))))
-        where
-          step : (o : Ordering) → row_cmp row q ≡ o → unwrap_or (cond (is_eq o) (Some true) (find q old)) (has row_cmp q stored) ≡ true → In q (row ∷ now)
-          step Less f k = inr (has_in row_cmp row_exact q now (leads q ∙ k))
-          step Equal f k = inl (row_exact.same row q f)
-          step Greater f k = inr (has_in row_cmp row_exact q now (leads q ∙ k))
+      back : (o : Ordering) → row_cmp row q ≡ o → cond (is_eq o) true (has row_cmp q now) ≡ true → In q (row ∷ now)
+      back Less f k = inr (has_in row_cmp row_exact q now k)
+      back Equal f k = inl (row_exact.same row q f)
+      back Greater f k = inr (has_in row_cmp row_exact q now k)
 
   module _ (passes : Row → Bool) (hits : List Row) (are : AreHits passes now hits) where
-    deleted_row : (q : Row) → (b : Bool) → has row_cmp q hits ≡ b → has row_cmp q (filter (λ row. not (passes row)) now) ≡ unwrap_or (cond b (Some false) (find q old)) (has row_cmp q stored)
-    deleted_row q true e = not_in q (filter (λ row. not (passes row)) now) (λ m.
-        let f = from_filter (λ row. not (passes row)) q now m in
-        never (passes q) (are.only q (has_in row_cmp row_exact q hits e)).1 (not_true (passes q) f.1))
-    deleted_row q false e = one_truth (has row_cmp q (filter (λ row. not (passes row)) now)) (was q)
-        (λ m. sym (leads q) ∙ in_has row_cmp row_exact q now (from_filter (λ row. not (passes row)) q now (has_in row_cmp row_exact q (filter (λ row. not (passes row)) now) m)).0)
-        (λ m.
-        let i = has_in row_cmp row_exact q now (leads q ∙ m) in
-        in_has row_cmp row_exact q (filter (λ row. not (passes row)) now)
-        (in_filter (λ row. not (passes row)) q now i (not_of (passes q)
-        (elim (known_or_not (passes q)) [ inl p ↦ absurd (never (has row_cmp q hits) (in_has row_cmp row_exact q hits (are.all q i p)) e) | inr p ↦ p ]))))
+    abbrev left : Relation
+    left = filter (λ row. not (passes row)) now
 
-    pub deleted : ((q : Row) → find q new ≡ cond (has row_cmp q hits) (Some false) (find q old)) → LeadsTo new stored (filter (λ row. not (passes row)) now)
-    deleted h = λ q. deleted_row q (has row_cmp q hits) refl ∙ sym (ap (λ (o : Option Bool). unwrap_or o (has row_cmp q stored)) (h q))
+    pub has_left : (q : Row) → has row_cmp q left ≡ cond (has row_cmp q hits) false (has row_cmp q now)
+    has_left q = step (has row_cmp q hits) refl
+      where
+        step : (b : Bool) → has row_cmp q hits ≡ b → has row_cmp q left ≡ cond b false (has row_cmp q now)
+        step true e = not_in q left (λ m.
+            let f = from_filter (λ row. not (passes row)) q now m in
+            never (passes q) (are.only q (has_in row_cmp row_exact q hits e)).1 (not_true (passes q) f.1))
+        step false e = one_truth (has row_cmp q left) (has row_cmp q now)
+            (λ m. in_has row_cmp row_exact q now (from_filter (λ row. not (passes row)) q now (has_in row_cmp row_exact q left m)).0)
+            (λ m.
+            let i = has_in row_cmp row_exact q now m in
+            in_has row_cmp row_exact q left
+            (in_filter (λ row. not (passes row)) q now i (not_of (passes q)
+            (elim (known_or_not (passes q)) [ inl p ↦ absurd (never (has row_cmp q hits) (in_has row_cmp row_exact q hits (are.all q i p)) e) | inr p ↦ p ]))))
 
     module _ (f : Row → Row) where
       abbrev made : Row → Row
@@ -261,101 +293,101 @@ module _ (old new : Known) (stored now : Relation) (leads : LeadsTo old stored n
           let h = are.only g.0 g.1 in
           subst (λ (r : Row). In r (map made now)) (ap (λ b. if b then f g.0 else g.0) h.1 ∙ g.2) (in_map made g.0 now h.0)
 
-      stays_in : (q : Row) → In q now → has row_cmp q hits ≡ false → In q (map made now)
-      stays_in q i e = step (passes q) refl
-        where
-          step : (b : Bool) → passes q ≡ b → In q (map made now)
-          step true p = absurd (never (has row_cmp q hits) (in_has row_cmp row_exact q hits (are.all q i p)) e)
-          step false p = subst (λ (r : Row). In r (map made now)) (ap (λ b. if b then f q else q) p) (in_map made q now i)
+      left_in : (q : Row) → In q left → In q (map made now)
+      left_in q m =
+          let g = from_filter (λ row. not (passes row)) q now m in
+          subst (λ (r : Row). In r (map made now)) (ap (λ b. if b then f q else q) (not_true (passes q) g.1)) (in_map made q now g.0)
 
-      from_made : (q : Row) → In q (map made now) → In q (map f hits) ⊎ (In q now × (has row_cmp q hits ≡ false))
+      from_made : (q : Row) → In q (map made now) → In q (map f hits) ⊎ In q left
       from_made q m = let g = from_map made q now m in step g.0 g.1 g.2 (passes g.0) refl
         where
-          step : (x : Row) → In x now → made x ≡ q → (b : Bool) → passes x ≡ b → In q (map f hits) ⊎ (In q now × (has row_cmp q hits ≡ false))
+          step : (x : Row) → In x now → made x ≡ q → (b : Bool) → passes x ≡ b → In q (map f hits) ⊎ In q left
           step x i e true p = inl (subst (λ (r : Row). In r (map f hits)) (sym (ap (λ b. if b then f x else x) p) ∙ e) (in_map f x hits (are.all x i p)))
-          step x i e false p =
-              let same : x ≡ q = sym (ap (λ b. if b then f x else x) p) ∙ e in
-              inr (subst (λ (r : Row). In r now × (has row_cmp r hits ≡ false)) same (i, not_in x hits (λ m. never (passes x) (are.only x m).1 p)))
+          step x i e false p = inr (subst (λ (r : Row). In r left) (sym (ap (λ b. if b then f x else x) p) ∙ e) (in_filter (λ row. not (passes row)) x now i (not_of (passes x) p)))
 
-      updated_row : (q : Row) → (b : Bool) → has row_cmp q (map f hits) ≡ b → (d : Bool) → has row_cmp q hits ≡ d
-          → has row_cmp q (set_of row_cmp (map made now)) ≡ unwrap_or (cond b (Some true) (cond d (Some false) (find q old))) (has row_cmp q stored)
-      updated_row q true e d g = in_has row_cmp row_exact q (set_of row_cmp (map made now)) (in_set row_cmp row_exact q (map made now) (image_in q (has_in row_cmp row_exact q (map f hits) e)))
-      updated_row q false e true g = not_in q (set_of row_cmp (map made now)) (λ m. elim (from_made q (from_set row_cmp row_exact q (map made now) m)) [
-        | inl i ↦ never (has row_cmp q (map f hits)) (in_has row_cmp row_exact q (map f hits) i) e
-        | inr i ↦ never (has row_cmp q hits) g i.1
-      ])
-      updated_row q false e false g = one_truth (has row_cmp q (set_of row_cmp (map made now))) (was q) (λ m. there (from_made q (from_set row_cmp row_exact q (map made now) (has_in row_cmp row_exact q (set_of row_cmp (map made now)) m))))
-          (λ m. in_has row_cmp row_exact q (set_of row_cmp (map made now)) (in_set row_cmp row_exact q (map made now) (stays_in q (has_in row_cmp row_exact q now (leads q ∙ m)) g)))
+      abbrev after : Relation
+      after = set_of row_cmp (map made now)
+
+      pub has_made : (q : Row) → has row_cmp q after ≡ cond (has row_cmp q (map f hits)) true (has row_cmp q left)
+      has_made q = step (has row_cmp q (map f hits)) refl
         where
-          there : In q (map f hits) ⊎ (In q now × (has row_cmp q hits ≡ false)) → was q ≡ true
-          there (inl i) = absurd (never (has row_cmp q (map f hits)) (in_has row_cmp row_exact q (map f hits) i) e)
-          there (inr i) = sym (leads q) ∙ in_has row_cmp row_exact q now i.0
+          step : (b : Bool) → has row_cmp q (map f hits) ≡ b → has row_cmp q after ≡ cond b true (has row_cmp q left)
+          step true e = in_has row_cmp row_exact q after (in_set row_cmp row_exact q (map made now) (image_in q (has_in row_cmp row_exact q (map f hits) e)))
+          step false e = one_truth (has row_cmp q after) (has row_cmp q left)
+              (λ m. elim (from_made q (from_set row_cmp row_exact q (map made now) (has_in row_cmp row_exact q after m))) [
+                | inl i ↦ absurd (never (has row_cmp q (map f hits)) (in_has row_cmp row_exact q (map f hits) i) e)
+                | inr i ↦ in_has row_cmp row_exact q left i
+              ])
+              (λ m. in_has row_cmp row_exact q after (in_set row_cmp row_exact q (map made now) (left_in q (has_in row_cmp row_exact q left m))))
 
-      pub updated : (mid : Known) → ((q : Row) → find q mid ≡ cond (has row_cmp q hits) (Some false) (find q old)) → ((q : Row) → find q new ≡ cond (has row_cmp q (map f hits)) (Some true) (find q mid))
-          → LeadsTo new stored (set_of row_cmp (map made now))
-      updated mid g h = λ q. updated_row q (has row_cmp q (map f hits)) refl (has row_cmp q hits) refl
-          ∙ sym (ap (λ (o : Option Bool). unwrap_or o (has row_cmp q stored)) (h q ∙ ap (λ (o : Option Bool). cond (has row_cmp q (map f hits)) (Some true) o) (g q)))
+-- ---- change by change
+
+module _ (old new : Known) (stored now next : Relation) (leads : LeadsTo old stored now) where
+  pub set_leads : (changes : Row → Bool) (there : Bool) → ((q : Row) → find q new ≡ cond (changes q) (told (has row_cmp q stored) there) (find q old))
+      → ((q : Row) → has row_cmp q next ≡ cond (changes q) there (has row_cmp q now)) → LeadsTo new stored next
+  set_leads changes there h k = λ q.
+      h q ∙ ap (λ (o : Option Bool). cond (changes q) (told (has row_cmp q stored) there) o) (leads q)
+      ∙ one (changes q) (has row_cmp q stored) (has row_cmp q now) ∙ ap (told (has row_cmp q stored)) (sym (k q))
+    where
+      one : (b s n : Bool) → cond b (told s there) (told s n) ≡ told s (cond b there n)
+      one true s n = refl
+      one false s n = refl
+
+-- the rows that the table has are those that are stored
+pub leads_itself : (stored : Relation) → LeadsTo [] stored stored
+leads_itself stored = λ q. sym (told_same (has row_cmp q stored) (has row_cmp q stored) refl)
+
+-- what is told of a row is told of each that is equal to it
+pub one_set : (row q : Row) (stored : Relation) (there : Bool) (w earlier later : Option Bool) → later ≡ cond (is_eq (row_cmp row q)) w earlier → told (has row_cmp row stored) there ≡ w
+    → later ≡ cond (is_eq (row_cmp row q)) (told (has row_cmp q stored) there) earlier
+one_set row q stored there w earlier later e is = e ∙ step (row_cmp row q) refl
+  where
+    step : (o : Ordering) → row_cmp row q ≡ o → cond (is_eq o) w earlier ≡ cond (is_eq o) (told (has row_cmp q stored) there) earlier
+    step Less f = refl
+    step Equal f = sym is ∙ ap (λ (r : Row). told (has row_cmp r stored) there) (row_exact.same row q f)
+    step Greater f = refl
 
 -- ---- what is lost and gained in the end
 
 module _ (known : Known) (stored now : Relation) (ordered : Ascends row_cmp (keys_of known)) (there : Ascends row_cmp stored) (ascends : Ascends row_cmp now) (leads : LeadsTo known stored now) where
   abbrev is_lost : Row × Bool → Bool
-  is_lost e = not e.1 && has row_cmp e.0 stored
+  is_lost e = not e.1
 
   abbrev is_gained : Row × Bool → Bool
-  is_gained e = e.1 && not (has row_cmp e.0 stored)
+  is_gained e = e.1
 
   abbrev lost : Relation
-  lost = lost_by_now known stored
+  lost = lost_by_now known
 
   abbrev gained : Relation
-  gained = gained_by_now known stored
+  gained = gained_by_now known
 
-  says : (row : Row) (b : Bool) → In (row, b) known → has row_cmp row now ≡ b
-  says row b i = leads row ∙ ap (λ (o : Option Bool). unwrap_or o (has row_cmp row stored)) (in_found known row b ordered i)
-
-  pub lost_was : (row : Row) → In row lost → In row stored × (has row_cmp row now ≡ false)
+  lost_was : (row : Row) → In row lost → In row stored × (has row_cmp row now ≡ false)
   lost_was row m =
       let f = picked_is is_lost known row m in
-      let g = both (not f.0) (has row_cmp row stored) f.2 in
-      (has_in row_cmp row_exact row stored g.1, says row f.0 f.1 ∙ not_true f.0 g.0)
+      (has_in row_cmp row_exact row stored (has_stored known stored now ordered leads row f.0 f.1 ∙ f.2), has_now known stored now ordered leads row f.0 f.1 ∙ not_true f.0 f.2)
 
-  pub gained_is : (row : Row) → In row gained → In row now × (has row_cmp row stored ≡ false)
+  gained_is : (row : Row) → In row gained → In row now × (has row_cmp row stored ≡ false)
   gained_is row m =
       let f = picked_is is_gained known row m in
-      let g = both f.0 (not (has row_cmp row stored)) f.2 in
-      (has_in row_cmp row_exact row now (says row f.0 f.1 ∙ g.0), not_true (has row_cmp row stored) g.1)
+      (has_in row_cmp row_exact row now (has_now known stored now ordered leads row f.0 f.1 ∙ f.2), has_stored known stored now ordered leads row f.0 f.1 ∙ ap not f.2)
 
   in_lost : (row : Row) → In row stored → has row_cmp row now ≡ false → In row lost
-  in_lost row i e = step (find row known) refl (sym (leads row) ∙ e)
-    where
-      step : (o : Option Bool) → find row known ≡ o → unwrap_or o (has row_cmp row stored) ≡ false → In row lost
-      step None f k = absurd (never (has row_cmp row stored) (in_has row_cmp row_exact row stored i) k)
-      step (Some true) f k = absurd (cc)
-      step (Some false) f k = is_picked is_lost known row false (found_in known row false f) (in_has row_cmp row_exact row stored i)
+  in_lost row i e = is_picked is_lost known row false
+      (found_in known row false (leads row ∙ ap (λ b. told b (has row_cmp row now)) (in_has row_cmp row_exact row stored i) ∙ ap (told true) e)) refl
 
   in_gained : (row : Row) → In row now → has row_cmp row stored ≡ false → In row gained
-  in_gained row i e = step (find row known) refl (sym (leads row) ∙ in_has row_cmp row_exact row now i)
-    where
-      step : (o : Option Bool) → find row known ≡ o → unwrap_or o (has row_cmp row stored) ≡ true → In row gained
-      step None f k = absurd (never (has row_cmp row stored) k e)
-      step (Some true) f k = is_picked is_gained known row true (found_in known row true f) (not_of (has row_cmp row stored) e)
-      step (Some false) f k = absurd (cc)
-
-  pub lost_ascends : Ascends row_cmp lost
-  lost_ascends = picked is_lost known ordered
-
-  pub gained_ascends : Ascends row_cmp gained
-  gained_ascends = picked is_gained known ordered
+  in_gained row i e = is_picked is_gained known row true
+      (found_in known row true (leads row ∙ ap (λ b. told b (has row_cmp row now)) e ∙ ap (told false) (in_has row_cmp row_exact row now i))) refl
 
   pub lost_are : lost ≡ gained_rows now stored
-  lost_are = one_list row_cmp row_exact lost (gained_rows now stored) lost_ascends (filter_ascends (λ row. not (has row_cmp row now)) stored there) (record {
+  lost_are = one_list row_cmp row_exact lost (gained_rows now stored) (picked is_lost known ordered) (filter_ascends (λ row. not (has row_cmp row now)) stored there) (record {
     there = λ row m. let h = lost_was row m in in_filter (λ r. not (has row_cmp r now)) row stored h.0 (not_of (has row_cmp row now) h.1);
     back = λ row m. let h = from_filter (λ r. not (has row_cmp r now)) row stored m in in_lost row h.0 (not_true (has row_cmp row now) h.1);
   })
 
   pub gained_are : gained ≡ gained_rows stored now
-  gained_are = one_list row_cmp row_exact gained (gained_rows stored now) gained_ascends (filter_ascends (λ row. not (has row_cmp row stored)) now ascends) (record {
+  gained_are = one_list row_cmp row_exact gained (gained_rows stored now) (picked is_gained known ordered) (filter_ascends (λ row. not (has row_cmp row stored)) now ascends) (record {
     there = λ row m. let h = gained_is row m in in_filter (λ r. not (has row_cmp r stored)) row now h.0 (not_of (has row_cmp row stored) h.1);
     back = λ row m. let h = from_filter (λ r. not (has row_cmp r stored)) row now m in in_gained row h.0 (not_true (has row_cmp row stored) h.1);
   })

@@ -1,6 +1,6 @@
 -- Steps of the walks that find the rows that meet a condition.
-use Rattle.std.proofs.Common.{◌≡◌, ℕ, zero, suc, ◌+◌, ◌<◌, Bool, true, false, cond, List, [], ◌∷◌, ◌++◌, length, map, take, get_or, refl, sym, ap, ◌∙◌, subst, arith, append-nil, inl, inr}
-use Rattle.std.specs.Prelude.{All, not, ◌&&◌, if◌then◌else◌, ⊤}
+use Rattle.std.proofs.Common.{◌≡◌, ℕ, zero, suc, ◌+◌, ◌<◌, Bool, true, false, cond, List, [], ◌∷◌, ◌++◌, length, take, get_or, refl, sym, ap, ◌∙◌, subst, arith, append-nil, inl, inr}
+use Rattle.std.specs.Prelude.{All, ◌&&◌, if◌then◌else◌}
 use Rattle.std.specs.List.{filter}
 use Rattle.std.proofs.lemmas.List.{take_more}
 use Rattle.relations.specs.Sets.{In}
@@ -36,29 +36,6 @@ pub lawful_at : (vs : List Val) (i : ℕ) (v : Val) → AreLawful vs → i < len
 lawful_at [] i v a h e = absurd (omega arith)
 lawful_at (w ∷ vs) zero v a h e = subst (λ (x : Val). IsLawful (shown x)) (sym e) a.0
 lawful_at (w ∷ vs) (suc i) v a h e = lawful_at vs i v a.1 (omega arith) e
-
--- a row that is as it was stored is neither lost nor gained
-pub lost_there : (there b : Bool) (row : Row) → (there ≡ b → ⊥) → (if not there && b then row ∷ [] else []) ≡ (if there then [] else row ∷ [])
-lost_there true true row n = absurd (n refl)
-lost_there true false row n = refl
-lost_there false true row n = refl
-lost_there false false row n = absurd (n refl)
-
-pub gained_there : (there b : Bool) (row : Row) → (there ≡ b → ⊥) → (if there && not b then row ∷ [] else []) ≡ (if there then row ∷ [] else [])
-gained_there true true row n = absurd (n refl)
-gained_there true false row n = refl
-gained_there false true row n = refl
-gained_there false false row n = absurd (n refl)
-
-pub not_lost : (there b : Bool) (row : Row) → there ≡ b → (if not there && b then row ∷ [] else []) ≡ []
-not_lost true b row e = refl
-not_lost false true row e = absurd (cc)
-not_lost false false row e = refl
-
-pub not_gained : (there b : Bool) (row : Row) → there ≡ b → (if there && not b then row ∷ [] else []) ≡ []
-not_gained true true row e = refl
-not_gained true false row e = absurd (cc)
-not_gained false b row e = refl
 
 -- a row that is put behind the others, or left out
 pub left_out : (b : Bool) (rows : Relation) (row : Row) → b ≡ false → rows ≡ rows ++ (if b then row ∷ [] else [])

@@ -1,15 +1,13 @@
 -- Walks along what is known of rows, and the rows that are put there one by one.
-use Rattle.std.proofs.Common.{◌≡◌, ℕ, ◌+◌, ◌<◌, Bool, true, false, cond, List, [], ◌∷◌, ◌++◌, length, map, take, get_or, refl, sym, ap, ◌∙◌, subst, append_assoc, append-nil, inl, inr}
-use Rattle.std.specs.Prelude.{not, ◌&&◌, ◌||◌, Option, Some, None, if◌then◌else◌}
+use Rattle.std.proofs.Common.{◌≡◌, Bool, true, false, cond, List, [], ◌∷◌, ◌++◌, refl, sym, ap, ◌∙◌, subst, append-nil}
+use Rattle.std.specs.Prelude.{not, ◌&&◌, ◌||◌, Option, if◌then◌else◌}
 use Rattle.std.specs.List.{filter}
-use Rattle.std.specs.Option.{unwrap_or}
-use Rattle.std.specs.Map.{lookup, keys_of}
-use Rattle.std.specs.BTreeMap.{is_at}
+use Rattle.std.specs.Map.{keys_of}
 use Rattle.std.specs.BTreeMap.Range.{range_contains}
 use Rattle.std.specs.declared.ops.Bound.TheVariants.{Included, Unbounded}
 use Rattle.std.specs.Ordering.{is_eq, is_le}
 use Rattle.std.proofs.lemmas.Cmp.{eq_by_cmp_equiv}
-use Rattle.relations.specs.Sets.{In, Ascends, has}
+use Rattle.relations.specs.Sets.{Ascends, has}
 use Rattle.prima_base.specs.Order.{row_cmp}
 use Rattle.prima_base.specs.OrderLaws.{row_total}
 use Rattle.history_store.specs.Cuts.{Cut, is_before}
@@ -66,15 +64,15 @@ pub has_more : (q row : Row) (rows : Relation) → has row_cmp q (rows ++ row �
 has_more q row [] = elim (is_eq (row_cmp q row)) as (λ b. (b || false) ≡ (false || b)) [ true ↦ refl | false ↦ refl ]
 has_more q row (r ∷ rows) = elim (is_eq (row_cmp q r)) as (λ b. (b || has row_cmp q (rows ++ row ∷ [])) ≡ ((b || has row_cmp q rows) || is_eq (row_cmp q row))) [ true ↦ refl | false ↦ has_more q row rows ]
 
-pub put_more : (q row : Row) (rows : Relation) (there : Bool) (start before after : Option Bool) → before ≡ cond (has row_cmp q rows) (Some there) start → after ≡ cond (is_eq (row_cmp row q)) (Some there) before
-    → after ≡ cond (has row_cmp q (rows ++ row ∷ [])) (Some there) start
-put_more q row rows there start before after e f =
-    f ∙ ap (λ (o : Option Bool). cond (is_eq (row_cmp row q)) (Some there) o) e
-    ∙ ap (λ b. cond b (Some there) (cond (has row_cmp q rows) (Some there) start)) ((eq_by_cmp_equiv row_total).symm row q)
+pub put_more : (q row : Row) (rows : Relation) (w start before after : Option Bool) → before ≡ cond (has row_cmp q rows) w start → after ≡ cond (is_eq (row_cmp row q)) w before
+    → after ≡ cond (has row_cmp q (rows ++ row ∷ [])) w start
+put_more q row rows w start before after e f =
+    f ∙ ap (λ (o : Option Bool). cond (is_eq (row_cmp row q)) w o) e
+    ∙ ap (λ b. cond b w (cond (has row_cmp q rows) w start)) ((eq_by_cmp_equiv row_total).symm row q)
     ∙ either (has row_cmp q rows) (is_eq (row_cmp q row))
-    ∙ ap (λ b. cond b (Some there) start) (sym (has_more q row rows))
+    ∙ ap (λ b. cond b w start) (sym (has_more q row rows))
   where
-    either : (a b : Bool) → cond b (Some there) (cond a (Some there) start) ≡ cond (a || b) (Some there) start
+    either : (a b : Bool) → cond b w (cond a w start) ≡ cond (a || b) w start
     either true true = refl
     either true false = refl
     either false true = refl
@@ -82,8 +80,9 @@ put_more q row rows there start before after e f =
 
 -- ---- what is lost and gained, entry by entry
 
-pub lost_more : (known : Known) (row : Row) (there : Bool) (stored : Relation) → lost_by_now (known ++ (row, there) ∷ []) stored ≡ lost_by_now known stored ++ (if not there && has row_cmp row stored then row ∷ [] else [])
-lost_more known row there stored = picked_more (λ (e : Row × Bool). not e.1 && has row_cmp e.0 stored) known (row, there)
+pub lost_more : (known : Known) (row : Row) (there : Bool) → lost_by_now (known ++ (row, there) ∷ []) ≡ lost_by_now known ++ (if there then [] else row ∷ [])
+lost_more known row there = picked_more (λ (e : Row × Bool). not e.1) known (row, there)
+    ∙ ap (λ (rows : Relation). lost_by_now known ++ rows) (elim there as (λ b. (if not b then row ∷ [] else []) ≡ (if b then [] else row ∷ [])) [ true ↦ refl | false ↦ refl ])
 
-pub gained_more : (known : Known) (row : Row) (there : Bool) (stored : Relation) → gained_by_now (known ++ (row, there) ∷ []) stored ≡ gained_by_now known stored ++ (if there && not (has row_cmp row stored) then row ∷ [] else [])
-gained_more known row there stored = picked_more (λ (e : Row × Bool). e.1 && not (has row_cmp e.0 stored)) known (row, there)
+pub gained_more : (known : Known) (row : Row) (there : Bool) → gained_by_now (known ++ (row, there) ∷ []) ≡ gained_by_now known ++ (if there then row ∷ [] else [])
+gained_more known row there = picked_more (λ (e : Row × Bool). e.1) known (row, there)

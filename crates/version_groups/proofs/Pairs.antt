@@ -1,7 +1,6 @@
 -- Stored tables of the same names, one by one.
-use Rattle.std.proofs.Common.{◌≡◌, ◌≤◌, ◌<◌, ◌+◌, ℕ, suc, Bool, true, false, cond, List, [], ◌∷◌, length, get_or, refl, sym, ap, subst, ◌∙◌, arith, inl, inr}
-use Rattle.std.specs.Prelude.{Option, Some, None, ◌⊎◌}
-use Rattle.history_store.specs.Store.{Store}
+use Rattle.std.proofs.Common.{◌≡◌, ◌<◌, ℕ, suc, Bool, true, false, cond, List, [], ◌∷◌, length, get_or, refl, ap, ◌∙◌, arith, inl, inr}
+use Rattle.std.specs.Prelude.{Some, None, ◌⊎◌}
 use Rattle.smo_meaning.specs.OneRow.{same}
 use Rattle.smo_meaning.proofs.NameLaws.{same_is}
 use Rattle.version_groups.specs.declared.made_tables.MadeTable.{MadeTable}

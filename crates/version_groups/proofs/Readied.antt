@@ -1,6 +1,6 @@
 -- What was made ready, of a past that is shown.
-use Rattle.std.proofs.Common.{◌≡◌, ◌≤◌, ◌<◌, ◌+◌, ℕ, suc, zero, Bool, true, false, List, [], ◌∷◌, ◌++◌, map, length, get_or, refl, sym, ap, subst, ◌∙◌, arith, inl, inr}
-use Rattle.std.specs.Prelude.{Option, Some, None, ◌⊎◌, ◌^◌, nat_lt, Result, Ok, Err, OnOk}
+use Rattle.std.proofs.Common.{◌≡◌, ◌≤◌, ◌<◌, ℕ, suc, zero, List, [], ◌∷◌, map, length, get_or, refl, sym, ap, subst, ◌∙◌, arith, inl, inr}
+use Rattle.std.specs.Prelude.{Option, Some, None, nat_lt, Result, Ok, Err, OnOk}
 use Rattle.std.specs.Result.{result_err}
 use Rattle.std.specs.Option.{option_map}
 use Rattle.std.specs.FinMap.{get, get-empty}
@@ -9,7 +9,7 @@ use Rattle.relations.specs.Spans.{forever}
 use Rattle.prima_base.specs.Order.{bytes_cmp}
 use Rattle.prima_base.specs.Columns.{Column}
 use Rattle.schema_catalog.specs.Tables.{Tables}
-use Rattle.history_store.specs.Store.{Store, relation_at}
+use Rattle.history_store.specs.Store.{Store}
 use Rattle.history_store.specs.Change.{Plan}
 use Rattle.smo_types.specs.declared.commands.Body.{Body}
 use Rattle.smo_types.specs.declared.versions.Version.{Version}
@@ -26,42 +26,43 @@ use Rattle.std.proofs.lemmas.Bool.Decides.{nat_tests}
 use Rattle.smo_meaning.proofs.Firsts.{met, none_of_first, none_mapped}
 use Rattle.smo_meaning.proofs.CountedOperators.{counted_operator}
 use Rattle.smo_types.specs.Changes.{PlainChange}
-use Rattle.smo_types.specs.Commands.{PlainBody, changing, evolving, PlainCommand, PlainVersion, version_of, body_of, command_of}
+use Rattle.smo_types.specs.Commands.{PlainBody, changing, evolving, version_of, body_of, command_of}
 use Rattle.smo_types.specs.Operators.{Operator}
-use Rattle.smo_meaning.specs.Past.{Past, beginning, no_tables, newest_from, tables_of, version_at, newest_tables, newest_database, next_version, database_behind}
-use Rattle.smo_meaning.proofs.PastSteps.{beginning_is_past, body_accepted, counts_accepted}
+use Rattle.smo_meaning.specs.Past.{Past, beginning, no_tables, newest_from, tables_of, newest_tables, newest_database, database_behind}
+use Rattle.smo_meaning.proofs.PastSteps.{beginning_is_past, body_accepted}
 use Rattle.smo_meaning.proofs.ValueLaws.{beginning_holds}
 use Rattle.version_groups.specs.declared.made_tables.MadeTable.{MadeTable}
-use Rattle.version_groups.specs.declared.next.Step.{Step}
-use Rattle.version_groups.specs.Groups.{Kept, versions_in, group_of, newest_group, table_in, stored_as, names_of}
+use Rattle.version_groups.specs.Groups.{Kept, group_of, newest_group, table_in, stored_as, names_of}
 use Rattle.version_groups.specs.Showing.{ShowsTable, ShowsEntry, Shows}
 use Rattle.version_groups.specs.Room.{IsSameTable, AreSameTables, IsSame}
 use Rattle.version_groups.specs.Changing.{AreChangeable, AreReady, all_gained, all_lost}
 use Rattle.version_groups.specs.Evolving.{IsEvolved}
 use Rattle.version_groups.specs.Standing.{AreStored}
-use Rattle.version_groups.specs.Steps.{a_command, step_of, changed, evolved, AreChanges, IsNextVersion, IsStep, Readied, IsReady, Prepares}
+use Rattle.version_groups.specs.Steps.{a_command, step_of, changed, evolved, AreChanges, IsStep, Readied, Prepares}
 use Rattle.version_groups.proofs.Becoming.{same_relation, same_before, same_columns}
 use Rattle.version_groups.proofs.CarriedOut.{as_many}
-use Rattle.version_groups.proofs.Installed.{Follows, entry_follows}
+use Rattle.version_groups.proofs.Installed.{entry_follows}
 use Rattle.version_groups.proofs.Newest.{stands, changeable, are_changes, counts}
-use Rattle.version_groups.proofs.Pairs.{Found, Paired, paired}
+use Rattle.version_groups.proofs.Pairs.{Paired, paired}
 use Rattle.version_groups.proofs.TablesInTurn.{same_table, same_behind}
+use Rattle.version_groups.specs.Places.{at_places}
+use Rattle.version_groups.proofs.Places.{same_at}
 
 -- ---- nothing was accepted
 
-none_stored : (k : ℕ) (name : List ℕ) (groups : List (List MadeTable)) → groups ≡ [] ∷ [] → stored_as name (get_or groups k []) ≡ None
-none_stored zero name groups e = ap (λ (gs : List (List MadeTable)). stored_as name (get_or gs 0 [])) e
-none_stored (suc k) name groups e = ap (λ (gs : List (List MadeTable)). stored_as name (get_or gs (suc k) [])) e
+none_stored : (k : ℕ) (name : List ℕ) (tables : List MadeTable) (places : List (List ℕ)) → places ≡ [] ∷ [] → stored_as name (at_places tables (get_or places k [])) ≡ None
+none_stored zero name tables places e = ap (λ (ps : List (List ℕ)). stored_as name (at_places tables (get_or ps 0 []))) e
+none_stored (suc k) name tables places e = ap (λ (ps : List (List ℕ)). stored_as name (at_places tables (get_or ps (suc k) []))) e
 
-pub new_shows : (kept : Kept) → kept.versions ≡ [] → kept.groups ≡ [] ∷ [] → Shows kept beginning
-new_shows kept versions groups = record {
+pub new_shows : (kept : Kept) → kept.versions ≡ [] → kept.places ≡ [] ∷ [] → Shows kept beginning
+new_shows kept versions places = record {
   lawful = beginning_is_past;
   values = beginning_holds;
   ends = omega arith;
   versions = ap (map version_of) versions;
   tables = λ k name l.
       subst (λ (o : Option (List Column)). ShowsEntry beginning k name o (table_in kept k name)) (sym (get-empty bytes_cmp name))
-      (subst (λ (s : Option Store). ShowsEntry beginning k name None s) (sym (none_stored k name kept.groups groups)) tt);
+      (subst (λ (s : Option Store). ShowsEntry beginning k name None s) (sym (none_stored k name kept.stored kept.places places)) tt);
 }
 
 -- ---- what is as it was shows what it showed
@@ -75,13 +76,17 @@ still_shown past k name t u same columns h =
       stamps = λ m own l. same_before t.store u.store n same.store m (h.stamps m own l);
     }
 
+pub same_groups : (old new : Kept) → IsSame old new → (k : ℕ) → AreSameTables (group_of old k) (group_of new k)
+same_groups old new same k =
+    subst (λ (ps : List (List ℕ)). AreSameTables (group_of old k) (at_places new.stored (get_or ps k []))) (sym same.places) (same_at old.stored new.stored (get_or old.places k []) same.stored)
+
 pub shows_same : (old new : Kept) → IsSame old new → (past : Past) → Shows old past → Shows new past
 shows_same old new same past shows = record {
   lawful = shows.lawful;
   values = shows.values;
   ends = shows.ends;
   versions = ap (map version_of) same.versions ∙ shows.versions;
-  tables = λ k name l. entry k name (paired IsSameTable (λ t u h. h.name) name (group_of old k) (group_of new k) (same.groups k).count (same.groups k).each) (shows.tables k name l);
+  tables = λ k name l. let group = same_groups old new same k in entry k name (paired IsSameTable (λ t u h. h.name) name (group_of old k) (group_of new k) group.count group.each) (shows.tables k name l);
 }
   where
     entry : (k : ℕ) (name : List ℕ) → Paired IsSameTable name (group_of old k) (group_of new k) → ShowsEntry past k name (get (tables_of past k) name) (table_in old k name)
@@ -95,7 +100,7 @@ shows_same old new same past shows = record {
         (subst (λ (s : Option Store). ShowsEntry past k name (get (tables_of past k) name) s) f.was h))
 
 pub is_same : (kept : Kept) → IsSame kept kept
-is_same kept = record { versions = refl; count = refl; groups = λ k. record { count = refl; each = λ j d l. same_table (get_or (group_of kept k) j d) }; spare = omega arith }
+is_same kept = record { versions = refl; places = refl; stored = record { count = refl; each = λ j d l. same_table (get_or kept.stored j d) }; spare = omega arith; beginnings = omega arith }
 
 -- ---- changes
 
@@ -121,7 +126,7 @@ module _ (kept : Kept) (past : Past) (stamp : ℕ) (changes : List PlainChange) 
       let stored = stands kept past stamp (changing changes) shows lawful accepted in
       let own = body_accepted past (a_command stamp (changing changes)) accepted in
       let c = counts (newest_tables past) (newest_database past) stamp (group_of kept n) in_order stored shows.lawful.tables.schema shows.lawful.database changes own in
-      let group = same.groups n in
+      let group = same_groups kept new same n in
       record {
         ready = record {
           accepted = accepted;
@@ -180,22 +185,27 @@ module _ (kept : Kept) (past : Past) (stamp : ℕ) (op : Operator) (inverse : Li
   pub stored_now : AreStored (newest_tables past) (newest_database past) stamp (newest_group kept)
   stored_now = subst (λ j. AreStored (newest_tables past) (newest_database past) stamp (group_of kept j)) (sym (as_many kept past shows)) (stands kept past stamp (evolving op inverse) shows lawful accepted)
 
-  pub operator_ready : BodyHolds (evolving op inverse) → (new : Kept) → IsSame kept new → 1 ≤ new.spare → (version : Version) (tables : List MadeTable)
-      → IsEvolved (newest_tables past) (newest_database past) stamp op inverse (version_of version) tables → (next : Readied) → step_of next.step ≡ evolved (version_of version) tables
+  pub operator_ready : BodyHolds (evolving op inverse) → (new : Kept) → IsSame kept new → new.stored ≡ kept.stored → 1 ≤ new.spare → (version : Version) (begun : List MadeTable) (places : List ℕ)
+      → length begun ≤ new.beginnings → IsEvolved kept.stored (newest_tables past) (newest_database past) stamp op inverse (version_of version) begun places
+      → (next : Readied) → step_of next.step ≡ evolved (version_of version) begun places
       → next.gained ≡ 0 → next.lost ≡ 0 → Prepares new past (a_command stamp (evolving op inverse)) next
-  operator_ready hold new same room version tables h next is g l = record {
-    ready = record {
-      accepted = accepted;
-      lawful = lawful;
-      constants = hold;
-      step = subst (IsStep new past stamp (evolving op inverse)) (sym is) (record {
-        version = h.version;
-        ordered = h.ordered;
-        tables = h.tables;
-        room = room;
-        fits = (let few = few_versions in let e = ap length same.versions in let n = as_many kept past shows in omega (arith, few, e, n));
-      });
-    };
-    gained = g;
-    lost = l;
-  }
+  operator_ready hold new same stored room version begun places beginnings e next is g l =
+      let h = subst (λ (ts : List MadeTable). IsEvolved ts (newest_tables past) (newest_database past) stamp op inverse (version_of version) begun places) (sym stored) e in
+      record {
+        ready = record {
+          accepted = accepted;
+          lawful = lawful;
+          constants = hold;
+          step = subst (IsStep new past stamp (evolving op inverse)) (sym is) (record {
+            version = h.version;
+            there = h.tables.there;
+            ordered = h.tables.ordered;
+            tables = h.tables.tables;
+            room = room;
+            beginnings = beginnings;
+            fits = (let few = few_versions in let e = ap length same.versions in let n = as_many kept past shows in omega (arith, few, e, n));
+          });
+        };
+        gained = g;
+        lost = l;
+      }

@@ -1,18 +1,15 @@
 -- The changes of a command, table by table: what each table is accepted to have, and what the database has of it behind
 -- them.
-use Rattle.std.proofs.Common.{◌≡◌, ◌≤◌, ◌<◌, ◌+◌, ℕ, suc, zero, Bool, true, false, cond, List, [], ◌∷◌, length, get_or, refl, sym, ap, subst, ◌∙◌, arith, inl, inr}
-use Rattle.std.specs.Prelude.{Option, Some, None, ◌⊎◌}
+use Rattle.std.proofs.Common.{◌≡◌, ◌<◌, ◌+◌, ℕ, suc, zero, Bool, true, false, cond, List, [], ◌∷◌, length, get_or, refl, ap, subst, ◌∙◌, arith}
+use Rattle.std.specs.Prelude.{Option, Some, None}
 use Rattle.std.specs.Option.{unwrap_or}
-use Rattle.std.specs.Ordering.{eq_by_cmp}
 use Rattle.std.specs.Cmp.Lexicographic.{nat_list_cmp_total}
 use Rattle.std.specs.FinMap.{get, insert, get-insert}
-use Rattle.relations.specs.Sets.{In, BeforeAll, Ascends}
-use Rattle.relations.proofs.SetLaws.{before_in}
+use Rattle.relations.specs.Sets.{BeforeAll, Ascends}
 use Rattle.prima_base.specs.Order.{bytes_cmp}
-use Rattle.prima_base.specs.Columns.{Column, AreColumns}
+use Rattle.prima_base.specs.Columns.{Column}
 use Rattle.schema_catalog.specs.Tables.{Tables}
-use Rattle.schema_catalog.specs.Databases.{Database, Entry, Rows, Lost}
-use Rattle.history_store.specs.Store.{Store}
+use Rattle.schema_catalog.specs.Databases.{Database, Entry, Rows}
 use Rattle.smo_meaning.specs.First.{first_refusal}
 use Rattle.smo_types.specs.Changes.{PlainChange, table_of}
 use Rattle.smo_meaning.specs.Checks.{table_fault, tests_behind, change_tests, changes_tests, change_nodes}

@@ -1,17 +1,17 @@
 -- The rows that the tables gain and lose are those of the database.
-use Rattle.std.proofs.Common.{◌≡◌, ◌≤◌, ◌<◌, ◌+◌, ℕ, Bool, true, false, cond, List, [], ◌∷◌, length, refl, sym, ap, subst, ◌∙◌, arith, inl, inr}
-use Rattle.std.specs.Prelude.{Option, Some, None, ◌⊎◌, ⊤}
-use Rattle.std.specs.FinMap.{get, insert, get-insert, same_map, slice_cmp-IsAntisymmetric, nat_cmp-IsAntisymmetric}
+use Rattle.std.proofs.Common.{◌≡◌, ◌+◌, ℕ, Bool, true, false, cond, List, [], ◌∷◌, length, refl, sym, ap, ◌∙◌, arith}
+use Rattle.std.specs.Prelude.{Option, Some, None, ⊤}
+use Rattle.std.specs.FinMap.{get, insert, get-insert}
 use Rattle.std.specs.Cmp.Lexicographic.{nat_list_cmp_total}
 use Rattle.relations.specs.Sets.{BeforeAll, Ascends}
 use Rattle.prima_base.specs.Order.{bytes_cmp}
-use Rattle.schema_catalog.specs.Databases.{Database, Entry, Rows, Lost}
+use Rattle.schema_catalog.specs.Databases.{Database, Entry, Rows}
 use Rattle.history_store.specs.Store.{Store}
 use Rattle.smo_types.specs.Changes.{PlainChange}
-use Rattle.smo_meaning.specs.Effects.{gained, lost, gained_rows, rows_at, rows_of}
+use Rattle.smo_meaning.specs.Effects.{gained, lost, gained_rows}
 use Rattle.smo_meaning.specs.OneRow.{Relation, same}
-use Rattle.smo_meaning.proofs.CountingLaws.{gains_nothing, self_gains_nothing, gained_step, lost_with}
-use Rattle.smo_meaning.proofs.NameLaws.{same_itself, same_is, same_not, same_turned}
+use Rattle.smo_meaning.proofs.CountingLaws.{gains_nothing, gained_step, lost_with}
+use Rattle.smo_meaning.proofs.NameLaws.{same_is, same_not, same_turned}
 use Rattle.version_groups.specs.declared.made_tables.MadeTable.{MadeTable}
 use Rattle.version_groups.specs.Groups.{stored_as, names_of}
 use Rattle.version_groups.specs.Changing.{rows_now, rows_behind, all_gained, all_lost}

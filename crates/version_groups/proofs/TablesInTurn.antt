@@ -1,16 +1,14 @@
 -- Tables whose changes are made ready, or made, one after the other.
-use Rattle.std.proofs.Common.{◌≡◌, ◌≢◌, ◌≤◌, ◌<◌, ◌+◌, ℕ, suc, zero, Bool, true, false, cond, List, [], ◌∷◌, ◌++◌, length, drop, get_or, refl, sym, ap, subst, ◌∙◌, arith, inl, inr, length-append, get_or-set_same, get_or-set_other}
-use Rattle.std.specs.Prelude.{Option, Some, None, ◌⊎◌, nat_lt}
+use Rattle.std.proofs.Common.{◌≡◌, ◌≤◌, ◌<◌, ◌+◌, ℕ, suc, zero, false, List, [], ◌∷◌, ◌++◌, length, drop, get_or, refl, sym, ap, subst, ◌∙◌, arith, inl, inr, length-append, get_or-set_same, get_or-set_other}
+use Rattle.std.specs.Prelude.{Option, None, ◌⊎◌, nat_lt}
 use Rattle.std.proofs.lemmas.Bool.Decides.{nat_tests}
 use Rattle.std.proofs.Math.ListN.{set, length-set, drop_of_length-le}
 use Rattle.std.proofs.Math.Seq.{get_or-append_seam}
-use Rattle.std.proofs.lemmas.List.{get_or_append_left, get_or_default, get_or_read}
-use Rattle.history_store.specs.Store.{Store, relation_at}
+use Rattle.std.proofs.lemmas.List.{get_or_append_left, get_or_read}
 use Rattle.history_store.specs.Change.{Plan}
 use Rattle.smo_types.specs.Changes.{PlainChange}
 use Rattle.smo_meaning.specs.Effects.{gained_rows}
 use Rattle.smo_meaning.specs.Inserting.{relation_after_each}
-use Rattle.smo_meaning.specs.OneRow.{Relation}
 use Rattle.smo_meaning.proofs.CountingLaws.{gains_nothing}
 use Rattle.smo_meaning.proofs.Firsts.{drop_at}
 use Rattle.version_groups.specs.declared.made_tables.MadeTable.{MadeTable}

@@ -1,8 +1,5 @@
 -- The versions that are kept, and those of a past.
-use Rattle.std.proofs.Common.{◌≡◌, ◌≤◌, ◌<◌, ◌+◌, ℕ, suc, zero, Bool, true, false, cond, List, [], ◌∷◌, ◌++◌, map, length, drop, get_or, refl, sym, ap, subst, ◌∙◌, arith}
-use Rattle.std.specs.Prelude.{Option, Some, None, nat_le}
-use Rattle.std.specs.List.{filter}
-use Rattle.std.proofs.lemmas.List.{length-map}
+use Rattle.std.proofs.Common.{◌≡◌, ◌<◌, ◌+◌, ℕ, suc, zero, List, [], ◌∷◌, map, length, get_or, refl, ap, arith}
 use Rattle.schema_catalog.specs.Tables.{Tables}
 use Rattle.smo_types.specs.declared.versions.Version.{Version}
 use Rattle.smo_types.specs.Commands.{PlainVersion, version_of}

@@ -1,3 +1,5 @@
+pub mod Stored
+pub mod Places
 pub mod Groups
 pub mod GroupFields
 pub mod Showing

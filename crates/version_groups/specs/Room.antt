@@ -1,9 +1,7 @@
 -- What is as it was, with no less room.
 use Rattle.std.specs.Prelude.{◌≡◌, ℕ, ◌<◌, ◌≤◌, List, length, slice_index_or}
-use Rattle.history_store.specs.Store.{Store}
-use Rattle.smo_types.specs.Commands.{PlainVersion}
 use Rattle.version_groups.specs.declared.made_tables.MadeTable.{MadeTable}
-use Rattle.version_groups.specs.Groups.{Kept, group_of}
+use Rattle.version_groups.specs.Groups.{Kept}
 
 -- the same columns, keys and entries
 pub record IsSameTable (old new : MadeTable) : Type 0 where
@@ -19,6 +17,7 @@ pub record AreSameTables (old new : List MadeTable) : Type 0 where
 -- the same versions, and the same stored tables of each
 pub record IsSame (old new : Kept) : Type 0 where
   pub versions : new.versions ≡ old.versions
-  pub count : length new.groups ≡ length old.groups
-  pub groups : (k : ℕ) → AreSameTables (group_of old k) (group_of new k)
+  pub places : new.places ≡ old.places
+  pub stored : AreSameTables old.stored new.stored
   pub spare : old.spare ≤ new.spare
+  pub beginnings : old.beginnings ≤ new.beginnings

@@ -1,5 +1,5 @@
 -- The stored tables of the newest version, and those of the next.
-use Rattle.std.specs.Prelude.{◌≡◌, ℕ, Bool, false, List, [], ◌∷◌, Option, Some, None, ⊤, if◌then◌else◌}
+use Rattle.std.specs.Prelude.{◌≡◌, ℕ, Bool, false, List, [], Option, Some, None, ⊤, if◌then◌else◌}
 use Rattle.std.specs.FinMap.{get}
 use Rattle.prima_base.specs.Columns.{Column, IsRelation}
 use Rattle.schema_catalog.specs.Tables.{Tables}
@@ -49,3 +49,13 @@ next_rows made stamp tables name = if is_name made.first name then made.rows els
 -- each table of the next version has a relation of its columns
 abbrev pub FitNext : Tables → MadeRows → ℕ → List MadeTable → Type 0
 FitNext next made stamp tables = (name : List ℕ) → (columns : List Column) → get next name ≡ Some columns → IsRelation columns (next_rows made stamp tables name)
+
+-- a table of these columns is stored, and each of its stamps is earlier
+abbrev pub IsStoredBefore : ℕ → List Column → Option Store → Type 0
+IsStoredBefore stamp columns None = ⊥
+IsStoredBefore stamp columns (Some store) = (store.columns ≡ columns) × AllBefore store stamp
+
+-- each table of the next version that is not made is stored
+abbrev pub OthersStay : Tables → MadeRows → ℕ → List MadeTable → Type 0
+OthersStay next made stamp tables = (name : List ℕ) → (columns : List Column) → get next name ≡ Some columns
+    → is_name made.first name ≡ false → is_name made.second name ≡ false → IsStoredBefore stamp columns (stored_as name tables)

@@ -1,5 +1,5 @@
 -- What a command does to groups, made ready.
-use Rattle.std.specs.Prelude.{◌≡◌, ℕ, ◌+◌, ◌<◌, ◌≤◌, ◌^◌, List, [], ◌∷◌, map, length, slice_index_or, Option, Some, None, ⊤}
+use Rattle.std.specs.Prelude.{◌≡◌, ℕ, ◌+◌, ◌<◌, ◌≤◌, ◌^◌, List, ◌++◌, length, slice_index_or, Option, Some, None, ⊤}
 use Rattle.std.specs.FinMap.{get}
 use Rattle.relations.specs.Sets.{Ascends}
 use Rattle.relations.specs.Spans.{forever}
@@ -13,21 +13,23 @@ use Rattle.smo_meaning.specs.LawfulValues.{BodyHolds}
 use Rattle.smo_types.specs.Commands.{PlainBody, changing, evolving, PlainCommand, PlainVersion, version_of}
 use Rattle.smo_meaning.specs.Effects.{rows_at, gained, lost}
 use Rattle.smo_meaning.specs.OneRow.{Relation}
-use Rattle.smo_meaning.specs.Past.{Past, newest_tables, newest_database, next_version, database_behind}
+use Rattle.smo_meaning.specs.Past.{Past, newest_database, next_version, database_behind}
 use Rattle.version_groups.specs.declared.made_tables.MadeTable.{MadeTable}
 use Rattle.version_groups.specs.declared.next.Step.{Step}
 use Rattle.version_groups.specs.declared.next.Step.TheVariants.{Changed, Evolved}
 use Rattle.version_groups.specs.Groups.{Kept, group_of, stored_as, names_of}
 use Rattle.version_groups.specs.Becoming.{Begins, Leads}
+use Rattle.version_groups.specs.Places.{at_places, AreWithin}
 
--- a change of each table of the newest version, or none; or the next version, and its tables
+-- a change of each table of the newest version, or none; or the next version, the tables that begin with it, and the places of its
+-- own among all
 pub data PlainStep : Type 0 where
   changed : List (Option Plan) → PlainStep
-  evolved : PlainVersion → List MadeTable → PlainStep
+  evolved : PlainVersion → List MadeTable → List ℕ → PlainStep
 
 abbrev pub step_of : Step → PlainStep
 step_of (Changed plans) = changed plans.items
-step_of (Evolved version tables) = evolved (version_of version) tables.items
+step_of (Evolved version begun places) = evolved (version_of version) begun.items places.items
 
 -- how many rows are gained and lost, and what is to be done
 pub record Readied : Type 0 where
@@ -49,19 +51,21 @@ BeginsEntry stamp rows (Some columns) None = ⊥
 BeginsEntry stamp rows (Some columns) (Some store) = Begins columns stamp rows store
 
 -- the next version, with its tables in the order of their names, and the room for it
-pub record IsNextVersion (kept : Kept) (due : PlainVersion) (next : Database) (made : PlainVersion) (begun : List MadeTable) : Type 0 where
+pub record IsNextVersion (kept : Kept) (due : PlainVersion) (next : Database) (made : PlainVersion) (begun : List MadeTable) (places : List ℕ) : Type 0 where
   pub version : made ≡ due
-  pub ordered : Ascends bytes_cmp (names_of begun)
-  pub tables : (name : List ℕ) → BeginsEntry due.stamp (rows_at (get next name)) (get due.tables name) (stored_as name begun)
+  pub there : AreWithin places (length kept.stored + length begun)
+  pub ordered : Ascends bytes_cmp (names_of (at_places (kept.stored ++ begun) places))
+  pub tables : (name : List ℕ) → BeginsEntry due.stamp (rows_at (get next name)) (get due.tables name) (stored_as name (at_places (kept.stored ++ begun) places))
   pub room : 1 ≤ kept.spare
+  pub beginnings : length begun ≤ kept.beginnings
   pub fits : length kept.versions + 1 < 2 ^ 32
 
 abbrev pub IsStep : Kept → Past → ℕ → PlainBody → PlainStep → Type 0
 IsStep kept past stamp (changing changes) (changed plans) = AreChanges stamp (database_behind (changing changes) past) (group_of kept (length kept.versions)) plans
-IsStep kept past stamp (changing changes) (evolved version tables) = ⊥
+IsStep kept past stamp (changing changes) (evolved version begun places) = ⊥
 IsStep kept past stamp (evolving op inverse) (changed plans) = ⊥
-IsStep kept past stamp (evolving op inverse) (evolved version tables) =
-    IsNextVersion kept (next_version stamp op inverse past) (database_behind (evolving op inverse) past) version tables
+IsStep kept past stamp (evolving op inverse) (evolved version begun places) =
+    IsNextVersion kept (next_version stamp op inverse past) (database_behind (evolving op inverse) past) version begun places
 
 -- the command is accepted after the past, its constants are lawful values, and what it does was made ready from these
 -- groups, which have the room for it

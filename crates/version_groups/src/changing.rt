@@ -1,12 +1,17 @@
 //! What the changes of a command make of the tables of the newest version.
 
-ghost use Rattle.std.specs.Prelude.{◌≡◌, ◌+◌, ◌<◌, length, IfOk};
+ghost use Rattle.std.specs.Prelude.{◌≡◌, ◌+◌, ◌-◌, ◌<◌, ◌≤◌, length, IfOk, vec_len, vec_capacity};
+ghost use Rattle.relations.specs.Sets.{Ascends};
 ghost use Rattle.relations.specs.Spans.{forever};
+ghost use Rattle.prima_base.specs.Order.{bytes_cmp};
 ghost use Rattle.smo_types.specs.Changes.{changes_of};
 ghost use Rattle.smo_meaning.specs.Effects.{gained_rows};
 ghost use Rattle.version_groups.specs.Becoming.{IsChange, Leads, IsMade, HasRoom};
 ghost use Rattle.version_groups.specs.Changing.{IsChangeable, AreChangeable, AreReady, HaveRoom, AreMade, rows_now, rows_behind, all_gained, all_lost, gained_by, lost_by};
 ghost use Rattle.version_groups.specs.Room.{IsSameTable, AreSameTables};
+ghost use Rattle.version_groups.specs.Groups.{names_of};
+ghost use Rattle.version_groups.specs.Places.{at_places, AreWithin};
+ghost use Rattle.version_groups.specs.Installing.{AreMadeBy};
 
 use crate::changes::{is_touched, prepare_table};
 use crate::made_tables::MadeTable;
@@ -105,28 +110,32 @@ fn sum(a: u64, b: u64) -> Result<u64, NoMemory>
     }
 }
 
-/// Makes the changes of each table ready, from the stamp on, and all the room that installing them needs. Only tables
-/// that a change is of are looked at. The one error is `NoMemory`, where memory runs out. What the tables stand for stays
-/// as it is.
+/// Makes the changes of each table at these places ready, from the stamp on, and all the room that installing them needs.
+/// Only tables that a change is of are looked at. The one error is `NoMemory`, where memory runs out. What the tables
+/// stand for stays as it is.
 pub(crate) fn prepare_tables(
     alloc: Global,
     schema: &Schema,
     tables: &mut Vec<MadeTable>,
+    places: &[usize],
     stamp: u64,
     changes: &[Change],
 ) -> Result<Changes, NoMemory>
-    requires changeable { AreChangeable schema.now stamp (changes_of changes.now) tables.old.items }
+    requires there { AreWithin places.now (length tables.old.items) }
+    requires ordered { Ascends bytes_cmp (names_of (at_places tables.old.items places.now)) }
+    requires changeable { AreChangeable schema.now stamp (changes_of changes.now) (at_places tables.old.items places.now) }
     requires lawful { stamp < forever }
     ensures same { AreSameTables tables.old.items tables.new.items }
-    ensures ready { IfOk result (λ c. AreReady stamp (changes_of changes.now) tables.new.items c.plans.items) }
-    ensures gained { IfOk result (λ c. c.gained ≡ all_gained stamp (changes_of changes.now) tables.old.items) }
-    ensures lost { IfOk result (λ c. c.lost ≡ all_lost stamp (changes_of changes.now) tables.old.items) }
+    ensures room { vec_capacity tables.old - vec_len tables.old ≤ vec_capacity tables.new - vec_len tables.new }
+    ensures ready { IfOk result (λ c. AreReady stamp (changes_of changes.now) (at_places tables.new.items places.now) c.plans.items) }
+    ensures gained { IfOk result (λ c. c.gained ≡ all_gained stamp (changes_of changes.now) (at_places tables.old.items places.now)) }
+    ensures lost { IfOk result (λ c. c.lost ≡ all_lost stamp (changes_of changes.now) (at_places tables.old.items places.now)) }
 {
-    let mut plans = Vec::with_capacity(alloc, tables.len())?;
+    let mut plans = Vec::with_capacity(alloc, places.len())?;
     let mut gained = 0;
     let mut lost = 0;
-    for i in 0..tables.len() {
-        let plan = prepare_one(alloc, schema, &mut tables[i], stamp, changes)?;
+    for i in 0..places.len() {
+        let plan = prepare_one(alloc, schema, &mut tables[places[i]], stamp, changes)?;
         gained = sum(gained, gained_by(&plan))?;
         lost = sum(lost, lost_by(&plan))?;
         plans.push(plan)?;
@@ -149,14 +158,21 @@ fn install_one(table: &mut MadeTable, plan: Option<Prepared>)
     }
 }
 
-/// Makes the changes that are ready. It takes no memory.
-pub(crate) fn install_tables(tables: &mut Vec<MadeTable>, plans: Vec<Option<Prepared>>)
-    requires { HaveRoom tables.old.items plans.items }
-    ensures { AreMade tables.old.items plans.items tables.new.items }
+/// Makes the changes that are ready of the tables at these places. It takes no memory.
+pub(crate) fn install_tables(
+    tables: &mut Vec<MadeTable>,
+    places: &[usize],
+    plans: Vec<Option<Prepared>>,
+)
+    requires there { AreWithin places.now (length tables.old.items) }
+    requires ordered { Ascends bytes_cmp (names_of (at_places tables.old.items places.now)) }
+    requires room { HaveRoom (at_places tables.old.items places.now) plans.items }
+    ensures made { AreMade (at_places tables.old.items places.now) plans.items (at_places tables.new.items places.now) }
+    ensures each { AreMadeBy plans.items tables.old.items tables.new.items }
 {
     let mut i = 0;
     for plan in plans {
-        install_one(&mut tables[i], plan);
+        install_one(&mut tables[places[i]], plan);
         i += 1;
     }
 }

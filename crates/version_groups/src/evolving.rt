@@ -1,6 +1,6 @@
 //! The next version behind an operator, and its stored tables.
 
-ghost use Rattle.std.specs.Prelude.{◌≡◌, ◌+◌, ◌<◌, ◌≤◌, ℕ, List, length, slice_get, IfOk, None};
+ghost use Rattle.std.specs.Prelude.{◌≡◌, ◌+◌, ◌<◌, ◌≤◌, ℕ, List, length, slice_get, false, IfOk, None};
 ghost use Rattle.std.specs.Option.{option_copied};
 ghost use Rattle.std.specs.FinMap.{get};
 ghost use Rattle.relations.specs.Sets.{Ascends};
@@ -16,14 +16,15 @@ ghost use Rattle.smo_types.specs.Commands.{version_of};
 ghost use Rattle.smo_meaning.specs.OperatorTable.{line, made_names};
 ghost use Rattle.smo_maps.specs.Carrying.{given_tables, Has};
 ghost use Rattle.smo_meaning.specs.OneRow.{Relation};
-ghost use Rattle.version_groups.specs.Groups.{stored_as, names_of};
+ghost use Rattle.version_groups.specs.Groups.{stored_as};
+ghost use Rattle.version_groups.specs.Places.{at_places};
+ghost use Rattle.version_groups.specs.declared.made_tables.MadeTable.{MadeTable as Stored};
 ghost use Rattle.version_groups.specs.Becoming.{Begins};
-ghost use Rattle.version_groups.specs.Standing.{AreStored, is_name, next_rows, FitNext};
+ghost use Rattle.version_groups.specs.Standing.{AreStored, is_name, next_rows, FitNext, IsStoredBefore, OthersStay};
 ghost use Rattle.version_groups.specs.MadeRows.{made_rows};
-ghost use Rattle.version_groups.specs.Steps.{BeginsEntry};
-ghost use Rattle.version_groups.specs.Evolving.{AreEarlier, rows_named, IsEvolved};
+ghost use Rattle.version_groups.specs.Evolving.{AreEarlier, rows_named, AreNext, IsNextTable, IsEvolved};
 
-use crate::made_tables::{MadeTable, find_stored, same_name};
+use crate::made_tables::{MadeTable, find_stored, find_table, same_name};
 use history_store::StoredTable;
 use prima_base::{Name, NoMemory, Row};
 use schema_catalog::{Schema, Table};
@@ -31,11 +32,18 @@ use smo_maps::{Carried, carry};
 use smo_ops::{Made, Op, OpFault, Version, after, consumed, made, next_schema_is_lawful};
 use std::alloc::Global;
 
+/// Tables that begin, and the places of a version's own among all that are stored and those.
+#[derive(Drop)]
+pub(crate) struct NextTables {
+    pub(crate) begun: Vec<MadeTable>,
+    pub(crate) places: Vec<usize>,
+}
+
 /// The next version, and its tables.
 #[derive(Drop)]
 pub(crate) struct Evolved {
     pub(crate) version: Version,
-    pub(crate) tables: Vec<MadeTable>,
+    pub(crate) tables: NextTables,
 }
 
 // The tables that the operator is given, in the order in which it names them. It takes no memory.
@@ -56,14 +64,16 @@ fn inputs(op: &Op) -> Made<'_>
 fn current_rows(
     alloc: Global,
     tables: &[MadeTable],
+    places: &[usize],
     name: Option<&Name>,
 ) -> Result<Vec<Row>, NoMemory>
-    ensures { (stamp : ℕ) → stamp < forever → AreEarlier stamp tables.now → IfOk result (λ rows. rows.items ≡ rows_named stamp (option_copied name.entry) tables.now) }
+    ensures { (stamp : ℕ) → stamp < forever → AreEarlier stamp (at_places tables.now places.now)
+        → IfOk result (λ rows. rows.items ≡ rows_named stamp (option_copied name.entry) (at_places tables.now places.now)) }
 {
     let Some(name) = name else {
         return Ok(Vec::new(alloc));
     };
-    match find_stored(tables, name) {
+    match find_stored(tables, places, name) {
         Some(store) => store.current(),
         None => Ok(Vec::new(alloc)),
     }
@@ -111,55 +121,87 @@ fn is_name(named: Option<&Name>, name: &Name) -> bool
     }
 }
 
-// A table of the next version: with the rows that were made for it, or else with those that it had.
-fn next_table(
+// A new table begins, behind those that have begun.
+fn begin_behind(
+    alloc: Global,
+    stored: usize,
+    table: &Table,
+    stamp: u64,
+    rows: &[Row],
+    begun: &mut Vec<MadeTable>,
+) -> Result<usize, NoMemory>
+    requires lawful { stamp < forever }
+    requires relation { IsRelation table.now.1 rows.now }
+    ensures next { (tables : List Stored) → stored ≡ length tables → IfOk result (λ p. IsNextTable tables begun.old.items begun.new.items p table.now.0 table.now.1 stamp rows.now) }
+    ensures there { IfOk result (λ p. p < stored + length begun.new.items) }
+{
+    // There is no memory for so many tables that it would not fit.
+    let Some(place) = stored.checked_add(begun.len()) else {
+        return Err(NoMemory);
+    };
+    begun.push(begin_table(alloc, table, stamp, rows)?)?;
+    Ok(place)
+}
+
+// The place of a table of the next version: a new one begins with the rows that were made for it, and a table that is not made
+// goes on.
+fn next_place(
     alloc: Global,
     tables: &[MadeTable],
+    places: &[usize],
     names: Made<'_>,
     rows: &Carried,
     table: &Table,
     stamp: u64,
-) -> Result<MadeTable, NoMemory>
+    begun: &mut Vec<MadeTable>,
+) -> Result<usize, NoMemory>
     requires lawful { stamp < forever }
-    requires before { AreEarlier stamp tables.now }
-    requires relation { IsRelation table.now.1 (next_rows (made_rows names rows.now) stamp tables.now table.now.0) }
-    ensures name { IfOk result (λ t. t.name ≡ table.now.0) }
-    ensures begins { IfOk result (λ t. Begins table.now.1 stamp (next_rows (made_rows names.entry rows.now) stamp tables.now table.now.0) t.store) }
+    requires relation { IsRelation table.now.1 (next_rows (made_rows names rows.now) stamp (at_places tables.now places.now) table.now.0) }
+    requires others { is_name (option_copied names.first) table.now.0 ≡ false → is_name (option_copied names.second) table.now.0 ≡ false
+        → IsStoredBefore stamp table.now.1 (stored_as table.now.0 (at_places tables.now places.now)) }
+    ensures next { IfOk result (λ p. IsNextTable tables.now begun.old.items begun.new.items p table.now.0 table.now.1 stamp
+        (next_rows (made_rows names.entry rows.now) stamp (at_places tables.now places.now) table.now.0)) }
+    ensures there { IfOk result (λ p. p < length tables.now + length begun.new.items) }
 {
     if is_name(names.first, table.name()) {
-        return begin_table(alloc, table, stamp, &rows.first);
+        return begin_behind(alloc, tables.len(), table, stamp, &rows.first, begun);
     }
     if is_name(names.second, table.name()) {
-        return begin_table(alloc, table, stamp, &rows.second);
+        return begin_behind(alloc, tables.len(), table, stamp, &rows.second, begun);
     }
-    let current = current_rows(alloc, tables, Some(table.name()))?;
-    begin_table(alloc, table, stamp, &current)
+    match find_table(tables, places, table.name()) {
+        Some((place, _)) => Ok(place),
+        // A table that is not made is stored.
+        None => unreachable!(),
+    }
 }
 
-// The tables of the next version, in the order of their names.
-fn begin_tables(
+// The tables of the next version, in the order of their names: those that are made begin, and the others go on.
+fn next_tables(
     alloc: Global,
     next: &Schema,
     tables: &[MadeTable],
+    places: &[usize],
     names: Made<'_>,
     rows: &Carried,
     stamp: u64,
-) -> Result<Vec<MadeTable>, NoMemory>
+) -> Result<NextTables, NoMemory>
     requires lawful { stamp < forever }
-    requires before { AreEarlier stamp tables.now }
     requires schema { IsLawful next.now }
-    requires relations { FitNext next.now (made_rows names rows.now) stamp tables.now }
-    ensures ordered { IfOk result (λ v. Ascends bytes_cmp (names_of v.items)) }
-    ensures tables { (name : List ℕ) → IfOk result (λ v. BeginsEntry stamp (next_rows (made_rows names.entry rows.now) stamp tables.now name) (get next.now name) (stored_as name v.items)) }
+    requires relations { FitNext next.now (made_rows names rows.now) stamp (at_places tables.now places.now) }
+    requires others { OthersStay next.now (made_rows names rows.now) stamp (at_places tables.now places.now) }
+    ensures { IfOk result (λ t. AreNext tables.now t.begun.items t.places.items stamp (next_rows (made_rows names.entry rows.now) stamp (at_places tables.now places.now)) next.now) }
 {
-    let mut begun = Vec::with_capacity(alloc, next.len())?;
+    let mut begun = Vec::new(alloc);
+    let mut own = Vec::with_capacity(alloc, next.len())?;
     for i in 0..next.len() as u32 {
         let Some(table) = next.at(i) else {
             unreachable!();
         };
-        begun.push(next_table(alloc, tables, names, rows, table, stamp)?)?;
+        let place = next_place(alloc, tables, places, names, rows, table, stamp, &mut begun)?;
+        own.push(place)?;
     }
-    Ok(begun)
+    Ok(NextTables { begun, places: own })
 }
 
 // Equal operators.
@@ -178,42 +220,43 @@ fn carry_rows(
     alloc: Global,
     before: &Schema,
     tables: &[MadeTable],
+    places: &[usize],
     op: &Op,
 ) -> Result<Carried, NoMemory>
     requires schema { IsLawful before.now }
     requires accepted { op_fault before.now (operator_of op.now) ≡ None }
-    requires stored { (stamp : ℕ) × (stamp < forever) × (database : Database) × IsDatabase before.now database × AreStored before.now database stamp tables.now }
-    ensures { (stamp : ℕ) → stamp < forever → (database : Database) → IsDatabase before.now database → AreStored before.now database stamp tables.now
+    requires stored { (stamp : ℕ) × (stamp < forever) × (database : Database) × IsDatabase before.now database × AreStored before.now database stamp (at_places tables.now places.now) }
+    ensures { (stamp : ℕ) → stamp < forever → (database : Database) → IsDatabase before.now database → AreStored before.now database stamp (at_places tables.now places.now)
         → IfOk result (λ c. Has (made_names (line before.now (operator_of op.now)).made) (carried before.now (operator_of op.now) database) c.first.items c.second.items) }
 {
     let given = inputs(op);
-    let first = current_rows(alloc, tables, given.first)?;
-    let second = current_rows(alloc, tables, given.second)?;
+    let first = current_rows(alloc, tables, places, given.first)?;
+    let second = current_rows(alloc, tables, places, given.second)?;
     carry(alloc, op, before, &first, &second)
 }
 
-// The stored tables of the next version: the made ones with the rows that are carried over the operator, the others with
-// those that they have now.
+// The stored tables of the next version: the made ones with the rows that are carried over the operator, the others as they
+// stand.
 fn begin_version(
     alloc: Global,
     before: &Schema,
     next: &Schema,
     tables: &[MadeTable],
+    places: &[usize],
     stamp: u64,
     op: &Op,
-) -> Result<Vec<MadeTable>, NoMemory>
+) -> Result<NextTables, NoMemory>
     requires schema { IsLawful before.now }
     requires accepted { op_fault before.now (operator_of op.now) ≡ None }
     requires next { next.now ≡ behind before.now (operator_of op.now) }
     requires lawful { stamp < forever }
-    requires stored { (database : Database) × IsDatabase before.now database × AreStored before.now database stamp tables.now }
-    ensures ordered { IfOk result (λ v. Ascends bytes_cmp (names_of v.items)) }
-    ensures tables { (database : Database) → IsDatabase before.now database → AreStored before.now database stamp tables.now → (name : List ℕ)
-        → IfOk result (λ v. BeginsEntry stamp (rows_at (get (carried before.now (operator_of op.now) database) name)) (get next.now name) (stored_as name v.items)) }
+    requires stored { (database : Database) × IsDatabase before.now database × AreStored before.now database stamp (at_places tables.now places.now) }
+    ensures { (database : Database) → IsDatabase before.now database → AreStored before.now database stamp (at_places tables.now places.now)
+        → IfOk result (λ t. AreNext tables.now t.begun.items t.places.items stamp (λ name. rows_at (get (carried before.now (operator_of op.now) database) name)) next.now) }
 {
     next_schema_is_lawful();
-    let rows = carry_rows(alloc, before, tables, op)?;
-    begin_tables(alloc, next, tables, made(op), &rows, stamp)
+    let rows = carry_rows(alloc, before, tables, places, op)?;
+    next_tables(alloc, next, tables, places, made(op), &rows, stamp)
 }
 
 // The version that the operator makes, with copies of it and of its inverse.
@@ -236,13 +279,13 @@ fn make_version(
 }
 
 /// The version that the operator makes of this schema at the stamp, and its stored tables: the made ones with the rows
-/// that are carried over the operator, the others with those that they have now. It costs a copy of the operator's inputs
-/// and two of all current rows of the next version, as rows and in its histories. The one error is `NoMemory`, where
-/// memory runs out.
+/// that are carried over the operator, the others as they stand. It costs a copy of the operator's inputs, and of what it
+/// makes. The one error is `NoMemory`, where memory runs out.
 pub(crate) fn prepare_version(
     alloc: Global,
     before: &Schema,
     tables: &[MadeTable],
+    places: &[usize],
     stamp: u64,
     op: &Op,
     inverse: &[Op],
@@ -251,12 +294,12 @@ pub(crate) fn prepare_version(
     requires accepted { op_fault before.now (operator_of op.now) ≡ None }
     requires few { HasFewNodes (operator_of op.now) }
     requires lawful { stamp < forever }
-    requires stored { (database : Database) × IsDatabase before.now database × AreStored before.now database stamp tables.now }
-    ensures { (database : Database) → IsDatabase before.now database → AreStored before.now database stamp tables.now
-        → IfOk result (λ e. IsEvolved before.now database stamp (operator_of op.now) (operators_of inverse.now) (version_of e.version) e.tables.items) }
+    requires stored { (database : Database) × IsDatabase before.now database × AreStored before.now database stamp (at_places tables.now places.now) }
+    ensures { (database : Database) → IsDatabase before.now database → AreStored before.now database stamp (at_places tables.now places.now)
+        → IfOk result (λ e. IsEvolved tables.now before.now database stamp (operator_of op.now) (operators_of inverse.now) (version_of e.version) e.tables.begun.items e.tables.places.items) }
 {
     let schema = next_schema(alloc, before, op)?;
-    let tables = begin_version(alloc, before, &schema, tables, stamp, op)?;
+    let tables = begin_version(alloc, before, &schema, tables, places, stamp, op)?;
     let version = make_version(alloc, stamp, op, inverse, schema)?;
     Ok(Evolved { version, tables })
 }

@@ -1,5 +1,5 @@
 use crate::changing::{Changes, install_tables, prepare_tables};
-use crate::evolving::prepare_version;
+use crate::evolving::{Evolved, prepare_version};
 use crate::made_tables::{MadeTable, find_stored};
 use crate::next::{Next, Step};
 use history_store::{Prepared, StoredTable};
@@ -10,16 +10,20 @@ use std::alloc::Global;
 use std::marker::Model;
 use std::mem;
 
-/// The versions of an archive, and for each version its stored tables.
+/// The versions of an archive, and for each version its stored tables. A table that no operator makes or consumes is stored
+/// once over all its versions.
 #[derive(Drop)]
 pub struct Groups {
     alloc: Global,
     // version 0 has no table
     nothing: Schema,
     versions: Versions,
-    // the stored tables of each version before the newest, those of version 0 first
-    earlier: Vec<Vec<MadeTable>>,
-    newest: Vec<MadeTable>,
+    // in the order of their first versions, and then of their names
+    stored: Vec<MadeTable>,
+    // the places of the tables of each version before the newest, those of version 0 first; and of the newest: in the order of
+    // their names
+    earlier: Vec<Vec<usize>>,
+    newest: Vec<usize>,
 }
 
 impl Model for Groups {
@@ -37,7 +41,7 @@ impl Model for Groups {
     ghost invariant = { AreGroups };
 }
 
-ghost use Rattle.std.specs.Prelude.{◌≡◌, ◌-◌, ◌<◌, ◌≤◌, map, length, slice_index, IfOk, OnOk, None, vec_len, vec_capacity};
+ghost use Rattle.std.specs.Prelude.{◌≡◌, ◌-◌, ◌<◌, ◌≤◌, ◌++◌, map, length, slice_index, IfOk, OnOk, None, vec_len, vec_capacity};
 ghost use Rattle.smo_types.specs.Commands.{version_of, versions_of, body_of};
 ghost use Rattle.smo_meaning.specs.Counts.{first_excess};
 ghost use Rattle.smo_meaning.specs.LawfulValues.{BodyHolds};
@@ -66,14 +70,24 @@ fn newest_schema<'a>(nothing: &'a Schema, versions: &'a Versions) -> &'a Schema
     }
 }
 
-// Room for one more.
-fn reserve_one<T: Drop>(list: &mut Vec<T>) -> Result<(), NoMemory>
+// Room for so many more.
+fn reserve_more<T: Drop>(list: &mut Vec<T>, count: usize) -> Result<(), NoMemory>
     ensures items { list.new.items ≡ list.old.items }
     ensures spare { vec_capacity list.old - vec_len list.old ≤ vec_capacity list.new - vec_len list.new }
-    ensures room { OnOk result (1 ≤ vec_capacity list.new - vec_len list.new) }
+    ensures room { OnOk result (count ≤ vec_capacity list.new - vec_len list.new) }
 {
-    list.reserve(1)?;
+    list.reserve(count)?;
     Ok(())
+}
+
+// Puts all behind the others, for which there is room. It takes no memory.
+fn put_behind(list: &mut Vec<MadeTable>, more: Vec<MadeTable>)
+    requires { length more.items ≤ vec_capacity list.old - vec_len list.old }
+    ensures { list.new.items ≡ list.old.items ++ more.items }
+{
+    for table in more {
+        list.push_reserved(table);
+    }
 }
 
 // Meets each constant of a command whose counts are within their limits: it is a value of the code, and so a lawful one.
@@ -86,7 +100,7 @@ fn meet_constants(command: &Command)
 }
 
 impl Groups {
-    ghost use Rattle.std.specs.Prelude.{◌≡◌, ◌+◌, ◌<◌, ◌≤◌, ◌^◌, List, length, MatchOption, IfOk, OnOk, None};
+    ghost use Rattle.std.specs.Prelude.{◌≡◌, ◌+◌, ◌<◌, ◌≤◌, ◌^◌, ◌++◌, List, length, MatchOption, IfOk, OnOk, None};
     ghost use Rattle.std.specs.Option.{option_copied};
     ghost use Rattle.relations.specs.Sets.{Ascends};
     ghost use Rattle.relations.specs.Spans.{forever};
@@ -98,6 +112,7 @@ impl Groups {
     ghost use Rattle.smo_meaning.specs.LawfulValues.{BodyHolds};
     ghost use Rattle.smo_meaning.specs.Past.{Past, beginning, no_tables, tables_from, version_at, past_with};
     ghost use Rattle.version_groups.specs.Groups.{versions_in, table_in, newest_group, names_of};
+    ghost use Rattle.version_groups.specs.Places.{at_places, AreWithin};
     ghost use Rattle.version_groups.specs.Changing.{HaveRoom};
     ghost use Rattle.version_groups.specs.Installing.{HasEarlier, HasChanges, HasVersion};
     ghost use Rattle.version_groups.specs.Showing.{Shows};
@@ -114,6 +129,7 @@ impl Groups {
             versions: Versions {
                 list: Vec::new(alloc),
             },
+            stored: Vec::new(alloc),
             earlier: Vec::new(alloc),
             newest: Vec::new(alloc),
         }
@@ -163,10 +179,10 @@ impl Groups {
     {
         let version = version as usize;
         if version == self.earlier.len() {
-            return find_stored(&self.newest, name);
+            return find_stored(&self.stored, &self.newest, name);
         }
         match self.earlier.get(version) {
-            Some(tables) => find_stored(tables, name),
+            Some(places) => find_stored(&self.stored, places, name),
             None => None,
         }
     }
@@ -175,9 +191,11 @@ impl Groups {
     /// is shown, which stays as it is. For changes `Next` has the counts of the rows that are gained and lost, summed
     /// over the tables, and for an operator none. The one error is `NoMemory`, where memory runs out.
     ///
-    /// A table that has INSERTs alone costs a search for each row; any other that the command names a copy of its current
-    /// rows, a walk along them for each change, and a sort; other tables are not looked at. An operator costs a copy of
-    /// its inputs, and two of all current rows of the next version.
+    /// A table that has INSERTs alone costs a search for each row. Any other that the command names costs for each UPDATE
+    /// or DELETE a look at the rows between two cuts, by the constants to which its condition pins the first columns, and
+    /// a search for each row that is lost or gained; where more than 64 rows are lost or gained, a copy of the index of
+    /// its current rows too. Other tables are not looked at. An operator costs a copy of its inputs, and of the rows that
+    /// it makes; other tables go on.
     pub fn prepare(&mut self, command: &Command) -> Result<Next, NoMemory>
         requires { (past : Past) × Shows self.old past × (command_fault past (command_of command.now) ≡ None) }
         ensures same { IsSame self.old self.new }
@@ -213,7 +231,7 @@ impl Groups {
     {
         match step {
             Step::Changed(plans) => self.install_changes(plans),
-            Step::Evolved(version, tables) => self.install_version(version, tables),
+            Step::Evolved(version, begun, places) => self.install_version(version, begun, places),
         }
     }
 
@@ -222,17 +240,20 @@ impl Groups {
         requires { HaveRoom (newest_group self.old) plans.items }
         ensures { HasChanges self.old self.new plans.items }
     {
-        install_tables(&mut self.newest, plans);
+        install_tables(&mut self.stored, &self.newest, plans);
     }
 
-    // Puts the version and its tables behind the others. It takes no memory.
-    fn install_version(&mut self, version: Version, tables: Vec<MadeTable>)
-        requires ordered { Ascends bytes_cmp (names_of tables.items) }
+    // Puts the version and the tables that begin with it behind the others. It takes no memory.
+    fn install_version(&mut self, version: Version, begun: Vec<MadeTable>, places: Vec<usize>)
+        requires there { AreWithin places.items (length self.old.stored + length begun.items) }
+        requires ordered { Ascends bytes_cmp (names_of (at_places (self.old.stored ++ begun.items) places.items)) }
         requires room { 1 ≤ self.old.spare }
+        requires beginnings { length begun.items ≤ self.old.beginnings }
         requires fits { length self.old.versions + 1 < 2 ^ 32 }
-        ensures { HasVersion self.old self.new version tables.items }
+        ensures { HasVersion self.old self.new version begun.items places.items }
     {
-        let before = mem::replace(&mut self.newest, tables);
+        put_behind(&mut self.stored, begun);
+        let before = mem::replace(&mut self.newest, places);
         self.versions.list.push_reserved(version);
         self.earlier.push_reserved(before);
     }
@@ -247,7 +268,14 @@ impl Groups {
             → IfOk result (λ next. Prepares self.new past (a_command stamp (changing (changes_of changes.now))) next) }
     {
         let schema = newest_schema(&self.nothing, &self.versions);
-        let made = prepare_tables(self.alloc, schema, &mut self.newest, stamp, changes)?;
+        let made = prepare_tables(
+            self.alloc,
+            schema,
+            &mut self.stored,
+            &self.newest,
+            stamp,
+            changes,
+        )?;
         let Changes {
             gained,
             lost,
@@ -270,22 +298,34 @@ impl Groups {
             → IfOk result (λ next. Prepares self.new past (a_command stamp (evolving (operator_of op.now) (operators_of inverse.now))) next) }
     {
         let schema = newest_schema(&self.nothing, &self.versions);
-        let evolved = prepare_version(self.alloc, schema, &self.newest, stamp, op, inverse)?;
-        self.reserve_version()?;
+        let evolved = prepare_version(
+            self.alloc,
+            schema,
+            &self.stored,
+            &self.newest,
+            stamp,
+            op,
+            inverse,
+        )?;
+        let Evolved { version, tables } = evolved;
+        self.reserve_version(tables.begun.len())?;
         Ok(Next {
             gained: 0,
             lost: 0,
-            step: Step::Evolved(evolved.version, evolved.tables),
+            step: Step::Evolved(version, tables.begun, tables.places),
         })
     }
 
-    // Room for one version more.
-    fn reserve_version(&mut self) -> Result<(), NoMemory>
+    // Room for one version more, and for so many tables that begin with it.
+    fn reserve_version(&mut self, beginnings: usize) -> Result<(), NoMemory>
         ensures same { IsSame self.old self.new }
+        ensures stored { self.new.stored ≡ self.old.stored }
         ensures room { OnOk result (1 ≤ self.new.spare) }
+        ensures beginnings { OnOk result (beginnings ≤ self.new.beginnings) }
     {
-        reserve_one(&mut self.versions.list)?;
-        reserve_one(&mut self.earlier)?;
+        reserve_more(&mut self.versions.list, 1)?;
+        reserve_more(&mut self.earlier, 1)?;
+        reserve_more(&mut self.stored, beginnings)?;
         Ok(())
     }
 }

@@ -1,5 +1,5 @@
-//! The versions of an archive, and the stored tables of each: a table of a version has a history of its own, which
-//! begins at the version's stamp (PRIMA 2008).
+//! The versions of an archive, and the stored tables of each (PRIMA 2008). A table is stored once over all versions in
+//! which no operator makes or consumes it; its history begins at the stamp of the first.
 //!
 //! `specs/Showing.antt` says when groups show a past. A command is made ready by `prepare`, which takes all the memory
 //! that it needs, and `install` carries it out and cannot fail.

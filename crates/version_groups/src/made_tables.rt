@@ -1,12 +1,13 @@
-ghost use Rattle.std.specs.Prelude.{◌≡◌};
+ghost use Rattle.std.specs.Prelude.{◌≡◌, MatchOption, None};
 ghost use Rattle.std.specs.Option.{option_copied};
 ghost use Rattle.smo_meaning.specs.OneRow.{same};
 ghost use Rattle.version_groups.specs.Groups.{stored_as};
+ghost use Rattle.version_groups.specs.Places.{at_places, IsFound};
 
 use history_store::StoredTable;
 use prima_base::Name;
 
-/// A table of a version, and its history.
+/// A table over the versions in which no operator makes or consumes it, and its history.
 #[derive(Drop)]
 pub(crate) struct MadeTable {
     pub(crate) name: Name,
@@ -20,14 +21,35 @@ pub(crate) fn same_name(a: &Name, b: &Name) -> bool
     a.bytes() == b.bytes()
 }
 
-/// What is stored under the name. It takes no memory.
-pub(crate) fn find_stored<'a>(tables: &'a [MadeTable], name: &Name) -> Option<&'a StoredTable>
-    ensures { option_copied result ≡ stored_as name.now tables.now }
+/// The table with this name, of those at these places, and its place: `None` exactly where there is none. It takes no
+/// memory.
+pub(crate) fn find_table<'a>(
+    tables: &'a [MadeTable],
+    places: &[usize],
+    name: &Name,
+) -> Option<(usize, &'a MadeTable)>
+    ensures { MatchOption result (stored_as name.now (at_places tables.now places.now) ≡ None) (λ f. IsFound tables.now places.now name.now f.0 f.1.now) }
 {
-    for table in tables {
-        if same_name(&table.name, name) {
-            return Some(&table.store);
+    for place in places {
+        if let Some(table) = tables.get(*place) {
+            if same_name(&table.name, name) {
+                return Some((*place, table));
+            }
         }
     }
     None
+}
+
+/// What is stored under the name, in the tables at these places. It takes no memory.
+pub(crate) fn find_stored<'a>(
+    tables: &'a [MadeTable],
+    places: &[usize],
+    name: &Name,
+) -> Option<&'a StoredTable>
+    ensures { option_copied result ≡ stored_as name.now (at_places tables.now places.now) }
+{
+    match find_table(tables, places, name) {
+        Some((_, table)) => Some(&table.store),
+        None => None,
+    }
 }

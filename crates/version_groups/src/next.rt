@@ -8,8 +8,8 @@ use std::marker::Model;
 pub(crate) enum Step {
     /// A change of each table of the newest version, or none.
     Changed(Vec<Option<Prepared>>),
-    /// The next version, and its tables.
-    Evolved(Version, Vec<MadeTable>),
+    /// The next version, the tables that begin with it, and the places of its own among all.
+    Evolved(Version, Vec<MadeTable>, Vec<usize>),
 }
 
 /// A command that was made ready: it is installed into the groups that prepared it.

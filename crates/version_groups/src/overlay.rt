@@ -1,14 +1,16 @@
 //! What the changes of a command make of one table, row by row over the rows that are stored.
 //!
-//! Of each row that a change comes to, a map keeps whether the table has it now; what is not in the map is as it is
-//! stored. So a change costs what it comes to, whatever the table holds: an INSERT one row, and an UPDATE or DELETE the
-//! rows between two cuts, of those that are stored and of those in the map. Stored rows are lent while they are tested.
+//! A map has the rows by which the table differs from what is stored, each with whether the table has it now; a row that
+//! is again as it is stored leaves the map. So a change costs what it comes to, whatever the table holds: an INSERT one
+//! row, and an UPDATE or DELETE the rows between two cuts, of those that are stored and of those in the map. Stored rows
+//! are lent while they are tested.
 
 ghost use Rattle.std.specs.Prelude.{◌≡◌, ◌≤◌, ◌+◌, ◌<◌, ◌++◌, ◌&&◌, ℕ, List, [], ◌∷◌, map, cond, length, Some, Bool, IfOk, OnOk, if◌then◌else◌};
 ghost use Rattle.std.specs.List.{filter};
 ghost use Rattle.std.specs.Map.{lookup, keys_of};
 ghost use Rattle.std.specs.List.Sorted.{IsStrictlySortedBy};
 ghost use Rattle.std.specs.BTreeMap.{is_at};
+ghost use Rattle.std.specs.Ordering.{is_eq};
 ghost use Rattle.relations.specs.Sets.{In, has};
 ghost use Rattle.relations.specs.Spans.{forever};
 ghost use Rattle.prima_base.specs.Order.{row_cmp, shown};
@@ -23,7 +25,7 @@ ghost use Rattle.smo_meaning.specs.OneRow.{Relation, meets, with_sets};
 ghost use Rattle.smo_meaning.specs.Effects.{relation_after, gained_rows};
 ghost use Rattle.smo_meaning.specs.Inserting.{relation_after_each};
 ghost use Rattle.version_groups.specs.Changing.{of_table, AreAccepted};
-ghost use Rattle.version_groups.specs.Overlay.{is_kept, known_hits, LeadsTo, AreHits, lost_by_now, gained_by_now};
+ghost use Rattle.version_groups.specs.Overlay.{told, is_kept, known_hits, LeadsTo, AreHits, lost_by_now, gained_by_now};
 
 use crate::made_tables::same_name;
 use crate::ranges::{high_cut, hits_are_between_the_cuts, low_cut};
@@ -82,12 +84,12 @@ fn put_stored(
 // Copies of those of the stored rows that meet the condition and that no change has lost.
 fn stored_hits(
     alloc: Global,
-    rows: &LentRows<'_>,
+    rows: &mut LentRows<'_>,
     overlay: &BTreeMap<Row, bool>,
     own: &OwnColumns<'_>,
     cond: &Cond,
 ) -> Result<Vec<Row>, NoMemory>
-    ensures { IfOk result (λ v. v.items ≡ filter (λ row. meets own.now (test cond.now) row && is_kept overlay.now.entries row) rows.now) }
+    ensures { IfOk result (λ v. v.items ≡ filter (λ row. meets own.now (test cond.now) row && is_kept overlay.now.entries row) rows.old) }
 {
     let mut values = Vec::with_capacity(alloc, own.columns().len())?;
     let mut hits = Vec::new(alloc);
@@ -170,19 +172,43 @@ fn find_hits(
     hits_are_between_the_cuts();
     let from = low_cut(alloc, cond, own.atoms())?;
     let to = high_cut(alloc, cond, own.atoms())?;
-    let rows = store.between(&from, &to);
+    let mut rows = store.between(&from, &to);
     let known = overlay.len();
-    let mut hits = stored_hits(alloc, &rows, overlay, own, cond)?;
+    let mut hits = stored_hits(alloc, &mut rows, overlay, own, cond)?;
     put_all_known(alloc, overlay, own, cond, &from, &to, &mut hits)?;
     Ok(hits)
 }
 
-// The table has these rows now, or has them no more.
-fn set_each(overlay: &mut BTreeMap<Row, bool>, rows: Vec<Row>, there: bool) -> Result<(), NoMemory>
-    ensures { OnOk result ((row : List OneValue) → lookup (is_at (row_cmp row)) overlay.new.entries ≡ cond (has row_cmp row rows.items) (Some there) (lookup (is_at (row_cmp row)) overlay.old.entries)) }
+// The table has the row now, or has it no more. Where it is as it is stored the map has nothing of it.
+fn set_row(
+    store: &StoredTable,
+    overlay: &mut BTreeMap<Row, bool>,
+    row: Row,
+    there: bool,
+) -> Result<(), NoMemory>
+    ensures { (m : ℕ) → m < forever → AllBefore store.now (m + 1) → OnOk result ((q : List OneValue) → lookup (is_at (row_cmp q)) overlay.new.entries
+        ≡ cond (is_eq (row_cmp row q)) (told (has row_cmp q (relation_at store.now m)) there) (lookup (is_at (row_cmp q)) overlay.old.entries)) }
+{
+    if there == store.holds(&row) {
+        overlay.remove(&row);
+        return Ok(());
+    }
+    overlay.insert(row, there)?;
+    Ok(())
+}
+
+// The same of several rows.
+fn set_each(
+    store: &StoredTable,
+    overlay: &mut BTreeMap<Row, bool>,
+    rows: Vec<Row>,
+    there: bool,
+) -> Result<(), NoMemory>
+    ensures { (m : ℕ) → m < forever → AllBefore store.now (m + 1) → OnOk result ((q : List OneValue) → lookup (is_at (row_cmp q)) overlay.new.entries
+        ≡ cond (has row_cmp q rows.items) (told (has row_cmp q (relation_at store.now m)) there) (lookup (is_at (row_cmp q)) overlay.old.entries)) }
 {
     for row in rows {
-        overlay.insert(row, there)?;
+        set_row(store, overlay, row, there)?;
     }
     Ok(())
 }
@@ -219,18 +245,18 @@ fn apply(
 {
     match change {
         Change::Insert { cells, .. } => {
-            overlay.insert(inserted_row(alloc, own.columns(), cells)?, true)?;
-            Ok(())
+            let row = inserted_row(alloc, own.columns(), cells)?;
+            set_row(store, overlay, row, true)
         }
         Change::Delete { cond, .. } => {
             let lost = find_hits(alloc, store, overlay, own, cond)?;
-            set_each(overlay, lost, false)
+            set_each(store, overlay, lost, false)
         }
         Change::Update { sets, cond, .. } => {
             let lost = find_hits(alloc, store, overlay, own, cond)?;
             let gained = images(alloc, own, sets, &lost)?;
-            set_each(overlay, lost, false)?;
-            set_each(overlay, gained, true)
+            set_each(store, overlay, lost, false)?;
+            set_each(store, overlay, gained, true)
         }
     }
 }
@@ -255,8 +281,8 @@ fn apply_own(
     apply(alloc, store, overlay, own, change)
 }
 
-// What the table's changes, one after the other, make of its rows: of rows that they come to, whether the table has them
-// behind the changes.
+// What the table's changes, one after the other, make of its rows: those by which it differs from what is stored, each
+// with whether the table has it behind the changes.
 fn overlay_of(
     alloc: Global,
     store: &StoredTable,
@@ -299,19 +325,16 @@ fn put_row(
 // The rows of the map that are lost and those that are gained.
 fn lost_and_gained_by_now(
     alloc: Global,
-    store: &StoredTable,
     overlay: BTreeMap<Row, bool>,
 ) -> Result<(Vec<Row>, Vec<Row>), NoMemory>
-    ensures lost { (m : ℕ) → m < forever → AllBefore store.now (m + 1) → IfOk result (λ (lost, _gained). lost.items ≡ lost_by_now overlay.entries (relation_at store.now m)) }
-    ensures gained { (m : ℕ) → m < forever → AllBefore store.now (m + 1) → IfOk result (λ (_lost, gained). gained.items ≡ gained_by_now overlay.entries (relation_at store.now m)) }
+    ensures lost { IfOk result (λ (lost, _gained). lost.items ≡ lost_by_now overlay.entries) }
+    ensures gained { IfOk result (λ (_lost, gained). gained.items ≡ gained_by_now overlay.entries) }
     ensures ordered { IsStrictlySortedBy row_cmp (keys_of overlay.entries) }
 {
     let mut lost = Vec::new(alloc);
     let mut gained = Vec::new(alloc);
     for (row, there) in overlay {
-        if there != store.holds(&row) {
-            put_row(row, there, &mut lost, &mut gained)?;
-        }
+        put_row(row, there, &mut lost, &mut gained)?;
     }
     Ok((lost, gained))
 }
@@ -336,5 +359,5 @@ pub(crate) fn lost_and_gained(
     store.rows_are_a_relation();
     let own = OwnColumns::new(alloc, columns)?;
     let overlay = overlay_of(alloc, store, &own, name, changes)?;
-    lost_and_gained_by_now(alloc, store, overlay)
+    lost_and_gained_by_now(alloc, overlay)
 }

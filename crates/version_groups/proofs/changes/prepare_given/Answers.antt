@@ -1,10 +1,9 @@
-use Rattle.std.proofs.Common.{◌≡◌, ◌+◌, ◌∙◌, ◌++◌, [], sym, ap, subst, length, arith}
+use Rattle.std.proofs.Common.{◌≡◌, ◌+◌, ◌∙◌, ◌++◌, sym, ap, subst, length, arith}
 use Rattle.relations.specs.Sets.{In, set_of}
 use Rattle.prima_base.specs.Order.{row_cmp}
 use Rattle.prima_base.specs.Columns.{IsRelation}
 use Rattle.history_store.specs.Store.{AllBefore, relation_at}
 use Rattle.smo_meaning.specs.Effects.{gained_rows}
-use Rattle.version_groups.specs.Becoming.{IsChange}
 use Rattle.version_groups.proofs.Applying.{all_later, gains, gains_new, gains_all, gains_are, none_lost}
 use Rattle.version_groups.proofs.Becoming.{added, along_length}
 use Rattle.version_groups.proofs.changes.prepare_given.Goals as goal

@@ -1,4 +1,4 @@
-use Rattle.std.proofs.Common.{◌≡◌, ◌+◌, ◌∙◌, List, sym, ap, subst, length, arith}
+use Rattle.std.proofs.Common.{◌≡◌, ◌+◌, ◌∙◌, sym, ap, subst, length, arith}
 use Rattle.relations.specs.Sets.{In}
 use Rattle.prima_base.specs.Columns.{IsRelation}
 use Rattle.history_store.specs.Change.{changed}
@@ -6,7 +6,7 @@ use Rattle.history_store.specs.Store.{AllBefore, relation_at}
 use Rattle.smo_types.specs.Changes.{changes_of}
 use Rattle.smo_meaning.specs.Effects.{gained_rows}
 use Rattle.smo_meaning.specs.Inserting.{relation_after_each}
-use Rattle.smo_meaning.specs.OneRow.{Row, Relation}
+use Rattle.smo_meaning.specs.OneRow.{Relation}
 use Rattle.version_groups.specs.Changing.{of_table}
 use Rattle.version_groups.proofs.Applying.{all_later, gains_new, kept_each}
 use Rattle.version_groups.proofs.Becoming.{along_length}

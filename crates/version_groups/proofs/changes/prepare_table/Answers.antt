@@ -1,12 +1,11 @@
-use Rattle.std.proofs.Common.{◌≡◌, ◌+◌, ◌∙◌, ◌++◌, List, Some, sym, ap, subst, length, arith}
+use Rattle.std.proofs.Common.{◌≡◌, ◌∙◌, ◌++◌, List, Some, sym, ap, subst, length}
 use Rattle.std.specs.Option.{option_map}
 use Rattle.std.specs.Result.{IfOk}
 use Rattle.std.proofs.lemmas.Result.{IfOk-weaker}
 use Rattle.relations.specs.Sets.{set_of}
 use Rattle.prima_base.specs.Order.{row_cmp}
-use Rattle.prima_base.specs.Columns.{IsRelation}
 use Rattle.prima_base.specs.declared.values.Value.{Value}
-use Rattle.history_store.specs.Store.{AllBefore, relation_at}
+use Rattle.history_store.specs.Store.{relation_at}
 use Rattle.smo_types.specs.Changes.{changes_of}
 use Rattle.smo_meaning.specs.Inserting.{relation_after_each, insertions}
 use Rattle.smo_meaning.specs.Effects.{gained_rows}

@@ -1,5 +1,7 @@
 use Rattle.std.proofs.Common.{◌≡◌, ◌≤◌, length, drop}
 use Rattle.std.specs.Vec.Iter.{into_iter_items}
+use Rattle.version_groups.specs.Installing.{AreMadeBy}
+use Rattle.version_groups.specs.Places.{at_places}
 use Rattle.version_groups.proofs.TablesInTurn.{MadeTo}
 use Rattle.version_groups.proofs.changing.install_tables.Given as goal
 
@@ -7,5 +9,6 @@ abbrev pub invariant-loop-plan : goal.invariant-loop-plan
 invariant-loop-plan l = record {
   left : into_iter_items l.plan-iterator ≡ drop l.i l.fn.plans.items;
   within : l.i ≤ length l.fn.plans.items;
-  made : MadeTo l.initial.tables.items l.tables.items l.fn.plans.items l.i;
+  made : MadeTo (at_places l.initial.tables.items l.places) (at_places l.tables.items l.places) l.fn.plans.items l.i;
+  each : AreMadeBy l.fn.plans.items l.initial.tables.items l.tables.items;
 }

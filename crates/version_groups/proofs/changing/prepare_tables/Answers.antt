@@ -1,69 +1,117 @@
-use Rattle.std.proofs.Common.{◌≡◌, ◌<◌, ◌≤◌, ◌+◌, ◌∙◌, ◌++◌, ◌∷◌, [], ℕ, List, length, rules, sym, subst, arith}
+use Rattle.std.proofs.Common.{◌≡◌, ◌+◌, ◌++◌, ◌∷◌, [], ◌∙◌, List, length, get_or, sym, subst, arith}
 use Rattle.std.specs.Prelude.{Option}
-use Rattle.std.proofs.Math.ListN.{set}
+use Rattle.std.proofs.Math.ListN.{set, length-set}
 use Rattle.history_store.specs.Change.{Plan}
 use Rattle.smo_types.specs.Changes.{changes_of}
-use Rattle.version_groups.proofs.TablesInTurn.{ReadyTo, none_ready, one_ready, set_same, all_same, gained_is, lost_is, are_ready}
+use Rattle.version_groups.specs.declared.made_tables.MadeTable.{MadeTable}
+use Rattle.version_groups.specs.Changing.{IsChangeable}
+use Rattle.version_groups.specs.Places.{at_places}
+use Rattle.version_groups.proofs.Places.{at_count, at_get, at_set, place_within, places_within, apart_by_names, none_same, set_again}
+use Rattle.version_groups.proofs.TablesInTurn.{ReadyTo, none_ready, one_ready, was, gained_is, lost_is, are_ready}
 use Rattle.version_groups.proofs.changing.prepare_tables.Goals as goal
+
+pub index_mut-requires : goal.index_mut-requires
+index_mut-requires c =
+    let within = place_within c.args.places.now (length c.args.tables.now.items) c.loop-i.i 0 c.requires.there c.loop-i-test.true in
+    let count = c.loop-i.invariant.same.count in
+    omega (arith, within, count)
+
+pub prepare_one-requires-clause-changeable : goal.prepare_one-requires-clause-changeable
+prepare_one-requires-clause-changeable c =
+    let old = c.args.tables.now.items in
+    let places = c.args.places.now in
+    let now = at_places c.loop-i.tables.items places in
+    let t = c.index_mut.result.now in
+    let there = places_within places (length old) (length c.loop-i.tables.items) (let count = c.loop-i.invariant.same.count in omega (arith, count)) c.requires.there in
+    let n = at_count c.loop-i.tables.items places there in
+    let under = c.loop-i-test.true in
+    let is : t ≡ get_or now c.loop-i.i t = c.index_mut.ensures.value ∙ sym (at_get c.loop-i.tables.items places c.loop-i.i 0 t there c.loop-i-test.true) in
+    let first : get_or (at_places old places) c.loop-i.i t ≡ t =
+    was c.args.stamp (changes_of c.args.changes.now) (at_places old places) now c.loop-i.plans.items c.loop-i.gained c.loop-i.lost c.loop-i.i c.loop-i.invariant.turn t (omega (arith, n, under)) is t in
+    let m = at_count old places c.requires.there in
+    subst (λ (x : MadeTable). IsChangeable c.args.schema.now c.args.stamp (changes_of c.args.changes.now) x) first (c.requires.changeable c.loop-i.i t (omega (arith, m, under)))
 
 pub loop-i-init : goal.loop-i-init
 loop-i-init c =
-    let old = c.args.tables.now.items in
-    subst (λ (plans : List (Option Plan)). ReadyTo c.args.stamp (changes_of c.args.changes.now) old old plans 0 0 0) (sym c.in_ok-plans.ensures.items) (none_ready c.args.stamp (changes_of c.args.changes.now) old)
+    let old = at_places c.args.tables.now.items c.args.places.now in
+    record {
+      turn = subst (λ (plans : List (Option Plan)). ReadyTo c.args.stamp (changes_of c.args.changes.now) old old plans 0 0 0) (sym c.in_ok-plans.ensures.items) (none_ready c.args.stamp (changes_of c.args.changes.now) old);
+      same = none_same c.args.tables.now.items;
+      room = omega arith;
+    }
 
 pub loop-i-preserved : goal.loop-i-preserved
 loop-i-preserved c =
-    let old = c.args.tables.now.items in
-    let new = set c.loop-i.tables.items c.loop-i.i c.prepare_one.new.table in
+    let all = c.loop-i.tables.items in
+    let places = c.args.places.now in
+    let i = c.loop-i.i in
+    let q = get_or places i 0 in
+    let t = c.index_mut.result.now in
+    let u = c.prepare_one.new.table in
+    let old = at_places c.args.tables.now.items places in
+    let now = at_places all places in
     let stamp = c.args.stamp in
     let changes = changes_of c.args.changes.now in
-    let n : c.len-i-end.result ≡ length old = search rules in
-    let long = c.loop-i.invariant.long in
     let under = c.loop-i-test.true in
-    let more = one_ready stamp changes old c.loop-i.tables.items c.loop-i.plans.items c.loop-i.gained c.loop-i.lost c.loop-i.i c.loop-i.invariant
-    c.index_mut.result.now c.prepare_one.new.table c.in_ok-plan.plan c.gained_by.result c.lost_by.result (omega (arith, n, long, under)) c.index_mut.ensures.value
+    let there = places_within places (length c.args.tables.now.items) (length all) (let count = c.loop-i.invariant.same.count in omega (arith, count)) c.requires.there in
+    let n = at_count all places there in
+    let is : t ≡ get_or now i t = c.index_mut.ensures.value ∙ sym (at_get all places i 0 t there c.loop-i-test.true) in
+    let placed : at_places (set all q u) places ≡ set now i u = at_set all places i 0 u there (apart_by_names c.args.tables.now.items places c.requires.there c.requires.ordered) c.loop-i-test.true in
+    let more = one_ready stamp changes old now c.loop-i.plans.items c.loop-i.gained c.loop-i.lost i c.loop-i.invariant.turn
+    t u c.in_ok-plan.plan c.gained_by.result c.lost_by.result (omega (arith, n, under)) is
     c.prepare_one.ensures.same c.in_ok-plan.ensures.leads (c.gained_by.ensures ∙ c.in_ok-plan.ensures.gained) (c.lost_by.ensures ∙ c.in_ok-plan.ensures.lost) in
-    subst (λ (plans : List (Option Plan)). ReadyTo stamp changes old new plans c.in_ok-gained.gained c.in_ok-lost.lost (c.loop-i.i + 1)) (sym c.in_ok-push.ensures.items)
-    (subst (λ g. ReadyTo stamp changes old new (c.loop-i.plans.items ++ c.in_ok-plan.plan ∷ []) g c.in_ok-lost.lost (c.loop-i.i + 1)) (sym c.in_ok-gained.ensures)
-    (subst (λ l. ReadyTo stamp changes old new (c.loop-i.plans.items ++ c.in_ok-plan.plan ∷ []) (c.loop-i.gained + c.gained_by.result) l (c.loop-i.i + 1)) (sym c.in_ok-lost.ensures) more))
+    record {
+      turn = subst (λ (ts : List MadeTable). ReadyTo stamp changes old ts c.push.new.self.items c.in_ok-gained.gained c.in_ok-lost.lost (i + 1)) (sym placed)
+          (subst (λ (plans : List (Option Plan)). ReadyTo stamp changes old (set now i u) plans c.in_ok-gained.gained c.in_ok-lost.lost (i + 1)) (sym c.in_ok-push.ensures.items)
+          (subst (λ g. ReadyTo stamp changes old (set now i u) (c.loop-i.plans.items ++ c.in_ok-plan.plan ∷ []) g c.in_ok-lost.lost (i + 1)) (sym c.in_ok-gained.ensures)
+          (subst (λ l. ReadyTo stamp changes old (set now i u) (c.loop-i.plans.items ++ c.in_ok-plan.plan ∷ []) (c.loop-i.gained + c.gained_by.result) l (i + 1)) (sym c.in_ok-lost.ensures) more)));
+      same = set_again c.args.tables.now.items all q t u c.loop-i.invariant.same (place_within places (length all) i 0 there c.loop-i-test.true) c.index_mut.ensures.value c.prepare_one.ensures.same;
+      room = (let before = c.loop-i.invariant.room in let long = length-set all q u in omega (arith, before, long));
+    }
 
 pub returns-clause-same : goal.returns-clause-same
-returns-clause-same c =
-    all_same c.args.stamp (changes_of c.args.changes.now) c.args.tables.now.items c.loop-i.tables.items c.loop-i.plans.items c.loop-i.gained c.loop-i.lost c.loop-i.i c.loop-i.invariant
+returns-clause-same c = c.loop-i.invariant.same
 
 pub returns-clause-ready : goal.returns-clause-ready
 returns-clause-ready c =
-    let n : c.len-i-end.result ≡ length c.args.tables.now.items = search rules in
-    let long = c.loop-i.invariant.long in
+    let places = c.args.places.now in
+    let all = c.loop-i.tables.items in
+    let there = places_within places (length c.args.tables.now.items) (length all) (let count = c.loop-i.invariant.same.count in omega (arith, count)) c.requires.there in
+    let n = at_count all places there in
+    let m = at_count c.args.tables.now.items places c.requires.there in
     let past = c.loop-i-test.false in
     let few = c.loop-i.auto.i-end in
-    are_ready c.args.stamp (changes_of c.args.changes.now) c.args.tables.now.items c.loop-i.tables.items c.loop-i.plans.items c.loop-i.gained c.loop-i.lost c.loop-i.i c.loop-i.invariant
-    (omega (arith, n, past)) (omega (arith, n, few, long))
+    are_ready c.args.stamp (changes_of c.args.changes.now) (at_places c.args.tables.now.items places) (at_places all places) c.loop-i.plans.items c.loop-i.gained c.loop-i.lost c.loop-i.i c.loop-i.invariant.turn
+    (omega (arith, m, past)) (omega (arith, n, few))
 
 pub returns-clause-gained : goal.returns-clause-gained
 returns-clause-gained c =
-    let n : c.len-i-end.result ≡ length c.args.tables.now.items = search rules in
+    let places = c.args.places.now in
+    let m = at_count c.args.tables.now.items places c.requires.there in
     let past = c.loop-i-test.false in
-    gained_is c.args.stamp (changes_of c.args.changes.now) c.args.tables.now.items c.loop-i.tables.items c.loop-i.plans.items c.loop-i.gained c.loop-i.lost c.loop-i.i c.loop-i.invariant (omega (arith, n, past))
+    gained_is c.args.stamp (changes_of c.args.changes.now) (at_places c.args.tables.now.items places) (at_places c.loop-i.tables.items places) c.loop-i.plans.items c.loop-i.gained c.loop-i.lost c.loop-i.i
+    c.loop-i.invariant.turn (omega (arith, m, past))
 
 pub returns-clause-lost : goal.returns-clause-lost
 returns-clause-lost c =
-    let n : c.len-i-end.result ≡ length c.args.tables.now.items = search rules in
+    let places = c.args.places.now in
+    let m = at_count c.args.tables.now.items places c.requires.there in
     let past = c.loop-i-test.false in
-    lost_is c.args.stamp (changes_of c.args.changes.now) c.args.tables.now.items c.loop-i.tables.items c.loop-i.plans.items c.loop-i.gained c.loop-i.lost c.loop-i.i c.loop-i.invariant (omega (arith, n, past))
+    lost_is c.args.stamp (changes_of c.args.changes.now) (at_places c.args.tables.now.items places) (at_places c.loop-i.tables.items places) c.loop-i.plans.items c.loop-i.gained c.loop-i.lost c.loop-i.i
+    c.loop-i.invariant.turn (omega (arith, m, past))
 
 pub returns-in_err-gained-clause-same : goal.returns-in_err-gained-clause-same
 returns-in_err-gained-clause-same c =
-    let n : c.len-i-end.result ≡ length c.args.tables.now.items = search rules in
-    let long = c.loop-i.invariant.long in
-    let under = c.loop-i-test.true in
-    set_same c.args.stamp (changes_of c.args.changes.now) c.args.tables.now.items c.loop-i.tables.items c.loop-i.plans.items c.loop-i.gained c.loop-i.lost c.loop-i.i c.loop-i.invariant
-    c.index_mut.result.now c.prepare_one.new.table (omega (arith, n, long, under)) c.index_mut.ensures.value c.prepare_one.ensures.same
+    let places = c.args.places.now in
+    let all = c.loop-i.tables.items in
+    let there = places_within places (length c.args.tables.now.items) (length all) (let count = c.loop-i.invariant.same.count in omega (arith, count)) c.requires.there in
+    set_again c.args.tables.now.items all (get_or places c.loop-i.i 0) c.index_mut.result.now c.prepare_one.new.table c.loop-i.invariant.same (place_within places (length all) c.loop-i.i 0 there c.loop-i-test.true)
+    c.index_mut.ensures.value c.prepare_one.ensures.same
 
 pub returns-in_err-lost-clause-same : goal.returns-in_err-lost-clause-same
 returns-in_err-lost-clause-same c =
-    let n : c.len-i-end.result ≡ length c.args.tables.now.items = search rules in
-    let long = c.loop-i.invariant.long in
-    let under = c.loop-i-test.true in
-    set_same c.args.stamp (changes_of c.args.changes.now) c.args.tables.now.items c.loop-i.tables.items c.loop-i.plans.items c.loop-i.gained c.loop-i.lost c.loop-i.i c.loop-i.invariant
-    c.index_mut.result.now c.prepare_one.new.table (omega (arith, n, long, under)) c.index_mut.ensures.value c.prepare_one.ensures.same
+    let places = c.args.places.now in
+    let all = c.loop-i.tables.items in
+    let there = places_within places (length c.args.tables.now.items) (length all) (let count = c.loop-i.invariant.same.count in omega (arith, count)) c.requires.there in
+    set_again c.args.tables.now.items all (get_or places c.loop-i.i 0) c.index_mut.result.now c.prepare_one.new.table c.loop-i.invariant.same (place_within places (length all) c.loop-i.i 0 there c.loop-i-test.true)
+    c.index_mut.ensures.value c.prepare_one.ensures.same

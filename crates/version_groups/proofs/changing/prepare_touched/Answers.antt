@@ -1,4 +1,4 @@
-use Rattle.std.proofs.Common.{◌≡◌, ◌∙◌, List, Some, None, refl, sym, subst}
+use Rattle.std.proofs.Common.{◌≡◌, ◌∙◌, List, Some, None, sym, subst}
 use Rattle.prima_base.specs.Columns.{Column}
 use Rattle.smo_types.specs.Changes.{changes_of}
 use Rattle.version_groups.specs.Changing.{AreAccepted, of_table}

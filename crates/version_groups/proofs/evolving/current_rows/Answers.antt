@@ -6,14 +6,16 @@ use Rattle.history_store.specs.Store.{AllBefore, relation_at}
 use Rattle.version_groups.specs.Groups.{stored_as}
 use Rattle.version_groups.specs.Standing.{rows_stored}
 use Rattle.version_groups.specs.Evolving.{IsEarlier, rows_named}
+use Rattle.version_groups.specs.Places.{at_places}
 use Rattle.version_groups.proofs.Applying.{all_later}
 use Rattle.version_groups.proofs.evolving.current_rows.Goals as goal
 
 pub returns-in-Some-find_stored : goal.returns-in-Some-find_stored
 returns-in-Some-find_stored c = λ stamp lawful earlier.
     let s = c.in-Some-find_stored.store.now in
-    let under : Some s ≡ stored_as c.in-Some.name.now c.args.tables.now = c.in-Some-find_stored.ensures in
+    let group = at_places c.args.tables.now c.args.places.now in
+    let under : Some s ≡ stored_as c.in-Some.name.now group = c.in-Some-find_stored.ensures in
     let own : AllBefore s stamp = subst (IsEarlier stamp) (sym under) (earlier c.in-Some.name.now) in
-    let is : relation_at s stamp ≡ rows_named stamp (option_copied c.args.name) c.args.tables.now =
-    ap (rows_stored stamp) under ∙ ap (λ o. rows_named stamp (option_copied o) c.args.tables.now) (sym c.in-Some.is) in
+    let is : relation_at s stamp ≡ rows_named stamp (option_copied c.args.name) group =
+    ap (rows_stored stamp) under ∙ ap (λ o. rows_named stamp (option_copied o) group) (sym c.in-Some.is) in
     subst (λ (rows : List (List Value)). IfOk c.current.result (λ v. v.items ≡ rows)) is (c.current.ensures.rows stamp lawful (all_later s stamp (stamp + 1) (omega arith) own))

@@ -5,8 +5,7 @@ use Rattle.smo_meaning.specs.After.{carried}
 use Rattle.smo_types.specs.Commands.{PlainVersion}
 use Rattle.smo_meaning.specs.Effects.{rows_at}
 use Rattle.smo_types.specs.Operators.{Operator, operator_of, operators_of}
-use Rattle.version_groups.specs.Groups.{stored_as}
-use Rattle.version_groups.specs.Steps.{BeginsEntry}
+use Rattle.version_groups.specs.Evolving.{AreNext}
 use Rattle.version_groups.proofs.evolving.prepare_version.Goals as goal
 
 abbrev a_version : ℕ → Operator → List Operator → Tables → PlainVersion
@@ -17,7 +16,6 @@ returns c = λ database whole stored.
     let op = operator_of c.args.op.now in
     record {
       version = c.in_ok-version.ensures ∙ ap (a_version c.args.stamp op (operators_of c.args.inverse.now)) c.in_ok-schema.ensures;
-      ordered = c.in_ok-tables.ensures.ordered;
-      tables = λ name. subst (λ (t : Tables). BeginsEntry c.args.stamp (rows_at (get (carried c.args.before.now op database) name)) (get t name) (stored_as name c.in_ok-tables.tables.items))
-          c.in_ok-schema.ensures (c.in_ok-tables.ensures.tables database whole stored name);
+      tables = subst (λ (t : Tables). AreNext c.args.tables.now c.in_ok-tables.tables.begun.items c.in_ok-tables.tables.places.items c.args.stamp (λ name. rows_at (get (carried c.args.before.now op database) name)) t)
+          c.in_ok-schema.ensures (c.in_ok-tables.ensures database whole stored);
     }

@@ -1,4 +1,3 @@
-use Rattle.std.proofs.Common.{◌≡◌, true, false, ◌∙◌}
 use Rattle.std.specs.Prelude.{◌&&◌}
 use Rattle.cond_expr.specs.Seen.{test}
 use Rattle.smo_meaning.specs.OneRow.{meets}

@@ -1,10 +1,10 @@
-use Rattle.std.proofs.Common.{◌≡◌, ◌<◌, ℕ, List, [], ◌∷◌, ◌++◌, map, length, sym, ap, subst, ◌∙◌}
+use Rattle.std.proofs.Common.{◌≡◌, ◌<◌, ℕ, List, [], ◌∷◌, ◌++◌, map, length, get_or, sym, ap, subst, ◌∙◌}
 use Rattle.std.specs.Prelude.{◌&&◌, if◌then◌else◌}
 use Rattle.prima_base.specs.declared.values.Val.{Val}
 use Rattle.prima_base.specs.Order.{shown}
 use Rattle.cond_expr.specs.Rows.{AreLawful}
 use Rattle.cond_expr.specs.Seen.{test}
-use Rattle.smo_meaning.specs.OneRow.{Row, Relation, meets}
+use Rattle.smo_meaning.specs.OneRow.{Relation, meets}
 use Rattle.version_groups.specs.Overlay.{is_kept}
 use Rattle.version_groups.proofs.OverlaySteps.{all_lawful, passed_more}
 use Rattle.version_groups.proofs.overlay.stored_hits.Goals as goal
@@ -14,8 +14,13 @@ put_stored-requires c = subst (λ (vs : List Val). AreLawful vs) (sym c.deref.en
 
 pub loop-at-preserved : goal.loop-at-preserved
 loop-at-preserved c =
+    let rows = c.args.rows.now in
     let row = map shown c.deref.result.now in
-    let within : c.loop-at.at < length c.args.rows.now = subst (λ (n : ℕ). c.loop-at.at < n) c.len-at-end.ensures c.loop-at-test.true in
-    c.in_ok-put_stored.ensures
-    ∙ ap (λ (hs : Relation). hs ++ (if meets c.args.own.now (test c.args.cond.now) row && is_kept c.args.overlay.now.entries row then row ∷ [] else [])) c.loop-at.invariant
-    ∙ sym (passed_more (λ r. meets c.args.own.now (test c.args.cond.now) r && is_kept c.args.overlay.now.entries r) c.args.rows.now c.loop-at.at row within (ap (map shown) c.deref.ensures.value ∙ c.in_ok-lend.ensures.values))
+    let within : c.loop-at.at < length rows = subst (λ (n : ℕ). c.loop-at.at < n) c.len-at-end.ensures c.loop-at-test.true in
+    let lent : map shown c.lend.new.row.items ≡ get_or rows c.loop-at.at [] = c.in_ok-lend.ensures.values ∙ ap (λ (r : Relation). get_or r c.loop-at.at []) c.loop-at.invariant.same in
+    record {
+      same = c.in_ok-lend.ensures.same ∙ c.loop-at.invariant.same;
+      hits = c.in_ok-put_stored.ensures
+          ∙ ap (λ (hs : Relation). hs ++ (if meets c.args.own.now (test c.args.cond.now) row && is_kept c.args.overlay.now.entries row then row ∷ [] else [])) c.loop-at.invariant.hits
+          ∙ sym (passed_more (λ r. meets c.args.own.now (test c.args.cond.now) r && is_kept c.args.overlay.now.entries r) rows c.loop-at.at row within (ap (map shown) c.deref.ensures.value ∙ lent));
+    }

@@ -7,4 +7,7 @@ use Rattle.version_groups.specs.Overlay.{is_kept}
 use Rattle.version_groups.proofs.overlay.stored_hits.Given as goal
 
 abbrev pub invariant-loop-at : goal.invariant-loop-at
-invariant-loop-at l = l.hits.items ≡ filter (λ row. meets l.own (test l.cond) row && is_kept l.overlay.entries row) (take l.at l.rows)
+invariant-loop-at l = record {
+  same : l.rows ≡ l.fn.rows;
+  hits : l.hits.items ≡ filter (λ row. meets l.own (test l.cond) row && is_kept l.overlay.entries row) (take l.at l.fn.rows);
+}

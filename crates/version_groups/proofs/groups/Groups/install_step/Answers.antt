@@ -4,7 +4,7 @@ use Rattle.smo_types.specs.declared.versions.Version.{Version}
 use Rattle.smo_types.specs.Commands.{version_of}
 use Rattle.version_groups.specs.Steps.{changed, evolved, step_of, IsStep}
 use Rattle.version_groups.specs.Groups.{versions_in, group_of}
-use Rattle.version_groups.proofs.CarriedOut.{changes_made, version_made, have_room, is_room, group_stays}
+use Rattle.version_groups.proofs.CarriedOut.{changes_made, changes_leave, version_made, have_room, is_room, group_stays}
 use Rattle.version_groups.proofs.groups.Groups.install_step.Goals as goal
 
 pub install_changes-requires : goal.install_changes-requires
@@ -24,20 +24,23 @@ pub install_version-requires : goal.install_version-requires
 install_version-requires c =
     let past = c.requires.0 in
     let command = c.requires.1 in
-    let is : step_of c.args.step ≡ evolved (version_of c.in-Evolved.version) c.in-Evolved.tables.items = ap step_of c.in-Evolved.is in
-    let r = is_room c.args.self.now past command.stamp command.body (version_of c.in-Evolved.version) c.in-Evolved.tables.items (subst (IsStep c.args.self.now past command.stamp command.body) is c.requires.6) in
-    record { ordered = r.ordered; room = r.room; fits = r.fits }
+    let is : step_of c.args.step ≡ evolved (version_of c.in-Evolved.version) c.in-Evolved.begun.items c.in-Evolved.places.items = ap step_of c.in-Evolved.is in
+    let r = is_room c.args.self.now past command.stamp command.body (version_of c.in-Evolved.version) c.in-Evolved.begun.items c.in-Evolved.places.items (subst (IsStep c.args.self.now past command.stamp command.body) is c.requires.6) in
+    record { there = r.there; ordered = r.ordered; room = r.room; beginnings = r.beginnings; fits = r.fits }
 
 pub returns-in-Evolved-clause-shows : goal.returns-in-Evolved-clause-shows
 returns-in-Evolved-clause-shows c = λ past command shows accepted lawful hold ready.
-    let is : step_of c.args.step ≡ evolved (version_of c.in-Evolved.version) c.in-Evolved.tables.items = ap step_of c.in-Evolved.is in
-    version_made c.args.self.now c.install_version.new.self past shows c.in-Evolved.version c.in-Evolved.tables.items c.install_version.ensures command.stamp command.body lawful accepted hold
+    let is : step_of c.args.step ≡ evolved (version_of c.in-Evolved.version) c.in-Evolved.begun.items c.in-Evolved.places.items = ap step_of c.in-Evolved.is in
+    version_made c.args.self.now c.install_version.new.self past shows c.in-Evolved.version c.in-Evolved.begun.items c.in-Evolved.places.items c.install_version.ensures command.stamp command.body lawful accepted hold
     (subst (IsStep c.args.self.now past command.stamp command.body) is ready)
 
 pub returns-in-Changed-clause-earlier : goal.returns-in-Changed-clause-earlier
-returns-in-Changed-clause-earlier c = λ k l name.
-    group_stays (versions_in c.install_changes.new.self) k name (group_of c.args.self.now k) (group_of c.install_changes.new.self k)
-    (c.install_changes.ensures.groups k (subst (λ (vs : List Version). k < length vs) c.install_changes.ensures.versions l))
+returns-in-Changed-clause-earlier c =
+    let past = c.requires.0 in
+    let command = c.requires.1 in
+    let is : step_of c.args.step ≡ changed c.in-Changed.plans.items = ap step_of c.in-Changed.is in
+    λ k l name. changes_leave c.args.self.now c.install_changes.new.self past c.requires.2 c.in-Changed.plans.items c.install_changes.ensures command.stamp command.body c.requires.4 c.requires.3
+    (subst (IsStep c.args.self.now past command.stamp command.body) is c.requires.6) k (subst (λ (vs : List Version). k < length vs) c.install_changes.ensures.versions l) name
 
 pub returns-in-Evolved-clause-earlier : goal.returns-in-Evolved-clause-earlier
 returns-in-Evolved-clause-earlier c =

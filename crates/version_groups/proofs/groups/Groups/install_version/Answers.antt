@@ -1,5 +1,5 @@
-use Rattle.std.proofs.Common.{◌≡◌, ◌<◌, ◌+◌, length, refl, sym, ap, subst}
-use Rattle.std.specs.Prelude.{List, ◌^◌}
+use Rattle.std.proofs.Common.{◌≡◌, ◌<◌, ◌+◌, ◌++◌, length, refl, sym, ap, subst}
+use Rattle.std.specs.Prelude.{List, ◌^◌, ℕ}
 use Rattle.std.specs.Global.{Vec}
 use Rattle.relations.specs.Sets.{Ascends}
 use Rattle.prima_base.specs.Order.{bytes_cmp}
@@ -8,21 +8,28 @@ use Rattle.version_groups.specs.declared.groups.Groups.TheInside.{Inside}
 use Rattle.version_groups.specs.Groups.{Kept, names_of}
 use Rattle.version_groups.specs.GroupFields.{groups_view}
 use Rattle.version_groups.specs.Installing.{HasVersion}
+use Rattle.version_groups.specs.Places.{at_places, AreWithin}
 use Rattle.version_groups.proofs.GroupPlaces.{are_groups_with, has_version}
 use Rattle.version_groups.proofs.groups.Groups.install_version.Goals as goal
 
 pub invariant_of-self : goal.invariant_of-self
 invariant_of-self c =
     let a = c.self.inside in
-    let b : Inside = record { alloc = a.alloc; nothing = a.nothing; versions = record { list = c.push_reserved.new.self }; earlier = c.push_reserved-2.new.self; newest = c.replace-before.new.dest } in
-    are_groups_with a b c.args.version c.replace-before.result (ap (λ (v : Vec MadeTable). v.items) c.replace-before.ensures.value) c.push_reserved.ensures.items c.push_reserved-2.ensures.items c.self.invariant refl
+    let b : Inside = record { alloc = a.alloc; nothing = a.nothing; versions = record { list = c.push_reserved.new.self }; stored = c.put_behind.new.list; earlier = c.push_reserved-2.new.self; newest = c.replace-before.new.dest } in
+    let kept : a.stored.items ≡ c.args.self.now.stored = ap (λ (k : Kept). k.stored) c.self.view_is in
+    are_groups_with a b c.args.version c.replace-before.result c.args.begun.items (ap (λ (v : Vec ℕ). v.items) c.replace-before.ensures.value) c.push_reserved.ensures.items c.put_behind.ensures
+    c.push_reserved-2.ensures.items c.self.invariant refl
     (subst (λ (k : Kept). length k.versions + 1 < 2 ^ 32) (sym c.self.view_is) c.requires.fits)
-    (subst (λ (v : Vec MadeTable). Ascends bytes_cmp (names_of v.items)) (sym c.replace-before.ensures.after) c.requires.ordered)
+    (subst (λ (v : Vec ℕ). AreWithin v.items (length a.stored.items + length c.args.begun.items)) (sym c.replace-before.ensures.after)
+    (subst (λ (ts : List MadeTable). AreWithin c.args.places.items (length ts + length c.args.begun.items)) (sym kept) c.requires.there))
+    (subst (λ (v : Vec ℕ). Ascends bytes_cmp (names_of (at_places (a.stored.items ++ c.args.begun.items) v.items))) (sym c.replace-before.ensures.after)
+    (subst (λ (ts : List MadeTable). Ascends bytes_cmp (names_of (at_places (ts ++ c.args.begun.items) c.args.places.items))) (sym kept) c.requires.ordered))
 
 pub returns : goal.returns
 returns c =
     let a = c.self.inside in
-    let b : Inside = record { alloc = a.alloc; nothing = a.nothing; versions = record { list = c.push_reserved.new.self }; earlier = c.push_reserved-2.new.self; newest = c.replace-before.new.dest } in
-    subst (λ (k : Kept). HasVersion k (groups_view b) c.args.version c.args.tables.items) c.self.view_is
-    (subst (λ (v : Vec MadeTable). HasVersion (groups_view a) (groups_view b) c.args.version v.items) c.replace-before.ensures.after
-    (has_version a b c.args.version c.replace-before.result (ap (λ (v : Vec MadeTable). v.items) c.replace-before.ensures.value) c.push_reserved.ensures.items c.push_reserved-2.ensures.items c.self.invariant))
+    let b : Inside = record { alloc = a.alloc; nothing = a.nothing; versions = record { list = c.push_reserved.new.self }; stored = c.put_behind.new.list; earlier = c.push_reserved-2.new.self; newest = c.replace-before.new.dest } in
+    subst (λ (k : Kept). HasVersion k (groups_view b) c.args.version c.args.begun.items c.args.places.items) c.self.view_is
+    (subst (λ (v : Vec ℕ). HasVersion (groups_view a) (groups_view b) c.args.version c.args.begun.items v.items) c.replace-before.ensures.after
+    (has_version a b c.args.version c.replace-before.result c.args.begun.items (ap (λ (v : Vec ℕ). v.items) c.replace-before.ensures.value) c.push_reserved.ensures.items c.put_behind.ensures
+    c.push_reserved-2.ensures.items c.self.invariant))

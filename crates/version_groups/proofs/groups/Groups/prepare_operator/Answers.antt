@@ -1,15 +1,14 @@
 use Rattle.std.proofs.Common.{◌≡◌, None, refl, sym, ap, subst, ◌∙◌, arith}
-use Rattle.std.specs.Prelude.{List}
 use Rattle.schema_catalog.specs.Tables.{Tables}
 use Rattle.schema_catalog.specs.Databases.{IsDatabase}
 use Rattle.smo_meaning.specs.After.{op_fault, IsLawful}
 use Rattle.smo_types.specs.Commands.{version_of}
 use Rattle.smo_types.specs.Operators.{operator_of, operators_of}
 use Rattle.smo_meaning.specs.Past.{newest_tables, newest_database}
-use Rattle.version_groups.specs.declared.made_tables.MadeTable.{MadeTable}
 use Rattle.version_groups.specs.Groups.{Kept, newest_group}
 use Rattle.version_groups.specs.Evolving.{IsEvolved}
 use Rattle.version_groups.specs.Standing.{AreStored}
+use Rattle.version_groups.specs.Places.{at_places}
 use Rattle.version_groups.proofs.GroupPlaces.{newest_is}
 use Rattle.version_groups.proofs.Readied.{schema_is, op_accepted, few_nodes, stored_now, operator_ready, is_same}
 use Rattle.version_groups.proofs.groups.Groups.prepare_operator.Goals as goal
@@ -39,10 +38,11 @@ prepare_version-requires-clause-stored c =
     let a = c.self.inside in
     let h = c.requires.accepted in
     let schema = c.newest_schema-schema.ensures ∙ schema_is c.args.self.now h.0 h.1 a.nothing a.versions.list.items c.self.invariant.nothing (ap (λ (k : Kept). k.versions) c.self.view_is) in
-    let group : newest_group c.args.self.now ≡ c.deref.result.now = ap newest_group (sym c.self.view_is) ∙ newest_is a c.self.invariant ∙ sym c.deref.ensures.value in (
+    let group : newest_group c.args.self.now ≡ at_places c.deref.result.now c.deref-2.result.now = ap newest_group (sym c.self.view_is) ∙ newest_is a c.self.invariant
+    ∙ ap (λ ts. at_places ts a.newest.items) (sym c.deref.ensures.value) ∙ ap (at_places c.deref.result.now) (sym c.deref-2.ensures.value) in (
       newest_database h.0,
       subst (λ (t : Tables). IsDatabase t (newest_database h.0)) (sym schema) h.1.lawful.database,
-      subst (λ (t : Tables). AreStored t (newest_database h.0) c.args.stamp c.deref.result.now) (sym schema)
+      subst (λ (t : Tables). AreStored t (newest_database h.0) c.args.stamp (at_places c.deref.result.now c.deref-2.result.now)) (sym schema)
           (subst (AreStored (newest_tables h.0) (newest_database h.0) c.args.stamp) group
           (stored_now c.args.self.now h.0 c.args.stamp (operator_of c.args.op.now) (operators_of c.args.inverse.now) h.1 c.requires.lawful h.2)),
     )
@@ -56,10 +56,16 @@ returns-clause-next c = λ past shows accepted.
     let op = operator_of c.args.op.now in
     let inverse = operators_of c.args.inverse.now in
     let schema = c.newest_schema-schema.ensures ∙ schema_is c.args.self.now past shows a.nothing a.versions.list.items c.self.invariant.nothing (ap (λ (k : Kept). k.versions) c.self.view_is) in
-    let group : newest_group c.args.self.now ≡ c.deref.result.now = ap newest_group (sym c.self.view_is) ∙ newest_is a c.self.invariant ∙ sym c.deref.ensures.value in
-    let stored = subst (λ (t : Tables). AreStored t (newest_database past) c.args.stamp c.deref.result.now) (sym schema)
+    let group : newest_group c.args.self.now ≡ at_places c.deref.result.now c.deref-2.result.now = ap newest_group (sym c.self.view_is) ∙ newest_is a c.self.invariant
+    ∙ ap (λ ts. at_places ts a.newest.items) (sym c.deref.ensures.value) ∙ ap (at_places c.deref.result.now) (sym c.deref-2.ensures.value) in
+    let stored = subst (λ (t : Tables). AreStored t (newest_database past) c.args.stamp (at_places c.deref.result.now c.deref-2.result.now)) (sym schema)
     (subst (AreStored (newest_tables past) (newest_database past) c.args.stamp) group (stored_now c.args.self.now past c.args.stamp op inverse shows c.requires.lawful accepted)) in
     let made = c.in_ok-evolved.ensures (newest_database past) (subst (λ (t : Tables). IsDatabase t (newest_database past)) (sym schema) shows.lawful.database) stored in
-    operator_ready c.args.self.now past c.args.stamp op inverse shows c.requires.lawful accepted c.requires.constants c.reserve_version.new.self c.reserve_version.ensures.same c.in_ok-reserve_version.ensures.room
-    c.in_ok-evolved.evolved.version c.in_ok-evolved.evolved.tables.items
-    (subst (λ (t : Tables). IsEvolved t (newest_database past) c.args.stamp op inverse (version_of c.in_ok-evolved.evolved.version) c.in_ok-evolved.evolved.tables.items) schema made) _ refl refl refl
+    let kept : c.deref.result.now ≡ c.args.self.now.stored = c.deref.ensures.value ∙ ap (λ (k : Kept). k.stored) c.self.view_is in
+    let begun = c.in_ok-evolved.evolved.tables.begun.items in
+    let places = c.in_ok-evolved.evolved.tables.places.items in
+    let version = c.in_ok-evolved.evolved.version in
+    operator_ready c.args.self.now past c.args.stamp op inverse shows c.requires.lawful accepted c.requires.constants c.reserve_version.new.self c.reserve_version.ensures.same c.reserve_version.ensures.stored
+    c.in_ok-reserve_version.ensures.room version begun places (let n = c.len.ensures in let b = c.in_ok-reserve_version.ensures.beginnings in omega (arith, n, b))
+    (subst (λ ts. IsEvolved ts (newest_tables past) (newest_database past) c.args.stamp op inverse (version_of version) begun places) kept
+    (subst (λ (t : Tables). IsEvolved c.deref.result.now t (newest_database past) c.args.stamp op inverse (version_of version) begun places) schema made)) _ refl refl refl

@@ -1,0 +1,14 @@
+-- Stored tables by their names.
+use Rattle.std.specs.Prelude.{ℕ, List, [], ◌∷◌, Option, Some, None, if◌then◌else◌}
+use Rattle.history_store.specs.Store.{Store}
+use Rattle.smo_meaning.specs.OneRow.{same}
+use Rattle.version_groups.specs.declared.made_tables.MadeTable.{MadeTable}
+
+-- what is stored under the name
+abbrev pub stored_as : List ℕ → List MadeTable → Option Store
+stored_as name [] = None
+stored_as name (t ∷ tables) = if same t.name name then Some t.store else stored_as name tables
+
+abbrev pub names_of : List MadeTable → List (List ℕ)
+names_of [] = []
+names_of (t ∷ tables) = t.name ∷ names_of tables
