@@ -5,4 +5,5 @@ pub mod Joined
 pub mod Cut
 pub mod Sorted
 pub mod Values
+pub mod Listed
 pub mod KeptEntries

@@ -8,7 +8,9 @@ mod cutting;
 mod joining;
 mod keeping;
 
+ghost use Rattle.std.specs.Prelude.{◌≡◌, ℕ, true, false, []};
 ghost use Rattle.relations.specs.Listing.{IsListing};
+ghost use Rattle.relations.specs.Spans.{covers};
 ghost use Rattle.coalesce.specs.Joining.{HaveValuesOf};
 ghost use Rattle.prima_base.specs.Order.{row_cmp};
 ghost use Rattle.prima_base.specs.Timed.{rows_at, entries_of};
@@ -19,10 +21,13 @@ pub use keeping::keep;
 use prima_base::{Period, TimedRow};
 
 /// Makes of rows with periods the one list of what they hold inside a slice: each row with its
-/// longest periods, ascending by row and start. The values of each row are those of one that was there: what is lent stays
-/// lent. It takes no memory. (Coalescing, PRIMA 2008.)
+/// longest periods, ascending by row and start. At each moment of the slice the same rows hold as before, and at no other
+/// moment any. The values of each row are those of one that was there: what is lent stays lent. It takes no memory.
+/// (Coalescing, PRIMA 2008.)
 pub fn coalesce_in_place(rows: &mut Vec<TimedRow<'_>>, slice: Period)
     ensures listing { IsListing row_cmp (rows_at rows.old.items) slice (entries_of rows.new.items) }
+    ensures same { (m : ℕ) → covers slice m ≡ true → rows_at rows.new.items m ≡ rows_at rows.old.items m }
+    ensures inside { (m : ℕ) → covers slice m ≡ false → rows_at rows.new.items m ≡ [] }
     ensures values { HaveValuesOf rows.old.items rows.new.items }
 {
     cut_rows(rows, slice);

@@ -3,33 +3,19 @@ use Rattle.std.proofs.Common.{◌≡◌, ℕ, List, [], ◌∷◌, map, sym, ap,
 use Rattle.std.specs.List.{filter}
 use Rattle.relations.specs.Sets.{set_of}
 use Rattle.relations.specs.Choices.{choices}
-use Rattle.relations.specs.Timed.{Entry, held_at, at}
 use Rattle.prima_base.specs.declared.values.Value.{Value}
-use Rattle.prima_base.specs.declared.timed_rows.TimedRow.{TimedRow}
 use Rattle.prima_base.specs.Order.{row_cmp}
-use Rattle.prima_base.specs.Timed.{entries_of, rows_at}
 use Rattle.cond_expr.specs.declared.exprs.Column.{Column}
 use Rattle.cond_expr.specs.Trees.{Tree, Test}
 use Rattle.joining.specs.declared.sources.Source.{Source}
 use Rattle.timed_choices.specs.Choosing.{completed}
 use Rattle.timed_choices.specs.Keeping.{meets, meets_all}
 use Rattle.cond_expr.specs.Parts.{parts}
-use Rattle.timed_choices.specs.Answering.{one_row, outputs, answers}
+use Rattle.timed_choices.specs.Answering.{one_row, outputs}
 use Rattle.timed_choices.proofs.PlaceLaws.{parts_meet}
-use Rattle.timed_choices.proofs.JoinLaws.{filter_like, held_answers}
+use Rattle.timed_choices.proofs.JoinLaws.{filter_like}
 use Rattle.joining.proofs.ChoiceLaws.{all_choices, of_relations}
 use Rattle.joining.specs.Sources.{held_of, relations_of}
-
--- of nothing nothing is answered
-pub nothing_met : (cs : List Column) (outs : List Tree) (c : Test) (xs : List (List Value)) → xs ≡ [] → set_of row_cmp (map (outputs cs outs) (filter (meets cs c) xs)) ≡ []
-unfolding set_of
-nothing_met cs outs c xs h = ap (λ (ys : List (List Value)). set_of row_cmp (map (outputs cs outs) (filter (meets cs c) ys))) h
-
--- what holds of the answers of choices are the answers of the choices that hold
-pub answered_at : (cs : List Column) (outs : List Tree) (c : Test) (rows : List TimedRow) (made : List (Entry (List Value))) (m : ℕ) → entries_of rows ≡ answers cs outs c made
-    → rows_at rows m ≡ set_of row_cmp (map (outputs cs outs) (filter (meets cs c) (held_at made m)))
-unfolding at
-answered_at cs outs c rows made m answered = ap (set_of row_cmp) (ap (λ (es : List (Entry (List Value))). held_at es m) answered ∙ held_answers cs outs c m made)
 
 -- a choice meets the condition where it meets all its parts
 pub by_parts : (cs : List Column) (c : Test) (ps : List Test) → ps ≡ parts c → (xs : List (List Value)) → filter (meets cs c) xs ≡ filter (meets_all cs ps) xs

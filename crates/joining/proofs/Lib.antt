@@ -4,4 +4,7 @@ pub mod AtomCells
 pub mod AtomOrder
 pub mod NearRows
 pub mod TurnLaws
+pub mod LevelLaws
+pub mod CoalescedRows
 pub mod PrunedRows
+pub mod RunLaws

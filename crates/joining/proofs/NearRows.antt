@@ -1,4 +1,4 @@
--- The rows of a group that a period may meet.
+-- The rows of a run that a period may meet.
 use Rattle.std.proofs.Common.{◌≡◌, ◌<◌, ◌≤◌, ◌+◌, ◌-◌, take_all, ℕ, zero, suc, Bool, true, false, cond, List, [], ◌∷◌, ◌++◌, take, drop, length, get_or, length-append, refl, sym, ap, ◌∙◌, subst, inl, inr, arith}
 use Rattle.std.specs.Prelude.{nat_lt, min, max, Some, None}
 use Rattle.std.specs.List.{flat_map}

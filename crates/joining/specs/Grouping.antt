@@ -1,9 +1,10 @@
--- What is kept of a group beside its rows.
+-- What is kept of a run of rows beside these, and the rows of several runs.
 use Rattle.std.specs.Prelude.{◌≡◌, ℕ, ◌<◌, ◌≤◌, ◌++◌, true, List, length, get_or}
+use Rattle.std.specs.List.{flat_map}
 use Rattle.relations.specs.Sets.{In}
 use Rattle.relations.specs.Spans.{Span}
 use Rattle.prima_base.specs.declared.timed_rows.TimedRow.{TimedRow}
-use Rattle.joining.specs.declared.groups.Group.TheInside.{Inside}
+use Rattle.joining.specs.declared.groups.Run.TheInside.{Inside}
 
 -- no row ends later than the number beside it, or beside one behind it
 abbrev pub EndBy : List TimedRow → List ℕ → Type 0
@@ -13,7 +14,7 @@ EndBy rows ends = (i j : ℕ) (d : TimedRow) → j ≤ i → i < length rows →
 abbrev pub AreInTurn : List TimedRow → Type 0
 AreInTurn rows = (i j : ℕ) (d : TimedRow) → i ≤ j → j < length rows → (get_or rows i d).period.start ≤ (get_or rows j d).period.start
 
-pub record IsGroup (g : Inside) : Type 0 where
+pub record IsRun (g : Inside) : Type 0 where
   pub count : length g.ends.items ≡ length g.rows.items
   pub ends : EndBy g.rows.items g.ends.items
   pub turn : g.in_turn ≡ true → AreInTurn g.rows.items
@@ -26,3 +27,7 @@ pub record IsNear (period : Span) (rows piece : List TimedRow) : Type 0 where
   pub is : rows ≡ before ++ (piece ++ after)
   pub ended : (t : TimedRow) → In t before → t.period.end ≤ period.start
   pub later : (t : TimedRow) → In t after → period.end ≤ t.period.start
+
+-- the rows of one run behind those of the other
+abbrev pub rows_of_runs : List (List TimedRow) → List TimedRow
+rows_of_runs runs = flat_map (λ (run : List TimedRow). run) runs

@@ -1,8 +1,11 @@
-//! What outputs and a condition answer of choices.
+//! What outputs and a condition answer of choices, and what is answered so far.
 
-ghost use Rattle.std.specs.Prelude.{◌≡◌, ◌++◌, map, IfOk, OnOk};
-ghost use Rattle.prima_base.specs.Order.{shown};
-ghost use Rattle.prima_base.specs.Timed.{entry_of, entries_of};
+ghost use Rattle.std.specs.Prelude.{◌≡◌, ◌++◌, ℕ, true, List, [], map, IfOk, OnOk};
+ghost use Rattle.relations.specs.Spans.{covers};
+ghost use Rattle.relations.specs.Timed.{held_at, at};
+ghost use Rattle.prima_base.specs.Order.{row_cmp, shown};
+ghost use Rattle.prima_base.specs.Timed.{entry_of, entries_of, rows_at};
+ghost use Rattle.cond_expr.specs.Trees.{Tree};
 ghost use Rattle.cond_expr.specs.Seen.{tree, test};
 ghost use Rattle.cond_expr.specs.Rows.{AreLawful, AreLent};
 ghost use Rattle.timed_choices.specs.Lending.{AllLent, StaysLent, AllStayLent};
@@ -10,9 +13,31 @@ ghost use Rattle.timed_choices.specs.Keeping.{IsLawfulRow, AllLawful};
 ghost use Rattle.timed_choices.specs.Answering.{outputs, answer, answers};
 
 use crate::steps::is_met;
+use coalesce::coalesce_in_place;
 use cond_expr::{Column, Cond, Expr, eval};
-use prima_base::{NoMemory, TimedRow, Val};
+use prima_base::{NoMemory, Period, TimedRow, Val};
 use std::alloc::Global;
+
+// so many answers are kept as they come
+const FEW: usize = 65_536;
+
+/// What is answered so far. It is coalesced whenever it has doubled, so that it has not many more rows than the list of it.
+#[derive(Drop)]
+pub(crate) struct Answered<'a> {
+    pub(crate) rows: Vec<TimedRow<'a>>,
+    // as many rows are coalesced
+    limit: usize,
+}
+
+/// Nothing is answered yet.
+pub(crate) fn none_yet<'a>(alloc: Global) -> Answered<'a>
+    ensures { result.rows.items ≡ [] }
+{
+    Answered {
+        rows: Vec::new(alloc),
+        limit: FEW,
+    }
+}
 
 // The values of the outputs, in written order.
 fn output_row<'a>(
@@ -56,8 +81,8 @@ fn put_answer<'a>(
     Ok(())
 }
 
-/// Puts the values of the outputs of each choice that meets the condition, in its period, behind the other rows.
-pub(crate) fn put_answers<'a>(
+// Puts the values of the outputs of each choice that meets the condition, in its period, behind the other rows.
+fn put_answers<'a>(
     alloc: Global,
     rows: &mut Vec<TimedRow<'a>>,
     outs: &[Expr],
@@ -72,5 +97,39 @@ pub(crate) fn put_answers<'a>(
     for choice in choices {
         put_answer(alloc, rows, outs, cond, columns, choice)?;
     }
+    Ok(())
+}
+
+// Coalesces the rows, where they are as many as the limit. Answered is at how many they are coalesced next.
+fn settled(rows: &mut Vec<TimedRow<'_>>, slice: Period, limit: usize) -> usize
+    ensures lent { (outs : List Tree) → AllStayLent outs rows.old.items → AllStayLent outs rows.new.items }
+    ensures same { (m : ℕ) → covers slice m ≡ true → rows_at rows.new.items m ≡ rows_at rows.old.items m }
+    ensures inside { (m : ℕ) → rows_at rows.old.items m ≡ [] → rows_at rows.new.items m ≡ [] }
+{
+    if rows.len() < limit {
+        return limit;
+    }
+    coalesce_in_place(rows, slice);
+    rows.len().saturating_mul(2).max(FEW)
+}
+
+/// Takes what the choices that meet the condition answer into what is answered, at each moment of the slice.
+pub(crate) fn answer_made<'a>(
+    alloc: Global,
+    outs: &[Expr],
+    cond: &Cond,
+    columns: &[Column],
+    slice: Period,
+    choices: &[TimedRow<'a>],
+    answered: &mut Answered<'a>,
+) -> Result<(), NoMemory>
+    requires { AllLawful (entries_of choices.now) }
+    ensures lent { AllStayLent (map tree outs.now) answered.old.rows.items → AllLent choices.now → OnOk result (AllStayLent (map tree outs.now) answered.new.rows.items) }
+    ensures rows { (m : ℕ) → covers slice m ≡ true
+        → OnOk result (rows_at answered.new.rows.items m ≡ at row_cmp (entries_of answered.old.rows.items ++ answers columns.now (map tree outs.now) (test cond.now) (entries_of choices.now)) m) }
+    ensures inside { (m : ℕ) → held_at (entries_of choices.now) m ≡ [] → rows_at answered.old.rows.items m ≡ [] → OnOk result (rows_at answered.new.rows.items m ≡ []) }
+{
+    put_answers(alloc, &mut answered.rows, outs, cond, columns, choices)?;
+    answered.limit = settled(&mut answered.rows, slice, answered.limit);
     Ok(())
 }

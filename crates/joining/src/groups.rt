@@ -9,6 +9,7 @@ ghost use Rattle.prima_base.specs.declared.timed_rows.TimedRow.{TimedRow as OneR
 ghost use Rattle.prima_base.specs.Order.{row_cmp};
 ghost use Rattle.prima_base.specs.Timed.{entry_of};
 ghost use Rattle.timed_choices.specs.Keeping.{picked, in_group};
+ghost use Rattle.joining.specs.Grouping.{rows_of_runs};
 
 use crate::keys::{Key, key_of};
 use prima_base::{NoMemory, Period, TimedRow};
@@ -16,26 +17,48 @@ use std::alloc::Global;
 use std::collections::BTreeMap;
 use std::marker::Model;
 
-/// Rows of one key. A contract sees the rows, in the order in which they came.
+/// Rows of one key one behind the other, of periods of one magnitude. A contract sees the rows, in the order in which they came.
 #[derive(Drop)]
-pub(crate) struct Group<'a> {
+pub(crate) struct Run<'a> {
     rows: Vec<TimedRow<'a>>,
     // of each row the latest end of it and of those before it
     ends: Vec<u64>,
     // whether no row starts earlier than one before it
     in_turn: bool,
+    magnitude: u32,
 }
 
-impl<'a> Model for Group<'a> {
+impl<'a> Model for Run<'a> {
     ghost use Rattle.std.specs.Prelude.{List};
     ghost use Rattle.prima_base.specs.declared.timed_rows.TimedRow.{TimedRow as OneRow};
-    ghost use Rattle.joining.specs.Grouping.{IsGroup};
+    ghost use Rattle.joining.specs.Grouping.{IsRun};
 
     ghost Value = { List OneRow };
 
     ghost view = { λ g. g.rows.items };
 
-    ghost invariant = { IsGroup };
+    ghost invariant = { IsRun };
+}
+
+/// Rows of one key, in runs. A contract sees the rows, in the order in which they came.
+#[derive(Drop)]
+pub(crate) struct Group<'a> {
+    runs: Vec<Run<'a>>,
+}
+
+impl<'a> Model for Group<'a> {
+    ghost use Rattle.std.specs.Prelude.{List};
+    ghost use Rattle.prima_base.specs.declared.timed_rows.TimedRow.{TimedRow as OneRow};
+    ghost use Rattle.joining.specs.Grouping.{rows_of_runs};
+
+    ghost Value = { List OneRow };
+
+    ghost view = { λ g. rows_of_runs g.runs.items };
+}
+
+/// How long the period is: no period of a magnitude is twice as long as another one of it, but for those that still go on.
+pub(crate) fn magnitude(period: Period) -> u32 {
+    (period.end() - period.start()).leading_zeros()
 }
 
 // How many rows have ended at the moment, and all before them, by their latest ends.
@@ -89,18 +112,24 @@ fn is_next(rows: &[TimedRow<'_>], moment: u64) -> bool
     }
 }
 
-impl<'a> Group<'a> {
+impl<'a> Run<'a> {
     ghost use Rattle.std.specs.Prelude.{◌≡◌, [], ◌∷◌, ◌++◌, OnOk};
     ghost use Rattle.joining.specs.Grouping.{IsNear};
 
-    fn new(alloc: Global) -> Group<'a>
+    fn new(alloc: Global, magnitude: u32) -> Run<'a>
         ensures { result ≡ [] }
     {
-        Group {
+        Run {
             rows: Vec::new(alloc),
             ends: Vec::new(alloc),
             in_turn: true,
+            magnitude,
         }
+    }
+
+    // Whether the period is of the run's magnitude.
+    fn takes(&self, period: Period) -> bool {
+        self.magnitude == magnitude(period)
     }
 
     // Puts the row behind the others.
@@ -117,7 +146,7 @@ impl<'a> Group<'a> {
         Ok(())
     }
 
-    /// The rows that have a moment of the period, in a piece of the group: those before it have ended when the period
+    /// The rows that have a moment of the period, in a piece of the run: those before it have ended when the period
     /// starts, and those behind it start when it has ended.
     pub(crate) fn near(&self, period: Period) -> &[TimedRow<'a>]
         ensures { IsNear period self.now result.now }
@@ -129,6 +158,54 @@ impl<'a> Group<'a> {
         }
         let earlier = count_earlier(live, period.end());
         &live[..earlier]
+    }
+}
+
+// A run of one row.
+fn run_of<'a>(alloc: Global, row: TimedRow<'a>) -> Result<Run<'a>, NoMemory>
+    ensures { IfOk result (λ run. run ≡ row.entry ∷ []) }
+{
+    let mut run = Run::new(alloc, magnitude(row.period));
+    run.push(row)?;
+    Ok(run)
+}
+
+// Puts the row behind those of the last run, or into a run of its own behind it.
+fn put_in_run<'a>(alloc: Global, runs: &mut Vec<Run<'a>>, row: TimedRow<'a>) -> Result<(), NoMemory>
+    ensures { OnOk result (rows_of_runs runs.new.items ≡ rows_of_runs runs.old.items ++ row.entry ∷ []) }
+{
+    let count = runs.len();
+    if count > 0 && runs[count - 1].takes(row.period) {
+        return runs[count - 1].push(row);
+    }
+    runs.push(run_of(alloc, row)?)?;
+    Ok(())
+}
+
+impl<'a> Group<'a> {
+    ghost use Rattle.std.specs.Prelude.{◌≡◌, [], ◌∷◌, ◌++◌, OnOk};
+    ghost use Rattle.joining.specs.Grouping.{rows_of_runs};
+
+    fn new(alloc: Global) -> Group<'a>
+        ensures { result ≡ [] }
+    {
+        Group {
+            runs: Vec::new(alloc),
+        }
+    }
+
+    // Puts the row behind the others.
+    fn push(&mut self, alloc: Global, row: TimedRow<'a>) -> Result<(), NoMemory>
+        ensures { OnOk result (self.new ≡ self.old ++ row.entry ∷ []) }
+    {
+        put_in_run(alloc, &mut self.runs, row)
+    }
+
+    /// The runs, in their order.
+    pub(crate) fn runs(&self) -> &[Run<'a>]
+        ensures { rows_of_runs result.now ≡ self.now }
+    {
+        &self.runs
     }
 }
 
@@ -144,13 +221,13 @@ fn put_row<'a>(
 {
     match groups.remove(&key) {
         Some(mut group) => {
-            group.push(row)?;
+            group.push(alloc, row)?;
             groups.insert(key, group)?;
             Ok(())
         }
         None => {
             let mut group = Group::new(alloc);
-            group.push(row)?;
+            group.push(alloc, row)?;
             groups.insert(key, group)?;
             Ok(())
         }

@@ -6,7 +6,7 @@ mod engine;
 mod groups;
 mod joins;
 mod keys;
-mod last;
+mod levels;
 mod orders;
 mod own_parts;
 mod parts;

@@ -12,6 +12,7 @@ ghost use Rattle.cond_expr.specs.Seen.{tree, test};
 ghost use Rattle.timed_choices.specs.Blocks.{answered, rows_of};
 ghost use Rattle.joining.specs.Sources.{EachLent, AtomsLent, relations_of, blocks_of, columns_of, AreNumbered};
 
+use crate::groups::magnitude;
 use crate::joins::join_rows;
 use crate::own_parts::pruned_atoms;
 use crate::parts::gather_parts;
@@ -105,11 +106,11 @@ fn in_order<'a>(
     Ok(done)
 }
 
-// The rows in the order of their starts.
+// The rows by the magnitudes of their periods, and those of one in the order of their starts.
 fn in_turn(mut rows: Vec<TimedRow<'_>>) -> Vec<TimedRow<'_>>
     ensures { IsPermutation rows.entry.items result.items }
 {
-    rows.sort_unstable_by_key(|row| row.period.start());
+    rows.sort_unstable_by_key(|row| (magnitude(row.period), row.period.start()));
     rows
 }
 

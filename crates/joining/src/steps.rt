@@ -9,10 +9,11 @@ ghost use Rattle.prima_base.specs.Timed.{entry_of, entries_of};
 ghost use Rattle.cond_expr.specs.Rows.{AreLawful, AreLent};
 ghost use Rattle.cond_expr.specs.Seen.{test};
 ghost use Rattle.timed_choices.specs.Lending.{AllLent};
-ghost use Rattle.timed_choices.specs.Choosing.{paired, pairs};
-ghost use Rattle.timed_choices.specs.Keeping.{picked, meets, meets_all, passing, kept, in_group, lent_tests, IsLawfulRow, AllLawful};
+ghost use Rattle.timed_choices.specs.Choosing.{paired};
+ghost use Rattle.joining.specs.Grouping.{rows_of_runs};
+ghost use Rattle.timed_choices.specs.Keeping.{picked, meets, meets_all, passing, in_group, lent_tests, IsLawfulRow, AllLawful};
 
-use crate::groups::{Group, grouped};
+use crate::groups::{Group, Run};
 use crate::keys::{Key, key_of};
 use cond_expr::{Column, Cond, holds};
 use prima_base::{NoMemory, TimedRow, Val, meet};
@@ -118,7 +119,7 @@ fn put_pair<'a>(
     Ok(())
 }
 
-// The same of each row of a group.
+// The same of each of some rows.
 fn put_group<'a>(
     alloc: Global,
     columns: &[Column],
@@ -134,6 +135,26 @@ fn put_group<'a>(
 {
     for row in rows {
         put_pair(alloc, columns, tests, choice, row, into)?;
+    }
+    Ok(())
+}
+
+// The same of each row of runs. Of each run only those rows are gone over that the choice's period may meet.
+fn put_runs<'a>(
+    alloc: Global,
+    columns: &[Column],
+    tests: &[&Cond],
+    choice: &TimedRow<'a>,
+    runs: &[Run<'a>],
+    into: &mut Vec<TimedRow<'a>>,
+) -> Result<(), NoMemory>
+    requires choice { IsLawfulRow (map shown choice.now.values.items) }
+    requires rows { AllLawful (entries_of (rows_of_runs runs.now)) }
+    ensures lent { AllLent into.old.items → AreLent choice.now.values.items → AllLent (rows_of_runs runs.now) → OnOk result (AllLent into.new.items) }
+    ensures rows { OnOk result (entries_of into.new.items ≡ entries_of into.old.items ++ flat_map (paired (passing columns.now (lent_tests tests.now)) (entry_of choice.now)) (entries_of (rows_of_runs runs.now))) }
+{
+    for run in runs {
+        put_group(alloc, columns, tests, choice, run.near(choice.period), into)?;
     }
     Ok(())
 }
@@ -157,33 +178,7 @@ pub(crate) fn put_choice<'a>(
 {
     let key = key_of(alloc, own, &choice.values)?;
     match groups.get(&key) {
-        Some(group) => {
-            let rows = group.near(choice.period);
-            put_group(alloc, columns, tests, choice, rows, into)
-        }
+        Some(group) => { put_runs(alloc, columns, tests, choice, group.runs(), into) }
         None => Ok(()),
     }
-}
-
-/// The choices with each row behind that agrees with them, in their common moments, where they have any and pass the tests.
-pub(crate) fn put_choices<'a>(
-    alloc: Global,
-    columns: &[Column],
-    own: &[usize],
-    other: &[usize],
-    tests: &[&Cond],
-    choices: &[TimedRow<'a>],
-    rows: Vec<TimedRow<'a>>,
-) -> Result<Vec<TimedRow<'a>>, NoMemory>
-    requires choices { AllLawful (entries_of choices.now) }
-    requires rows { AllLawful (entries_of rows.items) }
-    ensures lent { AllLent choices.now → AllLent rows.entry.items → IfOk result (λ v. AllLent v.items) }
-    ensures rows { IfOk result (λ v. entries_of v.items ≡ pairs (kept columns.now own.now other.now (lent_tests tests.now)) (entries_of choices.now) (entries_of rows.entry.items)) }
-{
-    let groups = grouped(alloc, other, rows)?;
-    let mut made = Vec::new(alloc);
-    for choice in choices {
-        put_choice(alloc, columns, own, tests, choice, &groups, &mut made)?;
-    }
-    Ok(made)
 }

@@ -1,47 +1,44 @@
+use Rattle.std.proofs.Common.{◌≡◌, true, false, List, ◌++◌, map, sym, ap, ◌∙◌, subst}
 use Rattle.std.specs.Borrow.{Bor}
-use Rattle.cond_expr.specs.declared.exprs.Cond.{Cond}
-use Rattle.std.proofs.Common.{◌≡◌, ◌≤◌, List, [], ◌∷◌, ◌++◌, map, length, drop, refl, sym, ap, ◌∙◌, arith}
 use Rattle.std.specs.List.{filter}
-use Rattle.std.proofs.lemmas.Result.{IfOk-weaker}
+use Rattle.relations.specs.Timed.{Entry, held_at, at}
+use Rattle.prima_base.specs.declared.timed_rows.TimedRow.{TimedRow}
+use Rattle.prima_base.specs.declared.values.Value.{Value}
+use Rattle.prima_base.specs.Order.{row_cmp}
+use Rattle.prima_base.specs.Timed.{entries_of, rows_at}
+use Rattle.cond_expr.specs.declared.exprs.Cond.{Cond}
 use Rattle.cond_expr.specs.Parts.{parts}
 use Rattle.cond_expr.specs.Seen.{tree, test}
+use Rattle.timed_choices.specs.Answering.{answers}
+use Rattle.timed_choices.specs.Lending.{AllLent, AllStayLent}
 use Rattle.timed_choices.specs.Choosing.{completed}
-use Rattle.timed_choices.specs.Keeping.{meets_all, lent_tests}
-use Rattle.joining.specs.declared.sources.Source.{Source}
-use Rattle.joining.specs.Sources.{held, held_of}
-use Rattle.joining.proofs.Answered.{nothing_met, all_answered}
+use Rattle.timed_choices.specs.Keeping.{meets_all, lent_tests, AllLawful}
+use Rattle.timed_choices.proofs.JoinLaws.{fit_lawful, start_held}
+use Rattle.joining.specs.declared.levels.Level.{Level}
+use Rattle.joining.specs.Levels.{made_through, AreLawfulLevels, AreLentLevels}
+use Rattle.joining.specs.Sources.{held_of}
+use Rattle.joining.proofs.Answered.{all_answered}
+use Rattle.joining.proofs.LevelLaws.{told_at, none_fits, nothing_at}
 use Rattle.joining.proofs.joins.join_rows.Goals as goal
-use Rattle.joining.proofs.joins.join_rows.Goals.{After-deref}
 
--- at most one is one, or none
-alone : (all rest : List Source) (one : Source) → all ≡ one ∷ rest → length all ≤ 1 → all ≡ one ∷ []
-alone all [] one e l = e
-alone all (x ∷ rest) one e l = absurd (let k : length all ≡ length (one ∷ x ∷ rest) = ap (λ (xs : List Source). length xs) e in omega (arith, k, l))
+pub answer_levels-requires-clause-choices : goal.answer_levels-requires-clause-choices
+answer_levels-requires-clause-choices c =
+    subst (λ (rows : List TimedRow). AllLawful (entries_of rows)) (sym c.deref-3.ensures.value)
+    (fit_lawful 0 (entries_of c.in_ok-first.first.items) (none_fits c.args.slice (entries_of c.in_ok-first.first.items) c.in_ok-first.ensures.rows))
 
-none_left : (all rest : List Source) → all ≡ rest → rest ≡ drop 1 all → all ≡ []
-none_left [] rest a b = refl
-none_left (x ∷ all) rest a b = absurd (let k : length (x ∷ all) ≡ length all = ap (λ (xs : List Source). length xs) (a ∙ b) in omega (arith, k))
+pub answer_levels-requires-clause-levels : goal.answer_levels-requires-clause-levels
+answer_levels-requires-clause-levels c = subst AreLawfulLevels (sym c.deref-2.ensures.value) c.in_ok-levels.ensures.lawful
 
-gathered : (c : After-deref) → lent_tests c.deref.result.now ≡ parts (test c.args.cond.now)
-gathered c = ap lent_tests c.deref.ensures.value ∙ c.in_ok-gather_parts.ensures ∙ ap (λ (bs : List (Bor Cond)). lent_tests bs ++ parts (test c.args.cond.now)) c.new-parts.ensures.items
-
-pub returns-in-Some-clause-rows : goal.returns-in-Some-clause-rows
-returns-in-Some-clause-rows c = λ m h.
-    let cs = c.args.columns.now in
-    let outs = map tree c.args.outs.now in
-    let cond = test c.args.cond.now in
-    let ps = lent_tests c.deref.result.now in
-    let one : c.in_ok-choices.rest.items ≡ c.in-Some.last ∷ [] = alone c.in_ok-choices.rest.items c.pop_front.new.self.items c.in-Some.last c.in-Some.ensures.items c.in_ok-choices.ensures.few in
-    IfOk-weaker c.answered_with.result _ _
-    (λ rows e. e
-    ∙ all_answered cs outs cond ps (gathered (goal.at.returns-in-Some-clause-rows c).After-deref) c.args.sources.items m (completed (held c.in_ok-choices.choices m) (held c.in-Some.last m ∷ []))
-    (ap (λ (sources : List Source). filter (meets_all cs ps) (completed (held c.in_ok-choices.choices m) (held_of sources m))) (sym one) ∙ c.in_ok-choices.ensures.joined m h))
-    (c.answered_with.ensures.rows m)
+pub returns-clause-lent : goal.returns-clause-lent
+returns-clause-lent c = λ h.
+    c.in_ok-answer_levels.ensures.lent (subst (AllStayLent (map tree c.args.outs.now)) (sym c.none_yet-answered.ensures) tt)
+    (subst AllLent (sym c.deref-3.ensures.value) c.in_ok-first.ensures.lent) (subst AreLentLevels (sym c.deref-2.ensures.value) (c.in_ok-levels.ensures.lent h))
 
 pub returns-clause-inside : goal.returns-clause-inside
-returns-clause-inside c = λ m h. IfOk-weaker c.answered.result _ _
-    (λ rows e. e ∙ nothing_met c.args.columns.now (map tree c.args.outs.now) (test c.args.cond.now) (held c.in_ok-choices.choices m) (c.in_ok-choices.ensures.inside m h))
-    (c.answered.ensures.rows m)
+returns-clause-inside c = λ m h.
+    c.in_ok-answer_levels.ensures.inside m
+    (ap (λ (rows : List TimedRow). held_at (entries_of rows) m) c.deref-3.ensures.value ∙ start_held (entries_of c.in_ok-first.first.items) c.args.slice m false c.in_ok-first.ensures.rows h)
+    (ap (λ (rows : List TimedRow). rows_at rows m) c.none_yet-answered.ensures ∙ nothing_at m)
 
 pub returns-clause-rows : goal.returns-clause-rows
 returns-clause-rows c = λ m h.
@@ -49,9 +46,14 @@ returns-clause-rows c = λ m h.
     let outs = map tree c.args.outs.now in
     let cond = test c.args.cond.now in
     let ps = lent_tests c.deref.result.now in
-    let none : c.in_ok-choices.rest.items ≡ [] = none_left c.in_ok-choices.rest.items c.pop_front.new.self.items c.in-None.ensures.items c.in-None.ensures.rest in
-    IfOk-weaker c.answered.result _ _
-    (λ rows e. e
-    ∙ all_answered cs outs cond ps (gathered (goal.at.returns-clause-rows c).After-deref) c.args.sources.items m (held c.in_ok-choices.choices m)
-    (ap (λ (sources : List Source). filter (meets_all cs ps) (completed (held c.in_ok-choices.choices m) (held_of sources m))) (sym none) ∙ c.in_ok-choices.ensures.joined m h))
-    (c.answered.ensures.rows m)
+    let es : List (Entry (List Value)) = entries_of c.in_ok-first.first.items in
+    let levels : List Level = c.in_ok-levels.levels.items in
+    let gathered : ps ≡ parts cond = ap lent_tests c.deref.ensures.value ∙ c.in_ok-gather_parts.ensures ∙ ap (λ (bs : List (Bor Cond)). lent_tests bs ++ parts cond) c.new-parts.ensures.items in
+    c.in_ok-answer_levels.ensures.rows m h
+    ∙ ap (λ (rows : List TimedRow). at row_cmp (entries_of rows ++ answers cs outs cond (made_through cs c.deref-2.result.now (entries_of c.deref-3.result.now))) m) c.none_yet-answered.ensures
+    ∙ ap (λ (ls : List Level). at row_cmp (answers cs outs cond (made_through cs ls (entries_of c.deref-3.result.now))) m) c.deref-2.ensures.value
+    ∙ ap (λ (rows : List TimedRow). at row_cmp (answers cs outs cond (made_through cs levels (entries_of rows))) m) c.deref-3.ensures.value
+    ∙ told_at cs outs cond (made_through cs levels es) m
+    ∙ all_answered cs outs cond ps gathered c.args.sources.items m (held_at (made_through cs levels es) m)
+    (c.in_ok-levels.ensures.joined es (none_fits c.args.slice es c.in_ok-first.ensures.rows) m
+    ∙ ap (λ (xs : List (List Value)). filter (meets_all cs ps) (completed xs (held_of c.args.sources.items m))) (start_held es c.args.slice m true c.in_ok-first.ensures.rows h))

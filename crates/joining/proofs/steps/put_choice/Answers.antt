@@ -4,7 +4,6 @@ use Rattle.std.specs.Option.{option_copied}
 use Rattle.std.specs.BTreeMap.{get}
 use Rattle.std.proofs.lemmas.List.{append-nil}
 use Rattle.std.proofs.lemmas.Result.{on_ok_weaker}
-use Rattle.relations.specs.Timed.{Entry}
 use Rattle.prima_base.specs.declared.timed_rows.TimedRow.{TimedRow}
 use Rattle.prima_base.specs.declared.values.Value.{Value}
 use Rattle.prima_base.specs.declared.values.Val.{Val}
@@ -13,12 +12,11 @@ use Rattle.prima_base.specs.Timed.{entry_of, entries_of}
 use Rattle.timed_choices.specs.Lending.{AllLent}
 use Rattle.timed_choices.specs.Choosing.{paired}
 use Rattle.timed_choices.specs.Keeping.{picked, passing, in_group, lent_tests, AllLawful}
-use Rattle.joining.proofs.NearRows.{near_pairs, near_lent, lawful_piece}
 use Rattle.joining.proofs.steps.put_choice.Goals as goal
 
-pub put_group-requires-clause-rows : goal.put_group-requires-clause-rows
-put_group-requires-clause-rows c =
-    lawful_piece c.args.choice.now.period c.in-Some.group.now c.near-rows.result.now c.near-rows.ensures
+pub put_runs-requires-clause-rows : goal.put_runs-requires-clause-rows
+put_runs-requires-clause-rows c =
+    subst (λ (rows : List TimedRow). AllLawful (entries_of rows)) (sym c.runs.ensures)
     (subst (λ (rows : List TimedRow). AllLawful (entries_of rows)) (ap in_group (sym c.get.ensures.value ∙ ap option_copied c.in-Some.is)) (c.requires.rows c.in_ok-key.key))
 
 pub returns-in-Some-clause-rows : goal.returns-in-Some-clause-rows
@@ -27,11 +25,10 @@ returns-in-Some-clause-rows c =
     let here : c.in-Some.group.now ≡ in_group (get row_cmp c.args.groups.now key) =
     ap in_group (sym (sym c.get.ensures.value ∙ ap option_copied c.in-Some.is))
     ∙ ap (λ (k : List Value). in_group (get row_cmp c.args.groups.now k)) (c.in_ok-key.ensures ∙ ap (λ (vs : List Val). picked c.args.own.now (map shown vs)) c.deref.ensures.value) in
-    on_ok_weaker c.put_group.result
+    on_ok_weaker c.put_runs.result
     (λ q. q
-    ∙ ap (λ (es : List (Entry (List Value))). entries_of c.args.into.now.items ++ es) (near_pairs (passing c.args.columns.now (lent_tests c.args.tests.now)) (entry_of c.args.choice.now) c.in-Some.group.now c.near-rows.result.now c.near-rows.ensures)
-    ∙ ap (λ (rows : List TimedRow). entries_of c.args.into.now.items ++ flat_map (paired (passing c.args.columns.now (lent_tests c.args.tests.now)) (entry_of c.args.choice.now)) (entries_of rows)) here)
-    c.put_group.ensures.rows
+    ∙ ap (λ (rows : List TimedRow). entries_of c.args.into.now.items ++ flat_map (paired (passing c.args.columns.now (lent_tests c.args.tests.now)) (entry_of c.args.choice.now)) (entries_of rows)) (c.runs.ensures ∙ here))
+    c.put_runs.ensures.rows
 
 pub returns-clause-rows : goal.returns-clause-rows
 returns-clause-rows c =
@@ -42,6 +39,6 @@ returns-clause-rows c =
     ∙ ap (λ (rows : List TimedRow). entries_of c.args.into.now.items ++ flat_map (paired (passing c.args.columns.now (lent_tests c.args.tests.now)) (entry_of c.args.choice.now)) (entries_of rows)) here
 
 pub returns-in-Some-clause-lent : goal.returns-in-Some-clause-lent
-returns-in-Some-clause-lent c = λ h k l. c.put_group.ensures.lent h k
-    (near_lent c.args.choice.now.period c.in-Some.group.now c.near-rows.result.now c.near-rows.ensures
+returns-in-Some-clause-lent c = λ h k l. c.put_runs.ensures.lent h k
+    (subst AllLent (sym c.runs.ensures)
     (subst AllLent (ap in_group (sym c.get.ensures.value ∙ ap option_copied c.in-Some.is)) (l c.in_ok-key.key)))

@@ -3,8 +3,8 @@ use Rattle.relations.specs.Sets.{In}
 use Rattle.prima_base.specs.declared.timed_rows.TimedRow.{TimedRow}
 use Rattle.joining.specs.Grouping.{IsNear}
 use Rattle.joining.proofs.NearRows.{first_ended, rest_later, all_left, near_live, near_both}
-use Rattle.joining.proofs.groups.Group.near.Goals as goal
-use Rattle.joining.proofs.groups.Group.near.Goals.{After-deref-2, After-count_earlier-earlier}
+use Rattle.joining.proofs.groups.Run.near.Goals as goal
+use Rattle.joining.proofs.groups.Run.near.Goals.{After-deref-2, After-count_earlier-earlier}
 
 module _ (c : After-deref-2) where
   within : c.count_ended-ended.result ≤ length c.self.inside.ends.items

@@ -3,8 +3,8 @@ use Rattle.std.specs.Prelude.{max}
 use Rattle.prima_base.specs.declared.timed_rows.TimedRow.{TimedRow}
 use Rattle.joining.specs.Grouping.{EndBy, AreInTurn}
 use Rattle.joining.proofs.NearRows.{more_ends, more_turn}
-use Rattle.joining.proofs.groups.Group.push.Goals as goal
-use Rattle.joining.proofs.groups.Group.push.Goals.{After-push_reserved-2, then-self, else-self}
+use Rattle.joining.proofs.groups.Run.push.Goals as goal
+use Rattle.joining.proofs.groups.Run.push.Goals.{After-push_reserved-2, then-self, else-self}
 
 module _ (c : After-push_reserved-2) where
   rows_new : c.push_reserved-2.new.self.items ≡ c.self.inside.rows.items ++ c.args.row ∷ []
