@@ -10,7 +10,7 @@ use Rattle.cond_expr.specs.declared.exprs.CmpOp.{CmpOp}
 use Rattle.cond_expr.specs.declared.exprs.CmpOp.TheVariants.{Eq, Ne, Lt, Le, Gt, Ge}
 use Rattle.cond_expr.specs.Trees.{Test, never, always, compared, all_of, some_of, fails}
 use Rattle.cond_expr.specs.Kinds.{value_kind}
-use Rattle.cond_expr.specs.Parts.{Bound, bound_of, is_on, all_let}
+use Rattle.cond_expr.specs.Parts.{parts, Bound, bound_of, is_on, all_let}
 use Rattle.dead_conditions.specs.Steps.{least, following}
 
 -- where a comparison with a constant begins to hold: at the constant or right behind it, or else from the least value on
@@ -52,6 +52,10 @@ empties ts (Some b) = not (one_is_let b.atom b.name (value_kind b.limit) ts)
 -- the part is FALSE, or its column is left none
 abbrev pub kills : List Test → Test → Bool
 kills ts t = is_never t || empties ts (bound_of t)
+
+-- a top-level part of it does
+abbrev pub is_killed : Test → Bool
+is_killed c = list_any (kills (parts c)) (parts c)
 
 -- the constants of the parts are lawful
 abbrev pub HaveLawfulLimits : List Test → Type 0

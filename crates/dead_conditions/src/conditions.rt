@@ -2,7 +2,7 @@ ghost use Rattle.std.specs.Prelude.{◌≡◌, ◌↔◌, true, not, IsTrue};
 ghost use Rattle.cond_expr.specs.Seen.{test};
 ghost use Rattle.cond_expr.specs.Kinds.{Kinds, is_typed, value_kind};
 ghost use Rattle.cond_expr.specs.Parts.{parts, IsDead};
-ghost use Rattle.dead_conditions.specs.Tried.{is_never, one_is_let, kills};
+ghost use Rattle.dead_conditions.specs.Tried.{is_never, one_is_let, kills, is_killed};
 
 use crate::bounds::{ColumnBound, bound_of};
 use crate::columns::{ColumnOf, one_is_let};
@@ -65,9 +65,10 @@ impl PartTest for Kills<'_> {
 /// memory.
 ///
 /// Of the values of the type, the least and those at which a part begins to hold are enough to try: up to the next of these
-/// nothing begins to hold.
+/// nothing begins to hold. Which conditions these few values find dead is told for every condition.
 pub fn is_dead(cond: &Cond) -> bool
-    ensures { (of : Kinds) → is_typed of (test cond.now) ≡ true → IsTrue result ↔ IsDead of (test cond.now) }
+    ensures told { result ≡ is_killed (test cond.now) }
+    ensures exact { (of : Kinds) → is_typed of (test cond.now) ≡ true → IsTrue result ↔ IsDead of (test cond.now) }
 {
     some_part(&Kills { whole: cond }, cond)
 }

@@ -1,7 +1,8 @@
 -- Dead pieces, and the pieces that live.
-use Rattle.std.specs.Prelude.{List, [], ◌∷◌, Bool, true, false}
+use Rattle.std.specs.Prelude.{List, [], ◌∷◌, Bool, true, false, not}
 use Rattle.schema_catalog.specs.Tables.{Tables}
 use Rattle.cond_expr.specs.Parts.{IsDead}
+use Rattle.dead_conditions.specs.Tried.{is_killed}
 use Rattle.piece_meaning.specs.Pieces.{PlainPiece}
 use Rattle.piece_meaning.specs.Typed.{IsTyped, atom_kinds}
 
@@ -9,6 +10,10 @@ use Rattle.piece_meaning.specs.Typed.{IsTyped, atom_kinds}
 -- top-level parts that compare just this column with a constant.
 abbrev pub IsDeadPiece : Tables → PlainPiece → Type 0
 IsDeadPiece tables p = IsDead (atom_kinds tables p.atoms) p.cond
+
+-- the few values that are tried do not find it dead
+abbrev pub lives : PlainPiece → Bool
+lives p = not (is_killed p.cond)
 
 -- the pieces that are not dead, in their order
 pub data AreLiving (tables : Tables) : List PlainPiece → List PlainPiece → Type 0 where

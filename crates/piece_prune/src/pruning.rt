@@ -1,7 +1,7 @@
-ghost use Rattle.std.specs.Prelude.{◌↔◌, IsTrue};
+ghost use Rattle.std.specs.Prelude.{◌≡◌, ◌↔◌, not, IsTrue};
 ghost use Rattle.piece_meaning.specs.Typed.{IsTyped, AllTyped};
 ghost use Rattle.piece_ir.specs.Shown.{piece_of, pieces_of};
-ghost use Rattle.piece_prune.specs.DeadPieces.{IsDeadPiece, AreLiving, Decides};
+ghost use Rattle.piece_prune.specs.DeadPieces.{IsDeadPiece, AreLiving, Decides, lives};
 
 use dead_conditions::is_dead as is_dead_condition;
 use piece_ir::Piece;
@@ -12,7 +12,8 @@ use schema_catalog::Schema;
 /// no memory.
 pub fn is_dead(piece: &Piece, before: &Schema) -> bool
     requires { IsTyped before.now (piece_of piece.now) }
-    ensures { IsTrue result ↔ IsDeadPiece before.now (piece_of piece.now) }
+    ensures exact { IsTrue result ↔ IsDeadPiece before.now (piece_of piece.now) }
+    ensures told { lives (piece_of piece.now) ≡ not result }
 {
     // The constants of a well-typed piece tell the types of its columns.
     let _typed_over = before;

@@ -10,7 +10,7 @@ use Rattle.prima_base.specs.Columns.{Column}
 use Rattle.schema_catalog.specs.Tables.{Tables}
 use Rattle.schema_catalog.specs.Databases.{cell, Database}
 use Rattle.cond_expr.specs.declared.exprs.Whose.TheVariants.{Atom}
-use Rattle.cond_expr.specs.Trees.{column, Test, fails}
+use Rattle.cond_expr.specs.Trees.{column, Test}
 use Rattle.cond_expr.specs.Values.{truth}
 use Rattle.cond_expr.specs.Kinds.{kind_of, is_typed}
 use Rattle.cond_expr.specs.Faults.{test_untyped, first_of}
@@ -28,10 +28,10 @@ use Rattle.smo_meaning.proofs.ColumnsByName.{decomposed_types}
 use Rattle.cond_expr.specs.Parts.{parts_but_true as parts}
 use Rattle.piece_meaning.specs.Views.{PlainView, whole}
 use Rattle.piece_meaning.specs.Given.{AreGiven, IsTypedView, AreViews}
-use Rattle.rule_views.specs.OperatorViews.{operator_views}
+use Rattle.rule_views.specs.OperatorViews.{operator_views, unmet}
 use Rattle.rule_views.proofs.OneTable.{only_one, given_by_one, given_by_both, two_there, typed_by_one, given_by_view}
 use Rattle.rule_views.proofs.OneViews.{made_image, made_filter, made_whole, own_column, none_typed}
-use Rattle.rule_views.proofs.TestLaws.{typed_test, part_typed, parts_hold, and_all}
+use Rattle.rule_views.proofs.TestLaws.{typed_test, part_typed, parts_hold, and_all, unmet_fails, unmet_typed}
 
 -- nothing is made
 pub nop_views : (tables : Tables) → AreViews tables nop (operator_views tables nop)
@@ -71,9 +71,9 @@ module _ (tables : Tables) (r s t : List ℕ) where
               (made_filter cs (meets cs c) (parts c) (λ row. parts_hold (own_cells cs row) c))
               (λ x i. part_typed (own_kinds cs) c x typed i) (own_column cs) (inl refl),
           (
-            given_by_view tables by r t cs (filter (λ row. not (meets cs c row))) (fails c ∷ []) [] here
-                (made_filter cs (λ row. not (meets cs c row)) (fails c ∷ []) (λ row. and_all (truth (own_cells cs row) (fails c))))
-                (λ x i. subst (λ (y : Test). is_typed (own_kinds cs) y ≡ true) (only_one (fails c) x i) typed) (own_column cs) (inl refl),
+            given_by_view tables by r t cs (filter (λ row. not (meets cs c row))) (unmet c ∷ []) [] here
+                (made_filter cs (λ row. not (meets cs c row)) (unmet c ∷ []) (λ row. and_all (truth (own_cells cs row) (unmet c)) ∙ unmet_fails (own_cells cs row) c))
+                (λ x i. subst (λ (y : Test). is_typed (own_kinds cs) y ≡ true) (only_one (unmet c) x i) (unmet_typed (own_kinds cs) c typed)) (own_column cs) (inl refl),
             tt,
           ),
         )

@@ -5,13 +5,20 @@ use Rattle.std.specs.List.{list_all}
 use Rattle.std.proofs.lemmas.List.Folds.{list_all-append}
 use Rattle.relations.specs.Sets.{In}
 use Rattle.relations.proofs.SetLaws.{in_append}
+use Rattle.std.specs.declared.cmp.Ordering.{Ordering}
+use Rattle.std.specs.declared.cmp.Ordering.TheVariants.{Less, Equal, Greater}
+use Rattle.std.specs.Ordering.{is_eq, is_lt}
+use Rattle.prima_base.specs.Order.{value_cmp}
+use Rattle.cond_expr.specs.declared.exprs.CmpOp.{CmpOp}
+use Rattle.cond_expr.specs.declared.exprs.CmpOp.TheVariants.{Eq, Ne, Lt, Le, Gt, Ge}
 use Rattle.cond_expr.specs.Trees.{Test, never, always, compared, all_of, some_of, fails, Tests, no_tests, a_test}
-use Rattle.cond_expr.specs.Values.{Cells, truth, all_true}
+use Rattle.cond_expr.specs.Values.{Cells, agrees, value, truth, all_true}
 use Rattle.cond_expr.specs.Kinds.{Kinds, is_typed, all_typed}
 use Rattle.cond_expr.specs.Sizes.{nodes_of, test_nodes}
 use Rattle.cond_expr.specs.Faults.{untyped, test_untyped, tests_untyped, if_so, first_of}
 use Rattle.cond_expr.specs.Parts.{parts_but_true as parts, all_parts_but_true as all_parts}
 use Rattle.piece_meaning.proofs.AddedParts.{both_true, and_true}
+use Rattle.rule_views.specs.OperatorViews.{opposite, unmet}
 
 none_both : (xs ys : List ℕ) → first_of (xs ++ ys) ≡ None → (first_of xs ≡ None) × (first_of ys ≡ None)
 none_both [] ys e = (refl, e)
@@ -80,3 +87,37 @@ mutual
       list_all-append (truth at) (parts c) (all_parts cs)
       ∙ ap (λ (b : Bool). b && list_all (truth at) (all_parts cs)) (parts_hold at c)
       ∙ ap (λ (b : Bool). truth at c && b) (all_parts_hold at cs)
+
+-- ---- a condition that is not met
+
+both_ways : (b : Bool) → b ≡ not (not b)
+both_ways true = refl
+both_ways false = refl
+
+opposite_fails : (o : CmpOp) (r : Ordering) → agrees (opposite o) r ≡ not (agrees o r)
+opposite_fails Eq r = refl
+opposite_fails Ne r = both_ways (is_eq r)
+opposite_fails Lt r = refl
+opposite_fails Le Less = refl
+opposite_fails Le Equal = refl
+opposite_fails Le Greater = refl
+opposite_fails Gt Less = refl
+opposite_fails Gt Equal = refl
+opposite_fails Gt Greater = refl
+opposite_fails Ge r = both_ways (is_lt r)
+
+pub unmet_fails : (at : Cells) (c : Test) → truth at (unmet c) ≡ not (truth at c)
+unmet_fails at never = refl
+unmet_fails at always = refl
+unmet_fails at (compared o a b) = opposite_fails o (value_cmp (value at a) (value at b))
+unmet_fails at (all_of cs) = refl
+unmet_fails at (some_of cs) = refl
+unmet_fails at (fails c) = refl
+
+pub unmet_typed : (of : Kinds) (c : Test) → is_typed of c ≡ true → is_typed of (unmet c) ≡ true
+unmet_typed of never e = e
+unmet_typed of always e = e
+unmet_typed of (compared o a b) e = e
+unmet_typed of (all_of cs) e = e
+unmet_typed of (some_of cs) e = e
+unmet_typed of (fails c) e = e

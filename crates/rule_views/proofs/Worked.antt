@@ -7,7 +7,7 @@ use Rattle.prima_base.specs.declared.values.ColType.TheVariants.{Int as INT, Tex
 use Rattle.prima_base.specs.Columns.{Column}
 use Rattle.schema_catalog.specs.Tables.{Tables}
 use Rattle.cond_expr.specs.declared.exprs.Whose.TheVariants.{Atom}
-use Rattle.cond_expr.specs.declared.exprs.CmpOp.TheVariants.{Eq, Lt, Gt}
+use Rattle.cond_expr.specs.declared.exprs.CmpOp.TheVariants.{Eq, Lt, Gt, Ge}
 use Rattle.cond_expr.specs.Trees.{Tree, column, constant, length_of, joined, choose, a_tree, no_trees, Test, always, compared, all_of, fails}
 use Rattle.cond_expr.specs.Seen.{tests_of}
 use Rattle.smo_types.specs.Operators.{nop, create_table, drop_table, rename_table, copy_table, merge_table, partition_table, decompose_table, join_table, add_column, drop_column, rename_column}
@@ -80,7 +80,7 @@ partition_parts tables = refl
 
 -- both tables, beside one that is not made: each under its own atom
 partition_both : (tables : Tables) → unfoldings (operator_views tables (partition_table t r below_ten s)) (a_piece (s ∷ u ∷ r ∷ []) always [])
-    ≡ a_piece (t ∷ u ∷ t ∷ []) (all_of (tests_of (fails below_ten ∷ compared Lt (at 2 a) (number 10) ∷ []))) [] ∷ []
+    ≡ a_piece (t ∷ u ∷ t ∷ []) (all_of (tests_of (compared Ge (at 0 a) (number 10) ∷ compared Lt (at 2 a) (number 10) ∷ []))) [] ∷ []
 partition_both tables = refl
 
 -- JOIN of r (k, x) and s (k, y) where y > 0
@@ -205,7 +205,7 @@ rename_column_five tables = refl
 
 -- PARTITION of t into t and s
 partition_into_itself : (tables : Tables) → unfoldings (operator_views tables (partition_table t t below_ten s)) (a_piece (t ∷ s ∷ []) always [])
-    ≡ a_piece (t ∷ t ∷ []) (all_of (tests_of (below_ten ∷ fails (compared Lt (at 1 a) (number 10)) ∷ []))) [] ∷ []
+    ≡ a_piece (t ∷ t ∷ []) (all_of (tests_of (below_ten ∷ compared Ge (at 1 a) (number 10) ∷ []))) [] ∷ []
 partition_into_itself tables = refl
 
 -- JOIN by the columns of its inputs: once, and named twice

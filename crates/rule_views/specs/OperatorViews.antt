@@ -4,7 +4,8 @@ use Rattle.std.specs.List.{filter}
 use Rattle.prima_base.specs.Columns.{Column, names_of}
 use Rattle.schema_catalog.specs.Tables.{Tables}
 use Rattle.cond_expr.specs.declared.exprs.Whose.TheVariants.{Atom}
-use Rattle.cond_expr.specs.declared.exprs.CmpOp.TheVariants.{Eq}
+use Rattle.cond_expr.specs.declared.exprs.CmpOp.{CmpOp}
+use Rattle.cond_expr.specs.declared.exprs.CmpOp.TheVariants.{Eq, Ne, Lt, Le, Gt, Ge}
 use Rattle.cond_expr.specs.Trees.{Tree, column, Test, compared, fails, for_atoms, fill_test}
 use Rattle.smo_types.specs.Operators.{Operator, nop, create_table, drop_table, rename_table, copy_table, merge_table, partition_table, decompose_table, join_table, add_column, drop_column, rename_column}
 use Rattle.smo_meaning.specs.Preconditions.{among}
@@ -19,6 +20,20 @@ selected r tests = record { atoms = r ∷ []; parts = tests; outs = [] }
 -- the rows of one table, with a tree's value in one column
 abbrev pub computed : List ℕ → List ℕ → Tree → PlainView
 computed r c t = record { atoms = r ∷ []; parts = []; outs = (c, t) ∷ [] }
+
+-- the comparison that holds just where this one does not
+abbrev pub opposite : CmpOp → CmpOp
+opposite Eq = Ne
+opposite Ne = Eq
+opposite Lt = Ge
+opposite Le = Gt
+opposite Gt = Le
+opposite Ge = Lt
+
+-- that a condition is not met: of a comparison the opposite one, by which dead pieces are seen
+abbrev pub unmet : Test → Test
+unmet (compared o a b) = compared (opposite o) a b
+unmet other = fails other
 
 -- the names of the columns that both have, and of those that only the second has
 abbrev pub common_names : List Column → List Column → List (List ℕ)
@@ -56,7 +71,7 @@ operator_views tables (drop_table r) = []
 operator_views tables (rename_table r t) = (t, whole r ∷ []) ∷ []
 operator_views tables (copy_table r t) = (t, whole r ∷ []) ∷ []
 operator_views tables (merge_table r s t) = (t, whole r ∷ whole s ∷ []) ∷ []
-operator_views tables (partition_table r s c t) = (s, selected r (parts_but_true c) ∷ []) ∷ (t, selected r (fails c ∷ []) ∷ []) ∷ []
+operator_views tables (partition_table r s c t) = (s, selected r (parts_but_true c) ∷ []) ∷ (t, selected r (unmet c ∷ []) ∷ []) ∷ []
 operator_views tables (decompose_table r s xs t ys) = (s, whole r ∷ []) ∷ (t, whole r ∷ []) ∷ []
 operator_views tables (join_table r s t c) = (t, paired r (columns_of tables r) s (columns_of tables s) c ∷ []) ∷ []
 operator_views tables (add_column c e r) = (r, computed r c e ∷ []) ∷ []
