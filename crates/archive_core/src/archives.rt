@@ -15,6 +15,7 @@ ghost use Rattle.archive_file.specs.Opening.{Opens, Damages, record_of, records_
 ghost use Rattle.archive_state.specs.Standing.{ShowsPast, ShowsSome};
 ghost use Rattle.archive_state.specs.Asking.{IsAsked, IsExplained, TellsWayBack, ArePiecesOf};
 ghost use Rattle.piece_texts.specs.ExplainedPieces.{PlainExplained};
+ghost use Rattle.query_exec.specs.Lent.{NoneComputes, AreLentBy};
 ghost use Rattle.query_exec.specs.Reads.{reads_of};
 ghost use Rattle.archive_core.specs.declared.faults.CommitFault.TheVariants as fault;
 ghost use Rattle.archive_core.specs.declared.faults.MountFault.TheVariants as mounting;
@@ -160,6 +161,8 @@ impl<D: Disk> Archive<D> {
         ensures asked { (past : Past) → ShowsPast (standing_of self.now) past → IsAsked past (query_of query.now) result }
         ensures way_back { (past : Past) → ShowsPast (standing_of self.now) past → TellsWayBack past (query_of query.now) result }
         ensures stands { ShowsSome (standing_of self.now) }
+        ensures lent { (past : Past) → ShowsPast (standing_of self.now) past → (pieces : List PlainExplained) → ArePiecesOf (meaning_of book.now.rules.items (λ r. handles (r.vtable, r.value)) (λ r. answers (r.vtable, r.value))) past (query_of query.now) pieces → NoneComputes pieces
+            → IfOk result (λ listing. AreLentBy (query_of query.now).branches listing.rows.items) }
         ensures cost { (past : Past) → ShowsPast (standing_of self.now) past → (pieces : List PlainExplained) → ArePiecesOf (meaning_of book.now.rules.items (λ r. handles (r.vtable, r.value)) (λ r. answers (r.vtable, r.value))) past (query_of query.now) pieces → steps.new ≤ steps.old + reads_of (standing_of self.now).groups pieces }
     {
         self.state.query(book, query, steps)
@@ -180,6 +183,13 @@ impl<D: Disk> Archive<D> {
         ensures { result.now ≡ (standing_of self.now).groups }
     {
         self.state.groups()
+    }
+
+    /// The place of the closed gate behind the records, in bytes from 0. It takes no memory.
+    pub fn place(&self) -> u64
+        ensures { result ≡ place_of self.now }
+    {
+        self.journal.place()
     }
 
     /// The disk as it stands. It takes no memory.

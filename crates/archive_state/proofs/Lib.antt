@@ -3,3 +3,4 @@ pub mod NewestSchema
 pub mod Judging
 pub mod CarriedOut
 pub mod Stands
+pub mod AskedBranches

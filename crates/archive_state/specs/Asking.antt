@@ -21,7 +21,7 @@ use Rattle.temporal_lang.specs.Atoms.{with_atoms}
 use Rattle.temporal_lang.specs.Checking.{excess_of, query_tests}
 use Rattle.piece_texts.specs.ExplainedPieces.{PlainExplained, all_explained}
 use Rattle.piece_texts.specs.declared.explained.Explained.{Explained}
-use Rattle.query_exec.specs.QueryPieces.{ArePieces}
+use Rattle.query_exec.specs.QueryPieces.{ArePieces, living_pieces}
 use Rattle.archive_state.specs.declared.faults.AskFault.{AskFault}
 use Rattle.archive_state.specs.declared.faults.AskFault.TheVariants.{Refused, NoMemory}
 
@@ -63,10 +63,15 @@ abbrev pub ArePiecesOf : Book → Past → PlainQuery → List PlainExplained �
 ArePiecesOf book past query pieces =
     IfAccepted (fault_of_query past query) (ArePieces book past.versions (with_atoms (tables_of past query.version) query) pieces) pieces
 
+-- the same by a function: the list that is told of a query that is not refused
+abbrev pub pieces_told : Book → Past → PlainQuery → List PlainExplained
+pieces_told book past query = living_pieces book past.versions (with_atoms (tables_of past query.version) query)
+
 -- the pieces of a query that is not refused, told
 pub record AreTold (book : Book) (past : Past) (query : PlainQuery) (pieces : List PlainExplained) : Type 0 where
   pub accepted : fault_of_query past query ≡ None
   pub are : ArePieces book past.versions (with_atoms (tables_of past query.version) query) pieces
+  pub told : pieces ≡ pieces_told book past query
 
 -- what an archive tells of a query: its pieces, or why it is refused
 abbrev pub IsExplained : Book → Past → PlainQuery → Result (Vec Explained Global) AskFault → Type 0

@@ -1,11 +1,12 @@
 //! A query, judged, and answered over all of history or told piece by piece.
 
-ghost use Rattle.std.specs.Prelude.{◌≡◌, ◌≤◌, ◌+◌, List, MatchResult, None};
+ghost use Rattle.std.specs.Prelude.{◌≡◌, ◌≤◌, ◌+◌, List, MatchResult, None, IfOk};
 ghost use Rattle.smo_types.specs.Commands.{versions_of};
 ghost use Rattle.smo_meaning.specs.Past.{Past};
 ghost use Rattle.temporal_lang.specs.Accepted.{no_way_back, fault_of_query};
 ghost use Rattle.temporal_lang.specs.Queries.{query_of};
 ghost use Rattle.piece_texts.specs.ExplainedPieces.{PlainExplained};
+ghost use Rattle.query_exec.specs.Lent.{NoneComputes, AreLentBy};
 ghost use Rattle.query_exec.specs.Reads.{reads_of};
 ghost use Rattle.version_groups.specs.Showing.{Shows};
 ghost use Rattle.rewrite.specs.Books.{meaning_of, EachOf};
@@ -116,6 +117,8 @@ pub(crate) fn ask<'a, L: Ledger>(
     requires each { EachOf book.now.rules.items (λ r. handles (r.vtable, r.value)) }
     requires shows { (past : Past) × Shows groups.now past }
     ensures asked { (past : Past) → Shows groups.now past → IsAsked past (query_of query.now) result }
+    ensures lent { (past : Past) → Shows groups.now past → (pieces : List PlainExplained) → ArePiecesOf (meaning_of book.now.rules.items (λ r. handles (r.vtable, r.value)) (λ r. answers (r.vtable, r.value))) past (query_of query.now) pieces → NoneComputes pieces
+        → IfOk result (λ listing. AreLentBy (query_of query.now).branches listing.rows.items) }
     ensures cost { (past : Past) → Shows groups.now past → (pieces : List PlainExplained) → ArePiecesOf (meaning_of book.now.rules.items (λ r. handles (r.vtable, r.value)) (λ r. answers (r.vtable, r.value))) past (query_of query.now) pieces → steps.new ≤ steps.old + reads_of groups.now pieces }
 {
     let atoms = judged(alloc, groups, query)?;

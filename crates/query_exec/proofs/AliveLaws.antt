@@ -1,5 +1,7 @@
 -- The pieces that are not dead, of several lists; and what is read for them.
-use Rattle.std.proofs.Common.{◌≡◌, ◌+◌, ◌≤◌, ℕ, List, [], ◌∷◌, ◌++◌, map, refl, sym, ap, subst, ◌∙◌, arith}
+use Rattle.std.proofs.Common.{◌≡◌, ◌+◌, ◌≤◌, ℕ, true, false, cond, List, [], ◌∷◌, ◌++◌, map, refl, sym, ap, subst, ◌∙◌, arith}
+use Rattle.std.specs.List.{filter}
+use Rattle.std.proofs.lemmas.List.Elements.{filter-append}
 use Rattle.smo_types.specs.Commands.{PlainVersion}
 use Rattle.smo_meaning.specs.Past.{no_tables, tables_from}
 use Rattle.plain_answers.specs.Reading.{Read}
@@ -7,14 +9,14 @@ use Rattle.version_groups.specs.Groups.{Kept}
 use Rattle.piece_meaning.specs.Pieces.{PlainPiece}
 use Rattle.piece_meaning.specs.Rules.{Book}
 use Rattle.piece_ir.specs.Shown.{pieces_of}
-use Rattle.piece_prune.specs.DeadPieces.{IsDeadPiece, AreLiving, none_left, a_dead_one, a_living_one}
+use Rattle.piece_prune.specs.DeadPieces.{IsDeadPiece, AreLiving, none_left, a_dead_one, a_living_one, lives}
 use Rattle.piece_texts.specs.ExplainedPieces.{PlainExplained}
 use Rattle.rewrite_chains.specs.Beginnings.{first_piece}
 use Rattle.rewrite_chains.specs.Chains.{unfolded_to}
 use Rattle.period_split.specs.Splitting.{Part}
 use Rattle.join_exec.specs.Pieces.{piece_reads}
 use Rattle.query_exec.specs.declared.part_pieces.PartPieces.{PartPieces}
-use Rattle.query_exec.specs.QueryPieces.{explained_in, part_pieces, table_pieces, AreAlive, none_alive, one_dead, one_alive}
+use Rattle.query_exec.specs.QueryPieces.{explained_in, part_pieces, table_pieces, AreAlive, none_alive, one_dead, one_alive, alive_of, AreLeft}
 use Rattle.query_exec.specs.Planned.{IsPlanned, ArePlanned, own_pieces, planned_pieces}
 use Rattle.query_exec.specs.Reads.{pieces_read, part_read, explained_read, reads_of}
 use Rattle.query_exec.specs.Totals.{total}
@@ -79,6 +81,45 @@ module _ (versions : List PlainVersion) where
     planned_alive (p ∷ parts) (x ∷ plan) h =
         alive_joined (part_pieces book versions q table r branch atom p) (table_pieces book versions q table r branch atom parts) (own_pieces branch atom x) (planned_pieces branch atom plan)
         (own_alive p x h.0) (planned_alive parts plan h.1)
+
+-- ---- the same, by the function
+
+-- pieces over the version of one part
+own_told : (branch atom : ℕ) (p : Part) (ps : List PlainPiece) → map (explained_in branch atom p) (filter lives ps) ≡ alive_of (map (explained_in branch atom p) ps)
+own_told branch atom p [] = refl
+own_told branch atom p (x ∷ ps) =
+    elim (lives x) as (λ b. map (explained_in branch atom p) (cond b (x ∷ filter lives ps) (filter lives ps)) ≡ cond b (explained_in branch atom p x ∷ alive_of (map (explained_in branch atom p) ps)) (alive_of (map (explained_in branch atom p) ps))) [
+      | true ↦ ap (λ (es : List PlainExplained). explained_in branch atom p x ∷ es) (own_told branch atom p ps)
+      | false ↦ own_told branch atom p ps
+    ]
+
+told_joined : (xs ys first second : List PlainExplained) → first ≡ alive_of xs → second ≡ alive_of ys → first ++ second ≡ alive_of (xs ++ ys)
+told_joined xs ys first second e f =
+    ap (λ (es : List PlainExplained). es ++ second) e ∙ ap (λ (es : List PlainExplained). alive_of xs ++ es) f ∙ sym (filter-append (λ (e : PlainExplained). lives e.piece) xs ys)
+
+module _ (versions : List PlainVersion) where
+  pub none_over : AreLeft versions [] []
+  none_over = record { alive = none_alive; told = refl }
+
+  pub left_joined : (xs ys first second : List PlainExplained) → AreLeft versions xs first → AreLeft versions ys second → AreLeft versions (xs ++ ys) (first ++ second)
+  left_joined xs ys first second h k = record { alive = alive_joined versions xs ys first second h.alive k.alive; told = told_joined xs ys first second h.told k.told }
+
+  module _ (book : Book) (q : ℕ) (table : List ℕ) (r : Read) (branch atom : ℕ) where
+    plan_told : (parts : List Part) (plan : List PartPieces) → ArePlanned book versions q table r parts plan
+        → planned_pieces branch atom plan ≡ alive_of (table_pieces book versions q table r branch atom parts)
+    plan_told [] [] h = refl
+    plan_told [] (x ∷ plan) h = absurd h
+    plan_told (p ∷ parts) [] h = absurd h
+    plan_told (p ∷ parts) (x ∷ plan) h =
+        told_joined (part_pieces book versions q table r branch atom p) (table_pieces book versions q table r branch atom parts) (own_pieces branch atom x) (planned_pieces branch atom plan)
+        (ap (λ (own : Part). map (explained_in branch atom own) (pieces_of x.pieces.items)) h.0.part
+        ∙ ap (map (explained_in branch atom p)) h.0.told
+        ∙ own_told branch atom p (unfolded_to book versions p.1 q (first_piece table r ∷ []))) (plan_told parts plan h.1)
+
+    -- what is planned are the pieces, by both
+    pub planned_left : (parts : List Part) (plan : List PartPieces) → ArePlanned book versions q table r parts plan
+        → AreLeft versions (table_pieces book versions q table r branch atom parts) (planned_pieces branch atom plan)
+    planned_left parts plan h = record { alive = planned_alive versions book q table r branch atom parts plan h; told = plan_told parts plan h }
 
 -- ---- what is read
 

@@ -41,7 +41,8 @@ use Rattle.query_exec.specs.Questions.{own_read, table_read}
 use Rattle.query_exec.specs.QueryPieces.{table_pieces, items_pieces, AreAlive}
 use Rattle.query_exec.specs.Reads.{reads_of}
 use Rattle.query_exec.specs.Routes.{MayBeRead}
-use Rattle.query_exec.proofs.TableReads.{listed_fit, listed_at, read_ascends}
+use Rattle.coalesce.proofs.Listed.{listed_at}
+use Rattle.query_exec.proofs.TableReads.{listed_fit, read_ascends}
 use Rattle.query_exec.proofs.RouteLaws.{from_covering}
 use Rattle.query_exec.proofs.AliveLaws.{Owes, owes_less}
 use Rattle.query_exec.proofs.BranchRows.{pushed_answers}

@@ -11,3 +11,4 @@ pub mod LivingLaws
 pub mod BranchRows
 pub mod ItemAtoms
 pub mod WholeAnswers
+pub mod LentRows

@@ -2,6 +2,7 @@
 use Rattle.std.proofs.Common.{◌≡◌, ◌+◌, ◌<◌, ◌≤◌, ℕ, true, List, [], ◌∷◌, ◌++◌, map, length, get_or, take, reverse, refl, sym, ap, subst, ◌∙◌, inl, inr, arith}
 use Rattle.std.specs.Prelude.{◌⊎◌, None}
 use Rattle.std.specs.FinMap.{get}
+use Rattle.std.specs.List.{filter}
 use Rattle.std.proofs.lemmas.List.{map-append, reverse-append}
 use Rattle.relations.specs.Sets.{In}
 use Rattle.relations.specs.Spans.{Span, covers}
@@ -19,7 +20,7 @@ use Rattle.piece_meaning.specs.Pieces.{PlainPiece, all_mean}
 use Rattle.piece_meaning.specs.Typed.{AllTyped}
 use Rattle.piece_meaning.specs.Rules.{Book, IsLawfulBook}
 use Rattle.piece_ir.specs.Shown.{pieces_of}
-use Rattle.piece_prune.specs.DeadPieces.{AreLiving, none_left, a_dead_one, a_living_one}
+use Rattle.piece_prune.specs.DeadPieces.{AreLiving, none_left, a_dead_one, a_living_one, lives}
 use Rattle.piece_prune.proofs.Pruned.{mean_the_same}
 use Rattle.rewrite_chains.specs.Beginnings.{first_piece}
 use Rattle.rewrite_chains.specs.Chains.{unfolded_to}
@@ -46,10 +47,11 @@ module _ (book : Book) (versions : List PlainVersion) (q : ℕ) (table : List �
   planned_joined (p ∷ ps) qs (x ∷ xs) ys h k = (h.0, planned_joined ps qs xs ys h.1 k)
 
   pub one_planned : (p : Part) (x : PartPieces) (ps : List PlainPiece) → x.part ≡ p → ps ≡ unfolded_to book versions p.1 q (first_piece table r ∷ [])
-      → AreLiving (tables_from no_tables versions p.1) ps (pieces_of x.pieces.items) → IsPlanned book versions q table r p x
-  one_planned p x ps e u h = record {
+      → AreLiving (tables_from no_tables versions p.1) ps (pieces_of x.pieces.items) → pieces_of x.pieces.items ≡ filter lives ps → IsPlanned book versions q table r p x
+  one_planned p x ps e u h told = record {
     part = e;
     living = subst (λ (us : List PlainPiece). AreLiving (tables_from no_tables versions p.1) us (pieces_of x.pieces.items)) u h;
+    told = told ∙ ap (filter lives) u;
   }
 
   pub planned_last : (ps : List Part) (p : Part) (xs new : List PartPieces) (x : PartPieces) → new ≡ xs ++ x ∷ [] → ArePlanned book versions q table r ps xs

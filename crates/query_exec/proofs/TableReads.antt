@@ -6,10 +6,9 @@ use Rattle.std.specs.FinMap.{get}
 use Rattle.std.proofs.lemmas.List.{length-map}
 use Rattle.relations.specs.Sets.{In, Ascends}
 use Rattle.relations.specs.Spans.{Span}
-use Rattle.relations.specs.Timed.{Entry, at}
-use Rattle.relations.specs.Listing.{IsListing, Covered}
-use Rattle.relations.proofs.SetLaws.{from_set, from_map, from_filter, set_ascends, one_list}
-use Rattle.relations.proofs.Held.{in_at, at_ascends, held_is_covered, IsHeld}
+use Rattle.relations.specs.Timed.{Entry}
+use Rattle.relations.specs.Listing.{IsListing}
+use Rattle.relations.proofs.SetLaws.{from_set, from_map, from_filter, set_ascends}
 use Rattle.prima_base.specs.declared.values.Value.{Value}
 use Rattle.prima_base.specs.Order.{row_cmp}
 use Rattle.prima_base.specs.OrderLaws.{row_exact}
@@ -47,17 +46,6 @@ standing_means book lawful past is holds q k m table r ps asked h e =
 
 pub read_ascends : (past : Past) (q : ℕ) (table : List ℕ) (r : Read) (m : ℕ) → Ascends row_cmp (table_read past q table r m)
 read_ascends past q table r m = set_ascends row_cmp row_exact _
-
-pub listed_at : (relation : ℕ → Relation) (slice : Span) (entries : List (Entry Row)) → IsListing row_cmp relation slice entries → (m : ℕ) → slice.start ≤ m → m < slice.end
-    → Ascends row_cmp (relation m) → at row_cmp entries m ≡ relation m
-listed_at relation slice entries h m a b ascends =
-    one_list row_cmp row_exact (at row_cmp entries m) (relation m) (at_ascends row_cmp row_exact entries m) ascends (record {
-      there = λ x k. there x ((held_is_covered entries x m).0 ((in_at row_cmp row_exact entries x m).0 k));
-      back = λ x k. (in_at row_cmp row_exact entries x m).1 ((held_is_covered entries x m).1 (h.complete x m a b k));
-    })
-  where
-    there : (x : Row) → Covered entries x m → In x (relation m)
-    there x c = subst (λ (y : Row). In y (relation m)) c.2 ((h.each c.0 c.1).holds m c.3 c.4)
 
 held_rows : (o : Option Stored) → EntryHolds o → HoldValues (rows_at o)
 held_rows None h = λ row m. absurd m

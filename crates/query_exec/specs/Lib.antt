@@ -8,3 +8,4 @@ pub mod Routes
 pub mod Standing
 pub mod Reads
 pub mod Accepted
+pub mod Lent

@@ -1,13 +1,13 @@
 -- What is planned for a table of the asked version: in each part of a slice the pieces that are not dead.
 use Rattle.std.specs.Prelude.{◌≡◌, ℕ, List, [], ◌∷◌, map, ⊤}
-use Rattle.std.specs.List.{flat_map}
+use Rattle.std.specs.List.{filter, flat_map}
 use Rattle.relations.specs.Spans.{Span}
 use Rattle.smo_types.specs.Commands.{PlainVersion}
 use Rattle.smo_meaning.specs.Past.{no_tables, tables_from}
 use Rattle.plain_answers.specs.Reading.{Read}
 use Rattle.piece_meaning.specs.Rules.{Book}
 use Rattle.piece_ir.specs.Shown.{pieces_of}
-use Rattle.piece_prune.specs.DeadPieces.{AreLiving}
+use Rattle.piece_prune.specs.DeadPieces.{AreLiving, lives}
 use Rattle.rewrite_chains.specs.Beginnings.{first_piece}
 use Rattle.rewrite_chains.specs.Chains.{unfolded_to}
 use Rattle.period_split.specs.Splitting.{Part}
@@ -19,6 +19,7 @@ use Rattle.query_exec.specs.declared.part_pieces.PartPieces.{PartPieces}
 pub record IsPlanned (book : Book) (versions : List PlainVersion) (q : ℕ) (table : List ℕ) (r : Read) (p : Part) (x : PartPieces) : Type 0 where
   pub part : x.part ≡ p
   pub living : AreLiving (tables_from no_tables versions p.1) (unfolded_to book versions p.1 q (first_piece table r ∷ [])) (pieces_of x.pieces.items)
+  pub told : pieces_of x.pieces.items ≡ filter lives (unfolded_to book versions p.1 q (first_piece table r ∷ []))
 
 -- in each of several, in their order
 abbrev pub ArePlanned : Book → List PlainVersion → ℕ → List ℕ → Read → List Part → List PartPieces → Type 0

@@ -1,7 +1,7 @@
 -- The pieces of a query: for each branch and item in text order, and for each version that is in force in the slice, those into which
 -- what is asked of the item's table unfolds there, but for the dead.
-use Rattle.std.specs.Prelude.{ℕ, ◌+◌, ◌++◌, List, [], ◌∷◌, map}
-use Rattle.std.specs.List.{flat_map}
+use Rattle.std.specs.Prelude.{◌≡◌, ℕ, ◌+◌, ◌++◌, List, [], ◌∷◌, map}
+use Rattle.std.specs.List.{filter, flat_map}
 use Rattle.cond_expr.specs.declared.exprs.ColRef.{ColRef}
 use Rattle.cond_expr.specs.Trees.{Test}
 use Rattle.smo_types.specs.Commands.{PlainVersion}
@@ -11,7 +11,7 @@ use Rattle.plain_answers.specs.Naming.{all_references}
 use Rattle.plain_answers.specs.Reading.{Read}
 use Rattle.piece_meaning.specs.Pieces.{PlainPiece}
 use Rattle.piece_meaning.specs.Rules.{Book}
-use Rattle.piece_prune.specs.DeadPieces.{IsDeadPiece}
+use Rattle.piece_prune.specs.DeadPieces.{IsDeadPiece, lives}
 use Rattle.piece_texts.specs.ExplainedPieces.{PlainExplained}
 use Rattle.rewrite_chains.specs.Beginnings.{first_piece}
 use Rattle.rewrite_chains.specs.Chains.{unfolded_to}
@@ -61,3 +61,19 @@ pub data AreAlive (versions : List PlainVersion) : List PlainExplained → List 
 -- the pieces of a query
 abbrev pub ArePieces : Book → List PlainVersion → PlainQuery → List PlainExplained → Type 0
 ArePieces book versions query list = AreAlive versions (all_pieces book versions query) list
+
+-- ---- the same, by a function
+
+-- those that the few values that are tried do not find dead
+abbrev pub alive_of : List PlainExplained → List PlainExplained
+alive_of list = filter (λ (e : PlainExplained). lives e.piece) list
+
+-- The pieces of a query. Of one that is not refused, over groups that show its past, they are the only ones: `explain` finds them,
+-- and `ArePieces` is met by one list at most.
+abbrev pub living_pieces : Book → List PlainVersion → PlainQuery → List PlainExplained
+living_pieces book versions query = alive_of (all_pieces book versions query)
+
+-- what is left of pieces without the dead
+pub record AreLeft (versions : List PlainVersion) (pieces list : List PlainExplained) : Type 0 where
+  pub alive : AreAlive versions pieces list
+  pub told : list ≡ alive_of pieces

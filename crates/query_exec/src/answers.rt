@@ -13,6 +13,7 @@ ghost use Rattle.version_groups.specs.Showing.{Shows};
 ghost use Rattle.rewrite.specs.Books.{meaning_of, EachOf};
 ghost use Rattle.query_exec.specs.Accepted.{IsAccepted, IsShown};
 ghost use Rattle.piece_texts.specs.ExplainedPieces.{PlainExplained};
+ghost use Rattle.query_exec.specs.Lent.{NoneComputes, AreLentBy};
 ghost use Rattle.query_exec.specs.QueryPieces.{ArePieces};
 ghost use Rattle.query_exec.specs.Reads.{reads_of};
 
@@ -32,7 +33,8 @@ use version_groups::Groups;
 ///
 /// A table's pieces at a version are made from those at its neighbour, so each rule is asked once a version and piece. It takes at
 /// most as many steps as there are, for each of the query's pieces, keys of the piece's tables and entries of the columns that it
-/// names of them: just the pieces that `explain` answers. The one error is `NoMemory`, where memory runs out.
+/// names of them: just the pieces that `explain` answers. Where none of these computes an output, the texts of the outputs that are
+/// plain columns are lent by the stored tables, as those of one of the branches. The one error is `NoMemory`, where memory runs out.
 pub fn answer<'a, L: Ledger>(
     alloc: Global,
     groups: &'a Groups,
@@ -47,6 +49,8 @@ pub fn answer<'a, L: Ledger>(
     ensures listed { (past : Past) → (asked : PlainQuery) → Shows groups.now past → IsAccepted past asked (query_of query.now)
         → IfOk result (λ rows. IsListing row_cmp (asked_at past asked) (slice_of asked.when) (entries_of rows.items)) }
     ensures rows { (past : Past) → (asked : PlainQuery) → Shows groups.now past → IsAccepted past asked (query_of query.now) → IfOk result (λ rows. kept asked.keep (entries_of rows.items) ≡ answer past asked) }
+    ensures lent { (pieces : List PlainExplained) → ArePieces (meaning_of book.now.rules.items (λ r. handles (r.vtable, r.value)) (λ r. answers (r.vtable, r.value))) (versions_in groups.now) (query_of query.now) pieces → NoneComputes pieces
+        → IfOk result (λ rows. AreLentBy (query_of query.now).branches rows.items) }
     ensures cost { (pieces : List PlainExplained) → ArePieces (meaning_of book.now.rules.items (λ r. handles (r.vtable, r.value)) (λ r. answers (r.vtable, r.value))) (versions_in groups.now) (query_of query.now) pieces → steps.new ≤ steps.old + reads_of groups.now pieces }
 {
     book.known();

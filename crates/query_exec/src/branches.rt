@@ -19,6 +19,9 @@ ghost use Rattle.query_exec.specs.Accepted.{MayItems, MayBranch, MayBranches, Ar
 ghost use Rattle.query_exec.specs.Routes.{IsRoute};
 ghost use Rattle.piece_texts.specs.ExplainedPieces.{PlainExplained};
 ghost use Rattle.query_exec.specs.QueryPieces.{items_pieces, branch_pieces, branches_pieces, AreAlive};
+ghost use Rattle.timed_choices.specs.Lending.{AllStayLent};
+ghost use Rattle.joining.specs.Sources.{AtomsLent};
+ghost use Rattle.query_exec.specs.Lent.{NoneAliveComputes, AreLentBy};
 ghost use Rattle.query_exec.specs.Reads.{reads_of};
 
 use crate::items::read_item;
@@ -51,6 +54,8 @@ fn read_items<'a, L: Ledger>(
     requires schema { schema.now ≡ tables_from no_tables (versions_in groups.now) route.now.asked }
     requires read { MayItems (versions_in groups.now) route.now (lent references.now) (test cond.now) 0 from.now }
     ensures atoms { (past : Past) → Shows groups.now past → IfOk result (λ atoms. AreRead past route.now (lent references.now) (test cond.now) 0 from.now atoms.items) }
+    ensures borrowed { (branch : ℕ) → NoneAliveComputes (versions_in groups.now) (items_pieces (meaning_of book.now.rules.items (λ r. handles (r.vtable, r.value)) (λ r. answers (r.vtable, r.value))) (versions_in groups.now) route.now.asked route.now.parts.items (lent references.now) (test cond.now) branch 0 from.now)
+        → IfOk result (λ atoms. AtomsLent atoms.items) }
     ensures cost { (branch : ℕ) → (alive : List PlainExplained)
         → AreAlive (versions_in groups.now) (items_pieces (meaning_of book.now.rules.items (λ r. handles (r.vtable, r.value)) (λ r. answers (r.vtable, r.value))) (versions_in groups.now) route.now.asked route.now.parts.items (lent references.now) (test cond.now) branch 0 from.now) alive → steps.new ≤ steps.old + reads_of groups.now alive }
 {
@@ -84,6 +89,8 @@ fn answer_branch<'a, L: Ledger>(
     requires read { MayBranch (versions_in groups.now) route.now (branch_of branch.now) }
     ensures rows { (past : Past) → Shows groups.now past → (m : ℕ) → covers route.now.slice m ≡ true
         → IfOk result (λ rows. rows_at rows.items m ≡ set_of row_cmp (branch_answers (tables_of past route.now.asked) (migrated past m route.now.asked) (branch_of branch.now))) }
+    ensures borrowed { (number : ℕ) → NoneAliveComputes (versions_in groups.now) (branch_pieces (meaning_of book.now.rules.items (λ r. handles (r.vtable, r.value)) (λ r. answers (r.vtable, r.value))) (versions_in groups.now) route.now.asked route.now.parts.items number (branch_of branch.now))
+        → IfOk result (λ rows. AllStayLent (branch_of branch.now).outs rows.items) }
     ensures cost { (number : ℕ) → (alive : List PlainExplained)
         → AreAlive (versions_in groups.now) (branch_pieces (meaning_of book.now.rules.items (λ r. handles (r.vtable, r.value)) (λ r. answers (r.vtable, r.value))) (versions_in groups.now) route.now.asked route.now.parts.items number (branch_of branch.now)) alive → steps.new ≤ steps.old + reads_of groups.now alive }
 {
@@ -120,6 +127,8 @@ pub(crate) fn answer_branches<'a, L: Ledger>(
     requires read { MayBranches (versions_in groups.now) route.now (branches_of branches.now) }
     ensures rows { (past : Past) → Shows groups.now past → (m : ℕ) → covers route.now.slice m ≡ true
         → IfOk result (λ rows. rows_at rows.items m ≡ plain (tables_of past route.now.asked) (branches_of branches.now) (migrated past m route.now.asked)) }
+    ensures borrowed { (number : ℕ) → NoneAliveComputes (versions_in groups.now) (branches_pieces (meaning_of book.now.rules.items (λ r. handles (r.vtable, r.value)) (λ r. answers (r.vtable, r.value))) (versions_in groups.now) route.now.asked route.now.parts.items number (branches_of branches.now))
+        → IfOk result (λ rows. AreLentBy (branches_of branches.now) rows.items) }
     ensures cost { (number : ℕ) → (alive : List PlainExplained)
         → AreAlive (versions_in groups.now) (branches_pieces (meaning_of book.now.rules.items (λ r. handles (r.vtable, r.value)) (λ r. answers (r.vtable, r.value))) (versions_in groups.now) route.now.asked route.now.parts.items number (branches_of branches.now)) alive → steps.new ≤ steps.old + reads_of groups.now alive }
 {

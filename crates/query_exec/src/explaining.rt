@@ -14,7 +14,7 @@ ghost use Rattle.rewrite.specs.Books.{meaning_of, EachOf};
 ghost use Rattle.query_exec.specs.Accepted.{MayItems, MayBranch, MayBranches, IsShown};
 ghost use Rattle.query_exec.specs.Planned.{planned_pieces};
 ghost use Rattle.query_exec.specs.Questions.{own_read};
-ghost use Rattle.query_exec.specs.QueryPieces.{explained_in, table_pieces, items_pieces, branch_pieces, branches_pieces, AreAlive, ArePieces};
+ghost use Rattle.query_exec.specs.QueryPieces.{explained_in, table_pieces, items_pieces, branch_pieces, branches_pieces, living_pieces, AreLeft, ArePieces};
 ghost use Rattle.query_exec.specs.Routes.{IsRoute, MayBeRead};
 
 use crate::part_pieces::PartPieces;
@@ -95,8 +95,8 @@ fn explain_item(
     requires shows { (past : Past) × Shows groups.now past }
     requires route { IsRoute (versions_in groups.now) route.now }
     requires read { MayBeRead (versions_in groups.now) route.now table.now (own_read place (lent references.now) (test cond.now)) }
-    ensures { (before : List PlainExplained) → AreAlive (versions_in groups.now) before (all_explained into.old.items)
-        → OnOk result (AreAlive (versions_in groups.now) (before ++ table_pieces (meaning_of book.now.rules.items (λ r. handles (r.vtable, r.value)) (λ r. answers (r.vtable, r.value))) (versions_in groups.now) route.now.asked table.now (own_read place (lent references.now) (test cond.now)) branch atom route.now.parts.items) (all_explained into.new.items)) }
+    ensures { (before : List PlainExplained) → AreLeft (versions_in groups.now) before (all_explained into.old.items)
+        → OnOk result (AreLeft (versions_in groups.now) (before ++ table_pieces (meaning_of book.now.rules.items (λ r. handles (r.vtable, r.value)) (λ r. answers (r.vtable, r.value))) (versions_in groups.now) route.now.asked table.now (own_read place (lent references.now) (test cond.now)) branch atom route.now.parts.items) (all_explained into.new.items)) }
 {
     let question = question_of(alloc, references, cond, place)?;
     let plan = table_pieces(alloc, groups, book, route, table, &question)?;
@@ -120,8 +120,8 @@ fn explain_items(
     requires shows { (past : Past) × Shows groups.now past }
     requires route { IsRoute (versions_in groups.now) route.now }
     requires read { MayItems (versions_in groups.now) route.now (lent references.now) (test cond.now) 0 from.now }
-    ensures { (before : List PlainExplained) → AreAlive (versions_in groups.now) before (all_explained into.old.items)
-        → OnOk result (AreAlive (versions_in groups.now) (before ++ items_pieces (meaning_of book.now.rules.items (λ r. handles (r.vtable, r.value)) (λ r. answers (r.vtable, r.value))) (versions_in groups.now) route.now.asked route.now.parts.items (lent references.now) (test cond.now) branch 0 from.now) (all_explained into.new.items)) }
+    ensures { (before : List PlainExplained) → AreLeft (versions_in groups.now) before (all_explained into.old.items)
+        → OnOk result (AreLeft (versions_in groups.now) (before ++ items_pieces (meaning_of book.now.rules.items (λ r. handles (r.vtable, r.value)) (λ r. answers (r.vtable, r.value))) (versions_in groups.now) route.now.asked route.now.parts.items (lent references.now) (test cond.now) branch 0 from.now) (all_explained into.new.items)) }
 {
     let mut place: u32 = 0;
     for item in from {
@@ -149,8 +149,8 @@ fn explain_branch(
     requires shows { (past : Past) × Shows groups.now past }
     requires route { IsRoute (versions_in groups.now) route.now }
     requires read { MayBranch (versions_in groups.now) route.now (branch_of branch.now) }
-    ensures { (before : List PlainExplained) → AreAlive (versions_in groups.now) before (all_explained into.old.items)
-        → OnOk result (AreAlive (versions_in groups.now) (before ++ branch_pieces (meaning_of book.now.rules.items (λ r. handles (r.vtable, r.value)) (λ r. answers (r.vtable, r.value))) (versions_in groups.now) route.now.asked route.now.parts.items number (branch_of branch.now)) (all_explained into.new.items)) }
+    ensures { (before : List PlainExplained) → AreLeft (versions_in groups.now) before (all_explained into.old.items)
+        → OnOk result (AreLeft (versions_in groups.now) (before ++ branch_pieces (meaning_of book.now.rules.items (λ r. handles (r.vtable, r.value)) (λ r. answers (r.vtable, r.value))) (versions_in groups.now) route.now.asked route.now.parts.items number (branch_of branch.now)) (all_explained into.new.items)) }
 {
     let mut references = Vec::new(alloc);
     gather_references(&mut references, &branch.outs, &branch.cond)?;
@@ -180,7 +180,7 @@ fn explain_branches(
     requires shows { (past : Past) × Shows groups.now past }
     requires route { IsRoute (versions_in groups.now) route.now }
     requires read { MayBranches (versions_in groups.now) route.now (branches_of branches.now) }
-    ensures { IfOk result (λ v. AreAlive (versions_in groups.now) (branches_pieces (meaning_of book.now.rules.items (λ r. handles (r.vtable, r.value)) (λ r. answers (r.vtable, r.value))) (versions_in groups.now) route.now.asked route.now.parts.items 1 (branches_of branches.now)) (all_explained v.items)) }
+    ensures { IfOk result (λ v. AreLeft (versions_in groups.now) (branches_pieces (meaning_of book.now.rules.items (λ r. handles (r.vtable, r.value)) (λ r. answers (r.vtable, r.value))) (versions_in groups.now) route.now.asked route.now.parts.items 1 (branches_of branches.now)) (all_explained v.items)) }
 {
     let mut pieces = Vec::new(alloc);
     let mut number: u32 = 0;
@@ -206,7 +206,8 @@ pub fn explain(
     requires shown { IsShown groups.now (query_of query.now) }
     requires there { query.now.version ≤ length groups.now.versions }
     requires lasting { IsLasting query.now.when }
-    ensures { IfOk result (λ v. ArePieces (meaning_of book.now.rules.items (λ r. handles (r.vtable, r.value)) (λ r. answers (r.vtable, r.value))) (versions_in groups.now) (query_of query.now) (all_explained v.items)) }
+    ensures are { IfOk result (λ v. ArePieces (meaning_of book.now.rules.items (λ r. handles (r.vtable, r.value)) (λ r. answers (r.vtable, r.value))) (versions_in groups.now) (query_of query.now) (all_explained v.items)) }
+    ensures told { IfOk result (λ v. all_explained v.items ≡ living_pieces (meaning_of book.now.rules.items (λ r. handles (r.vtable, r.value)) (λ r. answers (r.vtable, r.value))) (versions_in groups.now) (query_of query.now)) }
 {
     let slice = slice(query);
     let route = route_of(alloc, groups, slice, query.version)?;

@@ -15,6 +15,8 @@ ghost use Rattle.query_exec.specs.Accepted.{IsRead};
 ghost use Rattle.query_exec.specs.Questions.{own_read};
 ghost use Rattle.piece_texts.specs.ExplainedPieces.{PlainExplained};
 ghost use Rattle.query_exec.specs.QueryPieces.{table_pieces, AreAlive};
+ghost use Rattle.timed_choices.specs.Lending.{AllLent};
+ghost use Rattle.query_exec.specs.Lent.{NoneAliveComputes};
 ghost use Rattle.query_exec.specs.Routes.{IsRoute, MayBeRead};
 ghost use Rattle.query_exec.specs.Reads.{reads_of};
 
@@ -103,6 +105,8 @@ pub(crate) fn read_item<'a, L: Ledger>(
     requires schema { schema.now ≡ tables_from no_tables (versions_in groups.now) route.now.asked }
     requires read { MayBeRead (versions_in groups.now) route.now table.now (own_read place (lent references.now) (test cond.now)) }
     ensures atom { (past : Past) → Shows groups.now past → IfOk result (λ a. IsRead past route.now place table.now (own_read place (lent references.now) (test cond.now)) a) }
+    ensures borrowed { (branch : ℕ) → (atom : ℕ) → NoneAliveComputes (versions_in groups.now) (table_pieces (meaning_of book.now.rules.items (λ r. handles (r.vtable, r.value)) (λ r. answers (r.vtable, r.value))) (versions_in groups.now) route.now.asked table.now (own_read place (lent references.now) (test cond.now)) branch atom route.now.parts.items)
+        → IfOk result (λ a. AllLent a.rows.items) }
     ensures cost { (branch : ℕ) → (atom : ℕ) → (alive : List PlainExplained)
         → AreAlive (versions_in groups.now) (table_pieces (meaning_of book.now.rules.items (λ r. handles (r.vtable, r.value)) (λ r. answers (r.vtable, r.value))) (versions_in groups.now) route.now.asked table.now (own_read place (lent references.now) (test cond.now)) branch atom route.now.parts.items) alive
         → steps.new ≤ steps.old + reads_of groups.now alive }

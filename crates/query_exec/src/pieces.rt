@@ -12,6 +12,8 @@ ghost use Rattle.piece_meaning.specs.Typed.{AllTyped};
 ghost use Rattle.piece_ir.specs.Shown.{pieces_of};
 ghost use Rattle.query_pieces.specs.Gathering.{IsGathered};
 ghost use Rattle.query_exec.specs.Routes.{IsOwn};
+ghost use Rattle.timed_choices.specs.Lending.{AllLent};
+ghost use Rattle.query_exec.specs.Lent.{ComputeNothing};
 ghost use Rattle.query_exec.specs.Reads.{pieces_read};
 
 use join_exec::run_piece;
@@ -34,6 +36,7 @@ fn run_pieces<'a, L: Ledger>(
     ensures rows { (past : Past) → Shows groups.now past → (m : ℕ) → covers period m ≡ true → IsInForce past.versions version m
         → IfOk result (λ rows. rows_at rows.items m ≡ all_mean (tables_of past version) (database_at past m) (pieces_of pieces.now)) }
     ensures inside { (m : ℕ) → covers period m ≡ false → IfOk result (λ rows. rows_at rows.items m ≡ []) }
+    ensures lent { ComputeNothing (pieces_of pieces.now) → IfOk result (λ rows. AllLent rows.items) }
     ensures cost { steps.new ≤ steps.old + pieces_read groups.now version (pieces_of pieces.now) }
 {
     let mut rows = Vec::new(alloc);
@@ -58,6 +61,7 @@ pub(crate) fn read_part<'a, L: Ledger>(
     ensures rows { (past : Past) → Shows groups.now past → (relation : ℕ → Relation)
         → ((m : ℕ) → covers part.0 m ≡ true → all_mean (tables_of past part.1) (database_at past m) (pieces_of pieces.now) ≡ relation m)
         → (spans : List Span) → IsGathered relation spans (entries_of rows.old.items) → OnOk result (IsGathered relation (spans ++ part.0 ∷ []) (entries_of rows.new.items)) }
+    ensures lent { ComputeNothing (pieces_of pieces.now) → AllLent rows.old.items → OnOk result (AllLent rows.new.items) }
     ensures cost { steps.new ≤ steps.old + pieces_read groups.now part.1 (pieces_of pieces.now) }
 {
     let mut news = run_pieces(alloc, groups, part.1, pieces, part.0, steps)?;

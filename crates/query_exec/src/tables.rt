@@ -21,6 +21,8 @@ ghost use Rattle.query_exec.specs.Questions.{table_read};
 ghost use Rattle.query_exec.specs.Planned.{ArePlanned, planned_spans};
 ghost use Rattle.piece_texts.specs.ExplainedPieces.{PlainExplained};
 ghost use Rattle.query_exec.specs.QueryPieces.{table_pieces, AreAlive};
+ghost use Rattle.timed_choices.specs.Lending.{AllLent};
+ghost use Rattle.query_exec.specs.Lent.{ComputeNothing, NoneAliveComputes};
 ghost use Rattle.query_exec.specs.Routes.{IsOwn, IsRoute, MayBeRead};
 ghost use Rattle.query_exec.specs.Reads.{part_read, reads_of};
 ghost use Rattle.query_exec.specs.Totals.{total};
@@ -72,6 +74,7 @@ fn read_parts<'a, L: Ledger>(
     ensures rows { (past : Past) → Shows groups.now past → (relation : ℕ → Relation)
         → ((x : OnePart) → In x plan.now → (m : ℕ) → covers x.part.0 m ≡ true → all_mean (tables_of past x.part.1) (database_at past m) (pieces_of x.pieces.items) ≡ relation m)
         → IfOk result (λ rows. IsGathered relation (planned_spans plan.now) (entries_of rows.items)) }
+    ensures lent { ((x : OnePart) → In x plan.now → ComputeNothing (pieces_of x.pieces.items)) → IfOk result (λ rows. AllLent rows.items) }
     ensures cost { steps.new ≤ steps.old + total (part_read groups.now) plan.now }
 {
     let mut rows = Vec::new(alloc);
@@ -82,7 +85,7 @@ fn read_parts<'a, L: Ledger>(
 }
 
 /// What is asked of the table, migrated to the asked version, at each moment of the slice: each row with its longest periods, over
-/// the borders of versions too. Its pieces are read, and nothing else.
+/// the borders of versions too. Its pieces are read, and nothing else; where none of them computes an output, all values are lent.
 pub(crate) fn read_table<'a, L: Ledger>(
     alloc: Global,
     groups: &'a Groups,
@@ -97,6 +100,8 @@ pub(crate) fn read_table<'a, L: Ledger>(
     requires route { IsRoute (versions_in groups.now) route.now }
     requires read { MayBeRead (versions_in groups.now) route.now table.now (read_asked question.now) }
     ensures rows { (past : Past) → Shows groups.now past → IfOk result (λ rows. IsListing row_cmp (table_read past route.now.asked table.now (read_asked question.now)) route.now.slice (entries_of rows.items)) }
+    ensures lent { (branch : ℕ) → (atom : ℕ) → NoneAliveComputes (versions_in groups.now) (table_pieces (meaning_of book.now.rules.items (λ r. handles (r.vtable, r.value)) (λ r. answers (r.vtable, r.value))) (versions_in groups.now) route.now.asked table.now (read_asked question.now) branch atom route.now.parts.items)
+        → IfOk result (λ rows. AllLent rows.items) }
     ensures cost { (branch : ℕ) → (atom : ℕ) → (alive : List PlainExplained)
         → AreAlive (versions_in groups.now) (table_pieces (meaning_of book.now.rules.items (λ r. handles (r.vtable, r.value)) (λ r. answers (r.vtable, r.value))) (versions_in groups.now) route.now.asked table.now (read_asked question.now) branch atom route.now.parts.items) alive
         → steps.new ≤ steps.old + reads_of groups.now alive }

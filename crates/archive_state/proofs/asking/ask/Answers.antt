@@ -10,8 +10,11 @@ use Rattle.temporal_lang.specs.Queries.{PlainQuery, query_of}
 use Rattle.version_groups.specs.Groups.{versions_in}
 use Rattle.piece_meaning.specs.Books.{book_of}
 use Rattle.query_exec.specs.Accepted.{IsAccepted}
+use Rattle.query_exec.specs.Lent.{AreLentBy}
 use Rattle.query_exec.specs.QueryPieces.{ArePieces}
+use Rattle.query_exec.proofs.LentRows.{by_values}
 use Rattle.archive_state.specs.Asking.{IfAccepted, IsReady}
+use Rattle.archive_state.proofs.AskedBranches.{as_asked}
 use Rattle.archive_state.proofs.asking.ask.Goals as goal
 
 pub answer-requires-clause-shown : goal.answer-requires-clause-shown
@@ -36,7 +39,7 @@ returns-clause-asked g c past shows =
     let h : IsReady past query c.in_ok-atoms.atoms = c.in_ok-atoms.ensures past shows in
     record {
       accepted = h.accepted;
-      rows = c.keep.ensures ∙ ap (λ (k : List Keep). kept k (entries_of c.in_ok-rows.rows.items)) c.deref.ensures.value
+      rows = c.keep.ensures.rows ∙ ap (λ (k : List Keep). kept k (entries_of c.in_ok-rows.rows.items)) c.deref.ensures.value
           ∙ c.in_ok-rows.ensures.rows past query shows (record { accepted = h.accepted; atoms = h.atoms });
       periods = c.tells_periods.ensures;
     }
@@ -49,3 +52,16 @@ returns-clause-cost g c = λ past shows pieces are.
     (subst (λ (q : PlainQuery). ArePieces (book_of (λ r. (goal.Rule-dyn g (r.vtable, r.value)).handles r.value) (λ r. (goal.Rule-dyn g (r.vtable, r.value)).answers r.value) c.args.book.now.rules.items) (versions_in c.args.groups.now) q pieces) (sym h.atoms)
     (subst (λ (vs : List PlainVersion). ArePieces (book_of (λ r. (goal.Rule-dyn g (r.vtable, r.value)).handles r.value) (λ r. (goal.Rule-dyn g (r.vtable, r.value)).answers r.value) c.args.book.now.rules.items) vs (with_atoms (tables_of past query.version) query) pieces) (sym shows.versions)
     (subst (λ (f : Fault). IfAccepted f (ArePieces (book_of (λ r. (goal.Rule-dyn g (r.vtable, r.value)).handles r.value) (λ r. (goal.Rule-dyn g (r.vtable, r.value)).answers r.value) c.args.book.now.rules.items) past.versions (with_atoms (tables_of past query.version) query) pieces) pieces) h.accepted are)))
+
+pub returns-clause-lent : goal.returns-clause-lent
+returns-clause-lent g c = λ past shows pieces are none.
+    let query = query_of c.args.query.now in
+    let h : IsReady past query c.in_ok-atoms.atoms = c.in_ok-atoms.ensures past shows in
+    by_values query.branches c.in_ok-rows.rows.items c.keep.new.rows.items c.keep.ensures.values
+    (as_asked (tables_of past query.version) query.branches c.in_ok-rows.rows.items
+    (subst (λ (q : PlainQuery). AreLentBy q.branches c.in_ok-rows.rows.items) h.atoms
+    (c.in_ok-rows.ensures.lent pieces
+    (subst (λ (q : PlainQuery). ArePieces (book_of (λ r. (goal.Rule-dyn g (r.vtable, r.value)).handles r.value) (λ r. (goal.Rule-dyn g (r.vtable, r.value)).answers r.value) c.args.book.now.rules.items) (versions_in c.args.groups.now) q pieces) (sym h.atoms)
+    (subst (λ (vs : List PlainVersion). ArePieces (book_of (λ r. (goal.Rule-dyn g (r.vtable, r.value)).handles r.value) (λ r. (goal.Rule-dyn g (r.vtable, r.value)).answers r.value) c.args.book.now.rules.items) vs (with_atoms (tables_of past query.version) query) pieces) (sym shows.versions)
+    (subst (λ (f : Fault). IfAccepted f (ArePieces (book_of (λ r. (goal.Rule-dyn g (r.vtable, r.value)).handles r.value) (λ r. (goal.Rule-dyn g (r.vtable, r.value)).answers r.value) c.args.book.now.rules.items) past.versions (with_atoms (tables_of past query.version) query) pieces) pieces) h.accepted are)))
+    none)))

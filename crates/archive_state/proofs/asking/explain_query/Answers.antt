@@ -1,4 +1,4 @@
-use Rattle.std.proofs.Common.{◌≡◌, List, sym, subst}
+use Rattle.std.proofs.Common.{◌≡◌, ◌∙◌, List, ap, sym, subst}
 use Rattle.smo_types.specs.Commands.{PlainVersion}
 use Rattle.smo_meaning.specs.Past.{tables_of}
 use Rattle.temporal_lang.specs.Atoms.{with_atoms}
@@ -6,7 +6,7 @@ use Rattle.temporal_lang.specs.Queries.{PlainQuery, query_of}
 use Rattle.version_groups.specs.Groups.{versions_in}
 use Rattle.piece_meaning.specs.Books.{book_of}
 use Rattle.piece_texts.specs.ExplainedPieces.{all_explained}
-use Rattle.query_exec.specs.QueryPieces.{ArePieces}
+use Rattle.query_exec.specs.QueryPieces.{ArePieces, living_pieces}
 use Rattle.archive_state.specs.Asking.{IsReady}
 use Rattle.archive_state.proofs.asking.explain_query.Goals as goal
 
@@ -24,5 +24,8 @@ returns g c = λ past shows.
     record {
       accepted = h.accepted;
       are = subst (λ (vs : List PlainVersion). ArePieces (book_of (λ r. (goal.Rule-dyn g (r.vtable, r.value)).handles r.value) (λ r. (goal.Rule-dyn g (r.vtable, r.value)).answers r.value) c.args.book.now.rules.items) vs (with_atoms (tables_of past query.version) query) (all_explained c.in_ok-pieces.pieces.items)) shows.versions
-          (subst (λ (q : PlainQuery). ArePieces (book_of (λ r. (goal.Rule-dyn g (r.vtable, r.value)).handles r.value) (λ r. (goal.Rule-dyn g (r.vtable, r.value)).answers r.value) c.args.book.now.rules.items) (versions_in c.args.groups.now) q (all_explained c.in_ok-pieces.pieces.items)) h.atoms c.in_ok-pieces.ensures);
+          (subst (λ (q : PlainQuery). ArePieces (book_of (λ r. (goal.Rule-dyn g (r.vtable, r.value)).handles r.value) (λ r. (goal.Rule-dyn g (r.vtable, r.value)).answers r.value) c.args.book.now.rules.items) (versions_in c.args.groups.now) q (all_explained c.in_ok-pieces.pieces.items)) h.atoms c.in_ok-pieces.ensures.are);
+      told = c.in_ok-pieces.ensures.told
+          ∙ ap (λ (q : PlainQuery). living_pieces (book_of (λ r. (goal.Rule-dyn g (r.vtable, r.value)).handles r.value) (λ r. (goal.Rule-dyn g (r.vtable, r.value)).answers r.value) c.args.book.now.rules.items) (versions_in c.args.groups.now) q) h.atoms
+          ∙ ap (λ (vs : List PlainVersion). living_pieces (book_of (λ r. (goal.Rule-dyn g (r.vtable, r.value)).handles r.value) (λ r. (goal.Rule-dyn g (r.vtable, r.value)).answers r.value) c.args.book.now.rules.items) vs (with_atoms (tables_of past query.version) query)) shows.versions;
     }

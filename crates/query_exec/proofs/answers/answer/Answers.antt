@@ -13,7 +13,9 @@ use Rattle.temporal_lang.specs.Branches.{branches_of}
 use Rattle.temporal_lang.specs.declared.branches.Branch.{Branch}
 use Rattle.temporal_lang.specs.Queries.{query_of, slice_of}
 use Rattle.query_exec.specs.Accepted.{MayBranches}
+use Rattle.query_exec.specs.Lent.{NoneAliveComputes, AreLentBy}
 use Rattle.query_exec.specs.QueryPieces.{AreAlive}
+use Rattle.query_exec.proofs.LentRows.{by_values}
 use Rattle.query_exec.proofs.WholeAnswers.{may_all, whole_listing, whole_answer, pieces_here}
 use Rattle.query_exec.proofs.answers.answer.Goals as goal
 
@@ -55,3 +57,12 @@ pub returns-clause-cost : goal.returns-clause-cost
 returns-clause-cost g c = λ pieces h. c.answer_branches.ensures.cost 1 pieces
     (subst (λ (all : List PlainExplained). AreAlive (versions_in c.args.groups.now) all pieces)
     (sym (pieces_here (book_of (λ r. (goal.Rule-dyn g (r.vtable, r.value)).handles r.value) (λ r. (goal.Rule-dyn g (r.vtable, r.value)).answers r.value) c.args.book.now.rules.items) (versions_in c.args.groups.now) (query_of c.args.query.now) c.in_ok-route.route.asked c.in_ok-route.route.parts.items c.slice-slice.result (branches_of c.deref.result.now) c.in_ok-route.ensures.asked c.in_ok-route.ensures.parts c.slice-slice.ensures.value (ap branches_of c.deref.ensures.value))) h)
+
+pub returns-clause-lent : goal.returns-clause-lent
+returns-clause-lent g c = λ pieces h none.
+    by_values (query_of c.args.query.now).branches c.in_ok-rows.rows.items c.coalesce_in_place.new.rows.items c.coalesce_in_place.ensures.values
+    (subst (λ (bs : List Branch). AreLentBy (branches_of bs) c.in_ok-rows.rows.items) c.deref.ensures.value
+    (c.in_ok-rows.ensures.borrowed 1
+    (subst (λ (all : List PlainExplained). NoneAliveComputes (versions_in c.args.groups.now) all)
+    (sym (pieces_here (book_of (λ r. (goal.Rule-dyn g (r.vtable, r.value)).handles r.value) (λ r. (goal.Rule-dyn g (r.vtable, r.value)).answers r.value) c.args.book.now.rules.items) (versions_in c.args.groups.now) (query_of c.args.query.now) c.in_ok-route.route.asked c.in_ok-route.route.parts.items c.slice-slice.result (branches_of c.deref.result.now) c.in_ok-route.ensures.asked c.in_ok-route.ensures.parts c.slice-slice.ensures.value (ap branches_of c.deref.ensures.value)))
+    (record { alive = pieces; are = h; none = none }))))

@@ -18,7 +18,9 @@ use Rattle.plain_answers.specs.Reading.{read_columns}
 use Rattle.piece_meaning.specs.Books.{book_of}
 use Rattle.joining.specs.Sources.{atom_rows}
 use Rattle.temporal_lang.specs.Branches.{branch_of}
+use Rattle.timed_choices.specs.Lending.{AllStayLent}
 use Rattle.query_exec.specs.Accepted.{MayItems}
+use Rattle.query_exec.specs.Lent.{NoneAliveComputes}
 use Rattle.query_exec.specs.QueryPieces.{items_pieces, AreAlive}
 use Rattle.query_exec.proofs.ItemAtoms.{are_numbered, branch_atoms, branch_rows}
 use Rattle.query_exec.proofs.branches.answer_branch.Goals as goal
@@ -67,3 +69,17 @@ returns-clause-cost g c =
     λ number alive h. c.read_items.ensures.cost number alive
     (subst (λ (from : List Item). AreAlive (versions_in c.args.groups.now) (items_pieces (book_of (λ r. (goal.Rule-dyn g (r.vtable, r.value)).handles r.value) (λ r. (goal.Rule-dyn g (r.vtable, r.value)).answers r.value) c.args.book.now.rules.items) (versions_in c.args.groups.now) c.args.route.now.asked c.args.route.now.parts.items (lent c.deref-3.result.now) b.cond number 0 from) alive) (sym c.deref-2.ensures.value)
     (subst (λ (rs : List ColRef). AreAlive (versions_in c.args.groups.now) (items_pieces (book_of (λ r. (goal.Rule-dyn g (r.vtable, r.value)).handles r.value) (λ r. (goal.Rule-dyn g (r.vtable, r.value)).answers r.value) c.args.book.now.rules.items) (versions_in c.args.groups.now) c.args.route.now.asked c.args.route.now.parts.items rs b.cond number 0 b.from) alive) (sym same) h))
+
+pub returns-clause-borrowed : goal.returns-clause-borrowed
+returns-clause-borrowed g c =
+    let b : PlainBranch = branch_of c.args.branch.now in
+    let same : lent c.deref-3.result.now ≡ all_references b.outs b.cond = ap lent c.deref-3.ensures.value ∙ c.in_ok-gather_references.ensures
+    ∙ ap (λ (xs : List Expr). lent c.new-references.result.items ++ all_references (map tree xs) (test c.args.branch.now.cond)) c.deref.ensures.value
+    ∙ ap (λ (rs : List (Bor ColRef)). lent rs ++ all_references b.outs b.cond) c.new-references.ensures.items in
+    λ number h.
+    IfOk-weaker c.answer_choices.result _ _
+    (λ rows l. subst (λ (xs : List Expr). AllStayLent (map tree xs) rows.items) c.deref-4.ensures.value l)
+    (c.answer_choices.ensures.lent
+    (c.in_ok-atoms.ensures.borrowed number
+    (subst (λ (from : List Item). NoneAliveComputes (versions_in c.args.groups.now) (items_pieces (book_of (λ r. (goal.Rule-dyn g (r.vtable, r.value)).handles r.value) (λ r. (goal.Rule-dyn g (r.vtable, r.value)).answers r.value) c.args.book.now.rules.items) (versions_in c.args.groups.now) c.args.route.now.asked c.args.route.now.parts.items (lent c.deref-3.result.now) b.cond number 0 from)) (sym c.deref-2.ensures.value)
+    (subst (λ (rs : List ColRef). NoneAliveComputes (versions_in c.args.groups.now) (items_pieces (book_of (λ r. (goal.Rule-dyn g (r.vtable, r.value)).handles r.value) (λ r. (goal.Rule-dyn g (r.vtable, r.value)).answers r.value) c.args.book.now.rules.items) (versions_in c.args.groups.now) c.args.route.now.asked c.args.route.now.parts.items rs b.cond number 0 b.from)) (sym same) h))))

@@ -11,15 +11,24 @@ use Rattle.temporal_lang.specs.Branches.{branch_of, branches_of}
 use Rattle.temporal_lang.specs.declared.branches.Branch.{Branch}
 use Rattle.query_exec.specs.Accepted.{MayBranch, MayBranches}
 use Rattle.query_exec.specs.QueryPieces.{branches_pieces}
+use Rattle.relations.proofs.SetLaws.{in_map}
+use Rattle.query_exec.specs.Lent.{NoneAliveComputes, AreLentBy}
 use Rattle.query_exec.specs.Reads.{reads_of}
 use Rattle.query_exec.proofs.AliveLaws.{Owes, owes_all, owes_within}
 use Rattle.query_exec.proofs.BranchRows.{none_answered, next_branch, branch_owes, may_next_branch}
+use Rattle.query_exec.proofs.LentRows.{next_branch as next_branch_pieces, branch_more}
+use Rattle.query_exec.proofs.ListSteps.{among_taken}
 use Rattle.query_exec.proofs.branches.answer_branches.Goals as goal
 
 pub loop-branch-init : goal.loop-branch-init
 loop-branch-init g c = record {
   may = c.requires.read;
   rows = λ past shows m inside. ap (λ (rs : List TimedRow). rows_at rs m) c.new-rows.ensures.items ∙ none_answered (branch_answers (tables_of past c.args.route.now.asked) (migrated past m c.args.route.now.asked)) m;
+  borrowed = λ number h.
+      let e : number ≡ number + 0 = omega arith in (
+        subst (AreLentBy (branches_of c.args.branches.now)) (sym c.new-rows.ensures.items) (λ row m. absurd m),
+        subst (λ (n : ℕ). NoneAliveComputes (versions_in c.args.groups.now) (branches_pieces (book_of (λ r. (goal.Rule-dyn g (r.vtable, r.value)).handles r.value) (λ r. (goal.Rule-dyn g (r.vtable, r.value)).answers r.value) c.args.book.now.rules.items) (versions_in c.args.groups.now) c.args.route.now.asked c.args.route.now.parts.items n (branches_of c.args.branches.now))) e h,
+      );
   count = λ number alive h.
       let e : number ≡ number + 0 = omega arith in
       subst (λ (n : ℕ). Owes c.args.groups.now (versions_in c.args.groups.now) (branches_pieces (book_of (λ r. (goal.Rule-dyn g (r.vtable, r.value)).handles r.value) (λ r. (goal.Rule-dyn g (r.vtable, r.value)).answers r.value) c.args.book.now.rules.items) (versions_in c.args.groups.now) c.args.route.now.asked c.args.route.now.parts.items n (branches_of c.args.branches.now)) c.args.steps.now (c.args.steps.now + reads_of c.args.groups.now alive)) e
@@ -47,6 +56,10 @@ loop-branch-preserved g c =
       rows = λ past shows m inside.
           next_branch bs i b below is (tables_of past c.args.route.now.asked) (migrated past m c.args.route.now.asked) c.loop-branch.rows.items c.in_ok-news.news.items c.append.new.self.items m c.in_ok-append.ensures.items
           (c.loop-branch.invariant.rows past shows m inside) (c.in_ok-news.ensures.rows past shows m inside);
+      borrowed = λ number h.
+          let before = c.loop-branch.invariant.borrowed number h in
+          let pieces = next_branch_pieces (versions_in c.args.groups.now) (book_of (λ r. (goal.Rule-dyn g (r.vtable, r.value)).handles r.value) (λ r. (goal.Rule-dyn g (r.vtable, r.value)).answers r.value) c.args.book.now.rules.items) c.args.route.now.asked c.args.route.now.parts.items bs i b below is number before.1 in
+          (branch_more bs b c.loop-branch.rows.items c.in_ok-news.news.items c.append.new.self.items c.in_ok-append.ensures.items (in_map branch_of b bs (among_taken bs i b below is)) before.0 (c.in_ok-news.ensures.borrowed (number + i) pieces.0), pieces.1);
       count = λ number alive h. branch_owes bs i b below is c.args.groups.now (book_of (λ r. (goal.Rule-dyn g (r.vtable, r.value)).handles r.value) (λ r. (goal.Rule-dyn g (r.vtable, r.value)).answers r.value) c.args.book.now.rules.items) (versions_in c.args.groups.now) c.args.route.now.asked c.args.route.now.parts.items number c.loop-branch.steps (c.args.steps.now + reads_of c.args.groups.now alive) c.answer_branch.new.steps
           (c.loop-branch.invariant.count number alive h) (λ own k. c.answer_branch.ensures.cost (number + i) own k);
     }
@@ -84,3 +97,6 @@ pub returns-clause-cost : goal.returns-clause-cost
 returns-clause-cost g c = λ number alive h.
     owes_within c.args.groups.now (versions_in c.args.groups.now) (branches_pieces (book_of (λ r. (goal.Rule-dyn g (r.vtable, r.value)).handles r.value) (λ r. (goal.Rule-dyn g (r.vtable, r.value)).answers r.value) c.args.book.now.rules.items) (versions_in c.args.groups.now) c.args.route.now.asked c.args.route.now.parts.items (number + c.loop-branch.branch-index) (branches_of (drop c.loop-branch.branch-index c.args.branches.now))) c.loop-branch.steps (c.args.steps.now + reads_of c.args.groups.now alive)
     (c.loop-branch.invariant.count number alive h)
+
+pub returns-clause-borrowed : goal.returns-clause-borrowed
+returns-clause-borrowed g c = λ number h. (c.loop-branch.invariant.borrowed number h).0

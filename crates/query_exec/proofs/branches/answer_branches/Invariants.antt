@@ -11,6 +11,7 @@ use Rattle.piece_texts.specs.ExplainedPieces.{PlainExplained}
 use Rattle.temporal_lang.specs.Branches.{branches_of}
 use Rattle.query_exec.specs.Accepted.{MayBranches}
 use Rattle.query_exec.specs.QueryPieces.{branches_pieces, AreAlive}
+use Rattle.query_exec.specs.Lent.{NoneAliveComputes, AreLentBy}
 use Rattle.query_exec.specs.Reads.{reads_of}
 use Rattle.query_exec.proofs.AliveLaws.{Owes}
 use Rattle.query_exec.proofs.branches.answer_branches.Given as goal
@@ -20,6 +21,8 @@ invariant-loop-branch g l = record {
   may : MayBranches (versions_in l.groups) l.route (branches_of (drop l.branch-index l.branches));
   rows : (past : Past) → Shows l.groups past → (m : ℕ) → covers l.route.slice m ≡ true
       → rows_at l.rows.items m ≡ plain (tables_of past l.route.asked) (branches_of (take l.branch-index l.branches)) (migrated past m l.route.asked);
+  borrowed : (number : ℕ) → NoneAliveComputes (versions_in l.groups) (branches_pieces (book_of (λ r. (goal.Rule-dyn g (r.vtable, r.value)).handles r.value) (λ r. (goal.Rule-dyn g (r.vtable, r.value)).answers r.value) l.book.rules.items) (versions_in l.groups) l.route.asked l.route.parts.items number (branches_of l.branches))
+      → AreLentBy (branches_of l.branches) l.rows.items × NoneAliveComputes (versions_in l.groups) (branches_pieces (book_of (λ r. (goal.Rule-dyn g (r.vtable, r.value)).handles r.value) (λ r. (goal.Rule-dyn g (r.vtable, r.value)).answers r.value) l.book.rules.items) (versions_in l.groups) l.route.asked l.route.parts.items (number + l.branch-index) (branches_of (drop l.branch-index l.branches)));
   count : (number : ℕ) → (alive : List PlainExplained) → AreAlive (versions_in l.groups) (branches_pieces (book_of (λ r. (goal.Rule-dyn g (r.vtable, r.value)).handles r.value) (λ r. (goal.Rule-dyn g (r.vtable, r.value)).answers r.value) l.book.rules.items) (versions_in l.groups) l.route.asked l.route.parts.items number (branches_of l.branches)) alive
       → Owes l.groups (versions_in l.groups) (branches_pieces (book_of (λ r. (goal.Rule-dyn g (r.vtable, r.value)).handles r.value) (λ r. (goal.Rule-dyn g (r.vtable, r.value)).answers r.value) l.book.rules.items) (versions_in l.groups) l.route.asked l.route.parts.items (number + l.branch-index) (branches_of (drop l.branch-index l.branches))) l.steps (l.initial.steps + reads_of l.groups alive);
 }

@@ -11,10 +11,13 @@ use Rattle.joining.specs.declared.sources.Atom.{Atom}
 use Rattle.query_exec.specs.Accepted.{IsRead, AreRead}
 use Rattle.query_exec.specs.Questions.{own_read}
 use Rattle.query_exec.specs.QueryPieces.{table_pieces, items_pieces, AreAlive}
+use Rattle.joining.specs.Sources.{AtomsLent}
+use Rattle.query_exec.specs.Lent.{NoneAliveComputes}
 use Rattle.query_exec.specs.Reads.{reads_of}
 use Rattle.query_exec.specs.Routes.{MayBeRead}
 use Rattle.query_exec.proofs.AliveLaws.{owes_all, owes_within}
 use Rattle.query_exec.proofs.ItemAtoms.{may_next, next_read, next_place, item_owes}
+use Rattle.query_exec.proofs.LentRows.{next_item, atom_more}
 use Rattle.query_exec.proofs.branches.read_items.Goals as goal
 
 pub loop-item-init : goal.loop-item-init
@@ -22,6 +25,7 @@ loop-item-init g c = record {
   place = refl;
   may = c.requires.read;
   read = λ past shows. subst (λ (xs : List Atom). AreRead past c.args.route.now (lent c.args.references.now) (test c.args.cond.now) 0 [] xs) (sym c.new-atoms.ensures.items) tt;
+  borrowed = λ branch h. (subst AtomsLent (sym c.new-atoms.ensures.items) tt, h);
   count = λ branch alive h. owes_all c.args.groups.now (versions_in c.args.groups.now) (items_pieces (book_of (λ r. (goal.Rule-dyn g (r.vtable, r.value)).handles r.value) (λ r. (goal.Rule-dyn g (r.vtable, r.value)).answers r.value) c.args.book.now.rules.items) (versions_in c.args.groups.now) c.args.route.now.asked c.args.route.now.parts.items (lent c.args.references.now) (test c.args.cond.now) branch 0 c.args.from.now) alive c.args.steps.now h;
 }
 
@@ -54,6 +58,14 @@ loop-item-preserved g c =
       read = λ past shows.
           next_read past c.args.route.now rs cd from i x below is c.loop-item.atoms.items c.push.new.self.items c.in_ok-atom.atom c.in_ok-push.ensures.items (c.loop-item.invariant.read past shows)
           (subst (λ (j : ℕ). IsRead past c.args.route.now j x.0 (own_read j rs cd) c.in_ok-atom.atom) c.loop-item.invariant.place (c.in_ok-atom.ensures.atom past shows));
+      borrowed = λ branch h.
+          let before = c.loop-item.invariant.borrowed branch h in
+          let pieces = next_item (versions_in c.args.groups.now) (book_of (λ r. (goal.Rule-dyn g (r.vtable, r.value)).handles r.value) (λ r. (goal.Rule-dyn g (r.vtable, r.value)).answers r.value) c.args.book.now.rules.items) c.args.route.now.asked c.args.route.now.parts.items rs cd branch from i x below is before.1 in (
+            atom_more c.loop-item.atoms.items c.push.new.self.items c.in_ok-atom.atom c.in_ok-push.ensures.items before.0
+                (c.in_ok-atom.ensures.borrowed branch (i + 1)
+                (subst (λ (j : ℕ). NoneAliveComputes (versions_in c.args.groups.now) (table_pieces (book_of (λ r. (goal.Rule-dyn g (r.vtable, r.value)).handles r.value) (λ r. (goal.Rule-dyn g (r.vtable, r.value)).answers r.value) c.args.book.now.rules.items) (versions_in c.args.groups.now) c.args.route.now.asked x.0 (own_read j rs cd) branch (i + 1) c.args.route.now.parts.items)) (sym c.loop-item.invariant.place) pieces.0)),
+            pieces.1,
+          );
       count = λ branch alive h. item_owes (book_of (λ r. (goal.Rule-dyn g (r.vtable, r.value)).handles r.value) (λ r. (goal.Rule-dyn g (r.vtable, r.value)).answers r.value) c.args.book.now.rules.items) (versions_in c.args.groups.now) c.args.route.now.asked c.args.route.now.parts.items rs cd branch c.args.groups.now from i x below is c.loop-item.steps (c.args.steps.now + reads_of c.args.groups.now alive) c.read_item.new.steps
           (c.loop-item.invariant.count branch alive h)
           (λ own k. c.read_item.ensures.cost branch (i + 1) own
@@ -112,3 +124,6 @@ pub returns-clause-cost : goal.returns-clause-cost
 returns-clause-cost g c = λ branch alive h.
     owes_within c.args.groups.now (versions_in c.args.groups.now) (items_pieces (book_of (λ r. (goal.Rule-dyn g (r.vtable, r.value)).handles r.value) (λ r. (goal.Rule-dyn g (r.vtable, r.value)).answers r.value) c.args.book.now.rules.items) (versions_in c.args.groups.now) c.args.route.now.asked c.args.route.now.parts.items (lent c.args.references.now) (test c.args.cond.now) branch c.loop-item.item-index (drop c.loop-item.item-index c.args.from.now)) c.loop-item.steps (c.args.steps.now + reads_of c.args.groups.now alive)
     (c.loop-item.invariant.count branch alive h)
+
+pub returns-clause-borrowed : goal.returns-clause-borrowed
+returns-clause-borrowed g c = λ branch h. (c.loop-item.invariant.borrowed branch h).0

@@ -8,6 +8,8 @@ use Rattle.piece_meaning.specs.Books.{book_of}
 use Rattle.piece_texts.specs.ExplainedPieces.{PlainExplained}
 use Rattle.query_exec.specs.Accepted.{MayItems, AreRead}
 use Rattle.query_exec.specs.QueryPieces.{items_pieces, AreAlive}
+use Rattle.joining.specs.Sources.{AtomsLent}
+use Rattle.query_exec.specs.Lent.{NoneAliveComputes}
 use Rattle.query_exec.specs.Reads.{reads_of}
 use Rattle.query_exec.proofs.AliveLaws.{Owes}
 use Rattle.query_exec.proofs.branches.read_items.Given as goal
@@ -17,6 +19,8 @@ invariant-loop-item g l = record {
   place : l.place ≡ l.item-index;
   may : MayItems (versions_in l.groups) l.route (lent l.references) (test l.cond) l.item-index (drop l.item-index l.from);
   read : (past : Past) → Shows l.groups past → AreRead past l.route (lent l.references) (test l.cond) 0 (take l.item-index l.from) l.atoms.items;
+  borrowed : (branch : ℕ) → NoneAliveComputes (versions_in l.groups) (items_pieces (book_of (λ r. (goal.Rule-dyn g (r.vtable, r.value)).handles r.value) (λ r. (goal.Rule-dyn g (r.vtable, r.value)).answers r.value) l.book.rules.items) (versions_in l.groups) l.route.asked l.route.parts.items (lent l.references) (test l.cond) branch 0 l.from)
+      → AtomsLent l.atoms.items × NoneAliveComputes (versions_in l.groups) (items_pieces (book_of (λ r. (goal.Rule-dyn g (r.vtable, r.value)).handles r.value) (λ r. (goal.Rule-dyn g (r.vtable, r.value)).answers r.value) l.book.rules.items) (versions_in l.groups) l.route.asked l.route.parts.items (lent l.references) (test l.cond) branch l.item-index (drop l.item-index l.from));
   count : (branch : ℕ) → (alive : List PlainExplained) → AreAlive (versions_in l.groups) (items_pieces (book_of (λ r. (goal.Rule-dyn g (r.vtable, r.value)).handles r.value) (λ r. (goal.Rule-dyn g (r.vtable, r.value)).answers r.value) l.book.rules.items) (versions_in l.groups) l.route.asked l.route.parts.items (lent l.references) (test l.cond) branch 0 l.from) alive
       → Owes l.groups (versions_in l.groups) (items_pieces (book_of (λ r. (goal.Rule-dyn g (r.vtable, r.value)).handles r.value) (λ r. (goal.Rule-dyn g (r.vtable, r.value)).answers r.value) l.book.rules.items) (versions_in l.groups) l.route.asked l.route.parts.items (lent l.references) (test l.cond) branch l.item-index (drop l.item-index l.from)) l.steps (l.initial.steps + reads_of l.groups alive);
 }

@@ -11,7 +11,7 @@ use Rattle.piece_meaning.specs.Books.{book_of}
 use Rattle.piece_texts.specs.ExplainedPieces.{all_explained}
 use Rattle.temporal_lang.specs.Branches.{branch_of}
 use Rattle.query_exec.specs.Accepted.{MayItems}
-use Rattle.query_exec.specs.QueryPieces.{items_pieces, AreAlive}
+use Rattle.query_exec.specs.QueryPieces.{items_pieces, AreLeft}
 use Rattle.query_exec.proofs.explaining.explain_branch.Goals as goal
 
 pub explain_items-requires-clause-read : goal.explain_items-requires-clause-read
@@ -29,5 +29,5 @@ returns g c = λ before h.
     let same : lent c.deref-3.result.now ≡ all_references b.outs b.cond = ap lent c.deref-3.ensures.value ∙ c.in_ok-gather_references.ensures
     ∙ ap (λ (xs : List Expr). lent c.new-references.result.items ++ all_references (map tree xs) (test c.args.branch.now.cond)) c.deref.ensures.value
     ∙ ap (λ (rs : List (Bor ColRef)). lent rs ++ all_references b.outs b.cond) c.new-references.ensures.items in
-    subst (λ (from : List Item). AreAlive (versions_in c.args.groups.now) (before ++ items_pieces (book_of (λ r. (goal.Rule-dyn g (r.vtable, r.value)).handles r.value) (λ r. (goal.Rule-dyn g (r.vtable, r.value)).answers r.value) c.args.book.now.rules.items) (versions_in c.args.groups.now) c.args.route.now.asked c.args.route.now.parts.items (all_references b.outs b.cond) b.cond c.args.number 0 from) (all_explained c.explain_items.new.into.items)) c.deref-2.ensures.value
-    (subst (λ (rs : List ColRef). AreAlive (versions_in c.args.groups.now) (before ++ items_pieces (book_of (λ r. (goal.Rule-dyn g (r.vtable, r.value)).handles r.value) (λ r. (goal.Rule-dyn g (r.vtable, r.value)).answers r.value) c.args.book.now.rules.items) (versions_in c.args.groups.now) c.args.route.now.asked c.args.route.now.parts.items rs b.cond c.args.number 0 c.deref-2.result.now) (all_explained c.explain_items.new.into.items)) same (c.in_ok-explain_items.ensures before h))
+    subst (λ (from : List Item). AreLeft (versions_in c.args.groups.now) (before ++ items_pieces (book_of (λ r. (goal.Rule-dyn g (r.vtable, r.value)).handles r.value) (λ r. (goal.Rule-dyn g (r.vtable, r.value)).answers r.value) c.args.book.now.rules.items) (versions_in c.args.groups.now) c.args.route.now.asked c.args.route.now.parts.items (all_references b.outs b.cond) b.cond c.args.number 0 from) (all_explained c.explain_items.new.into.items)) c.deref-2.ensures.value
+    (subst (λ (rs : List ColRef). AreLeft (versions_in c.args.groups.now) (before ++ items_pieces (book_of (λ r. (goal.Rule-dyn g (r.vtable, r.value)).handles r.value) (λ r. (goal.Rule-dyn g (r.vtable, r.value)).answers r.value) c.args.book.now.rules.items) (versions_in c.args.groups.now) c.args.route.now.asked c.args.route.now.parts.items rs b.cond c.args.number 0 c.deref-2.result.now) (all_explained c.explain_items.new.into.items)) same (c.in_ok-explain_items.ensures before h))

@@ -7,7 +7,8 @@ use Rattle.piece_texts.specs.ExplainedPieces.{PlainExplained, all_explained}
 use Rattle.piece_texts.specs.declared.explained.Explained.{Explained}
 use Rattle.temporal_lang.specs.Branches.{branch_of, branches_of}
 use Rattle.temporal_lang.specs.declared.branches.Branch.{Branch}
-use Rattle.query_exec.specs.QueryPieces.{branch_pieces, branches_pieces, AreAlive, none_alive}
+use Rattle.query_exec.specs.QueryPieces.{branch_pieces, branches_pieces, AreLeft}
+use Rattle.query_exec.proofs.AliveLaws.{none_over}
 use Rattle.query_exec.proofs.BranchRows.{branches_more, may_next_branch}
 use Rattle.query_exec.proofs.ItemAtoms.{next_place}
 use Rattle.query_exec.proofs.explaining.explain_branches.Goals as goal
@@ -16,7 +17,7 @@ pub loop-branch-init : goal.loop-branch-init
 loop-branch-init g c = record {
   number = refl;
   may = c.requires.read;
-  alive = subst (λ (es : List Explained). AreAlive (versions_in c.args.groups.now) [] (all_explained es)) (sym c.new-pieces.ensures.items) none_alive;
+  alive = subst (λ (es : List Explained). AreLeft (versions_in c.args.groups.now) [] (all_explained es)) (sym c.new-pieces.ensures.items) (none_over (versions_in c.args.groups.now));
 }
 
 pub explain_branch-requires-clause-read : goal.explain_branch-requires-clause-read
@@ -41,12 +42,12 @@ loop-branch-preserved g c =
     record {
       number = here;
       may = (may_next_branch bs i b below is (versions_in c.args.groups.now) c.args.route.now c.loop-branch.invariant.may).1;
-      alive = subst (λ (es : List PlainExplained). AreAlive (versions_in c.args.groups.now) es (all_explained c.explain_branch.new.into.items))
+      alive = subst (λ (es : List PlainExplained). AreLeft (versions_in c.args.groups.now) es (all_explained c.explain_branch.new.into.items))
           (ap (λ (n : ℕ). so ++ branch_pieces (book_of (λ r. (goal.Rule-dyn g (r.vtable, r.value)).handles r.value) (λ r. (goal.Rule-dyn g (r.vtable, r.value)).answers r.value) c.args.book.now.rules.items) (versions_in c.args.groups.now) c.args.route.now.asked c.args.route.now.parts.items n (branch_of b)) here ∙ sym (branches_more bs i b below is (book_of (λ r. (goal.Rule-dyn g (r.vtable, r.value)).handles r.value) (λ r. (goal.Rule-dyn g (r.vtable, r.value)).answers r.value) c.args.book.now.rules.items) (versions_in c.args.groups.now) c.args.route.now.asked c.args.route.now.parts.items))
           (c.in_ok-explain_branch.ensures so c.loop-branch.invariant.alive);
     }
 
 pub returns : goal.returns
 returns g c =
-    subst (λ (bs : List Branch). AreAlive (versions_in c.args.groups.now) (branches_pieces (book_of (λ r. (goal.Rule-dyn g (r.vtable, r.value)).handles r.value) (λ r. (goal.Rule-dyn g (r.vtable, r.value)).answers r.value) c.args.book.now.rules.items) (versions_in c.args.groups.now) c.args.route.now.asked c.args.route.now.parts.items 1 (branches_of bs)) (all_explained c.loop-branch.pieces.items))
+    subst (λ (bs : List Branch). AreLeft (versions_in c.args.groups.now) (branches_pieces (book_of (λ r. (goal.Rule-dyn g (r.vtable, r.value)).handles r.value) (λ r. (goal.Rule-dyn g (r.vtable, r.value)).answers r.value) c.args.book.now.rules.items) (versions_in c.args.groups.now) c.args.route.now.asked c.args.route.now.parts.items 1 (branches_of bs)) (all_explained c.loop-branch.pieces.items))
     (take_all c.loop-branch.branch-index c.args.branches.now c.loop-branch-test.false) c.loop-branch.invariant.alive

@@ -4,12 +4,12 @@ use Rattle.piece_meaning.specs.Books.{book_of}
 use Rattle.piece_texts.specs.ExplainedPieces.{all_explained}
 use Rattle.temporal_lang.specs.Branches.{branches_of}
 use Rattle.query_exec.specs.Accepted.{MayBranches}
-use Rattle.query_exec.specs.QueryPieces.{branches_pieces, AreAlive}
+use Rattle.query_exec.specs.QueryPieces.{branches_pieces, AreLeft}
 use Rattle.query_exec.proofs.explaining.explain_branches.Given as goal
 
 abbrev pub invariant-loop-branch : goal.invariant-loop-branch
 invariant-loop-branch g l = record {
   number : l.number ≡ l.branch-index;
   may : MayBranches (versions_in l.groups) l.route (branches_of (drop l.branch-index l.branches));
-  alive : AreAlive (versions_in l.groups) (branches_pieces (book_of (λ r. (goal.Rule-dyn g (r.vtable, r.value)).handles r.value) (λ r. (goal.Rule-dyn g (r.vtable, r.value)).answers r.value) l.book.rules.items) (versions_in l.groups) l.route.asked l.route.parts.items 1 (branches_of (take l.branch-index l.branches))) (all_explained l.pieces.items);
+  alive : AreLeft (versions_in l.groups) (branches_pieces (book_of (λ r. (goal.Rule-dyn g (r.vtable, r.value)).handles r.value) (λ r. (goal.Rule-dyn g (r.vtable, r.value)).answers r.value) l.book.rules.items) (versions_in l.groups) l.route.asked l.route.parts.items 1 (branches_of (take l.branch-index l.branches))) (all_explained l.pieces.items);
 }

@@ -5,13 +5,13 @@ use Rattle.version_groups.specs.Groups.{versions_in}
 use Rattle.piece_meaning.specs.Books.{book_of}
 use Rattle.piece_texts.specs.ExplainedPieces.{PlainExplained, all_explained}
 use Rattle.query_exec.specs.Accepted.{MayItems}
-use Rattle.query_exec.specs.QueryPieces.{items_pieces, AreAlive}
+use Rattle.query_exec.specs.QueryPieces.{items_pieces, AreLeft}
 use Rattle.query_exec.proofs.explaining.explain_items.Given as goal
 
 abbrev pub invariant-loop-item : goal.invariant-loop-item
 invariant-loop-item g l = record {
   place : l.place ≡ l.item-index;
   may : MayItems (versions_in l.groups) l.route (lent l.references) (test l.cond) l.item-index (drop l.item-index l.from);
-  alive : (before : List PlainExplained) → AreAlive (versions_in l.groups) before (all_explained l.fn.into.items)
-      → AreAlive (versions_in l.groups) (before ++ items_pieces (book_of (λ r. (goal.Rule-dyn g (r.vtable, r.value)).handles r.value) (λ r. (goal.Rule-dyn g (r.vtable, r.value)).answers r.value) l.book.rules.items) (versions_in l.groups) l.route.asked l.route.parts.items (lent l.references) (test l.cond) l.branch 0 (take l.item-index l.from)) (all_explained l.into.items);
+  alive : (before : List PlainExplained) → AreLeft (versions_in l.groups) before (all_explained l.fn.into.items)
+      → AreLeft (versions_in l.groups) (before ++ items_pieces (book_of (λ r. (goal.Rule-dyn g (r.vtable, r.value)).handles r.value) (λ r. (goal.Rule-dyn g (r.vtable, r.value)).answers r.value) l.book.rules.items) (versions_in l.groups) l.route.asked l.route.parts.items (lent l.references) (test l.cond) l.branch 0 (take l.item-index l.from)) (all_explained l.into.items);
 }

@@ -5,6 +5,7 @@ use Rattle.version_groups.specs.Groups.{versions_in}
 use Rattle.plain_answers.specs.Reading.{Read}
 use Rattle.piece_meaning.specs.Books.{book_of}
 use Rattle.query_exec.specs.Asked.{read_asked}
+use Rattle.query_exec.specs.Lent.{NoneAliveComputes}
 use Rattle.query_exec.specs.Questions.{own_read}
 use Rattle.query_exec.specs.QueryPieces.{table_pieces, AreAlive}
 use Rattle.query_exec.specs.Routes.{MayBeRead}
@@ -38,3 +39,7 @@ returns-clause-atom g c = λ past shows. record {
 pub returns-clause-cost : goal.returns-clause-cost
 returns-clause-cost g c = λ branch atom alive h. c.read_table.ensures.cost branch atom alive
     (subst (λ (r : Read). AreAlive (versions_in c.args.groups.now) (table_pieces (book_of (λ r. (goal.Rule-dyn g (r.vtable, r.value)).handles r.value) (λ r. (goal.Rule-dyn g (r.vtable, r.value)).answers r.value) c.args.book.now.rules.items) (versions_in c.args.groups.now) c.args.route.now.asked c.args.table.now r branch atom c.args.route.now.parts.items) alive) (sym c.in_ok-question.ensures) h)
+
+pub returns-clause-borrowed : goal.returns-clause-borrowed
+returns-clause-borrowed g c = λ branch atom h. c.in_ok-rows.ensures.lent branch atom
+    (subst (λ (r : Read). NoneAliveComputes (versions_in c.args.groups.now) (table_pieces (book_of (λ r. (goal.Rule-dyn g (r.vtable, r.value)).handles r.value) (λ r. (goal.Rule-dyn g (r.vtable, r.value)).answers r.value) c.args.book.now.rules.items) (versions_in c.args.groups.now) c.args.route.now.asked c.args.table.now r branch atom c.args.route.now.parts.items)) (sym c.in_ok-question.ensures) h)

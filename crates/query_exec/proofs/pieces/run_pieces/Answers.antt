@@ -1,13 +1,15 @@
-use Rattle.std.proofs.Common.{◌<◌, List, length, ap, ◌∙◌, arith}
+use Rattle.std.proofs.Common.{◌<◌, List, length, sym, ap, subst, ◌∙◌, arith}
 use Rattle.std.proofs.lemmas.List.{take_all}
 use Rattle.prima_base.specs.declared.timed_rows.TimedRow.{TimedRow}
 use Rattle.prima_base.specs.Timed.{rows_at}
-use Rattle.piece_meaning.specs.Pieces.{all_mean}
-use Rattle.piece_ir.specs.Shown.{pieces_of}
+use Rattle.timed_choices.specs.Lending.{AllLent}
+use Rattle.piece_meaning.specs.Pieces.{all_mean, out_trees}
+use Rattle.piece_ir.specs.Shown.{piece_of, pieces_of}
 use Rattle.piece_ir.specs.declared.pieces.Piece.{Piece}
 use Rattle.query_pieces.proofs.RunPieces.{none_run}
 use Rattle.smo_meaning.specs.Past.{tables_of, database_at}
 use Rattle.rewrite.proofs.CodeSteps.{typed_at}
+use Rattle.query_exec.proofs.LentRows.{plain_lent, lent_joined, piece_at}
 use Rattle.query_exec.proofs.PieceRows.{next_run, none_behind, nothing_at, reads_left}
 use Rattle.query_exec.proofs.pieces.run_pieces.Goals as goal
 
@@ -27,6 +29,9 @@ loop-piece-preserved g c =
       inside = λ m outside.
           none_behind c.loop-piece.rows.items c.in_ok-news.news.items c.append.new.self.items m c.in_ok-append.ensures.items
           (c.loop-piece.invariant.inside m outside) (c.in_ok-news.ensures.inside m outside);
+      lent = λ h.
+          lent_joined c.loop-piece.rows.items c.in_ok-news.news.items c.append.new.self.items c.in_ok-append.ensures.items (c.loop-piece.invariant.lent h)
+          (plain_lent (out_trees (piece_of c.piece-item.result).outs) c.in_ok-news.news.items (piece_at c.args.pieces.now c.loop-piece.piece-index c.piece-item.result below c.piece-item.is h) c.in_ok-news.ensures.lent);
       count = omega (arith, c.loop-piece.invariant.count, c.run_piece.ensures.cost, reads_left c.args.pieces.now c.loop-piece.piece-index c.piece-item.result below c.piece-item.is c.args.groups.now c.args.version);
     }
 
@@ -34,6 +39,7 @@ pub loop-piece-init : goal.loop-piece-init
 loop-piece-init g c = record {
   rows = λ past shows m inside force. ap (λ (rs : List TimedRow). rows_at rs m) c.new-rows.ensures.items ∙ none_run (tables_of past c.args.version) (database_at past m) m;
   inside = λ m outside. ap (λ (rs : List TimedRow). rows_at rs m) c.new-rows.ensures.items ∙ nothing_at m;
+  lent = λ h. subst AllLent (sym c.new-rows.ensures.items) tt;
   count = omega arith;
 }
 

@@ -11,6 +11,8 @@ use Rattle.piece_ir.specs.declared.pieces.Piece.{Piece}
 use Rattle.query_pieces.specs.Gathering.{IsGathered}
 use Rattle.query_pieces.proofs.Gatherings.{nothing_gathered}
 use Rattle.query_exec.specs.declared.part_pieces.PartPieces.{PartPieces}
+use Rattle.timed_choices.specs.Lending.{AllLent}
+use Rattle.query_exec.specs.Lent.{ComputeNothing}
 use Rattle.query_exec.specs.Planned.{planned_spans}
 use Rattle.query_exec.specs.Reads.{pieces_read, part_read}
 use Rattle.query_exec.specs.Totals.{total}
@@ -22,6 +24,7 @@ use Rattle.query_exec.proofs.tables.read_parts.Goals as goal
 pub loop-own-init : goal.loop-own-init
 loop-own-init g c = record {
   rows = λ past shows relation means. subst (λ (rs : List TimedRow). IsGathered relation [] (entries_of rs)) (sym c.new-rows.ensures.items) (nothing_gathered relation);
+  lent = λ h. subst AllLent (sym c.new-rows.ensures.items) tt;
   count = omega arith;
 }
 
@@ -64,6 +67,7 @@ loop-own-preserved g c =
           (c.in_ok-read_part.ensures.rows past shows relation
           (λ m inside. ap (λ (ps : List Piece). all_mean (tables_of past x.part.1) (database_at past m) (pieces_of ps)) c.deref.ensures.value ∙ means x among m inside)
           (planned_spans (take i plan)) (c.loop-own.invariant.rows past shows relation means));
+      lent = λ h. c.in_ok-read_part.ensures.lent (subst (λ (ps : List Piece). ComputeNothing (pieces_of ps)) (sym c.deref.ensures.value) (h x among)) (c.loop-own.invariant.lent h);
       count = cost_step c.read_part.new.steps c.loop-own.steps (pieces_read c.args.groups.now x.part.1 (pieces_of c.deref.result.now)) (part_read c.args.groups.now x) (total (part_read c.args.groups.now) (drop i plan)) (total (part_read c.args.groups.now) (drop (i + 1) plan)) (c.args.steps.now + total (part_read c.args.groups.now) plan)
           c.read_part.ensures.cost here (total_left (part_read c.args.groups.now) plan i x below is) c.loop-own.invariant.count;
     }

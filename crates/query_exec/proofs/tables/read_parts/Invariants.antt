@@ -9,6 +9,8 @@ use Rattle.piece_meaning.specs.Pieces.{all_mean}
 use Rattle.piece_ir.specs.Shown.{pieces_of}
 use Rattle.query_pieces.specs.Gathering.{IsGathered}
 use Rattle.query_exec.specs.declared.part_pieces.PartPieces.{PartPieces}
+use Rattle.timed_choices.specs.Lending.{AllLent}
+use Rattle.query_exec.specs.Lent.{ComputeNothing}
 use Rattle.query_exec.specs.Planned.{planned_spans}
 use Rattle.query_exec.specs.Reads.{part_read}
 use Rattle.query_exec.specs.Totals.{total}
@@ -19,5 +21,6 @@ invariant-loop-own g l = record {
   rows : (past : Past) → Shows l.groups past → (relation : ℕ → Relation)
       → ((x : PartPieces) → In x l.plan → (m : ℕ) → covers x.part.0 m ≡ true → all_mean (tables_of past x.part.1) (database_at past m) (pieces_of x.pieces.items) ≡ relation m)
       → IsGathered relation (planned_spans (take l.own-index l.plan)) (entries_of l.rows.items);
+  lent : ((x : PartPieces) → In x l.plan → ComputeNothing (pieces_of x.pieces.items)) → AllLent l.rows.items;
   count : l.steps + total (part_read l.groups) (drop l.own-index l.plan) ≤ l.initial.steps + total (part_read l.groups) l.plan;
 }

@@ -11,12 +11,14 @@ use Rattle.piece_ir.specs.Shown.{pieces_of}
 use Rattle.query_pieces.specs.Gathering.{IsGathered}
 use Rattle.query_exec.specs.Asked.{read_asked}
 use Rattle.query_exec.specs.declared.part_pieces.PartPieces.{PartPieces}
+use Rattle.query_exec.specs.Lent.{ComputeNothing}
 use Rattle.query_exec.specs.Planned.{planned_spans}
 use Rattle.query_exec.specs.Questions.{table_read}
 use Rattle.query_exec.specs.Reads.{part_read}
 use Rattle.query_exec.specs.Routes.{IsOwn}
 use Rattle.query_exec.specs.Totals.{total}
 use Rattle.query_exec.proofs.AliveLaws.{plan_cost}
+use Rattle.query_exec.proofs.LentRows.{lent_values, plan_none}
 use Rattle.query_exec.proofs.PlanLaws.{plan_ready, plan_means, planned_over}
 use Rattle.query_exec.proofs.RouteLaws.{gathered_listed}
 use Rattle.query_exec.proofs.tables.read_table.Goals as goal
@@ -59,3 +61,10 @@ returns-clause-cost g c = λ branch atom alive h.
     (ap (λ (xs : List PartPieces). total (part_read c.args.groups.now) xs) c.deref.ensures.value
     ∙ plan_cost c.args.groups.now (versions_in c.args.groups.now) (book_of (λ r. (goal.Rule-dyn g (r.vtable, r.value)).handles r.value) (λ r. (goal.Rule-dyn g (r.vtable, r.value)).answers r.value) c.args.book.now.rules.items) c.args.route.now.asked c.args.table.now (read_asked c.args.question.now) branch atom c.args.route.now.parts.items c.in_ok-plan.plan.items c.in_ok-plan.ensures alive h)
     c.read_parts.ensures.cost
+
+pub returns-clause-lent : goal.returns-clause-lent
+returns-clause-lent g c = λ branch atom h.
+    lent_values c.in_ok-rows.rows.items c.coalesce_in_place.new.rows.items c.coalesce_in_place.ensures.values
+    (c.in_ok-rows.ensures.lent
+    (subst (λ (xs : List PartPieces). (x : PartPieces) → In x xs → ComputeNothing (pieces_of x.pieces.items)) (sym c.deref.ensures.value)
+    (plan_none (versions_in c.args.groups.now) (book_of (λ r. (goal.Rule-dyn g (r.vtable, r.value)).handles r.value) (λ r. (goal.Rule-dyn g (r.vtable, r.value)).answers r.value) c.args.book.now.rules.items) c.args.route.now.asked c.args.table.now (read_asked c.args.question.now) branch atom c.args.route.now.parts.items c.in_ok-plan.plan.items c.in_ok-plan.ensures h)))

@@ -109,7 +109,7 @@ loop-part-preserved g c =
           (planned_last (book_of (λ r. (goal.Rule-dyn g (r.vtable, r.value)).handles r.value) (λ r. (goal.Rule-dyn g (r.vtable, r.value)).answers r.value) c.args.book.now.rules.items) (versions_in c.args.groups.now) c.args.route.now.asked c.args.table.now r (take i parts) p c.loop-part.plan.items c.push.new.self.items x c.in_ok-push.ensures.items c.loop-part.invariant.planned
           (one_planned (book_of (λ r. (goal.Rule-dyn g (r.vtable, r.value)).handles r.value) (λ r. (goal.Rule-dyn g (r.vtable, r.value)).answers r.value) c.args.book.now.rules.items) (versions_in c.args.groups.now) c.args.route.now.asked c.args.table.now r p x (pieces_of c.deref-in-loop-part.result.now) c.in_ok-part_pieces.ensures.part
           (ap pieces_of c.deref-in-loop-part.ensures.value ∙ (stand_here c.args.groups.now (book_of (λ r. (goal.Rule-dyn g (r.vtable, r.value)).handles r.value) (λ r. (goal.Rule-dyn g (r.vtable, r.value)).answers r.value) c.args.book.now.rules.items) (versions_of c.versions-versions.result.now) same c.args.route.now c.requires.route c.args.table.now r c.requires.read p.1 (pieces_of c.in_ok-walk.walk.pieces.items) stand).unfolded)
-          c.in_ok-part_pieces.ensures.living));
+          c.in_ok-part_pieces.ensures.living c.in_ok-part_pieces.ensures.told));
     }
 
 pub returns : goal.returns

@@ -18,3 +18,8 @@ pub returns-clause-way_back : goal.returns-clause-way_back
 returns-clause-way_back g c = λ past stands.
     let before = subst (λ (s : Standing). ShowsPast s past) (sym c.self.view_is) stands in
     way_back_told past (query_of c.args.query.now) c.ask.result (c.ask.ensures.asked past before.groups)
+
+pub returns-clause-lent : goal.returns-clause-lent
+returns-clause-lent g c = λ past stands pieces are none.
+    let before = subst (λ (s : Standing). ShowsPast s past) (sym c.self.view_is) stands in
+    c.ask.ensures.lent past before.groups pieces are none
