@@ -7,7 +7,7 @@
 use disk_model::{Disk, SureDisk};
 use prima_base::NoMemory;
 use prima_io::{Sink, Source};
-use program_words::journal_limit;
+use program_words::asked;
 use rewrite_rules::{Rule, RuleBook, push_every_rule};
 use script_cli::{FileDisk, ReaderSource, Status, Word, WriterSink, run};
 use std::alloc::Global;
@@ -51,7 +51,7 @@ fn run_over_the_file<S: Source, K: Sink>(
     source: &mut S,
     sink: &mut K,
 ) -> Result<Status, NoMemory> {
-    if journal_limit(rt.alloc(), words)?.is_none() {
+    if asked(rt.alloc(), words)?.is_none() {
         return run_with_rules(rt.alloc(), words, source, sink, &mut SureDisk::new());
     }
     match FileDisk::open(rt, ARCHIVE) {

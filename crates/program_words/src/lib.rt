@@ -1,10 +1,8 @@
 //! What the words of a call ask the program for.
 #![tactic(auto)]
 
-mod limit;
 mod numbers;
 mod parsing;
 mod request;
 
-pub use limit::journal_limit;
 pub use request::{GREATEST_SIZE, JOURNAL_LIMIT, Mode, Request, SAMPLE_SIZE, asked};

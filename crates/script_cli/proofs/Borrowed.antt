@@ -5,9 +5,10 @@ use Rattle.disk_model.specs.Meaning.{Meaning, borrowed_as}
 use Rattle.disk_model.specs.BorrowLaws.{borrowed_turns}
 use Rattle.journal.specs.Mounting.{SameOrNine, IsNotSynced, KeepsFile}
 use Rattle.script_parse.specs.Script.{Piece}
+use Rattle.script_cli.specs.Given.{Given}
 use Rattle.script_cli.specs.Output.{recorded, commands_put}
 use Rattle.script_cli.specs.Files.{OpensPrefix}
-use Rattle.script_cli.specs.Runs.{NotOpened, OnDisk, RanOpened, RunsOver, begun, counted_limit}
+use Rattle.script_cli.specs.Runs.{NotOpened, OnDisk, RanOpened, RunsOver, begun}
 use Rattle.script_cli.specs.declared.status.Status.{Status}
 use Rattle.script_cli.specs.declared.status.Status.TheVariants.{DiskFault}
 
@@ -15,14 +16,14 @@ module _ (name other : ℕ) (old new : Meaning) where
   keeps_borrowed : KeepsFile (borrowed_as name old) (borrowed_as other new) → KeepsFile old new
   keeps_borrowed keeps file honest seen = borrowed_turns name other old new (SameOrNine file) (keeps file honest seen)
 
-  not_opened_borrowed : (status : Status) (a c u w : Option (List ℕ)) (f h : ℕ) → NotOpened status a c u w f h (borrowed_as name old) (borrowed_as other new) → NotOpened status a c u w f h old new
+  pub not_opened_borrowed : (status : Status) (a c u w : Option (List ℕ)) (f h : ℕ) → NotOpened status a c u w f h (borrowed_as name old) (borrowed_as other new) → NotOpened status a c u w f h old new
   not_opened_borrowed status a c u w f h n = record {
     kept = n.kept;
     told = n.told;
     disk = ⊎_elim (λ early. inl early) (λ late. inr (keeps_borrowed late)) n.disk;
   }
 
-  on_disk_borrowed : (limit : ℕ) (status : Status) (whole rest : List Piece) → OnDisk limit status whole rest (borrowed_as name old) (borrowed_as other new) → OnDisk limit status whole rest old new
+  on_disk_borrowed : (limit : Given) (status : Status) (whole rest : List Piece) → OnDisk limit status whole rest (borrowed_as name old) (borrowed_as other new) → OnDisk limit status whole rest old new
   on_disk_borrowed limit status whole rest d = record {
     any_moment = λ file opening honest seen opens.
         borrowed_turns name other old new (OpensPrefix opening (commands_put limit (recorded opening) (whole ++ begun status rest))) (d.any_moment file opening honest seen opens);
@@ -31,12 +32,12 @@ module _ (name other : ℕ) (old new : Meaning) where
     holds = d.holds;
   }
 
-  pub runs_borrowed : (limit : ℕ) (status : Status) (a c u w : Option (List ℕ)) (f h : ℕ) → RunsOver limit status a c u w f h (borrowed_as name old) (borrowed_as other new)
+  pub runs_borrowed : (limit : Given) (status : Status) (a c u w : Option (List ℕ)) (f h : ℕ) → RunsOver limit status a c u w f h (borrowed_as name old) (borrowed_as other new)
       → RunsOver limit status a c u w f h old new
   runs_borrowed limit status a c u w f h (inl n) = inl (not_opened_borrowed status a c u w f h n)
   runs_borrowed limit status a c u w f h (inr r) = inr (record {
     start = r.start;
     opened = r.opened;
     ran = r.ran;
-    disk = on_disk_borrowed (counted_limit limit) status r.ran.whole r.ran.rest r.disk;
+    disk = on_disk_borrowed limit status r.ran.whole r.ran.rest r.disk;
   })

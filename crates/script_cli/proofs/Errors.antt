@@ -11,13 +11,15 @@ use Rattle.smo_types.specs.Commands.{PlainBody, changing, evolving, PlainCommand
 use Rattle.smo_meaning.specs.Checks.{Fault}
 use Rattle.smo_meaning.specs.Past.{Past, past_with, tables_of}
 use Rattle.archive_core.specs.Committing.{commit_fault}
+use Rattle.piece_texts.specs.ExplainedPieces.{PlainExplained}
 use Rattle.temporal_lang.specs.Accepted.{version_fault, fault_of_query}
 use Rattle.temporal_lang.specs.Answers.{answer}
-use Rattle.script_parse.specs.Statements.{PlainStatement, write, ask, show_versions, show_schema}
+use Rattle.script_parse.specs.Statements.{PlainStatement, write, ask, explain, show_versions, show_schema}
 use Rattle.script_parse.specs.Reading.{Reading, Blank, Refused, Whole, reading}
-use Rattle.archive_state.specs.Asking.{tells_periods}
-use Rattle.answer_text.specs.Texts.{changed_text, evolved_text, listing_text, tables_text, count_text, version_head, versions_text, schema_text}
+use Rattle.archive_state.specs.Asking.{tells_periods, pieces_told}
+use Rattle.answer_text.specs.Texts.{changed_text, evolved_text, listing_text, piece_head, explain_text, tables_text, count_text, version_head, versions_text, schema_text}
 use Rattle.answer_text.specs.RefusalTexts.{refusal_text}
+use Rattle.script_cli.specs.Given.{Given}
 use Rattle.script_cli.specs.Output.{Recorded, Reply, refused, answered, put, refused_or, body_text, statement_reply, reading_reply, is_error_line, reply}
 
 abbrev Told : Reply → Type 0
@@ -41,6 +43,11 @@ listing_told told [] now = refl
 listing_told false (e ∷ entries) now = refl
 listing_told true (e ∷ entries) now = refl
 
+pieces_told_so : (pieces : List PlainExplained) (now : Recorded) → Told (answered (explain_text pieces) now)
+unfolding explain_text piece_head
+pieces_told_so [] now = refl
+pieces_told_so (e ∷ pieces) now = refl
+
 versions_told : (versions : List PlainVersion) (now : Recorded) → Told (answered (versions_text versions) now)
 unfolding versions_text version_head
 versions_told versions now = refl
@@ -57,17 +64,18 @@ refused_told : (fault : Fault) (now : Recorded) (r : Reply) → Told r → Told 
 refused_told None now r h = h
 refused_told (Some refusal) now r h = refusal_told refusal now
 
-statement_told : (limit : ℕ) (s : PlainStatement) (now : Recorded) → Told (statement_reply limit s now)
-statement_told limit (write command) now = refused_told (commit_fault now.past now.at limit command) now (put command now) (put_told command now)
+statement_told : (limit : Given) (s : PlainStatement) (now : Recorded) → Told (statement_reply limit s now)
+statement_told limit (write command) now = refused_told (commit_fault now.past now.at limit.limit command) now (put command now) (put_told command now)
 statement_told limit (ask query) now = refused_told (fault_of_query now.past query) now (answered (listing_text (tells_periods query.when) (answer now.past query)) now) (listing_told (tells_periods query.when) (answer now.past query) now)
+statement_told limit (explain query) now = refused_told (fault_of_query now.past query) now (answered (explain_text (pieces_told limit.book now.past query)) now) (pieces_told_so (pieces_told limit.book now.past query) now)
 statement_told limit show_versions now = versions_told now.past.versions now
 statement_told limit (show_schema version) now = refused_told (version_fault now.past version) now (answered (schema_text (tables_of now.past version)) now) (schema_told (tables_of now.past version) now)
 
-reading_told : (limit : ℕ) (r : Reading) (now : Recorded) → Told (reading_reply limit r now)
+reading_told : (limit : Given) (r : Reading) (now : Recorded) → Told (reading_reply limit r now)
 reading_told limit Blank now = refl
 reading_told limit (Refused r) now = refusal_told r now
 reading_told limit (Whole s) now = statement_told limit s now
 
-pub error_told : (limit : ℕ) (now : Recorded) (text : List ℕ) → (reply limit now text).is_error ≡ is_error_line (reply limit now text).text
+pub error_told : (limit : Given) (now : Recorded) (text : List ℕ) → (reply limit now text).is_error ≡ is_error_line (reply limit now text).text
 unfolding reply
 error_told limit now text = reading_told limit (reading text) now

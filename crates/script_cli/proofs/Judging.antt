@@ -1,12 +1,16 @@
 -- What a run answers by its words.
-use Rattle.std.proofs.Common.{◌≡◌, ◌⊎◌, inl, inr, ℕ, List, refl, sym, subst, ◌∙◌}
-use Rattle.std.specs.Prelude.{Option, Some, None, Result, Ok, Err, OnOk, OnErr}
+use Rattle.std.proofs.Common.{◌≡◌, inl, inr, ℕ, List, refl, sym, ap, subst, ◌∙◌}
+use Rattle.std.specs.Prelude.{Option, Some, None, option_and_then, Result, Ok, Err, OnOk, OnErr}
 use Rattle.std.specs.Io.KnownBytes.{Appends}
 use Rattle.prima_io.specs.Causes.{HasCause}
 use Rattle.prima_io.specs.Moves.{AppendsLess}
 use Rattle.disk_model.specs.Meaning.{Meaning}
+use Rattle.program_words.specs.declared.request.Mode.TheVariants.{Sample}
+use Rattle.program_words.specs.declared.request.Request.{Request}
+use Rattle.program_words.specs.Words.{limit_of_run, request}
 use Rattle.answer_text.specs.Texts.{wrong_words_text}
-use Rattle.script_cli.specs.Runs.{Ran, RunsOver, ToldUnopened, IsUntouched, RefusedWords, PutsLine, SourceCounted, SinkCounted, DiskCounted, counted_limit}
+use Rattle.script_cli.specs.Given.{Given}
+use Rattle.script_cli.specs.Runs.{Ran, RunsOver, ToldUnopened, IsUntouched, RefusedWords, PutsLine}
 use Rattle.script_cli.specs.declared.status.Status.{Status}
 use Rattle.script_cli.specs.declared.status.Status.TheVariants.{Words, NoMemory}
 use Rattle.script_cli.proofs.Unopened.{keeps_same}
@@ -18,17 +22,21 @@ line_put (Ok x) line u w f h all part cause = inl (all, cause.kept)
 line_put (Err e) line u w f h all part cause = inr (part, cause.failed)
 
 -- a run over a disk is not answered by wrong words
-pub over_not_words : (limit : ℕ) (status : Status) (a c u w : Option (List ℕ)) (f h : ℕ) (old new : Meaning) → RunsOver limit status a c u w f h old new → status ≡ Words → ⊥
+pub over_not_words : (limit : Given) (status : Status) (a c u w : Option (List ℕ)) (f h : ℕ) (old new : Meaning) → RunsOver limit status a c u w f h old new → status ≡ Words → ⊥
 over_not_words limit status a c u w f h old new (inl n) is = subst (λ s. ToldUnopened s u w f h old.seen new.seen) is n.told
 over_not_words limit status a c u w f h old new (inr r) is =
-    let ran = subst (λ s. Ran (counted_limit limit) r.start s a c u w) is r.ran in ran.wrote
+    let ran = subst (λ s. Ran limit r.start s a c u w) is r.ran in ran.wrote
 
--- the limit that is asked for is one
-some_once : (x y : Option ℕ) (m n : ℕ) → x ≡ Some m → y ≡ x → y ≡ Some n → m ≡ n
-some_once x y m n p q r = cc
+pub none_or_some : {T : Type 0} (o : Option T) (t : T) (P : Type 0) → o ≡ Some t → o ≡ None → P
+none_or_some o t P some none = absurd (cc (some, none))
 
-pub none_or_some : (o : Option ℕ) (n : ℕ) (P : Type 0) → o ≡ Some n → o ≡ None → P
-none_or_some o n P some none = absurd (cc (some, none))
+-- where nothing is asked for, no run is
+pub not_for_none : (o : Option Request) (limit : ℕ) → o ≡ None → option_and_then limit_of_run o ≡ Some limit → ⊥
+not_for_none o limit none for = let here : None ≡ Some limit = sym (ap (option_and_then limit_of_run) none) ∙ for in cc
+
+-- what is asked for is one thing
+pub same_request : (o : Option Request) (r : Request) (limit size : ℕ) → o ≡ Some r → o ≡ Some (request limit (Sample size)) → (r.journal_limit ≡ limit) × (r.mode ≡ Sample size)
+same_request o r limit size is for = let same : r ≡ request limit (Sample size) = cc (is, for) in (ap (λ (x : Request). x.journal_limit) same, ap (λ (x : Request). x.mode) same)
 
 -- wrong words
 module _ {D : Type 0} (status : Status) (is : status ≡ Words) (a u w : Option (List ℕ)) (f h : ℕ) (line : PutsLine wrong_words_text u w f h) where

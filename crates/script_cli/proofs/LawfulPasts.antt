@@ -15,14 +15,15 @@ use Rattle.temporal_lang.specs.Accepted.{version_fault, fault_of_query}
 use Rattle.temporal_lang.specs.Answers.{asked_at, listing, answer, IsListingOf}
 use Rattle.temporal_lang.specs.Queries.{PlainQuery}
 use Rattle.script_parse.specs.Script.{Piece, Whole as Text, Skipped}
-use Rattle.script_parse.specs.Statements.{PlainStatement, write, ask, show_versions, show_schema}
+use Rattle.script_parse.specs.Statements.{PlainStatement, write, ask, explain, show_versions, show_schema}
 use Rattle.script_parse.specs.Reading.{Reading, Blank, Refused, Whole, reading}
-use Rattle.archive_state.specs.Asking.{tells_periods}
+use Rattle.archive_state.specs.Asking.{tells_periods, pieces_told}
 use Rattle.smo_meaning.specs.History.{AllAccepted, IsHistory, past_after}
 use Rattle.smo_meaning.proofs.Firsts.{none_of_first}
 use Rattle.archive_core.specs.Committing.{room_fault, commit_fault}
+use Rattle.script_cli.specs.Given.{Given}
 use Rattle.script_cli.specs.Output.{Recorded, recorded, answered, refused_or, put, statement_reply, reading_reply, reply, piece_reply, recorded_after}
-use Rattle.answer_text.specs.Texts.{listing_text, schema_text}
+use Rattle.answer_text.specs.Texts.{listing_text, explain_text, schema_text}
 use Rattle.script_cli.specs.Written.{IsWritten, HasWritten}
 use Rattle.script_cli.proofs.WrittenStatements.{has_written}
 
@@ -53,11 +54,12 @@ same_past : (now : Recorded) (fault : Fault) (text : List ℕ) → IsOfScript no
 same_past now None text h = h
 same_past now (Some r) text h = h
 
-module _ (limit : ℕ) where
+module _ (limit : Given) where
   statement_keeps : (now : Recorded) (s : PlainStatement) → IsWritten s → IsOfScript now.past → IsOfScript (statement_reply limit s now).behind.past
   statement_keeps now (write command) written h =
-      put_keeps now command h written (commit_fault now.past now.at limit command) (λ e. (none_of_first (command_fault now.past command) (room_fault now.at limit command ∷ []) e).0)
+      put_keeps now command h written (commit_fault now.past now.at limit.limit command) (λ e. (none_of_first (command_fault now.past command) (room_fault now.at limit.limit command ∷ []) e).0)
   statement_keeps now (ask query) written h = same_past now (fault_of_query now.past query) (listing_text (tells_periods query.when) (answer now.past query)) h
+  statement_keeps now (explain query) written h = same_past now (fault_of_query now.past query) (explain_text (pieces_told limit.book now.past query)) h
   statement_keeps now show_versions written h = h
   statement_keeps now (show_schema version) written h = same_past now (version_fault now.past version) (schema_text (tables_of now.past version)) h
 
@@ -80,5 +82,5 @@ opening_keeps [] past are accepted h = h
 opening_keeps (c ∷ commands) past are accepted h = opening_keeps commands (past_with past c) are.1 accepted.1 (command_keeps past c h are.0.0 accepted.0)
 
 -- it is one that accepted commands make
-pub still_made : (limit : ℕ) (opening : List PlainCommand) (pieces : List Piece) → AreCommands opening → IsHistory opening → IsPast (recorded_after limit (recorded opening) pieces).past
+pub still_made : (limit : Given) (opening : List PlainCommand) (pieces : List Piece) → AreCommands opening → IsHistory opening → IsPast (recorded_after limit (recorded opening) pieces).past
 still_made limit opening pieces are history = (keeps limit pieces (recorded opening) (opening_keeps opening beginning are history beginning_is)).made

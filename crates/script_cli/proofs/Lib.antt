@@ -13,3 +13,6 @@ pub mod Counts
 pub mod Unopened
 pub mod Borrowed
 pub mod Judging
+pub mod Counting
+pub mod SampleDriven
+pub mod SampleRuns

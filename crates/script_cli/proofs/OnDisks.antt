@@ -17,6 +17,7 @@ use Rattle.smo_meaning.specs.History.{IsHistory}
 use Rattle.archive_file.specs.Opening.{AreCommands, Opens, record_of, records_of, gate_behind}
 use Rattle.archive_file.proofs.Files.{opens_once}
 use Rattle.archive_state.specs.Standing.{ShowsPast, ShowsSome}
+use Rattle.piece_meaning.specs.Rules.{Book}
 use Rattle.archive_core.specs.declared.archives.Archive.{Archive}
 use Rattle.archive_core.specs.Fields.{standing_of, below, place_of, limit_of}
 use Rattle.archive_core.specs.Holding.{HoldsAt}
@@ -26,7 +27,7 @@ use Rattle.script_cli.specs.Output.{Recorded, recorded, commands_put}
 use Rattle.script_cli.specs.Putting.{HasPut, PutsSome}
 use Rattle.script_cli.specs.Shows.{StandsAt}
 use Rattle.script_cli.specs.Files.{OpensPrefix, EndsAs}
-use Rattle.script_cli.specs.Runs.{Ran, OnDisk, RanOpened, IsOpening, begun, counted_limit}
+use Rattle.script_cli.specs.Runs.{Ran, OnDisk, RanOpened, IsOpening, begun, given_by}
 use Rattle.script_cli.specs.Driving.{Drove, PutBy, HasOpened}
 use Rattle.script_cli.specs.declared.status.Status.{Status}
 use Rattle.script_cli.specs.declared.status.Status.TheVariants.{Done, Refused, Words, ReadFault, WriteFault, DiskFault, NotAJournal, NoMemory, InputLimit}
@@ -142,9 +143,9 @@ module _ (old mid new : Meaning) (at : ℕ) (file : List ℕ) (opening done put 
 
 -- ---- what an opened archive stands for
 
-module _ {D : Type 0} {g : Ghosts D} (old : Meaning) (limit : ℕ) (archive : Archive D g) (has : HasOpened old limit archive) where
+module _ {D : Type 0} {g : Ghosts D} (old : Meaning) (limit : ℕ) (book : Book) (archive : Archive D g) (has : HasOpened old limit archive) where
   start_told : (seen : Option (List ℕ)) → Tells seen (λ file. (count : ℕ) × IsMounted file (standing_of archive) (place_of archive) count)
-      → (start : Recorded) × StandsAt archive (counted_limit limit) start × IsOpening start seen
+      → (start : Recorded) × StandsAt archive (given_by limit book) start × IsOpening start seen
   start_told None told = (
     record { past = has.shows.0; at = place_of archive },
     record { past = has.shows.1; place = refl; limit_is = has.limit_is },
@@ -157,7 +158,7 @@ module _ {D : Type 0} {g : Ghosts D} (old : Meaning) (limit : ℕ) (archive : Ar
   )
 
   -- the start of a script behind it
-  pub start_of : (start : Recorded) × StandsAt archive (counted_limit limit) start × IsOpening start old.seen
+  pub start_of : (start : Recorded) × StandsAt archive (given_by limit book) start × IsOpening start old.seen
   start_of = start_told old.seen has.mounted
 
 -- the start is that of the commands as which the file opens
@@ -166,27 +167,27 @@ start_is seen start file opening is opened opens =
     let here : IsOpening start (Some file) = subst (IsOpening start) is opened in
     here.2 ∙ ap recorded (opens_once file here.0 opening here.1 opens)
 
-module _ {D : Type 0} {g : Ghosts D} (old : Meaning) (limit : ℕ) (archive : Archive D g) (has : HasOpened old limit archive) (start : Recorded) (opened : IsOpening start old.seen)
+module _ {D : Type 0} {g : Ghosts D} (old : Meaning) (limit : ℕ) (book : Book) (archive : Archive D g) (has : HasOpened old limit archive) (start : Recorded) (opened : IsOpening start old.seen)
     (status : Status) (a b u v : Option (List ℕ)) (new : Meaning) (law : IsLawful new)
-    (drove : Drove (counted_limit limit) start status a b u v (below archive) new (place_of archive)) where
+    (drove : Drove (given_by limit book) start status a b u v (below archive) new (place_of archive)) where
   module _ (file : List ℕ) (opening : List PlainCommand) (is : old.seen ≡ Some file) (opens : Opens file opening) where
     abbrev done : List PlainCommand
-    done = commands_put (counted_limit limit) (recorded opening) drove.ran.whole
+    done = commands_put (given_by limit book) (recorded opening) drove.ran.whole
 
     abbrev put : List PlainCommand
-    put = commands_put (counted_limit limit) (recorded opening) (drove.ran.whole ++ begun status drove.ran.rest)
+    put = commands_put (given_by limit book) (recorded opening) (drove.ran.whole ++ begun status drove.ran.rest)
 
     puts : PutBy status (below archive) new (place_of archive) done put
-    puts = subst (λ n. PutBy status (below archive) new (place_of archive) (commands_put (counted_limit limit) n drove.ran.whole) (commands_put (counted_limit limit) n (drove.ran.whole ++ begun status drove.ran.rest)))
+    puts = subst (λ n. PutBy status (below archive) new (place_of archive) (commands_put (given_by limit book) n drove.ran.whole) (commands_put (given_by limit book) n (drove.ran.whole ++ begun status drove.ran.rest)))
         (start_is old.seen start file opening is opened opens) drove.puts
 
     history : IsHistory (opening ++ put)
-    history = history_is (counted_limit limit) opening (drove.ran.whole ++ begun status drove.ran.rest) opens.accepted
+    history = history_is (given_by limit book) opening (drove.ran.whole ++ begun status drove.ran.rest) opens.accepted
 
     done_history : IsHistory (opening ++ done)
-    done_history = history_is (counted_limit limit) opening drove.ran.whole opens.accepted
+    done_history = history_is (given_by limit book) opening drove.ran.whole opens.accepted
 
-  pub ran_opened : RanOpened (counted_limit limit) status a b u v old new
+  pub ran_opened : RanOpened (given_by limit book) status a b u v old new
   ran_opened = record {
     start = start;
     opened = opened;
@@ -208,6 +209,10 @@ module _ {D : Type 0} {g : Ghosts D} (old : Meaning) (limit : ℕ) (archive : Ar
           (done_history file opening is opens) status not_failed (puts file opening is opens) (has.holds file opening is opens);
     };
   }
+
+  pub ran_opened_start : ran_opened.start ≡ start
+  unfolding ran_opened
+  ran_opened_start = refl
 
 -- its moments join those of the disk
 pub put_goes : (status : Status) (old new : Meaning) (at : ℕ) (done put : List PlainCommand) → PutBy status old new at done put → GoesOn old new

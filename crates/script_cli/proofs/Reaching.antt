@@ -11,6 +11,7 @@ use Rattle.archive_core.specs.declared.archives.Archive.{Archive}
 use Rattle.archive_core.specs.Fields.{below, place_of}
 use Rattle.script_parse.specs.Script.{Piece, pieces_from, tail_from, ending}
 use Rattle.script_parse.specs.Splitting.{fresh}
+use Rattle.script_cli.specs.Given.{Given}
 use Rattle.script_cli.specs.Output.{Recorded, piece_reply, replies, commands_put, recorded_after, any_error, pieces_of, ending_of, has_error, tail_text, tail_is_due}
 use Rattle.script_cli.specs.declared.script_run.ScriptRun.{ScriptRun}
 use Rattle.script_cli.specs.declared.halt.Halt.{Halt}
@@ -28,9 +29,10 @@ use Rattle.script_cli.proofs.Taking.{put-append, took_none, took_more, took_long
 pub record IsStart (start : ScriptRun) : Type 0 where
   pub splitter : start.splitter ≡ fresh
   pub refused : start.refused ≡ false
+  pub puts : start.puts ≡ 0
 
 -- these bytes were taken, and the statements that ended in them were answered
-pub record Reached {D : Type 0} {g : Ghosts D} (limit : ℕ) (start : Recorded) (a b : Archive D g) (left_old left_new written_old written_new : Option (List ℕ)) (script_run : ScriptRun) (count : ℕ) : Type 0 where
+pub record Reached {D : Type 0} {g : Ghosts D} (limit : Given) (start : Recorded) (a b : Archive D g) (left_old left_new written_old written_new : Option (List ℕ)) (script_run : ScriptRun) (count : ℕ) : Type 0 where
   pub run : ScriptRun
   pub begun_so : IsStart run
   pub taken : List ℕ
@@ -38,7 +40,7 @@ pub record Reached {D : Type 0} {g : Ghosts D} (limit : ℕ) (start : Recorded) 
   pub counted : count ≡ length taken
   pub took : Took limit start run script_run a b taken [] written_old written_new
 
-module _ {D : Type 0} {g : Ghosts D} (limit : ℕ) (start : Recorded) (a b : Archive D g) (run script_run : ScriptRun) (begun_so : IsStart run) (taken : List ℕ) (u v : Option (List ℕ))
+module _ {D : Type 0} {g : Ghosts D} (limit : Given) (start : Recorded) (a b : Archive D g) (run script_run : ScriptRun) (begun_so : IsStart run) (taken : List ℕ) (u v : Option (List ℕ))
     (took : Took limit start run script_run a b taken [] u v) where
   pub pieces_is : (more : List ℕ) → pieces_of (taken ++ more) ≡ took.pieces ++ pieces_behind script_run more
   pieces_is more = ap (λ s. pieces_from s.mode s.kept (taken ++ more)) (sym begun_so.splitter) ∙ took.cut more
@@ -60,27 +62,27 @@ module _ {D : Type 0} {g : Ghosts D} (limit : ℕ) (start : Recorded) (a b : Arc
   puts_all = subst (λ l. PutBetween a b (commands_put limit start l)) (sym (append-nil took.pieces)) took.puts
 
 -- what the first of these statements puts
-next_puts : (limit : ℕ) (now : Recorded) (rest : List Piece) → commands_put limit now (take 1 rest) ≡ (next_reply limit now rest).puts
+next_puts : (limit : Given) (now : Recorded) (rest : List Piece) → commands_put limit now (take 1 rest) ≡ (next_reply limit now rest).puts
 next_puts limit now [] = refl
 next_puts limit now (p ∷ rest) = append-nil (piece_reply limit now p).puts
 
-next_put : (limit : ℕ) (start : Recorded) (whole rest : List Piece)
+next_put : (limit : Given) (start : Recorded) (whole rest : List Piece)
     → commands_put limit start whole ++ (next_reply limit (recorded_after limit start whole) rest).puts ≡ commands_put limit start (whole ++ take 1 rest)
 next_put limit start whole rest =
     ap (λ l. commands_put limit start whole ++ l) (sym (next_puts limit (recorded_after limit start whole) rest)) ∙ sym (put-append limit start whole (take 1 rest))
 
 -- the start of a run
-pub reach_start : {D : Type 0} {g : Ghosts D} (limit : ℕ) (start : Recorded) (archive : Archive D g) (a u : Option (List ℕ)) (s : ScriptRun) → IsLawful (below archive) → IsStart s
+pub reach_start : {D : Type 0} {g : Ghosts D} (limit : Given) (start : Recorded) (archive : Archive D g) (a u : Option (List ℕ)) (s : ScriptRun) → IsLawful (below archive) → IsStart s
     → StandsAt archive limit start → Consumes a a [] → Reached limit start archive archive a a u u s 0
 reach_start limit start archive a u s law h stands k = record { run = s; begun_so = h; taken = []; consumed = k; counted = refl; took = took_none limit start s archive [] u law stands }
 
-consumed_still : (a b c : Option (List ℕ)) (taken : List ℕ) → Consumes a b taken → Consumes b c [] → Consumes a c taken
+pub consumed_still : (a b c : Option (List ℕ)) (taken : List ℕ) → Consumes a b taken → Consumes b c [] → Consumes a c taken
 consumed_still a b c taken k none = subst (Consumes a c) (append-nil taken) (Consumes-trans a b c taken [] k none)
 
 within_still : (n : ℕ) (taken : List ℕ) → n ≡ length taken → n ≤ longest_script → length taken ≤ longest_script
 within_still n taken counted l = subst (λ k. k ≤ longest_script) counted l
 
-module _ {D : Type 0} {g : Ghosts D} (limit : ℕ) (start : Recorded) (o m : Archive D g) {a b c u v : Option (List ℕ)} {s : ScriptRun} {n : ℕ} where
+module _ {D : Type 0} {g : Ghosts D} (limit : Given) (start : Recorded) (o m : Archive D g) {a b c u v : Option (List ℕ)} {s : ScriptRun} {n : ℕ} where
   pub drove_read : Reached limit start o m a b u v s n → n ≤ longest_script → Keeps b c → Drove limit start ReadFault a c u v (below o) (below m) (place_of o)
   drove_read r l k = record {
     ran = record {
@@ -117,12 +119,12 @@ module _ {D : Type 0} {g : Ghosts D} (limit : ℕ) (start : Recorded) (o m : Arc
   }
 
 -- what the run had answered when it stopped, and in which reply it did
-stopped : {D : Type 0} {g : Ghosts D} (limit : ℕ) (start : Recorded) (o m e : Archive D g) (a b u v w : Option (List ℕ)) (s : ScriptRun) (n : ℕ) (h : Halt) (r : Reached limit start o m a b u v s n) (piece : List ℕ)
-    → ((l : ℕ) → (now : Recorded) → StandsAt m l now → Halted h l now (pieces_behind s piece) m e v w) → Halted h limit start (r.took.pieces ++ pieces_behind s piece) o e u w
+stopped : {D : Type 0} {g : Ghosts D} (limit : Given) (start : Recorded) (o m e : Archive D g) (a b u v w : Option (List ℕ)) (s : ScriptRun) (n : ℕ) (h : Halt) (r : Reached limit start o m a b u v s n) (piece : List ℕ)
+    → ((now : Recorded) → StandsAt m limit now → Halted h limit now (pieces_behind s piece) m e v w) → Halted h limit start (r.took.pieces ++ pieces_behind s piece) o e u w
 stopped limit start o m e a b u v w s n h r piece f =
-    halted_behind limit start h r.took.pieces (pieces_behind s piece) o m e u v w r.took.puts r.took.wrote (f limit (recorded_after limit start r.took.pieces) r.took.stands)
+    halted_behind limit start h r.took.pieces (pieces_behind s piece) o m e u v w r.took.puts r.took.wrote (f (recorded_after limit start r.took.pieces) r.took.stands)
 
-module _ {D : Type 0} {g : Ghosts D} (limit : ℕ) (start : Recorded) (o e : Archive D g) (u w : Option (List ℕ)) where
+module _ {D : Type 0} {g : Ghosts D} (limit : Given) (start : Recorded) (o e : Archive D g) (u w : Option (List ℕ)) where
   wrote_halted : (h : Halt) (c : Option (List ℕ)) (taken : List ℕ) (pieces : List Piece) → length taken ≤ longest_script → (x : Halted h limit start pieces o e u w)
       → Wrote (status_of h) limit start taken x.whole x.rest c x.between w
   wrote_halted halt.WriteFault c taken pieces l x = (l, inl x.stops.0)
@@ -147,9 +149,9 @@ module _ {D : Type 0} {g : Ghosts D} (limit : ℕ) (start : Recorded) (o e : Arc
         (put_then (below o) (below x.mid) (below e) (place_of o) (place_of x.mid) (place_of e) (commands_put limit start x.whole) [] x.puts x.stops.1),
   )
 
-module _ {D : Type 0} {g : Ghosts D} (limit : ℕ) (start : Recorded) (o m e : Archive D g) {a b c u v w : Option (List ℕ)} {s : ScriptRun} {n : ℕ} where
+module _ {D : Type 0} {g : Ghosts D} (limit : Given) (start : Recorded) (o m e : Archive D g) {a b c u v w : Option (List ℕ)} {s : ScriptRun} {n : ℕ} where
   pub reach : (r : Reached limit start o m a b u v s n) (piece : List ℕ) (k : ℕ) (next : ScriptRun) → Consumes b c piece → k ≡ n + length piece
-      → ((l : ℕ) → (now : Recorded) → StandsAt m l now → Took l now s next m e piece [] v w) → Reached limit start o e a c u w next k
+      → ((now : Recorded) → StandsAt m limit now → Took limit now s next m e piece [] v w) → Reached limit start o e a c u w next k
   unfolding took_longer
   reach r piece k next consumes is f = record {
     run = r.run;
@@ -158,11 +160,11 @@ module _ {D : Type 0} {g : Ghosts D} (limit : ℕ) (start : Recorded) (o m e : A
     consumed = Consumes-trans a b c r.taken piece r.consumed consumes;
     counted = is ∙ ap (λ j. j + length piece) r.counted ∙ sym (length-append r.taken piece);
     took = took_more limit start r.run s next o m e (r.taken ++ piece) piece [] u v w (took_longer limit start r.run s o m r.taken [] piece u v r.took)
-        (f limit (recorded_after limit start r.took.pieces) r.took.stands);
+        (f (recorded_after limit start r.took.pieces) r.took.stands);
   }
 
   pub drove_halted : (h : Halt) (r : Reached limit start o m a b u v s n) (piece : List ℕ) → IsLawful (below e) → n + length piece ≤ longest_script → Consumes b c piece
-      → ((l : ℕ) → (now : Recorded) → StandsAt m l now → Halted h l now (pieces_behind s piece) m e v w) → Drove limit start (status_of h) a c u w (below o) (below e) (place_of o)
+      → ((now : Recorded) → StandsAt m limit now → Halted h limit now (pieces_behind s piece) m e v w) → Drove limit start (status_of h) a c u w (below o) (below e) (place_of o)
   drove_halted h r piece law l k f =
       let x = stopped limit start o m e a b u v w s n h r piece f in
       let within : length (r.taken ++ piece) ≤ longest_script = omega (arith, l, r.counted, length-append r.taken piece) in
@@ -180,7 +182,7 @@ module _ {D : Type 0} {g : Ghosts D} (limit : ℕ) (start : Recorded) (o m e : A
         puts = puts_halted limit start o e u w h (r.took.pieces ++ pieces_behind s piece) law x;
       }
 
-module _ {D : Type 0} {g : Ghosts D} (limit : ℕ) (start : Recorded) (o m : Archive D g) {a b c u v w : Option (List ℕ)} {s : ScriptRun} {n : ℕ} (r : Reached limit start o m a b u v s n)
+module _ {D : Type 0} {g : Ghosts D} (limit : Given) (start : Recorded) (o m : Archive D g) {a b c u v w : Option (List ℕ)} {s : ScriptRun} {n : ℕ} (r : Reached limit start o m a b u v s n)
     (within : n ≤ longest_script) (consumes : Consumes b c []) (end : IsAtEnd c) where
   ended : (status : Status) → Wrote status limit start r.taken r.took.pieces [] c v w → PutBy status (below o) (below m) (place_of o) (commands_put limit start r.took.pieces) (commands_put limit start (r.took.pieces ++ begun status []))
       → Drove limit start status a c u w (below o) (below m) (place_of o)

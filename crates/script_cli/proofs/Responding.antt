@@ -25,6 +25,7 @@ use Rattle.answer_text.specs.RefusalTexts.{refusal_text}
 use Rattle.answer_text.specs.Texts.{made_text}
 use Rattle.script_parse.specs.Statements.{PlainStatement}
 use Rattle.script_parse.specs.Reading.{Reading, Blank, Refused, Whole, reading}
+use Rattle.script_cli.specs.Given.{Given}
 use Rattle.script_cli.specs.Output.{Recorded, recorded_with, Reply, done_text, answered, refused, refused_or, put, body_text, command_text, command_reply, statement_reply, reading_reply, reply}
 use Rattle.script_cli.specs.declared.put.Put.{Put}
 use Rattle.script_cli.specs.declared.put.Put.TheVariants.{NoError}
@@ -83,7 +84,13 @@ module _ (old new : Option (List ℕ)) where
   answered_says None now text said (Err stop) e same ok all part = subst (λ (t : List ℕ). AppendsFront old new t) same part
   answered_says (Some r) now text said result e same ok all part = absurd (cc)
 
-  module _ {D : Type 0} {g : Ghosts D} (limit : ℕ) (now : Recorded) (a b : Archive D g) where
+  -- what is said of a query that is not refused
+  pub accepted_says : (fault : Fault) (now : Recorded) (text said : List ℕ) (result : Result Put Halt) → fault ≡ None → said ≡ text → Says (answered said now) result old new
+      → Says (refused_or fault now (answered text now)) result old new
+  accepted_says None now text said result e same h = subst (λ (t : List ℕ). Says (answered t now) result old new) same h
+  accepted_says (Some r) now text said result e same h = absurd (cc)
+
+  module _ {D : Type 0} {g : Ghosts D} (limit : Given) (now : Recorded) (a b : Archive D g) where
     -- a statement that calls no disk
     pub says_responds : (reply : Reply) (result : Result Put Halt) → IsLawful (below a) → StandsAt a limit now → reply.puts ≡ [] → reply.behind ≡ now → Says reply result old new
         → Responds limit reply result a a old new
@@ -98,7 +105,7 @@ module _ (old new : Option (List ℕ)) where
     says_responds reply (Err NoMemory) law stands none same says = (says, put_nothing (below a) (place_of a) law)
 
     -- an accepted command that was put
-    pub done_responds : (command : PlainCommand) (done : Done) (result : Result Put Failed) → commit_fault now.past now.at limit command ≡ None → IsDone now.past command done
+    pub done_responds : (command : PlainCommand) (done : Done) (result : Result Put Failed) → commit_fault now.past now.at limit.limit command ≡ None → IsDone now.past command done
         → StandsAt b limit (put command now).behind → PutBetween a b (command ∷ []) → IfOk result (λ put. is_error put ≡ false) → OnOk result (Appends old new (done_text done))
         → OnErr result (AppendsFront old new (done_text done)) → Responds limit (command_reply limit command now) (or_write_fault result) a b old new
     done_responds command done result e h stands puts ok all part =
@@ -110,7 +117,7 @@ module _ (old new : Option (List ℕ)) where
         step (Err stop) ok all part = (subst (λ (t : List ℕ). AppendsFront old new t) (done_said now.past command done h) part, puts)
 
     -- a command that is refused
-    pub refused_responds : (command : PlainCommand) (r : Refusal) (result : Result Put Failed) → commit_fault now.past now.at limit command ≡ Some r → StandsAt b limit now → PutBetween a b []
+    pub refused_responds : (command : PlainCommand) (r : Refusal) (result : Result Put Failed) → commit_fault now.past now.at limit.limit command ≡ Some r → StandsAt b limit now → PutBetween a b []
         → IfOk result (λ put. is_error put ≡ true) → OnOk result (Appends old new (refusal_text r)) → OnErr result (AppendsFront old new (refusal_text r))
         → Responds limit (command_reply limit command now) (or_write_fault result) a b old new
     refused_responds command r result e stands puts ok all part =
@@ -123,12 +130,12 @@ module _ (old new : Option (List ℕ)) where
 
 -- ---- what committing a command does
 
-pub fault_here : {D : Type 0} {g : Ghosts D} (a : Archive D g) (limit : ℕ) (now : Recorded) (command : PlainCommand) (fault : Fault) → StandsAt a limit now
-    → commit_fault now.past (place_of a) (limit_of a) command ≡ fault → commit_fault now.past now.at limit command ≡ fault
+pub fault_here : {D : Type 0} {g : Ghosts D} (a : Archive D g) (limit : Given) (now : Recorded) (command : PlainCommand) (fault : Fault) → StandsAt a limit now
+    → commit_fault now.past (place_of a) (limit_of a) command ≡ fault → commit_fault now.past now.at limit.limit command ≡ fault
 fault_here a limit now command fault stands e =
-    ap (λ n. commit_fault now.past n limit command) (sym stands.place) ∙ ap (λ n. commit_fault now.past (place_of a) n command) (sym stands.limit_is) ∙ e
+    ap (λ n. commit_fault now.past n limit.limit command) (sym stands.place) ∙ ap (λ n. commit_fault now.past (place_of a) n command) (sym stands.limit_is) ∙ e
 
-module _ {D : Type 0} {g : Ghosts D} (a b : Archive D g) (limit : ℕ) (now : Recorded) (stands : StandsAt a limit now) where
+module _ {D : Type 0} {g : Ghosts D} (a b : Archive D g) (limit : Given) (now : Recorded) (stands : StandsAt a limit now) where
   -- it stands for what is behind a command that was put
   pub stands_behind : (command : PlainCommand) → ShowsPast (standing_of b) (past_with now.past command) → place_of b + 1 ≡ place_of a + needs (record_of command) → limit_of b ≡ limit_of a
       → StandsAt b limit (recorded_with now command)
@@ -145,7 +152,7 @@ untouched_between {D} {g} a b law disk place =
     (subst (λ n. HasPut (below a) (below a) (place_of a) n []) (sym place) (put_nothing (below a) (place_of a) law))
 
 -- an accepted command puts itself
-pub puts_itself : (limit : ℕ) (now : Recorded) (command : PlainCommand) → commit_fault now.past now.at limit command ≡ None → (command_reply limit command now).puts ≡ command ∷ []
+pub puts_itself : (limit : Given) (now : Recorded) (command : PlainCommand) → commit_fault now.past now.at limit.limit command ≡ None → (command_reply limit command now).puts ≡ command ∷ []
 puts_itself limit now command e = ap (λ (f : Fault). (refused_or f now (put command now)).puts) e
 
 -- it still takes records
@@ -163,11 +170,11 @@ on_ok (Err e) P p = tt
 -- ---- a statement's bytes
 
 -- the reply is that to what they are read as
-reply_is : (limit : ℕ) (now : Recorded) (text : List ℕ) (r : Reading) → r ≡ reading text → reading_reply limit r now ≡ reply limit now text
+reply_is : (limit : Given) (now : Recorded) (text : List ℕ) (r : Reading) → r ≡ reading text → reading_reply limit r now ≡ reply limit now text
 unfolding reply
 reply_is limit now text r e = ap (λ x. reading_reply limit x now) e
 
-module _ {D : Type 0} {g : Ghosts D} (a b : Archive D g) (limit : ℕ) (now : Recorded) (text : List ℕ) (u w : Option (List ℕ)) where
+module _ {D : Type 0} {g : Ghosts D} (a b : Archive D g) (limit : Given) (now : Recorded) (text : List ℕ) (u w : Option (List ℕ)) where
   -- a statement
   pub read_responds : (s : PlainStatement) (result : Result Put Halt) → Whole s ≡ reading text → Responds limit (statement_reply limit s now) result a b u w → Responds limit (reply limit now text) result a b u w
   read_responds s result e h = subst (λ y. Responds limit y result a b u w) (reply_is limit now text (Whole s) e) h

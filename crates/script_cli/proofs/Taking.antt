@@ -1,5 +1,5 @@
 -- What the run of a script has made of the bytes that it took.
-use Rattle.std.proofs.Common.{◌≡◌, ℕ, Bool, true, false, List, [], ◌∷◌, ◌++◌, refl, sym, ap, ◌∙◌, subst, append_assoc, append-nil}
+use Rattle.std.proofs.Common.{◌≡◌, ℕ, ◌+◌, Bool, true, false, List, [], ◌∷◌, ◌++◌, length, refl, sym, ap, ◌∙◌, subst, arith, append_assoc, append-nil, length-append}
 use Rattle.std.specs.Prelude.{◌||◌, Option, Some, None, MatchOption}
 use Rattle.std.specs.Io.KnownBytes.{Appends}
 use Rattle.std.proofs.KnownBytes.{Appends-trans, Appends-nil}
@@ -12,6 +12,7 @@ use Rattle.script_parse.specs.Script.{Piece, pieces_from, tail_from, ending}
 use Rattle.script_parse.specs.Splitting.{found, IsSettled, State}
 use Rattle.script_parse.specs.declared.splitter.Cut.{Cut}
 use Rattle.script_parse.specs.declared.splitter.Cut.TheVariants.{More}
+use Rattle.script_cli.specs.Given.{Given}
 use Rattle.script_cli.specs.declared.script_run.ScriptRun.{ScriptRun}
 use Rattle.script_cli.specs.declared.halt.Halt.{Halt}
 use Rattle.script_cli.specs.declared.halt.Halt.TheVariants.{NoMemory}
@@ -29,7 +30,7 @@ or_false false = refl
 
 -- ---- statements one after the other
 
-module _ (limit : ℕ) where
+module _ (limit : Given) where
   pub after-append : (now : Recorded) (xs ys : List Piece) → recorded_after limit now (xs ++ ys) ≡ recorded_after limit (recorded_after limit now xs) ys
   after-append now [] ys = refl
   after-append now (x ∷ xs) ys = after-append (piece_reply limit now x).behind xs ys
@@ -57,7 +58,7 @@ module _ (limit : ℕ) where
 
 -- ---- bytes one after the other
 
-module _ {D : Type 0} {g : Ghosts D} (limit : ℕ) (now : Recorded) where
+module _ {D : Type 0} {g : Ghosts D} (limit : Given) (now : Recorded) where
   -- none was taken
   pub took_none : (s : ScriptRun) (a : Archive D g) (bytes : List ℕ) (w : Option (List ℕ)) → IsLawful (below a) → StandsAt a limit now → Took limit now s s a a bytes bytes w w
   took_none s a bytes w law stands = record {
@@ -67,6 +68,7 @@ module _ {D : Type 0} {g : Ghosts D} (limit : ℕ) (now : Recorded) where
     stands = stands;
     refused = or_false s.refused;
     puts = put_nothing (below a) (place_of a) law;
+    counted = omega arith;
     wrote = Appends-nil w;
   }
 
@@ -74,14 +76,15 @@ module _ {D : Type 0} {g : Ghosts D} (limit : ℕ) (now : Recorded) where
   pub took_one : (s t : ScriptRun) (a b : Archive D g) (xs ys : List ℕ) (u v : Option (List ℕ)) (piece : Piece)
       → ((more : List ℕ) → pieces_behind s (xs ++ more) ≡ piece ∷ pieces_behind t (ys ++ more)) → ((more : List ℕ) → ending_behind s (xs ++ more) ≡ ending_behind t (ys ++ more))
       → StandsAt b limit (piece_reply limit now piece).behind → t.refused ≡ (s.refused || (piece_reply limit now piece).is_error) → PutBetween a b (piece_reply limit now piece).puts
-      → Appends u v (piece_reply limit now piece).text → Took limit now s t a b xs ys u v
-  took_one s t a b xs ys u v piece cut end stands faulty puts wrote = record {
+      → t.puts ≡ s.puts + length (piece_reply limit now piece).puts → Appends u v (piece_reply limit now piece).text → Took limit now s t a b xs ys u v
+  took_one s t a b xs ys u v piece cut end stands faulty puts counted wrote = record {
     pieces = piece ∷ [];
     cut = cut;
     end = end;
     stands = stands;
     refused = faulty ∙ ap (λ x. s.refused || x) (or_false (piece_reply limit now piece).is_error);
     puts = subst (PutBetween a b) (sym (append-nil (piece_reply limit now piece).puts)) puts;
+    counted = counted ∙ ap (λ l. s.puts + length l) (sym (append-nil (piece_reply limit now piece).puts));
     wrote = subst (Appends u v) (sym (append-nil (piece_reply limit now piece).text)) wrote;
   }
 
@@ -98,6 +101,7 @@ module _ {D : Type 0} {g : Ghosts D} (limit : ℕ) (now : Recorded) where
             ∙ ap (λ x. s.refused || x) (sym (error-append limit now k.pieces m.pieces));
         puts = subst (PutBetween a c) (sym (put-append limit now k.pieces m.pieces))
             (put_then (below a) (below b) (below c) (place_of a) (place_of b) (place_of c) (commands_put limit now k.pieces) (commands_put limit next m.pieces) k.puts m.puts);
+        counted = omega (arith, m.counted, k.counted, ap (λ l. length l) (put-append limit now k.pieces m.pieces), length-append (commands_put limit now k.pieces) (commands_put limit next m.pieces));
         wrote = subst (Appends u w) (sym (replies-append limit now k.pieces m.pieces)) (Appends-trans u v w (replies limit now k.pieces) (replies limit next m.pieces) k.wrote m.wrote);
       }
 
@@ -110,6 +114,7 @@ module _ {D : Type 0} {g : Ghosts D} (limit : ℕ) (now : Recorded) where
     stands = k.stands;
     refused = k.refused;
     puts = k.puts;
+    counted = k.counted;
     wrote = k.wrote;
   }
 
@@ -166,29 +171,30 @@ left_some o t A B e h = subst (λ x. MatchOption x A B) e h
 pub all_taken : (cut : Cut) (rest : List ℕ) (state : State) → cut ≡ More → IsSettled cut rest state → rest ≡ []
 all_taken cut rest state e h = let P : Cut → Type 0 = λ k. IsSettled k rest state in subst P e h
 
-module _ {D : Type 0} {g : Ghosts D} (limit : ℕ) (now : Recorded) (s t : ScriptRun) (z : State) (a b : Archive D g) (xs ys : List ℕ) (u v : Option (List ℕ)) (cut : Cut)
+module _ {D : Type 0} {g : Ghosts D} (limit : Given) (now : Recorded) (s t : ScriptRun) (z : State) (a b : Archive D g) (xs ys : List ℕ) (u v : Option (List ℕ)) (cut : Cut)
     (statements : (more : List ℕ) → pieces_behind s (xs ++ more) ≡ found cut ++ pieces_from z.mode z.kept (ys ++ more))
     (tail : (more : List ℕ) → ending_behind s (xs ++ more) ≡ ending (tail_from z.mode z.kept (ys ++ more)))
     (same : t.splitter ≡ z) where
   -- no statement ended
-  pub took_all : cut ≡ More → ys ≡ [] → IsLawful (below a) → StandsAt a limit now → t.refused ≡ s.refused → Took limit now s t a a xs [] u u
-  took_all e all law stands faulty = record {
+  pub took_all : cut ≡ More → ys ≡ [] → IsLawful (below a) → StandsAt a limit now → t.refused ≡ s.refused → t.puts ≡ s.puts → Took limit now s t a a xs [] u u
+  took_all e all law stands faulty counted = record {
     pieces = [];
     cut = λ more. statements more ∙ ap (λ k. found k ++ pieces_from z.mode z.kept (ys ++ more)) e ∙ ap (λ l. pieces_from z.mode z.kept (l ++ more)) all ∙ ap (λ z. pieces_from z.mode z.kept more) (sym same);
     end = λ more. tail more ∙ ap (λ l. ending (tail_from z.mode z.kept (l ++ more))) all ∙ ap (λ z. ending (tail_from z.mode z.kept more)) (sym same);
     stands = stands;
     refused = faulty ∙ or_false s.refused;
     puts = put_nothing (below a) (place_of a) law;
+    counted = omega (arith, counted);
     wrote = Appends-nil u;
   }
 
   -- a statement ended, and was answered
   pub took_answer : (piece : Piece) → found cut ≡ piece ∷ [] → StandsAt b limit (piece_reply limit now piece).behind → t.refused ≡ (s.refused || (piece_reply limit now piece).is_error)
-      → PutBetween a b (piece_reply limit now piece).puts → Appends u v (piece_reply limit now piece).text → Took limit now s t a b xs ys u v
-  took_answer piece e stands faulty puts wrote = took_one limit now s t a b xs ys u v piece
+      → PutBetween a b (piece_reply limit now piece).puts → t.puts ≡ s.puts + length (piece_reply limit now piece).puts → Appends u v (piece_reply limit now piece).text → Took limit now s t a b xs ys u v
+  took_answer piece e stands faulty puts counted wrote = took_one limit now s t a b xs ys u v piece
       (λ more. statements more ∙ ap (λ l. l ++ pieces_from z.mode z.kept (ys ++ more)) e ∙ ap (λ z. piece ∷ pieces_from z.mode z.kept (ys ++ more)) (sym same))
       (λ more. tail more ∙ ap (λ z. ending (tail_from z.mode z.kept (ys ++ more))) (sym same))
-      stands faulty puts wrote
+      stands faulty puts counted wrote
 
   -- or the run stopped in its reply
   pub halted_answer : (halt : Halt) (piece : Piece) → found cut ≡ piece ∷ [] → IsLawful (below a) → StopsIn halt (piece_reply limit now piece) a b u v

@@ -13,10 +13,11 @@ use Rattle.smo_types.specs.Commands.{PlainCommand}
 use Rattle.archive_file.specs.Opening.{Opens, Damages}
 use Rattle.archive_file.proofs.Files.{opens_once, damaged_once, never_both}
 use Rattle.script_parse.specs.Script.{Piece, pieces_from, tail_of}
+use Rattle.script_cli.specs.Given.{Given}
 use Rattle.script_cli.specs.Output.{Recorded, recorded, piece_reply, replies, replies_of, commands_put, script_puts, recorded_after, pieces_of, ending_of, output, tail_text}
 use Rattle.script_cli.specs.Shows.{next_reply}
 use Rattle.script_cli.specs.Files.{OpensPrefix, LeavesPrefix}
-use Rattle.script_cli.specs.Runs.{Ran, Wrote, WroteTail, OnDisk, RanOpened, IsOpening, NotOpened, ToldUnopened, IsUntouched, RunsOver, RefusesFile, WhereTold, begun, is_whole, counted_limit}
+use Rattle.script_cli.specs.Runs.{Ran, Wrote, WroteTail, OnDisk, RanOpened, IsOpening, NotOpened, ToldUnopened, IsUntouched, RunsOver, RefusesFile, WhereTold, begun, is_whole}
 use Rattle.script_cli.specs.Limits.{longest_script}
 use Rattle.script_cli.specs.declared.status.Status.{Status}
 use Rattle.script_cli.specs.declared.status.Status.TheVariants.{Done, Refused, Words, ReadFault, WriteFault, DiskFault, NotAJournal, NoMemory, InputLimit}
@@ -31,7 +32,7 @@ nothing_said u text = ([], text, refl, Appends-nil u)
 kept_front : (u v : Option (List ℕ)) (text : List ℕ) → v ≡ u → AppendsFront u v text
 kept_front u v text same = subst (λ x. AppendsFront u x text) (sym same) (nothing_said u text)
 
-module _ (limit : ℕ) (start : Recorded) where
+module _ (limit : Given) (start : Recorded) where
   -- the next reply is a front of the others
   next_front : (now : Recorded) (rest : List Piece) (u v : Option (List ℕ)) → AppendsFront u v (next_reply limit now rest).text → AppendsFront u v (replies limit now rest)
   next_front now [] u v p = p
@@ -52,7 +53,7 @@ module _ (limit : ℕ) (start : Recorded) where
   front_told (Some script) (Some ys) u w taken k p = subst (λ s. AppendsFront u w (output limit start s)) (sym k) (front_more u w taken ys p)
 
   -- the whole script was taken
-  told_end : (P : List ℕ → Type 0) (a c : Option (List ℕ)) (taken : List ℕ) → Consumes a c taken → IsAtEnd c → P taken → WhereTold a P
+  pub told_end : (P : List ℕ → Type 0) (a c : Option (List ℕ)) (taken : List ℕ) → Consumes a c taken → IsAtEnd c → P taken → WhereTold a P
   told_end P None c taken k e p = tt
   told_end P (Some script) None taken k e p = absurd k
   told_end P (Some script) (Some ys) taken k e p = subst P (sym (k ∙ ap (λ l. taken ++ l) e ∙ append-nil taken)) p
@@ -123,12 +124,12 @@ begun_is (NotAJournal place) rest = (rest, refl)
 begun_is NoMemory rest = (rest, refl)
 begun_is InputLimit rest = (rest, refl)
 
-module _ (limit : ℕ) (start : Recorded) where
+module _ (limit : Given) (start : Recorded) where
   puts_begin : (xs ys : List ℕ) → script_puts limit start (xs ++ ys) ≡ script_puts limit start xs ++ commands_put limit (recorded_after limit start (pieces_of xs)) (pieces_from (mode_after_script xs) (tail_of xs) ys)
   puts_begin xs ys = ap (commands_put limit start) (pieces-append xs ys) ∙ put-append limit start (pieces_of xs) (pieces_from (mode_after_script xs) (tail_of xs) ys)
 
   -- those that were attempted are the first of those that the script puts
-  attempted_front : (status : Status) (taken ys : List ℕ) (whole rest : List Piece) → pieces_of taken ≡ whole ++ rest
+  pub attempted_front : (status : Status) (taken ys : List ℕ) (whole rest : List Piece) → pieces_of taken ≡ whole ++ rest
       → (more : List PlainCommand) × (script_puts limit start (taken ++ ys) ≡ commands_put limit start (whole ++ begun status rest) ++ more)
   attempted_front status taken ys whole rest are =
       let b = begun_is status rest in
@@ -140,7 +141,7 @@ module _ (limit : ℕ) (start : Recorded) where
         puts_begin taken ys ∙ ap (λ l. l ++ later) (ap (commands_put limit start) first ∙ put-append limit start (whole ++ begun status rest) b.0) ∙ append_assoc tried others later,
       )
 
-prefix_told : (limit : ℕ) (opening : List PlainCommand) (status : Status) (a c : Option (List ℕ)) (taken : List ℕ) (whole rest : List Piece) (old new : Meaning) → Consumes a c taken → pieces_of taken ≡ whole ++ rest
+prefix_told : (limit : Given) (opening : List PlainCommand) (status : Status) (a c : Option (List ℕ)) (taken : List ℕ) (whole rest : List Piece) (old new : Meaning) → Consumes a c taken → pieces_of taken ≡ whole ++ rest
     → Turns old new (OpensPrefix opening (commands_put limit (recorded opening) (whole ++ begun status rest)))
     → WhereTold a (λ script. LeavesPrefix old new opening (script_puts limit (recorded opening) script))
 prefix_told limit opening status None c taken whole rest old new k are turns = tt
@@ -159,7 +160,7 @@ told_always (Some script) P f = f script
 -- ---- a file that was not opened
 
 -- no file that opens is told as damaged, and nothing was written for another fault
-unopened_kept : (status : Status) (u w : Option (List ℕ)) (f h : ℕ) (seen then : Option (List ℕ)) (file : List ℕ) (opening : List PlainCommand) → seen ≡ Some file → Opens file opening
+pub unopened_kept : (status : Status) (u w : Option (List ℕ)) (f h : ℕ) (seen then : Option (List ℕ)) (file : List ℕ) (opening : List PlainCommand) → seen ≡ Some file → Opens file opening
     → ToldUnopened status u w f h seen then → w ≡ u
 unopened_kept Done u w f h seen then file opening is opens t = absurd t
 unopened_kept Refused u w f h seen then file opening is opens t = absurd t
@@ -172,7 +173,7 @@ unopened_kept (NotAJournal place) u w f h seen then file opening is opens t =
 unopened_kept NoMemory u w f h seen then file opening is opens t = t
 unopened_kept InputLimit u w f h seen then file opening is opens t = absurd t
 
-unopened_not_whole : (status : Status) (u w : Option (List ℕ)) (f h : ℕ) (seen then : Option (List ℕ)) → ToldUnopened status u w f h seen then → is_whole status ≡ true → ⊥
+pub unopened_not_whole : (status : Status) (u w : Option (List ℕ)) (f h : ℕ) (seen then : Option (List ℕ)) → ToldUnopened status u w f h seen then → is_whole status ≡ true → ⊥
 unopened_not_whole Done u w f h seen then t e = t
 unopened_not_whole Refused u w f h seen then t e = t
 unopened_not_whole Words u w f h seen then t e = t
@@ -184,7 +185,7 @@ unopened_not_whole NoMemory u w f h seen then t e = cc
 unopened_not_whole InputLimit u w f h seen then t e = t
 
 -- where it is damaged, its place is told, unless the disk failed or memory ran out
-unopened_damaged : (status : Status) (u w : Option (List ℕ)) (f h : ℕ) (seen then : Option (List ℕ)) (file : List ℕ) (place : ℕ) → seen ≡ Some file → Damages file place
+pub unopened_damaged : (status : Status) (u w : Option (List ℕ)) (f h : ℕ) (seen then : Option (List ℕ)) (file : List ℕ) (place : ℕ) → seen ≡ Some file → Damages file place
     → ToldUnopened status u w f h seen then → (status ≡ NotAJournal place) ⊎ ((status ≡ DiskFault) ⊎ (status ≡ NoMemory))
 unopened_damaged Done u w f h seen then file place is damages t = absurd t
 unopened_damaged Refused u w f h seen then file place is damages t = absurd t
@@ -197,52 +198,52 @@ unopened_damaged (NotAJournal p) u w f h seen then file place is damages t =
 unopened_damaged NoMemory u w f h seen then file place is damages t = inr (inr refl)
 unopened_damaged InputLimit u w f h seen then file place is damages t = absurd t
 
-unopened_told : (status : Status) (u w : Option (List ℕ)) (f h : ℕ) (seen then : Option (List ℕ)) (place : ℕ) → status ≡ NotAJournal place → ToldUnopened status u w f h seen then
+pub unopened_told : (status : Status) (u w : Option (List ℕ)) (f h : ℕ) (seen then : Option (List ℕ)) (place : ℕ) → status ≡ NotAJournal place → ToldUnopened status u w f h seen then
     → Tells seen (λ file. Damages file place)
 unopened_told status u w f h seen then place is t =
     let here = subst (λ s. ToldUnopened s u w f h seen then) is t in here.1
 
 -- a file that opens is not damaged
-opens_not_damaged : (seen : Option (List ℕ)) (start : Recorded) (file : List ℕ) (place : ℕ) → seen ≡ Some file → IsOpening start seen → Damages file place → ⊥
+pub opens_not_damaged : (seen : Option (List ℕ)) (start : Recorded) (file : List ℕ) (place : ℕ) → seen ≡ Some file → IsOpening start seen → Damages file place → ⊥
 opens_not_damaged seen start file place is opened damages =
     let here : IsOpening start (Some file) = subst (IsOpening start) is opened in never_both file here.0 place here.1 damages
 
 -- of a run that stands as told, no damage is told
-ran_not_damaged : (limit : ℕ) (start : Recorded) (status : Status) (place : ℕ) (a c u w : Option (List ℕ)) → status ≡ NotAJournal place → Ran limit start status a c u w → ⊥
+ran_not_damaged : (limit : Given) (start : Recorded) (status : Status) (place : ℕ) (a c u w : Option (List ℕ)) → status ≡ NotAJournal place → Ran limit start status a c u w → ⊥
 ran_not_damaged limit start status place a c u w is ran =
     let here = subst (λ s. Ran limit start s a c u w) is ran in here.wrote
 
 -- ---- a run over a disk
 
-module _ (limit : ℕ) (status : Status) (a c u w : Option (List ℕ)) (f h : ℕ) (old new : Meaning) where
+module _ (limit : Given) (status : Status) (a c u w : Option (List ℕ)) (f h : ℕ) (old new : Meaning) where
   module _ (file : List ℕ) (opening : List PlainCommand) (is : old.seen ≡ Some file) (opens : Opens file opening) where
-    start_here : (r : RanOpened (counted_limit limit) status a c u w old new) → r.start ≡ recorded opening
+    start_here : (r : RanOpened limit status a c u w old new) → r.start ≡ recorded opening
     start_here r = start_is old.seen r.start file opening is r.opened opens
 
-    pub front_over : RunsOver limit status a c u w f h old new → WhereTold a (λ script. AppendsFront u w (output (counted_limit limit) (recorded opening) script))
-    front_over (inl n) = told_always a (λ script. AppendsFront u w (output (counted_limit limit) (recorded opening) script))
-        (λ script. kept_front u w (output (counted_limit limit) (recorded opening) script) (unopened_kept status u w f h old.seen new.seen file opening is opens n.told))
-    front_over (inr r) = subst (λ s. WhereTold a (λ script. AppendsFront u w (output (counted_limit limit) s script))) (start_here r)
-        (ran_front (counted_limit limit) r.start status a c u w r.ran)
+    pub front_over : RunsOver limit status a c u w f h old new → WhereTold a (λ script. AppendsFront u w (output limit (recorded opening) script))
+    front_over (inl n) = told_always a (λ script. AppendsFront u w (output limit (recorded opening) script))
+        (λ script. kept_front u w (output limit (recorded opening) script) (unopened_kept status u w f h old.seen new.seen file opening is opens n.told))
+    front_over (inr r) = subst (λ s. WhereTold a (λ script. AppendsFront u w (output limit s script))) (start_here r)
+        (ran_front limit r.start status a c u w r.ran)
 
-    pub whole_over : is_whole status ≡ true → RunsOver limit status a c u w f h old new → WhereTold a (λ script. Appends u w (output (counted_limit limit) (recorded opening) script))
+    pub whole_over : is_whole status ≡ true → RunsOver limit status a c u w f h old new → WhereTold a (λ script. Appends u w (output limit (recorded opening) script))
     whole_over e (inl n) = absurd (unopened_not_whole status u w f h old.seen new.seen n.told e)
-    whole_over e (inr r) = subst (λ s. WhereTold a (λ script. Appends u w (output (counted_limit limit) s script))) (start_here r)
-        (ran_whole (counted_limit limit) r.start status a c u w r.ran e)
+    whole_over e (inr r) = subst (λ s. WhereTold a (λ script. Appends u w (output limit s script))) (start_here r)
+        (ran_whole limit r.start status a c u w r.ran e)
 
     pub crash_over : IsTrue old.is_honest → RunsOver limit status a c u w f h old new
-        → WhereTold a (λ script. LeavesPrefix old new opening (script_puts (counted_limit limit) (recorded opening) script))
-    crash_over honest (inl n) = told_always a (λ script. LeavesPrefix old new opening (script_puts (counted_limit limit) (recorded opening) script))
+        → WhereTold a (λ script. LeavesPrefix old new opening (script_puts limit (recorded opening) script))
+    crash_over honest (inl n) = told_always a (λ script. LeavesPrefix old new opening (script_puts limit (recorded opening) script))
         (λ script. ⊎_elim (λ early. inl (early.1 honest))
-        (λ late. let put = script_puts (counted_limit limit) (recorded opening) script in
+        (λ late. let put = script_puts limit (recorded opening) script in
         inr (turns_weaker old new (SameOrNine file) (OpensPrefix opening put) (late file honest is)
         (λ x same. opens_none_yet file opening put opens x same))) n.disk)
     crash_over honest (inr r) =
-        prefix_told (counted_limit limit) opening status a c r.ran.taken r.ran.whole r.ran.rest old new r.ran.consumed r.ran.are (r.disk.any_moment file opening honest is opens)
+        prefix_told limit opening status a c r.ran.taken r.ran.whole r.ran.rest old new r.ran.consumed r.ran.are (r.disk.any_moment file opening honest is opens)
 
   pub damaged_over : (place : ℕ) → status ≡ NotAJournal place → RunsOver limit status a c u w f h old new → Tells old.seen (λ file. Damages file place)
   damaged_over place is (inl n) = unopened_told status u w f h old.seen new.seen place is n.told
-  damaged_over place is (inr r) = absurd (ran_not_damaged (counted_limit limit) r.start status place a c u w is r.ran)
+  damaged_over place is (inr r) = absurd (ran_not_damaged limit r.start status place a c u w is r.ran)
 
   pub refuses_over : (file : List ℕ) (place : ℕ) → old.seen ≡ Some file → Damages file place → RunsOver limit status a c u w f h old new → RefusesFile place status a c
   refuses_over file place is damages (inl n) = record { kept = n.kept; status_is = unopened_damaged status u w f h old.seen new.seen file place is damages n.told }
@@ -251,11 +252,11 @@ module _ (limit : ℕ) (status : Status) (a c u w : Option (List ℕ)) (f h : �
 -- ---- a run that called no disk
 
 module _ {D : Type 0} (M : D → Meaning) (status : Status) (a c u w : Option (List ℕ)) (disk back : D) (none : IsUntouched status a c u w disk back) where
-  pub crash_untouched : IsLawful (M disk) → (limit : ℕ) (opening : List PlainCommand) → WhereTold a (λ script. LeavesPrefix (M disk) (M back) opening (script_puts limit (recorded opening) script))
+  pub crash_untouched : IsLawful (M disk) → (limit : Given) (opening : List PlainCommand) → WhereTold a (λ script. LeavesPrefix (M disk) (M back) opening (script_puts limit (recorded opening) script))
   crash_untouched law limit opening = told_always a (λ script. LeavesPrefix (M disk) (M back) opening (script_puts limit (recorded opening) script))
       (λ script. inl (subst (λ d. Leaves (M disk) (M d) (M disk).may_leave) (sym none.disk) (λ x left. law.only_now x left)))
 
-  pub front_untouched : (limit : ℕ) (start : Recorded) → WhereTold a (λ script. AppendsFront u w (output limit start script))
+  pub front_untouched : (limit : Given) (start : Recorded) → WhereTold a (λ script. AppendsFront u w (output limit start script))
   front_untouched limit start = told_always a (λ script. AppendsFront u w (output limit start script)) (λ script. kept_front u w (output limit start script) none.wrote)
 
   pub not_whole_untouched : is_whole status ≡ true → ⊥

@@ -30,8 +30,9 @@ moment_before n s ts h = let m = natural_most 18446744073709551614 h.0 n h.1 in 
 statement_written : (s : PlainStatement) (size : Size) (ts : List Lexeme) → IsStatement s size ts → IsWritten s
 statement_written s size ts (inl h) = let body = h.2.8 in subst IsWritten (sym body.1) (moment_before h.2.0 h.2.1 h.2.3 h.2.7)
 statement_written s size ts (inr (inl h)) = subst IsWritten (sym h.2.1) tt
-statement_written s size ts (inr (inr (inl h))) = subst IsWritten (sym h.2.2.0) tt
-statement_written s size ts (inr (inr (inr h))) = subst IsWritten (sym h.2.2.1) tt
+statement_written s size ts (inr (inr (inl h))) = subst IsWritten (sym h.2.2.1) tt
+statement_written s size ts (inr (inr (inr (inl h)))) = subst IsWritten (sym h.2.2.0) tt
+statement_written s size ts (inr (inr (inr (inr h)))) = subst IsWritten (sym h.2.2.1) tt
 
 reading_written : (text : List ℕ) (r : Reading) → IsReading text r → HasWritten r
 reading_written text Blank h = tt

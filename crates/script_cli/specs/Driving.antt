@@ -18,10 +18,11 @@ use Rattle.archive_core.specs.declared.faults.MountFault.TheVariants as mounting
 use Rattle.archive_core.specs.Fields.{standing_of, below, place_of, limit_of}
 use Rattle.archive_core.specs.Holding.{HoldsAt}
 use Rattle.archive_core.specs.Mounting.{IsMounted}
-use Rattle.script_cli.specs.Output.{Recorded, commands_put, tail_text, tail_is_due}
+use Rattle.script_cli.specs.Given.{Given}
+use Rattle.script_cli.specs.Output.{Recorded, commands_put, script_puts, tail_text, tail_is_due}
 use Rattle.script_cli.specs.Putting.{HasPut, PutsSome}
 use Rattle.answer_text.specs.Texts.{not_a_journal_text}
-use Rattle.script_cli.specs.Runs.{Ran, PutsLine, begun, counted_limit}
+use Rattle.script_cli.specs.Runs.{Ran, PutsLine, WhereTold, begun, counted_limit}
 use Rattle.script_cli.specs.Shows.{TakesRecords, ending_behind}
 use Rattle.script_cli.specs.declared.script_run.ScriptRun.{ScriptRun}
 use Rattle.script_cli.specs.declared.halt.Halt.{Halt}
@@ -52,9 +53,19 @@ PutBy DiskFault old new at done put = PutsSome old new at done put
 PutBy other old new at done put = (next : ℕ) × HasPut old new at next put
 
 -- a script was read over an opened archive
-pub record Drove (limit : ℕ) (start : Recorded) (status : Status) (left_old left_new written_old written_new : Option (List ℕ)) (old new : Meaning) (at : ℕ) : Type 0 where
+pub record Drove (limit : Given) (start : Recorded) (status : Status) (left_old left_new written_old written_new : Option (List ℕ)) (old new : Meaning) (at : ℕ) : Type 0 where
   pub ran : Ran limit start status left_old left_new written_old written_new
   pub puts : PutBy status old new at (commands_put limit start ran.whole) (commands_put limit start (ran.whole ++ begun status ran.rest))
+
+-- so many commands were put by the script, where it was read to its end
+abbrev pub CountsPuts : Status → Given → Recorded → Option (List ℕ) → ℕ → Type 0
+CountsPuts Done limit start left puts = WhereTold left (λ script. puts ≡ length (script_puts limit start script))
+CountsPuts Refused limit start left puts = WhereTold left (λ script. puts ≡ length (script_puts limit start script))
+CountsPuts other limit start left puts = Unit {0}
+
+-- so many commands the file has, where the disk tells it
+abbrev pub CountsOpening : Option (List ℕ) → ℕ → Type 0
+CountsOpening seen count = (file : List ℕ) (opening : List PlainCommand) → seen ≡ Some file → Opens file opening → count ≡ length opening
 
 -- how a run ends whose file was not opened
 abbrev pub status_of_fault : MountFault → Status

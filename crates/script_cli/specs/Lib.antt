@@ -1,5 +1,6 @@
 pub mod Codes
 pub mod Limits
+pub mod Given
 pub mod Output
 pub mod Puts
 pub mod Halts
@@ -8,4 +9,6 @@ pub mod Shows
 pub mod Files
 pub mod Runs
 pub mod Driving
+pub mod Kept
+pub mod Sampling
 pub mod Written

@@ -12,17 +12,19 @@ use Rattle.smo_meaning.specs.Checks.{Fault}
 use Rattle.smo_meaning.specs.Effects.{gained, lost}
 use Rattle.smo_meaning.specs.History.{past_of}
 use Rattle.smo_meaning.specs.Past.{Past, newest_database, database_behind, past_with, tables_of}
+use Rattle.piece_meaning.specs.Rules.{Book}
 use Rattle.archive_file.specs.Opening.{record_of, gate_behind}
 use Rattle.archive_core.specs.Committing.{commit_fault}
 use Rattle.temporal_lang.specs.Queries.{PlainQuery}
 use Rattle.temporal_lang.specs.Accepted.{version_fault, fault_of_query}
 use Rattle.temporal_lang.specs.Answers.{answer}
-use Rattle.script_parse.specs.Statements.{PlainStatement, write, ask, show_versions, show_schema}
+use Rattle.script_parse.specs.Statements.{PlainStatement, write, ask, explain, show_versions, show_schema}
 use Rattle.script_parse.specs.Reading.{Reading, Blank, Refused, Whole, reading}
 use Rattle.archive_state.specs.declared.archives.Done.{Done}
-use Rattle.archive_state.specs.Asking.{tells_periods}
+use Rattle.archive_state.specs.Asking.{tells_periods, pieces_told}
 use Rattle.answer_text.specs.RefusalTexts.{refusal_text}
-use Rattle.answer_text.specs.Texts.{made_text, changed_text, evolved_text, listing_text, versions_text, schema_text}
+use Rattle.answer_text.specs.Texts.{made_text, changed_text, evolved_text, listing_text, explain_text, versions_text, schema_text}
+use Rattle.script_cli.specs.Given.{Given}
 
 -- what stands behind statements: the past, and the place of the gate behind the journal's records
 pub record Recorded : Type 0 where
@@ -77,11 +79,15 @@ put command now = record {
 }
 
 -- it is accepted where its past does not refuse it, and its record ends within the limit
-abbrev pub command_reply : ℕ → PlainCommand → Recorded → Reply
-command_reply limit command now = refused_or (commit_fault now.past now.at limit command) now (put command now)
+abbrev pub command_reply : Given → PlainCommand → Recorded → Reply
+command_reply limit command now = refused_or (commit_fault now.past now.at limit.limit command) now (put command now)
 
 abbrev pub query_reply : PlainQuery → Recorded → Reply
 query_reply query now = refused_or (fault_of_query now.past query) now (answered (listing_text (tells_periods query.when) (answer now.past query)) now)
+
+-- the pieces that the query reads are told, and nothing is read
+abbrev pub explain_reply : Book → PlainQuery → Recorded → Reply
+explain_reply book query now = refused_or (fault_of_query now.past query) now (answered (explain_text (pieces_told book now.past query)) now)
 
 abbrev pub versions_reply : Recorded → Reply
 versions_reply now = answered (versions_text now.past.versions) now
@@ -89,23 +95,24 @@ versions_reply now = answered (versions_text now.past.versions) now
 abbrev pub schema_reply : ℕ → Recorded → Reply
 schema_reply version now = refused_or (version_fault now.past version) now (answered (schema_text (tables_of now.past version)) now)
 
-abbrev pub statement_reply : ℕ → PlainStatement → Recorded → Reply
+abbrev pub statement_reply : Given → PlainStatement → Recorded → Reply
 statement_reply limit (write command) now = command_reply limit command now
 statement_reply limit (ask query) now = query_reply query now
+statement_reply limit (explain query) now = explain_reply limit.book query now
 statement_reply limit show_versions now = versions_reply now
 statement_reply limit (show_schema version) now = schema_reply version now
 
-abbrev pub reading_reply : ℕ → Reading → Recorded → Reply
+abbrev pub reading_reply : Given → Reading → Recorded → Reply
 reading_reply limit Blank now = answered [] now
 reading_reply limit (Refused r) now = refused r now
 reading_reply limit (Whole statement) now = statement_reply limit statement now
 
--- the reply to a statement of these bytes, where the journal may have so many bytes
-unfoldable pub reply : ℕ → Recorded → List ℕ → Reply
+-- the reply to a statement of these bytes, for what the run is given
+unfoldable pub reply : Given → Recorded → List ℕ → Reply
 reply limit now text = reading_reply limit (reading text) now
 
 -- the reply to what a script has in front of a `;`
-abbrev pub piece_reply : ℕ → Recorded → Piece → Reply
+abbrev pub piece_reply : Given → Recorded → Piece → Reply
 piece_reply limit now (Text text) = reply limit now text
 piece_reply limit now Skipped = refused refusal.TooLong now
 
@@ -122,19 +129,19 @@ tail_is_due tail.TooLong = true
 
 -- the statements one after the other: their replies, the commands that are put, what stands behind them, and whether an `error` line
 -- is among the replies
-abbrev pub replies : ℕ → Recorded → List Piece → List ℕ
+abbrev pub replies : Given → Recorded → List Piece → List ℕ
 replies limit now [] = []
 replies limit now (p ∷ pieces) = (piece_reply limit now p).text ++ replies limit (piece_reply limit now p).behind pieces
 
-abbrev pub commands_put : ℕ → Recorded → List Piece → List PlainCommand
+abbrev pub commands_put : Given → Recorded → List Piece → List PlainCommand
 commands_put limit now [] = []
 commands_put limit now (p ∷ pieces) = (piece_reply limit now p).puts ++ commands_put limit (piece_reply limit now p).behind pieces
 
-abbrev pub recorded_after : ℕ → Recorded → List Piece → Recorded
+abbrev pub recorded_after : Given → Recorded → List Piece → Recorded
 recorded_after limit now [] = now
 recorded_after limit now (p ∷ pieces) = recorded_after limit (piece_reply limit now p).behind pieces
 
-abbrev pub any_error : ℕ → Recorded → List Piece → Bool
+abbrev pub any_error : Given → Recorded → List Piece → Bool
 any_error limit now [] = false
 any_error limit now (p ∷ pieces) = (piece_reply limit now p).is_error || any_error limit (piece_reply limit now p).behind pieces
 
@@ -149,15 +156,15 @@ pieces_of script = pieces_from Plain [] script
 abbrev pub ending_of : List ℕ → Tail
 ending_of script = ending (tail_of script)
 
-abbrev pub replies_of : ℕ → Recorded → List ℕ → List ℕ
+abbrev pub replies_of : Given → Recorded → List ℕ → List ℕ
 replies_of limit now script = replies limit now (pieces_of script)
 
-abbrev pub output : ℕ → Recorded → List ℕ → List ℕ
+abbrev pub output : Given → Recorded → List ℕ → List ℕ
 output limit now script = replies_of limit now script ++ tail_text (ending_of script)
 
-abbrev pub has_error : ℕ → Recorded → List ℕ → Bool
+abbrev pub has_error : Given → Recorded → List ℕ → Bool
 has_error limit now script = any_error limit now (pieces_of script) || tail_is_due (ending_of script)
 
 -- the commands that a script's statements put
-abbrev pub script_puts : ℕ → Recorded → List ℕ → List PlainCommand
+abbrev pub script_puts : Given → Recorded → List ℕ → List PlainCommand
 script_puts limit now script = commands_put limit now (pieces_of script)

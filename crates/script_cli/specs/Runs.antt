@@ -11,6 +11,8 @@ use Rattle.journal.specs.Records.{Holds}
 use Rattle.archive_file.specs.Opening.{Opens, Damages, records_of}
 use Rattle.script_parse.specs.Script.{Piece}
 use Rattle.answer_text.specs.Texts.{wrong_words_text, not_a_journal_text}
+use Rattle.piece_meaning.specs.Rules.{Book}
+use Rattle.script_cli.specs.Given.{Given}
 use Rattle.script_cli.specs.Output.{Recorded, recorded, replies, commands_put, recorded_after, pieces_of, ending_of, has_error, tail_text, tail_is_due}
 use Rattle.script_cli.specs.Limits.{longest_script}
 use Rattle.script_cli.specs.Shows.{next_reply, ending_behind}
@@ -27,6 +29,10 @@ WhereTold (Some bytes) P = P bytes
 -- a journal of at most 2 ^ 64 - 1 bytes counts as one of one byte less
 abbrev pub counted_limit : ℕ → ℕ
 counted_limit limit = min limit (2 ^ 64 - 2)
+
+-- what a run is given that is asked for this limit
+abbrev pub given_by : ℕ → Book → Given
+given_by limit book = record { limit = counted_limit limit; book = book }
 
 -- the script was read to its end
 abbrev pub is_whole : Status → Bool
@@ -51,7 +57,7 @@ pub record WroteTail (taken : List ℕ) (rest : List Piece) (left written_old wr
 
 -- What was written behind the replies to the statements that were answered whole, by the status; `now` is what stood behind the
 -- statements, and `rest` are those of the bytes taken that were not answered whole.
-abbrev pub Wrote : Status → ℕ → Recorded → List ℕ → List Piece → List Piece → Option (List ℕ) → Option (List ℕ) → Option (List ℕ) → Type 0
+abbrev pub Wrote : Status → Given → Recorded → List ℕ → List Piece → List Piece → Option (List ℕ) → Option (List ℕ) → Option (List ℕ) → Type 0
 Wrote Done limit start taken whole rest left old new = WroteAll taken rest left old new × (has_error limit start taken ≡ false)
 Wrote Refused limit start taken whole rest left old new = WroteAll taken rest left old new × (has_error limit start taken ≡ true)
 Wrote ReadFault limit start taken whole rest left old new = (length taken ≤ longest_script) × (rest ≡ []) × (new ≡ old)
@@ -72,7 +78,7 @@ begun DiskFault rest = take 1 rest
 begun other rest = []
 
 -- These bytes of the script were taken. Of their statements these were answered whole, and then what the status tells was written.
-pub record Ran (limit : ℕ) (start : Recorded) (status : Status) (left_old left_new written_old written_new : Option (List ℕ)) : Type 0 where
+pub record Ran (limit : Given) (start : Recorded) (status : Status) (left_old left_new written_old written_new : Option (List ℕ)) : Type 0 where
   pub taken : List ℕ
   pub consumed : Consumes left_old left_new taken
   pub whole : List Piece
@@ -87,7 +93,7 @@ pub record Ran (limit : ℕ) (start : Recorded) (status : Status) (left_old left
 -- Where the file opens as some commands at the start: from the first sync on a crash leaves them and a prefix of those that the
 -- statements put which were answered whole, and the next one; at the exit it leaves what the status tells; and so does a read give,
 -- unless the disk failed: the header, their records behind one another, and a gate that is not open.
-pub record OnDisk (limit : ℕ) (status : Status) (whole rest : List Piece) (old new : Meaning) : Type 0 where
+pub record OnDisk (limit : Given) (status : Status) (whole rest : List Piece) (old new : Meaning) : Type 0 where
   pub any_moment : (file : List ℕ) (opening : List PlainCommand) → IsTrue old.is_honest → old.seen ≡ Some file → Opens file opening
       → Turns old new (OpensPrefix opening (commands_put limit (recorded opening) (whole ++ begun status rest)))
   pub exit : (file : List ℕ) (opening : List PlainCommand) → IsTrue old.is_honest → old.seen ≡ Some file → Opens file opening → (c : List ℕ) → new.may_leave c
@@ -102,7 +108,7 @@ abbrev pub IsOpening : Recorded → Option (List ℕ) → Type 0
 IsOpening start seen = Tells seen (λ file. (opening : List PlainCommand) × Opens file opening × (start ≡ recorded opening))
 
 -- the file opened, and the script was run behind its commands
-pub record RanOpened (limit : ℕ) (status : Status) (left_old left_new written_old written_new : Option (List ℕ)) (old new : Meaning) : Type 0 where
+pub record RanOpened (limit : Given) (status : Status) (left_old left_new written_old written_new : Option (List ℕ)) (old new : Meaning) : Type 0 where
   pub start : Recorded
   pub opened : IsOpening start old.seen
   pub ran : Ran limit start status left_old left_new written_old written_new
@@ -131,10 +137,10 @@ pub record NotOpened (status : Status) (left_old left_new written_old written_ne
   pub disk : ((status ≡ DiskFault) × IsNotSynced old new) ⊎ KeepsFile old new
 
 -- the disk was called: the file was not opened, or it was and the script was run
-abbrev pub RunsOver : ℕ → Status → Option (List ℕ) → Option (List ℕ) → Option (List ℕ) → Option (List ℕ) → ℕ → ℕ → Meaning → Meaning → Type 0
-RunsOver limit status left_old left_new written_old written_new faults_old faults_new old new =
+abbrev pub RunsOver : Given → Status → Option (List ℕ) → Option (List ℕ) → Option (List ℕ) → Option (List ℕ) → ℕ → ℕ → Meaning → Meaning → Type 0
+RunsOver given status left_old left_new written_old written_new faults_old faults_new old new =
     NotOpened status left_old left_new written_old written_new faults_old faults_new old new
-    ⊎ RanOpened (counted_limit limit) status left_old left_new written_old written_new old new
+    ⊎ RanOpened given status left_old left_new written_old written_new old new
 
 module _ {D : Type 0} where
   -- memory ran out before the disk was called

@@ -1,5 +1,5 @@
 -- When the run of a script stands for a past, and what it makes of the bytes that it takes.
-use Rattle.std.specs.Prelude.{◌≡◌, ℕ, false, List, [], ◌∷◌, ◌++◌, ◌||◌, Option, Result, Ok, Err, MatchResult}
+use Rattle.std.specs.Prelude.{◌≡◌, ℕ, ◌+◌, false, List, [], ◌∷◌, ◌++◌, length, ◌||◌, Option, Result, Ok, Err, MatchResult}
 use Rattle.std.specs.Io.KnownBytes.{Appends}
 use Rattle.prima_io.specs.Moves.{AppendsFront}
 use Rattle.disk_model.specs.declared.disk.Disk.{Ghosts}
@@ -15,6 +15,7 @@ use Rattle.script_cli.specs.declared.put.Put.{Put}
 use Rattle.script_cli.specs.declared.halt.Halt.{Halt}
 use Rattle.script_cli.specs.declared.halt.Halt.TheVariants.{WriteFault, DiskFault, NoMemory}
 use Rattle.script_cli.specs.Puts.{is_error}
+use Rattle.script_cli.specs.Given.{Given}
 use Rattle.script_cli.specs.Output.{Recorded, Reply, answered, piece_reply, replies, commands_put, recorded_after, any_error}
 use Rattle.script_cli.specs.Putting.{HasPut, MayHavePut}
 
@@ -34,7 +35,7 @@ abbrev pub ending_behind : ScriptRun → List ℕ → Tail
 ending_behind script_run bytes = ending (tail_from script_run.splitter.mode script_run.splitter.kept bytes)
 
 -- the reply that is due next: that to the first of these statements, or nothing where there is none
-abbrev pub next_reply : ℕ → Recorded → List Piece → Reply
+abbrev pub next_reply : Given → Recorded → List Piece → Reply
 next_reply limit now [] = answered [] now
 next_reply limit now (p ∷ pieces) = piece_reply limit now p
 
@@ -43,11 +44,11 @@ module _ {D : Type 0} {g : Ghosts D} where
   abbrev pub TakesRecords : Archive D g → Type 0
   TakesRecords archive = (is_broken archive ≡ false) × HasGate (below archive) (place_of archive)
 
-  -- the archive shows this past, the next record is put at this place, and the journal may have so many bytes
-  pub record StandsAt (archive : Archive D g) (limit : ℕ) (now : Recorded) : Type 0 where
+  -- the archive shows this past, the next record is put at this place, and the journal may have as many bytes as are given
+  pub record StandsAt (archive : Archive D g) (given : Given) (now : Recorded) : Type 0 where
     pub past : ShowsPast (standing_of archive) now.past
     pub place : place_of archive ≡ now.at
-    pub limit_is : limit_of archive ≡ limit
+    pub limit_is : limit_of archive ≡ given.limit
 
   -- these commands were put between two moments of an archive
   abbrev pub PutBetween : Archive D g → Archive D g → List PlainCommand → Type 0
@@ -62,36 +63,38 @@ module _ {D : Type 0} {g : Ghosts D} where
   StopsIn NoMemory reply a b old new = (new ≡ old) × PutBetween a b []
 
   -- the whole reply was written, what it puts was put, and the archive stands for what is behind it
-  pub record Replied (limit : ℕ) (reply : Reply) (put : Put) (a b : Archive D g) (written_old written_new : Option (List ℕ)) : Type 0 where
+  pub record Replied (limit : Given) (reply : Reply) (put : Put) (a b : Archive D g) (written_old written_new : Option (List ℕ)) : Type 0 where
     pub is : is_error put ≡ reply.is_error
     pub stands : StandsAt b limit reply.behind
     pub puts : PutBetween a b reply.puts
     pub text : Appends written_old written_new reply.text
 
   -- it was, or the run stopped in it
-  abbrev pub Responds : ℕ → Reply → Result Put Halt → Archive D g → Archive D g → Option (List ℕ) → Option (List ℕ) → Type 0
+  abbrev pub Responds : Given → Reply → Result Put Halt → Archive D g → Archive D g → Option (List ℕ) → Option (List ℕ) → Type 0
   Responds limit reply result a b old new = MatchResult result (λ put. Replied limit reply put a b old new) (λ halt. StopsIn halt reply a b old new)
 
   -- one more statement ended
-  pub record Answered (limit : ℕ) (reply : Reply) (old new : ScriptRun) (a b : Archive D g) (written_old written_new : Option (List ℕ)) : Type 0 where
+  pub record Answered (limit : Given) (reply : Reply) (old new : ScriptRun) (a b : Archive D g) (written_old written_new : Option (List ℕ)) : Type 0 where
     pub splitter : new.splitter ≡ old.splitter
     pub stands : StandsAt b limit reply.behind
     pub refused : new.refused ≡ (old.refused || reply.is_error)
     pub puts : PutBetween a b reply.puts
+    pub counted : new.puts ≡ old.puts + length reply.puts
     pub wrote : Appends written_old written_new reply.text
 
   -- the bytes were taken up to the rest, and the statements that ended in them were answered
-  pub record Took (limit : ℕ) (now : Recorded) (old new : ScriptRun) (a b : Archive D g) (bytes rest : List ℕ) (written_old written_new : Option (List ℕ)) : Type 0 where
+  pub record Took (limit : Given) (now : Recorded) (old new : ScriptRun) (a b : Archive D g) (bytes rest : List ℕ) (written_old written_new : Option (List ℕ)) : Type 0 where
     pub pieces : List Piece
     pub cut : (more : List ℕ) → pieces_behind old (bytes ++ more) ≡ pieces ++ pieces_behind new (rest ++ more)
     pub end : (more : List ℕ) → ending_behind old (bytes ++ more) ≡ ending_behind new (rest ++ more)
     pub stands : StandsAt b limit (recorded_after limit now pieces)
     pub refused : new.refused ≡ (old.refused || any_error limit now pieces)
     pub puts : PutBetween a b (commands_put limit now pieces)
+    pub counted : new.puts ≡ old.puts + length (commands_put limit now pieces)
     pub wrote : Appends written_old written_new (replies limit now pieces)
 
   -- some of these statements were answered whole, and the run stopped in the reply to the next, or before any other was whole
-  pub record Halted (halt : Halt) (limit : ℕ) (now : Recorded) (pieces : List Piece) (a b : Archive D g) (written_old written_new : Option (List ℕ)) : Type 0 where
+  pub record Halted (halt : Halt) (limit : Given) (now : Recorded) (pieces : List Piece) (a b : Archive D g) (written_old written_new : Option (List ℕ)) : Type 0 where
     pub whole : List Piece
     pub rest : List Piece
     pub are : pieces ≡ whole ++ rest

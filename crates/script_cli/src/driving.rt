@@ -3,12 +3,13 @@
 ghost use Rattle.std.specs.Prelude.{◌≡◌, ◌+◌, ◌<◌, ◌≤◌, ℕ, length, take, false, IfOk, MatchResult};
 ghost use Rattle.std.specs.Io.KnownBytes.{Consumes, IsAtEnd, Keeps};
 ghost use Rattle.prima_io.specs.Causes.{HasCause};
-ghost use Rattle.rewrite.specs.Books.{EachOf};
+ghost use Rattle.rewrite.specs.Books.{meaning_of, EachOf};
 ghost use Rattle.archive_core.specs.Fields.{below, place_of};
+ghost use Rattle.script_cli.specs.Given.{Given};
 ghost use Rattle.script_cli.specs.Output.{Recorded};
 ghost use Rattle.script_cli.specs.Runs.{SourceCounted, SinkCounted, DiskCounted};
 ghost use Rattle.script_cli.specs.Shows.{StandsAt, TakesRecords};
-ghost use Rattle.script_cli.specs.Driving.{Drove, Ends, status_of};
+ghost use Rattle.script_cli.specs.Driving.{Drove, Ends, CountsPuts, status_of};
 
 use crate::SCRIPT_LIMIT;
 use crate::halt::Halt;
@@ -64,8 +65,8 @@ fn finish<K: Sink>(script_run: ScriptRun, sink: &mut K) -> Status
     }
 }
 
-// How a run ends that stops before the script's end.
-fn status_of(halt: Halt) -> Status
+/// How a run ends that stops before the script's end.
+pub(crate) fn status_of(halt: Halt) -> Status
     ensures { result ≡ status_of halt }
 {
     match halt {
@@ -75,6 +76,13 @@ fn status_of(halt: Halt) -> Status
     }
 }
 
+/// How the reading of a script ended, and how many commands it put.
+#[derive(Clone, Copy)]
+pub(crate) struct Driven {
+    pub(crate) status: Status,
+    pub(crate) puts: u64,
+}
+
 /// Reads the script to its end, the limit or a fault. Each turn takes a byte at least, or is the last.
 pub(crate) fn drive<S: Source, K: Sink, D: Disk>(
     alloc: Global,
@@ -82,33 +90,49 @@ pub(crate) fn drive<S: Source, K: Sink, D: Disk>(
     book: &RuleBook,
     source: &mut S,
     sink: &mut K,
-) -> Status
+) -> Driven
     requires each { EachOf book.now.rules.items (λ r. handles (r.vtable, r.value)) }
     requires takes { TakesRecords archive.old }
-    ensures drove { (limit : ℕ) → (start : Recorded) → StandsAt archive.old limit start
-        → Drove limit start result (S.left source.old) (S.left source.new) (K.written sink.old) (K.written sink.new) (below archive.old) (below archive.new) (place_of archive.old) }
-    ensures source { SourceCounted result (S.faults source.old) (S.faults source.new) }
-    ensures sink { SinkCounted result (K.faults sink.old) (K.faults sink.new) }
-    ensures disk { DiskCounted result (below archive.old).faults (below archive.new).faults }
+    ensures drove { (limit : Given) → limit.book ≡ meaning_of book.now.rules.items (λ r. handles (r.vtable, r.value)) (λ r. answers (r.vtable, r.value)) → (start : Recorded) → StandsAt archive.old limit start
+        → Drove limit start result.status (S.left source.old) (S.left source.new) (K.written sink.old) (K.written sink.new) (below archive.old) (below archive.new) (place_of archive.old) }
+    ensures counted { (limit : Given) → limit.book ≡ meaning_of book.now.rules.items (λ r. handles (r.vtable, r.value)) (λ r. answers (r.vtable, r.value)) → (start : Recorded) → StandsAt archive.old limit start → CountsPuts result.status limit start (S.left source.old) result.puts }
+    ensures source { SourceCounted result.status (S.faults source.old) (S.faults source.new) }
+    ensures sink { SinkCounted result.status (K.faults sink.old) (K.faults sink.new) }
+    ensures disk { DiskCounted result.status (below archive.old).faults (below archive.new).faults }
 {
     let mut script_run = ScriptRun::new(alloc);
     let mut chunk = [0u8; CHUNK];
     let mut count: u64 = 0;
     'turns: loop {
+        let puts = script_run.puts();
         let room = room_for(count);
         let taken = match take_some(source, &mut chunk, room) {
             Ok(taken) => taken,
-            Err(Failed) => return Status::ReadFault,
+            Err(Failed) => {
+                return Driven {
+                    status: Status::ReadFault,
+                    puts,
+                };
+            }
         };
         if taken == 0 {
-            return finish(script_run, sink);
+            let status = finish(script_run, sink);
+            return Driven { status, puts };
         }
         if count == SCRIPT_LIMIT {
-            return Status::InputLimit;
+            return Driven {
+                status: Status::InputLimit,
+                puts,
+            };
         }
         match script_run.feed(archive, book, sink, &chunk[..taken]) {
             Ok(()) => count += taken as u64,
-            Err(halt) => return status_of(halt),
+            Err(halt) => {
+                return Driven {
+                    status: status_of(halt),
+                    puts,
+                };
+            }
         }
     }
 }

@@ -6,9 +6,9 @@ ghost use Rattle.script_cli.specs.Files.{CanBeRun, LeavesPrefix};
 
 use disk_model::Disk;
 
-/// A run may follow a run, wherever the first was stopped: where each file that a crash may have left at its start opens as some
-/// commands, so does each that a crash may leave at any moment from its start to its end, by its clause `crash`. So of a list of runs
-/// the commands of the last file are those of the first and, run after run, a prefix of those that were accepted.
+/// A run or a sample may follow another, wherever the first was stopped: where each file that a crash may have left at its start opens as
+/// some commands, so does each that a crash may leave at any moment from its start to its end, by its clause `crash` or `sample_crash`. So of
+/// a list of them the commands of the last file are those of the first and, run after run, a prefix of those that were accepted.
 pub fn a_run_follows_a_run<D: Disk>()
     ensures { (old : D) → (new : D) → (opening : List PlainCommand) → (put : List PlainCommand)
         → ((file : List ℕ) → (D.meaning old).may_leave file → CanBeRun file) → LeavesPrefix (D.meaning old) (D.meaning new) opening put

@@ -2,9 +2,9 @@
 
 ghost use Rattle.std.specs.Prelude.{◌≡◌, ◌<◌, IfOk, IfErr};
 ghost use Rattle.disk_model.specs.Moments.{GoesOn};
-ghost use Rattle.rewrite.specs.Books.{EachOf};
-ghost use Rattle.script_cli.specs.Driving.{HasOpened, HasNotOpened, PutsUnopened, status_of_fault};
-ghost use Rattle.script_cli.specs.Runs.{RunsOver, SourceCounted, SinkCounted, DiskCounted};
+ghost use Rattle.rewrite.specs.Books.{meaning_of, EachOf};
+ghost use Rattle.script_cli.specs.Driving.{HasOpened, HasNotOpened, CountsOpening, PutsUnopened, status_of_fault};
+ghost use Rattle.script_cli.specs.Runs.{RunsOver, given_by, SourceCounted, SinkCounted, DiskCounted};
 
 use crate::driving::drive;
 use crate::status::Status;
@@ -18,8 +18,8 @@ use std::alloc::Global;
 use std::marker::Brand;
 use std::sync::ledger::{Blank, Ledger};
 
-// The archive on the disk, with a counter of the ledger.
-fn mount_counted<D: Disk, L: Ledger>(
+/// The archive on the disk, with a counter of the ledger.
+pub(crate) fn mount_counted<D: Disk, L: Ledger>(
     alloc: Global,
     disk: D,
     limit: u64,
@@ -29,6 +29,7 @@ fn mount_counted<D: Disk, L: Ledger>(
     requires parts { blank.parts ≡ L.parts }
     requires some { 0 < blank.parts }
     ensures opened { IfOk result (λ it. HasOpened (D.meaning disk) limit it.0) }
+    ensures commands { IfOk result (λ it. CountsOpening (D.meaning disk).seen it.1.commands) }
     ensures fault { IfErr result (λ it. HasNotOpened (D.meaning disk) (D.meaning it.0) it.1) }
 {
     let mut steps: Steps<L> = Steps::new(blank);
@@ -38,8 +39,8 @@ fn mount_counted<D: Disk, L: Ledger>(
     }
 }
 
-// Ends a run whose file was not opened; of a damaged file the place is told.
-fn refuse_file<K: Sink>(sink: &mut K, fault: MountFault) -> Status
+/// Ends a run whose file was not opened; of a damaged file the place is told.
+pub(crate) fn refuse_file<K: Sink>(sink: &mut K, fault: MountFault) -> Status
     ensures status { result ≡ status_of_fault fault }
     ensures told { PutsUnopened fault (K.written sink.old) (K.written sink.new) (K.faults sink.old) (K.faults sink.new) }
     ensures sink { SinkCounted result (K.faults sink.old) (K.faults sink.new) }
@@ -65,7 +66,7 @@ pub(crate) fn run_over<S: Source, K: Sink, D: Disk>(
 ) -> (Status, D)
     requires each { EachOf book.now.rules.items (λ r. handles (r.vtable, r.value)) }
     ensures goes { GoesOn (D.meaning disk) (D.meaning result.1) }
-    ensures runs { RunsOver limit result.0 (S.left source.old) (S.left source.new) (K.written sink.old) (K.written sink.new) (K.faults sink.old) (K.faults sink.new) (D.meaning disk) (D.meaning result.1) }
+    ensures runs { RunsOver (given_by limit (meaning_of book.now.rules.items (λ r. handles (r.vtable, r.value)) (λ r. answers (r.vtable, r.value)))) result.0 (S.left source.old) (S.left source.new) (K.written sink.old) (K.written sink.new) (K.faults sink.old) (K.faults sink.new) (D.meaning disk) (D.meaning result.1) }
     ensures source { SourceCounted result.0 (S.faults source.old) (S.faults source.new) }
     ensures sink { SinkCounted result.0 (K.faults sink.old) (K.faults sink.new) }
     ensures disk { DiskCounted result.0 (D.meaning disk).faults (D.meaning result.1).faults }
@@ -73,8 +74,8 @@ pub(crate) fn run_over<S: Source, K: Sink, D: Disk>(
     match mount_counted::<D, Brand>(alloc, disk, limit, Blank::new(1)) {
         Err((disk, fault)) => (refuse_file(sink, fault), disk),
         Ok((mut archive, _opened)) => {
-            let status = drive(alloc, &mut archive, book, source, sink);
-            (status, archive.into_disk())
+            let driven = drive(alloc, &mut archive, book, source, sink);
+            (driven.status, archive.into_disk())
         }
     }
 }

@@ -12,13 +12,15 @@ ghost use Rattle.smo_types.specs.Commands.{command_of};
 ghost use Rattle.smo_meaning.specs.Past.{Past};
 ghost use Rattle.temporal_lang.specs.Queries.{query_of};
 ghost use Rattle.script_parse.specs.Statements.{statement_of};
-ghost use Rattle.rewrite.specs.Books.{EachOf};
+ghost use Rattle.rewrite.specs.Books.{meaning_of, EachOf};
+ghost use Rattle.piece_texts.specs.ExplainedPieces.{all_explained};
 ghost use Rattle.archive_state.specs.Asking.{IsAsked};
 ghost use Rattle.archive_state.specs.Standing.{ShowsPast};
 ghost use Rattle.archive_core.specs.Fields.{standing_of, below, limit_of};
 ghost use Rattle.answer_text.specs.RefusalTexts.{refusal_text};
-ghost use Rattle.answer_text.specs.Texts.{listing_text};
-ghost use Rattle.script_cli.specs.Output.{Recorded, reply, done_text, command_reply, query_reply, versions_reply, schema_reply, statement_reply};
+ghost use Rattle.answer_text.specs.Texts.{listing_text, explain_text};
+ghost use Rattle.script_cli.specs.Given.{Given};
+ghost use Rattle.script_cli.specs.Output.{Recorded, reply, answered, done_text, command_reply, query_reply, explain_reply, versions_reply, schema_reply, statement_reply};
 ghost use Rattle.script_cli.specs.Halts.{HaltCounted, SaidCounted};
 ghost use Rattle.script_cli.specs.Puts.{is_error};
 ghost use Rattle.script_cli.specs.Shows.{Says, Responds, StandsAt, TakesRecords};
@@ -26,7 +28,8 @@ ghost use Rattle.script_cli.specs.Shows.{Says, Responds, StandsAt, TakesRecords}
 use crate::halt::{Halt, or_write_fault};
 use crate::put::Put;
 use answer_text::{
-    Listing, Stop, put_changed, put_evolved, put_listing, put_refusal, put_schema, put_versions,
+    Explained, Listing, Stop, put_changed, put_evolved, put_explained, put_listing, put_refusal,
+    put_schema, put_versions,
 };
 use archive_core::{Archive, AskFault, CommitFault, Done};
 use disk_model::Disk;
@@ -78,7 +81,7 @@ fn respond_write<K: Sink, D: Disk>(
     command: Command,
 ) -> Result<Put, Halt>
     requires takes { TakesRecords archive.old }
-    ensures replies { (limit : ℕ) → (now : Recorded) → StandsAt archive.old limit now
+    ensures replies { (limit : Given) → (now : Recorded) → StandsAt archive.old limit now
         → Responds limit (command_reply limit (command_of command) now) result archive.old archive.new (K.written sink.old) (K.written sink.new) }
     ensures takes { OnOk result (TakesRecords archive.new) }
     ensures counts { HaltCounted result (K.faults sink.old) (K.faults sink.new) (below archive.old).faults (below archive.new).faults }
@@ -102,6 +105,18 @@ fn put_answer<K: Sink>(sink: &mut K, listing: &Listing<'_>) -> Result<Put, Faile
     match put_listing(sink, listing) {
         Ok(()) => Ok(Put::NoError),
         Err(Failed) => Err(Failed),
+    }
+}
+
+// Puts the lines of EXPLAIN.
+fn put_pieces<K: Sink>(alloc: Global, sink: &mut K, pieces: &[Explained]) -> Result<Put, Halt>
+    ensures says { (now : Recorded) → Says (answered (explain_text (all_explained pieces.now)) now) result (K.written sink.old) (K.written sink.new) }
+    ensures counts { SaidCounted result (K.faults sink.old) (K.faults sink.new) }
+{
+    match put_explained(alloc, sink, pieces) {
+        Ok(()) => Ok(Put::NoError),
+        Err(Stop::WriteFault) => Err(Halt::WriteFault),
+        Err(Stop::NoMemory) => Err(Halt::NoMemory),
     }
 }
 
@@ -135,6 +150,26 @@ fn respond_ask<K: Sink, D: Disk>(
 {
     match ask_counted::<D, Brand>(archive, book, query, Blank::new(1)) {
         Ok(listing) => or_write_fault(put_answer(sink, &listing)),
+        Err(AskFault::Refused(refusal)) => or_write_fault(refuse(sink, &refusal)),
+        Err(AskFault::NoMemory) => Err(Halt::NoMemory),
+    }
+}
+
+// Responds to EXPLAIN: the pieces that the query reads are told, and none is read.
+fn respond_explain<K: Sink, D: Disk>(
+    alloc: Global,
+    archive: &Archive<D>,
+    book: &RuleBook,
+    sink: &mut K,
+    query: &Query,
+) -> Result<Put, Halt>
+    requires each { EachOf book.now.rules.items (λ r. handles (r.vtable, r.value)) }
+    ensures says { (now : Recorded) → ShowsPast (standing_of archive.now) now.past
+        → Says (explain_reply (meaning_of book.now.rules.items (λ r. handles (r.vtable, r.value)) (λ r. answers (r.vtable, r.value))) (query_of query.now) now) result (K.written sink.old) (K.written sink.new) }
+    ensures counts { SaidCounted result (K.faults sink.old) (K.faults sink.new) }
+{
+    match archive.explain(book, query) {
+        Ok(pieces) => put_pieces(alloc, sink, &pieces),
         Err(AskFault::Refused(refusal)) => or_write_fault(refuse(sink, &refusal)),
         Err(AskFault::NoMemory) => Err(Halt::NoMemory),
     }
@@ -187,7 +222,7 @@ fn respond_statement<K: Sink, D: Disk>(
 ) -> Result<Put, Halt>
     requires each { EachOf book.now.rules.items (λ r. handles (r.vtable, r.value)) }
     requires takes { TakesRecords archive.old }
-    ensures replies { (limit : ℕ) → (now : Recorded) → StandsAt archive.old limit now
+    ensures replies { (limit : Given) → limit.book ≡ meaning_of book.now.rules.items (λ r. handles (r.vtable, r.value)) (λ r. answers (r.vtable, r.value)) → (now : Recorded) → StandsAt archive.old limit now
         → Responds limit (statement_reply limit (statement_of statement) now) result archive.old archive.new (K.written sink.old) (K.written sink.new) }
     ensures takes { OnOk result (TakesRecords archive.new) }
     ensures counts { HaltCounted result (K.faults sink.old) (K.faults sink.new) (below archive.old).faults (below archive.new).faults }
@@ -195,6 +230,7 @@ fn respond_statement<K: Sink, D: Disk>(
     match statement {
         Statement::Write(command) => respond_write(archive, sink, command),
         Statement::Ask(query) => respond_ask(archive, book, sink, &query),
+        Statement::Explain(query) => respond_explain(alloc, archive, book, sink, &query),
         Statement::ShowVersions => respond_versions(alloc, archive, sink),
         Statement::ShowSchema(version) => respond_schema(alloc, archive, sink, version),
     }
@@ -212,7 +248,7 @@ pub(crate) fn respond<K: Sink, D: Disk>(
     requires each { EachOf book.now.rules.items (λ r. handles (r.vtable, r.value)) }
     requires short { length text.now ≤ 1048576 }
     requires takes { TakesRecords archive.old }
-    ensures replies { (limit : ℕ) → (now : Recorded) → StandsAt archive.old limit now
+    ensures replies { (limit : Given) → limit.book ≡ meaning_of book.now.rules.items (λ r. handles (r.vtable, r.value)) (λ r. answers (r.vtable, r.value)) → (now : Recorded) → StandsAt archive.old limit now
         → Responds limit (reply limit now text.now) result archive.old archive.new (K.written sink.old) (K.written sink.new) }
     ensures takes { OnOk result (TakesRecords archive.new) }
     ensures counts { HaltCounted result (K.faults sink.old) (K.faults sink.new) (below archive.old).faults (below archive.new).faults }

@@ -1,6 +1,6 @@
-//! A run: from the words, the bytes of the script, what the sink takes and the file on the disk to a status.
+//! A run or a sample: from the words, the bytes of the script, what the sink takes and the file on the disk to a status.
 
-ghost use Rattle.std.specs.Prelude.{◌≡◌, ◌<◌, ◌≤◌, ◌++◌, ◌⊎◌, List, ℕ, IsTrue, true, Some, None, map, string_bytes};
+ghost use Rattle.std.specs.Prelude.{◌≡◌, ◌<◌, ◌≤◌, ◌++◌, ◌⊎◌, List, ℕ, IsTrue, true, Option, Some, None, map, string_bytes};
 ghost use Rattle.std.specs.Io.KnownBytes.{Appends};
 ghost use Rattle.prima_io.specs.Moves.{AppendsFront};
 ghost use Rattle.relations.specs.Spans.{forever};
@@ -17,7 +17,7 @@ ghost use Rattle.smo_meaning.specs.Past.{database_at, database_behind, past_with
 ghost use Rattle.temporal_lang.specs.Queries.{PlainQuery, slice_of};
 ghost use Rattle.temporal_lang.specs.Accepted.{fault_of_query, HasNoWayBack};
 ghost use Rattle.temporal_lang.specs.Answers.{asked_at, listing, answer};
-ghost use Rattle.rewrite.specs.Books.{EachOf};
+ghost use Rattle.rewrite.specs.Books.{meaning_of, EachOf};
 ghost use Rattle.prima_base.specs.Keeping.{kept};
 ghost use Rattle.archive_file.specs.Opening.{AreCommands, Opens, Damages};
 ghost use Rattle.script_parse.specs.Script.{Piece, statements_of, tail_of};
@@ -25,20 +25,24 @@ ghost use Rattle.script_parse.specs.Joining.{Each};
 ghost use Rattle.script_parse.specs.Lexing.{TextsAreLexed};
 ghost use Rattle.script_parse.specs.Reading.{IsReading, LimitsAreKept, ReadingsAreOne, StatementsAreRead, reading};
 ghost use Rattle.script_laws.specs.Parts.{IsOpenFault, IsScript};
+ghost use Rattle.script_cli.specs.Given.{Given};
 ghost use Rattle.script_cli.specs.Output.{Recorded, recorded, output, script_puts, commands_put, recorded_after, reply, is_error_line};
-ghost use Rattle.program_words.specs.Words.{asked_for};
+ghost use Rattle.program_words.specs.Words.{asked, asked_for, limit_of_run};
+ghost use Rattle.program_words.specs.declared.request.Mode.TheVariants.{Sample};
 ghost use Rattle.script_cli.specs.Files.{LeavesPrefix};
-ghost use Rattle.script_cli.specs.Runs.{IsUntouched, RunsOver, RefusedWords, RefusesFile, SourceCounted, SinkCounted, DiskCounted, WhereTold, counted_limit, is_whole};
+ghost use Rattle.script_cli.specs.Runs.{IsUntouched, RunsOver, RefusedWords, RefusesFile, SourceCounted, SinkCounted, DiskCounted, WhereTold, given_by, is_whole};
+ghost use Rattle.script_cli.specs.Sampling.{AsksSample, SamplesOver, sample_told, sample_puts, sample_end};
 ghost use Rattle.script_cli.specs.declared.status.Status.TheVariants as Status;
 
 use crate::opening::run_over;
+use crate::sampling::sample_over;
 use crate::status::Status;
 use crate::words::{Word, refuse_words};
 use archive_file::a_file_opens_or_is_damaged;
 use disk_model::Disk;
 use prima_base::NoMemory;
 use prima_io::{Sink, Source};
-use program_words::journal_limit;
+use program_words::{Mode, Request, asked};
 use query_pieces::an_accepted_query_asks_questions;
 use rule_book::{Rule, RuleBook};
 use script_laws::{a_script_is_read_in_one_way, a_statement_has_no_open_text};
@@ -63,7 +67,7 @@ fn run_lent<S: Source, K: Sink, D: Disk>(
 ) -> Status
     requires each { EachOf book.now.rules.items (λ r. handles (r.vtable, r.value)) }
     ensures goes { GoesOn (D.meaning disk.old) (D.meaning disk.new) }
-    ensures runs { RunsOver limit result (S.left source.old) (S.left source.new) (K.written sink.old) (K.written sink.new) (K.faults sink.old) (K.faults sink.new) (D.meaning disk.old) (D.meaning disk.new) }
+    ensures runs { RunsOver (given_by limit (meaning_of book.now.rules.items (λ r. handles (r.vtable, r.value)) (λ r. answers (r.vtable, r.value)))) result (S.left source.old) (S.left source.new) (K.written sink.old) (K.written sink.new) (K.faults sink.old) (K.faults sink.new) (D.meaning disk.old) (D.meaning disk.new) }
     ensures source { SourceCounted result (S.faults source.old) (S.faults source.new) }
     ensures sink { SinkCounted result (K.faults sink.old) (K.faults sink.new) }
     ensures disk { DiskCounted result (D.meaning disk.old).faults (D.meaning disk.new).faults }
@@ -72,7 +76,52 @@ fn run_lent<S: Source, K: Sink, D: Disk>(
     ended.0
 }
 
-// The words are judged, and then the run is made.
+// The sample over a disk that is lent.
+fn sample_lent<K: Sink, D: Disk>(
+    alloc: Global,
+    limit: u64,
+    size: u32,
+    book: &RuleBook,
+    sink: &mut K,
+    disk: &mut D,
+) -> Status
+    requires each { EachOf book.now.rules.items (λ r. handles (r.vtable, r.value)) }
+    ensures goes { GoesOn (D.meaning disk.old) (D.meaning disk.new) }
+    ensures samples { (left : Option (List ℕ)) → SamplesOver size (given_by limit (meaning_of book.now.rules.items (λ r. handles (r.vtable, r.value)) (λ r. answers (r.vtable, r.value)))) result left left (K.written sink.old) (K.written sink.new) (K.faults sink.old) (K.faults sink.new) (D.meaning disk.old) (D.meaning disk.new) }
+    ensures sink { SinkCounted result (K.faults sink.old) (K.faults sink.new) }
+    ensures disk { DiskCounted result (D.meaning disk.old).faults (D.meaning disk.new).faults }
+{
+    let ended = sample_over(alloc, limit, size, book, sink, &mut *disk);
+    ended.0
+}
+
+// Does what the words ask for.
+fn perform<S: Source, K: Sink, D: Disk>(
+    alloc: Global,
+    request: Request,
+    book: &RuleBook,
+    source: &mut S,
+    sink: &mut K,
+    disk: &mut D,
+) -> Status
+    requires each { EachOf book.now.rules.items (λ r. handles (r.vtable, r.value)) }
+    ensures words { result ≡ Status.Words → ⊥ }
+    ensures runs { (limit : ℕ) → limit_of_run request ≡ Some limit
+        → RunsOver (given_by limit (meaning_of book.now.rules.items (λ r. handles (r.vtable, r.value)) (λ r. answers (r.vtable, r.value)))) result (S.left source.old) (S.left source.new) (K.written sink.old) (K.written sink.new) (K.faults sink.old) (K.faults sink.new) (D.meaning disk.old) (D.meaning disk.new) }
+    ensures samples { (size : ℕ) → request.mode ≡ Sample size → (source.new ≡ source.old)
+        × SamplesOver size (given_by request.journal_limit (meaning_of book.now.rules.items (λ r. handles (r.vtable, r.value)) (λ r. answers (r.vtable, r.value)))) result (S.left source.old) (S.left source.new) (K.written sink.old) (K.written sink.new) (K.faults sink.old) (K.faults sink.new) (D.meaning disk.old) (D.meaning disk.new) }
+    ensures goes { GoesOn (D.meaning disk.old) (D.meaning disk.new) }
+    ensures source { SourceCounted result (S.faults source.old) (S.faults source.new) }
+    ensures sink { SinkCounted result (K.faults sink.old) (K.faults sink.new) }
+    ensures disk { DiskCounted result (D.meaning disk.old).faults (D.meaning disk.new).faults }
+{
+    match request.mode {
+        Mode::Run => run_lent(alloc, request.journal_limit, book, source, sink, disk),
+        Mode::Sample(size) => sample_lent(alloc, request.journal_limit, size, book, sink, disk),
+    }
+}
+
+// The words are judged, and then what they ask for is done.
 fn judge_and_run<S: Source, K: Sink, D: Disk>(
     alloc: Global,
     words: &[Word],
@@ -82,20 +131,24 @@ fn judge_and_run<S: Source, K: Sink, D: Disk>(
     disk: &mut D,
 ) -> Status
     requires each { EachOf book.now.rules.items (λ r. handles (r.vtable, r.value)) }
-    ensures words { result ≡ Status.Words → asked_for (map string_bytes words.now) ≡ None }
-    ensures refused { asked_for (map string_bytes words.now) ≡ None
+    ensures words { result ≡ Status.Words → asked (map string_bytes words.now) ≡ None }
+    ensures refused { asked (map string_bytes words.now) ≡ None
         → RefusedWords result (S.left source.old) (S.left source.new) (K.written sink.old) (K.written sink.new) (K.faults sink.old) (K.faults sink.new) disk.old disk.new }
     ensures runs { (limit : ℕ) → asked_for (map string_bytes words.now) ≡ Some limit
         → IsUntouched result (S.left source.old) (S.left source.new) (K.written sink.old) (K.written sink.new) disk.old disk.new
-        ⊎ RunsOver limit result (S.left source.old) (S.left source.new) (K.written sink.old) (K.written sink.new) (K.faults sink.old) (K.faults sink.new) (D.meaning disk.old) (D.meaning disk.new) }
+        ⊎ RunsOver (given_by limit (meaning_of book.now.rules.items (λ r. handles (r.vtable, r.value)) (λ r. answers (r.vtable, r.value)))) result (S.left source.old) (S.left source.new) (K.written sink.old) (K.written sink.new) (K.faults sink.old) (K.faults sink.new) (D.meaning disk.old) (D.meaning disk.new) }
+    ensures quiet { (limit : ℕ) → (size : ℕ) → AsksSample (map string_bytes words.now) limit size → source.new ≡ source.old }
+    ensures samples { (limit : ℕ) → (size : ℕ) → AsksSample (map string_bytes words.now) limit size
+        → IsUntouched result (S.left source.old) (S.left source.new) (K.written sink.old) (K.written sink.new) disk.old disk.new
+        ⊎ SamplesOver size (given_by limit (meaning_of book.now.rules.items (λ r. handles (r.vtable, r.value)) (λ r. answers (r.vtable, r.value)))) result (S.left source.old) (S.left source.new) (K.written sink.old) (K.written sink.new) (K.faults sink.old) (K.faults sink.new) (D.meaning disk.old) (D.meaning disk.new) }
     ensures goes { GoesOn (D.meaning disk.old) (D.meaning disk.new) }
     ensures source { SourceCounted result (S.faults source.old) (S.faults source.new) }
     ensures sink { SinkCounted result (K.faults sink.old) (K.faults sink.new) }
     ensures disk { DiskCounted result (D.meaning disk.old).faults (D.meaning disk.new).faults }
 {
-    match journal_limit(alloc, words) {
+    match asked(alloc, words) {
         Ok(asked) => match asked {
-            Some(limit) => run_lent(alloc, limit, book, source, sink, disk),
+            Some(request) => perform(alloc, request, book, source, sink, disk),
             None => refuse_words(sink),
         },
         Err(NoMemory) => Status::NoMemory,
@@ -105,7 +158,8 @@ fn judge_and_run<S: Source, K: Sink, D: Disk>(
 /// Runs a script over the archive on a disk: reads it from the source to its end, puts the accepted commands as records on the disk,
 /// and the replies into the sink, each statement's when it ends. The words are judged first; then the disk is opened; then the
 /// script is read. The first fault ends the run. The book has a rule for each kind of operator, by which queries are taken from
-/// version to version.
+/// version to version. Where the words ask for a sample, the script is the one that is made from its size, nothing is taken from the
+/// source, and the summary of the replies is put in their place.
 ///
 /// `output` is defined over the script's bytes, however they are cut, and what stood behind the opening commands: the replies to its
 /// statements in order, then the line for what stands behind the last `;`. Laws say what it is made of:
@@ -135,34 +189,55 @@ pub fn run<S: Source, K: Sink, D: Disk>(
     requires each { EachOf book.now.rules.items (λ r. handles (r.vtable, r.value)) }
 
     // Words comes exactly where they are not accepted, unless memory ran out; nothing is then taken, and no disk called.
-    ensures words { result ≡ Status.Words → asked_for (map string_bytes words.now) ≡ None }
-    ensures refused { asked_for (map string_bytes words.now) ≡ None
+    ensures words { result ≡ Status.Words → asked (map string_bytes words.now) ≡ None }
+    ensures refused { asked (map string_bytes words.now) ≡ None
         → RefusedWords result (S.left source.old) (S.left source.new) (K.written sink.old) (K.written sink.new) (K.faults sink.old) (K.faults sink.new) disk.old disk.new }
 
     // What is taken, written and left on the disk where they are, by the status: how many statements were answered whole, what was
     // written behind their replies, and as what the file opens.
     ensures runs { (limit : ℕ) → asked_for (map string_bytes words.now) ≡ Some limit
         → IsUntouched result (S.left source.old) (S.left source.new) (K.written sink.old) (K.written sink.new) disk.old disk.new
-        ⊎ RunsOver limit result (S.left source.old) (S.left source.new) (K.written sink.old) (K.written sink.new) (K.faults sink.old) (K.faults sink.new) (D.meaning disk.old) (D.meaning disk.new) }
+        ⊎ RunsOver (given_by limit (meaning_of book.now.rules.items (λ r. handles (r.vtable, r.value)) (λ r. answers (r.vtable, r.value)))) result (S.left source.old) (S.left source.new) (K.written sink.old) (K.written sink.new) (K.faults sink.old) (K.faults sink.new) (D.meaning disk.old) (D.meaning disk.new) }
+
+    // Where the words ask for a sample no source is called. What is written and left on the disk is told by the status: the summary of
+    // the replies to the sample's script, all of it or what the sink took, and as what the file opens.
+    ensures quiet { (limit : ℕ) → (size : ℕ) → AsksSample (map string_bytes words.now) limit size → source.new ≡ source.old }
+    ensures samples { (limit : ℕ) → (size : ℕ) → AsksSample (map string_bytes words.now) limit size
+        → IsUntouched result (S.left source.old) (S.left source.new) (K.written sink.old) (K.written sink.new) disk.old disk.new
+        ⊎ SamplesOver size (given_by limit (meaning_of book.now.rules.items (λ r. handles (r.vtable, r.value)) (λ r. answers (r.vtable, r.value)))) result (S.left source.old) (S.left source.new) (K.written sink.old) (K.written sink.new) (K.faults sink.old) (K.faults sink.new) (D.meaning disk.old) (D.meaning disk.new) }
 
     // NotAJournal comes exactly where the file is damaged, at its place, unless the disk failed or memory ran out.
     ensures damaged { (place : ℕ) → result ≡ Status.NotAJournal place → Tells (D.meaning disk.old).seen (λ file. Damages file place) }
     ensures refuses { (limit : ℕ) → (file : List ℕ) → (place : ℕ) → asked_for (map string_bytes words.now) ≡ Some limit → (D.meaning disk.old).seen ≡ Some file
         → Damages file place → RefusesFile place result (S.left source.old) (S.left source.new) }
+    ensures sample_refuses { (limit : ℕ) → (size : ℕ) → (file : List ℕ) → (place : ℕ) → AsksSample (map string_bytes words.now) limit size → (D.meaning disk.old).seen ≡ Some file
+        → Damages file place → RefusesFile place result (S.left source.old) (S.left source.new) }
 
     // Whatever happens, a front of the script's output is written, and all of it where the script was read to its end.
     ensures front { (limit : ℕ) → (file : List ℕ) → (opening : List PlainCommand) → asked_for (map string_bytes words.now) ≡ Some limit
         → (D.meaning disk.old).seen ≡ Some file → Opens file opening
-        → WhereTold (S.left source.old) (λ script. AppendsFront (K.written sink.old) (K.written sink.new) (output (counted_limit limit) (recorded opening) script)) }
+        → WhereTold (S.left source.old) (λ script. AppendsFront (K.written sink.old) (K.written sink.new) (output (given_by limit (meaning_of book.now.rules.items (λ r. handles (r.vtable, r.value)) (λ r. answers (r.vtable, r.value)))) (recorded opening) script)) }
     ensures whole { (limit : ℕ) → (file : List ℕ) → (opening : List PlainCommand) → asked_for (map string_bytes words.now) ≡ Some limit
         → (D.meaning disk.old).seen ≡ Some file → Opens file opening → is_whole result ≡ true
-        → WhereTold (S.left source.old) (λ script. Appends (K.written sink.old) (K.written sink.new) (output (counted_limit limit) (recorded opening) script)) }
+        → WhereTold (S.left source.old) (λ script. Appends (K.written sink.old) (K.written sink.new) (output (given_by limit (meaning_of book.now.rules.items (λ r. handles (r.vtable, r.value)) (λ r. answers (r.vtable, r.value)))) (recorded opening) script)) }
+
+    // A sample that ends well wrote just the summary of the output of its script, and is refused exactly where that has an `error` line.
+    // Each file that a crash may then leave has all that the script's statements put.
+    ensures summary { (limit : ℕ) → (size : ℕ) → (file : List ℕ) → (opening : List PlainCommand) → AsksSample (map string_bytes words.now) limit size
+        → (D.meaning disk.old).seen ≡ Some file → Opens file opening → is_whole result ≡ true
+        → Appends (K.written sink.old) (K.written sink.new) (sample_told size (given_by limit (meaning_of book.now.rules.items (λ r. handles (r.vtable, r.value)) (λ r. answers (r.vtable, r.value)))) opening) × (result ≡ sample_end size (given_by limit (meaning_of book.now.rules.items (λ r. handles (r.vtable, r.value)) (λ r. answers (r.vtable, r.value)))) opening) }
+    ensures held { (limit : ℕ) → (size : ℕ) → (file : List ℕ) → (opening : List PlainCommand) → AsksSample (map string_bytes words.now) limit size
+        → IsTrue (D.meaning disk.old).is_honest → (D.meaning disk.old).seen ≡ Some file → Opens file opening → is_whole result ≡ true
+        → (c : List ℕ) → (D.meaning disk.new).may_leave c → Opens c (opening ++ sample_puts size (given_by limit (meaning_of book.now.rules.items (λ r. handles (r.vtable, r.value)) (λ r. answers (r.vtable, r.value)))) opening) }
 
     // Wherever the run is stopped: until its first sync has succeeded a crash leaves what it might have left before, and from then on,
     // at each moment, a file that opens as the opening commands and a prefix of those that the script's statements put.
     ensures crash { (limit : ℕ) → (file : List ℕ) → (opening : List PlainCommand) → asked_for (map string_bytes words.now) ≡ Some limit
         → IsTrue (D.meaning disk.old).is_honest → (D.meaning disk.old).seen ≡ Some file → Opens file opening
-        → WhereTold (S.left source.old) (λ script. LeavesPrefix (D.meaning disk.old) (D.meaning disk.new) opening (script_puts (counted_limit limit) (recorded opening) script)) }
+        → WhereTold (S.left source.old) (λ script. LeavesPrefix (D.meaning disk.old) (D.meaning disk.new) opening (script_puts (given_by limit (meaning_of book.now.rules.items (λ r. handles (r.vtable, r.value)) (λ r. answers (r.vtable, r.value)))) (recorded opening) script)) }
+    ensures sample_crash { (limit : ℕ) → (size : ℕ) → (file : List ℕ) → (opening : List PlainCommand) → AsksSample (map string_bytes words.now) limit size
+        → IsTrue (D.meaning disk.old).is_honest → (D.meaning disk.old).seen ≡ Some file → Opens file opening
+        → LeavesPrefix (D.meaning disk.old) (D.meaning disk.new) opening (sample_puts size (given_by limit (meaning_of book.now.rules.items (λ r. handles (r.vtable, r.value)) (λ r. answers (r.vtable, r.value)))) opening) }
 
     // A fault is answered only where the count of its object rose in this call, and with any
     // other status the count is as it was.
@@ -190,26 +265,26 @@ pub fn run<S: Source, K: Sink, D: Disk>(
 
     // Behind statements stands the past of the opening commands with those that were put, each of which was accepted after those before
     // it; and the gate stands behind their records.
-    ensures records { (limit : ℕ) → (opening : List PlainCommand) → (statements : List Piece) → IsHistory opening
+    ensures records { (limit : Given) → (opening : List PlainCommand) → (statements : List Piece) → IsHistory opening
         → let put = commands_put limit (recorded opening) statements in
         (recorded_after limit (recorded opening) statements ≡ recorded (opening ++ put)) × IsHistory (opening ++ put) }
 
     // The answer to a query that is not refused, behind some statements: the one list of what is asked of each moment of its slice, each
     // row with its longest periods, of which the entries stay that meet every condition of KEEP. What is asked of a moment is asked of that
     // moment's database, carried to the version that the query names.
-    ensures answers { (limit : ℕ) → (opening : List PlainCommand) → (statements : List Piece) → (query : PlainQuery) → AreCommands opening → IsHistory opening
+    ensures answers { (limit : Given) → (opening : List PlainCommand) → (statements : List Piece) → (query : PlainQuery) → AreCommands opening → IsHistory opening
         → let past = (recorded_after limit (recorded opening) statements).past in
         fault_of_query past query ≡ None → (slice_of query.when).end ≤ forever
         → IsListing row_cmp (asked_at past query) (slice_of query.when) (listing past query) × (answer past query ≡ kept query.keep (listing past query)) }
 
     // A query is refused for want of a way back only by an operator on the way that names no inverse: at the least moment of the query's
     // slice at which a table of it is lost, the version that is told is gone back over, names none, and loses a table of the query.
-    ensures inverse { (limit : ℕ) → (opening : List PlainCommand) → (statements : List Piece) → (query : PlainQuery) → (k : ℕ) → (kind : OpKind)
+    ensures inverse { (limit : Given) → (opening : List PlainCommand) → (statements : List Piece) → (query : PlainQuery) → (k : ℕ) → (kind : OpKind)
         → let past = (recorded_after limit (recorded opening) statements).past in
         fault_of_query past query ≡ Some (NoInverse k kind) → HasNoWayBack past query k kind }
 
     // A command that is accepted behind some statements is seen from its stamp on: before it each moment's database is as it was.
-    ensures seen { (limit : ℕ) → (opening : List PlainCommand) → (statements : List Piece) → (command : PlainCommand) → (m : ℕ) → AreCommands opening → IsHistory opening
+    ensures seen { (limit : Given) → (opening : List PlainCommand) → (statements : List Piece) → (command : PlainCommand) → (m : ℕ) → AreCommands opening → IsHistory opening
         → let past = (recorded_after limit (recorded opening) statements).past in
         command_fault past command ≡ None
         → (m < command.stamp → database_at (past_with past command) m ≡ database_at past m) × (command.stamp ≤ m → database_at (past_with past command) m ≡ database_behind command.body past) }
@@ -226,7 +301,7 @@ pub fn run<S: Source, K: Sink, D: Disk>(
         → Each (λ s. IsOpenFault s → ⊥) statements }
 
     // A reply counts as an error exactly where its line begins with `error `.
-    ensures errors { (limit : ℕ) → (now : Recorded) → (text : List ℕ) → (reply limit now text).is_error ≡ is_error_line (reply limit now text).text }
+    ensures errors { (limit : Given) → (now : Recorded) → (text : List ℕ) → (reply limit now text).is_error ≡ is_error_line (reply limit now text).text }
 {
     a_script_is_read_in_one_way();
     a_statement_has_no_open_text();

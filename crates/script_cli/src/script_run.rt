@@ -6,9 +6,10 @@ ghost use Rattle.prima_io.specs.Causes.{HasCause};
 ghost use Rattle.prima_io.specs.Moves.{AppendsFront};
 ghost use Rattle.prima_base.specs.declared.refusals.Refusal.TheVariants as refusal;
 ghost use Rattle.script_parse.specs.Splitting.{fresh};
-ghost use Rattle.rewrite.specs.Books.{EachOf};
+ghost use Rattle.rewrite.specs.Books.{meaning_of, EachOf};
 ghost use Rattle.archive_core.specs.Fields.{below};
 ghost use Rattle.answer_text.specs.RefusalTexts.{refusal_text};
+ghost use Rattle.script_cli.specs.Given.{Given};
 ghost use Rattle.script_cli.specs.Output.{Recorded, reply, refused, tail_text, tail_is_due};
 ghost use Rattle.script_cli.specs.Halts.{HaltCounted};
 ghost use Rattle.script_cli.specs.Puts.{is_error};
@@ -25,12 +26,13 @@ use rule_book::{Rule, RuleBook};
 use script_parse::{Cut, Splitter, Tail};
 use std::alloc::Global;
 
-/// What cuts the script, and whether an `error` line was put.
+/// What cuts the script, whether an `error` line was put, and how many commands were.
 #[derive(Drop)]
 pub(crate) struct ScriptRun {
     alloc: Global,
     splitter: Splitter,
     refused: bool,
+    puts: u64,
 }
 
 impl ScriptRun {
@@ -38,15 +40,25 @@ impl ScriptRun {
     pub(crate) fn new(alloc: Global) -> ScriptRun
         ensures splitter { result.splitter ≡ fresh }
         ensures refused { result.refused ≡ false }
+        ensures puts { result.puts ≡ 0 }
     {
         ScriptRun {
             alloc,
             splitter: Splitter::new(alloc),
             refused: false,
+            puts: 0,
         }
     }
 
-    // Puts the reply to a statement.
+    /// How many commands were put.
+    pub(crate) fn puts(&self) -> u64
+        ensures { result ≡ self.now.puts }
+    {
+        self.puts
+    }
+
+    // Puts the reply to a statement. Where it puts a command, and there alone, the gate moves. There is no memory for more
+    // commands than a number can count.
     fn answer<K: Sink, D: Disk>(
         &mut self,
         archive: &mut Archive<D>,
@@ -57,17 +69,24 @@ impl ScriptRun {
         requires each { EachOf book.now.rules.items (λ r. handles (r.vtable, r.value)) }
         requires short { length text.now ≤ 1048576 }
         requires takes { TakesRecords archive.old }
-        ensures answered { (limit : ℕ) → (now : Recorded) → StandsAt archive.old limit now
+        ensures answered { (limit : Given) → limit.book ≡ meaning_of book.now.rules.items (λ r. handles (r.vtable, r.value)) (λ r. answers (r.vtable, r.value)) → (now : Recorded) → StandsAt archive.old limit now
             → OnOk result (Answered limit (reply limit now text.now) self.old self.new archive.old archive.new (K.written sink.old) (K.written sink.new)) }
-        ensures stopped { (limit : ℕ) → (now : Recorded) → StandsAt archive.old limit now
+        ensures stopped { (limit : Given) → limit.book ≡ meaning_of book.now.rules.items (λ r. handles (r.vtable, r.value)) (λ r. answers (r.vtable, r.value)) → (now : Recorded) → StandsAt archive.old limit now
             → IfErr result (λ halt. StopsIn halt (reply limit now text.now) archive.old archive.new (K.written sink.old) (K.written sink.new)) }
         ensures splitter { self.new.splitter ≡ self.old.splitter }
         ensures takes { OnOk result (TakesRecords archive.new) }
         ensures counts { HaltCounted result (K.faults sink.old) (K.faults sink.new) (below archive.old).faults (below archive.new).faults }
     {
+        let Some(more) = self.puts.checked_add(1) else {
+            return Err(Halt::NoMemory);
+        };
+        let gate = archive.place();
         match respond(self.alloc, archive, book, sink, text) {
             Ok(put) => {
                 self.refused = self.refused || put.is_error();
+                if gate < archive.place() {
+                    self.puts = more;
+                }
                 Ok(())
             }
             Err(halt) => Err(halt),
@@ -80,6 +99,7 @@ impl ScriptRun {
         ensures part { OnErr result (AppendsFront (K.written sink.old) (K.written sink.new) (refusal_text refusal.TooLong)) }
         ensures refused { OnOk result (self.new.refused ≡ true) }
         ensures splitter { self.new.splitter ≡ self.old.splitter }
+        ensures puts { self.new.puts ≡ self.old.puts }
         ensures cause { HasCause (K.faults sink.old) (K.faults sink.new) result }
     {
         match refuse(sink, &Refusal::TooLong) {
@@ -103,10 +123,10 @@ impl ScriptRun {
         requires each { EachOf book.now.rules.items (λ r. handles (r.vtable, r.value)) }
         requires ready { self.old.splitter.spent ≡ false }
         requires takes { TakesRecords archive.old }
-        ensures took { (limit : ℕ) → (now : Recorded) → StandsAt archive.old limit now
+        ensures took { (limit : Given) → limit.book ≡ meaning_of book.now.rules.items (λ r. handles (r.vtable, r.value)) (λ r. answers (r.vtable, r.value)) → (now : Recorded) → StandsAt archive.old limit now
             → IfOk result (λ rest. MatchOption rest (Took limit now self.old self.new archive.old archive.new bytes.now [] (K.written sink.old) (K.written sink.new))
             (λ rest. Took limit now self.old self.new archive.old archive.new bytes.now rest.now (K.written sink.old) (K.written sink.new))) }
-        ensures halted { (limit : ℕ) → (now : Recorded) → StandsAt archive.old limit now
+        ensures halted { (limit : Given) → limit.book ≡ meaning_of book.now.rules.items (λ r. handles (r.vtable, r.value)) (λ r. answers (r.vtable, r.value)) → (now : Recorded) → StandsAt archive.old limit now
             → IfErr result (λ halt. Halted halt limit now (pieces_behind self.old bytes.now) archive.old archive.new (K.written sink.old) (K.written sink.new)) }
         ensures fewer { IfOk result (λ rest. MatchOption rest (Unit {0}) (λ rest. length rest.now < length bytes.now)) }
         ensures ready { OnOk result (self.new.splitter.spent ≡ false) }
@@ -140,9 +160,9 @@ impl ScriptRun {
         requires each { EachOf book.now.rules.items (λ r. handles (r.vtable, r.value)) }
         requires ready { self.old.splitter.spent ≡ false }
         requires takes { TakesRecords archive.old }
-        ensures took { (limit : ℕ) → (now : Recorded) → StandsAt archive.old limit now
+        ensures took { (limit : Given) → limit.book ≡ meaning_of book.now.rules.items (λ r. handles (r.vtable, r.value)) (λ r. answers (r.vtable, r.value)) → (now : Recorded) → StandsAt archive.old limit now
             → OnOk result (Took limit now self.old self.new archive.old archive.new piece.now [] (K.written sink.old) (K.written sink.new)) }
-        ensures halted { (limit : ℕ) → (now : Recorded) → StandsAt archive.old limit now
+        ensures halted { (limit : Given) → limit.book ≡ meaning_of book.now.rules.items (λ r. handles (r.vtable, r.value)) (λ r. answers (r.vtable, r.value)) → (now : Recorded) → StandsAt archive.old limit now
             → IfErr result (λ halt. Halted halt limit now (pieces_behind self.old piece.now) archive.old archive.new (K.written sink.old) (K.written sink.new)) }
         ensures ready { OnOk result (self.new.splitter.spent ≡ false) }
         ensures takes { OnOk result (TakesRecords archive.new) }

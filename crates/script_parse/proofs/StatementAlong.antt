@@ -31,9 +31,9 @@ use Rattle.temporal_lang.specs.QueryGrammar.{IsAsk}
 use Rattle.temporal_lang.specs.QueryReader as query
 use Rattle.temporal_lang.specs.QueryPasses.{ask_passes}
 use Rattle.temporal_lang.proofs.QueryAlong.{ask_along}
-use Rattle.script_parse.specs.Statements.{PlainStatement, write, ask}
+use Rattle.script_parse.specs.Statements.{PlainStatement, write, ask, explain}
 use Rattle.script_parse.specs.Productions.{IsWhere, AreSoMany, IsRow, IsInsert, IsSetting, IsChange, IsOp, AreOps, IsInverse, AreChanges, IsBody, IsShowVersions, IsShowSchema, IsStatement}
-use Rattle.script_parse.specs.StatementReader.{where_part, setting, settings, delete_rest, update_rest, change, changes, op, ops, inverse, evolve_rest, body, write_rest, ask_rest, statement, goes_where, goes_settings, goes_change, goes_changes, goes_ops, goes_evolve, goes_body, goes_statement}
+use Rattle.script_parse.specs.StatementReader.{where_part, setting, settings, delete_rest, update_rest, change, changes, op, ops, inverse, evolve_rest, body, write_rest, ask_rest, explain_rest, statement, goes_where, goes_settings, goes_change, goes_changes, goes_ops, goes_evolve, goes_body, goes_statement}
 use Rattle.script_parse.specs.StatementPasses.{where_passes, setting_passes, change_passes, changes_passes, op_passes, ops_passes, inverse_passes, body_passes, statement_passes}
 use Rattle.script_parse.proofs.BodySteps.{body_evolves, body_changes}
 use Rattle.script_parse.proofs.ChangeGoodness.{ends, setting_good, change_good, change_not_none, change_not_first, where_change, where_side}
@@ -186,6 +186,17 @@ query_along : GoesAlong ask_rest (mapG (λ q. ask q) IsAsk) goes_statement query
 unfolding ask_rest
 query_along = map_goes (λ q. ask q) query.ask IsAsk goes_statement ask_passes (stops_along query.ask IsAsk query.goes_ask goes_statement ask_passes fewer_ask ask_along)
 
+abbrev ExplainRest : PlainStatement → Size → List Lexeme → Type 0
+ExplainRest = leadG (word (codes "QUERY")) (mapG (λ q. explain q) IsAsk)
+
+abbrev explain_rest_passes : Passing ExplainRest
+explain_rest_passes = lead_pass (word (codes "QUERY")) (mapG (λ q. explain q) IsAsk) (map_pass (λ q. explain q) IsAsk ask_passes)
+
+explain_along : GoesAlong explain_rest ExplainRest goes_statement explain_rest_passes
+unfolding explain_rest
+explain_along = lead_goes (is_word (codes "QUERY")) (word (codes "QUERY")) (word_is (codes "QUERY")) _ (mapG (λ q. explain q) IsAsk) goes_statement _
+    (map_goes (λ q. explain q) query.ask IsAsk goes_statement ask_passes (stops_along query.ask IsAsk query.goes_ask goes_statement ask_passes fewer_ask ask_along))
+
 versions_light : Light IsShowVersions
 versions_light = lead_light _ _ (lead_light _ _ (pure_light _))
 
@@ -196,8 +207,9 @@ pub statement_along : GoesAlong statement IsStatement goes_statement statement_p
 unfolding statement
 statement_along a s f (inl h) us stops = behind_goes statement write_rest (word (codes "AT")) (λ ts. refl) WriteRest goes_statement write_rest_passes write_along a s f h us stops
 statement_along a s f (inr (inl h)) us stops = behind_goes statement ask_rest (word (codes "QUERY")) (λ ts. refl) (mapG (λ q. ask q) IsAsk) goes_statement query_rest_passes query_along a s f h us stops
-statement_along a s f (inr (inr (inl h))) us stops = light_along statement IsStatement goes_statement statement_good a s f (inr (inr (inl h))) (versions_light a s f h) us stops
-statement_along a s f (inr (inr (inr h))) us stops = light_along statement IsStatement goes_statement statement_good a s f (inr (inr (inr h))) (schema_light a s f h) us stops
+statement_along a s f (inr (inr (inl h))) us stops = behind_goes statement explain_rest (word (codes "EXPLAIN")) (λ ts. refl) ExplainRest goes_statement explain_rest_passes explain_along a s f h us stops
+statement_along a s f (inr (inr (inr (inl h)))) us stops = light_along statement IsStatement goes_statement statement_good a s f (inr (inr (inr (inl h)))) (versions_light a s f h) us stops
+statement_along a s f (inr (inr (inr (inr h)))) us stops = light_along statement IsStatement goes_statement statement_good a s f (inr (inr (inr (inr h)))) (schema_light a s f h) us stops
 
 -- a whole text
 pub statement_reads : (a : PlainStatement) (s : Size) (f : List Lexeme) (h : IsStatement a s f) → statement 0 f ≡ by_passes (statement_passes a s f h) f (Got a 0 [])

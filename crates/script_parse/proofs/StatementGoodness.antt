@@ -6,7 +6,7 @@ use Rattle.smo_types.specs.Commands.{PlainBody, changing, evolving}
 use Rattle.lexical_grammar.specs.Lexemes.{Lexeme, word, is_word}
 use Rattle.parser_combinators.specs.Parsing.{Size, Good, Stops, No, Takes, Whole, AreMore, so_wide, bindG, pure, pureG, leadG, map_to, mapG, more, eitherG, listG}
 use Rattle.expr_grammar.specs.Constants.{moment, momentG, small, smallG}
-use Rattle.parser_combinators.proofs.Parsing.{good_iff, good_goes, bind_good, map_good, pure_good, choose_good, option_takes_good, whole_good, more_good, bind_more}
+use Rattle.parser_combinators.proofs.Parsing.{good_iff, good_goes, bind_good, map_good, lead_good, pure_good, choose_good, option_takes_good, whole_good, more_good, bind_more}
 use Rattle.lexical_grammar.proofs.LexemeTests.{word_is, word_exact}
 use Rattle.expr_grammar.proofs.Singles.{moment_good, small_good}
 use Rattle.parser_combinators.proofs.Fresh.{fresh_good}
@@ -17,9 +17,9 @@ use Rattle.smo_parse.proofs.OperatorGoodness.{operator_good}
 use Rattle.temporal_lang.specs.QueryGrammar.{IsAsk}
 use Rattle.temporal_lang.specs.QueryReader as query
 use Rattle.temporal_lang.proofs.QueryGoodness.{ask_good}
-use Rattle.script_parse.specs.Statements.{PlainStatement, write, ask, show_versions, show_schema}
-use Rattle.script_parse.specs.Productions.{IsChange, IsOp, AreOps, IsInverse, IsEvolve, AreChanges, IsBody, IsWrite, IsQuery, IsStatement}
-use Rattle.script_parse.specs.StatementReader.{changes, op, ops, inverse, evolve_rest, body_arm, body, write_rest, ask_rest, schema_rest, show_arm, show_rest, statement_arm, statement, goes_change, goes_changes, goes_ops, goes_evolve, goes_body, goes_statement}
+use Rattle.script_parse.specs.Statements.{PlainStatement, write, ask, explain, show_versions, show_schema}
+use Rattle.script_parse.specs.Productions.{IsChange, IsOp, AreOps, IsInverse, IsEvolve, AreChanges, IsBody, IsWrite, IsQuery, IsExplain, IsStatement}
+use Rattle.script_parse.specs.StatementReader.{changes, op, ops, inverse, evolve_rest, body_arm, body, write_rest, ask_rest, explain_rest, schema_rest, show_arm, show_rest, statement_arm, statement, goes_change, goes_changes, goes_ops, goes_evolve, goes_body, goes_statement}
 use Rattle.script_parse.proofs.ChangeGoodness.{ends, single_then, change_not_none, change_not_first, changes_good}
 
 -- ---- operators
@@ -107,6 +107,12 @@ WriteRest = bindG momentG (λ m. mapG (λ b. write (record { stamp = m; body = b
 abbrev AskRest : PlainStatement → Size → List Lexeme → Type 0
 AskRest = mapG (λ q. ask q) IsAsk
 
+abbrev Explained : PlainStatement → Size → List Lexeme → Type 0
+Explained = mapG (λ q. explain q) IsAsk
+
+abbrev ExplainRest : PlainStatement → Size → List Lexeme → Type 0
+ExplainRest = leadG (word (codes "QUERY")) Explained
+
 abbrev VersionsRest : PlainStatement → Size → List Lexeme → Type 0
 VersionsRest = pureG show_versions
 
@@ -124,6 +130,11 @@ write_good = single_then moment _ momentG _ goes_statement (moment_good 0 32 end
 ask_rest_good : Good 0 32 ask_rest AskRest goes_statement
 unfolding ask_rest
 ask_rest_good = map_good 0 32 (λ q. ask q) query.ask IsAsk goes_statement (good_goes 0 32 query.ask IsAsk query.goes_ask goes_statement fewer_ask ask_good)
+
+explain_good : Good 0 32 explain_rest ExplainRest goes_statement
+unfolding explain_rest
+explain_good = lead_good (is_word (codes "QUERY")) (word (codes "QUERY")) (word_is (codes "QUERY")) (word_exact (codes "QUERY")) 0 32 _ Explained goes_statement
+    (map_good 0 32 (λ q. explain q) query.ask IsAsk goes_statement (good_goes 0 32 query.ask IsAsk query.goes_ask goes_statement fewer_ask ask_good))
 
 schema_good : (goes : Lexeme → Bool) → Good 0 32 schema_rest SchemaRest goes
 unfolding schema_rest
@@ -145,27 +156,41 @@ show_good goes = choose_good 0 32 show_arm ShowRest goes (live (pure_good 0 32 s
 abbrev FromShow : PlainStatement → Size → List Lexeme → Type 0
 FromShow = leadG (word (codes "SHOW")) ShowRest
 
+abbrev FromExplain : PlainStatement → Size → List Lexeme → Type 0
+FromExplain = eitherG IsExplain FromShow
+
 abbrev FromQuery : PlainStatement → Size → List Lexeme → Type 0
-FromQuery = eitherG IsQuery FromShow
+FromQuery = eitherG IsQuery FromExplain
 
 abbrev FromAt : PlainStatement → Size → List Lexeme → Type 0
 FromAt = eitherG IsWrite FromQuery
 
-at_first : (v : List ℕ) → is_word (codes "QUERY") (word v) ≡ false → is_word (codes "SHOW") (word v) ≡ false → (a : PlainStatement) (s : Size) (l : List Lexeme) → FromQuery a s (word v ∷ l) → ⊥
-at_first v e f = either_not_first (word v) IsQuery FromShow (lead_not_first (is_word (codes "QUERY")) (word v) (word (codes "QUERY")) AskRest e (word_is (codes "QUERY"))) (lead_not_first (is_word (codes "SHOW")) (word v) (word (codes "SHOW")) ShowRest f (word_is (codes "SHOW")))
+module _ (v : List ℕ) where
+  show_first : is_word (codes "SHOW") (word v) ≡ false → (a : PlainStatement) (s : Size) (l : List Lexeme) → FromShow a s (word v ∷ l) → ⊥
+  show_first e = lead_not_first (is_word (codes "SHOW")) (word v) (word (codes "SHOW")) ShowRest e (word_is (codes "SHOW"))
+
+  explain_first : is_word (codes "EXPLAIN") (word v) ≡ false → is_word (codes "SHOW") (word v) ≡ false → (a : PlainStatement) (s : Size) (l : List Lexeme) → FromExplain a s (word v ∷ l) → ⊥
+  explain_first e f = either_not_first (word v) IsExplain FromShow (lead_not_first (is_word (codes "EXPLAIN")) (word v) (word (codes "EXPLAIN")) ExplainRest e (word_is (codes "EXPLAIN"))) (show_first f)
+
+  at_first : is_word (codes "QUERY") (word v) ≡ false → is_word (codes "EXPLAIN") (word v) ≡ false → is_word (codes "SHOW") (word v) ≡ false
+      → (a : PlainStatement) (s : Size) (l : List Lexeme) → FromQuery a s (word v ∷ l) → ⊥
+  at_first e f g = either_not_first (word v) IsQuery FromExplain (lead_not_first (is_word (codes "QUERY")) (word v) (word (codes "QUERY")) AskRest e (word_is (codes "QUERY"))) (explain_first f g)
 
 by_words_not_none : NotNone FromAt
-by_words_not_none = either_not_none IsWrite FromQuery (lead_not_none (word (codes "AT")) WriteRest) (either_not_none IsQuery FromShow (lead_not_none (word (codes "QUERY")) AskRest) (lead_not_none (word (codes "SHOW")) ShowRest))
+by_words_not_none = either_not_none IsWrite FromQuery (lead_not_none (word (codes "AT")) WriteRest) (either_not_none IsQuery FromExplain (lead_not_none (word (codes "QUERY")) AskRest)
+    (either_not_none IsExplain FromShow (lead_not_none (word (codes "EXPLAIN")) ExplainRest) (lead_not_none (word (codes "SHOW")) ShowRest)))
 
 by_words_good : Good 0 32 statement FromAt goes_statement
 unfolding statement
 by_words_good = choose_good 0 32 statement_arm FromAt goes_statement (live write_good.live) by_words_not_none
     (λ x. first_arm (is_word (codes "AT")) (word (codes "AT")) (word_is (codes "AT")) (word_exact (codes "AT")) 32 write_rest WriteRest goes_statement write_good
-    (λ y. cond (is_word (codes "QUERY") y) (Takes ask_rest) (cond (is_word (codes "SHOW") y) (Takes show_rest) No)) FromQuery (at_first (codes "AT") refl refl) x
+    (λ y. cond (is_word (codes "QUERY") y) (Takes ask_rest) (cond (is_word (codes "EXPLAIN") y) (Takes explain_rest) (cond (is_word (codes "SHOW") y) (Takes show_rest) No))) FromQuery
+    (at_first (codes "AT") refl refl refl) x
     (first_arm (is_word (codes "QUERY")) (word (codes "QUERY")) (word_is (codes "QUERY")) (word_exact (codes "QUERY")) 32 ask_rest AskRest goes_statement ask_rest_good
-    (λ y. cond (is_word (codes "SHOW") y) (Takes show_rest) No) FromShow
-    (lead_not_first (is_word (codes "SHOW")) (word (codes "QUERY")) (word (codes "SHOW")) ShowRest refl (word_is (codes "SHOW"))) x
-    (last_arm (is_word (codes "SHOW")) (word (codes "SHOW")) (word_is (codes "SHOW")) (word_exact (codes "SHOW")) 32 show_rest ShowRest goes_statement (show_good goes_statement) x)))
+    (λ y. cond (is_word (codes "EXPLAIN") y) (Takes explain_rest) (cond (is_word (codes "SHOW") y) (Takes show_rest) No)) FromExplain (explain_first (codes "QUERY") refl refl) x
+    (first_arm (is_word (codes "EXPLAIN")) (word (codes "EXPLAIN")) (word_is (codes "EXPLAIN")) (word_exact (codes "EXPLAIN")) 32 explain_rest ExplainRest goes_statement explain_good
+    (λ y. cond (is_word (codes "SHOW") y) (Takes show_rest) No) FromShow (show_first (codes "EXPLAIN") refl) x
+    (last_arm (is_word (codes "SHOW")) (word (codes "SHOW")) (word_is (codes "SHOW")) (word_exact (codes "SHOW")) 32 show_rest ShowRest goes_statement (show_good goes_statement) x))))
   where
     live : (a : PlainStatement) × (s : Size) × (ts : List Lexeme) × WriteRest a s ts → (a : PlainStatement) × (s : Size) × (ts : List Lexeme) × FromAt a s ts
     live l = (l.0, l.1, word (codes "AT") ∷ l.2, inl (l.2, refl, l.3))
@@ -173,14 +198,16 @@ by_words_good = choose_good 0 32 statement_arm FromAt goes_statement (live write
 up : (a : PlainStatement) (s : Size) (l : List Lexeme) → FromAt a s l → IsStatement a s l
 up a s l (inl h) = inl h
 up a s l (inr (inl h)) = inr (inl h)
-up a s l (inr (inr (more, e, inl h))) = inr (inr (inl (more, e, h)))
-up a s l (inr (inr (more, e, inr h))) = inr (inr (inr (more, e, h)))
+up a s l (inr (inr (inl h))) = inr (inr (inl h))
+up a s l (inr (inr (inr (more, e, inl h)))) = inr (inr (inr (inl (more, e, h))))
+up a s l (inr (inr (inr (more, e, inr h)))) = inr (inr (inr (inr (more, e, h))))
 
 down : (a : PlainStatement) (s : Size) (l : List Lexeme) → IsStatement a s l → FromAt a s l
 down a s l (inl h) = inl h
 down a s l (inr (inl h)) = inr (inl h)
-down a s l (inr (inr (inl h))) = inr (inr (h.0, h.1, inl h.2))
-down a s l (inr (inr (inr h))) = inr (inr (h.0, h.1, inr h.2))
+down a s l (inr (inr (inl h))) = inr (inr (inl h))
+down a s l (inr (inr (inr (inl h)))) = inr (inr (inr (h.0, h.1, inl h.2)))
+down a s l (inr (inr (inr (inr h)))) = inr (inr (inr (h.0, h.1, inr h.2)))
 
 pub statement_good : Good 0 32 statement IsStatement goes_statement
 statement_good = good_iff 0 32 statement FromAt IsStatement goes_statement up down by_words_good

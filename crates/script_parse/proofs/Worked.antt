@@ -23,9 +23,9 @@ use Rattle.temporal_lang.specs.declared.whens.When.TheVariants.{Always, AsOf, Du
 use Rattle.plain_answers.specs.Branches.{a_branch}
 use Rattle.temporal_lang.specs.Queries.{PlainQuery, a_query}
 use Rattle.temporal_lang.specs.QueryReader as query
-use Rattle.script_parse.specs.Statements.{ask, write, show_versions, show_schema}
+use Rattle.script_parse.specs.Statements.{ask, explain, write, show_versions, show_schema}
 use Rattle.script_parse.specs.Lexing.{lexed_from}
-use Rattle.script_parse.specs.StatementReader.{where_part, more_constants, constants, row, insert_rest, delete_rest, setting, settings, update_rest, change, changes, op, ops, inverse, evolve_rest, body, write_rest, ask_rest, schema_rest, show_rest, statement}
+use Rattle.script_parse.specs.StatementReader.{where_part, more_constants, constants, row, insert_rest, delete_rest, setting, settings, update_rest, change, changes, op, ops, inverse, evolve_rest, body, write_rest, ask_rest, explain_rest, schema_rest, show_rest, statement}
 use Rattle.script_parse.specs.Reading.{Reading, Blank, Refused, Whole, reading}
 
 -- text = reading
@@ -78,6 +78,15 @@ wide_queries = (refl, refl, refl, refl, refl, refl, refl)
 many_branches : Reads (codes "QUERY VERSION 1 SELECT 1 FROM t UNION SELECT 1 FROM t UNION SELECT 1 FROM t UNION SELECT 1 FROM t UNION SELECT 1 FROM t UNION SELECT 1 FROM t UNION SELECT 1 FROM t UNION SELECT 1 FROM t UNION SELECT 1 FROM t UNION SELECT 1 FROM t UNION SELECT 1 FROM t UNION SELECT 1 FROM t UNION SELECT 1 FROM t UNION SELECT 1 FROM t UNION SELECT 1 FROM t UNION SELECT 1 FROM t UNION") (Refused (TooMany Branches 16))
 unfolding reading lexed_from gap_len gap_dash piece_of is_name name small more statement ask_rest query.ask query.branches query.branch query.outputs query.output query.items query.item query.alias query.where_part expr ref_rest outermost
 many_branches = refl
+
+explained :
+    Reads (codes "EXPLAIN QUERY VERSION 1 SELECT a FROM t") (Whole (explain (from_t 1 (column Free a ∷ []) t)))
+    × Reads (codes "EXPLAIN VERSION 1 SELECT a FROM t") (Refused (Syntax 8))
+    × Reads (codes "EXPLAIN EXPLAIN QUERY VERSION 1 SELECT a FROM t") (Refused (Syntax 8))
+    × Reads (codes "EXPLAIN QUERY") (Refused (Syntax 13))
+    × Reads (codes "EXPLAIN SHOW VERSIONS") (Refused (Syntax 8))
+unfolding reading lexed_from gap_len gap_dash piece_of is_name name small more statement explain_rest query.ask query.branches query.branch query.outputs query.output query.items query.item query.alias query.where_part expr ref_rest outermost query.when_part query.as_of query.range query.during query.keeping
+explained = (refl, refl, refl, refl, refl)
 
 shown :
     Reads (codes "SHOW VERSIONS") (Whole show_versions)

@@ -13,7 +13,7 @@ use Rattle.expr_grammar.specs.Grammar.{IsExpr, IsCond}
 use Rattle.expr_grammar.specs.Constants.{nameG, namesG, momentG, smallG, constantG}
 use Rattle.smo_parse.specs.Productions.{IsOperator}
 use Rattle.temporal_lang.specs.QueryGrammar.{IsAsk}
-use Rattle.script_parse.specs.Statements.{PlainStatement, write, ask, show_versions, show_schema}
+use Rattle.script_parse.specs.Statements.{PlainStatement, write, ask, explain, show_versions, show_schema}
 
 -- ---- changes
 
@@ -89,6 +89,10 @@ IsWrite = leadG (word (codes "AT")) (bindG momentG (λ stamp. mapG (λ body. wri
 abbrev pub IsQuery : Grammar PlainStatement
 IsQuery = leadG (word (codes "QUERY")) (mapG (λ q. ask q) IsAsk)
 
+-- EXPLAIN QUERY ask
+abbrev pub IsExplain : Grammar PlainStatement
+IsExplain = leadG (word (codes "EXPLAIN")) (leadG (word (codes "QUERY")) (mapG (λ q. explain q) IsAsk))
+
 -- SHOW VERSIONS
 abbrev pub IsShowVersions : Grammar PlainStatement
 IsShowVersions = leadG (word (codes "SHOW")) (leadG (word (codes "VERSIONS")) (pureG show_versions))
@@ -98,4 +102,4 @@ abbrev pub IsShowSchema : Grammar PlainStatement
 IsShowSchema = leadG (word (codes "SHOW")) (leadG (word (codes "SCHEMA")) (mapG (λ version. show_schema version) smallG))
 
 abbrev pub IsStatement : Grammar PlainStatement
-IsStatement = eitherG IsWrite (eitherG IsQuery (eitherG IsShowVersions IsShowSchema))
+IsStatement = eitherG IsWrite (eitherG IsQuery (eitherG IsExplain (eitherG IsShowVersions IsShowSchema)))

@@ -15,8 +15,8 @@ use Rattle.smo_parse.specs.Productions.{IsOperator}
 use Rattle.smo_parse.specs.OperatorMarks.{operator_marks}
 use Rattle.temporal_lang.specs.QueryGrammar.{IsAsk}
 use Rattle.temporal_lang.specs.QueryPasses.{ask_passes}
-use Rattle.script_parse.specs.Statements.{write, ask}
-use Rattle.script_parse.specs.Productions.{IsWhere, IsInsert, IsDelete, IsSetting, IsUpdate, IsChange, IsOp, AreOps, IsInverse, IsEvolve, AreChanges, IsBody, IsWrite, IsQuery, IsShowVersions, IsShowSchema, IsStatement}
+use Rattle.script_parse.specs.Statements.{write, ask, explain}
+use Rattle.script_parse.specs.Productions.{IsWhere, IsInsert, IsDelete, IsSetting, IsUpdate, IsChange, IsOp, AreOps, IsInverse, IsEvolve, AreChanges, IsBody, IsWrite, IsQuery, IsExplain, IsShowVersions, IsShowSchema, IsStatement}
 
 -- ---- changes
 
@@ -71,6 +71,13 @@ write_passes = lead_pass (word (codes "AT")) _ (bind_pass momentG (λ stamp. map
 abbrev pub query_passes : Passing IsQuery
 query_passes = lead_pass (word (codes "QUERY")) _ (map_pass (λ q. ask q) IsAsk ask_passes)
 
+abbrev pub explain_passes : Passing IsExplain
+explain_passes = lead_pass (word (codes "EXPLAIN")) _ (lead_pass (word (codes "QUERY")) _ (map_pass (λ q. explain q) IsAsk ask_passes))
+
+abbrev pub show_passes : Passing (eitherG IsShowVersions IsShowSchema)
+show_passes = either_pass IsShowVersions IsShowSchema (none_pass IsShowVersions) (none_pass IsShowSchema)
+
 abbrev pub statement_passes : Passing IsStatement
-statement_passes = either_pass IsWrite (eitherG IsQuery (eitherG IsShowVersions IsShowSchema)) write_passes
-    (either_pass IsQuery (eitherG IsShowVersions IsShowSchema) query_passes (either_pass IsShowVersions IsShowSchema (none_pass IsShowVersions) (none_pass IsShowSchema)))
+statement_passes = either_pass IsWrite (eitherG IsQuery (eitherG IsExplain (eitherG IsShowVersions IsShowSchema))) write_passes
+    (either_pass IsQuery (eitherG IsExplain (eitherG IsShowVersions IsShowSchema)) query_passes
+    (either_pass IsExplain (eitherG IsShowVersions IsShowSchema) explain_passes show_passes))

@@ -12,7 +12,7 @@ use Rattle.expr_grammar.specs.Reader.{outermost, goes_expr, goes_cond}
 use Rattle.expr_grammar.specs.Constants.{name, names, moment, small, constant}
 use Rattle.smo_parse.specs.OperatorReader.{operator, goes_operator}
 use Rattle.temporal_lang.specs.QueryReader as query
-use Rattle.script_parse.specs.Statements.{PlainStatement, write, ask, show_versions, show_schema}
+use Rattle.script_parse.specs.Statements.{PlainStatement, write, ask, explain, show_versions, show_schema}
 
 -- ---- changes
 
@@ -93,6 +93,10 @@ write_rest = bind moment (λ m. map_to (λ b. write (record { stamp = m; body = 
 unfoldable pub ask_rest : Parser PlainStatement
 ask_rest = map_to (λ q. ask q) query.ask
 
+-- behind EXPLAIN
+unfoldable pub explain_rest : Parser PlainStatement
+explain_rest = lead (is_word (codes "QUERY")) (map_to (λ q. explain q) query.ask)
+
 -- behind SHOW SCHEMA
 unfoldable pub schema_rest : Parser PlainStatement
 schema_rest = map_to (λ version. show_schema version) small
@@ -107,7 +111,7 @@ show_rest = choose show_arm
 abbrev pub statement_arm : Lexeme → Arm PlainStatement
 statement_arm x =
     if is_word (codes "AT") x then Takes write_rest else (if is_word (codes "QUERY") x then Takes ask_rest else
-    (if is_word (codes "SHOW") x then Takes show_rest else No))
+    (if is_word (codes "EXPLAIN") x then Takes explain_rest else (if is_word (codes "SHOW") x then Takes show_rest else No)))
 
 unfoldable pub statement : Parser PlainStatement
 statement = choose statement_arm

@@ -3,11 +3,13 @@ use Rattle.std.specs.Prelude.{ℕ}
 use Rattle.smo_types.specs.Commands.{PlainCommand, command_of}
 use Rattle.temporal_lang.specs.Queries.{PlainQuery, query_of}
 use Rattle.script_parse.specs.declared.statements.Statement.{Statement}
-use Rattle.script_parse.specs.declared.statements.Statement.TheVariants.{Write, Ask, ShowVersions, ShowSchema}
+use Rattle.script_parse.specs.declared.statements.Statement.TheVariants.{Write, Ask, Explain, ShowVersions, ShowSchema}
 
 pub data PlainStatement : Type 0 where
   write : PlainCommand → PlainStatement
   ask : PlainQuery → PlainStatement
+  -- which pieces the query runs
+  explain : PlainQuery → PlainStatement
   show_versions : PlainStatement
   -- the version's number
   show_schema : ℕ → PlainStatement
@@ -15,5 +17,6 @@ pub data PlainStatement : Type 0 where
 abbrev pub statement_of : Statement → PlainStatement
 statement_of (Write c) = write (command_of c)
 statement_of (Ask q) = ask (query_of q)
+statement_of (Explain q) = explain (query_of q)
 statement_of ShowVersions = show_versions
 statement_of (ShowSchema version) = show_schema version

@@ -59,6 +59,16 @@ fn ask_rest(alloc: Global, c: &mut Cursor<'_, '_>) -> Result<Statement, Stop>
     Ok(Statement::Ask(query))
 }
 
+// What stands behind EXPLAIN.
+#[tactic(auto, unfolding(crate::specs::StatementReader::explain_rest), using(parser_combinators::proofs::ReadSteps::lead_seen, parser_combinators::proofs::ReadSteps::lead_not))]
+fn explain_rest(alloc: Global, c: &mut Cursor<'_, '_>) -> Result<Statement, Stop>
+    ensures { Reads statement_of (spec.explain_rest c.old.nodes (ahead c.old)) result c.new }
+{
+    c.expect_word(b"QUERY")?;
+    let query = ask(alloc, c)?;
+    Ok(Statement::Explain(query))
+}
+
 // What stands behind SHOW SCHEMA.
 #[tactic(auto, unfolding(crate::specs::StatementReader::schema_rest))]
 fn schema_rest(c: &mut Cursor<'_, '_>) -> Result<Statement, Stop>
@@ -96,6 +106,10 @@ fn statement(alloc: Global, c: &mut Cursor<'_, '_>) -> Result<Statement, Stop>
     if c.sees_word(b"QUERY") {
         c.skip();
         return ask_rest(alloc, c);
+    }
+    if c.sees_word(b"EXPLAIN") {
+        c.skip();
+        return explain_rest(alloc, c);
     }
     if c.sees_word(b"SHOW") {
         c.skip();

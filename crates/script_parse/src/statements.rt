@@ -11,6 +11,8 @@ pub enum Statement {
     Write(Command),
     /// A query, which changes nothing.
     Ask(Query),
+    /// A query whose pieces are told in place of its answer.
+    Explain(Query),
     /// The list of all versions.
     ShowVersions,
     /// The tables of the version with this number.

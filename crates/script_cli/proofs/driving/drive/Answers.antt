@@ -2,11 +2,12 @@ use Rattle.std.proofs.Common.{◌≡◌, ◌+◌, ◌≤◌, arith, [], List, sy
 use Rattle.std.specs.Prelude.{Option, Some, None}
 use Rattle.std.specs.Io.KnownBytes.{Consumes}
 use Rattle.archive_core.specs.Fields.{below, place_of}
-use Rattle.script_cli.specs.Driving.{Drove}
+use Rattle.script_cli.specs.Driving.{Drove, CountsPuts}
 use Rattle.script_cli.specs.Limits.{longest_script}
 use Rattle.script_cli.specs.Runs.{SourceCounted, SinkCounted, DiskCounted}
 use Rattle.script_cli.proofs.Reaching.{reach_start, reach, drove_read, drove_limit, drove_halted, drove_end}
 use Rattle.script_cli.proofs.Counts.{rose_behind, sink_behind, sink_stopped, disk_stopped, source_stopped, source_at_end, disk_at_end}
+use Rattle.script_cli.proofs.Counting.{counts_at_end, counts_stopped}
 use Rattle.script_cli.proofs.driving.drive.Goals as goal
 
 -- the length of what was taken
@@ -25,8 +26,8 @@ nothing_taken (Some bytes) = refl
 pub turns-init : goal.turns-init
 turns-init g c =
     let fresh = c.new-script_run.ensures in record {
-      reached = λ limit start stands. reach_start limit start c.args.archive.now _ _ c.new-script_run.result (g.met.D.Disk.lawful c.args.archive.now.journal.disk)
-          (record { splitter = fresh.splitter; refused = fresh.refused }) stands (nothing_taken _);
+      reached = λ limit same start stands. reach_start limit start c.args.archive.now _ _ c.new-script_run.result (g.met.D.Disk.lawful c.args.archive.now.journal.disk)
+          (record { splitter = fresh.splitter; refused = fresh.refused; puts = fresh.puts }) stands (nothing_taken _);
       ready = ap (λ s. s.spent) fresh.splitter;
       takes = c.requires.takes;
       within = omega arith;
@@ -36,27 +37,34 @@ turns-init g c =
     }
 
 pub returns-in-Err-clause-drove : goal.returns-in-Err-clause-drove
-returns-in-Err-clause-drove g c = λ limit start stands. drove_read limit start c.args.archive.now c.turns.archive (c.turns.invariant.reached limit start stands) c.turns.invariant.within c.in-Err.ensures.bytes
+returns-in-Err-clause-drove g c = λ limit same start stands. drove_read limit start c.args.archive.now c.turns.archive (c.turns.invariant.reached limit same start stands) c.turns.invariant.within c.in-Err.ensures.bytes
 
 pub returns-then-taken-eq0-clause-drove : goal.returns-then-taken-eq0-clause-drove
-returns-then-taken-eq0-clause-drove g c = λ limit start stands.
-    drove_end limit start c.args.archive.now c.turns.archive (c.turns.invariant.reached limit start stands) c.turns.invariant.within
+returns-then-taken-eq0-clause-drove g c = λ limit same start stands.
+    drove_end limit start c.args.archive.now c.turns.archive (c.turns.invariant.reached limit same start stands) c.turns.invariant.within
     (none_taken _ _ c.take_some.new.chunk _ c.if-taken-eq0.true c.in-Ok.ensures.bytes.0)
-    (c.in-Ok.ensures.bytes.1 c.if-taken-eq0.true) c.finish.result c.finish.ensures.ends
+    (c.in-Ok.ensures.bytes.1 c.if-taken-eq0.true) c.finish-status.result c.finish-status.ensures.ends
 
 pub returns-then-count-eq-SCRIPT_LIMIT-clause-drove : goal.returns-then-count-eq-SCRIPT_LIMIT-clause-drove
-returns-then-count-eq-SCRIPT_LIMIT-clause-drove g c = λ limit start stands.
+returns-then-count-eq-SCRIPT_LIMIT-clause-drove g c = λ limit same start stands.
     let l : length c.take_some.new.chunk ≡ 4096 = grind arith in
     let one : c.in-Ok.taken ≡ 1 = omega (arith, c.in-Ok.ensures.bound, c.room_for-room.ensures.last) in
-    drove_limit limit start c.args.archive.now c.turns.archive (c.turns.invariant.reached limit start stands) (take c.in-Ok.taken c.take_some.new.chunk) c.in-Ok.ensures.bytes.0 c.if-count-eq-SCRIPT_LIMIT.true
+    drove_limit limit start c.args.archive.now c.turns.archive (c.turns.invariant.reached limit same start stands) (take c.in-Ok.taken c.take_some.new.chunk) c.in-Ok.ensures.bytes.0 c.if-count-eq-SCRIPT_LIMIT.true
     (front_length c.take_some.new.chunk c.in-Ok.taken (omega arith) ∙ one)
+
+pub returns-then-taken-eq0-clause-counted : goal.returns-then-taken-eq0-clause-counted
+returns-then-taken-eq0-clause-counted g c = λ limit same start stands.
+    subst (λ n. CountsPuts c.finish-status.result limit start (g.S.Source.left c.args.source.now) n) (sym c.puts-puts.ensures)
+    (counts_at_end limit start c.args.archive.now c.turns.archive _ _ _ _ _ c.turns.script_run c.turns.count c.finish-status.result (c.turns.invariant.reached limit same start stands)
+    (none_taken _ _ c.take_some.new.chunk _ c.if-taken-eq0.true c.in-Ok.ensures.bytes.0)
+    (c.in-Ok.ensures.bytes.1 c.if-taken-eq0.true))
 
 pub turns-preserved : goal.turns-preserved
 turns-preserved g c =
     let l : length c.take_some.new.chunk ≡ 4096 = grind arith in
     let n : c.in-Ok.taken ≤ length c.take_some.new.chunk = omega (arith, c.in-Ok.ensures.bound) in record {
-      reached = λ limit start stands. reach limit start c.args.archive.now c.turns.archive c.feed.new.archive (c.turns.invariant.reached limit start stands) (take c.in-Ok.taken c.take_some.new.chunk) _ _ c.in-Ok.ensures.bytes.0
-          (ap (λ k. c.turns.count + k) (sym (front_length c.take_some.new.chunk c.in-Ok.taken n))) c.in-Ok-feed.ensures.took;
+      reached = λ limit same start stands. reach limit start c.args.archive.now c.turns.archive c.feed.new.archive (c.turns.invariant.reached limit same start stands) (take c.in-Ok.taken c.take_some.new.chunk) _ _ c.in-Ok.ensures.bytes.0
+          (ap (λ k. c.turns.count + k) (sym (front_length c.take_some.new.chunk c.in-Ok.taken n))) (c.in-Ok-feed.ensures.took limit same);
       ready = c.in-Ok-feed.ensures.ready;
       takes = c.in-Ok-feed.ensures.takes;
       within = omega (arith, c.in-Ok.ensures.bound, c.room_for-room.ensures.within);
@@ -73,17 +81,17 @@ returns-in-Err-clause-source g c =
 
 pub returns-then-taken-eq0-clause-source : goal.returns-then-taken-eq0-clause-source
 returns-then-taken-eq0-clause-source g c =
-    source_at_end c.finish.result c.turns.script_run (g.K.Sink.written c.turns.sink) (g.K.Sink.written c.finish.new.sink) (g.S.Source.faults c.args.source.now) (g.S.Source.faults c.take_some.new.source)
-    c.finish.ensures.ends (c.in-Ok.ensures.cause.kept ∙ c.turns.invariant.read)
+    source_at_end c.finish-status.result c.turns.script_run (g.K.Sink.written c.turns.sink) (g.K.Sink.written c.finish-status.new.sink) (g.S.Source.faults c.args.source.now) (g.S.Source.faults c.take_some.new.source)
+    c.finish-status.ensures.ends (c.in-Ok.ensures.cause.kept ∙ c.turns.invariant.read)
 
 pub returns-then-taken-eq0-clause-sink : goal.returns-then-taken-eq0-clause-sink
 returns-then-taken-eq0-clause-sink g c =
-    sink_behind c.finish.result (g.K.Sink.faults c.args.sink.now) (g.K.Sink.faults c.turns.sink) (g.K.Sink.faults c.finish.new.sink) c.turns.invariant.wrote c.finish.ensures.sink
+    sink_behind c.finish-status.result (g.K.Sink.faults c.args.sink.now) (g.K.Sink.faults c.turns.sink) (g.K.Sink.faults c.finish-status.new.sink) c.turns.invariant.wrote c.finish-status.ensures.sink
 
 pub returns-then-taken-eq0-clause-disk : goal.returns-then-taken-eq0-clause-disk
 returns-then-taken-eq0-clause-disk g c =
-    disk_at_end c.finish.result c.turns.script_run (g.K.Sink.written c.turns.sink) (g.K.Sink.written c.finish.new.sink) (below c.args.archive.now).faults (below c.turns.archive).faults
-    c.finish.ensures.ends c.turns.invariant.disk
+    disk_at_end c.finish-status.result c.turns.script_run (g.K.Sink.written c.turns.sink) (g.K.Sink.written c.finish-status.new.sink) (below c.args.archive.now).faults (below c.turns.archive).faults
+    c.finish-status.ensures.ends c.turns.invariant.disk
 
 pub returns-then-count-eq-SCRIPT_LIMIT-clause-source : goal.returns-then-count-eq-SCRIPT_LIMIT-clause-source
 returns-then-count-eq-SCRIPT_LIMIT-clause-source g c = c.in-Ok.ensures.cause.kept ∙ c.turns.invariant.read
@@ -97,14 +105,14 @@ returns-then-count-eq-SCRIPT_LIMIT-clause-disk g c = c.turns.invariant.disk
 -- ---- a run that stopped
 
 pub returns-in-Err-feed-clause-drove : goal.returns-in-Err-feed-clause-drove
-returns-in-Err-feed-clause-drove g c = λ limit start stands.
+returns-in-Err-feed-clause-drove g c = λ limit same start stands.
     let l : length c.take_some.new.chunk ≡ 4096 = grind arith in
     let n : length (take c.in-Ok.taken c.take_some.new.chunk) ≡ c.in-Ok.taken = front_length c.take_some.new.chunk c.in-Ok.taken (omega (arith, c.in-Ok.ensures.bound)) in
     let within : c.turns.count + length (take c.in-Ok.taken c.take_some.new.chunk) ≤ longest_script = omega (arith, c.in-Ok.ensures.bound, c.room_for-room.ensures.within) in
     subst (λ s. Drove limit start s (g.S.Source.left c.args.source.now) (g.S.Source.left c.take_some.new.source) (g.K.Sink.written c.args.sink.now) (g.K.Sink.written c.feed.new.sink)
     (below c.args.archive.now) (below c.feed.new.archive) (place_of c.args.archive.now)) (sym c.status_of.ensures)
-    (drove_halted limit start c.args.archive.now c.turns.archive c.feed.new.archive c.in-Err-feed.halt (c.turns.invariant.reached limit start stands) (take c.in-Ok.taken c.take_some.new.chunk)
-    (g.met.D.Disk.lawful c.feed.new.archive.journal.disk) within c.in-Ok.ensures.bytes.0 c.in-Err-feed.ensures.halted)
+    (drove_halted limit start c.args.archive.now c.turns.archive c.feed.new.archive c.in-Err-feed.halt (c.turns.invariant.reached limit same start stands) (take c.in-Ok.taken c.take_some.new.chunk)
+    (g.met.D.Disk.lawful c.feed.new.archive.journal.disk) within c.in-Ok.ensures.bytes.0 (c.in-Err-feed.ensures.halted limit same))
 
 pub returns-in-Err-feed-clause-source : goal.returns-in-Err-feed-clause-source
 returns-in-Err-feed-clause-source g c =
@@ -122,3 +130,7 @@ returns-in-Err-feed-clause-disk g c =
     subst (λ s. DiskCounted s (below c.args.archive.now).faults (below c.feed.new.archive).faults) (sym c.status_of.ensures)
     (disk_stopped (Unit {0}) c.in-Err-feed.halt (g.K.Sink.faults c.args.sink.now) (g.K.Sink.faults c.turns.sink) (g.K.Sink.faults c.feed.new.sink) (below c.args.archive.now).faults (below c.turns.archive).faults (below c.feed.new.archive).faults
     c.turns.invariant.disk c.in-Err-feed.ensures.counts)
+
+pub returns-in-Err-feed-clause-counted : goal.returns-in-Err-feed-clause-counted
+returns-in-Err-feed-clause-counted g c = λ limit same start stands.
+    subst (λ s. CountsPuts s limit start (g.S.Source.left c.args.source.now) c.puts-puts.result) (sym c.status_of.ensures) (counts_stopped c.in-Err-feed.halt limit start _ _)

@@ -1,5 +1,6 @@
 use Rattle.std.specs.Prelude.{Option, Some, None, List, ℕ}
 use Rattle.disk_model.specs.Meaning.{Tells}
+use Rattle.script_cli.proofs.Counting.{opening_counted}
 use Rattle.script_cli.proofs.opening.mount_counted.Goals as goal
 
 pub returns-in-Ok-clause-opened : goal.returns-in-Ok-clause-opened
@@ -32,3 +33,6 @@ returns-clause-fault g c =
       cause = it.cause;
       unfailed = it.unfailed_err;
     }
+
+pub returns-in-Ok-clause-commands : goal.returns-in-Ok-clause-commands
+returns-in-Ok-clause-commands g c = opening_counted _ _ _ _ c.in-Ok.ensures.opened

@@ -1,8 +1,9 @@
-use Rattle.std.proofs.Common.{inl, inr, sym, subst, ap, ◌∙◌}
+use Rattle.std.proofs.Common.{inl, inr, refl, sym, subst, ap, ◌∙◌}
 use Rattle.disk_model.specs.Moments.{GoesOn}
 use Rattle.disk_model.specs.MomentLaws.{goes_trans}
 use Rattle.archive_core.specs.Fields.{below, place_of}
-use Rattle.script_cli.specs.Runs.{RunsOver, RanOpened, NotOpened, SourceCounted, DiskCounted, counted_limit}
+use Rattle.piece_meaning.specs.Books.{book_of}
+use Rattle.script_cli.specs.Runs.{RunsOver, RanOpened, NotOpened, SourceCounted, DiskCounted, given_by}
 use Rattle.script_cli.proofs.OnDisks.{start_of, ran_opened, put_goes}
 use Rattle.script_cli.proofs.Unopened.{not_opened, disk_unopened, source_unopened, disk_behind}
 use Rattle.script_cli.proofs.opening.run_over.Goals as goal
@@ -30,28 +31,28 @@ pub returns-in-Ok-clause-runs : goal.returns-in-Ok-clause-runs
 returns-in-Ok-clause-runs g c =
     let M = g.D.Disk.meaning in
     let has = c.in-Ok.ensures.opened in
-    let start = start_of (M c.args.disk) c.args.limit c.in-Ok.archive has in
-    let drove = c.drive-status.ensures.drove (counted_limit c.args.limit) start.0 start.1 in
-    let new = c.drive-status.new.archive in
-    subst (λ d. RunsOver c.args.limit c.drive-status.result (g.S.Source.left c.args.source.now) (g.S.Source.left c.drive-status.new.source) (g.K.Sink.written c.args.sink.now) (g.K.Sink.written c.drive-status.new.sink)
-    (g.K.Sink.faults c.args.sink.now) (g.K.Sink.faults c.drive-status.new.sink) (M c.args.disk) (M d)) (sym c.into_disk.ensures)
-    (inr (ran_opened (M c.args.disk) c.args.limit c.in-Ok.archive has start.0 start.2 c.drive-status.result _ _ _ _ (below new) (g.met.D.Disk.lawful new.journal.disk) drove))
+    let start = start_of (M c.args.disk) c.args.limit (book_of (λ r. (goal.Rule-dyn g (r.vtable, r.value)).handles r.value) (λ r. (goal.Rule-dyn g (r.vtable, r.value)).answers r.value) c.args.book.now.rules.items) c.in-Ok.archive has in
+    let drove = c.drive-driven.ensures.drove (given_by c.args.limit (book_of (λ r. (goal.Rule-dyn g (r.vtable, r.value)).handles r.value) (λ r. (goal.Rule-dyn g (r.vtable, r.value)).answers r.value) c.args.book.now.rules.items)) refl start.0 start.1 in
+    let new = c.drive-driven.new.archive in
+    subst (λ d. RunsOver (given_by c.args.limit (book_of (λ r. (goal.Rule-dyn g (r.vtable, r.value)).handles r.value) (λ r. (goal.Rule-dyn g (r.vtable, r.value)).answers r.value) c.args.book.now.rules.items)) c.drive-driven.result.status (g.S.Source.left c.args.source.now) (g.S.Source.left c.drive-driven.new.source) (g.K.Sink.written c.args.sink.now) (g.K.Sink.written c.drive-driven.new.sink)
+    (g.K.Sink.faults c.args.sink.now) (g.K.Sink.faults c.drive-driven.new.sink) (M c.args.disk) (M d)) (sym c.into_disk.ensures)
+    (inr (ran_opened (M c.args.disk) c.args.limit (book_of (λ r. (goal.Rule-dyn g (r.vtable, r.value)).handles r.value) (λ r. (goal.Rule-dyn g (r.vtable, r.value)).answers r.value) c.args.book.now.rules.items) c.in-Ok.archive has start.0 start.2 c.drive-driven.result.status _ _ _ _ (below new) (g.met.D.Disk.lawful new.journal.disk) drove))
 
 pub returns-in-Ok-clause-goes : goal.returns-in-Ok-clause-goes
 returns-in-Ok-clause-goes g c =
     let M = g.D.Disk.meaning in
     let has = c.in-Ok.ensures.opened in
-    let start = start_of (M c.args.disk) c.args.limit c.in-Ok.archive has in
-    let drove = c.drive-status.ensures.drove (counted_limit c.args.limit) start.0 start.1 in
-    let new = c.drive-status.new.archive in
+    let start = start_of (M c.args.disk) c.args.limit (book_of (λ r. (goal.Rule-dyn g (r.vtable, r.value)).handles r.value) (λ r. (goal.Rule-dyn g (r.vtable, r.value)).answers r.value) c.args.book.now.rules.items) c.in-Ok.archive has in
+    let drove = c.drive-driven.ensures.drove (given_by c.args.limit (book_of (λ r. (goal.Rule-dyn g (r.vtable, r.value)).handles r.value) (λ r. (goal.Rule-dyn g (r.vtable, r.value)).answers r.value) c.args.book.now.rules.items)) refl start.0 start.1 in
+    let new = c.drive-driven.new.archive in
     subst (λ d. GoesOn (M c.args.disk) (M d)) (sym c.into_disk.ensures)
-    (goes_trans (M c.args.disk) (below c.in-Ok.archive) (below new) has.goes (put_goes c.drive-status.result (below c.in-Ok.archive) (below new) (place_of c.in-Ok.archive) _ _ drove.puts))
+    (goes_trans (M c.args.disk) (below c.in-Ok.archive) (below new) has.goes (put_goes c.drive-driven.result.status (below c.in-Ok.archive) (below new) (place_of c.in-Ok.archive) _ _ drove.puts))
 
 pub returns-in-Ok-clause-disk : goal.returns-in-Ok-clause-disk
 returns-in-Ok-clause-disk g c =
     let M = g.D.Disk.meaning in
-    subst (λ d. DiskCounted c.drive-status.result (M c.args.disk).faults (M d).faults) (sym c.into_disk.ensures)
-    (disk_behind c.drive-status.result (M c.args.disk).faults (below c.in-Ok.archive).faults (below c.drive-status.new.archive).faults c.in-Ok.ensures.opened.unfailed c.drive-status.ensures.disk)
+    subst (λ d. DiskCounted c.drive-driven.result.status (M c.args.disk).faults (M d).faults) (sym c.into_disk.ensures)
+    (disk_behind c.drive-driven.result.status (M c.args.disk).faults (below c.in-Ok.archive).faults (below c.drive-driven.new.archive).faults c.in-Ok.ensures.opened.unfailed c.drive-driven.ensures.disk)
 
-pub drive-status-requires-clause-takes : goal.drive-status-requires-clause-takes
-drive-status-requires-clause-takes g c = c.in-Ok.ensures.opened.takes
+pub drive-driven-requires-clause-takes : goal.drive-driven-requires-clause-takes
+drive-driven-requires-clause-takes g c = c.in-Ok.ensures.opened.takes

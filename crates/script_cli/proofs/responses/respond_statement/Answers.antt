@@ -1,11 +1,12 @@
 use Rattle.std.proofs.Common.{◌≡◌, refl, sym, subst, List, ℕ, []}
 use Rattle.std.specs.Prelude.{Some, None}
 use Rattle.smo_meaning.specs.Checks.{Fault}
+use Rattle.piece_meaning.specs.Rules.{Book}
 use Rattle.temporal_lang.specs.Queries.{query_of}
 use Rattle.temporal_lang.specs.Accepted.{version_fault, fault_of_query}
 use Rattle.script_parse.specs.Statements.{statement_of}
-use Rattle.script_cli.specs.Output.{Recorded, query_reply, versions_reply, schema_reply, statement_reply, refused_or, answered}
-use Rattle.script_cli.specs.Shows.{Responds}
+use Rattle.script_cli.specs.Output.{Recorded, query_reply, explain_reply, versions_reply, schema_reply, statement_reply, refused_or, answered}
+use Rattle.script_cli.specs.Shows.{Says, Responds}
 use Rattle.script_cli.proofs.Responding.{says_responds, halt_said, on_ok}
 use Rattle.script_cli.proofs.responses.respond_statement.Goals as goal
 
@@ -18,21 +19,30 @@ same_behind None now text = refl
 same_behind (Some r) now text = refl
 
 pub returns-in-Ask-clause-replies : goal.returns-in-Ask-clause-replies
-returns-in-Ask-clause-replies g c = λ limit now stands.
+returns-in-Ask-clause-replies g c = λ limit same now stands.
     let a = c.args.archive.now in
     let query = query_of c.in-Ask.query in
     subst (λ s. Responds limit (statement_reply limit (statement_of s) now) c.respond_ask.result a a (g.K.Sink.written c.args.sink.now) (g.K.Sink.written c.respond_ask.new.sink)) (sym c.in-Ask.is)
     (says_responds _ _ limit now a a (query_reply query now) c.respond_ask.result (g.met.D.Disk.lawful a.journal.disk) stands
     (no_puts (fault_of_query now.past query) now _) (same_behind (fault_of_query now.past query) now _) (c.respond_ask.ensures.says now stands.past))
 
+pub returns-in-Explain-clause-replies : goal.returns-in-Explain-clause-replies
+returns-in-Explain-clause-replies g c = λ limit same now stands.
+    let a = c.args.archive.now in
+    let query = query_of c.in-Explain.query in
+    subst (λ s. Responds limit (statement_reply limit (statement_of s) now) c.respond_explain.result a a (g.K.Sink.written c.args.sink.now) (g.K.Sink.written c.respond_explain.new.sink)) (sym c.in-Explain.is)
+    (says_responds _ _ limit now a a (explain_reply limit.book query now) c.respond_explain.result (g.met.D.Disk.lawful a.journal.disk) stands
+    (no_puts (fault_of_query now.past query) now _) (same_behind (fault_of_query now.past query) now _)
+    (subst (λ (b : Book). Says (explain_reply b query now) c.respond_explain.result (g.K.Sink.written c.args.sink.now) (g.K.Sink.written c.respond_explain.new.sink)) (sym same) (c.respond_explain.ensures.says now stands.past)))
+
 pub returns-in-ShowVersions-clause-replies : goal.returns-in-ShowVersions-clause-replies
-returns-in-ShowVersions-clause-replies g c = λ limit now stands.
+returns-in-ShowVersions-clause-replies g c = λ limit same now stands.
     let a = c.args.archive.now in
     subst (λ s. Responds limit (statement_reply limit (statement_of s) now) c.respond_versions.result a a (g.K.Sink.written c.args.sink.now) (g.K.Sink.written c.respond_versions.new.sink)) (sym c.in-ShowVersions.is)
     (says_responds _ _ limit now a a (versions_reply now) c.respond_versions.result (g.met.D.Disk.lawful a.journal.disk) stands refl refl (c.respond_versions.ensures.says now stands.past))
 
 pub returns-in-ShowSchema-clause-replies : goal.returns-in-ShowSchema-clause-replies
-returns-in-ShowSchema-clause-replies g c = λ limit now stands.
+returns-in-ShowSchema-clause-replies g c = λ limit same now stands.
     let a = c.args.archive.now in
     let version = c.in-ShowSchema.version in
     subst (λ s. Responds limit (statement_reply limit (statement_of s) now) c.respond_schema.result a a (g.K.Sink.written c.args.sink.now) (g.K.Sink.written c.respond_schema.new.sink)) (sym c.in-ShowSchema.is)
@@ -42,6 +52,9 @@ returns-in-ShowSchema-clause-replies g c = λ limit now stands.
 pub returns-in-Ask-clause-counts : goal.returns-in-Ask-clause-counts
 returns-in-Ask-clause-counts g c = halt_said c.respond_ask.result _ _ _ c.respond_ask.ensures.counts
 
+pub returns-in-Explain-clause-counts : goal.returns-in-Explain-clause-counts
+returns-in-Explain-clause-counts g c = halt_said c.respond_explain.result _ _ _ c.respond_explain.ensures.counts
+
 pub returns-in-ShowVersions-clause-counts : goal.returns-in-ShowVersions-clause-counts
 returns-in-ShowVersions-clause-counts g c = halt_said c.respond_versions.result _ _ _ c.respond_versions.ensures.counts
 
@@ -50,6 +63,9 @@ returns-in-ShowSchema-clause-counts g c = halt_said c.respond_schema.result _ _ 
 
 pub returns-in-Ask-clause-takes : goal.returns-in-Ask-clause-takes
 returns-in-Ask-clause-takes g c = on_ok _ _ c.requires.takes
+
+pub returns-in-Explain-clause-takes : goal.returns-in-Explain-clause-takes
+returns-in-Explain-clause-takes g c = on_ok _ _ c.requires.takes
 
 pub returns-in-ShowVersions-clause-takes : goal.returns-in-ShowVersions-clause-takes
 returns-in-ShowVersions-clause-takes g c = on_ok _ _ c.requires.takes

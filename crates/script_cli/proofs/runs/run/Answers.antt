@@ -1,22 +1,32 @@
-use Rattle.std.proofs.Common.{◌≡◌, ◌⊎◌, ⊎_elim, inl, inr, ℕ, List, refl, sym, ◌∙◌, subst}
-use Rattle.std.specs.Prelude.{Option, Some, None, map, string_bytes}
+use Rattle.std.proofs.Common.{◌≡◌, ◌⊎◌, ⊎_elim, inl, inr, ℕ, refl, sym, ap, ◌∙◌}
+use Rattle.std.specs.Prelude.{Option, Some, None, map, option_and_then, string_bytes}
 use Rattle.smo_meaning.specs.Past.{Past}
-use Rattle.archive_file.specs.Opening.{Damages}
-use Rattle.disk_model.specs.Meaning.{Tells}
-use Rattle.program_words.specs.Words.{asked_for}
+use Rattle.piece_meaning.specs.Books.{book_of}
+use Rattle.program_words.specs.declared.request.Mode.{Mode}
+use Rattle.program_words.specs.declared.request.Mode.TheVariants.{Run, Sample}
+use Rattle.program_words.specs.declared.request.Request.{Request}
+use Rattle.program_words.specs.Words.{asked, limit_in, limit_of_run, request}
+use Rattle.sample_script.specs.Statements.{sample_script}
 use Rattle.script_cli.specs.Output.{recorded, recorded_after}
-use Rattle.script_cli.specs.Runs.{RefusedWords, PutsLine, counted_limit}
+use Rattle.script_cli.specs.Runs.{given_by}
 use Rattle.script_cli.specs.declared.status.Status.{Status}
 use Rattle.script_cli.specs.declared.status.Status.TheVariants.{NotAJournal, Words, NoMemory}
 use Rattle.script_cli.proofs.LawfulPasts.{still_made}
 use Rattle.script_cli.proofs.Errors.{error_told}
 use Rattle.script_cli.proofs.Recording.{recorded_is, history_is}
 use Rattle.script_cli.proofs.Telling.{front_over, whole_over, crash_over, damaged_over, refuses_over, front_untouched, crash_untouched, not_whole_untouched, refuses_untouched, not_damaged_untouched}
+use Rattle.script_cli.proofs.SampleRuns.{sample_damaged, sample_refuses, sample_whole, sample_held, sample_crash, leaves_untouched}
 use Rattle.script_cli.proofs.runs.run.Goals as goal
 
-asked_or_not : (o : Option ℕ) → (o ≡ None) ⊎ ((limit : ℕ) × (o ≡ Some limit))
-asked_or_not None = inl refl
-asked_or_not (Some limit) = inr (limit, refl)
+-- nothing is asked for, or a run, or a sample
+asks : (o : Option Request) → (o ≡ None) ⊎ (((limit : ℕ) × (option_and_then limit_of_run o ≡ Some limit)) ⊎ ((limit : ℕ) × (size : ℕ) × (o ≡ Some (request limit (Sample size)))))
+asks None = inl refl
+asks (Some r) = by r.mode refl
+  where
+    by : (mode : Mode) → r.mode ≡ mode
+        → (Some r ≡ None) ⊎ (((limit : ℕ) × (limit_in r.mode r.journal_limit ≡ Some limit)) ⊎ ((limit : ℕ) × (size : ℕ) × (Some r ≡ Some (request limit (Sample size)))))
+    by Run is = inr (inl (r.journal_limit, ap (λ m. limit_in m r.journal_limit) is))
+    by (Sample size) is = inr (inr (r.journal_limit, size, ap (λ m. Some (request r.journal_limit m)) is))
 
 -- wrong words are not answered by damage
 words_not_damaged : (status : Status) (place : ℕ) → status ≡ NotAJournal place → (status ≡ Words) ⊎ (status ≡ NoMemory) → ⊥
@@ -30,25 +40,31 @@ returns-clause-damaged g c = λ place is.
     (λ none. let refused = c.judge_and_run.ensures.refused none in
     absurd (words_not_damaged c.judge_and_run.result place is (⊎_elim (λ w. inl w.0) (λ m. inr m.0) refused.wrote)))
     (λ some. ⊎_elim
+    (λ run. ⊎_elim
     (λ untouched. absurd (not_damaged_untouched M _ _ _ _ _ _ _ untouched place is))
-    (λ over. damaged_over some.0 _ _ _ _ _ _ _ (M c.args.disk.now) (M c.judge_and_run.new.disk) place is over)
-    (c.judge_and_run.ensures.runs some.0 some.1))
-    (asked_or_not (asked_for (map string_bytes c.args.words.now)))
+    (λ over. damaged_over (given_by run.0 (book_of (λ r. (goal.Rule-dyn g (r.vtable, r.value)).handles r.value) (λ r. (goal.Rule-dyn g (r.vtable, r.value)).answers r.value) c.args.book.now.rules.items)) _ _ _ _ _ _ _ (M c.args.disk.now) (M c.judge_and_run.new.disk) place is over)
+    (c.judge_and_run.ensures.runs run.0 run.1))
+    (λ sample. ⊎_elim
+    (λ untouched. absurd (not_damaged_untouched M _ _ _ _ _ _ _ untouched place is))
+    (λ over. sample_damaged sample.1 (given_by sample.0 (book_of (λ r. (goal.Rule-dyn g (r.vtable, r.value)).handles r.value) (λ r. (goal.Rule-dyn g (r.vtable, r.value)).answers r.value) c.args.book.now.rules.items)) (sample_script sample.1) _ _ _ _ _ _ _ (M c.args.disk.now) (M c.judge_and_run.new.disk) over place is)
+    (c.judge_and_run.ensures.samples sample.0 sample.1 sample.2))
+    some)
+    (asks (asked (map string_bytes c.args.words.now)))
 
 pub returns-clause-refuses : goal.returns-clause-refuses
 returns-clause-refuses g c = λ limit file place asked seen damages.
     let M = g.D.Disk.meaning in
     ⊎_elim
     (λ untouched. refuses_untouched M _ _ _ _ _ _ _ untouched place)
-    (λ over. refuses_over limit _ _ _ _ _ _ _ (M c.args.disk.now) (M c.judge_and_run.new.disk) file place seen damages over)
+    (λ over. refuses_over (given_by limit (book_of (λ r. (goal.Rule-dyn g (r.vtable, r.value)).handles r.value) (λ r. (goal.Rule-dyn g (r.vtable, r.value)).answers r.value) c.args.book.now.rules.items)) _ _ _ _ _ _ _ (M c.args.disk.now) (M c.judge_and_run.new.disk) file place seen damages over)
     (c.judge_and_run.ensures.runs limit asked)
 
 pub returns-clause-front : goal.returns-clause-front
 returns-clause-front g c = λ limit file opening asked seen opens.
     let M = g.D.Disk.meaning in
     ⊎_elim
-    (λ untouched. front_untouched M _ _ _ _ _ _ _ untouched (counted_limit limit) (recorded opening))
-    (λ over. front_over limit _ _ _ _ _ _ _ (M c.args.disk.now) (M c.judge_and_run.new.disk) file opening seen opens over)
+    (λ untouched. front_untouched M _ _ _ _ _ _ _ untouched (given_by limit (book_of (λ r. (goal.Rule-dyn g (r.vtable, r.value)).handles r.value) (λ r. (goal.Rule-dyn g (r.vtable, r.value)).answers r.value) c.args.book.now.rules.items)) (recorded opening))
+    (λ over. front_over (given_by limit (book_of (λ r. (goal.Rule-dyn g (r.vtable, r.value)).handles r.value) (λ r. (goal.Rule-dyn g (r.vtable, r.value)).answers r.value) c.args.book.now.rules.items)) _ _ _ _ _ _ _ (M c.args.disk.now) (M c.judge_and_run.new.disk) file opening seen opens over)
     (c.judge_and_run.ensures.runs limit asked)
 
 pub returns-clause-whole : goal.returns-clause-whole
@@ -56,16 +72,48 @@ returns-clause-whole g c = λ limit file opening asked seen opens is_whole.
     let M = g.D.Disk.meaning in
     ⊎_elim
     (λ untouched. absurd (not_whole_untouched M _ _ _ _ _ _ _ untouched is_whole))
-    (λ over. whole_over limit _ _ _ _ _ _ _ (M c.args.disk.now) (M c.judge_and_run.new.disk) file opening seen opens is_whole over)
+    (λ over. whole_over (given_by limit (book_of (λ r. (goal.Rule-dyn g (r.vtable, r.value)).handles r.value) (λ r. (goal.Rule-dyn g (r.vtable, r.value)).answers r.value) c.args.book.now.rules.items)) _ _ _ _ _ _ _ (M c.args.disk.now) (M c.judge_and_run.new.disk) file opening seen opens is_whole over)
     (c.judge_and_run.ensures.runs limit asked)
 
 pub returns-clause-crash : goal.returns-clause-crash
 returns-clause-crash g c = λ limit file opening asked honest seen opens.
     let M = g.D.Disk.meaning in
     ⊎_elim
-    (λ untouched. crash_untouched M _ _ _ _ _ _ _ untouched (g.met.D.Disk.lawful c.args.disk.now) (counted_limit limit) opening)
-    (λ over. crash_over limit _ _ _ _ _ _ _ (M c.args.disk.now) (M c.judge_and_run.new.disk) file opening seen opens honest over)
+    (λ untouched. crash_untouched M _ _ _ _ _ _ _ untouched (g.met.D.Disk.lawful c.args.disk.now) (given_by limit (book_of (λ r. (goal.Rule-dyn g (r.vtable, r.value)).handles r.value) (λ r. (goal.Rule-dyn g (r.vtable, r.value)).answers r.value) c.args.book.now.rules.items)) opening)
+    (λ over. crash_over (given_by limit (book_of (λ r. (goal.Rule-dyn g (r.vtable, r.value)).handles r.value) (λ r. (goal.Rule-dyn g (r.vtable, r.value)).answers r.value) c.args.book.now.rules.items)) _ _ _ _ _ _ _ (M c.args.disk.now) (M c.judge_and_run.new.disk) file opening seen opens honest over)
     (c.judge_and_run.ensures.runs limit asked)
+
+pub returns-clause-sample_refuses : goal.returns-clause-sample_refuses
+returns-clause-sample_refuses g c = λ limit size file place for seen damages.
+    let M = g.D.Disk.meaning in
+    ⊎_elim
+    (λ untouched. refuses_untouched M _ _ _ _ _ _ _ untouched place)
+    (λ over. sample_refuses size (given_by limit (book_of (λ r. (goal.Rule-dyn g (r.vtable, r.value)).handles r.value) (λ r. (goal.Rule-dyn g (r.vtable, r.value)).answers r.value) c.args.book.now.rules.items)) (sample_script size) _ _ _ _ _ _ _ (M c.args.disk.now) (M c.judge_and_run.new.disk) over file place seen damages)
+    (c.judge_and_run.ensures.samples limit size for)
+
+pub returns-clause-summary : goal.returns-clause-summary
+returns-clause-summary g c = λ limit size file opening for seen opens is_whole.
+    let M = g.D.Disk.meaning in
+    ⊎_elim
+    (λ untouched. absurd (not_whole_untouched M _ _ _ _ _ _ _ untouched is_whole))
+    (λ over. sample_whole size (given_by limit (book_of (λ r. (goal.Rule-dyn g (r.vtable, r.value)).handles r.value) (λ r. (goal.Rule-dyn g (r.vtable, r.value)).answers r.value) c.args.book.now.rules.items)) (sample_script size) _ _ _ _ _ _ _ (M c.args.disk.now) (M c.judge_and_run.new.disk) over file opening seen opens is_whole)
+    (c.judge_and_run.ensures.samples limit size for)
+
+pub returns-clause-held : goal.returns-clause-held
+returns-clause-held g c = λ limit size file opening for honest seen opens is_whole.
+    let M = g.D.Disk.meaning in
+    ⊎_elim
+    (λ untouched. absurd (not_whole_untouched M _ _ _ _ _ _ _ untouched is_whole))
+    (λ over. sample_held size (given_by limit (book_of (λ r. (goal.Rule-dyn g (r.vtable, r.value)).handles r.value) (λ r. (goal.Rule-dyn g (r.vtable, r.value)).answers r.value) c.args.book.now.rules.items)) (sample_script size) _ _ _ _ _ _ _ (M c.args.disk.now) (M c.judge_and_run.new.disk) over file opening seen opens honest is_whole)
+    (c.judge_and_run.ensures.samples limit size for)
+
+pub returns-clause-sample_crash : goal.returns-clause-sample_crash
+returns-clause-sample_crash g c = λ limit size file opening for honest seen opens.
+    let M = g.D.Disk.meaning in
+    ⊎_elim
+    (λ untouched. leaves_untouched M _ _ _ _ _ _ _ untouched (g.met.D.Disk.lawful c.args.disk.now) opening _)
+    (λ over. sample_crash size (given_by limit (book_of (λ r. (goal.Rule-dyn g (r.vtable, r.value)).handles r.value) (λ r. (goal.Rule-dyn g (r.vtable, r.value)).answers r.value) c.args.book.now.rules.items)) (sample_script size) _ _ _ _ _ _ _ (M c.args.disk.now) (M c.judge_and_run.new.disk) over file opening seen opens honest)
+    (c.judge_and_run.ensures.samples limit size for)
 
 pub returns-clause-records : goal.returns-clause-records
 returns-clause-records g c = λ limit opening statements history. (recorded_is limit opening statements, history_is limit opening statements history)

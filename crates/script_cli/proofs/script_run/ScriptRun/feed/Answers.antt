@@ -8,7 +8,7 @@ use Rattle.script_cli.proofs.script_run.ScriptRun.feed.Goals as goal
 
 pub turns-init : goal.turns-init
 turns-init g c = record {
-  took = λ limit now stands. took_none limit now c.args.self.now c.args.archive.now c.args.piece.now _ (g.met.D.Disk.lawful c.args.archive.now.journal.disk) stands;
+  took = λ limit same now stands. took_none limit now c.args.self.now c.args.archive.now c.args.piece.now _ (g.met.D.Disk.lawful c.args.archive.now.journal.disk) stands;
   ready = c.requires.ready;
   takes = c.requires.takes;
   kept = refl;
@@ -17,9 +17,9 @@ turns-init g c = record {
 
 pub turns-preserved : goal.turns-preserved
 turns-preserved g c = record {
-  took = λ limit now stands.
-      let before = c.turns.invariant.took limit now stands in
-      took_more limit now _ _ _ _ _ _ _ _ _ _ _ _ before (left_some _ _ _ _ c.in-Some.is (c.in-Ok.ensures.took limit _ before.stands));
+  took = λ limit same now stands.
+      let before = c.turns.invariant.took limit same now stands in
+      took_more limit now _ _ _ _ _ _ _ _ _ _ _ _ before (left_some _ _ _ _ c.in-Some.is (c.in-Ok.ensures.took limit same _ before.stands));
   ready = c.in-Ok.ensures.ready;
   takes = c.in-Ok.ensures.takes;
   kept = c.in-Ok.ensures.counts.0 ∙ c.turns.invariant.kept;
@@ -27,14 +27,14 @@ turns-preserved g c = record {
 }
 
 pub returns-in-None-clause-took : goal.returns-in-None-clause-took
-returns-in-None-clause-took g c = λ limit now stands.
-    let before = c.turns.invariant.took limit now stands in
-    took_more limit now _ _ _ _ _ _ _ _ _ _ _ _ before (left_none _ _ _ c.in-None.is (c.in-Ok.ensures.took limit _ before.stands))
+returns-in-None-clause-took g c = λ limit same now stands.
+    let before = c.turns.invariant.took limit same now stands in
+    took_more limit now _ _ _ _ _ _ _ _ _ _ _ _ before (left_none _ _ _ c.in-None.is (c.in-Ok.ensures.took limit same _ before.stands))
 
 pub returns-in-Err-clause-halted : goal.returns-in-Err-clause-halted
-returns-in-Err-clause-halted g c = λ limit now stands.
-    let before = c.turns.invariant.took limit now stands in
-    halted_more limit now c.in-Err.halt _ _ _ _ _ _ _ _ _ _ before (c.in-Err.ensures.halted limit _ before.stands)
+returns-in-Err-clause-halted g c = λ limit same now stands.
+    let before = c.turns.invariant.took limit same now stands in
+    halted_more limit now c.in-Err.halt _ _ _ _ _ _ _ _ _ _ before (c.in-Err.ensures.halted limit same _ before.stands)
 
 pub returns-in-None-clause-counts : goal.returns-in-None-clause-counts
 returns-in-None-clause-counts g c = (c.in-Ok.ensures.counts.0 ∙ c.turns.invariant.kept, c.in-Ok.ensures.counts.1 ∙ c.turns.invariant.disk)

@@ -1,0 +1,133 @@
+-- What a run of the sample writes and answers, and what it leaves on the disk. Its script is made from its size, and no byte is taken.
+use Rattle.std.specs.Prelude.{◌≡◌, ◌⊎◌, ℕ, ◌+◌, IsTrue, List, ◌++◌, length, [], Bool, true, false, Option, Some, Result, Ok, Err}
+use Rattle.std.specs.Io.KnownBytes.{Appends}
+use Rattle.prima_io.specs.Moves.{AppendsLess}
+use Rattle.disk_model.specs.Meaning.{Meaning, Tells}
+use Rattle.disk_model.specs.Moments.{Turns}
+use Rattle.journal.specs.Records.{Holds}
+use Rattle.smo_types.specs.Commands.{PlainCommand}
+use Rattle.archive_file.specs.Opening.{Opens, records_of}
+use Rattle.program_words.specs.Words.{asked, request}
+use Rattle.program_words.specs.declared.request.Mode.TheVariants.{Sample}
+use Rattle.sample_script.specs.Statements.{sample_script}
+use Rattle.sample_script.specs.Summary.{summary}
+use Rattle.script_cli.specs.Given.{Given}
+use Rattle.script_cli.specs.Output.{Recorded, recorded, output, has_error, script_puts}
+use Rattle.script_cli.specs.Files.{OpensPrefix}
+use Rattle.script_cli.specs.Runs.{NotOpened, is_whole}
+use Rattle.script_cli.specs.Driving.{Drove}
+use Rattle.script_cli.specs.declared.halt.Halt.{Halt}
+use Rattle.script_cli.specs.declared.halt.Halt.TheVariants as halt
+use Rattle.script_cli.specs.declared.status.Status.{Status}
+use Rattle.script_cli.specs.declared.status.Status.TheVariants.{Done, Refused, WriteFault, DiskFault, NoMemory}
+
+-- the words ask for a sample of this size, over a journal with this limit
+abbrev pub AsksSample : List (List ℕ) → ℕ → ℕ → Type 0
+AsksSample words limit size = asked words ≡ Some (request limit (Sample size))
+
+-- ---- what is told
+
+-- behind so many commands: the size, the commands of the history behind the script, its `error` lines, and its `end` lines
+abbrev pub told_behind : ℕ → Given → Recorded → ℕ → List ℕ → List ℕ
+told_behind size limit start count script = summary size (count + length (script_puts limit start script)) (output limit start script)
+
+-- the same, behind these commands
+abbrev pub sample_told : ℕ → Given → List PlainCommand → List ℕ
+sample_told size limit opening =
+    summary size (length (opening ++ script_puts limit (recorded opening) (sample_script size))) (output limit (recorded opening) (sample_script size))
+
+-- the commands that the sample's script puts behind these
+abbrev pub sample_puts : ℕ → Given → List PlainCommand → List PlainCommand
+sample_puts size limit opening = script_puts limit (recorded opening) (sample_script size)
+
+-- how a sample ends that is told whole: by whether its script's replies have an `error` line
+abbrev pub end_of : Bool → Status
+end_of true = Refused
+end_of false = Done
+
+abbrev pub sample_end : ℕ → Given → List PlainCommand → Status
+sample_end size limit opening = end_of (has_error limit (recorded opening) (sample_script size))
+
+-- What was written of this summary, by the status.
+abbrev pub WroteSummary : Status → List ℕ → Bool → Option (List ℕ) → Option (List ℕ) → Type 0
+WroteSummary Done text faulty old new = Appends old new text × (faulty ≡ false)
+WroteSummary Refused text faulty old new = Appends old new text × (faulty ≡ true)
+WroteSummary WriteFault text faulty old new = AppendsLess old new text
+WroteSummary DiskFault text faulty old new = new ≡ old
+WroteSummary NoMemory text faulty old new = new ≡ old
+WroteSummary other text faulty old new = ⊥
+
+-- ---- what is left on the disk
+
+-- the script was read to its end
+abbrev pub was_read : Status → Bool
+was_read Done = true
+was_read Refused = true
+was_read WriteFault = true
+was_read other = false
+
+-- Where the file opens as some commands at the start: from the first sync on a crash leaves them and a prefix of those that the script
+-- puts, and so does a read give, unless the disk failed; where the script was read to its end, at the exit a crash leaves all of them,
+-- and a read gives the header, just their records, and a gate that is not open.
+pub record SampleLeft (limit : Given) (script : List ℕ) (status : Status) (old new : Meaning) : Type 0 where
+  pub any_moment : (file : List ℕ) (opening : List PlainCommand) → IsTrue old.is_honest → old.seen ≡ Some file → Opens file opening
+      → Turns old new (OpensPrefix opening (script_puts limit (recorded opening) script))
+  pub exit : (file : List ℕ) (opening : List PlainCommand) → was_read status ≡ true → IsTrue old.is_honest → old.seen ≡ Some file → Opens file opening → (c : List ℕ) → new.may_leave c
+      → Opens c (opening ++ script_puts limit (recorded opening) script)
+  pub given : (file : List ℕ) (opening : List PlainCommand) → (status ≡ DiskFault → ⊥) → old.seen ≡ Some file → Opens file opening
+      → (c : List ℕ) × (new.seen ≡ Some c) × OpensPrefix opening (script_puts limit (recorded opening) script) c
+  pub holds : (file : List ℕ) (opening : List PlainCommand) → was_read status ≡ true → old.seen ≡ Some file → Opens file opening
+      → (c : List ℕ) × (new.seen ≡ Some c) × Holds c (records_of (opening ++ script_puts limit (recorded opening) script))
+
+-- ---- a sample
+
+-- the start is that of the commands as which the file opened, so many, where the disk tells it
+abbrev pub IsCounted : Recorded → ℕ → Option (List ℕ) → Type 0
+IsCounted start count seen = Tells seen (λ file. (opening : List PlainCommand) × Opens file opening × (start ≡ recorded opening) × (count ≡ length opening))
+
+-- the file opened, and this script was run behind its commands
+pub record Sampled (size : ℕ) (limit : Given) (script : List ℕ) (status : Status) (written_old written_new : Option (List ℕ)) (old new : Meaning) : Type 0 where
+  pub start : Recorded
+  pub count : ℕ
+  pub opened : IsCounted start count old.seen
+  pub wrote : WroteSummary status (told_behind size limit start count script) (has_error limit start script) written_old written_new
+  pub disk : SampleLeft limit script status old new
+
+-- the disk was called: the file was not opened, or it was and the script of this size was run
+abbrev pub SamplesOver : ℕ → Given → Status → Option (List ℕ) → Option (List ℕ) → Option (List ℕ) → Option (List ℕ) → ℕ → ℕ → Meaning → Meaning → Type 0
+SamplesOver size given status left_old left_new written_old written_new faults_old faults_new old new =
+    NotOpened status left_old left_new written_old written_new faults_old faults_new old new
+    ⊎ Sampled size given (sample_script size) status written_old written_new old new
+
+-- ---- the parts of one
+
+-- How a sample ends whose script was not read to its end: the disk failed, or memory ran out, from which alone the source and the sink
+-- of the replies fail too.
+abbrev pub stop_of : Status → Status
+stop_of DiskFault = DiskFault
+stop_of other = NoMemory
+
+-- the summary was put whole, or less of it where the sink failed, and nothing where memory ran out
+abbrev pub PutsSummary : {T : Type 0} → Result T Halt → List ℕ → Option (List ℕ) → Option (List ℕ) → Type 0
+PutsSummary (Ok x) text old new = Appends old new text
+PutsSummary (Err halt.WriteFault) text old new = AppendsLess old new text
+PutsSummary (Err halt.DiskFault) text old new = ⊥
+PutsSummary (Err halt.NoMemory) text old new = new ≡ old
+
+-- the same, by the status of a sample whose script was read to its end, with this one
+abbrev pub ToldBy : Status → Status → List ℕ → Option (List ℕ) → Option (List ℕ) → Type 0
+ToldBy driven status text old new =
+    ((status ≡ driven) × Appends old new text) ⊎ (((status ≡ WriteFault) × AppendsLess old new text) ⊎ ((status ≡ NoMemory) × (new ≡ old)))
+
+-- the summary was due where the script was read to its end, and else nothing
+abbrev pub EndsSample : Status → Status → List ℕ → Option (List ℕ) → Option (List ℕ) → Type 0
+EndsSample driven status text old new =
+    ((is_whole driven ≡ true) × ToldBy driven status text old new) ⊎ ((status ≡ stop_of driven) × (new ≡ old))
+
+-- this script was read over an opened archive, its replies were kept, and the summary of them was told behind so many commands
+pub record DroveSample (size : ℕ) (limit : Given) (script : List ℕ) (start : Recorded) (count : ℕ) (status : Status) (written_old written_new : Option (List ℕ)) (old new : Meaning) (at : ℕ) : Type 0 where
+  pub driven : Status
+  pub left : Option (List ℕ)
+  pub kept : List ℕ
+  pub drove : Drove limit start driven (Some script) left (Some []) (Some kept) old new at
+  pub ended : EndsSample driven status (summary size (count + length (script_puts limit start script)) kept) written_old written_new
