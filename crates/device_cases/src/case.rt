@@ -77,14 +77,27 @@ impl Case {
         }
     }
 
-    // Runs the script over the file, and keeps the file that is left.
-    fn run(&mut self) -> Result<(), NoMemory> {
+    // Runs the script over the file, tells how it ended, and keeps the file that is left.
+    fn end(&mut self) -> Result<(), NoMemory> {
         let (ended, file) = play_once(self.alloc, self.runs(), Devices::sure(self.alloc))?;
         write_end(ended.code, &ended.replies, &mut self.answers)?;
-        write_file(&file, &mut self.answers)?;
-        self.answers.push(b'\n')?;
         self.file = file;
         self.script.clear();
+        Ok(())
+    }
+
+    // The same, and tells the bytes of the file.
+    fn run(&mut self) -> Result<(), NoMemory> {
+        self.end()?;
+        write_file(&self.file, &mut self.answers)?;
+        self.answers.push(b'\n')?;
+        Ok(())
+    }
+
+    // The same without them.
+    fn run_untold(&mut self) -> Result<(), NoMemory> {
+        self.end()?;
+        self.answers.push(b'\n')?;
         Ok(())
     }
 
@@ -127,6 +140,7 @@ impl Case {
                 Ok(())
             }
             Line::Run => self.run(),
+            Line::Ends => self.run_untold(),
             Line::Sources => self.play_each(Kind::Source),
             Line::Sinks => self.play_each(Kind::Sink),
             Line::Rooms => self.play_each(Kind::Room),
