@@ -1,8 +1,10 @@
 #!/usr/bin/env bash
 # Times joins over time, over the built program: two tables of n rows each, and a third one, for each n (1,000, 10,000 and 100,000 unless told
-# otherwise). Prints the seconds that each question adds to the load, and the most memory in KiB: an equality on a key; an equality that nothing
-# meets; three tables; rows whose periods never overlap; KEEP over all entries; and a full listing, to compare with. Where an answer is short or as
-# long as the tables, ten times the rows should take little more than ten times as long.
+# otherwise). Prints for each question the seconds that it adds to the load, and below them the KiB of memory: an equality on a key; an equality that
+# nothing meets; three tables; rows whose periods never overlap; KEEP over all entries; a few rows of a join; versions of one key beside a row that
+# outlasts them (10,000 at most); the product of 3,000 rows with 3,000, and of 200 with 200 with 200, where no equality links them and the answer is one
+# value; and a full listing, to compare with. Where an answer is short or as long as the tables, ten times the rows should take little more than ten
+# times as long; the products should take little more memory than `few`.
 set -eu
 top=$(cd "$(dirname "$0")/.." && pwd)
 "$top/prima" </dev/null >/dev/null || [ $? -eq 2 ] # builds what is missing; no words, no archive
@@ -33,8 +35,9 @@ def insertions(table, columns, rows):
 
 
 def loaded(n):
-    """Three tables of n rows, loaded by commands of 5,000 rows; those of `late` begin where those of `early` have ended."""
-    script = [f"AT {i} EVOLVE CREATE TABLE {t};" for i, t in enumerate(["r (k INT, x INT)", "s (k INT, y INT)", "u (k INT, z INT)", "early (k INT)", "late (k INT)"])]
+    """Three tables of n rows, loaded by commands of 5,000 rows; those of `late` begin where those of `early` have ended. In `turns` one key has
+    n versions (10,000 at most) that follow one another, beside a row that still goes on."""
+    script = [f"AT {i} EVOLVE CREATE TABLE {t};" for i, t in enumerate(["r (k INT, x INT)", "s (k INT, y INT)", "u (k INT, z INT)", "early (k INT)", "late (k INT)", "turns (k INT, x INT)"])]
     changes = insertions("r", "kx", ((i, i * 7919 % n) for i in range(n))) + insertions("s", "ky", ((i * 31 % n, n + i) for i in range(n)))
     changes += insertions("u", "kz", ((i * 17 % n, i) for i in range(n))) + insertions("early", "k", ((i,) for i in range(n)))
     at = 10
@@ -46,6 +49,8 @@ def loaded(n):
     for i in range(0, len(changes), 5000):
         at += 1
         script.append(f"AT {at} " + " THEN ".join(changes[i : i + 5000]) + ";")
+    script.append(f"AT {at + 1} INSERT INTO turns (k, x) VALUES (1, 0) THEN INSERT INTO turns (k, x) VALUES (1, 1);")
+    script += [f"AT {at + i} UPDATE turns SET x = {i} WHERE x = {i - 1};" for i in range(2, min(n, 10000))]
     return script
 
 
@@ -57,15 +62,15 @@ QUESTIONS = [
     ("apart", "SELECT a.k FROM early a, late b WHERE a.k = b.k"),
     ("kept", "SELECT r.x, s.y FROM r, s WHERE r.k = s.k KEEP LASTING 1 TO now"),
     ("few", "SELECT r.x, s.y FROM r, s WHERE r.k = s.k AND r.x < 10"),
+    ("turns", "SELECT a.x, b.x FROM turns a, turns b WHERE a.k = b.k"),
+    ("pairs", "SELECT 1 FROM r, s WHERE r.x < 3000 AND s.k < 3000"),
+    ("triples", "SELECT 1 FROM r, s, u WHERE r.x < 200 AND s.k < 200 AND u.z < 200"),
 ]
-print(f"{'rows':>8} {'load':>8} " + " ".join(f"{name:>8}" for name, _ in QUESTIONS) + f" {'KiB':>9}")
+print(f"{'rows':>8} {'load':>8} " + " ".join(f"{name:>8}" for name, _ in QUESTIONS))
 for n in sizes:
     script = loaded(n)
-    alone, most = play(script)
-    taken = []
-    for _, question in QUESTIONS:
-        seconds, memory = play(script + [f"QUERY VERSION 5 {question};"])
-        taken.append(seconds - alone)
-        most = max(most, memory)
-    print(f"{n:>8} {alone:>8.3f} " + " ".join(f"{seconds:>8.3f}" for seconds in taken) + f" {most:>9}", flush=True)
+    alone, loaded_in = play(script)
+    taken = [play(script + [f"QUERY VERSION 6 {question};"]) for _, question in QUESTIONS]
+    print(f"{n:>8} {alone:>8.3f} " + " ".join(f"{seconds - alone:>8.3f}" for seconds, _ in taken))
+    print(f"{'KiB':>8} {loaded_in:>8} " + " ".join(f"{memory:>8}" for _, memory in taken), flush=True)
 PYTHON

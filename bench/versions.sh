@@ -1,10 +1,10 @@
 #!/usr/bin/env bash
 # Times queries over many versions, over the built program: n rows entered under version 1, then V versions, and the same
 # question asked on version 1 and on the last one. The versions are renames with their inverses (a table and a column in turn),
-# ADD and DROP COLUMN in turn, or PARTITION and MERGE in turn, each the other's inverse; of the last at most 12, since each MERGE of what a
-# PARTITION has parted doubles the pieces of a question that goes over both. Prints the seconds of the load with
-# its operators, the seconds that each of the two questions adds, and the most memory in KiB. Until versions share what is
-# stored, time and memory grow as V + n times the versions that store the table.
+# ADD and DROP COLUMN in turn, renames of another table, or PARTITION and MERGE in turn, each the other's inverse; of the last at most 12, since
+# each MERGE of what a PARTITION has parted doubles the pieces of a question that goes over both. Prints the seconds of the load with
+# its operators, the seconds that each of the two questions adds, and the most memory in KiB. A table is stored once over the versions that
+# do not touch it, so memory grows as V + n times the versions that do; a question reads it once for each version.
 set -eu
 top=$(cd "$(dirname "$0")/.." && pwd)
 "$top/prima" </dev/null >/dev/null || [ $? -eq 2 ] # builds what is missing; no words, no archive
@@ -42,6 +42,12 @@ def columns(count):
         yield "ADD COLUMN c AS a INTO t INVERSE DROP COLUMN c FROM t" if i % 2 == 0 else "DROP COLUMN c FROM t INVERSE ADD COLUMN c AS a INTO t"
 
 
+def others(count):
+    for i in range(count):
+        there, back = ("w", "v") if i % 2 == 0 else ("v", "w")
+        yield f"RENAME TABLE {there} INTO {back} INVERSE RENAME TABLE {back} INTO {there}"
+
+
 def parts(count):
     for i in range(count):
         split, join = "PARTITION TABLE t INTO x WITH b < 1000, y", "MERGE TABLE x, y INTO t"
@@ -53,15 +59,15 @@ def question(version, table):
 
 
 print(f"{'versions of':>12} {'V':>4} {'rows':>7} {'load':>8} {'on first':>9} {'on last':>9} {'KiB':>8}")
-for kind, make in (("renames", renames), ("columns", columns), ("parts", parts)):
+for kind, make in (("renames", renames), ("columns", columns), ("others", others), ("parts", parts)):
     for count in sorted({min(count, 12) for count in counts} if kind == "parts" else counts):
         for n in (1000, 10000):
-            script = ["AT 1 EVOLVE CREATE TABLE t (a INT, b INT);"]
+            script = ["AT 0 EVOLVE CREATE TABLE w (c INT);", "AT 1 EVOLVE CREATE TABLE t (a INT, b INT);"]
             script += [f"AT {2 + i} INSERT INTO t (a, b) VALUES ({i}, {i * 7919 % n});" for i in range(n)]
             script += [f"AT {n + 2 + i} EVOLVE {op};" for i, op in enumerate(make(count))]
             load, _ = play(script)
-            first, _ = play(script + [question(1, "t")])
+            first, _ = play(script + [question(2, "t")])
             newest = "u" if kind == "renames" and count % 4 in (1, 2) else "t"
-            last, memory = play(script + [question(count + 1, newest)])
+            last, memory = play(script + [question(count + 2, newest)])
             print(f"{kind:>12} {count:>4} {n:>7} {load:>8.3f} {first - load:>9.3f} {last - load:>9.3f} {memory:>8}", flush=True)
 PYTHON
