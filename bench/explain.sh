@@ -2,7 +2,7 @@
 # Times what pruning saves, over the built program: a table of n rows (500 unless told otherwise) is cut into sixteen by PARTITIONs, each with
 # a MERGE as its inverse, and then renamed until there are V versions (100 and 500 unless told otherwise), each rename with its inverse. Asked on the
 # last version are all sixteen tables, as one union: without a condition, and with one that rules out all rows of fifteen of them, so that of
-# the pieces at each version all but one are dead. Prints the seconds that each question adds to the load, and their ratio.
+# the pieces at each version all but one are dead, as EXPLAIN must tell. Prints the seconds that each question adds to the load, and their ratio.
 # ROWS names another n. PROGRAM names another build to be timed in place of this one.
 set -eu
 top=$(cd "$(dirname "$0")/.." && pwd)
@@ -58,6 +58,8 @@ print(f"{'versions':>8} {'rows':>8} {'load':>8} {'all':>8} {'one':>8} {'times':>
 for versions in sizes:
     script, last = loaded(versions)
     alone = min(play(script)[0] for _ in range(3))
+    pieces = [int(play(script + ["EXPLAIN " + union(last, where)])[1][-1].split()[1]) for where in ("", " WHERE k = 1")]
+    assert pieces[0] == PARTS * pieces[1] > 0, pieces
     costs = []
     for where, rows in (("", n), (" WHERE k = 1", 1)):
         runs = [play(script + [union(last, where)]) for _ in range(3)]
