@@ -1,4 +1,5 @@
 mod Worked
+mod WorkedSizes
 pub mod Firsts
 pub mod NameLaws
 pub mod TypeLaws

@@ -20,3 +20,4 @@ pub mod Accepts
 pub mod LawfulPast
 pub mod LawfulValues
 pub mod History
+pub mod Sizes

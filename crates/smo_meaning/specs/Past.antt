@@ -9,18 +9,21 @@ use Rattle.smo_types.specs.Operators.{Operator}
 use Rattle.smo_types.specs.Commands.{PlainBody, changing, evolving, PlainCommand, PlainVersion}
 use Rattle.smo_meaning.specs.Effects.{after_each, gained, lost}
 use Rattle.smo_meaning.specs.After.{behind, carried}
+use Rattle.smo_meaning.specs.Sizes.{Size, sizes_changed, sizes_evolved}
 
 -- from a moment on the database is this one
 pub record State : Type 0 where
   pub stamp : ℕ
   pub database : Database
 
--- versions 1 to the newest; the stamp of the last accepted command; how many commands were accepted; and a state for
--- moment 0 and for each later stamp at which the version or the database changes, ascending
+-- versions 1 to the newest; the stamp of the last accepted command; how many commands were accepted; the lifelines of the tables, by
+-- first version and then name, with their sizes; and a state for moment 0 and for each later stamp at which the version or the database
+-- changes, ascending
 pub record Past : Type 0 where
   pub versions : List PlainVersion
   pub last : Option ℕ
   pub commands : ℕ
+  pub sizes : List Size
   pub states : List State
 
 abbrev pub a_state : ℕ → Database → State
@@ -35,7 +38,7 @@ no_database = empty
 
 -- nothing was accepted
 abbrev pub beginning : Past
-beginning = record { versions = []; last = None; commands = 0; states = a_state 0 no_database ∷ [] }
+beginning = record { versions = []; last = None; commands = 0; sizes = []; states = a_state 0 no_database ∷ [] }
 
 -- the tables of version k, where these versions come behind the one with the tables `before`
 abbrev pub tables_from : Tables → List PlainVersion → ℕ → Tables
@@ -93,6 +96,7 @@ changed_to stamp new past = record {
   versions = past.versions;
   last = Some stamp;
   commands = past.commands + 1;
+  sizes = sizes_changed (newest_database past) new past.sizes;
   states = if_changed stamp (newest_database past) new past.states;
 }
 
@@ -102,6 +106,7 @@ evolved_to version new past = record {
   versions = past.versions ++ version ∷ [];
   last = Some version.stamp;
   commands = past.commands + 1;
+  sizes = sizes_evolved (newest_tables past) version.op version.tables new (length past.versions) past.sizes;
   states = from_stamp version.stamp new past.states;
 }
 

@@ -22,6 +22,7 @@ use Rattle.smo_types.specs.Commands.{PlainCommand, PlainVersion, changing, evolv
 use Rattle.smo_meaning.specs.OneRow.{Row, Relation, same}
 use Rattle.smo_meaning.specs.Making.{named, joined_columns}
 use Rattle.smo_meaning.specs.Effects.{after_each, gained, lost}
+use Rattle.smo_meaning.specs.Sizes.{Size, sizes_changed, sizes_evolved}
 use Rattle.smo_meaning.specs.Past.{Past, State, a_state, no_tables, no_database, beginning, changed_to, evolved_to, past_with, from_stamp, database_at}
 use Rattle.smo_meaning.specs.History.{past_of, IsHistory}
 use Rattle.smo_meaning.specs.Accepts.{refusal_of, command_fault}
@@ -114,8 +115,21 @@ version_2 = record { stamp = 3; op = decompose_table emp who (id ∷ name ∷ []
 abbrev versions : List PlainVersion
 versions = version_1 ∷ version_2 ∷ []
 
-abbrev past : List PlainVersion → ℕ → ℕ → List State → Past
-past vs last count states = record { versions = vs; last = Some last; commands = count; states = states }
+abbrev past : List Size → List PlainVersion → ℕ → ℕ → List State → Past
+past sizes vs last count states = record { versions = vs; last = Some last; commands = count; sizes = sizes; states = states }
+
+-- what is stored behind each command
+abbrev sizes_1 : List Size
+sizes_1 = sizes_evolved no_tables (create_table emp written) with_emp from_1 0 []
+
+abbrev sizes_2 : List Size
+sizes_2 = sizes_changed from_1 from_2 sizes_1
+
+abbrev sizes_3 : List Size
+sizes_3 = sizes_evolved with_emp (decompose_table emp who (id ∷ name ∷ []) home (id ∷ city ∷ [])) in_two from_3 1 sizes_2
+
+abbrev sizes_5 : List Size
+sizes_5 = sizes_changed from_3 from_5 sizes_3
 
 abbrev states_1 : List State
 states_1 = a_state 0 no_database ∷ a_state 1 from_1 ∷ []
@@ -127,7 +141,7 @@ abbrev states_3 : List State
 states_3 = states_2 ++ a_state 3 from_3 ∷ []
 
 abbrev past_5 : Past
-past_5 = past versions 5 4 (states_3 ++ a_state 5 from_5 ∷ [])
+past_5 = past sizes_5 versions 5 4 (states_3 ++ a_state 5 from_5 ∷ [])
 
 -- ---- what stands under the names
 
@@ -165,7 +179,7 @@ home_at_5 = get-insert nat_list_cmp_total from_3 home (Rows (place (codes "Berge
 
 -- ---- the past, command by command
 
-created : past_with beginning creating ≡ past (version_1 ∷ []) 1 1 states_1
+created : past_with beginning creating ≡ past sizes_1 (version_1 ∷ []) 1 1 states_1
 unfolding set_of
 created = refl
 
@@ -189,14 +203,14 @@ then_gained = gained_is from_3 home (place (codes "Oslo")) (place (codes "Bergen
 then_lost : lost from_3 from_5 ≡ 1
 then_lost = lost_is from_3 home (place (codes "Oslo")) (place (codes "Bergen")) home_at_3
 
-abbrev changed : List PlainVersion → ℕ → ℕ → Database → List State → ℕ → Past
-changed vs stamp count new states n = past vs stamp count (if n == 0 then states else from_stamp stamp new states)
+abbrev changed : List Size → List PlainVersion → ℕ → ℕ → Database → List State → ℕ → Past
+changed sizes vs stamp count new states n = past sizes vs stamp count (if n == 0 then states else from_stamp stamp new states)
 
-at_2 : past_with (past (version_1 ∷ []) 1 1 states_1) giving ≡ past (version_1 ∷ []) 2 2 states_2
+at_2 : past_with (past sizes_1 (version_1 ∷ []) 1 1 states_1) giving ≡ past sizes_2 (version_1 ∷ []) 2 2 states_2
 at_2 =
-    ap (λ db. changed_to 2 db (past (version_1 ∷ []) 1 1 states_1)) given
-    ∙ ap (λ n. changed (version_1 ∷ []) 2 2 from_2 states_1 (n + lost from_1 from_2)) one_gained
-    ∙ ap (λ n. changed (version_1 ∷ []) 2 2 from_2 states_1 (1 + n)) none_lost
+    ap (λ db. changed_to 2 db (past sizes_1 (version_1 ∷ []) 1 1 states_1)) given
+    ∙ ap (λ n. changed sizes_2 (version_1 ∷ []) 2 2 from_2 states_1 (n + lost from_1 from_2)) one_gained
+    ∙ ap (λ n. changed sizes_2 (version_1 ∷ []) 2 2 from_2 states_1 (1 + n)) none_lost
 
 abbrev in_parts : List Column → Option Entry → Database
 in_parts columns entry = insert (insert (remove from_2 emp) who (projected (id ∷ name ∷ []) columns entry)) home (projected (id ∷ city ∷ []) columns entry)
@@ -205,14 +219,14 @@ parts_are : in_parts (unwrap_or (get with_emp emp) []) (get from_2 emp) ≡ from
 unfolding set_of
 parts_are = ap (λ columns. in_parts columns (get from_2 emp)) all_columns ∙ ap (in_parts emp_columns) emp_at_2
 
-at_3 : past_with (past (version_1 ∷ []) 2 2 states_2) decomposing ≡ past versions 3 3 states_3
-at_3 = ap (λ db. evolved_to version_2 db (past (version_1 ∷ []) 2 2 states_2)) parts_are
+at_3 : past_with (past sizes_2 (version_1 ∷ []) 2 2 states_2) decomposing ≡ past sizes_3 versions 3 3 states_3
+at_3 = ap (λ db. evolved_to version_2 db (past sizes_2 (version_1 ∷ []) 2 2 states_2)) parts_are
 
-at_5 : past_with (past versions 3 3 states_3) changing_5 ≡ past_5
+at_5 : past_with (past sizes_3 versions 3 3 states_3) changing_5 ≡ past_5
 at_5 =
-    ap (λ db. changed_to 5 db (past versions 3 3 states_3)) moved
-    ∙ ap (λ n. changed versions 5 4 from_5 states_3 (n + lost from_3 from_5)) then_gained
-    ∙ ap (λ n. changed versions 5 4 from_5 states_3 (1 + n)) then_lost
+    ap (λ db. changed_to 5 db (past sizes_3 versions 3 3 states_3)) moved
+    ∙ ap (λ n. changed sizes_5 versions 5 4 from_5 states_3 (n + lost from_3 from_5)) then_gained
+    ∙ ap (λ n. changed sizes_5 versions 5 4 from_5 states_3 (1 + n)) then_lost
 
 past_is : past_of commands ≡ past_5
 past_is =
@@ -360,13 +374,13 @@ parting_accepted =
 accepted_1 : command_fault beginning creating ≡ None
 accepted_1 = ap (λ (o : Option OpRefusal). first_refusal (option_map refusal_of o ∷ [])) create_accepted
 
-accepted_2 : command_fault (past (version_1 ∷ []) 1 1 states_1) giving ≡ None
+accepted_2 : command_fault (past sizes_1 (version_1 ∷ []) 1 1 states_1) giving ≡ None
 accepted_2 = ap (λ (o : Option (List Column)). first_refusal (change_by inserting 0 o ++ [])) emp_there
 
-accepted_3 : command_fault (past (version_1 ∷ []) 2 2 states_2) decomposing ≡ None
+accepted_3 : command_fault (past sizes_2 (version_1 ∷ []) 2 2 states_2) decomposing ≡ None
 accepted_3 = ap (λ (o : Option OpRefusal). first_refusal (option_map refusal_of o ∷ inverse_tests with_emp parting (joining ∷ []))) parting_accepted ∙ inverse_accepted
 
-accepted_5 : command_fault (past versions 3 3 states_3) changing_5 ≡ None
+accepted_5 : command_fault (past sizes_3 versions 3 3 states_3) changing_5 ≡ None
 accepted_5 = ap (λ (o : Option (List Column)). first_refusal (change_by moving 0 o ++ [])) home_there
 
 is_history : IsHistory commands

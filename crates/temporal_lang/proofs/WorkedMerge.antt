@@ -20,6 +20,7 @@ use Rattle.smo_meaning.specs.OneRow.{Row, Relation, same}
 use Rattle.smo_meaning.specs.Making.{union, from_two}
 use Rattle.smo_meaning.specs.Effects.{database_after, after_each, gained, lost}
 use Rattle.smo_meaning.specs.After.{op_fault, behind, carried}
+use Rattle.smo_meaning.specs.Sizes.{Size, sizes_changed, sizes_evolved}
 use Rattle.smo_meaning.specs.Past.{Past, State, a_state, no_tables, no_database, beginning, changed_to, evolved_to, past_with, from_stamp}
 use Rattle.smo_meaning.specs.History.{past_of, IsHistory}
 use Rattle.smo_meaning.specs.Accepts.{refusal_of, command_fault}
@@ -120,8 +121,24 @@ version_3 = record { stamp = 4; op = merge_table r s t; inverse = partition_tabl
 abbrev before_merge : List PlainVersion
 before_merge = version_1 ∷ version_2 ∷ []
 
-abbrev past : List PlainVersion → ℕ → ℕ → List State → Past
-past vs last count states = record { versions = vs; last = Some last; commands = count; states = states }
+abbrev past : List Size → List PlainVersion → ℕ → ℕ → List State → Past
+past sizes vs last count states = record { versions = vs; last = Some last; commands = count; sizes = sizes; states = states }
+
+-- what is stored behind each command
+abbrev sizes_1 : List Size
+sizes_1 = sizes_evolved no_tables (create_table r a_columns) with_r from_1 0 []
+
+abbrev sizes_2 : List Size
+sizes_2 = sizes_evolved with_r (create_table s a_columns) with_s from_2 1 sizes_1
+
+abbrev sizes_3 : List Size
+sizes_3 = sizes_changed from_2 from_3 sizes_2
+
+abbrev sizes_4 : List Size
+sizes_4 = sizes_evolved with_s (merge_table r s t) merged from_4 2 sizes_3
+
+abbrev sizes_6 : List Size
+sizes_6 = sizes_changed from_4 from_6 sizes_4
 
 abbrev states_2 : List State
 states_2 = a_state 0 no_database ∷ a_state 1 from_1 ∷ a_state 2 from_2 ∷ []
@@ -133,7 +150,7 @@ abbrev states_4 : List State
 states_4 = states_3 ++ a_state 4 from_4 ∷ []
 
 abbrev past_6 : Past
-past_6 = past versions 6 5 (states_4 ++ a_state 6 from_6 ∷ [])
+past_6 = past sizes_6 versions 6 5 (states_4 ++ a_state 6 from_6 ∷ [])
 
 -- ---- what stands under the names
 
@@ -166,7 +183,7 @@ t_at_4 = t_there (remove (remove from_3 r) s) (Rows both)
 
 -- ---- the past, command by command
 
-created : past_with (past_with beginning first_table) second_table ≡ past before_merge 2 2 states_2
+created : past_with (past_with beginning first_table) second_table ≡ past sizes_2 before_merge 2 2 states_2
 unfolding set_of
 created = refl
 
@@ -205,27 +222,27 @@ lost_6 =
     let second : lost from_4 from_6 + 0 ≡ lost from_4 seven_given + 0 = lost_with seven_given t (Rows with_7) (Rows all) (t_there from_4 (Rows with_7)) from_4 (Rows both) t_at_4 in
     omega (arith, first, second)
 
-abbrev changed : List PlainVersion → ℕ → ℕ → Database → List State → ℕ → Past
-changed vs stamp count new states n = past vs stamp count (if n == 0 then states else from_stamp stamp new states)
+abbrev changed : List Size → List PlainVersion → ℕ → ℕ → Database → List State → ℕ → Past
+changed sizes vs stamp count new states n = past sizes vs stamp count (if n == 0 then states else from_stamp stamp new states)
 
-at_3 : past_with (past before_merge 2 2 states_2) giving_3 ≡ past before_merge 3 3 states_3
+at_3 : past_with (past sizes_2 before_merge 2 2 states_2) giving_3 ≡ past sizes_3 before_merge 3 3 states_3
 at_3 =
-    ap (λ db. changed_to 3 db (past before_merge 2 2 states_2)) given_3
-    ∙ ap (λ n. changed before_merge 3 3 from_3 states_2 (n + lost from_2 from_3)) gained_3
-    ∙ ap (λ n. changed before_merge 3 3 from_3 states_2 (2 + n)) lost_3
+    ap (λ db. changed_to 3 db (past sizes_2 before_merge 2 2 states_2)) given_3
+    ∙ ap (λ n. changed sizes_3 before_merge 3 3 from_3 states_2 (n + lost from_2 from_3)) gained_3
+    ∙ ap (λ n. changed sizes_3 before_merge 3 3 from_3 states_2 (2 + n)) lost_3
 
 both_made : from_two union (get from_3 r) (get from_3 s) ≡ Rows both
 unfolding set_of
 both_made = ap (λ (e : Option Entry). from_two union e (get from_3 s)) r_at_3 ∙ ap (λ (e : Option Entry). from_two union (Some (Rows (row 1 ∷ []))) e) s_at_3
 
-at_4 : past_with (past before_merge 3 3 states_3) merging ≡ past versions 4 4 states_4
-at_4 = ap (λ e. evolved_to version_3 (insert (remove (remove from_3 r) s) t e) (past before_merge 3 3 states_3)) both_made
+at_4 : past_with (past sizes_3 before_merge 3 3 states_3) merging ≡ past sizes_4 versions 4 4 states_4
+at_4 = ap (λ e. evolved_to version_3 (insert (remove (remove from_3 r) s) t e) (past sizes_3 before_merge 3 3 states_3)) both_made
 
-at_6 : past_with (past versions 4 4 states_4) giving_6 ≡ past_6
+at_6 : past_with (past sizes_4 versions 4 4 states_4) giving_6 ≡ past_6
 at_6 =
-    ap (λ db. changed_to 6 db (past versions 4 4 states_4)) given_6
-    ∙ ap (λ n. changed versions 6 5 from_6 states_4 (n + lost from_4 from_6)) gained_6
-    ∙ ap (λ n. changed versions 6 5 from_6 states_4 (2 + n)) lost_6
+    ap (λ db. changed_to 6 db (past sizes_4 versions 4 4 states_4)) given_6
+    ∙ ap (λ n. changed sizes_6 versions 6 5 from_6 states_4 (n + lost from_4 from_6)) gained_6
+    ∙ ap (λ n. changed sizes_6 versions 6 5 from_6 states_4 (2 + n)) lost_6
 
 past_is : past_of commands ≡ past_6
 past_is =
@@ -390,7 +407,7 @@ inverse_accepted = accepted_so with_s (merge_table r s t) (parting ∷ []) (part
 -- ---- the commands are a history: each is accepted after those before it
 
 abbrev past_1 : Past
-past_1 = past (version_1 ∷ []) 1 1 (a_state 0 no_database ∷ a_state 1 from_1 ∷ [])
+past_1 = past sizes_1 (version_1 ∷ []) 1 1 (a_state 0 no_database ∷ a_state 1 from_1 ∷ [])
 
 first_created : past_with beginning first_table ≡ past_1
 unfolding set_of
@@ -410,7 +427,7 @@ accepted_1 = ap (λ (o : Option OpRefusal). first_refusal (option_map refusal_of
 accepted_2 : command_fault past_1 second_table ≡ None
 accepted_2 = ap (λ (o : Option OpRefusal). first_refusal (option_map refusal_of o ∷ [])) second_create
 
-accepted_3 : command_fault (past before_merge 2 2 states_2) giving_3 ≡ None
+accepted_3 : command_fault (past sizes_2 before_merge 2 2 states_2) giving_3 ≡ None
 accepted_3 =
     ap (λ (o : Option (List Column)). first_refusal (change_by (inserting r 1) 0 o ++ (change_by (inserting s 20) 1 (get with_s s) ++ []))) r_columns
     ∙ ap (λ (o : Option (List Column)). first_refusal (change_by (inserting s 20) 1 o ++ [])) (s_there with_r a_columns)
@@ -426,11 +443,11 @@ merge_accepted =
     ∙ ap (λ (o : Option (List Column)). merging_by (Some a_columns) o (get with_s t)) (s_there with_r a_columns)
     ∙ ap (merging_by (Some a_columns) (Some a_columns)) t_free
 
-accepted_4 : command_fault (past before_merge 3 3 states_3) merging ≡ None
+accepted_4 : command_fault (past sizes_3 before_merge 3 3 states_3) merging ≡ None
 accepted_4 =
     ap (λ (o : Option OpRefusal). first_refusal (option_map refusal_of o ∷ inverse_tests with_s (merge_table r s t) (parting ∷ []))) merge_accepted ∙ inverse_accepted
 
-accepted_6 : command_fault (past versions 4 4 states_4) giving_6 ≡ None
+accepted_6 : command_fault (past sizes_4 versions 4 4 states_4) giving_6 ≡ None
 accepted_6 = ap (λ (o : Option (List Column)). first_refusal (change_by (inserting t 7) 0 o ++ (change_by (inserting t 30) 1 o ++ []))) t_columns
 
 is_history : IsHistory commands

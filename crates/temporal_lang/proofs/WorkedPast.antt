@@ -27,6 +27,7 @@ use Rattle.smo_meaning.specs.Making.{from_one}
 use Rattle.smo_meaning.specs.Effects.{columns_of, relation_after, with_changed, after_each, gained, lost, rows_at}
 use Rattle.smo_meaning.specs.After.{op_fault, behind, carried}
 use Rattle.smo_meaning.specs.Past.{State, Past, a_state, no_tables, no_database, tables_of, version_at, database_at, beginning, changed_to, evolved_to, past_with, from_stamp}
+use Rattle.smo_meaning.specs.Sizes.{Size, sizes_changed, sizes_evolved}
 use Rattle.smo_meaning.specs.Counts.{first_excess}
 use Rattle.smo_meaning.specs.First.{unless, first_refusal}
 use Rattle.smo_meaning.specs.Preconditions.{among, differ}
@@ -99,19 +100,20 @@ abbrev version_2 : PlainVersion
 version_2 = record { stamp = 9; op = rename_table t u; inverse = rename_table u t ∷ []; tables = tables_2 }
 
 abbrev past_1 : Past
-past_1 = record { versions = version_1 ∷ []; last = Some 1; commands = 1; states = a_state 0 no_database ∷ a_state 1 from_1 ∷ [] }
+past_1 = record { versions = version_1 ∷ []; last = Some 1; commands = 1; sizes = sizes_evolved no_tables (create_table t ab_columns) tables_1 from_1 0 []; states = a_state 0 no_database ∷ a_state 1 from_1 ∷ [] }
 
 abbrev past_5 : Past
-past_5 = record { versions = version_1 ∷ []; last = Some 5; commands = 2; states = a_state 0 no_database ∷ a_state 1 from_1 ∷ a_state 5 from_5 ∷ [] }
+past_5 = record { versions = version_1 ∷ []; last = Some 5; commands = 2; sizes = sizes_changed from_1 from_5 past_1.sizes; states = a_state 0 no_database ∷ a_state 1 from_1 ∷ a_state 5 from_5 ∷ [] }
 
 abbrev past_7 : Past
-past_7 = record { versions = version_1 ∷ []; last = Some 7; commands = 3; states = a_state 0 no_database ∷ a_state 1 from_1 ∷ a_state 5 from_5 ∷ a_state 7 from_7 ∷ [] }
+past_7 = record { versions = version_1 ∷ []; last = Some 7; commands = 3; sizes = sizes_changed from_5 from_7 past_5.sizes; states = a_state 0 no_database ∷ a_state 1 from_1 ∷ a_state 5 from_5 ∷ a_state 7 from_7 ∷ [] }
 
 abbrev past_9 : Past
 past_9 = record {
   versions = version_1 ∷ version_2 ∷ [];
   last = Some 9;
   commands = 4;
+  sizes = sizes_evolved tables_1 (rename_table t u) tables_2 from_9 1 past_7.sizes;
   states = a_state 0 no_database ∷ a_state 1 from_1 ∷ a_state 5 from_5 ∷ a_state 7 from_7 ∷ a_state 9 from_9 ∷ [];
 }
 
@@ -154,19 +156,20 @@ one_gained = ap (λ n. n + lost from_1 from_5) first_gained ∙ ap (λ n. 1 + n)
 one_changed : gained from_5 from_7 + lost from_5 from_7 ≡ 2
 one_changed = ap (λ n. n + lost from_5 from_7) then_gained ∙ ap (λ n. 1 + n) then_lost
 
-abbrev changed : ℕ → ℕ → ℕ → Database → List State → Past
-changed stamp count n new states = record {
+abbrev changed : List Size → ℕ → ℕ → ℕ → Database → List State → Past
+changed sizes stamp count n new states = record {
   versions = version_1 ∷ [];
   last = Some stamp;
   commands = count;
+  sizes = sizes;
   states = if n == 0 then states else from_stamp stamp new states;
 }
 
 at_5 : past_with past_1 (command 5 (changing (inserting ∷ []))) ≡ past_5
-at_5 = ap (λ db. changed_to 5 db past_1) inserted ∙ ap (λ n. changed 5 2 n from_5 past_1.states) one_gained
+at_5 = ap (λ db. changed_to 5 db past_1) inserted ∙ ap (λ n. changed past_5.sizes 5 2 n from_5 past_1.states) one_gained
 
 at_7 : past_with past_5 (command 7 (changing (updating ∷ []))) ≡ past_7
-at_7 = ap (λ db. changed_to 7 db past_5) updated ∙ ap (λ n. changed 7 3 n from_7 past_5.states) one_changed
+at_7 = ap (λ db. changed_to 7 db past_5) updated ∙ ap (λ n. changed past_7.sizes 7 3 n from_7 past_5.states) one_changed
 
 at_9 : past_with past_7 (command 9 (evolving (rename_table t u) (rename_table u t ∷ []))) ≡ past_9
 at_9 = ap (λ e. evolved_to version_2 (insert (remove from_7 t) u (from_one (λ rows. rows) e)) past_7) (t_there from_5 (Rows y_rows))

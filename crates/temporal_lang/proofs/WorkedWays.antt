@@ -33,6 +33,7 @@ use Rattle.smo_meaning.proofs.ValueLaws.{beginning_holds, history_holds}
 use Rattle.smo_meaning.specs.OneRow.{Relation}
 use Rattle.smo_meaning.specs.Effects.{after_each, gained, lost}
 use Rattle.smo_meaning.specs.Losses.{Loss}
+use Rattle.smo_meaning.specs.Sizes.{Size, sizes_changed, sizes_evolved}
 use Rattle.smo_meaning.specs.Past.{Past, State, a_state, no_tables, no_database, beginning, changed_to, past_with, from_stamp}
 use Rattle.smo_meaning.specs.History.{past_of, IsHistory}
 use Rattle.version_ways.specs.LostNames.{Losses}
@@ -101,8 +102,24 @@ version_1 = record { stamp = 1; op = create_table t a_columns; inverse = []; tab
 abbrev version_2 : PlainVersion
 version_2 = record { stamp = 4; op = drop_table t; inverse = []; tables = tables_2 }
 
-abbrev past : List PlainVersion → ℕ → ℕ → List State → Past
-past versions last count states = record { versions = versions; last = Some last; commands = count; states = states }
+abbrev past : List Size → List PlainVersion → ℕ → ℕ → List State → Past
+past sizes versions last count states = record { versions = versions; last = Some last; commands = count; sizes = sizes; states = states }
+
+-- what is stored behind each command
+abbrev sizes_1 : List Size
+sizes_1 = sizes_evolved no_tables (create_table t a_columns) tables_1 from_1 0 []
+
+abbrev sizes_2 : List Size
+sizes_2 = sizes_changed from_1 from_2 sizes_1
+
+abbrev sizes_4 : List Size
+sizes_4 = sizes_evolved tables_1 (drop_table t) tables_2 from_4 1 sizes_2
+
+abbrev sizes_6 : List Size
+sizes_6 = sizes_evolved tables_2 (create_table t a_columns) tables_3 from_6 2 sizes_4
+
+abbrev sizes_7 : List Size
+sizes_7 = sizes_changed from_6 from_7 sizes_6
 
 abbrev states_1 : List State
 states_1 = a_state 0 no_database ∷ a_state 1 from_1 ∷ []
@@ -115,9 +132,9 @@ states_6 = states_2 ++ a_state 4 from_4 ∷ a_state 6 from_6 ∷ []
 
 -- the past, with its six states
 abbrev dropped : Past
-dropped = past dropped_versions 7 5 (states_6 ++ a_state 7 from_7 ∷ [])
+dropped = past sizes_7 dropped_versions 7 5 (states_6 ++ a_state 7 from_7 ∷ [])
 
-created : past_with beginning (creating 1) ≡ past (version_1 ∷ []) 1 1 states_1
+created : past_with beginning (creating 1) ≡ past sizes_1 (version_1 ∷ []) 1 1 states_1
 unfolding set_of
 created = refl
 
@@ -140,24 +157,24 @@ second_gained = gained_is from_6 t [] (row 2) (t_there from_4 (Rows []))
 second_kept : lost from_6 from_7 ≡ 0
 second_kept = lost_is from_6 t [] (row 2) (t_there from_4 (Rows []))
 
-abbrev changed : List PlainVersion → ℕ → ℕ → Database → List State → ℕ → Past
-changed versions stamp count new states n = past versions stamp count (if n == 0 then states else from_stamp stamp new states)
+abbrev changed : List Size → List PlainVersion → ℕ → ℕ → Database → List State → ℕ → Past
+changed sizes versions stamp count new states n = past sizes versions stamp count (if n == 0 then states else from_stamp stamp new states)
 
-at_2 : past_with (past (version_1 ∷ []) 1 1 states_1) (giving 2 1) ≡ past (version_1 ∷ []) 2 2 states_2
+at_2 : past_with (past sizes_1 (version_1 ∷ []) 1 1 states_1) (giving 2 1) ≡ past sizes_2 (version_1 ∷ []) 2 2 states_2
 at_2 =
-    ap (λ db. changed_to 2 db (past (version_1 ∷ []) 1 1 states_1)) first_given
-    ∙ ap (λ n. changed (version_1 ∷ []) 2 2 from_2 states_1 (n + lost from_1 from_2)) first_gained
-    ∙ ap (λ n. changed (version_1 ∷ []) 2 2 from_2 states_1 (1 + n)) first_kept
+    ap (λ db. changed_to 2 db (past sizes_1 (version_1 ∷ []) 1 1 states_1)) first_given
+    ∙ ap (λ n. changed sizes_2 (version_1 ∷ []) 2 2 from_2 states_1 (n + lost from_1 from_2)) first_gained
+    ∙ ap (λ n. changed sizes_2 (version_1 ∷ []) 2 2 from_2 states_1 (1 + n)) first_kept
 
-evolved : past_with (past_with (past (version_1 ∷ []) 2 2 states_2) dropping) (creating 6) ≡ past dropped_versions 6 4 states_6
+evolved : past_with (past_with (past sizes_2 (version_1 ∷ []) 2 2 states_2) dropping) (creating 6) ≡ past sizes_6 dropped_versions 6 4 states_6
 unfolding set_of
 evolved = refl
 
-at_7 : past_with (past dropped_versions 6 4 states_6) (giving 7 2) ≡ dropped
+at_7 : past_with (past sizes_6 dropped_versions 6 4 states_6) (giving 7 2) ≡ dropped
 at_7 =
-    ap (λ db. changed_to 7 db (past dropped_versions 6 4 states_6)) second_given
-    ∙ ap (λ n. changed dropped_versions 7 5 from_7 states_6 (n + lost from_6 from_7)) second_gained
-    ∙ ap (λ n. changed dropped_versions 7 5 from_7 states_6 (1 + n)) second_kept
+    ap (λ db. changed_to 7 db (past sizes_6 dropped_versions 6 4 states_6)) second_given
+    ∙ ap (λ n. changed sizes_7 dropped_versions 7 5 from_7 states_6 (n + lost from_6 from_7)) second_gained
+    ∙ ap (λ n. changed sizes_7 dropped_versions 7 5 from_7 states_6 (1 + n)) second_kept
 
 past_is : past_of commands ≡ dropped
 past_is =
@@ -307,22 +324,22 @@ drop_accepted = ap (λ (o : Option (List Column)). first_refusal (unless (is_som
 accepted_1 : command_fault beginning (creating 1) ≡ None
 accepted_1 = ap (λ (o : Option OpRefusal). first_refusal (option_map refusal_of o ∷ [])) first_create
 
-accepted_2 : command_fault (past (version_1 ∷ []) 1 1 states_1) (giving 2 1) ≡ None
+accepted_2 : command_fault (past sizes_1 (version_1 ∷ []) 1 1 states_1) (giving 2 1) ≡ None
 accepted_2 = ap (λ (o : Option (List Column)). first_refusal (change_by (inserting 1) 0 o ++ [])) columns_1
 
-accepted_4 : command_fault (past (version_1 ∷ []) 2 2 states_2) dropping ≡ None
+accepted_4 : command_fault (past sizes_2 (version_1 ∷ []) 2 2 states_2) dropping ≡ None
 accepted_4 = ap (λ (o : Option OpRefusal). first_refusal (option_map refusal_of o ∷ [])) drop_accepted
 
 abbrev until_drop : Past
-until_drop = past (version_1 ∷ version_2 ∷ []) 4 3 (states_2 ++ a_state 4 from_4 ∷ [])
+until_drop = past sizes_4 (version_1 ∷ version_2 ∷ []) 4 3 (states_2 ++ a_state 4 from_4 ∷ [])
 
-dropped_at_4 : past_with (past (version_1 ∷ []) 2 2 states_2) dropping ≡ until_drop
+dropped_at_4 : past_with (past sizes_2 (version_1 ∷ []) 2 2 states_2) dropping ≡ until_drop
 dropped_at_4 = refl
 
 accepted_6 : command_fault until_drop (creating 6) ≡ None
 accepted_6 = ap (λ (o : Option OpRefusal). first_refusal (option_map refusal_of o ∷ [])) second_create
 
-accepted_7 : command_fault (past dropped_versions 6 4 states_6) (giving 7 2) ≡ None
+accepted_7 : command_fault (past sizes_6 dropped_versions 6 4 states_6) (giving 7 2) ≡ None
 accepted_7 = ap (λ (o : Option (List Column)). first_refusal (change_by (inserting 2) 0 o ++ [])) (t_there tables_2 a_columns)
 
 is_history : IsHistory commands
