@@ -1,5 +1,5 @@
 -- A table before its first stamp.
-use Rattle.std.proofs.Common.{◌≡◌, ℕ, suc, List, [], ◌∷◌, length, refl, sym, ap, ◌∙◌, subst, arith, inl, inr}
+use Rattle.std.proofs.Common.{◌≡◌, ℕ, zero, ◌+◌, suc, List, [], ◌∷◌, length, get_or, refl, sym, ap, ◌∙◌, subst, arith, inl, inr}
 use Rattle.std.specs.Prelude.{All}
 use Rattle.relations.specs.Sets.{In, set_of}
 use Rattle.relations.specs.Spans.{forever}
@@ -7,12 +7,12 @@ use Rattle.prima_base.specs.declared.values.Value.{Value}
 use Rattle.history_store.specs.declared.columns.Write.{Write}
 use Rattle.history_store.specs.Log.{Log}
 use Rattle.history_store.specs.Logs.{cells_of}
-use Rattle.history_store.specs.Store.{Cell, Column, AreColumns, relation_at, AllBefore}
+use Rattle.history_store.specs.Store.{Cell, Column, AreColumns, weight, relation_at, AllBefore}
 use Rattle.history_store.specs.Entries.{all_entries, IsHistory, AreHistories}
 use Rattle.history_store.specs.TableFields.{store_of, IsKept}
-use Rattle.history_store.specs.Handing.{unpaired, handed, new_keys, only_in}
+use Rattle.history_store.specs.Handing.{unpaired, handed, new_keys, only_in, written}
 use Rattle.history_store.specs.Indexes.{Index}
-use Rattle.history_store.specs.Change.{Plan, IsPlan, keys_after, cells_after, write_rows, close_all, no_cells}
+use Rattle.history_store.specs.Change.{Plan, IsPlan, keys_after, cells_after, rows_along, write_rows, close_all, no_cells}
 use Rattle.history_store.proofs.Rows.{length-cells_of}
 use Rattle.history_store.proofs.Preparing.{none_stored}
 use Rattle.history_store.proofs.Showing.{stored_more}
@@ -79,6 +79,16 @@ first_keys columns logs spare stamp rows after = rw (no_left rows) refl
 pub first_cells : (columns : List Column) (logs : List (List Write)) (spare : ℕ) (stamp : ℕ) (rows : List (List Value)) (after : Index) → length logs ≡ length columns
     → cells_after (store_of columns [] logs spare) (record { stamp = stamp; lost = []; gained = rows; after = after }) ≡ write_rows (handed [] 0 rows) rows stamp (no_cells columns)
 first_cells columns logs spare stamp rows after e = rw (no_left rows, none_cells columns logs e) (no_close stamp (write_rows (handed [] 0 rows) rows stamp (no_cells columns)))
+
+pub none_weight : (f : Value → ℕ) (k : ℕ) (columns : List Column) (logs : List (List Write)) (spare : ℕ) → weight f (get_or (store_of columns [] logs spare).cells k []) ≡ 0
+none_weight f k columns [] spare = refl
+none_weight f zero columns (c ∷ logs) spare = refl
+none_weight f (suc k) columns (c ∷ logs) spare = none_weight f k columns logs spare
+
+pub first_written : (f : Value → ℕ) (k : ℕ) (p : Plan) (rows : List (List Value)) (cells : List (List Cell)) → p.lost ≡ [] → p.gained ≡ rows → 0 + written f k (rows_along p.lost p.stamp cells) p.gained ≡ written f k [] rows
+first_written f k p rows cells l g =
+    let e = ap (λ ids. written f k (rows_along ids p.stamp cells) p.gained) l ∙ ap (written f k []) g in
+    omega (arith, e)
 
 pub plan_is : (p : Plan) (stamp : ℕ) (rows : List (List Value)) → p.stamp ≡ stamp → p.lost ≡ [] → p.gained ≡ rows → p ≡ record { stamp = stamp; lost = []; gained = rows; after = p.after }
 plan_is p stamp rows a b c = ap (λ s. record { stamp = s; lost = p.lost; gained = p.gained; after = p.after }) a ∙ ap (λ l. record { stamp = stamp; lost = l; gained = p.gained; after = p.after }) b ∙ ap (λ (g : List (List Value)). record { stamp = stamp; lost = []; gained = g; after = p.after }) c

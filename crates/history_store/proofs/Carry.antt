@@ -86,6 +86,13 @@ more_with_index a b n m h l = elim (cases_lt b few_rows) [
   | inr q ↦ (let e = with_room b m q in let f = no_more a n in omega (arith, e, f, l))
 ]
 
+-- more indexes, of which none has less room than is ever asked
+pub still_with_index : (a b n : ℕ) → min few_rows a ≤ b → with_index a n ≤ with_index b n
+still_with_index a b n h = elim (cases_lt a few_rows) [
+  | inl q ↦ more_with_index a b n n (grind arith) (omega arith)
+  | inr q ↦ (let l : few_rows ≤ b = grind arith in let e = with_room b n l in let f = no_more a n in omega (arith, e, f))
+]
+
 pub spare_each : (n least : ℕ) (columns : List Log) → n ≤ least_spare least columns → All (λ c. n ≤ c.spare) columns
 spare_each n least [] h k d b = absurd (omega arith)
 spare_each n least (c ∷ columns) h zero d b = grind arith

@@ -24,7 +24,7 @@ use Rattle.history_store.proofs.Moments.{same_id}
 use Rattle.history_store.proofs.Installing.{later, relation_from, live_is, along_after}
 
 -- ids of an ascending list
-distinct_ids : (columns : List (List Write)) (ids : List ℕ) → Ascends row_cmp (rows_of ids columns) → Distinct ids
+pub distinct_ids : (columns : List (List Write)) (ids : List ℕ) → Ascends row_cmp (rows_of ids columns) → Distinct ids
 distinct_ids columns [] a = tt
 distinct_ids columns (x ∷ ids) a = (λ i. row_exact.apart (row_now x columns) (before_in row_cmp (row_now x columns) (row_now x columns) (rows_of ids columns) a.0 (rows_of_in x ids columns i)), distinct_ids columns ids a.1)
 

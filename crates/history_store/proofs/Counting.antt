@@ -1,16 +1,23 @@
--- A column has as many entries as writes.
-use Rattle.std.proofs.Common.{◌≡◌, ◌≢◌, ℕ, suc, zero, ◌+◌, ◌<◌, ◌≤◌, false, List, [], ◌∷◌, length, get_or, refl, sym, ap, ◌∙◌, arith, inl, inr, length-append, ◌==◌}
+-- The entries of a column weigh what its writes weigh, and are as many.
+use Rattle.std.proofs.Common.{◌≡◌, ◌≢◌, ℕ, suc, zero, ◌+◌, ◌<◌, ◌≤◌, false, List, [], ◌∷◌, length, get_or, refl, sym, ap, ◌∙◌, arith, inl, inr, add_assoc, ◌++◌, ◌==◌}
 use Rattle.std.proofs.lemmas.Bool.Decides.{nat_tests, eqb_tells}
 use Rattle.relations.specs.Sets.{In}
 use Rattle.relations.specs.Spans.{Span}
+use Rattle.prima_base.specs.declared.values.Value.{Value}
 use Rattle.history_store.specs.declared.columns.Write.{Write}
+use Rattle.history_store.specs.Store.{Cell, weight}
 use Rattle.history_store.specs.Chains.{of_id}
 use Rattle.history_store.specs.Entries.{with_ends, entries_from, all_entries, IsHistory, AreHistories}
+use Rattle.history_store.proofs.Counts.{weight_of}
 
-count_ends : (to : ℕ) (cells : List Write) → length (with_ends to cells) ≡ length cells
-count_ends to [] = refl
-count_ends to (c ∷ []) = refl
-count_ends to (c ∷ (d ∷ cells)) = ap suc (count_ends to (d ∷ cells))
+weight-append : (f : Value → ℕ) (cells more : List Cell) → weight f (cells ++ more) ≡ weight f cells + weight f more
+weight-append f [] more = omega arith
+weight-append f (c ∷ cells) more = let e = weight-append f cells more in omega (arith, e)
+
+weigh_ends : (f : Value → ℕ) (to : ℕ) (cells : List Write) → weight f (with_ends to cells) ≡ weight_of f cells
+weigh_ends f to [] = refl
+weigh_ends f to (c ∷ []) = refl
+weigh_ends f to (c ∷ (d ∷ cells)) = ap (λ n. f c.value + n) (weigh_ends f to (d ∷ cells))
 
 count_above : (low : ℕ) (keys : List Span) (c : Write) (cells : List Write) → c.id < low → entries_from low keys (c ∷ cells) ≡ entries_from low keys cells
 count_above low [] c cells h = refl
@@ -19,46 +26,54 @@ count_above low (k ∷ keys) c cells h =
     let e = count_above (low + 1) keys c cells (omega (arith, h)) in
     rw (t, e) refl
 
-count_one : (low : ℕ) (keys : List Span) (c : Write) (cells : List Write) → low ≤ c.id → c.id < low + length keys → length (entries_from low keys (c ∷ cells)) ≡ suc (length (entries_from low keys cells))
-count_one low [] c cells l h = absurd (omega (arith, l, h))
-count_one low (k ∷ keys) c cells l h = elim (eqb_tells c.id low) [
+weigh_one : (f : Value → ℕ) (low : ℕ) (keys : List Span) (c : Write) (cells : List Write) → low ≤ c.id → c.id < low + length keys → weight f (entries_from low keys (c ∷ cells)) ≡ f c.value + weight f (entries_from low keys cells)
+weigh_one f low [] c cells l h = absurd (omega (arith, l, h))
+weigh_one f low (k ∷ keys) c cells l h = elim (eqb_tells c.id low) [
   | inl q ↦
       let t = q.0 in
       let i = q.1 in
       let e = count_above (low + 1) keys c cells (omega (arith, i)) in
       rw (t, e) (
-      length-append (with_ends k.end (c ∷ of_id low cells)) (entries_from (low + 1) keys cells)
-      ∙ ap (λ n. n + length (entries_from (low + 1) keys cells)) (count_ends k.end (c ∷ of_id low cells))
-      ∙ ap (λ n. suc n + length (entries_from (low + 1) keys cells)) (sym (count_ends k.end (of_id low cells)))
-      ∙ (let m : suc (length (with_ends k.end (of_id low cells))) + length (entries_from (low + 1) keys cells) ≡ suc (length (with_ends k.end (of_id low cells)) + length (entries_from (low + 1) keys cells)) = omega arith in m)
-      ∙ ap suc (sym (length-append (with_ends k.end (of_id low cells)) (entries_from (low + 1) keys cells)))
+      weight-append f (with_ends k.end (c ∷ of_id low cells)) (entries_from (low + 1) keys cells)
+      ∙ ap (λ n. n + weight f (entries_from (low + 1) keys cells)) (weigh_ends f k.end (c ∷ of_id low cells) ∙ ap (λ n. f c.value + n) (sym (weigh_ends f k.end (of_id low cells))))
+      ∙ add_assoc (f c.value) (weight f (with_ends k.end (of_id low cells))) (weight f (entries_from (low + 1) keys cells))
+      ∙ ap (λ n. f c.value + n) (sym (weight-append f (with_ends k.end (of_id low cells)) (entries_from (low + 1) keys cells)))
       )
   | inr q ↦
       let t = q.0 in
       let n : c.id ≢ low = q.1 in
-      let again = count_one (low + 1) keys c cells (omega arith) (omega (arith, h)) in
-      rw t (
-      length-append (with_ends k.end (of_id low cells)) (entries_from (low + 1) keys (c ∷ cells))
-      ∙ ap (λ m. length (with_ends k.end (of_id low cells)) + m) again
-      ∙ (let m : length (with_ends k.end (of_id low cells)) + suc (length (entries_from (low + 1) keys cells)) ≡ suc (length (with_ends k.end (of_id low cells)) + length (entries_from (low + 1) keys cells)) = omega arith in m)
-      ∙ ap suc (sym (length-append (with_ends k.end (of_id low cells)) (entries_from (low + 1) keys cells)))
-      )
+      let again = weigh_one f (low + 1) keys c cells (omega arith) (omega (arith, h)) in
+      let one = weight-append f (with_ends k.end (of_id low cells)) (entries_from (low + 1) keys (c ∷ cells)) in
+      let two = weight-append f (with_ends k.end (of_id low cells)) (entries_from (low + 1) keys cells) in
+      rw t (omega (arith, again, one, two))
 ]
 
 no_entries : (low : ℕ) (keys : List Span) → entries_from low keys [] ≡ []
 no_entries low [] = refl
 no_entries low (k ∷ keys) = no_entries (low + 1) keys
 
-entry_count : (keys : List Span) (cells : List Write) → ((c : Write) → In c cells → c.id < length keys) → length (entries_from 0 keys cells) ≡ length cells
-entry_count keys [] f = ap length (no_entries 0 keys)
-entry_count keys (c ∷ cells) f =
-    let h : c.id < length keys = f c (inl refl) in
-    count_one 0 keys c cells (omega arith) (omega (arith, h)) ∙ ap suc (entry_count keys cells (λ d i. f d (inr i)))
+entry_weight : (f : Value → ℕ) (keys : List Span) (cells : List Write) → ((c : Write) → In c cells → c.id < length keys) → weight f (entries_from 0 keys cells) ≡ weight_of f cells
+entry_weight f keys [] k = ap (weight f) (no_entries 0 keys)
+entry_weight f keys (c ∷ cells) k =
+    let h : c.id < length keys = k c (inl refl) in
+    weigh_one f 0 keys c cells (omega arith) (omega (arith, h)) ∙ ap (λ n. f c.value + n) (entry_weight f keys cells (λ d i. k d (inr i)))
+
+pub column_weight : (f : Value → ℕ) (k : ℕ) (keys : List Span) (columns : List (List Write)) → AreHistories keys columns → weight f (get_or (all_entries keys columns) k []) ≡ weight_of f (get_or columns k [])
+column_weight f k keys [] h = refl
+column_weight f zero keys (c ∷ columns) h = entry_weight f keys c h.0.known
+column_weight f (suc k) keys (c ∷ columns) h = column_weight f k keys columns h.1
+
+-- there are as many entries as they weigh where each value weighs one
+pub one_each : (cells : List Cell) → length cells ≡ weight (λ v. 1) cells
+one_each [] = refl
+one_each (c ∷ cells) = let e = one_each cells in omega (arith, e)
+
+one_write : (cells : List Write) → weight_of (λ v. 1) cells ≡ length cells
+one_write [] = refl
+one_write (c ∷ cells) = let e = one_write cells in omega (arith, e)
 
 pub column_count : (k : ℕ) (keys : List Span) (columns : List (List Write)) → AreHistories keys columns → length (get_or (all_entries keys columns) k []) ≡ length (get_or columns k [])
-column_count k keys [] h = refl
-column_count zero keys (c ∷ columns) h = entry_count keys c h.0.known
-column_count (suc k) keys (c ∷ columns) h = column_count k keys columns h.1
+column_count k keys columns h = one_each (get_or (all_entries keys columns) k []) ∙ column_weight (λ v. 1) k keys columns h ∙ one_write (get_or columns k [])
 
 pub column_entries : (k : ℕ) (keys : List Span) (columns : List (List Write)) → k < length columns → get_or (all_entries keys columns) k [] ≡ entries_from 0 keys (get_or columns k [])
 column_entries k keys [] h = absurd (omega arith)

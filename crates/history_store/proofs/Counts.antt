@@ -1,12 +1,12 @@
--- How many cells a column gains.
-use Rattle.std.proofs.Common.{◌≡◌, ◌≢◌, ℕ, suc, zero, ◌+◌, ◌<◌, ◌≤◌, Bool, true, false, List, [], ◌∷◌, ◌++◌, length, get_or, refl, sym, ap, ◌∙◌, subst, arith, if◌then◌else◌, inl, inr, length-append, add_assoc}
+-- What is written into a column, weighed.
+use Rattle.std.proofs.Common.{◌≡◌, ◌≢◌, ℕ, suc, zero, ◌+◌, ◌<◌, ◌≤◌, Bool, true, false, List, [], ◌∷◌, ◌++◌, length, get_or, refl, sym, ap, ◌∙◌, subst, arith, if◌then◌else◌, inl, inr, add_assoc}
 use Rattle.std.proofs.lemmas.Bool.Decides.{eqb_tells}
 use Rattle.prima_base.specs.declared.values.Value.{Value}
 use Rattle.history_store.specs.declared.columns.Write.{Write}
 use Rattle.relations.specs.Sets.{In}
 use Rattle.history_store.specs.Log.{newest}
 use Rattle.history_store.specs.Table.{row_now, rows_of}
-use Rattle.history_store.specs.Handing.{is_value, put, put_row, put_rows, handed, Distinct, AllWidth, at_column, is_same, cells_added}
+use Rattle.history_store.specs.Handing.{is_value, put, put_row, put_rows, handed, Distinct, AllWidth, at_column, is_same, weigh, written}
 use Rattle.history_store.proofs.Puts.{put_same, put_other, row_other, row_width}
 
 abbrev pub One : ℕ → List (List Write) → Type 0
@@ -17,26 +17,35 @@ abbrev pub NoneYet : ℕ → List (List Write) → Type 0
 NoneYet id [] = Unit {0}
 NoneYet id (c ∷ columns) = (newest id c ≡ []) × NoneYet id columns
 
-put_length : (id : ℕ) (v : Value) (stamp : ℕ) (cells : List Write) → length (put id v stamp cells) ≡ length cells + (if is_value v (newest id cells) then 0 else 1)
-put_length id v stamp cells = by_case (is_value v (newest id cells))
-  where
-    by_case : (b : Bool) → length (if b then cells else cells ++ record { id = id; value = v; start = stamp } ∷ []) ≡ length cells + (if b then 0 else 1)
-    by_case true = omega arith
-    by_case false = length-append cells (record { id = id; value = v; start = stamp } ∷ [])
+-- what a column's writes weigh
+abbrev pub weight_of : (Value → ℕ) → List Write → ℕ
+weight_of f [] = 0
+weight_of f (c ∷ cells) = f c.value + weight_of f cells
 
-row_length : (k id : ℕ) (row : List Value) (stamp : ℕ) (columns : List (List Write)) → k < length columns → length row ≡ length columns
-    → length (get_or (put_row id row stamp columns) k []) ≡ length (get_or columns k []) + (if is_same (newest id (get_or columns k [])) (at_column k row) then 0 else 1)
-row_length k id row stamp [] h w = absurd (omega arith)
-row_length k id [] stamp (c ∷ columns) h w = absurd (omega arith)
-row_length zero id (v ∷ row) stamp (c ∷ columns) h w = put_length id v stamp c
-row_length (suc k) id (v ∷ row) stamp (c ∷ columns) h w = row_length k id row stamp columns (omega arith) (omega arith)
+weight_behind : (f : Value → ℕ) (cells : List Write) (c : Write) → weight_of f (cells ++ c ∷ []) ≡ weight_of f cells + f c.value
+weight_behind f [] c = omega arith
+weight_behind f (d ∷ cells) c = let e = weight_behind f cells c in omega (arith, e)
+
+put_weight : (f : Value → ℕ) (id : ℕ) (v : Value) (stamp : ℕ) (cells : List Write) → weight_of f (put id v stamp cells) ≡ weight_of f cells + (if is_value v (newest id cells) then 0 else f v)
+put_weight f id v stamp cells = by_case (is_value v (newest id cells))
+  where
+    by_case : (b : Bool) → weight_of f (if b then cells else cells ++ record { id = id; value = v; start = stamp } ∷ []) ≡ weight_of f cells + (if b then 0 else f v)
+    by_case true = omega arith
+    by_case false = weight_behind f cells (record { id = id; value = v; start = stamp })
+
+row_weight : (f : Value → ℕ) (k id : ℕ) (row : List Value) (stamp : ℕ) (columns : List (List Write)) → k < length columns → length row ≡ length columns
+    → weight_of f (get_or (put_row id row stamp columns) k []) ≡ weight_of f (get_or columns k []) + (if is_same (newest id (get_or columns k [])) (at_column k row) then 0 else weigh f (at_column k row))
+row_weight f k id row stamp [] h w = absurd (omega arith)
+row_weight f k id [] stamp (c ∷ columns) h w = absurd (omega arith)
+row_weight f zero id (v ∷ row) stamp (c ∷ columns) h w = put_weight f id v stamp c
+row_weight f (suc k) id (v ∷ row) stamp (c ∷ columns) h w = row_weight f k id row stamp columns (omega arith) (omega arith)
 
 one_is : (vs : List Value) → length vs ≡ 1 → (v : Value) × (vs ≡ v ∷ [])
 one_is [] e = absurd (omega arith)
 one_is (v ∷ []) e = (v, refl)
 one_is (v ∷ (w ∷ vs)) e = absurd (omega arith)
 
-one_at : (k id : ℕ) (columns : List (List Write)) → k < length columns → One id columns → newest id (get_or columns k []) ≡ at_column k (row_now id columns)
+pub one_at : (k id : ℕ) (columns : List (List Write)) → k < length columns → One id columns → newest id (get_or columns k []) ≡ at_column k (row_now id columns)
 one_at k id [] h o = absurd (omega arith)
 one_at zero id (c ∷ columns) h o = let v = one_is (newest id c) o.0 in rw v.1 refl
 one_at (suc k) id (c ∷ columns) h o = let v = one_is (newest id c) o.0 in let r = one_at k id columns (omega arith) o.1 in rw v.1 r
@@ -70,22 +79,23 @@ none_same : (vs : List Value) → is_same [] vs ≡ false
 none_same [] = refl
 none_same (v ∷ vs) = refl
 
-pub cell_count : (k : ℕ) (lost : List ℕ) (next : ℕ) (gained : List (List Value)) (stamp : ℕ) (columns : List (List Write))
+pub rows_weight : (f : Value → ℕ) (k : ℕ) (lost : List ℕ) (next : ℕ) (gained : List (List Value)) (stamp : ℕ) (columns : List (List Write))
     → k < length columns → AllWidth (length columns) gained → Distinct lost → ((q : ℕ) → In q lost → One q columns) → ((q : ℕ) → In q lost → q < next) → ((q : ℕ) → next ≤ q → NoneYet q columns)
-    → length (get_or (put_rows (handed lost next gained) gained stamp columns) k []) ≡ length (get_or columns k []) + cells_added k (rows_of lost columns) gained
-cell_count k lost next [] stamp columns h w d o b n = let z : length (get_or columns k []) ≡ length (get_or columns k []) + 0 = omega arith in z
-cell_count k [] next (g ∷ gained) stamp columns h w d o b n =
-    let rest = cell_count k [] (next + 1) gained stamp (put_row next g stamp columns) (subst (λ m. k < m) (sym (row_width next g stamp columns)) h) (subst (λ m. AllWidth m gained) (sym (row_width next g stamp columns)) w.1) tt (λ q i. absurd i) (λ q i. absurd i)
+    → weight_of f (get_or (put_rows (handed lost next gained) gained stamp columns) k []) ≡ weight_of f (get_or columns k []) + written f k (rows_of lost columns) gained
+rows_weight f k lost next [] stamp columns h w d o b n = let z : weight_of f (get_or columns k []) ≡ weight_of f (get_or columns k []) + 0 = omega arith in z
+rows_weight f k [] next (g ∷ gained) stamp columns h w d o b n =
+    let rest = rows_weight f k [] (next + 1) gained stamp (put_row next g stamp columns) (subst (λ m. k < m) (sym (row_width next g stamp columns)) h) (subst (λ m. AllWidth m gained) (sym (row_width next g stamp columns)) w.1) tt (λ q i. absurd i) (λ q i. absurd i)
     (λ q l. none_stays q next g stamp columns (omega arith) (n q (omega arith))) in
-    let one = row_length k next g stamp columns h w.0 in
-    let e : (if is_same (newest next (get_or columns k [])) (at_column k g) then 0 else 1) ≡ 1 = ap (λ vs. if is_same vs (at_column k g) then 0 else 1) (none_at k next columns h (n next (omega arith))) ∙ ap (λ t. if t then 0 else 1) (none_same (at_column k g)) in
-    rest ∙ ap (λ m. m + cells_added k [] gained) (one ∙ ap (λ m. length (get_or columns k []) + m) e) ∙ omega arith
-cell_count k (id ∷ lost) next (g ∷ gained) stamp columns h w d o b n =
-    let rest = cell_count k lost next gained stamp (put_row id g stamp columns) (subst (λ m. k < m) (sym (row_width id g stamp columns)) h) (subst (λ m. AllWidth m gained) (sym (row_width id g stamp columns)) w.1) d.1
+    let one = row_weight f k next g stamp columns h w.0 in
+    let new : ℕ = weigh f (at_column k g) in
+    let e : (if is_same (newest next (get_or columns k [])) (at_column k g) then 0 else new) ≡ new = ap (λ vs. if is_same vs (at_column k g) then 0 else new) (none_at k next columns h (n next (omega arith))) ∙ ap (λ t. if t then 0 else new) (none_same (at_column k g)) in
+    rest ∙ ap (λ m. m + written f k [] gained) (one ∙ ap (λ m. weight_of f (get_or columns k []) + m) e) ∙ add_assoc (weight_of f (get_or columns k [])) new (written f k [] gained)
+rows_weight f k (id ∷ lost) next (g ∷ gained) stamp columns h w d o b n =
+    let rest = rows_weight f k lost next gained stamp (put_row id g stamp columns) (subst (λ m. k < m) (sym (row_width id g stamp columns)) h) (subst (λ m. AllWidth m gained) (sym (row_width id g stamp columns)) w.1) d.1
     (λ q i. one_stays q id g stamp columns (o q (inr i))) (λ q i. b q (inr i)) (λ q l. let under : id < next = b id (inl refl) in none_stays q id g stamp columns (omega arith) (n q l)) in
-    let one = row_length k id g stamp columns h w.0 in
-    let same : ℕ = if is_same (at_column k (row_now id columns)) (at_column k g) then 0 else 1 in
+    let one = row_weight f k id g stamp columns h w.0 in
+    let new : ℕ = if is_same (at_column k (row_now id columns)) (at_column k g) then 0 else weigh f (at_column k g) in
     rest
-    ∙ ap (λ m. m + cells_added k (rows_of lost (put_row id g stamp columns)) gained) (one ∙ ap (λ vs. length (get_or columns k []) + (if is_same vs (at_column k g) then 0 else 1)) (one_at k id columns h (o id (inl refl))))
-    ∙ ap (λ rs. length (get_or columns k []) + same + cells_added k rs gained) (rows_stay id g stamp columns lost d.0)
-    ∙ add_assoc (length (get_or columns k [])) same (cells_added k (rows_of lost columns) gained)
+    ∙ ap (λ m. m + written f k (rows_of lost (put_row id g stamp columns)) gained) (one ∙ ap (λ vs. weight_of f (get_or columns k []) + (if is_same vs (at_column k g) then 0 else weigh f (at_column k g))) (one_at k id columns h (o id (inl refl))))
+    ∙ ap (λ rs. weight_of f (get_or columns k []) + new + written f k rs gained) (rows_stay id g stamp columns lost d.0)
+    ∙ add_assoc (weight_of f (get_or columns k [])) new (written f k (rows_of lost columns) gained)

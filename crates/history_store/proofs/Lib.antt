@@ -6,6 +6,7 @@ pub mod Reading
 pub mod Beginning
 pub mod Making
 pub mod Counting
+pub mod CellCounts
 pub mod Moments
 pub mod Installing
 pub mod Indexing
@@ -29,3 +30,7 @@ pub mod Rule
 pub mod Counts
 pub mod Cutting
 pub mod Places
+pub mod Marks
+pub mod Sorting
+pub mod Others
+pub mod Keeping

@@ -60,7 +60,7 @@ handed_is q [] next (row ∷ rows) (inr i) = elim (handed_is q [] (next + 1) row
 handed_is q (id ∷ lost) next (row ∷ rows) (inl e) = inl (inl e)
 handed_is q (id ∷ lost) next (row ∷ rows) (inr i) = elim (handed_is q lost next rows i) [ inl a ↦ inl (inr a) | inr b ↦ inr b ]
 
-handed_distinct : (lost : List ℕ) (next : ℕ) (rows : List (List Value)) → Distinct lost → ((q : ℕ) → In q lost → q < next) → Distinct (handed lost next rows)
+pub handed_distinct : (lost : List ℕ) (next : ℕ) (rows : List (List Value)) → Distinct lost → ((q : ℕ) → In q lost → q < next) → Distinct (handed lost next rows)
 handed_distinct lost next [] d b = tt
 handed_distinct [] next (row ∷ rows) d b = (λ i. elim (handed_is next [] (next + 1) rows i) [ inl a ↦ a | inr c ↦ let l : next + 1 ≤ next = c.0 in omega arith ], handed_distinct [] (next + 1) rows tt (λ q i. absurd i))
 handed_distinct (id ∷ lost) next (row ∷ rows) d b =

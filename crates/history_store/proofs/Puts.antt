@@ -10,7 +10,7 @@ use Rattle.history_store.proofs.Newest.{newest-same, newest-other, value_at-befo
 use Rattle.history_store.proofs.Sides.{exact_values}
 
 -- by whether a cell is added
-by_put : (P : List Write → Type 0) (id : ℕ) (v : Value) (stamp : ℕ) (cells : List Write)
+pub by_put : (P : List Write → Type 0) (id : ℕ) (v : Value) (stamp : ℕ) (cells : List Write)
     → (is_value v (newest id cells) ≡ true → P cells) → P (cells ++ record { id = id; value = v; start = stamp } ∷ []) → P (put id v stamp cells)
 by_put P id v stamp cells kept added = by_case (is_value v (newest id cells)) refl
   where

@@ -2,7 +2,7 @@
 use Rattle.std.proofs.Common.{◌≡◌, ◌≢◌, ℕ, zero, suc, ◌+◌, ◌<◌, ◌≤◌, List, [], ◌∷◌, ◌++◌, length, get_or, set, refl, sym, ap, ◌∙◌, append-nil, subst, arith, inl, inr}
 use Rattle.std.proofs.lemmas.Bool.Decides.{eqb_tells}
 use Rattle.std.proofs.lemmas.List.{get_or-set_same, get_or-set_other, get_or_default}
-use Rattle.std.specs.Prelude.{max}
+use Rattle.std.specs.Prelude.{min, max}
 use Rattle.prima_base.specs.declared.values.Value.{Value}
 use Rattle.history_store.specs.declared.columns.Write.{Write}
 use Rattle.history_store.specs.Log.{Log}
@@ -27,6 +27,9 @@ pub get_or-cells_of : (columns : List Log) (k : ℕ) (d : Log) → k < length co
 get_or-cells_of [] k d h = absurd (omega arith)
 get_or-cells_of (c ∷ columns) zero d h = refl
 get_or-cells_of (c ∷ columns) (suc k) d h = get_or-cells_of columns k d (omega arith)
+
+pub cells_at : (columns : List Log) (k : ℕ) (r : Log) → k < length columns → r ≡ get_or columns k r → get_or (cells_of columns) k [] ≡ r.cells
+cells_at columns k r h is = get_or-cells_of columns k r h ∙ ap (λ (c : Log). c.cells) (sym is)
 
 put_row-push : (id stamp : ℕ) (v : Value) (row : List Value) (columns : List (List Write)) → length row < length columns
     → put_row id (row ++ v ∷ []) stamp columns ≡ set (put_row id row stamp columns) (length row) (put id v stamp (get_or columns (length row) []))
@@ -105,3 +108,7 @@ least_up a b (c ∷ columns) l = let r = least_up a b columns l in grind arith
 
 pub least_from : (a b : ℕ) (columns others : List Log) → a ≤ b → ((least : ℕ) → least_spare least columns ≤ least_spare least others) → least_spare a columns ≤ least_spare b others
 least_from a b columns others l f = let r = least_up a b columns l in let q = f b in omega (arith, r, q)
+
+-- the less of two rooms, of which the first grows
+pub less_up : (a b n : ℕ) → a ≤ b → min a n ≤ min b n
+less_up a b n l = grind arith

@@ -43,7 +43,7 @@ gained_rule columns live (row ∷ rows) =
     gained_step columns row live (gained_rows columns live rows)
     ∙ ap (λ rest. if has row_cmp row (rows_of live columns) then rest else row ∷ rest) (gained_rule columns live rows)
 
-length-unpaired : {A B : Type 0} (xs : List A) (ys : List B) → length (unpaired xs ys) ≡ length xs - length ys
+pub length-unpaired : {A B : Type 0} (xs : List A) (ys : List B) → length (unpaired xs ys) ≡ length xs - length ys
 length-unpaired xs [] = grind arith
 length-unpaired [] (y ∷ ys) = grind arith
 length-unpaired (x ∷ xs) (y ∷ ys) = let e = length-unpaired xs ys in omega arith

@@ -86,7 +86,7 @@ has_place columns ids row at h e = subst (λ r. In r (rows_of ids columns)) (row
 pub parted : (ids : List ℕ) (at : ℕ) → at < length ids → ids ≡ take at ids ++ get_or ids at 0 ∷ drop (at + 1) ids
 parted ids at h = sym (take-append-drop at ids) ∙ ap (λ r. take at ids ++ r) (drop_more ids at 0 h)
 
-in_taken : (xs : List ℕ) (n q : ℕ) → n ≤ length xs → In q (take n xs) → (k : ℕ) × (k < n) × (get_or xs k 0 ≡ q)
+pub in_taken : (xs : List ℕ) (n q : ℕ) → n ≤ length xs → In q (take n xs) → (k : ℕ) × (k < n) × (get_or xs k 0 ≡ q)
 in_taken xs zero q h i = absurd i
 in_taken [] (suc n) q h i = absurd i
 in_taken (x ∷ xs) (suc n) q h (inl e) = (0, omega arith, e)

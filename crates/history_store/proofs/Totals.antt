@@ -1,19 +1,19 @@
--- How many keys and entries a plan adds.
+-- What a plan writes into each column, weighed.
 use Rattle.std.proofs.Common.{◌≡◌, ℕ, ◌+◌, ◌<◌, ◌≤◌, List, [], ◌∷◌, length, get_or, refl, sym, ap, ◌∙◌, subst, arith}
 use Rattle.relations.specs.Spans.{Span}
 use Rattle.prima_base.specs.declared.values.Value.{Value}
 use Rattle.history_store.specs.declared.columns.Write.{Write}
 use Rattle.history_store.specs.Log.{over}
 use Rattle.history_store.specs.Chains.{of_id}
-use Rattle.history_store.specs.Store.{Column}
+use Rattle.history_store.specs.Store.{Column, weight}
 use Rattle.history_store.specs.Entries.{Fits, all_entries, AreHistories}
 use Rattle.history_store.specs.Table.{no_span, rows_of}
 use Rattle.history_store.specs.TableFields.{store_of, IsKept}
-use Rattle.history_store.specs.Handing.{keys_handed, logs_handed, cells_added, AllWidth}
+use Rattle.history_store.specs.Handing.{keys_handed, logs_handed, written, AllWidth}
 use Rattle.history_store.specs.Change.{Plan, IsPlan, rows_along}
 use Rattle.history_store.proofs.Histories.{last_value, newest_is, none_known}
-use Rattle.history_store.proofs.Counts.{One, NoneYet, cell_count}
-use Rattle.history_store.proofs.Counting.{column_count}
+use Rattle.history_store.proofs.Counts.{One, NoneYet, rows_weight}
+use Rattle.history_store.proofs.Counting.{column_weight}
 use Rattle.history_store.proofs.Showing.{along_is}
 use Rattle.history_store.proofs.Installing.{later, plan_kept}
 
@@ -29,24 +29,24 @@ one_fit : (key : Span) (cells : List Write) → Fits key cells → length (last_
 one_fit key [] f = absurd f
 one_fit key (c ∷ cells) f = one_value c cells
 
-one_each : (keys : List Span) (columns : List (List Write)) (id : ℕ) → AreHistories keys columns → id < length keys → One id columns
-one_each keys [] id h b = tt
-one_each keys (c ∷ columns) id h b = (ap length (newest_is id c) ∙ one_fit (get_or keys id no_span) (of_id id c) (h.0.fits id b), one_each keys columns id h.1 b)
+pub one_now : (keys : List Span) (columns : List (List Write)) (id : ℕ) → AreHistories keys columns → id < length keys → One id columns
+one_now keys [] id h b = tt
+one_now keys (c ∷ columns) id h b = (ap length (newest_is id c) ∙ one_fit (get_or keys id no_span) (of_id id c) (h.0.fits id b), one_now keys columns id h.1 b)
 
-none_each : (keys : List Span) (columns : List (List Write)) (id : ℕ) → AreHistories keys columns → length keys ≤ id → NoneYet id columns
-none_each keys [] id h l = tt
-none_each keys (c ∷ columns) id h l = (newest_is id c ∙ ap last_value (none_known (length keys) id c h.0.known l), none_each keys columns id h.1 l)
+none_now : (keys : List Span) (columns : List (List Write)) (id : ℕ) → AreHistories keys columns → length keys ≤ id → NoneYet id columns
+none_now keys [] id h l = tt
+none_now keys (c ∷ columns) id h l = (newest_is id c ∙ ap last_value (none_known (length keys) id c h.0.known l), none_now keys columns id h.1 l)
 
-pub plan_count : (columns : List Column) (keys : List Span) (logs : List (List Write)) (live : List ℕ) (spare : ℕ) (w : IsKept columns keys logs live) (p : Plan) (f : IsPlan (store_of columns keys logs spare) p) (k : ℕ) → k < length columns
-    → length (get_or (all_entries (keys_handed keys p.lost p.gained p.stamp) (logs_handed keys logs p.lost p.gained p.stamp)) k []) ≡ length (get_or (all_entries keys logs) k []) + cells_added k (rows_along p.lost p.stamp (all_entries keys logs)) p.gained
-plan_count columns keys logs live spare w p f k h =
+pub plan_written : (columns : List Column) (keys : List Span) (logs : List (List Write)) (live : List ℕ) (spare : ℕ) (w : IsKept columns keys logs live) (p : Plan) (f : IsPlan (store_of columns keys logs spare) p) (g : Value → ℕ) (k : ℕ) → k < length columns
+    → weight g (get_or (all_entries (keys_handed keys p.lost p.gained p.stamp) (logs_handed keys logs p.lost p.gained p.stamp)) k []) ≡ weight g (get_or (all_entries keys logs) k []) + written g k (rows_along p.lost p.stamp (all_entries keys logs)) p.gained
+plan_written columns keys logs live spare w p f g k h =
     let then' = plan_kept columns keys logs live spare w p f in
     let s = later columns keys logs live spare p.stamp p.stamp w f.before (omega arith) in
     let wide : AllWidth (length logs) p.gained = subst (λ n. AllWidth n p.gained) (sym w.width) f.hands.wide in
-    let count =
-    cell_count k p.lost (length keys) p.gained p.stamp logs (subst (λ n. k < n) (sym w.width) h) wide f.hands.distinct
-    (λ q i. one_each keys logs q w.histories (f.hands.lost_open q i).0) (λ q i. (f.hands.lost_open q i).0) (λ q l. none_each keys logs q w.histories l) in
-    column_count k (keys_handed keys p.lost p.gained p.stamp) (logs_handed keys logs p.lost p.gained p.stamp) then'.histories
-    ∙ count
-    ∙ ap (λ n. n + cells_added k (rows_of p.lost logs) p.gained) (sym (column_count k keys logs w.histories))
-    ∙ ap (λ (rs : List (List Value)). length (get_or (all_entries keys logs) k []) + cells_added k rs p.gained) (sym (along_is p.lost p.stamp p.stamp keys logs w.histories s.columns_fit (omega arith) f.lawful f.hands.lost_open s.started))
+    let more =
+    rows_weight g k p.lost (length keys) p.gained p.stamp logs (subst (λ n. k < n) (sym w.width) h) wide f.hands.distinct
+    (λ q i. one_now keys logs q w.histories (f.hands.lost_open q i).0) (λ q i. (f.hands.lost_open q i).0) (λ q l. none_now keys logs q w.histories l) in
+    column_weight g k (keys_handed keys p.lost p.gained p.stamp) (logs_handed keys logs p.lost p.gained p.stamp) then'.histories
+    ∙ more
+    ∙ ap (λ n. n + written g k (rows_of p.lost logs) p.gained) (sym (column_weight g k keys logs w.histories))
+    ∙ ap (λ (rs : List (List Value)). weight g (get_or (all_entries keys logs) k []) + written g k rs p.gained) (sym (along_is p.lost p.stamp p.stamp keys logs w.histories s.columns_fit (omega arith) f.lawful f.hands.lost_open s.started))

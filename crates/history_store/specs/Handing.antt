@@ -174,8 +174,14 @@ abbrev pub is_same : List Value → List Value → Bool
 is_same old [] = false
 is_same old (v ∷ vs) = is_value v old
 
--- the cells that a column gains: one for each pair whose values differ, and one for each new id
-abbrev pub cells_added : ℕ → List (List Value) → List (List Value) → ℕ
-cells_added k lost [] = 0
-cells_added k [] (g ∷ gained) = 1 + cells_added k [] gained
-cells_added k (l ∷ lost) (g ∷ gained) = (if is_same (at_column k l) (at_column k g) then 0 else 1) + cells_added k lost gained
+-- what the one value weighs, if there is one
+abbrev pub weigh : (Value → ℕ) → List Value → ℕ
+weigh f [] = 0
+weigh f (v ∷ vs) = f v
+
+-- what is written into a column weighs: of each pair whose values there differ the gained row's value, and of each gained
+-- row without a partner its value
+abbrev pub written : (Value → ℕ) → ℕ → List (List Value) → List (List Value) → ℕ
+written f k lost [] = 0
+written f k [] (g ∷ gained) = weigh f (at_column k g) + written f k [] gained
+written f k (l ∷ lost) (g ∷ gained) = (if is_same (at_column k l) (at_column k g) then 0 else weigh f (at_column k g)) + written f k lost gained

@@ -13,3 +13,4 @@ pub mod TableFields
 pub mod Scans
 pub mod ScanFields
 pub mod Cuts
+pub mod ByValue

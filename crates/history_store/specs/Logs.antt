@@ -1,7 +1,8 @@
 -- Several columns.
-use Rattle.std.specs.Prelude.{ℕ, min, List, [], ◌∷◌, if◌then◌else◌, nat_le}
+use Rattle.std.specs.Prelude.{ℕ, ◌-◌, ◌/◌, ◌^◌, min, max, List, [], ◌∷◌, length, if◌then◌else◌, nat_le}
 use Rattle.history_store.specs.declared.columns.Write.{Write}
 use Rattle.history_store.specs.Log.{Log}
+use Rattle.history_store.specs.Store.{cells_in}
 
 abbrev pub cells_of : List Log → List (List Write)
 cells_of [] = []
@@ -19,3 +20,11 @@ with_index room n = if nat_le few_rows room then n else min room n
 abbrev pub least_spare : ℕ → List Log → ℕ
 least_spare least [] = least
 least_spare least (c ∷ columns) = min c.spare (least_spare least columns)
+
+-- how many rows more, of which each may add a cell to each column, keep the number of all cells below 2 ^ 64
+abbrev pub countable_rows : List (List Write) → ℕ
+countable_rows columns = (2 ^ 64 - 1 - cells_in columns) / max (length columns) 1
+
+-- how many rows more there is room for: in the index and among the keys, in each column, and in the number of all cells
+abbrev pub spare_rows : ℕ → ℕ → List Log → ℕ
+spare_rows room n columns = min (least_spare (with_index room n) columns) (countable_rows (cells_of columns))

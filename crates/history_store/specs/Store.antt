@@ -22,6 +22,16 @@ pub record Store : Type 0 where
   pub cells : List (List Cell)
   pub spare : ℕ
 
+-- how many cells several columns have in all: the lengths of their lists together
+abbrev pub cells_in : {A : Type 0} → List (List A) → ℕ
+cells_in [] = 0
+cells_in (cells ∷ columns) = length cells + cells_in columns
+
+-- what the values of a column's entries weigh, by the weight of each value
+abbrev pub weight : (Value → ℕ) → List Cell → ℕ
+weight f [] = 0
+weight f (c ∷ cells) = f c.value + weight f cells
+
 -- the values of this id that a column's entries show at the moment
 abbrev pub shown_at : ℕ → ℕ → List Cell → List Value
 shown_at id m [] = []

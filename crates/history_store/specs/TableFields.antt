@@ -1,12 +1,13 @@
 -- The fields of a table.
-use Rattle.std.specs.Prelude.{◌≡◌, ℕ, ◌-◌, ◌<◌, List, length, All, vec_len, vec_capacity, slice_index_or}
+use Rattle.std.specs.Prelude.{◌≡◌, ℕ, ◌-◌, ◌^◌, ◌<◌, List, [], length, All, vec_len, vec_capacity, slice_index_or}
 use Rattle.relations.specs.Sets.{In}
 use Rattle.relations.specs.Spans.{Span, forever}
 use Rattle.history_store.specs.declared.columns.Write.{Write}
 use Rattle.history_store.specs.declared.tables.StoredTable.TheInside.{Inside}
-use Rattle.history_store.specs.Logs.{cells_of, least_spare, with_index}
+use Rattle.history_store.specs.Logs.{cells_of, spare_rows}
+use Rattle.history_store.specs.ByValue.{least_room, IsIndexed}
 use Rattle.history_store.specs.Entries.{all_entries, AreHistories}
-use Rattle.history_store.specs.Store.{Column, Store, AreColumns, IsRow, IsPeriod, Holds}
+use Rattle.history_store.specs.Store.{Column, Store, cells_in, AreColumns, IsRow, IsPeriod, Holds}
 use Rattle.history_store.specs.Table.{row_then, row_now, no_span, IsStored}
 
 -- what contracts see of the columns, the keys and the writes
@@ -14,7 +15,7 @@ abbrev pub store_of : List Column → List Span → List (List Write) → ℕ �
 store_of columns keys logs spare = record { columns = columns; keys = keys; cells = all_entries keys logs; spare = spare }
 
 abbrev pub table_view : Inside → Store
-table_view a = store_of a.columns.items a.keys.items (cells_of a.logs.items) (least_spare (with_index a.live.room (vec_capacity a.keys - vec_len a.keys)) a.logs.items)
+table_view a = store_of a.columns.items a.keys.items (cells_of a.logs.items) (spare_rows (least_room a.live.room a.others.items) (vec_capacity a.keys - vec_len a.keys) a.logs.items)
 
 -- the entries of each id fill its key, and `live` has the ids of the current rows in the order of their rows; at
 -- each moment, as now, each id has a row of the columns, and no two have the same
@@ -31,3 +32,7 @@ pub record IsKept (columns : List Column) (keys : List Span) (logs : List (List 
 pub record IsTable (a : Inside) : Type 0 where
   pub kept : IsKept a.columns.items a.keys.items (cells_of a.logs.items) a.live.ids
   pub ids : All (λ c. c.ids ≡ length a.keys.items) a.logs.items
+  -- the number of all cells is a number of 64 bits
+  pub counted : cells_in (cells_of a.logs.items) < 2 ^ 64
+  -- each other index has the ids of the current rows in the order of its column
+  pub others : All (IsIndexed (cells_of a.logs.items) a.live.ids []) a.others.items

@@ -1,12 +1,16 @@
-ghost use Rattle.std.specs.Prelude.{◌≡◌, OnOk, IfOk, [], ◌+◌, ◌-◌, ◌++◌, vec_len, vec_capacity, ◌<◌, ◌≤◌, max, length, All, slice_index_or};
-ghost use Rattle.history_store.specs.Logs.{cells_of, least_spare, with_index};
+ghost use Rattle.std.specs.Prelude.{◌≡◌, OnOk, IfOk, [], ◌+◌, ◌-◌, ◌++◌, vec_len, vec_capacity, ◌^◌, ◌<◌, ◌≤◌, max, length, All, slice_index_or, ℕ};
+ghost use Rattle.history_store.specs.Logs.{cells_of, least_spare, countable_rows, spare_rows};
 ghost use Rattle.history_store.specs.Handing.{ended_at, put_row, put_rows, handed, unpaired, new_keys, end_keys, keys_handed, logs_handed, AllWidth};
+ghost use Rattle.history_store.specs.ByValue.{Indexed, least_room};
 ghost use Rattle.history_store.specs.Log.{Log};
+ghost use Rattle.history_store.specs.Store.{cells_in};
 ghost use Rattle.history_store.specs.Table.{no_span};
 ghost use Rattle.relations.specs.Spans.{forever};
 
 use crate::columns::Column;
+use crate::other_indexes::reserve_each;
 use crate::splices::FEW_ROWS;
+use crate::value_index::ValueIndex;
 use prima_base::{NoMemory, Period, Row, Value};
 use row_index::RowIndex;
 use std::alloc::Global;
@@ -125,26 +129,58 @@ pub fn reserve_all(columns: &mut Vec<Column>, more: usize) -> Result<(), NoMemor
     Ok(())
 }
 
-/// Room for this many rows more: for their keys, for the ids of few of them in the index, and for a cell of each in each
-/// column.
+/// How many cells the columns have in all.
+pub fn count_cells(columns: &[Column]) -> u64
+    requires counted { cells_in (cells_of columns.now) < 2 ^ 64 }
+    ensures { result ≡ cells_in (cells_of columns.now) }
+{
+    let mut cells = 0;
+    for column in columns {
+        cells += column.count() as u64;
+    }
+    cells
+}
+
+// Whether the cells could still be counted with this many rows more: no machine has memory for so many.
+fn check_count(columns: &[Column], more: usize) -> Result<(), NoMemory>
+    requires counted { cells_in (cells_of columns.now) < 2 ^ 64 }
+    ensures { OnOk result (more ≤ countable_rows (cells_of columns.now)) }
+{
+    let width = columns.len().max(1) as u64;
+    if more as u64 > (u64::MAX - count_cells(columns)) / width {
+        return Err(NoMemory);
+    }
+    Ok(())
+}
+
+/// Room for this many rows more: for their keys, for the ids of few of them in each index, for a cell of each in each
+/// column, and in the number of all cells.
 pub fn reserve_rows(
     keys: &mut Vec<Period>,
     live: &mut RowIndex,
+    others: &mut Vec<ValueIndex>,
     columns: &mut Vec<Column>,
     more: usize,
 ) -> Result<(), NoMemory>
+    requires counted { cells_in (cells_of columns.old.items) < 2 ^ 64 }
     ensures keys { keys.new.items ≡ keys.old.items }
     ensures live { live.new.ids ≡ live.old.ids }
+    ensures others_len { vec_len others.new ≡ vec_len others.old }
+    ensures others { (k : ℕ) (d : Indexed) → k < vec_len others.old
+        → ((slice_index_or others.new.items k d).column ≡ (slice_index_or others.old.items k d).column) × ((slice_index_or others.new.items k d).ids ≡ (slice_index_or others.old.items k d).ids) }
     ensures len { vec_len columns.new ≡ vec_len columns.old }
     ensures cells { cells_of columns.new.items ≡ cells_of columns.old.items }
     ensures ids { (k : _) (d : Log) → k < vec_len columns.old
         → (slice_index_or columns.new.items k d).ids ≡ (slice_index_or columns.old.items k d).ids }
-    ensures spare { least_spare (with_index live.old.room (vec_capacity keys.old - vec_len keys.old)) columns.old.items
-        ≤ least_spare (with_index live.new.room (vec_capacity keys.new - vec_len keys.new)) columns.new.items }
-    ensures room { OnOk result (more ≤ least_spare (with_index live.new.room (vec_capacity keys.new - vec_len keys.new)) columns.new.items) }
+    ensures spare { spare_rows (least_room live.old.room others.old.items) (vec_capacity keys.old - vec_len keys.old) columns.old.items
+        ≤ spare_rows (least_room live.new.room others.new.items) (vec_capacity keys.new - vec_len keys.new) columns.new.items }
+    ensures room { OnOk result (more ≤ spare_rows (least_room live.new.room others.new.items) (vec_capacity keys.new - vec_len keys.new) columns.new.items) }
 {
+    check_count(columns, more)?;
+    let few = more.min(FEW_ROWS);
     keys.reserve(more)?;
-    live.reserve(more.min(FEW_ROWS))?;
+    live.reserve(few)?;
+    reserve_each(others, few)?;
     reserve_all(columns, more)
 }
 

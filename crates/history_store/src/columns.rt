@@ -107,8 +107,8 @@ impl Column {
         &self.cells[self.last[id]].value
     }
 
-    // How many ids the column has.
-    fn ids(&self) -> usize
+    /// How many ids the column has.
+    pub(crate) fn ids(&self) -> usize
         ensures { result ≡ self.now.ids }
     {
         self.last.len()

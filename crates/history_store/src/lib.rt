@@ -10,14 +10,19 @@
 //! ascending order, and the i-th lost row hands its id to the i-th gained row: only columns whose values
 //! differ get a new entry. A lost row without a partner ends its key, and a gained row without one gets the
 //! next id. Ids are never used again.
+//!
+//! Current rows are found by binary search: by the values that rows begin with, and by the value of any one column for
+//! which an index was asked.
 #![tactic(auto)]
 
 mod changes;
 mod columns;
 mod cuts;
+mod other_indexes;
 mod scans;
 mod splices;
 mod tables;
+mod value_index;
 mod walks;
 
 pub use cuts::{Cut, LentRows};

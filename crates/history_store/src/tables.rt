@@ -1,18 +1,20 @@
-use crate::changes::{carry_out, empty_columns, reserve_rows};
+use crate::changes::{carry_out, count_cells, empty_columns, reserve_rows};
 use crate::columns::Column;
 use crate::cuts::{Cut, LentRows, count_before};
+use crate::other_indexes::{gain_each, index_of, lose_each};
 use crate::scans::{CellScan, KeyScan};
 use crate::splices::{After, change_index, copy_given, splice};
+use crate::value_index::ValueIndex;
 use crate::walks::{
     Difference, column_place, copy_columns, copy_rows, find_difference, next_ids, place_in,
 };
-use prima_base::{ColType, Name, NoMemory, Period, Row};
+use prima_base::{ColType, Name, NoMemory, Period, Row, Value};
 use row_index::RowIndex;
 use std::alloc::Global;
 use std::marker::Model;
 
 /// The history of one table. An id is a place among the keys; `live` has the ids of the current rows in the
-/// order of their rows.
+/// order of their rows, and each of `others` has them in the order of the values of a column that was asked for.
 #[derive(Drop)]
 pub struct StoredTable {
     alloc: Global,
@@ -20,6 +22,7 @@ pub struct StoredTable {
     keys: Vec<Period>,
     logs: Vec<Column>,
     live: RowIndex,
+    others: Vec<ValueIndex>,
 }
 
 impl Model for StoredTable {
@@ -72,16 +75,17 @@ impl Prepared {
 }
 
 impl StoredTable {
-    ghost use Rattle.std.specs.Prelude.{◌≡◌, ℕ, ◌+◌, ◌-◌, ◌<◌, ◌≤◌, List, [], length, IfOk, option_map, slice_index_or};
+    ghost use Rattle.std.specs.Prelude.{◌≡◌, ℕ, ◌+◌, ◌-◌, ◌<◌, ◌≤◌, List, [], length, IfOk, IfSome, option_map, slice_index_or};
     ghost use Rattle.relations.specs.Sets.{In, has};
     ghost use Rattle.relations.specs.Spans.{forever};
     ghost use Rattle.prima_base.specs.Order.{row_cmp};
-    ghost use Rattle.prima_base.specs.declared.values.Value.{Value};
-    ghost use Rattle.history_store.specs.Store.{Store, relation_at, IsRelation, AreColumns, AllBefore, IsStore, column_of};
-    ghost use Rattle.history_store.specs.Handing.{new_keys, handed, only_in, cells_added};
+    ghost use Rattle.prima_base.specs.declared.values.Value.{Value as OneValue};
+    ghost use Rattle.history_store.specs.Store.{Store, cells_in, weight, relation_at, IsRelation, AreColumns, AllBefore, IsStore, column_of};
+    ghost use Rattle.history_store.specs.Handing.{new_keys, handed, only_in, written};
     ghost use Rattle.history_store.specs.Change.{Plan, IsPlan, rows_after, rows_along, changed, keys_after, cells_after, write_rows, no_cells};
     ghost use Rattle.history_store.specs.Scans.{keys_from};
     ghost use Rattle.history_store.specs.Cuts.{between};
+    ghost use Rattle.history_store.specs.ByValue.{AreWithValue};
 
     /// A table of these columns, which stand in the order of their names: from the stamp on its relation
     /// is `rows`, before it is empty. The one error is `NoMemory`, where memory runs out.
@@ -97,6 +101,8 @@ impl StoredTable {
         ensures columns { IfOk result (λ t. t.columns ≡ columns.now) }
         ensures keys { IfOk result (λ t. t.keys ≡ new_keys stamp rows.now) }
         ensures cells { IfOk result (λ t. t.cells ≡ write_rows (handed [] 0 rows.now) rows.now stamp (no_cells columns.now)) }
+        ensures key_count { IfOk result (λ t. length t.keys ≡ length rows.now) }
+        ensures written { (f : OneValue → ℕ) (k : ℕ) → k < length columns.now → IfOk result (λ t. weight f (slice_index_or t.cells k []) ≡ written f k [] rows.now) }
         ensures before { (m : ℕ) → m < stamp → IfOk result (λ t. relation_at t m ≡ []) }
         ensures from { (m : ℕ) → stamp ≤ m → m < forever → IfOk result (λ t. relation_at t m ≡ rows.now) }
         ensures later { (m : ℕ) → stamp < m → IfOk result (λ t. AllBefore t m) }
@@ -108,6 +114,7 @@ impl StoredTable {
             keys: Vec::new(alloc),
             logs: empty_columns(alloc, columns.len())?,
             live: RowIndex::of(alloc, &[])?,
+            others: Vec::new(alloc),
         };
         let prepared = table.prepare(stamp, rows)?;
         table.install(prepared);
@@ -140,7 +147,13 @@ impl StoredTable {
         } = find_difference(self.alloc, &self.logs, &self.live.copy()?, rows)?;
         let ids = next_ids(self.alloc, &owners, &lost, self.keys.len())?;
         let after = RowIndex::of(self.alloc, &ids)?;
-        reserve_rows(&mut self.keys, &mut self.live, &mut self.logs, gained.len())?;
+        reserve_rows(
+            &mut self.keys,
+            &mut self.live,
+            &mut self.others,
+            &mut self.logs,
+            gained.len(),
+        )?;
         Ok(Prepared {
             stamp,
             lost,
@@ -163,8 +176,8 @@ impl StoredTable {
         requires lawful { stamp < forever }
         requires lost { IsRelation self.old.columns lost.now }
         requires gained { IsRelation self.old.columns gained.now }
-        requires there { (row : List Value) → In row lost.now → In row (relation_at self.old stamp) }
-        requires fresh { (row : List Value) → In row gained.now → In row (relation_at self.old stamp) → ⊥ }
+        requires there { (row : List OneValue) → In row lost.now → In row (relation_at self.old stamp) }
+        requires fresh { (row : List OneValue) → In row gained.now → In row (relation_at self.old stamp) → ⊥ }
         ensures same { self.new ≡ record self.old { spare = self.new.spare } }
         ensures stamp { IfOk result (λ p. p.stamp ≡ stamp) }
         ensures fits { IfOk result (λ p. IsPlan self.new p) }
@@ -186,7 +199,13 @@ impl StoredTable {
             gained,
         )?;
         let gained = copy_given(self.alloc, gained)?;
-        reserve_rows(&mut self.keys, &mut self.live, &mut self.logs, gained.len())?;
+        reserve_rows(
+            &mut self.keys,
+            &mut self.live,
+            &mut self.others,
+            &mut self.logs,
+            gained.len(),
+        )?;
         Ok(Prepared {
             stamp,
             lost: found,
@@ -196,9 +215,9 @@ impl StoredTable {
     }
 
     /// Carries out what was made ready: from its stamp on the relation is the one that it was made for,
-    /// and before it nothing changes. It takes no memory. The index of the current rows loses the ids at the places that
-    /// were found and gets the gained ones at theirs, each of which moves ids of its block alone, or it is replaced by
-    /// the whole one that was made ready.
+    /// and before it nothing changes. By any weight of values each column gains what is written into it. It takes no
+    /// memory. The index of the current rows loses the ids at the places that were found and gets the gained ones at
+    /// theirs, each of which moves ids of its block alone, or it is replaced by the whole one that was made ready.
     pub fn install(&mut self, prepared: Prepared)
         requires fits { IsPlan self.old prepared }
         requires room { length prepared.gained ≤ self.old.spare }
@@ -206,8 +225,8 @@ impl StoredTable {
         ensures keys { self.new.keys ≡ keys_after self.old prepared }
         ensures cells { self.new.cells ≡ cells_after self.old prepared }
         ensures key_count { length self.new.keys ≡ length self.old.keys + (length prepared.gained - length prepared.lost) }
-        ensures cell_count { (k : ℕ) → k < length self.old.columns → length (slice_index_or self.new.cells k [])
-            ≡ length (slice_index_or self.old.cells k []) + cells_added k (rows_along prepared.lost prepared.stamp self.old.cells) prepared.gained }
+        ensures written { (f : OneValue → ℕ) (k : ℕ) → k < length self.old.columns → weight f (slice_index_or self.new.cells k [])
+            ≡ weight f (slice_index_or self.old.cells k []) + written f k (rows_along prepared.lost prepared.stamp self.old.cells) prepared.gained }
         ensures before { (m : ℕ) → m < prepared.stamp → relation_at self.new m ≡ relation_at self.old m }
         ensures from { (m : ℕ) → prepared.stamp ≤ m → m < forever → relation_at self.new m ≡ rows_after self.old prepared }
         ensures later { (m : ℕ) → prepared.stamp < m → AllBefore self.new m }
@@ -219,7 +238,11 @@ impl StoredTable {
             gained,
             after,
         } = prepared;
+        let next = self.keys.len();
+        let count = gained.len();
+        lose_each(&mut self.others, &self.logs, &lost, count);
         carry_out(&mut self.keys, &mut self.logs, &lost, gained, stamp);
+        gain_each(&mut self.others, &self.logs, &lost, next, count);
         change_index(&mut self.live, after);
     }
 
@@ -266,6 +289,33 @@ impl StoredTable {
         LentRows::over(&self.logs, &self.live, start, end)
     }
 
+    /// Keeps from now on an index of the column at this place, where there is none: its ids are sorted once, and each
+    /// change of few rows moves those of its rows. A change of more than 64 rows takes the index away. What the table
+    /// stands for stays as it is. The one error is `NoMemory`, where memory runs out.
+    pub fn index_column(&mut self, column: usize) -> Result<(), NoMemory>
+        requires within { column < length self.old.columns }
+        ensures same { self.new ≡ record self.old { spare = self.new.spare } }
+        ensures spare { self.old.spare ≤ self.new.spare }
+    {
+        if index_of(&self.others, column).is_some() {
+            return Ok(());
+        }
+        let index = ValueIndex::of(self.alloc, &self.logs, column, &self.live.copy()?)?;
+        self.others.push(index)?;
+        Ok(())
+    }
+
+    /// The current rows that have this value in the column at this place, lent, where an index of the column is kept:
+    /// they are found by binary search. What the table has now it has from its last stamp on. It takes no memory.
+    pub fn rows_with(&self, column: usize, value: &Value) -> Option<LentRows<'_>>
+        ensures rows { (m : ℕ) → m < forever → AllBefore self.now (m + 1) → IfSome result (λ rows. AreWithValue column value.now (relation_at self.now m) rows) }
+    {
+        match index_of(&self.others, column) {
+            Some(at) => Some(self.others[at].rows_with(&self.logs, value)),
+            None => None,
+        }
+    }
+
     /// A scan of the keys, ascending by id. It takes no memory.
     pub fn scan_keys(&self) -> KeyScan<'_>
         ensures entries { result ≡ keys_from 0 self.now.keys }
@@ -301,5 +351,12 @@ impl StoredTable {
             Some(column) => Some(self.logs[column].count() as u64),
             None => None,
         }
+    }
+
+    /// How many cells the table has: the entries of all columns together. It takes no memory.
+    pub fn cells(&self) -> u64
+        ensures { result ≡ cells_in self.now.cells }
+    {
+        count_cells(&self.logs)
     }
 }

@@ -1,17 +1,28 @@
-use Rattle.std.proofs.Common.{rules, length, sym, ◌∙◌, subst, arith, vec_len, vec_capacity, ◌≤◌}
+use Rattle.std.proofs.Common.{rules, ◌≡◌, ◌<◌, ◌≤◌, ℕ, List, [], length, sym, ap, ◌∙◌, subst, arith, vec_len, vec_capacity}
 use Rattle.std.proofs.lemmas.Grind.{common_steps}
-use Rattle.history_store.specs.Handing.{AllWidth}
+use Rattle.std.proofs.Math.Nat.{le_trans, min-le_left, min-le_right}
+use Rattle.relations.specs.Sets.{In}
+use Rattle.prima_base.specs.declared.values.Value.{Value}
+use Rattle.history_store.specs.Handing.{AllWidth, Distinct, handed, keys_handed}
 use Rattle.history_store.specs.Indexes.{index_of}
 use Rattle.history_store.specs.Logs.{cells_of}
+use Rattle.history_store.specs.ByValue.{ids_handed, least_room}
 use Rattle.history_store.proofs.Places.{few_placed}
 use Rattle.history_store.proofs.Carry.{known, spare_least, spare_each, key_room, index_room}
 use Rattle.history_store.proofs.Rows.{length-cells_of}
 use Rattle.history_store.proofs.Showing.{key_before}
 use Rattle.history_store.proofs.Lawful.{is_store}
 use Rattle.history_store.proofs.Installing.{placed_then, plan_kept, plan_cells, plan_before, plan_from, plan_later}
+use Rattle.history_store.proofs.CellCounts.{still_counted}
+use Rattle.history_store.proofs.Others.{least_room_below, least_room_each, ready_each}
+use Rattle.history_store.proofs.Keeping.{ids_are_handed, all_lost, all_ready, all_new, all_fresh, all_apart, all_indexed}
 use Rattle.history_store.proofs.Rule.{key_count}
-use Rattle.history_store.proofs.Totals.{plan_count}
+use Rattle.history_store.proofs.Totals.{plan_written}
 use Rattle.history_store.proofs.tables.StoredTable.install.Goals as goal
+
+-- the ids that are put into the indexes are those that are handed
+given : (others lost : List ℕ) (next n count : ℕ) (gained : List (List Value)) → others ≡ lost → next ≡ n → count ≡ length gained → ids_handed others next count ≡ handed lost n gained
+given others lost next n count gained a b c = ap (λ ids. ids_handed ids next count) a ∙ ap (λ m. ids_handed lost m count) b ∙ ap (ids_handed lost n) c ∙ ids_are_handed lost n gained
 
 pub carry_out-requires-clause-wide : goal.carry_out-requires-clause-wide
 carry_out-requires-clause-wide c =
@@ -21,7 +32,7 @@ carry_out-requires-clause-wide c =
 pub carry_out-requires-clause-known : goal.carry_out-requires-clause-known
 carry_out-requires-clause-known c =
     let f = rw (← c.self.view_is, ← c.prepared.view_is) at c.requires.fits in
-    known c.deref.result.now c.prepared.inside.lost.items c.self.inside.keys.items _ c.deref.ensures.value (search rules) f.hands.lost_open
+    known c.deref-3.result.now c.prepared.inside.lost.items c.self.inside.keys.items _ c.deref-3.ensures.value (search rules) f.hands.lost_open
 
 pub carry_out-requires-clause-later : goal.carry_out-requires-clause-later
 carry_out-requires-clause-later c = λ k h.
@@ -30,15 +41,15 @@ carry_out-requires-clause-later c = λ k h.
 
 pub carry_out-requires-clause-room : goal.carry_out-requires-clause-room
 carry_out-requires-clause-room c =
-    let r = rw (← c.self.view_is, ← c.prepared.view_is) at c.requires.room in
+    let r = le_trans (rw (← c.self.view_is, ← c.prepared.view_is) at c.requires.room) (min-le_left _ _) in
     spare_each (length c.prepared.inside.gained.items) _ c.self.inside.logs.items r
 
 pub carry_out-requires-clause-key_room : goal.carry_out-requires-clause-key_room
 carry_out-requires-clause-key_room c =
-    let r = rw (← c.self.view_is, ← c.prepared.view_is) at c.requires.room in
+    let r = le_trans (rw (← c.self.view_is, ← c.prepared.view_is) at c.requires.room) (min-le_left _ _) in
     let s = spare_least (length c.prepared.inside.gained.items) _ c.self.inside.logs.items r in
     let w : vec_len c.self.inside.keys ≤ vec_capacity c.self.inside.keys = grind (arith, common_steps) in
-    key_room (vec_capacity c.self.inside.keys) (vec_len c.self.inside.keys) c.self.inside.live.room _ s w
+    key_room (vec_capacity c.self.inside.keys) (vec_len c.self.inside.keys) (least_room c.self.inside.live.room c.self.inside.others.items) _ s w
 
 pub change_index-requires-clause-placed : goal.change_index-requires-clause-placed
 change_index-requires-clause-placed c =
@@ -50,61 +61,133 @@ pub change_index-requires-clause-room : goal.change_index-requires-clause-room
 change_index-requires-clause-room c =
     let a = c.self.inside in
     let f = rw (← c.self.view_is, ← c.prepared.view_is) at c.requires.fits in
-    let r = rw (← c.self.view_is, ← c.prepared.view_is) at c.requires.room in
+    let r = le_trans (rw (← c.self.view_is, ← c.prepared.view_is) at c.requires.room) (min-le_left _ _) in
     let s = spare_least (length c.prepared.inside.gained.items) _ a.logs.items r in
     let p = placed_then a.columns.items a.keys.items (cells_of a.logs.items) a.live.ids _ c.self.invariant.kept _ f in
-    index_room a.live.room _ (length c.prepared.inside.gained.items) _ s f.more (few_placed (index_of c.prepared.inside.after) a.live.ids p)
+    let n = index_room (least_room a.live.room a.others.items) _ (length c.prepared.inside.gained.items) _ s f.more (few_placed (index_of c.prepared.inside.after) a.live.ids p) in
+    let b = least_room_below a.live.room a.others.items in
+    omega (arith, n, b)
 
 pub invariant_of-self : goal.invariant_of-self
 invariant_of-self c =
     let a = c.self.inside in
     let f = rw (← c.self.view_is, ← c.prepared.view_is) at c.requires.fits in
+    let r = le_trans (rw (← c.self.view_is, ← c.prepared.view_is) at c.requires.room) (min-le_right _ _) in
+    let l = (rw (c.deref.ensures.value, c.deref-2.ensures.value) at c.lose_each.ensures.indexed) a.live.ids c.self.invariant.others in
+    let next : c.len-next.result ≡ length a.keys.items = search rules in
+    let count : c.len-count.result ≡ length c.prepared.inside.gained.items = search rules in
+    let ids = given c.deref-5.result.now c.prepared.inside.lost.items c.len-next.result (length a.keys.items) c.len-count.result c.prepared.inside.gained.items c.deref-5.ensures.value next count in
+    let e = rw c.deref-3.ensures.value at c.carry_out.ensures.cells in
+    let long : length c.gain_each.new.others.items ≡ length c.lose_each.new.others.items = grind (arith, common_steps) in
+    let each = rw (c.deref-4.ensures.value, ids) at c.gain_each.ensures.each in
     record {
-      kept = rw (c.carry_out.ensures.keys, c.carry_out.ensures.cells, c.deref.ensures.value, c.change_index.ensures) (plan_kept a.columns.items a.keys.items (cells_of a.logs.items) a.live.ids _ c.self.invariant.kept _ f);
+      kept = rw (c.carry_out.ensures.keys, c.carry_out.ensures.cells, c.deref-3.ensures.value, c.change_index.ensures) (plan_kept a.columns.items a.keys.items (cells_of a.logs.items) a.live.ids _ c.self.invariant.kept _ f);
       ids = λ k d b. c.carry_out.ensures.ids k d b ∙ search rules;
+      counted = rw (c.carry_out.ensures.cells, c.deref-3.ensures.value) (still_counted (handed c.prepared.inside.lost.items (length a.keys.items) c.prepared.inside.gained.items) c.prepared.inside.gained.items c.prepared.inside.stamp (cells_of a.logs.items) c.self.invariant.counted r);
+      others = rw (c.carry_out.ensures.cells, c.deref-3.ensures.value, c.change_index.ensures) (all_indexed a.columns.items a.keys.items (cells_of a.logs.items) a.live.ids _ c.self.invariant.kept _ f c.carry_out.new.columns.items c.lose_each.new.others.items c.gain_each.new.others.items e l long (λ k d h. (let b : k < vec_len c.lose_each.new.others = grind (arith, common_steps) in each k d b)));
     }
+
+pub lose_each-requires-clause-ready : goal.lose_each-requires-clause-ready
+lose_each-requires-clause-ready c =
+    let a = c.self.inside in
+    rw c.deref.ensures.value (ready_each a.logs.items (length a.keys.items) a.live.ids [] a.others.items (λ q i. (c.self.invariant.kept.stored.are_open q i).0) c.self.invariant.ids c.self.invariant.others)
+
+pub lose_each-requires-clause-there : goal.lose_each-requires-clause-there
+lose_each-requires-clause-there c =
+    let a = c.self.inside in
+    let f = rw (← c.self.view_is, ← c.prepared.view_is) at c.requires.fits in
+    rw c.deref-2.ensures.value (all_lost a.columns.items a.keys.items (cells_of a.logs.items) a.live.ids _ c.self.invariant.kept _ f a.others.items c.self.invariant.others)
+
+pub lose_each-requires-clause-room : goal.lose_each-requires-clause-room
+lose_each-requires-clause-room c = λ few.
+    let a = c.self.inside in
+    let r = le_trans (rw (← c.self.view_is, ← c.prepared.view_is) at c.requires.room) (min-le_left _ _) in
+    let s = spare_least (length c.prepared.inside.gained.items) _ a.logs.items r in
+    let count : c.len-count.result ≡ length c.prepared.inside.gained.items = search rules in
+    least_room_each c.len-count.result a.live.room a.others.items (index_room (least_room a.live.room a.others.items) _ (length c.prepared.inside.gained.items) c.len-count.result s (omega (arith, count)) few)
+
+pub gain_each-requires-clause-ready : goal.gain_each-requires-clause-ready
+gain_each-requires-clause-ready c =
+    let a = c.self.inside in
+    let f = rw (← c.self.view_is, ← c.prepared.view_is) at c.requires.fits in
+    let l = (rw (c.deref.ensures.value, c.deref-2.ensures.value) at c.lose_each.ensures.indexed) a.live.ids c.self.invariant.others in
+    let e = rw c.deref-3.ensures.value at c.carry_out.ensures.cells in
+    let n = key_count a.keys.items c.prepared.inside.lost.items c.prepared.inside.gained.items c.prepared.inside.stamp in
+    let m : vec_len c.carry_out.new.keys ≡ length (keys_handed a.keys.items c.prepared.inside.lost.items c.prepared.inside.gained.items c.prepared.inside.stamp) = first_of (search rules, grind (arith, common_steps)) in
+    rw c.deref-4.ensures.value (all_ready a.columns.items a.keys.items (cells_of a.logs.items) a.live.ids _ c.self.invariant.kept _ f c.carry_out.new.columns.items (vec_len c.carry_out.new.keys) e c.carry_out.ensures.ids (omega (arith, n, m)) c.lose_each.new.others.items l)
+
+pub gain_each-requires-clause-new : goal.gain_each-requires-clause-new
+gain_each-requires-clause-new c = λ q j d i h.
+    let a = c.self.inside in
+    let f = rw (← c.self.view_is, ← c.prepared.view_is) at c.requires.fits in
+    let next : c.len-next.result ≡ length a.keys.items = search rules in
+    let count : c.len-count.result ≡ length c.prepared.inside.gained.items = search rules in
+    let ids = given c.deref-5.result.now c.prepared.inside.lost.items c.len-next.result (length a.keys.items) c.len-count.result c.prepared.inside.gained.items c.deref-5.ensures.value next count in
+    let n = key_count a.keys.items c.prepared.inside.lost.items c.prepared.inside.gained.items c.prepared.inside.stamp in
+    let m : vec_len c.carry_out.new.keys ≡ length (keys_handed a.keys.items c.prepared.inside.lost.items c.prepared.inside.gained.items c.prepared.inside.stamp) = first_of (search rules, grind (arith, common_steps)) in
+    let b = subst (λ cs. j < length cs) c.deref-4.ensures.value h in
+    rw c.deref-4.ensures.value (all_new a.columns.items a.keys.items (cells_of a.logs.items) a.live.ids _ c.self.invariant.kept _ f c.carry_out.new.columns.items (vec_len c.carry_out.new.keys) (m ∙ n) c.carry_out.ensures.ids q j d (subst (In q) ids i) b)
+
+pub gain_each-requires-clause-fresh : goal.gain_each-requires-clause-fresh
+gain_each-requires-clause-fresh c = λ j d h q i.
+    let a = c.self.inside in
+    let f = rw (← c.self.view_is, ← c.prepared.view_is) at c.requires.fits in
+    let l = (rw (c.deref.ensures.value, c.deref-2.ensures.value) at c.lose_each.ensures.indexed) a.live.ids c.self.invariant.others in
+    let next : c.len-next.result ≡ length a.keys.items = search rules in
+    let count : c.len-count.result ≡ length c.prepared.inside.gained.items = search rules in
+    let ids = given c.deref-5.result.now c.prepared.inside.lost.items c.len-next.result (length a.keys.items) c.len-count.result c.prepared.inside.gained.items c.deref-5.ensures.value next count in
+    all_fresh a.columns.items a.keys.items (cells_of a.logs.items) a.live.ids _ c.self.invariant.kept _ f c.lose_each.new.others.items l j d h q (subst (In q) ids i)
+
+pub gain_each-requires-clause-distinct : goal.gain_each-requires-clause-distinct
+gain_each-requires-clause-distinct c =
+    let a = c.self.inside in
+    let f = rw (← c.self.view_is, ← c.prepared.view_is) at c.requires.fits in
+    let next : c.len-next.result ≡ length a.keys.items = search rules in
+    let count : c.len-count.result ≡ length c.prepared.inside.gained.items = search rules in
+    let ids = given c.deref-5.result.now c.prepared.inside.lost.items c.len-next.result (length a.keys.items) c.len-count.result c.prepared.inside.gained.items c.deref-5.ensures.value next count in
+    subst Distinct (sym ids) (all_apart a.columns.items a.keys.items (cells_of a.logs.items) a.live.ids _ c.self.invariant.kept _ f)
 
 pub returns-clause-cells : goal.returns-clause-cells
 returns-clause-cells c =
     let a = c.self.inside in
     let f = rw (← c.self.view_is, ← c.prepared.view_is) at c.requires.fits in
-    rw (c.carry_out.ensures.keys, c.carry_out.ensures.cells, c.deref.ensures.value, ← c.self.view_is, ← c.prepared.view_is) (plan_cells a.columns.items a.keys.items (cells_of a.logs.items) a.live.ids _ c.self.invariant.kept _ f)
+    rw (c.carry_out.ensures.keys, c.carry_out.ensures.cells, c.deref-3.ensures.value, ← c.self.view_is, ← c.prepared.view_is) (plan_cells a.columns.items a.keys.items (cells_of a.logs.items) a.live.ids _ c.self.invariant.kept _ f)
 
 pub returns-clause-before : goal.returns-clause-before
 returns-clause-before c m h =
     let a = c.self.inside in
     let f = rw (← c.self.view_is, ← c.prepared.view_is) at c.requires.fits in
     let b = rw (← c.prepared.view_is) at h in
-    rw (c.carry_out.ensures.keys, c.carry_out.ensures.cells, c.deref.ensures.value, ← c.self.view_is) (plan_before a.columns.items a.keys.items (cells_of a.logs.items) a.live.ids _ c.self.invariant.kept _ f _ m b)
+    rw (c.carry_out.ensures.keys, c.carry_out.ensures.cells, c.deref-3.ensures.value, ← c.self.view_is) (plan_before a.columns.items a.keys.items (cells_of a.logs.items) a.live.ids _ c.self.invariant.kept _ f _ m b)
 
 pub returns-clause-from : goal.returns-clause-from
 returns-clause-from c m h l =
     let a = c.self.inside in
     let f = rw (← c.self.view_is, ← c.prepared.view_is) at c.requires.fits in
     let b = rw (← c.prepared.view_is) at h in
-    rw (c.carry_out.ensures.keys, c.carry_out.ensures.cells, c.deref.ensures.value, ← c.self.view_is, ← c.prepared.view_is) (plan_from a.columns.items a.keys.items (cells_of a.logs.items) a.live.ids _ c.self.invariant.kept _ f _ m b l)
+    rw (c.carry_out.ensures.keys, c.carry_out.ensures.cells, c.deref-3.ensures.value, ← c.self.view_is, ← c.prepared.view_is) (plan_from a.columns.items a.keys.items (cells_of a.logs.items) a.live.ids _ c.self.invariant.kept _ f _ m b l)
 
 pub returns-clause-later : goal.returns-clause-later
 returns-clause-later c m h =
     let a = c.self.inside in
     let f = rw (← c.self.view_is, ← c.prepared.view_is) at c.requires.fits in
     let b = rw (← c.prepared.view_is) at h in
-    rw (c.carry_out.ensures.keys, c.carry_out.ensures.cells, c.deref.ensures.value) (plan_later a.columns.items a.keys.items (cells_of a.logs.items) a.live.ids _ c.self.invariant.kept _ f _ m b)
+    rw (c.carry_out.ensures.keys, c.carry_out.ensures.cells, c.deref-3.ensures.value) (plan_later a.columns.items a.keys.items (cells_of a.logs.items) a.live.ids _ c.self.invariant.kept _ f _ m b)
 
 pub returns-clause-key_count : goal.returns-clause-key_count
 returns-clause-key_count c =
     let a = c.self.inside in
-    rw (c.carry_out.ensures.keys, c.deref.ensures.value, ← c.self.view_is, ← c.prepared.view_is) (key_count a.keys.items c.prepared.inside.lost.items c.prepared.inside.gained.items c.prepared.inside.stamp)
+    rw (c.carry_out.ensures.keys, c.deref-3.ensures.value, ← c.self.view_is, ← c.prepared.view_is) (key_count a.keys.items c.prepared.inside.lost.items c.prepared.inside.gained.items c.prepared.inside.stamp)
 
-pub returns-clause-cell_count : goal.returns-clause-cell_count
-returns-clause-cell_count c k h =
+pub returns-clause-written : goal.returns-clause-written
+returns-clause-written c g k h =
     let a = c.self.inside in
     let f = rw (← c.self.view_is, ← c.prepared.view_is) at c.requires.fits in
     let b = rw (← c.self.view_is) at h in
-    rw (c.carry_out.ensures.keys, c.carry_out.ensures.cells, c.deref.ensures.value, ← c.self.view_is, ← c.prepared.view_is) (plan_count a.columns.items a.keys.items (cells_of a.logs.items) a.live.ids _ c.self.invariant.kept _ f k b)
+    rw (c.carry_out.ensures.keys, c.carry_out.ensures.cells, c.deref-3.ensures.value, ← c.self.view_is, ← c.prepared.view_is) (plan_written a.columns.items a.keys.items (cells_of a.logs.items) a.live.ids _ c.self.invariant.kept _ f g k b)
 
 pub returns-clause-lawful : goal.returns-clause-lawful
 returns-clause-lawful c =
     let a = c.self.inside in
     let f = rw (← c.self.view_is, ← c.prepared.view_is) at c.requires.fits in
-    rw (c.carry_out.ensures.keys, c.carry_out.ensures.cells, c.deref.ensures.value) (is_store a.columns.items _ _ _ _ (plan_kept a.columns.items a.keys.items (cells_of a.logs.items) a.live.ids _ c.self.invariant.kept _ f))
+    rw (c.carry_out.ensures.keys, c.carry_out.ensures.cells, c.deref-3.ensures.value) (is_store a.columns.items _ _ _ _ (plan_kept a.columns.items a.keys.items (cells_of a.logs.items) a.live.ids _ c.self.invariant.kept _ f))

@@ -1,17 +1,21 @@
-use Rattle.std.proofs.Common.{rules, ◌≡◌, ◌<◌, [], ap, sym, ◌∙◌, subst, length}
+use Rattle.std.proofs.Common.{rules, ◌≡◌, ◌<◌, ◌+◌, [], length, get_or, ap, sym, ◌∙◌, subst, arith}
 use Rattle.history_store.specs.Logs.{cells_of}
-use Rattle.history_store.specs.Store.{Store, AreColumns, relation_at}
+use Rattle.history_store.specs.Store.{Store, AreColumns, weight, relation_at}
 use Rattle.history_store.specs.TableFields.{store_of}
-use Rattle.history_store.specs.Handing.{only_in, handed}
-use Rattle.history_store.specs.Change.{IsPlan, keys_after, cells_after, write_rows, no_cells}
+use Rattle.history_store.specs.Handing.{only_in, handed, written}
+use Rattle.history_store.specs.Change.{IsPlan, keys_after, cells_after, rows_along, write_rows, no_cells}
 use Rattle.history_store.proofs.Rows.{length-cells_of}
-use Rattle.history_store.proofs.Beginning.{none_kept, none_before, none_now, all_gained, no_lost, first_keys, first_cells, plan_is}
+use Rattle.history_store.proofs.CellCounts.{none_counted}
+use Rattle.history_store.proofs.Plans.{length-new_keys}
+use Rattle.history_store.proofs.Beginning.{none_kept, none_before, none_now, all_gained, no_lost, first_keys, first_cells, none_weight, first_written, plan_is}
 use Rattle.history_store.proofs.tables.StoredTable.new.Goals as goal
 
 pub invariant_of-table : goal.invariant_of-table
 invariant_of-table c = record {
   kept = rw (c.new.ensures.items, c.in_ok-of.ensures) (none_kept c.in_ok-copy_columns.field-0.items c.in_ok-empty_columns.field-0.items (subst AreColumns (sym c.in_ok-copy_columns.ensures) c.requires.columns) (c.in_ok-empty_columns.ensures.width ∙ search rules) c.in_ok-empty_columns.ensures.cells);
+  others = λ k d h. absurd (let b = rw c.new-2.ensures.items at h in omega (arith, b));
   ids = λ k d h. c.in_ok-empty_columns.ensures.ids k d h ∙ sym (ap length c.new.ensures.items);
+  counted = rw (none_counted c.in_ok-empty_columns.field-0.items c.in_ok-empty_columns.ensures.cells) (omega arith);
 }
 
 pub prepare-requires-clause-before : goal.prepare-requires-clause-before
@@ -44,6 +48,24 @@ returns-clause-cells c =
     let w : length logs ≡ length columns = length-cells_of c.in_ok-empty_columns.field-0.items ∙ c.in_ok-empty_columns.ensures.width ∙ search rules in
     c.install.ensures.cells ∙ ap (λ (t : Store). cells_after t p) e ∙ ap (cells_after (store_of columns [] logs n)) i ∙ first_cells columns logs n c.args.stamp c.args.rows.now p.after w
     ∙ ap (λ cs. write_rows (handed [] 0 c.args.rows.now) c.args.rows.now c.args.stamp (no_cells cs)) c.in_ok-copy_columns.ensures
+
+pub returns-clause-key_count : goal.returns-clause-key_count
+returns-clause-key_count c = ap length (returns-clause-keys c) ∙ length-new_keys c.args.stamp c.args.rows.now
+
+pub returns-clause-written : goal.returns-clause-written
+returns-clause-written c f k h =
+    let columns = c.in_ok-copy_columns.field-0.items in
+    let logs = cells_of c.in_ok-empty_columns.field-0.items in
+    let n = c.prepare.new.self.spare in
+    let p = c.in_ok-prepared.prepared in
+    let e : c.prepare.new.self ≡ store_of columns [] logs n = rw c.new.ensures.items at c.in_ok-prepared.ensures.same in
+    let i : IsPlan (store_of columns [] logs n) p = subst (λ (t : Store). IsPlan t p) e c.in_ok-prepared.ensures.fits in
+    let q : p.gained ≡ only_in c.args.rows.now (relation_at (store_of columns [] logs _) c.args.stamp) = rw c.new.ensures.items at c.in_ok-prepared.ensures.gained in
+    let g : p.gained ≡ c.args.rows.now = q ∙ ap (only_in c.args.rows.now) (none_now columns logs _ c.args.stamp) ∙ all_gained c.args.rows.now in
+    let b : k < length c.prepare.new.self.columns = subst (λ m. k < m) (ap length (sym c.in_ok-copy_columns.ensures) ∙ ap (λ (t : Store). length t.columns) (sym e)) h in
+    c.install.ensures.written f k b
+    ∙ ap (λ m. m + written f k (rows_along p.lost p.stamp c.prepare.new.self.cells) p.gained) (ap (λ (t : Store). weight f (get_or t.cells k [])) e ∙ none_weight f k columns logs n)
+    ∙ first_written f k p c.args.rows.now c.prepare.new.self.cells (no_lost columns logs n p i) g
 
 pub returns-clause-before : goal.returns-clause-before
 returns-clause-before c m h =

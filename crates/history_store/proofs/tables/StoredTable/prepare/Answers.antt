@@ -1,9 +1,10 @@
-use Rattle.std.proofs.Common.{rules, ◌≡◌, ◌+◌, ◌<◌, ◌^◌, length, arith, sym, ap, subst, ◌∙◌}
+use Rattle.std.proofs.Common.{rules, ◌≡◌, ◌+◌, ◌<◌, ◌^◌, length, arith, sym, ap, subst, ◌∙◌, vec_len}
 use Rattle.std.proofs.lemmas.Grind.{common_steps}
 use Rattle.history_store.specs.Handing.{AllWidth}
 use Rattle.history_store.specs.Logs.{cells_of}
 use Rattle.history_store.proofs.Rows.{length-cells_of}
 use Rattle.history_store.proofs.Making.{all_wide, made_leads, made_fits, made_gained, made_lost}
+use Rattle.history_store.proofs.Others.{same_others}
 use Rattle.history_store.proofs.Preparing.{all_known}
 use Rattle.history_store.proofs.SideBySide.{given_after, length-owners}
 use Rattle.history_store.proofs.tables.StoredTable.prepare.Goals as goal
@@ -58,3 +59,27 @@ returns-clause-gained c =
     let r = rw (← c.self.view_is) at c.requires.relation in
     rw (← c.self.view_is, c.in_ok-lost.ensures.gained, c.deref.ensures.value, c.deref-2.ensures.value, c.in_ok-copy.ensures)
     (made_gained a.columns.items a.keys.items (cells_of a.logs.items) a.live.ids _ c.self.invariant.kept c.args.stamp b c.requires.lawful c.args.rows.now r)
+
+pub invariant_of-self : goal.invariant_of-self
+invariant_of-self c =
+    let a = c.self.inside in
+    let r = c.reserve_rows.ensures in
+    let n : length c.reserve_rows.new.others.items ≡ length a.others.items = grind (arith, common_steps) in
+    record {
+      kept = rw (r.keys, r.cells, r.live) c.self.invariant.kept;
+      ids = search rules;
+      counted = rw r.cells c.self.invariant.counted;
+      others = same_others (cells_of a.logs.items) _ a.live.ids _ a.others.items _ r.cells r.live n (λ k d h. (let b : k < vec_len a.others = grind (arith, common_steps) in r.others k d b)) c.self.invariant.others;
+    }
+
+pub invariant_of-self-2 : goal.invariant_of-self-2
+invariant_of-self-2 c =
+    let a = c.self.inside in
+    let r = c.reserve_rows.ensures in
+    let n : length c.reserve_rows.new.others.items ≡ length a.others.items = grind (arith, common_steps) in
+    record {
+      kept = rw (r.keys, r.cells, r.live) c.self.invariant.kept;
+      ids = search rules;
+      counted = rw r.cells c.self.invariant.counted;
+      others = same_others (cells_of a.logs.items) _ a.live.ids _ a.others.items _ r.cells r.live n (λ k d h. (let b : k < vec_len a.others = grind (arith, common_steps) in r.others k d b)) c.self.invariant.others;
+    }

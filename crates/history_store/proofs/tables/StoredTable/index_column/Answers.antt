@@ -1,0 +1,53 @@
+use Rattle.std.proofs.Common.{◌<◌, ◌-◌, length, sym, ap, ◌∙◌, subst, vec_len, vec_capacity, [], ◌∷◌, ◌++◌}
+use Rattle.history_store.specs.ByValue.{least_room, IsIndexed}
+use Rattle.history_store.specs.Logs.{cells_of, few_rows, with_index}
+use Rattle.history_store.specs.Handing.{Distinct}
+use Rattle.history_store.proofs.Rows.{length-cells_of, least_up, less_up}
+use Rattle.history_store.proofs.Carry.{still_with_index}
+use Rattle.history_store.proofs.Changing.{distinct_ids}
+use Rattle.history_store.proofs.Preparing.{all_known_in}
+use Rattle.history_store.proofs.Others.{one_pushed, least_room_push}
+use Rattle.history_store.proofs.tables.StoredTable.index_column.Goals as goal
+
+pub of-requires-clause-within : goal.of-requires-clause-within
+of-requires-clause-within c =
+    let a = c.self.inside in
+    let h = rw (← c.self.view_is) at c.requires.within in
+    subst (λ n. c.args.column < n) (sym c.self.invariant.kept.width ∙ length-cells_of a.logs.items ∙ ap length (sym c.deref-2.ensures.value)) h
+
+pub of-requires-clause-known : goal.of-requires-clause-known
+of-requires-clause-known c =
+    let a = c.self.inside in
+    all_known_in a.live.ids c.deref-3.result.now a.keys.items a.logs.items c.deref-2.result.now (c.deref-3.ensures.value ∙ c.in_ok-copy.ensures) c.deref-2.ensures.value c.self.invariant.kept.stored.are_open c.self.invariant.ids
+
+pub of-requires-clause-distinct : goal.of-requires-clause-distinct
+of-requires-clause-distinct c =
+    let a = c.self.inside in
+    subst Distinct (sym (c.deref-3.ensures.value ∙ c.in_ok-copy.ensures)) (distinct_ids (cells_of a.logs.items) a.live.ids c.self.invariant.kept.stored.ordered)
+
+pub invariant_of-self : goal.invariant_of-self
+invariant_of-self c = record {
+  kept = c.self.invariant.kept;
+  ids = c.self.invariant.ids;
+  counted = c.self.invariant.counted;
+  others = rw c.in_err-push.ensures.items c.self.invariant.others;
+}
+
+pub invariant_of-self-2 : goal.invariant_of-self-2
+invariant_of-self-2 c =
+    let a = c.self.inside in
+    let i = rw (c.deref-2.ensures.value, c.deref-3.ensures.value, c.in_ok-copy.ensures) at c.in_ok-index.ensures.indexed in
+    record {
+      kept = c.self.invariant.kept;
+      ids = c.self.invariant.ids;
+      counted = c.self.invariant.counted;
+      others = rw c.in_ok-push.ensures.items (one_pushed (IsIndexed (cells_of a.logs.items) a.live.ids []) a.others.items c.in_ok-index.index c.self.invariant.others i);
+    }
+
+pub returns-clause-spare : goal.returns-clause-spare
+returns-clause-spare c =
+    let a = c.self.inside in
+    let n = vec_capacity a.keys - vec_len a.keys in
+    let more = least_room_push a.live.room few_rows a.others.items c.in_ok-index.index c.in_ok-index.ensures.room in
+    rw (← c.self.view_is, c.in_ok-push.ensures.items)
+    (less_up _ _ _ (least_up (with_index (least_room a.live.room a.others.items) n) (with_index (least_room a.live.room (a.others.items ++ c.in_ok-index.index ∷ [])) n) a.logs.items (still_with_index (least_room a.live.room a.others.items) (least_room a.live.room (a.others.items ++ c.in_ok-index.index ∷ [])) n more)))
