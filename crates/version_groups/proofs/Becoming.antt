@@ -1,12 +1,12 @@
 -- What a prepared change makes of a stored table.
-use Rattle.std.proofs.Common.{◌≡◌, ℕ, true, false, List, [], ◌∷◌, ◌++◌, length, refl, sym, ap, subst, arith, cond}
+use Rattle.std.proofs.Common.{◌≡◌, ℕ, suc, true, false, List, [], ◌∷◌, ◌++◌, length, refl, sym, ap, subst, ◌∙◌, arith, cond}
 use Rattle.std.specs.Prelude.{not}
 use Rattle.relations.specs.Sets.{has, set_of}
 use Rattle.prima_base.specs.Order.{row_cmp}
 use Rattle.prima_base.specs.declared.values.Value.{Value}
 use Rattle.history_store.specs.Store.{Store, Cell, relation_at, AllBefore}
-use Rattle.history_store.specs.Handing.{only_in}
-use Rattle.history_store.specs.Change.{changed, rows_along}
+use Rattle.history_store.specs.Handing.{unpaired, handed, only_in}
+use Rattle.history_store.specs.Change.{Plan, write_row, write_rows, close_all, cells_after, rows_along, changed}
 use Rattle.smo_meaning.specs.Effects.{gained_rows}
 
 -- a store that has other room alone
@@ -39,3 +39,24 @@ only_in_none (row ∷ rows) = ap (λ rs. row ∷ rs) (only_in_none rows)
 
 pub added : (rows gained : List (List Value)) → changed rows [] gained ≡ set_of row_cmp (rows ++ gained)
 added rows gained = ap (λ rs. set_of row_cmp (rs ++ gained)) (only_in_none rows)
+
+-- ---- a change has as many columns as its table
+
+closed : (ids : List ℕ) (stamp : ℕ) (columns : List (List Cell)) → length (close_all ids stamp columns) ≡ length columns
+closed ids stamp [] = refl
+closed ids stamp (c ∷ columns) = ap suc (closed ids stamp columns)
+
+row_put : (id : ℕ) (row : List Value) (stamp : ℕ) (columns : List (List Cell)) → length (write_row id row stamp columns) ≡ length columns
+row_put id row stamp [] = refl
+row_put id [] stamp (c ∷ columns) = refl
+row_put id (v ∷ row) stamp (c ∷ columns) = ap suc (row_put id row stamp columns)
+
+rows_put : (ids : List ℕ) (rows : List (List Value)) (stamp : ℕ) (columns : List (List Cell)) → length (write_rows ids rows stamp columns) ≡ length columns
+rows_put [] rows stamp columns = refl
+rows_put (id ∷ ids) [] stamp columns = refl
+rows_put (id ∷ ids) (row ∷ rows) stamp columns = rows_put ids rows stamp (write_row id row stamp columns) ∙ row_put id row stamp columns
+
+pub as_many_columns : (s : Store) (p : Plan) → length (cells_after s p) ≡ length s.cells
+as_many_columns s p =
+    let ids = handed p.lost (length s.keys) p.gained in
+    closed (unpaired p.lost p.gained) p.stamp (write_rows ids p.gained p.stamp s.cells) ∙ rows_put ids p.gained p.stamp s.cells

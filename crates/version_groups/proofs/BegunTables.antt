@@ -13,25 +13,24 @@ use Rattle.relations.specs.Sets.{BeforeAll, Ascends}
 use Rattle.prima_base.specs.Order.{bytes_cmp}
 use Rattle.prima_base.specs.Columns.{Column}
 use Rattle.schema_catalog.specs.Tables.{Tables}
-use Rattle.smo_meaning.specs.OneRow.{Relation, same}
+use Rattle.history_store.specs.Store.{Store}
+use Rattle.smo_meaning.specs.OneRow.{same}
 use Rattle.smo_meaning.proofs.NameLaws.{same_itself, same_is, same_not, same_turned}
 use Rattle.version_groups.specs.declared.made_tables.MadeTable.{MadeTable}
-use Rattle.version_groups.specs.Groups.{stored_as, names_of}
-use Rattle.version_groups.specs.Becoming.{Begins}
-use Rattle.version_groups.specs.Steps.{BeginsEntry}
+use Rattle.version_groups.specs.Groups.{stored_as, names_of, HasEntry}
 
 abbrev Listed : Type 0
 Listed = List ℕ × List Column
 
-module _ (stamp : ℕ) (rows : List ℕ → Relation) where
-  -- for each table of the list one that begins with its rows
+module _ (Has : List ℕ → List Column → Store → Type 0) where
+  -- for each table of the list one of its name, whose store is as it is to be
   abbrev pub AreBegun : List Listed → List MadeTable → Type 0
   AreBegun [] [] = ⊤
   AreBegun [] (t ∷ begun) = ⊥
   AreBegun (e ∷ es) [] = ⊥
-  AreBegun (e ∷ es) (t ∷ begun) = (t.name ≡ e.0) × Begins e.1 stamp (rows e.0) t.store × AreBegun es begun
+  AreBegun (e ∷ es) (t ∷ begun) = (t.name ≡ e.0) × Has e.0 e.1 t.store × AreBegun es begun
 
-  pub begun_more : (es : List Listed) (begun : List MadeTable) (e : Listed) (t : MadeTable) → AreBegun es begun → t.name ≡ e.0 → Begins e.1 stamp (rows e.0) t.store
+  pub begun_more : (es : List Listed) (begun : List MadeTable) (e : Listed) (t : MadeTable) → AreBegun es begun → t.name ≡ e.0 → Has e.0 e.1 t.store
       → AreBegun (es ++ e ∷ []) (begun ++ t ∷ [])
   begun_more [] [] e t h n b = (n, b, tt)
   begun_more [] (u ∷ begun) e t h n b = absurd h
@@ -44,7 +43,7 @@ module _ (stamp : ℕ) (rows : List ℕ → Relation) where
   begun_names (e ∷ es) [] h = absurd h
   begun_names (e ∷ es) (t ∷ begun) h = ap (λ n. n ∷ names_of begun) h.0 ∙ ap (λ ns. e.0 ∷ ns) (begun_names es begun h.2)
 
-  begun_under : (name : List ℕ) (es : List Listed) (begun : List MadeTable) → AreBegun es begun → BeginsEntry stamp (rows name) (find bytes_cmp name es) (stored_as name begun)
+  begun_under : (name : List ℕ) (es : List Listed) (begun : List MadeTable) → AreBegun es begun → HasEntry (Has name) (find bytes_cmp name es) (stored_as name begun)
   begun_under name [] [] h = tt
   begun_under name [] (t ∷ begun) h = absurd h
   begun_under name (e ∷ es) [] h = absurd h
@@ -53,12 +52,12 @@ module _ (stamp : ℕ) (rows : List ℕ → Relation) where
       names : same t.name name ≡ same name e.0
       names = ap (λ n. same n name) h.0 ∙ same_turned e.0 name
 
-      step : BeginsEntry stamp (rows name) (find bytes_cmp name es) (stored_as name begun) → (b : Bool) → same name e.0 ≡ b
-          → BeginsEntry stamp (rows name) (cond b (Some e.1) (find bytes_cmp name es)) (cond (same t.name name) (Some t.store) (stored_as name begun))
+      step : HasEntry (Has name) (find bytes_cmp name es) (stored_as name begun) → (b : Bool) → same name e.0 ≡ b
+          → HasEntry (Has name) (cond b (Some e.1) (find bytes_cmp name es)) (cond (same t.name name) (Some t.store) (stored_as name begun))
       step rest true q =
-          subst (λ x. BeginsEntry stamp (rows name) (Some e.1) (cond x (Some t.store) (stored_as name begun))) (sym (names ∙ q))
-          (subst (λ n. Begins e.1 stamp (rows n) t.store) (sym (same_is name e.0 q)) h.1)
-      step rest false q = subst (λ x. BeginsEntry stamp (rows name) (find bytes_cmp name es) (cond x (Some t.store) (stored_as name begun))) (sym (names ∙ q)) rest
+          subst (λ x. HasEntry (Has name) (Some e.1) (cond x (Some t.store) (stored_as name begun))) (sym (names ∙ q))
+          (subst (λ n. Has n e.1 t.store) (sym (same_is name e.0 q)) h.1)
+      step rest false q = subst (λ x. HasEntry (Has name) (find bytes_cmp name es) (cond x (Some t.store) (stored_as name begun))) (sym (names ∙ q)) rest
 
   less : (o : Ordering) (b : Bool) → T (is_lt o && b) → o ≡ Less
   less Less b h = refl
@@ -103,7 +102,7 @@ module _ (stamp : ℕ) (rows : List ℕ → Relation) where
 
   -- one table more
   pub next_begun : (es : List Listed) (i : ℕ) (e : Listed) (begun more : List MadeTable) (t : MadeTable) → slice_get es i ≡ Some e → AreBegun (take i es) begun
-      → more ≡ begun ++ t ∷ [] → t.name ≡ e.0 → Begins e.1 stamp (rows e.0) t.store → AreBegun (take (i + 1) es) more
+      → more ≡ begun ++ t ∷ [] → t.name ≡ e.0 → Has e.0 e.1 t.store → AreBegun (take (i + 1) es) more
   next_begun es i e begun more t s h m n b =
       let is : take (i + 1) es ≡ take i es ++ e ∷ [] = take_more es i e (slice_get_within es i e s) ∙ ap (λ (d : Listed). take i es ++ d ∷ []) (get_or_from_slice_get es i e e s) in
       subst (λ ts. AreBegun (take (i + 1) es) ts) (sym m) (subst (λ (ds : List Listed). AreBegun ds (begun ++ t ∷ [])) (sym is) (begun_more (take i es) begun e t h n b))
@@ -118,6 +117,6 @@ module _ (stamp : ℕ) (rows : List ℕ → Relation) where
     pub begun_ordered : Ascends bytes_cmp (names_of begun)
     begun_ordered = subst (Ascends bytes_cmp) (sym (begun_names (entries tables) begun all)) (names_rise (entries tables) (entries_sorted tables))
 
-    pub begun_each : (name : List ℕ) → BeginsEntry stamp (rows name) (get tables name) (stored_as name begun)
+    pub begun_each : (name : List ℕ) → HasEntry (Has name) (get tables name) (stored_as name begun)
     begun_each name =
-        subst (λ (o : Option (List Column)). BeginsEntry stamp (rows name) o (stored_as name begun)) (sym (get-entries tables name)) (begun_under name (entries tables) begun all)
+        subst (λ (o : Option (List Column)). HasEntry (Has name) o (stored_as name begun)) (sym (get-entries tables name)) (begun_under name (entries tables) begun all)

@@ -1,20 +1,26 @@
 -- The stored tables of a version among those of all.
-use Rattle.std.proofs.Common.{◌≡◌, ◌≤◌, ◌<◌, ◌+◌, ℕ, suc, zero, List, [], ◌∷◌, ◌++◌, length, get_or, refl, sym, ap, subst, ◌∙◌, arith, length-append}
+use Rattle.std.proofs.Common.{◌≡◌, ◌≤◌, ◌<◌, ◌+◌, ℕ, suc, zero, Bool, List, [], ◌∷◌, ◌++◌, map, length, take, drop, get_or, refl, sym, ap, subst, ◌∙◌, arith, length-append}
 use Rattle.std.specs.Global.{Vec}
-use Rattle.std.specs.Prelude.{Option, Some, None, ◌^◌}
-use Rattle.relations.specs.Sets.{Ascends}
+use Rattle.std.specs.Prelude.{Option, Some, None, ◌^◌, vec_len}
+use Rattle.std.proofs.lemmas.List.{length-map, get_or-map}
+use Rattle.relations.specs.Sets.{In, Ascends}
 use Rattle.prima_base.specs.Order.{bytes_cmp}
 use Rattle.history_store.specs.Change.{Plan}
+use Rattle.schema_catalog.specs.Tables.{Tables}
+use Rattle.smo_types.specs.Operators.{Operator, operator_of}
+use Rattle.smo_meaning.specs.Past.{no_tables}
+use Rattle.smo_meaning.specs.Touching.{consumes}
 use Rattle.smo_types.specs.declared.versions.Version.{Version}
 use Rattle.version_groups.specs.declared.made_tables.MadeTable.{MadeTable}
 use Rattle.version_groups.specs.declared.groups.Groups.TheInside.{Inside}
-use Rattle.version_groups.specs.Groups.{group_of, newest_group, names_of}
+use Rattle.version_groups.specs.Groups.{newest_places, group_of, newest_group, stored_as, names_of}
 use Rattle.version_groups.specs.GroupFields.{all_places, items_of, AllInOrder, AllWithin, groups_view, AreGroups}
 use Rattle.version_groups.specs.Places.{at_places, AreWithin}
 use Rattle.version_groups.specs.Becoming.{IsMade}
 use Rattle.version_groups.specs.Changing.{AreMade}
-use Rattle.version_groups.specs.Installing.{IsMadeBy, AreMadeBy, HasChanges, HasVersion}
+use Rattle.version_groups.specs.Installing.{IsMadeBy, AreMadeBy, HasChanges, table_behind, HasVersion}
 use Rattle.version_groups.specs.Room.{AreSameTables, IsSame}
+use Rattle.version_groups.proofs.LifelinesEnded.{names_with, stored_still, stored_with, written_back}
 use Rattle.version_groups.proofs.Places.{places_within, AreAlike, alike_at, at_more}
 
 last_places : (earlier : List (Vec ℕ)) (newest : List ℕ) → get_or (all_places (items_of earlier) newest) (length earlier) [] ≡ newest
@@ -43,6 +49,10 @@ places_stay (g ∷ earlier) newest places (suc k) l = places_stay earlier newest
 new_places : (earlier : List (Vec ℕ)) (newest : Vec ℕ) (places : List ℕ) → get_or (all_places (items_of (earlier ++ newest ∷ [])) places) (suc (length earlier)) [] ≡ places
 new_places [] newest places = refl
 new_places (g ∷ earlier) newest places = new_places earlier newest places
+
+pub newest_places_are : (a : Inside) → AreGroups a → newest_places (groups_view a) ≡ a.newest.items
+newest_places_are a h =
+    subst (λ j. get_or (all_places (items_of a.earlier.items) a.newest.items) j [] ≡ a.newest.items) h.count (last_places a.earlier.items a.newest.items)
 
 -- the tables of a version
 pub newest_is : (a : Inside) → AreGroups a → newest_group (groups_view a) ≡ at_places a.stored.items a.newest.items
@@ -89,7 +99,7 @@ names_same (t ∷ old) (u ∷ new) e h =
 
 keeps_name : (t : MadeTable) (p : Option Plan) (u : MadeTable) → IsMade t p u → u.name ≡ t.name
 keeps_name t None u e = ap (λ (x : MadeTable). x.name) e
-keeps_name t (Some plan) u h = h.0
+keeps_name t (Some plan) u h = h.name
 
 pub made_names : (plans : List (Option Plan)) (old new : List MadeTable) → AreMadeBy plans old new → (k : ℕ) (d : MadeTable) → k < length old → (get_or new k d).name ≡ (get_or old k d).name
 made_names plans old new h k d l = (let m = h.each k d l in keeps_name (get_or old k d) m.plan (get_or new k d) m.made)
@@ -133,9 +143,14 @@ module _ (a b : Inside) (versions : b.versions.list.items ≡ a.versions.list.it
       }
 
   pub has_changes : AreGroups a → (plans : List (Option Plan)) → AreMade (at_places a.stored.items a.newest.items) plans (at_places b.stored.items a.newest.items) → AreMadeBy plans a.stored.items b.stored.items
-      → HasChanges (groups_view a) (groups_view b) plans
-  has_changes h plans made by = record {
+      → ((p : ℕ) (d : MadeTable) → (In p a.newest.items → ⊥) → get_or b.stored.items p d ≡ get_or a.stored.items p d) → HasChanges (groups_view a) (groups_view b) plans
+  has_changes h plans made by others = record {
     versions = versions;
+    places = same_places;
+    there = subst (λ ps. AreWithin ps (length a.stored.items)) (sym own_places) h.newest_there;
+    ordered = subst (λ (g : List MadeTable). Ascends bytes_cmp (names_of g)) (sym (newest_is a h)) h.newest;
+    stored = by.count;
+    others = λ p d n. others p d (λ i. n (subst (In p) (sym own_places) i));
     groups = λ k l.
         let own = alike_at (IsMadeBy plans) a.stored.items b.stored.items (record { count = by.count; each = by.each }) (get_or (groups_view a).places k []) in
         subst (λ (ps : List (List ℕ)). AreMadeBy plans (group_of (groups_view a) k) (at_places b.stored.items (get_or ps k []))) (sym same_places) (record { count = own.count; each = own.each });
@@ -143,6 +158,9 @@ module _ (a b : Inside) (versions : b.versions.list.items ≡ a.versions.list.it
         (subst (AreMade (at_places a.stored.items a.newest.items) plans) (sym last) made);
   }
     where
+      own_places : newest_places (groups_view a) ≡ a.newest.items
+      own_places = newest_places_are a h
+
       last : group_of (groups_view b) (length a.versions.list.items) ≡ at_places b.stored.items a.newest.items
       last = ap (λ (ps : List (List ℕ)). at_places b.stored.items (get_or ps (length a.versions.list.items) [])) same_places
           ∙ subst (λ j. at_places b.stored.items (get_or (all_places (items_of a.earlier.items) a.newest.items) j []) ≡ at_places b.stored.items a.newest.items) h.count
@@ -169,8 +187,42 @@ all_ordered_more tables more [] w o = tt
 all_ordered_more tables more (g ∷ groups) w o =
     (subst (λ (ts : List MadeTable). Ascends bytes_cmp (names_of ts)) (sym (at_more tables more g w.0)) o.0, all_ordered_more tables more groups w.1 o.1)
 
+-- the tables of each version stay where lifelines end
+ends_keep : (consumed : List ℕ → Bool) (k : ℕ) (tables : List MadeTable) → KeepNames tables (map (table_behind consumed k) tables)
+ends_keep consumed k tables = record { count = length-map tables (table_behind consumed k); each = λ j d l. ap (λ (t : MadeTable). t.name) (get_or-map (table_behind consumed k) tables j d d l) }
+
+-- what is put behind the tables whose lifelines have ended, which are written back
+pub put_with : (a : Inside) (op : Operator) (last : ℕ) (now ended begun new : List MadeTable) → last ≡ length a.versions.list.items → now ≡ a.stored.items
+    → ((tables : Tables) → ended ≡ map (table_behind (consumes tables op) last) now)
+    → new ≡ take (vec_len a.stored) (ended ++ drop (length ended) a.stored.items) ++ begun
+    → (tables : Tables) → new ≡ map (table_behind (consumes tables op) (length a.versions.list.items)) a.stored.items ++ begun
+put_with a op last now ended begun new number was ends put tables =
+    put
+    ∙ ap (λ (ts : List MadeTable). ts ++ begun) (
+    written_back ended a.stored.items (vec_len a.stored) (omega arith) (ap length (ends no_tables) ∙ length-map now (table_behind (consumes no_tables op) last) ∙ ap length was)
+    ∙ ends tables ∙ ap (λ n. map (table_behind (consumes tables op) n) now) number
+    ∙ ap (map (table_behind (consumes tables op) (length a.versions.list.items))) was
+    )
+
+-- the tables that are stored before the next version begins
+abbrev pub ended_tables : Inside → Version → List MadeTable
+ended_tables a version = map (table_behind (consumes no_tables (operator_of version.op)) (length a.versions.list.items)) a.stored.items
+
 module _ (a b : Inside) (version : Version) (g : Vec ℕ) (begun : List MadeTable) (before : g.items ≡ a.newest.items) (versions : b.versions.list.items ≡ a.versions.list.items ++ version ∷ [])
-    (stored : b.stored.items ≡ a.stored.items ++ begun) (earlier : b.earlier.items ≡ a.earlier.items ++ g ∷ []) (h : AreGroups a) where
+    (stored : (tables : Tables) → b.stored.items ≡ map (table_behind (consumes tables (operator_of version.op)) (length a.versions.list.items)) a.stored.items ++ begun)
+    (earlier : b.earlier.items ≡ a.earlier.items ++ g ∷ []) (h : AreGroups a) where
+  abbrev consumed : List ℕ → Bool
+  consumed = consumes no_tables (operator_of version.op)
+
+  abbrev number : ℕ
+  number = length a.versions.list.items
+
+  abbrev ended : List MadeTable
+  ended = ended_tables a version
+
+  as_many : length ended ≡ length a.stored.items
+  as_many = length-map a.stored.items (table_behind consumed number)
+
   places_with : (groups_view b).places ≡ all_places (items_of (a.earlier.items ++ g ∷ [])) b.newest.items
   places_with = ap (λ (e : List (Vec ℕ)). all_places (items_of e) b.newest.items) earlier
 
@@ -180,28 +232,35 @@ module _ (a b : Inside) (version : Version) (g : Vec ℕ) (begun : List MadeTabl
       ∙ places_stay a.earlier.items g b.newest.items k (let count = h.count in omega (arith, l, count))
       ∙ ap (λ (ps : List ℕ). get_or (all_places (items_of a.earlier.items) ps) k []) before
 
+  own_places : get_or (groups_view b).places (number + 1) [] ≡ b.newest.items
+  own_places =
+      ap (λ (ps : List (List ℕ)). get_or ps (number + 1) []) places_with
+      ∙ ap (λ j. get_or (all_places (items_of (a.earlier.items ++ g ∷ [])) b.newest.items) j []) (let count = h.count in let e : number + 1 ≡ suc (length a.earlier.items) = omega (arith, count) in e)
+      ∙ new_places a.earlier.items g b.newest.items
+
   pub has_version : HasVersion (groups_view a) (groups_view b) version begun b.newest.items
   has_version = record {
     versions = versions;
-    groups = λ k l.
-        ap (λ (ts : List MadeTable). at_places ts (get_or (groups_view b).places k [])) stored
-        ∙ ap (at_places (a.stored.items ++ begun)) (kept_places k l)
-        ∙ at_more a.stored.items begun (get_or (groups_view a).places k []) (group_within a h k);
-    last =
-        ap (λ (ts : List MadeTable). at_places ts (get_or (groups_view b).places (length a.versions.list.items + 1) [])) stored
-        ∙ ap (at_places (a.stored.items ++ begun)) (
-        ap (λ (ps : List (List ℕ)). get_or ps (length a.versions.list.items + 1) []) places_with
-        ∙ ap (λ j. get_or (all_places (items_of (a.earlier.items ++ g ∷ [])) b.newest.items) j []) (let count = h.count in let e : length a.versions.list.items + 1 ≡ suc (length a.earlier.items) = omega (arith, count) in e)
-        ∙ new_places a.earlier.items g b.newest.items
-        );
+    newest = ap (λ j. get_or (groups_view b).places j []) (ap length versions ∙ length-append a.versions.list.items (version ∷ [])) ∙ own_places;
+    stored = stored;
+    tables = λ k name l.
+        ap (λ (ts : List MadeTable). stored_as name (at_places ts (get_or (groups_view b).places k []))) (stored no_tables)
+        ∙ ap (λ ps. stored_as name (at_places (ended ++ begun) ps)) (kept_places k l)
+        ∙ ap (stored_as name) (at_more ended begun (get_or (groups_view a).places k []) (subst (AreWithin (get_or (groups_view a).places k [])) (sym as_many) (group_within a h k)))
+        ∙ stored_still consumed number name a.stored.items (get_or (groups_view a).places k []);
+    own = λ name.
+        ap (λ (ts : List MadeTable). stored_as name (at_places ts (get_or (groups_view b).places (number + 1) []))) (stored no_tables)
+        ∙ ap (λ ps. stored_as name (at_places (ended ++ begun) ps)) own_places
+        ∙ stored_with consumed number name a.stored.items begun b.newest.items;
   }
 
   pub are_groups_with : b.nothing ≡ a.nothing → length a.versions.list.items + 1 < 2 ^ 32 → AreWithin b.newest.items (length a.stored.items + length begun)
       → Ascends bytes_cmp (names_of (at_places (a.stored.items ++ begun) b.newest.items)) → AreGroups b
   are_groups_with nothing few there ordered =
       let n = length b.stored.items in
-      let long : n ≡ length a.stored.items + length begun = ap length stored ∙ length-append a.stored.items begun in
+      let long : n ≡ length a.stored.items + length begun = ap length (stored no_tables) ∙ length-append ended begun ∙ ap (λ m. m + length begun) as_many in
       let low : length a.stored.items ≤ n = omega (arith, long) in
+      let names = ends_keep consumed number a.stored.items in
       record {
         count = ap length earlier ∙ length-append a.earlier.items (g ∷ []) ∙ ap (λ n. n + 1) h.count ∙ sym (length-append a.versions.list.items (version ∷ [])) ∙ sym (ap length versions);
         fits = (let e = ap length versions in let f = length-append a.versions.list.items (version ∷ []) in omega (arith, few, e, f));
@@ -211,9 +270,12 @@ module _ (a b : Inside) (version : Version) (g : Vec ℕ) (begun : List MadeTabl
             (subst (λ (ps : List ℕ). AreWithin ps n) (sym before) (places_within a.newest.items (length a.stored.items) n low h.newest_there)));
         newest_there = subst (AreWithin b.newest.items) (sym long) there;
         earlier = subst (λ (e : List (Vec ℕ)). AllInOrder b.stored.items (items_of e)) (sym earlier)
-            (subst (λ (ts : List MadeTable). AllInOrder ts (items_of (a.earlier.items ++ g ∷ []))) (sym stored)
-            (all_ordered_with (a.stored.items ++ begun) a.earlier.items g (all_ordered_more a.stored.items begun (items_of a.earlier.items) h.earlier_there h.earlier)
-            (subst (λ (ps : List ℕ). Ascends bytes_cmp (names_of (at_places (a.stored.items ++ begun) ps))) (sym before)
-            (subst (λ (ts : List MadeTable). Ascends bytes_cmp (names_of ts)) (sym (at_more a.stored.items begun a.newest.items h.newest_there)) h.newest))));
-        newest = subst (λ (ts : List MadeTable). Ascends bytes_cmp (names_of (at_places ts b.newest.items))) (sym stored) ordered;
+            (subst (λ (ts : List MadeTable). AllInOrder ts (items_of (a.earlier.items ++ g ∷ []))) (sym (stored no_tables))
+            (all_ordered_with (ended ++ begun) a.earlier.items g
+            (all_ordered_more ended begun (items_of a.earlier.items) (subst (AllWithin (items_of a.earlier.items)) (sym as_many) h.earlier_there) (all_still_ordered a.stored.items ended (items_of a.earlier.items) names h.earlier))
+            (subst (λ (ps : List ℕ). Ascends bytes_cmp (names_of (at_places (ended ++ begun) ps))) (sym before)
+            (subst (λ (ts : List MadeTable). Ascends bytes_cmp (names_of ts)) (sym (at_more ended begun a.newest.items (subst (AreWithin a.newest.items) (sym as_many) h.newest_there)))
+            (still_ordered a.stored.items ended a.newest.items names h.newest)))));
+        newest = subst (λ (ts : List MadeTable). Ascends bytes_cmp (names_of (at_places ts b.newest.items))) (sym (stored no_tables))
+            (subst (Ascends bytes_cmp) (sym (names_with consumed number a.stored.items begun b.newest.items)) ordered);
       }

@@ -17,12 +17,13 @@ use Rattle.smo_meaning.specs.OneRow.{Relation}
 use Rattle.smo_meaning.specs.Effects.{rows_at}
 use Rattle.smo_meaning.specs.LawfulPast.{last_or_nought, IsLater, IsPast}
 use Rattle.smo_meaning.specs.LawfulValues.{BodyHolds, PastHolds}
-use Rattle.smo_meaning.specs.Past.{Past, no_tables, no_database, tables_of, tables_from, version_at, database_at, newest_database, next_version, database_behind, past_with}
+use Rattle.smo_meaning.specs.Past.{Past, no_tables, no_database, tables_of, tables_from, newest_tables, version_at, database_at, newest_database, next_version, database_behind, past_with}
 use Rattle.smo_meaning.proofs.PastLaws.{newest_holds, up_to_later}
 use Rattle.smo_meaning.proofs.ValueLaws.{past_stays}
 use Rattle.smo_meaning.proofs.PastSteps.{counts_accepted, stamp_accepted, later_stamp, body_accepted, stays_lawful, before_command, from_command}
 use Rattle.version_groups.specs.declared.made_tables.MadeTable.{MadeTable}
-use Rattle.version_groups.specs.Groups.{Kept, versions_in, group_of, table_in, stored_as}
+use Rattle.version_groups.specs.Groups.{Kept, versions_in, newest_places, group_of, table_in, stored_as}
+use Rattle.version_groups.specs.Sizes.{HaveSizes, AreLiving}
 use Rattle.version_groups.specs.Showing.{IsInForce, ShowsTable, ShowsEntry, Shows}
 use Rattle.version_groups.specs.Becoming.{Becomes, Begins, Leads, IsMade}
 use Rattle.version_groups.specs.Installing.{IsAmong, IsMadeBy, AreMadeBy}
@@ -107,7 +108,7 @@ module _ (kept : Kept) (past : Past) (stamp : ℕ) (body : PlainBody) (shows : S
 
 pub made_name : (t : MadeTable) (p : Option Plan) (u : MadeTable) → IsMade t p u → u.name ≡ t.name
 made_name t None u e = ap (λ (x : MadeTable). x.name) e
-made_name t (Some p) u e = e.0
+made_name t (Some p) u e = e.name
 
 -- each of the changes is made at the stamp
 found_plan : (plans : List (Option Plan)) (p : Option Plan) → In p plans → (i : ℕ) × (i < length plans) × (get_or plans i None ≡ p)
@@ -164,7 +165,7 @@ module _ (kept : Kept) (past : Past) (stamp : ℕ) (changes : List PlainChange) 
             stamps = λ m own b. absurd (ended k l m own (omega (arith, b)));
           }
       step (Some p) among e =
-          let b : Becomes t.store u.store p.stamp (rows_after t.store p) = e.1 in
+          let b : Becomes t.store u.store p.stamp (rows_after t.store p) = e.becomes in
           let same : p.stamp ≡ stamp = at p among in
           record {
             columns = b.columns ∙ h.columns;
@@ -204,7 +205,7 @@ module _ (kept : Kept) (past : Past) (stamp : ℕ) (changes : List PlainChange) 
             stamps = λ m own b. h.stamps m own (all_later kept past stamp (changing changes) shows lawful accepted m b);
           })
       step (Some p) leads e =
-          let b : Becomes t.store u.store p.stamp (rows_after t.store p) = e.1 in
+          let b : Becomes t.store u.store p.stamp (rows_after t.store p) = e.becomes in
           let at : p.stamp ≡ stamp = leads.at in
           record {
             columns = b.columns ∙ h.columns;
@@ -221,8 +222,8 @@ module _ (kept : Kept) (past : Past) (stamp : ℕ) (changes : List PlainChange) 
       → length (group_of new (length past.versions)) ≡ length (group_of kept (length past.versions))
       → AreChanges stamp (database_behind (changing changes) past) (group_of kept (length past.versions)) plans
       → ((k : ℕ) (d : MadeTable) → k < length (group_of kept (length past.versions)) → IsMade (get_or (group_of kept (length past.versions)) k d) (get_or plans k None) (get_or (group_of new (length past.versions)) k d))
-      → Shows new behind
-  shows_changed hold new plans versions groups count ready made = record {
+      → HaveSizes behind.sizes new.stored → AreLiving new.stored (newest_places new) → Shows new behind
+  shows_changed hold new plans versions groups count ready made sizes living = record {
     lawful = next_is_lawful kept past stamp (changing changes) shows lawful accepted;
     values = next_holds kept past stamp (changing changes) shows lawful accepted hold;
     ends = lawful;
@@ -231,6 +232,8 @@ module _ (kept : Kept) (past : Past) (stamp : ℕ) (changes : List PlainChange) 
       | inl e ↦ subst (λ j. ShowsEntry behind j name (get (tables_of behind j) name) (table_in new j name)) (sym e) (newest name)
       | inr e ↦ earlier k e name (paired (IsMadeBy plans) names name (group_of kept k) (group_of new k) (groups k e).count (groups k e).each) (shows.tables k name (omega (arith, e)))
     ];
+    sizes = sizes;
+    living = living;
   }
     where
       n : ℕ
@@ -339,16 +342,18 @@ module _ (kept : Kept) (past : Past) (stamp : ℕ) (op : Operator) (inverse : Li
 
   -- the version is there, with its tables
   pub shows_evolved : BodyHolds (evolving op inverse) → (new : Kept) (made : PlainVersion) (begun : List MadeTable) (places : List ℕ)
-      → IsNextVersion kept version (database_behind (evolving op inverse) past) made begun places
-      → versions_in new ≡ versions_in kept ++ made ∷ [] → ((k : ℕ) → k ≤ length past.versions → group_of new k ≡ group_of kept k)
-      → group_of new (length past.versions + 1) ≡ at_places (kept.stored ++ begun) places
-      → Shows new evolved
-  shows_evolved hold new made begun places is versions groups last = record {
+      → IsNextVersion kept (newest_tables past) version (database_behind (evolving op inverse) past) made begun places
+      → versions_in new ≡ versions_in kept ++ made ∷ [] → ((k : ℕ) (name : List ℕ) → k ≤ length past.versions → table_in new k name ≡ table_in kept k name)
+      → ((name : List ℕ) → table_in new (length past.versions + 1) name ≡ stored_as name (at_places (kept.stored ++ begun) places))
+      → HaveSizes evolved.sizes new.stored → AreLiving new.stored (newest_places new) → Shows new evolved
+  shows_evolved hold new made begun places is versions tables own sizes living = record {
     lawful = is_past;
     values = next_holds kept past stamp (evolving op inverse) shows lawful accepted hold;
     ends = lawful;
     versions = versions ∙ ap (λ (vs : List PlainVersion). vs ++ made ∷ []) shows.versions ∙ ap (λ (v : PlainVersion). past.versions ++ v ∷ []) is.version;
     tables = λ k name l. each k name (before_or_not n k) (subst (λ j. k ≤ j) one_more l);
+    sizes = sizes;
+    living = living;
   }
     where
       n : ℕ
@@ -360,12 +365,12 @@ module _ (kept : Kept) (past : Past) (stamp : ℕ) (op : Operator) (inverse : Li
       newest : (name : List ℕ) → ShowsEntry evolved (n + 1) name (get (tables_of evolved (n + 1)) name) (table_in new (n + 1) name)
       newest name =
           subst (λ (t : Tables). ShowsEntry evolved (n + 1) name (get t name) (table_in new (n + 1) name)) (sym added)
-          (subst (λ (g : List MadeTable). ShowsEntry evolved (n + 1) name (get version.tables name) (stored_as name g)) (sym last)
+          (subst (λ (s : Option Store). ShowsEntry evolved (n + 1) name (get version.tables name) s) (sym (own name))
           (entry_begins evolved (n + 1) stamp name (rows_at (get (database_behind (evolving op inverse) past) name)) (get version.tables name) (stored_as name (at_places (kept.stored ++ begun) places)) (new_table name) (is.tables name)))
 
       each : (k : ℕ) (name : List ℕ) → (n < k) ⊎ (k ≤ n) → k ≤ n + 1 → ShowsEntry evolved k name (get (tables_of evolved k) name) (table_in new k name)
       each k name (inl l) m = subst (λ j. ShowsEntry evolved j name (get (tables_of evolved j) name) (table_in new j name)) (let e : n + 1 ≡ k = omega (arith, l, m) in e) (newest name)
       each k name (inr l) m =
           subst (λ (t : Tables). ShowsEntry evolved k name (get t name) (table_in new k name)) (sym (tables_still no_tables past.versions version k l))
-          (subst (λ (g : List MadeTable). ShowsEntry evolved k name (get (tables_of past k) name) (stored_as name g)) (sym (groups k l))
+          (subst (λ (s : Option Store). ShowsEntry evolved k name (get (tables_of past k) name) s) (sym (tables k name l))
           (entry_still past evolved k name (get (tables_of past k) name) (table_in kept k name) (older_table k name l) (shows.tables k name l)))

@@ -1,4 +1,9 @@
 pub mod Places
+pub mod NamedPlaces
+pub mod LifelinesEnded
+pub mod RowsWritten
+pub mod SizesChanged
+pub mod SizeLines
 pub mod StillStored
 pub mod MadeBy
 pub mod NextPlaces
@@ -13,6 +18,13 @@ pub mod CarriedOut
 pub mod GivenTables
 pub mod NextTables
 pub mod BegunTables
+pub mod PlacedTables
+pub mod LifelinesBehind
+pub mod SizesEvolved
+pub mod RestoredTables
+pub mod RestoredVersions
+pub mod RestoredGroups
+pub mod LifelinesNamed
 pub mod TablesInTurn
 pub mod VersionsKept
 pub mod Readied
@@ -20,6 +32,7 @@ pub mod Becoming
 pub mod Applying
 pub mod RangeLaws
 pub mod OverlayLaws
+pub mod LedRows
 pub mod OverlayWalks
 pub mod OverlaySteps
 pub mod Differences

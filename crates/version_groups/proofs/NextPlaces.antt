@@ -2,7 +2,9 @@
 use Rattle.std.proofs.Common.{◌≡◌, ◌<◌, ◌+◌, ℕ, suc, zero, true, false, cond, List, [], ◌∷◌, ◌++◌, length, drop, get_or, refl, sym, ap, subst, ◌∙◌, arith, append_assoc, append-nil, length-append}
 use Rattle.std.specs.Prelude.{Some, None, slice_get}
 use Rattle.std.proofs.lemmas.Option.{slice_get_within}
+use Rattle.relations.specs.Sets.{In}
 use Rattle.prima_base.specs.Columns.{Column}
+use Rattle.history_store.specs.Store.{Store}
 use Rattle.smo_meaning.specs.OneRow.{Relation, same}
 use Rattle.smo_meaning.proofs.NameLaws.{same_is}
 use Rattle.version_groups.specs.declared.made_tables.MadeTable.{MadeTable}
@@ -20,9 +22,9 @@ last_of [] t = refl
 last_of (u ∷ tables) t = last_of tables t
 
 -- a table that begins behind the others
-pub begins_last : (stored old new : List MadeTable) (t : MadeTable) (place : ℕ) (name : List ℕ) (columns : List Column) (stamp : ℕ) (rows : Relation) → new ≡ old ++ t ∷ [] → place ≡ length stored + length old
-    → t.name ≡ name → Begins columns stamp rows t.store → IsNextTable stored old new place name columns stamp rows
-begins_last stored old new t place name columns stamp rows e p n b = record {
+pub begins_last : (stored old new : List MadeTable) (t : MadeTable) (place : ℕ) (Has : Store → Type 0) → new ≡ old ++ t ∷ [] → place ≡ length stored + length old → Has t.store
+    → IsNextTable stored old new place t.name Has
+begins_last stored old new t place Has e p b = record {
   more = t ∷ [];
   grown = e;
   table = t;
@@ -31,33 +33,38 @@ begins_last stored old new t place name columns stamp rows e p n b = record {
       ∙ ap (λ (ts : List MadeTable). slice_get ts place) (sym (append_assoc stored old (t ∷ [])))
       ∙ ap (slice_get ((stored ++ old) ++ t ∷ [])) (p ∙ sym (length-append stored old))
       ∙ last_of (stored ++ old) t;
-  named = n;
-  begins = b;
+  named = refl;
+  has = b;
 }
 
 -- a table that is there goes on
+pub still_there : (stored old : List MadeTable) (places : List ℕ) (place : ℕ) (name : List ℕ) (t : MadeTable) (Has : Store → Type 0) → IsFound stored places name place t → Has t.store
+    → IsNextTable stored old old place name Has
+still_there stored old places place name t Has f h = record {
+  more = [];
+  grown = sym (append-nil old);
+  table = t;
+  at = got_more stored old place t f.0;
+  named = f.1;
+  has = h;
+}
+
 pub goes_there : (stored old : List MadeTable) (places : List ℕ) (place : ℕ) (name : List ℕ) (columns : List Column) (stamp : ℕ) (t : MadeTable) → IsFound stored places name place t
     → IsStoredBefore stamp columns (stored_as name (at_places stored places))
-    → IsNextTable stored old old place name columns stamp (rows_stored stamp (stored_as name (at_places stored places)))
+    → IsNextTable stored old old place name (Begins columns stamp (rows_stored stamp (stored_as name (at_places stored places))))
 goes_there stored old places place name columns stamp t f b =
     let own : IsStoredBefore stamp columns (Some t.store) = subst (IsStoredBefore stamp columns) f.2 b in
-    record {
-      more = [];
-      grown = sym (append-nil old);
-      table = t;
-      at = got_more stored old place t f.0;
-      named = f.1;
-      begins = subst (λ (r : Relation). Begins columns stamp r t.store) (sym (ap (rows_stored stamp) f.2)) (goes_on columns stamp t.store own.0 own.1);
-    }
+    still_there stored old places place name t (Begins columns stamp (rows_stored stamp (stored_as name (at_places stored places)))) f
+    (subst (λ (r : Relation). Begins columns stamp r t.store) (sym (ap (rows_stored stamp) f.2)) (goes_on columns stamp t.store own.0 own.1))
 
 pub is_there : (stored : List MadeTable) (places : List ℕ) (place : ℕ) (name : List ℕ) (n : ℕ) (t : MadeTable) → IsFound stored places name place t → place < length stored + n
 is_there stored places place name n t f = (let l = slice_get_within stored place t f.0 in omega (arith, l))
 
 -- one place more
-pub placed_more : (stored old new : List MadeTable) (places more : List ℕ) (p : ℕ) (name : List ℕ) (columns : List Column) (stamp : ℕ) (rows : Relation)
-    → AreWithin places (length stored + length old) → (h : IsNextTable stored old new p name columns stamp rows) → more ≡ places ++ p ∷ []
+pub placed_more : (stored old new : List MadeTable) (places more : List ℕ) (p : ℕ) (name : List ℕ) (Has : Store → Type 0)
+    → AreWithin places (length stored + length old) → (h : IsNextTable stored old new p name Has) → more ≡ places ++ p ∷ []
     → at_places (stored ++ new) more ≡ at_places (stored ++ old) places ++ h.table ∷ []
-placed_more stored old new places more p name columns stamp rows w h e =
+placed_more stored old new places more p name Has w h e =
     ap (at_places (stored ++ new)) e
     ∙ at_last (stored ++ new) places p h.table h.at
     ∙ ap (λ ts. ts ++ h.table ∷ []) (
@@ -65,10 +72,10 @@ placed_more stored old new places more p name columns stamp rows w h e =
     ∙ at_more (stored ++ old) h.more places (subst (AreWithin places) (sym (length-append stored old)) w)
     )
 
-pub within_more : (stored old new : List MadeTable) (places more : List ℕ) (p : ℕ) (name : List ℕ) (columns : List Column) (stamp : ℕ) (rows : Relation)
-    → AreWithin places (length stored + length old) → IsNextTable stored old new p name columns stamp rows → p < length stored + length new → more ≡ places ++ p ∷ []
+pub within_more : (stored old new : List MadeTable) (places more : List ℕ) (p : ℕ) (name : List ℕ) (Has : Store → Type 0)
+    → AreWithin places (length stored + length old) → IsNextTable stored old new p name Has → p < length stored + length new → more ≡ places ++ p ∷ []
     → AreWithin more (length stored + length new)
-within_more stored old new places more p name columns stamp rows w h l e =
+within_more stored old new places more p name Has w h l e =
     let long : length new ≡ length old + length h.more = ap length h.grown ∙ length-append old h.more in
     subst (λ ps. AreWithin ps (length stored + length new)) (sym e)
     (more_within places (p ∷ []) (length stored + length new) (places_within places (length stored + length old) (length stored + length new) (omega (arith, long)) w) (l, tt))
@@ -77,9 +84,9 @@ within_more stored old new places more p name columns stamp rows w h l e =
 
 -- the first of those that are left
 pub found_here : (tables : List MadeTable) (places left : List ℕ) (p : ℕ) (name : List ℕ) (t : MadeTable) → stored_as name (at_places tables places) ≡ stored_as name (at_places tables (p ∷ left))
-    → slice_get tables p ≡ Some t → same t.name name ≡ true → IsFound tables places name p t
-found_here tables places left p name t before at is =
-    (at, same_is t.name name is, before ∙ ap (λ o. stored_as name (with_table o (at_places tables left))) at ∙ ap (λ b. cond b (Some t.store) (stored_as name (at_places tables left))) is)
+    → slice_get tables p ≡ Some t → same t.name name ≡ true → In p places → IsFound tables places name p t
+found_here tables places left p name t before at is among =
+    (at, same_is t.name name is, before ∙ ap (λ o. stored_as name (with_table o (at_places tables left))) at ∙ ap (λ b. cond b (Some t.store) (stored_as name (at_places tables left))) is, among)
 
 pub found_behind : (tables : List MadeTable) (places left : List ℕ) (p : ℕ) (name : List ℕ) (t : MadeTable) → stored_as name (at_places tables places) ≡ stored_as name (at_places tables (p ∷ left))
     → slice_get tables p ≡ Some t → same t.name name ≡ false → stored_as name (at_places tables places) ≡ stored_as name (at_places tables left)

@@ -1,7 +1,9 @@
 -- The rows of the tables of the next version are those of the carried database.
-use Rattle.std.proofs.Common.{◌≡◌, ℕ, Bool, true, false, cond, List, [], ◌∷◌, refl, sym, ap, subst, ◌∙◌}
+use Rattle.std.proofs.Common.{◌≡◌, ℕ, Bool, true, false, cond, List, [], ◌∷◌, ◌++◌, refl, sym, ap, subst, ◌∙◌}
 use Rattle.std.specs.Prelude.{Option, Some, None, slice_get, ◌||◌, if◌then◌else◌}
-use Rattle.std.specs.FinMap.{get}
+use Rattle.std.specs.List.{filter}
+use Rattle.std.specs.FinMap.{get, entries}
+use Rattle.relations.proofs.SetLaws.{from_filter}
 use Rattle.prima_base.specs.Columns.{Column, IsRelation}
 use Rattle.schema_catalog.specs.Tables.{Tables, IsSchema}
 use Rattle.schema_catalog.specs.Databases.{Database, Entry, Rows, Lost, IsEntry, IsDatabase}
@@ -20,8 +22,13 @@ use Rattle.smo_maps.specs.Carrying.{Has}
 use Rattle.version_groups.specs.declared.made_tables.MadeTable.{MadeTable}
 use Rattle.version_groups.specs.Groups.{stored_as}
 use Rattle.version_groups.specs.Becoming.{Begins}
-use Rattle.version_groups.specs.Standing.{StandsEntry, AreStored, rows_stored, MadeRows, is_name, next_rows, FitNext, IsStoredBefore, OthersStay}
+use Rattle.version_groups.specs.Standing.{StandsEntry, AreStored, rows_stored, MadeRows, is_name, is_made, next_rows, FitNext, IsStoredBefore, OthersStay}
+use Rattle.version_groups.specs.Evolving.{AreNext}
+use Rattle.version_groups.specs.Places.{at_places}
+use Rattle.version_groups.specs.Sizes.{BeginsWith, BeginInOrder}
 use Rattle.version_groups.specs.Steps.{BeginsEntry}
+use Rattle.version_groups.proofs.LifelinesEnded.{among_these}
+use Rattle.version_groups.proofs.PlacedTables.{filter_alike, listed_in, begin_alike, placed_alike}
 
 not_named : (name a : List ℕ) (names : List (List ℕ)) → same a name ≡ false → among name names ≡ false → among name (a ∷ names) ≡ false
 not_named name a names q h = ap (λ b. b || among name names) (same_turned name a ∙ q) ∙ h
@@ -129,3 +136,21 @@ module _ (before : Tables) (op : Operator) (database : Database) (stamp : ℕ) (
 
       pub others_after : OthersStay after it stamp made
       others_after = subst (λ (t : Tables). OthersStay t it stamp made) (sym is) others_next
+
+      -- which are made
+      pub made_is : (name : List ℕ) → is_made it name ≡ makes before op name
+      made_is name =
+          sym (among_these it.first it.second name (second ∙ ap (λ ns. slice_get ns 1) names)) ∙ sym (ap (among name) names)
+
+      -- so what begins and goes on by names and rows that were made is what the operator makes and carries
+      pub next_evolved : (places : List ℕ) (version : ℕ) (own : List MadeTable) (begun : List MadeTable) (next_places : List ℕ) → AreNext own places version stamp (is_made it) (next_rows it stamp made) after begun next_places → AreNext own places version stamp (makes before op) (λ name. rows_at (get next name)) after begun next_places
+      next_evolved places version own begun next_places h = record {
+        begin = begin_alike version (λ name. rows_at (get next name)) (next_rows it stamp made) (filter (λ (e : List ℕ × List Column). makes before op e.0) (entries after)) begun
+            (λ e i. next_is e.0 e.1 (ap (λ (t : Tables). get t e.0) (sym is) ∙ listed_in after e (from_filter (λ (x : List ℕ × List Column). makes before op x.0) e (entries after) i).0))
+            (subst (λ (es : List (List ℕ × List Column)). BeginInOrder (BeginsWith version (next_rows it stamp made)) es begun)
+            (filter_alike (λ (x : List ℕ × List Column). is_made it x.0) (λ (x : List ℕ × List Column). makes before op x.0) (entries after) (λ x. made_is x.0)) h.begin);
+        placed = placed_alike own begun places (is_made it) (makes before op) after next_places made_is h.placed;
+        there = h.there;
+        ordered = h.ordered;
+        tables = λ name. begins_after name (stored_as name (at_places (own ++ begun) next_places)) (h.tables name);
+      }

@@ -19,7 +19,7 @@ use Rattle.history_store.proofs.Cutting.{before_less}
 use Rattle.smo_meaning.specs.OneRow.{Row, Relation}
 use Rattle.smo_meaning.specs.Effects.{gained_rows}
 use Rattle.smo_meaning.proofs.RelationLaws.{put_is_set, filter_ascends}
-use Rattle.version_groups.specs.Overlay.{Known, told, is_kept, LeadsTo, lost_by_now, gained_by_now, known_hits, AreHits}
+use Rattle.version_groups.specs.Overlay.{Known, told, is_kept, LeadsTo, lost_by_now, gained_by_now, HaveHits, HaveKnownHits, AreHits}
 use Rattle.version_groups.proofs.Applying.{not_true, not_of}
 
 -- ---- truths
@@ -29,7 +29,7 @@ one_truth true b f g = sym (f refl)
 one_truth false true f g = g refl
 one_truth false false f g = refl
 
-both : (a b : Bool) → (a && b) ≡ true → (a ≡ true) × (b ≡ true)
+pub both : (a b : Bool) → (a && b) ≡ true → (a ≡ true) × (b ≡ true)
 both true b e = (refl, e)
 both false b e = absurd (cc)
 
@@ -181,55 +181,43 @@ module _ (known : Known) (stored now : Relation) (ordered : Ascends row_cmp (key
   pub has_stored : (row : Row) (b : Bool) → In (row, b) known → has row_cmp row stored ≡ not b
   has_stored row b i = told_stored (has row_cmp row stored) (has row_cmp row now) b (says row b i)
 
-  module _ (passes : Row → Bool) (from to : Cut) (within : (row : Row) → In row now → passes row ≡ true → (is_before from row ≡ false) × (is_before to row ≡ true)) where
-    abbrev pick : Row × Bool → Bool
-    pick e = is_le (row_cmp from.values e.0) && (is_before to e.0 && (e.1 && passes e.0))
-
+  module _ (passes : Row → Bool) (lent : List Row) (has_hits : HaveHits passes stored lent) (found : List Row) (has_known : HaveKnownHits passes known found) where
     abbrev wanted : Row → Bool
     wanted row = passes row && is_kept known row
 
-    abbrev lies : Row → Bool
-    lies row = not (is_before from row) && is_before to row
-
-    of_stored : (row : Row) → In row (filter wanted (between from to stored)) → In row now × (passes row ≡ true)
+    of_stored : (row : Row) → In row (filter wanted lent) → In row now × (passes row ≡ true)
     of_stored row m =
-        let f = from_filter wanted row (between from to stored) m in
-        let g = from_filter lies row stored f.0 in
+        let f = from_filter wanted row lent m in
         let w = both (passes row) (is_kept known row) f.1 in
-        let kept = told_kept (has row_cmp row stored) (has row_cmp row now) (in_has row_cmp row_exact row stored g.0) (sym (ap (λ (o : Option Bool). unwrap_or o true) (leads row)) ∙ w.1) in
+        let kept = told_kept (has row_cmp row stored) (has row_cmp row now) (in_has row_cmp row_exact row stored (has_hits.only row f.0)) (sym (ap (λ (o : Option Bool). unwrap_or o true) (leads row)) ∙ w.1) in
         (has_in row_cmp row_exact row now kept, w.0)
 
-    of_known : (row : Row) → In row (keys_of (filter pick known)) → In row now × (passes row ≡ true)
-    of_known row m =
-        let f = picked_is pick known row m in
-        let g = both (is_le (row_cmp from.values row)) (is_before to row && (f.0 && passes row)) f.2 in
-        let h = both (is_before to row) (f.0 && passes row) g.1 in
-        let k = both f.0 (passes row) h.1 in
-        (has_in row_cmp row_exact row now (has_now row f.0 f.1 ∙ k.0), k.1)
+    of_known : (row : Row) → In row found → In row now × (passes row ≡ true)
+    of_known row m = let k = has_known.only row m in (has_in row_cmp row_exact row now (has_now row true k.0), k.1)
 
-    pub hits_are : AreHits passes now (filter wanted (between from to stored) ++ known_hits from to passes known)
+    pub hits_are : AreHits passes now (found ++ filter wanted lent)
     hits_are = record { only = only; all = all }
       where
-        only : (row : Row) → In row (filter wanted (between from to stored) ++ keys_of (filter pick known)) → In row now × (passes row ≡ true)
-        only row m = elim (in_append row (filter wanted (between from to stored)) (keys_of (filter pick known)) m) [ inl i ↦ of_stored row i | inr i ↦ of_known row i ]
+        only : (row : Row) → In row (found ++ filter wanted lent) → In row now × (passes row ≡ true)
+        only row m = elim (in_append row found (filter wanted lent) m) [ inl i ↦ of_known row i | inr i ↦ of_stored row i ]
 
-        all : (row : Row) → In row now → passes row ≡ true → In row (filter wanted (between from to stored) ++ keys_of (filter pick known))
+        all : (row : Row) → In row now → passes row ≡ true → In row (found ++ filter wanted lent)
         all row i p = step (find row known) refl (in_has row_cmp row_exact row now i)
           where
-            step : (o : Option Bool) → find row known ≡ o → has row_cmp row now ≡ true → In row (filter wanted (between from to stored) ++ keys_of (filter pick known))
+            step : (o : Option Bool) → find row known ≡ o → has row_cmp row now ≡ true → In row (found ++ filter wanted lent)
             step None e k =
-                let l = within row i p in
                 let h = not_told (has row_cmp row stored) (has row_cmp row now) (sym (leads row) ∙ e) ∙ k in
-                let here = in_filter lies row stored (has_in row_cmp row_exact row stored h) (and_true (not (is_before from row)) (is_before to row) (not_of (is_before from row) l.0) l.1) in
-                in_left row (filter wanted (between from to stored)) (keys_of (filter pick known))
-                (in_filter wanted row (between from to stored) here (and_true (passes row) (is_kept known row) p (ap (λ (o : Option Bool). unwrap_or o true) e)))
-            step (Some true) e k =
-                let l = within row i p in
-                in_right row (filter wanted (between from to stored)) (keys_of (filter pick known))
-                (is_picked pick known row true (found_in known row true e)
-                (and_true (is_le (row_cmp from.values row)) (is_before to row && (true && passes row)) (from_cut from row l.0)
-                (and_true (is_before to row) (true && passes row) l.1 p)))
+                let here = has_hits.all row (has_in row_cmp row_exact row stored h) p in
+                in_right row found (filter wanted lent) (in_filter wanted row lent here (and_true (passes row) (is_kept known row) p (ap (λ (o : Option Bool). unwrap_or o true) e)))
+            step (Some true) e k = in_left row found (filter wanted lent) (has_known.all row (found_in known row true e) p)
             step (Some false) e k = absurd (never (has row_cmp row now) k (has_now row false (found_in known row false e)))
+
+-- the stored rows between the cuts
+pub between_has_hits : (passes : Row → Bool) (from to : Cut) (stored : Relation) → ((row : Row) → In row stored → passes row ≡ true → (is_before from row ≡ false) × (is_before to row ≡ true)) → HaveHits passes stored (between from to stored)
+between_has_hits passes from to stored within = record {
+  only = λ row i. (from_filter (λ r. not (is_before from r) && is_before to r) row stored i).0;
+  all = λ row i p. (let l = within row i p in in_filter (λ r. not (is_before from r) && is_before to r) row stored i (and_true (not (is_before from row)) (is_before to row) (not_of (is_before from row) l.0) l.1));
+}
 
 -- behind a row that is not before the cut none is
 pub none_past : (from to : Cut) (passes : Row → Bool) (e : Row × Bool) (rest : Known) → Ascends row_cmp (keys_of (e ∷ rest)) → is_before to e.0 ≡ false

@@ -1,5 +1,5 @@
 -- Walks along what is known of rows, and the rows that are put there one by one.
-use Rattle.std.proofs.Common.{◌≡◌, Bool, true, false, cond, List, [], ◌∷◌, ◌++◌, refl, sym, ap, ◌∙◌, subst, append-nil}
+use Rattle.std.proofs.Common.{◌≡◌, Bool, true, false, cond, List, [], ◌∷◌, ◌++◌, map, refl, sym, ap, ◌∙◌, subst, append-nil}
 use Rattle.std.specs.Prelude.{not, ◌&&◌, ◌||◌, Option, if◌then◌else◌}
 use Rattle.std.specs.List.{filter}
 use Rattle.std.specs.Map.{keys_of}
@@ -26,11 +26,20 @@ keys-append : (xs ys : Known) → keys_of (xs ++ ys) ≡ keys_of xs ++ keys_of y
 keys-append [] ys = refl
 keys-append (x ∷ xs) ys = ap (λ l. x.0 ∷ l) (keys-append xs ys)
 
+map-append : (f : Row → Row) (xs ys : List Row) → map f (xs ++ ys) ≡ map f xs ++ map f ys
+map-append f [] ys = refl
+map-append f (x ∷ xs) ys = ap (λ l. f x ∷ l) (map-append f xs ys)
+
 module _ (p : Row × Bool → Bool) where
   -- one entry more
   pub picked_more : (known : Known) (e : Row × Bool) → keys_of (filter p (known ++ e ∷ [])) ≡ keys_of (filter p known) ++ (if p e then e.0 ∷ [] else [])
   picked_more known e = ap keys_of (filter-append p known (e ∷ [])) ∙ keys-append (filter p known) (filter p (e ∷ []))
       ∙ elim (p e) as (λ b. keys_of (filter p known) ++ keys_of (cond b (e ∷ []) []) ≡ keys_of (filter p known) ++ (if b then e.0 ∷ [] else [])) [ true ↦ refl | false ↦ refl ]
+
+  -- the same of what is made of each
+  pub made_more : (f : Row → Row) (known : Known) (e : Row × Bool) → map f (keys_of (filter p (known ++ e ∷ []))) ≡ map f (keys_of (filter p known)) ++ (if p e then f e.0 ∷ [] else [])
+  made_more f known e = ap (map f) (picked_more known e) ∙ map-append f (keys_of (filter p known)) (if p e then e.0 ∷ [] else [])
+      ∙ elim (p e) as (λ b. map f (keys_of (filter p known)) ++ map f (if b then e.0 ∷ [] else []) ≡ map f (keys_of (filter p known)) ++ (if b then f e.0 ∷ [] else [])) [ true ↦ refl | false ↦ refl ]
 
   -- the entries from a row on
   pub picked_from : (first : Row) (known : Known) → filter p (filter (λ (e : Row × Bool). range_contains row_cmp (Included first) Unbounded e.0) known) ≡ filter (λ (e : Row × Bool). is_le (row_cmp first e.0) && p e) known

@@ -122,6 +122,8 @@ same_at old new places s =
 pub same_again : (t u v : MadeTable) → IsSameTable t u → IsSameTable u v → IsSameTable t v
 same_again t u v a b = record {
   name = b.name ∙ a.name;
+  first = b.first ∙ a.first;
+  last = b.last ∙ a.last;
   store = b.store ∙ ap (λ (s : Store). record s { spare = v.store.spare }) a.store;
   spare = (let x = a.spare in let y = b.spare in omega (arith, x, y));
 }
@@ -152,14 +154,14 @@ place_in [] k d l = absurd (omega (arith, l))
 place_in (p ∷ places) zero d l = inl refl
 place_in (p ∷ places) (suc k) d l = inr (place_in places k d (omega (arith, l)))
 
-named_in : (tables : List MadeTable) (places : List ℕ) (p : ℕ) (d : MadeTable) → AreWithin places (length tables) → In p places → In (get_or tables p d).name (names_of (at_places tables places))
+pub named_in : (tables : List MadeTable) (places : List ℕ) (p : ℕ) (d : MadeTable) → AreWithin places (length tables) → In p places → In (get_or tables p d).name (names_of (at_places tables places))
 named_in tables [] p d h m = absurd m
 named_in tables (q ∷ places) p d h (inl e) =
     subst (λ (ts : List MadeTable). In (get_or tables p d).name (names_of ts)) (sym (at_one tables q places d h.0)) (inl (ap (λ j. (get_or tables j d).name) e))
 named_in tables (q ∷ places) p d h (inr m) =
     subst (λ (ts : List MadeTable). In (get_or tables p d).name (names_of ts)) (sym (at_one tables q places d h.0)) (inr (named_in tables places p d h.1 m))
 
-not_before_itself : (n : List ℕ) → bytes_cmp n n ≡ Less → ⊥
+pub not_before_itself : (n : List ℕ) → bytes_cmp n n ≡ Less → ⊥
 not_before_itself n e = (let not = same_not n n e in let is = same_itself n in absurd (cc))
 
 -- tables of ascending names stand at places that are apart

@@ -1,5 +1,5 @@
 -- A row that meets a condition is between the condition's cuts.
-use Rattle.std.proofs.Common.{◌≡◌, ℕ, suc, ◌+◌, ◌<◌, ◌≤◌, Bool, true, false, List, [], ◌∷◌, ◌++◌, length, map, take, drop, get_or, refl, sym, ap, ◌∙◌, subst, arith, append_assoc}
+use Rattle.std.proofs.Common.{◌≡◌, ℕ, zero, suc, ◌+◌, ◌<◌, ◌≤◌, Bool, true, false, List, [], ◌∷◌, ◌++◌, length, map, take, drop, get_or, refl, sym, ap, ◌∙◌, subst, arith, append_assoc}
 use Rattle.std.specs.Prelude.{Option, Some, None, ⊤, if◌then◌else◌}
 use Rattle.std.proofs.lemmas.List.{length-map, drop_more}
 use Rattle.std.specs.declared.cmp.Ordering.{Ordering}
@@ -20,6 +20,8 @@ use Rattle.cond_expr.specs.Values.{Cells, truth, agrees}
 use Rattle.cond_expr.specs.PinnedParts.{pinned}
 use Rattle.cond_expr.proofs.PinnedLaws.{pinned_holds}
 use Rattle.history_store.specs.Cuts.{Cut, is_before}
+use Rattle.history_store.specs.Handing.{at_column}
+use Rattle.history_store.proofs.Sides.{exact_values}
 use Rattle.smo_meaning.specs.OneRow.{own_cells, meets}
 use Rattle.version_groups.specs.Ranges.{cut_at, with_lead, led_by, bounded, low_cut, high_cut}
 
@@ -109,6 +111,13 @@ module _ (at : Cells) (t : Test) (met : truth at t ≡ true) where
       step None e r = high_end c v row s.0
       step (Some x) e r = led x (high_cut columns t) v row (is_equal (value_cmp v x) (compares Eq c x v e s.0)) ∙ r
 
+  -- where a column is equal to a constant, the row has that value there
+  pinned_at : (columns : List AtomColumn) (row : List Value) (k : ℕ) (v : Value) → Shows at columns row → k < length columns → ((d : AtomColumn) → pinned Eq (get_or columns k d) t ≡ Some v) → at_column k row ≡ v ∷ []
+  pinned_at [] row k v s h e = absurd (omega arith)
+  pinned_at (c ∷ columns) [] k v s h e = absurd s
+  pinned_at (c ∷ columns) (x ∷ row) zero v s h e = ap (λ y. y ∷ []) (exact_values x v (is_equal (value_cmp x v) (compares Eq c v x (e c) s.0)))
+  pinned_at (c ∷ columns) (x ∷ row) (suc k) v s h e = pinned_at columns row k v s.1 (omega arith) (λ d. e d)
+
 -- the columns of a table hold a row's values
 shown_in : (at : Cells) (f : List ℕ → Value) (columns : List Column) (row : List Value) → ((n : List ℕ) → at (Atom 0) n ≡ f n) → map (λ (c : Column). f c.0) columns ≡ row → Shows at (columns_at 0 columns) row
 shown_in at f [] [] h e = tt
@@ -125,6 +134,9 @@ module _ (columns : List Column) (t : Test) (row : List Value) (a : AreColumns c
 
   pub hit_not_above : is_before (high_cut (columns_at 0 columns) t) row ≡ true
   hit_not_above = not_above (own_cells columns row) t m (columns_at 0 columns) row its_values
+
+  pub hit_has_pinned : (k : ℕ) (v : Value) → k < length (columns_at 0 columns) → ((d : AtomColumn) → pinned Eq (get_or (columns_at 0 columns) k d) t ≡ Some v) → at_column k row ≡ v ∷ []
+  hit_has_pinned k v h e = pinned_at (own_cells columns row) t m (columns_at 0 columns) row k v its_values h e
 
 -- ---- no more values than columns
 

@@ -1,10 +1,10 @@
 -- What was made ready, of a past that is shown.
-use Rattle.std.proofs.Common.{◌≡◌, ◌≤◌, ◌<◌, ℕ, suc, zero, List, [], ◌∷◌, map, length, get_or, refl, sym, ap, subst, ◌∙◌, arith, inl, inr}
+use Rattle.std.proofs.Common.{◌≡◌, ◌≤◌, ◌<◌, ◌+◌, ℕ, suc, zero, List, [], ◌∷◌, map, length, get_or, refl, sym, ap, subst, ◌∙◌, arith, inl, inr}
 use Rattle.std.specs.Prelude.{Option, Some, None, nat_lt, Result, Ok, Err, OnOk}
 use Rattle.std.specs.Result.{result_err}
 use Rattle.std.specs.Option.{option_map}
 use Rattle.std.specs.FinMap.{get, get-empty}
-use Rattle.relations.specs.Sets.{Ascends}
+use Rattle.relations.specs.Sets.{In, Ascends}
 use Rattle.relations.specs.Spans.{forever}
 use Rattle.prima_base.specs.Order.{bytes_cmp}
 use Rattle.prima_base.specs.Columns.{Column}
@@ -29,10 +29,12 @@ use Rattle.smo_types.specs.Changes.{PlainChange}
 use Rattle.smo_types.specs.Commands.{PlainBody, changing, evolving, version_of, body_of, command_of}
 use Rattle.smo_types.specs.Operators.{Operator}
 use Rattle.smo_meaning.specs.Past.{Past, beginning, no_tables, newest_from, tables_of, newest_tables, newest_database, database_behind}
+use Rattle.smo_meaning.specs.Sizes.{Size}
 use Rattle.smo_meaning.proofs.PastSteps.{beginning_is_past, body_accepted}
 use Rattle.smo_meaning.proofs.ValueLaws.{beginning_holds}
 use Rattle.version_groups.specs.declared.made_tables.MadeTable.{MadeTable}
-use Rattle.version_groups.specs.Groups.{Kept, group_of, newest_group, table_in, stored_as, names_of}
+use Rattle.version_groups.specs.Sizes.{HasSize, AreWritten}
+use Rattle.version_groups.specs.Groups.{Kept, newest_places, group_of, newest_group, table_in, stored_as, names_of}
 use Rattle.version_groups.specs.Showing.{ShowsTable, ShowsEntry, Shows}
 use Rattle.version_groups.specs.Room.{IsSameTable, AreSameTables, IsSame}
 use Rattle.version_groups.specs.Changing.{AreChangeable, AreReady, all_gained, all_lost}
@@ -44,6 +46,7 @@ use Rattle.version_groups.proofs.CarriedOut.{as_many}
 use Rattle.version_groups.proofs.Installed.{entry_follows}
 use Rattle.version_groups.proofs.Newest.{stands, changeable, are_changes, counts}
 use Rattle.version_groups.proofs.Pairs.{Paired, paired}
+use Rattle.version_groups.proofs.SizesEvolved.{operator_accepted}
 use Rattle.version_groups.proofs.TablesInTurn.{same_table, same_behind}
 use Rattle.version_groups.specs.Places.{at_places}
 use Rattle.version_groups.proofs.Places.{same_at}
@@ -54,8 +57,8 @@ none_stored : (k : ℕ) (name : List ℕ) (tables : List MadeTable) (places : Li
 none_stored zero name tables places e = ap (λ (ps : List (List ℕ)). stored_as name (at_places tables (get_or ps 0 []))) e
 none_stored (suc k) name tables places e = ap (λ (ps : List (List ℕ)). stored_as name (at_places tables (get_or ps (suc k) []))) e
 
-pub new_shows : (kept : Kept) → kept.versions ≡ [] → kept.places ≡ [] ∷ [] → Shows kept beginning
-new_shows kept versions places = record {
+pub new_shows : (kept : Kept) → kept.versions ≡ [] → kept.places ≡ [] ∷ [] → kept.stored ≡ [] → Shows kept beginning
+new_shows kept versions places stored = record {
   lawful = beginning_is_past;
   values = beginning_holds;
   ends = omega arith;
@@ -63,6 +66,11 @@ new_shows kept versions places = record {
   tables = λ k name l.
       subst (λ (o : Option (List Column)). ShowsEntry beginning k name o (table_in kept k name)) (sym (get-empty bytes_cmp name))
       (subst (λ (s : Option Store). ShowsEntry beginning k name None s) (sym (none_stored k name kept.stored kept.places places)) tt);
+  sizes = record { count = ap length stored; each = λ k s t l. absurd (omega (arith, l)) };
+  living = record {
+    living = λ p t l i. (let n = ap length stored in absurd (omega (arith, l, n)));
+    among = λ p t l e. (let n = ap length stored in absurd (omega (arith, l, n)));
+  };
 }
 
 -- ---- what is as it was shows what it showed
@@ -80,6 +88,9 @@ pub same_groups : (old new : Kept) → IsSame old new → (k : ℕ) → AreSameT
 same_groups old new same k =
     subst (λ (ps : List (List ℕ)). AreSameTables (group_of old k) (at_places new.stored (get_or ps k []))) (sym same.places) (same_at old.stored new.stored (get_or old.places k []) same.stored)
 
+same_newest : (old new : Kept) → IsSame old new → newest_places new ≡ newest_places old
+same_newest old new same = ap (λ (ps : List (List ℕ)). get_or ps (length new.versions) []) same.places ∙ ap (λ (vs : List Version). get_or old.places (length vs) []) same.versions
+
 pub shows_same : (old new : Kept) → IsSame old new → (past : Past) → Shows old past → Shows new past
 shows_same old new same past shows = record {
   lawful = shows.lawful;
@@ -87,8 +98,31 @@ shows_same old new same past shows = record {
   ends = shows.ends;
   versions = ap (map version_of) same.versions ∙ shows.versions;
   tables = λ k name l. let group = same_groups old new same k in entry k name (paired IsSameTable (λ t u h. h.name) name (group_of old k) (group_of new k) group.count group.each) (shows.tables k name l);
+  sizes = record {
+    count = same.stored.count ∙ shows.sizes.count;
+    each = λ k s t l. size (get_or past.sizes k s) (get_or old.stored k t) (get_or new.stored k t) (same.stored.each k t (let n = shows.sizes.count in omega (arith, l, n))) (shows.sizes.each k s t l);
+  };
+  living = record {
+    living = λ p t l i. (same.stored.each p t (below l)).last ∙ shows.living.living p t (below l) (subst (In p) places i);
+    among = λ p t l e. subst (In p) (sym places) (shows.living.among p t (below l) (sym (same.stored.each p t (below l)).last ∙ e));
+  };
 }
   where
+    places : newest_places new ≡ newest_places old
+    places = same_newest old new same
+
+    below : {p : ℕ} → p < length new.stored → p < length old.stored
+    below l = (let n = same.stored.count in omega (arith, l, n))
+
+    size : (s : Size) (t u : MadeTable) → IsSameTable t u → HasSize s t → HasSize s u
+    size s t u e h = record {
+      name = e.name ∙ h.name;
+      first = e.first ∙ h.first;
+      last = e.last ∙ h.last;
+      keys = ap (λ (x : Store). length x.keys) e.store ∙ h.keys;
+      columns = subst (λ (x : Store). AreWritten s.columns x.cells) (sym e.store) h.columns;
+    }
+
     entry : (k : ℕ) (name : List ℕ) → Paired IsSameTable name (group_of old k) (group_of new k) → ShowsEntry past k name (get (tables_of past k) name) (table_in old k name)
         → ShowsEntry past k name (get (tables_of past k) name) (table_in new k name)
     entry k name (inl none) h =
@@ -164,11 +198,7 @@ module _ (kept : Kept) (past : Past) (stamp : ℕ) (op : Operator) (inverse : Li
   tests = body_accepted past (a_command stamp (evolving op inverse)) accepted
 
   pub op_accepted : op_fault (newest_tables past) op ≡ None
-  op_accepted =
-      let rest = none_of_first (unless (nat_lt (length past.versions) most_versions) (OverLimit Versions most_versions))
-      (option_map refusal_of (op_fault (newest_tables past) op) ∷ inverse_tests (newest_tables past) op inverse) tests in
-      none_mapped refusal_of (op_fault (newest_tables past) op)
-      (none_of_first (option_map refusal_of (op_fault (newest_tables past) op)) (inverse_tests (newest_tables past) op inverse) rest.1).0
+  op_accepted = operator_accepted past stamp op inverse accepted
 
   pub few_nodes : HasFewNodes op
   few_nodes =
@@ -176,7 +206,7 @@ module _ (kept : Kept) (past : Past) (stamp : ℕ) (op : Operator) (inverse : Li
       (none_mapped (λ e. OverLimit e.0 e.1) (first_excess (evolving op inverse))
       (none_of_first (count_fault (first_excess (evolving op inverse))) (stamp_fault past.last stamp ∷ body_tests past (evolving op inverse)) accepted).0)
 
-  few_versions : length past.versions < most_versions
+  pub few_versions : length past.versions < most_versions
   few_versions =
       let h = met (nat_lt (length past.versions) most_versions) (OverLimit Versions most_versions)
       (none_of_first (unless (nat_lt (length past.versions) most_versions) (OverLimit Versions most_versions)) (option_map refusal_of (op_fault (newest_tables past) op) ∷ inverse_tests (newest_tables past) op inverse) tests).0 in
@@ -186,11 +216,15 @@ module _ (kept : Kept) (past : Past) (stamp : ℕ) (op : Operator) (inverse : Li
   stored_now = subst (λ j. AreStored (newest_tables past) (newest_database past) stamp (group_of kept j)) (sym (as_many kept past shows)) (stands kept past stamp (evolving op inverse) shows lawful accepted)
 
   pub operator_ready : BodyHolds (evolving op inverse) → (new : Kept) → IsSame kept new → new.stored ≡ kept.stored → 1 ≤ new.spare → (version : Version) (begun : List MadeTable) (places : List ℕ)
-      → length begun ≤ new.beginnings → IsEvolved kept.stored (newest_tables past) (newest_database past) stamp op inverse (version_of version) begun places
+      → length begun ≤ new.beginnings → IsEvolved kept.stored (newest_places kept) (length kept.versions + 1) (newest_tables past) (newest_database past) stamp op inverse (version_of version) begun places
       → (next : Readied) → step_of next.step ≡ evolved (version_of version) begun places
       → next.gained ≡ 0 → next.lost ≡ 0 → Prepares new past (a_command stamp (evolving op inverse)) next
   operator_ready hold new same stored room version begun places beginnings e next is g l =
-      let h = subst (λ (ts : List MadeTable). IsEvolved ts (newest_tables past) (newest_database past) stamp op inverse (version_of version) begun places) (sym stored) e in
+      let number : length kept.versions ≡ length new.versions = sym (ap length same.versions) in
+      let at : newest_places kept ≡ newest_places new = sym (same_newest kept new same) in
+      let h = subst (λ (ts : List MadeTable). IsEvolved ts (newest_places new) (length new.versions + 1) (newest_tables past) (newest_database past) stamp op inverse (version_of version) begun places) (sym stored)
+      (subst (λ ps. IsEvolved kept.stored ps (length new.versions + 1) (newest_tables past) (newest_database past) stamp op inverse (version_of version) begun places) at
+      (subst (λ n. IsEvolved kept.stored (newest_places kept) (n + 1) (newest_tables past) (newest_database past) stamp op inverse (version_of version) begun places) number e)) in
       record {
         ready = record {
           accepted = accepted;
@@ -198,6 +232,8 @@ module _ (kept : Kept) (past : Past) (stamp : ℕ) (op : Operator) (inverse : Li
           constants = hold;
           step = subst (IsStep new past stamp (evolving op inverse)) (sym is) (record {
             version = h.version;
+            begin = h.tables.begin;
+            placed = h.tables.placed;
             there = h.tables.there;
             ordered = h.tables.ordered;
             tables = h.tables.tables;

@@ -59,7 +59,7 @@ pub record ReadyTo (stamp : ℕ) (changes : List PlainChange) (old new : List Ma
   pub loses : all_lost stamp changes old ≡ lost + all_lost stamp changes (drop i old)
 
 pub same_table : (t : MadeTable) → IsSameTable t t
-same_table t = record { name = refl; store = refl; spare = omega arith }
+same_table t = record { name = refl; first = refl; last = refl; store = refl; spare = omega arith }
 
 pub none_ready : (stamp : ℕ) (changes : List PlainChange) (old : List MadeTable) → ReadyTo stamp changes old old [] 0 0 0
 none_ready stamp changes old = record {

@@ -1,9 +1,12 @@
 -- What a stored table is from a stamp on, by its relation at each moment.
-use Rattle.std.specs.Prelude.{◌≡◌, ℕ, ◌<◌, ◌≤◌, List, Option, Some, None, length, ⊤}
+use Rattle.std.specs.Prelude.{◌≡◌, ℕ, ◌+◌, ◌-◌, ◌<◌, ◌≤◌, List, [], Option, Some, None, length, slice_index_or, ⊤}
 use Rattle.relations.specs.Spans.{forever}
+use Rattle.prima_base.specs.declared.values.Value.{Value}
 use Rattle.prima_base.specs.Columns.{Column}
-use Rattle.history_store.specs.Store.{Store, relation_at, AllBefore}
-use Rattle.history_store.specs.Change.{Plan, IsPlan, rows_after}
+use Rattle.history_store.specs.Store.{Store, weight, relation_at, AllBefore}
+use Rattle.history_store.specs.Handing.{written}
+use Rattle.history_store.specs.Change.{Plan, IsPlan, rows_along, rows_after}
+use Rattle.smo_meaning.specs.Effects.{gained_rows}
 use Rattle.smo_meaning.specs.OneRow.{Relation}
 use Rattle.version_groups.specs.declared.made_tables.MadeTable.{MadeTable}
 
@@ -20,12 +23,15 @@ pub record Begins (its : List Column) (stamp : ℕ) (rows : Relation) (store : S
   pub from : (m : ℕ) → stamp ≤ m → m < forever → relation_at store m ≡ rows
   pub later : (m : ℕ) → stamp < m → AllBefore store m
 
--- a change of the table that is ready, has its room, and leads to these rows from the stamp on
+-- a change of the table that is ready, has its room, and leads to these rows from the stamp on, by the rows in which they differ from
+-- the table's
 pub record IsChange (store : Store) (stamp : ℕ) (rows : Relation) (plan : Plan) : Type 0 where
   pub at : plan.stamp ≡ stamp
   pub fits : IsPlan store plan
   pub room : length plan.gained ≤ store.spare
   pub leads : rows_after store plan ≡ rows
+  pub lost : rows_along plan.lost stamp store.cells ≡ gained_rows rows (relation_at store stamp)
+  pub gained : plan.gained ≡ gained_rows (relation_at store stamp) rows
 
 -- a change that is ready and has its room, or none
 abbrev pub HasRoom : Store → Option Plan → Type 0
@@ -37,7 +43,20 @@ abbrev pub Leads : Store → ℕ → Relation → Option Plan → Type 0
 Leads store stamp rows None = relation_at store stamp ≡ rows
 Leads store stamp rows (Some plan) = IsChange store stamp rows plan
 
+-- the change is made of a table: it has its name and its lifeline, and each gained row without a partner is a key more, and writes
+-- its values; of a row with a partner those are written that differ
+pub record IsInstalled (old : MadeTable) (plan : Plan) (new : MadeTable) : Type 0 where
+  pub name : new.name ≡ old.name
+  pub first : new.first ≡ old.first
+  pub last : new.last ≡ old.last
+  pub becomes : Becomes old.store new.store plan.stamp (rows_after old.store plan)
+  pub keys : length new.store.keys ≡ length old.store.keys + (length plan.gained - length plan.lost)
+  pub wide : length old.store.cells ≡ length old.store.columns
+  pub count : length new.store.cells ≡ length old.store.cells
+  pub written : (f : Value → ℕ) → (k : ℕ) → k < length old.store.columns → weight f (slice_index_or new.store.cells k [])
+      ≡ weight f (slice_index_or old.store.cells k []) + written f k (rows_along plan.lost plan.stamp old.store.cells) plan.gained
+
 -- the change is made; where there is none the table is as it was
 abbrev pub IsMade : MadeTable → Option Plan → MadeTable → Type 0
 IsMade old None new = new ≡ old
-IsMade old (Some plan) new = (new.name ≡ old.name) × Becomes old.store new.store plan.stamp (rows_after old.store plan)
+IsMade old (Some plan) new = IsInstalled old plan new

@@ -1,16 +1,20 @@
 -- What installing makes of groups.
-use Rattle.std.specs.Prelude.{◌≡◌, ℕ, ◌+◌, ◌<◌, ◌≤◌, List, [], ◌∷◌, ◌++◌, length, Option, Some, None, slice_index_or, ⊤}
-use Rattle.relations.specs.Sets.{In}
+use Rattle.std.specs.Prelude.{◌≡◌, ℕ, ◌+◌, ◌<◌, ◌≤◌, Bool, List, [], ◌∷◌, ◌++◌, length, map, Option, Some, None, slice_index_or, ⊤, if◌then◌else◌}
+use Rattle.relations.specs.Sets.{In, Ascends}
+use Rattle.prima_base.specs.Order.{bytes_cmp}
 use Rattle.history_store.specs.Store.{Store, relation_at}
 use Rattle.history_store.specs.Change.{Plan}
+use Rattle.schema_catalog.specs.Tables.{Tables}
 use Rattle.smo_types.specs.declared.versions.Version.{Version}
+use Rattle.smo_types.specs.Operators.{operator_of}
 use Rattle.smo_types.specs.Commands.{PlainVersion}
+use Rattle.smo_meaning.specs.Touching.{consumes}
 use Rattle.version_groups.specs.declared.made_tables.MadeTable.{MadeTable}
-use Rattle.version_groups.specs.Groups.{Kept, versions_in, group_of, newest_group, table_in}
+use Rattle.version_groups.specs.Groups.{Kept, versions_in, newest_places, group_of, newest_group, table_in, stored_as, names_of}
 use Rattle.version_groups.specs.Showing.{IsInForce}
 use Rattle.version_groups.specs.Becoming.{IsMade}
 use Rattle.version_groups.specs.Changing.{AreMade}
-use Rattle.version_groups.specs.Places.{at_places}
+use Rattle.version_groups.specs.Places.{at_places, AreWithin}
 
 -- it has the columns that it had, and at each moment at which version k is in force the relation that it had
 pub record Stays (versions : List PlainVersion) (k : ℕ) (old new : Store) : Type 0 where
@@ -43,14 +47,30 @@ pub record AreMadeBy (plans : List (Option Plan)) (old new : List MadeTable) : T
   pub count : length new ≡ length old
   pub each : (k : ℕ) → (d : MadeTable) → k < length old → IsMadeBy plans (slice_index_or old k d) (slice_index_or new k d)
 
--- the changes are made of the tables of the newest version, some of which earlier versions may have too
+-- the changes are made of the tables of the newest version, some of which earlier versions may have too, and of no other
 pub record HasChanges (kept new : Kept) (plans : List (Option Plan)) : Type 0 where
   pub versions : new.versions ≡ kept.versions
+  pub places : new.places ≡ kept.places
+  pub there : AreWithin (newest_places kept) (length kept.stored)
+  pub ordered : Ascends bytes_cmp (names_of (newest_group kept))
+  pub stored : length new.stored ≡ length kept.stored
+  pub others : (p : ℕ) → (d : MadeTable) → (In p (newest_places kept) → ⊥) → slice_index_or new.stored p d ≡ slice_index_or kept.stored p d
   pub groups : (k : ℕ) → k < length kept.versions → AreMadeBy plans (group_of kept k) (group_of new k)
   pub made : AreMade (newest_group kept) plans (group_of new (length kept.versions))
 
--- one version more, with tables that begin and the places of its own
+-- a lifeline that lives ends with version k where the next operator consumes its table
+abbrev pub last_behind : Bool → ℕ → Option ℕ → Option ℕ
+last_behind consumed k None = if consumed then Some k else None
+last_behind consumed k (Some last) = Some last
+
+abbrev pub table_behind : (List ℕ → Bool) → ℕ → MadeTable → MadeTable
+table_behind consumed k t = record { name = t.name; first = t.first; last = last_behind (consumed t.name) k t.last; store = t.store }
+
+-- one version more, with tables that begin and the places of its own; the lifelines of the tables that its operator consumes, over
+-- any schema, end
 pub record HasVersion (kept new : Kept) (made : Version) (begun : List MadeTable) (places : List ℕ) : Type 0 where
   pub versions : new.versions ≡ kept.versions ++ made ∷ []
-  pub groups : (k : ℕ) → k ≤ length kept.versions → group_of new k ≡ group_of kept k
-  pub last : group_of new (length kept.versions + 1) ≡ at_places (kept.stored ++ begun) places
+  pub newest : newest_places new ≡ places
+  pub stored : (before : Tables) → new.stored ≡ map (table_behind (consumes before (operator_of made.op)) (length kept.versions)) kept.stored ++ begun
+  pub tables : (k : ℕ) → (name : List ℕ) → k ≤ length kept.versions → table_in new k name ≡ table_in kept k name
+  pub own : (name : List ℕ) → table_in new (length kept.versions + 1) name ≡ stored_as name (at_places (kept.stored ++ begun) places)

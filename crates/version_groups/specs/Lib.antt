@@ -1,6 +1,7 @@
 pub mod Stored
 pub mod Places
 pub mod Groups
+pub mod Sizes
 pub mod GroupFields
 pub mod Showing
 pub mod Becoming
@@ -8,8 +9,12 @@ pub mod Changing
 pub mod Steps
 pub mod Room
 pub mod Installing
+pub mod Ending
 pub mod Standing
 pub mod MadeRows
 pub mod Evolving
+pub mod Lifelines
+pub mod Restoring
 pub mod Overlay
+pub mod KnownFields
 pub mod Ranges

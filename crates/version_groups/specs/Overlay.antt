@@ -1,14 +1,22 @@
 -- What the changes of a command have made so far of one table's rows, over the rows that are stored.
-use Rattle.std.specs.Prelude.{◌≡◌, Bool, true, false, not, ◌&&◌, List, Option, Some, None}
+use Rattle.std.specs.Prelude.{◌≡◌, ◌<◌, ℕ, Bool, true, false, not, ◌&&◌, cond, List, [], ◌∷◌, length, slice_index_or, Option, Some, None}
 use Rattle.std.specs.List.{filter}
 use Rattle.std.specs.Option.{unwrap_or}
 use Rattle.std.specs.Map.{lookup, keys_of}
 use Rattle.std.specs.BTreeMap.{is_at}
-use Rattle.std.specs.Ordering.{is_le}
+use Rattle.std.specs.Ordering.{is_eq, is_le}
 use Rattle.relations.specs.Sets.{In, has}
 use Rattle.prima_base.specs.Order.{row_cmp}
+use Rattle.prima_base.specs.declared.values.Value.{Value}
+use Rattle.prima_base.specs.Columns.{Column as OwnColumn}
+use Rattle.cond_expr.specs.declared.exprs.Column.{Column as AtomColumn}
+use Rattle.cond_expr.specs.declared.exprs.CmpOp.TheVariants.{Eq}
+use Rattle.cond_expr.specs.AtomColumns.{columns_at}
+use Rattle.cond_expr.specs.PinnedParts.{pinned}
+use Rattle.cond_expr.specs.Trees.{Test}
 use Rattle.history_store.specs.Cuts.{Cut, is_before}
-use Rattle.smo_meaning.specs.OneRow.{Row, Relation}
+use Rattle.history_store.specs.Handing.{is_value, at_column}
+use Rattle.smo_meaning.specs.OneRow.{Row, Relation, meets}
 
 -- of rows that are not as they are stored, whether the table has them now
 abbrev pub Known : Type 0
@@ -39,6 +47,41 @@ gained_by_now known = keys_of (filter (λ (e : Row × Bool). e.1) known)
 -- what is known of the rows from the first cut on and before the other, where these are there and pass the test
 abbrev pub known_hits : Cut → Cut → (Row → Bool) → Known → Relation
 known_hits from to passes known = keys_of (filter (λ (e : Row × Bool). is_le (row_cmp from.values e.0) && (is_before to e.0 && (e.1 && passes e.0))) known)
+
+-- some rows of the relation, and among them all that pass the test
+pub record HaveHits (passes : Row → Bool) (stored : Relation) (rows : List Row) : Type 0 where
+  pub only : (row : Row) → In row rows → In row stored
+  pub all : (row : Row) → In row stored → passes row ≡ true → In row rows
+
+-- the rows of which it is known that the table has them, and that pass the test, in any order
+pub record HaveKnownHits (passes : Row → Bool) (known : Known) (rows : List Row) : Type 0 where
+  pub only : (row : Row) → In row rows → In (row, true) known × (passes row ≡ true)
+  pub all : (row : Row) → In (row, true) known → passes row ≡ true → In row rows
+
+-- each row of which it is known that the table has it, and that meets the condition, is between the cuts and has each
+-- constant to which the condition pins a column
+pub record CanBeHits (its : List OwnColumn) (t : Test) (from to : Cut) (known : Known) : Type 0 where
+  pub low : (row : Row) → In (row, true) known → meets its t row ≡ true → is_before from row ≡ false
+  pub high : (row : Row) → In (row, true) known → meets its t row ≡ true → is_before to row ≡ true
+  pub pinned_to : (row : Row) (k : ℕ) (v : Value) → In (row, true) known → meets its t row ≡ true → k < length (columns_at 0 its) → ((d : AtomColumn) → pinned Eq (slice_index_or (columns_at 0 its) k d) t ≡ Some v) → at_column k row ≡ v ∷ []
+
+-- the row behind its value in the column
+abbrev pub led_by : List Value → Row → Option Row
+led_by [] row = None
+led_by (v ∷ vs) row = Some (v ∷ row)
+
+abbrev pub led_of : Option ℕ → Row → Option Row
+led_of None row = None
+led_of (Some k) row = led_by (at_column k row) row
+
+-- the entries with what is told of the one row, if there is one
+abbrev pub IsToldLed : Option Row → Option Bool → Known → Known → Type 0
+IsToldLed None told old new = new ≡ old
+IsToldLed (Some row) told old new = (q : Row) → lookup (is_at (row_cmp q)) new ≡ cond (is_eq (row_cmp row q)) told (lookup (is_at (row_cmp q)) old)
+
+-- of a row behind a value the same is known as of the row, where it has that value in the column, and else nothing
+abbrev pub AreLed : ℕ → Known → Known → Type 0
+AreLed column known led = (v : Value) (row : Row) → lookup (is_at (row_cmp (v ∷ row))) led ≡ cond (is_value v (at_column column row)) (lookup (is_at (row_cmp row)) known) None
 
 -- the rows of the relation that pass the test, in any order
 pub record AreHits (passes : Row → Bool) (now : Relation) (hits : List Row) : Type 0 where

@@ -3,9 +3,11 @@ use Rattle.std.specs.Prelude.{◌≡◌, ℕ, ◌<◌, ◌≤◌, List, length, 
 use Rattle.version_groups.specs.declared.made_tables.MadeTable.{MadeTable}
 use Rattle.version_groups.specs.Groups.{Kept}
 
--- the same columns, keys and entries
+-- the same lifeline, columns, keys and entries
 pub record IsSameTable (old new : MadeTable) : Type 0 where
   pub name : new.name ≡ old.name
+  pub first : new.first ≡ old.first
+  pub last : new.last ≡ old.last
   pub store : new.store ≡ record old.store { spare = new.store.spare }
   pub spare : old.store.spare ≤ new.store.spare
 

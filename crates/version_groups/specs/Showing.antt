@@ -10,7 +10,8 @@ use Rattle.smo_meaning.specs.InForce.{in_force}
 use Rattle.smo_meaning.specs.LawfulPast.{last_or_nought, IsLater, IsPast}
 use Rattle.smo_meaning.specs.LawfulValues.{PastHolds}
 use Rattle.smo_meaning.specs.Past.{Past, tables_of, database_at}
-use Rattle.version_groups.specs.Groups.{Kept, versions_in, table_in}
+use Rattle.version_groups.specs.Groups.{Kept, versions_in, newest_places, table_in}
+use Rattle.version_groups.specs.Sizes.{HaveSizes, AreLiving}
 
 -- version k is in force at the moment
 abbrev pub IsInForce : List PlainVersion → ℕ → ℕ → Type 0
@@ -31,10 +32,13 @@ ShowsEntry past k name (Some columns) None = ⊥
 ShowsEntry past k name (Some columns) (Some store) = ShowsTable past k name columns store
 
 -- the past is lawful and holds lawful values; the versions are those of the past, and so is each table of each version at
--- each moment at which it is in force
+-- each moment at which it is in force; one table is stored for each lifeline, as much of it as the past's sizes say, and a lifeline
+-- lives just where its table is one of the newest version's
 pub record Shows (kept : Kept) (past : Past) : Type 0 where
   pub lawful : IsPast past
   pub values : PastHolds past
   pub ends : last_or_nought past.last < forever
   pub versions : versions_in kept ≡ past.versions
   pub tables : (k : ℕ) → (name : List ℕ) → k ≤ length past.versions → ShowsEntry past k name (get (tables_of past k) name) (table_in kept k name)
+  pub sizes : HaveSizes past.sizes kept.stored
+  pub living : AreLiving kept.stored (newest_places kept)

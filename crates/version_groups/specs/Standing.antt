@@ -1,5 +1,5 @@
 -- The stored tables of the newest version, and those of the next.
-use Rattle.std.specs.Prelude.{◌≡◌, ℕ, Bool, false, List, [], Option, Some, None, ⊤, if◌then◌else◌}
+use Rattle.std.specs.Prelude.{◌≡◌, ℕ, Bool, false, List, [], Option, Some, None, ⊤, ◌||◌, if◌then◌else◌}
 use Rattle.std.specs.FinMap.{get}
 use Rattle.prima_base.specs.Columns.{Column, IsRelation}
 use Rattle.schema_catalog.specs.Tables.{Tables}
@@ -45,6 +45,10 @@ pub record MadeRows : Type 0 where
 -- the rows of a table of the next version: those that were made, or else those that it had
 abbrev pub next_rows : MadeRows → ℕ → List MadeTable → List ℕ → Relation
 next_rows made stamp tables name = if is_name made.first name then made.rows else if is_name made.second name then made.others else rows_stored stamp (stored_as name tables)
+
+-- one of those that were made has the name
+abbrev pub is_made : MadeRows → List ℕ → Bool
+is_made made name = is_name made.first name || is_name made.second name
 
 -- each table of the next version has a relation of its columns
 abbrev pub FitNext : Tables → MadeRows → ℕ → List MadeTable → Type 0

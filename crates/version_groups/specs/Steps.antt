@@ -1,23 +1,27 @@
 -- What a command does to groups, made ready.
-use Rattle.std.specs.Prelude.{◌≡◌, ℕ, ◌+◌, ◌<◌, ◌≤◌, ◌^◌, List, ◌++◌, length, slice_index_or, Option, Some, None, ⊤}
-use Rattle.std.specs.FinMap.{get}
+use Rattle.std.specs.Prelude.{◌≡◌, ℕ, ◌+◌, ◌<◌, ◌≤◌, ◌^◌, List, ◌++◌, length, slice_index_or, Option, None}
+use Rattle.std.specs.List.{filter}
+use Rattle.std.specs.FinMap.{get, entries}
 use Rattle.relations.specs.Sets.{Ascends}
 use Rattle.relations.specs.Spans.{forever}
 use Rattle.prima_base.specs.Columns.{Column}
 use Rattle.prima_base.specs.Order.{bytes_cmp}
 use Rattle.history_store.specs.Store.{Store}
 use Rattle.history_store.specs.Change.{Plan}
+use Rattle.schema_catalog.specs.Tables.{Tables}
 use Rattle.schema_catalog.specs.Databases.{Database}
 use Rattle.smo_meaning.specs.Accepts.{command_fault}
 use Rattle.smo_meaning.specs.LawfulValues.{BodyHolds}
 use Rattle.smo_types.specs.Commands.{PlainBody, changing, evolving, PlainCommand, PlainVersion, version_of}
 use Rattle.smo_meaning.specs.Effects.{rows_at, gained, lost}
 use Rattle.smo_meaning.specs.OneRow.{Relation}
-use Rattle.smo_meaning.specs.Past.{Past, newest_database, next_version, database_behind}
+use Rattle.smo_meaning.specs.Touching.{makes}
+use Rattle.smo_meaning.specs.Past.{Past, newest_tables, newest_database, next_version, database_behind}
 use Rattle.version_groups.specs.declared.made_tables.MadeTable.{MadeTable}
 use Rattle.version_groups.specs.declared.next.Step.{Step}
 use Rattle.version_groups.specs.declared.next.Step.TheVariants.{Changed, Evolved}
-use Rattle.version_groups.specs.Groups.{Kept, group_of, stored_as, names_of}
+use Rattle.version_groups.specs.Groups.{Kept, newest_places, group_of, stored_as, names_of, HasEntry}
+use Rattle.version_groups.specs.Sizes.{BeginsWith, BeginInOrder, ArePlaced}
 use Rattle.version_groups.specs.Becoming.{Begins, Leads}
 use Rattle.version_groups.specs.Places.{at_places, AreWithin}
 
@@ -45,14 +49,13 @@ pub record AreChanges (stamp : ℕ) (next : Database) (tables : List MadeTable) 
 
 -- a table is stored just where the next version has one; it begins with these rows
 abbrev pub BeginsEntry : ℕ → Relation → Option (List Column) → Option Store → Type 0
-BeginsEntry stamp rows None None = ⊤
-BeginsEntry stamp rows None (Some store) = ⊥
-BeginsEntry stamp rows (Some columns) None = ⊥
-BeginsEntry stamp rows (Some columns) (Some store) = Begins columns stamp rows store
+BeginsEntry stamp rows = HasEntry (λ columns store. Begins columns stamp rows store)
 
--- the next version, with its tables in the order of their names, and the room for it
-pub record IsNextVersion (kept : Kept) (due : PlainVersion) (next : Database) (made : PlainVersion) (begun : List MadeTable) (places : List ℕ) : Type 0 where
+-- the next version, over the tables before it, with its tables in the order of their names, and the room for it
+pub record IsNextVersion (kept : Kept) (before : Tables) (due : PlainVersion) (next : Database) (made : PlainVersion) (begun : List MadeTable) (places : List ℕ) : Type 0 where
   pub version : made ≡ due
+  pub begin : BeginInOrder (BeginsWith (length kept.versions + 1) (λ name. rows_at (get next name))) (filter (λ (e : List ℕ × List Column). makes before due.op e.0) (entries due.tables)) begun
+  pub placed : ArePlaced kept.stored begun (newest_places kept) (makes before due.op) due.tables places
   pub there : AreWithin places (length kept.stored + length begun)
   pub ordered : Ascends bytes_cmp (names_of (at_places (kept.stored ++ begun) places))
   pub tables : (name : List ℕ) → BeginsEntry due.stamp (rows_at (get next name)) (get due.tables name) (stored_as name (at_places (kept.stored ++ begun) places))
@@ -65,7 +68,7 @@ IsStep kept past stamp (changing changes) (changed plans) = AreChanges stamp (da
 IsStep kept past stamp (changing changes) (evolved version begun places) = ⊥
 IsStep kept past stamp (evolving op inverse) (changed plans) = ⊥
 IsStep kept past stamp (evolving op inverse) (evolved version begun places) =
-    IsNextVersion kept (next_version stamp op inverse past) (database_behind (evolving op inverse) past) version begun places
+    IsNextVersion kept (newest_tables past) (next_version stamp op inverse past) (database_behind (evolving op inverse) past) version begun places
 
 -- the command is accepted after the past, its constants are lawful values, and what it does was made ready from these
 -- groups, which have the room for it

@@ -16,9 +16,10 @@ ghost use Rattle.version_groups.specs.Changing.{AreAccepted, of_table};
 
 use crate::made_tables::same_name;
 use crate::overlay::lost_and_gained;
+use crate::ranges::column_asked;
 use history_store::{Prepared, StoredTable};
 use prima_base::{ColType, Name, NoMemory, Row};
-use smo_ops::{Change, inserted_row, insertions_are_a_union, make_set};
+use smo_ops::{Change, OwnColumns, inserted_row, insertions_are_a_union, make_set};
 use std::alloc::Global;
 
 /// Whether one of the changes is of the table with this name. It takes no memory.
@@ -136,9 +137,69 @@ fn prepare_overlay(
     Ok(prepared)
 }
 
+// Keeps the index that finding the rows of the change asks for, where it is of the table.
+fn index_asked(
+    own: &OwnColumns<'_>,
+    name: &Name,
+    store: &mut StoredTable,
+    change: &Change,
+) -> Result<(), NoMemory>
+    requires { store.old.columns ≡ own.now }
+    ensures same { store.new ≡ record store.old { spare = store.new.spare } }
+    ensures spare { store.old.spare ≤ store.new.spare }
+{
+    match column_asked(own, name, change) {
+        Some(column) => store.index_column(column),
+        None => Ok(()),
+    }
+}
+
+// Keeps the indexes that finding the rows of the table's changes asks for.
+fn index_each(
+    own: &OwnColumns<'_>,
+    name: &Name,
+    store: &mut StoredTable,
+    changes: &[Change],
+) -> Result<(), NoMemory>
+    requires { store.old.columns ≡ own.now }
+    ensures same { store.new ≡ record store.old { spare = store.new.spare } }
+    ensures spare { store.old.spare ≤ store.new.spare }
+{
+    for change in changes {
+        index_asked(own, name, store, change)?;
+    }
+    Ok(())
+}
+
+// The same as `prepare_overlay`, with the indexes that the changes ask for.
+fn prepare_indexed(
+    alloc: Global,
+    columns: &[(Name, ColType)],
+    name: &Name,
+    store: &mut StoredTable,
+    stamp: u64,
+    changes: &[Change],
+) -> Result<Prepared, NoMemory>
+    requires columns { AreColumns columns.now }
+    requires same { store.old.columns ≡ columns.now }
+    requires accepted { AreAccepted columns.now (of_table name.now (changes_of changes.now)) }
+    requires before { AllBefore store.old stamp }
+    requires lawful { stamp < forever }
+    ensures same { store.new ≡ record store.old { spare = store.new.spare } }
+    ensures spare { store.old.spare ≤ store.new.spare }
+    ensures change { IfOk result (λ p. IsChange store.new stamp (relation_after_each columns.now (of_table name.now (changes_of changes.now)) (relation_at store.old stamp)) p) }
+    ensures gained { IfOk result (λ p. length p.gained ≡ length (gained_rows (relation_at store.old stamp) (relation_after_each columns.now (of_table name.now (changes_of changes.now)) (relation_at store.old stamp)))) }
+    ensures lost { IfOk result (λ p. length p.lost ≡ length (gained_rows (relation_after_each columns.now (of_table name.now (changes_of changes.now)) (relation_at store.old stamp)) (relation_at store.old stamp))) }
+{
+    let own = OwnColumns::new(alloc, columns)?;
+    index_each(&own, name, store, changes)?;
+    prepare_overlay(alloc, columns, name, store, stamp, changes)
+}
+
 /// Makes the table's changes ready, from the stamp on, and all the room that installing them needs. INSERTs alone cost
 /// as many searches as there are rows. An UPDATE or DELETE costs a look at each row between two cuts in the order of the
-/// rows, where its condition pins the first columns to constants, and else at each row; of the rows only those that are
+/// rows, where its condition pins the first columns to constants, or at the rows with one value of another column, where it
+/// pins that one, and else at each row; of the rows only those that are
 /// lost or gained are copied. The one error is `NoMemory`, where memory runs out. What the table stands for stays as it is.
 pub(crate) fn prepare_table(
     alloc: Global,
@@ -163,6 +224,6 @@ pub(crate) fn prepare_table(
     let given = given_rows(alloc, columns, name, changes)?;
     match given {
         Some(rows) => prepare_given(alloc, store, stamp, rows),
-        None => prepare_overlay(alloc, columns, name, store, stamp, changes),
+        None => prepare_indexed(alloc, columns, name, store, stamp, changes),
     }
 }

@@ -1,11 +1,12 @@
 //! What the changes of a command make of the tables of the newest version.
 
-ghost use Rattle.std.specs.Prelude.{◌≡◌, ◌+◌, ◌-◌, ◌<◌, ◌≤◌, length, IfOk, vec_len, vec_capacity};
-ghost use Rattle.relations.specs.Sets.{Ascends};
+ghost use Rattle.std.specs.Prelude.{◌≡◌, ◌+◌, ◌-◌, ◌<◌, ◌≤◌, ℕ, length, IfOk, slice_index_or, vec_len, vec_capacity};
+ghost use Rattle.relations.specs.Sets.{In, Ascends};
 ghost use Rattle.relations.specs.Spans.{forever};
 ghost use Rattle.prima_base.specs.Order.{bytes_cmp};
 ghost use Rattle.smo_types.specs.Changes.{changes_of};
 ghost use Rattle.smo_meaning.specs.Effects.{gained_rows};
+ghost use Rattle.version_groups.specs.declared.made_tables.MadeTable.{MadeTable as Stored};
 ghost use Rattle.version_groups.specs.Becoming.{IsChange, Leads, IsMade, HasRoom};
 ghost use Rattle.version_groups.specs.Changing.{IsChangeable, AreChangeable, AreReady, HaveRoom, AreMade, rows_now, rows_behind, all_gained, all_lost, gained_by, lost_by};
 ghost use Rattle.version_groups.specs.Room.{IsSameTable, AreSameTables};
@@ -169,6 +170,7 @@ pub(crate) fn install_tables(
     requires room { HaveRoom (at_places tables.old.items places.now) plans.items }
     ensures made { AreMade (at_places tables.old.items places.now) plans.items (at_places tables.new.items places.now) }
     ensures each { AreMadeBy plans.items tables.old.items tables.new.items }
+    ensures others { (p : ℕ) → (d : Stored) → (In p places.now → ⊥) → slice_index_or tables.new.items p d ≡ slice_index_or tables.old.items p d }
 {
     let mut i = 0;
     for plan in plans {

@@ -1,6 +1,6 @@
 //! The next version behind an operator, and its stored tables.
 
-ghost use Rattle.std.specs.Prelude.{◌≡◌, ◌+◌, ◌<◌, ◌≤◌, ℕ, List, length, slice_get, false, IfOk, None};
+ghost use Rattle.std.specs.Prelude.{◌≡◌, ◌+◌, ◌<◌, ◌≤◌, ◌++◌, ◌∷◌, [], ℕ, List, length, slice_get, false, IfOk, OnOk, None};
 ghost use Rattle.std.specs.Option.{option_copied};
 ghost use Rattle.std.specs.FinMap.{get};
 ghost use Rattle.relations.specs.Sets.{Ascends};
@@ -14,15 +14,17 @@ ghost use Rattle.smo_meaning.specs.After.{op_fault, behind, carried, IsLawful, H
 ghost use Rattle.smo_meaning.specs.Effects.{rows_at};
 ghost use Rattle.smo_types.specs.Commands.{version_of};
 ghost use Rattle.smo_meaning.specs.OperatorTable.{line, made_names};
+ghost use Rattle.smo_meaning.specs.Touching.{makes};
 ghost use Rattle.smo_maps.specs.Carrying.{given_tables, Has};
 ghost use Rattle.smo_meaning.specs.OneRow.{Relation};
-ghost use Rattle.version_groups.specs.Groups.{stored_as};
-ghost use Rattle.version_groups.specs.Places.{at_places};
+ghost use Rattle.version_groups.specs.Groups.{stored_as, names_of};
+ghost use Rattle.version_groups.specs.Places.{at_places, AreWithin};
 ghost use Rattle.version_groups.specs.declared.made_tables.MadeTable.{MadeTable as Stored};
 ghost use Rattle.version_groups.specs.Becoming.{Begins};
-ghost use Rattle.version_groups.specs.Standing.{AreStored, is_name, next_rows, FitNext, IsStoredBefore, OthersStay};
+ghost use Rattle.version_groups.specs.Sizes.{BeginsWith};
+ghost use Rattle.version_groups.specs.Standing.{AreStored, is_name, is_made, next_rows, FitNext, IsStoredBefore, OthersStay};
 ghost use Rattle.version_groups.specs.MadeRows.{made_rows};
-ghost use Rattle.version_groups.specs.Evolving.{AreEarlier, rows_named, AreNext, IsNextTable, IsEvolved};
+ghost use Rattle.version_groups.specs.Evolving.{AreEarlier, rows_named, AreNext, IsNextTable, IsBegun, Comes, IsEvolved};
 
 use crate::made_tables::{MadeTable, find_stored, find_table, same_name};
 use history_store::StoredTable;
@@ -93,26 +95,29 @@ fn next_schema(alloc: Global, before: &Schema, op: &Op) -> Result<Schema, NoMemo
     }
 }
 
-// A table with these rows from the stamp on.
+// A table with these rows from the stamp on, whose lifeline begins with a version.
 fn begin_table(
     alloc: Global,
+    version: u32,
     table: &Table,
     stamp: u64,
     rows: &[Row],
 ) -> Result<MadeTable, NoMemory>
     requires lawful { stamp < forever }
     requires relation { IsRelation table.now.1 rows.now }
-    ensures name { IfOk result (λ t. t.name ≡ table.now.0) }
     ensures begins { IfOk result (λ t. Begins table.now.1 stamp rows.now t.store) }
+    ensures size { IfOk result (λ t. BeginsWith version (λ name. rows.now) table.now t) }
 {
     Ok(MadeTable {
         name: table.name().copy()?,
+        first: version,
+        last: None,
         store: StoredTable::new(alloc, table.columns(), stamp, rows)?,
     })
 }
 
 // Whether the name is this one.
-fn is_name(named: Option<&Name>, name: &Name) -> bool
+pub(crate) fn is_name(named: Option<&Name>, name: &Name) -> bool
     ensures { result ≡ is_name (option_copied named.entry) name.now }
 {
     match named {
@@ -121,10 +126,30 @@ fn is_name(named: Option<&Name>, name: &Name) -> bool
     }
 }
 
-// A new table begins, behind those that have begun.
+/// The place of a table that begins with a version, behind all that are stored and those that have begun. The one error is
+/// `NoMemory`, where memory runs out.
+pub(crate) fn put_begun(
+    stored: usize,
+    table: MadeTable,
+    begun: &mut Vec<MadeTable>,
+) -> Result<usize, NoMemory>
+    ensures place { IfOk result (λ p. p ≡ stored + length begun.old.items) }
+    ensures grown { OnOk result (begun.new.items ≡ begun.old.items ++ table ∷ []) }
+    ensures there { IfOk result (λ p. p < stored + length begun.new.items) }
+{
+    // There is no memory for so many tables that it would not fit.
+    let Some(place) = stored.checked_add(begun.len()) else {
+        return Err(NoMemory);
+    };
+    begun.push(table)?;
+    Ok(place)
+}
+
+// A new table begins with a version, behind those that have begun.
 fn begin_behind(
     alloc: Global,
     stored: usize,
+    version: u32,
     table: &Table,
     stamp: u64,
     rows: &[Row],
@@ -132,14 +157,12 @@ fn begin_behind(
 ) -> Result<usize, NoMemory>
     requires lawful { stamp < forever }
     requires relation { IsRelation table.now.1 rows.now }
-    ensures next { (tables : List Stored) → stored ≡ length tables → IfOk result (λ p. IsNextTable tables begun.old.items begun.new.items p table.now.0 table.now.1 stamp rows.now) }
+    ensures next { (tables : List Stored) → stored ≡ length tables → IfOk result (λ p. IsNextTable tables begun.old.items begun.new.items p table.now.0 (Begins table.now.1 stamp rows.now)) }
+    ensures begun { (tables : List Stored) → stored ≡ length tables → IfOk result (λ p. IsBegun tables begun.old.items begun.new.items p (BeginsWith version (λ name. rows.now) table.now)) }
     ensures there { IfOk result (λ p. p < stored + length begun.new.items) }
 {
-    // There is no memory for so many tables that it would not fit.
-    let Some(place) = stored.checked_add(begun.len()) else {
-        return Err(NoMemory);
-    };
-    begun.push(begin_table(alloc, table, stamp, rows)?)?;
+    let made = begin_table(alloc, version, table, stamp, rows)?;
+    let place = put_begun(stored, made, begun)?;
     Ok(place)
 }
 
@@ -151,6 +174,7 @@ fn next_place(
     places: &[usize],
     names: Made<'_>,
     rows: &Carried,
+    version: u32,
     table: &Table,
     stamp: u64,
     begun: &mut Vec<MadeTable>,
@@ -159,15 +183,33 @@ fn next_place(
     requires relation { IsRelation table.now.1 (next_rows (made_rows names rows.now) stamp (at_places tables.now places.now) table.now.0) }
     requires others { is_name (option_copied names.first) table.now.0 ≡ false → is_name (option_copied names.second) table.now.0 ≡ false
         → IsStoredBefore stamp table.now.1 (stored_as table.now.0 (at_places tables.now places.now)) }
-    ensures next { IfOk result (λ p. IsNextTable tables.now begun.old.items begun.new.items p table.now.0 table.now.1 stamp
-        (next_rows (made_rows names.entry rows.now) stamp (at_places tables.now places.now) table.now.0)) }
+    ensures next { IfOk result (λ p. IsNextTable tables.now begun.old.items begun.new.items p table.now.0
+        (Begins table.now.1 stamp (next_rows (made_rows names.entry rows.now) stamp (at_places tables.now places.now) table.now.0))) }
+    ensures comes { IfOk result (λ p. Comes (is_made (made_rows names.entry rows.now) table.now.0) tables.now begun.old.items begun.new.items places.now p table.now.0
+        (BeginsWith version (λ name. next_rows (made_rows names.entry rows.now) stamp (at_places tables.now places.now) table.now.0) table.now)) }
     ensures there { IfOk result (λ p. p < length tables.now + length begun.new.items) }
 {
     if is_name(names.first, table.name()) {
-        return begin_behind(alloc, tables.len(), table, stamp, &rows.first, begun);
+        return begin_behind(
+            alloc,
+            tables.len(),
+            version,
+            table,
+            stamp,
+            &rows.first,
+            begun,
+        );
     }
     if is_name(names.second, table.name()) {
-        return begin_behind(alloc, tables.len(), table, stamp, &rows.second, begun);
+        return begin_behind(
+            alloc,
+            tables.len(),
+            version,
+            table,
+            stamp,
+            &rows.second,
+            begun,
+        );
     }
     match find_table(tables, places, table.name()) {
         Some((place, _)) => Ok(place),
@@ -179,6 +221,7 @@ fn next_place(
 // The tables of the next version, in the order of their names: those that are made begin, and the others go on.
 fn next_tables(
     alloc: Global,
+    version: u32,
     next: &Schema,
     tables: &[MadeTable],
     places: &[usize],
@@ -188,9 +231,12 @@ fn next_tables(
 ) -> Result<NextTables, NoMemory>
     requires lawful { stamp < forever }
     requires schema { IsLawful next.now }
+    requires there { AreWithin places.now (length tables.now) }
+    requires ordered { Ascends bytes_cmp (names_of (at_places tables.now places.now)) }
     requires relations { FitNext next.now (made_rows names rows.now) stamp (at_places tables.now places.now) }
     requires others { OthersStay next.now (made_rows names rows.now) stamp (at_places tables.now places.now) }
-    ensures { IfOk result (λ t. AreNext tables.now t.begun.items t.places.items stamp (next_rows (made_rows names.entry rows.now) stamp (at_places tables.now places.now)) next.now) }
+    ensures { IfOk result (λ t. AreNext tables.now places.now version stamp (is_made (made_rows names.entry rows.now))
+        (next_rows (made_rows names.entry rows.now) stamp (at_places tables.now places.now)) next.now t.begun.items t.places.items) }
 {
     let mut begun = Vec::new(alloc);
     let mut own = Vec::with_capacity(alloc, next.len())?;
@@ -198,7 +244,9 @@ fn next_tables(
         let Some(table) = next.at(i) else {
             unreachable!();
         };
-        let place = next_place(alloc, tables, places, names, rows, table, stamp, &mut begun)?;
+        let place = next_place(
+            alloc, tables, places, names, rows, version, table, stamp, &mut begun,
+        )?;
         own.push(place)?;
     }
     Ok(NextTables { begun, places: own })
@@ -239,6 +287,7 @@ fn carry_rows(
 // stand.
 fn begin_version(
     alloc: Global,
+    number: u32,
     before: &Schema,
     next: &Schema,
     tables: &[MadeTable],
@@ -249,14 +298,17 @@ fn begin_version(
     requires schema { IsLawful before.now }
     requires accepted { op_fault before.now (operator_of op.now) ≡ None }
     requires next { next.now ≡ behind before.now (operator_of op.now) }
+    requires there { AreWithin places.now (length tables.now) }
+    requires ordered { Ascends bytes_cmp (names_of (at_places tables.now places.now)) }
     requires lawful { stamp < forever }
     requires stored { (database : Database) × IsDatabase before.now database × AreStored before.now database stamp (at_places tables.now places.now) }
     ensures { (database : Database) → IsDatabase before.now database → AreStored before.now database stamp (at_places tables.now places.now)
-        → IfOk result (λ t. AreNext tables.now t.begun.items t.places.items stamp (λ name. rows_at (get (carried before.now (operator_of op.now) database) name)) next.now) }
+        → IfOk result (λ t. AreNext tables.now places.now number stamp (makes before.now (operator_of op.now))
+        (λ name. rows_at (get (carried before.now (operator_of op.now) database) name)) next.now t.begun.items t.places.items) }
 {
     next_schema_is_lawful();
     let rows = carry_rows(alloc, before, tables, places, op)?;
-    next_tables(alloc, next, tables, places, made(op), &rows, stamp)
+    next_tables(alloc, number, next, tables, places, made(op), &rows, stamp)
 }
 
 // The version that the operator makes, with copies of it and of its inverse.
@@ -278,11 +330,12 @@ fn make_version(
     })
 }
 
-/// The version that the operator makes of this schema at the stamp, and its stored tables: the made ones with the rows
-/// that are carried over the operator, the others as they stand. It costs a copy of the operator's inputs, and of what it
-/// makes. The one error is `NoMemory`, where memory runs out.
+/// The version of this number that the operator makes of this schema at the stamp, and its stored tables: the made ones with
+/// the rows that are carried over the operator, whose lifelines begin with it, the others as they stand. It costs a copy of
+/// the operator's inputs, and of what it makes. The one error is `NoMemory`, where memory runs out.
 pub(crate) fn prepare_version(
     alloc: Global,
+    number: u32,
     before: &Schema,
     tables: &[MadeTable],
     places: &[usize],
@@ -293,13 +346,15 @@ pub(crate) fn prepare_version(
     requires schema { IsLawful before.now }
     requires accepted { op_fault before.now (operator_of op.now) ≡ None }
     requires few { HasFewNodes (operator_of op.now) }
+    requires there { AreWithin places.now (length tables.now) }
+    requires ordered { Ascends bytes_cmp (names_of (at_places tables.now places.now)) }
     requires lawful { stamp < forever }
     requires stored { (database : Database) × IsDatabase before.now database × AreStored before.now database stamp (at_places tables.now places.now) }
     ensures { (database : Database) → IsDatabase before.now database → AreStored before.now database stamp (at_places tables.now places.now)
-        → IfOk result (λ e. IsEvolved tables.now before.now database stamp (operator_of op.now) (operators_of inverse.now) (version_of e.version) e.tables.begun.items e.tables.places.items) }
+        → IfOk result (λ e. IsEvolved tables.now places.now number before.now database stamp (operator_of op.now) (operators_of inverse.now) (version_of e.version) e.tables.begun.items e.tables.places.items) }
 {
     let schema = next_schema(alloc, before, op)?;
-    let tables = begin_version(alloc, before, &schema, tables, places, stamp, op)?;
+    let tables = begin_version(alloc, number, before, &schema, tables, places, stamp, op)?;
     let version = make_version(alloc, stamp, op, inverse, schema)?;
     Ok(Evolved { version, tables })
 }

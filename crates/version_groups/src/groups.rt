@@ -1,14 +1,18 @@
 use crate::changing::{Changes, install_tables, prepare_tables};
+use crate::ending::end_consumed;
 use crate::evolving::{Evolved, prepare_version};
-use crate::made_tables::{MadeTable, find_stored};
+use crate::made_tables::{MadeTable, find_stored, find_table};
 use crate::next::{Next, Step};
+use crate::restoring::restored_tables;
+use crate::sizes::SizeLine;
 use history_store::{Prepared, StoredTable};
 use prima_base::{Name, NoMemory};
 use schema_catalog::Schema;
-use smo_ops::{Body, Change, Command, Op, Version, Versions, check_counts};
+use smo_ops::{Body, Change, Command, Op, Version, Versions, check_counts, made};
 use std::alloc::Global;
 use std::marker::Model;
 use std::mem;
+use std::vec::IntoIter;
 
 /// The versions of an archive, and for each version its stored tables. A table that no operator makes or consumes is stored
 /// once over all its versions.
@@ -100,22 +104,29 @@ fn meet_constants(command: &Command)
 }
 
 impl Groups {
-    ghost use Rattle.std.specs.Prelude.{◌≡◌, ◌+◌, ◌<◌, ◌≤◌, ◌^◌, ◌++◌, List, length, MatchOption, IfOk, OnOk, None};
+    ghost use Rattle.std.specs.Prelude.{◌≡◌, ◌+◌, ◌<◌, ◌≤◌, ◌^◌, ◌++◌, ◌∷◌, [], List, length, slice_index_or, MatchOption, IfOk, OnOk, None};
     ghost use Rattle.std.specs.Option.{option_copied};
+    ghost use Rattle.std.specs.Vec.Iter.{into_iter_items};
     ghost use Rattle.relations.specs.Sets.{Ascends};
     ghost use Rattle.relations.specs.Spans.{forever};
     ghost use Rattle.prima_base.specs.Order.{bytes_cmp};
     ghost use Rattle.smo_types.specs.Operators.{operator_of, operators_of};
     ghost use Rattle.smo_types.specs.Changes.{changes_of};
-    ghost use Rattle.smo_types.specs.Commands.{command_of, changing, evolving, PlainCommand};
-    ghost use Rattle.smo_meaning.specs.Accepts.{command_fault};
+    ghost use Rattle.smo_types.specs.Commands.{command_of, changing, evolving, PlainCommand, versions_of};
+    ghost use Rattle.smo_meaning.specs.Accepts.{command_fault, most_versions};
+    ghost use Rattle.smo_meaning.specs.After.{op_fault, behind, IsLawful};
+    ghost use Rattle.smo_meaning.specs.LawfulPast.{AreVersions};
     ghost use Rattle.smo_meaning.specs.LawfulValues.{BodyHolds};
-    ghost use Rattle.smo_meaning.specs.Past.{Past, beginning, no_tables, tables_from, version_at, past_with};
-    ghost use Rattle.version_groups.specs.Groups.{versions_in, table_in, newest_group, names_of};
+    ghost use Rattle.smo_meaning.specs.Past.{Past, beginning, no_tables, tables_from, newest_from, version_at, past_with};
+    ghost use Rattle.smo_meaning.specs.Sizes.{Size};
+    ghost use Rattle.version_groups.specs.Groups.{versions_in, stored_at, table_in, newest_places, newest_group, names_of};
     ghost use Rattle.version_groups.specs.Places.{at_places, AreWithin};
     ghost use Rattle.version_groups.specs.Changing.{HaveRoom};
     ghost use Rattle.version_groups.specs.Installing.{HasEarlier, HasChanges, HasVersion};
+    ghost use Rattle.version_groups.specs.Lifelines.{lifelines_of, columns_of, made_tables};
+    ghost use Rattle.version_groups.specs.Restoring.{AreRestored, stores_of, store_columns, HaveColumns};
     ghost use Rattle.version_groups.specs.Showing.{Shows};
+    ghost use Rattle.version_groups.specs.Sizes.{IsLineOf, AreLiving};
     ghost use Rattle.version_groups.specs.Room.{IsSame};
     ghost use Rattle.version_groups.specs.Steps.{IsReady, IsStep, Prepares, a_command, step_of};
 
@@ -133,6 +144,31 @@ impl Groups {
             earlier: Vec::new(alloc),
             newest: Vec::new(alloc),
         }
+    }
+
+    /// Groups of these versions, and of what is stored over each of their lifelines. The versions are those of an archive: each is
+    /// accepted behind the one before, and has the tables behind its operator. There is one stored table for each lifeline, by first
+    /// version and then name, with its lifeline's columns. The one error is `NoMemory`, where memory runs out.
+    ///
+    /// For each version it costs a look at its tables, and a search by name among those of the version before.
+    pub fn restore(
+        alloc: Global,
+        versions: Versions,
+        stores: Vec<StoredTable>,
+    ) -> Result<Groups, NoMemory>
+        requires versions { AreVersions None no_tables (versions_of versions) }
+        requires few { length versions.list.items ≤ most_versions }
+        requires stores { store_columns stores.items ≡ columns_of (lifelines_of (versions_of versions)) }
+        ensures versions { IfOk result (λ groups. groups.versions ≡ versions.list.items) }
+        ensures stores { IfOk result (λ groups. stores_of groups.stored ≡ stores.items) }
+        ensures restored { IfOk result (λ groups. AreRestored groups) }
+    {
+        let mut groups = Groups::new(alloc);
+        let mut left = stores.into_iter();
+        for version in versions.list {
+            groups.restore_version(version, &mut left)?;
+        }
+        Ok(groups)
     }
 
     /// Versions 1 to the newest. It takes no memory.
@@ -185,6 +221,40 @@ impl Groups {
             Some(places) => find_stored(&self.stored, places, name),
             None => None,
         }
+    }
+
+    /// Where a version's table stands among all that are stored, by the number of its lifeline: versions in which a table has one
+    /// number share what is stored of it. `None` exactly where there is no such version, or no such table in it. It takes no
+    /// memory.
+    pub fn place(&self, version: u32, name: &Name) -> Option<usize>
+        ensures { MatchOption result (table_in self.now version name.now ≡ None) (λ p. stored_at self.now p ≡ table_in self.now version name.now) }
+    {
+        let version = version as usize;
+        let places = if version == self.earlier.len() {
+            &self.newest
+        } else {
+            self.earlier.get(version)?
+        };
+        match find_table(&self.stored, places, name) {
+            Some((place, _)) => Some(place),
+            None => None,
+        }
+    }
+
+    /// How much is stored over a lifeline, by their number from 0 on: they stand by first version, and then by name. `None` exactly
+    /// where there are no so many. It takes no memory.
+    pub fn size(&self, i: u32) -> Option<SizeLine<'_>>
+        ensures { (past : Past) → Shows self.now past
+            → MatchOption result (length past.sizes ≤ i) (λ line. (i < length past.sizes) × ((s : Size) → IsLineOf (length past.versions) (slice_index_or past.sizes i s) line)) }
+    {
+        let table = self.stored.get(i as usize)?;
+        Some(SizeLine {
+            table: &table.name,
+            first: table.first,
+            last: table.last.unwrap_or(self.newest()),
+            keys: table.store.keys(),
+            cells: table.store.cells(),
+        })
     }
 
     /// Makes the command ready, and all the room that installing it needs. The command is accepted after the past that
@@ -243,8 +313,10 @@ impl Groups {
         install_tables(&mut self.stored, &self.newest, plans);
     }
 
-    // Puts the version and the tables that begin with it behind the others. It takes no memory.
+    // Puts the version and the tables that begin with it behind the others. The lifelines of the tables that its operator
+    // consumes, which are at most two, end with the version before. It takes no memory.
     fn install_version(&mut self, version: Version, begun: Vec<MadeTable>, places: Vec<usize>)
+        requires living { AreLiving self.old.stored (newest_places self.old) }
         requires there { AreWithin places.items (length self.old.stored + length begun.items) }
         requires ordered { Ascends bytes_cmp (names_of (at_places (self.old.stored ++ begun.items) places.items)) }
         requires room { 1 ≤ self.old.spare }
@@ -252,6 +324,8 @@ impl Groups {
         requires fits { length self.old.versions + 1 < 2 ^ 32 }
         ensures { HasVersion self.old self.new version begun.items places.items }
     {
+        let last = self.versions.list.len() as u32;
+        end_consumed(&mut self.stored, &self.newest, &version.op, last);
         put_behind(&mut self.stored, begun);
         let before = mem::replace(&mut self.newest, places);
         self.versions.list.push_reserved(version);
@@ -297,9 +371,11 @@ impl Groups {
         ensures next { (past : Past) → Shows self.old past → command_fault past (a_command stamp (evolving (operator_of op.now) (operators_of inverse.now))) ≡ None
             → IfOk result (λ next. Prepares self.new past (a_command stamp (evolving (operator_of op.now) (operators_of inverse.now))) next) }
     {
+        let number = self.newest() + 1;
         let schema = newest_schema(&self.nothing, &self.versions);
         let evolved = prepare_version(
             self.alloc,
+            number,
             schema,
             &self.stored,
             &self.newest,
@@ -314,6 +390,37 @@ impl Groups {
             lost: 0,
             step: Step::Evolved(version, tables.begun, tables.places),
         })
+    }
+
+    // Puts the version behind the others. The tables that its operator makes begin with it, over the next of the stores.
+    fn restore_version(
+        &mut self,
+        version: Version,
+        stores: &mut IntoIter<StoredTable>,
+    ) -> Result<(), NoMemory>
+        requires restored { AreRestored self.old }
+        requires schema { IsLawful (newest_from no_tables (versions_in self.old)) }
+        requires accepted { op_fault (newest_from no_tables (versions_in self.old)) (operator_of version.op) ≡ None }
+        requires tables { version.schema ≡ behind (newest_from no_tables (versions_in self.old)) (operator_of version.op) }
+        requires fits { length self.old.versions + 1 < 2 ^ 32 }
+        requires due { HaveColumns (into_iter_items stores.old) (made_tables (newest_from no_tables (versions_in self.old)) (operator_of version.op) version.schema) }
+        ensures versions { OnOk result (self.new.versions ≡ self.old.versions ++ version ∷ []) }
+        ensures restored { OnOk result (AreRestored self.new) }
+        ensures taken { OnOk result (stores_of self.new.stored ++ into_iter_items stores.new ≡ stores_of self.old.stored ++ into_iter_items stores.old) }
+    {
+        let number = self.newest() + 1;
+        let tables = restored_tables(
+            self.alloc,
+            number,
+            &version.schema,
+            &self.stored,
+            &self.newest,
+            made(&version.op),
+            stores,
+        )?;
+        self.reserve_version(tables.begun.len())?;
+        self.install_version(version, tables.begun, tables.places);
+        Ok(())
     }
 
     // Room for one version more, and for so many tables that begin with it.

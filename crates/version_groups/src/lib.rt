@@ -7,13 +7,18 @@
 
 mod changes;
 mod changing;
+mod ending;
 mod evolving;
 mod groups;
+mod known_rows;
 mod made_tables;
 mod next;
 mod overlay;
 mod ranges;
+mod restoring;
+mod sizes;
 
 pub use groups::Groups;
 pub use next::Next;
 pub use ranges::hits_are_between_the_cuts;
+pub use sizes::{SizeLine, sizes_are_of_lifelines};

@@ -7,10 +7,13 @@ ghost use Rattle.version_groups.specs.Places.{at_places, IsFound};
 use history_store::StoredTable;
 use prima_base::Name;
 
-/// A table over the versions in which no operator makes or consumes it, and its history.
+/// A table over its lifeline, the versions in which no operator makes or consumes it, and its history. Its lifeline goes from
+/// `first` to `last`: none while it lives.
 #[derive(Drop)]
 pub(crate) struct MadeTable {
     pub(crate) name: Name,
+    pub(crate) first: u32,
+    pub(crate) last: Option<u32>,
     pub(crate) store: StoredTable,
 }
 

@@ -1,11 +1,11 @@
 //! What the changes of a command make of one table, row by row over the rows that are stored.
 //!
-//! A map has the rows by which the table differs from what is stored, each with whether the table has it now; a row that
-//! is again as it is stored leaves the map. So a change costs what it comes to, whatever the table holds: an INSERT one
-//! row, and an UPDATE or DELETE the rows between two cuts, of those that are stored and of those in the map. Stored rows
-//! are lent while they are tested.
+//! What is known are the rows by which the table differs from what is stored, each with whether the table has it now; a row
+//! that is again as it is stored is known no more. So a change costs what it comes to, whatever the table holds: an INSERT
+//! one row, and an UPDATE or DELETE the rows between two cuts, or those with one value of a column, of those that are stored
+//! and of those that are known. Stored rows are lent while they are tested.
 
-ghost use Rattle.std.specs.Prelude.{◌≡◌, ◌≤◌, ◌+◌, ◌<◌, ◌++◌, ◌&&◌, ℕ, List, [], ◌∷◌, map, cond, length, Some, Bool, IfOk, OnOk, if◌then◌else◌};
+ghost use Rattle.std.specs.Prelude.{◌≡◌, ◌+◌, ◌<◌, ◌++◌, ◌&&◌, ℕ, List, [], ◌∷◌, map, cond, Some, IfOk, OnOk, if◌then◌else◌};
 ghost use Rattle.std.specs.List.{filter};
 ghost use Rattle.std.specs.Map.{lookup, keys_of};
 ghost use Rattle.std.specs.List.Sorted.{IsStrictlySortedBy};
@@ -17,34 +17,28 @@ ghost use Rattle.prima_base.specs.Order.{row_cmp, shown};
 ghost use Rattle.prima_base.specs.Columns.{AreColumns, IsRow, IsRelation};
 ghost use Rattle.prima_base.specs.declared.values.Value.{Value as OneValue};
 ghost use Rattle.cond_expr.specs.Rows.{AreLawful};
+ghost use Rattle.cond_expr.specs.AtomColumns.{columns_at};
 ghost use Rattle.cond_expr.specs.Seen.{test};
 ghost use Rattle.history_store.specs.Store.{AllBefore, relation_at};
-ghost use Rattle.history_store.specs.Cuts.{is_before, between};
 ghost use Rattle.smo_types.specs.Changes.{change_of, changes_of, sets_of};
 ghost use Rattle.smo_meaning.specs.OneRow.{Relation, meets, with_sets};
 ghost use Rattle.smo_meaning.specs.Effects.{relation_after, gained_rows};
 ghost use Rattle.smo_meaning.specs.Inserting.{relation_after_each};
 ghost use Rattle.version_groups.specs.Changing.{of_table, AreAccepted};
-ghost use Rattle.version_groups.specs.Overlay.{told, is_kept, known_hits, LeadsTo, AreHits, lost_by_now, gained_by_now};
+ghost use Rattle.version_groups.specs.Ranges.{low_cut, high_cut};
+ghost use Rattle.version_groups.specs.Overlay.{told, is_kept, LeadsTo, HaveHits, AreHits, lost_by_now, gained_by_now};
 
+use crate::known_rows::KnownRows;
 use crate::made_tables::same_name;
-use crate::ranges::{high_cut, hits_are_between_the_cuts, low_cut};
-use cond_expr::{Cond, Expr, lend_row};
+use crate::ranges::{
+    asked_column, column_asked, high_cut, hits_are_between_the_cuts, hits_have_pinned_values,
+    low_cut,
+};
+use cond_expr::{Cond, Expr};
 use history_store::{Cut, LentRows, StoredTable};
-use prima_base::{ColType, Name, NoMemory, Row, Val, Value};
+use prima_base::{ColType, Name, NoMemory, Row, Val};
 use smo_ops::{Change, OwnColumns, inserted_row, row_meets, row_with_sets};
 use std::alloc::Global;
-use std::collections::BTreeMap;
-
-// Whether no change has lost the row.
-fn is_kept(overlay: &BTreeMap<Row, bool>, row: &Row) -> bool
-    ensures { result ≡ is_kept overlay.now.entries row.now }
-{
-    match overlay.get(row) {
-        Some(there) => *there,
-        None => true,
-    }
-}
 
 // The row that is lent.
 fn owned_row(alloc: Global, values: &[Val<'_>]) -> Result<Row, NoMemory>
@@ -61,151 +55,119 @@ fn owned_row(alloc: Global, values: &[Val<'_>]) -> Result<Row, NoMemory>
 // Puts a copy of the stored row behind the hits where it meets the condition and no change has lost it.
 fn put_stored(
     alloc: Global,
-    overlay: &BTreeMap<Row, bool>,
+    overlay: &KnownRows,
     own: &OwnColumns<'_>,
     cond: &Cond,
     values: &[Val<'_>],
     hits: &mut Vec<Row>,
 ) -> Result<(), NoMemory>
     requires { AreLawful values.now }
-    ensures { OnOk result (hits.new.items ≡ hits.old.items ++ (if meets own.now (test cond.now) (map shown values.now) && is_kept overlay.now.entries (map shown values.now) then map shown values.now ∷ [] else [])) }
+    ensures { OnOk result (hits.new.items ≡ hits.old.items ++ (if meets own.now (test cond.now) (map shown values.now) && is_kept overlay.now (map shown values.now) then map shown values.now ∷ [] else [])) }
 {
     if !row_meets(alloc, own, cond, values)? {
         return Ok(());
     }
     let row = owned_row(alloc, values)?;
-    if !is_kept(overlay, &row) {
+    if !overlay.is_kept(&row) {
         return Ok(());
     }
     hits.push(row)?;
     Ok(())
 }
 
-// Copies of those of the stored rows that meet the condition and that no change has lost.
-fn stored_hits(
+// Puts copies of those of the stored rows that meet the condition and that no change has lost behind the hits.
+fn put_stored_hits(
     alloc: Global,
     rows: &mut LentRows<'_>,
-    overlay: &BTreeMap<Row, bool>,
+    overlay: &KnownRows,
     own: &OwnColumns<'_>,
     cond: &Cond,
-) -> Result<Vec<Row>, NoMemory>
-    ensures { IfOk result (λ v. v.items ≡ filter (λ row. meets own.now (test cond.now) row && is_kept overlay.now.entries row) rows.old) }
-{
-    let mut values = Vec::with_capacity(alloc, own.columns().len())?;
-    let mut hits = Vec::new(alloc);
-    for at in 0..rows.len() {
-        rows.lend(at, &mut values)?;
-        put_stored(alloc, overlay, own, cond, &values, &mut hits)?;
-    }
-    Ok(hits)
-}
-
-// Puts a copy of the row behind the hits where the table has it now and it meets the condition.
-fn put_known(
-    alloc: Global,
-    own: &OwnColumns<'_>,
-    cond: &Cond,
-    row: &Row,
-    there: bool,
     hits: &mut Vec<Row>,
 ) -> Result<(), NoMemory>
-    ensures { OnOk result (hits.new.items ≡ hits.old.items ++ (if there && meets own.now (test cond.now) row.now then row.now ∷ [] else [])) }
+    ensures { OnOk result (hits.new.items ≡ hits.old.items ++ filter (λ row. meets own.now (test cond.now) row && is_kept overlay.now row) rows.old) }
 {
-    if !there {
-        return Ok(());
+    let mut values = Vec::with_capacity(alloc, own.columns().len())?;
+    for at in 0..rows.len() {
+        rows.lend(at, &mut values)?;
+        put_stored(alloc, overlay, own, cond, &values, hits)?;
     }
-    let values = lend_row(alloc, row.values())?;
-    if !row_meets(alloc, own, cond, &values)? {
-        return Ok(());
-    }
-    hits.push(row.copy()?)?;
     Ok(())
 }
 
-// A row of these values.
-fn row_of(alloc: Global, values: &[Value]) -> Result<Row, NoMemory>
-    ensures { IfOk result (λ row. row ≡ values.now) }
-{
-    let mut copies = Vec::with_capacity(alloc, values.len())?;
-    for value in values {
-        copies.push(value.copy()?)?;
-    }
-    Ok(Row::new(alloc, copies))
-}
-
-// Puts copies of the rows in the map, from the first cut on and before the other, behind the hits where the table has
-// them now and they meet the condition.
-fn put_all_known(
-    alloc: Global,
-    overlay: &BTreeMap<Row, bool>,
+// Stored rows, lent, among which are all that meet the condition: those with the value of a column, where an index of the
+// column is kept, or else those between the cuts.
+fn lend_rows<'a>(
+    store: &'a StoredTable,
     own: &OwnColumns<'_>,
     cond: &Cond,
     from: &Cut,
     to: &Cut,
-    hits: &mut Vec<Row>,
-) -> Result<(), NoMemory>
-    ensures { OnOk result (hits.new.items ≡ hits.old.items ++ known_hits from.now to.now (meets own.now (test cond.now)) overlay.now.entries) }
+) -> LentRows<'a>
+    requires columns { AreColumns own.now }
+    requires same { store.now.columns ≡ own.now }
+    requires from { from.now ≡ low_cut (columns_at 0 own.now) (test cond.now) }
+    requires to { to.now ≡ high_cut (columns_at 0 own.now) (test cond.now) }
+    ensures { (m : ℕ) → m < forever → AllBefore store.now (m + 1) → HaveHits (meets own.now (test cond.now)) (relation_at store.now m) result }
 {
-    let first = row_of(alloc, from.values())?;
-    for (row, there) in overlay.range(first..) {
-        if !to.has_before(row) {
-            return Ok(());
+    hits_are_between_the_cuts();
+    hits_have_pinned_values();
+    store.rows_are_a_relation();
+    if let Some((column, value)) = asked_column(cond, own.atoms()) {
+        if let Some(rows) = store.rows_with(column, value) {
+            return rows;
         }
-        put_known(alloc, own, cond, row, *there, hits)?;
     }
-    Ok(())
+    store.between(from, to)
 }
 
 // The rows that the table has now and that meet the condition, in any order.
 fn find_hits(
     alloc: Global,
     store: &StoredTable,
-    overlay: &BTreeMap<Row, bool>,
+    overlay: &KnownRows,
     own: &OwnColumns<'_>,
     cond: &Cond,
 ) -> Result<Vec<Row>, NoMemory>
     requires columns { AreColumns own.now }
     requires same { store.now.columns ≡ own.now }
-    ensures { (m : ℕ) (now : Relation) → m < forever → AllBefore store.now (m + 1) → IsRelation own.now now → LeadsTo overlay.now.entries (relation_at store.now m) now
+    ensures { (m : ℕ) (now : Relation) → m < forever → AllBefore store.now (m + 1) → IsRelation own.now now → LeadsTo overlay.now (relation_at store.now m) now
         → IfOk result (λ v. AreHits (meets own.now (test cond.now)) now v.items) }
 {
     hits_are_between_the_cuts();
+    hits_have_pinned_values();
     let from = low_cut(alloc, cond, own.atoms())?;
     let to = high_cut(alloc, cond, own.atoms())?;
-    let mut rows = store.between(&from, &to);
-    let known = overlay.len();
-    let mut hits = stored_hits(alloc, &mut rows, overlay, own, cond)?;
-    put_all_known(alloc, overlay, own, cond, &from, &to, &mut hits)?;
+    let mut rows = lend_rows(store, own, cond, &from, &to);
+    let mut hits = overlay.hits(alloc, own, cond, &from, &to)?;
+    put_stored_hits(alloc, &mut rows, overlay, own, cond, &mut hits)?;
     Ok(hits)
 }
 
 // The table has the row now, or has it no more. Where it is as it is stored the map has nothing of it.
 fn set_row(
     store: &StoredTable,
-    overlay: &mut BTreeMap<Row, bool>,
+    overlay: &mut KnownRows,
     row: Row,
     there: bool,
 ) -> Result<(), NoMemory>
-    ensures { (m : ℕ) → m < forever → AllBefore store.now (m + 1) → OnOk result ((q : List OneValue) → lookup (is_at (row_cmp q)) overlay.new.entries
-        ≡ cond (is_eq (row_cmp row q)) (told (has row_cmp q (relation_at store.now m)) there) (lookup (is_at (row_cmp q)) overlay.old.entries)) }
+    ensures { (m : ℕ) → m < forever → AllBefore store.now (m + 1) → OnOk result ((q : List OneValue) → lookup (is_at (row_cmp q)) overlay.new
+        ≡ cond (is_eq (row_cmp row q)) (told (has row_cmp q (relation_at store.now m)) there) (lookup (is_at (row_cmp q)) overlay.old)) }
 {
     if there == store.holds(&row) {
-        overlay.remove(&row);
-        return Ok(());
+        return overlay.set(row, None);
     }
-    overlay.insert(row, there)?;
-    Ok(())
+    overlay.set(row, Some(there))
 }
 
 // The same of several rows.
 fn set_each(
     store: &StoredTable,
-    overlay: &mut BTreeMap<Row, bool>,
+    overlay: &mut KnownRows,
     rows: Vec<Row>,
     there: bool,
 ) -> Result<(), NoMemory>
-    ensures { (m : ℕ) → m < forever → AllBefore store.now (m + 1) → OnOk result ((q : List OneValue) → lookup (is_at (row_cmp q)) overlay.new.entries
-        ≡ cond (has row_cmp q rows.items) (told (has row_cmp q (relation_at store.now m)) there) (lookup (is_at (row_cmp q)) overlay.old.entries)) }
+    ensures { (m : ℕ) → m < forever → AllBefore store.now (m + 1) → OnOk result ((q : List OneValue) → lookup (is_at (row_cmp q)) overlay.new
+        ≡ cond (has row_cmp q rows.items) (told (has row_cmp q (relation_at store.now m)) there) (lookup (is_at (row_cmp q)) overlay.old)) }
 {
     for row in rows {
         set_row(store, overlay, row, there)?;
@@ -234,14 +196,14 @@ fn images(
 fn apply(
     alloc: Global,
     store: &StoredTable,
-    overlay: &mut BTreeMap<Row, bool>,
+    overlay: &mut KnownRows,
     own: &OwnColumns<'_>,
     change: &Change,
 ) -> Result<(), NoMemory>
     requires columns { AreColumns own.now }
     requires same { store.now.columns ≡ own.now }
-    ensures { (m : ℕ) (now : Relation) → m < forever → AllBefore store.now (m + 1) → IsRelation own.now now → LeadsTo overlay.old.entries (relation_at store.now m) now
-        → OnOk result (LeadsTo overlay.new.entries (relation_at store.now m) (relation_after own.now (change_of change.now) now)) }
+    ensures { (m : ℕ) (now : Relation) → m < forever → AllBefore store.now (m + 1) → IsRelation own.now now → LeadsTo overlay.old (relation_at store.now m) now
+        → OnOk result (LeadsTo overlay.new (relation_at store.now m) (relation_after own.now (change_of change.now) now)) }
 {
     match change {
         Change::Insert { cells, .. } => {
@@ -265,20 +227,30 @@ fn apply(
 fn apply_own(
     alloc: Global,
     store: &StoredTable,
-    overlay: &mut BTreeMap<Row, bool>,
+    overlay: &mut KnownRows,
     own: &OwnColumns<'_>,
     name: &Name,
     change: &Change,
 ) -> Result<(), NoMemory>
     requires columns { AreColumns own.now }
     requires same { store.now.columns ≡ own.now }
-    ensures { (m : ℕ) (now : Relation) → m < forever → AllBefore store.now (m + 1) → IsRelation own.now now → LeadsTo overlay.old.entries (relation_at store.now m) now
-        → OnOk result (LeadsTo overlay.new.entries (relation_at store.now m) (relation_after_each own.now (of_table name.now (change_of change.now ∷ [])) now)) }
+    ensures { (m : ℕ) (now : Relation) → m < forever → AllBefore store.now (m + 1) → IsRelation own.now now → LeadsTo overlay.old (relation_at store.now m) now
+        → OnOk result (LeadsTo overlay.new (relation_at store.now m) (relation_after_each own.now (of_table name.now (change_of change.now ∷ [])) now)) }
 {
     if !same_name(change.table(), name) {
         return Ok(());
     }
     apply(alloc, store, overlay, own, change)
+}
+
+// The first column that a change of the table asks for.
+fn first_asked(own: &OwnColumns<'_>, name: &Name, changes: &[Change]) -> Option<usize> {
+    for change in changes {
+        if let Some(column) = column_asked(own, name, change) {
+            return Some(column);
+        }
+    }
+    None
 }
 
 // What the table's changes, one after the other, make of its rows: those by which it differs from what is stored, each
@@ -289,15 +261,15 @@ fn overlay_of(
     own: &OwnColumns<'_>,
     name: &Name,
     changes: &[Change],
-) -> Result<BTreeMap<Row, bool>, NoMemory>
+) -> Result<KnownRows, NoMemory>
     requires columns { AreColumns own.now }
     requires same { store.now.columns ≡ own.now }
     requires accepted { AreAccepted own.now (of_table name.now (changes_of changes.now)) }
     ensures { (m : ℕ) → m < forever → AllBefore store.now (m + 1)
-        → IfOk result (λ o. LeadsTo o.entries (relation_at store.now m) (relation_after_each own.now (of_table name.now (changes_of changes.now)) (relation_at store.now m))) }
+        → IfOk result (λ o. LeadsTo o (relation_at store.now m) (relation_after_each own.now (of_table name.now (changes_of changes.now)) (relation_at store.now m))) }
 {
     store.rows_are_a_relation();
-    let mut overlay = BTreeMap::new(alloc);
+    let mut overlay = KnownRows::new(alloc, first_asked(own, name, changes));
     for change in changes {
         apply_own(alloc, store, &mut overlay, own, name, change)?;
     }
@@ -325,15 +297,15 @@ fn put_row(
 // The rows of the map that are lost and those that are gained.
 fn lost_and_gained_by_now(
     alloc: Global,
-    overlay: BTreeMap<Row, bool>,
+    overlay: KnownRows,
 ) -> Result<(Vec<Row>, Vec<Row>), NoMemory>
-    ensures lost { IfOk result (λ (lost, _gained). lost.items ≡ lost_by_now overlay.entries) }
-    ensures gained { IfOk result (λ (_lost, gained). gained.items ≡ gained_by_now overlay.entries) }
-    ensures ordered { IsStrictlySortedBy row_cmp (keys_of overlay.entries) }
+    ensures lost { IfOk result (λ (lost, _gained). lost.items ≡ lost_by_now overlay) }
+    ensures gained { IfOk result (λ (_lost, gained). gained.items ≡ gained_by_now overlay) }
+    ensures ordered { IsStrictlySortedBy row_cmp (keys_of overlay) }
 {
     let mut lost = Vec::new(alloc);
     let mut gained = Vec::new(alloc);
-    for (row, there) in overlay {
+    for (row, there) in overlay.into_rows() {
         put_row(row, there, &mut lost, &mut gained)?;
     }
     Ok((lost, gained))

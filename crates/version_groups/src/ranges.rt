@@ -1,20 +1,24 @@
 //! The rows that can meet a condition.
 
-ghost use Rattle.std.specs.Prelude.{◌≡◌, ◌≤◌, ◌++◌, false, true, length, List, Bool, IfOk, [], ◌∷◌};
+ghost use Rattle.std.specs.Prelude.{◌≡◌, ◌≤◌, ◌++◌, false, true, ◌<◌, ℕ, length, List, Bool, Some, IfOk, IfSome, [], ◌∷◌, slice_index_or};
 ghost use Rattle.prima_base.specs.declared.values.Value.{Value as OneValue};
 ghost use Rattle.prima_base.specs.Columns.{Column as OwnColumn, AreColumns, IsRow};
 ghost use Rattle.cond_expr.specs.AtomColumns.{columns_at};
 ghost use Rattle.cond_expr.specs.Seen.{test};
 ghost use Rattle.cond_expr.specs.Trees.{Test};
 ghost use Rattle.cond_expr.specs.PinnedParts.{pinned};
-ghost use Rattle.cond_expr.specs.declared.exprs.CmpOp.TheVariants.{Lt, Le, Gt, Ge};
+ghost use Rattle.cond_expr.specs.declared.exprs.CmpOp.TheVariants.{Eq, Lt, Le, Gt, Ge};
+ghost use Rattle.cond_expr.specs.declared.exprs.Column.{Column as AtomColumn};
 ghost use Rattle.history_store.specs.Cuts.{is_before};
+ghost use Rattle.history_store.specs.Handing.{at_column};
 ghost use Rattle.smo_meaning.specs.OneRow.{meets};
 ghost use Rattle.version_groups.specs.Ranges.{low_cut, high_cut, with_lead, bounded};
 
+use crate::made_tables::same_name;
 use cond_expr::{CmpOp, Column, Cond, pinned};
 use history_store::Cut;
-use prima_base::{NoMemory, Value};
+use prima_base::{Name, NoMemory, Value};
+use smo_ops::{Change, OwnColumns};
 use std::alloc::Global;
 
 // The values, and this one behind them.
@@ -79,6 +83,41 @@ pub(crate) fn high_cut(alloc: Global, cond: &Cond, columns: &[Column]) -> Result
     }
     Ok(Cut::behind(values))
 }
+
+/// The first column that the condition pins to a constant, and the constant, where that is not the first of all: the rows
+/// that begin with a value are found by the cuts. It takes no memory.
+pub(crate) fn asked_column<'c>(cond: &'c Cond, columns: &[Column]) -> Option<(usize, &'c Value)>
+    ensures { IfSome result (λ (k, value). (k < length columns.now) × ((d : AtomColumn) → pinned Eq (slice_index_or columns.now k d) (test cond.now) ≡ Some value.now)) }
+{
+    for (k, column) in columns.iter().enumerate() {
+        if let Some(value) = pinned(cond, CmpOp::Eq, column) {
+            return if k == 0 { None } else { Some((k, value)) };
+        }
+    }
+    None
+}
+
+/// The column whose index finding the rows of the change asks for, where it is of the table. It takes no memory.
+pub(crate) fn column_asked(own: &OwnColumns<'_>, name: &Name, change: &Change) -> Option<usize>
+    ensures { IfSome result (λ k. k < length own.now) }
+{
+    if !same_name(change.table(), name) {
+        return None;
+    }
+    let (Change::Update { cond, .. } | Change::Delete { cond, .. }) = change else {
+        return None;
+    };
+    match asked_column(cond, own.atoms()) {
+        Some((column, _)) => Some(column),
+        None => None,
+    }
+}
+
+/// A row that meets the condition has the constant to which a column is pinned.
+pub fn hits_have_pinned_values()
+    ensures { (its : List OwnColumn) (t : Test) (row : List OneValue) (k : ℕ) (v : OneValue) → AreColumns its → IsRow its row → meets its t row ≡ true
+        → k < length (columns_at 0 its) → ((d : AtomColumn) → pinned Eq (slice_index_or (columns_at 0 its) k d) t ≡ Some v) → at_column k row ≡ v ∷ [] }
+{}
 
 /// A row that meets the condition is between the cuts, which have no more values than there are columns.
 pub fn hits_are_between_the_cuts()

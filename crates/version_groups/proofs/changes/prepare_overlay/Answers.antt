@@ -1,15 +1,15 @@
 use Rattle.std.proofs.Common.{◌≡◌, ◌+◌, ◌∙◌, sym, ap, subst, length, arith}
 use Rattle.relations.specs.Sets.{In}
 use Rattle.prima_base.specs.Columns.{IsRelation}
-use Rattle.history_store.specs.Change.{changed}
-use Rattle.history_store.specs.Store.{AllBefore, relation_at}
+use Rattle.history_store.specs.Change.{changed, rows_along}
+use Rattle.history_store.specs.Store.{Store, AllBefore, relation_at}
 use Rattle.smo_types.specs.Changes.{changes_of}
 use Rattle.smo_meaning.specs.Effects.{gained_rows}
 use Rattle.smo_meaning.specs.Inserting.{relation_after_each}
 use Rattle.smo_meaning.specs.OneRow.{Relation}
 use Rattle.version_groups.specs.Changing.{of_table}
 use Rattle.version_groups.proofs.Applying.{all_later, gains_new, kept_each}
-use Rattle.version_groups.proofs.Becoming.{along_length}
+use Rattle.version_groups.proofs.Becoming.{same_relation, along_length}
 use Rattle.version_groups.proofs.Differences.{apart_relation, apart_in, leads_to}
 use Rattle.version_groups.proofs.changes.prepare_overlay.Goals as goal
 
@@ -62,12 +62,16 @@ returns-clause-change c =
     let lost : c.deref.result.now ≡ gained_rows new old = c.deref.ensures.value ∙ c.in_ok-lost.ensures.lost c.args.stamp c.requires.lawful later in
     let gained : c.deref-2.result.now ≡ gained_rows old new = c.deref-2.ensures.value ∙ c.in_ok-lost.ensures.gained c.args.stamp c.requires.lawful later in
     let o : IsRelation c.args.columns.now old = subst (λ columns. IsRelation columns old) c.requires.same (c.rows_are_a_relation.ensures c.args.stamp c.requires.lawful later) in
+    let readied = c.prepare_change.new.self in
+    let still : relation_at readied c.args.stamp ≡ old = same_relation s readied readied.spare c.prepare_change.ensures.same c.args.stamp in
     record {
       at = c.in_ok-prepared.ensures.stamp;
       fits = c.in_ok-prepared.ensures.fits;
       room = c.in_ok-prepared.ensures.room;
       leads = c.in_ok-prepared.ensures.leads ∙ ap (λ (rows : Relation). changed old rows c.deref-2.result.now) lost ∙ ap (changed old (gained_rows new old)) gained
           ∙ leads_to c.args.columns.now old new (kept_each c.args.columns.now its old c.requires.columns c.requires.accepted o);
+      lost = ap (λ (u : Store). rows_along c.in_ok-prepared.prepared.lost c.args.stamp u.cells) c.prepare_change.ensures.same ∙ c.in_ok-prepared.ensures.lost ∙ lost ∙ ap (gained_rows new) (sym still);
+      gained = c.in_ok-prepared.ensures.gained ∙ gained ∙ ap (λ (rows : Relation). gained_rows rows new) (sym still);
     }
 
 pub returns-clause-gained : goal.returns-clause-gained

@@ -1,4 +1,4 @@
-use Rattle.std.proofs.Common.{◌≡◌, ◌<◌, ◌+◌, ◌∙◌, [], List, length, get_or, rules, sym, subst, arith}
+use Rattle.std.proofs.Common.{◌≡◌, ◌<◌, ◌+◌, ◌∙◌, [], List, length, get_or, refl, rules, sym, subst, arith, get_or-set_other}
 use Rattle.std.specs.Prelude.{Option}
 use Rattle.std.proofs.lemmas.Grind.{common_steps}
 use Rattle.std.proofs.lemmas.List.{nil_from_length}
@@ -6,10 +6,11 @@ use Rattle.std.proofs.Math.ListN.{set}
 use Rattle.std.specs.Vec.Iter.{into_iter_items}
 use Rattle.history_store.specs.Change.{Plan}
 use Rattle.version_groups.specs.declared.made_tables.MadeTable.{MadeTable}
+use Rattle.relations.specs.Sets.{In}
 use Rattle.version_groups.specs.Becoming.{HasRoom}
 use Rattle.version_groups.specs.Places.{at_places}
 use Rattle.version_groups.proofs.MadeBy.{none_by, one_by, among_at}
-use Rattle.version_groups.proofs.Places.{at_count, at_get, at_set, place_within, places_within, apart_by_names}
+use Rattle.version_groups.proofs.Places.{at_count, at_get, at_set, place_in, place_within, places_within, apart_by_names}
 use Rattle.version_groups.proofs.TablesInTurn.{MadeTo, none_made, one_made, next_left, no_more, room_before}
 use Rattle.version_groups.proofs.changing.install_tables.Goals as goal
 
@@ -52,6 +53,7 @@ loop-plan-init c = record {
   within = omega arith;
   made = none_made (at_places c.args.tables.now.items c.args.places.now) c.args.plans.items;
   each = none_by c.args.plans.items c.args.tables.now.items;
+  others = λ p d n. refl;
 }
 
 pub loop-plan-preserved : goal.loop-plan-preserved
@@ -80,6 +82,7 @@ loop-plan-preserved c =
           (one_made (at_places c.args.tables.now.items places) (at_places all places) c.args.plans.items i c.loop-plan.invariant.made t u c.in-Some.plan (omega (arith, under, m)) is (next.is _) c.install_one.ensures);
       each = one_by c.args.plans.items c.args.tables.now.items all q t u c.in-Some.plan c.loop-plan.invariant.each (place_within places (length all) i 0 there under) c.index_mut.ensures.value first
           (among_at c.args.plans.items i c.in-Some.plan within (next.is _)) c.install_one.ensures;
+      others = λ p d n. get_or-set_other all q p u d (λ e. n (subst (λ j. In j places) (sym e) (place_in places i 0 under))) ∙ c.loop-plan.invariant.others p d n;
     }
 
 pub returns-clause-made : goal.returns-clause-made
@@ -91,3 +94,6 @@ returns-clause-made c =
 
 pub returns-clause-each : goal.returns-clause-each
 returns-clause-each c = c.loop-plan.invariant.each
+
+pub returns-clause-others : goal.returns-clause-others
+returns-clause-others c = c.loop-plan.invariant.others

@@ -1,5 +1,7 @@
-use Rattle.std.proofs.Common.{◌≡◌, ◌≤◌, length, drop}
+use Rattle.std.proofs.Common.{◌≡◌, ◌≤◌, ℕ, length, drop, get_or}
 use Rattle.std.specs.Vec.Iter.{into_iter_items}
+use Rattle.relations.specs.Sets.{In}
+use Rattle.version_groups.specs.declared.made_tables.MadeTable.{MadeTable}
 use Rattle.version_groups.specs.Installing.{AreMadeBy}
 use Rattle.version_groups.specs.Places.{at_places}
 use Rattle.version_groups.proofs.TablesInTurn.{MadeTo}
@@ -11,4 +13,5 @@ invariant-loop-plan l = record {
   within : l.i ≤ length l.fn.plans.items;
   made : MadeTo (at_places l.initial.tables.items l.places) (at_places l.tables.items l.places) l.fn.plans.items l.i;
   each : AreMadeBy l.fn.plans.items l.initial.tables.items l.tables.items;
+  others : (p : ℕ) → (d : MadeTable) → (In p l.places → ⊥) → get_or l.tables.items p d ≡ get_or l.initial.tables.items p d;
 }

@@ -4,7 +4,7 @@ use Rattle.smo_types.specs.Operators.{operator_of}
 use Rattle.smo_meaning.specs.After.{IsLawful}
 use Rattle.version_groups.specs.MadeRows.{made_rows}
 use Rattle.version_groups.specs.Places.{at_places}
-use Rattle.version_groups.proofs.NextTables.{fit_after, begins_after, others_after}
+use Rattle.version_groups.proofs.NextTables.{fit_after, others_after, next_evolved}
 use Rattle.version_groups.proofs.evolving.begin_version.Goals as goal
 
 pub carry_rows-requires-clause-stored : goal.carry_rows-requires-clause-stored
@@ -33,11 +33,7 @@ returns c = λ database whole stored.
     let it = made_rows c.made.result c.in_ok-rows.rows in
     let group = at_places c.args.tables.now c.args.places.now in
     IfOk-weaker c.next_tables.result _ _
-    (λ t h. record {
-      there = h.there;
-      ordered = h.ordered;
-      tables = λ name. begins_after c.args.before.now (operator_of c.args.op.now) database c.args.stamp group c.requires.schema.schema c.requires.accepted whole stored it
-          (c.made.ensures.names c.args.before.now) (c.made.ensures.second c.args.before.now) (c.in_ok-rows.ensures c.args.stamp c.requires.lawful database whole stored) c.args.next.now c.requires.next
-          name _ (h.tables name);
-    })
+    (λ t h. next_evolved c.args.before.now (operator_of c.args.op.now) database c.args.stamp group c.requires.schema.schema c.requires.accepted whole stored it
+    (c.made.ensures.names c.args.before.now) (c.made.ensures.second c.args.before.now) (c.in_ok-rows.ensures c.args.stamp c.requires.lawful database whole stored) c.args.next.now c.requires.next
+    c.args.places.now c.args.number c.args.tables.now t.begun.items t.places.items h)
     c.next_tables.ensures

@@ -1,6 +1,7 @@
 use Rattle.std.proofs.Common.{◌≡◌, ◌∙◌, false, length, sym, ap, subst}
 use Rattle.std.specs.Option.{option_copied}
 use Rattle.smo_meaning.specs.OneRow.{Relation}
+use Rattle.version_groups.specs.Becoming.{Begins}
 use Rattle.version_groups.specs.Evolving.{IsNextTable}
 use Rattle.version_groups.specs.MadeRows.{made_rows}
 use Rattle.version_groups.specs.Places.{at_places, IsFound}
@@ -20,7 +21,7 @@ returns-clause-next c =
     ap (is_name (option_copied c.args.names.second)) (sym c.name-2.ensures.value) ∙ sym c.is_name-2.ensures ∙ c.if-is_name-2.false in
     let found : IsFound tables places name c.in-Some.place c.in-Some.field-0-1.now =
     subst (λ n. IsFound tables places n c.in-Some.place c.in-Some.field-0-1.now) c.name-3.ensures.value c.in-Some.ensures in
-    subst (λ (rows : Relation). IsNextTable tables c.args.begun.now.items c.args.begun.now.items c.in-Some.place name c.args.table.now.1 c.args.stamp rows)
+    subst (λ (rows : Relation). IsNextTable tables c.args.begun.now.items c.args.begun.now.items c.in-Some.place name (Begins c.args.table.now.1 c.args.stamp rows))
     (sym (neither_made (made_rows c.args.names c.args.rows.now) c.args.stamp group name first second))
     (goes_there tables c.args.begun.now.items places c.in-Some.place name c.args.table.now.1 c.args.stamp c.in-Some.field-0-1.now found (c.requires.others first second))
 

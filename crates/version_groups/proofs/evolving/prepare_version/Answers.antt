@@ -5,6 +5,7 @@ use Rattle.smo_meaning.specs.After.{carried}
 use Rattle.smo_types.specs.Commands.{PlainVersion}
 use Rattle.smo_meaning.specs.Effects.{rows_at}
 use Rattle.smo_types.specs.Operators.{Operator, operator_of, operators_of}
+use Rattle.smo_meaning.specs.Touching.{makes}
 use Rattle.version_groups.specs.Evolving.{AreNext}
 use Rattle.version_groups.proofs.evolving.prepare_version.Goals as goal
 
@@ -16,6 +17,7 @@ returns c = λ database whole stored.
     let op = operator_of c.args.op.now in
     record {
       version = c.in_ok-version.ensures ∙ ap (a_version c.args.stamp op (operators_of c.args.inverse.now)) c.in_ok-schema.ensures;
-      tables = subst (λ (t : Tables). AreNext c.args.tables.now c.in_ok-tables.tables.begun.items c.in_ok-tables.tables.places.items c.args.stamp (λ name. rows_at (get (carried c.args.before.now op database) name)) t)
+      tables = subst (λ (t : Tables). AreNext c.args.tables.now c.args.places.now c.args.number c.args.stamp (makes c.args.before.now op) (λ name. rows_at (get (carried c.args.before.now op database) name)) t
+          c.in_ok-tables.tables.begun.items c.in_ok-tables.tables.places.items)
           c.in_ok-schema.ensures (c.in_ok-tables.ensures database whole stored);
     }

@@ -2,6 +2,7 @@ use Rattle.std.proofs.Common.{◌+◌, ◌∙◌, arith, drop, get_or, length, r
 use Rattle.std.proofs.lemmas.Bool.Decides.{nat_tests}
 use Rattle.std.proofs.lemmas.Option.{slice_get_read, slice_get_past}
 use Rattle.version_groups.proofs.NextPlaces.{found_here, found_behind, none_here, next_in_turn}
+use Rattle.version_groups.proofs.Places.{place_in}
 use Rattle.version_groups.proofs.made_tables.find_table.Goals as goal
 use Rattle.version_groups.proofs.made_tables.find_table.Goals.{in-Some+else-same_name, in_default}
 
@@ -12,7 +13,7 @@ returns-then-same_name c =
     let p = get_or places i 0 in
     let look = c.in-Some.ensures.lookup in
     found_here c.args.tables.now places (drop (i + 1) places) p c.args.name.now c.in-Some.table.now (next_in_turn c.args.tables.now places i c.args.name.now c.loop-place-test.true c.loop-place.invariant)
-    (slice_get_read c.args.tables.now (length c.args.tables.now) p c.in-Some.table.now refl look.3.0 look.1) (sym c.same_name.ensures ∙ c.if-same_name.true)
+    (slice_get_read c.args.tables.now (length c.args.tables.now) p c.in-Some.table.now refl look.3.0 look.1) (sym c.same_name.ensures ∙ c.if-same_name.true) (place_in places i 0 c.loop-place-test.true)
 
 pub loop-place-preserved : goal.loop-place-preserved
 loop-place-preserved c =

@@ -1,6 +1,6 @@
-use Rattle.std.proofs.Common.{◌≡◌, refl, sym, ap, subst, ◌∙◌}
+use Rattle.std.proofs.Common.{◌≡◌, get_or, refl, sym, ap, subst, ◌∙◌}
 use Rattle.std.specs.Prelude.{List, ℕ, length}
-use Rattle.relations.specs.Sets.{Ascends}
+use Rattle.relations.specs.Sets.{In, Ascends}
 use Rattle.prima_base.specs.Order.{bytes_cmp}
 use Rattle.version_groups.specs.declared.made_tables.MadeTable.{MadeTable}
 use Rattle.version_groups.specs.declared.groups.Groups.TheInside.{Inside}
@@ -36,4 +36,5 @@ returns c =
     let a = c.self.inside in
     let b : Inside = record a { stored = c.install_tables.new.tables } in
     let made = subst (λ (ps : List ℕ). AreMade (at_places a.stored.items ps) c.args.plans.items (at_places b.stored.items ps)) c.deref.ensures.value c.install_tables.ensures.made in
-    subst (λ (k : Kept). HasChanges k (groups_view b) c.args.plans.items) c.self.view_is (has_changes a b refl refl refl c.self.invariant c.args.plans.items made c.install_tables.ensures.each)
+    let others = subst (λ (ps : List ℕ). (p : ℕ) (d : MadeTable) → (In p ps → ⊥) → get_or b.stored.items p d ≡ get_or a.stored.items p d) c.deref.ensures.value c.install_tables.ensures.others in
+    subst (λ (k : Kept). HasChanges k (groups_view b) c.args.plans.items) c.self.view_is (has_changes a b refl refl refl c.self.invariant c.args.plans.items made c.install_tables.ensures.each others)

@@ -3,8 +3,8 @@ use Rattle.std.proofs.lemmas.List.{length-append}
 use Rattle.smo_types.specs.declared.versions.Version.{Version}
 use Rattle.smo_types.specs.Commands.{version_of}
 use Rattle.version_groups.specs.Steps.{changed, evolved, step_of, IsStep}
-use Rattle.version_groups.specs.Groups.{versions_in, group_of}
-use Rattle.version_groups.proofs.CarriedOut.{changes_made, changes_leave, version_made, have_room, is_room, group_stays}
+use Rattle.version_groups.specs.Groups.{versions_in, table_in}
+use Rattle.version_groups.proofs.CarriedOut.{changes_made, changes_leave, version_made, have_room, is_room, table_stays}
 use Rattle.version_groups.proofs.groups.Groups.install_step.Goals as goal
 
 pub install_changes-requires : goal.install_changes-requires
@@ -25,8 +25,8 @@ install_version-requires c =
     let past = c.requires.0 in
     let command = c.requires.1 in
     let is : step_of c.args.step ≡ evolved (version_of c.in-Evolved.version) c.in-Evolved.begun.items c.in-Evolved.places.items = ap step_of c.in-Evolved.is in
-    let r = is_room c.args.self.now past command.stamp command.body (version_of c.in-Evolved.version) c.in-Evolved.begun.items c.in-Evolved.places.items (subst (IsStep c.args.self.now past command.stamp command.body) is c.requires.6) in
-    record { there = r.there; ordered = r.ordered; room = r.room; beginnings = r.beginnings; fits = r.fits }
+    let r = is_room c.args.self.now past c.requires.2 command.stamp command.body (version_of c.in-Evolved.version) c.in-Evolved.begun.items c.in-Evolved.places.items (subst (IsStep c.args.self.now past command.stamp command.body) is c.requires.6) in
+    record { living = r.living; there = r.there; ordered = r.ordered; room = r.room; beginnings = r.beginnings; fits = r.fits }
 
 pub returns-in-Evolved-clause-shows : goal.returns-in-Evolved-clause-shows
 returns-in-Evolved-clause-shows c = λ past command shows accepted lawful hold ready.
@@ -46,5 +46,5 @@ pub returns-in-Evolved-clause-earlier : goal.returns-in-Evolved-clause-earlier
 returns-in-Evolved-clause-earlier c =
     let one_more : length c.install_version.new.self.versions ≡ length c.args.self.now.versions + 1 =
     ap (λ (vs : List Version). length vs) c.install_version.ensures.versions ∙ length-append c.args.self.now.versions (c.in-Evolved.version ∷ []) in
-    λ k l name. group_stays (versions_in c.install_version.new.self) k name (group_of c.args.self.now k) (group_of c.install_version.new.self k)
-    (c.install_version.ensures.groups k (omega (arith, l)))
+    λ k l name. table_stays (versions_in c.install_version.new.self) k (table_in c.args.self.now k name) (table_in c.install_version.new.self k name)
+    (c.install_version.ensures.tables k name (omega (arith, l)))

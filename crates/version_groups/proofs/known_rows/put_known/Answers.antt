@@ -2,7 +2,7 @@ use Rattle.std.specs.Prelude.{◌&&◌}
 use Rattle.cond_expr.specs.Seen.{test}
 use Rattle.smo_meaning.specs.OneRow.{meets}
 use Rattle.version_groups.proofs.OverlaySteps.{left_out, no_first}
-use Rattle.version_groups.proofs.overlay.put_known.Goals as goal
+use Rattle.version_groups.proofs.known_rows.put_known.Goals as goal
 
 pub returns-then-not-there : goal.returns-then-not-there
 returns-then-not-there c =

@@ -1,0 +1,17 @@
+use Rattle.std.proofs.Common.{◌<◌, ◌∙◌, length, refl, sym, ap, subst}
+use Rattle.std.specs.Prelude.{List}
+use Rattle.prima_base.specs.Columns.{Column}
+use Rattle.version_groups.proofs.evolving.begin_table.Goals as goal
+
+pub returns-clause-size : goal.returns-clause-size
+returns-clause-size c =
+    let of = c.in_ok-new.ensures in
+    let same = c.columns.ensures.value in
+    record {
+      name = c.in_ok-copy.ensures ∙ c.name.ensures.value;
+      first = refl;
+      last = refl;
+      keys = of.key_count;
+      count = of.lawful.width ∙ ap (λ (cs : List Column). length cs) (of.columns ∙ same);
+      written = λ f k l. of.written f k (subst (λ (cs : List Column). k < length cs) (sym same) l);
+    }
