@@ -2,3 +2,4 @@ pub mod ReferenceLists
 pub mod Placed
 pub mod ChosenViews
 pub mod PutValues
+pub mod SameLaws

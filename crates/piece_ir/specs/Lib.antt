@@ -1,3 +1,4 @@
 pub mod Shown
 pub mod Substituting
 pub mod Placing
+pub mod Sameness
