@@ -1,7 +1,7 @@
 -- One atom more.
-use Rattle.std.proofs.Common.{◌≡◌, ℕ, suc, ◌+◌, ◌<◌, Result, Ok, List, [], ◌∷◌, ◌++◌, length, get_or, take, drop, sym, ap, ◌∙◌, subst, arith, length-take}
+use Rattle.std.proofs.Common.{◌≡◌, ℕ, suc, ◌+◌, ◌<◌, Result, Ok, Err, List, [], ◌∷◌, ◌++◌, length, get_or, take, drop, sym, ap, ◌∙◌, subst, arith, length-take}
 use Rattle.std.proofs.lemmas.List.{take_more, at_drop_more}
-use Rattle.std.specs.Prelude.{Option, SomeIff}
+use Rattle.std.specs.Prelude.{Option, SomeIff, IfOk}
 use Rattle.std.specs.Result.{result_ok}
 use Rattle.prima_base.specs.declared.failures.NoMemory.{NoMemory}
 use Rattle.relations.specs.Spans.{Span}
@@ -12,6 +12,11 @@ use Rattle.version_groups.specs.Groups.{Kept, table_in}
 use Rattle.joining.specs.declared.sources.Atom.{Atom}
 use Rattle.join_exec.specs.Pieces.{reads_stored, atoms_read}
 use Rattle.join_exec.specs.Atoms.{IsReadOf, AreRead, IsReadable, AreReadable}
+
+-- what is known in any case is known of a success
+pub if_known : {X E : Type 0} (r : Result X E) {P : Type 0} → P → IfOk r (λ _. P)
+if_known (Ok x) p = p
+if_known (Err e) p = tt
 
 -- a number that could be counted on is the next
 pub one_more : (o : Option ℕ) (r : Result ℕ NoMemory) (room : Type 0) (next n : ℕ) → SomeIff o room next → o ≡ result_ok r → r ≡ Ok n → n ≡ next

@@ -48,6 +48,8 @@ fn atom_of<'a, L: Ledger>(
     requires { AreNames table.now.columns names.items }
     ensures atom { IfOk result (IsRead table.now slice number names.items) }
     ensures cost { steps.new ≤ steps.old + reads table.now names.items }
+    ensures counted { IfOk result (λ _. steps.new ≡ steps.old + reads table.now names.items) }
+    ensures rises { steps.old ≤ steps.new }
 {
     let stretches = gather(alloc, table, &names, slice, steps)?;
     let columns = read_columns(alloc, number, names)?;
@@ -71,6 +73,8 @@ fn read_atom<'a, L: Ledger>(
     requires { IsReadable (option_copied table) names.items }
     ensures atom { IfOk result (IsReadOf (option_copied table.entry) slice number names.items) }
     ensures cost { steps.new ≤ steps.old + reads_stored (option_copied table.entry) names.items }
+    ensures counted { IfOk result (λ _. steps.new ≡ steps.old + reads_stored (option_copied table.entry) names.items) }
+    ensures rises { steps.old ≤ steps.new }
 {
     match table {
         Some(table) => atom_of(alloc, table, number, names, slice, steps),
@@ -92,6 +96,8 @@ pub(crate) fn gather_atoms<'a, L: Ledger>(
     requires { AreReadable groups.now version (lent references.now) 0 tables.now }
     ensures atoms { IfOk result (λ atoms. AreRead groups.now version slice (lent references.now) 0 tables.now atoms.items) }
     ensures cost { steps.new ≤ steps.old + atoms_read groups.now version (lent references.now) 0 tables.now }
+    ensures counted { IfOk result (λ _. steps.new ≡ steps.old + atoms_read groups.now version (lent references.now) 0 tables.now) }
+    ensures rises { steps.old ≤ steps.new }
 {
     let mut atoms = Vec::new(alloc);
     let mut number: u32 = 0;

@@ -30,6 +30,8 @@ fn take_column<'a, L: Ledger>(
     ensures gathered { (slice : Span) → (names : List (List ℕ)) → IsGathered table.now slice names (parts_of stretches.old.items)
         → OnOk result (IsGathered table.now slice (names ++ name.now ∷ []) (parts_of stretches.new.items)) }
     ensures cost { steps.new ≤ steps.old + count_in (column_of table.now name.now) }
+    ensures counted { OnOk result (steps.new ≡ steps.old + count_in (column_of table.now name.now)) }
+    ensures rises { steps.old ≤ steps.new }
 {
     let Some(cells) = table.scan_column(name) else {
         unreachable!();
@@ -50,6 +52,8 @@ pub(crate) fn gather<'a, L: Ledger>(
     ensures lawful { IsStore table.now }
     ensures gathered { IfOk result (λ stretches. IsGathered table.now slice columns.now (parts_of stretches.items)) }
     ensures cost { steps.new ≤ steps.old + reads table.now columns.now }
+    ensures counted { IfOk result (λ _. steps.new ≡ steps.old + reads table.now columns.now) }
+    ensures rises { steps.old ≤ steps.new }
 {
     let mut stretches = of_keys(alloc, table.scan_keys(), slice, steps)?;
     for name in columns {

@@ -55,6 +55,8 @@ fn answer_tables<'a, L: Ledger>(
     ensures inside { (m : ℕ) → covers slice m ≡ false → IfOk result (λ rows. rows_at rows.items m ≡ []) }
     ensures lent { IfOk result (λ rows. AllStayLent (map tree outs.now) rows.items) }
     ensures cost { steps.new ≤ steps.old + atoms_read groups.now version (all_references (map tree outs.now) (test cond.now)) 0 tables.now }
+    ensures counted { IfOk result (λ _. steps.new ≡ steps.old + atoms_read groups.now version (all_references (map tree outs.now) (test cond.now)) 0 tables.now) }
+    ensures rises { steps.old ≤ steps.new }
 {
     let mut references = Vec::new(alloc);
     gather_references(&mut references, outs, cond)?;
@@ -67,9 +69,9 @@ fn answer_tables<'a, L: Ledger>(
 /// piece means over what is stored of its tables then; where the version is in force, over the database then. The texts
 /// of plain columns are lent by the tables (PRIMA 2008).
 ///
-/// The version is one of the groups, and the piece well-typed over its tables. It takes at most as many steps as there are
-/// keys of each atom, and entries of the columns that the piece names of it. The one error is `NoMemory`, where memory
-/// runs out.
+/// The version is one of the groups, and the piece well-typed over its tables. It takes as many steps as there are keys of
+/// each atom, and entries of the columns that the piece names of it, and fewer only where memory runs out, which is the one
+/// error, `NoMemory`.
 pub fn run_piece<'a, L: Ledger>(
     alloc: Global,
     groups: &'a Groups,
@@ -85,6 +87,8 @@ pub fn run_piece<'a, L: Ledger>(
     ensures inside { (m : ℕ) → covers slice m ≡ false → IfOk result (λ rows. rows_at rows.items m ≡ []) }
     ensures lent { IfOk result (λ rows. AllStayLent (out_trees (piece_of piece.now).outs) rows.items) }
     ensures cost { steps.new ≤ steps.old + piece_reads groups.now version (piece_of piece.now) }
+    ensures counted { IfOk result (λ _. steps.new ≡ steps.old + piece_reads groups.now version (piece_of piece.now)) }
+    ensures rises { steps.old ≤ steps.new }
 {
     let outs = copy_trees(alloc, &piece.outs)?;
     answer_tables(

@@ -54,6 +54,8 @@ pub(crate) fn of_keys<'a, L: Ledger>(
 ) -> Result<VecDeque<Stretch<'a>>, NoMemory>
     ensures parts { IfOk result (λ stretches. parts_of stretches.items ≡ cut slice (map key_part keys.entry)) }
     ensures cost { steps.new ≤ steps.old + length keys.entry }
+    ensures counted { IfOk result (λ _. steps.new ≡ steps.old + length keys.entry) }
+    ensures rises { steps.old ≤ steps.new }
 {
     let mut stretches = VecDeque::new(alloc);
     'keys: while let Some(key) = keys.next_key(steps) {
@@ -226,6 +228,8 @@ fn merge<'a, L: Ledger>(
 ) -> Result<VecDeque<Stretch<'a>>, NoMemory>
     ensures parts { IfOk result (λ done. parts_of done.items ≡ merged behind (parts_of stretches.entry.items) (map cell_part cells.entry)) }
     ensures cost { steps.new ≤ steps.old + length cells.entry }
+    ensures counted { IfOk result (λ _. steps.new ≡ steps.old + length cells.entry) }
+    ensures rises { steps.old ≤ steps.new }
 {
     let mut done = VecDeque::new(alloc);
     'cells: while let Some(cell) = cells.next_cell(steps) {
@@ -249,6 +253,8 @@ pub(crate) fn add_column<'a, L: Ledger>(
     ensures wide { (n : ℕ) → AreWide n (parts_of stretches.old.items) → OnOk result (AreWide (n + 1) (parts_of stretches.new.items)) }
     ensures both { (id m : ℕ) → (values : List Value) → OnOk result (Has (parts_of stretches.new.items) id values m ↔ HasBoth behind (parts_of stretches.old.items) (map cell_part cells.entry) id values m) }
     ensures cost { steps.new ≤ steps.old + length cells.entry }
+    ensures counted { OnOk result (steps.new ≡ steps.old + length cells.entry) }
+    ensures rises { steps.old ≤ steps.new }
 {
     let before = mem::replace(stretches, VecDeque::new(alloc));
     *stretches = merge(alloc, before, cells, steps)?;

@@ -22,5 +22,6 @@ loop-name-preserved g c =
       read = next_read c.args.groups.now c.args.version rs c.args.slice c.args.tables.now c.loop-name.name-index c.name-item.result c.loop-name.atoms.items c.push.new.self.items c.in_ok-atom.atom c.loop-name-test.true c.name-item.is c.loop-name.invariant.read
           (here_read c.args.groups.now c.args.version rs c.loop-name.name-index c.loop-name.number c.name-item.result _ c.in_ok-names.names.items c.loop-name.invariant.number c.table-table.ensures c.in_ok-names.ensures c.args.slice c.in_ok-atom.atom c.in_ok-atom.ensures.atom)
           c.in_ok-push.ensures.items;
-      count = omega (arith, c.read_atom.ensures.cost, c.loop-name.invariant.count, own, more);
+      count = omega (arith, c.in_ok-atom.ensures.counted, c.loop-name.invariant.count, own, more);
+      rises = omega (arith, c.read_atom.ensures.rises, c.loop-name.invariant.rises);
     }

@@ -9,5 +9,6 @@ invariant-loop-name g l = record {
   number : l.number ≡ l.name-index;
   ready : AreReadable l.groups l.version (lent l.references) l.name-index (drop l.name-index l.tables);
   read : AreRead l.groups l.version l.fn.slice (lent l.references) 0 (take l.name-index l.tables) l.atoms.items;
-  count : l.steps + atoms_read l.groups l.version (lent l.references) l.name-index (drop l.name-index l.tables) ≤ l.initial.steps + atoms_read l.groups l.version (lent l.references) 0 l.tables;
+  count : l.steps + atoms_read l.groups l.version (lent l.references) l.name-index (drop l.name-index l.tables) ≡ l.initial.steps + atoms_read l.groups l.version (lent l.references) 0 l.tables;
+  rises : l.initial.steps ≤ l.steps;
 }

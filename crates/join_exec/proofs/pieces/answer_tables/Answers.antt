@@ -1,4 +1,4 @@
-use Rattle.std.proofs.Common.{◌≤◌, ◌+◌, ◌++◌, List, map, sym, ap, ◌∙◌, subst}
+use Rattle.std.proofs.Common.{◌≡◌, ◌≤◌, ◌+◌, ◌++◌, List, map, sym, ap, ◌∙◌, subst}
 use Rattle.std.specs.Borrow.{Bor}
 use Rattle.std.proofs.lemmas.Result.{IfOk-weaker}
 use Rattle.cond_expr.specs.declared.exprs.ColRef.{ColRef}
@@ -8,6 +8,7 @@ use Rattle.plain_answers.specs.Naming.{all_references}
 use Rattle.join_exec.specs.Pieces.{atoms_read}
 use Rattle.join_exec.specs.Atoms.{AreRead, AreReadable}
 use Rattle.join_exec.proofs.AtomAnswers.{its_columns, have_atoms, are_numbered, atoms_lent, atoms_answer}
+use Rattle.join_exec.proofs.AtomSteps.{if_known}
 use Rattle.join_exec.proofs.pieces.answer_tables.Goals as goal
 
 pub gather_atoms-requires : goal.gather_atoms-requires
@@ -34,3 +35,9 @@ pub returns-clause-cost : goal.returns-clause-cost
 returns-clause-cost g c =
     let e = ap lent c.deref.ensures.value ∙ c.in_ok-gather_references.ensures ∙ ap (λ (rs : List (Bor ColRef)). lent rs ++ all_references (map tree c.args.outs.now) (test c.args.cond.now)) c.new-references.ensures.items in
     subst (λ (rs : List ColRef). c.gather_atoms.new.steps ≤ c.args.steps.now + atoms_read c.args.groups.now c.args.version rs 0 c.args.tables.now) e c.gather_atoms.ensures.cost
+
+pub returns-clause-counted : goal.returns-clause-counted
+returns-clause-counted g c =
+    let e = ap lent c.deref.ensures.value ∙ c.in_ok-gather_references.ensures ∙ ap (λ (rs : List (Bor ColRef)). lent rs ++ all_references (map tree c.args.outs.now) (test c.args.cond.now)) c.new-references.ensures.items in
+    let steps = subst (λ (rs : List ColRef). c.gather_atoms.new.steps ≡ c.args.steps.now + atoms_read c.args.groups.now c.args.version rs 0 c.args.tables.now) e c.in_ok-atoms.ensures.counted in
+    if_known c.answer_choices.result steps

@@ -1,5 +1,5 @@
 use Rattle.std.proofs.Common.{◌≤◌, ◌+◌, ℕ, List, map, ap, ◌∙◌, subst}
-use Rattle.std.proofs.lemmas.Result.{IfOk-weaker}
+use Rattle.std.proofs.lemmas.Result.{IfOk-weaker, IfOk-equal}
 use Rattle.cond_expr.specs.Trees.{Tree}
 use Rattle.cond_expr.specs.Seen.{tree}
 use Rattle.timed_choices.specs.Lending.{AllStayLent}
@@ -43,3 +43,10 @@ returns-clause-cost g c =
     let p = piece_of c.args.piece.now in
     let o = ap (map tree) c.deref-3.ensures.value ∙ c.in_ok-outs.ensures ∙ ap (λ os. out_trees (sets_of os)) c.deref.ensures.value in
     subst (λ (n : ℕ). c.answer_tables.new.steps ≤ c.args.steps.now + n) (given_reads c.args.groups.now c.args.version p c.deref-2.result.now (map tree c.deref-3.result.now) c.deref-2.ensures.value o) c.answer_tables.ensures.cost
+
+pub returns-clause-counted : goal.returns-clause-counted
+returns-clause-counted g c =
+    let p = piece_of c.args.piece.now in
+    let o = ap (map tree) c.deref-3.ensures.value ∙ c.in_ok-outs.ensures ∙ ap (λ os. out_trees (sets_of os)) c.deref.ensures.value in
+    IfOk-equal c.answer_tables.result _ _ _ c.answer_tables.ensures.counted
+    (ap (λ (n : ℕ). c.args.steps.now + n) (given_reads c.args.groups.now c.args.version p c.deref-2.result.now (map tree c.deref-3.result.now) c.deref-2.ensures.value o))

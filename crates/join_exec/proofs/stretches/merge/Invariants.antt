@@ -1,4 +1,4 @@
-use Rattle.std.proofs.Common.{◌≡◌, ◌+◌, ◌++◌, length, map}
+use Rattle.std.proofs.Common.{◌≡◌, ◌+◌, ◌≤◌, ◌++◌, length, map}
 use Rattle.join_exec.specs.Merging.{merged}
 use Rattle.join_exec.specs.Stretches.{parts_of, cell_part, behind}
 use Rattle.join_exec.proofs.stretches.merge.Given as goal
@@ -8,6 +8,7 @@ invariant-cells g l = record {
   all : parts_of l.done.items ++ merged behind (parts_of l.stretches.items) (map cell_part l.cells)
       ≡ merged behind (parts_of l.initial.stretches.items) (map cell_part l.initial.cells);
   count : l.steps + length l.cells ≡ l.initial.steps + length l.initial.cells;
+  rises : l.initial.steps ≤ l.steps;
 }
 
 abbrev pub decreases-cells : goal.decreases-cells
