@@ -1,4 +1,5 @@
 ghost use Rattle.std.specs.Prelude.{◌≡◌, ◌⊎◌, ◌+◌, ◌-◌, ◌^◌, ◌≤◌, ◌↔◌, ◌++◌, ◌∷◌, [], IsTrue, ℕ, List, length, min, Some, Err, true, false, IfOk, IfErr, OnOk};
+ghost use Rattle.relations.specs.Sets.{In};
 ghost use Rattle.prima_io.specs.Causes.{Rose};
 ghost use Rattle.disk_model.specs.Meaning.{Tells, Told};
 ghost use Rattle.disk_model.specs.Moments.{GoesOn};
@@ -16,7 +17,7 @@ ghost use Rattle.archive_state.specs.Standing.{ShowsPast, ShowsSome};
 ghost use Rattle.archive_state.specs.Asking.{IsAsked, IsExplained, TellsWayBack, ArePiecesOf};
 ghost use Rattle.piece_texts.specs.ExplainedPieces.{PlainExplained};
 ghost use Rattle.query_exec.specs.Lent.{NoneComputes, AreLentBy};
-ghost use Rattle.query_exec.specs.Reads.{reads_of};
+ghost use Rattle.query_exec.specs.Reads.{explained_read, reads_of};
 ghost use Rattle.archive_core.specs.declared.faults.CommitFault.TheVariants as fault;
 ghost use Rattle.archive_core.specs.declared.faults.MountFault.TheVariants as mounting;
 
@@ -150,7 +151,7 @@ impl<D: Disk> Archive<D> {
     }
 
     /// What a query lists over all of history, and else its first refusal in the one order, as the archive in memory answers
-    /// it (`ArchiveState::query`), and in at most as many steps. It calls no device, and may be asked behind any answer.
+    /// it (`ArchiveState::query`), in at most and at least as many steps. It calls no device, and may be asked behind any answer.
     pub fn query<'a, L: Ledger>(
         &'a self,
         book: &RuleBook,
@@ -164,6 +165,9 @@ impl<D: Disk> Archive<D> {
         ensures lent { (past : Past) → ShowsPast (standing_of self.now) past → (pieces : List PlainExplained) → ArePiecesOf (meaning_of book.now.rules.items (λ r. handles (r.vtable, r.value)) (λ r. answers (r.vtable, r.value))) past (query_of query.now) pieces → NoneComputes pieces
             → IfOk result (λ listing. AreLentBy (query_of query.now).branches listing.rows.items) }
         ensures cost { (past : Past) → ShowsPast (standing_of self.now) past → (pieces : List PlainExplained) → ArePiecesOf (meaning_of book.now.rules.items (λ r. handles (r.vtable, r.value)) (λ r. answers (r.vtable, r.value))) past (query_of query.now) pieces → steps.new ≤ steps.old + reads_of (standing_of self.now).groups pieces }
+        ensures least { (past : Past) → ShowsPast (standing_of self.now) past → (pieces : List PlainExplained) → ArePiecesOf (meaning_of book.now.rules.items (λ r. handles (r.vtable, r.value)) (λ r. answers (r.vtable, r.value))) past (query_of query.now) pieces → (e : PlainExplained) → In e pieces
+            → IfOk result (λ _. steps.old + explained_read (standing_of self.now).groups e ≤ steps.new) }
+        ensures rises { steps.old ≤ steps.new }
     {
         self.state.query(book, query, steps)
     }

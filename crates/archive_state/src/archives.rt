@@ -60,6 +60,7 @@ fn version_made(command: &Command, newest: u32) -> Option<u32>
 
 impl ArchiveState {
     ghost use Rattle.std.specs.Prelude.{◌≡◌, ◌+◌, ◌≤◌, [], None, List, IfOk};
+    ghost use Rattle.relations.specs.Sets.{In};
     ghost use Rattle.smo_types.specs.Commands.{command_of};
     ghost use Rattle.smo_meaning.specs.Accepts.{command_fault};
     ghost use Rattle.smo_meaning.specs.Past.{Past, beginning, past_with};
@@ -70,7 +71,7 @@ impl ArchiveState {
     ghost use Rattle.rewrite.specs.Books.{meaning_of, EachOf};
     ghost use Rattle.piece_texts.specs.ExplainedPieces.{PlainExplained};
     ghost use Rattle.query_exec.specs.Lent.{NoneComputes, AreLentBy};
-    ghost use Rattle.query_exec.specs.Reads.{reads_of};
+    ghost use Rattle.query_exec.specs.Reads.{explained_read, reads_of};
     ghost use Rattle.archive_state.specs.Asking.{IsAsked, IsExplained, TellsWayBack, ArePiecesOf};
 
     /// An archive that has accepted nothing. It takes no memory.
@@ -145,9 +146,10 @@ impl ArchiveState {
     /// entries those stay that meet every condition of KEEP. The book has a rule for each kind of operator.
     ///
     /// It takes at most as many steps as there are, for each of the query's pieces, which are those that `explain` tells, keys of the
-    /// piece's tables and entries of the columns that it names of them; and none where the query is refused. Where none of these
-    /// pieces computes an output, the texts of the outputs that are plain columns are lent by what the archive keeps: each row is
-    /// lent as those of one of the branches. The one other error is `NoMemory`, where memory runs out.
+    /// piece's tables and entries of the columns that it names of them, and none where the query is refused; where it lists, at least
+    /// as many as there are for any one of these pieces. Where none of them computes an output, the texts of the outputs that are plain
+    /// columns are lent by what the archive keeps: each row is lent as those of one of the branches. The one other error is `NoMemory`,
+    /// where memory runs out.
     pub fn query<'a, L: Ledger>(
         &'a self,
         book: &RuleBook,
@@ -161,6 +163,9 @@ impl ArchiveState {
         ensures lent { (past : Past) → ShowsPast self.now past → (pieces : List PlainExplained) → ArePiecesOf (meaning_of book.now.rules.items (λ r. handles (r.vtable, r.value)) (λ r. answers (r.vtable, r.value))) past (query_of query.now) pieces → NoneComputes pieces
             → IfOk result (λ listing. AreLentBy (query_of query.now).branches listing.rows.items) }
         ensures cost { (past : Past) → ShowsPast self.now past → (pieces : List PlainExplained) → ArePiecesOf (meaning_of book.now.rules.items (λ r. handles (r.vtable, r.value)) (λ r. answers (r.vtable, r.value))) past (query_of query.now) pieces → steps.new ≤ steps.old + reads_of self.now.groups pieces }
+        ensures least { (past : Past) → ShowsPast self.now past → (pieces : List PlainExplained) → ArePiecesOf (meaning_of book.now.rules.items (λ r. handles (r.vtable, r.value)) (λ r. answers (r.vtable, r.value))) past (query_of query.now) pieces → (e : PlainExplained) → In e pieces
+            → IfOk result (λ _. steps.old + explained_read self.now.groups e ≤ steps.new) }
+        ensures rises { steps.old ≤ steps.new }
     {
         ask(self.alloc, &self.groups, book, query, steps)
     }

@@ -7,7 +7,8 @@ ghost use Rattle.temporal_lang.specs.Accepted.{no_way_back, fault_of_query};
 ghost use Rattle.temporal_lang.specs.Queries.{query_of};
 ghost use Rattle.piece_texts.specs.ExplainedPieces.{PlainExplained};
 ghost use Rattle.query_exec.specs.Lent.{NoneComputes, AreLentBy};
-ghost use Rattle.query_exec.specs.Reads.{reads_of};
+ghost use Rattle.relations.specs.Sets.{In};
+ghost use Rattle.query_exec.specs.Reads.{explained_read, reads_of};
 ghost use Rattle.version_groups.specs.Showing.{Shows};
 ghost use Rattle.rewrite.specs.Books.{meaning_of, EachOf};
 ghost use Rattle.archive_state.specs.Asking.{tells_periods, ArePiecesOf, IsAsked, IsExplained, IsWrong, IsAskedSchema, IsChecked, IsReady};
@@ -120,6 +121,9 @@ pub(crate) fn ask<'a, L: Ledger>(
     ensures lent { (past : Past) → Shows groups.now past → (pieces : List PlainExplained) → ArePiecesOf (meaning_of book.now.rules.items (λ r. handles (r.vtable, r.value)) (λ r. answers (r.vtable, r.value))) past (query_of query.now) pieces → NoneComputes pieces
         → IfOk result (λ listing. AreLentBy (query_of query.now).branches listing.rows.items) }
     ensures cost { (past : Past) → Shows groups.now past → (pieces : List PlainExplained) → ArePiecesOf (meaning_of book.now.rules.items (λ r. handles (r.vtable, r.value)) (λ r. answers (r.vtable, r.value))) past (query_of query.now) pieces → steps.new ≤ steps.old + reads_of groups.now pieces }
+    ensures least { (past : Past) → Shows groups.now past → (pieces : List PlainExplained) → ArePiecesOf (meaning_of book.now.rules.items (λ r. handles (r.vtable, r.value)) (λ r. answers (r.vtable, r.value))) past (query_of query.now) pieces → (e : PlainExplained) → In e pieces
+        → IfOk result (λ _. steps.old + explained_read groups.now e ≤ steps.new) }
+    ensures rises { steps.old ≤ steps.new }
 {
     let atoms = judged(alloc, groups, query)?;
     let mut rows = answer(alloc, groups, book, &atoms, steps)?;

@@ -1,7 +1,10 @@
 -- The pieces that are not dead, of several lists; and what is read for them.
-use Rattle.std.proofs.Common.{◌≡◌, ◌+◌, ◌≤◌, ℕ, true, false, cond, List, [], ◌∷◌, ◌++◌, map, refl, sym, ap, subst, ◌∙◌, arith}
+use Rattle.std.proofs.Common.{◌≡◌, ◌+◌, ◌≤◌, ℕ, true, false, cond, List, [], ◌∷◌, ◌++◌, map, refl, sym, ap, subst, ◌∙◌, inl, inr, arith}
 use Rattle.std.specs.List.{filter}
+use Rattle.std.specs.Prelude.{◌⊎◌}
 use Rattle.std.proofs.lemmas.List.Elements.{filter-append}
+use Rattle.relations.specs.Sets.{In}
+use Rattle.relations.proofs.SetLaws.{in_append, from_map, from_flat_map}
 use Rattle.smo_types.specs.Commands.{PlainVersion}
 use Rattle.smo_meaning.specs.Past.{no_tables, tables_from}
 use Rattle.plain_answers.specs.Reading.{Read}
@@ -16,11 +19,11 @@ use Rattle.rewrite_chains.specs.Chains.{unfolded_to}
 use Rattle.period_split.specs.Splitting.{Part}
 use Rattle.join_exec.specs.Pieces.{piece_reads}
 use Rattle.query_exec.specs.declared.part_pieces.PartPieces.{PartPieces}
-use Rattle.query_exec.specs.QueryPieces.{explained_in, part_pieces, table_pieces, AreAlive, none_alive, one_dead, one_alive, alive_of, AreLeft}
+use Rattle.query_exec.specs.QueryPieces.{explained_in, part_pieces, table_pieces, AreAlive, none_alive, one_dead, one_alive, IsAlive, alive_of, AreLeft}
 use Rattle.query_exec.specs.Planned.{IsPlanned, ArePlanned, own_pieces, planned_pieces}
 use Rattle.query_exec.specs.Reads.{pieces_read, part_read, explained_read, reads_of}
 use Rattle.query_exec.specs.Totals.{total}
-use Rattle.query_exec.proofs.TotalLaws.{total_joined}
+use Rattle.query_exec.proofs.TotalLaws.{total_joined, total_member}
 
 -- those of two lists, one behind the other
 pub record Halves (versions : List PlainVersion) (xs ys alive : List PlainExplained) : Type 0 where
@@ -56,6 +59,29 @@ module _ (versions : List PlainVersion) where
   one_list (x ∷ xs) first second (one_dead e es alive d h) (one_alive f fs others n k) = absurd (n d)
   one_list (x ∷ xs) first second (one_alive e es alive n h) (one_dead f fs others d k) = absurd (n d)
   one_list (x ∷ xs) first second (one_alive e es alive n h) (one_alive f fs others m k) = ap (λ (es : List PlainExplained). x ∷ es) (one_list xs alive others h k)
+
+  -- and each piece that is not dead is in it
+  pub alive_in : (es alive : List PlainExplained) (e : PlainExplained) → AreAlive versions es alive → IsAlive versions es e → In e alive
+  alive_in es alive e none_alive h = absurd h.among
+  alive_in es alive e (one_dead x xs rest d k) h =
+      elim h.among [
+        | inl is ↦ absurd (h.alive (subst (λ (y : PlainExplained). IsDeadPiece (tables_from no_tables versions y.version) y.piece) is d))
+        | inr m ↦ alive_in xs rest e k (record { among = m; alive = h.alive })
+      ]
+  alive_in es alive e (one_alive x xs rest n k) h =
+      elim h.among [
+        | inl is ↦ inl is
+        | inr m ↦ inr (alive_in xs rest e k (record { among = m; alive = h.alive }))
+      ]
+
+  pub in_alive : (es alive : List PlainExplained) (e : PlainExplained) → AreAlive versions es alive → In e alive → IsAlive versions es e
+  in_alive es alive e none_alive m = absurd m
+  in_alive es alive e (one_dead x xs rest d k) m = (let h = in_alive xs rest e k m in record { among = inr h.among; alive = h.alive })
+  in_alive es alive e (one_alive x xs rest n k) m =
+      elim m [
+        | inl is ↦ record { among = inl is; alive = subst (λ (y : PlainExplained). ¬ IsDeadPiece (tables_from no_tables versions y.version) y.piece) is n }
+        | inr l ↦ (let h = in_alive xs rest e k l in record { among = inr h.among; alive = h.alive })
+      ]
 
   -- pieces over the version of one part
   pub living_alive : (branch atom : ℕ) (p : Part) (ps living : List PlainPiece) → AreLiving (tables_from no_tables versions p.1) ps living
@@ -143,6 +169,38 @@ module _ (kept : Kept) where
       sym (planned_read branch atom plan)
       ∙ ap (reads_of kept)
       (one_list versions (table_pieces book versions q table r branch atom parts) (planned_pieces branch atom plan) alive (planned_alive versions book q table r branch atom parts plan h) k)
+
+  -- for each piece of the table that is not dead there is a part of the plan for which as much is read
+  pub plan_least : (versions : List PlainVersion) (book : Book) (q : ℕ) (table : List ℕ) (r : Read) (branch atom : ℕ) (parts : List Part) (plan : List PartPieces)
+      → ArePlanned book versions q table r parts plan → (e : PlainExplained) → IsAlive versions (table_pieces book versions q table r branch atom parts) e
+      → (x : PartPieces) × In x plan × (explained_read kept e ≤ part_read kept x)
+  plan_least versions book q table r branch atom parts plan h e a =
+      let among = alive_in versions (table_pieces book versions q table r branch atom parts) (planned_pieces branch atom plan) e (planned_alive versions book q table r branch atom parts plan h) a in
+      let x = from_flat_map (own_pieces branch atom) e plan among in
+      let p = from_map (explained_in branch atom x.0.part) e (pieces_of x.0.pieces.items) x.2 in (
+        x.0,
+        x.1,
+        subst (λ (y : PlainExplained). explained_read kept y ≤ part_read kept x.0) p.2 (total_member (piece_reads kept x.0.part.1) (pieces_of x.0.pieces.items) p.0 p.1),
+      )
+
+  -- a piece that is not dead is still to be read, or as much was read as there is for it
+  abbrev pub IsLeftOrRead : List PlainVersion → List PlainExplained → ℕ → ℕ → PlainExplained → Type 0
+  IsLeftOrRead versions left first steps e = IsAlive versions left e ⊎ (first + explained_read kept e ≤ steps)
+
+  -- after the first of them
+  pub left_less : (versions : List PlainVersion) (xs ys : List PlainExplained) (first steps new : ℕ) (e : PlainExplained) → first ≤ steps → steps ≤ new
+      → IsLeftOrRead versions (xs ++ ys) first steps e → (IsAlive versions xs e → steps + explained_read kept e ≤ new) → IsLeftOrRead versions ys first new e
+  left_less versions xs ys first steps new e a b (inr k) here = inr (omega (arith, a, b, k))
+  left_less versions xs ys first steps new e a b (inl h) here =
+      elim (in_append e xs ys h.among) [
+        | inl m ↦ (let k = here (record { among = m; alive = h.alive }) in inr (omega (arith, a, b, k)))
+        | inr m ↦ inl (record { among = m; alive = h.alive })
+      ]
+
+  -- and at last
+  pub all_read : (versions : List PlainVersion) (first steps : ℕ) (e : PlainExplained) → IsLeftOrRead versions [] first steps e → first + explained_read kept e ≤ steps
+  all_read versions first steps e (inl h) = absurd h.among
+  all_read versions first steps e (inr k) = k
 
   -- what may still be read: for those of these pieces that are not dead
   pub record Owes (versions : List PlainVersion) (left : List PlainExplained) (steps all : ℕ) : Type 0 where

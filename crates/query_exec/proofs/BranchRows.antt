@@ -1,5 +1,5 @@
 -- What branches answer, one after the other.
-use Rattle.std.proofs.Common.{◌≡◌, ◌+◌, ◌<◌, ◌≤◌, ℕ, List, [], ◌∷◌, ◌++◌, map, length, get_or, take, drop, refl, sym, ap, subst, ◌∙◌, inl, inr, append-nil, append_assoc, arith}
+use Rattle.std.proofs.Common.{◌≡◌, ◌+◌, ◌<◌, ◌≤◌, ℕ, List, [], ◌∷◌, ◌++◌, length, get_or, take, drop, refl, sym, ap, subst, ◌∙◌, inl, inr, append-nil, append_assoc, arith}
 use Rattle.std.specs.Prelude.{◌⊎◌}
 use Rattle.std.specs.List.{flat_map}
 use Rattle.std.proofs.lemmas.List.{map-append, length-map, length-take-le}
@@ -28,9 +28,9 @@ use Rattle.piece_texts.specs.ExplainedPieces.{PlainExplained}
 use Rattle.period_split.specs.Splitting.{Part}
 use Rattle.query_exec.specs.declared.routes.Route.{Route}
 use Rattle.query_exec.specs.Accepted.{MayBranch, MayBranches}
-use Rattle.query_exec.specs.QueryPieces.{branch_pieces, branches_pieces, AreAlive}
-use Rattle.query_exec.specs.Reads.{reads_of}
-use Rattle.query_exec.proofs.AliveLaws.{Owes, owes_less}
+use Rattle.query_exec.specs.QueryPieces.{branch_pieces, branches_pieces, AreAlive, IsAlive}
+use Rattle.query_exec.specs.Reads.{explained_read, reads_of}
+use Rattle.query_exec.proofs.AliveLaws.{Owes, owes_less, IsLeftOrRead, left_less}
 use Rattle.version_groups.specs.Groups.{Kept}
 use Rattle.query_exec.proofs.ListSteps.{left_is, taken_is}
 use Rattle.query_exec.proofs.PieceRows.{joined_entries}
@@ -110,6 +110,16 @@ module _ (branches : List Branch) (i : ℕ) (b : Branch) (l : i < length branche
       subst (λ (n : ℕ). Owes kept versions (branches_pieces book versions q parts n (branches_of (drop (i + 1) branches))) new all) e
       (owes_less kept versions (branch_pieces book versions q parts (number + i) (branch_of b)) (branches_pieces book versions q parts ((number + i) + 1) (branches_of (drop (i + 1) branches))) steps all new
       (subst (λ (es : List PlainExplained). Owes kept versions es steps all) (branches_left book versions q parts (number + i)) o) h)
+
+  pub branch_left : (kept : Kept) (book : Book) (versions : List PlainVersion) (q : ℕ) (parts : List Part) (number : ℕ) (first steps new : ℕ) (e : PlainExplained) → first ≤ steps → steps ≤ new
+      → IsLeftOrRead kept versions (branches_pieces book versions q parts (number + i) (branches_of (drop i branches))) first steps e
+      → (IsAlive versions (branch_pieces book versions q parts (number + i) (branch_of b)) e → steps + explained_read kept e ≤ new)
+      → IsLeftOrRead kept versions (branches_pieces book versions q parts (number + (i + 1)) (branches_of (drop (i + 1) branches))) first new e
+  branch_left kept book versions q parts number first steps new e x y o h =
+      let s : (number + i) + 1 ≡ number + (i + 1) = omega arith in
+      subst (λ (n : ℕ). IsLeftOrRead kept versions (branches_pieces book versions q parts n (branches_of (drop (i + 1) branches))) first new e) s
+      (left_less kept versions (branch_pieces book versions q parts (number + i) (branch_of b)) (branches_pieces book versions q parts ((number + i) + 1) (branches_of (drop (i + 1) branches))) first steps new e x y
+      (subst (λ (es : List PlainExplained). IsLeftOrRead kept versions es first steps e) (branches_left book versions q parts (number + i)) o) h)
 
   pub branches_more : (book : Book) (versions : List PlainVersion) (q : ℕ) (parts : List Part)
       → branches_pieces book versions q parts 1 (branches_of (take (i + 1) branches)) ≡ branches_pieces book versions q parts 1 (branches_of (take i branches)) ++ branch_pieces book versions q parts (i + 1) (branch_of b)

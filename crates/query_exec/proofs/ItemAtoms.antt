@@ -1,5 +1,5 @@
 -- The atoms that are read of items' tables, as a join takes them.
-use Rattle.std.proofs.Common.{◌≡◌, ◌+◌, ◌<◌, ◌≤◌, ℕ, true, List, [], ◌∷◌, ◌++◌, map, length, get_or, take, drop, refl, sym, ap, subst, ◌∙◌, append_assoc, append-nil, arith}
+use Rattle.std.proofs.Common.{◌≡◌, ◌+◌, ◌<◌, ◌≤◌, ℕ, true, List, [], ◌∷◌, ◌++◌, length, get_or, take, drop, refl, sym, ap, subst, ◌∙◌, append_assoc, append-nil, arith}
 use Rattle.std.specs.Prelude.{Option, SomeIff, Result, Ok}
 use Rattle.std.specs.Result.{result_ok}
 use Rattle.std.proofs.lemmas.List.{length-map, length-take-le}
@@ -38,13 +38,13 @@ use Rattle.period_split.specs.Splitting.{Part}
 use Rattle.query_exec.specs.declared.routes.Route.{Route}
 use Rattle.query_exec.specs.Accepted.{IsRead, AreRead, MayItems}
 use Rattle.query_exec.specs.Questions.{own_read, table_read}
-use Rattle.query_exec.specs.QueryPieces.{table_pieces, items_pieces, AreAlive}
-use Rattle.query_exec.specs.Reads.{reads_of}
+use Rattle.query_exec.specs.QueryPieces.{table_pieces, items_pieces, AreAlive, IsAlive}
+use Rattle.query_exec.specs.Reads.{explained_read, reads_of}
 use Rattle.query_exec.specs.Routes.{MayBeRead}
 use Rattle.coalesce.proofs.Listed.{listed_at}
 use Rattle.query_exec.proofs.TableReads.{listed_fit, read_ascends}
 use Rattle.query_exec.proofs.RouteLaws.{from_covering}
-use Rattle.query_exec.proofs.AliveLaws.{Owes, owes_less}
+use Rattle.query_exec.proofs.AliveLaws.{Owes, owes_less, IsLeftOrRead, left_less}
 use Rattle.query_exec.proofs.BranchRows.{pushed_answers}
 use Rattle.query_exec.proofs.ListSteps.{left_is, taken_is}
 
@@ -129,6 +129,15 @@ module _ (book : Book) (versions : List PlainVersion) (q : ℕ) (parts : List Pa
   item_owes kept from i x l is steps all new o h =
       owes_less kept versions (table_pieces book versions q x.0 (own_read i rs c) branch (i + 1) parts) (items_pieces book versions q parts rs c branch (i + 1) (drop (i + 1) from)) steps all new
       (subst (λ (es : List PlainExplained). Owes kept versions es steps all) (items_left from i x l is) o) h
+
+  -- and what is left to be read of one piece
+  pub item_left : (kept : Kept) (from : List Item) (i : ℕ) (x : Item) → i < length from → x ≡ get_or from i x → (first steps new : ℕ) (e : PlainExplained) → first ≤ steps → steps ≤ new
+      → IsLeftOrRead kept versions (items_pieces book versions q parts rs c branch i (drop i from)) first steps e
+      → (IsAlive versions (table_pieces book versions q x.0 (own_read i rs c) branch (i + 1) parts) e → steps + explained_read kept e ≤ new)
+      → IsLeftOrRead kept versions (items_pieces book versions q parts rs c branch (i + 1) (drop (i + 1) from)) first new e
+  item_left kept from i x l is first steps new e a b o h =
+      left_less kept versions (table_pieces book versions q x.0 (own_read i rs c) branch (i + 1) parts) (items_pieces book versions q parts rs c branch (i + 1) (drop (i + 1) from)) first steps new e a b
+      (subst (λ (es : List PlainExplained). IsLeftOrRead kept versions es first steps e) (items_left from i x l is) o) h
 
   items_last : (i : ℕ) (from : List Item) (x : Item)
       → items_pieces book versions q parts rs c branch i (from ++ x ∷ [])

@@ -1,9 +1,8 @@
 -- What is lent stays lent, from the pieces to the answer.
-use Rattle.std.proofs.Common.{◌≡◌, ◌<◌, ◌+◌, ℕ, zero, suc, List, [], ◌∷◌, ◌++◌, map, length, get_or, take, drop, refl, sym, ap, subst, ◌∙◌, inl, inr, arith}
+use Rattle.std.proofs.Common.{◌≡◌, ◌<◌, ◌+◌, ℕ, zero, suc, List, [], ◌∷◌, ◌++◌, map, length, get_or, drop, sym, subst, inl, inr, arith}
 use Rattle.std.specs.Prelude.{◌⊎◌}
-use Rattle.std.proofs.lemmas.List.{map-append}
 use Rattle.relations.specs.Sets.{In}
-use Rattle.relations.proofs.SetLaws.{in_left, in_right, in_append}
+use Rattle.relations.proofs.SetLaws.{in_append}
 use Rattle.prima_base.specs.declared.values.Val.{Val}
 use Rattle.prima_base.specs.declared.timed_rows.TimedRow.{TimedRow}
 use Rattle.cond_expr.specs.Rows.{AreLent}
@@ -27,10 +26,10 @@ use Rattle.period_split.specs.Splitting.{Part}
 use Rattle.temporal_lang.specs.Branches.{branch_of, branches_of}
 use Rattle.temporal_lang.specs.declared.branches.Branch.{Branch}
 use Rattle.query_exec.specs.declared.part_pieces.PartPieces.{PartPieces}
-use Rattle.query_exec.specs.Lent.{ArePlain, ComputeNothing, own_piece, NoneComputes, NoneAliveComputes, AreLentBy}
+use Rattle.query_exec.specs.Lent.{ArePlain, ComputeNothing, NoneComputes, NoneAliveComputes, AreLentBy}
 use Rattle.query_exec.specs.Planned.{ArePlanned, own_pieces, planned_pieces}
 use Rattle.query_exec.specs.Questions.{own_read}
-use Rattle.query_exec.specs.QueryPieces.{explained_in, table_pieces, items_pieces, branch_pieces, branches_pieces, AreAlive}
+use Rattle.query_exec.specs.QueryPieces.{explained_in, table_pieces, items_pieces, branch_pieces, branches_pieces}
 use Rattle.query_exec.proofs.AliveLaws.{halved, one_list, planned_alive}
 use Rattle.query_exec.proofs.BranchRows.{branches_left}
 use Rattle.query_exec.proofs.ListSteps.{left_is}

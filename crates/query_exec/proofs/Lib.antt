@@ -12,3 +12,4 @@ pub mod BranchRows
 pub mod ItemAtoms
 pub mod WholeAnswers
 pub mod LentRows
+pub mod RunLaws

@@ -1,5 +1,5 @@
 -- Rows of pieces that are run one by one, at the moments of one part.
-use Rattle.std.proofs.Common.{◌≡◌, ◌+◌, ◌<◌, ℕ, true, false, List, [], ◌∷◌, ◌++◌, map, length, get_or, take, drop, sym, ap, subst, ◌∙◌, inl, inr}
+use Rattle.std.proofs.Common.{◌≡◌, ◌+◌, ◌<◌, ℕ, true, false, List, [], ◌∷◌, ◌++◌, length, get_or, take, drop, sym, ap, subst, ◌∙◌, inl, inr}
 use Rattle.std.specs.Prelude.{◌⊎◌}
 use Rattle.std.proofs.lemmas.List.{map-append}
 use Rattle.relations.specs.Sets.{In}
@@ -15,7 +15,7 @@ use Rattle.schema_catalog.specs.Tables.{Tables}
 use Rattle.schema_catalog.specs.Databases.{Database}
 use Rattle.smo_meaning.specs.OneRow.{Row, Relation}
 use Rattle.version_groups.specs.Groups.{Kept}
-use Rattle.piece_meaning.specs.Pieces.{PlainPiece, means, all_mean}
+use Rattle.piece_meaning.specs.Pieces.{means, all_mean}
 use Rattle.piece_ir.specs.Shown.{piece_of, pieces_of}
 use Rattle.piece_ir.specs.declared.pieces.Piece.{Piece}
 use Rattle.query_pieces.specs.Gathering.{IsGathered}

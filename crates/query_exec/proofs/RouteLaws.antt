@@ -1,7 +1,6 @@
 -- The parts of a slice in the order in which they are walked to.
-use Rattle.std.proofs.Common.{◌≡◌, ◌+◌, ◌<◌, ◌≤◌, ℕ, Bool, true, false, cond, List, [], ◌∷◌, ◌++◌, map, length, reverse, refl, sym, ap, subst, ◌∙◌, inl, inr, arith}
-use Rattle.std.specs.Prelude.{◌⊎◌, ◌↔◌, ◌&&◌, nat_le, nat_lt}
-use Rattle.std.specs.List.{filter}
+use Rattle.std.proofs.Common.{◌≡◌, ◌+◌, ◌<◌, ◌≤◌, ℕ, Bool, true, false, cond, List, [], ◌∷◌, ◌++◌, length, reverse, refl, sym, ap, subst, ◌∙◌, inl, inr, arith}
+use Rattle.std.specs.Prelude.{◌⊎◌, ◌↔◌, ◌&&◌, nat_lt}
 use Rattle.std.proofs.lemmas.Bool.Decides.{nat_tests}
 use Rattle.std.proofs.lemmas.List.{append-nil, reverse-append}
 use Rattle.relations.specs.Sets.{In}
@@ -16,7 +15,6 @@ use Rattle.plain_answers.specs.Reading.{Read}
 use Rattle.relations.proofs.SetLaws.{in_append, in_map, from_filter}
 use Rattle.smo_types.specs.Commands.{PlainVersion}
 use Rattle.smo_meaning.specs.InForce.{in_force}
-use Rattle.version_groups.specs.Showing.{IsInForce}
 use Rattle.temporal_lang.specs.Queries.{PlainQuery, slice_of}
 use Rattle.query_pieces.specs.Gathering.{HasMoment, IsGathered}
 use Rattle.query_pieces.proofs.Gatherings.{all_gathered}

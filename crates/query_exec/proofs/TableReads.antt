@@ -1,5 +1,5 @@
 -- What is read of a table at each moment: the meaning of the pieces that stand for it, a set of rows of lawful values.
-use Rattle.std.proofs.Common.{◌≡◌, ◌≤◌, ◌<◌, ℕ, Bool, true, false, List, [], ◌∷◌, map, length, refl, sym, ap, subst, ◌∙◌, inl, inr, arith}
+use Rattle.std.proofs.Common.{◌≡◌, ◌≤◌, ℕ, true, false, List, [], ◌∷◌, map, length, refl, sym, ap, subst, ◌∙◌, inl, inr, arith}
 use Rattle.std.specs.Prelude.{cond, Option, Some, None}
 use Rattle.std.specs.List.{filter}
 use Rattle.std.specs.FinMap.{get}
@@ -9,11 +9,10 @@ use Rattle.relations.specs.Spans.{Span}
 use Rattle.relations.specs.Timed.{Entry}
 use Rattle.relations.specs.Listing.{IsListing}
 use Rattle.relations.proofs.SetLaws.{from_set, from_map, from_filter, set_ascends}
-use Rattle.prima_base.specs.declared.values.Value.{Value}
 use Rattle.prima_base.specs.Order.{row_cmp}
 use Rattle.prima_base.specs.OrderLaws.{row_exact}
 use Rattle.prima_base.specs.Columns.{Column, IsLawful}
-use Rattle.schema_catalog.specs.Databases.{Entry as Stored, Rows, Lost, Database, IsDatabase, cell}
+use Rattle.schema_catalog.specs.Databases.{Entry as Stored, Rows, Lost, IsDatabase, cell}
 use Rattle.cond_expr.proofs.ConstantLaws.{small_number}
 use Rattle.smo_meaning.specs.Effects.{columns_of, rows_at}
 use Rattle.smo_meaning.specs.LawfulPast.{IsPast}

@@ -1,6 +1,6 @@
 -- Numbers that are added up.
-use Rattle.std.proofs.Common.{◌≡◌, ◌+◌, ◌<◌, ◌≤◌, ℕ, Bool, true, false, cond, List, [], ◌∷◌, ◌++◌, length, get_or, drop, refl, sym, ap, ◌∙◌, arith}
-use Rattle.std.proofs.lemmas.List.{drop_more}
+use Rattle.std.proofs.Common.{◌≡◌, ◌+◌, ◌≤◌, ℕ, inl, inr, List, [], ◌∷◌, ◌++◌, ap, arith}
+use Rattle.relations.specs.Sets.{In}
 use Rattle.query_exec.specs.Totals.{total}
 
 module _ {X : Type 0} (f : X → ℕ) where
@@ -8,12 +8,17 @@ module _ {X : Type 0} (f : X → ℕ) where
   total_joined [] ys = omega arith
   total_joined (x ∷ xs) ys = (let h = total_joined xs ys in omega arith)
 
-  pub total_left : (xs : List X) (i : ℕ) (x : X) → i < length xs → x ≡ get_or xs i x → total f (drop i xs) ≡ f x + total f (drop (i + 1) xs)
-  total_left xs i x l e = ap (total f) (drop_more xs i x l ∙ ap (λ (y : X). y ∷ drop (i + 1) xs) (sym e))
+  -- each of the numbers is at most their sum
+  pub total_member : (xs : List X) (x : X) → In x xs → f x ≤ total f xs
+  total_member [] x m = absurd m
+  total_member (y ∷ xs) x (inl e) = (let h : f y ≡ f x = ap f e in omega (arith, h))
+  total_member (y ∷ xs) x (inr m) = (let h = total_member xs x m in omega (arith, h))
 
--- one step more of what is counted
-pub cost_step : (new now here first rest left all : ℕ) → new ≤ now + here → here ≡ first → rest ≡ first + left → now + rest ≤ all → new + left ≤ all
-cost_step new now here first rest left all a b c d = omega arith
+-- ---- what was counted
 
-pub cost_within : (new left all : ℕ) → new + left ≤ all → new ≤ all
-cost_within new left all a = omega arith
+pub from_first : (first now new : ℕ) → first ≤ now → now ≤ new → first ≤ new
+from_first first now new a b = omega arith
+
+-- what there is for one is at most what there is for the part
+pub from_part : (n part old new : ℕ) → n ≤ part → old + part ≤ new → old + n ≤ new
+from_part n part old new a b = omega arith

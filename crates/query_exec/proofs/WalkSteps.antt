@@ -1,14 +1,14 @@
 -- Walks along the parts of a slice.
-use Rattle.std.proofs.Common.{◌≡◌, ◌+◌, ◌<◌, ◌≤◌, ℕ, true, List, [], ◌∷◌, ◌++◌, map, length, get_or, take, drop, sym, ap, subst, ◌∙◌, append_assoc, rules, arith}
+use Rattle.std.proofs.Common.{◌≡◌, ◌+◌, ◌<◌, ◌≤◌, ℕ, true, List, length, get_or, drop, sym, subst}
 use Rattle.std.specs.Prelude.{None}
 use Rattle.std.specs.FinMap.{get}
 use Rattle.relations.specs.Sets.{In}
-use Rattle.relations.specs.Spans.{Span, covers}
+use Rattle.relations.specs.Spans.{covers}
 use Rattle.version_groups.specs.Groups.{Kept, versions_in}
 use Rattle.version_groups.specs.Showing.{Shows, IsInForce}
 use Rattle.version_groups.proofs.OwnMoments.{own_version}
 use Rattle.smo_types.specs.Commands.{PlainVersion}
-use Rattle.smo_meaning.specs.Past.{Past, no_tables, tables_from, tables_of, version_at, database_at}
+use Rattle.smo_meaning.specs.Past.{Past, no_tables, tables_from, tables_of, database_at}
 use Rattle.version_ways.specs.LostNames.{lost_names}
 use Rattle.plain_answers.specs.Reading.{Read}
 use Rattle.piece_meaning.specs.Pieces.{PlainPiece, all_mean}

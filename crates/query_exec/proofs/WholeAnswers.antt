@@ -1,5 +1,5 @@
 -- A query that is not refused, over the whole slice: its tables may be read, and what is listed is its answer.
-use Rattle.std.proofs.Common.{◌≡◌, ◌+◌, ◌<◌, ◌≤◌, ℕ, true, List, [], ◌∷◌, ◌++◌, map, length, refl, sym, ap, subst, ◌∙◌, inl, inr, arith}
+use Rattle.std.proofs.Common.{◌≡◌, ◌+◌, ◌<◌, ◌≤◌, ℕ, true, List, [], ◌∷◌, refl, sym, ap, subst, ◌∙◌, inl, inr}
 use Rattle.std.specs.Prelude.{None, ◌↔◌}
 use Rattle.std.specs.FinMap.{get}
 use Rattle.relations.specs.Sets.{In}
@@ -13,7 +13,7 @@ use Rattle.cond_expr.specs.Trees.{Tree, Test}
 use Rattle.smo_types.specs.Commands.{PlainVersion}
 use Rattle.smo_meaning.specs.LawfulPast.{IsPast}
 use Rattle.smo_meaning.specs.OneRow.{Row, Relation}
-use Rattle.smo_meaning.specs.Past.{Past, no_tables, tables_from, tables_of, version_at}
+use Rattle.smo_meaning.specs.Past.{Past, tables_of, version_at}
 use Rattle.version_ways.specs.LostNames.{lost_names}
 use Rattle.version_ways.specs.Migration.{migrated}
 use Rattle.version_groups.specs.Groups.{Kept, versions_in}
@@ -23,7 +23,6 @@ use Rattle.plain_answers.specs.Branches.{Item, PlainBranch, plain}
 use Rattle.plain_answers.specs.Naming.{all_references}
 use Rattle.plain_answers.specs.Pushing.{pushed_from, pushed_reads}
 use Rattle.piece_meaning.specs.Rules.{Book, IsLawfulBook}
-use Rattle.rewrite_chains.specs.Beginnings.{IsQuestion}
 use Rattle.rewrite_chains.specs.Reading.{AreQuestions, Suffices}
 use Rattle.temporal_lang.specs.Queries.{PlainQuery, slice_of, IsLasting}
 use Rattle.temporal_lang.specs.Atoms.{branches_with_atoms}
@@ -32,7 +31,7 @@ use Rattle.query_pieces.specs.Piecewise.{asked_branches, IsAskedOf}
 use Rattle.query_pieces.proofs.ReadByPieces.{is_lasting, pushed_enough, items_kept, asked_is, answer_is}
 use Rattle.period_split.specs.Splitting.{Part, split_by}
 use Rattle.query_exec.specs.declared.routes.Route.{Route}
-use Rattle.query_exec.specs.Accepted.{IsAccepted, MayItems, MayBranch, MayBranches, IsShown}
+use Rattle.query_exec.specs.Accepted.{IsAccepted, MayItems, MayBranches}
 use Rattle.query_exec.specs.QueryPieces.{branches_pieces, all_pieces}
 use Rattle.query_exec.specs.Routes.{IsRoute}
 use Rattle.query_exec.proofs.RouteLaws.{each_lasts, covers_start, asked_of, of_asked}

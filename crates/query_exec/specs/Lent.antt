@@ -1,6 +1,6 @@
 -- Where the values of an answer are lent by the stored tables: where the pieces that are read compute nothing, in the outputs that are
 -- plain columns.
-use Rattle.std.specs.Prelude.{◌≡◌, List, [], ◌∷◌, map, ⊤}
+use Rattle.std.specs.Prelude.{List, [], ◌∷◌, map, ⊤}
 use Rattle.relations.specs.Sets.{In}
 use Rattle.prima_base.specs.declared.timed_rows.TimedRow.{TimedRow}
 use Rattle.cond_expr.specs.Trees.{Tree}

@@ -1,3 +1,4 @@
+pub mod Runs
 pub mod Totals
 pub mod Questions
 pub mod Asked

@@ -2,6 +2,7 @@
 -- what is asked of the item's table unfolds there, but for the dead.
 use Rattle.std.specs.Prelude.{◌≡◌, ℕ, ◌+◌, ◌++◌, List, [], ◌∷◌, map}
 use Rattle.std.specs.List.{filter, flat_map}
+use Rattle.relations.specs.Sets.{In}
 use Rattle.cond_expr.specs.declared.exprs.ColRef.{ColRef}
 use Rattle.cond_expr.specs.Trees.{Test}
 use Rattle.smo_types.specs.Commands.{PlainVersion}
@@ -57,6 +58,11 @@ pub data AreAlive (versions : List PlainVersion) : List PlainExplained → List 
       → AreAlive versions (e ∷ es) alive
   one_alive : (e : PlainExplained) (es alive : List PlainExplained) → ¬ IsDeadPiece (tables_from no_tables versions e.version) e.piece → AreAlive versions es alive
       → AreAlive versions (e ∷ es) (e ∷ alive)
+
+-- one of some pieces, which is not dead
+pub record IsAlive (versions : List PlainVersion) (pieces : List PlainExplained) (e : PlainExplained) : Type 0 where
+  pub among : In e pieces
+  pub alive : ¬ IsDeadPiece (tables_from no_tables versions e.version) e.piece
 
 -- the pieces of a query
 abbrev pub ArePieces : Book → List PlainVersion → PlainQuery → List PlainExplained → Type 0

@@ -1,6 +1,7 @@
 //! A query on any version, answered.
 
 ghost use Rattle.std.specs.Prelude.{◌≡◌, ◌+◌, ◌≤◌, List, IfOk, length};
+ghost use Rattle.relations.specs.Sets.{In};
 ghost use Rattle.relations.specs.Listing.{IsListing};
 ghost use Rattle.prima_base.specs.Keeping.{kept};
 ghost use Rattle.prima_base.specs.Order.{row_cmp};
@@ -15,7 +16,7 @@ ghost use Rattle.query_exec.specs.Accepted.{IsAccepted, IsShown};
 ghost use Rattle.piece_texts.specs.ExplainedPieces.{PlainExplained};
 ghost use Rattle.query_exec.specs.Lent.{NoneComputes, AreLentBy};
 ghost use Rattle.query_exec.specs.QueryPieces.{ArePieces};
-ghost use Rattle.query_exec.specs.Reads.{reads_of};
+ghost use Rattle.query_exec.specs.Reads.{explained_read, reads_of};
 
 use crate::branches::answer_branches;
 use crate::routes::{ends_in_time, route_of};
@@ -33,8 +34,9 @@ use version_groups::Groups;
 ///
 /// A table's pieces at a version are made from those at its neighbour, so each rule is asked once a version and piece. It takes at
 /// most as many steps as there are, for each of the query's pieces, keys of the piece's tables and entries of the columns that it
-/// names of them: just the pieces that `explain` answers. Where none of these computes an output, the texts of the outputs that are
-/// plain columns are lent by the stored tables, as those of one of the branches. The one error is `NoMemory`, where memory runs out.
+/// names of them: just the pieces that `explain` answers; and where it answers rows, at least as many as there are for any one of them.
+/// Where none of these computes an output, the texts of the outputs that are plain columns are lent by the stored tables, as those of
+/// one of the branches. The one error is `NoMemory`, where memory runs out.
 pub fn answer<'a, L: Ledger>(
     alloc: Global,
     groups: &'a Groups,
@@ -52,6 +54,9 @@ pub fn answer<'a, L: Ledger>(
     ensures lent { (pieces : List PlainExplained) → ArePieces (meaning_of book.now.rules.items (λ r. handles (r.vtable, r.value)) (λ r. answers (r.vtable, r.value))) (versions_in groups.now) (query_of query.now) pieces → NoneComputes pieces
         → IfOk result (λ rows. AreLentBy (query_of query.now).branches rows.items) }
     ensures cost { (pieces : List PlainExplained) → ArePieces (meaning_of book.now.rules.items (λ r. handles (r.vtable, r.value)) (λ r. answers (r.vtable, r.value))) (versions_in groups.now) (query_of query.now) pieces → steps.new ≤ steps.old + reads_of groups.now pieces }
+    ensures least { (pieces : List PlainExplained) → ArePieces (meaning_of book.now.rules.items (λ r. handles (r.vtable, r.value)) (λ r. answers (r.vtable, r.value))) (versions_in groups.now) (query_of query.now) pieces → (e : PlainExplained) → In e pieces
+        → IfOk result (λ _. steps.old + explained_read groups.now e ≤ steps.new) }
+    ensures rises { steps.old ≤ steps.new }
 {
     book.known();
     let slice = slice(query);

@@ -18,11 +18,11 @@ ghost use Rattle.rewrite.specs.Books.{meaning_of, EachOf};
 ghost use Rattle.query_exec.specs.Accepted.{MayItems, MayBranch, MayBranches, AreRead};
 ghost use Rattle.query_exec.specs.Routes.{IsRoute};
 ghost use Rattle.piece_texts.specs.ExplainedPieces.{PlainExplained};
-ghost use Rattle.query_exec.specs.QueryPieces.{items_pieces, branch_pieces, branches_pieces, AreAlive};
+ghost use Rattle.query_exec.specs.QueryPieces.{items_pieces, branch_pieces, branches_pieces, AreAlive, IsAlive};
 ghost use Rattle.timed_choices.specs.Lending.{AllStayLent};
 ghost use Rattle.joining.specs.Sources.{AtomsLent};
 ghost use Rattle.query_exec.specs.Lent.{NoneAliveComputes, AreLentBy};
-ghost use Rattle.query_exec.specs.Reads.{reads_of};
+ghost use Rattle.query_exec.specs.Reads.{explained_read, reads_of};
 
 use crate::items::read_item;
 use crate::routes::Route;
@@ -58,6 +58,9 @@ fn read_items<'a, L: Ledger>(
         → IfOk result (λ atoms. AtomsLent atoms.items) }
     ensures cost { (branch : ℕ) → (alive : List PlainExplained)
         → AreAlive (versions_in groups.now) (items_pieces (meaning_of book.now.rules.items (λ r. handles (r.vtable, r.value)) (λ r. answers (r.vtable, r.value))) (versions_in groups.now) route.now.asked route.now.parts.items (lent references.now) (test cond.now) branch 0 from.now) alive → steps.new ≤ steps.old + reads_of groups.now alive }
+    ensures least { (branch : ℕ) → (e : PlainExplained) → IsAlive (versions_in groups.now) (items_pieces (meaning_of book.now.rules.items (λ r. handles (r.vtable, r.value)) (λ r. answers (r.vtable, r.value))) (versions_in groups.now) route.now.asked route.now.parts.items (lent references.now) (test cond.now) branch 0 from.now) e
+        → IfOk result (λ _. steps.old + explained_read groups.now e ≤ steps.new) }
+    ensures rises { steps.old ≤ steps.new }
 {
     let mut atoms = Vec::new(alloc);
     let mut place: u32 = 0;
@@ -93,6 +96,9 @@ fn answer_branch<'a, L: Ledger>(
         → IfOk result (λ rows. AllStayLent (branch_of branch.now).outs rows.items) }
     ensures cost { (number : ℕ) → (alive : List PlainExplained)
         → AreAlive (versions_in groups.now) (branch_pieces (meaning_of book.now.rules.items (λ r. handles (r.vtable, r.value)) (λ r. answers (r.vtable, r.value))) (versions_in groups.now) route.now.asked route.now.parts.items number (branch_of branch.now)) alive → steps.new ≤ steps.old + reads_of groups.now alive }
+    ensures least { (number : ℕ) → (e : PlainExplained) → IsAlive (versions_in groups.now) (branch_pieces (meaning_of book.now.rules.items (λ r. handles (r.vtable, r.value)) (λ r. answers (r.vtable, r.value))) (versions_in groups.now) route.now.asked route.now.parts.items number (branch_of branch.now)) e
+        → IfOk result (λ _. steps.old + explained_read groups.now e ≤ steps.new) }
+    ensures rises { steps.old ≤ steps.new }
 {
     let mut references = Vec::new(alloc);
     gather_references(&mut references, &branch.outs, &branch.cond)?;
@@ -131,6 +137,9 @@ pub(crate) fn answer_branches<'a, L: Ledger>(
         → IfOk result (λ rows. AreLentBy (branches_of branches.now) rows.items) }
     ensures cost { (number : ℕ) → (alive : List PlainExplained)
         → AreAlive (versions_in groups.now) (branches_pieces (meaning_of book.now.rules.items (λ r. handles (r.vtable, r.value)) (λ r. answers (r.vtable, r.value))) (versions_in groups.now) route.now.asked route.now.parts.items number (branches_of branches.now)) alive → steps.new ≤ steps.old + reads_of groups.now alive }
+    ensures least { (number : ℕ) → (e : PlainExplained) → IsAlive (versions_in groups.now) (branches_pieces (meaning_of book.now.rules.items (λ r. handles (r.vtable, r.value)) (λ r. answers (r.vtable, r.value))) (versions_in groups.now) route.now.asked route.now.parts.items number (branches_of branches.now)) e
+        → IfOk result (λ _. steps.old + explained_read groups.now e ≤ steps.new) }
+    ensures rises { steps.old ≤ steps.new }
 {
     let mut rows = Vec::new(alloc);
     for branch in branches {

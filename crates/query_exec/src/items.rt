@@ -14,11 +14,11 @@ ghost use Rattle.rewrite.specs.Books.{meaning_of, EachOf};
 ghost use Rattle.query_exec.specs.Accepted.{IsRead};
 ghost use Rattle.query_exec.specs.Questions.{own_read};
 ghost use Rattle.piece_texts.specs.ExplainedPieces.{PlainExplained};
-ghost use Rattle.query_exec.specs.QueryPieces.{table_pieces, AreAlive};
+ghost use Rattle.query_exec.specs.QueryPieces.{table_pieces, AreAlive, IsAlive};
 ghost use Rattle.timed_choices.specs.Lending.{AllLent};
 ghost use Rattle.query_exec.specs.Lent.{NoneAliveComputes};
 ghost use Rattle.query_exec.specs.Routes.{IsRoute, MayBeRead};
-ghost use Rattle.query_exec.specs.Reads.{reads_of};
+ghost use Rattle.query_exec.specs.Reads.{explained_read, reads_of};
 
 use crate::questions::question_of;
 use crate::routes::Route;
@@ -110,6 +110,9 @@ pub(crate) fn read_item<'a, L: Ledger>(
     ensures cost { (branch : ℕ) → (atom : ℕ) → (alive : List PlainExplained)
         → AreAlive (versions_in groups.now) (table_pieces (meaning_of book.now.rules.items (λ r. handles (r.vtable, r.value)) (λ r. answers (r.vtable, r.value))) (versions_in groups.now) route.now.asked table.now (own_read place (lent references.now) (test cond.now)) branch atom route.now.parts.items) alive
         → steps.new ≤ steps.old + reads_of groups.now alive }
+    ensures least { (branch : ℕ) → (atom : ℕ) → (e : PlainExplained) → IsAlive (versions_in groups.now) (table_pieces (meaning_of book.now.rules.items (λ r. handles (r.vtable, r.value)) (λ r. answers (r.vtable, r.value))) (versions_in groups.now) route.now.asked table.now (own_read place (lent references.now) (test cond.now)) branch atom route.now.parts.items) e
+        → IfOk result (λ _. steps.old + explained_read groups.now e ≤ steps.new) }
+    ensures rises { steps.old ≤ steps.new }
 {
     let question = question_of(alloc, references, cond, place)?;
     let columns = named_columns(alloc, place, schema, table, &question.names)?;

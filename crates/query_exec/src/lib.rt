@@ -6,14 +6,17 @@ mod answers;
 mod branches;
 mod explaining;
 mod items;
+mod laws;
 mod losses;
 mod part_pieces;
 mod pieces;
 mod questions;
 mod routes;
+mod runs;
 mod tables;
 mod walks;
 
 pub use answers::answer;
 pub use explaining::explain;
+pub use laws::a_run_is_read_as_each_of_its_parts;
 pub use losses::first_loss;

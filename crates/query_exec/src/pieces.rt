@@ -1,17 +1,15 @@
-//! Pieces that stand at a version, run over its stored tables.
+//! Pieces that stand at a version, run over its stored tables, also at moments of other versions that share these.
 
 ghost use Rattle.std.specs.Prelude.{◌≡◌, ℕ, ◌+◌, ◌≤◌, ◌++◌, List, [], ◌∷◌, true, false, IfOk, OnOk, length};
 ghost use Rattle.relations.specs.Spans.{Span, covers};
 ghost use Rattle.prima_base.specs.Timed.{rows_at, entries_of};
 ghost use Rattle.smo_meaning.specs.OneRow.{Relation};
-ghost use Rattle.smo_meaning.specs.Past.{Past, tables_of, database_at};
-ghost use Rattle.version_groups.specs.Groups.{versions_in};
-ghost use Rattle.version_groups.specs.Showing.{Shows, IsInForce};
-ghost use Rattle.piece_meaning.specs.Pieces.{all_mean};
+ghost use Rattle.smo_meaning.specs.Past.{Past, tables_of};
+ghost use Rattle.version_groups.specs.Showing.{Shows};
 ghost use Rattle.piece_meaning.specs.Typed.{AllTyped};
 ghost use Rattle.piece_ir.specs.Shown.{pieces_of};
 ghost use Rattle.query_pieces.specs.Gathering.{IsGathered};
-ghost use Rattle.query_exec.specs.Routes.{IsOwn};
+ghost use Rattle.query_exec.specs.Runs.{IsMeant};
 ghost use Rattle.timed_choices.specs.Lending.{AllLent};
 ghost use Rattle.query_exec.specs.Lent.{ComputeNothing};
 ghost use Rattle.query_exec.specs.Reads.{pieces_read};
@@ -33,11 +31,13 @@ fn run_pieces<'a, L: Ledger>(
     steps: &mut Steps<L>,
 ) -> Result<Vec<TimedRow<'a>>, NoMemory>
     requires { (past : Past) × Shows groups.now past × (version ≤ length past.versions) × AllTyped (tables_of past version) (pieces_of pieces.now) }
-    ensures rows { (past : Past) → Shows groups.now past → (m : ℕ) → covers period m ≡ true → IsInForce past.versions version m
-        → IfOk result (λ rows. rows_at rows.items m ≡ all_mean (tables_of past version) (database_at past m) (pieces_of pieces.now)) }
+    ensures rows { (past : Past) → Shows groups.now past → (m : ℕ) → covers period m ≡ true → (meant : Relation) → IsMeant groups.now past version (pieces_of pieces.now) m meant
+        → IfOk result (λ rows. rows_at rows.items m ≡ meant) }
     ensures inside { (m : ℕ) → covers period m ≡ false → IfOk result (λ rows. rows_at rows.items m ≡ []) }
     ensures lent { ComputeNothing (pieces_of pieces.now) → IfOk result (λ rows. AllLent rows.items) }
     ensures cost { steps.new ≤ steps.old + pieces_read groups.now version (pieces_of pieces.now) }
+    ensures counted { IfOk result (λ _. steps.new ≡ steps.old + pieces_read groups.now version (pieces_of pieces.now)) }
+    ensures rises { steps.old ≤ steps.new }
 {
     let mut rows = Vec::new(alloc);
     for piece in pieces {
@@ -47,24 +47,26 @@ fn run_pieces<'a, L: Ledger>(
     Ok(rows)
 }
 
-/// Puts what the pieces mean at the moments of a part, over the version that is in force there, behind the rows of other parts.
-pub(crate) fn read_part<'a, L: Ledger>(
+/// Puts what the pieces mean at the moments of a run, each over the version that is in force then, behind the rows of other runs. The
+/// version that is read shares their tables with each of these.
+pub(crate) fn read_run<'a, L: Ledger>(
     alloc: Global,
     groups: &'a Groups,
-    part: (Period, u32),
+    run: (Period, u32),
     pieces: &[Piece],
     rows: &mut Vec<TimedRow<'a>>,
     steps: &mut Steps<L>,
 ) -> Result<(), NoMemory>
-    requires shows { (past : Past) × Shows groups.now past × AllTyped (tables_of past part.1) (pieces_of pieces.now) }
-    requires own { IsOwn (versions_in groups.now) part }
+    requires { (past : Past) × Shows groups.now past × (run.1 ≤ length past.versions) × AllTyped (tables_of past run.1) (pieces_of pieces.now) }
     ensures rows { (past : Past) → Shows groups.now past → (relation : ℕ → Relation)
-        → ((m : ℕ) → covers part.0 m ≡ true → all_mean (tables_of past part.1) (database_at past m) (pieces_of pieces.now) ≡ relation m)
-        → (spans : List Span) → IsGathered relation spans (entries_of rows.old.items) → OnOk result (IsGathered relation (spans ++ part.0 ∷ []) (entries_of rows.new.items)) }
+        → ((m : ℕ) → covers run.0 m ≡ true → IsMeant groups.now past run.1 (pieces_of pieces.now) m (relation m))
+        → (spans : List Span) → IsGathered relation spans (entries_of rows.old.items) → OnOk result (IsGathered relation (spans ++ run.0 ∷ []) (entries_of rows.new.items)) }
     ensures lent { ComputeNothing (pieces_of pieces.now) → AllLent rows.old.items → OnOk result (AllLent rows.new.items) }
-    ensures cost { steps.new ≤ steps.old + pieces_read groups.now part.1 (pieces_of pieces.now) }
+    ensures cost { steps.new ≤ steps.old + pieces_read groups.now run.1 (pieces_of pieces.now) }
+    ensures counted { OnOk result (steps.new ≡ steps.old + pieces_read groups.now run.1 (pieces_of pieces.now)) }
+    ensures rises { steps.old ≤ steps.new }
 {
-    let mut news = run_pieces(alloc, groups, part.1, pieces, part.0, steps)?;
+    let mut news = run_pieces(alloc, groups, run.1, pieces, run.0, steps)?;
     rows.append(&mut news)?;
     Ok(())
 }

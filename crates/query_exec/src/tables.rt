@@ -20,18 +20,19 @@ ghost use Rattle.query_exec.specs.Asked.{read_asked};
 ghost use Rattle.query_exec.specs.Questions.{table_read};
 ghost use Rattle.query_exec.specs.Planned.{ArePlanned, planned_spans};
 ghost use Rattle.piece_texts.specs.ExplainedPieces.{PlainExplained};
-ghost use Rattle.query_exec.specs.QueryPieces.{table_pieces, AreAlive};
+ghost use Rattle.query_exec.specs.QueryPieces.{table_pieces, AreAlive, IsAlive};
 ghost use Rattle.timed_choices.specs.Lending.{AllLent};
 ghost use Rattle.query_exec.specs.Lent.{ComputeNothing, NoneAliveComputes};
 ghost use Rattle.query_exec.specs.Routes.{IsOwn, IsRoute, MayBeRead};
-ghost use Rattle.query_exec.specs.Reads.{part_read, reads_of};
+ghost use Rattle.query_exec.specs.Reads.{part_read, explained_read, reads_of};
 ghost use Rattle.query_exec.specs.Totals.{total};
 ghost use Rattle.query_exec.specs.declared.part_pieces.PartPieces.{PartPieces as OnePart};
 
 use crate::part_pieces::PartPieces;
-use crate::pieces::read_part;
+use crate::pieces::read_run;
 use crate::questions::Question;
 use crate::routes::Route;
+use crate::runs::run_of;
 use crate::walks::{pieces_back, pieces_on};
 use coalesce::coalesce_in_place;
 use prima_base::{Name, NoMemory, Steps, TimedRow};
@@ -63,7 +64,7 @@ pub(crate) fn table_pieces(
     Ok(plan)
 }
 
-// What pieces mean at the moments of their parts, part by part.
+// What pieces mean at the moments of their parts. Parts that may be read as one are.
 fn read_parts<'a, L: Ledger>(
     alloc: Global,
     groups: &'a Groups,
@@ -76,16 +77,30 @@ fn read_parts<'a, L: Ledger>(
         → IfOk result (λ rows. IsGathered relation (planned_spans plan.now) (entries_of rows.items)) }
     ensures lent { ((x : OnePart) → In x plan.now → ComputeNothing (pieces_of x.pieces.items)) → IfOk result (λ rows. AllLent rows.items) }
     ensures cost { steps.new ≤ steps.old + total (part_read groups.now) plan.now }
+    ensures least { (x : OnePart) → In x plan.now → IfOk result (λ _. steps.old + part_read groups.now x ≤ steps.new) }
+    ensures rises { steps.old ≤ steps.new }
 {
     let mut rows = Vec::new(alloc);
-    for own in plan {
-        read_part(alloc, groups, own.part, &own.pieces, &mut rows, steps)?;
+    let mut at: usize = 0;
+    'runs: while at < plan.len() {
+        let first = &plan[at];
+        let (period, more) = run_of(groups, first, &plan[at + 1..]);
+        read_run(
+            alloc,
+            groups,
+            (period, first.part.1),
+            &first.pieces,
+            &mut rows,
+            steps,
+        )?;
+        at += 1 + more;
     }
     Ok(rows)
 }
 
 /// What is asked of the table, migrated to the asked version, at each moment of the slice: each row with its longest periods, over
-/// the borders of versions too. Its pieces are read, and nothing else; where none of them computes an output, all values are lent.
+/// the borders of versions too. Its pieces are read, each of them, and nothing else; where none of them computes an output, all values
+/// are lent.
 pub(crate) fn read_table<'a, L: Ledger>(
     alloc: Global,
     groups: &'a Groups,
@@ -105,6 +120,9 @@ pub(crate) fn read_table<'a, L: Ledger>(
     ensures cost { (branch : ℕ) → (atom : ℕ) → (alive : List PlainExplained)
         → AreAlive (versions_in groups.now) (table_pieces (meaning_of book.now.rules.items (λ r. handles (r.vtable, r.value)) (λ r. answers (r.vtable, r.value))) (versions_in groups.now) route.now.asked table.now (read_asked question.now) branch atom route.now.parts.items) alive
         → steps.new ≤ steps.old + reads_of groups.now alive }
+    ensures least { (branch : ℕ) → (atom : ℕ) → (e : PlainExplained) → IsAlive (versions_in groups.now) (table_pieces (meaning_of book.now.rules.items (λ r. handles (r.vtable, r.value)) (λ r. answers (r.vtable, r.value))) (versions_in groups.now) route.now.asked table.now (read_asked question.now) branch atom route.now.parts.items) e
+        → IfOk result (λ _. steps.old + explained_read groups.now e ≤ steps.new) }
+    ensures rises { steps.old ≤ steps.new }
 {
     book.known();
     let plan = table_pieces(alloc, groups, book, route, table, question)?;

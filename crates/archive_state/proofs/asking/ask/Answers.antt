@@ -65,3 +65,13 @@ returns-clause-lent g c = λ past shows pieces are none.
     (subst (λ (vs : List PlainVersion). ArePieces (book_of (λ r. (goal.Rule-dyn g (r.vtable, r.value)).handles r.value) (λ r. (goal.Rule-dyn g (r.vtable, r.value)).answers r.value) c.args.book.now.rules.items) vs (with_atoms (tables_of past query.version) query) pieces) (sym shows.versions)
     (subst (λ (f : Fault). IfAccepted f (ArePieces (book_of (λ r. (goal.Rule-dyn g (r.vtable, r.value)).handles r.value) (λ r. (goal.Rule-dyn g (r.vtable, r.value)).answers r.value) c.args.book.now.rules.items) past.versions (with_atoms (tables_of past query.version) query) pieces) pieces) h.accepted are)))
     none)))
+
+pub returns-clause-least : goal.returns-clause-least
+returns-clause-least g c = λ past shows pieces are e m.
+    let query = query_of c.args.query.now in
+    let h : IsReady past query c.in_ok-atoms.atoms = c.in_ok-atoms.ensures past shows in
+    c.in_ok-rows.ensures.least pieces
+    (subst (λ (q : PlainQuery). ArePieces (book_of (λ r. (goal.Rule-dyn g (r.vtable, r.value)).handles r.value) (λ r. (goal.Rule-dyn g (r.vtable, r.value)).answers r.value) c.args.book.now.rules.items) (versions_in c.args.groups.now) q pieces) (sym h.atoms)
+    (subst (λ (vs : List PlainVersion). ArePieces (book_of (λ r. (goal.Rule-dyn g (r.vtable, r.value)).handles r.value) (λ r. (goal.Rule-dyn g (r.vtable, r.value)).answers r.value) c.args.book.now.rules.items) vs (with_atoms (tables_of past query.version) query) pieces) (sym shows.versions)
+    (subst (λ (f : Fault). IfAccepted f (ArePieces (book_of (λ r. (goal.Rule-dyn g (r.vtable, r.value)).handles r.value) (λ r. (goal.Rule-dyn g (r.vtable, r.value)).answers r.value) c.args.book.now.rules.items) past.versions (with_atoms (tables_of past query.version) query) pieces) pieces) h.accepted are)))
+    e m

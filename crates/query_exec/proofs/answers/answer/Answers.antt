@@ -1,4 +1,4 @@
-use Rattle.std.proofs.Common.{◌≡◌, ◌≤◌, ◌+◌, ◌++◌, ℕ, List, sym, ap, subst, ◌∙◌}
+use Rattle.std.proofs.Common.{◌≤◌, ℕ, List, sym, ap, subst, ◌∙◌}
 use Rattle.relations.specs.Spans.{Span, forever}
 use Rattle.relations.specs.Listing.{IsListing}
 use Rattle.prima_base.specs.Order.{row_cmp}
@@ -6,15 +6,16 @@ use Rattle.prima_base.specs.Timed.{entries_of, rows_at}
 use Rattle.smo_meaning.specs.Past.{no_tables, tables_from, tables_of}
 use Rattle.version_ways.specs.Migration.{migrated}
 use Rattle.version_groups.specs.Groups.{versions_in}
-use Rattle.plain_answers.specs.Branches.{PlainBranch, plain}
+use Rattle.plain_answers.specs.Branches.{plain}
 use Rattle.piece_meaning.specs.Books.{book_of}
 use Rattle.piece_texts.specs.ExplainedPieces.{PlainExplained}
 use Rattle.temporal_lang.specs.Branches.{branches_of}
 use Rattle.temporal_lang.specs.declared.branches.Branch.{Branch}
-use Rattle.temporal_lang.specs.Queries.{query_of, slice_of}
+use Rattle.temporal_lang.specs.Queries.{query_of}
 use Rattle.query_exec.specs.Accepted.{MayBranches}
 use Rattle.query_exec.specs.Lent.{NoneAliveComputes, AreLentBy}
-use Rattle.query_exec.specs.QueryPieces.{AreAlive}
+use Rattle.query_exec.specs.QueryPieces.{branches_pieces, AreAlive}
+use Rattle.query_exec.proofs.AliveLaws.{in_alive}
 use Rattle.query_exec.proofs.LentRows.{by_values}
 use Rattle.query_exec.proofs.WholeAnswers.{may_all, whole_listing, whole_answer, pieces_here}
 use Rattle.query_exec.proofs.answers.answer.Goals as goal
@@ -66,3 +67,9 @@ returns-clause-lent g c = λ pieces h none.
     (subst (λ (all : List PlainExplained). NoneAliveComputes (versions_in c.args.groups.now) all)
     (sym (pieces_here (book_of (λ r. (goal.Rule-dyn g (r.vtable, r.value)).handles r.value) (λ r. (goal.Rule-dyn g (r.vtable, r.value)).answers r.value) c.args.book.now.rules.items) (versions_in c.args.groups.now) (query_of c.args.query.now) c.in_ok-route.route.asked c.in_ok-route.route.parts.items c.slice-slice.result (branches_of c.deref.result.now) c.in_ok-route.ensures.asked c.in_ok-route.ensures.parts c.slice-slice.ensures.value (ap branches_of c.deref.ensures.value)))
     (record { alive = pieces; are = h; none = none }))))
+
+pub returns-clause-least : goal.returns-clause-least
+returns-clause-least g c = λ pieces h e m. c.in_ok-rows.ensures.least 1 e
+    (in_alive (versions_in c.args.groups.now) (branches_pieces (book_of (λ r. (goal.Rule-dyn g (r.vtable, r.value)).handles r.value) (λ r. (goal.Rule-dyn g (r.vtable, r.value)).answers r.value) c.args.book.now.rules.items) (versions_in c.args.groups.now) c.in_ok-route.route.asked c.in_ok-route.route.parts.items 1 (branches_of c.deref.result.now)) pieces e
+    (subst (λ (all : List PlainExplained). AreAlive (versions_in c.args.groups.now) all pieces)
+    (sym (pieces_here (book_of (λ r. (goal.Rule-dyn g (r.vtable, r.value)).handles r.value) (λ r. (goal.Rule-dyn g (r.vtable, r.value)).answers r.value) c.args.book.now.rules.items) (versions_in c.args.groups.now) (query_of c.args.query.now) c.in_ok-route.route.asked c.in_ok-route.route.parts.items c.slice-slice.result (branches_of c.deref.result.now) c.in_ok-route.ensures.asked c.in_ok-route.ensures.parts c.slice-slice.ensures.value (ap branches_of c.deref.ensures.value))) h) m)

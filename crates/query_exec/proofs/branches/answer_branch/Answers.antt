@@ -1,4 +1,4 @@
-use Rattle.std.proofs.Common.{◌≡◌, ◌≤◌, ◌+◌, ◌++◌, List, map, sym, ap, subst, ◌∙◌}
+use Rattle.std.proofs.Common.{◌≡◌, ◌++◌, List, map, sym, ap, subst, ◌∙◌}
 use Rattle.std.specs.Borrow.{Bor}
 use Rattle.std.proofs.lemmas.Result.{IfOk-weaker}
 use Rattle.relations.specs.Sets.{set_of}
@@ -17,11 +17,12 @@ use Rattle.plain_answers.specs.Pushing.{pushed_reads}
 use Rattle.plain_answers.specs.Reading.{read_columns}
 use Rattle.piece_meaning.specs.Books.{book_of}
 use Rattle.joining.specs.Sources.{atom_rows}
+use Rattle.join_exec.proofs.AtomSteps.{if_known}
 use Rattle.temporal_lang.specs.Branches.{branch_of}
 use Rattle.timed_choices.specs.Lending.{AllStayLent}
 use Rattle.query_exec.specs.Accepted.{MayItems}
 use Rattle.query_exec.specs.Lent.{NoneAliveComputes}
-use Rattle.query_exec.specs.QueryPieces.{items_pieces, AreAlive}
+use Rattle.query_exec.specs.QueryPieces.{items_pieces, AreAlive, IsAlive}
 use Rattle.query_exec.proofs.ItemAtoms.{are_numbered, branch_atoms, branch_rows}
 use Rattle.query_exec.proofs.branches.answer_branch.Goals as goal
 
@@ -83,3 +84,15 @@ returns-clause-borrowed g c =
     (c.in_ok-atoms.ensures.borrowed number
     (subst (λ (from : List Item). NoneAliveComputes (versions_in c.args.groups.now) (items_pieces (book_of (λ r. (goal.Rule-dyn g (r.vtable, r.value)).handles r.value) (λ r. (goal.Rule-dyn g (r.vtable, r.value)).answers r.value) c.args.book.now.rules.items) (versions_in c.args.groups.now) c.args.route.now.asked c.args.route.now.parts.items (lent c.deref-3.result.now) b.cond number 0 from)) (sym c.deref-2.ensures.value)
     (subst (λ (rs : List ColRef). NoneAliveComputes (versions_in c.args.groups.now) (items_pieces (book_of (λ r. (goal.Rule-dyn g (r.vtable, r.value)).handles r.value) (λ r. (goal.Rule-dyn g (r.vtable, r.value)).answers r.value) c.args.book.now.rules.items) (versions_in c.args.groups.now) c.args.route.now.asked c.args.route.now.parts.items rs b.cond number 0 b.from)) (sym same) h))))
+
+pub returns-clause-least : goal.returns-clause-least
+returns-clause-least g c =
+    let b : PlainBranch = branch_of c.args.branch.now in
+    let same : lent c.deref-3.result.now ≡ all_references b.outs b.cond = ap lent c.deref-3.ensures.value ∙ c.in_ok-gather_references.ensures
+    ∙ ap (λ (xs : List Expr). lent c.new-references.result.items ++ all_references (map tree xs) (test c.args.branch.now.cond)) c.deref.ensures.value
+    ∙ ap (λ (rs : List (Bor ColRef)). lent rs ++ all_references b.outs b.cond) c.new-references.ensures.items in
+    λ number e h.
+    if_known c.answer_choices.result
+    (c.in_ok-atoms.ensures.least number e
+    (subst (λ (from : List Item). IsAlive (versions_in c.args.groups.now) (items_pieces (book_of (λ r. (goal.Rule-dyn g (r.vtable, r.value)).handles r.value) (λ r. (goal.Rule-dyn g (r.vtable, r.value)).answers r.value) c.args.book.now.rules.items) (versions_in c.args.groups.now) c.args.route.now.asked c.args.route.now.parts.items (lent c.deref-3.result.now) b.cond number 0 from) e) (sym c.deref-2.ensures.value)
+    (subst (λ (rs : List ColRef). IsAlive (versions_in c.args.groups.now) (items_pieces (book_of (λ r. (goal.Rule-dyn g (r.vtable, r.value)).handles r.value) (λ r. (goal.Rule-dyn g (r.vtable, r.value)).answers r.value) c.args.book.now.rules.items) (versions_in c.args.groups.now) c.args.route.now.asked c.args.route.now.parts.items rs b.cond number 0 b.from) e) (sym same) h)))

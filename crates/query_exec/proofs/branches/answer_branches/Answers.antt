@@ -1,5 +1,5 @@
-use Rattle.std.proofs.Common.{◌≡◌, ◌<◌, ◌≤◌, ◌+◌, ◌++◌, ℕ, List, length, get_or, take, drop, refl, sym, ap, subst, ◌∙◌, arith}
-use Rattle.std.proofs.lemmas.List.{take_all}
+use Rattle.std.proofs.Common.{◌≡◌, ◌<◌, ◌+◌, ℕ, List, length, get_or, drop, sym, ap, subst, ◌∙◌, inl, arith}
+use Rattle.std.proofs.lemmas.List.{take_all, drop_all}
 use Rattle.prima_base.specs.declared.timed_rows.TimedRow.{TimedRow}
 use Rattle.prima_base.specs.Timed.{rows_at}
 use Rattle.smo_meaning.specs.Past.{tables_of}
@@ -9,15 +9,15 @@ use Rattle.plain_answers.specs.Branches.{plain, branch_answers}
 use Rattle.piece_meaning.specs.Books.{book_of}
 use Rattle.temporal_lang.specs.Branches.{branch_of, branches_of}
 use Rattle.temporal_lang.specs.declared.branches.Branch.{Branch}
-use Rattle.query_exec.specs.Accepted.{MayBranch, MayBranches}
-use Rattle.query_exec.specs.QueryPieces.{branches_pieces}
+use Rattle.query_exec.specs.QueryPieces.{branches_pieces, IsAlive}
 use Rattle.relations.proofs.SetLaws.{in_map}
 use Rattle.query_exec.specs.Lent.{NoneAliveComputes, AreLentBy}
 use Rattle.query_exec.specs.Reads.{reads_of}
-use Rattle.query_exec.proofs.AliveLaws.{Owes, owes_all, owes_within}
-use Rattle.query_exec.proofs.BranchRows.{none_answered, next_branch, branch_owes, may_next_branch}
+use Rattle.query_exec.proofs.AliveLaws.{Owes, owes_all, owes_within, IsLeftOrRead, all_read}
+use Rattle.query_exec.proofs.BranchRows.{none_answered, next_branch, branch_owes, branch_left, may_next_branch}
 use Rattle.query_exec.proofs.LentRows.{next_branch as next_branch_pieces, branch_more}
 use Rattle.query_exec.proofs.ListSteps.{among_taken}
+use Rattle.query_exec.proofs.TotalLaws.{from_first}
 use Rattle.query_exec.proofs.branches.answer_branches.Goals as goal
 
 pub loop-branch-init : goal.loop-branch-init
@@ -33,6 +33,10 @@ loop-branch-init g c = record {
       let e : number ≡ number + 0 = omega arith in
       subst (λ (n : ℕ). Owes c.args.groups.now (versions_in c.args.groups.now) (branches_pieces (book_of (λ r. (goal.Rule-dyn g (r.vtable, r.value)).handles r.value) (λ r. (goal.Rule-dyn g (r.vtable, r.value)).answers r.value) c.args.book.now.rules.items) (versions_in c.args.groups.now) c.args.route.now.asked c.args.route.now.parts.items n (branches_of c.args.branches.now)) c.args.steps.now (c.args.steps.now + reads_of c.args.groups.now alive)) e
       (owes_all c.args.groups.now (versions_in c.args.groups.now) (branches_pieces (book_of (λ r. (goal.Rule-dyn g (r.vtable, r.value)).handles r.value) (λ r. (goal.Rule-dyn g (r.vtable, r.value)).answers r.value) c.args.book.now.rules.items) (versions_in c.args.groups.now) c.args.route.now.asked c.args.route.now.parts.items number (branches_of c.args.branches.now)) alive c.args.steps.now h);
+  least = λ number e h.
+      let s : number ≡ number + 0 = omega arith in
+      inl (subst (λ (n : ℕ). IsAlive (versions_in c.args.groups.now) (branches_pieces (book_of (λ r. (goal.Rule-dyn g (r.vtable, r.value)).handles r.value) (λ r. (goal.Rule-dyn g (r.vtable, r.value)).answers r.value) c.args.book.now.rules.items) (versions_in c.args.groups.now) c.args.route.now.asked c.args.route.now.parts.items n (branches_of c.args.branches.now)) e) s h);
+  rises = omega arith;
 }
 
 pub answer_branch-requires-clause-read : goal.answer_branch-requires-clause-read
@@ -62,6 +66,9 @@ loop-branch-preserved g c =
           (branch_more bs b c.loop-branch.rows.items c.in_ok-news.news.items c.append.new.self.items c.in_ok-append.ensures.items (in_map branch_of b bs (among_taken bs i b below is)) before.0 (c.in_ok-news.ensures.borrowed (number + i) pieces.0), pieces.1);
       count = λ number alive h. branch_owes bs i b below is c.args.groups.now (book_of (λ r. (goal.Rule-dyn g (r.vtable, r.value)).handles r.value) (λ r. (goal.Rule-dyn g (r.vtable, r.value)).answers r.value) c.args.book.now.rules.items) (versions_in c.args.groups.now) c.args.route.now.asked c.args.route.now.parts.items number c.loop-branch.steps (c.args.steps.now + reads_of c.args.groups.now alive) c.answer_branch.new.steps
           (c.loop-branch.invariant.count number alive h) (λ own k. c.answer_branch.ensures.cost (number + i) own k);
+      least = λ number e h. branch_left bs i b below is c.args.groups.now (book_of (λ r. (goal.Rule-dyn g (r.vtable, r.value)).handles r.value) (λ r. (goal.Rule-dyn g (r.vtable, r.value)).answers r.value) c.args.book.now.rules.items) (versions_in c.args.groups.now) c.args.route.now.asked c.args.route.now.parts.items number c.args.steps.now c.loop-branch.steps c.answer_branch.new.steps e
+          c.loop-branch.invariant.rises c.answer_branch.ensures.rises (c.loop-branch.invariant.least number e h) (λ k. c.in_ok-news.ensures.least (number + i) e k);
+      rises = from_first c.args.steps.now c.loop-branch.steps c.answer_branch.new.steps c.loop-branch.invariant.rises c.answer_branch.ensures.rises;
     }
 
 pub returns-in_err-news-clause-cost : goal.returns-in_err-news-clause-cost
@@ -100,3 +107,9 @@ returns-clause-cost g c = λ number alive h.
 
 pub returns-clause-borrowed : goal.returns-clause-borrowed
 returns-clause-borrowed g c = λ number h. (c.loop-branch.invariant.borrowed number h).0
+
+pub returns-clause-least : goal.returns-clause-least
+returns-clause-least g c = λ number e h.
+    all_read c.args.groups.now (versions_in c.args.groups.now) c.args.steps.now c.loop-branch.steps e
+    (subst (λ (bs : List Branch). IsLeftOrRead c.args.groups.now (versions_in c.args.groups.now) (branches_pieces (book_of (λ r. (goal.Rule-dyn g (r.vtable, r.value)).handles r.value) (λ r. (goal.Rule-dyn g (r.vtable, r.value)).answers r.value) c.args.book.now.rules.items) (versions_in c.args.groups.now) c.args.route.now.asked c.args.route.now.parts.items (number + c.loop-branch.branch-index) (branches_of bs)) c.args.steps.now c.loop-branch.steps e) (drop_all c.loop-branch.branch-index c.args.branches.now c.loop-branch-test.false)
+    (c.loop-branch.invariant.least number e h))

@@ -1,5 +1,6 @@
-use Rattle.std.proofs.Common.{◌≡◌, ◌<◌, ◌≤◌, ◌+◌, ◌++◌, ℕ, List, [], length, get_or, drop, refl, sym, ap, subst, ◌∙◌, arith}
+use Rattle.std.proofs.Common.{◌≡◌, ◌<◌, ◌+◌, ℕ, List, [], length, get_or, drop, refl, sym, subst, inl, arith}
 use Rattle.std.specs.Prelude.{◌^◌}
+use Rattle.std.proofs.lemmas.List.{drop_all}
 use Rattle.cond_expr.specs.declared.exprs.ColRef.{ColRef}
 use Rattle.cond_expr.specs.References.{lent}
 use Rattle.cond_expr.specs.Seen.{test}
@@ -10,14 +11,15 @@ use Rattle.piece_meaning.specs.Books.{book_of}
 use Rattle.joining.specs.declared.sources.Atom.{Atom}
 use Rattle.query_exec.specs.Accepted.{IsRead, AreRead}
 use Rattle.query_exec.specs.Questions.{own_read}
-use Rattle.query_exec.specs.QueryPieces.{table_pieces, items_pieces, AreAlive}
+use Rattle.query_exec.specs.QueryPieces.{table_pieces, items_pieces, AreAlive, IsAlive}
 use Rattle.joining.specs.Sources.{AtomsLent}
 use Rattle.query_exec.specs.Lent.{NoneAliveComputes}
 use Rattle.query_exec.specs.Reads.{reads_of}
 use Rattle.query_exec.specs.Routes.{MayBeRead}
-use Rattle.query_exec.proofs.AliveLaws.{owes_all, owes_within}
-use Rattle.query_exec.proofs.ItemAtoms.{may_next, next_read, next_place, item_owes}
+use Rattle.query_exec.proofs.AliveLaws.{owes_all, owes_within, IsLeftOrRead, all_read}
+use Rattle.query_exec.proofs.ItemAtoms.{may_next, next_read, next_place, item_owes, item_left}
 use Rattle.query_exec.proofs.LentRows.{next_item, atom_more}
+use Rattle.query_exec.proofs.TotalLaws.{from_first}
 use Rattle.query_exec.proofs.branches.read_items.Goals as goal
 
 pub loop-item-init : goal.loop-item-init
@@ -27,6 +29,8 @@ loop-item-init g c = record {
   read = λ past shows. subst (λ (xs : List Atom). AreRead past c.args.route.now (lent c.args.references.now) (test c.args.cond.now) 0 [] xs) (sym c.new-atoms.ensures.items) tt;
   borrowed = λ branch h. (subst AtomsLent (sym c.new-atoms.ensures.items) tt, h);
   count = λ branch alive h. owes_all c.args.groups.now (versions_in c.args.groups.now) (items_pieces (book_of (λ r. (goal.Rule-dyn g (r.vtable, r.value)).handles r.value) (λ r. (goal.Rule-dyn g (r.vtable, r.value)).answers r.value) c.args.book.now.rules.items) (versions_in c.args.groups.now) c.args.route.now.asked c.args.route.now.parts.items (lent c.args.references.now) (test c.args.cond.now) branch 0 c.args.from.now) alive c.args.steps.now h;
+  least = λ branch e h. inl h;
+  rises = omega arith;
 }
 
 pub read_item-requires-clause-read : goal.read_item-requires-clause-read
@@ -70,6 +74,11 @@ loop-item-preserved g c =
           (c.loop-item.invariant.count branch alive h)
           (λ own k. c.read_item.ensures.cost branch (i + 1) own
           (subst (λ (j : ℕ). AreAlive (versions_in c.args.groups.now) (table_pieces (book_of (λ r. (goal.Rule-dyn g (r.vtable, r.value)).handles r.value) (λ r. (goal.Rule-dyn g (r.vtable, r.value)).answers r.value) c.args.book.now.rules.items) (versions_in c.args.groups.now) c.args.route.now.asked x.0 (own_read j rs cd) branch (i + 1) c.args.route.now.parts.items) own) (sym c.loop-item.invariant.place) k));
+      least = λ branch e h. item_left (book_of (λ r. (goal.Rule-dyn g (r.vtable, r.value)).handles r.value) (λ r. (goal.Rule-dyn g (r.vtable, r.value)).answers r.value) c.args.book.now.rules.items) (versions_in c.args.groups.now) c.args.route.now.asked c.args.route.now.parts.items rs cd branch c.args.groups.now from i x below is c.args.steps.now c.loop-item.steps c.read_item.new.steps e
+          c.loop-item.invariant.rises c.read_item.ensures.rises (c.loop-item.invariant.least branch e h)
+          (λ k. c.in_ok-atom.ensures.least branch (i + 1) e
+          (subst (λ (j : ℕ). IsAlive (versions_in c.args.groups.now) (table_pieces (book_of (λ r. (goal.Rule-dyn g (r.vtable, r.value)).handles r.value) (λ r. (goal.Rule-dyn g (r.vtable, r.value)).answers r.value) c.args.book.now.rules.items) (versions_in c.args.groups.now) c.args.route.now.asked x.0 (own_read j rs cd) branch (i + 1) c.args.route.now.parts.items) e) (sym c.loop-item.invariant.place) k));
+      rises = from_first c.args.steps.now c.loop-item.steps c.read_item.new.steps c.loop-item.invariant.rises c.read_item.ensures.rises;
     }
 
 pub returns-in_err-atom-clause-cost : goal.returns-in_err-atom-clause-cost
@@ -127,3 +136,11 @@ returns-clause-cost g c = λ branch alive h.
 
 pub returns-clause-borrowed : goal.returns-clause-borrowed
 returns-clause-borrowed g c = λ branch h. (c.loop-item.invariant.borrowed branch h).0
+
+pub returns-clause-least : goal.returns-clause-least
+returns-clause-least g c = λ branch e h.
+    let rs : List ColRef = lent c.args.references.now in
+    let cd : Test = test c.args.cond.now in
+    all_read c.args.groups.now (versions_in c.args.groups.now) c.args.steps.now c.loop-item.steps e
+    (subst (λ (from : List Item). IsLeftOrRead c.args.groups.now (versions_in c.args.groups.now) (items_pieces (book_of (λ r. (goal.Rule-dyn g (r.vtable, r.value)).handles r.value) (λ r. (goal.Rule-dyn g (r.vtable, r.value)).answers r.value) c.args.book.now.rules.items) (versions_in c.args.groups.now) c.args.route.now.asked c.args.route.now.parts.items rs cd branch c.loop-item.item-index from) c.args.steps.now c.loop-item.steps e) (drop_all c.loop-item.item-index c.args.from.now c.loop-item-test.false)
+    (c.loop-item.invariant.least branch e h))

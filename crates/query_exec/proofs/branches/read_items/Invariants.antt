@@ -1,4 +1,4 @@
-use Rattle.std.proofs.Common.{◌≡◌, ◌+◌, ℕ, List, take, drop}
+use Rattle.std.proofs.Common.{◌≡◌, ◌+◌, ◌≤◌, ℕ, List, take, drop}
 use Rattle.cond_expr.specs.References.{lent}
 use Rattle.cond_expr.specs.Seen.{test}
 use Rattle.smo_meaning.specs.Past.{Past}
@@ -7,11 +7,11 @@ use Rattle.version_groups.specs.Showing.{Shows}
 use Rattle.piece_meaning.specs.Books.{book_of}
 use Rattle.piece_texts.specs.ExplainedPieces.{PlainExplained}
 use Rattle.query_exec.specs.Accepted.{MayItems, AreRead}
-use Rattle.query_exec.specs.QueryPieces.{items_pieces, AreAlive}
+use Rattle.query_exec.specs.QueryPieces.{items_pieces, AreAlive, IsAlive}
 use Rattle.joining.specs.Sources.{AtomsLent}
 use Rattle.query_exec.specs.Lent.{NoneAliveComputes}
 use Rattle.query_exec.specs.Reads.{reads_of}
-use Rattle.query_exec.proofs.AliveLaws.{Owes}
+use Rattle.query_exec.proofs.AliveLaws.{Owes, IsLeftOrRead}
 use Rattle.query_exec.proofs.branches.read_items.Given as goal
 
 abbrev pub invariant-loop-item : goal.invariant-loop-item
@@ -23,4 +23,7 @@ invariant-loop-item g l = record {
       → AtomsLent l.atoms.items × NoneAliveComputes (versions_in l.groups) (items_pieces (book_of (λ r. (goal.Rule-dyn g (r.vtable, r.value)).handles r.value) (λ r. (goal.Rule-dyn g (r.vtable, r.value)).answers r.value) l.book.rules.items) (versions_in l.groups) l.route.asked l.route.parts.items (lent l.references) (test l.cond) branch l.item-index (drop l.item-index l.from));
   count : (branch : ℕ) → (alive : List PlainExplained) → AreAlive (versions_in l.groups) (items_pieces (book_of (λ r. (goal.Rule-dyn g (r.vtable, r.value)).handles r.value) (λ r. (goal.Rule-dyn g (r.vtable, r.value)).answers r.value) l.book.rules.items) (versions_in l.groups) l.route.asked l.route.parts.items (lent l.references) (test l.cond) branch 0 l.from) alive
       → Owes l.groups (versions_in l.groups) (items_pieces (book_of (λ r. (goal.Rule-dyn g (r.vtable, r.value)).handles r.value) (λ r. (goal.Rule-dyn g (r.vtable, r.value)).answers r.value) l.book.rules.items) (versions_in l.groups) l.route.asked l.route.parts.items (lent l.references) (test l.cond) branch l.item-index (drop l.item-index l.from)) l.steps (l.initial.steps + reads_of l.groups alive);
+  least : (branch : ℕ) → (e : PlainExplained) → IsAlive (versions_in l.groups) (items_pieces (book_of (λ r. (goal.Rule-dyn g (r.vtable, r.value)).handles r.value) (λ r. (goal.Rule-dyn g (r.vtable, r.value)).answers r.value) l.book.rules.items) (versions_in l.groups) l.route.asked l.route.parts.items (lent l.references) (test l.cond) branch 0 l.from) e
+      → IsLeftOrRead l.groups (versions_in l.groups) (items_pieces (book_of (λ r. (goal.Rule-dyn g (r.vtable, r.value)).handles r.value) (λ r. (goal.Rule-dyn g (r.vtable, r.value)).answers r.value) l.book.rules.items) (versions_in l.groups) l.route.asked l.route.parts.items (lent l.references) (test l.cond) branch l.item-index (drop l.item-index l.from)) l.initial.steps l.steps e;
+  rises : l.initial.steps ≤ l.steps;
 }

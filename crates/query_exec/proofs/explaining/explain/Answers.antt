@@ -1,4 +1,4 @@
-use Rattle.std.proofs.Common.{◌≡◌, List, ap, sym, subst, ◌∙◌}
+use Rattle.std.proofs.Common.{List, ap, sym, subst, ◌∙◌}
 use Rattle.version_groups.specs.Groups.{versions_in}
 use Rattle.piece_meaning.specs.Books.{book_of}
 use Rattle.piece_texts.specs.ExplainedPieces.{PlainExplained, all_explained}

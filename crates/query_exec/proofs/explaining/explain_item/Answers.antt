@@ -1,4 +1,4 @@
-use Rattle.std.proofs.Common.{◌≡◌, ◌++◌, List, sym, ap, subst, ◌∙◌}
+use Rattle.std.proofs.Common.{◌++◌, List, sym, ap, subst, ◌∙◌}
 use Rattle.cond_expr.specs.References.{lent}
 use Rattle.cond_expr.specs.Seen.{test}
 use Rattle.version_groups.specs.Groups.{versions_in}

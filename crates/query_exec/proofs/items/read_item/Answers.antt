@@ -1,4 +1,4 @@
-use Rattle.std.proofs.Common.{◌≤◌, ◌+◌, ℕ, List, refl, sym, subst, ◌∙◌}
+use Rattle.std.proofs.Common.{refl, sym, subst}
 use Rattle.cond_expr.specs.References.{lent}
 use Rattle.cond_expr.specs.Seen.{test}
 use Rattle.version_groups.specs.Groups.{versions_in}
@@ -7,7 +7,7 @@ use Rattle.piece_meaning.specs.Books.{book_of}
 use Rattle.query_exec.specs.Asked.{read_asked}
 use Rattle.query_exec.specs.Lent.{NoneAliveComputes}
 use Rattle.query_exec.specs.Questions.{own_read}
-use Rattle.query_exec.specs.QueryPieces.{table_pieces, AreAlive}
+use Rattle.query_exec.specs.QueryPieces.{table_pieces, AreAlive, IsAlive}
 use Rattle.query_exec.specs.Routes.{MayBeRead}
 use Rattle.query_exec.proofs.ItemAtoms.{columns_are, item_own, item_fit, item_rows_are}
 use Rattle.query_exec.proofs.items.read_item.Goals as goal
@@ -43,3 +43,7 @@ returns-clause-cost g c = λ branch atom alive h. c.read_table.ensures.cost bran
 pub returns-clause-borrowed : goal.returns-clause-borrowed
 returns-clause-borrowed g c = λ branch atom h. c.in_ok-rows.ensures.lent branch atom
     (subst (λ (r : Read). NoneAliveComputes (versions_in c.args.groups.now) (table_pieces (book_of (λ r. (goal.Rule-dyn g (r.vtable, r.value)).handles r.value) (λ r. (goal.Rule-dyn g (r.vtable, r.value)).answers r.value) c.args.book.now.rules.items) (versions_in c.args.groups.now) c.args.route.now.asked c.args.table.now r branch atom c.args.route.now.parts.items)) (sym c.in_ok-question.ensures) h)
+
+pub returns-clause-least : goal.returns-clause-least
+returns-clause-least g c = λ branch atom e h. c.in_ok-rows.ensures.least branch atom e
+    (subst (λ (r : Read). IsAlive (versions_in c.args.groups.now) (table_pieces (book_of (λ r. (goal.Rule-dyn g (r.vtable, r.value)).handles r.value) (λ r. (goal.Rule-dyn g (r.vtable, r.value)).answers r.value) c.args.book.now.rules.items) (versions_in c.args.groups.now) c.args.route.now.asked c.args.table.now r branch atom c.args.route.now.parts.items) e) (sym c.in_ok-question.ensures) h)

@@ -1,11 +1,10 @@
-use Rattle.std.proofs.Common.{◌≡◌, ◌≤◌, ◌<◌, ℕ, true, List, map, length, vec_len, sym, ap, subst, ◌∙◌, arith}
+use Rattle.std.proofs.Common.{◌≡◌, ◌≤◌, true, List, map, length, vec_len, sym, ap, subst, ◌∙◌, arith}
 use Rattle.std.proofs.lemmas.Result.{IfOk-weaker}
 use Rattle.relations.specs.Spans.{Span, covers, forever}
-use Rattle.smo_types.specs.Commands.{PlainVersion, version_of, versions_of}
+use Rattle.smo_types.specs.Commands.{PlainVersion, version_of}
 use Rattle.smo_types.specs.declared.versions.Version.{Version}
-use Rattle.smo_meaning.specs.Past.{version_at}
-use Rattle.temporal_lang.specs.Queries.{query_of, slice_of}
-use Rattle.period_split.specs.Splitting.{Part, HasMoment}
+use Rattle.temporal_lang.specs.Queries.{query_of}
+use Rattle.period_split.specs.Splitting.{Part}
 use Rattle.query_exec.specs.Losing.{first_among, AllUpTo}
 use Rattle.query_exec.proofs.FirstLosses.{all_there, first_of_parts}
 use Rattle.query_exec.proofs.losses.first_loss.Goals as goal

@@ -1,4 +1,4 @@
-use Rattle.std.proofs.Common.{◌≡◌, ◌+◌, ◌≤◌, ℕ, true, take, drop}
+use Rattle.std.proofs.Common.{◌≡◌, ◌+◌, ◌≤◌, ◌-◌, ℕ, true, length, take}
 use Rattle.relations.specs.Sets.{In}
 use Rattle.relations.specs.Spans.{covers}
 use Rattle.prima_base.specs.Timed.{entries_of}
@@ -16,11 +16,17 @@ use Rattle.query_exec.specs.Reads.{part_read}
 use Rattle.query_exec.specs.Totals.{total}
 use Rattle.query_exec.proofs.tables.read_parts.Given as goal
 
-abbrev pub invariant-loop-own : goal.invariant-loop-own
-invariant-loop-own g l = record {
+abbrev pub invariant-runs : goal.invariant-runs
+invariant-runs g l = record {
+  within : l.at ≤ length l.plan;
   rows : (past : Past) → Shows l.groups past → (relation : ℕ → Relation)
       → ((x : PartPieces) → In x l.plan → (m : ℕ) → covers x.part.0 m ≡ true → all_mean (tables_of past x.part.1) (database_at past m) (pieces_of x.pieces.items) ≡ relation m)
-      → IsGathered relation (planned_spans (take l.own-index l.plan)) (entries_of l.rows.items);
+      → IsGathered relation (planned_spans (take l.at l.plan)) (entries_of l.rows.items);
   lent : ((x : PartPieces) → In x l.plan → ComputeNothing (pieces_of x.pieces.items)) → AllLent l.rows.items;
-  count : l.steps + total (part_read l.groups) (drop l.own-index l.plan) ≤ l.initial.steps + total (part_read l.groups) l.plan;
+  cost : l.steps ≤ l.initial.steps + total (part_read l.groups) (take l.at l.plan);
+  least : (x : PartPieces) → In x (take l.at l.plan) → l.initial.steps + part_read l.groups x ≤ l.steps;
+  rises : l.initial.steps ≤ l.steps;
 }
+
+abbrev pub decreases-runs : goal.decreases-runs
+decreases-runs g l = length l.plan - l.at

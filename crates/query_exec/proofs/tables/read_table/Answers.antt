@@ -14,13 +14,14 @@ use Rattle.query_exec.specs.declared.part_pieces.PartPieces.{PartPieces}
 use Rattle.query_exec.specs.Lent.{ComputeNothing}
 use Rattle.query_exec.specs.Planned.{planned_spans}
 use Rattle.query_exec.specs.Questions.{table_read}
-use Rattle.query_exec.specs.Reads.{part_read}
+use Rattle.query_exec.specs.Reads.{part_read, explained_read}
 use Rattle.query_exec.specs.Routes.{IsOwn}
 use Rattle.query_exec.specs.Totals.{total}
-use Rattle.query_exec.proofs.AliveLaws.{plan_cost}
+use Rattle.query_exec.proofs.AliveLaws.{plan_cost, plan_least}
 use Rattle.query_exec.proofs.LentRows.{lent_values, plan_none}
 use Rattle.query_exec.proofs.PlanLaws.{plan_ready, plan_means, planned_over}
 use Rattle.query_exec.proofs.RouteLaws.{gathered_listed}
+use Rattle.query_exec.proofs.TotalLaws.{from_part}
 use Rattle.query_exec.proofs.tables.read_table.Goals as goal
 
 pub read_parts-requires : goal.read_parts-requires
@@ -68,3 +69,9 @@ returns-clause-lent g c = λ branch atom h.
     (c.in_ok-rows.ensures.lent
     (subst (λ (xs : List PartPieces). (x : PartPieces) → In x xs → ComputeNothing (pieces_of x.pieces.items)) (sym c.deref.ensures.value)
     (plan_none (versions_in c.args.groups.now) (book_of (λ r. (goal.Rule-dyn g (r.vtable, r.value)).handles r.value) (λ r. (goal.Rule-dyn g (r.vtable, r.value)).answers r.value) c.args.book.now.rules.items) c.args.route.now.asked c.args.table.now (read_asked c.args.question.now) branch atom c.args.route.now.parts.items c.in_ok-plan.plan.items c.in_ok-plan.ensures h)))
+
+pub returns-clause-least : goal.returns-clause-least
+returns-clause-least g c = λ branch atom e h.
+    let x = plan_least c.args.groups.now (versions_in c.args.groups.now) (book_of (λ r. (goal.Rule-dyn g (r.vtable, r.value)).handles r.value) (λ r. (goal.Rule-dyn g (r.vtable, r.value)).answers r.value) c.args.book.now.rules.items) c.args.route.now.asked c.args.table.now (read_asked c.args.question.now) branch atom c.args.route.now.parts.items c.in_ok-plan.plan.items c.in_ok-plan.ensures e h in
+    from_part (explained_read c.args.groups.now e) (part_read c.args.groups.now x.0) c.args.steps.now c.read_parts.new.steps x.2
+    (c.in_ok-rows.ensures.least x.0 (subst (λ (xs : List PartPieces). In x.0 xs) (sym c.deref.ensures.value) x.1))

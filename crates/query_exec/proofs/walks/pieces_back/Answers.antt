@@ -1,4 +1,4 @@
-use Rattle.std.proofs.Common.{◌≡◌, ◌+◌, ◌<◌, ◌≤◌, ◌++◌, ℕ, List, [], ◌∷◌, map, length, get_or, take, drop, sym, ap, subst, ◌∙◌, arith}
+use Rattle.std.proofs.Common.{◌≡◌, ◌+◌, ◌<◌, ℕ, List, [], ◌∷◌, map, length, get_or, take, drop, sym, ap, subst, ◌∙◌, arith}
 use Rattle.std.proofs.lemmas.List.{length-map, take_all}
 use Rattle.smo_types.specs.Commands.{version_of, versions_of}
 use Rattle.smo_types.specs.declared.versions.Version.{Version}
@@ -8,7 +8,6 @@ use Rattle.piece_meaning.specs.Books.{book_of}
 use Rattle.piece_meaning.specs.Typed.{AllTyped}
 use Rattle.piece_ir.specs.Shown.{pieces_of}
 use Rattle.piece_ir.specs.declared.pieces.Piece.{Piece}
-use Rattle.piece_prune.specs.DeadPieces.{AreLiving}
 use Rattle.rewrite_chains.specs.Beginnings.{asking, first_piece}
 use Rattle.rewrite_chains.specs.Standing.{StandFor}
 use Rattle.rewrite_chains.proofs.Standings.{stand_first}

@@ -1,8 +1,9 @@
 use Rattle.std.proofs.Common.{◌≤◌, ◌+◌, List, sym, subst}
+use Rattle.std.specs.Prelude.{IfOk}
 use Rattle.piece_meaning.specs.Books.{book_of}
 use Rattle.temporal_lang.specs.Queries.{query_of}
 use Rattle.piece_texts.specs.ExplainedPieces.{PlainExplained}
-use Rattle.query_exec.specs.Reads.{reads_of}
+use Rattle.query_exec.specs.Reads.{explained_read, reads_of}
 use Rattle.archive_state.specs.Asking.{ArePiecesOf}
 use Rattle.archive_state.specs.Standing.{Standing, ShowsPast}
 use Rattle.archive_state.proofs.QueryFaults.{way_back_told}
@@ -23,3 +24,9 @@ pub returns-clause-lent : goal.returns-clause-lent
 returns-clause-lent g c = λ past stands pieces are none.
     let before = subst (λ (s : Standing). ShowsPast s past) (sym c.self.view_is) stands in
     c.ask.ensures.lent past before.groups pieces are none
+
+pub returns-clause-least : goal.returns-clause-least
+returns-clause-least g c = λ past stands pieces are e m.
+    let before = subst (λ (s : Standing). ShowsPast s past) (sym c.self.view_is) stands in
+    subst (λ (s : Standing). IfOk c.ask.result (λ _. c.args.steps.now + explained_read s.groups e ≤ c.ask.new.steps)) c.self.view_is
+    (c.ask.ensures.least past before.groups pieces are e m)

@@ -1,0 +1,18 @@
+ghost use Rattle.std.specs.Prelude.{◌≡◌, ℕ, List};
+ghost use Rattle.relations.specs.Sets.{In};
+ghost use Rattle.relations.specs.Spans.{Span};
+ghost use Rattle.version_groups.specs.Groups.{Kept};
+ghost use Rattle.piece_meaning.specs.Pieces.{PlainPiece};
+ghost use Rattle.piece_ir.specs.Shown.{pieces_of};
+ghost use Rattle.join_exec.specs.Pieces.{stored_meaning};
+ghost use Rattle.query_exec.specs.Reads.{part_read};
+ghost use Rattle.query_exec.specs.Runs.{IsRun};
+ghost use Rattle.query_exec.specs.declared.part_pieces.PartPieces.{PartPieces as OnePart};
+
+/// What is read of a run, over the version of its first part, is what each of its parts has alone: at each moment its pieces mean the
+/// same over what is stored of either version, and as much is read for them.
+pub fn a_run_is_read_as_each_of_its_parts()
+    ensures rows { (kept : Kept) → (first : OnePart) → (more : List OnePart) → (period : Span) → IsRun kept first more period → (x : OnePart) → In x more
+        → (p : PlainPiece) → In p (pieces_of x.pieces.items) → (m : ℕ) → stored_meaning kept first.part.1 p m ≡ stored_meaning kept x.part.1 p m }
+    ensures reads { (kept : Kept) → (first : OnePart) → (more : List OnePart) → (period : Span) → IsRun kept first more period → (x : OnePart) → In x more → part_read kept x ≡ part_read kept first }
+{}
