@@ -3,3 +3,4 @@ pub mod Gathered
 pub mod Listed
 pub mod TablesLeft
 mod Worked
+mod WorkedSizes

@@ -1,5 +1,5 @@
 -- A worked row: what is told of one piece of a query that is pushed through a PARTITION.
-use Rattle.std.proofs.Common.{◌≡◌, ℕ, List, [], ◌∷◌, pos, codes, refl}
+use Rattle.std.proofs.Common.{◌≡◌, ℕ, [], ◌∷◌, pos, codes, refl}
 use Rattle.std.specs.Fmt.{digits}
 use Rattle.relations.specs.Spans.{span}
 use Rattle.prima_base.specs.declared.values.Value.TheVariants.{Int}

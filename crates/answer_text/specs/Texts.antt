@@ -1,6 +1,7 @@
 -- The lines of replies, by their bytes. Each is ended by a line feed.
 use Rattle.std.specs.Prelude.{ℕ, Bool, true, false, List, [], ◌∷◌, ◌++◌, ◌+◌, ◌==◌, length, map, codes, decimal, Option, Some, None, if◌then◌else◌}
 use Rattle.std.specs.List.{flat_map}
+use Rattle.std.specs.Option.{unwrap_or}
 use Rattle.std.specs.FinMap.{entries}
 use Rattle.relations.specs.Timed.{Entry}
 use Rattle.prima_base.specs.declared.periods.TheConstants.{FOREVER}
@@ -9,6 +10,7 @@ use Rattle.prima_base.specs.Columns.{Column}
 use Rattle.schema_catalog.specs.Tables.{Tables}
 use Rattle.smo_types.specs.Operators.{Operator}
 use Rattle.smo_types.specs.Commands.{PlainVersion}
+use Rattle.smo_meaning.specs.Sizes.{Size, cells_in}
 use Rattle.smo_parse.specs.TreeTexts.{value_text}
 use Rattle.smo_parse.specs.Texts.{listed, column_text, operator_text}
 use Rattle.piece_texts.specs.ExplainedPieces.{PlainExplained}
@@ -125,3 +127,18 @@ tables_text (t ∷ tables) = table_text t ++ tables_text tables
 -- the tables of a version, and then how many they are
 unfoldable pub schema_text : Tables → List ℕ
 schema_text tables = tables_text (entries tables) ++ count_text (length (entries tables))
+
+-- ---- lifelines
+
+-- the line of a lifeline: its table, its first version and its last, its keys, and its cells
+unfoldable pub size_text : List ℕ → ℕ → ℕ → ℕ → ℕ → List ℕ
+size_text table first last keys cells =
+    codes "size " ++ table ++ codes " " ++ decimal first ++ codes " " ++ decimal last ++ codes " " ++ decimal keys ++ codes " " ++ decimal cells ++ codes "\n"
+
+-- a lifeline; the last version of one that lives is this one, the newest of all
+abbrev pub lifeline_text : ℕ → Size → List ℕ
+lifeline_text newest s = size_text s.table s.first (unwrap_or s.last newest) s.keys (cells_in s.columns)
+
+-- all lifelines, where this version is the newest, and then how many they are
+unfoldable pub sizes_text : ℕ → List Size → List ℕ
+sizes_text newest sizes = flat_map (lifeline_text newest) sizes ++ count_text (length sizes)

@@ -2,7 +2,7 @@
 
 ghost use Rattle.std.specs.Prelude.{◌≡◌, ◌++◌, ℕ, List, OnOk, OnErr, IfOk, decimal, Err};
 ghost use Rattle.std.specs.Io.KnownBytes.{Appends};
-ghost use Rattle.prima_io.specs.Moves.{AppendsFront};
+ghost use Rattle.prima_io.specs.Moves.{AppendsFront, AppendsLess};
 ghost use Rattle.answer_text.specs.Causes.{HasStopCause};
 ghost use Rattle.answer_text.specs.declared.stop.Stop.TheVariants as stop;
 ghost use Rattle.answer_text.specs.Texts.{end_text, count_text};
@@ -48,10 +48,11 @@ pub(crate) fn add_count(line: &mut Vec<u8>, count: u64) -> Result<(), NoMemory>
 }
 
 /// Puts lines that were made in memory, or stops where they were not. `WriteFault` comes only where the sink's count of
-/// faults rose; a front of the lines was then put. Of lines that found no memory nothing was put.
+/// faults rose; a front of the lines, and not all of them, was then put. Of lines that found no memory nothing was put.
 pub(crate) fn put_lines<K: Sink>(sink: &mut K, lines: Result<Vec<u8>, NoMemory>) -> Result<(), Stop>
     ensures all { (text : List ℕ) → IfOk lines (λ l. l.items ≡ text) → OnOk result (Appends (K.written sink.old) (K.written sink.new) text) }
     ensures part { (text : List ℕ) → IfOk lines (λ l. l.items ≡ text) → OnErr result (AppendsFront (K.written sink.old) (K.written sink.new) text) }
+    ensures less { (text : List ℕ) → IfOk lines (λ l. l.items ≡ text) → result ≡ Err stop.WriteFault → AppendsLess (K.written sink.old) (K.written sink.new) text }
     ensures unsaid { result ≡ Err stop.NoMemory → K.written sink.new ≡ K.written sink.old }
     ensures cause { HasStopCause (K.faults sink.old) (K.faults sink.new) result }
 {

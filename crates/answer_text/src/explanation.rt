@@ -3,7 +3,7 @@
 ghost use Rattle.std.specs.Prelude.{◌≡◌, ◌++◌, Err, IfOk, OnOk, OnErr};
 ghost use Rattle.std.specs.List.{flat_map};
 ghost use Rattle.std.specs.Io.KnownBytes.{Appends};
-ghost use Rattle.prima_io.specs.Moves.{AppendsFront};
+ghost use Rattle.prima_io.specs.Moves.{AppendsFront, AppendsLess};
 ghost use Rattle.piece_texts.specs.ExplainedPieces.{explained_of, all_explained};
 ghost use Rattle.piece_texts.specs.PieceTexts.{piece_text};
 ghost use Rattle.answer_text.specs.Causes.{HasStopCause};
@@ -67,11 +67,12 @@ pub fn explain_text(alloc: Global, list: &[Explained]) -> Result<Vec<u8>, NoMemo
     Ok(lines)
 }
 
-/// Puts the lines of `explain_text`. A failing sink's count has risen; a front of the lines was then put. Where memory ran
-/// out nothing was put.
+/// Puts the lines of `explain_text`. A failing sink's count has risen; a front of the lines, and not all of them, was then
+/// put. Where memory ran out nothing was put.
 pub fn put_explained<K: Sink>(alloc: Global, sink: &mut K, list: &[Explained]) -> Result<(), Stop>
     ensures all { OnOk result (Appends (K.written sink.old) (K.written sink.new) (explain_text (all_explained list.now))) }
     ensures part { OnErr result (AppendsFront (K.written sink.old) (K.written sink.new) (explain_text (all_explained list.now))) }
+    ensures less { result ≡ Err stop.WriteFault → AppendsLess (K.written sink.old) (K.written sink.new) (explain_text (all_explained list.now)) }
     ensures unsaid { result ≡ Err stop.NoMemory → K.written sink.new ≡ K.written sink.old }
     ensures cause { HasStopCause (K.faults sink.old) (K.faults sink.new) result }
 {

@@ -1,11 +1,12 @@
 //! The lines of replies: what is answered to a query and to a command, the pieces that a query runs, the versions, the
-//! tables of a schema, and the refusals. Each is put into a sink.
+//! tables of a schema, the lifelines of tables, and the refusals. Each is put into a sink.
 //!
 //! `specs/Texts.antt` and `specs/RefusalTexts.antt` say each line by its bytes.
 #![tactic(auto)]
 
 mod bytes;
 mod explanation;
+mod lifeline;
 mod line;
 mod listing;
 mod refusal;
@@ -15,6 +16,7 @@ mod stop;
 mod versions;
 
 pub use explanation::{explain_text, put_explained};
+pub use lifeline::{put_count, put_size};
 pub use listing::{Listing, put_listing};
 pub use piece_texts::Explained;
 pub use refusal::put_refusal;

@@ -3,7 +3,7 @@
 ghost use Rattle.std.specs.Prelude.{◌≡◌, ◌++◌, map, drop, IfOk, OnOk, OnErr, Err};
 ghost use Rattle.std.specs.FinMap.{entries};
 ghost use Rattle.std.specs.Io.KnownBytes.{Appends};
-ghost use Rattle.prima_io.specs.Moves.{AppendsFront};
+ghost use Rattle.prima_io.specs.Moves.{AppendsFront, AppendsLess};
 ghost use Rattle.smo_parse.specs.Texts.{type_text, column_text, listed, more_listed};
 ghost use Rattle.answer_text.specs.Causes.{HasStopCause};
 ghost use Rattle.answer_text.specs.declared.stop.Stop.TheVariants as stop;
@@ -101,10 +101,11 @@ fn schema_lines(alloc: Global, schema: &Schema) -> Result<Vec<u8>, NoMemory>
 }
 
 /// Puts a line for each table of the schema, in the order of names, and then how many they are. A failing sink's count has
-/// risen; a front of the lines was then put. Where memory ran out nothing was put.
+/// risen; a front of the lines, and not all of them, was then put. Where memory ran out nothing was put.
 pub fn put_schema<K: Sink>(alloc: Global, sink: &mut K, schema: &Schema) -> Result<(), Stop>
     ensures all { OnOk result (Appends (K.written sink.old) (K.written sink.new) (schema_text schema.now)) }
     ensures part { OnErr result (AppendsFront (K.written sink.old) (K.written sink.new) (schema_text schema.now)) }
+    ensures less { result ≡ Err stop.WriteFault → AppendsLess (K.written sink.old) (K.written sink.new) (schema_text schema.now) }
     ensures unsaid { result ≡ Err stop.NoMemory → K.written sink.new ≡ K.written sink.old }
     ensures cause { HasStopCause (K.faults sink.old) (K.faults sink.new) result }
 {

@@ -2,7 +2,7 @@
 
 ghost use Rattle.std.specs.Prelude.{◌≡◌, ◌++◌, ◌+◌, ◌<◌, ◌^◌, length, map, IfOk, OnOk, OnErr, Err};
 ghost use Rattle.std.specs.Io.KnownBytes.{Appends};
-ghost use Rattle.prima_io.specs.Moves.{AppendsFront};
+ghost use Rattle.prima_io.specs.Moves.{AppendsFront, AppendsLess};
 ghost use Rattle.smo_types.specs.Operators.{operator_of, operators_of};
 ghost use Rattle.smo_types.specs.Commands.{version_of};
 ghost use Rattle.smo_parse.specs.Texts.{operator_text};
@@ -132,10 +132,11 @@ fn version_lines(alloc: Global, versions: &[Version]) -> Result<Vec<u8>, NoMemor
 }
 
 /// Puts a line for each version, version 0 first, and then how many they are. A failing sink's count has risen; a front
-/// of the lines was then put. Where memory ran out nothing was put.
+/// of the lines, and not all of them, was then put. Where memory ran out nothing was put.
 pub fn put_versions<K: Sink>(alloc: Global, sink: &mut K, versions: &[Version]) -> Result<(), Stop>
     ensures all { OnOk result (Appends (K.written sink.old) (K.written sink.new) (versions_text (map version_of versions.now))) }
     ensures part { OnErr result (AppendsFront (K.written sink.old) (K.written sink.new) (versions_text (map version_of versions.now))) }
+    ensures less { result ≡ Err stop.WriteFault → AppendsLess (K.written sink.old) (K.written sink.new) (versions_text (map version_of versions.now)) }
     ensures unsaid { result ≡ Err stop.NoMemory → K.written sink.new ≡ K.written sink.old }
     ensures cause { HasStopCause (K.faults sink.old) (K.faults sink.new) result }
 {

@@ -10,14 +10,15 @@ use Rattle.schema_catalog.specs.Tables.{Tables}
 use Rattle.smo_types.specs.Commands.{PlainBody, changing, evolving, PlainCommand, PlainVersion}
 use Rattle.smo_meaning.specs.Checks.{Fault}
 use Rattle.smo_meaning.specs.Past.{Past, past_with, tables_of}
+use Rattle.smo_meaning.specs.Sizes.{Size}
 use Rattle.archive_core.specs.Committing.{commit_fault}
 use Rattle.piece_texts.specs.ExplainedPieces.{PlainExplained}
 use Rattle.temporal_lang.specs.Accepted.{version_fault, fault_of_query}
 use Rattle.temporal_lang.specs.Answers.{answer}
-use Rattle.script_parse.specs.Statements.{PlainStatement, write, ask, explain, show_versions, show_schema}
+use Rattle.script_parse.specs.Statements.{PlainStatement, write, ask, explain, show_versions, show_schema, show_sizes}
 use Rattle.script_parse.specs.Reading.{Reading, Blank, Refused, Whole, reading}
 use Rattle.archive_state.specs.Asking.{tells_periods, pieces_told}
-use Rattle.answer_text.specs.Texts.{changed_text, evolved_text, listing_text, piece_head, explain_text, tables_text, count_text, version_head, versions_text, schema_text}
+use Rattle.answer_text.specs.Texts.{changed_text, evolved_text, listing_text, piece_head, explain_text, tables_text, count_text, version_head, versions_text, schema_text, size_text, sizes_text}
 use Rattle.answer_text.specs.RefusalTexts.{refusal_text}
 use Rattle.script_cli.specs.Given.{Given}
 use Rattle.script_cli.specs.Output.{Recorded, Reply, refused, answered, put, refused_or, body_text, statement_reply, reading_reply, is_error_line, reply}
@@ -60,6 +61,11 @@ schema_told : (tables : Tables) (now : Recorded) → Told (answered (schema_text
 unfolding schema_text
 schema_told tables now = sym (tables_told (entries tables) (length (entries tables)))
 
+sizes_told : (newest : ℕ) (sizes : List Size) (now : Recorded) → Told (answered (sizes_text newest sizes) now)
+unfolding sizes_text size_text
+sizes_told newest [] now = refl
+sizes_told newest (s ∷ sizes) now = refl
+
 refused_told : (fault : Fault) (now : Recorded) (r : Reply) → Told r → Told (refused_or fault now r)
 refused_told None now r h = h
 refused_told (Some refusal) now r h = refusal_told refusal now
@@ -70,6 +76,7 @@ statement_told limit (ask query) now = refused_told (fault_of_query now.past que
 statement_told limit (explain query) now = refused_told (fault_of_query now.past query) now (answered (explain_text (pieces_told limit.book now.past query)) now) (pieces_told_so (pieces_told limit.book now.past query) now)
 statement_told limit show_versions now = versions_told now.past.versions now
 statement_told limit (show_schema version) now = refused_told (version_fault now.past version) now (answered (schema_text (tables_of now.past version)) now) (schema_told (tables_of now.past version) now)
+statement_told limit show_sizes now = sizes_told (length now.past.versions) now.past.sizes now
 
 reading_told : (limit : Given) (r : Reading) (now : Recorded) → Told (reading_reply limit r now)
 reading_told limit Blank now = refl

@@ -15,7 +15,7 @@ use Rattle.temporal_lang.specs.Accepted.{version_fault, fault_of_query}
 use Rattle.temporal_lang.specs.Answers.{asked_at, listing, answer, IsListingOf}
 use Rattle.temporal_lang.specs.Queries.{PlainQuery}
 use Rattle.script_parse.specs.Script.{Piece, Whole as Text, Skipped}
-use Rattle.script_parse.specs.Statements.{PlainStatement, write, ask, explain, show_versions, show_schema}
+use Rattle.script_parse.specs.Statements.{PlainStatement, write, ask, explain, show_versions, show_schema, show_sizes}
 use Rattle.script_parse.specs.Reading.{Reading, Blank, Refused, Whole, reading}
 use Rattle.archive_state.specs.Asking.{tells_periods, pieces_told}
 use Rattle.smo_meaning.specs.History.{AllAccepted, IsHistory, past_after}
@@ -62,6 +62,7 @@ module _ (limit : Given) where
   statement_keeps now (explain query) written h = same_past now (fault_of_query now.past query) (explain_text (pieces_told limit.book now.past query)) h
   statement_keeps now show_versions written h = h
   statement_keeps now (show_schema version) written h = same_past now (version_fault now.past version) (schema_text (tables_of now.past version)) h
+  statement_keeps now show_sizes written h = h
 
   reading_keeps : (now : Recorded) (r : Reading) → HasWritten r → IsOfScript now.past → IsOfScript (reading_reply limit r now).behind.past
   reading_keeps now Blank has h = h

@@ -9,6 +9,7 @@ pub mod Telling
 pub mod WrittenStatements
 pub mod LawfulPasts
 pub mod Responding
+pub mod Lifelines
 pub mod Counts
 pub mod Unopened
 pub mod Borrowed

@@ -15,7 +15,7 @@ use Rattle.journal.proofs.Putting.{before_gate-push}
 use Rattle.archive_file.specs.Opening.{record_of, records_of, gate_behind}
 use Rattle.archive_core.specs.Committing.{room_fault, commit_fault}
 use Rattle.script_parse.specs.Script.{Piece, Whole as Text, Skipped}
-use Rattle.script_parse.specs.Statements.{PlainStatement, write, ask, explain, show_versions, show_schema}
+use Rattle.script_parse.specs.Statements.{PlainStatement, write, ask, explain, show_versions, show_schema, show_sizes}
 use Rattle.script_parse.specs.Reading.{Reading, Blank, Refused, Whole, reading}
 use Rattle.script_cli.specs.Given.{Given}
 use Rattle.script_cli.specs.Output.{Recorded, recorded, recorded_with, Reply, answered, refused_or, put, reply, command_reply, statement_reply, reading_reply, piece_reply, commands_put, recorded_after}
@@ -93,6 +93,7 @@ statement_step limit now (ask query) = refused_step now (fault_of_query now.past
 statement_step limit now (explain query) = refused_step now (fault_of_query now.past query) _
 statement_step limit now show_versions = unchanged now (statement_reply limit show_versions now) refl refl
 statement_step limit now (show_schema version) = refused_step now (version_fault now.past version) _
+statement_step limit now show_sizes = unchanged now (statement_reply limit show_sizes now) refl refl
 
 reading_step : (limit : Given) (now : Recorded) (r : Reading) → IsStep now (reading_reply limit r now)
 reading_step limit now Blank = unchanged now (reading_reply limit Blank now) refl refl

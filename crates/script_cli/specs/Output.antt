@@ -18,12 +18,12 @@ use Rattle.archive_core.specs.Committing.{commit_fault}
 use Rattle.temporal_lang.specs.Queries.{PlainQuery}
 use Rattle.temporal_lang.specs.Accepted.{version_fault, fault_of_query}
 use Rattle.temporal_lang.specs.Answers.{answer}
-use Rattle.script_parse.specs.Statements.{PlainStatement, write, ask, explain, show_versions, show_schema}
+use Rattle.script_parse.specs.Statements.{PlainStatement, write, ask, explain, show_versions, show_schema, show_sizes}
 use Rattle.script_parse.specs.Reading.{Reading, Blank, Refused, Whole, reading}
 use Rattle.archive_state.specs.declared.archives.Done.{Done}
 use Rattle.archive_state.specs.Asking.{tells_periods, pieces_told}
 use Rattle.answer_text.specs.RefusalTexts.{refusal_text}
-use Rattle.answer_text.specs.Texts.{made_text, changed_text, evolved_text, listing_text, explain_text, versions_text, schema_text}
+use Rattle.answer_text.specs.Texts.{made_text, changed_text, evolved_text, listing_text, explain_text, versions_text, schema_text, sizes_text}
 use Rattle.script_cli.specs.Given.{Given}
 
 -- what stands behind statements: the past, and the place of the gate behind the journal's records
@@ -95,12 +95,17 @@ versions_reply now = answered (versions_text now.past.versions) now
 abbrev pub schema_reply : ℕ → Recorded → Reply
 schema_reply version now = refused_or (version_fault now.past version) now (answered (schema_text (tables_of now.past version)) now)
 
+-- the lifelines, up to the newest version
+abbrev pub sizes_reply : Recorded → Reply
+sizes_reply now = answered (sizes_text (length now.past.versions) now.past.sizes) now
+
 abbrev pub statement_reply : Given → PlainStatement → Recorded → Reply
 statement_reply limit (write command) now = command_reply limit command now
 statement_reply limit (ask query) now = query_reply query now
 statement_reply limit (explain query) now = explain_reply limit.book query now
 statement_reply limit show_versions now = versions_reply now
 statement_reply limit (show_schema version) now = schema_reply version now
+statement_reply limit show_sizes now = sizes_reply now
 
 abbrev pub reading_reply : Given → Reading → Recorded → Reply
 reading_reply limit Blank now = answered [] now

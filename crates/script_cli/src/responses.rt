@@ -14,13 +14,14 @@ ghost use Rattle.temporal_lang.specs.Queries.{query_of};
 ghost use Rattle.script_parse.specs.Statements.{statement_of};
 ghost use Rattle.rewrite.specs.Books.{meaning_of, EachOf};
 ghost use Rattle.piece_texts.specs.ExplainedPieces.{all_explained};
+ghost use Rattle.version_groups.specs.Showing.{Shows};
 ghost use Rattle.archive_state.specs.Asking.{IsAsked};
 ghost use Rattle.archive_state.specs.Standing.{ShowsPast};
 ghost use Rattle.archive_core.specs.Fields.{standing_of, below, limit_of};
 ghost use Rattle.answer_text.specs.RefusalTexts.{refusal_text};
-ghost use Rattle.answer_text.specs.Texts.{listing_text, explain_text};
+ghost use Rattle.answer_text.specs.Texts.{listing_text, explain_text, sizes_text};
 ghost use Rattle.script_cli.specs.Given.{Given};
-ghost use Rattle.script_cli.specs.Output.{Recorded, reply, answered, done_text, command_reply, query_reply, explain_reply, versions_reply, schema_reply, statement_reply};
+ghost use Rattle.script_cli.specs.Output.{Recorded, reply, answered, done_text, command_reply, query_reply, explain_reply, versions_reply, schema_reply, sizes_reply, statement_reply};
 ghost use Rattle.script_cli.specs.Halts.{HaltCounted, SaidCounted};
 ghost use Rattle.script_cli.specs.Puts.{is_error};
 ghost use Rattle.script_cli.specs.Shows.{Says, Responds, StandsAt, TakesRecords};
@@ -28,12 +29,12 @@ ghost use Rattle.script_cli.specs.Shows.{Says, Responds, StandsAt, TakesRecords}
 use crate::halt::{Halt, or_write_fault};
 use crate::put::Put;
 use answer_text::{
-    Explained, Listing, Stop, put_changed, put_evolved, put_explained, put_listing, put_refusal,
-    put_schema, put_versions,
+    Explained, Listing, Stop, put_changed, put_count, put_evolved, put_explained, put_listing,
+    put_refusal, put_schema, put_size, put_versions,
 };
 use archive_core::{Archive, AskFault, CommitFault, Done};
 use disk_model::Disk;
-use prima_base::{Refusal, Steps};
+use prima_base::{NoMemory, Refusal, Steps};
 use prima_io::{Failed, Sink};
 use rule_book::{Rule, RuleBook};
 use script_parse::{ReadFault, Statement, next_statement};
@@ -42,6 +43,7 @@ use std::alloc::Global;
 use std::marker::Brand;
 use std::sync::ledger::{Blank, Ledger};
 use temporal_lang::Query;
+use version_groups::Groups;
 
 /// Puts the line of a refusal.
 pub(crate) fn refuse<K: Sink>(sink: &mut K, refusal: &Refusal) -> Result<Put, Failed>
@@ -212,6 +214,50 @@ fn respond_schema<K: Sink, D: Disk>(
     }
 }
 
+// How many lifelines there are. There is no memory for more of them than a place can number.
+fn count_lifelines(groups: &Groups) -> Result<u32, NoMemory>
+    ensures { (past : Past) → Shows groups.now past → IfOk result (λ n. n ≡ length past.sizes) }
+{
+    for i in 0..u32::MAX {
+        if groups.size(i).is_none() {
+            return Ok(i);
+        }
+    }
+    Err(NoMemory)
+}
+
+// Puts the lines of the lifelines, which are so many.
+fn put_lifelines<K: Sink>(sink: &mut K, groups: &Groups, count: u32) -> Result<Put, Failed>
+    ensures ok { IfOk result (λ put. is_error put ≡ false) }
+    ensures all { (past : Past) → Shows groups.now past → count ≡ length past.sizes
+        → OnOk result (Appends (K.written sink.old) (K.written sink.new) (sizes_text (length past.versions) past.sizes)) }
+    ensures part { (past : Past) → Shows groups.now past → count ≡ length past.sizes
+        → OnErr result (AppendsFront (K.written sink.old) (K.written sink.new) (sizes_text (length past.versions) past.sizes)) }
+    ensures cause { HasCause (K.faults sink.old) (K.faults sink.new) result }
+{
+    for i in 0..count {
+        if let Some(line) = groups.size(i) {
+            put_size(
+                sink, line.table, line.first, line.last, line.keys, line.cells,
+            )?;
+        }
+    }
+    put_count(sink, u64::from(count))?;
+    Ok(Put::NoError)
+}
+
+// Responds to SHOW SIZES.
+fn respond_sizes<K: Sink, D: Disk>(archive: &Archive<D>, sink: &mut K) -> Result<Put, Halt>
+    ensures says { (now : Recorded) → ShowsPast (standing_of archive.now) now.past → Says (sizes_reply now) result (K.written sink.old) (K.written sink.new) }
+    ensures counts { SaidCounted result (K.faults sink.old) (K.faults sink.new) }
+{
+    let groups = archive.groups();
+    match count_lifelines(groups) {
+        Ok(count) => or_write_fault(put_lifelines(sink, groups, count)),
+        Err(NoMemory) => Err(Halt::NoMemory),
+    }
+}
+
 // Responds to what was read.
 fn respond_statement<K: Sink, D: Disk>(
     alloc: Global,
@@ -233,6 +279,7 @@ fn respond_statement<K: Sink, D: Disk>(
         Statement::Explain(query) => respond_explain(alloc, archive, book, sink, &query),
         Statement::ShowVersions => respond_versions(alloc, archive, sink),
         Statement::ShowSchema(version) => respond_schema(alloc, archive, sink, version),
+        Statement::ShowSizes => respond_sizes(archive, sink),
     }
 }
 

@@ -17,7 +17,7 @@ use Rattle.smo_parse.proofs.OperatorGoodness.{operator_good}
 use Rattle.temporal_lang.specs.QueryGrammar.{IsAsk}
 use Rattle.temporal_lang.specs.QueryReader as query
 use Rattle.temporal_lang.proofs.QueryGoodness.{ask_good}
-use Rattle.script_parse.specs.Statements.{PlainStatement, write, ask, explain, show_versions, show_schema}
+use Rattle.script_parse.specs.Statements.{PlainStatement, write, ask, explain, show_versions, show_schema, show_sizes}
 use Rattle.script_parse.specs.Productions.{IsChange, IsOp, AreOps, IsInverse, IsEvolve, AreChanges, IsBody, IsWrite, IsQuery, IsExplain, IsStatement}
 use Rattle.script_parse.specs.StatementReader.{changes, op, ops, inverse, evolve_rest, body_arm, body, write_rest, ask_rest, explain_rest, schema_rest, show_arm, show_rest, statement_arm, statement, goes_change, goes_changes, goes_ops, goes_evolve, goes_body, goes_statement}
 use Rattle.script_parse.proofs.ChangeGoodness.{ends, single_then, change_not_none, change_not_first, changes_good}
@@ -119,8 +119,14 @@ VersionsRest = pureG show_versions
 abbrev SchemaRest : PlainStatement → Size → List Lexeme → Type 0
 SchemaRest = mapG (λ version. show_schema version) smallG
 
+abbrev SizesRest : PlainStatement → Size → List Lexeme → Type 0
+SizesRest = pureG show_sizes
+
+abbrev FromSchema : PlainStatement → Size → List Lexeme → Type 0
+FromSchema = eitherG (leadG (word (codes "SCHEMA")) SchemaRest) (leadG (word (codes "SIZES")) SizesRest)
+
 abbrev ShowRest : PlainStatement → Size → List Lexeme → Type 0
-ShowRest = eitherG (leadG (word (codes "VERSIONS")) VersionsRest) (leadG (word (codes "SCHEMA")) SchemaRest)
+ShowRest = eitherG (leadG (word (codes "VERSIONS")) VersionsRest) FromSchema
 
 write_good : Good 0 32 write_rest WriteRest goes_statement
 unfolding write_rest
@@ -143,11 +149,17 @@ schema_good goes = map_good 0 32 (λ version. show_schema version) small smallG 
 show_good : (goes : Lexeme → Bool) → Good 0 32 show_rest ShowRest goes
 unfolding show_rest
 show_good goes = choose_good 0 32 show_arm ShowRest goes (live (pure_good 0 32 show_versions goes).live)
-    (either_not_none (leadG (word (codes "VERSIONS")) VersionsRest) (leadG (word (codes "SCHEMA")) SchemaRest) (lead_not_none (word (codes "VERSIONS")) VersionsRest) (lead_not_none (word (codes "SCHEMA")) SchemaRest))
+    (either_not_none (leadG (word (codes "VERSIONS")) VersionsRest) FromSchema (lead_not_none (word (codes "VERSIONS")) VersionsRest)
+    (either_not_none (leadG (word (codes "SCHEMA")) SchemaRest) (leadG (word (codes "SIZES")) SizesRest) (lead_not_none (word (codes "SCHEMA")) SchemaRest) (lead_not_none (word (codes "SIZES")) SizesRest)))
     (λ x. first_arm (is_word (codes "VERSIONS")) (word (codes "VERSIONS")) (word_is (codes "VERSIONS")) (word_exact (codes "VERSIONS")) 32 (pure show_versions) VersionsRest goes (pure_good 0 32 show_versions goes)
-    (λ y. cond (is_word (codes "SCHEMA") y) (Takes schema_rest) No) (leadG (word (codes "SCHEMA")) SchemaRest)
-    (lead_not_first (is_word (codes "SCHEMA")) (word (codes "VERSIONS")) (word (codes "SCHEMA")) SchemaRest refl (word_is (codes "SCHEMA"))) x
-    (last_arm (is_word (codes "SCHEMA")) (word (codes "SCHEMA")) (word_is (codes "SCHEMA")) (word_exact (codes "SCHEMA")) 32 schema_rest SchemaRest goes (schema_good goes) x))
+    (λ y. cond (is_word (codes "SCHEMA") y) (Takes schema_rest) (cond (is_word (codes "SIZES") y) (Takes (pure show_sizes)) No)) FromSchema
+    (either_not_first (word (codes "VERSIONS")) (leadG (word (codes "SCHEMA")) SchemaRest) (leadG (word (codes "SIZES")) SizesRest)
+    (lead_not_first (is_word (codes "SCHEMA")) (word (codes "VERSIONS")) (word (codes "SCHEMA")) SchemaRest refl (word_is (codes "SCHEMA")))
+    (lead_not_first (is_word (codes "SIZES")) (word (codes "VERSIONS")) (word (codes "SIZES")) SizesRest refl (word_is (codes "SIZES")))) x
+    (first_arm (is_word (codes "SCHEMA")) (word (codes "SCHEMA")) (word_is (codes "SCHEMA")) (word_exact (codes "SCHEMA")) 32 schema_rest SchemaRest goes (schema_good goes)
+    (λ y. cond (is_word (codes "SIZES") y) (Takes (pure show_sizes)) No) (leadG (word (codes "SIZES")) SizesRest)
+    (lead_not_first (is_word (codes "SIZES")) (word (codes "SCHEMA")) (word (codes "SIZES")) SizesRest refl (word_is (codes "SIZES"))) x
+    (last_arm (is_word (codes "SIZES")) (word (codes "SIZES")) (word_is (codes "SIZES")) (word_exact (codes "SIZES")) 32 (pure show_sizes) SizesRest goes (pure_good 0 32 show_sizes goes) x)))
   where
     live : (a : PlainStatement) × (s : Size) × (ts : List Lexeme) × VersionsRest a s ts → (a : PlainStatement) × (s : Size) × (ts : List Lexeme) × ShowRest a s ts
     live l = (l.0, l.1, word (codes "VERSIONS") ∷ l.2, inl (l.2, refl, l.3))
@@ -200,14 +212,16 @@ up a s l (inl h) = inl h
 up a s l (inr (inl h)) = inr (inl h)
 up a s l (inr (inr (inl h))) = inr (inr (inl h))
 up a s l (inr (inr (inr (more, e, inl h)))) = inr (inr (inr (inl (more, e, h))))
-up a s l (inr (inr (inr (more, e, inr h)))) = inr (inr (inr (inr (more, e, h))))
+up a s l (inr (inr (inr (more, e, inr (inl h))))) = inr (inr (inr (inr (inl (more, e, h)))))
+up a s l (inr (inr (inr (more, e, inr (inr h))))) = inr (inr (inr (inr (inr (more, e, h)))))
 
 down : (a : PlainStatement) (s : Size) (l : List Lexeme) → IsStatement a s l → FromAt a s l
 down a s l (inl h) = inl h
 down a s l (inr (inl h)) = inr (inl h)
 down a s l (inr (inr (inl h))) = inr (inr (inl h))
 down a s l (inr (inr (inr (inl h)))) = inr (inr (inr (h.0, h.1, inl h.2)))
-down a s l (inr (inr (inr (inr h)))) = inr (inr (inr (h.0, h.1, inr h.2)))
+down a s l (inr (inr (inr (inr (inl h))))) = inr (inr (inr (h.0, h.1, inr (inl h.2))))
+down a s l (inr (inr (inr (inr (inr h))))) = inr (inr (inr (h.0, h.1, inr (inr h.2))))
 
 pub statement_good : Good 0 32 statement IsStatement goes_statement
 statement_good = good_iff 0 32 statement FromAt IsStatement goes_statement up down by_words_good

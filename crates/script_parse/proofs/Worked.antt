@@ -23,7 +23,7 @@ use Rattle.temporal_lang.specs.declared.whens.When.TheVariants.{Always, AsOf, Du
 use Rattle.plain_answers.specs.Branches.{a_branch}
 use Rattle.temporal_lang.specs.Queries.{PlainQuery, a_query}
 use Rattle.temporal_lang.specs.QueryReader as query
-use Rattle.script_parse.specs.Statements.{ask, explain, write, show_versions, show_schema}
+use Rattle.script_parse.specs.Statements.{ask, explain, write, show_versions, show_schema, show_sizes}
 use Rattle.script_parse.specs.Lexing.{lexed_from}
 use Rattle.script_parse.specs.StatementReader.{where_part, more_constants, constants, row, insert_rest, delete_rest, setting, settings, update_rest, change, changes, op, ops, inverse, evolve_rest, body, write_rest, ask_rest, explain_rest, schema_rest, show_rest, statement}
 use Rattle.script_parse.specs.Reading.{Reading, Blank, Refused, Whole, reading}
@@ -92,9 +92,11 @@ shown :
     Reads (codes "SHOW VERSIONS") (Whole show_versions)
     × Reads (codes "SHOW SCHEMA 07") (Whole (show_schema 7))
     × Reads (codes "SHOW SCHEMA 4294967296") (Refused (Syntax 12))
-    × Reads (codes "SHOW SIZES") (Refused (Syntax 5))
+    × Reads (codes "SHOW SIZES") (Whole show_sizes)
+    × Reads (codes "SHOW TABLE") (Refused (Syntax 5))
+    × Reads (codes "SHOW SIZES 1") (Refused (Syntax 11))
 unfolding reading lexed_from gap_len gap_dash piece_of small statement show_rest schema_rest
-shown = (refl, refl, refl, refl)
+shown = (refl, refl, refl, refl, refl, refl)
 
 -- ---- commands
 

@@ -13,7 +13,7 @@ use Rattle.expr_grammar.specs.Grammar.{IsExpr, IsCond}
 use Rattle.expr_grammar.specs.Constants.{nameG, namesG, momentG, smallG, constantG}
 use Rattle.smo_parse.specs.Productions.{IsOperator}
 use Rattle.temporal_lang.specs.QueryGrammar.{IsAsk}
-use Rattle.script_parse.specs.Statements.{PlainStatement, write, ask, explain, show_versions, show_schema}
+use Rattle.script_parse.specs.Statements.{PlainStatement, write, ask, explain, show_versions, show_schema, show_sizes}
 
 -- ---- changes
 
@@ -101,5 +101,13 @@ IsShowVersions = leadG (word (codes "SHOW")) (leadG (word (codes "VERSIONS")) (p
 abbrev pub IsShowSchema : Grammar PlainStatement
 IsShowSchema = leadG (word (codes "SHOW")) (leadG (word (codes "SCHEMA")) (mapG (λ version. show_schema version) smallG))
 
+-- SHOW SIZES
+abbrev pub IsShowSizes : Grammar PlainStatement
+IsShowSizes = leadG (word (codes "SHOW")) (leadG (word (codes "SIZES")) (pureG show_sizes))
+
+-- SHOW, and what of the archive
+abbrev pub IsShow : Grammar PlainStatement
+IsShow = eitherG IsShowVersions (eitherG IsShowSchema IsShowSizes)
+
 abbrev pub IsStatement : Grammar PlainStatement
-IsStatement = eitherG IsWrite (eitherG IsQuery (eitherG IsExplain (eitherG IsShowVersions IsShowSchema)))
+IsStatement = eitherG IsWrite (eitherG IsQuery (eitherG IsExplain IsShow))

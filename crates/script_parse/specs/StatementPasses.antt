@@ -16,7 +16,7 @@ use Rattle.smo_parse.specs.OperatorMarks.{operator_marks}
 use Rattle.temporal_lang.specs.QueryGrammar.{IsAsk}
 use Rattle.temporal_lang.specs.QueryPasses.{ask_passes}
 use Rattle.script_parse.specs.Statements.{write, ask, explain}
-use Rattle.script_parse.specs.Productions.{IsWhere, IsInsert, IsDelete, IsSetting, IsUpdate, IsChange, IsOp, AreOps, IsInverse, IsEvolve, AreChanges, IsBody, IsWrite, IsQuery, IsExplain, IsShowVersions, IsShowSchema, IsStatement}
+use Rattle.script_parse.specs.Productions.{IsWhere, IsInsert, IsDelete, IsSetting, IsUpdate, IsChange, IsOp, AreOps, IsInverse, IsEvolve, AreChanges, IsBody, IsWrite, IsQuery, IsExplain, IsShowVersions, IsShowSchema, IsShowSizes, IsShow, IsStatement}
 
 -- ---- changes
 
@@ -74,10 +74,10 @@ query_passes = lead_pass (word (codes "QUERY")) _ (map_pass (λ q. ask q) IsAsk 
 abbrev pub explain_passes : Passing IsExplain
 explain_passes = lead_pass (word (codes "EXPLAIN")) _ (lead_pass (word (codes "QUERY")) _ (map_pass (λ q. explain q) IsAsk ask_passes))
 
-abbrev pub show_passes : Passing (eitherG IsShowVersions IsShowSchema)
-show_passes = either_pass IsShowVersions IsShowSchema (none_pass IsShowVersions) (none_pass IsShowSchema)
+abbrev pub show_passes : Passing IsShow
+show_passes = either_pass IsShowVersions (eitherG IsShowSchema IsShowSizes) (none_pass IsShowVersions) (either_pass IsShowSchema IsShowSizes (none_pass IsShowSchema) (none_pass IsShowSizes))
 
 abbrev pub statement_passes : Passing IsStatement
-statement_passes = either_pass IsWrite (eitherG IsQuery (eitherG IsExplain (eitherG IsShowVersions IsShowSchema))) write_passes
-    (either_pass IsQuery (eitherG IsExplain (eitherG IsShowVersions IsShowSchema)) query_passes
-    (either_pass IsExplain (eitherG IsShowVersions IsShowSchema) explain_passes show_passes))
+statement_passes = either_pass IsWrite (eitherG IsQuery (eitherG IsExplain IsShow)) write_passes
+    (either_pass IsQuery (eitherG IsExplain IsShow) query_passes
+    (either_pass IsExplain IsShow explain_passes show_passes))

@@ -12,7 +12,7 @@ use Rattle.expr_grammar.specs.Reader.{outermost, goes_expr, goes_cond}
 use Rattle.expr_grammar.specs.Constants.{name, names, moment, small, constant}
 use Rattle.smo_parse.specs.OperatorReader.{operator, goes_operator}
 use Rattle.temporal_lang.specs.QueryReader as query
-use Rattle.script_parse.specs.Statements.{PlainStatement, write, ask, explain, show_versions, show_schema}
+use Rattle.script_parse.specs.Statements.{PlainStatement, write, ask, explain, show_versions, show_schema, show_sizes}
 
 -- ---- changes
 
@@ -102,7 +102,9 @@ unfoldable pub schema_rest : Parser PlainStatement
 schema_rest = map_to (λ version. show_schema version) small
 
 abbrev pub show_arm : Lexeme → Arm PlainStatement
-show_arm x = if is_word (codes "VERSIONS") x then Takes (pure show_versions) else (if is_word (codes "SCHEMA") x then Takes schema_rest else No)
+show_arm x =
+    if is_word (codes "VERSIONS") x then Takes (pure show_versions) else (if is_word (codes "SCHEMA") x then Takes schema_rest else
+    (if is_word (codes "SIZES") x then Takes (pure show_sizes) else No))
 
 -- behind SHOW
 unfoldable pub show_rest : Parser PlainStatement

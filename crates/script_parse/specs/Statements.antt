@@ -3,7 +3,7 @@ use Rattle.std.specs.Prelude.{ℕ}
 use Rattle.smo_types.specs.Commands.{PlainCommand, command_of}
 use Rattle.temporal_lang.specs.Queries.{PlainQuery, query_of}
 use Rattle.script_parse.specs.declared.statements.Statement.{Statement}
-use Rattle.script_parse.specs.declared.statements.Statement.TheVariants.{Write, Ask, Explain, ShowVersions, ShowSchema}
+use Rattle.script_parse.specs.declared.statements.Statement.TheVariants.{Write, Ask, Explain, ShowVersions, ShowSchema, ShowSizes}
 
 pub data PlainStatement : Type 0 where
   write : PlainCommand → PlainStatement
@@ -13,6 +13,7 @@ pub data PlainStatement : Type 0 where
   show_versions : PlainStatement
   -- the version's number
   show_schema : ℕ → PlainStatement
+  show_sizes : PlainStatement
 
 abbrev pub statement_of : Statement → PlainStatement
 statement_of (Write c) = write (command_of c)
@@ -20,3 +21,4 @@ statement_of (Ask q) = ask (query_of q)
 statement_of (Explain q) = explain (query_of q)
 statement_of ShowVersions = show_versions
 statement_of (ShowSchema version) = show_schema version
+statement_of ShowSizes = show_sizes

@@ -91,6 +91,10 @@ fn show_rest(c: &mut Cursor<'_, '_>) -> Result<Statement, Stop>
         c.skip();
         return schema_rest(c);
     }
+    if c.sees_word(b"SIZES") {
+        c.skip();
+        return Ok(Statement::ShowSizes);
+    }
     Err(Stop::Stuck)
 }
 

@@ -17,6 +17,8 @@ pub enum Statement {
     ShowVersions,
     /// The tables of the version with this number.
     ShowSchema(u32),
+    /// The list of all lifelines with their sizes.
+    ShowSizes,
 }
 
 /// Why a text is no statement.

@@ -1,4 +1,4 @@
-use Rattle.std.proofs.Common.{◌≡◌, ◌≤◌, ℕ, List, ◌++◌, drop}
+use Rattle.std.proofs.Common.{◌≡◌, ℕ, List, ◌++◌, drop}
 use Rattle.std.specs.List.{flat_map}
 use Rattle.prima_base.specs.Timed.{entries_of}
 use Rattle.answer_text.specs.Gathering.{Gathers}

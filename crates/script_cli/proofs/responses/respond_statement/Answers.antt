@@ -5,7 +5,7 @@ use Rattle.piece_meaning.specs.Rules.{Book}
 use Rattle.temporal_lang.specs.Queries.{query_of}
 use Rattle.temporal_lang.specs.Accepted.{version_fault, fault_of_query}
 use Rattle.script_parse.specs.Statements.{statement_of}
-use Rattle.script_cli.specs.Output.{Recorded, query_reply, explain_reply, versions_reply, schema_reply, statement_reply, refused_or, answered}
+use Rattle.script_cli.specs.Output.{Recorded, query_reply, explain_reply, versions_reply, schema_reply, sizes_reply, statement_reply, refused_or, answered}
 use Rattle.script_cli.specs.Shows.{Says, Responds}
 use Rattle.script_cli.proofs.Responding.{says_responds, halt_said, on_ok}
 use Rattle.script_cli.proofs.responses.respond_statement.Goals as goal
@@ -49,6 +49,12 @@ returns-in-ShowSchema-clause-replies g c = λ limit same now stands.
     (says_responds _ _ limit now a a (schema_reply version now) c.respond_schema.result (g.met.D.Disk.lawful a.journal.disk) stands
     (no_puts (version_fault now.past version) now _) (same_behind (version_fault now.past version) now _) (c.respond_schema.ensures.says now stands.past))
 
+pub returns-in-ShowSizes-clause-replies : goal.returns-in-ShowSizes-clause-replies
+returns-in-ShowSizes-clause-replies g c = λ limit same now stands.
+    let a = c.args.archive.now in
+    subst (λ s. Responds limit (statement_reply limit (statement_of s) now) c.respond_sizes.result a a (g.K.Sink.written c.args.sink.now) (g.K.Sink.written c.respond_sizes.new.sink)) (sym c.in-ShowSizes.is)
+    (says_responds _ _ limit now a a (sizes_reply now) c.respond_sizes.result (g.met.D.Disk.lawful a.journal.disk) stands refl refl (c.respond_sizes.ensures.says now stands.past))
+
 pub returns-in-Ask-clause-counts : goal.returns-in-Ask-clause-counts
 returns-in-Ask-clause-counts g c = halt_said c.respond_ask.result _ _ _ c.respond_ask.ensures.counts
 
@@ -61,6 +67,9 @@ returns-in-ShowVersions-clause-counts g c = halt_said c.respond_versions.result 
 pub returns-in-ShowSchema-clause-counts : goal.returns-in-ShowSchema-clause-counts
 returns-in-ShowSchema-clause-counts g c = halt_said c.respond_schema.result _ _ _ c.respond_schema.ensures.counts
 
+pub returns-in-ShowSizes-clause-counts : goal.returns-in-ShowSizes-clause-counts
+returns-in-ShowSizes-clause-counts g c = halt_said c.respond_sizes.result _ _ _ c.respond_sizes.ensures.counts
+
 pub returns-in-Ask-clause-takes : goal.returns-in-Ask-clause-takes
 returns-in-Ask-clause-takes g c = on_ok _ _ c.requires.takes
 
@@ -72,3 +81,6 @@ returns-in-ShowVersions-clause-takes g c = on_ok _ _ c.requires.takes
 
 pub returns-in-ShowSchema-clause-takes : goal.returns-in-ShowSchema-clause-takes
 returns-in-ShowSchema-clause-takes g c = on_ok _ _ c.requires.takes
+
+pub returns-in-ShowSizes-clause-takes : goal.returns-in-ShowSizes-clause-takes
+returns-in-ShowSizes-clause-takes g c = on_ok _ _ c.requires.takes
