@@ -5,9 +5,11 @@
 #   ascending, scattered   inserts of one row each, that stand behind all others, or anywhere among them
 #   update a, delete a     by the first column: the row is found by binary search
 #   update range           by bounds of the first column that ten rows meet
-#   update b               by another column: each row is looked at
+#   index of b             the first update by another column: its ids are sorted once
+#   update b               by another column, whose index is kept from then on
 #   update no pin          by a condition that pins no column: each row is looked at
 #   20000 in one           one command of 20,000 changes by the first column; microseconds for each change
+#   20000 by b             the same by another column
 # A run without the commands in question is taken off. The processor's seconds of the median of three runs count (of one
 # run from 100,000 rows on).
 # PROGRAM names another build to be timed in place of this one.
@@ -60,17 +62,25 @@ for n in sizes:
     pinned = [f"UPDATE t SET c = 'x' WHERE a = {a}" for a in order]
     while len(pinned) < MANY:
         pinned = pinned + pinned
+    by_b = [f"UPDATE t SET c = CONCAT(c, '!') WHERE b = {a}" for a in few]
+    by_other = [f"UPDATE t SET c = 'x' WHERE b = {a}" for a in order]
+    while len(by_other) < MANY:
+        by_other = by_other + by_other
     kinds = [
         ("update a", [f"UPDATE t SET c = CONCAT(c, '!') WHERE a = {a}" for a in few], 1),
         ("delete a", [f"DELETE FROM t WHERE a = {a}" for a in few], 1),
         ("update range", [f"UPDATE t SET c = CONCAT(c, '!') WHERE a >= {a} AND a < {a + 10}" for a in few], 1),
-        ("update b", [f"UPDATE t SET c = CONCAT(c, '!') WHERE b = {a}" for a in walks], 1),
+        ("index of b", by_b[:1], 1),
+        ("update b", by_b[1:], 1),
         ("update no pin", [f"UPDATE t SET c = CONCAT(c, '!') WHERE a = {a} OR a = {-a - 1}" for a in walks], 1),
         (f"{MANY} in one", [" THEN ".join(pinned[:MANY])], MANY),
+        (f"{MANY} by b", [" THEN ".join(by_other[:MANY])], MANY),
     ]
     rows = [("ascending", ascending - base, n), ("scattered", full - base, n)]
     for kind, changes, each in kinds:
-        rows.append((kind, seconds_of(scattered + commands(changes, 2 + n), runs) - full, len(changes) * each))
+        first = by_b[:1] if kind == "update b" else []
+        before = seconds_of(scattered + commands(first, 2 + n), runs) if first else full
+        rows.append((kind, seconds_of(scattered + commands(first + changes, 2 + n), runs) - before, len(changes) * each))
     for kind, seconds, number in rows:
         us = 1e6 * seconds / number
         before = costs.get(kind)

@@ -1,5 +1,5 @@
 #!/usr/bin/env bash
-# Times queries over many versions, over the built program: n rows entered under version 1, then V versions, and the same
+# Times queries over many versions, over the built program: n rows (1,000 and 10,000, or the numbers in ROWS) entered under version 1, then V versions, and the same
 # question asked on version 1 and on the last one. The versions are renames with their inverses (a table and a column in turn),
 # ADD and DROP COLUMN in turn, renames of another table, or PARTITION and MERGE in turn, each the other's inverse; of the last at most 12, since
 # each MERGE of what a PARTITION has parted doubles the pieces of a question that goes over both. Prints the seconds of the load with
@@ -9,10 +9,10 @@ set -eu
 top=$(cd "$(dirname "$0")/.." && pwd)
 "$top/prima" </dev/null >/dev/null || [ $? -eq 2 ] # builds what is missing; no words, no archive
 [ $# -gt 0 ] || set -- 10 100 # even numbers
-exec python3 - "$top/examples/fresh" "$top/crates/prima/out/prima" "$@" <<'PYTHON'
+exec python3 - "$top/examples/fresh" "$top/crates/prima/out/prima" "${ROWS:-1000 10000}" "$@" <<'PYTHON'
 import os, subprocess, sys, tempfile, time
 
-program, counts = sys.argv[1:3], [int(word) for word in sys.argv[3:]]
+program, sizes, counts = sys.argv[1:3], [int(word) for word in sys.argv[3].split()], [int(word) for word in sys.argv[4:]]
 
 
 def play(statements):
@@ -61,7 +61,7 @@ def question(version, table):
 print(f"{'versions of':>12} {'V':>4} {'rows':>7} {'load':>8} {'on first':>9} {'on last':>9} {'KiB':>8}")
 for kind, make in (("renames", renames), ("columns", columns), ("others", others), ("parts", parts)):
     for count in sorted({min(count, 12) for count in counts} if kind == "parts" else counts):
-        for n in (1000, 10000):
+        for n in sizes:
             script = ["AT 0 EVOLVE CREATE TABLE w (c INT);", "AT 1 EVOLVE CREATE TABLE t (a INT, b INT);"]
             script += [f"AT {2 + i} INSERT INTO t (a, b) VALUES ({i}, {i * 7919 % n});" for i in range(n)]
             script += [f"AT {n + 2 + i} EVOLVE {op};" for i, op in enumerate(make(count))]
