@@ -32,7 +32,8 @@ statement_written s size ts (inl h) = let body = h.2.8 in subst IsWritten (sym b
 statement_written s size ts (inr (inl h)) = subst IsWritten (sym h.2.1) tt
 statement_written s size ts (inr (inr (inl h))) = subst IsWritten (sym h.2.2.1) tt
 statement_written s size ts (inr (inr (inr (inl h)))) = subst IsWritten (sym h.2.2.0) tt
-statement_written s size ts (inr (inr (inr (inr h)))) = subst IsWritten (sym h.2.2.1) tt
+statement_written s size ts (inr (inr (inr (inr (inl h))))) = subst IsWritten (sym h.2.2.1) tt
+statement_written s size ts (inr (inr (inr (inr (inr h))))) = subst IsWritten (sym h.2.2.0) tt
 
 reading_written : (text : List ℕ) (r : Reading) → IsReading text r → HasWritten r
 reading_written text Blank h = tt

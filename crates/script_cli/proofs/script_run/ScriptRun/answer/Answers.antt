@@ -1,7 +1,9 @@
 use Rattle.std.proofs.Common.{ap, refl, sym, ◌∙◌, arith}
 use Rattle.std.specs.Prelude.{◌||◌}
+use Rattle.archive_core.specs.Fields.{below, place_of}
 use Rattle.script_cli.specs.Output.{reply}
 use Rattle.script_cli.proofs.Counting.{one_put, none_put}
+use Rattle.script_cli.proofs.PutsBehind.{put_nothing}
 use Rattle.script_cli.proofs.script_run.ScriptRun.answer.Goals.{then-self, else-self}
 use Rattle.script_cli.proofs.script_run.ScriptRun.answer.Goals as goal
 
@@ -38,3 +40,7 @@ returns-else-gate-place-clause-answered g c = λ limit same now stands.
       counted = omega (arith, none);
       wrote = replied.text;
     }
+
+pub returns-in_default-clause-stopped : goal.returns-in_default-clause-stopped
+returns-in_default-clause-stopped g c = λ limit same now stands.
+    let a = c.args.archive.now in (refl, put_nothing (below a) (place_of a) (g.met.D.Disk.lawful a.journal.disk))
