@@ -1,8 +1,10 @@
 #!/usr/bin/env bash
-# Times what pruning saves, over the built program: a table of n rows (500 unless told otherwise) is cut into sixteen by PARTITIONs, each with
-# a MERGE as its inverse, and then renamed until there are V versions (100 and 500 unless told otherwise), each rename with its inverse. Asked on the
-# last version are all sixteen tables, as one union: without a condition, and with one that rules out all rows of fifteen of them, so that of
-# the pieces at each version all but one are dead, as EXPLAIN must tell. Prints the seconds that each question adds to the load, and their ratio.
+# Times what pruning saves, over the built program: a table of n rows (500 unless told otherwise) is renamed there and back, each rename with
+# its inverse, and then cut into sixteen by PARTITIONs, each with a MERGE as its inverse, so that there are V versions (100 and 500 unless told
+# otherwise). Asked on the last version are all sixteen tables, as one union: without a condition, and with one that rules out all rows of
+# fifteen of them. Where the table is not yet cut all pieces but one are then dead; of tables that are cut off nothing tells which rows they
+# have, so each is a living piece at its own versions. EXPLAIN must tell just so many pieces. Prints the seconds that each question adds to the
+# load, and their ratio.
 # ROWS names another n. PROGRAM names another build to be timed in place of this one.
 set -eu
 top=$(cd "$(dirname "$0")/.." && pwd)
@@ -33,19 +35,19 @@ def play(statements):
 
 
 def loaded(versions):
-    """The rows under version 1, the sixteen tables `p1` to `p16`, and then renames of `p16` there and back; with the number of the last version."""
+    """The rows under version 1, renames of their table there and back, and then the sixteen tables `p1` to `p16`; with the number of the last version."""
     step = -(-n // PARTS)
     script = ["AT 1 EVOLVE CREATE TABLE t0 (k INT, x INT);"]
     script.append("AT 2 " + " THEN ".join(f"INSERT INTO t0 (k, x) VALUES ({k}, {k * 7919 % n})" for k in range(n)) + ";")
     at, version = 3, 1
+    names = ["t0", "q"]
+    while version < versions - (PARTS - 1) or names[0] != "t0":
+        script.append(f"AT {at} EVOLVE RENAME TABLE {names[0]} INTO {names[1]} INVERSE RENAME TABLE {names[1]} INTO {names[0]};")
+        names.reverse()
+        at, version = at + 1, version + 1
     for i in range(1, PARTS):
         rest = f"t{i}" if i < PARTS - 1 else f"p{PARTS}"
         script.append(f"AT {at} EVOLVE PARTITION TABLE t{i - 1} INTO p{i} WITH k < {i * step}, {rest} INVERSE MERGE TABLE p{i}, {rest} INTO t{i - 1};")
-        at, version = at + 1, version + 1
-    names = [f"p{PARTS}", "q"]
-    while version < versions or names[0] != f"p{PARTS}":
-        script.append(f"AT {at} EVOLVE RENAME TABLE {names[0]} INTO {names[1]} INVERSE RENAME TABLE {names[1]} INTO {names[0]};")
-        names.reverse()
         at, version = at + 1, version + 1
     return script, version
 
@@ -59,7 +61,8 @@ for versions in sizes:
     script, last = loaded(versions)
     alone = min(play(script)[0] for _ in range(3))
     pieces = [int(play(script + ["EXPLAIN " + union(last, where)])[1][-1].split()[1]) for where in ("", " WHERE k = 1")]
-    assert pieces[0] == PARTS * pieces[1] > 0, pieces
+    whole = last - (PARTS - 1)  # the versions in which the table is not yet cut
+    assert pieces == [PARTS * last, whole + sum(range(2, PARTS + 1))], pieces
     costs = []
     for where, rows in (("", n), (" WHERE k = 1", 1)):
         runs = [play(script + [union(last, where)]) for _ in range(3)]
