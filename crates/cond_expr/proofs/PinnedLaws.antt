@@ -1,90 +1,25 @@
 -- A constant with which a part compares a column, where the condition holds.
-use Rattle.std.proofs.Common.{◌≡◌, ℕ, ◌+◌, ◌<◌, length, map, drop, get_or, Bool, true, false, cond, List, [], ◌∷◌, ◌++◌, refl, sym, ap, subst, ◌∙◌, arith, inl, inr}
+use Rattle.std.proofs.Common.{◌≡◌, ℕ, ◌+◌, ◌<◌, length, map, drop, get_or, Bool, true, false, cond, List, [], ◌∷◌, ◌++◌, refl, sym, ap, ◌∙◌, arith, inl, inr}
 use Rattle.std.specs.Prelude.{◌&&◌, ◌==◌, ◌⊎◌, Option, Some, None}
 use Rattle.std.proofs.lemmas.Bool.Decides.{nat_tests}
 use Rattle.std.proofs.lemmas.List.{drop_more}
 use Rattle.std.specs.declared.cmp.Ordering.{Ordering}
 use Rattle.std.specs.declared.cmp.Ordering.TheVariants.{Less, Equal, Greater}
-use Rattle.std.specs.Ordering.{ordering_reverse, is_eq}
-use Rattle.relations.specs.Sets.{In}
+use Rattle.std.specs.Ordering.{is_eq}
 use Rattle.prima_base.specs.declared.values.Value.{Value}
 use Rattle.prima_base.specs.Order.{value_cmp, bytes_cmp, same}
-use Rattle.prima_base.specs.OrderLaws.{value_total, bytes_exact}
-use Rattle.cond_expr.specs.declared.exprs.Whose.{Whose}
+use Rattle.prima_base.specs.OrderLaws.{bytes_exact}
 use Rattle.cond_expr.specs.declared.exprs.Whose.TheVariants.{Free, Alias, Atom}
 use Rattle.cond_expr.specs.declared.exprs.CmpOp.{CmpOp}
-use Rattle.cond_expr.specs.declared.exprs.CmpOp.TheVariants.{Eq, Ne, Lt, Le, Gt, Ge}
 use Rattle.cond_expr.specs.declared.exprs.Column.{Column}
 use Rattle.cond_expr.specs.declared.exprs.Cond.{Cond}
 use Rattle.cond_expr.specs.Seen.{test, tests_of}
 use Rattle.cond_expr.specs.Trees.{Tree, column, constant, length_of, joined, choose, Test, never, always, compared, all_of, some_of, fails, Tests, no_tests, a_test}
 use Rattle.cond_expr.specs.Values.{Cells, value, truth, all_true, agrees}
 use Rattle.cond_expr.specs.Parts.{parts, all_parts}
-use Rattle.cond_expr.specs.Rows.{names}
-use Rattle.cond_expr.specs.PinnedParts.{turned, same_way, is_column, constant_of, first_some, pinned_by, first_pinned, pinned}
-
--- ---- a comparison and its turned one
-
-same_way_is : (o p : CmpOp) → same_way o p ≡ true → o ≡ p
-same_way_is Eq Eq e = refl
-same_way_is Eq Ne e = absurd (cc)
-same_way_is Eq Lt e = absurd (cc)
-same_way_is Eq Le e = absurd (cc)
-same_way_is Eq Gt e = absurd (cc)
-same_way_is Eq Ge e = absurd (cc)
-same_way_is Ne Eq e = absurd (cc)
-same_way_is Ne Ne e = refl
-same_way_is Ne Lt e = absurd (cc)
-same_way_is Ne Le e = absurd (cc)
-same_way_is Ne Gt e = absurd (cc)
-same_way_is Ne Ge e = absurd (cc)
-same_way_is Lt Eq e = absurd (cc)
-same_way_is Lt Ne e = absurd (cc)
-same_way_is Lt Lt e = refl
-same_way_is Lt Le e = absurd (cc)
-same_way_is Lt Gt e = absurd (cc)
-same_way_is Lt Ge e = absurd (cc)
-same_way_is Le Eq e = absurd (cc)
-same_way_is Le Ne e = absurd (cc)
-same_way_is Le Lt e = absurd (cc)
-same_way_is Le Le e = refl
-same_way_is Le Gt e = absurd (cc)
-same_way_is Le Ge e = absurd (cc)
-same_way_is Gt Eq e = absurd (cc)
-same_way_is Gt Ne e = absurd (cc)
-same_way_is Gt Lt e = absurd (cc)
-same_way_is Gt Le e = absurd (cc)
-same_way_is Gt Gt e = refl
-same_way_is Gt Ge e = absurd (cc)
-same_way_is Ge Eq e = absurd (cc)
-same_way_is Ge Ne e = absurd (cc)
-same_way_is Ge Lt e = absurd (cc)
-same_way_is Ge Le e = absurd (cc)
-same_way_is Ge Gt e = absurd (cc)
-same_way_is Ge Ge e = refl
-
-agrees_reversed : (o : CmpOp) (r : Ordering) → agrees (turned o) (ordering_reverse r) ≡ agrees o r
-agrees_reversed Eq Less = refl
-agrees_reversed Eq Equal = refl
-agrees_reversed Eq Greater = refl
-agrees_reversed Ne Less = refl
-agrees_reversed Ne Equal = refl
-agrees_reversed Ne Greater = refl
-agrees_reversed Lt Less = refl
-agrees_reversed Lt Equal = refl
-agrees_reversed Lt Greater = refl
-agrees_reversed Le Less = refl
-agrees_reversed Le Equal = refl
-agrees_reversed Le Greater = refl
-agrees_reversed Gt Less = refl
-agrees_reversed Gt Equal = refl
-agrees_reversed Gt Greater = refl
-agrees_reversed Ge Less = refl
-agrees_reversed Ge Equal = refl
-agrees_reversed Ge Greater = refl
-
-agrees_turned : (o : CmpOp) (x y : Value) → agrees (turned o) (value_cmp y x) ≡ agrees o (value_cmp x y)
-agrees_turned o x y = ap (agrees (turned o)) (value_total.antisymm y x) ∙ agrees_reversed o (value_cmp x y)
+use Rattle.cond_expr.specs.Comparisons.{turned, same_way}
+use Rattle.cond_expr.proofs.ComparisonLaws.{same_way_is, agrees_turned}
+use Rattle.cond_expr.specs.PinnedParts.{is_column, constant_of, first_some, pinned_by, first_pinned, pinned}
 
 -- ---- a tree that is a column, one that is a constant
 

@@ -11,3 +11,4 @@ pub mod References
 pub mod Parts
 pub mod AtomColumns
 pub mod PinnedParts
+pub mod Comparisons

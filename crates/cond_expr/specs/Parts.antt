@@ -6,10 +6,9 @@ use Rattle.relations.specs.Sets.{In}
 use Rattle.prima_base.specs.declared.values.ColType.{ColType}
 use Rattle.prima_base.specs.Columns.{IsLawful}
 use Rattle.prima_base.specs.Order.{same}
-use Rattle.cond_expr.specs.declared.exprs.Whose.{Whose}
 use Rattle.cond_expr.specs.declared.exprs.Whose.TheVariants.{Free, Alias, Atom}
 use Rattle.cond_expr.specs.declared.exprs.CmpOp.{CmpOp}
-use Rattle.cond_expr.specs.declared.exprs.CmpOp.TheVariants.{Eq, Ne, Lt, Le, Gt, Ge}
+use Rattle.cond_expr.specs.Comparisons.{turned}
 use Rattle.cond_expr.specs.Trees.{Tree, column, constant, length_of, joined, choose, Test, never, always, compared, all_of, some_of, fails, Tests, no_tests, a_test}
 use Rattle.cond_expr.specs.Values.{truth}
 use Rattle.cond_expr.specs.Kinds.{Kinds, value_kind}
@@ -50,15 +49,6 @@ pub record Bound : Type 0 where
   pub name : List ℕ
   pub op : CmpOp
   pub limit : Value
-
--- the same comparison, with its sides exchanged
-abbrev pub turned : CmpOp → CmpOp
-turned Eq = Eq
-turned Ne = Ne
-turned Lt = Gt
-turned Le = Ge
-turned Gt = Lt
-turned Ge = Le
 
 -- a column of an atom, and a constant
 abbrev pub column_with : CmpOp → Tree → Value → Option Bound

@@ -1,36 +1,12 @@
 -- The constants with which top-level parts of a condition compare a column. Nothing under OR or NOT is one.
-use Rattle.std.specs.Prelude.{ℕ, List, [], ◌∷◌, Bool, true, false, cond, ◌&&◌, Option, Some, None}
+use Rattle.std.specs.Prelude.{List, [], ◌∷◌, Bool, false, cond, ◌&&◌, Option, Some, None}
 use Rattle.prima_base.specs.declared.values.Value.{Value}
 use Rattle.cond_expr.specs.declared.exprs.CmpOp.{CmpOp}
-use Rattle.cond_expr.specs.declared.exprs.CmpOp.TheVariants.{Eq, Ne, Lt, Le, Gt, Ge}
 use Rattle.cond_expr.specs.declared.exprs.Column.{Column}
+use Rattle.cond_expr.specs.Comparisons.{turned, same_way}
 use Rattle.cond_expr.specs.Trees.{Tree, column, constant, length_of, joined, choose, Test, never, always, compared, all_of, some_of, fails}
 use Rattle.cond_expr.specs.Parts.{parts}
 use Rattle.cond_expr.specs.Rows.{names}
-
--- the comparison of the right side with the left one
-abbrev pub turned : CmpOp → CmpOp
-turned Eq = Eq
-turned Ne = Ne
-turned Lt = Gt
-turned Le = Ge
-turned Gt = Lt
-turned Ge = Le
-
--- the two comparisons are one
-abbrev pub same_way : CmpOp → CmpOp → Bool
-same_way Eq Eq = true
-same_way Ne Ne = true
-same_way Lt Lt = true
-same_way Le Le = true
-same_way Gt Gt = true
-same_way Ge Ge = true
-same_way Eq o = false
-same_way Ne o = false
-same_way Lt o = false
-same_way Le o = false
-same_way Gt o = false
-same_way Ge o = false
 
 -- the tree is this column
 abbrev pub is_column : Column → Tree → Bool

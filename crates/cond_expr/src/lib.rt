@@ -4,6 +4,7 @@
 //! `specs/Seen.antt`), and a value as it is shown.
 #![tactic(auto)]
 
+mod comparisons;
 mod copies;
 mod evals;
 mod exprs;
@@ -16,6 +17,7 @@ mod references;
 mod sizes;
 mod types;
 
+pub use comparisons::{same_way, turned};
 pub use evals::{decide, eval, holds};
 pub use exprs::{CmpOp, ColRef, Column, Cond, Expr, TreeSize, TypeFault, Whose};
 pub use fills::{Fill, fill_cond, fill_expr};

@@ -10,42 +10,15 @@ ghost use Rattle.cond_expr.specs.declared.exprs.Column.{Column as OneColumn};
 ghost use Rattle.cond_expr.specs.Trees.{Test};
 ghost use Rattle.cond_expr.specs.Values.{Cells, truth, agrees};
 ghost use Rattle.cond_expr.specs.Seen.{tree, test, tests_of};
+ghost use Rattle.cond_expr.specs.Comparisons.{turned, same_way};
 ghost use Rattle.cond_expr.specs.Parts.{all_parts};
-ghost use Rattle.cond_expr.specs.PinnedParts.{turned, same_way, is_column, constant_of, pinned_by, first_pinned, pinned};
+ghost use Rattle.cond_expr.specs.PinnedParts.{is_column, constant_of, pinned_by, first_pinned, pinned};
 ghost use Rattle.std.specs.Prelude.{Some};
 
+use crate::comparisons::{same_way, turned};
 use crate::evals::names;
 use crate::{CmpOp, Column, Cond, Expr};
 use prima_base::Value;
-
-// The comparison of the right side with the left one.
-fn turned(op: CmpOp) -> CmpOp
-    ensures { result ≡ turned op }
-{
-    match op {
-        CmpOp::Eq => CmpOp::Eq,
-        CmpOp::Ne => CmpOp::Ne,
-        CmpOp::Lt => CmpOp::Gt,
-        CmpOp::Le => CmpOp::Ge,
-        CmpOp::Gt => CmpOp::Lt,
-        CmpOp::Ge => CmpOp::Le,
-    }
-}
-
-// Whether the two comparisons are one.
-fn same_way(op: CmpOp, other: CmpOp) -> bool
-    ensures { result ≡ same_way op other }
-{
-    match (op, other) {
-        (CmpOp::Eq, CmpOp::Eq)
-        | (CmpOp::Ne, CmpOp::Ne)
-        | (CmpOp::Lt, CmpOp::Lt)
-        | (CmpOp::Le, CmpOp::Le)
-        | (CmpOp::Gt, CmpOp::Gt)
-        | (CmpOp::Ge, CmpOp::Ge) => true,
-        _ => false,
-    }
-}
 
 // The constant on the other side, where the one side is the column and the comparison the right one.
 fn beside<'e>(asked: bool, side: &Expr, other: &'e Expr, column: &Column) -> Option<&'e Value>

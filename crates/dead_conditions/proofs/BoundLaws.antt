@@ -4,7 +4,7 @@ use Rattle.std.specs.Prelude.{◌==◌, Option, Some, None}
 use Rattle.std.proofs.lemmas.Bool.{cond-true, cond-false, and_parts, eqb-true}
 use Rattle.std.specs.declared.cmp.Ordering.{Ordering}
 use Rattle.std.specs.declared.cmp.Ordering.TheVariants.{Less, Equal, Greater}
-use Rattle.std.specs.Ordering.{ordering_reverse, is_eq}
+use Rattle.std.specs.Ordering.{is_eq}
 use Rattle.prima_base.specs.declared.values.Value.{Value}
 use Rattle.prima_base.specs.declared.values.ColType.{ColType}
 use Rattle.prima_base.specs.declared.values.ColType.TheVariants.{Int as INT, Text as TEXT}
@@ -12,11 +12,12 @@ use Rattle.prima_base.specs.Order.{value_cmp, same, bytes_cmp}
 use Rattle.prima_base.specs.OrderLaws.{value_total, bytes_exact}
 use Rattle.cond_expr.specs.declared.exprs.Whose.TheVariants.{Free, Alias, Atom}
 use Rattle.cond_expr.specs.declared.exprs.CmpOp.{CmpOp}
-use Rattle.cond_expr.specs.declared.exprs.CmpOp.TheVariants.{Eq, Ne, Lt, Le, Gt, Ge}
 use Rattle.cond_expr.specs.Trees.{Tree, column, constant, length_of, joined, choose, Test, never, always, compared, all_of, some_of, fails}
 use Rattle.cond_expr.specs.Values.{Cells, truth, agrees}
 use Rattle.cond_expr.specs.Kinds.{Kinds, value_kind, same_type, same_kind, is_typed}
-use Rattle.cond_expr.specs.Parts.{Bound, turned, column_with, sides, bound_of, is_on, compares_just, lets}
+use Rattle.cond_expr.specs.Comparisons.{turned}
+use Rattle.cond_expr.proofs.ComparisonLaws.{agrees_reversed}
+use Rattle.cond_expr.specs.Parts.{Bound, column_with, sides, bound_of, is_on, compares_just, lets}
 
 -- the part is a comparison of the column with the constant, on one of its sides
 pub data IsBound : Test → Bound → Type 0 where
@@ -62,31 +63,11 @@ bound_is (fails c) b h = absurd (cc)
 
 -- ---- what it says
 
-turned_agrees : (o : CmpOp) (r : Ordering) → agrees (turned o) (ordering_reverse r) ≡ agrees o r
-turned_agrees Eq Less = refl
-turned_agrees Eq Equal = refl
-turned_agrees Eq Greater = refl
-turned_agrees Ne Less = refl
-turned_agrees Ne Equal = refl
-turned_agrees Ne Greater = refl
-turned_agrees Lt Less = refl
-turned_agrees Lt Equal = refl
-turned_agrees Lt Greater = refl
-turned_agrees Le Less = refl
-turned_agrees Le Equal = refl
-turned_agrees Le Greater = refl
-turned_agrees Gt Less = refl
-turned_agrees Gt Equal = refl
-turned_agrees Gt Greater = refl
-turned_agrees Ge Less = refl
-turned_agrees Ge Equal = refl
-turned_agrees Ge Greater = refl
-
 -- over any cells, the truth of the part is that of its comparison
 pub bound_truth : (at : Cells) (t : Test) (b : Bound) → IsBound t b → truth at t ≡ agrees b.op (value_cmp (at (Atom b.atom) b.name) b.limit)
 bound_truth at t b (on_left _) = refl
 bound_truth at t b (on_right o i n v) =
-    sym (turned_agrees o (value_cmp v (at (Atom i) n)))
+    sym (agrees_reversed o (value_cmp v (at (Atom i) n)))
     ∙ ap (agrees (turned o)) (sym (value_total.antisymm (at (Atom i) n) v))
 
 same_names : (n m : List ℕ) → same n m ≡ true → n ≡ m

@@ -1,10 +1,10 @@
 ghost use Rattle.std.specs.Prelude.{◌≡◌, IfSome};
 ghost use Rattle.prima_base.specs.Columns.{IsLawful};
 ghost use Rattle.cond_expr.specs.Seen.{tree, test};
-ghost use Rattle.cond_expr.specs.Parts.{turned, column_with, sides, bound_of};
+ghost use Rattle.cond_expr.specs.Parts.{column_with, sides, bound_of};
 ghost use Rattle.dead_conditions.specs.Shown.{bounds_shown};
 
-use cond_expr::{CmpOp, Cond, Expr, Whose};
+use cond_expr::{CmpOp, Cond, Expr, Whose, turned};
 use prima_base::{Name, Value};
 
 /// A column of an atom, how it is compared, and with which constant.
@@ -14,20 +14,6 @@ pub(crate) struct ColumnBound<'a> {
     pub name: &'a Name,
     pub op: CmpOp,
     pub limit: &'a Value,
-}
-
-// The same comparison, with its sides exchanged.
-fn turned(op: CmpOp) -> CmpOp
-    ensures { result ≡ turned op }
-{
-    match op {
-        CmpOp::Eq => CmpOp::Eq,
-        CmpOp::Ne => CmpOp::Ne,
-        CmpOp::Lt => CmpOp::Gt,
-        CmpOp::Le => CmpOp::Ge,
-        CmpOp::Gt => CmpOp::Lt,
-        CmpOp::Ge => CmpOp::Le,
-    }
 }
 
 fn column_with<'a>(op: CmpOp, column: &'a Expr, limit: &'a Value) -> Option<ColumnBound<'a>>

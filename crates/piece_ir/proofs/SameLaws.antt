@@ -15,7 +15,8 @@ use Rattle.cond_expr.specs.declared.exprs.CmpOp.{CmpOp}
 use Rattle.cond_expr.specs.declared.exprs.CmpOp.TheVariants.{Eq, Ne, Lt, Le, Gt, Ge}
 use Rattle.cond_expr.specs.declared.exprs.Expr.{Expr}
 use Rattle.cond_expr.specs.declared.exprs.Cond.{Cond}
-use Rattle.cond_expr.specs.PinnedParts.{same_way}
+use Rattle.cond_expr.specs.Comparisons.{same_way}
+use Rattle.cond_expr.proofs.ComparisonLaws.{same_way_is}
 use Rattle.cond_expr.specs.Trees.{Tree, column, constant, length_of, joined, choose, Trees, no_trees, a_tree, Test, never, always, compared, all_of, some_of, fails, Tests, no_tests, a_test}
 use Rattle.cond_expr.specs.Seen.{tree, test, trees_of, tests_of}
 use Rattle.smo_meaning.proofs.NameLaws.{same_itself, same_is}
@@ -46,15 +47,6 @@ tests_end parts bs others i none l e h =
     h ∙ tests_left others ∙ ap (λ (cs : List Cond). same_tests (tests_of (map test cs)) (tests_of (map test others))) (sym (drop_all i parts l)) ∙ sym e
 
 -- ---- what is the same is equal
-
-way_is : (o p : CmpOp) → same_way o p ≡ true → o ≡ p
-way_is Eq Eq e = refl
-way_is Ne Ne e = refl
-way_is Lt Lt e = refl
-way_is Le Le e = refl
-way_is Gt Gt e = refl
-way_is Ge Ge e = refl
-way_is _ _ e = absurd (cc)
 
 whose_is : (w v : Whose) → same_whose w v ≡ true → w ≡ v
 whose_is Free Free e = refl
@@ -104,7 +96,7 @@ mutual
   test_is (compared o t u) (compared p v w) e =
       let h = and_parts (same_way o p) (same_tree t v && same_tree u w) e in
       let k = and_parts (same_tree t v) (same_tree u w) h.1 in
-      ap (λ x. compared x t u) (way_is o p h.0) ∙ ap (λ x. compared p x u) (tree_is t v k.0) ∙ ap (compared p v) (tree_is u w k.1)
+      ap (λ x. compared x t u) (same_way_is o p h.0) ∙ ap (λ x. compared p x u) (tree_is t v k.0) ∙ ap (compared p v) (tree_is u w k.1)
   test_is (all_of cs) (all_of ds) e = ap all_of (tests_are cs ds e)
   test_is (some_of cs) (some_of ds) e = ap some_of (tests_are cs ds e)
   test_is (fails c) (fails d) e = ap fails (test_is c d e)

@@ -1,12 +1,11 @@
 ghost use Rattle.std.specs.Prelude.{◌≡◌, map};
 ghost use Rattle.smo_types.specs.Changes.{sets_of};
 ghost use Rattle.cond_expr.specs.Seen.{tree, test, trees_of, tests_of};
-ghost use Rattle.cond_expr.specs.PinnedParts.{same_way};
 ghost use Rattle.piece_ir.specs.Shown.{piece_of, pieces_of};
 ghost use Rattle.piece_ir.specs.Sameness.{same_whose, same_tree, same_trees, same_test, same_tests, same_names, same_outs, same_piece, same_pieces};
 
 use crate::Piece;
-use cond_expr::{CmpOp, ColRef, Cond, Expr, Whose};
+use cond_expr::{ColRef, Cond, Expr, Whose, same_way};
 use prima_base::{Name, same_name};
 
 fn same_whose(a: &Whose, b: &Whose) -> bool
@@ -16,20 +15,6 @@ fn same_whose(a: &Whose, b: &Whose) -> bool
         (Whose::Free, Whose::Free) => true,
         (Whose::Alias(name), Whose::Alias(other)) => same_name(name, other),
         (Whose::Atom(atom), Whose::Atom(other)) => *atom == *other,
-        _ => false,
-    }
-}
-
-fn same_way(op: CmpOp, other: CmpOp) -> bool
-    ensures { result ≡ same_way op other }
-{
-    match (op, other) {
-        (CmpOp::Eq, CmpOp::Eq)
-        | (CmpOp::Ne, CmpOp::Ne)
-        | (CmpOp::Lt, CmpOp::Lt)
-        | (CmpOp::Le, CmpOp::Le)
-        | (CmpOp::Gt, CmpOp::Gt)
-        | (CmpOp::Ge, CmpOp::Ge) => true,
         _ => false,
     }
 }
