@@ -5,6 +5,7 @@ pub mod JoinedChoices
 pub mod AddedParts
 pub mod UnfoldedMeaning
 pub mod UnfoldedTypes
+pub mod LawfulConstants
 pub mod ViewsLaw
 pub mod GivenRows
 pub mod WorkedUnfoldings

@@ -27,7 +27,9 @@ use Rattle.piece_meaning.specs.Views.{PlainView, whole, Views, views_of}
 use Rattle.piece_meaning.specs.Unfolding.{unfolded, unfoldings}
 use Rattle.piece_meaning.specs.Given.{Picks, Shows, AreGiven, IsTypedView, IsGivenBy, EachGivenBy, AreViews}
 use Rattle.piece_meaning.specs.Rules.{sources_of, KeepsMeaning, IsLawfulRule, by_views, HasViews}
+use Rattle.piece_meaning.specs.Constants.{LawfulInOperator, LawfulInView, LawfulInPiece, LawfulInPieces}
 use Rattle.piece_meaning.proofs.AtomKinds.{kinds_at}
+use Rattle.piece_meaning.proofs.LawfulConstants.{unfolded_lawful, chosen_lawful}
 use Rattle.piece_meaning.proofs.UnfoldedMeaning.{AreMade, same_meaning}
 use Rattle.piece_meaning.proofs.UnfoldedTypes.{unfolded_typed, unfolded_outputs, atom_from}
 
@@ -185,6 +187,20 @@ module _ (tables : Tables) (op : Operator) (views : Views) (accepted : op_fault 
           f.given.inputs v (subst (λ (x : List PlainView). In v x) (sym f.is) m) n i
       step false q = whole_atom a n v (subst (λ (x : List PlainView). In v x) (sym (none_made tables op (line tables op).made views given a q)) m) i
 
+  whole_lawful : (a : List ℕ) (v : PlainView) → In v (whole a ∷ []) → LawfulInView v
+  whole_lawful a v (inl e) = subst LawfulInView e (record { parts = λ c m. absurd m; outs = λ o m. absurd m })
+  whole_lawful a v (inr m) = absurd m
+
+  -- the constants of each view of a table are lawful
+  table_lawful : LawfulInOperator op → (a : List ℕ) (v : PlainView) → In v (vs a) → LawfulInView v
+  table_lawful h a v m = step (makes tables op a) refl
+    where
+      step : (b : Bool) → makes tables op a ≡ b → LawfulInView v
+      step true q =
+          let f = found tables op (line tables op).made views given a q in
+          f.given.constants h v (subst (λ (x : List PlainView). In v x) (sym f.is) m)
+      step false q = whole_lawful a v (subst (λ (x : List PlainView). In v x) (sym (none_made tables op (line tables op).made views given a q)) m)
+
   module _ (p : PlainPiece) (typed : IsTyped (behind tables op) p) where
     all_made : (db : Database) → IsDatabase tables db → (atoms : List (List ℕ)) → AreThere (behind tables op) atoms
         → AreMade tables db (behind tables op) (carried tables op db) vs atoms
@@ -207,6 +223,11 @@ module _ (tables : Tables) (op : Operator) (views : Views) (accepted : op_fault 
         let g = atom_from tables (behind tables op) vs p.atoms f.0 f.1 n (subst (λ (x : PlainPiece). In n x.atoms) (sym f.2) i) in
         (g.0, g.2, table_sources g.0 g.1 g.3 n g.4)
 
+    lawful_news : LawfulInOperator op → LawfulInPiece p → LawfulInPieces news
+    lawful_news h k q m =
+        let f = of_unfolding q m in
+        subst LawfulInPiece f.2 (unfolded_lawful p f.0 k (chosen_lawful vs (table_lawful h) p.atoms f.0 f.1))
+
     pub keeps_meaning : KeepsMeaning tables op p (unfoldings views p)
     keeps_meaning = record {
       law = λ db d. same_meaning tables db (behind tables op) (carried tables op db) vs p (all_made db d.database p.atoms typed.there) typed;
@@ -216,6 +237,7 @@ module _ (tables : Tables) (op : Operator) (views : Views) (accepted : op_fault 
           subst (λ (x : PlainPiece). output_types tables x ≡ output_types (behind tables op) p) f.2 (unfolded_outputs tables (behind tables op) vs p view_typed typed f.0 f.1)
           );
       sources = sources;
+      constants = lawful_news;
     }
 
 -- rules that unfold by the views of their operators are lawful

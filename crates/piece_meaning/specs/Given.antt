@@ -20,6 +20,7 @@ use Rattle.plain_answers.specs.Choosing.{chosen_cells}
 use Rattle.piece_meaning.specs.Pieces.{atom_columns, atom_rows}
 use Rattle.piece_meaning.specs.Typed.{AreThere, atom_kinds}
 use Rattle.piece_meaning.specs.Views.{PlainView, out_of, Views}
+use Rattle.piece_meaning.specs.Constants.{LawfulInOperator, LawfulInView}
 
 -- a choice of one row per atom of the view meets all its parts
 pub record Picks (tables : Tables) (db : Database) (v : PlainView) (choice : List Row) : Type 0 where
@@ -45,12 +46,14 @@ pub record IsTypedView (tables : Tables) (columns : List Column) (v : PlainView)
   pub parts : (c : Test) → In c v.parts → is_typed (atom_kinds tables v.atoms) c ≡ true
   pub outs : (n : List ℕ) (k : ColType) → type_in columns n ≡ Some k → kind_of (atom_kinds tables v.atoms) (out_of v.outs n) ≡ Some k
 
--- one made table and its views: for each database of the tables before; each atom is one of the operator's inputs
+-- one made table and its views: for each database of the tables before; each atom is one of the operator's inputs, and their
+-- constants are lawful where the operator's are
 pub record IsGivenBy (tables : Tables) (op : Operator) (m : Made) (named : List ℕ × List PlainView) : Type 0 where
   pub name : named.0 ≡ m.name
   pub rows : (db : Database) → IsDatabase tables db → AreGiven tables db m.columns (rows_of (m.entry db)) named.1
   pub typed : (v : PlainView) → In v named.1 → IsTypedView tables m.columns v
   pub inputs : (v : PlainView) → In v named.1 → (n : List ℕ) → In n v.atoms → In n (made_of op)
+  pub constants : LawfulInOperator op → (v : PlainView) → In v named.1 → LawfulInView v
 
 -- each made table, and its views
 abbrev pub EachGivenBy : Tables → Operator → List Made → Views → Type 0

@@ -15,6 +15,7 @@ use Rattle.piece_meaning.specs.Typed.{IsTyped, AllTyped, output_types}
 use Rattle.piece_meaning.specs.Given.{AreViews}
 use Rattle.piece_meaning.specs.Unfolding.{unfoldings}
 use Rattle.piece_meaning.specs.Views.{Views}
+use Rattle.piece_meaning.specs.Constants.{LawfulInOperator, LawfulInPiece, LawfulInPieces}
 
 -- the source tables of a table: of one that the operator makes its inputs, and else itself
 abbrev pub sources_of : Tables → Operator → List ℕ → List (List ℕ)
@@ -29,6 +30,8 @@ pub record KeepsMeaning (tables : Tables) (op : Operator) (p : PlainPiece) (news
   pub outputs : (q : PlainPiece) → In q news → output_types tables q ≡ output_types (behind tables op) p
   -- each atom of a new piece is a source table of an atom of the old one
   pub sources : (q : PlainPiece) → In q news → (n : List ℕ) → In n q.atoms → (a : List ℕ) × In a p.atoms × In n (sources_of tables op a)
+  -- their constants are lawful where those of the operator and of the piece are
+  pub constants : LawfulInOperator op → LawfulInPiece p → LawfulInPieces news
 
 -- what a rule answers, or the rules of a book do, to an operator, the tables before it, and a piece over those behind it
 abbrev pub Book : Type 0

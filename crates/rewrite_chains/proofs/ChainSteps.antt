@@ -28,6 +28,7 @@ use Rattle.version_ways.proofs.WayDatabases.{unnamed_at, unmade, unnamed_databas
 use Rattle.version_ways.proofs.WholeDatabases.{whole_at, same_when_whole}
 use Rattle.piece_meaning.specs.Pieces.{PlainPiece, all_mean}
 use Rattle.piece_meaning.specs.Typed.{AllTyped, output_types}
+use Rattle.piece_meaning.specs.Constants.{LawfulInOperator, LawfulInOperators, LawfulInPieces}
 use Rattle.piece_meaning.specs.Rules.{Book, IsLawfulBook, sources_of}
 use Rattle.rewrite_chains.specs.Chains.{through, through_each, NoneLost}
 use Rattle.rewrite_chains.proofs.PieceLaws.{AgreeAt, same_meaning, same_types, same_outputs, each_so}
@@ -43,28 +44,31 @@ AllOutput tables outs ps = (p : PlainPiece) → In p ps → output_types tables 
 
 -- databases go from the tables t to the tables u, and pieces from u to t: what the new pieces mean over a database is what the old
 -- ones mean over that which it becomes, wherever none of their tables is lost there; and then none of the new ones' is lost before.
--- Of values it is said where H holds: that the constants on the way are lawful
-pub record IsStep (H : Type 0) (t u : Tables) (f : Database → Database) (g : List PlainPiece → List PlainPiece) : Type 0 where
+-- Of values it is said where H holds: that the constants on the way that come into rows are lawful; and of the pieces' constants where K
+-- holds: that all on the way are
+pub record IsStep (H K : Type 0) (t u : Tables) (f : Database → Database) (g : List PlainPiece → List PlainPiece) : Type 0 where
   pub keeps : (db : Database) → IsDatabaseWithLosses t db → IsDatabaseWithLosses u (f db)
   pub values : H → (db : Database) → HoldsValues db → HoldsValues (f db)
   pub typed : (db : Database) (ps : List PlainPiece) → IsDatabaseWithLosses t db → AllTyped u ps → NoneLost (f db) ps → AllTyped t (g ps)
   pub none : (db : Database) (ps : List PlainPiece) → IsDatabaseWithLosses t db → AllTyped u ps → NoneLost (f db) ps → NoneLost db (g ps)
   pub outputs : (db : Database) (ps : List PlainPiece) (outs : Outputs) → IsDatabaseWithLosses t db → AllTyped u ps → NoneLost (f db) ps → AllOutput u outs ps → AllOutput t outs (g ps)
   pub law : H → (db : Database) (ps : List PlainPiece) → IsDatabaseWithLosses t db → HoldsValues db → AllTyped u ps → NoneLost (f db) ps → all_mean t db (g ps) ≡ all_mean u (f db) ps
+  pub constants : K → (db : Database) (ps : List PlainPiece) → IsDatabaseWithLosses t db → AllTyped u ps → NoneLost (f db) ps → LawfulInPieces ps → LawfulInPieces (g ps)
 
-pub no_step : (H : Type 0) (t : Tables) → IsStep H t t (λ db. db) (λ ps. ps)
-no_step H t = record {
+pub no_step : (H K : Type 0) (t : Tables) → IsStep H K t t (λ db. db) (λ ps. ps)
+no_step H K t = record {
   keeps = λ db h. h;
   values = λ x db h. h;
   typed = λ db ps h y n. y;
   none = λ db ps h y n. n;
   outputs = λ db ps outs h y n o. o;
   law = λ x db ps h w y n. refl;
+  constants = λ k db ps h y n c. c;
 }
 
-pub both_steps : (H : Type 0) (t u w : Tables) (f : Database → Database) (g : List PlainPiece → List PlainPiece) (f' : Database → Database) (g' : List PlainPiece → List PlainPiece)
-    → IsStep H t u f g → IsStep H u w f' g' → IsStep H t w (λ db. f' (f db)) (λ ps. g (g' ps))
-both_steps H t u w f g f' g' a b = record {
+pub both_steps : (H K : Type 0) (t u w : Tables) (f : Database → Database) (g : List PlainPiece → List PlainPiece) (f' : Database → Database) (g' : List PlainPiece → List PlainPiece)
+    → IsStep H K t u f g → IsStep H K u w f' g' → IsStep H K t w (λ db. f' (f db)) (λ ps. g (g' ps))
+both_steps H K t u w f g f' g' a b = record {
   keeps = λ db h. b.keeps (f db) (a.keeps db h);
   values = λ x db h. b.values x (f db) (a.values x db h);
   typed = λ db ps h y n. a.typed db (g' ps) h (b.typed (f db) ps (a.keeps db h) y n) (b.none (f db) ps (a.keeps db h) y n);
@@ -74,6 +78,8 @@ both_steps H t u w f g f' g' a b = record {
   law = λ x db ps h v y n.
       a.law x db (g' ps) h v (b.typed (f db) ps (a.keeps db h) y n) (b.none (f db) ps (a.keeps db h) y n)
       ∙ b.law x (f db) ps (a.keeps db h) (a.values x db v) y n;
+  constants = λ k db ps h y n c.
+      a.constants k db (g' ps) h (b.typed (f db) ps (a.keeps db h) y n) (b.none (f db) ps (a.keeps db h) y n) (b.constants k (f db) ps (a.keeps db h) y n c);
 }
 
 -- ---- over an operator
@@ -151,26 +157,33 @@ module _ (book : Book) (lawful : IsLawfulBook book) (tables : Tables) (op : Oper
       ∙ same_meaning (behind tables op) (behind tables op) (carried tables op (whole db)) (carried tables op db) ps
       (λ p m n i. record { columns = refl; rows = ap rows_at (same_when_whole tables op accepted db n (none p m n i)) })
 
-  pub operator_step : (H : Type 0) → (H → OperatorHolds op) → IsStep H tables (behind tables op) (carried tables op) (through book op tables)
-  operator_step H holds = record {
+  constants_before : (ps : List PlainPiece) → AllTyped (behind tables op) ps → LawfulInOperator op → LawfulInPieces ps → LawfulInPieces (through book op tables ps)
+  constants_before ps y h c = λ q m.
+      let f = from_flat_map answer q ps m in
+      (lawful.keeps tables op f.0 good accepted (y f.0 f.1)).constants h (c f.0 f.1) q f.2
+
+  pub operator_step : (H K : Type 0) → (H → OperatorHolds op) → (K → LawfulInOperator op) → IsStep H K tables (behind tables op) (carried tables op) (through book op tables)
+  operator_step H K holds kept = record {
     keeps = λ db h. carried_with_losses tables op db good.schema accepted h;
     values = λ x db h. carried_values tables op db (holds x) h;
     typed = λ db ps h y n. all_typed ps y;
     none = λ db ps h y n. none_before db ps y n;
     outputs = λ db ps outs h y n o. outputs_before ps outs y o;
     law = λ x db ps h w y n. same_answer db ps h w y n;
+    constants = λ k db ps h y n c. constants_before ps y (kept k) c;
   }
 
 -- ---- over operators one after the other
 
-pub operators_step : (book : Book) → IsLawfulBook book → (tables : Tables) (ops : List Operator) → IsLawful tables → AllAccepted tables ops → (H : Type 0) → (H → OperatorsHold ops)
-    → IsStep H tables (behind_each tables ops) (carried_over tables ops) (through_each book tables ops)
-operators_step book lawful tables [] good a H holds = no_step H tables
-operators_step book lawful tables (op ∷ ops) good a H holds =
-    both_steps H tables (behind tables op) (behind_each (behind tables op) ops) (carried tables op) (through book op tables)
+pub operators_step : (book : Book) → IsLawfulBook book → (tables : Tables) (ops : List Operator) → IsLawful tables → AllAccepted tables ops → (H K : Type 0) → (H → OperatorsHold ops)
+    → (K → LawfulInOperators ops)
+    → IsStep H K tables (behind_each tables ops) (carried_over tables ops) (through_each book tables ops)
+operators_step book lawful tables [] good a H K holds kept = no_step H K tables
+operators_step book lawful tables (op ∷ ops) good a H K holds kept =
+    both_steps H K tables (behind tables op) (behind_each (behind tables op) ops) (carried tables op) (through book op tables)
     (carried_over (behind tables op) ops) (through_each book (behind tables op) ops)
-    (operator_step book lawful tables op good a.0 H (λ x. (holds x).0))
-    (operators_step book lawful (behind tables op) ops (next_is_lawful tables op good a.0) a.1 H (λ x. (holds x).1))
+    (operator_step book lawful tables op good a.0 H K (λ x. (holds x).0) (λ k. (kept k).0))
+    (operators_step book lawful (behind tables op) ops (next_is_lawful tables op good a.0) a.1 H K (λ x. (holds x).1) (λ k. (kept k).1))
 
 -- ---- back over an operator with no inverse: the pieces stay
 
@@ -204,12 +217,13 @@ module _ (k : ℕ) (before : Tables) (op : Operator) (accepted : op_fault before
   alike_before : (db : Database) (n : List ℕ) → contains_key before n ≡ true → loss_in (taken db) n ≡ None → AgreeAt (behind before op) before db (taken db) n
   alike_before db n there e = record { columns = sym (same_table db n there e); rows = sym (ap rows_at (as_before db n there e)) }
 
-  pub undone_step : (H : Type 0) → IsStep H (behind before op) before (undone k before op) (λ ps. ps)
-  undone_step H = record {
+  pub undone_step : (H K : Type 0) → IsStep H K (behind before op) before (undone k before op) (λ ps. ps)
+  undone_step H K = record {
     keeps = λ db h. unnamed_database k before op accepted db h;
     values = λ x db h. undone_holds k before op db accepted h;
     typed = λ db ps h y none p m. same_types before (behind before op) p (λ n i. same_table db n ((y p m).there n i) (none p m n i)) (y p m);
     none = λ db ps h y none p m n i. sym (ap loss_of (as_before db n ((y p m).there n i) (none p m n i))) ∙ none p m n i;
     outputs = λ db ps outs h y none o p m. sym (same_outputs before (behind before op) p (λ n i. same_table db n ((y p m).there n i) (none p m n i))) ∙ o p m;
     law = λ x db ps h w y none. same_meaning (behind before op) before db (undone k before op db) ps (λ p m n i. alike_before db n ((y p m).there n i) (none p m n i));
+    constants = λ k db ps h y none c. c;
   }

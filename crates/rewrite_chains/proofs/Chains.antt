@@ -18,10 +18,11 @@ use Rattle.version_ways.proofs.WaySteps.{stays, one_forward, one_back, back_by}
 use Rattle.version_ways.proofs.VersionSteps.{leads, stands}
 use Rattle.version_ways.proofs.WayDatabases.{lawful_at}
 use Rattle.piece_meaning.specs.Pieces.{PlainPiece}
+use Rattle.piece_meaning.specs.Constants.{LawfulInOperators, LawfulInVersions}
 use Rattle.piece_meaning.specs.Rules.{Book, IsLawfulBook}
 use Rattle.rewrite_chains.specs.Chains.{through, through_each, through_operator, through_inverse, to_previous, to_next, unfolded_to}
 use Rattle.smo_meaning.specs.LawfulValues.{VersionsHold}
-use Rattle.rewrite_chains.proofs.HeldValues.{version_holds}
+use Rattle.rewrite_chains.proofs.HeldValues.{version_holds, version_lawful}
 use Rattle.rewrite_chains.proofs.ChainSteps.{IsStep, no_step, both_steps, operator_step, operators_step, undone_step}
 
 -- the first step back, and then the others
@@ -33,66 +34,71 @@ first_back over back v q x l =
     ∙ ap (along over back v q) (one_back over back (v + 1) v x one ∙ ap (back v) (stays over back (v + 1) x))
 
 -- what is pointwise the same is the same step
-same_step : (H : Type 0) (t u : Tables) (f f' : Database → Database) (g g' : List PlainPiece → List PlainPiece) → ((db : Database) → f db ≡ f' db)
-    → ((ps : List PlainPiece) → g ps ≡ g' ps) → IsStep H t u f g → IsStep H t u f' g'
-same_step H t u f f' g g' a b s =
+same_step : (H K : Type 0) (t u : Tables) (f f' : Database → Database) (g g' : List PlainPiece → List PlainPiece) → ((db : Database) → f db ≡ f' db)
+    → ((ps : List PlainPiece) → g ps ≡ g' ps) → IsStep H K t u f g → IsStep H K t u f' g'
+same_step H K t u f f' g g' a b s =
     let same_f : ◌≡◌ {A = Database → Database} f f' = λ i db. a db i in
     let same_g : ◌≡◌ {A = List PlainPiece → List PlainPiece} g g' = λ i ps. b ps i in
-    subst (λ (h : Database → Database). IsStep H t u h g') same_f (subst (λ (h : List PlainPiece → List PlainPiece). IsStep H t u f h) same_g s)
+    subst (λ (h : Database → Database). IsStep H K t u h g') same_f (subst (λ (h : List PlainPiece → List PlainPiece). IsStep H K t u f h) same_g s)
 
 -- back over an operator, with an inverse or with none
 back_step : (book : Book) → IsLawfulBook book → (k : ℕ) (before : Tables) (op : Operator) (inverse : List Operator) → IsLawful before → op_fault before op ≡ None
-    → inverse_fault before op inverse ≡ None → (H : Type 0) → (H → OperatorsHold inverse)
-    → IsStep H (behind before op) before (back_over of_databases k before op (behind before op) inverse) (through_each book (behind before op) inverse)
-back_step book lawful k before op [] good a i H holds = undone_step k before op a H
-back_step book lawful k before op (x ∷ inverse) good a i H holds =
+    → inverse_fault before op inverse ≡ None → (H K : Type 0) → (H → OperatorsHold inverse) → (K → LawfulInOperators inverse)
+    → IsStep H K (behind before op) before (back_over of_databases k before op (behind before op) inverse) (through_each book (behind before op) inverse)
+back_step book lawful k before op [] good a i H K holds kept = undone_step k before op a H K
+back_step book lawful k before op (x ∷ inverse) good a i H K holds kept =
     let r = accepted_leads_back before op x inverse i in
-    subst (λ t. IsStep H (behind before op) t (carried_over (behind before op) (x ∷ inverse)) (through_each book (behind before op) (x ∷ inverse))) r.1
-    (operators_step book lawful (behind before op) (x ∷ inverse) (next_is_lawful before op good a) r.0 H holds)
+    subst (λ t. IsStep H K (behind before op) t (carried_over (behind before op) (x ∷ inverse)) (through_each book (behind before op) (x ∷ inverse))) r.1
+    (operators_step book lawful (behind before op) (x ∷ inverse) (next_is_lawful before op good a) r.0 H K holds kept)
 
 module _ (book : Book) (lawful : IsLawfulBook book) (versions : List PlainVersion) (are : AreVersions None no_tables versions) where
   abbrev H : Type 0
   H = VersionsHold versions
 
+  abbrev K : Type 0
+  K = LawfulInVersions versions
+
   abbrev at : ℕ → Tables
   at k = tables_from no_tables versions k
 
-  pub version_step : (k : ℕ) → IsStep (VersionsHold versions) (at k) (at (k + 1)) (carry versions k) (to_previous book versions k)
+  pub version_step : (k : ℕ) → IsStep (VersionsHold versions) (LawfulInVersions versions) (at k) (at (k + 1)) (carry versions k) (to_previous book versions k)
   version_step k = step (slice_get versions k) refl
     where
-      step : (o : Option PlainVersion) → slice_get versions k ≡ o → IsStep H (at k) (at (k + 1)) (over_version of_databases (at k) o) (through_operator book (at k) o)
-      step None e = subst (λ t. IsStep H (at k) t (λ db. db) (λ ps. ps)) (sym (stands no_tables versions k e)) (no_step H (at k))
+      step : (o : Option PlainVersion) → slice_get versions k ≡ o → IsStep H K (at k) (at (k + 1)) (over_version of_databases (at k) o) (through_operator book (at k) o)
+      step None e = subst (λ t. IsStep H K (at k) t (λ db. db) (λ ps. ps)) (sym (stands no_tables versions k e)) (no_step H K (at k))
       step (Some v) e =
           let s = leads None no_tables versions k v are e in
-          subst (λ t. IsStep H (at k) t (carried (at k) v.op) (through book v.op (at k))) (sym (s.next ∙ s.tables))
-          (operator_step book lawful (at k) v.op (lawful_at versions are k) s.accepted H (λ x. (version_holds versions k v x e).0))
+          subst (λ t. IsStep H K (at k) t (carried (at k) v.op) (through book v.op (at k))) (sym (s.next ∙ s.tables))
+          (operator_step book lawful (at k) v.op (lawful_at versions are k) s.accepted H K (λ x. (version_holds versions k v x e).0)
+          (λ x. (version_lawful versions k v x e).0))
 
-  pub version_back_step : (k : ℕ) → IsStep (VersionsHold versions) (at (k + 1)) (at k) (back versions k) (to_next book versions k)
+  pub version_back_step : (k : ℕ) → IsStep (VersionsHold versions) (LawfulInVersions versions) (at (k + 1)) (at k) (back versions k) (to_next book versions k)
   version_back_step k = step (slice_get versions k) refl
     where
-      step : (o : Option PlainVersion) → slice_get versions k ≡ o → IsStep H (at (k + 1)) (at k) (back_over_version of_databases (k + 1) (at k) o) (through_inverse book o)
-      step None e = subst (λ t. IsStep H t (at k) (λ db. db) (λ ps. ps)) (sym (stands no_tables versions k e)) (no_step H (at k))
+      step : (o : Option PlainVersion) → slice_get versions k ≡ o → IsStep H K (at (k + 1)) (at k) (back_over_version of_databases (k + 1) (at k) o) (through_inverse book o)
+      step None e = subst (λ t. IsStep H K t (at k) (λ db. db) (λ ps. ps)) (sym (stands no_tables versions k e)) (no_step H K (at k))
       step (Some v) e =
           let s = leads None no_tables versions k v are e in
-          subst (λ t. IsStep H t (at k) (back_over_version of_databases (k + 1) (at k) (Some v)) (through_inverse book (Some v))) (sym (s.next ∙ s.tables))
-          (subst (λ t. IsStep H (behind (at k) v.op) (at k) (back_over of_databases (k + 1) (at k) v.op t v.inverse) (through_each book t v.inverse)) (sym s.tables)
-          (back_step book lawful (k + 1) (at k) v.op v.inverse (lawful_at versions are k) s.accepted s.inverse H (λ x. (version_holds versions k v x e).1)))
+          subst (λ t. IsStep H K t (at k) (back_over_version of_databases (k + 1) (at k) (Some v)) (through_inverse book (Some v))) (sym (s.next ∙ s.tables))
+          (subst (λ t. IsStep H K (behind (at k) v.op) (at k) (back_over of_databases (k + 1) (at k) v.op t v.inverse) (through_each book t v.inverse)) (sym s.tables)
+          (back_step book lawful (k + 1) (at k) v.op v.inverse (lawful_at versions are k) s.accepted s.inverse H K (λ x. (version_holds versions k v x e).1)
+          (λ x. (version_lawful versions k v x e).1)))
 
   -- pieces go against the databases
-  up : (v n : ℕ) → IsStep H (at v) (at (v + n)) (migrated_from versions v (v + n)) (unfolded_to book versions v (v + n))
+  up : (v n : ℕ) → IsStep H K (at v) (at (v + n)) (migrated_from versions v (v + n)) (unfolded_to book versions v (v + n))
   up v zero =
-      subst (λ (k : ℕ). IsStep H (at v) (at k) (migrated_from versions v k) (unfolded_to book versions v k)) here
-      (same_step H (at v) (at v) (λ db. db) (migrated_from versions v v) (λ ps. ps) (unfolded_to book versions v v)
-      (λ db. sym (stays (carry versions) (back versions) v db)) (λ ps. sym (stays (to_next book versions) (to_previous book versions) v ps)) (no_step H (at v)))
+      subst (λ (k : ℕ). IsStep H K (at v) (at k) (migrated_from versions v k) (unfolded_to book versions v k)) here
+      (same_step H K (at v) (at v) (λ db. db) (migrated_from versions v v) (λ ps. ps) (unfolded_to book versions v v)
+      (λ db. sym (stays (carry versions) (back versions) v db)) (λ ps. sym (stays (to_next book versions) (to_previous book versions) v ps)) (no_step H K (at v)))
     where
       here : v ≡ v + 0
       here = omega arith
   up v (suc n) =
-      subst (λ (k : ℕ). IsStep H (at v) (at k) (migrated_from versions v k) (unfolded_to book versions v k)) further
-      (same_step H (at v) (at (v + n + 1)) (λ db. carry versions (v + n) (migrated_from versions v (v + n) db)) (migrated_from versions v (v + n + 1))
+      subst (λ (k : ℕ). IsStep H K (at v) (at k) (migrated_from versions v k) (unfolded_to book versions v k)) further
+      (same_step H K (at v) (at (v + n + 1)) (λ db. carry versions (v + n) (migrated_from versions v (v + n) db)) (migrated_from versions v (v + n + 1))
       (λ ps. unfolded_to book versions v (v + n) (to_previous book versions (v + n) ps)) (unfolded_to book versions v (v + n + 1))
       (λ db. sym (one_forward (carry versions) (back versions) v (v + n) db low)) (λ ps. sym (first_back (to_next book versions) (to_previous book versions) (v + n) v ps low))
-      (both_steps H (at v) (at (v + n)) (at (v + n + 1)) (migrated_from versions v (v + n)) (unfolded_to book versions v (v + n)) (carry versions (v + n)) (to_previous book versions (v + n))
+      (both_steps H K (at v) (at (v + n)) (at (v + n + 1)) (migrated_from versions v (v + n)) (unfolded_to book versions v (v + n)) (carry versions (v + n)) (to_previous book versions (v + n))
       (up v n) (version_step (v + n))))
     where
       further : v + n + 1 ≡ v + suc n
@@ -101,20 +107,20 @@ module _ (book : Book) (lawful : IsLawfulBook book) (versions : List PlainVersio
       low : v ≤ v + n
       low = omega arith
 
-  down : (q n : ℕ) → IsStep H (at (q + n)) (at q) (migrated_from versions (q + n) q) (unfolded_to book versions (q + n) q)
+  down : (q n : ℕ) → IsStep H K (at (q + n)) (at q) (migrated_from versions (q + n) q) (unfolded_to book versions (q + n) q)
   down q zero =
-      subst (λ (k : ℕ). IsStep H (at k) (at q) (migrated_from versions k q) (unfolded_to book versions k q)) here
-      (same_step H (at q) (at q) (λ db. db) (migrated_from versions q q) (λ ps. ps) (unfolded_to book versions q q)
-      (λ db. sym (stays (carry versions) (back versions) q db)) (λ ps. sym (stays (to_next book versions) (to_previous book versions) q ps)) (no_step H (at q)))
+      subst (λ (k : ℕ). IsStep H K (at k) (at q) (migrated_from versions k q) (unfolded_to book versions k q)) here
+      (same_step H K (at q) (at q) (λ db. db) (migrated_from versions q q) (λ ps. ps) (unfolded_to book versions q q)
+      (λ db. sym (stays (carry versions) (back versions) q db)) (λ ps. sym (stays (to_next book versions) (to_previous book versions) q ps)) (no_step H K (at q)))
     where
       here : q ≡ q + 0
       here = omega arith
   down q (suc n) =
-      subst (λ (k : ℕ). IsStep H (at k) (at q) (migrated_from versions k q) (unfolded_to book versions k q)) further
-      (same_step H (at (q + n + 1)) (at q) (λ db. migrated_from versions (q + n) q (back versions (q + n) db)) (migrated_from versions (q + n + 1) q)
+      subst (λ (k : ℕ). IsStep H K (at k) (at q) (migrated_from versions k q) (unfolded_to book versions k q)) further
+      (same_step H K (at (q + n + 1)) (at q) (λ db. migrated_from versions (q + n) q (back versions (q + n) db)) (migrated_from versions (q + n + 1) q)
       (λ ps. to_next book versions (q + n) (unfolded_to book versions (q + n) q ps)) (unfolded_to book versions (q + n + 1) q)
       (λ db. sym (first_back (carry versions) (back versions) (q + n) q db low)) (λ ps. sym (one_forward (to_next book versions) (to_previous book versions) q (q + n) ps low))
-      (both_steps H (at (q + n + 1)) (at (q + n)) (at q) (back versions (q + n)) (to_next book versions (q + n)) (migrated_from versions (q + n) q) (unfolded_to book versions (q + n) q)
+      (both_steps H K (at (q + n + 1)) (at (q + n)) (at q) (back versions (q + n)) (to_next book versions (q + n)) (migrated_from versions (q + n) q) (unfolded_to book versions (q + n) q)
       (version_back_step (q + n)) (down q n)))
     where
       further : q + n + 1 ≡ q + suc n
@@ -123,7 +129,7 @@ module _ (book : Book) (lawful : IsLawfulBook book) (versions : List PlainVersio
       low : q ≤ q + n
       low = omega arith
 
-  pub the_way : (v q : ℕ) → IsStep (VersionsHold versions) (at v) (at q) (migrated_from versions v q) (unfolded_to book versions v q)
+  pub the_way : (v q : ℕ) → IsStep (VersionsHold versions) (LawfulInVersions versions) (at v) (at q) (migrated_from versions v q) (unfolded_to book versions v q)
   the_way v q = step (nat_le v q) refl
     where
       ahead : nat_le v q ≡ true → v + (q - v) ≡ q
@@ -132,6 +138,6 @@ module _ (book : Book) (lawful : IsLawfulBook book) (versions : List PlainVersio
       behind_it : nat_le v q ≡ false → q + (v - q) ≡ v
       behind_it e = grind (arith, e)
 
-      step : (b : Bool) → nat_le v q ≡ b → IsStep H (at v) (at q) (migrated_from versions v q) (unfolded_to book versions v q)
-      step true e = subst (λ (k : ℕ). IsStep H (at v) (at k) (migrated_from versions v k) (unfolded_to book versions v k)) (ahead e) (up v (q - v))
-      step false e = subst (λ (k : ℕ). IsStep H (at k) (at q) (migrated_from versions k q) (unfolded_to book versions k q)) (behind_it e) (down q (v - q))
+      step : (b : Bool) → nat_le v q ≡ b → IsStep H K (at v) (at q) (migrated_from versions v q) (unfolded_to book versions v q)
+      step true e = subst (λ (k : ℕ). IsStep H K (at v) (at k) (migrated_from versions v k) (unfolded_to book versions v k)) (ahead e) (up v (q - v))
+      step false e = subst (λ (k : ℕ). IsStep H K (at k) (at q) (migrated_from versions k q) (unfolded_to book versions k q)) (behind_it e) (down q (v - q))

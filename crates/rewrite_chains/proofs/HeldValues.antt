@@ -17,6 +17,7 @@ use Rattle.version_ways.specs.Whole.{whole_entry, whole}
 use Rattle.version_ways.specs.Migration.{undone}
 use Rattle.version_ways.proofs.WayDatabases.{unnamed_at}
 use Rattle.version_ways.proofs.WholeDatabases.{whole_at, whole_database}
+use Rattle.piece_meaning.specs.Constants.{LawfulInOperator, LawfulInOperators, LawfulInVersions, LawfulInEvolution, LawfulInEvolutions}
 use Rattle.piece_meaning.specs.Rules.{IsLawfulDatabase}
 use Rattle.smo_meaning.specs.LawfulValues.{VersionsHold}
 
@@ -46,6 +47,12 @@ version_holds [] k v h e = absurd (cc)
 version_holds (w ∷ versions) zero v h e = (let same : w ≡ v = cc in subst (λ (x : PlainVersion). BodyHolds (evolving x.op x.inverse)) same h.0)
 version_holds (w ∷ versions) (suc k) v h e = version_holds versions k v h.1 e
 
+pub version_lawful : (versions : List PlainVersion) (k : ℕ) (v : PlainVersion) → LawfulInVersions versions → slice_get versions k ≡ Some v
+    → LawfulInOperator v.op × LawfulInOperators v.inverse
+version_lawful [] k v h e = absurd (cc)
+version_lawful (w ∷ versions) zero v h e = (let same : w ≡ v = cc in subst (λ (x : PlainVersion). LawfulInOperator x.op × LawfulInOperators x.inverse) same h.0)
+version_lawful (w ∷ versions) (suc k) v h e = version_lawful versions k v h.1 e
+
 one_more : (versions : List PlainVersion) (v : PlainVersion) → VersionsHold versions → BodyHolds (evolving v.op v.inverse) → VersionsHold (versions ++ v ∷ [])
 one_more [] v h g = (g, tt)
 one_more (w ∷ versions) v h g = (h.0, one_more versions v h.1 g)
@@ -57,3 +64,15 @@ held_behind past stamp (evolving op inverse) h g = one_more past.versions (next_
 pub held_after : (past : Past) (commands : List PlainCommand) → VersionsHold past.versions → CommandsHold commands → VersionsHold (past_after past commands).versions
 held_after past [] h g = h
 held_after past (c ∷ commands) h g = held_after (past_with past c) commands (held_behind past c.stamp c.body h g.0) g.1
+
+one_more_lawful : (versions : List PlainVersion) (v : PlainVersion) → LawfulInVersions versions → LawfulInEvolution (evolving v.op v.inverse) → LawfulInVersions (versions ++ v ∷ [])
+one_more_lawful [] v h g = (g, tt)
+one_more_lawful (w ∷ versions) v h g = (h.0, one_more_lawful versions v h.1 g)
+
+pub lawful_behind : (past : Past) (stamp : ℕ) (body : PlainBody) → LawfulInVersions past.versions → LawfulInEvolution body → LawfulInVersions (past_behind stamp body past).versions
+lawful_behind past stamp (changing changes) h g = h
+lawful_behind past stamp (evolving op inverse) h g = one_more_lawful past.versions (next_version stamp op inverse past) h g
+
+pub lawful_after : (past : Past) (commands : List PlainCommand) → LawfulInVersions past.versions → LawfulInEvolutions commands → LawfulInVersions (past_after past commands).versions
+lawful_after past [] h g = h
+lawful_after past (c ∷ commands) h g = lawful_after (past_with past c) commands (lawful_behind past c.stamp c.body h g.0) g.1

@@ -12,6 +12,7 @@ use Rattle.version_ways.proofs.WayDatabases.{none_is_lost}
 use Rattle.version_ways.proofs.LossesByName.{losses_are, no_losses}
 use Rattle.piece_meaning.specs.Pieces.{PlainPiece, all_mean}
 use Rattle.piece_meaning.specs.Typed.{AllTyped}
+use Rattle.piece_meaning.specs.Constants.{LawfulInPieces, LawfulInVersions}
 use Rattle.piece_meaning.specs.Rules.{Book, IsLawfulBook, IsLawfulDatabase}
 use Rattle.rewrite_chains.specs.Chains.{unfolded_to, NoneLost, NoneNamed}
 use Rattle.smo_meaning.specs.LawfulValues.{VersionsHold}
@@ -41,3 +42,9 @@ module _ (versions : List PlainVersion) (are : AreVersions None no_tables versio
         let db = no_rows_of (tables_from no_tables versions v) in
         let h = is_lawful (tables_from no_tables versions v) in
         (the_way book lawful versions are v q).outputs db ps outs (none_is_lost (tables_from no_tables versions v) db h.database) typed (none_lost ps none db h) o
+
+    pub pieces_lawful : LawfulInVersions versions → LawfulInPieces ps → LawfulInPieces (unfolded_to book versions v q ps)
+    pieces_lawful kept c =
+        let db = no_rows_of (tables_from no_tables versions v) in
+        let h = is_lawful (tables_from no_tables versions v) in
+        (the_way book lawful versions are v q).constants kept db ps (none_is_lost (tables_from no_tables versions v) db h.database) typed (none_lost ps none db h) c

@@ -4,9 +4,11 @@ use Rattle.std.specs.Prelude.{None}
 use Rattle.std.specs.List.{flat_map}
 use Rattle.std.specs.FinMap.{get}
 use Rattle.relations.specs.Sets.{In, set_of}
+use Rattle.relations.proofs.SetLaws.{from_map}
 use Rattle.prima_base.specs.Order.{row_cmp}
 use Rattle.schema_catalog.specs.Tables.{Tables}
 use Rattle.schema_catalog.specs.Databases.{Database}
+use Rattle.cond_expr.specs.Trees.{Tree}
 use Rattle.smo_types.specs.Commands.{PlainVersion}
 use Rattle.smo_meaning.specs.OneRow.{Relation}
 use Rattle.smo_meaning.specs.Effects.{columns_of, rows_at}
@@ -22,14 +24,15 @@ use Rattle.plain_answers.specs.Reading.{Read, read_of, read_columns, read_rows, 
 use Rattle.plain_answers.proofs.ReadLaws.{same_plain}
 use Rattle.piece_meaning.specs.Pieces.{PlainPiece, all_mean}
 use Rattle.piece_meaning.specs.Typed.{IsTyped, AllTyped, output_types}
+use Rattle.piece_meaning.specs.Constants.{LawfulInTree, LawfulInTest, LawfulInPiece, LawfulInPieces, LawfulInVersions}
 use Rattle.piece_meaning.specs.Rules.{Book, IsLawfulBook, IsLawfulDatabase}
 use Rattle.rewrite_chains.specs.Chains.{unfolded_to, NoneNamed}
 use Rattle.smo_meaning.specs.LawfulValues.{VersionsHold}
-use Rattle.rewrite_chains.specs.Beginnings.{IsQuestion, first_piece}
+use Rattle.rewrite_chains.specs.Beginnings.{IsQuestion, own_column, first_piece}
 use Rattle.rewrite_chains.specs.Reading.{AreQuestions, Suffices, unfolded_read, unfolded_reads, unfolded_answers, asked_by_pieces}
 use Rattle.rewrite_chains.proofs.PieceLaws.{alone}
 use Rattle.rewrite_chains.proofs.ChainSteps.{AllOutput}
-use Rattle.rewrite_chains.proofs.PiecesMean.{pieces_mean, pieces_typed, pieces_output}
+use Rattle.rewrite_chains.proofs.PiecesMean.{pieces_mean, pieces_typed, pieces_output, pieces_lawful}
 use Rattle.rewrite_chains.proofs.FirstPieces.{first_means, first_typed}
 
 -- the one piece, alone
@@ -40,6 +43,16 @@ one_typed tables p h q (inr m) = absurd m
 one_output : (tables : Tables) (p : PlainPiece) → AllOutput tables (output_types tables p) (p ∷ [])
 one_output tables p q (inl e) = ap (output_types tables) (sym e)
 one_output tables p q (inr m) = absurd m
+
+first_lawful : (t : List ℕ) (r : Read) → LawfulInTest r.test → LawfulInPiece (first_piece t r)
+first_lawful t r h = record {
+  cond = h;
+  outs = λ o m. (let f = from_map own_column o r.names m in subst (λ (x : List ℕ × Tree). LawfulInTree x.1) f.2 tt);
+}
+
+one_lawful : (t : List ℕ) (r : Read) → LawfulInTest r.test → LawfulInPieces (first_piece t r ∷ [])
+one_lawful t r h p (inl e) = subst LawfulInPiece e (first_lawful t r h)
+one_lawful t r h p (inr m) = absurd m
 
 pub one_named : (versions : List PlainVersion) (v q : ℕ) (t : List ℕ) (r : Read) → get (lost_names versions v q) t ≡ None → NoneNamed (lost_names versions v q) (first_piece t r ∷ [])
 one_named versions v q t r none p (inl e) n m = at_atom n (subst (λ (x : PlainPiece). In n x.atoms) (sym e) m)
@@ -65,6 +78,9 @@ module _ (versions : List PlainVersion) (are : AreVersions None no_tables versio
       pieces_mean versions are v q book lawful (first_piece t r ∷ []) begins_typed (one_named versions v q t r none) hold db h
       ∙ alone (tables_from no_tables versions q) (migrated_from versions v q db) (first_piece t r)
       ∙ first_means (tables_from no_tables versions q) (lawful_at versions are q).schema t r asked (migrated_from versions v q db)
+
+  pub table_lawful : LawfulInVersions versions → LawfulInTest r.test → LawfulInPieces (unfolded_to book versions v q (first_piece t r ∷ []))
+  table_lawful kept h = pieces_lawful versions are v q book lawful (first_piece t r ∷ []) begins_typed (one_named versions v q t r none) kept (one_lawful t r h)
 
   pub table_output : (p : PlainPiece) → In p (unfolded_to book versions v q (first_piece t r ∷ []))
       → output_types (tables_from no_tables versions v) p ≡ output_types (tables_from no_tables versions q) (first_piece t r)

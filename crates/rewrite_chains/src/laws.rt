@@ -16,6 +16,7 @@ ghost use Rattle.plain_answers.specs.Branches.{Item, PlainBranch, plain};
 ghost use Rattle.plain_answers.specs.Reading.{Read, read_of};
 ghost use Rattle.piece_meaning.specs.Pieces.{PlainPiece, all_mean};
 ghost use Rattle.piece_meaning.specs.Typed.{AllTyped, output_types};
+ghost use Rattle.piece_meaning.specs.Constants.{LawfulInTest, LawfulInPieces, LawfulInVersions, LawfulInEvolution, LawfulInEvolutions};
 ghost use Rattle.piece_meaning.specs.Rules.{Book, IsLawfulBook, IsLawfulDatabase};
 ghost use Rattle.rewrite_chains.specs.Chains.{to_previous, to_next, unfolded_to, NoneNamed};
 ghost use Rattle.smo_meaning.specs.LawfulValues.{VersionsHold};
@@ -41,15 +42,20 @@ pub fn the_way_of_pieces_is_step_by_step()
         → unfolded_to book versions v q ps ≡ to_previous book versions v (unfolded_to book versions (v + 1) q ps) }
 {}
 
-/// Versions whose commands have lawful constants have them, and so have those of a history.
+/// Versions whose commands have lawful constants have them, and so have those of a history: the constants that come into rows, and
+/// all of them.
 pub fn versions_hold_lawful_constants()
     ensures step { (past : Past) → (command : PlainCommand) → VersionsHold past.versions → BodyHolds command.body → VersionsHold (past_with past command).versions }
     ensures history { (commands : List PlainCommand) → CommandsHold commands → VersionsHold (past_of commands).versions }
+    ensures step_of_all { (past : Past) → (command : PlainCommand) → LawfulInVersions past.versions → LawfulInEvolution command.body
+        → LawfulInVersions (past_with past command).versions }
+    ensures history_of_all { (commands : List PlainCommand) → LawfulInEvolutions commands → LawfulInVersions (past_of commands).versions }
 {}
 
 /// Pieces over version q, none of whose tables is lost by names on the way from version v, are taken to version v by any book of
 /// lawful rules: over every lawful database of version v they mean there what the pieces mean over that database migrated to
-/// version q; they are well-typed there, and have the same names and types of outputs.
+/// version q; they are well-typed there, and have the same names and types of outputs. Where the constants of the versions' operators
+/// and inverses are lawful, and those of the pieces, so are theirs there.
 pub fn pieces_are_taken_along()
     ensures means { (book : Book) → IsLawfulBook book → (versions : List PlainVersion) → AreVersions None no_tables versions → VersionsHold versions
         → (v : ℕ) → (q : ℕ) → (ps : List PlainPiece) → AllTyped (tables_from no_tables versions q) ps → NoneNamed (lost_names versions v q) ps
@@ -63,10 +69,13 @@ pub fn pieces_are_taken_along()
         → (v : ℕ) → (q : ℕ) → (ps : List PlainPiece) → AllTyped (tables_from no_tables versions q) ps → NoneNamed (lost_names versions v q) ps
         → (outs : List (List ℕ × Option ColType)) → ((p : PlainPiece) → In p ps → output_types (tables_from no_tables versions q) p ≡ outs)
         → (p : PlainPiece) → In p (unfolded_to book versions v q ps) → output_types (tables_from no_tables versions v) p ≡ outs }
+    ensures constants { (book : Book) → IsLawfulBook book → (versions : List PlainVersion) → AreVersions None no_tables versions → LawfulInVersions versions
+        → (v : ℕ) → (q : ℕ) → (ps : List PlainPiece) → AllTyped (tables_from no_tables versions q) ps → NoneNamed (lost_names versions v q) ps
+        → LawfulInPieces ps → LawfulInPieces (unfolded_to book versions v q ps) }
 {}
 
 /// The pieces of one table, unfolded to version v: over each of its lawful databases they mean the selection and projection of
-/// the migrated table; and they are well-typed there.
+/// the migrated table; and they are well-typed there. Their constants are lawful where those of the versions and of the condition are.
 pub fn the_pieces_of_a_table()
     ensures means { (book : Book) → IsLawfulBook book → (versions : List PlainVersion) → AreVersions None no_tables versions → VersionsHold versions
         → (v : ℕ) → (q : ℕ) → (table : List ℕ) → (r : Read) → IsQuestion (tables_from no_tables versions q) table r → get (lost_names versions v q) table ≡ None
@@ -80,6 +89,9 @@ pub fn the_pieces_of_a_table()
         → (v : ℕ) → (q : ℕ) → (table : List ℕ) → (r : Read) → IsQuestion (tables_from no_tables versions q) table r → get (lost_names versions v q) table ≡ None
         → (p : PlainPiece) → In p (unfolded_to book versions v q (first_piece table r ∷ []))
         → output_types (tables_from no_tables versions v) p ≡ output_types (tables_from no_tables versions q) (first_piece table r) }
+    ensures constants { (book : Book) → IsLawfulBook book → (versions : List PlainVersion) → AreVersions None no_tables versions → LawfulInVersions versions
+        → (v : ℕ) → (q : ℕ) → (table : List ℕ) → (r : Read) → IsQuestion (tables_from no_tables versions q) table r → get (lost_names versions v q) table ≡ None
+        → LawfulInTest r.test → LawfulInPieces (unfolded_to book versions v q (first_piece table r ∷ [])) }
 {}
 
 /// Pieces stand at a version for what is asked of a table of another one, where the table is not lost on the way and they are

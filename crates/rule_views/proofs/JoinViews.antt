@@ -27,8 +27,10 @@ use Rattle.smo_meaning.proofs.MadeRows.{Joinable}
 use Rattle.smo_meaning.proofs.OneColumns.{made_columns}
 use Rattle.smo_meaning.proofs.ColumnsByName.{joined_types}
 use Rattle.piece_meaning.specs.Views.{PlainView}
+use Rattle.piece_meaning.specs.Constants.{LawfulInView}
 use Rattle.piece_meaning.specs.Given.{Picks, Shows, AreGiven, IsTypedView, AreViews}
 use Rattle.rule_views.specs.OperatorViews.{paired, operator_views}
+use Rattle.rule_views.proofs.ViewConstants.{paired_constants}
 use Rattle.rule_views.proofs.OneTable.{only_one, two_there}
 use Rattle.piece_meaning.proofs.AddedParts.{both_true, and_true}
 use Rattle.rule_views.proofs.TestLaws.{typed_test}
@@ -120,6 +122,7 @@ module _ (tables : Tables) (r s : List ℕ) (c : Test) where
             (sym (two_there (join_rows cs ds c) (get tables r) (get tables s) (get db r) (get db s) here too (h r) (h s))) (join_is_given known db);
         typed = λ v m. subst (λ (x : PlainView). IsTypedView tables new x) (only_one view v m) typed;
         inputs = λ v m n. subst (λ (x : PlainView). In n x.atoms → In n (r ∷ s ∷ [])) (only_one view v m) (λ j. j);
+        constants = λ h v m. subst LawfulInView (only_one view v m) (paired_constants r cs s ds c h);
       },
       tt,
     )

@@ -1,3 +1,4 @@
+pub mod ViewConstants
 pub mod OneTable
 pub mod OneViews
 pub mod TestLaws

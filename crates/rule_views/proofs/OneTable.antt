@@ -27,6 +27,7 @@ use Rattle.smo_meaning.specs.Touching.{made_of}
 use Rattle.cond_expr.specs.AtomColumns.{kinds_of_atoms}
 use Rattle.plain_answers.proofs.OneRelation.{own_alike}
 use Rattle.piece_meaning.specs.Views.{PlainView, out_of}
+use Rattle.piece_meaning.specs.Constants.{LawfulInOperator, LawfulInView}
 use Rattle.piece_meaning.specs.Given.{Picks, Shows, AreGiven, IsTypedView, IsGivenBy}
 
 -- the made row has in each column what the outputs have of the old one
@@ -135,12 +136,13 @@ module _ (tables : Tables) (op : Operator) (r t : List ℕ) (new : List Column) 
 
   pub given_by_view : contains_key tables r ≡ true → ((rows : Relation) → IsMadeOfOne (columns_of tables r) new parts outs rows (f rows))
       → ((c : Test) → In c parts → is_typed kinds c ≡ true) → ((n : List ℕ) (k : ColType) → type_in new n ≡ Some k → kind_of kinds (out_of outs n) ≡ Some k)
-      → In r (made_of op) → IsGivenBy tables op (a_table t new (λ db. from_one f (get db r))) (t, its_view ∷ [])
-  given_by_view here made p q i = record {
+      → In r (made_of op) → (LawfulInOperator op → LawfulInView its_view) → IsGivenBy tables op (a_table t new (λ db. from_one f (get db r))) (t, its_view ∷ [])
+  given_by_view here made p q i constants = record {
     name = refl;
     rows = λ db h. subst (λ (rows : Relation). AreGiven tables db new rows (its_view ∷ [])) (sym (one_there f (get tables r) (get db r) here (h r)))
         (given_by_one tables db r new parts outs (f (rows_at (get db r))) (made (rows_at (get db r))));
     typed = λ v m. subst (λ (x : PlainView). IsTypedView tables new x) (only_one its_view v m) (typed_by_one tables r new parts outs here p q);
     inputs = λ v m n. subst (λ (x : PlainView). In n x.atoms → In n (made_of op)) (only_one its_view v m)
         (λ j. subst (λ (x : List ℕ). In x (made_of op)) (only_one r n j) i);
+    constants = λ h v m. subst LawfulInView (only_one its_view v m) (constants h);
   }

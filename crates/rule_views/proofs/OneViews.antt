@@ -31,6 +31,7 @@ use Rattle.smo_meaning.proofs.ColumnsByName.{added_types, dropped_types, renamed
 use Rattle.piece_meaning.specs.Views.{out_of}
 use Rattle.piece_meaning.specs.Given.{AreViews}
 use Rattle.rule_views.specs.OperatorViews.{operator_views}
+use Rattle.rule_views.proofs.ViewConstants.{whole_constants, computed_constants}
 use Rattle.rule_views.proofs.OneTable.{IsShown, IsMadeOfOne, given_by_view}
 
 -- an image has the rows that the outputs show
@@ -81,14 +82,14 @@ module _ (tables : Tables) (r : List ℕ) where
   pub rename_table_views : (t : List ℕ) → op_fault tables (rename_table r t) ≡ None → AreViews tables (rename_table r t) (operator_views tables (rename_table r t))
   rename_table_views t e = (
     given_by_view tables (rename_table r t) r t cs (λ rows. rows) [] [] (is_table tables r (all_preconditions tables (rename_table r t) e).0)
-        (made_whole cs) (none_typed (own_kinds cs)) (own_column cs) (inl refl),
+        (made_whole cs) (none_typed (own_kinds cs)) (own_column cs) (inl refl) (λ h. whole_constants r),
     tt,
   )
 
   pub copy_table_views : (t : List ℕ) → op_fault tables (copy_table r t) ≡ None → AreViews tables (copy_table r t) (operator_views tables (copy_table r t))
   copy_table_views t e = (
     given_by_view tables (copy_table r t) r t cs (λ rows. rows) [] [] (is_table tables r (all_preconditions tables (copy_table r t) e).0)
-        (made_whole cs) (none_typed (own_kinds cs)) (own_column cs) (inl refl),
+        (made_whole cs) (none_typed (own_kinds cs)) (own_column cs) (inl refl) (λ h. whole_constants r),
     tt,
   )
 
@@ -102,7 +103,8 @@ module _ (tables : Tables) (r : List ℕ) where
     pub add_column_views : (t : Tree) → op_fault tables (add_column c t r) ≡ None → AreViews tables (add_column c t r) (operator_views tables (add_column c t r))
     add_column_views t e = (
       given_by_view tables (add_column c t r) r r new (image new (added cs c t)) [] ((c, t) ∷ []) (is_table tables r (all_preconditions tables (add_column c t r) e).0)
-          (made_image cs new (added cs c t) ((c, t) ∷ []) (λ old n. in_one_column c t old n (same c n))) (none_typed (own_kinds cs)) typed (inl refl),
+          (made_image cs new (added cs c t) ((c, t) ∷ []) (λ old n. in_one_column c t old n (same c n))) (none_typed (own_kinds cs)) typed (inl refl)
+          (λ h. computed_constants r c t h),
       tt,
     )
       where
@@ -126,7 +128,7 @@ module _ (tables : Tables) (r : List ℕ) where
     pub drop_column_views : op_fault tables (drop_column c r) ≡ None → AreViews tables (drop_column c r) (operator_views tables (drop_column c r))
     drop_column_views e = (
       given_by_view tables (drop_column c r) r r new (image new (cell cs)) [] [] (is_table tables r (all_preconditions tables (drop_column c r) e).0)
-          (made_image cs new (cell cs) [] (λ old n. refl)) (none_typed (own_kinds cs)) typed (inl refl),
+          (made_image cs new (cell cs) [] (λ old n. refl)) (none_typed (own_kinds cs)) typed (inl refl) (λ h. whole_constants r),
       tt,
     )
       where
@@ -150,7 +152,7 @@ module _ (tables : Tables) (r : List ℕ) where
       given_by_view tables (rename_column b r c) r r new (image new (moved cs b c)) [] ((c, column (Atom 0) b) ∷ [])
           (is_table tables r (all_preconditions tables (rename_column b r c) e).0)
           (made_image cs new (moved cs b c) ((c, column (Atom 0) b) ∷ []) (λ old n. in_one_column c (column (Atom 0) b) old n (same c n)))
-          (none_typed (own_kinds cs)) typed (inl refl),
+          (none_typed (own_kinds cs)) typed (inl refl) (λ h. computed_constants r c (column (Atom 0) b) tt),
       tt,
     )
       where

@@ -27,8 +27,10 @@ use Rattle.smo_meaning.proofs.OneColumns.{made_columns}
 use Rattle.smo_meaning.proofs.ColumnsByName.{decomposed_types}
 use Rattle.cond_expr.specs.Parts.{parts_but_true as parts}
 use Rattle.piece_meaning.specs.Views.{PlainView, whole}
+use Rattle.piece_meaning.specs.Constants.{LawfulInView}
 use Rattle.piece_meaning.specs.Given.{AreGiven, IsTypedView, AreViews}
 use Rattle.rule_views.specs.OperatorViews.{operator_views, unmet}
+use Rattle.rule_views.proofs.ViewConstants.{whole_constants, parts_constants, unmet_constants}
 use Rattle.rule_views.proofs.OneTable.{only_one, given_by_one, given_by_both, two_there, typed_by_one, given_by_view}
 use Rattle.rule_views.proofs.OneViews.{made_image, made_filter, made_whole, own_column, none_typed}
 use Rattle.rule_views.proofs.TestLaws.{typed_test, part_typed, parts_hold, and_all, unmet_fails, unmet_typed}
@@ -48,6 +50,7 @@ create_table_views tables r cs = (
     rows = λ db h. record { there = λ row m. absurd m; back = λ v m. absurd m };
     typed = λ v m. absurd m;
     inputs = λ v m. absurd m;
+    constants = λ h v m. absurd m;
   },
   tt,
 )
@@ -69,11 +72,12 @@ module _ (tables : Tables) (r s t : List ℕ) where
         typed_test (own_kinds cs) 0 c (none_mapped WrongType (first_of (test_untyped (own_kinds cs) 0 c)) m.1.1.1.1.1.0) in (
           given_by_view tables by r s cs (filter (meets cs c)) (parts c) [] here
               (made_filter cs (meets cs c) (parts c) (λ row. parts_hold (own_cells cs row) c))
-              (λ x i. part_typed (own_kinds cs) c x typed i) (own_column cs) (inl refl),
+              (λ x i. part_typed (own_kinds cs) c x typed i) (own_column cs) (inl refl) (λ h. parts_constants r c h),
           (
             given_by_view tables by r t cs (filter (λ row. not (meets cs c row))) (unmet c ∷ []) [] here
                 (made_filter cs (λ row. not (meets cs c row)) (unmet c ∷ []) (λ row. and_all (truth (own_cells cs row) (unmet c)) ∙ unmet_fails (own_cells cs row) c))
-                (λ x i. subst (λ (y : Test). is_typed (own_kinds cs) y ≡ true) (only_one (unmet c) x i) (unmet_typed (own_kinds cs) c typed)) (own_column cs) (inl refl),
+                (λ x i. subst (λ (y : Test). is_typed (own_kinds cs) y ≡ true) (only_one (unmet c) x i) (unmet_typed (own_kinds cs) c typed)) (own_column cs) (inl refl)
+                (λ h. unmet_constants r c h),
             tt,
           ),
         )
@@ -92,10 +96,10 @@ module _ (tables : Tables) (r s t : List ℕ) where
         let m = all_preconditions tables in_parts e in
         let here : contains_key tables r ≡ true = is_table tables r m.0 in (
           given_by_view tables in_parts r s (named xs cs) (image (named xs cs) (cell cs)) [] [] here
-              (made_image cs (named xs cs) (cell cs) [] (λ old n. refl)) (none_typed (own_kinds cs)) first (inl refl),
+              (made_image cs (named xs cs) (cell cs) [] (λ old n. refl)) (none_typed (own_kinds cs)) first (inl refl) (λ h. whole_constants r),
           (
             given_by_view tables in_parts r t (named ys cs) (image (named ys cs) (cell cs)) [] [] here
-                (made_image cs (named ys cs) (cell cs) [] (λ old n. refl)) (none_typed (own_kinds cs)) second (inl refl),
+                (made_image cs (named ys cs) (cell cs) [] (λ old n. refl)) (none_typed (own_kinds cs)) second (inl refl) (λ h. whole_constants r),
             tt,
           ),
         )
@@ -122,6 +126,7 @@ module _ (tables : Tables) (r s t : List ℕ) where
           (given_by_both tables db cs (rows_at (get db r)) (rows_at (get db s)) (whole r ∷ []) (whole s ∷ []) (first db) (second db));
       typed = λ v m. one_typed v m;
       inputs = λ v m n. one_input v m n;
+      constants = λ h v m. each_whole v m;
     },
     tt,
   )
@@ -151,3 +156,7 @@ module _ (tables : Tables) (r s t : List ℕ) where
       one_input : (v : PlainView) → In v (whole r ∷ whole s ∷ []) → (n : List ℕ) → In n v.atoms → In n (r ∷ s ∷ [])
       one_input v (inl i) n = subst (λ (x : PlainView). In n x.atoms → In n (r ∷ s ∷ [])) i (λ j. inl (only_one r n j))
       one_input v (inr i) n = subst (λ (x : PlainView). In n x.atoms → In n (r ∷ s ∷ [])) (only_one (whole s) v i) (λ j. inr j)
+
+      each_whole : (v : PlainView) → In v (whole r ∷ whole s ∷ []) → LawfulInView v
+      each_whole v (inl i) = subst LawfulInView i (whole_constants r)
+      each_whole v (inr i) = subst LawfulInView (only_one (whole s) v i) (whole_constants s)

@@ -1,4 +1,4 @@
-use Rattle.rewrite_chains.proofs.ReadMoments.{table_means, table_typed, table_output}
+use Rattle.rewrite_chains.proofs.ReadMoments.{table_means, table_typed, table_output, table_lawful}
 use Rattle.rewrite_chains.proofs.laws.the_pieces_of_a_table.Goals as goal
 
 pub returns-clause-means : goal.returns-clause-means
@@ -9,3 +9,6 @@ returns-clause-typed c = λ book lawful versions are v q table r asked none. tab
 
 pub returns-clause-outputs : goal.returns-clause-outputs
 returns-clause-outputs c = λ book lawful versions are v q table r asked none p m. table_output versions are book lawful v q table r asked none p m
+
+pub returns-clause-constants : goal.returns-clause-constants
+returns-clause-constants c = λ book lawful versions are kept v q table r asked none h. table_lawful versions are book lawful v q table r asked none kept h
