@@ -1,0 +1,3 @@
+pub mod NamedEntries
+pub mod LifelinesBehind
+pub mod VersionsCovered
