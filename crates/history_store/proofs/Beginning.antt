@@ -40,10 +40,10 @@ none_entries [] cells i = absurd i
 none_entries (c ∷ logs) cells (inl e) = sym e
 none_entries (c ∷ logs) cells (inr i) = none_entries logs cells i
 
-pub none_before : (columns : List Column) (logs : List (List Write)) (spare m : ℕ) → AllBefore (store_of columns [] logs spare) m
+pub none_before : (columns : List Column) (logs : List (List Write)) (spare m : ℕ) → AllBefore (store_of columns [] logs spare []) m
 none_before columns logs spare m = record { keys = λ p i. absurd i; cells = λ cells i c j. absurd (subst (λ (cs : List Cell). In c cs) (none_entries logs cells i) j) }
 
-pub none_now : (columns : List Column) (logs : List (List Write)) (spare m : ℕ) → relation_at (store_of columns [] logs spare) m ≡ []
+pub none_now : (columns : List Column) (logs : List (List Write)) (spare m : ℕ) → relation_at (store_of columns [] logs spare []) m ≡ []
 unfolding relation_at set_of
 none_now columns logs spare m = refl
 
@@ -61,7 +61,7 @@ empty : (xs : List ℕ) → ((x : ℕ) → In x xs → ⊥) → xs ≡ []
 empty [] f = refl
 empty (x ∷ xs) f = absurd (f x (inl refl))
 
-pub no_lost : (columns : List Column) (logs : List (List Write)) (spare : ℕ) (p : Plan) → IsPlan (store_of columns [] logs spare) p → p.lost ≡ []
+pub no_lost : (columns : List Column) (logs : List (List Write)) (spare : ℕ) (p : Plan) → IsPlan (store_of columns [] logs spare []) p → p.lost ≡ []
 no_lost columns logs spare p f = empty p.lost (λ x i. (let h = (f.hands.lost_open x i).0 in omega (arith, h)))
 
 no_left : (rows : List (List Value)) → unpaired {A = ℕ} [] rows ≡ []
@@ -73,14 +73,14 @@ no_close stamp [] = refl
 no_close stamp (c ∷ cells) = ap (λ cs. c ∷ cs) (no_close stamp cells)
 
 pub first_keys : (columns : List Column) (logs : List (List Write)) (spare : ℕ) (stamp : ℕ) (rows : List (List Value)) (after : Index)
-    → keys_after (store_of columns [] logs spare) (record { stamp = stamp; lost = []; gained = rows; after = after }) ≡ new_keys stamp rows
+    → keys_after (store_of columns [] logs spare []) (record { stamp = stamp; lost = []; gained = rows; after = after }) ≡ new_keys stamp rows
 first_keys columns logs spare stamp rows after = rw (no_left rows) refl
 
 pub first_cells : (columns : List Column) (logs : List (List Write)) (spare : ℕ) (stamp : ℕ) (rows : List (List Value)) (after : Index) → length logs ≡ length columns
-    → cells_after (store_of columns [] logs spare) (record { stamp = stamp; lost = []; gained = rows; after = after }) ≡ write_rows (handed [] 0 rows) rows stamp (no_cells columns)
+    → cells_after (store_of columns [] logs spare []) (record { stamp = stamp; lost = []; gained = rows; after = after }) ≡ write_rows (handed [] 0 rows) rows stamp (no_cells columns)
 first_cells columns logs spare stamp rows after e = rw (no_left rows, none_cells columns logs e) (no_close stamp (write_rows (handed [] 0 rows) rows stamp (no_cells columns)))
 
-pub none_weight : (f : Value → ℕ) (k : ℕ) (columns : List Column) (logs : List (List Write)) (spare : ℕ) → weight f (get_or (store_of columns [] logs spare).cells k []) ≡ 0
+pub none_weight : (f : Value → ℕ) (k : ℕ) (columns : List Column) (logs : List (List Write)) (spare : ℕ) → weight f (get_or (store_of columns [] logs spare []).cells k []) ≡ 0
 none_weight f k columns [] spare = refl
 none_weight f zero columns (c ∷ logs) spare = refl
 none_weight f (suc k) columns (c ∷ logs) spare = none_weight f k columns logs spare

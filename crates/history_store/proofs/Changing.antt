@@ -51,8 +51,8 @@ from_only row (r ∷ rows) others i = by_case (has row_cmp r others) refl i (fro
     by_case false t (inl e) again = (inl e, ap (λ x. has row_cmp x others) (sym e) ∙ t)
     by_case false t (inr i) again = let p = again i in (inr p.0, p.1)
 
-module _ (columns : List Column) (keys : List Span) (logs : List (List Write)) (live : List ℕ) (spare : ℕ) (k : IsKept columns keys logs live) (stamp : ℕ)
-    (b : AllBefore (store_of columns keys logs spare) stamp) (l : stamp < forever) (lost gained : List (List Value)) (r : IsRelation columns lost) (g : IsRelation columns gained)
+module _ {indexed : List ℕ} (columns : List Column) (keys : List Span) (logs : List (List Write)) (live : List ℕ) (spare : ℕ) (k : IsKept columns keys logs live) (stamp : ℕ)
+    (b : AllBefore (store_of columns keys logs spare indexed) stamp) (l : stamp < forever) (lost gained : List (List Value)) (r : IsRelation columns lost) (g : IsRelation columns gained)
     (found : List ℕ) (index : Index) (spliced : IsSpliced logs live lost (length keys) gained found (ids_behind index live))
     (placed : IsPlaced index live) (more : more_ids index ≤ length gained) where
   after : List ℕ
@@ -144,29 +144,29 @@ module _ (columns : List Column) (keys : List Span) (logs : List (List Write)) (
       by (inl x) = (current_relation columns keys logs live k).fitting q (from_only q (rows_of live logs) lost x).0
       by (inr x) = g.fitting q x
 
-  before : (n : ℕ) → ids_at (store_of columns keys logs n) stamp ≡ live
-  before n = live_is columns keys logs live n stamp k (more_room columns keys logs spare n stamp b) l
+  before : (others : List ℕ) (n : ℕ) → ids_at (store_of columns keys logs n others) stamp ≡ live
+  before others n = live_is columns keys logs live n stamp k (more_room columns keys logs spare n stamp b) l
 
-  along : (n : ℕ) → rows_after (store_of columns keys logs n) (record { stamp = stamp; lost = found; gained = gained; after = index }) ≡ rows_of after new
+  along : (others : List ℕ) (n : ℕ) → rows_after (store_of columns keys logs n others) (record { stamp = stamp; lost = found; gained = gained; after = index }) ≡ rows_of after new
   unfolding rows_after new after
-  along n =
-      ap (λ ids. rows_along (ids_behind index ids) stamp (close_all (unpaired found gained) stamp (write_rows (handed found (length keys) gained) gained stamp (all_entries keys logs)))) (before n)
-      ∙ along_after columns keys logs live n k stamp found gained after (more_room columns keys logs spare n stamp b) l hands
+  along others n =
+      ap (λ ids. rows_along (ids_behind index ids) stamp (close_all (unpaired found gained) stamp (write_rows (handed found (length keys) gained) gained stamp (all_entries keys logs)))) (before others n)
+      ∙ along_after columns keys logs live n k stamp found gained after (more_room {others = indexed} columns keys logs spare n stamp b) l hands
 
-  pub change_fits : (n : ℕ) → IsPlan (store_of columns keys logs n) (record { stamp = stamp; lost = found; gained = gained; after = index })
+  pub change_fits : {others : List ℕ} → (n : ℕ) → IsPlan (store_of columns keys logs n others) (record { stamp = stamp; lost = found; gained = gained; after = index })
   unfolding after
-  change_fits n = record {
+  change_fits {others} n = record {
     before = more_room columns keys logs spare n stamp b;
     lawful = l;
-    placed = subst (IsPlaced index) (sym (before n)) placed;
+    placed = subst (IsPlaced index) (sym (before others n)) placed;
     more = more;
-    hands = subst (λ ids. IsHandOver keys (length columns) found gained (ids_behind index ids)) (sym (before n)) hands;
-    relation = subst (IsRelation columns) (sym (along n)) (record { ascending = rises; fitting = fits_in });
+    hands = subst (λ ids. IsHandOver keys (length columns) found gained (ids_behind index ids)) (sym (before others n)) hands;
+    relation = subst (IsRelation columns) (sym (along others n)) (record { ascending = rises; fitting = fits_in });
   }
 
-  pub change_leads : (n : ℕ) → rows_after (store_of columns keys logs n) (record { stamp = stamp; lost = found; gained = gained; after = index }) ≡ changed (relation_at (store_of columns keys logs spare) stamp) lost gained
-  change_leads n =
-      along n ∙ sym (set_is (only_in (rows_of live logs) lost ++ gained) (rows_of after new) rises to_rows from_rows)
+  pub change_leads : (others : List ℕ) (n : ℕ) → rows_after (store_of columns keys logs n others) (record { stamp = stamp; lost = found; gained = gained; after = index }) ≡ changed (relation_at (store_of columns keys logs spare indexed) stamp) lost gained
+  change_leads others n =
+      along others n ∙ sym (set_is (only_in (rows_of live logs) lost ++ gained) (rows_of after new) rises to_rows from_rows)
       ∙ ap (λ rs. set_of row_cmp (only_in rs lost ++ gained)) (sym (relation_from columns keys logs live spare stamp stamp k b (omega arith) l))
 
   pub change_lost : rows_along found stamp (all_entries keys logs) ≡ lost

@@ -41,7 +41,7 @@ ascend_ids m cells [] a = tt
 ascend_ids m cells (id ∷ ids) a = (before_ids m cells id ids a.0, ascend_ids m cells ids a.1)
 
 -- the ids of the keys that hold
-in_ids : (id m k : ℕ) (keys : List Span) → k < length keys → covers (get_or keys k no_span) m ≡ true → In (id + k) (ids_from id m keys)
+pub in_ids : (id m k : ℕ) (keys : List Span) → k < length keys → covers (get_or keys k no_span) m ≡ true → In (id + k) (ids_from id m keys)
 in_ids id m k [] h t = absurd (omega arith)
 in_ids id m zero (p ∷ keys) h t =
     let here : covers p m ≡ true = t in
@@ -51,13 +51,13 @@ in_ids id m (suc k) (p ∷ keys) h t =
     let rest = subst (λ n. In n (ids_from (id + 1) m keys)) n (in_ids (id + 1) m k keys (omega arith) t) in
     elim (covers p m) as (λ b. In (id + suc k) (if b then id ∷ ids_from (id + 1) m keys else ids_from (id + 1) m keys)) [ true ↦ inr rest | false ↦ rest ]
 
-abbrev IsHeld : ℕ → ℕ → ℕ → List Span → Type 0
+abbrev pub IsHeld : ℕ → ℕ → ℕ → List Span → Type 0
 IsHeld j id m keys = (k : ℕ) × (k < length keys) × (covers (get_or keys k no_span) m ≡ true) × (id + k ≡ j)
 
 later_held : (j id m : ℕ) (p : Span) (keys : List Span) → IsHeld j (id + 1) m keys → IsHeld j id m (p ∷ keys)
 later_held j id m p keys (k, h, t, e) = (suc k, omega (arith, h), t, omega (arith, e))
 
-is_held : (j id m : ℕ) (keys : List Span) → In j (ids_from id m keys) → IsHeld j id m keys
+pub is_held : (j id m : ℕ) (keys : List Span) → In j (ids_from id m keys) → IsHeld j id m keys
 is_held j id m [] i = absurd i
 is_held j id m (p ∷ keys) i = by_case (covers p m) refl i (is_held j (id + 1) m keys)
   where
@@ -67,14 +67,17 @@ is_held j id m (p ∷ keys) i = by_case (covers p m) refl i (is_held j (id + 1) 
     by_case true t (inr i) again = later_held j id m p keys (again i)
     by_case false t i again = later_held j id m p keys (again i)
 
-module _ (columns : List Column) (keys : List Span) (logs : List (List Write)) (live : List ℕ) (spare m : ℕ) (h : AreHistories keys logs) (s : IsStored keys logs live m) (l : m < forever) where
+module _ (keys : List Span) (logs : List (List Write)) (live : List ℕ) (m : ℕ) (h : AreHistories keys logs) (s : IsStored keys logs live m) (l : m < forever) where
   is_live : (j : ℕ) → IsHeld j 0 m keys → In j live
   is_live j (k, b, t, e) =
       let open_end : (get_or keys k no_span).end ≡ forever = elim (s.ended k b) [ inl q ↦ grind (arith, nat_tests) | inr q ↦ q ] in
       let n : k ≡ j = omega (arith, e) in
       subst (λ n. In n live) n (s.are_live k (b, open_end))
 
-  holds_now : (j : ℕ) → In j live → In j (ids_from 0 m keys)
+  pub held_live : (j : ℕ) → In j (ids_from 0 m keys) → In j live
+  held_live j i = is_live j (is_held j 0 m keys i)
+
+  pub holds_now : (j : ℕ) → In j live → In j (ids_from 0 m keys)
   holds_now j i =
       let o = s.are_open j i in
       let started : (get_or keys j no_span).start ≤ m = s.started j o.0 in
@@ -86,9 +89,9 @@ module _ (columns : List Column) (keys : List Span) (logs : List (List Write)) (
   rise : Ascends (by_rows m (all_entries keys logs)) live
   rise = ascend_ids m (all_entries keys logs) live (subst (Ascends row_cmp) (sym (along_is live m m keys logs h s.columns_fit (omega arith) l s.are_open s.started)) s.ordered)
 
-  pub ids_are : ids_at (store_of columns keys logs spare) m ≡ live
+  pub ids_are : (columns : List Column) (spare : ℕ) (indexed : List ℕ) → ids_at (store_of columns keys logs spare indexed) m ≡ live
   unfolding ids_at
-  ids_are =
+  ids_are columns spare indexed =
       let cmp = by_rows m (all_entries keys logs) in
       let o = by_exact m (all_entries keys logs) in
       one_list cmp o (set_of cmp (ids_from 0 m keys)) live (set_ascends cmp o (ids_from 0 m keys)) rise (record {

@@ -39,20 +39,20 @@ open_more keys more q o = (
 )
 
 -- all stamps are below a later moment
-pub later : (columns : List Column) (keys : List Span) (logs : List (List Write)) (live : List ℕ) (spare stamp m : ℕ) → IsKept columns keys logs live → AllBefore (store_of columns keys logs spare) stamp → stamp ≤ m → IsStored keys logs live m
+pub later : {indexed : List ℕ} → (columns : List Column) (keys : List Span) (logs : List (List Write)) (live : List ℕ) (spare stamp m : ℕ) → IsKept columns keys logs live → AllBefore (store_of columns keys logs spare indexed) stamp → stamp ≤ m → IsStored keys logs live m
 later columns keys logs live spare stamp m k b l = stored_at columns keys logs live spare stamp m k b (omega (arith, l))
 
-pub relation_from : (columns : List Column) (keys : List Span) (logs : List (List Write)) (live : List ℕ) (spare stamp m : ℕ) → IsKept columns keys logs live → AllBefore (store_of columns keys logs spare) stamp → stamp ≤ m → m < forever
-    → relation_at (store_of columns keys logs spare) m ≡ rows_of live logs
-relation_from columns keys logs live spare stamp m k b l f = relation_is columns keys logs spare m k.histories ∙ at_now keys logs live m m (later columns keys logs live spare stamp m k b l) (omega arith) f
+pub relation_from : {indexed : List ℕ} → (columns : List Column) (keys : List Span) (logs : List (List Write)) (live : List ℕ) (spare stamp m : ℕ) → IsKept columns keys logs live → AllBefore (store_of columns keys logs spare indexed) stamp → stamp ≤ m → m < forever
+    → relation_at (store_of columns keys logs spare indexed) m ≡ rows_of live logs
+relation_from columns keys logs live spare stamp m k b l f = relation_is _ columns keys logs spare m k.histories ∙ at_now keys logs live m m (later columns keys logs live spare stamp m k b l) (omega arith) f
 
 -- the ids that the table keeps are those of its rows from its last stamp on
-pub live_is : (columns : List Column) (keys : List Span) (logs : List (List Write)) (live : List ℕ) (spare stamp : ℕ) → IsKept columns keys logs live → AllBefore (store_of columns keys logs spare) stamp → stamp < forever
-    → ids_at (store_of columns keys logs spare) stamp ≡ live
-live_is columns keys logs live spare stamp k b l = ids_are columns keys logs live spare stamp k.histories (later columns keys logs live spare stamp stamp k b (omega arith)) l
+pub live_is : {indexed : List ℕ} → (columns : List Column) (keys : List Span) (logs : List (List Write)) (live : List ℕ) (spare stamp : ℕ) → IsKept columns keys logs live → AllBefore (store_of columns keys logs spare indexed) stamp → stamp < forever
+    → ids_at (store_of columns keys logs spare indexed) stamp ≡ live
+live_is columns keys logs live spare stamp k b l = ids_are keys logs live stamp k.histories (later columns keys logs live spare stamp stamp k b (omega arith)) l columns spare _
 
-module _ (columns : List Column) (keys : List Span) (logs : List (List Write)) (live : List ℕ) (spare : ℕ) (k : IsKept columns keys logs live)
-    (stamp : ℕ) (lost : List ℕ) (gained : List (List Value)) (after : List ℕ) (b : AllBefore (store_of columns keys logs spare) stamp) (l : stamp < forever) (w : IsHandOver keys (length columns) lost gained after) where
+module _ {indexed : List ℕ} (columns : List Column) (keys : List Span) (logs : List (List Write)) (live : List ℕ) (spare : ℕ) (k : IsKept columns keys logs live)
+    (stamp : ℕ) (lost : List ℕ) (gained : List (List Value)) (after : List ℕ) (b : AllBefore (store_of columns keys logs spare indexed) stamp) (l : stamp < forever) (w : IsHandOver keys (length columns) lost gained after) where
   hands : IsHandOver keys (length logs) lost gained after
   hands = subst (λ n. IsHandOver keys n lost gained after) (sym k.width) w
 
@@ -96,46 +96,46 @@ module _ (columns : List Column) (keys : List Span) (logs : List (List Write)) (
       apart = still_apart keys logs stamp lost gained l hands.lost_open after stored_then columns r k.apart;
     }
 
-    pub before_then : (n m : ℕ) → m < stamp → relation_at (store_of columns (keys_handed keys lost gained stamp) (logs_handed keys logs lost gained stamp) n) m ≡ relation_at (store_of columns keys logs spare) m
-    before_then n m h =
-        relation_is columns (keys_handed keys lost gained stamp) (logs_handed keys logs lost gained stamp) n m second.histories
+    pub before_then : (others : List ℕ) (n m : ℕ) → m < stamp → relation_at (store_of columns (keys_handed keys lost gained stamp) (logs_handed keys logs lost gained stamp) n others) m ≡ relation_at (store_of columns keys logs spare indexed) m
+    before_then others n m h =
+        relation_is _ columns (keys_handed keys lost gained stamp) (logs_handed keys logs lost gained stamp) n m second.histories
         ∙ ap (set_of row_cmp) (before_after m stamp keys logs lost gained h l hands.lost_open)
-        ∙ sym (relation_is columns keys logs spare m k.histories)
+        ∙ sym (relation_is _ columns keys logs spare m k.histories)
 
-    pub from_then : (n m : ℕ) → stamp ≤ m → m < forever → relation_at (store_of columns (keys_handed keys lost gained stamp) (logs_handed keys logs lost gained stamp) n) m ≡ rows_of after (logs_handed keys logs lost gained stamp)
-    from_then n m h f =
-        relation_is columns (keys_handed keys lost gained stamp) (logs_handed keys logs lost gained stamp) n m second.histories
+    pub from_then : (others : List ℕ) (n m : ℕ) → stamp ≤ m → m < forever → relation_at (store_of columns (keys_handed keys lost gained stamp) (logs_handed keys logs lost gained stamp) n others) m ≡ rows_of after (logs_handed keys logs lost gained stamp)
+    from_then others n m h f =
+        relation_is _ columns (keys_handed keys lost gained stamp) (logs_handed keys logs lost gained stamp) n m second.histories
         ∙ at_now (keys_handed keys lost gained stamp) (logs_handed keys logs lost gained stamp) after stamp m stored_then h f
 
-    pub later_then : (n m : ℕ) → stamp < m → AllBefore (store_of columns (keys_handed keys lost gained stamp) (logs_handed keys logs lost gained stamp) n) m
+    pub later_then : {others : List ℕ} → (n m : ℕ) → stamp < m → AllBefore (store_of columns (keys_handed keys lost gained stamp) (logs_handed keys logs lost gained stamp) n others) m
     later_then n m h = all_before columns (keys_handed keys lost gained stamp) (logs_handed keys logs lost gained stamp) after n stamp m stored_then h
 
 -- the same from a plan
-module _ (columns : List Column) (keys : List Span) (logs : List (List Write)) (live : List ℕ) (spare : ℕ) (k : IsKept columns keys logs live) (p : Plan) (f : IsPlan (store_of columns keys logs spare) p) where
-  pub ids_then : ids_after (store_of columns keys logs spare) p ≡ ids_behind p.after live
+module _ {indexed : List ℕ} (columns : List Column) (keys : List Span) (logs : List (List Write)) (live : List ℕ) (spare : ℕ) (k : IsKept columns keys logs live) (p : Plan) (f : IsPlan (store_of columns keys logs spare indexed) p) where
+  pub ids_then : ids_after (store_of columns keys logs spare indexed) p ≡ ids_behind p.after live
   ids_then = ap (λ ids. ids_behind p.after ids) (live_is columns keys logs live spare p.stamp k f.before f.lawful)
 
   pub placed_then : IsPlaced p.after live
   placed_then = subst (IsPlaced p.after) (live_is columns keys logs live spare p.stamp k f.before f.lawful) f.placed
 
-  pub rows_are : rows_after (store_of columns keys logs spare) p ≡ rows_of (ids_after (store_of columns keys logs spare) p) (logs_handed keys logs p.lost p.gained p.stamp)
+  pub rows_are : rows_after (store_of columns keys logs spare indexed) p ≡ rows_of (ids_after (store_of columns keys logs spare indexed) p) (logs_handed keys logs p.lost p.gained p.stamp)
   unfolding rows_after
-  rows_are = along_after columns keys logs live spare k p.stamp p.lost p.gained (ids_after (store_of columns keys logs spare) p) f.before f.lawful f.hands
+  rows_are = along_after columns keys logs live spare k p.stamp p.lost p.gained (ids_after (store_of columns keys logs spare indexed) p) f.before f.lawful f.hands
 
-  pub relation_then : IsRelation columns (rows_of (ids_after (store_of columns keys logs spare) p) (logs_handed keys logs p.lost p.gained p.stamp))
+  pub relation_then : IsRelation columns (rows_of (ids_after (store_of columns keys logs spare indexed) p) (logs_handed keys logs p.lost p.gained p.stamp))
   relation_then = subst (IsRelation columns) rows_are f.relation
 
   pub plan_kept : IsKept columns (keys_handed keys p.lost p.gained p.stamp) (logs_handed keys logs p.lost p.gained p.stamp) (ids_behind p.after live)
-  plan_kept = subst (IsKept columns (keys_handed keys p.lost p.gained p.stamp) (logs_handed keys logs p.lost p.gained p.stamp)) ids_then (kept_then columns keys logs live spare k p.stamp p.lost p.gained (ids_after (store_of columns keys logs spare) p) f.before f.lawful f.hands relation_then)
+  plan_kept = subst (IsKept columns (keys_handed keys p.lost p.gained p.stamp) (logs_handed keys logs p.lost p.gained p.stamp)) ids_then (kept_then columns keys logs live spare k p.stamp p.lost p.gained (ids_after (store_of columns keys logs spare indexed) p) f.before f.lawful f.hands relation_then)
 
-  pub plan_cells : all_entries (keys_handed keys p.lost p.gained p.stamp) (logs_handed keys logs p.lost p.gained p.stamp) ≡ cells_after (store_of columns keys logs spare) p
-  plan_cells = entries_are columns keys logs live spare k p.stamp p.lost p.gained (ids_after (store_of columns keys logs spare) p) f.before f.lawful f.hands
+  pub plan_cells : all_entries (keys_handed keys p.lost p.gained p.stamp) (logs_handed keys logs p.lost p.gained p.stamp) ≡ cells_after (store_of columns keys logs spare indexed) p
+  plan_cells = entries_are columns keys logs live spare k p.stamp p.lost p.gained (ids_after (store_of columns keys logs spare indexed) p) f.before f.lawful f.hands
 
-  pub plan_before : (n m : ℕ) → m < p.stamp → relation_at (store_of columns (keys_handed keys p.lost p.gained p.stamp) (logs_handed keys logs p.lost p.gained p.stamp) n) m ≡ relation_at (store_of columns keys logs spare) m
-  plan_before = before_then columns keys logs live spare k p.stamp p.lost p.gained (ids_after (store_of columns keys logs spare) p) f.before f.lawful f.hands relation_then
+  pub plan_before : (others : List ℕ) (n m : ℕ) → m < p.stamp → relation_at (store_of columns (keys_handed keys p.lost p.gained p.stamp) (logs_handed keys logs p.lost p.gained p.stamp) n others) m ≡ relation_at (store_of columns keys logs spare indexed) m
+  plan_before = before_then columns keys logs live spare k p.stamp p.lost p.gained (ids_after (store_of columns keys logs spare indexed) p) f.before f.lawful f.hands relation_then
 
-  pub plan_from : (n m : ℕ) → p.stamp ≤ m → m < forever → relation_at (store_of columns (keys_handed keys p.lost p.gained p.stamp) (logs_handed keys logs p.lost p.gained p.stamp) n) m ≡ rows_after (store_of columns keys logs spare) p
-  plan_from n m h l = from_then columns keys logs live spare k p.stamp p.lost p.gained (ids_after (store_of columns keys logs spare) p) f.before f.lawful f.hands relation_then n m h l ∙ sym rows_are
+  pub plan_from : (others : List ℕ) (n m : ℕ) → p.stamp ≤ m → m < forever → relation_at (store_of columns (keys_handed keys p.lost p.gained p.stamp) (logs_handed keys logs p.lost p.gained p.stamp) n others) m ≡ rows_after (store_of columns keys logs spare indexed) p
+  plan_from others n m h l = from_then columns keys logs live spare k p.stamp p.lost p.gained (ids_after (store_of columns keys logs spare indexed) p) f.before f.lawful f.hands relation_then others n m h l ∙ sym rows_are
 
-  pub plan_later : (n m : ℕ) → p.stamp < m → AllBefore (store_of columns (keys_handed keys p.lost p.gained p.stamp) (logs_handed keys logs p.lost p.gained p.stamp) n) m
-  plan_later = later_then columns keys logs live spare k p.stamp p.lost p.gained (ids_after (store_of columns keys logs spare) p) f.before f.lawful f.hands relation_then
+  pub plan_later : {others : List ℕ} → (n m : ℕ) → p.stamp < m → AllBefore (store_of columns (keys_handed keys p.lost p.gained p.stamp) (logs_handed keys logs p.lost p.gained p.stamp) n others) m
+  plan_later = later_then columns keys logs live spare k p.stamp p.lost p.gained (ids_after (store_of columns keys logs spare indexed) p) f.before f.lawful f.hands relation_then

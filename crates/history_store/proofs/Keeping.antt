@@ -84,7 +84,7 @@ module _ (keys : List Span) (width : ℕ) (live lost : List ℕ) (gained : List 
 
 -- ---- the same from a plan
 
-module _ (columns : List Column) (keys : List Span) (logs : List (List Write)) (live : List ℕ) (spare : ℕ) (k : IsKept columns keys logs live) (p : Plan) (f : IsPlan (store_of columns keys logs spare) p) where
+module _ {indexed : List ℕ} (columns : List Column) (keys : List Span) (logs : List (List Write)) (live : List ℕ) (spare : ℕ) (k : IsKept columns keys logs live) (p : Plan) (f : IsPlan (store_of columns keys logs spare indexed) p) where
   hands : IsHandOver keys (length columns) p.lost p.gained (ids_behind p.after live)
   hands = subst (λ ids. IsHandOver keys (length columns) p.lost p.gained ids) (ids_then columns keys logs live spare k p f) f.hands
 

@@ -91,7 +91,7 @@ from_low low (k ∷ keys) cells e i = elim (in_append e (with_ends k.end (of_id 
 ]
 
 -- the entries of the keys from one on
-abbrev AllFit : ℕ → List Span → List Write → Type 0
+abbrev pub AllFit : ℕ → List Span → List Write → Type 0
 AllFit low keys cells = (j : ℕ) → j < length keys → Fits (get_or keys j no_span) (of_id (low + j) cells)
 
 first_fits : (low : ℕ) (k : Span) (keys : List Span) (cells : List Write) → AllFit low (k ∷ keys) cells → Fits k (of_id low cells)
@@ -107,7 +107,7 @@ entries_lasting low (k ∷ keys) cells e f t i = elim (in_append e (with_ends k.
   | inr j ↦ entries_lasting (low + 1) keys cells e (rest_fit low k keys cells f) (λ q h. t (suc q) (omega (arith, h))) j
 ]
 
-entries_ascend : (low : ℕ) (keys : List Span) (cells : List Write) → AllFit low keys cells → Ascends cell_cmp (entries_from low keys cells)
+pub entries_ascend : (low : ℕ) (keys : List Span) (cells : List Write) → AllFit low keys cells → Ascends cell_cmp (entries_from low keys cells)
 entries_ascend low [] cells f = tt
 entries_ascend low (k ∷ keys) cells f =
     ascends_append cell_cmp (with_ends k.end (of_id low cells)) (entries_from (low + 1) keys cells)
@@ -130,7 +130,7 @@ each_filled keys [] h f cells i = absurd i
 each_filled keys (c ∷ columns) h f cells (inl e) = subst (IsFilled keys) e (column_filled keys c h.0 f)
 each_filled keys (c ∷ columns) h f cells (inr i) = each_filled keys columns h.1 f cells i
 
-pub is_store : (columns : List Column) (keys : List Span) (logs : List (List Write)) (live : List ℕ) (spare : ℕ) → IsKept columns keys logs live → IsStore (store_of columns keys logs spare)
+pub is_store : {indexed : List ℕ} → (columns : List Column) (keys : List Span) (logs : List (List Write)) (live : List ℕ) (spare : ℕ) → IsKept columns keys logs live → IsStore (store_of columns keys logs spare indexed)
 is_store columns keys logs live spare k = record {
   columns = k.names;
   width = count_entries keys logs ∙ k.width;

@@ -34,3 +34,7 @@ pub mod Marks
 pub mod Sorting
 pub mod Others
 pub mod Keeping
+pub mod WithValue
+pub mod OpenIds
+pub mod Refilling
+pub mod Restored

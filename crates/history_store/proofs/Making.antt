@@ -30,14 +30,14 @@ rows_wide columns (row ∷ rows) f = (row_wide columns row (f row (inl refl)), r
 pub all_wide : (columns : List Column) (logs : List (List Write)) (rows : List (List Value)) → length logs ≡ length columns → IsRelation columns rows → AllWidth (length logs) rows
 all_wide columns logs rows e r = subst (λ n. AllWidth n rows) (sym e) (rows_wide columns rows r.fitting)
 
-pub more_room : (columns : List Column) (keys : List Span) (logs : List (List Write)) (spare n stamp : ℕ) → AllBefore (store_of columns keys logs spare) stamp → AllBefore (store_of columns keys logs n) stamp
+pub more_room : {indexed others : List ℕ} → (columns : List Column) (keys : List Span) (logs : List (List Write)) (spare n stamp : ℕ) → AllBefore (store_of columns keys logs spare indexed) stamp → AllBefore (store_of columns keys logs n others) stamp
 more_room columns keys logs spare n stamp b = record { keys = b.keys; cells = b.cells }
 
 abbrev pub made : ℕ → List Span → List (List Write) → List ℕ → List (List Value) → Plan
 made stamp keys logs live rows = record { stamp = stamp; lost = lost_ids logs live rows; gained = gained_rows logs live rows; after = Whole (after_ids logs live (lost_ids logs live rows) (length keys) rows) }
 
-module _ (columns : List Column) (keys : List Span) (logs : List (List Write)) (live : List ℕ) (spare : ℕ) (k : IsKept columns keys logs live) (stamp : ℕ)
-    (b : AllBefore (store_of columns keys logs spare) stamp) (l : stamp < forever) (rows : List (List Value)) (r : IsRelation columns rows) where
+module _ {indexed : List ℕ} (columns : List Column) (keys : List Span) (logs : List (List Write)) (live : List ℕ) (spare : ℕ) (k : IsKept columns keys logs live) (stamp : ℕ)
+    (b : AllBefore (store_of columns keys logs spare indexed) stamp) (l : stamp < forever) (rows : List (List Value)) (r : IsRelation columns rows) where
   s : IsStored keys logs live stamp
   s = later columns keys logs live spare stamp stamp k b (omega arith)
 
@@ -47,19 +47,19 @@ module _ (columns : List Column) (keys : List Span) (logs : List (List Write)) (
   hands : IsHandOver keys (length columns) (lost_ids logs live rows) (gained_rows logs live rows) (after_ids logs live (lost_ids logs live rows) (length keys) rows)
   hands = subst (λ n. IsHandOver keys n (lost_ids logs live rows) (gained_rows logs live rows) (after_ids logs live (lost_ids logs live rows) (length keys) rows)) k.width (is_plan keys logs live stamp rows s r.ascending w)
 
-  pub made_leads : (n : ℕ) → rows_after (store_of columns keys logs n) (made stamp keys logs live rows) ≡ rows
+  pub made_leads : (others : List ℕ) (n : ℕ) → rows_after (store_of columns keys logs n others) (made stamp keys logs live rows) ≡ rows
   unfolding rows_after
-  made_leads n =
-      along_after columns keys logs live n k stamp (lost_ids logs live rows) (gained_rows logs live rows) (after_ids logs live (lost_ids logs live rows) (length keys) rows) (more_room columns keys logs spare n stamp b) l hands
+  made_leads others n =
+      along_after columns keys logs live n k stamp (lost_ids logs live rows) (gained_rows logs live rows) (after_ids logs live (lost_ids logs live rows) (length keys) rows) (more_room {others = indexed} columns keys logs spare n stamp b) l hands
       ∙ plan_rows keys logs live stamp rows s r.ascending w stamp
 
-  pub made_fits : (n : ℕ) → IsPlan (store_of columns keys logs n) (made stamp keys logs live rows)
-  made_fits n = record { before = more_room columns keys logs spare n stamp b; lawful = l; placed = tt; more = omega arith; hands = hands; relation = subst (IsRelation columns) (sym (made_leads n)) r }
+  pub made_fits : {others : List ℕ} → (n : ℕ) → IsPlan (store_of columns keys logs n others) (made stamp keys logs live rows)
+  made_fits {others} n = record { before = more_room columns keys logs spare n stamp b; lawful = l; placed = tt; more = omega arith; hands = hands; relation = subst (IsRelation columns) (sym (made_leads others n)) r }
 
-  pub made_gained : gained_rows logs live rows ≡ only_in rows (relation_at (store_of columns keys logs spare) stamp)
+  pub made_gained : gained_rows logs live rows ≡ only_in rows (relation_at (store_of columns keys logs spare indexed) stamp)
   made_gained = gained_rule logs live rows ∙ ap (only_in rows) (sym (relation_from columns keys logs live spare stamp stamp k b (omega arith) l))
 
-  pub made_lost : rows_along (lost_ids logs live rows) stamp (all_entries keys logs) ≡ only_in (relation_at (store_of columns keys logs spare) stamp) rows
+  pub made_lost : rows_along (lost_ids logs live rows) stamp (all_entries keys logs) ≡ only_in (relation_at (store_of columns keys logs spare indexed) stamp) rows
   made_lost =
       along_is (lost_ids logs live rows) stamp stamp keys logs k.histories s.columns_fit (omega arith) l (λ id i. s.are_open id (lost_is logs rows live id i).0) s.started
       ∙ lost_rule logs rows live

@@ -1,33 +1,30 @@
 -- Ids in the order of the values of a column: what is found along them, and what is left of the order where one comes or goes.
-use Rattle.std.proofs.Common.{◌≡◌, ◌⊎◌, ℕ, zero, suc, ◌+◌, ◌-◌, ◌<◌, ◌≤◌, true, false, List, [], ◌∷◌, ◌++◌, length, get_or, take, drop, refl, sym, ap, ◌∙◌, subst, arith, inl, inr}
+use Rattle.std.proofs.Common.{◌≡◌, ◌⊎◌, ℕ, zero, suc, ◌+◌, ◌-◌, ◌<◌, ◌≤◌, Bool, true, false, List, [], ◌∷◌, ◌++◌, length, get_or, take, drop, refl, sym, ap, ◌∙◌, subst, arith, inl, inr}
 use Rattle.std.specs.Prelude.{min}
-use Rattle.std.specs.List.{insert, remove}
+use Rattle.std.specs.List.{filter, insert, remove}
 use Rattle.std.specs.Cmp.{IsTotalOrder}
 use Rattle.std.specs.FinMap.{nat_cmp-IsAntisymmetric}
 use Rattle.std.specs.Ordering.{nat_cmp, is_lt, ordering_then}
 use Rattle.std.specs.declared.cmp.Ordering.{Ordering}
 use Rattle.std.specs.declared.cmp.Ordering.TheVariants.{Less, Equal, Greater}
 use Rattle.std.proofs.lemmas.Bool.{cases_lt}
-use Rattle.std.proofs.lemmas.List.{length-take-le, length-drop, get_or-take, get_or-drop}
-use Rattle.std.proofs.lemmas.Cmp.{nat_cmp_total, on_total, then_total}
-use Rattle.relations.specs.Sets.{In, BeforeAll, Ascends, IsExact}
+use Rattle.std.proofs.lemmas.Cmp.{nat_cmp_total, on_total, then_total, tied_itself}
+use Rattle.relations.specs.Sets.{In, Ascends, IsExact}
 use Rattle.relations.proofs.SetLaws.{in_left, in_right, in_append, before_in, below_each, cmp_itself}
 use Rattle.relations.proofs.ListingLaws.{less_nat, nat_less}
-use Rattle.prima_base.specs.Order.{row_cmp}
-use Rattle.prima_base.specs.OrderLaws.{row_total, row_exact, exact_from}
+use Rattle.prima_base.specs.Order.{row_cmp, value_eq}
+use Rattle.prima_base.specs.OrderLaws.{value_total, row_total, row_exact, exact_from}
 use Rattle.prima_base.specs.declared.values.Value.{Value}
 use Rattle.history_store.specs.declared.columns.Write.{Write}
 use Rattle.history_store.specs.Log.{newest}
-use Rattle.history_store.specs.Table.{row_now, rows_of}
-use Rattle.history_store.specs.Handing.{Distinct}
-use Rattle.history_store.proofs.Now.{rows_of_in, in_rows_of}
-use Rattle.history_store.proofs.Sides.{before_more}
-use Rattle.history_store.proofs.Splicing.{in_taken}
-use Rattle.history_store.specs.ByValue.{mark_cmp, mark_of, by_value, ids_handed, IsWithout, IsWith}
+use Rattle.history_store.specs.Handing.{Distinct, is_value}
+use Rattle.history_store.proofs.Sides.{not_true}
+use Rattle.history_store.proofs.Puts.{is_value_is}
+use Rattle.history_store.specs.ByValue.{mark_cmp, mark_of, by_value, ids_handed, ids_with, IsWithout, IsWith}
 
 -- ---- the order
 
-second : (a b : Ordering) → ordering_then a b ≡ Equal → b ≡ Equal
+pub second : (a b : Ordering) → ordering_then a b ≡ Equal → b ≡ Equal
 second Less b e = cc
 second Equal b e = e
 second Greater b e = cc
@@ -37,9 +34,6 @@ mark_total = then_total (on_total (λ (m : List Value × ℕ). m.0) row_total) (
 
 pub value_exact : (cells : List Write) → IsExact (by_value cells)
 value_exact cells = exact_from (on_total (mark_of cells) mark_total) (λ i j e. nat_cmp-IsAntisymmetric i j (second (row_cmp (newest i cells) (newest j cells)) (nat_cmp i j) e))
-
-pub value_before_more : (cells : List Write) (i j : ℕ) (ids : List ℕ) → by_value cells i j ≡ Less → BeforeAll (by_value cells) j ids → BeforeAll (by_value cells) i ids
-value_before_more cells i j ids l b = before_more (by_value cells) (on_total (mark_of cells) mark_total) (value_exact cells).same i j ids l b
 
 less_is : (o : Ordering) → is_lt o ≡ true → o ≡ Less
 less_is Less e = refl
@@ -269,6 +263,35 @@ handed_new (id ∷ lost) next (suc n) (suc at) h b = let e = handed_new lost nex
 
 -- ---- the ids that have a value
 
+no_part : (i n : ℕ) → take n (drop {A = ℕ} i []) ≡ []
+no_part zero zero = refl
+no_part zero (suc n) = refl
+no_part (suc i) zero = refl
+no_part (suc i) (suc n) = refl
+
+-- a part of the ids are those that pass a test
+part_is : (p : ℕ → Bool) (ids : List ℕ) (i j : ℕ) → i ≤ j → j ≤ length ids → ((k : ℕ) → k < i → p (get_or ids k 0) ≡ false) → ((k : ℕ) → i ≤ k → k < j → p (get_or ids k 0) ≡ true)
+    → ((k : ℕ) → j ≤ k → k < length ids → p (get_or ids k 0) ≡ false) → filter p ids ≡ take (j - i) (drop i ids)
+part_is p [] i j o h a b c = sym (no_part i (j - i))
+part_is p (id ∷ ids) zero zero o h a b c =
+    let e : p id ≡ false = c 0 (omega arith) (omega arith) in
+    let r = part_is p ids 0 0 (omega arith) (omega arith) (λ k l. absurd (omega arith)) (λ k l m. absurd (omega arith)) (λ k l m. c (suc k) (omega arith) (omega arith)) in
+    rw e r
+part_is p (id ∷ ids) zero (suc j) o h a b c =
+    let e : p id ≡ true = b 0 (omega arith) (omega arith) in
+    let r = part_is p ids zero j (omega arith) (omega arith) (λ k l. absurd (omega arith)) (λ k l m. b (suc k) (omega arith) (omega arith)) (λ k l m. c (suc k) (omega arith) (omega arith)) in
+    let z : suc j - 0 ≡ suc (j - 0) = omega arith in
+    rw (e, z) (ap (λ rest. id ∷ rest) r)
+part_is p (id ∷ ids) (suc i) zero o h a b c = absurd (omega arith)
+part_is p (id ∷ ids) (suc i) (suc j) o h a b c =
+    let e : p id ≡ false = a 0 (omega arith) in
+    let n : suc j - suc i ≡ j - i = omega arith in
+    let r = part_is p ids i j (omega arith) (omega arith) (λ k l. a (suc k) (omega arith)) (λ k l m. b (suc k) (omega arith) (omega arith)) (λ k l m. c (suc k) (omega arith) (omega arith)) in
+    rw (e, n) r
+
+value_itself : (v : Value) → value_eq v v ≡ true
+value_itself v = rw (tied_itself value_total v) refl
+
 equal_is : (o p : Ordering) → is_lt (ordering_then o p) ≡ true → (o ≡ Less → ⊥) → o ≡ Equal
 equal_is Less p e n = absurd (n refl)
 equal_is Equal p e n = refl
@@ -298,37 +321,16 @@ module _ (cells : List Write) (ids : List ℕ) (v : Value) (bound start end : �
     ],
   )
 
-  -- their rows
-  module _ (logs : List (List Write)) (within : end ≤ length ids) where
-    abbrev pub first : ℕ
-    first = min start end
+  passes : (k : ℕ) → start ≤ k → k < end → k < length ids → is_value v (newest (get_or ids k 0) cells) ≡ true
+  passes k l b h = let e = has_value k l b h in rw e (value_itself v)
 
-    pub found_rows : (row : List Value) → In row (rows_of (take (end - first) (drop first ids)) logs) → (q : ℕ) × In q ids × (newest q cells ≡ v ∷ []) × (row_now q logs ≡ row)
-    found_rows row i = found (in_rows_of row (take (end - first) (drop first ids)) logs i)
-      where
-        found : (q : ℕ) × (In q (take (end - first) (drop first ids))) × (row_now q logs ≡ row) → (q : ℕ) × In q ids × (newest q cells ≡ v ∷ []) × (row_now q logs ≡ row)
-        found (q, j, e) =
-            let long = length-drop first ids in
-            let t = in_taken (drop first ids) (end - first) q (grind arith) j in
-            let b = t.1 in
-            let h : first + t.0 < end = grind arith in
-            let h' : first + t.0 < length ids = omega (arith, h, within) in
-            let l : start ≤ first + t.0 = grind arith in
-            let is : get_or ids (first + t.0) 0 ≡ q = sym (get_or-drop first ids t.0 0) ∙ t.2 in
-            (q, subst (λ n. In n ids) is (at_place ids (first + t.0) h'), subst (λ n. newest n cells ≡ v ∷ []) is (has_value (first + t.0) l h h'), e)
+  fails : (k : ℕ) → k < length ids → ((start ≤ k) × (k < end) → ⊥) → is_value v (newest (get_or ids k 0) cells) ≡ false
+  fails k h n = not_true (is_value v (newest (get_or ids k 0) cells)) (λ t. n (at_value k h (is_value_is v (newest (get_or ids k 0) cells) t)))
 
-    pub all_found : (q : ℕ) → In q ids → newest q cells ≡ v ∷ [] → In (row_now q logs) (rows_of (take (end - first) (drop first ids)) logs)
-    all_found q i e = rows_of_in q (take (end - first) (drop first ids)) logs (found (from_place (by_value cells) q ids i))
-      where
-        found : (k : ℕ) × (k < length ids) × (get_or ids k 0 ≡ q) → In q (take (end - first) (drop first ids))
-        found (k, h, is) =
-            let r = at_value k h (subst (λ n. newest n cells ≡ v ∷ []) (sym is) e) in
-            let l : start ≤ k = r.0 in
-            let b : k < end = r.1 in
-            let low : first ≤ k = grind arith in
-            let inside : k - first < end - first = omega (arith, low, b) in
-            let long = length-drop first ids in
-            let long' = length-take-le (end - first) (drop first ids) (omega (arith, long, within)) in
-            let back : first + (k - first) ≡ k = omega (arith, low) in
-            let at : get_or (take (end - first) (drop first ids)) (k - first) 0 ≡ q = get_or-take (end - first) (drop first ids) (k - first) 0 inside ∙ get_or-drop first ids (k - first) 0 ∙ ap (λ n. get_or ids n 0) back ∙ is in
-            subst (λ n. In n (take (end - first) (drop first ids))) at (at_place (take (end - first) (drop first ids)) (k - first) (omega (arith, long', inside)))
+  -- they stand side by side
+  pub ids_found : end ≤ length ids → ids_with v cells ids ≡ take (end - min start end) (drop (min start end) ids)
+  ids_found within =
+      part_is (λ id. is_value v (newest id cells)) ids (min start end) end (grind arith) within
+      (λ k l. fails k (grind arith) (λ b. (let low : start ≤ k = b.0 in let high : k < end = b.1 in grind arith)))
+      (λ k l b. passes k (grind arith) b (omega arith))
+      (λ k l h. fails k h (λ b. (let high : k < end = b.1 in omega arith)))

@@ -1,22 +1,17 @@
 -- The indexes of columns, changed one after the other.
-use Rattle.std.proofs.Common.{◌≡◌, ◌≢◌, ℕ, zero, suc, ◌+◌, ◌<◌, ◌≤◌, List, [], ◌∷◌, ◌++◌, All, length, get_or, set, refl, sym, ap, ◌∙◌, subst, arith, inl, inr}
-use Rattle.std.specs.Prelude.{min}
-use Rattle.std.proofs.lemmas.Bool.Decides.{eqb_tells}
+use Rattle.std.proofs.Common.{◌≡◌, ◌≢◌, ℕ, zero, suc, ◌+◌, ◌<◌, ◌≤◌, Bool, true, false, List, [], ◌∷◌, ◌++◌, All, length, get_or, set, refl, sym, ap, ◌∙◌, subst, arith, inl, inr}
+use Rattle.std.specs.Prelude.{◌&&◌, min, nat_le, cond}
+use Rattle.std.proofs.lemmas.Bool.Decides.{eqb_tells, nat_tests}
 use Rattle.std.proofs.lemmas.List.{get_or-set_same, get_or-set_other, get_or_default}
 use Rattle.relations.specs.Sets.{In, Ascends}
-use Rattle.relations.specs.Spans.{Span}
-use Rattle.prima_base.specs.declared.values.Value.{Value}
+use Rattle.relations.proofs.SetLaws.{in_has, has_in}
+use Rattle.std.specs.Ordering.{nat_cmp}
 use Rattle.history_store.specs.declared.columns.Write.{Write}
-use Rattle.history_store.specs.Log.{Log, newest}
-use Rattle.history_store.specs.Logs.{cells_of}
-use Rattle.history_store.specs.Entries.{AreHistories}
-use Rattle.history_store.specs.Table.{row_now, rows_of, IsOpen}
-use Rattle.history_store.specs.Handing.{at_column}
-use Rattle.history_store.specs.ByValue.{Indexed, by_value, least_room, IsIndexed, IsReady, IsWithout, AreWithValue}
+use Rattle.history_store.specs.Log.{Log}
+use Rattle.history_store.specs.Logs.{cells_of, few_rows}
+use Rattle.history_store.specs.ByValue.{Indexed, by_value, columns_of, is_indexed, indexed_behind, least_room, IsIndexed, IsReady, IsWithout}
 use Rattle.history_store.proofs.Rows.{length-cells_of}
-use Rattle.history_store.proofs.Now.{rows_of_in, in_rows_of}
-use Rattle.history_store.proofs.Counts.{one_at}
-use Rattle.history_store.proofs.Totals.{one_now}
+use Rattle.history_store.proofs.Sides.{not_true, nat_exact}
 
 -- ---- one more is changed
 
@@ -124,21 +119,54 @@ one_ready columns n live lost x b a i = record {
 pub ready_each : (columns : List Log) (n : ℕ) (live lost : List ℕ) (xs : List Indexed) → ((q : ℕ) → In q live → q < n) → All (λ c. c.ids ≡ n) columns → All (IsIndexed (cells_of columns) live lost) xs → All (IsReady columns) xs
 ready_each columns n live lost xs b a i k d h = one_ready columns n live lost (get_or xs k d) b a (i k d h)
 
-pub one_pushed : (P : Indexed → Type 0) (xs : List Indexed) (x : Indexed) → All P xs → P x → All P (xs ++ x ∷ [])
+pub one_pushed : {X : Type 0} (P : X → Type 0) (xs : List X) (x : X) → All P xs → P x → All P (xs ++ x ∷ [])
 one_pushed P [] x a p zero d h = p
 one_pushed P [] x a p (suc k) d h = absurd (omega arith)
 one_pushed P (y ∷ xs) x a p zero d h = a 0 y (omega arith)
 one_pushed P (y ∷ xs) x a p (suc k) d h = one_pushed P xs x (λ j e b. a (suc j) e (omega arith)) p k d (omega arith)
 
--- ---- the rows that have a value
+-- ---- the columns that have an index
 
-pub rows_are : (keys : List Span) (logs : List (List Write)) (live : List ℕ) (x : Indexed) (v : Value) (rows found : List (List Value)) → AreHistories keys logs → ((q : ℕ) → In q live → IsOpen keys q) → IsIndexed logs live [] x → rows ≡ rows_of live logs
-    → ((row : List Value) → In row found → (q : ℕ) × In q x.ids × (newest q (get_or logs x.column []) ≡ v ∷ []) × (row_now q logs ≡ row))
-    → ((q : ℕ) → In q x.ids → newest q (get_or logs x.column []) ≡ v ∷ [] → In (row_now q logs) found) → AreWithValue x.column v rows found
-rows_are keys logs live x v rows found h o i e only all = rw e record {
-  only = λ row j. (let r = only row j in (subst (λ s. In s (rows_of live logs)) r.3 (rows_of_in r.0 live logs (i.only r.0 r.1).0), subst (λ s. at_column x.column s ≡ v ∷ []) r.3 (sym (value_is r.0 (i.only r.0 r.1).0) ∙ r.2)));
-  all = λ row j k. (let r = in_rows_of row live logs j in subst (λ s. In s found) r.2 (all r.0 (i.all r.0 r.1 (λ n. n)) (value_is r.0 r.1 ∙ subst (λ s. at_column x.column s ≡ v ∷ []) (sym r.2) k)));
-}
+pub same_columns : (xs ys : List Indexed) → length ys ≡ length xs → ((k : ℕ) (d : Indexed) → k < length xs → (get_or ys k d).column ≡ (get_or xs k d).column) → columns_of ys ≡ columns_of xs
+same_columns [] [] e f = refl
+same_columns [] (y ∷ ys) e f = absurd (omega arith)
+same_columns (x ∷ xs) [] e f = absurd (omega arith)
+same_columns (x ∷ xs) (y ∷ ys) e f =
+    let here : y.column ≡ x.column = f 0 x (omega arith) in
+    let rest = same_columns xs ys (omega arith) (λ k d h. f (suc k) d (omega arith)) in
+    rw (here, rest) refl
+
+pub columns_pushed : (xs : List Indexed) (x : Indexed) → columns_of (xs ++ x ∷ []) ≡ columns_of xs ++ x.column ∷ []
+columns_pushed [] x = refl
+columns_pushed (y ∷ xs) x = ap (λ cs. y.column ∷ cs) (columns_pushed xs x)
+
+in_columns : (xs : List Indexed) (column k : ℕ) (d : Indexed) → k < length xs → (get_or xs k d).column ≡ column → In column (columns_of xs)
+in_columns [] column k d h e = absurd (omega arith)
+in_columns (x ∷ xs) column zero d h e = inl e
+in_columns (x ∷ xs) column (suc k) d h e = inr (in_columns xs column k d (omega arith) e)
+
+pub one_indexed : (xs : List Indexed) (column k : ℕ) (d : Indexed) → k < length xs → (get_or xs k d).column ≡ column → is_indexed column (columns_of xs) ≡ true
+one_indexed xs column k d h e = in_has nat_cmp nat_exact column (columns_of xs) (in_columns xs column k d h e)
+
+none_in : (xs : List Indexed) (column : ℕ) → ((k : ℕ) (d : Indexed) → k < length xs → (get_or xs k d).column ≢ column) → In column (columns_of xs) → ⊥
+none_in [] column f i = i
+none_in (x ∷ xs) column f (inl e) = f 0 x (omega arith) e
+none_in (x ∷ xs) column f (inr i) = none_in xs column (λ k d h. f (suc k) d (omega arith)) i
+
+pub none_indexed : (xs : List Indexed) (column : ℕ) → ((k : ℕ) (d : Indexed) → k < length xs → (get_or xs k d).column ≢ column) → is_indexed column (columns_of xs) ≡ false
+none_indexed xs column f = not_true (is_indexed column (columns_of xs)) (λ t. none_in xs column f (has_in nat_cmp nat_exact column (columns_of xs) t))
+
+-- where none is kept, none is kept behind a change
+pub none_behind : (lost gained : ℕ) → indexed_behind lost gained [] ≡ []
+none_behind lost gained = by_case (nat_le lost few_rows && nat_le gained few_rows)
   where
-    value_is : (q : ℕ) → In q live → newest q (get_or logs x.column []) ≡ at_column x.column (row_now q logs)
-    value_is q j = one_at x.column q logs i.within (one_now keys logs q h (o q j).0)
+    by_case : (b : Bool) → cond {A = List ℕ} b [] [] ≡ []
+    by_case true = refl
+    by_case false = refl
+
+-- a change of few rows takes none away
+pub few_behind : (lost gained : ℕ) (indexed : List ℕ) → lost ≤ few_rows → gained ≤ few_rows → indexed_behind lost gained indexed ≡ indexed
+few_behind lost gained indexed h k =
+    let l : nat_le lost few_rows ≡ true = grind (arith, nat_tests) in
+    let g : nat_le gained few_rows ≡ true = grind (arith, nat_tests) in
+    rw (l, g) refl

@@ -18,7 +18,7 @@ by_put P id v stamp cells kept added = by_case (is_value v (newest id cells)) re
     by_case true e = kept e
     by_case false e = added
 
-is_value_is : (v : Value) (vs : List Value) → is_value v vs ≡ true → vs ≡ v ∷ []
+pub is_value_is : (v : Value) (vs : List Value) → is_value v vs ≡ true → vs ≡ v ∷ []
 is_value_is v [] e = cc
 is_value_is v (w ∷ []) e = ap (λ x. x ∷ []) (tells_apart exact_values w v e)
 is_value_is v (w ∷ (x ∷ ws)) e = cc

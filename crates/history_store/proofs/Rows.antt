@@ -18,6 +18,10 @@ pub length-cells_of : (columns : List Log) → length (cells_of columns) ≡ len
 length-cells_of [] = refl
 length-cells_of (c ∷ columns) = let e = length-cells_of columns in grind arith
 
+pub cells_of-push : (columns : List Log) (c : Log) → cells_of (columns ++ c ∷ []) ≡ cells_of columns ++ c.cells ∷ []
+cells_of-push [] c = refl
+cells_of-push (d ∷ columns) c = ap (λ cs. d.cells ∷ cs) (cells_of-push columns c)
+
 pub cells_of-set : (columns : List Log) (k : ℕ) (c : Log) → cells_of (set columns k c) ≡ set (cells_of columns) k c.cells
 cells_of-set [] k c = refl
 cells_of-set (d ∷ columns) zero c = refl

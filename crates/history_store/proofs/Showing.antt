@@ -158,7 +158,7 @@ row_shown id m keys (c ∷ columns) h b t =
     let f = row_shown id m keys columns h.1 b t in
     rw (e, t, f) refl
 
-rows_shown : (low m : ℕ) (keys all : List Span) (columns : List (List Write)) → AreHistories all columns → ((j : ℕ) → j < length keys → (low + j < length all) × (get_or all (low + j) no_span ≡ get_or keys j no_span))
+pub rows_shown : (low m : ℕ) (keys all : List Span) (columns : List (List Write)) → AreHistories all columns → ((j : ℕ) → j < length keys → (low + j < length all) × (get_or all (low + j) no_span ≡ get_or keys j no_span))
     → rows_from low m keys (all_entries all columns) ≡ rows_then low m keys columns
 rows_shown low m [] all columns h f = refl
 rows_shown low m (k ∷ keys) all columns h f =
@@ -175,9 +175,9 @@ rows_shown low m (k ∷ keys) all columns h f =
     by_case false t again inside is = again
 
 -- the relation that the fields stand for
-pub relation_is : (columns : List Column) (keys : List Span) (logs : List (List Write)) (spare m : ℕ) → AreHistories keys logs → relation_at (store_of columns keys logs spare) m ≡ set_of row_cmp (rows_then 0 m keys logs)
+pub relation_is : (indexed : List ℕ) (columns : List Column) (keys : List Span) (logs : List (List Write)) (spare m : ℕ) → AreHistories keys logs → relation_at (store_of columns keys logs spare indexed) m ≡ set_of row_cmp (rows_then 0 m keys logs)
 unfolding relation_at
-relation_is columns keys logs spare m h = ap (set_of row_cmp) (rows_shown 0 m keys keys logs h (λ j b. (let n : 0 + j ≡ j = omega arith in (rw n b, ap (λ i. get_or keys i no_span) n))))
+relation_is indexed columns keys logs spare m h = ap (set_of row_cmp) (rows_shown 0 m keys keys logs h (λ j b. (let n : 0 + j ≡ j = omega arith in (rw n b, ap (λ i. get_or keys i no_span) n))))
 
 pub count_entries : (keys : List Span) (columns : List (List Write)) → length (all_entries keys columns) ≡ length columns
 count_entries keys [] = refl
@@ -198,7 +198,7 @@ in_of_id (d ∷ cells) c (inr i) =
     let r = in_of_id cells c i in
     elim (d.id == c.id) as (λ b. In c (if b then d ∷ of_id c.id cells else of_id c.id cells)) [ true ↦ inr r | false ↦ r ]
 
-in_entries : (low j id : ℕ) (keys : List Span) (cells : List Write) (e : Cell) → id ≡ low + j → j < length keys → In e (with_ends (get_or keys j no_span).end (of_id id cells)) → In e (entries_from low keys cells)
+pub in_entries : (low j id : ℕ) (keys : List Span) (cells : List Write) (e : Cell) → id ≡ low + j → j < length keys → In e (with_ends (get_or keys j no_span).end (of_id id cells)) → In e (entries_from low keys cells)
 in_entries low j id [] cells e n h i = absurd (omega arith)
 in_entries low zero id (k ∷ keys) cells e n h i =
     let q : id ≡ low = omega (arith, n) in
@@ -250,7 +250,7 @@ pub key_before : (stamp : ℕ) (keys : List Span) → ((p : Span) → In p keys 
 key_before stamp keys f id h = f (get_or keys id no_span) (key_in keys id h)
 
 -- where all stamps are below a moment, the last stamp is
-pub stored_at : (columns : List Column) (keys : List Span) (logs : List (List Write)) (live : List ℕ) (spare stamp last : ℕ) → IsKept columns keys logs live → AllBefore (store_of columns keys logs spare) stamp → stamp ≤ last + 1 → IsStored keys logs live last
+pub stored_at : {indexed : List ℕ} → (columns : List Column) (keys : List Span) (logs : List (List Write)) (live : List ℕ) (spare stamp last : ℕ) → IsKept columns keys logs live → AllBefore (store_of columns keys logs spare indexed) stamp → stamp ≤ last + 1 → IsStored keys logs live last
 stored_at columns keys logs live spare stamp last k b l = record {
   columns_fit = columns_to stamp last logs l (logs_below stamp keys logs k.histories b.cells);
   started = λ id h. (let s = (key_before stamp keys b.keys id h).0 in omega (arith, s, l));
@@ -310,7 +310,7 @@ key_at [] p i = absurd i
 key_at (k ∷ keys) p (inl e) = (0, omega arith, e)
 key_at (k ∷ keys) p (inr i) = let r = key_at keys p i in (suc r.0, (let h = r.1 in omega (arith, h)), r.2)
 
-pub all_before : (columns : List Column) (keys : List Span) (logs : List (List Write)) (live : List ℕ) (spare last m : ℕ) → IsStored keys logs live last → last < m → AllBefore (store_of columns keys logs spare) m
+pub all_before : {indexed : List ℕ} → (columns : List Column) (keys : List Span) (logs : List (List Write)) (live : List ℕ) (spare last m : ℕ) → IsStored keys logs live last → last < m → AllBefore (store_of columns keys logs spare indexed) m
 all_before columns keys logs live spare last m s l = record { keys = each; cells = each_before last m keys logs s.columns_fit l s.ended }
   where
     each : (p : Span) → In p keys → IsBefore m p
@@ -338,5 +338,5 @@ rows_fit columns logs ids f row i = let r = in_rows_of row ids logs i in subst (
 pub current_relation : (columns : List Column) (keys : List Span) (logs : List (List Write)) (live : List ℕ) → IsKept columns keys logs live → IsRelation columns (rows_of live logs)
 current_relation columns keys logs live k = record { ascending = k.stored.ordered; fitting = rows_fit columns logs live k.fitting }
 
-pub relation_now : (columns : List Column) (keys : List Span) (logs : List (List Write)) (live : List ℕ) (spare m : ℕ) → IsKept columns keys logs live → AllBefore (store_of columns keys logs spare) (m + 1) → m < forever → relation_at (store_of columns keys logs spare) m ≡ rows_of live logs
-relation_now columns keys logs live spare m k b l = relation_is columns keys logs spare m k.histories ∙ at_now keys logs live m m (stored_at columns keys logs live spare (m + 1) m k b (omega arith)) (omega arith) l
+pub relation_now : {indexed : List ℕ} → (columns : List Column) (keys : List Span) (logs : List (List Write)) (live : List ℕ) (spare m : ℕ) → IsKept columns keys logs live → AllBefore (store_of columns keys logs spare indexed) (m + 1) → m < forever → relation_at (store_of columns keys logs spare indexed) m ≡ rows_of live logs
+relation_now columns keys logs live spare m k b l = relation_is _ columns keys logs spare m k.histories ∙ at_now keys logs live m m (stored_at columns keys logs live spare (m + 1) m k b (omega arith)) (omega arith) l

@@ -1,14 +1,17 @@
 -- Ascending lists, as the other files use them.
-use Rattle.std.proofs.Common.{◌≡◌, Bool, true, false, List, [], ◌∷◌, refl, sym, ap, ◌∙◌}
+use Rattle.std.proofs.Common.{◌≡◌, Bool, true, false, cond, List, [], ◌∷◌, refl, sym, ap, ◌∙◌}
+use Rattle.std.specs.List.{filter}
 use Rattle.std.specs.Cmp.{IsTotalOrder}
 use Rattle.std.specs.declared.cmp.Ordering.{Ordering}
 use Rattle.std.specs.declared.cmp.Ordering.TheVariants.{Less, Equal, Greater}
-use Rattle.std.specs.Ordering.{ordering_reverse}
+use Rattle.std.specs.FinMap.{nat_cmp-IsAntisymmetric}
+use Rattle.std.specs.Ordering.{nat_cmp, ordering_reverse}
+use Rattle.std.proofs.lemmas.Cmp.{nat_cmp_total}
 use Rattle.std.proofs.lemmas.Map.Lookups.{exact_signed, exact_bytes}
-use Rattle.relations.specs.Sets.{In, BeforeAll, Ascends, set_of}
-use Rattle.relations.proofs.SetLaws.{one_list, set_ascends, in_set, from_set}
+use Rattle.relations.specs.Sets.{In, BeforeAll, Ascends, IsExact, set_of}
+use Rattle.relations.proofs.SetLaws.{below_each, before_in, from_filter, one_list, set_ascends, in_set, from_set}
 use Rattle.prima_base.specs.Order.{value_cmp, row_cmp}
-use Rattle.prima_base.specs.OrderLaws.{row_exact}
+use Rattle.prima_base.specs.OrderLaws.{row_exact, exact_from}
 use Rattle.prima_base.specs.declared.values.Value.{Value}
 use Rattle.prima_base.specs.declared.values.Value.TheVariants.{Int, Text}
 
@@ -20,6 +23,9 @@ exact_values (Text a) (Text b) e = ap Text (exact_bytes a b e)
 
 pub exact_rows : (a b : List Value) → row_cmp a b ≡ Equal → a ≡ b
 exact_rows a b e = row_exact.same a b e
+
+pub nat_exact : IsExact nat_cmp
+nat_exact = exact_from nat_cmp_total nat_cmp-IsAntisymmetric
 
 pub not_true : (b : Bool) → (b ≡ true → ⊥) → b ≡ false
 not_true true f = absurd (f refl)
@@ -41,3 +47,11 @@ pub set_is : (xs ys : List (List Value)) → Ascends row_cmp ys → ((q : List V
 set_is xs ys r f g =
     one_list row_cmp row_exact (set_of row_cmp xs) ys (set_ascends row_cmp row_exact xs) r
     (record { there = λ q i. f q (from_set row_cmp row_exact q xs i); back = λ q i. in_set row_cmp row_exact q xs (g q i) })
+
+-- the members that pass a test stay in order
+pub passed_ascend : {X : Type 0} (R : X → X → Ordering) (p : X → Bool) (xs : List X) → Ascends R xs → Ascends R (filter p xs)
+passed_ascend R p [] a = tt
+passed_ascend {X} R p (x ∷ xs) a =
+    let rest = passed_ascend R p xs a.1 in
+    let first = below_each R x (filter p xs) (λ y i. before_in R x y xs a.0 (from_filter p y xs i).0) in
+    elim (p x) as (λ b. Ascends R (cond b (x ∷ filter p xs) (filter p xs))) [ true ↦ (first, rest) | false ↦ rest ]

@@ -1,4 +1,5 @@
--- Ids that were sorted with their values are in the order of a column.
+-- Ids that were sorted with their values are in the order of a column, and those that were sorted with their rows in the
+-- order of rows.
 use Rattle.std.proofs.Common.{◌≡◌, ◌==◌, ℕ, suc, ◌+◌, true, false, List, [], ◌∷◌, All, map, get_or, refl, sym, ap, ◌∙◌, subst, arith, inl, inr}
 use Rattle.std.specs.List.{AllByRecursion, IsDistinct}
 use Rattle.std.specs.List.Sorted.{IsPermutation, IsSorted}
@@ -8,15 +9,20 @@ use Rattle.std.specs.declared.cmp.Ordering.TheVariants.{Less, Equal, Greater}
 use Rattle.std.proofs.lemmas.Bool.Decides.{eqb_tells}
 use Rattle.std.proofs.lemmas.List.Sorted.{All-permutation, IsPermutation-map, IsPermutation-sym}
 use Rattle.std.proofs.lemmas.Map.Keys.{IsDistinct-IsPermutation}
-use Rattle.relations.specs.Sets.{In, Ascends, Same}
-use Rattle.prima_base.specs.Order.{value_cmp}
+use Rattle.std.proofs.lemmas.Cmp.{nat_cmp_total, on_total, then_total}
+use Rattle.std.specs.FinMap.{nat_cmp-IsAntisymmetric}
+use Rattle.relations.specs.Sets.{In, BeforeAll, Ascends, IsExact, Same}
+use Rattle.relations.proofs.SetLaws.{below_each, before_in}
+use Rattle.prima_base.specs.Order.{value_cmp, row_cmp}
+use Rattle.prima_base.specs.OrderLaws.{row_total, row_exact, exact_from}
 use Rattle.prima_base.specs.declared.values.Value.{Value}
 use Rattle.history_store.specs.declared.columns.Write.{Write}
 use Rattle.history_store.specs.Log.{newest}
+use Rattle.history_store.specs.Table.{row_now, rows_of}
 use Rattle.history_store.specs.Handing.{Distinct}
 use Rattle.history_store.specs.ByValue.{by_value}
 use Rattle.history_store.proofs.Carry.{in_get, all_in}
-use Rattle.history_store.proofs.Marks.{value_exact, value_before_more}
+use Rattle.history_store.proofs.Marks.{second, value_exact}
 
 then_equal : (o : Ordering) → ordering_then o Equal ≡ o
 then_equal Less = refl
@@ -53,36 +59,86 @@ same_ids live ids p = record {
 
 -- ---- the order
 
-module _ {M : Type 0} (value : M → Value) (id : M → ℕ) (C : M → M → Ordering) (c : (x y : M) → C x y ≡ ordering_then (value_cmp (value x) (value y)) (nat_cmp (id x) (id y))) (cells : List Write) where
-  abbrev Is : M → Type 0
-  Is m = newest (id m) cells ≡ value m ∷ []
-
-  compares : (x y : M) → Is x → Is y → C x y ≡ by_value cells (id x) (id y)
-  compares x y e f = c x y ∙ rw (e, f) (ap (λ o. ordering_then o (nat_cmp (id x) (id y))) (sym (then_equal (value_cmp (value x) (value y)))))
-
-  first : (x y : M) → Is x → Is y → (id x == id y) ≡ false → is_lt (C y x) ≡ false → by_value cells (id x) (id y) ≡ Less
-  first x y e f n s = by_case (by_value cells (id x) (id y)) refl
+module _ {M : Type 0} (id : M → ℕ) (C : M → M → Ordering) (R : ℕ → ℕ → Ordering) (o : IsExact R) (Is : M → Type 0) (compares : (x y : M) → Is x → Is y → C x y ≡ R (id x) (id y)) where
+  first : (x y : M) → Is x → Is y → (id x == id y) ≡ false → is_lt (C y x) ≡ false → R (id x) (id y) ≡ Less
+  first x y e f n s = by_case (R (id x) (id y)) refl
     where
-      by_case : (o : Ordering) → by_value cells (id x) (id y) ≡ o → by_value cells (id x) (id y) ≡ Less
+      by_case : (r : Ordering) → R (id x) (id y) ≡ r → R (id x) (id y) ≡ Less
       by_case Less k = k
-      by_case Equal k = elim (eqb_tells (id x) (id y)) [ inl q ↦ (let t = q.0 in absurd (cc)) | inr q ↦ absurd (q.1 ((value_exact cells).same (id x) (id y) k)) ]
-      by_case Greater k = (let t : is_lt (C y x) ≡ true = ap is_lt (compares y x f e ∙ (value_exact cells).turn (id x) (id y) k) in absurd (cc))
+      by_case Equal k = elim (eqb_tells (id x) (id y)) [ inl q ↦ (let t = q.0 in absurd (cc)) | inr q ↦ absurd (q.1 (o.same (id x) (id y) k)) ]
+      by_case Greater k = (let t : is_lt (C y x) ≡ true = ap is_lt (compares y x f e ∙ o.turn (id x) (id y) k) in absurd (cc))
 
-  ascends : (xs : List M) → ((m : M) → In m xs → Is m) → IsDistinct (λ x y. x == y) (map id xs) → IsSorted C xs → Ascends (by_value cells) (map id xs)
+  ascends : (xs : List M) → ((m : M) → In m xs → Is m) → IsDistinct (λ x y. x == y) (map id xs) → IsSorted C xs → Ascends R (map id xs)
   unfolding IsDistinct
   ascends [] a d s = tt
   ascends (x ∷ []) a d s = (tt, tt)
   ascends (x ∷ (y ∷ xs)) a d s =
       let rest = ascends (y ∷ xs) (λ m i. a m (inr i)) d.1 (λ k e l h. (let n : suc k + 1 ≡ suc (k + 1) = omega arith in subst (λ j. is_lt (C (get_or (x ∷ (y ∷ xs)) j e) (get_or (y ∷ xs) k e)) ≡ false) n (s (suc k) e (omega arith) (omega (arith, h))))) in
       let f = first x y (a x (inl refl)) (a y (inr (inl refl))) d.0.0 (s 0 x (omega arith) (omega arith)) in
-      ((f, value_before_more cells (id x) (id y) (map id xs) f rest.0), rest)
+      ((f, below_each R (id x) (map id xs) (λ z i. o.trans (id x) (id y) z f (before_in R (id y) z (map id xs) rest.0 i))), rest)
 
   module _ (live : List ℕ) (marks sorted : List M) (d : Distinct live) (ids : map id marks ≡ live) (values : All Is marks) (p : IsPermutation marks sorted) (s : IsSorted C sorted) where
     moved : IsPermutation live (map id sorted)
     moved = subst (λ xs. IsPermutation xs (map id sorted)) ids (IsPermutation-map id marks sorted p)
 
+    marks_rise : Ascends R (map id sorted)
+    marks_rise = ascends sorted (all_in Is sorted (All-permutation Is marks sorted p values)) (IsDistinct-IsPermutation (λ x y. x == y) flips live (map id sorted) moved (are_distinct live d)) s
+
+    marks_same : Same (map id sorted) live
+    marks_same = same_ids live (map id sorted) moved
+
+-- by the values of one column
+module _ {M : Type 0} (value : M → Value) (id : M → ℕ) (C : M → M → Ordering) (c : (x y : M) → C x y ≡ ordering_then (value_cmp (value x) (value y)) (nat_cmp (id x) (id y))) (cells : List Write) where
+  abbrev IsValue : M → Type 0
+  IsValue m = newest (id m) cells ≡ value m ∷ []
+
+  value_compares : (x y : M) → IsValue x → IsValue y → C x y ≡ by_value cells (id x) (id y)
+  value_compares x y e f = c x y ∙ rw (e, f) (ap (λ r. ordering_then r (nat_cmp (id x) (id y))) (sym (then_equal (value_cmp (value x) (value y)))))
+
+  module _ (live : List ℕ) (marks sorted : List M) (d : Distinct live) (ids : map id marks ≡ live) (values : All IsValue marks) (p : IsPermutation marks sorted) (s : IsSorted C sorted) where
     pub sorted_rises : Ascends (by_value cells) (map id sorted)
-    sorted_rises = ascends sorted (all_in Is sorted (All-permutation Is marks sorted p values)) (IsDistinct-IsPermutation (λ x y. x == y) flips live (map id sorted) moved (are_distinct live d)) s
+    sorted_rises = marks_rise id C (by_value cells) (value_exact cells) IsValue value_compares live marks sorted d ids values p s
 
     pub sorted_same : Same (map id sorted) live
-    sorted_same = same_ids live (map id sorted) moved
+    sorted_same = marks_same id C (by_value cells) (value_exact cells) IsValue value_compares live marks sorted d ids values p s
+
+-- by rows
+abbrev by_row : List (List Write) → ℕ → ℕ → Ordering
+by_row logs i j = ordering_then (row_cmp (row_now i logs) (row_now j logs)) (nat_cmp i j)
+
+row_order : (logs : List (List Write)) → IsExact (by_row logs)
+row_order logs = exact_from (then_total (on_total (λ i. row_now i logs) row_total) nat_cmp_total) (λ i j e. nat_cmp-IsAntisymmetric i j (second (row_cmp (row_now i logs) (row_now j logs)) (nat_cmp i j) e))
+
+module _ (logs : List (List Write)) where
+  -- where no two ids have one row, the rows ascend
+  row_before : (i j : ℕ) → (row_now i logs ≡ row_now j logs → i ≡ j) → by_row logs i j ≡ Less → row_cmp (row_now i logs) (row_now j logs) ≡ Less
+  row_before i j n l = by_case (row_cmp (row_now i logs) (row_now j logs)) refl
+    where
+      by_case : (r : Ordering) → row_cmp (row_now i logs) (row_now j logs) ≡ r → row_cmp (row_now i logs) (row_now j logs) ≡ Less
+      by_case Less k = k
+      by_case Equal k = absurd ((row_order logs).apart i (subst (λ q. by_row logs i q ≡ Less) (sym (n (row_exact.same (row_now i logs) (row_now j logs) k))) l))
+      by_case Greater k = (let t : by_row logs i j ≡ Greater = ap (λ r. ordering_then r (nat_cmp i j)) k in absurd (cc))
+
+  rows_before : (i : ℕ) (ids : List ℕ) → ((j : ℕ) → In j ids → row_now i logs ≡ row_now j logs → i ≡ j) → BeforeAll (by_row logs) i ids → BeforeAll row_cmp (row_now i logs) (rows_of ids logs)
+  rows_before i [] n b = tt
+  rows_before i (j ∷ ids) n b = (row_before i j (n j (inl refl)) b.0, rows_before i ids (λ q h. n q (inr h)) b.1)
+
+  rows_ascend : (ids : List ℕ) → ((i j : ℕ) → In i ids → In j ids → row_now i logs ≡ row_now j logs → i ≡ j) → Ascends (by_row logs) ids → Ascends row_cmp (rows_of ids logs)
+  rows_ascend [] n a = tt
+  rows_ascend (i ∷ ids) n a = (rows_before i ids (λ j h. n i j (inl refl) (inr h)) a.0, rows_ascend ids (λ j k h l. n j k (inr h) (inr l)) a.1)
+
+module _ {M : Type 0} (row : M → List Value) (id : M → ℕ) (C : M → M → Ordering) (c : (x y : M) → C x y ≡ ordering_then (row_cmp (row x) (row y)) (nat_cmp (id x) (id y))) (logs : List (List Write)) where
+  abbrev IsRowOf : M → Type 0
+  IsRowOf m = row_now (id m) logs ≡ row m
+
+  row_compares : (x y : M) → IsRowOf x → IsRowOf y → C x y ≡ by_row logs (id x) (id y)
+  row_compares x y e f = c x y ∙ rw (e, f) refl
+
+  module _ (live : List ℕ) (marks sorted : List M) (d : Distinct live) (ids : map id marks ≡ live) (values : All IsRowOf marks) (p : IsPermutation marks sorted) (s : IsSorted C sorted) where
+    pub rows_same : Same (map id sorted) live
+    rows_same = marks_same id C (by_row logs) (row_order logs) IsRowOf row_compares live marks sorted d ids values p s
+
+    pub rows_rise : ((i j : ℕ) → In i live → In j live → row_now i logs ≡ row_now j logs → i ≡ j) → Ascends row_cmp (rows_of (map id sorted) logs)
+    rows_rise n =
+        rows_ascend logs (map id sorted) (λ i j h l. n i j (rows_same.there i h) (rows_same.there j l))
+        (marks_rise id C (by_row logs) (row_order logs) IsRowOf row_compares live marks sorted d ids values p s)

@@ -37,7 +37,7 @@ none_now : (keys : List Span) (columns : List (List Write)) (id : ℕ) → AreHi
 none_now keys [] id h l = tt
 none_now keys (c ∷ columns) id h l = (newest_is id c ∙ ap last_value (none_known (length keys) id c h.0.known l), none_now keys columns id h.1 l)
 
-pub plan_written : (columns : List Column) (keys : List Span) (logs : List (List Write)) (live : List ℕ) (spare : ℕ) (w : IsKept columns keys logs live) (p : Plan) (f : IsPlan (store_of columns keys logs spare) p) (g : Value → ℕ) (k : ℕ) → k < length columns
+pub plan_written : {indexed : List ℕ} → (columns : List Column) (keys : List Span) (logs : List (List Write)) (live : List ℕ) (spare : ℕ) (w : IsKept columns keys logs live) (p : Plan) (f : IsPlan (store_of columns keys logs spare indexed) p) (g : Value → ℕ) (k : ℕ) → k < length columns
     → weight g (get_or (all_entries (keys_handed keys p.lost p.gained p.stamp) (logs_handed keys logs p.lost p.gained p.stamp)) k []) ≡ weight g (get_or (all_entries keys logs) k []) + written g k (rows_along p.lost p.stamp (all_entries keys logs)) p.gained
 plan_written columns keys logs live spare w p f g k h =
     let then' = plan_kept columns keys logs live spare w p f in

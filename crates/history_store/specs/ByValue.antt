@@ -1,14 +1,15 @@
 -- Ids in the order of the values of one column.
-use Rattle.std.specs.Prelude.{◌≡◌, ◌⊎◌, ℕ, zero, suc, ◌+◌, ◌<◌, ◌≤◌, min, List, [], ◌∷◌, length, slice_index_or}
+use Rattle.std.specs.Prelude.{◌≡◌, ◌⊎◌, ℕ, zero, suc, ◌+◌, ◌<◌, ◌≤◌, ◌&&◌, Bool, min, nat_le, List, [], ◌∷◌, ◌++◌, length, map, if◌then◌else◌, slice_index_or}
+use Rattle.std.specs.List.{filter}
 use Rattle.std.specs.Ordering.{nat_cmp, ordering_then}
 use Rattle.std.specs.declared.cmp.Ordering.{Ordering}
-use Rattle.relations.specs.Sets.{In, Ascends}
+use Rattle.relations.specs.Sets.{In, Ascends, has}
 use Rattle.prima_base.specs.Order.{row_cmp}
 use Rattle.prima_base.specs.declared.values.Value.{Value}
 use Rattle.history_store.specs.declared.columns.Write.{Write}
 use Rattle.history_store.specs.Log.{Log, newest}
-use Rattle.history_store.specs.Logs.{cells_of}
-use Rattle.history_store.specs.Handing.{at_column}
+use Rattle.history_store.specs.Logs.{cells_of, few_rows}
+use Rattle.history_store.specs.Handing.{is_value, at_column}
 
 -- what a row has in a column, and the row's id: by the value, and then by the id
 abbrev pub mark_cmp : List Value × ℕ → List Value × ℕ → Ordering
@@ -26,6 +27,22 @@ pub record Indexed : Type 0 where
   pub column : ℕ
   pub ids : List ℕ
   pub room : ℕ
+
+-- the columns that have an index
+abbrev pub columns_of : List Indexed → List ℕ
+columns_of others = map (λ x. x.column) others
+
+-- this column has one
+abbrev pub is_indexed : ℕ → List ℕ → Bool
+is_indexed column indexed = has nat_cmp column indexed
+
+-- the columns that have one, and this one among them
+abbrev pub indexed_with : ℕ → List ℕ → List ℕ
+indexed_with column indexed = if is_indexed column indexed then indexed else indexed ++ column ∷ []
+
+-- behind a change that loses and gains so many rows: one of many rows takes all indexes away
+abbrev pub indexed_behind : ℕ → ℕ → List ℕ → List ℕ
+indexed_behind lost gained indexed = if nat_le lost few_rows && nat_le gained few_rows then indexed else []
 
 -- the least room of all
 abbrev pub least_room : ℕ → List Indexed → ℕ
@@ -75,7 +92,10 @@ ids_handed lost next zero = []
 ids_handed [] next (suc n) = next ∷ ids_handed [] (next + 1) n
 ids_handed (id ∷ lost) next (suc n) = id ∷ ids_handed lost next n
 
--- the rows that have this value in the column at this place
-pub record AreWithValue (column : ℕ) (value : Value) (rows found : List (List Value)) : Type 0 where
-  pub only : (row : List Value) → In row found → In row rows × (at_column column row ≡ value ∷ [])
-  pub all : (row : List Value) → In row rows → at_column column row ≡ value ∷ [] → In row found
+-- those of the ids whose newest value this is
+abbrev pub ids_with : Value → List Write → List ℕ → List ℕ
+ids_with value cells ids = filter (λ id. is_value value (newest id cells)) ids
+
+-- those of the rows that have this value in the column at this place
+abbrev pub rows_with : ℕ → Value → List (List Value) → List (List Value)
+rows_with column value rows = filter (λ row. is_value value (at_column column row)) rows

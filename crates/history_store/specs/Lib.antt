@@ -14,3 +14,4 @@ pub mod Scans
 pub mod ScanFields
 pub mod Cuts
 pub mod ByValue
+pub mod Restoring

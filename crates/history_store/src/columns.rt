@@ -132,8 +132,23 @@ impl Column {
 }
 
 impl Column {
-    ghost use Rattle.std.specs.Prelude.{◌≡◌, ◌+◌, ◌<◌, ◌≤◌, max};
+    ghost use Rattle.std.specs.Prelude.{◌≡◌, ◌+◌, ◌<◌, ◌≤◌, ◌++◌, ◌∷◌, [], OnOk, max};
     ghost use Rattle.history_store.specs.Handing.{put};
+
+    /// From the moment on, the row with this id has this value: a write is made even where it had it before.
+    pub(crate) fn add(&mut self, id: usize, value: Value, moment: u64) -> Result<(), NoMemory>
+        requires { id ≤ self.old.ids }
+        ensures ids { OnOk result (self.new.ids ≡ max self.old.ids (id + 1)) }
+        ensures cells { OnOk result (self.new.cells ≡ self.old.cells ++ record { id = id; value = value; start = moment } ∷ []) }
+    {
+        self.reserve(1)?;
+        if id == self.ids() {
+            self.grow(value, moment);
+        } else {
+            self.change(id, value, moment);
+        }
+        Ok(())
+    }
 
     /// From the moment on, the row with this id has this value. It takes no memory.
     pub(crate) fn put(&mut self, id: usize, value: Value, start: u64)

@@ -115,8 +115,12 @@ pub(crate) fn count_before(columns: &[Column], live: &RowIndex, cut: &Cut) -> us
     low
 }
 
-// Lends the values of the newest row of the id.
-fn lend_now<'a>(columns: &'a [Column], id: usize, row: &mut Vec<Val<'a>>) -> Result<(), NoMemory>
+/// Puts the values of the newest row of the id into `row`, lent, in place of what it had.
+pub(crate) fn lend_now<'a>(
+    columns: &'a [Column],
+    id: usize,
+    row: &mut Vec<Val<'a>>,
+) -> Result<(), NoMemory>
     requires { All (λ c. id < c.ids) columns.now }
     ensures values { OnOk result (map shown row.new.items ≡ row_now id (cells_of columns.now)) }
     ensures lawful { OnOk result (All (λ v. IsLawful (shown v)) row.new.items) }

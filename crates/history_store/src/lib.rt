@@ -19,6 +19,7 @@ mod changes;
 mod columns;
 mod cuts;
 mod other_indexes;
+mod restoring;
 mod scans;
 mod splices;
 mod tables;
@@ -26,5 +27,6 @@ mod value_index;
 mod walks;
 
 pub use cuts::{Cut, LentRows};
+pub use restoring::Cell;
 pub use scans::{CellEntry, CellScan, KeyEntry, KeyScan};
 pub use tables::{Prepared, StoredTable};

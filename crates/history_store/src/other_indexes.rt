@@ -1,11 +1,11 @@
 //! The indexes that a table keeps by the values of its columns, beside the one by its rows.
 
-ghost use Rattle.std.specs.Prelude.{◌≡◌, ◌+◌, ◌^◌, ◌<◌, ◌≤◌, ℕ, List, [], All, IfSome, OnOk, length, slice_index_or, vec_len};
+ghost use Rattle.std.specs.Prelude.{◌≡◌, ◌+◌, ◌^◌, ◌<◌, ◌≤◌, ℕ, List, [], All, IfSome, OnOk, is_some, length, slice_index_or, vec_len};
 ghost use Rattle.relations.specs.Sets.{In};
 ghost use Rattle.history_store.specs.Log.{Log};
 ghost use Rattle.history_store.specs.Logs.{cells_of, few_rows};
 ghost use Rattle.history_store.specs.Handing.{Distinct};
-ghost use Rattle.history_store.specs.ByValue.{Indexed, least_room, ids_handed, IsIndexed, IsReady, IsLosing, IsGaining};
+ghost use Rattle.history_store.specs.ByValue.{Indexed, columns_of, is_indexed, indexed_behind, least_room, ids_handed, IsIndexed, IsReady, IsLosing, IsGaining};
 
 use crate::columns::Column;
 use crate::splices::FEW_ROWS;
@@ -14,7 +14,8 @@ use prima_base::NoMemory;
 
 /// The place of the index of the column at this place, where there is one.
 pub fn index_of(others: &[ValueIndex], column: usize) -> Option<usize>
-    ensures { IfSome result (λ k. (k < length others.now) × ((d : Indexed) → (slice_index_or others.now k d).column ≡ column)) }
+    ensures there { is_some result ≡ is_indexed column (columns_of others.now) }
+    ensures at { IfSome result (λ k. (k < length others.now) × ((d : Indexed) → (slice_index_or others.now k d).column ≡ column)) }
 {
     for (k, other) in others.iter().enumerate() {
         if other.column() == column {
@@ -58,6 +59,7 @@ pub fn lose_each(others: &mut Vec<ValueIndex>, columns: &[Column], lost: &[usize
     requires there { All (λ x. (q : ℕ) → In q lost.now → In q x.ids) others.old.items }
     requires distinct { Distinct lost.now }
     requires room { gained ≤ few_rows → All (λ x. gained ≤ x.room) others.old.items }
+    ensures columns { columns_of others.new.items ≡ indexed_behind (length lost.now) gained (columns_of others.old.items) }
     ensures room { All (λ x. gained ≤ x.room) others.new.items }
     ensures indexed { (live : List ℕ) → All (IsIndexed (cells_of columns.now) live []) others.old.items → All (IsIndexed (cells_of columns.now) live lost.now) others.new.items }
 {

@@ -2,6 +2,7 @@ use crate::changes::{carry_out, count_cells, empty_columns, reserve_rows};
 use crate::columns::Column;
 use crate::cuts::{Cut, LentRows, count_before};
 use crate::other_indexes::{gain_each, index_of, lose_each};
+use crate::restoring::{Cell, check_cells, columns_of, open_ids, sort_ids};
 use crate::scans::{CellScan, KeyScan};
 use crate::splices::{After, change_index, copy_given, splice};
 use crate::value_index::ValueIndex;
@@ -75,17 +76,18 @@ impl Prepared {
 }
 
 impl StoredTable {
-    ghost use Rattle.std.specs.Prelude.{◌≡◌, ℕ, ◌+◌, ◌-◌, ◌<◌, ◌≤◌, List, [], length, IfOk, IfSome, option_map, slice_index_or};
+    ghost use Rattle.std.specs.Prelude.{◌≡◌, ℕ, ◌+◌, ◌-◌, ◌<◌, ◌≤◌, List, [], length, IfOk, IfSome, OnOk, OnErr, is_some, option_map, slice_index_or};
     ghost use Rattle.relations.specs.Sets.{In, has};
     ghost use Rattle.relations.specs.Spans.{forever};
     ghost use Rattle.prima_base.specs.Order.{row_cmp};
     ghost use Rattle.prima_base.specs.declared.values.Value.{Value as OneValue};
-    ghost use Rattle.history_store.specs.Store.{Store, cells_in, weight, relation_at, IsRelation, AreColumns, AllBefore, IsStore, column_of};
+    ghost use Rattle.history_store.specs.Store.{Store, cells_in, weight, rows_from, relation_at, IsRelation, AreColumns, AllBefore, IsStore, column_of};
     ghost use Rattle.history_store.specs.Handing.{new_keys, handed, only_in, written};
     ghost use Rattle.history_store.specs.Change.{Plan, IsPlan, rows_after, rows_along, changed, keys_after, cells_after, write_rows, no_cells};
     ghost use Rattle.history_store.specs.Scans.{keys_from};
     ghost use Rattle.history_store.specs.Cuts.{between};
-    ghost use Rattle.history_store.specs.ByValue.{AreWithValue};
+    ghost use Rattle.history_store.specs.Restoring.{store_with, entries_of};
+    ghost use Rattle.history_store.specs.ByValue.{is_indexed, indexed_with, indexed_behind, rows_with};
 
     /// A table of these columns, which stand in the order of their names: from the stamp on its relation
     /// is `rows`, before it is empty. The one error is `NoMemory`, where memory runs out.
@@ -103,6 +105,7 @@ impl StoredTable {
         ensures cells { IfOk result (λ t. t.cells ≡ write_rows (handed [] 0 rows.now) rows.now stamp (no_cells columns.now)) }
         ensures key_count { IfOk result (λ t. length t.keys ≡ length rows.now) }
         ensures written { (f : OneValue → ℕ) (k : ℕ) → k < length columns.now → IfOk result (λ t. weight f (slice_index_or t.cells k []) ≡ written f k [] rows.now) }
+        ensures indexed { IfOk result (λ t. t.indexed ≡ []) }
         ensures before { (m : ℕ) → m < stamp → IfOk result (λ t. relation_at t m ≡ []) }
         ensures from { (m : ℕ) → stamp ≤ m → m < forever → IfOk result (λ t. relation_at t m ≡ rows.now) }
         ensures later { (m : ℕ) → stamp < m → IfOk result (λ t. AllBefore t m) }
@@ -119,6 +122,32 @@ impl StoredTable {
         let prepared = table.prepare(stamp, rows)?;
         table.install(prepared);
         Ok(table)
+    }
+
+    /// The table with these columns, keys and cells: the list of cells at the place of a column has those of the column,
+    /// by id and start. It is built in one pass, and the current rows are sorted once. No column has an index. The one
+    /// error is `NoMemory`, where memory runs out.
+    pub fn restore(
+        alloc: Global,
+        columns: &[(Name, ColType)],
+        keys: Vec<Period>,
+        cells: Vec<Vec<Cell>>,
+    ) -> Result<StoredTable, NoMemory>
+        requires { IsStore (store_with columns.now keys.items (entries_of cells.items)) }
+        ensures table { IfOk result (λ t. t ≡ record (store_with columns.now keys.items (entries_of cells.items)) { spare = t.spare }) }
+        ensures lawful { IfOk result (λ t. IsStore t) }
+    {
+        check_cells(&cells)?;
+        let logs = columns_of(alloc, cells)?;
+        let ids = sort_ids(alloc, &logs, &open_ids(alloc, &keys)?)?;
+        Ok(StoredTable {
+            alloc,
+            columns: copy_columns(alloc, columns)?,
+            keys,
+            logs,
+            live: RowIndex::of(alloc, &ids)?,
+            others: Vec::new(alloc),
+        })
     }
 
     /// Makes the change to these rows ready, and all the room that installing it needs, by one walk along the
@@ -217,13 +246,15 @@ impl StoredTable {
     /// Carries out what was made ready: from its stamp on the relation is the one that it was made for,
     /// and before it nothing changes. By any weight of values each column gains what is written into it. It takes no
     /// memory. The index of the current rows loses the ids at the places that were found and gets the gained ones at
-    /// theirs, each of which moves ids of its block alone, or it is replaced by the whole one that was made ready.
+    /// theirs, each of which moves ids of its block alone, or it is replaced by the whole one that was made ready. The
+    /// indexes of columns stay where at most 64 rows are lost and at most 64 gained, and else go.
     pub fn install(&mut self, prepared: Prepared)
         requires fits { IsPlan self.old prepared }
         requires room { length prepared.gained ≤ self.old.spare }
         ensures columns { self.new.columns ≡ self.old.columns }
         ensures keys { self.new.keys ≡ keys_after self.old prepared }
         ensures cells { self.new.cells ≡ cells_after self.old prepared }
+        ensures indexed { self.new.indexed ≡ indexed_behind (length prepared.lost) (length prepared.gained) self.old.indexed }
         ensures key_count { length self.new.keys ≡ length self.old.keys + (length prepared.gained - length prepared.lost) }
         ensures written { (f : OneValue → ℕ) (k : ℕ) → k < length self.old.columns → weight f (slice_index_or self.new.cells k [])
             ≡ weight f (slice_index_or self.old.cells k []) + written f k (rows_along prepared.lost prepared.stamp self.old.cells) prepared.gained }
@@ -291,10 +322,13 @@ impl StoredTable {
 
     /// Keeps from now on an index of the column at this place, where there is none: its ids are sorted once, and each
     /// change of few rows moves those of its rows. A change of more than 64 rows takes the index away. What the table
-    /// stands for stays as it is. The one error is `NoMemory`, where memory runs out.
+    /// stands for stays as it is, and so does each index that it keeps. The one error is `NoMemory`, where memory runs
+    /// out: then it keeps the indexes that it kept.
     pub fn index_column(&mut self, column: usize) -> Result<(), NoMemory>
         requires within { column < length self.old.columns }
-        ensures same { self.new ≡ record self.old { spare = self.new.spare } }
+        ensures same { self.new ≡ record self.old { spare = self.new.spare; indexed = self.new.indexed } }
+        ensures done { OnOk result (self.new.indexed ≡ indexed_with column self.old.indexed) }
+        ensures failed { OnErr result (self.new.indexed ≡ self.old.indexed) }
         ensures spare { self.old.spare ≤ self.new.spare }
     {
         if index_of(&self.others, column).is_some() {
@@ -305,10 +339,12 @@ impl StoredTable {
         Ok(())
     }
 
-    /// The current rows that have this value in the column at this place, lent, where an index of the column is kept:
-    /// they are found by binary search. What the table has now it has from its last stamp on. It takes no memory.
+    /// The current rows that have this value in the column at this place, lent, each once, in the order of their ids:
+    /// `None` exactly where no index of the column is kept. They are found by binary search: in a table of n rows by in
+    /// the order of log n comparisons. What the table has now it has from its last stamp on. It takes no memory.
     pub fn rows_with(&self, column: usize, value: &Value) -> Option<LentRows<'_>>
-        ensures rows { (m : ℕ) → m < forever → AllBefore self.now (m + 1) → IfSome result (λ rows. AreWithValue column value.now (relation_at self.now m) rows) }
+        ensures kept { is_some result ≡ is_indexed column self.now.indexed }
+        ensures rows { (m : ℕ) → m < forever → AllBefore self.now (m + 1) → IfSome result (λ rows. rows ≡ rows_with column value.now (rows_from 0 m self.now.keys self.now.cells)) }
     {
         match index_of(&self.others, column) {
             Some(at) => Some(self.others[at].rows_with(&self.logs, value)),
@@ -334,6 +370,31 @@ impl StoredTable {
             Some(column) => Some(self.logs[column].scan(&self.keys)),
             None => None,
         }
+    }
+
+    /// How many columns the table has. It takes no memory.
+    pub fn width(&self) -> usize
+        ensures columns { result ≡ length self.now.columns }
+        ensures cells { result ≡ length self.now.cells }
+    {
+        self.logs.len()
+    }
+
+    /// A scan of the entries of the column at this place, in the order of the columns' names, ascending by id and start. It takes no
+    /// memory.
+    pub fn scan_at(&self, column: usize) -> CellScan<'_>
+        requires { column < length self.now.columns }
+        ensures { result ≡ slice_index_or self.now.cells column [] }
+    {
+        self.logs[column].scan(&self.keys)
+    }
+
+    /// How many entries the column at this place has. It takes no memory.
+    pub fn entries_at(&self, column: usize) -> u64
+        requires { column < length self.now.columns }
+        ensures { result ≡ length (slice_index_or self.now.cells column []) }
+    {
+        self.logs[column].count() as u64
     }
 
     /// How many keys the table has.

@@ -135,8 +135,8 @@ fn lend_values<'a>(
     Ok(marks)
 }
 
-// The ids of these marks.
-fn ids_of(alloc: Global, marks: &[(Val<'_>, usize)]) -> Result<Vec<usize>, NoMemory>
+/// The ids that stand behind something else.
+pub(crate) fn ids_of<M>(alloc: Global, marks: &[(M, usize)]) -> Result<Vec<usize>, NoMemory>
     ensures { IfOk result (λ ids. ids.items ≡ map (λ m. m.1) marks.now) }
 {
     let mut ids = Vec::with_capacity(alloc, marks.len())?;
@@ -176,12 +176,11 @@ impl Model for ValueIndex {
 impl ValueIndex {
     ghost use Rattle.std.specs.Prelude.{◌≡◌, ◌≤◌, ◌<◌, ◌+◌, ◌^◌, ◌∷◌, ℕ, List, [], All, IfOk, OnOk, length, slice_index_or};
     ghost use Rattle.relations.specs.Sets.{In};
-    ghost use Rattle.prima_base.specs.declared.values.Value.{Value as OneValue};
-    ghost use Rattle.history_store.specs.Log.{Log, newest};
+    ghost use Rattle.history_store.specs.Log.{Log};
     ghost use Rattle.history_store.specs.Logs.{cells_of, few_rows};
-    ghost use Rattle.history_store.specs.Table.{row_now};
+    ghost use Rattle.history_store.specs.Table.{rows_of};
     ghost use Rattle.history_store.specs.Handing.{Distinct};
-    ghost use Rattle.history_store.specs.ByValue.{ids_handed, IsIndexed, IsReady, IsLosing, IsGaining};
+    ghost use Rattle.history_store.specs.ByValue.{ids_handed, ids_with, IsIndexed, IsReady, IsLosing, IsGaining};
 
     /// The index of the column at this place, with room for all ids that are ever put in by one change. It sorts the
     /// ids.
@@ -194,6 +193,7 @@ impl ValueIndex {
         requires within { column < length columns.now }
         requires known { (q : ℕ) → In q live.now → (k : ℕ) (d : Log) → k < length columns.now → q < (slice_index_or columns.now k d).ids }
         requires distinct { Distinct live.now }
+        ensures column { IfOk result (λ x. x.column ≡ column) }
         ensures indexed { IfOk result (λ x. IsIndexed (cells_of columns.now) live.now [] x) }
         ensures room { IfOk result (λ x. few_rows ≤ x.room) }
     {
@@ -243,13 +243,12 @@ impl ValueIndex {
         put_handed(&columns[self.column], &mut self.index, lost, next, count);
     }
 
-    /// The rows that have this value in the column, lent, by their ids. They are found by binary search. It takes no
-    /// memory.
+    /// The rows that have this value in the column, lent, in the order of their ids. They are found by binary search. It
+    /// takes no memory.
     pub(crate) fn rows_with<'a>(&'a self, columns: &'a [Column], value: &Value) -> LentRows<'a>
         requires ready { IsReady columns.now self.now }
         requires known { (q : ℕ) → In q self.now.ids → (k : ℕ) (d : Log) → k < length columns.now → q < (slice_index_or columns.now k d).ids }
-        ensures only { (row : List OneValue) → In row result → (q : ℕ) × In q self.now.ids × (newest q (slice_index_or (cells_of columns.now) self.now.column []) ≡ value.now ∷ []) × (row_now q (cells_of columns.now) ≡ row) }
-        ensures all { (q : ℕ) → In q self.now.ids → newest q (slice_index_or (cells_of columns.now) self.now.column []) ≡ value.now ∷ [] → In (row_now q (cells_of columns.now)) result }
+        ensures { result ≡ rows_of (ids_with value.now (slice_index_or (cells_of columns.now) self.now.column []) self.now.ids) (cells_of columns.now) }
     {
         let column = &columns[self.column];
         let end = count_under(column, &self.index, value, column.ids());

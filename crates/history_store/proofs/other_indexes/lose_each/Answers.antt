@@ -1,7 +1,8 @@
-use Rattle.std.proofs.Common.{get_or, ◌<◌, length, arith, vec_len}
+use Rattle.std.proofs.Common.{◌≡◌, sym, ◌∙◌, get_or, ◌<◌, length, arith, vec_len}
 use Rattle.std.proofs.lemmas.Grind.{common_steps}
 use Rattle.history_store.specs.Logs.{cells_of}
-use Rattle.history_store.proofs.Others.{lost_indexed}
+use Rattle.history_store.specs.ByValue.{columns_of}
+use Rattle.history_store.proofs.Others.{lost_indexed, same_columns, few_behind}
 use Rattle.history_store.proofs.other_indexes.lose_each.Goals as goal
 
 pub returns-clause-indexed : goal.returns-clause-indexed
@@ -10,3 +11,9 @@ returns-clause-indexed c = λ live a k d b.
     let h' : k < vec_len c.args.others.now = grind (arith, common_steps) in
     let l = c.lose_all.ensures.each k d h' in
     lost_indexed (cells_of c.args.columns.now) live c.args.lost.now (get_or c.args.others.now.items k d) (get_or c.lose_all.new.others.items k d) (a k d h) l.column l.without
+
+pub returns-clause-columns : goal.returns-clause-columns
+returns-clause-columns c =
+    let n : length c.lose_all.new.others.items ≡ length c.args.others.now.items = grind (arith, common_steps) in
+    let same = same_columns c.args.others.now.items c.lose_all.new.others.items n (λ k d h. (let b : k < vec_len c.args.others.now = grind (arith, common_steps) in (c.lose_all.ensures.each k d b).column)) in
+    same ∙ sym (few_behind (length c.args.lost.now) c.args.gained (columns_of c.args.others.now.items) c.if-lost-gt-FEW_ROWS.false c.if-gained-gt-FEW_ROWS.false)

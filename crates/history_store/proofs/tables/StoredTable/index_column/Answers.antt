@@ -1,12 +1,12 @@
-use Rattle.std.proofs.Common.{◌<◌, ◌-◌, length, sym, ap, ◌∙◌, subst, vec_len, vec_capacity, [], ◌∷◌, ◌++◌}
-use Rattle.history_store.specs.ByValue.{least_room, IsIndexed}
+use Rattle.std.proofs.Common.{◌≡◌, false, ◌<◌, ◌-◌, length, sym, ap, ◌∙◌, subst, vec_len, vec_capacity, [], ◌∷◌, ◌++◌}
+use Rattle.history_store.specs.ByValue.{columns_of, is_indexed, least_room, IsIndexed}
 use Rattle.history_store.specs.Logs.{cells_of, few_rows, with_index}
 use Rattle.history_store.specs.Handing.{Distinct}
 use Rattle.history_store.proofs.Rows.{length-cells_of, least_up, less_up}
 use Rattle.history_store.proofs.Carry.{still_with_index}
 use Rattle.history_store.proofs.Changing.{distinct_ids}
 use Rattle.history_store.proofs.Preparing.{all_known_in}
-use Rattle.history_store.proofs.Others.{one_pushed, least_room_push}
+use Rattle.history_store.proofs.Others.{columns_pushed, one_pushed, least_room_push}
 use Rattle.history_store.proofs.tables.StoredTable.index_column.Goals as goal
 
 pub of-requires-clause-within : goal.of-requires-clause-within
@@ -51,3 +51,9 @@ returns-clause-spare c =
     let more = least_room_push a.live.room few_rows a.others.items c.in_ok-index.index c.in_ok-index.ensures.room in
     rw (← c.self.view_is, c.in_ok-push.ensures.items)
     (less_up _ _ _ (least_up (with_index (least_room a.live.room a.others.items) n) (with_index (least_room a.live.room (a.others.items ++ c.in_ok-index.index ∷ [])) n) a.logs.items (still_with_index (least_room a.live.room a.others.items) (least_room a.live.room (a.others.items ++ c.in_ok-index.index ∷ [])) n more)))
+
+pub returns-clause-done : goal.returns-clause-done
+returns-clause-done c =
+    let a = c.self.inside in
+    let none : is_indexed c.args.column (columns_of a.others.items) ≡ false = sym (rw c.deref.ensures.value at c.index_of.ensures.there) ∙ sym c.is_some.ensures ∙ c.if-is_some.false in
+    rw (← c.self.view_is, c.in_ok-push.ensures.items, none) (columns_pushed a.others.items c.in_ok-index.index ∙ ap (λ k. columns_of a.others.items ++ k ∷ []) c.in_ok-index.ensures.column)

@@ -14,7 +14,7 @@ use Rattle.history_store.proofs.Showing.{key_before}
 use Rattle.history_store.proofs.Lawful.{is_store}
 use Rattle.history_store.proofs.Installing.{placed_then, plan_kept, plan_cells, plan_before, plan_from, plan_later}
 use Rattle.history_store.proofs.CellCounts.{still_counted}
-use Rattle.history_store.proofs.Others.{least_room_below, least_room_each, ready_each}
+use Rattle.history_store.proofs.Others.{same_columns, least_room_below, least_room_each, ready_each}
 use Rattle.history_store.proofs.Keeping.{ids_are_handed, all_lost, all_ready, all_new, all_fresh, all_apart, all_indexed}
 use Rattle.history_store.proofs.Rule.{key_count}
 use Rattle.history_store.proofs.Totals.{plan_written}
@@ -158,14 +158,14 @@ returns-clause-before c m h =
     let a = c.self.inside in
     let f = rw (← c.self.view_is, ← c.prepared.view_is) at c.requires.fits in
     let b = rw (← c.prepared.view_is) at h in
-    rw (c.carry_out.ensures.keys, c.carry_out.ensures.cells, c.deref-3.ensures.value, ← c.self.view_is) (plan_before a.columns.items a.keys.items (cells_of a.logs.items) a.live.ids _ c.self.invariant.kept _ f _ m b)
+    rw (c.carry_out.ensures.keys, c.carry_out.ensures.cells, c.deref-3.ensures.value, ← c.self.view_is) (plan_before a.columns.items a.keys.items (cells_of a.logs.items) a.live.ids _ c.self.invariant.kept _ f _ _ m b)
 
 pub returns-clause-from : goal.returns-clause-from
 returns-clause-from c m h l =
     let a = c.self.inside in
     let f = rw (← c.self.view_is, ← c.prepared.view_is) at c.requires.fits in
     let b = rw (← c.prepared.view_is) at h in
-    rw (c.carry_out.ensures.keys, c.carry_out.ensures.cells, c.deref-3.ensures.value, ← c.self.view_is, ← c.prepared.view_is) (plan_from a.columns.items a.keys.items (cells_of a.logs.items) a.live.ids _ c.self.invariant.kept _ f _ m b l)
+    rw (c.carry_out.ensures.keys, c.carry_out.ensures.cells, c.deref-3.ensures.value, ← c.self.view_is, ← c.prepared.view_is) (plan_from a.columns.items a.keys.items (cells_of a.logs.items) a.live.ids _ c.self.invariant.kept _ f _ _ m b l)
 
 pub returns-clause-later : goal.returns-clause-later
 returns-clause-later c m h =
@@ -191,3 +191,10 @@ returns-clause-lawful c =
     let a = c.self.inside in
     let f = rw (← c.self.view_is, ← c.prepared.view_is) at c.requires.fits in
     rw (c.carry_out.ensures.keys, c.carry_out.ensures.cells, c.deref-3.ensures.value) (is_store a.columns.items _ _ _ _ (plan_kept a.columns.items a.keys.items (cells_of a.logs.items) a.live.ids _ c.self.invariant.kept _ f))
+
+pub returns-clause-indexed : goal.returns-clause-indexed
+returns-clause-indexed c =
+    let n : length c.gain_each.new.others.items ≡ length c.lose_each.new.others.items = grind (arith, common_steps) in
+    let same = same_columns c.lose_each.new.others.items c.gain_each.new.others.items n (λ k d h. (let b : k < vec_len c.lose_each.new.others = grind (arith, common_steps) in (c.gain_each.ensures.each k d b).column)) in
+    let count : c.len-count.result ≡ length c.prepared.inside.gained.items = search rules in
+    rw (← c.self.view_is, ← c.prepared.view_is) (same ∙ (rw (c.deref-2.ensures.value, count) at c.lose_each.ensures.columns))

@@ -4,6 +4,8 @@ use Rattle.history_store.specs.Store.{Store, AreColumns, weight, relation_at}
 use Rattle.history_store.specs.TableFields.{store_of}
 use Rattle.history_store.specs.Handing.{only_in, handed, written}
 use Rattle.history_store.specs.Change.{IsPlan, keys_after, cells_after, rows_along, write_rows, no_cells}
+use Rattle.history_store.specs.ByValue.{indexed_behind}
+use Rattle.history_store.proofs.Others.{none_behind}
 use Rattle.history_store.proofs.Rows.{length-cells_of}
 use Rattle.history_store.proofs.CellCounts.{none_counted}
 use Rattle.history_store.proofs.Plans.{length-new_keys}
@@ -19,7 +21,7 @@ invariant_of-table c = record {
 }
 
 pub prepare-requires-clause-before : goal.prepare-requires-clause-before
-prepare-requires-clause-before c = rw (c.new.ensures.items) (none_before c.in_ok-copy_columns.field-0.items (cells_of c.in_ok-empty_columns.field-0.items) _ _)
+prepare-requires-clause-before c = rw (c.new.ensures.items, c.new-2.ensures.items) (none_before c.in_ok-copy_columns.field-0.items (cells_of c.in_ok-empty_columns.field-0.items) _ _)
 
 pub returns-clause-keys : goal.returns-clause-keys
 returns-clause-keys c =
@@ -27,12 +29,12 @@ returns-clause-keys c =
     let logs = cells_of c.in_ok-empty_columns.field-0.items in
     let n = c.prepare.new.self.spare in
     let p = c.in_ok-prepared.prepared in
-    let e : c.prepare.new.self ≡ store_of columns [] logs n = rw c.new.ensures.items at c.in_ok-prepared.ensures.same in
-    let f : IsPlan (store_of columns [] logs n) p = subst (λ (t : Store). IsPlan t p) e c.in_ok-prepared.ensures.fits in
-    let q : p.gained ≡ only_in c.args.rows.now (relation_at (store_of columns [] logs _) c.args.stamp) = rw c.new.ensures.items at c.in_ok-prepared.ensures.gained in
+    let e : c.prepare.new.self ≡ store_of columns [] logs n [] = rw (c.new.ensures.items, c.new-2.ensures.items) at c.in_ok-prepared.ensures.same in
+    let f : IsPlan (store_of columns [] logs n []) p = subst (λ (t : Store). IsPlan t p) e c.in_ok-prepared.ensures.fits in
+    let q : p.gained ≡ only_in c.args.rows.now (relation_at (store_of columns [] logs _ []) c.args.stamp) = rw (c.new.ensures.items, c.new-2.ensures.items) at c.in_ok-prepared.ensures.gained in
     let g : p.gained ≡ c.args.rows.now = q ∙ ap (only_in c.args.rows.now) (none_now columns logs _ c.args.stamp) ∙ all_gained c.args.rows.now in
     let i = plan_is p c.args.stamp c.args.rows.now c.in_ok-prepared.ensures.stamp (no_lost columns logs n p f) g in
-    c.install.ensures.keys ∙ ap (λ (t : Store). keys_after t p) e ∙ ap (keys_after (store_of columns [] logs n)) i ∙ first_keys columns logs n c.args.stamp c.args.rows.now p.after
+    c.install.ensures.keys ∙ ap (λ (t : Store). keys_after t p) e ∙ ap (keys_after (store_of columns [] logs n [])) i ∙ first_keys columns logs n c.args.stamp c.args.rows.now p.after
 
 pub returns-clause-cells : goal.returns-clause-cells
 returns-clause-cells c =
@@ -40,13 +42,13 @@ returns-clause-cells c =
     let logs = cells_of c.in_ok-empty_columns.field-0.items in
     let n = c.prepare.new.self.spare in
     let p = c.in_ok-prepared.prepared in
-    let e : c.prepare.new.self ≡ store_of columns [] logs n = rw c.new.ensures.items at c.in_ok-prepared.ensures.same in
-    let f : IsPlan (store_of columns [] logs n) p = subst (λ (t : Store). IsPlan t p) e c.in_ok-prepared.ensures.fits in
-    let q : p.gained ≡ only_in c.args.rows.now (relation_at (store_of columns [] logs _) c.args.stamp) = rw c.new.ensures.items at c.in_ok-prepared.ensures.gained in
+    let e : c.prepare.new.self ≡ store_of columns [] logs n [] = rw (c.new.ensures.items, c.new-2.ensures.items) at c.in_ok-prepared.ensures.same in
+    let f : IsPlan (store_of columns [] logs n []) p = subst (λ (t : Store). IsPlan t p) e c.in_ok-prepared.ensures.fits in
+    let q : p.gained ≡ only_in c.args.rows.now (relation_at (store_of columns [] logs _ []) c.args.stamp) = rw (c.new.ensures.items, c.new-2.ensures.items) at c.in_ok-prepared.ensures.gained in
     let g : p.gained ≡ c.args.rows.now = q ∙ ap (only_in c.args.rows.now) (none_now columns logs _ c.args.stamp) ∙ all_gained c.args.rows.now in
     let i = plan_is p c.args.stamp c.args.rows.now c.in_ok-prepared.ensures.stamp (no_lost columns logs n p f) g in
     let w : length logs ≡ length columns = length-cells_of c.in_ok-empty_columns.field-0.items ∙ c.in_ok-empty_columns.ensures.width ∙ search rules in
-    c.install.ensures.cells ∙ ap (λ (t : Store). cells_after t p) e ∙ ap (cells_after (store_of columns [] logs n)) i ∙ first_cells columns logs n c.args.stamp c.args.rows.now p.after w
+    c.install.ensures.cells ∙ ap (λ (t : Store). cells_after t p) e ∙ ap (cells_after (store_of columns [] logs n [])) i ∙ first_cells columns logs n c.args.stamp c.args.rows.now p.after w
     ∙ ap (λ cs. write_rows (handed [] 0 c.args.rows.now) c.args.rows.now c.args.stamp (no_cells cs)) c.in_ok-copy_columns.ensures
 
 pub returns-clause-key_count : goal.returns-clause-key_count
@@ -58,9 +60,9 @@ returns-clause-written c f k h =
     let logs = cells_of c.in_ok-empty_columns.field-0.items in
     let n = c.prepare.new.self.spare in
     let p = c.in_ok-prepared.prepared in
-    let e : c.prepare.new.self ≡ store_of columns [] logs n = rw c.new.ensures.items at c.in_ok-prepared.ensures.same in
-    let i : IsPlan (store_of columns [] logs n) p = subst (λ (t : Store). IsPlan t p) e c.in_ok-prepared.ensures.fits in
-    let q : p.gained ≡ only_in c.args.rows.now (relation_at (store_of columns [] logs _) c.args.stamp) = rw c.new.ensures.items at c.in_ok-prepared.ensures.gained in
+    let e : c.prepare.new.self ≡ store_of columns [] logs n [] = rw (c.new.ensures.items, c.new-2.ensures.items) at c.in_ok-prepared.ensures.same in
+    let i : IsPlan (store_of columns [] logs n []) p = subst (λ (t : Store). IsPlan t p) e c.in_ok-prepared.ensures.fits in
+    let q : p.gained ≡ only_in c.args.rows.now (relation_at (store_of columns [] logs _ []) c.args.stamp) = rw (c.new.ensures.items, c.new-2.ensures.items) at c.in_ok-prepared.ensures.gained in
     let g : p.gained ≡ c.args.rows.now = q ∙ ap (only_in c.args.rows.now) (none_now columns logs _ c.args.stamp) ∙ all_gained c.args.rows.now in
     let b : k < length c.prepare.new.self.columns = subst (λ m. k < m) (ap length (sym c.in_ok-copy_columns.ensures) ∙ ap (λ (t : Store). length t.columns) (sym e)) h in
     c.install.ensures.written f k b
@@ -72,6 +74,15 @@ returns-clause-before c m h =
     let columns = c.in_ok-copy_columns.field-0.items in
     let logs = cells_of c.in_ok-empty_columns.field-0.items in
     let n = c.prepare.new.self.spare in
-    let e : c.prepare.new.self ≡ store_of columns [] logs n = rw c.new.ensures.items at c.in_ok-prepared.ensures.same in
+    let e : c.prepare.new.self ≡ store_of columns [] logs n [] = rw (c.new.ensures.items, c.new-2.ensures.items) at c.in_ok-prepared.ensures.same in
     let b : m < c.in_ok-prepared.prepared.stamp = subst (λ s. m < s) (sym c.in_ok-prepared.ensures.stamp) h in
     c.install.ensures.before m b ∙ ap (λ (t : Store). relation_at t m) e ∙ none_now columns logs n m
+
+pub returns-clause-indexed : goal.returns-clause-indexed
+returns-clause-indexed c =
+    let columns = c.in_ok-copy_columns.field-0.items in
+    let logs = cells_of c.in_ok-empty_columns.field-0.items in
+    let n = c.prepare.new.self.spare in
+    let p = c.in_ok-prepared.prepared in
+    let e : c.prepare.new.self ≡ store_of columns [] logs n [] = rw (c.new.ensures.items, c.new-2.ensures.items) at c.in_ok-prepared.ensures.same in
+    c.install.ensures.indexed ∙ ap (λ (t : Store). indexed_behind (length p.lost) (length p.gained) t.indexed) e ∙ none_behind (length p.lost) (length p.gained)

@@ -1,10 +1,10 @@
-use Rattle.std.proofs.Common.{rules, ◌≡◌, ◌+◌, ◌<◌, ◌^◌, length, arith, sym, ap, subst, ◌∙◌, vec_len}
+use Rattle.std.proofs.Common.{rules, ◌≡◌, ◌+◌, ◌<◌, refl, ◌^◌, length, arith, sym, ap, subst, ◌∙◌, vec_len}
 use Rattle.std.proofs.lemmas.Grind.{common_steps}
 use Rattle.history_store.specs.Handing.{AllWidth}
 use Rattle.history_store.specs.Logs.{cells_of}
 use Rattle.history_store.proofs.Rows.{length-cells_of}
 use Rattle.history_store.proofs.Making.{all_wide, made_leads, made_fits, made_gained, made_lost}
-use Rattle.history_store.proofs.Others.{same_others}
+use Rattle.history_store.proofs.Others.{same_others, same_columns}
 use Rattle.history_store.proofs.Preparing.{all_known}
 use Rattle.history_store.proofs.SideBySide.{given_after, length-owners}
 use Rattle.history_store.proofs.tables.StoredTable.prepare.Goals as goal
@@ -42,7 +42,7 @@ returns-clause-leads c =
     let r = rw (← c.self.view_is) at c.requires.relation in
     let n : c.len-2.result ≡ length a.keys.items = search rules in
     rw (c.reserve_rows.ensures.keys, c.reserve_rows.ensures.cells, c.in_ok-after.ensures, c.deref-5.ensures.value, c.in_ok-ids.ensures, c.deref-3.ensures.value, c.deref-4.ensures.value, c.in_ok-lost.ensures.owners, c.in_ok-lost.ensures.lost, c.in_ok-lost.ensures.gained, c.deref.ensures.value, c.deref-2.ensures.value, c.in_ok-copy.ensures, n, given_after (cells_of a.logs.items) a.live.ids)
-    (made_leads a.columns.items a.keys.items (cells_of a.logs.items) a.live.ids _ c.self.invariant.kept c.args.stamp b c.requires.lawful c.args.rows.now r _)
+    (made_leads a.columns.items a.keys.items (cells_of a.logs.items) a.live.ids _ c.self.invariant.kept c.args.stamp b c.requires.lawful c.args.rows.now r _ _)
 
 pub returns-clause-lost : goal.returns-clause-lost
 returns-clause-lost c =
@@ -83,3 +83,19 @@ invariant_of-self-2 c =
       counted = rw r.cells c.self.invariant.counted;
       others = same_others (cells_of a.logs.items) _ a.live.ids _ a.others.items _ r.cells r.live n (λ k d h. (let b : k < vec_len a.others = grind (arith, common_steps) in r.others k d b)) c.self.invariant.others;
     }
+
+pub returns-clause-same : goal.returns-clause-same
+returns-clause-same c =
+    let a = c.self.inside in
+    let r = c.reserve_rows.ensures in
+    let n : length c.reserve_rows.new.others.items ≡ length a.others.items = grind (arith, common_steps) in
+    let i = same_columns a.others.items c.reserve_rows.new.others.items n (λ k d h. (let b : k < vec_len a.others = grind (arith, common_steps) in (r.others k d b).0)) in
+    rw (← c.self.view_is, r.keys, r.cells, i) refl
+
+pub returns-in_err-reserve_rows-clause-same : goal.returns-in_err-reserve_rows-clause-same
+returns-in_err-reserve_rows-clause-same c =
+    let a = c.self.inside in
+    let r = c.reserve_rows.ensures in
+    let n : length c.reserve_rows.new.others.items ≡ length a.others.items = grind (arith, common_steps) in
+    let i = same_columns a.others.items c.reserve_rows.new.others.items n (λ k d h. (let b : k < vec_len a.others = grind (arith, common_steps) in (r.others k d b).0)) in
+    rw (← c.self.view_is, r.keys, r.cells, i) refl

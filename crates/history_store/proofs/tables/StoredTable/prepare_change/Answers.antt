@@ -5,7 +5,7 @@ use Rattle.history_store.specs.Handing.{AllWidth}
 use Rattle.history_store.specs.Logs.{cells_of}
 use Rattle.history_store.proofs.Rows.{length-cells_of}
 use Rattle.history_store.proofs.Making.{all_wide}
-use Rattle.history_store.proofs.Others.{same_others}
+use Rattle.history_store.proofs.Others.{same_others, same_columns}
 use Rattle.history_store.proofs.Preparing.{all_known_in}
 use Rattle.history_store.proofs.Installing.{relation_from}
 use Rattle.history_store.proofs.Changing.{change_fits, change_leads, change_lost}
@@ -65,7 +65,7 @@ returns-clause-leads c =
     let s = rw (c.deref.ensures.value, n) at c.in_ok-found.ensures.spliced in
     let p = c.in_ok-found.ensures.placed in
     rw (← c.self.view_is, c.reserve_rows.ensures.keys, c.reserve_rows.ensures.cells, c.in_ok-gained.ensures)
-    (change_leads a.columns.items a.keys.items (cells_of a.logs.items) a.live.ids _ c.self.invariant.kept c.args.stamp b c.requires.lawful c.args.lost.now c.args.gained.now r g c.in_ok-found.found.items _ s p c.in_ok-found.ensures.more _)
+    (change_leads a.columns.items a.keys.items (cells_of a.logs.items) a.live.ids _ c.self.invariant.kept c.args.stamp b c.requires.lawful c.args.lost.now c.args.gained.now r g c.in_ok-found.found.items _ s p c.in_ok-found.ensures.more _ _)
 
 pub returns-clause-lost : goal.returns-clause-lost
 returns-clause-lost c =
@@ -102,3 +102,19 @@ invariant_of-self-2 c =
       counted = rw r.cells c.self.invariant.counted;
       others = same_others (cells_of a.logs.items) _ a.live.ids _ a.others.items _ r.cells r.live n (λ k d h. (let b : k < vec_len a.others = grind (arith, common_steps) in r.others k d b)) c.self.invariant.others;
     }
+
+pub returns-clause-same : goal.returns-clause-same
+returns-clause-same c =
+    let a = c.self.inside in
+    let r = c.reserve_rows.ensures in
+    let n : length c.reserve_rows.new.others.items ≡ length a.others.items = grind (arith, common_steps) in
+    let i = same_columns a.others.items c.reserve_rows.new.others.items n (λ k d h. (let b : k < vec_len a.others = grind (arith, common_steps) in (r.others k d b).0)) in
+    rw (← c.self.view_is, r.keys, r.cells, i) refl
+
+pub returns-in_err-reserve_rows-clause-same : goal.returns-in_err-reserve_rows-clause-same
+returns-in_err-reserve_rows-clause-same c =
+    let a = c.self.inside in
+    let r = c.reserve_rows.ensures in
+    let n : length c.reserve_rows.new.others.items ≡ length a.others.items = grind (arith, common_steps) in
+    let i = same_columns a.others.items c.reserve_rows.new.others.items n (λ k d h. (let b : k < vec_len a.others = grind (arith, common_steps) in (r.others k d b).0)) in
+    rw (← c.self.view_is, r.keys, r.cells, i) refl

@@ -1,9 +1,10 @@
-use Rattle.std.proofs.Common.{◌<◌, ℕ, sym, subst}
+use Rattle.std.proofs.Common.{◌<◌, ℕ, sym, ap, subst}
 use Rattle.relations.specs.Sets.{In}
 use Rattle.history_store.specs.Log.{Log}
 use Rattle.history_store.specs.Logs.{cells_of}
+use Rattle.history_store.specs.Table.{rows_of}
 use Rattle.history_store.proofs.Rows.{cells_at}
-use Rattle.history_store.proofs.Marks.{found_rows, all_found}
+use Rattle.history_store.proofs.Marks.{ids_found}
 use Rattle.history_store.proofs.value_index.ValueIndex.rows_with.Goals as goal
 
 pub count_under-end-requires-clause-known : goal.count_under-end-requires-clause-known
@@ -29,21 +30,11 @@ count_under-requires-clause-rises c =
 pub over-requires-clause-known : goal.over-requires-clause-known
 over-requires-clause-known c = rw (← c.self.view_is) at c.requires.known
 
-pub returns-clause-only : goal.returns-clause-only
-returns-clause-only c = λ row i.
+pub returns : goal.returns
+returns c =
     let ready = rw (← c.self.view_is) at c.requires.ready in
     let known : (q : ℕ) → In q c.self.inside.index.ids → q < c.index-columns-self.result.ids = λ q i. subst (λ (r : Log). q < r.ids) (sym c.index-columns-self.is) (ready.known q c.index-columns-self.result i) in
     let b = rw c.ids.ensures at c.count_under-end.ensures.before in
     let f = rw c.ids.ensures at c.count_under-end.ensures.after in
-    let j = rw (c.over.ensures, c.min-start.ensures) at i in
-    rw (← c.self.view_is, cells_at c.args.columns.now c.self.inside.column c.index-columns-self.result ready.within c.index-columns-self.is) (found_rows c.index-columns-self.result.cells c.self.inside.index.ids c.args.value.now c.index-columns-self.result.ids c.count_under.result c.count_under-end.result known c.count_under.ensures.before c.count_under.ensures.after b f (cells_of c.args.columns.now) c.count_under-end.ensures.within row j)
-
-pub returns-clause-all : goal.returns-clause-all
-returns-clause-all c = λ q i e.
-    let ready = rw (← c.self.view_is) at c.requires.ready in
-    let known : (q : ℕ) → In q c.self.inside.index.ids → q < c.index-columns-self.result.ids = λ q i. subst (λ (r : Log). q < r.ids) (sym c.index-columns-self.is) (ready.known q c.index-columns-self.result i) in
-    let b = rw c.ids.ensures at c.count_under-end.ensures.before in
-    let f = rw c.ids.ensures at c.count_under-end.ensures.after in
-    let j = rw (← c.self.view_is) at i in
-    let d = rw (← c.self.view_is, cells_at c.args.columns.now c.self.inside.column c.index-columns-self.result ready.within c.index-columns-self.is) at e in
-    rw (c.over.ensures, c.min-start.ensures) (all_found c.index-columns-self.result.cells c.self.inside.index.ids c.args.value.now c.index-columns-self.result.ids c.count_under.result c.count_under-end.result known c.count_under.ensures.before c.count_under.ensures.after b f (cells_of c.args.columns.now) c.count_under-end.ensures.within q j d)
+    rw (← c.self.view_is, cells_at c.args.columns.now c.self.inside.column c.index-columns-self.result ready.within c.index-columns-self.is, c.over.ensures, c.min-start.ensures)
+    (ap (λ ids. rows_of ids (cells_of c.args.columns.now)) (sym (ids_found c.index-columns-self.result.cells c.self.inside.index.ids c.args.value.now c.index-columns-self.result.ids c.count_under.result c.count_under-end.result known c.count_under.ensures.before c.count_under.ensures.after b f c.count_under-end.ensures.within)))
