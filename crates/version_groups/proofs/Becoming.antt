@@ -9,8 +9,8 @@ use Rattle.history_store.specs.Handing.{unpaired, handed, only_in}
 use Rattle.history_store.specs.Change.{Plan, write_row, write_rows, close_all, cells_after, rows_along, changed}
 use Rattle.smo_meaning.specs.Effects.{gained_rows}
 
--- a store that has other room alone
-module _ (s t : Store) (n : ℕ) (e : t ≡ record s { spare = n }) where
+-- a store that has other room and other indexes of columns alone
+module _ (s t : Store) (n : ℕ) (i : List ℕ) (e : t ≡ record s { spare = n; indexed = i }) where
   pub same_relation : (m : ℕ) → relation_at t m ≡ relation_at s m
   unfolding relation_at
   same_relation m = ap (λ (u : Store). relation_at u m) e

@@ -76,7 +76,7 @@ module _ (Has : List ℕ → List Column → Store → Type 0) where
   before_all x [] h = tt
   before_all x (e ∷ es) h = (less (bytes_cmp x e.0) _ h, before_all x es (right (is_lt (bytes_cmp x e.0)) _ h))
 
-  names_rise : (es : List Listed) → T (is_sorted bytes_cmp es) → Ascends bytes_cmp (map (λ (e : Listed). e.0) es)
+  pub names_rise : (es : List Listed) → T (is_sorted bytes_cmp es) → Ascends bytes_cmp (map (λ (e : Listed). e.0) es)
   names_rise [] h = tt
   names_rise (e ∷ es) h = (before_all e.0 es (left (below_all bytes_cmp e.0 es) _ h), names_rise es (right (below_all bytes_cmp e.0 es) _ h))
 

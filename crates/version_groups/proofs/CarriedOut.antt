@@ -16,18 +16,18 @@ use Rattle.smo_meaning.specs.LawfulValues.{BodyHolds}
 use Rattle.smo_types.specs.Commands.{PlainBody, changing, evolving, PlainVersion, version_of}
 use Rattle.smo_meaning.specs.Past.{Past, database_behind, past_with}
 use Rattle.version_groups.specs.declared.made_tables.MadeTable.{MadeTable}
-use Rattle.version_groups.specs.Groups.{Kept, versions_in, newest_places, group_of, newest_group, table_in, stored_as, names_of}
+use Rattle.version_groups.specs.Groups.{Kept, versions_in, group_of, newest_group, table_in, stored_as, names_of}
 use Rattle.version_groups.specs.Places.{at_places, AreWithin}
 use Rattle.version_groups.specs.Showing.{IsInForce, Shows}
-use Rattle.version_groups.specs.Sizes.{AreLiving}
 use Rattle.version_groups.specs.Becoming.{HasRoom, Leads, IsMade}
 use Rattle.version_groups.specs.Changing.{HaveRoom}
-use Rattle.version_groups.specs.Installing.{Stays, StaysEntry, IsAmong, IsMadeBy, HasChanges, HasVersion}
+use Rattle.version_groups.specs.Installing.{Stays, StaysEntry, IsAmong, IsMadeBy, HasChanges, HasVersion, ComeWith}
 use Rattle.version_groups.specs.Steps.{changed, evolved, a_command, AreChanges, IsStep}
 use Rattle.smo_meaning.proofs.PastMoments.{before_or_not}
 use Rattle.version_groups.proofs.Pairs.{Paired, paired}
-use Rattle.version_groups.proofs.SizesChanged.{sizes_follow, living_follows}
-use Rattle.version_groups.proofs.SizesEvolved.{sizes_begin, living_begins}
+use Rattle.version_groups.proofs.SizesChanged.{sizes_follow, stamps_follow}
+use Rattle.version_groups.proofs.SizesEvolved.{sizes_begin, stamps_begin, comes_with}
+use Rattle.version_groups.proofs.Covered.{still_of_lifelines}
 use Rattle.version_groups.proofs.Installed.{made_name, plans_at, ended, shows_changed, shows_evolved}
 
 -- as many versions as the past has
@@ -44,7 +44,8 @@ module _ (kept new : Kept) (past : Past) (shows : Shows kept past) where
       (subst (λ j. length (group_of new j) ≡ length (group_of kept j)) n m.made.count)
       (subst (λ j. AreChanges stamp (database_behind (changing changes) past) (group_of kept j) plans) n ready)
       (subst (λ j. (k : ℕ) (d : MadeTable) → k < length (group_of kept j) → IsMade (get_or (group_of kept j) k d) (get_or plans k None) (get_or (group_of new j) k d)) n m.made.each)
-      (sizes_follow kept new past stamp changes shows lawful accepted plans m ready) (living_follows kept new past stamp changes shows lawful accepted plans m ready)
+      (sizes_follow kept new past stamp changes shows lawful accepted plans m ready) (still_of_lifelines kept new m.versions m.places m.lines shows.lifelines)
+      (stamps_follow kept new past stamp changes shows lawful accepted plans m ready)
 
   pub version_made : (made : Version) (begun : List MadeTable) (places : List ℕ) → HasVersion kept new made begun places → (stamp : ℕ) (body : PlainBody) → stamp < forever
       → command_fault past (a_command stamp body) ≡ None → BodyHolds body → IsStep kept past stamp body (evolved (version_of made) begun places) → Shows new (past_with past (a_command stamp body))
@@ -54,7 +55,8 @@ module _ (kept new : Kept) (past : Past) (shows : Shows kept past) where
       shows_evolved kept past stamp op inverse shows lawful accepted hold new (version_of made) begun places ready
       (ap (map version_of) m.versions ∙ map-append version_of kept.versions (made ∷ [])) (λ k name l. m.tables k name (omega (arith, l, n)))
       (λ name. ap (λ j. table_in new (j + 1) name) (sym n) ∙ m.own name)
-      (sizes_begin kept new past stamp op inverse shows n accepted made begun places m ready) (living_begins kept new past stamp op inverse shows n accepted made begun places m ready)
+      (sizes_begin kept new past stamp op inverse shows n accepted made begun places m ready) m.lifelines
+      (stamps_begin kept new past stamp op inverse shows n accepted made begun places m ready)
 
   -- the tables of earlier versions stay at the moments at which these are in force
   pub changes_leave : (plans : List (Option Plan)) → HasChanges kept new plans → (stamp : ℕ) (body : PlainBody) → stamp < forever → command_fault past (a_command stamp body) ≡ None
@@ -111,17 +113,17 @@ have_room kept past stamp (changing changes) plans h = record {
   each = λ k d l. has_room (get_or (newest_group kept) k d).store stamp (rows_at (get (database_behind (changing changes) past) (get_or (newest_group kept) k d).name)) (get_or plans k None) (h.each k d l);
 }
 
--- the room for a version that is ready, and which tables live
-pub record IsRoomFor (kept : Kept) (begun : List MadeTable) (places : List ℕ) : Type 0 where
-  pub living : AreLiving kept.stored (newest_places kept)
+-- the room for a version that is ready, and the tables that come with it
+pub record IsRoomFor (kept : Kept) (made : Version) (begun : List MadeTable) (places : List ℕ) : Type 0 where
+  pub come : ComeWith kept made begun places
   pub there : AreWithin places (length kept.stored + length begun)
   pub ordered : Ascends bytes_cmp (names_of (at_places (kept.stored ++ begun) places))
   pub room : 1 ≤ kept.spare
   pub beginnings : length begun ≤ kept.beginnings
   pub fits : length kept.versions + 1 < 2 ^ 32
 
-pub is_room : (kept : Kept) (past : Past) → Shows kept past → (stamp : ℕ) (body : PlainBody) (made : PlainVersion) (begun : List MadeTable) (places : List ℕ) → IsStep kept past stamp body (evolved made begun places)
-    → IsRoomFor kept begun places
-is_room kept past shows stamp (changing changes) made begun places h = absurd h
-is_room kept past shows stamp (evolving op inverse) made begun places h =
-    record { living = shows.living; there = h.there; ordered = h.ordered; room = h.room; beginnings = h.beginnings; fits = h.fits }
+pub is_room : (kept : Kept) (past : Past) → Shows kept past → (stamp : ℕ) (body : PlainBody) → command_fault past (a_command stamp body) ≡ None → (made : Version) (begun : List MadeTable) (places : List ℕ)
+    → IsStep kept past stamp body (evolved (version_of made) begun places) → IsRoomFor kept made begun places
+is_room kept past shows stamp (changing changes) accepted made begun places h = absurd h
+is_room kept past shows stamp (evolving op inverse) accepted made begun places h =
+    record { come = comes_with kept past stamp op inverse shows (as_many kept past shows) accepted made begun places h; there = h.there; ordered = h.ordered; room = h.room; beginnings = h.beginnings; fits = h.fits }

@@ -1,27 +1,35 @@
 -- The stored tables of a version among those of all.
-use Rattle.std.proofs.Common.{◌≡◌, ◌≤◌, ◌<◌, ◌+◌, ℕ, suc, zero, Bool, List, [], ◌∷◌, ◌++◌, map, length, take, drop, get_or, refl, sym, ap, subst, ◌∙◌, arith, length-append}
+use Rattle.std.proofs.Common.{◌≡◌, ◌≤◌, ◌<◌, ◌+◌, ℕ, suc, zero, Bool, List, [], ◌∷◌, ◌++◌, map, length, take, drop, get_or, refl, sym, ap, subst, ◌∙◌, arith, length-append, inl, inr}
 use Rattle.std.specs.Global.{Vec}
-use Rattle.std.specs.Prelude.{Option, Some, None, ◌^◌, vec_len}
-use Rattle.std.proofs.lemmas.List.{length-map, get_or-map}
+use Rattle.std.specs.Prelude.{Option, Some, None, ◌^◌, vec_len, slice_get}
+use Rattle.std.proofs.lemmas.List.{length-map, get_or-map, map-append}
+use Rattle.std.proofs.lemmas.Option.{slice_get_within, get_or_from_slice_get}
 use Rattle.relations.specs.Sets.{In, Ascends}
+use Rattle.prima_base.specs.Columns.{Column}
 use Rattle.prima_base.specs.Order.{bytes_cmp}
+use Rattle.history_store.specs.Store.{Store}
 use Rattle.history_store.specs.Change.{Plan}
 use Rattle.schema_catalog.specs.Tables.{Tables}
 use Rattle.smo_types.specs.Operators.{Operator, operator_of}
-use Rattle.smo_meaning.specs.Past.{no_tables}
+use Rattle.smo_types.specs.Commands.{version_of}
+use Rattle.smo_meaning.specs.Past.{no_tables, newest_from}
 use Rattle.smo_meaning.specs.Touching.{consumes}
 use Rattle.smo_types.specs.declared.versions.Version.{Version}
 use Rattle.version_groups.specs.declared.made_tables.MadeTable.{MadeTable}
 use Rattle.version_groups.specs.declared.groups.Groups.TheInside.{Inside}
-use Rattle.version_groups.specs.Groups.{newest_places, group_of, newest_group, stored_as, names_of}
+use Rattle.version_groups.specs.Covering.{line_of, AreCovered, AreOfLifelines}
+use Rattle.version_groups.specs.Groups.{versions_in, newest_places, group_of, newest_group, stored_as, names_of}
+use Rattle.version_groups.specs.Lifelines.{Lifeline, line_behind, made_tables, lifelines_behind, lifelines_of}
 use Rattle.version_groups.specs.GroupFields.{all_places, items_of, AllInOrder, AllWithin, groups_view, AreGroups}
 use Rattle.version_groups.specs.Places.{at_places, AreWithin}
 use Rattle.version_groups.specs.Becoming.{IsMade}
 use Rattle.version_groups.specs.Changing.{AreMade}
-use Rattle.version_groups.specs.Installing.{IsMadeBy, AreMadeBy, HasChanges, table_behind, HasVersion}
+use Rattle.version_groups.specs.Installing.{IsMadeBy, AreMadeBy, HasChanges, table_behind, HasVersion, ComeWith}
 use Rattle.version_groups.specs.Room.{AreSameTables, IsSame}
 use Rattle.version_groups.proofs.LifelinesEnded.{names_with, stored_still, stored_with, written_back}
+use Rattle.version_groups.proofs.NamedPlaces.{one_by_name}
 use Rattle.version_groups.proofs.Places.{places_within, AreAlike, alike_at, at_more}
+use Rattle.version_groups.proofs.Covered.{a_line, lines_ended, lifelines_with, lines_fresh, table_at, covered_with, still_of_lifelines}
 
 last_places : (earlier : List (Vec ℕ)) (newest : List ℕ) → get_or (all_places (items_of earlier) newest) (length earlier) [] ≡ newest
 last_places [] newest = refl
@@ -117,6 +125,39 @@ all_still_ordered : (old new : List MadeTable) (groups : List (List ℕ)) → Ke
 all_still_ordered old new [] h o = tt
 all_still_ordered old new (g ∷ groups) h o = (still_ordered old new g h o.0, all_still_ordered old new groups h o.1)
 
+-- ---- and of the same lifelines and columns
+
+lines_same : (old new : List MadeTable) → AreAlike (λ t u. line_of u ≡ line_of t) old new → map line_of new ≡ map line_of old
+lines_same [] [] h = refl
+lines_same [] (u ∷ new) h = absurd (let e = h.count in omega (arith, e))
+lines_same (t ∷ old) [] h = absurd (let e = h.count in omega (arith, e))
+lines_same (t ∷ old) (u ∷ new) h =
+    ap (λ (l : Lifeline). l ∷ map line_of new) (h.each 0 t (omega arith))
+    ∙ ap (λ (ls : List Lifeline). line_of t ∷ ls) (lines_same old new (record { count = (let e = h.count in omega (arith, e)); each = λ k d l. h.each (suc k) d (omega (arith, l)) }))
+
+line_same : (t u : MadeTable) → u.name ≡ t.name → u.first ≡ t.first → u.last ≡ t.last → u.store.columns ≡ t.store.columns → line_of u ≡ line_of t
+line_same t u name first last columns =
+    ap (λ (n : List ℕ). a_line n u.first u.last u.store.columns) name
+    ∙ ap (λ (n : ℕ). a_line t.name n u.last u.store.columns) first
+    ∙ ap (λ (o : Option ℕ). a_line t.name t.first o u.store.columns) last
+    ∙ ap (λ (cs : List Column). a_line t.name t.first t.last cs) columns
+
+pub lines_kept : (old new : List MadeTable) → AreSameTables old new → map line_of new ≡ map line_of old
+lines_kept old new h = lines_same old new (record {
+  count = h.count;
+  each = λ k d l. let s = h.each k d l in line_same (get_or old k d) (get_or new k d) s.name s.first s.last (ap (λ (x : Store). x.columns) s.store);
+})
+
+made_line : (t : MadeTable) (p : Option Plan) (u : MadeTable) → IsMade t p u → line_of u ≡ line_of t
+made_line t None u e = ap line_of e
+made_line t (Some plan) u h = line_same t u h.name h.first h.last h.becomes.columns
+
+pub lines_made : (plans : List (Option Plan)) (old new : List MadeTable) → AreMadeBy plans old new → map line_of new ≡ map line_of old
+lines_made plans old new h = lines_same old new (record {
+  count = h.count;
+  each = λ k d l. let m = h.each k d l in made_line (get_or old k d) m.plan (get_or new k d) m.made;
+})
+
 -- ---- groups whose tables are others
 
 module _ (a b : Inside) (versions : b.versions.list.items ≡ a.versions.list.items) (earlier : b.earlier.items ≡ a.earlier.items) (newest : b.newest.items ≡ a.newest.items) where
@@ -126,8 +167,8 @@ module _ (a b : Inside) (versions : b.versions.list.items ≡ a.versions.list.it
   pub view_same : AreSameTables a.stored.items b.stored.items → (groups_view a).spare ≤ (groups_view b).spare → (groups_view a).beginnings ≤ (groups_view b).beginnings → IsSame (groups_view a) (groups_view b)
   view_same tables spare beginnings = record { versions = versions; places = same_places; stored = tables; spare = spare; beginnings = beginnings }
 
-  pub are_groups : AreGroups a → b.nothing ≡ a.nothing → KeepNames a.stored.items b.stored.items → AreGroups b
-  are_groups h nothing names =
+  pub are_groups : AreGroups a → b.nothing ≡ a.nothing → KeepNames a.stored.items b.stored.items → map line_of b.stored.items ≡ map line_of a.stored.items → AreGroups b
+  are_groups h nothing names lines =
       let n = length b.stored.items in
       let m = length a.stored.items in
       let count = names.count in
@@ -140,6 +181,7 @@ module _ (a b : Inside) (versions : b.versions.list.items ≡ a.versions.list.it
         newest_there = subst (λ (e : List ℕ). AreWithin e n) (sym newest) (places_within a.newest.items m n low h.newest_there);
         earlier = subst (λ (e : List (Vec ℕ)). AllInOrder b.stored.items (items_of e)) (sym earlier) (all_still_ordered a.stored.items b.stored.items (items_of a.earlier.items) names h.earlier);
         newest = subst (λ (e : List ℕ). Ascends bytes_cmp (names_of (at_places b.stored.items e))) (sym newest) (still_ordered a.stored.items b.stored.items a.newest.items names h.newest);
+        lifelines = still_of_lifelines (groups_view a) (groups_view b) versions same_places lines h.lifelines;
       }
 
   pub has_changes : AreGroups a → (plans : List (Option Plan)) → AreMade (at_places a.stored.items a.newest.items) plans (at_places b.stored.items a.newest.items) → AreMadeBy plans a.stored.items b.stored.items
@@ -150,6 +192,7 @@ module _ (a b : Inside) (versions : b.versions.list.items ≡ a.versions.list.it
     there = subst (λ ps. AreWithin ps (length a.stored.items)) (sym own_places) h.newest_there;
     ordered = subst (λ (g : List MadeTable). Ascends bytes_cmp (names_of g)) (sym (newest_is a h)) h.newest;
     stored = by.count;
+    lines = lines_made plans a.stored.items b.stored.items by;
     others = λ p d n. others p d (λ i. n (subst (In p) (sym own_places) i));
     groups = λ k l.
         let own = alike_at (IsMadeBy plans) a.stored.items b.stored.items (record { count = by.count; each = by.each }) (get_or (groups_view a).places k []) in
@@ -238,8 +281,78 @@ module _ (a b : Inside) (version : Version) (g : Vec ℕ) (begun : List MadeTabl
       ∙ ap (λ j. get_or (all_places (items_of (a.earlier.items ++ g ∷ [])) b.newest.items) j []) (let count = h.count in let e : number + 1 ≡ suc (length a.earlier.items) = omega (arith, count) in e)
       ∙ new_places a.earlier.items g b.newest.items
 
-  pub has_version : HasVersion (groups_view a) (groups_view b) version begun b.newest.items
-  has_version = record {
+  -- a place of a version is one of those that are stored
+  place_there : (places : List ℕ) (m p : ℕ) → AreWithin places m → In p places → p < m
+  place_there [] m p w i = absurd i
+  place_there (q ∷ places) m p w (inl e) = (let l = w.0 in omega (arith, l, e))
+  place_there (q ∷ places) m p w (inr i) = place_there places m p w.1 i
+
+  module _ (come : ComeWith (groups_view a) version begun b.newest.items) (there : AreWithin b.newest.items (length a.stored.items + length begun))
+      (ordered : Ascends bytes_cmp (names_of (at_places (a.stored.items ++ begun) b.newest.items))) where
+    abbrev before_it : Tables
+    before_it = newest_from no_tables (versions_in (groups_view a))
+
+    abbrev its : Operator
+    its = operator_of version.op
+
+    abbrev all : List MadeTable
+    all = map (table_behind (consumes before_it its) number) a.stored.items ++ begun
+
+    abbrev old_lines : List Lifeline
+    old_lines = map line_of a.stored.items
+
+    all_is : b.stored.items ≡ all
+    all_is = stored before_it
+
+    lines_are : map line_of all ≡ map (line_behind (consumes before_it its) number) old_lines ++ map line_of begun
+    lines_are = map-append line_of (map (table_behind (consumes before_it its) number) a.stored.items) begun
+        ∙ ap (λ (ls : List Lifeline). ls ++ map line_of begun) (lines_ended (consumes before_it its) number a.stored.items)
+
+    versions_are : versions_in (groups_view b) ≡ versions_in (groups_view a) ++ version_of version ∷ []
+    versions_are = ap (map version_of) versions ∙ map-append version_of a.versions.list.items (version ∷ [])
+
+    fresh : (q : ℕ) (l : Lifeline) → slice_get (map line_of begun) q ≡ Some l → (l.first ≡ number + 1) × (l.last ≡ None)
+    fresh q l e = lines_fresh (number + 1) (made_tables before_it its version.schema) q l (ap (λ (ls : List Lifeline). slice_get ls q) (sym come.lines) ∙ e)
+
+    at_line : (p : ℕ) (l : Lifeline) → slice_get (map line_of all) p ≡ Some l → (t : MadeTable) × (p < length all) × (get_or all p t ≡ t) × (line_of t ≡ l)
+    at_line p l e = (let t = table_at all p l e in (t.0, slice_get_within all p t.0 t.1, get_or_from_slice_get all p t.0 t.0 t.1, t.2))
+
+    new_living : (p : ℕ) (l : Lifeline) → slice_get (map line_of all) p ≡ Some l → In p b.newest.items → l.last ≡ None
+    new_living p l e i = (let t = at_line p l e in ap (λ (x : Lifeline). x.last) (sym t.3) ∙ ap (λ (x : MadeTable). x.last) (sym t.2) ∙ come.living.living p t.0 t.1 i)
+
+    new_among : (p : ℕ) (l : Lifeline) → slice_get (map line_of all) p ≡ Some l → l.last ≡ None → In p b.newest.items
+    new_among p l e i = (let t = at_line p l e in come.living.among p t.0 t.1 (ap (λ (x : MadeTable). x.last) t.2 ∙ ap (λ (x : Lifeline). x.last) t.3 ∙ i))
+
+    long : length all ≡ length a.stored.items + length begun
+    long = length-append (map (table_behind (consumes before_it its) number) a.stored.items) begun ∙ ap (λ j. j + length begun) (length-map a.stored.items (table_behind (consumes before_it its) number))
+
+    new_apart : (p q : ℕ) (l m : Lifeline) → slice_get (map line_of all) p ≡ Some l → slice_get (map line_of all) q ≡ Some m → In p b.newest.items → In q b.newest.items → l.table ≡ m.table → p ≡ q
+    unfolding at_line
+    new_apart p q l m e f i j s =
+        let t = at_line p l e in
+        let u = at_line q m f in
+        let second : get_or all q t.0 ≡ u.0 = get_or_from_slice_get all q u.0 t.0 (table_at all q m f).1 in
+        one_by_name all b.newest.items (subst (AreWithin b.newest.items) (sym long) there)
+        (subst (Ascends bytes_cmp) (sym (names_with (consumes before_it its) number a.stored.items begun b.newest.items)) ordered) p q t.0 i j
+        (ap (λ (x : MadeTable). x.name) t.2 ∙ ap (λ (x : Lifeline). x.table) t.3 ∙ s ∙ ap (λ (x : Lifeline). x.table) (sym u.3) ∙ ap (λ (x : MadeTable). x.name) (sym second))
+
+    pub lifelines_are : AreOfLifelines (groups_view b)
+    lifelines_are = record {
+      lines = ap (map line_of) all_is ∙ lines_are
+          ∙ ap (λ (ls : List Lifeline). map (line_behind (consumes before_it its) number) ls ++ map line_of begun) h.lifelines.lines
+          ∙ ap (λ (ls : List Lifeline). map (line_behind (consumes before_it its) number) (lifelines_of (versions_in (groups_view a))) ++ ls) come.lines
+          ∙ ap (λ j. lifelines_behind before_it j (lifelines_of (versions_in (groups_view a))) (version_of version)) (sym (length-map a.versions.list.items version_of))
+          ∙ sym (lifelines_with (versions_in (groups_view a)) (version_of version))
+          ∙ ap lifelines_of (sym versions_are);
+      places = subst (λ (ts : List MadeTable). AreCovered (map line_of ts) (length b.versions.list.items) (groups_view b).places) (sym all_is)
+          (subst (λ j. AreCovered (map line_of all) j (groups_view b).places) (sym (ap length versions ∙ length-append a.versions.list.items (version ∷ [])))
+          (covered_with (consumes before_it its) number old_lines (map line_of begun) (map line_of all) (groups_view a).places (groups_view b).places h.lifelines.places fresh lines_are
+          (λ k p i. subst (λ j. p < j) (sym (length-map a.stored.items line_of)) (place_there (get_or (groups_view a).places k []) (length a.stored.items) p (group_within a h k) i))
+          kept_places b.newest.items own_places new_living new_among new_apart));
+    }
+
+  pub has_version : AreOfLifelines (groups_view b) → HasVersion (groups_view a) (groups_view b) version begun b.newest.items
+  has_version lifelines = record {
     versions = versions;
     newest = ap (λ j. get_or (groups_view b).places j []) (ap length versions ∙ length-append a.versions.list.items (version ∷ [])) ∙ own_places;
     stored = stored;
@@ -252,11 +365,12 @@ module _ (a b : Inside) (version : Version) (g : Vec ℕ) (begun : List MadeTabl
         ap (λ (ts : List MadeTable). stored_as name (at_places ts (get_or (groups_view b).places (number + 1) []))) (stored no_tables)
         ∙ ap (λ ps. stored_as name (at_places (ended ++ begun) ps)) own_places
         ∙ stored_with consumed number name a.stored.items begun b.newest.items;
+    lifelines = lifelines;
   }
 
   pub are_groups_with : b.nothing ≡ a.nothing → length a.versions.list.items + 1 < 2 ^ 32 → AreWithin b.newest.items (length a.stored.items + length begun)
-      → Ascends bytes_cmp (names_of (at_places (a.stored.items ++ begun) b.newest.items)) → AreGroups b
-  are_groups_with nothing few there ordered =
+      → Ascends bytes_cmp (names_of (at_places (a.stored.items ++ begun) b.newest.items)) → AreOfLifelines (groups_view b) → AreGroups b
+  are_groups_with nothing few there ordered lifelines =
       let n = length b.stored.items in
       let long : n ≡ length a.stored.items + length begun = ap length (stored no_tables) ∙ length-append ended begun ∙ ap (λ m. m + length begun) as_many in
       let low : length a.stored.items ≤ n = omega (arith, long) in
@@ -278,4 +392,5 @@ module _ (a b : Inside) (version : Version) (g : Vec ℕ) (begun : List MadeTabl
             (still_ordered a.stored.items ended a.newest.items names h.newest)))));
         newest = subst (λ (ts : List MadeTable). Ascends bytes_cmp (names_of (at_places ts b.newest.items))) (sym (stored no_tables))
             (subst (Ascends bytes_cmp) (sym (names_with consumed number a.stored.items begun b.newest.items)) ordered);
+        lifelines = lifelines;
       }

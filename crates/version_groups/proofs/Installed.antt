@@ -22,9 +22,10 @@ use Rattle.smo_meaning.proofs.PastLaws.{newest_holds, up_to_later}
 use Rattle.smo_meaning.proofs.ValueLaws.{past_stays}
 use Rattle.smo_meaning.proofs.PastSteps.{counts_accepted, stamp_accepted, later_stamp, body_accepted, stays_lawful, before_command, from_command}
 use Rattle.version_groups.specs.declared.made_tables.MadeTable.{MadeTable}
-use Rattle.version_groups.specs.Groups.{Kept, versions_in, newest_places, group_of, table_in, stored_as}
-use Rattle.version_groups.specs.Sizes.{HaveSizes, AreLiving}
-use Rattle.version_groups.specs.Showing.{IsInForce, ShowsTable, ShowsEntry, Shows}
+use Rattle.version_groups.specs.Groups.{Kept, versions_in, group_of, table_in, stored_as}
+use Rattle.version_groups.specs.Covering.{AreOfLifelines}
+use Rattle.version_groups.specs.Sizes.{HaveSizes}
+use Rattle.version_groups.specs.Showing.{AreUpTo, IsInForce, ShowsTable, ShowsEntry, Shows}
 use Rattle.version_groups.specs.Becoming.{Becomes, Begins, Leads, IsMade}
 use Rattle.version_groups.specs.Installing.{IsAmong, IsMadeBy, AreMadeBy}
 use Rattle.version_groups.specs.Places.{at_places}
@@ -222,8 +223,8 @@ module _ (kept : Kept) (past : Past) (stamp : ℕ) (changes : List PlainChange) 
       → length (group_of new (length past.versions)) ≡ length (group_of kept (length past.versions))
       → AreChanges stamp (database_behind (changing changes) past) (group_of kept (length past.versions)) plans
       → ((k : ℕ) (d : MadeTable) → k < length (group_of kept (length past.versions)) → IsMade (get_or (group_of kept (length past.versions)) k d) (get_or plans k None) (get_or (group_of new (length past.versions)) k d))
-      → HaveSizes behind.sizes new.stored → AreLiving new.stored (newest_places new) → Shows new behind
-  shows_changed hold new plans versions groups count ready made sizes living = record {
+      → HaveSizes behind.sizes new.stored → AreOfLifelines new → AreUpTo behind.last new.stored → Shows new behind
+  shows_changed hold new plans versions groups count ready made sizes lifelines stamps = record {
     lawful = next_is_lawful kept past stamp (changing changes) shows lawful accepted;
     values = next_holds kept past stamp (changing changes) shows lawful accepted hold;
     ends = lawful;
@@ -233,7 +234,8 @@ module _ (kept : Kept) (past : Past) (stamp : ℕ) (changes : List PlainChange) 
       | inr e ↦ earlier k e name (paired (IsMadeBy plans) names name (group_of kept k) (group_of new k) (groups k e).count (groups k e).each) (shows.tables k name (omega (arith, e)))
     ];
     sizes = sizes;
-    living = living;
+    lifelines = lifelines;
+    stamps = stamps;
   }
     where
       n : ℕ
@@ -345,15 +347,16 @@ module _ (kept : Kept) (past : Past) (stamp : ℕ) (op : Operator) (inverse : Li
       → IsNextVersion kept (newest_tables past) version (database_behind (evolving op inverse) past) made begun places
       → versions_in new ≡ versions_in kept ++ made ∷ [] → ((k : ℕ) (name : List ℕ) → k ≤ length past.versions → table_in new k name ≡ table_in kept k name)
       → ((name : List ℕ) → table_in new (length past.versions + 1) name ≡ stored_as name (at_places (kept.stored ++ begun) places))
-      → HaveSizes evolved.sizes new.stored → AreLiving new.stored (newest_places new) → Shows new evolved
-  shows_evolved hold new made begun places is versions tables own sizes living = record {
+      → HaveSizes evolved.sizes new.stored → AreOfLifelines new → AreUpTo evolved.last new.stored → Shows new evolved
+  shows_evolved hold new made begun places is versions tables own sizes lifelines stamps = record {
     lawful = is_past;
     values = next_holds kept past stamp (evolving op inverse) shows lawful accepted hold;
     ends = lawful;
     versions = versions ∙ ap (λ (vs : List PlainVersion). vs ++ made ∷ []) shows.versions ∙ ap (λ (v : PlainVersion). past.versions ++ v ∷ []) is.version;
     tables = λ k name l. each k name (before_or_not n k) (subst (λ j. k ≤ j) one_more l);
     sizes = sizes;
-    living = living;
+    lifelines = lifelines;
+    stamps = stamps;
   }
     where
       n : ℕ

@@ -1,6 +1,7 @@
 pub mod Places
 pub mod NamedPlaces
 pub mod LifelinesEnded
+pub mod Covered
 pub mod RowsWritten
 pub mod SizesChanged
 pub mod SizeLines
@@ -19,11 +20,15 @@ pub mod GivenTables
 pub mod NextTables
 pub mod BegunTables
 pub mod PlacedTables
+pub mod LongestRuns
+pub mod EachLifeline
+pub mod FewLifelines
 pub mod LifelinesBehind
 pub mod SizesEvolved
 pub mod RestoredTables
 pub mod RestoredVersions
 pub mod RestoredGroups
+pub mod RestoredPasts
 pub mod LifelinesNamed
 pub mod TablesInTurn
 pub mod VersionsKept

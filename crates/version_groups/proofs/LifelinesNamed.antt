@@ -12,7 +12,7 @@ use Rattle.smo_meaning.specs.Touching.{consumes}
 use Rattle.version_groups.specs.Installing.{last_behind}
 use Rattle.version_groups.specs.Lifelines.{Lifeline, line_behind, line_begun, made_tables, lifelines_behind, lifelines_of, Named, size_named, line_named, NamesLifelines}
 use Rattle.version_groups.proofs.RestoredTables.{Listed}
-use Rattle.version_groups.proofs.RestoredVersions.{lifelines_with}
+use Rattle.version_groups.proofs.Covered.{lifelines_with}
 
 -- ---- behind changes
 

@@ -145,9 +145,9 @@ module _ (before : Tables) (op : Operator) (database : Database) (stamp : ℕ) (
       -- so what begins and goes on by names and rows that were made is what the operator makes and carries
       pub next_evolved : (places : List ℕ) (version : ℕ) (own : List MadeTable) (begun : List MadeTable) (next_places : List ℕ) → AreNext own places version stamp (is_made it) (next_rows it stamp made) after begun next_places → AreNext own places version stamp (makes before op) (λ name. rows_at (get next name)) after begun next_places
       next_evolved places version own begun next_places h = record {
-        begin = begin_alike version (λ name. rows_at (get next name)) (next_rows it stamp made) (filter (λ (e : List ℕ × List Column). makes before op e.0) (entries after)) begun
+        begin = begin_alike version stamp (λ name. rows_at (get next name)) (next_rows it stamp made) (filter (λ (e : List ℕ × List Column). makes before op e.0) (entries after)) begun
             (λ e i. next_is e.0 e.1 (ap (λ (t : Tables). get t e.0) (sym is) ∙ listed_in after e (from_filter (λ (x : List ℕ × List Column). makes before op x.0) e (entries after) i).0))
-            (subst (λ (es : List (List ℕ × List Column)). BeginInOrder (BeginsWith version (next_rows it stamp made)) es begun)
+            (subst (λ (es : List (List ℕ × List Column)). BeginInOrder (BeginsWith version stamp (next_rows it stamp made)) es begun)
             (filter_alike (λ (x : List ℕ × List Column). is_made it x.0) (λ (x : List ℕ × List Column). makes before op x.0) (entries after) (λ x. made_is x.0)) h.begin);
         placed = placed_alike own begun places (is_made it) (makes before op) after next_places made_is h.placed;
         there = h.there;

@@ -59,7 +59,7 @@ pub listed_in : (tables : Tables) (e : Listed) → In e (entries tables) → get
 listed_in tables e i = (let h = place_of (entries tables) e i in listed_there (λ name columns store. ⊤) tables h.0 e h.1)
 
 -- a table that is found in a list has its name there
-found_among : (name : List ℕ) (listed : List Listed) → is_some (find bytes_cmp name listed) ≡ true → In name (map (λ (e : Listed). e.0) listed)
+pub found_among : (name : List ℕ) (listed : List Listed) → is_some (find bytes_cmp name listed) ≡ true → In name (map (λ (e : Listed). e.0) listed)
 found_among name [] h = absurd (cc)
 found_among name (e ∷ listed) h = step (found_among name listed) (same name e.0) refl h
   where
@@ -87,27 +87,29 @@ module _ (Is : Listed → MadeTable → Type 0) where
     ];
   }
 
-module _ (version : ℕ) (rows : List ℕ → Relation) where
+module _ (version stamp : ℕ) (rows : List ℕ → Relation) where
   -- rows count only under the name
-  begins_under : (other : List ℕ → Relation) (made : Listed) (t : MadeTable) → other made.0 ≡ rows made.0 → BeginsWith version other made t → BeginsWith version rows made t
+  begins_under : (other : List ℕ → Relation) (made : Listed) (t : MadeTable) → other made.0 ≡ rows made.0 → BeginsWith version stamp other made t → BeginsWith version stamp rows made t
   begins_under other made t e h = record {
     name = h.name;
     first = h.first;
     last = h.last;
+    columns = h.columns;
     keys = h.keys ∙ ap length e;
     count = h.count;
     written = λ f k l. h.written f k l ∙ ap (written f k []) e;
+    later = h.later;
   }
 
-  pub comes_under : (b : Bool) (stored old new : List MadeTable) (before : List ℕ) (place : ℕ) (made : Listed) → Comes b stored old new before place made.0 (BeginsWith version (λ name. rows made.0) made)
-      → Comes b stored old new before place made.0 (BeginsWith version rows made)
+  pub comes_under : (b : Bool) (stored old new : List MadeTable) (before : List ℕ) (place : ℕ) (made : Listed) → Comes b stored old new before place made.0 (BeginsWith version stamp (λ name. rows made.0) made)
+      → Comes b stored old new before place made.0 (BeginsWith version stamp rows made)
   comes_under true stored old new before place made c =
       record { table = c.table; grown = c.grown; last = c.last; begins = begins_under (λ name. rows made.0) made c.table refl c.begins }
   comes_under false stored old new before place made c = c
 
   -- for the tables that begin the same rows
-  pub begin_alike : (other : List ℕ → Relation) (made : List Listed) (begun : List MadeTable) → ((e : Listed) → In e made → other e.0 ≡ rows e.0) → BeginInOrder (BeginsWith version other) made begun
-      → BeginInOrder (BeginsWith version rows) made begun
+  pub begin_alike : (other : List ℕ → Relation) (made : List Listed) (begun : List MadeTable) → ((e : Listed) → In e made → other e.0 ≡ rows e.0) → BeginInOrder (BeginsWith version stamp other) made begun
+      → BeginInOrder (BeginsWith version stamp rows) made begun
   begin_alike other made begun h b = record { count = b.count; each = λ k d e l. begins_under other (get_or made k d) (get_or begun k e) (h (get_or made k d) (in_at made k d l)) (b.each k d e l) }
 
 -- ---- begin and go on

@@ -124,7 +124,7 @@ same_again t u v a b = record {
   name = b.name ∙ a.name;
   first = b.first ∙ a.first;
   last = b.last ∙ a.last;
-  store = b.store ∙ ap (λ (s : Store). record s { spare = v.store.spare }) a.store;
+  store = b.store ∙ ap (λ (s : Store). record s { spare = v.store.spare; indexed = v.store.indexed }) a.store;
   spare = (let x = a.spare in let y = b.spare in omega (arith, x, y));
 }
 

@@ -4,12 +4,12 @@ use Rattle.std.specs.Prelude.{Option, Some, None, nat_lt, Result, Ok, Err, OnOk}
 use Rattle.std.specs.Result.{result_err}
 use Rattle.std.specs.Option.{option_map}
 use Rattle.std.specs.FinMap.{get, get-empty}
-use Rattle.relations.specs.Sets.{In, Ascends}
+use Rattle.relations.specs.Sets.{Ascends}
 use Rattle.relations.specs.Spans.{forever}
 use Rattle.prima_base.specs.Order.{bytes_cmp}
 use Rattle.prima_base.specs.Columns.{Column}
 use Rattle.schema_catalog.specs.Tables.{Tables}
-use Rattle.history_store.specs.Store.{Store}
+use Rattle.history_store.specs.Store.{Store, AllBefore}
 use Rattle.history_store.specs.Change.{Plan}
 use Rattle.smo_types.specs.declared.commands.Body.{Body}
 use Rattle.smo_types.specs.declared.versions.Version.{Version}
@@ -17,6 +17,7 @@ use Rattle.smo_meaning.specs.Accepts.{command_fault, count_fault, stamp_fault, r
 use Rattle.smo_meaning.specs.After.{op_fault, HasFewNodes}
 use Rattle.smo_meaning.specs.Counts.{first_excess}
 use Rattle.smo_meaning.specs.First.{unless, first_refusal}
+use Rattle.smo_meaning.specs.LawfulPast.{IsLater}
 use Rattle.smo_meaning.specs.LawfulValues.{BodyHolds}
 use Rattle.smo_meaning.specs.Inverses.{inverse_tests}
 use Rattle.prima_base.specs.declared.refusals.What.{What}
@@ -34,8 +35,10 @@ use Rattle.smo_meaning.proofs.PastSteps.{beginning_is_past, body_accepted}
 use Rattle.smo_meaning.proofs.ValueLaws.{beginning_holds}
 use Rattle.version_groups.specs.declared.made_tables.MadeTable.{MadeTable}
 use Rattle.version_groups.specs.Sizes.{HasSize, AreWritten}
+use Rattle.version_groups.specs.Covering.{line_of, AreCovered}
+use Rattle.version_groups.specs.Lifelines.{lifelines_of}
 use Rattle.version_groups.specs.Groups.{Kept, newest_places, group_of, newest_group, table_in, stored_as, names_of}
-use Rattle.version_groups.specs.Showing.{ShowsTable, ShowsEntry, Shows}
+use Rattle.version_groups.specs.Showing.{ShowsTable, ShowsEntry, AreUpTo, Shows}
 use Rattle.version_groups.specs.Room.{IsSameTable, AreSameTables, IsSame}
 use Rattle.version_groups.specs.Changing.{AreChangeable, AreReady, all_gained, all_lost}
 use Rattle.version_groups.specs.Evolving.{IsEvolved}
@@ -43,6 +46,8 @@ use Rattle.version_groups.specs.Standing.{AreStored}
 use Rattle.version_groups.specs.Steps.{a_command, step_of, changed, evolved, AreChanges, IsStep, Readied, Prepares}
 use Rattle.version_groups.proofs.Becoming.{same_relation, same_before, same_columns}
 use Rattle.version_groups.proofs.CarriedOut.{as_many}
+use Rattle.version_groups.proofs.Covered.{still_of_lifelines}
+use Rattle.version_groups.proofs.GroupPlaces.{lines_kept}
 use Rattle.version_groups.proofs.Installed.{entry_follows}
 use Rattle.version_groups.proofs.Newest.{stands, changeable, are_changes, counts}
 use Rattle.version_groups.proofs.Pairs.{Paired, paired}
@@ -67,9 +72,16 @@ new_shows kept versions places stored = record {
       subst (λ (o : Option (List Column)). ShowsEntry beginning k name o (table_in kept k name)) (sym (get-empty bytes_cmp name))
       (subst (λ (s : Option Store). ShowsEntry beginning k name None s) (sym (none_stored k name kept.stored kept.places places)) tt);
   sizes = record { count = ap length stored; each = λ k s t l. absurd (omega (arith, l)) };
-  living = record {
-    living = λ p t l i. (let n = ap length stored in absurd (omega (arith, l, n)));
-    among = λ p t l e. (let n = ap length stored in absurd (omega (arith, l, n)));
+  stamps = subst (λ (ts : List MadeTable). AreUpTo None ts) (sym stored) (λ p t m l later. absurd (omega (arith, l)));
+  lifelines = record {
+    lines = ap (map line_of) stored ∙ sym (ap (λ (vs : List Version). lifelines_of (map version_of vs)) versions);
+    places = subst (λ (ts : List MadeTable). AreCovered (map line_of ts) (length kept.versions) kept.places) (sym stored) (record {
+      begun = λ p l e. absurd (cc);
+      ended = λ p l last e i. absurd (cc);
+      there = λ k p l n e c. absurd (cc);
+      covered = λ k p l n e i. absurd (cc);
+      one = λ k p q l m n e f s c d. absurd (cc);
+    });
   };
 }
 
@@ -78,10 +90,11 @@ new_shows kept versions places stored = record {
 still_shown : (past : Past) (k : ℕ) (name : List ℕ) (t u : MadeTable) → IsSameTable t u → (columns : List Column) → ShowsTable past k name columns t.store → ShowsTable past k name columns u.store
 still_shown past k name t u same columns h =
     let n : ℕ = u.store.spare in
+    let i : List ℕ = u.store.indexed in
     record {
-      columns = same_columns t.store u.store n same.store ∙ h.columns;
-      shown = λ m own. same_relation t.store u.store n same.store m ∙ h.shown m own;
-      stamps = λ m own l. same_before t.store u.store n same.store m (h.stamps m own l);
+      columns = same_columns t.store u.store n i same.store ∙ h.columns;
+      shown = λ m own. same_relation t.store u.store n i same.store m ∙ h.shown m own;
+      stamps = λ m own l. same_before t.store u.store n i same.store m (h.stamps m own l);
     }
 
 pub same_groups : (old new : Kept) → IsSame old new → (k : ℕ) → AreSameTables (group_of old k) (group_of new k)
@@ -102,17 +115,14 @@ shows_same old new same past shows = record {
     count = same.stored.count ∙ shows.sizes.count;
     each = λ k s t l. size (get_or past.sizes k s) (get_or old.stored k t) (get_or new.stored k t) (same.stored.each k t (let n = shows.sizes.count in omega (arith, l, n))) (shows.sizes.each k s t l);
   };
-  living = record {
-    living = λ p t l i. (same.stored.each p t (below l)).last ∙ shows.living.living p t (below l) (subst (In p) places i);
-    among = λ p t l e. subst (In p) (sym places) (shows.living.among p t (below l) (sym (same.stored.each p t (below l)).last ∙ e));
-  };
+  lifelines = still_of_lifelines old new same.versions same.places (lines_kept old.stored new.stored same.stored) shows.lifelines;
+  stamps = λ p t m l later. stays p t m (let n = same.stored.count in omega (arith, l, n)) later;
 }
   where
-    places : newest_places new ≡ newest_places old
-    places = same_newest old new same
-
-    below : {p : ℕ} → p < length new.stored → p < length old.stored
-    below l = (let n = same.stored.count in omega (arith, l, n))
+    stays : (p : ℕ) (t : MadeTable) (m : ℕ) → p < length old.stored → IsLater past.last m → AllBefore (get_or new.stored p t).store m
+    stays p t m l later =
+        let u = get_or new.stored p t in
+        same_before (get_or old.stored p t).store u.store u.store.spare u.store.indexed (same.stored.each p t l).store m (shows.stamps p t m l later)
 
     size : (s : Size) (t u : MadeTable) → IsSameTable t u → HasSize s t → HasSize s u
     size s t u e h = record {

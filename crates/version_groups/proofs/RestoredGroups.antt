@@ -3,7 +3,6 @@ use Rattle.std.proofs.Common.{◌≡◌, ◌+◌, ℕ, Bool, List, [], ◌∷◌
 use Rattle.std.specs.Prelude.{Option, Some, None}
 use Rattle.std.specs.FinMap.{get, get-empty}
 use Rattle.std.proofs.lemmas.List.{map-append}
-use Rattle.std.proofs.lemmas.Option.{slice_get_within}
 use Rattle.prima_base.specs.Columns.{Column}
 use Rattle.prima_base.specs.Order.{bytes_cmp}
 use Rattle.schema_catalog.specs.Tables.{Tables}
@@ -18,9 +17,10 @@ use Rattle.smo_meaning.specs.Touching.{consumes}
 use Rattle.smo_meaning.proofs.NextSchemas.{next_is_lawful}
 use Rattle.smo_meaning.proofs.PastLaws.{newest_added}
 use Rattle.version_groups.specs.declared.made_tables.MadeTable.{MadeTable}
+use Rattle.version_groups.specs.Covering.{line_of}
 use Rattle.version_groups.specs.Groups.{Kept, versions_in, table_in, HasEntry}
 use Rattle.version_groups.specs.Lifelines.{Lifeline, line_behind, line_begun, made_tables, lifelines_behind, lifelines_from, lifelines_of, columns_of}
-use Rattle.version_groups.specs.Restoring.{stores_of, store_columns, line_of, IsOver, AreRestored, HaveColumns}
+use Rattle.version_groups.specs.Restoring.{stores_of, store_columns, HasColumns, AreRestored, HaveColumns}
 use Rattle.version_groups.specs.Showing.{ShowsEntry, Shows}
 use Rattle.version_groups.proofs.RestoredTables.{Listed}
 
@@ -48,14 +48,10 @@ module _ (kept : Kept) (h : Shows kept beginning) where
 
   pub nothing_restored : AreRestored kept
   nothing_restored = record {
-    lines = ap (map line_of) nothing_stored ∙ sym (ap lifelines_of h.versions);
-    begun = λ p t l. absurd (let none = ap length nothing_stored in omega (arith, l, none));
-    ended = λ p t last l. absurd (let none = ap length nothing_stored in omega (arith, l, none));
-    living = h.living;
-    covered = λ k p t l e c. absurd (let none = ap length nothing_stored in let within = slice_get_within kept.stored p t e in omega (arith, within, none));
+    lifelines = h.lifelines;
     tables = λ k name l.
-        subst (λ (vs : List PlainVersion). HasEntry (IsOver kept.stored k name) (get (tables_from no_tables vs k) name) (table_in kept k name)) (sym h.versions)
-        (no_entry (IsOver kept.stored k name) k name (get no_tables name) (table_in kept k name) (get-empty bytes_cmp name)
+        subst (λ (vs : List PlainVersion). HasEntry (HasColumns name) (get (tables_from no_tables vs k) name) (table_in kept k name)) (sym h.versions)
+        (no_entry (HasColumns name) k name (get no_tables name) (table_in kept k name) (get-empty bytes_cmp name)
         (h.tables k name (let none = ap length no_versions in omega (arith, l, none))));
   }
 
@@ -141,7 +137,7 @@ pub columns_left : (kept : Kept) → AreRestored kept → (rest all : List Store
     → store_columns all ≡ columns_of (lifelines_of (versions_in kept ++ left)) → store_columns rest ≡ columns_begun (newest_from no_tables (versions_in kept)) left
 columns_left kept h rest all left is e =
     rest_is (columns_of (lifelines_of (versions_in kept))) (store_columns rest) (columns_begun (newest_from no_tables (versions_in kept)) left)
-    (ap (λ cs. cs ++ store_columns rest) (sym (columns_stored kept.stored ∙ ap columns_of h.lines))
+    (ap (λ cs. cs ++ store_columns rest) (sym (columns_stored kept.stored ∙ ap columns_of h.lifelines.lines))
     ∙ sym (map-append (λ (s : Store). s.columns) (stores_of kept.stored) rest)
     ∙ ap store_columns is ∙ e ∙ columns_apart (versions_in kept) left)
 

@@ -8,10 +8,9 @@ use Rattle.relations.specs.Spans.{forever}
 use Rattle.prima_base.specs.Columns.{Column, IsRelation}
 use Rattle.schema_catalog.specs.Databases.{Database, Entry, Rows, Lost, IsEntry, IsDatabase}
 use Rattle.history_store.specs.Handing.{AllWidth, written}
-use Rattle.history_store.specs.Store.{relation_at, weight}
+use Rattle.history_store.specs.Store.{relation_at, weight, AllBefore}
 use Rattle.history_store.specs.Change.{Plan, rows_along}
 use Rattle.smo_types.specs.Changes.{PlainChange}
-use Rattle.smo_types.specs.declared.versions.Version.{Version}
 use Rattle.smo_types.specs.Commands.{changing, version_of}
 use Rattle.smo_meaning.specs.Accepts.{command_fault}
 use Rattle.smo_meaning.specs.Effects.{rows_at, gained_rows}
@@ -26,11 +25,13 @@ use Rattle.version_groups.specs.Groups.{Kept, newest_places, group_of, newest_gr
 use Rattle.version_groups.specs.Becoming.{Leads, IsMade, IsInstalled}
 use Rattle.version_groups.specs.Installing.{HasChanges}
 use Rattle.version_groups.specs.Places.{at_places, AreWithin}
-use Rattle.version_groups.specs.Showing.{Shows}
+use Rattle.version_groups.specs.Showing.{AreUpTo, Shows}
 use Rattle.version_groups.specs.Sizes.{HasSize, HaveSizes, AreLiving}
+use Rattle.version_groups.proofs.Covered.{newest_living}
 use Rattle.version_groups.specs.Standing.{AreStored}
 use Rattle.version_groups.specs.Steps.{a_command, AreChanges}
 use Rattle.version_groups.proofs.Becoming.{along_length}
+use Rattle.version_groups.proofs.Installed.{all_later}
 use Rattle.version_groups.proofs.Newest.{Stands, stands, stands_at}
 use Rattle.version_groups.proofs.Places.{at_count, at_get}
 use Rattle.version_groups.proofs.RowsWritten.{rows_wide, gained_wide, written_more}
@@ -102,10 +103,6 @@ place_at [] p m = absurd m
 place_at (q ∷ places) p (inl e) = (0, omega arith, e)
 place_at (q ∷ places) p (inr m) = (let h = place_at places p m in let l = h.1 in (suc h.0, omega (arith, l), h.2))
 
-last_kept : (t : MadeTable) (p : Option Plan) (u : MadeTable) → IsMade t p u → u.last ≡ t.last
-last_kept t None u e = ap (λ (x : MadeTable). x.last) e
-last_kept t (Some plan) u e = e.last
-
 module _ (kept new : Kept) (past : Past) (stamp : ℕ) (changes : List PlainChange) (shows : Shows kept past) (lawful : stamp < forever)
     (accepted : command_fault past (a_command stamp (changing changes)) ≡ None) (plans : List (Option Plan)) (m : HasChanges kept new plans)
     (ready : AreChanges stamp (database_behind (changing changes) past) (newest_group kept) plans) where
@@ -118,11 +115,8 @@ module _ (kept new : Kept) (past : Past) (stamp : ℕ) (changes : List PlainChan
   number : length kept.versions ≡ length past.versions
   number = sym (length-map kept.versions version_of) ∙ ap length shows.versions
 
-  places : List ℕ
-  places = newest_places kept
-
-  same_places : newest_places new ≡ newest_places kept
-  same_places = ap (λ (ps : List (List ℕ)). get_or ps (length new.versions) []) m.places ∙ ap (λ (vs : List Version). get_or kept.places (length vs) []) m.versions
+  lives : AreLiving kept.stored (newest_places kept)
+  lives = newest_living kept shows.lifelines
 
   pub stored : AreStored (newest_tables past) now stamp (newest_group kept)
   stored = subst (λ j. AreStored (newest_tables past) now stamp (group_of kept j)) (sym number) (stands kept past stamp (changing changes) shows lawful accepted)
@@ -173,7 +167,7 @@ module _ (kept new : Kept) (past : Past) (stamp : ℕ) (changes : List PlainChan
 
   -- a table whose lifeline has ended stays as it is
   ended_stays : (p : ℕ) (t : MadeTable) (k : ℕ) → p < length kept.stored → (get_or kept.stored p t).last ≡ Some k → get_or new.stored p t ≡ get_or kept.stored p t
-  ended_stays p t k l e = m.others p t (λ i. (let lives = shows.living.living p t l i in absurd (cc)))
+  ended_stays p t k l e = m.others p t (λ i. (let living = lives.living p t l i in absurd (cc)))
 
   -- ---- all tables
 
@@ -185,7 +179,7 @@ module _ (kept new : Kept) (past : Past) (stamp : ℕ) (changes : List PlainChan
     where
       by_last : (k : ℕ) (s : Size) (t : MadeTable) → k < length past.sizes → (last : Option ℕ) → (get_or kept.stored k t).last ≡ last → HasSize (size_changed now next (get_or past.sizes k s)) (get_or new.stored k t)
       by_last k s t l None e =
-          let c = changed_at k t (shows.living.among k t (let n = shows.sizes.count in omega (arith, l, n)) e) in
+          let c = changed_at k t (lives.among k t (let n = shows.sizes.count in omega (arith, l, n)) e) in
           changed (get_or past.sizes k s) (get_or kept.stored k t) (get_or new.stored k t) c.plan (shows.sizes.each k s t l) e c.stands c.leads c.made
       by_last k s t l (Some j) e =
           let h = shows.sizes.each k s t l in
@@ -198,18 +192,24 @@ module _ (kept new : Kept) (past : Past) (stamp : ℕ) (changes : List PlainChan
       of_each k s t l =
           subst (λ (x : Size). HasSize x (get_or new.stored k t)) (sym (get_or-map (size_changed now next) past.sizes k s s l)) (by_last k s t l (get_or kept.stored k t).last refl)
 
-  pub living_follows : AreLiving new.stored (newest_places new)
-  living_follows = record {
-    living = λ p t l i. last_same p t (below l) ∙ shows.living.living p t (below l) (subst (In p) same_places i);
-    among = λ p t l e. subst (In p) (sym same_places) (shows.living.among p t (below l) (sym (last_same p t (below l)) ∙ e));
-  }
+  -- no stamp in them is later than that of the changes
+  pub stamps_follow : AreUpTo (Some stamp) new.stored
+  stamps_follow p t n l later = by_last (get_or kept.stored p t).last refl
     where
-      below : {p : ℕ} → p < length new.stored → p < length kept.stored
-      below l = (let n = m.stored in omega (arith, l, n))
+      within : p < length kept.stored
+      within = let s = m.stored in omega (arith, l, s)
 
-      by_last : (p : ℕ) (t : MadeTable) → p < length kept.stored → (last : Option ℕ) → (get_or kept.stored p t).last ≡ last → (get_or new.stored p t).last ≡ (get_or kept.stored p t).last
-      by_last p t l None e = (let c = changed_at p t (shows.living.among p t l e) in last_kept (get_or kept.stored p t) c.plan (get_or new.stored p t) c.made)
-      by_last p t l (Some j) e = ap (λ (x : MadeTable). x.last) (ended_stays p t j l e)
+      before : AllBefore (get_or kept.stored p t).store n
+      before = shows.stamps p t n within (all_later kept past stamp (changing changes) shows lawful accepted n later)
 
-      last_same : (p : ℕ) (t : MadeTable) → p < length kept.stored → (get_or new.stored p t).last ≡ (get_or kept.stored p t).last
-      last_same p t l = by_last p t l (get_or kept.stored p t).last refl
+      stays : get_or new.stored p t ≡ get_or kept.stored p t → AllBefore (get_or new.stored p t).store n
+      stays e = subst (λ (x : MadeTable). AllBefore x.store n) (sym e) before
+
+      of_plan : (plan : Option Plan) → Leads (get_or kept.stored p t).store stamp (rows_at (get next (get_or kept.stored p t).name)) plan → IsMade (get_or kept.stored p t) plan (get_or new.stored p t)
+          → AllBefore (get_or new.stored p t).store n
+      of_plan None leads made = stays made
+      of_plan (Some plan) leads made = made.becomes.later n (let e = leads.at in omega (arith, later, e))
+
+      by_last : (last : Option ℕ) → (get_or kept.stored p t).last ≡ last → AllBefore (get_or new.stored p t).store n
+      by_last None e = (let c = changed_at p t (lives.among p t within e) in of_plan c.plan c.leads c.made)
+      by_last (Some k) e = stays (ended_stays p t k within e)

@@ -1,9 +1,11 @@
 -- What an operator does to the sizes of a past, and to the lifelines of the stored tables.
-use Rattle.std.proofs.Common.{◌≡◌, ◌<◌, ◌+◌, ℕ, suc, zero, Bool, true, false, if◌then◌else◌, List, [], ◌∷◌, ◌++◌, map, length, get_or, refl, sym, ap, subst, ◌∙◌, arith, inl, inr, is_some}
+use Rattle.std.proofs.Common.{◌≡◌, ◌<◌, ◌+◌, ◌-◌, ℕ, suc, zero, Bool, true, false, if◌then◌else◌, List, [], ◌∷◌, ◌++◌, map, length, get_or, refl, sym, ap, subst, ◌∙◌, arith, inl, inr, is_some}
 use Rattle.std.specs.Prelude.{Option, Some, None, nat_lt}
 use Rattle.std.specs.Option.{option_map}
 use Rattle.std.specs.List.{filter}
 use Rattle.std.specs.FinMap.{get, entries}
+use Rattle.std.proofs.lemmas.List.{length-map, length-append, get_or-map, get_or_append_left}
+use Rattle.std.proofs.Math.Seq.{get_or-append_right}
 use Rattle.relations.specs.Sets.{In}
 use Rattle.relations.proofs.SetLaws.{from_filter}
 use Rattle.prima_base.specs.declared.refusals.Refusal.TheVariants.{TooMany as OverLimit}
@@ -11,30 +13,34 @@ use Rattle.prima_base.specs.declared.refusals.What.TheVariants.{Versions}
 use Rattle.prima_base.specs.Columns.{Column, IsRelation}
 use Rattle.schema_catalog.specs.Tables.{Tables}
 use Rattle.schema_catalog.specs.Databases.{Database, Entry, Rows, Lost, IsEntry, IsDatabase}
-use Rattle.history_store.specs.Store.{Store}
+use Rattle.history_store.specs.Store.{Store, AllBefore}
 use Rattle.smo_types.specs.Commands.{evolving, PlainVersion, version_of}
 use Rattle.smo_types.specs.declared.versions.Version.{Version}
-use Rattle.smo_types.specs.Operators.{Operator}
+use Rattle.smo_types.specs.Operators.{Operator, operator_of}
 use Rattle.smo_meaning.specs.Accepts.{command_fault, refusal_of, most_versions}
 use Rattle.smo_meaning.specs.After.{op_fault, behind}
 use Rattle.smo_meaning.specs.Effects.{rows_at}
+use Rattle.smo_meaning.specs.OneRow.{Relation}
 use Rattle.smo_meaning.specs.First.{unless}
 use Rattle.smo_meaning.specs.Inverses.{inverse_tests}
-use Rattle.smo_meaning.specs.Past.{Past, no_tables, tables_of, newest_tables, newest_database, next_version, database_behind, past_with}
+use Rattle.smo_meaning.specs.Past.{Past, no_tables, newest_from, tables_of, newest_tables, newest_database, next_version, database_behind, past_with}
 use Rattle.smo_meaning.specs.Sizes.{Size, if_living, ended_with, size_behind, size_begun, sizes_evolved}
 use Rattle.smo_meaning.specs.Touching.{makes, consumes}
 use Rattle.smo_meaning.proofs.CarriedDatabases.{carried_database}
 use Rattle.smo_meaning.proofs.Firsts.{none_of_first, none_mapped}
-use Rattle.smo_meaning.proofs.PastMoments.{newest_tables_from}
-use Rattle.smo_meaning.proofs.PastSteps.{body_accepted}
+use Rattle.smo_meaning.proofs.PastMoments.{newest_tables_from, is_later, still_later, before_or_not}
+use Rattle.smo_meaning.proofs.PastSteps.{body_accepted, stamp_accepted}
 use Rattle.version_groups.specs.declared.made_tables.MadeTable.{MadeTable}
 use Rattle.version_groups.specs.Becoming.{Begins}
-use Rattle.version_groups.specs.Groups.{Kept, newest_places, table_in, stored_as}
-use Rattle.version_groups.specs.Installing.{last_behind, table_behind, HasVersion}
+use Rattle.version_groups.specs.Covering.{line_of}
+use Rattle.version_groups.specs.Groups.{Kept, versions_in, newest_places, table_in, stored_as}
+use Rattle.version_groups.specs.Installing.{last_behind, table_behind, HasVersion, ComeWith}
+use Rattle.version_groups.specs.Lifelines.{line_begun, made_tables}
 use Rattle.version_groups.specs.Places.{at_places}
-use Rattle.version_groups.specs.Showing.{ShowsEntry, Shows}
+use Rattle.version_groups.specs.Showing.{AreUpTo, ShowsEntry, Shows}
 use Rattle.version_groups.specs.Sizes.{HasSize, HaveSizes, AreLiving, BeginsWith, BeginInOrder, ArePlaced}
 use Rattle.version_groups.specs.Steps.{a_command, BeginsEntry, IsNextVersion}
+use Rattle.version_groups.proofs.Covered.{newest_living, line_is, lines_begin}
 use Rattle.version_groups.proofs.LifelinesBehind.{entry_none, living_behind}
 use Rattle.version_groups.proofs.PlacedTables.{listed_in}
 use Rattle.version_groups.proofs.RowsWritten.{rows_wide, written_first}
@@ -98,8 +104,8 @@ module _ (before : Tables) (op : Operator) (k : ℕ) where
 
 -- ---- those of the made ones begin
 
-module _ (database : Database) (version : ℕ) where
-  begins : (made : List ℕ × List Column) (t : MadeTable) → BeginsWith version (λ name. rows_at (get database name)) made t → IsRelation made.1 (rows_at (get database made.0)) → HasSize (size_begun version database made) t
+module _ (database : Database) (version stamp : ℕ) where
+  begins : (made : List ℕ × List Column) (t : MadeTable) → BeginsWith version stamp (λ name. rows_at (get database name)) made t → IsRelation made.1 (rows_at (get database made.0)) → HasSize (size_begun version database made) t
   begins made t h r = record {
     name = h.name;
     first = h.first;
@@ -109,7 +115,7 @@ module _ (database : Database) (version : ℕ) where
   }
 
   -- each of them, in their order
-  have_begun : (made : List (List ℕ × List Column)) (begun : List MadeTable) → BeginInOrder (BeginsWith version (λ name. rows_at (get database name))) made begun
+  have_begun : (made : List (List ℕ × List Column)) (begun : List MadeTable) → BeginInOrder (BeginsWith version stamp (λ name. rows_at (get database name))) made begun
       → ((m : List ℕ × List Column) → In m made → IsRelation m.1 (rows_at (get database m.0))) → HaveSizes (map (size_begun version database) made) begun
   have_begun [] [] h r = record { count = refl; each = λ j d e l. absurd (omega (arith, l)) }
   have_begun [] (t ∷ begun) h r = absurd (let e = h.count in omega (arith, e))
@@ -128,7 +134,7 @@ relation_in columns (Some (Lost k i)) h = absurd h
 
 module _ (kept : Kept) (past : Past) (op : Operator) (stamp : ℕ) (database : Database) (shows : Shows kept past) (accepted : op_fault (newest_tables past) op ≡ None) (number : length kept.versions ≡ length past.versions)
     (whole : IsDatabase (behind (newest_tables past) op) database) (begun : List MadeTable) (places : List ℕ)
-    (begin : BeginInOrder (BeginsWith (length kept.versions + 1) (λ name. rows_at (get database name))) (filter (λ (e : List ℕ × List Column). makes (newest_tables past) op e.0) (entries (behind (newest_tables past) op))) begun)
+    (begin : BeginInOrder (BeginsWith (length kept.versions + 1) stamp (λ name. rows_at (get database name))) (filter (λ (e : List ℕ × List Column). makes (newest_tables past) op e.0) (entries (behind (newest_tables past) op))) begun)
     (placed : ArePlaced kept.stored begun (newest_places kept) (makes (newest_tables past) op) (behind (newest_tables past) op) places)
     (entry : (name : List ℕ) → BeginsEntry stamp (rows_at (get database name)) (get (behind (newest_tables past) op) name) (stored_as name (at_places (kept.stored ++ begun) places))) where
   abbrev before : Tables
@@ -147,7 +153,7 @@ module _ (kept : Kept) (past : Past) (op : Operator) (stamp : ℕ) (database : D
   sizes_behind =
       subst (λ k. HaveSizes (sizes_evolved before op after database k past.sizes) (ended ++ begun)) number
       (have_joined (map (size_behind before op n) past.sizes) (map (size_begun (n + 1) database) (filter (λ (e : List ℕ × List Column). makes before op e.0) (entries after))) ended begun
-      (have_behind before op n past.sizes kept.stored shows.sizes) (have_begun database (n + 1) (filter (λ (e : List ℕ × List Column). makes before op e.0) (entries after)) begun begin own))
+      (have_behind before op n past.sizes kept.stored shows.sizes) (have_begun database (n + 1) stamp (filter (λ (e : List ℕ × List Column). makes before op e.0) (entries after)) begun begin own))
     where
       own : (m : List ℕ × List Column) → In m (filter (λ (e : List ℕ × List Column). makes before op e.0) (entries after)) → IsRelation m.1 (rows_at (get database m.0))
       own m i =
@@ -173,7 +179,7 @@ module _ (kept : Kept) (past : Past) (op : Operator) (stamp : ℕ) (database : D
 
   still_living : AreLiving (ended ++ begun) places
   still_living =
-      living_behind kept.stored begun (newest_places kept) places before op n accepted shows.living known
+      living_behind kept.stored begun (newest_places kept) places before op n accepted (newest_living kept shows.lifelines) known
       (λ j t l. (begin.each j ([], []) t (let as_many = begin.count in omega (arith, l, as_many))).last) placed gone
 
 -- an operator whose command is accepted is accepted
@@ -184,32 +190,97 @@ operator_accepted past stamp op inverse accepted =
     none_mapped refusal_of (op_fault (newest_tables past) op)
     (none_of_first (option_map refusal_of (op_fault (newest_tables past) op)) (inverse_tests (newest_tables past) op inverse) rest.1).0
 
--- groups with the version have the sizes of the past with the operator
-module _ (kept new : Kept) (past : Past) (stamp : ℕ) (op : Operator) (inverse : List Operator) (shows : Shows kept past) (number : length kept.versions ≡ length past.versions)
-    (accepted : command_fault past (a_command stamp (evolving op inverse)) ≡ None) (made : Version) (begun : List MadeTable) (places : List ℕ) (has : HasVersion kept new made begun places)
+-- a table that begins with its columns and rows is stored over a lifeline that begins
+begins_line : (version stamp : ℕ) (rows : List ℕ → Relation) (m : List ℕ × List Column) (t : MadeTable) → BeginsWith version stamp rows m t → line_of t ≡ line_begun version m
+begins_line version stamp rows m t h = line_is version m t h.name h.first h.last h.columns
+
+-- a version that is ready, with the tables that begin with it
+module _ (kept : Kept) (past : Past) (stamp : ℕ) (op : Operator) (inverse : List Operator) (shows : Shows kept past) (number : length kept.versions ≡ length past.versions)
+    (accepted : command_fault past (a_command stamp (evolving op inverse)) ≡ None) (made : Version) (begun : List MadeTable) (places : List ℕ)
     (ready : IsNextVersion kept (newest_tables past) (next_version stamp op inverse past) (database_behind (evolving op inverse) past) (version_of made) begun places) where
   op_accepted : op_fault (newest_tables past) op ≡ None
   op_accepted = operator_accepted past stamp op inverse accepted
-
-  -- the tables, some of whose lifelines have ended, and those that begin
-  stored : new.stored ≡ map (table_behind (consumes (newest_tables past) op) (length kept.versions)) kept.stored ++ begun
-  stored =
-      has.stored (newest_tables past)
-      ∙ ap (λ o. map (table_behind (consumes (newest_tables past) o) (length kept.versions)) kept.stored ++ begun) (ap (λ (v : PlainVersion). v.op) ready.version)
 
   -- the carried database is of the next schema
   whole : IsDatabase (behind (newest_tables past) op) (database_behind (evolving op inverse) past)
   whole = carried_database (newest_tables past) op (newest_database past) shows.lawful.tables.schema op_accepted shows.lawful.database
 
-  -- the sizes are those behind the operator
-  pub sizes_begin : HaveSizes (past_with past (a_command stamp (evolving op inverse))).sizes new.stored
-  sizes_begin =
-      subst (HaveSizes (past_with past (a_command stamp (evolving op inverse))).sizes) (sym stored)
-      (sizes_behind kept past op stamp (database_behind (evolving op inverse) past) shows op_accepted number whole begun places ready.begin ready.placed ready.tables)
+  abbrev its : Operator
+  its = operator_of made.op
 
-  -- and a lifeline lives just where its table is one of the new version's
-  pub living_begins : AreLiving new.stored (newest_places new)
-  living_begins =
-      subst (λ (ts : List MadeTable). AreLiving ts (newest_places new)) (sym stored)
-      (subst (AreLiving (map (table_behind (consumes (newest_tables past) op) (length kept.versions)) kept.stored ++ begun)) (sym has.newest)
-      (still_living kept past op stamp (database_behind (evolving op inverse) past) shows op_accepted number whole begun places ready.begin ready.placed ready.tables))
+  same_op : its ≡ op
+  same_op = ap (λ (v : PlainVersion). v.op) ready.version
+
+  same_before : newest_from no_tables (versions_in kept) ≡ newest_tables past
+  same_before = ap (newest_from no_tables) shows.versions
+
+  pub comes_with : ComeWith kept made begun places
+  comes_with = record {
+    lines =
+        lines_begin (BeginsWith (length kept.versions + 1) stamp (λ name. rows_at (get (database_behind (evolving op inverse) past) name)))
+        (length kept.versions + 1) (begins_line (length kept.versions + 1) stamp (λ name. rows_at (get (database_behind (evolving op inverse) past) name)))
+        (made_tables (newest_tables past) op (behind (newest_tables past) op)) begun ready.begin
+        ∙ sym (ap (λ (t : Tables). map (line_begun (length kept.versions + 1)) (made_tables t its made.schema)) same_before
+        ∙ ap (λ o. map (line_begun (length kept.versions + 1)) (made_tables (newest_tables past) o made.schema)) same_op
+        ∙ ap (λ (t : Tables). map (line_begun (length kept.versions + 1)) (made_tables (newest_tables past) op t)) (ap (λ (v : PlainVersion). v.tables) ready.version));
+    living =
+        subst (λ (t : Tables). AreLiving (map (table_behind (consumes t its) (length kept.versions)) kept.stored ++ begun) places) (sym same_before)
+        (subst (λ o. AreLiving (map (table_behind (consumes (newest_tables past) o) (length kept.versions)) kept.stored ++ begun) places) (sym same_op)
+        (still_living kept past op stamp (database_behind (evolving op inverse) past) shows op_accepted number whole begun places ready.begin ready.placed ready.tables));
+  }
+
+  -- groups with the version have the sizes of the past with the operator
+  module _ (new : Kept) (has : HasVersion kept new made begun places) where
+    -- the tables, some of whose lifelines have ended, and those that begin
+    stored : new.stored ≡ map (table_behind (consumes (newest_tables past) op) (length kept.versions)) kept.stored ++ begun
+    stored =
+        has.stored (newest_tables past)
+        ∙ ap (λ o. map (table_behind (consumes (newest_tables past) o) (length kept.versions)) kept.stored ++ begun) same_op
+
+    -- the sizes are those behind the operator
+    sizes_behind_it : HaveSizes (past_with past (a_command stamp (evolving op inverse))).sizes new.stored
+    sizes_behind_it =
+        subst (HaveSizes (past_with past (a_command stamp (evolving op inverse))).sizes) (sym stored)
+        (sizes_behind kept past op stamp (database_behind (evolving op inverse) past) shows op_accepted number whole begun places ready.begin ready.placed ready.tables)
+
+    -- and no stamp in its tables is later than the operator's
+    stamps_behind_it : AreUpTo (Some stamp) new.stored
+    stamps_behind_it = subst (AreUpTo (Some stamp)) (sym stored) up_to
+      where
+        consumed : List ℕ → Bool
+        consumed = consumes (newest_tables past) op
+
+        ended : List MadeTable
+        ended = map (table_behind consumed (length kept.versions)) kept.stored
+
+        as_long : length ended ≡ length kept.stored
+        as_long = length-map kept.stored (table_behind consumed (length kept.versions))
+
+        up_to : AreUpTo (Some stamp) (ended ++ begun)
+        up_to p t m l later = elim (before_or_not p (length kept.stored)) [
+          | inl b ↦
+              let is : get_or (ended ++ begun) p t ≡ table_behind consumed (length kept.versions) (get_or kept.stored p t) =
+              get_or_append_left ended begun t p (omega (arith, b, as_long)) ∙ get_or-map (table_behind consumed (length kept.versions)) kept.stored p t t b in
+              subst (λ (x : MadeTable). AllBefore x.store m) (sym is)
+              (shows.stamps p t m b (still_later past.last stamp m (is_later past.last stamp (stamp_accepted past (a_command stamp (evolving op inverse)) accepted)) (omega (arith, later))))
+          | inr b ↦
+              let is : get_or (ended ++ begun) p t ≡ get_or begun (p - length ended) t = get_or-append_right ended begun p t (omega (arith, b, as_long)) in
+              let all = length-append ended begun in
+              let as_many = ready.begin.count in
+              subst (λ (x : MadeTable). AllBefore x.store m) (sym is)
+              ((ready.begin.each (p - length ended) ([], []) t (omega (arith, l, b, all, as_long, as_many))).later m later)
+        ]
+
+pub sizes_begin : (kept new : Kept) (past : Past) (stamp : ℕ) (op : Operator) (inverse : List Operator) (shows : Shows kept past) → length kept.versions ≡ length past.versions
+    → command_fault past (a_command stamp (evolving op inverse)) ≡ None → (made : Version) (begun : List MadeTable) (places : List ℕ) → HasVersion kept new made begun places
+    → IsNextVersion kept (newest_tables past) (next_version stamp op inverse past) (database_behind (evolving op inverse) past) (version_of made) begun places
+    → HaveSizes (past_with past (a_command stamp (evolving op inverse))).sizes new.stored
+sizes_begin kept new past stamp op inverse shows number accepted made begun places has ready =
+    sizes_behind_it kept past stamp op inverse shows number accepted made begun places ready new has
+
+pub stamps_begin : (kept new : Kept) (past : Past) (stamp : ℕ) (op : Operator) (inverse : List Operator) (shows : Shows kept past) → length kept.versions ≡ length past.versions
+    → command_fault past (a_command stamp (evolving op inverse)) ≡ None → (made : Version) (begun : List MadeTable) (places : List ℕ) → HasVersion kept new made begun places
+    → IsNextVersion kept (newest_tables past) (next_version stamp op inverse past) (database_behind (evolving op inverse) past) (version_of made) begun places
+    → AreUpTo (Some stamp) new.stored
+stamps_begin kept new past stamp op inverse shows number accepted made begun places has ready =
+    stamps_behind_it kept past stamp op inverse shows number accepted made begun places ready new has

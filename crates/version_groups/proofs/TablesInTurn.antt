@@ -44,9 +44,9 @@ one_place k i = elim (before_or_not k i) [ inl l ↦ inr (inl l) | inr l ↦ eli
 -- the same columns, keys and entries have the same rows behind the changes
 pub same_behind : (stamp : ℕ) (changes : List PlainChange) (t u : MadeTable) → IsSameTable t u → rows_behind stamp changes u ≡ rows_behind stamp changes t
 same_behind stamp changes t u h =
-    ap (λ cs. relation_after_each cs (of_table u.name changes) (rows_now stamp u)) (same_columns t.store u.store u.store.spare h.store)
+    ap (λ cs. relation_after_each cs (of_table u.name changes) (rows_now stamp u)) (same_columns t.store u.store u.store.spare u.store.indexed h.store)
     ∙ ap (λ n. relation_after_each t.store.columns (of_table n changes) (rows_now stamp u)) h.name
-    ∙ ap (relation_after_each t.store.columns (of_table t.name changes)) (same_relation t.store u.store u.store.spare h.store stamp)
+    ∙ ap (relation_after_each t.store.columns (of_table t.name changes)) (same_relation t.store u.store u.store.spare u.store.indexed h.store stamp)
 
 -- the first tables are ready
 pub record ReadyTo (stamp : ℕ) (changes : List PlainChange) (old new : List MadeTable) (plans : List (Option Plan)) (gained lost i : ℕ) : Type 0 where

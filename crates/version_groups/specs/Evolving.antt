@@ -35,7 +35,7 @@ pub record ComeNext (stored : List MadeTable) (before : List ℕ) (is_made : Lis
 -- the same, where each has from the stamp on these rows
 abbrev pub AreNext : List MadeTable → List ℕ → ℕ → ℕ → (List ℕ → Bool) → (List ℕ → Relation) → Tables → List MadeTable → List ℕ → Type 0
 AreNext stored before version stamp is_made rows next begun places =
-    ComeNext stored before is_made (BeginsWith version rows) (λ name columns store. Begins columns stamp (rows name) store) next begun places
+    ComeNext stored before is_made (BeginsWith version stamp rows) (λ name columns store. Begins columns stamp (rows name) store) next begun places
 
 -- the version of this number, and its tables: each has from the stamp on what is carried over the operator
 pub record IsEvolved (stored : List MadeTable) (own : List ℕ) (number : ℕ) (before : Tables) (database : Database) (stamp : ℕ) (op : Operator) (inverse : List Operator)

@@ -7,6 +7,7 @@ use Rattle.smo_meaning.specs.Past.{no_tables}
 use Rattle.version_groups.specs.declared.made_tables.MadeTable.{MadeTable}
 use Rattle.version_groups.specs.declared.groups.Groups.TheInside.{Inside}
 use Rattle.version_groups.specs.Groups.{Kept, names_of}
+use Rattle.version_groups.specs.Covering.{AreOfLifelines}
 use Rattle.version_groups.specs.Places.{at_places, AreWithin}
 
 -- the places of the versions before the newest, and then those of the newest
@@ -35,7 +36,7 @@ groups_view a = record {
   beginnings = vec_capacity a.stored - vec_len a.stored;
 }
 
--- places for each version before the newest, version 0 counted
+-- places for each version before the newest, version 0 counted; and the stored tables of each version are those of its lifelines
 pub record AreGroups (a : Inside) : Type 0 where
   pub count : length a.earlier.items ≡ length a.versions.list.items
   pub fits : length a.versions.list.items < 2 ^ 32
@@ -44,3 +45,4 @@ pub record AreGroups (a : Inside) : Type 0 where
   pub newest_there : AreWithin a.newest.items (length a.stored.items)
   pub earlier : AllInOrder a.stored.items (items_of a.earlier.items)
   pub newest : Ascends bytes_cmp (names_of (at_places a.stored.items a.newest.items))
+  pub lifelines : AreOfLifelines (groups_view a)

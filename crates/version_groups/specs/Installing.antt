@@ -1,5 +1,5 @@
 -- What installing makes of groups.
-use Rattle.std.specs.Prelude.{◌≡◌, ℕ, ◌+◌, ◌<◌, ◌≤◌, Bool, List, [], ◌∷◌, ◌++◌, length, map, Option, Some, None, slice_index_or, ⊤, if◌then◌else◌}
+use Rattle.std.specs.Prelude.{◌≡◌, ℕ, ◌+◌, ◌<◌, ◌≤◌, Bool, List, [], ◌∷◌, ◌++◌, length, map, Option, Some, None, slice_index_or, ⊤}
 use Rattle.relations.specs.Sets.{In, Ascends}
 use Rattle.prima_base.specs.Order.{bytes_cmp}
 use Rattle.history_store.specs.Store.{Store, relation_at}
@@ -8,10 +8,17 @@ use Rattle.schema_catalog.specs.Tables.{Tables}
 use Rattle.smo_types.specs.declared.versions.Version.{Version}
 use Rattle.smo_types.specs.Operators.{operator_of}
 use Rattle.smo_types.specs.Commands.{PlainVersion}
+use Rattle.smo_meaning.specs.Past.{no_tables, newest_from}
 use Rattle.smo_meaning.specs.Touching.{consumes}
 use Rattle.version_groups.specs.declared.made_tables.MadeTable.{MadeTable}
 use Rattle.version_groups.specs.Groups.{Kept, versions_in, newest_places, group_of, newest_group, table_in, stored_as, names_of}
+use Rattle.version_groups.specs.declared.next.Step.{Step}
+use Rattle.version_groups.specs.declared.next.Step.TheVariants.{Changed, Evolved}
+use Rattle.version_groups.specs.Covering.{line_of, AreOfLifelines}
+use Rattle.version_groups.specs.Lifelines.{line_begun, made_tables}
+pub use Rattle.version_groups.specs.Lifelines.{last_behind}
 use Rattle.version_groups.specs.Showing.{IsInForce}
+use Rattle.version_groups.specs.Sizes.{AreLiving}
 use Rattle.version_groups.specs.Becoming.{IsMade}
 use Rattle.version_groups.specs.Changing.{AreMade}
 use Rattle.version_groups.specs.Places.{at_places, AreWithin}
@@ -54,15 +61,12 @@ pub record HasChanges (kept new : Kept) (plans : List (Option Plan)) : Type 0 wh
   pub there : AreWithin (newest_places kept) (length kept.stored)
   pub ordered : Ascends bytes_cmp (names_of (newest_group kept))
   pub stored : length new.stored ≡ length kept.stored
+  pub lines : map line_of new.stored ≡ map line_of kept.stored
   pub others : (p : ℕ) → (d : MadeTable) → (In p (newest_places kept) → ⊥) → slice_index_or new.stored p d ≡ slice_index_or kept.stored p d
   pub groups : (k : ℕ) → k < length kept.versions → AreMadeBy plans (group_of kept k) (group_of new k)
   pub made : AreMade (newest_group kept) plans (group_of new (length kept.versions))
 
--- a lifeline that lives ends with version k where the next operator consumes its table
-abbrev pub last_behind : Bool → ℕ → Option ℕ → Option ℕ
-last_behind consumed k None = if consumed then Some k else None
-last_behind consumed k (Some last) = Some last
-
+-- the lifeline of a table that lives ends with version k where the next operator consumes it
 abbrev pub table_behind : (List ℕ → Bool) → ℕ → MadeTable → MadeTable
 table_behind consumed k t = record { name = t.name; first = t.first; last = last_behind (consumed t.name) k t.last; store = t.store }
 
@@ -74,3 +78,14 @@ pub record HasVersion (kept new : Kept) (made : Version) (begun : List MadeTable
   pub stored : (before : Tables) → new.stored ≡ map (table_behind (consumes before (operator_of made.op)) (length kept.versions)) kept.stored ++ begun
   pub tables : (k : ℕ) → (name : List ℕ) → k ≤ length kept.versions → table_in new k name ≡ table_in kept k name
   pub own : (name : List ℕ) → table_in new (length kept.versions + 1) name ≡ stored_as name (at_places (kept.stored ++ begun) places)
+  pub lifelines : AreOfLifelines new
+
+-- the tables that begin with the next version are those that its operator makes, and of all that are stored then those at these places live
+pub record ComeWith (kept : Kept) (made : Version) (begun : List MadeTable) (places : List ℕ) : Type 0 where
+  pub lines : map line_of begun ≡ map (line_begun (length kept.versions + 1)) (made_tables (newest_from no_tables (versions_in kept)) (operator_of made.op) made.schema)
+  pub living : AreLiving (map (table_behind (consumes (newest_from no_tables (versions_in kept)) (operator_of made.op)) (length kept.versions)) kept.stored ++ begun) places
+
+-- what installing a step makes of the groups
+abbrev pub HasStep : Kept → Kept → Step → Type 0
+HasStep kept new (Changed plans) = HasChanges kept new plans.items
+HasStep kept new (Evolved version begun places) = HasVersion kept new version begun.items places.items

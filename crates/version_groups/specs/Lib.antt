@@ -1,6 +1,9 @@
 pub mod Stored
 pub mod Places
 pub mod Groups
+pub mod Lifelines
+pub mod Covering
+pub mod LongestRuns
 pub mod Sizes
 pub mod GroupFields
 pub mod Showing
@@ -13,7 +16,6 @@ pub mod Ending
 pub mod Standing
 pub mod MadeRows
 pub mod Evolving
-pub mod Lifelines
 pub mod Restoring
 pub mod Overlay
 pub mod KnownFields

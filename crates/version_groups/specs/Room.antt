@@ -3,12 +3,12 @@ use Rattle.std.specs.Prelude.{◌≡◌, ℕ, ◌<◌, ◌≤◌, List, length, 
 use Rattle.version_groups.specs.declared.made_tables.MadeTable.{MadeTable}
 use Rattle.version_groups.specs.Groups.{Kept}
 
--- the same lifeline, columns, keys and entries
+-- the same lifeline, columns, keys and entries; indexes of columns may have come
 pub record IsSameTable (old new : MadeTable) : Type 0 where
   pub name : new.name ≡ old.name
   pub first : new.first ≡ old.first
   pub last : new.last ≡ old.last
-  pub store : new.store ≡ record old.store { spare = new.store.spare }
+  pub store : new.store ≡ record old.store { spare = new.store.spare; indexed = new.store.indexed }
   pub spare : old.store.spare ≤ new.store.spare
 
 -- the same tables, one by one

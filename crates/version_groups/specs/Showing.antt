@@ -1,5 +1,5 @@
 -- When groups show a past.
-use Rattle.std.specs.Prelude.{◌≡◌, ℕ, ◌<◌, ◌≤◌, List, Option, Some, None, length, ⊤}
+use Rattle.std.specs.Prelude.{◌≡◌, ℕ, ◌<◌, ◌≤◌, List, Option, Some, None, length, ⊤, slice_index_or}
 use Rattle.std.specs.FinMap.{get}
 use Rattle.relations.specs.Spans.{forever}
 use Rattle.prima_base.specs.Columns.{Column}
@@ -10,8 +10,10 @@ use Rattle.smo_meaning.specs.InForce.{in_force}
 use Rattle.smo_meaning.specs.LawfulPast.{last_or_nought, IsLater, IsPast}
 use Rattle.smo_meaning.specs.LawfulValues.{PastHolds}
 use Rattle.smo_meaning.specs.Past.{Past, tables_of, database_at}
-use Rattle.version_groups.specs.Groups.{Kept, versions_in, newest_places, table_in}
-use Rattle.version_groups.specs.Sizes.{HaveSizes, AreLiving}
+use Rattle.version_groups.specs.declared.made_tables.MadeTable.{MadeTable}
+use Rattle.version_groups.specs.Covering.{AreOfLifelines}
+use Rattle.version_groups.specs.Groups.{Kept, versions_in, table_in}
+use Rattle.version_groups.specs.Sizes.{HaveSizes}
 
 -- version k is in force at the moment
 abbrev pub IsInForce : List PlainVersion → ℕ → ℕ → Type 0
@@ -31,9 +33,13 @@ ShowsEntry past k name None (Some store) = ⊥
 ShowsEntry past k name (Some columns) None = ⊥
 ShowsEntry past k name (Some columns) (Some store) = ShowsTable past k name columns store
 
+-- no stamp in the tables is later than the last
+abbrev pub AreUpTo : Option ℕ → List MadeTable → Type 0
+AreUpTo last tables = (p : ℕ) → (t : MadeTable) → (m : ℕ) → p < length tables → IsLater last m → AllBefore (slice_index_or tables p t).store m
+
 -- the past is lawful and holds lawful values; the versions are those of the past, and so is each table of each version at
--- each moment at which it is in force; one table is stored for each lifeline, as much of it as the past's sizes say, and a lifeline
--- lives just where its table is one of the newest version's
+-- each moment at which it is in force; one table is stored for each lifeline, as much of it as the past's sizes say, and a version's
+-- table is the one whose lifeline covers it; and no stamp that is stored is later than the past's last
 pub record Shows (kept : Kept) (past : Past) : Type 0 where
   pub lawful : IsPast past
   pub values : PastHolds past
@@ -41,4 +47,5 @@ pub record Shows (kept : Kept) (past : Past) : Type 0 where
   pub versions : versions_in kept ≡ past.versions
   pub tables : (k : ℕ) → (name : List ℕ) → k ≤ length past.versions → ShowsEntry past k name (get (tables_of past k) name) (table_in kept k name)
   pub sizes : HaveSizes past.sizes kept.stored
-  pub living : AreLiving kept.stored (newest_places kept)
+  pub lifelines : AreOfLifelines kept
+  pub stamps : AreUpTo past.last kept.stored

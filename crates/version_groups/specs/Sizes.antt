@@ -6,7 +6,7 @@ use Rattle.relations.specs.Sets.{In}
 use Rattle.prima_base.specs.declared.values.Value.{Value}
 use Rattle.prima_base.specs.Columns.{Column}
 use Rattle.schema_catalog.specs.Tables.{Tables}
-use Rattle.history_store.specs.Store.{Cell, weight}
+use Rattle.history_store.specs.Store.{Cell, weight, AllBefore}
 use Rattle.history_store.specs.Handing.{written}
 use Rattle.smo_meaning.specs.OneRow.{Relation}
 use Rattle.smo_meaning.specs.Sizes.{Written, Size, cells_in, none_written, value_bytes}
@@ -51,14 +51,16 @@ pub record AreLiving (tables : List MadeTable) (newest : List ℕ) : Type 0 wher
 -- ---- tables that begin
 
 -- the table that is made with this name and these columns begins with a version, with the rows that the name has: each is a key, and
--- writes its values
-pub record BeginsWith (version : ℕ) (rows : List ℕ → Relation) (made : List ℕ × List Column) (table : MadeTable) : Type 0 where
+-- writes its values, and no stamp in it is later
+pub record BeginsWith (version stamp : ℕ) (rows : List ℕ → Relation) (made : List ℕ × List Column) (table : MadeTable) : Type 0 where
   pub name : table.name ≡ made.0
   pub first : table.first ≡ version
   pub last : table.last ≡ None
+  pub columns : table.store.columns ≡ made.1
   pub keys : length table.store.keys ≡ length (rows made.0)
   pub count : length table.store.cells ≡ length made.1
   pub written : (f : Value → ℕ) → (k : ℕ) → k < length made.1 → weight f (slice_index_or table.store.cells k []) ≡ written f k [] (rows made.0)
+  pub later : (m : ℕ) → stamp < m → AllBefore table.store m
 
 -- one table begins for each that is made, in their order, and is as it is to be
 pub record BeginInOrder (Is : List ℕ × List Column → MadeTable → Type 0) (made : List (List ℕ × List Column)) (begun : List MadeTable) : Type 0 where

@@ -54,7 +54,7 @@ BeginsEntry stamp rows = HasEntry (λ columns store. Begins columns stamp rows s
 -- the next version, over the tables before it, with its tables in the order of their names, and the room for it
 pub record IsNextVersion (kept : Kept) (before : Tables) (due : PlainVersion) (next : Database) (made : PlainVersion) (begun : List MadeTable) (places : List ℕ) : Type 0 where
   pub version : made ≡ due
-  pub begin : BeginInOrder (BeginsWith (length kept.versions + 1) (λ name. rows_at (get next name))) (filter (λ (e : List ℕ × List Column). makes before due.op e.0) (entries due.tables)) begun
+  pub begin : BeginInOrder (BeginsWith (length kept.versions + 1) due.stamp (λ name. rows_at (get next name))) (filter (λ (e : List ℕ × List Column). makes before due.op e.0) (entries due.tables)) begun
   pub placed : ArePlaced kept.stored begun (newest_places kept) (makes before due.op) due.tables places
   pub there : AreWithin places (length kept.stored + length begun)
   pub ordered : Ascends bytes_cmp (names_of (at_places (kept.stored ++ begun) places))

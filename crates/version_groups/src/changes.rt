@@ -145,7 +145,7 @@ fn index_asked(
     change: &Change,
 ) -> Result<(), NoMemory>
     requires { store.old.columns ≡ own.now }
-    ensures same { store.new ≡ record store.old { spare = store.new.spare } }
+    ensures same { store.new ≡ record store.old { spare = store.new.spare; indexed = store.new.indexed } }
     ensures spare { store.old.spare ≤ store.new.spare }
 {
     match column_asked(own, name, change) {
@@ -162,7 +162,7 @@ fn index_each(
     changes: &[Change],
 ) -> Result<(), NoMemory>
     requires { store.old.columns ≡ own.now }
-    ensures same { store.new ≡ record store.old { spare = store.new.spare } }
+    ensures same { store.new ≡ record store.old { spare = store.new.spare; indexed = store.new.indexed } }
     ensures spare { store.old.spare ≤ store.new.spare }
 {
     for change in changes {
@@ -185,7 +185,7 @@ fn prepare_indexed(
     requires accepted { AreAccepted columns.now (of_table name.now (changes_of changes.now)) }
     requires before { AllBefore store.old stamp }
     requires lawful { stamp < forever }
-    ensures same { store.new ≡ record store.old { spare = store.new.spare } }
+    ensures same { store.new ≡ record store.old { spare = store.new.spare; indexed = store.new.indexed } }
     ensures spare { store.old.spare ≤ store.new.spare }
     ensures change { IfOk result (λ p. IsChange store.new stamp (relation_after_each columns.now (of_table name.now (changes_of changes.now)) (relation_at store.old stamp)) p) }
     ensures gained { IfOk result (λ p. length p.gained ≡ length (gained_rows (relation_at store.old stamp) (relation_after_each columns.now (of_table name.now (changes_of changes.now)) (relation_at store.old stamp)))) }
@@ -214,7 +214,7 @@ pub(crate) fn prepare_table(
     requires accepted { AreAccepted columns.now (of_table name.now (changes_of changes.now)) }
     requires before { AllBefore store.old stamp }
     requires lawful { stamp < forever }
-    ensures same { store.new ≡ record store.old { spare = store.new.spare } }
+    ensures same { store.new ≡ record store.old { spare = store.new.spare; indexed = store.new.indexed } }
     ensures spare { store.old.spare ≤ store.new.spare }
     ensures change { IfOk result (λ p. IsChange store.new stamp (relation_after_each columns.now (of_table name.now (changes_of changes.now)) (relation_at store.old stamp)) p) }
     ensures gained { IfOk result (λ p. length p.gained ≡ length (gained_rows (relation_at store.old stamp) (relation_after_each columns.now (of_table name.now (changes_of changes.now)) (relation_at store.old stamp)))) }

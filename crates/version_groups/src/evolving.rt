@@ -106,7 +106,7 @@ fn begin_table(
     requires lawful { stamp < forever }
     requires relation { IsRelation table.now.1 rows.now }
     ensures begins { IfOk result (λ t. Begins table.now.1 stamp rows.now t.store) }
-    ensures size { IfOk result (λ t. BeginsWith version (λ name. rows.now) table.now t) }
+    ensures size { IfOk result (λ t. BeginsWith version stamp (λ name. rows.now) table.now t) }
 {
     Ok(MadeTable {
         name: table.name().copy()?,
@@ -158,7 +158,7 @@ fn begin_behind(
     requires lawful { stamp < forever }
     requires relation { IsRelation table.now.1 rows.now }
     ensures next { (tables : List Stored) → stored ≡ length tables → IfOk result (λ p. IsNextTable tables begun.old.items begun.new.items p table.now.0 (Begins table.now.1 stamp rows.now)) }
-    ensures begun { (tables : List Stored) → stored ≡ length tables → IfOk result (λ p. IsBegun tables begun.old.items begun.new.items p (BeginsWith version (λ name. rows.now) table.now)) }
+    ensures begun { (tables : List Stored) → stored ≡ length tables → IfOk result (λ p. IsBegun tables begun.old.items begun.new.items p (BeginsWith version stamp (λ name. rows.now) table.now)) }
     ensures there { IfOk result (λ p. p < stored + length begun.new.items) }
 {
     let made = begin_table(alloc, version, table, stamp, rows)?;
@@ -186,7 +186,7 @@ fn next_place(
     ensures next { IfOk result (λ p. IsNextTable tables.now begun.old.items begun.new.items p table.now.0
         (Begins table.now.1 stamp (next_rows (made_rows names.entry rows.now) stamp (at_places tables.now places.now) table.now.0))) }
     ensures comes { IfOk result (λ p. Comes (is_made (made_rows names.entry rows.now) table.now.0) tables.now begun.old.items begun.new.items places.now p table.now.0
-        (BeginsWith version (λ name. next_rows (made_rows names.entry rows.now) stamp (at_places tables.now places.now) table.now.0) table.now)) }
+        (BeginsWith version stamp (λ name. next_rows (made_rows names.entry rows.now) stamp (at_places tables.now places.now) table.now.0) table.now)) }
     ensures there { IfOk result (λ p. p < length tables.now + length begun.new.items) }
 {
     if is_name(names.first, table.name()) {

@@ -119,14 +119,14 @@ impl Groups {
     ghost use Rattle.smo_meaning.specs.LawfulValues.{BodyHolds};
     ghost use Rattle.smo_meaning.specs.Past.{Past, beginning, no_tables, tables_from, newest_from, version_at, past_with};
     ghost use Rattle.smo_meaning.specs.Sizes.{Size};
-    ghost use Rattle.version_groups.specs.Groups.{versions_in, stored_at, table_in, newest_places, newest_group, names_of};
+    ghost use Rattle.version_groups.specs.Groups.{versions_in, places_of, stored_at, table_in, newest_group, names_of};
     ghost use Rattle.version_groups.specs.Places.{at_places, AreWithin};
     ghost use Rattle.version_groups.specs.Changing.{HaveRoom};
-    ghost use Rattle.version_groups.specs.Installing.{HasEarlier, HasChanges, HasVersion};
-    ghost use Rattle.version_groups.specs.Lifelines.{lifelines_of, columns_of, made_tables};
+    ghost use Rattle.version_groups.specs.Installing.{HasEarlier, HasChanges, HasVersion, ComeWith, HasStep};
+    ghost use Rattle.version_groups.specs.Lifelines.{lifelines_of, columns_of, made_tables, place_in};
     ghost use Rattle.version_groups.specs.Restoring.{AreRestored, stores_of, store_columns, HaveColumns};
     ghost use Rattle.version_groups.specs.Showing.{Shows};
-    ghost use Rattle.version_groups.specs.Sizes.{IsLineOf, AreLiving};
+    ghost use Rattle.version_groups.specs.Sizes.{IsLineOf};
     ghost use Rattle.version_groups.specs.Room.{IsSame};
     ghost use Rattle.version_groups.specs.Steps.{IsReady, IsStep, Prepares, a_command, step_of};
 
@@ -213,32 +213,45 @@ impl Groups {
     pub fn table(&self, version: u32, name: &Name) -> Option<&StoredTable>
         ensures { option_copied result ≡ table_in self.now version name.now }
     {
+        let places = self.places(version)?;
+        find_stored(&self.stored, places, name)
+    }
+
+    // The places of a version's tables among all that are stored, in the order of their names: `None` exactly where there is no
+    // such version. It takes no memory.
+    fn places(&self, version: u32) -> Option<&[usize]>
+        ensures { MatchOption result ((length self.now.versions < version) × (places_of self.now version ≡ []))
+            (λ places. (version ≤ length self.now.versions) × (places.now ≡ places_of self.now version)) }
+    {
         let version = version as usize;
         if version == self.earlier.len() {
-            return find_stored(&self.stored, &self.newest, name);
+            return Some(&self.newest);
         }
         match self.earlier.get(version) {
-            Some(places) => find_stored(&self.stored, places, name),
+            Some(places) => Some(places),
             None => None,
         }
     }
 
-    /// Where a version's table stands among all that are stored, by the number of its lifeline: versions in which a table has one
-    /// number share what is stored of it. `None` exactly where there is no such version, or no such table in it. It takes no
-    /// memory.
+    /// Where a version's table stands among all that are stored, by the number of its lifeline, from 0 on: so versions in which a
+    /// table has one number share what is stored of it. `None` exactly where there is no such version, or no such table in it. It
+    /// takes no memory.
     pub fn place(&self, version: u32, name: &Name) -> Option<usize>
-        ensures { MatchOption result (table_in self.now version name.now ≡ None) (λ p. stored_at self.now p ≡ table_in self.now version name.now) }
+        ensures lifeline { result ≡ place_in (versions_in self.now) version name.now }
+        ensures stored { MatchOption result (table_in self.now version name.now ≡ None) (λ p. stored_at self.now p ≡ table_in self.now version name.now) }
     {
-        let version = version as usize;
-        let places = if version == self.earlier.len() {
-            &self.newest
-        } else {
-            self.earlier.get(version)?
-        };
+        let places = self.places(version)?;
         match find_table(&self.stored, places, name) {
             Some((place, _)) => Some(place),
             None => None,
         }
+    }
+
+    /// The stored tables, each over its lifeline: by first version, and then by name. It takes no memory.
+    pub fn stored(&self) -> &[MadeTable]
+        ensures { result.now ≡ self.now.stored }
+    {
+        &self.stored
     }
 
     /// How much is stored over a lifeline, by their number from 0 on: they stand by first version, and then by name. `None` exactly
@@ -282,11 +295,13 @@ impl Groups {
 
     /// Carries out what was made ready: from the command's stamp on the past has the changed or carried database, and
     /// each earlier moment is as before. Each table of each version before the one that is then the newest has at the
-    /// moments at which its version is in force what it had. It takes no memory.
+    /// moments at which its version is in force what it had. Changes are made of the stored tables of the newest version, and
+    /// an operator ends lifelines and begins others: each other stored table is the very same. It takes no memory.
     pub fn install(&mut self, next: Next)
         requires { (past : Past) × (command : PlainCommand) × Shows self.old past × IsReady self.old past command next }
         ensures shows { (past : Past) → (command : PlainCommand) → Shows self.old past → IsReady self.old past command next → Shows self.new (past_with past command) }
         ensures earlier { HasEarlier self.old self.new }
+        ensures step { HasStep self.old self.new next.step }
     {
         self.install_step(next.step);
     }
@@ -298,6 +313,7 @@ impl Groups {
         ensures shows { (past : Past) → (command : PlainCommand) → Shows self.old past → command_fault past command ≡ None → command.stamp < forever
             → BodyHolds command.body → IsStep self.old past command.stamp command.body (step_of step) → Shows self.new (past_with past command) }
         ensures earlier { HasEarlier self.old self.new }
+        ensures step { HasStep self.old self.new step }
     {
         match step {
             Step::Changed(plans) => self.install_changes(plans),
@@ -316,7 +332,7 @@ impl Groups {
     // Puts the version and the tables that begin with it behind the others. The lifelines of the tables that its operator
     // consumes, which are at most two, end with the version before. It takes no memory.
     fn install_version(&mut self, version: Version, begun: Vec<MadeTable>, places: Vec<usize>)
-        requires living { AreLiving self.old.stored (newest_places self.old) }
+        requires come { ComeWith self.old version begun.items places.items }
         requires there { AreWithin places.items (length self.old.stored + length begun.items) }
         requires ordered { Ascends bytes_cmp (names_of (at_places (self.old.stored ++ begun.items) places.items)) }
         requires room { 1 ≤ self.old.spare }

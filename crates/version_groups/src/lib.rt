@@ -11,6 +11,7 @@ mod ending;
 mod evolving;
 mod groups;
 mod known_rows;
+mod lifeline_laws;
 mod made_tables;
 mod next;
 mod overlay;
@@ -19,6 +20,9 @@ mod restoring;
 mod sizes;
 
 pub use groups::Groups;
+pub use lifeline_laws::{lifelines_are_few, lifelines_are_longest_runs};
+pub use made_tables::MadeTable;
 pub use next::Next;
 pub use ranges::hits_are_between_the_cuts;
+pub use restoring::restored_shows;
 pub use sizes::{SizeLine, sizes_are_of_lifelines};

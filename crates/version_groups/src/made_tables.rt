@@ -10,11 +10,11 @@ use prima_base::Name;
 /// A table over its lifeline, the versions in which no operator makes or consumes it, and its history. Its lifeline goes from
 /// `first` to `last`: none while it lives.
 #[derive(Drop)]
-pub(crate) struct MadeTable {
-    pub(crate) name: Name,
-    pub(crate) first: u32,
-    pub(crate) last: Option<u32>,
-    pub(crate) store: StoredTable,
+pub struct MadeTable {
+    pub name: Name,
+    pub first: u32,
+    pub last: Option<u32>,
+    pub store: StoredTable,
 }
 
 /// Whether both are one name.

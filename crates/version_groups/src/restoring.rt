@@ -8,12 +8,15 @@ ghost use Rattle.relations.specs.Sets.{Ascends};
 ghost use Rattle.prima_base.specs.Order.{bytes_cmp};
 ghost use Rattle.prima_base.specs.Columns.{Column};
 ghost use Rattle.smo_meaning.specs.After.{IsLawful};
+ghost use Rattle.smo_meaning.specs.Past.{Past};
 ghost use Rattle.version_groups.specs.Groups.{stored_as, names_of};
 ghost use Rattle.version_groups.specs.Places.{at_places, AreWithin};
 ghost use Rattle.version_groups.specs.Evolving.{ComeNext, IsNextTable, IsBegun, Comes};
-ghost use Rattle.version_groups.specs.Restoring.{stores_of, is_one_of, HaveColumns, with_made, BeginsOver, HasColumns, IsStored, OthersAre};
+ghost use Rattle.version_groups.specs.Restoring.{stores_of, is_one_of, HaveColumns, with_made, BeginsOver, HasColumns, IsStored, OthersAre, AreRestored, IsPastOf};
+ghost use Rattle.version_groups.specs.Showing.{Shows};
 ghost use Rattle.version_groups.specs.declared.made_tables.MadeTable.{MadeTable as Stored};
 
+use crate::Groups;
 use crate::evolving::{NextTables, is_name, put_begun};
 use crate::made_tables::{MadeTable, find_table};
 use history_store::StoredTable;
@@ -118,3 +121,8 @@ pub(crate) fn restored_tables(
     }
     Ok(NextTables { begun, places: own })
 }
+
+/// Restored groups show each past that is one of theirs: with their versions, and at each moment what is stored of it.
+pub fn restored_shows(groups: &Groups)
+    ensures { (past : Past) → AreRestored groups.now → IsPastOf groups.now past → Shows groups.now past }
+{}

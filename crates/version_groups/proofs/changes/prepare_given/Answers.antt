@@ -31,7 +31,7 @@ returns-clause-change c =
     let later : AllBefore s (c.args.stamp + 1) = all_later s c.args.stamp (c.args.stamp + 1) (omega arith) c.requires.before in
     let is : c.deref.result.now ≡ gained_rows (relation_at s c.args.stamp) (set_of row_cmp c.args.rows.items) = c.deref.ensures.value ∙ c.in_ok-fresh.ensures c.args.stamp c.requires.lawful later ∙ ap (gained_rows (relation_at s c.args.stamp)) c.make_set.ensures in
     let new = c.prepare_change.new.self in
-    let still : relation_at new c.args.stamp ≡ relation_at s c.args.stamp = same_relation s new new.spare c.prepare_change.ensures.same c.args.stamp in
+    let still : relation_at new c.args.stamp ≡ relation_at s c.args.stamp = same_relation s new new.spare s.indexed c.prepare_change.ensures.same c.args.stamp in
     record {
       at = c.in_ok-prepared.ensures.stamp;
       fits = c.in_ok-prepared.ensures.fits;

@@ -10,13 +10,13 @@ use Rattle.version_groups.proofs.Becoming.{same_relation, same_before}
 use Rattle.version_groups.proofs.changes.prepare_indexed.Goals as goal
 
 pub prepare_overlay-requires-clause-before : goal.prepare_overlay-requires-clause-before
-prepare_overlay-requires-clause-before c = same_before c.args.store.now c.index_each.new.store c.index_each.new.store.spare c.index_each.ensures.same c.args.stamp c.requires.before
+prepare_overlay-requires-clause-before c = same_before c.args.store.now c.index_each.new.store c.index_each.new.store.spare c.index_each.new.store.indexed c.index_each.ensures.same c.args.stamp c.requires.before
 
 pub returns-clause-change : goal.returns-clause-change
 returns-clause-change c =
     let old = c.args.store.now in
     let mid = c.index_each.new.store in
-    let is = same_relation old mid mid.spare c.index_each.ensures.same c.args.stamp in
+    let is = same_relation old mid mid.spare mid.indexed c.index_each.ensures.same c.args.stamp in
     let its = of_table c.args.name.now (changes_of c.args.changes.now) in
     subst (λ (rows : Relation). IfOk c.prepare_overlay.result (λ p. IsChange c.prepare_overlay.new.store c.args.stamp (relation_after_each c.args.columns.now its rows) p)) is c.prepare_overlay.ensures.change
 
@@ -24,7 +24,7 @@ pub returns-clause-gained : goal.returns-clause-gained
 returns-clause-gained c =
     let old = c.args.store.now in
     let mid = c.index_each.new.store in
-    let is = same_relation old mid mid.spare c.index_each.ensures.same c.args.stamp in
+    let is = same_relation old mid mid.spare mid.indexed c.index_each.ensures.same c.args.stamp in
     let its = of_table c.args.name.now (changes_of c.args.changes.now) in
     subst (λ (rows : Relation). IfOk c.prepare_overlay.result (λ p. length p.gained ≡ length (gained_rows rows (relation_after_each c.args.columns.now its rows)))) is c.prepare_overlay.ensures.gained
 
@@ -32,6 +32,6 @@ pub returns-clause-lost : goal.returns-clause-lost
 returns-clause-lost c =
     let old = c.args.store.now in
     let mid = c.index_each.new.store in
-    let is = same_relation old mid mid.spare c.index_each.ensures.same c.args.stamp in
+    let is = same_relation old mid mid.spare mid.indexed c.index_each.ensures.same c.args.stamp in
     let its = of_table c.args.name.now (changes_of c.args.changes.now) in
     subst (λ (rows : Relation). IfOk c.prepare_overlay.result (λ p. length p.lost ≡ length (gained_rows (relation_after_each c.args.columns.now its rows) rows))) is c.prepare_overlay.ensures.lost

@@ -63,7 +63,7 @@ returns-clause-change c =
     let gained : c.deref-2.result.now ≡ gained_rows old new = c.deref-2.ensures.value ∙ c.in_ok-lost.ensures.gained c.args.stamp c.requires.lawful later in
     let o : IsRelation c.args.columns.now old = subst (λ columns. IsRelation columns old) c.requires.same (c.rows_are_a_relation.ensures c.args.stamp c.requires.lawful later) in
     let readied = c.prepare_change.new.self in
-    let still : relation_at readied c.args.stamp ≡ old = same_relation s readied readied.spare c.prepare_change.ensures.same c.args.stamp in
+    let still : relation_at readied c.args.stamp ≡ old = same_relation s readied readied.spare s.indexed c.prepare_change.ensures.same c.args.stamp in
     record {
       at = c.in_ok-prepared.ensures.stamp;
       fits = c.in_ok-prepared.ensures.fits;

@@ -11,7 +11,9 @@ returns-clause-size c =
       name = c.in_ok-copy.ensures ∙ c.name.ensures.value;
       first = refl;
       last = refl;
+      columns = of.columns ∙ same;
       keys = of.key_count;
       count = of.lawful.width ∙ ap (λ (cs : List Column). length cs) (of.columns ∙ same);
+      later = of.later;
       written = λ f k l. of.written f k (subst (λ (cs : List Column). k < length cs) (sym same) l);
     }

@@ -36,9 +36,9 @@ loop-i-preserved c =
           c.loop-i.invariant.there h c.in_ok-push.ensures.items) h.named h.has;
       there = within_more c.args.tables.now c.loop-i.begun.items c.next_place.new.begun.items c.loop-i.own.items c.push.new.self.items c.in_ok-place.place table.0 has
           c.loop-i.invariant.there h c.in_ok-place.ensures.there c.in_ok-push.ensures.items;
-      coming = next_coming c.args.tables.now c.args.places.now made (BeginsWith c.args.version rows) c.requires.there c.requires.ordered (entries c.args.next.now) c.loop-i.i table
+      coming = next_coming c.args.tables.now c.args.places.now made (BeginsWith c.args.version c.args.stamp rows) c.requires.there c.requires.ordered (entries c.args.next.now) c.loop-i.i table
           c.loop-i.begun.items c.next_place.new.begun.items c.loop-i.own.items c.push.new.self.items c.in_ok-place.place c.in-Some.ensures.table c.loop-i.invariant.coming
-          (comes_under c.args.version rows (made table.0) c.args.tables.now c.loop-i.begun.items c.next_place.new.begun.items c.args.places.now c.in_ok-place.place table c.in_ok-place.ensures.comes)
+          (comes_under c.args.version c.args.stamp rows (made table.0) c.args.tables.now c.loop-i.begun.items c.next_place.new.begun.items c.args.places.now c.in_ok-place.place table c.in_ok-place.ensures.comes)
           c.in_ok-push.ensures.items;
     }
 
@@ -46,7 +46,7 @@ pub returns : goal.returns
 returns c =
     let rows = next_rows (made_rows c.args.names c.args.rows.now) c.args.stamp (at_places c.args.tables.now c.args.places.now) in
     let has : List ℕ → List Column → Store → Type 0 = λ name columns store. Begins columns c.args.stamp (rows name) store in
-    let is = BeginsWith c.args.version rows in
+    let is = BeginsWith c.args.version c.args.stamp rows in
     let group = at_places (c.args.tables.now ++ c.loop-i.begun.items) c.loop-i.own.items in
     let all = all_begun has c.args.next.now c.loop-i.i c.len-i-end.result group c.len-i-end.ensures.count c.loop-i.auto.i-end c.loop-i-test.false c.loop-i.invariant.begun in
     let made = is_made (made_rows c.args.names c.args.rows.now) in

@@ -13,5 +13,5 @@ abbrev pub invariant-loop-i : goal.invariant-loop-i
 invariant-loop-i l = record {
   begun : AreBegun (λ name columns store. Begins columns l.stamp (next_rows (made_rows l.names l.rows) l.stamp (at_places l.tables l.places) name) store) (take l.i (entries l.next)) (at_places (l.tables ++ l.begun.items) l.own.items);
   there : AreWithin l.own.items (length l.tables + length l.begun.items);
-  coming : AreComing l.tables l.places (is_made (made_rows l.names l.rows)) (BeginsWith l.version (next_rows (made_rows l.names l.rows) l.stamp (at_places l.tables l.places))) (take l.i (entries l.next)) l.begun.items l.own.items;
+  coming : AreComing l.tables l.places (is_made (made_rows l.names l.rows)) (BeginsWith l.version l.stamp (next_rows (made_rows l.names l.rows) l.stamp (at_places l.tables l.places))) (take l.i (entries l.next)) l.begun.items l.own.items;
 }

@@ -1,15 +1,31 @@
-use Rattle.std.proofs.Common.{◌≡◌, ◌<◌, Some, true, false, List, length, get_or, sym, subst}
+use Rattle.std.proofs.Common.{◌≡◌, ◌<◌, ℕ, Bool, Some, true, false, List, [], ◌∷◌, length, get_or, refl, sym, subst}
+use Rattle.std.proofs.lemmas.Cmp.{tied_itself}
+use Rattle.relations.specs.Sets.{In}
+use Rattle.relations.proofs.SetLaws.{in_filter, from_filter, in_set, from_set}
+use Rattle.prima_base.specs.Order.{row_cmp}
+use Rattle.prima_base.specs.OrderLaws.{row_exact, value_total}
+use Rattle.prima_base.specs.declared.values.Value.{Value}
 use Rattle.prima_base.specs.Columns.{IsRelation}
 use Rattle.cond_expr.specs.declared.exprs.CmpOp.TheVariants.{Eq}
 use Rattle.cond_expr.specs.declared.exprs.Column.{Column}
 use Rattle.cond_expr.specs.PinnedParts.{pinned}
 use Rattle.cond_expr.specs.Seen.{test}
 use Rattle.history_store.specs.Cuts.{Cut, is_before}
-use Rattle.history_store.specs.Store.{relation_at}
-use Rattle.smo_meaning.specs.OneRow.{Relation, meets}
+use Rattle.history_store.specs.Store.{Store, rows_from, relation_at}
+use Rattle.history_store.specs.Handing.{is_value, at_column}
+use Rattle.history_store.specs.ByValue.{rows_with}
+use Rattle.smo_meaning.specs.OneRow.{Row, Relation, meets}
 use Rattle.version_groups.specs.Overlay.{HaveHits}
 use Rattle.version_groups.proofs.OverlayLaws.{between_has_hits}
 use Rattle.version_groups.proofs.overlay.lend_rows.Goals as goal
+
+-- the rows that have the value are among those that are stored, and all that meet the condition have it
+value_has_hits : (passes : Row → Bool) (s : Store) (m k : ℕ) (v : Value) → ((row : Row) → In row (relation_at s m) → passes row ≡ true → at_column k row ≡ v ∷ []) → HaveHits passes (relation_at s m) (rows_with k v (rows_from 0 m s.keys s.cells))
+unfolding relation_at
+value_has_hits passes s m k v pins = record {
+  only = λ row i. in_set row_cmp row_exact row (rows_from 0 m s.keys s.cells) (from_filter (λ r. is_value v (at_column k r)) row (rows_from 0 m s.keys s.cells) i).0;
+  all = λ row i p. in_filter (λ r. is_value v (at_column k r)) row (rows_from 0 m s.keys s.cells) (from_set row_cmp row_exact row (rows_from 0 m s.keys s.cells) i) (rw (pins row i p, tied_itself value_total v) refl);
+}
 
 pub returns-in-Some-rows_with : goal.returns-in-Some-rows_with
 returns-in-Some-rows_with c = λ m l h.
@@ -17,12 +33,10 @@ returns-in-Some-rows_with c = λ m l h.
     let t = test c.args.cond.now in
     let stored = relation_at c.args.store.now m in
     let o : IsRelation its stored = subst (λ columns. IsRelation columns stored) c.requires.same (c.rows_are_a_relation.ensures m l h) in
-    let w = c.in-Some-rows_with.ensures.rows m l h in
     let k = subst (λ (cs : List Column). (c.in-Some.column < length cs) × ((d : Column) → pinned Eq (get_or cs c.in-Some.column d) t ≡ Some c.in-Some.value.now)) c.atoms.ensures c.in-Some.ensures in
-    record {
-      only = λ row i. (w.only row i).0;
-      all = λ row i p. w.all row i (c.hits_have_pinned_values.ensures its t row c.in-Some.column c.in-Some.value.now c.requires.columns (o.fitting row i) p k.0 k.1);
-    }
+    subst (λ (rows : Relation). HaveHits (meets its t) stored rows) (sym (c.in-Some-rows_with.ensures.rows m l h))
+    (value_has_hits (meets its t) c.args.store.now m c.in-Some.column c.in-Some.value.now
+    (λ row i p. c.hits_have_pinned_values.ensures its t row c.in-Some.column c.in-Some.value.now c.requires.columns (o.fitting row i) p k.0 k.1))
 
 pub returns : goal.returns
 returns c = λ m l h.

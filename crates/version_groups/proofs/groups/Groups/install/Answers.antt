@@ -1,4 +1,5 @@
 use Rattle.std.proofs.Common.{◌≡◌, sym, ap, subst}
+use Rattle.version_groups.specs.Installing.{HasStep}
 use Rattle.version_groups.specs.Steps.{step_of, Readied, IsStep}
 use Rattle.version_groups.proofs.groups.Groups.install.Goals as goal
 
@@ -14,3 +15,6 @@ pub returns-clause-shows : goal.returns-clause-shows
 returns-clause-shows c = λ past command shows ready.
     let is : step_of c.args.next.step ≡ step_of c.next.inside.step = ap (λ (r : Readied). step_of r.step) (sym c.next.view_is) in
     c.install_step.ensures.shows past command shows ready.accepted ready.lawful ready.constants (subst (IsStep c.args.self.now past command.stamp command.body) is ready.step)
+
+pub returns-clause-step : goal.returns-clause-step
+returns-clause-step c = subst (HasStep c.args.self.now c.install_step.new.self) (ap (λ (r : Readied). r.step) c.next.view_is) c.install_step.ensures.step

@@ -9,7 +9,7 @@ use Rattle.version_groups.specs.GroupFields.{groups_view}
 use Rattle.version_groups.specs.Places.{at_places, AreWithin}
 use Rattle.version_groups.specs.Changing.{HaveRoom, AreMade}
 use Rattle.version_groups.specs.Installing.{HasChanges}
-use Rattle.version_groups.proofs.GroupPlaces.{newest_is, are_groups, names_made, has_changes}
+use Rattle.version_groups.proofs.GroupPlaces.{newest_is, are_groups, names_made, lines_made, has_changes}
 use Rattle.version_groups.proofs.groups.Groups.install_changes.Goals as goal
 
 pub install_tables-requires-clause-there : goal.install_tables-requires-clause-there
@@ -30,6 +30,7 @@ invariant_of-self c =
     let a = c.self.inside in
     let b : Inside = record a { stored = c.install_tables.new.tables } in
     are_groups a b refl refl refl c.self.invariant refl (names_made c.args.plans.items a.stored.items c.install_tables.new.tables.items c.install_tables.ensures.each)
+    (lines_made c.args.plans.items a.stored.items c.install_tables.new.tables.items c.install_tables.ensures.each)
 
 pub returns : goal.returns
 returns c =

@@ -11,7 +11,7 @@ use Rattle.version_groups.specs.GroupFields.{groups_view}
 use Rattle.version_groups.specs.Changing.{AreChangeable, AreReady, all_gained, all_lost}
 use Rattle.version_groups.specs.Room.{IsSame}
 use Rattle.version_groups.specs.Places.{at_places, AreWithin}
-use Rattle.version_groups.proofs.GroupPlaces.{newest_is, view_same, are_groups, names_kept}
+use Rattle.version_groups.proofs.GroupPlaces.{newest_is, view_same, are_groups, names_kept, lines_kept}
 use Rattle.version_groups.proofs.Readied.{schema_is, changeable_now, changes_ready}
 use Rattle.version_groups.proofs.groups.Groups.prepare_changes.Goals as goal
 
@@ -36,7 +36,7 @@ pub invariant_of-self : goal.invariant_of-self
 invariant_of-self c =
     let a = c.self.inside in
     let b : Inside = record a { stored = c.prepare_tables.new.tables } in
-    are_groups a b refl refl refl c.self.invariant refl (names_kept a.stored.items c.prepare_tables.new.tables.items c.prepare_tables.ensures.same)
+    are_groups a b refl refl refl c.self.invariant refl (names_kept a.stored.items c.prepare_tables.new.tables.items c.prepare_tables.ensures.same) (lines_kept a.stored.items c.prepare_tables.new.tables.items c.prepare_tables.ensures.same)
 
 pub returns-clause-same : goal.returns-clause-same
 returns-clause-same c =
@@ -54,7 +54,7 @@ returns-clause-next c = λ past shows accepted.
     let ordered : Ascends bytes_cmp (names_of (newest_group c.args.self.now)) = subst (λ (ts : List MadeTable). Ascends bytes_cmp (names_of ts)) (sym own) c.self.invariant.newest in
     let same : IsSame c.args.self.now (groups_view b) = subst (λ (k : Kept). IsSame k (groups_view b)) c.self.view_is (view_same a b refl refl refl c.prepare_tables.ensures.same (omega arith) (omega arith)) in
     let now : newest_group (groups_view b) ≡ at_places b.stored.items c.deref.result.now = newest_is b
-    (are_groups a b refl refl refl c.self.invariant refl (names_kept a.stored.items c.prepare_tables.new.tables.items c.prepare_tables.ensures.same))
+    (are_groups a b refl refl refl c.self.invariant refl (names_kept a.stored.items c.prepare_tables.new.tables.items c.prepare_tables.ensures.same) (lines_kept a.stored.items c.prepare_tables.new.tables.items c.prepare_tables.ensures.same))
     ∙ ap (at_places b.stored.items) (sym c.deref.ensures.value) in
     changes_ready c.args.self.now past c.args.stamp its shows c.requires.lawful accepted ordered c.requires.constants (groups_view b) same c.in_ok-made.made.plans.items
     (subst (λ (ts : List MadeTable). AreReady c.args.stamp its ts c.in_ok-made.made.plans.items) (sym now) c.in_ok-made.ensures.ready) _ refl
@@ -70,4 +70,4 @@ pub invariant_of-self-2 : goal.invariant_of-self-2
 invariant_of-self-2 c =
     let a = c.self.inside in
     let b : Inside = record a { stored = c.prepare_tables.new.tables } in
-    are_groups a b refl refl refl c.self.invariant refl (names_kept a.stored.items c.prepare_tables.new.tables.items c.prepare_tables.ensures.same)
+    are_groups a b refl refl refl c.self.invariant refl (names_kept a.stored.items c.prepare_tables.new.tables.items c.prepare_tables.ensures.same) (lines_kept a.stored.items c.prepare_tables.new.tables.items c.prepare_tables.ensures.same)

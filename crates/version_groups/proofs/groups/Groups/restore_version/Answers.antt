@@ -1,4 +1,4 @@
-use Rattle.std.proofs.Common.{◌≡◌, ◌+◌, ◌++◌, ◌∙◌, List, ℕ, length, append_assoc, ap, sym, subst}
+use Rattle.std.proofs.Common.{◌≡◌, ◌+◌, ◌++◌, ◌∙◌, List, ℕ, length, append_assoc, refl, ap, sym, subst}
 use Rattle.std.specs.FinMap.{entries}
 use Rattle.std.specs.Vec.Iter.{into_iter_items}
 use Rattle.prima_base.specs.Columns.{Column}
@@ -16,7 +16,7 @@ use Rattle.version_groups.specs.Restoring.{stores_of, is_one_of, HaveColumns, Be
 use Rattle.version_groups.proofs.GroupPlaces.{newest_places_are, newest_is}
 use Rattle.version_groups.proofs.PlacedTables.{filter_alike}
 use Rattle.version_groups.proofs.RestoredTables.{one_of_made, come_alike}
-use Rattle.version_groups.proofs.RestoredVersions.{version_again, others_stored, stores_with, restored_with}
+use Rattle.version_groups.proofs.RestoredVersions.{version_again, come_again, others_stored, comes_over, stores_with, restored_with}
 use Rattle.version_groups.proofs.groups.Groups.restore_version.Goals as goal
 
 pub restored_tables-requires-clause-schema : goal.restored_tables-requires-clause-schema
@@ -42,17 +42,15 @@ restored_tables-requires-clause-others c =
     (others_stored c.args.self.now c.requires.restored op c.args.version.schema c.requires.tables (is_one_of c.made.result)
     (one_of_made c.made.result before op (c.made.ensures.names before) (c.made.ensures.second before)))
 
-pub returns-clause-restored : goal.returns-clause-restored
-returns-clause-restored c =
-    let a = c.self.inside in
+pub install_version-requires-clause-come : goal.install_version-requires-clause-come
+install_version-requires-clause-come c =
     let old = c.args.self.now in
     let mid = c.reserve_version.new.self in
-    let before = newest_from no_tables (versions_in old) in
-    let op = operator_of c.args.version.op in
     let begun = c.in_ok-tables.tables.begun.items in
     let places = c.in_ok-tables.tables.places.items in
-    let has = version_again old c.install_version.new.self c.args.version begun places mid.versions mid.stored mid.places mid.spare mid.beginnings c.reserve_version.ensures.same.versions
-    c.reserve_version.ensures.stored c.reserve_version.ensures.same.places c.install_version.ensures in
+    let a = c.self.inside in
+    let before = newest_from no_tables (versions_in old) in
+    let op = operator_of c.args.version.op in
     let kept : c.deref.result.now ≡ old.stored = c.deref.ensures.value ∙ ap (λ (k : Kept). k.stored) c.self.view_is in
     let own : c.deref-2.result.now ≡ newest_places old = c.deref-2.ensures.value ∙ sym (newest_places_are a c.self.invariant) ∙ ap newest_places c.self.view_is in
     let number : c.newest-number.result + 1 ≡ length old.versions + 1 = ap (λ n. n + 1) c.newest-number.ensures in
@@ -62,7 +60,30 @@ returns-clause-restored c =
     subst (λ ts. ComeNext ts (newest_places old) (makes before op) (BeginsOver (length old.versions + 1)) HasColumns c.args.version.schema begun places) kept
     (subst (λ ps. ComeNext c.deref.result.now ps (makes before op) (BeginsOver (length old.versions + 1)) HasColumns c.args.version.schema begun places) own
     (subst (λ n. ComeNext c.deref.result.now c.deref-2.result.now (makes before op) (BeginsOver n) HasColumns c.args.version.schema begun places) number made)) in
-    restored_with old c.install_version.new.self c.requires.restored c.args.version begun places has c.requires.accepted c.requires.tables next
+    come_again old mid c.args.version begun places (sym c.reserve_version.ensures.same.versions) (sym c.reserve_version.ensures.stored)
+    (comes_over old c.requires.restored (operator_of c.args.version.op) c.args.version begun places refl c.requires.accepted c.requires.tables next)
+
+pub returns-clause-restored : goal.returns-clause-restored
+returns-clause-restored c =
+    let a = c.self.inside in
+    let old = c.args.self.now in
+    let mid = c.reserve_version.new.self in
+    let begun = c.in_ok-tables.tables.begun.items in
+    let places = c.in_ok-tables.tables.places.items in
+    let has = version_again old c.install_version.new.self c.args.version begun places mid.versions mid.stored mid.places mid.spare mid.beginnings c.reserve_version.ensures.same.versions
+    c.reserve_version.ensures.stored c.reserve_version.ensures.same.places c.install_version.ensures in
+    let before = newest_from no_tables (versions_in old) in
+    let op = operator_of c.args.version.op in
+    let kept : c.deref.result.now ≡ old.stored = c.deref.ensures.value ∙ ap (λ (k : Kept). k.stored) c.self.view_is in
+    let own : c.deref-2.result.now ≡ newest_places old = c.deref-2.ensures.value ∙ sym (newest_places_are a c.self.invariant) ∙ ap newest_places c.self.view_is in
+    let number : c.newest-number.result + 1 ≡ length old.versions + 1 = ap (λ n. n + 1) c.newest-number.ensures in
+    let made = come_alike c.deref.result.now c.deref-2.result.now (is_one_of c.made.result) (makes before op) (BeginsOver (c.newest-number.result + 1)) HasColumns c.args.version.schema begun places
+    (one_of_made c.made.result before op (c.made.ensures.names before) (c.made.ensures.second before)) c.in_ok-tables.ensures.next in
+    let next : ComeNext old.stored (newest_places old) (makes before op) (BeginsOver (length old.versions + 1)) HasColumns c.args.version.schema begun places =
+    subst (λ ts. ComeNext ts (newest_places old) (makes before op) (BeginsOver (length old.versions + 1)) HasColumns c.args.version.schema begun places) kept
+    (subst (λ ps. ComeNext c.deref.result.now ps (makes before op) (BeginsOver (length old.versions + 1)) HasColumns c.args.version.schema begun places) own
+    (subst (λ n. ComeNext c.deref.result.now c.deref-2.result.now (makes before op) (BeginsOver n) HasColumns c.args.version.schema begun places) number made)) in
+    restored_with old c.install_version.new.self c.requires.restored c.args.version begun places has next
 
 pub returns-clause-taken : goal.returns-clause-taken
 returns-clause-taken c =
