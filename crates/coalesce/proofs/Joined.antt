@@ -43,7 +43,7 @@ module _ {X : Type 0} (cmp : X → X → Ordering) (o : IsExact cmp) where
   unfolding ended
   gap_less a b h = less_entry cmp o (ended a) b h
 
-  not_after_trans : (a b c : Entry X) → NotAfter a b → NotAfter b c → NotAfter a c
+  pub not_after_trans : (a b c : Entry X) → NotAfter a b → NotAfter b c → NotAfter a c
   not_after_trans a b c (inl h) (inl k) = inl (o.trans a.item b.item c.item h k)
   not_after_trans a b c (inl h) (inr k) = inl (subst (λ (w : X). cmp a.item w ≡ Less) k.0 h)
   not_after_trans a b c (inr h) (inl k) = inl (subst (λ (w : X). cmp w c.item ≡ Less) (sym h.0) k)

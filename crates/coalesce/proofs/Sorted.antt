@@ -45,7 +45,7 @@ covered_moved : {X : Type 0} (xs ys : List (Entry X)) → IsPermutation xs ys �
 covered_moved xs ys p x m c = (c.0, in_moved xs ys p c.0 c.1, c.2, c.3, c.4)
 
 -- rows are compared as entries are
-vals_as_rows : (a b : TimedRow) → vals_cmp a.values.items b.values.items ≡ row_cmp (entry_of a).item (entry_of b).item
+pub vals_as_rows : (a b : TimedRow) → vals_cmp a.values.items b.values.items ≡ row_cmp (entry_of a).item (entry_of b).item
 vals_as_rows a b = sym (lex_map shown value_cmp a.values.items b.values.items)
 
 -- the ends do not matter
@@ -67,7 +67,7 @@ not_after a b h =
     step Equal q k = inr (sym (row_exact.same (entry_of b).item (entry_of a).item q), grind (arith, nat_tests))
     step Greater q k = inl (row_exact.turn (entry_of b).item (entry_of a).item q)
 
-ordered : (rows : List TimedRow) → ((k : ℕ) (d : TimedRow) → 0 ≤ k → k + 1 < length rows → is_lt (timed_cmp (get_or rows (k + 1) d) (get_or rows k d)) ≡ false)
+pub ordered : (rows : List TimedRow) → ((k : ℕ) (d : TimedRow) → 0 ≤ k → k + 1 < length rows → is_lt (timed_cmp (get_or rows (k + 1) d) (get_or rows k d)) ≡ false)
     → Ordered row_cmp row_exact (entries_of rows)
 ordered [] f = tt
 ordered (x ∷ []) f = tt

@@ -6,8 +6,8 @@ ghost use Rattle.coalesce.specs.Joining.{standing, merged, touch_rows, join_rows
 use prima_base::{TimedRow, Val};
 use std::cmp::Ordering;
 
-// Whether two rows show the same values.
-fn same_values(a: &[Val<'_>], b: &[Val<'_>]) -> bool
+/// Whether two rows show the same values. It takes no memory.
+pub fn same_values(a: &[Val<'_>], b: &[Val<'_>]) -> bool
     ensures { result ≡ is_eq (vals_cmp a.now b.now) }
 {
     if a.len() != b.len() {

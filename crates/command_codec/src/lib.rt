@@ -2,7 +2,8 @@
 //!
 //! command_encoder writes them; here they are read: `decode` a command that is all of the bytes, and
 //! `read_name`, `read_value` and `read_op` a part that begins at a place. Which bytes they are says
-//! command_spelling, with its laws.
+//! command_spelling, with its laws. `Reader` goes over bytes from the front, and `name`, `value`, `op` and
+//! `ops` read a part from it, for who reads a larger format.
 #![tactic(auto)]
 
 mod command_reader;
@@ -17,4 +18,7 @@ mod tree_reader;
 pub use command_encoder::{encode, put_name, put_op, put_value};
 pub use decoding::decode;
 pub use faults::CodecFault;
+pub use fields::{name, value};
+pub use operator_reader::{op, ops};
 pub use parts::{read_name, read_op, read_value};
+pub use reader::{Alphabet, Reader, Stop};

@@ -221,8 +221,9 @@ fn write_added(out: &mut Vec<u8>, column: &Name, expr: &Expr, table: &Name) -> R
     Ok(())
 }
 
-/// Writes the spelling of an operator after what is there.
-pub(crate) fn write_op(out: &mut Vec<u8>, op: &Op) -> Result<(), NoMemory>
+/// Writes the spelling of an operator that can be written after what is there. The one error is `NoMemory`, where memory runs out; a part of it
+/// may then stand there.
+pub fn write_op(out: &mut Vec<u8>, op: &Op) -> Result<(), NoMemory>
     requires { IsWritableOperator (operator_of op.now) }
     ensures ok { OnOk result (out.new.items ≡ out.old.items ++ operator_bytes (operator_of op.now)) }
     ensures named { OnOk result (OperatorNamed (operator_of op.now)) }
@@ -279,8 +280,9 @@ fn write_each_op(out: &mut Vec<u8>, ops: &[Op]) -> Result<(), NoMemory>
     Ok(())
 }
 
-/// Writes operators after what is there, with their count before them.
-pub(crate) fn write_ops(out: &mut Vec<u8>, ops: &[Op]) -> Result<(), NoMemory>
+/// Writes operators that can be written after what is there, with their count before them. The one error is `NoMemory`, where memory runs
+/// out; a part of them may then stand there.
+pub fn write_ops(out: &mut Vec<u8>, ops: &[Op]) -> Result<(), NoMemory>
     requires counted { length ops.now < 2 ^ 32 }
     requires writable { AllByRecursion IsWritableOperator (operators_of ops.now) }
     ensures ok { OnOk result (out.new.items ≡ out.old.items ++ list_bytes 4 operator_bytes (operators_of ops.now)) }

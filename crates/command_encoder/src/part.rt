@@ -2,15 +2,17 @@
 
 ghost use Rattle.std.specs.Prelude.{◌≡◌, ◌++◌, ◌∷◌, length, OnOk, OnErr};
 ghost use Rattle.prima_base.specs.Bytes.{IsName, IsTxt};
+ghost use Rattle.prima_base.specs.Columns.{IsLawful};
+ghost use Rattle.prima_base.specs.Order.{shown};
 ghost use Rattle.prima_base.specs.declared.values.Value.TheVariants.{Int as IntValue, Text as TextValue};
 ghost use Rattle.command_spelling.specs.Found.{Appends, SpellsName, SpellsValue};
 ghost use Rattle.command_spelling.specs.Lawful.{IsValue};
 ghost use Rattle.command_spelling.specs.Spelling.{number, name_bytes, value_bytes};
 
-use prima_base::{Name, NoMemory, Txt, Value};
+use prima_base::{Name, NoMemory, Val, Value};
 
-/// Writes these bytes after what is there, all or none.
-pub(crate) fn put(out: &mut Vec<u8>, bytes: &[u8]) -> Result<(), NoMemory>
+/// Writes these bytes after what is there, all or none. The one error is `NoMemory`, where memory runs out.
+pub fn put(out: &mut Vec<u8>, bytes: &[u8]) -> Result<(), NoMemory>
     ensures ok { OnOk result (out.new.items ≡ out.old.items ++ bytes.now) }
     ensures err { OnErr result (out.new.items ≡ out.old.items) }
 {
@@ -48,24 +50,24 @@ pub(crate) fn put_u16(out: &mut Vec<u8>, value: u16) -> Result<(), NoMemory>
     put(out, &value.to_be_bytes())
 }
 
-/// A number in four bytes.
+/// Writes a number in four bytes, the highest first, after what is there. The one error is `NoMemory`, where memory runs out.
 #[tactic(auto, unfolding(command_spelling::specs::Spelling::number))]
-pub(crate) fn put_u32(out: &mut Vec<u8>, value: u32) -> Result<(), NoMemory>
+pub fn put_u32(out: &mut Vec<u8>, value: u32) -> Result<(), NoMemory>
     ensures ok { OnOk result (out.new.items ≡ out.old.items ++ number 4 value) }
 {
     put(out, &value.to_be_bytes())
 }
 
-/// A number in eight bytes.
+/// Writes a number in eight bytes, the highest first, after what is there. The one error is `NoMemory`, where memory runs out.
 #[tactic(auto, unfolding(command_spelling::specs::Spelling::number))]
-pub(crate) fn put_u64(out: &mut Vec<u8>, value: u64) -> Result<(), NoMemory>
+pub fn put_u64(out: &mut Vec<u8>, value: u64) -> Result<(), NoMemory>
     ensures ok { OnOk result (out.new.items ≡ out.old.items ++ number 8 value) }
 {
     put(out, &value.to_be_bytes())
 }
 
-/// Writes the spelling of a name after what is there.
-pub(crate) fn write_name(out: &mut Vec<u8>, name: &Name) -> Result<(), NoMemory>
+/// Writes the spelling of a name after what is there, all or none. The one error is `NoMemory`, where memory runs out.
+pub fn write_name(out: &mut Vec<u8>, name: &Name) -> Result<(), NoMemory>
     ensures ok { OnOk result (out.new.items ≡ out.old.items ++ name_bytes name.now) }
     ensures named { IsName name.now }
     ensures err { OnErr result (out.new.items ≡ out.old.items) }
@@ -74,14 +76,13 @@ pub(crate) fn write_name(out: &mut Vec<u8>, name: &Name) -> Result<(), NoMemory>
     put_both(out, &[bytes.len() as u8], bytes)
 }
 
-// Writes the spelling of a text after what is there.
+// Writes the spelling of a text of these bytes after what is there.
 #[tactic(auto, unfolding(command_spelling::specs::Spelling::number))]
-fn write_text(out: &mut Vec<u8>, text: &Txt) -> Result<(), NoMemory>
-    ensures ok { OnOk result (out.new.items ≡ out.old.items ++ value_bytes (TextValue text.now)) }
-    ensures lawful { IsTxt text.now }
+fn write_text(out: &mut Vec<u8>, bytes: &[u8]) -> Result<(), NoMemory>
+    requires { IsTxt bytes.now }
+    ensures ok { OnOk result (out.new.items ≡ out.old.items ++ value_bytes (TextValue bytes.now)) }
     ensures err { OnErr result (out.new.items ≡ out.old.items) }
 {
-    let bytes = text.bytes();
     let [high, low] = (bytes.len() as u16).to_be_bytes();
     put_both(out, &[1, high, low], bytes)
 }
@@ -104,7 +105,20 @@ pub(crate) fn write_value(out: &mut Vec<u8>, value: &Value) -> Result<(), NoMemo
 {
     match value {
         Value::Int(number) => write_int(out, *number),
-        Value::Text(text) => write_text(out, text),
+        Value::Text(text) => write_text(out, text.bytes()),
+    }
+}
+
+/// Writes the spelling of a value that is lent after what is there, all or none. The one error is `NoMemory`, where memory runs out.
+pub fn write_lent(out: &mut Vec<u8>, value: &Val<'_>) -> Result<(), NoMemory>
+    requires { IsLawful (shown value.now) }
+    ensures ok { OnOk result (out.new.items ≡ out.old.items ++ value_bytes (shown value.now)) }
+    ensures err { OnErr result (out.new.items ≡ out.old.items) }
+{
+    match value {
+        Val::Int(number) => write_int(out, *number),
+        Val::Slice(bytes) => write_text(out, bytes),
+        Val::Own(text) => write_text(out, text.bytes()),
     }
 }
 

@@ -2,6 +2,8 @@
 
 ghost use Rattle.std.specs.Prelude.{◌≡◌, ◌+◌, ◌≤◌, map, min, length};
 ghost use Rattle.std.specs.List.{flat_map};
+ghost use Rattle.prima_base.specs.Columns.{IsLawful};
+ghost use Rattle.prima_base.specs.Order.{shown};
 ghost use Rattle.cond_expr.specs.Seen.{tree, test, trees_of, tests_of};
 ghost use Rattle.smo_types.specs.Operators.{operator_of, operators_of, decompose_table};
 ghost use Rattle.smo_types.specs.Changes.{change_of, changes_of, sets_of};
@@ -9,12 +11,12 @@ ghost use Rattle.smo_types.specs.Commands.{body_of};
 ghost use Rattle.command_spelling.specs.Spelling.{name_bytes, value_bytes, tree_bytes, trees_bytes, test_bytes, tests_bytes, column_bytes, operator_bytes, cell_bytes, set_bytes, change_bytes, body_bytes};
 
 use cond_expr::{Cond, Expr};
-use prima_base::{ColType, Name, Value};
+use prima_base::{ColType, Name, Val, Value};
 use smo_types::{Body, Change, Op};
 
-// The bytes of a name; at most 64.
+/// The bytes of a name; at most 64.
 #[tactic(auto, using(crate::proofs::Lengths::lengths))]
-fn name_size(name: &Name) -> u64
+pub fn name_size(name: &Name) -> u64
     ensures size { result ≡ length (name_bytes name.now) }
     ensures small { result ≤ 64 }
 {
@@ -30,6 +32,20 @@ fn value_size(value: &Value) -> u64
     match value {
         Value::Int(_) => 9,
         Value::Text(text) => text.bytes().len() as u64 + 3,
+    }
+}
+
+/// The bytes of a value that is lent; at most 4,099.
+#[tactic(auto, using(crate::proofs::Lengths::lengths))]
+pub fn lent_size(value: &Val<'_>) -> u64
+    requires { IsLawful (shown value.now) }
+    ensures size { result ≡ length (value_bytes (shown value.now)) }
+    ensures small { result ≤ 4099 }
+{
+    match value {
+        Val::Int(_) => 9,
+        Val::Slice(bytes) => bytes.len() as u64 + 3,
+        Val::Own(text) => text.bytes().len() as u64 + 3,
     }
 }
 
@@ -134,9 +150,9 @@ fn decomposed_size(
     columns.saturating_add(name_size(table) + name_size(left) + name_size(right) + 3)
 }
 
-/// The bytes of an operator.
+/// The bytes of an operator, up to `u64::MAX`.
 #[tactic(auto, using(crate::proofs::Lengths::lengths))]
-pub(crate) fn op_size(op: &Op) -> u64
+pub fn op_size(op: &Op) -> u64
     ensures { result ≡ min (length (operator_bytes (operator_of op.now))) u64.MAX }
 {
     match op {
@@ -185,9 +201,9 @@ pub(crate) fn op_size(op: &Op) -> u64
     }
 }
 
-// The bytes of operators, without their count.
+/// The bytes of operators, without their count, up to `u64::MAX`.
 #[tactic(auto, using(crate::proofs::Lengths::lengths))]
-fn ops_size(list: &[Op]) -> u64
+pub fn ops_size(list: &[Op]) -> u64
     ensures { result ≡ min (length (flat_map operator_bytes (operators_of list.now))) u64.MAX }
 {
     let mut size: u64 = 0;

@@ -126,7 +126,9 @@ fn check_changes(changes: &[Change]) -> Result<(), (What, u64)>
     Ok(())
 }
 
-fn check_evolve(op: &Op, inverse: &[Op]) -> Result<(), (What, u64)>
+/// The first count of an operator and its inverse, in written order, that is above its limit, and the limit, as of a command. Where none is,
+/// each constant that can come into a row has been met, and is a lawful value. It takes no memory.
+pub fn check_evolve(op: &Op, inverse: &[Op]) -> Result<(), (What, u64)>
     ensures counts { result_err result ≡ first_excess (evolving (operator_of op.now) (operators_of inverse.now)) }
     ensures constants { OnOk result (OperatorHolds (operator_of op.now) × OperatorsHold (operators_of inverse.now)) }
 {
