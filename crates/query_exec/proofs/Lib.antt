@@ -13,3 +13,4 @@ pub mod ItemAtoms
 pub mod WholeAnswers
 pub mod LentRows
 pub mod RunLaws
+pub mod FoundDead

@@ -10,3 +10,4 @@ pub mod Standing
 pub mod Reads
 pub mod Accepted
 pub mod Lent
+pub mod Constants

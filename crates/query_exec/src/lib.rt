@@ -18,5 +18,5 @@ mod walks;
 
 pub use answers::answer;
 pub use explaining::explain;
-pub use laws::a_run_is_read_as_each_of_its_parts;
+pub use laws::{a_run_is_read_as_each_of_its_parts, living_pieces_are_those_that_are_not_dead};
 pub use losses::first_loss;
