@@ -4,7 +4,7 @@
 # ADD and DROP COLUMN in turn, renames of another table, or PARTITION and MERGE in turn, each the other's inverse; of the last at most 12, since
 # each MERGE of what a PARTITION has parted doubles the pieces of a question that goes over both. Prints the seconds of the load with
 # its operators, the seconds that each of the two questions adds, and the most memory in KiB. A table is stored once over the versions that
-# do not touch it, so memory grows as V + n times the versions that do; a question reads it once for each version.
+# do not touch it, so memory grows as V + n times the versions that do; a question reads it once for all neighbouring versions that do not touch it.
 set -eu
 top=$(cd "$(dirname "$0")/.." && pwd)
 "$top/prima" </dev/null >/dev/null || [ $? -eq 2 ] # builds what is missing; no words, no archive
