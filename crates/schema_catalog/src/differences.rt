@@ -5,7 +5,7 @@ ghost use Rattle.prima_base.specs.Order.{bytes_cmp};
 ghost use Rattle.schema_catalog.specs.Differences.{IsSame, IsDifference};
 
 use crate::schemas::Schema;
-use crate::tables::Table;
+use crate::tables::SharedTable;
 use prima_base::{ColType, Name, NoMemory};
 use std::cmp::Ordering;
 
@@ -36,7 +36,7 @@ fn same_columns(a: &[(Name, ColType)], b: &[(Name, ColType)]) -> bool
 }
 
 // The first name, in name order, under which tables in the order of their names differ from others.
-fn first_difference<'a>(tables: &'a [Table], others: &'a [Table]) -> Option<&'a Name>
+fn first_difference<'a>(tables: &'a [SharedTable], others: &'a [SharedTable]) -> Option<&'a Name>
     requires tables { T (is_sorted bytes_cmp tables.now) }
     requires others { T (is_sorted bytes_cmp others.now) }
     ensures { IsDifference tables.now others.now (option_copied result) }

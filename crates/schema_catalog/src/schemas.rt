@@ -1,14 +1,15 @@
 use crate::places::{copy_tables, copy_without, place_of, put_table};
-use crate::tables::Table;
+use crate::tables::{SharedTable, Table};
 use prima_base::{Name, NoMemory};
 use std::alloc::Global;
 use std::marker::Model;
 
-/// The tables of one version. A contract sees the map from their names to their columns.
+/// The tables of one version. Schemas share the tables that they have in common: a copy, and one with a table more or less, costs
+/// a word a table, whatever their columns. A contract sees the map from their names to their columns.
 #[derive(Drop)]
 pub struct Schema {
     alloc: Global,
-    tables: Vec<Table>,
+    tables: Vec<SharedTable>,
 }
 
 impl Model for Schema {
@@ -56,7 +57,7 @@ impl Schema {
         ensures lawful { IsSchema self.now }
     {
         match place_of(&self.tables, name) {
-            Ok(i) => Some(&self.tables[i]),
+            Ok(i) => Some(self.tables[i].table()),
             Err(_) => None,
         }
     }
@@ -67,7 +68,10 @@ impl Schema {
         ensures table { MatchOption result (map.len self.now ≤ i) (λ t. slice_get (map.entries self.now) i ≡ Some t.now) }
         ensures lawful { IsSchema self.now }
     {
-        self.tables.get(i as usize)
+        match self.tables.get(i as usize) {
+            Some(shared) => Some(shared.table()),
+            None => None,
+        }
     }
 
     /// An equal schema. The one error is `NoMemory`, where memory runs out.
@@ -86,7 +90,7 @@ impl Schema {
         ensures { IfOk result (λ s. s ≡ map.insert self.now table.0 table.1) }
     {
         let mut tables = copy_tables(self.alloc, &self.tables)?;
-        put_table(&mut tables, table)?;
+        put_table(&mut tables, SharedTable::new(self.alloc, table)?)?;
         Ok(Schema {
             alloc: self.alloc,
             tables,
@@ -105,7 +109,7 @@ impl Schema {
     }
 
     // The tables, in the order of their names.
-    pub(crate) fn tables(&self) -> &[Table]
+    pub(crate) fn tables(&self) -> &[SharedTable]
         ensures { AreTablesOf result.now self.now }
     {
         &self.tables

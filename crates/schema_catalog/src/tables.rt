@@ -1,6 +1,7 @@
 use prima_base::{ColType, Name, NoMemory};
 use std::alloc::Global;
 use std::marker::Model;
+use std::rc::Rc;
 
 /// A table: its name, and its columns in the order of their names, each once. A contract sees it as the
 /// pair of both.
@@ -89,5 +90,64 @@ impl Table {
             name: self.name.copy()?,
             columns: copy_columns(self.alloc, &self.columns)?,
         })
+    }
+}
+
+/// A table that several schemas have: the table itself stands once.
+#[derive(Drop)]
+pub(crate) struct SharedTable {
+    table: Rc<Table>,
+}
+
+impl Model for SharedTable {
+    ghost use Rattle.std.specs.Prelude.{ℕ, List};
+    ghost use Rattle.prima_base.specs.Columns.{Column};
+
+    ghost Value = { List ℕ × List Column };
+
+    ghost view = { λ s. s.table.value };
+}
+
+impl SharedTable {
+    // The first of those that share the table.
+    pub(crate) fn new(alloc: Global, table: Table) -> Result<SharedTable, NoMemory>
+        ensures { IfOk result (λ s. s ≡ table) }
+    {
+        match Rc::new(alloc, table) {
+            Ok(table) => Ok(SharedTable { table }),
+            Err(_) => Err(NoMemory),
+        }
+    }
+
+    // The table.
+    pub(crate) fn table(&self) -> &Table
+        ensures { result.now ≡ self.now }
+    {
+        &self.table
+    }
+
+    // The table's name.
+    pub(crate) fn name(&self) -> &Name
+        ensures value { result.now ≡ self.now.0 }
+        ensures lawful { AreColumns self.now.1 }
+    {
+        self.table().name()
+    }
+
+    // The table's columns.
+    pub(crate) fn columns(&self) -> &[(Name, ColType)]
+        ensures { result.now ≡ self.now.1 }
+    {
+        self.table().columns()
+    }
+
+    // The table, shared by one more. It takes no memory.
+    pub(crate) fn share(&self) -> Result<SharedTable, NoMemory>
+        ensures { IfOk result (λ s. s ≡ self.now) }
+    {
+        match self.table.clone() {
+            Ok(table) => Ok(SharedTable { table }),
+            Err(_) => Err(NoMemory),
+        }
     }
 }

@@ -34,7 +34,7 @@ returns-then-not-same_columns c =
     (columns_differ c.args.tables.now c.args.others.now c.loop-i.i c.loop-i.invariant.tables c.loop-i.invariant.others c.loop-i.invariant.rest
     c.index-tables-i.result c.in-Some.other.now c.loop-i-test.true c.index-tables-i.is found.0 (found.1 c.in-Some.other.now)
     (rw (← c.name-in-loop-i.ensures.value, ← c.name-in-loop-i-2.ensures.value) (sym c.cmp.ensures ∙ c.in-Equal.is))
-    (not_from_Decides c.same_columns.result (rw (← c.columns.ensures.value, ← c.columns-in-loop-i.ensures.value) c.same_columns.ensures) c.if-not-same_columns.true))
+    (not_from_Decides c.same_columns.result (rw (← c.columns.ensures, ← c.columns-in-loop-i.ensures) c.same_columns.ensures) c.if-not-same_columns.true))
 
 pub loop-i-preserved : goal.loop-i-preserved
 loop-i-preserved c =
@@ -42,7 +42,7 @@ loop-i-preserved c =
     let is : bytes_cmp c.index-tables-i.result.0 c.in-Some.other.now.0 ≡ Equal =
     rw (← c.name-in-loop-i.ensures.value, ← c.name-in-loop-i-2.ensures.value) (sym c.cmp.ensures ∙ c.in-Equal.is) in
     let columns : c.index-tables-i.result.1 ≡ c.in-Some.other.now.1 =
-    rw (← c.columns.ensures.value, ← c.columns-in-loop-i.ensures.value) (c.same_columns.ensures.0 c.if-not-same_columns.false) in
+    rw (← c.columns.ensures, ← c.columns-in-loop-i.ensures) (c.same_columns.ensures.0 c.if-not-same_columns.false) in
     record {
       tables = tables_go_on c.args.tables.now c.args.others.now c.loop-i.i c.loop-i.invariant.tables c.loop-i.invariant.others c.loop-i.invariant.rest
           c.index-tables-i.result c.in-Some.other.now c.loop-i-test.true c.index-tables-i.is found.0 (found.1 c.in-Some.other.now);

@@ -6,5 +6,5 @@ returns-then-eq c = left_out c.args.copied.now.items c.args.table.now c.args.nam
 
 pub returns : goal.returns
 returns c =
-    rw (c.in_ok-push.ensures.items, c.in_ok-copy.ensures)
+    rw (c.in_ok-push.ensures.items, c.in_ok-share.ensures)
     (put_behind c.args.copied.now.items c.args.table.now c.args.name.now c.eq.result (rw (← c.name.ensures.value) c.eq.ensures) c.if-eq.false)

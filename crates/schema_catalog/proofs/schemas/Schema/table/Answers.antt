@@ -2,7 +2,7 @@ use Rattle.schema_catalog.proofs.Lawful.{table_found, table_not_found, is_schema
 use Rattle.schema_catalog.proofs.schemas.Schema.table.Goals as goal
 
 pub returns-in-Ok-clause-table : goal.returns-in-Ok-clause-table
-returns-in-Ok-clause-table c = rw (← c.self.view_is) (table_found c.args.name.now c.self.inside.tables.items c.in-Ok.i c.index.result.now c.self.invariant.sorted (rw (← c.deref.ensures.value) c.in-Ok.ensures) c.index.ensures)
+returns-in-Ok-clause-table c = rw (c.table.ensures, ← c.self.view_is) (table_found c.args.name.now c.self.inside.tables.items c.in-Ok.i c.index.result.now c.self.invariant.sorted (rw (← c.deref.ensures.value) c.in-Ok.ensures) c.index.ensures)
 
 pub returns-in-Ok-clause-lawful : goal.returns-in-Ok-clause-lawful
 returns-in-Ok-clause-lawful c = rw (← c.self.view_is) (is_schema c.self.inside.tables.items c.self.invariant)
