@@ -37,6 +37,17 @@ fn owned<'a>(constant: &Value) -> Result<Val<'a>, NoMemory>
     }
 }
 
+// The constant, lent.
+fn lent<'a>(constant: &'a Value) -> Val<'a>
+    ensures value { shown result ≡ constant.now }
+    ensures lawful { IsLawful (shown result) }
+{
+    match constant {
+        Value::Int(n) => Val::Int(*n),
+        Value::Text(text) => Val::Slice(text.bytes()),
+    }
+}
+
 // The value of the first column that the reference names.
 fn look_up<'a>(
     columns: &[Column],
@@ -172,6 +183,24 @@ fn join(
     Txt::of(alloc, &joined)
 }
 
+// A side of a comparison: a constant is lent, so that a condition over many rows copies no text of its own.
+#[cycle(eval)]
+fn side<'a>(
+    alloc: Global,
+    expr: &'a Expr,
+    columns: &[Column],
+    values: &[Val<'a>],
+) -> Result<Val<'a>, NoMemory>
+    requires { AreLawful values.now }
+    ensures value { IfOk result (λ v. shown v ≡ value (flat columns.now values.now) (tree expr.now)) }
+    ensures lawful { IfOk result (λ v. IsLawful (shown v)) }
+{
+    match expr {
+        Expr::Const(constant) => Ok(lent(constant)),
+        _ => eval(alloc, expr, columns, values),
+    }
+}
+
 /// Whether a condition holds over one value a column. It fails only for want of memory.
 ///
 /// The values are lawful, as for `eval`. Where `check_cond` accepts the condition, and the values are of the columns'
@@ -190,8 +219,8 @@ pub fn holds(
         Cond::False => Ok(false),
         Cond::True => Ok(true),
         Cond::Cmp(op, left, right) => {
-            let left = eval(alloc, left, columns, values)?;
-            let right = eval(alloc, right, columns, values)?;
+            let left = side(alloc, left, columns, values)?;
+            let right = side(alloc, right, columns, values)?;
             Ok(decide(*op, left.compare(&right)))
         }
         Cond::And(parts) => all_hold(alloc, parts, columns, values),
