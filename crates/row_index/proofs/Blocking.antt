@@ -1,12 +1,12 @@
 -- Ids in blocks, by place.
-use Rattle.std.proofs.Common.{◌≡◌, ℕ, suc, zero, ◌+◌, ◌-◌, ◌<◌, ◌≤◌, List, [], ◌∷◌, ◌++◌, length, get_or, set, refl, sym, ap, ◌∙◌, subst, arith, length-append, append_assoc, inl, inr}
+use Rattle.std.proofs.Common.{◌≡◌, ℕ, suc, zero, ◌+◌, ◌-◌, ◌*◌, ◌<◌, ◌≤◌, List, [], ◌∷◌, ◌++◌, length, get_or, set, refl, sym, ap, ◌∙◌, subst, arith, length-append, append_assoc, inl, inr}
 use Rattle.std.proofs.lemmas.Bool.{cases_lt}
 use Rattle.std.specs.Prelude.{All}
 use Rattle.std.proofs.Math.ListN.{get_or-append, length-set}
-use Rattle.std.proofs.lemmas.List.{get_or-set_other, get_or-set_same, nil_from_length}
+use Rattle.std.proofs.lemmas.List.{get_or-set_other, get_or-set_same}
 use Rattle.std.specs.List.{concat, insert, remove}
 use Rattle.std.proofs.lemmas.List.Edits.{insert-append_left, remove-append_left, length-insert, length-remove, get_or-insert_below}
-use Rattle.row_index.specs.Blocks.{before, IsCounted}
+use Rattle.row_index.specs.Blocks.{before, filled, half_size, ids_left, blocks_left, IsCounted}
 
 -- ---- behind other ids
 
@@ -161,11 +161,6 @@ count_split starts blocks b low high w h k m l =
 pub take_plain : (blocks : List (List ℕ)) (b i at : ℕ) (was now : List ℕ) → b < length blocks → at ≡ before b blocks + i → i < length (get_or blocks b []) → was ≡ get_or blocks b was → now ≡ remove was i → concat (set blocks b now) ≡ remove (concat blocks) at
 take_plain blocks b i at was now h p l w n = ap (λ x. concat (set blocks b x)) (n ∙ ap (λ (x : List ℕ). remove x i) (was_is blocks b was h w)) ∙ remove_in blocks b i at h l p
 
-pub emptied : (blocks : List (List ℕ)) (b : ℕ) (now seen : List ℕ) → b < length blocks → seen ≡ get_or (set blocks b now) b seen → length seen ≡ 0 → get_or (set blocks b now) b [] ≡ []
-emptied blocks b now seen h e z =
-    let n : seen ≡ now = e ∙ get_or-set_same blocks b now seen h in
-    get_or-set_same blocks b now [] h ∙ sym n ∙ nil_from_length seen z
-
 pub take_empty : (blocks : List (List ℕ)) (b i at : ℕ) (was now : List ℕ) → b < length blocks → at ≡ before b blocks + i → i < length (get_or blocks b []) → was ≡ get_or blocks b was → now ≡ remove was i → get_or (set blocks b now) b [] ≡ []
     → concat (remove (set blocks b now) b) ≡ remove (concat blocks) at
 take_empty blocks b i at was now h p l w n z = let m = length-set blocks b now in without_empty (set blocks b now) b (omega (arith, m)) z ∙ take_plain blocks b i at was now h p l w n
@@ -201,3 +196,67 @@ pub front_empty : (xs ys : List (List ℕ)) (y : List ℕ) → All (λ b. b ≡ 
 front_empty xs ys y a e k d h =
     let n = ap length e ∙ length-append ys (y ∷ []) in
     sym (get_or-append ys (y ∷ []) d k h) ∙ ap (λ (zs : List (List ℕ)). get_or zs k d) (sym e) ∙ a k d (omega (arith, n, h))
+
+-- ---- how many ids may come
+
+pub filled_set : (blocks : List (List ℕ)) (b : ℕ) (now : List ℕ) → b < length blocks → filled (set blocks b now) + (length (get_or blocks b []) - half_size) ≡ filled blocks + (length now - half_size)
+filled_set [] b now h = absurd (omega arith)
+filled_set (c ∷ blocks) zero now h = omega arith
+filled_set (c ∷ blocks) (suc b) now h = let r = filled_set blocks b now (omega arith) in omega (arith, r)
+
+pub filled_insert : (blocks : List (List ℕ)) (b : ℕ) (c : List ℕ) → b ≤ length blocks → filled (insert blocks b c) ≡ filled blocks + (length c - half_size)
+filled_insert blocks zero c h = omega arith
+filled_insert [] (suc b) c h = absurd (omega arith)
+filled_insert (d ∷ blocks) (suc b) c h = let r = filled_insert blocks b c (omega arith) in omega (arith, r)
+
+pub filled_remove : (blocks : List (List ℕ)) (b : ℕ) → filled (remove blocks b) ≤ filled blocks
+filled_remove [] zero = omega arith
+filled_remove [] (suc b) = omega arith
+filled_remove (c ∷ blocks) zero = omega arith
+filled_remove (c ∷ blocks) (suc b) = let r = filled_remove blocks b in omega (arith, r)
+
+pub filled_few : (blocks : List (List ℕ)) → filled blocks ≤ length (concat blocks)
+filled_few [] = omega arith
+filled_few (c ∷ blocks) = let r = filled_few blocks in omega (arith, r, length-append c (concat blocks))
+
+-- a block that gets one id more
+pub filled_one : (blocks : List (List ℕ)) (b i id : ℕ) (was now : List ℕ) → b < length blocks → i ≤ length was → was ≡ get_or blocks b was → now ≡ insert was i id → filled (set blocks b now) ≤ filled blocks + 1
+filled_one blocks b i id was now h l w n =
+    let r = filled_set blocks b now h in
+    let e = ap length (was_is blocks b was h w) in
+    let m = ap length n ∙ length-insert was i id l in
+    omega (arith, r, e, m)
+
+-- a full block that is split where it gets one id more
+pub filled_split : (blocks : List (List ℕ)) (b i id : ℕ) (was low high : List ℕ) → b < length blocks → i ≤ length was → was ≡ get_or blocks b was → low ++ high ≡ insert was i id → 2 * half_size ≤ length was → half_size ≤ length low → half_size ≤ length high
+    → filled (insert (set blocks b low) (b + 1) high) + (half_size - 1) ≤ filled blocks
+filled_split blocks b i id was low high h l w n f p q =
+    let r = filled_set blocks b low h in
+    let s = filled_insert (set blocks b low) (b + 1) high (let m = length-set blocks b low in omega (arith, m)) in
+    let e = ap length (was_is blocks b was h w) in
+    let m = ap length n ∙ length-insert was i id l in
+    let k = length-append low high in
+    omega (arith, r, s, e, m, k)
+
+pub filled_less : (blocks : List (List ℕ)) (b i : ℕ) (was now : List ℕ) → b < length blocks → i < length was → was ≡ get_or blocks b was → now ≡ remove was i → filled (set blocks b now) ≤ filled blocks
+filled_less blocks b i was now h l w n =
+    let r = filled_set blocks b now h in
+    let e = ap length (was_is blocks b was h w) in
+    let m = ap length n in
+    let k = length-remove was i l in
+    omega (arith, r, e, m, k)
+
+pub one_more_put : (blocks blocks' : List (List ℕ)) (more more' : ℕ) → filled blocks' ≤ filled blocks + 1 → more ≤ more' → ids_left more blocks ≤ ids_left more' blocks' + 1
+one_more_put blocks blocks' more more' h k = omega arith
+
+pub one_more_split : (blocks blocks' : List (List ℕ)) (more more' : ℕ) → filled blocks' + (half_size - 1) ≤ filled blocks → more ≤ more' + 1 → ids_left more blocks ≤ ids_left more' blocks' + 1
+one_more_split blocks blocks' more more' h k = omega arith
+
+pub no_more_filled : (blocks blocks' : List (List ℕ)) (more more' : ℕ) → filled blocks' ≤ filled blocks → more ≤ more' → ids_left more blocks ≤ ids_left more' blocks'
+no_more_filled blocks blocks' more more' h k = omega arith
+
+pub same_blocks : (a b c a' b' c' : ℕ) → a ≤ a' → b ≤ b' → c ≤ c' → blocks_left a b c ≤ blocks_left a' b' c'
+same_blocks a b c a' b' c' h k l = omega arith
+
+pub one_block_less : (a b c a' b' c' : ℕ) → a ≤ a' + 1 → b ≤ b' + 1 → c ≤ c' + 1 → blocks_left a b c ≤ blocks_left a' b' c' + 1
+one_block_less a b c a' b' c' h k l = omega arith

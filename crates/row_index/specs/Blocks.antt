@@ -1,5 +1,5 @@
 -- Ids in an order, kept in blocks.
-use Rattle.std.specs.Prelude.{◌≡◌, ℕ, zero, suc, ◌+◌, ◌-◌, ◌^◌, ◌<◌, ◌≤◌, min, List, [], ◌∷◌, length, All, slice_index, vec_len, vec_capacity}
+use Rattle.std.specs.Prelude.{◌≡◌, ℕ, zero, suc, ◌+◌, ◌-◌, ◌*◌, ◌^◌, ◌<◌, ◌≤◌, min, max, List, [], ◌∷◌, length, All, slice_index, vec_len, vec_capacity}
 use Rattle.std.specs.List.{concat}
 use Rattle.row_index.specs.declared.index.Block.TheInside.{Inside as InsideBlock}
 use Rattle.row_index.specs.declared.index.RowIndex.TheInside.{Inside}
@@ -12,6 +12,10 @@ pub record Ids : Type 0 where
 -- a block has at most this many ids
 abbrev pub block_size : ℕ
 block_size = 256
+
+-- half a block: a full one is split into two of this many
+abbrev pub half_size : ℕ
+half_size = 128
 
 -- a block has room for all that it may get
 abbrev pub IsBlock : InsideBlock → Type 0
@@ -28,14 +32,29 @@ pub record IsCounted (starts : List ℕ) (blocks : List (List ℕ)) : Type 0 whe
   pub long : length starts ≡ length blocks
   pub each : (k : ℕ) → k < length blocks → slice_index starts k ≡ before k blocks
 
+-- how many ids the blocks have above half their size, each counted by itself
+abbrev pub filled : List (List ℕ) → ℕ
+filled [] = 0
+filled (b ∷ blocks) = (length b - half_size) + filled blocks
+
+-- how many ids may come to these blocks, at any places, where so many blocks more may come: at the worst each takes a
+-- block, and each block more takes half a block of ids but for those that now stand above the halves
+abbrev pub ids_left : ℕ → List (List ℕ) → ℕ
+ids_left more blocks = max more (half_size * more - filled blocks)
+
+-- how many blocks may come: as many as are spare, and as there is room for among the blocks and among the numbers
+abbrev pub blocks_left : ℕ → ℕ → ℕ → ℕ
+blocks_left spare blocks starts = min spare (min blocks starts)
+
 abbrev pub ids_view : Inside → Ids
 ids_view a = record {
   ids = concat a.blocks.items;
-  room = min (min (vec_len a.spare) (vec_capacity a.blocks - vec_len a.blocks)) (min (vec_capacity a.starts - vec_len a.starts) (2 ^ 64 - 1 - a.count));
+  room = min (ids_left (blocks_left (vec_len a.spare) (vec_capacity a.blocks - vec_len a.blocks) (vec_capacity a.starts - vec_len a.starts)) a.blocks.items) (2 ^ 64 - 1 - a.count);
 }
 
--- each spare block is empty
+-- there is a block always, and each spare block is empty
 pub record IsIndex (a : Inside) : Type 0 where
+  pub some : 0 < length a.blocks.items
   pub counted : IsCounted a.starts.items a.blocks.items
   pub count : a.count ≡ length (concat a.blocks.items)
   pub spare : All (λ b. b ≡ []) a.spare.items

@@ -1,6 +1,6 @@
-ghost use Rattle.std.specs.Prelude.{◌≡◌, ◌+◌, ◌-◌, ◌<◌, ◌≤◌, ◌^◌, ◌++◌, ◌∷◌, ◌==◌, ℕ, true, [], length, All, IfOk, OnOk, take, drop, slice_index, slice_index_or, vec_len, vec_capacity};
+ghost use Rattle.std.specs.Prelude.{◌≡◌, ◌+◌, ◌-◌, ◌/◌, ◌<◌, ◌≤◌, ◌^◌, ◌++◌, ◌∷◌, ◌==◌, ℕ, true, [], length, All, IfOk, OnOk, take, drop, slice_index, slice_index_or, vec_len, vec_capacity};
 ghost use Rattle.std.specs.List.{insert, remove, concat};
-ghost use Rattle.row_index.specs.Blocks.{block_size, before, IsCounted};
+ghost use Rattle.row_index.specs.Blocks.{block_size, half_size, before, filled, ids_left, blocks_left, IsCounted};
 
 use prima_base::NoMemory;
 use std::alloc::Global;
@@ -8,6 +8,9 @@ use std::marker::Model;
 
 /// How many ids a block has at most.
 const BLOCK_SIZE: usize = 256;
+
+/// How many ids each half of a full block has.
+const HALF_SIZE: usize = 128;
 
 /// Ids in an order, at most [`BLOCK_SIZE`], with room for as many.
 #[derive(Drop)]
@@ -84,8 +87,8 @@ impl Block {
     fn split(&mut self, mut upper: Block) -> Block
         requires { upper ≡ [] }
         ensures whole { self.new ++ result ≡ self.old }
-        ensures half { length self.new < block_size }
-        ensures other { length result < block_size }
+        ensures half { length self.new ≡ length self.old / 2 }
+        ensures few { length self.old ≤ block_size }
     {
         let half = self.ids.len() / 2;
         push_all(&mut upper.ids, self.ids.split_at(half).1);
@@ -93,11 +96,14 @@ impl Block {
         upper
     }
 
-    // Puts the id at this place, and what is behind the middle into an empty block.
+    // Puts the id at this place of a full block, and what is behind the middle into an empty block.
     fn insert_split(&mut self, at: usize, id: usize, spare: Block) -> Block
         requires spare { spare ≡ [] }
+        requires full { block_size ≤ length self.old }
         requires within { at ≤ length self.old }
-        ensures { self.new ++ result ≡ insert self.old at id }
+        ensures whole { self.new ++ result ≡ insert self.old at id }
+        ensures lower { half_size ≤ length self.new }
+        ensures upper { half_size ≤ length result }
     {
         let mut upper = self.split(spare);
         let half = self.len();
@@ -224,32 +230,12 @@ fn recount(blocks: &[Block], starts: &mut Vec<usize>, from: usize)
     requires counted { (k : ℕ) → k < from → k < length blocks.now → slice_index starts.old.items k ≡ before k blocks.now }
     requires few { length (concat blocks.now) < 2 ^ 64 }
     ensures counted { IsCounted starts.new.items blocks.now }
+    ensures len { vec_len starts.new ≡ vec_len starts.old }
     ensures capacity { vec_capacity starts.new ≡ vec_capacity starts.old }
 {
     for k in from..blocks.len() {
         starts[k] = starts[k - 1] + blocks[k - 1].len();
     }
-}
-
-// Puts the first id into an empty block. It takes no memory.
-fn put_first(blocks: &mut Vec<Block>, starts: &mut Vec<usize>, spare: &mut Vec<Block>, id: usize)
-    requires none { blocks.old.items ≡ [] }
-    requires counted { IsCounted starts.old.items blocks.old.items }
-    requires empty { All (λ b. b ≡ []) spare.old.items }
-    requires room { 0 < vec_len spare.old }
-    requires block_room { vec_len blocks.old < vec_capacity blocks.old }
-    requires start_room { vec_len starts.old < vec_capacity starts.old }
-    ensures blocks { blocks.new.items ≡ (id ∷ []) ∷ [] }
-    ensures counted { IsCounted starts.new.items blocks.new.items }
-    ensures empty { All (λ b. b ≡ []) spare.new.items }
-    ensures spare { vec_len spare.old ≤ vec_len spare.new + 1 }
-    ensures block_room { vec_capacity blocks.old - vec_len blocks.old ≤ vec_capacity blocks.new - vec_len blocks.new + 1 }
-    ensures start_room { vec_capacity starts.old - vec_len starts.old ≤ vec_capacity starts.new - vec_len starts.new + 1 }
-{
-    let mut block = spare.take_last();
-    block.insert(0, id);
-    blocks.push_reserved(block);
-    starts.push_reserved(0);
 }
 
 // Puts the id at this place among all. It takes no memory.
@@ -260,6 +246,7 @@ fn put_id(
     at: usize,
     id: usize,
 )
+    requires some { 0 < length blocks.old.items }
     requires counted { IsCounted starts.old.items blocks.old.items }
     requires within { at ≤ length (concat blocks.old.items) }
     requires few { length (concat blocks.old.items) + 1 < 2 ^ 64 }
@@ -267,17 +254,13 @@ fn put_id(
     requires room { 0 < vec_len spare.old }
     requires block_room { vec_len blocks.old < vec_capacity blocks.old }
     requires start_room { vec_len starts.old < vec_capacity starts.old }
+    ensures some { 0 < length blocks.new.items }
     ensures ids { concat blocks.new.items ≡ insert (concat blocks.old.items) at id }
     ensures counted { IsCounted starts.new.items blocks.new.items }
     ensures empty { All (λ b. b ≡ []) spare.new.items }
-    ensures spare { vec_len spare.old ≤ vec_len spare.new + 1 }
-    ensures block_room { vec_capacity blocks.old - vec_len blocks.old ≤ vec_capacity blocks.new - vec_len blocks.new + 1 }
-    ensures start_room { vec_capacity starts.old - vec_len starts.old ≤ vec_capacity starts.new - vec_len starts.new + 1 }
+    ensures left { ids_left (blocks_left (vec_len spare.old) (vec_capacity blocks.old - vec_len blocks.old) (vec_capacity starts.old - vec_len starts.old)) blocks.old.items
+        ≤ ids_left (blocks_left (vec_len spare.new) (vec_capacity blocks.new - vec_len blocks.new) (vec_capacity starts.new - vec_len starts.new)) blocks.new.items + 1 }
 {
-    if blocks.is_empty() {
-        put_first(blocks, starts, spare, id);
-        return;
-    }
     let (block, place) = place_at(blocks, starts, at, 0);
     if blocks[block].len() < BLOCK_SIZE {
         blocks[block].insert(place, id);
@@ -290,20 +273,30 @@ fn put_id(
     recount(blocks, starts, block + 1);
 }
 
-// Takes out the id at this place among all. A block that gets empty goes.
+// Whether the block is empty, and not the only one.
+fn is_needless(blocks: &[Block], block: usize) -> bool
+    requires { block < length blocks.now }
+    ensures { result ≡ true → (slice_index_or blocks.now block [] ≡ []) × (1 < length blocks.now) }
+{
+    blocks[block].len() == 0 && blocks.len() > 1
+}
+
+// Takes out the id at this place among all. A block that gets empty goes, but for the only one.
 fn take_id(blocks: &mut Vec<Block>, starts: &mut Vec<usize>, at: usize) -> usize
     requires counted { IsCounted starts.old.items blocks.old.items }
     requires within { at < length (concat blocks.old.items) }
     requires few { length (concat blocks.old.items) < 2 ^ 64 }
     ensures id { result ≡ slice_index (concat blocks.old.items) at }
+    ensures some { 0 < length blocks.new.items }
     ensures ids { concat blocks.new.items ≡ remove (concat blocks.old.items) at }
     ensures counted { IsCounted starts.new.items blocks.new.items }
+    ensures filled { filled blocks.new.items ≤ filled blocks.old.items }
     ensures room { vec_capacity blocks.old - vec_len blocks.old ≤ vec_capacity blocks.new - vec_len blocks.new }
     ensures start_room { vec_capacity starts.old - vec_len starts.old ≤ vec_capacity starts.new - vec_len starts.new }
 {
     let (block, place) = place_at(blocks, starts, at, 0);
     let id = blocks[block].remove(place);
-    if blocks[block].len() == 0 {
+    if is_needless(blocks, block) {
         blocks.remove(block);
         starts.take_last();
         recount(blocks, starts, block + 1);
@@ -313,14 +306,15 @@ fn take_id(blocks: &mut Vec<Block>, starts: &mut Vec<usize>, at: usize) -> usize
     id
 }
 
-// Blocks of these ids, half full but for the last.
+// Blocks of these ids, half full but for the last: one at least.
 fn cut(alloc: Global, ids: &[usize]) -> Result<Vec<Block>, NoMemory>
-    ensures { IfOk result (λ blocks. concat blocks.items ≡ ids.now) }
+    ensures some { IfOk result (λ blocks. 0 < length blocks.items) }
+    ensures ids { IfOk result (λ blocks. concat blocks.items ≡ ids.now) }
 {
     let mut blocks = Vec::new(alloc);
     let mut rest = ids;
-    'cut: while !rest.is_empty() {
-        let (front, back) = rest.split_at(rest.len().min(BLOCK_SIZE / 2));
+    'cut: while blocks.is_empty() || !rest.is_empty() {
+        let (front, back) = rest.split_at(rest.len().min(HALF_SIZE));
         blocks.push(Block::of(alloc, front)?)?;
         rest = back;
     }
@@ -348,6 +342,29 @@ fn fill_spare(alloc: Global, spare: &mut Vec<Block>, count: usize) -> Result<(),
         spare.push(Block::of(alloc, &[])?)?;
     }
     Ok(())
+}
+
+// How many ids the blocks have above half their size.
+fn count_filled(blocks: &[Block]) -> usize
+    requires few { length (concat blocks.now) < 2 ^ 64 }
+    ensures { result ≡ filled blocks.now }
+{
+    let mut filled = 0;
+    for block in blocks {
+        filled += block.len().saturating_sub(HALF_SIZE);
+    }
+    filled
+}
+
+// How many blocks more are enough for so many ids more, where so many are spare.
+fn blocks_for(blocks: &[Block], spare: usize, more: usize) -> usize
+    requires few { length (concat blocks.now) + more < 2 ^ 64 }
+    ensures { more ≤ ids_left result blocks.now }
+{
+    if more <= spare {
+        return more;
+    }
+    more.min((count_filled(blocks) + more) / HALF_SIZE + 1)
 }
 
 impl RowIndex {
@@ -412,9 +429,10 @@ impl RowIndex {
         if usize::MAX - self.count < more {
             return Err(NoMemory);
         }
-        self.blocks.reserve(more)?;
-        self.starts.reserve(more)?;
-        fill_spare(self.alloc, &mut self.spare, more)
+        let blocks = blocks_for(&self.blocks, self.spare.len(), more);
+        self.blocks.reserve(blocks)?;
+        self.starts.reserve(blocks)?;
+        fill_spare(self.alloc, &mut self.spare, blocks)
     }
 
     /// Puts the id at this place. It takes no memory.
