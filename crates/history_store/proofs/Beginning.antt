@@ -4,8 +4,7 @@ use Rattle.std.specs.Prelude.{All}
 use Rattle.relations.specs.Sets.{In, set_of}
 use Rattle.relations.specs.Spans.{forever}
 use Rattle.prima_base.specs.declared.values.Value.{Value}
-use Rattle.history_store.specs.declared.columns.Write.{Write}
-use Rattle.history_store.specs.Log.{Log}
+use Rattle.history_store.specs.Log.{Log, Write}
 use Rattle.history_store.specs.Logs.{cells_of}
 use Rattle.history_store.specs.Store.{Cell, Column, AreColumns, weight, relation_at, AllBefore}
 use Rattle.history_store.specs.Entries.{all_entries, IsHistory, AreHistories}

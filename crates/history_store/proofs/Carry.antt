@@ -1,6 +1,6 @@
 -- What is needed where a plan is carried out.
 use Rattle.std.proofs.Common.{◌≡◌, true, false, ℕ, zero, suc, ◌+◌, ◌-◌, ◌<◌, ◌≤◌, List, [], ◌∷◌, ◌++◌, length, get_or, set, drop, refl, sym, ap, ◌∙◌, subst, arith, inl, inr}
-use Rattle.std.specs.Prelude.{min, All, if◌then◌else◌, nat_le}
+use Rattle.std.specs.Prelude.{◌/◌, min, max, All, if◌then◌else◌, nat_le}
 use Rattle.std.proofs.lemmas.Bool.{cases_lt}
 use Rattle.std.proofs.lemmas.Bool.Decides.{nat_tests}
 use Rattle.std.proofs.Math.ListN.{length-set, get_or-append}
@@ -8,7 +8,7 @@ use Rattle.relations.specs.Spans.{Span}
 use Rattle.prima_base.specs.declared.values.Value.{Value}
 use Rattle.relations.specs.Sets.{In}
 use Rattle.history_store.specs.Log.{Log}
-use Rattle.history_store.specs.Logs.{least_spare, with_index, few_rows}
+use Rattle.history_store.specs.Logs.{least_spare, with_index, few_rows, few_of}
 use Rattle.history_store.specs.Table.{no_span, IsOpen}
 use Rattle.history_store.specs.Handing.{ended_at, end_keys, unpaired, new_keys, keys_handed}
 
@@ -60,37 +60,43 @@ pub spare_least : (n least : ℕ) (columns : List Log) → n ≤ least_spare lea
 spare_least n least [] h = h
 spare_least n least (c ∷ columns) h = spare_least n least columns (grind arith)
 
--- room for what is gained, among the keys and in the index
-module _ (room n : ℕ) where
-  with_room : few_rows ≤ room → with_index room n ≡ n
-  with_room h = let t : nat_le few_rows room ≡ true = grind (arith, nat_tests) in ap (λ b. if b then n else min room n) t
+-- room for what is gained, among the keys and in the indexes
+module _ (few room n : ℕ) where
+  with_room : few ≤ room → with_index few room n ≡ n
+  with_room h = let t : nat_le few room ≡ true = grind (arith, nat_tests) in ap (λ b. if b then n else min room n) t
 
-  without_room : room < few_rows → with_index room n ≡ min room n
-  without_room h = let t : nat_le few_rows room ≡ false = grind (arith, nat_tests) in ap (λ b. if b then n else min room n) t
+  without_room : room < few → with_index few room n ≡ min room n
+  without_room h = let t : nat_le few room ≡ false = grind (arith, nat_tests) in ap (λ b. if b then n else min room n) t
 
-  no_more : with_index room n ≤ n
-  no_more = elim (cases_lt room few_rows) [ inl h ↦ (let e = without_room h in grind (arith)) | inr h ↦ (let e = with_room h in omega (arith, e)) ]
+  no_more : with_index few room n ≤ n
+  no_more = elim (cases_lt room few) [ inl h ↦ (let e = without_room h in grind (arith)) | inr h ↦ (let e = with_room h in omega (arith, e)) ]
 
-  pub index_room : (gained more : ℕ) → gained ≤ with_index room n → more ≤ gained → more ≤ few_rows → more ≤ room
-  index_room gained more g m f = elim (cases_lt room few_rows) [ inl h ↦ (let e = without_room h in grind (arith)) | inr h ↦ omega (arith, f, h) ]
+  pub index_room : (gained more : ℕ) → gained ≤ with_index few room n → more ≤ gained → more ≤ few → more ≤ room
+  index_room gained more g m f = elim (cases_lt room few) [ inl h ↦ (let e = without_room h in grind (arith)) | inr h ↦ omega (arith, f, h) ]
 
-  pub some_with_index : (more few : ℕ) → few ≡ min more few_rows → few ≤ room → more ≤ n → more ≤ with_index room n
-  some_with_index more few q f l = elim (cases_lt room few_rows) [ inl h ↦ (let e = without_room h in grind (arith)) | inr h ↦ (let e = with_room h in omega (arith, e, l)) ]
+  pub some_with_index : (more some : ℕ) → some ≡ min more few → some ≤ room → more ≤ n → more ≤ with_index few room n
+  some_with_index more some q f l = elim (cases_lt room few) [ inl h ↦ (let e = without_room h in grind (arith)) | inr h ↦ (let e = with_room h in omega (arith, e, l)) ]
 
-pub key_room : (capacity len room gained : ℕ) → gained ≤ with_index room (capacity - len) → len ≤ capacity → len + gained ≤ capacity
-key_room capacity len room gained s w = let n = no_more room (capacity - len) in omega (arith, s, w, n)
+pub few_are_few : (rows more : ℕ) → more ≤ few_rows → more ≤ few_of rows
+few_are_few rows more h = most few_rows (rows / few_rows) more h
+  where
+    most : (a b n : ℕ) → n ≤ a → n ≤ max a b
+    most a b n h = omega arith
 
-pub more_with_index : (a b n m : ℕ) → a ≤ b → n ≤ m → with_index a n ≤ with_index b m
-more_with_index a b n m h l = elim (cases_lt b few_rows) [
-  | inl q ↦ (let e = without_room b m q in let f = without_room a n (omega (arith, h, q)) in grind (arith))
-  | inr q ↦ (let e = with_room b m q in let f = no_more a n in omega (arith, e, f, l))
+pub key_room : (capacity len few room gained : ℕ) → gained ≤ with_index few room (capacity - len) → len ≤ capacity → len + gained ≤ capacity
+key_room capacity len few room gained s w = let n = no_more few room (capacity - len) in omega (arith, s, w, n)
+
+pub more_with_index : (few a b n m : ℕ) → a ≤ b → n ≤ m → with_index few a n ≤ with_index few b m
+more_with_index few a b n m h l = elim (cases_lt b few) [
+  | inl q ↦ (let e = without_room few b m q in let f = without_room few a n (omega (arith, h, q)) in grind (arith))
+  | inr q ↦ (let e = with_room few b m q in let f = no_more few a n in omega (arith, e, f, l))
 ]
 
 -- more indexes, of which none has less room than is ever asked
-pub still_with_index : (a b n : ℕ) → min few_rows a ≤ b → with_index a n ≤ with_index b n
-still_with_index a b n h = elim (cases_lt a few_rows) [
-  | inl q ↦ more_with_index a b n n (grind arith) (omega arith)
-  | inr q ↦ (let l : few_rows ≤ b = grind arith in let e = with_room b n l in let f = no_more a n in omega (arith, e, f))
+pub still_with_index : (few a b n : ℕ) → min few a ≤ b → with_index few a n ≤ with_index few b n
+still_with_index few a b n h = elim (cases_lt a few) [
+  | inl q ↦ more_with_index few a b n n (grind arith) (omega arith)
+  | inr q ↦ (let l : few ≤ b = grind arith in let e = with_room few b n l in let f = no_more few a n in omega (arith, e, f))
 ]
 
 pub spare_each : (n least : ℕ) (columns : List Log) → n ≤ least_spare least columns → All (λ c. n ≤ c.spare) columns

@@ -4,8 +4,7 @@ use Rattle.std.specs.Prelude.{max, All}
 use Rattle.std.proofs.Math.Nat.{div-mul-le_self, mul-le-mul}
 use Rattle.relations.specs.Spans.{Span}
 use Rattle.prima_base.specs.declared.values.Value.{Value}
-use Rattle.history_store.specs.declared.columns.Write.{Write}
-use Rattle.history_store.specs.Log.{Log}
+use Rattle.history_store.specs.Log.{Log, Write}
 use Rattle.history_store.specs.Logs.{cells_of, countable_rows}
 use Rattle.history_store.specs.Store.{cells_in}
 use Rattle.history_store.specs.Entries.{all_entries, AreHistories}

@@ -6,12 +6,13 @@ use Rattle.relations.proofs.SetLaws.{before_in, in_append, in_left, in_right, in
 use Rattle.prima_base.specs.Order.{row_cmp}
 use Rattle.prima_base.specs.OrderLaws.{row_exact}
 use Rattle.prima_base.specs.declared.values.Value.{Value}
-use Rattle.history_store.specs.declared.columns.Write.{Write}
+use Rattle.history_store.specs.Log.{Write}
 use Rattle.history_store.specs.Store.{Column, relation_at, IsRow, IsRelation, AllBefore}
 use Rattle.history_store.specs.Entries.{all_entries}
 use Rattle.history_store.specs.Table.{row_now, rows_of, IsOpen, IsStored}
 use Rattle.history_store.specs.TableFields.{store_of, IsKept}
 use Rattle.history_store.specs.Handing.{unpaired, AllWidth, IsHandOver, Distinct, Pairs, AllNext, handed, only_in, logs_handed}
+use Rattle.history_store.specs.StoredValues.{rows_room}
 use Rattle.history_store.specs.Splices.{IsSplit, IsJoined, IsSpliced}
 use Rattle.history_store.specs.Indexes.{Index, ids_behind, more_ids, IsPlaced}
 use Rattle.history_store.specs.Change.{IsPlan, ids_at, rows_after, rows_along, changed, write_rows, close_all}
@@ -153,15 +154,16 @@ module _ {indexed : List ℕ} (columns : List Column) (keys : List Span) (logs :
       ap (λ ids. rows_along (ids_behind index ids) stamp (close_all (unpaired found gained) stamp (write_rows (handed found (length keys) gained) gained stamp (all_entries keys logs)))) (before others n)
       ∙ along_after columns keys logs live n k stamp found gained after (more_room {others = indexed} columns keys logs spare n stamp b) l hands
 
-  pub change_fits : {others : List ℕ} → (n : ℕ) → IsPlan (store_of columns keys logs n others) (record { stamp = stamp; lost = found; gained = gained; after = index })
+  pub change_fits : {others : List ℕ} → (n : ℕ) → rows_room gained ≤ n → IsPlan (store_of columns keys logs n others) (record { stamp = stamp; lost = found; gained = gained; after = index })
   unfolding after
-  change_fits {others} n = record {
+  change_fits {others} n room = record {
     before = more_room columns keys logs spare n stamp b;
     lawful = l;
     placed = subst (IsPlaced index) (sym (before others n)) placed;
     more = more;
     hands = subst (λ ids. IsHandOver keys (length columns) found gained (ids_behind index ids)) (sym (before others n)) hands;
     relation = subst (IsRelation columns) (sym (along others n)) (record { ascending = rises; fitting = fits_in });
+    room = room;
   }
 
   pub change_leads : (others : List ℕ) (n : ℕ) → rows_after (store_of columns keys logs n others) (record { stamp = stamp; lost = found; gained = gained; after = index }) ≡ changed (relation_at (store_of columns keys logs spare indexed) stamp) lost gained

@@ -4,7 +4,7 @@ use Rattle.std.proofs.lemmas.Bool.Decides.{nat_tests, eqb_tells}
 use Rattle.relations.specs.Sets.{In}
 use Rattle.relations.specs.Spans.{Span}
 use Rattle.prima_base.specs.declared.values.Value.{Value}
-use Rattle.history_store.specs.declared.columns.Write.{Write}
+use Rattle.history_store.specs.Log.{Write}
 use Rattle.history_store.specs.Store.{Cell, weight}
 use Rattle.history_store.specs.Chains.{of_id}
 use Rattle.history_store.specs.Entries.{with_ends, entries_from, all_entries, IsHistory, AreHistories}

@@ -2,9 +2,8 @@
 use Rattle.std.proofs.Common.{◌≡◌, ◌≢◌, ℕ, suc, zero, ◌+◌, ◌<◌, ◌≤◌, Bool, true, false, List, [], ◌∷◌, ◌++◌, length, get_or, refl, sym, ap, ◌∙◌, subst, arith, if◌then◌else◌, inl, inr, add_assoc}
 use Rattle.std.proofs.lemmas.Bool.Decides.{eqb_tells}
 use Rattle.prima_base.specs.declared.values.Value.{Value}
-use Rattle.history_store.specs.declared.columns.Write.{Write}
+use Rattle.history_store.specs.Log.{Write, newest}
 use Rattle.relations.specs.Sets.{In}
-use Rattle.history_store.specs.Log.{newest}
 use Rattle.history_store.specs.Table.{row_now, rows_of}
 use Rattle.history_store.specs.Handing.{is_value, put, put_row, put_rows, handed, Distinct, AllWidth, at_column, is_same, weigh, written}
 use Rattle.history_store.proofs.Puts.{put_same, put_other, row_other, row_width}

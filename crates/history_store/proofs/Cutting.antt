@@ -11,7 +11,7 @@ use Rattle.relations.specs.Sets.{Ascends}
 use Rattle.prima_base.specs.Order.{value_cmp, row_cmp}
 use Rattle.prima_base.specs.OrderLaws.{value_total}
 use Rattle.prima_base.specs.declared.values.Value.{Value}
-use Rattle.history_store.specs.declared.columns.Write.{Write}
+use Rattle.history_store.specs.Log.{Write}
 use Rattle.history_store.specs.Cuts.{Cut, is_before, between}
 use Rattle.history_store.specs.Table.{row_now, rows_of}
 use Rattle.history_store.proofs.Sides.{exact_values}

@@ -7,9 +7,8 @@ use Rattle.relations.specs.Sets.{In}
 use Rattle.relations.specs.Spans.{Span, span, forever}
 use Rattle.prima_base.specs.Order.{value_eq}
 use Rattle.prima_base.specs.declared.values.Value.{Value}
-use Rattle.history_store.specs.declared.columns.Write.{Write}
+use Rattle.history_store.specs.Log.{Write, over, newest}
 use Rattle.history_store.specs.Store.{Cell}
-use Rattle.history_store.specs.Log.{over, newest}
 use Rattle.history_store.specs.Chains.{of_id}
 use Rattle.history_store.specs.Entries.{entry, with_ends, entries_from, all_entries, Fits, AreHistories}
 use Rattle.history_store.specs.Table.{no_span, IsOpen}

@@ -5,7 +5,7 @@ use Rattle.std.proofs.lemmas.Bool.{cases_lt}
 use Rattle.std.proofs.lemmas.List.{drop_more}
 use Rattle.std.proofs.Math.ListN.{drop_of_length-le}
 use Rattle.relations.specs.Spans.{Span}
-use Rattle.history_store.specs.declared.columns.Write.{Write}
+use Rattle.history_store.specs.Log.{Write}
 use Rattle.history_store.specs.Table.{no_span}
 use Rattle.history_store.specs.Chains.{of_id, id_at, IsChain}
 use Rattle.history_store.specs.Entries.{entry, with_ends, entries_from, Climbs, Fits, IsHistory}

@@ -9,8 +9,7 @@ use Rattle.relations.specs.Sets.{In}
 use Rattle.relations.specs.Spans.{Span, span, forever}
 use Rattle.relations.proofs.SetLaws.{in_append}
 use Rattle.prima_base.specs.declared.values.Value.{Value}
-use Rattle.history_store.specs.declared.columns.Write.{Write}
-use Rattle.history_store.specs.Log.{over, newest}
+use Rattle.history_store.specs.Log.{Write, over, newest}
 use Rattle.history_store.specs.Chains.{of_id}
 use Rattle.history_store.specs.Entries.{Climbs, Fits, IsHistory, AreHistories}
 use Rattle.history_store.specs.Table.{no_span, IsOpen}

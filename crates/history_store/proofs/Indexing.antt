@@ -12,7 +12,7 @@ use Rattle.relations.specs.Spans.{Span, forever, covers}
 use Rattle.relations.proofs.SetLaws.{one_list, set_ascends, in_set, from_set}
 use Rattle.prima_base.specs.Order.{row_cmp}
 use Rattle.prima_base.specs.OrderLaws.{row_total, exact_from}
-use Rattle.history_store.specs.declared.columns.Write.{Write}
+use Rattle.history_store.specs.Log.{Write}
 use Rattle.history_store.specs.Store.{Cell, Column, row_at}
 use Rattle.history_store.specs.Entries.{all_entries, AreHistories}
 use Rattle.history_store.specs.Table.{no_span, IsStored}

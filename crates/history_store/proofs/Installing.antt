@@ -5,7 +5,7 @@ use Rattle.relations.specs.Sets.{set_of}
 use Rattle.relations.specs.Spans.{Span, forever}
 use Rattle.prima_base.specs.Order.{row_cmp}
 use Rattle.prima_base.specs.declared.values.Value.{Value}
-use Rattle.history_store.specs.declared.columns.Write.{Write}
+use Rattle.history_store.specs.Log.{Write}
 use Rattle.history_store.specs.Store.{Column, relation_at, IsRelation, AllBefore}
 use Rattle.history_store.specs.Entries.{all_entries}
 use Rattle.history_store.specs.Table.{row_now, rows_of, no_span, IsOpen, IsStored}

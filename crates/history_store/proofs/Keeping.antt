@@ -3,8 +3,7 @@ use Rattle.std.proofs.Common.{◌≡◌, ◌≢◌, ℕ, zero, suc, ◌+◌, ◌
 use Rattle.relations.specs.Sets.{In, BeforeAll, Ascends}
 use Rattle.relations.specs.Spans.{Span}
 use Rattle.prima_base.specs.declared.values.Value.{Value}
-use Rattle.history_store.specs.declared.columns.Write.{Write}
-use Rattle.history_store.specs.Log.{Log, newest}
+use Rattle.history_store.specs.Log.{Log, Write, newest}
 use Rattle.history_store.specs.Logs.{cells_of}
 use Rattle.history_store.specs.Table.{IsOpen}
 use Rattle.history_store.specs.Handing.{put_row, put_rows, handed, logs_handed, Distinct, IsHandOver}

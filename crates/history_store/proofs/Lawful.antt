@@ -10,9 +10,8 @@ use Rattle.relations.specs.Spans.{Span, forever, covers}
 use Rattle.relations.proofs.SetLaws.{in_append, ascends_append}
 use Rattle.relations.proofs.ListingLaws.{nat_less}
 use Rattle.prima_base.specs.declared.values.Value.{Value}
-use Rattle.history_store.specs.declared.columns.Write.{Write}
+use Rattle.history_store.specs.Log.{Write, value_at}
 use Rattle.history_store.specs.Store.{Cell, Column, shown_at, Fills, IsPeriod, cell_cmp, IsFilled, IsStore, IsRow}
-use Rattle.history_store.specs.Log.{value_at}
 use Rattle.history_store.specs.Chains.{of_id}
 use Rattle.history_store.specs.Entries.{entry, with_ends, entries_from, all_entries, Climbs, Fits, IsHistory, AreHistories}
 use Rattle.history_store.specs.Table.{no_span}

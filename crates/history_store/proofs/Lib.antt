@@ -1,4 +1,5 @@
 pub mod Newest
+pub mod StoredTexts
 pub mod Changing
 pub mod Splicing
 pub mod Totals
@@ -21,6 +22,7 @@ pub mod Now
 pub mod Puts
 pub mod Plans
 pub mod Rows
+pub mod Room
 pub mod Carry
 pub mod SideBySide
 pub mod Planning

@@ -1,14 +1,15 @@
 -- What is found along the current rows makes a plan.
-use Rattle.std.proofs.Common.{◌≡◌, ℕ, suc, ◌<◌, List, [], ◌∷◌, length, refl, sym, ap, ◌∙◌, subst, arith, inl, inr}
+use Rattle.std.proofs.Common.{◌≡◌, ℕ, suc, ◌<◌, ◌≤◌, List, [], ◌∷◌, length, refl, sym, ap, ◌∙◌, subst, arith, inl, inr}
 use Rattle.relations.specs.Sets.{In}
 use Rattle.relations.specs.Spans.{Span, forever}
 use Rattle.prima_base.specs.declared.values.Value.{Value}
-use Rattle.history_store.specs.declared.columns.Write.{Write}
+use Rattle.history_store.specs.Log.{Write}
 use Rattle.history_store.specs.Store.{Column, relation_at, IsRow, IsRelation, AllBefore}
 use Rattle.history_store.specs.Entries.{all_entries}
 use Rattle.history_store.specs.Table.{IsStored}
 use Rattle.history_store.specs.TableFields.{store_of, IsKept}
 use Rattle.history_store.specs.Handing.{AllWidth, IsHandOver, only_in, lost_ids, gained_rows, after_ids}
+use Rattle.history_store.specs.StoredValues.{rows_room}
 use Rattle.history_store.specs.Indexes.{Whole}
 use Rattle.history_store.specs.Change.{Plan, IsPlan, rows_after, rows_along}
 use Rattle.history_store.proofs.Planning.{is_plan, plan_rows, lost_is}
@@ -53,8 +54,8 @@ module _ {indexed : List ℕ} (columns : List Column) (keys : List Span) (logs :
       along_after columns keys logs live n k stamp (lost_ids logs live rows) (gained_rows logs live rows) (after_ids logs live (lost_ids logs live rows) (length keys) rows) (more_room {others = indexed} columns keys logs spare n stamp b) l hands
       ∙ plan_rows keys logs live stamp rows s r.ascending w stamp
 
-  pub made_fits : {others : List ℕ} → (n : ℕ) → IsPlan (store_of columns keys logs n others) (made stamp keys logs live rows)
-  made_fits {others} n = record { before = more_room columns keys logs spare n stamp b; lawful = l; placed = tt; more = omega arith; hands = hands; relation = subst (IsRelation columns) (sym (made_leads others n)) r }
+  pub made_fits : {others : List ℕ} → (n : ℕ) → rows_room (gained_rows logs live rows) ≤ n → IsPlan (store_of columns keys logs n others) (made stamp keys logs live rows)
+  made_fits {others} n room = record { before = more_room columns keys logs spare n stamp b; lawful = l; placed = tt; more = omega arith; hands = hands; relation = subst (IsRelation columns) (sym (made_leads others n)) r; room = room }
 
   pub made_gained : gained_rows logs live rows ≡ only_in rows (relation_at (store_of columns keys logs spare indexed) stamp)
   made_gained = gained_rule logs live rows ∙ ap (only_in rows) (sym (relation_from columns keys logs live spare stamp stamp k b (omega arith) l))

@@ -15,8 +15,7 @@ use Rattle.relations.proofs.ListingLaws.{less_nat, nat_less}
 use Rattle.prima_base.specs.Order.{row_cmp, value_eq}
 use Rattle.prima_base.specs.OrderLaws.{value_total, row_total, row_exact, exact_from}
 use Rattle.prima_base.specs.declared.values.Value.{Value}
-use Rattle.history_store.specs.declared.columns.Write.{Write}
-use Rattle.history_store.specs.Log.{newest}
+use Rattle.history_store.specs.Log.{Write, newest}
 use Rattle.history_store.specs.Handing.{Distinct, is_value}
 use Rattle.history_store.proofs.Sides.{not_true}
 use Rattle.history_store.proofs.Puts.{is_value_is}

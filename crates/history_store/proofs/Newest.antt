@@ -4,8 +4,7 @@ use Rattle.std.proofs.lemmas.Bool.Decides.{nat_tests, eqb_tells}
 use Rattle.std.proofs.lemmas.Grind.{common_steps, get_or-set_at}
 use Rattle.std.proofs.Math.Seq.{get_or-append_seam}
 use Rattle.prima_base.specs.declared.values.Value.{Value}
-use Rattle.history_store.specs.declared.columns.Write.{Write}
-use Rattle.history_store.specs.Log.{over, newest, value_at}
+use Rattle.history_store.specs.Log.{Write, over, newest, value_at}
 use Rattle.history_store.specs.ColumnFields.{IsIndex}
 
 over_assoc : (x y z : List Value) → over (over x y) z ≡ over x (over y z)

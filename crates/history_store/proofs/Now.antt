@@ -5,8 +5,7 @@ use Rattle.std.proofs.lemmas.Grind.{common_steps}
 use Rattle.prima_base.specs.Order.{row_cmp}
 use Rattle.relations.specs.Spans.{Span, forever, covers}
 use Rattle.prima_base.specs.declared.values.Value.{Value}
-use Rattle.history_store.specs.declared.columns.Write.{Write}
-use Rattle.history_store.specs.Log.{newest, value_at}
+use Rattle.history_store.specs.Log.{Write, newest, value_at}
 use Rattle.relations.specs.Sets.{In, set_of}
 use Rattle.history_store.specs.Table.{row_then, row_now, rows_then, rows_of, no_span, AllCells, AllColumns, IsStored}
 use Rattle.history_store.proofs.Sides.{set_is}

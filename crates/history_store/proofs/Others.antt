@@ -1,14 +1,13 @@
 -- The indexes of columns, changed one after the other.
 use Rattle.std.proofs.Common.{◌≡◌, ◌≢◌, ℕ, zero, suc, ◌+◌, ◌<◌, ◌≤◌, Bool, true, false, List, [], ◌∷◌, ◌++◌, All, length, get_or, set, refl, sym, ap, ◌∙◌, subst, arith, inl, inr}
-use Rattle.std.specs.Prelude.{◌&&◌, min, nat_le, cond}
+use Rattle.std.specs.Prelude.{◌&&◌, min, max, nat_le, cond}
 use Rattle.std.proofs.lemmas.Bool.Decides.{eqb_tells, nat_tests}
 use Rattle.std.proofs.lemmas.List.{get_or-set_same, get_or-set_other, get_or_default}
 use Rattle.relations.specs.Sets.{In, Ascends}
 use Rattle.relations.proofs.SetLaws.{in_has, has_in}
 use Rattle.std.specs.Ordering.{nat_cmp}
-use Rattle.history_store.specs.declared.columns.Write.{Write}
-use Rattle.history_store.specs.Log.{Log}
-use Rattle.history_store.specs.Logs.{cells_of, few_rows}
+use Rattle.history_store.specs.Log.{Log, Write}
+use Rattle.history_store.specs.Logs.{cells_of, few_of}
 use Rattle.history_store.specs.ByValue.{Indexed, by_value, columns_of, is_indexed, indexed_behind, least_room, IsIndexed, IsReady, IsWithout}
 use Rattle.history_store.proofs.Rows.{length-cells_of}
 use Rattle.history_store.proofs.Sides.{not_true, nat_exact}
@@ -157,16 +156,23 @@ pub none_indexed : (xs : List Indexed) (column : ℕ) → ((k : ℕ) (d : Indexe
 none_indexed xs column f = not_true (is_indexed column (columns_of xs)) (λ t. none_in xs column f (has_in nat_cmp nat_exact column (columns_of xs) t))
 
 -- where none is kept, none is kept behind a change
-pub none_behind : (lost gained : ℕ) → indexed_behind lost gained [] ≡ []
-none_behind lost gained = by_case (nat_le lost few_rows && nat_le gained few_rows)
+pub none_behind : (rows lost gained : ℕ) → indexed_behind rows lost gained [] ≡ []
+none_behind rows lost gained = by_case (nat_le lost (few_of rows) && nat_le gained (few_of rows))
   where
     by_case : (b : Bool) → cond {A = List ℕ} b [] [] ≡ []
     by_case true = refl
     by_case false = refl
 
 -- a change of few rows takes none away
-pub few_behind : (lost gained : ℕ) (indexed : List ℕ) → lost ≤ few_rows → gained ≤ few_rows → indexed_behind lost gained indexed ≡ indexed
-few_behind lost gained indexed h k =
-    let l : nat_le lost few_rows ≡ true = grind (arith, nat_tests) in
-    let g : nat_le gained few_rows ≡ true = grind (arith, nat_tests) in
-    rw (l, g) refl
+pub few_behind : (rows lost gained : ℕ) (indexed : List ℕ) → lost ≤ few_of rows → gained ≤ few_of rows → indexed_behind rows lost gained indexed ≡ indexed
+few_behind rows lost gained indexed h k = rw (at_most lost (few_of rows) h, at_most gained (few_of rows) k) refl
+  where
+    at_most : (n few : ℕ) → n ≤ few → nat_le n few ≡ true
+    at_most n few h = grind (arith, nat_tests)
+
+-- a change of many rows takes all away
+pub many_behind : (rows lost gained : ℕ) (indexed : List ℕ) → few_of rows < max lost gained → indexed_behind rows lost gained indexed ≡ []
+many_behind rows lost gained indexed h = rw (too_many lost gained (few_of rows) h) refl
+  where
+    too_many : (l g few : ℕ) → few < max l g → nat_le l few && nat_le g few ≡ false
+    too_many l g few h = grind (arith, nat_tests)

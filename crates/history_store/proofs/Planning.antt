@@ -8,7 +8,7 @@ use Rattle.relations.specs.Spans.{Span}
 use Rattle.prima_base.specs.OrderLaws.{row_exact, row_total}
 use Rattle.prima_base.specs.declared.values.Value.{Value}
 use Rattle.std.proofs.lemmas.Cmp.{tied_itself}
-use Rattle.history_store.specs.declared.columns.Write.{Write}
+use Rattle.history_store.specs.Log.{Write}
 use Rattle.relations.specs.Sets.{has, In, Ascends}
 use Rattle.history_store.specs.Table.{row_now, rows_of, IsOpen, IsStored}
 use Rattle.history_store.specs.Handing.{lost_ids, handed, Distinct, AllWidth, Pairs, AllNext, IsHandOver, found, gained_by, gained_rows, id_by, lost_by, next_by, after_ids, logs_handed}

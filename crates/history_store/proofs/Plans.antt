@@ -8,7 +8,7 @@ use Rattle.std.proofs.lemmas.List.{get_or-set_same, get_or-set_other}
 use Rattle.prima_base.specs.Order.{row_cmp}
 use Rattle.relations.specs.Spans.{Span, forever, covers}
 use Rattle.prima_base.specs.declared.values.Value.{Value}
-use Rattle.history_store.specs.declared.columns.Write.{Write}
+use Rattle.history_store.specs.Log.{Write}
 use Rattle.relations.specs.Sets.{In, Ascends}
 use Rattle.history_store.specs.Table.{row_then, row_now, rows_then, rows_of, no_span, IsOpen, AllColumns, IsStored}
 use Rattle.history_store.specs.Handing.{put_row, put_rows, ended_at, end_keys, unpaired, handed, new_keys, keys_handed, logs_handed, Distinct, AllWidth, Pairs, AllNext, IsHandOver}

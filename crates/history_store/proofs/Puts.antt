@@ -2,8 +2,7 @@
 use Rattle.std.proofs.Common.{◌≡◌, ◌≢◌, ℕ, ◌<◌, ◌≤◌, Bool, true, false, List, [], ◌∷◌, ◌++◌, length, refl, ap, arith, if◌then◌else◌}
 use Rattle.std.proofs.lemmas.Map.Views.{tells_apart}
 use Rattle.prima_base.specs.declared.values.Value.{Value}
-use Rattle.history_store.specs.declared.columns.Write.{Write}
-use Rattle.history_store.specs.Log.{newest, value_at}
+use Rattle.history_store.specs.Log.{Write, newest, value_at}
 use Rattle.history_store.specs.Table.{row_then, row_now, AllCells, AllColumns}
 use Rattle.history_store.specs.Handing.{is_value, put, put_row}
 use Rattle.history_store.proofs.Newest.{newest-same, newest-other, value_at-before}

@@ -9,8 +9,7 @@ use Rattle.relations.proofs.SetLaws.{in_has, has_in}
 use Rattle.prima_base.specs.Order.{row_cmp}
 use Rattle.prima_base.specs.OrderLaws.{row_exact, row_total}
 use Rattle.prima_base.specs.declared.values.Value.{Value}
-use Rattle.history_store.specs.declared.columns.Write.{Write}
-use Rattle.history_store.specs.Log.{Log}
+use Rattle.history_store.specs.Log.{Log, Write}
 use Rattle.history_store.specs.Logs.{cells_of}
 use Rattle.history_store.specs.Store.{Column, Store, relation_at, IsRow, IsBefore, AllBefore}
 use Rattle.history_store.specs.Entries.{entries_from, all_entries, IsHistory}

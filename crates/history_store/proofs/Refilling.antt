@@ -14,7 +14,7 @@ use Rattle.relations.specs.Spans.{Span, covers}
 use Rattle.relations.proofs.SetLaws.{in_append, in_filter, from_filter, from_map, before_in, one_list_of}
 use Rattle.relations.proofs.ListingLaws.{less_nat}
 use Rattle.prima_base.specs.declared.values.Value.{Value}
-use Rattle.history_store.specs.declared.columns.Write.{Write}
+use Rattle.history_store.specs.Log.{Write}
 use Rattle.history_store.specs.Store.{Cell, shown_at, IsPeriod, cell_cmp, IsFilled}
 use Rattle.history_store.specs.Chains.{of_id}
 use Rattle.history_store.specs.Entries.{entry, with_ends, entries_from, Climbs, Fits, IsHistory}

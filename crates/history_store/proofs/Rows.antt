@@ -4,8 +4,7 @@ use Rattle.std.proofs.lemmas.Bool.Decides.{eqb_tells}
 use Rattle.std.proofs.lemmas.List.{get_or-set_same, get_or-set_other, get_or_default}
 use Rattle.std.specs.Prelude.{min, max}
 use Rattle.prima_base.specs.declared.values.Value.{Value}
-use Rattle.history_store.specs.declared.columns.Write.{Write}
-use Rattle.history_store.specs.Log.{Log}
+use Rattle.history_store.specs.Log.{Log, Write}
 use Rattle.history_store.specs.Logs.{cells_of, least_spare}
 use Rattle.history_store.specs.Handing.{put, put_row, unpaired, new_keys}
 use Rattle.relations.specs.Spans.{Span}
@@ -54,12 +53,12 @@ pushed id stamp v row old columns k c d n h e f =
     ∙ sym (put_row-push id stamp v row (cells_of old) b)
 
 -- one more column is done
-pub done_more : (old columns : List Log) (k id : ℕ) (c e : Log) → k < length columns → e ≡ get_or columns k e
-    → c.ids ≡ max (get_or columns k e).ids (id + 1) → (get_or columns k e).spare ≤ c.spare + 1
-    → ((j : ℕ) (d : Log) → j < k → ((get_or columns j d).ids ≡ max (get_or old j d).ids (id + 1)) × ((get_or old j d).spare ≤ (get_or columns j d).spare + 1))
+pub done_more : (old columns : List Log) (k id room : ℕ) (c e : Log) → k < length columns → e ≡ get_or columns k e
+    → c.ids ≡ max (get_or columns k e).ids (id + 1) → (get_or columns k e).spare ≤ c.spare + room
+    → ((j : ℕ) (d : Log) → j < k → ((get_or columns j d).ids ≡ max (get_or old j d).ids (id + 1)) × ((get_or old j d).spare ≤ (get_or columns j d).spare + room))
     → ((j : ℕ) (d : Log) → k ≤ j → get_or columns j d ≡ get_or old j d)
-    → (j : ℕ) (d : Log) → j < k + 1 → ((get_or (set columns k c) j d).ids ≡ max (get_or old j d).ids (id + 1)) × ((get_or old j d).spare ≤ (get_or (set columns k c) j d).spare + 1)
-done_more old columns k id c e h is ids spare done others j d b =
+    → (j : ℕ) (d : Log) → j < k + 1 → ((get_or (set columns k c) j d).ids ≡ max (get_or old j d).ids (id + 1)) × ((get_or old j d).spare ≤ (get_or (set columns k c) j d).spare + room)
+done_more old columns k id room c e h is ids spare done others j d b =
     elim (eqb_tells j k) [
       | inl q ↦
           let here : get_or (set columns k c) j d ≡ c = ap (λ n. get_or (set columns k c) n d) q.1 ∙ get_or-set_same columns k c d h in

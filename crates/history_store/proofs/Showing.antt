@@ -7,9 +7,8 @@ use Rattle.relations.specs.Spans.{Span, forever, covers}
 use Rattle.relations.proofs.SetLaws.{in_append, in_left, in_right}
 use Rattle.prima_base.specs.Order.{row_cmp}
 use Rattle.prima_base.specs.declared.values.Value.{Value}
-use Rattle.history_store.specs.declared.columns.Write.{Write}
+use Rattle.history_store.specs.Log.{Write, over, value_at}
 use Rattle.history_store.specs.Store.{Cell, Column, shown_at, row_at, rows_from, relation_at, IsRow, IsRelation, IsBefore, AllBefore}
-use Rattle.history_store.specs.Log.{over, value_at}
 use Rattle.history_store.specs.Chains.{of_id}
 use Rattle.history_store.specs.Entries.{entry, with_ends, entries_from, all_entries, Climbs, Fits, IsHistory, AreHistories}
 use Rattle.history_store.specs.Table.{row_then, row_now, rows_then, rows_of, no_span, IsOpen, AllCells, AllColumns, IsStored}

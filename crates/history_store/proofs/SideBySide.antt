@@ -6,7 +6,7 @@ use Rattle.std.specs.declared.cmp.Ordering.TheVariants.{Less, Equal, Greater}
 use Rattle.std.specs.Ordering.{ordering_reverse}
 use Rattle.prima_base.specs.OrderLaws.{row_total}
 use Rattle.prima_base.specs.declared.values.Value.{Value}
-use Rattle.history_store.specs.declared.columns.Write.{Write}
+use Rattle.history_store.specs.Log.{Write}
 use Rattle.prima_base.specs.Order.{row_cmp}
 use Rattle.relations.specs.Sets.{has, BeforeAll, Ascends}
 use Rattle.history_store.specs.Table.{row_now, rows_of}

@@ -16,8 +16,7 @@ use Rattle.relations.proofs.SetLaws.{below_each, before_in}
 use Rattle.prima_base.specs.Order.{value_cmp, row_cmp}
 use Rattle.prima_base.specs.OrderLaws.{row_total, row_exact, exact_from}
 use Rattle.prima_base.specs.declared.values.Value.{Value}
-use Rattle.history_store.specs.declared.columns.Write.{Write}
-use Rattle.history_store.specs.Log.{newest}
+use Rattle.history_store.specs.Log.{Write, newest}
 use Rattle.history_store.specs.Table.{row_now, rows_of}
 use Rattle.history_store.specs.Handing.{Distinct}
 use Rattle.history_store.specs.ByValue.{by_value}

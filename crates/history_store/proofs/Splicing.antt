@@ -7,7 +7,7 @@ use Rattle.relations.proofs.SetLaws.{in_append, in_left, in_right, below_each}
 use Rattle.prima_base.specs.Order.{row_cmp}
 use Rattle.prima_base.specs.OrderLaws.{row_total, row_exact}
 use Rattle.prima_base.specs.declared.values.Value.{Value}
-use Rattle.history_store.specs.declared.columns.Write.{Write}
+use Rattle.history_store.specs.Log.{Write}
 use Rattle.history_store.specs.Table.{row_now, rows_of}
 use Rattle.history_store.specs.Handing.{handed, id_by, lost_by, next_by}
 use Rattle.history_store.specs.Splices.{IsSplit, IsJoined}

@@ -2,8 +2,7 @@
 use Rattle.std.proofs.Common.{◌≡◌, ℕ, ◌+◌, ◌<◌, ◌≤◌, List, [], ◌∷◌, length, get_or, refl, sym, ap, ◌∙◌, subst, arith}
 use Rattle.relations.specs.Spans.{Span}
 use Rattle.prima_base.specs.declared.values.Value.{Value}
-use Rattle.history_store.specs.declared.columns.Write.{Write}
-use Rattle.history_store.specs.Log.{over}
+use Rattle.history_store.specs.Log.{Write, over}
 use Rattle.history_store.specs.Chains.{of_id}
 use Rattle.history_store.specs.Store.{Column, weight}
 use Rattle.history_store.specs.Entries.{Fits, all_entries, AreHistories}

@@ -10,8 +10,7 @@ use Rattle.relations.proofs.ListingLaws.{nat_less}
 use Rattle.prima_base.specs.Order.{row_cmp}
 use Rattle.prima_base.specs.OrderLaws.{row_exact}
 use Rattle.prima_base.specs.declared.values.Value.{Value}
-use Rattle.history_store.specs.declared.columns.Write.{Write}
-use Rattle.history_store.specs.Log.{newest}
+use Rattle.history_store.specs.Log.{Write, newest}
 use Rattle.history_store.specs.Store.{rows_from}
 use Rattle.history_store.specs.Entries.{all_entries, AreHistories}
 use Rattle.history_store.specs.Table.{row_then, row_now, rows_then, rows_of, no_span, AllColumns, IsStored}

@@ -6,9 +6,8 @@ use Rattle.std.specs.declared.cmp.Ordering.{Ordering}
 use Rattle.relations.specs.Sets.{In, Ascends, has}
 use Rattle.prima_base.specs.Order.{row_cmp}
 use Rattle.prima_base.specs.declared.values.Value.{Value}
-use Rattle.history_store.specs.declared.columns.Write.{Write}
-use Rattle.history_store.specs.Log.{Log, newest}
-use Rattle.history_store.specs.Logs.{cells_of, few_rows}
+use Rattle.history_store.specs.Log.{Log, Write, newest}
+use Rattle.history_store.specs.Logs.{cells_of, few_of}
 use Rattle.history_store.specs.Handing.{is_value, at_column}
 
 -- what a row has in a column, and the row's id: by the value, and then by the id
@@ -40,9 +39,9 @@ is_indexed column indexed = has nat_cmp column indexed
 abbrev pub indexed_with : ℕ → List ℕ → List ℕ
 indexed_with column indexed = if is_indexed column indexed then indexed else indexed ++ column ∷ []
 
--- behind a change that loses and gains so many rows: one of many rows takes all indexes away
-abbrev pub indexed_behind : ℕ → ℕ → List ℕ → List ℕ
-indexed_behind lost gained indexed = if nat_le lost few_rows && nat_le gained few_rows then indexed else []
+-- behind a change of so many rows that loses and gains so many: where these are not few, all indexes go
+abbrev pub indexed_behind : ℕ → ℕ → ℕ → List ℕ → List ℕ
+indexed_behind rows lost gained indexed = if nat_le lost (few_of rows) && nat_le gained (few_of rows) then indexed else []
 
 -- the least room of all
 abbrev pub least_room : ℕ → List Indexed → ℕ

@@ -1,6 +1,6 @@
 -- The cells of one id, by links from each to the next.
 use Rattle.std.specs.Prelude.{◌≡◌, ◌≢◌, ℕ, ◌+◌, ◌<◌, ◌==◌, List, [], ◌∷◌, length, drop, if◌then◌else◌, slice_index}
-use Rattle.history_store.specs.declared.columns.Write.{Write}
+use Rattle.history_store.specs.Log.{Write}
 
 -- the cells of this id, oldest first
 abbrev pub of_id : ℕ → List Write → List Write

@@ -8,6 +8,7 @@ use Rattle.prima_base.specs.Order.{value_eq, row_cmp}
 use Rattle.prima_base.specs.declared.values.Value.{Value}
 use Rattle.history_store.specs.Store.{Cell, Column, Store, row_at, IsRelation, AllBefore}
 use Rattle.history_store.specs.Handing.{unpaired, handed, keys_handed, only_in, IsHandOver}
+use Rattle.history_store.specs.StoredValues.{rows_room}
 use Rattle.history_store.specs.Indexes.{Index, ids_behind, more_ids, IsPlaced}
 
 -- a change that was made ready: its stamp, the ids of the lost rows, the gained rows, and how the ids of the rows
@@ -103,6 +104,7 @@ pub record IsPlan (s : Store) (p : Plan) : Type 0 where
   pub more : more_ids p.after ≤ length p.gained
   pub hands : IsHandOver s.keys (length s.columns) p.lost p.gained (ids_after s p)
   pub relation : IsRelation s.columns (rows_after s p)
+  pub room : rows_room p.gained ≤ s.spare
 
 -- the columns without an entry
 abbrev pub no_cells : List Column → List (List Cell)

@@ -6,8 +6,7 @@ use Rattle.std.specs.declared.cmp.Ordering.TheVariants.{Less}
 use Rattle.relations.specs.Spans.{Span, forever}
 use Rattle.prima_base.specs.Order.{row_cmp, value_eq}
 use Rattle.prima_base.specs.declared.values.Value.{Value}
-use Rattle.history_store.specs.declared.columns.Write.{Write}
-use Rattle.history_store.specs.Log.{newest}
+use Rattle.history_store.specs.Log.{Write, newest}
 use Rattle.history_store.specs.Table.{no_span, row_now, IsOpen}
 use Rattle.relations.specs.Sets.{has, In}
 

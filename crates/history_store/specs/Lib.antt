@@ -1,6 +1,7 @@
 pub mod Store
 pub mod Log
 pub mod Logs
+pub mod StoredValues
 pub mod Chains
 pub mod ColumnFields
 pub mod Table

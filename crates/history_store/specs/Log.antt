@@ -1,7 +1,12 @@
 -- The writes of a column, oldest first.
 use Rattle.std.specs.Prelude.{ℕ, ◌&&◌, nat_le, ◌==◌, List, [], ◌∷◌, if◌then◌else◌}
 use Rattle.prima_base.specs.declared.values.Value.{Value}
-use Rattle.history_store.specs.declared.columns.Write.{Write}
+
+-- from the start on, the row with this id has this value
+pub record Write : Type 0 where
+  pub id : ℕ
+  pub value : Value
+  pub start : ℕ
 
 -- what is seen of a column: its ids count up from 0
 pub record Log : Type 0 where

@@ -1,7 +1,6 @@
 -- Several columns.
 use Rattle.std.specs.Prelude.{ℕ, ◌-◌, ◌/◌, ◌^◌, min, max, List, [], ◌∷◌, length, if◌then◌else◌, nat_le}
-use Rattle.history_store.specs.declared.columns.Write.{Write}
-use Rattle.history_store.specs.Log.{Log}
+use Rattle.history_store.specs.Log.{Log, Write}
 use Rattle.history_store.specs.Store.{cells_in}
 
 abbrev pub cells_of : List Log → List (List Write)
@@ -12,9 +11,13 @@ cells_of (c ∷ columns) = c.cells ∷ cells_of columns
 abbrev pub few_rows : ℕ
 few_rows = 64
 
--- as much room, or no more than the index has where that is less than room for few rows
-abbrev pub with_index : ℕ → ℕ → ℕ
-with_index room n = if nat_le few_rows room then n else min room n
+-- how many rows are few in a table of so many: 64, or one in 64 where that is more
+abbrev pub few_of : ℕ → ℕ
+few_of rows = max few_rows (rows / few_rows)
+
+-- as much room, or no more than the indexes have where that is less than room for few rows
+abbrev pub with_index : ℕ → ℕ → ℕ → ℕ
+with_index few room n = if nat_le few room then n else min room n
 
 -- the least room of all
 abbrev pub least_spare : ℕ → List Log → ℕ
@@ -25,6 +28,7 @@ least_spare least (c ∷ columns) = min c.spare (least_spare least columns)
 abbrev pub countable_rows : List (List Write) → ℕ
 countable_rows columns = (2 ^ 64 - 1 - cells_in columns) / max (length columns) 1
 
--- how many rows more there is room for: in the index and among the keys, in each column, and in the number of all cells
-abbrev pub spare_rows : ℕ → ℕ → List Log → ℕ
-spare_rows room n columns = min (least_spare (with_index room n) columns) (countable_rows (cells_of columns))
+-- how many pieces of room there are, of which a row takes at least one: in the indexes and among the keys, in each column, and in the number of all cells.
+-- No more than few rows are put into indexes
+abbrev pub spare_rows : ℕ → ℕ → ℕ → List Log → ℕ
+spare_rows few room n columns = min (least_spare (with_index few room n) columns) (countable_rows (cells_of columns))

@@ -1,8 +1,9 @@
 -- The fields of a scan of a column.
 use Rattle.std.specs.Prelude.{◌≡◌, ℕ, ◌+◌, ◌<◌, ◌≤◌, List, [], ◌∷◌, ◌++◌, length, drop, slice_index_or}
 use Rattle.relations.specs.Spans.{Span}
-use Rattle.history_store.specs.declared.columns.Write.{Write}
+use Rattle.history_store.specs.Log.{Write}
 use Rattle.history_store.specs.declared.scans.CellScan.TheInside.{Inside as InsideScan}
+use Rattle.history_store.specs.StoredValues.{writes_in, AreWithin}
 use Rattle.history_store.specs.Chains.{of_id, id_at, IsChain}
 use Rattle.history_store.specs.Entries.{with_ends, entries_from, Climbs, IsHistory}
 use Rattle.history_store.specs.Store.{Cell}
@@ -26,7 +27,8 @@ pub record IsAt (id at : ℕ) (keys : List Span) (first next : List ℕ) (cells 
   pub here : id < length keys → (at < length cells) × (id_at cells at ≡ id) × Goes (slice_index_or keys id no_span).end (of_id id (drop at cells))
 
 abbrev pub cells_left : InsideScan → List Cell
-cells_left a = rest_of a.id a.at (drop a.id a.keys.now) a.cells.now
+cells_left a = rest_of a.id a.at (drop a.id a.keys.now) (writes_in a.texts.now a.cells.now)
 
-abbrev pub IsCellScan : InsideScan → Type 0
-IsCellScan a = IsAt a.id a.at a.keys.now a.first.now a.next.now a.cells.now
+pub record IsCellScan (a : InsideScan) : Type 0 where
+  pub within : AreWithin a.texts.now a.cells.now
+  pub here : IsAt a.id a.at a.keys.now a.first.now a.next.now (writes_in a.texts.now a.cells.now)

@@ -4,8 +4,7 @@ use Rattle.relations.specs.Sets.{In, Ascends}
 use Rattle.relations.specs.Spans.{Span, forever, covers}
 use Rattle.prima_base.specs.Order.{row_cmp}
 use Rattle.prima_base.specs.declared.values.Value.{Value}
-use Rattle.history_store.specs.declared.columns.Write.{Write}
-use Rattle.history_store.specs.Log.{newest, value_at}
+use Rattle.history_store.specs.Log.{Write, newest, value_at}
 
 -- the values of one id at the moment, column by column
 abbrev pub row_then : ℕ → ℕ → List (List Write) → List Value

@@ -2,9 +2,9 @@
 use Rattle.std.specs.Prelude.{◌≡◌, ℕ, ◌-◌, ◌^◌, ◌<◌, List, [], length, All, vec_len, vec_capacity, slice_index_or}
 use Rattle.relations.specs.Sets.{In}
 use Rattle.relations.specs.Spans.{Span, forever}
-use Rattle.history_store.specs.declared.columns.Write.{Write}
+use Rattle.history_store.specs.Log.{Write}
 use Rattle.history_store.specs.declared.tables.StoredTable.TheInside.{Inside}
-use Rattle.history_store.specs.Logs.{cells_of, spare_rows}
+use Rattle.history_store.specs.Logs.{cells_of, few_of, spare_rows}
 use Rattle.history_store.specs.ByValue.{columns_of, least_room, IsIndexed}
 use Rattle.history_store.specs.Entries.{all_entries, AreHistories}
 use Rattle.history_store.specs.Store.{Column, Store, cells_in, AreColumns, IsRow, IsPeriod, Holds}
@@ -15,7 +15,7 @@ abbrev pub store_of : List Column → List Span → List (List Write) → ℕ �
 store_of columns keys logs spare indexed = record { columns = columns; keys = keys; cells = all_entries keys logs; spare = spare; indexed = indexed }
 
 abbrev pub table_view : Inside → Store
-table_view a = store_of a.columns.items a.keys.items (cells_of a.logs.items) (spare_rows (least_room a.live.room a.others.items) (vec_capacity a.keys - vec_len a.keys) a.logs.items) (columns_of a.others.items)
+table_view a = store_of a.columns.items a.keys.items (cells_of a.logs.items) (spare_rows (few_of (length a.live.ids)) (least_room a.live.room a.others.items) (vec_capacity a.keys - vec_len a.keys) a.logs.items) (columns_of a.others.items)
 
 -- the entries of each id fill its key, and `live` has the ids of the current rows in the order of their rows; at
 -- each moment, as now, each id has a row of the columns, and no two have the same

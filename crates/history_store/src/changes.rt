@@ -1,35 +1,35 @@
 ghost use Rattle.std.specs.Prelude.{◌≡◌, OnOk, IfOk, [], ◌+◌, ◌-◌, ◌++◌, vec_len, vec_capacity, ◌^◌, ◌<◌, ◌≤◌, max, length, All, slice_index_or, ℕ};
-ghost use Rattle.history_store.specs.Logs.{cells_of, least_spare, countable_rows, spare_rows};
+ghost use Rattle.history_store.specs.Logs.{cells_of, few_of, least_spare, countable_rows, spare_rows};
 ghost use Rattle.history_store.specs.Handing.{ended_at, put_row, put_rows, handed, unpaired, new_keys, end_keys, keys_handed, logs_handed, AllWidth};
 ghost use Rattle.history_store.specs.ByValue.{Indexed, least_room};
 ghost use Rattle.history_store.specs.Log.{Log};
+ghost use Rattle.history_store.specs.StoredValues.{row_room, rows_room};
 ghost use Rattle.history_store.specs.Store.{cells_in};
 ghost use Rattle.history_store.specs.Table.{no_span};
 ghost use Rattle.relations.specs.Spans.{forever};
 
 use crate::columns::Column;
 use crate::other_indexes::reserve_each;
-use crate::splices::FEW_ROWS;
+use crate::splices::few_of;
+use crate::stored_value::text_room;
 use crate::value_index::ValueIndex;
 use prima_base::{NoMemory, Period, Row, Value};
 use row_index::RowIndex;
 use std::alloc::Global;
 
 /// From the stamp on, the row with this id has these values. It takes no memory.
-fn put_row(columns: &mut [Column], id: usize, row: Vec<Value>, stamp: u64)
-    requires width { length row.items ≡ length columns.old }
+fn put_row(columns: &mut [Column], id: usize, row: &[Value], stamp: u64)
+    requires width { length row.now ≡ length columns.old }
     requires known { All (λ c. id ≤ c.ids) columns.old }
-    requires room { All (λ c. 0 < c.spare) columns.old }
-    ensures cells { cells_of columns.new ≡ put_row id row.items stamp (cells_of columns.old) }
+    requires room { All (λ c. row_room row.now ≤ c.spare) columns.old }
+    ensures cells { cells_of columns.new ≡ put_row id row.now stamp (cells_of columns.old) }
     ensures ids { (k : _) (d : Log) → k < length columns.old
         → (slice_index_or columns.new k d).ids ≡ max (slice_index_or columns.old k d).ids (id + 1) }
     ensures spare { (k : _) (d : Log) → k < length columns.old
-        → (slice_index_or columns.old k d).spare ≤ (slice_index_or columns.new k d).spare + 1 }
+        → (slice_index_or columns.old k d).spare ≤ (slice_index_or columns.new k d).spare + row_room row.now }
 {
-    let mut k = 0;
-    for value in row {
+    for (k, value) in row.iter().enumerate() {
         columns[k].put(id, value, stamp);
-        k += 1;
     }
 }
 
@@ -69,7 +69,7 @@ fn hand_rows(
     requires wide { AllWidth (length columns.old) gained.items }
     requires known { All (λ id. id < vec_len keys.old) lost.now }
     requires ids { All (λ c. c.ids ≡ vec_len keys.old) columns.old }
-    requires room { All (λ c. length gained.items ≤ c.spare) columns.old }
+    requires room { All (λ c. rows_room gained.items ≤ c.spare) columns.old }
     requires key_room { vec_len keys.old + length gained.items ≤ vec_capacity keys.old }
     ensures keys { keys.new.items ≡ keys.old.items ++ new_keys stamp (unpaired gained.items lost.now) }
     ensures cells { cells_of columns.new
@@ -84,7 +84,7 @@ fn hand_rows(
             keys.push_reserved(Period::from(stamp));
             keys.len() - 1
         };
-        put_row(columns, id, row.into_values(), stamp);
+        put_row(columns, id, row.values(), stamp);
         i += 1;
     }
 }
@@ -102,7 +102,7 @@ pub fn carry_out(
     requires known { All (λ id. id < vec_len keys.old) lost.now }
     requires later { (k : _) → k < vec_len keys.old → (slice_index_or keys.old.items k no_span).start < stamp }
     requires ids { All (λ c. c.ids ≡ vec_len keys.old) columns.old.items }
-    requires room { All (λ c. length gained.items ≤ c.spare) columns.old.items }
+    requires room { All (λ c. rows_room gained.items ≤ c.spare) columns.old.items }
     requires key_room { vec_len keys.old + length gained.items ≤ vec_capacity keys.old }
     ensures keys { keys.new.items ≡ keys_handed keys.old.items lost.now gained.items stamp }
     ensures cells { cells_of columns.new.items
@@ -114,7 +114,35 @@ pub fn carry_out(
     hand_rows(keys, columns, lost, gained, stamp);
 }
 
-/// Room for this many cells more in each column.
+// How many pieces of room the row takes.
+fn row_room(row: &[Value]) -> Result<usize, NoMemory>
+    ensures { IfOk result (λ n. n ≡ row_room row.now) }
+{
+    let mut room = 1usize;
+    for value in row {
+        let Some(more) = room.checked_add(text_room(value)) else {
+            return Err(NoMemory);
+        };
+        room = more;
+    }
+    Ok(room)
+}
+
+/// How many pieces of room the rows take: each takes one, and one more for each 32 bytes of a text of it.
+pub fn rows_room(rows: &[Row]) -> Result<usize, NoMemory>
+    ensures { IfOk result (λ n. n ≡ rows_room rows.now) }
+{
+    let mut room = 0usize;
+    for row in rows {
+        let Some(more) = room.checked_add(row_room(row.values())?) else {
+            return Err(NoMemory);
+        };
+        room = more;
+    }
+    Ok(room)
+}
+
+/// Room for this many cells more in each column, with as many pieces of text.
 pub fn reserve_all(columns: &mut Vec<Column>, more: usize) -> Result<(), NoMemory>
     ensures len { vec_len columns.new ≡ vec_len columns.old }
     ensures cells { cells_of columns.new.items ≡ cells_of columns.old.items }
@@ -153,8 +181,8 @@ fn check_count(columns: &[Column], more: usize) -> Result<(), NoMemory>
     Ok(())
 }
 
-/// Room for this many rows more: for their keys, for the ids of few of them in each index, for a cell of each in each
-/// column, and in the number of all cells.
+/// Room for this many pieces more, of which a row takes at least one: for their keys, for the ids of few of them in each
+/// index, for a cell of each in each column and as many pieces of text, and in the number of all cells.
 pub fn reserve_rows(
     keys: &mut Vec<Period>,
     live: &mut RowIndex,
@@ -172,12 +200,12 @@ pub fn reserve_rows(
     ensures cells { cells_of columns.new.items ≡ cells_of columns.old.items }
     ensures ids { (k : _) (d : Log) → k < vec_len columns.old
         → (slice_index_or columns.new.items k d).ids ≡ (slice_index_or columns.old.items k d).ids }
-    ensures spare { spare_rows (least_room live.old.room others.old.items) (vec_capacity keys.old - vec_len keys.old) columns.old.items
-        ≤ spare_rows (least_room live.new.room others.new.items) (vec_capacity keys.new - vec_len keys.new) columns.new.items }
-    ensures room { OnOk result (more ≤ spare_rows (least_room live.new.room others.new.items) (vec_capacity keys.new - vec_len keys.new) columns.new.items) }
+    ensures spare { spare_rows (few_of (length live.old.ids)) (least_room live.old.room others.old.items) (vec_capacity keys.old - vec_len keys.old) columns.old.items
+        ≤ spare_rows (few_of (length live.new.ids)) (least_room live.new.room others.new.items) (vec_capacity keys.new - vec_len keys.new) columns.new.items }
+    ensures room { OnOk result (more ≤ spare_rows (few_of (length live.new.ids)) (least_room live.new.room others.new.items) (vec_capacity keys.new - vec_len keys.new) columns.new.items) }
 {
     check_count(columns, more)?;
-    let few = more.min(FEW_ROWS);
+    let few = more.min(few_of(live.len()));
     keys.reserve(more)?;
     live.reserve(few)?;
     reserve_each(others, few)?;

@@ -127,7 +127,7 @@ pub(crate) fn lend_now<'a>(
 {
     row.clear();
     for column in columns {
-        row.push(column.newest(id).lend())?;
+        row.push(column.newest(id))?;
     }
     Ok(())
 }

@@ -22,6 +22,7 @@ mod other_indexes;
 mod restoring;
 mod scans;
 mod splices;
+mod stored_value;
 mod tables;
 mod value_index;
 mod walks;

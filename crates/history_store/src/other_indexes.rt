@@ -3,12 +3,12 @@
 ghost use Rattle.std.specs.Prelude.{◌≡◌, ◌+◌, ◌^◌, ◌<◌, ◌≤◌, ℕ, List, [], All, IfSome, OnOk, is_some, length, slice_index_or, vec_len};
 ghost use Rattle.relations.specs.Sets.{In};
 ghost use Rattle.history_store.specs.Log.{Log};
-ghost use Rattle.history_store.specs.Logs.{cells_of, few_rows};
+ghost use Rattle.history_store.specs.Logs.{cells_of, few_of};
 ghost use Rattle.history_store.specs.Handing.{Distinct};
 ghost use Rattle.history_store.specs.ByValue.{Indexed, columns_of, is_indexed, indexed_behind, least_room, ids_handed, IsIndexed, IsReady, IsLosing, IsGaining};
 
 use crate::columns::Column;
-use crate::splices::FEW_ROWS;
+use crate::splices::few_of;
 use crate::value_index::ValueIndex;
 use prima_base::NoMemory;
 
@@ -52,18 +52,25 @@ fn lose_all(others: &mut Vec<ValueIndex>, columns: &[Column], lost: &[usize])
     }
 }
 
-/// Takes the ids of lost rows out of each, before a change that also gains so many. Where it is one of many rows the
-/// indexes go. It takes no memory.
-pub fn lose_each(others: &mut Vec<ValueIndex>, columns: &[Column], lost: &[usize], gained: usize)
+/// Takes the ids of lost rows out of each, before a change of a table of so many rows that also gains so many. Where these
+/// are not few of them the indexes go: to sort the ids anew costs less. It takes no memory.
+pub fn lose_each(
+    others: &mut Vec<ValueIndex>,
+    columns: &[Column],
+    rows: usize,
+    lost: &[usize],
+    gained: usize,
+)
     requires ready { All (IsReady columns.now) others.old.items }
     requires there { All (λ x. (q : ℕ) → In q lost.now → In q x.ids) others.old.items }
     requires distinct { Distinct lost.now }
-    requires room { gained ≤ few_rows → All (λ x. gained ≤ x.room) others.old.items }
-    ensures columns { columns_of others.new.items ≡ indexed_behind (length lost.now) gained (columns_of others.old.items) }
+    requires room { gained ≤ few_of rows → All (λ x. gained ≤ x.room) others.old.items }
+    ensures columns { columns_of others.new.items ≡ indexed_behind rows (length lost.now) gained (columns_of others.old.items) }
     ensures room { All (λ x. gained ≤ x.room) others.new.items }
     ensures indexed { (live : List ℕ) → All (IsIndexed (cells_of columns.now) live []) others.old.items → All (IsIndexed (cells_of columns.now) live lost.now) others.new.items }
 {
-    if lost.len() > FEW_ROWS || gained > FEW_ROWS {
+    let few = few_of(rows);
+    if lost.len() > few || gained > few {
         others.clear();
         return;
     }

@@ -51,7 +51,7 @@ fn column_of(alloc: Global, cells: Vec<Cell>) -> Result<Column, NoMemory>
 {
     let mut column = Column::new(alloc);
     for cell in cells {
-        column.add(cell.id as usize, cell.value, cell.period.start())?;
+        column.add(cell.id as usize, &cell.value, cell.period.start())?;
     }
     Ok(column)
 }

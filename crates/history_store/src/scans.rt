@@ -1,4 +1,4 @@
-use crate::columns::Write;
+use crate::columns::StoredWrite;
 use prima_base::{Period, Steps, Val};
 use std::marker::Model;
 use std::sync::ledger::Ledger;
@@ -71,7 +71,8 @@ impl<'a> KeyScan<'a> {
 #[derive(Drop)]
 pub struct CellScan<'a> {
     keys: &'a [Period],
-    cells: &'a [Write],
+    cells: &'a [StoredWrite],
+    texts: &'a [u8],
     first: &'a [usize],
     next: &'a [usize],
     id: usize,
@@ -120,23 +121,27 @@ impl<'a> CellScan<'a> {
     ghost use Rattle.prima_base.specs.Columns.{IsLawful};
     ghost use Rattle.history_store.specs.Chains.{IsChain};
     ghost use Rattle.history_store.specs.Entries.{entries_from, IsHistory};
+    ghost use Rattle.history_store.specs.StoredValues.{writes_in, AreWithin};
     ghost use Rattle.history_store.specs.Scans.{seen_cell};
 
-    /// A scan of these writes, which are those of the keys, from the first id on.
+    /// A scan of these writes, whose texts stand in the buffer and which are those of the keys, from the first id on.
     pub(crate) fn over(
         keys: &'a [Period],
-        cells: &'a [Write],
+        cells: &'a [StoredWrite],
+        texts: &'a [u8],
         first: &'a [usize],
         next: &'a [usize],
     ) -> CellScan<'a>
         requires ids { length first.now ≡ length keys.now }
-        requires history { IsHistory keys.now cells.now }
-        requires chain { IsChain first.now next.now cells.now }
-        ensures { result ≡ entries_from 0 keys.now cells.now }
+        requires history { IsHistory keys.now (writes_in texts.now cells.now) }
+        requires chain { IsChain first.now next.now (writes_in texts.now cells.now) }
+        requires within { AreWithin texts.now cells.now }
+        ensures { result ≡ entries_from 0 keys.now (writes_in texts.now cells.now) }
     {
         CellScan {
             keys,
             cells,
+            texts,
             first,
             next,
             id: 0,
@@ -165,7 +170,7 @@ impl<'a> CellScan<'a> {
             let period = period_of(cell.start, self.cells[next].start);
             return Some(CellEntry {
                 id,
-                value: cell.value.lend(),
+                value: cell.value.lend(self.texts),
                 period,
             });
         }
@@ -174,7 +179,7 @@ impl<'a> CellScan<'a> {
         self.at = first_of(self.first, self.id);
         Some(CellEntry {
             id,
-            value: cell.value.lend(),
+            value: cell.value.lend(self.texts),
             period,
         })
     }

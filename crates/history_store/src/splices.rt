@@ -8,7 +8,7 @@ ghost use Rattle.relations.specs.Sets.{Ascends, In};
 ghost use Rattle.prima_base.specs.Order.{row_cmp};
 ghost use Rattle.prima_base.specs.declared.values.Value.{Value as OneValue};
 ghost use Rattle.history_store.specs.Log.{Log};
-ghost use Rattle.history_store.specs.Logs.{cells_of, few_rows};
+ghost use Rattle.history_store.specs.Logs.{cells_of, few_rows, few_of};
 ghost use Rattle.history_store.specs.Table.{row_now, rows_of};
 ghost use Rattle.history_store.specs.Handing.{handed, AllWidth};
 ghost use Rattle.history_store.specs.Splices.{IsSplit, IsJoined, IsSpliced};
@@ -22,6 +22,14 @@ use std::alloc::Global;
 
 /// How many rows a change may lose, and how many gain, for their places alone to be kept.
 pub const FEW_ROWS: usize = 64;
+
+/// How many rows are few in a table of so many: for a change of no more it costs less to keep an index of a column than to
+/// sort it anew.
+pub fn few_of(rows: usize) -> usize
+    ensures { result ≡ few_of rows }
+{
+    FEW_ROWS.max(rows / FEW_ROWS)
+}
 
 /// The index behind a change.
 #[derive(Drop)]

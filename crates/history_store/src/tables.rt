@@ -1,10 +1,10 @@
-use crate::changes::{carry_out, count_cells, empty_columns, reserve_rows};
+use crate::changes::{carry_out, count_cells, empty_columns, reserve_rows, rows_room};
 use crate::columns::Column;
 use crate::cuts::{Cut, LentRows, count_before};
 use crate::other_indexes::{gain_each, index_of, lose_each};
 use crate::restoring::{Cell, check_cells, columns_of, open_ids, sort_ids};
 use crate::scans::{CellScan, KeyScan};
-use crate::splices::{After, change_index, copy_given, splice};
+use crate::splices::{After, change_index, copy_given, few_of, splice};
 use crate::value_index::ValueIndex;
 use crate::walks::{
     Difference, column_place, copy_columns, copy_rows, find_difference, next_ids, place_in,
@@ -76,7 +76,7 @@ impl Prepared {
 }
 
 impl StoredTable {
-    ghost use Rattle.std.specs.Prelude.{◌≡◌, ℕ, ◌+◌, ◌-◌, ◌<◌, ◌≤◌, List, [], length, IfOk, IfSome, OnOk, OnErr, is_some, option_map, slice_index_or};
+    ghost use Rattle.std.specs.Prelude.{◌≡◌, ℕ, ◌+◌, ◌-◌, ◌<◌, ◌≤◌, List, [], length, IfOk, IfSome, OnOk, OnErr, is_some, option_map, slice_index_or, nat_le};
     ghost use Rattle.relations.specs.Sets.{In, has};
     ghost use Rattle.relations.specs.Spans.{forever};
     ghost use Rattle.prima_base.specs.Order.{row_cmp};
@@ -87,6 +87,7 @@ impl StoredTable {
     ghost use Rattle.history_store.specs.Scans.{keys_from};
     ghost use Rattle.history_store.specs.Cuts.{between};
     ghost use Rattle.history_store.specs.Restoring.{store_with, entries_of};
+    ghost use Rattle.history_store.specs.Logs.{few_of};
     ghost use Rattle.history_store.specs.ByValue.{is_indexed, indexed_with, indexed_behind, rows_with};
 
     /// A table of these columns, which stand in the order of their names: from the stamp on its relation
@@ -176,12 +177,13 @@ impl StoredTable {
         } = find_difference(self.alloc, &self.logs, &self.live.copy()?, rows)?;
         let ids = next_ids(self.alloc, &owners, &lost, self.keys.len())?;
         let after = RowIndex::of(self.alloc, &ids)?;
+        let room = rows_room(&gained)?;
         reserve_rows(
             &mut self.keys,
             &mut self.live,
             &mut self.others,
             &mut self.logs,
-            gained.len(),
+            room,
         )?;
         Ok(Prepared {
             stamp,
@@ -228,12 +230,13 @@ impl StoredTable {
             gained,
         )?;
         let gained = copy_given(self.alloc, gained)?;
+        let room = rows_room(&gained)?;
         reserve_rows(
             &mut self.keys,
             &mut self.live,
             &mut self.others,
             &mut self.logs,
-            gained.len(),
+            room,
         )?;
         Ok(Prepared {
             stamp,
@@ -247,14 +250,15 @@ impl StoredTable {
     /// and before it nothing changes. By any weight of values each column gains what is written into it. It takes no
     /// memory. The index of the current rows loses the ids at the places that were found and gets the gained ones at
     /// theirs, each of which moves ids of its block alone, or it is replaced by the whole one that was made ready. The
-    /// indexes of columns stay where at most 64 rows are lost and at most 64 gained, and else go.
+    /// indexes of columns stay where no more rows are lost, and no more gained, than are few in the table: 64, or one in
+    /// 64 of its rows where that is more. Else they go, since to sort the ids anew costs less.
     pub fn install(&mut self, prepared: Prepared)
         requires fits { IsPlan self.old prepared }
         requires room { length prepared.gained ≤ self.old.spare }
         ensures columns { self.new.columns ≡ self.old.columns }
         ensures keys { self.new.keys ≡ keys_after self.old prepared }
         ensures cells { self.new.cells ≡ cells_after self.old prepared }
-        ensures indexed { self.new.indexed ≡ indexed_behind (length prepared.lost) (length prepared.gained) self.old.indexed }
+        ensures indexed { self.new.indexed ≡ indexed_behind (length (relation_at self.old prepared.stamp)) (length prepared.lost) (length prepared.gained) self.old.indexed }
         ensures key_count { length self.new.keys ≡ length self.old.keys + (length prepared.gained - length prepared.lost) }
         ensures written { (f : OneValue → ℕ) (k : ℕ) → k < length self.old.columns → weight f (slice_index_or self.new.cells k [])
             ≡ weight f (slice_index_or self.old.cells k []) + written f k (rows_along prepared.lost prepared.stamp self.old.cells) prepared.gained }
@@ -271,7 +275,7 @@ impl StoredTable {
         } = prepared;
         let next = self.keys.len();
         let count = gained.len();
-        lose_each(&mut self.others, &self.logs, &lost, count);
+        lose_each(&mut self.others, &self.logs, self.live.len(), &lost, count);
         carry_out(&mut self.keys, &mut self.logs, &lost, gained, stamp);
         gain_each(&mut self.others, &self.logs, &lost, next, count);
         change_index(&mut self.live, after);
@@ -321,7 +325,7 @@ impl StoredTable {
     }
 
     /// Keeps from now on an index of the column at this place, where there is none: its ids are sorted once, and each
-    /// change of few rows moves those of its rows. A change of more than 64 rows takes the index away. What the table
+    /// change of few of the rows moves those of its rows. A change of many takes the index away. What the table
     /// stands for stays as it is, and so does each index that it keeps. The one error is `NoMemory`, where memory runs
     /// out: then it keeps the indexes that it kept.
     pub fn index_column(&mut self, column: usize) -> Result<(), NoMemory>
@@ -350,6 +354,14 @@ impl StoredTable {
             Some(at) => Some(self.others[at].rows_with(&self.logs, value)),
             None => None,
         }
+    }
+
+    /// Whether so many rows are few in the table: no more than 64, or than one in 64 of its rows where that is more. It takes
+    /// no memory.
+    pub fn are_few(&self, rows: usize) -> bool
+        ensures { (m : ℕ) → m < forever → AllBefore self.now (m + 1) → result ≡ nat_le rows (few_of (length (relation_at self.now m))) }
+    {
+        rows <= few_of(self.live.len())
     }
 
     /// A scan of the keys, ascending by id. It takes no memory.

@@ -11,7 +11,7 @@ ghost use Rattle.history_store.specs.ByValue.{mark_cmp, mark_of, by_value, ids_h
 
 use crate::columns::Column;
 use crate::cuts::LentRows;
-use crate::splices::FEW_ROWS;
+use crate::splices::few_of;
 use prima_base::{NoMemory, Val, Value};
 use row_index::RowIndex;
 use std::alloc::Global;
@@ -19,11 +19,11 @@ use std::cmp::Ordering;
 use std::marker::Model;
 
 // Whether the other id's value is less than this one, or the same and the other id less than this.
-fn is_under(column: &Column, other: usize, value: &Value, id: usize) -> bool
+fn is_under(column: &Column, other: usize, value: &Val<'_>, id: usize) -> bool
     requires { other < column.now.ids }
-    ensures { result ≡ is_lt (mark_cmp (mark_of column.now.cells other) (value.now ∷ [], id)) }
+    ensures { result ≡ is_lt (mark_cmp (mark_of column.now.cells other) (shown value.now ∷ [], id)) }
 {
-    match column.newest(other).cmp(value) {
+    match column.newest(other).compare(value) {
         Ordering::Less => true,
         Ordering::Equal => other < id,
         Ordering::Greater => false,
@@ -31,12 +31,12 @@ fn is_under(column: &Column, other: usize, value: &Value, id: usize) -> bool
 }
 
 // How many ids have a lesser value, or the same and are less themselves: these stand first. It is found by binary search.
-fn count_under(column: &Column, index: &RowIndex, value: &Value, id: usize) -> usize
+fn count_under(column: &Column, index: &RowIndex, value: &Val<'_>, id: usize) -> usize
     requires known { (q : ℕ) → In q index.now.ids → q < column.now.ids }
     requires rises { Ascends (by_value column.now.cells) index.now.ids }
     ensures within { result ≤ length index.now.ids }
-    ensures before { (k : ℕ) → k < result → is_lt (mark_cmp (mark_of column.now.cells (slice_index index.now.ids k)) (value.now ∷ [], id)) ≡ true }
-    ensures after { (k : ℕ) → result ≤ k → k < length index.now.ids → is_lt (mark_cmp (mark_of column.now.cells (slice_index index.now.ids k)) (value.now ∷ [], id)) ≡ false }
+    ensures before { (k : ℕ) → k < result → is_lt (mark_cmp (mark_of column.now.cells (slice_index index.now.ids k)) (shown value.now ∷ [], id)) ≡ true }
+    ensures after { (k : ℕ) → result ≤ k → k < length index.now.ids → is_lt (mark_cmp (mark_of column.now.cells (slice_index index.now.ids k)) (shown value.now ∷ [], id)) ≡ false }
 {
     let mut low = 0;
     let mut high = index.len();
@@ -59,7 +59,7 @@ fn take_id(column: &Column, index: &mut RowIndex, id: usize)
     ensures without { IsWithout column.now.cells (id ∷ []) index.old.ids index.new.ids }
     ensures room { index.old.room ≤ index.new.room }
 {
-    let at = count_under(column, index, column.newest(id), id);
+    let at = count_under(column, index, &column.newest(id), id);
     index.remove(at);
 }
 
@@ -87,7 +87,7 @@ fn put_id(column: &Column, index: &mut RowIndex, id: usize)
     ensures with_it { IsWith column.now.cells (id ∷ []) index.old.ids index.new.ids }
     ensures room { index.old.room ≤ index.new.room + 1 }
 {
-    let at = count_under(column, index, column.newest(id), id);
+    let at = count_under(column, index, &column.newest(id), id);
     index.insert(at, id);
 }
 
@@ -130,7 +130,7 @@ fn lend_values<'a>(
 {
     let mut marks = Vec::with_capacity(alloc, live.len())?;
     for id in live {
-        marks.push((column.newest(*id).lend(), *id))?;
+        marks.push((column.newest(*id), *id))?;
     }
     Ok(marks)
 }
@@ -177,13 +177,13 @@ impl ValueIndex {
     ghost use Rattle.std.specs.Prelude.{◌≡◌, ◌≤◌, ◌<◌, ◌+◌, ◌^◌, ◌∷◌, ℕ, List, [], All, IfOk, OnOk, length, slice_index_or};
     ghost use Rattle.relations.specs.Sets.{In};
     ghost use Rattle.history_store.specs.Log.{Log};
-    ghost use Rattle.history_store.specs.Logs.{cells_of, few_rows};
+    ghost use Rattle.history_store.specs.Logs.{cells_of, few_of};
     ghost use Rattle.history_store.specs.Table.{rows_of};
     ghost use Rattle.history_store.specs.Handing.{Distinct};
     ghost use Rattle.history_store.specs.ByValue.{ids_handed, ids_with, IsIndexed, IsReady, IsLosing, IsGaining};
 
-    /// The index of the column at this place, with room for all ids that are ever put in by one change. It sorts the
-    /// ids.
+    /// The index of the column at this place, with room for all ids that are put in by one change of these rows. It
+    /// sorts the ids.
     pub(crate) fn of(
         alloc: Global,
         columns: &[Column],
@@ -195,11 +195,11 @@ impl ValueIndex {
         requires distinct { Distinct live.now }
         ensures column { IfOk result (λ x. x.column ≡ column) }
         ensures indexed { IfOk result (λ x. IsIndexed (cells_of columns.now) live.now [] x) }
-        ensures room { IfOk result (λ x. few_rows ≤ x.room) }
+        ensures room { IfOk result (λ x. few_of (length live.now) ≤ x.room) }
     {
         let ids = sort_ids(alloc, &columns[column], live)?;
         let mut index = RowIndex::of(alloc, &ids)?;
-        index.reserve(FEW_ROWS)?;
+        index.reserve(few_of(live.len()))?;
         Ok(ValueIndex { column, index })
     }
 
@@ -251,8 +251,9 @@ impl ValueIndex {
         ensures { result ≡ rows_of (ids_with value.now (slice_index_or (cells_of columns.now) self.now.column []) self.now.ids) (cells_of columns.now) }
     {
         let column = &columns[self.column];
-        let end = count_under(column, &self.index, value, column.ids());
-        let start = count_under(column, &self.index, value, 0).min(end);
+        let value = value.lend();
+        let end = count_under(column, &self.index, &value, column.ids());
+        let start = count_under(column, &self.index, &value, 0).min(end);
         LentRows::over(columns, &self.index, start, end)
     }
 }

@@ -1,5 +1,4 @@
 ghost use Rattle.std.specs.Prelude.{IfSome, option_map, List};
-ghost use Rattle.history_store.specs.declared.columns.Write.{Write as OneWrite};
 ghost use Rattle.history_store.specs.Store.{Cell, named};
 ghost use Rattle.std.specs.Prelude.{◌≡◌, [], slice_index, true, IfErr, ◌⊎◌, ◌∷◌, ℕ, Option, ◌+◌, ◌^◌, ◌<◌, ◌≤◌, ◌++◌, take, drop, length, All, slice_index_or, IfOk, OnOk};
 ghost use Rattle.history_store.specs.Logs.{cells_of};
@@ -51,7 +50,7 @@ pub fn compare_lead(columns: &[Column], id: usize, lead: &[Value]) -> Ordering
     ensures whole { length lead.now ≡ length columns.now → result ≡ row_cmp (row_now id (cells_of columns.now)) lead.now }
 {
     for (k, value) in lead.iter().enumerate() {
-        let order = columns[k].newest(id).cmp(value);
+        let order = columns[k].newest(id).compare(&value.lend());
         if order != Ordering::Equal {
             return order;
         }
@@ -210,7 +209,7 @@ fn copy_now(alloc: Global, columns: &[Column], id: usize) -> Result<Row, NoMemor
 {
     let mut values = Vec::with_capacity(alloc, columns.len())?;
     for column in columns {
-        values.push(column.newest(id).copy()?)?;
+        values.push(column.newest(id).into_value(alloc)?)?;
     }
     Ok(Row::new(alloc, values))
 }

@@ -2,6 +2,7 @@ use Rattle.std.proofs.Common.{◌≡◌, ◌+◌, ◌≤◌, ◌++◌, length, d
 use Rattle.std.specs.Prelude.{All}
 use Rattle.std.specs.Vec.Iter.{into_iter_items}
 use Rattle.history_store.specs.Logs.{cells_of}
+use Rattle.history_store.specs.StoredValues.{rows_room}
 use Rattle.history_store.specs.Handing.{put_rows, handed, unpaired, new_keys, AllWidth}
 use Rattle.history_store.proofs.changes.hand_rows.Given as goal
 
@@ -14,7 +15,7 @@ invariant-loop-row l =
       wide : AllWidth (length l.columns) rest;
       more : vec_len l.initial.keys ≤ vec_len l.keys;
       ids : All (λ c. c.ids ≡ vec_len l.keys) l.columns;
-      room : All (λ c. length rest ≤ c.spare) l.columns;
+      room : All (λ c. rows_room rest ≤ c.spare) l.columns;
       key_room : vec_len l.keys + length rest ≤ vec_capacity l.keys;
       keys : l.initial.keys.items ++ new_keys l.stamp (unpaired l.fn.gained.items l.lost) ≡ l.keys.items ++ new_keys l.stamp (unpaired rest left);
       cells : put_rows (handed l.lost (vec_len l.initial.keys) l.fn.gained.items) l.fn.gained.items l.stamp (cells_of l.initial.columns) ≡ put_rows (handed left (vec_len l.keys) rest) rest l.stamp (cells_of l.columns);

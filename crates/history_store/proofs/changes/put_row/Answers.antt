@@ -1,36 +1,52 @@
-use Rattle.std.proofs.Common.{rules, suc, [], ◌∷◌, ◌++◌, append_assoc, length-append, ◌≡◌, ◌+◌, ◌<◌, length, refl, sym, ap, ◌∙◌, arith, get_or}
+use Rattle.std.proofs.Common.{◌≡◌, ◌+◌, ◌<◌, ◌≤◌, [], ◌∷◌, ◌++◌, take, length, get_or, refl, sym, ap, ◌∙◌, subst, arith}
 use Rattle.std.proofs.lemmas.Grind.{common_steps}
-use Rattle.std.specs.Vec.Iter.{into_iter_items}
-use Rattle.history_store.proofs.Rows.{put_row-nil, pushed, done_more}
-use Rattle.history_store.specs.Handing.{put}
-use Rattle.std.proofs.Math.ListN.{length-set}
 use Rattle.std.proofs.lemmas.List.{get_or-set_other}
+use Rattle.std.proofs.Math.ListN.{length-set}
+use Rattle.history_store.specs.Log.{Log}
+use Rattle.history_store.specs.Handing.{put}
+use Rattle.history_store.specs.StoredValues.{text_room, row_room}
+use Rattle.history_store.proofs.Room.{room_at}
+use Rattle.history_store.proofs.Rows.{put_row-nil, pushed, done_more}
 use Rattle.history_store.proofs.changes.put_row.Goals as goal
 
-pub loop-value-init : goal.loop-value-init
-loop-value-init c = record {
-  left = search rules;
-  counted = refl;
+pub loop-k-init : goal.loop-k-init
+loop-k-init c = record {
   long = refl;
   cells = put_row-nil _ _ _;
   done = λ j d h. absurd (omega arith);
   others = λ j d h. refl;
 }
 
-pub loop-value-preserved : goal.loop-value-preserved
-loop-value-preserved c =
-    let i = c.loop-value.invariant in
-    let rest : c.args.row.items ≡ c.loop-value.yielded ++ (c.in-Some.value ∷ into_iter_items c.next.new.self) = i.left ∙ ap (λ xs. c.loop-value.yielded ++ xs) c.in-Some.ensures.steps.0 in
-    let all : length c.args.row.items ≡ length c.loop-value.yielded + suc (length (into_iter_items c.next.new.self)) = ap length rest ∙ length-append c.loop-value.yielded (c.in-Some.value ∷ into_iter_items c.next.new.self) in
-    let bo : c.loop-value.k < length c.args.columns.now = omega (arith, i.counted, c.requires.width) in
-    let b : c.loop-value.k < length c.loop-value.columns = omega (arith, i.long) in
-    let e : c.put.new.self.cells ≡ put c.args.id c.in-Some.value c.args.stamp (get_or c.args.columns.now c.loop-value.k c.index-columns-k.result).cells =
-    c.put.ensures.cells ∙ ap (λ l. put c.args.id c.in-Some.value c.args.stamp l.cells) (i.others c.loop-value.k c.index-columns-k.result (omega arith)) in
+pub put-requires-clause-room : goal.put-requires-clause-room
+put-requires-clause-room c =
+    let i = c.loop-k.invariant in
+    let v = c.index-row-k.result in
+    let x = c.index-columns-k.result in
+    let b : c.loop-k.k < length c.args.row.now = grind (arith, common_steps) in
+    let l : c.loop-k.k < length c.args.columns.now = omega (arith, b, c.requires.width) in
+    let more : text_room v < row_room c.args.row.now = subst (λ w. text_room w < row_room c.args.row.now) (sym c.index-row-k.is) (room_at c.args.row.now c.loop-k.k v b) in
+    let least : row_room c.args.row.now ≤ (get_or c.args.columns.now c.loop-k.k x).spare = c.requires.room c.loop-k.k x l in
+    rw (i.others c.loop-k.k x (omega arith)) (omega (arith, more, least))
+
+pub loop-k-preserved : goal.loop-k-preserved
+loop-k-preserved c =
+    let i = c.loop-k.invariant in
+    let k = c.loop-k.k in
+    let v = c.index-row-k.result in
+    let x = c.index-columns-k.result in
+    let row = c.args.row.now in
+    let b : k < length row = grind (arith, common_steps) in
+    let bo : k < length c.args.columns.now = omega (arith, b, c.requires.width) in
+    let bn : k < length c.loop-k.columns = omega (arith, bo, i.long) in
+    let more : text_room v < row_room row = subst (λ w. text_room w < row_room row) (sym c.index-row-k.is) (room_at row k v b) in
+    let was : (get_or c.loop-k.columns k x).spare ≤ c.put.new.self.spare + text_room v + 1 = c.put.ensures.spare in
+    let spare : (get_or c.loop-k.columns k x).spare ≤ c.put.new.self.spare + row_room row = omega (arith, was, more) in
+    let e : c.put.new.self.cells ≡ put c.args.id v c.args.stamp (get_or c.args.columns.now k x).cells = c.put.ensures.cells ∙ ap (λ (l : Log). put c.args.id v c.args.stamp l.cells) (i.others k x (omega arith)) in
+    let n : k ≡ length (take k row) = grind (arith, common_steps) in
+    let t : take (k + 1) row ≡ take k row ++ v ∷ [] = grind (arith, common_steps) in
     record {
-      left = rest ∙ sym (append_assoc c.loop-value.yielded (c.in-Some.value ∷ []) (into_iter_items c.next.new.self));
-      counted = grind (arith, common_steps);
       long = length-set _ _ _ ∙ i.long;
-      cells = pushed c.args.id c.args.stamp c.in-Some.value c.loop-value.yielded c.args.columns.now c.loop-value.columns c.loop-value.k c.put.new.self c.index-columns-k.result i.counted bo i.cells e;
-      done = done_more c.args.columns.now c.loop-value.columns c.loop-value.k c.args.id c.put.new.self c.index-columns-k.result b c.index-columns-k.is c.put.ensures.ids c.put.ensures.spare i.done i.others;
-      others = λ j d h. get_or-set_other c.loop-value.columns c.loop-value.k j c.put.new.self d (omega arith) ∙ i.others j d (omega arith);
+      cells = rw t (pushed c.args.id c.args.stamp v (take k row) c.args.columns.now c.loop-k.columns k c.put.new.self x n bo i.cells e);
+      done = done_more c.args.columns.now c.loop-k.columns k c.args.id (row_room row) c.put.new.self x bn c.index-columns-k.is c.put.ensures.ids spare i.done i.others;
+      others = λ j d h. get_or-set_other c.loop-k.columns k j c.put.new.self d (omega arith) ∙ i.others j d (omega arith);
     }

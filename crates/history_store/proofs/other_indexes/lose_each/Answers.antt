@@ -16,4 +16,4 @@ pub returns-clause-columns : goal.returns-clause-columns
 returns-clause-columns c =
     let n : length c.lose_all.new.others.items ≡ length c.args.others.now.items = grind (arith, common_steps) in
     let same = same_columns c.args.others.now.items c.lose_all.new.others.items n (λ k d h. (let b : k < vec_len c.args.others.now = grind (arith, common_steps) in (c.lose_all.ensures.each k d b).column)) in
-    same ∙ sym (few_behind (length c.args.lost.now) c.args.gained (columns_of c.args.others.now.items) c.if-lost-gt-FEW_ROWS.false c.if-gained-gt-FEW_ROWS.false)
+    same ∙ sym (few_behind c.args.rows (length c.args.lost.now) c.args.gained (columns_of c.args.others.now.items) (rw c.few_of-few.ensures at c.if-lost-few.false) (rw c.few_of-few.ensures at c.if-gained-few.false))

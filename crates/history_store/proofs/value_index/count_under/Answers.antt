@@ -1,4 +1,5 @@
 use Rattle.std.proofs.Common.{◌+◌, ◌-◌, ◌/◌, ◌<◌, [], ◌∷◌, arith, sym, ◌∙◌, get_or}
+use Rattle.prima_base.specs.Order.{shown}
 use Rattle.history_store.proofs.Carry.{in_get}
 use Rattle.history_store.proofs.Marks.{all_under, none_under}
 use Rattle.history_store.proofs.value_index.count_under.Goals as goal
@@ -18,7 +19,7 @@ halves-preserved-then-is_under c =
     record {
       inside = w.inside;
       apart = omega (arith, m);
-      below = all_under c.args.column.now.cells c.args.index.now.ids (c.args.value.now ∷ [], c.args.id) c.requires.rises _ (omega (arith, w.inside)) (rw c.id_at.ensures at (sym c.is_under.ensures ∙ c.if-is_under.true));
+      below = all_under c.args.column.now.cells c.args.index.now.ids (shown c.args.value.now ∷ [], c.args.id) c.requires.rises _ (omega (arith, w.inside)) (rw c.id_at.ensures at (sym c.is_under.ensures ∙ c.if-is_under.true));
       above = w.above;
     }
 
@@ -31,7 +32,7 @@ halves-preserved c =
       inside = omega (arith, w.inside);
       apart = omega arith;
       below = w.below;
-      above = none_under c.args.column.now.cells c.args.index.now.ids (c.args.value.now ∷ [], c.args.id) c.requires.rises _ (rw c.id_at.ensures at (sym c.is_under.ensures ∙ c.if-is_under.false));
+      above = none_under c.args.column.now.cells c.args.index.now.ids (shown c.args.value.now ∷ [], c.args.id) c.requires.rises _ (rw c.id_at.ensures at (sym c.is_under.ensures ∙ c.if-is_under.false));
     }
 
 pub id_at-requires : goal.id_at-requires

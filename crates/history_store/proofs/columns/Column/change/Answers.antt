@@ -1,14 +1,37 @@
-use Rattle.std.proofs.Common.{rules, ◌≡◌, length, get_or, ◌∙◌}
+use Rattle.std.proofs.Common.{rules, ◌≡◌, ◌++◌, length, get_or, refl, sym, ◌∙◌, subst}
 use Rattle.std.proofs.lemmas.List.{get_or_default}
+use Rattle.history_store.specs.declared.columns.StoredWrite.{StoredWrite}
+use Rattle.history_store.specs.StoredValues.{value_in, text_of, write_in, writes_in, IsWithin}
 use Rattle.history_store.proofs.Newest.{changed_index}
 use Rattle.history_store.proofs.Links.{changed_links}
+use Rattle.history_store.proofs.StoredTexts.{length-writes_in, one_more, one_more_within}
 use Rattle.history_store.proofs.columns.Column.change.Goals as goal
 
 pub invariant_of-self : goal.invariant_of-self
 invariant_of-self c =
-    let n : c.len-at.result ≡ length c.self.inside.cells.items = search rules in
-    let b : c.index-before.result.now ≡ get_or c.self.inside.last.items c.args.id 0 = c.index-before.ensures ∙ get_or_default c.self.inside.last.items c.args.id c.index-before.result.now 0 (search rules) in
+    let a = c.self.inside in
+    let old = a.texts.items in
+    let new = old ++ text_of c.args.value.now in
+    let writes = writes_in old a.cells.items in
+    let one : StoredWrite = record { id = c.args.id; value = c.store-value.result; start = c.args.start } in
+    let n : c.len-at.result ≡ length writes = search rules ∙ sym (length-writes_in old a.cells.items) in
+    let b : c.index-before.result.now ≡ get_or a.last.items c.args.id 0 = c.index-before.ensures ∙ get_or_default a.last.items c.args.id c.index-before.result.now 0 (search rules) in
+    let t = c.store-value.ensures.texts in
+    let in' : IsWithin new c.store-value.result = subst (λ texts. IsWithin texts c.store-value.result) t c.store-value.ensures.within in
+    let all = one_more old (text_of c.args.value.now) a.cells.items one c.self.invariant.within in
     record {
-      index = rw (c.push_reserved-2.ensures.items, n) (changed_index c.self.inside.last.items c.self.inside.cells.items (record { id = c.args.id; value = c.args.value; start = c.args.start }) (search rules) c.self.invariant.index);
-      linked = rw (c.push_reserved.ensures.items, c.push_reserved-2.ensures.items, n, b) (changed_links c.self.inside.first.items c.self.inside.next.items c.self.inside.last.items c.self.inside.cells.items (record { id = c.args.id; value = c.args.value; start = c.args.start }) c.self.invariant.linked (search rules));
+      within = rw (c.push_reserved-2.ensures.items, t) (one_more_within old (text_of c.args.value.now) a.cells.items one c.self.invariant.within in');
+      index = rw (c.push_reserved-2.ensures.items, t, all, n) (changed_index a.last.items writes (write_in new one) (search rules) c.self.invariant.index);
+      linked = rw (c.push_reserved.ensures.items, c.push_reserved-2.ensures.items, t, all, n, b) (changed_links a.first.items a.next.items a.last.items writes (write_in new one) c.self.invariant.linked (search rules));
     }
+
+pub returns-clause-cells : goal.returns-clause-cells
+returns-clause-cells c =
+    let a = c.self.inside in
+    let old = a.texts.items in
+    let new = old ++ text_of c.args.value.now in
+    let one : StoredWrite = record { id = c.args.id; value = c.store-value.result; start = c.args.start } in
+    let t = c.store-value.ensures.texts in
+    let e : value_in new c.store-value.result ≡ c.args.value.now = subst (λ texts. value_in texts c.store-value.result ≡ c.args.value.now) t c.store-value.ensures.value in
+    let all = one_more old (text_of c.args.value.now) a.cells.items one c.self.invariant.within in
+    rw (← c.self.view_is, c.push_reserved-2.ensures.items, t, all, e) refl

@@ -1,6 +1,6 @@
-use Rattle.std.proofs.Common.{◌≡◌, false, ◌<◌, ◌-◌, length, sym, ap, ◌∙◌, subst, vec_len, vec_capacity, [], ◌∷◌, ◌++◌}
+use Rattle.std.proofs.Common.{◌≡◌, false, ◌<◌, ◌≤◌, ◌-◌, length, sym, ap, ◌∙◌, subst, vec_len, vec_capacity, [], ◌∷◌, ◌++◌}
 use Rattle.history_store.specs.ByValue.{columns_of, is_indexed, least_room, IsIndexed}
-use Rattle.history_store.specs.Logs.{cells_of, few_rows, with_index}
+use Rattle.history_store.specs.Logs.{cells_of, few_of, with_index}
 use Rattle.history_store.specs.Handing.{Distinct}
 use Rattle.history_store.proofs.Rows.{length-cells_of, least_up, less_up}
 use Rattle.history_store.proofs.Carry.{still_with_index}
@@ -48,9 +48,11 @@ pub returns-clause-spare : goal.returns-clause-spare
 returns-clause-spare c =
     let a = c.self.inside in
     let n = vec_capacity a.keys - vec_len a.keys in
-    let more = least_room_push a.live.room few_rows a.others.items c.in_ok-index.index c.in_ok-index.ensures.room in
+    let few = few_of (length a.live.ids) in
+    let room : few ≤ c.in_ok-index.index.room = rw (c.deref-3.ensures.value, c.in_ok-copy.ensures) at c.in_ok-index.ensures.room in
+    let more = least_room_push a.live.room few a.others.items c.in_ok-index.index room in
     rw (← c.self.view_is, c.in_ok-push.ensures.items)
-    (less_up _ _ _ (least_up (with_index (least_room a.live.room a.others.items) n) (with_index (least_room a.live.room (a.others.items ++ c.in_ok-index.index ∷ [])) n) a.logs.items (still_with_index (least_room a.live.room a.others.items) (least_room a.live.room (a.others.items ++ c.in_ok-index.index ∷ [])) n more)))
+    (less_up _ _ _ (least_up (with_index few (least_room a.live.room a.others.items) n) (with_index few (least_room a.live.room (a.others.items ++ c.in_ok-index.index ∷ [])) n) a.logs.items (still_with_index few (least_room a.live.room a.others.items) (least_room a.live.room (a.others.items ++ c.in_ok-index.index ∷ [])) n more)))
 
 pub returns-clause-done : goal.returns-clause-done
 returns-clause-done c =

@@ -5,14 +5,16 @@ use Rattle.relations.specs.Sets.{In}
 use Rattle.prima_base.specs.declared.values.Value.{Value}
 use Rattle.history_store.specs.Handing.{AllWidth, Distinct, handed, keys_handed}
 use Rattle.history_store.specs.Indexes.{index_of}
-use Rattle.history_store.specs.Logs.{cells_of}
-use Rattle.history_store.specs.ByValue.{ids_handed, least_room}
+use Rattle.history_store.specs.StoredValues.{rows_room}
+use Rattle.history_store.specs.Logs.{cells_of, few_of}
+use Rattle.history_store.specs.ByValue.{columns_of, ids_handed, indexed_behind, least_room}
 use Rattle.history_store.proofs.Places.{few_placed}
-use Rattle.history_store.proofs.Carry.{known, spare_least, spare_each, key_room, index_room}
+use Rattle.history_store.proofs.Carry.{known, spare_least, spare_each, key_room, index_room, few_are_few}
+use Rattle.history_store.proofs.Cutting.{length-rows_of}
 use Rattle.history_store.proofs.Rows.{length-cells_of}
 use Rattle.history_store.proofs.Showing.{key_before}
 use Rattle.history_store.proofs.Lawful.{is_store}
-use Rattle.history_store.proofs.Installing.{placed_then, plan_kept, plan_cells, plan_before, plan_from, plan_later}
+use Rattle.history_store.proofs.Installing.{placed_then, relation_from, plan_kept, plan_cells, plan_before, plan_from, plan_later}
 use Rattle.history_store.proofs.CellCounts.{still_counted}
 use Rattle.history_store.proofs.Others.{same_columns, least_room_below, least_room_each, ready_each}
 use Rattle.history_store.proofs.Keeping.{ids_are_handed, all_lost, all_ready, all_new, all_fresh, all_apart, all_indexed}
@@ -41,15 +43,15 @@ carry_out-requires-clause-later c = λ k h.
 
 pub carry_out-requires-clause-room : goal.carry_out-requires-clause-room
 carry_out-requires-clause-room c =
-    let r = le_trans (rw (← c.self.view_is, ← c.prepared.view_is) at c.requires.room) (min-le_left _ _) in
-    spare_each (length c.prepared.inside.gained.items) _ c.self.inside.logs.items r
+    let f = rw (← c.self.view_is, ← c.prepared.view_is) at c.requires.fits in
+    spare_each (rows_room c.prepared.inside.gained.items) _ c.self.inside.logs.items (le_trans f.room (min-le_left _ _))
 
 pub carry_out-requires-clause-key_room : goal.carry_out-requires-clause-key_room
 carry_out-requires-clause-key_room c =
     let r = le_trans (rw (← c.self.view_is, ← c.prepared.view_is) at c.requires.room) (min-le_left _ _) in
     let s = spare_least (length c.prepared.inside.gained.items) _ c.self.inside.logs.items r in
     let w : vec_len c.self.inside.keys ≤ vec_capacity c.self.inside.keys = grind (arith, common_steps) in
-    key_room (vec_capacity c.self.inside.keys) (vec_len c.self.inside.keys) (least_room c.self.inside.live.room c.self.inside.others.items) _ s w
+    key_room (vec_capacity c.self.inside.keys) (vec_len c.self.inside.keys) _ (least_room c.self.inside.live.room c.self.inside.others.items) _ s w
 
 pub change_index-requires-clause-placed : goal.change_index-requires-clause-placed
 change_index-requires-clause-placed c =
@@ -64,7 +66,8 @@ change_index-requires-clause-room c =
     let r = le_trans (rw (← c.self.view_is, ← c.prepared.view_is) at c.requires.room) (min-le_left _ _) in
     let s = spare_least (length c.prepared.inside.gained.items) _ a.logs.items r in
     let p = placed_then a.columns.items a.keys.items (cells_of a.logs.items) a.live.ids _ c.self.invariant.kept _ f in
-    let n = index_room (least_room a.live.room a.others.items) _ (length c.prepared.inside.gained.items) _ s f.more (few_placed (index_of c.prepared.inside.after) a.live.ids p) in
+    let few = few_are_few (length a.live.ids) _ (few_placed (index_of c.prepared.inside.after) a.live.ids p) in
+    let n = index_room (few_of (length a.live.ids)) (least_room a.live.room a.others.items) _ (length c.prepared.inside.gained.items) _ s f.more few in
     let b = least_room_below a.live.room a.others.items in
     omega (arith, n, b)
 
@@ -104,7 +107,7 @@ lose_each-requires-clause-room c = λ few.
     let r = le_trans (rw (← c.self.view_is, ← c.prepared.view_is) at c.requires.room) (min-le_left _ _) in
     let s = spare_least (length c.prepared.inside.gained.items) _ a.logs.items r in
     let count : c.len-count.result ≡ length c.prepared.inside.gained.items = search rules in
-    least_room_each c.len-count.result a.live.room a.others.items (index_room (least_room a.live.room a.others.items) _ (length c.prepared.inside.gained.items) c.len-count.result s (omega (arith, count)) few)
+    least_room_each c.len-count.result a.live.room a.others.items (index_room (few_of (length a.live.ids)) (least_room a.live.room a.others.items) _ (length c.prepared.inside.gained.items) c.len-count.result s (omega (arith, count)) (rw c.len.ensures at few))
 
 pub gain_each-requires-clause-ready : goal.gain_each-requires-clause-ready
 gain_each-requires-clause-ready c =
@@ -194,7 +197,10 @@ returns-clause-lawful c =
 
 pub returns-clause-indexed : goal.returns-clause-indexed
 returns-clause-indexed c =
+    let a = c.self.inside in
+    let f = rw (← c.self.view_is, ← c.prepared.view_is) at c.requires.fits in
     let n : length c.gain_each.new.others.items ≡ length c.lose_each.new.others.items = grind (arith, common_steps) in
     let same = same_columns c.lose_each.new.others.items c.gain_each.new.others.items n (λ k d h. (let b : k < vec_len c.lose_each.new.others = grind (arith, common_steps) in (c.gain_each.ensures.each k d b).column)) in
     let count : c.len-count.result ≡ length c.prepared.inside.gained.items = search rules in
-    rw (← c.self.view_is, ← c.prepared.view_is) (same ∙ (rw (c.deref-2.ensures.value, count) at c.lose_each.ensures.columns))
+    let rows = sym (ap length (relation_from a.columns.items a.keys.items (cells_of a.logs.items) a.live.ids _ c.prepared.inside.stamp c.prepared.inside.stamp c.self.invariant.kept f.before (omega arith) f.lawful) ∙ length-rows_of a.live.ids (cells_of a.logs.items)) in
+    rw (← c.self.view_is, ← c.prepared.view_is) (same ∙ (rw (c.deref-2.ensures.value, count) at c.lose_each.ensures.columns) ∙ ap (λ m. indexed_behind m (length c.prepared.inside.lost.items) (length c.prepared.inside.gained.items) (columns_of a.others.items)) (c.len.ensures ∙ rows))

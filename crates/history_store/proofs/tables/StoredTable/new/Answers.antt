@@ -85,4 +85,4 @@ returns-clause-indexed c =
     let n = c.prepare.new.self.spare in
     let p = c.in_ok-prepared.prepared in
     let e : c.prepare.new.self ≡ store_of columns [] logs n [] = rw (c.new.ensures.items, c.new-2.ensures.items) at c.in_ok-prepared.ensures.same in
-    c.install.ensures.indexed ∙ ap (λ (t : Store). indexed_behind (length p.lost) (length p.gained) t.indexed) e ∙ none_behind (length p.lost) (length p.gained)
+    c.install.ensures.indexed ∙ ap (λ (t : Store). indexed_behind (length (relation_at t p.stamp)) (length p.lost) (length p.gained) t.indexed) e ∙ none_behind _ (length p.lost) (length p.gained)

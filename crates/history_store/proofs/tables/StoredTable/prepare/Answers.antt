@@ -1,8 +1,10 @@
 use Rattle.std.proofs.Common.{rules, ◌≡◌, ◌+◌, ◌<◌, refl, ◌^◌, length, arith, sym, ap, subst, ◌∙◌, vec_len}
 use Rattle.std.proofs.lemmas.Grind.{common_steps}
+use Rattle.std.proofs.Math.Nat.{le_trans}
 use Rattle.history_store.specs.Handing.{AllWidth}
 use Rattle.history_store.specs.Logs.{cells_of}
 use Rattle.history_store.proofs.Rows.{length-cells_of}
+use Rattle.history_store.proofs.Room.{least_rows_room}
 use Rattle.history_store.proofs.Making.{all_wide, made_leads, made_fits, made_gained, made_lost}
 use Rattle.history_store.proofs.Others.{same_others, same_columns}
 use Rattle.history_store.proofs.Preparing.{all_known}
@@ -32,8 +34,14 @@ returns-clause-fits c =
     let b = rw (← c.self.view_is) at c.requires.before in
     let r = rw (← c.self.view_is) at c.requires.relation in
     let n : c.len-2.result ≡ length a.keys.items = search rules in
+    let room = rw (c.in_ok-room.ensures, c.deref-6.ensures.value, c.reserve_rows.ensures.cells, c.in_ok-lost.ensures.gained, c.deref.ensures.value, c.deref-2.ensures.value, c.in_ok-copy.ensures) at c.in_ok-reserve_rows.ensures.room in
     rw (c.reserve_rows.ensures.keys, c.reserve_rows.ensures.cells, c.in_ok-after.ensures, c.deref-5.ensures.value, c.in_ok-ids.ensures, c.deref-3.ensures.value, c.deref-4.ensures.value, c.in_ok-lost.ensures.owners, c.in_ok-lost.ensures.lost, c.in_ok-lost.ensures.gained, c.deref.ensures.value, c.deref-2.ensures.value, c.in_ok-copy.ensures, n, given_after (cells_of a.logs.items) a.live.ids)
-    (made_fits a.columns.items a.keys.items (cells_of a.logs.items) a.live.ids _ c.self.invariant.kept c.args.stamp b c.requires.lawful c.args.rows.now r _)
+    (made_fits a.columns.items a.keys.items (cells_of a.logs.items) a.live.ids _ c.self.invariant.kept c.args.stamp b c.requires.lawful c.args.rows.now r _ room)
+
+pub returns-clause-room : goal.returns-clause-room
+returns-clause-room c =
+    let room = rw (c.in_ok-room.ensures, c.deref-6.ensures.value) at c.in_ok-reserve_rows.ensures.room in
+    le_trans (least_rows_room c.in_ok-lost.field-0.gained.items) room
 
 pub returns-clause-leads : goal.returns-clause-leads
 returns-clause-leads c =

@@ -1,9 +1,11 @@
 use Rattle.std.proofs.Common.{rules, ◌≡◌, length, arith, refl, sym, ap, subst, ◌∙◌, ◌<◌, vec_len}
 use Rattle.std.proofs.lemmas.Grind.{common_steps}
+use Rattle.std.proofs.Math.Nat.{le_trans}
 use Rattle.relations.specs.Sets.{In}
 use Rattle.history_store.specs.Handing.{AllWidth}
 use Rattle.history_store.specs.Logs.{cells_of}
 use Rattle.history_store.proofs.Rows.{length-cells_of}
+use Rattle.history_store.proofs.Room.{least_rows_room}
 use Rattle.history_store.proofs.Making.{all_wide}
 use Rattle.history_store.proofs.Others.{same_others, same_columns}
 use Rattle.history_store.proofs.Preparing.{all_known_in}
@@ -52,8 +54,14 @@ returns-clause-fits c =
     let n : c.len-2.result ≡ length a.keys.items = search rules in
     let s = rw (c.deref.ensures.value, n) at c.in_ok-found.ensures.spliced in
     let p = c.in_ok-found.ensures.placed in
+    let room = rw (c.in_ok-room.ensures, c.deref-2.ensures.value, c.reserve_rows.ensures.cells, c.in_ok-gained.ensures) at c.in_ok-reserve_rows.ensures.room in
     rw (c.reserve_rows.ensures.keys, c.reserve_rows.ensures.cells, c.in_ok-gained.ensures)
-    (change_fits a.columns.items a.keys.items (cells_of a.logs.items) a.live.ids _ c.self.invariant.kept c.args.stamp b c.requires.lawful c.args.lost.now c.args.gained.now r g c.in_ok-found.found.items _ s p c.in_ok-found.ensures.more _)
+    (change_fits a.columns.items a.keys.items (cells_of a.logs.items) a.live.ids _ c.self.invariant.kept c.args.stamp b c.requires.lawful c.args.lost.now c.args.gained.now r g c.in_ok-found.found.items _ s p c.in_ok-found.ensures.more _ room)
+
+pub returns-clause-room : goal.returns-clause-room
+returns-clause-room c =
+    let room = rw (c.in_ok-room.ensures, c.deref-2.ensures.value) at c.in_ok-reserve_rows.ensures.room in
+    le_trans (least_rows_room c.in_ok-gained.gained.items) room
 
 pub returns-clause-leads : goal.returns-clause-leads
 returns-clause-leads c =

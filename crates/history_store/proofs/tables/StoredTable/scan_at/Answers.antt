@@ -1,5 +1,4 @@
 use Rattle.std.proofs.Common.{rules, ◌≡◌, ◌<◌, length, ap, sym, subst, ◌∙◌, vec_len}
-use Rattle.history_store.specs.Logs.{cells_of}
 use Rattle.history_store.specs.Entries.{IsHistory}
 use Rattle.history_store.proofs.Rows.{length-cells_of}
 use Rattle.history_store.proofs.Reading.{here, history}

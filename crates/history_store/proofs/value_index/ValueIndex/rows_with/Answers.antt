@@ -34,7 +34,9 @@ pub returns : goal.returns
 returns c =
     let ready = rw (← c.self.view_is) at c.requires.ready in
     let known : (q : ℕ) → In q c.self.inside.index.ids → q < c.index-columns-self.result.ids = λ q i. subst (λ (r : Log). q < r.ids) (sym c.index-columns-self.is) (ready.known q c.index-columns-self.result i) in
-    let b = rw c.ids.ensures at c.count_under-end.ensures.before in
-    let f = rw c.ids.ensures at c.count_under-end.ensures.after in
+    let b = rw (c.ids.ensures, c.lend-value.ensures.value) at c.count_under-end.ensures.before in
+    let f = rw (c.ids.ensures, c.lend-value.ensures.value) at c.count_under-end.ensures.after in
+    let s = rw c.lend-value.ensures.value at c.count_under.ensures.before in
+    let t = rw c.lend-value.ensures.value at c.count_under.ensures.after in
     rw (← c.self.view_is, cells_at c.args.columns.now c.self.inside.column c.index-columns-self.result ready.within c.index-columns-self.is, c.over.ensures, c.min-start.ensures)
-    (ap (λ ids. rows_of ids (cells_of c.args.columns.now)) (sym (ids_found c.index-columns-self.result.cells c.self.inside.index.ids c.args.value.now c.index-columns-self.result.ids c.count_under.result c.count_under-end.result known c.count_under.ensures.before c.count_under.ensures.after b f c.count_under-end.ensures.within)))
+    (ap (λ ids. rows_of ids (cells_of c.args.columns.now)) (sym (ids_found c.index-columns-self.result.cells c.self.inside.index.ids c.args.value.now c.index-columns-self.result.ids c.count_under.result c.count_under-end.result known s t b f c.count_under-end.ensures.within)))
