@@ -1,6 +1,6 @@
 -- What is known of rows, by the rows themselves and behind their values in a column.
-use Rattle.std.proofs.Common.{◌≡◌, ◌⊎◌, ℕ, Bool, true, false, cond, List, [], ◌∷◌, ◌++◌, map, drop, take, refl, sym, ap, ◌∙◌, subst, inl, inr}
-use Rattle.std.specs.Prelude.{◌&&◌, Option, Some, None, MatchOption, ⊤}
+use Rattle.std.proofs.Common.{◌≡◌, ◌⊎◌, ◌<◌, ℕ, arith, length, get_or, Bool, true, false, cond, List, [], ◌∷◌, ◌++◌, map, drop, take, refl, sym, ap, ◌∙◌, subst, inl, inr}
+use Rattle.std.specs.Prelude.{◌&&◌, All, Option, Some, None}
 use Rattle.std.specs.List.{filter}
 use Rattle.std.specs.Map.{lookup, keys_of}
 use Rattle.std.specs.BTreeMap.{is_at}
@@ -16,7 +16,7 @@ use Rattle.history_store.specs.Cuts.{Cut, is_before}
 use Rattle.history_store.specs.Handing.{is_value, at_column}
 use Rattle.smo_meaning.specs.OneRow.{Row, Relation}
 use Rattle.version_groups.specs.Ranges.{cut_at}
-use Rattle.version_groups.specs.Overlay.{Known, known_hits, HaveKnownHits, AreLed, led_by, led_of, IsToldLed}
+use Rattle.version_groups.specs.Overlay.{Known, known_hits, HaveKnownHits, AreLed, led_by, led_of, IsToldLed, Led, IsToldToo}
 use Rattle.version_groups.proofs.OverlayLaws.{found_in, in_found, picked_is, is_picked, and_true, from_cut, both, never}
 
 -- ---- the rows between the cuts
@@ -191,10 +191,25 @@ one_value k row = step (drop k row)
     step [] = inl refl
     step (v ∷ vs) = inr (v, refl)
 
-pub set_known : (column : Option ℕ) (row : Row) (told : Option Bool) (known led new more : Known) (behind : Option Row) → behind ≡ led_of column row → MatchOption column ⊤ (λ k. AreLed k known led)
-    → ((q : Row) → lookup (is_at (row_cmp q)) new ≡ cond (is_eq (row_cmp row q)) told (lookup (is_at (row_cmp q)) known)) → IsToldLed behind told led more → MatchOption column ⊤ (λ k. AreLed k new more)
-set_known None row told known led new more behind e are n m = tt
-set_known (Some k) row told known led new more behind e are n m = elim (one_value k row) [
-  | inl f ↦ (let s : more ≡ led = subst (λ (o : Option Row). IsToldLed o told led more) (e ∙ ap (λ (vs : List Value). led_by vs row) f) m in subst (λ (es : Known). AreLed k new es) (sym s) (led_skipped k row told known led new are n f))
-  | inr r ↦ led_set k row told known led new are n r.0 more r.1 (subst (λ (o : Option Row). IsToldLed o told led more) (e ∙ ap (λ (vs : List Value). led_by vs row) r.1) m)
+set_led : (k : ℕ) (row : Row) (told : Option Bool) (known led new more : Known) → AreLed k known led → ((q : Row) → lookup (is_at (row_cmp q)) new ≡ cond (is_eq (row_cmp row q)) told (lookup (is_at (row_cmp q)) known))
+    → IsToldLed (led_of k row) told led more → AreLed k new more
+set_led k row told known led new more are n m = elim (one_value k row) [
+  | inl f ↦ (let s : more ≡ led = subst (λ (o : Option Row). IsToldLed o told led more) (ap (λ (vs : List Value). led_by vs row) f) m in subst (λ (es : Known). AreLed k new es) (sym s) (led_skipped k row told known led new are n f))
+  | inr r ↦ led_set k row told known led new are n r.0 more r.1 (subst (λ (o : Option Row). IsToldLed o told led more) (ap (λ (vs : List Value). led_by vs row) r.1) m)
 ]
+
+pub all_set : (row : Row) (told : Option Bool) (known new : Known) (xs ys : List Led) → length ys ≡ length xs → All (λ led. AreLed led.column known led.rows) xs
+    → ((q : Row) → lookup (is_at (row_cmp q)) new ≡ cond (is_eq (row_cmp row q)) told (lookup (is_at (row_cmp q)) known)) → ((k : ℕ) (d : Led) → k < length xs → IsToldToo row told (get_or xs k d) (get_or ys k d))
+    → All (λ led. AreLed led.column new led.rows) ys
+all_set row told known new xs ys same are n each k d h =
+    let b : k < length xs = omega (arith, same, h) in
+    let x = get_or xs k d in
+    let y = get_or ys k d in
+    let t : IsToldToo row told x y = each k d b in
+    subst (λ c. AreLed c new y.rows) (sym t.column) (set_led x.column row told known x.rows new y.rows (are k d b) n t.rows)
+
+-- nothing is known behind any column
+pub all_none : (known : Known) (leds : List Led) → known ≡ [] → All (λ led. led.rows ≡ []) leds → All (λ led. AreLed led.column known led.rows) leds
+all_none known leds e none k d h =
+    let x = get_or leds k d in
+    subst (λ (es : Known). AreLed x.column es x.rows) (sym e) (subst (λ (es : Known). AreLed x.column [] es) (sym (none k d h)) (none_led x.column))

@@ -35,6 +35,7 @@ pub mod VersionsKept
 pub mod Readied
 pub mod Becoming
 pub mod Applying
+pub mod RangeEnds
 pub mod RangeLaws
 pub mod OverlayLaws
 pub mod LedRows

@@ -1,6 +1,6 @@
 -- A row that meets a condition is between the condition's cuts.
 use Rattle.std.proofs.Common.{◌≡◌, ℕ, zero, suc, ◌+◌, ◌<◌, ◌≤◌, Bool, true, false, List, [], ◌∷◌, ◌++◌, length, map, take, drop, get_or, refl, sym, ap, ◌∙◌, subst, arith, append_assoc}
-use Rattle.std.specs.Prelude.{Option, Some, None, ⊤, if◌then◌else◌}
+use Rattle.std.specs.Prelude.{Option, Some, None, ⊤, not, if◌then◌else◌}
 use Rattle.std.proofs.lemmas.List.{length-map, drop_more}
 use Rattle.std.specs.declared.cmp.Ordering.{Ordering}
 use Rattle.std.specs.declared.cmp.Ordering.TheVariants.{Less, Equal, Greater}
@@ -12,18 +12,22 @@ use Rattle.schema_catalog.specs.Databases.{cell}
 use Rattle.schema_catalog.proofs.Cells.{cells_again}
 use Rattle.cond_expr.specs.declared.exprs.Whose.TheVariants.{Atom}
 use Rattle.cond_expr.specs.declared.exprs.CmpOp.{CmpOp}
-use Rattle.cond_expr.specs.declared.exprs.CmpOp.TheVariants.{Eq, Lt, Le, Gt, Ge}
+use Rattle.cond_expr.specs.declared.exprs.CmpOp.TheVariants.{Eq}
 use Rattle.cond_expr.specs.declared.exprs.Column.{Column as AtomColumn}
 use Rattle.cond_expr.specs.AtomColumns.{columns_at}
 use Rattle.cond_expr.specs.Trees.{Test}
 use Rattle.cond_expr.specs.Values.{Cells, truth, agrees}
+use Rattle.cond_expr.specs.Parts.{parts}
 use Rattle.cond_expr.specs.PinnedParts.{pinned}
 use Rattle.cond_expr.proofs.PinnedLaws.{pinned_holds}
 use Rattle.history_store.specs.Cuts.{Cut, is_before}
 use Rattle.history_store.specs.Handing.{at_column}
 use Rattle.history_store.proofs.Sides.{exact_values}
 use Rattle.smo_meaning.specs.OneRow.{own_cells, meets}
-use Rattle.version_groups.specs.Ranges.{cut_at, with_lead, led_by, bounded, low_cut, high_cut}
+use Rattle.version_groups.specs.declared.ends.Side.{Side}
+use Rattle.version_groups.specs.declared.ends.Side.TheVariants.{Low, High}
+use Rattle.version_groups.specs.Ranges.{End, cut_at, with_lead, led_by, is_low, tightest, bounded, low_cut, high_cut}
+use Rattle.version_groups.proofs.RangeEnds.{hit_within, no_end}
 
 -- the columns hold the row's values
 abbrev Shows : Cells → List AtomColumn → List Value → Type 0
@@ -42,52 +46,12 @@ led : (x : Value) (k : Cut) (v : Value) (row : List Value) → value_cmp v x ≡
 led x k v row e =
     ap (λ o. if k.behind then is_le (ordering_then o (row_cmp (take (length k.values) row) k.values)) else is_lt (ordering_then o (row_cmp (take (length k.values) row) k.values))) e
 
--- cuts of one value
-above : (o : Ordering) → agrees Gt o ≡ true → is_le (ordering_then o Equal) ≡ false
-above Less e = absurd (cc)
-above Equal e = absurd (cc)
-above Greater e = refl
-
-from_it : (o : Ordering) → agrees Ge o ≡ true → is_lt (ordering_then o Equal) ≡ false
-from_it Less e = absurd (cc)
-from_it Equal e = refl
-from_it Greater e = refl
-
-below : (o : Ordering) → agrees Lt o ≡ true → is_lt (ordering_then o Equal) ≡ true
-below Less e = refl
-below Equal e = absurd (cc)
-below Greater e = absurd (cc)
-
-up_to_it : (o : Ordering) → agrees Le o ≡ true → is_le (ordering_then o Equal) ≡ true
-up_to_it Less e = refl
-up_to_it Equal e = refl
-up_to_it Greater e = absurd (cc)
-
 module _ (at : Cells) (t : Test) (met : truth at t ≡ true) where
   compares : (o : CmpOp) (c : AtomColumn) (x v : Value) → pinned o c t ≡ Some x → at (Atom c.atom) c.name ≡ v → agrees o (value_cmp v x) ≡ true
   compares o c x v e h = subst (λ y. agrees o (value_cmp y x) ≡ true) h (pinned_holds at o c t x met e)
 
-  low_end : (c : AtomColumn) (v : Value) (row : List Value) → at (Atom c.atom) c.name ≡ v → is_before (bounded (pinned Gt c t) true (pinned Ge c t) false false) (v ∷ row) ≡ false
-  low_end c v row h = strict (pinned Gt c t) refl
-    where
-      loose : (o : Option Value) → pinned Ge c t ≡ o → is_before (bounded None true o false false) (v ∷ row) ≡ false
-      loose None e = refl
-      loose (Some x) e = from_it (value_cmp v x) (compares Ge c x v e h)
-
-      strict : (o : Option Value) → pinned Gt c t ≡ o → is_before (bounded o true (pinned Ge c t) false false) (v ∷ row) ≡ false
-      strict None e = loose (pinned Ge c t) refl
-      strict (Some x) e = above (value_cmp v x) (compares Gt c x v e h)
-
-  high_end : (c : AtomColumn) (v : Value) (row : List Value) → at (Atom c.atom) c.name ≡ v → is_before (bounded (pinned Lt c t) false (pinned Le c t) true true) (v ∷ row) ≡ true
-  high_end c v row h = strict (pinned Lt c t) refl
-    where
-      loose : (o : Option Value) → pinned Le c t ≡ o → is_before (bounded None false o true true) (v ∷ row) ≡ true
-      loose None e = refl
-      loose (Some x) e = up_to_it (value_cmp v x) (compares Le c x v e h)
-
-      strict : (o : Option Value) → pinned Lt c t ≡ o → is_before (bounded o false (pinned Le c t) true true) (v ∷ row) ≡ true
-      strict None e = loose (pinned Le c t) refl
-      strict (Some x) e = below (value_cmp v x) (compares Lt c x v e h)
+  ends : (side : Side) (c : AtomColumn) (v : Value) (row : List Value) → at (Atom c.atom) c.name ≡ v → is_before (bounded (tightest side c (parts t) None) (not (is_low side))) (v ∷ row) ≡ not (is_low side)
+  ends side c v row h = hit_within v row at c h side t None met (no_end v row side)
 
   not_below : (columns : List AtomColumn) (row : List Value) → Shows at columns row → is_before (low_cut columns t) row ≡ false
   not_below [] [] s = refl
@@ -96,8 +60,8 @@ module _ (at : Cells) (t : Test) (met : truth at t ≡ true) where
   not_below (c ∷ columns) (v ∷ row) s = step (pinned Eq c t) refl (not_below columns row s.1)
     where
       step : (o : Option Value) → pinned Eq c t ≡ o → is_before (low_cut columns t) row ≡ false
-          → is_before (led_by o (low_cut columns t) (bounded (pinned Gt c t) true (pinned Ge c t) false false)) (v ∷ row) ≡ false
-      step None e r = low_end c v row s.0
+          → is_before (led_by o (low_cut columns t) (bounded (tightest Low c (parts t) None) false)) (v ∷ row) ≡ false
+      step None e r = ends Low c v row s.0
       step (Some x) e r = led x (low_cut columns t) v row (is_equal (value_cmp v x) (compares Eq c x v e s.0)) ∙ r
 
   not_above : (columns : List AtomColumn) (row : List Value) → Shows at columns row → is_before (high_cut columns t) row ≡ true
@@ -107,8 +71,8 @@ module _ (at : Cells) (t : Test) (met : truth at t ≡ true) where
   not_above (c ∷ columns) (v ∷ row) s = step (pinned Eq c t) refl (not_above columns row s.1)
     where
       step : (o : Option Value) → pinned Eq c t ≡ o → is_before (high_cut columns t) row ≡ true
-          → is_before (led_by o (high_cut columns t) (bounded (pinned Lt c t) false (pinned Le c t) true true)) (v ∷ row) ≡ true
-      step None e r = high_end c v row s.0
+          → is_before (led_by o (high_cut columns t) (bounded (tightest High c (parts t) None) true)) (v ∷ row) ≡ true
+      step None e r = ends High c v row s.0
       step (Some x) e r = led x (high_cut columns t) v row (is_equal (value_cmp v x) (compares Eq c x v e s.0)) ∙ r
 
   -- where a column is equal to a constant, the row has that value there
@@ -140,10 +104,9 @@ module _ (columns : List Column) (t : Test) (row : List Value) (a : AreColumns c
 
 -- ---- no more values than columns
 
-few_bounded : (o : Option Value) (s : Bool) (w : Option Value) (l n : Bool) → length (bounded o s w l n).values ≤ 1
-few_bounded (Some v) s w l n = omega arith
-few_bounded None s (Some w) l n = omega arith
-few_bounded None s None l n = omega arith
+few_bounded : (end : Option End) (free : Bool) → length (bounded end free).values ≤ 1
+few_bounded (Some end) free = omega arith
+few_bounded None free = omega arith
 
 few_led : (o : Option Value) (later here : Cut) (n : ℕ) → length later.values ≤ n → length here.values ≤ 1 → length (led_by o later here).values ≤ suc n
 few_led None later here n l h = omega (arith, h)
@@ -151,11 +114,11 @@ few_led (Some v) later here n l h = omega (arith, l)
 
 low_few : (columns : List AtomColumn) (t : Test) → length (low_cut columns t).values ≤ length columns
 low_few [] t = omega arith
-low_few (c ∷ columns) t = few_led (pinned Eq c t) (low_cut columns t) (bounded (pinned Gt c t) true (pinned Ge c t) false false) (length columns) (low_few columns t) (few_bounded (pinned Gt c t) true (pinned Ge c t) false false)
+low_few (c ∷ columns) t = few_led (pinned Eq c t) (low_cut columns t) (bounded (tightest Low c (parts t) None) false) (length columns) (low_few columns t) (few_bounded (tightest Low c (parts t) None) false)
 
 high_few : (columns : List AtomColumn) (t : Test) → length (high_cut columns t).values ≤ length columns
 high_few [] t = omega arith
-high_few (c ∷ columns) t = few_led (pinned Eq c t) (high_cut columns t) (bounded (pinned Lt c t) false (pinned Le c t) true true) (length columns) (high_few columns t) (few_bounded (pinned Lt c t) false (pinned Le c t) true true)
+high_few (c ∷ columns) t = few_led (pinned Eq c t) (high_cut columns t) (bounded (tightest High c (parts t) None) true) (length columns) (high_few columns t) (few_bounded (tightest High c (parts t) None) true)
 
 pub low_narrow : (columns : List Column) (t : Test) → length (low_cut (columns_at 0 columns) t).values ≤ length columns
 low_narrow columns t = subst (λ n. length (low_cut (columns_at 0 columns) t).values ≤ n) (length-map columns (λ (c : Column). record { atom = 0; name = c.0; kind = c.1 })) (low_few (columns_at 0 columns) t)
@@ -170,3 +133,9 @@ lead_more values x k = ap (λ vs. cut_at vs k.behind) (sym (append_assoc values 
 
 pub column_here : (columns : List AtomColumn) (i : ℕ) (c : AtomColumn) → i < length columns → c ≡ get_or columns i c → drop i columns ≡ c ∷ drop (i + 1) columns
 column_here columns i c h is = drop_more columns i c h ∙ ap (λ (x : AtomColumn). x ∷ drop (i + 1) columns) (sym is)
+
+-- the default is never asked for
+pub any_default : (columns : List AtomColumn) (k : ℕ) (c d : AtomColumn) → k < length columns → get_or columns k c ≡ get_or columns k d
+any_default [] k c d h = absurd (omega arith)
+any_default (x ∷ columns) zero c d h = refl
+any_default (x ∷ columns) (suc k) c d h = any_default columns k c d (omega arith)

@@ -1,5 +1,5 @@
 -- What the changes of a command have made so far of one table's rows, over the rows that are stored.
-use Rattle.std.specs.Prelude.{◌≡◌, ◌<◌, ℕ, Bool, true, false, not, ◌&&◌, cond, List, [], ◌∷◌, length, slice_index_or, Option, Some, None}
+use Rattle.std.specs.Prelude.{◌≡◌, ◌<◌, ℕ, Bool, true, false, not, ◌&&◌, cond, List, [], ◌∷◌, length, map, drop, slice_index_or, Option, Some, None}
 use Rattle.std.specs.List.{filter}
 use Rattle.std.specs.Option.{unwrap_or}
 use Rattle.std.specs.Map.{lookup, keys_of}
@@ -17,6 +17,7 @@ use Rattle.cond_expr.specs.Trees.{Test}
 use Rattle.history_store.specs.Cuts.{Cut, is_before}
 use Rattle.history_store.specs.Handing.{is_value, at_column}
 use Rattle.smo_meaning.specs.OneRow.{Row, Relation, meets}
+use Rattle.version_groups.specs.Ranges.{cut_at}
 
 -- of rows that are not as they are stored, whether the table has them now
 abbrev pub Known : Type 0
@@ -70,9 +71,8 @@ abbrev pub led_by : List Value → Row → Option Row
 led_by [] row = None
 led_by (v ∷ vs) row = Some (v ∷ row)
 
-abbrev pub led_of : Option ℕ → Row → Option Row
-led_of None row = None
-led_of (Some k) row = led_by (at_column k row) row
+abbrev pub led_of : ℕ → Row → Option Row
+led_of column row = led_by (at_column column row) row
 
 -- the entries with what is told of the one row, if there is one
 abbrev pub IsToldLed : Option Row → Option Bool → Known → Known → Type 0
@@ -82,6 +82,34 @@ IsToldLed (Some row) told old new = (q : Row) → lookup (is_at (row_cmp q)) new
 -- of a row behind a value the same is known as of the row, where it has that value in the column, and else nothing
 abbrev pub AreLed : ℕ → Known → Known → Type 0
 AreLed column known led = (v : Value) (row : Row) → lookup (is_at (row_cmp (v ∷ row))) led ≡ cond (is_value v (at_column column row)) (lookup (is_at (row_cmp row)) known) None
+
+-- rows behind their values in a column, each with whether the table has it now
+pub record Led : Type 0 where
+  pub column : ℕ
+  pub rows : Known
+
+-- the same with what is told of the row too
+pub record IsToldToo (row : Row) (told : Option Bool) (old new : Led) : Type 0 where
+  pub column : new.column ≡ old.column
+  pub rows : IsToldLed (led_of old.column row) told old.rows new.rows
+
+-- rows in an order, each behind so many other values, from the one cut on and before the other
+pub record KnownRange : Type 0 where
+  pub rows : Known
+  pub skip : ℕ
+  pub from : Cut
+  pub to : Cut
+
+-- those of them that pass the test, without what they are behind
+abbrev pub range_hits : (Row → Bool) → KnownRange → List Row
+range_hits passes r = map (drop r.skip) (known_hits r.from r.to (λ row. passes (drop r.skip row)) r.rows)
+
+-- the rows with the constant to which the condition pins the column
+pub record IsPinnedRange (its : List OwnColumn) (t : Test) (led : Led) (r : KnownRange) : Type 0 where
+  pub value : Value
+  pub within : led.column < length (columns_at 0 its)
+  pub pins : (d : AtomColumn) → pinned Eq (slice_index_or (columns_at 0 its) led.column d) t ≡ Some value
+  pub is : r ≡ record { rows = led.rows; skip = 1; from = cut_at (value ∷ []) false; to = cut_at (value ∷ []) true }
 
 -- the rows of the relation that pass the test, in any order
 pub record AreHits (passes : Row → Bool) (now : Relation) (hits : List Row) : Type 0 where

@@ -14,9 +14,10 @@ ghost use Rattle.smo_meaning.specs.Inserting.{relation_after_each, insertions};
 ghost use Rattle.version_groups.specs.Becoming.{IsChange};
 ghost use Rattle.version_groups.specs.Changing.{AreAccepted, of_table};
 
+use crate::candidates::column_asked;
 use crate::made_tables::same_name;
 use crate::overlay::lost_and_gained;
-use crate::ranges::column_asked;
+use crate::ranges::own_condition;
 use history_store::{Prepared, StoredTable};
 use prima_base::{ColType, Name, NoMemory, Row};
 use smo_ops::{Change, OwnColumns, inserted_row, insertions_are_a_union, make_set};
@@ -139,16 +140,21 @@ fn prepare_overlay(
 
 // Keeps the index that finding the rows of the change asks for, where it is of the table.
 fn index_asked(
+    alloc: Global,
     own: &OwnColumns<'_>,
     name: &Name,
     store: &mut StoredTable,
     change: &Change,
 ) -> Result<(), NoMemory>
-    requires { store.old.columns ≡ own.now }
+    requires columns { AreColumns own.now }
+    requires same { store.old.columns ≡ own.now }
     ensures same { store.new ≡ record store.old { spare = store.new.spare; indexed = store.new.indexed } }
     ensures spare { store.old.spare ≤ store.new.spare }
 {
-    match column_asked(own, name, change) {
+    let Some(cond) = own_condition(name, change) else {
+        return Ok(());
+    };
+    match column_asked(alloc, store, own, cond)? {
         Some(column) => store.index_column(column),
         None => Ok(()),
     }
@@ -156,17 +162,19 @@ fn index_asked(
 
 // Keeps the indexes that finding the rows of the table's changes asks for.
 fn index_each(
+    alloc: Global,
     own: &OwnColumns<'_>,
     name: &Name,
     store: &mut StoredTable,
     changes: &[Change],
 ) -> Result<(), NoMemory>
-    requires { store.old.columns ≡ own.now }
+    requires columns { AreColumns own.now }
+    requires same { store.old.columns ≡ own.now }
     ensures same { store.new ≡ record store.old { spare = store.new.spare; indexed = store.new.indexed } }
     ensures spare { store.old.spare ≤ store.new.spare }
 {
     for change in changes {
-        index_asked(own, name, store, change)?;
+        index_asked(alloc, own, name, store, change)?;
     }
     Ok(())
 }
@@ -192,15 +200,16 @@ fn prepare_indexed(
     ensures lost { IfOk result (λ p. length p.lost ≡ length (gained_rows (relation_after_each columns.now (of_table name.now (changes_of changes.now)) (relation_at store.old stamp)) (relation_at store.old stamp))) }
 {
     let own = OwnColumns::new(alloc, columns)?;
-    index_each(&own, name, store, changes)?;
+    index_each(alloc, &own, name, store, changes)?;
     prepare_overlay(alloc, columns, name, store, stamp, changes)
 }
 
 /// Makes the table's changes ready, from the stamp on, and all the room that installing them needs. INSERTs alone cost
 /// as many searches as there are rows. An UPDATE or DELETE costs a look at each row between two cuts in the order of the
-/// rows, where its condition pins the first columns to constants, or at the rows with one value of another column, where it
-/// pins that one, and else at each row; of the rows only those that are
-/// lost or gained are copied. The one error is `NoMemory`, where memory runs out. What the table stands for stays as it is.
+/// rows, where its condition pins the first columns to constants or bounds them, or at the rows with one value of another column
+/// that has an index, where it pins that one and these are fewer, and else at each row; of the rows only those that are lost or
+/// gained are copied. An index is made where the condition pins a column that has none, and the rows to be looked at without it
+/// are not few. The one error is `NoMemory`, where memory runs out. What the table stands for stays as it is.
 pub(crate) fn prepare_table(
     alloc: Global,
     columns: &[(Name, ColType)],

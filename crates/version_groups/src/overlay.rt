@@ -17,7 +17,6 @@ ghost use Rattle.prima_base.specs.Order.{row_cmp, shown};
 ghost use Rattle.prima_base.specs.Columns.{AreColumns, IsRow, IsRelation};
 ghost use Rattle.prima_base.specs.declared.values.Value.{Value as OneValue};
 ghost use Rattle.cond_expr.specs.Rows.{AreLawful};
-ghost use Rattle.cond_expr.specs.AtomColumns.{columns_at};
 ghost use Rattle.cond_expr.specs.Seen.{test};
 ghost use Rattle.history_store.specs.Store.{AllBefore, relation_at};
 ghost use Rattle.smo_types.specs.Changes.{change_of, changes_of, sets_of};
@@ -25,17 +24,16 @@ ghost use Rattle.smo_meaning.specs.OneRow.{Relation, meets, with_sets};
 ghost use Rattle.smo_meaning.specs.Effects.{relation_after, gained_rows};
 ghost use Rattle.smo_meaning.specs.Inserting.{relation_after_each};
 ghost use Rattle.version_groups.specs.Changing.{of_table, AreAccepted};
-ghost use Rattle.version_groups.specs.Ranges.{low_cut, high_cut};
-ghost use Rattle.version_groups.specs.Overlay.{told, is_kept, LeadsTo, HaveHits, AreHits, lost_by_now, gained_by_now};
+ghost use Rattle.version_groups.specs.Overlay.{told, is_kept, LeadsTo, AreHits, lost_by_now, gained_by_now};
 
+use crate::candidates::lend_rows;
 use crate::known_rows::KnownRows;
 use crate::made_tables::same_name;
 use crate::ranges::{
-    asked_column, column_asked, high_cut, hits_are_between_the_cuts, hits_have_pinned_values,
-    low_cut,
+    high_cut, hits_are_between_the_cuts, hits_have_pinned_values, low_cut, own_condition,
 };
-use cond_expr::{Cond, Expr};
-use history_store::{Cut, LentRows, StoredTable};
+use cond_expr::{CmpOp, Cond, Expr, pinned};
+use history_store::{LentRows, StoredTable};
 use prima_base::{ColType, Name, NoMemory, Row, Val};
 use smo_ops::{Change, OwnColumns, inserted_row, row_meets, row_with_sets};
 use std::alloc::Global;
@@ -94,32 +92,6 @@ fn put_stored_hits(
     Ok(())
 }
 
-// Stored rows, lent, among which are all that meet the condition: those with the value of a column, where an index of the
-// column is kept, or else those between the cuts.
-fn lend_rows<'a>(
-    store: &'a StoredTable,
-    own: &OwnColumns<'_>,
-    cond: &Cond,
-    from: &Cut,
-    to: &Cut,
-) -> LentRows<'a>
-    requires columns { AreColumns own.now }
-    requires same { store.now.columns ≡ own.now }
-    requires from { from.now ≡ low_cut (columns_at 0 own.now) (test cond.now) }
-    requires to { to.now ≡ high_cut (columns_at 0 own.now) (test cond.now) }
-    ensures { (m : ℕ) → m < forever → AllBefore store.now (m + 1) → HaveHits (meets own.now (test cond.now)) (relation_at store.now m) result }
-{
-    hits_are_between_the_cuts();
-    hits_have_pinned_values();
-    store.rows_are_a_relation();
-    if let Some((column, value)) = asked_column(cond, own.atoms()) {
-        if let Some(rows) = store.rows_with(column, value) {
-            return rows;
-        }
-    }
-    store.between(from, to)
-}
-
 // The rows that the table has now and that meet the condition, in any order.
 fn find_hits(
     alloc: Global,
@@ -138,7 +110,7 @@ fn find_hits(
     let from = low_cut(alloc, cond, own.atoms())?;
     let to = high_cut(alloc, cond, own.atoms())?;
     let mut rows = lend_rows(store, own, cond, &from, &to);
-    let mut hits = overlay.hits(alloc, own, cond, &from, &to)?;
+    let mut hits = overlay.hits(alloc, own, cond, from, to)?;
     put_stored_hits(alloc, &mut rows, overlay, own, cond, &mut hits)?;
     Ok(hits)
 }
@@ -243,14 +215,36 @@ fn apply_own(
     apply(alloc, store, overlay, own, change)
 }
 
-// The first column that a change of the table asks for.
-fn first_asked(own: &OwnColumns<'_>, name: &Name, changes: &[Change]) -> Option<usize> {
-    for change in changes {
-        if let Some(column) = column_asked(own, name, change) {
-            return Some(column);
+// Puts the columns to which the change pins constants behind those that are there: none where it pins the first of all, since the
+// rows that begin with a value are found as they stand.
+fn add_pinned(own: &OwnColumns<'_>, cond: &Cond, columns: &mut Vec<usize>) -> Result<(), NoMemory> {
+    for (k, column) in own.atoms().iter().enumerate() {
+        if pinned(cond, CmpOp::Eq, column).is_some() {
+            if k == 0 {
+                return Ok(());
+            }
+            if !columns.contains(&k) {
+                columns.push(k)?;
+            }
         }
     }
-    None
+    Ok(())
+}
+
+// The columns to which changes of the table pin constants.
+fn pinned_columns(
+    alloc: Global,
+    own: &OwnColumns<'_>,
+    name: &Name,
+    changes: &[Change],
+) -> Result<Vec<usize>, NoMemory> {
+    let mut columns = Vec::new(alloc);
+    for change in changes {
+        if let Some(cond) = own_condition(name, change) {
+            add_pinned(own, cond, &mut columns)?;
+        }
+    }
+    Ok(columns)
 }
 
 // What the table's changes, one after the other, make of its rows: those by which it differs from what is stored, each
@@ -269,7 +263,7 @@ fn overlay_of(
         → IfOk result (λ o. LeadsTo o (relation_at store.now m) (relation_after_each own.now (of_table name.now (changes_of changes.now)) (relation_at store.now m))) }
 {
     store.rows_are_a_relation();
-    let mut overlay = KnownRows::new(alloc, first_asked(own, name, changes));
+    let mut overlay = KnownRows::new(alloc, &pinned_columns(alloc, own, name, changes)?)?;
     for change in changes {
         apply_own(alloc, store, &mut overlay, own, name, change)?;
     }
