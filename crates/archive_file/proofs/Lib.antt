@@ -1,3 +1,4 @@
 pub mod RecordsOf
 pub mod Histories
+pub mod Records
 pub mod Files

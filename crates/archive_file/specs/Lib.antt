@@ -1,1 +1,2 @@
+pub mod LogRecords
 pub mod Opening

@@ -1,73 +1,74 @@
--- What the file of an archive stands for: commands, each accepted after those before it; or where it is damaged.
-use Rattle.std.specs.Prelude.{◌≡◌, ◌⊎◌, ℕ, ◌+◌, List, ◌∷◌, ◌++◌, length, map, Some}
-use Rattle.std.specs.List.{AllByRecursion}
+-- What the file of an archive stands for: records of commands and images, behind the last of which each command is accepted after those
+-- before it; or where it is damaged.
+use Rattle.std.specs.Prelude.{◌≡◌, ◌⊎◌, ℕ, ◌+◌, ◌-◌, List, ◌∷◌, ◌++◌, length, Some, false}
 use Rattle.prima_base.specs.declared.refusals.Refusal.{Refusal}
 use Rattle.smo_types.specs.Commands.{PlainCommand}
 use Rattle.smo_meaning.specs.Accepts.{command_fault}
-use Rattle.smo_meaning.specs.History.{past_of, IsHistory}
-use Rattle.command_spelling.specs.Spelling.{command_bytes}
-use Rattle.command_spelling.specs.Lawful.{IsCommand}
+use Rattle.smo_meaning.specs.Past.{beginning}
 use Rattle.command_spelling.specs.Found.{IsDecoding, bad_at, rest_at}
-use Rattle.journal.specs.Records.{Record, StandsFor, before_gate}
+use Rattle.command_spelling.specs.Reading.{Stuck}
+use Rattle.image_spelling.specs.Reader as reader
+use Rattle.journal.specs.Records.{Record, StandsFor}
 use Rattle.journal.specs.Damage.{IsDamagedAt}
-
--- the record of a command: its kind is 1, and its payload the command's bytes
-abbrev pub record_of : PlainCommand → Record
-record_of command = (1, command_bytes command)
-
-abbrev pub records_of : List PlainCommand → List Record
-records_of commands = map record_of commands
-
--- each has a spelling
-abbrev pub AreCommands : List PlainCommand → Type 0
-AreCommands commands = AllByRecursion IsCommand commands
-
--- the place of the gate behind the records of these commands
-abbrev pub gate_behind : List PlainCommand → ℕ
-gate_behind commands = length (before_gate (records_of commands))
+use Rattle.archive_file.specs.LogRecords.{LogRecord, logged, records_of, gate_behind, AreSpelled, has_image, past_recorded, AreAccepted, AreSound}
 
 -- the bytes are no command's, at this place in them
-abbrev pub IsRefusedAt : List ℕ → ℕ → Type 0
-IsRefusedAt bytes place = IsDecoding bytes (bad_at place) ⊎ IsDecoding bytes (rest_at place)
+abbrev pub IsNoCommandAt : List ℕ → ℕ → Type 0
+IsNoCommandAt bytes place = IsDecoding bytes (bad_at place) ⊎ IsDecoding bytes (rest_at place)
 
--- behind records of commands stands one whose payload is no command's bytes: the file is damaged where these are refused
-pub record HasNoCommandAt (records : List Record) (place : ℕ) : Type 0 where
-  pub before : List PlainCommand
-  pub payload : List ℕ
+-- the bytes are no image's, at this place in them: there stands the first byte of what is not as it must be
+abbrev pub IsNoImageAt : List ℕ → ℕ → Type 0
+IsNoImageAt bytes place = (rest : List ℕ) × (reader.image bytes ≡ Stuck rest) × (place ≡ length bytes - length rest)
+
+-- the payload of the record is none of its kind, at this place in it
+abbrev pub IsRefusedAt : Record → ℕ → Type 0
+IsRefusedAt r place = ((r.0 ≡ 1) × IsNoCommandAt r.1 place) ⊎ ((r.0 ≡ 2) × IsNoImageAt r.1 place)
+
+-- behind records that are spelled stands one whose payload is none of its kind: the file is damaged where this is refused
+pub record HasNoSpellingAt (records : List Record) (place : ℕ) : Type 0 where
+  pub before : List LogRecord
+  pub refused : Record
   pub behind : List Record
-  pub records_are : records ≡ records_of before ++ (1, payload) ∷ behind
-  pub spelled : AreCommands before
+  pub records_are : records ≡ records_of before ++ refused ∷ behind
+  pub spelled : AreSpelled before
   pub within : ℕ
-  pub refused : IsRefusedAt payload within
+  pub is_refused : IsRefusedAt refused within
   pub place_is : place ≡ gate_behind before + 10 + within
 
--- all are records of commands, and one of these is not accepted after those before it: the file is damaged at its gate
+-- all are spelled, and behind the last image a command is not accepted after what stands before it: the file is damaged at its gate
 pub record HasRefusedAt (records : List Record) (place : ℕ) : Type 0 where
-  pub before : List PlainCommand
+  pub before : List LogRecord
   pub command : PlainCommand
-  pub behind : List PlainCommand
-  pub records_are : records ≡ records_of (before ++ command ∷ behind)
-  pub spelled : AreCommands (before ++ command ∷ behind)
-  pub accepted : IsHistory before
+  pub behind : List LogRecord
+  pub records_are : records ≡ records_of (before ++ logged command ∷ behind)
+  pub spelled : AreSpelled (before ++ logged command ∷ behind)
+  pub accepted : AreAccepted beginning before
+  pub no_image : has_image behind ≡ false
   pub refusal : Refusal
-  pub refused : command_fault (past_of before) command ≡ Some refusal
+  pub refused : command_fault (past_recorded before) command ≡ Some refusal
   pub place_is : place ≡ gate_behind before
 
 -- a file of whole records is damaged by a payload, and where there is none such, by a command
 abbrev pub HasFaultAt : List Record → ℕ → Type 0
-HasFaultAt records place = HasNoCommandAt records place ⊎ HasRefusedAt records place
+HasFaultAt records place = HasNoSpellingAt records place ⊎ HasRefusedAt records place
 
 pub record IsFaultyAt (file : List ℕ) (place : ℕ) : Type 0 where
   pub records : List Record
   pub stands : StandsFor file records
   pub fault : HasFaultAt records place
 
--- where a file is damaged: its records first, then their payloads, then their commands
+-- where a file is damaged: its frames first, then its payloads, then its commands
 abbrev pub Damages : List ℕ → ℕ → Type 0
 Damages file place = IsDamagedAt file place ⊎ IsFaultyAt file place
 
--- the commands that a file stands for, each accepted after those before it
-pub record Opens (file : List ℕ) (commands : List PlainCommand) : Type 0 where
-  pub records : StandsFor file (records_of commands)
-  pub spelled : AreCommands commands
-  pub accepted : IsHistory commands
+-- the records that a file stands for, behind the last image of which each command is accepted after those before it
+pub record Opens (file : List ℕ) (records : List LogRecord) : Type 0 where
+  pub stands : StandsFor file (records_of records)
+  pub spelled : AreSpelled records
+  pub accepted : AreAccepted beginning records
+
+-- it is sound where each command is accepted after those before it, and each image shows just the past of the commands before it
+pub record IsSound (file : List ℕ) (records : List LogRecord) : Type 0 where
+  pub stands : StandsFor file (records_of records)
+  pub spelled : AreSpelled records
+  pub sound : AreSound beginning records

@@ -1,5 +1,5 @@
 -- What the bytes of a file stand for: records behind one another, and a gate that is not open.
-use Rattle.std.specs.Prelude.{◌≡◌, ◌≢◌, ◌⊎◌, ◌==◌, Bool, IsTrue, ℕ, ◌^◌, ◌<◌, ◌≤◌, List, [], ◌∷◌}
+use Rattle.std.specs.Prelude.{◌≡◌, ◌≢◌, ◌⊎◌, ◌==◌, ◌||◌, Bool, IsTrue, ℕ, ◌^◌, ◌<◌, ◌≤◌, List, [], ◌∷◌}
 use Rattle.std.specs.Prelude.{◌++◌, length, nat_le, if◌then◌else◌}
 use Rattle.std.specs.Int.{w64, to_be_bytes}
 
@@ -7,9 +7,9 @@ use Rattle.std.specs.Int.{w64, to_be_bytes}
 abbrev pub Record : Type 0
 Record = ℕ × List ℕ
 
--- the kinds that a record may have: 1 is a command
+-- the kinds that a record may have: 1 is a command, 2 a checkpoint
 abbrev pub is_known : ℕ → Bool
-is_known kind = kind == 1
+is_known kind = kind == 1 || kind == 2
 
 abbrev pub IsKnown : ℕ → Type 0
 IsKnown kind = IsTrue (is_known kind)

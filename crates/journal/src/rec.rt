@@ -4,6 +4,9 @@ ghost use Rattle.journal.specs.Records.{is_known as known};
 /// The kind of a record whose payload is a command.
 pub const COMMAND: u8 = 1;
 
+/// The kind of a record whose payload is an image of the store.
+pub const CHECKPOINT: u8 = 2;
+
 /// A record of a journal: the place of its gate in the file, its kind, and its payload.
 #[derive(Drop)]
 pub struct Rec {
@@ -16,5 +19,5 @@ pub struct Rec {
 pub(crate) fn is_known(kind: u8) -> bool
     ensures { result ≡ known kind }
 {
-    kind == COMMAND
+    kind == COMMAND || kind == CHECKPOINT
 }

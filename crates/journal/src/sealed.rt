@@ -15,7 +15,7 @@ impl Sealed {
     ghost use Rattle.journal.specs.Records.{IsKnown};
     ghost use Rattle.journal.specs.Standing.{sealed_bytes, sealed_record};
 
-    /// The record of this kind, which is 1, a command, with a copy of the payload.
+    /// The record of this kind, a command or a checkpoint, with a copy of the payload.
     pub fn new(alloc: Global, kind: u8, payload: &[u8]) -> Result<Sealed, NoMemory>
         requires { IsKnown kind }
         ensures { IfOk result (λ s. sealed_record s ≡ (kind, payload.now)) }

@@ -1,0 +1,18 @@
+use Rattle.smo_meaning.specs.Past.{beginning}
+use Rattle.archive_file.proofs.Records.{sound_history, sound_past, sound_accepted, sound_front, sound_append}
+use Rattle.archive_file.proofs.laws.sound_records_are_a_history.Goals as goal
+
+pub returns-clause-history : goal.returns-clause-history
+returns-clause-history c = sound_history beginning
+
+pub returns-clause-past : goal.returns-clause-past
+returns-clause-past c = sound_past
+
+pub returns-clause-accepted : goal.returns-clause-accepted
+returns-clause-accepted c = sound_accepted
+
+pub returns-clause-front : goal.returns-clause-front
+returns-clause-front c = sound_front
+
+pub returns-clause-more : goal.returns-clause-more
+returns-clause-more c = sound_append
