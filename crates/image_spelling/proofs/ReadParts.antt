@@ -290,7 +290,7 @@ abbrev pub ColumnsRead : Option ℕ → List Span → List Column → List (List
 ColumnsRead last keys [] l = l ≡ []
 ColumnsRead last keys (c ∷ rest) l = Led (ColumnRead last keys c.1) (λ cells m. ColumnsRead last keys rest m) l
 
-reads_columns : (last : Option ℕ) (keys : List Span) (cs : List Column) → Reads (columns last keys cs) (ColumnsRead last keys cs) (flat_map (list_bytes 8 cell_bytes))
+pub reads_columns : (last : Option ℕ) (keys : List Span) (cs : List Column) → Reads (columns last keys cs) (ColumnsRead last keys cs) (flat_map (list_bytes 8 cell_bytes))
 unfolding columns
 reads_columns last keys [] = reads_none (list_bytes 8 cell_bytes)
 reads_columns last keys (c ∷ rest) =

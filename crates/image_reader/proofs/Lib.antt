@@ -1,0 +1,12 @@
+pub mod ItemSteps
+pub mod ListSteps
+pub mod ListPlaces
+pub mod OneOfNames
+pub mod LineHeads
+pub mod StandingVersions
+pub mod FilledKeys
+pub mod MergedColumns
+pub mod ClashingRows
+pub mod Walking
+pub mod BegunLines
+pub mod LineParts

@@ -1,0 +1,4 @@
+pub mod Seen
+pub mod Due
+pub mod Standing
+pub mod Stretches

@@ -1,0 +1,51 @@
+-- What is seen of the parts of an image that were read.
+use Rattle.std.specs.Prelude.{ℕ, List, [], ◌∷◌, map}
+use Rattle.std.specs.declared.vec.Vec.{Vec}
+use Rattle.std.specs.declared.alloc.Global.{Global}
+use Rattle.relations.specs.Spans.{span}
+use Rattle.table_histories.specs.Store.{Cell}
+use Rattle.smo_types.specs.Commands.{versions_of}
+use Rattle.lifelines.specs.Lifelines.{Lifeline, lifelines_of}
+use Rattle.image_spelling.specs.Images.{StoredLine, Image}
+use Rattle.image_spelling.specs.Spelling.{last_number}
+use Rattle.image_reader.specs.declared.due.DueLine.{DueLine}
+use Rattle.history_store.specs.declared.restoring.Cell.{Cell as ReadCell}
+use Rattle.image_reader.specs.declared.entries.Unjudged.{Unjudged}
+use Rattle.image_reader.specs.declared.lines.ReadLine.{ReadLine}
+use Rattle.image_reader.specs.declared.reading.ReadImage.{ReadImage}
+
+-- a lifeline
+abbrev pub line_seen : DueLine → Lifeline
+line_seen l = record { table = l.table.now; first = l.first; last = l.last; columns = l.columns.now }
+
+-- its versions and its table
+abbrev pub head_of : Lifeline → (ℕ × ℕ) × List ℕ
+head_of l = ((l.first, last_number l.last), l.table)
+
+-- ---- entries
+
+abbrev pub cell_seen : ReadCell → Cell
+cell_seen c = record { id = c.id; value = c.value; period = c.period }
+
+-- before it is judged
+abbrev pub unjudged_seen : Unjudged → Cell
+unjudged_seen c = record { id = c.id; value = c.value; period = span c.start c.end }
+
+-- of each column
+abbrev pub cells_seen : List (Vec ReadCell Global) → List (List Cell)
+cells_seen columns = map (λ column. map cell_seen column.items) columns
+
+-- ---- lifelines
+
+-- what is kept over a lifeline
+abbrev pub stored_seen : Lifeline → ReadLine → StoredLine
+stored_seen line l = record { line = line; keys = l.keys.items; cells = cells_seen l.cells.items }
+
+-- and over each
+abbrev pub lines_seen : List Lifeline → List ReadLine → List StoredLine
+lines_seen [] lines = []
+lines_seen (line ∷ due) [] = []
+lines_seen (line ∷ due) (l ∷ lines) = stored_seen line l ∷ lines_seen due lines
+
+abbrev pub image_seen : ReadImage → Image
+image_seen i = record { last = i.last; versions = versions_of i.versions; lines = lines_seen (lifelines_of (versions_of i.versions)) i.lines.items }

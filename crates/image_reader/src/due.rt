@@ -1,0 +1,137 @@
+//! The lifelines that versions give.
+
+ghost use Rattle.std.specs.Prelude.{◌≡◌, ◌+◌, ◌++◌, ◌<◌, ◌^◌, map, length, IfOk, OnOk};
+ghost use Rattle.std.specs.List.{filter};
+ghost use Rattle.std.specs.FinMap.{entries};
+ghost use Rattle.std.specs.Option.{option_copied};
+ghost use Rattle.prima_base.specs.Columns.{Column};
+ghost use Rattle.smo_types.specs.Commands.{version_of, versions_of};
+ghost use Rattle.smo_types.specs.Operators.{operator_of};
+ghost use Rattle.smo_meaning.specs.Preconditions.{among};
+ghost use Rattle.smo_meaning.specs.Past.{no_tables};
+ghost use Rattle.smo_meaning.specs.Touching.{these_names};
+ghost use Rattle.schema_catalog.specs.Tables.{Tables};
+ghost use Rattle.lifelines.specs.Lifelines.{line_behind, line_begun, lifelines_behind, lifelines_of};
+ghost use Rattle.image_reader.specs.Seen.{line_seen};
+ghost use Rattle.image_reader.specs.Due.{is_one_of, begun_of};
+
+use prima_base::{ColType, Name, NoMemory, same_name};
+use schema_catalog::{Schema, Table};
+use smo_schemas::{Made, consumed, made};
+use smo_types::{Version, Versions};
+use std::alloc::Global;
+
+/// A lifeline of a table, from its first version to its last, none while it lives, and the columns that it has in each of them, in the
+/// order of their names.
+#[derive(Clone, Copy)]
+pub struct DueLine<'a> {
+    pub table: &'a Name,
+    pub first: u32,
+    pub last: Option<u32>,
+    pub columns: &'a [(Name, ColType)],
+}
+
+// Whether one of the names is this one.
+fn is_one_of(names: Made<'_>, name: &Name) -> bool
+    ensures { result ≡ is_one_of names.entry name.now }
+{
+    match names.first {
+        None => false,
+        Some(first) => {
+            same_name(name, first)
+                || match names.second {
+                    None => false,
+                    Some(second) => same_name(name, second),
+                }
+        }
+    }
+}
+
+// The lifeline, which ends with a version where it lives and its table is one of these.
+fn behind_names<'a>(line: &DueLine<'a>, names: Made<'_>, version: u32) -> Option<u32>
+    ensures { result ≡ (line_behind (is_one_of names.entry) version (line_seen line.now)).last }
+{
+    match line.last {
+        Some(last) => Some(last),
+        None if is_one_of(names, line.table) => Some(version),
+        None => None,
+    }
+}
+
+// Ends the lifelines that live of these tables with a version.
+fn end_lines(lines: &mut [DueLine<'_>], names: Made<'_>, version: u32)
+    ensures { map line_seen lines.new ≡ map (line_behind (is_one_of names.entry) version) (map line_seen lines.old) }
+{
+    for i in 0..lines.len() {
+        lines[i].last = behind_names(&lines[i], names, version);
+    }
+}
+
+// Begins a lifeline with a version, where the table has one of these names.
+fn begin_line<'a>(
+    lines: &mut Vec<DueLine<'a>>,
+    table: &'a Table,
+    names: Made<'_>,
+    version: u32,
+) -> Result<(), NoMemory>
+    ensures { OnOk result (map line_seen lines.new.items ≡ map line_seen lines.old.items ++ begun_of (is_one_of names.entry) version table.now) }
+{
+    if is_one_of(names, table.name()) {
+        lines.push(DueLine {
+            table: table.name(),
+            first: version,
+            last: None,
+            columns: table.columns(),
+        })?;
+    }
+    Ok(())
+}
+
+// Begins a lifeline with a version for each table of these names that its schema has, in the order of names.
+fn begin_lines<'a>(
+    lines: &mut Vec<DueLine<'a>>,
+    schema: &'a Schema,
+    names: Made<'_>,
+    version: u32,
+) -> Result<(), NoMemory>
+    ensures { OnOk result (map line_seen lines.new.items
+        ≡ map line_seen lines.old.items ++ map (line_begun version) (filter (λ t. is_one_of names.entry t.0) (entries schema.now))) }
+{
+    // No machine has memory for so many tables that this is none.
+    let Ok(count) = u32::try_from(schema.len()) else {
+        return Err(NoMemory);
+    };
+    for i in 0..count {
+        let Some(table) = schema.at(i) else {
+            unreachable!();
+        };
+        begin_line(lines, table, names, version)?;
+    }
+    Ok(())
+}
+
+// The lifelines behind a version, whose number is one more than this.
+fn put_version<'a>(
+    lines: &mut Vec<DueLine<'a>>,
+    version: &'a Version,
+    before: u32,
+) -> Result<(), NoMemory>
+    requires { before + 1 < 2 ^ 32 }
+    ensures { (tables : Tables) → OnOk result (map line_seen lines.new.items ≡ lifelines_behind tables before (map line_seen lines.old.items) (version_of version.now)) }
+{
+    end_lines(lines, consumed(&version.op), before);
+    begin_lines(lines, &version.schema, made(&version.op), before + 1)
+}
+
+/// The lifelines that the versions give, by first version and then name. It goes for each version once over the lifelines before it and
+/// over its tables. The one error is `NoMemory`, where memory runs out.
+pub fn due_lines(alloc: Global, versions: &Versions) -> Result<Vec<DueLine<'_>>, NoMemory>
+    requires { length versions.now.list.items < 2 ^ 32 }
+    ensures { IfOk result (λ lines. map line_seen lines.items ≡ lifelines_of (versions_of versions.now)) }
+{
+    let mut lines = Vec::new(alloc);
+    for (before, version) in versions.list.iter().enumerate() {
+        put_version(&mut lines, version, before as u32)?;
+    }
+    Ok(lines)
+}

@@ -1,0 +1,81 @@
+//! Reading a whole image.
+
+ghost use Rattle.std.specs.Prelude.{◌≡◌, ◌+◌, ◌<◌, ◌^◌, ℕ, [], List, length, IfOk, Err};
+ghost use Rattle.smo_types.specs.Commands.{versions_of};
+ghost use Rattle.lifelines.specs.Lifelines.{lifelines_of};
+ghost use Rattle.command_spelling.specs.Reading.{Got, Stuck};
+ghost use Rattle.command_codec.specs.Reads.{Reads};
+ghost use Rattle.image_spelling.specs.Reader as spec;
+ghost use Rattle.image_reader.specs.Seen.{image_seen, lines_seen};
+ghost use Rattle.image_reader.specs.declared.faults.ImageFault.TheVariants as fault;
+
+use crate::ImageFault;
+use crate::due::due_lines;
+use crate::lines::{ReadLine, all_lines};
+use crate::stamps::last_stamp;
+use crate::versions::all_versions;
+use command_codec::{Reader, Stop};
+use image_spelling::{an_image_is_what_is_read, bytes_are_an_image_or_break};
+use smo_types::Versions;
+use std::alloc::Global;
+
+/// What an image has: the stamp of the last accepted command, the versions, and what is kept over each of their lifelines, by first
+/// version and then name (`due_lines`).
+#[derive(Drop)]
+pub struct ReadImage {
+    pub last: Option<u64>,
+    pub versions: Versions,
+    pub lines: Vec<ReadLine>,
+}
+
+// What is kept over each lifeline of the versions.
+fn lines_of(
+    alloc: Global,
+    reader: &mut Reader<'_>,
+    last: Option<u64>,
+    versions: &Versions,
+) -> Result<Vec<ReadLine>, Stop>
+    requires { length versions.now.list.items < 2 ^ 32 }
+    ensures { Reads (λ v. lines_seen (lifelines_of (versions_of versions.now)) v.items) (spec.all_lines last (lifelines_of (versions_of versions.now)) reader.old.rest.now) result reader.new.rest.now }
+{
+    let due = due_lines(alloc, versions)?;
+    all_lines(alloc, reader, last, &due)
+}
+
+// An image, which is all of the bytes.
+#[tactic(auto, unfolding(image_spelling::specs::Reader::image))]
+fn image(alloc: Global, reader: &mut Reader<'_>) -> Result<ReadImage, Stop>
+    ensures { Reads image_seen (spec.image reader.old.rest.now) result reader.new.rest.now }
+{
+    let last = last_stamp(reader)?;
+    let versions = all_versions(alloc, reader, last)?;
+    let lines = lines_of(alloc, reader, last, &versions)?;
+    if reader.rest.is_empty() {
+        return Ok(ReadImage {
+            last,
+            versions,
+            lines,
+        });
+    }
+    Err(Stop::Stuck)
+}
+
+/// What the image has that is all of these bytes. `BadAt` comes exactly where they are no image, with the place of the first byte of what
+/// breaks it; `NoMemory` where memory runs out.
+pub fn read(alloc: Global, bytes: &[u8]) -> Result<ReadImage, ImageFault>
+    ensures image { IfOk result (λ it. spec.image bytes.now ≡ Got (image_seen it) []) }
+    ensures bad { (place : ℕ) → result ≡ Err (fault.BadAt place) → (rest : List ℕ) × (spec.image bytes.now ≡ Stuck rest) × (place + length rest ≡ length bytes.now) }
+{
+    let mut reader = Reader { rest: bytes };
+    match image(alloc, &mut reader) {
+        Ok(image) => {
+            an_image_is_what_is_read();
+            Ok(image)
+        }
+        Err(Stop::Stuck) => {
+            bytes_are_an_image_or_break();
+            Err(ImageFault::BadAt((bytes.len() - reader.rest.len()) as u64))
+        }
+        Err(Stop::NoMemory) => Err(ImageFault::NoMemory),
+    }
+}

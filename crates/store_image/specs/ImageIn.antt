@@ -1,0 +1,66 @@
+-- The image of an archive's groups.
+use Rattle.std.specs.Prelude.{◌≡◌, ◌<◌, ◌^◌, ℕ, List, [], length, map, Option, All}
+use Rattle.relations.specs.Sets.{In}
+use Rattle.prima_base.specs.Columns.{IsLawful}
+use Rattle.table_histories.specs.Store.{Cell, Store, IsStore}
+use Rattle.smo_types.specs.Commands.{PlainVersion, evolving}
+use Rattle.smo_meaning.specs.Past.{Past}
+use Rattle.command_spelling.specs.Lawful.{IsWritableBody, BodyNamed}
+use Rattle.version_groups.specs.declared.made_tables.MadeTable.{MadeTable}
+use Rattle.version_groups.specs.Covering.{line_of}
+use Rattle.version_groups.specs.Groups.{Kept, versions_in}
+use Rattle.image_spelling.specs.Images.{StoredLine, Image, IsImage, VersionsNamed, store_of}
+use Rattle.image_spelling.specs.Spelling.{image_bytes}
+use Rattle.image_spelling.specs.ShownPast.{image_past}
+use Rattle.image_spelling.specs.Lengths.{image_length}
+
+-- what is kept over a lifeline
+abbrev pub kept_line : MadeTable → StoredLine
+kept_line t = record { line = line_of t; keys = t.store.keys; cells = t.store.cells }
+
+-- the image of groups with this last stamp
+abbrev pub image_in : Kept → Option ℕ → Image
+image_in kept last = record { last = last; versions = versions_in kept; lines = map kept_line kept.stored }
+
+abbrev pub AreLawful : List Cell → Type 0
+AreLawful cells = (c : Cell) → In c cells → IsLawful c.value
+
+-- the values of a column's entries are lawful, and their count is a number of 64 bits
+pub record ColumnHolds (cells : List Cell) : Type 0 where
+  pub values : AreLawful cells
+  pub few : length cells < 2 ^ 64
+
+-- what is stored makes a table of lawful values, and its counts are numbers of 64 bits
+pub record TableHolds (t : MadeTable) : Type 0 where
+  pub store : IsStore t.store
+  pub few : length t.store.keys < 2 ^ 64
+  pub columns : All ColumnHolds t.store.cells
+
+-- the names and constants in the version's operator, and in those of its inverse, are lawful ones
+abbrev pub IsNamed : PlainVersion → Type 0
+IsNamed v = BodyNamed (evolving v.op v.inverse)
+
+-- so are those of all versions of the groups, and each of their tables is lawful
+pub record GroupsHold (kept : Kept) : Type 0 where
+  pub named : VersionsNamed (versions_in kept)
+  pub tables : All TableHolds kept.stored
+
+-- an image that shows just this past, and has as many bytes as it says
+pub record IsImageOf (past : Past) (image : Image) : Type 0 where
+  pub lawful : IsImage image
+  pub shows : image_past past.commands image ≡ past
+  pub length : length (image_bytes image) ≡ image_length past
+
+-- the counts of the version's operator and of its inverse fit their fields
+abbrev pub CanBeWritten : PlainVersion → Type 0
+CanBeWritten v = IsWritableBody (evolving v.op v.inverse)
+
+-- ---- made again
+
+-- what is kept makes a table
+abbrev pub IsTable : StoredLine → Type 0
+IsTable l = IsStore (store_of l)
+
+-- a table without room for more, and without an index
+abbrev pub bare : Store → Store
+bare s = record { columns = s.columns; keys = s.keys; cells = s.cells; spare = 0; indexed = [] }
