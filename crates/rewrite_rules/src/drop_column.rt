@@ -2,7 +2,7 @@ ghost use Rattle.std.specs.Prelude.{◌≡◌, IfOk};
 ghost use Rattle.prima_base.specs.declared.refusals.OpKind.TheVariants.{DropColumn as Handled};
 ghost use Rattle.smo_types.specs.Operators.{operator_of};
 ghost use Rattle.smo_meaning.specs.OperatorKinds.{operator_kind};
-ghost use Rattle.piece_meaning.specs.Rules.{by_views};
+ghost use Rattle.rewrite_rules.specs.LivingUnfoldings.{living_by_views};
 ghost use Rattle.rule_views.specs.OperatorViews.{operator_views};
 ghost use Rattle.piece_ir.specs.Shown.{all_views_of};
 
@@ -35,7 +35,7 @@ fn views(alloc: Global, op: &Op, before: &Schema) -> Result<Vec<TableViews>, NoM
 impl Rule for DropColumnRule {
     ghost handles = { λ _. Handled };
 
-    ghost answers = { λ _. by_views operator_views };
+    ghost answers = { λ _. living_by_views operator_views };
 
     #[tactic(auto, using(crate::proofs::RuleLaw::lawful))]
     fn kind(&self) -> OpKind {

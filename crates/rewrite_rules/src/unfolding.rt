@@ -1,18 +1,39 @@
 ghost use Rattle.std.specs.Prelude.{◌≡◌, None, IfOk};
+ghost use Rattle.std.specs.List.{filter};
 ghost use Rattle.smo_types.specs.Operators.{operator_of};
 ghost use Rattle.smo_meaning.specs.After.{op_fault, behind, IsLawful};
 ghost use Rattle.piece_meaning.specs.Typed.{IsTyped};
-ghost use Rattle.piece_meaning.specs.Rules.{KeepsMeaning, by_views};
+ghost use Rattle.piece_meaning.specs.Rules.{KeepsMeaning};
 ghost use Rattle.piece_ir.specs.Shown.{piece_of, pieces_of, all_views_of};
+ghost use Rattle.piece_prune.specs.DeadPieces.{lives};
 ghost use Rattle.rule_views.specs.OperatorViews.{operator_views};
+ghost use Rattle.rewrite_rules.specs.LivingUnfoldings.{living_by_views};
 
+use dead_conditions::is_dead;
 use piece_ir::{Piece, TableViews, unfold_by};
 use prima_base::NoMemory;
 use schema_catalog::Schema;
 use smo_types::Op;
 use std::alloc::Global;
 
-/// The piece, unfolded by the views of the tables that the operator makes: what a rule answers.
+// Whether the piece is not found dead.
+fn lives(piece: &Piece) -> bool
+    ensures { result ≡ lives (piece_of piece.now) }
+{
+    !is_dead(&piece.cond)
+}
+
+// The pieces that live, in their order.
+fn living(pieces: Vec<Piece>) -> Vec<Piece>
+    ensures { pieces_of result.items ≡ filter lives (pieces_of pieces.items) }
+{
+    let mut left = pieces;
+    left.retain(lives);
+    left
+}
+
+/// The piece, unfolded by the views of the tables that the operator makes, without the pieces that are found dead: what a rule
+/// answers.
 pub(crate) fn unfolded(
     alloc: Global,
     op: &Op,
@@ -24,9 +45,9 @@ pub(crate) fn unfolded(
     requires lawful { IsLawful before.now }
     requires accepted { op_fault before.now (operator_of op.now) ≡ None }
     requires typed { IsTyped (behind before.now (operator_of op.now)) (piece_of piece.now) }
-    ensures is { IfOk result (λ news. pieces_of news.items ≡ by_views operator_views (operator_of op.now) before.now (piece_of piece.now)) }
+    ensures is { IfOk result (λ news. pieces_of news.items ≡ living_by_views operator_views (operator_of op.now) before.now (piece_of piece.now)) }
     ensures keeps { IfOk result (λ news. KeepsMeaning before.now (operator_of op.now) (piece_of piece.now) (pieces_of news.items)) }
 {
     let news = unfold_by(alloc, made, piece)?;
-    Ok(news)
+    Ok(living(news))
 }
