@@ -1,7 +1,8 @@
 pub mod Gates
-pub mod Decoded
-pub mod Readied
-pub mod Committed
+pub mod ReadRecords
+pub mod SameRecords
 pub mod Replayed
-pub mod Mounted
+pub mod Committed
+pub mod Readied
 pub mod Held
+pub mod Mounted

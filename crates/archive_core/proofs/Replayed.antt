@@ -5,8 +5,8 @@ use Rattle.prima_base.specs.declared.refusals.Refusal.{Refusal}
 use Rattle.smo_types.specs.Commands.{PlainCommand, command_of}
 use Rattle.smo_types.specs.declared.commands.Body.{Body}
 use Rattle.smo_meaning.specs.Accepts.{command_fault}
-use Rattle.smo_meaning.specs.Past.{Past, beginning, past_with}
-use Rattle.smo_meaning.specs.History.{AllAccepted, past_after, past_of}
+use Rattle.smo_meaning.specs.Past.{Past, past_with}
+use Rattle.smo_meaning.specs.History.{AllAccepted, past_after}
 use Rattle.journal.specs.declared.rec.Rec.{Rec}
 use Rattle.archive_state.specs.Standing.{Standing, ShowsPast}
 use Rattle.archive_core.specs.declared.faults.MountFault.{MountFault}
@@ -22,7 +22,7 @@ past_push : (past : Past) (commands : List PlainCommand) (c : PlainCommand) → 
 past_push past [] c = refl
 past_push past (d ∷ commands) c = past_push (past_with past d) commands c
 
-module _ (commands : List (ℕ × Body)) (k : ℕ) (c : ℕ × Body) (inside : k < length commands) (is : c ≡ get_or commands k c) where
+module _ (past : Past) (commands : List (ℕ × Body)) (k : ℕ) (c : ℕ × Body) (inside : k < length commands) (is : c ≡ get_or commands k c) where
   inside_plain : k < length (map command_of commands)
   inside_plain = omega (arith, length-map commands command_of)
 
@@ -33,16 +33,16 @@ module _ (commands : List (ℕ × Body)) (k : ℕ) (c : ℕ × Body) (inside : k
   more = take_more (map command_of commands) k (command_of c) inside_plain ∙ ap (λ (d : PlainCommand). take k (map command_of commands) ++ d ∷ []) this
 
   -- one command more is carried out
-  pub one_more_replayed : (old new : Standing) → IsReplayed (take k (map command_of commands)) old → command_fault (past_of (take k (map command_of commands))) (command_of c) ≡ None
-      → ShowsPast new (past_with (past_of (take k (map command_of commands))) (command_of c)) → IsReplayed (take (k + 1) (map command_of commands)) new
-  one_more_replayed old new before met shows = subst (λ (l : List PlainCommand). IsReplayed l new) (sym more) (record {
-    accepted = accepted_push beginning (take k (map command_of commands)) (command_of c) before.accepted met;
-    shows = subst (ShowsPast new) (sym (past_push beginning (take k (map command_of commands)) (command_of c))) shows;
+  pub one_more_replayed : (old new : Standing) → IsReplayed past (take k (map command_of commands)) old → command_fault (past_after past (take k (map command_of commands))) (command_of c) ≡ None
+      → ShowsPast new (past_with (past_after past (take k (map command_of commands))) (command_of c)) → IsReplayed past (take (k + 1) (map command_of commands)) new
+  one_more_replayed old new before met shows = subst (λ (l : List PlainCommand). IsReplayed past l new) (sym more) (record {
+    accepted = accepted_push past (take k (map command_of commands)) (command_of c) before.accepted met;
+    shows = subst (ShowsPast new) (sym (past_push past (take k (map command_of commands)) (command_of c))) shows;
   })
 
   -- one is refused
-  pub stopped : (recs : List Rec) (old : Standing) (place : ℕ) (r : Refusal) (d : Rec) → k < length recs → IsReplayed (take k (map command_of commands)) old
-      → command_fault (past_of (take k (map command_of commands))) (command_of c) ≡ Some r → place ≡ (get_or recs k d).at → IsStoppedAt (map command_of commands) recs place
+  pub stopped : (recs : List Rec) (old : Standing) (place : ℕ) (r : Refusal) (d : Rec) → k < length recs → IsReplayed past (take k (map command_of commands)) old
+      → command_fault (past_after past (take k (map command_of commands))) (command_of c) ≡ Some r → place ≡ (get_or recs k d).at → IsStoppedAt past (map command_of commands) recs place
   stopped recs old place r d within before refused at = record {
     before = take k (map command_of commands);
     command = command_of c;
@@ -60,6 +60,6 @@ pub told_damage : (past : Past) (c : PlainCommand) (at place : ℕ) (e : MountFa
     → (place ≡ at) × ((r : Refusal) × (command_fault past c ≡ Some r))
 told_damage past c at place e new replays is = subst (λ (f : MountFault). Replays past c at (Err f) new) is replays
 
-pub all_replayed : (commands : List (ℕ × Body)) (k : ℕ) (archive : Standing) → length commands ≤ k → IsReplayed (take k (map command_of commands)) archive → IsReplayed (map command_of commands) archive
-all_replayed commands k archive all replayed =
-    subst (λ (l : List PlainCommand). IsReplayed l archive) (take_all k (map command_of commands) (omega (arith, length-map commands command_of))) replayed
+pub all_replayed : (past : Past) (commands : List (ℕ × Body)) (k : ℕ) (archive : Standing) → length commands ≤ k → IsReplayed past (take k (map command_of commands)) archive → IsReplayed past (map command_of commands) archive
+all_replayed past commands k archive all replayed =
+    subst (λ (l : List PlainCommand). IsReplayed past l archive) (take_all k (map command_of commands) (omega (arith, length-map commands command_of))) replayed

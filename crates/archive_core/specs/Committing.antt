@@ -7,22 +7,27 @@ use Rattle.smo_meaning.specs.Checks.{Fault}
 use Rattle.smo_meaning.specs.Accepts.{command_fault}
 use Rattle.smo_meaning.specs.Past.{Past, past_with}
 use Rattle.version_groups.specs.Steps.{Readied, Prepares}
+use Rattle.journal.specs.Records.{Record}
 use Rattle.journal.specs.Standing.{needs}
 use Rattle.journal.specs.declared.sealed.Sealed.{Sealed}
-use Rattle.archive_file.specs.Opening.{record_of}
+use Rattle.archive_file.specs.LogRecords.{logged, record_of}
 use Rattle.archive_state.specs.declared.archives.Done.{Done}
 use Rattle.archive_state.specs.Standing.{Standing, ShowsPast}
 use Rattle.archive_state.specs.Committing.{IsAsBefore, IsDone}
 use Rattle.archive_core.specs.declared.faults.CommitFault.{CommitFault}
 use Rattle.archive_core.specs.declared.faults.CommitFault.TheVariants.{Broken, Refused, Disk, NoMemory}
 
--- the record of the command, put behind the gate at `at`, ends within the limit
-abbrev pub room_fault : ℕ → ℕ → PlainCommand → Fault
-room_fault at limit command = unless (nat_le (at + needs (record_of command)) limit) (JournalFull at (needs (record_of command)) limit)
+-- so many bytes, put behind the gate at `at`, end within the limit
+abbrev pub need_fault : ℕ → ℕ → ℕ → Fault
+need_fault at limit need = unless (nat_le (at + need) limit) (JournalFull at need limit)
+
+-- so does the record
+abbrev pub room_fault : ℕ → ℕ → Record → Fault
+room_fault at limit r = need_fault at limit (needs r)
 
 -- the refusal of a command by its past, and behind all others that its record does not fit
 abbrev pub commit_fault : Past → ℕ → ℕ → PlainCommand → Fault
-commit_fault past at limit command = first_refusal (command_fault past command ∷ room_fault at limit command ∷ [])
+commit_fault past at limit command = first_refusal (command_fault past command ∷ room_fault at limit (record_of (logged command)) ∷ [])
 
 -- the archive in memory is as it was, but for room that was made, and shows the past that it showed
 pub record IsUnchanged (past : Past) (old new : Standing) : Type 0 where
@@ -46,3 +51,11 @@ MakesReady past command old (Err (Refused r)) new = (command_fault past command 
 MakesReady past command old (Err Disk) new = ⊥
 MakesReady past command old (Err Broken) new = ⊥
 MakesReady past command old (Err NoMemory) new = IsUnchanged past old new
+
+-- a record that fits is put, or else the disk fails; another is refused
+abbrev pub IsPut : Record → ℕ → ℕ → Result (Unit {0}) CommitFault → Type 0
+IsPut r at limit (Ok done) = room_fault at limit r ≡ None
+IsPut r at limit (Err (Refused refusal)) = room_fault at limit r ≡ Some refusal
+IsPut r at limit (Err Disk) = room_fault at limit r ≡ None
+IsPut r at limit (Err Broken) = ⊥
+IsPut r at limit (Err NoMemory) = ⊥

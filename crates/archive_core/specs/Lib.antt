@@ -1,6 +1,7 @@
 pub mod Fields
 pub mod Holding
 pub mod Committing
-pub mod Decoding
+pub mod Checkpointing
+pub mod Reading
 pub mod Replaying
 pub mod Mounting

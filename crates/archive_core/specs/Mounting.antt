@@ -1,24 +1,31 @@
 -- What mounting makes of a file.
 use Rattle.std.specs.Prelude.{◌≡◌, ℕ, List, length}
-use Rattle.smo_types.specs.Commands.{PlainCommand}
-use Rattle.smo_meaning.specs.History.{past_of, IsHistory}
+use Rattle.smo_meaning.specs.Past.{beginning}
 use Rattle.journal.specs.Records.{Record}
-use Rattle.archive_file.specs.Opening.{AreCommands, records_of, gate_behind, Opens}
+use Rattle.archive_file.specs.LogRecords.{LogRecord, records_of, gate_behind, AreSpelled, AreAccepted, commands_in, replayed_of, past_recorded}
+use Rattle.archive_file.specs.Opening.{Opens}
 use Rattle.archive_state.specs.Standing.{Standing, ShowsPast}
+use Rattle.archive_core.specs.declared.archives.Opened.{Opened}
 
--- these are records of commands, each accepted after those before it, and the archive shows their past; so many they are
-pub record IsRestored (records : List Record) (archive : Standing) (count : ℕ) : Type 0 where
-  pub commands : List PlainCommand
-  pub are : AreCommands commands
-  pub records_are : records ≡ records_of commands
-  pub accepted : IsHistory commands
-  pub shows : ShowsPast archive (past_of commands)
-  pub counted : count ≡ length commands
+-- all commands are counted, and those behind the last image
+pub record IsCounted (log : List LogRecord) (opened : Opened) : Type 0 where
+  pub commands : opened.commands ≡ length (commands_in log)
+  pub replayed : opened.replayed ≡ replayed_of log
 
--- the file opens as commands, so many; the archive shows just their past, and the gate behind them is at this place
-pub record IsMounted (file : List ℕ) (archive : Standing) (at count : ℕ) : Type 0 where
-  pub commands : List PlainCommand
-  pub opens : Opens file commands
-  pub shows : ShowsPast archive (past_of commands)
-  pub place : at ≡ gate_behind commands
-  pub counted : count ≡ length commands
+-- these are records of commands and images, of which each command behind the last image is accepted after what stands before it; and the
+-- archive shows their past
+pub record IsRestored (records : List Record) (archive : Standing) (opened : Opened) : Type 0 where
+  pub log : List LogRecord
+  pub spelled : AreSpelled log
+  pub records_are : records ≡ records_of log
+  pub accepted : AreAccepted beginning log
+  pub shows : ShowsPast archive (past_recorded log)
+  pub counted : IsCounted log opened
+
+-- the file opens as records; the archive shows just their past, the gate behind them is at this place, and their commands are counted
+pub record IsMounted (file : List ℕ) (archive : Standing) (at : ℕ) (opened : Opened) : Type 0 where
+  pub log : List LogRecord
+  pub opens : Opens file log
+  pub shows : ShowsPast archive (past_recorded log)
+  pub place : at ≡ gate_behind log
+  pub counted : IsCounted log opened

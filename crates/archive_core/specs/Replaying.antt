@@ -1,10 +1,10 @@
--- The commands of a file, carried out one after the other.
+-- The commands of a file behind its last image, carried out one after the other.
 use Rattle.std.specs.Prelude.{◌≡◌, ℕ, List, ◌∷◌, ◌++◌, length, slice_index_or, Some, None, Result, Ok, Err, ⊤}
 use Rattle.prima_base.specs.declared.refusals.Refusal.{Refusal}
 use Rattle.smo_types.specs.Commands.{PlainCommand}
 use Rattle.smo_meaning.specs.Accepts.{command_fault}
 use Rattle.smo_meaning.specs.Past.{Past, past_with}
-use Rattle.smo_meaning.specs.History.{past_of, IsHistory}
+use Rattle.smo_meaning.specs.History.{AllAccepted, past_after}
 use Rattle.journal.specs.declared.rec.Rec.{Rec}
 use Rattle.archive_state.specs.Standing.{Standing, ShowsPast}
 use Rattle.archive_core.specs.declared.faults.MountFault.{MountFault}
@@ -17,18 +17,18 @@ Replays past command at (Err (Damaged place)) new = (place ≡ at) × ((r : Refu
 Replays past command at (Err Disk) new = ⊥
 Replays past command at (Err NoMemory) new = ⊤
 
--- one of the commands is not accepted after those before it, and this is its gate's place
-pub record IsStoppedAt (commands : List PlainCommand) (recs : List Rec) (place : ℕ) : Type 0 where
+-- one of the commands is not accepted after the past and those before it, and this is its gate's place
+pub record IsStoppedAt (past : Past) (commands : List PlainCommand) (recs : List Rec) (place : ℕ) : Type 0 where
   pub before : List PlainCommand
   pub command : PlainCommand
   pub behind : List PlainCommand
   pub are : commands ≡ before ++ command ∷ behind
-  pub accepted : IsHistory before
+  pub accepted : AllAccepted past before
   pub refusal : Refusal
-  pub refused : command_fault (past_of before) command ≡ Some refusal
+  pub refused : command_fault (past_after past before) command ≡ Some refusal
   pub place_is : (d : Rec) → place ≡ (slice_index_or recs (length before) d).at
 
--- all are accepted, and the archive shows their past
-pub record IsReplayed (commands : List PlainCommand) (archive : Standing) : Type 0 where
-  pub accepted : IsHistory commands
-  pub shows : ShowsPast archive (past_of commands)
+-- all are accepted, and the archive shows the past with them
+pub record IsReplayed (past : Past) (commands : List PlainCommand) (archive : Standing) : Type 0 where
+  pub accepted : AllAccepted past commands
+  pub shows : ShowsPast archive (past_after past commands)

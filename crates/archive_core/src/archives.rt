@@ -3,7 +3,7 @@ ghost use Rattle.relations.specs.Sets.{In};
 ghost use Rattle.prima_io.specs.Causes.{Rose};
 ghost use Rattle.disk_model.specs.Meaning.{Tells, Told};
 ghost use Rattle.disk_model.specs.Moments.{GoesOn};
-ghost use Rattle.smo_types.specs.Commands.{PlainCommand, command_of};
+ghost use Rattle.smo_types.specs.Commands.{command_of};
 ghost use Rattle.smo_meaning.specs.Past.{Past};
 ghost use Rattle.command_spelling.specs.Lawful.{IsCommand};
 ghost use Rattle.temporal_lang.specs.Queries.{query_of};
@@ -11,8 +11,9 @@ ghost use Rattle.rewrite.specs.Books.{meaning_of, EachOf};
 ghost use Rattle.journal.specs.Mounting.{IsNotSynced, KeepsFile};
 ghost use Rattle.journal.specs.Puts.{Puts, Acknowledges};
 ghost use Rattle.journal.specs.Records.{Record, StandsFor, opened_file};
-ghost use Rattle.journal.specs.Standing.{Stands, needs, with_record};
-ghost use Rattle.archive_file.specs.Opening.{Opens, Damages, record_of, records_of};
+ghost use Rattle.journal.specs.Standing.{Stands, needs, sealed_record, with_record};
+ghost use Rattle.archive_file.specs.LogRecords.{LogRecord, logged, record_of, records_of, replayed_of};
+ghost use Rattle.archive_file.specs.Opening.{Opens, Damages};
 ghost use Rattle.archive_state.specs.Standing.{ShowsPast, ShowsSome};
 ghost use Rattle.archive_state.specs.Asking.{IsAsked, IsExplained, TellsWayBack, ArePiecesOf};
 ghost use Rattle.piece_texts.specs.ExplainedPieces.{PlainExplained};
@@ -22,19 +23,20 @@ ghost use Rattle.archive_core.specs.declared.faults.CommitFault.TheVariants as f
 ghost use Rattle.archive_core.specs.declared.faults.MountFault.TheVariants as mounting;
 
 use crate::faults::mount_fault;
-use crate::readying::make_ready;
+use crate::readying::{make_ready, seal_checkpoint};
 use crate::replaying::restore;
 use crate::{AskFault, CommitFault, MountFault};
 use answer_text::Listing;
 use archive_state::{ArchiveState, Done};
 use disk_model::Disk;
-use journal::{Journal, PutFault};
+use journal::{Journal, PutFault, Sealed};
 use piece_texts::Explained;
 use prima_base::{Refusal, Steps};
 use rule_book::{Rule, RuleBook};
 use smo_types::Command;
 use std::alloc::Global;
 use std::sync::ledger::Ledger;
+use store_image::an_image_shows_its_archive;
 use temporal_lang::Query;
 use version_groups::Groups;
 
@@ -48,7 +50,8 @@ pub struct Archive<D: Disk> {
     pub(crate) broken: bool,
 }
 
-/// What mounting found: how many commands the file has, and how many of them were carried out again, which is all.
+/// What mounting found: how many commands the file has, and how many of them stand behind its last image and were carried out
+/// again; all of them, where it has none.
 #[derive(Clone, Copy, Debug, PartialEq, Eq)]
 pub struct Opened {
     pub commands: u64,
@@ -57,32 +60,34 @@ pub struct Opened {
 
 impl<D: Disk> Archive<D> {
     ghost use Rattle.archive_core.specs.Fields.{standing_of, disk_of, below, place_of, limit_of, is_broken, IsReady};
-    ghost use Rattle.archive_core.specs.Committing.{Commits};
+    ghost use Rattle.archive_core.specs.Committing.{Commits, IsPut};
     ghost use Rattle.archive_core.specs.Holding.{HoldsAt};
+    ghost use Rattle.archive_core.specs.Checkpointing.{Checkpoints, image_of, checkpoint_of};
     ghost use Rattle.archive_core.specs.Mounting.{IsMounted};
+    ghost use Rattle.store_image.specs.ImageIn.{IsImageOf};
 
-    /// Opens the archive whose commands the file on a disk holds: its past is exactly that of these commands, in order. It
-    /// begins with a sync. A file of at most nine bytes is made the empty journal; any other is read alone. A limit of
-    /// `u64::MAX` bytes counts as one less. `Disk` comes only where the disk's count of faults rose, and `Damaged` exactly
-    /// where the file is damaged, with the place: its frames are judged first, then each payload, then each command behind
-    /// those before it. A fault hands the disk back as it then stands. It takes at most one step a command.
+    /// Opens the archive whose records the file on a disk holds: its past is exactly the one that the last image shows, or the empty
+    /// one, with the commands behind it, in order, and counts all commands. It begins with a sync. A file of at most nine bytes is
+    /// made the empty journal; any other is read alone. A limit of `u64::MAX` bytes counts as one less. `Disk` comes only where the
+    /// disk's count of faults rose, and `Damaged` exactly where the file is damaged, with the place: its frames are judged first, then
+    /// each payload, then each command behind the last image. A fault hands the disk back as it then stands. It takes at most one step
+    /// for each command behind the last image, whatever it answers; over a damaged file at most one for each record.
     pub fn mount<L: Ledger>(
         alloc: Global,
         disk: D,
         limit: u64,
         steps: &mut Steps<L>,
     ) -> Result<(Archive<D>, Opened), (D, MountFault)>
-        ensures opened { IfOk result (λ it. Tells (D.meaning disk).seen (λ file. IsMounted file (standing_of it.0) (place_of it.0) it.1.commands)) }
-        ensures replayed { IfOk result (λ it. it.1.replayed ≡ it.1.commands) }
+        ensures opened { IfOk result (λ it. Tells (D.meaning disk).seen (λ file. IsMounted file (standing_of it.0) (place_of it.0) it.1)) }
         ensures shows { IfOk result (λ it. ShowsSome (standing_of it.0)) }
         ensures limit { IfOk result (λ it. limit_of it.0 ≡ min limit (2 ^ 64 - 2)) }
         ensures whole { IfOk result (λ it. is_broken it.0 ≡ false) }
         ensures ready { IfOk result (λ it. IsReady it.0) }
         ensures file { IfOk result (λ it. Told (λ old new. new ≡ opened_file old) (D.meaning disk).seen (below it.0).seen) }
-        ensures stands { IfOk result (λ it. (file : List ℕ) (commands : List PlainCommand) → IsTrue (D.meaning disk).is_honest → (D.meaning disk).seen ≡ Some file
-            → Opens file commands → Stands (below it.0) (place_of it.0) (records_of commands)) }
-        ensures holds { IfOk result (λ it. (file : List ℕ) (commands : List PlainCommand) → (D.meaning disk).seen ≡ Some file
-            → Opens file commands → HoldsAt (below it.0) (place_of it.0) (records_of commands)) }
+        ensures stands { IfOk result (λ it. (file : List ℕ) (log : List LogRecord) → IsTrue (D.meaning disk).is_honest → (D.meaning disk).seen ≡ Some file
+            → Opens file log → Stands (below it.0) (place_of it.0) (records_of log)) }
+        ensures holds { IfOk result (λ it. (file : List ℕ) (log : List LogRecord) → (D.meaning disk).seen ≡ Some file
+            → Opens file log → HoldsAt (below it.0) (place_of it.0) (records_of log)) }
         ensures goes { IfOk result (λ it. GoesOn (D.meaning disk) (below it.0)) }
         ensures goes_err { IfErr result (λ it. GoesOn (D.meaning disk) (D.meaning it.0)) }
         ensures turns { IfOk result (λ it. KeepsFile (D.meaning disk) (below it.0)) }
@@ -93,6 +98,7 @@ impl<D: Disk> Archive<D> {
         ensures unfailed { IfOk result (λ it. (below it.0).faults ≡ (D.meaning disk).faults) }
         ensures unfailed_err { IfErr result (λ it. (it.1 ≡ mounting.Disk → ⊥) → (D.meaning it.0).faults ≡ (D.meaning disk).faults) }
         ensures cost { Tells (D.meaning disk).seen (λ file. (records : List Record) → StandsFor file records → steps.new ≤ steps.old + length records) }
+        ensures cost_open { Tells (D.meaning disk).seen (λ file. (log : List LogRecord) → Opens file log → steps.new ≤ steps.old + replayed_of log) }
         ensures steps { IfOk result (λ it. steps.new ≤ steps.old + it.1.replayed) }
     {
         match Journal::mount(alloc, disk, limit) {
@@ -102,16 +108,12 @@ impl<D: Disk> Archive<D> {
                 let _end = journal.place();
                 match restore(alloc, &recs, steps) {
                     Err(fault) => Err((journal.into_disk(), fault)),
-                    Ok((state, commands)) => {
+                    Ok((state, opened)) => {
                         let archive = Archive {
                             alloc,
                             state,
                             journal,
                             broken: false,
-                        };
-                        let opened = Opened {
-                            commands,
-                            replayed: commands,
                         };
                         Ok((archive, opened))
                     }
@@ -135,19 +137,52 @@ impl<D: Disk> Archive<D> {
         ensures stands { is_broken self.old ≡ false → ShowsSome (standing_of self.old) × ShowsSome (standing_of self.new) }
         ensures untouched { IfErr result (λ e. (e ≡ fault.Disk → ⊥) → (disk_of self.new ≡ disk_of self.old) × (place_of self.new ≡ place_of self.old)) }
         ensures limit { limit_of self.new ≡ limit_of self.old }
-        ensures place { OnOk result (place_of self.new + 1 ≡ place_of self.old + needs (record_of (command_of command))) }
+        ensures place { OnOk result (place_of self.new + 1 ≡ place_of self.old + needs (record_of (logged (command_of command)))) }
         ensures ready { IsReady self.new }
-        ensures written { OnOk result (Told (λ old new. new ≡ with_record old (place_of self.old) (record_of (command_of command))) (below self.old).seen (below self.new).seen) }
+        ensures written { OnOk result (Told (λ old new. new ≡ with_record old (place_of self.old) (record_of (logged (command_of command)))) (below self.old).seen (below self.new).seen) }
         ensures holds { OnOk result ((rs : List Record) → HoldsAt (below self.old) (place_of self.old) rs
-            → HoldsAt (below self.new) (place_of self.new) (rs ++ record_of (command_of command) ∷ [])) }
+            → HoldsAt (below self.new) (place_of self.new) (rs ++ record_of (logged (command_of command)) ∷ [])) }
         ensures spelled { OnOk result (IsCommand (command_of command)) }
         ensures spelled_so_far { result ≡ Err fault.Disk → IsCommand (command_of command) }
         ensures cause { result ≡ Err fault.Disk → Rose (below self.old).faults (below self.new).faults }
         ensures unfailed { (result ≡ Err fault.Disk → ⊥) → (below self.new).faults ≡ (below self.old).faults }
-        ensures puts { Puts (below self.old) (below self.new) (place_of self.old) (record_of (command_of command)) }
-        ensures acknowledged { OnOk result (Acknowledges (below self.old) (below self.new) (place_of self.old) (place_of self.new) (record_of (command_of command))) }
+        ensures puts { Puts (below self.old) (below self.new) (place_of self.old) (record_of (logged (command_of command))) }
+        ensures acknowledged { OnOk result (Acknowledges (below self.old) (below self.new) (place_of self.old) (place_of self.new) (record_of (logged (command_of command)))) }
     {
         self.accept(&command)
+    }
+
+    /// Puts a record with the image of all that the archive has, so that a later mount carries out only the commands behind it. `Broken`
+    /// comes first, exactly where an earlier call has answered `Disk`. `Refused` comes with `JournalFull` alone, exactly where the
+    /// record would end past the limit. `Disk` comes only where the disk's count of faults rose: the file then has the record
+    /// or not. All memory is taken before the first call of the device. At each moment of the call a crash leaves the records
+    /// before, with the checkpoint's or without; after `Ok` every crash leaves it. What stands in memory stays as it is.
+    pub fn checkpoint(&mut self) -> Result<(), CommitFault>
+        requires ready { IsReady self.old }
+        ensures broken { (result ≡ Err fault.Broken) ↔ (is_broken self.old ≡ true) }
+        ensures breaks { (is_broken self.new ≡ true) ↔ ((is_broken self.old ≡ true) ⊎ (result ≡ Err fault.Disk)) }
+        ensures checkpoints { (past : Past) → ShowsPast (standing_of self.old) past → Checkpoints past (place_of self.old) (limit_of self.old) result }
+        ensures image { OnOk result ((past : Past) → ShowsPast (standing_of self.old) past → IsImageOf past (image_of (standing_of self.old))) }
+        ensures image_so_far { result ≡ Err fault.Disk → (past : Past) → ShowsPast (standing_of self.old) past → IsImageOf past (image_of (standing_of self.old)) }
+        ensures same { standing_of self.new ≡ standing_of self.old }
+        ensures untouched { IfErr result (λ e. (e ≡ fault.Disk → ⊥) → (disk_of self.new ≡ disk_of self.old) × (place_of self.new ≡ place_of self.old)) }
+        ensures limit { limit_of self.new ≡ limit_of self.old }
+        ensures place { OnOk result (place_of self.new + 1 ≡ place_of self.old + needs (record_of (checkpoint_of (standing_of self.old)))) }
+        ensures ready { IsReady self.new }
+        ensures written { OnOk result (Told (λ old new. new ≡ with_record old (place_of self.old) (record_of (checkpoint_of (standing_of self.old)))) (below self.old).seen (below self.new).seen) }
+        ensures holds { OnOk result ((rs : List Record) → HoldsAt (below self.old) (place_of self.old) rs
+            → HoldsAt (below self.new) (place_of self.new) (rs ++ record_of (checkpoint_of (standing_of self.old)) ∷ [])) }
+        ensures cause { result ≡ Err fault.Disk → Rose (below self.old).faults (below self.new).faults }
+        ensures unfailed { (result ≡ Err fault.Disk → ⊥) → (below self.new).faults ≡ (below self.old).faults }
+        ensures puts { Puts (below self.old) (below self.new) (place_of self.old) (record_of (checkpoint_of (standing_of self.old))) }
+        ensures acknowledged { OnOk result (Acknowledges (below self.old) (below self.new) (place_of self.old) (place_of self.new) (record_of (checkpoint_of (standing_of self.old)))) }
+    {
+        an_image_shows_its_archive();
+        if self.broken {
+            return Err(CommitFault::Broken);
+        }
+        let sealed = seal_checkpoint(self.alloc, &self.state)?;
+        self.put(&sealed)
     }
 
     /// What a query lists over all of history, and else its first refusal in the one order, as the archive in memory answers
@@ -189,13 +224,6 @@ impl<D: Disk> Archive<D> {
         self.state.groups()
     }
 
-    /// The place of the closed gate behind the records, in bytes from 0. It takes no memory.
-    pub fn place(&self) -> u64
-        ensures { result ≡ place_of self.now }
-    {
-        self.journal.place()
-    }
-
     /// The disk as it stands. It takes no memory.
     pub fn into_disk(self) -> D
         ensures { result ≡ disk_of self }
@@ -213,24 +241,47 @@ impl<D: Disk> Archive<D> {
         ensures stands { is_broken self.old ≡ false → ShowsSome (standing_of self.old) × ShowsSome (standing_of self.new) }
         ensures untouched { IfErr result (λ e. (e ≡ fault.Disk → ⊥) → (disk_of self.new ≡ disk_of self.old) × (place_of self.new ≡ place_of self.old)) }
         ensures limit { limit_of self.new ≡ limit_of self.old }
-        ensures place { OnOk result (place_of self.new + 1 ≡ place_of self.old + needs (record_of (command_of command.now))) }
+        ensures place { OnOk result (place_of self.new + 1 ≡ place_of self.old + needs (record_of (logged (command_of command.now)))) }
         ensures ready { IsReady self.new }
-        ensures written { OnOk result (Told (λ old new. new ≡ with_record old (place_of self.old) (record_of (command_of command.now))) (below self.old).seen (below self.new).seen) }
+        ensures written { OnOk result (Told (λ old new. new ≡ with_record old (place_of self.old) (record_of (logged (command_of command.now)))) (below self.old).seen (below self.new).seen) }
         ensures holds { OnOk result ((rs : List Record) → HoldsAt (below self.old) (place_of self.old) rs
-            → HoldsAt (below self.new) (place_of self.new) (rs ++ record_of (command_of command.now) ∷ [])) }
+            → HoldsAt (below self.new) (place_of self.new) (rs ++ record_of (logged (command_of command.now)) ∷ [])) }
         ensures spelled { OnOk result (IsCommand (command_of command.now)) }
         ensures spelled_so_far { result ≡ Err fault.Disk → IsCommand (command_of command.now) }
         ensures cause { result ≡ Err fault.Disk → Rose (below self.old).faults (below self.new).faults }
         ensures unfailed { (result ≡ Err fault.Disk → ⊥) → (below self.new).faults ≡ (below self.old).faults }
-        ensures puts { Puts (below self.old) (below self.new) (place_of self.old) (record_of (command_of command.now)) }
-        ensures acknowledged { OnOk result (Acknowledges (below self.old) (below self.new) (place_of self.old) (place_of self.new) (record_of (command_of command.now))) }
+        ensures puts { Puts (below self.old) (below self.new) (place_of self.old) (record_of (logged (command_of command.now))) }
+        ensures acknowledged { OnOk result (Acknowledges (below self.old) (below self.new) (place_of self.old) (place_of self.new) (record_of (logged (command_of command.now)))) }
     {
         if self.broken {
             return Err(CommitFault::Broken);
         }
         let (next, sealed) = make_ready(self.alloc, &mut self.state, command)?;
-        match self.journal.put(&sealed) {
-            Ok(()) => Ok(self.state.carry_out(command, next)),
+        self.put(&sealed)?;
+        Ok(self.state.carry_out(command, next))
+    }
+
+    // Puts a record behind the others. What stands in memory stays as it is.
+    fn put(&mut self, sealed: &Sealed) -> Result<(), CommitFault>
+        requires whole { is_broken self.old ≡ false }
+        requires ready { IsReady self.old }
+        ensures breaks { (is_broken self.new ≡ true) ↔ (result ≡ Err fault.Disk) }
+        ensures is_put { IsPut (sealed_record sealed.now) (place_of self.old) (limit_of self.old) result }
+        ensures same { standing_of self.new ≡ standing_of self.old }
+        ensures untouched { IfErr result (λ e. (e ≡ fault.Disk → ⊥) → (disk_of self.new ≡ disk_of self.old) × (place_of self.new ≡ place_of self.old)) }
+        ensures limit { limit_of self.new ≡ limit_of self.old }
+        ensures place { OnOk result (place_of self.new + 1 ≡ place_of self.old + needs (sealed_record sealed.now)) }
+        ensures ready { IsReady self.new }
+        ensures written { OnOk result (Told (λ old new. new ≡ with_record old (place_of self.old) (sealed_record sealed.now)) (below self.old).seen (below self.new).seen) }
+        ensures holds { OnOk result ((rs : List Record) → HoldsAt (below self.old) (place_of self.old) rs
+            → HoldsAt (below self.new) (place_of self.new) (rs ++ sealed_record sealed.now ∷ [])) }
+        ensures cause { result ≡ Err fault.Disk → Rose (below self.old).faults (below self.new).faults }
+        ensures unfailed { (result ≡ Err fault.Disk → ⊥) → (below self.new).faults ≡ (below self.old).faults }
+        ensures puts { Puts (below self.old) (below self.new) (place_of self.old) (sealed_record sealed.now) }
+        ensures acknowledged { OnOk result (Acknowledges (below self.old) (below self.new) (place_of self.old) (place_of self.new) (sealed_record sealed.now)) }
+    {
+        match self.journal.put(sealed) {
+            Ok(()) => Ok(()),
             Err(PutFault::Full { at, need, limit }) => {
                 Err(CommitFault::Refused(Refusal::JournalFull(at, need, limit)))
             }

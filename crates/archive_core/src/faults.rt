@@ -7,14 +7,14 @@ use journal::JournalFault;
 use prima_base::{NoMemory, Refusal};
 use std::alloc::{AllocError, AllocFailed};
 
-/// Why a command is not accepted. In memory the archive is then as it was.
+/// Why a command is not accepted, or no checkpoint made. In memory the archive is then as it was.
 #[derive(Drop)]
 pub enum CommitFault {
     /// An earlier call has answered `Disk`: the archive is to be mounted again. Nothing was done.
     Broken,
-    /// The first refusal in the one order; `JournalFull` behind all others. Nothing was written.
+    /// The first refusal of the command in the one order; `JournalFull` behind all others, and of a checkpoint alone. Nothing was written.
     Refused(Refusal),
-    /// The disk failed, and its count of faults rose. The file has the command's record or not.
+    /// The disk failed, and its count of faults rose. The file has the record or not.
     Disk,
     /// Memory ran out. Nothing was written.
     NoMemory,

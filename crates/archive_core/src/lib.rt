@@ -7,11 +7,12 @@
 #![tactic(auto)]
 
 mod archives;
-mod decoding;
 mod faults;
+mod reading;
 mod readying;
 mod replaying;
 
+pub use answer_text::Listing;
 pub use archive_state::{AskFault, Done};
 pub use archives::{Archive, Opened};
 pub use faults::{CommitFault, MountFault};

@@ -1,18 +1,20 @@
 //! The records of a file, made an archive in memory.
 
-ghost use Rattle.std.specs.Prelude.{◌≡◌, ◌+◌, ◌≤◌, length, map, IfOk, Err};
+ghost use Rattle.std.specs.Prelude.{◌≡◌, ◌+◌, ◌≤◌, List, length, map, IfOk, OnOk, Err};
 ghost use Rattle.smo_types.specs.Commands.{command_of};
 ghost use Rattle.smo_meaning.specs.Past.{Past};
 ghost use Rattle.journal.specs.Reading.{records_in};
 ghost use Rattle.archive_state.specs.Standing.{ShowsPast, ShowsSome};
+ghost use Rattle.archive_file.specs.LogRecords.{LogRecord, records_of, replayed_of};
 ghost use Rattle.archive_file.specs.Opening.{HasFaultAt};
-ghost use Rattle.archive_core.specs.Decoding.{AreInPlace};
+ghost use Rattle.archive_core.specs.Reading.{AreInPlace};
 ghost use Rattle.archive_core.specs.Replaying.{Replays, IsStoppedAt, IsReplayed};
 ghost use Rattle.archive_core.specs.Mounting.{IsRestored};
 ghost use Rattle.archive_core.specs.declared.faults.MountFault.TheVariants as mounting;
 
 use crate::MountFault;
-use crate::decoding::decode_all;
+use crate::archives::Opened;
+use crate::reading::read_all;
 use archive_state::{ArchiveState, CommitFault};
 use journal::Rec;
 use prima_base::Steps;
@@ -35,42 +37,47 @@ fn replay_command(state: &mut ArchiveState, command: &Command, at: u64) -> Resul
     }
 }
 
-// The archive of the commands, each of the record beside it; a step for each.
+// Carries out the commands, each of the record beside it; a step for each.
 fn replay<L: Ledger>(
-    alloc: Global,
+    state: &mut ArchiveState,
     recs: &[Rec],
     commands: &[Command],
     steps: &mut Steps<L>,
-) -> Result<ArchiveState, MountFault>
+) -> Result<(), MountFault>
     requires { length commands.now ≡ length recs.now }
-    ensures shows { IfOk result (λ state. IsReplayed (map command_of commands.now) state) }
-    ensures stopped { (place : _) → result ≡ Err (mounting.Damaged place) → IsStoppedAt (map command_of commands.now) recs.now place }
+    ensures shows { (past : Past) → ShowsPast state.old past → OnOk result (IsReplayed past (map command_of commands.now) state.new) }
+    ensures stopped { (past : Past) → ShowsPast state.old past → (place : _) → result ≡ Err (mounting.Damaged place) → IsStoppedAt past (map command_of commands.now) recs.now place }
     ensures disk { result ≡ Err mounting.Disk → ⊥ }
     ensures cost { steps.new ≤ steps.old + length commands.now }
 {
-    let mut state = ArchiveState::new(alloc);
     for (index, command) in commands.iter().enumerate() {
         steps.tick();
-        replay_command(&mut state, command, recs[index].at)?;
+        replay_command(state, command, recs[index].at)?;
     }
-    Ok(state)
+    Ok(())
 }
 
-/// The archive that the records stand for, and how many they are: all payloads are read before any command is judged. A
-/// step for each command.
+/// The archive that the records stand for: all payloads are read before any command is judged, and then the commands behind
+/// the last image are carried out over what it shows. A step for each of these, at most.
 pub(crate) fn restore<L: Ledger>(
     alloc: Global,
     recs: &[Rec],
     steps: &mut Steps<L>,
-) -> Result<(ArchiveState, u64), MountFault>
+) -> Result<(ArchiveState, Opened), MountFault>
     ensures restored { IfOk result (λ it. AreInPlace recs.now → IsRestored (records_in recs.now) it.0 it.1) }
     ensures shows { IfOk result (λ it. ShowsSome it.0) }
     ensures damaged { (place : _) → result ≡ Err (mounting.Damaged place) → AreInPlace recs.now → HasFaultAt (records_in recs.now) place }
     ensures disk { result ≡ Err mounting.Disk → ⊥ }
     ensures cost { steps.new ≤ steps.old + length recs.now }
-    ensures steps { IfOk result (λ it. steps.new ≤ steps.old + it.1) }
+    ensures cost_open { AreInPlace recs.now → (log : List LogRecord) → records_in recs.now ≡ records_of log → steps.new ≤ steps.old + replayed_of log }
+    ensures steps { IfOk result (λ it. steps.new ≤ steps.old + it.1.replayed) }
 {
-    let commands = decode_all(alloc, recs)?;
-    let state = replay(alloc, recs, &commands, steps)?;
-    Ok((state, commands.len() as u64))
+    let mut kept = read_all(alloc, recs)?;
+    let behind = &recs[recs.len() - kept.commands.len()..];
+    replay(&mut kept.state, behind, &kept.commands, steps)?;
+    let opened = Opened {
+        commands: kept.count,
+        replayed: kept.commands.len() as u64,
+    };
+    Ok((kept.state, opened))
 }

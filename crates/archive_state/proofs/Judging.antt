@@ -1,16 +1,16 @@
 -- How the tests of a command are joined.
 use Rattle.std.proofs.Common.{◌≡◌, ◌≤◌, ℕ, List, ◌∷◌, length, refl, sym, subst, ◌∙◌, arith}
-use Rattle.std.specs.Prelude.{Option, Some, None, Result, Err}
+use Rattle.std.specs.Prelude.{Option, Some, None, Result}
 use Rattle.std.proofs.lemmas.List.{length-map}
 use Rattle.prima_base.specs.declared.refusals.Refusal.{Refusal}
 use Rattle.prima_base.specs.declared.refusals.What.{What}
 use Rattle.schema_catalog.specs.Tables.{Tables}
 use Rattle.smo_types.specs.declared.ops.Op.{Op}
 use Rattle.smo_types.specs.Operators.{Operator, operator_of, operators_of}
-use Rattle.smo_types.specs.Commands.{PlainCommand, evolving}
+use Rattle.smo_types.specs.Commands.{evolving}
 use Rattle.smo_meaning.specs.Checks.{Fault}
 use Rattle.smo_meaning.specs.Counts.{first_excess}
-use Rattle.smo_meaning.specs.Accepts.{count_fault, command_fault}
+use Rattle.smo_meaning.specs.Accepts.{count_fault}
 use Rattle.smo_meaning.specs.First.{first_refusal}
 use Rattle.smo_meaning.specs.Preconditions.{AreNarrow}
 use Rattle.smo_meaning.specs.Past.{Past, newest_tables}
@@ -18,11 +18,8 @@ use Rattle.smo_meaning.proofs.CountedOperators.{counted_length}
 use Rattle.smo_meaning.proofs.Firsts.{first_at, first_later}
 use Rattle.version_groups.specs.Groups.{Kept}
 use Rattle.version_groups.specs.Showing.{Shows}
-use Rattle.version_groups.proofs.Readied.{is_same}
 use Rattle.archive_state.specs.declared.faults.CommitFault.{CommitFault}
-use Rattle.archive_state.specs.declared.faults.CommitFault.TheVariants.{Refused, NoMemory}
-use Rattle.archive_state.specs.Standing.{Standing, ShowsPast}
-use Rattle.archive_state.specs.Committing.{IsJudged, Commits}
+use Rattle.archive_state.specs.Committing.{IsJudged}
 
 -- an inverse whose count is within its limit
 pub few_operators : (op : Operator) (inverse : List Op) → first_excess (evolving op (operators_of inverse)) ≡ None → length inverse ≤ 8
@@ -52,9 +49,3 @@ first_decides first tests r e = first_at first tests r e
 
 pub second_decides : (first second : Fault) (tests : List Fault) (r : Refusal) → first ≡ None → second ≡ Some r → first_refusal (first ∷ second ∷ tests) ≡ Some r
 second_decides first second tests r e f = first_later first (second ∷ tests) e ∙ first_at second tests r f
-
--- a command that is not accepted leaves the archive as it was
-pub refused_stands : (A : Type 0) (past : Past) (command : PlainCommand) (fault : CommitFault) (archive : Standing) → IsJudged {A = A} (command_fault past command) (Err fault) → ShowsPast archive past
-    → Commits past command archive (Err fault) archive
-refused_stands A past command (Refused r) archive is stands = (is, refl)
-refused_stands A past command NoMemory archive is stands = (record { groups = is_same archive.groups; last = refl }, stands)

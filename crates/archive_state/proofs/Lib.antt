@@ -2,5 +2,4 @@ pub mod QueryFaults
 pub mod NewestSchema
 pub mod Judging
 pub mod CarriedOut
-pub mod Stands
 pub mod AskedBranches

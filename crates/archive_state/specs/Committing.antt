@@ -34,13 +34,6 @@ pub record IsAsBefore (old new : Standing) : Type 0 where
   pub groups : IsSame old.groups new.groups
   pub last : new.last ≡ old.last
 
--- an accepted command leads to the next past; another is refused by its first refusal, and the archive is what it was; where
--- memory runs out it is as it was, too
-abbrev pub Commits : Past → PlainCommand → Standing → Result Done CommitFault → Standing → Type 0
-Commits past command old (Ok done) new = (command_fault past command ≡ None) × IsDone past command done × ShowsPast new (past_with past command)
-Commits past command old (Err (Refused r)) new = (command_fault past command ≡ Some r) × (new ≡ old)
-Commits past command old (Err NoMemory) new = IsAsBefore old new × ShowsPast new past
-
 -- an accepted command was made ready, and the archive shows the past that it showed, with room for what is to be done;
 -- another is refused by its first refusal, and the archive is what it was; where memory runs out it is as it was, too
 abbrev pub Readies : Past → PlainCommand → Standing → Result Readied CommitFault → Standing → Type 0

@@ -9,6 +9,9 @@ pub record Standing : Type 0 where
   pub groups : Kept
   pub last : Option ℕ
 
+abbrev pub a_standing : Kept → Option ℕ → Standing
+a_standing groups last = record { groups = groups; last = last }
+
 -- its versions and tables show the past, and its last stamp is the past's
 pub record ShowsPast (archive : Standing) (past : Past) : Type 0 where
   pub groups : Shows archive.groups past

@@ -65,9 +65,9 @@ impl ArchiveState {
     ghost use Rattle.smo_meaning.specs.Accepts.{command_fault};
     ghost use Rattle.smo_meaning.specs.Past.{Past, beginning, past_with};
     ghost use Rattle.version_groups.specs.Steps.{Prepares};
-    ghost use Rattle.archive_state.specs.Standing.{ShowsPast, ShowsSome};
+    ghost use Rattle.archive_state.specs.Standing.{ShowsPast, ShowsSome, a_standing};
     ghost use Rattle.temporal_lang.specs.Queries.{query_of};
-    ghost use Rattle.archive_state.specs.Committing.{Commits, Readies, IsDone};
+    ghost use Rattle.archive_state.specs.Committing.{Readies, IsDone};
     ghost use Rattle.rewrite.specs.Books.{meaning_of, EachOf};
     ghost use Rattle.piece_texts.specs.ExplainedPieces.{PlainExplained};
     ghost use Rattle.query_exec.specs.Lent.{NoneComputes, AreLentBy};
@@ -85,6 +85,27 @@ impl ArchiveState {
         }
     }
 
+    /// An archive that has these versions with their stored tables, and whose last command had this stamp: one that stands for each
+    /// past that the tables show and that ends with this stamp. It takes no memory.
+    pub fn restored(alloc: Global, groups: Groups, last: Option<u64>) -> ArchiveState
+        requires { ShowsSome (a_standing groups last) }
+        ensures { result ≡ a_standing groups last }
+    {
+        ArchiveState {
+            alloc,
+            groups,
+            last,
+        }
+    }
+
+    /// The stamp of the last accepted command, if there is one. It takes no memory.
+    pub fn last(&self) -> Option<u64>
+        ensures last { result ≡ self.now.last }
+        ensures stands { ShowsSome self.now }
+    {
+        self.last
+    }
+
     /// The versions with their stored tables. It takes no memory.
     pub fn groups(&self) -> &Groups
         ensures { result.now ≡ self.now.groups }
@@ -92,21 +113,11 @@ impl ArchiveState {
         &self.groups
     }
 
-    /// Accepts the command, or refuses it by the first refusal in the one order: its counts (38); its stamp (20); of
-    /// changes, one after the other, each whole before the next (22, 27, 23, 35, 25); of an operator the number of versions
-    /// (38), its preconditions in written order, and then its inverse (32). Behind an accepted command the archive stands
-    /// for the past with this command. Else it is as it was: `NoMemory` comes where memory runs out, of which all is
-    /// taken before anything changes.
-    pub fn commit(&mut self, command: Command) -> Result<Done, CommitFault>
-        ensures commits { (past : Past) → ShowsPast self.old past → Commits past (command_of command) self.old result self.new }
-        ensures stands { ShowsSome self.old × ShowsSome self.new }
-    {
-        self.accept(&command)
-    }
-
-    /// Judges the command, as `commit` does, and makes an accepted one ready: all the memory that it needs is taken, and
-    /// `carry_out` then accepts it. The archive stands for the past that it stood for, with the same stored tables but for
-    /// room; where the command is refused, it is as it was.
+    /// Judges the command, and makes an accepted one ready: all the memory that it needs is taken, and `carry_out` then accepts
+    /// it. Another is refused by the first refusal in the one order: its counts (38); its stamp (20); of changes, one after the
+    /// other, each whole before the next (22, 27, 23, 35, 25); of an operator the number of versions (38), its preconditions in
+    /// written order, and then its inverse (32). The archive stands for the past that it stood for, with the same stored tables
+    /// but for room; where the command is refused, it is as it was. `NoMemory` comes where memory runs out.
     pub fn prepare(&mut self, command: &Command) -> Result<Next, CommitFault>
         ensures readies { (past : Past) → ShowsPast self.old past → Readies past (command_of command.now) self.old result self.new }
         ensures stands { ShowsSome self.old × ShowsSome self.new }
@@ -180,15 +191,6 @@ impl ArchiveState {
         ensures stands { ShowsSome self.now }
     {
         explain_query(self.alloc, &self.groups, book, query)
-    }
-
-    // Makes the command ready, and carries it out.
-    fn accept(&mut self, command: &Command) -> Result<Done, CommitFault>
-        ensures commits { (past : Past) → ShowsPast self.old past → Commits past (command_of command.now) self.old result self.new }
-        ensures stands { ShowsSome self.old × ShowsSome self.new }
-    {
-        let next = self.prepare(command)?;
-        Ok(self.carry_out(command, next))
     }
 
     // Makes an accepted command ready.

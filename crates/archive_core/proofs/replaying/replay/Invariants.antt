@@ -1,10 +1,12 @@
 use Rattle.std.proofs.Common.{◌≤◌, ◌+◌, take, map}
 use Rattle.smo_types.specs.Commands.{command_of}
+use Rattle.smo_meaning.specs.Past.{Past}
+use Rattle.archive_state.specs.Standing.{ShowsPast}
 use Rattle.archive_core.specs.Replaying.{IsReplayed}
 use Rattle.archive_core.proofs.replaying.replay.Given as goal
 
 abbrev pub invariant-loop-index : goal.invariant-loop-index
 invariant-loop-index g l = record {
-  replayed : IsReplayed (take l.index (map command_of l.commands)) l.state;
+  replayed : (past : Past) → ShowsPast l.initial.state past → IsReplayed past (take l.index (map command_of l.commands)) l.state;
   cost : l.steps ≤ l.fn.steps + l.index;
 }

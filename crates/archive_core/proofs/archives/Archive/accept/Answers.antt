@@ -1,34 +1,34 @@
-use Rattle.std.proofs.Common.{◌<◌, ◌+◌, ◌∷◌, ◌++◌, [], sym, subst}
+use Rattle.std.proofs.Common.{◌≡◌, ◌+◌, ◌∷◌, ◌++◌, [], sym, subst}
+use Rattle.std.proofs.lemmas.Result.{err_from_is_err_and}
+use Rattle.disk_model.specs.Meaning.{Told}
 use Rattle.smo_types.specs.Commands.{command_of}
-use Rattle.journal.specs.Standing.{Stands, needs}
-use Rattle.journal.proofs.Putting.{fits}
+use Rattle.smo_meaning.specs.Past.{Past}
+use Rattle.journal.specs.Standing.{Stands, with_record}
+use Rattle.archive_state.specs.Standing.{ShowsPast}
+use Rattle.version_groups.specs.Steps.{Prepares}
 use Rattle.archive_core.specs.Holding.{HoldsAt}
-use Rattle.archive_core.proofs.Committed.{accepted, ok_fits}
-use Rattle.archive_core.proofs.Held.{held_more}
 use Rattle.archive_core.proofs.archives.Archive.accept.Goals as goal
+
+pub returns-in_err-put-clause-untouched : goal.returns-in_err-put-clause-untouched
+returns-in_err-put-clause-untouched g c =
+    let f = err_from_is_err_and c.from_residual-in_err-put.result c.from_residual-in_err-put.ensures.1 in
+    rw (f.1, f.2) c.in_err-put.ensures.untouched
 
 pub carry_out-requires : goal.carry_out-requires
 carry_out-requires g c =
     let some = c.in_ok-next.ensures.stands.0 in
-    let ready = c.in_ok-next.ensures.readies some.0 some.1 in (some.0, ready.1.shows, ready.2)
+    let ready = c.in_ok-next.ensures.readies some.0 some.1 in
+    subst (λ s. (x : Past) × ShowsPast s x × Prepares s.groups x (command_of c.args.command.now) c.in_ok-next.next) (sym c.in_ok-put.ensures.same) (some.0, ready.1.shows, ready.2)
 
-pub returns-in-Ok-clause-commits : goal.returns-in-Ok-clause-commits
-returns-in-Ok-clause-commits g c past shows =
-    let ready = c.in_ok-next.ensures.readies past shows in
-    let done = c.carry_out.ensures.done past ready.1.shows ready.2 in (
-      accepted past c.args.self.now.journal.at c.args.self.now.journal.limit (command_of c.args.command.now) ready.0
-          (λ full. ok_fits c.put.result _ _ _ c.in-Ok.is c.put.ensures.full
-          (subst (λ r. c.args.self.now.journal.limit < c.args.self.now.journal.at + needs r) (sym c.in_ok-next.ensures.sealed) full)),
-      done.0,
-      done.1,
-    )
+pub returns-clause-written : goal.returns-clause-written
+returns-clause-written g c =
+    subst (λ r. Told (λ old new. new ≡ with_record old c.args.self.now.journal.at r) (g.D.Disk.meaning c.args.self.now.journal.disk).seen (g.D.Disk.meaning c.put.new.self.journal.disk).seen)
+    c.in_ok-next.ensures.sealed c.in_ok-put.ensures.written
 
-pub returns-in-Ok-clause-acknowledged : goal.returns-in-Ok-clause-acknowledged
-returns-in-Ok-clause-acknowledged g c rs honest stands =
-    subst (λ r. Stands (g.D.Disk.meaning c.put.new.self.disk) c.put.new.self.at (rs ++ r ∷ [])) c.in_ok-next.ensures.sealed (c.in-Ok.ensures.acknowledged rs honest stands)
+pub returns-clause-holds : goal.returns-clause-holds
+returns-clause-holds g c rs held =
+    subst (λ r. HoldsAt (g.D.Disk.meaning c.put.new.self.journal.disk) c.put.new.self.journal.at (rs ++ r ∷ [])) c.in_ok-next.ensures.sealed (c.in_ok-put.ensures.holds rs held)
 
-pub returns-in-Ok-clause-holds : goal.returns-in-Ok-clause-holds
-returns-in-Ok-clause-holds g c rs held =
-    let sealed = c.in_ok-next.sealed.sealed in
-    subst (λ r. HoldsAt (g.D.Disk.meaning c.put.new.self.disk) c.put.new.self.at (rs ++ r ∷ [])) c.in_ok-next.ensures.sealed
-    (held_more (g.D.Disk.meaning c.args.self.now.journal.disk) (g.D.Disk.meaning c.put.new.self.disk) c.args.self.now.journal.at c.put.new.self.at rs _ sealed.known (fits _ sealed) c.in-Ok.ensures.place c.in-Ok.ensures.written held)
+pub returns-clause-acknowledged : goal.returns-clause-acknowledged
+returns-clause-acknowledged g c rs honest stands =
+    subst (λ r. Stands (g.D.Disk.meaning c.put.new.self.journal.disk) c.put.new.self.journal.at (rs ++ r ∷ [])) c.in_ok-next.ensures.sealed (c.in_ok-put.ensures.acknowledged rs honest stands)

@@ -1,9 +1,10 @@
-use Rattle.std.proofs.Common.{◌≤◌, ◌+◌, inl, length, sym, subst, ap, ◌∙◌, arith}
+use Rattle.std.proofs.Common.{◌≡◌, ◌≤◌, ◌+◌, List, inl, length, sym, subst, ap, ◌∙◌, arith}
 use Rattle.journal.specs.Damage.{IsDamagedAt}
 use Rattle.journal.specs.Reading.{records_in}
+use Rattle.archive_file.specs.LogRecords.{LogRecord, records_of, replayed_of}
 use Rattle.archive_file.specs.Opening.{Damages, HasFaultAt}
-use Rattle.archive_core.specs.Decoding.{AreInPlace}
-use Rattle.archive_core.proofs.Mounted.{tell_frames, tell_damaged, tell_untouched, tell_cost, stands_as, holds_as}
+use Rattle.archive_core.specs.Reading.{AreInPlace}
+use Rattle.archive_core.proofs.Mounted.{tell_frames, tell_damaged, tell_untouched, tell_cost, tell_cost_open, stands_as, holds_as}
 use Rattle.archive_core.proofs.archives.Archive.mount.Goals as goal
 
 pub returns-in-Err-clause-damaged : goal.returns-in-Err-clause-damaged
@@ -31,8 +32,8 @@ returns-in-Err-restore-clause-cost g c =
     (subst (λ l. c.restore.new.steps ≤ c.args.steps.now + length l) c.deref.ensures.value c.restore.ensures.cost)
 
 pub returns-clause-stands : goal.returns-clause-stands
-returns-clause-stands g c file commands honest is opens =
-    stands_as (g.D.Disk.meaning c.in-Ok.journal.disk) (g.D.Disk.meaning c.args.disk).seen c.in-Ok.recs.items c.in-Ok.journal.at file commands is c.in-Ok.ensures.opened opens
+returns-clause-stands g c file log honest is opens =
+    stands_as (g.D.Disk.meaning c.in-Ok.journal.disk) (g.D.Disk.meaning c.args.disk).seen c.in-Ok.recs.items c.in-Ok.journal.at file log is c.in-Ok.ensures.opened opens
     (c.in-Ok.ensures.stands file honest is)
 
 pub returns-clause-cost : goal.returns-clause-cost
@@ -40,6 +41,16 @@ returns-clause-cost g c =
     tell_cost (g.D.Disk.meaning c.args.disk).seen c.in-Ok.recs.items c.in-Ok.journal.at c.args.steps.now c.restore.new.steps c.in-Ok.ensures.opened
     (subst (λ l. c.restore.new.steps ≤ c.args.steps.now + length l) c.deref.ensures.value c.restore.ensures.cost)
 
+pub returns-in-Err-restore-clause-cost_open : goal.returns-in-Err-restore-clause-cost_open
+returns-in-Err-restore-clause-cost_open g c =
+    tell_cost_open (g.D.Disk.meaning c.args.disk).seen c.in-Ok.recs.items c.in-Ok.journal.at c.args.steps.now c.restore.new.steps (omega (arith, c.place-end.ensures, c.place-end.type_inv)) c.in-Ok.ensures.opened
+    (subst (λ l. AreInPlace l → (log : List LogRecord) → records_in l ≡ records_of log → c.restore.new.steps ≤ c.args.steps.now + replayed_of log) c.deref.ensures.value c.restore.ensures.cost_open)
+
+pub returns-clause-cost_open : goal.returns-clause-cost_open
+returns-clause-cost_open g c =
+    tell_cost_open (g.D.Disk.meaning c.args.disk).seen c.in-Ok.recs.items c.in-Ok.journal.at c.args.steps.now c.restore.new.steps (omega (arith, c.place-end.ensures, c.place-end.type_inv)) c.in-Ok.ensures.opened
+    (subst (λ l. AreInPlace l → (log : List LogRecord) → records_in l ≡ records_of log → c.restore.new.steps ≤ c.args.steps.now + replayed_of log) c.deref.ensures.value c.restore.ensures.cost_open)
+
 pub returns-clause-holds : goal.returns-clause-holds
-returns-clause-holds g c file commands is opens =
-    holds_as (g.D.Disk.meaning c.args.disk) (g.D.Disk.meaning c.in-Ok.journal.disk) c.in-Ok.recs.items c.in-Ok.journal.at file commands is c.in-Ok.ensures.opened c.in-Ok.ensures.file opens
+returns-clause-holds g c file log is opens =
+    holds_as (g.D.Disk.meaning c.args.disk) (g.D.Disk.meaning c.in-Ok.journal.disk) c.in-Ok.recs.items c.in-Ok.journal.at file log is c.in-Ok.ensures.opened c.in-Ok.ensures.file opens

@@ -1,0 +1,36 @@
+-- What an archive on a disk answers to a checkpoint.
+use Rattle.std.specs.Prelude.{◌≡◌, ℕ, ◌+◌, Some, None, Result, Ok, Err, ⊤}
+use Rattle.smo_meaning.specs.Checks.{Fault}
+use Rattle.smo_meaning.specs.Past.{Past}
+use Rattle.image_spelling.specs.Images.{Image}
+use Rattle.image_spelling.specs.Lengths.{image_length}
+use Rattle.store_image.specs.ImageIn.{image_in}
+use Rattle.archive_file.specs.LogRecords.{LogRecord, checkpointed}
+use Rattle.archive_state.specs.Standing.{Standing}
+use Rattle.archive_core.specs.Committing.{need_fault}
+use Rattle.archive_core.specs.declared.faults.CommitFault.{CommitFault}
+use Rattle.archive_core.specs.declared.faults.CommitFault.TheVariants.{Broken, Refused, Disk, NoMemory}
+
+-- the image of what an archive has
+abbrev pub image_of : Standing → Image
+image_of archive = image_in archive.groups archive.last
+
+-- the record of its checkpoint
+abbrev pub checkpoint_of : Standing → LogRecord
+checkpoint_of archive = checkpointed (image_of archive)
+
+-- how many bytes a put of the image of a past writes
+abbrev pub checkpoint_need : Past → ℕ
+checkpoint_need past = 11 + image_length past
+
+-- the refusal of a checkpoint: its record would end past the limit
+abbrev pub checkpoint_fault : Past → ℕ → ℕ → Fault
+checkpoint_fault past at limit = need_fault at limit (checkpoint_need past)
+
+-- one that fits is answered Ok, or Disk where the disk fails; another is refused
+abbrev pub Checkpoints : Past → ℕ → ℕ → Result (Unit {0}) CommitFault → Type 0
+Checkpoints past at limit (Ok done) = checkpoint_fault past at limit ≡ None
+Checkpoints past at limit (Err (Refused r)) = checkpoint_fault past at limit ≡ Some r
+Checkpoints past at limit (Err Disk) = checkpoint_fault past at limit ≡ None
+Checkpoints past at limit (Err Broken) = ⊤
+Checkpoints past at limit (Err NoMemory) = ⊤
