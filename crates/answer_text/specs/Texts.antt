@@ -29,6 +29,10 @@ abbrev pub made_text : ℕ → ℕ → ℕ → Option ℕ → List ℕ
 made_text stamp gained lost None = changed_text stamp gained lost
 made_text stamp gained lost (Some version) = evolved_text stamp version
 
+-- the whole archive was stored
+unfoldable pub checkpoint_text : List ℕ
+checkpoint_text = codes "ok checkpoint\n"
+
 -- the words of the call are wrong
 unfoldable pub wrong_words_text : List ℕ
 wrong_words_text = codes "fault 2\n"

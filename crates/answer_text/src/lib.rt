@@ -1,5 +1,5 @@
-//! The lines of replies: what is answered to a query and to a command, the pieces that a query runs, the versions, the
-//! tables of a schema, the lifelines of tables, and the refusals. Each is put into a sink.
+//! The lines of replies: what is answered to a query, to a command and to a checkpoint, the pieces that a query runs, the
+//! versions, the tables of a schema, the lifelines of tables, and the refusals. Each is put into a sink.
 //!
 //! `specs/Texts.antt` and `specs/RefusalTexts.antt` say each line by its bytes.
 #![tactic(auto)]
@@ -20,7 +20,7 @@ pub use lifeline::{put_count, put_size};
 pub use listing::{Listing, put_listing};
 pub use piece_texts::Explained;
 pub use refusal::put_refusal;
-pub use reply::{put_changed, put_evolved, put_not_a_journal, put_wrong_words};
+pub use reply::{put_changed, put_checkpoint, put_evolved, put_not_a_journal, put_wrong_words};
 pub use schema::put_schema;
 pub use stop::Stop;
 pub use versions::put_versions;

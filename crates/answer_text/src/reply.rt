@@ -1,10 +1,10 @@
-//! The lines of accepted commands, and those of wrong words and of a file that is no journal.
+//! The lines of accepted commands and checkpoints, and those of wrong words and of a file that is no journal.
 
 ghost use Rattle.std.specs.Prelude.{◌≡◌, OnOk, OnErr};
 ghost use Rattle.std.specs.Io.KnownBytes.{Appends};
 ghost use Rattle.prima_io.specs.Causes.{HasCause};
 ghost use Rattle.prima_io.specs.Moves.{AppendsLess};
-ghost use Rattle.answer_text.specs.Texts.{changed_text, evolved_text, not_a_journal_text, wrong_words_text};
+ghost use Rattle.answer_text.specs.Texts.{changed_text, checkpoint_text, evolved_text, not_a_journal_text, wrong_words_text};
 
 use crate::line::Line;
 use prima_io::{Failed, Sink, put_all};
@@ -57,6 +57,16 @@ pub fn put_evolved<K: Sink>(sink: &mut K, stamp: u64, version: u32) -> Result<()
 {
     let mut line = evolved_line(stamp, version);
     line.flush(sink)
+}
+
+/// Puts the reply to a CHECKPOINT that was stored.
+#[tactic(auto, unfolding(crate::specs::Texts::checkpoint_text))]
+pub fn put_checkpoint<K: Sink>(sink: &mut K) -> Result<(), Failed>
+    ensures all { OnOk result (Appends (K.written sink.old) (K.written sink.new) checkpoint_text) }
+    ensures part { OnErr result (AppendsLess (K.written sink.old) (K.written sink.new) checkpoint_text) }
+    ensures cause { HasCause (K.faults sink.old) (K.faults sink.new) result }
+{
+    put_all(sink, b"ok checkpoint\n")
 }
 
 /// Puts the fault line of a call by wrong words.

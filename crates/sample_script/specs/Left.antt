@@ -7,7 +7,7 @@ use Rattle.sample_script.specs.declared.place.Question.{Question}
 use Rattle.sample_script.specs.declared.place.Question.TheVariants as question
 use Rattle.sample_script.specs.declared.place.Place.{Place}
 use Rattle.sample_script.specs.declared.place.Place.TheVariants.{Start, Row, Evolve, Update, Retitle, Ask, End}
-use Rattle.sample_script.specs.Statements.{numbers, titles, page_inserted, state_added, pages_split, title_renamed, cold_split, is_hot, hot_updated, retitled, pages_asked, hot_then_asked, hot_asked, kind_asked, titles_asked, questions, retitlings, updates, sample_statements}
+use Rattle.sample_script.specs.Statements.{numbers, titles, page_inserted, state_added, pages_split, title_renamed, cold_split, is_hot, hot_updated, checkpoint_made, retitled, hot_then_asked, hot_asked, kind_asked, titles_asked, questions, retitlings, updates, sample_statements}
 
 abbrev pub questions_from : ℕ → Question → List (List ℕ)
 questions_from size question.Pages = questions size
@@ -24,9 +24,9 @@ evolutions_from size evolution.Cold = cold_split size ∷ []
 
 abbrev pub left_at : ℕ → Place → List (List ℕ)
 left_at size Start = sample_statements size
-left_at size (Row i) = map page_inserted (numbers i size) ++ (evolutions_from size evolution.State ++ (updates size ++ (retitlings size ++ questions size)))
-left_at size (Evolve e) = evolutions_from size e ++ (updates size ++ (retitlings size ++ questions size))
-left_at size (Update i) = map (hot_updated size) (filter is_hot (numbers i size)) ++ (retitlings size ++ questions size)
+left_at size (Row i) = map page_inserted (numbers i size) ++ (evolutions_from size evolution.State ++ (updates size ++ checkpoint_made ∷ (retitlings size ++ questions size)))
+left_at size (Evolve e) = evolutions_from size e ++ (updates size ++ checkpoint_made ∷ (retitlings size ++ questions size))
+left_at size (Update i) = map (hot_updated size) (filter is_hot (numbers i size)) ++ checkpoint_made ∷ (retitlings size ++ questions size)
 left_at size (Retitle j) = map (retitled size) (numbers j titles) ++ questions size
 left_at size (Ask q) = questions_from size q
 left_at size End = []

@@ -68,6 +68,11 @@ state_set i = codes "UPDATE hot SET state = 'old' WHERE id = " ++ decimal i
 abbrev pub hot_updated : ℕ → ℕ → List ℕ
 hot_updated size i = stamped (updated_at size + i) (state_set i)
 
+-- ---- the archive is stored as a whole
+
+abbrev pub checkpoint_made : List ℕ
+checkpoint_made = codes "CHECKPOINT"
+
 -- ---- a table is renamed so many times
 
 abbrev pub titles : ℕ
@@ -122,7 +127,7 @@ abbrev pub insertions : ℕ → List (List ℕ)
 insertions size = map page_inserted (numbers 0 size)
 
 abbrev pub sample_statements : ℕ → List (List ℕ)
-sample_statements size = page_made ∷ (insertions size ++ (evolutions size ++ (updates size ++ (retitlings size ++ questions size))))
+sample_statements size = page_made ∷ (insertions size ++ (evolutions size ++ (updates size ++ checkpoint_made ∷ (retitlings size ++ questions size))))
 
 -- each on a line of its own
 abbrev pub line_of : List ℕ → List ℕ

@@ -1,13 +1,13 @@
 //! How far a sample script has come: which statement is next.
 
-ghost use Rattle.std.specs.Prelude.{◌≡◌, ◌+◌, ◌<◌, ◌≤◌, ◌∷◌, [], filter, IfOk};
+ghost use Rattle.std.specs.Prelude.{◌≡◌, ◌+◌, ◌<◌, ◌≤◌, ◌∷◌, ◌++◌, [], ℕ, filter, IfOk};
 ghost use Rattle.sample_script.specs.Statements as spec;
 ghost use Rattle.sample_script.specs.Left.{left_at, NextIs};
 ghost use Rattle.sample_script.specs.declared.place.Place.TheVariants as at;
 
 use crate::statement::{
-    cold_split, hot_asked, hot_then_asked, hot_updated, kind_asked, page_inserted, page_made,
-    pages_asked, pages_split, retitled, state_added, title_renamed, titles_asked,
+    checkpoint_made, cold_split, hot_asked, hot_then_asked, hot_updated, kind_asked, page_inserted,
+    page_made, pages_asked, pages_split, retitled, state_added, title_renamed, titles_asked,
 };
 use prima_base::NoMemory;
 use std::alloc::Global;
@@ -41,7 +41,7 @@ pub(crate) enum Place {
     /// The row with this number, if it is one of the script's.
     Row(u32),
     Evolve(Evolution),
-    /// The next update from the row with this number on.
+    /// The next update from the row with this number on, or the checkpoint behind the last.
     Update(u32),
     /// The next renaming behind so many.
     Retitle(u32),
@@ -99,18 +99,25 @@ fn next_hot(size: u32, i: u32) -> u32
     i
 }
 
+// The checkpoint, and the first renaming.
+fn checkpoint(alloc: Global) -> Result<Next, NoMemory>
+    ensures { (size : ℕ) → IfOk result (λ it. NextIs size (spec.checkpoint_made ∷ (spec.retitlings size ++ spec.questions size)) it) }
+{
+    Ok(Some((checkpoint_made(alloc)?, Place::Retitle(0))))
+}
+
 // An update, or what comes behind all of them.
 fn update(alloc: Global, size: u32, i: u32) -> Result<Next, NoMemory>
     ensures { IfOk result (λ it. NextIs size (left_at size (at.Update i)) it) }
 {
     if i >= size {
-        return retitle(alloc, size, 0);
+        return checkpoint(alloc);
     }
     let i = next_hot(size, i);
     if i < size {
         Ok(Some((hot_updated(alloc, size, i)?, Place::Update(i + 1))))
     } else {
-        retitle(alloc, size, 0)
+        checkpoint(alloc)
     }
 }
 

@@ -130,6 +130,13 @@ pub(crate) fn hot_updated(alloc: Global, size: u32, i: u32) -> Result<Vec<u8>, N
     Ok(text)
 }
 
+/// The archive is stored as a whole.
+pub(crate) fn checkpoint_made(alloc: Global) -> Result<Vec<u8>, NoMemory>
+    ensures { IfOk result (λ t. t.items ≡ spec.checkpoint_made) }
+{
+    text_of(alloc, b"CHECKPOINT")
+}
+
 // Adds the name of the table behind j renamings.
 fn add_title_table(text: &mut Vec<u8>, j: u32) -> Result<(), NoMemory>
     ensures { OnOk result (text.new.items ≡ text.old.items ++ spec.title_table j) }

@@ -32,7 +32,7 @@ use Rattle.temporal_lang.specs.QueryReader as query
 use Rattle.temporal_lang.specs.QueryPasses.{ask_passes}
 use Rattle.temporal_lang.proofs.QueryAlong.{ask_along}
 use Rattle.script_parse.specs.Statements.{PlainStatement, write, ask, explain}
-use Rattle.script_parse.specs.Productions.{IsWhere, AreSoMany, IsRow, IsInsert, IsSetting, IsChange, IsOp, AreOps, IsInverse, AreChanges, IsBody, IsShowVersions, IsShowSchema, IsShowSizes, IsStatement}
+use Rattle.script_parse.specs.Productions.{IsWhere, AreSoMany, IsRow, IsInsert, IsSetting, IsChange, IsOp, AreOps, IsInverse, AreChanges, IsBody, IsShowVersions, IsShowSchema, IsShowSizes, IsCheckpoint, IsStatement}
 use Rattle.script_parse.specs.StatementReader.{where_part, setting, settings, delete_rest, update_rest, change, changes, op, ops, inverse, evolve_rest, body, write_rest, ask_rest, explain_rest, statement, goes_where, goes_settings, goes_change, goes_changes, goes_ops, goes_evolve, goes_body, goes_statement}
 use Rattle.script_parse.specs.StatementPasses.{where_passes, setting_passes, change_passes, changes_passes, op_passes, ops_passes, inverse_passes, body_passes, statement_passes}
 use Rattle.script_parse.proofs.BodySteps.{body_evolves, body_changes}
@@ -206,14 +206,18 @@ schema_light = lead_light _ _ (lead_light _ _ (map_light _ smallG (single_light 
 sizes_light : Light IsShowSizes
 sizes_light = lead_light _ _ (lead_light _ _ (pure_light _))
 
+checkpoint_light : Light IsCheckpoint
+checkpoint_light = lead_light _ _ (pure_light _)
+
 pub statement_along : GoesAlong statement IsStatement goes_statement statement_passes
 unfolding statement
 statement_along a s f (inl h) us stops = behind_goes statement write_rest (word (codes "AT")) (λ ts. refl) WriteRest goes_statement write_rest_passes write_along a s f h us stops
 statement_along a s f (inr (inl h)) us stops = behind_goes statement ask_rest (word (codes "QUERY")) (λ ts. refl) (mapG (λ q. ask q) IsAsk) goes_statement query_rest_passes query_along a s f h us stops
 statement_along a s f (inr (inr (inl h))) us stops = behind_goes statement explain_rest (word (codes "EXPLAIN")) (λ ts. refl) ExplainRest goes_statement explain_rest_passes explain_along a s f h us stops
-statement_along a s f (inr (inr (inr (inl h)))) us stops = light_along statement IsStatement goes_statement statement_good a s f (inr (inr (inr (inl h)))) (versions_light a s f h) us stops
-statement_along a s f (inr (inr (inr (inr (inl h))))) us stops = light_along statement IsStatement goes_statement statement_good a s f (inr (inr (inr (inr (inl h))))) (schema_light a s f h) us stops
-statement_along a s f (inr (inr (inr (inr (inr h))))) us stops = light_along statement IsStatement goes_statement statement_good a s f (inr (inr (inr (inr (inr h))))) (sizes_light a s f h) us stops
+statement_along a s f (inr (inr (inr (inl (inl h))))) us stops = light_along statement IsStatement goes_statement statement_good a s f (inr (inr (inr (inl (inl h))))) (versions_light a s f h) us stops
+statement_along a s f (inr (inr (inr (inl (inr (inl h)))))) us stops = light_along statement IsStatement goes_statement statement_good a s f (inr (inr (inr (inl (inr (inl h)))))) (schema_light a s f h) us stops
+statement_along a s f (inr (inr (inr (inl (inr (inr h)))))) us stops = light_along statement IsStatement goes_statement statement_good a s f (inr (inr (inr (inl (inr (inr h)))))) (sizes_light a s f h) us stops
+statement_along a s f (inr (inr (inr (inr h)))) us stops = light_along statement IsStatement goes_statement statement_good a s f (inr (inr (inr (inr h)))) (checkpoint_light a s f h) us stops
 
 -- a whole text
 pub statement_reads : (a : PlainStatement) (s : Size) (f : List Lexeme) (h : IsStatement a s f) → statement 0 f ≡ by_passes (statement_passes a s f h) f (Got a 0 [])

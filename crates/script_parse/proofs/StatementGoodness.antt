@@ -4,7 +4,7 @@ use Rattle.prima_base.specs.declared.refusals.What.TheVariants.{Inverse}
 use Rattle.smo_types.specs.Operators.{Operator}
 use Rattle.smo_types.specs.Commands.{PlainBody, changing, evolving}
 use Rattle.lexical_grammar.specs.Lexemes.{Lexeme, word, is_word}
-use Rattle.parser_combinators.specs.Parsing.{Size, Good, Stops, No, Takes, Whole, AreMore, so_wide, bindG, pure, pureG, leadG, map_to, mapG, more, eitherG, listG}
+use Rattle.parser_combinators.specs.Parsing.{Size, Good, Stops, Arm, No, Takes, Whole, AreMore, so_wide, bindG, pure, pureG, leadG, map_to, mapG, more, eitherG, listG}
 use Rattle.expr_grammar.specs.Constants.{moment, momentG, small, smallG}
 use Rattle.parser_combinators.proofs.Parsing.{good_iff, good_goes, bind_good, map_good, lead_good, pure_good, choose_good, option_takes_good, whole_good, more_good, bind_more}
 use Rattle.lexical_grammar.proofs.LexemeTests.{word_is, word_exact}
@@ -17,8 +17,8 @@ use Rattle.smo_parse.proofs.OperatorGoodness.{operator_good}
 use Rattle.temporal_lang.specs.QueryGrammar.{IsAsk}
 use Rattle.temporal_lang.specs.QueryReader as query
 use Rattle.temporal_lang.proofs.QueryGoodness.{ask_good}
-use Rattle.script_parse.specs.Statements.{PlainStatement, write, ask, explain, show_versions, show_schema, show_sizes}
-use Rattle.script_parse.specs.Productions.{IsChange, IsOp, AreOps, IsInverse, IsEvolve, AreChanges, IsBody, IsWrite, IsQuery, IsExplain, IsStatement}
+use Rattle.script_parse.specs.Statements.{PlainStatement, write, ask, explain, show_versions, show_schema, show_sizes, checkpoint}
+use Rattle.script_parse.specs.Productions.{IsChange, IsOp, AreOps, IsInverse, IsEvolve, AreChanges, IsBody, IsWrite, IsQuery, IsExplain, IsCheckpoint, IsStatement}
 use Rattle.script_parse.specs.StatementReader.{changes, op, ops, inverse, evolve_rest, body_arm, body, write_rest, ask_rest, explain_rest, schema_rest, show_arm, show_rest, statement_arm, statement, goes_change, goes_changes, goes_ops, goes_evolve, goes_body, goes_statement}
 use Rattle.script_parse.proofs.ChangeGoodness.{ends, single_then, change_not_none, change_not_first, changes_good}
 
@@ -165,8 +165,11 @@ show_good goes = choose_good 0 32 show_arm ShowRest goes (live (pure_good 0 32 s
     live l = (l.0, l.1, word (codes "VERSIONS") ∷ l.2, inl (l.2, refl, l.3))
 
 -- the grammar by first words
+abbrev Shown : PlainStatement → Size → List Lexeme → Type 0
+Shown = leadG (word (codes "SHOW")) ShowRest
+
 abbrev FromShow : PlainStatement → Size → List Lexeme → Type 0
-FromShow = leadG (word (codes "SHOW")) ShowRest
+FromShow = eitherG Shown IsCheckpoint
 
 abbrev FromExplain : PlainStatement → Size → List Lexeme → Type 0
 FromExplain = eitherG IsExplain FromShow
@@ -178,31 +181,48 @@ abbrev FromAt : PlainStatement → Size → List Lexeme → Type 0
 FromAt = eitherG IsWrite FromQuery
 
 module _ (v : List ℕ) where
-  show_first : is_word (codes "SHOW") (word v) ≡ false → (a : PlainStatement) (s : Size) (l : List Lexeme) → FromShow a s (word v ∷ l) → ⊥
-  show_first e = lead_not_first (is_word (codes "SHOW")) (word v) (word (codes "SHOW")) ShowRest e (word_is (codes "SHOW"))
+  checkpoint_first : is_word (codes "CHECKPOINT") (word v) ≡ false → (a : PlainStatement) (s : Size) (l : List Lexeme) → IsCheckpoint a s (word v ∷ l) → ⊥
+  checkpoint_first e = lead_not_first (is_word (codes "CHECKPOINT")) (word v) (word (codes "CHECKPOINT")) (pureG checkpoint) e (word_is (codes "CHECKPOINT"))
 
-  explain_first : is_word (codes "EXPLAIN") (word v) ≡ false → is_word (codes "SHOW") (word v) ≡ false → (a : PlainStatement) (s : Size) (l : List Lexeme) → FromExplain a s (word v ∷ l) → ⊥
-  explain_first e f = either_not_first (word v) IsExplain FromShow (lead_not_first (is_word (codes "EXPLAIN")) (word v) (word (codes "EXPLAIN")) ExplainRest e (word_is (codes "EXPLAIN"))) (show_first f)
+  show_first : is_word (codes "SHOW") (word v) ≡ false → is_word (codes "CHECKPOINT") (word v) ≡ false → (a : PlainStatement) (s : Size) (l : List Lexeme) → FromShow a s (word v ∷ l) → ⊥
+  show_first e f = either_not_first (word v) Shown IsCheckpoint (lead_not_first (is_word (codes "SHOW")) (word v) (word (codes "SHOW")) ShowRest e (word_is (codes "SHOW"))) (checkpoint_first f)
 
-  at_first : is_word (codes "QUERY") (word v) ≡ false → is_word (codes "EXPLAIN") (word v) ≡ false → is_word (codes "SHOW") (word v) ≡ false
+  explain_first : is_word (codes "EXPLAIN") (word v) ≡ false → is_word (codes "SHOW") (word v) ≡ false → is_word (codes "CHECKPOINT") (word v) ≡ false
+      → (a : PlainStatement) (s : Size) (l : List Lexeme) → FromExplain a s (word v ∷ l) → ⊥
+  explain_first e f g = either_not_first (word v) IsExplain FromShow (lead_not_first (is_word (codes "EXPLAIN")) (word v) (word (codes "EXPLAIN")) ExplainRest e (word_is (codes "EXPLAIN"))) (show_first f g)
+
+  at_first : is_word (codes "QUERY") (word v) ≡ false → is_word (codes "EXPLAIN") (word v) ≡ false → is_word (codes "SHOW") (word v) ≡ false → is_word (codes "CHECKPOINT") (word v) ≡ false
       → (a : PlainStatement) (s : Size) (l : List Lexeme) → FromQuery a s (word v ∷ l) → ⊥
-  at_first e f g = either_not_first (word v) IsQuery FromExplain (lead_not_first (is_word (codes "QUERY")) (word v) (word (codes "QUERY")) AskRest e (word_is (codes "QUERY"))) (explain_first f g)
+  at_first e f g h = either_not_first (word v) IsQuery FromExplain (lead_not_first (is_word (codes "QUERY")) (word v) (word (codes "QUERY")) AskRest e (word_is (codes "QUERY"))) (explain_first f g h)
 
 by_words_not_none : NotNone FromAt
 by_words_not_none = either_not_none IsWrite FromQuery (lead_not_none (word (codes "AT")) WriteRest) (either_not_none IsQuery FromExplain (lead_not_none (word (codes "QUERY")) AskRest)
-    (either_not_none IsExplain FromShow (lead_not_none (word (codes "EXPLAIN")) ExplainRest) (lead_not_none (word (codes "SHOW")) ShowRest)))
+    (either_not_none IsExplain FromShow (lead_not_none (word (codes "EXPLAIN")) ExplainRest)
+    (either_not_none Shown IsCheckpoint (lead_not_none (word (codes "SHOW")) ShowRest) (lead_not_none (word (codes "CHECKPOINT")) (pureG checkpoint)))))
+
+-- the arms behind that of AT, and so on
+abbrev show_arms : Lexeme → Arm PlainStatement
+show_arms y = cond (is_word (codes "SHOW") y) (Takes show_rest) (cond (is_word (codes "CHECKPOINT") y) (Takes (pure checkpoint)) No)
+
+abbrev explain_arms : Lexeme → Arm PlainStatement
+explain_arms y = cond (is_word (codes "EXPLAIN") y) (Takes explain_rest) (show_arms y)
+
+abbrev query_arms : Lexeme → Arm PlainStatement
+query_arms y = cond (is_word (codes "QUERY") y) (Takes ask_rest) (explain_arms y)
 
 by_words_good : Good 0 32 statement FromAt goes_statement
 unfolding statement
 by_words_good = choose_good 0 32 statement_arm FromAt goes_statement (live write_good.live) by_words_not_none
     (λ x. first_arm (is_word (codes "AT")) (word (codes "AT")) (word_is (codes "AT")) (word_exact (codes "AT")) 32 write_rest WriteRest goes_statement write_good
-    (λ y. cond (is_word (codes "QUERY") y) (Takes ask_rest) (cond (is_word (codes "EXPLAIN") y) (Takes explain_rest) (cond (is_word (codes "SHOW") y) (Takes show_rest) No))) FromQuery
-    (at_first (codes "AT") refl refl refl) x
+    query_arms FromQuery (at_first (codes "AT") refl refl refl refl) x
     (first_arm (is_word (codes "QUERY")) (word (codes "QUERY")) (word_is (codes "QUERY")) (word_exact (codes "QUERY")) 32 ask_rest AskRest goes_statement ask_rest_good
-    (λ y. cond (is_word (codes "EXPLAIN") y) (Takes explain_rest) (cond (is_word (codes "SHOW") y) (Takes show_rest) No)) FromExplain (explain_first (codes "QUERY") refl refl) x
+    explain_arms FromExplain (explain_first (codes "QUERY") refl refl refl) x
     (first_arm (is_word (codes "EXPLAIN")) (word (codes "EXPLAIN")) (word_is (codes "EXPLAIN")) (word_exact (codes "EXPLAIN")) 32 explain_rest ExplainRest goes_statement explain_good
-    (λ y. cond (is_word (codes "SHOW") y) (Takes show_rest) No) FromShow (show_first (codes "EXPLAIN") refl) x
-    (last_arm (is_word (codes "SHOW")) (word (codes "SHOW")) (word_is (codes "SHOW")) (word_exact (codes "SHOW")) 32 show_rest ShowRest goes_statement (show_good goes_statement) x))))
+    show_arms FromShow (show_first (codes "EXPLAIN") refl refl) x
+    (first_arm (is_word (codes "SHOW")) (word (codes "SHOW")) (word_is (codes "SHOW")) (word_exact (codes "SHOW")) 32 show_rest ShowRest goes_statement (show_good goes_statement)
+    (λ y. cond (is_word (codes "CHECKPOINT") y) (Takes (pure checkpoint)) No) IsCheckpoint (checkpoint_first (codes "SHOW") refl) x
+    (last_arm (is_word (codes "CHECKPOINT")) (word (codes "CHECKPOINT")) (word_is (codes "CHECKPOINT")) (word_exact (codes "CHECKPOINT")) 32 (pure checkpoint) (pureG checkpoint) goes_statement
+    (pure_good 0 32 checkpoint goes_statement) x)))))
   where
     live : (a : PlainStatement) × (s : Size) × (ts : List Lexeme) × WriteRest a s ts → (a : PlainStatement) × (s : Size) × (ts : List Lexeme) × FromAt a s ts
     live l = (l.0, l.1, word (codes "AT") ∷ l.2, inl (l.2, refl, l.3))
@@ -211,17 +231,19 @@ up : (a : PlainStatement) (s : Size) (l : List Lexeme) → FromAt a s l → IsSt
 up a s l (inl h) = inl h
 up a s l (inr (inl h)) = inr (inl h)
 up a s l (inr (inr (inl h))) = inr (inr (inl h))
-up a s l (inr (inr (inr (more, e, inl h)))) = inr (inr (inr (inl (more, e, h))))
-up a s l (inr (inr (inr (more, e, inr (inl h))))) = inr (inr (inr (inr (inl (more, e, h)))))
-up a s l (inr (inr (inr (more, e, inr (inr h))))) = inr (inr (inr (inr (inr (more, e, h)))))
+up a s l (inr (inr (inr (inl (more, e, inl h))))) = inr (inr (inr (inl (inl (more, e, h)))))
+up a s l (inr (inr (inr (inl (more, e, inr (inl h)))))) = inr (inr (inr (inl (inr (inl (more, e, h))))))
+up a s l (inr (inr (inr (inl (more, e, inr (inr h)))))) = inr (inr (inr (inl (inr (inr (more, e, h))))))
+up a s l (inr (inr (inr (inr h)))) = inr (inr (inr (inr h)))
 
 down : (a : PlainStatement) (s : Size) (l : List Lexeme) → IsStatement a s l → FromAt a s l
 down a s l (inl h) = inl h
 down a s l (inr (inl h)) = inr (inl h)
 down a s l (inr (inr (inl h))) = inr (inr (inl h))
-down a s l (inr (inr (inr (inl h)))) = inr (inr (inr (h.0, h.1, inl h.2)))
-down a s l (inr (inr (inr (inr (inl h))))) = inr (inr (inr (h.0, h.1, inr (inl h.2))))
-down a s l (inr (inr (inr (inr (inr h))))) = inr (inr (inr (h.0, h.1, inr (inr h.2))))
+down a s l (inr (inr (inr (inl (inl h))))) = inr (inr (inr (inl (h.0, h.1, inl h.2))))
+down a s l (inr (inr (inr (inl (inr (inl h)))))) = inr (inr (inr (inl (h.0, h.1, inr (inl h.2)))))
+down a s l (inr (inr (inr (inl (inr (inr h)))))) = inr (inr (inr (inl (h.0, h.1, inr (inr h.2)))))
+down a s l (inr (inr (inr (inr h)))) = inr (inr (inr (inr h)))
 
 pub statement_good : Good 0 32 statement IsStatement goes_statement
 statement_good = good_iff 0 32 statement FromAt IsStatement goes_statement up down by_words_good

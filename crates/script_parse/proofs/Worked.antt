@@ -23,7 +23,7 @@ use Rattle.temporal_lang.specs.declared.whens.When.TheVariants.{Always, AsOf, Du
 use Rattle.plain_answers.specs.Branches.{a_branch}
 use Rattle.temporal_lang.specs.Queries.{PlainQuery, a_query}
 use Rattle.temporal_lang.specs.QueryReader as query
-use Rattle.script_parse.specs.Statements.{ask, explain, write, show_versions, show_schema, show_sizes}
+use Rattle.script_parse.specs.Statements.{ask, explain, write, show_versions, show_schema, show_sizes, checkpoint}
 use Rattle.script_parse.specs.Lexing.{lexed_from}
 use Rattle.script_parse.specs.StatementReader.{where_part, more_constants, constants, row, insert_rest, delete_rest, setting, settings, update_rest, change, changes, op, ops, inverse, evolve_rest, body, write_rest, ask_rest, explain_rest, schema_rest, show_rest, statement}
 use Rattle.script_parse.specs.Reading.{Reading, Blank, Refused, Whole, reading}
@@ -97,6 +97,16 @@ shown :
     × Reads (codes "SHOW SIZES 1") (Refused (Syntax 11))
 unfolding reading lexed_from gap_len gap_dash piece_of small statement show_rest schema_rest
 shown = (refl, refl, refl, refl, refl, refl)
+
+-- the word alone, which no name spells
+checkpoints :
+    Reads (codes "CHECKPOINT") (Whole checkpoint)
+    × Reads (codes "CHECKPOINT 1") (Refused (Syntax 11))
+    × Reads (codes "checkpoint") (Refused (Syntax 0))
+    × Reads (codes "AT 1 CHECKPOINT") (Refused (Syntax 5))
+    × Reads (codes "SHOW CHECKPOINT") (Refused (Syntax 5))
+unfolding reading lexed_from gap_len gap_dash piece_of moment statement write_rest body changes change show_rest
+checkpoints = (refl, refl, refl, refl, refl)
 
 -- ---- commands
 

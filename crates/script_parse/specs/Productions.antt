@@ -13,7 +13,7 @@ use Rattle.expr_grammar.specs.Grammar.{IsExpr, IsCond}
 use Rattle.expr_grammar.specs.Constants.{nameG, namesG, momentG, smallG, constantG}
 use Rattle.smo_parse.specs.Productions.{IsOperator}
 use Rattle.temporal_lang.specs.QueryGrammar.{IsAsk}
-use Rattle.script_parse.specs.Statements.{PlainStatement, write, ask, explain, show_versions, show_schema, show_sizes}
+use Rattle.script_parse.specs.Statements.{PlainStatement, write, ask, explain, show_versions, show_schema, show_sizes, checkpoint}
 
 -- ---- changes
 
@@ -109,5 +109,9 @@ IsShowSizes = leadG (word (codes "SHOW")) (leadG (word (codes "SIZES")) (pureG s
 abbrev pub IsShow : Grammar PlainStatement
 IsShow = eitherG IsShowVersions (eitherG IsShowSchema IsShowSizes)
 
+-- CHECKPOINT
+abbrev pub IsCheckpoint : Grammar PlainStatement
+IsCheckpoint = leadG (word (codes "CHECKPOINT")) (pureG checkpoint)
+
 abbrev pub IsStatement : Grammar PlainStatement
-IsStatement = eitherG IsWrite (eitherG IsQuery (eitherG IsExplain IsShow))
+IsStatement = eitherG IsWrite (eitherG IsQuery (eitherG IsExplain (eitherG IsShow IsCheckpoint)))

@@ -16,7 +16,7 @@ use Rattle.smo_parse.specs.OperatorMarks.{operator_marks}
 use Rattle.temporal_lang.specs.QueryGrammar.{IsAsk}
 use Rattle.temporal_lang.specs.QueryPasses.{ask_passes}
 use Rattle.script_parse.specs.Statements.{write, ask, explain}
-use Rattle.script_parse.specs.Productions.{IsWhere, IsInsert, IsDelete, IsSetting, IsUpdate, IsChange, IsOp, AreOps, IsInverse, IsEvolve, AreChanges, IsBody, IsWrite, IsQuery, IsExplain, IsShowVersions, IsShowSchema, IsShowSizes, IsShow, IsStatement}
+use Rattle.script_parse.specs.Productions.{IsWhere, IsInsert, IsDelete, IsSetting, IsUpdate, IsChange, IsOp, AreOps, IsInverse, IsEvolve, AreChanges, IsBody, IsWrite, IsQuery, IsExplain, IsShowVersions, IsShowSchema, IsShowSizes, IsShow, IsCheckpoint, IsStatement}
 
 -- ---- changes
 
@@ -78,6 +78,7 @@ abbrev pub show_passes : Passing IsShow
 show_passes = either_pass IsShowVersions (eitherG IsShowSchema IsShowSizes) (none_pass IsShowVersions) (either_pass IsShowSchema IsShowSizes (none_pass IsShowSchema) (none_pass IsShowSizes))
 
 abbrev pub statement_passes : Passing IsStatement
-statement_passes = either_pass IsWrite (eitherG IsQuery (eitherG IsExplain IsShow)) write_passes
-    (either_pass IsQuery (eitherG IsExplain IsShow) query_passes
-    (either_pass IsExplain IsShow explain_passes show_passes))
+statement_passes = either_pass IsWrite (eitherG IsQuery (eitherG IsExplain (eitherG IsShow IsCheckpoint))) write_passes
+    (either_pass IsQuery (eitherG IsExplain (eitherG IsShow IsCheckpoint)) query_passes
+    (either_pass IsExplain (eitherG IsShow IsCheckpoint) explain_passes
+    (either_pass IsShow IsCheckpoint show_passes (none_pass IsCheckpoint))))

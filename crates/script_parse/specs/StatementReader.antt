@@ -12,7 +12,7 @@ use Rattle.expr_grammar.specs.Reader.{outermost, goes_expr, goes_cond}
 use Rattle.expr_grammar.specs.Constants.{name, names, moment, small, constant}
 use Rattle.smo_parse.specs.OperatorReader.{operator, goes_operator}
 use Rattle.temporal_lang.specs.QueryReader as query
-use Rattle.script_parse.specs.Statements.{PlainStatement, write, ask, explain, show_versions, show_schema, show_sizes}
+use Rattle.script_parse.specs.Statements.{PlainStatement, write, ask, explain, show_versions, show_schema, show_sizes, checkpoint}
 
 -- ---- changes
 
@@ -113,7 +113,8 @@ show_rest = choose show_arm
 abbrev pub statement_arm : Lexeme → Arm PlainStatement
 statement_arm x =
     if is_word (codes "AT") x then Takes write_rest else (if is_word (codes "QUERY") x then Takes ask_rest else
-    (if is_word (codes "EXPLAIN") x then Takes explain_rest else (if is_word (codes "SHOW") x then Takes show_rest else No)))
+    (if is_word (codes "EXPLAIN") x then Takes explain_rest else (if is_word (codes "SHOW") x then Takes show_rest else
+    (if is_word (codes "CHECKPOINT") x then Takes (pure checkpoint) else No))))
 
 unfoldable pub statement : Parser PlainStatement
 statement = choose statement_arm

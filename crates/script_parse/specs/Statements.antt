@@ -3,7 +3,7 @@ use Rattle.std.specs.Prelude.{ℕ}
 use Rattle.smo_types.specs.Commands.{PlainCommand, command_of}
 use Rattle.temporal_lang.specs.Queries.{PlainQuery, query_of}
 use Rattle.script_parse.specs.declared.statements.Statement.{Statement}
-use Rattle.script_parse.specs.declared.statements.Statement.TheVariants.{Write, Ask, Explain, ShowVersions, ShowSchema, ShowSizes}
+use Rattle.script_parse.specs.declared.statements.Statement.TheVariants.{Write, Ask, Explain, ShowVersions, ShowSchema, ShowSizes, Checkpoint}
 
 pub data PlainStatement : Type 0 where
   write : PlainCommand → PlainStatement
@@ -14,6 +14,8 @@ pub data PlainStatement : Type 0 where
   -- the version's number
   show_schema : ℕ → PlainStatement
   show_sizes : PlainStatement
+  -- what the archive holds is to be stored as a whole
+  checkpoint : PlainStatement
 
 abbrev pub statement_of : Statement → PlainStatement
 statement_of (Write c) = write (command_of c)
@@ -22,3 +24,4 @@ statement_of (Explain q) = explain (query_of q)
 statement_of ShowVersions = show_versions
 statement_of (ShowSchema version) = show_schema version
 statement_of ShowSizes = show_sizes
+statement_of Checkpoint = checkpoint

@@ -119,6 +119,10 @@ fn statement(alloc: Global, c: &mut Cursor<'_, '_>) -> Result<Statement, Stop>
         c.skip();
         return show_rest(c);
     }
+    if c.sees_word(b"CHECKPOINT") {
+        c.skip();
+        return Ok(Statement::Checkpoint);
+    }
     Err(Stop::Stuck)
 }
 

@@ -19,6 +19,8 @@ pub enum Statement {
     ShowSchema(u32),
     /// The list of all lifelines with their sizes.
     ShowSizes,
+    /// The whole archive is to be stored, so that later runs begin from there.
+    Checkpoint,
 }
 
 /// Why a text is no statement.
