@@ -1,16 +1,14 @@
 -- A run over a borrowed disk is one of the disk: the reference adds its name and nothing else.
-use Rattle.std.proofs.Common.{◌≡◌, inl, inr, ⊎_elim, ◌++◌, ℕ, List}
+use Rattle.std.proofs.Common.{inl, inr, ⊎_elim, ℕ, List}
 use Rattle.std.specs.Prelude.{Option}
 use Rattle.disk_model.specs.Meaning.{Meaning, borrowed_as}
 use Rattle.disk_model.specs.BorrowLaws.{borrowed_turns}
-use Rattle.journal.specs.Mounting.{SameOrNine, IsNotSynced, KeepsFile}
-use Rattle.script_parse.specs.Script.{Piece}
+use Rattle.journal.specs.Mounting.{SameOrNine, KeepsFile}
+use Rattle.archive_file.specs.LogRecords.{LogRecord}
 use Rattle.script_cli.specs.Given.{Given}
-use Rattle.script_cli.specs.Output.{recorded, commands_put}
 use Rattle.script_cli.specs.Files.{OpensPrefix}
-use Rattle.script_cli.specs.Runs.{NotOpened, OnDisk, RanOpened, RunsOver, begun}
+use Rattle.script_cli.specs.Runs.{NotOpened, OnDisk, RunsOver, logged_in}
 use Rattle.script_cli.specs.declared.status.Status.{Status}
-use Rattle.script_cli.specs.declared.status.Status.TheVariants.{DiskFault}
 
 module _ (name other : ℕ) (old new : Meaning) where
   keeps_borrowed : KeepsFile (borrowed_as name old) (borrowed_as other new) → KeepsFile old new
@@ -23,10 +21,9 @@ module _ (name other : ℕ) (old new : Meaning) where
     disk = ⊎_elim (λ early. inl early) (λ late. inr (keeps_borrowed late)) n.disk;
   }
 
-  on_disk_borrowed : (limit : Given) (status : Status) (whole rest : List Piece) → OnDisk limit status whole rest (borrowed_as name old) (borrowed_as other new) → OnDisk limit status whole rest old new
-  on_disk_borrowed limit status whole rest d = record {
-    any_moment = λ file opening honest seen opens.
-        borrowed_turns name other old new (OpensPrefix opening (commands_put limit (recorded opening) (whole ++ begun status rest))) (d.any_moment file opening honest seen opens);
+  on_disk_borrowed : (status : Status) (done log : List LogRecord) → OnDisk status done log (borrowed_as name old) (borrowed_as other new) → OnDisk status done log old new
+  on_disk_borrowed status done log d = record {
+    any_moment = λ file opening honest seen opens. borrowed_turns name other old new (OpensPrefix opening log) (d.any_moment file opening honest seen opens);
     exit = d.exit;
     given = d.given;
     holds = d.holds;
@@ -39,5 +36,6 @@ module _ (name other : ℕ) (old new : Meaning) where
     start = r.start;
     opened = r.opened;
     ran = r.ran;
-    disk = on_disk_borrowed limit status r.ran.whole r.ran.rest r.disk;
+    log = r.log;
+    disk = on_disk_borrowed status r.log.done (logged_in r.log) r.disk;
   })

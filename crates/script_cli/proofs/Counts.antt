@@ -1,5 +1,5 @@
 -- Counts of faults behind calls that left them as they were.
-use Rattle.std.proofs.Common.{◌≡◌, ◌≤◌, ◌∙◌, ℕ, List, refl, subst, sym}
+use Rattle.std.proofs.Common.{◌≡◌, ◌≤◌, ◌∙◌, ℕ, List, subst}
 use Rattle.std.specs.Prelude.{Option, Err}
 use Rattle.prima_io.specs.Causes.{Rose}
 use Rattle.script_cli.specs.declared.halt.Halt.{Halt}

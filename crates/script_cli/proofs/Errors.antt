@@ -12,16 +12,17 @@ use Rattle.smo_meaning.specs.Checks.{Fault}
 use Rattle.smo_meaning.specs.Past.{Past, past_with, tables_of}
 use Rattle.smo_meaning.specs.Sizes.{Size}
 use Rattle.archive_core.specs.Committing.{commit_fault}
+use Rattle.archive_core.specs.Checkpointing.{checkpoint_fault}
 use Rattle.piece_texts.specs.ExplainedPieces.{PlainExplained}
 use Rattle.temporal_lang.specs.Accepted.{version_fault, fault_of_query}
 use Rattle.temporal_lang.specs.Answers.{answer}
-use Rattle.script_parse.specs.Statements.{PlainStatement, write, ask, explain, show_versions, show_schema, show_sizes}
+use Rattle.script_parse.specs.Statements.{PlainStatement, write, ask, explain, show_versions, show_schema, show_sizes, checkpoint}
 use Rattle.script_parse.specs.Reading.{Reading, Blank, Refused, Whole, reading}
 use Rattle.archive_state.specs.Asking.{tells_periods, pieces_told}
-use Rattle.answer_text.specs.Texts.{changed_text, evolved_text, listing_text, piece_head, explain_text, tables_text, count_text, version_head, versions_text, schema_text, size_text, sizes_text}
+use Rattle.answer_text.specs.Texts.{changed_text, evolved_text, checkpoint_text, listing_text, piece_head, explain_text, tables_text, count_text, version_head, versions_text, schema_text, size_text, sizes_text}
 use Rattle.answer_text.specs.RefusalTexts.{refusal_text}
 use Rattle.script_cli.specs.Given.{Given}
-use Rattle.script_cli.specs.Output.{Recorded, Reply, refused, answered, put, refused_or, body_text, statement_reply, reading_reply, is_error_line, reply}
+use Rattle.script_cli.specs.Output.{Recorded, Reply, refused, answered, put_command, put_image, refused_or, body_text, statement_reply, reading_reply, is_error_line, reply}
 
 abbrev Told : Reply → Type 0
 Told r = r.is_error ≡ is_error_line r.text
@@ -35,8 +36,12 @@ unfolding changed_text evolved_text
 body_told stamp (changing changes) past next = refl
 body_told stamp (evolving op inverse) past next = refl
 
-put_told : (command : PlainCommand) (now : Recorded) → Told (put command now)
+put_told : (command : PlainCommand) (now : Recorded) → Told (put_command command now)
 put_told command now = sym (body_told command.stamp command.body now.past (past_with now.past command))
+
+image_told : (now : Recorded) → Told (put_image now)
+unfolding checkpoint_text
+image_told now = refl
 
 listing_told : (told : Bool) (entries : List (Entry (List Value))) (now : Recorded) → Told (answered (listing_text told entries) now)
 unfolding listing_text
@@ -71,12 +76,13 @@ refused_told None now r h = h
 refused_told (Some refusal) now r h = refusal_told refusal now
 
 statement_told : (limit : Given) (s : PlainStatement) (now : Recorded) → Told (statement_reply limit s now)
-statement_told limit (write command) now = refused_told (commit_fault now.past now.at limit.limit command) now (put command now) (put_told command now)
+statement_told limit (write command) now = refused_told (commit_fault now.past now.at limit.limit command) now (put_command command now) (put_told command now)
 statement_told limit (ask query) now = refused_told (fault_of_query now.past query) now (answered (listing_text (tells_periods query.when) (answer now.past query)) now) (listing_told (tells_periods query.when) (answer now.past query) now)
 statement_told limit (explain query) now = refused_told (fault_of_query now.past query) now (answered (explain_text (pieces_told limit.book now.past query)) now) (pieces_told_so (pieces_told limit.book now.past query) now)
 statement_told limit show_versions now = versions_told now.past.versions now
 statement_told limit (show_schema version) now = refused_told (version_fault now.past version) now (answered (schema_text (tables_of now.past version)) now) (schema_told (tables_of now.past version) now)
 statement_told limit show_sizes now = sizes_told (length now.past.versions) now.past.sizes now
+statement_told limit checkpoint now = refused_told (checkpoint_fault now.past now.at limit.limit) now (put_image now) (image_told now)
 
 reading_told : (limit : Given) (r : Reading) (now : Recorded) → Told (reading_reply limit r now)
 reading_told limit Blank now = refl

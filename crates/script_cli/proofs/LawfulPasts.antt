@@ -1,54 +1,63 @@
--- The past behind any statements is lawful, behind whatever opening commands.
-use Rattle.std.proofs.Common.{◌≡◌, ◌<◌, ℕ, List, [], ◌∷◌, refl, sym, subst, arith}
+-- The past behind any statements is lawful, behind whatever opening records.
+use Rattle.std.proofs.Common.{◌≡◌, ◌<◌, ℕ, false, List, [], ◌∷◌, refl, sym, subst, arith}
 use Rattle.std.specs.Prelude.{Some, None}
-use Rattle.archive_file.specs.Opening.{AreCommands}
-use Rattle.relations.specs.Spans.{Span, forever}
-use Rattle.relations.specs.Listing.{IsListing}
-use Rattle.prima_base.specs.Order.{row_cmp}
+use Rattle.archive_file.specs.LogRecords.{LogRecord, logged, checkpointed, record_of, has_image, behind_records, AreSpelled, AreAccepted}
+use Rattle.image_spelling.specs.Images.{Image, IsImage}
+use Rattle.image_spelling.specs.ShownPast.{image_past}
+use Rattle.relations.specs.Spans.{forever}
 use Rattle.smo_types.specs.Commands.{PlainBody, changing, evolving, PlainCommand}
 use Rattle.smo_meaning.specs.Checks.{Fault}
 use Rattle.smo_meaning.specs.Accepts.{command_fault}
 use Rattle.smo_meaning.specs.LawfulPast.{last_or_nought, IsPast}
 use Rattle.smo_meaning.specs.Past.{Past, beginning, past_behind, past_with, tables_of}
 use Rattle.smo_meaning.proofs.PastSteps.{beginning_is_past, stays_lawful, stamp_accepted, counts_accepted, body_accepted}
+use Rattle.piece_meaning.specs.Constants.{LawfulInVersions, LawfulInEvolution}
+use Rattle.rewrite_chains.proofs.HeldValues.{lawful_behind}
 use Rattle.temporal_lang.specs.Accepted.{version_fault, fault_of_query}
-use Rattle.temporal_lang.specs.Answers.{asked_at, listing, answer, IsListingOf}
-use Rattle.temporal_lang.specs.Queries.{PlainQuery}
+use Rattle.temporal_lang.specs.Answers.{answer}
 use Rattle.script_parse.specs.Script.{Piece, Whole as Text, Skipped}
-use Rattle.script_parse.specs.Statements.{PlainStatement, write, ask, explain, show_versions, show_schema, show_sizes}
+use Rattle.script_parse.specs.Statements.{PlainStatement, write, ask, explain, show_versions, show_schema, show_sizes, checkpoint}
 use Rattle.script_parse.specs.Reading.{Reading, Blank, Refused, Whole, reading}
 use Rattle.archive_state.specs.Asking.{tells_periods, pieces_told}
-use Rattle.smo_meaning.specs.History.{AllAccepted, IsHistory, past_after}
 use Rattle.smo_meaning.proofs.Firsts.{none_of_first}
 use Rattle.archive_core.specs.Committing.{room_fault, commit_fault}
+use Rattle.archive_core.specs.Checkpointing.{checkpoint_fault}
 use Rattle.script_cli.specs.Given.{Given}
-use Rattle.script_cli.specs.Output.{Recorded, recorded, answered, refused_or, put, statement_reply, reading_reply, reply, piece_reply, recorded_after}
+use Rattle.script_cli.specs.Output.{Recorded, recorded, answered, refused_or, put_command, put_image, statement_reply, reading_reply, reply, piece_reply, recorded_after}
 use Rattle.answer_text.specs.Texts.{listing_text, explain_text, schema_text}
 use Rattle.script_cli.specs.Written.{IsWritten, HasWritten}
 use Rattle.script_cli.proofs.WrittenStatements.{has_written}
+use Rattle.script_cli.proofs.SpelledConstants.{spelled_lawful, named_lawful}
 
--- accepted commands make it, at moments before the end of time
+-- accepted commands make it, at moments before the end of time, and the constants of its versions are lawful
 pub record IsOfScript (past : Past) : Type 0 where
   pub made : IsPast past
   pub ends : last_or_nought past.last < forever
+  pub constants : LawfulInVersions past.versions
 
 pub beginning_is : IsOfScript beginning
-beginning_is = record { made = beginning_is_past; ends = omega arith }
+beginning_is = record { made = beginning_is_past; ends = omega arith; constants = tt }
 
 last_is : (past : Past) (stamp : ℕ) (body : PlainBody) → last_or_nought (past_behind stamp body past).last ≡ stamp
 last_is past stamp (changing changes) = refl
 last_is past stamp (evolving op inverse) = refl
 
-command_keeps : (past : Past) (command : PlainCommand) → IsOfScript past → command.stamp < forever → command_fault past command ≡ None → IsOfScript (past_with past command)
+command_keeps : (past : Past) (command : PlainCommand) → IsOfScript past → (command.stamp < forever) × LawfulInEvolution command.body → command_fault past command ≡ None
+    → IsOfScript (past_with past command)
 command_keeps past command h written e = record {
   made = stays_lawful past command.stamp command.body h.made (stamp_accepted past command e) (counts_accepted past command e) (body_accepted past command e);
-  ends = subst (λ n. n < forever) (sym (last_is past command.stamp command.body)) written;
+  ends = subst (λ n. n < forever) (sym (last_is past command.stamp command.body)) written.0;
+  constants = lawful_behind past command.stamp command.body h.constants written.1;
 }
 
-put_keeps : (now : Recorded) (command : PlainCommand) → IsOfScript now.past → command.stamp < forever → (fault : Fault) → (fault ≡ None → command_fault now.past command ≡ None)
-    → IsOfScript (refused_or fault now (put command now)).behind.past
+put_keeps : (now : Recorded) (command : PlainCommand) → IsOfScript now.past → (command.stamp < forever) × LawfulInEvolution command.body → (fault : Fault) → (fault ≡ None → command_fault now.past command ≡ None)
+    → IsOfScript (refused_or fault now (put_command command now)).behind.past
 put_keeps now command h written None met = command_keeps now.past command h written (met refl)
 put_keeps now command h written (Some r) met = h
+
+image_keeps : (now : Recorded) (fault : Fault) → IsOfScript now.past → IsOfScript (refused_or fault now (put_image now)).behind.past
+image_keeps now None h = h
+image_keeps now (Some r) h = h
 
 same_past : (now : Recorded) (fault : Fault) (text : List ℕ) → IsOfScript now.past → IsOfScript (refused_or fault now (answered text now)).behind.past
 same_past now None text h = h
@@ -57,12 +66,13 @@ same_past now (Some r) text h = h
 module _ (limit : Given) where
   statement_keeps : (now : Recorded) (s : PlainStatement) → IsWritten s → IsOfScript now.past → IsOfScript (statement_reply limit s now).behind.past
   statement_keeps now (write command) written h =
-      put_keeps now command h written (commit_fault now.past now.at limit.limit command) (λ e. (none_of_first (command_fault now.past command) (room_fault now.at limit.limit command ∷ []) e).0)
+      put_keeps now command h written (commit_fault now.past now.at limit.limit command) (λ e. (none_of_first (command_fault now.past command) (room_fault now.at limit.limit (record_of (logged command)) ∷ []) e).0)
   statement_keeps now (ask query) written h = same_past now (fault_of_query now.past query) (listing_text (tells_periods query.when) (answer now.past query)) h
   statement_keeps now (explain query) written h = same_past now (fault_of_query now.past query) (explain_text (pieces_told limit.book now.past query)) h
   statement_keeps now show_versions written h = h
   statement_keeps now (show_schema version) written h = same_past now (version_fault now.past version) (schema_text (tables_of now.past version)) h
   statement_keeps now show_sizes written h = h
+  statement_keeps now checkpoint written h = image_keeps now (checkpoint_fault now.past now.at limit.limit) h
 
   reading_keeps : (now : Recorded) (r : Reading) → HasWritten r → IsOfScript now.past → IsOfScript (reading_reply limit r now).behind.past
   reading_keeps now Blank has h = h
@@ -78,10 +88,31 @@ module _ (limit : Given) where
   keeps [] now h = h
   keeps (p ∷ pieces) now h = keeps pieces (piece_reply limit now p).behind (piece_keeps now p h)
 
-opening_keeps : (commands : List PlainCommand) (past : Past) → AreCommands commands → AllAccepted past commands → IsOfScript past → IsOfScript (past_after past commands)
-opening_keeps [] past are accepted h = h
-opening_keeps (c ∷ commands) past are accepted h = opening_keeps commands (past_with past c) are.1 accepted.1 (command_keeps past c h are.0.0 accepted.0)
+-- ---- the opening records
 
--- it is one that accepted commands make
-pub still_made : (limit : Given) (opening : List PlainCommand) (pieces : List Piece) → AreCommands opening → IsHistory opening → IsPast (recorded_after limit (recorded opening) pieces).past
-still_made limit opening pieces are history = (keeps limit pieces (recorded opening) (opening_keeps opening beginning are history beginning_is)).made
+-- an image shows one that accepted commands can have made
+abbrev pub ImagesShowPasts : Type 0
+ImagesShowPasts = (n : ℕ) (i : Image) → IsImage i → IsPast (image_past n i)
+
+module _ (shown : ImagesShowPasts) where
+  image_is : (n : ℕ) (i : Image) → IsImage i → IsOfScript (image_past n i)
+  image_is n i is = record { made = shown n i is; ends = is.ends; constants = named_lawful i.versions is.named }
+
+  -- from a past on, or from the first image
+  opening_keeps : (log : List LogRecord) (past : Past) → AreSpelled log → AreAccepted past log → (has_image log ≡ false → IsOfScript past) → IsOfScript (behind_records past log)
+  opening_keeps [] past are accepted h = h refl
+  opening_keeps (logged c ∷ log) past are accepted h =
+      opening_keeps log (past_with past c) are.1 accepted.1 (λ none. command_keeps past c (h none) (are.0.0, spelled_lawful c.body are.0.1.1) (accepted.0 none))
+  opening_keeps (checkpointed i ∷ log) past are accepted h = opening_keeps log (image_past past.commands i) are.1 accepted (λ none. image_is past.commands i are.0)
+
+  of_script : (limit : Given) (opening : List LogRecord) (pieces : List Piece) → AreSpelled opening → AreAccepted beginning opening → IsOfScript (recorded_after limit (recorded opening) pieces).past
+  of_script limit opening pieces are accepted = keeps limit pieces (recorded opening) (opening_keeps opening beginning are accepted (λ none. beginning_is))
+
+  -- it is one that accepted commands make
+  pub still_made : (limit : Given) (opening : List LogRecord) (pieces : List Piece) → AreSpelled opening → AreAccepted beginning opening → IsPast (recorded_after limit (recorded opening) pieces).past
+  still_made limit opening pieces are accepted = (of_script limit opening pieces are accepted).made
+
+  -- and the constants of its versions are lawful
+  pub lawful_constants : (limit : Given) (opening : List LogRecord) (pieces : List Piece) → AreSpelled opening → AreAccepted beginning opening
+      → LawfulInVersions (recorded_after limit (recorded opening) pieces).past.versions
+  lawful_constants limit opening pieces are accepted = (of_script limit opening pieces are accepted).constants

@@ -1,23 +1,23 @@
--- Commands that are put, and then more.
-use Rattle.std.proofs.Common.{◌≡◌, ◌⊎◌, inl, inr, ℕ, ◌+◌, ◌≤◌, IsTrue, List, [], ◌∷◌, ◌++◌, length, take, map, sym, ◌∙◌, ap, subst, arith, append_assoc, length-append}
+-- Records that are put, and then more.
+use Rattle.std.proofs.Common.{◌≡◌, ◌⊎◌, inl, inr, ℕ, ◌+◌, List, [], ◌∷◌, ◌++◌, length, take, sym, ◌∙◌, ap, subst, arith, append_assoc, length-append}
 use Rattle.std.proofs.Math.Seq.{take-append-add}
 use Rattle.std.proofs.lemmas.List.{append-nil, take-append-le, map-append}
 use Rattle.disk_model.specs.Meaning.{Meaning, IsLawful}
 use Rattle.disk_model.specs.Moments.{Leaves}
+use Rattle.disk_model.specs.declared.disk.Disk.{Ghosts}
 use Rattle.disk_model.specs.MomentLaws.{goes_refl, goes_trans, still_honest, then_leaves, leaves_now}
 use Rattle.journal.specs.Records.{Record, Holds}
 use Rattle.journal.specs.Standing.{Stands, WithOrWithout}
 use Rattle.journal.specs.Puts.{Puts, Acknowledges, HoldsPrefix, HavePut}
 use Rattle.journal.specs.PutLaws.{have_none, have_more, leaves_one_more}
-use Rattle.smo_types.specs.Commands.{PlainCommand}
-use Rattle.command_spelling.specs.Lawful.{IsCommand}
-use Rattle.archive_file.specs.Opening.{AreCommands, record_of, records_of}
+use Rattle.archive_file.specs.LogRecords.{LogRecord, record_of, records_of, IsSpelled}
 use Rattle.archive_core.specs.Holding.{HoldsAt}
+use Rattle.archive_core.specs.declared.archives.Archive.{Archive}
+use Rattle.archive_core.specs.Fields.{below, place_of}
+use Rattle.script_cli.specs.Due.{Due}
 use Rattle.script_cli.specs.Putting.{HasPut, MayHavePut, PutsSome}
-
-pub are_append : (xs ys : List PlainCommand) → AreCommands xs → AreCommands ys → AreCommands (xs ++ ys)
-are_append [] ys a b = b
-are_append (x ∷ xs) ys a b = (a.0, are_append xs ys a.1 b)
+use Rattle.script_cli.specs.Shows.{PutBetween}
+use Rattle.script_cli.proofs.DueRecords.{records_together, spelled_append}
 
 -- ---- records
 
@@ -44,19 +44,19 @@ module _ (opening xs ys : List Record) where
     stands = subst (Stands c n) (append_assoc opening xs ys) two.stands;
   }
 
--- ---- commands
+-- ---- what they stand for
 
 -- nothing is put
 pub put_nothing : (d : Meaning) (at : ℕ) → IsLawful d → HasPut d d at at []
 put_nothing d at law = record {
   spelled = tt;
   goes = goes_refl d law;
-  holds = λ opening held. subst (λ (l : List PlainCommand). HoldsAt d at (records_of l)) (sym (append-nil opening)) held;
+  holds = λ opening held. subst (λ (l : List LogRecord). HoldsAt d at (records_of l)) (sym (append-nil opening)) held;
   have = λ opening honest stands. have_none d at (records_of opening) law stands;
 }
 
 -- one is put
-pub put_one : (old new : Meaning) (at next : ℕ) (c : PlainCommand) → IsLawful old → IsCommand c
+pub put_one : (old new : Meaning) (at next : ℕ) (c : LogRecord) → IsLawful old → IsSpelled c
     → ((rs : List Record) → HoldsAt old at rs → HoldsAt new next (rs ++ record_of c ∷ [])) → Puts old new at (record_of c) → Acknowledges old new at next (record_of c)
     → HasPut old new at next (c ∷ [])
 put_one old new at next c law is holds puts acknowledges = record {
@@ -68,11 +68,11 @@ put_one old new at next c law is holds puts acknowledges = record {
 }
 
 -- and then more
-pub put_then : (a b c : Meaning) (at m n : ℕ) (xs ys : List PlainCommand) → HasPut a b at m xs → HasPut b c m n ys → HasPut a c at n (xs ++ ys)
+pub put_then : (a b c : Meaning) (at m n : ℕ) (xs ys : List LogRecord) → HasPut a b at m xs → HasPut b c m n ys → HasPut a c at n (xs ++ ys)
 put_then a b c at m n xs ys one two = record {
-  spelled = are_append xs ys one.spelled two.spelled;
+  spelled = spelled_append xs ys one.spelled two.spelled;
   goes = goes_trans a b c one.goes two.goes;
-  holds = λ opening held. subst (λ (l : List PlainCommand). HoldsAt c n (records_of l)) (append_assoc opening xs ys) (two.holds (opening ++ xs) (one.holds opening held));
+  holds = λ opening held. subst (λ (l : List LogRecord). HoldsAt c n (records_of l)) (append_assoc opening xs ys) (two.holds (opening ++ xs) (one.holds opening held));
   have = λ opening honest stands.
       let first = one.have opening honest stands in
       let there : Stands b m (records_of (opening ++ xs)) = subst (Stands b m) (sym (map-append record_of opening xs)) first.stands in
@@ -83,13 +83,13 @@ put_then a b c at m n xs ys one two = record {
 }
 
 -- or the disk fails
-pub put_some : (a b c : Meaning) (at m : ℕ) (xs puts : List PlainCommand) → IsLawful c → HasPut a b at m xs → MayHavePut b c m puts → PutsSome a c at xs (xs ++ puts)
-put_some a b c at m xs puts law one may =
-    let d = may.command in
+pub put_some : (a b c : Meaning) (at m : ℕ) (xs : List LogRecord) (due : List Due) → IsLawful c → HasPut a b at m xs → (may : MayHavePut b c m due) → PutsSome a c at xs (xs ++ may.its_record ∷ [])
+put_some a b c at m xs due law one may =
+    let d = may.its_record in
     let size : records_of (xs ++ d ∷ []) ≡ records_of xs ++ record_of d ∷ [] = map-append record_of xs (d ∷ []) in
-    subst (λ (l : List PlainCommand). PutsSome a c at xs (xs ++ l)) (sym may.due) (record {
+    record {
       done_spelled = one.spelled;
-      spelled = are_append xs (d ∷ []) one.spelled (may.spelled, tt);
+      spelled = spelled_append xs (d ∷ []) one.spelled (may.spelled, tt);
       goes = goes_trans a b c one.goes may.puts_it.goes;
       leaves = λ opening honest stands. subst (λ (l : List Record). Leaves a c (HoldsPrefix (records_of opening) l 0 (length l))) (sym size)
           (leaves_one_more a b m (records_of opening) (records_of xs) honest (one.have opening honest stands) c (record_of d) may.puts_it);
@@ -99,12 +99,27 @@ put_some a b c at m xs puts law one may =
           leaves_now b c (WithOrWithout (records_of opening ++ records_of xs) (record_of d)) law may.puts_it.goes
           (may.puts_it.any_moment (records_of opening ++ records_of xs) (still_honest a b one.goes honest) have.stands) f left in
           without_or_with opening f here;
-    })
+    }
   where
-    without_or_with : (opening : List PlainCommand) (f : List ℕ) → WithOrWithout (records_of opening ++ records_of xs) (record_of may.command) f
-        → Holds f (records_of (opening ++ xs)) ⊎ Holds f (records_of (opening ++ (xs ++ may.command ∷ [])))
+    without_or_with : (opening : List LogRecord) (f : List ℕ) → WithOrWithout (records_of opening ++ records_of xs) (record_of may.its_record) f
+        → Holds f (records_of (opening ++ xs)) ⊎ Holds f (records_of (opening ++ (xs ++ may.its_record ∷ [])))
     without_or_with opening f (inl without) = inl (subst (Holds f) (sym (map-append record_of opening xs)) without)
     without_or_with opening f (inr with) =
         inr (subst (Holds f)
-        (ap (λ (l : List Record). l ++ record_of may.command ∷ []) (sym (map-append record_of opening xs)) ∙ sym (map-append record_of (opening ++ xs) (may.command ∷ []))
-        ∙ ap records_of (append_assoc opening xs (may.command ∷ []))) with)
+        (ap (λ (l : List Record). l ++ record_of may.its_record ∷ []) (sym (map-append record_of opening xs)) ∙ sym (map-append record_of (opening ++ xs) (may.its_record ∷ []))
+        ∙ ap records_of (append_assoc opening xs (may.its_record ∷ []))) with)
+
+-- ---- between two moments of an archive
+
+module _ {D : Type 0} {g : Ghosts D} where
+  -- nothing was put
+  pub nothing_between : (a : Archive D g) → IsLawful (below a) → PutBetween a a []
+  nothing_between a law = ([], tt, put_nothing (below a) (place_of a) law)
+
+  -- and then more
+  pub then_between : (a b c : Archive D g) (xs ys : List Due) → PutBetween a b xs → PutBetween b c ys → PutBetween a c (xs ++ ys)
+  then_between a b c xs ys one two = (
+    one.0 ++ two.0,
+    records_together xs ys one.0 two.0 one.1 two.1,
+    put_then (below a) (below b) (below c) (place_of a) (place_of b) (place_of c) one.0 two.0 one.2 two.2,
+  )

@@ -1,6 +1,6 @@
 -- How far a run has come, and what it leaves.
-use Rattle.std.proofs.Common.{◌≡◌, ◌≤◌, ◌+◌, ℕ, true, false, refl, List, [], ◌∷◌, ◌++◌, length, take, sym, ap, ◌∙◌, subst, append-nil, arith, length-append, inl, inr}
-use Rattle.std.specs.Prelude.{Option, Some, None, ◌||◌}
+use Rattle.std.proofs.Common.{◌≡◌, ◌≤◌, ◌+◌, ℕ, false, refl, List, [], ◌∷◌, ◌++◌, length, take, sym, ap, ◌∙◌, subst, append-nil, arith, length-append, inl, inr}
+use Rattle.std.specs.Prelude.{Option, ◌||◌}
 use Rattle.std.specs.Io.KnownBytes.{Consumes, Appends, IsAtEnd, Keeps}
 use Rattle.std.proofs.KnownBytes.{Consumes-trans, Consumes-kept}
 use Rattle.std.proofs.lemmas.List.{take_at}
@@ -11,18 +11,22 @@ use Rattle.archive_core.specs.declared.archives.Archive.{Archive}
 use Rattle.archive_core.specs.Fields.{below, place_of}
 use Rattle.script_parse.specs.Script.{Piece, pieces_from, tail_from, ending}
 use Rattle.script_parse.specs.Splitting.{fresh}
+use Rattle.archive_file.specs.LogRecords.{LogRecord}
+use Rattle.script_cli.specs.Due.{Due, AreRecordsOf}
+use Rattle.script_cli.specs.Putting.{HasPut}
 use Rattle.script_cli.specs.Given.{Given}
-use Rattle.script_cli.specs.Output.{Recorded, piece_reply, replies, commands_put, recorded_after, any_error, pieces_of, ending_of, has_error, tail_text, tail_is_due}
+use Rattle.script_cli.specs.Output.{Recorded, piece_reply, all_puts, recorded_after, any_error, pieces_of, ending_of, has_error, tail_text, tail_is_due}
 use Rattle.script_cli.specs.declared.script_run.ScriptRun.{ScriptRun}
 use Rattle.script_cli.specs.declared.halt.Halt.{Halt}
 use Rattle.script_cli.specs.declared.halt.Halt.TheVariants as halt
-use Rattle.script_cli.specs.Shows.{StandsAt, PutBetween, StopsIn, Took, Halted, next_reply, pieces_behind, ending_behind}
-use Rattle.script_cli.specs.Runs.{Ran, Wrote, WroteAll, begun}
+use Rattle.script_cli.specs.Shows.{StandsAt, PutBetween, Took, Halted, next_reply, pieces_behind, ending_behind}
+use Rattle.script_cli.specs.Runs.{Log, Wrote, WroteAll, begun, logged_in}
 use Rattle.script_cli.specs.Driving.{Drove, PutBy, Ends, is_faulty, status_of}
 use Rattle.script_cli.specs.Limits.{longest_script}
 use Rattle.script_cli.specs.declared.status.Status.{Status}
 use Rattle.script_cli.specs.declared.status.Status.TheVariants.{Done, Refused, Words, ReadFault, WriteFault, DiskFault, NotAJournal, NoMemory, InputLimit}
-use Rattle.script_cli.proofs.PutsBehind.{put_then, put_some}
+use Rattle.script_cli.proofs.DueRecords.{records_together}
+use Rattle.script_cli.proofs.PutsBehind.{put_then, put_some, then_between}
 use Rattle.script_cli.proofs.Taking.{put-append, took_none, took_more, took_longer, halted_behind}
 
 -- the run at its beginning, which read nothing yet
@@ -57,19 +61,39 @@ module _ {D : Type 0} {g : Ghosts D} (limit : Given) (start : Recorded) (a b : A
       ∙ ap (λ l. any_error limit start l || tail_is_due (ending_behind script_run [])) (sym all_pieces)
       ∙ ap (λ e. any_error limit start (pieces_of taken) || tail_is_due e) (sym ending_is)
 
-  -- all that was to be put was put
-  pub puts_all : PutBetween a b (commands_put limit start (took.pieces ++ []))
-  puts_all = subst (λ l. PutBetween a b (commands_put limit start l)) (sym (append-nil took.pieces)) took.puts
-
 -- what the first of these statements puts
-next_puts : (limit : Given) (now : Recorded) (rest : List Piece) → commands_put limit now (take 1 rest) ≡ (next_reply limit now rest).puts
+next_puts : (limit : Given) (now : Recorded) (rest : List Piece) → all_puts limit now (take 1 rest) ≡ (next_reply limit now rest).puts
 next_puts limit now [] = refl
 next_puts limit now (p ∷ rest) = append-nil (piece_reply limit now p).puts
 
 next_put : (limit : Given) (start : Recorded) (whole rest : List Piece)
-    → commands_put limit start whole ++ (next_reply limit (recorded_after limit start whole) rest).puts ≡ commands_put limit start (whole ++ take 1 rest)
+    → all_puts limit start whole ++ (next_reply limit (recorded_after limit start whole) rest).puts ≡ all_puts limit start (whole ++ take 1 rest)
 next_put limit start whole rest =
-    ap (λ l. commands_put limit start whole ++ l) (sym (next_puts limit (recorded_after limit start whole) rest)) ∙ sym (put-append limit start whole (take 1 rest))
+    ap (λ l. all_puts limit start whole ++ l) (sym (next_puts limit (recorded_after limit start whole) rest)) ∙ sym (put-append limit start whole (take 1 rest))
+
+-- ---- the records of a run
+
+module _ {D : Type 0} {g : Ghosts D} (limit : Given) (start : Recorded) (status : Status) (whole rest : List Piece) (a b : Archive D g) where
+  -- no statement was begun: those of the statements that were answered whole
+  pub whole_log : begun status rest ≡ [] → PutBetween a b (all_puts limit start whole) → Log limit start status whole rest
+  whole_log none puts = record {
+    done = puts.0;
+    begun_with = [];
+    done_are = puts.1;
+    all_are = subst (λ (l : List LogRecord). AreRecordsOf (all_puts limit start (whole ++ begun status rest)) l) (sym (append-nil puts.0))
+        (subst (λ (l : List Piece). AreRecordsOf (all_puts limit start l) puts.0) (sym (ap (λ (l : List Piece). whole ++ l) none ∙ append-nil whole)) puts.1);
+  }
+
+  pub whole_put : (none : begun status rest ≡ []) → (puts : PutBetween a b (all_puts limit start whole)) → HasPut (below a) (below b) (place_of a) (place_of b) (logged_in (whole_log none puts))
+  unfolding whole_log
+  whole_put none puts = subst (λ (l : List LogRecord). HasPut (below a) (below b) (place_of a) (place_of b) l) (sym (append-nil puts.0)) puts.2
+
+-- the record of the next is behind them
+next_log : (limit : Given) (start : Recorded) (whole rest : List Piece) (done its : List LogRecord) → AreRecordsOf (all_puts limit start whole) done
+    → AreRecordsOf (next_reply limit (recorded_after limit start whole) rest).puts its → AreRecordsOf (all_puts limit start (whole ++ take 1 rest)) (done ++ its)
+next_log limit start whole rest done its first then =
+    subst (λ (l : List Due). AreRecordsOf l (done ++ its)) (next_put limit start whole rest)
+    (records_together (all_puts limit start whole) (next_reply limit (recorded_after limit start whole) rest).puts done its first then)
 
 -- the start of a run
 pub reach_start : {D : Type 0} {g : Ghosts D} (limit : Given) (start : Recorded) (archive : Archive D g) (a u : Option (List ℕ)) (s : ScriptRun) → IsLawful (below archive) → IsStart s
@@ -95,7 +119,8 @@ module _ {D : Type 0} {g : Ghosts D} (limit : Given) (start : Recorded) (o m : A
       replied = r.took.wrote;
       wrote = (within_still n r.taken r.counted l, refl, refl);
     };
-    puts = (place_of m, puts_all limit start o m r.run s r.begun_so r.taken u v r.took);
+    log = whole_log limit start ReadFault r.took.pieces [] o m refl r.took.puts;
+    puts = (place_of m, whole_put limit start ReadFault r.took.pieces [] o m refl r.took.puts);
   }
 
   pub drove_limit : (r : Reached limit start o m a b u v s n) (piece : List ℕ) → Consumes b c piece → n ≡ longest_script → length piece ≡ 1
@@ -115,7 +140,8 @@ module _ {D : Type 0} {g : Ghosts D} (limit : Given) (start : Recorded) (o m : A
         refl,
       );
     };
-    puts = (place_of m, puts_all limit start o m r.run s r.begun_so r.taken u v r.took);
+    log = whole_log limit start InputLimit r.took.pieces (pieces_behind s piece) o m refl r.took.puts;
+    puts = (place_of m, whole_put limit start InputLimit r.took.pieces (pieces_behind s piece) o m refl r.took.puts);
   }
 
 -- what the run had answered when it stopped, and in which reply it did
@@ -128,26 +154,37 @@ module _ {D : Type 0} {g : Ghosts D} (limit : Given) (start : Recorded) (o e : A
   wrote_halted : (h : Halt) (c : Option (List ℕ)) (taken : List ℕ) (pieces : List Piece) → length taken ≤ longest_script → (x : Halted h limit start pieces o e u w)
       → Wrote (status_of h) limit start taken x.whole x.rest c x.between w
   wrote_halted halt.WriteFault c taken pieces l x = (l, inl x.stops.0)
-  wrote_halted halt.DiskFault c taken pieces l x = (l, x.stops.0, (x.stops.1.command, x.stops.1.due))
+  wrote_halted halt.DiskFault c taken pieces l x = (l, x.stops.0, (x.stops.1.what, x.stops.1.due_is))
   wrote_halted halt.NoMemory c taken pieces l x = (l, x.stops.0)
 
   puts_halted : (h : Halt) (pieces : List Piece) → IsLawful (below e) → (x : Halted h limit start pieces o e u w)
-      → PutBy (status_of h) (below o) (below e) (place_of o) (commands_put limit start x.whole) (commands_put limit start (x.whole ++ begun (status_of h) x.rest))
+      → (log : Log limit start (status_of h) x.whole x.rest) × PutBy (status_of h) (below o) (below e) (place_of o) log.done (logged_in log)
   puts_halted halt.WriteFault pieces law x =
-      let next = next_reply limit (recorded_after limit start x.whole) x.rest in (
-        place_of e,
-        subst (PutBetween o e) (next_put limit start x.whole x.rest)
-            (put_then (below o) (below x.mid) (below e) (place_of o) (place_of x.mid) (place_of e) (commands_put limit start x.whole) next.puts x.puts x.stops.1),
+      let its = x.stops.1 in (
+        record {
+          done = x.puts.0;
+          begun_with = its.0;
+          done_are = x.puts.1;
+          all_are = next_log limit start x.whole x.rest x.puts.0 its.0 x.puts.1 its.1;
+        },
+        (place_of e, put_then (below o) (below x.mid) (below e) (place_of o) (place_of x.mid) (place_of e) x.puts.0 its.0 x.puts.2 its.2),
       )
   puts_halted halt.DiskFault pieces law x =
-      let next = next_reply limit (recorded_after limit start x.whole) x.rest in
-      subst (λ l. PutBy DiskFault (below o) (below e) (place_of o) (commands_put limit start x.whole) l) (next_put limit start x.whole x.rest)
-      (put_some (below o) (below x.mid) (below e) (place_of o) (place_of x.mid) (commands_put limit start x.whole) next.puts law x.puts x.stops.1)
-  puts_halted halt.NoMemory pieces law x = (
-    place_of e,
-    subst (PutBetween o e) (append-nil (commands_put limit start x.whole) ∙ ap (commands_put limit start) (sym (append-nil x.whole)))
-        (put_then (below o) (below x.mid) (below e) (place_of o) (place_of x.mid) (place_of e) (commands_put limit start x.whole) [] x.puts x.stops.1),
-  )
+      let may = x.stops.1 in
+      let next = next_reply limit (recorded_after limit start x.whole) x.rest in (
+        record {
+          done = x.puts.0;
+          begun_with = may.its_record ∷ [];
+          done_are = x.puts.1;
+          all_are = next_log limit start x.whole x.rest x.puts.0 (may.its_record ∷ []) x.puts.1 (subst (λ (l : List Due). AreRecordsOf l (may.its_record ∷ [])) (sym may.due_is) (may.is_its, tt));
+        },
+        put_some (below o) (below x.mid) (below e) (place_of o) (place_of x.mid) x.puts.0 next.puts law x.puts.2 may,
+      )
+  puts_halted halt.NoMemory pieces law x =
+      let all = subst (PutBetween o e) (append-nil (all_puts limit start x.whole)) (then_between o x.mid e (all_puts limit start x.whole) [] x.puts x.stops.1) in (
+        whole_log limit start NoMemory x.whole x.rest o e refl all,
+        (place_of e, whole_put limit start NoMemory x.whole x.rest o e refl all),
+      )
 
 module _ {D : Type 0} {g : Ghosts D} (limit : Given) (start : Recorded) (o m e : Archive D g) {a b c u v w : Option (List ℕ)} {s : ScriptRun} {n : ℕ} where
   pub reach : (r : Reached limit start o m a b u v s n) (piece : List ℕ) (k : ℕ) (next : ScriptRun) → Consumes b c piece → k ≡ n + length piece
@@ -167,6 +204,7 @@ module _ {D : Type 0} {g : Ghosts D} (limit : Given) (start : Recorded) (o m e :
       → ((now : Recorded) → StandsAt m limit now → Halted h limit now (pieces_behind s piece) m e v w) → Drove limit start (status_of h) a c u w (below o) (below e) (place_of o)
   drove_halted h r piece law l k f =
       let x = stopped limit start o m e a b u v w s n h r piece f in
+      let puts = puts_halted limit start o e u w h (r.took.pieces ++ pieces_behind s piece) law x in
       let within : length (r.taken ++ piece) ≤ longest_script = omega (arith, l, r.counted, length-append r.taken piece) in
       record {
         ran = record {
@@ -179,12 +217,14 @@ module _ {D : Type 0} {g : Ghosts D} (limit : Given) (start : Recorded) (o m e :
           replied = x.wrote;
           wrote = wrote_halted limit start o e u w h c (r.taken ++ piece) (r.took.pieces ++ pieces_behind s piece) within x;
         };
-        puts = puts_halted limit start o e u w h (r.took.pieces ++ pieces_behind s piece) law x;
+        log = puts.0;
+        puts = puts.1;
       }
 
 module _ {D : Type 0} {g : Ghosts D} (limit : Given) (start : Recorded) (o m : Archive D g) {a b c u v w : Option (List ℕ)} {s : ScriptRun} {n : ℕ} (r : Reached limit start o m a b u v s n)
     (within : n ≤ longest_script) (consumes : Consumes b c []) (end : IsAtEnd c) where
-  ended : (status : Status) → Wrote status limit start r.taken r.took.pieces [] c v w → PutBy status (below o) (below m) (place_of o) (commands_put limit start r.took.pieces) (commands_put limit start (r.took.pieces ++ begun status []))
+  ended : (status : Status) → Wrote status limit start r.taken r.took.pieces [] c v w
+      → (log : Log limit start status r.took.pieces []) × PutBy status (below o) (below m) (place_of o) log.done (logged_in log)
       → Drove limit start status a c u w (below o) (below m) (place_of o)
   ended status wrote puts = record {
     ran = record {
@@ -197,7 +237,8 @@ module _ {D : Type 0} {g : Ghosts D} (limit : Given) (start : Recorded) (o m : A
       replied = r.took.wrote;
       wrote = wrote;
     };
-    puts = puts;
+    log = puts.0;
+    puts = puts.1;
   }
 
   wrote_all : Appends v w (tail_text (ending_behind s [])) → WroteAll r.taken [] c v w
@@ -209,8 +250,8 @@ module _ {D : Type 0} {g : Ghosts D} (limit : Given) (start : Recorded) (o m : A
   }
 
   pub drove_end : (status : Status) → Ends status s v w → Drove limit start status a c u w (below o) (below m) (place_of o)
-  drove_end Done e = ended Done (wrote_all e.0, sym (faulty_is limit start o m r.run s r.begun_so r.taken u v r.took) ∙ e.1) (place_of m, puts_all limit start o m r.run s r.begun_so r.taken u v r.took)
-  drove_end Refused e = ended Refused (wrote_all e.0, sym (faulty_is limit start o m r.run s r.begun_so r.taken u v r.took) ∙ e.1) (place_of m, puts_all limit start o m r.run s r.begun_so r.taken u v r.took)
+  drove_end Done e = ended Done (wrote_all e.0, sym (faulty_is limit start o m r.run s r.begun_so r.taken u v r.took) ∙ e.1) (whole_log limit start Done r.took.pieces [] o m refl r.took.puts, (place_of m, whole_put limit start Done r.took.pieces [] o m refl r.took.puts))
+  drove_end Refused e = ended Refused (wrote_all e.0, sym (faulty_is limit start o m r.run s r.begun_so r.taken u v r.took) ∙ e.1) (whole_log limit start Refused r.took.pieces [] o m refl r.took.puts, (place_of m, whole_put limit start Refused r.took.pieces [] o m refl r.took.puts))
   drove_end WriteFault e = ended WriteFault (
     within_still n r.taken r.counted within,
     inr (record {
@@ -219,7 +260,7 @@ module _ {D : Type 0} {g : Ghosts D} (limit : Given) (start : Recorded) (o m : A
       front = subst (λ x. AppendsFront v w (tail_text x)) (sym (ending_is limit start o m r.run s r.begun_so r.taken u v r.took)) e;
     }),
   )
-      (place_of m, puts_all limit start o m r.run s r.begun_so r.taken u v r.took)
+      (whole_log limit start WriteFault r.took.pieces [] o m refl r.took.puts, (place_of m, whole_put limit start WriteFault r.took.pieces [] o m refl r.took.puts))
   drove_end Words e = absurd e
   drove_end ReadFault e = absurd e
   drove_end DiskFault e = absurd e

@@ -4,10 +4,10 @@ use Rattle.std.specs.Prelude.{Option, Some, None, Result, Ok, Err, IfOk, OnOk, O
 use Rattle.std.specs.Io.KnownBytes.{Appends}
 use Rattle.std.proofs.KnownBytes.{Appends-nil}
 use Rattle.prima_io.specs.Moves.{AppendsFront}
-use Rattle.prima_io.specs.Causes.{HasCause, Rose}
+use Rattle.prima_io.specs.Causes.{HasCause}
 use Rattle.prima_base.specs.declared.refusals.Refusal.{Refusal}
 use Rattle.prima_base.specs.declared.failures.Failed.{Failed}
-use Rattle.disk_model.specs.Meaning.{Meaning, IsLawful}
+use Rattle.disk_model.specs.Meaning.{IsLawful}
 use Rattle.disk_model.specs.declared.disk.Disk.{Ghosts}
 use Rattle.smo_meaning.specs.Checks.{Fault}
 use Rattle.smo_meaning.specs.Past.{Past, past_with}
@@ -17,25 +17,28 @@ use Rattle.archive_state.specs.declared.archives.Done.{Done}
 use Rattle.archive_state.specs.Committing.{version_made, IsDone}
 use Rattle.archive_core.specs.declared.archives.Archive.{Archive}
 use Rattle.journal.specs.Standing.{needs}
-use Rattle.archive_file.specs.Opening.{record_of}
+use Rattle.archive_file.specs.LogRecords.{logged, record_of}
+use Rattle.image_spelling.specs.Lengths.{image_length}
+use Rattle.archive_core.specs.Checkpointing.{checkpoint_fault}
 use Rattle.archive_state.specs.Standing.{ShowsPast}
 use Rattle.archive_core.specs.Fields.{standing_of, disk_of, below, place_of, limit_of, is_broken, IsReady}
 use Rattle.archive_core.specs.Committing.{commit_fault}
 use Rattle.answer_text.specs.RefusalTexts.{refusal_text}
-use Rattle.answer_text.specs.Texts.{made_text}
+use Rattle.answer_text.specs.Texts.{made_text, checkpoint_text}
 use Rattle.script_parse.specs.Statements.{PlainStatement}
 use Rattle.script_parse.specs.Reading.{Reading, Blank, Refused, Whole, reading}
 use Rattle.script_cli.specs.Given.{Given}
-use Rattle.script_cli.specs.Output.{Recorded, recorded_with, Reply, done_text, answered, refused, refused_or, put, body_text, command_text, command_reply, statement_reply, reading_reply, reply}
+use Rattle.script_cli.specs.Due.{Due, command_due, image_due}
+use Rattle.script_cli.specs.Output.{Recorded, recorded_with, Reply, done_text, answered, refused, refused_or, put, body_text, command_text, command_reply, checkpoint_reply, statement_reply, reading_reply, reply}
 use Rattle.script_cli.specs.declared.put.Put.{Put}
-use Rattle.script_cli.specs.declared.put.Put.TheVariants.{NoError}
+use Rattle.script_cli.specs.declared.put.Put.TheVariants.{NoError, Command, ErrorLine}
 use Rattle.script_cli.specs.declared.halt.Halt.{Halt}
 use Rattle.script_cli.specs.declared.halt.Halt.TheVariants.{WriteFault, DiskFault, NoMemory}
 use Rattle.script_cli.specs.Halts.{or_write_fault, HaltCounted, SaidCounted}
-use Rattle.script_cli.specs.Puts.{is_error}
+use Rattle.script_cli.specs.Puts.{put_for}
 use Rattle.script_cli.specs.Putting.{HasPut}
 use Rattle.script_cli.specs.Shows.{Says, Responds, StandsAt, TakesRecords, PutBetween}
-use Rattle.script_cli.proofs.PutsBehind.{put_nothing}
+use Rattle.script_cli.proofs.PutsBehind.{put_nothing, nothing_between}
 
 -- the line tells what the command did
 body_said : (past next : Past) (stamp : ℕ) (body : PlainBody) → made_text stamp (rows_gained past body) (rows_lost past body) (version_made body (length next.versions)) ≡ body_text stamp body past next
@@ -71,7 +74,7 @@ halt_said (Err NoMemory) before now disk h = (h, refl)
 module _ (old new : Option (List ℕ)) where
   -- a refusal
   pub refused_says : (fault : Fault) (r : Refusal) (now : Recorded) (reply : Reply) (result : Result Put Failed) → fault ≡ Some r
-      → IfOk result (λ put. is_error put ≡ true) → OnOk result (Appends old new (refusal_text r)) → OnErr result (AppendsFront old new (refusal_text r))
+      → IfOk result (λ put. put ≡ ErrorLine) → OnOk result (Appends old new (refusal_text r)) → OnErr result (AppendsFront old new (refusal_text r))
       → Says (refused_or fault now reply) (or_write_fault result) old new
   refused_says None r now reply result e ok all part = absurd (cc)
   refused_says (Some q) r now reply (Ok b) e ok all part = let same : r ≡ q = cc in (ok, subst (λ (x : Refusal). Appends old new (refusal_text x)) same all)
@@ -79,7 +82,7 @@ module _ (old new : Option (List ℕ)) where
 
   -- an answer
   pub answered_says : (fault : Fault) (now : Recorded) (text said : List ℕ) (result : Result Put Failed) → fault ≡ None → said ≡ text
-      → IfOk result (λ put. is_error put ≡ false) → OnOk result (Appends old new said) → OnErr result (AppendsFront old new said) → Says (refused_or fault now (answered text now)) (or_write_fault result) old new
+      → IfOk result (λ put. put ≡ NoError) → OnOk result (Appends old new said) → OnErr result (AppendsFront old new said) → Says (refused_or fault now (answered text now)) (or_write_fault result) old new
   answered_says None now text said (Ok b) e same ok all part = (ok, subst (λ (t : List ℕ). Appends old new t) same all)
   answered_says None now text said (Err stop) e same ok all part = subst (λ (t : List ℕ). AppendsFront old new t) same part
   answered_says (Some r) now text said result e same ok all part = absurd (cc)
@@ -97,49 +100,70 @@ module _ (old new : Option (List ℕ)) where
     says_responds reply (Ok put) law stands none same says = record {
       is = says.0;
       stands = subst (StandsAt a limit) (sym same) stands;
-      puts = subst (PutBetween a a) (sym none) (put_nothing (below a) (place_of a) law);
+      puts = subst (PutBetween a a) (sym none) (nothing_between a law);
       text = says.1;
     }
-    says_responds reply (Err WriteFault) law stands none same says = (says, subst (PutBetween a a) (sym none) (put_nothing (below a) (place_of a) law))
+    says_responds reply (Err WriteFault) law stands none same says = (says, subst (PutBetween a a) (sym none) (nothing_between a law))
     says_responds reply (Err DiskFault) law stands none same says = absurd says
-    says_responds reply (Err NoMemory) law stands none same says = (says, put_nothing (below a) (place_of a) law)
+    says_responds reply (Err NoMemory) law stands none same says = (says, nothing_between a law)
+
+    -- the record of what is due was put, and then a line
+    put_responds : (text said : List ℕ) (due : Due) (told : Put) (fault : Fault) (result : Result Put Failed) → fault ≡ None → told ≡ put_for false (due ∷ []) → said ≡ text
+        → StandsAt b limit (recorded_with now due) → PutBetween a b (due ∷ []) → IfOk result (λ p. p ≡ told) → OnOk result (Appends old new said)
+        → OnErr result (AppendsFront old new said) → Responds limit (refused_or fault now (put text due now)) (or_write_fault result) a b old new
+    put_responds text said due told None (Ok p) e is same stands puts ok all part = record { is = ok ∙ is; stands = stands; puts = puts; text = subst (λ (t : List ℕ). Appends old new t) same all }
+    put_responds text said due told None (Err stop) e is same stands puts ok all part = (subst (λ (t : List ℕ). AppendsFront old new t) same part, puts)
+    put_responds text said due told (Some r) result e is same stands puts ok all part = absurd (cc)
 
     -- an accepted command that was put
     pub done_responds : (command : PlainCommand) (done : Done) (result : Result Put Failed) → commit_fault now.past now.at limit.limit command ≡ None → IsDone now.past command done
-        → StandsAt b limit (put command now).behind → PutBetween a b (command ∷ []) → IfOk result (λ put. is_error put ≡ false) → OnOk result (Appends old new (done_text done))
+        → StandsAt b limit (recorded_with now (command_due command)) → PutBetween a b (command_due command ∷ []) → IfOk result (λ put. put ≡ Command) → OnOk result (Appends old new (done_text done))
         → OnErr result (AppendsFront old new (done_text done)) → Responds limit (command_reply limit command now) (or_write_fault result) a b old new
     done_responds command done result e h stands puts ok all part =
-        subst (λ (f : Fault). Responds limit (refused_or f now (put command now)) (or_write_fault result) a b old new) (sym e) (step result ok all part)
-      where
-        step : (r : Result Put Failed) → IfOk r (λ put. is_error put ≡ false) → OnOk r (Appends old new (done_text done)) → OnErr r (AppendsFront old new (done_text done))
-            → Responds limit (put command now) (or_write_fault r) a b old new
-        step (Ok p) ok all part = record { is = ok; stands = stands; puts = puts; text = subst (λ (t : List ℕ). Appends old new t) (done_said now.past command done h) all }
-        step (Err stop) ok all part = (subst (λ (t : List ℕ). AppendsFront old new t) (done_said now.past command done h) part, puts)
+        put_responds (command_text command now.past (past_with now.past command)) (done_text done) (command_due command) Command (commit_fault now.past now.at limit.limit command) result
+        e refl (done_said now.past command done h) stands puts ok all part
 
-    -- a command that is refused
-    pub refused_responds : (command : PlainCommand) (r : Refusal) (result : Result Put Failed) → commit_fault now.past now.at limit.limit command ≡ Some r → StandsAt b limit now → PutBetween a b []
-        → IfOk result (λ put. is_error put ≡ true) → OnOk result (Appends old new (refusal_text r)) → OnErr result (AppendsFront old new (refusal_text r))
-        → Responds limit (command_reply limit command now) (or_write_fault result) a b old new
-    refused_responds command r result e stands puts ok all part =
-        subst (λ (f : Fault). Responds limit (refused_or f now (put command now)) (or_write_fault result) a b old new) (sym e) (step result ok all part)
+    -- a checkpoint that was put
+    pub stored_responds : (result : Result Put Failed) → checkpoint_fault now.past now.at limit.limit ≡ None → StandsAt b limit (recorded_with now (image_due now.past))
+        → PutBetween a b (image_due now.past ∷ []) → IfOk result (λ put. put ≡ NoError) → OnOk result (Appends old new checkpoint_text)
+        → OnErr result (AppendsFront old new checkpoint_text) → Responds limit (checkpoint_reply limit now) (or_write_fault result) a b old new
+    stored_responds result e stands puts ok all part =
+        put_responds checkpoint_text checkpoint_text (image_due now.past) NoError (checkpoint_fault now.past now.at limit.limit) result e refl refl stands puts ok all part
+
+    -- what is refused
+    pub refused_responds : (r : Refusal) (fault : Fault) (other : Reply) (result : Result Put Failed) → fault ≡ Some r → StandsAt b limit now → PutBetween a b []
+        → IfOk result (λ put. put ≡ ErrorLine) → OnOk result (Appends old new (refusal_text r)) → OnErr result (AppendsFront old new (refusal_text r))
+        → Responds limit (refused_or fault now other) (or_write_fault result) a b old new
+    refused_responds r fault other result e stands puts ok all part =
+        subst (λ (f : Fault). Responds limit (refused_or f now other) (or_write_fault result) a b old new) (sym e) (step result ok all part)
       where
-        step : (x : Result Put Failed) → IfOk x (λ put. is_error put ≡ true) → OnOk x (Appends old new (refusal_text r)) → OnErr x (AppendsFront old new (refusal_text r))
+        step : (x : Result Put Failed) → IfOk x (λ put. put ≡ ErrorLine) → OnOk x (Appends old new (refusal_text r)) → OnErr x (AppendsFront old new (refusal_text r))
             → Responds limit (refused r now) (or_write_fault x) a b old new
         step (Ok p) ok all part = record { is = ok; stands = stands; puts = puts; text = all }
         step (Err stop) ok all part = (part, puts)
 
--- ---- what committing a command does
+-- ---- what putting a record does
 
 pub fault_here : {D : Type 0} {g : Ghosts D} (a : Archive D g) (limit : Given) (now : Recorded) (command : PlainCommand) (fault : Fault) → StandsAt a limit now
     → commit_fault now.past (place_of a) (limit_of a) command ≡ fault → commit_fault now.past now.at limit.limit command ≡ fault
 fault_here a limit now command fault stands e =
     ap (λ n. commit_fault now.past n limit.limit command) (sym stands.place) ∙ ap (λ n. commit_fault now.past (place_of a) n command) (sym stands.limit_is) ∙ e
 
+pub checkpoint_fault_here : {D : Type 0} {g : Ghosts D} (a : Archive D g) (limit : Given) (now : Recorded) (fault : Fault) → StandsAt a limit now
+    → checkpoint_fault now.past (place_of a) (limit_of a) ≡ fault → checkpoint_fault now.past now.at limit.limit ≡ fault
+checkpoint_fault_here a limit now fault stands e =
+    ap (λ n. checkpoint_fault now.past n limit.limit) (sym stands.place) ∙ ap (λ n. checkpoint_fault now.past (place_of a) n) (sym stands.limit_is) ∙ e
+
 module _ {D : Type 0} {g : Ghosts D} (a b : Archive D g) (limit : Given) (now : Recorded) (stands : StandsAt a limit now) where
   -- it stands for what is behind a command that was put
-  pub stands_behind : (command : PlainCommand) → ShowsPast (standing_of b) (past_with now.past command) → place_of b + 1 ≡ place_of a + needs (record_of command) → limit_of b ≡ limit_of a
-      → StandsAt b limit (recorded_with now command)
+  pub stands_behind : (command : PlainCommand) → ShowsPast (standing_of b) (past_with now.past command) → place_of b + 1 ≡ place_of a + needs (record_of (logged command)) → limit_of b ≡ limit_of a
+      → StandsAt b limit (recorded_with now (command_due command))
   stands_behind command shows place same = record { past = shows; place = omega (arith, place, stands.place); limit_is = same ∙ stands.limit_is }
+
+  -- or behind an image, whose past is the same
+  pub stands_stored : (n : ℕ) → n ≡ image_length now.past → ShowsPast (standing_of b) now.past → place_of b + 1 ≡ place_of a + (11 + n) → limit_of b ≡ limit_of a
+      → StandsAt b limit (recorded_with now (image_due now.past))
+  stands_stored n is shows place same = record { past = shows; place = omega (arith, place, stands.place, is); limit_is = same ∙ stands.limit_is }
 
   -- it stands as it stood
   pub stands_still : ShowsPast (standing_of b) now.past → place_of b ≡ place_of a → limit_of b ≡ limit_of a → StandsAt b limit now
@@ -147,13 +171,16 @@ module _ {D : Type 0} {g : Ghosts D} (a b : Archive D g) (limit : Given) (now : 
 
 -- no disk was called
 pub untouched_between : {D : Type 0} {g : Ghosts D} (a b : Archive D g) → IsLawful (below a) → disk_of b ≡ disk_of a → place_of b ≡ place_of a → PutBetween a b []
-untouched_between {D} {g} a b law disk place =
-    subst (λ d. HasPut (below a) (g.meaning d) (place_of a) (place_of b) []) (sym disk)
-    (subst (λ n. HasPut (below a) (below a) (place_of a) n []) (sym place) (put_nothing (below a) (place_of a) law))
+untouched_between {D} {g} a b law disk place = (
+  [],
+  tt,
+  subst (λ d. HasPut (below a) (g.meaning d) (place_of a) (place_of b) []) (sym disk)
+      (subst (λ n. HasPut (below a) (below a) (place_of a) n []) (sym place) (put_nothing (below a) (place_of a) law)),
+)
 
--- an accepted command puts itself
-pub puts_itself : (limit : Given) (now : Recorded) (command : PlainCommand) → commit_fault now.past now.at limit.limit command ≡ None → (command_reply limit command now).puts ≡ command ∷ []
-puts_itself limit now command e = ap (λ (f : Fault). (refused_or f now (put command now)).puts) e
+-- what is not refused puts what is due
+pub puts_itself : (now : Recorded) (fault : Fault) (text : List ℕ) (due : Due) → fault ≡ None → (refused_or fault now (put text due now)).puts ≡ due ∷ []
+puts_itself now fault text due e = ap (λ (f : Fault). (refused_or f now (put text due now)).puts) e
 
 -- it still takes records
 pub still_takes : {D : Type 0} {g : Ghosts D} (a : Archive D g) → (is_broken a ≡ true → ⊥) → IsReady a → TakesRecords a
@@ -186,7 +213,7 @@ module _ {D : Type 0} {g : Ghosts D} (a b : Archive D g) (limit : Given) (now : 
 
   -- what is read as no statement is refused
   pub unread_responds : (r : Refusal) (put : Result Put Failed) (said : Result Put Halt) → Refused r ≡ reading text → said ≡ or_write_fault put → IsLawful (below a) → StandsAt a limit now
-      → IfOk put (λ p. is_error p ≡ true) → OnOk put (Appends u w (refusal_text r)) → OnErr put (AppendsFront u w (refusal_text r)) → Responds limit (reply limit now text) said a a u w
+      → IfOk put (λ p. p ≡ ErrorLine) → OnOk put (Appends u w (refusal_text r)) → OnErr put (AppendsFront u w (refusal_text r)) → Responds limit (reply limit now text) said a a u w
   unread_responds r put said e is law stands ok all part =
       subst (λ x. Responds limit (reply limit now text) x a a u w) (sym is)
       (subst (λ y. Responds limit y (or_write_fault put) a a u w) (reply_is limit now text (Refused r) e)
@@ -194,7 +221,7 @@ module _ {D : Type 0} {g : Ghosts D} (a b : Archive D g) (limit : Given) (now : 
 
   -- or memory ran out
   pub memory_responds : (reply : Reply) → IsLawful (below a) → Responds limit reply (Err NoMemory) a a u u
-  memory_responds reply law = (refl, put_nothing (below a) (place_of a) law)
+  memory_responds reply law = (refl, nothing_between a law)
 
 -- the counts of faults of what is said without a disk
 pub said_halt : (put : Result Put Failed) (said : Result Put Halt) (before now disk : ℕ) → said ≡ or_write_fault put → HasCause before now put → HaltCounted said before now disk disk

@@ -1,29 +1,27 @@
 -- What a sample wrote and left, by how the reading of its script ended.
-use Rattle.std.proofs.Common.{◌≡◌, inl, inr, ◌+◌, ℕ, Bool, true, IsTrue, List, [], ◌++◌, length, refl, sym, ap, ◌∙◌, subst, arith}
+use Rattle.std.proofs.Common.{◌≡◌, inl, inr, ◌+◌, ℕ, Bool, true, List, [], ◌++◌, length, refl, sym, ap, ◌∙◌, subst, arith}
 use Rattle.std.specs.Prelude.{Option, Some, None, Err}
 use Rattle.std.specs.Io.KnownBytes.{Appends, Consumes}
 use Rattle.std.proofs.Math.Seq.{take-length}
 use Rattle.disk_model.specs.Meaning.{Meaning}
-use Rattle.disk_model.specs.Moments.{Turns}
-use Rattle.disk_model.specs.MomentLaws.{turns_weaker}
-use Rattle.journal.specs.Records.{Holds}
-use Rattle.smo_types.specs.Commands.{PlainCommand}
-use Rattle.archive_file.specs.Opening.{Opens, records_of}
+use Rattle.archive_file.specs.LogRecords.{LogRecord}
+use Rattle.archive_file.specs.Opening.{Opens}
 use Rattle.script_parse.specs.Script.{Piece}
 use Rattle.sample_script.specs.Summary.{summary}
+use Rattle.script_cli.specs.Due.{Due, AreRecordsOf, AreFirstOf, commands_due}
 use Rattle.script_cli.specs.Given.{Given}
-use Rattle.script_cli.specs.Output.{Recorded, recorded, output, has_error, script_puts, commands_put, pieces_of}
+use Rattle.script_cli.specs.Output.{Recorded, output, has_error, script_puts, all_puts, pieces_of}
 use Rattle.script_cli.specs.Files.{OpensPrefix, EndsAs}
 use Rattle.script_cli.specs.Halts.{SaidCounted}
 use Rattle.script_cli.specs.Driving.{Drove, CountsPuts, CountsOpening, status_of}
-use Rattle.script_cli.specs.Runs.{Ran, RanOpened, SinkCounted, DiskCounted, begun, is_whole}
+use Rattle.script_cli.specs.Runs.{Ran, RanOpened, SinkCounted, DiskCounted, begun, is_whole, logged_in}
 use Rattle.script_cli.specs.Sampling.{WroteSummary, SampleLeft, Sampled, DroveSample, PutsSummary, ToldBy, EndsSample, told_behind, stop_of, was_read}
 use Rattle.script_cli.specs.declared.halt.Halt.{Halt}
 use Rattle.script_cli.specs.declared.halt.Halt.TheVariants as halt
 use Rattle.script_cli.specs.declared.status.Status.{Status}
 use Rattle.script_cli.specs.declared.status.Status.TheVariants.{Done, Refused, Words, ReadFault, WriteFault, DiskFault, NotAJournal, NoMemory, InputLimit}
 use Rattle.script_cli.proofs.Counting.{counts_whole, start_counted}
-use Rattle.script_cli.proofs.OnDisks.{prefix_of_more}
+use Rattle.script_cli.proofs.DueRecords.{all_first}
 use Rattle.script_cli.proofs.Telling.{told_end, ran_whole, attempted_front}
 
 -- ---- what is told
@@ -103,16 +101,16 @@ disk_stop InputLimit old new counted = counted
 
 -- ---- what is left on the disk
 
-ends_with_all : (status : Status) (opening done put : List PlainCommand) (c : List ℕ) → (status ≡ DiskFault → ⊥) → EndsAs status opening done put c → Opens c (opening ++ put)
-ends_with_all Done opening done put c not_failed ends = ends
-ends_with_all Refused opening done put c not_failed ends = ends
-ends_with_all Words opening done put c not_failed ends = ends
-ends_with_all ReadFault opening done put c not_failed ends = ends
-ends_with_all WriteFault opening done put c not_failed ends = ends
-ends_with_all DiskFault opening done put c not_failed ends = absurd (not_failed refl)
-ends_with_all (NotAJournal place) opening done put c not_failed ends = ends
-ends_with_all NoMemory opening done put c not_failed ends = ends
-ends_with_all InputLimit opening done put c not_failed ends = ends
+ends_with_all : (status : Status) (opening done log : List LogRecord) (c : List ℕ) → (status ≡ DiskFault → ⊥) → EndsAs status opening done log c → Opens c (opening ++ log)
+ends_with_all Done opening done log c not_failed ends = ends
+ends_with_all Refused opening done log c not_failed ends = ends
+ends_with_all Words opening done log c not_failed ends = ends
+ends_with_all ReadFault opening done log c not_failed ends = ends
+ends_with_all WriteFault opening done log c not_failed ends = ends
+ends_with_all DiskFault opening done log c not_failed ends = absurd (not_failed refl)
+ends_with_all (NotAJournal place) opening done log c not_failed ends = ends
+ends_with_all NoMemory opening done log c not_failed ends = ends
+ends_with_all InputLimit opening done log c not_failed ends = ends
 
 whole_not_failed : (status : Status) → is_whole status ≡ true → status ≡ DiskFault → ⊥
 whole_not_failed status e is = let here : is_whole DiskFault ≡ true = subst (λ s. is_whole s ≡ true) is e in cc
@@ -131,8 +129,8 @@ stop_not_read (NotAJournal place) e = cc
 stop_not_read NoMemory e = cc
 stop_not_read InputLimit e = cc
 
-all_of_them : (opening put : List PlainCommand) (c : List ℕ) → Opens c (opening ++ put) → OpensPrefix opening put c
-all_of_them opening put c opens = (length put, omega arith, subst (λ (l : List PlainCommand). Opens c (opening ++ l)) (sym (take-length put)) opens)
+all_of_them : (opening log : List LogRecord) (c : List ℕ) → Opens c (opening ++ log) → OpensPrefix opening log c
+all_of_them opening log c opens = (length log, omega arith, subst (λ (l : List LogRecord). Opens c (opening ++ l)) (sym (take-length log)) opens)
 
 -- a whole reading answered all statements
 none_left : (limit : Given) (start : Recorded) (status : Status) (a c u w : Option (List ℕ)) (ran : Ran limit start status a c u w) → is_whole status ≡ true → pieces_of ran.taken ≡ ran.whole ++ begun status ran.rest
@@ -172,50 +170,44 @@ faulty_taken limit start a c u w text InputLimit ran x y e all = cc
 
 -- what the script puts begins with what was tried
 more_of : (limit : Given) (now : Recorded) (driven : Status) (script : List ℕ) (left : Option (List ℕ)) (taken : List ℕ) (whole rest : List Piece) → Consumes (Some script) left taken → pieces_of taken ≡ whole ++ rest
-    → (more : List PlainCommand) × (script_puts limit now script ≡ commands_put limit now (whole ++ begun driven rest) ++ more)
+    → (more : List Due) × (script_puts limit now script ≡ all_puts limit now (whole ++ begun driven rest) ++ more)
 more_of limit now driven script None taken whole rest k are = absurd k
 more_of limit now driven script (Some ys) taken whole rest k are =
     let f = attempted_front limit now driven taken ys whole rest are in (f.0, ap (script_puts limit now) k ∙ f.1)
 
 module _ (limit : Given) (script : List ℕ) (driven : Status) (left : Option (List ℕ)) (kept : List ℕ) (old new : Meaning) (r : RanOpened limit driven (Some script) left (Some []) (Some kept) old new) where
-  abbrev tried : List PlainCommand → List PlainCommand
-  tried opening = commands_put limit (recorded opening) (r.ran.whole ++ begun driven r.ran.rest)
+  abbrev log : List LogRecord
+  log = logged_in r.log
 
-  abbrev due : List PlainCommand → List PlainCommand
-  due opening = script_puts limit (recorded opening) script
+  -- they are records of the first of what the script puts
+  its_first : AreFirstOf (script_puts limit r.start script) log
+  its_first =
+      let more = more_of limit r.start driven script left r.ran.taken r.ran.whole r.ran.rest r.ran.consumed r.ran.are in
+      subst (λ (l : List Due). AreFirstOf l log) (sym more.1) (all_first (all_puts limit r.start (r.ran.whole ++ begun driven r.ran.rest)) more.0 log r.log.all_are)
 
-  tried_prefix : (opening : List PlainCommand) (c : List ℕ) → OpensPrefix opening (tried opening) c → OpensPrefix opening (due opening) c
-  tried_prefix opening c p =
-      let more = more_of limit (recorded opening) driven script left r.ran.taken r.ran.whole r.ran.rest r.ran.consumed r.ran.are in
-      subst (λ l. OpensPrefix opening l c) (sym more.1) (prefix_of_more opening (tried opening) more.0 c p)
-
-  moment_left : (file : List ℕ) (opening : List PlainCommand) → IsTrue old.is_honest → old.seen ≡ Some file → Opens file opening → Turns old new (OpensPrefix opening (due opening))
-  moment_left file opening honest is opens =
-      turns_weaker old new (OpensPrefix opening (tried opening)) (OpensPrefix opening (due opening)) (r.disk.any_moment file opening honest is opens) (λ c p. tried_prefix opening c p)
-
-  prefix_given : (file : List ℕ) (opening : List PlainCommand) → (driven ≡ DiskFault → ⊥) → old.seen ≡ Some file → Opens file opening → (c : List ℕ) × (new.seen ≡ Some c) × OpensPrefix opening (due opening) c
+  prefix_given : (file : List ℕ) (opening : List LogRecord) → (driven ≡ DiskFault → ⊥) → old.seen ≡ Some file → Opens file opening → (c : List ℕ) × (new.seen ≡ Some c) × OpensPrefix opening log c
   prefix_given file opening not_failed is opens =
       let given = r.disk.given file opening not_failed is opens in
-      (given.0, given.1, tried_prefix opening given.0 (all_of_them opening (tried opening) given.0 (ends_with_all driven opening (commands_put limit (recorded opening) r.ran.whole) (tried opening) given.0 not_failed given.2)))
+      (given.0, given.1, all_of_them opening log given.0 (ends_with_all driven opening r.log.done log given.0 not_failed given.2))
 
   module _ (whole : is_whole driven ≡ true) where
     script_taken : script ≡ r.ran.taken
     script_taken = all_taken limit r.start driven script left (Some []) (Some kept) r.ran whole
 
-    tried_all : (opening : List PlainCommand) → tried opening ≡ due opening
-    tried_all opening =
-        sym (ap (commands_put limit (recorded opening)) (none_left limit r.start driven (Some script) left (Some []) (Some kept) r.ran whole)) ∙ sym (ap (script_puts limit (recorded opening)) script_taken)
+    its_all : AreRecordsOf (script_puts limit r.start script) log
+    its_all = subst (λ (l : List Due). AreRecordsOf l log)
+        (sym (ap (all_puts limit r.start) (none_left limit r.start driven (Some script) left (Some []) (Some kept) r.ran whole)) ∙ sym (ap (script_puts limit r.start) script_taken)) r.log.all_are
 
-    left_whole : (status : Status) → SampleLeft limit script status old new
+    left_whole : (status : Status) → SampleLeft limit script r.start status old new
     left_whole status = record {
-      any_moment = moment_left;
+      log = log;
+      first = its_first;
+      all = λ read. its_all;
+      any_moment = r.disk.any_moment;
       exit = λ file opening read honest is opens c may.
-          subst (λ (l : List PlainCommand). Opens c (opening ++ l)) (tried_all opening)
-          (ends_with_all driven opening (commands_put limit (recorded opening) r.ran.whole) (tried opening) c (whole_not_failed driven whole) (r.disk.exit file opening honest is opens c may));
+          ends_with_all driven opening r.log.done log c (whole_not_failed driven whole) (r.disk.exit file opening honest is opens c may);
       given = λ file opening not_failed is opens. prefix_given file opening (whole_not_failed driven whole) is opens;
-      holds = λ file opening read is opens.
-          let held = r.disk.holds file opening (whole_not_failed driven whole) is opens in
-          (held.0, held.1, subst (λ (l : List PlainCommand). Holds held.0 (records_of (opening ++ l))) (tried_all opening) held.2);
+      holds = λ file opening read is opens. r.disk.holds file opening (whole_not_failed driven whole) is opens;
     }
 
     kept_is : kept ≡ output limit r.start script
@@ -228,23 +220,26 @@ module _ (limit : Given) (script : List ℕ) (driven : Status) (left : Option (L
     wrote_told status text u w (inr (inl (is, less))) = subst (λ s. WroteSummary s text (has_error limit r.start script) u w) (sym is) less
     wrote_told status text u w (inr (inr (is, same))) = subst (λ s. WroteSummary s text (has_error limit r.start script) u w) (sym is) same
 
-  left_stop : SampleLeft limit script (stop_of driven) old new
+  left_stop : SampleLeft limit script r.start (stop_of driven) old new
   left_stop = record {
-    any_moment = moment_left;
+    log = log;
+    first = its_first;
+    all = λ read. absurd (stop_not_read driven read);
+    any_moment = r.disk.any_moment;
     exit = λ file opening read honest is opens c may. absurd (stop_not_read driven read);
     given = λ file opening not_failed is opens. prefix_given file opening (stop_not_failed driven not_failed) is opens;
     holds = λ file opening read is opens. absurd (stop_not_read driven read);
   }
 
   -- the sample, by how the reading of its script ended
-  here : (size count : ℕ) (status : Status) (u w : Option (List ℕ)) → CountsOpening old.seen count → EndsSample driven status (summary size (count + length (script_puts limit r.start script)) kept) u w
+  here : (size count : ℕ) (status : Status) (u w : Option (List ℕ)) → CountsOpening old.seen count → EndsSample driven status (summary size (count + length (commands_due (script_puts limit r.start script))) kept) u w
       → Sampled size limit script status u w old new
   here size count status u w counts (inl (whole, told)) = record {
     start = r.start;
     count = count;
     opened = start_counted old.seen r.start count r.opened counts;
     wrote = wrote_told whole status (told_behind size limit r.start count script) u w
-        (subst (λ k. ToldBy driven status (summary size (count + length (script_puts limit r.start script)) k) u w) (kept_is whole) told);
+        (subst (λ k. ToldBy driven status (summary size (count + length (commands_due (script_puts limit r.start script))) k) u w) (kept_is whole) told);
     disk = left_whole whole status;
   }
   here size count status u w counts (inr (is, same)) = record {
@@ -253,13 +248,13 @@ module _ (limit : Given) (script : List ℕ) (driven : Status) (left : Option (L
     opened = start_counted old.seen r.start count r.opened counts;
     wrote = subst (λ s. WroteSummary s (told_behind size limit r.start count script) (has_error limit r.start script) u w) (sym is)
         (stop_wrote driven (told_behind size limit r.start count script) (has_error limit r.start script) u w same);
-    disk = subst (λ s. SampleLeft limit script s old new) (sym is) left_stop;
+    disk = subst (λ s. SampleLeft limit script r.start s old new) (sym is) left_stop;
   }
 
   pub sample_is : (size count : ℕ) (status : Status) (u w : Option (List ℕ)) (start : Recorded) → r.start ≡ start → CountsOpening old.seen count
-      → EndsSample driven status (summary size (count + length (script_puts limit start script)) kept) u w → Sampled size limit script status u w old new
+      → EndsSample driven status (summary size (count + length (commands_due (script_puts limit start script))) kept) u w → Sampled size limit script status u w old new
   sample_is size count status u w start is counts ended =
-      here size count status u w counts (subst (λ s. EndsSample driven status (summary size (count + length (script_puts limit s script)) kept) u w) (sym is) ended)
+      here size count status u w counts (subst (λ s. EndsSample driven status (summary size (count + length (commands_due (script_puts limit s script))) kept) u w) (sym is) ended)
 
 -- ---- the reading of its script
 
@@ -274,7 +269,7 @@ module _ (size : ℕ) (limit : Given) (script : List ℕ) (start : Recorded) (co
   pub sample_tells : (puts : ℕ) (said : List ℕ) → is_whole driven ≡ true → CountsPuts driven limit start (Some made) puts → said ≡ kept → ToldBy driven status (summary size (count + puts) said) u w
       → DroveSample size limit script start count status u w old new at
   sample_tells puts said whole counts same told =
-      let counted : puts ≡ length (script_puts limit start script) = subst (λ s. puts ≡ length (script_puts limit start s)) is (counts_whole driven limit start (Some made) puts whole counts) in
+      let counted : puts ≡ length (commands_due (script_puts limit start script)) = subst (λ s. puts ≡ length (commands_due (script_puts limit start s))) is (counts_whole driven limit start (Some made) puts whole counts) in
       record {
         driven = driven;
         left = left;

@@ -1,25 +1,27 @@
--- What a sample wrote and left, said of the commands as which the file opened.
-use Rattle.std.proofs.Common.{◌≡◌, ◌⊎◌, inl, inr, ⊎_elim, ◌+◌, ℕ, Bool, true, IsTrue, List, ◌++◌, length, refl, sym, ap, ◌∙◌, subst, length-append}
+-- What a sample wrote and left, said of the records as which the file opened.
+use Rattle.std.proofs.Common.{◌≡◌, ◌⊎◌, inl, inr, ⊎_elim, ℕ, Bool, true, IsTrue, List, [], ◌++◌, length, refl, sym, ap, ◌∙◌, subst, length-append}
 use Rattle.std.specs.Prelude.{Option, Some, None}
 use Rattle.std.specs.Io.KnownBytes.{Appends}
-use Rattle.disk_model.specs.Meaning.{Meaning, Tells, IsLawful, borrowed_as}
+use Rattle.disk_model.specs.Meaning.{Meaning, Tells, borrowed_as}
 use Rattle.disk_model.specs.BorrowLaws.{borrowed_turns}
-use Rattle.disk_model.specs.Moments.{Leaves}
-use Rattle.disk_model.specs.MomentLaws.{turns_weaker}
-use Rattle.journal.specs.Mounting.{SameOrNine}
-use Rattle.smo_types.specs.Commands.{PlainCommand}
+use Rattle.disk_model.specs.Moments.{UntilSynced}
+use Rattle.disk_model.specs.MomentLaws.{turns_weaker, until_weaker}
+use Rattle.smo_meaning.specs.Past.{beginning}
+use Rattle.archive_file.specs.LogRecords.{LogRecord, commands_in, AreSound}
 use Rattle.archive_file.specs.Opening.{Opens, Damages}
-use Rattle.archive_file.proofs.Files.{opens_once}
 use Rattle.sample_script.specs.Summary.{summary}
+use Rattle.script_cli.specs.Due.{Due, AreRecordsOf, AreFirstOf, commands_due}
 use Rattle.script_cli.specs.Given.{Given}
-use Rattle.script_cli.specs.Output.{Recorded, recorded, output, has_error, script_puts}
-use Rattle.script_cli.specs.Files.{OpensPrefix, LeavesPrefix}
-use Rattle.script_cli.specs.Runs.{NotOpened, ToldUnopened, IsUntouched, IsOpening, RefusesFile, SourceCounted, is_whole}
+use Rattle.script_cli.specs.Output.{Recorded, recorded, output, has_error, script_puts, pieces_of}
+use Rattle.script_cli.specs.Files.{OpensPrefix, IsSoundFile, LeavesPrefix}
+use Rattle.script_cli.specs.Runs.{NotOpened, ToldUnopened, IsOpening, RefusesFile, SourceCounted, is_whole}
 use Rattle.script_cli.specs.Sampling.{WroteSummary, SampleLeft, Sampled, IsCounted, told_behind, end_of, was_read}
 use Rattle.script_cli.specs.declared.status.Status.{Status}
 use Rattle.script_cli.specs.declared.status.Status.TheVariants.{Done, Refused, Words, ReadFault, WriteFault, DiskFault, NotAJournal, NoMemory, InputLimit}
-use Rattle.script_cli.proofs.OnDisks.{opens_none_yet}
-use Rattle.script_cli.proofs.Telling.{unopened_not_whole, unopened_damaged, unopened_told, opens_not_damaged}
+use Rattle.script_cli.proofs.OneReading.{OpensOnce, DamagedOnce, NeverBoth}
+use Rattle.script_cli.proofs.OnDisks.{sound_prefix}
+use Rattle.script_cli.proofs.Recording.{first_put_sound}
+use Rattle.script_cli.proofs.Telling.{unopened_not_whole, unopened_damaged, unopened_told, opens_not_damaged, none_left}
 use Rattle.script_cli.proofs.Borrowed.{not_opened_borrowed}
 
 -- the relation of a sample over a disk, for any script
@@ -68,15 +70,15 @@ whole_told (NotAJournal place) text faulty u w e wrote = cc
 whole_told NoMemory text faulty u w e wrote = cc
 whole_told InputLimit text faulty u w e wrote = cc
 
--- ---- the commands of the file
+-- ---- the records of the file
 
 -- where the disk tells it, the start and the count are theirs
-counted_is : (seen : Option (List ℕ)) (start : Recorded) (count : ℕ) (file : List ℕ) (opening : List PlainCommand) → seen ≡ Some file → IsCounted start count seen → Opens file opening
-    → (start ≡ recorded opening) × (count ≡ length opening)
-counted_is seen start count file opening is counted opens =
+counted_is : OpensOnce → (seen : Option (List ℕ)) (start : Recorded) (count : ℕ) (file : List ℕ) (opening : List LogRecord) → seen ≡ Some file → IsCounted start count seen → Opens file opening
+    → (start ≡ recorded opening) × (count ≡ length (commands_in opening))
+counted_is once seen start count file opening is counted opens =
     let here : IsCounted start count (Some file) = subst (IsCounted start count) is counted in
-    let same : here.0 ≡ opening = opens_once file here.0 opening here.1 opens in
-    (here.2 ∙ ap recorded same, here.3 ∙ ap (λ (l : List PlainCommand). length l) same)
+    let same : here.0 ≡ opening = once file here.0 opening here.1 opens in
+    (here.2 ∙ ap recorded same, here.3 ∙ ap (λ (l : List LogRecord). length (commands_in l)) same)
 
 opening_of : (seen : Option (List ℕ)) (start : Recorded) (count : ℕ) → IsCounted start count seen → IsOpening start seen
 opening_of None start count counted = tt
@@ -101,42 +103,61 @@ module _ (size : ℕ) (limit : Given) (script : List ℕ) (status : Status) (a c
       (λ s. absurd (wrote_not_damaged (told_behind size limit s.start s.count script) (has_error limit s.start script) u w status place is s.wrote))
       over
 
-  pub sample_refuses : (file : List ℕ) (place : ℕ) → old.seen ≡ Some file → Damages file place → RefusesFile place status a c
-  sample_refuses file place is damages = ⊎_elim
-      (λ n. record { kept = n.kept; status_is = unopened_damaged status u w f h old.seen new.seen file place is damages n.told })
-      (λ s. absurd (opens_not_damaged old.seen s.start file place is (opening_of old.seen s.start s.count s.opened) damages))
+  pub sample_refuses : DamagedOnce → NeverBoth → (file : List ℕ) (place : ℕ) → old.seen ≡ Some file → Damages file place → RefusesFile place status a c
+  sample_refuses place_once apart file place is damages = ⊎_elim
+      (λ n. record { kept = n.kept; status_is = unopened_damaged place_once status u w f h old.seen new.seen file place is damages n.told })
+      (λ s. absurd (opens_not_damaged apart old.seen s.start file place is (opening_of old.seen s.start s.count s.opened) damages))
       over
 
-  module _ (file : List ℕ) (opening : List PlainCommand) (is : old.seen ≡ Some file) (opens : Opens file opening) where
+  module _ (once : OpensOnce) (file : List ℕ) (opening : List LogRecord) (is : old.seen ≡ Some file) (opens : Opens file opening) where
+    abbrev due : List Due
+    due = script_puts limit (recorded opening) script
+
+    here_of : (s : Sampled size limit script status u w old new) → (s.start ≡ recorded opening) × (s.count ≡ length (commands_in opening))
+    here_of s = counted_is once old.seen s.start s.count file opening is s.opened opens
+
     text_is : (s : Sampled size limit script status u w old new)
-        → told_behind size limit s.start s.count script ≡ summary size (length (opening ++ script_puts limit (recorded opening) script)) (output limit (recorded opening) script)
+        → told_behind size limit s.start s.count script ≡ summary size (length (commands_in opening ++ commands_due due)) (output limit (recorded opening) script)
     text_is s =
-        let here = counted_is old.seen s.start s.count file opening is s.opened opens in
-        ap (λ n. told_behind size limit s.start n script) here.1 ∙ ap (λ x. told_behind size limit x (length opening) script) here.0
-        ∙ ap (λ n. summary size n (output limit (recorded opening) script)) (sym (length-append opening (script_puts limit (recorded opening) script)))
+        let here = here_of s in
+        ap (λ n. told_behind size limit s.start n script) here.1 ∙ ap (λ x. told_behind size limit x (length (commands_in opening)) script) here.0
+        ∙ ap (λ n. summary size n (output limit (recorded opening) script)) (sym (length-append (commands_in opening) (commands_due due)))
 
     pub sample_whole : is_whole status ≡ true
-        → Appends u w (summary size (length (opening ++ script_puts limit (recorded opening) script)) (output limit (recorded opening) script)) × (status ≡ end_of (has_error limit (recorded opening) script))
+        → Appends u w (summary size (length (commands_in opening ++ commands_due due)) (output limit (recorded opening) script)) × (status ≡ end_of (has_error limit (recorded opening) script))
     sample_whole e = ⊎_elim
         (λ n. absurd (unopened_not_whole status u w f h old.seen new.seen n.told e))
         (λ s.
         let told = whole_told status (told_behind size limit s.start s.count script) (has_error limit s.start script) u w e s.wrote in
-        let here = counted_is old.seen s.start s.count file opening is s.opened opens in
-        (subst (Appends u w) (text_is s) told.0, told.1 ∙ ap (λ x. end_of (has_error limit x script)) here.0))
+        (subst (Appends u w) (text_is s) told.0, told.1 ∙ ap (λ x. end_of (has_error limit x script)) (here_of s).0))
         over
 
-    pub sample_crash : IsTrue old.is_honest → LeavesPrefix old new opening (script_puts limit (recorded opening) script)
+    -- its records are of the first of what the script puts behind the opening ones
+    its_first : (s : Sampled size limit script status u w old new) → AreFirstOf due s.disk.log
+    its_first s = subst (λ (n : Recorded). AreFirstOf (script_puts limit n script) s.disk.log) (here_of s).0 s.disk.first
+
+    pub sample_crash : IsTrue old.is_honest → LeavesPrefix old new opening due
     sample_crash honest = ⊎_elim
-        (λ n. ⊎_elim (λ early. inl (early.1 honest))
-        (λ late. inr (turns_weaker old new (SameOrNine file) (OpensPrefix opening (script_puts limit (recorded opening) script)) (late file honest is)
-        (λ x same. opens_none_yet file opening (script_puts limit (recorded opening) script) opens x same))) n.disk)
-        (λ s. inr (s.disk.any_moment file opening honest is opens))
+        (λ n. ([], tt, none_left status file opening old new is opens honest n.disk))
+        (λ s. (s.disk.log, its_first s, inr (s.disk.any_moment file opening honest is opens)))
         over
 
-    pub sample_held : IsTrue old.is_honest → is_whole status ≡ true → (x : List ℕ) → new.may_leave x → Opens x (opening ++ script_puts limit (recorded opening) script)
-    sample_held honest e x may = ⊎_elim
+    pub sample_sound : IsTrue old.is_honest → AreSound beginning opening → UntilSynced old new IsSoundFile
+    sample_sound honest sound = ⊎_elim
+        (λ n. until_weaker old new (OpensPrefix opening []) IsSoundFile (none_left status file opening old new is opens honest n.disk)
+        (λ x p. sound_prefix opening [] sound tt x p))
+        (λ s. inr (turns_weaker old new (OpensPrefix opening s.disk.log) IsSoundFile (s.disk.any_moment file opening honest is opens)
+        (λ x p. sound_prefix opening s.disk.log sound (first_put_sound limit opening (pieces_of script) s.disk.log (its_first s)) x p)))
+        over
+
+    pub sample_held : IsTrue old.is_honest → is_whole status ≡ true → (log : List LogRecord) × AreRecordsOf due log × ((x : List ℕ) → new.may_leave x → Opens x (opening ++ log))
+    sample_held honest e = ⊎_elim
         (λ n. absurd (unopened_not_whole status u w f h old.seen new.seen n.told e))
-        (λ s. s.disk.exit file opening (read_whole status e) honest is opens x may)
+        (λ s. (
+          s.disk.log,
+          subst (λ (n : Recorded). AreRecordsOf (script_puts limit n script) s.disk.log) (here_of s).0 (s.disk.all (read_whole status e)),
+          λ x may. s.disk.exit file opening (read_whole status e) honest is opens x may,
+        ))
         over
       where
         read_whole : (status : Status) → is_whole status ≡ true → was_read status ≡ true
@@ -150,19 +171,15 @@ module _ (size : ℕ) (limit : Given) (script : List ℕ) (status : Status) (a c
         read_whole NoMemory e = cc
         read_whole InputLimit e = cc
 
--- ---- a sample that called no disk
-
-module _ {D : Type 0} (M : D → Meaning) (status : Status) (a c u w : Option (List ℕ)) (disk back : D) (none : IsUntouched status a c u w disk back) where
-  pub leaves_untouched : IsLawful (M disk) → (opening put : List PlainCommand) → LeavesPrefix (M disk) (M back) opening put
-  leaves_untouched law opening put = inl (subst (λ d. Leaves (M disk) (M d) (M disk).may_leave) (sym none.disk) (λ x left. law.only_now x left))
-
 -- ---- over a borrowed disk
 
 module _ (name other : ℕ) (old new : Meaning) where
-  left_borrowed : (limit : Given) (script : List ℕ) (status : Status) → SampleLeft limit script status (borrowed_as name old) (borrowed_as other new) → SampleLeft limit script status old new
-  left_borrowed limit script status d = record {
-    any_moment = λ file opening honest seen opens.
-        borrowed_turns name other old new (OpensPrefix opening (script_puts limit (recorded opening) script)) (d.any_moment file opening honest seen opens);
+  left_borrowed : (limit : Given) (script : List ℕ) (start : Recorded) (status : Status) → SampleLeft limit script start status (borrowed_as name old) (borrowed_as other new) → SampleLeft limit script start status old new
+  left_borrowed limit script start status d = record {
+    log = d.log;
+    first = d.first;
+    all = d.all;
+    any_moment = λ file opening honest seen opens. borrowed_turns name other old new (OpensPrefix opening d.log) (d.any_moment file opening honest seen opens);
     exit = d.exit;
     given = d.given;
     holds = d.holds;
@@ -176,5 +193,5 @@ module _ (name other : ℕ) (old new : Meaning) where
     count = s.count;
     opened = s.opened;
     wrote = s.wrote;
-    disk = left_borrowed limit script status s.disk;
+    disk = left_borrowed limit script s.start status s.disk;
   })

@@ -5,20 +5,22 @@ use Rattle.std.specs.Io.KnownBytes.{Appends}
 use Rattle.std.proofs.KnownBytes.{Appends-trans, Appends-nil}
 use Rattle.disk_model.specs.Meaning.{IsLawful}
 use Rattle.disk_model.specs.declared.disk.Disk.{Ghosts}
-use Rattle.smo_types.specs.Commands.{PlainCommand}
 use Rattle.archive_core.specs.declared.archives.Archive.{Archive}
-use Rattle.archive_core.specs.Fields.{below, place_of}
+use Rattle.archive_core.specs.Fields.{below}
 use Rattle.script_parse.specs.Script.{Piece, pieces_from, tail_from, ending}
 use Rattle.script_parse.specs.Splitting.{found, IsSettled, State}
 use Rattle.script_parse.specs.declared.splitter.Cut.{Cut}
 use Rattle.script_parse.specs.declared.splitter.Cut.TheVariants.{More}
+use Rattle.smo_types.specs.Commands.{PlainCommand}
+use Rattle.script_cli.specs.Due.{Due, commands_due}
 use Rattle.script_cli.specs.Given.{Given}
 use Rattle.script_cli.specs.declared.script_run.ScriptRun.{ScriptRun}
 use Rattle.script_cli.specs.declared.halt.Halt.{Halt}
 use Rattle.script_cli.specs.declared.halt.Halt.TheVariants.{NoMemory}
-use Rattle.script_cli.specs.Output.{Recorded, Reply, piece_reply, replies, commands_put, recorded_after, any_error}
+use Rattle.script_cli.specs.Output.{Recorded, piece_reply, replies, all_puts, recorded_after, any_error}
 use Rattle.script_cli.specs.Shows.{StandsAt, PutBetween, StopsIn, Took, Halted, next_reply, pieces_behind, ending_behind}
-use Rattle.script_cli.proofs.PutsBehind.{put_nothing, put_then}
+use Rattle.script_cli.proofs.PutsBehind.{nothing_between, then_between}
+use Rattle.script_cli.proofs.DueRecords.{commands_append}
 
 pub or_assoc : (a b c : Bool) → (a || (b || c)) ≡ ((a || b) || c)
 or_assoc true b c = refl
@@ -42,12 +44,12 @@ module _ (limit : Given) where
       ap (λ l. (piece_reply limit now x).text ++ l) (replies-append next xs ys)
       ∙ sym (append_assoc (piece_reply limit now x).text (replies limit next xs) (replies limit (recorded_after limit next xs) ys))
 
-  pub put-append : (now : Recorded) (xs ys : List Piece) → commands_put limit now (xs ++ ys) ≡ commands_put limit now xs ++ commands_put limit (recorded_after limit now xs) ys
+  pub put-append : (now : Recorded) (xs ys : List Piece) → all_puts limit now (xs ++ ys) ≡ all_puts limit now xs ++ all_puts limit (recorded_after limit now xs) ys
   put-append now [] ys = refl
   put-append now (x ∷ xs) ys =
       let next = (piece_reply limit now x).behind in
       ap (λ l. (piece_reply limit now x).puts ++ l) (put-append next xs ys)
-      ∙ sym (append_assoc (piece_reply limit now x).puts (commands_put limit next xs) (commands_put limit (recorded_after limit next xs) ys))
+      ∙ sym (append_assoc (piece_reply limit now x).puts (all_puts limit next xs) (all_puts limit (recorded_after limit next xs) ys))
 
   pub error-append : (now : Recorded) (xs ys : List Piece) → any_error limit now (xs ++ ys) ≡ (any_error limit now xs || any_error limit (recorded_after limit now xs) ys)
   error-append now [] ys = refl
@@ -67,7 +69,7 @@ module _ {D : Type 0} {g : Ghosts D} (limit : Given) (now : Recorded) where
     end = λ more. refl;
     stands = stands;
     refused = or_false s.refused;
-    puts = put_nothing (below a) (place_of a) law;
+    puts = nothing_between a law;
     counted = omega arith;
     wrote = Appends-nil w;
   }
@@ -76,7 +78,7 @@ module _ {D : Type 0} {g : Ghosts D} (limit : Given) (now : Recorded) where
   pub took_one : (s t : ScriptRun) (a b : Archive D g) (xs ys : List ℕ) (u v : Option (List ℕ)) (piece : Piece)
       → ((more : List ℕ) → pieces_behind s (xs ++ more) ≡ piece ∷ pieces_behind t (ys ++ more)) → ((more : List ℕ) → ending_behind s (xs ++ more) ≡ ending_behind t (ys ++ more))
       → StandsAt b limit (piece_reply limit now piece).behind → t.refused ≡ (s.refused || (piece_reply limit now piece).is_error) → PutBetween a b (piece_reply limit now piece).puts
-      → t.puts ≡ s.puts + length (piece_reply limit now piece).puts → Appends u v (piece_reply limit now piece).text → Took limit now s t a b xs ys u v
+      → t.puts ≡ s.puts + length (commands_due (piece_reply limit now piece).puts) → Appends u v (piece_reply limit now piece).text → Took limit now s t a b xs ys u v
   took_one s t a b xs ys u v piece cut end stands faulty puts counted wrote = record {
     pieces = piece ∷ [];
     cut = cut;
@@ -84,7 +86,7 @@ module _ {D : Type 0} {g : Ghosts D} (limit : Given) (now : Recorded) where
     stands = stands;
     refused = faulty ∙ ap (λ x. s.refused || x) (or_false (piece_reply limit now piece).is_error);
     puts = subst (PutBetween a b) (sym (append-nil (piece_reply limit now piece).puts)) puts;
-    counted = counted ∙ ap (λ l. s.puts + length l) (sym (append-nil (piece_reply limit now piece).puts));
+    counted = counted ∙ ap (λ (l : List Due). s.puts + length (commands_due l)) (sym (append-nil (piece_reply limit now piece).puts));
     wrote = subst (Appends u v) (sym (append-nil (piece_reply limit now piece).text)) wrote;
   }
 
@@ -100,8 +102,15 @@ module _ {D : Type 0} {g : Ghosts D} (limit : Given) (now : Recorded) where
         refused = m.refused ∙ ap (λ x. x || any_error limit next m.pieces) k.refused ∙ sym (or_assoc s.refused (any_error limit now k.pieces) (any_error limit next m.pieces))
             ∙ ap (λ x. s.refused || x) (sym (error-append limit now k.pieces m.pieces));
         puts = subst (PutBetween a c) (sym (put-append limit now k.pieces m.pieces))
-            (put_then (below a) (below b) (below c) (place_of a) (place_of b) (place_of c) (commands_put limit now k.pieces) (commands_put limit next m.pieces) k.puts m.puts);
-        counted = omega (arith, m.counted, k.counted, ap (λ l. length l) (put-append limit now k.pieces m.pieces), length-append (commands_put limit now k.pieces) (commands_put limit next m.pieces));
+            (then_between a b c (all_puts limit now k.pieces) (all_puts limit next m.pieces) k.puts m.puts);
+        counted = omega (
+          arith,
+          m.counted,
+          k.counted,
+          ap (λ (l : List Due). length (commands_due l)) (put-append limit now k.pieces m.pieces),
+          ap (λ (l : List PlainCommand). length l) (commands_append (all_puts limit now k.pieces) (all_puts limit next m.pieces)),
+          length-append (commands_due (all_puts limit now k.pieces)) (commands_due (all_puts limit next m.pieces)),
+        );
         wrote = subst (Appends u w) (sym (replies-append limit now k.pieces m.pieces)) (Appends-trans u v w (replies limit now k.pieces) (replies limit next m.pieces) k.wrote m.wrote);
       }
 
@@ -119,7 +128,7 @@ module _ {D : Type 0} {g : Ghosts D} (limit : Given) (now : Recorded) where
   }
 
   -- behind statements that were answered the run stopped
-  pub halted_behind : (halt : Halt) (before pieces : List Piece) (a b c : Archive D g) (u v w : Option (List ℕ)) → PutBetween a b (commands_put limit now before)
+  pub halted_behind : (halt : Halt) (before pieces : List Piece) (a b c : Archive D g) (u v w : Option (List ℕ)) → PutBetween a b (all_puts limit now before)
       → Appends u v (replies limit now before) → Halted halt limit (recorded_after limit now before) pieces b c v w → Halted halt limit now (before ++ pieces) a c u w
   halted_behind halt before pieces a b c u v w puts wrote h =
       let next = recorded_after limit now before in record {
@@ -130,7 +139,7 @@ module _ {D : Type 0} {g : Ghosts D} (limit : Given) (now : Recorded) where
         between = h.between;
         wrote = subst (Appends u h.between) (sym (replies-append limit now before h.whole)) (Appends-trans u v h.between (replies limit now before) (replies limit next h.whole) wrote h.wrote);
         puts = subst (PutBetween a h.mid) (sym (put-append limit now before h.whole))
-            (put_then (below a) (below b) (below h.mid) (place_of a) (place_of b) (place_of h.mid) (commands_put limit now before) (commands_put limit next h.whole) puts h.puts);
+            (then_between a b h.mid (all_puts limit now before) (all_puts limit next h.whole) puts h.puts);
         stops = subst (λ n. StopsIn halt (next_reply limit n h.rest) h.mid c h.between w) (sym (after-append limit now before h.whole)) h.stops;
       }
 
@@ -151,14 +160,14 @@ module _ {D : Type 0} {g : Ghosts D} (limit : Given) (now : Recorded) where
     mid = a;
     between = u;
     wrote = Appends-nil u;
-    puts = put_nothing (below a) (place_of a) law;
+    puts = nothing_between a law;
     stops = stops;
   }
 
   -- memory ran out before any of these was answered
   pub halted_memory : (pieces : List Piece) (a : Archive D g) (u : Option (List ℕ)) → IsLawful (below a) → Halted NoMemory limit now pieces a a u u
   halted_memory pieces a u law =
-      halted_first NoMemory pieces a a u u law (refl, put_nothing (below a) (place_of a) law)
+      halted_first NoMemory pieces a a u u law (refl, nothing_between a law)
 
 -- what an answer is in its case
 pub left_none : {T : Type 0} (o : Option T) (A : Type 0) (B : T → Type 0) → o ≡ None → MatchOption o A B → A
@@ -183,14 +192,14 @@ module _ {D : Type 0} {g : Ghosts D} (limit : Given) (now : Recorded) (s t : Scr
     end = λ more. tail more ∙ ap (λ l. ending (tail_from z.mode z.kept (l ++ more))) all ∙ ap (λ z. ending (tail_from z.mode z.kept more)) (sym same);
     stands = stands;
     refused = faulty ∙ or_false s.refused;
-    puts = put_nothing (below a) (place_of a) law;
+    puts = nothing_between a law;
     counted = omega (arith, counted);
     wrote = Appends-nil u;
   }
 
   -- a statement ended, and was answered
   pub took_answer : (piece : Piece) → found cut ≡ piece ∷ [] → StandsAt b limit (piece_reply limit now piece).behind → t.refused ≡ (s.refused || (piece_reply limit now piece).is_error)
-      → PutBetween a b (piece_reply limit now piece).puts → t.puts ≡ s.puts + length (piece_reply limit now piece).puts → Appends u v (piece_reply limit now piece).text → Took limit now s t a b xs ys u v
+      → PutBetween a b (piece_reply limit now piece).puts → t.puts ≡ s.puts + length (commands_due (piece_reply limit now piece).puts) → Appends u v (piece_reply limit now piece).text → Took limit now s t a b xs ys u v
   took_answer piece e stands faulty puts counted wrote = took_one limit now s t a b xs ys u v piece
       (λ more. statements more ∙ ap (λ l. l ++ pieces_from z.mode z.kept (ys ++ more)) e ∙ ap (λ z. piece ∷ pieces_from z.mode z.kept (ys ++ more)) (sym same))
       (λ more. tail more ∙ ap (λ z. ending (tail_from z.mode z.kept (ys ++ more))) (sym same))

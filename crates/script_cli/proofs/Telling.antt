@@ -1,29 +1,32 @@
 -- What a run wrote and left, said of the whole script where the source tells it.
-use Rattle.std.proofs.Common.{◌≡◌, ◌⊎◌, inl, inr, ⊎_elim, ℕ, ◌+◌, ◌≤◌, true, false, IsTrue, List, [], ◌∷◌, ◌++◌, length, take, drop, refl, sym, ap, ◌∙◌, subst, append-nil, append_assoc, take-append-drop}
+use Rattle.std.proofs.Common.{◌≡◌, ◌⊎◌, inl, inr, ⊎_elim, ℕ, true, IsTrue, List, [], ◌∷◌, ◌++◌, drop, refl, sym, ap, ◌∙◌, subst, append-nil, append_assoc, take-append-drop}
 use Rattle.std.specs.Prelude.{Option, Some, None}
-use Rattle.std.specs.Io.KnownBytes.{Consumes, Appends, IsAtEnd, Keeps}
+use Rattle.std.specs.Io.KnownBytes.{Consumes, Appends, IsAtEnd}
 use Rattle.std.proofs.KnownBytes.{Appends-trans, Appends-nil}
 use Rattle.prima_io.specs.Moves.{AppendsFront}
 use Rattle.prima_io.proofs.Fronts.{after, longer, whole as all_of}
 use Rattle.disk_model.specs.Meaning.{Meaning, Tells, IsLawful}
 use Rattle.disk_model.specs.Moments.{Leaves, Turns, UntilSynced}
-use Rattle.disk_model.specs.MomentLaws.{turns_weaker}
+use Rattle.disk_model.specs.MomentLaws.{turns_weaker, until_weaker}
 use Rattle.journal.specs.Mounting.{SameOrNine, IsNotSynced, KeepsFile}
-use Rattle.smo_types.specs.Commands.{PlainCommand}
+use Rattle.smo_meaning.specs.Past.{beginning}
+use Rattle.archive_file.specs.LogRecords.{LogRecord, AreSound}
 use Rattle.archive_file.specs.Opening.{Opens, Damages}
-use Rattle.archive_file.proofs.Files.{opens_once, damaged_once, never_both}
 use Rattle.script_parse.specs.Script.{Piece, pieces_from, tail_of}
+use Rattle.script_cli.specs.Due.{Due, AreRecordsOf, AreFirstOf}
 use Rattle.script_cli.specs.Given.{Given}
-use Rattle.script_cli.specs.Output.{Recorded, recorded, piece_reply, replies, replies_of, commands_put, script_puts, recorded_after, pieces_of, ending_of, output, tail_text}
+use Rattle.script_cli.specs.Output.{Recorded, recorded, piece_reply, replies, replies_of, all_puts, script_puts, recorded_after, pieces_of, ending_of, output, tail_text}
 use Rattle.script_cli.specs.Shows.{next_reply}
-use Rattle.script_cli.specs.Files.{OpensPrefix, LeavesPrefix}
-use Rattle.script_cli.specs.Runs.{Ran, Wrote, WroteTail, OnDisk, RanOpened, IsOpening, NotOpened, ToldUnopened, IsUntouched, RunsOver, RefusesFile, WhereTold, begun, is_whole}
-use Rattle.script_cli.specs.Limits.{longest_script}
+use Rattle.script_cli.specs.Files.{OpensPrefix, IsSoundFile, LeavesPrefix}
+use Rattle.script_cli.specs.Runs.{Ran, WroteTail, RanOpened, IsOpening, ToldUnopened, IsUntouched, RunsOver, RefusesFile, WhereTold, begun, is_whole, logged_in}
 use Rattle.script_cli.specs.declared.status.Status.{Status}
 use Rattle.script_cli.specs.declared.status.Status.TheVariants.{Done, Refused, Words, ReadFault, WriteFault, DiskFault, NotAJournal, NoMemory, InputLimit}
 use Rattle.script_cli.proofs.Taking.{replies-append, put-append}
 use Rattle.script_cli.proofs.Fronts.{mode_after_script, pieces-append}
-use Rattle.script_cli.proofs.OnDisks.{opens_none_yet, prefix_of_more, start_is}
+use Rattle.script_cli.proofs.DueRecords.{all_first}
+use Rattle.script_cli.proofs.OneReading.{OpensOnce, DamagedOnce, NeverBoth}
+use Rattle.script_cli.proofs.Recording.{put_sound}
+use Rattle.script_cli.proofs.OnDisks.{opens_none_yet, sound_prefix, start_is}
 
 nothing_said : (u : Option (List ℕ)) (text : List ℕ) → AppendsFront u u text
 nothing_said u text = ([], text, refl, Appends-nil u)
@@ -125,33 +128,32 @@ begun_is NoMemory rest = (rest, refl)
 begun_is InputLimit rest = (rest, refl)
 
 module _ (limit : Given) (start : Recorded) where
-  puts_begin : (xs ys : List ℕ) → script_puts limit start (xs ++ ys) ≡ script_puts limit start xs ++ commands_put limit (recorded_after limit start (pieces_of xs)) (pieces_from (mode_after_script xs) (tail_of xs) ys)
-  puts_begin xs ys = ap (commands_put limit start) (pieces-append xs ys) ∙ put-append limit start (pieces_of xs) (pieces_from (mode_after_script xs) (tail_of xs) ys)
+  puts_begin : (xs ys : List ℕ) → script_puts limit start (xs ++ ys) ≡ script_puts limit start xs ++ all_puts limit (recorded_after limit start (pieces_of xs)) (pieces_from (mode_after_script xs) (tail_of xs) ys)
+  puts_begin xs ys = ap (all_puts limit start) (pieces-append xs ys) ∙ put-append limit start (pieces_of xs) (pieces_from (mode_after_script xs) (tail_of xs) ys)
 
   -- those that were attempted are the first of those that the script puts
   pub attempted_front : (status : Status) (taken ys : List ℕ) (whole rest : List Piece) → pieces_of taken ≡ whole ++ rest
-      → (more : List PlainCommand) × (script_puts limit start (taken ++ ys) ≡ commands_put limit start (whole ++ begun status rest) ++ more)
+      → (more : List Due) × (script_puts limit start (taken ++ ys) ≡ all_puts limit start (whole ++ begun status rest) ++ more)
   attempted_front status taken ys whole rest are =
       let b = begun_is status rest in
       let first : pieces_of taken ≡ (whole ++ begun status rest) ++ b.0 = are ∙ ap (λ l. whole ++ l) b.1 ∙ sym (append_assoc whole (begun status rest) b.0) in
-      let tried = commands_put limit start (whole ++ begun status rest) in
-      let others = commands_put limit (recorded_after limit start (whole ++ begun status rest)) b.0 in
-      let later = commands_put limit (recorded_after limit start (pieces_of taken)) (pieces_from (mode_after_script taken) (tail_of taken) ys) in (
+      let tried = all_puts limit start (whole ++ begun status rest) in
+      let others = all_puts limit (recorded_after limit start (whole ++ begun status rest)) b.0 in
+      let later = all_puts limit (recorded_after limit start (pieces_of taken)) (pieces_from (mode_after_script taken) (tail_of taken) ys) in (
         others ++ later,
-        puts_begin taken ys ∙ ap (λ l. l ++ later) (ap (commands_put limit start) first ∙ put-append limit start (whole ++ begun status rest) b.0) ∙ append_assoc tried others later,
+        puts_begin taken ys ∙ ap (λ l. l ++ later) (ap (all_puts limit start) first ∙ put-append limit start (whole ++ begun status rest) b.0) ∙ append_assoc tried others later,
       )
 
-prefix_told : (limit : Given) (opening : List PlainCommand) (status : Status) (a c : Option (List ℕ)) (taken : List ℕ) (whole rest : List Piece) (old new : Meaning) → Consumes a c taken → pieces_of taken ≡ whole ++ rest
-    → Turns old new (OpensPrefix opening (commands_put limit (recorded opening) (whole ++ begun status rest)))
-    → WhereTold a (λ script. LeavesPrefix old new opening (script_puts limit (recorded opening) script))
-prefix_told limit opening status None c taken whole rest old new k are turns = tt
-prefix_told limit opening status (Some script) None taken whole rest old new k are turns = absurd k
-prefix_told limit opening status (Some script) (Some ys) taken whole rest old new k are turns =
-    let f = attempted_front limit (recorded opening) status taken ys whole rest are in
-    let tried = commands_put limit (recorded opening) (whole ++ begun status rest) in
-    let all : script_puts limit (recorded opening) script ≡ tried ++ f.0 = ap (script_puts limit (recorded opening)) k ∙ f.1 in
-    inr (turns_weaker old new (OpensPrefix opening tried) (OpensPrefix opening (script_puts limit (recorded opening) script)) turns
-    (λ x p. subst (λ l. OpensPrefix opening l x) (sym all) (prefix_of_more opening tried f.0 x p)))
+module _ (limit : Given) (opening log : List LogRecord) (status : Status) (taken : List ℕ) (whole rest : List Piece) (old new : Meaning) (are : pieces_of taken ≡ whole ++ rest)
+    (its : AreRecordsOf (all_puts limit (recorded opening) (whole ++ begun status rest)) log) (turns : Turns old new (OpensPrefix opening log)) where
+  prefix_told : (a c : Option (List ℕ)) → Consumes a c taken → WhereTold a (λ script. LeavesPrefix old new opening (script_puts limit (recorded opening) script))
+  prefix_told None c k = tt
+  prefix_told (Some script) None k = absurd k
+  prefix_told (Some script) (Some ys) k =
+      let f = attempted_front limit (recorded opening) status taken ys whole rest are in
+      let tried = all_puts limit (recorded opening) (whole ++ begun status rest) in
+      let all : script_puts limit (recorded opening) script ≡ tried ++ f.0 = ap (script_puts limit (recorded opening)) k ∙ f.1 in
+      (log, subst (λ (l : List Due). AreFirstOf l log) (sym all) (all_first tried f.0 log its), inr turns)
 
 told_always : (a : Option (List ℕ)) (P : List ℕ → Type 0) → ((script : List ℕ) → P script) → WhereTold a P
 told_always None P f = tt
@@ -160,18 +162,18 @@ told_always (Some script) P f = f script
 -- ---- a file that was not opened
 
 -- no file that opens is told as damaged, and nothing was written for another fault
-pub unopened_kept : (status : Status) (u w : Option (List ℕ)) (f h : ℕ) (seen then : Option (List ℕ)) (file : List ℕ) (opening : List PlainCommand) → seen ≡ Some file → Opens file opening
+pub unopened_kept : NeverBoth → (status : Status) (u w : Option (List ℕ)) (f h : ℕ) (seen then : Option (List ℕ)) (file : List ℕ) (opening : List LogRecord) → seen ≡ Some file → Opens file opening
     → ToldUnopened status u w f h seen then → w ≡ u
-unopened_kept Done u w f h seen then file opening is opens t = absurd t
-unopened_kept Refused u w f h seen then file opening is opens t = absurd t
-unopened_kept Words u w f h seen then file opening is opens t = absurd t
-unopened_kept ReadFault u w f h seen then file opening is opens t = absurd t
-unopened_kept WriteFault u w f h seen then file opening is opens t = absurd t
-unopened_kept DiskFault u w f h seen then file opening is opens t = t
-unopened_kept (NotAJournal place) u w f h seen then file opening is opens t =
-    absurd (never_both file opening place opens (subst (λ s. Tells s (λ x. Damages x place)) is t.1))
-unopened_kept NoMemory u w f h seen then file opening is opens t = t
-unopened_kept InputLimit u w f h seen then file opening is opens t = absurd t
+unopened_kept apart Done u w f h seen then file opening is opens t = absurd t
+unopened_kept apart Refused u w f h seen then file opening is opens t = absurd t
+unopened_kept apart Words u w f h seen then file opening is opens t = absurd t
+unopened_kept apart ReadFault u w f h seen then file opening is opens t = absurd t
+unopened_kept apart WriteFault u w f h seen then file opening is opens t = absurd t
+unopened_kept apart DiskFault u w f h seen then file opening is opens t = t
+unopened_kept apart (NotAJournal place) u w f h seen then file opening is opens t =
+    absurd (apart file opening place opens (subst (λ s. Tells s (λ x. Damages x place)) is t.1))
+unopened_kept apart NoMemory u w f h seen then file opening is opens t = t
+unopened_kept apart InputLimit u w f h seen then file opening is opens t = absurd t
 
 pub unopened_not_whole : (status : Status) (u w : Option (List ℕ)) (f h : ℕ) (seen then : Option (List ℕ)) → ToldUnopened status u w f h seen then → is_whole status ≡ true → ⊥
 unopened_not_whole Done u w f h seen then t e = t
@@ -185,18 +187,18 @@ unopened_not_whole NoMemory u w f h seen then t e = cc
 unopened_not_whole InputLimit u w f h seen then t e = t
 
 -- where it is damaged, its place is told, unless the disk failed or memory ran out
-pub unopened_damaged : (status : Status) (u w : Option (List ℕ)) (f h : ℕ) (seen then : Option (List ℕ)) (file : List ℕ) (place : ℕ) → seen ≡ Some file → Damages file place
+pub unopened_damaged : DamagedOnce → (status : Status) (u w : Option (List ℕ)) (f h : ℕ) (seen then : Option (List ℕ)) (file : List ℕ) (place : ℕ) → seen ≡ Some file → Damages file place
     → ToldUnopened status u w f h seen then → (status ≡ NotAJournal place) ⊎ ((status ≡ DiskFault) ⊎ (status ≡ NoMemory))
-unopened_damaged Done u w f h seen then file place is damages t = absurd t
-unopened_damaged Refused u w f h seen then file place is damages t = absurd t
-unopened_damaged Words u w f h seen then file place is damages t = absurd t
-unopened_damaged ReadFault u w f h seen then file place is damages t = absurd t
-unopened_damaged WriteFault u w f h seen then file place is damages t = absurd t
-unopened_damaged DiskFault u w f h seen then file place is damages t = inr (inl refl)
-unopened_damaged (NotAJournal p) u w f h seen then file place is damages t =
-    inl (ap NotAJournal (damaged_once file p place (subst (λ s. Tells s (λ x. Damages x p)) is t.1) damages))
-unopened_damaged NoMemory u w f h seen then file place is damages t = inr (inr refl)
-unopened_damaged InputLimit u w f h seen then file place is damages t = absurd t
+unopened_damaged place_once Done u w f h seen then file place is damages t = absurd t
+unopened_damaged place_once Refused u w f h seen then file place is damages t = absurd t
+unopened_damaged place_once Words u w f h seen then file place is damages t = absurd t
+unopened_damaged place_once ReadFault u w f h seen then file place is damages t = absurd t
+unopened_damaged place_once WriteFault u w f h seen then file place is damages t = absurd t
+unopened_damaged place_once DiskFault u w f h seen then file place is damages t = inr (inl refl)
+unopened_damaged place_once (NotAJournal p) u w f h seen then file place is damages t =
+    inl (ap NotAJournal (place_once file p place (subst (λ s. Tells s (λ x. Damages x p)) is t.1) damages))
+unopened_damaged place_once NoMemory u w f h seen then file place is damages t = inr (inr refl)
+unopened_damaged place_once InputLimit u w f h seen then file place is damages t = absurd t
 
 pub unopened_told : (status : Status) (u w : Option (List ℕ)) (f h : ℕ) (seen then : Option (List ℕ)) (place : ℕ) → status ≡ NotAJournal place → ToldUnopened status u w f h seen then
     → Tells seen (λ file. Damages file place)
@@ -204,25 +206,36 @@ unopened_told status u w f h seen then place is t =
     let here = subst (λ s. ToldUnopened s u w f h seen then) is t in here.1
 
 -- a file that opens is not damaged
-pub opens_not_damaged : (seen : Option (List ℕ)) (start : Recorded) (file : List ℕ) (place : ℕ) → seen ≡ Some file → IsOpening start seen → Damages file place → ⊥
-opens_not_damaged seen start file place is opened damages =
-    let here : IsOpening start (Some file) = subst (IsOpening start) is opened in never_both file here.0 place here.1 damages
+pub opens_not_damaged : NeverBoth → (seen : Option (List ℕ)) (start : Recorded) (file : List ℕ) (place : ℕ) → seen ≡ Some file → IsOpening start seen → Damages file place → ⊥
+opens_not_damaged apart seen start file place is opened damages =
+    let here : IsOpening start (Some file) = subst (IsOpening start) is opened in apart file here.0 place here.1 damages
 
 -- of a run that stands as told, no damage is told
 ran_not_damaged : (limit : Given) (start : Recorded) (status : Status) (place : ℕ) (a c u w : Option (List ℕ)) → status ≡ NotAJournal place → Ran limit start status a c u w → ⊥
 ran_not_damaged limit start status place a c u w is ran =
     let here = subst (λ s. Ran limit start s a c u w) is ran in here.wrote
 
+-- nothing was put behind the opening records
+pub none_left : (status : Status) (file : List ℕ) (opening : List LogRecord) (old new : Meaning) → old.seen ≡ Some file → Opens file opening → IsTrue old.is_honest
+    → ((status ≡ DiskFault) × IsNotSynced old new) ⊎ KeepsFile old new → UntilSynced old new (OpensPrefix opening [])
+none_left status file opening old new is opens honest (inl early) = inl (early.1 honest)
+none_left status file opening old new is opens honest (inr late) =
+    inr (turns_weaker old new (SameOrNine file) (OpensPrefix opening []) (late file honest is) (λ x same. opens_none_yet file opening [] opens x same))
+
 -- ---- a run over a disk
 
 module _ (limit : Given) (status : Status) (a c u w : Option (List ℕ)) (f h : ℕ) (old new : Meaning) where
-  module _ (file : List ℕ) (opening : List PlainCommand) (is : old.seen ≡ Some file) (opens : Opens file opening) where
+  module _ (once : OpensOnce) (apart : NeverBoth) (file : List ℕ) (opening : List LogRecord) (is : old.seen ≡ Some file) (opens : Opens file opening) where
     start_here : (r : RanOpened limit status a c u w old new) → r.start ≡ recorded opening
-    start_here r = start_is old.seen r.start file opening is r.opened opens
+    start_here r = start_is once old.seen r.start file opening is r.opened opens
+
+    -- the records are of what the statements put behind the opening ones
+    its_records : (r : RanOpened limit status a c u w old new) → AreRecordsOf (all_puts limit (recorded opening) (r.ran.whole ++ begun status r.ran.rest)) (logged_in r.log)
+    its_records r = subst (λ (n : Recorded). AreRecordsOf (all_puts limit n (r.ran.whole ++ begun status r.ran.rest)) (logged_in r.log)) (start_here r) r.log.all_are
 
     pub front_over : RunsOver limit status a c u w f h old new → WhereTold a (λ script. AppendsFront u w (output limit (recorded opening) script))
     front_over (inl n) = told_always a (λ script. AppendsFront u w (output limit (recorded opening) script))
-        (λ script. kept_front u w (output limit (recorded opening) script) (unopened_kept status u w f h old.seen new.seen file opening is opens n.told))
+        (λ script. kept_front u w (output limit (recorded opening) script) (unopened_kept apart status u w f h old.seen new.seen file opening is opens n.told))
     front_over (inr r) = subst (λ s. WhereTold a (λ script. AppendsFront u w (output limit s script))) (start_here r)
         (ran_front limit r.start status a c u w r.ran)
 
@@ -234,27 +247,36 @@ module _ (limit : Given) (status : Status) (a c u w : Option (List ℕ)) (f h : 
     pub crash_over : IsTrue old.is_honest → RunsOver limit status a c u w f h old new
         → WhereTold a (λ script. LeavesPrefix old new opening (script_puts limit (recorded opening) script))
     crash_over honest (inl n) = told_always a (λ script. LeavesPrefix old new opening (script_puts limit (recorded opening) script))
-        (λ script. ⊎_elim (λ early. inl (early.1 honest))
-        (λ late. let put = script_puts limit (recorded opening) script in
-        inr (turns_weaker old new (SameOrNine file) (OpensPrefix opening put) (late file honest is)
-        (λ x same. opens_none_yet file opening put opens x same))) n.disk)
+        (λ script. ([], tt, none_left status file opening old new is opens honest n.disk))
     crash_over honest (inr r) =
-        prefix_told limit opening status a c r.ran.taken r.ran.whole r.ran.rest old new r.ran.consumed r.ran.are (r.disk.any_moment file opening honest is opens)
+        prefix_told limit opening (logged_in r.log) status r.ran.taken r.ran.whole r.ran.rest old new r.ran.are (its_records r)
+        (r.disk.any_moment file opening honest is opens) a c r.ran.consumed
+
+    pub sound_over : IsTrue old.is_honest → AreSound beginning opening → RunsOver limit status a c u w f h old new → UntilSynced old new IsSoundFile
+    sound_over honest sound (inl n) =
+        until_weaker old new (OpensPrefix opening []) IsSoundFile (none_left status file opening old new is opens honest n.disk) (λ x p. sound_prefix opening [] sound tt x p)
+    sound_over honest sound (inr r) =
+        let log = logged_in r.log in
+        let put = put_sound limit opening (r.ran.whole ++ begun status r.ran.rest) log (its_records r) in
+        inr (turns_weaker old new (OpensPrefix opening log) IsSoundFile (r.disk.any_moment file opening honest is opens) (λ x p. sound_prefix opening log sound put x p))
 
   pub damaged_over : (place : ℕ) → status ≡ NotAJournal place → RunsOver limit status a c u w f h old new → Tells old.seen (λ file. Damages file place)
   damaged_over place is (inl n) = unopened_told status u w f h old.seen new.seen place is n.told
   damaged_over place is (inr r) = absurd (ran_not_damaged limit r.start status place a c u w is r.ran)
 
-  pub refuses_over : (file : List ℕ) (place : ℕ) → old.seen ≡ Some file → Damages file place → RunsOver limit status a c u w f h old new → RefusesFile place status a c
-  refuses_over file place is damages (inl n) = record { kept = n.kept; status_is = unopened_damaged status u w f h old.seen new.seen file place is damages n.told }
-  refuses_over file place is damages (inr r) = absurd (opens_not_damaged old.seen r.start file place is r.opened damages)
+  pub refuses_over : DamagedOnce → NeverBoth → (file : List ℕ) (place : ℕ) → old.seen ≡ Some file → Damages file place → RunsOver limit status a c u w f h old new → RefusesFile place status a c
+  refuses_over place_once apart file place is damages (inl n) = record { kept = n.kept; status_is = unopened_damaged place_once status u w f h old.seen new.seen file place is damages n.told }
+  refuses_over place_once apart file place is damages (inr r) = absurd (opens_not_damaged apart old.seen r.start file place is r.opened damages)
 
 -- ---- a run that called no disk
 
 module _ {D : Type 0} (M : D → Meaning) (status : Status) (a c u w : Option (List ℕ)) (disk back : D) (none : IsUntouched status a c u w disk back) where
-  pub crash_untouched : IsLawful (M disk) → (limit : Given) (opening : List PlainCommand) → WhereTold a (λ script. LeavesPrefix (M disk) (M back) opening (script_puts limit (recorded opening) script))
+  pub untouched_leaves : IsLawful (M disk) → (P : List ℕ → Type 0) → UntilSynced (M disk) (M back) P
+  untouched_leaves law P = inl (subst (λ d. Leaves (M disk) (M d) (M disk).may_leave) (sym none.disk) (λ x left. law.only_now x left))
+
+  pub crash_untouched : IsLawful (M disk) → (limit : Given) (opening : List LogRecord) → WhereTold a (λ script. LeavesPrefix (M disk) (M back) opening (script_puts limit (recorded opening) script))
   crash_untouched law limit opening = told_always a (λ script. LeavesPrefix (M disk) (M back) opening (script_puts limit (recorded opening) script))
-      (λ script. inl (subst (λ d. Leaves (M disk) (M d) (M disk).may_leave) (sym none.disk) (λ x left. law.only_now x left)))
+      (λ script. ([], tt, untouched_leaves law (OpensPrefix opening [])))
 
   pub front_untouched : (limit : Given) (start : Recorded) → WhereTold a (λ script. AppendsFront u w (output limit start script))
   front_untouched limit start = told_always a (λ script. AppendsFront u w (output limit start script)) (λ script. kept_front u w (output limit start script) none.wrote)

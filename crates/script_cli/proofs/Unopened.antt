@@ -1,19 +1,13 @@
 -- A run whose file was not opened, and the counts of one whose file was.
-use Rattle.std.proofs.Common.{◌≡◌, ◌⊎◌, inl, inr, ⊎_elim, ◌≤◌, ℕ, List, refl, sym, ap, subst, ◌∙◌}
+use Rattle.std.proofs.Common.{◌≡◌, inl, inr, ⊎_elim, ℕ, List, refl, ap, subst}
 use Rattle.std.specs.Prelude.{Option, Some, None}
 use Rattle.std.specs.Io.KnownBytes.{Keeps}
-use Rattle.prima_io.specs.Causes.{Rose}
 use Rattle.disk_model.specs.Meaning.{Meaning}
-use Rattle.disk_model.specs.Moments.{GoesOn}
-use Rattle.disk_model.specs.MomentLaws.{goes_trans}
-use Rattle.disk_model.specs.declared.disk.Disk.{Ghosts}
-use Rattle.journal.specs.Mounting.{IsNotSynced, KeepsFile}
 use Rattle.archive_core.specs.declared.faults.MountFault.{MountFault}
 use Rattle.archive_core.specs.declared.faults.MountFault.TheVariants as mounting
 use Rattle.script_cli.specs.Driving.{HasNotOpened, PutsUnopened, status_of_fault}
 use Rattle.script_cli.specs.Runs.{NotOpened, ToldUnopened, SourceCounted, DiskCounted}
 use Rattle.script_cli.specs.declared.status.Status.{Status}
-use Rattle.script_cli.specs.declared.status.Status.TheVariants.{DiskFault}
 
 pub keeps_same : (a : Option (List ℕ)) → Keeps a a
 keeps_same None = tt

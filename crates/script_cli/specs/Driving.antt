@@ -1,5 +1,5 @@
 -- What the parts of a run do.
-use Rattle.std.specs.Prelude.{◌≡◌, ◌⊎◌, ℕ, ◌≤◌, ◌^◌, ◌-◌, min, IsTrue, List, [], ◌++◌, length, Bool, ◌||◌, true, false, Option, Some, None, Result, Ok, Err}
+use Rattle.std.specs.Prelude.{◌≡◌, ◌⊎◌, ℕ, IsTrue, List, [], length, Bool, ◌||◌, true, false, Option, Some}
 use Rattle.std.specs.Io.KnownBytes.{Appends}
 use Rattle.prima_io.specs.Causes.{Rose}
 use Rattle.prima_io.specs.Moves.{AppendsFront}
@@ -8,8 +8,8 @@ use Rattle.disk_model.specs.Moments.{GoesOn}
 use Rattle.disk_model.specs.declared.disk.Disk.{Ghosts}
 use Rattle.journal.specs.Mounting.{IsNotSynced, KeepsFile}
 use Rattle.journal.specs.Standing.{Stands}
-use Rattle.smo_types.specs.Commands.{PlainCommand}
-use Rattle.archive_file.specs.Opening.{Opens, Damages, records_of}
+use Rattle.archive_file.specs.LogRecords.{LogRecord, records_of, commands_in}
+use Rattle.archive_file.specs.Opening.{Opens, Damages}
 use Rattle.archive_state.specs.Standing.{ShowsSome}
 use Rattle.archive_core.specs.declared.archives.Archive.{Archive}
 use Rattle.archive_core.specs.declared.archives.Opened.{Opened}
@@ -18,17 +18,18 @@ use Rattle.archive_core.specs.declared.faults.MountFault.TheVariants as mounting
 use Rattle.archive_core.specs.Fields.{standing_of, below, place_of, limit_of}
 use Rattle.archive_core.specs.Holding.{HoldsAt}
 use Rattle.archive_core.specs.Mounting.{IsMounted}
+use Rattle.script_cli.specs.Due.{commands_due}
 use Rattle.script_cli.specs.Given.{Given}
-use Rattle.script_cli.specs.Output.{Recorded, commands_put, script_puts, tail_text, tail_is_due}
+use Rattle.script_cli.specs.Output.{Recorded, script_puts, tail_text, tail_is_due}
 use Rattle.script_cli.specs.Putting.{HasPut, PutsSome}
 use Rattle.answer_text.specs.Texts.{not_a_journal_text}
-use Rattle.script_cli.specs.Runs.{Ran, PutsLine, WhereTold, begun, counted_limit}
+use Rattle.script_cli.specs.Runs.{Ran, Log, PutsLine, WhereTold, counted_limit, logged_in}
 use Rattle.script_cli.specs.Shows.{TakesRecords, ending_behind}
 use Rattle.script_cli.specs.declared.script_run.ScriptRun.{ScriptRun}
 use Rattle.script_cli.specs.declared.halt.Halt.{Halt}
 use Rattle.script_cli.specs.declared.halt.Halt.TheVariants as halt
 use Rattle.script_cli.specs.declared.status.Status.{Status}
-use Rattle.script_cli.specs.declared.status.Status.TheVariants.{Done, Refused, Words, ReadFault, WriteFault, DiskFault, NotAJournal, NoMemory, InputLimit}
+use Rattle.script_cli.specs.declared.status.Status.TheVariants.{Done, Refused, WriteFault, DiskFault, NotAJournal, NoMemory}
 
 -- an `error` line was put, or is due at the script's end
 abbrev pub is_faulty : ScriptRun → Bool
@@ -48,24 +49,25 @@ status_of halt.DiskFault = DiskFault
 status_of halt.NoMemory = NoMemory
 
 -- these were put, or where the disk failed all of them but the last
-abbrev pub PutBy : Status → Meaning → Meaning → ℕ → List PlainCommand → List PlainCommand → Type 0
-PutBy DiskFault old new at done put = PutsSome old new at done put
-PutBy other old new at done put = (next : ℕ) × HasPut old new at next put
+abbrev pub PutBy : Status → Meaning → Meaning → ℕ → List LogRecord → List LogRecord → Type 0
+PutBy DiskFault old new at done log = PutsSome old new at done log
+PutBy other old new at done log = (next : ℕ) × HasPut old new at next log
 
 -- a script was read over an opened archive
 pub record Drove (limit : Given) (start : Recorded) (status : Status) (left_old left_new written_old written_new : Option (List ℕ)) (old new : Meaning) (at : ℕ) : Type 0 where
   pub ran : Ran limit start status left_old left_new written_old written_new
-  pub puts : PutBy status old new at (commands_put limit start ran.whole) (commands_put limit start (ran.whole ++ begun status ran.rest))
+  pub log : Log limit start status ran.whole ran.rest
+  pub puts : PutBy status old new at log.done (logged_in log)
 
 -- so many commands were put by the script, where it was read to its end
 abbrev pub CountsPuts : Status → Given → Recorded → Option (List ℕ) → ℕ → Type 0
-CountsPuts Done limit start left puts = WhereTold left (λ script. puts ≡ length (script_puts limit start script))
-CountsPuts Refused limit start left puts = WhereTold left (λ script. puts ≡ length (script_puts limit start script))
+CountsPuts Done limit start left puts = WhereTold left (λ script. puts ≡ length (commands_due (script_puts limit start script)))
+CountsPuts Refused limit start left puts = WhereTold left (λ script. puts ≡ length (commands_due (script_puts limit start script)))
 CountsPuts other limit start left puts = Unit {0}
 
 -- so many commands the file has, where the disk tells it
 abbrev pub CountsOpening : Option (List ℕ) → ℕ → Type 0
-CountsOpening seen count = (file : List ℕ) (opening : List PlainCommand) → seen ≡ Some file → Opens file opening → count ≡ length opening
+CountsOpening seen count = (file : List ℕ) (opening : List LogRecord) → seen ≡ Some file → Opens file opening → count ≡ length (commands_in opening)
 
 -- how a run ends whose file was not opened
 abbrev pub status_of_fault : MountFault → Status
@@ -80,15 +82,15 @@ PutsUnopened other written_old written_new faults_old faults_new = written_new �
 
 -- an archive was opened over this disk
 pub record HasOpened {D : Type 0} {g : Ghosts D} (old : Meaning) (limit : ℕ) (archive : Archive D g) : Type 0 where
-  pub mounted : Tells old.seen (λ file. (count : ℕ) × IsMounted file (standing_of archive) (place_of archive) count)
+  pub mounted : Tells old.seen (λ file. (opened : Opened) × IsMounted file (standing_of archive) (place_of archive) opened)
   pub shows : ShowsSome (standing_of archive)
   pub limit_is : limit_of archive ≡ counted_limit limit
   pub takes : TakesRecords archive
   pub goes : GoesOn old (below archive)
   pub unfailed : (below archive).faults ≡ old.faults
   pub turns : KeepsFile old (below archive)
-  pub holds : (file : List ℕ) (opening : List PlainCommand) → old.seen ≡ Some file → Opens file opening → HoldsAt (below archive) (place_of archive) (records_of opening)
-  pub stands : (file : List ℕ) (opening : List PlainCommand) → IsTrue old.is_honest → old.seen ≡ Some file → Opens file opening → Stands (below archive) (place_of archive) (records_of opening)
+  pub holds : (file : List ℕ) (opening : List LogRecord) → old.seen ≡ Some file → Opens file opening → HoldsAt (below archive) (place_of archive) (records_of opening)
+  pub stands : (file : List ℕ) (opening : List LogRecord) → IsTrue old.is_honest → old.seen ≡ Some file → Opens file opening → Stands (below archive) (place_of archive) (records_of opening)
 
 -- none was, and this is why
 pub record HasNotOpened (old new : Meaning) (fault : MountFault) : Type 0 where

@@ -1,6 +1,7 @@
 pub mod Codes
 pub mod Limits
 pub mod Given
+pub mod Due
 pub mod Output
 pub mod Puts
 pub mod Halts
@@ -12,3 +13,4 @@ pub mod Driving
 pub mod Kept
 pub mod Sampling
 pub mod Written
+pub mod Explaining

@@ -10,20 +10,21 @@ use Rattle.script_parse.specs.declared.splitter.Tail.TheVariants as tail
 use Rattle.smo_types.specs.Commands.{PlainBody, changing, evolving, PlainCommand}
 use Rattle.smo_meaning.specs.Checks.{Fault}
 use Rattle.smo_meaning.specs.Effects.{gained, lost}
-use Rattle.smo_meaning.specs.History.{past_of}
 use Rattle.smo_meaning.specs.Past.{Past, newest_database, database_behind, past_with, tables_of}
 use Rattle.piece_meaning.specs.Rules.{Book}
-use Rattle.archive_file.specs.Opening.{record_of, gate_behind}
+use Rattle.archive_file.specs.LogRecords.{LogRecord, gate_behind, past_recorded}
 use Rattle.archive_core.specs.Committing.{commit_fault}
+use Rattle.archive_core.specs.Checkpointing.{checkpoint_fault}
 use Rattle.temporal_lang.specs.Queries.{PlainQuery}
 use Rattle.temporal_lang.specs.Accepted.{version_fault, fault_of_query}
 use Rattle.temporal_lang.specs.Answers.{answer}
-use Rattle.script_parse.specs.Statements.{PlainStatement, write, ask, explain, show_versions, show_schema, show_sizes}
+use Rattle.script_parse.specs.Statements.{PlainStatement, write, ask, explain, show_versions, show_schema, show_sizes, checkpoint}
 use Rattle.script_parse.specs.Reading.{Reading, Blank, Refused, Whole, reading}
 use Rattle.archive_state.specs.declared.archives.Done.{Done}
 use Rattle.archive_state.specs.Asking.{tells_periods, pieces_told}
 use Rattle.answer_text.specs.RefusalTexts.{refusal_text}
-use Rattle.answer_text.specs.Texts.{made_text, changed_text, evolved_text, listing_text, explain_text, versions_text, schema_text, sizes_text}
+use Rattle.answer_text.specs.Texts.{made_text, changed_text, evolved_text, checkpoint_text, listing_text, explain_text, versions_text, schema_text, sizes_text}
+use Rattle.script_cli.specs.Due.{Due, command_due, image_due, due_length, past_behind}
 use Rattle.script_cli.specs.Given.{Given}
 
 -- what stands behind statements: the past, and the place of the gate behind the journal's records
@@ -31,18 +32,18 @@ pub record Recorded : Type 0 where
   pub past : Past
   pub at : ℕ
 
--- behind the records of these commands
-abbrev pub recorded : List PlainCommand → Recorded
-recorded commands = record { past = past_of commands; at = gate_behind commands }
+-- behind these records
+abbrev pub recorded : List LogRecord → Recorded
+recorded log = record { past = past_recorded log; at = gate_behind log }
 
--- with one command more, whose record stands behind the gate
-abbrev pub recorded_with : Recorded → PlainCommand → Recorded
-recorded_with now command = record { past = past_with now.past command; at = now.at + 10 + length (record_of command).1 }
+-- with what is due, whose record stands behind the gate
+abbrev pub recorded_with : Recorded → Due → Recorded
+recorded_with now due = record { past = past_behind now.past due; at = now.at + 10 + due_length due }
 
--- a reply: its bytes; the command that is put, if one is; what stands behind the statement; and whether it is an `error` line
+-- a reply: its bytes; what is put, if anything is; what stands behind the statement; and whether it is an `error` line
 pub record Reply : Type 0 where
   pub text : List ℕ
-  pub puts : List PlainCommand
+  pub puts : List Due
   pub behind : Recorded
   pub is_error : Bool
 
@@ -69,18 +70,23 @@ body_text stamp (evolving op inverse) past next = evolved_text stamp (length nex
 abbrev pub command_text : PlainCommand → Past → Past → List ℕ
 command_text command past next = body_text command.stamp command.body past next
 
--- an accepted command is put
-abbrev pub put : PlainCommand → Recorded → Reply
-put command now = record {
-  text = command_text command now.past (past_with now.past command);
-  puts = command ∷ [];
-  behind = recorded_with now command;
-  is_error = false;
-}
+-- what is due is put, and then its `ok` line
+abbrev pub put : List ℕ → Due → Recorded → Reply
+put text due now = record { text = text; puts = due ∷ []; behind = recorded_with now due; is_error = false }
 
--- it is accepted where its past does not refuse it, and its record ends within the limit
+abbrev pub put_command : PlainCommand → Recorded → Reply
+put_command command now = put (command_text command now.past (past_with now.past command)) (command_due command) now
+
+-- a command is accepted where its past does not refuse it, and its record ends within the limit
 abbrev pub command_reply : Given → PlainCommand → Recorded → Reply
-command_reply limit command now = refused_or (commit_fault now.past now.at limit.limit command) now (put command now)
+command_reply limit command now = refused_or (commit_fault now.past now.at limit.limit command) now (put_command command now)
+
+abbrev pub put_image : Recorded → Reply
+put_image now = put checkpoint_text (image_due now.past) now
+
+-- an image of the past is put where its record ends within the limit
+abbrev pub checkpoint_reply : Given → Recorded → Reply
+checkpoint_reply limit now = refused_or (checkpoint_fault now.past now.at limit.limit) now (put_image now)
 
 abbrev pub query_reply : PlainQuery → Recorded → Reply
 query_reply query now = refused_or (fault_of_query now.past query) now (answered (listing_text (tells_periods query.when) (answer now.past query)) now)
@@ -106,6 +112,7 @@ statement_reply limit (explain query) now = explain_reply limit.book query now
 statement_reply limit show_versions now = versions_reply now
 statement_reply limit (show_schema version) now = schema_reply version now
 statement_reply limit show_sizes now = sizes_reply now
+statement_reply limit checkpoint now = checkpoint_reply limit now
 
 abbrev pub reading_reply : Given → Reading → Recorded → Reply
 reading_reply limit Blank now = answered [] now
@@ -132,15 +139,15 @@ tail_is_due tail.Clean = false
 tail_is_due tail.Unfinished = true
 tail_is_due tail.TooLong = true
 
--- the statements one after the other: their replies, the commands that are put, what stands behind them, and whether an `error` line
--- is among the replies
+-- the statements one after the other: their replies, what is put, what stands behind them, and whether an `error` line is among the
+-- replies
 abbrev pub replies : Given → Recorded → List Piece → List ℕ
 replies limit now [] = []
 replies limit now (p ∷ pieces) = (piece_reply limit now p).text ++ replies limit (piece_reply limit now p).behind pieces
 
-abbrev pub commands_put : Given → Recorded → List Piece → List PlainCommand
-commands_put limit now [] = []
-commands_put limit now (p ∷ pieces) = (piece_reply limit now p).puts ++ commands_put limit (piece_reply limit now p).behind pieces
+abbrev pub all_puts : Given → Recorded → List Piece → List Due
+all_puts limit now [] = []
+all_puts limit now (p ∷ pieces) = (piece_reply limit now p).puts ++ all_puts limit (piece_reply limit now p).behind pieces
 
 abbrev pub recorded_after : Given → Recorded → List Piece → Recorded
 recorded_after limit now [] = now
@@ -170,6 +177,6 @@ output limit now script = replies_of limit now script ++ tail_text (ending_of sc
 abbrev pub has_error : Given → Recorded → List ℕ → Bool
 has_error limit now script = any_error limit now (pieces_of script) || tail_is_due (ending_of script)
 
--- the commands that a script's statements put
-abbrev pub script_puts : Given → Recorded → List ℕ → List PlainCommand
-script_puts limit now script = commands_put limit now (pieces_of script)
+-- what a script's statements put
+abbrev pub script_puts : Given → Recorded → List ℕ → List Due
+script_puts limit now script = all_puts limit now (pieces_of script)

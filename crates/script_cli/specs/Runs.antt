@@ -1,23 +1,23 @@
 -- What a run takes, writes and answers, and what it leaves on the disk.
-use Rattle.std.specs.Prelude.{◌≡◌, ℕ, ◌+◌, ◌≤◌, ◌^◌, ◌-◌, min, IsTrue, List, [], ◌∷◌, ◌++◌, length, take, Bool, ◌⊎◌, ◌||◌, true, false, Option, Some, None}
+use Rattle.std.specs.Prelude.{◌≡◌, ℕ, ◌+◌, ◌≤◌, ◌^◌, ◌-◌, min, IsTrue, List, [], ◌∷◌, ◌++◌, length, take, Bool, ◌⊎◌, true, false, Option, Some, None}
 use Rattle.std.specs.Io.KnownBytes.{Consumes, Appends, IsAtEnd, Keeps}
 use Rattle.prima_io.specs.Causes.{Rose}
 use Rattle.prima_io.specs.Moves.{AppendsFront, AppendsLess}
 use Rattle.disk_model.specs.Meaning.{Meaning, Tells}
 use Rattle.disk_model.specs.Moments.{Turns}
 use Rattle.journal.specs.Mounting.{IsNotSynced, KeepsFile}
-use Rattle.smo_types.specs.Commands.{PlainCommand}
 use Rattle.journal.specs.Records.{Holds}
-use Rattle.archive_file.specs.Opening.{Opens, Damages, records_of}
+use Rattle.archive_file.specs.LogRecords.{LogRecord, records_of}
+use Rattle.archive_file.specs.Opening.{Opens, Damages}
 use Rattle.script_parse.specs.Script.{Piece}
 use Rattle.answer_text.specs.Texts.{wrong_words_text, not_a_journal_text}
 use Rattle.piece_meaning.specs.Rules.{Book}
+use Rattle.script_cli.specs.Due.{Due, AreRecordsOf}
 use Rattle.script_cli.specs.Given.{Given}
-use Rattle.script_cli.specs.Output.{Recorded, recorded, replies, commands_put, recorded_after, pieces_of, ending_of, has_error, tail_text, tail_is_due}
+use Rattle.script_cli.specs.Output.{Recorded, recorded, replies, all_puts, recorded_after, pieces_of, ending_of, has_error, tail_text}
 use Rattle.script_cli.specs.Limits.{longest_script}
-use Rattle.script_cli.specs.Shows.{next_reply, ending_behind}
+use Rattle.script_cli.specs.Shows.{next_reply}
 use Rattle.script_cli.specs.Files.{OpensPrefix, EndsAs}
-use Rattle.script_cli.specs.declared.script_run.ScriptRun.{ScriptRun}
 use Rattle.script_cli.specs.declared.status.Status.{Status}
 use Rattle.script_cli.specs.declared.status.Status.TheVariants.{Done, Refused, Words, ReadFault, WriteFault, DiskFault, NotAJournal, NoMemory, InputLimit}
 
@@ -64,13 +64,13 @@ Wrote ReadFault limit start taken whole rest left old new = (length taken ≤ lo
 Wrote WriteFault limit start taken whole rest left old new =
     (length taken ≤ longest_script) × (AppendsFront old new (next_reply limit (recorded_after limit start whole) rest).text ⊎ WroteTail taken rest left old new)
 Wrote DiskFault limit start taken whole rest left old new =
-    (length taken ≤ longest_script) × (new ≡ old) × ((command : PlainCommand) × ((next_reply limit (recorded_after limit start whole) rest).puts ≡ command ∷ []))
+    (length taken ≤ longest_script) × (new ≡ old) × ((due : Due) × ((next_reply limit (recorded_after limit start whole) rest).puts ≡ due ∷ []))
 Wrote NoMemory limit start taken whole rest left old new = (length taken ≤ longest_script) × (new ≡ old)
 Wrote InputLimit limit start taken whole rest left old new =
     (length taken ≡ longest_script + 1) × (whole ≡ pieces_of (take longest_script taken)) × (new ≡ old)
 Wrote other limit start taken whole rest left old new = ⊥
 
--- the first of the statements that were not answered whole, whose command was put where the sink failed in its reply, and may have
+-- the first of the statements that were not answered whole, whose record was put where the sink failed in its reply, and may have
 -- been where the disk failed
 abbrev pub begun : Status → List Piece → List Piece
 begun WriteFault rest = take 1 rest
@@ -90,29 +90,41 @@ pub record Ran (limit : Given) (start : Recorded) (status : Status) (left_old le
 
 -- ---- what is left on the disk
 
--- Where the file opens as some commands at the start: from the first sync on a crash leaves them and a prefix of those that the
--- statements put which were answered whole, and the next one; at the exit it leaves what the status tells; and so does a read give,
--- unless the disk failed: the header, their records behind one another, and a gate that is not open.
-pub record OnDisk (limit : Given) (status : Status) (whole rest : List Piece) (old new : Meaning) : Type 0 where
-  pub any_moment : (file : List ℕ) (opening : List PlainCommand) → IsTrue old.is_honest → old.seen ≡ Some file → Opens file opening
-      → Turns old new (OpensPrefix opening (commands_put limit (recorded opening) (whole ++ begun status rest)))
-  pub exit : (file : List ℕ) (opening : List PlainCommand) → IsTrue old.is_honest → old.seen ≡ Some file → Opens file opening → (c : List ℕ) → new.may_leave c
-      → EndsAs status opening (commands_put limit (recorded opening) whole) (commands_put limit (recorded opening) (whole ++ begun status rest)) c
-  pub given : (file : List ℕ) (opening : List PlainCommand) → (status ≡ DiskFault → ⊥) → old.seen ≡ Some file → Opens file opening
-      → (c : List ℕ) × (new.seen ≡ Some c) × EndsAs status opening (commands_put limit (recorded opening) whole) (commands_put limit (recorded opening) (whole ++ begun status rest)) c
-  pub holds : (file : List ℕ) (opening : List PlainCommand) → (status ≡ DiskFault → ⊥) → old.seen ≡ Some file → Opens file opening
-      → (c : List ℕ) × (new.seen ≡ Some c) × Holds c (records_of (opening ++ commands_put limit (recorded opening) (whole ++ begun status rest)))
+-- the records that a run put: those of the statements that were answered whole, and behind them that of the one that was begun
+pub record Log (limit : Given) (start : Recorded) (status : Status) (whole rest : List Piece) : Type 0 where
+  pub done : List LogRecord
+  pub begun_with : List LogRecord
+  pub done_are : AreRecordsOf (all_puts limit start whole) done
+  pub all_are : AreRecordsOf (all_puts limit start (whole ++ begun status rest)) (done ++ begun_with)
 
--- the start is that of the commands as which the file opened, where the disk tells it
+-- all of them
+abbrev pub logged_in : {limit : Given} → {start : Recorded} → {status : Status} → {whole rest : List Piece} → Log limit start status whole rest → List LogRecord
+logged_in log = log.done ++ log.begun_with
+
+-- Where the file opens as some records at the start: from the first sync on a crash leaves them and a prefix of those that were put;
+-- at the exit it leaves what the status tells; and so does a read give, unless the disk failed: the header, their records behind one
+-- another, and a gate that is not open.
+pub record OnDisk (status : Status) (done log : List LogRecord) (old new : Meaning) : Type 0 where
+  pub any_moment : (file : List ℕ) (opening : List LogRecord) → IsTrue old.is_honest → old.seen ≡ Some file → Opens file opening
+      → Turns old new (OpensPrefix opening log)
+  pub exit : (file : List ℕ) (opening : List LogRecord) → IsTrue old.is_honest → old.seen ≡ Some file → Opens file opening → (c : List ℕ) → new.may_leave c
+      → EndsAs status opening done log c
+  pub given : (file : List ℕ) (opening : List LogRecord) → (status ≡ DiskFault → ⊥) → old.seen ≡ Some file → Opens file opening
+      → (c : List ℕ) × (new.seen ≡ Some c) × EndsAs status opening done log c
+  pub holds : (file : List ℕ) (opening : List LogRecord) → (status ≡ DiskFault → ⊥) → old.seen ≡ Some file → Opens file opening
+      → (c : List ℕ) × (new.seen ≡ Some c) × Holds c (records_of (opening ++ log))
+
+-- the start is that of the records as which the file opened, where the disk tells it
 abbrev pub IsOpening : Recorded → Option (List ℕ) → Type 0
-IsOpening start seen = Tells seen (λ file. (opening : List PlainCommand) × Opens file opening × (start ≡ recorded opening))
+IsOpening start seen = Tells seen (λ file. (opening : List LogRecord) × Opens file opening × (start ≡ recorded opening))
 
--- the file opened, and the script was run behind its commands
+-- the file opened, and the script was run behind its records
 pub record RanOpened (limit : Given) (status : Status) (left_old left_new written_old written_new : Option (List ℕ)) (old new : Meaning) : Type 0 where
   pub start : Recorded
   pub opened : IsOpening start old.seen
   pub ran : Ran limit start status left_old left_new written_old written_new
-  pub disk : OnDisk limit status ran.whole ran.rest old new
+  pub log : Log limit start status ran.whole ran.rest
+  pub disk : OnDisk status log.done (logged_in log) old new
 
 -- ---- runs that read no script
 

@@ -5,12 +5,13 @@ use Rattle.prima_io.specs.Moves.{AppendsLess}
 use Rattle.disk_model.specs.Meaning.{Meaning, Tells}
 use Rattle.disk_model.specs.Moments.{Turns}
 use Rattle.journal.specs.Records.{Holds}
-use Rattle.smo_types.specs.Commands.{PlainCommand}
-use Rattle.archive_file.specs.Opening.{Opens, records_of}
+use Rattle.archive_file.specs.LogRecords.{LogRecord, records_of, commands_in}
+use Rattle.archive_file.specs.Opening.{Opens}
 use Rattle.program_words.specs.Words.{asked, request}
 use Rattle.program_words.specs.declared.request.Mode.TheVariants.{Sample}
 use Rattle.sample_script.specs.Statements.{sample_script}
 use Rattle.sample_script.specs.Summary.{summary}
+use Rattle.script_cli.specs.Due.{Due, AreRecordsOf, AreFirstOf, commands_due}
 use Rattle.script_cli.specs.Given.{Given}
 use Rattle.script_cli.specs.Output.{Recorded, recorded, output, has_error, script_puts}
 use Rattle.script_cli.specs.Files.{OpensPrefix}
@@ -29,23 +30,23 @@ AsksSample words limit size = asked words ≡ Some (request limit (Sample size))
 
 -- behind so many commands: the size, the commands of the history behind the script, its `error` lines, and its `end` lines
 abbrev pub told_behind : ℕ → Given → Recorded → ℕ → List ℕ → List ℕ
-told_behind size limit start count script = summary size (count + length (script_puts limit start script)) (output limit start script)
+told_behind size limit start count script = summary size (count + length (commands_due (script_puts limit start script))) (output limit start script)
 
--- the same, behind these commands
-abbrev pub sample_told : ℕ → Given → List PlainCommand → List ℕ
-sample_told size limit opening =
-    summary size (length (opening ++ script_puts limit (recorded opening) (sample_script size))) (output limit (recorded opening) (sample_script size))
-
--- the commands that the sample's script puts behind these
-abbrev pub sample_puts : ℕ → Given → List PlainCommand → List PlainCommand
+-- what the sample's script puts behind these records
+abbrev pub sample_puts : ℕ → Given → List LogRecord → List Due
 sample_puts size limit opening = script_puts limit (recorded opening) (sample_script size)
+
+-- what is told behind these records
+abbrev pub sample_told : ℕ → Given → List LogRecord → List ℕ
+sample_told size limit opening =
+    summary size (length (commands_in opening ++ commands_due (sample_puts size limit opening))) (output limit (recorded opening) (sample_script size))
 
 -- how a sample ends that is told whole: by whether its script's replies have an `error` line
 abbrev pub end_of : Bool → Status
 end_of true = Refused
 end_of false = Done
 
-abbrev pub sample_end : ℕ → Given → List PlainCommand → Status
+abbrev pub sample_end : ℕ → Given → List LogRecord → Status
 sample_end size limit opening = end_of (has_error limit (recorded opening) (sample_script size))
 
 -- What was written of this summary, by the status.
@@ -66,32 +67,35 @@ was_read Refused = true
 was_read WriteFault = true
 was_read other = false
 
--- Where the file opens as some commands at the start: from the first sync on a crash leaves them and a prefix of those that the script
+-- Where the file opens as some records at the start: from the first sync on a crash leaves them and a prefix of those of what the script
 -- puts, and so does a read give, unless the disk failed; where the script was read to its end, at the exit a crash leaves all of them,
 -- and a read gives the header, just their records, and a gate that is not open.
-pub record SampleLeft (limit : Given) (script : List ℕ) (status : Status) (old new : Meaning) : Type 0 where
-  pub any_moment : (file : List ℕ) (opening : List PlainCommand) → IsTrue old.is_honest → old.seen ≡ Some file → Opens file opening
-      → Turns old new (OpensPrefix opening (script_puts limit (recorded opening) script))
-  pub exit : (file : List ℕ) (opening : List PlainCommand) → was_read status ≡ true → IsTrue old.is_honest → old.seen ≡ Some file → Opens file opening → (c : List ℕ) → new.may_leave c
-      → Opens c (opening ++ script_puts limit (recorded opening) script)
-  pub given : (file : List ℕ) (opening : List PlainCommand) → (status ≡ DiskFault → ⊥) → old.seen ≡ Some file → Opens file opening
-      → (c : List ℕ) × (new.seen ≡ Some c) × OpensPrefix opening (script_puts limit (recorded opening) script) c
-  pub holds : (file : List ℕ) (opening : List PlainCommand) → was_read status ≡ true → old.seen ≡ Some file → Opens file opening
-      → (c : List ℕ) × (new.seen ≡ Some c) × Holds c (records_of (opening ++ script_puts limit (recorded opening) script))
+pub record SampleLeft (limit : Given) (script : List ℕ) (start : Recorded) (status : Status) (old new : Meaning) : Type 0 where
+  pub log : List LogRecord
+  pub first : AreFirstOf (script_puts limit start script) log
+  pub all : was_read status ≡ true → AreRecordsOf (script_puts limit start script) log
+  pub any_moment : (file : List ℕ) (opening : List LogRecord) → IsTrue old.is_honest → old.seen ≡ Some file → Opens file opening
+      → Turns old new (OpensPrefix opening log)
+  pub exit : (file : List ℕ) (opening : List LogRecord) → was_read status ≡ true → IsTrue old.is_honest → old.seen ≡ Some file → Opens file opening → (c : List ℕ) → new.may_leave c
+      → Opens c (opening ++ log)
+  pub given : (file : List ℕ) (opening : List LogRecord) → (status ≡ DiskFault → ⊥) → old.seen ≡ Some file → Opens file opening
+      → (c : List ℕ) × (new.seen ≡ Some c) × OpensPrefix opening log c
+  pub holds : (file : List ℕ) (opening : List LogRecord) → was_read status ≡ true → old.seen ≡ Some file → Opens file opening
+      → (c : List ℕ) × (new.seen ≡ Some c) × Holds c (records_of (opening ++ log))
 
 -- ---- a sample
 
--- the start is that of the commands as which the file opened, so many, where the disk tells it
+-- the start is that of the records as which the file opened, with so many commands, where the disk tells it
 abbrev pub IsCounted : Recorded → ℕ → Option (List ℕ) → Type 0
-IsCounted start count seen = Tells seen (λ file. (opening : List PlainCommand) × Opens file opening × (start ≡ recorded opening) × (count ≡ length opening))
+IsCounted start count seen = Tells seen (λ file. (opening : List LogRecord) × Opens file opening × (start ≡ recorded opening) × (count ≡ length (commands_in opening)))
 
--- the file opened, and this script was run behind its commands
+-- the file opened, and this script was run behind its records
 pub record Sampled (size : ℕ) (limit : Given) (script : List ℕ) (status : Status) (written_old written_new : Option (List ℕ)) (old new : Meaning) : Type 0 where
   pub start : Recorded
   pub count : ℕ
   pub opened : IsCounted start count old.seen
   pub wrote : WroteSummary status (told_behind size limit start count script) (has_error limit start script) written_old written_new
-  pub disk : SampleLeft limit script status old new
+  pub disk : SampleLeft limit script start status old new
 
 -- the disk was called: the file was not opened, or it was and the script of this size was run
 abbrev pub SamplesOver : ℕ → Given → Status → Option (List ℕ) → Option (List ℕ) → Option (List ℕ) → Option (List ℕ) → ℕ → ℕ → Meaning → Meaning → Type 0
@@ -130,4 +134,4 @@ pub record DroveSample (size : ℕ) (limit : Given) (script : List ℕ) (start :
   pub left : Option (List ℕ)
   pub kept : List ℕ
   pub drove : Drove limit start driven (Some script) left (Some []) (Some kept) old new at
-  pub ended : EndsSample driven status (summary size (count + length (script_puts limit start script)) kept) written_old written_new
+  pub ended : EndsSample driven status (summary size (count + length (commands_due (script_puts limit start script))) kept) written_old written_new

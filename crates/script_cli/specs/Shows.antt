@@ -6,7 +6,7 @@ use Rattle.disk_model.specs.declared.disk.Disk.{Ghosts}
 use Rattle.journal.specs.Standing.{HasGate}
 use Rattle.script_parse.specs.Script.{Piece, pieces_from, tail_from, ending}
 use Rattle.script_parse.specs.declared.splitter.Tail.{Tail}
-use Rattle.smo_types.specs.Commands.{PlainCommand}
+use Rattle.archive_file.specs.LogRecords.{LogRecord}
 use Rattle.archive_state.specs.Standing.{ShowsPast}
 use Rattle.archive_core.specs.declared.archives.Archive.{Archive}
 use Rattle.archive_core.specs.Fields.{standing_of, below, place_of, limit_of, is_broken}
@@ -14,14 +14,19 @@ use Rattle.script_cli.specs.declared.script_run.ScriptRun.{ScriptRun}
 use Rattle.script_cli.specs.declared.put.Put.{Put}
 use Rattle.script_cli.specs.declared.halt.Halt.{Halt}
 use Rattle.script_cli.specs.declared.halt.Halt.TheVariants.{WriteFault, DiskFault, NoMemory}
-use Rattle.script_cli.specs.Puts.{is_error}
+use Rattle.script_cli.specs.Puts.{put_for}
+use Rattle.script_cli.specs.Due.{Due, AreRecordsOf, commands_due}
 use Rattle.script_cli.specs.Given.{Given}
-use Rattle.script_cli.specs.Output.{Recorded, Reply, answered, piece_reply, replies, commands_put, recorded_after, any_error}
+use Rattle.script_cli.specs.Output.{Recorded, Reply, answered, piece_reply, replies, all_puts, recorded_after, any_error}
 use Rattle.script_cli.specs.Putting.{HasPut, MayHavePut}
+
+-- what is put of the reply
+abbrev pub put_of : Reply → Put
+put_of reply = put_for reply.is_error reply.puts
 
 -- The whole reply was put, or a front of it where the sink failed, and nothing where memory ran out; no disk is called.
 abbrev pub Says : Reply → Result Put Halt → Option (List ℕ) → Option (List ℕ) → Type 0
-Says reply (Ok put) old new = (is_error put ≡ reply.is_error) × Appends old new reply.text
+Says reply (Ok put) old new = (put ≡ put_of reply) × Appends old new reply.text
 Says reply (Err WriteFault) old new = AppendsFront old new reply.text
 Says reply (Err DiskFault) old new = ⊥
 Says reply (Err NoMemory) old new = new ≡ old
@@ -50,12 +55,12 @@ module _ {D : Type 0} {g : Ghosts D} where
     pub place : place_of archive ≡ now.at
     pub limit_is : limit_of archive ≡ given.limit
 
-  -- these commands were put between two moments of an archive
-  abbrev pub PutBetween : Archive D g → Archive D g → List PlainCommand → Type 0
-  PutBetween old new put = HasPut (below old) (below new) (place_of old) (place_of new) put
+  -- records of all that is due were put between two moments of an archive
+  abbrev pub PutBetween : Archive D g → Archive D g → List Due → Type 0
+  PutBetween old new due = (log : List LogRecord) × AreRecordsOf due log × HasPut (below old) (below new) (place_of old) (place_of new) log
 
   -- A run stopped in this reply. Where the sink failed, what the statement puts had been put; where the disk failed, nothing of the
-  -- reply was written, and its command was put or not; where memory ran out, nothing of the reply was
+  -- reply was written, and its record was put or not; where memory ran out, nothing of the reply was
   -- written and nothing was put.
   abbrev pub StopsIn : Halt → Reply → Archive D g → Archive D g → Option (List ℕ) → Option (List ℕ) → Type 0
   StopsIn WriteFault reply a b old new = AppendsFront old new reply.text × PutBetween a b reply.puts
@@ -64,7 +69,7 @@ module _ {D : Type 0} {g : Ghosts D} where
 
   -- the whole reply was written, what it puts was put, and the archive stands for what is behind it
   pub record Replied (limit : Given) (reply : Reply) (put : Put) (a b : Archive D g) (written_old written_new : Option (List ℕ)) : Type 0 where
-    pub is : is_error put ≡ reply.is_error
+    pub is : put ≡ put_of reply
     pub stands : StandsAt b limit reply.behind
     pub puts : PutBetween a b reply.puts
     pub text : Appends written_old written_new reply.text
@@ -79,7 +84,7 @@ module _ {D : Type 0} {g : Ghosts D} where
     pub stands : StandsAt b limit reply.behind
     pub refused : new.refused ≡ (old.refused || reply.is_error)
     pub puts : PutBetween a b reply.puts
-    pub counted : new.puts ≡ old.puts + length reply.puts
+    pub counted : new.puts ≡ old.puts + length (commands_due reply.puts)
     pub wrote : Appends written_old written_new reply.text
 
   -- the bytes were taken up to the rest, and the statements that ended in them were answered
@@ -89,8 +94,8 @@ module _ {D : Type 0} {g : Ghosts D} where
     pub end : (more : List ℕ) → ending_behind old (bytes ++ more) ≡ ending_behind new (rest ++ more)
     pub stands : StandsAt b limit (recorded_after limit now pieces)
     pub refused : new.refused ≡ (old.refused || any_error limit now pieces)
-    pub puts : PutBetween a b (commands_put limit now pieces)
-    pub counted : new.puts ≡ old.puts + length (commands_put limit now pieces)
+    pub puts : PutBetween a b (all_puts limit now pieces)
+    pub counted : new.puts ≡ old.puts + length (commands_due (all_puts limit now pieces))
     pub wrote : Appends written_old written_new (replies limit now pieces)
 
   -- some of these statements were answered whole, and the run stopped in the reply to the next, or before any other was whole
@@ -101,5 +106,5 @@ module _ {D : Type 0} {g : Ghosts D} where
     pub mid : Archive D g
     pub between : Option (List ℕ)
     pub wrote : Appends written_old between (replies limit now whole)
-    pub puts : PutBetween a mid (commands_put limit now whole)
+    pub puts : PutBetween a mid (all_puts limit now whole)
     pub stops : StopsIn halt (next_reply limit (recorded_after limit now whole) rest) mid b between written_new

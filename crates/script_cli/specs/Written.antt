@@ -1,17 +1,20 @@
 -- What is so of each statement that stands in a text.
 use Rattle.std.specs.Prelude.{◌<◌, ⊤}
 use Rattle.relations.specs.Spans.{forever}
+use Rattle.piece_meaning.specs.Constants.{LawfulInEvolution}
+use Rattle.query_exec.specs.Constants.{LawfulInQuery}
 use Rattle.script_parse.specs.Reading.{Reading, Blank, Refused, Whole}
-use Rattle.script_parse.specs.Statements.{PlainStatement, write, ask, explain, show_versions, show_schema, show_sizes}
+use Rattle.script_parse.specs.Statements.{PlainStatement, write, ask, explain, show_versions, show_schema, show_sizes, checkpoint}
 
--- a command's stamp is a moment
+-- a command's stamp is a moment, and the constants of what leads to its version and back are lawful; so are those of a query
 abbrev pub IsWritten : PlainStatement → Type 0
-IsWritten (write command) = command.stamp < forever
-IsWritten (ask query) = ⊤
-IsWritten (explain query) = ⊤
+IsWritten (write command) = (command.stamp < forever) × LawfulInEvolution command.body
+IsWritten (ask query) = LawfulInQuery query
+IsWritten (explain query) = LawfulInQuery query
 IsWritten show_versions = ⊤
 IsWritten (show_schema version) = ⊤
 IsWritten show_sizes = ⊤
+IsWritten checkpoint = ⊤
 
 abbrev pub HasWritten : Reading → Type 0
 HasWritten Blank = ⊤

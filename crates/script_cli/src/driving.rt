@@ -60,7 +60,7 @@ fn finish<K: Sink>(script_run: ScriptRun, sink: &mut K) -> Status
 {
     match script_run.finish(sink) {
         Ok(Put::ErrorLine) => Status::Refused,
-        Ok(Put::NoError) => Status::Done,
+        Ok(Put::NoError | Put::Command) => Status::Done,
         Err(Failed) => Status::WriteFault,
     }
 }

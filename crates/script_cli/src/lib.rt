@@ -6,6 +6,7 @@
 #![tactic(auto)]
 
 mod adapters;
+mod checkpointing;
 mod driving;
 mod file_disk;
 mod halt;

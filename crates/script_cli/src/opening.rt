@@ -10,6 +10,7 @@ use crate::driving::drive;
 use crate::status::Status;
 use answer_text::put_not_a_journal;
 use archive_core::{Archive, MountFault, Opened};
+use archive_file::a_file_opens_or_is_damaged;
 use disk_model::Disk;
 use prima_base::Steps;
 use prima_io::{Sink, Source};
@@ -32,6 +33,7 @@ pub(crate) fn mount_counted<D: Disk, L: Ledger>(
     ensures commands { IfOk result (λ it. CountsOpening (D.meaning disk).seen it.1.commands) }
     ensures fault { IfErr result (λ it. HasNotOpened (D.meaning disk) (D.meaning it.0) it.1) }
 {
+    a_file_opens_or_is_damaged();
     let mut steps: Steps<L> = Steps::new(blank);
     match Archive::mount(alloc, disk, limit, &mut steps) {
         Ok((archive, opened)) => Ok((archive, opened)),
@@ -71,6 +73,7 @@ pub(crate) fn run_over<S: Source, K: Sink, D: Disk>(
     ensures sink { SinkCounted result.0 (K.faults sink.old) (K.faults sink.new) }
     ensures disk { DiskCounted result.0 (D.meaning disk).faults (D.meaning result.1).faults }
 {
+    a_file_opens_or_is_damaged();
     match mount_counted::<D, Brand>(alloc, disk, limit, Blank::new(1)) {
         Err((disk, fault)) => (refuse_file(sink, fault), disk),
         Ok((mut archive, _opened)) => {

@@ -1,12 +1,16 @@
 //! What was put of a reply.
 
 ghost use Rattle.std.specs.Prelude.{◌≡◌};
-ghost use Rattle.script_cli.specs.Puts.{is_error};
+ghost use Rattle.script_cli.specs.Puts.{is_error, is_command};
 
-/// What was put of a reply, or of all replies: whether an `error` line was among the lines.
+/// What was put of a reply, or of all replies.
 #[derive(Clone, Copy, PartialEq, Eq)]
 pub(crate) enum Put {
+    /// No `error` line, and no `ok` line of a command.
     NoError,
+    /// The `ok` line of a command.
+    Command,
+    /// An `error` line, whatever else was put.
     ErrorLine,
 }
 
@@ -23,8 +27,18 @@ impl Put {
         ensures { result ≡ is_error self }
     {
         match self {
-            Put::NoError => false,
+            Put::NoError | Put::Command => false,
             Put::ErrorLine => true,
+        }
+    }
+
+    /// Whether the `ok` line of a command was put.
+    pub(crate) fn is_command(self) -> bool
+        ensures { result ≡ is_command self }
+    {
+        match self {
+            Put::Command => true,
+            Put::NoError | Put::ErrorLine => false,
         }
     }
 }

@@ -1,7 +1,7 @@
 //! The response to one statement: what the archive accepts of it, and the reply that is put.
 //!
-//! A command's `ok` line is put when its record is on the disk; a refused statement leaves the archive as it was. The disk is called
-//! for a command alone, before anything of its reply is put.
+//! The `ok` line of a command or a checkpoint is put when its record is on the disk; a refused statement leaves the archive as it was.
+//! The disk is called for these two alone, before anything of the reply is put.
 
 ghost use Rattle.std.specs.Prelude.{◌≡◌, ◌<◌, ◌≤◌, ◌^◌, ℕ, length, map, true, false, OnOk, OnErr, IfOk};
 ghost use Rattle.std.specs.Io.KnownBytes.{Appends};
@@ -23,9 +23,10 @@ ghost use Rattle.answer_text.specs.Texts.{listing_text, explain_text, sizes_text
 ghost use Rattle.script_cli.specs.Given.{Given};
 ghost use Rattle.script_cli.specs.Output.{Recorded, reply, answered, done_text, command_reply, query_reply, explain_reply, versions_reply, schema_reply, sizes_reply, statement_reply};
 ghost use Rattle.script_cli.specs.Halts.{HaltCounted, SaidCounted};
-ghost use Rattle.script_cli.specs.Puts.{is_error};
+ghost use Rattle.script_cli.specs.declared.put.Put.TheVariants as Put;
 ghost use Rattle.script_cli.specs.Shows.{Says, Responds, StandsAt, TakesRecords};
 
+use crate::checkpointing::respond_checkpoint;
 use crate::halt::{Halt, or_write_fault};
 use crate::put::Put;
 use answer_text::{
@@ -34,7 +35,7 @@ use answer_text::{
 };
 use archive_core::{Archive, AskFault, CommitFault, Done};
 use disk_model::Disk;
-use prima_base::{NoMemory, Refusal, Steps};
+use prima_base::{Refusal, Steps};
 use prima_io::{Failed, Sink};
 use rule_book::{Rule, RuleBook};
 use script_parse::{ReadFault, Statement, next_statement};
@@ -43,11 +44,14 @@ use std::alloc::Global;
 use std::marker::Brand;
 use std::sync::ledger::{Blank, Ledger};
 use temporal_lang::Query;
-use version_groups::Groups;
+use version_groups::{Groups, lifelines_are_few};
+
+// A version begins at most two, and there are at most 512 versions.
+const MOST_LIFELINES: u32 = 1024;
 
 /// Puts the line of a refusal.
 pub(crate) fn refuse<K: Sink>(sink: &mut K, refusal: &Refusal) -> Result<Put, Failed>
-    ensures ok { IfOk result (λ put. is_error put ≡ true) }
+    ensures ok { IfOk result (λ put. put ≡ Put.ErrorLine) }
     ensures all { OnOk result (Appends (K.written sink.old) (K.written sink.new) (refusal_text refusal.now)) }
     ensures part { OnErr result (AppendsFront (K.written sink.old) (K.written sink.new) (refusal_text refusal.now)) }
     ensures cause { HasCause (K.faults sink.old) (K.faults sink.new) result }
@@ -60,7 +64,7 @@ pub(crate) fn refuse<K: Sink>(sink: &mut K, refusal: &Refusal) -> Result<Put, Fa
 
 // Puts the `ok` line of an accepted command.
 fn put_done<K: Sink>(sink: &mut K, done: Done) -> Result<Put, Failed>
-    ensures ok { IfOk result (λ put. is_error put ≡ false) }
+    ensures ok { IfOk result (λ put. put ≡ Put.Command) }
     ensures all { OnOk result (Appends (K.written sink.old) (K.written sink.new) (done_text done)) }
     ensures part { OnErr result (AppendsFront (K.written sink.old) (K.written sink.new) (done_text done)) }
     ensures cause { HasCause (K.faults sink.old) (K.faults sink.new) result }
@@ -70,7 +74,7 @@ fn put_done<K: Sink>(sink: &mut K, done: Done) -> Result<Put, Failed>
         Some(version) => put_evolved(sink, done.stamp, version),
     };
     match put {
-        Ok(()) => Ok(Put::NoError),
+        Ok(()) => Ok(Put::Command),
         Err(Failed) => Err(Failed),
     }
 }
@@ -99,7 +103,7 @@ fn respond_write<K: Sink, D: Disk>(
 
 // Puts the lines of an answer.
 fn put_answer<K: Sink>(sink: &mut K, listing: &Listing<'_>) -> Result<Put, Failed>
-    ensures ok { IfOk result (λ put. is_error put ≡ false) }
+    ensures ok { IfOk result (λ put. put ≡ Put.NoError) }
     ensures all { OnOk result (Appends (K.written sink.old) (K.written sink.new) (listing_text listing.now.periods (entries_of listing.now.rows.items))) }
     ensures part { OnErr result (AppendsFront (K.written sink.old) (K.written sink.new) (listing_text listing.now.periods (entries_of listing.now.rows.items))) }
     ensures cause { HasCause (K.faults sink.old) (K.faults sink.new) result }
@@ -214,21 +218,22 @@ fn respond_schema<K: Sink, D: Disk>(
     }
 }
 
-// How many lifelines there are. There is no memory for more of them than a place can number.
-fn count_lifelines(groups: &Groups) -> Result<u32, NoMemory>
-    ensures { (past : Past) → Shows groups.now past → IfOk result (λ n. n ≡ length past.sizes) }
+// How many lifelines there are.
+fn count_lifelines(groups: &Groups) -> u32
+    ensures { (past : Past) → Shows groups.now past → result ≡ length past.sizes }
 {
-    for i in 0..u32::MAX {
+    lifelines_are_few();
+    for i in 0..MOST_LIFELINES {
         if groups.size(i).is_none() {
-            return Ok(i);
+            return i;
         }
     }
-    Err(NoMemory)
+    MOST_LIFELINES
 }
 
 // Puts the lines of the lifelines, which are so many.
 fn put_lifelines<K: Sink>(sink: &mut K, groups: &Groups, count: u32) -> Result<Put, Failed>
-    ensures ok { IfOk result (λ put. is_error put ≡ false) }
+    ensures ok { IfOk result (λ put. put ≡ Put.NoError) }
     ensures all { (past : Past) → Shows groups.now past → count ≡ length past.sizes
         → OnOk result (Appends (K.written sink.old) (K.written sink.new) (sizes_text (length past.versions) past.sizes)) }
     ensures part { (past : Past) → Shows groups.now past → count ≡ length past.sizes
@@ -252,10 +257,8 @@ fn respond_sizes<K: Sink, D: Disk>(archive: &Archive<D>, sink: &mut K) -> Result
     ensures counts { SaidCounted result (K.faults sink.old) (K.faults sink.new) }
 {
     let groups = archive.groups();
-    match count_lifelines(groups) {
-        Ok(count) => or_write_fault(put_lifelines(sink, groups, count)),
-        Err(NoMemory) => Err(Halt::NoMemory),
-    }
+    let count = count_lifelines(groups);
+    or_write_fault(put_lifelines(sink, groups, count))
 }
 
 // Responds to what was read.
@@ -280,10 +283,11 @@ fn respond_statement<K: Sink, D: Disk>(
         Statement::ShowVersions => respond_versions(alloc, archive, sink),
         Statement::ShowSchema(version) => respond_schema(alloc, archive, sink, version),
         Statement::ShowSizes => respond_sizes(archive, sink),
+        Statement::Checkpoint => respond_checkpoint(archive, sink),
     }
 }
 
-/// The response to the statement of these bytes; it answers whether an `error` line was put.
+/// The response to the statement of these bytes; it answers what was put.
 #[tactic(auto, unfolding(crate::specs::Output::reply))]
 pub(crate) fn respond<K: Sink, D: Disk>(
     alloc: Global,

@@ -9,27 +9,30 @@ ghost use Rattle.prima_base.specs.Order.{row_cmp};
 ghost use Rattle.prima_base.specs.declared.refusals.OpKind.{OpKind};
 ghost use Rattle.prima_base.specs.declared.refusals.Refusal.TheVariants.{NoInverse};
 ghost use Rattle.disk_model.specs.Meaning.{Tells};
-ghost use Rattle.disk_model.specs.Moments.{GoesOn};
+ghost use Rattle.disk_model.specs.Moments.{GoesOn, UntilSynced};
 ghost use Rattle.smo_types.specs.Commands.{PlainCommand};
 ghost use Rattle.smo_meaning.specs.Accepts.{command_fault};
-ghost use Rattle.smo_meaning.specs.History.{IsHistory};
-ghost use Rattle.smo_meaning.specs.Past.{database_at, database_behind, past_with};
+ghost use Rattle.smo_meaning.specs.Past.{beginning, database_at, database_behind, past_with};
 ghost use Rattle.temporal_lang.specs.Queries.{PlainQuery, slice_of};
 ghost use Rattle.temporal_lang.specs.Accepted.{fault_of_query, HasNoWayBack};
 ghost use Rattle.temporal_lang.specs.Answers.{asked_at, listing, answer};
 ghost use Rattle.rewrite.specs.Books.{meaning_of, EachOf};
 ghost use Rattle.prima_base.specs.Keeping.{kept};
-ghost use Rattle.archive_file.specs.Opening.{AreCommands, Opens, Damages};
+ghost use Rattle.archive_file.specs.LogRecords.{LogRecord, AreSpelled, AreAccepted, AreSound, past_recorded};
+ghost use Rattle.archive_file.specs.Opening.{Opens, IsSound, Damages};
 ghost use Rattle.script_parse.specs.Script.{Piece, statements_of, tail_of};
 ghost use Rattle.script_parse.specs.Joining.{Each};
 ghost use Rattle.script_parse.specs.Lexing.{TextsAreLexed};
-ghost use Rattle.script_parse.specs.Reading.{IsReading, LimitsAreKept, ReadingsAreOne, StatementsAreRead, reading};
+ghost use Rattle.script_parse.specs.Reading.{IsReading, LimitsAreKept, ReadingsAreOne, StatementsAreRead, Whole, reading};
+ghost use Rattle.script_parse.specs.Statements.{explain};
 ghost use Rattle.script_laws.specs.Parts.{IsOpenFault, IsScript};
+ghost use Rattle.script_cli.specs.Due.{AreRecordsOf};
+ghost use Rattle.script_cli.specs.Explaining.{TellsPieces};
 ghost use Rattle.script_cli.specs.Given.{Given};
-ghost use Rattle.script_cli.specs.Output.{Recorded, recorded, output, script_puts, commands_put, recorded_after, reply, is_error_line};
+ghost use Rattle.script_cli.specs.Output.{Recorded, recorded, output, script_puts, all_puts, recorded_after, reply, is_error_line};
 ghost use Rattle.program_words.specs.Words.{asked, asked_for, limit_of_run};
 ghost use Rattle.program_words.specs.declared.request.Mode.TheVariants.{Sample};
-ghost use Rattle.script_cli.specs.Files.{LeavesPrefix};
+ghost use Rattle.script_cli.specs.Files.{IsSoundFile, LeavesPrefix};
 ghost use Rattle.script_cli.specs.Runs.{IsUntouched, RunsOver, RefusedWords, RefusesFile, SourceCounted, SinkCounted, DiskCounted, WhereTold, given_by, is_whole};
 ghost use Rattle.script_cli.specs.Sampling.{AsksSample, SamplesOver, sample_told, sample_puts, sample_end};
 ghost use Rattle.script_cli.specs.declared.status.Status.TheVariants as Status;
@@ -40,6 +43,7 @@ use crate::status::Status;
 use crate::words::{Word, refuse_words};
 use archive_file::a_file_opens_or_is_damaged;
 use disk_model::Disk;
+use image_spelling::an_image_shows_a_past;
 use prima_base::NoMemory;
 use prima_io::{Sink, Source};
 use program_words::{Mode, Request, asked};
@@ -155,13 +159,13 @@ fn judge_and_run<S: Source, K: Sink, D: Disk>(
     }
 }
 
-/// Runs a script over the archive on a disk: reads it from the source to its end, puts the accepted commands as records on the disk,
-/// and the replies into the sink, each statement's when it ends. The words are judged first; then the disk is opened; then the
-/// script is read. The first fault ends the run. The book has a rule for each kind of operator, by which queries are taken from
+/// Runs a script over the archive on a disk: reads it from the source to its end, puts the records of accepted commands and of
+/// checkpoints on the disk, and the replies into the sink, each statement's when it ends. The words are judged first; then the disk is
+/// opened; then the script is read. The first fault ends the run. The book has a rule for each kind of operator, by which queries are taken from
 /// version to version. Where the words ask for a sample, the script is the one that is made from its size, nothing is taken from the
 /// source, and the summary of the replies is put in their place.
 ///
-/// `output` is defined over the script's bytes, however they are cut, and what stood behind the opening commands: the replies to its
+/// `output` is defined over the script's bytes, however they are cut, and what stood behind the opening records: the replies to its
 /// statements in order, then the line for what stands behind the last `;`. Laws say what it is made of:
 /// - `splits` and `once`: the statements and the tail are the one reading of the script, cut at each `;` that
 ///   stands in no text and no comment;
@@ -171,11 +175,12 @@ fn judge_and_run<S: Source, K: Sink, D: Disk>(
 ///   or token from which no statement goes on, or for what is too much;
 /// - `readable` and `only`: each statement of the grammar is read, and no text is read otherwise;
 /// - `limits`: what is too much is refused at the token at which it is;
-/// - `records`: what stands behind statements is the past of the opening commands with those that were put, each accepted after those
-///   before it, and the gate behind their records;
+/// - `records`: what stands behind statements is the past of the opening records with those of what was put, of which each command is
+///   accepted after what stands before it and each image shows just the past before it, and the gate behind them;
 /// - `seen`: an accepted command changes the database of each moment from its stamp on, and of no other;
 /// - `answers`: a query lists each row with the longest periods in which it holds, moment by moment, in the databases
 ///   carried to the version that it names;
+/// - `explains`: an EXPLAIN tells just the pieces of the query that are not dead;
 /// - `inverse`: a query is refused for want of a way back only by an operator on the way that names no inverse;
 /// - `errors`: just the refused statements have an `error` line.
 pub fn run<S: Source, K: Sink, D: Disk>(
@@ -214,30 +219,39 @@ pub fn run<S: Source, K: Sink, D: Disk>(
         → Damages file place → RefusesFile place result (S.left source.old) (S.left source.new) }
 
     // Whatever happens, a front of the script's output is written, and all of it where the script was read to its end.
-    ensures front { (limit : ℕ) → (file : List ℕ) → (opening : List PlainCommand) → asked_for (map string_bytes words.now) ≡ Some limit
+    ensures front { (limit : ℕ) → (file : List ℕ) → (opening : List LogRecord) → asked_for (map string_bytes words.now) ≡ Some limit
         → (D.meaning disk.old).seen ≡ Some file → Opens file opening
         → WhereTold (S.left source.old) (λ script. AppendsFront (K.written sink.old) (K.written sink.new) (output (given_by limit (meaning_of book.now.rules.items (λ r. handles (r.vtable, r.value)) (λ r. answers (r.vtable, r.value)))) (recorded opening) script)) }
-    ensures whole { (limit : ℕ) → (file : List ℕ) → (opening : List PlainCommand) → asked_for (map string_bytes words.now) ≡ Some limit
+    ensures whole { (limit : ℕ) → (file : List ℕ) → (opening : List LogRecord) → asked_for (map string_bytes words.now) ≡ Some limit
         → (D.meaning disk.old).seen ≡ Some file → Opens file opening → is_whole result ≡ true
         → WhereTold (S.left source.old) (λ script. Appends (K.written sink.old) (K.written sink.new) (output (given_by limit (meaning_of book.now.rules.items (λ r. handles (r.vtable, r.value)) (λ r. answers (r.vtable, r.value)))) (recorded opening) script)) }
 
     // A sample that ends well wrote just the summary of the output of its script, and is refused exactly where that has an `error` line.
     // Each file that a crash may then leave has all that the script's statements put.
-    ensures summary { (limit : ℕ) → (size : ℕ) → (file : List ℕ) → (opening : List PlainCommand) → AsksSample (map string_bytes words.now) limit size
+    ensures summary { (limit : ℕ) → (size : ℕ) → (file : List ℕ) → (opening : List LogRecord) → AsksSample (map string_bytes words.now) limit size
         → (D.meaning disk.old).seen ≡ Some file → Opens file opening → is_whole result ≡ true
         → Appends (K.written sink.old) (K.written sink.new) (sample_told size (given_by limit (meaning_of book.now.rules.items (λ r. handles (r.vtable, r.value)) (λ r. answers (r.vtable, r.value)))) opening) × (result ≡ sample_end size (given_by limit (meaning_of book.now.rules.items (λ r. handles (r.vtable, r.value)) (λ r. answers (r.vtable, r.value)))) opening) }
-    ensures held { (limit : ℕ) → (size : ℕ) → (file : List ℕ) → (opening : List PlainCommand) → AsksSample (map string_bytes words.now) limit size
+    ensures held { (limit : ℕ) → (size : ℕ) → (file : List ℕ) → (opening : List LogRecord) → AsksSample (map string_bytes words.now) limit size
         → IsTrue (D.meaning disk.old).is_honest → (D.meaning disk.old).seen ≡ Some file → Opens file opening → is_whole result ≡ true
-        → (c : List ℕ) → (D.meaning disk.new).may_leave c → Opens c (opening ++ sample_puts size (given_by limit (meaning_of book.now.rules.items (λ r. handles (r.vtable, r.value)) (λ r. answers (r.vtable, r.value)))) opening) }
+        → (log : List LogRecord) × AreRecordsOf (sample_puts size (given_by limit (meaning_of book.now.rules.items (λ r. handles (r.vtable, r.value)) (λ r. answers (r.vtable, r.value)))) opening) log
+        × ((c : List ℕ) → (D.meaning disk.new).may_leave c → Opens c (opening ++ log)) }
 
     // Wherever the run is stopped: until its first sync has succeeded a crash leaves what it might have left before, and from then on,
-    // at each moment, a file that opens as the opening commands and a prefix of those that the script's statements put.
-    ensures crash { (limit : ℕ) → (file : List ℕ) → (opening : List PlainCommand) → asked_for (map string_bytes words.now) ≡ Some limit
+    // at each moment, a file that opens as the opening records and a prefix of those of what the script's statements put.
+    ensures crash { (limit : ℕ) → (file : List ℕ) → (opening : List LogRecord) → asked_for (map string_bytes words.now) ≡ Some limit
         → IsTrue (D.meaning disk.old).is_honest → (D.meaning disk.old).seen ≡ Some file → Opens file opening
         → WhereTold (S.left source.old) (λ script. LeavesPrefix (D.meaning disk.old) (D.meaning disk.new) opening (script_puts (given_by limit (meaning_of book.now.rules.items (λ r. handles (r.vtable, r.value)) (λ r. answers (r.vtable, r.value)))) (recorded opening) script)) }
-    ensures sample_crash { (limit : ℕ) → (size : ℕ) → (file : List ℕ) → (opening : List PlainCommand) → AsksSample (map string_bytes words.now) limit size
+    ensures sample_crash { (limit : ℕ) → (size : ℕ) → (file : List ℕ) → (opening : List LogRecord) → AsksSample (map string_bytes words.now) limit size
         → IsTrue (D.meaning disk.old).is_honest → (D.meaning disk.old).seen ≡ Some file → Opens file opening
         → LeavesPrefix (D.meaning disk.old) (D.meaning disk.new) opening (sample_puts size (given_by limit (meaning_of book.now.rules.items (λ r. handles (r.vtable, r.value)) (λ r. answers (r.vtable, r.value)))) opening) }
+
+    // Where the file was sound, so is each that is left.
+    ensures sound { (limit : ℕ) → (file : List ℕ) → (opening : List LogRecord) → asked_for (map string_bytes words.now) ≡ Some limit
+        → IsTrue (D.meaning disk.old).is_honest → (D.meaning disk.old).seen ≡ Some file → IsSound file opening
+        → UntilSynced (D.meaning disk.old) (D.meaning disk.new) IsSoundFile }
+    ensures sample_sound { (limit : ℕ) → (size : ℕ) → (file : List ℕ) → (opening : List LogRecord) → AsksSample (map string_bytes words.now) limit size
+        → IsTrue (D.meaning disk.old).is_honest → (D.meaning disk.old).seen ≡ Some file → IsSound file opening
+        → UntilSynced (D.meaning disk.old) (D.meaning disk.new) IsSoundFile }
 
     // A fault is answered only where the count of its object rose in this call, and with any
     // other status the count is as it was.
@@ -263,28 +277,37 @@ pub fn run<S: Source, K: Sink, D: Disk>(
     // The tokens of a text, or its first lexical fault, are the one list, or the one fault, of the lexer's relation.
     ensures lexes { TextsAreLexed }
 
-    // Behind statements stands the past of the opening commands with those that were put, each of which was accepted after those before
-    // it; and the gate stands behind their records.
-    ensures records { (limit : Given) → (opening : List PlainCommand) → (statements : List Piece) → IsHistory opening
-        → let put = commands_put limit (recorded opening) statements in
-        (recorded_after limit (recorded opening) statements ≡ recorded (opening ++ put)) × IsHistory (opening ++ put) }
+    // Behind statements stands the past of the opening records with those of what was put, and the gate stands behind them: each command
+    // was accepted after what stands before it, and each image shows just the past before it. So a file that they make opens, and is sound
+    // where the opening records are.
+    ensures records { (limit : Given) → (opening : List LogRecord) → (statements : List Piece) → (log : List LogRecord)
+        → AreRecordsOf (all_puts limit (recorded opening) statements) log
+        → (recorded_after limit (recorded opening) statements ≡ recorded (opening ++ log)) × AreSound (past_recorded opening) log
+        × (AreAccepted beginning opening → AreAccepted beginning (opening ++ log)) × (AreSound beginning opening → AreSound beginning (opening ++ log)) }
 
     // The answer to a query that is not refused, behind some statements: the one list of what is asked of each moment of its slice, each
     // row with its longest periods, of which the entries stay that meet every condition of KEEP. What is asked of a moment is asked of that
     // moment's database, carried to the version that the query names.
-    ensures answers { (limit : Given) → (opening : List PlainCommand) → (statements : List Piece) → (query : PlainQuery) → AreCommands opening → IsHistory opening
+    ensures answers { (limit : Given) → (opening : List LogRecord) → (statements : List Piece) → (query : PlainQuery) → AreSpelled opening → AreAccepted beginning opening
         → let past = (recorded_after limit (recorded opening) statements).past in
         fault_of_query past query ≡ None → (slice_of query.when).end ≤ forever
         → IsListing row_cmp (asked_at past query) (slice_of query.when) (listing past query) × (answer past query ≡ kept query.keep (listing past query)) }
 
+    // The reply to an EXPLAIN of a query that is not refused, behind some statements: the lines of the query's pieces. Of those into which
+    // the query unfolds they are just those that are not dead, which is said over all values of the columns' types.
+    ensures explains { (limit : ℕ) → (opening : List LogRecord) → (statements : List Piece) → (text : List ℕ) → (query : PlainQuery) → AreSpelled opening → AreAccepted beginning opening
+        → let now = recorded_after (given_by limit (meaning_of book.now.rules.items (λ r. handles (r.vtable, r.value)) (λ r. answers (r.vtable, r.value)))) (recorded opening) statements in
+        reading text ≡ Whole (explain query) → fault_of_query now.past query ≡ None
+        → TellsPieces (given_by limit (meaning_of book.now.rules.items (λ r. handles (r.vtable, r.value)) (λ r. answers (r.vtable, r.value)))) now text query }
+
     // A query is refused for want of a way back only by an operator on the way that names no inverse: at the least moment of the query's
     // slice at which a table of it is lost, the version that is told is gone back over, names none, and loses a table of the query.
-    ensures inverse { (limit : Given) → (opening : List PlainCommand) → (statements : List Piece) → (query : PlainQuery) → (k : ℕ) → (kind : OpKind)
+    ensures inverse { (limit : Given) → (opening : List LogRecord) → (statements : List Piece) → (query : PlainQuery) → (k : ℕ) → (kind : OpKind)
         → let past = (recorded_after limit (recorded opening) statements).past in
         fault_of_query past query ≡ Some (NoInverse k kind) → HasNoWayBack past query k kind }
 
     // A command that is accepted behind some statements is seen from its stamp on: before it each moment's database is as it was.
-    ensures seen { (limit : Given) → (opening : List PlainCommand) → (statements : List Piece) → (command : PlainCommand) → (m : ℕ) → AreCommands opening → IsHistory opening
+    ensures seen { (limit : Given) → (opening : List LogRecord) → (statements : List Piece) → (command : PlainCommand) → (m : ℕ) → AreSpelled opening → AreAccepted beginning opening
         → let past = (recorded_after limit (recorded opening) statements).past in
         command_fault past command ≡ None
         → (m < command.stamp → database_at (past_with past command) m ≡ database_at past m) × (command.stamp ≤ m → database_at (past_with past command) m ≡ database_behind command.body past) }
@@ -315,5 +338,7 @@ pub fn run<S: Source, K: Sink, D: Disk>(
     a_query_is_refused_for_want_of_a_named_inverse_alone();
     an_accepted_query_asks_questions();
     a_file_opens_or_is_damaged();
+    an_image_shows_a_past();
+    book.known();
     judge_and_run(alloc, words, book, source, sink, disk)
 }

@@ -19,6 +19,7 @@ use crate::opening::{mount_counted, refuse_file};
 use crate::replies_kept::RepliesKept;
 use crate::status::Status;
 use archive_core::Archive;
+use archive_file::a_file_opens_or_is_damaged;
 use disk_model::Disk;
 use prima_base::NoMemory;
 use prima_io::{Failed, Sink, put_all};
@@ -119,6 +120,7 @@ pub(crate) fn sample_over<K: Sink, D: Disk>(
     ensures sink { SinkCounted result.0 (K.faults sink.old) (K.faults sink.new) }
     ensures disk { DiskCounted result.0 (D.meaning disk).faults (D.meaning result.1).faults }
 {
+    a_file_opens_or_is_damaged();
     match mount_counted::<D, Brand>(alloc, disk, limit, Blank::new(1)) {
         Err((disk, fault)) => (refuse_file(sink, fault), disk),
         Ok((mut archive, opened)) => {

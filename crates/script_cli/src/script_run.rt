@@ -57,8 +57,7 @@ impl ScriptRun {
         self.puts
     }
 
-    // Puts the reply to a statement. Where it puts a command, and there alone, the gate moves. There is no memory for more
-    // commands than a number can count.
+    // Puts the reply to a statement. There is no memory for more commands than a number can count.
     fn answer<K: Sink, D: Disk>(
         &mut self,
         archive: &mut Archive<D>,
@@ -80,11 +79,10 @@ impl ScriptRun {
         let Some(more) = self.puts.checked_add(1) else {
             return Err(Halt::NoMemory);
         };
-        let gate = archive.place();
         match respond(self.alloc, archive, book, sink, text) {
             Ok(put) => {
                 self.refused = self.refused || put.is_error();
-                if gate < archive.place() {
+                if put.is_command() {
                     self.puts = more;
                 }
                 Ok(())

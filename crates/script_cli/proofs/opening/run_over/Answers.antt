@@ -1,9 +1,9 @@
-use Rattle.std.proofs.Common.{inl, inr, refl, sym, subst, ap, ◌∙◌}
+use Rattle.std.proofs.Common.{inl, inr, refl, sym, subst}
 use Rattle.disk_model.specs.Moments.{GoesOn}
 use Rattle.disk_model.specs.MomentLaws.{goes_trans}
 use Rattle.archive_core.specs.Fields.{below, place_of}
 use Rattle.piece_meaning.specs.Books.{book_of}
-use Rattle.script_cli.specs.Runs.{RunsOver, RanOpened, NotOpened, SourceCounted, DiskCounted, given_by}
+use Rattle.script_cli.specs.Runs.{RunsOver, NotOpened, SourceCounted, DiskCounted, given_by}
 use Rattle.script_cli.proofs.OnDisks.{start_of, ran_opened, put_goes}
 use Rattle.script_cli.proofs.Unopened.{not_opened, disk_unopened, source_unopened, disk_behind}
 use Rattle.script_cli.proofs.opening.run_over.Goals as goal
@@ -36,7 +36,7 @@ returns-in-Ok-clause-runs g c =
     let new = c.drive-driven.new.archive in
     subst (λ d. RunsOver (given_by c.args.limit (book_of (λ r. (goal.Rule-dyn g (r.vtable, r.value)).handles r.value) (λ r. (goal.Rule-dyn g (r.vtable, r.value)).answers r.value) c.args.book.now.rules.items)) c.drive-driven.result.status (g.S.Source.left c.args.source.now) (g.S.Source.left c.drive-driven.new.source) (g.K.Sink.written c.args.sink.now) (g.K.Sink.written c.drive-driven.new.sink)
     (g.K.Sink.faults c.args.sink.now) (g.K.Sink.faults c.drive-driven.new.sink) (M c.args.disk) (M d)) (sym c.into_disk.ensures)
-    (inr (ran_opened (M c.args.disk) c.args.limit (book_of (λ r. (goal.Rule-dyn g (r.vtable, r.value)).handles r.value) (λ r. (goal.Rule-dyn g (r.vtable, r.value)).answers r.value) c.args.book.now.rules.items) c.in-Ok.archive has start.0 start.2 c.drive-driven.result.status _ _ _ _ (below new) (g.met.D.Disk.lawful new.journal.disk) drove))
+    (inr (ran_opened c.a_file_opens_or_is_damaged.ensures.one (M c.args.disk) c.args.limit (book_of (λ r. (goal.Rule-dyn g (r.vtable, r.value)).handles r.value) (λ r. (goal.Rule-dyn g (r.vtable, r.value)).answers r.value) c.args.book.now.rules.items) c.in-Ok.archive has start.0 start.2 c.drive-driven.result.status _ _ _ _ (below new) (g.met.D.Disk.lawful new.journal.disk) drove))
 
 pub returns-in-Ok-clause-goes : goal.returns-in-Ok-clause-goes
 returns-in-Ok-clause-goes g c =

@@ -1,5 +1,3 @@
-use Rattle.std.proofs.Common.{sym}
-use Rattle.std.specs.Prelude.{Some, None}
 use Rattle.script_parse.specs.Statements.{statement_of}
 use Rattle.prima_base.specs.declared.refusals.Refusal.TheVariants.{Syntax, TooMany}
 use Rattle.script_cli.specs.Output.{reply}

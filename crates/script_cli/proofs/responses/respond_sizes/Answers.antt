@@ -9,14 +9,14 @@ use Rattle.script_cli.specs.Shows.{Says}
 use Rattle.script_cli.proofs.Responding.{answered_says, said_counted}
 use Rattle.script_cli.proofs.responses.respond_sizes.Goals as goal
 
-pub returns-in-Ok-clause-says : goal.returns-in-Ok-clause-says
-returns-in-Ok-clause-says g c = λ now shows.
+pub returns-clause-says : goal.returns-clause-says
+returns-clause-says g c = λ now shows.
     let past = now.past in
     let text = sizes_text (length past.versions) past.sizes in
     let shown : Shows c.groups-groups.result.now past = subst (λ (k : Kept). Shows k past) (sym c.groups-groups.ensures) shows.groups in
-    let counted = c.in-Ok.ensures past shown in
+    let counted = c.count_lifelines-count.ensures past shown in
     subst (λ r. Says (sizes_reply now) r (g.K.Sink.written c.args.sink.now) (g.K.Sink.written c.put_lifelines.new.sink)) (sym c.or_write_fault.ensures)
     (answered_says _ _ None now text text c.put_lifelines.result refl refl c.put_lifelines.ensures.ok (c.put_lifelines.ensures.all past shown counted) (c.put_lifelines.ensures.part past shown counted))
 
-pub returns-in-Ok-clause-counts : goal.returns-in-Ok-clause-counts
-returns-in-Ok-clause-counts g c = subst (λ r. SaidCounted r (g.K.Sink.faults c.args.sink.now) (g.K.Sink.faults c.put_lifelines.new.sink)) (sym c.or_write_fault.ensures) (said_counted c.put_lifelines.result _ _ c.put_lifelines.ensures.cause)
+pub returns-clause-counts : goal.returns-clause-counts
+returns-clause-counts g c = subst (λ r. SaidCounted r (g.K.Sink.faults c.args.sink.now) (g.K.Sink.faults c.put_lifelines.new.sink)) (sym c.or_write_fault.ensures) (said_counted c.put_lifelines.result _ _ c.put_lifelines.ensures.cause)

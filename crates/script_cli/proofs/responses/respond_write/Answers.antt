@@ -1,10 +1,12 @@
-use Rattle.std.proofs.Common.{◌≡◌, ap, sym, subst, refl, ◌∙◌, inl, inr, ⊎_elim, Some, None, Ok, Err, true, false}
+use Rattle.std.proofs.Common.{ap, sym, subst, refl, ◌∙◌, ⊎_elim, [], ◌∷◌, Some, None, Err}
 use Rattle.smo_types.specs.Commands.{command_of}
-use Rattle.archive_file.specs.Opening.{record_of}
+use Rattle.archive_file.specs.LogRecords.{logged}
 use Rattle.archive_core.specs.Fields.{below, place_of}
-use Rattle.script_cli.specs.Output.{command_reply}
+use Rattle.archive_core.specs.Committing.{commit_fault}
+use Rattle.script_cli.specs.Due.{command_due}
+use Rattle.script_cli.specs.Output.{command_reply, put_command}
 use Rattle.script_cli.specs.Halts.{HaltCounted}
-use Rattle.script_cli.specs.Shows.{Responds, TakesRecords}
+use Rattle.script_cli.specs.Shows.{Responds}
 use Rattle.script_cli.proofs.PutsBehind.{put_one}
 use Rattle.script_cli.proofs.Responding.{done_responds, refused_responds, fault_here, stands_behind, stands_still, untouched_between, puts_itself, still_takes, on_ok, halt_counted}
 use Rattle.script_cli.proofs.responses.respond_write.Goals as goal
@@ -18,8 +20,11 @@ returns-in-Ok-clause-replies g c = λ limit now stands.
     let h = c.in-Ok.ensures.commits now.past stands.past in
     subst (λ r. Responds limit (command_reply limit command now) r a b (g.K.Sink.written c.args.sink.now) (g.K.Sink.written c.put_done.new.sink)) (sym c.or_write_fault.ensures)
     (done_responds _ _ limit now a b command c.in-Ok.done c.put_done.result (fault_here a limit now command None stands h.0) h.1
-    (stands_behind a b limit now stands command h.2 c.in-Ok.ensures.place c.commit.ensures.limit)
-    (put_one (below a) (below b) (place_of a) (place_of b) command (g.met.D.Disk.lawful a.journal.disk) c.in-Ok.ensures.spelled c.in-Ok.ensures.holds c.commit.ensures.puts c.in-Ok.ensures.acknowledged)
+    (stands_behind a b limit now stands command h.2 c.in-Ok.ensures.place c.commit.ensures.limit) (
+      logged command ∷ [],
+      (refl, tt),
+      put_one (below a) (below b) (place_of a) (place_of b) (logged command) (g.met.D.Disk.lawful a.journal.disk) c.in-Ok.ensures.spelled c.in-Ok.ensures.holds c.commit.ensures.puts c.in-Ok.ensures.acknowledged,
+    )
     c.put_done.ensures.ok c.put_done.ensures.all c.put_done.ensures.part)
 
 pub returns-in-Err-Refused-clause-replies : goal.returns-in-Err-Refused-clause-replies
@@ -30,7 +35,7 @@ returns-in-Err-Refused-clause-replies g c = λ limit now stands.
     let h = rw c.in-Err-Refused.field-0-is at (c.in-Err-Refused.ensures.commits now.past stands.past) in
     let same = c.in-Err-Refused.ensures.untouched (λ e. cc (e, c.in-Err-Refused.field-0-is)) in
     subst (λ r. Responds limit (command_reply limit command now) r a b (g.K.Sink.written c.args.sink.now) (g.K.Sink.written c.refuse.new.sink)) (sym c.or_write_fault-in-Err-Refused.ensures)
-    (refused_responds _ _ limit now a b command c.in-Err-Refused.refusal c.refuse.result (fault_here a limit now command (Some c.in-Err-Refused.refusal) stands h.0)
+    (refused_responds _ _ limit now a b c.in-Err-Refused.refusal (commit_fault now.past now.at limit.limit command) (put_command command now) c.refuse.result (fault_here a limit now command (Some c.in-Err-Refused.refusal) stands h.0)
     (stands_still a b limit now stands h.1.shows same.1 c.commit.ensures.limit) (untouched_between a b (g.met.D.Disk.lawful a.journal.disk) same.0 same.1)
     c.refuse.ensures.ok c.refuse.ensures.all c.refuse.ensures.part)
 
@@ -45,8 +50,10 @@ returns-in-Err-Disk-clause-replies g c = λ limit now stands.
     let h = rw c.in-Err-Disk.field-0-is at (c.in-Err-Disk.ensures.commits now.past stands.past) in (
       refl,
       record {
-        command = command;
-        due = puts_itself limit now command (fault_here a limit now command None stands h.0);
+        what = command_due command;
+        due_is = puts_itself now (commit_fault now.past now.at limit.limit command) _ (command_due command) (fault_here a limit now command None stands h.0);
+        its_record = logged command;
+        is_its = refl;
         spelled = c.commit.ensures.spelled_so_far (c.in-Err-Disk.is ∙ ap Err c.in-Err-Disk.field-0-is);
         puts_it = c.commit.ensures.puts;
       },

@@ -41,8 +41,8 @@ returns-in-Ok-clause-samples g c = λ left.
     let it = c.sample-status.ensures.drove (given_by c.args.limit (book_of (λ r. (goal.Rule-dyn g (r.vtable, r.value)).handles r.value) (λ r. (goal.Rule-dyn g (r.vtable, r.value)).answers r.value) c.args.book.now.rules.items)) refl start.0 start.1 in
     let new = c.sample-status.new.archive in
     let law = g.met.D.Disk.lawful new.journal.disk in
-    let ran = ran_opened (M c.args.disk) c.args.limit (book_of (λ r. (goal.Rule-dyn g (r.vtable, r.value)).handles r.value) (λ r. (goal.Rule-dyn g (r.vtable, r.value)).answers r.value) c.args.book.now.rules.items) c.in-Ok.archive has start.0 start.2 it.driven (Some script) it.left (Some []) (Some it.kept) (below new) law it.drove in
-    let from = ran_opened_start (M c.args.disk) c.args.limit (book_of (λ r. (goal.Rule-dyn g (r.vtable, r.value)).handles r.value) (λ r. (goal.Rule-dyn g (r.vtable, r.value)).answers r.value) c.args.book.now.rules.items) c.in-Ok.archive has start.0 start.2 it.driven (Some script) it.left (Some []) (Some it.kept) (below new) law it.drove in
+    let ran = ran_opened c.a_file_opens_or_is_damaged.ensures.one (M c.args.disk) c.args.limit (book_of (λ r. (goal.Rule-dyn g (r.vtable, r.value)).handles r.value) (λ r. (goal.Rule-dyn g (r.vtable, r.value)).answers r.value) c.args.book.now.rules.items) c.in-Ok.archive has start.0 start.2 it.driven (Some script) it.left (Some []) (Some it.kept) (below new) law it.drove in
+    let from = ran_opened_start c.a_file_opens_or_is_damaged.ensures.one (M c.args.disk) c.args.limit (book_of (λ r. (goal.Rule-dyn g (r.vtable, r.value)).handles r.value) (λ r. (goal.Rule-dyn g (r.vtable, r.value)).answers r.value) c.args.book.now.rules.items) c.in-Ok.archive has start.0 start.2 it.driven (Some script) it.left (Some []) (Some it.kept) (below new) law it.drove in
     subst (λ d. SamplesOver c.args.size (given_by c.args.limit (book_of (λ r. (goal.Rule-dyn g (r.vtable, r.value)).handles r.value) (λ r. (goal.Rule-dyn g (r.vtable, r.value)).answers r.value) c.args.book.now.rules.items)) c.sample-status.result left left (g.K.Sink.written c.args.sink.now) (g.K.Sink.written c.sample-status.new.sink)
     (g.K.Sink.faults c.args.sink.now) (g.K.Sink.faults c.sample-status.new.sink) (M c.args.disk) (M d)) (sym c.into_disk.ensures)
     (inr (sample_is (given_by c.args.limit (book_of (λ r. (goal.Rule-dyn g (r.vtable, r.value)).handles r.value) (λ r. (goal.Rule-dyn g (r.vtable, r.value)).answers r.value) c.args.book.now.rules.items)) script it.driven it.left it.kept (M c.args.disk) (below new) ran c.args.size c.in-Ok.opened.commands c.sample-status.result _ _ start.0 from c.in-Ok.ensures.commands it.ended))

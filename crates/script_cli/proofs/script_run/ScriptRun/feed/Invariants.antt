@@ -1,4 +1,4 @@
-use Rattle.std.proofs.Common.{◌≡◌, ◌≤◌, false, length}
+use Rattle.std.proofs.Common.{◌≡◌, false, length}
 use Rattle.piece_meaning.specs.Books.{book_of}
 use Rattle.archive_core.specs.Fields.{below}
 use Rattle.script_cli.specs.Given.{Given}

@@ -1,10 +1,9 @@
 use Rattle.std.proofs.Common.{◌≡◌, ◌+◌, ℕ, Bool, true, false, ap, refl, sym, ◌∙◌, arith}
 use Rattle.std.specs.Prelude.{◌||◌}
-use Rattle.archive_core.specs.Fields.{below, place_of}
 use Rattle.script_parse.specs.Script.{Whole, Skipped}
 use Rattle.script_parse.specs.Splitting.{found}
 use Rattle.script_cli.specs.declared.halt.Halt.TheVariants.{WriteFault}
-use Rattle.script_cli.proofs.PutsBehind.{put_nothing}
+use Rattle.script_cli.proofs.PutsBehind.{nothing_between}
 use Rattle.script_cli.proofs.Taking.{took_all, took_answer, halted_answer, halted_memory, all_taken}
 use Rattle.script_cli.proofs.script_run.ScriptRun.turn.Goals as goal
 
@@ -36,14 +35,14 @@ pub returns-in-Ok-refuse_long-clause-took : goal.returns-in-Ok-refuse_long-claus
 returns-in-Ok-refuse_long-clause-took g c = λ limit same now stands.
     let a = c.args.archive.now in
     took_answer limit now c.args.self.now c.refuse_long.new.self c.feed.new.self a a c.args.bytes.now c.in-Ok.rest.now _ _ c.in-Ok.cut c.in-Ok.ensures.statements c.in-Ok.ensures.tail c.refuse_long.ensures.splitter
-    Skipped (ap found c.in-TooLong.is) stands (c.in-Ok-refuse_long.ensures.refused ∙ sym (or_true c.args.self.now.refused)) (put_nothing (below a) (place_of a) (g.met.D.Disk.lawful a.journal.disk)) (c.refuse_long.ensures.puts ∙ plus_none c.args.self.now.puts) c.in-Ok-refuse_long.ensures.all
+    Skipped (ap found c.in-TooLong.is) stands (c.in-Ok-refuse_long.ensures.refused ∙ sym (or_true c.args.self.now.refused)) (nothing_between a (g.met.D.Disk.lawful a.journal.disk)) (c.refuse_long.ensures.puts ∙ plus_none c.args.self.now.puts) c.in-Ok-refuse_long.ensures.all
 
 pub returns-in-Ok-clause-halted : goal.returns-in-Ok-clause-halted
 returns-in-Ok-clause-halted g c = λ limit same now stands.
     let a = c.args.archive.now in
     let law = g.met.D.Disk.lawful a.journal.disk in
     halted_answer limit now c.args.self.now c.refuse_long.new.self c.feed.new.self a a c.args.bytes.now c.in-Ok.rest.now _ _ c.in-Ok.cut c.in-Ok.ensures.statements c.in-Ok.ensures.tail c.refuse_long.ensures.splitter
-    WriteFault Skipped (ap found c.in-TooLong.is) law (c.in-Err-refuse_long.ensures.part, put_nothing (below a) (place_of a) law)
+    WriteFault Skipped (ap found c.in-TooLong.is) law (c.in-Err-refuse_long.ensures.part, nothing_between a law)
 
 pub returns-clause-halted : goal.returns-clause-halted
 returns-clause-halted g c = λ limit same now stands.
