@@ -1,5 +1,6 @@
 //! What a run is answered, as one line.
 
+use archive_core::{MountFault, Opened};
 use case_text::{write_hex, write_number};
 use prima_base::NoMemory;
 
@@ -28,6 +29,28 @@ pub(crate) fn write_end(code: u8, replies: &[u8], text: &mut Vec<u8>) -> Result<
     write_number(u64::from(code), text)?;
     text.extend_from_slice(b": ")?;
     write_replies(replies, text)
+}
+
+/// Writes what a mount found, or why it found none.
+pub(crate) fn write_opened(
+    opened: Result<Opened, MountFault>,
+    text: &mut Vec<u8>,
+) -> Result<(), NoMemory> {
+    match opened {
+        Ok(opened) => {
+            text.extend_from_slice(b"commands ")?;
+            write_number(opened.commands, text)?;
+            text.extend_from_slice(b", replayed ")?;
+            write_number(opened.replayed, text)?;
+        }
+        Err(MountFault::Damaged(place)) => {
+            text.extend_from_slice(b"damaged ")?;
+            write_number(place, text)?;
+        }
+        Err(MountFault::Disk) => text.extend_from_slice(b"disk failed")?,
+        Err(MountFault::NoMemory) => return Err(NoMemory),
+    }
+    Ok(())
 }
 
 /// Writes the bytes of the file that is left.

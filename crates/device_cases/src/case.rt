@@ -1,15 +1,15 @@
 //! A case: a file, a script, and the devices that fail.
 
-use crate::answer::{write_end, write_file};
+use crate::answer::{write_end, write_file, write_opened};
 use crate::line::{Line, read_line};
-use crate::run::{DISK_CALLS, Devices, Played, Runs, play_fuse, play_once, play_twice};
+use crate::run::{Devices, Played, Runs, open, play_fuse, play_once, play_twice};
 use case_text::{Groups, read_hex};
 use prima_base::NoMemory;
 use script_cli::Word;
 use std::alloc::{AllocError, Global};
 
 // Over how many devices of one kind a script is run at most.
-const MOST: u64 = DISK_CALLS;
+const MOST: u64 = 1 << 8;
 
 // The case that is being played, how much the source hands out a call, and the answers so far.
 #[derive(Drop)]
@@ -101,6 +101,14 @@ impl Case {
         Ok(())
     }
 
+    // Mounts the archive of the file, which stays as it is.
+    fn open(&mut self) -> Result<(), NoMemory> {
+        let opened = open(self.alloc, &self.file)?;
+        write_opened(opened, &mut self.answers)?;
+        self.answers.push(b'\n')?;
+        Ok(())
+    }
+
     // Runs the case's script over the device of this kind and number.
     fn play_over(&self, kind: Kind, number: u64) -> Result<Played, NoMemory> {
         let mut devices = Devices::sure(self.alloc);
@@ -141,6 +149,7 @@ impl Case {
             }
             Line::Run => self.run(),
             Line::Ends => self.run_untold(),
+            Line::Opens => self.open(),
             Line::Sources => self.play_each(Kind::Source),
             Line::Sinks => self.play_each(Kind::Sink),
             Line::Rooms => self.play_each(Kind::Room),

@@ -9,6 +9,7 @@
 //! - `script TEXT` puts a line behind those of the script;
 //! - `run` runs the script over the file, keeps the file that is left, and forgets the script;
 //! - `ends` does the same, and tells no bytes of the file;
+//! - `opens` mounts the archive of the file, and tells how many commands it counts, and how many of them it carries out again;
 //! - `later TEXT` puts a line behind those of the script that is run afterwards over the file that is left;
 //! - `piece N`: the source hands out at most N bytes a call;
 //! - `sources` runs the script, over the file each time, over sources that fail at their first call, at their second one, and so on;

@@ -1,13 +1,18 @@
 //! One run of a script over given devices, and a later one over the file that it leaves.
 
+ghost use Rattle.std.specs.Prelude.{◌≡◌, ◌<◌};
+
 use crate::answer::{write_end, write_left};
+use archive_core::{Archive, MountFault, Opened};
 use case_text::write_number;
 use disk_model::{Disk, FuseDisk, MemDisk};
-use prima_base::NoMemory;
+use prima_base::{NoMemory, Steps};
 use prima_io::{MemSink, MemSource};
 use rewrite_rules::{Rule, RuleBook, push_every_rule};
 use script_cli::{Status, Word, run};
 use std::alloc::Global;
+use std::marker::Brand;
+use std::sync::ledger::{Blank, Ledger};
 
 // How many bytes the replies of a run may have.
 const ROOM: usize = 1 << 12;
@@ -15,11 +20,11 @@ const ROOM: usize = 1 << 12;
 // How many bytes a source hands out at once that is told no other number.
 const PIECE: usize = 7;
 
-/// How many writes and syncs a disk has room for that fails at none of them.
-pub(crate) const DISK_CALLS: u64 = 1 << 8;
+// How many writes and syncs a disk has room for that fails at none of them.
+const DISK_CALLS: u64 = 1 << 12;
 
 // How many bytes these may have.
-const DISK_ROOM: u64 = 1 << 14;
+const DISK_ROOM: u64 = 1 << 20;
 
 /// What is run: the words, the file that the disk has, and the script.
 #[derive(Clone, Copy)]
@@ -112,6 +117,30 @@ pub(crate) fn play_once(
     let ended = run_over(alloc, runs, devices, &mut disk)?;
     let file = whole(alloc, &mut disk)?;
     Ok((ended, file))
+}
+
+// What a mount finds, with a counter of its own.
+fn mount_counted<L: Ledger>(
+    alloc: Global,
+    disk: MemDisk,
+    blank: Blank,
+) -> Result<Opened, MountFault>
+    requires name { blank.name ≡ L.name }
+    requires parts { blank.parts ≡ L.parts }
+    requires some { 0 < blank.parts }
+{
+    let mut steps: Steps<L> = Steps::new(blank);
+    match Archive::mount(alloc, disk, u64::MAX, &mut steps) {
+        Ok((_archive, opened)) => Ok(opened),
+        Err((_disk, fault)) => Err(fault),
+    }
+}
+
+/// What a mount of the archive of a file finds.
+pub(crate) fn open(alloc: Global, file: &[u8]) -> Result<Result<Opened, MountFault>, NoMemory> {
+    let bytes = Vec::from_slice(alloc, file)?;
+    let disk = MemDisk::new(alloc, bytes, DISK_CALLS, DISK_ROOM)?;
+    Ok(mount_counted::<Brand>(alloc, disk, Blank::new(1)))
 }
 
 /// Runs a script over its file and these devices, and then a later one over the file that is left.
