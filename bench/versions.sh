@@ -1,8 +1,9 @@
 #!/usr/bin/env bash
 # Times queries over many versions, over the built program: n rows (1,000 and 10,000, or the numbers in ROWS) entered under version 1, then V versions, and the same
 # question asked on version 1 and on the last one. The versions are renames with their inverses (a table and a column in turn),
-# ADD and DROP COLUMN in turn, renames of another table, or PARTITION and MERGE in turn, each the other's inverse; of the last at most 12, since
-# each MERGE of what a PARTITION has parted doubles the pieces of a question that goes over both. Prints the seconds of the load with
+# ADD and DROP COLUMN in turn, renames of another table, PARTITION and MERGE in turn, each the other's inverse (a question has one piece and
+# two in turn, since of those that both make of it the dead ones are left out on the way), or cuts: a PARTITION with MERGE as its inverse, and a
+# RENAME of the table that is cut off (a question has one piece more behind each cut). Prints the seconds of the load with
 # its operators, the seconds that each of the two questions adds, and the most memory in KiB. A table is stored once over the versions that
 # do not touch it, so memory grows as V + n times the versions that do; a question reads it once for all neighbouring versions that do not touch it.
 set -eu
@@ -54,13 +55,21 @@ def parts(count):
         yield f"{split} INVERSE {join}" if i % 2 == 0 else f"{join} INVERSE {split}"
 
 
+def cuts(count):
+    for i in range(count):
+        if i % 2 == 0:
+            yield f"PARTITION TABLE t INTO cut WITH b < {i}, t INVERSE MERGE TABLE cut, t INTO t"
+        else:
+            yield f"RENAME TABLE cut INTO cut{i} INVERSE RENAME TABLE cut{i} INTO cut"
+
+
 def question(version, table):
     return f"QUERY VERSION {version} SELECT a FROM {table} WHERE a < 10;"
 
 
 print(f"{'versions of':>12} {'V':>4} {'rows':>7} {'load':>8} {'on first':>9} {'on last':>9} {'KiB':>8}")
-for kind, make in (("renames", renames), ("columns", columns), ("others", others), ("parts", parts)):
-    for count in sorted({min(count, 12) for count in counts} if kind == "parts" else counts):
+for kind, make in (("renames", renames), ("columns", columns), ("others", others), ("parts", parts), ("cuts", cuts)):
+    for count in counts:
         for n in sizes:
             script = ["AT 0 EVOLVE CREATE TABLE w (c INT);", "AT 1 EVOLVE CREATE TABLE t (a INT, b INT);"]
             script += [f"AT {2 + i} INSERT INTO t (a, b) VALUES ({i}, {i * 7919 % n});" for i in range(n)]

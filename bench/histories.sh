@@ -1,0 +1,117 @@
+#!/usr/bin/env bash
+# Times a full listing of a table's history over the built program: n entries (200,000 unless told otherwise), half of them of rows
+# that were inserted and half of what an update made of each, with texts of 16 and of 1,024 bytes (or the numbers in WIDTHS). Prints
+# the seconds that the listing adds to opening the archive, beside a bare program in C that writes the same bytes from a buffer and
+# one that writes them line by line with printf; the most memory of opening and of the listing in KiB, and what the listing adds in
+# bytes an entry, which the texts have no part in, since a listing lends them. It prints what it measures, and ends with 1 only where a
+# reply is wrong. Files stand in memory where the machine has a folder there. PROGRAM names another build to be timed in place of this one.
+set -eu
+top=$(cd "$(dirname "$0")/.." && pwd)
+if [ -z "${PROGRAM:-}" ]; then
+    PROGRAM=$top/crates/prima/out/prima
+    "$top/prima" </dev/null >/dev/null || [ $? -eq 2 ] # builds what is missing; no words, no archive
+fi
+[ $# -gt 0 ] || set -- 200000
+scratch=$(mktemp -d)
+trap 'rm -rf "$scratch"' EXIT
+cat >"$scratch/bare.c" <<'C'
+// Writes the lines of the file that is named: from one buffer, or each by itself with printf.
+#include <stdio.h>
+#include <stdlib.h>
+#include <string.h>
+#include <unistd.h>
+
+int main(int count, char **words) {
+    FILE *file = fopen(words[1], "rb");
+    if (count < 3 || file == NULL) return 1;
+    fseek(file, 0, SEEK_END);
+    long size = ftell(file);
+    rewind(file);
+    char *bytes = malloc(size + 1);
+    if (bytes == NULL || fread(bytes, 1, size, file) != (size_t)size) return 1;
+    if (words[2][0] == 'b') return write(1, bytes, size) != size;
+    bytes[size] = 0;
+    for (char *line = strtok(bytes, "\n"); line != NULL; line = strtok(NULL, "\n")) printf("%s\n", line);
+    return 0;
+}
+C
+cc -O2 -o "$scratch/bare" "$scratch/bare.c"
+exec python3 - "$PROGRAM" "$scratch/bare" "${WIDTHS:-16 1024}" "$@" <<'PYTHON'
+import os, subprocess, sys, tempfile, time
+
+program, bare, widths, sizes = os.path.realpath(sys.argv[1]), sys.argv[2], *[[int(w) for w in ws] for ws in (sys.argv[3].split(), sys.argv[4:])]
+in_memory = "/dev/shm" if os.path.isdir("/dev/shm") else None
+ROUNDS, TOGETHER = 5, 200
+QUERY = b"QUERY VERSION 1 SELECT a, b FROM t;"
+
+
+def text(key, turn, width):
+    return f"{turn} {key} ".ljust(width, "x")[:width]
+
+
+def load(n, width):
+    """A command for some rows at a time, so that the load is short."""
+    yield "AT 1 EVOLVE CREATE TABLE t (a INT, b TEXT);"
+    at = 1
+    for turn in ("first", "again"):
+        for low in range(0, n // 2, TOGETHER):
+            at += 1
+            keys = range(low, min(low + TOGETHER, n // 2))
+            if turn == "first":
+                parts = [f"INSERT INTO t (a, b) VALUES ({k}, '{text(k, turn, width)}')" for k in keys]
+            else:
+                parts = [f"UPDATE t SET b = '{text(k, turn, width)}' WHERE a = {k}" for k in keys]
+            yield f"AT {at} {' THEN '.join(parts)};"
+
+
+def run(words, folder, script, replies):
+    """The seconds of a process, and the most memory that it had, in KiB."""
+    begun = time.perf_counter()
+    child = subprocess.Popen(words, stdin=script, stdout=replies, cwd=folder)
+    _, status, used = os.wait4(child.pid, 0)
+    taken = time.perf_counter() - begun
+    if status != 0:
+        sys.exit(f"{words[0]} ended with {status}")
+    return taken, used.ru_maxrss
+
+
+def least(words, folder, script, replies):
+    """The least seconds of a few runs, each over the same file, and the most memory of the last."""
+    best, most = None, 0
+    for _ in range(ROUNDS):
+        script.seek(0)
+        replies.seek(0)
+        replies.truncate()
+        taken, most = run(words, folder, script, replies)
+        best = taken if best is None else min(best, taken)
+    return best, most
+
+
+print(f"{'width':>6} {'entries':>8} {'reply':>11} {'listing':>8} {'write':>8} {'printf':>8} {'open KiB':>9} {'list KiB':>9} {'B/entry':>8}")
+for width in widths:
+    for n in sizes:
+        with tempfile.TemporaryDirectory(dir=in_memory) as folder:
+            paths = [os.path.join(folder, name) for name in ("script", "nothing", "query", "replies")]
+            with open(paths[0], "w") as it:
+                it.writelines(line + "\n" for line in load(n, width))
+            open(paths[1], "w").close()
+            with open(paths[2], "wb") as it:
+                it.write(QUERY)
+            script, nothing, query = (open(path, "rb") for path in paths[:3])
+            with open(paths[3], "w+b") as replies:
+                run([program, "run"], folder, script, replies)
+                replies.seek(0)
+                if b"error" in replies.read():
+                    sys.exit("a command was refused")
+                opening, open_most = least([program, "run"], folder, nothing, replies)
+                listing, list_most = least([program, "run"], folder, query, replies)
+                replies.seek(0)
+                said = replies.read()
+            if not said.endswith(f"end {n}\n".encode()) or said.count(b"\n") != n + 1:
+                sys.exit("the listing is not of all entries")
+            with open(paths[0], "w+b") as out:
+                block, _ = least([bare, paths[3], "block"], folder, nothing, out)
+                lines, _ = least([bare, paths[3], "lines"], folder, nothing, out)
+        grown = (list_most - open_most) * 1024 / n
+        print(f"{width:>6} {n:>8} {len(said):>11} {listing - opening:>8.3f} {block:>8.3f} {lines:>8.3f} {open_most:>9} {list_most:>9} {grown:>8.1f}")
+PYTHON
