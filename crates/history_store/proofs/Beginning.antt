@@ -4,10 +4,11 @@ use Rattle.std.specs.Prelude.{All}
 use Rattle.relations.specs.Sets.{In, set_of}
 use Rattle.relations.specs.Spans.{forever}
 use Rattle.prima_base.specs.declared.values.Value.{Value}
-use Rattle.history_store.specs.Log.{Log, Write}
+use Rattle.column_log.specs.Log.{Log, Write}
 use Rattle.history_store.specs.Logs.{cells_of}
 use Rattle.history_store.specs.Store.{Cell, Column, AreColumns, weight, relation_at, AllBefore}
-use Rattle.history_store.specs.Entries.{all_entries, IsHistory, AreHistories}
+use Rattle.history_store.specs.Entries.{all_entries, AreHistories}
+use Rattle.column_log.specs.Entries.{IsHistory}
 use Rattle.history_store.specs.TableFields.{store_of, IsKept}
 use Rattle.history_store.specs.Handing.{unpaired, handed, new_keys, only_in, written}
 use Rattle.history_store.specs.Indexes.{Index}

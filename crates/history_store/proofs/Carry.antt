@@ -7,20 +7,11 @@ use Rattle.std.proofs.Math.ListN.{length-set, get_or-append}
 use Rattle.relations.specs.Spans.{Span}
 use Rattle.prima_base.specs.declared.values.Value.{Value}
 use Rattle.relations.specs.Sets.{In}
-use Rattle.history_store.specs.Log.{Log}
+use Rattle.column_log.specs.Log.{Log}
 use Rattle.history_store.specs.Logs.{least_spare, with_index, few_rows, few_of}
-use Rattle.history_store.specs.Table.{no_span, IsOpen}
-use Rattle.history_store.specs.Handing.{ended_at, end_keys, unpaired, new_keys, keys_handed}
-
-pub in_get : {A : Type 0} (xs : List A) (k : ℕ) (d : A) → k < length xs → In (get_or xs k d) xs
-in_get [] k d h = absurd (omega arith)
-in_get (x ∷ xs) zero d h = inl refl
-in_get (x ∷ xs) (suc k) d h = inr (in_get xs k d (omega arith))
-
-pub all_in : {A : Type 0} (P : A → Type 0) (xs : List A) → All P xs → (q : A) → In q xs → P q
-all_in P [] a q i = absurd i
-all_in P (x ∷ xs) a q (inl e) = subst P e (a 0 x (omega arith))
-all_in P (x ∷ xs) a q (inr i) = all_in P xs (λ k d h. a (suc k) d (omega arith)) q i
+use Rattle.column_log.specs.Keys.{no_span, IsOpen, ended_at}
+use Rattle.history_store.specs.Handing.{end_keys, unpaired, new_keys, keys_handed}
+use Rattle.value_order.proofs.Places.{in_get, all_in}
 
 unpaired_is : {A B : Type 0} (xs : List A) (ys : List B) → drop (min (length ys) (length xs)) xs ≡ unpaired xs ys
 unpaired_is xs [] = let e : min 0 (length xs) ≡ 0 = grind arith in rw e refl

@@ -4,12 +4,14 @@ use Rattle.std.specs.Prelude.{max, All}
 use Rattle.std.proofs.Math.Nat.{div-mul-le_self, mul-le-mul}
 use Rattle.relations.specs.Spans.{Span}
 use Rattle.prima_base.specs.declared.values.Value.{Value}
-use Rattle.history_store.specs.Log.{Log, Write}
+use Rattle.column_log.specs.Log.{Log, Write}
 use Rattle.history_store.specs.Logs.{cells_of, countable_rows}
 use Rattle.history_store.specs.Store.{cells_in}
 use Rattle.history_store.specs.Entries.{all_entries, AreHistories}
-use Rattle.history_store.specs.Handing.{put, put_row, put_rows}
-use Rattle.history_store.proofs.Puts.{by_put, row_width}
+use Rattle.column_log.specs.Puts.{put}
+use Rattle.history_store.specs.Handing.{put_row, put_rows}
+use Rattle.column_log.proofs.Puts.{by_put}
+use Rattle.history_store.proofs.Puts.{row_width}
 use Rattle.history_store.proofs.Counting.{column_count}
 
 -- there are as many entries as writes

@@ -6,17 +6,20 @@ use Rattle.relations.proofs.SetLaws.{before_in, in_append, in_left, in_right, in
 use Rattle.prima_base.specs.Order.{row_cmp}
 use Rattle.prima_base.specs.OrderLaws.{row_exact}
 use Rattle.prima_base.specs.declared.values.Value.{Value}
-use Rattle.history_store.specs.Log.{Write}
+use Rattle.column_log.specs.Log.{Write}
 use Rattle.history_store.specs.Store.{Column, relation_at, IsRow, IsRelation, AllBefore}
 use Rattle.history_store.specs.Entries.{all_entries}
-use Rattle.history_store.specs.Table.{row_now, rows_of, IsOpen, IsStored}
+use Rattle.history_store.specs.Table.{row_now, rows_of, IsStored}
+use Rattle.column_log.specs.Keys.{IsOpen}
 use Rattle.history_store.specs.TableFields.{store_of, IsKept}
-use Rattle.history_store.specs.Handing.{unpaired, AllWidth, IsHandOver, Distinct, Pairs, AllNext, handed, only_in, logs_handed}
-use Rattle.history_store.specs.StoredValues.{rows_room}
+use Rattle.history_store.specs.Handing.{unpaired, AllWidth, IsHandOver, Pairs, AllNext, handed, only_in, logs_handed}
+use Rattle.value_order.specs.ByValue.{Distinct}
+use Rattle.history_store.specs.RowRoom.{rows_room}
 use Rattle.history_store.specs.Splices.{IsSplit, IsJoined, IsSpliced}
 use Rattle.history_store.specs.Indexes.{Index, ids_behind, more_ids, IsPlaced}
 use Rattle.history_store.specs.Change.{IsPlan, ids_at, rows_after, rows_along, changed, write_rows, close_all}
-use Rattle.history_store.proofs.Sides.{not_true, set_is}
+use Rattle.value_order.proofs.Places.{not_true}
+use Rattle.history_store.proofs.Sides.{set_is}
 use Rattle.history_store.proofs.Now.{rows_of_in, in_rows_of}
 use Rattle.history_store.proofs.Plans.{rows_other, next_rows, handed_is}
 use Rattle.history_store.proofs.Showing.{along_is, current_relation}
@@ -43,7 +46,7 @@ in_only row (r ∷ rows) others (inr i) n =
     let again = in_only row rows others i n in
     elim (has row_cmp r others) as (λ b. In row (if b then only_in rows others else r ∷ only_in rows others)) [ true ↦ again | false ↦ inr again ]
 
-from_only : (row : List Value) (rows others : List (List Value)) → In row (only_in rows others) → In row rows × (has row_cmp row others ≡ false)
+pub from_only : (row : List Value) (rows others : List (List Value)) → In row (only_in rows others) → In row rows × (has row_cmp row others ≡ false)
 from_only row [] others i = absurd i
 from_only row (r ∷ rows) others i = by_case (has row_cmp r others) refl i (from_only row rows others)
   where

@@ -1,12 +1,16 @@
 -- What is written into a column, weighed.
-use Rattle.std.proofs.Common.{◌≡◌, ◌≢◌, ℕ, suc, zero, ◌+◌, ◌<◌, ◌≤◌, Bool, true, false, List, [], ◌∷◌, ◌++◌, length, get_or, refl, sym, ap, ◌∙◌, subst, arith, if◌then◌else◌, inl, inr, add_assoc}
+use Rattle.std.proofs.Common.{◌≡◌, ◌≢◌, ℕ, suc, zero, ◌+◌, ◌<◌, ◌≤◌, false, List, [], ◌∷◌, length, get_or, refl, sym, ap, ◌∙◌, subst, arith, if◌then◌else◌, inl, inr, add_assoc}
 use Rattle.std.proofs.lemmas.Bool.Decides.{eqb_tells}
 use Rattle.prima_base.specs.declared.values.Value.{Value}
-use Rattle.history_store.specs.Log.{Write, newest}
+use Rattle.column_log.specs.Log.{Write, newest}
 use Rattle.relations.specs.Sets.{In}
 use Rattle.history_store.specs.Table.{row_now, rows_of}
-use Rattle.history_store.specs.Handing.{is_value, put, put_row, put_rows, handed, Distinct, AllWidth, at_column, is_same, weigh, written}
-use Rattle.history_store.proofs.Puts.{put_same, put_other, row_other, row_width}
+use Rattle.column_log.specs.Puts.{put}
+use Rattle.history_store.specs.Handing.{put_row, put_rows, handed, AllWidth, at_column, is_same, weigh, written}
+use Rattle.value_order.specs.ByValue.{Distinct}
+use Rattle.column_log.proofs.Puts.{put_same, put_other}
+use Rattle.history_store.proofs.Puts.{row_other, row_width}
+use Rattle.column_log.proofs.Weights.{put_weight, weight_of}
 
 abbrev pub One : ℕ → List (List Write) → Type 0
 One id [] = Unit {0}
@@ -15,22 +19,6 @@ One id (c ∷ columns) = (length (newest id c) ≡ 1) × One id columns
 abbrev pub NoneYet : ℕ → List (List Write) → Type 0
 NoneYet id [] = Unit {0}
 NoneYet id (c ∷ columns) = (newest id c ≡ []) × NoneYet id columns
-
--- what a column's writes weigh
-abbrev pub weight_of : (Value → ℕ) → List Write → ℕ
-weight_of f [] = 0
-weight_of f (c ∷ cells) = f c.value + weight_of f cells
-
-weight_behind : (f : Value → ℕ) (cells : List Write) (c : Write) → weight_of f (cells ++ c ∷ []) ≡ weight_of f cells + f c.value
-weight_behind f [] c = omega arith
-weight_behind f (d ∷ cells) c = let e = weight_behind f cells c in omega (arith, e)
-
-put_weight : (f : Value → ℕ) (id : ℕ) (v : Value) (stamp : ℕ) (cells : List Write) → weight_of f (put id v stamp cells) ≡ weight_of f cells + (if is_value v (newest id cells) then 0 else f v)
-put_weight f id v stamp cells = by_case (is_value v (newest id cells))
-  where
-    by_case : (b : Bool) → weight_of f (if b then cells else cells ++ record { id = id; value = v; start = stamp } ∷ []) ≡ weight_of f cells + (if b then 0 else f v)
-    by_case true = omega arith
-    by_case false = weight_behind f cells (record { id = id; value = v; start = stamp })
 
 row_weight : (f : Value → ℕ) (k id : ℕ) (row : List Value) (stamp : ℕ) (columns : List (List Write)) → k < length columns → length row ≡ length columns
     → weight_of f (get_or (put_row id row stamp columns) k []) ≡ weight_of f (get_or columns k []) + (if is_same (newest id (get_or columns k [])) (at_column k row) then 0 else weigh f (at_column k row))

@@ -11,10 +11,10 @@ use Rattle.relations.specs.Sets.{Ascends}
 use Rattle.prima_base.specs.Order.{value_cmp, row_cmp}
 use Rattle.prima_base.specs.OrderLaws.{value_total}
 use Rattle.prima_base.specs.declared.values.Value.{Value}
-use Rattle.history_store.specs.Log.{Write}
+use Rattle.column_log.specs.Log.{Write}
 use Rattle.history_store.specs.Cuts.{Cut, is_before, between}
 use Rattle.history_store.specs.Table.{row_now, rows_of}
-use Rattle.history_store.proofs.Sides.{exact_values}
+use Rattle.column_log.proofs.Puts.{exact_values}
 use Rattle.history_store.proofs.SideBySide.{rises_at}
 
 -- ---- a row before one that is before a cut

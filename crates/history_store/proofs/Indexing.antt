@@ -12,10 +12,11 @@ use Rattle.relations.specs.Spans.{Span, forever, covers}
 use Rattle.relations.proofs.SetLaws.{one_list, set_ascends, in_set, from_set}
 use Rattle.prima_base.specs.Order.{row_cmp}
 use Rattle.prima_base.specs.OrderLaws.{row_total, exact_from}
-use Rattle.history_store.specs.Log.{Write}
+use Rattle.column_log.specs.Log.{Write}
 use Rattle.history_store.specs.Store.{Cell, Column, row_at}
 use Rattle.history_store.specs.Entries.{all_entries, AreHistories}
-use Rattle.history_store.specs.Table.{no_span, IsStored}
+use Rattle.column_log.specs.Keys.{no_span}
+use Rattle.history_store.specs.Table.{IsStored}
 use Rattle.history_store.specs.TableFields.{store_of}
 use Rattle.history_store.specs.Change.{ids_from, by_rows, ids_at, rows_along}
 use Rattle.history_store.proofs.Showing.{along_is}

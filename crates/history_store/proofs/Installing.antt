@@ -5,12 +5,14 @@ use Rattle.relations.specs.Sets.{set_of}
 use Rattle.relations.specs.Spans.{Span, forever}
 use Rattle.prima_base.specs.Order.{row_cmp}
 use Rattle.prima_base.specs.declared.values.Value.{Value}
-use Rattle.history_store.specs.Log.{Write}
+use Rattle.column_log.specs.Log.{Write}
 use Rattle.history_store.specs.Store.{Column, relation_at, IsRelation, AllBefore}
 use Rattle.history_store.specs.Entries.{all_entries}
-use Rattle.history_store.specs.Table.{row_now, rows_of, no_span, IsOpen, IsStored}
+use Rattle.history_store.specs.Table.{row_now, rows_of, IsStored}
+use Rattle.column_log.specs.Keys.{no_span, IsOpen}
 use Rattle.history_store.specs.TableFields.{store_of, IsKept}
-use Rattle.history_store.specs.Handing.{put_row, put_rows, unpaired, handed, new_keys, keys_handed, logs_handed, Distinct, IsHandOver}
+use Rattle.history_store.specs.Handing.{put_row, put_rows, unpaired, handed, new_keys, keys_handed, logs_handed, IsHandOver}
+use Rattle.value_order.specs.ByValue.{Distinct}
 use Rattle.history_store.specs.Change.{Plan, IsPlan, ids_at, ids_after, rows_after, rows_along, cells_after, write_rows, close_all}
 use Rattle.history_store.specs.Indexes.{IsPlaced, ids_behind}
 use Rattle.history_store.proofs.Puts.{row_width}

@@ -3,16 +3,17 @@ use Rattle.std.proofs.Common.{◌≡◌, ◌≢◌, ℕ, zero, suc, ◌+◌, ◌
 use Rattle.relations.specs.Sets.{In, BeforeAll, Ascends}
 use Rattle.relations.specs.Spans.{Span}
 use Rattle.prima_base.specs.declared.values.Value.{Value}
-use Rattle.history_store.specs.Log.{Log, Write, newest}
+use Rattle.column_log.specs.Log.{Log, Write, newest}
 use Rattle.history_store.specs.Logs.{cells_of}
-use Rattle.history_store.specs.Table.{IsOpen}
-use Rattle.history_store.specs.Handing.{put_row, put_rows, handed, logs_handed, Distinct, IsHandOver}
+use Rattle.column_log.specs.Keys.{IsOpen}
+use Rattle.history_store.specs.Handing.{put_row, put_rows, handed, logs_handed, IsHandOver}
+use Rattle.value_order.specs.ByValue.{Distinct, by_value, ids_handed, IsWith}
 use Rattle.history_store.specs.Store.{Column}
 use Rattle.history_store.specs.TableFields.{store_of, IsKept}
 use Rattle.history_store.specs.Indexes.{ids_behind}
 use Rattle.history_store.specs.Change.{Plan, IsPlan}
-use Rattle.history_store.specs.ByValue.{Indexed, by_value, ids_handed, IsIndexed, IsReady, IsWith, IsGaining}
-use Rattle.history_store.proofs.Puts.{put_other}
+use Rattle.history_store.specs.ByValue.{Indexed, IsIndexed, IsReady, IsGaining}
+use Rattle.column_log.proofs.Puts.{put_other}
 use Rattle.history_store.proofs.Plans.{handed_is, handed_distinct}
 use Rattle.history_store.proofs.Rows.{length-cells_of}
 use Rattle.history_store.proofs.Rule.{length-unpaired}

@@ -1,6 +1,5 @@
-pub mod Newest
-pub mod StoredTexts
 pub mod Changing
+pub mod Coming
 pub mod Splicing
 pub mod Totals
 pub mod Reading
@@ -11,7 +10,6 @@ pub mod CellCounts
 pub mod Moments
 pub mod Installing
 pub mod Indexing
-pub mod Following
 pub mod Showing
 pub mod Lawful
 pub mod Entering
@@ -26,16 +24,15 @@ pub mod Room
 pub mod Carry
 pub mod SideBySide
 pub mod Planning
-pub mod Links
 pub mod Preparing
 pub mod Rule
 pub mod Counts
 pub mod Cutting
+pub mod OneColumn
 pub mod Places
-pub mod Marks
-pub mod Sorting
 pub mod Others
 pub mod Keeping
+pub mod ValueTypes
 pub mod WithValue
 pub mod OpenIds
 pub mod Refilling

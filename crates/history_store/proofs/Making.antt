@@ -3,13 +3,13 @@ use Rattle.std.proofs.Common.{◌≡◌, ℕ, suc, ◌<◌, ◌≤◌, List, [],
 use Rattle.relations.specs.Sets.{In}
 use Rattle.relations.specs.Spans.{Span, forever}
 use Rattle.prima_base.specs.declared.values.Value.{Value}
-use Rattle.history_store.specs.Log.{Write}
+use Rattle.column_log.specs.Log.{Write}
 use Rattle.history_store.specs.Store.{Column, relation_at, IsRow, IsRelation, AllBefore}
 use Rattle.history_store.specs.Entries.{all_entries}
 use Rattle.history_store.specs.Table.{IsStored}
 use Rattle.history_store.specs.TableFields.{store_of, IsKept}
 use Rattle.history_store.specs.Handing.{AllWidth, IsHandOver, only_in, lost_ids, gained_rows, after_ids}
-use Rattle.history_store.specs.StoredValues.{rows_room}
+use Rattle.history_store.specs.RowRoom.{rows_room}
 use Rattle.history_store.specs.Indexes.{Whole}
 use Rattle.history_store.specs.Change.{Plan, IsPlan, rows_after, rows_along}
 use Rattle.history_store.proofs.Planning.{is_plan, plan_rows, lost_is}

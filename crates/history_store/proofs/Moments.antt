@@ -10,9 +10,10 @@ use Rattle.relations.specs.Spans.{Span, span, forever, covers}
 use Rattle.prima_base.specs.Order.{row_cmp}
 use Rattle.prima_base.specs.OrderLaws.{row_exact}
 use Rattle.prima_base.specs.declared.values.Value.{Value}
-use Rattle.history_store.specs.Log.{Write}
+use Rattle.column_log.specs.Log.{Write}
 use Rattle.history_store.specs.Store.{Column, IsRow, IsRelation, IsPeriod, Holds}
-use Rattle.history_store.specs.Table.{row_then, row_now, rows_of, no_span, IsOpen, IsStored}
+use Rattle.history_store.specs.Table.{row_then, row_now, rows_of, IsStored}
+use Rattle.column_log.specs.Keys.{no_span, IsOpen}
 use Rattle.history_store.specs.Handing.{unpaired, handed, new_keys, keys_handed, logs_handed}
 use Rattle.relations.proofs.SetLaws.{before_in}
 use Rattle.history_store.proofs.Now.{row_is_now, rows_of_in}

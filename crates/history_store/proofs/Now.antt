@@ -5,9 +5,11 @@ use Rattle.std.proofs.lemmas.Grind.{common_steps}
 use Rattle.prima_base.specs.Order.{row_cmp}
 use Rattle.relations.specs.Spans.{Span, forever, covers}
 use Rattle.prima_base.specs.declared.values.Value.{Value}
-use Rattle.history_store.specs.Log.{Write, newest, value_at}
+use Rattle.column_log.specs.Log.{Write, newest, value_at}
 use Rattle.relations.specs.Sets.{In, set_of}
-use Rattle.history_store.specs.Table.{row_then, row_now, rows_then, rows_of, no_span, AllCells, AllColumns, IsStored}
+use Rattle.history_store.specs.Table.{row_then, row_now, rows_then, rows_of, AllColumns, IsStored}
+use Rattle.column_log.specs.Keys.{no_span}
+use Rattle.column_log.specs.Entries.{AllCells}
 use Rattle.history_store.proofs.Sides.{set_is}
 
 value_now : (id m last : ℕ) (cells : List Write) → AllCells last cells → last ≤ m → value_at id m cells ≡ newest id cells

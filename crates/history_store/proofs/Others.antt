@@ -6,11 +6,13 @@ use Rattle.std.proofs.lemmas.List.{get_or-set_same, get_or-set_other, get_or_def
 use Rattle.relations.specs.Sets.{In, Ascends}
 use Rattle.relations.proofs.SetLaws.{in_has, has_in}
 use Rattle.std.specs.Ordering.{nat_cmp}
-use Rattle.history_store.specs.Log.{Log, Write}
+use Rattle.column_log.specs.Log.{Log, Write}
 use Rattle.history_store.specs.Logs.{cells_of, few_of}
-use Rattle.history_store.specs.ByValue.{Indexed, by_value, columns_of, is_indexed, indexed_behind, least_room, IsIndexed, IsReady, IsWithout}
+use Rattle.history_store.specs.ByValue.{Indexed, columns_of, is_indexed, indexed_behind, least_room, IsIndexed, IsReady}
+use Rattle.value_order.specs.ByValue.{by_value, IsWithout}
 use Rattle.history_store.proofs.Rows.{length-cells_of}
-use Rattle.history_store.proofs.Sides.{not_true, nat_exact}
+use Rattle.value_order.proofs.Places.{not_true}
+use Rattle.history_store.proofs.Sides.{nat_exact}
 
 -- ---- one more is changed
 

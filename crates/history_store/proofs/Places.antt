@@ -12,7 +12,7 @@ use Rattle.relations.proofs.SetLaws.{in_right, before_in}
 use Rattle.prima_base.specs.Order.{row_cmp}
 use Rattle.prima_base.specs.OrderLaws.{row_exact}
 use Rattle.prima_base.specs.declared.values.Value.{Value}
-use Rattle.history_store.specs.Log.{Write}
+use Rattle.column_log.specs.Log.{Write}
 use Rattle.history_store.specs.Table.{row_now, rows_of}
 use Rattle.history_store.specs.Logs.{few_rows}
 use Rattle.history_store.specs.Indexes.{Index, Whole, Moved, IsPlaced, more_ids, without, with_each, place_without, AreAmong, AreAlong}

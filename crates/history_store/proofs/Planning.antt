@@ -8,13 +8,14 @@ use Rattle.relations.specs.Spans.{Span}
 use Rattle.prima_base.specs.OrderLaws.{row_exact, row_total}
 use Rattle.prima_base.specs.declared.values.Value.{Value}
 use Rattle.std.proofs.lemmas.Cmp.{tied_itself}
-use Rattle.history_store.specs.Log.{Write}
+use Rattle.column_log.specs.Log.{Write}
 use Rattle.relations.specs.Sets.{has, In, Ascends}
-use Rattle.history_store.specs.Table.{row_now, rows_of, IsOpen, IsStored}
-use Rattle.history_store.specs.Handing.{lost_ids, handed, Distinct, AllWidth, Pairs, AllNext, IsHandOver, found, gained_by, gained_rows, id_by, lost_by, next_by, after_ids, logs_handed}
-use Rattle.history_store.proofs.Sides.{exact_rows}
+use Rattle.history_store.specs.Table.{row_now, rows_of, IsStored}
+use Rattle.column_log.specs.Keys.{IsOpen}
+use Rattle.history_store.specs.Handing.{lost_ids, handed, AllWidth, Pairs, AllNext, IsHandOver, found, gained_by, gained_rows, id_by, lost_by, next_by, after_ids, logs_handed}
+use Rattle.value_order.specs.ByValue.{Distinct}
+use Rattle.history_store.proofs.Sides.{exact_rows, not_self}
 use Rattle.relations.proofs.SetLaws.{before_in, in_has, has_in}
-use Rattle.history_store.proofs.Sides.{not_self}
 use Rattle.history_store.proofs.Now.{rows_of_in}
 use Rattle.history_store.proofs.Plans.{next_is, next_rows}
 

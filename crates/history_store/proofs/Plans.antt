@@ -8,10 +8,12 @@ use Rattle.std.proofs.lemmas.List.{get_or-set_same, get_or-set_other}
 use Rattle.prima_base.specs.Order.{row_cmp}
 use Rattle.relations.specs.Spans.{Span, forever, covers}
 use Rattle.prima_base.specs.declared.values.Value.{Value}
-use Rattle.history_store.specs.Log.{Write}
+use Rattle.column_log.specs.Log.{Write}
 use Rattle.relations.specs.Sets.{In, Ascends}
-use Rattle.history_store.specs.Table.{row_then, row_now, rows_then, rows_of, no_span, IsOpen, AllColumns, IsStored}
-use Rattle.history_store.specs.Handing.{put_row, put_rows, ended_at, end_keys, unpaired, handed, new_keys, keys_handed, logs_handed, Distinct, AllWidth, Pairs, AllNext, IsHandOver}
+use Rattle.history_store.specs.Table.{row_then, row_now, rows_then, rows_of, AllColumns, IsStored}
+use Rattle.column_log.specs.Keys.{no_span, IsOpen, ended_at}
+use Rattle.history_store.specs.Handing.{put_row, put_rows, end_keys, unpaired, handed, new_keys, keys_handed, logs_handed, AllWidth, Pairs, AllNext, IsHandOver}
+use Rattle.value_order.specs.ByValue.{Distinct}
 use Rattle.history_store.proofs.Puts.{row_before, row_same, row_other, row_all, row_width, columns_more}
 
 -- columns
@@ -189,7 +191,7 @@ next_rows keys lost gained stamp columns (id ∷ ids) (row ∷ rows) d b w a =
     ] in
     rw (here, rest) refl
 
-pairs_in : (id : ℕ) (row : List Value) (ids : List ℕ) (rows : List (List Value)) → Pairs id row ids rows → In id ids
+pub pairs_in : (id : ℕ) (row : List Value) (ids : List ℕ) (rows : List (List Value)) → Pairs id row ids rows → In id ids
 pairs_in id row [] rows p = absurd p
 pairs_in id row (j ∷ ids) [] p = absurd p
 pairs_in id row (j ∷ ids) (r ∷ rows) (inl p) = inl p.0

@@ -3,10 +3,12 @@ use Rattle.std.proofs.Common.{◌≡◌, ℕ, suc, ◌<◌, ◌≤◌, List, [],
 use Rattle.std.specs.Prelude.{All}
 use Rattle.relations.specs.Spans.{Span}
 use Rattle.relations.specs.Sets.{In}
-use Rattle.history_store.specs.Log.{Log}
+use Rattle.column_log.specs.Log.{Log}
 use Rattle.history_store.specs.Logs.{least_spare, cells_of}
-use Rattle.history_store.specs.Table.{IsOpen, AllCells, AllColumns, IsStored}
-use Rattle.history_store.proofs.Carry.{in_get}
+use Rattle.column_log.specs.Keys.{IsOpen}
+use Rattle.column_log.specs.Entries.{AllCells}
+use Rattle.history_store.specs.Table.{AllColumns, IsStored}
+use Rattle.value_order.proofs.Places.{in_get}
 
 pub all_known : (live live' : List ℕ) (keys : List Span) (columns columns' : List Log) → live' ≡ live → columns' ≡ columns → ((q : ℕ) → In q live → IsOpen keys q) → All (λ c. c.ids ≡ length keys) columns
     → (id k : ℕ) (d : Log) → id < length live' → k < length columns' → get_or live' id 0 < (get_or columns' k d).ids

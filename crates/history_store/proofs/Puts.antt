@@ -1,51 +1,11 @@
 -- What is seen of the columns after a stamp wrote some rows.
-use Rattle.std.proofs.Common.{◌≡◌, ◌≢◌, ℕ, ◌<◌, ◌≤◌, Bool, true, false, List, [], ◌∷◌, ◌++◌, length, refl, ap, arith, if◌then◌else◌}
-use Rattle.std.proofs.lemmas.Map.Views.{tells_apart}
+use Rattle.std.proofs.Common.{◌≡◌, ◌≢◌, ℕ, ◌<◌, ◌≤◌, List, [], ◌∷◌, length, refl, arith}
 use Rattle.prima_base.specs.declared.values.Value.{Value}
-use Rattle.history_store.specs.Log.{Write, newest, value_at}
-use Rattle.history_store.specs.Table.{row_then, row_now, AllCells, AllColumns}
-use Rattle.history_store.specs.Handing.{is_value, put, put_row}
-use Rattle.history_store.proofs.Newest.{newest-same, newest-other, value_at-before}
-use Rattle.history_store.proofs.Sides.{exact_values}
+use Rattle.column_log.specs.Log.{Write}
+use Rattle.history_store.specs.Table.{row_then, row_now, AllColumns}
+use Rattle.history_store.specs.Handing.{put_row}
+use Rattle.column_log.proofs.Puts.{all_more, put_all_cells, put_before, put_other, put_same}
 
--- by whether a cell is added
-pub by_put : (P : List Write → Type 0) (id : ℕ) (v : Value) (stamp : ℕ) (cells : List Write)
-    → (is_value v (newest id cells) ≡ true → P cells) → P (cells ++ record { id = id; value = v; start = stamp } ∷ []) → P (put id v stamp cells)
-by_put P id v stamp cells kept added = by_case (is_value v (newest id cells)) refl
-  where
-    by_case : (b : Bool) → is_value v (newest id cells) ≡ b → P (if b then cells else cells ++ record { id = id; value = v; start = stamp } ∷ [])
-    by_case true e = kept e
-    by_case false e = added
-
-pub is_value_is : (v : Value) (vs : List Value) → is_value v vs ≡ true → vs ≡ v ∷ []
-is_value_is v [] e = cc
-is_value_is v (w ∷ []) e = ap (λ x. x ∷ []) (tells_apart exact_values w v e)
-is_value_is v (w ∷ (x ∷ ws)) e = cc
-
-pub put_before : (j m id : ℕ) (v : Value) (stamp : ℕ) (cells : List Write) → m < stamp → value_at j m (put id v stamp cells) ≡ value_at j m cells
-put_before j m id v stamp cells h =
-    by_put (λ cs. value_at j m cs ≡ value_at j m cells) id v stamp cells (λ e. refl) (value_at-before j m cells (record { id = id; value = v; start = stamp }) h)
-
-pub put_same : (id : ℕ) (v : Value) (stamp : ℕ) (cells : List Write) → newest id (put id v stamp cells) ≡ v ∷ []
-put_same id v stamp cells =
-    by_put (λ cs. newest id cs ≡ v ∷ []) id v stamp cells (is_value_is v (newest id cells)) (newest-same id cells (record { id = id; value = v; start = stamp }) refl)
-
-pub put_other : (j id : ℕ) (v : Value) (stamp : ℕ) (cells : List Write) → id ≢ j → newest j (put id v stamp cells) ≡ newest j cells
-put_other j id v stamp cells n =
-    by_put (λ cs. newest j cs ≡ newest j cells) id v stamp cells (λ e. refl) (newest-other j cells (record { id = id; value = v; start = stamp }) n)
-
-all_more : (last stamp : ℕ) (cells : List Write) → last ≤ stamp → AllCells last cells → AllCells stamp cells
-all_more last stamp [] h a = tt
-all_more last stamp (c ∷ cells) h a = let s : c.start ≤ last = a.0 in (omega arith, all_more last stamp cells h a.1)
-
-all_added : (stamp : ℕ) (cells : List Write) (c : Write) → c.start ≤ stamp → AllCells stamp cells → AllCells stamp (cells ++ c ∷ [])
-all_added stamp [] c h a = (h, tt)
-all_added stamp (d ∷ cells) c h a = (a.0, all_added stamp cells c h a.1)
-
-pub put_all_cells : (id : ℕ) (v : Value) (stamp : ℕ) (cells : List Write) → AllCells stamp cells → AllCells stamp (put id v stamp cells)
-put_all_cells id v stamp cells a = by_put (AllCells stamp) id v stamp cells (λ e. a) (all_added stamp cells (record { id = id; value = v; start = stamp }) (omega arith) a)
-
--- rows
 pub row_before : (j m id : ℕ) (row : List Value) (stamp : ℕ) (columns : List (List Write)) → m < stamp → row_then j m (put_row id row stamp columns) ≡ row_then j m columns
 row_before j m id row stamp [] h = refl
 row_before j m id [] stamp (c ∷ columns) h = refl

@@ -9,17 +9,18 @@ use Rattle.relations.proofs.SetLaws.{in_has, has_in}
 use Rattle.prima_base.specs.Order.{row_cmp}
 use Rattle.prima_base.specs.OrderLaws.{row_exact, row_total}
 use Rattle.prima_base.specs.declared.values.Value.{Value}
-use Rattle.history_store.specs.Log.{Log, Write}
+use Rattle.column_log.specs.Log.{Log, Write}
 use Rattle.history_store.specs.Logs.{cells_of}
 use Rattle.history_store.specs.Store.{Column, Store, relation_at, IsRow, IsBefore, AllBefore}
-use Rattle.history_store.specs.Entries.{entries_from, all_entries, IsHistory}
+use Rattle.column_log.specs.Entries.{entries_from, IsHistory}
+use Rattle.history_store.specs.Entries.{all_entries}
 use Rattle.history_store.specs.Table.{row_now, rows_of}
 use Rattle.history_store.specs.TableFields.{store_of, IsKept}
 use Rattle.history_store.proofs.Rows.{get_or-cells_of, length-cells_of}
 use Rattle.history_store.proofs.Counting.{column_count, column_entries, column_history}
 use Rattle.history_store.proofs.Now.{rows_of_in, in_rows_of}
-use Rattle.history_store.proofs.Sides.{exact_rows, not_true}
-use Rattle.history_store.proofs.Carry.{in_get}
+use Rattle.history_store.proofs.Sides.{exact_rows}
+use Rattle.value_order.proofs.Places.{not_true, in_get}
 use Rattle.history_store.proofs.Making.{row_wide}
 use Rattle.history_store.proofs.Showing.{relation_now}
 

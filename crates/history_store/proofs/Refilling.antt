@@ -14,15 +14,15 @@ use Rattle.relations.specs.Spans.{Span, covers}
 use Rattle.relations.proofs.SetLaws.{in_append, in_filter, from_filter, from_map, before_in, one_list_of}
 use Rattle.relations.proofs.ListingLaws.{less_nat}
 use Rattle.prima_base.specs.declared.values.Value.{Value}
-use Rattle.history_store.specs.Log.{Write}
+use Rattle.column_log.specs.Log.{Write}
 use Rattle.history_store.specs.Store.{Cell, shown_at, IsPeriod, cell_cmp, IsFilled}
-use Rattle.history_store.specs.Chains.{of_id}
-use Rattle.history_store.specs.Entries.{entry, with_ends, entries_from, Climbs, Fits, IsHistory}
-use Rattle.history_store.specs.Table.{no_span}
+use Rattle.column_log.specs.Chains.{of_id}
+use Rattle.column_log.specs.Entries.{entry, with_ends, entries_from, Climbs, Fits, IsHistory}
+use Rattle.column_log.specs.Keys.{no_span}
 use Rattle.history_store.specs.Restoring.{write_of, AreInTurn, ids_known}
 use Rattle.history_store.proofs.Sides.{passed_ascend}
-use Rattle.history_store.proofs.Showing.{in_entries}
-use Rattle.history_store.proofs.Lawful.{entries_ascend}
+use Rattle.column_log.proofs.Showing.{in_entries}
+use Rattle.column_log.proofs.Filling.{entries_ascend}
 
 -- ---- the order of entries
 

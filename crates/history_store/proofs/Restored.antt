@@ -1,16 +1,19 @@
 -- A table that is made again is kept as each table is.
 use Rattle.std.proofs.Common.{◌≡◌, ℕ, suc, ◌<◌, true, List, [], ◌∷◌, All, length, map, get_or, refl, sym, ap, ◌∙◌, subst, arith, inl, inr}
 use Rattle.std.proofs.lemmas.Bool.Decides.{nat_tests}
-use Rattle.relations.specs.Sets.{In, Ascends, Same}
+use Rattle.relations.specs.Sets.{In, Ascends}
 use Rattle.relations.specs.Spans.{Span, forever, covers}
+use Rattle.prima_base.specs.Columns.{IsLawful}
 use Rattle.prima_base.specs.Order.{row_cmp}
 use Rattle.history_store.specs.Store.{Cell, Column, cells_in, row_at, IsRow, IsPeriod, IsFilled, Holds, IsStore}
 use Rattle.history_store.specs.Entries.{all_entries, AreHistories}
-use Rattle.history_store.specs.Table.{no_span, row_now, row_then, rows_of, IsOpen, AllCells, AllColumns}
+use Rattle.column_log.specs.Keys.{no_span, IsOpen}
+use Rattle.history_store.specs.Table.{row_now, row_then, rows_of, AllColumns}
+use Rattle.column_log.specs.Entries.{AllCells}
 use Rattle.history_store.specs.TableFields.{IsKept}
-use Rattle.history_store.specs.Change.{ids_from}
-use Rattle.history_store.specs.Restoring.{store_with, write_of, writes_of, AreInTurn, ids_known}
-use Rattle.history_store.proofs.Carry.{in_get}
+use Rattle.history_store.specs.Change.{ids_from, rows_along}
+use Rattle.history_store.specs.Restoring.{store_with, write_of, writes_of, AreInTurn, ids_known, AreLawfulCells, IsInOrder}
+use Rattle.value_order.proofs.Places.{in_get}
 use Rattle.history_store.proofs.Puts.{columns_more}
 use Rattle.history_store.proofs.Now.{row_is_now}
 use Rattle.history_store.proofs.Showing.{row_shown}
@@ -19,6 +22,10 @@ use Rattle.history_store.proofs.Refilling.{history_again, entries_again, in_turn
 
 all_from : {X : Type 0} (P : X → Type 0) (xs : List X) → ((x : X) → In x xs → P x) → All P xs
 all_from P xs f k d h = f (get_or xs k d) (in_get xs k d h)
+
+pub lawful_cells : (cells : List Cell) → All (λ c. IsLawful c.value) cells → AreLawfulCells cells
+lawful_cells [] a = tt
+lawful_cells (c ∷ cells) a = (a 0 c (omega arith), lawful_cells cells (λ k d h. a (suc k) d (omega (arith, h))))
 
 length-writes : (lists : List (List Cell)) → length (writes_of lists) ≡ length lists
 length-writes [] = refl
@@ -78,27 +85,27 @@ module _ (columns : List Column) (keys : List Span) (lists : List (List Cell)) (
   row_was : (m id : ℕ) → Holds keys id m → row_at id m lists ≡ row_then id m (writes_of lists)
   row_was m id h = sym (ap (row_at id m) entries_restored) ∙ row_shown id m keys (writes_of lists) (histories_of keys lasting lists s.filled) h.0 h.1
 
-  pub rows_apart : (p q : ℕ) → In p (ids_from 0 last_moment keys) → In q (ids_from 0 last_moment keys) → row_now p (writes_of lists) ≡ row_now q (writes_of lists) → p ≡ q
-  rows_apart p q i j e =
-      let a = is_open p i in
-      let b = is_open q j in
-      s.apart last_moment p q (a.0, at_last p a) (b.0, at_last q b) (sym (row_is p a) ∙ e ∙ row_is q b)
+  rows_are : (ids : List ℕ) → ((q : ℕ) → In q ids → IsOpen keys q) → rows_of ids (writes_of lists) ≡ rows_along ids last_moment lists
+  rows_are [] o = refl
+  rows_are (id ∷ ids) o = rw (row_is id (o id (inl refl)), rows_are ids (λ q i. o q (inr i))) refl
 
-  pub restored_kept : (live : List ℕ) → Same live (ids_from 0 last_moment keys) → Ascends row_cmp (rows_of live (writes_of lists)) → IsKept columns keys (writes_of lists) live
-  restored_kept live same rises = record {
-    names = s.columns;
-    width = length-writes lists ∙ s.width;
-    histories = histories_of keys lasting lists s.filled;
-    stored = record {
-      columns_fit = columns_more last_moment forever (writes_of lists) (omega arith) (columns_last keys lists s.filled);
-      started = λ id h. (let l = lasting id h in let a = l.0 in let b = l.1 in omega (arith, a, b));
-      ended = λ id h. inl (lasting id h).1;
-      are_open = λ id i. is_open id (same.there id i);
-      are_live = λ id o. same.back id (are_there keys lasting id o);
-      ordered = rises;
-    };
-    fitting = λ id i. (let o = is_open id (same.there id i) in subst (IsRow columns) (sym (row_is id o)) (s.fitting last_moment id (o.0, at_last id o)));
-    lasting = lasting;
-    fitted = λ m id h. subst (IsRow columns) (row_was m id h) (s.fitting m id h);
-    apart = λ m i j a b e. s.apart m i j a b (row_was m i a ∙ e ∙ sym (row_was m j b));
-  }
+  pub restored_kept : (live : List ℕ) → IsInOrder keys lists live → IsKept columns keys (writes_of lists) live
+  restored_kept live order =
+      let same = order.same in
+      record {
+        names = s.columns;
+        width = length-writes lists ∙ s.width;
+        histories = histories_of keys lasting lists s.filled;
+        stored = record {
+          columns_fit = columns_more last_moment forever (writes_of lists) (omega arith) (columns_last keys lists s.filled);
+          started = λ id h. (let l = lasting id h in let a = l.0 in let b = l.1 in omega (arith, a, b));
+          ended = λ id h. inl (lasting id h).1;
+          are_open = λ id i. is_open id (same.there id i);
+          are_live = λ id o. same.back id (are_there keys lasting id o);
+          ordered = subst (Ascends row_cmp) (sym (rows_are live (λ q i. is_open q (same.there q i)))) order.rises;
+        };
+        fitting = λ id i. (let o = is_open id (same.there id i) in subst (IsRow columns) (sym (row_is id o)) (s.fitting last_moment id (o.0, at_last id o)));
+        lasting = lasting;
+        fitted = λ m id h. subst (IsRow columns) (row_was m id h) (s.fitting m id h);
+        apart = λ m i j a b e. s.apart m i j a b (row_was m i a ∙ e ∙ sym (row_was m j b));
+      }

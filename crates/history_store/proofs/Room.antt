@@ -1,7 +1,8 @@
 -- Room for rows, in pieces.
 use Rattle.std.proofs.Common.{ℕ, zero, suc, ◌<◌, ◌≤◌, List, [], ◌∷◌, length, get_or, arith}
 use Rattle.prima_base.specs.declared.values.Value.{Value}
-use Rattle.history_store.specs.StoredValues.{text_room, row_room, rows_room}
+use Rattle.column_log.specs.StoredValues.{text_room}
+use Rattle.history_store.specs.RowRoom.{row_room, rows_room}
 
 some_room : (row : List Value) → 0 < row_room row
 some_room [] = omega arith

@@ -1,12 +1,14 @@
 -- Rows that are written column by column.
-use Rattle.std.proofs.Common.{◌≡◌, ◌≢◌, ℕ, zero, suc, ◌+◌, ◌<◌, ◌≤◌, List, [], ◌∷◌, ◌++◌, length, get_or, set, refl, sym, ap, ◌∙◌, append-nil, subst, arith, inl, inr}
+use Rattle.std.proofs.Common.{◌≡◌, ◌≢◌, ℕ, zero, suc, ◌+◌, ◌<◌, ◌≤◌, true, List, [], ◌∷◌, ◌++◌, length, get_or, set, take, refl, sym, ap, ◌∙◌, append-nil, subst, arith, inl, inr}
 use Rattle.std.proofs.lemmas.Bool.Decides.{eqb_tells}
-use Rattle.std.proofs.lemmas.List.{get_or-set_same, get_or-set_other, get_or_default}
+use Rattle.std.proofs.lemmas.List.{get_or-set_same, get_or-set_other, get_or_default, take_more}
 use Rattle.std.specs.Prelude.{min, max}
 use Rattle.prima_base.specs.declared.values.Value.{Value}
-use Rattle.history_store.specs.Log.{Log, Write}
-use Rattle.history_store.specs.Logs.{cells_of, least_spare}
-use Rattle.history_store.specs.Handing.{put, put_row, unpaired, new_keys}
+use Rattle.column_log.specs.Log.{Log, Write}
+use Rattle.history_store.specs.Logs.{cells_of, kinds_of, types_of, AreOf, least_spare}
+use Rattle.history_store.specs.Store.{Column, has_type}
+use Rattle.column_log.specs.Puts.{put}
+use Rattle.history_store.specs.Handing.{put_row, unpaired, new_keys}
 use Rattle.relations.specs.Spans.{Span}
 
 pub put_row-nil : (id stamp : ℕ) (columns : List (List Write)) → columns ≡ put_row id [] stamp columns
@@ -115,3 +117,35 @@ least_from a b columns others l f = let r = least_up a b columns l in let q = f 
 -- the less of two rooms, of which the first grows
 pub less_up : (a b n : ℕ) → a ≤ b → min a n ≤ min b n
 less_up a b n l = grind arith
+
+-- ---- the types of columns
+
+pub kinds_kept : (columns : List Log) (k : ℕ) (c d : Log) → k < length columns → c.kind ≡ (get_or columns k d).kind → kinds_of (set columns k c) ≡ kinds_of columns
+kinds_kept [] k c d h e = absurd (omega arith)
+kinds_kept (b ∷ columns) zero c d h e = ap (λ x. x ∷ kinds_of columns) e
+kinds_kept (b ∷ columns) (suc k) c d h e = ap (λ xs. b.kind ∷ xs) (kinds_kept columns k c d (omega arith) e)
+
+pub kinds_of-push : (columns : List Log) (c : Log) → kinds_of (columns ++ c ∷ []) ≡ kinds_of columns ++ c.kind ∷ []
+kinds_of-push [] c = refl
+kinds_of-push (d ∷ columns) c = ap (λ ks. d.kind ∷ ks) (kinds_of-push columns c)
+
+-- a value of the row is of its column's type
+pub of_kind : (columns : List Log) (row : List Value) (k : ℕ) (d : Log) (v : Value) → AreOf (kinds_of columns) row → k < length row → has_type (get_or columns k d).kind (get_or row k v) ≡ true
+of_kind columns [] k d v a h = absurd (omega arith)
+of_kind [] (w ∷ row) k d v a h = absurd a
+of_kind (c ∷ columns) (w ∷ row) zero d v a h = a.0
+of_kind (c ∷ columns) (w ∷ row) (suc k) d v a h = of_kind columns row k d v a.1 (omega arith)
+
+types_of-push : (columns : List Column) (c : Column) → types_of (columns ++ c ∷ []) ≡ types_of columns ++ c.1 ∷ []
+types_of-push [] c = refl
+types_of-push (d ∷ columns) c = ap (λ ks. d.1 ∷ ks) (types_of-push columns c)
+
+-- one more column, of its type
+pub kinds_more : (logs : List Log) (c : Log) (columns : List Column) (k : ℕ) (d : Column) → kinds_of logs ≡ types_of (take k columns) → k < length columns → c.kind ≡ (get_or columns k d).1
+    → kinds_of (logs ++ c ∷ []) ≡ types_of (take (k + 1) columns)
+kinds_more logs c columns k d e h t =
+    kinds_of-push logs c
+    ∙ ap (λ ks. ks ++ c.kind ∷ []) e
+    ∙ ap (λ t. types_of (take k columns) ++ t ∷ []) t
+    ∙ sym (types_of-push (take k columns) (get_or columns k d))
+    ∙ ap types_of (sym (take_more columns k d h))

@@ -7,7 +7,7 @@ use Rattle.prima_base.specs.Order.{row_cmp}
 use Rattle.relations.specs.Spans.{Span}
 use Rattle.prima_base.specs.OrderLaws.{row_total}
 use Rattle.prima_base.specs.declared.values.Value.{Value}
-use Rattle.history_store.specs.Log.{Write}
+use Rattle.column_log.specs.Log.{Write}
 use Rattle.relations.specs.Sets.{has}
 use Rattle.history_store.specs.Table.{row_now, rows_of}
 use Rattle.history_store.specs.Handing.{only_in, lost_ids, gained_by, gained_rows, found, unpaired, keys_handed, new_keys}

@@ -6,7 +6,7 @@ use Rattle.std.specs.declared.cmp.Ordering.TheVariants.{Less, Equal, Greater}
 use Rattle.std.specs.Ordering.{ordering_reverse}
 use Rattle.prima_base.specs.OrderLaws.{row_total}
 use Rattle.prima_base.specs.declared.values.Value.{Value}
-use Rattle.history_store.specs.Log.{Write}
+use Rattle.column_log.specs.Log.{Write}
 use Rattle.prima_base.specs.Order.{row_cmp}
 use Rattle.relations.specs.Sets.{has, BeforeAll, Ascends}
 use Rattle.history_store.specs.Table.{row_now, rows_of}
@@ -14,11 +14,10 @@ use Rattle.history_store.specs.Handing.{lost_ids, first_order, found, owner, own
 use Rattle.std.proofs.lemmas.List.{drop_more}
 use Rattle.std.proofs.lemmas.Bool.{cases_lt}
 use Rattle.std.proofs.Math.ListN.{drop_of_length-le}
-use Rattle.history_store.proofs.Sides.{exact_rows}
+use Rattle.history_store.proofs.Sides.{exact_rows, before_more}
 use Rattle.relations.proofs.SetLaws.{before_in}
-use Rattle.history_store.proofs.Sides.{before_more}
 use Rattle.history_store.proofs.Now.{rows_of_in}
-use Rattle.history_store.proofs.Carry.{in_get}
+use Rattle.value_order.proofs.Places.{in_get}
 
 not_in : (q : List Value) (rows : List (List Value)) → BeforeAll row_cmp q rows → has row_cmp q rows ≡ false
 not_in q [] b = refl

@@ -1,5 +1,5 @@
 -- Ascending lists, as the other files use them.
-use Rattle.std.proofs.Common.{◌≡◌, Bool, true, false, cond, List, [], ◌∷◌, refl, sym, ap, ◌∙◌}
+use Rattle.std.proofs.Common.{◌≡◌, Bool, true, false, cond, List, [], ◌∷◌, sym, ap, ◌∙◌}
 use Rattle.std.specs.List.{filter}
 use Rattle.std.specs.Cmp.{IsTotalOrder}
 use Rattle.std.specs.declared.cmp.Ordering.{Ordering}
@@ -7,29 +7,17 @@ use Rattle.std.specs.declared.cmp.Ordering.TheVariants.{Less, Equal, Greater}
 use Rattle.std.specs.FinMap.{nat_cmp-IsAntisymmetric}
 use Rattle.std.specs.Ordering.{nat_cmp, ordering_reverse}
 use Rattle.std.proofs.lemmas.Cmp.{nat_cmp_total}
-use Rattle.std.proofs.lemmas.Map.Lookups.{exact_signed, exact_bytes}
 use Rattle.relations.specs.Sets.{In, BeforeAll, Ascends, IsExact, set_of}
 use Rattle.relations.proofs.SetLaws.{below_each, before_in, from_filter, one_list, set_ascends, in_set, from_set}
-use Rattle.prima_base.specs.Order.{value_cmp, row_cmp}
+use Rattle.prima_base.specs.Order.{row_cmp}
 use Rattle.prima_base.specs.OrderLaws.{row_exact, exact_from}
 use Rattle.prima_base.specs.declared.values.Value.{Value}
-use Rattle.prima_base.specs.declared.values.Value.TheVariants.{Int, Text}
-
-pub exact_values : (a b : Value) → value_cmp a b ≡ Equal → a ≡ b
-exact_values (Int a) (Int b) e = ap Int (exact_signed a b e)
-exact_values (Int a) (Text b) e = cc
-exact_values (Text a) (Int b) e = cc
-exact_values (Text a) (Text b) e = ap Text (exact_bytes a b e)
 
 pub exact_rows : (a b : List Value) → row_cmp a b ≡ Equal → a ≡ b
 exact_rows a b e = row_exact.same a b e
 
 pub nat_exact : IsExact nat_cmp
 nat_exact = exact_from nat_cmp_total nat_cmp-IsAntisymmetric
-
-pub not_true : (b : Bool) → (b ≡ true → ⊥) → b ≡ false
-not_true true f = absurd (f refl)
-not_true false f = refl
 
 module _ {A : Type 0} (R : A → A → Ordering) (o : IsTotalOrder R) (exact : (x y : A) → R x y ≡ Equal → x ≡ y) where
   not_both : (x y : A) → R x y ≡ Less → R y x ≡ Less → ⊥

@@ -7,13 +7,13 @@ use Rattle.relations.proofs.SetLaws.{in_append, in_left, in_right, below_each}
 use Rattle.prima_base.specs.Order.{row_cmp}
 use Rattle.prima_base.specs.OrderLaws.{row_total, row_exact}
 use Rattle.prima_base.specs.declared.values.Value.{Value}
-use Rattle.history_store.specs.Log.{Write}
+use Rattle.column_log.specs.Log.{Write}
 use Rattle.history_store.specs.Table.{row_now, rows_of}
 use Rattle.history_store.specs.Handing.{handed, id_by, lost_by, next_by}
 use Rattle.history_store.specs.Splices.{IsSplit, IsJoined}
 use Rattle.relations.proofs.SetLaws.{before_in}
 use Rattle.history_store.proofs.Now.{rows_of_in, in_rows_of}
-use Rattle.history_store.proofs.Carry.{in_get}
+use Rattle.value_order.proofs.Places.{in_get}
 use Rattle.std.proofs.lemmas.Cmp.{tied_itself}
 use Rattle.std.proofs.lemmas.List.{drop_more, take-append-drop}
 
@@ -164,6 +164,10 @@ taken_next columns live found kept xs ys x lost left y t e = record {
 
 pub taken_all : (columns : List (List Write)) (live found kept rest : List ℕ) (lost : List (List Value)) → IsTaken columns live found kept rest lost [] → IsSplit columns live found (kept ++ rest) lost
 taken_all columns live found kept rest lost t = record { rows = sym (append-nil (rows_of found columns)) ∙ t.rows; rises = t.rises; both = t.both; found_in = t.found_in; kept_in = t.kept_in; apart = t.apart }
+
+-- where no row is lost each id stays
+pub taken_none : (columns : List (List Write)) (live : List ℕ) → Ascends row_cmp (rows_of live columns) → IsSplit columns live [] live []
+taken_none columns live a = record { rows = refl; rises = a; both = λ q i. inr i; found_in = λ q i. absurd i; kept_in = λ q i. i; apart = λ q i j. i }
 
 -- ids that are put in one by one
 pub record IsPut (columns : List (List Write)) (kept ids after rest coming : List ℕ) (gained left : List (List Value)) : Type 0 where

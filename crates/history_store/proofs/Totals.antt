@@ -2,15 +2,17 @@
 use Rattle.std.proofs.Common.{◌≡◌, ℕ, ◌+◌, ◌<◌, ◌≤◌, List, [], ◌∷◌, length, get_or, refl, sym, ap, ◌∙◌, subst, arith}
 use Rattle.relations.specs.Spans.{Span}
 use Rattle.prima_base.specs.declared.values.Value.{Value}
-use Rattle.history_store.specs.Log.{Write, over}
-use Rattle.history_store.specs.Chains.{of_id}
+use Rattle.column_log.specs.Log.{Write, over}
+use Rattle.column_log.specs.Chains.{of_id}
 use Rattle.history_store.specs.Store.{Column, weight}
-use Rattle.history_store.specs.Entries.{Fits, all_entries, AreHistories}
-use Rattle.history_store.specs.Table.{no_span, rows_of}
+use Rattle.column_log.specs.Entries.{Fits}
+use Rattle.history_store.specs.Entries.{all_entries, AreHistories}
+use Rattle.column_log.specs.Keys.{no_span}
+use Rattle.history_store.specs.Table.{rows_of}
 use Rattle.history_store.specs.TableFields.{store_of, IsKept}
 use Rattle.history_store.specs.Handing.{keys_handed, logs_handed, written, AllWidth}
 use Rattle.history_store.specs.Change.{Plan, IsPlan, rows_along}
-use Rattle.history_store.proofs.Histories.{last_value, newest_is, none_known}
+use Rattle.column_log.proofs.Histories.{last_value, newest_is, none_known}
 use Rattle.history_store.proofs.Counts.{One, NoneYet, rows_weight}
 use Rattle.history_store.proofs.Counting.{column_weight}
 use Rattle.history_store.proofs.Showing.{along_is}

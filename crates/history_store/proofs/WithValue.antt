@@ -10,17 +10,20 @@ use Rattle.relations.proofs.ListingLaws.{nat_less}
 use Rattle.prima_base.specs.Order.{row_cmp}
 use Rattle.prima_base.specs.OrderLaws.{row_exact}
 use Rattle.prima_base.specs.declared.values.Value.{Value}
-use Rattle.history_store.specs.Log.{Write, newest}
+use Rattle.column_log.specs.Log.{Write, newest}
 use Rattle.history_store.specs.Store.{rows_from}
 use Rattle.history_store.specs.Entries.{all_entries, AreHistories}
-use Rattle.history_store.specs.Table.{row_then, row_now, rows_then, rows_of, no_span, AllColumns, IsStored}
-use Rattle.history_store.specs.Handing.{is_value, at_column}
+use Rattle.history_store.specs.Table.{row_then, row_now, rows_then, rows_of, AllColumns, IsStored}
+use Rattle.column_log.specs.Keys.{no_span}
+use Rattle.column_log.specs.Puts.{is_value}
+use Rattle.history_store.specs.Handing.{at_column}
 use Rattle.history_store.specs.Change.{ids_from}
-use Rattle.history_store.specs.ByValue.{Indexed, by_value, ids_with, rows_with, IsIndexed}
+use Rattle.history_store.specs.ByValue.{Indexed, rows_with, IsIndexed}
+use Rattle.value_order.specs.ByValue.{by_value, ids_with}
 use Rattle.history_store.proofs.Counts.{one_at}
 use Rattle.history_store.proofs.Totals.{one_now}
 use Rattle.history_store.proofs.Now.{row_is_now}
-use Rattle.history_store.proofs.Puts.{is_value_is}
+use Rattle.column_log.proofs.Puts.{is_value_is}
 use Rattle.history_store.proofs.Sides.{nat_exact, passed_ascend}
 use Rattle.history_store.proofs.Indexing.{held_live, holds_now}
 use Rattle.history_store.proofs.Showing.{rows_shown}

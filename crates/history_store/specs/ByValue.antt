@@ -1,25 +1,14 @@
--- Ids in the order of the values of one column.
-use Rattle.std.specs.Prelude.{◌≡◌, ◌⊎◌, ℕ, zero, suc, ◌+◌, ◌<◌, ◌≤◌, ◌&&◌, Bool, min, nat_le, List, [], ◌∷◌, ◌++◌, length, map, if◌then◌else◌, slice_index_or}
+-- The indexes of a table by the values of its columns.
+use Rattle.std.specs.Prelude.{◌≡◌, ℕ, ◌+◌, ◌<◌, ◌≤◌, ◌&&◌, Bool, min, nat_le, List, [], ◌∷◌, ◌++◌, length, map, if◌then◌else◌, slice_index_or}
 use Rattle.std.specs.List.{filter}
-use Rattle.std.specs.Ordering.{nat_cmp, ordering_then}
-use Rattle.std.specs.declared.cmp.Ordering.{Ordering}
+use Rattle.std.specs.Ordering.{nat_cmp}
 use Rattle.relations.specs.Sets.{In, Ascends, has}
-use Rattle.prima_base.specs.Order.{row_cmp}
 use Rattle.prima_base.specs.declared.values.Value.{Value}
-use Rattle.history_store.specs.Log.{Log, Write, newest}
+use Rattle.column_log.specs.Log.{Log, Write}
 use Rattle.history_store.specs.Logs.{cells_of, few_of}
-use Rattle.history_store.specs.Handing.{is_value, at_column}
-
--- what a row has in a column, and the row's id: by the value, and then by the id
-abbrev pub mark_cmp : List Value × ℕ → List Value × ℕ → Ordering
-mark_cmp a b = ordering_then (row_cmp a.0 b.0) (nat_cmp a.1 b.1)
-
-abbrev pub mark_of : List Write → ℕ → List Value × ℕ
-mark_of cells id = (newest id cells, id)
-
--- ids by what their rows have in the column now, and then by themselves
-abbrev pub by_value : List Write → ℕ → ℕ → Ordering
-by_value cells i j = mark_cmp (mark_of cells i) (mark_of cells j)
+use Rattle.column_log.specs.Puts.{is_value}
+use Rattle.history_store.specs.Handing.{at_column}
+use Rattle.value_order.specs.ByValue.{by_value, IsWithout, IsWith}
 
 -- an index of a column: the column's place, the ids, and for how many more there is room
 pub record Indexed : Type 0 where
@@ -61,19 +50,6 @@ pub record IsReady (columns : List Log) (x : Indexed) : Type 0 where
   pub known : (q : ℕ) (d : Log) → In q x.ids → q < (slice_index_or columns x.column d).ids
   pub rises : Ascends (by_value (slice_index_or (cells_of columns) x.column [])) x.ids
 
--- the first ids without the lost ones, in the order of a column
-pub record IsWithout (cells : List Write) (lost before after : List ℕ) : Type 0 where
-  pub rises : Ascends (by_value cells) after
-  pub only : (q : ℕ) → In q after → In q before × (In q lost → ⊥)
-  pub all : (q : ℕ) → In q before → (In q lost → ⊥) → In q after
-
--- the first ids and the new ones, in the order of a column
-pub record IsWith (cells : List Write) (new before after : List ℕ) : Type 0 where
-  pub rises : Ascends (by_value cells) after
-  pub only : (q : ℕ) → In q after → In q before ⊎ In q new
-  pub kept : (q : ℕ) → In q before → In q after
-  pub given : (q : ℕ) → In q new → In q after
-
 -- the index behind its loss of the lost ids
 pub record IsLosing (columns : List Log) (lost : List ℕ) (x y : Indexed) : Type 0 where
   pub column : y.column ≡ x.column
@@ -84,16 +60,6 @@ pub record IsLosing (columns : List Log) (lost : List ℕ) (x y : Indexed) : Typ
 pub record IsGaining (columns : List Log) (new : List ℕ) (x y : Indexed) : Type 0 where
   pub column : y.column ≡ x.column
   pub with_them : IsWith (slice_index_or (cells_of columns) x.column []) new x.ids y.ids
-
--- the ids of so many gained rows: the lost ids in turn, then new ones from `next` on
-abbrev pub ids_handed : List ℕ → ℕ → ℕ → List ℕ
-ids_handed lost next zero = []
-ids_handed [] next (suc n) = next ∷ ids_handed [] (next + 1) n
-ids_handed (id ∷ lost) next (suc n) = id ∷ ids_handed lost next n
-
--- those of the ids whose newest value this is
-abbrev pub ids_with : Value → List Write → List ℕ → List ℕ
-ids_with value cells ids = filter (λ id. is_value value (newest id cells)) ids
 
 -- those of the rows that have this value in the column at this place
 abbrev pub rows_with : ℕ → Value → List (List Value) → List (List Value)

@@ -1,15 +1,16 @@
 -- What a stamp writes: the lost rows hand their ids to the gained rows.
-use Rattle.std.specs.Prelude.{ℕ, ◌+◌, ◌<◌, ◌≤◌, ◌&&◌, ◌==◌, Bool, List, [], ◌∷◌, ◌++◌, length, if◌then◌else◌}
+use Rattle.std.specs.Prelude.{ℕ, ◌+◌, ◌<◌, ◌≤◌, List, [], ◌∷◌, ◌++◌, length, if◌then◌else◌}
 use Rattle.std.specs.Ordering.{nat_cmp, ordering_then}
 use Rattle.std.specs.declared.cmp.Ordering.{Ordering}
 use Rattle.relations.specs.Sets.{set_of}
-use Rattle.relations.specs.Spans.{Span, span, forever, covers}
-use Rattle.prima_base.specs.Order.{value_eq, row_cmp}
+use Rattle.relations.specs.Spans.{Span, forever, covers}
+use Rattle.prima_base.specs.Order.{row_cmp}
 use Rattle.prima_base.specs.declared.values.Value.{Value}
 use Rattle.history_store.specs.Store.{Cell, Column, Store, row_at, IsRelation, AllBefore}
 use Rattle.history_store.specs.Handing.{unpaired, handed, keys_handed, only_in, IsHandOver}
-use Rattle.history_store.specs.StoredValues.{rows_room}
+use Rattle.history_store.specs.RowRoom.{rows_room}
 use Rattle.history_store.specs.Indexes.{Index, ids_behind, more_ids, IsPlaced}
+use Rattle.column_log.specs.Puts.{close, write}
 
 -- a change that was made ready: its stamp, the ids of the lost rows, the gained rows, and how the ids of the rows
 -- behind it come from those before it, both in the order of their rows
@@ -18,22 +19,6 @@ pub record Plan : Type 0 where
   pub lost : List ℕ
   pub gained : List (List Value)
   pub after : Index
-
--- the entry of this id that still goes on
-abbrev pub goes_on : ℕ → Cell → Bool
-goes_on id c = c.id == id && c.period.end == forever
-
-abbrev pub ended : ℕ → Cell → Cell
-ended stamp c = record { id = c.id; value = c.value; period = span c.period.start stamp }
-
-abbrev pub begun : ℕ → Value → ℕ → Cell
-begun id v stamp = record { id = id; value = v; period = span stamp forever }
-
--- a column's entries where the id has this value from the stamp on: an entry is added only where the value differs,
--- and then the one that went on ends
-abbrev pub write : ℕ → Value → ℕ → List Cell → List Cell
-write id v stamp [] = begun id v stamp ∷ []
-write id v stamp (c ∷ cells) = if goes_on id c then (if value_eq c.value v then c ∷ cells else ended stamp c ∷ (begun id v stamp ∷ cells)) else c ∷ write id v stamp cells
 
 abbrev pub write_row : ℕ → List Value → ℕ → List (List Cell) → List (List Cell)
 write_row id row stamp [] = []
@@ -45,11 +30,6 @@ abbrev pub write_rows : List ℕ → List (List Value) → ℕ → List (List Ce
 write_rows [] rows stamp columns = columns
 write_rows (id ∷ ids) [] stamp columns = columns
 write_rows (id ∷ ids) (row ∷ rows) stamp columns = write_rows ids rows stamp (write_row id row stamp columns)
-
--- a column's entries where the id ends at the stamp
-abbrev pub close : ℕ → ℕ → List Cell → List Cell
-close id stamp [] = []
-close id stamp (c ∷ cells) = (if goes_on id c then ended stamp c else c) ∷ close id stamp cells
 
 abbrev pub close_each : List ℕ → ℕ → List Cell → List Cell
 close_each [] stamp cells = cells

@@ -1,13 +1,13 @@
 -- Cuts in the order of rows, by the values that rows begin with.
-use Rattle.std.specs.Prelude.{ℕ, ◌-◌, ◌<◌, ◌≤◌, Bool, not, ◌&&◌, List, length, take, drop, if◌then◌else◌, slice_index_or}
+use Rattle.std.specs.Prelude.{◌≡◌, ℕ, ◌-◌, ◌<◌, ◌≤◌, Bool, not, ◌&&◌, List, length, take, drop, if◌then◌else◌, slice_index_or}
 use Rattle.std.specs.List.{filter}
 use Rattle.std.specs.Ordering.{is_lt, is_le}
 use Rattle.relations.specs.Sets.{In}
 use Rattle.prima_base.specs.Order.{row_cmp}
 use Rattle.prima_base.specs.declared.values.Value.{Value}
-use Rattle.history_store.specs.Log.{Log}
+use Rattle.column_log.specs.Log.{Log}
 use Rattle.history_store.specs.Logs.{cells_of}
-use Rattle.history_store.specs.Table.{rows_of}
+use Rattle.history_store.specs.Table.{row_now, rows_of}
 use Rattle.history_store.specs.declared.cuts.LentRows.TheInside.{Inside as InsideRows}
 
 -- before all rows that begin with these values, or behind all of them
@@ -27,8 +27,9 @@ between from to rows = filter (λ row. not (is_before from row) && is_before to 
 abbrev pub lent_rows : InsideRows → List (List Value)
 lent_rows a = rows_of (take (a.end - a.start) (drop a.start a.index.now.ids)) (cells_of a.columns.now)
 
--- each column has a value of each of them
+-- each column has one value of each of them
 pub record AreLent (a : InsideRows) : Type 0 where
   pub order : a.start ≤ a.end
   pub within : a.end ≤ length a.index.now.ids
   pub known : (id : ℕ) → In id a.index.now.ids → (k : ℕ) (d : Log) → k < length a.columns.now → id < (slice_index_or a.columns.now k d).ids
+  pub whole : (id : ℕ) → In id a.index.now.ids → length (row_now id (cells_of a.columns.now)) ≡ length a.columns.now

@@ -4,20 +4,15 @@ use Rattle.std.specs.Ordering.{is_eq}
 use Rattle.std.specs.declared.cmp.Ordering.{Ordering}
 use Rattle.std.specs.declared.cmp.Ordering.TheVariants.{Less}
 use Rattle.relations.specs.Spans.{Span, forever}
-use Rattle.prima_base.specs.Order.{row_cmp, value_eq}
+use Rattle.prima_base.specs.Order.{row_cmp}
 use Rattle.prima_base.specs.declared.values.Value.{Value}
-use Rattle.history_store.specs.Log.{Write, newest}
-use Rattle.history_store.specs.Table.{no_span, row_now, IsOpen}
+use Rattle.column_log.specs.Log.{Write}
+use Rattle.column_log.specs.Keys.{no_span, IsOpen, ended_at}
+use Rattle.history_store.specs.Table.{row_now}
 use Rattle.relations.specs.Sets.{has, In}
-
-abbrev pub is_value : Value → List Value → Bool
-is_value v [] = false
-is_value v (w ∷ []) = value_eq w v
-is_value v (w ∷ (x ∷ ws)) = false
-
--- the column with this value of the id from the stamp on: a cell is added only where the value differs
-abbrev pub put : ℕ → Value → ℕ → List Write → List Write
-put id v stamp cells = if is_value v (newest id cells) then cells else cells ++ record { id = id; value = v; start = stamp } ∷ []
+use Rattle.value_order.specs.ByValue.{Distinct}
+pub use Rattle.column_log.specs.Puts.{is_value}
+use Rattle.column_log.specs.Puts.{put}
 
 -- the columns with this row of the id from the stamp on
 abbrev pub put_row : ℕ → List Value → ℕ → List (List Write) → List (List Write)
@@ -30,9 +25,6 @@ abbrev pub put_rows : List ℕ → List (List Value) → ℕ → List (List Writ
 put_rows [] rows stamp columns = columns
 put_rows (id ∷ ids) [] stamp columns = columns
 put_rows (id ∷ ids) (row ∷ rows) stamp columns = put_rows ids rows stamp (put_row id row stamp columns)
-
-abbrev pub ended_at : ℕ → Span → Span
-ended_at stamp p = record { start = p.start; end = stamp }
 
 -- the keys with these ids ended at the stamp
 abbrev pub end_keys : List ℕ → ℕ → List Span → List Span
@@ -61,10 +53,6 @@ keys_handed keys lost gained stamp = end_keys (unpaired lost gained) stamp (keys
 
 abbrev pub logs_handed : List Span → List (List Write) → List ℕ → List (List Value) → ℕ → List (List Write)
 logs_handed keys columns lost gained stamp = put_rows (handed lost (length keys) gained) gained stamp columns
-
-abbrev pub Distinct : List ℕ → Type 0
-Distinct [] = Unit {0}
-Distinct (id ∷ ids) = (¬ (In id ids)) × Distinct ids
 
 abbrev pub AllWidth : ℕ → List (List Value) → Type 0
 AllWidth width [] = Unit {0}

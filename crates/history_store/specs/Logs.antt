@@ -1,11 +1,32 @@
 -- Several columns.
-use Rattle.std.specs.Prelude.{ℕ, ◌-◌, ◌/◌, ◌^◌, min, max, List, [], ◌∷◌, length, if◌then◌else◌, nat_le}
-use Rattle.history_store.specs.Log.{Log, Write}
-use Rattle.history_store.specs.Store.{cells_in}
+use Rattle.std.specs.Prelude.{◌≡◌, ℕ, ◌-◌, ◌/◌, ◌^◌, min, max, true, List, [], ◌∷◌, length, if◌then◌else◌, nat_le}
+use Rattle.column_log.specs.Log.{Log, Write}
+use Rattle.prima_base.specs.declared.values.Value.{Value}
+use Rattle.prima_base.specs.declared.values.ColType.{ColType}
+use Rattle.history_store.specs.Store.{Column, has_type, cells_in}
 
 abbrev pub cells_of : List Log → List (List Write)
 cells_of [] = []
 cells_of (c ∷ columns) = c.cells ∷ cells_of columns
+
+-- their types
+abbrev pub kinds_of : List Log → List ColType
+kinds_of [] = []
+kinds_of (c ∷ columns) = c.kind ∷ kinds_of columns
+
+abbrev pub types_of : List Column → List ColType
+types_of [] = []
+types_of (c ∷ columns) = c.1 ∷ types_of columns
+
+-- each value is of the type at its place
+abbrev pub AreOf : List ColType → List Value → Type 0
+AreOf kinds [] = Unit {0}
+AreOf [] (v ∷ row) = ⊥
+AreOf (k ∷ kinds) (v ∷ row) = (has_type k v ≡ true) × AreOf kinds row
+
+abbrev pub AreRowsOf : List ColType → List (List Value) → Type 0
+AreRowsOf kinds [] = Unit {0}
+AreRowsOf kinds (row ∷ rows) = AreOf kinds row × AreRowsOf kinds rows
 
 -- a change that gains and loses no more rows than so many keeps their places alone
 abbrev pub few_rows : ℕ

@@ -3,7 +3,7 @@ use Rattle.std.specs.Prelude.{◌≡◌, ◌⊎◌, List, ℕ}
 use Rattle.relations.specs.Sets.{In, Ascends}
 use Rattle.prima_base.specs.Order.{row_cmp}
 use Rattle.prima_base.specs.declared.values.Value.{Value}
-use Rattle.history_store.specs.Log.{Write}
+use Rattle.column_log.specs.Log.{Write}
 use Rattle.history_store.specs.Table.{row_now, rows_of}
 use Rattle.history_store.specs.Handing.{handed}
 

@@ -4,7 +4,9 @@ use Rattle.relations.specs.Sets.{In, Ascends}
 use Rattle.relations.specs.Spans.{Span, forever, covers}
 use Rattle.prima_base.specs.Order.{row_cmp}
 use Rattle.prima_base.specs.declared.values.Value.{Value}
-use Rattle.history_store.specs.Log.{Write, newest, value_at}
+use Rattle.column_log.specs.Log.{Write, newest, value_at}
+use Rattle.column_log.specs.Keys.{IsOpen, no_span}
+use Rattle.column_log.specs.Entries.{AllCells}
 
 -- the values of one id at the moment, column by column
 abbrev pub row_then : ℕ → ℕ → List (List Write) → List Value
@@ -20,19 +22,9 @@ abbrev pub rows_then : ℕ → ℕ → List Span → List (List Write) → List 
 rows_then id m [] columns = []
 rows_then id m (k ∷ keys) columns = if covers k m then row_then id m columns ∷ rows_then (id + 1) m keys columns else rows_then (id + 1) m keys columns
 
-abbrev pub no_span : Span
-no_span = record { start = 0; end = 0 }
-
-abbrev pub IsOpen : List Span → ℕ → Type 0
-IsOpen keys id = (id < length keys) × ((slice_index_or keys id no_span).end ≡ forever)
-
 abbrev pub rows_of : List ℕ → List (List Write) → List (List Value)
 rows_of [] columns = []
 rows_of (id ∷ ids) columns = row_now id columns ∷ rows_of ids columns
-
-abbrev pub AllCells : ℕ → List Write → Type 0
-AllCells last [] = Unit {0}
-AllCells last (c ∷ cells) = (c.start ≤ last) × AllCells last cells
 
 -- no write is from later on
 abbrev pub AllColumns : ℕ → List (List Write) → Type 0

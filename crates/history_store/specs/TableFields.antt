@@ -2,13 +2,14 @@
 use Rattle.std.specs.Prelude.{◌≡◌, ℕ, ◌-◌, ◌^◌, ◌<◌, List, [], length, All, vec_len, vec_capacity, slice_index_or}
 use Rattle.relations.specs.Sets.{In}
 use Rattle.relations.specs.Spans.{Span, forever}
-use Rattle.history_store.specs.Log.{Write}
+use Rattle.column_log.specs.Log.{Write}
 use Rattle.history_store.specs.declared.tables.StoredTable.TheInside.{Inside}
-use Rattle.history_store.specs.Logs.{cells_of, few_of, spare_rows}
+use Rattle.history_store.specs.Logs.{cells_of, kinds_of, types_of, few_of, spare_rows}
 use Rattle.history_store.specs.ByValue.{columns_of, least_room, IsIndexed}
 use Rattle.history_store.specs.Entries.{all_entries, AreHistories}
 use Rattle.history_store.specs.Store.{Column, Store, cells_in, AreColumns, IsRow, IsPeriod, Holds}
-use Rattle.history_store.specs.Table.{row_then, row_now, no_span, IsStored}
+use Rattle.history_store.specs.Table.{row_then, row_now, IsStored}
+use Rattle.column_log.specs.Keys.{no_span}
 
 -- what contracts see of the columns, the keys and the writes
 abbrev pub store_of : List Column → List Span → List (List Write) → ℕ → List ℕ → Store
@@ -32,6 +33,8 @@ pub record IsKept (columns : List Column) (keys : List Span) (logs : List (List 
 pub record IsTable (a : Inside) : Type 0 where
   pub kept : IsKept a.columns.items a.keys.items (cells_of a.logs.items) a.live.ids
   pub ids : All (λ c. c.ids ≡ length a.keys.items) a.logs.items
+  -- each column keeps values of its type
+  pub kinds : kinds_of a.logs.items ≡ types_of a.columns.items
   -- the number of all cells is a number of 64 bits
   pub counted : cells_in (cells_of a.logs.items) < 2 ^ 64
   -- each other index has the ids of the current rows in the order of its column

@@ -1,35 +1,37 @@
 ghost use Rattle.std.specs.Prelude.{◌≡◌, OnOk, IfOk, [], ◌+◌, ◌-◌, ◌++◌, vec_len, vec_capacity, ◌^◌, ◌<◌, ◌≤◌, max, length, All, slice_index_or, ℕ};
-ghost use Rattle.history_store.specs.Logs.{cells_of, few_of, least_spare, countable_rows, spare_rows};
-ghost use Rattle.history_store.specs.Handing.{ended_at, put_row, put_rows, handed, unpaired, new_keys, end_keys, keys_handed, logs_handed, AllWidth};
+ghost use Rattle.history_store.specs.Logs.{cells_of, kinds_of, types_of, AreOf, AreRowsOf, few_of, least_spare, countable_rows, spare_rows};
+ghost use Rattle.column_log.specs.Keys.{ended_at, no_span};
+ghost use Rattle.history_store.specs.Handing.{put_row, put_rows, handed, unpaired, new_keys, end_keys, keys_handed, logs_handed, AllWidth};
 ghost use Rattle.history_store.specs.ByValue.{Indexed, least_room};
-ghost use Rattle.history_store.specs.Log.{Log};
-ghost use Rattle.history_store.specs.StoredValues.{row_room, rows_room};
+ghost use Rattle.column_log.specs.Log.{Log};
+ghost use Rattle.history_store.specs.RowRoom.{row_room, rows_room};
 ghost use Rattle.history_store.specs.Store.{cells_in};
-ghost use Rattle.history_store.specs.Table.{no_span};
 ghost use Rattle.relations.specs.Spans.{forever};
 
-use crate::columns::Column;
+use crate::given_rows::GivenRow;
 use crate::other_indexes::reserve_each;
 use crate::splices::few_of;
-use crate::stored_value::text_room;
 use crate::value_index::ValueIndex;
-use prima_base::{NoMemory, Period, Row, Value};
+use column_log::{Column, text_room};
+use prima_base::{ColType, Name, NoMemory, Period};
 use row_index::RowIndex;
 use std::alloc::Global;
 
 /// From the stamp on, the row with this id has these values. It takes no memory.
-fn put_row(columns: &mut [Column], id: usize, row: &[Value], stamp: u64)
+fn put_row(columns: &mut [Column], id: usize, row: &GivenRow<'_>, stamp: u64)
     requires width { length row.now ≡ length columns.old }
     requires known { All (λ c. id ≤ c.ids) columns.old }
+    requires typed { AreOf (kinds_of columns.old) row.now }
     requires room { All (λ c. row_room row.now ≤ c.spare) columns.old }
+    ensures kinds { kinds_of columns.new ≡ kinds_of columns.old }
     ensures cells { cells_of columns.new ≡ put_row id row.now stamp (cells_of columns.old) }
     ensures ids { (k : _) (d : Log) → k < length columns.old
         → (slice_index_or columns.new k d).ids ≡ max (slice_index_or columns.old k d).ids (id + 1) }
     ensures spare { (k : _) (d : Log) → k < length columns.old
         → (slice_index_or columns.old k d).spare ≤ (slice_index_or columns.new k d).spare + row_room row.now }
 {
-    for (k, value) in row.iter().enumerate() {
-        columns[k].put(id, value, stamp);
+    for k in 0..row.len() {
+        columns[k].put(id, &row.value(k), stamp);
     }
 }
 
@@ -62,19 +64,21 @@ fn hand_rows(
     keys: &mut Vec<Period>,
     columns: &mut [Column],
     lost: &[usize],
-    gained: Vec<Row>,
+    gained: Vec<GivenRow<'_>>,
     stamp: u64,
 )
     requires lawful { stamp < forever }
     requires wide { AllWidth (length columns.old) gained.items }
     requires known { All (λ id. id < vec_len keys.old) lost.now }
     requires ids { All (λ c. c.ids ≡ vec_len keys.old) columns.old }
+    requires typed { AreRowsOf (kinds_of columns.old) gained.items }
     requires room { All (λ c. rows_room gained.items ≤ c.spare) columns.old }
     requires key_room { vec_len keys.old + length gained.items ≤ vec_capacity keys.old }
-    ensures keys { keys.new.items ≡ keys.old.items ++ new_keys stamp (unpaired gained.items lost.now) }
+    ensures keys { keys.new.items ≡ keys.old.items ++ new_keys stamp (unpaired gained.entry.items lost.now) }
     ensures cells { cells_of columns.new
-        ≡ put_rows (handed lost.now (vec_len keys.old) gained.items) gained.items stamp (cells_of columns.old) }
+        ≡ put_rows (handed lost.now (vec_len keys.old) gained.entry.items) gained.entry.items stamp (cells_of columns.old) }
     ensures ids { All (λ c. c.ids ≡ vec_len keys.new) columns.new }
+    ensures kinds { kinds_of columns.new ≡ kinds_of columns.old }
 {
     let mut i = 0;
     for row in gained {
@@ -84,7 +88,7 @@ fn hand_rows(
             keys.push_reserved(Period::from(stamp));
             keys.len() - 1
         };
-        put_row(columns, id, row.values(), stamp);
+        put_row(columns, id, &row, stamp);
         i += 1;
     }
 }
@@ -94,7 +98,7 @@ pub fn carry_out(
     keys: &mut Vec<Period>,
     columns: &mut Vec<Column>,
     lost: &[usize],
-    gained: Vec<Row>,
+    gained: Vec<GivenRow<'_>>,
     stamp: u64,
 )
     requires lawful { stamp < forever }
@@ -102,12 +106,14 @@ pub fn carry_out(
     requires known { All (λ id. id < vec_len keys.old) lost.now }
     requires later { (k : _) → k < vec_len keys.old → (slice_index_or keys.old.items k no_span).start < stamp }
     requires ids { All (λ c. c.ids ≡ vec_len keys.old) columns.old.items }
+    requires typed { AreRowsOf (kinds_of columns.old.items) gained.items }
     requires room { All (λ c. rows_room gained.items ≤ c.spare) columns.old.items }
     requires key_room { vec_len keys.old + length gained.items ≤ vec_capacity keys.old }
-    ensures keys { keys.new.items ≡ keys_handed keys.old.items lost.now gained.items stamp }
+    ensures keys { keys.new.items ≡ keys_handed keys.old.items lost.now gained.entry.items stamp }
     ensures cells { cells_of columns.new.items
-        ≡ logs_handed keys.old.items (cells_of columns.old.items) lost.now gained.items stamp }
+        ≡ logs_handed keys.old.items (cells_of columns.old.items) lost.now gained.entry.items stamp }
     ensures ids { All (λ c. c.ids ≡ vec_len keys.new) columns.new.items }
+    ensures kinds { kinds_of columns.new.items ≡ kinds_of columns.old.items }
 {
     let paired = gained.len().min(lost.len());
     end_keys(keys, lost.split_at(paired).1, stamp);
@@ -115,12 +121,12 @@ pub fn carry_out(
 }
 
 // How many pieces of room the row takes.
-fn row_room(row: &[Value]) -> Result<usize, NoMemory>
+fn row_room(row: &GivenRow<'_>) -> Result<usize, NoMemory>
     ensures { IfOk result (λ n. n ≡ row_room row.now) }
 {
     let mut room = 1usize;
-    for value in row {
-        let Some(more) = room.checked_add(text_room(value)) else {
+    for k in 0..row.len() {
+        let Some(more) = room.checked_add(text_room(&row.value(k))) else {
             return Err(NoMemory);
         };
         room = more;
@@ -129,12 +135,12 @@ fn row_room(row: &[Value]) -> Result<usize, NoMemory>
 }
 
 /// How many pieces of room the rows take: each takes one, and one more for each 32 bytes of a text of it.
-pub fn rows_room(rows: &[Row]) -> Result<usize, NoMemory>
+pub fn rows_room(rows: &[GivenRow<'_>]) -> Result<usize, NoMemory>
     ensures { IfOk result (λ n. n ≡ rows_room rows.now) }
 {
     let mut room = 0usize;
     for row in rows {
-        let Some(more) = room.checked_add(row_room(row.values())?) else {
+        let Some(more) = room.checked_add(row_room(row)?) else {
             return Err(NoMemory);
         };
         room = more;
@@ -146,6 +152,7 @@ pub fn rows_room(rows: &[Row]) -> Result<usize, NoMemory>
 pub fn reserve_all(columns: &mut Vec<Column>, more: usize) -> Result<(), NoMemory>
     ensures len { vec_len columns.new ≡ vec_len columns.old }
     ensures cells { cells_of columns.new.items ≡ cells_of columns.old.items }
+    ensures kinds { kinds_of columns.new.items ≡ kinds_of columns.old.items }
     ensures ids { (k : _) (d : Log) → k < vec_len columns.old
         → (slice_index_or columns.new.items k d).ids ≡ (slice_index_or columns.old.items k d).ids }
     ensures spare { (least : _) → least_spare least columns.old.items ≤ least_spare least columns.new.items }
@@ -198,6 +205,7 @@ pub fn reserve_rows(
         → ((slice_index_or others.new.items k d).column ≡ (slice_index_or others.old.items k d).column) × ((slice_index_or others.new.items k d).ids ≡ (slice_index_or others.old.items k d).ids) }
     ensures len { vec_len columns.new ≡ vec_len columns.old }
     ensures cells { cells_of columns.new.items ≡ cells_of columns.old.items }
+    ensures kinds { kinds_of columns.new.items ≡ kinds_of columns.old.items }
     ensures ids { (k : _) (d : Log) → k < vec_len columns.old
         → (slice_index_or columns.new.items k d).ids ≡ (slice_index_or columns.old.items k d).ids }
     ensures spare { spare_rows (few_of (length live.old.ids)) (least_room live.old.room others.old.items) (vec_capacity keys.old - vec_len keys.old) columns.old.items
@@ -212,15 +220,16 @@ pub fn reserve_rows(
     reserve_all(columns, more)
 }
 
-/// Columns without rows.
-pub fn empty_columns(alloc: Global, width: usize) -> Result<Vec<Column>, NoMemory>
-    ensures width { IfOk result (λ v. length v.items ≡ width) }
+/// These columns without rows.
+pub fn empty_columns(alloc: Global, columns: &[(Name, ColType)]) -> Result<Vec<Column>, NoMemory>
+    ensures width { IfOk result (λ v. length v.items ≡ length columns.now) }
+    ensures kinds { IfOk result (λ v. kinds_of v.items ≡ types_of columns.now) }
     ensures cells { IfOk result (λ v. All (λ c. c.cells ≡ []) v.items) }
     ensures ids { IfOk result (λ v. All (λ c. c.ids ≡ 0) v.items) }
 {
-    let mut columns = Vec::with_capacity(alloc, width)?;
-    for k in 0..width {
-        columns.push(Column::new(alloc))?;
+    let mut empty = Vec::with_capacity(alloc, columns.len())?;
+    for (_, kind) in columns {
+        empty.push(Column::new(alloc, *kind))?;
     }
-    Ok(columns)
+    Ok(empty)
 }

@@ -5,12 +5,13 @@ ghost use Rattle.relations.specs.Sets.{Ascends, In};
 ghost use Rattle.prima_base.specs.Order.{row_cmp, shown};
 ghost use Rattle.prima_base.specs.Columns.{IsLawful};
 ghost use Rattle.history_store.specs.Cuts.{is_before};
-ghost use Rattle.history_store.specs.Log.{Log};
+ghost use Rattle.column_log.specs.Log.{Log};
 ghost use Rattle.history_store.specs.Logs.{cells_of};
 ghost use Rattle.history_store.specs.Table.{row_now, rows_of};
 
-use crate::columns::Column;
+use crate::given_rows::GivenRow;
 use crate::walks::compare_lead;
+use column_log::Column;
 use prima_base::{NoMemory, Row, Val, Value};
 use row_index::RowIndex;
 use std::cmp::Ordering;
@@ -90,7 +91,7 @@ fn is_before(columns: &[Column], id: usize, cut: &Cut) -> bool
     requires known { All (λ c. id < c.ids) columns.now }
     ensures { result ≡ is_before cut.now (row_now id (cells_of columns.now)) }
 {
-    cut.is_past(compare_lead(columns, id, &cut.values))
+    cut.is_past(compare_lead(columns, id, &GivenRow::lent(&cut.values)))
 }
 
 /// How many of the live ids have rows before the cut: these stand first. It is found by binary search.
@@ -156,13 +157,13 @@ impl<'a> Model for LentRows<'a> {
 }
 
 impl<'a> LentRows<'a> {
-    ghost use Rattle.std.specs.Prelude.{◌≡◌, ◌-◌, ◌<◌, ◌≤◌, ℕ, [], take, drop, map, length, All, OnOk, slice_index_or};
+    ghost use Rattle.std.specs.Prelude.{◌≡◌, ◌-◌, ◌<◌, ◌≤◌, ℕ, [], take, drop, map, option_map, length, All, IfSome, OnOk, slice_get, slice_index_or};
     ghost use Rattle.relations.specs.Sets.{In};
     ghost use Rattle.prima_base.specs.Order.{shown};
     ghost use Rattle.prima_base.specs.Columns.{IsLawful};
-    ghost use Rattle.history_store.specs.Log.{Log};
+    ghost use Rattle.column_log.specs.Log.{Log};
     ghost use Rattle.history_store.specs.Logs.{cells_of};
-    ghost use Rattle.history_store.specs.Table.{rows_of};
+    ghost use Rattle.history_store.specs.Table.{row_now, rows_of};
 
     /// The newest rows of the ids from the one place to the other.
     pub(crate) fn over(
@@ -174,6 +175,7 @@ impl<'a> LentRows<'a> {
         requires order { start ≤ end }
         requires within { end ≤ length index.now.ids }
         requires known { (id : ℕ) → In id index.now.ids → (k : ℕ) (d : Log) → k < length columns.now → id < (slice_index_or columns.now k d).ids }
+        requires whole { (id : ℕ) → In id index.now.ids → length (row_now id (cells_of columns.now)) ≡ length columns.now }
         ensures { result ≡ rows_of (take (end - start) (drop start index.now.ids)) (cells_of columns.now) }
     {
         LentRows {
@@ -203,5 +205,21 @@ impl<'a> LentRows<'a> {
     {
         let id = self.index.id_near(self.start + at, &mut self.near);
         lend_now(self.columns, id, row)
+    }
+
+    /// The value in this column of the row at this place, borrowed as `lend` gives it: `None` exactly where the row has no
+    /// such column. It takes no memory.
+    pub fn value(&mut self, at: usize, column: usize) -> Option<Val<'a>>
+        requires within { at < length self.old }
+        ensures same { self.new ≡ self.old }
+        ensures value { option_map shown result ≡ slice_get (slice_index_or self.old at []) column }
+        ensures lawful { IfSome result (λ v. IsLawful (shown v)) }
+    {
+        let columns = self.columns;
+        if column >= columns.len() {
+            return None;
+        }
+        let id = self.index.id_near(self.start + at, &mut self.near);
+        Some(columns[column].newest(id))
     }
 }

@@ -16,18 +16,19 @@
 #![tactic(auto)]
 
 mod changes;
-mod columns;
 mod cuts;
+mod given_rows;
 mod other_indexes;
 mod restoring;
 mod scans;
 mod splices;
-mod stored_value;
 mod tables;
 mod value_index;
 mod walks;
 
+pub use column_log::{CellEntry, CellScan};
 pub use cuts::{Cut, LentRows};
+pub use given_rows::GivenRow;
 pub use restoring::Cell;
-pub use scans::{CellEntry, CellScan, KeyEntry, KeyScan};
+pub use scans::{KeyEntry, KeyScan};
 pub use tables::{Prepared, StoredTable};

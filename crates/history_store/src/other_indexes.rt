@@ -2,14 +2,14 @@
 
 ghost use Rattle.std.specs.Prelude.{◌≡◌, ◌+◌, ◌^◌, ◌<◌, ◌≤◌, ℕ, List, [], All, IfSome, OnOk, is_some, length, slice_index_or, vec_len};
 ghost use Rattle.relations.specs.Sets.{In};
-ghost use Rattle.history_store.specs.Log.{Log};
+ghost use Rattle.column_log.specs.Log.{Log};
 ghost use Rattle.history_store.specs.Logs.{cells_of, few_of};
-ghost use Rattle.history_store.specs.Handing.{Distinct};
-ghost use Rattle.history_store.specs.ByValue.{Indexed, columns_of, is_indexed, indexed_behind, least_room, ids_handed, IsIndexed, IsReady, IsLosing, IsGaining};
+ghost use Rattle.value_order.specs.ByValue.{Distinct, ids_handed};
+ghost use Rattle.history_store.specs.ByValue.{Indexed, columns_of, is_indexed, indexed_behind, least_room, IsIndexed, IsReady, IsLosing, IsGaining};
 
-use crate::columns::Column;
 use crate::splices::few_of;
 use crate::value_index::ValueIndex;
+use column_log::Column;
 use prima_base::NoMemory;
 
 /// The place of the index of the column at this place, where there is one.

@@ -2,21 +2,22 @@
 //! binary search; the rest is moved without a look at its rows. Where few rows come and go, their places alone
 //! are kept, and nothing is moved before the change is carried out.
 
-ghost use Rattle.std.specs.Prelude.{◌≡◌, ◌+◌, ◌^◌, ◌<◌, ◌≤◌, IfOk, List, ℕ, length, slice_index, slice_index_or};
+ghost use Rattle.std.specs.Prelude.{◌≡◌, [], ◌+◌, ◌^◌, ◌<◌, ◌≤◌, IfOk, List, ℕ, length, slice_index, slice_index_or};
 ghost use Rattle.std.specs.declared.cmp.Ordering.TheVariants.{Less, Greater};
 ghost use Rattle.relations.specs.Sets.{Ascends, In};
 ghost use Rattle.prima_base.specs.Order.{row_cmp};
 ghost use Rattle.prima_base.specs.declared.values.Value.{Value as OneValue};
-ghost use Rattle.history_store.specs.Log.{Log};
+ghost use Rattle.column_log.specs.Log.{Log};
 ghost use Rattle.history_store.specs.Logs.{cells_of, few_rows, few_of};
 ghost use Rattle.history_store.specs.Table.{row_now, rows_of};
-ghost use Rattle.history_store.specs.Handing.{handed, AllWidth};
+ghost use Rattle.history_store.specs.Handing.{handed, only_in, AllWidth};
 ghost use Rattle.history_store.specs.Splices.{IsSplit, IsJoined, IsSpliced};
 ghost use Rattle.history_store.specs.Indexes.{without, with_each, place_without, AreAmong, AreAlong, index_of, ids_behind, more_ids, IsPlaced};
 
-use crate::columns::Column;
+use crate::given_rows::GivenRow;
 use crate::walks::{handed_id, place_in, place_of};
-use prima_base::{NoMemory, Row, Value};
+use column_log::Column;
+use prima_base::NoMemory;
 use row_index::RowIndex;
 use std::alloc::Global;
 
@@ -42,7 +43,7 @@ pub enum After {
 }
 
 // The place of the id whose row this is.
-fn found_place(columns: &[Column], ids: &[usize], row: &[Value]) -> usize
+fn found_place(columns: &[Column], ids: &[usize], row: &GivenRow<'_>) -> usize
     requires width { length row.now ≡ length columns.now }
     requires known { (id : ℕ) → In id ids.now → (k : ℕ) (d : Log) → k < length columns.now → id < (slice_index_or columns.now k d).ids }
     requires rise { Ascends row_cmp (rows_of ids.now (cells_of columns.now)) }
@@ -57,7 +58,7 @@ fn found_place(columns: &[Column], ids: &[usize], row: &[Value]) -> usize
 }
 
 // The place where the row would stand.
-fn free_place(columns: &[Column], ids: &[usize], row: &[Value]) -> usize
+fn free_place(columns: &[Column], ids: &[usize], row: &GivenRow<'_>) -> usize
     requires width { length row.now ≡ length columns.now }
     requires known { (id : ℕ) → In id ids.now → (k : ℕ) (d : Log) → k < length columns.now → id < (slice_index_or columns.now k d).ids }
     requires rise { Ascends row_cmp (rows_of ids.now (cells_of columns.now)) }
@@ -73,7 +74,7 @@ fn free_place(columns: &[Column], ids: &[usize], row: &[Value]) -> usize
 }
 
 // The same in the index.
-fn found_in(columns: &[Column], index: &RowIndex, row: &[Value]) -> usize
+fn found_in(columns: &[Column], index: &RowIndex, row: &GivenRow<'_>) -> usize
     requires width { length row.now ≡ length columns.now }
     requires known { (id : ℕ) → In id index.now.ids → (k : ℕ) (d : Log) → k < length columns.now → id < (slice_index_or columns.now k d).ids }
     requires rise { Ascends row_cmp (rows_of index.now.ids (cells_of columns.now)) }
@@ -88,7 +89,7 @@ fn found_in(columns: &[Column], index: &RowIndex, row: &[Value]) -> usize
 }
 
 // The same in the index.
-fn free_in(columns: &[Column], index: &RowIndex, row: &[Value]) -> usize
+fn free_in(columns: &[Column], index: &RowIndex, row: &GivenRow<'_>) -> usize
     requires width { length row.now ≡ length columns.now }
     requires known { (id : ℕ) → In id index.now.ids → (k : ℕ) (d : Log) → k < length columns.now → id < (slice_index_or columns.now k d).ids }
     requires rise { Ascends row_cmp (rows_of index.now.ids (cells_of columns.now)) }
@@ -108,7 +109,7 @@ pub fn take_out(
     alloc: Global,
     columns: &[Column],
     live: &[usize],
-    lost: &[Row],
+    lost: &[GivenRow<'_>],
 ) -> Result<(Vec<usize>, Vec<usize>), NoMemory>
     requires wide { AllWidth (length columns.now) lost.now }
     requires known { (id : ℕ) → In id live.now → (k : ℕ) (d : Log) → k < length columns.now → id < (slice_index_or columns.now k d).ids }
@@ -121,7 +122,7 @@ pub fn take_out(
     let mut kept = Vec::with_capacity(alloc, live.len())?;
     let mut rest = live;
     for row in lost {
-        let at = found_place(columns, rest, row.values());
+        let at = found_place(columns, rest, row);
         kept.extend_from_slice(rest.split_at(at).0)?;
         found.push(rest[at])?;
         rest = rest.split_at(at + 1).1;
@@ -137,7 +138,7 @@ pub fn put_in(
     kept: &[usize],
     lost: &[usize],
     next: usize,
-    gained: &[Row],
+    gained: &[GivenRow<'_>],
 ) -> Result<Vec<usize>, NoMemory>
     requires wide { AllWidth (length columns.now) gained.now }
     requires known { (id : ℕ) → In id kept.now → (k : ℕ) (d : Log) → k < length columns.now → id < (slice_index_or columns.now k d).ids }
@@ -152,7 +153,7 @@ pub fn put_in(
     let mut k = 0;
     let mut fresh = next;
     for row in gained {
-        let (front, back) = rest.split_at(free_place(columns, rest, row.values()));
+        let (front, back) = rest.split_at(free_place(columns, rest, row));
         after.extend_from_slice(front)?;
         after.push(handed_id(lost, &mut k, &mut fresh))?;
         rest = back;
@@ -166,7 +167,7 @@ fn lost_places(
     alloc: Global,
     columns: &[Column],
     live: &RowIndex,
-    lost: &[Row],
+    lost: &[GivenRow<'_>],
 ) -> Result<(Vec<usize>, Vec<usize>), NoMemory>
     requires wide { AllWidth (length columns.now) lost.now }
     requires known { (id : ℕ) → In id live.now.ids → (k : ℕ) (d : Log) → k < length columns.now → id < (slice_index_or columns.now k d).ids }
@@ -179,7 +180,7 @@ fn lost_places(
     let mut found = Vec::with_capacity(alloc, lost.len())?;
     let mut from = Vec::with_capacity(alloc, lost.len())?;
     for row in lost {
-        let at = found_in(columns, live, row.values());
+        let at = found_in(columns, live, row);
         let gone = from.len();
         from.push(at - gone)?;
         found.push(live.id_at(at))?;
@@ -208,7 +209,7 @@ fn gained_places(
     from: &[usize],
     lost: &[usize],
     next: usize,
-    gained: &[Row],
+    gained: &[GivenRow<'_>],
 ) -> Result<Vec<(usize, usize)>, NoMemory>
     requires wide { AllWidth (length columns.now) gained.now }
     requires known { (id : ℕ) → In id live.now.ids → (k : ℕ) (d : Log) → k < length columns.now → id < (slice_index_or columns.now k d).ids }
@@ -226,7 +227,7 @@ fn gained_places(
     let mut k = 0;
     let mut fresh = next;
     for row in gained {
-        let free = free_in(columns, live, row.values());
+        let free = free_in(columns, live, row);
         let id = handed_id(lost, &mut k, &mut fresh);
         to.push((place_without(from, free), id))?;
     }
@@ -238,9 +239,9 @@ fn splice_few(
     alloc: Global,
     columns: &[Column],
     live: &RowIndex,
-    lost: &[Row],
+    lost: &[GivenRow<'_>],
     next: usize,
-    gained: &[Row],
+    gained: &[GivenRow<'_>],
 ) -> Result<(Vec<usize>, After), NoMemory>
     requires lost_wide { AllWidth (length columns.now) lost.now }
     requires gained_wide { AllWidth (length columns.now) gained.now }
@@ -267,9 +268,9 @@ pub fn splice(
     alloc: Global,
     columns: &[Column],
     live: &RowIndex,
-    lost: &[Row],
+    lost: &[GivenRow<'_>],
     next: usize,
-    gained: &[Row],
+    gained: &[GivenRow<'_>],
 ) -> Result<(Vec<usize>, After), NoMemory>
     requires lost_wide { AllWidth (length columns.now) lost.now }
     requires gained_wide { AllWidth (length columns.now) gained.now }
@@ -290,6 +291,76 @@ pub fn splice(
     let (found, kept) = take_out(alloc, columns, &live.copy()?, lost)?;
     let ids = put_in(alloc, columns, &kept, &found, next, gained)?;
     Ok((found, After::Whole(RowIndex::of(alloc, &ids)?)))
+}
+
+// Those of the rows that the index does not have, in their order, each with its place in it and the next of the new ids.
+fn fresh_places<'a>(
+    alloc: Global,
+    columns: &[Column],
+    live: &RowIndex,
+    next: usize,
+    rows: Vec<GivenRow<'a>>,
+) -> Result<(Vec<GivenRow<'a>>, Vec<(usize, usize)>), NoMemory>
+    requires wide { AllWidth (length columns.now) rows.items }
+    requires known { (id : ℕ) → In id live.now.ids → (k : ℕ) (d : Log) → k < length columns.now → id < (slice_index_or columns.now k d).ids }
+    requires live_rise { Ascends row_cmp (rows_of live.now.ids (cells_of columns.now)) }
+    requires rows_rise { Ascends row_cmp rows.items }
+    requires few { next + length rows.items < 2 ^ 64 }
+    ensures gained { IfOk result (λ (gained, _to). gained.items ≡ only_in rows.entry.items (rows_of live.now.ids (cells_of columns.now))) }
+    ensures joined { IfOk result (λ (gained, to). IsJoined (cells_of columns.now) live.now.ids (handed [] next gained.items) (with_each to.items live.now.ids) gained.items) }
+    ensures placed { IfOk result (λ (_gained, to). AreAlong to.items (length live.now.ids)) }
+    ensures count { IfOk result (λ (gained, to). length to.items ≡ length gained.items) }
+{
+    let mut gained = Vec::new(alloc);
+    let mut to = Vec::new(alloc);
+    for row in rows {
+        match place_in(columns, live, &row) {
+            Ok(_) => {}
+            Err(at) => {
+                to.push((at, next + gained.len()))?;
+                gained.push(row)?;
+            }
+        }
+    }
+    Ok((gained, to))
+}
+
+// The index with each id at its place.
+fn index_with(alloc: Global, live: &RowIndex, to: &[(usize, usize)]) -> Result<RowIndex, NoMemory>
+    requires { AreAlong to.now (length live.now.ids) }
+    ensures { IfOk result (λ index. index.ids ≡ with_each to.now live.now.ids) }
+{
+    let mut index = RowIndex::of(alloc, &live.copy()?)?;
+    index.reserve(to.len())?;
+    put_each(&mut index, to);
+    Ok(index)
+}
+
+/// Those of the rows that the index does not have, and the index behind their coming, with new ids for them. Each row is
+/// searched once.
+pub fn splice_fresh<'a>(
+    alloc: Global,
+    columns: &[Column],
+    live: &RowIndex,
+    next: usize,
+    rows: Vec<GivenRow<'a>>,
+) -> Result<(Vec<GivenRow<'a>>, After), NoMemory>
+    requires wide { AllWidth (length columns.now) rows.items }
+    requires known { (id : ℕ) → In id live.now.ids → (k : ℕ) (d : Log) → k < length columns.now → id < (slice_index_or columns.now k d).ids }
+    requires live_rise { Ascends row_cmp (rows_of live.now.ids (cells_of columns.now)) }
+    requires rows_rise { Ascends row_cmp rows.items }
+    requires few { next + length rows.items < 2 ^ 64 }
+    ensures gained { IfOk result (λ (gained, _after). gained.items ≡ only_in rows.entry.items (rows_of live.now.ids (cells_of columns.now))) }
+    ensures spliced { IfOk result (λ (gained, after). IsSpliced (cells_of columns.now) live.now.ids [] next gained.items [] (ids_behind (index_of after) live.now.ids)) }
+    ensures placed { IfOk result (λ (_gained, after). IsPlaced (index_of after) live.now.ids) }
+    ensures more { IfOk result (λ (gained, after). more_ids (index_of after) ≤ length gained.items) }
+{
+    let (gained, to) = fresh_places(alloc, columns, live, next, rows)?;
+    if to.len() <= FEW_ROWS {
+        return Ok((gained, After::Moved(Vec::new(alloc), to)));
+    }
+    let index = index_with(alloc, live, &to)?;
+    Ok((gained, After::Whole(index)))
 }
 
 // Takes out the ids at these places, one after the other.
@@ -338,15 +409,4 @@ pub fn change_index(live: &mut RowIndex, after: After)
             put_each(live, &to);
         }
     }
-}
-
-/// Equal rows.
-pub fn copy_given(alloc: Global, rows: &[Row]) -> Result<Vec<Row>, NoMemory>
-    ensures { IfOk result (λ v. v.items ≡ rows.now) }
-{
-    let mut copies = Vec::with_capacity(alloc, rows.len())?;
-    for row in rows {
-        copies.push(row.copy()?)?;
-    }
-    Ok(copies)
 }

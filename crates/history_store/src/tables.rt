@@ -1,14 +1,15 @@
 use crate::changes::{carry_out, count_cells, empty_columns, reserve_rows, rows_room};
-use crate::columns::Column;
 use crate::cuts::{Cut, LentRows, count_before};
+use crate::given_rows::GivenRow;
 use crate::other_indexes::{gain_each, index_of, lose_each};
-use crate::restoring::{Cell, check_cells, columns_of, open_ids, sort_ids};
-use crate::scans::{CellScan, KeyScan};
-use crate::splices::{After, change_index, copy_given, few_of, splice};
+use crate::restoring::{Cell, check_cells, columns_of};
+use crate::scans::KeyScan;
+use crate::splices::{After, change_index, few_of, splice, splice_fresh};
 use crate::value_index::ValueIndex;
 use crate::walks::{
     Difference, column_place, copy_columns, copy_rows, find_difference, next_ids, place_in,
 };
+use column_log::{CellScan, Column};
 use prima_base::{ColType, Name, NoMemory, Period, Row, Value};
 use row_index::RowIndex;
 use std::alloc::Global;
@@ -38,16 +39,17 @@ impl Model for StoredTable {
     ghost invariant = { IsTable };
 }
 
-/// A change that was made ready: it is installed into the table that prepared it.
+/// A change that was made ready: it is installed into the table that prepared it. Texts of the gained rows may stand
+/// elsewhere until then.
 #[derive(Drop)]
-pub struct Prepared {
+pub struct Prepared<'a> {
     stamp: u64,
     lost: Vec<usize>,
-    gained: Vec<Row>,
+    gained: Vec<GivenRow<'a>>,
     after: After,
 }
 
-impl Model for Prepared {
+impl<'a> Model for Prepared<'a> {
     ghost use Rattle.history_store.specs.Change.{Plan};
 
     ghost Value = { Plan };
@@ -57,7 +59,7 @@ impl Model for Prepared {
     ghost view = { λ p. record { stamp = p.stamp; lost = p.lost.items; gained = p.gained.items; after = index_of p.after } };
 }
 
-impl Prepared {
+impl Prepared<'_> {
     ghost use Rattle.std.specs.Prelude.{◌≡◌, length};
 
     /// How many rows the change gains.
@@ -76,17 +78,18 @@ impl Prepared {
 }
 
 impl StoredTable {
-    ghost use Rattle.std.specs.Prelude.{◌≡◌, ℕ, ◌+◌, ◌-◌, ◌<◌, ◌≤◌, List, [], length, IfOk, IfSome, OnOk, OnErr, is_some, option_map, slice_index_or, nat_le};
+    ghost use Rattle.std.specs.Prelude.{◌≡◌, ℕ, ◌+◌, ◌-◌, ◌<◌, ◌≤◌, List, [], length, All, IfOk, IfSome, OnOk, OnErr, is_some, option_map, slice_index_or, nat_le};
     ghost use Rattle.relations.specs.Sets.{In, has};
     ghost use Rattle.relations.specs.Spans.{forever};
     ghost use Rattle.prima_base.specs.Order.{row_cmp};
+    ghost use Rattle.prima_base.specs.Columns.{IsLawful};
     ghost use Rattle.prima_base.specs.declared.values.Value.{Value as OneValue};
     ghost use Rattle.history_store.specs.Store.{Store, cells_in, weight, rows_from, relation_at, IsRelation, AreColumns, AllBefore, IsStore, column_of};
     ghost use Rattle.history_store.specs.Handing.{new_keys, handed, only_in, written};
     ghost use Rattle.history_store.specs.Change.{Plan, IsPlan, rows_after, rows_along, changed, keys_after, cells_after, write_rows, no_cells};
     ghost use Rattle.history_store.specs.Scans.{keys_from};
     ghost use Rattle.history_store.specs.Cuts.{between};
-    ghost use Rattle.history_store.specs.Restoring.{store_with, entries_of};
+    ghost use Rattle.history_store.specs.Restoring.{store_with, entries_of, IsInOrder};
     ghost use Rattle.history_store.specs.Logs.{few_of};
     ghost use Rattle.history_store.specs.ByValue.{is_indexed, indexed_with, indexed_behind, rows_with};
 
@@ -116,7 +119,7 @@ impl StoredTable {
             alloc,
             columns: copy_columns(alloc, columns)?,
             keys: Vec::new(alloc),
-            logs: empty_columns(alloc, columns.len())?,
+            logs: empty_columns(alloc, columns)?,
             live: RowIndex::of(alloc, &[])?,
             others: Vec::new(alloc),
         };
@@ -126,27 +129,29 @@ impl StoredTable {
     }
 
     /// The table with these columns, keys and cells: the list of cells at the place of a column has those of the column,
-    /// by id and start. It is built in one pass, and the current rows are sorted once. No column has an index. The one
-    /// error is `NoMemory`, where memory runs out.
+    /// by id and start, and `order` the ids of the current rows in the order of their rows. It is built in one pass, and
+    /// no row is looked at. No column has an index. The one error is `NoMemory`, where memory runs out.
     pub fn restore(
         alloc: Global,
         columns: &[(Name, ColType)],
         keys: Vec<Period>,
-        cells: Vec<Vec<Cell>>,
+        cells: Vec<Vec<Cell<'_>>>,
+        order: &[usize],
     ) -> Result<StoredTable, NoMemory>
-        requires { IsStore (store_with columns.now keys.items (entries_of cells.items)) }
-        ensures table { IfOk result (λ t. t ≡ record (store_with columns.now keys.items (entries_of cells.items)) { spare = t.spare }) }
+        requires store { IsStore (store_with columns.now keys.items (entries_of cells.items)) }
+        requires lawful { All (All (λ c. IsLawful c.value)) (entries_of cells.items) }
+        requires order { IsInOrder keys.items (entries_of cells.items) order.now }
+        ensures table { IfOk result (λ t. t ≡ record (store_with columns.now keys.items (entries_of cells.entry.items)) { spare = t.spare }) }
         ensures lawful { IfOk result (λ t. IsStore t) }
     {
         check_cells(&cells)?;
-        let logs = columns_of(alloc, cells)?;
-        let ids = sort_ids(alloc, &logs, &open_ids(alloc, &keys)?)?;
+        let logs = columns_of(alloc, columns, cells)?;
         Ok(StoredTable {
             alloc,
             columns: copy_columns(alloc, columns)?,
             keys,
             logs,
-            live: RowIndex::of(alloc, &ids)?,
+            live: RowIndex::of(alloc, order)?,
             others: Vec::new(alloc),
         })
     }
@@ -154,7 +159,7 @@ impl StoredTable {
     /// Makes the change to these rows ready, and all the room that installing it needs, by one walk along the
     /// current rows and these. Each stamp in the table is before this one. What the table stands for stays as
     /// it is. The one error is `NoMemory`, where memory runs out.
-    pub fn prepare(&mut self, stamp: u64, rows: &[Row]) -> Result<Prepared, NoMemory>
+    pub fn prepare<'a>(&mut self, stamp: u64, rows: &'a [Row]) -> Result<Prepared<'a>, NoMemory>
         requires before { AllBefore self.old stamp }
         requires lawful { stamp < forever }
         requires relation { IsRelation self.old.columns rows.now }
@@ -197,24 +202,24 @@ impl StoredTable {
     /// row is found by binary search: for m rows in a table of n that is in the order of m log n comparisons of
     /// rows. Where at most 64 rows are gained and at most 64 lost, the index of the current rows is not copied: the
     /// places in it are kept, and room for what is gained made. The one error is `NoMemory`, where memory runs out.
-    pub fn prepare_change(
+    pub fn prepare_change<'a>(
         &mut self,
         stamp: u64,
-        lost: &[Row],
-        gained: &[Row],
-    ) -> Result<Prepared, NoMemory>
+        lost: &[GivenRow<'_>],
+        gained: Vec<GivenRow<'a>>,
+    ) -> Result<Prepared<'a>, NoMemory>
         requires before { AllBefore self.old stamp }
         requires lawful { stamp < forever }
         requires lost { IsRelation self.old.columns lost.now }
-        requires gained { IsRelation self.old.columns gained.now }
+        requires gained { IsRelation self.old.columns gained.items }
         requires there { (row : List OneValue) → In row lost.now → In row (relation_at self.old stamp) }
-        requires fresh { (row : List OneValue) → In row gained.now → In row (relation_at self.old stamp) → ⊥ }
+        requires fresh { (row : List OneValue) → In row gained.items → In row (relation_at self.old stamp) → ⊥ }
         ensures same { self.new ≡ record self.old { spare = self.new.spare } }
         ensures stamp { IfOk result (λ p. p.stamp ≡ stamp) }
         ensures fits { IfOk result (λ p. IsPlan self.new p) }
         ensures lost { IfOk result (λ p. rows_along p.lost stamp self.old.cells ≡ lost.now) }
-        ensures gained { IfOk result (λ p. p.gained ≡ gained.now) }
-        ensures leads { IfOk result (λ p. rows_after self.new p ≡ changed (relation_at self.old stamp) lost.now gained.now) }
+        ensures gained { IfOk result (λ p. p.gained ≡ gained.entry.items) }
+        ensures leads { IfOk result (λ p. rows_after self.new p ≡ changed (relation_at self.old stamp) lost.now gained.entry.items) }
         ensures room { IfOk result (λ p. length p.gained ≤ self.new.spare) }
         ensures spare { self.old.spare ≤ self.new.spare }
     {
@@ -227,9 +232,8 @@ impl StoredTable {
             &self.live,
             lost,
             self.keys.len(),
-            gained,
+            &gained,
         )?;
-        let gained = copy_given(self.alloc, gained)?;
         let room = rows_room(&gained)?;
         reserve_rows(
             &mut self.keys,
@@ -246,25 +250,71 @@ impl StoredTable {
         })
     }
 
+    /// Makes the change ready that gains those of these rows that the table does not have, and all the room that installing
+    /// it needs. Each row is found, or its place, by one binary search: for m rows in a table of n that is in the order of m
+    /// log n comparisons of rows. The one error is `NoMemory`, where memory runs out.
+    pub fn prepare_union<'a>(
+        &mut self,
+        stamp: u64,
+        rows: Vec<GivenRow<'a>>,
+    ) -> Result<Prepared<'a>, NoMemory>
+        requires before { AllBefore self.old stamp }
+        requires lawful { stamp < forever }
+        requires relation { IsRelation self.old.columns rows.items }
+        ensures same { self.new ≡ record self.old { spare = self.new.spare } }
+        ensures stamp { IfOk result (λ p. p.stamp ≡ stamp) }
+        ensures fits { IfOk result (λ p. IsPlan self.new p) }
+        ensures lost { IfOk result (λ p. p.lost ≡ []) }
+        ensures gained { IfOk result (λ p. p.gained ≡ only_in rows.entry.items (relation_at self.old stamp)) }
+        ensures leads { IfOk result (λ p. rows_after self.new p ≡ changed (relation_at self.old stamp) [] p.gained) }
+        ensures room { IfOk result (λ p. length p.gained ≤ self.new.spare) }
+        ensures spare { self.old.spare ≤ self.new.spare }
+    {
+        if self.keys.len().checked_add(rows.len()).is_none() {
+            return Err(NoMemory);
+        }
+        let (gained, after) = splice_fresh(
+            self.alloc,
+            &self.logs,
+            &self.live,
+            self.keys.len(),
+            rows,
+        )?;
+        let room = rows_room(&gained)?;
+        reserve_rows(
+            &mut self.keys,
+            &mut self.live,
+            &mut self.others,
+            &mut self.logs,
+            room,
+        )?;
+        Ok(Prepared {
+            stamp,
+            lost: Vec::new(self.alloc),
+            gained,
+            after,
+        })
+    }
+
     /// Carries out what was made ready: from its stamp on the relation is the one that it was made for,
     /// and before it nothing changes. By any weight of values each column gains what is written into it. It takes no
     /// memory. The index of the current rows loses the ids at the places that were found and gets the gained ones at
     /// theirs, each of which moves ids of its block alone, or it is replaced by the whole one that was made ready. The
     /// indexes of columns stay where no more rows are lost, and no more gained, than are few in the table: 64, or one in
     /// 64 of its rows where that is more. Else they go, since to sort the ids anew costs less.
-    pub fn install(&mut self, prepared: Prepared)
+    pub fn install(&mut self, prepared: Prepared<'_>)
         requires fits { IsPlan self.old prepared }
         requires room { length prepared.gained ≤ self.old.spare }
         ensures columns { self.new.columns ≡ self.old.columns }
-        ensures keys { self.new.keys ≡ keys_after self.old prepared }
-        ensures cells { self.new.cells ≡ cells_after self.old prepared }
-        ensures indexed { self.new.indexed ≡ indexed_behind (length (relation_at self.old prepared.stamp)) (length prepared.lost) (length prepared.gained) self.old.indexed }
-        ensures key_count { length self.new.keys ≡ length self.old.keys + (length prepared.gained - length prepared.lost) }
+        ensures keys { self.new.keys ≡ keys_after self.old prepared.entry }
+        ensures cells { self.new.cells ≡ cells_after self.old prepared.entry }
+        ensures indexed { self.new.indexed ≡ indexed_behind (length (relation_at self.old prepared.entry.stamp)) (length prepared.entry.lost) (length prepared.entry.gained) self.old.indexed }
+        ensures key_count { length self.new.keys ≡ length self.old.keys + (length prepared.entry.gained - length prepared.entry.lost) }
         ensures written { (f : OneValue → ℕ) (k : ℕ) → k < length self.old.columns → weight f (slice_index_or self.new.cells k [])
-            ≡ weight f (slice_index_or self.old.cells k []) + written f k (rows_along prepared.lost prepared.stamp self.old.cells) prepared.gained }
-        ensures before { (m : ℕ) → m < prepared.stamp → relation_at self.new m ≡ relation_at self.old m }
-        ensures from { (m : ℕ) → prepared.stamp ≤ m → m < forever → relation_at self.new m ≡ rows_after self.old prepared }
-        ensures later { (m : ℕ) → prepared.stamp < m → AllBefore self.new m }
+            ≡ weight f (slice_index_or self.old.cells k []) + written f k (rows_along prepared.entry.lost prepared.entry.stamp self.old.cells) prepared.entry.gained }
+        ensures before { (m : ℕ) → m < prepared.entry.stamp → relation_at self.new m ≡ relation_at self.old m }
+        ensures from { (m : ℕ) → prepared.entry.stamp ≤ m → m < forever → relation_at self.new m ≡ rows_after self.old prepared.entry }
+        ensures later { (m : ℕ) → prepared.entry.stamp < m → AllBefore self.new m }
         ensures lawful { IsStore self.new }
     {
         let Prepared {
@@ -298,14 +348,14 @@ impl StoredTable {
 
     /// Whether the table has this row now, found by binary search. What the table has now it has from its last
     /// stamp on. It takes no memory.
-    pub fn holds(&self, row: &Row) -> bool
+    pub fn holds(&self, row: &GivenRow<'_>) -> bool
         ensures now { (m : ℕ) → m < forever → AllBefore self.now (m + 1) → result ≡ has row_cmp row.now (relation_at self.now m) }
         ensures still { (m n : ℕ) → m ≤ n → n < forever → AllBefore self.now (m + 1) → relation_at self.now n ≡ relation_at self.now m }
     {
-        if row.values().len() != self.columns.len() {
+        if row.len() != self.columns.len() {
             return false;
         }
-        match place_in(&self.logs, &self.live, row.values()) {
+        match place_in(&self.logs, &self.live, row) {
             Ok(_) => true,
             Err(_) => false,
         }

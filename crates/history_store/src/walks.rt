@@ -2,14 +2,15 @@ ghost use Rattle.std.specs.Prelude.{IfSome, option_map, List};
 ghost use Rattle.history_store.specs.Store.{Cell, named};
 ghost use Rattle.std.specs.Prelude.{◌≡◌, [], slice_index, true, IfErr, ◌⊎◌, ◌∷◌, ℕ, Option, ◌+◌, ◌^◌, ◌<◌, ◌≤◌, ◌++◌, take, drop, length, All, slice_index_or, IfOk, OnOk};
 ghost use Rattle.history_store.specs.Logs.{cells_of};
-ghost use Rattle.history_store.specs.Log.{Log};
+ghost use Rattle.column_log.specs.Log.{Log};
 ghost use Rattle.prima_base.specs.Order.{row_cmp};
 ghost use Rattle.relations.specs.Sets.{Ascends, In};
 ghost use Rattle.history_store.specs.Table.{row_now, rows_of};
 ghost use Rattle.history_store.specs.Handing.{lost_ids, first_order, owners, no_owners, gained_rows, given_ids, id_by, lost_by, next_by, AllWidth};
 
-use crate::columns::Column;
-use prima_base::{ColType, Name, NoMemory, Row, Value};
+use crate::given_rows::GivenRow;
+use column_log::Column;
+use prima_base::{ColType, Name, NoMemory, Row};
 use row_index::RowIndex;
 use std::alloc::Global;
 use std::cmp::Ordering;
@@ -43,14 +44,14 @@ pub fn column_place(columns: &[(Name, ColType)], name: &Name) -> Option<usize>
 }
 
 /// Compares what the newest row of the id begins with with these values.
-pub fn compare_lead(columns: &[Column], id: usize, lead: &[Value]) -> Ordering
+pub fn compare_lead(columns: &[Column], id: usize, lead: &GivenRow<'_>) -> Ordering
     requires narrow { length lead.now ≤ length columns.now }
     requires known { All (λ c. id < c.ids) columns.now }
     ensures lead { result ≡ row_cmp (take (length lead.now) (row_now id (cells_of columns.now))) lead.now }
     ensures whole { length lead.now ≡ length columns.now → result ≡ row_cmp (row_now id (cells_of columns.now)) lead.now }
 {
-    for (k, value) in lead.iter().enumerate() {
-        let order = columns[k].newest(id).compare(&value.lend());
+    for k in 0..lead.len() {
+        let order = columns[k].newest(id).compare(&lead.value(k));
         if order != Ordering::Equal {
             return order;
         }
@@ -59,7 +60,7 @@ pub fn compare_lead(columns: &[Column], id: usize, lead: &[Value]) -> Ordering
 }
 
 /// Compares the newest row of the id with this one.
-pub fn compare_now(columns: &[Column], id: usize, row: &[Value]) -> Ordering
+pub fn compare_now(columns: &[Column], id: usize, row: &GivenRow<'_>) -> Ordering
     requires width { length row.now ≡ length columns.now }
     requires known { All (λ c. id < c.ids) columns.now }
     ensures { result ≡ row_cmp (row_now id (cells_of columns.now)) row.now }
@@ -76,43 +77,43 @@ fn order_at(columns: &[Column], id: usize, rows: &[Row], j: usize) -> Ordering
     ensures more { j ≡ length rows.now → result ≡ Ordering.Less }
 {
     if j < rows.len() {
-        compare_now(columns, id, rows[j].values())
+        compare_now(columns, id, &GivenRow::lent(rows[j].values()))
     } else {
         Ordering::Less
     }
 }
 
 /// How the next rows differ from the current ones: the ids whose rows are gone, the id of each row that has one,
-/// and the rows that no id has.
-pub struct Difference {
+/// and the rows that no id has, lent.
+pub struct Difference<'a> {
     pub lost: Vec<usize>,
     pub owners: Vec<Option<usize>>,
-    pub gained: Vec<Row>,
+    pub gained: Vec<GivenRow<'a>>,
 }
 
 // These rows have no id.
-fn add_new(
+fn add_new<'a>(
     owners: &mut Vec<Option<usize>>,
-    gained: &mut Vec<Row>,
-    rows: &[Row],
+    gained: &mut Vec<GivenRow<'a>>,
+    rows: &'a [Row],
 ) -> Result<(), NoMemory>
     ensures owners { OnOk result (owners.new.items ≡ owners.old.items ++ no_owners rows.now) }
     ensures gained { OnOk result (gained.new.items ≡ gained.old.items ++ rows.now) }
 {
     for row in rows {
-        gained.push(row.copy()?)?;
+        gained.push(GivenRow::lent(row.values()))?;
         owners.push(None)?;
     }
     Ok(())
 }
 
 /// The difference, by one walk along both.
-pub fn find_difference(
+pub fn find_difference<'a>(
     alloc: Global,
     columns: &[Column],
     live: &[usize],
-    rows: &[Row],
-) -> Result<Difference, NoMemory>
+    rows: &'a [Row],
+) -> Result<Difference<'a>, NoMemory>
     requires wide { AllWidth (length columns.now) rows.now }
     requires known { (id : _) → (k : _) (d : Log) → id < length live.now → k < length columns.now
         → slice_index_or live.now id 0 < (slice_index_or columns.now k d).ids }
@@ -139,7 +140,7 @@ pub fn find_difference(
                 j += 1;
             }
             Ordering::Greater => {
-                gained.push(rows[j].copy()?)?;
+                gained.push(GivenRow::lent(rows[j].values()))?;
                 owners.push(None)?;
                 j += 1;
             }
@@ -228,7 +229,7 @@ pub fn copy_rows(alloc: Global, columns: &[Column], live: &[usize]) -> Result<Ve
 }
 
 /// The place of the row among the live ids, or the place where it would stand.
-pub fn place_of(columns: &[Column], live: &[usize], row: &[Value]) -> Result<usize, usize>
+pub fn place_of(columns: &[Column], live: &[usize], row: &GivenRow<'_>) -> Result<usize, usize>
     requires width { length row.now ≡ length columns.now }
     requires known { (id : _) → (k : _) (d : Log) → id < length live.now → k < length columns.now
         → slice_index_or live.now id 0 < (slice_index_or columns.now k d).ids }
@@ -255,7 +256,7 @@ pub fn place_of(columns: &[Column], live: &[usize], row: &[Value]) -> Result<usi
 }
 
 // Whether the row belongs behind all that the index has.
-fn is_behind(columns: &[Column], live: &RowIndex, row: &[Value]) -> bool
+fn is_behind(columns: &[Column], live: &RowIndex, row: &GivenRow<'_>) -> bool
     requires width { length row.now ≡ length columns.now }
     requires known { (id : _) → (k : _) (d : Log) → id < length live.now.ids → k < length columns.now
         → slice_index_or live.now.ids id 0 < (slice_index_or columns.now k d).ids }
@@ -270,7 +271,7 @@ fn is_behind(columns: &[Column], live: &RowIndex, row: &[Value]) -> bool
 }
 
 /// The same in the index. Rows often come in order, and behind the last one nothing is searched.
-pub fn place_in(columns: &[Column], live: &RowIndex, row: &[Value]) -> Result<usize, usize>
+pub fn place_in(columns: &[Column], live: &RowIndex, row: &GivenRow<'_>) -> Result<usize, usize>
     requires width { length row.now ≡ length columns.now }
     requires known { (id : _) → (k : _) (d : Log) → id < length live.now.ids → k < length columns.now
         → slice_index_or live.now.ids id 0 < (slice_index_or columns.now k d).ids }

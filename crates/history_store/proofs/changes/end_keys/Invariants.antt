@@ -1,5 +1,5 @@
 use Rattle.std.proofs.Common.{◌≡◌, ◌<◌, ℕ, get_or, drop, vec_len, vec_capacity}
-use Rattle.history_store.specs.Table.{no_span}
+use Rattle.column_log.specs.Keys.{no_span}
 use Rattle.history_store.specs.Handing.{end_keys}
 use Rattle.history_store.proofs.changes.end_keys.Given as goal
 

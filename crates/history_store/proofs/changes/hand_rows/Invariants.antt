@@ -1,8 +1,8 @@
 use Rattle.std.proofs.Common.{◌≡◌, ◌+◌, ◌≤◌, ◌++◌, length, drop, vec_len, vec_capacity}
 use Rattle.std.specs.Prelude.{All}
 use Rattle.std.specs.Vec.Iter.{into_iter_items}
-use Rattle.history_store.specs.Logs.{cells_of}
-use Rattle.history_store.specs.StoredValues.{rows_room}
+use Rattle.history_store.specs.Logs.{cells_of, kinds_of, AreRowsOf}
+use Rattle.history_store.specs.RowRoom.{rows_room}
 use Rattle.history_store.specs.Handing.{put_rows, handed, unpaired, new_keys, AllWidth}
 use Rattle.history_store.proofs.changes.hand_rows.Given as goal
 
@@ -13,6 +13,8 @@ invariant-loop-row l =
     record {
       counted : l.i ≡ length l.yielded;
       wide : AllWidth (length l.columns) rest;
+      typed : AreRowsOf (kinds_of l.columns) rest;
+      kinds : kinds_of l.columns ≡ kinds_of l.initial.columns;
       more : vec_len l.initial.keys ≤ vec_len l.keys;
       ids : All (λ c. c.ids ≡ vec_len l.keys) l.columns;
       room : All (λ c. rows_room rest ≤ c.spare) l.columns;

@@ -1,5 +1,5 @@
 use Rattle.std.proofs.Common.{◌≡◌, ◌+◌, drop}
-use Rattle.history_store.specs.StoredValues.{rows_room}
+use Rattle.history_store.specs.RowRoom.{rows_room}
 use Rattle.history_store.proofs.changes.rows_room.Given as goal
 
 abbrev pub invariant-loop-row : goal.invariant-loop-row

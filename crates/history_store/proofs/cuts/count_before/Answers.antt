@@ -1,6 +1,6 @@
 use Rattle.std.proofs.Common.{◌+◌, ◌-◌, ◌/◌, ◌<◌, arith, sym, ◌∙◌, get_or}
 use Rattle.history_store.specs.Logs.{cells_of}
-use Rattle.history_store.proofs.Carry.{in_get}
+use Rattle.value_order.proofs.Places.{in_get}
 use Rattle.history_store.proofs.Cutting.{all_before, none_before}
 use Rattle.history_store.proofs.cuts.count_before.Goals as goal
 

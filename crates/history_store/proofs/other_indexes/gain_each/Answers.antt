@@ -1,7 +1,8 @@
 use Rattle.std.proofs.Common.{rules, get_or, ◌≡◌, ◌<◌, ◌∙◌, length, arith, sym, subst}
 use Rattle.std.proofs.lemmas.Grind.{common_steps}
 use Rattle.relations.specs.Sets.{In}
-use Rattle.history_store.specs.ByValue.{Indexed, ids_handed, IsReady, IsGaining}
+use Rattle.history_store.specs.ByValue.{Indexed, IsReady, IsGaining}
+use Rattle.value_order.specs.ByValue.{ids_handed}
 use Rattle.history_store.proofs.Others.{one_more, others_rest}
 use Rattle.history_store.proofs.other_indexes.gain_each.Goals as goal
 

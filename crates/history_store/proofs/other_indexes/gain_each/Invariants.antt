@@ -1,5 +1,6 @@
 use Rattle.std.proofs.Common.{◌≡◌, ◌<◌, ◌≤◌, ℕ, get_or, vec_len}
-use Rattle.history_store.specs.ByValue.{Indexed, ids_handed, IsGaining}
+use Rattle.history_store.specs.ByValue.{Indexed, IsGaining}
+use Rattle.value_order.specs.ByValue.{ids_handed}
 use Rattle.history_store.proofs.other_indexes.gain_each.Given as goal
 
 abbrev pub invariant-loop-k : goal.invariant-loop-k

@@ -1,6 +1,6 @@
 use Rattle.history_store.specs.Logs.{cells_of}
 use Rattle.history_store.proofs.Sides.{exact_rows}
-use Rattle.history_store.proofs.Carry.{in_get}
+use Rattle.value_order.proofs.Places.{in_get}
 use Rattle.history_store.proofs.Splicing.{no_place}
 use Rattle.history_store.proofs.splices.found_in.Goals as goal
 

@@ -1,5 +1,5 @@
 use Rattle.history_store.specs.Logs.{cells_of}
-use Rattle.history_store.proofs.Carry.{in_get}
+use Rattle.value_order.proofs.Places.{in_get}
 use Rattle.history_store.proofs.Splicing.{has_place}
 use Rattle.history_store.proofs.splices.free_in.Goals as goal
 

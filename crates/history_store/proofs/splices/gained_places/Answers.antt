@@ -4,7 +4,7 @@ use Rattle.std.proofs.Math.ListN.{drop_of_length-le}
 use Rattle.relations.specs.Sets.{In}
 use Rattle.history_store.specs.Logs.{cells_of}
 use Rattle.history_store.specs.Handing.{AllWidth, handed, id_by, lost_by, next_by}
-use Rattle.history_store.proofs.Carry.{in_get}
+use Rattle.value_order.proofs.Places.{in_get}
 use Rattle.history_store.proofs.SideBySide.{taken}
 use Rattle.history_store.proofs.Splicing.{handed_next}
 use Rattle.history_store.proofs.Places.{Come, come_first, come_next, come_all, left_there}
@@ -13,7 +13,7 @@ use Rattle.history_store.proofs.splices.gained_places.Goals as goal
 pub free_in-free-requires-clause-fresh : goal.free_in-free-requires-clause-fresh
 free_in-free-requires-clause-fresh c =
     let gained = c.args.gained.now in
-    rw c.values.ensures (c.requires.fresh c.row-item.result (subst (λ r. In r gained) (sym c.row-item.is) (in_get gained c.loop-row.row-index c.row-item.result c.loop-row-test.true)))
+    c.requires.fresh c.row-item.result (subst (λ r. In r gained) (sym c.row-item.is) (in_get gained c.loop-row.row-index c.row-item.result c.loop-row-test.true))
 
 pub loop-row-preserved : goal.loop-row-preserved
 loop-row-preserved c =
@@ -32,8 +32,8 @@ loop-row-preserved c =
     let h : handed K c.loop-row.fresh (drop c.loop-row.row-index gained) ≡ id_by [] K c.loop-row.fresh ∷ handed (lost_by [] K) (next_by [] K c.loop-row.fresh) later = ap (handed K c.loop-row.fresh) e ∙ handed_next K c.loop-row.fresh row later in
     let t1 = subst (Come C live from ids to (handed K c.loop-row.fresh (drop c.loop-row.row-index gained)) gained) e w.come in
     let t2 = subst (λ hs. Come C live from ids to hs gained (row ∷ later)) h t1 in
-    let f = rw c.values.ensures at c.free_in-free.ensures.before in
-    let g = rw c.values.ensures at c.free_in-free.ensures.after in
+    let f = c.free_in-free.ensures.before in
+    let g = c.free_in-free.ensures.after in
     let next = come_next C live from ids gained to (handed (lost_by [] K) (next_by [] K c.loop-row.fresh) later) (id_by [] K c.loop-row.fresh) later row free c.requires.placed t2 c.free_in-free.ensures.within f g in
     let pushed : c.push.new.self.items ≡ to ++ (c.place_without.result, c.handed_id-id.result) ∷ [] = search rules in
     let wide : AllWidth (length c.args.columns.now) (row ∷ later) = subst (AllWidth (length c.args.columns.now)) e w.wide in

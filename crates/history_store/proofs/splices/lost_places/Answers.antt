@@ -4,7 +4,7 @@ use Rattle.std.proofs.Math.ListN.{drop_of_length-le}
 use Rattle.history_store.specs.Logs.{cells_of}
 use Rattle.history_store.specs.Handing.{AllWidth}
 use Rattle.relations.specs.Sets.{In}
-use Rattle.history_store.proofs.Carry.{in_get}
+use Rattle.value_order.proofs.Places.{in_get}
 use Rattle.history_store.proofs.SideBySide.{taken}
 use Rattle.history_store.proofs.Places.{ArePlaces, places_first, not_below, places_next, places_all}
 use Rattle.history_store.proofs.splices.lost_places.Goals as goal
@@ -12,7 +12,7 @@ use Rattle.history_store.proofs.splices.lost_places.Goals as goal
 pub found_in-at-requires-clause-there : goal.found_in-at-requires-clause-there
 found_in-at-requires-clause-there c =
     let lost = c.args.lost.now in
-    rw c.values.ensures (c.requires.there c.row-item.result (subst (λ r. In r lost) (sym c.row-item.is) (in_get lost c.loop-row.row-index c.row-item.result c.loop-row-test.true)))
+    c.requires.there c.row-item.result (subst (λ r. In r lost) (sym c.row-item.is) (in_get lost c.loop-row.row-index c.row-item.result c.loop-row-test.true))
 
 pub overflow_sub-at : goal.overflow_sub-at
 overflow_sub-at c =
@@ -23,7 +23,7 @@ overflow_sub-at c =
     let e : drop c.loop-row.row-index c.args.lost.now ≡ row ∷ later = taken c.args.lost.now c.loop-row.row-index row c.loop-row-test.true c.row-item.is in
     let p = subst (ArePlaces C c.args.live.now.ids c.loop-row.found.items c.loop-row.from.items c.args.lost.now) e c.loop-row.invariant.places in
     let gone : c.len-gone.result ≡ length c.loop-row.from.items = search rules in
-    let b = not_below C c.args.live.now.ids c.loop-row.found.items c.loop-row.from.items c.args.lost.now later row at c.requires.live_rise p c.found_in-at.ensures.within (c.found_in-at.ensures.row ∙ c.values.ensures) in
+    let b = not_below C c.args.live.now.ids c.loop-row.found.items c.loop-row.from.items c.args.lost.now later row at c.requires.live_rise p c.found_in-at.ensures.within c.found_in-at.ensures.row in
     omega (arith, gone, b)
 
 pub loop-row-preserved : goal.loop-row-preserved
@@ -36,7 +36,7 @@ loop-row-preserved c =
     let later = drop (c.loop-row.row-index + 1) c.args.lost.now in
     let e : drop c.loop-row.row-index c.args.lost.now ≡ row ∷ later = taken c.args.lost.now c.loop-row.row-index row c.loop-row-test.true c.row-item.is in
     let p = subst (ArePlaces C live c.loop-row.found.items c.loop-row.from.items c.args.lost.now) e w.places in
-    let next = places_next C live c.loop-row.found.items c.loop-row.from.items c.args.lost.now later row at c.requires.live_rise p c.found_in-at.ensures.within (c.found_in-at.ensures.row ∙ c.values.ensures) in
+    let next = places_next C live c.loop-row.found.items c.loop-row.from.items c.args.lost.now later row at c.requires.live_rise p c.found_in-at.ensures.within c.found_in-at.ensures.row in
     let gone : c.len-gone.result ≡ length c.loop-row.from.items = search rules in
     let from : c.push.new.self.items ≡ c.loop-row.from.items ++ (at - c.len-gone.result) ∷ [] = search rules in
     let found : c.push-in-loop-row.new.self.items ≡ c.loop-row.found.items ++ c.id_at.result ∷ [] = search rules in

@@ -17,7 +17,7 @@ free_place-requires-clause-rise c = c.loop-row.invariant.put.rest_rise
 pub free_place-requires-clause-fresh : goal.free_place-requires-clause-fresh
 free_place-requires-clause-fresh c =
     let e = taken c.args.gained.now c.loop-row.row-index c.row-item.result c.loop-row-test.true c.row-item.is in
-    rw c.values.ensures (c.loop-row.invariant.put.fresh c.row-item.result (rw e (inl refl)))
+    c.loop-row.invariant.put.fresh c.row-item.result (rw e (inl refl))
 
 pub loop-row-preserved : goal.loop-row-preserved
 loop-row-preserved c =
@@ -35,8 +35,8 @@ loop-row-preserved c =
     let t1 = subst (λ ls. IsPut C c.args.kept.now ids c.loop-row.after.items rest (handed K c.loop-row.fresh (drop c.loop-row.row-index c.args.gained.now)) c.args.gained.now ls) e w.put in
     let t2 = subst (λ hs. IsPut C c.args.kept.now ids c.loop-row.after.items rest hs c.args.gained.now (row ∷ later)) h t1 in
     let t3 = subst (λ r. IsPut C c.args.kept.now ids c.loop-row.after.items r (id_by [] K c.loop-row.fresh ∷ handed (lost_by [] K) (next_by [] K c.loop-row.fresh) later) c.args.gained.now (row ∷ later)) p t2 in
-    let f = rw c.values.ensures at c.free_place.ensures.before in
-    let g = rw c.values.ensures at c.free_place.ensures.after in
+    let f = c.free_place.ensures.before in
+    let g = c.free_place.ensures.after in
     let next = put_next C c.args.kept.now ids c.loop-row.after.items (take at rest) (drop at rest) (handed (lost_by [] K) (next_by [] K c.loop-row.fresh) later) (id_by [] K c.loop-row.fresh) c.args.gained.now later row t3 (all_low C rest row at c.free_place.ensures.within f) (all_high C rest row at g) in
     let front : c.extend_from_slice.new.self.items ≡ c.loop-row.after.items ++ take at rest = search rules in
     let pushed : c.push.new.self.items ≡ c.extend_from_slice.new.self.items ++ c.handed_id.result ∷ [] = search rules in

@@ -17,7 +17,7 @@ found_place-at-requires-clause-rise c = rise_back (cells_of c.args.columns.now) 
 pub found_place-at-requires-clause-there : goal.found_place-at-requires-clause-there
 found_place-at-requires-clause-there c =
     let e = taken c.args.lost.now c.loop-row.row-index c.row-item.result c.loop-row-test.true c.row-item.is in
-    rw c.values.ensures (c.loop-row.invariant.taken.there c.row-item.result (rw e (inl refl)))
+    c.loop-row.invariant.taken.there c.row-item.result (rw e (inl refl))
 
 pub loop-row-preserved : goal.loop-row-preserved
 loop-row-preserved c =
@@ -31,7 +31,7 @@ loop-row-preserved c =
     let p = parted rest at c.found_place-at.ensures.within in
     let t : IsTaken C c.args.live.now c.loop-row.found.items c.loop-row.kept.items (take at rest ++ get_or rest at 0 ∷ drop (at + 1) rest) c.args.lost.now (row ∷ later) =
     subst (λ r. IsTaken C c.args.live.now c.loop-row.found.items c.loop-row.kept.items r c.args.lost.now (row ∷ later)) p (subst (IsTaken C c.args.live.now c.loop-row.found.items c.loop-row.kept.items rest c.args.lost.now) e w.taken) in
-    let next = taken_next C c.args.live.now c.loop-row.found.items c.loop-row.kept.items (take at rest) (drop (at + 1) rest) (get_or rest at 0) c.args.lost.now later row t (c.found_place-at.ensures.row ∙ c.values.ensures) in
+    let next = taken_next C c.args.live.now c.loop-row.found.items c.loop-row.kept.items (take at rest) (drop (at + 1) rest) (get_or rest at 0) c.args.lost.now later row t c.found_place-at.ensures.row in
     let found : c.push.new.self.items ≡ c.loop-row.found.items ++ get_or rest at 0 ∷ [] = search rules in
     let kept : c.extend_from_slice.new.self.items ≡ c.loop-row.kept.items ++ take at rest = search rules in
     let wide : AllWidth (length c.args.columns.now) (row ∷ later) = subst (AllWidth (length c.args.columns.now)) e w.wide in

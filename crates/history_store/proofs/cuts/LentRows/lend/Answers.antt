@@ -1,7 +1,7 @@
 use Rattle.std.proofs.Common.{◌+◌, ◌-◌, ◌<◌, sym, ap, ◌∙◌, length, subst, get_or, [], arith}
 use Rattle.std.proofs.lemmas.Result.{on_ok_weaker}
 use Rattle.history_store.specs.Logs.{cells_of}
-use Rattle.history_store.proofs.Carry.{in_get}
+use Rattle.value_order.proofs.Places.{in_get}
 use Rattle.history_store.proofs.Cutting.{length-part, get_or-part}
 use Rattle.history_store.proofs.cuts.LentRows.lend.Goals as goal
 

@@ -1,9 +1,10 @@
-use Rattle.std.proofs.Common.{refl, ◌∙◌}
+use Rattle.std.proofs.Common.{refl, sym, ◌∙◌}
 use Rattle.history_store.specs.Logs.{cells_of}
 use Rattle.history_store.proofs.Rows.{length-cells_of}
 use Rattle.history_store.proofs.Preparing.{all_known_in}
 use Rattle.history_store.proofs.Showing.{relation_now}
 use Rattle.history_store.proofs.Cutting.{ids_from}
+use Rattle.history_store.proofs.OneColumn.{wide_now}
 use Rattle.history_store.proofs.tables.StoredTable.between.Goals as goal
 
 pub count_before-end-requires-clause-narrow : goal.count_before-end-requires-clause-narrow
@@ -32,6 +33,11 @@ pub over-requires-clause-known : goal.over-requires-clause-known
 over-requires-clause-known c =
     let a = c.self.inside in
     all_known_in a.live.ids a.live.ids a.keys.items a.logs.items c.deref-3.result.now refl c.deref-3.ensures.value c.self.invariant.kept.stored.are_open c.self.invariant.ids
+
+pub over-requires-clause-whole : goal.over-requires-clause-whole
+over-requires-clause-whole c = λ q i.
+    let a = c.self.inside in
+    rw c.deref-3.ensures.value (wide_now a.columns.items a.keys.items a.logs.items a.live.ids c.self.invariant.kept q i)
 
 pub returns : goal.returns
 returns c = record {

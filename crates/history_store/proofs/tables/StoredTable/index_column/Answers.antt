@@ -1,7 +1,7 @@
 use Rattle.std.proofs.Common.{◌≡◌, false, ◌<◌, ◌≤◌, ◌-◌, length, sym, ap, ◌∙◌, subst, vec_len, vec_capacity, [], ◌∷◌, ◌++◌}
 use Rattle.history_store.specs.ByValue.{columns_of, is_indexed, least_room, IsIndexed}
 use Rattle.history_store.specs.Logs.{cells_of, few_of, with_index}
-use Rattle.history_store.specs.Handing.{Distinct}
+use Rattle.value_order.specs.ByValue.{Distinct}
 use Rattle.history_store.proofs.Rows.{length-cells_of, least_up, less_up}
 use Rattle.history_store.proofs.Carry.{still_with_index}
 use Rattle.history_store.proofs.Changing.{distinct_ids}
@@ -29,6 +29,7 @@ pub invariant_of-self : goal.invariant_of-self
 invariant_of-self c = record {
   kept = c.self.invariant.kept;
   ids = c.self.invariant.ids;
+  kinds = c.self.invariant.kinds;
   counted = c.self.invariant.counted;
   others = rw c.in_err-push.ensures.items c.self.invariant.others;
 }
@@ -40,6 +41,7 @@ invariant_of-self-2 c =
     record {
       kept = c.self.invariant.kept;
       ids = c.self.invariant.ids;
+      kinds = c.self.invariant.kinds;
       counted = c.self.invariant.counted;
       others = rw c.in_ok-push.ensures.items (one_pushed (IsIndexed (cells_of a.logs.items) a.live.ids []) a.others.items c.in_ok-index.index c.self.invariant.others i);
     }

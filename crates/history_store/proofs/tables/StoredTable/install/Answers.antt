@@ -3,11 +3,12 @@ use Rattle.std.proofs.lemmas.Grind.{common_steps}
 use Rattle.std.proofs.Math.Nat.{le_trans, min-le_left, min-le_right}
 use Rattle.relations.specs.Sets.{In}
 use Rattle.prima_base.specs.declared.values.Value.{Value}
-use Rattle.history_store.specs.Handing.{AllWidth, Distinct, handed, keys_handed}
+use Rattle.history_store.specs.Handing.{AllWidth, handed, keys_handed}
+use Rattle.value_order.specs.ByValue.{Distinct, ids_handed}
 use Rattle.history_store.specs.Indexes.{index_of}
-use Rattle.history_store.specs.StoredValues.{rows_room}
-use Rattle.history_store.specs.Logs.{cells_of, few_of}
-use Rattle.history_store.specs.ByValue.{columns_of, ids_handed, indexed_behind, least_room}
+use Rattle.history_store.specs.RowRoom.{rows_room}
+use Rattle.history_store.specs.Logs.{cells_of, AreRowsOf, few_of}
+use Rattle.history_store.specs.ByValue.{columns_of, indexed_behind, least_room}
 use Rattle.history_store.proofs.Places.{few_placed}
 use Rattle.history_store.proofs.Carry.{known, spare_least, spare_each, key_room, index_room, few_are_few}
 use Rattle.history_store.proofs.Cutting.{length-rows_of}
@@ -16,6 +17,7 @@ use Rattle.history_store.proofs.Showing.{key_before}
 use Rattle.history_store.proofs.Lawful.{is_store}
 use Rattle.history_store.proofs.Installing.{placed_then, relation_from, plan_kept, plan_cells, plan_before, plan_from, plan_later}
 use Rattle.history_store.proofs.CellCounts.{still_counted}
+use Rattle.history_store.proofs.ValueTypes.{gained_typed}
 use Rattle.history_store.proofs.Others.{same_columns, least_room_below, least_room_each, ready_each}
 use Rattle.history_store.proofs.Keeping.{ids_are_handed, all_lost, all_ready, all_new, all_fresh, all_apart, all_indexed}
 use Rattle.history_store.proofs.Rule.{key_count}
@@ -30,6 +32,12 @@ pub carry_out-requires-clause-wide : goal.carry_out-requires-clause-wide
 carry_out-requires-clause-wide c =
     let f = rw (← c.self.view_is, ← c.prepared.view_is) at c.requires.fits in
     subst (λ n. AllWidth n c.prepared.inside.gained.items) (sym c.self.invariant.kept.width ∙ length-cells_of c.self.inside.logs.items ∙ search rules) f.hands.wide
+
+pub carry_out-requires-clause-typed : goal.carry_out-requires-clause-typed
+carry_out-requires-clause-typed c =
+    let a = c.self.inside in
+    let f = rw (← c.self.view_is, ← c.prepared.view_is) at c.requires.fits in
+    subst (λ ks. AreRowsOf ks c.prepared.inside.gained.items) (sym c.self.invariant.kinds) (gained_typed a.columns.items a.keys.items (cells_of a.logs.items) a.live.ids _ c.self.invariant.kept _ f)
 
 pub carry_out-requires-clause-known : goal.carry_out-requires-clause-known
 carry_out-requires-clause-known c =
@@ -86,6 +94,7 @@ invariant_of-self c =
     record {
       kept = rw (c.carry_out.ensures.keys, c.carry_out.ensures.cells, c.deref-3.ensures.value, c.change_index.ensures) (plan_kept a.columns.items a.keys.items (cells_of a.logs.items) a.live.ids _ c.self.invariant.kept _ f);
       ids = λ k d b. c.carry_out.ensures.ids k d b ∙ search rules;
+      kinds = c.carry_out.ensures.kinds ∙ c.self.invariant.kinds;
       counted = rw (c.carry_out.ensures.cells, c.deref-3.ensures.value) (still_counted (handed c.prepared.inside.lost.items (length a.keys.items) c.prepared.inside.gained.items) c.prepared.inside.gained.items c.prepared.inside.stamp (cells_of a.logs.items) c.self.invariant.counted r);
       others = rw (c.carry_out.ensures.cells, c.deref-3.ensures.value, c.change_index.ensures) (all_indexed a.columns.items a.keys.items (cells_of a.logs.items) a.live.ids _ c.self.invariant.kept _ f c.carry_out.new.columns.items c.lose_each.new.others.items c.gain_each.new.others.items e l long (λ k d h. (let b : k < vec_len c.lose_each.new.others = grind (arith, common_steps) in each k d b)));
     }

@@ -1,5 +1,5 @@
-use Rattle.std.proofs.Common.{rules, ◌≡◌, ◌<◌, ◌+◌, [], length, get_or, ap, sym, ◌∙◌, subst, arith}
-use Rattle.history_store.specs.Logs.{cells_of}
+use Rattle.std.proofs.Common.{◌≡◌, ◌<◌, ◌+◌, [], length, get_or, ap, sym, ◌∙◌, subst, arith}
+use Rattle.history_store.specs.Logs.{cells_of, types_of}
 use Rattle.history_store.specs.Store.{Store, AreColumns, weight, relation_at}
 use Rattle.history_store.specs.TableFields.{store_of}
 use Rattle.history_store.specs.Handing.{only_in, handed, written}
@@ -14,9 +14,10 @@ use Rattle.history_store.proofs.tables.StoredTable.new.Goals as goal
 
 pub invariant_of-table : goal.invariant_of-table
 invariant_of-table c = record {
-  kept = rw (c.new.ensures.items, c.in_ok-of.ensures) (none_kept c.in_ok-copy_columns.field-0.items c.in_ok-empty_columns.field-0.items (subst AreColumns (sym c.in_ok-copy_columns.ensures) c.requires.columns) (c.in_ok-empty_columns.ensures.width ∙ search rules) c.in_ok-empty_columns.ensures.cells);
+  kept = rw (c.new.ensures.items, c.in_ok-of.ensures) (none_kept c.in_ok-copy_columns.field-0.items c.in_ok-empty_columns.field-0.items (subst AreColumns (sym c.in_ok-copy_columns.ensures) c.requires.columns) (c.in_ok-empty_columns.ensures.width ∙ ap length (sym c.in_ok-copy_columns.ensures)) c.in_ok-empty_columns.ensures.cells);
   others = λ k d h. absurd (let b = rw c.new-2.ensures.items at h in omega (arith, b));
   ids = λ k d h. c.in_ok-empty_columns.ensures.ids k d h ∙ sym (ap length c.new.ensures.items);
+  kinds = c.in_ok-empty_columns.ensures.kinds ∙ ap types_of (sym c.in_ok-copy_columns.ensures);
   counted = rw (none_counted c.in_ok-empty_columns.field-0.items c.in_ok-empty_columns.ensures.cells) (omega arith);
 }
 
@@ -47,7 +48,7 @@ returns-clause-cells c =
     let q : p.gained ≡ only_in c.args.rows.now (relation_at (store_of columns [] logs _ []) c.args.stamp) = rw (c.new.ensures.items, c.new-2.ensures.items) at c.in_ok-prepared.ensures.gained in
     let g : p.gained ≡ c.args.rows.now = q ∙ ap (only_in c.args.rows.now) (none_now columns logs _ c.args.stamp) ∙ all_gained c.args.rows.now in
     let i = plan_is p c.args.stamp c.args.rows.now c.in_ok-prepared.ensures.stamp (no_lost columns logs n p f) g in
-    let w : length logs ≡ length columns = length-cells_of c.in_ok-empty_columns.field-0.items ∙ c.in_ok-empty_columns.ensures.width ∙ search rules in
+    let w : length logs ≡ length columns = length-cells_of c.in_ok-empty_columns.field-0.items ∙ c.in_ok-empty_columns.ensures.width ∙ ap length (sym c.in_ok-copy_columns.ensures) in
     c.install.ensures.cells ∙ ap (λ (t : Store). cells_after t p) e ∙ ap (cells_after (store_of columns [] logs n [])) i ∙ first_cells columns logs n c.args.stamp c.args.rows.now p.after w
     ∙ ap (λ cs. write_rows (handed [] 0 c.args.rows.now) c.args.rows.now c.args.stamp (no_cells cs)) c.in_ok-copy_columns.ensures
 

@@ -76,6 +76,7 @@ invariant_of-self c =
     record {
       kept = rw (r.keys, r.cells, r.live) c.self.invariant.kept;
       ids = search rules;
+      kinds = r.kinds ∙ c.self.invariant.kinds;
       counted = rw r.cells c.self.invariant.counted;
       others = same_others (cells_of a.logs.items) _ a.live.ids _ a.others.items _ r.cells r.live n (λ k d h. (let b : k < vec_len a.others = grind (arith, common_steps) in r.others k d b)) c.self.invariant.others;
     }
@@ -88,6 +89,7 @@ invariant_of-self-2 c =
     record {
       kept = rw (r.keys, r.cells, r.live) c.self.invariant.kept;
       ids = search rules;
+      kinds = r.kinds ∙ c.self.invariant.kinds;
       counted = rw r.cells c.self.invariant.counted;
       others = same_others (cells_of a.logs.items) _ a.live.ids _ a.others.items _ r.cells r.live n (λ k d h. (let b : k < vec_len a.others = grind (arith, common_steps) in r.others k d b)) c.self.invariant.others;
     }

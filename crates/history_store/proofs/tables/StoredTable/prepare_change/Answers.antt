@@ -23,7 +23,7 @@ pub splice-requires-clause-gained_wide : goal.splice-requires-clause-gained_wide
 splice-requires-clause-gained_wide c =
     let a = c.self.inside in
     let r = rw (← c.self.view_is) at c.requires.gained in
-    subst (λ n. AllWidth n c.args.gained.now) (length-cells_of a.logs.items ∙ ap length (sym c.deref.ensures.value)) (all_wide a.columns.items (cells_of a.logs.items) c.args.gained.now c.self.invariant.kept.width r)
+    rw c.deref-2.ensures.value (subst (λ n. AllWidth n c.args.gained.items) (length-cells_of a.logs.items ∙ ap length (sym c.deref.ensures.value)) (all_wide a.columns.items (cells_of a.logs.items) c.args.gained.items c.self.invariant.kept.width r))
 
 pub splice-requires-clause-known : goal.splice-requires-clause-known
 splice-requires-clause-known c =
@@ -42,7 +42,7 @@ splice-requires-clause-fresh c = λ row i h.
     let a = c.self.inside in
     let b = rw (← c.self.view_is) at c.requires.before in
     let j = rw c.deref.ensures.value at h in
-    let f = rw (← c.self.view_is) at (c.requires.fresh row i) in
+    let f = rw (← c.self.view_is) at (c.requires.fresh row (rw c.deref-2.ensures.value at i)) in
     f (subst (In row) (sym (relation_from a.columns.items a.keys.items (cells_of a.logs.items) a.live.ids _ c.args.stamp c.args.stamp c.self.invariant.kept b (omega arith) c.requires.lawful)) j)
 
 pub returns-clause-fits : goal.returns-clause-fits
@@ -51,17 +51,17 @@ returns-clause-fits c =
     let b = rw (← c.self.view_is) at c.requires.before in
     let r = rw (← c.self.view_is) at c.requires.lost in
     let g = rw (← c.self.view_is) at c.requires.gained in
-    let n : c.len-2.result ≡ length a.keys.items = search rules in
-    let s = rw (c.deref.ensures.value, n) at c.in_ok-found.ensures.spliced in
+    let n : c.len-3.result ≡ length a.keys.items = search rules in
+    let s = rw (c.deref.ensures.value, c.deref-2.ensures.value, n) at c.in_ok-found.ensures.spliced in
     let p = c.in_ok-found.ensures.placed in
-    let room = rw (c.in_ok-room.ensures, c.deref-2.ensures.value, c.reserve_rows.ensures.cells, c.in_ok-gained.ensures) at c.in_ok-reserve_rows.ensures.room in
-    rw (c.reserve_rows.ensures.keys, c.reserve_rows.ensures.cells, c.in_ok-gained.ensures)
-    (change_fits a.columns.items a.keys.items (cells_of a.logs.items) a.live.ids _ c.self.invariant.kept c.args.stamp b c.requires.lawful c.args.lost.now c.args.gained.now r g c.in_ok-found.found.items _ s p c.in_ok-found.ensures.more _ room)
+    let room = rw (c.in_ok-room.ensures, c.deref-3.ensures.value, c.reserve_rows.ensures.cells) at c.in_ok-reserve_rows.ensures.room in
+    rw (c.reserve_rows.ensures.keys, c.reserve_rows.ensures.cells)
+    (change_fits a.columns.items a.keys.items (cells_of a.logs.items) a.live.ids _ c.self.invariant.kept c.args.stamp b c.requires.lawful c.args.lost.now c.args.gained.items r g c.in_ok-found.found.items _ s p (rw c.deref-2.ensures.value at c.in_ok-found.ensures.more) _ room)
 
 pub returns-clause-room : goal.returns-clause-room
 returns-clause-room c =
-    let room = rw (c.in_ok-room.ensures, c.deref-2.ensures.value) at c.in_ok-reserve_rows.ensures.room in
-    le_trans (least_rows_room c.in_ok-gained.gained.items) room
+    let room = rw (c.in_ok-room.ensures, c.deref-3.ensures.value) at c.in_ok-reserve_rows.ensures.room in
+    le_trans (least_rows_room c.args.gained.items) room
 
 pub returns-clause-leads : goal.returns-clause-leads
 returns-clause-leads c =
@@ -69,11 +69,11 @@ returns-clause-leads c =
     let b = rw (← c.self.view_is) at c.requires.before in
     let r = rw (← c.self.view_is) at c.requires.lost in
     let g = rw (← c.self.view_is) at c.requires.gained in
-    let n : c.len-2.result ≡ length a.keys.items = search rules in
-    let s = rw (c.deref.ensures.value, n) at c.in_ok-found.ensures.spliced in
+    let n : c.len-3.result ≡ length a.keys.items = search rules in
+    let s = rw (c.deref.ensures.value, c.deref-2.ensures.value, n) at c.in_ok-found.ensures.spliced in
     let p = c.in_ok-found.ensures.placed in
-    rw (← c.self.view_is, c.reserve_rows.ensures.keys, c.reserve_rows.ensures.cells, c.in_ok-gained.ensures)
-    (change_leads a.columns.items a.keys.items (cells_of a.logs.items) a.live.ids _ c.self.invariant.kept c.args.stamp b c.requires.lawful c.args.lost.now c.args.gained.now r g c.in_ok-found.found.items _ s p c.in_ok-found.ensures.more _ _)
+    rw (← c.self.view_is, c.reserve_rows.ensures.keys, c.reserve_rows.ensures.cells)
+    (change_leads a.columns.items a.keys.items (cells_of a.logs.items) a.live.ids _ c.self.invariant.kept c.args.stamp b c.requires.lawful c.args.lost.now c.args.gained.items r g c.in_ok-found.found.items _ s p (rw c.deref-2.ensures.value at c.in_ok-found.ensures.more) _ _)
 
 pub returns-clause-lost : goal.returns-clause-lost
 returns-clause-lost c =
@@ -81,11 +81,11 @@ returns-clause-lost c =
     let b = rw (← c.self.view_is) at c.requires.before in
     let r = rw (← c.self.view_is) at c.requires.lost in
     let g = rw (← c.self.view_is) at c.requires.gained in
-    let n : c.len-2.result ≡ length a.keys.items = search rules in
-    let s = rw (c.deref.ensures.value, n) at c.in_ok-found.ensures.spliced in
+    let n : c.len-3.result ≡ length a.keys.items = search rules in
+    let s = rw (c.deref.ensures.value, c.deref-2.ensures.value, n) at c.in_ok-found.ensures.spliced in
     let p = c.in_ok-found.ensures.placed in
     rw (← c.self.view_is)
-    (change_lost a.columns.items a.keys.items (cells_of a.logs.items) a.live.ids _ c.self.invariant.kept c.args.stamp b c.requires.lawful c.args.lost.now c.args.gained.now r g c.in_ok-found.found.items _ s p c.in_ok-found.ensures.more)
+    (change_lost a.columns.items a.keys.items (cells_of a.logs.items) a.live.ids _ c.self.invariant.kept c.args.stamp b c.requires.lawful c.args.lost.now c.args.gained.items r g c.in_ok-found.found.items _ s p (rw c.deref-2.ensures.value at c.in_ok-found.ensures.more))
 
 pub invariant_of-self : goal.invariant_of-self
 invariant_of-self c =
@@ -95,6 +95,7 @@ invariant_of-self c =
     record {
       kept = rw (r.keys, r.cells, r.live) c.self.invariant.kept;
       ids = search rules;
+      kinds = r.kinds ∙ c.self.invariant.kinds;
       counted = rw r.cells c.self.invariant.counted;
       others = same_others (cells_of a.logs.items) _ a.live.ids _ a.others.items _ r.cells r.live n (λ k d h. (let b : k < vec_len a.others = grind (arith, common_steps) in r.others k d b)) c.self.invariant.others;
     }
@@ -107,6 +108,7 @@ invariant_of-self-2 c =
     record {
       kept = rw (r.keys, r.cells, r.live) c.self.invariant.kept;
       ids = search rules;
+      kinds = r.kinds ∙ c.self.invariant.kinds;
       counted = rw r.cells c.self.invariant.counted;
       others = same_others (cells_of a.logs.items) _ a.live.ids _ a.others.items _ r.cells r.live n (λ k d h. (let b : k < vec_len a.others = grind (arith, common_steps) in r.others k d b)) c.self.invariant.others;
     }

@@ -4,6 +4,7 @@ use Rattle.history_store.specs.ByValue.{Indexed, IsIndexed}
 use Rattle.history_store.proofs.Preparing.{all_known_in}
 use Rattle.history_store.proofs.Showing.{stored_at}
 use Rattle.history_store.proofs.Others.{one_ready}
+use Rattle.history_store.proofs.OneColumn.{wide_now}
 use Rattle.history_store.proofs.WithValue.{rows_found}
 use Rattle.history_store.proofs.tables.StoredTable.rows_with.Goals as goal
 
@@ -20,6 +21,13 @@ rows_with-requires-clause-known c = λ q j.
     let h = subst (λ xs. c.in-Some.at < length xs) c.deref.ensures.value c.in-Some.ensures.at.0 in
     let i = subst (IsIndexed (cells_of a.logs.items) a.live.ids []) (sym c.index.ensures) (c.self.invariant.others c.in-Some.at c.index.result.now h) in
     all_known_in a.live.ids a.live.ids a.keys.items a.logs.items c.deref-in-Some.result.now refl c.deref-in-Some.ensures.value c.self.invariant.kept.stored.are_open c.self.invariant.ids q (i.only q j).0
+
+pub rows_with-requires-clause-whole : goal.rows_with-requires-clause-whole
+rows_with-requires-clause-whole c = λ q j.
+    let a = c.self.inside in
+    let h = subst (λ xs. c.in-Some.at < length xs) c.deref.ensures.value c.in-Some.ensures.at.0 in
+    let i = subst (IsIndexed (cells_of a.logs.items) a.live.ids []) (sym c.index.ensures) (c.self.invariant.others c.in-Some.at c.index.result.now h) in
+    rw c.deref-in-Some.ensures.value (wide_now a.columns.items a.keys.items a.logs.items a.live.ids c.self.invariant.kept q (i.only q j).0)
 
 pub returns-in-Some-clause-rows : goal.returns-in-Some-clause-rows
 returns-in-Some-clause-rows c = λ m l h.

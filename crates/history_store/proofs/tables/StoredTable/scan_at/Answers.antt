@@ -1,5 +1,5 @@
 use Rattle.std.proofs.Common.{rules, ◌≡◌, ◌<◌, length, ap, sym, subst, ◌∙◌, vec_len}
-use Rattle.history_store.specs.Entries.{IsHistory}
+use Rattle.column_log.specs.Entries.{IsHistory}
 use Rattle.history_store.proofs.Rows.{length-cells_of}
 use Rattle.history_store.proofs.Reading.{here, history}
 use Rattle.history_store.proofs.tables.StoredTable.scan_at.Goals as goal

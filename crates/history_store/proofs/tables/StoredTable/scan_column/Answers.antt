@@ -1,6 +1,6 @@
 use Rattle.std.proofs.Common.{rules, ◌≡◌, ◌<◌, Some, length, ap, sym, subst, ◌∙◌, vec_len}
 use Rattle.history_store.specs.Logs.{cells_of}
-use Rattle.history_store.specs.Entries.{IsHistory}
+use Rattle.column_log.specs.Entries.{IsHistory}
 use Rattle.history_store.proofs.Rows.{length-cells_of}
 use Rattle.history_store.proofs.Reading.{here, history}
 use Rattle.history_store.proofs.Showing.{count_entries}

@@ -1,5 +1,5 @@
 use Rattle.std.proofs.Common.{◌<◌, refl, sym, subst}
-use Rattle.history_store.specs.Log.{Log}
+use Rattle.column_log.specs.Log.{Log}
 use Rattle.history_store.proofs.Rows.{cells_at}
 use Rattle.history_store.proofs.value_index.ValueIndex.gain.Goals as goal
 

@@ -1,6 +1,6 @@
 use Rattle.std.proofs.Common.{◌<◌, sym, ◌∙◌, subst}
 use Rattle.relations.specs.Sets.{Same}
-use Rattle.history_store.specs.Log.{Log}
+use Rattle.column_log.specs.Log.{Log}
 use Rattle.history_store.proofs.Rows.{cells_at, length-cells_of}
 use Rattle.history_store.proofs.value_index.ValueIndex.of.Goals as goal
 

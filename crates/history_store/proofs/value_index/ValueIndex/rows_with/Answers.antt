@@ -1,10 +1,10 @@
 use Rattle.std.proofs.Common.{◌<◌, ℕ, sym, ap, subst}
 use Rattle.relations.specs.Sets.{In}
-use Rattle.history_store.specs.Log.{Log}
+use Rattle.column_log.specs.Log.{Log}
 use Rattle.history_store.specs.Logs.{cells_of}
 use Rattle.history_store.specs.Table.{rows_of}
 use Rattle.history_store.proofs.Rows.{cells_at}
-use Rattle.history_store.proofs.Marks.{ids_found}
+use Rattle.value_order.proofs.Marks.{ids_found}
 use Rattle.history_store.proofs.value_index.ValueIndex.rows_with.Goals as goal
 
 pub count_under-end-requires-clause-known : goal.count_under-end-requires-clause-known
@@ -29,6 +29,9 @@ count_under-requires-clause-rises c =
 
 pub over-requires-clause-known : goal.over-requires-clause-known
 over-requires-clause-known c = rw (← c.self.view_is) at c.requires.known
+
+pub over-requires-clause-whole : goal.over-requires-clause-whole
+over-requires-clause-whole c = rw (← c.self.view_is) at c.requires.whole
 
 pub returns : goal.returns
 returns c =

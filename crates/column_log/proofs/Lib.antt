@@ -1,0 +1,12 @@
+pub mod Newest
+pub mod StoredTexts
+pub mod ColumnWrites
+pub mod MoreWrites
+pub mod Links
+pub mod Following
+pub mod Puts
+pub mod Histories
+pub mod Entering
+pub mod Showing
+pub mod Filling
+pub mod Weights

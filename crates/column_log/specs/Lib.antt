@@ -1,0 +1,12 @@
+pub mod Log
+pub mod Keys
+pub mod Texts
+pub mod TextFields
+pub mod StoredValues
+pub mod StoredWrites
+pub mod Chains
+pub mod ColumnFields
+pub mod Entries
+pub mod Puts
+pub mod Scans
+pub mod ScanFields

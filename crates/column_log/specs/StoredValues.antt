@@ -1,0 +1,32 @@
+-- The values of a column, and the room that they take.
+use Rattle.std.specs.Prelude.{ℕ, ◌-◌, ◌/◌, List, [], length, map, vec_len, vec_capacity}
+use Rattle.prima_base.specs.declared.values.Value.{Value}
+use Rattle.prima_base.specs.declared.values.Value.TheVariants.{Int, Text}
+use Rattle.prima_base.specs.declared.values.ColType.{ColType}
+use Rattle.prima_base.specs.declared.values.ColType.TheVariants.{Int as IntType, Text as TextType}
+use Rattle.column_log.specs.declared.stored_values.StoredValues.{StoredValues}
+use Rattle.column_log.specs.declared.stored_values.StoredValues.TheVariants.{Numbers, Texts}
+use Rattle.column_log.specs.Texts.{piece}
+
+-- the type of the column
+abbrev pub kind_of : StoredValues → ColType
+kind_of (Numbers numbers) = IntType
+kind_of (Texts texts) = TextType
+
+abbrev pub values_in : StoredValues → List Value
+values_in (Numbers numbers) = map Int numbers.items
+values_in (Texts texts) = map Text texts.items
+
+-- how many values more there is room for
+abbrev pub spare_in : StoredValues → ℕ
+spare_in (Numbers numbers) = vec_capacity numbers - vec_len numbers
+spare_in (Texts texts) = texts.spare
+
+-- what of the value goes into a buffer
+abbrev pub text_of : Value → List ℕ
+text_of (Int n) = []
+text_of (Text t) = t
+
+-- a piece of room for each 32 bytes of a text, beside the one of the write
+abbrev pub text_room : Value → ℕ
+text_room v = length (text_of v) / piece

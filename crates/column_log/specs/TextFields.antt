@@ -1,0 +1,29 @@
+-- The fields of a buffer of texts.
+use Rattle.std.specs.Prelude.{◌≡◌, ℕ, ◌-◌, ◌/◌, ◌≤◌, min, List, [], ◌∷◌, length, take, drop, vec_len, vec_capacity}
+use Rattle.prima_base.specs.Bytes.{IsTxt}
+use Rattle.column_log.specs.Texts.{Texts, piece}
+use Rattle.column_log.specs.declared.text_buffer.TextBuffer.TheInside.{Inside}
+
+-- the parts of the bytes that end at these places, the first from the start on
+abbrev pub parts : ℕ → List ℕ → List ℕ → List (List ℕ)
+parts start [] bytes = []
+parts start (end ∷ ends) bytes = take (end - start) (drop start bytes) ∷ parts end ends bytes
+
+abbrev pub texts_of : Inside → Texts
+texts_of a = record {
+  items = parts 0 a.ends.items a.bytes.items;
+  spare = min ((vec_capacity a.bytes - vec_len a.bytes) / piece) (vec_capacity a.ends - vec_len a.ends);
+}
+
+-- the places go up from the start to the end of all bytes
+abbrev pub Rise : ℕ → List ℕ → ℕ → Type 0
+Rise start [] all = start ≡ all
+Rise start (end ∷ ends) all = (start ≤ end) × Rise end ends all
+
+abbrev pub AllTexts : List (List ℕ) → Type 0
+AllTexts [] = Unit {0}
+AllTexts (text ∷ texts) = IsTxt text × AllTexts texts
+
+pub record AreTexts (a : Inside) : Type 0 where
+  pub rise : Rise 0 a.ends.items (length a.bytes.items)
+  pub lawful : AllTexts (parts 0 a.ends.items a.bytes.items)

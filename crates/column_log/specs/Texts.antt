@@ -1,0 +1,11 @@
+-- Texts one behind the other in one buffer.
+use Rattle.std.specs.Prelude.{ℕ, List}
+
+-- what is seen of them: the texts, and for how many more there is room
+pub record Texts : Type 0 where
+  pub items : List (List ℕ)
+  pub spare : ℕ
+
+-- room is counted in pieces: a text takes one, and one more for each 32 bytes of it
+abbrev pub piece : ℕ
+piece = 32
