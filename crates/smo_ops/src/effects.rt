@@ -1,24 +1,22 @@
 //! What changes make of rows: the rows that they give, which rows meet a condition, and what these are updated to.
 
-ghost use Rattle.std.specs.Prelude.{◌≡◌, ◌++◌, ◌∷◌, [], List, IfOk, Option, Some, map};
+ghost use Rattle.std.specs.Prelude.{◌≡◌, All, IfOk, List, Option, map};
 ghost use Rattle.std.specs.List.{AllZip, zip};
-ghost use Rattle.std.specs.Option.{option_map, unwrap_or};
+ghost use Rattle.std.specs.Option.{unwrap_or};
 ghost use Rattle.relations.specs.Sets.{set_of};
 ghost use Rattle.prima_base.specs.declared.values.Value.{Value as OneValue};
 ghost use Rattle.prima_base.specs.Order.{row_cmp, shown};
-ghost use Rattle.prima_base.specs.Columns.{Column as TableColumn, AreColumns, IsRow};
+ghost use Rattle.prima_base.specs.Columns.{Column as TableColumn, AreColumns, IsLawful, IsRow};
 ghost use Rattle.cond_expr.specs.Rows.{AreLawful};
 ghost use Rattle.cond_expr.specs.Seen.{test};
 ghost use Rattle.smo_meaning.specs.OneRow.{meets, given, row_of, set_value, with_sets};
 ghost use Rattle.cond_expr.specs.AtomColumns.{columns_at};
-ghost use Rattle.smo_types.specs.Changes.{sets_of, change_of, changes_of};
-ghost use Rattle.smo_meaning.specs.Inserting.{insertions};
+ghost use Rattle.smo_types.specs.Changes.{sets_of};
 ghost use Rattle.schema_catalog.specs.Databases.{cell};
 
 use cond_expr::{Column, Cond, Expr, eval, holds, lend_row};
 use prima_base::{ColType, Name, NoMemory, Row, Val, Value};
 use smo_schemas::OwnColumns;
-use smo_types::Change;
 use std::alloc::Global;
 
 /// The relation that the rows stand for: each row once, ascending. It takes no memory.
@@ -43,32 +41,35 @@ pub fn row_meets(
     holds(alloc, cond, own.atoms(), values)
 }
 
-// The value that is given for the column with this name.
-fn given_value(cells: &[(Name, Value)], name: &Name) -> Result<Value, NoMemory>
-    ensures { IfOk result (λ v. v ≡ given cells.now name.now) }
+// The value that is given for the column with this name, lent.
+fn given_value<'a>(cells: &'a [(Name, Value)], name: &Name) -> Val<'a>
+    ensures value { shown result ≡ given cells.now name.now }
+    ensures lawful { IsLawful (shown result) }
 {
     for (column, value) in cells {
         if *column == *name {
-            return value.copy();
+            return value.lend();
         }
     }
-    Ok(Value::Int(0))
+    Val::Int(0)
 }
 
-/// The row that an INSERT of these cells gives a table of these columns. A column for which no cell is given has
-/// the value 0. The one error is `NoMemory`, where memory runs out.
-pub fn inserted_row(
+/// The values of the row that an INSERT of these cells gives a table of these columns, each lent by its cell; a text has at
+/// most 4,096 bytes and no control byte. A column for which no cell is given has the value 0. The one error is `NoMemory`,
+/// where memory runs out.
+pub fn inserted_row<'a>(
     alloc: Global,
     columns: &[(Name, ColType)],
-    cells: &[(Name, Value)],
-) -> Result<Row, NoMemory>
-    ensures { IfOk result (λ row. row ≡ row_of columns.now cells.now) }
+    cells: &'a [(Name, Value)],
+) -> Result<Vec<Val<'a>>, NoMemory>
+    ensures row { IfOk result (λ v. map shown v.items ≡ row_of columns.now cells.now) }
+    ensures lawful { IfOk result (λ v. All (λ v. IsLawful (shown v)) v.items) }
 {
     let mut values = Vec::with_capacity(alloc, columns.len())?;
     for (column, _) in columns {
-        values.push(given_value(cells, column)?)?;
+        values.push(given_value(cells, column))?;
     }
-    Ok(Row::new(alloc, values))
+    Ok(values)
 }
 
 // What is set in the column with this name, computed from the row's values; none where nothing is.
@@ -144,23 +145,4 @@ pub fn row_with_sets(
     let set = set_values(alloc, own.columns(), own.atoms(), sets, row)?;
     let values = replaced(alloc, row.copy()?.into_values(), set)?;
     Ok(Row::new(alloc, values))
-}
-
-/// The rows that the changes give, in order, of a table of these columns; none exactly where one of the changes is
-/// no INSERT. The tables' names in the changes are not looked at. The one error is `NoMemory`, where memory runs out.
-pub fn inserted_rows(
-    alloc: Global,
-    columns: &[(Name, ColType)],
-    changes: &[Change],
-) -> Result<Option<Vec<Row>>, NoMemory>
-    ensures { IfOk result (λ o. option_map (λ v. v.items) o ≡ insertions columns.now (changes_of changes.now)) }
-{
-    let mut rows = Vec::with_capacity(alloc, changes.len())?;
-    for change in changes {
-        let Change::Insert { cells, .. } = change else {
-            return Ok(None);
-        };
-        rows.push(inserted_row(alloc, columns, cells)?)?;
-    }
-    Ok(Some(rows))
 }

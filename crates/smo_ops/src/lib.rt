@@ -12,7 +12,7 @@ mod typing;
 
 pub use checks::{check_change, check_changes};
 pub use counts::{change_nodes, check_counts, check_evolve};
-pub use effects::{inserted_row, inserted_rows, make_set, row_meets, row_with_sets};
+pub use effects::{inserted_row, make_set, row_meets, row_with_sets};
 pub use prima_base::OpRefusal;
 pub use smo_meaning::{
     a_command_is_judged_by_the_newest_schema, a_command_is_seen_from_its_stamp_on,
