@@ -33,12 +33,4 @@ pub mod LifelinesNamed
 pub mod TablesInTurn
 pub mod VersionsKept
 pub mod Readied
-pub mod Becoming
-pub mod Applying
-pub mod RangeEnds
-pub mod RangeLaws
-pub mod OverlayLaws
-pub mod LedRows
-pub mod OverlayWalks
-pub mod OverlaySteps
-pub mod Differences
+pub mod ColumnCounts

@@ -44,7 +44,7 @@ use Rattle.version_groups.specs.Changing.{AreChangeable, AreReady, all_gained, a
 use Rattle.version_groups.specs.Evolving.{IsEvolved}
 use Rattle.version_groups.specs.Standing.{AreStored}
 use Rattle.version_groups.specs.Steps.{a_command, step_of, changed, evolved, AreChanges, IsStep, Readied, Prepares}
-use Rattle.version_groups.proofs.Becoming.{same_relation, same_before, same_columns}
+use Rattle.table_changes.proofs.Becoming.{same_relation, same_before, same_columns}
 use Rattle.version_groups.proofs.CarriedOut.{as_many}
 use Rattle.version_groups.proofs.Covered.{still_of_lifelines}
 use Rattle.version_groups.proofs.GroupPlaces.{lines_kept}

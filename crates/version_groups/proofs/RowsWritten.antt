@@ -11,7 +11,7 @@ use Rattle.history_store.specs.Handing.{AllWidth, at_column, is_same, weigh, wri
 use Rattle.smo_meaning.specs.Effects.{gained_rows}
 use Rattle.smo_meaning.specs.OneRow.{Relation}
 use Rattle.smo_meaning.specs.Sizes.{Written, none_written, one_written, value_bytes, if_differs, both_written, with_written, row_written, row_replaced, rows_written}
-use Rattle.history_store.proofs.Counting.{one_each}
+use Rattle.column_log.proofs.Weights.{one_each}
 use Rattle.version_groups.specs.Sizes.{IsWritten, AreWritten}
 
 -- ---- rows as wide as the columns

@@ -30,7 +30,7 @@ use Rattle.version_groups.specs.Sizes.{HasSize, HaveSizes, AreLiving}
 use Rattle.version_groups.proofs.Covered.{newest_living}
 use Rattle.version_groups.specs.Standing.{AreStored}
 use Rattle.version_groups.specs.Steps.{a_command, AreChanges}
-use Rattle.version_groups.proofs.Becoming.{along_length}
+use Rattle.table_changes.proofs.Becoming.{along_length}
 use Rattle.version_groups.proofs.Installed.{all_later}
 use Rattle.version_groups.proofs.Newest.{Stands, stands, stands_at}
 use Rattle.version_groups.proofs.Places.{at_count, at_get}

@@ -8,7 +8,7 @@ use Rattle.prima_base.specs.Order.{row_cmp}
 use Rattle.prima_base.specs.Columns.{Column}
 use Rattle.history_store.specs.Store.{Store, Cell, shown_at, row_at, rows_from, relation_at, IsBefore, AllBefore}
 use Rattle.version_groups.specs.Becoming.{Begins}
-use Rattle.version_groups.proofs.Applying.{all_later}
+use Rattle.table_changes.proofs.Applying.{all_later}
 
 module _ (stamp m : ℕ) (l : stamp ≤ m) (k : m < forever) where
   covers_on : (p : Span) → IsBefore stamp p → covers p m ≡ covers p stamp

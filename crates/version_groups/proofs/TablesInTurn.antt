@@ -13,9 +13,10 @@ use Rattle.smo_meaning.proofs.CountingLaws.{gains_nothing}
 use Rattle.smo_meaning.proofs.Firsts.{drop_at}
 use Rattle.version_groups.specs.declared.made_tables.MadeTable.{MadeTable}
 use Rattle.version_groups.specs.Becoming.{Leads, IsMade}
-use Rattle.version_groups.specs.Changing.{of_table, rows_now, rows_behind, AreReady, all_gained, all_lost}
+use Rattle.table_changes.specs.Changing.{of_table}
+use Rattle.version_groups.specs.Changing.{rows_now, rows_behind, AreReady, all_gained, all_lost}
 use Rattle.version_groups.specs.Room.{IsSameTable, AreSameTables}
-use Rattle.version_groups.proofs.Becoming.{same_relation, same_columns}
+use Rattle.table_changes.proofs.Becoming.{same_relation, same_columns}
 use Rattle.smo_meaning.proofs.PastMoments.{before_or_not}
 
 -- ---- a table that no change is of

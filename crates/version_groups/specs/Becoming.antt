@@ -6,8 +6,8 @@ use Rattle.prima_base.specs.Columns.{Column}
 use Rattle.history_store.specs.Store.{Store, weight, relation_at, AllBefore}
 use Rattle.history_store.specs.Handing.{written}
 use Rattle.history_store.specs.Change.{Plan, IsPlan, rows_along, rows_after}
-use Rattle.smo_meaning.specs.Effects.{gained_rows}
 use Rattle.smo_meaning.specs.OneRow.{Relation}
+use Rattle.table_changes.specs.Changing.{IsChange}
 use Rattle.version_groups.specs.declared.made_tables.MadeTable.{MadeTable}
 
 -- from the stamp on the table has the rows, and before it what it had
@@ -22,16 +22,6 @@ pub record Begins (its : List Column) (stamp : ℕ) (rows : Relation) (store : S
   pub columns : store.columns ≡ its
   pub from : (m : ℕ) → stamp ≤ m → m < forever → relation_at store m ≡ rows
   pub later : (m : ℕ) → stamp < m → AllBefore store m
-
--- a change of the table that is ready, has its room, and leads to these rows from the stamp on, by the rows in which they differ from
--- the table's
-pub record IsChange (store : Store) (stamp : ℕ) (rows : Relation) (plan : Plan) : Type 0 where
-  pub at : plan.stamp ≡ stamp
-  pub fits : IsPlan store plan
-  pub room : length plan.gained ≤ store.spare
-  pub leads : rows_after store plan ≡ rows
-  pub lost : rows_along plan.lost stamp store.cells ≡ gained_rows rows (relation_at store stamp)
-  pub gained : plan.gained ≡ gained_rows (relation_at store stamp) rows
 
 -- a change that is ready and has its room, or none
 abbrev pub HasRoom : Store → Option Plan → Type 0

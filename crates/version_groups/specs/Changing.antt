@@ -1,28 +1,17 @@
 -- The changes of a command, table by table.
-use Rattle.std.specs.Prelude.{◌≡◌, ℕ, ◌+◌, ◌<◌, List, [], ◌∷◌, length, Option, Some, None, slice_index_or, ⊤}
-use Rattle.std.specs.List.{filter}
+use Rattle.std.specs.Prelude.{◌≡◌, ℕ, ◌+◌, ◌<◌, List, [], ◌∷◌, length, Option, Some, None, slice_index_or}
 use Rattle.std.specs.FinMap.{get}
 use Rattle.prima_base.specs.Columns.{Column}
 use Rattle.schema_catalog.specs.Tables.{Tables}
 use Rattle.history_store.specs.Store.{AllBefore, relation_at}
 use Rattle.history_store.specs.Change.{Plan}
-use Rattle.smo_types.specs.Changes.{PlainChange, table_of}
-use Rattle.smo_meaning.specs.First.{first_refusal}
-use Rattle.smo_meaning.specs.Checks.{tests_behind}
+use Rattle.smo_types.specs.Changes.{PlainChange}
 use Rattle.smo_meaning.specs.Effects.{gained_rows}
 use Rattle.smo_meaning.specs.Inserting.{relation_after_each}
-use Rattle.smo_meaning.specs.OneRow.{Relation, same}
+use Rattle.smo_meaning.specs.OneRow.{Relation}
+use Rattle.table_changes.specs.Changing.{of_table, AreAccepted}
 use Rattle.version_groups.specs.declared.made_tables.MadeTable.{MadeTable}
 use Rattle.version_groups.specs.Becoming.{HasRoom, Leads, IsMade}
-
--- those of the table with this name, in order
-abbrev pub of_table : List ℕ → List PlainChange → List PlainChange
-of_table name changes = filter (λ change. same (table_of change) name) changes
-
--- each is accepted over a table of these columns
-abbrev pub AreAccepted : List Column → List PlainChange → Type 0
-AreAccepted columns [] = ⊤
-AreAccepted columns (c ∷ changes) = ((at : ℕ) × (first_refusal (tests_behind columns c at) ≡ None)) × AreAccepted columns changes
 
 -- the rows of a table at the stamp, and behind its changes
 abbrev pub rows_now : ℕ → MadeTable → Relation

@@ -17,6 +17,3 @@ pub mod Standing
 pub mod MadeRows
 pub mod Evolving
 pub mod Restoring
-pub mod Overlay
-pub mod KnownFields
-pub mod Ranges

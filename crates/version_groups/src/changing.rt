@@ -7,37 +7,38 @@ ghost use Rattle.prima_base.specs.Order.{bytes_cmp};
 ghost use Rattle.smo_types.specs.Changes.{changes_of};
 ghost use Rattle.smo_meaning.specs.Effects.{gained_rows};
 ghost use Rattle.version_groups.specs.declared.made_tables.MadeTable.{MadeTable as Stored};
-ghost use Rattle.version_groups.specs.Becoming.{IsChange, Leads, IsMade, HasRoom};
+ghost use Rattle.table_changes.specs.Changing.{IsChange};
+ghost use Rattle.version_groups.specs.Becoming.{Leads, IsMade, HasRoom};
 ghost use Rattle.version_groups.specs.Changing.{IsChangeable, AreChangeable, AreReady, HaveRoom, AreMade, rows_now, rows_behind, all_gained, all_lost, gained_by, lost_by};
 ghost use Rattle.version_groups.specs.Room.{IsSameTable, AreSameTables};
 ghost use Rattle.version_groups.specs.Groups.{names_of};
 ghost use Rattle.version_groups.specs.Places.{at_places, AreWithin};
 ghost use Rattle.version_groups.specs.Installing.{AreMadeBy};
 
-use crate::changes::{is_touched, prepare_table};
 use crate::made_tables::MadeTable;
 use history_store::Prepared;
 use prima_base::NoMemory;
 use schema_catalog::Schema;
 use smo_ops::Change;
 use std::alloc::Global;
+use table_changes::{is_touched, prepare_table};
 
 /// The changes of tables that are ready, and the rows that they gain and lose.
 #[derive(Drop)]
-pub(crate) struct Changes {
+pub(crate) struct Changes<'a> {
     pub(crate) gained: u64,
     pub(crate) lost: u64,
-    pub(crate) plans: Vec<Option<Prepared>>,
+    pub(crate) plans: Vec<Option<Prepared<'a>>>,
 }
 
 // Makes the changes of one table ready.
-fn prepare_touched(
+fn prepare_touched<'a>(
     alloc: Global,
     schema: &Schema,
     table: &mut MadeTable,
     stamp: u64,
-    changes: &[Change],
-) -> Result<Prepared, NoMemory>
+    changes: &'a [Change],
+) -> Result<Prepared<'a>, NoMemory>
     requires changeable { IsChangeable schema.now stamp (changes_of changes.now) table.old }
     requires lawful { stamp < forever }
     ensures same { IsSameTable table.old table.new }
@@ -46,6 +47,7 @@ fn prepare_touched(
     ensures lost { IfOk result (λ p. length p.lost ≡ length (gained_rows (rows_behind stamp (changes_of changes.now) table.old) (rows_now stamp table.old))) }
 {
     let Some(of_schema) = schema.table(&table.name) else {
+        // The schema has the table with its columns, since the changes are of a table of it (`IsChangeable`).
         unreachable!();
     };
     let columns = of_schema.columns();
@@ -60,13 +62,13 @@ fn prepare_touched(
 }
 
 // Makes the changes of one table ready, where there are any.
-fn prepare_one(
+fn prepare_one<'a>(
     alloc: Global,
     schema: &Schema,
     table: &mut MadeTable,
     stamp: u64,
-    changes: &[Change],
-) -> Result<Option<Prepared>, NoMemory>
+    changes: &'a [Change],
+) -> Result<Option<Prepared<'a>>, NoMemory>
     requires changeable { IsChangeable schema.now stamp (changes_of changes.now) table.old }
     requires lawful { stamp < forever }
     ensures same { IsSameTable table.old table.new }
@@ -82,7 +84,7 @@ fn prepare_one(
 }
 
 // The rows that a change gains.
-fn gained_by(plan: &Option<Prepared>) -> u64
+fn gained_by(plan: &Option<Prepared<'_>>) -> u64
     ensures { result ≡ gained_by plan.now }
 {
     match plan {
@@ -92,7 +94,7 @@ fn gained_by(plan: &Option<Prepared>) -> u64
 }
 
 // The rows that a change loses.
-fn lost_by(plan: &Option<Prepared>) -> u64
+fn lost_by(plan: &Option<Prepared<'_>>) -> u64
     ensures { result ≡ lost_by plan.now }
 {
     match plan {
@@ -114,14 +116,14 @@ fn sum(a: u64, b: u64) -> Result<u64, NoMemory>
 /// Makes the changes of each table at these places ready, from the stamp on, and all the room that installing them needs.
 /// Only tables that a change is of are looked at. The one error is `NoMemory`, where memory runs out. What the tables
 /// stand for stays as it is.
-pub(crate) fn prepare_tables(
+pub(crate) fn prepare_tables<'a>(
     alloc: Global,
     schema: &Schema,
     tables: &mut Vec<MadeTable>,
     places: &[usize],
     stamp: u64,
-    changes: &[Change],
-) -> Result<Changes, NoMemory>
+    changes: &'a [Change],
+) -> Result<Changes<'a>, NoMemory>
     requires there { AreWithin places.now (length tables.old.items) }
     requires ordered { Ascends bytes_cmp (names_of (at_places tables.old.items places.now)) }
     requires changeable { AreChangeable schema.now stamp (changes_of changes.now) (at_places tables.old.items places.now) }
@@ -149,9 +151,9 @@ pub(crate) fn prepare_tables(
 }
 
 // Makes the change of one table. It takes no memory.
-fn install_one(table: &mut MadeTable, plan: Option<Prepared>)
+fn install_one(table: &mut MadeTable, plan: Option<Prepared<'_>>)
     requires { HasRoom table.old.store plan }
-    ensures { IsMade table.old plan table.new }
+    ensures { IsMade table.old plan.entry table.new }
 {
     match plan {
         None => {}
@@ -163,13 +165,13 @@ fn install_one(table: &mut MadeTable, plan: Option<Prepared>)
 pub(crate) fn install_tables(
     tables: &mut Vec<MadeTable>,
     places: &[usize],
-    plans: Vec<Option<Prepared>>,
+    plans: Vec<Option<Prepared<'_>>>,
 )
     requires there { AreWithin places.now (length tables.old.items) }
     requires ordered { Ascends bytes_cmp (names_of (at_places tables.old.items places.now)) }
     requires room { HaveRoom (at_places tables.old.items places.now) plans.items }
-    ensures made { AreMade (at_places tables.old.items places.now) plans.items (at_places tables.new.items places.now) }
-    ensures each { AreMadeBy plans.items tables.old.items tables.new.items }
+    ensures made { AreMade (at_places tables.old.items places.now) plans.entry.items (at_places tables.new.items places.now) }
+    ensures each { AreMadeBy plans.entry.items tables.old.items tables.new.items }
     ensures others { (p : ℕ) → (d : Stored) → (In p places.now → ⊥) → slice_index_or tables.new.items p d ≡ slice_index_or tables.old.items p d }
 {
     let mut i = 0;

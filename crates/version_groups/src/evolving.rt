@@ -26,9 +26,9 @@ ghost use Rattle.version_groups.specs.Standing.{AreStored, is_name, is_made, nex
 ghost use Rattle.version_groups.specs.MadeRows.{made_rows};
 ghost use Rattle.version_groups.specs.Evolving.{AreEarlier, rows_named, AreNext, IsNextTable, IsBegun, Comes, IsEvolved};
 
-use crate::made_tables::{MadeTable, find_stored, find_table, same_name};
+use crate::made_tables::{MadeTable, find_stored, find_table};
 use history_store::StoredTable;
-use prima_base::{Name, NoMemory, Row};
+use prima_base::{Name, NoMemory, Row, same_name};
 use schema_catalog::{Schema, Table};
 use smo_maps::{Carried, carry};
 use smo_ops::{Made, Op, OpFault, Version, after, consumed, made, next_schema_is_lawful};

@@ -279,7 +279,7 @@ impl Groups {
     /// a search for each row that is lost or gained; where more than 64 rows are lost or gained, a copy of the index of
     /// its current rows too. Other tables are not looked at. An operator costs a copy of its inputs, and of the rows that
     /// it makes; other tables go on.
-    pub fn prepare(&mut self, command: &Command) -> Result<Next, NoMemory>
+    pub fn prepare<'a>(&mut self, command: &'a Command) -> Result<Next<'a>, NoMemory>
         requires { (past : Past) × Shows self.old past × (command_fault past (command_of command.now) ≡ None) }
         ensures same { IsSame self.old self.new }
         ensures shows { (past : Past) → Shows self.old past → Shows self.new past }
@@ -297,23 +297,23 @@ impl Groups {
     /// each earlier moment is as before. Each table of each version before the one that is then the newest has at the
     /// moments at which its version is in force what it had. Changes are made of the stored tables of the newest version, and
     /// an operator ends lifelines and begins others: each other stored table is the very same. It takes no memory.
-    pub fn install(&mut self, next: Next)
+    pub fn install(&mut self, next: Next<'_>)
         requires { (past : Past) × (command : PlainCommand) × Shows self.old past × IsReady self.old past command next }
-        ensures shows { (past : Past) → (command : PlainCommand) → Shows self.old past → IsReady self.old past command next → Shows self.new (past_with past command) }
+        ensures shows { (past : Past) → (command : PlainCommand) → Shows self.old past → IsReady self.old past command next.entry → Shows self.new (past_with past command) }
         ensures earlier { HasEarlier self.old self.new }
-        ensures step { HasStep self.old self.new next.step }
+        ensures step { HasStep self.old self.new next.entry.step }
     {
         self.install_step(next.step);
     }
 
     // Carries out a step of a command that is accepted after the past. It takes no memory.
-    fn install_step(&mut self, step: Step)
+    fn install_step(&mut self, step: Step<'_>)
         requires { (past : Past) × (command : PlainCommand) × Shows self.old past × (command_fault past command ≡ None) × (command.stamp < forever) × BodyHolds command.body
             × IsStep self.old past command.stamp command.body (step_of step) }
         ensures shows { (past : Past) → (command : PlainCommand) → Shows self.old past → command_fault past command ≡ None → command.stamp < forever
-            → BodyHolds command.body → IsStep self.old past command.stamp command.body (step_of step) → Shows self.new (past_with past command) }
+            → BodyHolds command.body → IsStep self.old past command.stamp command.body (step_of step.entry) → Shows self.new (past_with past command) }
         ensures earlier { HasEarlier self.old self.new }
-        ensures step { HasStep self.old self.new step }
+        ensures step { HasStep self.old self.new step.entry }
     {
         match step {
             Step::Changed(plans) => self.install_changes(plans),
@@ -322,9 +322,9 @@ impl Groups {
     }
 
     // Makes the changes of the newest version's tables. It takes no memory.
-    fn install_changes(&mut self, plans: Vec<Option<Prepared>>)
+    fn install_changes(&mut self, plans: Vec<Option<Prepared<'_>>>)
         requires { HaveRoom (newest_group self.old) plans.items }
-        ensures { HasChanges self.old self.new plans.items }
+        ensures { HasChanges self.old self.new plans.entry.items }
     {
         install_tables(&mut self.stored, &self.newest, plans);
     }
@@ -349,7 +349,11 @@ impl Groups {
     }
 
     // Makes changes ready.
-    fn prepare_changes(&mut self, stamp: u64, changes: &[Change]) -> Result<Next, NoMemory>
+    fn prepare_changes<'a>(
+        &mut self,
+        stamp: u64,
+        changes: &'a [Change],
+    ) -> Result<Next<'a>, NoMemory>
         requires lawful { stamp < forever }
         requires constants { BodyHolds (changing (changes_of changes.now)) }
         requires accepted { (past : Past) × Shows self.old past × (command_fault past (a_command stamp (changing (changes_of changes.now))) ≡ None) }
@@ -379,7 +383,12 @@ impl Groups {
     }
 
     // Makes an operator ready.
-    fn prepare_operator(&mut self, stamp: u64, op: &Op, inverse: &[Op]) -> Result<Next, NoMemory>
+    fn prepare_operator<'a>(
+        &mut self,
+        stamp: u64,
+        op: &Op,
+        inverse: &[Op],
+    ) -> Result<Next<'a>, NoMemory>
         requires lawful { stamp < forever }
         requires constants { BodyHolds (evolving (operator_of op.now) (operators_of inverse.now)) }
         requires accepted { (past : Past) × Shows self.old past × (command_fault past (a_command stamp (evolving (operator_of op.now) (operators_of inverse.now))) ≡ None) }

@@ -1,11 +1,10 @@
 ghost use Rattle.std.specs.Prelude.{◌≡◌, MatchOption, None};
 ghost use Rattle.std.specs.Option.{option_copied};
-ghost use Rattle.smo_meaning.specs.OneRow.{same};
 ghost use Rattle.version_groups.specs.Groups.{stored_as};
 ghost use Rattle.version_groups.specs.Places.{at_places, IsFound};
 
 use history_store::StoredTable;
-use prima_base::Name;
+use prima_base::{Name, same_name};
 
 /// A table over its lifeline, the versions in which no operator makes or consumes it, and its history. Its lifeline goes from
 /// `first` to `last`: none while it lives.
@@ -15,13 +14,6 @@ pub struct MadeTable {
     pub first: u32,
     pub last: Option<u32>,
     pub store: StoredTable,
-}
-
-/// Whether both are one name.
-pub(crate) fn same_name(a: &Name, b: &Name) -> bool
-    ensures { result ≡ same a.now b.now }
-{
-    a.bytes() == b.bytes()
 }
 
 /// The table with this name, of those at these places, and its place: `None` exactly where there is none. It takes no

@@ -5,34 +5,37 @@ use std::marker::Model;
 
 /// What a command does.
 #[derive(Drop)]
-pub(crate) enum Step {
+pub(crate) enum Step<'a> {
     /// A change of each table of the newest version, or none.
-    Changed(Vec<Option<Prepared>>),
+    Changed(Vec<Option<Prepared<'a>>>),
     /// The next version, the tables that begin with it, and the places of its own among all.
     Evolved(Version, Vec<MadeTable>, Vec<usize>),
 }
 
-/// A command that was made ready: it is installed into the groups that prepared it.
+/// A command that was made ready: it is installed into the groups that prepared it. Texts that it inserts are lent by the
+/// command until then.
 #[derive(Drop)]
-pub struct Next {
+pub struct Next<'a> {
     pub(crate) gained: u64,
     pub(crate) lost: u64,
-    pub(crate) step: Step,
+    pub(crate) step: Step<'a>,
 }
 
-impl Model for Next {
+impl<'a> Model for Next<'a> {
+    ghost use Rattle.std.specs.Prelude.{[]};
     ghost use Rattle.version_groups.specs.Steps.{Readied};
     ghost use Rattle.version_groups.specs.contracts.next.Step as step_row;
     ghost use Rattle.std.specs.Coded.{codes};
+    ghost use mir.Syntax;
 
     ghost Value = { Readied };
 
-    ghost coded = { Prim.hlevel (codes, step_row.the_row.coded) };
+    ghost coded = { Prim.hlevel (codes, (step_row.the_row (record { mir = Syntax.erased; lft = [] })).coded) };
 
     ghost view = { λ n. record { gained = n.gained; lost = n.lost; step = n.step } };
 }
 
-impl Next {
+impl Next<'_> {
     ghost use Rattle.std.specs.Prelude.{◌≡◌};
 
     /// How many rows the command gains, over all tables; 0 for an operator.

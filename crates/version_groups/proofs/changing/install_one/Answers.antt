@@ -3,7 +3,7 @@ use Rattle.std.specs.Prelude.{Option}
 use Rattle.history_store.specs.Change.{Plan}
 use Rattle.version_groups.specs.declared.made_tables.MadeTable.{MadeTable}
 use Rattle.version_groups.specs.Becoming.{IsMade}
-use Rattle.version_groups.proofs.Becoming.{as_many_columns}
+use Rattle.version_groups.proofs.ColumnCounts.{as_many_columns}
 use Rattle.version_groups.proofs.changing.install_one.Goals as goal
 
 pub returns-in-Some : goal.returns-in-Some

@@ -1,7 +1,7 @@
 use Rattle.std.proofs.Common.{◌≡◌, ◌∙◌, List, Some, None, sym, subst}
 use Rattle.prima_base.specs.Columns.{Column}
 use Rattle.smo_types.specs.Changes.{changes_of}
-use Rattle.version_groups.specs.Changing.{AreAccepted, of_table}
+use Rattle.table_changes.specs.Changing.{AreAccepted, of_table}
 use Rattle.version_groups.proofs.changing.prepare_touched.Goals as goal
 
 pub unreachable-requires : goal.unreachable-requires

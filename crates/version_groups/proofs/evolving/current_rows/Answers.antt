@@ -7,7 +7,7 @@ use Rattle.version_groups.specs.Groups.{stored_as}
 use Rattle.version_groups.specs.Standing.{rows_stored}
 use Rattle.version_groups.specs.Evolving.{IsEarlier, rows_named}
 use Rattle.version_groups.specs.Places.{at_places}
-use Rattle.version_groups.proofs.Applying.{all_later}
+use Rattle.table_changes.proofs.Applying.{all_later}
 use Rattle.version_groups.proofs.evolving.current_rows.Goals as goal
 
 pub returns-in-Some-find_stored : goal.returns-in-Some-find_stored

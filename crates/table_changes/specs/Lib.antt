@@ -1,0 +1,5 @@
+pub mod Changing
+pub mod Ranges
+pub mod Filters
+pub mod Overlay
+pub mod KnownFields
