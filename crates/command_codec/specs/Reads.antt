@@ -13,3 +13,20 @@ Fails out stop.Stuck new = out ≡ Stuck new
 abbrev pub Reads : {A X : Type 0} → (X → A) → Out A → Result X Stop → List ℕ → Type 0
 Reads view out (Ok x) new = out ≡ Got (view x) new
 Reads view out (Err e) new = Fails out e new
+
+-- ---- functions that keep nothing of what they read, and take no memory
+
+-- something was read, and this stands behind it
+pub record Passes {A : Type 0} (out : Out A) (new : List ℕ) : Type 0 where
+  pub read : A
+  pub got : out ≡ Got read new
+
+-- it stands at the byte with which nothing goes on
+abbrev pub Halts : {A : Type 0} → Out A → Stop → List ℕ → Type 0
+Halts out stop.NoMemory new = ⊥
+Halts out stop.Stuck new = out ≡ Stuck new
+
+-- the bytes were recognized as a spelling, or not, as reading says
+abbrev pub Recognizes : {A X : Type 0} → Out A → Result X Stop → List ℕ → Type 0
+Recognizes out (Ok x) new = Passes out new
+Recognizes out (Err e) new = Halts out e new

@@ -1,17 +1,16 @@
 //! Reading names, texts, values, types and signs.
 
-ghost use Rattle.std.specs.Prelude.{◌≡◌, true, MatchResult};
+ghost use Rattle.std.specs.Prelude.{◌≡◌, true, Err, IfOk, MatchResult};
 ghost use Rattle.prima_base.specs.Bytes.{IsName, IsTxt};
 ghost use Rattle.command_codec.specs.declared.reader.Stop.TheVariants as stop;
 ghost use Rattle.command_spelling.specs.Reader as spec;
 ghost use Rattle.command_codec.specs.Reads.{Reads};
 
+use crate::lent_values::lent_text;
 use crate::reader::{Alphabet, Reader, Stop};
 use cond_expr::CmpOp;
 use prima_base::{ColType, Name, NameFault, Txt, TxtFault, Value};
 use std::alloc::Global;
-
-const MOST_TEXT: u64 = 4096;
 
 // The name of these bytes. Only memory can be missing.
 fn lawful_name(alloc: Global, bytes: &[u8]) -> Result<Name, Stop>
@@ -40,7 +39,8 @@ fn lawful_text(alloc: Global, bytes: &[u8]) -> Result<Txt, Stop>
 // So many bytes of a name.
 fn name_text<'a>(reader: &mut Reader<'a>, count: u8) -> Result<&'a [u8], Stop>
     requires { spec.is_name_length count ≡ true }
-    ensures { Reads (λ s. s.now) (spec.name_text count reader.old.rest.now) result reader.new.rest.now }
+    ensures reads { Reads (λ s. s.now) (spec.name_text count reader.old.rest.now) result reader.new.rest.now }
+    ensures memory { result ≡ Err stop.NoMemory → ⊥ }
 {
     let start = reader.rest;
     reader.name_start()?;
@@ -48,23 +48,31 @@ fn name_text<'a>(reader: &mut Reader<'a>, count: u8) -> Result<&'a [u8], Stop>
     Ok(&start[..count as usize])
 }
 
-/// A name.
+/// A name, where it stands in the bytes. It takes no memory.
 #[tactic(auto, unfolding(command_spelling::specs::Reader::name))]
-pub fn name(alloc: Global, reader: &mut Reader<'_>) -> Result<Name, Stop>
-    ensures { Reads (λ n. n) (spec.name reader.old.rest.now) result reader.new.rest.now }
+pub fn lent_name<'a>(reader: &mut Reader<'a>) -> Result<&'a [u8], Stop>
+    ensures reads { Reads (λ s. s.now) (spec.name reader.old.rest.now) result reader.new.rest.now }
+    ensures lawful { IfOk result (λ s. IsName s.now) }
+    ensures memory { result ≡ Err stop.NoMemory → ⊥ }
 {
     let count = reader.name_length()?;
     let bytes = name_text(reader, count)?;
+    Ok(bytes)
+}
+
+/// A name.
+pub fn name(alloc: Global, reader: &mut Reader<'_>) -> Result<Name, Stop>
+    ensures { Reads (λ n. n) (spec.name reader.old.rest.now) result reader.new.rest.now }
+{
+    let bytes = lent_name(reader)?;
     lawful_name(alloc, bytes)
 }
 
 // A text.
-#[tactic(auto, unfolding(command_spelling::specs::Reader::text))]
 fn text(alloc: Global, reader: &mut Reader<'_>) -> Result<Txt, Stop>
     ensures { Reads (λ t. t) (spec.text reader.old.rest.now) result reader.new.rest.now }
 {
-    let count = reader.number(2, MOST_TEXT)?;
-    let bytes = reader.run(Alphabet::Printed, count as usize)?;
+    let bytes = lent_text(reader)?;
     lawful_text(alloc, bytes)
 }
 
@@ -82,7 +90,8 @@ pub fn value(alloc: Global, reader: &mut Reader<'_>) -> Result<Value, Stop>
 /// A column's type.
 #[tactic(auto, unfolding(command_spelling::specs::Reader::column_type))]
 pub fn column_type(reader: &mut Reader<'_>) -> Result<ColType, Stop>
-    ensures { Reads (λ k. k) (spec.column_type reader.old.rest.now) result reader.new.rest.now }
+    ensures reads { Reads (λ k. k) (spec.column_type reader.old.rest.now) result reader.new.rest.now }
+    ensures memory { result ≡ Err stop.NoMemory → ⊥ }
 {
     match reader.tag(1)? {
         0 => Ok(ColType::Int),
@@ -93,7 +102,8 @@ pub fn column_type(reader: &mut Reader<'_>) -> Result<ColType, Stop>
 /// The sign of a comparison.
 #[tactic(auto, unfolding(command_spelling::specs::Reader::sign))]
 pub fn sign(reader: &mut Reader<'_>) -> Result<CmpOp, Stop>
-    ensures { Reads (λ o. o) (spec.sign reader.old.rest.now) result reader.new.rest.now }
+    ensures reads { Reads (λ o. o) (spec.sign reader.old.rest.now) result reader.new.rest.now }
+    ensures memory { result ≡ Err stop.NoMemory → ⊥ }
 {
     match reader.tag(5)? {
         0 => Ok(CmpOp::Eq),

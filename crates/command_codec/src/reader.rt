@@ -83,7 +83,8 @@ pub struct Reader<'a> {
 }
 
 impl<'a> Reader<'a> {
-    ghost use Rattle.std.specs.Prelude.{◌≡◌, ◌+◌, ◌*◌, ◌/◌, ◌≤◌, ◌<◌, ◌^◌, ◌&&◌, nat_lt, nat_le, ℕ, length, IfOk};
+    ghost use Rattle.std.specs.Prelude.{◌≡◌, ◌+◌, ◌*◌, ◌/◌, ◌≤◌, ◌<◌, ◌^◌, ◌&&◌, nat_lt, nat_le, ℕ, length, IfOk, Err};
+    ghost use Rattle.command_codec.specs.declared.reader.Stop.TheVariants as stop;
     ghost use Rattle.command_spelling.specs.Reading.{byte, digits, run, map_to};
     ghost use Rattle.command_spelling.specs.Reader as spec;
     ghost use Rattle.command_codec.specs.Reads.{Reads};
@@ -91,7 +92,8 @@ impl<'a> Reader<'a> {
 
     /// The next byte, if it is at most this.
     pub fn tag(&mut self, most: u8) -> Result<u8, Stop>
-        ensures { Reads (λ b. b) (byte (spec.up_to most) self.old.rest.now) result self.new.rest.now }
+        ensures reads { Reads (λ b. b) (byte (spec.up_to most) self.old.rest.now) result self.new.rest.now }
+        ensures memory { result ≡ Err stop.NoMemory → ⊥ }
     {
         match self.rest {
             [first, rest @ ..] if *first <= most => {
@@ -105,7 +107,8 @@ impl<'a> Reader<'a> {
     // A number that goes on with the next byte after `high`, if it is at most this.
     fn digit(&mut self, high: u64, most: u64) -> Result<u64, Stop>
         requires { high ≤ most / 256 }
-        ensures { Reads (λ n. n) (map_to (λ b. high * 256 + b) (byte (λ b. nat_lt b 256 && nat_le (high * 256 + b) most)) self.old.rest.now) result self.new.rest.now }
+        ensures reads { Reads (λ n. n) (map_to (λ b. high * 256 + b) (byte (λ b. nat_lt b 256 && nat_le (high * 256 + b) most)) self.old.rest.now) result self.new.rest.now }
+        ensures memory { result ≡ Err stop.NoMemory → ⊥ }
     {
         let [first, rest @ ..] = self.rest else {
             return Err(Stop::Stuck);
@@ -121,7 +124,8 @@ impl<'a> Reader<'a> {
     /// A number of so many bytes, at most 8, the highest first, if it is at most `most`.
     pub fn number(&mut self, width: u32, most: u64) -> Result<u64, Stop>
         requires { width ≤ 8 }
-        ensures { Reads (λ n. n) (digits most width 0 self.old.rest.now) result self.new.rest.now }
+        ensures reads { Reads (λ n. n) (digits most width 0 self.old.rest.now) result self.new.rest.now }
+        ensures memory { result ≡ Err stop.NoMemory → ⊥ }
     {
         let mut number = 0;
         let mut left = width;
@@ -134,7 +138,8 @@ impl<'a> Reader<'a> {
 
     /// The next byte, if it begins a name.
     pub fn name_start(&mut self) -> Result<u8, Stop>
-        ensures { Reads (λ b. b) (byte spec.is_name_start self.old.rest.now) result self.new.rest.now }
+        ensures reads { Reads (λ b. b) (byte spec.is_name_start self.old.rest.now) result self.new.rest.now }
+        ensures memory { result ≡ Err stop.NoMemory → ⊥ }
     {
         match self.rest {
             [first @ (b'a'..=b'z' | b'A'..=b'Z' | b'_'), rest @ ..] => {
@@ -147,7 +152,8 @@ impl<'a> Reader<'a> {
 
     /// The next byte, if it is a name's length.
     pub fn name_length(&mut self) -> Result<u8, Stop>
-        ensures { Reads (λ b. b) (byte spec.is_name_length self.old.rest.now) result self.new.rest.now }
+        ensures reads { Reads (λ b. b) (byte spec.is_name_length self.old.rest.now) result self.new.rest.now }
+        ensures memory { result ≡ Err stop.NoMemory → ⊥ }
     {
         match self.rest {
             [first @ 1..=63, rest @ ..] => {
@@ -160,7 +166,8 @@ impl<'a> Reader<'a> {
 
     // The next byte, if it may stand there.
     fn one_of(&mut self, alphabet: Alphabet) -> Result<u8, Stop>
-        ensures { Reads (λ b. b) (byte (may_stand alphabet) self.old.rest.now) result self.new.rest.now }
+        ensures reads { Reads (λ b. b) (byte (may_stand alphabet) self.old.rest.now) result self.new.rest.now }
+        ensures memory { result ≡ Err stop.NoMemory → ⊥ }
     {
         match self.rest {
             [first, rest @ ..] if alphabet.takes(*first) => {
@@ -173,7 +180,8 @@ impl<'a> Reader<'a> {
 
     /// So many bytes, each of which may stand there.
     pub fn run(&mut self, alphabet: Alphabet, count: usize) -> Result<&'a [u8], Stop>
-        ensures { Reads (λ s. s.now) (run (may_stand alphabet) count self.old.rest.now) result self.new.rest.now }
+        ensures reads { Reads (λ s. s.now) (run (may_stand alphabet) count self.old.rest.now) result self.new.rest.now }
+        ensures memory { result ≡ Err stop.NoMemory → ⊥ }
     {
         let start = self.rest;
         let mut left = count;

@@ -1,11 +1,12 @@
 //! Reading expressions and conditions.
 
-ghost use Rattle.std.specs.Prelude.{◌≡◌, ◌≤◌, ◌<◌, ℕ, nat_lt, map};
+ghost use Rattle.std.specs.Prelude.{◌≡◌, ◌≤◌, ◌<◌, ℕ, nat_lt, map, Err};
 ghost use Rattle.cond_expr.specs.declared.exprs.Whose.TheVariants.{Atom};
 ghost use Rattle.cond_expr.specs.Trees.{column, constant, length_of, joined, choose, compared, all_of, some_of, fails};
 ghost use Rattle.cond_expr.specs.Seen.{tree, test, trees_of, tests_of};
 ghost use Rattle.command_spelling.specs.Reading.{byte, digits, map_to, pair, items, listed};
 ghost use Rattle.command_spelling.specs.Reader as spec;
+ghost use Rattle.command_codec.specs.declared.reader.Stop.TheVariants as stop;
 ghost use Rattle.command_codec.specs.Reads.{Reads};
 
 use crate::fields::{name, sign, value};
@@ -13,12 +14,13 @@ use crate::reader::{Reader, Stop};
 use cond_expr::{ColRef, Cond, Expr, Whose};
 use std::alloc::Global;
 
-// The most levels of a tree.
-const MOST_LEVELS: u32 = 32;
+/// The most levels of a tree.
+pub const MOST_LEVELS: u32 = 32;
 
-// The tag of an expression. Where no level may stand below it, LENGTH and CASE cannot stand.
-fn expr_tag(reader: &mut Reader<'_>, deeper: bool) -> Result<u8, Stop>
-    ensures { Reads (λ b. b) (byte (spec.is_expr_tag deeper) reader.old.rest.now) result reader.new.rest.now }
+/// The tag of an expression. Where no level may stand below it, LENGTH and CASE cannot stand. It takes no memory.
+pub fn expr_tag(reader: &mut Reader<'_>, deeper: bool) -> Result<u8, Stop>
+    ensures reads { Reads (λ b. b) (byte (spec.is_expr_tag deeper) reader.old.rest.now) result reader.new.rest.now }
+    ensures memory { result ≡ Err stop.NoMemory → ⊥ }
 {
     if deeper {
         return reader.tag(4);
@@ -32,9 +34,10 @@ fn expr_tag(reader: &mut Reader<'_>, deeper: bool) -> Result<u8, Stop>
     }
 }
 
-// The tag of a condition. Where no level may stand below it, comparisons and NOT cannot stand.
-fn cond_tag(reader: &mut Reader<'_>, deeper: bool) -> Result<u8, Stop>
-    ensures { Reads (λ b. b) (byte (spec.is_cond_tag deeper) reader.old.rest.now) result reader.new.rest.now }
+/// The tag of a condition. Where no level may stand below it, comparisons and NOT cannot stand. It takes no memory.
+pub fn cond_tag(reader: &mut Reader<'_>, deeper: bool) -> Result<u8, Stop>
+    ensures reads { Reads (λ b. b) (byte (spec.is_cond_tag deeper) reader.old.rest.now) result reader.new.rest.now }
+    ensures memory { result ≡ Err stop.NoMemory → ⊥ }
 {
     if deeper {
         return reader.tag(5);
@@ -48,10 +51,11 @@ fn cond_tag(reader: &mut Reader<'_>, deeper: bool) -> Result<u8, Stop>
     }
 }
 
-// How many parts stand in a list, where it has any only if a level may stand below.
-fn count(reader: &mut Reader<'_>, width: u32, most: u64, deeper: bool) -> Result<u64, Stop>
+/// How many parts stand in a list, where it has any only if a level may stand below. It takes no memory.
+pub fn part_count(reader: &mut Reader<'_>, width: u32, most: u64, deeper: bool) -> Result<u64, Stop>
     requires { width ≤ 8 }
-    ensures { Reads (λ n. n) (digits (spec.most_parts deeper most) width 0 reader.old.rest.now) result reader.new.rest.now }
+    ensures reads { Reads (λ n. n) (digits (spec.most_parts deeper most) width 0 reader.old.rest.now) result reader.new.rest.now }
+    ensures memory { result ≡ Err stop.NoMemory → ⊥ }
 {
     reader.number(width, if deeper { most } else { 0 })
 }
@@ -110,7 +114,7 @@ fn length(alloc: Global, reader: &mut Reader<'_>, levels: u32) -> Result<Expr, S
 fn concat(alloc: Global, reader: &mut Reader<'_>, levels: u32) -> Result<Expr, Stop>
     ensures { Reads tree (map_to (λ l. joined (trees_of l)) (listed 1 (spec.most_parts (nat_lt 0 levels) 255) (spec.level levels).expr) reader.old.rest.now) result reader.new.rest.now }
 {
-    let count = count(reader, 1, 0xFF, levels > 0)?;
+    let count = part_count(reader, 1, 0xFF, levels > 0)?;
     let parts = exprs(alloc, reader, count, levels)?;
     Ok(Expr::concat(parts))
 }
@@ -168,7 +172,7 @@ fn comparison(alloc: Global, reader: &mut Reader<'_>, levels: u32) -> Result<Con
 fn parts(alloc: Global, reader: &mut Reader<'_>, levels: u32) -> Result<Vec<Cond>, Stop>
     ensures { Reads (λ v. map test v.items) (listed 2 (spec.most_parts (nat_lt 0 levels) 65535) (spec.level levels).cond reader.old.rest.now) result reader.new.rest.now }
 {
-    let count = count(reader, 2, 0xFFFF, levels > 0)?;
+    let count = part_count(reader, 2, 0xFFFF, levels > 0)?;
     conds(alloc, reader, count, levels)
 }
 

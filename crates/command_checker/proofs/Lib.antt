@@ -1,0 +1,4 @@
+pub mod Answering
+pub mod ListSteps
+pub mod Steps
+pub mod TreeSteps

@@ -1,0 +1,40 @@
+//! Reading values whose texts stay where they stand in the bytes.
+
+ghost use Rattle.std.specs.Prelude.{◌≡◌, Err, IfOk};
+ghost use Rattle.prima_base.specs.Bytes.{IsTxt};
+ghost use Rattle.prima_base.specs.Columns.{IsLawful};
+ghost use Rattle.prima_base.specs.Order.{shown, IsLent};
+ghost use Rattle.command_spelling.specs.Reader as spec;
+ghost use Rattle.command_codec.specs.declared.reader.Stop.TheVariants as stop;
+ghost use Rattle.command_codec.specs.Reads.{Reads};
+
+use crate::reader::{Alphabet, Reader, Stop};
+use prima_base::Val;
+
+const MOST_TEXT: u64 = 4096;
+
+/// A text, where it stands in the bytes. It takes no memory.
+#[tactic(auto, unfolding(command_spelling::specs::Reader::text))]
+pub fn lent_text<'a>(reader: &mut Reader<'a>) -> Result<&'a [u8], Stop>
+    ensures reads { Reads (λ s. s.now) (spec.text reader.old.rest.now) result reader.new.rest.now }
+    ensures lawful { IfOk result (λ s. IsTxt s.now) }
+    ensures memory { result ≡ Err stop.NoMemory → ⊥ }
+{
+    let count = reader.number(2, MOST_TEXT)?;
+    let bytes = reader.run(Alphabet::Printed, count as usize)?;
+    Ok(bytes)
+}
+
+/// A value; a text where it stands in the bytes. It takes no memory.
+#[tactic(auto, unfolding(command_spelling::specs::Reader::value, command_spelling::specs::Reader::integer))]
+pub fn lent_value<'a>(reader: &mut Reader<'a>) -> Result<Val<'a>, Stop>
+    ensures reads { Reads shown (spec.value reader.old.rest.now) result reader.new.rest.now }
+    ensures lawful { IfOk result (λ v. IsLawful (shown v)) }
+    ensures lent { IfOk result IsLent }
+    ensures memory { result ≡ Err stop.NoMemory → ⊥ }
+{
+    match reader.tag(1)? {
+        0 => Ok(Val::Int(reader.number(8, u64::MAX)?.cast_signed())),
+        _ => Ok(Val::Slice(lent_text(reader)?)),
+    }
+}
