@@ -6,7 +6,7 @@ use prima_base::NoMemory;
 use std::alloc::Global;
 
 // How much an image has, and its last stamp.
-fn write_image(image: &ReadImage, text: &mut Vec<u8>) -> Result<(), NoMemory> {
+fn write_image(image: &ReadImage<'_>, text: &mut Vec<u8>) -> Result<(), NoMemory> {
     text.extend_from_slice(b"image ")?;
     write_number(image.versions.list.len() as u64, text)?;
     text.extend_from_slice(b" versions, ")?;

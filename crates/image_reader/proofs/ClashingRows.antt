@@ -1,9 +1,9 @@
 -- Rows in order clash where one clashes with the next; and two ids show one row just where the rows of their pieces clash.
-use Rattle.std.proofs.Common.{◌≡◌, ℕ, ◌+◌, ◌≤◌, ◌<◌, ◌==◌, Bool, true, false, not, List, [], ◌∷◌, map, length, get_or, refl, sym, ap, ◌∙◌, subst, arith, inl, inr}
-use Rattle.std.specs.Prelude.{Option, ◌&&◌, max, nat_lt}
+use Rattle.std.proofs.Common.{◌≡◌, ℕ, ◌<◌, Bool, true, false, not, List, [], ◌∷◌, map, refl, sym, ap, ◌∙◌, subst, arith, inl, inr}
+use Rattle.std.specs.Prelude.{◌&&◌, max, nat_lt}
 use Rattle.std.specs.List.{AllByRecursion, IsDistinct}
 use Rattle.std.specs.List.Sorted.{IsPermutation}
-use Rattle.std.specs.Ordering.{is_eq, is_lt}
+use Rattle.std.specs.Ordering.{is_eq}
 use Rattle.std.specs.declared.cmp.Ordering.{Ordering}
 use Rattle.std.specs.declared.cmp.Ordering.TheVariants.{Less, Equal, Greater}
 use Rattle.std.proofs.lemmas.Bool.{ltb-true, lt-ltb}
@@ -13,27 +13,34 @@ use Rattle.relations.specs.Sets.{In}
 use Rattle.relations.specs.Spans.{Span, covers}
 use Rattle.relations.specs.Timed.{Entry}
 use Rattle.relations.proofs.SetLaws.{cmp_itself}
-use Rattle.prima_base.specs.Columns.{Column}
 use Rattle.prima_base.specs.Order.{row_cmp}
 use Rattle.prima_base.specs.OrderLaws.{row_exact}
-use Rattle.prima_base.specs.Timed.{entry_of, entries_of, timed_cmp}
-use Rattle.prima_base.specs.declared.timed_rows.TimedRow.{TimedRow}
 use Rattle.prima_base.specs.declared.values.Value.{Value}
 use Rattle.table_histories.specs.Store.{Cell, row_at, Holds}
 use Rattle.coalesce.proofs.Joined.{NotAfter, Ordered, not_after_trans}
-use Rattle.coalesce.proofs.Sorted.{in_moved, ordered}
+use Rattle.coalesce.proofs.Sorted.{in_moved}
 use Rattle.command_spelling.proofs.Goodness.{by_test, true_false}
 use Rattle.command_spelling.proofs.Numbers.{both_true, of_both}
-use Rattle.image_spelling.specs.Judged.{are_apart}
-use Rattle.image_spelling.proofs.Apartness.{apart_at_starts, apart_always}
 use Rattle.image_spelling.proofs.Filling.{covers_so, covers_both}
-use Rattle.image_spelling.proofs.ReadParts.{ColumnsRead}
-use Rattle.image_reader.specs.Stretches.{Piece, entry_in, bare_from, all_merged, clash, none_clash}
+use Rattle.image_reader.specs.Stretches.{Piece}
 use Rattle.image_reader.proofs.FilledKeys.{Fill, of_keys, each_lasts, one_there, behind_piece, fills_behind_piece}
-use Rattle.image_reader.proofs.MergedColumns.{Sound, all_pieces, all_filled}
+use Rattle.image_reader.proofs.MergedColumns.{Sound}
 
-abbrev Timed : Type 0
+abbrev pub Timed : Type 0
 Timed = Entry (List Value)
+
+abbrev pub entry_in : Piece → Timed
+entry_in p = record { item = p.row; period = p.period }
+
+-- they are one row, and have a common moment
+abbrev pub clash : Timed → Timed → Bool
+clash a b = (nat_lt a.period.start b.period.end && nat_lt b.period.start a.period.end) && is_eq (row_cmp a.item b.item)
+
+-- none with the next
+abbrev pub none_clash : List Timed → Bool
+none_clash [] = true
+none_clash (a ∷ []) = true
+none_clash (a ∷ (b ∷ rest)) = not (clash a b) && none_clash (b ∷ rest)
 
 equal_is : (o : Ordering) → is_eq o ≡ true → o ≡ Equal
 equal_is Less e = true_false (sym e)
@@ -70,7 +77,7 @@ flips a b = by_test (clash a b) (λ e. e ∙ sym (clash_so b a (turned a b (clas
 
 -- ---- rows in order
 
-pairwise : (a : Timed) (rest : List Timed) → Ordered row_cmp row_exact (a ∷ rest) → (y : Timed) → In y rest → NotAfter row_cmp row_exact a y
+pub pairwise : (a : Timed) (rest : List Timed) → Ordered row_cmp row_exact (a ∷ rest) → (y : Timed) → In y rest → NotAfter row_cmp row_exact a y
 pairwise a [] o y i = absurd i
 pairwise a (b ∷ rest) o y (inl e) = subst (NotAfter row_cmp row_exact a) e o.0
 pairwise a (b ∷ rest) o y (inr i) = not_after_trans row_cmp row_exact a b y o.0 (pairwise b rest o.1 y i)
@@ -90,7 +97,7 @@ all_such : {X : Type 0} (P : X → Type 0) (xs : List X) → ((x : X) → In x x
 all_such P [] f = tt
 all_such P (x ∷ xs) f = (f x (inl refl), all_such P xs (λ y i. f y (inr i)))
 
-from_all : {X : Type 0} (P : X → Type 0) (xs : List X) → AllByRecursion P xs → (x : X) → In x xs → P x
+pub from_all : {X : Type 0} (P : X → Type 0) (xs : List X) → AllByRecursion P xs → (x : X) → In x xs → P x
 from_all P [] f y i = absurd i
 from_all P (x ∷ xs) f y (inl e) = subst P e f.0
 from_all P (x ∷ xs) f y (inr i) = from_all P xs f.1 y i
@@ -124,13 +131,13 @@ from_map [] e i = absurd i
 from_map (x ∷ xs) e (inl h) = (x, inl refl, h)
 from_map (x ∷ xs) e (inr i) = let r = from_map xs e i in (r.0, inr r.1, r.2)
 
-to_map : (xs : List Piece) (y : Piece) → In y xs → In (entry_in y) (map entry_in xs)
+pub to_map : (xs : List Piece) (y : Piece) → In y xs → In (entry_in y) (map entry_in xs)
 to_map [] y i = absurd i
 to_map (z ∷ xs) y (inl g) = inl (ap entry_in g)
 to_map (z ∷ xs) y (inr i) = inr (to_map xs y i)
 
 module _ (keys : List Span) (cells : List (List Cell)) where
-  abbrev ApartAlways : Type 0
+  abbrev pub ApartAlways : Type 0
   ApartAlways = (m i j : ℕ) → Holds keys i m → Holds keys j m → row_at i m cells ≡ row_at j m cells → i ≡ j
 
   module _ (pieces : List Piece) (fill : Fill 0 keys pieces) (sound : Sound cells pieces) where
@@ -199,40 +206,28 @@ module _ (keys : List Span) (cells : List (List Cell)) where
         let meet : Meet (entry_in p.0) (entry_in q.0) = record { first = omega (arith, lp, uq); second = omega (arith, lq, up); same = rows } in
         sym ei ∙ ap (λ (x : Piece). x.id) (one_piece pieces d p.0 q.0 p.1 q.1 meet) ∙ ej
 
--- ---- the rows of all ids, in order
+-- ---- the pieces in order
 
-pub judged_apart : (last : Option ℕ) (keys : List Span) (kinds : List Column) (cells : List (List Cell)) (rows sorted : List TimedRow) → 1 ≤ length cells → ColumnsRead last keys kinds cells
-    → entries_of rows ≡ map entry_in (all_merged (bare_from 0 keys) cells) → IsPermutation rows sorted
-    → ((k : ℕ) (d : TimedRow) → 0 ≤ k → k + 1 < length sorted → is_lt (timed_cmp (get_or sorted (k + 1) d) (get_or sorted k d)) ≡ false) → none_clash (entries_of sorted) ≡ are_apart keys cells
-judged_apart last keys kinds cells rows sorted some read is moved order = by_test (none_clash (entries_of sorted)) (λ e. e ∙ sym (apart e)) (λ e. e ∙ sym (not_apart e))
-  where
-    pieces : List Piece
-    pieces = all_merged (bare_from 0 keys) cells
+module _ (keys : List Span) (cells : List (List Cell)) (pieces : List Piece) (fill : Fill 0 keys pieces) (sound : Sound cells pieces) (sorted : List Piece) (moved : IsPermutation pieces sorted)
+    (rises : Ordered row_cmp row_exact (map entry_in sorted)) where
+  perm : IsPermutation (map entry_in pieces) (map entry_in sorted)
+  perm = IsPermutation-map entry_in pieces sorted moved
 
-    both : Fill 0 keys pieces × Sound cells pieces
-    both = all_pieces last keys kinds cells some read
+  back : IsPermutation (map entry_in sorted) (map entry_in pieces)
+  back = IsPermutation-sym (map entry_in pieces) (map entry_in sorted) perm
 
-    perm : IsPermutation (map entry_in pieces) (entries_of sorted)
-    perm = subst (λ l. IsPermutation l (entries_of sorted)) is (IsPermutation-map entry_of rows sorted moved)
+  lasts : (e : Timed) → In e (map entry_in sorted) → e.period.start < e.period.end
+  lasts e i =
+      let r = from_map pieces e (in_moved (map entry_in sorted) (map entry_in pieces) back e i) in
+      subst (λ (x : Timed). x.period.start < x.period.end) r.2 (each_lasts 0 keys pieces fill r.0 r.1)
 
-    lasts : (e : Timed) → In e (entries_of sorted) → e.period.start < e.period.end
-    lasts e i =
-        let r = from_map pieces e (in_moved (entries_of sorted) (map entry_in pieces) (IsPermutation-sym (map entry_in pieces) (entries_of sorted) perm) e i) in
-        subst (λ (x : Timed). x.period.start < x.period.end) r.2 (each_lasts 0 keys pieces both.0 r.0 r.1)
+  -- where none clashes with the next no two do, and two ids show two rows
+  pub all_distinct : none_clash (map entry_in sorted) ≡ true → IsDistinct clash (map entry_in sorted)
+  all_distinct e = apart_in_order (map entry_in sorted) rises lasts e
 
-    apart : none_clash (entries_of sorted) ≡ true → are_apart keys cells ≡ true
-    apart e =
-        let d = apart_in_order (entries_of sorted) (ordered sorted order) lasts e in
-        let d' = IsDistinct-IsPermutation clash flips (entries_of sorted) (map entry_in pieces) (IsPermutation-sym (map entry_in pieces) (entries_of sorted) perm) d in
-        apart_at_starts keys cells (ids_apart keys cells pieces both.0 both.1 d')
+  pub two_rows : none_clash (map entry_in sorted) ≡ true → ApartAlways keys cells
+  two_rows e = ids_apart keys cells pieces fill sound (IsDistinct-IsPermutation clash flips (map entry_in sorted) (map entry_in pieces) back (all_distinct e))
 
-    not_apart : none_clash (entries_of sorted) ≡ false → are_apart keys cells ≡ false
-    not_apart e = by_test (are_apart keys cells)
-        (λ a. (let always = apart_always keys cells (all_filled last keys kinds cells read) some a in
-        let d = IsDistinct-IsPermutation clash flips (map entry_in pieces) (entries_of sorted) perm (pieces_apart keys cells pieces both.0 both.1 always) in
-        true_false (sym (none_next (entries_of sorted) d) ∙ e)))
-        (λ a. a)
-
-pub some_columns : {X Y : Type 0} (f : X → Y) (cells : List X) → false ≡ (length cells == 0) → 1 ≤ length (map f cells)
-some_columns f [] e = true_false (sym e)
-some_columns f (c ∷ cells) e = omega arith
+  -- where one does, they do not
+  pub one_row : none_clash (map entry_in sorted) ≡ false → ApartAlways keys cells → ⊥
+  one_row e a = true_false (sym (none_next (map entry_in sorted) (IsDistinct-IsPermutation clash flips (map entry_in pieces) (map entry_in sorted) perm (pieces_apart keys cells pieces fill sound a))) ∙ e)

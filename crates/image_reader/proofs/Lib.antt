@@ -10,3 +10,6 @@ pub mod ClashingRows
 pub mod Walking
 pub mod BegunLines
 pub mod LineParts
+pub mod CurrentRows
+pub mod JudgedShowings
+pub mod NumbersAtOnce

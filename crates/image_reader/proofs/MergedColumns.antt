@@ -171,7 +171,7 @@ module _ (columns : List (List Cell)) (column : List Cell) (id : ℕ) (keys : Li
 -- ---- a column
 
 -- each of these entries is the one that the column shows
-abbrev ShowEach : List Cell → List Cell → Type 0
+abbrev pub ShowEach : List Cell → List Cell → Type 0
 ShowEach column cells = (c : Cell) → In c cells → (m : ℕ) → covers c.period m ≡ true → shown_at c.id m column ≡ c.value ∷ []
 
 module _ (last : Option ℕ) (type : ColType) (columns : List (List Cell)) (column : List Cell) where
@@ -202,7 +202,7 @@ module _ (last : Option ℕ) (type : ColType) (columns : List (List Cell)) (colu
       rest one two false x y z = two x y z
 
 -- where a column is filled, each of its entries is shown
-shows_each : (keys : List Span) (cells : List Cell) → IsFilled keys cells → ShowEach cells cells
+pub shows_each : (keys : List Span) (cells : List Cell) → IsFilled keys cells → ShowEach cells cells
 shows_each keys cells h c i m k =
     let known = h.known c i in
     let fills = h.filled c.id known in

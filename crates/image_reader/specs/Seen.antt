@@ -2,7 +2,8 @@
 use Rattle.std.specs.Prelude.{ℕ, List, [], ◌∷◌, map}
 use Rattle.std.specs.declared.vec.Vec.{Vec}
 use Rattle.std.specs.declared.alloc.Global.{Global}
-use Rattle.relations.specs.Spans.{span}
+use Rattle.relations.specs.Spans.{Span, span}
+use Rattle.prima_base.specs.Order.{shown}
 use Rattle.table_histories.specs.Store.{Cell}
 use Rattle.smo_types.specs.Commands.{versions_of}
 use Rattle.lifelines.specs.Lifelines.{Lifeline, lifelines_of}
@@ -25,11 +26,11 @@ head_of l = ((l.first, last_number l.last), l.table)
 -- ---- entries
 
 abbrev pub cell_seen : ReadCell → Cell
-cell_seen c = record { id = c.id; value = c.value; period = c.period }
+cell_seen c = record { id = c.id; value = shown c.value; period = c.period }
 
 -- before it is judged
 abbrev pub unjudged_seen : Unjudged → Cell
-unjudged_seen c = record { id = c.id; value = c.value; period = span c.start c.end }
+unjudged_seen c = record { id = c.id; value = shown c.value; period = span c.start c.end }
 
 -- of each column
 abbrev pub cells_seen : List (Vec ReadCell Global) → List (List Cell)
@@ -37,7 +38,10 @@ cells_seen columns = map (λ column. map cell_seen column.items) columns
 
 -- ---- lifelines
 
--- what is kept over a lifeline
+-- what is kept over a lifeline, by the periods of its keys and the entries of its columns
+abbrev pub parts_seen : Lifeline → Vec Span Global × Vec (Vec ReadCell Global) Global → StoredLine
+parts_seen line parts = record { line = line; keys = parts.0.items; cells = cells_seen parts.1.items }
+
 abbrev pub stored_seen : Lifeline → ReadLine → StoredLine
 stored_seen line l = record { line = line; keys = l.keys.items; cells = cells_seen l.cells.items }
 

@@ -1,12 +1,10 @@
 -- Stretches in which ids show one row: those of keys without a value, and what they have with the entries of one column more.
-use Rattle.std.specs.Prelude.{ℕ, ◌+◌, ◌==◌, ◌&&◌, not, Bool, true, List, [], ◌∷◌, ◌++◌, map, nat_lt, if◌then◌else◌}
-use Rattle.std.specs.Ordering.{is_eq}
+use Rattle.std.specs.Prelude.{ℕ, ◌+◌, ◌==◌, List, [], ◌∷◌, ◌++◌, map, nat_lt, if◌then◌else◌}
 use Rattle.relations.specs.Spans.{Span, span}
-use Rattle.relations.specs.Timed.{Entry}
-use Rattle.prima_base.specs.Order.{row_cmp, shown}
+use Rattle.prima_base.specs.Order.{shown}
 use Rattle.prima_base.specs.declared.values.Value.{Value}
 use Rattle.table_histories.specs.Store.{Cell}
-use Rattle.image_reader.specs.declared.overlaps.Stretch.{Stretch}
+use Rattle.image_reader.specs.declared.stretches.Stretch.{Stretch}
 
 -- the id shows the row in the period
 pub record Piece : Type 0 where
@@ -19,9 +17,6 @@ piece_of s = record { id = s.id; row = map shown s.values.items; period = s.peri
 
 abbrev pub pieces_of : List Stretch → List Piece
 pieces_of stretches = map piece_of stretches
-
-abbrev pub entry_in : Piece → Entry (List Value)
-entry_in p = record { item = p.row; period = p.period }
 
 -- one for each key, without a value
 abbrev pub bare_from : ℕ → List Span → List Piece
@@ -59,15 +54,3 @@ merged pieces (c ∷ cells) = given pieces c ++ merged (left_by pieces c) cells
 abbrev pub all_merged : List Piece → List (List Cell) → List Piece
 all_merged pieces [] = pieces
 all_merged pieces (cells ∷ columns) = all_merged (merged pieces cells) columns
-
--- ---- rows with periods
-
--- they are one row, and have a common moment
-abbrev pub clash : Entry (List Value) → Entry (List Value) → Bool
-clash a b = (nat_lt a.period.start b.period.end && nat_lt b.period.start a.period.end) && is_eq (row_cmp a.item b.item)
-
--- none with the next
-abbrev pub none_clash : List (Entry (List Value)) → Bool
-none_clash [] = true
-none_clash (a ∷ []) = true
-none_clash (a ∷ (b ∷ rest)) = not (clash a b) && none_clash (b ∷ rest)

@@ -3,6 +3,7 @@
 ghost use Rattle.std.specs.Prelude.{◌≡◌, ◌+◌, ◌<◌, ◌≤◌, map, length, IfOk, IfSome};
 ghost use Rattle.command_codec.specs.Reads.{Reads};
 ghost use Rattle.prima_base.specs.Columns.{has_type};
+ghost use Rattle.prima_base.specs.Order.{shown};
 ghost use Rattle.image_spelling.specs.Judged.{is_due};
 ghost use Rattle.image_spelling.specs.Reader as spec;
 ghost use Rattle.command_spelling.specs.Reading.{map_to, pair};
@@ -10,29 +11,31 @@ ghost use Rattle.command_spelling.specs.Reader as parts;
 ghost use Rattle.image_reader.specs.Seen.{cell_seen, cells_seen, unjudged_seen};
 ghost use Rattle.image_reader.specs.Due.{keys_left, IsNextDue};
 
-use crate::counts::count_64;
+use crate::counts::{count_64, number_64, room_for};
 use crate::keys::{is_period, period};
-use command_codec::{Reader, Stop, value};
+use command_codec::{Reader, Stop, lent_value};
 use history_store::Cell;
-use prima_base::{ColType, Name, Period, Value};
+use prima_base::{ColType, Name, Period, Val};
 use std::alloc::Global;
 
-// What is read of an entry before it is judged.
+// The fewest bytes of an entry: an id, an empty text, a start and an end.
+const LEAST_ENTRY: usize = 27;
+
+// What is read of an entry before it is judged. A text stays where it stands in the image.
 #[derive(Drop)]
-struct Unjudged {
+struct Unjudged<'a> {
     id: u64,
-    value: Value,
+    value: Val<'a>,
     start: u64,
     end: u64,
 }
 
 // An entry, not yet judged.
-#[tactic(auto, unfolding(image_spelling::specs::Reader::number_64))]
-fn entry_read(alloc: Global, reader: &mut Reader<'_>) -> Result<Unjudged, Stop>
+fn entry_read<'a>(reader: &mut Reader<'a>) -> Result<Unjudged<'a>, Stop>
     ensures { Reads unjudged_seen (map_to spec.cell_of (pair (pair spec.number_64 parts.value) spec.period) reader.old.rest.now) result reader.new.rest.now }
 {
-    let id = reader.number(8, u64::MAX)?;
-    let value = value(alloc, reader)?;
+    let id = number_64(reader)?;
+    let value = lent_value(reader)?;
     let (start, end) = period(reader)?;
     Ok(Unjudged {
         id,
@@ -43,17 +46,17 @@ fn entry_read(alloc: Global, reader: &mut Reader<'_>) -> Result<Unjudged, Stop>
 }
 
 // Whether the value has this type.
-fn has_type(kind: ColType, value: &Value) -> bool
-    ensures { result ≡ has_type kind value.now }
+fn has_type(kind: ColType, value: &Val<'_>) -> bool
+    ensures { result ≡ has_type kind (shown value.now) }
 {
     match (kind, value) {
-        (ColType::Int, Value::Int(_)) | (ColType::Text, Value::Text(_)) => true,
-        (ColType::Int, Value::Text(_)) | (ColType::Text, Value::Int(_)) => false,
+        (ColType::Int, Val::Int(_)) | (ColType::Text, Val::Slice(_) | Val::Own(_)) => true,
+        (ColType::Int, Val::Slice(_) | Val::Own(_)) | (ColType::Text, Val::Int(_)) => false,
     }
 }
 
 // Whether the entry is the one that is due: of the key with this id, of whose period this part is not yet filled.
-fn is_due(last: Option<u64>, kind: ColType, id: u64, left: Period, read: &Unjudged) -> bool
+fn is_due(last: Option<u64>, kind: ColType, id: u64, left: Period, read: &Unjudged<'_>) -> bool
     ensures { result ≡ is_due last kind id left (unjudged_seen read.now) }
 {
     let begins = read.id == id && read.start == left.start();
@@ -62,19 +65,18 @@ fn is_due(last: Option<u64>, kind: ColType, id: u64, left: Period, read: &Unjudg
 }
 
 // The entry that is due. Where it is not as it must be the reader stands at its first byte.
-fn entry(
-    alloc: Global,
-    reader: &mut Reader<'_>,
+fn entry<'a>(
+    reader: &mut Reader<'a>,
     last: Option<u64>,
     kind: ColType,
     id: u64,
     left: Period,
-) -> Result<Cell, Stop>
+) -> Result<Cell<'a>, Stop>
     ensures reads { Reads cell_seen (spec.entry last kind id left reader.old.rest.now) result reader.new.rest.now }
     ensures within { IfOk result (λ c. c.period.end ≤ left.end) }
 {
     let first = reader.rest;
-    match entry_read(alloc, reader) {
+    match entry_read(reader) {
         Ok(read) if is_due(last, kind, id, left, &read) => {
             let Unjudged {
                 id,
@@ -136,23 +138,23 @@ fn next_due(keys: &[Period], id: usize, left: Period, filled: Period) -> Due
 }
 
 // So many entries, which fill the periods of the keys. Where one is missing, or more follow, the reader stands where it is looked for.
-fn entries(
+fn entries<'a>(
     alloc: Global,
-    reader: &mut Reader<'_>,
+    reader: &mut Reader<'a>,
     last: Option<u64>,
     kind: ColType,
     keys: &[Period],
     count: u64,
-) -> Result<Vec<Cell>, Stop>
+) -> Result<Vec<Cell<'a>>, Stop>
     ensures { Reads (λ v. map cell_seen v.items) (spec.entries last kind count 0 keys.now reader.old.rest.now) result reader.new.rest.now }
 {
-    let mut list = Vec::new(alloc);
+    let mut list = Vec::with_capacity(alloc, room_for(count, reader, LEAST_ENTRY))?;
     let mut due = first_due(keys);
     for _ in 0..count {
         let Some(left) = due.left else {
             return Err(Stop::Stuck);
         };
-        let cell = entry(alloc, reader, last, kind, due.id as u64, left)?;
+        let cell = entry(reader, last, kind, due.id as u64, left)?;
         due = next_due(keys, due.id, left, cell.period);
         list.push(cell)?;
     }
@@ -164,13 +166,13 @@ fn entries(
 
 // The entries of a column, with their count before them.
 #[tactic(auto, unfolding(image_spelling::specs::Reader::column_entries))]
-fn column_entries(
+fn column_entries<'a>(
     alloc: Global,
-    reader: &mut Reader<'_>,
+    reader: &mut Reader<'a>,
     last: Option<u64>,
     keys: &[Period],
     kind: ColType,
-) -> Result<Vec<Cell>, Stop>
+) -> Result<Vec<Cell<'a>>, Stop>
     ensures { Reads (λ v. map cell_seen v.items) (spec.column_entries last keys.now kind reader.old.rest.now) result reader.new.rest.now }
 {
     let count = count_64(reader)?;
@@ -178,13 +180,13 @@ fn column_entries(
 }
 
 /// The entries of each of these columns, in their order.
-pub(crate) fn columns(
+pub(crate) fn columns<'a>(
     alloc: Global,
-    reader: &mut Reader<'_>,
+    reader: &mut Reader<'a>,
     last: Option<u64>,
     keys: &[Period],
     columns: &[(Name, ColType)],
-) -> Result<Vec<Vec<Cell>>, Stop>
+) -> Result<Vec<Vec<Cell<'a>>>, Stop>
     ensures { Reads (λ v. cells_seen v.items) (spec.columns last keys.now columns.now reader.old.rest.now) result reader.new.rest.now }
 {
     let mut list = Vec::with_capacity(alloc, columns.len())?;

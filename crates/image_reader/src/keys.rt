@@ -6,19 +6,22 @@ ghost use Rattle.command_codec.specs.Reads.{Reads};
 ghost use Rattle.image_spelling.specs.Judged.{is_period};
 ghost use Rattle.image_spelling.specs.Reader as spec;
 
-use crate::counts::count_64;
+use crate::counts::{count_64, number_64, room_for};
 use crate::stamps::{is_end, is_stamp};
 use command_codec::{Reader, Stop};
 use prima_base::Period;
 use std::alloc::Global;
 
+// The bytes of a key.
+const LEAST_KEY: usize = 16;
+
 /// A start and an end.
-#[tactic(auto, unfolding(image_spelling::specs::Reader::period, image_spelling::specs::Reader::number_64))]
+#[tactic(auto, unfolding(image_spelling::specs::Reader::period))]
 pub(crate) fn period(reader: &mut Reader<'_>) -> Result<(u64, u64), Stop>
     ensures { Reads (λ x. span x.0 x.1) (spec.period reader.old.rest.now) result reader.new.rest.now }
 {
-    let start = reader.number(8, u64::MAX)?;
-    let end = reader.number(8, u64::MAX)?;
+    let start = number_64(reader)?;
+    let end = number_64(reader)?;
     Ok((start, end))
 }
 
@@ -56,7 +59,7 @@ pub(crate) fn keys(
     ensures { Reads (λ v. v.items) (spec.keys last reader.old.rest.now) result reader.new.rest.now }
 {
     let count = count_64(reader)?;
-    let mut list = Vec::new(alloc);
+    let mut list = Vec::with_capacity(alloc, room_for(count, reader, LEAST_KEY))?;
     for _ in 0..count {
         list.push(key(reader, last)?)?;
     }

@@ -10,9 +10,10 @@ mod entries;
 mod faults;
 mod keys;
 mod lines;
-mod overlaps;
+mod order;
 mod reading;
 mod stamps;
+mod stretches;
 mod versions;
 
 pub use due::{DueLine, due_lines};

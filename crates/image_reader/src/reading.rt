@@ -1,12 +1,13 @@
 //! Reading a whole image.
 
-ghost use Rattle.std.specs.Prelude.{◌≡◌, ◌+◌, ◌<◌, ◌^◌, ℕ, [], List, length, IfOk, Err};
+ghost use Rattle.std.specs.Prelude.{◌≡◌, ◌+◌, ◌<◌, ◌^◌, ℕ, [], List, All, length, IfOk, Err};
 ghost use Rattle.smo_types.specs.Commands.{versions_of};
 ghost use Rattle.lifelines.specs.Lifelines.{lifelines_of};
 ghost use Rattle.command_spelling.specs.Reading.{Got, Stuck};
 ghost use Rattle.command_codec.specs.Reads.{Reads};
 ghost use Rattle.image_spelling.specs.Reader as spec;
 ghost use Rattle.image_reader.specs.Seen.{image_seen, lines_seen};
+ghost use Rattle.image_reader.specs.Showing.{IsOrdered};
 ghost use Rattle.image_reader.specs.declared.faults.ImageFault.TheVariants as fault;
 
 use crate::ImageFault;
@@ -22,21 +23,22 @@ use std::alloc::Global;
 /// What an image has: the stamp of the last accepted command, the versions, and what is kept over each of their lifelines, by first
 /// version and then name (`due_lines`).
 #[derive(Drop)]
-pub struct ReadImage {
+pub struct ReadImage<'a> {
     pub last: Option<u64>,
     pub versions: Versions,
-    pub lines: Vec<ReadLine>,
+    pub lines: Vec<ReadLine<'a>>,
 }
 
 // What is kept over each lifeline of the versions.
-fn lines_of(
+fn lines_of<'a>(
     alloc: Global,
-    reader: &mut Reader<'_>,
+    reader: &mut Reader<'a>,
     last: Option<u64>,
     versions: &Versions,
-) -> Result<Vec<ReadLine>, Stop>
+) -> Result<Vec<ReadLine<'a>>, Stop>
     requires { length versions.now.list.items < 2 ^ 32 }
-    ensures { Reads (λ v. lines_seen (lifelines_of (versions_of versions.now)) v.items) (spec.all_lines last (lifelines_of (versions_of versions.now)) reader.old.rest.now) result reader.new.rest.now }
+    ensures lines { Reads (λ v. lines_seen (lifelines_of (versions_of versions.now)) v.items) (spec.all_lines last (lifelines_of (versions_of versions.now)) reader.old.rest.now) result reader.new.rest.now }
+    ensures order { IfOk result (λ v. All IsOrdered v.items) }
 {
     let due = due_lines(alloc, versions)?;
     all_lines(alloc, reader, last, &due)
@@ -44,8 +46,9 @@ fn lines_of(
 
 // An image, which is all of the bytes.
 #[tactic(auto, unfolding(image_spelling::specs::Reader::image))]
-fn image(alloc: Global, reader: &mut Reader<'_>) -> Result<ReadImage, Stop>
-    ensures { Reads image_seen (spec.image reader.old.rest.now) result reader.new.rest.now }
+fn image<'a>(alloc: Global, reader: &mut Reader<'a>) -> Result<ReadImage<'a>, Stop>
+    ensures image { Reads image_seen (spec.image reader.old.rest.now) result reader.new.rest.now }
+    ensures order { IfOk result (λ it. All IsOrdered it.lines.items) }
 {
     let last = last_stamp(reader)?;
     let versions = all_versions(alloc, reader, last)?;
@@ -62,8 +65,9 @@ fn image(alloc: Global, reader: &mut Reader<'_>) -> Result<ReadImage, Stop>
 
 /// What the image has that is all of these bytes. `BadAt` comes exactly where they are no image, with the place of the first byte of what
 /// breaks it; `NoMemory` where memory runs out.
-pub fn read(alloc: Global, bytes: &[u8]) -> Result<ReadImage, ImageFault>
+pub fn read(alloc: Global, bytes: &[u8]) -> Result<ReadImage<'_>, ImageFault>
     ensures image { IfOk result (λ it. spec.image bytes.now ≡ Got (image_seen it) []) }
+    ensures order { IfOk result (λ it. All IsOrdered it.lines.items) }
     ensures bad { (place : ℕ) → result ≡ Err (fault.BadAt place) → (rest : List ℕ) × (spec.image bytes.now ≡ Stuck rest) × (place + length rest ≡ length bytes.now) }
 {
     let mut reader = Reader { rest: bytes };

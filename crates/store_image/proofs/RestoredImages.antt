@@ -1,10 +1,10 @@
 -- Groups whose image is lawful show the past that it shows.
 use Rattle.std.proofs.Common.{◌≡◌, ◌⊎◌, ◌≤◌, ◌<◌, ℕ, zero, suc, List, [], ◌∷◌, length, map, get_or, refl, sym, subst, ap, ◌∙◌, inl, inr, arith}
-use Rattle.std.specs.Prelude.{Option, Some, None, slice_get, option_map}
+use Rattle.std.specs.Prelude.{All, Option, Some, None, slice_get, option_map}
 use Rattle.std.specs.FinMap.{get}
-use Rattle.std.specs.List.{AllByRecursion}
 use Rattle.std.proofs.lemmas.Bool.{cases_lt}
 use Rattle.std.proofs.lemmas.List.{length-map}
+use Rattle.std.proofs.lemmas.List.Elements.{All-head, All-tail}
 use Rattle.std.proofs.lemmas.Option.{slice_get-map}
 use Rattle.relations.specs.Sets.{In}
 use Rattle.relations.specs.Spans.{Span, forever}
@@ -20,7 +20,9 @@ use Rattle.lifelines.specs.Lifelines.{Lifeline, Covers, lifelines_of, columns_of
 use Rattle.image_spelling.specs.Images.{StoredLine, Image, IsImage, IsStoredLine, IsUpTo, EndsUpTo, lines_in, store_of}
 use Rattle.image_spelling.specs.ShownPast.{cells_written, line_size, image_past}
 use Rattle.image_spelling.proofs.ShownPasts.{is_past, past_holds, table_shown}
-use Rattle.image_reader.specs.Seen.{lines_seen}
+use Rattle.image_spelling.proofs.DueLifelines.{due_lifelines}
+use Rattle.image_reader.specs.Seen.{stored_seen, cells_seen, lines_seen}
+use Rattle.image_reader.specs.Showing.{IsOrdered}
 use Rattle.image_reader.specs.declared.lines.ReadLine.{ReadLine}
 use Rattle.version_groups.specs.declared.made_tables.MadeTable.{MadeTable}
 use Rattle.version_groups.specs.Covering.{line_of, AreOfLifelines}
@@ -29,15 +31,39 @@ use Rattle.version_groups.specs.Restoring.{IsPastOf, stores_of, store_columns}
 use Rattle.version_groups.specs.Showing.{IsInForce, AreUpTo}
 use Rattle.version_groups.specs.Sizes.{IsWritten, AreWritten, HasSize, HaveSizes}
 use Rattle.version_groups.proofs.OwnMoments.{own_version, own_within}
-use Rattle.store_image.specs.ImageIn.{kept_line, image_in, bare, IsTable}
+use Rattle.store_image.specs.ImageIn.{kept_line, image_in, bare, CanAllBeMade}
 use Rattle.store_image.proofs.KeptTables.{got_in, same_relations, covering, found_at}
 
 -- ---- the lines of an image
 
--- over each a table is kept
-pub all_tables : (last : Option ℕ) (lines : List StoredLine) → ((l : StoredLine) → In l lines → IsStoredLine last l) → AllByRecursion IsTable lines
-all_tables last [] each = tt
-all_tables last (l ∷ lines) each = ((each l (inl refl)).store, all_tables last lines (λ r i. each r (inr i)))
+-- each has a column
+pub some_cells : (image : Image) → IsImage image → (l : StoredLine) → In l image.lines → 1 ≤ length l.cells
+some_cells image is l i =
+    let due = (due_lifelines image.versions is.evolved is.named).0 l.line (subst (In l.line) is.lines (in_map (λ (x : StoredLine). x.line) l image.lines i)) in
+    let some = due.some in
+    let wide = (is.each l i).store.width in
+    omega (arith, some, wide)
+
+at_place : {X : Type 0} (xs : List X) (k : ℕ) (d : X) → k < length xs → In (get_or xs k d) xs
+at_place [] k d h = absurd (omega (arith, h))
+at_place (x ∷ xs) zero d h = inl refl
+at_place (x ∷ xs) (suc k) d h = inr (at_place xs k d (omega (arith, h)))
+
+-- over each a table can be made again
+pub all_made : (last : Option ℕ) (due : List Lifeline) (lines : List ReadLine) → ((l : StoredLine) → In l (lines_seen due lines) → IsStoredLine last l) → ((l : StoredLine) → In l (lines_seen due lines) → 1 ≤ length l.cells)
+    → All IsOrdered lines → CanAllBeMade due lines
+all_made last [] lines each some order = tt
+all_made last (d ∷ due) [] each some order = tt
+all_made last (d ∷ due) (l ∷ lines) each some order =
+    let one = each (stored_seen d l) (inl refl) in
+    let cells = cells_seen l.cells.items in (
+      record {
+        table = one.store;
+        values = λ k e h i c g. one.values (get_or cells k e) (at_place cells k e h) (get_or (get_or cells k e) i c) (at_place (get_or cells k e) i c g);
+        order = All-head IsOrdered l lines order (some (stored_seen d l) (inl refl));
+      },
+      all_made last due lines (λ x i. each x (inr i)) (λ x i. some x (inr i)) (All-tail IsOrdered l lines order),
+    )
 
 -- there is one for each lifeline
 pub enough_lines : (due : List Lifeline) (lines : List ReadLine) → map (λ (l : StoredLine). l.line) (lines_seen due lines) ≡ due → length due ≤ length lines

@@ -1,11 +1,15 @@
 -- The image of an archive's groups.
-use Rattle.std.specs.Prelude.{◌≡◌, ◌<◌, ◌^◌, ℕ, List, [], length, map, Option, All}
+use Rattle.std.specs.Prelude.{◌≡◌, ◌<◌, ◌^◌, ℕ, List, [], ◌∷◌, length, map, Option, All, ⊤}
 use Rattle.relations.specs.Sets.{In}
 use Rattle.prima_base.specs.Columns.{IsLawful}
 use Rattle.table_histories.specs.Store.{Cell, Store, IsStore}
 use Rattle.smo_types.specs.Commands.{PlainVersion, evolving}
 use Rattle.smo_meaning.specs.Past.{Past}
 use Rattle.command_spelling.specs.Lawful.{IsWritableBody, BodyNamed}
+use Rattle.lifelines.specs.Lifelines.{Lifeline}
+use Rattle.history_store.specs.Restoring.{IsInOrder}
+use Rattle.image_reader.specs.Seen.{stored_seen, cells_seen}
+use Rattle.image_reader.specs.declared.lines.ReadLine.{ReadLine}
 use Rattle.version_groups.specs.declared.made_tables.MadeTable.{MadeTable}
 use Rattle.version_groups.specs.Covering.{line_of}
 use Rattle.version_groups.specs.Groups.{Kept, versions_in}
@@ -57,9 +61,17 @@ CanBeWritten v = IsWritableBody (evolving v.op v.inverse)
 
 -- ---- made again
 
--- what is kept makes a table
-abbrev pub IsTable : StoredLine → Type 0
-IsTable l = IsStore (store_of l)
+-- what was read over a lifeline makes a table of lawful values, and the ids of its current rows stand in the order of the rows
+pub record CanBeMade (line : Lifeline) (l : ReadLine) : Type 0 where
+  pub table : IsStore (store_of (stored_seen line l))
+  pub values : All (All (λ (c : Cell). IsLawful c.value)) (cells_seen l.cells.items)
+  pub order : IsInOrder l.keys.items (cells_seen l.cells.items) l.order.items
+
+-- over each of these lifelines
+abbrev pub CanAllBeMade : List Lifeline → List ReadLine → Type 0
+CanAllBeMade [] lines = ⊤
+CanAllBeMade (line ∷ due) [] = ⊤
+CanAllBeMade (line ∷ due) (l ∷ lines) = CanBeMade line l × CanAllBeMade due lines
 
 -- a table without room for more, and without an index
 abbrev pub bare : Store → Store

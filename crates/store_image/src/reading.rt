@@ -1,7 +1,6 @@
 //! Reading an image.
 
-ghost use Rattle.std.specs.Prelude.{◌≡◌, ◌+◌, ◌<◌, ◌≤◌, ◌^◌, ℕ, [], List, length, map, IfOk, Err};
-ghost use Rattle.std.specs.List.{AllByRecursion};
+ghost use Rattle.std.specs.Prelude.{◌≡◌, ◌+◌, ◌<◌, ◌≤◌, ◌^◌, ℕ, [], List, All, length, map, IfOk, Err};
 ghost use Rattle.smo_types.specs.Commands.{versions_of};
 ghost use Rattle.command_spelling.specs.Reading.{Got, Stuck};
 ghost use Rattle.lifelines.specs.Lifelines.{lifelines_of};
@@ -11,7 +10,8 @@ ghost use Rattle.image_spelling.specs.ShownPast.{image_past};
 ghost use Rattle.image_reader.specs.Seen.{line_seen, stored_seen, lines_seen, image_seen};
 ghost use Rattle.image_reader.specs.declared.faults.ImageFault.TheVariants as fault;
 ghost use Rattle.version_groups.specs.Showing.{Shows};
-ghost use Rattle.store_image.specs.ImageIn.{image_in, bare, IsTable};
+ghost use Rattle.image_reader.specs.Showing.{IsOrdered};
+ghost use Rattle.store_image.specs.ImageIn.{image_in, bare, CanBeMade, CanAllBeMade};
 
 use history_store::StoredTable;
 use image_reader::{DueLine, ImageFault, ReadImage, ReadLine, due_lines, read};
@@ -22,22 +22,27 @@ use std::alloc::Global;
 use version_groups::{Groups, restored_shows};
 
 // The table that was kept over a lifeline.
-fn restored_table(alloc: Global, due: &DueLine<'_>, line: ReadLine) -> Result<StoredTable, NoMemory>
-    requires { IsTable (stored_seen (line_seen due.now) line) }
-    ensures { IfOk result (λ t. bare t ≡ store_of (stored_seen (line_seen due.now) line)) }
+fn restored_table(
+    alloc: Global,
+    due: &DueLine<'_>,
+    line: ReadLine<'_>,
+) -> Result<StoredTable, NoMemory>
+    requires { CanBeMade (line_seen due.now) line }
+    ensures { IfOk result (λ t. bare t ≡ store_of (stored_seen (line_seen due.now) line.entry)) }
 {
-    StoredTable::restore(alloc, due.columns, line.keys, line.cells)
+    let ReadLine { keys, cells, order } = line;
+    StoredTable::restore(alloc, due.columns, keys, cells, &order)
 }
 
 // The tables that were kept over the lifelines.
 fn restored_tables(
     alloc: Global,
     due: &[DueLine<'_>],
-    lines: Vec<ReadLine>,
+    lines: Vec<ReadLine<'_>>,
 ) -> Result<Vec<StoredTable>, NoMemory>
-    requires tables { AllByRecursion IsTable (lines_seen (map line_seen due.now) lines.items) }
+    requires tables { CanAllBeMade (map line_seen due.now) lines.items }
     requires enough { length due.now ≤ length lines.items }
-    ensures { IfOk result (λ v. map bare v.items ≡ map store_of (lines_seen (map line_seen due.now) lines.items)) }
+    ensures { IfOk result (λ v. map bare v.items ≡ map store_of (lines_seen (map line_seen due.now) lines.entry.items)) }
 {
     let mut tables = Vec::with_capacity(alloc, due.len())?;
     let mut left = lines.into_iter();
@@ -55,22 +60,23 @@ fn restored_tables(
 fn tables_of(
     alloc: Global,
     versions: &Versions,
-    lines: Vec<ReadLine>,
+    lines: Vec<ReadLine<'_>>,
 ) -> Result<Vec<StoredTable>, NoMemory>
     requires few { length versions.now.list.items < 2 ^ 32 }
-    requires tables { AllByRecursion IsTable (lines_seen (lifelines_of (versions_of versions.now)) lines.items) }
+    requires tables { CanAllBeMade (lifelines_of (versions_of versions.now)) lines.items }
     requires enough { length (lifelines_of (versions_of versions.now)) ≤ length lines.items }
-    ensures { IfOk result (λ v. map bare v.items ≡ map store_of (lines_seen (lifelines_of (versions_of versions.now)) lines.items)) }
+    ensures { IfOk result (λ v. map bare v.items ≡ map store_of (lines_seen (lifelines_of (versions_of versions.now)) lines.entry.items)) }
 {
     let due = due_lines(alloc, versions)?;
     restored_tables(alloc, &due, lines)
 }
 
 // The groups of an image that was read, and its last stamp.
-fn restored(alloc: Global, image: ReadImage) -> Result<(Groups, Option<u64>), NoMemory>
-    requires { IsImage (image_seen image) }
-    ensures image { IfOk result (λ it. image_in it.0 it.1 ≡ image_seen image) }
-    ensures shows { (n : ℕ) → IfOk result (λ it. Shows it.0 (image_past n (image_seen image))) }
+fn restored(alloc: Global, image: ReadImage<'_>) -> Result<(Groups, Option<u64>), NoMemory>
+    requires lawful { IsImage (image_seen image) }
+    requires order { All IsOrdered image.lines.items }
+    ensures image { IfOk result (λ it. image_in it.0 it.1 ≡ image_seen image.entry) }
+    ensures shows { (n : ℕ) → IfOk result (λ it. Shows it.0 (image_past n (image_seen image.entry))) }
 {
     let ReadImage {
         last,

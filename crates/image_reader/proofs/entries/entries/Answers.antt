@@ -17,7 +17,7 @@ returns-in_default c =
 
 pub returns-in_err-cell : goal.returns-in_err-cell
 returns-in_err-cell c =
-    let f = err_from_is_err_and c.from_residual.result c.from_residual.ensures.1 in
+    let f = err_from_is_err_and c.from_residual-in_err-cell.result c.from_residual-in_err-cell.ensures.1 in
     rw (f.1, f.2)
     (entry_failed c.args.last c.args.kind (spec.entries c.args.last c.args.kind c.args.count 0 c.args.keys.now c.args.reader.now.rest.now) (map cell_seen c.loop.list.items) c.args.count c.loop.counter c.loop.due.id (keys_left c.args.keys.now c.loop.due)
     c.loop.reader.rest.now c.loop.invariant.so c.in-Some.left (drop (c.loop.due.id + 1) c.args.keys.now) c.loop-test.true (ap (with_left c.args.keys.now c.loop.due.id) c.in-Some.is) c.in_err-cell.field-0.0 c.entry.new.reader.rest.now c.in_err-cell.ensures.reads)
@@ -50,7 +50,7 @@ returns-in-Some-left c =
     key_left c.args.last c.args.kind (spec.entries c.args.last c.args.kind c.args.count 0 c.args.keys.now c.args.reader.now.rest.now) (map cell_seen c.loop.list.items) c.args.count c.loop.counter c.loop.due.id (keys_left c.args.keys.now c.loop.due)
     c.loop.reader.rest.now c.loop.invariant.so c.in-Some-left.field-0 (drop (c.loop.due.id + 1) c.args.keys.now) c.loop-test.false (ap (with_left c.args.keys.now c.loop.due.id) c.in-Some-left.is)
 
-pub returns-in-None : goal.returns-in-None
-returns-in-None c =
+pub returns : goal.returns
+returns c =
     entries_taken c.args.last c.args.kind (spec.entries c.args.last c.args.kind c.args.count 0 c.args.keys.now c.args.reader.now.rest.now) (map cell_seen c.loop.list.items) c.args.count c.loop.counter c.loop.due.id (keys_left c.args.keys.now c.loop.due)
     c.loop.reader.rest.now c.loop.invariant.so c.loop-test.false (ap (with_left c.args.keys.now c.loop.due.id) c.in-None.is)

@@ -1,5 +1,6 @@
 use Rattle.std.proofs.Common.{sym, ap, ◌∙◌, arith}
 use Rattle.relations.specs.Spans.{span}
+use Rattle.prima_base.specs.Order.{shown}
 use Rattle.command_spelling.specs.Reading.{Got, map_to, pair}
 use Rattle.command_spelling.specs.Reader.{value}
 use Rattle.image_spelling.specs.Judged.{is_due}
@@ -19,7 +20,7 @@ returns-in-Ok c =
     record {
       reads =
           judged_got (map_to cell_of (pair (pair number_64 value) period)) (is_due c.args.last c.args.kind c.args.id c.args.left) (unjudged_seen read) c.args.reader.now.rest.now c.entry_read.new.reader.rest.now c.in-Ok.ensures (sym c.if-is_due.ensures)
-          ∙ ap (λ p. Got (record { id = read.id; value = read.value; period = p }) c.entry_read.new.reader.rest.now) (ap (λ s. span s read.end) (sym c.between-period.ensures.start) ∙ ap (λ e. span c.between-period.result.start e) (sym c.between-period.ensures.end));
+          ∙ ap (λ p. Got (record { id = read.id; value = shown read.value; period = p }) c.entry_read.new.reader.rest.now) (ap (λ s. span s read.end) (sym c.between-period.ensures.start) ∙ ap (λ e. span c.between-period.result.start e) (sym c.between-period.ensures.end));
       within = omega (arith, within, end);
     }
 
@@ -30,9 +31,9 @@ returns-in-Ok-2 c = record {
   within = tt;
 }
 
-pub returns-in-Err : goal.returns-in-Err
+pub returns : goal.returns
 unfolding entry
-returns-in-Err c = record {
+returns c = record {
   reads = judged_fails (map_to cell_of (pair (pair number_64 value) period)) (is_due c.args.last c.args.kind c.args.id c.args.left) c.in-Err.stop c.args.reader.now.rest.now c.entry_read.new.reader.rest.now c.in-Err.ensures;
   within = tt;
 }

@@ -1,24 +1,27 @@
 use Rattle.std.proofs.lemmas.Result.{err_from_is_err_and}
 use Rattle.std.proofs.lemmas.List.{length-map, take_all}
-use Rattle.std.proofs.Common.{◌≡◌, ◌+◌, ◌-◌, ◌≤◌, ◌++◌, ◌∷◌, [], map, length, take, drop, sym, ap, ◌∙◌, length-append, arith}
+use Rattle.std.proofs.lemmas.List.Elements.{All-push}
+use Rattle.std.specs.Prelude.{All}
+use Rattle.std.proofs.Common.{◌≡◌, ◌+◌, ◌-◌, ◌≤◌, ◌++◌, ◌∷◌, [], map, length, take, drop, sym, ap, subst, ◌∙◌, length-append, arith}
 use Rattle.command_spelling.specs.Reading.{Got, and_then, prepend}
 use Rattle.image_spelling.specs.Items.{item}
 use Rattle.image_spelling.specs.Reader as spec
 use Rattle.image_reader.specs.Seen.{line_seen, stored_seen, lines_seen}
+use Rattle.image_reader.specs.Showing.{IsOrdered}
 use Rattle.image_reader.proofs.ItemSteps.{counted_fails, behind_fails}
 use Rattle.image_reader.proofs.ListPlaces.{dropped_here, none_dropped, got_map, some_dropped}
 use Rattle.image_reader.proofs.ListSteps.{line_taken, line_failed, due_missing, due_left, lines_taken, lines_pushed}
 use Rattle.image_reader.proofs.lines.all_lines.Goals as goal
 
-pub returns-in_err-count : goal.returns-in_err-count
+pub returns-in_err-count-clause-lines : goal.returns-in_err-count-clause-lines
 unfolding spec.all_lines
-returns-in_err-count c =
+returns-in_err-count-clause-lines c =
     let f = err_from_is_err_and c.from_residual.result c.from_residual.ensures.1 in
     rw (f.1, f.2) (counted_fails (item spec.number_32) (λ n. spec.lines c.args.last n (map line_seen c.args.due.now)) c.args.reader.now.rest.now c.in_err-count.field-0.0 c.count_32.new.reader.rest.now c.in_err-count.ensures)
 
-pub returns-in_default : goal.returns-in_default
+pub returns-in_default-clause-lines : goal.returns-in_default-clause-lines
 unfolding spec.all_lines
-returns-in_default c =
+returns-in_default-clause-lines c =
     let due = map line_seen c.args.due.now in
     let whole = spec.lines c.args.last c.in_ok-count.count due c.count_32.new.reader.rest.now in
     let n = length-map c.args.due.now line_seen in
@@ -28,16 +31,16 @@ returns-in_default c =
     ∙ due_missing c.args.last whole (lines_seen (take c.loop-i.i due) c.loop-i.list.items) c.in_ok-count.count c.loop-i.i (drop c.loop-i.i due) c.loop-i.reader.rest.now c.loop-i.invariant.so c.loop-i-test.true
     (none_dropped due c.loop-i.i (omega (arith, n, past)))
 
-pub returns-in_err-stored_line : goal.returns-in_err-stored_line
+pub returns-in_err-stored_line-clause-lines : goal.returns-in_err-stored_line-clause-lines
 unfolding spec.all_lines
-returns-in_err-stored_line c =
+returns-in_err-stored_line-clause-lines c =
     let f = err_from_is_err_and c.from_residual-in_err-stored_line.result c.from_residual-in_err-stored_line.ensures.1 in
     let due = map line_seen c.args.due.now in
     let whole = spec.lines c.args.last c.in_ok-count.count due c.count_32.new.reader.rest.now in
     let here = dropped_here line_seen c.args.due.now c.loop-i.i c.in-Some.line.now c.in-Some.ensures.lookup.3.0 c.in-Some.ensures.lookup.1 in
     rw (f.1, f.2) (behind_fails (item spec.number_32) (λ n. spec.lines c.args.last n due) c.args.reader.now.rest.now c.in_ok-count.count c.count_32.new.reader.rest.now c.in_ok-count.ensures c.in_err-stored_line.field-0.0 c.stored_line.new.reader.rest.now
     (line_failed c.args.last whole (lines_seen (take c.loop-i.i due) c.loop-i.list.items) c.in_ok-count.count c.loop-i.i (drop c.loop-i.i due) c.loop-i.reader.rest.now c.loop-i.invariant.so (line_seen c.in-Some.line.now) (drop (c.loop-i.i + 1) due)
-    c.loop-i-test.true here c.in_err-stored_line.field-0.0 c.stored_line.new.reader.rest.now c.in_err-stored_line.ensures))
+    c.loop-i-test.true here c.in_err-stored_line.field-0.0 c.stored_line.new.reader.rest.now c.in_err-stored_line.ensures.line))
 
 pub loop-i-preserved : goal.loop-i-preserved
 loop-i-preserved c =
@@ -60,15 +63,16 @@ loop-i-preserved c =
     let items = ap length c.in_ok-push.ensures.items in
     record {
       so =
-          line_taken c.args.last whole l c.in_ok-count.count i (drop i due) c.loop-i.reader.rest.now c.loop-i.invariant.so line (drop (i + 1) due) c.loop-i-test.true here (stored_seen line x) rest c.in_ok-stored_line.ensures
+          line_taken c.args.last whole l c.in_ok-count.count i (drop i due) c.loop-i.reader.rest.now c.loop-i.invariant.so line (drop (i + 1) due) c.loop-i-test.true here (stored_seen line x) rest c.in_ok-stored_line.ensures.line
           ∙ ap (λ m. prepend m (spec.lines c.args.last (c.in_ok-count.count - (i + 1)) (drop (i + 1) due) rest)) (sym pushed);
       within = omega (arith, under);
       counted = omega (arith, items, many, counted);
+      ordered = subst (All IsOrdered) (sym c.in_ok-push.ensures.items) (All-push IsOrdered c.loop-i.list.items x c.loop-i.invariant.ordered c.in_ok-stored_line.ensures.order);
     }
 
-pub returns-then-count-due : goal.returns-then-count-due
+pub returns-then-count-due-clause-lines : goal.returns-then-count-due-clause-lines
 unfolding spec.all_lines
-returns-then-count-due c =
+returns-then-count-due-clause-lines c =
     let due = map line_seen c.args.due.now in
     let whole = spec.lines c.args.last c.in_ok-count.count due c.count_32.new.reader.rest.now in
     let n = length-map c.args.due.now line_seen in
@@ -78,9 +82,9 @@ returns-then-count-due c =
     ap (λ o. and_then o (λ k. spec.lines c.args.last k due)) c.in_ok-count.ensures
     ∙ due_left c.args.last whole (lines_seen (take c.loop-i.i due) c.loop-i.list.items) c.in_ok-count.count c.loop-i.i (drop c.loop-i.i due) c.loop-i.reader.rest.now c.loop-i.invariant.so some.0 some.1 c.loop-i-test.false some.2
 
-pub returns : goal.returns
+pub returns-clause-lines : goal.returns-clause-lines
 unfolding spec.all_lines
-returns c =
+returns-clause-lines c =
     let due = map line_seen c.args.due.now in
     let whole = spec.lines c.args.last c.in_ok-count.count due c.count_32.new.reader.rest.now in
     let n = length-map c.args.due.now line_seen in

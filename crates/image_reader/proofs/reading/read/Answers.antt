@@ -5,4 +5,4 @@ use Rattle.image_reader.proofs.reading.read.Goals as goal
 
 pub returns-in-Ok-clause-image : goal.returns-in-Ok-clause-image
 returns-in-Ok-clause-image c =
-    c.in-Ok.ensures ∙ ap (λ r. Got (image_seen c.in-Ok.image) r) (c.an_image_is_what_is_read.ensures.right c.args.bytes.now (image_seen c.in-Ok.image) c.image.new.reader.rest.now c.in-Ok.ensures).2
+    c.in-Ok.ensures.image ∙ ap (λ r. Got (image_seen c.in-Ok.image) r) (c.an_image_is_what_is_read.ensures.right c.args.bytes.now (image_seen c.in-Ok.image) c.image.new.reader.rest.now c.in-Ok.ensures.image).2

@@ -3,8 +3,8 @@ use Rattle.image_spelling.specs.Images.{Image}
 use Rattle.image_reader.specs.Seen.{image_seen}
 use Rattle.store_image.proofs.reading.read_image.Goals as goal
 
-pub restored-requires : goal.restored-requires
-restored-requires c = (c.an_image_is_what_is_read.ensures.right c.args.bytes.now (image_seen c.in-Ok.image) [] c.in-Ok.ensures.image).0
+pub restored-requires-clause-lawful : goal.restored-requires-clause-lawful
+restored-requires-clause-lawful c = (c.an_image_is_what_is_read.ensures.right c.args.bytes.now (image_seen c.in-Ok.image) [] c.in-Ok.ensures.image).0
 
 pub returns-in-Ok-restored-clause-image : goal.returns-in-Ok-restored-clause-image
 returns-in-Ok-restored-clause-image c = (

@@ -7,22 +7,24 @@ use Rattle.image_spelling.specs.ShownPast.{image_past}
 use Rattle.image_reader.specs.Seen.{image_seen}
 use Rattle.version_groups.specs.Restoring.{IsPastOf}
 use Rattle.store_image.specs.ImageIn.{image_in, bare}
-use Rattle.store_image.proofs.RestoredImages.{all_tables, enough_lines, same_columns, same_image, past_of}
+use Rattle.store_image.proofs.RestoredImages.{all_made, some_cells, enough_lines, same_columns, same_image, past_of}
 use Rattle.store_image.proofs.reading.restored.Goals as goal
 
 pub tables_of-requires-clause-tables : goal.tables_of-requires-clause-tables
-tables_of-requires-clause-tables c = all_tables c.args.image.last (image_seen c.args.image).lines c.requires.each
+tables_of-requires-clause-tables c =
+    let is = c.requires.lawful in
+    all_made c.args.image.last (lifelines_of (versions_of c.args.image.versions)) c.args.image.lines.items is.each (some_cells (image_seen c.args.image) is) c.requires.order
 
 pub tables_of-requires-clause-enough : goal.tables_of-requires-clause-enough
-tables_of-requires-clause-enough c = enough_lines (lifelines_of (versions_of c.args.image.versions)) c.args.image.lines.items c.requires.lines
+tables_of-requires-clause-enough c = enough_lines (lifelines_of (versions_of c.args.image.versions)) c.args.image.lines.items c.requires.lawful.lines
 
 pub restore-requires-clause-stores : goal.restore-requires-clause-stores
-restore-requires-clause-stores c = same_columns c.in_ok-tables.tables.items (image_seen c.args.image).lines c.in_ok-tables.ensures ∙ ap columns_of c.requires.lines
+restore-requires-clause-stores c = same_columns c.in_ok-tables.tables.items (image_seen c.args.image).lines c.in_ok-tables.ensures ∙ ap columns_of c.requires.lawful.lines
 
 pub returns-clause-image : goal.returns-clause-image
 returns-clause-image c =
     let groups = c.in_ok-groups.ensures in
-    same_image c.in_ok-groups.groups (image_seen c.args.image) (ap (λ (vs : List Version). map version_of vs) groups.versions) groups.restored.lifelines c.requires.lines (ap (map bare) groups.stores ∙ c.in_ok-tables.ensures)
+    same_image c.in_ok-groups.groups (image_seen c.args.image) (ap (λ (vs : List Version). map version_of vs) groups.versions) groups.restored.lifelines c.requires.lawful.lines (ap (map bare) groups.stores ∙ c.in_ok-tables.ensures)
 
 pub returns-clause-shows : goal.returns-clause-shows
 returns-clause-shows c = λ n.
@@ -31,4 +33,4 @@ returns-clause-shows c = λ n.
     let same : image_in kept image.last ≡ image = returns-clause-image c in
     let restored = c.in_ok-groups.ensures.restored in
     c.restored_shows.ensures (image_past n image) restored
-    (subst (λ i. IsPastOf kept (image_past n i)) same (past_of kept image.last n (subst IsImage (sym same) c.requires) restored.lifelines))
+    (subst (λ i. IsPastOf kept (image_past n i)) same (past_of kept image.last n (subst IsImage (sym same) c.requires.lawful) restored.lifelines))

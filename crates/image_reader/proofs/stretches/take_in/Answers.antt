@@ -1,10 +1,11 @@
 use Rattle.std.proofs.Common.{◌≡◌, ◌+◌, ◌++◌, ◌∷◌, [], ◌≤◌, drop, set, sym, ap, ◌∙◌, append_assoc, arith}
-use Rattle.image_reader.specs.declared.overlaps.Stretch.{Stretch}
+use Rattle.prima_base.specs.Order.{shown}
+use Rattle.image_reader.specs.declared.stretches.Stretch.{Stretch}
 use Rattle.image_reader.specs.Seen.{cell_seen}
 use Rattle.image_reader.specs.Stretches.{piece_of, pieces_of, longer, begun, ended_by, given, left_by}
 use Rattle.image_reader.proofs.ListPlaces.{same_got, dropped_set, dropped_behind}
 use Rattle.image_reader.proofs.Walking.{splits_given, splits_left, meets_given, meets_left, passes_given, passes_left}
-use Rattle.image_reader.proofs.overlaps.take_in.Goals as goal
+use Rattle.image_reader.proofs.stretches.take_in.Goals as goal
 
 pub returns-then-end-clause-done : goal.returns-then-end-clause-done
 returns-then-end-clause-done c =
@@ -38,7 +39,7 @@ returns-then-end-2-clause-done c =
     let d = c.end-in-walk.ensures.end in
     let t = c.if-end.false in
     let u = c.if-end-2.true in
-    c.in_ok-finish.ensures ∙ ap (λ (x : Stretch). pieces_of c.walk.done.items ++ longer (piece_of x) c.args.cell.now.value x.period ∷ []) (sym c.index-stretches-at-in-walk.is)
+    c.in_ok-finish.ensures ∙ ap (λ (x : Stretch). pieces_of c.walk.done.items ++ longer (piece_of x) (shown c.args.cell.now.value) x.period ∷ []) (sym c.index-stretches-at-in-walk.is)
     ∙ ap (λ l. pieces_of c.walk.done.items ++ l) (sym (meets_given c.walk.stretches c.walk.at s (cell_seen c.args.cell.now) c.walk-test.true c.index-stretches-at-in-walk.is (omega (arith, a, b, t)) (sym b ∙ u ∙ d)))
     ∙ c.walk.invariant.done
 

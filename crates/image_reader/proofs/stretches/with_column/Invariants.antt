@@ -1,7 +1,7 @@
 use Rattle.std.proofs.Common.{◌≡◌, ◌++◌, map, drop}
 use Rattle.image_reader.specs.Seen.{cell_seen}
 use Rattle.image_reader.specs.Stretches.{pieces_of, merged}
-use Rattle.image_reader.proofs.overlaps.with_column.Given as goal
+use Rattle.image_reader.proofs.stretches.with_column.Given as goal
 
 abbrev pub invariant-loop-cell : goal.invariant-loop-cell
 invariant-loop-cell l =

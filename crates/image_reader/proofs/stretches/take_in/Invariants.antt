@@ -1,7 +1,7 @@
 use Rattle.std.proofs.Common.{◌≡◌, ◌++◌, ◌-◌, drop, length}
 use Rattle.image_reader.specs.Seen.{cell_seen}
 use Rattle.image_reader.specs.Stretches.{pieces_of, given, left_by}
-use Rattle.image_reader.proofs.overlaps.take_in.Given as goal
+use Rattle.image_reader.proofs.stretches.take_in.Given as goal
 
 abbrev pub invariant-walk : goal.invariant-walk
 invariant-walk l = record {

@@ -1,27 +1,21 @@
-//! Whether two ids show one row at one moment.
+//! The stretches in which each id shows one row.
 
-ghost use Rattle.std.specs.Prelude.{◌≡◌, ◌++◌, ◌∷◌, [], ◌<◌, ◌≤◌, ℕ, List, Option, map, drop, length, IfOk, OnOk};
-ghost use Rattle.prima_base.specs.Columns.{Column};
+ghost use Rattle.std.specs.Prelude.{◌≡◌, ◌++◌, ◌∷◌, [], ◌<◌, ◌≤◌, map, drop, length, IfOk, OnOk};
 ghost use Rattle.prima_base.specs.Order.{shown};
-ghost use Rattle.prima_base.specs.Timed.{entry_of, entries_of};
-ghost use Rattle.command_spelling.specs.Reading.{Got};
-ghost use Rattle.image_spelling.specs.Judged.{are_apart};
-ghost use Rattle.image_spelling.specs.Reader as spec;
 ghost use Rattle.image_reader.specs.Seen.{cell_seen, cells_seen};
-ghost use Rattle.image_reader.specs.Stretches.{piece_of, pieces_of, bare_from, longer, begun, ended_by, given, left_by, merged, all_merged, entry_in, clash, none_clash};
+ghost use Rattle.image_reader.specs.Stretches.{piece_of, pieces_of, bare_from, longer, begun, ended_by, given, left_by, merged, all_merged};
 
-use coalesce::same_values;
 use history_store::Cell;
-use prima_base::{NoMemory, Period, TimedRow, Val};
+use prima_base::{NoMemory, Period, Val};
 use std::alloc::Global;
 use std::mem;
 
-// An id shows these values in this period. They are lent.
+/// An id shows these values in this period. They are lent.
 #[derive(Drop)]
-struct Stretch<'a> {
-    id: u64,
-    values: Vec<Val<'a>>,
-    period: Period,
+pub(crate) struct Stretch<'a> {
+    pub(crate) id: u64,
+    pub(crate) values: Vec<Val<'a>>,
+    pub(crate) period: Period,
 }
 
 // A stretch without a value for each key.
@@ -44,13 +38,13 @@ fn put<'a>(
     done: &mut Vec<Stretch<'a>>,
     id: u64,
     values: Vec<Val<'a>>,
-    cell: &'a Cell,
+    cell: &Cell<'a>,
     period: Period,
 ) -> Result<(), NoMemory>
-    ensures { OnOk result (pieces_of done.new.items ≡ pieces_of done.old.items ++ longer (record { id = id; row = map shown values.entry.items; period = period }) cell.now.value period ∷ []) }
+    ensures { OnOk result (pieces_of done.new.items ≡ pieces_of done.old.items ++ longer (record { id = id; row = map shown values.entry.items; period = period }) (shown cell.now.value) period ∷ []) }
 {
     let mut values = values;
-    values.push(cell.value.lend())?;
+    values.push(cell.value.copy()?)?;
     done.push(Stretch { id, values, period })?;
     Ok(())
 }
@@ -70,9 +64,9 @@ fn lent_again<'a>(alloc: Global, values: &[Val<'a>]) -> Result<Vec<Val<'a>>, NoM
 fn finish<'a>(
     done: &mut Vec<Stretch<'a>>,
     stretch: &mut Stretch<'a>,
-    cell: &'a Cell,
+    cell: &Cell<'a>,
 ) -> Result<(), NoMemory>
-    ensures { OnOk result (pieces_of done.new.items ≡ pieces_of done.old.items ++ longer (piece_of stretch.old) cell.now.value stretch.old.period ∷ []) }
+    ensures { OnOk result (pieces_of done.new.items ≡ pieces_of done.old.items ++ longer (piece_of stretch.old) (shown cell.now.value) stretch.old.period ∷ []) }
 {
     let none = Vec::new(*stretch.values.allocator());
     let values = mem::replace(&mut stretch.values, none);
@@ -83,7 +77,7 @@ fn finish<'a>(
 fn split<'a>(
     done: &mut Vec<Stretch<'a>>,
     stretch: &mut Stretch<'a>,
-    cell: &'a Cell,
+    cell: &Cell<'a>,
 ) -> Result<(), NoMemory>
     requires { cell.now.period.end < stretch.old.period.end }
     ensures done { OnOk result (pieces_of done.new.items ≡ pieces_of done.old.items ++ begun (piece_of stretch.old) (cell_seen cell.now)) }
@@ -103,7 +97,7 @@ fn take_in<'a>(
     done: &mut Vec<Stretch<'a>>,
     stretches: &mut [Stretch<'a>],
     from: usize,
-    cell: &'a Cell,
+    cell: &Cell<'a>,
 ) -> Result<usize, NoMemory>
     ensures done { OnOk result (pieces_of done.new.items ≡ pieces_of done.old.items ++ given (drop from (pieces_of stretches.old)) (cell_seen cell.now)) }
     ensures left { IfOk result (λ at. drop at (pieces_of stretches.new) ≡ left_by (drop from (pieces_of stretches.old)) (cell_seen cell.now)) }
@@ -128,7 +122,7 @@ fn take_in<'a>(
 fn with_column<'a>(
     alloc: Global,
     stretches: Vec<Stretch<'a>>,
-    cells: &'a [Cell],
+    cells: &[Cell<'a>],
 ) -> Result<Vec<Stretch<'a>>, NoMemory>
     ensures { IfOk result (λ v. pieces_of v.items ≡ merged (pieces_of stretches.entry.items) (map cell_seen cells.now)) }
 {
@@ -141,11 +135,11 @@ fn with_column<'a>(
     Ok(done)
 }
 
-// The stretches in which each id shows one row.
-fn all_stretches<'a>(
+/// The stretches in which each id shows one row, by id and start.
+pub(crate) fn all_stretches<'a>(
     alloc: Global,
     keys: &[Period],
-    cells: &'a [Vec<Cell>],
+    cells: &[Vec<Cell<'a>>],
 ) -> Result<Vec<Stretch<'a>>, NoMemory>
     ensures { IfOk result (λ v. pieces_of v.items ≡ all_merged (bare_from 0 keys.now) (cells_seen cells.now)) }
 {
@@ -154,60 +148,4 @@ fn all_stretches<'a>(
         stretches = with_column(alloc, stretches, column)?;
     }
     Ok(stretches)
-}
-
-// The rows of the stretches, with their periods.
-fn rows_of<'a>(alloc: Global, stretches: Vec<Stretch<'a>>) -> Result<Vec<TimedRow<'a>>, NoMemory>
-    ensures { IfOk result (λ rows. entries_of rows.items ≡ map entry_in (pieces_of stretches.entry.items)) }
-{
-    let mut rows = Vec::with_capacity(alloc, stretches.len())?;
-    for stretch in stretches {
-        rows.push(TimedRow {
-            values: stretch.values,
-            period: stretch.period,
-        })?;
-    }
-    Ok(rows)
-}
-
-// Whether two rows are one and their periods have a common moment.
-fn clash(a: &TimedRow<'_>, b: &TimedRow<'_>) -> bool
-    ensures { result ≡ clash (entry_of a.now) (entry_of b.now) }
-{
-    if b.period.end() <= a.period.start() || a.period.end() <= b.period.start() {
-        return false;
-    }
-    same_values(&a.values, &b.values)
-}
-
-// Whether no row clashes with the next.
-fn none_clash(rows: &[TimedRow<'_>]) -> bool
-    ensures { result ≡ none_clash (entries_of rows.now) }
-{
-    for i in 1..rows.len() {
-        if clash(&rows[i - 1], &rows[i]) {
-            return false;
-        }
-    }
-    true
-}
-
-/// Whether no two ids show one row at a moment at which an entry begins, by keys and the entries that were read for them. Of rows in
-/// order, with their periods, each is looked at with the next: for n entries it takes in the order of n log n comparisons of rows. The one
-/// error is `NoMemory`, where memory runs out.
-pub(crate) fn are_apart(
-    alloc: Global,
-    keys: &[Period],
-    cells: &[Vec<Cell>],
-) -> Result<bool, NoMemory>
-    requires { (last : Option ℕ) × (columns : List Column) × (ts : List ℕ) × (rest : List ℕ) × (spec.columns last keys.now columns ts ≡ Got (cells_seen cells.now) rest) }
-    ensures { IfOk result (λ b. b ≡ are_apart keys.now (cells_seen cells.now)) }
-{
-    if cells.is_empty() {
-        return Ok(true);
-    }
-    let stretches = all_stretches(alloc, keys, cells)?;
-    let mut rows = rows_of(alloc, stretches)?;
-    rows.sort_unstable();
-    Ok(none_clash(&rows))
 }
