@@ -8,3 +8,4 @@ pub mod LevelLaws
 pub mod CoalescedRows
 pub mod PrunedRows
 pub mod RunLaws
+pub mod SingleAtoms

@@ -1,3 +1,4 @@
 pub mod Sources
 pub mod Grouping
 pub mod Levels
+pub mod InSlice

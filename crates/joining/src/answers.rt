@@ -57,8 +57,8 @@ fn output_row<'a>(
     Ok(row)
 }
 
-// Puts the values of the outputs behind the other rows, where the choice meets the condition.
-fn put_answer<'a>(
+/// Puts the values of the outputs behind the other rows, where the choice meets the condition.
+pub(crate) fn put_answer<'a>(
     alloc: Global,
     rows: &mut Vec<TimedRow<'a>>,
     outs: &[Expr],

@@ -11,10 +11,34 @@ ghost use Rattle.timed_choices.specs.Blocks.{answered};
 ghost use Rattle.joining.specs.Sources.{AtomsLent, atom_rows, blocks_of, AreNumbered, HaveAtoms};
 
 use crate::orders::join_in_order;
+use crate::single_atom::answer_atom;
 use crate::sources::Atom;
 use cond_expr::{Cond, Expr};
 use prima_base::{NoMemory, Period, TimedRow};
 use std::alloc::Global;
+
+// What outputs answer of the choices of one row of each atom that hold together and meet the condition. Where there is one atom
+// alone nothing is joined.
+fn answer_atoms<'a>(
+    alloc: Global,
+    outs: &[Expr],
+    cond: &Cond,
+    atoms: Vec<Atom<'a>>,
+    slice: Period,
+) -> Result<Vec<TimedRow<'a>>, NoMemory>
+    requires { AreNumbered atoms.items }
+    ensures lent { AtomsLent atoms.entry.items → IfOk result (λ rows. AllStayLent (map tree outs.now) rows.items) }
+    ensures inside { (m : ℕ) → covers slice m ≡ false → IfOk result (λ rows. rows_at rows.items m ≡ []) }
+    ensures rows { (m : ℕ) → covers slice m ≡ true → IfOk result (λ rows. rows_at rows.items m ≡ answered (map tree outs.now) (test cond.now) (blocks_of m atoms.entry.items)) }
+{
+    let mut atoms = atoms;
+    if atoms.len() == 1
+        && let Some(atom) = atoms.pop()
+    {
+        return answer_atom(alloc, outs, cond, atom, slice);
+    }
+    join_in_order(alloc, outs, cond, atoms, slice)
+}
 
 /// What outputs and a condition answer over one list of rows with periods for each atom, at each moment of the slice: the
 /// outputs of the choices of one row of each that hold together and meet the condition. A reference is to the atom of its
@@ -35,5 +59,5 @@ pub fn answer_choices<'a>(
     ensures rows { (columns : List (List TableColumn)) → HaveAtoms 0 columns atoms.entry.items → (m : ℕ) → covers slice m ≡ true
         → IfOk result (λ rows. rows_at rows.items m ≡ set_of row_cmp (answers_over columns (atom_rows atoms.entry.items m) (map tree outs.now) (test cond.now))) }
 {
-    join_in_order(alloc, outs, cond, atoms, slice)
+    answer_atoms(alloc, outs, cond, atoms, slice)
 }

@@ -12,7 +12,7 @@ mod own_parts;
 mod parts;
 mod places;
 mod plans;
-mod references;
+mod single_atom;
 mod sources;
 mod steps;
 

@@ -4,7 +4,7 @@ ghost use Rattle.std.specs.Prelude.{◌≡◌, ◌+◌, ◌++◌, true, List, le
 ghost use Rattle.std.specs.Ordering.{is_eq};
 ghost use Rattle.prima_base.specs.declared.values.Value.{Value as OneValue};
 ghost use Rattle.prima_base.specs.Order.{value_cmp};
-ghost use Rattle.cond_expr.specs.Rows.{names, same};
+ghost use Rattle.cond_expr.specs.Rows.{names};
 ghost use Rattle.cond_expr.specs.Seen.{tree, test};
 ghost use Rattle.cond_expr.specs.Faults.{test_references};
 ghost use Rattle.cond_expr.specs.Values.{value};
@@ -12,17 +12,9 @@ ghost use Rattle.timed_choices.specs.Keeping.{value_at, cells, meets, meets_all,
 ghost use Rattle.timed_choices.specs.Placing.{place, is_below, all_below};
 ghost use Rattle.cond_expr.specs.References.{lent};
 
-use crate::references::gather_cond;
-use cond_expr::{CmpOp, ColRef, Column, Cond, Expr, Whose};
-use prima_base::{Name, NoMemory};
+use cond_expr::{CmpOp, ColRef, Column, Cond, Expr, Whose, gather_references};
+use prima_base::{NoMemory, same_name};
 use std::alloc::Global;
-
-// Whether two names are the same.
-fn same_name(a: &Name, b: &Name) -> bool
-    ensures { result ≡ same a.now b.now }
-{
-    a.bytes() == b.bytes()
-}
 
 // Whether the reference names the column.
 fn is_named(reference: &ColRef, column: &Column) -> bool
@@ -75,7 +67,7 @@ pub(crate) fn is_settled(
     ensures { IfOk result (λ b. b ≡ all_below columns.now (taken + width) (test_references (test cond.now))) }
 {
     let mut references = Vec::new(alloc);
-    gather_cond(&mut references, cond)?;
+    gather_references(&mut references, &[], cond)?;
     Ok(are_within(columns, &references, taken, width))
 }
 
@@ -97,12 +89,12 @@ pub(crate) fn is_behind(
     taken: usize,
 ) -> Result<bool, NoMemory> {
     let mut references = Vec::new(alloc);
-    gather_cond(&mut references, cond)?;
+    gather_references(&mut references, &[], cond)?;
     Ok(are_behind(columns, &references, taken))
 }
 
-// The place whose value the expression is.
-fn column_place(columns: &[Column], expr: &Expr) -> Option<usize>
+/// The place whose value the expression is.
+pub(crate) fn column_place(columns: &[Column], expr: &Expr) -> Option<usize>
     ensures { IfSome result (λ i. (row : List OneValue) → value (cells columns.now row) (tree expr.now) ≡ value_at row i) }
 {
     match expr {

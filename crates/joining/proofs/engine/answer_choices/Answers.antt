@@ -10,8 +10,8 @@ use Rattle.joining.proofs.AtomOrder.{rows_is}
 use Rattle.joining.proofs.engine.answer_choices.Goals as goal
 
 pub returns-clause-rows : goal.returns-clause-rows
-returns-clause-rows c = λ columns h m k. IfOk-weaker c.join_in_order.result _ _
+returns-clause-rows c = λ columns h m k. IfOk-weaker c.answer_atoms.result _ _
     (λ rows q. q
     ∙ ap (set_of row_cmp) (choices_answered columns (map tree c.args.outs.now) (test c.args.cond.now) c.args.atoms.items m h)
     ∙ ap (λ (rs : List (List (List Value))). set_of row_cmp (answers_over columns rs (map tree c.args.outs.now) (test c.args.cond.now))) (rows_is m c.args.atoms.items))
-    (c.join_in_order.ensures.rows m k)
+    (c.answer_atoms.ensures.rows m k)
