@@ -1,7 +1,8 @@
 -- How a text whose quotes are doubled is cut into pieces: each piece ends with a quote, and the next
 -- begins with the same quote.
-use Rattle.std.proofs.Common.{◌≡◌, ◌≢◌, ◌+◌, ◌-◌, ◌<◌, ◌≤◌, ℕ, List, [], ◌∷◌, ◌++◌, length, take, drop, get_or, sym, ap, ◌∙◌, append_assoc, append-nil, arith, length-drop, false}
-use Rattle.std.specs.Prelude.{◌==◌, if◌then◌else◌}
+use Rattle.std.proofs.Common.{◌≡◌, ◌≢◌, ◌+◌, ◌-◌, ◌<◌, ◌≤◌, ℕ, List, [], ◌∷◌, ◌++◌, length, take, drop, get_or, refl, sym, ap, ◌∙◌, append_assoc, append-nil, arith, length-drop, false}
+use Rattle.std.specs.Prelude.{◌==◌, ◌||◌, Bool, true, if◌then◌else◌}
+use Rattle.std.specs.List.{list_any}
 use Rattle.std.proofs.lemmas.List.{take_more, drop_more, drop_all, get_or-drop}
 use Rattle.std.proofs.lemmas.Bool.Decides.{nat_tests}
 use Rattle.smo_parse.specs.TreeTexts.{doubled}
@@ -64,3 +65,12 @@ last_piece xs sent s i le ge e =
     e ∙ ap (λ l. sent ++ (take (i - s) (drop s xs) ++ doubled l)) (drop_all i xs ge)
     ∙ ap (λ l. sent ++ l) (append-nil (take (i - s) (drop s xs)))
     ∙ ap (λ k. sent ++ take (k - s) (drop s xs)) at
+
+-- a text without a quote stays as it is
+plain_byte : (b : ℕ) (xs : List ℕ) (q : Bool) → (b == 39) ≡ q → (q || list_any (λ y. y == 39) xs) ≡ false → (list_any (λ y. y == 39) xs ≡ false → doubled xs ≡ xs) → doubled (b ∷ xs) ≡ b ∷ xs
+plain_byte b xs true e k rest = absurd (cc)
+plain_byte b xs false e k rest = ap (λ t. if t then 39 ∷ 39 ∷ doubled xs else b ∷ doubled xs) e ∙ ap (λ l. b ∷ l) (rest k)
+
+pub without_quotes : (xs : List ℕ) → list_any (λ y. y == 39) xs ≡ false → doubled xs ≡ xs
+without_quotes [] h = refl
+without_quotes (b ∷ xs) h = plain_byte b xs (b == 39) refl h (λ k. without_quotes xs k)

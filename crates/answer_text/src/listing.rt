@@ -176,7 +176,7 @@ fn push_text<K: Sink>(line: &mut Line, sink: &mut K, bytes: &[u8]) -> Result<(),
 }
 
 // Each piece that is pushed ends with a quote, and the next begins with the same quote once more.
-fn push_doubled<K: Sink>(line: &mut Line, sink: &mut K, bytes: &[u8]) -> Result<(), Failed>
+fn push_pieces<K: Sink>(line: &mut Line, sink: &mut K, bytes: &[u8]) -> Result<(), Failed>
     ensures all { OnOk result (Gathers (K.written sink.old) line.old (K.written sink.new) line.new (doubled bytes.now)) }
     ensures part { OnErr result (AppendsLess (K.written sink.old) (K.written sink.new) (line.old ++ doubled bytes.now)) }
     ensures cause { HasCause (K.faults sink.old) (K.faults sink.new) result }
@@ -189,4 +189,16 @@ fn push_doubled<K: Sink>(line: &mut Line, sink: &mut K, bytes: &[u8]) -> Result<
         }
     }
     line.push(sink, &bytes[start..])
+}
+
+// The text with its quotes doubled. Most texts have none: these are looked through many bytes at a time, and pushed whole.
+fn push_doubled<K: Sink>(line: &mut Line, sink: &mut K, bytes: &[u8]) -> Result<(), Failed>
+    ensures all { OnOk result (Gathers (K.written sink.old) line.old (K.written sink.new) line.new (doubled bytes.now)) }
+    ensures part { OnErr result (AppendsLess (K.written sink.old) (K.written sink.new) (line.old ++ doubled bytes.now)) }
+    ensures cause { HasCause (K.faults sink.old) (K.faults sink.new) result }
+{
+    if bytes.contains(&b'\'') {
+        return push_pieces(line, sink, bytes);
+    }
+    line.push(sink, bytes)
 }

@@ -1,7 +1,7 @@
 use Rattle.std.proofs.Common.{◌≡◌, ◌≤◌, ◌-◌, ℕ, List, ◌++◌, take, drop}
 use Rattle.answer_text.specs.Gathering.{Gathers}
 use Rattle.smo_parse.specs.TreeTexts.{doubled}
-use Rattle.answer_text.proofs.listing.push_doubled.Given as goal
+use Rattle.answer_text.proofs.listing.push_pieces.Given as goal
 
 abbrev pub invariant-loop-i : goal.invariant-loop-i
 invariant-loop-i g l = (sent : List ℕ)
