@@ -1,5 +1,6 @@
 -- Records read as what they stand for, one after the other.
-use Rattle.std.proofs.Common.{◌≡◌, ◌⊎◌, inl, inr, ℕ, zero, suc, ◌+◌, ◌-◌, ◌<◌, ◌≤◌, ◌^◌, List, [], ◌∷◌, ◌++◌, length, get_or, take, drop, map, refl, sym, subst, ◌∙◌, ap, add-one, arith, append_assoc, length-append, IsTrue}
+use Rattle.std.proofs.Common.{◌≡◌, ◌⊎◌, inl, inr, ℕ, zero, suc, ◌+◌, ◌-◌, ◌<◌, ◌≤◌, ◌^◌, List, [], ◌∷◌, ◌++◌, length, get_or, take, drop, map, refl, sym, subst, ◌∙◌, ap, add-one, arith, append_assoc, length-append, IsTrue, Bool, true}
+use Rattle.std.proofs.lemmas.Bool.{cases_lt}
 use Rattle.std.specs.List.{AllByRecursion}
 use Rattle.std.specs.Prelude.{Some}
 use Rattle.std.proofs.lemmas.List.{map-append, append-nil, take_all, length-map, get_or-drop}
@@ -19,7 +20,7 @@ use Rattle.archive_file.specs.Opening.{HasNoSpellingAt}
 use Rattle.archive_file.proofs.Records.{behind_append, behind_commands, behind_image, accepted_append, accepted_commands, accepted_image, no_images, all_replayed, replayed_behind}
 use Rattle.archive_state.specs.Standing.{Standing, ShowsPast}
 use Rattle.archive_core.specs.declared.reading.ReadRecords.{ReadRecords}
-use Rattle.archive_core.specs.Reading.{AreInPlace, IsRefusedIn, EndsWithImage, commands_kept, AreKept}
+use Rattle.archive_core.specs.Reading.{AreInPlace, IsRefusedIn, EndsWithImage, commands_kept, AreJudged, AreKept, IsRead}
 use Rattle.archive_core.proofs.Gates.{gate_of, ends_before}
 
 -- ---- lists of records
@@ -59,15 +60,46 @@ parts_of (r ∷ recs) (suc k) d inside = ap (λ (l : List Record). plain_record 
 
 -- ---- one record more
 
-all_kept : (front : List LogRecord) (kept : ReadRecords) → List LogRecord
-all_kept front kept = front ++ map logged (commands_kept kept)
+-- they are a log's records
+log_with : (records : List Record) (log : List LogRecord) → records ≡ records_of log → (r : Record) (l : LogRecord) → r ≡ record_of l → records ++ r ∷ [] ≡ records_of (log ++ l ∷ [])
+log_with records log are r l e = (λ i. are i ++ e i ∷ []) ∙ sym (map-append record_of log (l ∷ []))
+
+-- records that are kept were judged
+pub kept_judged : (records : List Record) (kept : ReadRecords) → AreKept records kept → AreJudged records kept.count
+kept_judged records kept is = record { log = is.front ++ map logged (commands_kept kept); spelled = is.spelled; records_are = is.records_are; counted = is.counted }
+
+pub none_judged : (count : ℕ) → count ≡ 0 → AreJudged [] count
+none_judged count is = record { log = []; spelled = tt; records_are = refl; counted = is }
+
+module _ (records : List Record) (count : ℕ) (judged : AreJudged records count) where
+  -- a command is counted
+  pub command_judged : (r : Record) (c : PlainCommand) → r ≡ record_of (logged c) → IsCommand c → AreJudged (records ++ r ∷ []) (count + 1)
+  command_judged r c e is = record {
+    log = judged.log ++ logged c ∷ [];
+    spelled = spelled_append judged.log (logged c ∷ []) judged.spelled (is, tt);
+    records_are = log_with records judged.log judged.records_are r (logged c) e;
+    counted = ap (λ n. n + 1) judged.counted ∙ sym (ap (λ (l : List PlainCommand). length l) (commands_append judged.log (logged c ∷ [])) ∙ length-append (commands_in judged.log) (c ∷ []));
+  }
+
+  -- an image takes the place of what was kept
+  pub image_kept : (new : ReadRecords) (r : Record) (i : Image) → r ≡ record_of (checkpointed i) → IsImage i → ((n : ℕ) → ShowsPast new.state (image_past n i)) → new.commands.items ≡ []
+      → new.count ≡ count → AreKept (records ++ r ∷ []) new
+  image_kept new r i e is shows items same =
+      let front : List LogRecord = judged.log ++ checkpointed i ∷ [] in
+      let log : front ++ map logged (commands_kept new) ≡ front = ap (λ (l : List (ℕ × Body)). front ++ map logged (map command_of l)) items ∙ append-nil front in
+      let all : commands_in front ≡ commands_in judged.log = commands_append judged.log (checkpointed i ∷ []) ∙ append-nil (commands_in judged.log) in
+      record {
+        front = front;
+        ends = inr (judged.log, i, refl);
+        spelled = subst AreSpelled (sym log) (spelled_append judged.log (checkpointed i ∷ []) judged.spelled (is, tt));
+        records_are = log_with records judged.log judged.records_are r (checkpointed i) e ∙ sym (ap records_of log);
+        shows = subst (ShowsPast new.state) (sym (behind_image beginning judged.log i)) (shows (past_recorded judged.log).commands);
+        counted = same ∙ judged.counted ∙ ap (λ (l : List PlainCommand). length l) (sym all) ∙ sym (ap (λ (l : List LogRecord). length (commands_in l)) log);
+      }
 
 module _ (records : List Record) (old new : ReadRecords) (kept : AreKept records old) where
   abbrev whole : List LogRecord
   whole = kept.front ++ map logged (commands_kept old)
-
-  pushed : (r : Record) (l : LogRecord) → r ≡ record_of l → records ++ r ∷ [] ≡ records_of (whole ++ l ∷ [])
-  pushed r l e = (λ i. kept.records_are i ++ e i ∷ []) ∙ sym (map-append record_of whole (l ∷ []))
 
   -- a command is kept
   pub command_kept : (r : Record) (c : ℕ × Body) → r ≡ record_of (logged (command_of c)) → IsCommand (command_of c) → new.state ≡ old.state → new.commands.items ≡ old.commands.items ++ c ∷ []
@@ -83,25 +115,9 @@ module _ (records : List Record) (old new : ReadRecords) (kept : AreKept records
         front = kept.front;
         ends = kept.ends;
         spelled = subst AreSpelled (sym log) (spelled_append whole (logged (command_of c) ∷ []) kept.spelled (is, tt));
-        records_are = pushed r (logged (command_of c)) e ∙ sym (ap records_of log);
+        records_are = log_with records whole kept.records_are r (logged (command_of c)) e ∙ sym (ap records_of log);
         shows = subst (λ (s : Standing). ShowsPast s (past_recorded kept.front)) (sym state) kept.shows;
         counted = count ∙ ap (λ n. n + 1) kept.counted ∙ sym all ∙ sym (ap (λ (l : List LogRecord). length (commands_in l)) log);
-      }
-
-  -- an image takes the place of what was kept
-  pub image_kept : (r : Record) (i : Image) → r ≡ record_of (checkpointed i) → IsImage i → ((n : ℕ) → ShowsPast new.state (image_past n i)) → new.commands.items ≡ []
-      → new.count ≡ old.count → AreKept (records ++ r ∷ []) new
-  image_kept r i e is shows items count =
-      let front : List LogRecord = whole ++ checkpointed i ∷ [] in
-      let log : front ++ map logged (commands_kept new) ≡ front = ap (λ (l : List (ℕ × Body)). front ++ map logged (map command_of l)) items ∙ append-nil front in
-      let all : commands_in front ≡ commands_in whole = commands_append whole (checkpointed i ∷ []) ∙ append-nil (commands_in whole) in
-      record {
-        front = front;
-        ends = inr (whole, i, refl);
-        spelled = subst AreSpelled (sym log) (spelled_append whole (checkpointed i ∷ []) kept.spelled (is, tt));
-        records_are = pushed r (checkpointed i) e ∙ sym (ap records_of log);
-        shows = subst (ShowsPast new.state) (sym (behind_image beginning whole i)) (shows (past_recorded whole).commands);
-        counted = count ∙ kept.counted ∙ ap (λ (l : List PlainCommand). length l) (sym all) ∙ sym (ap (λ (l : List LogRecord). length (commands_in l)) log);
       }
 
 -- nothing was read
@@ -118,23 +134,58 @@ none_kept kept shows items count =
 
 -- ---- in a list
 
-pub one_more_read : (recs : List Rec) (k : ℕ) (d : Rec) (old new : ReadRecords) → k < length recs → (AreInPlace recs → AreKept (take k (records_in recs)) old)
-    → (IsKnown (get_or recs k d).kind → (records : List Record) → AreKept records old → AreKept (records ++ plain_record (get_or recs k d) ∷ []) new)
-    → AreInPlace recs → AreKept (take (k + 1) (records_in recs)) new
-one_more_read recs k d old new inside before reads places =
-    subst (λ (l : List Record). AreKept l new) (sym (one_more recs k d inside)) (reads (known_at recs k d inside places.known) (take k (records_in recs)) (before places))
+-- so many records were read, the first of them before the last image: all are judged, and from the last image on what it and the commands behind it say is kept
+pub record AreReadTo (recs : List Rec) (before k : ℕ) (kept : ReadRecords) : Type 0 where
+  pub judged : AreJudged (take k (records_in recs)) kept.count
+  pub behind : (before ≡ 0) ⊎ (before < k) → AreKept (take k (records_in recs)) kept
 
-pub all_read : (recs : List Rec) (k : ℕ) (kept : ReadRecords) → length recs ≤ k → (AreInPlace recs → AreKept (take k (records_in recs)) kept) → AreInPlace recs → AreKept (records_in recs) kept
-all_read recs k kept inside before places =
-    subst (λ (l : List Record). AreKept l kept) (take_all k (records_in recs) (omega (arith, length-map recs plain_record))) (before places)
+pub none_read : (recs : List Rec) (before : ℕ) (kept : ReadRecords) → ShowsPast kept.state beginning → kept.commands.items ≡ [] → kept.count ≡ 0 → AreReadTo recs before 0 kept
+none_read recs before kept shows items count = record { judged = none_judged kept.count count; behind = λ h. none_kept kept shows items count }
+
+-- where there is an image, the last one stands there
+abbrev pub IsLastImage : List Rec → ℕ → Type 0
+IsLastImage recs before = 0 < before → (before < length recs) × ((d : Rec) → (get_or recs before d).kind ≡ 2)
+
+module _ (recs : List Rec) (before k : ℕ) (d : Rec) (old new : ReadRecords) (is_behind : Bool) (inside : k < length recs) (behind : before ≤ k → is_behind ≡ true) (last : IsLastImage recs before)
+    (reads : IsRead (get_or recs k d) is_behind old new) (places : AreInPlace recs) (here : AreReadTo recs before k old) where
+  abbrev so_far : List Record
+  so_far = take k (records_in recs)
+
+  known : IsKnown (get_or recs k d).kind
+  known = known_at recs k d inside places.known
+
+  kind_is : 0 < before → k ≤ before → (before ≡ 0) ⊎ (before < k + 1) → (get_or recs k d).kind ≡ 2
+  kind_is some le (inl e) = absurd (omega (arith, some, e))
+  kind_is some le (inr lt) = let same : before ≡ k = omega (arith, le, lt) in subst (λ n. (get_or recs n d).kind ≡ 2) same ((last some).1 d)
+
+  kept_with : (before ≡ 0) ⊎ (before < k + 1) → AreKept (so_far ++ plain_record (get_or recs k d) ∷ []) new
+  kept_with h = elim (cases_lt 0 before) [
+    | inr none ↦ reads.kept (behind (omega (arith, none))) known so_far (here.behind (inl (omega (arith, none))))
+    | inl some ↦ elim (cases_lt before k) [
+      | inl lt ↦ reads.kept (behind (omega (arith, lt))) known so_far (here.behind (inr lt))
+      | inr le ↦ reads.image (kind_is some le h) so_far here.judged
+    ]
+  ]
+
+  pub one_more_read : AreReadTo recs before (k + 1) new
+  one_more_read = record {
+    judged = subst (λ (l : List Record). AreJudged l new.count) (sym (one_more recs k d inside)) (reads.judged known so_far here.judged);
+    behind = λ h. subst (λ (l : List Record). AreKept l new) (sym (one_more recs k d inside)) (kept_with h);
+  }
+
+pub all_read : (recs : List Rec) (before k : ℕ) (kept : ReadRecords) → length recs ≤ k → IsLastImage recs before → AreReadTo recs before k kept → AreKept (records_in recs) kept
+all_read recs before k kept inside last here =
+    subst (λ (l : List Record). AreKept l kept) (take_all k (records_in recs) (omega (arith, length-map recs plain_record))) (here.behind reached)
+  where
+    reached : (before ≡ 0) ⊎ (before < k)
+    reached = elim (cases_lt 0 before) [ inr none ↦ inl (omega (arith, none)) | inl some ↦ (let h = (last some).0 in inr (omega (arith, h, inside))) ]
 
 -- a payload is none of its kind, behind records that were read
-pub not_read : (recs : List Rec) (k : ℕ) (d : Rec) (kept : ReadRecords) (place : ℕ) → k < length recs → (AreInPlace recs → AreKept (take k (records_in recs)) kept)
+pub not_read : (recs : List Rec) (k : ℕ) (d : Rec) (count place : ℕ) → k < length recs → AreJudged (take k (records_in recs)) count
     → (IsKnown (get_or recs k d).kind → IsRefusedIn (get_or recs k d).at (plain_record (get_or recs k d)) place) → AreInPlace recs → HasNoSpellingAt (records_in recs) place
-not_read recs k d kept place inside before refuses places =
-    let is = before places in
+not_read recs k d count place inside is refuses places =
     let refused = refuses (known_at recs k d inside places.known) in
-    let log : List LogRecord = is.front ++ map logged (commands_kept kept) in
+    let log : List LogRecord = is.log in
     let gate : (get_or recs k d).at ≡ gate_behind log = gate_of recs k d inside places.places ∙ ap (λ (l : List Record). length (before_gate l)) is.records_are in
     let ends = ends_before recs k d inside in
     let room : (get_or recs k d).at + 10 + length (get_or recs k d).payload.items < 2 ^ 64 = omega (arith, ends, gate_of recs k d inside places.places, places.short) in

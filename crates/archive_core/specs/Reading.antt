@@ -1,9 +1,9 @@
 -- Records read as what they stand for.
-use Rattle.std.specs.Prelude.{◌≡◌, ◌⊎◌, ℕ, ◌+◌, ◌<◌, ◌^◌, List, [], ◌∷◌, ◌++◌, length, map}
+use Rattle.std.specs.Prelude.{◌≡◌, ◌⊎◌, ℕ, ◌+◌, ◌<◌, ◌^◌, Bool, true, List, [], ◌∷◌, ◌++◌, length, map}
 use Rattle.smo_types.specs.Commands.{command_of, PlainCommand}
 use Rattle.image_spelling.specs.Images.{Image}
-use Rattle.journal.specs.Records.{Record, before_gate, AreKnown}
-use Rattle.journal.specs.Reading.{records_in, gates}
+use Rattle.journal.specs.Records.{Record, before_gate, IsKnown, AreKnown}
+use Rattle.journal.specs.Reading.{records_in, record_of as plain_record, gates}
 use Rattle.journal.specs.declared.rec.Rec.{Rec}
 use Rattle.archive_file.specs.LogRecords.{LogRecord, logged, checkpointed, records_of, AreSpelled, commands_in, past_recorded}
 use Rattle.archive_file.specs.Opening.{IsRefusedAt}
@@ -29,6 +29,13 @@ EndsWithImage log = (log ≡ []) ⊎ ((before : List LogRecord) × (i : Image) �
 abbrev pub commands_kept : ReadRecords → List PlainCommand
 commands_kept kept = map command_of kept.commands.items
 
+-- records that were judged: all are spelled, and so many of them are commands
+pub record AreJudged (records : List Record) (count : ℕ) : Type 0 where
+  pub log : List LogRecord
+  pub spelled : AreSpelled log
+  pub records_are : records ≡ records_of log
+  pub counted : count ≡ length (commands_in log)
+
 -- what is kept of records that were read: the archive that the last image shows, or the empty one, the commands behind the image, and how
 -- many commands there are in all
 pub record AreKept (records : List Record) (kept : ReadRecords) : Type 0 where
@@ -38,3 +45,9 @@ pub record AreKept (records : List Record) (kept : ReadRecords) : Type 0 where
   pub records_are : records ≡ records_of (front ++ map logged (commands_kept kept))
   pub shows : ShowsPast kept.state (past_recorded front)
   pub counted : kept.count ≡ length (commands_in (front ++ map logged (commands_kept kept)))
+
+-- one record was read: it was judged behind those before it; an image takes the place of what was kept; and behind the last image a command is kept
+pub record IsRead (rec : Rec) (is_behind : Bool) (old new : ReadRecords) : Type 0 where
+  pub judged : IsKnown rec.kind → (records : List Record) → AreJudged records old.count → AreJudged (records ++ plain_record rec ∷ []) new.count
+  pub image : rec.kind ≡ 2 → (records : List Record) → AreJudged records old.count → AreKept (records ++ plain_record rec ∷ []) new
+  pub kept : is_behind ≡ true → IsKnown rec.kind → (records : List Record) → AreKept records old → AreKept (records ++ plain_record rec ∷ []) new

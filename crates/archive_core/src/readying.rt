@@ -34,11 +34,11 @@ fn seal(alloc: Global, command: &Command) -> Result<Sealed, NoMemory>
 
 /// Judges the command, makes it ready and seals its record. No device is called. The archive shows the past that it
 /// showed, and is as it was but for room.
-pub(crate) fn make_ready(
+pub(crate) fn make_ready<'a>(
     alloc: Global,
     state: &mut ArchiveState,
-    command: &Command,
-) -> Result<(Next, Sealed), CommitFault>
+    command: &'a Command,
+) -> Result<(Next<'a>, Sealed), CommitFault>
     ensures readies { (past : Past) → ShowsPast state.old past → MakesReady past (command_of command.now) state.old result state.new }
     ensures sealed { IfOk result (λ it. sealed_record it.1 ≡ record_of (logged (command_of command.now))) }
     ensures spelled { OnOk result (IsCommand (command_of command.now)) }

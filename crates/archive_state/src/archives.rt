@@ -118,7 +118,7 @@ impl ArchiveState {
     /// other, each whole before the next (22, 27, 23, 35, 25); of an operator the number of versions (38), its preconditions in
     /// written order, and then its inverse (32). The archive stands for the past that it stood for, with the same stored tables
     /// but for room; where the command is refused, it is as it was. `NoMemory` comes where memory runs out.
-    pub fn prepare(&mut self, command: &Command) -> Result<Next, CommitFault>
+    pub fn prepare<'a>(&mut self, command: &'a Command) -> Result<Next<'a>, CommitFault>
         ensures readies { (past : Past) → ShowsPast self.old past → Readies past (command_of command.now) self.old result self.new }
         ensures stands { ShowsSome self.old × ShowsSome self.new }
     {
@@ -131,9 +131,9 @@ impl ArchiveState {
     /// Carries out what `prepare` made of the command and this very archive, which then stands for the past with the
     /// command. It takes no memory, and cannot fail.
     #[tactic(auto, using(crate::proofs::CarriedOut::shows_next, crate::proofs::CarriedOut::newest_next))]
-    pub fn carry_out(&mut self, command: &Command, next: Next) -> Done
+    pub fn carry_out(&mut self, command: &Command, next: Next<'_>) -> Done
         requires { (past : Past) × ShowsPast self.old past × Prepares self.old.groups past (command_of command.now) next }
-        ensures done { (past : Past) → ShowsPast self.old past → Prepares self.old.groups past (command_of command.now) next
+        ensures done { (past : Past) → ShowsPast self.old past → Prepares self.old.groups past (command_of command.now) next.entry
             → IsDone past (command_of command.now) result × ShowsPast self.new (past_with past (command_of command.now)) }
         ensures stands { ShowsSome self.new }
     {
@@ -194,7 +194,7 @@ impl ArchiveState {
     }
 
     // Makes an accepted command ready.
-    fn make_ready(&mut self, command: &Command) -> Result<Next, CommitFault>
+    fn make_ready<'a>(&mut self, command: &'a Command) -> Result<Next<'a>, CommitFault>
         requires { (past : Past) × ShowsPast self.old past × (command_fault past (command_of command.now) ≡ None) }
         ensures { (past : Past) → ShowsPast self.old past → command_fault past (command_of command.now) ≡ None
             → Readies past (command_of command.now) self.old result self.new }
