@@ -1,12 +1,5 @@
 pub mod Store
-pub mod RowRoom
-pub mod Logs
-pub mod Table
-pub mod Entries
-pub mod GivenRows
 pub mod Handing
-pub mod Splices
-pub mod Indexes
 pub mod Change
 pub mod TableFields
 pub mod Scans

@@ -15,20 +15,14 @@
 //! which an index was asked.
 #![tactic(auto)]
 
-mod changes;
-mod cuts;
-mod given_rows;
-mod other_indexes;
+mod heading;
 mod restoring;
 mod scans;
-mod splices;
 mod tables;
-mod value_index;
-mod walks;
 
 pub use column_log::{CellEntry, CellScan};
-pub use cuts::{Cut, LentRows};
-pub use given_rows::GivenRow;
+pub use given_row::GivenRow;
 pub use restoring::Cell;
+pub use row_order::{Cut, LentRows};
 pub use scans::{KeyEntry, KeyScan};
 pub use tables::{Prepared, StoredTable};

@@ -2,9 +2,11 @@
 
 ghost use Rattle.std.specs.Prelude.{◌≡◌, ◌<◌, ◌^◌, ℕ, All, IfOk, OnOk, length, map};
 ghost use Rattle.prima_base.specs.Columns.{IsLawful};
-ghost use Rattle.history_store.specs.Logs.{cells_of, kinds_of, types_of};
+ghost use Rattle.row_order.specs.Logs.{cells_of};
+ghost use Rattle.row_writes.specs.Logs.{kinds_of, types_of};
 ghost use Rattle.history_store.specs.Store.{cells_in};
-ghost use Rattle.history_store.specs.Restoring.{cell_of, entries_of, write_of, writes_of, AreInTurn, ids_known, AreCellsOf, AreLawfulCells, AreEntriesOf};
+ghost use Rattle.history_store.specs.Restoring.{cell_of, entries_of};
+ghost use Rattle.table_meaning.specs.Restoring.{write_of, writes_of, AreInTurn, ids_known, AreCellsOf, AreLawfulCells, AreEntriesOf};
 
 use column_log::Column;
 use prima_base::{ColType, Name, NoMemory, Period, Val};

@@ -1,17 +1,18 @@
-use crate::changes::{carry_out, count_cells, empty_columns, reserve_rows, rows_room};
-use crate::cuts::{Cut, LentRows, count_before};
-use crate::given_rows::GivenRow;
-use crate::other_indexes::{gain_each, index_of, lose_each};
+use crate::heading::{column_place, copy_columns};
 use crate::restoring::{Cell, check_cells, columns_of};
 use crate::scans::KeyScan;
-use crate::splices::{After, change_index, few_of, splice, splice_fresh};
-use crate::value_index::ValueIndex;
-use crate::walks::{
-    Difference, column_place, copy_columns, copy_rows, find_difference, next_ids, place_in,
-};
 use column_log::{CellScan, Column};
+use given_row::GivenRow;
 use prima_base::{ColType, Name, NoMemory, Period, Row, Value};
 use row_index::RowIndex;
+use row_order::{
+    After, Change, Cut, LentRows, change_index, copy_rows, count_before, few_of, find_change,
+    place_in, splice, splice_fresh,
+};
+use row_writes::{
+    ValueIndex, carry_out, count_cells, empty_columns, gain_each, index_of, lose_each,
+    reserve_rows, rows_room,
+};
 use std::alloc::Global;
 use std::marker::Model;
 
@@ -50,11 +51,11 @@ pub struct Prepared<'a> {
 }
 
 impl<'a> Model for Prepared<'a> {
-    ghost use Rattle.history_store.specs.Change.{Plan};
+    ghost use Rattle.table_meaning.specs.Change.{Plan};
 
     ghost Value = { Plan };
 
-    ghost use Rattle.history_store.specs.Indexes.{index_of};
+    ghost use Rattle.row_order.specs.Indexes.{index_of};
 
     ghost view = { λ p. record { stamp = p.stamp; lost = p.lost.items; gained = p.gained.items; after = index_of p.after } };
 }
@@ -85,13 +86,19 @@ impl StoredTable {
     ghost use Rattle.prima_base.specs.Columns.{IsLawful};
     ghost use Rattle.prima_base.specs.declared.values.Value.{Value as OneValue};
     ghost use Rattle.history_store.specs.Store.{Store, cells_in, weight, rows_from, relation_at, IsRelation, AreColumns, AllBefore, IsStore, column_of};
-    ghost use Rattle.history_store.specs.Handing.{new_keys, handed, only_in, written};
-    ghost use Rattle.history_store.specs.Change.{Plan, IsPlan, rows_after, rows_along, changed, keys_after, cells_after, write_rows, no_cells};
+    ghost use Rattle.row_writes.specs.Writing.{new_keys};
+    ghost use Rattle.row_order.specs.Handing.{handed, only_in};
+    ghost use Rattle.table_meaning.specs.Handing.{written};
+    ghost use Rattle.table_meaning.specs.Change.{Plan, IsPlan, rows_after, rows_along, changed, keys_after, cells_after, write_rows, no_cells};
     ghost use Rattle.history_store.specs.Scans.{keys_from};
-    ghost use Rattle.history_store.specs.Cuts.{between};
-    ghost use Rattle.history_store.specs.Restoring.{store_with, entries_of, IsInOrder};
-    ghost use Rattle.history_store.specs.Logs.{few_of};
-    ghost use Rattle.history_store.specs.ByValue.{is_indexed, indexed_with, indexed_behind, rows_with};
+    ghost use Rattle.row_order.specs.Cuts.{between};
+    ghost use Rattle.table_meaning.specs.Restoring.{store_with, IsInOrder};
+    ghost use Rattle.history_store.specs.Restoring.{entries_of};
+    ghost use Rattle.row_order.specs.Logs.{few_of};
+    ghost use Rattle.row_writes.specs.ValueIndexes.{is_indexed, indexed_behind};
+    ghost use Rattle.row_writes.specs.RowRoom.{rows_room};
+    ghost use Rattle.row_order.specs.Indexes.{index_of};
+    ghost use Rattle.table_meaning.specs.ByValue.{indexed_with, rows_with};
 
     /// A table of these columns, which stand in the order of their names: from the stamp on its relation
     /// is `rows`, before it is empty. The one error is `NoMemory`, where memory runs out.
@@ -156,6 +163,44 @@ impl StoredTable {
         })
     }
 
+    // Makes room for these rows.
+    fn reserve_for(&mut self, gained: &[GivenRow<'_>]) -> Result<(), NoMemory>
+        ensures same { self.new ≡ record self.old { spare = self.new.spare } }
+        ensures room { OnOk result (rows_room gained.now ≤ self.new.spare) }
+        ensures spare { self.old.spare ≤ self.new.spare }
+    {
+        let room = rows_room(gained)?;
+        reserve_rows(
+            &mut self.keys,
+            &mut self.live,
+            &mut self.others,
+            &mut self.logs,
+            room,
+        )
+    }
+
+    // The change that loses the rows of these ids and gains these rows, with the room that installing it needs.
+    fn make_ready<'a>(
+        &mut self,
+        stamp: u64,
+        lost: Vec<usize>,
+        gained: Vec<GivenRow<'a>>,
+        after: After,
+    ) -> Result<Prepared<'a>, NoMemory>
+        ensures same { self.new ≡ record self.old { spare = self.new.spare } }
+        ensures plan { IfOk result (λ p. p ≡ record { stamp = stamp; lost = lost.items; gained = gained.entry.items; after = index_of after }) }
+        ensures room { IfOk result (λ _p. rows_room gained.entry.items ≤ self.new.spare) }
+        ensures spare { self.old.spare ≤ self.new.spare }
+    {
+        self.reserve_for(&gained)?;
+        Ok(Prepared {
+            stamp,
+            lost,
+            gained,
+            after,
+        })
+    }
+
     /// Makes the change to these rows ready, and all the room that installing it needs, by one walk along the
     /// current rows and these. Each stamp in the table is before this one. What the table stands for stays as
     /// it is. The one error is `NoMemory`, where memory runs out.
@@ -175,27 +220,13 @@ impl StoredTable {
         if self.keys.len().checked_add(rows.len()).is_none() {
             return Err(NoMemory);
         }
-        let Difference {
-            lost,
-            owners,
-            gained,
-        } = find_difference(self.alloc, &self.logs, &self.live.copy()?, rows)?;
-        let ids = next_ids(self.alloc, &owners, &lost, self.keys.len())?;
-        let after = RowIndex::of(self.alloc, &ids)?;
-        let room = rows_room(&gained)?;
-        reserve_rows(
-            &mut self.keys,
-            &mut self.live,
-            &mut self.others,
-            &mut self.logs,
-            room,
-        )?;
-        Ok(Prepared {
-            stamp,
+        let Change {
             lost,
             gained,
-            after: After::Whole(after),
-        })
+            after,
+        } = find_change(self.alloc, &self.logs, &self.live, self.keys.len(), rows)?;
+        let prepared = self.make_ready(stamp, lost, gained, after)?;
+        Ok(prepared)
     }
 
     /// Makes the change that loses and gains these rows ready, and all the room that installing it needs. Each
@@ -234,20 +265,8 @@ impl StoredTable {
             self.keys.len(),
             &gained,
         )?;
-        let room = rows_room(&gained)?;
-        reserve_rows(
-            &mut self.keys,
-            &mut self.live,
-            &mut self.others,
-            &mut self.logs,
-            room,
-        )?;
-        Ok(Prepared {
-            stamp,
-            lost: found,
-            gained,
-            after,
-        })
+        let prepared = self.make_ready(stamp, found, gained, after)?;
+        Ok(prepared)
     }
 
     /// Makes the change ready that gains those of these rows that the table does not have, and all the room that installing
@@ -280,20 +299,9 @@ impl StoredTable {
             self.keys.len(),
             rows,
         )?;
-        let room = rows_room(&gained)?;
-        reserve_rows(
-            &mut self.keys,
-            &mut self.live,
-            &mut self.others,
-            &mut self.logs,
-            room,
-        )?;
-        Ok(Prepared {
-            stamp,
-            lost: Vec::new(self.alloc),
-            gained,
-            after,
-        })
+        let lost = Vec::new(self.alloc);
+        let prepared = self.make_ready(stamp, lost, gained, after)?;
+        Ok(prepared)
     }
 
     /// Carries out what was made ready: from its stamp on the relation is the one that it was made for,

@@ -2,7 +2,7 @@
 
 use crate::moments::rows_shown;
 use crate::plain_table::{PlainCell, PlainRow, PlainTable, are_of};
-use crate::row_order::NOW;
+use crate::row_comparison::NOW;
 use crate::tested_table::{Scanned, between, scan};
 use history_store::{Cell, Cut, GivenRow, LentRows, StoredTable};
 use prima_base::{ColType, Name, NoMemory, Period, Row, Val, Value};

@@ -25,7 +25,7 @@ mod made_changes;
 mod moments;
 mod pair;
 mod plain_table;
-mod row_order;
+mod row_comparison;
 mod tested_table;
 mod words;
 

@@ -12,7 +12,7 @@ ghost use Rattle.history_store.specs.Restoring.{cell_of, entries_of};
 
 use crate::moments::ids_shown;
 use crate::pair::add_copies;
-use crate::row_order::{NOW, are_in_order};
+use crate::row_comparison::{NOW, are_in_order};
 use history_store::{Cell, CellEntry, CellScan, Cut, GivenRow, KeyScan, LentRows, StoredTable};
 use prima_base::{ColType, FOREVER, Name, NoMemory, Period, Row, Steps, Value};
 use std::alloc::Global;

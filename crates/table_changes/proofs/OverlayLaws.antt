@@ -15,7 +15,7 @@ use Rattle.prima_base.specs.declared.values.Value.{Value}
 use Rattle.prima_base.specs.Order.{value_cmp, row_cmp}
 use Rattle.prima_base.specs.OrderLaws.{row_exact, row_total, value_total}
 use Rattle.history_store.specs.Cuts.{Cut, is_before, between}
-use Rattle.history_store.proofs.Cutting.{before_less}
+use Rattle.row_order.proofs.Cutting.{before_less}
 use Rattle.smo_meaning.specs.OneRow.{Row, Relation}
 use Rattle.smo_meaning.specs.Effects.{gained_rows}
 use Rattle.smo_meaning.proofs.RelationLaws.{put_is_set, filter_ascends}

@@ -1,6 +1,7 @@
 use Rattle.std.proofs.Common.{◌≡◌, ◌++◌, map}
 use Rattle.std.specs.Vec.Iter.{into_iter_items}
-use Rattle.history_store.specs.Restoring.{cell_of, write_of, AreInTurn, ids_known, AreCellsOf, AreLawfulCells}
+use Rattle.history_store.specs.Restoring.{cell_of}
+use Rattle.table_meaning.specs.Restoring.{write_of, AreInTurn, ids_known, AreCellsOf, AreLawfulCells}
 use Rattle.history_store.proofs.restoring.column_of.Given as goal
 
 abbrev pub invariant-loop-cell : goal.invariant-loop-cell

@@ -1,11 +1,13 @@
 use Rattle.std.proofs.Common.{rules, ◌≡◌, ◌<◌, suc, [], ◌∷◌, length, get_or, length-append, append_assoc, sym, ap, ◌∙◌, arith}
 use Rattle.std.specs.Vec.Iter.{into_iter_items}
 use Rattle.std.proofs.lemmas.List.{drop_more}
-use Rattle.history_store.specs.Logs.{cells_of}
-use Rattle.history_store.specs.Restoring.{entries_of, writes_of}
-use Rattle.history_store.proofs.Others.{one_pushed}
-use Rattle.history_store.proofs.Rows.{cells_of-push, kinds_more}
-use Rattle.history_store.proofs.Restored.{lawful_cells}
+use Rattle.row_order.specs.Logs.{cells_of}
+use Rattle.history_store.specs.Restoring.{entries_of}
+use Rattle.table_meaning.specs.Restoring.{writes_of}
+use Rattle.row_writes.proofs.Others.{one_pushed}
+use Rattle.row_order.proofs.Cells.{cells_of-push}
+use Rattle.row_writes.proofs.Rows.{kinds_more}
+use Rattle.table_meaning.proofs.Restored.{lawful_cells}
 use Rattle.history_store.proofs.restoring.columns_of.Goals as goal
 
 pub column_of-requires-clause-lawful : goal.column_of-requires-clause-lawful

@@ -2,8 +2,10 @@ use Rattle.std.proofs.Common.{◌≡◌, ◌+◌, ◌++◌, ℕ, length, take, d
 use Rattle.std.specs.Prelude.{All}
 use Rattle.std.specs.Vec.Iter.{into_iter_items}
 use Rattle.prima_base.specs.Columns.{IsLawful}
-use Rattle.history_store.specs.Logs.{cells_of, kinds_of, types_of}
-use Rattle.history_store.specs.Restoring.{entries_of, writes_of, AreInTurn, ids_known, AreEntriesOf}
+use Rattle.row_order.specs.Logs.{cells_of}
+use Rattle.row_writes.specs.Logs.{kinds_of, types_of}
+use Rattle.history_store.specs.Restoring.{entries_of}
+use Rattle.table_meaning.specs.Restoring.{writes_of, AreInTurn, ids_known, AreEntriesOf}
 use Rattle.history_store.proofs.restoring.columns_of.Given as goal
 
 abbrev pub invariant-loop-list : goal.invariant-loop-list

@@ -1,6 +1,6 @@
 use Rattle.std.proofs.Common.{rules, get_or, ◌≡◌, ◌<◌, length, arith}
 use Rattle.std.proofs.lemmas.Grind.{common_steps}
-use Rattle.history_store.proofs.Others.{one_more, others_rest}
+use Rattle.row_writes.proofs.Others.{one_more, others_rest}
 use Rattle.table_changes.specs.Overlay.{IsToldToo}
 use Rattle.table_changes.proofs.known_rows.tell_each.Goals as goal
 

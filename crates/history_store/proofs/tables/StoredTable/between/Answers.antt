@@ -1,10 +1,10 @@
 use Rattle.std.proofs.Common.{refl, sym, ◌∙◌}
-use Rattle.history_store.specs.Logs.{cells_of}
-use Rattle.history_store.proofs.Rows.{length-cells_of}
-use Rattle.history_store.proofs.Preparing.{all_known_in}
-use Rattle.history_store.proofs.Showing.{relation_now}
-use Rattle.history_store.proofs.Cutting.{ids_from}
-use Rattle.history_store.proofs.OneColumn.{wide_now}
+use Rattle.row_order.specs.Logs.{cells_of}
+use Rattle.row_order.proofs.Cells.{length-cells_of}
+use Rattle.table_meaning.proofs.Preparing.{all_known_in}
+use Rattle.table_meaning.proofs.Showing.{relation_now}
+use Rattle.row_order.proofs.Cutting.{ids_from}
+use Rattle.table_meaning.proofs.Making.{wide_now}
 use Rattle.history_store.proofs.tables.StoredTable.between.Goals as goal
 
 pub count_before-end-requires-clause-narrow : goal.count_before-end-requires-clause-narrow

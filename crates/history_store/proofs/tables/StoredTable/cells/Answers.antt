@@ -1,6 +1,6 @@
 use Rattle.std.proofs.Common.{sym, ◌∙◌}
-use Rattle.history_store.specs.Logs.{cells_of}
-use Rattle.history_store.proofs.CellCounts.{all_count}
+use Rattle.row_order.specs.Logs.{cells_of}
+use Rattle.table_meaning.proofs.CellCounts.{all_count}
 use Rattle.history_store.proofs.tables.StoredTable.cells.Goals as goal
 
 pub returns : goal.returns

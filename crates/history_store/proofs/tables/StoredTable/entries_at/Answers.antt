@@ -1,6 +1,6 @@
 use Rattle.std.proofs.Common.{rules, ◌≡◌, ◌<◌, length, sym, subst, ◌∙◌, vec_len}
-use Rattle.history_store.proofs.Rows.{length-cells_of}
-use Rattle.history_store.proofs.Reading.{counted}
+use Rattle.row_order.proofs.Cells.{length-cells_of}
+use Rattle.table_meaning.proofs.Reading.{counted}
 use Rattle.history_store.proofs.tables.StoredTable.entries_at.Goals as goal
 
 pub index-requires : goal.index-requires

@@ -1,12 +1,14 @@
 use Rattle.std.proofs.Common.{◌≡◌, false, ◌<◌, ◌≤◌, ◌-◌, length, sym, ap, ◌∙◌, subst, vec_len, vec_capacity, [], ◌∷◌, ◌++◌}
-use Rattle.history_store.specs.ByValue.{columns_of, is_indexed, least_room, IsIndexed}
-use Rattle.history_store.specs.Logs.{cells_of, few_of, with_index}
+use Rattle.row_writes.specs.ValueIndexes.{columns_of, is_indexed, least_room, IsIndexed}
+use Rattle.row_order.specs.Logs.{cells_of, few_of}
+use Rattle.row_writes.specs.Logs.{with_index}
 use Rattle.value_order.specs.ByValue.{Distinct}
-use Rattle.history_store.proofs.Rows.{length-cells_of, least_up, less_up}
-use Rattle.history_store.proofs.Carry.{still_with_index}
-use Rattle.history_store.proofs.Changing.{distinct_ids}
-use Rattle.history_store.proofs.Preparing.{all_known_in}
-use Rattle.history_store.proofs.Others.{columns_pushed, one_pushed, least_room_push}
+use Rattle.row_order.proofs.Cells.{length-cells_of}
+use Rattle.row_writes.proofs.Rows.{least_up, less_up}
+use Rattle.row_writes.proofs.Carry.{still_with_index}
+use Rattle.table_meaning.proofs.Changing.{distinct_ids}
+use Rattle.table_meaning.proofs.Preparing.{all_known_in}
+use Rattle.row_writes.proofs.Others.{columns_pushed, one_pushed, least_room_push}
 use Rattle.history_store.proofs.tables.StoredTable.index_column.Goals as goal
 
 pub of-requires-clause-within : goal.of-requires-clause-within

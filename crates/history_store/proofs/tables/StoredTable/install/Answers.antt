@@ -3,25 +3,28 @@ use Rattle.std.proofs.lemmas.Grind.{common_steps}
 use Rattle.std.proofs.Math.Nat.{le_trans, min-le_left, min-le_right}
 use Rattle.relations.specs.Sets.{In}
 use Rattle.prima_base.specs.declared.values.Value.{Value}
-use Rattle.history_store.specs.Handing.{AllWidth, handed, keys_handed}
+use Rattle.row_order.specs.Rows.{AllWidth}
+use Rattle.row_order.specs.Handing.{handed}
+use Rattle.row_writes.specs.Writing.{keys_handed}
 use Rattle.value_order.specs.ByValue.{Distinct, ids_handed}
-use Rattle.history_store.specs.Indexes.{index_of}
-use Rattle.history_store.specs.RowRoom.{rows_room}
-use Rattle.history_store.specs.Logs.{cells_of, AreRowsOf, few_of}
-use Rattle.history_store.specs.ByValue.{columns_of, indexed_behind, least_room}
-use Rattle.history_store.proofs.Places.{few_placed}
-use Rattle.history_store.proofs.Carry.{known, spare_least, spare_each, key_room, index_room, few_are_few}
-use Rattle.history_store.proofs.Cutting.{length-rows_of}
-use Rattle.history_store.proofs.Rows.{length-cells_of}
-use Rattle.history_store.proofs.Showing.{key_before}
-use Rattle.history_store.proofs.Lawful.{is_store}
-use Rattle.history_store.proofs.Installing.{placed_then, relation_from, plan_kept, plan_cells, plan_before, plan_from, plan_later}
-use Rattle.history_store.proofs.CellCounts.{still_counted}
-use Rattle.history_store.proofs.ValueTypes.{gained_typed}
-use Rattle.history_store.proofs.Others.{same_columns, least_room_below, least_room_each, ready_each}
-use Rattle.history_store.proofs.Keeping.{ids_are_handed, all_lost, all_ready, all_new, all_fresh, all_apart, all_indexed}
-use Rattle.history_store.proofs.Rule.{key_count}
-use Rattle.history_store.proofs.Totals.{plan_written}
+use Rattle.row_order.specs.Indexes.{index_of}
+use Rattle.row_writes.specs.RowRoom.{rows_room}
+use Rattle.row_order.specs.Logs.{cells_of, few_of}
+use Rattle.row_writes.specs.Logs.{AreRowsOf}
+use Rattle.row_writes.specs.ValueIndexes.{columns_of, indexed_behind, least_room}
+use Rattle.row_order.proofs.Places.{few_placed}
+use Rattle.row_writes.proofs.Carry.{known, spare_least, spare_each, key_room, index_room, few_are_few}
+use Rattle.row_order.proofs.Cutting.{length-rows_of}
+use Rattle.row_order.proofs.Cells.{length-cells_of}
+use Rattle.table_meaning.proofs.Showing.{key_before}
+use Rattle.table_meaning.proofs.Lawful.{is_store}
+use Rattle.table_meaning.proofs.Installing.{placed_then, relation_from, plan_kept, plan_cells, plan_before, plan_from, plan_later}
+use Rattle.table_meaning.proofs.CellCounts.{still_counted}
+use Rattle.table_meaning.proofs.ValueTypes.{gained_typed}
+use Rattle.row_writes.proofs.Others.{same_columns, least_room_below, least_room_each, ready_each}
+use Rattle.table_meaning.proofs.Keeping.{ids_are_handed, all_lost, all_ready, all_new, all_fresh, all_apart, all_indexed}
+use Rattle.table_meaning.proofs.Rule.{key_count}
+use Rattle.table_meaning.proofs.Totals.{plan_written}
 use Rattle.history_store.proofs.tables.StoredTable.install.Goals as goal
 
 -- the ids that are put into the indexes are those that are handed

@@ -1,15 +1,17 @@
 use Rattle.std.proofs.Common.{◌≡◌, ◌<◌, ◌+◌, [], length, get_or, ap, sym, ◌∙◌, subst, arith}
-use Rattle.history_store.specs.Logs.{cells_of, types_of}
+use Rattle.row_order.specs.Logs.{cells_of}
+use Rattle.row_writes.specs.Logs.{types_of}
 use Rattle.history_store.specs.Store.{Store, AreColumns, weight, relation_at}
-use Rattle.history_store.specs.TableFields.{store_of}
-use Rattle.history_store.specs.Handing.{only_in, handed, written}
-use Rattle.history_store.specs.Change.{IsPlan, keys_after, cells_after, rows_along, write_rows, no_cells}
-use Rattle.history_store.specs.ByValue.{indexed_behind}
-use Rattle.history_store.proofs.Others.{none_behind}
-use Rattle.history_store.proofs.Rows.{length-cells_of}
-use Rattle.history_store.proofs.CellCounts.{none_counted}
-use Rattle.history_store.proofs.Plans.{length-new_keys}
-use Rattle.history_store.proofs.Beginning.{none_kept, none_before, none_now, all_gained, no_lost, first_keys, first_cells, none_weight, first_written, plan_is}
+use Rattle.table_meaning.specs.Kept.{store_of}
+use Rattle.row_order.specs.Handing.{only_in, handed}
+use Rattle.table_meaning.specs.Handing.{written}
+use Rattle.table_meaning.specs.Change.{IsPlan, keys_after, cells_after, rows_along, write_rows, no_cells}
+use Rattle.row_writes.specs.ValueIndexes.{indexed_behind}
+use Rattle.row_writes.proofs.Others.{none_behind}
+use Rattle.row_order.proofs.Cells.{length-cells_of}
+use Rattle.table_meaning.proofs.CellCounts.{none_counted}
+use Rattle.table_meaning.proofs.Plans.{length-new_keys}
+use Rattle.table_meaning.proofs.Beginning.{none_kept, none_before, none_now, all_gained, no_lost, first_keys, first_cells, none_weight, first_written, plan_is}
 use Rattle.history_store.proofs.tables.StoredTable.new.Goals as goal
 
 pub invariant_of-table : goal.invariant_of-table

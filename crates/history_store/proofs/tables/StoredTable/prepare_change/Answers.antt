@@ -1,16 +1,16 @@
-use Rattle.std.proofs.Common.{rules, ◌≡◌, length, arith, refl, sym, ap, subst, ◌∙◌, ◌<◌, vec_len}
-use Rattle.std.proofs.lemmas.Grind.{common_steps}
+use Rattle.std.proofs.Common.{rules, ◌≡◌, length, arith, refl, sym, ap, subst, ◌∙◌}
 use Rattle.std.proofs.Math.Nat.{le_trans}
 use Rattle.relations.specs.Sets.{In}
-use Rattle.history_store.specs.Handing.{AllWidth}
-use Rattle.history_store.specs.Logs.{cells_of}
-use Rattle.history_store.proofs.Rows.{length-cells_of}
-use Rattle.history_store.proofs.Room.{least_rows_room}
-use Rattle.history_store.proofs.Making.{all_wide}
-use Rattle.history_store.proofs.Others.{same_others, same_columns}
-use Rattle.history_store.proofs.Preparing.{all_known_in}
-use Rattle.history_store.proofs.Installing.{relation_from}
-use Rattle.history_store.proofs.Changing.{change_fits, change_leads, change_lost}
+use Rattle.row_order.specs.Rows.{AllWidth}
+use Rattle.row_order.specs.Logs.{cells_of}
+use Rattle.row_writes.specs.ValueIndexes.{columns_of}
+use Rattle.table_meaning.specs.Kept.{store_of}
+use Rattle.row_order.proofs.Cells.{length-cells_of}
+use Rattle.row_writes.proofs.Room.{least_rows_room}
+use Rattle.table_meaning.proofs.Making.{all_wide}
+use Rattle.table_meaning.proofs.Preparing.{all_known_in}
+use Rattle.table_meaning.proofs.Installing.{relation_from}
+use Rattle.table_meaning.proofs.Changing.{change_fits, change_leads, change_lost}
 use Rattle.history_store.proofs.tables.StoredTable.prepare_change.Goals as goal
 
 pub splice-requires-clause-lost_wide : goal.splice-requires-clause-lost_wide
@@ -54,14 +54,13 @@ returns-clause-fits c =
     let n : c.len-3.result ≡ length a.keys.items = search rules in
     let s = rw (c.deref.ensures.value, c.deref-2.ensures.value, n) at c.in_ok-found.ensures.spliced in
     let p = c.in_ok-found.ensures.placed in
-    let room = rw (c.in_ok-room.ensures, c.deref-3.ensures.value, c.reserve_rows.ensures.cells) at c.in_ok-reserve_rows.ensures.room in
-    rw (c.reserve_rows.ensures.keys, c.reserve_rows.ensures.cells)
-    (change_fits a.columns.items a.keys.items (cells_of a.logs.items) a.live.ids _ c.self.invariant.kept c.args.stamp b c.requires.lawful c.args.lost.now c.args.gained.items r g c.in_ok-found.found.items _ s p (rw c.deref-2.ensures.value at c.in_ok-found.ensures.more) _ room)
+    let m = rw c.deref-2.ensures.value at c.in_ok-found.ensures.more in
+    let e : c.make_ready.new.self ≡ store_of a.columns.items a.keys.items (cells_of a.logs.items) c.make_ready.new.self.spare (columns_of a.others.items) = rw (← c.self.view_is) at c.in_ok-prepared.ensures.same in
+    rw (c.in_ok-prepared.ensures.plan, e) (change_fits a.columns.items a.keys.items (cells_of a.logs.items) a.live.ids _ c.self.invariant.kept c.args.stamp b c.requires.lawful c.args.lost.now c.args.gained.items r g c.in_ok-found.found.items _ s p m _ c.in_ok-prepared.ensures.room)
 
 pub returns-clause-room : goal.returns-clause-room
 returns-clause-room c =
-    let room = rw (c.in_ok-room.ensures, c.deref-3.ensures.value) at c.in_ok-reserve_rows.ensures.room in
-    le_trans (least_rows_room c.args.gained.items) room
+    rw c.in_ok-prepared.ensures.plan (le_trans (least_rows_room c.args.gained.items) c.in_ok-prepared.ensures.room)
 
 pub returns-clause-leads : goal.returns-clause-leads
 returns-clause-leads c =
@@ -72,8 +71,9 @@ returns-clause-leads c =
     let n : c.len-3.result ≡ length a.keys.items = search rules in
     let s = rw (c.deref.ensures.value, c.deref-2.ensures.value, n) at c.in_ok-found.ensures.spliced in
     let p = c.in_ok-found.ensures.placed in
-    rw (← c.self.view_is, c.reserve_rows.ensures.keys, c.reserve_rows.ensures.cells)
-    (change_leads a.columns.items a.keys.items (cells_of a.logs.items) a.live.ids _ c.self.invariant.kept c.args.stamp b c.requires.lawful c.args.lost.now c.args.gained.items r g c.in_ok-found.found.items _ s p (rw c.deref-2.ensures.value at c.in_ok-found.ensures.more) _ _)
+    let m = rw c.deref-2.ensures.value at c.in_ok-found.ensures.more in
+    let e : c.make_ready.new.self ≡ store_of a.columns.items a.keys.items (cells_of a.logs.items) c.make_ready.new.self.spare (columns_of a.others.items) = rw (← c.self.view_is) at c.in_ok-prepared.ensures.same in
+    rw (← c.self.view_is, c.in_ok-prepared.ensures.plan, e) (change_leads a.columns.items a.keys.items (cells_of a.logs.items) a.live.ids _ c.self.invariant.kept c.args.stamp b c.requires.lawful c.args.lost.now c.args.gained.items r g c.in_ok-found.found.items _ s p m _ _)
 
 pub returns-clause-lost : goal.returns-clause-lost
 returns-clause-lost c =
@@ -84,47 +84,5 @@ returns-clause-lost c =
     let n : c.len-3.result ≡ length a.keys.items = search rules in
     let s = rw (c.deref.ensures.value, c.deref-2.ensures.value, n) at c.in_ok-found.ensures.spliced in
     let p = c.in_ok-found.ensures.placed in
-    rw (← c.self.view_is)
-    (change_lost a.columns.items a.keys.items (cells_of a.logs.items) a.live.ids _ c.self.invariant.kept c.args.stamp b c.requires.lawful c.args.lost.now c.args.gained.items r g c.in_ok-found.found.items _ s p (rw c.deref-2.ensures.value at c.in_ok-found.ensures.more))
-
-pub invariant_of-self : goal.invariant_of-self
-invariant_of-self c =
-    let a = c.self.inside in
-    let r = c.reserve_rows.ensures in
-    let n : length c.reserve_rows.new.others.items ≡ length a.others.items = grind (arith, common_steps) in
-    record {
-      kept = rw (r.keys, r.cells, r.live) c.self.invariant.kept;
-      ids = search rules;
-      kinds = r.kinds ∙ c.self.invariant.kinds;
-      counted = rw r.cells c.self.invariant.counted;
-      others = same_others (cells_of a.logs.items) _ a.live.ids _ a.others.items _ r.cells r.live n (λ k d h. (let b : k < vec_len a.others = grind (arith, common_steps) in r.others k d b)) c.self.invariant.others;
-    }
-
-pub invariant_of-self-2 : goal.invariant_of-self-2
-invariant_of-self-2 c =
-    let a = c.self.inside in
-    let r = c.reserve_rows.ensures in
-    let n : length c.reserve_rows.new.others.items ≡ length a.others.items = grind (arith, common_steps) in
-    record {
-      kept = rw (r.keys, r.cells, r.live) c.self.invariant.kept;
-      ids = search rules;
-      kinds = r.kinds ∙ c.self.invariant.kinds;
-      counted = rw r.cells c.self.invariant.counted;
-      others = same_others (cells_of a.logs.items) _ a.live.ids _ a.others.items _ r.cells r.live n (λ k d h. (let b : k < vec_len a.others = grind (arith, common_steps) in r.others k d b)) c.self.invariant.others;
-    }
-
-pub returns-clause-same : goal.returns-clause-same
-returns-clause-same c =
-    let a = c.self.inside in
-    let r = c.reserve_rows.ensures in
-    let n : length c.reserve_rows.new.others.items ≡ length a.others.items = grind (arith, common_steps) in
-    let i = same_columns a.others.items c.reserve_rows.new.others.items n (λ k d h. (let b : k < vec_len a.others = grind (arith, common_steps) in (r.others k d b).0)) in
-    rw (← c.self.view_is, r.keys, r.cells, i) refl
-
-pub returns-in_err-reserve_rows-clause-same : goal.returns-in_err-reserve_rows-clause-same
-returns-in_err-reserve_rows-clause-same c =
-    let a = c.self.inside in
-    let r = c.reserve_rows.ensures in
-    let n : length c.reserve_rows.new.others.items ≡ length a.others.items = grind (arith, common_steps) in
-    let i = same_columns a.others.items c.reserve_rows.new.others.items n (λ k d h. (let b : k < vec_len a.others = grind (arith, common_steps) in (r.others k d b).0)) in
-    rw (← c.self.view_is, r.keys, r.cells, i) refl
+    let m = rw c.deref-2.ensures.value at c.in_ok-found.ensures.more in
+    rw (← c.self.view_is, c.in_ok-prepared.ensures.plan) (change_lost a.columns.items a.keys.items (cells_of a.logs.items) a.live.ids _ c.self.invariant.kept c.args.stamp b c.requires.lawful c.args.lost.now c.args.gained.items r g c.in_ok-found.found.items _ s p m)

@@ -1,10 +1,10 @@
 use Rattle.std.proofs.Common.{◌∙◌, length, refl, sym, ap, subst, arith}
 use Rattle.std.proofs.lemmas.List.{length-map}
-use Rattle.history_store.specs.Logs.{types_of}
+use Rattle.row_writes.specs.Logs.{types_of}
 use Rattle.history_store.specs.Restoring.{entries_of}
-use Rattle.history_store.proofs.Lawful.{is_store}
-use Rattle.history_store.proofs.ValueTypes.{entries_typed}
-use Rattle.history_store.proofs.Restored.{all_written, turns, counts, entries_restored, restored_kept}
+use Rattle.table_meaning.proofs.Lawful.{is_store}
+use Rattle.table_meaning.proofs.ValueTypes.{entries_typed}
+use Rattle.table_meaning.proofs.Restored.{all_written, turns, counts, entries_restored, restored_kept}
 use Rattle.history_store.proofs.tables.StoredTable.restore.Goals as goal
 
 pub columns_of-requires-clause-turn : goal.columns_of-requires-clause-turn

@@ -1,5 +1,5 @@
-use Rattle.history_store.specs.Logs.{cells_of}
-use Rattle.history_store.proofs.Showing.{relation_now, current_relation}
+use Rattle.row_order.specs.Logs.{cells_of}
+use Rattle.table_meaning.proofs.Showing.{relation_now, current_relation}
 use Rattle.history_store.proofs.tables.StoredTable.rows_are_a_relation.Goals as goal
 
 pub returns : goal.returns

@@ -1,5 +1,5 @@
-use Rattle.history_store.specs.Logs.{cells_of}
-use Rattle.history_store.proofs.Lawful.{is_store}
+use Rattle.row_order.specs.Logs.{cells_of}
+use Rattle.table_meaning.proofs.Lawful.{is_store}
 use Rattle.history_store.proofs.tables.StoredTable.scan_keys.Goals as goal
 
 pub returns-clause-lawful : goal.returns-clause-lawful

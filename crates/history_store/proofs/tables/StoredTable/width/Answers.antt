@@ -1,7 +1,7 @@
 use Rattle.std.proofs.Common.{rules, ◌≡◌, length, sym, ◌∙◌, vec_len}
-use Rattle.history_store.specs.Logs.{cells_of}
-use Rattle.history_store.proofs.Rows.{length-cells_of}
-use Rattle.history_store.proofs.Showing.{count_entries}
+use Rattle.row_order.specs.Logs.{cells_of}
+use Rattle.row_order.proofs.Cells.{length-cells_of}
+use Rattle.table_meaning.proofs.Showing.{count_entries}
 use Rattle.history_store.proofs.tables.StoredTable.width.Goals as goal
 
 pub returns-clause-columns : goal.returns-clause-columns

@@ -1,0 +1,9 @@
+//! Rows that are given to a table.
+//!
+//! A [`GivenRow`] has the values of a row: where they stand already, as in the command that inserts it, or as its own. It
+//! is looked at value by value and compared with others; no text is copied.
+#![tactic(auto)]
+
+mod given_rows;
+
+pub use given_rows::GivenRow;

@@ -1,9 +1,0 @@
-use Rattle.std.proofs.Common.{◌≡◌, ◌++◌, drop}
-use Rattle.history_store.specs.Logs.{cells_of}
-use Rattle.history_store.specs.Table.{rows_of}
-use Rattle.history_store.proofs.walks.copy_rows.Given as goal
-
-abbrev pub invariant-loop-id : goal.invariant-loop-id
-invariant-loop-id l = record {
-  same : rows_of l.live (cells_of l.columns) ≡ l.rows.items ++ rows_of (drop l.id-index l.live) (cells_of l.columns);
-}

@@ -1,0 +1,9 @@
+pub mod Sides
+pub mod RowsOf
+pub mod Cells
+pub mod OneColumn
+pub mod SideBySide
+pub mod Splicing
+pub mod Places
+pub mod Coming
+pub mod Cutting

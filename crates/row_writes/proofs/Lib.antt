@@ -1,0 +1,4 @@
+pub mod Rows
+pub mod Room
+pub mod Carry
+pub mod Others

@@ -1,0 +1,4 @@
+pub mod Logs
+pub mod RowRoom
+pub mod Writing
+pub mod ValueIndexes
