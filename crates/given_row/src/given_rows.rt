@@ -1,11 +1,12 @@
 //! Rows that are given to a table.
 
-ghost use Rattle.std.specs.Prelude.{◌≡◌, ◌<◌, length, slice_index_or};
+ghost use Rattle.std.specs.Prelude.{◌≡◌, ◌<◌, All, IfOk, length, map, slice_index_or, take};
 ghost use Rattle.prima_base.specs.Order.{row_cmp, shown, IsLent};
 ghost use Rattle.prima_base.specs.Columns.{IsLawful};
 ghost use Rattle.given_row.specs.GivenRows.{values_of, AreLawful};
 
-use prima_base::{Row, Val, Value};
+use prima_base::{NoMemory, Row, Txt, Val, Value};
+use std::alloc::Global;
 use std::cmp::Ordering;
 use std::marker::Model;
 
@@ -37,6 +38,57 @@ fn lend_at(values: &[Value], at: usize) -> Val<'_>
     ensures lent { IsLent result }
 {
     values[at].lend()
+}
+
+// An equal value. A text is copied.
+fn copy<'a>(alloc: Global, value: &Value) -> Result<Val<'a>, NoMemory>
+    ensures value { IfOk result (λ v. shown v ≡ value.now) }
+    ensures lawful { IfOk result (λ v. IsLawful (shown v)) }
+{
+    match value {
+        Value::Int(n) => Ok(Val::Int(*n)),
+        Value::Text(text) => {
+            let text = Txt::of(alloc, text.bytes())?;
+            Ok(Val::Own(text))
+        }
+    }
+}
+
+// The value at this place. A text is copied.
+fn copy_at<'a>(alloc: Global, values: &[Value], at: usize) -> Result<Val<'a>, NoMemory>
+    requires { at < length values.now }
+    ensures value { IfOk result (λ v. shown v ≡ slice_index_or values.now at (shown v)) }
+    ensures lawful { IfOk result (λ v. IsLawful (shown v)) }
+{
+    let value = copy(alloc, &values[at])?;
+    Ok(value)
+}
+
+// The value at this place. A borrowed text stays borrowed, where it was.
+fn copy_val_at<'a>(values: &[Val<'a>], at: usize) -> Result<Val<'a>, NoMemory>
+    requires within { at < length values.now }
+    requires lawful { All (λ v. IsLawful (shown v)) values.now }
+    ensures value { IfOk result (λ v. shown v ≡ slice_index_or (map shown values.now) at (shown v)) }
+    ensures lawful { IfOk result (λ v. IsLawful (shown v)) }
+{
+    let value = values[at].copy()?;
+    Ok(value)
+}
+
+impl<'a> RowValues<'a> {
+    // The value at this place, to keep. A text that stands elsewhere stays there.
+    fn copy_value(&self, alloc: Global, at: usize) -> Result<Val<'a>, NoMemory>
+        requires lawful { AreLawful self.now }
+        requires within { at < length (values_of self.now) }
+        ensures value { IfOk result (λ v. shown v ≡ slice_index_or (values_of self.now) at (shown v)) }
+        ensures lawful { IfOk result (λ v. IsLawful (shown v)) }
+    {
+        match self {
+            RowValues::Lent(values) => return Ok(lend_at(values, at)),
+            RowValues::Owned(values) => return copy_at(alloc, values, at),
+            RowValues::Each(values) => return copy_val_at(values, at),
+        }
+    }
 }
 
 impl RowValues<'_> {
@@ -88,7 +140,7 @@ impl<'a> Model for GivenRow<'a> {
 }
 
 impl<'a> GivenRow<'a> {
-    ghost use Rattle.std.specs.Prelude.{◌≡◌, All, map};
+    ghost use Rattle.std.specs.Prelude.{◌≡◌, ◌<◌, All, IfOk, length, map, slice_index_or};
     ghost use Rattle.prima_base.specs.Order.{shown};
     ghost use Rattle.prima_base.specs.Columns.{IsLawful};
 
@@ -119,6 +171,17 @@ impl<'a> GivenRow<'a> {
             values: RowValues::Each(values),
         }
     }
+
+    /// The value at this place, to keep: a text that stands elsewhere stays there, the row's own is
+    /// copied. It has at most 4,096 bytes and no control byte. The one error is `NoMemory`, where
+    /// memory runs out.
+    pub fn copy_value(&self, alloc: Global, at: usize) -> Result<Val<'a>, NoMemory>
+        requires { at < length self.now }
+        ensures value { IfOk result (λ v. shown v ≡ slice_index_or self.now at (shown v)) }
+        ensures lawful { IfOk result (λ v. IsLawful (shown v)) }
+    {
+        self.values.copy_value(alloc, at)
+    }
 }
 
 impl GivenRow<'_> {
@@ -142,6 +205,20 @@ impl GivenRow<'_> {
     {
         self.values.value(at)
     }
+}
+
+/// Compares what the row begins with with these values. It takes no memory.
+pub fn compare_prefix(row: &GivenRow<'_>, values: &[Value]) -> Ordering
+    ensures { result ≡ row_cmp (take (length values.now) row.now) values.now }
+{
+    let width = row.len().min(values.len());
+    for k in 0..width {
+        let order = row.value(k).compare(&values[k].lend());
+        if order != Ordering::Equal {
+            return order;
+        }
+    }
+    width.cmp(&values.len())
 }
 
 // The order of two rows, value by value.

@@ -6,4 +6,4 @@
 
 mod given_rows;
 
-pub use given_rows::GivenRow;
+pub use given_rows::{GivenRow, compare_prefix};

@@ -11,8 +11,8 @@ ghost use Rattle.row_order.specs.Rows.{row_now, rows_of};
 
 use crate::walks::compare_lead;
 use column_log::Column;
-use given_row::GivenRow;
-use prima_base::{NoMemory, Row, Val, Value};
+use given_row::{GivenRow, compare_prefix};
+use prima_base::{NoMemory, Val, Value};
 use row_index::RowIndex;
 use std::cmp::Ordering;
 use std::marker::Model;
@@ -66,12 +66,10 @@ impl Cut {
     }
 
     /// Whether the row is before the cut. It takes no memory.
-    pub fn has_before(&self, row: &Row) -> bool
+    pub fn has_before(&self, row: &GivenRow<'_>) -> bool
         ensures { result ≡ is_before self.now row.now }
     {
-        let values = row.values();
-        let width = self.values.len().min(values.len());
-        self.is_past(values.split_at(width).0.cmp(self.values.as_slice()))
+        self.is_past(compare_prefix(row, &self.values))
     }
 
     /// The cut behind all rows that begin with these values. It takes no memory.

@@ -1,8 +1,8 @@
 -- A row that is lent as that of atom 0, and the rows that an INSERT and an UPDATE make.
 use Rattle.std.proofs.Common.{◌≡◌, ℕ, ◌+◌, ◌<◌, Bool, true, false, cond, List, [], ◌∷◌, ◌++◌, Option, length, map, take, drop, get_or, nat_eq, refl, sym, ap, ◌∙◌, subst, pos, arith}
-use Rattle.std.specs.Prelude.{◌==◌, zero, suc, if◌then◌else◌}
+use Rattle.std.specs.Prelude.{◌==◌, zero, suc, if◌then◌else◌, All, IfSome, Some, None}
 use Rattle.std.specs.List.{AllZip, zip}
-use Rattle.std.specs.Option.{unwrap_or}
+use Rattle.std.specs.Option.{option_map, unwrap_or}
 use Rattle.std.proofs.lemmas.List.{take_more}
 use Rattle.std.specs.declared.cmp.Ordering.{Ordering}
 use Rattle.std.proofs.lemmas.Slice.Zip.{all_zipped_more}
@@ -14,12 +14,12 @@ use Rattle.prima_base.specs.declared.values.Value.{Value}
 use Rattle.prima_base.specs.declared.values.Value.TheVariants.{Int}
 use Rattle.prima_base.specs.declared.values.Val.{Val}
 use Rattle.prima_base.specs.Order.{bytes_cmp, shown}
-use Rattle.prima_base.specs.Columns.{Column, AreColumns, IsRow}
+use Rattle.prima_base.specs.Columns.{Column, AreColumns, IsLawful, IsRow}
 use Rattle.schema_catalog.specs.Databases.{cell}
 use Rattle.schema_catalog.proofs.Cells.{cells_again}
 use Rattle.cond_expr.specs.declared.exprs.Whose.{Whose}
 use Rattle.cond_expr.specs.declared.exprs.Whose.TheVariants.{Free, Alias, Atom}
-use Rattle.cond_expr.specs.Rows.{flat}
+use Rattle.cond_expr.specs.Rows.{flat, AreLawful}
 use Rattle.cond_expr.specs.declared.exprs.Expr.{Expr}
 use Rattle.cond_expr.specs.Seen.{tree}
 use Rattle.cond_expr.specs.Values.{value}
@@ -108,3 +108,50 @@ pub sets_replaced : (columns : List Column) (sets : List (List ℕ × Tree)) (ro
     → map (λ (p : Value × Option Value). unwrap_or p.1 p.0) (zip row os) ≡ with_sets columns sets row
 sets_replaced columns sets row os a r h = ap (λ l. map (λ (p : Value × Option Value). unwrap_or p.1 p.0) (zip l os)) (sym (cells_again columns row a r))
     ∙ zipped_map (λ (c : Column). cell columns row c.0) (λ (c : Column). set_value columns row sets c.0) columns os h
+
+-- ---- the same of values that are borrowed or owned
+
+-- a value, or what is set in its place
+abbrev pub put_for : Val × Option Val → Val
+put_for p = unwrap_or p.1 p.0
+
+shown_replaced : (vs : List Val) (os : List (Option Val)) → map shown (map put_for (zip vs os)) ≡ map (λ (p : Value × Option Value). unwrap_or p.1 p.0) (zip (map shown vs) (map (option_map shown) os))
+shown_replaced [] [] = refl
+shown_replaced [] (o ∷ os) = refl
+shown_replaced (v ∷ vs) [] = refl
+shown_replaced (v ∷ vs) (None ∷ os) = ap (λ l. shown v ∷ l) (shown_replaced vs os)
+shown_replaced (v ∷ vs) (Some w ∷ os) = ap (λ l. shown w ∷ l) (shown_replaced vs os)
+
+zipped_shown : {A : Type 0} (f g : A → Value) (xs : List A) (os : List (Option Val)) → AllZip (λ x (o : Option Val). unwrap_or (option_map shown o) (f x) ≡ g x) xs os
+    → AllZip (λ x (o : Option Value). unwrap_or o (f x) ≡ g x) xs (map (option_map shown) os)
+zipped_shown f g [] [] h = tt
+zipped_shown f g [] (o ∷ os) h = absurd h
+zipped_shown f g (x ∷ xs) [] h = absurd h
+zipped_shown f g (x ∷ xs) (o ∷ os) h = (h.0, zipped_shown f g xs os h.1)
+
+pub values_replaced : (columns : List Column) (sets : List (List ℕ × Tree)) (vs : List Val) (os : List (Option Val)) → AreColumns columns → IsRow columns (map shown vs)
+    → AllZip (λ (c : Column) (o : Option Val). unwrap_or (option_map shown o) (cell columns (map shown vs) c.0) ≡ set_value columns (map shown vs) sets c.0) columns os
+    → map shown (map put_for (zip vs os)) ≡ with_sets columns sets (map shown vs)
+values_replaced columns sets vs os a r h = shown_replaced vs os
+    ∙ sets_replaced columns sets (map shown vs) (map (option_map shown) os) a r
+    (zipped_shown (λ (c : Column). cell columns (map shown vs) c.0) (λ (c : Column). set_value columns (map shown vs) sets c.0) columns os h)
+
+abbrev IsSetLawful : Option Val → Type 0
+IsSetLawful o = IfSome o (λ v. IsLawful (shown v))
+
+lawful_put : (v : Val) (o : Option Val) → IsLawful (shown v) → IsSetLawful o → IsLawful (shown (unwrap_or o v))
+lawful_put v None l s = l
+lawful_put v (Some w) l s = s
+
+pub lawful_replaced : (vs : List Val) (os : List (Option Val)) → All (λ v. IsLawful (shown v)) vs → All (λ o. IfSome o (λ v. IsLawful (shown v))) os → All (λ v. IsLawful (shown v)) (map put_for (zip vs os))
+lawful_replaced [] [] l s k d h = absurd (omega arith)
+lawful_replaced [] (o ∷ os) l s k d h = absurd (omega arith)
+lawful_replaced (v ∷ vs) [] l s k d h = absurd (omega arith)
+lawful_replaced (v ∷ vs) (o ∷ os) l s zero d h = lawful_put v o (l 0 v (omega arith)) (s 0 o (omega arith))
+lawful_replaced (v ∷ vs) (o ∷ os) l s (suc k) d h = lawful_replaced vs os (λ j e b. l (suc j) e (omega arith)) (λ j e b. s (suc j) e (omega arith)) k d (omega arith)
+
+-- lawful one by one
+pub each_lawful : (vs : List Val) → AreLawful vs → All (λ v. IsLawful (shown v)) vs
+each_lawful [] a k d h = absurd (omega arith)
+each_lawful (v ∷ vs) a zero d h = a.0
+each_lawful (v ∷ vs) a (suc k) d h = each_lawful vs a.1 k d (omega arith)

@@ -1,11 +1,11 @@
 //! What changes make of rows: the rows that they give, which rows meet a condition, and what these are updated to.
 
-ghost use Rattle.std.specs.Prelude.{◌≡◌, All, IfOk, List, Option, map};
+ghost use Rattle.std.specs.Prelude.{◌≡◌, All, IfOk, IfSome, List, Option, map};
 ghost use Rattle.std.specs.List.{AllZip, zip};
-ghost use Rattle.std.specs.Option.{unwrap_or};
+ghost use Rattle.std.specs.Option.{option_map, unwrap_or};
 ghost use Rattle.relations.specs.Sets.{set_of};
-ghost use Rattle.prima_base.specs.declared.values.Value.{Value as OneValue};
-ghost use Rattle.prima_base.specs.Order.{row_cmp, shown};
+ghost use Rattle.prima_base.specs.declared.values.Val.{Val as OneVal};
+ghost use Rattle.prima_base.specs.Order.{row_cmp, shown, IsLent};
 ghost use Rattle.prima_base.specs.Columns.{Column as TableColumn, AreColumns, IsLawful, IsRow};
 ghost use Rattle.cond_expr.specs.Rows.{AreLawful};
 ghost use Rattle.cond_expr.specs.Seen.{test};
@@ -14,7 +14,7 @@ ghost use Rattle.cond_expr.specs.AtomColumns.{columns_at};
 ghost use Rattle.smo_types.specs.Changes.{sets_of};
 ghost use Rattle.schema_catalog.specs.Databases.{cell};
 
-use cond_expr::{Column, Cond, Expr, eval, holds, lend_row};
+use cond_expr::{Column, Cond, Expr, eval, holds};
 use prima_base::{ColType, Name, NoMemory, Row, Val, Value};
 use smo_schemas::OwnColumns;
 use std::alloc::Global;
@@ -41,10 +41,11 @@ pub fn row_meets(
     holds(alloc, cond, own.atoms(), values)
 }
 
-// The value that is given for the column with this name, lent.
+// The value that is given for the column with this name, borrowed.
 fn given_value<'a>(cells: &'a [(Name, Value)], name: &Name) -> Val<'a>
     ensures value { shown result ≡ given cells.now name.now }
     ensures lawful { IsLawful (shown result) }
+    ensures borrowed { IsLent result }
 {
     for (column, value) in cells {
         if *column == *name {
@@ -54,9 +55,9 @@ fn given_value<'a>(cells: &'a [(Name, Value)], name: &Name) -> Val<'a>
     Val::Int(0)
 }
 
-/// The values of the row that an INSERT of these cells gives a table of these columns, each lent by its cell; a text has at
-/// most 4,096 bytes and no control byte. A column for which no cell is given has the value 0. The one error is `NoMemory`,
-/// where memory runs out.
+/// The values of the row that an INSERT of these cells gives a table of these columns, each
+/// borrowed from its cell; a text has at most 4,096 bytes and no control byte. A column for which
+/// no cell is given has the value 0. The one error is `NoMemory`, where memory runs out.
 pub fn inserted_row<'a>(
     alloc: Global,
     columns: &[(Name, ColType)],
@@ -64,6 +65,7 @@ pub fn inserted_row<'a>(
 ) -> Result<Vec<Val<'a>>, NoMemory>
     ensures row { IfOk result (λ v. map shown v.items ≡ row_of columns.now cells.now) }
     ensures lawful { IfOk result (λ v. All (λ v. IsLawful (shown v)) v.items) }
+    ensures borrowed { IfOk result (λ v. All IsLent v.items) }
 {
     let mut values = Vec::with_capacity(alloc, columns.len())?;
     for (column, _) in columns {
@@ -73,76 +75,88 @@ pub fn inserted_row<'a>(
 }
 
 // What is set in the column with this name, computed from the row's values; none where nothing is.
-fn set_value(
+fn set_value<'a>(
     alloc: Global,
     atoms: &[Column],
     sets: &[(Name, Expr)],
-    values: &[Val<'_>],
+    values: &[Val<'a>],
     name: &Name,
-) -> Result<Option<Value>, NoMemory>
+) -> Result<Option<Val<'a>>, NoMemory>
     requires { AreLawful values.now }
-    ensures { (columns : List TableColumn) → atoms.now ≡ columns_at 0 columns
-        → IfOk result (λ v. unwrap_or v (cell columns (map shown values.now) name.now)
+    ensures value { (columns : List TableColumn) → atoms.now ≡ columns_at 0 columns
+        → IfOk result (λ v. unwrap_or (option_map shown v) (cell columns (map shown values.now) name.now)
         ≡ set_value columns (map shown values.now) (sets_of sets.now) name.now) }
+    ensures lawful { IfOk result (λ v. IfSome v (λ v. IsLawful (shown v))) }
 {
     for (column, expr) in sets {
         if *column == *name {
             let val = eval(alloc, expr, atoms, values)?;
-            return Ok(Some(val.into_value(alloc)?));
+            return Ok(Some(val));
         }
     }
     Ok(None)
 }
 
-// What is set in each column, computed from the row; none where nothing is.
-fn set_values(
+// What is set in each column, computed from the row's values; none where nothing is.
+fn set_values<'a>(
     alloc: Global,
     columns: &[(Name, ColType)],
     atoms: &[Column],
     sets: &[(Name, Expr)],
-    row: &Row,
-) -> Result<Vec<Option<Value>>, NoMemory>
-    requires { atoms.now ≡ columns_at 0 columns.now }
-    ensures { IfOk result (λ v. AllZip (λ (c : TableColumn) (o : Option OneValue).
-        unwrap_or o (cell columns.now row.now c.0) ≡ set_value columns.now row.now (sets_of sets.now) c.0) columns.now v.items) }
+    values: &[Val<'a>],
+) -> Result<Vec<Option<Val<'a>>>, NoMemory>
+    requires atoms { atoms.now ≡ columns_at 0 columns.now }
+    requires lawful { AreLawful values.now }
+    ensures value { IfOk result (λ v. AllZip (λ (c : TableColumn) (o : Option OneVal).
+        unwrap_or (option_map shown o) (cell columns.now (map shown values.now) c.0)
+        ≡ set_value columns.now (map shown values.now) (sets_of sets.now) c.0) columns.now v.items) }
+    ensures lawful { IfOk result (λ v. All (λ o. IfSome o (λ v. IsLawful (shown v))) v.items) }
 {
-    let values = lend_row(alloc, row.values())?;
     let mut set = Vec::with_capacity(alloc, columns.len())?;
     for (name, _) in columns {
-        set.push(set_value(alloc, atoms, sets, &values, name)?)?;
+        set.push(set_value(alloc, atoms, sets, values, name)?)?;
     }
     Ok(set)
 }
 
-// Each value, or what is set in its place.
-fn replaced(
-    alloc: Global,
-    values: Vec<Value>,
-    set: Vec<Option<Value>>,
-) -> Result<Vec<Value>, NoMemory>
-    ensures { IfOk result (λ v. v.items
-        ≡ map (λ (p : OneValue × Option OneValue). unwrap_or p.1 p.0) (zip values.items set.items)) }
+// The value, or what is set in its place.
+fn put_for<'a>(pair: (Val<'a>, Option<Val<'a>>)) -> Val<'a>
+    ensures { result ≡ unwrap_or pair.entry.1 pair.entry.0 }
 {
-    let replaced = values
-        .into_iter()
-        .zip(set)
-        .map(|(value, set)| set.unwrap_or(value))
-        .collect(alloc)?;
+    let (value, set) = pair;
+    set.unwrap_or(value)
+}
+
+// Each value, or what is set in its place.
+fn replaced<'a>(
+    alloc: Global,
+    values: Vec<Val<'a>>,
+    set: Vec<Option<Val<'a>>>,
+) -> Result<Vec<Val<'a>>, NoMemory>
+    ensures { IfOk result (λ v. v.items
+        ≡ map (λ (p : OneVal × Option OneVal). unwrap_or p.1 p.0) (zip values.entry.items set.entry.items)) }
+{
+    let replaced = values.into_iter().zip(set).map(put_for).collect(alloc)?;
     Ok(replaced)
 }
 
-/// The row of a table of these columns with all that is set, each value computed from the row as it is given. The one
-/// error is `NoMemory`, where memory runs out.
-pub fn row_with_sets(
+/// The values of the row of a table of these columns with all that is set, each computed from the
+/// row as it is given; what is not set stays as it is, and a borrowed text of it where it was. The
+/// values are lawful, as for `eval`, and so are those that are answered. The one error is
+/// `NoMemory`, where memory runs out.
+pub fn row_with_sets<'a>(
     alloc: Global,
     own: &OwnColumns<'_>,
     sets: &[(Name, Expr)],
-    row: &Row,
-) -> Result<Row, NoMemory>
-    requires { AreColumns own.now }
-    ensures { IsRow own.now row.now → IfOk result (λ r. r ≡ with_sets own.now (sets_of sets.now) row.now) }
+    values: Vec<Val<'a>>,
+) -> Result<Vec<Val<'a>>, NoMemory>
+    requires columns { AreColumns own.now }
+    requires lawful { AreLawful values.items }
+    ensures row { IsRow own.now (map shown values.entry.items) → IfOk result (λ v. map shown v.items
+        ≡ with_sets own.now (sets_of sets.now) (map shown values.entry.items)) }
+    ensures lawful { IfOk result (λ v. All (λ v. IsLawful (shown v)) v.items) }
 {
-    let set = set_values(alloc, own.columns(), own.atoms(), sets, row)?;
-    let values = replaced(alloc, row.copy()?.into_values(), set)?;
-    Ok(Row::new(alloc, values))
+    let set = set_values(alloc, own.columns(), own.atoms(), sets, &values)?;
+    let row = replaced(alloc, values, set)?;
+    Ok(row)
 }

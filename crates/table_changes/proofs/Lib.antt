@@ -8,3 +8,4 @@ pub mod OverlayWalks
 pub mod OverlaySteps
 pub mod FilterLaws
 pub mod Differences
+pub mod RowValues

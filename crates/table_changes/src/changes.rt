@@ -14,11 +14,11 @@ ghost use Rattle.smo_meaning.specs.Inserting.{relation_after_each, insertions};
 ghost use Rattle.table_changes.specs.Changing.{AreAccepted, IsChange, of_table};
 
 use crate::candidates::column_asked;
-use crate::overlay::lost_and_gained;
+use crate::overlay::{given_row, lost_and_gained};
 use crate::ranges::own_condition;
 use history_store::{GivenRow, Prepared, StoredTable};
 use prima_base::{ColType, Name, NoMemory, same_name};
-use smo_ops::{Change, OwnColumns, inserted_row, insertions_are_a_union};
+use smo_ops::{Change, OwnColumns, insertions_are_a_union};
 use std::alloc::Global;
 
 /// Whether one of the changes is of the table with this name. It takes no memory.
@@ -51,7 +51,7 @@ fn add_given<'a>(
         return Ok(None);
     };
     let mut rows = rows;
-    rows.push(GivenRow::of(inserted_row(alloc, columns, cells)?))?;
+    rows.push(given_row(alloc, columns, cells)?)?;
     Ok(Some(rows))
 }
 

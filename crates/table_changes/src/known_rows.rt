@@ -1,6 +1,6 @@
 //! The rows by which a table differs from what is stored, while the changes of a command are carried out.
 
-ghost use Rattle.std.specs.Prelude.{◌≡◌, ◌⊎◌, ◌<◌, ◌++◌, ◌&&◌, ℕ, List, Option, [], ◌∷◌, All, map, drop, cond, IfOk, OnOk, slice_index_or, vec_len, if◌then◌else◌};
+ghost use Rattle.std.specs.Prelude.{◌≡◌, ◌⊎◌, ◌<◌, ◌++◌, ◌&&◌, ℕ, List, Option, Some, [], ◌∷◌, All, length, map, drop, cond, IfOk, OnOk, slice_index_or, vec_len, if◌then◌else◌};
 ghost use Rattle.std.specs.Map.{lookup, keys_of};
 ghost use Rattle.std.specs.BTreeMap.{is_at};
 ghost use Rattle.std.specs.List.Sorted.{IsStrictlySortedBy};
@@ -11,8 +11,9 @@ ghost use Rattle.cond_expr.specs.Seen.{test};
 ghost use Rattle.smo_meaning.specs.OneRow.{meets};
 ghost use Rattle.table_changes.specs.Overlay.{known_hits, range_hits, led_of, Led, IsToldLed, IsToldToo, IsPinnedRange};
 
-use cond_expr::{CmpOp, Cond, lend_row, pinned};
-use history_store::Cut;
+use crate::row_values::{copy_values, lend_values, put_values};
+use cond_expr::{CmpOp, Cond, pinned};
+use history_store::{Cut, GivenRow};
 use prima_base::{NoMemory, Row, Value};
 use smo_ops::{OwnColumns, row_meets};
 use std::alloc::Global;
@@ -21,42 +22,48 @@ use std::marker::Model;
 use std::mem;
 
 // A row of these values.
-fn row_of(alloc: Global, values: &[Value]) -> Result<Row, NoMemory>
+fn row_of<'a>(alloc: Global, values: &[Value]) -> Result<GivenRow<'a>, NoMemory>
     ensures { IfOk result (λ row. row ≡ values.now) }
 {
     let mut copies = Vec::with_capacity(alloc, values.len())?;
     for value in values {
         copies.push(value.copy()?)?;
     }
-    Ok(Row::new(alloc, copies))
+    Ok(GivenRow::owned(Row::new(alloc, copies)))
 }
 
-// A row of this value and these behind it.
-fn row_behind(alloc: Global, value: &Value, values: &[Value]) -> Result<Row, NoMemory>
-    ensures { IfOk result (λ row. row ≡ value.now ∷ values.now) }
+// The row after its value in the column.
+fn row_after<'a>(alloc: Global, column: usize, row: &GivenRow<'a>) -> Result<GivenRow<'a>, NoMemory>
+    requires { column < length row.now }
+    ensures { IfOk result (λ led. Some led ≡ led_of column row.now) }
 {
-    let mut copies = Vec::with_capacity(alloc, values.len())?;
-    copies.push(value.copy()?)?;
-    for value in values {
-        copies.push(value.copy()?)?;
-    }
-    Ok(Row::new(alloc, copies))
+    let mut values = Vec::with_capacity(alloc, row.len())?;
+    values.push(row.copy_value(alloc, column)?)?;
+    put_values(alloc, row, 0, &mut values)?;
+    Ok(GivenRow::of(values))
 }
 
-// The row behind its value in the column, where the row has it.
-fn led_row(alloc: Global, column: usize, row: &Row) -> Result<Option<Row>, NoMemory>
+// The same, where the row has a value in the column.
+fn led_row<'a>(
+    alloc: Global,
+    column: usize,
+    row: &GivenRow<'a>,
+) -> Result<Option<GivenRow<'a>>, NoMemory>
     ensures { IfOk result (λ o. o ≡ led_of column row.now) }
 {
-    let values = row.values();
-    if column >= values.len() {
+    if column >= row.len() {
         return Ok(None);
     }
-    Ok(Some(row_behind(alloc, &values[column], values)?))
+    Ok(Some(row_after(alloc, column, row)?))
 }
 
 // What is known of the row from now on, or nothing.
-fn tell(rows: &mut BTreeMap<Row, bool>, row: Row, told: Option<bool>) -> Result<(), NoMemory>
-    ensures { OnOk result ((q : List OneValue) → lookup (is_at (row_cmp q)) rows.new.entries ≡ cond (is_eq (row_cmp row q)) told (lookup (is_at (row_cmp q)) rows.old.entries)) }
+fn tell<'a>(
+    rows: &mut BTreeMap<GivenRow<'a>, bool>,
+    row: GivenRow<'a>,
+    told: Option<bool>,
+) -> Result<(), NoMemory>
+    ensures { OnOk result ((q : List OneValue) → lookup (is_at (row_cmp q)) rows.new.entries ≡ cond (is_eq (row_cmp row.entry q)) told (lookup (is_at (row_cmp q)) rows.old.entries)) }
 {
     match told {
         Some(there) => {
@@ -70,12 +77,12 @@ fn tell(rows: &mut BTreeMap<Row, bool>, row: Row, told: Option<bool>) -> Result<
 }
 
 // The same of the row behind its value, if there is one.
-fn tell_led(
-    led: &mut BTreeMap<Row, bool>,
-    row: Option<Row>,
+fn tell_led<'a>(
+    led: &mut BTreeMap<GivenRow<'a>, bool>,
+    row: Option<GivenRow<'a>>,
     told: Option<bool>,
 ) -> Result<(), NoMemory>
-    ensures { OnOk result (IsToldLed row told led.old.entries led.new.entries) }
+    ensures { OnOk result (IsToldLed row.entry told led.old.entries led.new.entries) }
 {
     match row {
         Some(row) => tell(led, row, told),
@@ -83,39 +90,42 @@ fn tell_led(
     }
 }
 
-// Puts a copy of the row behind the hits where the table has it now and it meets the condition.
-fn put_known(
+// Puts the row without its first values after the hits where the table has it now and it meets the
+// condition.
+fn put_known<'a>(
     alloc: Global,
     own: &OwnColumns<'_>,
     cond: &Cond,
-    row: &[Value],
+    row: &GivenRow<'a>,
+    skip: usize,
     there: bool,
-    hits: &mut Vec<Row>,
+    hits: &mut Vec<GivenRow<'a>>,
 ) -> Result<(), NoMemory>
-    ensures { OnOk result (hits.new.items ≡ hits.old.items ++ (if there && meets own.now (test cond.now) row.now then row.now ∷ [] else [])) }
+    ensures { OnOk result (hits.new.items ≡ hits.old.items ++ (if there && meets own.now (test cond.now) (drop skip row.now) then drop skip row.now ∷ [] else [])) }
 {
     if !there {
         return Ok(());
     }
-    let values = lend_row(alloc, row)?;
+    let values = lend_values(alloc, row, skip)?;
     if !row_meets(alloc, own, cond, &values)? {
         return Ok(());
     }
-    hits.push(row_of(alloc, row)?)?;
+    let values = copy_values(alloc, row, skip)?;
+    hits.push(GivenRow::of(values))?;
     Ok(())
 }
 
-// Puts copies of the rows in the map, from the first cut on and before the other and without their first values, behind the
-// hits where the table has them now and they meet the condition.
-fn put_all_known(
+// Puts the rows in the map, from the first cut on and before the other and without their first
+// values, after the hits where the table has them now and they meet the condition.
+fn put_all_known<'a>(
     alloc: Global,
-    rows: &BTreeMap<Row, bool>,
+    rows: &BTreeMap<GivenRow<'a>, bool>,
     skip: usize,
     own: &OwnColumns<'_>,
     cond: &Cond,
     from: &Cut,
     to: &Cut,
-    hits: &mut Vec<Row>,
+    hits: &mut Vec<GivenRow<'a>>,
 ) -> Result<(), NoMemory>
     ensures { OnOk result (hits.new.items ≡ hits.old.items ++ map (drop skip) (known_hits from.now to.now (λ row. meets own.now (test cond.now) (drop skip row)) rows.now.entries)) }
 {
@@ -124,9 +134,7 @@ fn put_all_known(
         if !to.has_before(row) {
             return Ok(());
         }
-        let values = row.values();
-        let rest = values.split_at(skip.min(values.len())).1;
-        put_known(alloc, own, cond, rest, *there, hits)?;
+        put_known(alloc, own, cond, row, skip, *there, hits)?;
     }
     Ok(())
 }
@@ -142,12 +150,12 @@ fn one_value(alloc: Global, value: &Value) -> Result<Vec<Value>, NoMemory>
 
 /// Rows behind their values in one column, each with whether the table has it now.
 #[derive(Drop)]
-struct LedRows {
+struct LedRows<'a> {
     column: usize,
-    rows: BTreeMap<Row, bool>,
+    rows: BTreeMap<GivenRow<'a>, bool>,
 }
 
-impl Model for LedRows {
+impl<'a> Model for LedRows<'a> {
     ghost use Rattle.table_changes.specs.Overlay.{Led};
 
     ghost Value = { Led };
@@ -157,14 +165,14 @@ impl Model for LedRows {
 
 /// Rows of a map, each behind so many other values, from the one cut on and before the other.
 #[derive(Drop)]
-struct KnownRange<'a> {
-    rows: &'a BTreeMap<Row, bool>,
+struct KnownRange<'m, 'a> {
+    rows: &'m BTreeMap<GivenRow<'a>, bool>,
     skip: usize,
     from: Cut,
     to: Cut,
 }
 
-impl<'a> Model for KnownRange<'a> {
+impl<'m, 'a> Model for KnownRange<'m, 'a> {
     ghost use Rattle.table_changes.specs.Overlay.{KnownRange as PlainRange};
 
     ghost Value = { PlainRange };
@@ -172,7 +180,7 @@ impl<'a> Model for KnownRange<'a> {
     ghost view = { λ r. record { rows = r.rows.now.entries; skip = r.skip; from = r.from; to = r.to } };
 }
 
-impl LedRows {
+impl<'a> LedRows<'a> {
     ghost use Rattle.std.specs.Prelude.{OnOk, IfOk, IfSome, Option, ◌≡◌};
     ghost use Rattle.std.specs.Map.{keys_of};
     ghost use Rattle.std.specs.List.Sorted.{IsStrictlySortedBy};
@@ -181,7 +189,12 @@ impl LedRows {
     ghost use Rattle.table_changes.specs.Overlay.{IsToldToo, IsPinnedRange};
 
     // What is known of the row from now on, or nothing.
-    fn tell(&mut self, alloc: Global, row: &Row, told: Option<bool>) -> Result<(), NoMemory>
+    fn tell(
+        &mut self,
+        alloc: Global,
+        row: &GivenRow<'a>,
+        told: Option<bool>,
+    ) -> Result<(), NoMemory>
         ensures { OnOk result (IsToldToo row.now told self.old self.new) }
     {
         let row = led_row(alloc, self.column, row)?;
@@ -194,7 +207,7 @@ impl LedRows {
         alloc: Global,
         own: &OwnColumns<'_>,
         cond: &Cond,
-    ) -> Result<Option<KnownRange<'_>>, NoMemory>
+    ) -> Result<Option<KnownRange<'_, 'a>>, NoMemory>
         ensures range { IfOk result (λ o. IfSome o (λ r. IsPinnedRange own.now (test cond.now) self.now r)) }
         ensures ordered { IsStrictlySortedBy row_cmp (keys_of self.now.rows) }
     {
@@ -218,8 +231,8 @@ impl LedRows {
 // Whether the one range ends no later than the other, where both are gone along side by side.
 fn is_shorter(
     alloc: Global,
-    one: &KnownRange<'_>,
-    other: &KnownRange<'_>,
+    one: &KnownRange<'_, '_>,
+    other: &KnownRange<'_, '_>,
 ) -> Result<bool, NoMemory> {
     let first = row_of(alloc, one.from.values())?;
     let mut others = other.rows.range(row_of(alloc, other.from.values())?..);
@@ -239,13 +252,13 @@ fn is_shorter(
 
 // The rows with the constant to which the condition pins the column, where it does and they are fewer than those of the
 // range; else these.
-fn shorter<'a>(
+fn shorter<'m, 'a>(
     alloc: Global,
-    led: &'a LedRows,
+    led: &'m LedRows<'a>,
     own: &OwnColumns<'_>,
     cond: &Cond,
-    range: KnownRange<'a>,
-) -> Result<KnownRange<'a>, NoMemory>
+    range: KnownRange<'m, 'a>,
+) -> Result<KnownRange<'m, 'a>, NoMemory>
     ensures range { IfOk result (λ r. (r ≡ range.entry) ⊎ IsPinnedRange own.now (test cond.now) led.now r) }
     ensures ordered { IsStrictlySortedBy row_cmp (keys_of led.now.rows) }
 {
@@ -259,7 +272,7 @@ fn shorter<'a>(
 }
 
 // No rows are known yet behind their values in these columns.
-fn none_led(alloc: Global, columns: &[usize]) -> Result<Vec<LedRows>, NoMemory>
+fn none_led<'a>(alloc: Global, columns: &[usize]) -> Result<Vec<LedRows<'a>>, NoMemory>
     ensures { IfOk result (λ v. All (λ led. led.rows ≡ []) v.items) }
 {
     let mut led = Vec::with_capacity(alloc, columns.len())?;
@@ -273,10 +286,10 @@ fn none_led(alloc: Global, columns: &[usize]) -> Result<Vec<LedRows>, NoMemory>
 }
 
 // What is known of the row from now on, or nothing, behind its values in each column.
-fn tell_each(
+fn tell_each<'a>(
     alloc: Global,
-    led: &mut Vec<LedRows>,
-    row: &Row,
+    led: &mut Vec<LedRows<'a>>,
+    row: &GivenRow<'a>,
     told: Option<bool>,
 ) -> Result<(), NoMemory>
     ensures len { vec_len led.new ≡ vec_len led.old }
@@ -288,16 +301,17 @@ fn tell_each(
     Ok(())
 }
 
-/// Each row by which a table differs from what is stored, with whether the table has it now; and the same rows behind their
-/// values in each column that is asked for.
+/// Each row by which a table differs from what is stored, with whether the table has it now; and
+/// the same rows behind their values in each column that is asked for. The texts that an INSERT
+/// gives stay where they stand in the command.
 #[derive(Drop)]
-pub(crate) struct KnownRows {
+pub(crate) struct KnownRows<'a> {
     alloc: Global,
-    rows: BTreeMap<Row, bool>,
-    led: Vec<LedRows>,
+    rows: BTreeMap<GivenRow<'a>, bool>,
+    led: Vec<LedRows<'a>>,
 }
 
-impl Model for KnownRows {
+impl<'a> Model for KnownRows<'a> {
     ghost use Rattle.table_changes.specs.Overlay.{Known};
 
     ghost Value = { Known };
@@ -309,7 +323,7 @@ impl Model for KnownRows {
     ghost invariant = { IsKnown };
 }
 
-impl KnownRows {
+impl<'a> KnownRows<'a> {
     ghost use Rattle.std.specs.Prelude.{◌≡◌, ◌++◌, List, Option, cond, IfOk, OnOk, []};
     ghost use Rattle.std.specs.Map.{lookup, keys_of};
     ghost use Rattle.std.specs.BTreeMap.{is_at};
@@ -322,7 +336,7 @@ impl KnownRows {
     ghost use Rattle.table_changes.specs.Overlay.{is_kept, HaveKnownHits, CanBeHits};
 
     /// Nothing is known yet. Rows with one value in one of the columns at these places are found at once.
-    pub(crate) fn new(alloc: Global, columns: &[usize]) -> Result<KnownRows, NoMemory>
+    pub(crate) fn new(alloc: Global, columns: &[usize]) -> Result<KnownRows<'a>, NoMemory>
         ensures { IfOk result (λ known. known ≡ []) }
     {
         Ok(KnownRows {
@@ -333,7 +347,7 @@ impl KnownRows {
     }
 
     /// Whether no change has lost the row.
-    pub(crate) fn is_kept(&self, row: &Row) -> bool
+    pub(crate) fn is_kept(&self, row: &GivenRow<'a>) -> bool
         ensures { result ≡ is_kept self.now row.now }
     {
         match self.rows.get(row) {
@@ -343,8 +357,8 @@ impl KnownRows {
     }
 
     /// The table has the row now, or has it no more; or it is again as it is stored, and nothing is known of it.
-    pub(crate) fn set(&mut self, row: Row, told: Option<bool>) -> Result<(), NoMemory>
-        ensures { OnOk result ((q : List OneValue) → lookup (is_at (row_cmp q)) self.new ≡ cond (is_eq (row_cmp row q)) told (lookup (is_at (row_cmp q)) self.old)) }
+    pub(crate) fn set(&mut self, row: GivenRow<'a>, told: Option<bool>) -> Result<(), NoMemory>
+        ensures { OnOk result ((q : List OneValue) → lookup (is_at (row_cmp q)) self.new ≡ cond (is_eq (row_cmp row.entry q)) told (lookup (is_at (row_cmp q)) self.old)) }
     {
         let mut led = mem::replace(&mut self.led, Vec::new(self.alloc));
         tell_each(self.alloc, &mut led, &row, told)?;
@@ -361,7 +375,7 @@ impl KnownRows {
         cond: &Cond,
         from: Cut,
         to: Cut,
-    ) -> Result<KnownRange<'_>, NoMemory>
+    ) -> Result<KnownRange<'_, 'a>, NoMemory>
         ensures { CanBeHits own.now (test cond.now) from to self.now
             → IfOk result (λ r. HaveKnownHits (meets own.now (test cond.now)) self.now (range_hits (meets own.now (test cond.now)) r)) }
     {
@@ -378,7 +392,8 @@ impl KnownRows {
         Ok(range)
     }
 
-    /// Copies of the rows that the table has now by what is known, and that meet the condition, in any order.
+    /// The rows that the table has now by what is known, and that meet the condition, in any order:
+    /// each text that stands in the command stays there.
     pub(crate) fn hits(
         &self,
         alloc: Global,
@@ -386,7 +401,7 @@ impl KnownRows {
         cond: &Cond,
         from: Cut,
         to: Cut,
-    ) -> Result<Vec<Row>, NoMemory>
+    ) -> Result<Vec<GivenRow<'a>>, NoMemory>
         ensures hits { CanBeHits own.now (test cond.now) from to self.now → IfOk result (λ v. HaveKnownHits (meets own.now (test cond.now)) self.now v.items) }
         ensures ordered { IsStrictlySortedBy row_cmp (keys_of self.now) }
     {
@@ -407,8 +422,8 @@ impl KnownRows {
     }
 
     /// The rows, each with whether the table has it now.
-    pub(crate) fn into_rows(self) -> BTreeMap<Row, bool>
-        ensures { result.entries ≡ self }
+    pub(crate) fn into_rows(self) -> BTreeMap<GivenRow<'a>, bool>
+        ensures { result.entries ≡ self.entry }
     {
         let KnownRows { rows, .. } = self;
         rows

@@ -13,6 +13,7 @@ mod filters;
 mod known_rows;
 mod overlay;
 mod ranges;
+mod row_values;
 
 pub use changes::{is_touched, prepare_table};
 pub use filters::hits_pass_filters;

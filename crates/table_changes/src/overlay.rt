@@ -32,6 +32,7 @@ use crate::known_rows::KnownRows;
 use crate::ranges::{
     high_cut, hits_are_between_the_cuts, hits_have_pinned_values, low_cut, own_condition,
 };
+use crate::row_values::copy_values;
 use cond_expr::{CmpOp, Cond, Expr, pinned};
 use history_store::{GivenRow, LentRows, StoredTable};
 use prima_base::{ColType, Name, NoMemory, Row, Val, Value, same_name};
@@ -39,7 +40,7 @@ use smo_ops::{Change, OwnColumns, inserted_row, row_meets, row_with_sets};
 use std::alloc::Global;
 
 // The row that is lent.
-fn owned_row(alloc: Global, values: &[Val<'_>]) -> Result<Row, NoMemory>
+fn owned_row<'a>(alloc: Global, values: &[Val<'_>]) -> Result<GivenRow<'a>, NoMemory>
     requires { AreLawful values.now }
     ensures { IfOk result (λ row. row ≡ map shown values.now) }
 {
@@ -47,17 +48,17 @@ fn owned_row(alloc: Global, values: &[Val<'_>]) -> Result<Row, NoMemory>
     for value in values {
         owned.push(value.copy()?.into_value(alloc)?)?;
     }
-    Ok(Row::new(alloc, owned))
+    Ok(GivenRow::owned(Row::new(alloc, owned)))
 }
 
 // Puts a copy of the stored row behind the hits where it meets the condition and no change has lost it.
-fn put_stored(
+fn put_stored<'a>(
     alloc: Global,
-    overlay: &KnownRows,
+    overlay: &KnownRows<'a>,
     own: &OwnColumns<'_>,
     cond: &Cond,
     values: &[Val<'_>],
-    hits: &mut Vec<Row>,
+    hits: &mut Vec<GivenRow<'a>>,
 ) -> Result<(), NoMemory>
     requires { AreLawful values.now }
     ensures { OnOk result (hits.new.items ≡ hits.old.items ++ (if meets own.now (test cond.now) (map shown values.now) && is_kept overlay.now (map shown values.now) then map shown values.now ∷ [] else [])) }
@@ -75,13 +76,13 @@ fn put_stored(
 
 // Puts copies of those of the stored rows that meet the condition and that no change has lost behind the hits. A row is looked at
 // whole where it passes a filter of the condition.
-fn put_stored_hits(
+fn put_stored_hits<'a>(
     alloc: Global,
     rows: &mut LentRows<'_>,
-    overlay: &KnownRows,
+    overlay: &KnownRows<'a>,
     own: &OwnColumns<'_>,
     cond: &Cond,
-    hits: &mut Vec<Row>,
+    hits: &mut Vec<GivenRow<'a>>,
 ) -> Result<(), NoMemory>
     requires columns { AreColumns own.now }
     ensures { ((row : OneRow) → In row rows.old → IsRow own.now row)
@@ -101,13 +102,13 @@ fn put_stored_hits(
 }
 
 // The rows that the table has now and that meet the condition, in any order.
-fn find_hits(
+fn find_hits<'a>(
     alloc: Global,
     store: &StoredTable,
-    overlay: &KnownRows,
+    overlay: &KnownRows<'a>,
     own: &OwnColumns<'_>,
     cond: &Cond,
-) -> Result<Vec<Row>, NoMemory>
+) -> Result<Vec<GivenRow<'a>>, NoMemory>
     requires columns { AreColumns own.now }
     requires same { store.now.columns ≡ own.now }
     ensures { (m : ℕ) (now : Relation) → m < forever → AllBefore store.now (m + 1) → IsRelation own.now now → LeadsTo overlay.now (relation_at store.now m) now
@@ -124,50 +125,44 @@ fn find_hits(
     Ok(hits)
 }
 
-// Whether the row is stored.
-fn is_stored(store: &StoredTable, row: &Row) -> bool
-    ensures { (m : ℕ) → m < forever → AllBefore store.now (m + 1) → result ≡ has row_cmp row.now (relation_at store.now m) }
-{
-    store.holds(&GivenRow::lent(row.values()))
-}
-
-// The row that an INSERT of these cells gives.
-fn copied_row(
+/// The row that an INSERT of these cells gives, its texts borrowed from them. The one error is
+/// `NoMemory`, where memory runs out.
+pub(crate) fn given_row<'a>(
     alloc: Global,
     columns: &[(Name, ColType)],
-    cells: &[(Name, Value)],
-) -> Result<Row, NoMemory>
+    cells: &'a [(Name, Value)],
+) -> Result<GivenRow<'a>, NoMemory>
     ensures { IfOk result (λ row. row ≡ row_of columns.now cells.now) }
 {
     let values = inserted_row(alloc, columns, cells)?;
-    owned_row(alloc, &values)
+    Ok(GivenRow::of(values))
 }
 
 // The table has the row now, or has it no more. Where it is as it is stored the map has nothing of it.
-fn set_row(
+fn set_row<'a>(
     store: &StoredTable,
-    overlay: &mut KnownRows,
-    row: Row,
+    overlay: &mut KnownRows<'a>,
+    row: GivenRow<'a>,
     there: bool,
 ) -> Result<(), NoMemory>
     ensures { (m : ℕ) → m < forever → AllBefore store.now (m + 1) → OnOk result ((q : List OneValue) → lookup (is_at (row_cmp q)) overlay.new
-        ≡ cond (is_eq (row_cmp row q)) (told (has row_cmp q (relation_at store.now m)) there) (lookup (is_at (row_cmp q)) overlay.old)) }
+        ≡ cond (is_eq (row_cmp row.entry q)) (told (has row_cmp q (relation_at store.now m)) there) (lookup (is_at (row_cmp q)) overlay.old)) }
 {
-    if there == is_stored(store, &row) {
+    if there == store.holds(&row) {
         return overlay.set(row, None);
     }
     overlay.set(row, Some(there))
 }
 
 // The same of several rows.
-fn set_each(
+fn set_each<'a>(
     store: &StoredTable,
-    overlay: &mut KnownRows,
-    rows: Vec<Row>,
+    overlay: &mut KnownRows<'a>,
+    rows: Vec<GivenRow<'a>>,
     there: bool,
 ) -> Result<(), NoMemory>
     ensures { (m : ℕ) → m < forever → AllBefore store.now (m + 1) → OnOk result ((q : List OneValue) → lookup (is_at (row_cmp q)) overlay.new
-        ≡ cond (has row_cmp q rows.items) (told (has row_cmp q (relation_at store.now m)) there) (lookup (is_at (row_cmp q)) overlay.old)) }
+        ≡ cond (has row_cmp q rows.entry.items) (told (has row_cmp q (relation_at store.now m)) there) (lookup (is_at (row_cmp q)) overlay.old)) }
 {
     for row in rows {
         set_row(store, overlay, row, there)?;
@@ -176,29 +171,31 @@ fn set_each(
 }
 
 // What the rows are updated to.
-fn images(
+fn images<'a>(
     alloc: Global,
     own: &OwnColumns<'_>,
     sets: &[(Name, Expr)],
-    rows: &[Row],
-) -> Result<Vec<Row>, NoMemory>
+    rows: &[GivenRow<'a>],
+) -> Result<Vec<GivenRow<'a>>, NoMemory>
     requires { AreColumns own.now }
     ensures { ((row : List OneValue) → In row rows.now → IsRow own.now row) → IfOk result (λ v. v.items ≡ map (with_sets own.now (sets_of sets.now)) rows.now) }
 {
     let mut images = Vec::with_capacity(alloc, rows.len())?;
     for row in rows {
-        images.push(row_with_sets(alloc, own, sets, row)?)?;
+        let values = copy_values(alloc, row, 0)?;
+        let image = row_with_sets(alloc, own, sets, values)?;
+        images.push(GivenRow::of(image))?;
     }
     Ok(images)
 }
 
 // Carries out the change over what those before it have made.
-fn apply(
+fn apply<'a>(
     alloc: Global,
     store: &StoredTable,
-    overlay: &mut KnownRows,
+    overlay: &mut KnownRows<'a>,
     own: &OwnColumns<'_>,
-    change: &Change,
+    change: &'a Change,
 ) -> Result<(), NoMemory>
     requires columns { AreColumns own.now }
     requires same { store.now.columns ≡ own.now }
@@ -207,7 +204,7 @@ fn apply(
 {
     match change {
         Change::Insert { cells, .. } => {
-            let row = copied_row(alloc, own.columns(), cells)?;
+            let row = given_row(alloc, own.columns(), cells)?;
             set_row(store, overlay, row, true)
         }
         Change::Delete { cond, .. } => {
@@ -224,13 +221,13 @@ fn apply(
 }
 
 // The same where the change is of the table.
-fn apply_own(
+fn apply_own<'a>(
     alloc: Global,
     store: &StoredTable,
-    overlay: &mut KnownRows,
+    overlay: &mut KnownRows<'a>,
     own: &OwnColumns<'_>,
     name: &Name,
-    change: &Change,
+    change: &'a Change,
 ) -> Result<(), NoMemory>
     requires columns { AreColumns own.now }
     requires same { store.now.columns ≡ own.now }
@@ -277,13 +274,13 @@ fn pinned_columns(
 
 // What the table's changes, one after the other, make of its rows: those by which it differs from what is stored, each
 // with whether the table has it behind the changes.
-fn overlay_of(
+fn overlay_of<'a>(
     alloc: Global,
     store: &StoredTable,
     own: &OwnColumns<'_>,
     name: &Name,
-    changes: &[Change],
-) -> Result<KnownRows, NoMemory>
+    changes: &'a [Change],
+) -> Result<KnownRows<'a>, NoMemory>
     requires columns { AreColumns own.now }
     requires same { store.now.columns ≡ own.now }
     requires accepted { AreAccepted own.now (of_table name.now (changes_of changes.now)) }
@@ -300,18 +297,18 @@ fn overlay_of(
 
 // Puts the row behind those that are gained, or behind those that are lost.
 fn put_row<'a>(
-    row: Row,
+    row: GivenRow<'a>,
     there: bool,
     lost: &mut Vec<GivenRow<'a>>,
     gained: &mut Vec<GivenRow<'a>>,
 ) -> Result<(), NoMemory>
-    ensures lost { OnOk result (lost.new.items ≡ lost.old.items ++ (if there then [] else row ∷ [])) }
-    ensures gained { OnOk result (gained.new.items ≡ gained.old.items ++ (if there then row ∷ [] else [])) }
+    ensures lost { OnOk result (lost.new.items ≡ lost.old.items ++ (if there then [] else row.entry ∷ [])) }
+    ensures gained { OnOk result (gained.new.items ≡ gained.old.items ++ (if there then row.entry ∷ [] else [])) }
 {
     if there {
-        gained.push(GivenRow::owned(row))?;
+        gained.push(row)?;
     } else {
-        lost.push(GivenRow::owned(row))?;
+        lost.push(row)?;
     }
     Ok(())
 }
@@ -319,11 +316,11 @@ fn put_row<'a>(
 // The rows of the map that are lost and those that are gained.
 fn lost_and_gained_by_now<'a>(
     alloc: Global,
-    overlay: KnownRows,
+    overlay: KnownRows<'a>,
 ) -> Result<(Vec<GivenRow<'a>>, Vec<GivenRow<'a>>), NoMemory>
-    ensures lost { IfOk result (λ (lost, _gained). lost.items ≡ lost_by_now overlay) }
-    ensures gained { IfOk result (λ (_lost, gained). gained.items ≡ gained_by_now overlay) }
-    ensures ordered { IsStrictlySortedBy row_cmp (keys_of overlay) }
+    ensures lost { IfOk result (λ (lost, _gained). lost.items ≡ lost_by_now overlay.entry) }
+    ensures gained { IfOk result (λ (_lost, gained). gained.items ≡ gained_by_now overlay.entry) }
+    ensures ordered { IsStrictlySortedBy row_cmp (keys_of overlay.entry) }
 {
     let mut lost = Vec::new(alloc);
     let mut gained = Vec::new(alloc);
@@ -333,14 +330,15 @@ fn lost_and_gained_by_now<'a>(
     Ok((lost, gained))
 }
 
-/// The rows that the table loses by its changes, and those that it gains, each ascending. The one error is `NoMemory`,
-/// where memory runs out.
+/// The rows that the table loses by its changes, and those that it gains, each ascending. A text
+/// that an INSERT gives stands in its change, also in a row that an UPDATE makes of it. The one
+/// error is `NoMemory`, where memory runs out.
 pub(crate) fn lost_and_gained<'a>(
     alloc: Global,
     columns: &[(Name, ColType)],
     name: &Name,
     store: &StoredTable,
-    changes: &[Change],
+    changes: &'a [Change],
 ) -> Result<(Vec<GivenRow<'a>>, Vec<GivenRow<'a>>), NoMemory>
     requires columns { AreColumns columns.now }
     requires same { store.now.columns ≡ columns.now }

@@ -6,10 +6,9 @@ use Rattle.cond_expr.specs.Values.{value}
 use Rattle.smo_ops.proofs.EffectLaws.{lent_cells, set_here, set_later}
 use Rattle.smo_ops.proofs.effects.set_value.Goals as goal
 
-pub returns-then-eq : goal.returns-then-eq
-returns-then-eq c = λ columns atoms.
-    c.in_ok-into_value.ensures
-    ∙ c.in_ok-val.ensures.value
+pub returns-then-eq-clause-value : goal.returns-then-eq-clause-value
+returns-then-eq-clause-value c = λ columns atoms.
+    c.in_ok-val.ensures.value
     ∙ ap (λ at. value at (tree c.loop-column-item.result.1)) (ap (λ a. flat a c.args.values.now) atoms ∙ lent_cells columns c.args.values.now (map shown c.args.values.now) refl)
     ∙ sym (c.loop-column.invariant columns
     ∙ set_here columns (map shown c.args.values.now) c.args.sets.now c.args.name.now c.loop-column.column-index c.loop-column-item.result c.loop-column-test.true c.loop-column-item.is c.if-eq.ensures)

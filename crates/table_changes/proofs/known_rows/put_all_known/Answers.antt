@@ -1,5 +1,5 @@
-use Rattle.std.proofs.Common.{◌≡◌, ℕ, zero, suc, Bool, true, List, [], ◌∷◌, ◌++◌, length, map, drop, refl, sym, ap, subst, ◌∙◌, arith, append_assoc}
-use Rattle.std.specs.Prelude.{◌&&◌, min, if◌then◌else◌}
+use Rattle.std.proofs.Common.{◌≡◌, Bool, true, List, [], ◌∷◌, ◌++◌, map, drop, refl, sym, ap, subst, ◌∙◌, append_assoc}
+use Rattle.std.specs.Prelude.{◌&&◌, if◌then◌else◌}
 use Rattle.std.specs.List.{filter}
 use Rattle.std.specs.Map.{keys_of}
 use Rattle.std.specs.Map.Iter.{deref_pair}
@@ -49,18 +49,12 @@ returns-then-not-has_before c =
     ∙ ap (λ (es : Known). old ++ map f (keys_of es)) (picked_from (λ (x : Row × Bool). is_before c.args.to.now x.0 && (x.1 && passes x.0)) first known)
     ∙ ap (λ (g : Row). old ++ map f (keys_of (filter (λ (x : Row × Bool). is_le (row_cmp g x.0) && (is_before c.args.to.now x.0 && (x.1 && passes x.0))) known))) (c.in_ok-first.ensures ∙ c.values.ensures)
 
-drop_min : (n : ℕ) (xs : Row) → drop (min n (length xs)) xs ≡ drop n xs
-drop_min zero xs = let e : min 0 (length xs) ≡ 0 = grind arith in rw e refl
-drop_min (suc n) [] = let e : min (suc n) 0 ≡ 0 = grind arith in rw e refl
-drop_min (suc n) (x ∷ xs) = let e : min (suc n) (length (x ∷ xs)) ≡ suc (min n (length xs)) = grind arith in rw e (drop_min n xs)
-
 map_behind : {A B : Type 0} (g : A → B) (xs : List A) (x : A) → map g xs ++ g x ∷ [] ≡ map g (xs ++ x ∷ [])
 map_behind g [] x = refl
 map_behind g (y ∷ xs) x = ap (λ l. g y ∷ l) (map_behind g xs x)
 
 pub loop-row-preserved : goal.loop-row-preserved
 loop-row-preserved c =
-    let meets_it = meets c.args.own.now (test c.args.cond.now) in
     let passes : Row → Bool = λ row. meets c.args.own.now (test c.args.cond.now) (drop c.args.skip row) in
     let f : Row → Row = drop c.args.skip in
     let old = c.args.hits.now.items in
@@ -68,11 +62,8 @@ loop-row-preserved c =
     let row = c.in-Some.row.now in
     let there = c.in-Some.there.now in
     let ys : Known = map deref_pair c.loop-row.yielded in
-    let vs = c.values-values.result.now in
-    let rest_is : c.split_at.result.1.now ≡ f row = c.split_at.ensures.back ∙ ap (λ n. drop n vs) c.min.ensures ∙ drop_min c.args.skip vs ∙ ap f c.values-values.ensures in
     let before : is_before c.args.to.now row ≡ true = sym c.has_before.ensures ∙ c.if-not-has_before.false in
     c.in_ok-put_known.ensures
-    ∙ ap (λ (r : Row). c.loop-row.hits.items ++ (if there && meets_it r then r ∷ [] else [])) rest_is
     ∙ ap (λ (hs : List Row). hs ++ (if there && passes row then f row ∷ [] else [])) c.loop-row.invariant
     ∙ append_assoc old (map f (keys_of (filter p ys))) (if there && passes row then f row ∷ [] else [])
     ∙ ap (λ (rs : List Row). old ++ rs) (ap (λ b. map f (keys_of (filter p ys)) ++ (if b && (there && passes row) then f row ∷ [] else [])) (sym before) ∙ sym (made_more p f ys (row, there)))

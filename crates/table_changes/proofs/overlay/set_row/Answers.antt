@@ -10,22 +10,22 @@ use Rattle.history_store.specs.Store.{relation_at}
 use Rattle.table_changes.proofs.OverlayLaws.{told_same, told_other, one_set}
 use Rattle.table_changes.proofs.overlay.set_row.Goals as goal
 
-pub returns-then-there-is_stored : goal.returns-then-there-is_stored
-returns-then-there-is_stored c = λ m l h.
+pub returns-then-there-holds : goal.returns-then-there-holds
+returns-then-there-holds c = λ m l h.
     let row = c.args.row in
     let stored = relation_at c.args.store.now m in
-    let same : c.args.there ≡ c.is_stored.result = grind (arith, common_steps) in
+    let same : c.args.there ≡ c.holds.result = grind (arith, common_steps) in
     on_ok_weaker c.set.result
     (λ g q. one_set row q stored c.args.there None (lookup (is_at (row_cmp q)) c.args.overlay.now) (lookup (is_at (row_cmp q)) c.set.new.self) (g q)
-    (told_same (has row_cmp row stored) c.args.there (sym (same ∙ c.is_stored.ensures m l h))))
+    (told_same (has row_cmp row stored) c.args.there (sym (same ∙ c.holds.ensures.now m l h))))
     c.set.ensures
 
 pub returns : goal.returns
 returns c = λ m l h.
     let row = c.args.row in
     let stored = relation_at c.args.store.now m in
-    let apart : c.args.there ≢ c.is_stored.result = grind (arith, common_steps) in
+    let apart : c.args.there ≢ c.holds.result = grind (arith, common_steps) in
     on_ok_weaker c.set-2.result
     (λ g q. one_set row q stored c.args.there (Some c.args.there) (lookup (is_at (row_cmp q)) c.args.overlay.now) (lookup (is_at (row_cmp q)) c.set-2.new.self) (g q)
-    (told_other (has row_cmp row stored) c.args.there (λ e. apart (sym e ∙ sym (c.is_stored.ensures m l h)))))
+    (told_other (has row_cmp row stored) c.args.there (λ e. apart (sym e ∙ sym (c.holds.ensures.now m l h)))))
     c.set-2.ensures
