@@ -1,17 +1,19 @@
 ghost use Rattle.std.specs.Prelude.{◌≡◌, IfOk};
 ghost use Rattle.prima_base.specs.declared.refusals.OpKind.TheVariants.{AddColumn as Handled};
-ghost use Rattle.smo_types.specs.Operators.{operator_of};
-ghost use Rattle.smo_meaning.specs.OperatorKinds.{operator_kind};
-ghost use Rattle.rewrite_rules.specs.LivingUnfoldings.{living_by_views};
-ghost use Rattle.rule_views.specs.OperatorViews.{operator_views};
+ghost use Rattle.schema_catalog.specs.Tables.{Tables};
+ghost use Rattle.cond_expr.specs.Seen.{tree};
+ghost use Rattle.smo_types.specs.Operators.{add_column};
 ghost use Rattle.piece_ir.specs.Shown.{all_views_of};
+ghost use Rattle.rule_views.specs.OperatorViews.{operator_views};
+ghost use Rattle.rewrite_rules.specs.LivingUnfoldings.{living_by_views};
 
 use crate::Rule;
 use crate::table_views::{one, one_view};
 use crate::unfolding::unfolded;
 use crate::view::computed;
+use cond_expr::Expr;
 use piece_ir::{Piece, TableViews};
-use prima_base::{NoMemory, OpKind};
+use prima_base::{Name, NoMemory, OpKind};
 use schema_catalog::Schema;
 use smo_types::Op;
 use std::alloc::Global;
@@ -21,22 +23,19 @@ use std::alloc::Global;
 #[derive(Drop)]
 pub struct AddColumnRule;
 
-// The made tables, with their views.
-fn views(alloc: Global, op: &Op, before: &Schema) -> Result<Vec<TableViews>, NoMemory>
-    requires kind { operator_kind (operator_of op.now) ≡ Handled }
-    ensures { IfOk result (λ v. all_views_of v.items ≡ operator_views before.now (operator_of op.now)) }
+/// The made table is the old one, with the expression in place of the new column.
+pub(crate) fn views(
+    alloc: Global,
+    column: &Name,
+    expr: &Expr,
+    table: &Name,
+) -> Result<Vec<TableViews>, NoMemory>
+    ensures { (tables : Tables)
+        → IfOk result (λ v. all_views_of v.items
+        ≡ operator_views tables (add_column column.now (tree expr.now) table.now)) }
 {
-    match op {
-        Op::AddColumn {
-            column,
-            expr,
-            table,
-        } => {
-            let rows = computed(alloc, table, column, expr.copy(alloc)?)?;
-            one(alloc, one_view(alloc, table, rows)?)
-        }
-        _ => unreachable!(),
-    }
+    let rows = computed(alloc, table, column, expr.copy(alloc)?)?;
+    one(alloc, one_view(alloc, table, rows)?)
 }
 
 impl Rule for AddColumnRule {
@@ -56,7 +55,6 @@ impl Rule for AddColumnRule {
         before: &Schema,
         piece: &Piece,
     ) -> Result<Vec<Piece>, NoMemory> {
-        let made = views(alloc, op, before)?;
-        unfolded(alloc, op, before, piece, &made)
+        unfolded(alloc, op, before, piece)
     }
 }

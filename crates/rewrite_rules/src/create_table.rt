@@ -1,16 +1,17 @@
-ghost use Rattle.std.specs.Prelude.{◌≡◌, IfOk};
+ghost use Rattle.std.specs.Prelude.{◌≡◌, IfOk, List};
+ghost use Rattle.prima_base.specs.Columns.{Column};
 ghost use Rattle.prima_base.specs.declared.refusals.OpKind.TheVariants.{CreateTable as Handled};
-ghost use Rattle.smo_types.specs.Operators.{operator_of};
-ghost use Rattle.smo_meaning.specs.OperatorKinds.{operator_kind};
-ghost use Rattle.rewrite_rules.specs.LivingUnfoldings.{living_by_views};
-ghost use Rattle.rule_views.specs.OperatorViews.{operator_views};
+ghost use Rattle.schema_catalog.specs.Tables.{Tables};
+ghost use Rattle.smo_types.specs.Operators.{create_table};
 ghost use Rattle.piece_ir.specs.Shown.{all_views_of};
+ghost use Rattle.rule_views.specs.OperatorViews.{operator_views};
+ghost use Rattle.rewrite_rules.specs.LivingUnfoldings.{living_by_views};
 
 use crate::Rule;
 use crate::table_views::one;
 use crate::unfolding::unfolded;
 use piece_ir::{Piece, TableViews};
-use prima_base::{NoMemory, OpKind};
+use prima_base::{Name, NoMemory, OpKind};
 use schema_catalog::Schema;
 use smo_types::Op;
 use std::alloc::Global;
@@ -20,21 +21,17 @@ use std::alloc::Global;
 #[derive(Drop)]
 pub struct CreateTableRule;
 
-// The made tables, with their views.
-fn views(alloc: Global, op: &Op, before: &Schema) -> Result<Vec<TableViews>, NoMemory>
-    requires kind { operator_kind (operator_of op.now) ≡ Handled }
-    ensures { IfOk result (λ v. all_views_of v.items ≡ operator_views before.now (operator_of op.now)) }
+/// The made table has no view, since it has no row.
+pub(crate) fn views(alloc: Global, table: &Name) -> Result<Vec<TableViews>, NoMemory>
+    ensures { (tables : Tables) → (columns : List Column)
+        → IfOk result (λ v. all_views_of v.items
+        ≡ operator_views tables (create_table table.now columns)) }
 {
-    match op {
-        Op::CreateTable { table, .. } => one(
-            alloc,
-            TableViews {
-                table: table.copy()?,
-                views: Vec::new(alloc),
-            },
-        ),
-        _ => unreachable!(),
-    }
+    let made = TableViews {
+        table: table.copy()?,
+        views: Vec::new(alloc),
+    };
+    one(alloc, made)
 }
 
 impl Rule for CreateTableRule {
@@ -54,7 +51,6 @@ impl Rule for CreateTableRule {
         before: &Schema,
         piece: &Piece,
     ) -> Result<Vec<Piece>, NoMemory> {
-        let made = views(alloc, op, before)?;
-        unfolded(alloc, op, before, piece, &made)
+        unfolded(alloc, op, before, piece)
     }
 }

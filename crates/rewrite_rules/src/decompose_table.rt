@@ -1,16 +1,16 @@
-ghost use Rattle.std.specs.Prelude.{◌≡◌, IfOk};
+ghost use Rattle.std.specs.Prelude.{◌≡◌, IfOk, List, ℕ};
 ghost use Rattle.prima_base.specs.declared.refusals.OpKind.TheVariants.{DecomposeTable as Handled};
-ghost use Rattle.smo_types.specs.Operators.{operator_of};
-ghost use Rattle.smo_meaning.specs.OperatorKinds.{operator_kind};
-ghost use Rattle.rewrite_rules.specs.LivingUnfoldings.{living_by_views};
-ghost use Rattle.rule_views.specs.OperatorViews.{operator_views};
+ghost use Rattle.schema_catalog.specs.Tables.{Tables};
+ghost use Rattle.smo_types.specs.Operators.{decompose_table};
 ghost use Rattle.piece_ir.specs.Shown.{all_views_of};
+ghost use Rattle.rule_views.specs.OperatorViews.{operator_views};
+ghost use Rattle.rewrite_rules.specs.LivingUnfoldings.{living_by_views};
 
 use crate::Rule;
 use crate::table_views::{one_view, two};
 use crate::unfolding::unfolded;
 use piece_ir::{Piece, TableViews, View};
-use prima_base::{NoMemory, OpKind};
+use prima_base::{Name, NoMemory, OpKind};
 use schema_catalog::Schema;
 use smo_types::Op;
 use std::alloc::Global;
@@ -19,24 +19,20 @@ use std::alloc::Global;
 #[derive(Drop)]
 pub struct DecomposeTableRule;
 
-// The made tables, with their views.
-fn views(alloc: Global, op: &Op, before: &Schema) -> Result<Vec<TableViews>, NoMemory>
-    requires kind { operator_kind (operator_of op.now) ≡ Handled }
-    ensures { IfOk result (λ v. all_views_of v.items ≡ operator_views before.now (operator_of op.now)) }
+/// Each made table is the old one, of which fewer columns are named, whichever they are.
+pub(crate) fn views(
+    alloc: Global,
+    table: &Name,
+    left: &Name,
+    right: &Name,
+) -> Result<Vec<TableViews>, NoMemory>
+    ensures { (tables : Tables) → (xs : List (List ℕ)) → (ys : List (List ℕ))
+        → IfOk result (λ v. all_views_of v.items
+        ≡ operator_views tables (decompose_table table.now left.now xs right.now ys)) }
 {
-    match op {
-        Op::DecomposeTable {
-            table,
-            left,
-            right,
-            ..
-        } => {
-            let first = one_view(alloc, left, View::whole(alloc, table)?)?;
-            let second = one_view(alloc, right, View::whole(alloc, table)?)?;
-            two(alloc, first, second)
-        }
-        _ => unreachable!(),
-    }
+    let first = one_view(alloc, left, View::whole(alloc, table)?)?;
+    let second = one_view(alloc, right, View::whole(alloc, table)?)?;
+    two(alloc, first, second)
 }
 
 impl Rule for DecomposeTableRule {
@@ -56,7 +52,6 @@ impl Rule for DecomposeTableRule {
         before: &Schema,
         piece: &Piece,
     ) -> Result<Vec<Piece>, NoMemory> {
-        let made = views(alloc, op, before)?;
-        unfolded(alloc, op, before, piece, &made)
+        unfolded(alloc, op, before, piece)
     }
 }

@@ -1,14 +1,10 @@
-ghost use Rattle.std.specs.Prelude.{◌≡◌, IfOk};
 ghost use Rattle.prima_base.specs.declared.refusals.OpKind.TheVariants.{DropTable as Handled};
-ghost use Rattle.smo_types.specs.Operators.{operator_of};
-ghost use Rattle.smo_meaning.specs.OperatorKinds.{operator_kind};
-ghost use Rattle.rewrite_rules.specs.LivingUnfoldings.{living_by_views};
 ghost use Rattle.rule_views.specs.OperatorViews.{operator_views};
-ghost use Rattle.piece_ir.specs.Shown.{all_views_of};
+ghost use Rattle.rewrite_rules.specs.LivingUnfoldings.{living_by_views};
 
 use crate::Rule;
 use crate::unfolding::unfolded;
-use piece_ir::{Piece, TableViews};
+use piece_ir::Piece;
 use prima_base::{NoMemory, OpKind};
 use schema_catalog::Schema;
 use smo_types::Op;
@@ -17,17 +13,6 @@ use std::alloc::Global;
 /// The rule of DROP TABLE: nothing is made, and a piece stays as it is.
 #[derive(Drop)]
 pub struct DropTableRule;
-
-// The made tables, with their views.
-fn views(alloc: Global, op: &Op, before: &Schema) -> Result<Vec<TableViews>, NoMemory>
-    requires kind { operator_kind (operator_of op.now) ≡ Handled }
-    ensures { IfOk result (λ v. all_views_of v.items ≡ operator_views before.now (operator_of op.now)) }
-{
-    match op {
-        Op::DropTable { .. } => Ok(Vec::new(alloc)),
-        _ => unreachable!(),
-    }
-}
 
 impl Rule for DropTableRule {
     ghost handles = { λ _. Handled };
@@ -46,7 +31,6 @@ impl Rule for DropTableRule {
         before: &Schema,
         piece: &Piece,
     ) -> Result<Vec<Piece>, NoMemory> {
-        let made = views(alloc, op, before)?;
-        unfolded(alloc, op, before, piece, &made)
+        unfolded(alloc, op, before, piece)
     }
 }

@@ -1,17 +1,18 @@
 ghost use Rattle.std.specs.Prelude.{◌≡◌, IfOk};
 ghost use Rattle.prima_base.specs.declared.refusals.OpKind.TheVariants.{JoinTable as Handled};
-ghost use Rattle.smo_types.specs.Operators.{operator_of};
-ghost use Rattle.smo_meaning.specs.OperatorKinds.{operator_kind};
-ghost use Rattle.rewrite_rules.specs.LivingUnfoldings.{living_by_views};
-ghost use Rattle.rule_views.specs.OperatorViews.{operator_views};
+ghost use Rattle.cond_expr.specs.Seen.{test};
+ghost use Rattle.smo_types.specs.Operators.{join_table};
 ghost use Rattle.piece_ir.specs.Shown.{all_views_of};
+ghost use Rattle.rule_views.specs.OperatorViews.{operator_views};
+ghost use Rattle.rewrite_rules.specs.LivingUnfoldings.{living_by_views};
 
 use crate::Rule;
 use crate::pair::paired;
 use crate::table_views::{one, one_view};
 use crate::unfolding::unfolded;
+use cond_expr::Cond;
 use piece_ir::{Piece, TableViews};
-use prima_base::{NoMemory, OpKind};
+use prima_base::{Name, NoMemory, OpKind};
 use schema_catalog::Schema;
 use smo_types::Op;
 use std::alloc::Global;
@@ -21,23 +22,20 @@ use std::alloc::Global;
 #[derive(Drop)]
 pub struct JoinTableRule;
 
-// The made tables, with their views.
-fn views(alloc: Global, op: &Op, before: &Schema) -> Result<Vec<TableViews>, NoMemory>
-    requires kind { operator_kind (operator_of op.now) ≡ Handled }
-    ensures { IfOk result (λ v. all_views_of v.items ≡ operator_views before.now (operator_of op.now)) }
+/// The made table has the pairs of rows that agree on the common columns and meet the condition.
+pub(crate) fn views(
+    alloc: Global,
+    before: &Schema,
+    left: &Name,
+    right: &Name,
+    into: &Name,
+    cond: &Cond,
+) -> Result<Vec<TableViews>, NoMemory>
+    ensures { IfOk result (λ v. all_views_of v.items
+        ≡ operator_views before.now (join_table left.now right.now into.now (test cond.now))) }
 {
-    match op {
-        Op::JoinTable {
-            left,
-            right,
-            into,
-            cond,
-        } => {
-            let pairs = paired(alloc, before, left, right, cond)?;
-            one(alloc, one_view(alloc, into, pairs)?)
-        }
-        _ => unreachable!(),
-    }
+    let pairs = paired(alloc, before, left, right, cond)?;
+    one(alloc, one_view(alloc, into, pairs)?)
 }
 
 impl Rule for JoinTableRule {
@@ -57,7 +55,6 @@ impl Rule for JoinTableRule {
         before: &Schema,
         piece: &Piece,
     ) -> Result<Vec<Piece>, NoMemory> {
-        let made = views(alloc, op, before)?;
-        unfolded(alloc, op, before, piece, &made)
+        unfolded(alloc, op, before, piece)
     }
 }

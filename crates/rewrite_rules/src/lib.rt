@@ -10,6 +10,7 @@ mod drop_column;
 mod drop_table;
 mod every_rule;
 mod join_table;
+mod made_tables;
 mod merge_table;
 mod nop;
 mod pair;

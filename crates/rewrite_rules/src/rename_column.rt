@@ -1,17 +1,17 @@
 ghost use Rattle.std.specs.Prelude.{◌≡◌, IfOk};
 ghost use Rattle.prima_base.specs.declared.refusals.OpKind.TheVariants.{RenameColumn as Handled};
-ghost use Rattle.smo_types.specs.Operators.{operator_of};
-ghost use Rattle.smo_meaning.specs.OperatorKinds.{operator_kind};
-ghost use Rattle.rewrite_rules.specs.LivingUnfoldings.{living_by_views};
-ghost use Rattle.rule_views.specs.OperatorViews.{operator_views};
+ghost use Rattle.schema_catalog.specs.Tables.{Tables};
+ghost use Rattle.smo_types.specs.Operators.{rename_column};
 ghost use Rattle.piece_ir.specs.Shown.{all_views_of};
+ghost use Rattle.rule_views.specs.OperatorViews.{operator_views};
+ghost use Rattle.rewrite_rules.specs.LivingUnfoldings.{living_by_views};
 
 use crate::Rule;
 use crate::table_views::{one, one_view};
 use crate::unfolding::unfolded;
 use crate::view::{column_of, computed};
 use piece_ir::{Piece, TableViews};
-use prima_base::{NoMemory, OpKind};
+use prima_base::{Name, NoMemory, OpKind};
 use schema_catalog::Schema;
 use smo_types::Op;
 use std::alloc::Global;
@@ -20,22 +20,19 @@ use std::alloc::Global;
 #[derive(Drop)]
 pub struct RenameColumnRule;
 
-// The made tables, with their views.
-fn views(alloc: Global, op: &Op, before: &Schema) -> Result<Vec<TableViews>, NoMemory>
-    requires kind { operator_kind (operator_of op.now) ≡ Handled }
-    ensures { IfOk result (λ v. all_views_of v.items ≡ operator_views before.now (operator_of op.now)) }
+/// The made table is the old one, with the old column in place of the new one.
+pub(crate) fn views(
+    alloc: Global,
+    column: &Name,
+    table: &Name,
+    into: &Name,
+) -> Result<Vec<TableViews>, NoMemory>
+    ensures { (tables : Tables)
+        → IfOk result (λ v. all_views_of v.items
+        ≡ operator_views tables (rename_column column.now table.now into.now)) }
 {
-    match op {
-        Op::RenameColumn {
-            column,
-            table,
-            into,
-        } => {
-            let rows = computed(alloc, table, into, column_of(0, column)?)?;
-            one(alloc, one_view(alloc, table, rows)?)
-        }
-        _ => unreachable!(),
-    }
+    let rows = computed(alloc, table, into, column_of(0, column)?)?;
+    one(alloc, one_view(alloc, table, rows)?)
 }
 
 impl Rule for RenameColumnRule {
@@ -55,7 +52,6 @@ impl Rule for RenameColumnRule {
         before: &Schema,
         piece: &Piece,
     ) -> Result<Vec<Piece>, NoMemory> {
-        let made = views(alloc, op, before)?;
-        unfolded(alloc, op, before, piece, &made)
+        unfolded(alloc, op, before, piece)
     }
 }

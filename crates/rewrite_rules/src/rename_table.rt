@@ -1,16 +1,16 @@
 ghost use Rattle.std.specs.Prelude.{◌≡◌, IfOk};
 ghost use Rattle.prima_base.specs.declared.refusals.OpKind.TheVariants.{RenameTable as Handled};
-ghost use Rattle.smo_types.specs.Operators.{operator_of};
-ghost use Rattle.smo_meaning.specs.OperatorKinds.{operator_kind};
-ghost use Rattle.rewrite_rules.specs.LivingUnfoldings.{living_by_views};
-ghost use Rattle.rule_views.specs.OperatorViews.{operator_views};
+ghost use Rattle.schema_catalog.specs.Tables.{Tables};
+ghost use Rattle.smo_types.specs.Operators.{rename_table};
 ghost use Rattle.piece_ir.specs.Shown.{all_views_of};
+ghost use Rattle.rule_views.specs.OperatorViews.{operator_views};
+ghost use Rattle.rewrite_rules.specs.LivingUnfoldings.{living_by_views};
 
 use crate::Rule;
 use crate::table_views::{one, one_view};
 use crate::unfolding::unfolded;
 use piece_ir::{Piece, TableViews, View};
-use prima_base::{NoMemory, OpKind};
+use prima_base::{Name, NoMemory, OpKind};
 use schema_catalog::Schema;
 use smo_types::Op;
 use std::alloc::Global;
@@ -19,17 +19,13 @@ use std::alloc::Global;
 #[derive(Drop)]
 pub struct RenameTableRule;
 
-// The made tables, with their views.
-fn views(alloc: Global, op: &Op, before: &Schema) -> Result<Vec<TableViews>, NoMemory>
-    requires kind { operator_kind (operator_of op.now) ≡ Handled }
-    ensures { IfOk result (λ v. all_views_of v.items ≡ operator_views before.now (operator_of op.now)) }
+/// The made table is the old one, whole.
+pub(crate) fn views(alloc: Global, table: &Name, into: &Name) -> Result<Vec<TableViews>, NoMemory>
+    ensures { (tables : Tables)
+        → IfOk result (λ v. all_views_of v.items
+        ≡ operator_views tables (rename_table table.now into.now)) }
 {
-    match op {
-        Op::RenameTable { table, into } => {
-            one(alloc, one_view(alloc, into, View::whole(alloc, table)?)?)
-        }
-        _ => unreachable!(),
-    }
+    one(alloc, one_view(alloc, into, View::whole(alloc, table)?)?)
 }
 
 impl Rule for RenameTableRule {
@@ -49,7 +45,6 @@ impl Rule for RenameTableRule {
         before: &Schema,
         piece: &Piece,
     ) -> Result<Vec<Piece>, NoMemory> {
-        let made = views(alloc, op, before)?;
-        unfolded(alloc, op, before, piece, &made)
+        unfolded(alloc, op, before, piece)
     }
 }

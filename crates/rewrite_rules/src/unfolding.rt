@@ -4,13 +4,14 @@ ghost use Rattle.smo_types.specs.Operators.{operator_of};
 ghost use Rattle.smo_meaning.specs.After.{op_fault, behind, IsLawful};
 ghost use Rattle.piece_meaning.specs.Typed.{IsTyped};
 ghost use Rattle.piece_meaning.specs.Rules.{KeepsMeaning};
-ghost use Rattle.piece_ir.specs.Shown.{piece_of, pieces_of, all_views_of};
+ghost use Rattle.piece_ir.specs.Shown.{piece_of, pieces_of};
 ghost use Rattle.piece_prune.specs.DeadPieces.{lives};
 ghost use Rattle.rule_views.specs.OperatorViews.{operator_views};
 ghost use Rattle.rewrite_rules.specs.LivingUnfoldings.{living_by_views};
 
+use crate::made_tables::made_tables;
 use dead_conditions::is_dead;
-use piece_ir::{Piece, TableViews, unfold_by};
+use piece_ir::{Piece, unfold_by};
 use prima_base::NoMemory;
 use schema_catalog::Schema;
 use smo_types::Op;
@@ -32,22 +33,21 @@ fn living(pieces: Vec<Piece>) -> Vec<Piece>
     left
 }
 
-/// The piece, unfolded by the views of the tables that the operator makes, without the pieces that are found dead: what a rule
-/// answers.
+/// The piece, unfolded by the views of the tables that the operator makes, without the pieces that are found dead: what each rule
+/// answers. What is made is asked of the operator itself, whichever rule answers.
 pub(crate) fn unfolded(
     alloc: Global,
     op: &Op,
     before: &Schema,
     piece: &Piece,
-    made: &[TableViews],
 ) -> Result<Vec<Piece>, NoMemory>
-    requires views { all_views_of made.now ≡ operator_views before.now (operator_of op.now) }
     requires lawful { IsLawful before.now }
     requires accepted { op_fault before.now (operator_of op.now) ≡ None }
     requires typed { IsTyped (behind before.now (operator_of op.now)) (piece_of piece.now) }
     ensures is { IfOk result (λ news. pieces_of news.items ≡ living_by_views operator_views (operator_of op.now) before.now (piece_of piece.now)) }
     ensures keeps { IfOk result (λ news. KeepsMeaning before.now (operator_of op.now) (piece_of piece.now) (pieces_of news.items)) }
 {
-    let news = unfold_by(alloc, made, piece)?;
+    let made = made_tables(alloc, op, before)?;
+    let news = unfold_by(alloc, &made, piece)?;
     Ok(living(news))
 }

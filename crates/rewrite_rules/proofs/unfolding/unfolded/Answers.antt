@@ -13,7 +13,7 @@ use Rattle.rewrite_rules.proofs.unfolding.unfolded.Goals as goal
 pub returns : goal.returns
 returns c =
     let all : pieces_of c.in_ok-news.news.items ≡ unfoldings (operator_views c.args.before.now (operator_of c.args.op.now)) (piece_of c.args.piece.now) =
-    c.in_ok-news.ensures ∙ ap (λ (views : Views). unfoldings views (piece_of c.args.piece.now)) c.requires.views in
+    c.in_ok-news.ensures ∙ ap (λ (views : Views). unfoldings views (piece_of c.args.piece.now)) c.in_ok-made.ensures in
     let is : pieces_of c.living.result.items ≡ living_by_views operator_views (operator_of c.args.op.now) c.args.before.now (piece_of c.args.piece.now) =
     c.living.ensures ∙ ap (filter lives) all in
     record {
