@@ -33,6 +33,18 @@ pub struct MemDisk {
     ghost bytes_reserved: { vec_len bytes + (room - vec_len written) ≤ vec_capacity bytes },
 }
 
+// Puts these bytes after the others, for which there is room. It takes no memory.
+fn push_all(to: &mut Vec<u8>, bytes: &[u8])
+    requires { vec_len to.old + length bytes.now ≤ vec_capacity to.old }
+    ensures items { to.new.items ≡ to.old.items ++ bytes.now }
+    ensures len { vec_len to.new ≡ vec_len to.old + length bytes.now }
+    ensures capacity { vec_capacity to.new ≡ vec_capacity to.old }
+{
+    for byte in bytes {
+        to.push_reserved(*byte);
+    }
+}
+
 // Writes over what is there, and past the end. It takes no memory.
 fn put_bytes(file: &mut Vec<u8>, at: usize, bytes: &[u8])
     requires begins { at ≤ vec_len file.old }
@@ -42,9 +54,7 @@ fn put_bytes(file: &mut Vec<u8>, at: usize, bytes: &[u8])
     ensures capacity { vec_capacity file.old ≤ vec_capacity file.new }
 {
     let over = bytes.len().min(file.len() - at);
-    if file.extend_from_slice(&bytes[over..]).is_err() {
-        unreachable!();
-    }
+    push_all(file, &bytes[over..]);
     file[at..at + over].copy_from_slice(&bytes[..over]);
 }
 
@@ -150,16 +160,12 @@ impl Disk for MemDisk {
             return Err(Failed);
         }
         put_bytes(&mut self.bytes, at as usize, bytes);
-        if self.written.extend_from_slice(bytes).is_err() {
-            unreachable!();
-        }
+        push_all(&mut self.written, bytes);
         let call = Call::Write {
             at,
             len: bytes.len(),
         };
-        if self.calls.push(call).is_err() {
-            unreachable!();
-        }
+        self.calls.push_reserved(call);
         Ok(())
     }
 
@@ -183,9 +189,7 @@ impl Disk for MemDisk {
             self.faults = self.faults.saturating_add(1);
             return Err(Failed);
         }
-        if self.calls.push(Call::Sync).is_err() {
-            unreachable!();
-        }
+        self.calls.push_reserved(Call::Sync);
         Ok(())
     }
 }

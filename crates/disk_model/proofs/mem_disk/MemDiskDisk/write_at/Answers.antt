@@ -6,9 +6,9 @@ use Rattle.disk_model.proofs.mem_disk.MemDiskDisk.write_at.Goals as goal
 pub returns-clause-writes : goal.returns-clause-writes
 returns-clause-writes c =
     let d = c.args.self.now in
-    let pushed : c.push.new.self.items
+    let pushed : c.push_reserved.new.self.items
     ≡ d.calls.items ++ call.Write c.args.at (length c.args.bytes.now) ∷ [] = search rules in
-    let more : c.extend_from_slice.new.self.items ≡ d.written.items ++ c.args.bytes.now =
+    let more : c.push_all.new.to.items ≡ d.written.items ++ c.args.bytes.now =
     search rules in
     write_writes _ _ _ _ _ _ _ _ _ d.total d.fit d.same c.requires.begins pushed more
     c.put_bytes.ensures.items d.faults
@@ -16,9 +16,9 @@ returns-clause-writes c =
 pub invariant_of-self-2-clause-total : goal.invariant_of-self-2-clause-total
 invariant_of-self-2-clause-total c =
     let d = c.args.self.now in
-    let pushed : c.push.new.self.items
+    let pushed : c.push_reserved.new.self.items
     ≡ d.calls.items ++ call.Write c.args.at (length c.args.bytes.now) ∷ [] = search rules in
-    let more : c.extend_from_slice.new.self.items ≡ d.written.items ++ c.args.bytes.now =
+    let more : c.push_all.new.to.items ≡ d.written.items ++ c.args.bytes.now =
     search rules in
     write_total _ _ _ _ _ _ _ _ _ d.total d.fit d.same c.requires.begins pushed more
     c.put_bytes.ensures.items
@@ -26,9 +26,9 @@ invariant_of-self-2-clause-total c =
 pub invariant_of-self-2-clause-fit : goal.invariant_of-self-2-clause-fit
 invariant_of-self-2-clause-fit c =
     let d = c.args.self.now in
-    let pushed : c.push.new.self.items
+    let pushed : c.push_reserved.new.self.items
     ≡ d.calls.items ++ call.Write c.args.at (length c.args.bytes.now) ∷ [] = search rules in
-    let more : c.extend_from_slice.new.self.items ≡ d.written.items ++ c.args.bytes.now =
+    let more : c.push_all.new.to.items ≡ d.written.items ++ c.args.bytes.now =
     search rules in
     write_fit _ _ _ _ _ _ _ _ _ d.total d.fit d.same c.requires.begins pushed more
     c.put_bytes.ensures.items
@@ -36,9 +36,9 @@ invariant_of-self-2-clause-fit c =
 pub invariant_of-self-2-clause-same : goal.invariant_of-self-2-clause-same
 invariant_of-self-2-clause-same c =
     let d = c.args.self.now in
-    let pushed : c.push.new.self.items
+    let pushed : c.push_reserved.new.self.items
     ≡ d.calls.items ++ call.Write c.args.at (length c.args.bytes.now) ∷ [] = search rules in
-    let more : c.extend_from_slice.new.self.items ≡ d.written.items ++ c.args.bytes.now =
+    let more : c.push_all.new.to.items ≡ d.written.items ++ c.args.bytes.now =
     search rules in
     write_same _ _ _ _ _ _ _ _ _ d.total d.fit d.same c.requires.begins pushed more
     c.put_bytes.ensures.items
@@ -46,9 +46,9 @@ invariant_of-self-2-clause-same c =
 pub returns-clause-listed : goal.returns-clause-listed
 returns-clause-listed c =
     let d = c.args.self.now in
-    let pushed : c.push.new.self.items
+    let pushed : c.push_reserved.new.self.items
     ≡ d.calls.items ++ call.Write c.args.at (length c.args.bytes.now) ∷ [] = search rules in
-    let more : c.extend_from_slice.new.self.items ≡ d.written.items ++ c.args.bytes.now =
+    let more : c.push_all.new.to.items ≡ d.written.items ++ c.args.bytes.now =
     search rules in
     write_steps _ _ _ _ _ _ _ _ _ d.total d.fit d.same c.requires.begins pushed more
     c.put_bytes.ensures.items
