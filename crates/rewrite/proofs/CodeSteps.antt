@@ -66,6 +66,12 @@ each_typed book lawful tables (op ∷ ops) ps good a y =
     all_typed book lawful tables op good a.0 (through_each book (behind tables op) ops ps)
     (each_typed book lawful (behind tables op) ops ps (next_is_lawful tables op good a.0) a.1 y)
 
+-- the first of operators that are all accepted is
+pub first_accepted : (tables : Tables) (ops : List Op) (op : Op) → 1 ≤ length ops → op ≡ get_or ops 0 op → AllAccepted tables (operators_of ops)
+    → op_fault tables (operator_of op) ≡ None
+first_accepted tables [] op l e a = absurd (omega arith)
+first_accepted tables (x ∷ xs) op l e a = ap (λ (o : Op). op_fault tables (operator_of o)) e ∙ a.0
+
 pub rest_typed : (book : Book) → IsLawfulBook book → (tables next : Tables) (ops : List Op) (op : Op) (ps news : List PlainPiece) → IsLawful tables → 1 ≤ length ops → op ≡ get_or ops 0 op
     → AllAccepted tables (operators_of ops) → AllTyped (behind_each tables (operators_of ops)) ps → next ≡ behind tables (operator_of op)
     → news ≡ through_each book next (operators_of (take (length ops - 1) (drop 1 ops))) ps → AllTyped (behind tables (operator_of op)) news

@@ -1,7 +1,8 @@
-ghost use Rattle.std.specs.Prelude.{◌≡◌, ◌+◌, ◌<◌, ◌≤◌, None, IfOk, vec_len};
+ghost use Rattle.std.specs.Prelude.{◌≡◌, ◌+◌, ◌<◌, ◌≤◌, Some, None, IfOk, vec_len};
+ghost use Rattle.prima_base.specs.declared.refusals.OpRefusal.{OpRefusal};
 ghost use Rattle.smo_types.specs.Operators.{operator_of, operators_of};
 ghost use Rattle.smo_types.specs.Commands.{versions_of};
-ghost use Rattle.smo_meaning.specs.After.{op_fault, behind, IsLawful, HaveFewNodes};
+ghost use Rattle.smo_meaning.specs.After.{op_fault, behind, IsLawful, HasFewNodes, HaveFewNodes};
 ghost use Rattle.smo_meaning.specs.Inverses.{behind_each, AllAccepted};
 ghost use Rattle.smo_meaning.specs.Past.{no_tables, tables_from};
 ghost use Rattle.smo_meaning.specs.LawfulPast.{AreVersions};
@@ -39,6 +40,22 @@ fn through(
     Ok(all)
 }
 
+// The schema after an operator: one that is refused changes no table.
+fn schema_after(alloc: Global, before: &Schema, op: &Op) -> Result<Schema, NoMemory>
+    requires few { HasFewNodes (operator_of op.now) }
+    ensures accepted { op_fault before.now (operator_of op.now) ≡ None
+        → IfOk result (λ next. next ≡ behind before.now (operator_of op.now)) }
+    ensures refused { (refusal : OpRefusal) → op_fault before.now (operator_of op.now) ≡ Some refusal
+        → IfOk result (λ next. next ≡ before.now) }
+    ensures lawful { IsLawful before.now → IfOk result (λ next. IsLawful next) }
+{
+    match after(alloc, before, op) {
+        Ok(next) => Ok(next),
+        Err(OpFault::Refused(_)) => before.copy(),
+        Err(OpFault::NoMemory) => Err(NoMemory),
+    }
+}
+
 // Through operators that stand one behind the other, from the last to the first, each on the tables before it.
 fn through_each(
     book: &RuleBook,
@@ -58,11 +75,7 @@ fn through_each(
         [] => Ok(pieces),
         [op, rest @ ..] => {
             book.known();
-            let next = match after(alloc, tables, op) {
-                Ok(next) => next,
-                Err(OpFault::Refused(_)) => unreachable!(),
-                Err(OpFault::NoMemory) => return Err(NoMemory),
-            };
+            let next = schema_after(alloc, tables, op)?;
             let behind = through_each(book, alloc, &next, rest, pieces)?;
             through(book, alloc, op, tables, &behind)
         }
