@@ -9,5 +9,4 @@ pub mod QueryGrammar
 pub mod QueryReader
 pub mod QueryPasses
 pub mod Resolved
-pub mod Wrongs
 pub mod Typings

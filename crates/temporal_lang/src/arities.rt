@@ -2,10 +2,10 @@ ghost use Rattle.std.specs.Prelude.{◌≡◌, ◌<◌, ◌^◌, ◌+◌, map, l
 ghost use Rattle.smo_meaning.specs.First.{first_refusal};
 ghost use Rattle.temporal_lang.specs.Checking.{alike, arities_from, arities};
 ghost use Rattle.temporal_lang.specs.Typings.{kind_lists};
-ghost use Rattle.temporal_lang.specs.Wrongs.{fault_of};
+ghost use Rattle.prima_base.specs.Faults.{IsTested};
 
-use crate::wrongs::Wrong;
-use prima_base::ColType;
+use crate::QueryFault;
+use prima_base::{ColType, Refusal};
 
 // The same types, one for one.
 fn are_alike(first: &[ColType], second: &[ColType]) -> bool
@@ -23,26 +23,27 @@ fn are_alike(first: &[ColType], second: &[ColType]) -> bool
     }
 }
 
-// The first of the branches behind the first whose outputs have not the number and the types of the first's.
-fn wrong_among<'a>(first: &[ColType], others: &[Vec<ColType>]) -> Option<Wrong<'a>>
+// The outputs of each branch after the first have the number and the types of the first's.
+fn check_others(first: &[ColType], others: &[Vec<ColType>]) -> Result<(), QueryFault>
     requires { length others.now < 2 ^ 31 }
-    ensures { fault_of result ≡ first_refusal (arities_from (map Some first.now) 2 (kind_lists others.now)) }
+    ensures { IsTested (first_refusal (arities_from (map Some first.now) 2 (kind_lists others.now))) result }
 {
     for (i, other) in others.iter().enumerate() {
         if !are_alike(first, other) {
-            return Some(Wrong::Arity(i as u32 + 2));
+            return Err(QueryFault::Refused(Refusal::Arity(i as u32 + 2)));
         }
     }
-    None
+    Ok(())
 }
 
-/// The first branch, from 1, whose outputs have not the number and the types of the first branch's.
-pub(crate) fn wrong_arity<'a>(kinds: &[Vec<ColType>]) -> Option<Wrong<'a>>
+/// The outputs of each branch have the number and the types of the first branch's; else the refusal tells the first branch,
+/// from 1, whose have not.
+pub(crate) fn check_arities(kinds: &[Vec<ColType>]) -> Result<(), QueryFault>
     requires { length kinds.now < 2 ^ 31 }
-    ensures { fault_of result ≡ first_refusal (arities (kind_lists kinds.now)) }
+    ensures { IsTested (first_refusal (arities (kind_lists kinds.now))) result }
 {
     match kinds {
-        [] => None,
-        [first, others @ ..] => wrong_among(first, others),
+        [] => Ok(()),
+        [first, others @ ..] => check_others(first, others),
     }
 }

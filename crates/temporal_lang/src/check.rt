@@ -6,8 +6,7 @@ ghost use Rattle.temporal_lang.specs.Checking.{query_fault, IsQueryChecked};
 
 use crate::copies::copy_keeps;
 use crate::names::check_names;
-use crate::periods::wrong_period;
-use crate::refusing::refuse;
+use crate::periods::check_periods;
 use crate::resolving::resolve_branches;
 use crate::sizes::check_query_counts;
 use crate::typing::check_typing;
@@ -35,7 +34,7 @@ pub fn check_query(alloc: Global, schema: &Schema, query: &Query) -> Result<Quer
     check_names(alloc, schema, &query.branches)?;
     let branches = resolve_branches(alloc, schema, &query.branches)?;
     check_typing(alloc, schema, &branches)?;
-    refuse(wrong_period(query.when, &query.keep))?;
+    check_periods(query.when, &query.keep)?;
     let keep = copy_keeps(alloc, &query.keep)?;
     Ok(Query {
         version: query.version,

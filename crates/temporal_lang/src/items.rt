@@ -8,10 +8,10 @@ ghost use Rattle.smo_meaning.specs.First.{first_refusal};
 ghost use Rattle.temporal_lang.specs.Branches.{aliases_of};
 ghost use Rattle.temporal_lang.specs.Atoms.{sources_of, place_of_column, place_of_alias};
 ghost use Rattle.temporal_lang.specs.Checking.{item_tests, holders};
-ghost use Rattle.temporal_lang.specs.Wrongs.{fault_of};
+ghost use Rattle.prima_base.specs.Faults.{IsTested};
 
-use crate::wrongs::Wrong;
-use prima_base::{ColType, Name, same_name};
+use crate::QueryFault;
+use prima_base::{ColType, Name, Refusal, same_name};
 use schema_catalog::Schema;
 
 // Whether one of the columns has the name. A table has few columns, so they are looked through.
@@ -58,18 +58,18 @@ fn is_there(schema: &Schema, table: &Name) -> bool
 }
 
 /// Of each item its table, and then its alias where that stood before.
-pub(crate) fn wrong_item<'a>(schema: &Schema, from: &'a [(Name, Name)]) -> Option<Wrong<'a>>
-    ensures { fault_of result ≡ first_refusal (item_tests schema.now from.now) }
+pub(crate) fn check_items(schema: &Schema, from: &[(Name, Name)]) -> Result<(), QueryFault>
+    ensures { IsTested (first_refusal (item_tests schema.now from.now)) result }
 {
     for (i, (table, alias)) in from.iter().enumerate() {
         if !is_there(schema, table) {
-            return Some(Wrong::NoTable(table));
+            return Err(QueryFault::Refused(Refusal::NoTable(table.copy()?)));
         }
         if has_alias(&from[..i], alias) {
-            return Some(Wrong::Ambiguous(alias));
+            return Err(QueryFault::Refused(Refusal::Ambiguous(alias.copy()?)));
         }
     }
-    None
+    Ok(())
 }
 
 /// How many items have the column.

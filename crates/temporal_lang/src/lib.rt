@@ -21,7 +21,6 @@ mod queries;
 mod query_laws;
 mod query_reader;
 mod references;
-mod refusing;
 mod resolving;
 mod sizes;
 mod slices;
@@ -29,7 +28,6 @@ mod to_atoms;
 mod typing;
 mod when_reader;
 mod whens;
-mod wrongs;
 
 pub use branches::Branch;
 pub use check::check_query;

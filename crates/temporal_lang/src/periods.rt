@@ -1,58 +1,55 @@
 ghost use Rattle.std.specs.Prelude.{◌≡◌, map};
 ghost use Rattle.smo_meaning.specs.First.{first_refusal};
 ghost use Rattle.temporal_lang.specs.Checking.{bounds_fault, when_fault, keep_fault, period_tests};
-ghost use Rattle.temporal_lang.specs.Wrongs.{fault_of};
+ghost use Rattle.prima_base.specs.Faults.{IsTested};
 
-use crate::wrongs::Wrong;
-use crate::{Keep, When};
+use crate::{Keep, QueryFault, When};
+use prima_base::Refusal;
 
-fn wrong_bounds<'a>(start: u64, end: u64) -> Option<Wrong<'a>>
-    ensures { fault_of result ≡ bounds_fault start end }
+fn check_bounds(start: u64, end: u64) -> Result<(), QueryFault>
+    ensures { IsTested (bounds_fault start end) result }
 {
     if start < end {
-        return None;
+        return Ok(());
     }
-    Some(Wrong::EmptyPeriod(start, end))
+    Err(QueryFault::Refused(Refusal::EmptyPeriod(start, end)))
 }
 
-fn wrong_when<'a>(when: When) -> Option<Wrong<'a>>
-    ensures { fault_of result ≡ when_fault when }
+fn check_when(when: When) -> Result<(), QueryFault>
+    ensures { IsTested (when_fault when) result }
 {
     match when {
-        When::Always | When::AsOf(_) => None,
-        When::During(start, end) => wrong_bounds(start, end),
+        When::Always | When::AsOf(_) => Ok(()),
+        When::During(start, end) => check_bounds(start, end),
     }
 }
 
-fn wrong_keep<'a>(keep: Keep) -> Option<Wrong<'a>>
-    ensures { fault_of result ≡ keep_fault keep }
+fn check_keep(keep: Keep) -> Result<(), QueryFault>
+    ensures { IsTested (keep_fault keep) result }
 {
     match keep {
-        Keep::Covering(_) => None,
+        Keep::Covering(_) => Ok(()),
         Keep::Starting(start, end)
         | Keep::Ending(start, end)
         | Keep::Lasting(start, end)
-        | Keep::Overlapping(start, end) => wrong_bounds(start, end),
+        | Keep::Overlapping(start, end) => check_bounds(start, end),
     }
 }
 
-fn wrong_keeps<'a>(keep: &[Keep]) -> Option<Wrong<'a>>
-    ensures { fault_of result ≡ first_refusal (map keep_fault keep.now) }
+fn check_keeps(keep: &[Keep]) -> Result<(), QueryFault>
+    ensures { IsTested (first_refusal (map keep_fault keep.now)) result }
 {
     for condition in keep {
-        if let Some(wrong) = wrong_keep(*condition) {
-            return Some(wrong);
-        }
+        check_keep(*condition)?;
     }
-    None
+    Ok(())
 }
 
-/// The first period without a moment: the slice, and then the conditions of KEEP in their order.
-pub(crate) fn wrong_period<'a>(when: When, keep: &[Keep]) -> Option<Wrong<'a>>
-    ensures { fault_of result ≡ first_refusal (period_tests when keep.now) }
+/// Each period has a moment: the slice, and then the conditions of KEEP in their order. Else the refusal tells the first that has
+/// none.
+pub(crate) fn check_periods(when: When, keep: &[Keep]) -> Result<(), QueryFault>
+    ensures { IsTested (first_refusal (period_tests when keep.now)) result }
 {
-    if let Some(wrong) = wrong_when(when) {
-        return Some(wrong);
-    }
-    wrong_keeps(keep)
+    check_when(when)?;
+    check_keeps(keep)
 }

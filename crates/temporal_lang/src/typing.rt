@@ -12,10 +12,9 @@ ghost use Rattle.smo_meaning.specs.First.{first_refusal};
 ghost use Rattle.temporal_lang.specs.Resolved.{AreSmall, IsSmall, AllSmall, HaveFew, AllKnown};
 ghost use Rattle.temporal_lang.specs.Typings.{IsTyped, IsTypedTest, OutputsTyped, BranchTyped, BranchesTyped};
 
-use crate::arities::wrong_arity;
+use crate::arities::check_arities;
 use crate::atoms::atom_columns;
 use crate::lists::{push, with_room};
-use crate::refusing::refuse;
 use crate::{Branch, QueryFault};
 use cond_expr::{Column, Cond, Expr, cond_size, expr_size, typed_cond, typed_expr};
 use prima_base::{ColType, Refusal};
@@ -138,5 +137,5 @@ pub(crate) fn check_typing(
     ensures { IsTested (first_refusal (typing_tests schema.now (branches_of branches.now))) result }
 {
     let kinds = type_branches(alloc, schema, branches)?;
-    refuse(wrong_arity(&kinds))
+    check_arities(&kinds)
 }

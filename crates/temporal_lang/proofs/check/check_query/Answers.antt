@@ -6,7 +6,6 @@ use Rattle.temporal_lang.specs.Queries.{query_of, a_query}
 use Rattle.temporal_lang.specs.Atoms.{branches_with_atoms}
 use Rattle.temporal_lang.specs.Checking.{names_tests, typing_tests, period_tests, query_fault}
 use Rattle.temporal_lang.specs.Resolved.{HaveFew, AllSmall, AllKnown}
-use Rattle.temporal_lang.specs.Wrongs.{fault_of}
 use Rattle.temporal_lang.proofs.BranchLaws.{all_known, query_small, still_small, still_few}
 use Rattle.temporal_lang.proofs.CheckLaws.{names_first, typing_next, periods_last, both_ways, stop_checked, stop_accepted, stop_refused, still_few_branches, still_query}
 use Rattle.temporal_lang.proofs.check.check_query.Goals as goal
@@ -130,8 +129,8 @@ returns-in_err-check_typing-clause-refused c =
     (λ r h. typing_next tables q few named r (ap (λ bs. first_refusal (typing_tests tables bs)) (sym same) ∙ h))
     c.in_err-check_typing.ensures)
 
-pub returns-in_err-refuse-clause-checked : goal.returns-in_err-refuse-clause-checked
-returns-in_err-refuse-clause-checked c =
+pub returns-in_err-check_periods-clause-checked : goal.returns-in_err-check_periods-clause-checked
+returns-in_err-check_periods-clause-checked c =
     let tables = c.args.schema.now in
     let q = query_of c.args.query.now in
     let few = sym c.in_default.ensures in
@@ -139,16 +138,15 @@ returns-in_err-refuse-clause-checked c =
     let same : branches_of c.deref-3.result.now ≡ branches_with_atoms tables q.branches =
     ap branches_of c.deref-3.ensures.value ∙ c.in_ok-branches.ensures ∙ ap (λ bs. branches_with_atoms tables (branches_of bs)) c.deref-2.ensures.value in
     let typed = ap (λ bs. first_refusal (typing_tests tables bs)) (sym same) ∙ c.in_ok-check_typing.ensures in
-    let asked : first_refusal (period_tests q.when q.keep) ≡ fault_of c.wrong_period.result =
-    ap (λ ks. first_refusal (period_tests q.when ks)) (sym c.deref-4.ensures.value) ∙ sym c.wrong_period.ensures in
-    let p = err_from_is_err_and c.from_residual-in_err-refuse.result c.from_residual-in_err-refuse.ensures.1 in
+    let asked = ap (λ ks. first_refusal (period_tests q.when ks)) (sym c.deref-4.ensures.value) in
+    let p = err_from_is_err_and c.from_residual-in_err-check_periods.result c.from_residual-in_err-check_periods.ensures.1 in
     rw (p.1, p.2)
-    (stop_checked tables q (fault_of c.wrong_period.result) c.in_err-refuse.field-0.0
+    (stop_checked tables q (first_refusal (period_tests q.when c.deref-4.result.now)) c.in_err-check_periods.field-0.0
     (λ r h. periods_last tables q few named typed ∙ asked ∙ h)
-    c.in_err-refuse.ensures)
+    c.in_err-check_periods.ensures)
 
-pub returns-in_err-refuse-clause-accepted : goal.returns-in_err-refuse-clause-accepted
-returns-in_err-refuse-clause-accepted c =
+pub returns-in_err-check_periods-clause-accepted : goal.returns-in_err-check_periods-clause-accepted
+returns-in_err-check_periods-clause-accepted c =
     let tables = c.args.schema.now in
     let q = query_of c.args.query.now in
     let few = sym c.in_default.ensures in
@@ -156,16 +154,15 @@ returns-in_err-refuse-clause-accepted c =
     let same : branches_of c.deref-3.result.now ≡ branches_with_atoms tables q.branches =
     ap branches_of c.deref-3.ensures.value ∙ c.in_ok-branches.ensures ∙ ap (λ bs. branches_with_atoms tables (branches_of bs)) c.deref-2.ensures.value in
     let typed = ap (λ bs. first_refusal (typing_tests tables bs)) (sym same) ∙ c.in_ok-check_typing.ensures in
-    let asked : first_refusal (period_tests q.when q.keep) ≡ fault_of c.wrong_period.result =
-    ap (λ ks. first_refusal (period_tests q.when ks)) (sym c.deref-4.ensures.value) ∙ sym c.wrong_period.ensures in
-    let p = err_from_is_err_and c.from_residual-in_err-refuse.result c.from_residual-in_err-refuse.ensures.1 in
+    let asked = ap (λ ks. first_refusal (period_tests q.when ks)) (sym c.deref-4.ensures.value) in
+    let p = err_from_is_err_and c.from_residual-in_err-check_periods.result c.from_residual-in_err-check_periods.ensures.1 in
     rw (p.1, p.2)
-    (stop_accepted tables q (fault_of c.wrong_period.result) c.in_err-refuse.field-0.0
+    (stop_accepted tables q (first_refusal (period_tests q.when c.deref-4.result.now)) c.in_err-check_periods.field-0.0
     (λ r h. periods_last tables q few named typed ∙ asked ∙ h)
-    c.in_err-refuse.ensures)
+    c.in_err-check_periods.ensures)
 
-pub returns-in_err-refuse-clause-refused : goal.returns-in_err-refuse-clause-refused
-returns-in_err-refuse-clause-refused c =
+pub returns-in_err-check_periods-clause-refused : goal.returns-in_err-check_periods-clause-refused
+returns-in_err-check_periods-clause-refused c =
     let tables = c.args.schema.now in
     let q = query_of c.args.query.now in
     let few = sym c.in_default.ensures in
@@ -173,13 +170,12 @@ returns-in_err-refuse-clause-refused c =
     let same : branches_of c.deref-3.result.now ≡ branches_with_atoms tables q.branches =
     ap branches_of c.deref-3.ensures.value ∙ c.in_ok-branches.ensures ∙ ap (λ bs. branches_with_atoms tables (branches_of bs)) c.deref-2.ensures.value in
     let typed = ap (λ bs. first_refusal (typing_tests tables bs)) (sym same) ∙ c.in_ok-check_typing.ensures in
-    let asked : first_refusal (period_tests q.when q.keep) ≡ fault_of c.wrong_period.result =
-    ap (λ ks. first_refusal (period_tests q.when ks)) (sym c.deref-4.ensures.value) ∙ sym c.wrong_period.ensures in
-    let p = err_from_is_err_and c.from_residual-in_err-refuse.result c.from_residual-in_err-refuse.ensures.1 in
+    let asked = ap (λ ks. first_refusal (period_tests q.when ks)) (sym c.deref-4.ensures.value) in
+    let p = err_from_is_err_and c.from_residual-in_err-check_periods.result c.from_residual-in_err-check_periods.ensures.1 in
     rw (p.1, p.2)
-    (stop_refused tables q (fault_of c.wrong_period.result) c.in_err-refuse.field-0.0
+    (stop_refused tables q (first_refusal (period_tests q.when c.deref-4.result.now)) c.in_err-check_periods.field-0.0
     (λ r h. periods_last tables q few named typed ∙ asked ∙ h)
-    c.in_err-refuse.ensures)
+    c.in_err-check_periods.ensures)
 
 pub invariant_of-result : goal.invariant_of-result
 invariant_of-result c =
@@ -202,11 +198,10 @@ returns-clause-checked c =
     let same : branches_of c.deref-3.result.now ≡ branches_with_atoms tables q.branches =
     ap branches_of c.deref-3.ensures.value ∙ c.in_ok-branches.ensures ∙ ap (λ bs. branches_with_atoms tables (branches_of bs)) c.deref-2.ensures.value in
     let typed = ap (λ bs. first_refusal (typing_tests tables bs)) (sym same) ∙ c.in_ok-check_typing.ensures in
-    let asked : first_refusal (period_tests q.when q.keep) ≡ fault_of c.wrong_period.result =
-    ap (λ ks. first_refusal (period_tests q.when ks)) (sym c.deref-4.ensures.value) ∙ sym c.wrong_period.ensures in
+    let asked = ap (λ ks. first_refusal (period_tests q.when ks)) (sym c.deref-4.ensures.value) in
     let kept = c.in_ok-keep.ensures ∙ c.deref-5.ensures.value in
     let made = c.in_ok-branches.ensures ∙ ap (λ bs. branches_with_atoms tables (branches_of bs)) c.deref-2.ensures.value in (
-      periods_last tables q few named typed ∙ asked ∙ c.in_ok-refuse.ensures,
+      periods_last tables q few named typed ∙ asked ∙ c.in_ok-check_periods.ensures,
       ap (λ bs. a_query q.version bs q.when c.in_ok-keep.keep.items) made ∙ ap (λ ks. a_query q.version (branches_with_atoms tables q.branches) q.when ks) kept,
     )
 
@@ -219,6 +214,5 @@ returns-clause-refused c =
     let same : branches_of c.deref-3.result.now ≡ branches_with_atoms tables q.branches =
     ap branches_of c.deref-3.ensures.value ∙ c.in_ok-branches.ensures ∙ ap (λ bs. branches_with_atoms tables (branches_of bs)) c.deref-2.ensures.value in
     let typed = ap (λ bs. first_refusal (typing_tests tables bs)) (sym same) ∙ c.in_ok-check_typing.ensures in
-    let asked : first_refusal (period_tests q.when q.keep) ≡ fault_of c.wrong_period.result =
-    ap (λ ks. first_refusal (period_tests q.when ks)) (sym c.deref-4.ensures.value) ∙ sym c.wrong_period.ensures in
-    λ r h. both_ways (query_fault tables q) r (periods_last tables q few named typed ∙ asked ∙ c.in_ok-refuse.ensures) h
+    let asked = ap (λ ks. first_refusal (period_tests q.when ks)) (sym c.deref-4.ensures.value) in
+    λ r h. both_ways (query_fault tables q) r (periods_last tables q few named typed ∙ asked ∙ c.in_ok-check_periods.ensures) h

@@ -1,6 +1,6 @@
 use Rattle.std.proofs.Common.{sym, ◌∙◌}
 use Rattle.temporal_lang.proofs.ItemLaws.{item_fine}
-use Rattle.temporal_lang.proofs.items.wrong_item.Goals as goal
+use Rattle.temporal_lang.proofs.items.check_items.Goals as goal
 
 pub loop-i-preserved : goal.loop-i-preserved
 loop-i-preserved c =
