@@ -1,5 +1,6 @@
 -- What the columns of a flat row hold, and which rows are lawful.
-use Rattle.std.specs.Prelude.{ℕ, List, [], ◌∷◌, Bool, true, false, cond, ◌&&◌, ◌==◌, pos, ⊤}
+use Rattle.std.specs.Prelude.{ℕ, List, [], ◌∷◌, map, Bool, true, false, cond, ◌&&◌, ◌==◌, pos, ⊤}
+use Rattle.prima_base.specs.declared.values.Value.{Value}
 use Rattle.prima_base.specs.declared.values.Value.TheVariants.{Int}
 use Rattle.prima_base.specs.declared.values.Val.{Val}
 pub use Rattle.prima_base.specs.Columns.{IsLawful}
@@ -16,11 +17,15 @@ names Free n c = false
 names (Alias a) n c = false
 names (Atom i) n c = (c.atom == i) && same n c.name
 
--- what a reference stands for in one value a column: the first column that it names decides
+-- what a reference stands for in a row of one value a column: the first column that it names decides
+abbrev pub cells : List Column → List Value → Cells
+cells [] row w n = Int (pos 0)
+cells (c ∷ cs) [] w n = Int (pos 0)
+cells (c ∷ cs) (v ∷ row) w n = cond (names w n c) v (cells cs row w n)
+
+-- the same in the row that such values show
 abbrev pub flat : List Column → List Val → Cells
-flat [] vs w n = Int (pos 0)
-flat (c ∷ cs) [] w n = Int (pos 0)
-flat (c ∷ cs) (v ∷ vs) w n = cond (names w n c) (shown v) (flat cs vs w n)
+flat columns vs = cells columns (map shown vs)
 
 abbrev pub AreLawful : List Val → Type 0
 AreLawful [] = ⊤

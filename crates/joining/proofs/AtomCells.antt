@@ -23,13 +23,13 @@ use Rattle.cond_expr.specs.declared.exprs.Whose.{Whose}
 use Rattle.cond_expr.specs.declared.exprs.Whose.TheVariants.{Free, Alias, Atom}
 use Rattle.cond_expr.specs.declared.exprs.Column.{Column as AtomColumn}
 use Rattle.cond_expr.specs.Values.{Cells, value, truth}
-use Rattle.cond_expr.specs.Rows.{same}
+use Rattle.cond_expr.specs.Rows.{same, cells}
 use Rattle.cond_expr.specs.AtomColumns.{columns_at}
 use Rattle.cond_expr.specs.Trees.{Tree, Test}
 use Rattle.plain_answers.specs.Choosing.{chosen_cell, chosen_cells, is_met, answered, answers_over}
 use Rattle.std.proofs.lemmas.List.{length-map}
 use Rattle.joining.specs.declared.sources.Atom.{Atom as OneAtom}
-use Rattle.timed_choices.specs.Keeping.{cells, meets}
+use Rattle.timed_choices.specs.Keeping.{meets}
 use Rattle.timed_choices.specs.Answering.{outputs, one_row}
 use Rattle.timed_choices.specs.Blocks.{types_of, rows_of, answered_rows}
 use Rattle.joining.specs.Sources.{HaveAtoms}

@@ -19,10 +19,10 @@ use Rattle.cond_expr.specs.declared.exprs.Expr.{Expr}
 use Rattle.cond_expr.specs.Trees.{Tree, Test}
 use Rattle.cond_expr.specs.Values.{value}
 use Rattle.cond_expr.specs.Seen.{tree}
-use Rattle.cond_expr.specs.Rows.{AreLent}
+use Rattle.cond_expr.specs.Rows.{AreLent, cells}
 use Rattle.timed_choices.specs.Answering.{one_row, outputs, answer, answers}
 use Rattle.timed_choices.specs.Choosing.{extended_where, pairs}
-use Rattle.timed_choices.specs.Keeping.{cells, meets, value_at}
+use Rattle.timed_choices.specs.Keeping.{meets, value_at}
 use Rattle.timed_choices.specs.Lending.{StaysLent}
 use Rattle.timed_choices.proofs.HeldPairs.{held_pairs}
 use Rattle.timed_choices.proofs.JoinLaws.{start_held}

@@ -4,11 +4,11 @@ ghost use Rattle.std.specs.Prelude.{◌≡◌, ◌+◌, ◌++◌, true, List, le
 ghost use Rattle.std.specs.Ordering.{is_eq};
 ghost use Rattle.prima_base.specs.declared.values.Value.{Value as OneValue};
 ghost use Rattle.prima_base.specs.Order.{value_cmp};
-ghost use Rattle.cond_expr.specs.Rows.{names};
+ghost use Rattle.cond_expr.specs.Rows.{names, cells};
 ghost use Rattle.cond_expr.specs.Seen.{tree, test};
 ghost use Rattle.cond_expr.specs.Faults.{test_references};
 ghost use Rattle.cond_expr.specs.Values.{value};
-ghost use Rattle.timed_choices.specs.Keeping.{value_at, cells, meets, meets_all, picked, lent_tests};
+ghost use Rattle.timed_choices.specs.Keeping.{value_at, meets, meets_all, picked, lent_tests};
 ghost use Rattle.timed_choices.specs.Placing.{place, is_below, all_below};
 ghost use Rattle.cond_expr.specs.References.{lent};
 

@@ -16,7 +16,7 @@ use Rattle.prima_base.specs.OrderLaws.{row_exact}
 use Rattle.cond_expr.specs.declared.exprs.Whose.{Whose}
 use Rattle.cond_expr.specs.declared.exprs.ColRef.{ColRef}
 use Rattle.cond_expr.specs.declared.exprs.Column.{Column}
-use Rattle.cond_expr.specs.Rows.{names}
+use Rattle.cond_expr.specs.Rows.{names, cells}
 use Rattle.cond_expr.specs.Trees.{Test, never, always, compared, all_of, some_of, fails, Tests, no_tests, a_test}
 use Rattle.cond_expr.specs.Values.{all_true}
 use Rattle.cond_expr.specs.Faults.{test_references}
@@ -25,7 +25,7 @@ use Rattle.std.specs.Borrow.{Bor}
 use Rattle.std.proofs.lemmas.List.{map-append}
 use Rattle.cond_expr.specs.declared.exprs.Cond.{Cond}
 use Rattle.cond_expr.specs.Seen.{test}
-use Rattle.timed_choices.specs.Keeping.{value_at, picked, cells, meets, meets_all, lent_tests}
+use Rattle.timed_choices.specs.Keeping.{value_at, picked, meets, meets_all, lent_tests}
 use Rattle.timed_choices.specs.Placing.{place, is_below, all_below}
 use Rattle.cond_expr.specs.Parts.{parts, all_parts as all_parts}
 use Rattle.cond_expr.proofs.ReferenceLaws.{Each, test_within_each}

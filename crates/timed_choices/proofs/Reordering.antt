@@ -16,8 +16,8 @@ use Rattle.cond_expr.specs.declared.exprs.Whose.TheVariants.{Free, Alias, Atom}
 use Rattle.cond_expr.specs.declared.exprs.Column.{Column}
 use Rattle.cond_expr.specs.Trees.{Tree, Test}
 use Rattle.cond_expr.specs.Values.{Cells, value, truth}
-use Rattle.cond_expr.specs.Rows.{names, same}
-use Rattle.timed_choices.specs.Keeping.{cells, meets}
+use Rattle.cond_expr.specs.Rows.{names, same, cells}
+use Rattle.timed_choices.specs.Keeping.{meets}
 use Rattle.timed_choices.specs.Answering.{outputs, one_row}
 use Rattle.timed_choices.specs.Fitting.{AreOwn}
 use Rattle.timed_choices.specs.Blocks.{Block, types_of, rows_of, answered_rows, answered, IsBlock, Apart, AreBlocks}

@@ -1,7 +1,6 @@
 -- Conditions over the values that are shown, and lawful values.
-use Rattle.std.proofs.Common.{◌≡◌, ◌<◌, ℕ, zero, suc, Bool, cond, List, [], ◌∷◌, ◌++◌, map, length, get_or, refl, sym, ap, subst, inl, inr, arith}
+use Rattle.std.proofs.Common.{◌≡◌, ◌<◌, ℕ, zero, suc, Bool, List, [], ◌∷◌, ◌++◌, map, length, get_or, refl, sym, subst, inl, inr, arith}
 use Rattle.std.specs.List.{filter}
-use Rattle.std.proofs.Math.Path.{fun_ext}
 use Rattle.relations.specs.Timed.{Entry}
 use Rattle.relations.proofs.SetLaws.{from_filter}
 use Rattle.prima_base.specs.declared.values.Value.{Value}
@@ -9,23 +8,15 @@ use Rattle.prima_base.specs.declared.values.Val.{Val}
 use Rattle.prima_base.specs.declared.timed_rows.TimedRow.{TimedRow}
 use Rattle.prima_base.specs.Order.{shown}
 use Rattle.prima_base.specs.Timed.{entry_of, entries_of}
-use Rattle.cond_expr.specs.declared.exprs.Whose.{Whose}
 use Rattle.cond_expr.specs.declared.exprs.Column.{Column}
 use Rattle.cond_expr.specs.Trees.{Test}
-use Rattle.cond_expr.specs.Values.{Cells, truth}
-use Rattle.cond_expr.specs.Rows.{names, flat, AreLawful}
-use Rattle.timed_choices.specs.Keeping.{cells, meets, IsLawfulRow, AllLawful}
+use Rattle.cond_expr.specs.Values.{truth}
+use Rattle.cond_expr.specs.Rows.{flat, AreLawful}
+use Rattle.timed_choices.specs.Keeping.{meets, IsLawfulRow, AllLawful}
 
-flat_at : (cs : List Column) (vs : List Val) (w : Whose) (n : List ℕ) → flat cs vs w n ≡ cells cs (map shown vs) w n
-flat_at [] vs w n = refl
-flat_at (c ∷ cs) [] w n = refl
-flat_at (c ∷ cs) (v ∷ vs) w n = ap (λ (x : Value). cond (names w n c) (shown v) x) (flat_at cs vs w n)
-
-pub flat_is : (cs : List Column) (vs : List Val) → flat cs vs ≡ cells cs (map shown vs)
-flat_is cs vs = fun_ext (λ w. fun_ext (λ n. flat_at cs vs w n))
-
+-- values meet what the row that they show meets
 pub met_is : (cs : List Column) (vs : List Val) (c : Test) → truth (flat cs vs) c ≡ meets cs c (map shown vs)
-met_is cs vs c = ap (λ (at : Cells). truth at c) (flat_is cs vs)
+met_is cs vs c = refl
 
 -- lawful values
 pub are_lawful : (vs : List Val) → IsLawfulRow (map shown vs) → AreLawful vs

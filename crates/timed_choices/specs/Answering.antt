@@ -6,7 +6,8 @@ use Rattle.prima_base.specs.declared.values.Value.{Value}
 use Rattle.cond_expr.specs.declared.exprs.Column.{Column}
 use Rattle.cond_expr.specs.Trees.{Tree, Test}
 use Rattle.cond_expr.specs.Values.{value}
-use Rattle.timed_choices.specs.Keeping.{cells, meets}
+use Rattle.cond_expr.specs.Rows.{cells}
+use Rattle.timed_choices.specs.Keeping.{meets}
 
 -- the rows of a choice, one behind the other
 abbrev pub one_row : {V : Type 0} → List (List V) → List V

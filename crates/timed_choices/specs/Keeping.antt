@@ -1,5 +1,5 @@
 -- Which rows are kept beside a choice: those that agree with it on some places, and with which it passes some tests.
-use Rattle.std.specs.Prelude.{◌≡◌, ℕ, Bool, true, ◌&&◌, List, [], ◌∷◌, ◌++◌, map, length, get_or, pos, cond, Option, Some, None, ⊤}
+use Rattle.std.specs.Prelude.{◌≡◌, ℕ, Bool, true, ◌&&◌, List, [], ◌∷◌, ◌++◌, map, length, get_or, pos, Option, Some, None, ⊤}
 use Rattle.relations.specs.Timed.{Entry}
 use Rattle.prima_base.specs.declared.timed_rows.TimedRow.{TimedRow}
 use Rattle.std.specs.Ordering.{is_eq}
@@ -13,8 +13,8 @@ use Rattle.cond_expr.specs.declared.exprs.Cond.{Cond}
 use Rattle.cond_expr.specs.Seen.{test}
 use Rattle.cond_expr.specs.declared.exprs.Column.{Column}
 use Rattle.cond_expr.specs.Trees.{Test}
-use Rattle.cond_expr.specs.Values.{Cells, truth}
-use Rattle.cond_expr.specs.Rows.{names}
+use Rattle.cond_expr.specs.Values.{truth}
+use Rattle.cond_expr.specs.Rows.{cells}
 
 -- the value at a place
 abbrev pub value_at : List Value → ℕ → Value
@@ -23,12 +23,6 @@ value_at values i = get_or values i (Int (pos 0))
 -- the values at some places
 abbrev pub picked : List ℕ → List Value → List Value
 picked places values = map (value_at values) places
-
--- what a reference stands for in one value a column: the first column that it names decides
-abbrev pub cells : List Column → List Value → Cells
-cells [] vs w n = Int (pos 0)
-cells (c ∷ cs) [] w n = Int (pos 0)
-cells (c ∷ cs) (v ∷ vs) w n = cond (names w n c) v (cells cs vs w n)
 
 -- the row meets the condition, and each of some conditions
 abbrev pub meets : List Column → Test → List Value → Bool

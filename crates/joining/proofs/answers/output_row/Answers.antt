@@ -2,18 +2,17 @@ use Rattle.std.proofs.Common.{map, subst, sym, ap, ◌∙◌, take_all, arith}
 use Rattle.std.proofs.lemmas.Simd.{map-map}
 use Rattle.prima_base.specs.Order.{shown}
 use Rattle.cond_expr.specs.Seen.{tree}
-use Rattle.cond_expr.specs.Values.{value, Cells}
+use Rattle.cond_expr.specs.Values.{value}
 use Rattle.timed_choices.specs.Lending.{StaysLent}
 use Rattle.timed_choices.proofs.LentLaws.{stays_more}
-use Rattle.timed_choices.specs.Keeping.{cells}
-use Rattle.timed_choices.proofs.Tests.{flat_is}
+use Rattle.cond_expr.specs.Rows.{cells}
 use Rattle.timed_choices.proofs.OneMore.{map_step}
 use Rattle.joining.proofs.answers.output_row.Goals as goal
 
 pub loop-out-preserved : goal.loop-out-preserved
 loop-out-preserved c = record {
   values = map_step (λ e. value (cells c.args.columns.now (map shown c.args.values.now)) (tree e)) c.args.outs.now c.loop-out.out-index c.out-item.result c.loop-out.row.items c.push.new.self.items c.in_ok-eval.field-0
-      c.loop-out-test.true c.out-item.is c.loop-out.invariant.values (c.in_ok-eval.ensures.value ∙ ap (λ (at : Cells). value at (tree c.out-item.result)) (flat_is c.args.columns.now c.args.values.now)) c.in_ok-push.ensures.items;
+      c.loop-out-test.true c.out-item.is c.loop-out.invariant.values c.in_ok-eval.ensures.value c.in_ok-push.ensures.items;
   lent = λ h. stays_more c.args.columns.now c.args.values.now c.args.outs.now c.loop-out.out-index c.out-item.result c.loop-out.row.items c.push.new.self.items c.in_ok-eval.field-0 c.loop-out-test.true c.out-item.is h (c.loop-out.invariant.lent h) c.in_ok-eval.ensures.value c.in_ok-eval.ensures.borrowed c.in_ok-push.ensures.items;
 }
 

@@ -2,9 +2,8 @@ use Rattle.std.proofs.Common.{◌≡◌, map, take}
 use Rattle.prima_base.specs.Order.{shown}
 use Rattle.cond_expr.specs.Seen.{tree}
 use Rattle.cond_expr.specs.Values.{value}
-use Rattle.cond_expr.specs.Rows.{AreLent}
+use Rattle.cond_expr.specs.Rows.{AreLent, cells}
 use Rattle.timed_choices.specs.Lending.{StaysLent}
-use Rattle.timed_choices.specs.Keeping.{cells}
 use Rattle.joining.proofs.answers.output_row.Given as goal
 
 abbrev pub invariant-loop-out : goal.invariant-loop-out

@@ -3,7 +3,7 @@ use Rattle.std.proofs.lemmas.Simd.{map-map}
 use Rattle.cond_expr.specs.declared.exprs.Expr.{Expr}
 use Rattle.cond_expr.specs.Seen.{tree}
 use Rattle.cond_expr.specs.Values.{value}
-use Rattle.timed_choices.specs.Keeping.{cells}
+use Rattle.cond_expr.specs.Rows.{cells}
 use Rattle.joining.proofs.SingleAtoms.{column_more}
 use Rattle.joining.proofs.single_atom.are_columns.Goals as goal
 

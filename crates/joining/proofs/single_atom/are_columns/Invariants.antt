@@ -3,7 +3,7 @@ use Rattle.prima_base.specs.declared.values.Value.{Value}
 use Rattle.cond_expr.specs.declared.exprs.Expr.{Expr}
 use Rattle.cond_expr.specs.Seen.{tree}
 use Rattle.cond_expr.specs.Values.{value}
-use Rattle.timed_choices.specs.Keeping.{cells}
+use Rattle.cond_expr.specs.Rows.{cells}
 use Rattle.joining.proofs.single_atom.are_columns.Given as goal
 
 abbrev pub invariant-loop-place : goal.invariant-loop-place
