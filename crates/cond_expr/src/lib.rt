@@ -4,6 +4,7 @@
 //! `specs/Seen.antt`), and a value as it is shown.
 #![tactic(auto)]
 
+mod atom_column;
 mod comparisons;
 mod copies;
 mod evals;
@@ -17,6 +18,7 @@ mod references;
 mod sizes;
 mod types;
 
+pub use atom_column::{columns_at, push_columns_at};
 pub use comparisons::{same_way, turned};
 pub use evals::{decide, eval, holds};
 pub use exprs::{CmpOp, ColRef, Column, Cond, Expr, TreeSize, TypeFault, Whose};

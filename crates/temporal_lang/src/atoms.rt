@@ -3,29 +3,12 @@ ghost use Rattle.cond_expr.specs.AtomColumns.{columns_at, atoms_from};
 ghost use Rattle.plain_answers.specs.Branches.{item_columns};
 ghost use Rattle.smo_meaning.specs.Effects.{columns_of};
 
-use cond_expr::Column;
-use prima_base::{ColType, Name, NoMemory};
+use cond_expr::{Column, push_columns_at};
+use prima_base::{Name, NoMemory};
 use schema_catalog::Schema;
 use std::alloc::Global;
 
-// Puts a table's columns, as those of an atom, behind what is there.
-fn push_columns(
-    into: &mut Vec<Column>,
-    atom: u32,
-    columns: &[(Name, ColType)],
-) -> Result<(), NoMemory>
-    ensures { OnOk result (into.new.items ≡ into.old.items ++ columns_at atom columns.now) }
-{
-    for (name, kind) in columns {
-        into.push(Column {
-            atom,
-            name: name.copy()?,
-            kind: *kind,
-        })?;
-    }
-    Ok(())
-}
-
+// Puts the columns of the table of this name, as those of an atom, after what is there; none where there is no such table.
 fn push_table(
     into: &mut Vec<Column>,
     atom: u32,
@@ -35,7 +18,7 @@ fn push_table(
     ensures { OnOk result (into.new.items ≡ into.old.items ++ columns_at atom (columns_of schema.now table.now)) }
 {
     match schema.table(table) {
-        Some(found) => push_columns(into, atom, found.columns()),
+        Some(found) => push_columns_at(into, atom, found.columns()),
         None => Ok(()),
     }
 }
