@@ -442,6 +442,13 @@ impl StoredTable {
         }
     }
 
+    /// The columns, in the order of their names. It takes no memory.
+    pub fn columns(&self) -> &[(Name, ColType)]
+        ensures { result.now ≡ self.now.columns }
+    {
+        &self.columns
+    }
+
     /// How many columns the table has. It takes no memory.
     pub fn width(&self) -> usize
         ensures columns { result ≡ length self.now.columns }

@@ -1,33 +1,27 @@
 -- What is answered of the atoms that were read is what is answered of the tables.
-use Rattle.std.proofs.Common.{◌≡◌, ℕ, zero, suc, ◌+◌, ◌<◌, Bool, true, false, cond, List, [], ◌∷◌, map, refl, sym, ap, ◌∙◌, arith}
+use Rattle.std.proofs.Common.{◌≡◌, ℕ, ◌+◌, ◌<◌, true, List, [], ◌∷◌, map, refl, sym, ap, ◌∙◌, arith}
 use Rattle.std.specs.Prelude.{Option, Some, None}
 use Rattle.std.specs.List.{filter}
 use Rattle.std.proofs.Math.Path.{fun_ext}
 use Rattle.relations.specs.Sets.{Ascends, set_of}
 use Rattle.relations.specs.Spans.{Span, covers}
-use Rattle.relations.specs.Choices.{choices}
-use Rattle.relations.proofs.SetLaws.{in_filter, from_filter, set_ascends, set_same, one_list, below_each, before_in}
+use Rattle.relations.proofs.SetLaws.{set_ascends, set_same}
 use Rattle.prima_base.specs.Order.{row_cmp, bytes_cmp}
 use Rattle.prima_base.specs.OrderLaws.{row_exact, bytes_exact}
-use Rattle.prima_base.specs.declared.values.ColType.TheVariants.{Int}
 use Rattle.prima_base.specs.declared.values.Value.{Value}
 use Rattle.prima_base.specs.declared.timed_rows.TimedRow.{TimedRow}
 use Rattle.prima_base.specs.Columns.{Column, names_of}
 use Rattle.prima_base.specs.Timed.{rows_at}
 use Rattle.schema_catalog.specs.Databases.{cell}
 use Rattle.cond_expr.specs.declared.exprs.ColRef.{ColRef}
-use Rattle.cond_expr.specs.declared.exprs.Column.{Column as AtomColumn}
 use Rattle.cond_expr.specs.Trees.{Tree, Test, always}
-use Rattle.cond_expr.specs.Values.{over, value, truth}
 use Rattle.smo_meaning.specs.OneRow.{Row, Relation, meets}
-use Rattle.smo_meaning.specs.Preconditions.{among}
 use Rattle.smo_meaning.specs.Making.{named}
-use Rattle.smo_meaning.proofs.NameLaws.{among_in, in_among}
 use Rattle.history_store.specs.Store.{Store, relation_at}
 use Rattle.version_groups.specs.Groups.{Kept, table_in}
 use Rattle.version_groups.specs.Standing.{rows_stored}
 use Rattle.cond_expr.specs.AtomColumns.{columns_at}
-use Rattle.plain_answers.specs.Choosing.{chosen_cell, answers_over}
+use Rattle.plain_answers.specs.Choosing.{answers_over}
 use Rattle.plain_answers.specs.Naming.{is_to, written_names, names_at, names_from, all_references}
 use Rattle.plain_answers.specs.Reading.{Read, read_of, read_rows, AsMany, AreEnough, whole_rows}
 use Rattle.plain_answers.specs.Reading.{read_columns as columns_left}
@@ -36,63 +30,15 @@ use Rattle.plain_answers.proofs.ReadLaws.{same_answers}
 use Rattle.joining.specs.declared.sources.Atom.{Atom}
 use Rattle.joining.specs.Sources.{AtomsLent, atom_rows, IsNumbered, AreNumbered, HaveAtoms}
 use Rattle.timed_choices.specs.Lending.{AllLent}
-use Rattle.join_exec.specs.ReadColumns.{read_column, read_columns}
-use Rattle.join_exec.specs.Reading.{AreNames}
 use Rattle.join_exec.specs.Pieces.{columns_stored, stored_columns, stored_rows}
 use Rattle.join_exec.specs.Atoms.{IsReadOf, AreRead, IsReadable, AreReadable}
+use Rattle.join_exec.proofs.LeftNames.{names_left}
 
--- ---- columns, of which the names alone count
-
-abbrev as_columns : List (List ℕ) → List Column
-as_columns names = map (λ (n : List ℕ). (n, Int)) names
-
-columns_of_atom : (i : ℕ) (names : List (List ℕ)) → columns_at i (as_columns names) ≡ read_columns i names
-columns_of_atom i [] = refl
-columns_of_atom i (n ∷ names) = ap (λ (cs : List AtomColumn). read_column i n ∷ cs) (columns_of_atom i names)
-
-names_as : (names : List (List ℕ)) → names_of (as_columns names) ≡ names
-names_as [] = refl
-names_as (n ∷ names) = ap (λ (ns : List (List ℕ)). n ∷ ns) (names_as names)
-
-cell_by_names : (a b : List Column) (row : List Value) (n : List ℕ) → names_of a ≡ names_of b → cell a row n ≡ cell b row n
-cell_by_names [] [] row n e = refl
-cell_by_names [] (d ∷ b) row n e = absurd (cc)
-cell_by_names (c ∷ a) [] row n e = absurd (cc)
-cell_by_names (c ∷ a) (d ∷ b) [] n e = refl
-cell_by_names (c ∷ a) (d ∷ b) (v ∷ row) n e =
-    let first : c.0 ≡ d.0 = cc in
-    let rest : names_of a ≡ names_of b = cc in
-    rw (first, cell_by_names a b row n rest) refl
+-- ---- rows of which columns are left
 
 by_names : (f : List ℕ → Value) (columns : List Column) → map (λ (c : Column). f c.0) columns ≡ map f (names_of columns)
 by_names f [] = refl
 by_names f (c ∷ columns) = ap (λ (vs : List Value). f c.0 ∷ vs) (by_names f columns)
-
-names_filtered : (ns : List (List ℕ)) (columns : List Column) → names_of (named ns columns) ≡ filter (λ n. among n ns) (names_of columns)
-names_filtered ns [] = refl
-names_filtered ns (c ∷ columns) = step (among c.0 ns) (names_filtered ns columns)
-  where
-    step : (b : Bool) → names_of (named ns columns) ≡ filter (λ n. among n ns) (names_of columns)
-        → names_of (cond b (c ∷ named ns columns) (named ns columns)) ≡ cond b (c.0 ∷ filter (λ n. among n ns) (names_of columns)) (filter (λ n. among n ns) (names_of columns))
-    step true e = ap (λ (xs : List (List ℕ)). c.0 ∷ xs) e
-    step false e = e
-
-ascends_filter : (p : List ℕ → Bool) (xs : List (List ℕ)) → Ascends bytes_cmp xs → Ascends bytes_cmp (filter p xs)
-ascends_filter p [] a = tt
-ascends_filter p (x ∷ xs) a =
-    elim (p x) as (λ b. Ascends bytes_cmp (cond b (x ∷ filter p xs) (filter p xs))) [
-      | true ↦ (below_each bytes_cmp x (filter p xs) (λ y m. before_in bytes_cmp x y xs a.0 (from_filter p y xs m).0), ascends_filter p xs a.1)
-      | false ↦ ascends_filter p xs a.1
-    ]
-
--- the columns of these names have just these
-names_left : (ns : List (List ℕ)) (columns : List Column) → Ascends bytes_cmp ns → Ascends bytes_cmp (names_of columns) → AreNames columns ns → names_of (named ns columns) ≡ ns
-names_left ns columns a b known =
-    names_filtered ns columns
-    ∙ one_list bytes_cmp bytes_exact (filter (λ n. among n ns) (names_of columns)) ns (ascends_filter (λ n. among n ns) (names_of columns) b) a (record {
-      there = λ n h. among_in n ns (from_filter (λ x. among x ns) n (names_of columns) h).1;
-      back = λ n h. in_filter (λ x. among x ns) n (names_of columns) (known n h) (in_among n ns h);
-    })
 
 all_kept : (columns : List Column) (rows : Relation) → filter (meets columns always) rows ≡ rows
 all_kept columns [] = refl
@@ -111,17 +57,13 @@ module _ (slice : Span) (i : ℕ) (ns : List (List ℕ)) (a : Atom) where
   number_of None h = absurd h
   number_of (Some s) h = h.number
 
-  columns_are : (o : Option Store) → IsReadOf o slice i ns a → a.columns.items ≡ columns_at i (as_columns ns)
+  columns_are : (o : Option Store) → IsReadOf o slice i ns a → a.columns.items ≡ columns_at i (named ns (columns_stored o))
   columns_are None h = absurd h
-  columns_are (Some s) h = h.columns ∙ sym (columns_of_atom i ns)
+  columns_are (Some s) h = h.columns
 
   lent_of : (o : Option Store) → IsReadOf o slice i ns a → AllLent a.rows.items
   lent_of None h = absurd h
   lent_of (Some s) h = h.lent
-
-  left_of : (o : Option Store) → Ascends bytes_cmp ns → IsReadOf o slice i ns a → IsReadable o ns → names_of (named ns (columns_stored o)) ≡ ns
-  left_of None up h w = absurd h
-  left_of (Some s) up h w = names_left ns s.columns up h.stored.columns w
 
   rows_are : (o : Option Store) (m : ℕ) → Ascends bytes_cmp ns → IsReadOf o slice i ns a → IsReadable o ns → covers slice m ≡ true
       → rows_at a.rows.items m ≡ read_of (record { test = always; names = ns }) (columns_stored o) (rows_stored m o)
@@ -134,11 +76,14 @@ module _ (kept : Kept) (k : ℕ) (slice : Span) (rs : List ColRef) where
   abbrev Taken : ℕ → List (List ℕ) → List Atom → Type 0
   Taken i tables atoms = AreRead kept k slice rs i tables atoms
 
-  abbrev pub its_columns : ℕ → List (List ℕ) → List (List Column)
-  its_columns i [] = []
-  its_columns i (n ∷ tables) = as_columns (names_at i rs) ∷ its_columns (i + 1) tables
+  abbrev its_reads : ℕ → List (List ℕ) → List Read
+  its_reads i tables = whole_rows (names_from i tables rs)
 
-  ascending : (i : ℕ) → Ascends bytes_cmp (names_at i rs)
+  -- the columns that are read of each
+  abbrev pub its_columns : ℕ → List (List ℕ) → List (List Column)
+  its_columns i tables = columns_left (its_reads i tables) (stored_columns kept k tables)
+
+  pub ascending : (i : ℕ) → Ascends bytes_cmp (names_at i rs)
   ascending i = set_ascends bytes_cmp bytes_exact (written_names (filter (is_to i) rs))
 
   pub have_atoms : (i : ℕ) (tables : List (List ℕ)) (atoms : List Atom) → Taken i tables atoms → HaveAtoms i (its_columns i tables) atoms
@@ -169,9 +114,6 @@ module _ (kept : Kept) (k : ℕ) (slice : Span) (rs : List ColRef) where
   atoms_lent i (n ∷ tables) [] h = absurd h
   atoms_lent i (n ∷ tables) (a ∷ atoms) h = (lent_of slice i (names_at i rs) a (table_in kept k n) h.0, atoms_lent (i + 1) tables atoms h.1)
 
-  abbrev its_reads : ℕ → List (List ℕ) → List Read
-  its_reads i tables = whole_rows (names_from i tables rs)
-
   rows_left : (m : ℕ) → covers slice m ≡ true → (i : ℕ) (tables : List (List ℕ)) (atoms : List Atom) → AreRead kept k slice rs i tables atoms → AreReadable kept k rs i tables
       → atom_rows atoms m ≡ read_rows (its_reads i tables) (stored_columns kept k tables) (stored_rows kept k tables m)
   rows_left m c i [] [] h w = refl
@@ -180,17 +122,6 @@ module _ (kept : Kept) (k : ℕ) (slice : Span) (rs : List ColRef) where
   rows_left m c i (n ∷ tables) (a ∷ atoms) h w =
       ap (λ (r : Relation). r ∷ atom_rows atoms m) (rows_are slice i (names_at i rs) a (table_in kept k n) m (ascending i) h.0 w.0 c)
       ∙ ap (λ (more : List Relation). read_of (record { test = always; names = names_at i rs }) (columns_stored (table_in kept k n)) (rows_stored m (table_in kept k n)) ∷ more) (rows_left m c (i + 1) tables atoms h.1 w.1)
-
-  cells_left : (i : ℕ) (tables : List (List ℕ)) (atoms : List Atom) → AreRead kept k slice rs i tables atoms → AreReadable kept k rs i tables → (rows : List Row) (j : ℕ) (name : List ℕ)
-      → chosen_cell (its_columns i tables) rows j name ≡ chosen_cell (columns_left (its_reads i tables) (stored_columns kept k tables)) rows j name
-  cells_left i [] [] h w rows j name = refl
-  cells_left i [] (a ∷ atoms) h w rows j name = absurd h
-  cells_left i (n ∷ tables) [] h w rows j name = absurd h
-  cells_left i (n ∷ tables) (a ∷ atoms) h w [] j name = refl
-  cells_left i (n ∷ tables) (a ∷ atoms) h w (row ∷ rows) zero name =
-      cell_by_names (as_columns (names_at i rs)) (named (names_at i rs) (columns_stored (table_in kept k n))) row name
-      (names_as (names_at i rs) ∙ sym (left_of slice i (names_at i rs) a (table_in kept k n) (ascending i) h.0 w.0))
-  cells_left i (n ∷ tables) (a ∷ atoms) h w (row ∷ rows) (suc j) name = cells_left (i + 1) tables atoms h.1 w.1 rows j name
 
   as_many : (i : ℕ) (tables : List (List ℕ)) → AsMany (its_reads i tables) (stored_columns kept k tables)
   as_many i [] = tt
@@ -216,8 +147,6 @@ module _ (kept : Kept) (k : ℕ) (slice : Span) (outs : List Tree) (c : Test) wh
       let columns = stored_columns kept k tables in
       let relations = stored_rows kept k tables m in
       e
-      ∙ ap (λ (rels : List Relation). set_of row_cmp (answers_over (its_columns kept k slice rs 0 tables) rels outs c)) (rows_left kept k slice rs m inside 0 tables atoms h w)
-      ∙ ap (λ (f : List Row → ℕ → List ℕ → Value). set_of row_cmp (map (λ choice. map (value (over (f choice))) outs) (filter (λ choice. truth (over (f choice)) c) (choices (read_rows reads columns relations)))))
-      (fun_ext (λ choice. fun_ext (λ j. fun_ext (λ n. cells_left kept k slice rs 0 tables atoms h w choice j n))))
+      ∙ ap (λ (rels : List Relation). set_of row_cmp (answers_over (columns_left reads columns) rels outs c)) (rows_left kept k slice rs m inside 0 tables atoms h w)
       ∙ set_same row_cmp row_exact (answers_over (columns_left reads columns) (read_rows reads columns relations) outs c) (answers_over columns relations outs c)
       (same_answers outs c reads columns relations (as_many kept k slice rs 0 tables) (as_many_rows kept k slice rs m tables) (enough 0 tables))

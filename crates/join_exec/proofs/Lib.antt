@@ -7,6 +7,7 @@ pub mod KnownNames
 pub mod RelationRows
 pub mod ReadingLaws
 pub mod LentLaws
+pub mod LeftNames
 pub mod ReadRows
 pub mod AtomAnswers
 pub mod PieceAtoms

@@ -1,28 +1,32 @@
 -- The rows that are read of a table are what its relation has in the columns that were read.
 use Rattle.std.proofs.Common.{◌≡◌, ℕ, true, List, [], ◌∷◌, map, length, refl, sym, ap, ◌∙◌, subst}
 use Rattle.std.proofs.lemmas.List.{length-map}
-use Rattle.relations.specs.Sets.{In, set_of}
+use Rattle.relations.specs.Sets.{Ascends, In, set_of}
 use Rattle.relations.specs.Spans.{Span, covers}
 use Rattle.relations.specs.Timed.{Entry}
 use Rattle.relations.proofs.Held.{in_at, at_ascends, IsHeld}
 use Rattle.relations.proofs.SetLaws.{in_map, from_map, in_set, from_set, set_ascends, one_list}
-use Rattle.prima_base.specs.Order.{row_cmp, shown}
+use Rattle.prima_base.specs.Columns.{Column}
+use Rattle.prima_base.specs.Order.{bytes_cmp, row_cmp, shown}
 use Rattle.prima_base.specs.OrderLaws.{row_exact}
 use Rattle.prima_base.specs.Timed.{entry_of, entries_of, rows_at}
 use Rattle.prima_base.specs.declared.timed_rows.TimedRow.{TimedRow}
 use Rattle.prima_base.specs.declared.values.Value.{Value}
 use Rattle.prima_base.specs.declared.values.Val.{Val}
 use Rattle.cond_expr.specs.declared.exprs.Column.{Column as AtomColumn}
+use Rattle.cond_expr.specs.AtomColumns.{columns_at}
 use Rattle.cond_expr.specs.Rows.{AreLawful}
+use Rattle.smo_meaning.specs.Making.{named}
 use Rattle.schema_catalog.specs.Databases.{cell}
-use Rattle.history_store.specs.Store.{Store, relation_at, row_at}
+use Rattle.history_store.specs.Store.{Store, relation_at, row_at, IsStore}
 use Rattle.timed_choices.specs.Lending.{AllLent}
 use Rattle.timed_choices.specs.Keeping.{IsLawfulRow}
 use Rattle.timed_choices.specs.Fitting.{Fit, AreOwn}
 use Rattle.join_exec.specs.declared.row_parts.Stretch.{Stretch}
 use Rattle.join_exec.specs.Parts.{Part}
 use Rattle.join_exec.specs.Stretches.{part_of, parts_of, picked, IsGathered}
-use Rattle.join_exec.specs.ReadColumns.{read_columns}
+use Rattle.join_exec.specs.Reading.{AreNames}
+use Rattle.join_exec.proofs.LeftNames.{names_left, as_many}
 use Rattle.join_exec.proofs.RelationRows.{relation_row, row_of_key}
 
 abbrev pub rows_in : List Stretch → List TimedRow
@@ -36,9 +40,12 @@ lawful_row : (values : List Val) → AreLawful values → IsLawfulRow (map shown
 lawful_row [] h = tt
 lawful_row (v ∷ values) h = (h.0, lawful_row values h.1)
 
-pub own_columns : (i : ℕ) (names : List (List ℕ)) → AreOwn i (read_columns i names)
+own_columns : (i : ℕ) (columns : List Column) → AreOwn i (columns_at i columns)
 own_columns i [] = tt
-own_columns i (n ∷ names) = (refl, own_columns i names)
+own_columns i (c ∷ columns) = (refl, own_columns i columns)
+
+many_at : (i : ℕ) (columns : List Column) → length (columns_at i columns) ≡ length columns
+many_at i columns = length-map columns _
 
 module _ (s : Store) (slice : Span) (names : List (List ℕ)) (stretches : List Stretch) (g : IsGathered s slice names (parts_of stretches)) where
   abbrev entries : List (Entry (List Value))
@@ -83,24 +90,31 @@ module _ (s : Store) (slice : Span) (names : List (List ℕ)) (stretches : List 
     back = λ x h. (in_at row_cmp row_exact entries x m).1 (back m x inside (from_set row_cmp row_exact x (cut_rows m) h));
   })
 
-  -- each row has a value for each column that was read
-  pub rows_fit : (i : ℕ) → Fit (length (read_columns i names)) entries
-  rows_fit i = λ e h.
+  -- each row has a value for each name
+  pub rows_fit : Fit (length names) entries
+  rows_fit = λ e h.
       let t = stretch_of e h in
-      subst (λ (w : Entry (List Value)). (length w.item ≡ length (read_columns i names)) × IsLawfulRow w.item) t.2
-      (g.wide (part_of t.0) (in_map part_of t.0 stretches t.1) ∙ sym (length-map names _), lawful_row t.0.row.values.items t.0.lawful)
+      subst (λ (w : Entry (List Value)). (length w.item ≡ length names) × IsLawfulRow w.item) t.2
+      (g.wide (part_of t.0) (in_map part_of t.0 stretches t.1), lawful_row t.0.row.values.items t.0.lawful)
 
 -- the same of what a call made, step by step
-module _ (s : Store) (slice : Span) (i : ℕ) (names given : List (List ℕ)) (stretches : List Stretch) (rows : List TimedRow) (columns : List AtomColumn) (is : given ≡ names) (g : IsGathered s slice given (parts_of stretches))
-    (made : rows ≡ rows_in stretches) (read : columns ≡ read_columns i names) where
+module _ (s : Store) (slice : Span) (i : ℕ) (names given again : List (List ℕ)) (stretches : List Stretch) (rows : List TimedRow) (its left shown : List Column) (columns : List AtomColumn)
+    (is : given ≡ names) (g : IsGathered s slice given (parts_of stretches)) (made : rows ≡ rows_in stretches)
+    (asked : again ≡ names) (stored : its ≡ s.columns) (chosen : left ≡ named again its) (seen : shown ≡ left) (read : columns ≡ columns_at i shown) where
   gathered : IsGathered s slice names (parts_of stretches)
   gathered = subst (λ (ns : List (List ℕ)). IsGathered s slice ns (parts_of stretches)) is g
 
-  pub made_own : AreOwn i columns
-  made_own = subst (AreOwn i) (sym read) (own_columns i names)
+  pub made_columns : columns ≡ columns_at i (named names s.columns)
+  made_columns = read ∙ ap (columns_at i) (seen ∙ chosen ∙ ap (λ (ns : List (List ℕ)). named ns its) asked ∙ ap (named names) stored)
 
-  pub made_fit : Fit (length columns) (entries_of rows)
-  made_fit = subst (λ (cs : List AtomColumn). Fit (length cs) (entries_of rows)) (sym read) (subst (λ (rs : List TimedRow). Fit (length (read_columns i names)) (entries_of rs)) (sym made) (rows_fit s slice names stretches gathered i))
+  pub made_own : AreOwn i columns
+  made_own = subst (AreOwn i) (sym read) (own_columns i shown)
+
+  pub made_fit : IsStore s → AreNames s.columns names → Ascends bytes_cmp names → Fit (length columns) (entries_of rows)
+  made_fit w known up =
+      let many : length columns ≡ length names =
+      ap (λ (cs : List AtomColumn). length cs) made_columns ∙ many_at i (named names s.columns) ∙ as_many names s.columns (names_left names s.columns up w.columns known) in
+      subst (λ n. Fit n (entries_of rows)) (sym many) (subst (λ (rs : List TimedRow). Fit (length names) (entries_of rs)) (sym made) (rows_fit s slice names stretches gathered))
 
   pub made_lent : AllLent rows
   made_lent = subst AllLent (sym made) (all_lent stretches)

@@ -8,17 +8,18 @@ use Rattle.schema_catalog.specs.Databases.{cell}
 use Rattle.history_store.specs.Store.{Store, relation_at, IsStore}
 use Rattle.version_groups.specs.Groups.{Kept, table_in}
 use Rattle.cond_expr.specs.declared.exprs.ColRef.{ColRef}
+use Rattle.cond_expr.specs.AtomColumns.{columns_at}
+use Rattle.smo_meaning.specs.Making.{named}
 use Rattle.plain_answers.specs.Naming.{names_at}
 use Rattle.timed_choices.specs.Lending.{AllLent}
 use Rattle.joining.specs.declared.sources.Atom.{Atom}
 use Rattle.join_exec.specs.Reading.{AreNames}
-use Rattle.join_exec.specs.ReadColumns.{read_columns}
 
 -- the atom has this number, and at each moment of the slice what the table has in these columns; its values are lent
 pub record IsRead (s : Store) (slice : Span) (i : ℕ) (names : List (List ℕ)) (a : Atom) : Type 0 where
   pub stored : IsStore s
   pub number : a.number ≡ i
-  pub columns : a.columns.items ≡ read_columns i names
+  pub columns : a.columns.items ≡ columns_at i (named names s.columns)
   pub lent : AllLent a.rows.items
   pub rows : (m : ℕ) → covers slice m ≡ true → rows_at a.rows.items m ≡ set_of row_cmp (map (λ row. map (cell s.columns row) names) (relation_at s m))
 

@@ -3,6 +3,5 @@ pub mod LentValues
 pub mod Merging
 pub mod Parts
 pub mod Pieces
-pub mod ReadColumns
 pub mod Reading
 pub mod Stretches

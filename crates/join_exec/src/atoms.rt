@@ -2,20 +2,22 @@
 
 ghost use Rattle.std.specs.Prelude.{◌≡◌, ◌+◌, ◌≤◌, IfOk, map};
 ghost use Rattle.std.specs.Option.{option_copied};
+ghost use Rattle.relations.specs.Sets.{Ascends};
+ghost use Rattle.prima_base.specs.Order.{bytes_cmp};
 ghost use Rattle.cond_expr.specs.References.{lent};
 ghost use Rattle.join_exec.specs.declared.row_parts.Stretch.{Stretch as OneStretch};
 ghost use Rattle.join_exec.specs.Reading.{AreNames, reads};
 ghost use Rattle.join_exec.specs.Pieces.{reads_stored, atoms_read};
 ghost use Rattle.join_exec.specs.Atoms.{IsRead, IsReadOf, AreRead, IsReadable, AreReadable};
 
-use crate::columns::read_columns;
 use crate::gathering::gather;
 use crate::names::names_at;
 use crate::row_parts::Stretch;
-use cond_expr::ColRef;
+use cond_expr::{ColRef, columns_at};
 use history_store::StoredTable;
 use joining::Atom;
 use prima_base::{Name, NoMemory, Period, Steps, TimedRow};
+use smo_schemas::columns_named;
 use std::alloc::Global;
 use std::collections::VecDeque;
 use std::sync::ledger::Ledger;
@@ -45,14 +47,16 @@ fn atom_of<'a, L: Ledger>(
     slice: Period,
     steps: &mut Steps<L>,
 ) -> Result<Atom<'a>, NoMemory>
-    requires { AreNames table.now.columns names.items }
+    requires known { AreNames table.now.columns names.items }
+    requires ascending { Ascends bytes_cmp names.items }
     ensures atom { IfOk result (IsRead table.now slice number names.items) }
     ensures cost { steps.new ≤ steps.old + reads table.now names.items }
     ensures counted { IfOk result (λ _. steps.new ≡ steps.old + reads table.now names.items) }
     ensures rises { steps.old ≤ steps.new }
 {
     let stretches = gather(alloc, table, &names, slice, steps)?;
-    let columns = read_columns(alloc, number, names)?;
+    let read = columns_named(alloc, table.columns(), &names)?;
+    let columns = columns_at(alloc, number, &read)?;
     let rows = rows_of(alloc, stretches)?;
     Ok(Atom {
         number,
@@ -70,7 +74,8 @@ fn read_atom<'a, L: Ledger>(
     slice: Period,
     steps: &mut Steps<L>,
 ) -> Result<Atom<'a>, NoMemory>
-    requires { IsReadable (option_copied table) names.items }
+    requires readable { IsReadable (option_copied table) names.items }
+    requires ascending { Ascends bytes_cmp names.items }
     ensures atom { IfOk result (IsReadOf (option_copied table.entry) slice number names.items) }
     ensures cost { steps.new ≤ steps.old + reads_stored (option_copied table.entry) names.items }
     ensures counted { IfOk result (λ _. steps.new ≡ steps.old + reads_stored (option_copied table.entry) names.items) }

@@ -6,7 +6,6 @@
 #![tactic(auto)]
 
 mod atoms;
-mod columns;
 mod gathering;
 mod laws;
 mod names;

@@ -1,11 +1,18 @@
-use Rattle.std.proofs.Common.{◌+◌, ◌<◌, arith}
+use Rattle.std.proofs.Common.{◌+◌, ◌<◌, arith, sym, subst}
 use Rattle.std.specs.Prelude.{◌^◌}
+use Rattle.relations.specs.Sets.{Ascends}
+use Rattle.prima_base.specs.Order.{bytes_cmp}
 use Rattle.cond_expr.specs.References.{lent}
+use Rattle.join_exec.proofs.AtomAnswers.{ascending}
 use Rattle.join_exec.proofs.AtomSteps.{one_more, next_ready, next_count, next_read, here_ready, here_read, here_count}
 use Rattle.join_exec.proofs.atoms.gather_atoms.Goals as goal
 
-pub read_atom-requires : goal.read_atom-requires
-read_atom-requires g c =
+pub read_atom-requires-clause-ascending : goal.read_atom-requires-clause-ascending
+read_atom-requires-clause-ascending g c =
+    subst (Ascends bytes_cmp) (sym c.in_ok-names.ensures) (ascending c.args.groups.now c.args.version c.args.slice (lent c.args.references.now) c.loop-name.number)
+
+pub read_atom-requires-clause-readable : goal.read_atom-requires-clause-readable
+read_atom-requires-clause-readable g c =
     let rs = lent c.args.references.now in
     here_ready c.args.groups.now c.args.version rs c.loop-name.name-index c.loop-name.number c.name-item.result _ c.in_ok-names.names.items c.loop-name.invariant.number c.table-table.ensures c.in_ok-names.ensures
     (next_ready c.args.groups.now c.args.version rs c.args.tables.now c.loop-name.name-index c.name-item.result c.loop-name-test.true c.name-item.is c.loop-name.invariant.ready).0
