@@ -1,7 +1,6 @@
 pub mod ItemSteps
 pub mod ListSteps
 pub mod ListPlaces
-pub mod OneOfNames
 pub mod LineHeads
 pub mod StandingVersions
 pub mod FilledKeys

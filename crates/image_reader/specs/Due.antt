@@ -1,17 +1,9 @@
 -- What is due: the tables of an operator, and the keys that entries fill.
 use Rattle.std.specs.Prelude.{◌≡◌, ℕ, ◌+◌, ◌==◌, Bool, List, [], ◌∷◌, drop, Option, Some, None, if◌then◌else◌}
-use Rattle.std.specs.Option.{option_copied}
 use Rattle.relations.specs.Spans.{Span, span}
 use Rattle.prima_base.specs.Columns.{Column}
 use Rattle.lifelines.specs.Lifelines.{Lifeline, line_begun}
-use Rattle.smo_meaning.specs.Preconditions.{among}
-use Rattle.smo_meaning.specs.Touching.{these_names}
-use Rattle.smo_schemas.specs.declared.names.Made.{Made}
 use Rattle.image_reader.specs.declared.entries.Due.{Due}
-
--- one of at most two names
-abbrev pub is_one_of : Made → List ℕ → Bool
-is_one_of names name = among name (these_names (option_copied names.first) (option_copied names.second))
 
 -- the lifeline that a table begins with a version, where its name is one of those that are made
 abbrev pub begun_of : (List ℕ → Bool) → ℕ → List ℕ × List Column → List Lifeline

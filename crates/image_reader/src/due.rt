@@ -3,19 +3,17 @@
 ghost use Rattle.std.specs.Prelude.{◌≡◌, ◌+◌, ◌++◌, ◌<◌, ◌^◌, map, length, IfOk, OnOk};
 ghost use Rattle.std.specs.List.{filter};
 ghost use Rattle.std.specs.FinMap.{entries};
-ghost use Rattle.std.specs.Option.{option_copied};
 ghost use Rattle.prima_base.specs.Columns.{Column};
 ghost use Rattle.smo_types.specs.Commands.{version_of, versions_of};
 ghost use Rattle.smo_types.specs.Operators.{operator_of};
-ghost use Rattle.smo_meaning.specs.Preconditions.{among};
 ghost use Rattle.smo_meaning.specs.Past.{no_tables};
-ghost use Rattle.smo_meaning.specs.Touching.{these_names};
 ghost use Rattle.schema_catalog.specs.Tables.{Tables};
 ghost use Rattle.lifelines.specs.Lifelines.{line_behind, line_begun, lifelines_behind, lifelines_of};
 ghost use Rattle.image_reader.specs.Seen.{line_seen};
-ghost use Rattle.image_reader.specs.Due.{is_one_of, begun_of};
+ghost use Rattle.smo_schemas.specs.Names.{is_one_of};
+ghost use Rattle.image_reader.specs.Due.{begun_of};
 
-use prima_base::{ColType, Name, NoMemory, same_name};
+use prima_base::{ColType, Name, NoMemory};
 use schema_catalog::{Schema, Table};
 use smo_schemas::{Made, consumed, made};
 use smo_types::{Version, Versions};
@@ -31,29 +29,13 @@ pub struct DueLine<'a> {
     pub columns: &'a [(Name, ColType)],
 }
 
-// Whether one of the names is this one.
-fn is_one_of(names: Made<'_>, name: &Name) -> bool
-    ensures { result ≡ is_one_of names.entry name.now }
-{
-    match names.first {
-        None => false,
-        Some(first) => {
-            same_name(name, first)
-                || match names.second {
-                    None => false,
-                    Some(second) => same_name(name, second),
-                }
-        }
-    }
-}
-
 // The lifeline, which ends with a version where it lives and its table is one of these.
 fn behind_names<'a>(line: &DueLine<'a>, names: Made<'_>, version: u32) -> Option<u32>
     ensures { result ≡ (line_behind (is_one_of names.entry) version (line_seen line.now)).last }
 {
     match line.last {
         Some(last) => Some(last),
-        None if is_one_of(names, line.table) => Some(version),
+        None if names.has(line.table) => Some(version),
         None => None,
     }
 }
@@ -76,7 +58,7 @@ fn begin_line<'a>(
 ) -> Result<(), NoMemory>
     ensures { OnOk result (map line_seen lines.new.items ≡ map line_seen lines.old.items ++ begun_of (is_one_of names.entry) version table.now) }
 {
-    if is_one_of(names, table.name()) {
+    if names.has(table.name()) {
         lines.push(DueLine {
             table: table.name(),
             first: version,

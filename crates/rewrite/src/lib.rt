@@ -6,7 +6,6 @@ mod asking;
 mod losing;
 mod losses;
 mod steps;
-mod touched;
 mod walks;
 
 pub use losing::first_lost;

@@ -8,9 +8,8 @@ ghost use Rattle.smo_meaning.specs.Losses.{first_loss};
 ghost use Rattle.version_ways.specs.Ways.{over_each, back_over};
 ghost use Rattle.version_ways.specs.LostNames.{none_lost, all_lost, losses_over, of_losses};
 
-use crate::touched::made_of;
 use prima_base::{Name, NoMemory};
-use smo_schemas::{Made, consumed, made};
+use smo_schemas::{Made, consumed, made, made_of};
 use smo_types::Op;
 use std::alloc::Global;
 use std::collections::BTreeMap;

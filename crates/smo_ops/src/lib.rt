@@ -12,7 +12,7 @@ mod typing;
 
 pub use checks::{check_change, check_changes};
 pub use counts::{change_nodes, check_counts, check_evolve};
-pub use effects::{inserted_row, make_set, row_meets, row_with_sets};
+pub use effects::{inserted_row, make_set, row_meets, row_value, row_with_sets};
 pub use prima_base::OpRefusal;
 pub use smo_meaning::{
     a_command_is_judged_by_the_newest_schema, a_command_is_seen_from_its_stamp_on,
@@ -28,7 +28,9 @@ pub use smo_meaning::{
     nop_changes_nothing, other_tables_stay, partition_is_in_two_parts,
     pasts_that_agree_have_the_same_states, rename_column_keeps_the_cells, rename_keeps_the_rows,
 };
-pub use smo_schemas::{Made, OwnColumns, after, check_inverse, consumed, made, refusal_of};
+pub use smo_schemas::{
+    Made, OwnColumns, after, check_inverse, consumed, made, made_of, refusal_of,
+};
 pub use smo_types::{
     Body, Change, ChangeFault, Command, InverseFault, Op, OpFault, Version, Versions,
 };

@@ -1,4 +1,4 @@
-use cond_expr::Column;
+use cond_expr::{Column, columns_at};
 use prima_base::{ColType, Name, NoMemory, same_name};
 use std::alloc::Global;
 use std::marker::Model;
@@ -28,21 +28,6 @@ ghost use Rattle.cond_expr.specs.AtomColumns.{columns_at};
 ghost use Rattle.smo_meaning.specs.Preconditions.{among, type_in};
 ghost use Rattle.smo_meaning.specs.Checks.{pair_names};
 
-/// The columns, as those of atom 0. The one error is `NoMemory`, where memory runs out.
-pub fn as_atoms(alloc: Global, columns: &[(Name, ColType)]) -> Result<Vec<Column>, NoMemory>
-    ensures { IfOk result (λ v. v.items ≡ columns_at 0 columns.now) }
-{
-    let mut atoms = Vec::with_capacity(alloc, columns.len())?;
-    for (name, kind) in columns {
-        atoms.push(Column {
-            atom: 0,
-            name: name.copy()?,
-            kind: *kind,
-        })?;
-    }
-    Ok(atoms)
-}
-
 impl<'a> OwnColumns<'a> {
     /// Those of a table with these columns. The one error is `NoMemory`, where memory runs out.
     pub fn new(alloc: Global, columns: &'a [(Name, ColType)]) -> Result<OwnColumns<'a>, NoMemory>
@@ -50,7 +35,7 @@ impl<'a> OwnColumns<'a> {
     {
         Ok(OwnColumns {
             columns,
-            atoms: as_atoms(alloc, columns)?,
+            atoms: columns_at(alloc, 0, columns)?,
         })
     }
 

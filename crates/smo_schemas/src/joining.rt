@@ -32,8 +32,9 @@ pub(crate) fn are_joinable(columns: &[(Name, ColType)], others: &[(Name, ColType
     true
 }
 
-// The columns of both, in the order of their names. It is called with few columns.
-pub(crate) fn joined_columns(
+/// The columns of both, in the order of their names; of two with one name, that of the others stays. It is called with
+/// few columns. The one error is `NoMemory`, where memory runs out.
+pub fn joined_columns(
     alloc: Global,
     columns: &[(Name, ColType)],
     others: &[(Name, ColType)],

@@ -1,5 +1,5 @@
-//! The schema behind a schema modification operator, the tables that one makes and consumes, and whether an inverse
-//! leads back.
+//! The schema behind a schema modification operator, the tables that one makes, makes them of and consumes, and whether
+//! an inverse leads back; and the columns of a table without one, with one more, with one under another name, and beside another's.
 #![tactic(auto)]
 
 mod afters;
@@ -13,7 +13,10 @@ mod splitting;
 mod touched;
 
 pub use afters::{after, refusal_of};
-pub use columns::{OwnColumns, as_atoms, has_name, type_in};
+pub use columns::{OwnColumns, has_name, type_in};
 pub use inverses::check_inverse;
+pub use joining::joined_columns;
+pub use making::{columns_renamed, columns_with, columns_without};
 pub use names::Made;
-pub use touched::{consumed, made};
+pub use splitting::columns_named;
+pub use touched::{consumed, made, made_of};

@@ -94,8 +94,8 @@ fn push_unless(
     Ok(())
 }
 
-// Equal columns, without the one of this name.
-pub(crate) fn columns_without(
+/// Equal columns, without the one of this name. The one error is `NoMemory`, where memory runs out.
+pub fn columns_without(
     alloc: Global,
     columns: &[(Name, ColType)],
     name: &Name,
@@ -109,8 +109,9 @@ pub(crate) fn columns_without(
     Ok(kept)
 }
 
-// Equal columns and one more, in its place.
-pub(crate) fn columns_with(
+/// Equal columns and one more, in its place; where one has its name, that one stays. The one error is `NoMemory`, where
+/// memory runs out.
+pub fn columns_with(
     alloc: Global,
     columns: &[(Name, ColType)],
     name: &Name,
@@ -137,8 +138,9 @@ fn renamed_column(
     Ok((column.0.copy()?, column.1))
 }
 
-// Equal columns with one of them under another name, in the order of their names.
-pub(crate) fn renamed(
+/// Equal columns with one of them under another name, in the order of their names. It is called with few columns. The
+/// one error is `NoMemory`, where memory runs out.
+pub fn columns_renamed(
     alloc: Global,
     columns: &[(Name, ColType)],
     old: &Name,

@@ -1,10 +1,27 @@
-use prima_base::Name;
+use crate::name_lists::is_either;
+use prima_base::{Name, same_name};
 
 /// At most two names of tables, in the order in which the operator names them.
 #[derive(Clone, Copy)]
 pub struct Made<'a> {
     pub first: Option<&'a Name>,
     pub second: Option<&'a Name>,
+}
+
+impl Made<'_> {
+    ghost use Rattle.std.specs.Prelude.{◌≡◌};
+    ghost use Rattle.smo_schemas.specs.Names.{is_one_of};
+
+    /// Whether the name is one of these. It takes no memory.
+    pub fn has(&self, name: &Name) -> bool
+        ensures { result ≡ is_one_of self.now name.now }
+    {
+        match (self.first, self.second) {
+            (Some(first), Some(second)) => is_either(name, first, second),
+            (Some(first), None) => same_name(name, first),
+            (None, _) => false,
+        }
+    }
 }
 
 ghost use Rattle.std.specs.Prelude.{◌≡◌, Some, None};

@@ -3,7 +3,7 @@ ghost use Rattle.std.specs.Option.{option_copied};
 ghost use Rattle.schema_catalog.specs.Tables.{Tables};
 ghost use Rattle.smo_types.specs.Operators.{operator_of};
 ghost use Rattle.smo_meaning.specs.OperatorTable.{line, made_names};
-ghost use Rattle.smo_meaning.specs.Touching.{these_names};
+ghost use Rattle.smo_meaning.specs.Touching.{these_names, made_of};
 
 use crate::names::{Made, none, one, two};
 use smo_types::Op;
@@ -43,6 +43,29 @@ pub fn consumed(op: &Op) -> Made<'_>
         Op::DropTable { table } => one(table),
         Op::RenameTable { table, .. } => one(table),
         Op::CopyTable { .. } => none(),
+        Op::MergeTable { left, right, .. } => two(left, right),
+        Op::PartitionTable { table, .. } => one(table),
+        Op::DecomposeTable { table, .. } => one(table),
+        Op::JoinTable { left, right, .. } => two(left, right),
+        Op::AddColumn { table, .. } => one(table),
+        Op::DropColumn { table, .. } => one(table),
+        Op::RenameColumn { table, .. } => one(table),
+    }
+}
+
+/// The tables of whose rows the operator makes what it makes, in the order in which it names them: DROP TABLE names one, and
+/// makes nothing of it. It takes no memory.
+pub fn made_of(op: &Op) -> Made<'_>
+    ensures first { option_copied result.first ≡ slice_get (made_of (operator_of op.now)) 0 }
+    ensures second { option_copied result.second ≡ slice_get (made_of (operator_of op.now)) 1 }
+    ensures names { made_of (operator_of op.now) ≡ these_names (option_copied result.first) (option_copied result.second) }
+{
+    match op {
+        Op::Nop => none(),
+        Op::CreateTable { .. } => none(),
+        Op::DropTable { .. } => none(),
+        Op::RenameTable { table, .. } => one(table),
+        Op::CopyTable { table, .. } => one(table),
         Op::MergeTable { left, right, .. } => two(left, right),
         Op::PartitionTable { table, .. } => one(table),
         Op::DecomposeTable { table, .. } => one(table),

@@ -17,10 +17,10 @@ use Rattle.smo_schemas.specs.declared.names.Made.{Made}
 use Rattle.version_groups.specs.declared.made_tables.MadeTable.{MadeTable}
 use Rattle.version_groups.specs.Evolving.{ComeNext, IsNextTable}
 use Rattle.version_groups.specs.Places.{at_places, IsFound}
-use Rattle.version_groups.specs.Restoring.{is_one_of, HaveColumns, with_made, HasColumns, IsStored}
+use Rattle.smo_schemas.specs.Names.{is_one_of}
+use Rattle.version_groups.specs.Restoring.{HaveColumns, with_made, HasColumns, IsStored}
 use Rattle.version_groups.specs.Sizes.{BeginInOrder}
 use Rattle.version_groups.specs.Stored.{stored_as}
-use Rattle.version_groups.proofs.LifelinesEnded.{among_these}
 use Rattle.version_groups.proofs.NextPlaces.{still_there}
 use Rattle.version_groups.proofs.PlacedTables.{filter_alike, placed_alike}
 
@@ -44,9 +44,8 @@ due_now made stores listed i e s h =
 
 -- the names of the tables that an operator makes
 pub one_of_made : (names : Made) (before : Tables) (op : Operator) → made_names (line before op).made ≡ these_names (option_copied names.first) (option_copied names.second)
-    → option_copied names.second ≡ slice_get (made_names (line before op).made) 1 → (name : List ℕ) → is_one_of names name ≡ makes before op name
-one_of_made names before op all second name =
-    sym (among_these (option_copied names.first) (option_copied names.second) name (second ∙ ap (λ ns. slice_get ns 1) all)) ∙ sym (ap (among name) all)
+    → (name : List ℕ) → is_one_of names name ≡ makes before op name
+one_of_made names before op all name = sym (ap (among name) all)
 
 -- by what agrees on which are made
 pub come_alike : (stored : List MadeTable) (before : List ℕ) (made other : List ℕ → Bool) (Is : Listed → MadeTable → Type 0) (Has : List ℕ → List Column → Store → Type 0) (next : Tables) (begun : List MadeTable) (places : List ℕ)

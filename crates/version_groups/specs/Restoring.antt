@@ -1,6 +1,5 @@
 -- Groups that are made again of their versions and of what is stored over each lifeline.
-use Rattle.std.specs.Prelude.{◌≡◌, ◌≤◌, ◌<◌, ℕ, Bool, false, List, [], ◌∷◌, map, length, Option, Some, None, ⊤, ◌||◌, if◌then◌else◌}
-use Rattle.std.specs.Option.{option_copied}
+use Rattle.std.specs.Prelude.{◌≡◌, ◌≤◌, ◌<◌, ℕ, Bool, false, List, [], ◌∷◌, map, length, Option, Some, None, ⊤, if◌then◌else◌}
 use Rattle.std.specs.FinMap.{get}
 use Rattle.prima_base.specs.Columns.{Column}
 use Rattle.schema_catalog.specs.Tables.{Tables}
@@ -10,13 +9,11 @@ use Rattle.smo_meaning.specs.Effects.{rows_at}
 use Rattle.smo_meaning.specs.LawfulPast.{last_or_nought, IsPast}
 use Rattle.smo_meaning.specs.LawfulValues.{PastHolds}
 use Rattle.smo_meaning.specs.Past.{Past, no_tables, tables_from, database_at}
-use Rattle.smo_schemas.specs.declared.names.Made.{Made}
 use Rattle.version_groups.specs.declared.made_tables.MadeTable.{MadeTable}
 use Rattle.version_groups.specs.Covering.{AreOfLifelines}
 use Rattle.version_groups.specs.Groups.{Kept, versions_in, table_in, HasEntry}
 use Rattle.version_groups.specs.Showing.{IsInForce, AreUpTo}
 use Rattle.version_groups.specs.Sizes.{HaveSizes}
-use Rattle.version_groups.specs.Standing.{is_name}
 
 abbrev pub stores_of : List MadeTable → List Store
 stores_of tables = map (λ (t : MadeTable). t.store) tables
@@ -48,10 +45,6 @@ pub record IsPastOf (kept : Kept) (past : Past) : Type 0 where
   pub sizes : HaveSizes past.sizes kept.stored
 
 -- ---- one version more
-
--- one of at most two names
-abbrev pub is_one_of : Made → List ℕ → Bool
-is_one_of names name = is_name (option_copied names.first) name || is_name (option_copied names.second) name
 
 -- the first stores have the columns of these tables, in turn
 abbrev pub HaveColumns : List Store → List (List ℕ × List Column) → Type 0

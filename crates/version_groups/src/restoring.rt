@@ -9,15 +9,16 @@ ghost use Rattle.prima_base.specs.Order.{bytes_cmp};
 ghost use Rattle.prima_base.specs.Columns.{Column};
 ghost use Rattle.smo_meaning.specs.After.{IsLawful};
 ghost use Rattle.smo_meaning.specs.Past.{Past};
+ghost use Rattle.smo_schemas.specs.Names.{is_one_of};
 ghost use Rattle.version_groups.specs.Groups.{stored_as, names_of};
 ghost use Rattle.version_groups.specs.Places.{at_places, AreWithin};
 ghost use Rattle.version_groups.specs.Evolving.{ComeNext, IsNextTable, IsBegun, Comes};
-ghost use Rattle.version_groups.specs.Restoring.{stores_of, is_one_of, HaveColumns, with_made, BeginsOver, HasColumns, IsStored, OthersAre, AreRestored, IsPastOf};
+ghost use Rattle.version_groups.specs.Restoring.{stores_of, HaveColumns, with_made, BeginsOver, HasColumns, IsStored, OthersAre, AreRestored, IsPastOf};
 ghost use Rattle.version_groups.specs.Showing.{Shows};
 ghost use Rattle.version_groups.specs.declared.made_tables.MadeTable.{MadeTable as Stored};
 
 use crate::Groups;
-use crate::evolving::{NextTables, is_name, put_begun};
+use crate::evolving::{NextTables, put_begun};
 use crate::made_tables::{MadeTable, find_table};
 use history_store::StoredTable;
 use prima_base::{Name, NoMemory};
@@ -25,13 +26,6 @@ use schema_catalog::{Schema, Table};
 use smo_ops::Made;
 use std::alloc::Global;
 use std::vec::IntoIter;
-
-// Whether one of the names is this one.
-fn is_one_of(names: Made<'_>, name: &Name) -> bool
-    ensures { result ≡ is_one_of names.entry name.now }
-{
-    is_name(names.first, name) || is_name(names.second, name)
-}
 
 // A table that is made begins with a version, over the next of the stores.
 fn begin_over(
@@ -81,7 +75,7 @@ fn restored_place(
         → OnOk result (HaveColumns (into_iter_items stores.new) more) }
     ensures taken { OnOk result (stores_of begun.new.items ++ into_iter_items stores.new ≡ stores_of begun.old.items ++ into_iter_items stores.old) }
 {
-    if is_one_of(names, table.name()) {
+    if names.has(table.name()) {
         return begin_over(tables.len(), version, table, stores, begun);
     }
     match find_table(tables, places, table.name()) {

@@ -7,7 +7,7 @@ ghost use Rattle.smo_meaning.specs.After.{IsAfter};
 
 use crate::afters::preconditions::{check_another, check_known, check_new, columns_there};
 use crate::afters::tree_preconditions::{check_few_columns, check_tree};
-use crate::making::{columns_with, columns_without, renamed, with_table};
+use crate::making::{columns_renamed, columns_with, columns_without, with_table};
 use cond_expr::Expr;
 use prima_base::Name;
 use schema_catalog::Schema;
@@ -61,7 +61,7 @@ pub(crate) fn after_rename_column(
     let columns = columns_there(schema, table)?;
     check_known(table, columns, column)?;
     check_new(table, columns, into)?;
-    let made = renamed(alloc, columns, column, into)?;
+    let made = columns_renamed(alloc, columns, column, into)?;
     let next = with_table(alloc, schema, table, &made)?;
     Ok(next)
 }

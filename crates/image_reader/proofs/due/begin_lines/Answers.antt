@@ -4,7 +4,8 @@ use Rattle.std.specs.FinMap.{entries, len-entries}
 use Rattle.std.proofs.lemmas.List.{take_all}
 use Rattle.prima_base.specs.Columns.{Column}
 use Rattle.lifelines.specs.Lifelines.{line_begun}
-use Rattle.image_reader.specs.Due.{is_one_of, begun_of}
+use Rattle.smo_schemas.specs.Names.{is_one_of}
+use Rattle.image_reader.specs.Due.{begun_of}
 use Rattle.image_reader.specs.Seen.{line_seen}
 use Rattle.image_reader.proofs.BegunLines.{begun_more}
 use Rattle.image_reader.proofs.due.begin_lines.Goals as goal

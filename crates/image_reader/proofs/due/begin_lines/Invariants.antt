@@ -3,7 +3,7 @@ use Rattle.std.specs.List.{filter}
 use Rattle.std.specs.FinMap.{entries}
 use Rattle.prima_base.specs.Columns.{Column}
 use Rattle.lifelines.specs.Lifelines.{line_begun}
-use Rattle.image_reader.specs.Due.{is_one_of}
+use Rattle.smo_schemas.specs.Names.{is_one_of}
 use Rattle.image_reader.specs.Seen.{line_seen}
 use Rattle.image_reader.proofs.due.begin_lines.Given as goal
 

@@ -1,7 +1,7 @@
 use Rattle.std.proofs.Common.{◌≡◌, ◌<◌, length, map, get_or, sym, ap, ◌∙◌, arith}
 use Rattle.lifelines.specs.Lifelines.{Lifeline, last_behind, line_behind}
 use Rattle.image_reader.specs.declared.due.DueLine.{DueLine}
-use Rattle.image_reader.specs.Due.{is_one_of}
+use Rattle.smo_schemas.specs.Names.{is_one_of}
 use Rattle.image_reader.specs.Seen.{line_seen}
 use Rattle.image_reader.proofs.ListPlaces.{same_got, changed_up_to, all_changed}
 use Rattle.std.proofs.lemmas.List.{length-map}

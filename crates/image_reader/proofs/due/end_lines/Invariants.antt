@@ -1,6 +1,6 @@
 use Rattle.std.proofs.Common.{◌≡◌, ◌++◌, map, take, drop}
 use Rattle.lifelines.specs.Lifelines.{line_behind}
-use Rattle.image_reader.specs.Due.{is_one_of}
+use Rattle.smo_schemas.specs.Names.{is_one_of}
 use Rattle.image_reader.specs.Seen.{line_seen}
 use Rattle.image_reader.proofs.due.end_lines.Given as goal
 

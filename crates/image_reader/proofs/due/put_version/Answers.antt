@@ -8,7 +8,7 @@ use Rattle.smo_meaning.specs.Preconditions.{among}
 use Rattle.smo_meaning.specs.Touching.{consumes}
 use Rattle.smo_types.specs.Operators.{operator_of}
 use Rattle.lifelines.specs.Lifelines.{line_behind, line_begun}
-use Rattle.image_reader.specs.Due.{is_one_of}
+use Rattle.smo_schemas.specs.Names.{is_one_of}
 use Rattle.image_reader.specs.Seen.{line_seen}
 use Rattle.image_reader.proofs.ListPlaces.{written_back}
 use Rattle.image_reader.proofs.due.put_version.Goals as goal

@@ -1,6 +1,6 @@
 use Rattle.std.proofs.Common.{◌≡◌, ◌∙◌, false, length, ap, sym, subst}
 use Rattle.version_groups.specs.Places.{IsFound}
-use Rattle.version_groups.specs.Restoring.{is_one_of}
+use Rattle.smo_schemas.specs.Names.{is_one_of}
 use Rattle.version_groups.proofs.NextPlaces.{is_there}
 use Rattle.version_groups.proofs.RestoredTables.{goes_over}
 use Rattle.version_groups.proofs.restoring.restored_place.Goals as goal
@@ -8,7 +8,7 @@ use Rattle.version_groups.proofs.restoring.restored_place.Goals as goal
 pub returns-clause-next : goal.returns-clause-next
 returns-clause-next c =
     let name = c.args.table.now.0 in
-    let unmade : is_one_of c.args.names name ≡ false = ap (is_one_of c.args.names) (sym c.name.ensures.value) ∙ sym c.is_one_of.ensures ∙ c.if-is_one_of.false in
+    let unmade : is_one_of c.args.names name ≡ false = ap (is_one_of c.args.names) (sym c.name.ensures.value) ∙ sym c.has.ensures ∙ c.if-has.false in
     let found : IsFound c.args.tables.now c.args.places.now name c.in-Some.place c.in-Some.field-0-1.now =
     subst (λ n. IsFound c.args.tables.now c.args.places.now n c.in-Some.place c.in-Some.field-0-1.now) c.name-2.ensures.value c.in-Some.ensures in
     goes_over c.args.tables.now c.args.begun.now.items c.args.places.now c.in-Some.place name c.args.table.now.1 c.in-Some.field-0-1.now found (c.requires.others unmade)

@@ -5,7 +5,8 @@ use Rattle.std.specs.FinMap.{entries}
 use Rattle.std.specs.Vec.Iter.{into_iter_items}
 use Rattle.prima_base.specs.Columns.{Column}
 use Rattle.version_groups.specs.Places.{at_places}
-use Rattle.version_groups.specs.Restoring.{is_one_of, BeginsOver, HasColumns}
+use Rattle.smo_schemas.specs.Names.{is_one_of}
+use Rattle.version_groups.specs.Restoring.{BeginsOver, HasColumns}
 use Rattle.version_groups.proofs.BegunTables.{listed_there, next_begun, all_begun, begun_ordered, begun_each}
 use Rattle.version_groups.proofs.NextPlaces.{placed_more, within_more}
 use Rattle.version_groups.proofs.PlacedTables.{next_coming, all_coming, all_placed}

@@ -4,7 +4,8 @@ use Rattle.std.specs.FinMap.{entries}
 use Rattle.std.specs.Vec.Iter.{into_iter_items}
 use Rattle.prima_base.specs.Columns.{Column}
 use Rattle.version_groups.specs.Places.{at_places, AreWithin}
-use Rattle.version_groups.specs.Restoring.{stores_of, is_one_of, HaveColumns, BeginsOver, HasColumns}
+use Rattle.smo_schemas.specs.Names.{is_one_of}
+use Rattle.version_groups.specs.Restoring.{stores_of, HaveColumns, BeginsOver, HasColumns}
 use Rattle.version_groups.proofs.BegunTables.{AreBegun}
 use Rattle.version_groups.proofs.PlacedTables.{AreComing}
 use Rattle.version_groups.proofs.restoring.restored_tables.Given as goal

@@ -12,7 +12,8 @@ use Rattle.version_groups.specs.declared.made_tables.MadeTable.{MadeTable}
 use Rattle.version_groups.specs.Evolving.{ComeNext}
 use Rattle.version_groups.specs.Groups.{Kept, versions_in, newest_places, newest_group, stored_as}
 use Rattle.version_groups.specs.Places.{at_places}
-use Rattle.version_groups.specs.Restoring.{stores_of, is_one_of, HaveColumns, BeginsOver, HasColumns, OthersAre}
+use Rattle.smo_schemas.specs.Names.{is_one_of}
+use Rattle.version_groups.specs.Restoring.{stores_of, HaveColumns, BeginsOver, HasColumns, OthersAre}
 use Rattle.version_groups.proofs.GroupPlaces.{newest_places_are, newest_is}
 use Rattle.version_groups.proofs.PlacedTables.{filter_alike}
 use Rattle.version_groups.proofs.RestoredTables.{one_of_made, come_alike}
@@ -29,7 +30,7 @@ restored_tables-requires-clause-due c =
     let op = operator_of c.args.version.op in
     subst (HaveColumns (into_iter_items c.args.stores.now))
     (filter_alike (λ (e : List ℕ × List Column). makes before op e.0) (λ (e : List ℕ × List Column). is_one_of c.made.result e.0) (entries c.args.version.schema)
-    (λ e. sym (one_of_made c.made.result before op (c.made.ensures.names before) (c.made.ensures.second before) e.0))) c.requires.due
+    (λ e. sym (one_of_made c.made.result before op (c.made.ensures.names before) e.0))) c.requires.due
 
 pub restored_tables-requires-clause-others : goal.restored_tables-requires-clause-others
 restored_tables-requires-clause-others c =
@@ -40,7 +41,7 @@ restored_tables-requires-clause-others c =
     ∙ ap (λ ts. at_places ts a.newest.items) (sym c.deref.ensures.value) ∙ ap (at_places c.deref.result.now) (sym c.deref-2.ensures.value) in
     subst (λ (ts : List MadeTable). OthersAre c.args.version.schema (is_one_of c.made.result) (λ name. stored_as name ts)) group
     (others_stored c.args.self.now c.requires.restored op c.args.version.schema c.requires.tables (is_one_of c.made.result)
-    (one_of_made c.made.result before op (c.made.ensures.names before) (c.made.ensures.second before)))
+    (one_of_made c.made.result before op (c.made.ensures.names before)))
 
 pub install_version-requires-clause-come : goal.install_version-requires-clause-come
 install_version-requires-clause-come c =
@@ -55,7 +56,7 @@ install_version-requires-clause-come c =
     let own : c.deref-2.result.now ≡ newest_places old = c.deref-2.ensures.value ∙ sym (newest_places_are a c.self.invariant) ∙ ap newest_places c.self.view_is in
     let number : c.newest-number.result + 1 ≡ length old.versions + 1 = ap (λ n. n + 1) c.newest-number.ensures in
     let made = come_alike c.deref.result.now c.deref-2.result.now (is_one_of c.made.result) (makes before op) (BeginsOver (c.newest-number.result + 1)) HasColumns c.args.version.schema begun places
-    (one_of_made c.made.result before op (c.made.ensures.names before) (c.made.ensures.second before)) c.in_ok-tables.ensures.next in
+    (one_of_made c.made.result before op (c.made.ensures.names before)) c.in_ok-tables.ensures.next in
     let next : ComeNext old.stored (newest_places old) (makes before op) (BeginsOver (length old.versions + 1)) HasColumns c.args.version.schema begun places =
     subst (λ ts. ComeNext ts (newest_places old) (makes before op) (BeginsOver (length old.versions + 1)) HasColumns c.args.version.schema begun places) kept
     (subst (λ ps. ComeNext c.deref.result.now ps (makes before op) (BeginsOver (length old.versions + 1)) HasColumns c.args.version.schema begun places) own
@@ -78,7 +79,7 @@ returns-clause-restored c =
     let own : c.deref-2.result.now ≡ newest_places old = c.deref-2.ensures.value ∙ sym (newest_places_are a c.self.invariant) ∙ ap newest_places c.self.view_is in
     let number : c.newest-number.result + 1 ≡ length old.versions + 1 = ap (λ n. n + 1) c.newest-number.ensures in
     let made = come_alike c.deref.result.now c.deref-2.result.now (is_one_of c.made.result) (makes before op) (BeginsOver (c.newest-number.result + 1)) HasColumns c.args.version.schema begun places
-    (one_of_made c.made.result before op (c.made.ensures.names before) (c.made.ensures.second before)) c.in_ok-tables.ensures.next in
+    (one_of_made c.made.result before op (c.made.ensures.names before)) c.in_ok-tables.ensures.next in
     let next : ComeNext old.stored (newest_places old) (makes before op) (BeginsOver (length old.versions + 1)) HasColumns c.args.version.schema begun places =
     subst (λ ts. ComeNext ts (newest_places old) (makes before op) (BeginsOver (length old.versions + 1)) HasColumns c.args.version.schema begun places) kept
     (subst (λ ps. ComeNext c.deref.result.now ps (makes before op) (BeginsOver (length old.versions + 1)) HasColumns c.args.version.schema begun places) own
