@@ -1,12 +1,11 @@
 //! The table of an item of a FROM, read as an atom of a join.
 
-ghost use Rattle.std.specs.Prelude.{◌≡◌, ℕ, ◌+◌, ◌++◌, ◌≤◌, List, IfOk, OnOk};
+ghost use Rattle.std.specs.Prelude.{◌≡◌, ℕ, ◌+◌, ◌≤◌, List, IfOk};
 ghost use Rattle.cond_expr.specs.References.{lent};
 ghost use Rattle.cond_expr.specs.Seen.{test};
 ghost use Rattle.smo_meaning.specs.Effects.{columns_of};
 ghost use Rattle.smo_meaning.specs.Making.{named};
 ghost use Rattle.smo_meaning.specs.Past.{Past, no_tables, tables_from};
-ghost use Rattle.smo_meaning.specs.Preconditions.{among};
 ghost use Rattle.version_groups.specs.Groups.{versions_in};
 ghost use Rattle.version_groups.specs.Showing.{Shows};
 ghost use Rattle.cond_expr.specs.AtomColumns.{columns_at};
@@ -23,50 +22,15 @@ ghost use Rattle.query_exec.specs.Reads.{explained_read, reads_of};
 use crate::questions::question_of;
 use crate::routes::Route;
 use crate::tables::read_table;
-use cond_expr::{ColRef, Column, Cond};
+use cond_expr::{ColRef, Column, Cond, columns_at};
 use joining::Atom;
-use prima_base::{ColType, Name, NoMemory, Steps, same_name};
+use prima_base::{Name, NoMemory, Steps};
 use rule_book::{Rule, RuleBook};
 use schema_catalog::Schema;
+use smo_schemas::columns_named;
 use std::alloc::Global;
 use std::sync::ledger::Ledger;
 use version_groups::Groups;
-
-fn is_among(name: &Name, names: &[Name]) -> bool
-    ensures { result ≡ among name.now names.now }
-{
-    for other in names {
-        if same_name(name, other) {
-            return true;
-        }
-    }
-    false
-}
-
-// Puts the columns that are named, as those of an atom, behind what is there.
-fn push_named(
-    into: &mut Vec<Column>,
-    atom: u32,
-    columns: &[(Name, ColType)],
-    names: &[Name],
-) -> Result<(), NoMemory>
-    ensures { OnOk result (into.new.items ≡ into.old.items ++ columns_at atom (named names.now columns.now)) }
-{
-    match columns {
-        [] => Ok(()),
-        [column, rest @ ..] => {
-            if !is_among(&column.0, names) {
-                return push_named(into, atom, rest, names);
-            }
-            into.push(Column {
-                atom,
-                name: column.0.copy()?,
-                kind: column.1,
-            })?;
-            push_named(into, atom, rest, names)
-        }
-    }
-}
 
 // The columns of the table that are named, as those of an atom.
 fn named_columns(
@@ -78,11 +42,10 @@ fn named_columns(
 ) -> Result<Vec<Column>, NoMemory>
     ensures { IfOk result (λ v. v.items ≡ columns_at atom (named names.now (columns_of schema.now table.now))) }
 {
-    let mut columns = Vec::new(alloc);
-    if let Some(found) = schema.table(table) {
-        push_named(&mut columns, atom, found.columns(), names)?;
+    match schema.table(table) {
+        Some(found) => columns_at(alloc, atom, &columns_named(alloc, found.columns(), names)?),
+        None => Ok(Vec::new(alloc)),
     }
-    Ok(columns)
 }
 
 /// What is read of an item's table over the slice, in the columns that are named of it and the rows that meet the condition that is

@@ -17,10 +17,11 @@ use Rattle.smo_meaning.specs.Effects.{columns_of}
 use Rattle.smo_meaning.specs.Preconditions.{among, differ, is_new}
 use Rattle.smo_meaning.specs.Making.{named, without, renamed, with_column, type_of_value, image, union, added, moved, join_rows, from_one, from_two}
 use Rattle.smo_meaning.specs.OperatorTable.{Made, line, made_names}
+use Rattle.smo_meaning.specs.Touching.{made_of}
 use Rattle.smo_meaning.specs.After.{op_fault, make_all, lose_all}
 use Rattle.smo_meaning.proofs.Firsts.{none_of_first, met}
 use Rattle.smo_meaning.proofs.NameLaws.{same_itself}
-use Rattle.smo_maps.specs.Carrying.{given_tables, Has, AreMade, IsCarried}
+use Rattle.smo_maps.specs.Carrying.{AreIn, Has, AreMade, IsCarried}
 
 -- the two relations, each by the rows that it is made of
 abbrev pub Gives : Tables → Operator → Relation → Relation → Relation → Relation → Type 0
@@ -49,25 +50,25 @@ of_two : (f : Relation → Relation → Relation) (x y : Option Entry) (first se
 of_two f x y first second made h k e = ap (λ z. from_two f z y) h ∙ ap (from_one (f first)) k ∙ ap Rows (sym e)
 
 gives_made : (tables : Tables) (op : Operator) (first second a b : Relation) → Gives tables op first second a b
-    → (db : Database) → Has (given_tables op) db first second → AreMade (line tables op).made db a b
+    → (db : Database) → AreIn (made_of op) db first second → AreMade (line tables op).made db a b
 gives_made tables nop first second a b g db h = g
 gives_made tables (create_table r cs) first second a b g db h = (ap Rows (sym g.0), g.1)
 gives_made tables (drop_table r) first second a b g db h = g
-gives_made tables (rename_table r t) first second a b g db h = (of_one (λ rows. rows) (get db r) first a h.0 g.0, g.1)
-gives_made tables (copy_table r t) first second a b g db h = (of_one (λ rows. rows) (get db r) first a h.0 g.0, g.1)
+gives_made tables (rename_table r t) first second a b g db h = (of_one (λ rows. rows) (get db r) first a h g.0, g.1)
+gives_made tables (copy_table r t) first second a b g db h = (of_one (λ rows. rows) (get db r) first a h g.0, g.1)
 gives_made tables (merge_table r s t) first second a b g db h = (of_two union (get db r) (get db s) first second a h.0 h.1 g.0, g.1)
 gives_made tables (partition_table r s c t) first second a b g db h =
-    (of_one (filter (meets (columns_of tables r) c)) (get db r) first a h.0 g.0, of_one (filter (λ row. not (meets (columns_of tables r) c row))) (get db r) first b h.0 g.1)
+    (of_one (filter (meets (columns_of tables r) c)) (get db r) first a h g.0, of_one (filter (λ row. not (meets (columns_of tables r) c row))) (get db r) first b h g.1)
 gives_made tables (decompose_table r s xs t ys) first second a b g db h = (
-  of_one (image (named xs (columns_of tables r)) (cell (columns_of tables r))) (get db r) first a h.0 g.0,
-  of_one (image (named ys (columns_of tables r)) (cell (columns_of tables r))) (get db r) first b h.0 g.1,
+  of_one (image (named xs (columns_of tables r)) (cell (columns_of tables r))) (get db r) first a h g.0,
+  of_one (image (named ys (columns_of tables r)) (cell (columns_of tables r))) (get db r) first b h g.1,
 )
 gives_made tables (join_table r s t c) first second a b g db h =
     (of_two (join_rows (columns_of tables r) (columns_of tables s) c) (get db r) (get db s) first second a h.0 h.1 g.0, g.1)
 gives_made tables (add_column c e r) first second a b g db h =
-    (of_one (image (with_column c (type_of_value (columns_of tables r) e) (columns_of tables r)) (added (columns_of tables r) c e)) (get db r) first a h.0 g.0, g.1)
-gives_made tables (drop_column c r) first second a b g db h = (of_one (image (without c (columns_of tables r)) (cell (columns_of tables r))) (get db r) first a h.0 g.0, g.1)
-gives_made tables (rename_column o r c) first second a b g db h = (of_one (image (renamed o c (columns_of tables r)) (moved (columns_of tables r) o c)) (get db r) first a h.0 g.0, g.1)
+    (of_one (image (with_column c (type_of_value (columns_of tables r) e) (columns_of tables r)) (added (columns_of tables r) c e)) (get db r) first a h g.0, g.1)
+gives_made tables (drop_column c r) first second a b g db h = (of_one (image (without c (columns_of tables r)) (cell (columns_of tables r))) (get db r) first a h g.0, g.1)
+gives_made tables (rename_column o r c) first second a b g db h = (of_one (image (renamed o c (columns_of tables r)) (moved (columns_of tables r) o c)) (get db r) first a h g.0, g.1)
 
 -- what the carried database has under the names of the made tables
 got : (db : Database) (n : List ℕ) (e : Entry) → get (insert db n e) n ≡ Some e

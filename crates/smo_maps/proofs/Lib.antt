@@ -1,6 +1,5 @@
 mod KeptRows
 mod MadeNames
-mod OwnAtoms
 mod Places
 mod KeyLaws
 mod Arms

@@ -1,4 +1,3 @@
 pub mod Picking
-pub mod Atoms
 pub mod Keys
 pub mod Carrying

@@ -1,25 +1,25 @@
 //! The rows of one table as other columns show them: without some, with one more, or with one under another name.
 
-ghost use Rattle.std.specs.Prelude.{◌≡◌, [], ◌∷◌, false, List, IfOk, map, if◌then◌else◌};
+ghost use Rattle.std.specs.Prelude.{◌≡◌, [], ◌∷◌, false, IfOk, map, if◌then◌else◌};
 ghost use Rattle.relations.specs.Sets.{set_of};
 ghost use Rattle.prima_base.specs.declared.values.ColType.{ColType as OneType};
 ghost use Rattle.prima_base.specs.Order.{row_cmp};
-ghost use Rattle.prima_base.specs.Columns.{Column as TableColumn, names_of, AreColumns};
+ghost use Rattle.prima_base.specs.Columns.{names_of, AreColumns};
 ghost use Rattle.schema_catalog.specs.Databases.{cell};
 ghost use Rattle.cond_expr.specs.Seen.{tree};
 ghost use Rattle.cond_expr.specs.Values.{value};
 ghost use Rattle.smo_meaning.specs.OneRow.{same, own_cells, Row as OneRow};
 ghost use Rattle.smo_meaning.specs.Preconditions.{among};
 ghost use Rattle.smo_meaning.specs.Making.{named, without, renamed, with_column, image, added, moved};
-ghost use Rattle.smo_maps.specs.Atoms.{atoms_named};
 ghost use Rattle.smo_maps.specs.Picking.{picked_row, source_of};
 
-use crate::names::{names_among, names_renamed, names_with, names_without};
-use crate::one_row::{atoms_of, row_value};
+use crate::names::{names_of, names_with};
+use crate::one_row::value_over;
 use crate::sources::{Source, picked_row, source_of, sources_of};
-use cond_expr::{Column, Expr};
+use cond_expr::Expr;
 use prima_base::{ColType, Name, NoMemory, Row, same_name};
-use smo_ops::make_set;
+use smo_ops::{OwnColumns, make_set};
+use smo_schemas::{columns_named, columns_renamed, columns_without};
 use std::alloc::Global;
 
 // The relation of the rows that are picked out of rows.
@@ -34,16 +34,17 @@ fn image(alloc: Global, sources: &[Source], rows: &[Row]) -> Result<Vec<Row>, No
     Ok(made)
 }
 
-// The relation of the rows in the columns of these names.
+// The relation of the rows in these of their columns.
 fn projection(
     alloc: Global,
     columns: &[(Name, ColType)],
-    names: &[Name],
+    kept: &[(Name, ColType)],
     rows: &[Row],
 ) -> Result<Vec<Row>, NoMemory>
-    ensures { (kept : List TableColumn) → names.now ≡ names_of kept → IfOk result (λ v. v.items ≡ image kept (cell columns.now) rows.now) }
+    ensures { IfOk result (λ v. v.items ≡ image kept.now (cell columns.now) rows.now) }
 {
-    let sources = sources_of(alloc, columns, &[], names)?;
+    let names = names_of(alloc, kept)?;
+    let sources = sources_of(alloc, columns, &[], &names)?;
     image(alloc, &sources, rows)
 }
 
@@ -56,8 +57,8 @@ pub(crate) fn without_column(
 ) -> Result<Vec<Row>, NoMemory>
     ensures { IfOk result (λ v. v.items ≡ image (without column.now columns.now) (cell columns.now) rows.now) }
 {
-    let names = names_without(alloc, columns, column)?;
-    projection(alloc, columns, &names, rows)
+    let kept = columns_without(alloc, columns, column)?;
+    projection(alloc, columns, &kept, rows)
 }
 
 /// The projection to the columns that are named.
@@ -69,8 +70,8 @@ pub(crate) fn with_names(
 ) -> Result<Vec<Row>, NoMemory>
     ensures { IfOk result (λ v. v.items ≡ image (named chosen.now columns.now) (cell columns.now) rows.now) }
 {
-    let names = names_among(alloc, columns, chosen)?;
-    projection(alloc, columns, &names, rows)
+    let kept = columns_named(alloc, columns, chosen)?;
+    projection(alloc, columns, &kept, rows)
 }
 
 // The name that the column had.
@@ -109,7 +110,8 @@ pub(crate) fn under_another_name(
     ensures { IfOk result (λ v. v.items
         ≡ image (renamed column.now into.now columns.now) (moved columns.now column.now into.now) rows.now) }
 {
-    let names = names_renamed(alloc, columns, column, into)?;
+    let made = columns_renamed(alloc, columns, column, into)?;
+    let names = names_of(alloc, &made)?;
     let sources = moved_sources(alloc, columns, &names, column, into)?;
     image(alloc, &sources, rows)
 }
@@ -117,15 +119,14 @@ pub(crate) fn under_another_name(
 // The row with the expression's value beside its own, each where it stands.
 fn added_row(
     alloc: Global,
-    atoms: &[Column],
+    own: &OwnColumns<'_>,
     sources: &[Source],
     expr: &Expr,
     row: &Row,
 ) -> Result<Row, NoMemory>
-    ensures { (columns : List TableColumn) → atoms.now ≡ atoms_named (names_of columns) → IfOk result (λ made. made
-        ≡ picked_row sources.now row.now (value (own_cells columns row.now) (tree expr.now) ∷ [])) }
+    ensures { IfOk result (λ made. made ≡ picked_row sources.now row.now (value (own_cells own.now row.now) (tree expr.now) ∷ [])) }
 {
-    let value = row_value(alloc, atoms, expr, row)?;
+    let value = value_over(alloc, own, expr, row)?;
     picked_row(alloc, sources, row.values(), &[value])
 }
 
@@ -140,10 +141,10 @@ fn added_rows(
     ensures { IfOk result (λ v. v.items ≡ set_of row_cmp (map (λ (row : OneRow).
         picked_row sources.now row (value (own_cells columns.now row) (tree expr.now) ∷ [])) rows.now)) }
 {
-    let atoms = atoms_of(alloc, columns)?;
+    let own = OwnColumns::new(alloc, columns)?;
     let mut added = Vec::with_capacity(alloc, rows.len())?;
     for row in rows {
-        added.push(added_row(alloc, &atoms, sources, expr, row)?)?;
+        added.push(added_row(alloc, &own, sources, expr, row)?)?;
     }
     make_set(&mut added);
     Ok(added)

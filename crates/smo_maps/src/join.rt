@@ -1,26 +1,26 @@
 //! The rows of two tables joined. The second table's rows are grouped by their values in the common columns, and each
 //! row of the first meets those of its own group alone; with no common column there is one group.
 
-ghost use Rattle.std.specs.Prelude.{◌≡◌, [], ◌∷◌, ◌++◌, List, IfOk, OnOk, map, if◌then◌else◌};
+ghost use Rattle.std.specs.Prelude.{◌≡◌, [], ◌∷◌, ◌++◌, IfOk, OnOk, map, if◌then◌else◌};
 ghost use Rattle.std.specs.Option.{unwrap_or};
 ghost use Rattle.std.specs.List.{filter, flat_map};
 ghost use Rattle.std.specs.BTreeMap as tree;
 ghost use Rattle.prima_base.specs.Order.{row_cmp};
-ghost use Rattle.prima_base.specs.Columns.{Column as TableColumn, names_of};
+ghost use Rattle.prima_base.specs.Columns.{names_of};
 ghost use Rattle.cond_expr.specs.Seen.{test};
 ghost use Rattle.smo_meaning.specs.OneRow.{Row as OneRow, Relation, meets};
 ghost use Rattle.smo_meaning.specs.Making.{join_rows};
-ghost use Rattle.smo_maps.specs.Atoms.{atoms_named};
 ghost use Rattle.smo_maps.specs.Picking.{picked_row};
 ghost use Rattle.smo_maps.specs.Keys.{common, of_key};
 
 use crate::groups::{Group, grouped};
-use crate::names::{joined_names, names_among, names_of};
-use crate::one_row::{atoms_named, row_meets};
+use crate::names::names_of;
+use crate::one_row::is_met;
 use crate::sources::{Source, picked_row, sources_of};
-use cond_expr::{Column, Cond};
+use cond_expr::Cond;
 use prima_base::{ColType, Name, NoMemory, Row};
-use smo_ops::make_set;
+use smo_ops::{OwnColumns, make_set};
+use smo_schemas::{columns_named, joined_columns};
 use std::alloc::Global;
 use std::collections::BTreeMap;
 
@@ -37,20 +37,19 @@ fn push_where(met: bool, row: Row, made: &mut Vec<Row>) -> Result<(), NoMemory>
 // Puts what one row of the first table makes with these of the second, and that meets the condition, behind the others.
 fn append_joined(
     alloc: Global,
-    atoms: &[Column],
+    own: &OwnColumns<'_>,
     sources: &[Source],
     cond: &Cond,
     row: &Row,
     partners: &[&Row],
     made: &mut Vec<Row>,
 ) -> Result<(), NoMemory>
-    ensures { (columns : List TableColumn) → atoms.now ≡ atoms_named (names_of columns)
-        → OnOk result (made.new.items ≡ made.old.items
-        ++ filter (meets columns (test cond.now)) (map (picked_row sources.now row.now) (map (λ b. b.now) partners.now))) }
+    ensures { OnOk result (made.new.items ≡ made.old.items
+        ++ filter (meets own.now (test cond.now)) (map (picked_row sources.now row.now) (map (λ b. b.now) partners.now))) }
 {
     for partner in partners {
         let joined = picked_row(alloc, sources, row.values(), partner.values())?;
-        let met = row_meets(alloc, atoms, cond, &joined)?;
+        let met = is_met(alloc, own, cond, &joined)?;
         push_where(met, joined, made)?;
     }
     Ok(())
@@ -59,7 +58,7 @@ fn append_joined(
 // The same for the rows of its own group.
 fn append_partners(
     alloc: Global,
-    atoms: &[Column],
+    own: &OwnColumns<'_>,
     sources: &[Source],
     cond: &Cond,
     keys: &[Source],
@@ -67,13 +66,12 @@ fn append_partners(
     groups: &BTreeMap<Row, Group<'_>>,
     made: &mut Vec<Row>,
 ) -> Result<(), NoMemory>
-    ensures { (columns : List TableColumn) → atoms.now ≡ atoms_named (names_of columns)
-        → OnOk result (made.new.items ≡ made.old.items ++ filter (meets columns (test cond.now))
+    ensures { OnOk result (made.new.items ≡ made.old.items ++ filter (meets own.now (test cond.now))
         (map (picked_row sources.now row.now) (unwrap_or (tree.get row_cmp groups.now (picked_row keys.now row.now [])) []))) }
 {
     let key = picked_row(alloc, keys, row.values(), &[])?;
     match groups.get(&key) {
-        Some(group) => append_joined(alloc, atoms, sources, cond, row, group.rows(), made),
+        Some(group) => append_joined(alloc, own, sources, cond, row, group.rows(), made),
         None => Ok(()),
     }
 }
@@ -81,20 +79,19 @@ fn append_partners(
 // What the rows of the first table make with those of their groups, and that meets the condition.
 fn joined_pairs(
     alloc: Global,
-    atoms: &[Column],
+    own: &OwnColumns<'_>,
     sources: &[Source],
     cond: &Cond,
     keys: &[Source],
     first: &[Row],
     groups: &BTreeMap<Row, Group<'_>>,
 ) -> Result<Vec<Row>, NoMemory>
-    ensures { (columns : List TableColumn) → atoms.now ≡ atoms_named (names_of columns)
-        → IfOk result (λ v. v.items ≡ filter (meets columns (test cond.now)) (flat_map (λ (a : OneRow).
+    ensures { IfOk result (λ v. v.items ≡ filter (meets own.now (test cond.now)) (flat_map (λ (a : OneRow).
         map (picked_row sources.now a) (unwrap_or (tree.get row_cmp groups.now (picked_row keys.now a [])) [])) first.now)) }
 {
     let mut made = Vec::new(alloc);
     for row in first {
-        append_partners(alloc, atoms, sources, cond, keys, row, groups, &mut made)?;
+        append_partners(alloc, own, sources, cond, keys, row, groups, &mut made)?;
     }
     Ok(made)
 }
@@ -108,7 +105,8 @@ fn common_names(
     ensures { IfOk result (λ v. v.items ≡ names_of (common columns.now others.now)) }
 {
     let names = names_of(alloc, others)?;
-    names_among(alloc, columns, &names)
+    let common = columns_named(alloc, columns, &names)?;
+    names_of(alloc, &common)
 }
 
 /// The rows of two tables joined: each pair that agrees on all common columns, joined, that meets the condition.
@@ -126,10 +124,11 @@ pub(crate) fn joined(
     let keys = sources_of(alloc, columns, &[], &common)?;
     let other_keys = sources_of(alloc, others, &[], &common)?;
     let groups = grouped(alloc, &other_keys, second)?;
-    let all = joined_names(alloc, columns, others)?;
-    let sources = sources_of(alloc, columns, others, &all)?;
-    let atoms = atoms_named(alloc, &all)?;
-    let mut made = joined_pairs(alloc, &atoms, &sources, cond, &keys, first, &groups)?;
+    let all = joined_columns(alloc, columns, others)?;
+    let names = names_of(alloc, &all)?;
+    let sources = sources_of(alloc, columns, others, &names)?;
+    let own = OwnColumns::new(alloc, &all)?;
+    let mut made = joined_pairs(alloc, &own, &sources, cond, &keys, first, &groups)?;
     make_set(&mut made);
     Ok(made)
 }

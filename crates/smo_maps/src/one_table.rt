@@ -6,9 +6,10 @@ ghost use Rattle.cond_expr.specs.Seen.{test};
 ghost use Rattle.smo_meaning.specs.OneRow.{meets};
 
 use crate::Carried;
-use crate::one_row::{atoms_of, row_meets};
+use crate::one_row::is_met;
 use cond_expr::Cond;
 use prima_base::{ColType, Name, NoMemory, Row};
+use smo_ops::OwnColumns;
 use std::alloc::Global;
 
 /// Equal rows.
@@ -46,11 +47,11 @@ pub(crate) fn parted(
     ensures yes { IfOk result (λ c. c.first.items ≡ filter (meets columns.now (test cond.now)) rows.now) }
     ensures no { IfOk result (λ c. c.second.items ≡ filter (λ row. not (meets columns.now (test cond.now) row)) rows.now) }
 {
-    let atoms = atoms_of(alloc, columns)?;
+    let own = OwnColumns::new(alloc, columns)?;
     let mut yes = Vec::new(alloc);
     let mut no = Vec::new(alloc);
     for row in rows {
-        let met = row_meets(alloc, &atoms, cond, row)?;
+        let met = is_met(alloc, &own, cond, row)?;
         push_into(met, row, &mut yes, &mut no)?;
     }
     Ok(Carried {

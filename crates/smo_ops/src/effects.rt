@@ -8,9 +8,9 @@ ghost use Rattle.prima_base.specs.declared.values.Val.{Val as OneVal};
 ghost use Rattle.prima_base.specs.Order.{row_cmp, shown, IsLent};
 ghost use Rattle.prima_base.specs.Columns.{Column as TableColumn, AreColumns, IsLawful, IsRow};
 ghost use Rattle.cond_expr.specs.Rows.{AreLawful};
-ghost use Rattle.cond_expr.specs.Seen.{test};
-ghost use Rattle.smo_meaning.specs.OneRow.{meets, given, row_of, set_value, with_sets};
-ghost use Rattle.cond_expr.specs.AtomColumns.{columns_at};
+ghost use Rattle.cond_expr.specs.Seen.{tree, test};
+ghost use Rattle.cond_expr.specs.Values.{value};
+ghost use Rattle.smo_meaning.specs.OneRow.{own_cells, meets, given, row_of, set_value, with_sets};
 ghost use Rattle.smo_types.specs.Changes.{sets_of};
 ghost use Rattle.schema_catalog.specs.Databases.{cell};
 
@@ -77,7 +77,7 @@ pub fn inserted_row<'a>(
 // What is set in the column with this name, computed from the row's values; none where nothing is.
 fn set_value<'a>(
     alloc: Global,
-    atoms: &[Column],
+    own: &OwnColumns<'_>,
     sets: &[(Name, Expr)],
     values: &[Val<'a>],
     name: &Name,
@@ -100,8 +100,7 @@ fn set_value<'a>(
 // What is set in each column, computed from the row's values; none where nothing is.
 fn set_values<'a>(
     alloc: Global,
-    columns: &[(Name, ColType)],
-    atoms: &[Column],
+    own: &OwnColumns<'_>,
     sets: &[(Name, Expr)],
     values: &[Val<'a>],
 ) -> Result<Vec<Option<Val<'a>>>, NoMemory>

@@ -1,4 +1,4 @@
--- The tables that an operator is given, and the rows that are stored of them.
+-- The tables of whose rows an operator makes what it makes, and the rows that are stored of them.
 use Rattle.std.proofs.Common.{◌≡◌, ℕ, true, List, [], ◌∷◌, refl, sym, ap, subst, ◌∙◌, inl, inr}
 use Rattle.std.specs.Prelude.{Option, Some, None, is_some, slice_get}
 use Rattle.std.specs.FinMap.{get, contains_key}
@@ -7,38 +7,22 @@ use Rattle.prima_base.specs.Columns.{Column}
 use Rattle.schema_catalog.specs.Tables.{Tables}
 use Rattle.schema_catalog.specs.Databases.{Database, Entry, Rows, Lost, IsEntry, IsDatabase}
 use Rattle.history_store.specs.Store.{Store}
-use Rattle.smo_types.specs.declared.ops.Op.{Op}
-use Rattle.smo_types.specs.declared.ops.Op.TheVariants.{Nop, CreateTable, DropTable, RenameTable, CopyTable, MergeTable, PartitionTable, DecomposeTable, JoinTable, AddColumn, DropColumn, RenameColumn}
-use Rattle.smo_types.specs.Operators.{Operator, operator_of, nop, create_table, drop_table, rename_table, copy_table, merge_table, partition_table, decompose_table, join_table, add_column, drop_column, rename_column}
+use Rattle.smo_types.specs.Operators.{Operator, nop, create_table, drop_table, rename_table, copy_table, merge_table, partition_table, decompose_table, join_table, add_column, drop_column, rename_column}
 use Rattle.smo_meaning.specs.OperatorTable.{line}
 use Rattle.smo_meaning.specs.After.{op_fault}
 use Rattle.smo_meaning.specs.Effects.{rows_at}
 use Rattle.smo_meaning.specs.OneRow.{Relation}
 use Rattle.smo_meaning.proofs.StepLaws.{AllMet}
 use Rattle.smo_meaning.proofs.NextSchemas.{all_preconditions, is_table}
-use Rattle.smo_maps.specs.Carrying.{given_tables, Has}
+use Rattle.smo_meaning.specs.Touching.{made_of}
+use Rattle.smo_maps.specs.Carrying.{AreIn}
 use Rattle.version_groups.specs.declared.made_tables.MadeTable.{MadeTable}
 use Rattle.version_groups.specs.Groups.{stored_as}
 use Rattle.version_groups.specs.Standing.{StandsEntry, AreStored, rows_stored}
 use Rattle.version_groups.specs.Evolving.{IsEarlier, AreEarlier, rows_named}
 
--- but for a COPY TABLE they are those that the operator consumes
-pub given_consumed : (tables : Tables) (op : Op) → ((table into : List ℕ) → op ≡ CopyTable table into → ⊥) → (line tables (operator_of op)).consumed ≡ given_tables (operator_of op)
-given_consumed tables Nop h = refl
-given_consumed tables (CreateTable r cs) h = refl
-given_consumed tables (DropTable r) h = refl
-given_consumed tables (RenameTable r t) h = refl
-given_consumed tables (CopyTable r t) h = absurd (h r t refl)
-given_consumed tables (MergeTable r s t) h = refl
-given_consumed tables (PartitionTable r s c t) h = refl
-given_consumed tables (DecomposeTable r s xs t ys) h = refl
-given_consumed tables (JoinTable r s t c) h = refl
-given_consumed tables (AddColumn c e r) h = refl
-given_consumed tables (DropColumn c r) h = refl
-given_consumed tables (RenameColumn b r c) h = refl
-
 -- each is there
-pub given_there : (tables : Tables) (op : Operator) → op_fault tables op ≡ None → (n : List ℕ) → In n (given_tables op) → contains_key tables n ≡ true
+pub given_there : (tables : Tables) (op : Operator) → op_fault tables op ≡ None → (n : List ℕ) → In n (made_of op) → contains_key tables n ≡ true
 given_there tables op e n i = step op (all_preconditions tables op e) i
   where
     There : List ℕ → Type 0
@@ -53,10 +37,10 @@ given_there tables op e n i = step op (all_preconditions tables op e) i
     two r s h k (inr (inl q)) = subst There q k
     two r s h k (inr (inr q)) = absurd q
 
-    step : (op : Operator) → AllMet (line tables op).preconditions → In n (given_tables op) → There n
+    step : (op : Operator) → AllMet (line tables op).preconditions → In n (made_of op) → There n
     step nop m i = absurd i
     step (create_table r cs) m i = absurd i
-    step (drop_table r) m i = one r (is_table tables r m.0) i
+    step (drop_table r) m i = absurd i
     step (rename_table r t) m i = one r (is_table tables r m.0) i
     step (copy_table r t) m i = one r (is_table tables r m.0) i
     step (merge_table r s t) m i = two r s (is_table tables r m.0) (is_table tables s m.1.0) i
@@ -89,12 +73,11 @@ module _ (tables : Tables) (database : Database) (stamp : ℕ) (made : List Made
         step (Some columns) (Some (Rows rows)) None e h k = absurd k
         step (Some columns) (Some (Rows rows)) (Some store) e h k = ap (λ r. Some (Rows r)) (sym k.rows)
 
-    -- so it has what is read of the given tables
+    -- so it has what is read of these tables
     pub has_given : (names : List (List ℕ)) → ((n : List ℕ) → In n names → contains_key tables n ≡ true) → (f s : Option (List ℕ)) → f ≡ slice_get names 0 → s ≡ slice_get names 1
-        → (first second : Relation) → first ≡ rows_named stamp f made → second ≡ rows_named stamp s made → Has names database first second
-    has_given [] there f s e g first second p q = (p ∙ ap (λ o. rows_named stamp o made) e, q ∙ ap (λ o. rows_named stamp o made) g)
-    has_given (r ∷ []) there f s e g first second p q =
-        (stored_rows r (there r (inl refl)) ∙ ap (λ rows. Some (Rows rows)) (sym (p ∙ ap (λ o. rows_named stamp o made) e)), q ∙ ap (λ o. rows_named stamp o made) g)
+        → (first second : Relation) → first ≡ rows_named stamp f made → second ≡ rows_named stamp s made → AreIn names database first second
+    has_given [] there f s e g first second p q = tt
+    has_given (r ∷ []) there f s e g first second p q = stored_rows r (there r (inl refl)) ∙ ap (λ rows. Some (Rows rows)) (sym (p ∙ ap (λ o. rows_named stamp o made) e))
     has_given (r ∷ n ∷ names) there f s e g first second p q = (
       stored_rows r (there r (inl refl)) ∙ ap (λ rows. Some (Rows rows)) (sym (p ∙ ap (λ o. rows_named stamp o made) e)),
       stored_rows n (there n (inr (inl refl))) ∙ ap (λ rows. Some (Rows rows)) (sym (q ∙ ap (λ o. rows_named stamp o made) g)),

@@ -1,6 +1,6 @@
 //! The next version behind an operator, and its stored tables.
 
-ghost use Rattle.std.specs.Prelude.{◌≡◌, ◌+◌, ◌<◌, ◌≤◌, ◌++◌, ◌∷◌, [], ℕ, List, length, slice_get, false, IfOk, OnOk, None};
+ghost use Rattle.std.specs.Prelude.{◌≡◌, ◌+◌, ◌<◌, ◌≤◌, ◌++◌, ◌∷◌, [], ℕ, List, length, false, IfOk, OnOk, None};
 ghost use Rattle.std.specs.Option.{option_copied};
 ghost use Rattle.std.specs.FinMap.{get};
 ghost use Rattle.relations.specs.Sets.{Ascends};
@@ -15,7 +15,7 @@ ghost use Rattle.smo_meaning.specs.Effects.{rows_at};
 ghost use Rattle.smo_types.specs.Commands.{version_of};
 ghost use Rattle.smo_meaning.specs.OperatorTable.{line, made_names};
 ghost use Rattle.smo_meaning.specs.Touching.{makes};
-ghost use Rattle.smo_maps.specs.Carrying.{given_tables, Has};
+ghost use Rattle.smo_maps.specs.Carrying.{Has};
 ghost use Rattle.smo_meaning.specs.OneRow.{Relation};
 ghost use Rattle.version_groups.specs.Groups.{stored_as, names_of};
 ghost use Rattle.version_groups.specs.Places.{at_places, AreWithin};
@@ -31,7 +31,7 @@ use history_store::StoredTable;
 use prima_base::{Name, NoMemory, Row, same_name};
 use schema_catalog::{Schema, Table};
 use smo_maps::{Carried, carry};
-use smo_ops::{Made, Op, OpFault, Version, after, consumed, made, next_schema_is_lawful};
+use smo_ops::{Made, Op, OpFault, Version, after, made, made_of, next_schema_is_lawful};
 use std::alloc::Global;
 
 /// Tables that begin, and the places of a version's own among all that are stored and those.
@@ -46,20 +46,6 @@ pub(crate) struct NextTables {
 pub(crate) struct Evolved {
     pub(crate) version: Version,
     pub(crate) tables: NextTables,
-}
-
-// The tables that the operator is given, in the order in which it names them. It takes no memory.
-fn inputs(op: &Op) -> Made<'_>
-    ensures first { option_copied result.first ≡ slice_get (given_tables (operator_of op.now)) 0 }
-    ensures second { option_copied result.second ≡ slice_get (given_tables (operator_of op.now)) 1 }
-{
-    match op {
-        Op::CopyTable { table, .. } => Made {
-            first: Some(table),
-            second: None,
-        },
-        _ => consumed(op),
-    }
 }
 
 // The rows that are stored under the name now; none where there is no such table.
@@ -117,7 +103,7 @@ fn begin_table(
 }
 
 // Whether the name is this one.
-pub(crate) fn is_name(named: Option<&Name>, name: &Name) -> bool
+fn is_name(named: Option<&Name>, name: &Name) -> bool
     ensures { result ≡ is_name (option_copied named.entry) name.now }
 {
     match named {
@@ -277,7 +263,7 @@ fn carry_rows(
     ensures { (stamp : ℕ) → stamp < forever → (database : Database) → IsDatabase before.now database → AreStored before.now database stamp (at_places tables.now places.now)
         → IfOk result (λ c. Has (made_names (line before.now (operator_of op.now)).made) (carried before.now (operator_of op.now) database) c.first.items c.second.items) }
 {
-    let given = inputs(op);
+    let given = made_of(op);
     let first = current_rows(alloc, tables, places, given.first)?;
     let second = current_rows(alloc, tables, places, given.second)?;
     carry(alloc, op, before, &first, &second)

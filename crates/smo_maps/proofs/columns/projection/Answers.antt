@@ -7,5 +7,5 @@ use Rattle.smo_maps.proofs.Places.{picked_own, shown_image}
 use Rattle.smo_maps.proofs.columns.projection.Goals as goal
 
 pub returns : goal.returns
-returns c = λ kept e. IfOk-weaker c.image.result _ _ (λ v h. h ∙ shown_image (source_of c.args.columns.now []) (λ (row : Row). []) (cell c.args.columns.now) kept c.deref.result.now c.args.names.now c.args.rows.now
-    (c.deref.ensures.value ∙ c.in_ok-sources.ensures) e (picked_own c.args.columns.now)) c.image.ensures
+returns c = IfOk-weaker c.image.result _ _ (λ v h. h ∙ shown_image (source_of c.args.columns.now []) (λ (row : Row). []) (cell c.args.columns.now) c.args.kept.now c.deref-2.result.now c.deref.result.now c.args.rows.now
+    (c.deref-2.ensures.value ∙ c.in_ok-sources.ensures) (c.deref.ensures.value ∙ c.in_ok-names.ensures) (picked_own c.args.columns.now)) c.image.ensures
