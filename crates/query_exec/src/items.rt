@@ -42,10 +42,12 @@ fn named_columns(
 ) -> Result<Vec<Column>, NoMemory>
     ensures { IfOk result (λ v. v.items ≡ columns_at atom (named names.now (columns_of schema.now table.now))) }
 {
-    match schema.table(table) {
-        Some(found) => columns_at(alloc, atom, &columns_named(alloc, found.columns(), names)?),
-        None => Ok(Vec::new(alloc)),
-    }
+    let Some(found) = schema.table(table) else {
+        return Ok(Vec::new(alloc));
+    };
+    let named = columns_named(alloc, found.columns(), names)?;
+    let columns = columns_at(alloc, atom, &named)?;
+    Ok(columns)
 }
 
 /// What is read of an item's table over the slice, in the columns that are named of it and the rows that meet the condition that is
