@@ -6,3 +6,4 @@ pub mod PairedColumns
 pub mod NameListLaws
 pub mod MakingLaws
 pub mod InverseNumbers
+pub mod OneOfNames

@@ -1,4 +1,3 @@
-use crate::name_lists::is_either;
 use prima_base::{Name, same_name};
 
 /// At most two names of tables, in the order in which the operator names them.
@@ -13,13 +12,18 @@ impl Made<'_> {
     ghost use Rattle.smo_schemas.specs.Names.{is_one_of};
 
     /// Whether the name is one of these. It takes no memory.
-    pub fn has(&self, name: &Name) -> bool
-        ensures { result ≡ is_one_of self.now name.now }
+    pub fn has(self, name: &Name) -> bool
+        ensures { result ≡ is_one_of self.entry name.now }
     {
-        match (self.first, self.second) {
-            (Some(first), Some(second)) => is_either(name, first, second),
-            (Some(first), None) => same_name(name, first),
-            (None, _) => false,
+        match self.first {
+            None => false,
+            Some(first) => {
+                same_name(name, first)
+                    || match self.second {
+                        None => false,
+                        Some(second) => same_name(name, second),
+                    }
+            }
         }
     }
 }
