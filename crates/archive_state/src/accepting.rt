@@ -14,7 +14,7 @@ ghost use Rattle.smo_meaning.specs.After.{op_fault, HasFewNodes, HaveFewNodes};
 ghost use Rattle.smo_meaning.specs.Inverses.{inverse_fault};
 ghost use Rattle.smo_meaning.specs.Preconditions.{AreNarrow};
 ghost use Rattle.smo_meaning.specs.Accepts.{refusal_of, count_fault, stamp_fault, body_tests, command_fault, most_versions};
-ghost use Rattle.smo_meaning.specs.Past.{Past, newest_tables};
+ghost use Rattle.smo_meaning.specs.Past.{Past};
 ghost use Rattle.version_groups.specs.Showing.{Shows};
 ghost use Rattle.archive_state.specs.Committing.{IsJudged};
 
@@ -50,17 +50,6 @@ fn judge_stamp(last: Option<u64>, stamp: u64) -> Result<(), CommitFault>
             Err(CommitFault::Refused(Refusal::StampNotLater(stamp, last)))
         }
         _ => Ok(()),
-    }
-}
-
-/// The schema of the newest version. It takes no memory.
-#[tactic(auto, using(crate::proofs::NewestSchema::newest_is))]
-pub(crate) fn newest_schema(groups: &Groups) -> &Schema
-    ensures { (past : Past) → Shows groups.now past → result.now ≡ newest_tables past }
-{
-    match groups.schema(groups.newest()) {
-        Some(schema) => schema,
-        None => unreachable!(),
     }
 }
 
@@ -127,7 +116,7 @@ fn judge_evolve(alloc: Global, groups: &Groups, op: &Op, inverse: &[Op]) -> Resu
 {
     counted_operators_are_few();
     judge_versions(groups.newest())?;
-    let schema = newest_schema(groups);
+    let schema = groups.newest_schema();
     judge_operator(alloc, schema, op)?;
     judge_inverse(alloc, schema, op, inverse)
 }
@@ -140,7 +129,7 @@ fn judge_body(alloc: Global, groups: &Groups, body: &Body) -> Result<(), CommitF
     ensures { (past : Past) → Shows groups.now past → IsJudged (first_refusal (body_tests past (body_of body.now))) result }
 {
     match body {
-        Body::Changes(changes) => judge_changes(alloc, newest_schema(groups), changes),
+        Body::Changes(changes) => judge_changes(alloc, groups.newest_schema(), changes),
         Body::Evolve { op, inverse } => judge_evolve(alloc, groups, op, inverse),
     }
 }

@@ -118,6 +118,7 @@ impl Groups {
     ghost use Rattle.smo_meaning.specs.LawfulPast.{AreVersions};
     ghost use Rattle.smo_meaning.specs.LawfulValues.{BodyHolds};
     ghost use Rattle.smo_meaning.specs.Past.{Past, beginning, no_tables, tables_from, newest_from, version_at, past_with};
+    ghost use Rattle.smo_meaning.specs.Past.{newest_tables};
     ghost use Rattle.smo_meaning.specs.Sizes.{Size};
     ghost use Rattle.version_groups.specs.Groups.{versions_in, places_of, stored_at, table_in, newest_group, names_of};
     ghost use Rattle.version_groups.specs.Places.{at_places, AreWithin};
@@ -206,6 +207,13 @@ impl Groups {
             Some(version) => Some(&version.schema),
             None => None,
         }
+    }
+
+    /// The schema of the newest version. It takes no memory.
+    pub fn newest_schema(&self) -> &Schema
+        ensures { (past : Past) → Shows self.now past → result.now ≡ newest_tables past }
+    {
+        newest_schema(&self.nothing, &self.versions)
     }
 
     /// What is stored of a version's table: `None` exactly where there is no such version, or no such table in it. It
