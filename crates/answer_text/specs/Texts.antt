@@ -10,6 +10,7 @@ use Rattle.prima_base.specs.Columns.{Column}
 use Rattle.schema_catalog.specs.Tables.{Tables}
 use Rattle.smo_types.specs.Operators.{Operator}
 use Rattle.smo_types.specs.Commands.{PlainVersion}
+use Rattle.smo_meaning.specs.InForce.{begins_at}
 use Rattle.smo_meaning.specs.Sizes.{Size, cells_in}
 use Rattle.smo_parse.specs.TreeTexts.{value_text}
 use Rattle.smo_parse.specs.Texts.{listed, column_text, operator_text}
@@ -104,19 +105,14 @@ first_version_text end = version_head 0 0 end ++ codes "\n"
 abbrev pub version_text : ℕ → PlainVersion → ℕ → List ℕ
 version_text k v end = version_head k v.stamp end ++ (codes " " ++ (operator_text v.op ++ (inverse_text v.inverse ++ codes "\n")))
 
--- the stamp of the first of these versions; the end of time where there is none
-abbrev pub next_stamp : List PlainVersion → ℕ
-next_stamp [] = FOREVER
-next_stamp (v ∷ versions) = v.stamp
-
--- versions, the first of which has this number
+-- versions, the first of which has this number: each ends where the first of those after it begins
 abbrev pub version_texts : ℕ → List PlainVersion → List ℕ
 version_texts k [] = []
-version_texts k (v ∷ versions) = version_text k v (next_stamp versions) ++ version_texts (k + 1) versions
+version_texts k (v ∷ versions) = version_text k v (begins_at versions 1) ++ version_texts (k + 1) versions
 
 -- all versions, and then how many they are
 unfoldable pub versions_text : List PlainVersion → List ℕ
-versions_text versions = first_version_text (next_stamp versions) ++ (version_texts 1 versions ++ count_text (length versions + 1))
+versions_text versions = first_version_text (begins_at versions 1) ++ (version_texts 1 versions ++ count_text (length versions + 1))
 
 -- ---- tables
 

@@ -10,11 +10,12 @@ ghost use Rattle.answer_text.specs.Causes.{HasStopCause};
 ghost use Rattle.answer_text.specs.declared.stop.Stop.TheVariants as stop;
 ghost use Rattle.answer_text.specs.Texts.{end_text, piece_head, explained_text, explain_text};
 
-use crate::bytes::{add, add_count, add_end, add_number, put_lines};
+use crate::bytes::{add_count, add_end, add_number, put_lines};
 use crate::stop::Stop;
 use piece_texts::{Explained, piece_text};
 use prima_base::NoMemory;
 use prima_io::Sink;
+use smo_parse::put;
 use std::alloc::Global;
 
 // What stands before the text of a piece.
@@ -22,17 +23,17 @@ use std::alloc::Global;
 fn add_head(line: &mut Vec<u8>, explained: &Explained) -> Result<(), NoMemory>
     ensures { OnOk result (line.new.items ≡ line.old.items ++ piece_head (explained_of explained.now)) }
 {
-    add(line, b"piece ")?;
+    put(line, b"piece ")?;
     add_number(line, explained.period.start())?;
-    add(line, b" ")?;
+    put(line, b" ")?;
     add_end(line, explained.period.end())?;
-    add(line, b" ")?;
+    put(line, b" ")?;
     add_number(line, explained.branch as u64)?;
-    add(line, b" ")?;
+    put(line, b" ")?;
     add_number(line, explained.atom as u64)?;
-    add(line, b" ")?;
+    put(line, b" ")?;
     add_number(line, explained.version as u64)?;
-    add(line, b" ")
+    put(line, b" ")
 }
 
 // The line of a piece.
@@ -41,8 +42,8 @@ fn add_explained(alloc: Global, lines: &mut Vec<u8>, explained: &Explained) -> R
 {
     add_head(lines, explained)?;
     let text = piece_text(alloc, &explained.piece)?;
-    add(lines, &text)?;
-    add(lines, b"\n")
+    put(lines, &text)?;
+    put(lines, b"\n")
 }
 
 // The lines of all these pieces.

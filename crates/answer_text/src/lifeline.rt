@@ -36,17 +36,6 @@ fn size_line(table: &Name, first: u32, last: u32, keys: u64, cells: u64) -> Line
     line
 }
 
-// The line that counts the lines before it.
-fn count_line(count: u64) -> Line
-    ensures { result ≡ count_text count }
-{
-    let mut line = Line::new();
-    line.add(b"end ");
-    line.add_number(count);
-    line.add(b"\n");
-    line
-}
-
 /// Puts the line of a lifeline: its table, its first version and its last, and how many keys and cells are stored of it.
 /// It takes no memory. `Failed`, here and below, comes only where the sink's count of faults rose; a prefix of the line,
 /// and not all of it, was then put.
@@ -72,6 +61,6 @@ pub fn put_count<K: Sink>(sink: &mut K, count: u64) -> Result<(), Failed>
     ensures part { OnErr result (AppendsLess (K.written sink.old) (K.written sink.new) (count_text count)) }
     ensures cause { HasCause (K.faults sink.old) (K.faults sink.new) result }
 {
-    let mut line = count_line(count);
+    let mut line = Line::counting(count);
     line.flush(sink)
 }

@@ -5,8 +5,10 @@ ghost use Rattle.std.specs.Io.KnownBytes.{Appends};
 ghost use Rattle.prima_io.specs.Causes.{HasCause};
 ghost use Rattle.prima_io.specs.Moves.{AppendsLess};
 ghost use Rattle.answer_text.specs.Gathering.{Gathers};
+ghost use Rattle.answer_text.specs.Texts.{end_text, count_text};
 
 use itoa::Buffer;
+use prima_base::FOREVER;
 use prima_io::{Failed, Sink, put_all};
 use std::marker::Model;
 
@@ -59,6 +61,37 @@ impl Line {
         ensures short { length self.new ≤ length self.old + 20 }
     {
         self.add(Buffer::new().format(number).as_bytes());
+    }
+
+    /// Adds the end of a period, for which there is room: `now` where the period still goes on.
+    pub(crate) fn add_end(&mut self, end: u64)
+        requires { length self.old + 20 ≤ 4096 }
+        ensures { self.new ≡ self.old ++ end_text end }
+    {
+        if end == FOREVER {
+            self.add(b"now");
+        } else {
+            self.add_number(end);
+        }
+    }
+
+    /// The line that counts the lines before it.
+    pub(crate) fn counting(count: u64) -> Line
+        ensures text { result ≡ count_text count }
+        ensures short { length result ≤ 30 }
+    {
+        let mut line = Line::new();
+        line.add(b"end ");
+        line.add_number(count);
+        line.add(b"\n");
+        line
+    }
+
+    /// The bytes that the line holds.
+    pub(crate) fn held(&self) -> &[u8]
+        ensures { result.now ≡ self.now }
+    {
+        &self.bytes[..self.len]
     }
 
     /// How many bytes can still be added.

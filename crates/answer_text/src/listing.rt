@@ -10,11 +10,11 @@ ghost use Rattle.prima_base.specs.Order.{shown};
 ghost use Rattle.prima_base.specs.Timed.{entry_of, entries_of};
 ghost use Rattle.answer_text.specs.Gathering.{Gathers};
 ghost use Rattle.smo_parse.specs.TreeTexts.{doubled, value_text};
-ghost use Rattle.answer_text.specs.Texts.{values_text, end_text, head_text, row_text, count_text, listing_text};
+ghost use Rattle.answer_text.specs.Texts.{values_text, head_text, row_text, count_text, listing_text};
 
 use crate::line::Line;
 use itoa::Buffer;
-use prima_base::{FOREVER, Period, TimedRow, Val};
+use prima_base::{Period, TimedRow, Val};
 use prima_io::{Failed, Sink};
 
 /// The answer to a query: its rows, each with a period in which it holds, ascending by row and start. The periods are
@@ -69,9 +69,8 @@ fn push_count<K: Sink>(line: &mut Line, sink: &mut K, count: u64) -> Result<(), 
     ensures cause { HasCause (K.faults sink.old) (K.faults sink.new) result }
 {
     line.make_room(sink, 30)?;
-    line.add(b"end ");
-    line.add_number(count);
-    line.add(b"\n");
+    let text = Line::counting(count);
+    line.add(text.held());
     Ok(())
 }
 
@@ -115,18 +114,7 @@ fn add_head(line: &mut Line, period: Period, told: bool)
         line.add(b" ");
         line.add_number(period.start());
         line.add(b" ");
-        add_end(line, period.end());
-    }
-}
-
-fn add_end(line: &mut Line, end: u64)
-    requires { length line.old + 20 ≤ 4096 }
-    ensures { line.new ≡ line.old ++ end_text end }
-{
-    if end == FOREVER {
-        line.add(b"now");
-    } else {
-        line.add_number(end);
+        line.add_end(period.end());
     }
 }
 

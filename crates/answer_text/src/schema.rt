@@ -4,73 +4,27 @@ ghost use Rattle.std.specs.Prelude.{◌≡◌, ◌++◌, map, drop, IfOk, OnOk, 
 ghost use Rattle.std.specs.FinMap.{entries};
 ghost use Rattle.std.specs.Io.KnownBytes.{Appends};
 ghost use Rattle.prima_io.specs.Moves.{AppendsFront, AppendsLess};
-ghost use Rattle.smo_parse.specs.Texts.{type_text, column_text, listed, more_listed};
 ghost use Rattle.answer_text.specs.Causes.{HasStopCause};
 ghost use Rattle.answer_text.specs.declared.stop.Stop.TheVariants as stop;
 ghost use Rattle.answer_text.specs.Texts.{table_text, tables_text, schema_text};
 
-use crate::bytes::{add, add_count, put_lines};
+use crate::bytes::{add_count, put_lines};
 use crate::stop::Stop;
-use prima_base::{ColType, Name, NoMemory};
+use prima_base::NoMemory;
 use prima_io::Sink;
 use schema_catalog::{Schema, Table};
+use smo_parse::{put, write_columns};
 use std::alloc::Global;
-
-// A type's word.
-fn word_of(kind: ColType) -> &'static [u8]
-    ensures { result.now ≡ type_text kind }
-{
-    match kind {
-        ColType::Int => b"INT",
-        ColType::Text => b"TEXT",
-    }
-}
-
-// A column's name and its type.
-fn add_column(line: &mut Vec<u8>, name: &Name, kind: ColType) -> Result<(), NoMemory>
-    ensures { OnOk result (line.new.items ≡ line.old.items ++ column_text (name.now, kind)) }
-{
-    add(line, name.bytes())?;
-    add(line, b" ")?;
-    add(line, word_of(kind))
-}
-
-// Columns, each behind a comma.
-fn add_more_columns(line: &mut Vec<u8>, columns: &[(Name, ColType)]) -> Result<(), NoMemory>
-    ensures { OnOk result (line.new.items ≡ line.old.items ++ more_listed (map column_text columns.now)) }
-{
-    match columns {
-        [] => Ok(()),
-        [(name, kind), more @ ..] => {
-            add(line, b", ")?;
-            add_column(line, name, *kind)?;
-            add_more_columns(line, more)
-        }
-    }
-}
-
-// Columns with commas between them.
-fn add_columns(line: &mut Vec<u8>, columns: &[(Name, ColType)]) -> Result<(), NoMemory>
-    ensures { OnOk result (line.new.items ≡ line.old.items ++ listed (map column_text columns.now)) }
-{
-    match columns {
-        [] => Ok(()),
-        [(name, kind), more @ ..] => {
-            add_column(line, name, *kind)?;
-            add_more_columns(line, more)
-        }
-    }
-}
 
 // The line of a table.
 fn add_table(lines: &mut Vec<u8>, table: &Table) -> Result<(), NoMemory>
     ensures { OnOk result (lines.new.items ≡ lines.old.items ++ table_text table.now) }
 {
-    add(lines, b"table ")?;
-    add(lines, table.name().bytes())?;
-    add(lines, b" ")?;
-    add_columns(lines, table.columns())?;
-    add(lines, b"\n")
+    put(lines, b"table ")?;
+    put(lines, table.name().bytes())?;
+    put(lines, b" ")?;
+    write_columns(lines, table.columns())?;
+    put(lines, b"\n")
 }
 
 // The lines of the tables from this place on. There is no memory for more tables than a place can number.

@@ -5,26 +5,27 @@ ghost use Rattle.std.specs.Io.KnownBytes.{Appends};
 ghost use Rattle.prima_io.specs.Moves.{AppendsFront, AppendsLess};
 ghost use Rattle.smo_types.specs.Operators.{operator_of, operators_of};
 ghost use Rattle.smo_types.specs.Commands.{version_of};
+ghost use Rattle.smo_meaning.specs.InForce.{begins_at};
 ghost use Rattle.smo_parse.specs.Texts.{operator_text};
 ghost use Rattle.answer_text.specs.Causes.{HasStopCause};
 ghost use Rattle.answer_text.specs.declared.stop.Stop.TheVariants as stop;
-ghost use Rattle.answer_text.specs.Texts.{more_operators, inverse_text, version_head, first_version_text, version_text, next_stamp, version_texts, versions_text};
+ghost use Rattle.answer_text.specs.Texts.{more_operators, inverse_text, version_head, first_version_text, version_text, version_texts, versions_text};
 
-use crate::bytes::{add, add_count, add_end, add_number, put_lines};
+use crate::bytes::{add_count, add_end, add_number, put_lines};
 use crate::stop::Stop;
 use prima_base::{FOREVER, NoMemory};
 use prima_io::Sink;
 use smo_ops::{Op, Version};
-use smo_parse::op_text;
+use smo_parse::{op_text, put};
 use std::alloc::Global;
 
 // An operator's canonical text, behind a word.
 fn add_operator(alloc: Global, line: &mut Vec<u8>, word: &[u8], op: &Op) -> Result<(), NoMemory>
     ensures { OnOk result (line.new.items ≡ line.old.items ++ (word.now ++ operator_text (operator_of op.now))) }
 {
-    add(line, word)?;
+    put(line, word)?;
     let text = op_text(alloc, op)?;
-    add(line, &text)
+    put(line, &text)
 }
 
 // Operators, each behind THEN.
@@ -58,11 +59,11 @@ fn add_inverse(alloc: Global, line: &mut Vec<u8>, inverse: &[Op]) -> Result<(), 
 fn add_head(line: &mut Vec<u8>, number: u64, start: u64, end: u64) -> Result<(), NoMemory>
     ensures { OnOk result (line.new.items ≡ line.old.items ++ version_head number start end) }
 {
-    add(line, b"version ")?;
+    put(line, b"version ")?;
     add_number(line, number)?;
-    add(line, b" ")?;
+    put(line, b" ")?;
     add_number(line, start)?;
-    add(line, b" ")?;
+    put(line, b" ")?;
     add_end(line, end)
 }
 
@@ -71,7 +72,7 @@ fn add_first_version(lines: &mut Vec<u8>, end: u64) -> Result<(), NoMemory>
     ensures { OnOk result (lines.new.items ≡ lines.old.items ++ first_version_text end) }
 {
     add_head(lines, 0, 0, end)?;
-    add(lines, b"\n")
+    put(lines, b"\n")
 }
 
 // The line of a version.
@@ -87,12 +88,12 @@ fn add_version(
     add_head(lines, number, version.stamp, end)?;
     add_operator(alloc, lines, b" ", &version.op)?;
     add_inverse(alloc, lines, &version.inverse)?;
-    add(lines, b"\n")
+    put(lines, b"\n")
 }
 
-// The stamp of the first of these versions; the end of time where there is none.
+// The moment at which what is in force before these versions ends: the stamp of the first of them, or the end of time.
 fn next_stamp(versions: &[Version]) -> u64
-    ensures { result ≡ next_stamp (map version_of versions.now) }
+    ensures { result ≡ begins_at (map version_of versions.now) 1 }
 {
     match versions {
         [] => FOREVER,

@@ -9,3 +9,4 @@ pub mod MarksJoined
 pub mod Longest
 pub mod Unambiguous
 pub mod Fronts
+pub mod Where

@@ -222,15 +222,15 @@ fine_behind d a s (m ∷ ms) [] us n e h = absurd (omega (arith, e))
 fine_behind {A} d a s (m ∷ ms) (x ∷ f) us n e h = by_passed (passed_by d (n + m.nodes) m) over (λ p. subst (Q p) (sym p) (fine_behind d a s ms f us (n + m.nodes) (omega (arith, e)) (subst (P p) p h)))
   where
     P : passed_by d (n + m.nodes) m ≡ None → Option What → Type 0
-    P p o = Fine d a s 0 [] (or_else o (x ∷ f) (along d a (n + m.nodes) ms f))
+    P p o = Fine d a s 0 [] (or_else o n (x ∷ f) (along d a (n + m.nodes) ms f))
 
     Q : passed_by d (n + m.nodes) m ≡ None → Option What → Type 0
-    Q p o = Fine d a s 0 us (or_else o (x ∷ (f ++ us)) (along d a (n + m.nodes) ms (f ++ us)))
+    Q p o = Fine d a s 0 us (or_else o n (x ∷ (f ++ us)) (along d a (n + m.nodes) ms (f ++ us)))
 
     over : (w : What) → passed_by d (n + m.nodes) m ≡ Some w → Fine d a s 0 us (along d a n (m ∷ ms) ((x ∷ f) ++ us))
     over w p =
-        let R : Option What → Type 0 = λ o. Fine d a s 0 [] (or_else o (x ∷ f) (along d a (n + m.nodes) ms f)) in
-        let S : Option What → Type 0 = λ o. Fine d a s 0 us (or_else o (x ∷ (f ++ us)) (along d a (n + m.nodes) ms (f ++ us))) in
+        let R : Option What → Type 0 = λ o. Fine d a s 0 [] (or_else o n (x ∷ f) (along d a (n + m.nodes) ms f)) in
+        let S : Option What → Type 0 = λ o. Fine d a s 0 us (or_else o n (x ∷ (f ++ us)) (along d a (n + m.nodes) ms (f ++ us))) in
         subst S (sym p) (let i : Exceeds w 0 d s = subst R p h in i)
 
 -- ---- the longest is read

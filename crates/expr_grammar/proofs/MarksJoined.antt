@@ -96,7 +96,7 @@ module _ (w : List ℕ) (make : Test → Test → List Test → Test) (item : Pa
           (append_assoc k (word w ∷ (m ++ o)) us ∙ ap (λ u. k ++ word w ∷ u) (append_assoc m o us))
           (bind_along d item rest_of c (make c e l) ms (node ∷ (me ++ ml)) k (word w ∷ tail us) n h len (first n h (word w ∷ tail us) (no_goes f)) (λ j p z.
           ap (λ b. cond b (arm_run (Counts (then_two c)) (word w) j (tail us)) (Got c j (word w ∷ tail us))) (word_is w)
-          ∙ in_room j (then_two c (j + 1) (tail us)) (along d (make c e l) (j + 1) (me ++ ml) (tail us)) (Over what.Nodes (word w ∷ tail us)) (λ i. two_parts (j + 1) i us stops)
+          ∙ in_room j (then_two c (j + 1) (tail us)) (along d (make c e l) (j + 1) (me ++ ml) (tail us)) (Over what.Nodes j (word w ∷ tail us)) (λ i. two_parts (j + 1) i us stops)
           ∙ sym (node_along d (make c e l) j p (me ++ ml) (word w) (tail us))))
 
 -- ---- whatever is in the grammar

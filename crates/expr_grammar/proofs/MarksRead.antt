@@ -220,7 +220,7 @@ module _ (q : Bool) where
   pub no_word : (w m : List ℕ) → is_name w ≡ false → is_name m ≡ true → is_word w (word m) ≡ false
   no_word w m e f = by_test (is_word w (word m)) (λ t. let z : word m ≡ word w = word_exact w (word m) t in let y : m ≡ w = cc in true_false (sym f ∙ ap is_name y ∙ e)) (λ t. t)
 
-  at_name : (m : List ℕ) → is_name m ≡ true → (d n : ℕ) (us : List Lexeme) → (level q d).expr n (word m ∷ us) ≡ cond (has_room n) (ref_rest q m (n + 1) us) (Over what.Nodes (word m ∷ us))
+  at_name : (m : List ℕ) → is_name m ≡ true → (d n : ℕ) (us : List Lexeme) → (level q d).expr n (word m ∷ us) ≡ cond (has_room n) (ref_rest q m (n + 1) us) (Over what.Nodes n (word m ∷ us))
   at_name m e d n us =
       expr_else q d n (word m ∷ us) (no_word LENGTH m length_no_name e) (no_word CONCAT m concat_no_name e) (no_word CASE m case_no_name e)
       ∙ ap (λ b. arm_run (cond b (Counts (ref_rest q m)) No) (word m) n us) e
@@ -241,14 +241,14 @@ pub of_free_read : (m : List ℕ) → is_name m ≡ true → ExprRead true true 
 unfolding ref_rest
 of_free_read m e d n h rest stops =
     at_name true m e d n rest
-    ∙ ap (λ o. cond (has_room n) o (Over what.Nodes (word m ∷ rest))) (option_not (is_sign POINT) (Takes (map_to (λ c. aliased m c) name)) (column Free m) (n + 1) rest (no_sign true m rest stops))
+    ∙ ap (λ o. cond (has_room n) o (Over what.Nodes n (word m ∷ rest))) (option_not (is_sign POINT) (Takes (map_to (λ c. aliased m c) name)) (column Free m) (n + 1) rest (no_sign true m rest stops))
     ∙ sym (node_along d (column Free m) n h [] (word m) rest)
 
 pub of_alias_read : (a m : List ℕ) → is_name a ≡ true → is_name m ≡ true → ExprRead true false (aliased a m) (word a ∷ sign POINT ∷ word m ∷ []) (node ∷ plain ∷ plain ∷ [])
 unfolding ref_rest name
 of_alias_read a m e f d n h rest stops =
     at_name true a e d n (sign POINT ∷ word m ∷ rest)
-    ∙ ap (λ b. cond (has_room n) (and_then (arm_run (single_arm (cond b (Some m) None)) (word m) (n + 1) rest) (λ c. pure (aliased a c))) (Over what.Nodes (word a ∷ sign POINT ∷ word m ∷ rest))) f
+    ∙ ap (λ b. cond (has_room n) (and_then (arm_run (single_arm (cond b (Some m) None)) (word m) (n + 1) rest) (λ c. pure (aliased a c))) (Over what.Nodes n (word a ∷ sign POINT ∷ word m ∷ rest))) f
     ∙ in_room n (Got (aliased a m) (n + 1) rest) (along d (aliased a m) (n + 1) (plain ∷ plain ∷ []) (sign POINT ∷ word m ∷ rest)) _
     (λ i. sym (plain_along d (aliased a m) (n + 1) i (plain ∷ []) (sign POINT) (word m ∷ rest) ∙ plain_along d (aliased a m) (n + 1) i [] (word m) rest))
     ∙ sym (node_along d (aliased a m) n h (plain ∷ plain ∷ []) (word a) (sign POINT ∷ word m ∷ rest))

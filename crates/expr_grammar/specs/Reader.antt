@@ -95,7 +95,7 @@ module _ (q may : Bool) (within : Level) where
   cond = bind conj conjs
 
 abbrev pub nothing : Level
-nothing = record { expr = λ n ts. Over what.Depth ts; cond = λ n ts. Over what.Depth ts; fact = λ n ts. Over what.Depth ts }
+nothing = record { expr = λ n ts. Over what.Depth n ts; cond = λ n ts. Over what.Depth n ts; fact = λ n ts. Over what.Depth n ts }
 
 abbrev pub made : Bool → Bool → Level → Level
 made q may within = record { expr = expr q may within; cond = cond q may within; fact = fact q may within }

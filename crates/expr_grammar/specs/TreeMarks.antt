@@ -4,6 +4,7 @@ use Rattle.cond_expr.specs.Trees.{Tree, Test}
 use Rattle.lexical_grammar.specs.Lexemes.{Lexeme}
 use Rattle.parser_combinators.specs.Parsing.{Size}
 use Rattle.parser_combinators.specs.Marks.{Mark, plain, node, begins, opened}
+use Rattle.parser_combinators.specs.Passings.{Passing, mark_pass}
 use Rattle.expr_grammar.specs.Grammar as g
 use Rattle.expr_grammar.specs.Grammar.{IsExpr, AreParts, IsFact, AreFacts, IsConj, AreConjs, IsCond}
 
@@ -46,3 +47,10 @@ unfoldable mutual
   pub cond_marks : (q : Bool) (c : Test) (s : Size) (f : List Lexeme) → IsCond q c s f → List Mark
   cond_marks q c s f (g.one_conj p d u k h) = conj_marks p d u k h
   cond_marks q c s f (g.an_or p d e l u v w k m o hd he hl) = conj_marks p d u k hd ++ node ∷ (conj_marks p e v m he ++ conjs_marks p l w o hl)
+
+-- at which of them a count passes its limit
+abbrev pub expr_passes : (q : Bool) → Passing (IsExpr q)
+expr_passes q = mark_pass (IsExpr q) (expr_marks q)
+
+abbrev pub cond_passes : (q : Bool) → Passing (IsCond q)
+cond_passes q = mark_pass (IsCond q) (cond_marks q)

@@ -3,7 +3,7 @@
 //! `specs/Grammar.antt` says which lexemes spell which tree, and of what size it is;
 //! `specs/Constants.antt` names and constants, each one lexeme. `specs/Reader.antt` reads them from
 //! left to right, made of the parts of parser_combinators. `specs/TreeMarks.antt` says what is counted
-//! at each token.
+//! at each token. `specs/Where.antt` has the WHERE of operators, changes and branches.
 //!
 //! Nothing runs here. Each function is proved and does nothing; crates above make their own
 //! productions of the lemmas of `proofs/`.

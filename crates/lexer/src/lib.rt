@@ -3,11 +3,12 @@
 //! `tokens` makes the tokens of a text. `parse_expr` and `parse_cond` read an expression or a
 //! condition from a list of tokens. Their grammar is `specs/Grammar.antt` of expr_grammar; what is
 //! counted at each token is its `specs/TreeMarks.antt`, and which token is the first that is too much
-//! `specs/Marks.antt` of parser_combinators.
+//! `specs/Passes.antt` of parser_combinators.
 //!
 //! Crates above read statements over a `Cursor`, with these readers and their own: `name` and
 //! `names`, `moment`, `small`, `int`, `literal` and `constant` (`specs/Constants.antt` of
-//! expr_grammar), `fresh_expr` and `fresh_cond`, which count anew, and the cursor's own steps
+//! expr_grammar), `fresh_expr` and `fresh_cond`, which count anew, `outer_where` and `fresh_where` for
+//! a condition behind WHERE, and the cursor's own steps
 //! (`expect_word`, `expect_sign`, `sees_word`, `sees_sign`, `skip`). `specs/Parsing.antt` of
 //! parser_combinators has the steps of reading for any grammar, and says how a production is made of
 //! them.
@@ -29,7 +30,7 @@ pub use lexical_grammar::{
 };
 pub use parse::{fault_at, limit_of, parse_cond, parse_expr, tail};
 pub use parser_combinators::{Cursor, ParseFault, Stop};
-pub use reader::{fresh_cond, fresh_expr, outer_cond, outer_expr};
+pub use reader::{fresh_cond, fresh_expr, fresh_where, outer_cond, outer_expr, outer_where};
 pub use token_readers::{
     constant, int, is_name, literal, moment, name, names, natural, small, tokens,
 };

@@ -6,12 +6,12 @@ ghost use Rattle.cond_expr.specs.Seen.{tree, test};
 ghost use Rattle.lexical_grammar.specs.Lexemes.{Lexeme};
 ghost use Rattle.parser_combinators.specs.declared.reading.Stop.TheVariants as stop;
 ghost use Rattle.expr_grammar.specs.Grammar.{IsExpr, IsCond};
-ghost use Rattle.parser_combinators.specs.Marks.{FirstPassed};
-ghost use Rattle.expr_grammar.specs.TreeMarks.{expr_marks, cond_marks};
+ghost use Rattle.parser_combinators.specs.Passes.{IsFirstPass, IsFaultOf};
+ghost use Rattle.expr_grammar.specs.TreeMarks.{expr_passes, cond_passes};
 ghost use Rattle.parser_combinators.specs.Parsing.{Size, Stops, limit};
 ghost use Rattle.prima_base.specs.declared.refusals.What.{What as Counted};
 ghost use Rattle.expr_grammar.specs.Reader.{goes_expr, goes_cond, outermost};
-ghost use Rattle.parser_combinators.specs.Found.{IsRead, Finds, Ends, IsFirstFault, IsTooMany, Follows, FaultAt, lexemes_from};
+ghost use Rattle.parser_combinators.specs.Found.{IsRead, Finds, Ends, IsTooMany, Follows, FaultAt, lexemes_from};
 
 use crate::reader::{outer_cond, outer_expr};
 use cond_expr::{Cond, Expr};
@@ -90,10 +90,10 @@ pub fn parse_expr(
     ensures longest { (e : Tree) (s : Size) (front rest : List Lexeme) → lexemes_from list.now from ≡ front ++ rest → IsExpr qualified e s front → Ends (IsExpr qualified) (lexemes_from list.now from) (length front) →
         Finds tree e s (from + length front) result }
     // A fault is at the first token with which nothing of the grammar goes on, or at which a count passes its limit.
-    ensures fault { IsFirstFault (IsExpr qualified) (expr_marks qualified) list.now from result }
+    ensures fault { IsFaultOf (IsExpr qualified) (expr_passes qualified) list.now from result }
     // A front that passes a limit at its last token is refused there for this count, whatever stands behind it.
     ensures over { (w : Counted) (front rest more : List Lexeme) (x : Lexeme) (e : Tree) (s : Size) (h : IsExpr qualified e s (front ++ x ∷ more)) → lexemes_from list.now from ≡ front ++ x ∷ rest →
-        FirstPassed w (expr_marks qualified e s (front ++ x ∷ more) h) (length front) → IsTooMany w result }
+        IsFirstPass w (expr_passes qualified e s (front ++ x ∷ more) h) (length front) → IsTooMany w result }
     ensures exact { Follows tree ((outermost qualified).expr 0 (lexemes_from list.now from)) list.now result }
 {
     let mut cursor = Cursor {
@@ -120,9 +120,9 @@ pub fn parse_cond(
         Finds test c s (from + length front) result }
     ensures longest { (c : Test) (s : Size) (front rest : List Lexeme) → lexemes_from list.now from ≡ front ++ rest → IsCond qualified c s front → Ends (IsCond qualified) (lexemes_from list.now from) (length front) →
         Finds test c s (from + length front) result }
-    ensures fault { IsFirstFault (IsCond qualified) (cond_marks qualified) list.now from result }
+    ensures fault { IsFaultOf (IsCond qualified) (cond_passes qualified) list.now from result }
     ensures over { (w : Counted) (front rest more : List Lexeme) (x : Lexeme) (c : Test) (s : Size) (h : IsCond qualified c s (front ++ x ∷ more)) → lexemes_from list.now from ≡ front ++ x ∷ rest →
-        FirstPassed w (cond_marks qualified c s (front ++ x ∷ more) h) (length front) → IsTooMany w result }
+        IsFirstPass w (cond_passes qualified c s (front ++ x ∷ more) h) (length front) → IsTooMany w result }
     ensures exact { Follows test ((outermost qualified).cond 0 (lexemes_from list.now from)) list.now result }
 {
     let mut cursor = Cursor {

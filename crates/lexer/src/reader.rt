@@ -6,16 +6,17 @@ ghost use Rattle.cond_expr.specs.Seen.{tree, test};
 ghost use Rattle.lexical_grammar.specs.Lexemes.{is_word, is_sign};
 ghost use Rattle.parser_combinators.specs.Reads.{Reads, ReadsMore, ahead};
 ghost use Rattle.expr_grammar.specs.Reader as spec;
+ghost use Rattle.expr_grammar.specs.Where as wheres;
 ghost use Rattle.parser_combinators.specs.Parsing as parsing;
 
 use cond_expr::{Cond, Expr};
 use parser_combinators::{Cursor, Stop};
-use prima_base::What;
+use prima_base::{What, limits};
 use std::alloc::Global;
 use token_readers::{atom, falsehood, no_bracket, sees_op, truth};
 
 // How many constructs may be open at once.
-const MOST_OPEN: u32 = 32;
+const MOST_OPEN: u32 = limits::MAX_DEPTH as u32;
 
 #[cycle(reads)]
 #[tactic(auto, unfolding(expr_grammar::specs::Reader::length_rest), using(parser_combinators::proofs::ReadSteps::lead_seen, parser_combinators::proofs::ReadSteps::lead_not))]
@@ -398,4 +399,30 @@ pub fn fresh_cond(alloc: Global, c: &mut Cursor<'_, '_>, qualified: bool) -> Res
     let found = outer_cond(alloc, c, qualified);
     c.nodes = counted;
     found
+}
+
+/// The condition behind a WHERE, where one comes, and else TRUE; counted with what was counted before
+/// it.
+#[tactic(auto, unfolding(expr_grammar::specs::Where::outer_where), using(parser_combinators::proofs::ReadSteps::option_not, parser_combinators::proofs::ReadSteps::option_takes))]
+pub fn outer_where(alloc: Global, c: &mut Cursor<'_, '_>, qualified: bool) -> Result<Cond, Stop>
+    ensures { Reads test (wheres.outer_where qualified c.old.nodes (ahead c.old)) result c.new }
+{
+    if !c.sees_word(b"WHERE") {
+        return Ok(truth());
+    }
+    c.skip();
+    outer_cond(alloc, c, qualified)
+}
+
+/// The condition behind a WHERE, where one comes, and else TRUE; with counts of its own, as
+/// `fresh_cond`.
+#[tactic(auto, unfolding(expr_grammar::specs::Where::fresh_where), using(parser_combinators::proofs::ReadSteps::option_not, parser_combinators::proofs::ReadSteps::option_takes))]
+pub fn fresh_where(alloc: Global, c: &mut Cursor<'_, '_>, qualified: bool) -> Result<Cond, Stop>
+    ensures { Reads test (wheres.fresh_where qualified c.old.nodes (ahead c.old)) result c.new }
+{
+    if !c.sees_word(b"WHERE") {
+        return Ok(truth());
+    }
+    c.skip();
+    fresh_cond(alloc, c, qualified)
 }

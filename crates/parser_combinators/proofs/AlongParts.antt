@@ -13,10 +13,9 @@ use Rattle.parser_combinators.proofs.Parsing.{lawful_none, lawful_both, got_fewe
 use Rattle.parser_combinators.proofs.Alternatives.{or_left}
 use Rattle.parser_combinators.proofs.Fresh.{fresh_good}
 use Rattle.parser_combinators.proofs.Marked.{along, or_else, by_passed}
-use Rattle.parser_combinators.proofs.Passed.{same_front}
 use Rattle.parser_combinators.proofs.ManySteps.{many_first, many_done}
 use Rattle.parser_combinators.proofs.ReadSteps.{option_not, option_takes, option_refuses}
-use Rattle.parser_combinators.proofs.Passing.{by_passes, fresh_along, nothing_passes, no_passes_length, passes_length, Along, along_front, along_value, along_map, along_bind, along_lead}
+use Rattle.parser_combinators.proofs.Passing.{same_front, by_passes, fresh_along, nothing_passes, no_passes_length, passes_length, Along, along_front, along_value, along_map, along_bind, along_lead}
 
 -- each of its texts is read along its tokens, up to what it does not go on with
 abbrev pub GoesAlong : {A : Type 0} (p : Parser A) (G : A → Size → List Lexeme → Type 0) (goes : Lexeme → Bool) → Passing G → Type 0
@@ -113,13 +112,13 @@ within_none what.Versions s h l k = omega (arith, l.1 what.Versions, k)
 -- what is not too much is read
 fine_got : {A : Type 0} (a : A) (s : Size) (us : List Lexeme) (o : Out A) → s.nodes ≤ 256 → Lawful 32 s → Fine 32 a s 0 us o → o ≡ Got a s.nodes us
 fine_got a s us (Got b m r) few l h = let e : m ≡ s.nodes = omega (arith, h.2) in ap (λ x. Got x m r) h.0 ∙ ap (λ k. Got a k r) e ∙ ap (Got a s.nodes) h.1
-fine_got a s us (Stuck r) few l h = absurd h
-fine_got a s us (Over w r) few l h = absurd (within_none w s few l h)
+fine_got a s us (Stuck c r) few l h = absurd h
+fine_got a s us (Over w c r) few l h = absurd (within_none w s few l h)
 
 -- a text of a grammar, of which nothing is counted
 pub light_along : {A : Type 0} (p : Parser A) (G : A → Size → List Lexeme → Type 0) (goes : Lexeme → Bool) → Good 0 32 p G goes → (a : A) (s : Size) (f : List Lexeme) → G a s f → (s.nodes ≡ 0) × Lawful 32 s → (us : List Lexeme) → Stops goes us → Along p a 0 (no_passes f) f us
 light_along p G goes good a s f h l us stops = record {
-  reads = fine_got a s us (p 0 (f ++ us)) (omega (arith, l.0)) l.1 (good.complete 0 (omega arith) a s f us h stops) ∙ ap (λ n. Got a n us) l.0 ∙ sym (nothing_passes f us (Got a 0 us));
+  reads = fine_got a s us (p 0 (f ++ us)) (omega (arith, l.0)) l.1 (good.complete 0 (omega arith) a s f us h stops) ∙ ap (λ n. Got a n us) l.0 ∙ sym (nothing_passes 0 f us (Got a 0 us));
   sized = no_passes_length f;
 }
 
@@ -131,30 +130,30 @@ light_goes p G goes good light a s f h us stops = light_along p G goes good a s 
 -- along these either all is read, or a token is refused, whatever follows
 abbrev Ended : {A : Type 0} → A → List (Option What) → List Lexeme → Type 0
 Ended {A} a ps f =
-    ((us : List Lexeme) → by_passes ps (f ++ us) (Got a 0 us) ≡ Got a 0 us) ⊎
-    ((w : What) × (front : List Lexeme) × (x : Lexeme) × (rest : List Lexeme) × (f ≡ front ++ x ∷ rest) × ((us : List Lexeme) → by_passes ps (f ++ us) (Got a 0 us) ≡ Over w (x ∷ (rest ++ us))))
+    ((us : List Lexeme) → by_passes 0 ps (f ++ us) (Got a 0 us) ≡ Got a 0 us) ⊎
+    ((w : What) × (front : List Lexeme) × (x : Lexeme) × (rest : List Lexeme) × (f ≡ front ++ x ∷ rest) × ((us : List Lexeme) → by_passes 0 ps (f ++ us) (Got a 0 us) ≡ Over w 0 (x ∷ (rest ++ us))))
 
 ended : {A : Type 0} (a : A) (ps : List (Option What)) (f : List Lexeme) → length ps ≡ length f → Ended a ps f
 ended a [] [] e = inl (λ us. refl)
 ended a [] (x ∷ f) e = absurd (omega (arith, e))
 ended a (p ∷ ps) [] e = absurd (omega (arith, e))
 ended {A} a (p ∷ ps) (x ∷ f) e = by_passed p
-    (λ w q. inr (w, [], x, f, refl, λ us. ap (λ o. or_else o (x ∷ (f ++ us)) (by_passes ps (f ++ us) (Got a 0 us))) q))
+    (λ w q. inr (w, [], x, f, refl, λ us. ap (λ o. or_else o 0 (x ∷ (f ++ us)) (by_passes 0 ps (f ++ us) (Got a 0 us))) q))
     (λ q. later q (ended a ps f (omega (arith, e))))
   where
     later : p ≡ None → Ended a ps f → Ended a (p ∷ ps) (x ∷ f)
-    later q (inl h) = inl (λ us. ap (λ o. or_else o (x ∷ (f ++ us)) (by_passes ps (f ++ us) (Got a 0 us))) q ∙ h us)
-    later q (inr h) = inr (h.0, x ∷ h.1, h.2, h.3, ap (λ l. x ∷ l) h.4, λ us. ap (λ o. or_else o (x ∷ (f ++ us)) (by_passes ps (f ++ us) (Got a 0 us))) q ∙ h.5 us)
+    later q (inl h) = inl (λ us. ap (λ o. or_else o 0 (x ∷ (f ++ us)) (by_passes 0 ps (f ++ us) (Got a 0 us))) q ∙ h us)
+    later q (inr h) = inr (h.0, x ∷ h.1, h.2, h.3, ap (λ l. x ∷ l) h.4, λ us. ap (λ o. or_else o 0 (x ∷ (f ++ us)) (by_passes 0 ps (f ++ us) (Got a 0 us))) q ∙ h.5 us)
 
 module _ {A : Type 0} (p : Parser A) (G : A → Size → List Lexeme → Type 0) (goes : Lexeme → Bool) (good : Good 0 32 p G goes) where
   -- what is read whole along these is read so before what it does not go on with
-  before : (a : A) (s : Size) (f : List Lexeme) (ps : List (Option What)) → G a s f → Along p a 0 ps f [] → (us : List Lexeme) → Stops goes us → p 0 (f ++ us) ≡ by_passes ps (f ++ us) (Got a 0 us)
+  before : (a : A) (s : Size) (f : List Lexeme) (ps : List (Option What)) → G a s f → Along p a 0 ps f [] → (us : List Lexeme) → Stops goes us → p 0 (f ++ us) ≡ by_passes 0 ps (f ++ us) (Got a 0 us)
   before a s f ps g whole us stops = by_end (ended a ps f whole.sized)
     where
-      alone : (o : Out A) → by_passes ps (f ++ []) (Got a 0 []) ≡ o → p 0 f ≡ o
+      alone : (o : Out A) → by_passes 0 ps (f ++ []) (Got a 0 []) ≡ o → p 0 f ≡ o
       alone o e = ap (p 0) (sym (append-nil f)) ∙ whole.reads ∙ e
 
-      by_end : Ended a ps f → p 0 (f ++ us) ≡ by_passes ps (f ++ us) (Got a 0 us)
+      by_end : Ended a ps f → p 0 (f ++ us) ≡ by_passes 0 ps (f ++ us) (Got a 0 us)
       by_end (inl h) =
           let e : p 0 f ≡ Got a 0 [] = alone (Got a 0 []) (h []) in
           let Q : Out A → Type 0 = λ o. Fine 32 a s 0 [] o in
@@ -165,7 +164,7 @@ module _ {A : Type 0} (p : Parser A) (G : A → Size → List Lexeme → Type 0)
           let w = h.0 in
           let x = h.2 in
           let rest = h.3 in
-          let e : p 0 f ≡ Over w (x ∷ rest) = alone (Over w (x ∷ rest)) (h.5 [] ∙ ap (λ l. Over w (x ∷ l)) (append-nil rest)) in
+          let e : p 0 f ≡ Over w 0 (x ∷ rest) = alone (Over w 0 (x ∷ rest)) (h.5 [] ∙ ap (λ l. Over w 0 (x ∷ l)) (append-nil rest)) in
           let P : Out A → Type 0 = λ o. Explains 32 (p 0) G 0 f o in
           let k = subst P e (good.explains 0 (omega arith) f) in
           let same : h.1 ≡ k.0 = same_front h.1 k.0 (x ∷ rest) (x ∷ rest) refl (sym h.4 ∙ k.1) in
@@ -242,7 +241,7 @@ module _ {A : Type 0} (is : Lexeme → Bool) (sep : Lexeme) (is_sep : is sep ≡
         let later : List (Option What) = ps a h.0 h.2 h.6 ++ counted (j + 1) l h.1 h.3 h.7 in
         let ts : List Lexeme = (h.2 ++ h.3) ++ us in
         along_front (more is w item zero) (a ∷ l) 0 (counted j (a ∷ l) s f h) f (sep ∷ (h.2 ++ h.3)) us h.5 (record {
-          reads = option_refuses is w [] 0 (sep ∷ ts) is_sep ∙ sym (ap (λ o. or_else o (sep ∷ ts) (by_passes later ts (Got (a ∷ l) 0 us))) (full j (omega (arith, e))));
+          reads = option_refuses is w [] 0 (sep ∷ ts) is_sep ∙ sym (ap (λ o. or_else o 0 (sep ∷ ts) (by_passes 0 later ts (Got (a ∷ l) 0 us))) (full j (omega (arith, e))));
           sized = counted_length j (a ∷ l) s f h ∙ ap length h.5;
         })
     counted_goes (suc m) j e (a ∷ l) s f h us stops =
@@ -252,6 +251,6 @@ module _ {A : Type 0} (is : Lexeme → Bool) (sep : Lexeme) (is_sep : is sep ≡
         (k a h.0 h.2 h.6 (h.3 ++ us) (side is sep is_sep exact 32 item G goes good apart (so_wide w) (j + 1) l h.1 h.3 us h.7 stops))
         (along_map (λ l. a ∷ l) (more is w item m) l 0 (counted (j + 1) l h.1 h.3 h.7) h.3 us (counted_goes m (j + 1) (omega (arith, e)) l h.1 h.3 h.7 us stops)) in
         along_front (more is w item (suc m)) (a ∷ l) 0 (counted j (a ∷ l) s f h) f (sep ∷ (h.2 ++ h.3)) us h.5 (record {
-          reads = option_takes is (one_and (more is w item m)) [] 0 (sep ∷ ts) is_sep ∙ r.reads ∙ sym (ap (λ o. or_else o (sep ∷ ts) (by_passes later ts (Got (a ∷ l) 0 us))) (room j (omega (arith, e))));
+          reads = option_takes is (one_and (more is w item m)) [] 0 (sep ∷ ts) is_sep ∙ r.reads ∙ sym (ap (λ o. or_else o 0 (sep ∷ ts) (by_passes 0 later ts (Got (a ∷ l) 0 us))) (room j (omega (arith, e))));
           sized = counted_length j (a ∷ l) s f h ∙ ap length h.5;
         })

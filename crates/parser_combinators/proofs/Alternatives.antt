@@ -77,8 +77,8 @@ module _ {A : Type 0} (d : ℕ) (G H : A → Size → List Lexeme → Type 0) (g
 
   explains_up : (run : List Lexeme → Out A) (n : ℕ) (ts : List Lexeme) (o : Out A) → Explains d run G n ts o → Explains d run H n ts o
   explains_up run n ts (Got a m rest) h = (h.0, h.1, h.2, up _ _ _ h.3, h.4, h.5, h.6, h.7)
-  explains_up run n ts (Stuck rest) h = (h.0, h.1, (h.2.0, h.2.1, h.2.2, up _ _ _ h.2.3), h.3)
-  explains_up run n ts (Over w rest) h = (h.0, h.1, goes_up h.0 rest h.2, h.3)
+  explains_up run n ts (Stuck c rest) h = (h.0, h.1, (h.2.0, h.2.1, h.2.2, up _ _ _ h.2.3), h.3)
+  explains_up run n ts (Over w c rest) h = (h.0, h.1, goes_up h.0 rest h.2, h.3)
 
   module _ (x : Lexeme) (down : (a : A) (s : Size) (l : List Lexeme) → H a s (x ∷ l) → G a s (x ∷ l)) where
     arm_up : (r : Arm A) → ArmGood 0 d r x G goes → ArmGood 0 d r x H goes

@@ -39,13 +39,13 @@ module _ {A : Type 0} (d : ℕ) (p : Parser A) (G : A → Size → List Lexeme �
   explains_fresh n ts (Got a m rest) h =
       let few : h.1.nodes ≤ 256 = omega (arith, h.4, h.5 (omega arith)) in
       (h.0, fresh_size h.1, h.2, (h.1, refl, h.3), omega arith, (λ k. k), lawful_fresh d h.1 few h.6, same_fresh n (Got a m) (Got a n) h.0 rest (λ l. refl) h.7)
-  explains_fresh n ts (Stuck rest) h = (h.0, h.1, (h.2.0, h.2.1, fresh_size h.2.2, (h.2.2, refl, h.2.3)), same_fresh n Stuck Stuck h.0 rest (λ l. refl) h.3)
-  explains_fresh n ts (Over w rest) h = (h.0, h.1, goes_fresh h.0 rest h.2, same_fresh n (Over w) (Over w) h.0 rest (λ l. refl) h.3)
+  explains_fresh n ts (Stuck c rest) h = (h.0, h.1, (h.2.0, h.2.1, fresh_size h.2.2, (h.2.2, refl, h.2.3)), same_fresh n (Stuck c) (Stuck n) h.0 rest (λ l. refl) h.3)
+  explains_fresh n ts (Over w c rest) h = (h.0, h.1, goes_fresh h.0 rest h.2, same_fresh n (Over w c) (Over w n) h.0 rest (λ l. refl) h.3)
 
   fine_fresh : (a : A) (s : Size) (n : ℕ) (ts rest : List Lexeme) (o : Out A) → Explains d (p 0) G 0 ts o → Fine d a s 0 rest o → Fine d a (fresh_size s) n rest (set_back n o)
   fine_fresh a s n ts rest (Got b m r) x h = (h.0, h.1, omega arith, lawful_fresh d s (omega (arith, h.2, x.5 (omega arith))) h.3)
-  fine_fresh a s n ts rest (Stuck r) x h = h
-  fine_fresh a s n ts rest (Over w r) x h = exceeds_fresh w n d s h
+  fine_fresh a s n ts rest (Stuck c r) x h = h
+  fine_fresh a s n ts rest (Over w c r) x h = exceeds_fresh w n d s h
 
   pub fresh_good : (low : ℕ) (goes : Lexeme → Bool) → Good 0 d p G goes → Good low d (fresh p) (freshG G) goes
   fresh_good low goes g = record {

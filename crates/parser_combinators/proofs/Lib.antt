@@ -2,7 +2,6 @@ pub mod Parsing
 pub mod Fresh
 pub mod Alternatives
 pub mod Marked
-pub mod Passed
 pub mod Passing
 pub mod ReadSteps
 pub mod ManySteps

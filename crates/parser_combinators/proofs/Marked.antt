@@ -8,16 +8,16 @@ use Rattle.parser_combinators.specs.Parsing.{Out, Got, Over, Parser, and_then, b
 use Rattle.parser_combinators.specs.Marks.{Mark, plain, node, begins, deeper, opened, nodes_in, passed_by}
 use Rattle.lexical_grammar.proofs.Cases.{by_test}
 
--- too much at the front of these, or else
-abbrev pub or_else : {A : Type 0} → Option What → List Lexeme → Out A → Out A
-or_else (Some w) us o = Over w us
-or_else None us o = o
+-- too much at the front of these, with so many nodes before it, or else
+abbrev pub or_else : {A : Type 0} → Option What → ℕ → List Lexeme → Out A → Out A
+or_else (Some w) n us o = Over w n us
+or_else None n us o = o
 
 -- how reading ends that goes along these marks
 abbrev pub along : {A : Type 0} → ℕ → A → ℕ → List Mark → List Lexeme → Out A
 along d a n [] ts = Got a n ts
 along d a n (m ∷ ms) [] = Got a n []
-along d a n (m ∷ ms) (x ∷ ts) = or_else (passed_by d (n + m.nodes) m) (x ∷ ts) (along d a (n + m.nodes) ms ts)
+along d a n (m ∷ ms) (x ∷ ts) = or_else (passed_by d (n + m.nodes) m) n (x ∷ ts) (along d a (n + m.nodes) ms ts)
 
 few : (d n : ℕ) (m : Mark) → passed_by d n m ≡ None → n ≤ 256
 few d n m e = by_few (nat_lt 256 n) refl e
@@ -37,24 +37,24 @@ then_along d a b g [] ks [] us n h e k = k n h (omega arith)
 then_along d a b g [] ks (x ∷ f) us n h e k = absurd (omega (arith, e))
 then_along d a b g (m ∷ ms) ks [] us n h e k = absurd (omega (arith, e))
 then_along {A} {B} d a b g (m ∷ ms) ks (x ∷ f) us n h e k = by_passed (passed_by d (n + m.nodes) m)
-    (λ w p. ap (λ o. and_then (or_else o (x ∷ (f ++ us)) (along d a (n + m.nodes) ms (f ++ us))) g) p ∙ sym (ap (λ o. or_else o (x ∷ (f ++ us)) (along d b (n + m.nodes) (ms ++ ks) (f ++ us))) p))
-    (λ p. ap (λ o. and_then (or_else o (x ∷ (f ++ us)) (along d a (n + m.nodes) ms (f ++ us))) g) p
+    (λ w p. ap (λ o. and_then (or_else o n (x ∷ (f ++ us)) (along d a (n + m.nodes) ms (f ++ us))) g) p ∙ sym (ap (λ o. or_else o n (x ∷ (f ++ us)) (along d b (n + m.nodes) (ms ++ ks) (f ++ us))) p))
+    (λ p. ap (λ o. and_then (or_else o n (x ∷ (f ++ us)) (along d a (n + m.nodes) ms (f ++ us))) g) p
     ∙ then_along d a b g ms ks f us (n + m.nodes) (few d (n + m.nodes) m p) (omega (arith, e)) (λ j i z. k j i (omega (arith, z)))
-    ∙ sym (ap (λ o. or_else o (x ∷ (f ++ us)) (along d b (n + m.nodes) (ms ++ ks) (f ++ us))) p))
+    ∙ sym (ap (λ o. or_else o n (x ∷ (f ++ us)) (along d b (n + m.nodes) (ms ++ ks) (f ++ us))) p))
 
 pub bind_along : {A B : Type 0} (d : ℕ) (p : Parser A) (g : A → Parser B) (a : A) (b : B) (ms ks : List Mark) (f us : List Lexeme) (n : ℕ) → n ≤ 256 → length ms ≡ length f → p n (f ++ us) ≡ along d a n ms (f ++ us) →
     ((m : ℕ) → m ≤ 256 → m ≡ n + nodes_in ms → g a m us ≡ along d b m ks us) → bind p g n (f ++ us) ≡ along d b n (ms ++ ks) (f ++ us)
 bind_along d p g a b ms ks f us n h e run k = ap (λ o. and_then o g) run ∙ then_along d a b g ms ks f us n h e k
 
-map_else : {A B : Type 0} (f : A → B) (p : Option What) (us : List Lexeme) (o : Out A) → and_then (or_else p us o) (λ x. pure (f x)) ≡ or_else p us (and_then o (λ x. pure (f x)))
-map_else f (Some w) us o = refl
-map_else f None us o = refl
+map_else : {A B : Type 0} (f : A → B) (p : Option What) (n : ℕ) (us : List Lexeme) (o : Out A) → and_then (or_else p n us o) (λ x. pure (f x)) ≡ or_else p n us (and_then o (λ x. pure (f x)))
+map_else f (Some w) n us o = refl
+map_else f None n us o = refl
 
 -- another value
 pub map_along : {A B : Type 0} (d : ℕ) (f : A → B) (a : A) (n : ℕ) (ms : List Mark) (ts : List Lexeme) → and_then (along d a n ms ts) (λ x. pure (f x)) ≡ along d (f a) n ms ts
 map_along d f a n [] ts = refl
 map_along d f a n (m ∷ ms) [] = refl
-map_along d f a n (m ∷ ms) (x ∷ ts) = map_else f (passed_by d (n + m.nodes) m) (x ∷ ts) (along d a (n + m.nodes) ms ts) ∙ ap (or_else (passed_by d (n + m.nodes) m) (x ∷ ts)) (map_along d f a (n + m.nodes) ms ts)
+map_along d f a n (m ∷ ms) (x ∷ ts) = map_else f (passed_by d (n + m.nodes) m) n (x ∷ ts) (along d a (n + m.nodes) ms ts) ∙ ap (or_else (passed_by d (n + m.nodes) m) n (x ∷ ts)) (map_along d f a (n + m.nodes) ms ts)
 
 -- ---- one token
 
@@ -86,16 +86,16 @@ passed_deeper d n m = let e : nat_lt (suc d) (m.depth + 1) ≡ nat_lt d m.depth 
 pub open_along : {A : Type 0} (d : ℕ) (a : A) (n : ℕ) (ms : List Mark) (ts : List Lexeme) → along (suc d) a n (opened ms) ts ≡ along d a n ms ts
 open_along d a n [] ts = refl
 open_along d a n (m ∷ ms) [] = refl
-open_along d a n (m ∷ ms) (x ∷ ts) = ap (λ o. or_else o (x ∷ ts) (along (suc d) a (n + m.nodes) (opened ms) ts)) (passed_deeper d (n + m.nodes) m) ∙ ap (or_else (passed_by d (n + m.nodes) m) (x ∷ ts)) (open_along d a (n + m.nodes) ms ts)
+open_along d a n (m ∷ ms) (x ∷ ts) = ap (λ o. or_else o n (x ∷ ts) (along (suc d) a (n + m.nodes) (opened ms) ts)) (passed_deeper d (n + m.nodes) m) ∙ ap (or_else (passed_by d (n + m.nodes) m) n (x ∷ ts)) (open_along d a (n + m.nodes) ms ts)
 
 module _ {A : Type 0} (d : ℕ) (a : A) (n : ℕ) (few : n ≤ 256) (ms : List Mark) (x : Lexeme) (ts : List Lexeme) where
   -- a token that passes no limit
   step : (k : ℕ) (m : Mark) → k ≡ n + m.nodes → k ≤ 256 → m.depth ≤ d → m.part ≤ 8 → along d a n (m ∷ ms) (x ∷ ts) ≡ along d a k ms ts
-  step k m e h i j = rw (← e) (ap (λ o. or_else o (x ∷ ts) (along d a k ms ts)) (fits d k m h i j))
+  step k m e h i j = rw (← e) (ap (λ o. or_else o n (x ∷ ts) (along d a k ms ts)) (fits d k m h i j))
 
   -- and one that does
-  stop : (k : ℕ) (m : Mark) (w : What) → k ≡ n + m.nodes → passed_by d k m ≡ Some w → along d a n (m ∷ ms) (x ∷ ts) ≡ Over w (x ∷ ts)
-  stop k m w e h = rw (← e) (ap (λ o. or_else o (x ∷ ts) (along d a k ms ts)) h)
+  stop : (k : ℕ) (m : Mark) (w : What) → k ≡ n + m.nodes → passed_by d k m ≡ Some w → along d a n (m ∷ ms) (x ∷ ts) ≡ Over w n (x ∷ ts)
+  stop k m w e h = rw (← e) (ap (λ o. or_else o n (x ∷ ts) (along d a k ms ts)) h)
 
   pub plain_along : along d a n (plain ∷ ms) (x ∷ ts) ≡ along d a n ms ts
   plain_along = step n plain (omega arith) few (omega arith) (omega arith)
@@ -103,22 +103,22 @@ module _ {A : Type 0} (d : ℕ) (a : A) (n : ℕ) (few : n ≤ 256) (ms : List M
   pub part_along : (j : ℕ) → j ≤ 8 → along d a n (begins j ∷ ms) (x ∷ ts) ≡ along d a n ms ts
   part_along j h = step n (begins j) (omega arith) few (omega arith) h
 
-  pub part_over : (j : ℕ) → 8 < j → along d a n (begins j ∷ ms) (x ∷ ts) ≡ Over what.Parts (x ∷ ts)
+  pub part_over : (j : ℕ) → 8 < j → along d a n (begins j ∷ ms) (x ∷ ts) ≡ Over what.Parts n (x ∷ ts)
   part_over j h = stop n (begins j) what.Parts (omega arith) (too_wide d n (begins j) few (omega arith) h)
 
   -- where a node is counted
-  counted : (u v : Out A) → (n + 1 ≤ 256 → u ≡ v) → (256 < n + 1 → u ≡ Over what.Nodes (x ∷ ts)) → u ≡ cond (has_room n) v (Over what.Nodes (x ∷ ts))
-  counted u v h k = by_test (has_room n) (λ r. h (grind (arith, nat_tests)) ∙ sym (ap (λ b. cond b v (Over what.Nodes (x ∷ ts))) r)) (λ r. k (grind (arith, nat_tests)) ∙ sym (ap (λ b. cond b v (Over what.Nodes (x ∷ ts))) r))
+  counted : (u v : Out A) → (n + 1 ≤ 256 → u ≡ v) → (256 < n + 1 → u ≡ Over what.Nodes n (x ∷ ts)) → u ≡ cond (has_room n) v (Over what.Nodes n (x ∷ ts))
+  counted u v h k = by_test (has_room n) (λ r. h (grind (arith, nat_tests)) ∙ sym (ap (λ b. cond b v (Over what.Nodes n (x ∷ ts))) r)) (λ r. k (grind (arith, nat_tests)) ∙ sym (ap (λ b. cond b v (Over what.Nodes n (x ∷ ts))) r))
 
-  pub node_along : along d a n (node ∷ ms) (x ∷ ts) ≡ cond (has_room n) (along d a (n + 1) ms ts) (Over what.Nodes (x ∷ ts))
+  pub node_along : along d a n (node ∷ ms) (x ∷ ts) ≡ cond (has_room n) (along d a (n + 1) ms ts) (Over what.Nodes n (x ∷ ts))
   node_along = counted (along d a n (node ∷ ms) (x ∷ ts)) (along d a (n + 1) ms ts) (λ h. step (n + 1) node refl h (omega arith) (omega arith)) (λ h. stop (n + 1) node what.Nodes refl (too_many d (n + 1) node h))
 
 -- what cannot be opened
 module _ {A : Type 0} (a : A) (n : ℕ) (few : n ≤ 256) (ms : List Mark) (x : Lexeme) (ts : List Lexeme) where
-  pub shut_along : along 0 a n (deeper plain ∷ ms) (x ∷ ts) ≡ Over what.Depth (x ∷ ts)
+  pub shut_along : along 0 a n (deeper plain ∷ ms) (x ∷ ts) ≡ Over what.Depth n (x ∷ ts)
   shut_along = stop 0 a n few ms x ts n (deeper plain) what.Depth (omega arith) (too_deep 0 n (deeper plain) few (omega arith))
 
-  pub shut_node_along : along 0 a n (deeper node ∷ ms) (x ∷ ts) ≡ cond (has_room n) (Over what.Depth (x ∷ ts)) (Over what.Nodes (x ∷ ts))
-  shut_node_along = counted 0 a n few ms x ts (along 0 a n (deeper node ∷ ms) (x ∷ ts)) (Over what.Depth (x ∷ ts))
+  pub shut_node_along : along 0 a n (deeper node ∷ ms) (x ∷ ts) ≡ cond (has_room n) (Over what.Depth n (x ∷ ts)) (Over what.Nodes n (x ∷ ts))
+  shut_node_along = counted 0 a n few ms x ts (along 0 a n (deeper node ∷ ms) (x ∷ ts)) (Over what.Depth n (x ∷ ts))
       (λ h. stop 0 a n few ms x ts (n + 1) (deeper node) what.Depth refl (too_deep 0 (n + 1) (deeper node) h (omega arith)))
       (λ h. stop 0 a n few ms x ts (n + 1) (deeper node) what.Nodes refl (too_many 0 (n + 1) (deeper node) h))

@@ -101,10 +101,10 @@ module _ {A B : Type 0} (d : ℕ) (p : Parser A) (f : A → Parser B) (G : A →
   inner : (a : A) (s1 : Size) (m : ℕ) (rest f1 : List Lexeme) → ts ≡ f1 ++ rest → G a s1 f1 → m ≡ n + s1.nodes → (n ≤ 256 → m ≤ 256) → Lawful d s1 → Same (p n) f1 rest (Got a m) → (o : Out B) → Explains d (f a m) (H a) m rest o → Explains d (bind p f n) (bindG G H) n ts o
   inner a s1 m rest f1 e g em el law s (Got b k rest2) x =
       (f1 ++ x.0, both s1 x.1, whole rest f1 x.0 rest2 e x.2, (a, s1, x.1, f1, x.0, refl, refl, g, x.3), omega (arith, em, x.4), (λ h. x.5 (el h)), lawful_both d s1 x.1 law x.6, same_bind (Got b k) a m rest f1 x.0 rest2 x.2 s x.7)
-  inner a s1 m rest f1 e g em el law s (Stuck rest2) x =
-      (f1 ++ x.0, whole rest f1 x.0 rest2 e x.1, (x.2.0, x.2.1, both s1 x.2.2, (a, s1, x.2.2, f1, x.0 ++ x.2.0, refl, append_assoc f1 x.0 x.2.0, g, x.2.3)), same_bind Stuck a m rest f1 x.0 rest2 x.1 s x.3)
-  inner a s1 m rest f1 e g em el law s (Over w rest2) x =
-      (f1 ++ x.0, whole rest f1 x.0 rest2 e x.1, goes_second a s1 f1 x.0 rest2 g x.2, same_bind (Over w) a m rest f1 x.0 rest2 x.1 s x.3)
+  inner a s1 m rest f1 e g em el law s (Stuck c rest2) x =
+      (f1 ++ x.0, whole rest f1 x.0 rest2 e x.1, (x.2.0, x.2.1, both s1 x.2.2, (a, s1, x.2.2, f1, x.0 ++ x.2.0, refl, append_assoc f1 x.0 x.2.0, g, x.2.3)), same_bind (Stuck c) a m rest f1 x.0 rest2 x.1 s x.3)
+  inner a s1 m rest f1 e g em el law s (Over w c rest2) x =
+      (f1 ++ x.0, whole rest f1 x.0 rest2 e x.1, goes_second a s1 f1 x.0 rest2 g x.2, same_bind (Over w c) a m rest f1 x.0 rest2 x.1 s x.3)
 
   -- an outcome of the first part that is the whole's
   same_first : (make1 : List Lexeme → Out A) (make : List Lexeme → Out B) (f1 rest : List Lexeme) → ((l : List Lexeme) → and_then (make1 l) f ≡ make l) → Same (p n) f1 rest make1 → Same (bind p f n) f1 rest make
@@ -114,23 +114,23 @@ module _ {A B : Type 0} (d : ℕ) (p : Parser A) (f : A → Parser B) (G : A →
   outer : (low few : ℕ) → low ≤ n → ((a : A) (s : Size) (us : List Lexeme) → G a s us → few ≤ s.nodes) → (live : (a : A) → (b : B) × (t : Size) × (us : List Lexeme) × H a b t us) →
       (o : Out A) → p n ts ≡ o → ((a : A) (m : ℕ) → low + few ≤ m → (us : List Lexeme) → o ≡ Got a m us → Explains d (f a m) (H a) m us (f a m us)) → Explains d (p n) G n ts o → Explains d (bind p f n) (bindG G H) n ts (and_then o f)
   outer low few at_least some live (Got a m rest) e ef x = inner a x.1 m rest x.0 x.2 x.3 x.4 x.5 x.6 x.7 (f a m rest) (ef a m (omega (arith, at_least, x.4, some a x.1 x.0 x.3)) rest refl)
-  outer low few at_least some live (Stuck rest) e ef x =
+  outer low few at_least some live (Stuck c rest) e ef x =
       let a = x.2.1 in let h = live a in
-      (x.0, x.1, (x.2.0 ++ h.2, h.0, both x.2.2 h.1, (a, x.2.2, h.1, x.0 ++ x.2.0, h.2, refl, sym (append_assoc x.0 x.2.0 h.2), x.2.3, h.3)), same_first Stuck Stuck x.0 rest (λ l. refl) x.3)
-  outer low few at_least some live (Over w rest) e ef x = (x.0, x.1, goes_first live x.0 rest x.2, same_first (Over w) (Over w) x.0 rest (λ l. refl) x.3)
+      (x.0, x.1, (x.2.0 ++ h.2, h.0, both x.2.2 h.1, (a, x.2.2, h.1, x.0 ++ x.2.0, h.2, refl, sym (append_assoc x.0 x.2.0 h.2), x.2.3, h.3)), same_first (Stuck c) (Stuck c) x.0 rest (λ l. refl) x.3)
+  outer low few at_least some live (Over w c rest) e ef x = (x.0, x.1, goes_first live x.0 rest x.2, same_first (Over w c) (Over w c) x.0 rest (λ l. refl) x.3)
 
   fine_second : (b : B) (s t : Size) (m : ℕ) (rest2 : List Lexeme) (o : Out B) → m ≡ n + s.nodes → Lawful d s → Fine d b t m rest2 o → Fine d b (both s t) n rest2 o
   fine_second b s t m rest2 (Got c k r) e l h = (h.0, h.1, omega (arith, e, h.2), lawful_both d s t l h.3)
-  fine_second b s t m rest2 (Stuck r) e l h = h
-  fine_second b s t m rest2 (Over w r) e l h = exceeds_second w n m d s t e h
+  fine_second b s t m rest2 (Stuck c r) e l h = h
+  fine_second b s t m rest2 (Over w c r) e l h = exceeds_second w n m d s t e h
 
   fine_inner : (a : A) (b : B) (s t : Size) (rest rest2 : List Lexeme) (o : Out A) → ((m : ℕ) → m ≡ n + s.nodes → Fine d b t m rest2 (f a m rest)) → Fine d a s n rest o → Fine d b (both s t) n rest2 (and_then o f)
   fine_inner a b s t rest rest2 (Got a2 m r) h x =
       let P : A → Type 0 = λ v. Fine d b (both s t) n rest2 (f v m r) in
       let Q : List Lexeme → Type 0 = λ l. Fine d b (both s t) n rest2 (f a m l) in
       subst P (sym x.0) (subst Q (sym x.1) (fine_second b s t m rest2 (f a m rest) x.2 x.3 (h m x.2)))
-  fine_inner a b s t rest rest2 (Stuck r) h x = absurd x
-  fine_inner a b s t rest rest2 (Over w r) h x = exceeds_first w n d s t x
+  fine_inner a b s t rest rest2 (Stuck c r) h x = absurd x
+  fine_inner a b s t rest rest2 (Over w c r) h x = exceeds_first w n d s t x
 
 pub bind_later : {A B : Type 0} (low few d : ℕ) (p : Parser A) (f : A → Parser B) (G : A → Size → List Lexeme → Type 0) (H : A → B → Size → List Lexeme → Type 0) (goes goes2 : Lexeme → Bool) →
     ((a : A) (s : Size) (us : List Lexeme) → G a s us → few ≤ s.nodes) →
@@ -190,8 +190,8 @@ module _ {A : Type 0} (run run2 : List Lexeme → Out A) (G G2 : A → Size → 
   explains_after : (d n m : ℕ) → ((s : Size) → n + (grow s).nodes ≡ m + s.nodes) → (n ≤ 256 → m ≤ 256) → ((s : Size) → Lawful d s → Lawful d (grow s)) →
       ((l : List Lexeme) → run2 (x ∷ l) ≡ run l) → ((a : A) (s : Size) (l : List Lexeme) → G a s l → G2 a (grow s) (x ∷ l)) → (ts : List Lexeme) (o : Out A) → Explains d run G m ts o → Explains d run2 G2 n (x ∷ ts) o
   explains_after d n m grown room law e up ts (Got a k rest) h = (x ∷ h.0, grow h.1, ap (λ l. x ∷ l) h.2, up a h.1 h.0 h.3, h.4 ∙ sym (grown h.1), (λ z. h.5 (room z)), law h.1 h.6, same_after (Got a k) h.0 rest e h.7)
-  explains_after d n m grown room law e up ts (Stuck rest) h = (x ∷ h.0, ap (λ l. x ∷ l) h.1, (h.2.0, h.2.1, grow h.2.2, up _ _ _ h.2.3), same_after Stuck h.0 rest e h.3)
-  explains_after d n m grown room law e up ts (Over w rest) h = (x ∷ h.0, ap (λ l. x ∷ l) h.1, goes_after up h.0 rest h.2, same_after (Over w) h.0 rest e h.3)
+  explains_after d n m grown room law e up ts (Stuck c rest) h = (x ∷ h.0, ap (λ l. x ∷ l) h.1, (h.2.0, h.2.1, grow h.2.2, up _ _ _ h.2.3), same_after (Stuck c) h.0 rest e h.3)
+  explains_after d n m grown room law e up ts (Over w c rest) h = (x ∷ h.0, ap (λ l. x ∷ l) h.1, goes_after up h.0 rest h.2, same_after (Over w c) h.0 rest e h.3)
 
 goes_iff : {A : Type 0} (G G2 : A → Size → List Lexeme → Type 0) → ((a : A) (s : Size) (l : List Lexeme) → G a s l → G2 a s l) → (front rest : List Lexeme) → Goes G front rest → Goes G2 front rest
 goes_iff G G2 up front [] h = h
@@ -199,8 +199,8 @@ goes_iff G G2 up front (y ∷ rest) h = (h.0, h.1, h.2, up _ _ _ h.3)
 
 explains_iff : {A : Type 0} (d : ℕ) (run : List Lexeme → Out A) (G G2 : A → Size → List Lexeme → Type 0) → ((a : A) (s : Size) (l : List Lexeme) → G a s l → G2 a s l) → (n : ℕ) (ts : List Lexeme) (o : Out A) → Explains d run G n ts o → Explains d run G2 n ts o
 explains_iff d run G G2 up n ts (Got a m rest) h = (h.0, h.1, h.2, up a h.1 h.0 h.3, h.4, h.5, h.6, h.7)
-explains_iff d run G G2 up n ts (Stuck rest) h = (h.0, h.1, (h.2.0, h.2.1, h.2.2, up _ _ _ h.2.3), h.3)
-explains_iff d run G G2 up n ts (Over w rest) h = (h.0, h.1, goes_iff G G2 up h.0 rest h.2, h.3)
+explains_iff d run G G2 up n ts (Stuck c rest) h = (h.0, h.1, (h.2.0, h.2.1, h.2.2, up _ _ _ h.2.3), h.3)
+explains_iff d run G G2 up n ts (Over w c rest) h = (h.0, h.1, goes_iff G G2 up h.0 rest h.2, h.3)
 
 pub good_iff : {A : Type 0} (low d : ℕ) (p : Parser A) (G G2 : A → Size → List Lexeme → Type 0) (goes : Lexeme → Bool) → ((a : A) (s : Size) (l : List Lexeme) → G a s l → G2 a s l) → ((a : A) (s : Size) (l : List Lexeme) → G2 a s l → G a s l) → Good low d p G goes → Good low d p G2 goes
 good_iff {A} low d p G G2 goes up down g = record {
@@ -223,8 +223,8 @@ good_goes {A} low d p G goes goes2 h g = record {
 
 fine_open : {A : Type 0} (d : ℕ) (a : A) (s : Size) (n : ℕ) (rest : List Lexeme) (o : Out A) → Fine d a s n rest o → Fine (suc d) a (one_open s) n rest o
 fine_open d a s n rest (Got b m r) h = (h.0, h.1, h.2, (omega (arith, h.3.0), h.3.1))
-fine_open d a s n rest (Stuck r) h = h
-fine_open d a s n rest (Over w r) h = exceeds_open w n d s h
+fine_open d a s n rest (Stuck c r) h = h
+fine_open d a s n rest (Over w c r) h = exceeds_open w n d s h
 
 goes_open : {A : Type 0} (G : A → Size → List Lexeme → Type 0) (front rest : List Lexeme) → Goes G front rest → Goes (openG G) front rest
 goes_open G front [] h = h
@@ -232,8 +232,8 @@ goes_open G front (y ∷ rest) h = (h.0, h.1, one_open h.2, (h.2, refl, h.3))
 
 explains_open : {A : Type 0} (d : ℕ) (run : List Lexeme → Out A) (G : A → Size → List Lexeme → Type 0) (n : ℕ) (ts : List Lexeme) (o : Out A) → Explains d run G n ts o → Explains (suc d) run (openG G) n ts o
 explains_open d run G n ts (Got a m rest) h = (h.0, one_open h.1, h.2, (h.1, refl, h.3), h.4, h.5, (omega (arith, h.6.0), h.6.1), h.7)
-explains_open d run G n ts (Stuck rest) h = (h.0, h.1, (h.2.0, h.2.1, one_open h.2.2, (h.2.2, refl, h.2.3)), h.3)
-explains_open d run G n ts (Over w rest) h = (h.0, h.1, goes_open G h.0 rest h.2, h.3)
+explains_open d run G n ts (Stuck c rest) h = (h.0, h.1, (h.2.0, h.2.1, one_open h.2.2, (h.2.2, refl, h.2.3)), h.3)
+explains_open d run G n ts (Over w c rest) h = (h.0, h.1, goes_open G h.0 rest h.2, h.3)
 
 -- inside one more open construct
 pub open_good : {A : Type 0} (low d : ℕ) (p : Parser A) (G : A → Size → List Lexeme → Type 0) (goes : Lexeme → Bool) → Good low d p G goes → Good low (suc d) p (openG G) goes
@@ -265,8 +265,8 @@ ArmGood {A} low d (Fills w) x G goes = Live x G × TooMuch low d w x G × IsNode
 
 fine_node : {A : Type 0} (d : ℕ) (a : A) (s : Size) (n : ℕ) (rest : List Lexeme) (o : Out A) → Fine d a s (n + 1) rest o → Fine d a (one_node s) n rest o
 fine_node d a s n rest (Got b m r) h = (h.0, h.1, omega (arith, h.2), h.3)
-fine_node d a s n rest (Stuck r) h = h
-fine_node d a s n rest (Over w r) h = exceeds_node w n d s h
+fine_node d a s n rest (Stuck c r) h = h
+fine_node d a s n rest (Over w c r) h = exceeds_node w n d s h
 
 no_room : (n : ℕ) (s t : Size) → nat_lt n 256 ≡ false → s ≡ one_node t → 256 < max (n + s.nodes) (s.wide what.Nodes)
 no_room n s t e h = let k : s.nodes ≡ t.nodes + 1 = ap (λ z. z.nodes) h in let m : 256 ≤ n = grind (arith, nat_tests) in omega (arith, k, m)
@@ -275,10 +275,10 @@ room_left : (n : ℕ) → nat_lt n 256 ≡ true → n + 1 ≤ 256
 room_left n e = grind (arith, nat_tests)
 
 module _ {A : Type 0} (low d : ℕ) (G : A → Size → List Lexeme → Type 0) (goes : Lexeme → Bool) where
-  stuck_here : (live : (a : A) × (s : Size) × (ts : List Lexeme) × G a s ts) (run : List Lexeme → Out A) (n : ℕ) (x : Lexeme) (ts : List Lexeme) → ((l : List Lexeme) → run (x ∷ l) ≡ Stuck (x ∷ l)) → Explains d run G n (x ∷ ts) (Stuck (x ∷ ts))
+  stuck_here : (live : (a : A) × (s : Size) × (ts : List Lexeme) × G a s ts) (run : List Lexeme → Out A) (n : ℕ) (x : Lexeme) (ts : List Lexeme) → ((l : List Lexeme) → run (x ∷ l) ≡ Stuck n (x ∷ l)) → Explains d run G n (x ∷ ts) (Stuck n (x ∷ ts))
   stuck_here live run n x ts e = ([], refl, (live.2, live.0, live.1, live.3), e)
 
-  over_here : (run : List Lexeme → Out A) (n : ℕ) (x : Lexeme) (ts : List Lexeme) (w : What) → Live x G → ((l : List Lexeme) → run (x ∷ l) ≡ Over w (x ∷ l)) → Explains d run G n (x ∷ ts) (Over w (x ∷ ts))
+  over_here : (run : List Lexeme → Out A) (n : ℕ) (x : Lexeme) (ts : List Lexeme) (w : What) → Live x G → ((l : List Lexeme) → run (x ∷ l) ≡ Over w n (x ∷ l)) → Explains d run G n (x ∷ ts) (Over w n (x ∷ ts))
   over_here run n x ts w h e = ([], refl, (h.2, h.0, h.1, h.3), e)
 
   -- one arm, run from x on
@@ -287,7 +287,7 @@ module _ {A : Type 0} (low d : ℕ) (G : A → Size → List Lexeme → Type 0) 
   arm_explains live run n z x (Takes p) e h ts = explains_after (p n) (run n) (λ a s l. G a s (x ∷ l)) G x (λ s. s) d n n (λ s. refl) (λ k. k) (λ s k. k) e (λ a s l g. g) ts (p n ts) (h.explains n z ts)
   arm_explains live run n z x (Counts p) e h ts = counted (nat_lt n 256) refl e
     where
-      counted : (b : Bool) → nat_lt n 256 ≡ b → ((l : List Lexeme) → run n (x ∷ l) ≡ cond b (p (n + 1) l) (Over what.Nodes (x ∷ l))) → Explains d (run n) G n (x ∷ ts) (cond b (p (n + 1) ts) (Over what.Nodes (x ∷ ts)))
+      counted : (b : Bool) → nat_lt n 256 ≡ b → ((l : List Lexeme) → run n (x ∷ l) ≡ cond b (p (n + 1) l) (Over what.Nodes n (x ∷ l))) → Explains d (run n) G n (x ∷ ts) (cond b (p (n + 1) ts) (Over what.Nodes n (x ∷ ts)))
       counted true r e2 = explains_after (p (n + 1)) (run n) (λ a s l. G a (one_node s) (x ∷ l)) G x one_node d n (n + 1) (λ s. omega arith) (λ k. room_left n r) (λ s k. k) e2 (λ a s l g. g) ts (p (n + 1) ts) (h.0.explains (n + 1) (omega (arith, z)) ts)
       counted false r e2 = let l = h.0.live in over_here (run n) n x ts what.Nodes (l.0, one_node l.1, l.2, l.3) e2
   arm_explains live run n z x (Whole p) e h ts = whole (p n (x ∷ ts)) (h.0 n z ts)
@@ -299,12 +299,12 @@ module _ {A : Type 0} (low d : ℕ) (G : A → Size → List Lexeme → Type 0) 
 
       whole : (o : Out A) → Explains d (p n) G n (x ∷ ts) o → Explains d (run n) G n (x ∷ ts) o
       whole (Got a m rest) k = (k.0, k.1, k.2, k.3, k.4, k.5, k.6, same_whole (Got a m) k.0 rest k.2 k.7)
-      whole (Stuck rest) k = (k.0, k.1, k.2, same_whole Stuck k.0 rest k.1 k.3)
-      whole (Over w rest) k = (k.0, k.1, k.2, same_whole (Over w) k.0 rest k.1 k.3)
+      whole (Stuck c rest) k = (k.0, k.1, k.2, same_whole (Stuck c) k.0 rest k.1 k.3)
+      whole (Over w c rest) k = (k.0, k.1, k.2, same_whole (Over w c) k.0 rest k.1 k.3)
   arm_explains live run n z x (Refuses w) e h ts = over_here (run n) n x ts w h.0 e
   arm_explains live run n z x (Fills w) e h ts = filled (nat_lt n 256) e
     where
-      filled : (b : Bool) → ((l : List Lexeme) → run n (x ∷ l) ≡ cond b (Over w (x ∷ l)) (Over what.Nodes (x ∷ l))) → Explains d (run n) G n (x ∷ ts) (cond b (Over w (x ∷ ts)) (Over what.Nodes (x ∷ ts)))
+      filled : (b : Bool) → ((l : List Lexeme) → run n (x ∷ l) ≡ cond b (Over w n (x ∷ l)) (Over what.Nodes n (x ∷ l))) → Explains d (run n) G n (x ∷ ts) (cond b (Over w n (x ∷ ts)) (Over what.Nodes n (x ∷ ts)))
       filled true e2 = over_here (run n) n x ts w h.0 e2
       filled false e2 = over_here (run n) n x ts what.Nodes h.0 e2
 
@@ -316,7 +316,7 @@ module _ {A : Type 0} (low d : ℕ) (G : A → Size → List Lexeme → Type 0) 
       node : (t : Size) × (s ≡ one_node t)
       node = h.1 a s front g
 
-      counted : (b : Bool) → nat_lt n 256 ≡ b → Fine d a s n rest (cond b (p (n + 1) (front ++ rest)) (Over what.Nodes (x ∷ (front ++ rest))))
+      counted : (b : Bool) → nat_lt n 256 ≡ b → Fine d a s n rest (cond b (p (n + 1) (front ++ rest)) (Over what.Nodes n (x ∷ (front ++ rest))))
       counted true r =
           let P : Size → Type 0 = λ y. Fine d a y n rest (p (n + 1) (front ++ rest)) in
           let Q : Size → Type 0 = λ y. G a y (x ∷ front) in
@@ -326,7 +326,7 @@ module _ {A : Type 0} (low d : ℕ) (G : A → Size → List Lexeme → Type 0) 
   arm_complete n z x (Refuses w) h a s front rest g stops = h.1 n z a s front g
   arm_complete n z x (Fills w) h a s front rest g stops = filled (nat_lt n 256) refl
     where
-      filled : (b : Bool) → nat_lt n 256 ≡ b → Fine d a s n rest (cond b (Over w (x ∷ (front ++ rest))) (Over what.Nodes (x ∷ (front ++ rest))))
+      filled : (b : Bool) → nat_lt n 256 ≡ b → Fine d a s n rest (cond b (Over w n (x ∷ (front ++ rest))) (Over what.Nodes n (x ∷ (front ++ rest))))
       filled true r = h.1 n z a s front g
       filled false r = let k = h.2 a s front g in no_room n s k.0 r k.1
 
@@ -361,8 +361,8 @@ map_good {A} {B} low d f p G goes g =
 module _ {A B : Type 0} (d : ℕ) (f : A → B) (p : Parser A) (G : A → Size → List Lexeme → Type 0) where
   explains_map : (n : ℕ) (ts : List Lexeme) (o : Out A) → Explains d (p n) G n ts o → Explains d (map_to f p n) (mapG f G) n ts (and_then o (λ a. pure (f a)))
   explains_map n ts (Got a m rest) h = (h.0, h.1, h.2, (a, refl, h.3), h.4, h.5, h.6, same_first d p (λ a. pure (f a)) G (λ a. pureG (f a)) n ts (Got a m) (Got (f a) m) h.0 rest (λ l. refl) h.7)
-  explains_map n ts (Stuck rest) h = (h.0, h.1, (h.2.0, f h.2.1, h.2.2, (h.2.1, refl, h.2.3)), same_first d p (λ a. pure (f a)) G (λ a. pureG (f a)) n ts Stuck Stuck h.0 rest (λ l. refl) h.3)
-  explains_map n ts (Over w rest) h = (h.0, h.1, goes_map h.0 rest h.2, same_first d p (λ a. pure (f a)) G (λ a. pureG (f a)) n ts (Over w) (Over w) h.0 rest (λ l. refl) h.3)
+  explains_map n ts (Stuck c rest) h = (h.0, h.1, (h.2.0, f h.2.1, h.2.2, (h.2.1, refl, h.2.3)), same_first d p (λ a. pure (f a)) G (λ a. pureG (f a)) n ts (Stuck c) (Stuck c) h.0 rest (λ l. refl) h.3)
+  explains_map n ts (Over w c rest) h = (h.0, h.1, goes_map h.0 rest h.2, same_first d p (λ a. pure (f a)) G (λ a. pureG (f a)) n ts (Over w c) (Over w c) h.0 rest (λ l. refl) h.3)
     where
       goes_map : (front rest : List Lexeme) → Goes G front rest → Goes (mapG f G) front rest
       goes_map front [] k = k
@@ -370,8 +370,8 @@ module _ {A B : Type 0} (d : ℕ) (f : A → B) (p : Parser A) (G : A → Size �
 
   fine_map : (a : A) (s : Size) (n : ℕ) (rest : List Lexeme) (o : Out A) → Fine d a s n rest o → Fine d (f a) s n rest (and_then o (λ b. pure (f b)))
   fine_map a s n rest (Got b m r) h = (ap f h.0, h.1, h.2, h.3)
-  fine_map a s n rest (Stuck r) h = h
-  fine_map a s n rest (Over w r) h = h
+  fine_map a s n rest (Stuck c r) h = h
+  fine_map a s n rest (Over w c r) h = h
 
 pub one_node_once : (s t : Size) → one_node s ≡ one_node t → s ≡ t
 one_node_once s t e = λ i. record { nodes = (let k : s.nodes ≡ t.nodes = omega (arith, ap (λ z. z.nodes) e) in k) i; depth = (e i).depth; wide = (e i).wide }
@@ -415,8 +415,8 @@ got_fewer {A} low d p G goes good n h ts a m rest e =
 
 and_then_same : {A B : Type 0} (o : Out A) (f g : A → Parser B) → ((a : A) (m : ℕ) (rest : List Lexeme) → o ≡ Got a m rest → f a m rest ≡ g a m rest) → and_then o f ≡ and_then o g
 and_then_same (Got a m rest) f g h = h a m rest refl
-and_then_same (Stuck rest) f g h = refl
-and_then_same (Over w rest) f g h = refl
+and_then_same (Stuck c rest) f g h = refl
+and_then_same (Over w c rest) f g h = refl
 
 module _ {A : Type 0} (is : Lexeme → Bool) (item : Parser A) (fewer : (n : ℕ) (ts : List Lexeme) (a : A) (m : ℕ) (rest : List Lexeme) → item n ts ≡ Got a m rest → length rest ≤ length ts) where
   -- two bounds that are not reached

@@ -10,10 +10,7 @@ use Rattle.parser_combinators.specs.declared.reading.Cursor.{Cursor}
 use Rattle.parser_combinators.specs.Reads.{ahead, Fails}
 use Rattle.lexical_grammar.specs.Lexemes.{Lexeme, lexeme}
 use Rattle.parser_combinators.specs.Parsing.{Size, Out, Got, Stuck, Over, Parser, Same, Explains, Fine, Stops, CanGoOn, Lawful, Good}
-use Rattle.parser_combinators.specs.Found.{lexemes_from, place, Finds, Ends, IsFirst, PassesAt, IsFirstFault, IsTooMany, Follows, FaultAt}
-use Rattle.parser_combinators.specs.Marks.{Mark, FirstPassed}
-use Rattle.parser_combinators.proofs.Marked.{along}
-use Rattle.parser_combinators.proofs.Passed.{too_many, passes_there}
+use Rattle.parser_combinators.specs.Found.{lexemes_from, place, Finds, Ends, IsFirst, Follows, FaultAt}
 use Rattle.lexical_grammar.proofs.Cuts.{take_front, drop_front, drop_drop}
 
 map_drop : {A B : Type 0} (f : A → B) (n : ℕ) (l : List A) → drop n (map f l) ≡ map f (drop n l)
@@ -97,32 +94,32 @@ module _ {A : Type 0} (p : Parser A) (G : A → Size → List Lexeme → Type 0)
 
   -- ---- what was not
 
-  stuck_fits : (rest : List Lexeme) → p 0 ts ≡ Stuck rest → length rest ≤ length list
-  stuck_fits rest e = let h = explained (Stuck rest) e in omega (arith, lengths h.0 rest h.1)
+  stuck_fits : (c : ℕ) (rest : List Lexeme) → p 0 ts ≡ Stuck c rest → length rest ≤ length list
+  stuck_fits c rest e = let h = explained (Stuck c rest) e in omega (arith, lengths h.0 rest h.1)
 
-  over_fits : (w : What) (rest : List Lexeme) → p 0 ts ≡ Over w rest → length rest ≤ length list
-  over_fits w rest e = let h = explained (Over w rest) e in omega (arith, lengths h.0 rest h.1)
+  over_fits : (w : What) (c : ℕ) (rest : List Lexeme) → p 0 ts ≡ Over w c rest → length rest ≤ length list
+  over_fits w c rest e = let h = explained (Over w c rest) e in omega (arith, lengths h.0 rest h.1)
 
-  stuck_first : (rest : List Lexeme) → p 0 ts ≡ Stuck rest → 0 < length rest → IsFirst G ts (length ts - length rest)
-  stuck_first [] e z = absurd (omega arith)
-  stuck_first (x ∷ rest) e z =
-      let h = explained (Stuck (x ∷ rest)) e in
+  stuck_first : (c : ℕ) (rest : List Lexeme) → p 0 ts ≡ Stuck c rest → 0 < length rest → IsFirst G ts (length ts - length rest)
+  stuck_first c [] e z = absurd (omega arith)
+  stuck_first c (x ∷ rest) e z =
+      let h = explained (Stuck c (x ∷ rest)) e in
       let n : length ts - length (x ∷ rest) ≡ length h.0 = omega (arith, ap length h.1, length-append h.0 (x ∷ rest)) in
       let P : ℕ → Type 0 = λ k. IsFirst G ts k in
       let C : List Lexeme → Type 0 = λ l. CanGoOn G l in
       subst P (sym n) (
         omega (arith, ap length h.1, length-append h.0 (x ∷ rest)),
         subst C (sym (ap (take (length h.0)) h.1 ∙ take_front h.0 (x ∷ rest))) h.2,
-        λ z more. let k = subst C (split h.0 x rest h.1) more in ends_there h.0 x Stuck h.3 k.0 k.1 k.2 k.3,
+        λ z more. let k = subst C (split h.0 x rest h.1) more in ends_there h.0 x (Stuck c) h.3 k.0 k.1 k.2 k.3,
       )
 
-  stuck_out : (rest : List Lexeme) → p 0 ts ≡ Stuck rest → length rest ≡ 0 → CanGoOn G ts
-  stuck_out [] e z = let h = explained (Stuck []) e in let P : List Lexeme → Type 0 = λ l. CanGoOn G l in subst P (sym (h.1 ∙ append-nil h.0)) h.2
-  stuck_out (x ∷ rest) e z = absurd (omega (arith, z))
+  stuck_out : (c : ℕ) (rest : List Lexeme) → p 0 ts ≡ Stuck c rest → length rest ≡ 0 → CanGoOn G ts
+  stuck_out c [] e z = let h = explained (Stuck c []) e in let P : List Lexeme → Type 0 = λ l. CanGoOn G l in subst P (sym (h.1 ∙ append-nil h.0)) h.2
+  stuck_out c (x ∷ rest) e z = absurd (omega (arith, z))
 
-  over_some : (w : What) (rest : List Lexeme) → p 0 ts ≡ Over w rest → 0 < length rest
-  over_some w [] e = let h = explained (Over w []) e in absurd h.2
-  over_some w (x ∷ rest) e = omega arith
+  over_some : (w : What) (c : ℕ) (rest : List Lexeme) → p 0 ts ≡ Over w c rest → 0 < length rest
+  over_some w c [] e = let h = explained (Over w c []) e in absurd h.2
+  over_some w c (x ∷ rest) e = omega arith
 
   where_it_is : (rest : List Lexeme) → length rest ≤ length ts → length list - length rest ≡ from + (length ts - length rest)
   where_it_is rest h = omega (arith, h, fits, length_map lexeme (drop from list), length-drop from list)
@@ -139,8 +136,8 @@ module _ {A : Type 0} (p : Parser A) (G : A → Size → List Lexeme → Type 0)
 
     pub err_fits : (why : Stop) → Fails (p 0 ts) why cur → why ≡ stop.Stuck → left ≤ length list
     err_fits stop.NoMemory f e = let n : stop.NoMemory ≡ stop.Stuck = e in cc
-    err_fits stop.Stuck f e = omega (arith, same_left, stuck_fits (ahead cur) f)
-    err_fits (stop.TooMany w) f e = omega (arith, same_left, over_fits w (ahead cur) f)
+    err_fits stop.Stuck f e = omega (arith, same_left, stuck_fits cur.nodes (ahead cur) f)
+    err_fits (stop.TooMany w) f e = omega (arith, same_left, over_fits w cur.nodes (ahead cur) f)
 
     module _ {X : Type 0} (view : X → A) where
       pub err_found : (why : Stop) (f : ParseFault) → Fails (p 0 ts) why cur → FaultAt why list left f → (b : A) (s : Size) (front rest : List Lexeme) → Fine 32 b s 0 rest (p 0 ts) → Finds view b s (from + length front) (Err f)
@@ -158,72 +155,30 @@ module _ {A : Type 0} (p : Parser A) (G : A → Size → List Lexeme → Type 0)
       pub err_exact : (why : Stop) (f : ParseFault) → Fails (p 0 ts) why cur → FaultAt why list left f → Follows view (p 0 ts) list (Err f)
       err_exact stop.NoMemory f h k = let P : ParseFault → Type 0 = λ v. Follows view (p 0 ts) list (Err v) in subst P (sym k) tt
       err_exact stop.Stuck (fault.Syntax at) h k =
-          let x = explained (Stuck (ahead cur)) h in
-          (length list - left, omega (arith, k.0, same_left, stuck_fits (ahead cur) h), k.1, h ∙ ap Stuck (rest_is x.0 (ahead cur) left same_left x.1))
+          let x = explained (Stuck cur.nodes (ahead cur)) h in
+          (length list - left, omega (arith, k.0, same_left, stuck_fits cur.nodes (ahead cur) h), k.1, cur.nodes, h ∙ ap (Stuck cur.nodes) (rest_is x.0 (ahead cur) left same_left x.1))
       err_exact stop.Stuck fault.RanOut h k =
-          let x = explained (Stuck (ahead cur)) h in
-          h ∙ ap Stuck (rest_is x.0 (ahead cur) left same_left x.1 ∙ (let e : length list - left ≡ length list = omega (arith, k) in ap (lexemes_from list) e))
+          let x = explained (Stuck cur.nodes (ahead cur)) h in
+          (cur.nodes, h ∙ ap (Stuck cur.nodes) (rest_is x.0 (ahead cur) left same_left x.1 ∙ (let e : length list - left ≡ length list = omega (arith, k) in ap (lexemes_from list) e)))
       err_exact stop.Stuck fault.NoMemory h k = tt
       err_exact stop.Stuck (fault.TooMany v m) h k = absurd k
       err_exact (stop.TooMany v) f h k =
-          let x = explained (Over v (ahead cur)) h in
+          let x = explained (Over v cur.nodes (ahead cur)) h in
           let P : ParseFault → Type 0 = λ u. Follows view (p 0 ts) list (Err u) in
-          subst P (sym k) (refl, length list - left, omega (arith, same_left, over_fits v (ahead cur) h, over_some v (ahead cur) h), h ∙ ap (Over v) (rest_is x.0 (ahead cur) left same_left x.1))
+          subst P (sym k) (refl, length list - left, omega (arith, same_left, over_fits v cur.nodes (ahead cur) h, over_some v cur.nodes (ahead cur) h), cur.nodes, h ∙ ap (Over v cur.nodes) (rest_is x.0 (ahead cur) left same_left x.1))
 
   -- ---- a fault that is no count
 
   module _ (cur : Cursor) where
     pub err_syntax : (why : Stop) (f : ParseFault) → Fails (p 0 ts) why cur → FaultAt why list (length cur.rest.now) f → (at : ℕ) → f ≡ fault.Syntax at → why ≡ stop.Stuck → (k : ℕ) × (at ≡ place list (from + k)) × IsFirst G ts k
     err_syntax why f h k at e i =
-        let fails : p 0 ts ≡ Stuck (ahead cur) = (let P : Stop → Type 0 = λ w. Fails (p 0 ts) w cur in subst P i h) in
+        let fails : p 0 ts ≡ Stuck cur.nodes (ahead cur) = (let P : Stop → Type 0 = λ w. Fails (p 0 ts) w cur in subst P i h) in
         let found : FaultAt stop.Stuck list (length cur.rest.now) (fault.Syntax at) = (let P : Stop → Type 0 = λ w. FaultAt w list (length cur.rest.now) (fault.Syntax at) in let Q : ParseFault → Type 0 = λ v. FaultAt why list (length cur.rest.now) v in subst P i (subst Q e k)) in
-        let x = explained (Stuck (ahead cur)) fails in
-        (length ts - length (ahead cur), found.1 ∙ ap (place list) (ap (λ n. length list - n) (sym (same_left cur)) ∙ where_it_is (ahead cur) (in_ts x.0 (ahead cur) x.1)), stuck_first (ahead cur) fails (omega (arith, same_left cur, found.0)))
+        let x = explained (Stuck cur.nodes (ahead cur)) fails in
+        (length ts - length (ahead cur), found.1 ∙ ap (place list) (ap (λ n. length list - n) (sym (same_left cur)) ∙ where_it_is (ahead cur) (in_ts x.0 (ahead cur) x.1)), stuck_first cur.nodes (ahead cur) fails (omega (arith, same_left cur, found.0)))
 
     pub err_ran_out : (why : Stop) (f : ParseFault) → Fails (p 0 ts) why cur → FaultAt why list (length cur.rest.now) f → f ≡ fault.RanOut → why ≡ stop.Stuck → CanGoOn G ts
     err_ran_out why f h k e i =
-        let fails : p 0 ts ≡ Stuck (ahead cur) = (let P : Stop → Type 0 = λ w. Fails (p 0 ts) w cur in subst P i h) in
+        let fails : p 0 ts ≡ Stuck cur.nodes (ahead cur) = (let P : Stop → Type 0 = λ w. Fails (p 0 ts) w cur in subst P i h) in
         let found : length cur.rest.now ≡ 0 = (let P : Stop → Type 0 = λ w. FaultAt w list (length cur.rest.now) fault.RanOut in let Q : ParseFault → Type 0 = λ v. FaultAt why list (length cur.rest.now) v in subst P i (subst Q e k)) in
-        stuck_out (ahead cur) fails (same_left cur ∙ found)
-
-  -- ---- where it is too much
-
-  module _ (marks : (a : A) (s : Size) (f : List Lexeme) → G a s f → List Mark) (marked : (a : A) (s : Size) (f : List Lexeme) (h : G a s f) → p 0 f ≡ along 32 a 0 (marks a s f h) f)
-      (sized : (a : A) (s : Size) (f : List Lexeme) (h : G a s f) → length (marks a s f h) ≡ length f) where
-    abbrev Passing : What → List Lexeme → Type 0
-    Passing w front =
-        (rest more : List Lexeme) (x : Lexeme) (a : A) (s : Size) (h : G a s (front ++ x ∷ more)) → ts ≡ front ++ x ∷ rest → FirstPassed w (marks a s (front ++ x ∷ more) h) (length front) → p 0 ts ≡ Over w (x ∷ rest)
-
-    passing : (w : What) (front : List Lexeme) → Passing w front
-    passing w front rest more x a s h e f = too_many p G goes good marks marked sized ts w front x rest e more a s h f
-
-    pub got_over : (b : A) (m : ℕ) (left : List Lexeme) → p 0 ts ≡ Got b m left →
-        (w : What) (front rest more : List Lexeme) (x : Lexeme) (a : A) (s : Size) (h : G a s (front ++ x ∷ more)) → ts ≡ front ++ x ∷ rest → FirstPassed w (marks a s (front ++ x ∷ more) h) (length front) → ⊥
-    got_over b m left o w front rest more x a s h e f = let z : Got b m left ≡ Over w (x ∷ rest) = sym o ∙ passing w front rest more x a s h e f in cc
-
-    module _ (cur : Cursor) (X : Type 0) where
-      over_is : (why : Stop) (f : ParseFault) (w : What) (us : List Lexeme) → Fails (p 0 ts) why cur → FaultAt why list (length cur.rest.now) f → p 0 ts ≡ Over w us → IsTooMany {X = X} w (Err f)
-      over_is stop.NoMemory f w us h k o = let P : ParseFault → Type 0 = λ v. IsTooMany {X = X} w (Err v) in subst P (sym k) tt
-      over_is stop.Stuck f w us h k o = let z : ◌≡◌ {A = Out A} (Stuck (ahead cur)) (Over w us) = sym h ∙ o in cc
-      over_is (stop.TooMany v) f w us h k o =
-          let z : ◌≡◌ {A = Out A} (Over v (ahead cur)) (Over w us) = sym h ∙ o in
-          let P : ParseFault → Type 0 = λ v. IsTooMany {X = X} w (Err v) in
-          subst P (sym k) (let y : v ≡ w = cc in y)
-
-      pub err_over : (why : Stop) (f : ParseFault) → Fails (p 0 ts) why cur → FaultAt why list (length cur.rest.now) f →
-          (w : What) (front rest more : List Lexeme) (x : Lexeme) (a : A) (s : Size) (h : G a s (front ++ x ∷ more)) → ts ≡ front ++ x ∷ rest → FirstPassed w (marks a s (front ++ x ∷ more) h) (length front) → IsTooMany {X = X} w (Err f)
-      err_over why f fails at w front rest more x a s h e first = over_is why f w (x ∷ rest) fails at (passing w front rest more x a s h e first)
-
-      over_at : (w : What) (us : List Lexeme) → p 0 ts ≡ Over w us → (front : List Lexeme) × (x : Lexeme) × (rest : List Lexeme) × (ts ≡ front ++ x ∷ rest) × PassesAt G marks w front x
-      over_at w [] o = let h = explained (Over w []) o in absurd h.2
-      over_at w (x ∷ rest) o = let h = explained (Over w (x ∷ rest)) o in (h.0, x, rest, h.1, passes_there p G goes good marks marked sized ts w h.0 x rest h.1 o)
-
-      pub err_fault : (why : Stop) (f : ParseFault) → Fails (p 0 ts) why cur → FaultAt why list (length cur.rest.now) f → IsFirstFault {X = X} G marks list from (Err f)
-      err_fault stop.NoMemory f h k = let P : ParseFault → Type 0 = λ v. IsFirstFault {X = X} G marks list from (Err v) in subst P (sym k) tt
-      err_fault stop.Stuck (fault.Syntax at) h k =
-          let x = explained (Stuck (ahead cur)) h in
-          (length ts - length (ahead cur), k.1 ∙ ap (place list) (ap (λ n. length list - n) (sym (same_left cur)) ∙ where_it_is (ahead cur) (in_ts x.0 (ahead cur) x.1)), stuck_first (ahead cur) h (omega (arith, same_left cur, k.0)))
-      err_fault stop.Stuck fault.RanOut h k = stuck_out (ahead cur) h (same_left cur ∙ k)
-      err_fault stop.Stuck fault.NoMemory h k = tt
-      err_fault stop.Stuck (fault.TooMany v m) h k = absurd k
-      err_fault (stop.TooMany v) f h k = let P : ParseFault → Type 0 = λ u. IsFirstFault {X = X} G marks list from (Err u) in let o = over_at v (ahead cur) h in subst P (sym k) (refl, o.0, o.1, o.2, o.3, o.4)
+        stuck_out cur.nodes (ahead cur) fails (same_left cur ∙ found)

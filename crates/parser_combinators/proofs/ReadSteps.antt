@@ -21,35 +21,35 @@ choose_takes is p others n (x ∷ ts) e = ap (λ b. arm_run (cond b (Takes p) (o
 
 pub choose_counts : {A : Type 0} (is : Lexeme → Bool) (p : Parser A) (others : Lexeme → Arm A) (n : ℕ) (ts : List Lexeme) → sees is ts ≡ true → has_room n ≡ true → choose (λ x. cond (is x) (Counts p) (others x)) n ts ≡ p (n + 1) (drop 1 ts)
 choose_counts is p others n [] e r = true_false (sym e)
-choose_counts is p others n (x ∷ ts) e r = ap (λ b. arm_run (cond b (Counts p) (others x)) x n ts) e ∙ ap (λ b. cond b (p (n + 1) ts) (Over what.Nodes (x ∷ ts))) r
+choose_counts is p others n (x ∷ ts) e r = ap (λ b. arm_run (cond b (Counts p) (others x)) x n ts) e ∙ ap (λ b. cond b (p (n + 1) ts) (Over what.Nodes n (x ∷ ts))) r
 
-pub choose_full : {A : Type 0} (is : Lexeme → Bool) (p : Parser A) (others : Lexeme → Arm A) (n : ℕ) (ts : List Lexeme) → sees is ts ≡ true → has_room n ≡ false → choose (λ x. cond (is x) (Counts p) (others x)) n ts ≡ Over what.Nodes ts
+pub choose_full : {A : Type 0} (is : Lexeme → Bool) (p : Parser A) (others : Lexeme → Arm A) (n : ℕ) (ts : List Lexeme) → sees is ts ≡ true → has_room n ≡ false → choose (λ x. cond (is x) (Counts p) (others x)) n ts ≡ Over what.Nodes n ts
 choose_full is p others n [] e r = true_false (sym e)
-choose_full is p others n (x ∷ ts) e r = ap (λ b. arm_run (cond b (Counts p) (others x)) x n ts) e ∙ ap (λ b. cond b (p (n + 1) ts) (Over what.Nodes (x ∷ ts))) r
+choose_full is p others n (x ∷ ts) e r = ap (λ b. arm_run (cond b (Counts p) (others x)) x n ts) e ∙ ap (λ b. cond b (p (n + 1) ts) (Over what.Nodes n (x ∷ ts))) r
 
-pub choose_refuses : {A : Type 0} (is : Lexeme → Bool) (w : What) (others : Lexeme → Arm A) (n : ℕ) (ts : List Lexeme) → sees is ts ≡ true → choose (λ x. cond (is x) (Refuses w) (others x)) n ts ≡ Over w ts
+pub choose_refuses : {A : Type 0} (is : Lexeme → Bool) (w : What) (others : Lexeme → Arm A) (n : ℕ) (ts : List Lexeme) → sees is ts ≡ true → choose (λ x. cond (is x) (Refuses w) (others x)) n ts ≡ Over w n ts
 choose_refuses is w others n [] e = true_false (sym e)
 choose_refuses is w others n (x ∷ ts) e = ap (λ b. arm_run (cond b (Refuses w) (others x)) x n ts) e
 
-pub choose_deep : {A : Type 0} (is : Lexeme → Bool) (w : What) (others : Lexeme → Arm A) (n : ℕ) (ts : List Lexeme) → sees is ts ≡ true → has_room n ≡ true → choose (λ x. cond (is x) (Fills w) (others x)) n ts ≡ Over w ts
+pub choose_deep : {A : Type 0} (is : Lexeme → Bool) (w : What) (others : Lexeme → Arm A) (n : ℕ) (ts : List Lexeme) → sees is ts ≡ true → has_room n ≡ true → choose (λ x. cond (is x) (Fills w) (others x)) n ts ≡ Over w n ts
 choose_deep is w others n [] e r = true_false (sym e)
-choose_deep is w others n (x ∷ ts) e r = ap (λ b. arm_run (cond b (Fills w) (others x)) x n ts) e ∙ ap (λ b. cond b (Over w (x ∷ ts)) (Over what.Nodes (x ∷ ts))) r
+choose_deep is w others n (x ∷ ts) e r = ap (λ b. arm_run (cond b (Fills w) (others x)) x n ts) e ∙ ap (λ b. cond b (Over w n (x ∷ ts)) (Over what.Nodes n (x ∷ ts))) r
 
-pub choose_deep_full : {A : Type 0} (is : Lexeme → Bool) (w : What) (others : Lexeme → Arm A) (n : ℕ) (ts : List Lexeme) → sees is ts ≡ true → has_room n ≡ false → choose (λ x. cond (is x) (Fills w) (others x)) n ts ≡ Over what.Nodes ts
+pub choose_deep_full : {A : Type 0} (is : Lexeme → Bool) (w : What) (others : Lexeme → Arm A) (n : ℕ) (ts : List Lexeme) → sees is ts ≡ true → has_room n ≡ false → choose (λ x. cond (is x) (Fills w) (others x)) n ts ≡ Over what.Nodes n ts
 choose_deep_full is w others n [] e r = true_false (sym e)
-choose_deep_full is w others n (x ∷ ts) e r = ap (λ b. arm_run (cond b (Fills w) (others x)) x n ts) e ∙ ap (λ b. cond b (Over w (x ∷ ts)) (Over what.Nodes (x ∷ ts))) r
+choose_deep_full is w others n (x ∷ ts) e r = ap (λ b. arm_run (cond b (Fills w) (others x)) x n ts) e ∙ ap (λ b. cond b (Over w n (x ∷ ts)) (Over what.Nodes n (x ∷ ts))) r
 
-no_arm : {A : Type 0} (n : ℕ) (ts : List Lexeme) → choose {A = A} (λ x. No) n ts ≡ Stuck ts
+no_arm : {A : Type 0} (n : ℕ) (ts : List Lexeme) → choose {A = A} (λ x. No) n ts ≡ Stuck n ts
 no_arm n [] = refl
 no_arm n (x ∷ ts) = refl
 
 pub lead_seen : {A : Type 0} (is : Lexeme → Bool) (p : Parser A) (n : ℕ) (ts : List Lexeme) → sees is ts ≡ true → lead is p n ts ≡ p n (drop 1 ts)
 lead_seen is p n ts e = choose_takes is p (λ x. No) n ts e
 
-pub lead_not : {A : Type 0} (is : Lexeme → Bool) (p : Parser A) (n : ℕ) (ts : List Lexeme) → sees is ts ≡ false → lead is p n ts ≡ Stuck ts
+pub lead_not : {A : Type 0} (is : Lexeme → Bool) (p : Parser A) (n : ℕ) (ts : List Lexeme) → sees is ts ≡ false → lead is p n ts ≡ Stuck n ts
 lead_not is p n ts e = choose_no is (Takes p) (λ x. No) n ts e ∙ no_arm n ts
 
-pub pick_not : {A : Type 0} (is : Lexeme → Bool) (r : Arm A) (n : ℕ) (ts : List Lexeme) → sees is ts ≡ false → pick is r n ts ≡ Stuck ts
+pub pick_not : {A : Type 0} (is : Lexeme → Bool) (r : Arm A) (n : ℕ) (ts : List Lexeme) → sees is ts ≡ false → pick is r n ts ≡ Stuck n ts
 pick_not is r n ts e = choose_no is r (λ x. No) n ts e ∙ no_arm n ts
 
 pub option_not : {A : Type 0} (is : Lexeme → Bool) (r : Arm A) (v : A) (n : ℕ) (ts : List Lexeme) → sees is ts ≡ false → option is r v n ts ≡ Got v n ts
@@ -58,17 +58,17 @@ option_not is r v n (x ∷ ts) e = ap (λ b. cond b (arm_run r x n ts) (Got v n 
 
 pub option_counts : {A : Type 0} (is : Lexeme → Bool) (p : Parser A) (v : A) (n : ℕ) (ts : List Lexeme) → sees is ts ≡ true → has_room n ≡ true → option is (Counts p) v n ts ≡ p (n + 1) (drop 1 ts)
 option_counts is p v n [] e r = true_false (sym e)
-option_counts is p v n (x ∷ ts) e r = ap (λ b. cond b (arm_run (Counts p) x n ts) (Got v n (x ∷ ts))) e ∙ ap (λ b. cond b (p (n + 1) ts) (Over what.Nodes (x ∷ ts))) r
+option_counts is p v n (x ∷ ts) e r = ap (λ b. cond b (arm_run (Counts p) x n ts) (Got v n (x ∷ ts))) e ∙ ap (λ b. cond b (p (n + 1) ts) (Over what.Nodes n (x ∷ ts))) r
 
-pub option_full : {A : Type 0} (is : Lexeme → Bool) (p : Parser A) (v : A) (n : ℕ) (ts : List Lexeme) → sees is ts ≡ true → has_room n ≡ false → option is (Counts p) v n ts ≡ Over what.Nodes ts
+pub option_full : {A : Type 0} (is : Lexeme → Bool) (p : Parser A) (v : A) (n : ℕ) (ts : List Lexeme) → sees is ts ≡ true → has_room n ≡ false → option is (Counts p) v n ts ≡ Over what.Nodes n ts
 option_full is p v n [] e r = true_false (sym e)
-option_full is p v n (x ∷ ts) e r = ap (λ b. cond b (arm_run (Counts p) x n ts) (Got v n (x ∷ ts))) e ∙ ap (λ b. cond b (p (n + 1) ts) (Over what.Nodes (x ∷ ts))) r
+option_full is p v n (x ∷ ts) e r = ap (λ b. cond b (arm_run (Counts p) x n ts) (Got v n (x ∷ ts))) e ∙ ap (λ b. cond b (p (n + 1) ts) (Over what.Nodes n (x ∷ ts))) r
 
 pub option_takes : {A : Type 0} (is : Lexeme → Bool) (p : Parser A) (v : A) (n : ℕ) (ts : List Lexeme) → sees is ts ≡ true → option is (Takes p) v n ts ≡ p n (drop 1 ts)
 option_takes is p v n [] e = true_false (sym e)
 option_takes is p v n (x ∷ ts) e = ap (λ b. cond b (arm_run (Takes p) x n ts) (Got v n (x ∷ ts))) e
 
-pub option_refuses : {A : Type 0} (is : Lexeme → Bool) (w : What) (v : A) (n : ℕ) (ts : List Lexeme) → sees is ts ≡ true → option is (Refuses w) v n ts ≡ Over w ts
+pub option_refuses : {A : Type 0} (is : Lexeme → Bool) (w : What) (v : A) (n : ℕ) (ts : List Lexeme) → sees is ts ≡ true → option is (Refuses w) v n ts ≡ Over w n ts
 option_refuses is w v n [] e = true_false (sym e)
 option_refuses is w v n (x ∷ ts) e = ap (λ b. cond b (arm_run (Refuses w) x n ts) (Got v n (x ∷ ts))) e
 
@@ -98,10 +98,10 @@ got_at a n m l r e f = sym (ap (λ k. Got a k r) e ∙ ap (λ u. Got a n u) f)
 
 -- ---- counts of its own
 
-pub fresh_fails : {A : Type 0} (o : Out A) (n : ℕ) (e : Stop) (old new : Cursor) → ahead new ≡ ahead old → Fails o e old → Fails (set_back n o) e new
-fresh_fails o n stop.NoMemory old new a f = tt
-fresh_fails o n stop.Stuck old new a f = ap (set_back n) f ∙ ap Stuck (sym a)
-fresh_fails o n (stop.TooMany w) old new a f = ap (set_back n) f ∙ ap (Over w) (sym a)
+pub fresh_fails : {A : Type 0} (o : Out A) (n : ℕ) (e : Stop) (old new : Cursor) → ahead new ≡ ahead old → new.nodes ≡ n → Fails o e old → Fails (set_back n o) e new
+fresh_fails o n stop.NoMemory old new a k f = tt
+fresh_fails o n stop.Stuck old new a k f = ap (set_back n) f ∙ ap (Stuck n) (sym a) ∙ ap (λ m. Stuck m (ahead new)) (sym k)
+fresh_fails o n (stop.TooMany w) old new a k f = ap (set_back n) f ∙ ap (Over w n) (sym a) ∙ ap (λ m. Over w m (ahead new)) (sym k)
 
 -- ---- behind a skipped lexeme
 
@@ -115,18 +115,18 @@ behind_fails p e cur n m ts us f g h = rw (← f, ← g) h
 
 pub prepend_none : {A : Type 0} (o : Out (List A)) → o ≡ prepend [] o
 prepend_none (Got l n r) = refl
-prepend_none (Stuck r) = refl
-prepend_none (Over w r) = refl
+prepend_none (Stuck n r) = refl
+prepend_none (Over w n r) = refl
 
 pub prepend_twice : {A : Type 0} (f h : List A) (o : Out (List A)) → prepend f (prepend h o) ≡ prepend (f ++ h) o
 prepend_twice f h (Got l n r) = ap (λ x. Got x n r) (sym (append_assoc f h l))
-prepend_twice f h (Stuck r) = refl
-prepend_twice f h (Over w r) = refl
+prepend_twice f h (Stuck n r) = refl
+prepend_twice f h (Over w n r) = refl
 
 pub as_prepend : {A : Type 0} (a : A) (o : Out (List A)) → and_then o (λ l. pure (a ∷ l)) ≡ prepend (a ∷ []) o
 as_prepend a (Got l n r) = refl
-as_prepend a (Stuck r) = refl
-as_prepend a (Over w r) = refl
+as_prepend a (Stuck n r) = refl
+as_prepend a (Over w n r) = refl
 
 module _ {A : Type 0} (is : Lexeme → Bool) (w : What) (item : Parser A) where
   more_not : (k n : ℕ) (ts : List Lexeme) → sees is ts ≡ false → more is w item k n ts ≡ Got [] n ts
@@ -134,7 +134,7 @@ module _ {A : Type 0} (is : Lexeme → Bool) (w : What) (item : Parser A) where
   more_not zero n ts h = option_not is (Refuses w) [] n ts h
   more_not (suc k) n ts h = option_not is (Takes (bind item (λ a. map_to (λ others. a ∷ others) (more is w item k)))) [] n ts h
 
-  more_over : (k n : ℕ) (ts : List Lexeme) → k ≡ 0 → sees is ts ≡ true → more is w item k n ts ≡ Over w ts
+  more_over : (k n : ℕ) (ts : List Lexeme) → k ≡ 0 → sees is ts ≡ true → more is w item k n ts ≡ Over w n ts
   unfolding more
   more_over zero n ts z e = option_refuses is w [] n ts e
   more_over (suc k) n ts z e = absurd (omega (arith, z))
@@ -152,7 +152,7 @@ module _ {A : Type 0} (is : Lexeme → Bool) (w : What) (item : Parser A) where
     pub more_next : (a : A) (m : ℕ) (r : List Lexeme) → 0 < k → sees is ts ≡ true → item n (drop 1 ts) ≡ Got a m r → o ≡ prepend (done ++ a ∷ []) (more is w item (k - 1) m r)
     more_next a m r h e i = so_far ∙ ap (prepend done) (more_step k n ts h e ∙ ap (λ z. and_then z (λ a. map_to (λ others. a ∷ others) (more is w item (k - 1)))) i ∙ as_prepend a (more is w item (k - 1) m r)) ∙ prepend_twice done (a ∷ []) (more is w item (k - 1) m r)
 
-    pub more_full : k ≡ 0 → sees is ts ≡ true → o ≡ Over w ts
+    pub more_full : k ≡ 0 → sees is ts ≡ true → o ≡ Over w n ts
     more_full z e = so_far ∙ ap (prepend done) (more_over k n ts z e)
 
     pub more_err : (e : Stop) (cur : Cursor) → 0 < k → sees is ts ≡ true → Fails (item n (drop 1 ts)) e cur → Fails o e cur

@@ -1,5 +1,5 @@
 -- What reading a list of tokens ensures, by the grammar.
-use Rattle.std.specs.Prelude.{◌≡◌, ℕ, ◌+◌, ◌-◌, ◌<◌, ◌≤◌, ◌++◌, List, [], ◌∷◌, length, take, drop, map, get_or, Result, Ok, Err}
+use Rattle.std.specs.Prelude.{◌≡◌, ℕ, ◌+◌, ◌-◌, ◌<◌, ◌≤◌, List, length, take, drop, map, get_or, Result, Ok, Err}
 use Rattle.prima_base.specs.declared.refusals.What.{What}
 use Rattle.lexical_grammar.specs.declared.token.Token.{Token}
 use Rattle.parser_combinators.specs.declared.faults.ParseFault.{ParseFault}
@@ -7,7 +7,6 @@ use Rattle.parser_combinators.specs.declared.faults.ParseFault.TheVariants as fa
 use Rattle.parser_combinators.specs.declared.reading.Stop.{Stop}
 use Rattle.parser_combinators.specs.declared.reading.Stop.TheVariants as stop
 use Rattle.lexical_grammar.specs.Lexemes.{Lexeme, lexeme}
-use Rattle.parser_combinators.specs.Marks.{Mark, FirstPassed}
 use Rattle.parser_combinators.specs.Parsing.{Size, CanGoOn, Lawful, Exceeds, Out, Got, Stuck, Over, limit}
 
 -- what the tokens from a place on say
@@ -39,17 +38,6 @@ Finds view a s n (Err fault.RanOut) = ⊥
 abbrev pub IsFirst : {A : Type 0} → (A → Size → List Lexeme → Type 0) → List Lexeme → ℕ → Type 0
 IsFirst G ts k = (k < length ts) × CanGoOn G (take k ts) × Ends G ts k
 
--- the grammar goes on with the lexeme behind this front, and however it goes on, it is the first at which a count passes its limit, and this count
-abbrev pub PassesAt : {A : Type 0} → (G : A → Size → List Lexeme → Type 0) → ((a : A) (s : Size) (f : List Lexeme) → G a s f → List Mark) → What → List Lexeme → Lexeme → Type 0
-PassesAt {A} G marks w front x =
-    CanGoOn G (front ++ x ∷ []) × ((more : List Lexeme) (a : A) (s : Size) (h : G a s (front ++ x ∷ more)) → FirstPassed w (marks a s (front ++ x ∷ more) h) (length front))
-
-abbrev pub IsFirstFault : {A X : Type 0} → (G : A → Size → List Lexeme → Type 0) → ((a : A) (s : Size) (f : List Lexeme) → G a s f → List Mark) → List Token → ℕ → Result (X × ℕ) ParseFault → Type 0
-IsFirstFault G marks list from (Err (fault.Syntax at)) = (k : ℕ) × (at ≡ place list (from + k)) × IsFirst G (lexemes_from list from) k
-IsFirstFault G marks list from (Err fault.RanOut) = CanGoOn G (lexemes_from list from)
-IsFirstFault G marks list from (Err (fault.TooMany w most)) = (most ≡ limit w) × (front : List Lexeme) × (x : Lexeme) × (rest : List Lexeme) × (lexemes_from list from ≡ front ++ x ∷ rest) × PassesAt G marks w front x
-IsFirstFault G marks list from _ = Unit {0}
-
 -- it is refused for this count, unless memory ran out
 abbrev pub IsTooMany : {X : Type 0} → What → Result (X × ℕ) ParseFault → Type 0
 IsTooMany w (Ok r) = ⊥
@@ -62,9 +50,9 @@ IsTooMany w (Err fault.RanOut) = ⊥
 abbrev pub Follows : {A X : Type 0} → (X → A) → Out A → List Token → Result (X × ℕ) ParseFault → Type 0
 Follows view out list (Ok r) = (m : ℕ) × (out ≡ Got (view r.0) m (lexemes_from list r.1))
 Follows view out list (Err fault.NoMemory) = Unit {0}
-Follows view out list (Err (fault.Syntax at)) = (k : ℕ) × (k < length list) × (at ≡ place list k) × (out ≡ Stuck (lexemes_from list k))
-Follows view out list (Err fault.RanOut) = out ≡ Stuck (lexemes_from list (length list))
-Follows view out list (Err (fault.TooMany w most)) = (most ≡ limit w) × (k : ℕ) × (k < length list) × (out ≡ Over w (lexemes_from list k))
+Follows view out list (Err (fault.Syntax at)) = (k : ℕ) × (k < length list) × (at ≡ place list k) × (m : ℕ) × (out ≡ Stuck m (lexemes_from list k))
+Follows view out list (Err fault.RanOut) = (m : ℕ) × (out ≡ Stuck m (lexemes_from list (length list)))
+Follows view out list (Err (fault.TooMany w most)) = (most ≡ limit w) × (k : ℕ) × (k < length list) × (m : ℕ) × (out ≡ Over w m (lexemes_from list k))
 
 -- the fault of a stop before so many tokens that are left
 abbrev pub FaultAt : Stop → List Token → ℕ → ParseFault → Type 0

@@ -1,5 +1,5 @@
--- What is counted at each token of an expression or a condition, and at which token a count first passes its limit.
-use Rattle.std.specs.Prelude.{◌≡◌, ℕ, suc, ◌+◌, ◌<◌, if◌then◌else◌, nat_lt, List, [], ◌∷◌, max, length, map, take, get_or, Option, Some, None}
+-- What is counted at each token of an expression or a condition, and which count passes its limit there.
+use Rattle.std.specs.Prelude.{◌≡◌, ℕ, ◌+◌, if◌then◌else◌, nat_lt, List, [], ◌∷◌, max, length, map, Option, Some, None}
 use Rattle.prima_base.specs.declared.refusals.What.{What}
 use Rattle.prima_base.specs.declared.refusals.What.TheVariants as what
 use Rattle.lexical_grammar.specs.Lexemes.{Lexeme}
@@ -44,11 +44,3 @@ AddUp ms s f = (length ms ≡ length f) × (nodes_in ms ≡ s.nodes) × (deepest
 -- with so many nodes up to this token, and constructs that may be opened: the first of its counts that passes its limit
 abbrev pub passed_by : ℕ → ℕ → Mark → Option What
 passed_by d n m = if nat_lt 256 n then Some what.Nodes else (if nat_lt d m.depth then Some what.Depth else (if nat_lt 8 m.part then Some what.Parts else None))
-
--- the count that passes its limit at the k-th token, from 0
-abbrev pub passed_at : List Mark → ℕ → Option What
-passed_at ms k = passed_by 32 (nodes_in (take (suc k) ms)) (get_or ms k plain)
-
--- the k-th token is the first at which a count passes its limit, and it is this count
-abbrev pub FirstPassed : What → List Mark → ℕ → Type 0
-FirstPassed w ms k = (passed_at ms k ≡ Some w) × ((j : ℕ) → j < k → passed_at ms j ≡ None)

@@ -70,11 +70,11 @@ has_room n = nat_lt n 256
 
 -- ---- reading
 
--- what was read, the nodes so far and what stands behind it; or what stands from the first place on with which it does not go on; or from the one too many on
+-- what was read; or that with the next lexeme it does not go on; or that the next is one too many: each with the nodes so far, and with what stands from there on
 pub data Out (A : Type 0) : Type 0 where
   Got : A → ℕ → List Lexeme → Out A
-  Stuck : List Lexeme → Out A
-  Over : What → List Lexeme → Out A
+  Stuck : ℕ → List Lexeme → Out A
+  Over : What → ℕ → List Lexeme → Out A
 
 abbrev pub Parser : Type 0 → Type 0
 Parser A = ℕ → List Lexeme → Out A
@@ -103,8 +103,8 @@ Lawful d s = (s.depth ≤ d) × ((w : What) → s.wide w ≤ limit w)
 -- what reading says, with so many constructs that may be opened
 abbrev pub Explains : {A : Type 0} → ℕ → (List Lexeme → Out A) → (A → Size → List Lexeme → Type 0) → ℕ → List Lexeme → Out A → Type 0
 Explains d run G n ts (Got a m rest) = (front : List Lexeme) × (s : Size) × (ts ≡ front ++ rest) × G a s front × (m ≡ n + s.nodes) × (n ≤ 256 → m ≤ 256) × Lawful d s × Same run front rest (Got a m)
-Explains d run G n ts (Stuck rest) = (front : List Lexeme) × (ts ≡ front ++ rest) × CanGoOn G front × Same run front rest Stuck
-Explains d run G n ts (Over w rest) = (front : List Lexeme) × (ts ≡ front ++ rest) × Goes G front rest × Same run front rest (Over w)
+Explains d run G n ts (Stuck m rest) = (front : List Lexeme) × (ts ≡ front ++ rest) × CanGoOn G front × Same run front rest (Stuck m)
+Explains d run G n ts (Over w m rest) = (front : List Lexeme) × (ts ≡ front ++ rest) × Goes G front rest × Same run front rest (Over w m)
 
 -- a lexeme behind it that it does not go on with
 abbrev pub Stops : (Lexeme → Bool) → List Lexeme → Type 0
@@ -120,8 +120,8 @@ Exceeds w n d s = limit w < s.wide w
 -- it was read and is not too much, or it is indeed too much
 abbrev pub Fine : {A : Type 0} → ℕ → A → Size → ℕ → List Lexeme → Out A → Type 0
 Fine d a s n rest (Got b m r) = (b ≡ a) × (r ≡ rest) × (m ≡ n + s.nodes) × Lawful d s
-Fine d a s n rest (Stuck r) = ⊥
-Fine d a s n rest (Over w r) = Exceeds w n d s
+Fine d a s n rest (Stuck m r) = ⊥
+Fine d a s n rest (Over w m r) = Exceeds w n d s
 
 -- what is read is in the grammar, what is in the grammar is read, and a fault is at the first place: behind at least so many nodes, with so many constructs that may be opened
 pub record Good {A : Type 0} (low d : ℕ) (p : Parser A) (G : A → Size → List Lexeme → Type 0) (goes : Lexeme → Bool) : Type 0 where
@@ -134,8 +134,8 @@ pub record Good {A : Type 0} (low d : ℕ) (p : Parser A) (G : A → Size → Li
 -- one behind the other
 abbrev pub and_then : {A B : Type 0} → Out A → (A → Parser B) → Out B
 and_then (Got a n rest) f = f a n rest
-and_then (Stuck rest) f = Stuck rest
-and_then (Over w rest) f = Over w rest
+and_then (Stuck n rest) f = Stuck n rest
+and_then (Over w n rest) f = Over w n rest
 
 abbrev pub bind : {A B : Type 0} → Parser A → (A → Parser B) → Parser B
 bind p f = λ n ts. and_then (p n ts) f
@@ -166,16 +166,16 @@ pub data Arm (A : Type 0) : Type 0 where
   Fills : What → Arm A
 
 abbrev pub arm_run : {A : Type 0} → Arm A → Lexeme → ℕ → List Lexeme → Out A
-arm_run No x n ts = Stuck (x ∷ ts)
+arm_run No x n ts = Stuck n (x ∷ ts)
 arm_run (Takes p) x n ts = p n ts
-arm_run (Counts p) x n ts = if has_room n then p (n + 1) ts else Over what.Nodes (x ∷ ts)
+arm_run (Counts p) x n ts = if has_room n then p (n + 1) ts else Over what.Nodes n (x ∷ ts)
 arm_run (Whole p) x n ts = p n (x ∷ ts)
-arm_run (Refuses w) x n ts = Over w (x ∷ ts)
-arm_run (Fills w) x n ts = if has_room n then Over w (x ∷ ts) else Over what.Nodes (x ∷ ts)
+arm_run (Refuses w) x n ts = Over w n (x ∷ ts)
+arm_run (Fills w) x n ts = if has_room n then Over w n (x ∷ ts) else Over what.Nodes n (x ∷ ts)
 
 -- by the next lexeme
 abbrev pub choose_by : {A : Type 0} → (Lexeme → Arm A) → ℕ → List Lexeme → Out A
-choose_by arm n [] = Stuck []
+choose_by arm n [] = Stuck n []
 choose_by arm n (x ∷ ts) = arm_run (arm x) x n ts
 
 abbrev pub choose : {A : Type 0} → (Lexeme → Arm A) → Parser A
@@ -236,11 +236,11 @@ many is item = λ n ts. as_many is item (length ts) n ts
 abbrev pub no_end : ℕ → Size
 no_end j = nothing_counted
 
--- with counts of its own, which begin at nothing; behind it those before it go on
+-- with counts of its own, which begin at nothing; after it, however it ends, those before it go on
 abbrev pub set_back : {A : Type 0} → ℕ → Out A → Out A
 set_back n (Got a m rest) = Got a n rest
-set_back n (Stuck rest) = Stuck rest
-set_back n (Over w rest) = Over w rest
+set_back n (Stuck m rest) = Stuck n rest
+set_back n (Over w m rest) = Over w n rest
 
 abbrev pub fresh : {A : Type 0} → Parser A → Parser A
 fresh p = λ n ts. set_back n (p 0 ts)
@@ -285,5 +285,5 @@ listG separator G = bindG G (λ a. mapG (λ l. a ∷ l) (AreMore separator no_en
 -- behind what was read before
 abbrev pub prepend : {A : Type 0} → List A → Out (List A) → Out (List A)
 prepend front (Got l n rest) = Got (front ++ l) n rest
-prepend front (Stuck rest) = Stuck rest
-prepend front (Over w rest) = Over w rest
+prepend front (Stuck n rest) = Stuck n rest
+prepend front (Over w n rest) = Over w n rest

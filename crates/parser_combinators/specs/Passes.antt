@@ -1,4 +1,4 @@
--- At which token a count passes its limit, where parts have counts of their own.
+-- At which token a count passes its limit, and which is the first of them: of one part, of which each token has its marks, and of a text whose parts have counts of their own.
 use Rattle.std.specs.Prelude.{◌≡◌, ℕ, ◌+◌, ◌<◌, ◌++◌, List, [], ◌∷◌, length, map, get_or, Option, Some, None, Result, Err}
 use Rattle.prima_base.specs.declared.refusals.What.{What}
 use Rattle.lexical_grammar.specs.declared.token.Token.{Token}

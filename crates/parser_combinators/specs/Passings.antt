@@ -15,9 +15,17 @@ Passing {A} G = (a : A) (s : Size) (f : List Lexeme) → G a s f → List (Optio
 abbrev pub none_pass : {A : Type 0} (G : A → Size → List Lexeme → Type 0) → Passing G
 none_pass G a s f h = no_passes f
 
+-- what is counted at each token of each of its texts
+abbrev pub Marking : {A : Type 0} → (A → Size → List Lexeme → Type 0) → Type 0
+Marking {A} G = (a : A) (s : Size) (f : List Lexeme) → G a s f → List Mark
+
+-- of what is counted at each token
+abbrev pub mark_pass : {A : Type 0} (G : A → Size → List Lexeme → Type 0) → Marking G → Passing G
+mark_pass G marks a s f h = passes (marks a s f h)
+
 -- with counts of its own
-abbrev pub fresh_pass : {A : Type 0} (G : A → Size → List Lexeme → Type 0) → ((a : A) (s : Size) (f : List Lexeme) → G a s f → List Mark) → Passing (freshG G)
-fresh_pass G marks a s f h = passes (marks a h.0 f h.2)
+abbrev pub fresh_pass : {A : Type 0} (G : A → Size → List Lexeme → Type 0) → Marking G → Passing (freshG G)
+fresh_pass G marks a s f h = mark_pass G marks a h.0 f h.2
 
 abbrev pub lead_pass : {A : Type 0} (x : Lexeme) (G : A → Size → List Lexeme → Type 0) → Passing G → Passing (leadG x G)
 lead_pass x G ps a s f h = None ∷ ps a s h.0 h.2

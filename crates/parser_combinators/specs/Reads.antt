@@ -16,10 +16,10 @@ sees is (x ∷ more) = is x
 
 abbrev pub Fails : {A : Type 0} → Out A → Stop → Cursor → Type 0
 Fails out stop.NoMemory new = Unit {0}
-Fails out stop.Stuck new = out ≡ Stuck (ahead new)
-Fails out (stop.TooMany w) new = out ≡ Over w (ahead new)
+Fails out stop.Stuck new = out ≡ Stuck new.nodes (ahead new)
+Fails out (stop.TooMany w) new = out ≡ Over w new.nodes (ahead new)
 
--- it was read, or failed, as reading says; want of memory is free
+-- it was read, or failed, as reading says, and so many nodes were counted; want of memory is free
 abbrev pub Reads : {A X : Type 0} → (X → A) → Out A → Result X Stop → Cursor → Type 0
 Reads view out (Ok x) new = out ≡ Got (view x) new.nodes (ahead new)
 Reads view out (Err e) new = Fails out e new

@@ -3,7 +3,8 @@
 //! `specs/Parsing.antt` has the steps of reading beside the grammars that they read, what is counted
 //! meanwhile, and `Good`: what is read is in the grammar, what is in it is read, and a fault stands at
 //! the first place. It says how a crate above makes a production. `specs/Marks.antt` has what is
-//! counted at each token, `specs/Passes.antt` and `Passings.antt` where a count passes its limit, and
+//! counted at each token, `specs/Passes.antt` which is the first at which a count passes its limit,
+//! `Passings.antt` the same by how a grammar is made of others, and
 //! `specs/Fronts.antt` how a value and what stands behind it determine each other.
 //!
 //! Code reads with a `Cursor` over tokens, whose own steps are here; `specs/Reads.antt` says what a
@@ -11,8 +12,8 @@
 //!
 //! The laws are the lemmas of `proofs/`, each for any grammar: `Parsing`, `Fresh` and `Alternatives`
 //! say which combinations are good, `ReadSteps` and `ManySteps` lead from the cursor's steps to them,
-//! `Places` to the places of tokens, and `Marked`, `Passed`, `Passing` and `AlongParts` to the first
-//! token that is too much.
+//! `Places` to the places of tokens, and `Marked`, `Passing` and `AlongParts` to the first token that
+//! is too much.
 #![tactic(auto)]
 
 mod faults;

@@ -114,7 +114,7 @@ impl<'a, 't> Cursor<'a, 't> {
     pub fn step(&mut self) -> Result<(), Stop>
         requires { 0 < length self.old.rest.now }
         ensures ok { OnOk result ((has_room self.old.nodes ≡ true) × (ahead self.new ≡ drop 1 (ahead self.old)) × (self.new.nodes ≡ self.old.nodes + 1)) }
-        ensures err { IfErr result (λ e. (e ≡ stop.TooMany what.Nodes) × (has_room self.old.nodes ≡ false) × (ahead self.new ≡ ahead self.old)) }
+        ensures err { IfErr result (λ e. (e ≡ stop.TooMany what.Nodes) × (has_room self.old.nodes ≡ false) × (ahead self.new ≡ ahead self.old) × (self.new.nodes ≡ self.old.nodes)) }
     {
         if self.nodes < MAX_NODES {
             self.nodes += 1;

@@ -8,16 +8,8 @@ ghost use Rattle.piece_texts.specs.PieceTexts.{out_text, listed_or_dash, piece_t
 use cond_expr::Expr;
 use piece_ir::Piece;
 use prima_base::{Name, NoMemory};
-use smo_parse::{write_cond, write_expr};
+use smo_parse::{put, write_cond, write_expr, write_names};
 use std::alloc::Global;
-
-// Writes these bytes behind what is there.
-fn put(text: &mut Vec<u8>, bytes: &[u8]) -> Result<(), NoMemory>
-    ensures { OnOk result (text.new.items ≡ text.old.items ++ bytes.now) }
-{
-    text.extend_from_slice(bytes)?;
-    Ok(())
-}
 
 // An output: its name, and its expression.
 fn write_out(text: &mut Vec<u8>, name: &Name, expr: &Expr) -> Result<(), NoMemory>
@@ -52,27 +44,13 @@ fn write_outs(text: &mut Vec<u8>, outs: &[(Name, Expr)]) -> Result<(), NoMemory>
     }
 }
 
-// Tables, each behind a comma.
-fn write_more_atoms(text: &mut Vec<u8>, atoms: &[Name]) -> Result<(), NoMemory>
-    ensures { OnOk result (text.new.items ≡ text.old.items ++ more_listed atoms.now) }
-{
-    for atom in atoms {
-        put(text, b", ")?;
-        put(text, atom.bytes())?;
-    }
-    Ok(())
-}
-
 // Tables with commas between them, or a dash.
 fn write_atoms(text: &mut Vec<u8>, atoms: &[Name]) -> Result<(), NoMemory>
     ensures { OnOk result (text.new.items ≡ text.old.items ++ listed_or_dash atoms.now) }
 {
     match atoms {
         [] => put(text, b"-"),
-        [first, more @ ..] => {
-            put(text, first.bytes())?;
-            write_more_atoms(text, more)
-        }
+        [_, ..] => write_names(text, atoms),
     }
 }
 

@@ -11,8 +11,9 @@ use Rattle.plain_answers.specs.Branches.{PlainBranch}
 use Rattle.piece_meaning.specs.Constants.{LawfulInTree, LawfulInTest, LawfulInOperator, LawfulInOperators, LawfulInEvolution}
 use Rattle.lexical_grammar.specs.Lexemes.{Lexeme, word, sign}
 use Rattle.parser_combinators.specs.Parsing.{Size, AreMore, so_wide}
-use Rattle.smo_parse.specs.Productions.{IsOperator, IsWhere as OperatorWhere}
-use Rattle.temporal_lang.specs.QueryGrammar.{countedG, IsOutput, IsWhere as QueryWhere, IsBranch, IsAsk}
+use Rattle.expr_grammar.specs.Where.{IsWhere, IsFreshWhere}
+use Rattle.smo_parse.specs.Productions.{IsOperator}
+use Rattle.temporal_lang.specs.QueryGrammar.{countedG, IsOutput, IsBranch, IsAsk}
 use Rattle.temporal_lang.specs.Queries.{PlainQuery}
 use Rattle.script_parse.specs.Productions.{IsOp, IsInverse, IsBody}
 use Rattle.query_exec.specs.Constants.{LawfulInBranch, LawfulInQuery}
@@ -45,7 +46,7 @@ module _ {A : Type 0} (P : A → Type 0) (sep : Lexeme) (G : A → Size → List
 
 -- ---- operators
 
-where_lawful : (c : Test) (s : Size) (ts : List Lexeme) → AllLawful ts → OperatorWhere c s ts → LawfulInTest c
+where_lawful : (c : Test) (s : Size) (ts : List Lexeme) → AllLawful ts → IsWhere false c s ts → LawfulInTest c
 where_lawful c s ts l (inl h) = subst LawfulInTest (sym h.0) tt
 where_lawful c s ts l (inr h) = cond_lawful false c s h.0 (led _ ts h.0 l h.1) h.2
 
@@ -121,7 +122,7 @@ body_lawful b s ts l (inr h) = subst LawfulInEvolution (sym h.1) tt
 output_lawful : (t : Tree) (s : Size) (ts : List Lexeme) → AllLawful ts → IsOutput t s ts → LawfulInTree t
 output_lawful t s ts l h = expr_lawful true t h.0 ts l h.2
 
-condition_lawful : (c : Test) (s : Size) (ts : List Lexeme) → AllLawful ts → QueryWhere c s ts → LawfulInTest c
+condition_lawful : (c : Test) (s : Size) (ts : List Lexeme) → AllLawful ts → IsFreshWhere true c s ts → LawfulInTest c
 condition_lawful c s ts l (inl h) = subst LawfulInTest (sym h.0) tt
 condition_lawful c s ts l (inr h) = cond_lawful true c h.2.0 h.0 (led _ ts h.0 l h.1) h.2.2
 

@@ -12,9 +12,11 @@ use Rattle.parser_combinators.proofs.Parsing.{good_iff, good_goes, bind_good, bi
 use Rattle.lexical_grammar.proofs.LexemeTests.{word_is, word_exact, sign_is, sign_exact}
 use Rattle.expr_grammar.proofs.Singles.{name_good, names_good, constant_good}
 use Rattle.expr_grammar.proofs.Goodness.{fresh_expr_good, fresh_cond_good}
+use Rattle.expr_grammar.specs.Where.{IsFreshWhere, fresh_where, goes_where}
+use Rattle.expr_grammar.proofs.Where.{fresh_where_good}
 use Rattle.parser_combinators.proofs.Alternatives.{stops_never, or_left, or_right, stops_fewer, NotFirst, NotNone, lead_not_none, lead_not_first, either_not_none, either_not_first, list_good, last_arm, first_arm}
-use Rattle.script_parse.specs.Productions.{IsWhere, AreSoMany, IsRow, IsInsert, IsDelete, IsSetting, IsUpdate, IsChange}
-use Rattle.script_parse.specs.StatementReader.{where_part, more_constants, constants, row, insert_rest, delete_rest, setting, settings, update_rest, change_arm, change, changes, goes_where, goes_settings, goes_change, goes_changes}
+use Rattle.script_parse.specs.Productions.{AreSoMany, IsRow, IsInsert, IsDelete, IsSetting, IsUpdate, IsChange}
+use Rattle.script_parse.specs.StatementReader.{more_constants, constants, row, insert_rest, delete_rest, setting, settings, update_rest, change_arm, change, changes, goes_settings, goes_change, goes_changes}
 
 -- goes on with nothing
 abbrev pub ends : Lexeme → Bool
@@ -31,17 +33,6 @@ sign_good w p G goes g = lead_good (is_sign w) (sign w) (sign_is w) (sign_exact 
 pub single_then : {A B : Type 0} (p : Parser A) (f : A → Parser B) (G : A → Size → List Lexeme → Type 0) (H : A → B → Size → List Lexeme → Type 0) (goes : Lexeme → Bool) →
     Good 0 32 p G ends → ((a : A) → Good 0 32 (f a) (H a) goes) → Good 0 32 (bind p f) (bindG G H) goes
 single_then p f G H goes g h = bind_good 0 32 p f G H ends goes g h (λ a b s ts rest k stops. stops_never (ts ++ rest))
-
--- ---- WHERE
-
-cond_where : (x : Lexeme) → goes_where x ≡ false → goes_cond false x ≡ false
-cond_where x h = or_right (is_word (codes "WHERE") x) (goes_cond false x) h
-
-where_good : Good 0 32 where_part IsWhere goes_where
-unfolding where_part
-where_good = option_takes_good (is_word (codes "WHERE")) (word (codes "WHERE")) (word_is (codes "WHERE")) (word_exact (codes "WHERE")) 0 32 (fresh (outermost false).cond) always (freshG (IsCond false)) goes_where
-    (λ x e. ap (λ b. b || goes_cond false x) e)
-    (good_goes 0 32 (fresh (outermost false).cond) (freshG (IsCond false)) (goes_cond false) goes_where cond_where (fresh_cond_good false 0))
 
 -- ---- VALUES
 
@@ -110,24 +101,24 @@ row_good ns goes = sign_good (codes "(") _ _ goes (bind_lead 0 32 (constants (le
 
 -- ---- changes
 
-pub where_change : (x : Lexeme) → goes_change x ≡ false → goes_where x ≡ false
-where_change x h = or_right (goes_settings x) (goes_where x) h
+pub where_change : (x : Lexeme) → goes_change x ≡ false → goes_where false x ≡ false
+where_change x h = or_right (goes_settings x) (goes_where false x) h
 
-where_then : Good 0 32 where_part IsWhere goes_change
-where_then = good_goes 0 32 where_part IsWhere goes_where goes_change where_change where_good
+where_then : Good 0 32 (fresh_where false) (IsFreshWhere false) goes_change
+where_then = good_goes 0 32 (fresh_where false) (IsFreshWhere false) (goes_where false) goes_change where_change (fresh_where_good false)
 
 pub settings_change : (x : Lexeme) → goes_change x ≡ false → goes_settings x ≡ false
-settings_change x h = or_left (goes_settings x) (goes_where x) h
+settings_change x h = or_left (goes_settings x) (goes_where false x) h
 
 -- behind INSERT, DELETE and UPDATE
 abbrev InsertRest : PlainChange → Size → List Lexeme → Type 0
 InsertRest = leadG (word (codes "INTO")) (bindG nameG (λ t. leadG (sign (codes "(")) (bindG namesG (λ ns. leadG (sign (codes ")")) (leadG (word (codes "VALUES")) (mapG (λ l. insertion t l) (IsRow ns)))))))
 
 abbrev DeleteRest : PlainChange → Size → List Lexeme → Type 0
-DeleteRest = leadG (word (codes "FROM")) (bindG nameG (λ t. mapG (λ c. deletion t c) IsWhere))
+DeleteRest = leadG (word (codes "FROM")) (bindG nameG (λ t. mapG (λ c. deletion t c) (IsFreshWhere false)))
 
 abbrev UpdateRest : PlainChange → Size → List Lexeme → Type 0
-UpdateRest = bindG nameG (λ t. leadG (word (codes "SET")) (bindG (listG (sign (codes ",")) IsSetting) (λ l. mapG (λ c. update t l c) IsWhere)))
+UpdateRest = bindG nameG (λ t. leadG (word (codes "SET")) (bindG (listG (sign (codes ",")) IsSetting) (λ l. mapG (λ c. update t l c) (IsFreshWhere false))))
 
 insert_good : Good 0 32 insert_rest InsertRest goes_change
 unfolding insert_rest
@@ -137,7 +128,7 @@ insert_good = word_good (codes "INTO") _ _ goes_change (single_then name _ nameG
 
 delete_good : Good 0 32 delete_rest DeleteRest goes_change
 unfolding delete_rest
-delete_good = word_good (codes "FROM") _ _ goes_change (single_then name _ nameG _ goes_change (name_good 0 32 ends) (λ t. map_good 0 32 (λ c. deletion t c) where_part IsWhere goes_change where_then))
+delete_good = word_good (codes "FROM") _ _ goes_change (single_then name _ nameG _ goes_change (name_good 0 32 ends) (λ t. map_good 0 32 (λ c. deletion t c) (fresh_where false) (IsFreshWhere false) goes_change where_then))
 
 pub setting_good : Good 0 32 setting IsSetting (goes_expr false)
 unfolding setting
@@ -148,15 +139,15 @@ unfolding settings
 settings_good = list_good (is_sign (codes ",")) (sign (codes ",")) (sign_is (codes ",")) (sign_exact (codes ",")) 32 setting IsSetting (goes_expr false) setting_good refl
 
 -- a WHERE, or what no change goes on with
-pub where_side : (c : Test) (s : Size) (ts rest : List Lexeme) → IsWhere c s ts → Stops goes_change rest → Stops goes_settings (ts ++ rest)
+pub where_side : (c : Test) (s : Size) (ts rest : List Lexeme) → IsFreshWhere false c s ts → Stops goes_change rest → Stops goes_settings (ts ++ rest)
 where_side c s ts rest (inl k) stops = let P : List Lexeme → Type 0 = λ u. Stops goes_settings (u ++ rest) in subst P (sym k.2) (stops_fewer goes_settings goes_change settings_change rest stops)
 where_side c s ts rest (inr k) stops = let P : List Lexeme → Type 0 = λ u. Stops goes_settings (u ++ rest) in subst P (sym k.1) refl
 
 update_good : Good 0 32 update_rest UpdateRest goes_change
 unfolding update_rest
 update_good = single_then name _ nameG _ goes_change (name_good 0 32 ends) (λ t. word_good (codes "SET") _ _ goes_change
-    (bind_good 0 32 settings (λ l. map_to (λ c. update t l c) where_part) (listG (sign (codes ",")) IsSetting) (λ l. mapG (λ c. update t l c) IsWhere) goes_settings goes_change settings_good
-    (λ l. map_good 0 32 (λ c. update t l c) where_part IsWhere goes_change where_then)
+    (bind_good 0 32 settings (λ l. map_to (λ c. update t l c) (fresh_where false)) (listG (sign (codes ",")) IsSetting) (λ l. mapG (λ c. update t l c) (IsFreshWhere false)) goes_settings goes_change settings_good
+    (λ l. map_good 0 32 (λ c. update t l c) (fresh_where false) (IsFreshWhere false) goes_change where_then)
     (λ l c s ts rest h stops. where_side h.0 s ts rest h.2 stops)))
 
 -- no change is without a lexeme

@@ -16,7 +16,7 @@ unfolding more_constants
 step zero n ts h e = absurd (omega arith)
 step (suc k) n ts h e = lead_seen (is_sign (codes ",")) (bind constant (λ v. map_to (λ l. v ∷ l) (more_constants k))) n ts e ∙ ap (λ j. and_then (constant n (drop 1 ts)) (λ v. map_to (λ l. v ∷ l) (more_constants j))) (omega arith)
 
-not : (k n : ℕ) (ts : List Lexeme) → 0 < k → sees (is_sign (codes ",")) ts ≡ false → more_constants k n ts ≡ Stuck ts
+not : (k n : ℕ) (ts : List Lexeme) → 0 < k → sees (is_sign (codes ",")) ts ≡ false → more_constants k n ts ≡ Stuck n ts
 unfolding more_constants
 not zero n ts h e = absurd (omega arith)
 not (suc k) n ts h e = lead_not (is_sign (codes ",")) (bind constant (λ v. map_to (λ l. v ∷ l) (more_constants k))) n ts e
@@ -36,7 +36,7 @@ module _ (o : Out (List Value)) (done : List Value) (k n : ℕ) (ts : List Lexem
   pub constants_next : (v : Value) (m : ℕ) (r : List Lexeme) → 0 < k → sees (is_sign (codes ",")) ts ≡ true → constant n (drop 1 ts) ≡ Got v m r → o ≡ prepend (done ++ v ∷ []) (more_constants (k - 1) m r)
   constants_next v m r h e i = so_far ∙ ap (prepend done) (step k n ts h e ∙ ap (λ z. and_then z (λ v. map_to (λ l. v ∷ l) (more_constants (k - 1)))) i ∙ as_prepend v (more_constants (k - 1) m r)) ∙ prepend_twice done (v ∷ []) (more_constants (k - 1) m r)
 
-  pub constants_stuck : 0 < k → sees (is_sign (codes ",")) ts ≡ false → o ≡ Stuck ts
+  pub constants_stuck : 0 < k → sees (is_sign (codes ",")) ts ≡ false → o ≡ Stuck n ts
   constants_stuck h e = so_far ∙ ap (prepend done) (not k n ts h e)
 
   pub constants_err : (e : Stop) (cur : Cursor) → 0 < k → sees (is_sign (codes ",")) ts ≡ true → Fails (constant n (drop 1 ts)) e cur → Fails o e cur

@@ -76,11 +76,11 @@ module _ {A : Type 0} (p : Parser A) (G : A → Size → List Lexeme → Type 0)
       let P : List Lexeme → Type 0 = λ l. G a h.1 l in
       first h.0 x rest h.2 ([], a, h.1, subst P (sym (append-nil h.0)) h.3) (Got a m) (λ b s l f. let z : x ∷ l ≡ [] = f.1 in cc) h.7
 
-  pub stuck_first : (x : Lexeme) (rest : List Lexeme) → p 0 ts ≡ Stuck (x ∷ rest) → IsFirst G ts (length ts - length (x ∷ rest))
-  stuck_first x rest e = let h = explained (Stuck (x ∷ rest)) e in first h.0 x rest h.1 h.2 Stuck (λ b s l f. f) h.3
+  pub stuck_first : (c : ℕ) (x : Lexeme) (rest : List Lexeme) → p 0 ts ≡ Stuck c (x ∷ rest) → IsFirst G ts (length ts - length (x ∷ rest))
+  stuck_first c x rest e = let h = explained (Stuck c (x ∷ rest)) e in first h.0 x rest h.1 h.2 (Stuck c) (λ b s l f. f) h.3
 
-  pub stuck_out : p 0 ts ≡ Stuck [] → CanGoOn G ts × ((a : A) (s : Size) → G a s ts → ⊥)
-  stuck_out e =
-      let h = explained (Stuck []) e in
+  pub stuck_out : (c : ℕ) → p 0 ts ≡ Stuck c [] → CanGoOn G ts × ((a : A) (s : Size) → G a s ts → ⊥)
+  stuck_out c e =
+      let h = explained (Stuck c []) e in
       let P : List Lexeme → Type 0 = λ l. CanGoOn G l in
-      (subst P (sym (h.1 ∙ append-nil h.0)) h.2, λ a s g. fine (Stuck []) e a s g)
+      (subst P (sym (h.1 ∙ append-nil h.0)) h.2, λ a s g. fine (Stuck c []) e a s g)

@@ -9,7 +9,7 @@ use Rattle.lexical_grammar.specs.Lexemes.{Lexeme}
 use Rattle.parser_combinators.specs.Parsing.{Size, Out, Got, Stuck, Over, CanGoOn, limit}
 use Rattle.parser_combinators.specs.Found.{IsFirst}
 use Rattle.lexical_grammar.proofs.Cases.{by_test}
-use Rattle.parser_combinators.proofs.Passing.{over_at}
+use Rattle.parser_combinators.proofs.Passing.{back_reads, over_at}
 use Rattle.script_parse.specs.Statements.{PlainStatement}
 use Rattle.script_parse.specs.Lexing.{Placed, Lexed, Tokens, Faulty, lexed, saying}
 use Rattle.script_parse.specs.Productions.{IsStatement}
@@ -62,8 +62,8 @@ module _ (tokens : List Placed) (end : ℕ) (none : (w : What) → IsTooMuch w t
   abbrev all : List Lexeme
   all = saying tokens
 
-  not_over : (w : What) (rest : List Lexeme) → statement 0 all ≡ Over w rest → ⊥
-  not_over w rest e = none w (over_at statement IsStatement goes_statement statement_good statement_passes statement_reads statement_sized all w rest e)
+  not_over : (w : What) (c : ℕ) (rest : List Lexeme) → statement 0 all ≡ Over w c rest → ⊥
+  not_over w c rest e = none w (over_at statement IsStatement goes_statement statement_good statement_passes (back_reads statement IsStatement statement_passes statement_reads) statement_sized all w c rest e)
 
   same_place : (at left : ℕ) → IsWrongAt tokens at → IsFirst IsStatement all (length all - left) → Refused (refusal.Syntax (place_before tokens left end)) ≡ Refused (refusal.Syntax at)
   same_place at left h first =
@@ -74,16 +74,16 @@ module _ (tokens : List Placed) (end : ℕ) (none : (w : What) → IsTooMuch w t
   is_wrong : (at : ℕ) → IsWrongAt tokens at → (o : Out PlainStatement) → statement 0 all ≡ o → answered tokens end o ≡ Refused (refusal.Syntax at)
   is_wrong at h (Got s m []) e = let k = got_all statement IsStatement goes_statement statement_good all s m e in absurd (not_all IsStatement all h.0 h.2 (is_all IsStatement all s k.0 k.1))
   is_wrong at h (Got s m (x ∷ rest)) e = same_place at (length (x ∷ rest)) h (got_first statement IsStatement goes_statement statement_good all s m x rest e)
-  is_wrong at h (Stuck []) e = let k = stuck_out statement IsStatement goes_statement statement_good all e in absurd (not_all IsStatement all h.0 h.2 k.0)
-  is_wrong at h (Stuck (x ∷ rest)) e = same_place at (length (x ∷ rest)) h (stuck_first statement IsStatement goes_statement statement_good all x rest e)
-  is_wrong at h (Over w rest) e = absurd (not_over w rest e)
+  is_wrong at h (Stuck c []) e = let k = stuck_out statement IsStatement goes_statement statement_good all c e in absurd (not_all IsStatement all h.0 h.2 k.0)
+  is_wrong at h (Stuck c (x ∷ rest)) e = same_place at (length (x ∷ rest)) h (stuck_first statement IsStatement goes_statement statement_good all c x rest e)
+  is_wrong at h (Over w c rest) e = absurd (not_over w c rest e)
 
   is_unfinished : CanGoOn IsStatement all → ((s : PlainStatement) (size : Size) → IsStatement s size all → ⊥) → (o : Out PlainStatement) → statement 0 all ≡ o → answered tokens end o ≡ Refused (refusal.Syntax end)
   is_unfinished can never (Got s m []) e = let k = got_all statement IsStatement goes_statement statement_good all s m e in absurd (never s k.0 k.1)
   is_unfinished can never (Got s m (x ∷ rest)) e = absurd (not_all IsStatement all (length all - length (x ∷ rest)) (got_first statement IsStatement goes_statement statement_good all s m x rest e) can)
-  is_unfinished can never (Stuck []) e = ap (λ p. Refused (refusal.Syntax p)) (at_end tokens end)
-  is_unfinished can never (Stuck (x ∷ rest)) e = absurd (not_all IsStatement all (length all - length (x ∷ rest)) (stuck_first statement IsStatement goes_statement statement_good all x rest e) can)
-  is_unfinished can never (Over w rest) e = absurd (not_over w rest e)
+  is_unfinished can never (Stuck c []) e = ap (λ p. Refused (refusal.Syntax p)) (at_end tokens end)
+  is_unfinished can never (Stuck c (x ∷ rest)) e = absurd (not_all IsStatement all (length all - length (x ∷ rest)) (stuck_first statement IsStatement goes_statement statement_good all c x rest e) can)
+  is_unfinished can never (Over w c rest) e = absurd (not_over w c rest e)
 
 -- some token is wrong, or a statement goes on with them all, so there is one
 wrong_read : (tokens : List Placed) (end at : ℕ) → ((w : What) → IsTooMuch w tokens → ⊥) → IsWrongAt tokens at → read_as end (Tokens tokens) ≡ Refused (refusal.Syntax at)

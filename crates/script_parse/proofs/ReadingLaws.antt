@@ -4,7 +4,7 @@ use Rattle.prima_base.specs.declared.refusals.What.{What}
 use Rattle.lexical_grammar.specs.Lexemes.{Lexeme}
 use Rattle.parser_combinators.specs.Parsing.{Size, Out, Got, Stuck, Over, Fine}
 use Rattle.parser_combinators.specs.Found.{IsFirst}
-use Rattle.parser_combinators.proofs.Passing.{over_at, passing_is_over}
+use Rattle.parser_combinators.proofs.Passing.{back_reads, over_at, passing_is_over}
 use Rattle.script_parse.specs.Statements.{PlainStatement}
 use Rattle.script_parse.specs.Lexing.{Placed, Lexed, Tokens, Faulty, lexed, saying}
 use Rattle.script_parse.specs.Productions.{IsStatement}
@@ -44,7 +44,7 @@ wrong_at tokens end left h =
 
 -- ---- what is too much is refused there
 
-pub too_much : (tokens : List Placed) (w : What) → IsTooMuch w tokens → (rest : List Lexeme) × (statement 0 (saying tokens) ≡ Over w rest)
+pub too_much : (tokens : List Placed) (w : What) → IsTooMuch w tokens → (rest : List Lexeme) × (c : ℕ) × (statement 0 (saying tokens) ≡ Over w c rest)
 too_much tokens w h =
     let all = saying tokens in
     let front = h.0 in
@@ -52,7 +52,7 @@ too_much tokens w h =
     let can = h.4.0 in
     let P : List Lexeme → Type 0 = λ l. IsStatement can.1 can.2 l in
     let g : IsStatement can.1 can.2 (front ++ x ∷ can.0) = subst P (append_assoc front (x ∷ []) can.0) can.3 in
-    (x ∷ h.2, passing_is_over statement IsStatement goes_statement statement_good statement_passes statement_reads statement_sized all w front x h.2 h.3 can.0 can.1 can.2 g (h.4.1 can.0 can.1 can.2 g))
+    (x ∷ h.2, passing_is_over statement IsStatement goes_statement statement_good statement_passes (back_reads statement IsStatement statement_passes statement_reads) statement_sized all w front x h.2 h.3 can.0 can.1 can.2 g (h.4.1 can.0 can.1 can.2 g))
 
 -- ---- readings are of the grammar
 
@@ -61,17 +61,17 @@ module _ (text : List ℕ) (t : Placed) (others : List Placed) (l : lexed text �
   tokens = t ∷ others
 
   got_none : (s : PlainStatement) (m : ℕ) (rest : List Lexeme) → statement 0 (saying tokens) ≡ Got s m rest → (w : What) → IsTooMuch w tokens → ⊥
-  got_none s m rest e w h = let k = too_much tokens w h in let z : Got s m rest ≡ Over w k.0 = sym e ∙ k.1 in cc
+  got_none s m rest e w h = let k = too_much tokens w h in let z : Got s m rest ≡ Over w k.1 k.0 = sym e ∙ k.2 in cc
 
-  stuck_none : (rest : List Lexeme) → statement 0 (saying tokens) ≡ Stuck rest → (w : What) → IsTooMuch w tokens → ⊥
-  stuck_none rest e w h = let k = too_much tokens w h in let z : ◌≡◌ {A = Out PlainStatement} (Stuck rest) (Over w k.0) = sym e ∙ k.1 in cc
+  stuck_none : (c : ℕ) (rest : List Lexeme) → statement 0 (saying tokens) ≡ Stuck c rest → (w : What) → IsTooMuch w tokens → ⊥
+  stuck_none c rest e w h = let k = too_much tokens w h in let z : ◌≡◌ {A = Out PlainStatement} (Stuck c rest) (Over w k.1 k.0) = sym e ∙ k.2 in cc
 
   by_out : (o : Out PlainStatement) → statement 0 (saying tokens) ≡ o → IsReading text (answered tokens (length text) o)
   by_out (Got s m []) e = let k = got_all statement IsStatement goes_statement statement_good (saying tokens) s m e in (tokens, l, k.0, k.1, k.2)
   by_out (Got s m (x ∷ rest)) e = inr (tokens, l, inl (wrong_at tokens (length text) (length (x ∷ rest)) (got_first statement IsStatement goes_statement statement_good (saying tokens) s m x rest e)), got_none s m (x ∷ rest) e)
-  by_out (Stuck []) e = inr (tokens, l, inr (at_end tokens (length text), stuck_out statement IsStatement goes_statement statement_good (saying tokens) e), stuck_none [] e)
-  by_out (Stuck (x ∷ rest)) e = inr (tokens, l, inl (wrong_at tokens (length text) (length (x ∷ rest)) (stuck_first statement IsStatement goes_statement statement_good (saying tokens) x rest e)), stuck_none (x ∷ rest) e)
-  by_out (Over w rest) e = (refl, tokens, l, over_at statement IsStatement goes_statement statement_good statement_passes statement_reads statement_sized (saying tokens) w rest e)
+  by_out (Stuck c []) e = inr (tokens, l, inr (at_end tokens (length text), stuck_out statement IsStatement goes_statement statement_good (saying tokens) c e), stuck_none c [] e)
+  by_out (Stuck c (x ∷ rest)) e = inr (tokens, l, inl (wrong_at tokens (length text) (length (x ∷ rest)) (stuck_first statement IsStatement goes_statement statement_good (saying tokens) c x rest e)), stuck_none c (x ∷ rest) e)
+  by_out (Over w c rest) e = (refl, tokens, l, over_at statement IsStatement goes_statement statement_good statement_passes (back_reads statement IsStatement statement_passes statement_reads) statement_sized (saying tokens) w c rest e)
 
 by_lexed : (text : List ℕ) (l : Lexed) → lexed text ≡ l → IsReading text (read_as (length text) l)
 by_lexed text (Faulty at) e = inl e
@@ -96,8 +96,8 @@ module _ (t : Placed) (others : List Placed) (end : ℕ) (s : PlainStatement) (s
     where
       few : size.nodes ≤ 256
       few = let x = explained statement IsStatement goes_statement statement_good (saying all) (Got b m r) e in omega (arith, f.2, x.5 (omega arith))
-  by_fine (Stuck r) e f = absurd f
-  by_fine (Over w r) e f = (λ h. absurd (within_none w size h f), λ h. (w, f, refl))
+  by_fine (Stuck c r) e f = absurd f
+  by_fine (Over w c r) e f = (λ h. absurd (within_none w size h f), λ h. (w, f, refl))
 
 pub are_read : StatementsAreRead
 unfolding reading
@@ -117,7 +117,7 @@ pub are_kept : LimitsAreKept
 unfolding reading
 are_kept text w [] front rest more x s size h l e f = absurd (no_front front x rest e)
 are_kept text w (t ∷ others) front rest more x s size h l e f =
-    let over = passing_is_over statement IsStatement goes_statement statement_good statement_passes statement_reads statement_sized (saying (t ∷ others)) w front x rest e more s size h f in
+    let over = passing_is_over statement IsStatement goes_statement statement_good statement_passes (back_reads statement IsStatement statement_passes statement_reads) statement_sized (saying (t ∷ others)) w front x rest e more s size h f in
     let P : Lexed → Type 0 = λ u. IsOver w (read_as (length text) u) in
     let Q : Out PlainStatement → Type 0 = λ o. IsOver w (answered (t ∷ others) (length text) o) in
-    subst P (sym l) (subst Q (sym over) refl)
+    subst P (sym l) (subst Q (sym over.1) refl)

@@ -20,6 +20,8 @@ use Rattle.expr_grammar.proofs.Goodness.{outermost_good}
 use Rattle.parser_combinators.proofs.Alternatives.{stops_never, or_left, or_right, list_not_none, list_not_first}
 use Rattle.expr_grammar.proofs.MarkSizes.{expr_length, cond_length}
 use Rattle.expr_grammar.proofs.MarksJoined.{expr_marked, cond_marked}
+use Rattle.expr_grammar.specs.Where.{IsFreshWhere, fresh_where, goes_where, where_passes}
+use Rattle.expr_grammar.proofs.Where.{fresh_where_along}
 use Rattle.parser_combinators.proofs.Passing.{by_passes}
 use Rattle.parser_combinators.proofs.AlongParts.{GoesAlong, Light, stops_along, lead_goes, behind_goes, map_goes, bind_goes, option_goes, none_light, pure_light, single_light, lead_light, map_light, bind_light, list_light, light_along, light_goes, fresh_goes, list_goes, counted_goes}
 use Rattle.smo_parse.specs.Productions.{IsOperator}
@@ -32,29 +34,20 @@ use Rattle.temporal_lang.specs.QueryReader as query
 use Rattle.temporal_lang.specs.QueryPasses.{ask_passes}
 use Rattle.temporal_lang.proofs.QueryAlong.{ask_along}
 use Rattle.script_parse.specs.Statements.{PlainStatement, write, ask, explain}
-use Rattle.script_parse.specs.Productions.{IsWhere, AreSoMany, IsRow, IsInsert, IsSetting, IsChange, IsOp, AreOps, IsInverse, AreChanges, IsBody, IsShowVersions, IsShowSchema, IsShowSizes, IsCheckpoint, IsStatement}
-use Rattle.script_parse.specs.StatementReader.{where_part, setting, settings, delete_rest, update_rest, change, changes, op, ops, inverse, evolve_rest, body, write_rest, ask_rest, explain_rest, statement, goes_where, goes_settings, goes_change, goes_changes, goes_ops, goes_evolve, goes_body, goes_statement}
-use Rattle.script_parse.specs.StatementPasses.{where_passes, setting_passes, change_passes, changes_passes, op_passes, ops_passes, inverse_passes, body_passes, statement_passes}
+use Rattle.script_parse.specs.Productions.{AreSoMany, IsRow, IsInsert, IsSetting, IsChange, IsOp, AreOps, IsInverse, AreChanges, IsBody, IsShowVersions, IsShowSchema, IsShowSizes, IsCheckpoint, IsStatement}
+use Rattle.script_parse.specs.StatementReader.{setting, settings, delete_rest, update_rest, change, changes, op, ops, inverse, evolve_rest, body, write_rest, ask_rest, explain_rest, statement, goes_settings, goes_change, goes_changes, goes_ops, goes_evolve, goes_body, goes_statement}
+use Rattle.script_parse.specs.StatementPasses.{setting_passes, change_passes, changes_passes, op_passes, ops_passes, inverse_passes, body_passes, statement_passes}
 use Rattle.script_parse.proofs.BodySteps.{body_evolves, body_changes}
 use Rattle.script_parse.proofs.ChangeGoodness.{ends, setting_good, change_good, change_not_none, change_not_first, where_change, where_side}
 use Rattle.script_parse.proofs.StatementGoodness.{op_good, fewer_ops, fewer_evolve, fewer_changes, fewer_body, fewer_ask, inverse_side, statement_good}
 
 -- ---- changes
 
-cond_along : GoesAlong (fresh (outermost false).cond) (freshG (IsCond false)) (goes_cond false) (fresh_pass (IsCond false) (cond_marks false))
-cond_along = fresh_goes (outermost false).cond (IsCond false) (goes_cond false) (outermost_good false).cond (cond_marks false) (cond_length false) (cond_marked false)
-
 expr_along : GoesAlong (fresh (outermost false).expr) (freshG (IsExpr false)) (goes_expr false) (fresh_pass (IsExpr false) (expr_marks false))
 expr_along = fresh_goes (outermost false).expr (IsExpr false) (goes_expr false) (outermost_good false).expr (expr_marks false) (expr_length false) (expr_marked false)
 
-where_along : GoesAlong where_part IsWhere goes_where where_passes
-unfolding where_part
-where_along = option_goes (is_word (codes "WHERE")) (word (codes "WHERE")) (word_is (codes "WHERE")) (fresh (outermost false).cond) always (freshG (IsCond false)) goes_where
-    (λ x h. or_left (is_word (codes "WHERE") x) (goes_cond false x) h) (fresh_pass (IsCond false) (cond_marks false))
-    (stops_along (fresh (outermost false).cond) (freshG (IsCond false)) (goes_cond false) goes_where (fresh_pass (IsCond false) (cond_marks false)) (λ x h. or_right (is_word (codes "WHERE") x) (goes_cond false x) h) cond_along)
-
-where_then : GoesAlong where_part IsWhere goes_change where_passes
-where_then = stops_along where_part IsWhere goes_where goes_change where_passes where_change where_along
+where_then : GoesAlong (fresh_where false) (IsFreshWhere false) goes_change (where_passes false)
+where_then = stops_along (fresh_where false) (IsFreshWhere false) (goes_where false) goes_change (where_passes false) where_change (fresh_where_along false)
 
 name_along : GoesAlong name nameG ends (none_pass nameG)
 name_along = light_goes name nameG ends (name_good 0 32 ends) (single_light as_name)
@@ -70,23 +63,23 @@ unfolding settings
 settings_along = list_goes (is_sign (codes ",")) (sign (codes ",")) (sign_is (codes ",")) (sign_exact (codes ",")) setting IsSetting (goes_expr false) setting_good refl setting_passes setting_along
 
 -- behind DELETE and UPDATE
-delete_along : GoesAlong delete_rest (leadG (word (codes "FROM")) (bindG nameG (λ t. mapG (λ c. deletion t c) IsWhere))) goes_change
-    (lead_pass (word (codes "FROM")) _ (bind_pass nameG (λ t. mapG (λ c. deletion t c) IsWhere) (none_pass nameG) (λ t. map_pass (λ c. deletion t c) IsWhere where_passes)))
+delete_along : GoesAlong delete_rest (leadG (word (codes "FROM")) (bindG nameG (λ t. mapG (λ c. deletion t c) (IsFreshWhere false)))) goes_change
+    (lead_pass (word (codes "FROM")) _ (bind_pass nameG (λ t. mapG (λ c. deletion t c) (IsFreshWhere false)) (none_pass nameG) (λ t. map_pass (λ c. deletion t c) (IsFreshWhere false) (where_passes false))))
 unfolding delete_rest
 delete_along = lead_goes (is_word (codes "FROM")) (word (codes "FROM")) (word_is (codes "FROM")) _ _ goes_change _ (bind_goes name _ nameG _ ends goes_change (none_pass nameG) _ name_along
-    (λ t. map_goes (λ c. deletion t c) where_part IsWhere goes_change where_passes where_then) (λ a b s ts rest h stops. stops_never (ts ++ rest)))
+    (λ t. map_goes (λ c. deletion t c) (fresh_where false) (IsFreshWhere false) goes_change (where_passes false) where_then) (λ a b s ts rest h stops. stops_never (ts ++ rest)))
 
 abbrev SetsRest : List ℕ → PlainChange → Size → List Lexeme → Type 0
-SetsRest t = bindG (listG (sign (codes ",")) IsSetting) (λ l. mapG (λ c. update t l c) IsWhere)
+SetsRest t = bindG (listG (sign (codes ",")) IsSetting) (λ l. mapG (λ c. update t l c) (IsFreshWhere false))
 
 update_along : GoesAlong update_rest (bindG nameG (λ t. leadG (word (codes "SET")) (SetsRest t))) goes_change
     (bind_pass nameG (λ t. leadG (word (codes "SET")) (SetsRest t)) (none_pass nameG)
-    (λ t. lead_pass (word (codes "SET")) (SetsRest t) (bind_pass (listG (sign (codes ",")) IsSetting) (λ l. mapG (λ c. update t l c) IsWhere) (list_pass (sign (codes ",")) IsSetting setting_passes) (λ l. map_pass (λ c. update t l c) IsWhere where_passes))))
+    (λ t. lead_pass (word (codes "SET")) (SetsRest t) (bind_pass (listG (sign (codes ",")) IsSetting) (λ l. mapG (λ c. update t l c) (IsFreshWhere false)) (list_pass (sign (codes ",")) IsSetting setting_passes) (λ l. map_pass (λ c. update t l c) (IsFreshWhere false) (where_passes false)))))
 unfolding update_rest
 update_along = bind_goes name _ nameG _ ends goes_change (none_pass nameG) _ name_along
     (λ t. lead_goes (is_word (codes "SET")) (word (codes "SET")) (word_is (codes "SET")) _ (SetsRest t) goes_change _
-    (bind_goes settings (λ l. map_to (λ c. update t l c) where_part) (listG (sign (codes ",")) IsSetting) (λ l. mapG (λ c. update t l c) IsWhere) goes_settings goes_change (list_pass (sign (codes ",")) IsSetting setting_passes) _ settings_along
-    (λ l. map_goes (λ c. update t l c) where_part IsWhere goes_change where_passes where_then)
+    (bind_goes settings (λ l. map_to (λ c. update t l c) (fresh_where false)) (listG (sign (codes ",")) IsSetting) (λ l. mapG (λ c. update t l c) (IsFreshWhere false)) goes_settings goes_change (list_pass (sign (codes ",")) IsSetting setting_passes) _ settings_along
+    (λ l. map_goes (λ c. update t l c) (fresh_where false) (IsFreshWhere false) goes_change (where_passes false) where_then)
     (λ l c s ts rest h stops. where_side h.0 s ts rest h.2 stops)))
     (λ a b s ts rest h stops. stops_never (ts ++ rest))
 
@@ -220,8 +213,8 @@ statement_along a s f (inr (inr (inr (inl (inr (inr h)))))) us stops = light_alo
 statement_along a s f (inr (inr (inr (inr h)))) us stops = light_along statement IsStatement goes_statement statement_good a s f (inr (inr (inr (inr h)))) (checkpoint_light a s f h) us stops
 
 -- a whole text
-pub statement_reads : (a : PlainStatement) (s : Size) (f : List Lexeme) (h : IsStatement a s f) → statement 0 f ≡ by_passes (statement_passes a s f h) f (Got a 0 [])
-statement_reads a s f h = let r = statement_along a s f h [] tt in ap (statement 0) (sym (append-nil f)) ∙ r.reads ∙ ap (λ l. by_passes (statement_passes a s f h) l (Got a 0 [])) (append-nil f)
+pub statement_reads : (a : PlainStatement) (s : Size) (f : List Lexeme) (h : IsStatement a s f) → statement 0 f ≡ by_passes 0 (statement_passes a s f h) f (Got a 0 [])
+statement_reads a s f h = let r = statement_along a s f h [] tt in ap (statement 0) (sym (append-nil f)) ∙ r.reads ∙ ap (λ l. by_passes 0 (statement_passes a s f h) l (Got a 0 [])) (append-nil f)
 
 pub statement_sized : (a : PlainStatement) (s : Size) (f : List Lexeme) (h : IsStatement a s f) → length (statement_passes a s f h) ≡ length f
 statement_sized a s f h = (statement_along a s f h [] tt).sized

@@ -51,9 +51,9 @@ module _ (list rest : List Token) (end : ℕ) where
       let h = explained statement IsStatement goes_statement statement_good (map lexeme list) (Got s m (map lexeme rest)) e in
       omega (arith, ap length h.2, length-append h.0 (map lexeme rest), length_map lexeme list, length_map lexeme rest)
 
-  pub stuck_fits : statement 0 (map lexeme list) ≡ Stuck (map lexeme rest) → length rest ≤ length list
-  stuck_fits e =
-      let h = explained statement IsStatement goes_statement statement_good (map lexeme list) (Stuck (map lexeme rest)) e in
+  pub stuck_fits : (c : ℕ) → statement 0 (map lexeme list) ≡ Stuck c (map lexeme rest) → length rest ≤ length list
+  stuck_fits c e =
+      let h = explained statement IsStatement goes_statement statement_good (map lexeme list) (Stuck c (map lexeme rest)) e in
       omega (arith, ap length h.1, length-append h.0 (map lexeme rest), length_map lexeme list, length_map lexeme rest)
 
   module _ (some : 0 < length list) where
@@ -65,11 +65,11 @@ module _ (list rest : List Token) (end : ℕ) where
         let k : 0 < length (map lexeme rest) = omega (arith, z, length_map lexeme rest) in
         sym (as_answered list end some ∙ ap (answered (map placed list) end) e ∙ answered_some (map placed list) end s m (map lexeme rest) k ∙ ap (λ n. Refused (Syntax (at n))) (length_map lexeme rest) ∙ ap (λ n. Refused (Syntax n)) (sym q))
 
-    pub stuck_there : statement 0 (map lexeme list) ≡ Stuck (map lexeme rest) → (p : ℕ) → p ≡ at (length rest) → Refused (Syntax p) ≡ read_as end (Tokens (map placed list))
-    stuck_there e p q = sym (as_answered list end some ∙ ap (answered (map placed list) end) e ∙ ap (λ n. Refused (Syntax (at n))) (length_map lexeme rest) ∙ ap (λ n. Refused (Syntax n)) (sym q))
+    pub stuck_there : (c : ℕ) → statement 0 (map lexeme list) ≡ Stuck c (map lexeme rest) → (p : ℕ) → p ≡ at (length rest) → Refused (Syntax p) ≡ read_as end (Tokens (map placed list))
+    stuck_there c e p q = sym (as_answered list end some ∙ ap (answered (map placed list) end) e ∙ ap (λ n. Refused (Syntax (at n))) (length_map lexeme rest) ∙ ap (λ n. Refused (Syntax n)) (sym q))
 
-    pub over_there : (w : What) → statement 0 (map lexeme list) ≡ Over w (map lexeme rest) → (most : ℕ) → most ≡ limit w → Refused (TooMany w most) ≡ read_as end (Tokens (map placed list))
-    over_there w e most q = sym (as_answered list end some ∙ ap (answered (map placed list) end) e ∙ ap (λ n. Refused (TooMany w n)) (sym q))
+    pub over_there : (w : What) (c : ℕ) → statement 0 (map lexeme list) ≡ Over w c (map lexeme rest) → (most : ℕ) → most ≡ limit w → Refused (TooMany w most) ≡ read_as end (Tokens (map placed list))
+    over_there w c e most q = sym (as_answered list end some ∙ ap (answered (map placed list) end) e ∙ ap (λ n. Refused (TooMany w n)) (sym q))
 
 -- ---- places
 

@@ -18,6 +18,7 @@ use Rattle.lexical_grammar.specs.Lexemes.{is_name}
 use Rattle.parser_combinators.specs.Parsing.{as_many, more, nodes_more}
 use Rattle.expr_grammar.specs.Constants.{name, names, small, moment, constant as const}
 use Rattle.expr_grammar.specs.Reader.{ref_rest, concat_rest, expr, comparison, bracketed, fact, facts, conj, conjs, cond, outermost}
+use Rattle.expr_grammar.specs.Where.{outer_where, fresh_where}
 use Rattle.smo_parse.specs.OperatorReader as smo
 use Rattle.temporal_lang.specs.declared.whens.When.TheVariants.{Always, AsOf, During}
 use Rattle.plain_answers.specs.Branches.{a_branch}
@@ -25,7 +26,7 @@ use Rattle.temporal_lang.specs.Queries.{PlainQuery, a_query}
 use Rattle.temporal_lang.specs.QueryReader as query
 use Rattle.script_parse.specs.Statements.{ask, explain, write, show_versions, show_schema, show_sizes, checkpoint}
 use Rattle.script_parse.specs.Lexing.{lexed_from}
-use Rattle.script_parse.specs.StatementReader.{where_part, more_constants, constants, row, insert_rest, delete_rest, setting, settings, update_rest, change, changes, op, ops, inverse, evolve_rest, body, write_rest, ask_rest, explain_rest, schema_rest, show_rest, statement}
+use Rattle.script_parse.specs.StatementReader.{more_constants, constants, row, insert_rest, delete_rest, setting, settings, update_rest, change, changes, op, ops, inverse, evolve_rest, body, write_rest, ask_rest, explain_rest, schema_rest, show_rest, statement}
 use Rattle.script_parse.specs.Reading.{Reading, Blank, Refused, Whole, reading}
 
 -- text = reading
@@ -58,7 +59,7 @@ queries :
     × Reads (codes "QUERY VERSION 4294967296 SELECT a FROM t") (Refused (Syntax 14))
     × Reads (codes "QUERY VERSION 1 SELECT FROM t") (Refused (Syntax 23))
     × Reads (codes "QUERY VERSION 1 SELECT a ") (Refused (Syntax 25))
-unfolding reading lexed_from gap_len gap_dash piece_of is_name name small more statement ask_rest query.ask query.branches query.branch query.outputs query.output query.items query.item query.alias query.where_part expr ref_rest outermost query.when_part query.as_of query.range query.during query.keeping
+unfolding reading lexed_from gap_len gap_dash piece_of is_name name small more statement ask_rest query.ask query.branches query.branch query.outputs query.output query.items query.item query.alias fresh_where expr ref_rest outermost query.when_part query.as_of query.range query.during query.keeping
 queries = (refl, refl, refl, refl, refl)
 
 -- several branches and items, and conditions of KEEP
@@ -71,12 +72,12 @@ wide_queries :
     × Reads (codes "QUERY VERSION 1 SELECT a FROM t,t,t,t,t,t,t,t,") (Refused (TooMany Tables 8))
     × Reads (codes "QUERY VERSION 1 SELECT 1,1,1,1,1,1,1,1,1,1,1,1,1,1,1,1,1,1,1,1,1,1,1,1,1,1,1,1,1,1,1,1,") (Refused (TooMany Outputs 32))
     × Reads (codes "QUERY VERSION 1 SELECT a FROM t KEEP COVERING 1 AND COVERING 1 AND COVERING 1 AND COVERING 1 AND COVERING 1 AND COVERING 1 AND COVERING 1 AND COVERING 1 AND") (Refused (TooMany Keeps 8))
-unfolding reading lexed_from gap_len gap_dash piece_of is_name name small moment more statement ask_rest query.ask query.branches query.branch query.outputs query.output query.items query.item query.alias query.where_part expr ref_rest outermost query.when_part query.as_of query.range query.during query.keeping query.keeps query.keep query.between query.covering query.bounds query.moment_or
+unfolding reading lexed_from gap_len gap_dash piece_of is_name name small moment more statement ask_rest query.ask query.branches query.branch query.outputs query.output query.items query.item query.alias fresh_where expr ref_rest outermost query.when_part query.as_of query.range query.during query.keeping query.keeps query.keep query.between query.covering query.bounds query.moment_or
 wide_queries = (refl, refl, refl, refl, refl, refl, refl)
 
 -- the UNION before a seventeenth branch
 many_branches : Reads (codes "QUERY VERSION 1 SELECT 1 FROM t UNION SELECT 1 FROM t UNION SELECT 1 FROM t UNION SELECT 1 FROM t UNION SELECT 1 FROM t UNION SELECT 1 FROM t UNION SELECT 1 FROM t UNION SELECT 1 FROM t UNION SELECT 1 FROM t UNION SELECT 1 FROM t UNION SELECT 1 FROM t UNION SELECT 1 FROM t UNION SELECT 1 FROM t UNION SELECT 1 FROM t UNION SELECT 1 FROM t UNION SELECT 1 FROM t UNION") (Refused (TooMany Branches 16))
-unfolding reading lexed_from gap_len gap_dash piece_of is_name name small more statement ask_rest query.ask query.branches query.branch query.outputs query.output query.items query.item query.alias query.where_part expr ref_rest outermost
+unfolding reading lexed_from gap_len gap_dash piece_of is_name name small more statement ask_rest query.ask query.branches query.branch query.outputs query.output query.items query.item query.alias fresh_where expr ref_rest outermost
 many_branches = refl
 
 explained :
@@ -85,7 +86,7 @@ explained :
     × Reads (codes "EXPLAIN EXPLAIN QUERY VERSION 1 SELECT a FROM t") (Refused (Syntax 8))
     × Reads (codes "EXPLAIN QUERY") (Refused (Syntax 13))
     × Reads (codes "EXPLAIN SHOW VERSIONS") (Refused (Syntax 8))
-unfolding reading lexed_from gap_len gap_dash piece_of is_name name small more statement explain_rest query.ask query.branches query.branch query.outputs query.output query.items query.item query.alias query.where_part expr ref_rest outermost query.when_part query.as_of query.range query.during query.keeping
+unfolding reading lexed_from gap_len gap_dash piece_of is_name name small more statement explain_rest query.ask query.branches query.branch query.outputs query.output query.items query.item query.alias fresh_where expr ref_rest outermost query.when_part query.as_of query.range query.during query.keeping
 explained = (refl, refl, refl, refl, refl)
 
 shown :
@@ -129,7 +130,7 @@ evolutions :
     × Reads (codes "AT 1 EVOLVE NOP INVERSE") (Refused (Syntax 23))
     × Reads (codes "AT 1 EVOLVE NOP INVERSE NOP THEN NOP THEN NOP THEN NOP THEN NOP THEN NOP THEN NOP THEN NOP THEN") (Refused (TooMany Inverse 8))
     × Reads (codes "AT 1 EVOLVE NOP INVERSE NOP THEN NOP THEN NOP THEN NOP THEN NOP THEN NOP THEN NOP THEN NOP NOP") (Refused (Syntax 91))
-unfolding reading lexed_from gap_len gap_dash piece_of is_name name moment as_many more statement write_rest body evolve_rest inverse ops op smo.operator smo.create_rest smo.columns smo.column smo.column_type smo.rename_rest smo.rename_table_rest smo.join_rest smo.where_part smo.drop_rest smo.drop_table_rest
+unfolding reading lexed_from gap_len gap_dash piece_of is_name name moment as_many more statement write_rest body evolve_rest inverse ops op smo.operator smo.create_rest smo.columns smo.column smo.column_type smo.rename_rest smo.rename_table_rest smo.join_rest outer_where smo.drop_rest smo.drop_table_rest
 evolutions = (refl, refl, refl, refl, refl, refl, refl, refl, refl)
 
 insertions :
@@ -137,7 +138,7 @@ insertions :
     × Reads (codes "AT 5 INSERT INTO t (a) VALUES (1) THEN DELETE FROM t") (at 5 (changing (insertion t ((a, number 1) ∷ []) ∷ deletion t always ∷ [])))
     × Reads (codes "AT 5 INSERT INTO t (a, b) VALUES (1)") (Refused (Syntax 35))
     × Reads (codes "AT 5 INSERT INTO t (a) VALUES (1, 2)") (Refused (Syntax 32))
-unfolding reading lexed_from gap_len gap_dash piece_of text_value quote_value text_from text_quote is_name name names moment const as_many statement write_rest body changes change insert_rest row constants more_constants delete_rest where_part
+unfolding reading lexed_from gap_len gap_dash piece_of text_value quote_value text_from text_quote is_name name names moment const as_many statement write_rest body changes change insert_rest row constants more_constants delete_rest fresh_where
 insertions = (refl, refl, refl, refl)
 
 conditions :
@@ -147,5 +148,5 @@ conditions :
     × Reads (codes "AT 5 UPDATE t SET a = t.b") (Refused (Syntax 23))
     × Reads (codes "AT 5 DELETE FROM t WHERE ((((((((((((((((((((((((((((((((( x") (Refused (TooMany Depth 32))
     × Reads (codes "AT 5 UPDATE t SET a = CONCAT(1,2,3,4,5,6,7,8,9)") (Refused (TooMany Parts 8))
-unfolding reading lexed_from gap_len gap_dash piece_of is_name name moment as_many statement write_rest body changes change delete_rest update_rest settings setting where_part ref_rest concat_rest expr comparison bracketed fact facts conj conjs cond outermost more nodes_more
+unfolding reading lexed_from gap_len gap_dash piece_of is_name name moment as_many statement write_rest body changes change delete_rest update_rest settings setting fresh_where ref_rest concat_rest expr comparison bracketed fact facts conj conjs cond outermost more nodes_more
 conditions = (refl, refl, refl, refl, refl, refl)

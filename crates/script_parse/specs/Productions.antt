@@ -11,15 +11,12 @@ use Rattle.lexical_grammar.specs.Lexemes.{word, sign}
 use Rattle.parser_combinators.specs.Parsing.{Grammar, AreMore, so_wide, nothing_counted, bindG, pureG, leadG, mapG, optionG, freshG, eitherG, listG}
 use Rattle.expr_grammar.specs.Grammar.{IsExpr, IsCond}
 use Rattle.expr_grammar.specs.Constants.{nameG, namesG, momentG, smallG, constantG}
+use Rattle.expr_grammar.specs.Where.{IsFreshWhere}
 use Rattle.smo_parse.specs.Productions.{IsOperator}
 use Rattle.temporal_lang.specs.QueryGrammar.{IsAsk}
 use Rattle.script_parse.specs.Statements.{PlainStatement, write, ask, explain, show_versions, show_schema, show_sizes, checkpoint}
 
 -- ---- changes
-
--- [ WHERE cond ]: what is missing is TRUE; the counts of a condition begin anew
-abbrev pub IsWhere : Grammar Test
-IsWhere = optionG always (word (codes "WHERE")) (freshG (IsCond false))
 
 -- const { , const } (as there is a name at least, there is a constant)
 abbrev pub AreConstants : Grammar (List Value)
@@ -41,7 +38,7 @@ IsInsert = leadG (word (codes "INSERT")) (leadG (word (codes "INTO")) (bindG nam
 
 -- DELETE FROM name [ WHERE cond ]
 abbrev pub IsDelete : Grammar PlainChange
-IsDelete = leadG (word (codes "DELETE")) (leadG (word (codes "FROM")) (bindG nameG (λ table. mapG (λ c. deletion table c) IsWhere)))
+IsDelete = leadG (word (codes "DELETE")) (leadG (word (codes "FROM")) (bindG nameG (λ table. mapG (λ c. deletion table c) (IsFreshWhere false))))
 
 -- name = expr: the counts of an expression begin anew
 abbrev pub IsSetting : Grammar (List ℕ × Tree)
@@ -49,7 +46,7 @@ IsSetting = bindG nameG (λ column. leadG (sign (codes "=")) (mapG (λ e. (colum
 
 -- UPDATE name SET name = expr { , name = expr } [ WHERE cond ]
 abbrev pub IsUpdate : Grammar PlainChange
-IsUpdate = leadG (word (codes "UPDATE")) (bindG nameG (λ table. leadG (word (codes "SET")) (bindG (listG (sign (codes ",")) IsSetting) (λ sets. mapG (λ c. update table sets c) IsWhere))))
+IsUpdate = leadG (word (codes "UPDATE")) (bindG nameG (λ table. leadG (word (codes "SET")) (bindG (listG (sign (codes ",")) IsSetting) (λ sets. mapG (λ c. update table sets c) (IsFreshWhere false)))))
 
 abbrev pub IsChange : Grammar PlainChange
 IsChange = eitherG IsInsert (eitherG IsDelete IsUpdate)

@@ -38,8 +38,8 @@ place_before tokens left end = place tokens (length tokens - left) end
 abbrev pub answered : List Placed → ℕ → Out PlainStatement → Reading
 answered tokens end (Got s n []) = Whole s
 answered tokens end (Got s n (x ∷ rest)) = Refused (Syntax (place_before tokens (length (x ∷ rest)) end))
-answered tokens end (Stuck rest) = Refused (Syntax (place_before tokens (length rest) end))
-answered tokens end (Over w rest) = Refused (TooMany w (limit w))
+answered tokens end (Stuck n rest) = Refused (Syntax (place_before tokens (length rest) end))
+answered tokens end (Over w n rest) = Refused (TooMany w (limit w))
 
 -- a lexical fault comes before all else
 abbrev pub read_as : ℕ → Lexed → Reading

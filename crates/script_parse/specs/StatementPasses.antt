@@ -10,31 +10,29 @@ use Rattle.parser_combinators.specs.Parsing.{AreMore, so_wide, bindG, leadG, map
 use Rattle.expr_grammar.specs.Grammar.{IsExpr, IsCond}
 use Rattle.expr_grammar.specs.Constants.{nameG, momentG}
 use Rattle.expr_grammar.specs.TreeMarks.{expr_marks, cond_marks}
+use Rattle.expr_grammar.specs.Where.{IsFreshWhere, where_passes}
 use Rattle.parser_combinators.specs.Passings.{Passing, none_pass, fresh_pass, lead_pass, map_pass, bind_pass, option_pass, either_pass, list_pass, counted_pass}
 use Rattle.smo_parse.specs.Productions.{IsOperator}
 use Rattle.smo_parse.specs.OperatorMarks.{operator_marks}
 use Rattle.temporal_lang.specs.QueryGrammar.{IsAsk}
 use Rattle.temporal_lang.specs.QueryPasses.{ask_passes}
 use Rattle.script_parse.specs.Statements.{write, ask, explain}
-use Rattle.script_parse.specs.Productions.{IsWhere, IsInsert, IsDelete, IsSetting, IsUpdate, IsChange, IsOp, AreOps, IsInverse, IsEvolve, AreChanges, IsBody, IsWrite, IsQuery, IsExplain, IsShowVersions, IsShowSchema, IsShowSizes, IsShow, IsCheckpoint, IsStatement}
+use Rattle.script_parse.specs.Productions.{IsInsert, IsDelete, IsSetting, IsUpdate, IsChange, IsOp, AreOps, IsInverse, IsEvolve, AreChanges, IsBody, IsWrite, IsQuery, IsExplain, IsShowVersions, IsShowSchema, IsShowSizes, IsShow, IsCheckpoint, IsStatement}
 
 -- ---- changes
-
-abbrev pub where_passes : Passing IsWhere
-where_passes = option_pass always (word (codes "WHERE")) (freshG (IsCond false)) (fresh_pass (IsCond false) (cond_marks false))
 
 abbrev pub setting_passes : Passing IsSetting
 setting_passes = bind_pass nameG (λ column. leadG (sign (codes "=")) (mapG (λ e. (column, e)) (freshG (IsExpr false)))) (none_pass nameG)
     (λ column. lead_pass (sign (codes "=")) (mapG (λ e. (column, e)) (freshG (IsExpr false))) (map_pass (λ e. (column, e)) (freshG (IsExpr false)) (fresh_pass (IsExpr false) (expr_marks false))))
 
 abbrev pub delete_passes : Passing IsDelete
-delete_passes = lead_pass (word (codes "DELETE")) _ (lead_pass (word (codes "FROM")) _ (bind_pass nameG (λ table. mapG (λ c. deletion table c) IsWhere) (none_pass nameG)
-    (λ table. map_pass (λ c. deletion table c) IsWhere where_passes)))
+delete_passes = lead_pass (word (codes "DELETE")) _ (lead_pass (word (codes "FROM")) _ (bind_pass nameG (λ table. mapG (λ c. deletion table c) (IsFreshWhere false)) (none_pass nameG)
+    (λ table. map_pass (λ c. deletion table c) (IsFreshWhere false) (where_passes false))))
 
 abbrev pub update_passes : Passing IsUpdate
-update_passes = lead_pass (word (codes "UPDATE")) _ (bind_pass nameG (λ table. leadG (word (codes "SET")) (bindG (listG (sign (codes ",")) IsSetting) (λ sets. mapG (λ c. update table sets c) IsWhere))) (none_pass nameG)
-    (λ table. lead_pass (word (codes "SET")) _ (bind_pass (listG (sign (codes ",")) IsSetting) (λ sets. mapG (λ c. update table sets c) IsWhere) (list_pass (sign (codes ",")) IsSetting setting_passes)
-    (λ sets. map_pass (λ c. update table sets c) IsWhere where_passes))))
+update_passes = lead_pass (word (codes "UPDATE")) _ (bind_pass nameG (λ table. leadG (word (codes "SET")) (bindG (listG (sign (codes ",")) IsSetting) (λ sets. mapG (λ c. update table sets c) (IsFreshWhere false)))) (none_pass nameG)
+    (λ table. lead_pass (word (codes "SET")) _ (bind_pass (listG (sign (codes ",")) IsSetting) (λ sets. mapG (λ c. update table sets c) (IsFreshWhere false)) (list_pass (sign (codes ",")) IsSetting setting_passes)
+    (λ sets. map_pass (λ c. update table sets c) (IsFreshWhere false) (where_passes false)))))
 
 abbrev pub change_passes : Passing IsChange
 change_passes = either_pass IsInsert (eitherG IsDelete IsUpdate) (none_pass IsInsert) (either_pass IsDelete IsUpdate delete_passes update_passes)

@@ -10,14 +10,12 @@ use Rattle.lexical_grammar.specs.Lexemes.{Lexeme, is_word, is_sign}
 use Rattle.parser_combinators.specs.Parsing.{Parser, Arm, No, Takes, Whole, bind, pure, map_to, lead, choose, option, more, many, fresh}
 use Rattle.expr_grammar.specs.Reader.{outermost, goes_expr, goes_cond}
 use Rattle.expr_grammar.specs.Constants.{name, names, moment, small, constant}
+use Rattle.expr_grammar.specs.Where.{fresh_where, goes_where}
 use Rattle.smo_parse.specs.OperatorReader.{operator, goes_operator}
 use Rattle.temporal_lang.specs.QueryReader as query
 use Rattle.script_parse.specs.Statements.{PlainStatement, write, ask, explain, show_versions, show_schema, show_sizes, checkpoint}
 
 -- ---- changes
-
-unfoldable pub where_part : Parser Test
-where_part = option (is_word (codes "WHERE")) (Takes (fresh (outermost false).cond)) always
 
 -- so many more constants, behind one
 unfoldable pub more_constants : ℕ → Parser (List Value)
@@ -38,7 +36,7 @@ insert_rest = lead (is_word (codes "INTO")) (bind name (λ t. lead (is_sign (cod
 
 -- behind DELETE
 unfoldable pub delete_rest : Parser PlainChange
-delete_rest = lead (is_word (codes "FROM")) (bind name (λ t. map_to (λ c. deletion t c) where_part))
+delete_rest = lead (is_word (codes "FROM")) (bind name (λ t. map_to (λ c. deletion t c) (fresh_where false)))
 
 unfoldable pub setting : Parser (List ℕ × Tree)
 setting = bind name (λ n. lead (is_sign (codes "=")) (map_to (λ e. (n, e)) (fresh (outermost false).expr)))
@@ -48,7 +46,7 @@ settings = bind setting (λ s. map_to (λ l. s ∷ l) (many (is_sign (codes ",")
 
 -- behind UPDATE
 unfoldable pub update_rest : Parser PlainChange
-update_rest = bind name (λ t. lead (is_word (codes "SET")) (bind settings (λ l. map_to (λ c. update t l c) where_part)))
+update_rest = bind name (λ t. lead (is_word (codes "SET")) (bind settings (λ l. map_to (λ c. update t l c) (fresh_where false))))
 
 abbrev pub change_arm : Lexeme → Arm PlainChange
 change_arm x =
@@ -121,14 +119,11 @@ statement = choose statement_arm
 
 -- ---- what each goes on with
 
-abbrev pub goes_where : Lexeme → Bool
-goes_where x = is_word (codes "WHERE") x || goes_cond false x
-
 abbrev pub goes_settings : Lexeme → Bool
 goes_settings x = is_sign (codes ",") x || goes_expr false x
 
 abbrev pub goes_change : Lexeme → Bool
-goes_change x = goes_settings x || goes_where x
+goes_change x = goes_settings x || goes_where false x
 
 abbrev pub goes_changes : Lexeme → Bool
 goes_changes x = is_word (codes "THEN") x || goes_change x

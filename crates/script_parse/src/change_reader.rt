@@ -1,38 +1,17 @@
 //! Reading of changes of rows, from left to right.
 
 ghost use Rattle.std.specs.Prelude.{◌≡◌, ◌<◌, ◌≤◌, length, map, zip, codes, IfOk};
-ghost use Rattle.cond_expr.specs.Seen.{tree, test};
-ghost use Rattle.cond_expr.specs.Trees.{always};
 ghost use Rattle.smo_types.specs.Changes.{change_of, changes_of, set_of_expr, sets_of};
 ghost use Rattle.lexical_grammar.specs.Lexemes.{is_word, is_sign};
 ghost use Rattle.parser_combinators.specs.Parsing.{many};
 ghost use Rattle.parser_combinators.specs.Reads.{Reads, ReadsMore, ahead};
 ghost use Rattle.script_parse.specs.StatementReader as spec;
 
-use cond_expr::{Cond, Expr};
-use lexer::{Cursor, Stop, constant, fresh_cond, fresh_expr, name, names};
+use cond_expr::Expr;
+use lexer::{Cursor, Stop, constant, fresh_expr, fresh_where, name, names};
 use prima_base::{Name, Value};
 use smo_ops::Change;
 use std::alloc::{AllocError, Global};
-
-// The condition that holds.
-fn everywhere() -> Cond
-    ensures { test result ≡ always }
-{
-    Cond::True
-}
-
-// The condition of a change; a missing one is TRUE.
-#[tactic(auto, unfolding(crate::specs::StatementReader::where_part), using(parser_combinators::proofs::ReadSteps::option_not, parser_combinators::proofs::ReadSteps::option_takes))]
-fn where_part(alloc: Global, c: &mut Cursor<'_, '_>) -> Result<Cond, Stop>
-    ensures { Reads test (spec.where_part c.old.nodes (ahead c.old)) result c.new }
-{
-    if !c.sees_word(b"WHERE") {
-        return Ok(everywhere());
-    }
-    c.skip();
-    fresh_cond(alloc, c, false)
-}
 
 // So many more constants, each behind a comma.
 fn more_constants(
@@ -110,7 +89,7 @@ fn delete_rest(alloc: Global, c: &mut Cursor<'_, '_>) -> Result<Change, Stop>
 {
     c.expect_word(b"FROM")?;
     let table = name(alloc, c)?;
-    let cond = where_part(alloc, c)?;
+    let cond = fresh_where(alloc, c, false)?;
     Ok(Change::Delete { table, cond })
 }
 
@@ -158,7 +137,7 @@ fn update_rest(alloc: Global, c: &mut Cursor<'_, '_>) -> Result<Change, Stop>
     let table = name(alloc, c)?;
     c.expect_word(b"SET")?;
     let sets = settings(alloc, c)?;
-    let cond = where_part(alloc, c)?;
+    let cond = fresh_where(alloc, c, false)?;
     Ok(Change::Update { table, sets, cond })
 }
 

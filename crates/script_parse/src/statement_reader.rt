@@ -45,7 +45,7 @@ fn write_rest(alloc: Global, c: &mut Cursor<'_, '_>) -> Result<Statement, Stop>
     let body = body(alloc, c)?;
     match Command::new(stamp, body) {
         Some(command) => Ok(Statement::Write(command)),
-        // A moment is below FOREVER.
+        // `moment` reads no number above 2^64 - 2, so each stamp is below FOREVER, and has a command.
         None => unreachable!(),
     }
 }

@@ -11,8 +11,10 @@ use Rattle.parser_combinators.proofs.Parsing.{good_iff, good_goes, bind_good, bi
 use Rattle.lexical_grammar.proofs.LexemeTests.{word_is, word_exact, sign_is, sign_exact}
 use Rattle.expr_grammar.proofs.Singles.{name_good, names_good, comma}
 use Rattle.expr_grammar.proofs.Goodness.{outermost_good}
-use Rattle.smo_parse.specs.Productions.{IsType, IsColumn, AreColumns, IsPart, IsTest, IsTree, IsWhere, IsOperator}
-use Rattle.smo_parse.specs.OperatorReader.{type_arm, column_type, column, columns, where_part, create_rest, drop_table_rest, drop_column_rest, drop_arm, drop_rest, rename_table_rest, rename_column_rest, rename_arm, rename_rest, copy_rest, merge_rest, partition_rest, part, decompose_rest, join_rest, add_rest, operator_arm, operator, goes_where, goes_operator}
+use Rattle.expr_grammar.specs.Where.{IsWhere, outer_where, goes_where}
+use Rattle.expr_grammar.proofs.Where.{outer_where_good}
+use Rattle.smo_parse.specs.Productions.{IsType, IsColumn, AreColumns, IsPart, IsTest, IsTree, IsOperator}
+use Rattle.smo_parse.specs.OperatorReader.{type_arm, column_type, column, columns, create_rest, drop_table_rest, drop_column_rest, drop_arm, drop_rest, rename_table_rest, rename_column_rest, rename_arm, rename_rest, copy_rest, merge_rest, partition_rest, part, decompose_rest, join_rest, add_rest, operator_arm, operator, goes_operator}
 use Rattle.parser_combinators.proofs.Alternatives.{stops_never, or_left, or_right, NotFirst, NotNone, lead_not_none, lead_not_first, either_not_none, either_not_first, list_good, last_arm, first_arm}
 
 -- goes on with nothing
@@ -59,15 +61,6 @@ columns_good : Good 0 32 columns AreColumns comma
 unfolding columns
 columns_good = list_good (is_sign (codes ",")) (sign (codes ",")) (sign_is (codes ",")) (sign_exact (codes ",")) 32 column IsColumn ends column_good refl
 
-cond_where : (x : Lexeme) → goes_where x ≡ false → goes_cond false x ≡ false
-cond_where x h = or_right (is_word (codes "WHERE") x) (goes_cond false x) h
-
-where_good : Good 0 32 where_part IsWhere goes_where
-unfolding where_part
-where_good = option_takes_good (is_word (codes "WHERE")) (word (codes "WHERE")) (word_is (codes "WHERE")) (word_exact (codes "WHERE")) 0 32 (outermost false).cond always IsTest goes_where
-    (λ x e. ap (λ b. b || goes_cond false x) e)
-    (good_goes 0 32 (outermost false).cond IsTest (goes_cond false) goes_where cond_where (outermost_good false).cond)
-
 part_good : (goes : Lexeme → Bool) → Good 0 32 part IsPart goes
 unfolding part
 part_good goes = name_then _ _ goes (λ s. sign_good (codes "(") _ _ goes
@@ -110,7 +103,7 @@ abbrev DecomposeRest : Operator → Size → List Lexeme → Type 0
 DecomposeRest = leadG (word (codes "TABLE")) (bindG nameG (λ r. leadG (word (codes "INTO")) (bindG IsPart (λ p. leadG (sign (codes ",")) (mapG (λ q. decompose_table r p.0 p.1 q.0 q.1) IsPart)))))
 
 abbrev JoinRest : Operator → Size → List Lexeme → Type 0
-JoinRest = leadG (word (codes "TABLE")) (bindG nameG (λ r. leadG (sign (codes ",")) (bindG nameG (λ s. leadG (word (codes "INTO")) (bindG nameG (λ t. mapG (λ c. join_table r s t c) IsWhere))))))
+JoinRest = leadG (word (codes "TABLE")) (bindG nameG (λ r. leadG (sign (codes ",")) (bindG nameG (λ s. leadG (word (codes "INTO")) (bindG nameG (λ t. mapG (λ c. join_table r s t c) (IsWhere false)))))))
 
 abbrev AddRest : Operator → Size → List Lexeme → Type 0
 AddRest = leadG (word (codes "COLUMN")) (bindG nameG (λ n. leadG (word (codes "AS")) (bindG IsTree (λ e. leadG (word (codes "INTO")) (mapG (λ r. add_column n e r) nameG)))))
@@ -163,10 +156,10 @@ module _ (goes : Lexeme → Bool) where
       (bind_lead 0 32 (outermost false).expr _ IsTree (word (codes "INTO")) (λ e. mapG (λ r. add_column n e r) nameG) (goes_expr false) goes refl (outermost_good false).expr
       (λ e. word_good (codes "INTO") _ _ goes (last_name (λ r. add_column n e r) goes)))))
 
-join_good : Good 0 32 join_rest JoinRest goes_where
+join_good : Good 0 32 join_rest JoinRest (goes_where false)
 unfolding join_rest
-join_good = word_good (codes "TABLE") _ _ goes_where (name_then _ _ goes_where (λ r. sign_good (codes ",") _ _ goes_where (name_then _ _ goes_where (λ s. word_good (codes "INTO") _ _ goes_where
-    (name_then _ _ goes_where (λ t. map_good 0 32 (λ c. join_table r s t c) where_part IsWhere goes_where where_good))))))
+join_good = word_good (codes "TABLE") _ _ (goes_where false) (name_then _ _ (goes_where false) (λ r. sign_good (codes ",") _ _ (goes_where false) (name_then _ _ (goes_where false) (λ s. word_good (codes "INTO") _ _ (goes_where false)
+    (name_then _ _ (goes_where false) (λ t. map_good 0 32 (λ c. join_table r s t c) (outer_where false) (IsWhere false) (goes_where false) (outer_where_good false)))))))
 
 -- ---- a choice between two words
 

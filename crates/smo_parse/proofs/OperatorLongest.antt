@@ -12,8 +12,9 @@ use Rattle.lexical_grammar.proofs.Cases.{by_test}
 use Rattle.parser_combinators.proofs.Parsing.{none_both}
 use Rattle.lexical_grammar.proofs.LexemeTests.{word_exact}
 use Rattle.expr_grammar.proofs.Longest.{cond_longest}
-use Rattle.smo_parse.specs.Productions.{IsTest, IsWhere, IsNop, IsCreateTable, IsDropTable, IsRenameTable, IsCopyTable, IsMergeTable, IsPartitionTable, IsDecomposeTable, IsJoinTable, IsAddColumn, IsDropColumn, IsRenameColumn, IsOperator}
-use Rattle.smo_parse.specs.OperatorReader.{operator, where_part, create_rest, drop_rest, rename_rest, copy_rest, merge_rest, partition_rest, decompose_rest, add_rest, goes_operator}
+use Rattle.expr_grammar.specs.Where.{IsWhere, outer_where}
+use Rattle.smo_parse.specs.Productions.{IsTest, IsNop, IsCreateTable, IsDropTable, IsRenameTable, IsCopyTable, IsMergeTable, IsPartitionTable, IsDecomposeTable, IsJoinTable, IsAddColumn, IsDropColumn, IsRenameColumn, IsOperator}
+use Rattle.smo_parse.specs.OperatorReader.{operator, create_rest, drop_rest, rename_rest, copy_rest, merge_rest, partition_rest, decompose_rest, add_rest, goes_operator}
 use Rattle.parser_combinators.proofs.Alternatives.{stops_never}
 use Rattle.smo_parse.proofs.OperatorGoodness.{ends, create_good, drop_good, rename_good, copy_good, merge_good, partition_good, decompose_good, add_good}
 use Rattle.smo_parse.proofs.OperatorMarked.{in_join, join_run, join_tokens}
@@ -74,25 +75,25 @@ module _ (ts : List Lexeme) where
 
 -- ---- JOIN, whose condition may go on
 
-where_none : where_part 0 [] ≡ Got always 0 []
-unfolding where_part
+where_none : outer_where false 0 [] ≡ Got always 0 []
+unfolding outer_where
 where_none = refl
 
-where_not : (x : Lexeme) (rest : List Lexeme) → is_word (codes "WHERE") x ≡ false → where_part 0 (x ∷ rest) ≡ Got always 0 (x ∷ rest)
-unfolding where_part
+where_not : (x : Lexeme) (rest : List Lexeme) → is_word (codes "WHERE") x ≡ false → outer_where false 0 (x ∷ rest) ≡ Got always 0 (x ∷ rest)
+unfolding outer_where
 where_not x rest f = ap (λ b. cond b ((outermost false).cond 0 rest) (Got always 0 (x ∷ rest))) f
 
-where_some : (rest : List Lexeme) → where_part 0 (word (codes "WHERE") ∷ rest) ≡ (outermost false).cond 0 rest
-unfolding where_part
+where_some : (rest : List Lexeme) → outer_where false 0 (word (codes "WHERE") ∷ rest) ≡ (outermost false).cond 0 rest
+unfolding outer_where
 where_some rest = refl
 
-missing : (c : Test) (u : Size) (k rest : List Lexeme) → c ≡ always → u ≡ nothing_counted → k ≡ [] → where_part 0 rest ≡ Got always 0 rest → Fine 32 c u 0 rest (where_part 0 (k ++ rest))
+missing : (c : Test) (u : Size) (k rest : List Lexeme) → c ≡ always → u ≡ nothing_counted → k ≡ [] → outer_where false 0 rest ≡ Got always 0 rest → Fine 32 c u 0 rest (outer_where false 0 (k ++ rest))
 missing c u k rest ec eu ek run =
     let P : Out Test → Type 0 = λ out. Fine 32 c u 0 rest out in
     let Q : Size → Type 0 = λ z. Lawful 32 z in
-    subst P (sym (ap (λ l. where_part 0 (l ++ rest)) ek ∙ run)) (sym ec, refl, omega (arith, ap (λ z. z.nodes) eu), subst Q (sym eu) (omega arith, λ w. omega arith))
+    subst P (sym (ap (λ l. outer_where false 0 (l ++ rest)) ek ∙ run)) (sym ec, refl, omega (arith, ap (λ z. z.nodes) eu), subst Q (sym eu) (omega arith, λ w. omega arith))
 
-with_true : (x : Lexeme) → is_word (codes "WHERE") x ≡ true → IsWhere always leaf (x ∷ word (codes "TRUE") ∷ [])
+with_true : (x : Lexeme) → is_word (codes "WHERE") x ≡ true → IsWhere false always leaf (x ∷ word (codes "TRUE") ∷ [])
 with_true x t = inr (word (codes "TRUE") ∷ [], ap (λ y. y ∷ word (codes "TRUE") ∷ []) (word_exact (codes "WHERE") x t), g.one_conj false always leaf _ (g.one_fact false always leaf _ (g.truth false)))
 
 take_next : {A : Type 0} (f : List A) (x : A) (rest : List A) → take (length f + 1) (f ++ x ∷ rest) ≡ f ++ x ∷ []
@@ -108,8 +109,8 @@ halts G front x rest e h =
 -- another value of what was read
 mapped : {A B : Type 0} (make : A → B) (a : A) (u : Size) (rest : List Lexeme) (out : Out A) → Fine 32 a u 0 rest out → Fine 32 (make a) u 0 rest (and_then out (λ x. pure (make x)))
 mapped make a u rest (Got b m r) h = (ap make h.0, h.1, h.2, h.3)
-mapped make a u rest (Stuck r) h = h
-mapped make a u rest (Over w r) h = h
+mapped make a u rest (Stuck c r) h = h
+mapped make a u rest (Over w c r) h = h
 
 module _ (o : Operator) (s : Size) (front : List Lexeme) (h : IsJoinTable o s front) where
   -- its tokens with others from the WHERE on
@@ -117,7 +118,7 @@ module _ (o : Operator) (s : Size) (front : List Lexeme) (h : IsJoinTable o s fr
   with_where l = in_join h.2.2.7.0 h.2.2.8.2.7.0 h.2.2.8.2.8.2.7.0 l
 
   -- another condition in its place
-  other : (c : Test) (u : Size) (l : List Lexeme) → IsWhere c u l → (p : Operator) × (v : Size) × IsOperator p v (with_where l)
+  other : (c : Test) (u : Size) (l : List Lexeme) → IsWhere false c u l → (p : Operator) × (v : Size) × IsOperator p v (with_where l)
   other c u l i =
       let r = h.2.2 in
       let q = r.8.2 in
@@ -175,7 +176,7 @@ module _ (o : Operator) (s : Size) (front : List Lexeme) (h : IsJoinTable o s fr
       )
 
   -- a longer condition would be a longer operator
-  longer : (k : List Lexeme) (x : Lexeme) → front ≡ with_where k → ((more : List Lexeme) (c : Test) (u : Size) → IsWhere c u ((k ++ x ∷ []) ++ more) → CanGoOn IsOperator (front ++ x ∷ []))
+  longer : (k : List Lexeme) (x : Lexeme) → front ≡ with_where k → ((more : List Lexeme) (c : Test) (u : Size) → IsWhere false c u ((k ++ x ∷ []) ++ more) → CanGoOn IsOperator (front ++ x ∷ []))
   longer k x e more c u i =
       let j = other c u ((k ++ x ∷ []) ++ more) i in
       let P : List Lexeme → Type 0 = λ l. CanGoOn IsOperator (l ++ x ∷ []) in
@@ -193,18 +194,18 @@ module _ (o : Operator) (s : Size) (front : List Lexeme) (h : IsJoinTable o s fr
   cond_ends k m i w (x ∷ l) e some = λ can.
       let C : List Lexeme → Type 0 = λ m. CanGoOn IsTest m in
       let on = subst C (take_next m x l) can in
-      let Q : List Lexeme → Type 0 = λ n. IsWhere on.1 on.2 ((n ++ x ∷ []) ++ on.0) in
+      let Q : List Lexeme → Type 0 = λ n. IsWhere false on.1 on.2 ((n ++ x ∷ []) ++ on.0) in
       halts IsOperator front x l e (longer k x w on.0 on.1 on.2 (subst Q (sym i) (inr ((m ++ x ∷ []) ++ on.0, refl, on.3))))
 
-  by_where : (c : Test) (u : Size) (k : List Lexeme) → IsWhere c u k → front ≡ with_where k → (rest : List Lexeme) → Ends IsOperator (front ++ rest) (length front) → Fine 32 c u 0 rest (where_part 0 (k ++ rest))
+  by_where : (c : Test) (u : Size) (k : List Lexeme) → IsWhere false c u k → front ≡ with_where k → (rest : List Lexeme) → Ends IsOperator (front ++ rest) (length front) → Fine 32 c u 0 rest (outer_where false 0 (k ++ rest))
   by_where c u k (inl i) w [] e = missing c u k [] i.0 i.1 i.2 where_none
   by_where c u k (inl i) w (x ∷ rest) e = by_test (is_word (codes "WHERE") x)
-      (λ t. let P : List Lexeme → Type 0 = λ l. IsWhere always leaf ((l ++ x ∷ []) ++ word (codes "TRUE") ∷ []) in
+      (λ t. let P : List Lexeme → Type 0 = λ l. IsWhere false always leaf ((l ++ x ∷ []) ++ word (codes "TRUE") ∷ []) in
       absurd (halts IsOperator front x rest e (longer k x w (word (codes "TRUE") ∷ []) always leaf (subst P (sym i.2) (with_true x t)))))
       (λ f. missing c u k (x ∷ rest) i.0 i.1 i.2 (where_not x rest f))
   by_where c u k (inr i) w rest e =
       let P : Out Test → Type 0 = λ out. Fine 32 c u 0 rest out in
-      subst P (sym (ap (λ l. where_part 0 (l ++ rest)) i.1 ∙ where_some (i.0 ++ rest))) (cond_longest false c u i.0 rest (i.0 ++ rest) refl i.2 (cond_ends k i.0 i.1 w rest e))
+      subst P (sym (ap (λ l. outer_where false 0 (l ++ rest)) i.1 ∙ where_some (i.0 ++ rest))) (cond_longest false c u i.0 rest (i.0 ++ rest) refl i.2 (cond_ends k i.0 i.1 w rest e))
 
   join_on : (rest : List Lexeme) → Ends IsOperator (front ++ rest) (length front) → ReadsOn o s front rest
   join_on rest e =
@@ -212,12 +213,12 @@ module _ (o : Operator) (s : Size) (front : List Lexeme) (h : IsJoinTable o s fr
       let q = r.8.2 in
       let w = q.8.2 in
       let make : Test → Operator = λ c. join_table r.0 q.0 w.0 c in
-      let fine : Fine 32 w.8.0 w.2 0 rest (where_part 0 (w.4 ++ rest)) = by_where w.8.0 w.2 w.4 w.8.2 (join_tokens o s front h) rest e in
+      let fine : Fine 32 w.8.0 w.2 0 rest (outer_where false 0 (w.4 ++ rest)) = by_where w.8.0 w.2 w.4 w.8.2 (join_tokens o s front h) rest e in
       let P : Out Operator → Type 0 = λ out. Fine 32 o s 0 rest out in
-      let Q : Size → Type 0 = λ z. Fine 32 o z 0 rest (and_then (where_part 0 (w.4 ++ rest)) (λ c. pure (make c))) in
-      let R : Operator → Type 0 = λ v. Fine 32 v w.2 0 rest (and_then (where_part 0 (w.4 ++ rest)) (λ c. pure (make c))) in
+      let Q : Size → Type 0 = λ z. Fine 32 o z 0 rest (and_then (outer_where false 0 (w.4 ++ rest)) (λ c. pure (make c))) in
+      let R : Operator → Type 0 = λ v. Fine 32 v w.2 0 rest (and_then (outer_where false 0 (w.4 ++ rest)) (λ c. pure (make c))) in
       subst P (sym (ap (λ l. operator 0 (l ++ rest)) (join_tokens o s front h) ∙ join_run r.7.0 r.0 q.7.0 q.0 w.7.0 w.0 (w.4 ++ rest) r.7.1 q.7.1 w.7.1))
-      (subst Q (sym size_is) (subst R (sym w.8.1) (mapped make w.8.0 w.2 rest (where_part 0 (w.4 ++ rest)) fine)))
+      (subst Q (sym size_is) (subst R (sym w.8.1) (mapped make w.8.0 w.2 rest (outer_where false 0 (w.4 ++ rest)) fine)))
 
 -- ---- any operator
 

@@ -9,7 +9,8 @@ use Rattle.parser_combinators.specs.Marks.{Mark, plain, nodes_in, deepest, AddUp
 use Rattle.expr_grammar.specs.TreeMarks.{expr_marks, cond_marks}
 use Rattle.parser_combinators.proofs.Parsing.{both_none, none_both}
 use Rattle.expr_grammar.proofs.MarkSizes.{nodes_append, expr_adds_up, cond_adds_up}
-use Rattle.smo_parse.specs.Productions.{IsWhere, IsPartitionTable, IsJoinTable, IsAddColumn, IsOperator}
+use Rattle.expr_grammar.specs.Where.{IsWhere}
+use Rattle.smo_parse.specs.Productions.{IsPartitionTable, IsJoinTable, IsAddColumn, IsOperator}
 use Rattle.smo_parse.specs.OperatorMarks.{uncounted, partition_marks, where_marks, join_marks, add_marks, operator_marks}
 use Rattle.smo_parse.proofs.OperatorMarked.{Uncounted, operator_length, nop_counts, create_counts, drop_table_counts, rename_table_counts, copy_counts, merge_counts, decompose_counts, drop_column_counts, rename_column_counts}
 
@@ -59,7 +60,7 @@ partition_together o s f h =
     same_size (partition_marks o s f h) s c.1 size
     (several_more 6 ms c.1 (two_behind (cond_marks false c.0 c.1 c.3 c.7) c.1 (a.1, a.2)))
 
-where_together : (c : Test) (s : Size) (f : List Lexeme) (h : IsWhere c s f) → Together (where_marks c s f h) s
+where_together : (c : Test) (s : Size) (f : List Lexeme) (h : IsWhere false c s f) → Together (where_marks c s f h) s
 where_together c s f (inl h) = same_size [] s nothing_counted h.1 (refl, refl)
 where_together c s f (inr h) = let a = cond_adds_up false c s h.0 h.2 in one_more (cond_marks false c s h.0 h.2) s (a.1, a.2)
 

@@ -13,9 +13,10 @@ use Rattle.expr_grammar.proofs.Endings.{expr_free, cond_free}
 use Rattle.parser_combinators.proofs.Marked.{along, bind_along, map_along, plain_along}
 use Rattle.expr_grammar.proofs.MarkSizes.{expr_length, cond_length}
 use Rattle.expr_grammar.proofs.MarksJoined.{expr_read, cond_read, cond_marked}
+use Rattle.expr_grammar.specs.Where.{IsWhere, outer_where}
 use Rattle.parser_combinators.proofs.Places.{length_map}
-use Rattle.smo_parse.specs.Productions.{IsType, IsColumn, AreColumns, IsPart, IsTest, IsTree, IsWhere, IsNop, IsCreateTable, IsDropTable, IsRenameTable, IsCopyTable, IsMergeTable, IsPartitionTable, IsDecomposeTable, IsJoinTable, IsAddColumn, IsDropColumn, IsRenameColumn, IsOperator}
-use Rattle.smo_parse.specs.OperatorReader.{operator, operator_arm, partition_rest, join_rest, add_rest, where_part, goes_operator}
+use Rattle.smo_parse.specs.Productions.{IsType, IsColumn, AreColumns, IsPart, IsTest, IsTree, IsNop, IsCreateTable, IsDropTable, IsRenameTable, IsCopyTable, IsMergeTable, IsPartitionTable, IsDecomposeTable, IsJoinTable, IsAddColumn, IsDropColumn, IsRenameColumn, IsOperator}
+use Rattle.smo_parse.specs.OperatorReader.{operator, operator_arm, partition_rest, join_rest, add_rest, goes_operator}
 use Rattle.smo_parse.specs.OperatorMarks.{uncounted, partition_marks, where_marks, join_marks, add_marks, operator_marks}
 use Rattle.smo_parse.proofs.OperatorGoodness.{operator_good}
 use Rattle.smo_parse.proofs.PrintThenRead.{got}
@@ -118,8 +119,8 @@ bare o s f h z =
   where
     by_out : (out : Out Operator) → Fine 32 o s 0 [] out → out ≡ Got o 0 []
     by_out (Got b m rest) i = let e : m ≡ 0 = omega (arith, i.2, z.no_nodes) in ap (λ x. Got x m rest) i.0 ∙ ap (λ k. Got o k rest) e ∙ ap (Got o 0) i.1
-    by_out (Stuck rest) i = absurd i
-    by_out (Over w rest) i = let g = got o s (Over w rest) (omega (arith, z.no_nodes)) (omega (arith, z.not_deep)) (λ v. omega (arith, z.not_wide v)) i in let y : Over w rest ≡ Got o g.0 [] = g.1 in cc
+    by_out (Stuck m rest) i = absurd i
+    by_out (Over w m rest) i = let g = got o s (Over w m rest) (omega (arith, z.no_nodes)) (omega (arith, z.not_deep)) (λ v. omega (arith, z.not_wide v)) i in let y : Over w m rest ≡ Got o g.0 [] = g.1 in cc
 
 -- ---- with a tree
 
@@ -190,12 +191,12 @@ module _ (o : Operator) (s : Size) (f : List Lexeme) (h : IsPartitionTable o s f
       omega (arith, ap length partition_tokens, cond_length false c.0 c.1 c.3 c.7, length-append (cond_marks false c.0 c.1 c.3 c.7) (plain ∷ plain ∷ []), length-append c.3 (sign (codes ",") ∷ c.8.2.2.0 ∷ []))
 
 -- JOIN
-where_marked : (c : Test) (s : Size) (f : List Lexeme) (h : IsWhere c s f) → where_part 0 f ≡ along 32 c 0 (where_marks c s f h) f
-unfolding where_part
-where_marked c s f (inl h) = ap (where_part 0) h.2 ∙ ap (λ v. Got v 0 []) (sym h.0) ∙ ap (Got c 0) (sym h.2)
-where_marked c s f (inr h) = ap (where_part 0) h.1 ∙ cond_marked false c s h.0 h.2 ∙ ap (λ l. along 32 c 0 (plain ∷ cond_marks false c s h.0 h.2) l) (sym h.1)
+where_marked : (c : Test) (s : Size) (f : List Lexeme) (h : IsWhere false c s f) → outer_where false 0 f ≡ along 32 c 0 (where_marks c s f h) f
+unfolding outer_where
+where_marked c s f (inl h) = ap ((outer_where false) 0) h.2 ∙ ap (λ v. Got v 0 []) (sym h.0) ∙ ap (Got c 0) (sym h.2)
+where_marked c s f (inr h) = ap ((outer_where false) 0) h.1 ∙ cond_marked false c s h.0 h.2 ∙ ap (λ l. along 32 c 0 (plain ∷ cond_marks false c s h.0 h.2) l) (sym h.1)
 
-where_length : (c : Test) (s : Size) (f : List Lexeme) (h : IsWhere c s f) → length (where_marks c s f h) ≡ length f
+where_length : (c : Test) (s : Size) (f : List Lexeme) (h : IsWhere false c s f) → length (where_marks c s f h) ≡ length f
 where_length c s f (inl h) = sym (ap length h.2)
 where_length c s f (inr h) = omega (arith, ap length h.1, cond_length false c s h.0 h.2)
 
@@ -204,7 +205,7 @@ abbrev pub in_join : Lexeme → Lexeme → Lexeme → List Lexeme → List Lexem
 in_join x y z l = word (codes "JOIN") ∷ word (codes "TABLE") ∷ x ∷ sign (codes ",") ∷ y ∷ word (codes "INTO") ∷ z ∷ l
 
 -- and what is read behind them
-pub join_run : (x : Lexeme) (a : List ℕ) (y : Lexeme) (b : List ℕ) (z : Lexeme) (t : List ℕ) (l : List Lexeme) → as_name x ≡ Some a → as_name y ≡ Some b → as_name z ≡ Some t → operator 0 (in_join x y z l) ≡ map_to (λ c. join_table a b t c) where_part 0 l
+pub join_run : (x : Lexeme) (a : List ℕ) (y : Lexeme) (b : List ℕ) (z : Lexeme) (t : List ℕ) (l : List Lexeme) → as_name x ≡ Some a → as_name y ≡ Some b → as_name z ≡ Some t → operator 0 (in_join x y z l) ≡ map_to (λ c. join_table a b t c) outer_where false 0 l
 unfolding operator join_rest
 join_run x a y b z t l ex ey ez = bind_name _ x a 0 _ ex ∙ bind_name _ y b 0 _ ey ∙ bind_name _ z t 0 _ ez
 

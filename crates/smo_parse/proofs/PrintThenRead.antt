@@ -59,8 +59,8 @@ not_over what.Versions s few shallow narrow h = omega (arith, h, narrow what.Ver
 
 pub got : (o : Operator) (s : Size) (out : Out Operator) → s.nodes ≤ 256 → s.depth ≤ 32 → ((v : What) → s.wide v ≤ limit v) → Fine 32 o s 0 [] out → (m : ℕ) × (out ≡ Got o m [])
 got o s (Got b m rest) few shallow narrow h = (m, ap (λ x. Got x m rest) h.0 ∙ ap (Got o m) h.1)
-got o s (Stuck rest) few shallow narrow h = absurd h
-got o s (Over w rest) few shallow narrow h = absurd (not_over w s few shallow narrow h)
+got o s (Stuck m rest) few shallow narrow h = absurd h
+got o s (Over w m rest) few shallow narrow h = absurd (not_over w s few shallow narrow h)
 
 -- ---- and so does whatever call reads operators
 
@@ -77,9 +77,9 @@ whole o m ts (Ok r) e h k =
     let s = same_got (operator_of r.0) o k.0 m (lexemes_from ts r.1) [] (sym k.1 ∙ e) in
     (s.0, omega (arith, h.1, none_behind ts r.1 s.1))
 whole o m ts (Err fault.NoMemory) e h k = tt
-whole o m ts (Err (fault.Syntax at)) e h k = let z : Stuck (lexemes_from ts k.0) ≡ Got o m [] = sym k.3 ∙ e in cc
-whole o m ts (Err fault.RanOut) e h k = let z : Stuck (lexemes_from ts (length ts)) ≡ Got o m [] = sym k ∙ e in cc
-whole o m ts (Err (fault.TooMany w most)) e h k = let z : Over w (lexemes_from ts k.1) ≡ Got o m [] = sym k.3 ∙ e in cc
+whole o m ts (Err (fault.Syntax at)) e h k = let z : Stuck k.3 (lexemes_from ts k.0) ≡ Got o m [] = sym k.4 ∙ e in cc
+whole o m ts (Err fault.RanOut) e h k = let z : Stuck k.0 (lexemes_from ts (length ts)) ≡ Got o m [] = sym k.1 ∙ e in cc
+whole o m ts (Err (fault.TooMany w most)) e h k = let z : Over w k.3 (lexemes_from ts k.1) ≡ Got o m [] = sym k.4 ∙ e in cc
 
 -- ---- print, then read
 

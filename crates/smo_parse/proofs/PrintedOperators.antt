@@ -4,12 +4,13 @@ use Rattle.prima_base.specs.declared.refusals.What.{What}
 use Rattle.smo_types.specs.Operators.{Operator, nop, merge_table, partition_table, decompose_table, join_table, rename_column}
 use Rattle.lexical_grammar.specs.Lexemes.{Lexeme}
 use Rattle.parser_combinators.specs.Parsing.{Size, limit}
-use Rattle.smo_parse.specs.Productions.{AreColumns, IsPart, IsTest, IsTree, IsWhere, IsNop, IsCreateTable, IsDropTable, IsRenameTable, IsCopyTable, IsMergeTable, IsPartitionTable, IsDecomposeTable, IsJoinTable, IsAddColumn, IsDropColumn, IsRenameColumn, IsOperator}
+use Rattle.smo_parse.specs.Productions.{AreColumns, IsPart, IsTest, IsTree, IsNop, IsCreateTable, IsDropTable, IsRenameTable, IsCopyTable, IsMergeTable, IsPartitionTable, IsDecomposeTable, IsJoinTable, IsAddColumn, IsDropColumn, IsRenameColumn, IsOperator}
 use Rattle.smo_parse.specs.Texts.{listed, column_text, part_text, expr_text, cond_text, operator_text}
 use Rattle.smo_parse.specs.Printed.{tree_depth}
 use Rattle.smo_parse.proofs.Spelled.{right4, right6, right8}
 use Rattle.smo_parse.proofs.PrintedTrees.{AllLawful}
 use Rattle.smo_parse.proofs.PrintedParts.{Read, Printed, unlead, left, right, unmap, named, as_bytes, among, bind_printed, map_printed, name_then, last_name, word_first, word_next, word_last, comma_next, spaced_printed, open_next, close_last, tree_printed, test_printed, where_printed, columns_printed, part_printed, CREATE, TABLE, DROP, RENAME, COPY, MERGE, PARTITION, DECOMPOSE, JOIN, ADD, COLUMN, INTO, WITH, AS, FROM, IN, TO, NOP}
+use Rattle.expr_grammar.specs.Where.{IsWhere}
 
 -- an operator of one production
 abbrev Prints : (Operator → Size → List Lexeme → Type 0) → Operator → Type 0
@@ -129,7 +130,7 @@ join_prints o deep h =
     subst P {x = join_table r.same.0 s.same.0 t.same.0 c.same.0} (sym c.same.1)
     (as_bytes IsJoinTable 256 _ _ _ (right8 (codes "JOIN TABLE ") r.same.0 (codes ", ") s.same.0 (codes " INTO ") t.same.0 (codes " WHERE ") (cond_text c.same.0))
     (word_first (codes "JOIN") _ 256 _ _ JOIN (word_first (codes "TABLE") _ 256 _ _ TABLE (name_then _ 256 r.same.0 _ _ i refl (comma_next _ 256 _ _
-    (name_then _ 256 s.same.0 _ _ j refl (word_next (codes "INTO") _ 256 _ _ INTO (name_then _ 256 t.same.0 _ _ k refl (spaced_printed _ 256 _ _ (map_printed _ IsWhere 256 c.same.0 _ y))))))))))
+    (name_then _ 256 s.same.0 _ _ j refl (word_next (codes "INTO") _ 256 _ _ INTO (name_then _ 256 t.same.0 _ _ k refl (spaced_printed _ 256 _ _ (map_printed _ (IsWhere false) 256 c.same.0 _ y))))))))))
 
 add_prints : (o : Operator) → tree_depth o ≤ 32 → Read IsAddColumn o → Prints IsAddColumn o
 unfolding operator_text

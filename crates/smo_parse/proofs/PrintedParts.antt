@@ -14,7 +14,8 @@ use Rattle.expr_grammar.specs.Grammar as g
 use Rattle.expr_grammar.specs.Grammar.{leaf, IsExpr, IsCond}
 use Rattle.expr_grammar.specs.Constants.{nameG, namesG}
 use Rattle.expr_grammar.proofs.Singles.{name_is}
-use Rattle.smo_parse.specs.Productions.{IsType, IsColumn, AreColumns, IsPart, IsTest, IsTree, IsWhere, IsNop, IsCreateTable, IsDropTable, IsRenameTable, IsCopyTable, IsMergeTable, IsPartitionTable, IsDecomposeTable, IsJoinTable, IsAddColumn, IsDropColumn, IsRenameColumn, IsOperator}
+use Rattle.expr_grammar.specs.Where.{IsWhere}
+use Rattle.smo_parse.specs.Productions.{IsType, IsColumn, AreColumns, IsPart, IsTest, IsTree, IsNop, IsCreateTable, IsDropTable, IsRenameTable, IsCopyTable, IsMergeTable, IsPartitionTable, IsDecomposeTable, IsJoinTable, IsAddColumn, IsDropColumn, IsRenameColumn, IsOperator}
 use Rattle.smo_parse.specs.TreeTexts.{tree_text, test_text}
 use Rattle.smo_parse.specs.Texts.{more_listed, listed, type_text, column_text, part_text, expr_text, cond_text, operator_text}
 use Rattle.smo_parse.specs.Printed.{tree_depth}
@@ -236,13 +237,13 @@ true_printed = record {
 }
 
 -- a missing WHERE is printed
-pub where_printed : (c : Test) → test_depth c ≤ 32 → Read IsWhere c → Printed IsWhere 256 c (codes "WHERE " ++ cond_text c)
+pub where_printed : (c : Test) → test_depth c ≤ 32 → Read (IsWhere false) c → Printed (IsWhere false) 256 c (codes "WHERE " ++ cond_text c)
 where_printed c deep h = by_case h.same
   where
-    written : Printed IsTest 256 c (cond_text c) → Printed IsWhere 256 c (codes "WHERE " ++ cond_text c)
-    written p = among (leadG (word (codes "WHERE")) IsTest) IsWhere 256 c (codes "WHERE " ++ cond_text c) (λ s f k. inr k) (word_first (codes "WHERE") IsTest 256 c (cond_text c) WHERE p)
+    written : Printed IsTest 256 c (cond_text c) → Printed (IsWhere false) 256 c (codes "WHERE " ++ cond_text c)
+    written p = among (leadG (word (codes "WHERE")) IsTest) (IsWhere false) 256 c (codes "WHERE " ++ cond_text c) (λ s f k. inr k) (word_first (codes "WHERE") IsTest 256 c (cond_text c) WHERE p)
 
-    by_case : IsWhere c h.size h.front → Printed IsWhere 256 c (codes "WHERE " ++ cond_text c)
+    by_case : IsWhere false c h.size h.front → Printed (IsWhere false) 256 c (codes "WHERE " ++ cond_text c)
     by_case (inl k) = let P : Test → Type 0 = λ d. Printed IsTest 256 d (cond_text d) in written (subst P (sym k.0) true_printed)
     by_case (inr k) = written (test_printed c deep (unlead (word (codes "WHERE")) IsTest c (record { size = h.size; front = h.front; same = k; lawful = h.lawful; few = h.few; narrow = h.narrow })))
 

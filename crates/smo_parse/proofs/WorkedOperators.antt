@@ -12,8 +12,9 @@ use Rattle.lexical_grammar.specs.Lexemes.{Lexeme, word, number, sign, is_name}
 use Rattle.parser_combinators.specs.Parsing.{nothing_counted, Out, Got, Stuck, Over, as_many, more, nodes_more}
 use Rattle.expr_grammar.specs.Constants.{name, names}
 use Rattle.expr_grammar.specs.Reader.{ref_rest, length_rest, concat_rest, expr, comparison, bracketed, fact, facts, conj, conjs, cond, outermost}
+use Rattle.expr_grammar.specs.Where.{outer_where}
 use Rattle.smo_parse.specs.Productions.{IsOperator}
-use Rattle.smo_parse.specs.OperatorReader.{operator, column_type, column as a_column, columns, where_part, create_rest, drop_table_rest, drop_column_rest, drop_rest, rename_table_rest, rename_column_rest, rename_rest, copy_rest, merge_rest, partition_rest, part, decompose_rest, join_rest, add_rest}
+use Rattle.smo_parse.specs.OperatorReader.{operator, column_type, column as a_column, columns, create_rest, drop_table_rest, drop_column_rest, drop_rest, rename_table_rest, rename_column_rest, rename_rest, copy_rest, merge_rest, partition_rest, part, decompose_rest, join_rest, add_rest}
 
 -- ---- lexemes
 
@@ -128,20 +129,20 @@ trees :
     × Reads (join (WHERE ∷ word a ∷ equals ∷ one ∷ AND ∷ TRUE ∷ comma ∷ [])) (Got (join_table r s t (all_of (a_test is_one (a_test always no_tests)))) 5 (comma ∷ []))
     × Reads (partition (word a ∷ equals ∷ one ∷ comma ∷ word t ∷ [])) (Got (partition_table r s is_one t) 3 [])
     × Reads (add (word (codes "LENGTH") ∷ opened ∷ word a ∷ closed ∷ INTO ∷ word r ∷ [])) (Got (add_column c (length_of (col a)) r) 2 [])
-unfolding operator name is_name join_rest where_part partition_rest add_rest ref_rest length_rest expr comparison bracketed fact facts conj conjs cond outermost more nodes_more
+unfolding operator name is_name join_rest outer_where partition_rest add_rest ref_rest length_rest expr comparison bracketed fact facts conj conjs cond outermost more nodes_more
 trees = (refl, refl, refl, refl, refl)
 
 -- ---- faults: what stands from the first wrong lexeme on
 
 faults :
-    Reads [] (Stuck [])
-    × Reads (DROP ∷ word r ∷ []) (Stuck (word r ∷ []))
-    × Reads (DROP ∷ COLUMN ∷ word c ∷ []) (Stuck [])
-    × Reads (word (codes "MERGE") ∷ TABLE ∷ word r ∷ INTO ∷ word t ∷ []) (Stuck (INTO ∷ word t ∷ []))
-    × Reads (RENAME ∷ TABLE ∷ word r ∷ INTO ∷ TABLE ∷ []) (Stuck (TABLE ∷ []))
-    × Reads (partition (word a ∷ comma ∷ word t ∷ [])) (Stuck (comma ∷ word t ∷ []))
-    × Reads (add (number (pos 9223372036854775808) ∷ INTO ∷ word r ∷ [])) (Stuck (number (pos 9223372036854775808) ∷ INTO ∷ word r ∷ []))
-    × Reads (add (number (negsuc 9223372036854775808) ∷ INTO ∷ word r ∷ [])) (Stuck (number (negsuc 9223372036854775808) ∷ INTO ∷ word r ∷ []))
+    Reads [] (Stuck 0 [])
+    × Reads (DROP ∷ word r ∷ []) (Stuck 0 (word r ∷ []))
+    × Reads (DROP ∷ COLUMN ∷ word c ∷ []) (Stuck 0 [])
+    × Reads (word (codes "MERGE") ∷ TABLE ∷ word r ∷ INTO ∷ word t ∷ []) (Stuck 0 (INTO ∷ word t ∷ []))
+    × Reads (RENAME ∷ TABLE ∷ word r ∷ INTO ∷ TABLE ∷ []) (Stuck 0 (TABLE ∷ []))
+    × Reads (partition (word a ∷ comma ∷ word t ∷ [])) (Stuck 1 (comma ∷ word t ∷ []))
+    × Reads (add (number (pos 9223372036854775808) ∷ INTO ∷ word r ∷ [])) (Stuck 0 (number (pos 9223372036854775808) ∷ INTO ∷ word r ∷ []))
+    × Reads (add (number (negsuc 9223372036854775808) ∷ INTO ∷ word r ∷ [])) (Stuck 0 (number (negsuc 9223372036854775808) ∷ INTO ∷ word r ∷ []))
 unfolding operator name is_name drop_rest drop_column_rest rename_rest rename_table_rest merge_rest partition_rest add_rest ref_rest expr comparison fact conj cond outermost
 faults = (refl, refl, refl, refl, refl, refl, refl, refl)
 
@@ -151,11 +152,11 @@ abbrev others : List Lexeme
 others = comma ∷ one ∷ comma ∷ one ∷ comma ∷ one ∷ comma ∷ one ∷ comma ∷ one ∷ comma ∷ one ∷ comma ∷ one ∷ []
 
 too_much :
-    Reads (join (WHERE ∷ (replicate 33 opened ++ equals ∷ []))) (Over Depth (opened ∷ equals ∷ []))
-    × Reads (add (word (codes "CONCAT") ∷ opened ∷ one ∷ (others ++ comma ∷ equals ∷ []))) (Over Parts (comma ∷ equals ∷ []))
+    Reads (join (WHERE ∷ (replicate 33 opened ++ equals ∷ []))) (Over Depth 0 (opened ∷ equals ∷ []))
+    × Reads (add (word (codes "CONCAT") ∷ opened ∷ one ∷ (others ++ comma ∷ equals ∷ []))) (Over Parts 9 (comma ∷ equals ∷ []))
     × (operator 254 (add (word (codes "LENGTH") ∷ opened ∷ word a ∷ closed ∷ INTO ∷ word r ∷ [])) ≡ Got (add_column c (length_of (col a)) r) 256 [])
-    × (operator 255 (add (word (codes "LENGTH") ∷ opened ∷ word a ∷ closed ∷ INTO ∷ word r ∷ [])) ≡ Over Nodes (word a ∷ closed ∷ INTO ∷ word r ∷ []))
-unfolding operator name is_name join_rest where_part add_rest ref_rest length_rest concat_rest expr comparison bracketed fact facts conj conjs cond outermost more nodes_more
+    × (operator 255 (add (word (codes "LENGTH") ∷ opened ∷ word a ∷ closed ∷ INTO ∷ word r ∷ [])) ≡ Over Nodes 256 (word a ∷ closed ∷ INTO ∷ word r ∷ []))
+unfolding operator name is_name join_rest outer_where add_rest ref_rest length_rest concat_rest expr comparison bracketed fact facts conj conjs cond outermost more nodes_more
 too_much = (refl, refl, refl, refl)
 
 -- ---- and by the grammar

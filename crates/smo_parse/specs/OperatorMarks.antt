@@ -6,8 +6,10 @@ use Rattle.cond_expr.specs.Trees.{Test}
 use Rattle.lexical_grammar.specs.Lexemes.{Lexeme}
 use Rattle.parser_combinators.specs.Parsing.{Size}
 use Rattle.parser_combinators.specs.Marks.{Mark, plain}
+use Rattle.parser_combinators.specs.Passings.{Passing, mark_pass}
 use Rattle.expr_grammar.specs.TreeMarks.{expr_marks, cond_marks}
-use Rattle.smo_parse.specs.Productions.{IsWhere, IsPartitionTable, IsJoinTable, IsAddColumn, IsOperator}
+use Rattle.expr_grammar.specs.Where.{IsWhere}
+use Rattle.smo_parse.specs.Productions.{IsPartitionTable, IsJoinTable, IsAddColumn, IsOperator}
 
 -- nothing at each of these
 abbrev pub uncounted : List Lexeme → List Mark
@@ -20,7 +22,7 @@ partition_marks o s f h =
     plain ∷ plain ∷ plain ∷ plain ∷ plain ∷ plain ∷ (cond_marks false c.0 c.1 c.3 c.7 ++ plain ∷ plain ∷ [])
 
 -- nothing, or WHERE and the condition
-abbrev pub where_marks : (c : Test) (s : Size) (f : List Lexeme) → IsWhere c s f → List Mark
+abbrev pub where_marks : (c : Test) (s : Size) (f : List Lexeme) → IsWhere false c s f → List Mark
 where_marks c s f (inl h) = []
 where_marks c s f (inr h) = plain ∷ cond_marks false c s h.0 h.2
 
@@ -50,3 +52,7 @@ operator_marks o s f (inr (inr (inr (inr (inr (inr (inr (inr (inl h))))))))) = j
 operator_marks o s f (inr (inr (inr (inr (inr (inr (inr (inr (inr (inl h)))))))))) = add_marks o s f h
 operator_marks o s f (inr (inr (inr (inr (inr (inr (inr (inr (inr (inr (inl h))))))))))) = uncounted f
 operator_marks o s f (inr (inr (inr (inr (inr (inr (inr (inr (inr (inr (inr h))))))))))) = uncounted f
+
+-- at which of them a count passes its limit
+abbrev pub operator_passes : Passing IsOperator
+operator_passes = mark_pass IsOperator operator_marks

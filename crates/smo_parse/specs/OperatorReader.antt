@@ -9,6 +9,7 @@ use Rattle.lexical_grammar.specs.Lexemes.{Lexeme, is_word, is_sign}
 use Rattle.parser_combinators.specs.Parsing.{Parser, Arm, No, Takes, bind, pure, map_to, lead, choose, option, many}
 use Rattle.expr_grammar.specs.Reader.{outermost, goes_cond}
 use Rattle.expr_grammar.specs.Constants.{name, names}
+use Rattle.expr_grammar.specs.Where.{outer_where, goes_where}
 
 -- ---- parts of operators
 
@@ -23,9 +24,6 @@ column = bind name (λ n. map_to (λ k. (n, k)) column_type)
 
 unfoldable pub columns : Parser (List Column)
 columns = bind column (λ c. map_to (λ l. c ∷ l) (many (is_sign (codes ",")) column))
-
-unfoldable pub where_part : Parser Test
-where_part = option (is_word (codes "WHERE")) (Takes (outermost false).cond) always
 
 -- ---- the operators, each behind its first word or words
 
@@ -86,7 +84,7 @@ decompose_rest = lead (is_word (codes "TABLE")) (bind name (λ r. lead (is_word 
 
 -- behind JOIN
 unfoldable pub join_rest : Parser Operator
-join_rest = lead (is_word (codes "TABLE")) (bind name (λ r. lead (is_sign (codes ",")) (bind name (λ s. lead (is_word (codes "INTO")) (bind name (λ t. map_to (λ c. join_table r s t c) where_part))))))
+join_rest = lead (is_word (codes "TABLE")) (bind name (λ r. lead (is_sign (codes ",")) (bind name (λ s. lead (is_word (codes "INTO")) (bind name (λ t. map_to (λ c. join_table r s t c) (outer_where false)))))))
 
 -- behind ADD
 unfoldable pub add_rest : Parser Operator
@@ -105,10 +103,7 @@ operator = choose operator_arm
 
 -- ---- what may stand behind a whole one and still go on with it
 
-abbrev pub goes_where : Lexeme → Bool
-goes_where x = is_word (codes "WHERE") x || goes_cond false x
-
 -- The lexemes with which some whole operator goes on: WHERE, of a JOIN without one, and AND and OR, of a JOIN's condition. In front of
 -- each other lexeme every operator is at its end.
 abbrev pub goes_operator : Lexeme → Bool
-goes_operator = goes_where
+goes_operator = goes_where false

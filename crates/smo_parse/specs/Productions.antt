@@ -10,6 +10,7 @@ use Rattle.lexical_grammar.specs.Lexemes.{word, sign}
 use Rattle.parser_combinators.specs.Parsing.{Grammar, bindG, pureG, leadG, mapG, optionG, eitherG, listG}
 use Rattle.expr_grammar.specs.Grammar.{IsExpr, IsCond}
 use Rattle.expr_grammar.specs.Constants.{nameG, namesG}
+use Rattle.expr_grammar.specs.Where.{IsWhere}
 
 -- ---- parts of operators
 
@@ -35,10 +36,6 @@ IsTest = IsCond false
 
 abbrev pub IsTree : Grammar Tree
 IsTree = IsExpr false
-
--- [ WHERE cond ]: what is missing is TRUE
-abbrev pub IsWhere : Grammar Test
-IsWhere = optionG always (word (codes "WHERE")) IsTest
 
 -- ---- the twelve operators
 
@@ -83,7 +80,7 @@ IsDecomposeTable = leadG (word (codes "DECOMPOSE")) (leadG (word (codes "TABLE")
 -- JOIN TABLE name , name INTO name [ WHERE cond ]
 abbrev pub IsJoinTable : Grammar Operator
 IsJoinTable = leadG (word (codes "JOIN")) (leadG (word (codes "TABLE")) (bindG nameG (λ left. leadG (sign (codes ",")) (bindG nameG (λ right.
-    leadG (word (codes "INTO")) (bindG nameG (λ into. mapG (λ c. join_table left right into c) IsWhere)))))))
+    leadG (word (codes "INTO")) (bindG nameG (λ into. mapG (λ c. join_table left right into c) (IsWhere false))))))))
 
 -- ADD COLUMN name AS expr INTO name
 abbrev pub IsAddColumn : Grammar Operator

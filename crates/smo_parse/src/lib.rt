@@ -13,7 +13,7 @@ mod parse;
 mod tree_printer;
 
 pub use laws::{operator_marks_add_up, operators_are_good, printed_operators_are_read};
-pub use op_printer::op_text;
+pub use op_printer::{op_text, write_columns, write_names};
 pub use operator_reader::operator;
 pub use parse::parse_op;
-pub use tree_printer::{write_cond, write_expr};
+pub use tree_printer::{put, write_cond, write_expr};

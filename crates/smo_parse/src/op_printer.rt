@@ -49,8 +49,9 @@ fn write_more_columns(out: &mut Vec<u8>, columns: &[(Name, ColType)]) -> Result<
     Ok(())
 }
 
-// Columns with commas between them.
-fn write_columns(out: &mut Vec<u8>, columns: &[(Name, ColType)]) -> Result<(), NoMemory>
+/// Writes columns with commas between them, each its name and its type, behind what is there. The one
+/// error is `NoMemory`, where memory runs out.
+pub fn write_columns(out: &mut Vec<u8>, columns: &[(Name, ColType)]) -> Result<(), NoMemory>
     ensures { OnOk result (out.new.items ≡ out.old.items ++ listed (map column_text columns.now)) }
 {
     match columns {
@@ -72,8 +73,9 @@ fn write_more_names(out: &mut Vec<u8>, names: &[Name]) -> Result<(), NoMemory>
     Ok(())
 }
 
-// Names with commas between them.
-fn write_names(out: &mut Vec<u8>, names: &[Name]) -> Result<(), NoMemory>
+/// Writes names with commas between them behind what is there. The one error is `NoMemory`, where
+/// memory runs out.
+pub fn write_names(out: &mut Vec<u8>, names: &[Name]) -> Result<(), NoMemory>
     ensures { OnOk result (out.new.items ≡ out.old.items ++ listed names.now) }
 {
     match names {

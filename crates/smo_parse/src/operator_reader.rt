@@ -2,15 +2,13 @@
 
 ghost use Rattle.std.specs.Prelude.{◌≡◌, ◌<◌, length, codes};
 ghost use Rattle.cond_expr.specs.Seen.{tree, test};
-ghost use Rattle.cond_expr.specs.Trees.{always};
 ghost use Rattle.smo_types.specs.Operators.{operator_of};
 ghost use Rattle.lexical_grammar.specs.Lexemes.{is_word, is_sign};
 ghost use Rattle.parser_combinators.specs.Parsing.{many};
 ghost use Rattle.parser_combinators.specs.Reads.{Reads, ReadsMore, ahead};
 ghost use Rattle.smo_parse.specs.OperatorReader as spec;
 
-use cond_expr::Cond;
-use lexer::{Cursor, Stop, name, names, outer_cond, outer_expr};
+use lexer::{Cursor, Stop, name, names, outer_cond, outer_expr, outer_where};
 use prima_base::{ColType, Name};
 use smo_ops::Op;
 use std::alloc::Global;
@@ -65,25 +63,6 @@ fn columns(alloc: Global, c: &mut Cursor<'_, '_>) -> Result<Vec<(Name, ColType)>
     let mut list = vec![in alloc; first]?;
     more_columns(alloc, c, &mut list)?;
     Ok(list)
-}
-
-// The condition that holds.
-fn everywhere() -> Cond
-    ensures { test result ≡ always }
-{
-    Cond::True
-}
-
-// The condition of a JOIN; a missing one is TRUE.
-#[tactic(auto, unfolding(crate::specs::OperatorReader::where_part), using(parser_combinators::proofs::ReadSteps::option_not, parser_combinators::proofs::ReadSteps::option_takes))]
-fn where_part(alloc: Global, c: &mut Cursor<'_, '_>) -> Result<Cond, Stop>
-    ensures { Reads test (spec.where_part c.old.nodes (ahead c.old)) result c.new }
-{
-    if !c.sees_word(b"WHERE") {
-        return Ok(everywhere());
-    }
-    c.skip();
-    outer_cond(alloc, c, false)
 }
 
 // A table's name and, in brackets, the names of its columns.
@@ -269,7 +248,7 @@ fn join_rest(alloc: Global, c: &mut Cursor<'_, '_>) -> Result<Op, Stop>
     let right = name(alloc, c)?;
     c.expect_word(b"INTO")?;
     let into = name(alloc, c)?;
-    let cond = where_part(alloc, c)?;
+    let cond = outer_where(alloc, c, false)?;
     Ok(Op::JoinTable {
         left,
         right,

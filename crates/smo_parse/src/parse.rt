@@ -5,11 +5,11 @@ ghost use Rattle.smo_types.specs.Operators.{Operator, operator_of};
 ghost use Rattle.lexical_grammar.specs.Lexemes.{Lexeme};
 ghost use Rattle.parser_combinators.specs.declared.reading.Stop.TheVariants as stop;
 ghost use Rattle.parser_combinators.specs.Parsing.{Size, Stops, limit};
-ghost use Rattle.parser_combinators.specs.Found.{IsRead, Finds, Ends, IsFirstFault, IsTooMany, Follows, FaultAt, lexemes_from};
-ghost use Rattle.parser_combinators.specs.Marks.{FirstPassed};
+ghost use Rattle.parser_combinators.specs.Found.{IsRead, Finds, Ends, IsTooMany, Follows, FaultAt, lexemes_from};
+ghost use Rattle.parser_combinators.specs.Passes.{IsFirstPass, IsFaultOf};
 ghost use Rattle.prima_base.specs.declared.refusals.What.{What as Counted};
 ghost use Rattle.smo_parse.specs.Productions.{IsOperator};
-ghost use Rattle.smo_parse.specs.OperatorMarks.{operator_marks};
+ghost use Rattle.smo_parse.specs.OperatorMarks.{operator_passes};
 ghost use Rattle.smo_parse.specs.OperatorReader as spec;
 
 use crate::operator_reader::operator;
@@ -38,10 +38,10 @@ pub fn parse_op(alloc: Global, list: &[Token<'_>], from: usize) -> Result<(Op, u
     ensures longest { (o : Operator) (s : Size) (front rest : List Lexeme) → lexemes_from list.now from ≡ front ++ rest → IsOperator o s front → Ends IsOperator (lexemes_from list.now from) (length front) →
         Finds operator_of o s (from + length front) result }
     // A fault is at the first token with which nothing of the grammar goes on, or at which a count passes its limit.
-    ensures fault { IsFirstFault IsOperator operator_marks list.now from result }
+    ensures fault { IsFaultOf IsOperator operator_passes list.now from result }
     // A front that passes a limit at its last token is refused there for this count, whatever stands behind it.
     ensures over { (w : Counted) (front rest more : List Lexeme) (x : Lexeme) (o : Operator) (s : Size) (h : IsOperator o s (front ++ x ∷ more)) → lexemes_from list.now from ≡ front ++ x ∷ rest →
-        FirstPassed w (operator_marks o s (front ++ x ∷ more) h) (length front) → IsTooMany w result }
+        IsFirstPass w (operator_passes o s (front ++ x ∷ more) h) (length front) → IsTooMany w result }
     ensures exact { Follows operator_of (spec.operator 0 (lexemes_from list.now from)) list.now result }
 {
     let mut cursor = Cursor {

@@ -8,8 +8,8 @@ use cond_expr::{CmpOp, ColRef, Cond, Expr, Whose};
 use itoa::Buffer;
 use prima_base::{NoMemory, Value};
 
-/// Writes these bytes behind what is there.
-pub(crate) fn put(out: &mut Vec<u8>, bytes: &[u8]) -> Result<(), NoMemory>
+/// Writes these bytes behind what is there. The one error is `NoMemory`, where memory runs out.
+pub fn put(out: &mut Vec<u8>, bytes: &[u8]) -> Result<(), NoMemory>
     ensures ok { OnOk result (out.new.items ≡ out.old.items ++ bytes.now) }
     ensures front { take (length out.old.items) out.new.items ≡ out.old.items }
 {

@@ -14,9 +14,11 @@ use Rattle.parser_combinators.proofs.Alternatives.{stops_never, or_left, or_righ
 use Rattle.expr_grammar.proofs.Singles.{name_good, maybe_good}
 use Rattle.parser_combinators.proofs.Fresh.{fresh_good}
 use Rattle.expr_grammar.proofs.Goodness.{outermost_good}
+use Rattle.expr_grammar.specs.Where.{IsFreshWhere, fresh_where, goes_where}
+use Rattle.expr_grammar.proofs.Where.{fresh_where_good}
 use Rattle.plain_answers.specs.Branches.{Item, PlainBranch, a_branch}
-use Rattle.temporal_lang.specs.QueryGrammar.{IsOutput, AreOutputs, IsAlias, IsItem, AreItems, IsWhere, IsBranch, AreBranches}
-use Rattle.temporal_lang.specs.QueryReader.{output, outputs, alias, item, items, where_part, branch, branches, goes_item, goes_items, goes_where, goes_branch, goes_branches}
+use Rattle.temporal_lang.specs.QueryGrammar.{IsOutput, AreOutputs, IsAlias, IsItem, AreItems, IsBranch, AreBranches}
+use Rattle.temporal_lang.specs.QueryReader.{output, outputs, alias, item, items, branch, branches, goes_item, goes_items, goes_branch, goes_branches}
 use Rattle.temporal_lang.proofs.CountedLists.{option_front, counted_good}
 
 -- goes on with nothing
@@ -59,23 +61,14 @@ pub items_good : Good 0 32 items AreItems goes_items
 unfolding items
 items_good = counted_good (is_sign (codes ",")) (sign (codes ",")) (sign_is (codes ",")) (sign_exact (codes ",")) item IsItem goes_item item_good refl Tables (λ s n h. h) 7 refl
 
--- ---- the condition
-
-pub where_good : Good 0 32 where_part IsWhere goes_where
-unfolding where_part
-where_good = option_takes_good (is_word (codes "WHERE")) (word (codes "WHERE")) (word_is (codes "WHERE")) (word_exact (codes "WHERE")) 0 32 (fresh (outermost true).cond) always (freshG (IsCond true)) goes_where
-    (λ x e. ap (λ b. b || goes_cond true x) e)
-    (good_goes 0 32 (fresh (outermost true).cond) (freshG (IsCond true)) (goes_cond true) goes_where (λ x h. or_right (is_word (codes "WHERE") x) (goes_cond true x) h)
-    (fresh_good 32 (outermost true).cond (IsCond true) 0 (goes_cond true) (outermost_good true).cond))
-
 -- ---- branches
 
 -- what stops a branch stops its parts
 fewer_items : (x : Lexeme) → goes_branch x ≡ false → goes_items x ≡ false
-fewer_items x h = or_left (goes_items x) (goes_where x) h
+fewer_items x h = or_left (goes_items x) (goes_where true x) h
 
-pub fewer_where : (x : Lexeme) → goes_branch x ≡ false → goes_where x ≡ false
-fewer_where x h = or_right (goes_items x) (goes_where x) h
+pub fewer_where : (x : Lexeme) → goes_branch x ≡ false → goes_where true x ≡ false
+fewer_where x h = or_right (goes_items x) (goes_where true x) h
 
 -- WHERE is no name
 where_no_name : goes_items (word (codes "WHERE")) ≡ false
@@ -84,20 +77,20 @@ where_no_name = refl
 
 -- items, and the condition
 module _ (outs : List Tree) where
-  pub behind_items : (from : List Item) (b : PlainBranch) (s : Size) (ts rest : List Lexeme) → mapG (λ c. a_branch outs from c) IsWhere b s ts → Stops goes_branch rest → Stops goes_items (ts ++ rest)
+  pub behind_items : (from : List Item) (b : PlainBranch) (s : Size) (ts rest : List Lexeme) → mapG (λ c. a_branch outs from c) (IsFreshWhere true) b s ts → Stops goes_branch rest → Stops goes_items (ts ++ rest)
   behind_items from b s ts rest h stops = option_front goes_items always (word (codes "WHERE")) (freshG (IsCond true)) where_no_name h.0 s ts rest h.2 (stops_fewer goes_items goes_branch fewer_items rest stops)
 
-  pub where_then_good : (from : List Item) → Good 0 32 (map_to (λ c. a_branch outs from c) where_part) (mapG (λ c. a_branch outs from c) IsWhere) goes_branch
-  where_then_good from = map_good 0 32 (λ c. a_branch outs from c) where_part IsWhere goes_branch (good_goes 0 32 where_part IsWhere goes_where goes_branch fewer_where where_good)
+  pub where_then_good : (from : List Item) → Good 0 32 (map_to (λ c. a_branch outs from c) (fresh_where true)) (mapG (λ c. a_branch outs from c) (IsFreshWhere true)) goes_branch
+  where_then_good from = map_good 0 32 (λ c. a_branch outs from c) (fresh_where true) (IsFreshWhere true) goes_branch (good_goes 0 32 (fresh_where true) (IsFreshWhere true) (goes_where true) goes_branch fewer_where (fresh_where_good true))
 
-  pub from_good : Good 0 32 (lead (is_word (codes "FROM")) (bind items (λ from. map_to (λ c. a_branch outs from c) where_part))) (leadG (word (codes "FROM")) (bindG AreItems (λ from. mapG (λ c. a_branch outs from c) IsWhere))) goes_branch
+  pub from_good : Good 0 32 (lead (is_word (codes "FROM")) (bind items (λ from. map_to (λ c. a_branch outs from c) (fresh_where true)))) (leadG (word (codes "FROM")) (bindG AreItems (λ from. mapG (λ c. a_branch outs from c) (IsFreshWhere true)))) goes_branch
   from_good = lead_good (is_word (codes "FROM")) (word (codes "FROM")) (word_is (codes "FROM")) (word_exact (codes "FROM")) 0 32 _ _ goes_branch
       (bind_good 0 32 items _ AreItems _ goes_items goes_branch items_good where_then_good behind_items)
 
 pub branch_good : Good 0 32 branch IsBranch goes_branch
 unfolding branch
 branch_good = lead_good (is_word (codes "SELECT")) (word (codes "SELECT")) (word_is (codes "SELECT")) (word_exact (codes "SELECT")) 0 32 _ _ goes_branch
-    (bind_lead 0 32 outputs _ AreOutputs (word (codes "FROM")) (λ outs. bindG AreItems (λ from. mapG (λ c. a_branch outs from c) IsWhere)) goes_outputs goes_branch refl outputs_good from_good)
+    (bind_lead 0 32 outputs _ AreOutputs (word (codes "FROM")) (λ outs. bindG AreItems (λ from. mapG (λ c. a_branch outs from c) (IsFreshWhere true))) goes_outputs goes_branch refl outputs_good from_good)
 
 -- a branch ends before UNION
 pub union_ends : goes_branch (word (codes "UNION")) ≡ false

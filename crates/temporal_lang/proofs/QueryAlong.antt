@@ -17,15 +17,17 @@ use Rattle.expr_grammar.proofs.Singles.{small_good}
 use Rattle.expr_grammar.proofs.Goodness.{outermost_good}
 use Rattle.expr_grammar.proofs.MarkSizes.{expr_length, cond_length}
 use Rattle.expr_grammar.proofs.MarksJoined.{expr_marked, cond_marked}
+use Rattle.expr_grammar.specs.Where.{IsFreshWhere, fresh_where, goes_where, where_passes}
+use Rattle.expr_grammar.proofs.Where.{fresh_where_along}
 use Rattle.parser_combinators.proofs.Alternatives.{stops_never, or_left, or_right}
 use Rattle.parser_combinators.proofs.ReadSteps.{option_not}
 use Rattle.parser_combinators.proofs.Passing.{by_passes}
 use Rattle.parser_combinators.proofs.AlongParts.{GoesAlong, Light, stops_along, lead_goes, map_goes, bind_goes, option_goes, none_light, single_light, lead_light, map_light, bind_light, light_along, light_goes, fresh_goes}
 use Rattle.plain_answers.specs.Branches.{a_branch}
 use Rattle.temporal_lang.specs.Queries.{PlainQuery, a_query}
-use Rattle.temporal_lang.specs.QueryGrammar.{as_moment_or, last_moment, boundG, AreBounds, IsOutput, AreOutputs, IsAlias, IsItem, AreItems, IsWhere, IsBranch, AreBranches, IsAsOf, IsDuring, IsKeep, AreKeeps, IsKeeping, IsRange, IsWhen, IsAsk}
-use Rattle.temporal_lang.specs.QueryReader.{output, outputs, item, items, where_part, branch, branches, as_of, as_of_rest, behind_as_of, during, keep, keeps, keeping, range, when_part, ask, goes_item, goes_items, goes_where, goes_branch, goes_branches, goes_keeps, goes_keeping, goes_range, goes_when, goes_ask}
-use Rattle.temporal_lang.specs.QueryPasses.{output_passes, outputs_passes, items_passes, where_passes, branch_passes, branches_passes, keeps_passes, keeping_passes, range_passes, when_passes, ask_passes}
+use Rattle.temporal_lang.specs.QueryGrammar.{as_moment_or, last_moment, boundG, AreBounds, IsOutput, AreOutputs, IsAlias, IsItem, AreItems, IsBranch, AreBranches, IsAsOf, IsDuring, IsKeep, AreKeeps, IsKeeping, IsRange, IsWhen, IsAsk}
+use Rattle.temporal_lang.specs.QueryReader.{output, outputs, item, items, branch, branches, as_of, as_of_rest, behind_as_of, during, keep, keeps, keeping, range, when_part, ask, goes_item, goes_items, goes_branch, goes_branches, goes_keeps, goes_keeping, goes_range, goes_when, goes_ask}
+use Rattle.temporal_lang.specs.QueryPasses.{output_passes, outputs_passes, items_passes, branch_passes, branches_passes, keeps_passes, keeping_passes, range_passes, when_passes, ask_passes}
 use Rattle.temporal_lang.proofs.CountedLists.{counted_along}
 use Rattle.temporal_lang.proofs.BranchGoodness.{ends, output_good, goes_outputs, item_good, fewer_where, behind_items, branch_good, union_ends}
 use Rattle.temporal_lang.proofs.WhenGoodness.{keep_good, fewer_keeps, during_good, fewer_keeping, behind_during, fewer_range, range_front, when_good, fewer_as}
@@ -53,23 +55,16 @@ unfolding items
 items_along = counted_along (is_sign (codes ",")) (sign (codes ",")) (sign_is (codes ",")) (sign_exact (codes ",")) item IsItem goes_item item_good refl Tables (λ s n h. h) 7 refl (none_pass IsItem)
     (light_goes item IsItem goes_item item_good item_light)
 
-where_along : GoesAlong where_part IsWhere goes_where where_passes
-unfolding where_part
-where_along = option_goes (is_word (codes "WHERE")) (word (codes "WHERE")) (word_is (codes "WHERE")) (fresh (outermost true).cond) always (freshG (IsCond true)) goes_where
-    (λ x h. or_left (is_word (codes "WHERE") x) (goes_cond true x) h) (fresh_pass (IsCond true) (cond_marks true))
-    (stops_along (fresh (outermost true).cond) (freshG (IsCond true)) (goes_cond true) goes_where (fresh_pass (IsCond true) (cond_marks true)) (λ x h. or_right (is_word (codes "WHERE") x) (goes_cond true x) h)
-    (fresh_goes (outermost true).cond (IsCond true) (goes_cond true) (outermost_good true).cond (cond_marks true) (cond_length true) (cond_marked true)))
-
-where_then : GoesAlong where_part IsWhere goes_branch where_passes
-where_then = stops_along where_part IsWhere goes_where goes_branch where_passes fewer_where where_along
+where_then : GoesAlong (fresh_where true) (IsFreshWhere true) goes_branch (where_passes true)
+where_then = stops_along (fresh_where true) (IsFreshWhere true) (goes_where true) goes_branch (where_passes true) fewer_where (fresh_where_along true)
 
 branch_along : GoesAlong branch IsBranch goes_branch branch_passes
 unfolding branch
 branch_along = lead_goes (is_word (codes "SELECT")) (word (codes "SELECT")) (word_is (codes "SELECT")) _ _ goes_branch _
     (bind_goes outputs _ AreOutputs _ goes_outputs goes_branch outputs_passes _ outputs_along
     (λ outs. lead_goes (is_word (codes "FROM")) (word (codes "FROM")) (word_is (codes "FROM")) _ _ goes_branch _
-    (bind_goes items (λ from. map_to (λ c. a_branch outs from c) where_part) AreItems (λ from. mapG (λ c. a_branch outs from c) IsWhere) goes_items goes_branch items_passes _ items_along
-    (λ from. map_goes (λ c. a_branch outs from c) where_part IsWhere goes_branch where_passes where_then) (behind_items outs)))
+    (bind_goes items (λ from. map_to (λ c. a_branch outs from c) (fresh_where true)) AreItems (λ from. mapG (λ c. a_branch outs from c) (IsFreshWhere true)) goes_items goes_branch items_passes _ items_along
+    (λ from. map_goes (λ c. a_branch outs from c) (fresh_where true) (IsFreshWhere true) goes_branch (where_passes true) where_then) (behind_items outs)))
     (λ outs b s ts rest h stops. let P : List Lexeme → Type 0 = λ l. Stops goes_outputs (l ++ rest) in subst P (sym h.1) refl))
 
 branches_along : GoesAlong branches AreBranches goes_branches branches_passes
@@ -146,8 +141,8 @@ ask_along = lead_goes (is_word (codes "VERSION")) (word (codes "VERSION")) (word
     (λ a b s ts rest h stops. stops_never (ts ++ rest)))
 
 -- a whole list that is a query is read along where its counts pass limits
-pub ask_whole : (q : PlainQuery) (s : Size) (f : List Lexeme) (h : IsAsk q s f) → ask 0 f ≡ by_passes (ask_passes q s f h) f (Got q 0 [])
-ask_whole q s f h = let r = ask_along q s f h [] tt in ap (ask 0) (sym (append-nil f)) ∙ r.reads ∙ ap (λ l. by_passes (ask_passes q s f h) l (Got q 0 [])) (append-nil f)
+pub ask_whole : (q : PlainQuery) (s : Size) (f : List Lexeme) (h : IsAsk q s f) → ask 0 f ≡ by_passes 0 (ask_passes q s f h) f (Got q 0 [])
+ask_whole q s f h = let r = ask_along q s f h [] tt in ap (ask 0) (sym (append-nil f)) ∙ r.reads ∙ ap (λ l. by_passes 0 (ask_passes q s f h) l (Got q 0 [])) (append-nil f)
 
 pub ask_sized : (q : PlainQuery) (s : Size) (f : List Lexeme) (h : IsAsk q s f) → length (ask_passes q s f h) ≡ length f
 ask_sized q s f h = (ask_along q s f h [] tt).sized

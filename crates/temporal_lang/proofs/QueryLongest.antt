@@ -17,14 +17,16 @@ use Rattle.parser_combinators.proofs.Fresh.{fresh_good}
 use Rattle.expr_grammar.proofs.Singles.{name_good, small_good, moment_good}
 use Rattle.expr_grammar.proofs.Goodness.{outermost_good}
 use Rattle.expr_grammar.proofs.Longest.{expr_longest, cond_longest}
+use Rattle.expr_grammar.specs.Where.{IsFreshWhere, fresh_where}
+use Rattle.expr_grammar.proofs.Where.{fresh_where_good}
 use Rattle.temporal_lang.specs.declared.whens.When.TheVariants.{Always, AsOf, During}
 use Rattle.plain_answers.specs.Branches.{a_branch}
 use Rattle.temporal_lang.specs.Queries.{PlainQuery, a_query}
-use Rattle.temporal_lang.specs.QueryGrammar.{as_moment_or, last_moment, boundG, AreBounds, IsOutput, AreOutputs, IsAlias, IsItem, AreItems, IsWhere, IsBranch, AreBranches, IsDuring, IsKeep, AreKeeps, IsKeeping, IsRange, IsWhen, IsAsk}
-use Rattle.temporal_lang.specs.QueryReader.{output, outputs, alias, item, items, where_part, branch, branches, moment_or, bounds, as_of, as_of_rest, behind_as_of, during, between, covering, keep, keeps, keeping, range, when_part, ask, goes_item, goes_items, goes_branch, goes_branches, goes_range, goes_when, goes_ask}
+use Rattle.temporal_lang.specs.QueryGrammar.{as_moment_or, last_moment, boundG, AreBounds, IsOutput, AreOutputs, IsAlias, IsItem, AreItems, IsBranch, AreBranches, IsDuring, IsKeep, AreKeeps, IsKeeping, IsRange, IsWhen, IsAsk}
+use Rattle.temporal_lang.specs.QueryReader.{output, outputs, alias, item, items, branch, branches, moment_or, bounds, as_of, as_of_rest, behind_as_of, during, between, covering, keep, keeps, keeping, range, when_part, ask, goes_item, goes_items, goes_branch, goes_branches, goes_range, goes_when, goes_ask}
 use Rattle.temporal_lang.proofs.WholeFronts.{StuckNowhere, pure_nowhere, single_nowhere, maybe_nowhere, behind_nowhere, lead_nowhere, map_nowhere, bind_nowhere, option_nowhere, fresh_nowhere, longest_read}
 use Rattle.temporal_lang.proofs.CountedLists.{counted_nowhere}
-use Rattle.temporal_lang.proofs.BranchGoodness.{ends, output_good, goes_outputs, outputs_good, named_good, item_good, items_good, where_good, where_then_good, behind_items, from_good, branch_good, union_ends, branches_good}
+use Rattle.temporal_lang.proofs.BranchGoodness.{ends, output_good, goes_outputs, outputs_good, named_good, item_good, items_good, where_then_good, behind_items, from_good, branch_good, union_ends, branches_good}
 use Rattle.temporal_lang.proofs.WhenGoodness.{to_good, BetweenRest, CoveringRest, keep_good, keeps_good, keeping_good, DuringRest, during_rest_good, during_good, keeping_then_good, behind_during, IsMaybeAsOf, AsOfRest, BehindAsOf, as_of_rest_good, as_of_good, behind_good, behind_as, as_by_as_of}
 use Rattle.temporal_lang.proofs.QueryGoodness.{when_then_good, behind_branches, branches_then_good, ask_good}
 
@@ -55,9 +57,9 @@ items_nowhere : StuckNowhere items AreItems
 unfolding items
 items_nowhere = counted_nowhere (is_sign (codes ",")) (sign (codes ",")) (sign_is (codes ",")) (sign_exact (codes ",")) item IsItem goes_item item_good refl Tables (λ s n h. h) 7 refl item_nowhere
 
-where_nowhere : StuckNowhere where_part IsWhere
-unfolding where_part
-where_nowhere = option_nowhere (is_word (codes "WHERE")) (word (codes "WHERE")) (word_is (codes "WHERE")) (word_exact (codes "WHERE")) (fresh (outermost true).cond) always (freshG (IsCond true)) _ where_good
+where_nowhere : StuckNowhere (fresh_where true) (IsFreshWhere true)
+unfolding fresh_where
+where_nowhere = option_nowhere (is_word (codes "WHERE")) (word (codes "WHERE")) (word_is (codes "WHERE")) (word_exact (codes "WHERE")) (fresh (outermost true).cond) always (freshG (IsCond true)) _ (fresh_where_good true)
     (fresh_good 32 (outermost true).cond (IsCond true) 0 (goes_cond true) (outermost_good true).cond).live
     (fresh_nowhere (outermost true).cond (IsCond true) (goes_cond true) (outermost_good true).cond (cond_longest true))
 
@@ -68,7 +70,7 @@ branch_nowhere = lead_nowhere (is_word (codes "SELECT")) (word (codes "SELECT"))
     (λ outs b s ts rest h stops. let P : List Lexeme → Type 0 = λ l. Stops goes_outputs (l ++ rest) in subst P (sym h.1) refl) outputs_nowhere
     (λ outs. lead_nowhere (is_word (codes "FROM")) (word (codes "FROM")) (word_is (codes "FROM")) _ _
     (bind_nowhere items _ AreItems _ goes_items goes_branch items_good (where_then_good outs) (behind_items outs) items_nowhere
-    (λ from. map_nowhere (λ c. a_branch outs from c) where_part IsWhere where_nowhere))))
+    (λ from. map_nowhere (λ c. a_branch outs from c) (fresh_where true) (IsFreshWhere true) where_nowhere))))
 
 branches_nowhere : StuckNowhere branches AreBranches
 unfolding branches
@@ -99,11 +101,11 @@ covering_nowhere = map_nowhere (λ m. Covering m) moment momentG moment_nowhere
 
 keep_nowhere : StuckNowhere keep IsKeep
 unfolding keep
-keep_nowhere n a s f rest (inl h) e = behind_nowhere keep (between Starting) (word (codes "STARTING")) (λ n ts. refl) (BetweenRest Starting) (between_nowhere Starting) n a s f rest h e
-keep_nowhere n a s f rest (inr (inl h)) e = behind_nowhere keep (between Ending) (word (codes "ENDING")) (λ n ts. refl) (BetweenRest Ending) (between_nowhere Ending) n a s f rest h e
-keep_nowhere n a s f rest (inr (inr (inl h))) e = behind_nowhere keep (between Lasting) (word (codes "LASTING")) (λ n ts. refl) (BetweenRest Lasting) (between_nowhere Lasting) n a s f rest h e
-keep_nowhere n a s f rest (inr (inr (inr (inl h)))) e = behind_nowhere keep (between Overlapping) (word (codes "OVERLAPPING")) (λ n ts. refl) (BetweenRest Overlapping) (between_nowhere Overlapping) n a s f rest h e
-keep_nowhere n a s f rest (inr (inr (inr (inr h)))) e = behind_nowhere keep covering (word (codes "COVERING")) (λ n ts. refl) CoveringRest covering_nowhere n a s f rest h e
+keep_nowhere n a s f rest (inl h) c = behind_nowhere keep (between Starting) (word (codes "STARTING")) (λ n ts. refl) (BetweenRest Starting) (between_nowhere Starting) n a s f rest h c
+keep_nowhere n a s f rest (inr (inl h)) c = behind_nowhere keep (between Ending) (word (codes "ENDING")) (λ n ts. refl) (BetweenRest Ending) (between_nowhere Ending) n a s f rest h c
+keep_nowhere n a s f rest (inr (inr (inl h))) c = behind_nowhere keep (between Lasting) (word (codes "LASTING")) (λ n ts. refl) (BetweenRest Lasting) (between_nowhere Lasting) n a s f rest h c
+keep_nowhere n a s f rest (inr (inr (inr (inl h)))) c = behind_nowhere keep (between Overlapping) (word (codes "OVERLAPPING")) (λ n ts. refl) (BetweenRest Overlapping) (between_nowhere Overlapping) n a s f rest h c
+keep_nowhere n a s f rest (inr (inr (inr (inr h)))) c = behind_nowhere keep covering (word (codes "COVERING")) (λ n ts. refl) CoveringRest covering_nowhere n a s f rest h c
 
 keeps_nowhere : StuckNowhere keeps AreKeeps
 unfolding keeps
@@ -133,7 +135,7 @@ behind_as_of_nowhere None = range_nowhere
 
 when_nowhere : StuckNowhere when_part IsWhen
 unfolding when_part
-when_nowhere n a s f rest h e = bind_nowhere as_of behind_as_of IsMaybeAsOf BehindAsOf (is_word (codes "AS")) goes_when as_of_good behind_good behind_as as_of_nowhere behind_as_of_nowhere n a s f rest (as_by_as_of a s f h) e
+when_nowhere n a s f rest h c = bind_nowhere as_of behind_as_of IsMaybeAsOf BehindAsOf (is_word (codes "AS")) goes_when as_of_good behind_good behind_as as_of_nowhere behind_as_of_nowhere n a s f rest (as_by_as_of a s f h) c
 
 -- ---- queries
 

@@ -10,7 +10,7 @@ use Rattle.parser_combinators.proofs.ReadSteps.{option_not, option_takes, option
 
 -- right behind a whole text it is not stuck
 abbrev pub StuckNowhere : {A : Type 0} → Parser A → Grammar A → Type 0
-StuckNowhere {A} p G = (n : ℕ) (a : A) (s : Size) (front rest : List Lexeme) → G a s front → p n (front ++ rest) ≡ Stuck rest → ⊥
+StuckNowhere {A} p G = (n : ℕ) (a : A) (s : Size) (front rest : List Lexeme) → G a s front → (c : ℕ) → p n (front ++ rest) ≡ Stuck c rest → ⊥
 
 -- ---- two partings of one list
 
@@ -45,16 +45,16 @@ module _ {A : Type 0} (p : Parser A) (G : A → Size → List Lexeme → Type 0)
       subst (Fine 32 a s n []) e (subst P (append-nil f) (good.complete n (omega arith) a s f [] g tt))
 
   -- with the lexeme at which it is stuck nothing goes on
-  pub stuck_ends : (front : List Lexeme) (x : Lexeme) (rest : List Lexeme) → p n (front ++ x ∷ rest) ≡ Stuck (x ∷ rest) → CanGoOn G (front ++ x ∷ []) → ⊥
-  stuck_ends front x rest e h = at (parted front (x ∷ rest) k.0 (x ∷ rest) k.1)
+  pub stuck_ends : (c : ℕ) (front : List Lexeme) (x : Lexeme) (rest : List Lexeme) → p n (front ++ x ∷ rest) ≡ Stuck c (x ∷ rest) → CanGoOn G (front ++ x ∷ []) → ⊥
+  stuck_ends c front x rest e h = at (parted front (x ∷ rest) k.0 (x ∷ rest) k.1)
     where
-      k : Explains 32 (p n) G n (front ++ x ∷ rest) (Stuck (x ∷ rest))
-      k = explained (front ++ x ∷ rest) (Stuck (x ∷ rest)) e
+      k : Explains 32 (p n) G n (front ++ x ∷ rest) (Stuck c (x ∷ rest))
+      k = explained (front ++ x ∷ rest) (Stuck c (x ∷ rest)) e
 
       on : k.0 ≡ front → ⊥
       on same =
           let whole : (front ++ x ∷ []) ++ h.0 ≡ front ++ x ∷ h.0 = append_assoc front (x ∷ []) h.0 in
-          alone h.1 h.2 ((front ++ x ∷ []) ++ h.0) h.3 (Stuck (x ∷ h.0)) (ap (p n) whole ∙ ap (λ l. p n (l ++ x ∷ h.0)) (sym same) ∙ k.3 h.0)
+          alone h.1 h.2 ((front ++ x ∷ []) ++ h.0) h.3 (Stuck c (x ∷ h.0)) (ap (p n) whole ∙ ap (λ l. p n (l ++ x ∷ h.0)) (sym same) ∙ k.3 h.0)
 
       at : Longer front (x ∷ rest) k.0 (x ∷ rest) ⊎ Shorter front (x ∷ rest) k.0 (x ∷ rest) → ⊥
       at (inl ([], e, f)) = on (e ∙ append-nil front)
@@ -75,17 +75,17 @@ module _ {A : Type 0} (p : Parser A) (G : A → Size → List Lexeme → Type 0)
           let P : List Lexeme → Type 0 = λ l. G b k.1 l in
           let there = alone b k.1 f (subst P same k.3) (Got c j u) q in
           (sym there.0 ∙ here.0, t, omega (arith, here.2, there.2, k.4), here.3)
-      whole same t (Stuck u) q = absurd (alone a s f g (Stuck u) q)
-      whole same t (Over w u) q = over (explained f (Over w u) q)
+      whole same t (Stuck c u) q = absurd (alone a s f g (Stuck c u) q)
+      whole same t (Over w c u) q = over (explained f (Over w c u) q)
         where
-          over : Explains 32 (p n) G n f (Over w u) → Fine 32 a s n rest (Got b m r)
+          over : Explains 32 (p n) G n f (Over w c u) → Fine 32 a s n rest (Got b m r)
           over x = at u x
             where
-              at : (u : List Lexeme) → Explains 32 (p n) G n f (Over w u) → Fine 32 a s n rest (Got b m r)
+              at : (u : List Lexeme) → Explains 32 (p n) G n f (Over w c u) → Fine 32 a s n rest (Got b m r)
               at [] x = absurd x.2
               at (z ∷ v) x =
-                  let here : p n (f ++ rest) ≡ Over w (z ∷ (v ++ rest)) = ap (λ l. p n (l ++ rest)) x.1 ∙ ap (p n) (append_assoc x.0 (z ∷ v) rest) ∙ x.3 (v ++ rest) in
-                  let clash : Got b m r ≡ Over w (z ∷ (v ++ rest)) = sym e ∙ here in
+                  let here : p n (f ++ rest) ≡ Over w c (z ∷ (v ++ rest)) = ap (λ l. p n (l ++ rest)) x.1 ∙ ap (p n) (append_assoc x.0 (z ∷ v) rest) ∙ x.3 (v ++ rest) in
+                  let clash : Got b m r ≡ Over w c (z ∷ (v ++ rest)) = sym e ∙ here in
                   cc
 
       by_front : (d : List Lexeme) → r ≡ d ++ rest → Fine 32 a s n rest (Got b m r)
@@ -112,48 +112,48 @@ module _ {A : Type 0} (p : Parser A) (G : A → Size → List Lexeme → Type 0)
 -- ---- it composes
 
 pub pure_nowhere : {A : Type 0} (v : A) → StuckNowhere (pure v) (pureG v)
-pure_nowhere v n a s f rest h e = cc
+pure_nowhere v n a s f rest h c e = cc
 
 pub single_nowhere : {A : Type 0} (says : Lexeme → Option A) → StuckNowhere (single says) (singleG says)
-single_nowhere {A} says n a s f rest h e =
+single_nowhere {A} says n a s f rest h c e =
     let read : single says n (f ++ rest) ≡ Got a n rest = ap (λ l. single says n (l ++ rest)) h.3 ∙ ap (λ o. arm_run (single_arm o) h.0 n rest) h.1 in
-    let clash : ◌≡◌ {A = Out A} (Got a n rest) (Stuck rest) = sym read ∙ e in
+    let clash : ◌≡◌ {A = Out A} (Got a n rest) (Stuck c rest) = sym read ∙ e in
     cc
 
 pub maybe_nowhere : {A : Type 0} (says : Lexeme → Option A) (v : A) → StuckNowhere (maybe says v) (maybeG says v)
-maybe_nowhere {A} says v n a s f rest h e = never (f ++ rest) e
+maybe_nowhere {A} says v n a s f rest h c e = never (f ++ rest) e
   where
-    by_said : (o : Option A) (x : Lexeme) (ts : List Lexeme) → said_or o v x n ts ≡ Stuck rest → ⊥
+    by_said : (o : Option A) (x : Lexeme) (ts : List Lexeme) → said_or o v x n ts ≡ Stuck c rest → ⊥
     by_said None x ts e = cc
     by_said (Some b) x ts e = cc
 
-    never : (ts : List Lexeme) → maybe says v n ts ≡ Stuck rest → ⊥
+    never : (ts : List Lexeme) → maybe says v n ts ≡ Stuck c rest → ⊥
     never [] e = cc
     never (x ∷ ts) e = by_said (says x) x ts e
 
 -- behind its first lexeme it is another reader
 pub behind_nowhere : {A : Type 0} (p q : Parser A) (x : Lexeme) → ((n : ℕ) (ts : List Lexeme) → p n (x ∷ ts) ≡ q n ts) → (G : A → Size → List Lexeme → Type 0) → StuckNowhere q G → StuckNowhere p (leadG x G)
-behind_nowhere p q x same G k n a s f rest h e = k n a s h.0 rest h.2 (sym (same n (h.0 ++ rest)) ∙ ap (λ l. p n (l ++ rest)) (sym h.1) ∙ e)
+behind_nowhere p q x same G k n a s f rest h c e = k n a s h.0 rest h.2 c (sym (same n (h.0 ++ rest)) ∙ ap (λ l. p n (l ++ rest)) (sym h.1) ∙ e)
 
 pub lead_nowhere : {A : Type 0} (is : Lexeme → Bool) (x : Lexeme) → is x ≡ true → (p : Parser A) (G : A → Size → List Lexeme → Type 0) → StuckNowhere p G → StuckNowhere (lead is p) (leadG x G)
 lead_nowhere is x t p G k = behind_nowhere (lead is p) p x (λ n ts. ap (λ b. arm_run (cond b (Takes p) No) x n ts) t) G k
 
 pub either_nowhere : {A : Type 0} (p : Parser A) (G H : A → Size → List Lexeme → Type 0) → StuckNowhere p G → StuckNowhere p H → StuckNowhere p (eitherG G H)
-either_nowhere p G H g h n a s f rest (inl k) e = g n a s f rest k e
-either_nowhere p G H g h n a s f rest (inr k) e = h n a s f rest k e
+either_nowhere p G H g h n a s f rest (inl k) c e = g n a s f rest k c e
+either_nowhere p G H g h n a s f rest (inr k) c e = h n a s f rest k c e
 
 pub map_nowhere : {A B : Type 0} (m : A → B) (p : Parser A) (G : A → Size → List Lexeme → Type 0) → StuckNowhere p G → StuckNowhere (map_to m p) (mapG m G)
-map_nowhere {A} {B} m p G k n b s f rest h e = k n h.0 s f rest h.2 (inside (p n (f ++ rest)) e)
+map_nowhere {A} {B} m p G k n b s f rest h c e = k n h.0 s f rest h.2 c (inside (p n (f ++ rest)) e)
   where
-    inside : (o : Out A) → and_then o (λ a. pure (m a)) ≡ Stuck rest → o ≡ Stuck rest
+    inside : (o : Out A) → and_then o (λ a. pure (m a)) ≡ Stuck c rest → o ≡ Stuck c rest
     inside (Got a j r) e = cc
-    inside (Stuck r) e = let z : r ≡ rest = cc in ap Stuck z
-    inside (Over w r) e = cc
+    inside (Stuck j r) e = let z : r ≡ rest = cc in let y : j ≡ c = cc in ap (Stuck j) z ∙ ap (λ k. Stuck k rest) y
+    inside (Over w j r) e = cc
 
 pub bind_nowhere : {A B : Type 0} (p : Parser A) (f : A → Parser B) (G : A → Size → List Lexeme → Type 0) (H : A → B → Size → List Lexeme → Type 0) (goes goes2 : Lexeme → Bool) →
     Good 0 32 p G goes → ((a : A) → Good 0 32 (f a) (H a) goes2) → ((a : A) (b : B) (s : Size) (ts rest : List Lexeme) → H a b s ts → Stops goes2 rest → Stops goes (ts ++ rest)) →
     StuckNowhere p G → ((a : A) → StuckNowhere (f a) (H a)) → StuckNowhere (bind p f) (bindG G H)
-bind_nowhere {A} {B} p f G H goes goes2 gp gf stopping kp kf n b s front rest h e = first (p n (h.3 ++ (h.4 ++ rest))) refl (ap (λ o. and_then o f) (sym (ap (p n) whole)) ∙ e)
+bind_nowhere {A} {B} p f G H goes goes2 gp gf stopping kp kf n b s front rest h d e = first (p n (h.3 ++ (h.4 ++ rest))) refl (ap (λ o. and_then o f) (sym (ap (p n) whole)) ∙ e)
   where
     whole : front ++ rest ≡ h.3 ++ (h.4 ++ rest)
     whole = ap (λ l. l ++ rest) h.6 ∙ append_assoc h.3 h.4 rest
@@ -164,45 +164,45 @@ bind_nowhere {A} {B} p f G H goes goes2 gp gf stopping kp kf n b s front rest h 
     ended (y ∷ u) k some o q = subst (Fine 32 h.0 h.1 n (y ∷ (u ++ rest))) q (gp.complete n (omega arith) h.0 h.1 h.3 (y ∷ (u ++ rest)) h.7 (stopping h.0 b h.2 (y ∷ u) [] k tt))
 
     -- the second part is read from where the first ends
-    second : (c : A) (m : ℕ) (r : List Lexeme) → c ≡ h.0 → r ≡ h.4 ++ rest → f c m r ≡ Stuck rest → ⊥
-    second c m r same left q = kf h.0 m b h.2 h.4 rest h.8 (ap (f h.0 m) (sym left) ∙ ap (λ v. f v m r) (sym same) ∙ q)
+    second : (c : A) (m : ℕ) (r : List Lexeme) → c ≡ h.0 → r ≡ h.4 ++ rest → f c m r ≡ Stuck d rest → ⊥
+    second c m r same left q = kf h.0 m b h.2 h.4 rest h.8 d (ap (f h.0 m) (sym left) ∙ ap (λ v. f v m r) (sym same) ∙ q)
 
-    got : (u : List Lexeme) → h.4 ≡ u → (c : A) (m : ℕ) (r : List Lexeme) → p n (h.3 ++ (h.4 ++ rest)) ≡ Got c m r → f c m r ≡ Stuck rest → ⊥
+    got : (u : List Lexeme) → h.4 ≡ u → (c : A) (m : ℕ) (r : List Lexeme) → p n (h.3 ++ (h.4 ++ rest)) ≡ Got c m r → f c m r ≡ Stuck d rest → ⊥
     got [] none c m r q k =
         let alone : p n (h.3 ++ rest) ≡ Got c m r = ap (λ l. p n (h.3 ++ (l ++ rest))) (sym none) ∙ q in
-        let x = explained (f c) (H c) goes2 (gf c) m r (Stuck rest) k in
+        let x = explained (f c) (H c) goes2 (gf c) m r (Stuck d rest) k in
         let fine = read_alone p G goes gp n h.0 h.1 h.3 rest h.7 c m x.0 r x.1 alone in
         second c m r fine.0 (fine.1 ∙ ap (λ l. l ++ rest) (sym none)) k
     got (y ∷ u) some c m r q k = let fine = ended h.4 h.8 (let z = ap length some in omega (arith, z)) (Got c m r) q in second c m r fine.0 fine.1 k
 
-    stuck : (u : List Lexeme) → h.4 ≡ u → (r : List Lexeme) → p n (h.3 ++ (h.4 ++ rest)) ≡ Stuck r → r ≡ rest → ⊥
-    stuck [] none r q t = kp n h.0 h.1 h.3 rest h.7 (ap (λ l. p n (h.3 ++ (l ++ rest))) (sym none) ∙ q ∙ ap Stuck t)
-    stuck (y ∷ u) some r q t = ended h.4 h.8 (let z = ap length some in omega (arith, z)) (Stuck r) q
+    stuck : (u : List Lexeme) → h.4 ≡ u → (j : ℕ) (r : List Lexeme) → p n (h.3 ++ (h.4 ++ rest)) ≡ Stuck j r → r ≡ rest → ⊥
+    stuck [] none j r q t = kp n h.0 h.1 h.3 rest h.7 j (ap (λ l. p n (h.3 ++ (l ++ rest))) (sym none) ∙ q ∙ ap (Stuck j) t)
+    stuck (y ∷ u) some j r q t = ended h.4 h.8 (let z = ap length some in omega (arith, z)) (Stuck j r) q
 
-    first : (o : Out A) → p n (h.3 ++ (h.4 ++ rest)) ≡ o → and_then o f ≡ Stuck rest → ⊥
+    first : (o : Out A) → p n (h.3 ++ (h.4 ++ rest)) ≡ o → and_then o f ≡ Stuck d rest → ⊥
     first (Got c m r) q k = got h.4 refl c m r q k
-    first (Stuck r) q k = stuck h.4 refl r q (let z : r ≡ rest = cc in z)
-    first (Over w r) q k = cc
+    first (Stuck j r) q k = stuck h.4 refl j r q (let z : r ≡ rest = cc in z)
+    first (Over w j r) q k = cc
 
 -- ---- what may be missing, and lists
 
 module _ {A : Type 0} (is : Lexeme → Bool) (sep : Lexeme) (is_sep : is sep ≡ true) (exact : (x : Lexeme) → is x ≡ true → x ≡ sep) where
   -- what reads nothing before another lexeme is not stuck before it
   optional : (p : Parser A) (G : A → Size → List Lexeme → Type 0) (goes : Lexeme → Bool) → Good 0 32 p G goes → CanGoOn G (sep ∷ []) → (v : A) → ((n : ℕ) → p n [] ≡ Got v n []) → ((n : ℕ) (x : Lexeme) (ts : List Lexeme) → is x ≡ false → p n (x ∷ ts) ≡ Got v n (x ∷ ts)) →
-      (n : ℕ) (rest : List Lexeme) → p n rest ≡ Stuck rest → ⊥
-  optional p G goes good on v none other n [] e = let clash : ◌≡◌ {A = Out A} (Got v n []) (Stuck []) = sym (none n) ∙ e in cc
-  optional p G goes good on v none other n (x ∷ rest) e = by_test (is x) refl
+      (n : ℕ) (rest : List Lexeme) (c : ℕ) → p n rest ≡ Stuck c rest → ⊥
+  optional p G goes good on v none other n [] c e = let clash : ◌≡◌ {A = Out A} (Got v n []) (Stuck c []) = sym (none n) ∙ e in cc
+  optional p G goes good on v none other n (x ∷ rest) c e = by_test (is x) refl
     where
       by_test : (b : Bool) → is x ≡ b → ⊥
-      by_test true t = let P : Lexeme → Type 0 = λ y. CanGoOn G (y ∷ []) in stuck_ends p G goes good n [] x rest e (subst P (sym (exact x t)) on)
-      by_test false t = let clash : ◌≡◌ {A = Out A} (Got v n (x ∷ rest)) (Stuck (x ∷ rest)) = sym (other n x rest t) ∙ e in cc
+      by_test true t = let P : Lexeme → Type 0 = λ y. CanGoOn G (y ∷ []) in stuck_ends p G goes good n c [] x rest e (subst P (sym (exact x t)) on)
+      by_test false t = let clash : ◌≡◌ {A = Out A} (Got v n (x ∷ rest)) (Stuck c (x ∷ rest)) = sym (other n x rest t) ∙ e in cc
 
   pub option_nowhere : (p : Parser A) (v : A) (G : A → Size → List Lexeme → Type 0) (goes : Lexeme → Bool) → Good 0 32 (option is (Takes p) v) (optionG v sep G) goes → ((a : A) × (s : Size) × (l : List Lexeme) × G a s l) → StuckNowhere p G → StuckNowhere (option is (Takes p) v) (optionG v sep G)
-  option_nowhere p v G goes good live k n a s f rest (inl h) e =
+  option_nowhere p v G goes good live k n a s f rest (inl h) c e =
       optional (option is (Takes p) v) (optionG v sep G) goes good (live.2, live.0, live.1, inr (live.2, refl, live.3)) v (λ n. refl)
-      (λ n x ts t. ap (λ b. cond b (p n ts) (Got v n (x ∷ ts))) t) n rest (ap (λ l. option is (Takes p) v n (l ++ rest)) (sym h.2) ∙ e)
-  option_nowhere p v G goes good live k n a s f rest (inr h) e =
-      behind_nowhere (option is (Takes p) v) p sep (λ n ts. ap (λ b. cond b (p n ts) (Got v n (sep ∷ ts))) is_sep) G k n a s f rest h e
+      (λ n x ts t. ap (λ b. cond b (p n ts) (Got v n (x ∷ ts))) t) n rest c (ap (λ l. option is (Takes p) v n (l ++ rest)) (sym h.2) ∙ e)
+  option_nowhere p v G goes good live k n a s f rest (inr h) c e =
+      behind_nowhere (option is (Takes p) v) p sep (λ n ts. ap (λ b. cond b (p n ts) (Got v n (sep ∷ ts))) is_sep) G k n a s f rest h c e
 
 module _ (is : Lexeme → Bool) (sep : Lexeme) (is_sep : is sep ≡ true) (exact : (x : Lexeme) → is x ≡ true → x ≡ sep) {A : Type 0} (item : Parser A) (G : A → Size → List Lexeme → Type 0) (goes : Lexeme → Bool) (good : Good 0 32 item G goes) (apart : goes sep ≡ false)
     (w : What) (over : (s : Size) (n : ℕ) → limit w < s.wide w → Exceeds w n 32 s) (k : StuckNowhere item G) where
@@ -225,7 +225,7 @@ module _ (is : Lexeme → Bool) (sep : Lexeme) (is_sep : is sep ≡ true) (exact
   more_other zero n x ts t = option_not is (Refuses w) [] n (x ∷ ts) t
   more_other (suc m) n x ts t = option_not is (Takes (bind item (λ a. map_to (λ o. a ∷ o) (more is w item m)))) [] n (x ∷ ts) t
 
-  more_full : (n : ℕ) (ts : List Lexeme) → more is w item zero n (sep ∷ ts) ≡ Over w (sep ∷ ts)
+  more_full : (n : ℕ) (ts : List Lexeme) → more is w item zero n (sep ∷ ts) ≡ Over w n (sep ∷ ts)
   unfolding more
   more_full n ts = option_refuses is w [] n (sep ∷ ts) is_sep
 
@@ -240,15 +240,15 @@ module _ (is : Lexeme → Bool) (sep : Lexeme) (is_sep : is sep ≡ true) (exact
       k (λ a. map_nowhere (λ o. a ∷ o) (more is w item m) (AreMore sep (so_wide w) G j) inner)
 
   pub more_nowhere : (m j : ℕ) → limit w ≡ j + m → StuckNowhere (more is w item m) (AreMore sep (so_wide w) G j)
-  more_nowhere m j e n [] s f rest h q =
-      optional is sep is_sep exact (more is w item m) (AreMore sep (so_wide w) G j) more_go (more_is_good m j e) (one_more j) [] (more_none m) (λ n x ts t. more_other m n x ts t) n rest (ap (λ l. more is w item m n (l ++ rest)) (sym h.1) ∙ q)
-  more_nowhere zero j e n (a ∷ l) s f rest h q =
-      let full : more is w item zero n (f ++ rest) ≡ Over w (sep ∷ ((h.2 ++ h.3) ++ rest)) = ap (λ l. more is w item zero n (l ++ rest)) h.5 ∙ more_full n ((h.2 ++ h.3) ++ rest) in
-      let clash : ◌≡◌ {A = Out (List A)} (Over w (sep ∷ ((h.2 ++ h.3) ++ rest))) (Stuck rest) = sym full ∙ q in
+  more_nowhere m j e n [] s f rest h c q =
+      optional is sep is_sep exact (more is w item m) (AreMore sep (so_wide w) G j) more_go (more_is_good m j e) (one_more j) [] (more_none m) (λ n x ts t. more_other m n x ts t) n rest c (ap (λ l. more is w item m n (l ++ rest)) (sym h.1) ∙ q)
+  more_nowhere zero j e n (a ∷ l) s f rest h c q =
+      let full : more is w item zero n (f ++ rest) ≡ Over w n (sep ∷ ((h.2 ++ h.3) ++ rest)) = ap (λ l. more is w item zero n (l ++ rest)) h.5 ∙ more_full n ((h.2 ++ h.3) ++ rest) in
+      let clash : ◌≡◌ {A = Out (List A)} (Over w n (sep ∷ ((h.2 ++ h.3) ++ rest))) (Stuck c rest) = sym full ∙ q in
       cc
-  more_nowhere (suc m) j e n (a ∷ l) s f rest h q =
+  more_nowhere (suc m) j e n (a ∷ l) s f rest h c q =
       behind_nowhere (more is w item (suc m)) (bind item (λ a. map_to (λ o. a ∷ o) (more is w item m))) sep (λ n ts. more_next m n ts) (bindG G (λ a. mapG (λ o. a ∷ o) (AreMore sep (so_wide w) G (j + 1))))
-      (next_nowhere m (j + 1) (omega (arith, e)) (more_nowhere m (j + 1) (omega (arith, e)))) n (a ∷ l) s f rest (h.2 ++ h.3, h.5, (a, h.0, h.1, h.2, h.3, h.4, refl, h.6, (l, refl, h.7))) q
+      (next_nowhere m (j + 1) (omega (arith, e)) (more_nowhere m (j + 1) (omega (arith, e)))) n (a ∷ l) s f rest (h.2 ++ h.3, h.5, (a, h.0, h.1, h.2, h.3, h.4, refl, h.6, (l, refl, h.7))) c q
 
 -- ---- what is within the limits is one value
 
@@ -257,8 +257,8 @@ one_value {A} p G goes good a b s t f g h few lawful = by_out (p 0 f) refl
   where
     by_out : (o : Out A) → p 0 f ≡ o → a ≡ b
     by_out (Got c m r) e = sym (alone p G goes good 0 a s f g (Got c m r) e).0 ∙ (alone p G goes good 0 b t f h (Got c m r) e).0
-    by_out (Stuck r) e = absurd (alone p G goes good 0 a s f g (Stuck r) e)
-    by_out (Over w r) e = absurd (within_none w s few lawful (alone p G goes good 0 a s f g (Over w r) e))
+    by_out (Stuck c r) e = absurd (alone p G goes good 0 a s f g (Stuck c r) e)
+    by_out (Over w c r) e = absurd (within_none w s few lawful (alone p G goes good 0 a s f g (Over w c r) e))
 
 -- ---- the longest text
 
@@ -269,17 +269,17 @@ next_taken (y ∷ f) x rest = let e : length (y ∷ f) + 1 ≡ suc (length f + 1
 module _ {A : Type 0} (p : Parser A) (G : A → Size → List Lexeme → Type 0) (goes : Lexeme → Bool) (good : Good 0 32 p G goes) where
   -- with counts of its own, where the longest text is read
   pub fresh_nowhere : ((a : A) (s : Size) (front rest ts : List Lexeme) → ts ≡ front ++ rest → G a s front → Ends G ts (length front) → Fine 32 a s 0 rest (p 0 ts)) → StuckNowhere (fresh p) (freshG G)
-  fresh_nowhere longest n a s f rest h e = by_rest rest (inside (p 0 (f ++ rest)) e)
+  fresh_nowhere longest n a s f rest h c e = let k = inside (p 0 (f ++ rest)) e in by_rest k.0 rest k.1
     where
-      inside : (o : Out A) → set_back n o ≡ Stuck rest → o ≡ Stuck rest
+      inside : (o : Out A) → set_back n o ≡ Stuck c rest → (j : ℕ) × (o ≡ Stuck j rest)
       inside (Got b m r) e = cc
-      inside (Stuck r) e = let z : r ≡ rest = cc in ap Stuck z
-      inside (Over w r) e = cc
+      inside (Stuck j r) e = let z : r ≡ rest = cc in (j, ap (Stuck j) z)
+      inside (Over w j r) e = cc
 
-      by_rest : (u : List Lexeme) → p 0 (f ++ u) ≡ Stuck u → ⊥
-      by_rest [] q = alone p G goes good 0 a h.0 f h.2 (Stuck []) (ap (p 0) (sym (append-nil f)) ∙ q)
-      by_rest (x ∷ u) q =
-          let ends : Ends G (f ++ x ∷ u) (length f) = λ less can. stuck_ends p G goes good 0 f x u q (let P : List Lexeme → Type 0 = λ l. CanGoOn G l in subst P (next_taken f x u) can) in
+      by_rest : (j : ℕ) (u : List Lexeme) → p 0 (f ++ u) ≡ Stuck j u → ⊥
+      by_rest j [] q = alone p G goes good 0 a h.0 f h.2 (Stuck j []) (ap (p 0) (sym (append-nil f)) ∙ q)
+      by_rest j (x ∷ u) q =
+          let ends : Ends G (f ++ x ∷ u) (length f) = λ less can. stuck_ends p G goes good 0 j f x u q (let P : List Lexeme → Type 0 = λ l. CanGoOn G l in subst P (next_taken f x u) can) in
           subst (Fine 32 a h.0 0 (x ∷ u)) q (longest a h.0 f (x ∷ u) (f ++ x ∷ u) refl h.2 ends)
 
   module _ (nowhere : StuckNowhere p G) (a : A) (s : Size) (f : List Lexeme) (g : G a s f) (x : Lexeme) (rest : List Lexeme) (halts : CanGoOn G (f ++ x ∷ []) → ⊥) where
@@ -311,30 +311,30 @@ module _ {A : Type 0} (p : Parser A) (G : A → Size → List Lexeme → Type 0)
                 let none = (alone p G goes good 0 a s f g (Got b m (z ∷ d)) read).1 in
                 cc
 
-    stuck : (r : List Lexeme) → p 0 whole ≡ Stuck r → ⊥
-    stuck r e = at (parted f (x ∷ rest) k.0 r k.1)
+    stuck : (c : ℕ) (r : List Lexeme) → p 0 whole ≡ Stuck c r → ⊥
+    stuck c r e = at (parted f (x ∷ rest) k.0 r k.1)
       where
-        k : Explains 32 (p 0) G 0 whole (Stuck r)
-        k = explained p G goes good 0 whole (Stuck r) e
+        k : Explains 32 (p 0) G 0 whole (Stuck c r)
+        k = explained p G goes good 0 whole (Stuck c r) e
 
         at : Longer f (x ∷ rest) k.0 r ⊎ Shorter f (x ∷ rest) k.0 r → ⊥
-        at (inl ([], same, left)) = nowhere 0 a s f (x ∷ rest) g (e ∙ ap Stuck (sym left))
+        at (inl ([], same, left)) = nowhere 0 a s f (x ∷ rest) g c (e ∙ ap (Stuck c) (sym left))
         at (inl (y ∷ d, same, left)) =
             let z : y ≡ x = cc in
             let P : List Lexeme → Type 0 = λ l. G k.2.1 k.2.2 (l ++ k.2.0) in
             no_longer d k.2.0 k.2.1 k.2.2 (subst P (same ∙ ap (λ v. f ++ v ∷ d) z) k.2.3)
         at (inr (z, d, same, left)) =
-            let P : List Lexeme → Type 0 = λ l. Same (p 0) k.0 l Stuck in
-            alone p G goes good 0 a s f g (Stuck (z ∷ d)) (ap (p 0) same ∙ subst P left k.3 d)
+            let P : List Lexeme → Type 0 = λ l. Same (p 0) k.0 l (Stuck c) in
+            alone p G goes good 0 a s f g (Stuck c (z ∷ d)) (ap (p 0) same ∙ subst P left k.3 d)
 
-    over : (w : What) (r : List Lexeme) → p 0 whole ≡ Over w r → Fine 32 a s 0 (x ∷ rest) (Over w r)
-    over w [] e = absurd (explained p G goes good 0 whole (Over w []) e).2
-    over w (y ∷ r) e = at (parted f (x ∷ rest) k.0 (y ∷ r) k.1)
+    over : (w : What) (c : ℕ) (r : List Lexeme) → p 0 whole ≡ Over w c r → Fine 32 a s 0 (x ∷ rest) (Over w c r)
+    over w c [] e = absurd (explained p G goes good 0 whole (Over w c []) e).2
+    over w c (y ∷ r) e = at (parted f (x ∷ rest) k.0 (y ∷ r) k.1)
       where
-        k : Explains 32 (p 0) G 0 whole (Over w (y ∷ r))
-        k = explained p G goes good 0 whole (Over w (y ∷ r)) e
+        k : Explains 32 (p 0) G 0 whole (Over w c (y ∷ r))
+        k = explained p G goes good 0 whole (Over w c (y ∷ r)) e
 
-        at : Longer f (x ∷ rest) k.0 (y ∷ r) ⊎ Shorter f (x ∷ rest) k.0 (y ∷ r) → Fine 32 a s 0 (x ∷ rest) (Over w (y ∷ r))
+        at : Longer f (x ∷ rest) k.0 (y ∷ r) ⊎ Shorter f (x ∷ rest) k.0 (y ∷ r) → Fine 32 a s 0 (x ∷ rest) (Over w c (y ∷ r))
         at (inl ([], same, left)) =
             let z : y ≡ x = cc in
             let P : List Lexeme → Type 0 = λ l. CanGoOn G l in
@@ -346,7 +346,7 @@ module _ {A : Type 0} (p : Parser A) (G : A → Size → List Lexeme → Type 0)
         at (inr (z, d, same, left)) =
             let first : y ≡ z = cc in
             let P : Lexeme → Type 0 = λ v. f ≡ k.0 ++ v ∷ d in
-            let i : Exceeds w 0 32 s = alone p G goes good 0 a s f g (Over w (y ∷ d)) (ap (p 0) (subst P (sym first) same) ∙ k.3 d) in
+            let i : Exceeds w 0 32 s = alone p G goes good 0 a s f g (Over w c (y ∷ d)) (ap (p 0) (subst P (sym first) same) ∙ k.3 d) in
             i
 
     behind : Fine 32 a s 0 (x ∷ rest) (p 0 whole)
@@ -354,8 +354,8 @@ module _ {A : Type 0} (p : Parser A) (G : A → Size → List Lexeme → Type 0)
       where
         by_out : (o : Out A) → p 0 whole ≡ o → Fine 32 a s 0 (x ∷ rest) o
         by_out (Got b m r) e = got b m r e
-        by_out (Stuck r) e = absurd (stuck r e)
-        by_out (Over w r) e = over w r e
+        by_out (Stuck c r) e = absurd (stuck c r e)
+        by_out (Over w c r) e = over w c r e
 
   -- a text is read where nothing goes on with what stands behind it
   pub longest_read : StuckNowhere p G → (a : A) (s : Size) (front rest ts : List Lexeme) → ts ≡ front ++ rest → G a s front → Ends G ts (length front) → Fine 32 a s 0 rest (p 0 ts)

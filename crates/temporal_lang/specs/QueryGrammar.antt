@@ -12,6 +12,7 @@ use Rattle.lexical_grammar.specs.Lexemes.{Lexeme, word, sign, is_word}
 use Rattle.parser_combinators.specs.Parsing.{Grammar, AreMore, so_wide, bindG, leadG, mapG, optionG, maybeG, eitherG, singleG, freshG}
 use Rattle.expr_grammar.specs.Grammar.{IsExpr, IsCond}
 use Rattle.expr_grammar.specs.Constants.{as_name, as_moment, nameG, smallG, momentG}
+use Rattle.expr_grammar.specs.Where.{IsFreshWhere}
 use Rattle.temporal_lang.specs.declared.whens.When.{When}
 use Rattle.temporal_lang.specs.declared.whens.When.TheVariants.{Always, AsOf, During}
 use Rattle.plain_answers.specs.Branches.{Item, PlainBranch, a_branch}
@@ -43,13 +44,9 @@ IsItem = bindG nameG (λ table. mapG (λ alias. (table, alias)) (IsAlias table))
 abbrev pub AreItems : Grammar (List Item)
 AreItems = countedG (sign (codes ",")) Tables IsItem
 
--- [ WHERE cond ]: what is missing is TRUE
-abbrev pub IsWhere : Grammar Test
-IsWhere = optionG always (word (codes "WHERE")) (freshG (IsCond true))
-
 -- branch = SELECT expr { , expr } FROM item { , item } [ WHERE cond ]
 abbrev pub IsBranch : Grammar PlainBranch
-IsBranch = leadG (word (codes "SELECT")) (bindG AreOutputs (λ outs. leadG (word (codes "FROM")) (bindG AreItems (λ from. mapG (λ c. a_branch outs from c) IsWhere))))
+IsBranch = leadG (word (codes "SELECT")) (bindG AreOutputs (λ outs. leadG (word (codes "FROM")) (bindG AreItems (λ from. mapG (λ c. a_branch outs from c) (IsFreshWhere true)))))
 
 -- branch { UNION branch }
 abbrev pub AreBranches : Grammar (List PlainBranch)

@@ -10,10 +10,11 @@ use Rattle.parser_combinators.specs.Parsing.{Grammar, AreMore, so_wide, bindG, l
 use Rattle.expr_grammar.specs.Grammar.{IsExpr, IsCond}
 use Rattle.expr_grammar.specs.TreeMarks.{expr_marks, cond_marks}
 use Rattle.expr_grammar.specs.Constants.{smallG}
+use Rattle.expr_grammar.specs.Where.{IsFreshWhere, where_passes}
 use Rattle.parser_combinators.specs.Passings.{Passing, none_pass, fresh_pass, lead_pass, map_pass, bind_pass, option_pass, either_pass, counted_pass}
 use Rattle.plain_answers.specs.Branches.{a_branch}
 use Rattle.temporal_lang.specs.Queries.{a_query}
-use Rattle.temporal_lang.specs.QueryGrammar.{countedG, IsOutput, AreOutputs, IsItem, AreItems, IsWhere, IsBranch, AreBranches, IsAsOf, IsDuring, IsKeep, AreKeeps, IsKeeping, IsRange, IsWhen, IsAsk}
+use Rattle.temporal_lang.specs.QueryGrammar.{countedG, IsOutput, AreOutputs, IsItem, AreItems, IsBranch, AreBranches, IsAsOf, IsDuring, IsKeep, AreKeeps, IsKeeping, IsRange, IsWhen, IsAsk}
 
 -- the first is before the first separator
 abbrev pub list_passes : {A : Type 0} (separator : Lexeme) (w : What) (G : Grammar A) → Passing G → Passing (countedG separator w G)
@@ -31,13 +32,10 @@ outputs_passes = list_passes (sign (codes ",")) Outputs IsOutput output_passes
 abbrev pub items_passes : Passing AreItems
 items_passes = list_passes (sign (codes ",")) Tables IsItem (none_pass IsItem)
 
-abbrev pub where_passes : Passing IsWhere
-where_passes = option_pass always (word (codes "WHERE")) (freshG (IsCond true)) (fresh_pass (IsCond true) (cond_marks true))
-
 abbrev pub branch_passes : Passing IsBranch
-branch_passes = lead_pass (word (codes "SELECT")) _ (bind_pass AreOutputs (λ outs. leadG (word (codes "FROM")) (bindG AreItems (λ from. mapG (λ c. a_branch outs from c) IsWhere))) outputs_passes
-    (λ outs. lead_pass (word (codes "FROM")) _ (bind_pass AreItems (λ from. mapG (λ c. a_branch outs from c) IsWhere) items_passes
-    (λ from. map_pass (λ c. a_branch outs from c) IsWhere where_passes))))
+branch_passes = lead_pass (word (codes "SELECT")) _ (bind_pass AreOutputs (λ outs. leadG (word (codes "FROM")) (bindG AreItems (λ from. mapG (λ c. a_branch outs from c) (IsFreshWhere true)))) outputs_passes
+    (λ outs. lead_pass (word (codes "FROM")) _ (bind_pass AreItems (λ from. mapG (λ c. a_branch outs from c) (IsFreshWhere true)) items_passes
+    (λ from. map_pass (λ c. a_branch outs from c) (IsFreshWhere true) (where_passes true)))))
 
 abbrev pub branches_passes : Passing AreBranches
 branches_passes = list_passes (word (codes "UNION")) Branches IsBranch branch_passes

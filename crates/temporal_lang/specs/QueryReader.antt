@@ -10,6 +10,7 @@ use Rattle.lexical_grammar.specs.Lexemes.{Lexeme, is_word, is_sign}
 use Rattle.parser_combinators.specs.Parsing.{Parser, Arm, No, Takes, bind, pure, map_to, lead, choose, option, maybe, more, single, fresh}
 use Rattle.expr_grammar.specs.Reader.{outermost, goes_cond}
 use Rattle.expr_grammar.specs.Constants.{as_name, name, small, moment}
+use Rattle.expr_grammar.specs.Where.{fresh_where, goes_where}
 use Rattle.temporal_lang.specs.declared.whens.When.{When}
 use Rattle.temporal_lang.specs.declared.whens.When.TheVariants.{Always, AsOf, During}
 use Rattle.plain_answers.specs.Branches.{Item, PlainBranch, a_branch}
@@ -40,11 +41,8 @@ item = bind name (λ table. map_to (λ named. (table, named)) (alias table))
 unfoldable pub items : Parser (List Item)
 items = counted (is_sign (codes ",")) Tables 7 item
 
-unfoldable pub where_part : Parser Test
-where_part = option (is_word (codes "WHERE")) (Takes (fresh (outermost true).cond)) always
-
 unfoldable pub branch : Parser PlainBranch
-branch = lead (is_word (codes "SELECT")) (bind outputs (λ outs. lead (is_word (codes "FROM")) (bind items (λ from. map_to (λ c. a_branch outs from c) where_part))))
+branch = lead (is_word (codes "SELECT")) (bind outputs (λ outs. lead (is_word (codes "FROM")) (bind items (λ from. map_to (λ c. a_branch outs from c) (fresh_where true)))))
 
 -- sixteen at most
 unfoldable pub branches : Parser (List PlainBranch)
@@ -121,11 +119,8 @@ goes_item x = is_some (as_name x)
 abbrev pub goes_items : Lexeme → Bool
 goes_items x = is_sign (codes ",") x || goes_item x
 
-abbrev pub goes_where : Lexeme → Bool
-goes_where x = is_word (codes "WHERE") x || goes_cond true x
-
 abbrev pub goes_branch : Lexeme → Bool
-goes_branch x = goes_items x || goes_where x
+goes_branch x = goes_items x || goes_where true x
 
 abbrev pub goes_branches : Lexeme → Bool
 goes_branches x = is_word (codes "UNION") x || goes_branch x

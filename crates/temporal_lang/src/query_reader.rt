@@ -3,7 +3,6 @@
 ghost use Rattle.std.specs.Prelude.{◌≡◌, ◌<◌, length, map, codes, is_some};
 ghost use Rattle.prima_base.specs.declared.refusals.What.TheVariants as limited;
 ghost use Rattle.cond_expr.specs.Seen.{tree, test};
-ghost use Rattle.cond_expr.specs.Trees.{always};
 ghost use Rattle.lexical_grammar.specs.Lexemes.{is_word, is_sign};
 ghost use Rattle.expr_grammar.specs.Constants.{as_name};
 ghost use Rattle.parser_combinators.specs.Parsing.{more};
@@ -14,8 +13,8 @@ ghost use Rattle.temporal_lang.specs.QueryReader as spec;
 
 use crate::when_reader::when_part;
 use crate::{Branch, Query};
-use cond_expr::{Cond, Expr};
-use lexer::{Cursor, Stop, TokenKind, fresh_cond, fresh_expr, is_name, name, small};
+use cond_expr::Expr;
+use lexer::{Cursor, Stop, TokenKind, fresh_expr, fresh_where, is_name, name, small};
 use prima_base::{Name, What};
 use std::alloc::Global;
 
@@ -120,25 +119,6 @@ fn items(alloc: Global, c: &mut Cursor<'_, '_>) -> Result<Vec<(Name, Name)>, Sto
     Ok(list)
 }
 
-// The condition that holds.
-fn everywhere() -> Cond
-    ensures { test result ≡ always }
-{
-    Cond::True
-}
-
-// The condition of a branch; a missing one is TRUE.
-#[tactic(auto, unfolding(crate::specs::QueryReader::where_part), using(parser_combinators::proofs::ReadSteps::option_not, parser_combinators::proofs::ReadSteps::option_takes))]
-fn where_part(alloc: Global, c: &mut Cursor<'_, '_>) -> Result<Cond, Stop>
-    ensures { Reads test (spec.where_part c.old.nodes (ahead c.old)) result c.new }
-{
-    if !c.sees_word(b"WHERE") {
-        return Ok(everywhere());
-    }
-    c.skip();
-    fresh_cond(alloc, c, true)
-}
-
 // A branch.
 #[tactic(auto, unfolding(crate::specs::QueryReader::branch), using(parser_combinators::proofs::ReadSteps::lead_seen, parser_combinators::proofs::ReadSteps::lead_not))]
 fn branch(alloc: Global, c: &mut Cursor<'_, '_>) -> Result<Branch, Stop>
@@ -148,7 +128,7 @@ fn branch(alloc: Global, c: &mut Cursor<'_, '_>) -> Result<Branch, Stop>
     let outs = outputs(alloc, c)?;
     c.expect_word(b"FROM")?;
     let from = items(alloc, c)?;
-    let cond = where_part(alloc, c)?;
+    let cond = fresh_where(alloc, c, true)?;
     Ok(Branch { outs, from, cond })
 }
 

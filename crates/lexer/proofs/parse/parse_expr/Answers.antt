@@ -7,12 +7,13 @@ use Rattle.parser_combinators.specs.Reads.{ahead, Fails}
 use Rattle.expr_grammar.specs.Grammar.{IsExpr}
 use Rattle.expr_grammar.specs.Reader.{outermost, goes_expr}
 use Rattle.expr_grammar.proofs.Goodness.{outermost_good}
-use Rattle.parser_combinators.proofs.Places.{length_map, got_fits, got_read, got_found, got_only, got_exact, got_over, err_fits, err_found, err_only, err_fault, err_over, err_exact}
+use Rattle.parser_combinators.proofs.Places.{length_map, got_fits, got_read, got_found, got_only, got_exact, err_fits, err_found, err_only, err_exact}
+use Rattle.parser_combinators.proofs.Passing.{got_passing, err_passing, err_fault, marks_read, marks_sized}
 use Rattle.parser_combinators.specs.Found.{lexemes_from}
 use Rattle.expr_grammar.proofs.Longest.{expr_longest}
 use Rattle.expr_grammar.proofs.MarksJoined.{expr_marked}
 use Rattle.expr_grammar.proofs.MarkSizes.{expr_length}
-use Rattle.expr_grammar.specs.TreeMarks.{expr_marks}
+use Rattle.expr_grammar.specs.TreeMarks.{expr_marks, expr_passes}
 use Rattle.lexer.proofs.parse.parse_expr.Goals as goal
 
 pub overflow_sub-result : goal.overflow_sub-result
@@ -34,13 +35,13 @@ pub returns-in-Err-clause-only : goal.returns-in-Err-clause-only
 returns-in-Err-clause-only c = err_only (outermost c.args.qualified).expr (IsExpr c.args.qualified) (goes_expr c.args.qualified) (outermost_good c.args.qualified).expr c.args.list.now c.args.from c.requires c.outer_expr.new.c tree c.in-Err.stop c.fault_at.result (let P : List Token → Type 0 = λ l. Fails ((outermost c.args.qualified).expr 0 (map lexeme l)) c.in-Err.stop c.outer_expr.new.c in subst P c.tail.ensures c.in-Err.ensures) c.fault_at.ensures
 
 pub returns-in-Err-clause-fault : goal.returns-in-Err-clause-fault
-returns-in-Err-clause-fault c = err_fault (outermost c.args.qualified).expr (IsExpr c.args.qualified) (goes_expr c.args.qualified) (outermost_good c.args.qualified).expr c.args.list.now c.args.from c.requires (expr_marks c.args.qualified) (expr_marked c.args.qualified) (expr_length c.args.qualified) c.outer_expr.new.c Expr c.in-Err.stop c.fault_at.result (let P : List Token → Type 0 = λ l. Fails ((outermost c.args.qualified).expr 0 (map lexeme l)) c.in-Err.stop c.outer_expr.new.c in subst P c.tail.ensures c.in-Err.ensures) c.fault_at.ensures
+returns-in-Err-clause-fault c = err_fault (outermost c.args.qualified).expr (IsExpr c.args.qualified) (goes_expr c.args.qualified) (outermost_good c.args.qualified).expr (expr_passes c.args.qualified) (marks_read (outermost c.args.qualified).expr (IsExpr c.args.qualified) (expr_marks c.args.qualified) (expr_length c.args.qualified) (expr_marked c.args.qualified)) (marks_sized (outermost c.args.qualified).expr (IsExpr c.args.qualified) (expr_marks c.args.qualified) (expr_length c.args.qualified)) c.args.list.now c.args.from c.outer_expr.new.c Expr c.requires c.in-Err.stop c.fault_at.result (let P : List Token → Type 0 = λ l. Fails ((outermost c.args.qualified).expr 0 (map lexeme l)) c.in-Err.stop c.outer_expr.new.c in subst P c.tail.ensures c.in-Err.ensures) c.fault_at.ensures
 
 pub returns-in-Err-clause-over : goal.returns-in-Err-clause-over
-returns-in-Err-clause-over c = err_over (outermost c.args.qualified).expr (IsExpr c.args.qualified) (goes_expr c.args.qualified) (outermost_good c.args.qualified).expr c.args.list.now c.args.from c.requires (expr_marks c.args.qualified) (expr_marked c.args.qualified) (expr_length c.args.qualified) c.outer_expr.new.c Expr c.in-Err.stop c.fault_at.result (let P : List Token → Type 0 = λ l. Fails ((outermost c.args.qualified).expr 0 (map lexeme l)) c.in-Err.stop c.outer_expr.new.c in subst P c.tail.ensures c.in-Err.ensures) c.fault_at.ensures
+returns-in-Err-clause-over c = err_passing (outermost c.args.qualified).expr (IsExpr c.args.qualified) (goes_expr c.args.qualified) (outermost_good c.args.qualified).expr (expr_passes c.args.qualified) (marks_read (outermost c.args.qualified).expr (IsExpr c.args.qualified) (expr_marks c.args.qualified) (expr_length c.args.qualified) (expr_marked c.args.qualified)) (marks_sized (outermost c.args.qualified).expr (IsExpr c.args.qualified) (expr_marks c.args.qualified) (expr_length c.args.qualified)) c.args.list.now c.args.from c.outer_expr.new.c Expr c.in-Err.stop c.fault_at.result (let P : List Token → Type 0 = λ l. Fails ((outermost c.args.qualified).expr 0 (map lexeme l)) c.in-Err.stop c.outer_expr.new.c in subst P c.tail.ensures c.in-Err.ensures) c.fault_at.ensures
 
 pub returns-in-Ok-clause-over : goal.returns-in-Ok-clause-over
-returns-in-Ok-clause-over c = got_over (outermost c.args.qualified).expr (IsExpr c.args.qualified) (goes_expr c.args.qualified) (outermost_good c.args.qualified).expr c.args.list.now c.args.from c.requires (expr_marks c.args.qualified) (expr_marked c.args.qualified) (expr_length c.args.qualified) (tree c.in-Ok.found) c.outer_expr.new.c.nodes (ahead c.outer_expr.new.c) (ap (λ l. (outermost c.args.qualified).expr 0 (map lexeme l)) (sym c.tail.ensures) ∙ c.in-Ok.ensures)
+returns-in-Ok-clause-over c = got_passing (outermost c.args.qualified).expr (IsExpr c.args.qualified) (goes_expr c.args.qualified) (outermost_good c.args.qualified).expr (expr_passes c.args.qualified) (marks_read (outermost c.args.qualified).expr (IsExpr c.args.qualified) (expr_marks c.args.qualified) (expr_length c.args.qualified) (expr_marked c.args.qualified)) (marks_sized (outermost c.args.qualified).expr (IsExpr c.args.qualified) (expr_marks c.args.qualified) (expr_length c.args.qualified)) c.args.list.now c.args.from (tree c.in-Ok.found) c.outer_expr.new.c.nodes (ahead c.outer_expr.new.c) (ap (λ l. (outermost c.args.qualified).expr 0 (map lexeme l)) (sym c.tail.ensures) ∙ c.in-Ok.ensures)
 
 pub returns-in-Err-clause-exact : goal.returns-in-Err-clause-exact
 returns-in-Err-clause-exact c = err_exact (outermost c.args.qualified).expr (IsExpr c.args.qualified) (goes_expr c.args.qualified) (outermost_good c.args.qualified).expr c.args.list.now c.args.from c.requires c.outer_expr.new.c tree c.in-Err.stop c.fault_at.result (let P : List Token → Type 0 = λ l. Fails ((outermost c.args.qualified).expr 0 (map lexeme l)) c.in-Err.stop c.outer_expr.new.c in subst P c.tail.ensures c.in-Err.ensures) c.fault_at.ensures

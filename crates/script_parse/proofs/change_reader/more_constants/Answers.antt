@@ -23,7 +23,7 @@ pub returns-in_err-expect_sign : goal.returns-in_err-expect_sign
 returns-in_err-expect_sign c =
     let inv = c.loop-left.invariant in
     let h = c.in_err-expect_sign.ensures.err in
-    let stuck = constants_stuck _ inv.0 c.loop-left.left c.loop-left.c.nodes (ahead c.loop-left.c) inv.2 (omega arith) h.2 ∙ ap Stuck (sym h.1) in
+    let stuck = constants_stuck _ inv.0 c.loop-left.left c.loop-left.c.nodes (ahead c.loop-left.c) inv.2 (omega arith) h.2 ∙ ap (Stuck c.loop-left.c.nodes) (sym h.1) ∙ ap (λ k. Stuck k (ahead c.expect_sign.new.self)) (sym c.in_err-expect_sign.ensures.nodes) in
     let P : Stop → Type 0 = λ e. Fails (more_constants c.args.more c.args.c.now.nodes (ahead c.args.c.now)) e c.expect_sign.new.self in
     let failed = subst P (sym h.0) stuck in
     let f = err_from_is_err_and c.from_residual.result c.from_residual.ensures.1 in

@@ -14,7 +14,7 @@ place_of-requires-clause-fits c = got_fits c.args.list.now c.statement-found.new
 pub place_of-requires-in-Stuck-clause-fits : goal.place_of-requires-in-Stuck-clause-fits
 place_of-requires-in-Stuck-clause-fits c =
     let P : Stop → Type 0 = λ s. Fails (statement 0 (map lexeme c.args.list.now)) s c.statement-found.new.c in
-    stuck_fits c.args.list.now c.statement-found.new.c.rest.now c.args.end (subst P c.in-Stuck.is c.in-Err.ensures)
+    stuck_fits c.args.list.now c.statement-found.new.c.rest.now c.args.end c.statement-found.new.c.nodes (subst P c.in-Stuck.is c.in-Err.ensures)
 
 pub returns-then-left-eq0 : goal.returns-then-left-eq0
 returns-then-left-eq0 c =
@@ -31,10 +31,10 @@ pub returns-in-Stuck : goal.returns-in-Stuck
 returns-in-Stuck c =
     let some : 0 < length c.args.list.now = grind (arith, nat_tests) in
     let P : Stop → Type 0 = λ s. Fails (statement 0 (map lexeme c.args.list.now)) s c.statement-found.new.c in
-    stuck_there c.args.list.now c.statement-found.new.c.rest.now c.args.end some (subst P c.in-Stuck.is c.in-Err.ensures) c.place_of-in-Stuck.result c.place_of-in-Stuck.ensures
+    stuck_there c.args.list.now c.statement-found.new.c.rest.now c.args.end some c.statement-found.new.c.nodes (subst P c.in-Stuck.is c.in-Err.ensures) c.place_of-in-Stuck.result c.place_of-in-Stuck.ensures
 
 pub returns-in-TooMany : goal.returns-in-TooMany
 returns-in-TooMany c =
     let some : 0 < length c.args.list.now = grind (arith, nat_tests) in
     let P : Stop → Type 0 = λ s. Fails (statement 0 (map lexeme c.args.list.now)) s c.statement-found.new.c in
-    over_there c.args.list.now c.statement-found.new.c.rest.now c.args.end some c.in-TooMany.what (subst P c.in-TooMany.is c.in-Err.ensures) c.limit_of.result c.limit_of.ensures
+    over_there c.args.list.now c.statement-found.new.c.rest.now c.args.end some c.in-TooMany.what c.statement-found.new.c.nodes (subst P c.in-TooMany.is c.in-Err.ensures) c.limit_of.result c.limit_of.ensures

@@ -5,10 +5,11 @@ use Rattle.parser_combinators.specs.Found.{lexemes_from}
 use Rattle.lexical_grammar.specs.declared.token.Token.{Token}
 use Rattle.lexical_grammar.specs.Lexemes.{lexeme}
 use Rattle.parser_combinators.specs.Reads.{ahead, Fails}
-use Rattle.parser_combinators.proofs.Places.{length_map, got_fits, got_read, got_found, got_only, got_exact, got_over, err_fits, err_found, err_only, err_fault, err_over, err_exact}
+use Rattle.parser_combinators.proofs.Places.{length_map, got_fits, got_read, got_found, got_only, got_exact, err_fits, err_found, err_only, err_exact}
+use Rattle.parser_combinators.proofs.Passing.{got_passing, err_passing, err_fault, marks_read, marks_sized}
 use Rattle.smo_parse.specs.Productions.{IsOperator}
 use Rattle.smo_parse.specs.OperatorReader.{operator, goes_operator}
-use Rattle.smo_parse.specs.OperatorMarks.{operator_marks}
+use Rattle.smo_parse.specs.OperatorMarks.{operator_marks, operator_passes}
 use Rattle.smo_parse.proofs.OperatorGoodness.{operator_good}
 use Rattle.smo_parse.proofs.OperatorMarked.{operator_marked, operator_length}
 use Rattle.smo_parse.proofs.OperatorLongest.{operator_longest}
@@ -42,10 +43,10 @@ pub returns-in-Err-clause-longest : goal.returns-in-Err-clause-longest
 returns-in-Err-clause-longest c = λ o s front rest w h ends. err_found operator IsOperator goes_operator operator_good c.args.list.now c.args.from c.requires c.operator.new.c operator_of c.in-Err.stop c.fault_at.result (let P : List Token → Type 0 = λ l. Fails (operator 0 (map lexeme l)) c.in-Err.stop c.operator.new.c in subst P c.tail.ensures c.in-Err.ensures) c.fault_at.ensures o s front rest (operator_longest o s front rest (lexemes_from c.args.list.now c.args.from) w h ends)
 
 pub returns-in-Err-clause-fault : goal.returns-in-Err-clause-fault
-returns-in-Err-clause-fault c = err_fault operator IsOperator goes_operator operator_good c.args.list.now c.args.from c.requires operator_marks operator_marked operator_length c.operator.new.c Op c.in-Err.stop c.fault_at.result (let P : List Token → Type 0 = λ l. Fails (operator 0 (map lexeme l)) c.in-Err.stop c.operator.new.c in subst P c.tail.ensures c.in-Err.ensures) c.fault_at.ensures
+returns-in-Err-clause-fault c = err_fault operator IsOperator goes_operator operator_good operator_passes (marks_read operator IsOperator operator_marks operator_length operator_marked) (marks_sized operator IsOperator operator_marks operator_length) c.args.list.now c.args.from c.operator.new.c Op c.requires c.in-Err.stop c.fault_at.result (let P : List Token → Type 0 = λ l. Fails (operator 0 (map lexeme l)) c.in-Err.stop c.operator.new.c in subst P c.tail.ensures c.in-Err.ensures) c.fault_at.ensures
 
 pub returns-in-Err-clause-over : goal.returns-in-Err-clause-over
-returns-in-Err-clause-over c = err_over operator IsOperator goes_operator operator_good c.args.list.now c.args.from c.requires operator_marks operator_marked operator_length c.operator.new.c Op c.in-Err.stop c.fault_at.result (let P : List Token → Type 0 = λ l. Fails (operator 0 (map lexeme l)) c.in-Err.stop c.operator.new.c in subst P c.tail.ensures c.in-Err.ensures) c.fault_at.ensures
+returns-in-Err-clause-over c = err_passing operator IsOperator goes_operator operator_good operator_passes (marks_read operator IsOperator operator_marks operator_length operator_marked) (marks_sized operator IsOperator operator_marks operator_length) c.args.list.now c.args.from c.operator.new.c Op c.in-Err.stop c.fault_at.result (let P : List Token → Type 0 = λ l. Fails (operator 0 (map lexeme l)) c.in-Err.stop c.operator.new.c in subst P c.tail.ensures c.in-Err.ensures) c.fault_at.ensures
 
 pub returns-in-Ok-clause-over : goal.returns-in-Ok-clause-over
-returns-in-Ok-clause-over c = got_over operator IsOperator goes_operator operator_good c.args.list.now c.args.from c.requires operator_marks operator_marked operator_length (operator_of c.in-Ok.found) c.operator.new.c.nodes (ahead c.operator.new.c) (ap (λ l. operator 0 (map lexeme l)) (sym c.tail.ensures) ∙ c.in-Ok.ensures)
+returns-in-Ok-clause-over c = got_passing operator IsOperator goes_operator operator_good operator_passes (marks_read operator IsOperator operator_marks operator_length operator_marked) (marks_sized operator IsOperator operator_marks operator_length) c.args.list.now c.args.from (operator_of c.in-Ok.found) c.operator.new.c.nodes (ahead c.operator.new.c) (ap (λ l. operator 0 (map lexeme l)) (sym c.tail.ensures) ∙ c.in-Ok.ensures)

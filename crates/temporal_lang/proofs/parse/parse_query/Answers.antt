@@ -1,12 +1,12 @@
 use Rattle.std.proofs.Common.{sym, ap, ◌∙◌, subst, map, length, List}
 use Rattle.parser_combinators.specs.Found.{lexemes_from}
-use Rattle.parser_combinators.proofs.Passing.{got_passing, err_passing, err_of}
+use Rattle.parser_combinators.proofs.Passing.{got_passing, err_passing, err_fault, back_reads}
 use Rattle.temporal_lang.specs.declared.queries.Query.{Query}
 use Rattle.temporal_lang.specs.Queries.{query_of}
 use Rattle.lexical_grammar.specs.declared.token.Token.{Token}
 use Rattle.lexical_grammar.specs.Lexemes.{lexeme}
 use Rattle.parser_combinators.specs.Reads.{ahead, Fails}
-use Rattle.parser_combinators.proofs.Places.{length_map, got_fits, got_read, got_found, got_only, got_exact, err_fits, err_found, err_only, err_exact, err_syntax, err_ran_out}
+use Rattle.parser_combinators.proofs.Places.{length_map, got_fits, got_read, got_found, got_only, got_exact, err_fits, err_found, err_only, err_exact}
 use Rattle.temporal_lang.specs.QueryGrammar.{IsAsk}
 use Rattle.temporal_lang.specs.QueryReader.{ask, goes_ask}
 use Rattle.temporal_lang.proofs.QueryGoodness.{ask_good}
@@ -45,12 +45,10 @@ returns-in-Err-clause-longest c = λ o s front rest w h ends. err_found ask IsAs
 pub returns-in-Err-clause-fault : goal.returns-in-Err-clause-fault
 returns-in-Err-clause-fault c =
     let fails : Fails (ask 0 (lexemes_from c.args.list.now c.args.from)) c.in-Err.stop c.ask.new.c = (let P : List Token → Type 0 = λ l. Fails (ask 0 (map lexeme l)) c.in-Err.stop c.ask.new.c in subst P c.tail.ensures c.in-Err.ensures) in
-    err_of ask IsAsk goes_ask ask_good ask_passes ask_whole ask_sized c.args.list.now c.args.from c.ask.new.c Query c.in-Err.stop c.fault_at.result fails c.fault_at.ensures
-    (err_syntax ask IsAsk goes_ask ask_good c.args.list.now c.args.from c.requires c.ask.new.c c.in-Err.stop c.fault_at.result fails c.fault_at.ensures)
-    (err_ran_out ask IsAsk goes_ask ask_good c.args.list.now c.args.from c.requires c.ask.new.c c.in-Err.stop c.fault_at.result fails c.fault_at.ensures)
+    err_fault ask IsAsk goes_ask ask_good ask_passes (back_reads ask IsAsk ask_passes ask_whole) ask_sized c.args.list.now c.args.from c.ask.new.c Query c.requires c.in-Err.stop c.fault_at.result fails c.fault_at.ensures
 
 pub returns-in-Err-clause-over : goal.returns-in-Err-clause-over
-returns-in-Err-clause-over c = err_passing ask IsAsk goes_ask ask_good ask_passes ask_whole ask_sized c.args.list.now c.args.from c.ask.new.c Query c.in-Err.stop c.fault_at.result (let P : List Token → Type 0 = λ l. Fails (ask 0 (map lexeme l)) c.in-Err.stop c.ask.new.c in subst P c.tail.ensures c.in-Err.ensures) c.fault_at.ensures
+returns-in-Err-clause-over c = err_passing ask IsAsk goes_ask ask_good ask_passes (back_reads ask IsAsk ask_passes ask_whole) ask_sized c.args.list.now c.args.from c.ask.new.c Query c.in-Err.stop c.fault_at.result (let P : List Token → Type 0 = λ l. Fails (ask 0 (map lexeme l)) c.in-Err.stop c.ask.new.c in subst P c.tail.ensures c.in-Err.ensures) c.fault_at.ensures
 
 pub returns-in-Ok-clause-over : goal.returns-in-Ok-clause-over
-returns-in-Ok-clause-over c = got_passing ask IsAsk goes_ask ask_good ask_passes ask_whole ask_sized c.args.list.now c.args.from (query_of c.in-Ok.found) c.ask.new.c.nodes (ahead c.ask.new.c) (ap (λ l. ask 0 (map lexeme l)) (sym c.tail.ensures) ∙ c.in-Ok.ensures)
+returns-in-Ok-clause-over c = got_passing ask IsAsk goes_ask ask_good ask_passes (back_reads ask IsAsk ask_passes ask_whole) ask_sized c.args.list.now c.args.from (query_of c.in-Ok.found) c.ask.new.c.nodes (ahead c.ask.new.c) (ap (λ l. ask 0 (map lexeme l)) (sym c.tail.ensures) ∙ c.in-Ok.ensures)
