@@ -19,6 +19,7 @@ ghost use Rattle.version_groups.specs.Showing.{Shows};
 ghost use Rattle.archive_state.specs.Committing.{IsJudged};
 
 use crate::CommitFault;
+use prima_base::limits::MAX_VERSIONS;
 use prima_base::{Refusal, What};
 use schema_catalog::Schema;
 use smo_ops::{
@@ -27,9 +28,6 @@ use smo_ops::{
 };
 use std::alloc::Global;
 use version_groups::Groups;
-
-/// The most versions behind version 0.
-const MOST_VERSIONS: u32 = 512;
 
 // The counts of the command are within their limits.
 fn judge_counts(command: &Command) -> Result<(), CommitFault>
@@ -70,10 +68,10 @@ fn judge_changes(alloc: Global, schema: &Schema, changes: &[Change]) -> Result<(
 fn judge_versions(newest: u32) -> Result<(), CommitFault>
     ensures { IsJudged (unless (nat_lt newest most_versions) (TooMany Versions most_versions)) result }
 {
-    if newest < MOST_VERSIONS {
+    if (newest as usize) < MAX_VERSIONS {
         return Ok(());
     }
-    Err(CommitFault::Refused(Refusal::TooMany(What::Versions, u64::from(MOST_VERSIONS))))
+    Err(CommitFault::Refused(Refusal::TooMany(What::Versions, MAX_VERSIONS as u64)))
 }
 
 // The preconditions of the operator.

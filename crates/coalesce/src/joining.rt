@@ -1,31 +1,13 @@
 ghost use Rattle.std.specs.Prelude.{◌≡◌, ◌≤◌, ◌<◌, ◌+◌, length};
-ghost use Rattle.std.specs.Ordering.{is_eq};
-ghost use Rattle.prima_base.specs.Timed.{vals_cmp};
 ghost use Rattle.coalesce.specs.Joining.{standing, merged, touch_rows, join_rows};
 
-use prima_base::{TimedRow, Val};
-use std::cmp::Ordering;
-
-/// Whether two rows show the same values. It takes no memory.
-pub fn same_values(a: &[Val<'_>], b: &[Val<'_>]) -> bool
-    ensures { result ≡ is_eq (vals_cmp a.now b.now) }
-{
-    if a.len() != b.len() {
-        return false;
-    }
-    for i in 0..a.len() {
-        if a[i].compare(&b[i]) != Ordering::Equal {
-            return false;
-        }
-    }
-    true
-}
+use prima_base::{TimedRow, compare_vals};
 
 // Whether the next is of the same row and begins before, or where, the first ends.
 fn touches(first: &TimedRow<'_>, next: &TimedRow<'_>) -> bool
     ensures { result ≡ touch_rows first.now next.now }
 {
-    same_values(&first.values, &next.values) && next.period.start() <= first.period.end()
+    compare_vals(&first.values, &next.values).is_eq() && next.period.start() <= first.period.end()
 }
 
 // Joins the next entry into the last that is kept, or keeps it too. The last that is kept is answered.

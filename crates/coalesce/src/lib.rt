@@ -17,7 +17,6 @@ ghost use Rattle.prima_base.specs.Timed.{rows_at, entries_of};
 
 use crate::cutting::cut_rows;
 use crate::joining::join_sorted;
-pub use joining::same_values;
 pub use keeping::keep;
 use prima_base::{Period, TimedRow};
 

@@ -3,3 +3,4 @@ pub mod FieldSteps
 pub mod ListSteps
 pub mod ReadSteps
 pub mod TreeSteps
+pub mod NumbersAtOnce

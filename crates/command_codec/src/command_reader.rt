@@ -138,6 +138,7 @@ pub fn command(alloc: Global, reader: &mut Reader<'_>) -> Result<Command, Stop>
     let body = body(alloc, reader)?;
     match Command::new(stamp, body) {
         Some(command) => Ok(command),
+        // only `FOREVER` is no stamp, and no number so large was read
         None => unreachable!(),
     }
 }

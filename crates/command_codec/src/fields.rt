@@ -1,7 +1,7 @@
 //! Reading names, texts, values, types and signs.
 
-ghost use Rattle.std.specs.Prelude.{◌≡◌, true, Err, IfOk, MatchResult};
-ghost use Rattle.prima_base.specs.Bytes.{IsName, IsTxt};
+ghost use Rattle.std.specs.Prelude.{◌≡◌, true, Err, IfOk};
+ghost use Rattle.prima_base.specs.Bytes.{IsName};
 ghost use Rattle.command_codec.specs.declared.reader.Stop.TheVariants as stop;
 ghost use Rattle.command_spelling.specs.Reader as spec;
 ghost use Rattle.command_codec.specs.Reads.{Reads};
@@ -9,32 +9,8 @@ ghost use Rattle.command_codec.specs.Reads.{Reads};
 use crate::lent_values::lent_text;
 use crate::reader::{Alphabet, Reader, Stop};
 use cond_expr::CmpOp;
-use prima_base::{ColType, Name, NameFault, Txt, TxtFault, Value};
+use prima_base::{ColType, Name, Txt, Value};
 use std::alloc::Global;
-
-// The name of these bytes. Only memory can be missing.
-fn lawful_name(alloc: Global, bytes: &[u8]) -> Result<Name, Stop>
-    requires { IsName bytes.now }
-    ensures { MatchResult result (λ n. n ≡ bytes.now) (λ e. e ≡ stop.NoMemory) }
-{
-    match Name::new(alloc, bytes) {
-        Ok(name) => Ok(name),
-        Err(NameFault::NoMemory) => Err(Stop::NoMemory),
-        Err(_) => unreachable!(),
-    }
-}
-
-// The text of these bytes. Only memory can be missing.
-fn lawful_text(alloc: Global, bytes: &[u8]) -> Result<Txt, Stop>
-    requires { IsTxt bytes.now }
-    ensures { MatchResult result (λ t. t ≡ bytes.now) (λ e. e ≡ stop.NoMemory) }
-{
-    match Txt::new(alloc, bytes) {
-        Ok(text) => Ok(text),
-        Err(TxtFault::NoMemory) => Err(Stop::NoMemory),
-        Err(_) => unreachable!(),
-    }
-}
 
 // So many bytes of a name.
 fn name_text<'a>(reader: &mut Reader<'a>, count: u8) -> Result<&'a [u8], Stop>
@@ -65,7 +41,7 @@ pub fn name(alloc: Global, reader: &mut Reader<'_>) -> Result<Name, Stop>
     ensures { Reads (λ n. n) (spec.name reader.old.rest.now) result reader.new.rest.now }
 {
     let bytes = lent_name(reader)?;
-    lawful_name(alloc, bytes)
+    Ok(Name::of(alloc, bytes)?)
 }
 
 // A text.
@@ -73,7 +49,7 @@ fn text(alloc: Global, reader: &mut Reader<'_>) -> Result<Txt, Stop>
     ensures { Reads (λ t. t) (spec.text reader.old.rest.now) result reader.new.rest.now }
 {
     let bytes = lent_text(reader)?;
-    lawful_text(alloc, bytes)
+    Ok(Txt::of(alloc, bytes)?)
 }
 
 /// A value.
@@ -82,7 +58,7 @@ pub fn value(alloc: Global, reader: &mut Reader<'_>) -> Result<Value, Stop>
     ensures { Reads (λ v. v) (spec.value reader.old.rest.now) result reader.new.rest.now }
 {
     match reader.tag(1)? {
-        0 => Ok(Value::Int(reader.number(8, u64::MAX)?.cast_signed())),
+        0 => Ok(Value::Int(reader.number_64()?.cast_signed())),
         _ => Ok(Value::Text(text(alloc, reader)?)),
     }
 }

@@ -10,8 +10,7 @@ ghost use Rattle.command_codec.specs.Reads.{Reads};
 
 use crate::reader::{Alphabet, Reader, Stop};
 use prima_base::Val;
-
-const MOST_TEXT: u64 = 4096;
+use prima_base::limits::MAX_TEXT;
 
 /// A text, where it stands in the bytes. It takes no memory.
 #[tactic(auto, unfolding(command_spelling::specs::Reader::text))]
@@ -20,7 +19,7 @@ pub fn lent_text<'a>(reader: &mut Reader<'a>) -> Result<&'a [u8], Stop>
     ensures lawful { IfOk result (λ s. IsTxt s.now) }
     ensures memory { result ≡ Err stop.NoMemory → ⊥ }
 {
-    let count = reader.number(2, MOST_TEXT)?;
+    let count = reader.number(2, MAX_TEXT as u64)?;
     let bytes = reader.run(Alphabet::Printed, count as usize)?;
     Ok(bytes)
 }
@@ -34,7 +33,7 @@ pub fn lent_value<'a>(reader: &mut Reader<'a>) -> Result<Val<'a>, Stop>
     ensures memory { result ≡ Err stop.NoMemory → ⊥ }
 {
     match reader.tag(1)? {
-        0 => Ok(Val::Int(reader.number(8, u64::MAX)?.cast_signed())),
+        0 => Ok(Val::Int(reader.number_64()?.cast_signed())),
         _ => Ok(Val::Slice(lent_text(reader)?)),
     }
 }

@@ -1,10 +1,7 @@
 //! Reading bytes from the front.
 
-ghost use Rattle.std.specs.Prelude.{◌≡◌, ◌+◌, ◌*◌, ◌/◌, ◌≤◌, ◌<◌, ◌^◌, ◌&&◌, nat_lt, nat_le, ℕ, length, IfOk};
-ghost use Rattle.command_spelling.specs.Reading.{byte, digits, run, map_to};
-ghost use Rattle.command_spelling.specs.Reader as spec;
-ghost use Rattle.command_codec.specs.Reads.{Reads};
-ghost use Rattle.command_codec.specs.Answers.{takes as may_stand};
+ghost use Rattle.std.specs.Prelude.{◌≡◌, ◌++◌, ℕ, List};
+ghost use Rattle.command_spelling.specs.Reading.{Got, digits};
 
 use prima_base::NoMemory;
 use std::alloc::{AllocError, AllocFailed};
@@ -75,6 +72,13 @@ impl Alphabet {
     }
 }
 
+// The number of eight bytes, the highest first.
+fn number_of(bytes: &[u8; 8]) -> u64
+    ensures { (rest : List ℕ) → digits u64.MAX 8 0 (bytes.now ++ rest) ≡ Got result rest }
+{
+    u64::from_be_bytes(*bytes)
+}
+
 /// The bytes that are not yet read.
 #[derive(Drop)]
 pub struct Reader<'a> {
@@ -134,6 +138,20 @@ impl<'a> Reader<'a> {
             number = self.digit(number, most >> (8 * left))?;
         }
         Ok(number)
+    }
+
+    /// A number of eight bytes, the highest first. They are taken at once where so many are left.
+    pub fn number_64(&mut self) -> Result<u64, Stop>
+        ensures reads { Reads (λ n. n) (digits u64.MAX 8 0 self.old.rest.now) result self.new.rest.now }
+        ensures memory { result ≡ Err stop.NoMemory → ⊥ }
+    {
+        match self.rest.split_first_chunk::<8>() {
+            Some((bytes, rest)) => {
+                self.rest = rest;
+                Ok(number_of(bytes))
+            }
+            None => self.number(8, u64::MAX),
+        }
     }
 
     /// The next byte, if it begins a name.

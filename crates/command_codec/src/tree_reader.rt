@@ -12,10 +12,11 @@ ghost use Rattle.command_codec.specs.Reads.{Reads};
 use crate::fields::{name, sign, value};
 use crate::reader::{Reader, Stop};
 use cond_expr::{ColRef, Cond, Expr, Whose};
+use prima_base::limits::MAX_DEPTH;
 use std::alloc::Global;
 
 /// The most levels of a tree.
-pub const MOST_LEVELS: u32 = 32;
+pub const MOST_LEVELS: u32 = MAX_DEPTH as u32;
 
 /// The tag of an expression. Where no level may stand below it, LENGTH and CASE cannot stand. It takes no memory.
 pub fn expr_tag(reader: &mut Reader<'_>, deeper: bool) -> Result<u8, Stop>

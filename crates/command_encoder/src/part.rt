@@ -103,16 +103,14 @@ pub(crate) fn write_value(out: &mut Vec<u8>, value: &Value) -> Result<(), NoMemo
     ensures named { IsValue value.now }
     ensures err { OnErr result (out.new.items ≡ out.old.items) }
 {
-    match value {
-        Value::Int(number) => write_int(out, *number),
-        Value::Text(text) => write_text(out, text.bytes()),
-    }
+    write_lent(out, &value.lend())
 }
 
 /// Writes the spelling of a value that is lent after what is there, all or none. The one error is `NoMemory`, where memory runs out.
 pub fn write_lent(out: &mut Vec<u8>, value: &Val<'_>) -> Result<(), NoMemory>
     requires { IsLawful (shown value.now) }
     ensures ok { OnOk result (out.new.items ≡ out.old.items ++ value_bytes (shown value.now)) }
+    ensures named { IsValue (shown value.now) }
     ensures err { OnErr result (out.new.items ≡ out.old.items) }
 {
     match value {

@@ -24,15 +24,11 @@ pub fn name_size(name: &Name) -> u64
 }
 
 // The bytes of a value; at most 4,099.
-#[tactic(auto, using(crate::proofs::Lengths::lengths))]
 fn value_size(value: &Value) -> u64
     ensures size { result ≡ length (value_bytes value.now) }
     ensures small { result ≤ 4099 }
 {
-    match value {
-        Value::Int(_) => 9,
-        Value::Text(text) => text.bytes().len() as u64 + 3,
-    }
+    lent_size(&value.lend())
 }
 
 /// The bytes of a value that is lent; at most 4,099.

@@ -1,7 +1,7 @@
 -- Reading names, values, expressions, conditions, operators, changes and commands, from left to right.
 use Rattle.std.specs.Prelude.{ℕ, zero, suc, Bool, ◌==◌, ◌&&◌, not, nat_le, nat_lt, if◌then◌else◌, List, ◌∷◌}
 use Rattle.std.specs.Int.{w64, cast_signed}
-use Rattle.prima_base.specs.Bytes.{is_control, is_digit, is_name_byte}
+use Rattle.prima_base.specs.Bytes.{is_control, is_digit, is_name_byte, longest_text}
 use Rattle.prima_base.specs.Columns.{Column}
 use Rattle.prima_base.specs.declared.values.ColType.{ColType}
 use Rattle.prima_base.specs.declared.values.ColType.TheVariants.{Int as IntType, Text as TextType}
@@ -43,7 +43,7 @@ name = tagged is_name_length name_text
 
 -- the length, at most 4,096, and that many bytes
 unfoldable pub text : Parser (List ℕ)
-text = bind (digits 4096 2 0) (λ n. run is_text_byte n)
+text = bind (digits longest_text 2 0) (λ n. run is_text_byte n)
 
 unfoldable pub integer : Parser ℕ
 integer = digits 18446744073709551615 8 0

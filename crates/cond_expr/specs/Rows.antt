@@ -4,8 +4,8 @@ use Rattle.prima_base.specs.declared.values.Value.{Value}
 use Rattle.prima_base.specs.declared.values.Value.TheVariants.{Int}
 use Rattle.prima_base.specs.declared.values.Val.{Val}
 pub use Rattle.prima_base.specs.Columns.{IsLawful}
-pub use Rattle.prima_base.specs.Order.{same}
-use Rattle.prima_base.specs.Order.{shown, IsLent, is_borrowed}
+pub use Rattle.prima_base.specs.Order.{same, AreLent}
+use Rattle.prima_base.specs.Order.{shown, is_borrowed}
 use Rattle.cond_expr.specs.declared.exprs.Whose.{Whose}
 use Rattle.cond_expr.specs.declared.exprs.Whose.TheVariants.{Free, Alias, Atom}
 use Rattle.cond_expr.specs.declared.exprs.Column.{Column}
@@ -30,10 +30,6 @@ flat columns vs = cells columns (map shown vs)
 abbrev pub AreLawful : List Val → Type 0
 AreLawful [] = ⊤
 AreLawful (v ∷ vs) = IsLawful (shown v) × AreLawful vs
-
-abbrev pub AreLent : List Val → Type 0
-AreLent [] = ⊤
-AreLent (v ∷ vs) = IsLent v × AreLent vs
 
 -- whether what a reference stands for is such a text
 abbrev pub lies_elsewhere : List Column → List Val → Whose → List ℕ → Bool

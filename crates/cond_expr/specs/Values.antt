@@ -4,6 +4,7 @@ use Rattle.std.specs.declared.cmp.Ordering.{Ordering}
 use Rattle.std.specs.Ordering.{is_eq, is_lt, is_gt, is_le}
 use Rattle.prima_base.specs.declared.values.Value.{Value}
 use Rattle.prima_base.specs.declared.values.Value.TheVariants.{Int, Text}
+use Rattle.prima_base.specs.Bytes.{longest_text}
 use Rattle.prima_base.specs.Order.{value_cmp}
 use Rattle.cond_expr.specs.declared.exprs.Whose.{Whose}
 use Rattle.cond_expr.specs.declared.exprs.Whose.TheVariants.{Free, Alias, Atom}
@@ -38,7 +39,7 @@ abbrev mutual
   value at (column w n) = at w n
   value at (constant v) = v
   value at (length_of t) = Int (pos (length (bytes_of (value at t))))
-  value at (joined ts) = Text (take 4096 (texts at ts))
+  value at (joined ts) = Text (take longest_text (texts at ts))
   value at (choose c a b) = if truth at c then value at a else value at b
 
   pub texts : Cells → Trees → List ℕ

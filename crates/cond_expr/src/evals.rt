@@ -37,17 +37,6 @@ fn owned<'a>(constant: &Value) -> Result<Val<'a>, NoMemory>
     }
 }
 
-// The constant, lent.
-fn lent<'a>(constant: &'a Value) -> Val<'a>
-    ensures value { shown result ≡ constant.now }
-    ensures lawful { IsLawful (shown result) }
-{
-    match constant {
-        Value::Int(n) => Val::Int(*n),
-        Value::Text(text) => Val::Slice(text.bytes()),
-    }
-}
-
 // The value of the first column that the reference names.
 fn look_up<'a>(
     columns: &[Column],
@@ -126,7 +115,7 @@ pub fn decide(op: CmpOp, order: Ordering) -> bool
 /// The value of an expression over one value a column. The value of a plain column stays borrowed where it was. It
 /// fails only for want of memory.
 ///
-/// The values are lawful: a text among them has at most 4,096 bytes and no control byte. `lend` and `lend_row` give
+/// The values are lawful: a text among them has at most 4,096 bytes and no control byte. `Value::lend` and `lend_row` give
 /// lawful ones of any `Value`; of values that a store lends, its scan's contract has to say it. The constants of a tree
 /// are `Value`s, and so lawful as they are.
 ///
@@ -196,7 +185,7 @@ fn side<'a>(
     ensures lawful { IfOk result (λ v. IsLawful (shown v)) }
 {
     match expr {
-        Expr::Const(constant) => Ok(lent(constant)),
+        Expr::Const(constant) => Ok(constant.lend()),
         _ => eval(alloc, expr, columns, values),
     }
 }

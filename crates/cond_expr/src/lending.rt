@@ -1,18 +1,9 @@
 ghost use Rattle.std.specs.Prelude.{◌≡◌, IfOk, map};
-ghost use Rattle.prima_base.specs.Order.{shown, IsLent};
-ghost use Rattle.cond_expr.specs.Rows.{IsLawful, AreLawful, AreLent};
+ghost use Rattle.prima_base.specs.Order.{shown};
+ghost use Rattle.cond_expr.specs.Rows.{AreLawful, AreLent};
 
 use prima_base::{NoMemory, Val, Value};
 use std::alloc::Global;
-
-/// The value, borrowed. It takes no memory.
-pub fn lend(value: &Value) -> Val<'_>
-    ensures value { shown result ≡ value.now }
-    ensures lawful { IsLawful (shown result) }
-    ensures lent { IsLent result }
-{
-    value.lend()
-}
 
 /// The values of a row, borrowed, as `eval` and `holds` take them.
 pub fn lend_row<'a>(alloc: Global, row: &'a [Value]) -> Result<Vec<Val<'a>>, NoMemory>
@@ -22,7 +13,7 @@ pub fn lend_row<'a>(alloc: Global, row: &'a [Value]) -> Result<Vec<Val<'a>>, NoM
 {
     let mut lent = Vec::with_capacity(alloc, row.len())?;
     for value in row {
-        lent.push(lend(value))?;
+        lent.push(value.lend())?;
     }
     Ok(lent)
 }

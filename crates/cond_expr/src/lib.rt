@@ -27,7 +27,7 @@ pub use laws::{
     accepted_has_a_value_of_its_type, filling_atoms_is_substitution, filling_is_substitution,
     fillings_compose, lawful_values_are_computed, values_depend_on_references_alone,
 };
-pub use lending::{lend, lend_row};
+pub use lending::lend_row;
 pub use pinning::{pinned, pinned_parts_hold};
 pub use references::gather_references;
 pub use sizes::{cond_size, expr_size};

@@ -1,6 +1,7 @@
 -- The least value of a type, and the next value behind one: nothing of the type lies between the two.
 use Rattle.std.specs.Prelude.{ℕ, ◌+◌, ◌-◌, ◌^◌, ◌==◌, ◌&&◌, ◌||◌, ◌++◌, List, [], ◌∷◌, Bool, true, not, Option, Some, None, nat_lt, length, pos, neg_ℤ, ◌+ℤ◌, if◌then◌else◌}
 use Rattle.std.specs.Ordering.{int_cmp, is_lt}
+use Rattle.prima_base.specs.Bytes.{longest_text}
 use Rattle.prima_base.specs.declared.values.Value.{Value}
 use Rattle.prima_base.specs.declared.values.Value.TheVariants.{Int, Text}
 use Rattle.prima_base.specs.declared.values.ColType.{ColType}
@@ -26,7 +27,7 @@ raise (b ∷ bytes) = if all_top bytes then raised b ∷ [] else b ∷ raise byt
 
 -- a text with the least byte behind it; where there is no room, it is raised
 abbrev pub after : List ℕ → List ℕ
-after t = if nat_lt (length t) 4096 then t ++ 32 ∷ [] else raise t
+after t = if nat_lt (length t) longest_text then t ++ 32 ∷ [] else raise t
 
 abbrev pub next : Value → Value
 next (Int n) = Int (n +ℤ pos 1)
@@ -35,7 +36,7 @@ next (Text t) = Text (after t)
 -- it is not the greatest of its type
 abbrev pub has_next : Value → Bool
 has_next (Int n) = is_lt (int_cmp n (pos (2 ^ 63 - 1)))
-has_next (Text t) = nat_lt (length t) 4096 || not (all_top t)
+has_next (Text t) = nat_lt (length t) longest_text || not (all_top t)
 
 -- the next value, where there is one; and of a text
 abbrev pub following : Value → Option Value

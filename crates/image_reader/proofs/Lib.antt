@@ -11,4 +11,3 @@ pub mod BegunLines
 pub mod LineParts
 pub mod CurrentRows
 pub mod JudgedShowings
-pub mod NumbersAtOnce

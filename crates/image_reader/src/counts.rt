@@ -1,32 +1,18 @@
 //! Reading numbers and counts.
 
-ghost use Rattle.std.specs.Prelude.{◌≡◌, ◌<◌, ◌/◌, ◌++◌, ℕ, List, min, length};
-ghost use Rattle.command_spelling.specs.Reading.{Got};
+ghost use Rattle.std.specs.Prelude.{◌≡◌, ◌<◌, ◌/◌, min, length};
 ghost use Rattle.image_spelling.specs.Items.{item};
 ghost use Rattle.image_spelling.specs.Reader as spec;
 ghost use Rattle.command_codec.specs.Reads.{Reads};
 
 use command_codec::{Reader, Stop};
 
-// The number of eight bytes, the highest first.
-fn number_of(bytes: &[u8; 8]) -> u64
-    ensures { (rest : List ℕ) → spec.number_64 (bytes.now ++ rest) ≡ Got result rest }
-{
-    u64::from_be_bytes(*bytes)
-}
-
-/// A number of eight bytes, which are taken at once where so many are left.
+/// A number of eight bytes.
 #[tactic(auto, unfolding(image_spelling::specs::Reader::number_64))]
 pub(crate) fn number_64(reader: &mut Reader<'_>) -> Result<u64, Stop>
     ensures { Reads (λ n. n) (spec.number_64 reader.old.rest.now) result reader.new.rest.now }
 {
-    match reader.rest.split_first_chunk::<8>() {
-        Some((bytes, rest)) => {
-            reader.rest = rest;
-            Ok(number_of(bytes))
-        }
-        None => reader.number(8, u64::MAX),
-    }
+    reader.number_64()
 }
 
 /// A count of four bytes. Where it is cut off the reader stands at its first byte.

@@ -6,7 +6,7 @@ ghost use Rattle.image_reader.specs.Seen.{cell_seen, cells_seen};
 ghost use Rattle.image_reader.specs.Stretches.{piece_of, pieces_of, bare_from, longer, begun, ended_by, given, left_by, merged, all_merged};
 
 use history_store::Cell;
-use prima_base::{NoMemory, Period, Val};
+use prima_base::{NoMemory, Period, Val, copy_vals};
 use std::alloc::Global;
 use std::mem;
 
@@ -49,17 +49,6 @@ fn put<'a>(
     Ok(())
 }
 
-// Values that are lent, once more.
-fn lent_again<'a>(alloc: Global, values: &[Val<'a>]) -> Result<Vec<Val<'a>>, NoMemory>
-    ensures { IfOk result (λ v. map shown v.items ≡ map shown values.now) }
-{
-    let mut again = Vec::with_capacity(alloc, values.len())?;
-    for value in values {
-        again.push(value.copy()?)?;
-    }
-    Ok(again)
-}
-
 // Puts the whole stretch with the entry's value behind the others. It is used up.
 fn finish<'a>(
     done: &mut Vec<Stretch<'a>>,
@@ -85,7 +74,7 @@ fn split<'a>(
 {
     let end = cell.period.end();
     if let Some(period) = Period::new(stretch.period.start(), end) {
-        let values = lent_again(*stretch.values.allocator(), &stretch.values)?;
+        let values = copy_vals(*stretch.values.allocator(), &stretch.values)?;
         put(done, stretch.id, values, cell, period)?;
     }
     stretch.period = Period::between(end, stretch.period.end());

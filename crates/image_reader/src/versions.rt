@@ -14,15 +14,13 @@ use crate::counts::count_32;
 use crate::stamps::{is_later, is_stamp};
 use command_codec::{Reader, Stop, op, ops};
 use prima_base::NoMemory;
+use prima_base::limits::MAX_VERSIONS;
 use schema_catalog::Schema;
 use smo_meaning::counted_operators_are_few;
 use smo_ops::check_evolve;
 use smo_schemas::{after, check_inverse};
 use smo_types::{InverseFault, Op, OpFault, Version, Versions};
 use std::alloc::Global;
-
-// The most versions of an archive.
-const MOST_VERSIONS: usize = 512;
 
 // A stamp, an operator, and the operators of its inverse.
 #[tactic(auto, unfolding(image_spelling::specs::Reader::number_64))]
@@ -87,7 +85,7 @@ fn is_in_turn(last: Option<u64>, versions: &[Version], stamp: u64) -> bool
     ensures { result ≡ is_in_turn last (length versions.now) (newest_stamp (map version_of versions.now)) stamp }
 {
     is_stamp(last, stamp)
-        && versions.len() < MOST_VERSIONS
+        && versions.len() < MAX_VERSIONS
         && is_later(newest_stamp(versions), stamp)
 }
 

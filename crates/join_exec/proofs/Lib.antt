@@ -6,7 +6,6 @@ pub mod EntriesInTurn
 pub mod KnownNames
 pub mod RelationRows
 pub mod ReadingLaws
-pub mod LentLaws
 pub mod LeftNames
 pub mod ReadRows
 pub mod AtomAnswers

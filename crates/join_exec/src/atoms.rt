@@ -83,6 +83,7 @@ fn read_atom<'a, L: Ledger>(
 {
     match table {
         Some(table) => atom_of(alloc, table, number, names, slice, steps),
+        // each table of a piece that may be run is stored, as `IsReadable` says
         None => unreachable!(),
     }
 }

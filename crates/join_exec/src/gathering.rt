@@ -34,6 +34,7 @@ fn take_column<'a, L: Ledger>(
     ensures rises { steps.old ≤ steps.new }
 {
     let Some(cells) = table.scan_column(name) else {
+        // each name is that of a column of the table, as `there` says
         unreachable!();
     };
     add_column(alloc, stretches, cells, steps)

@@ -8,7 +8,6 @@
 ghost use Rattle.std.specs.Prelude.{◌≡◌, ℕ, ◌+◌, ◌≤◌, ◌++◌, ◌∷◌, [], ◌↔◌, List, true, false, length, map, IfOk, OnOk, MatchOption, option_to_list};
 ghost use Rattle.prima_base.specs.Order.{shown, IsLent};
 ghost use Rattle.prima_base.specs.Columns.{IsLawful};
-ghost use Rattle.cond_expr.specs.Rows.{AreLent};
 ghost use Rattle.prima_base.specs.declared.values.Value.{Value};
 ghost use Rattle.history_store.specs.Scans.{seen_cell};
 ghost use Rattle.join_exec.specs.Parts.{Has, HasBoth, InTurn};
@@ -17,7 +16,7 @@ ghost use Rattle.join_exec.specs.Stretches.{part_of, parts_of, key_part, cell_pa
 
 use crate::row_parts::Stretch;
 use history_store::{CellEntry, CellScan, KeyEntry, KeyScan};
-use prima_base::{NoMemory, Period, Steps, TimedRow, Val, meet};
+use prima_base::{NoMemory, Period, Steps, TimedRow, Val, copy_vals, meet};
 use std::alloc::Global;
 use std::collections::VecDeque;
 use std::mem;
@@ -86,38 +85,12 @@ fn shared(stretch: &Stretch<'_>, cell: &CellEntry<'_>) -> Option<Period>
     }
 }
 
-// The same value. What is lent is not copied.
-fn lent_again<'a>(value: &Val<'a>) -> Val<'a>
-    requires { IsLent value.now }
-    ensures same { shown result ≡ shown value.now }
-    ensures lent { IsLent result }
-{
-    match value {
-        Val::Int(n) => Val::Int(*n),
-        Val::Slice(bytes) => Val::Slice(bytes),
-        Val::Own(_) => unreachable!(),
-    }
-}
-
-// The same values.
-fn lent_values<'a>(alloc: Global, values: &[Val<'a>]) -> Result<Vec<Val<'a>>, NoMemory>
-    requires { AreLent values.now }
-    ensures same { IfOk result (λ v. map shown v.items ≡ map shown values.now) }
-    ensures lent { IfOk result (λ v. AreLent v.items) }
-{
-    let mut again = Vec::with_capacity(alloc, values.len())?;
-    for value in values {
-        again.push(lent_again(value))?;
-    }
-    Ok(again)
-}
-
 // The same stretch.
 fn again<'a>(stretch: &Stretch<'a>) -> Result<Stretch<'a>, NoMemory>
     ensures { IfOk result (λ s. part_of s ≡ part_of stretch.now) }
 {
     let values = &stretch.row.values;
-    let values = lent_values(*values.allocator(), values)?;
+    let values = copy_vals(*values.allocator(), values)?;
     Ok(Stretch {
         id: stretch.id,
         row: TimedRow {
@@ -163,7 +136,10 @@ fn finish<'a>(
 {
     match shared(&stretch, cell) {
         None => Ok(()),
-        Some(period) => { put(done, stretch, lent_again(&cell.value), period) }
+        Some(period) => {
+            let value = cell.value.copy()?;
+            put(done, stretch, value, period)
+        }
     }
 }
 

@@ -2,10 +2,9 @@
 
 ghost use Rattle.std.specs.Prelude.{◌≡◌, IfOk, map};
 ghost use Rattle.prima_base.specs.Order.{shown};
-ghost use Rattle.prima_base.specs.Timed.{vals_cmp};
 ghost use Rattle.timed_choices.specs.Keeping.{value_at, picked};
 
-use prima_base::{NoMemory, Val};
+use prima_base::{NoMemory, Val, compare_vals};
 use std::alloc::Global;
 use std::cmp::Ordering;
 use std::marker::Model;
@@ -77,20 +76,6 @@ impl Ord for Key<'_> {
     fn cmp(&self, other: &Key<'_>) -> Ordering {
         compare_vals(&self.values, &other.values)
     }
-}
-
-// Compares the values that are shown, one by one.
-fn compare_vals(a: &[Val<'_>], b: &[Val<'_>]) -> Ordering
-    ensures { result ≡ vals_cmp a.now b.now }
-{
-    let shorter = a.len().min(b.len());
-    for i in 0..shorter {
-        let order = a[i].compare(&b[i]);
-        if order != Ordering::Equal {
-            return order;
-        }
-    }
-    a.len().cmp(&b.len())
 }
 
 // The value at the place. A borrowed text stays borrowed.

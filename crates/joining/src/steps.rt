@@ -4,7 +4,7 @@ ghost use Rattle.std.specs.Prelude.{◌≡◌, ◌++◌, map, IfOk, OnOk, List};
 ghost use Rattle.std.specs.List.{flat_map};
 ghost use Rattle.std.specs.BTreeMap as tree;
 ghost use Rattle.prima_base.specs.declared.values.Value.{Value as OneValue};
-ghost use Rattle.prima_base.specs.Order.{row_cmp, shown, IsLent};
+ghost use Rattle.prima_base.specs.Order.{row_cmp, shown};
 ghost use Rattle.prima_base.specs.Timed.{entry_of, entries_of};
 ghost use Rattle.cond_expr.specs.Rows.{AreLawful, AreLent};
 ghost use Rattle.cond_expr.specs.Seen.{test};
@@ -56,25 +56,13 @@ pub(crate) fn all_met(
     }
 }
 
-// The same value. What is lent stays lent.
-fn again<'a>(value: &Val<'a>) -> Result<Val<'a>, NoMemory>
-    ensures same { IfOk result (λ v. shown v ≡ shown value.now) }
-    ensures lent { IsLent value.now → IfOk result (λ v. IsLent v) }
-{
-    match value {
-        Val::Int(n) => Ok(Val::Int(*n)),
-        Val::Slice(bytes) => Ok(Val::Slice(bytes)),
-        Val::Own(text) => Ok(Val::Own(text.copy()?)),
-    }
-}
-
 // Puts the values behind the others.
 fn append<'a>(into: &mut Vec<Val<'a>>, values: &[Val<'a>]) -> Result<(), NoMemory>
     ensures values { OnOk result (map shown into.new.items ≡ map shown into.old.items ++ map shown values.now) }
     ensures lent { AreLent into.old.items → AreLent values.now → OnOk result (AreLent into.new.items) }
 {
     for value in values {
-        into.push(again(value)?)?;
+        into.push(value.copy()?)?;
     }
     Ok(())
 }

@@ -1,7 +1,7 @@
 -- The lexical grammar, by cases on the bytes.
 use Rattle.std.specs.Prelude.{ℕ, ◌+◌, ◌-◌, ◌*◌, ◌<◌, ◌≤◌, Bool, true, false, ◌||◌, ◌&&◌, not, nat_lt, nat_le, ◌==◌, List, [], ◌∷◌, length, take, get_or, if◌then◌else◌}
 use Rattle.std.specs.List.{prefix_len}
-use Rattle.prima_base.specs.Bytes.{is_control, is_digit, is_name_byte}
+use Rattle.prima_base.specs.Bytes.{is_control, is_digit, is_name_byte, longest_text}
 use Rattle.lexical_grammar.specs.declared.kinds.TokenKind.TheVariants.{Word, Number, Text, Sign}
 use Rattle.lexical_grammar.specs.declared.pieces.Piece.{Piece}
 use Rattle.lexical_grammar.specs.declared.pieces.Piece.TheVariants.{End, Of, Bad, Open, Long, Big}
@@ -72,9 +72,9 @@ unfoldable mutual
   text_quote n [] = Of Text (n + 1)
   text_quote n (b ∷ bytes) = if b == 39 then text_from (n + 2) bytes else Of Text (n + 1)
 
--- a text that ends is too long when it stands for more than 4,096 bytes
+-- a text that ends is too long when it stands for more bytes than a text has at most
 abbrev pub sized : ℕ → Piece → Piece
-sized size (Of kind n) = if nat_lt 4096 size then Long else Of kind n
+sized size (Of kind n) = if nat_lt longest_text size then Long else Of kind n
 sized size piece = piece
 
 -- ---- one token

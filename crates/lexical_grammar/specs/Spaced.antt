@@ -1,6 +1,6 @@
 -- The parts of a text in words of their own: gaps of blanks and comments, and tokens that are as long as can be.
 use Rattle.std.specs.Prelude.{◌≡◌, ℕ, ◌+◌, ◌<◌, ◌≤◌, Bool, true, false, not, ◌||◌, ◌&&◌, ◌==◌, List, [], ◌∷◌, ◌++◌, length, get_or, Option, Some, None, ◌⊎◌}
-use Rattle.prima_base.specs.Bytes.{is_control, is_digit, is_name_byte}
+use Rattle.prima_base.specs.Bytes.{is_control, is_digit, is_name_byte, longest_text}
 use Rattle.lexical_grammar.specs.declared.kinds.TokenKind.{TokenKind}
 use Rattle.lexical_grammar.specs.declared.kinds.TokenKind.TheVariants.{Word, Number, Text, Sign}
 use Rattle.lexical_grammar.specs.declared.token.Token.{Token}
@@ -61,7 +61,7 @@ abbrev pub IsToken : TokenKind → List ℕ → List ℕ → Type 0
 IsToken Word text rest = (b : ℕ) × (more : List ℕ) × (text ≡ b ∷ more) × (is_word_start b ≡ true) × Each is_name_byte more × NoneNext is_name_byte rest
 IsToken Number text rest = (d : ℕ) × (more : List ℕ) × Each is_digit (d ∷ more) × NoneNext is_digit rest
     × (((text ≡ d ∷ more) × (number (d ∷ more) ≤ 18446744073709551615)) ⊎ ((text ≡ 45 ∷ d ∷ more) × (number (d ∷ more) ≤ 9223372036854775808)))
-IsToken Text text rest = (value : List ℕ) × (bytes : List ℕ) × (text ≡ 39 ∷ bytes) × IsLiteral value bytes × (length value ≤ 4096) × NoneNext is_quote rest
+IsToken Text text rest = (value : List ℕ) × (bytes : List ℕ) × (text ≡ 39 ∷ bytes) × IsLiteral value bytes × (length value ≤ longest_text) × NoneNext is_quote rest
 IsToken Sign text rest = ((b : ℕ) × (c : ℕ) × (text ≡ b ∷ c ∷ []) × (are_sign b c ≡ true)) ⊎ ((b : ℕ) × (text ≡ b ∷ []) × (is_one_sign b ≡ true) × NoneNext (are_sign b) rest)
 
 -- ---- faults
@@ -83,7 +83,7 @@ IsFault at bytes NoMemory = ⊥
 IsFault at bytes (BadByte p) = ((p ≡ at) × BeginsNothing bytes)
     ⊎ ((inner : List ℕ) × (c : ℕ) × (more : List ℕ) × (bytes ≡ 39 ∷ (inner ++ c ∷ more)) × IsOpen inner × (is_control c ≡ true) × (p ≡ at + 1 + length inner))
 IsFault at bytes (OpenQuote p) = (inner : List ℕ) × (bytes ≡ 39 ∷ inner) × IsOpen inner × (p ≡ at)
-IsFault at bytes (LongText p) = (value : List ℕ) × (inner : List ℕ) × (more : List ℕ) × (bytes ≡ 39 ∷ (inner ++ more)) × IsLiteral value inner × (4096 < length value) × NoneNext is_quote more × (p ≡ at)
+IsFault at bytes (LongText p) = (value : List ℕ) × (inner : List ℕ) × (more : List ℕ) × (bytes ≡ 39 ∷ (inner ++ more)) × IsLiteral value inner × (longest_text < length value) × NoneNext is_quote more × (p ≡ at)
 IsFault at bytes (BigNumber p) = (d : ℕ) × (digits : List ℕ) × (more : List ℕ) × Each is_digit (d ∷ digits) × NoneNext is_digit more × (p ≡ at)
     × (((bytes ≡ d ∷ (digits ++ more)) × (18446744073709551615 < number (d ∷ digits))) ⊎ ((bytes ≡ 45 ∷ d ∷ (digits ++ more)) × (9223372036854775808 < number (d ∷ digits))))
 

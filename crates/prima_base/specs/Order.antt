@@ -1,5 +1,5 @@
 -- The order of values, names and rows, and the value that a `Val` shows.
-use Rattle.std.specs.Prelude.{ℕ, Bool, true, false, List, ⊤}
+use Rattle.std.specs.Prelude.{ℕ, Bool, true, false, List, [], ◌∷◌, ⊤}
 use Rattle.std.specs.declared.cmp.Ordering.{Ordering}
 use Rattle.std.specs.declared.cmp.Ordering.TheVariants.{Less, Greater}
 use Rattle.std.specs.Ordering.{nat_cmp, int_cmp, eq_by_cmp, is_eq}
@@ -39,6 +39,11 @@ abbrev pub IsLent : Val → Type 0
 IsLent (ValInt n) = ⊤
 IsLent (Slice s) = ⊤
 IsLent (Own t) = ⊥
+
+-- so it is of each
+abbrev pub AreLent : List Val → Type 0
+AreLent [] = ⊤
+AreLent (v ∷ vs) = IsLent v × AreLent vs
 
 -- a text that lies elsewhere
 abbrev pub is_borrowed : Val → Bool

@@ -27,4 +27,4 @@ pub use refusals::{OpKind, OpRefusal, Refusal, What};
 pub use rows::{Row, rows_are_told_apart};
 pub use texts::{Txt, TxtFault};
 pub use timed_rows::TimedRow;
-pub use values::{ColType, Val, Value};
+pub use values::{ColType, Val, Value, compare_vals, copy_vals};

@@ -41,3 +41,6 @@ pub const MAX_COLUMNS: usize = 32;
 
 /// The most tables of a version.
 pub const MAX_TABLES: usize = 64;
+
+/// The most versions of the schema, version 0 not counted.
+pub const MAX_VERSIONS: usize = 512;

@@ -59,12 +59,14 @@ pub enum Val<'a> {
 
 impl<'a> Val<'a> {
     ghost use Rattle.std.specs.Prelude.{◌≡◌, IfOk};
-    ghost use Rattle.prima_base.specs.Order.{shown, is_borrowed};
+    ghost use Rattle.prima_base.specs.Order.{shown, is_borrowed, IsLent};
 
     /// One that shows the same value. A borrowed text stays borrowed, where it was.
+    #[tactic(auto, using(crate::proofs::LentVals::stays_lent))]
     pub fn copy(&self) -> Result<Val<'a>, NoMemory>
         ensures value { IfOk result (λ v. shown v ≡ shown self.now) }
         ensures borrowed { IfOk result (λ v. is_borrowed v ≡ is_borrowed self.now) }
+        ensures lent { IsLent self.now → IfOk result (λ v. IsLent v) }
     {
         match self {
             Val::Int(n) => Ok(Val::Int(*n)),
@@ -106,6 +108,38 @@ impl Val<'_> {
             (Val::Own(x), Val::Own(y)) => x.bytes().cmp(y.bytes()),
         }
     }
+}
+
+ghost use Rattle.std.specs.Prelude.{◌≡◌, IfOk, map};
+ghost use Rattle.prima_base.specs.Order.{shown, is_borrowed, AreLent};
+ghost use Rattle.prima_base.specs.Timed.{vals_cmp};
+
+/// Vals that show the same values, in their order. A borrowed text stays borrowed, where it was. The one error is
+/// `NoMemory`, where memory runs out.
+pub fn copy_vals<'a>(alloc: Global, values: &[Val<'a>]) -> Result<Vec<Val<'a>>, NoMemory>
+    ensures values { IfOk result (λ v. map shown v.items ≡ map shown values.now) }
+    ensures borrowed { IfOk result (λ v. map is_borrowed v.items ≡ map is_borrowed values.now) }
+    ensures lent { AreLent values.now → IfOk result (λ v. AreLent v.items) }
+{
+    let mut copies = Vec::with_capacity(alloc, values.len())?;
+    for value in values {
+        copies.push(value.copy()?)?;
+    }
+    Ok(copies)
+}
+
+/// Compares the values that are shown, one by one; of two lists that agree so far the shorter one is less. It takes no memory.
+pub fn compare_vals(a: &[Val<'_>], b: &[Val<'_>]) -> Ordering
+    ensures { result ≡ vals_cmp a.now b.now }
+{
+    let shorter = a.len().min(b.len());
+    for i in 0..shorter {
+        let order = a[i].compare(&b[i]);
+        if order != Ordering::Equal {
+            return order;
+        }
+    }
+    a.len().cmp(&b.len())
 }
 
 impl PartialEq for Val<'_> {

@@ -35,6 +35,7 @@ use answer_text::{
 };
 use archive_core::{Archive, AskFault, CommitFault, Done};
 use disk_model::Disk;
+use prima_base::limits::MAX_VERSIONS;
 use prima_base::{Refusal, Steps};
 use prima_io::{Failed, Sink};
 use rule_book::{Rule, RuleBook};
@@ -46,8 +47,8 @@ use std::sync::ledger::{Blank, Ledger};
 use temporal_lang::Query;
 use version_groups::{Groups, lifelines_are_few};
 
-// A version begins at most two, and there are at most 512 versions.
-const MOST_LIFELINES: u32 = 1024;
+// A version begins at most two.
+const MOST_LIFELINES: u32 = 2 * MAX_VERSIONS as u32;
 
 /// Puts the line of a refusal.
 pub(crate) fn refuse<K: Sink>(sink: &mut K, refusal: &Refusal) -> Result<Put, Failed>

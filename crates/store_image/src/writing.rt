@@ -190,18 +190,14 @@ fn put_each_version(out: &mut Vec<u8>, versions: &[Version]) -> Result<(), NoMem
     Ok(())
 }
 
-// Versions, with their count before them.
-fn put_versions(out: &mut Vec<u8>, versions: &[Version]) -> Result<(), NoMemory>
-    requires { AllByRecursion CanBeWritten (map version_of versions.now) }
-    ensures bytes { OnOk result (out.new.items ≡ out.old.items ++ list_bytes 4 version_bytes (map version_of versions.now)) }
-    ensures named { OnOk result (VersionsNamed (map version_of versions.now)) }
+// The versions of the groups, with their count before them.
+fn put_versions(out: &mut Vec<u8>, groups: &Groups) -> Result<(), NoMemory>
+    requires { AllByRecursion CanBeWritten (versions_in groups.now) }
+    ensures bytes { OnOk result (out.new.items ≡ out.old.items ++ list_bytes 4 version_bytes (versions_in groups.now)) }
+    ensures named { OnOk result (VersionsNamed (versions_in groups.now)) }
 {
-    // No machine has memory for so many versions that this is none.
-    let Ok(count) = u32::try_from(versions.len()) else {
-        return Err(NoMemory);
-    };
-    put_u32(out, count)?;
-    put_each_version(out, versions)
+    put_u32(out, groups.newest())?;
+    put_each_version(out, &groups.versions().list)
 }
 
 // The last stamp.
@@ -240,7 +236,7 @@ fn image_counted<L: Ledger>(
     let size = image_size(groups, &mut steps);
     let mut out = Vec::with_capacity(alloc, size as usize)?;
     put_last(&mut out, last)?;
-    put_versions(&mut out, &groups.versions().list)?;
+    put_versions(&mut out, groups)?;
     put_all_stored(&mut out, groups.stored(), &mut steps)?;
     Ok(out)
 }

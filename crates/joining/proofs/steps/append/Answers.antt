@@ -5,6 +5,6 @@ use Rattle.joining.proofs.steps.append.Goals as goal
 
 pub loop-value-preserved : goal.loop-value-preserved
 loop-value-preserved c = record {
-  values = shown_step c.args.values.now c.loop-value.value-index c.value-item.result c.in_ok-again.field-0 c.loop-value.into.items c.push.new.self.items (map shown c.args.into.now.items) c.loop-value-test.true c.value-item.is c.loop-value.invariant.values c.in_ok-again.ensures.same c.in_ok-push.ensures.items;
-  lent = λ h k. value_lent c.loop-value.into.items c.push.new.self.items c.in_ok-again.field-0 c.in_ok-push.ensures.items (c.loop-value.invariant.lent h k) (c.in_ok-again.ensures.lent (lent_here c.args.values.now c.loop-value.value-index c.value-item.result c.loop-value-test.true c.value-item.is k));
+  values = shown_step c.args.values.now c.loop-value.value-index c.value-item.result c.in_ok-copy.field-0 c.loop-value.into.items c.push.new.self.items (map shown c.args.into.now.items) c.loop-value-test.true c.value-item.is c.loop-value.invariant.values c.in_ok-copy.ensures.value c.in_ok-push.ensures.items;
+  lent = λ h k. value_lent c.loop-value.into.items c.push.new.self.items c.in_ok-copy.field-0 c.in_ok-push.ensures.items (c.loop-value.invariant.lent h k) (c.in_ok-copy.ensures.lent (lent_here c.args.values.now c.loop-value.value-index c.value-item.result c.loop-value-test.true c.value-item.is k));
 }

@@ -5,10 +5,9 @@ use Rattle.std.proofs.lemmas.Nat.{be_bytes_8}
 use Rattle.command_spelling.specs.Reading.{Got, digits}
 use Rattle.command_spelling.specs.Spelling.{number}
 use Rattle.command_spelling.proofs.Numbers.{number_good}
-use Rattle.image_spelling.specs.Reader.{number_64}
 
-pub read_at_once : (bs : List ℕ) → length bs ≡ 8 → ((i : ℕ) → get_or bs i 0 < 256) → (n : ℕ) → n < 2 ^ 64 → n ≡ from_be_bytes w64 bs → (rest : List ℕ) → number_64 (bs ++ rest) ≡ Got n rest
-unfolding number_64 number
+pub read_at_once : (bs : List ℕ) → length bs ≡ 8 → ((i : ℕ) → get_or bs i 0 < 256) → (n : ℕ) → n < 2 ^ 64 → n ≡ from_be_bytes w64 bs → (rest : List ℕ) → digits 18446744073709551615 8 0 (bs ++ rest) ≡ Got n rest
+unfolding number
 read_at_once bs eight small n few is rest =
     let bytes : bytes_high_first 8 n ≡ bs = be_bytes_8 bs n eight small is in
     ap (λ l. digits 18446744073709551615 8 0 (l ++ rest)) (sym bytes) ∙ (number_good 18446744073709551615 8 (omega arith)).complete n (omega (arith, few)) rest
