@@ -7,8 +7,8 @@ use crate::Column;
 use prima_base::{ColType, Name, NoMemory};
 use std::alloc::Global;
 
-/// Puts a table's columns, as those of the atom with this number, after what is there: those of several atoms stand one
-/// after the other. The one error is `NoMemory`, where memory runs out.
+/// Puts a table's columns, as those of the atom with this number, after what is there: those of
+/// several atoms stand one after the other. The one error is `NoMemory`, where memory runs out.
 pub fn push_columns_at(
     into: &mut Vec<Column>,
     atom: u32,
@@ -26,8 +26,8 @@ pub fn push_columns_at(
     Ok(())
 }
 
-/// A table's columns, as those of the atom with this number: what expressions and conditions over the table are typed
-/// and evaluated with. The one error is `NoMemory`, where memory runs out.
+/// A table's columns, as those of the atom with this number: what expressions and conditions over
+/// the table are typed and evaluated with. The one error is `NoMemory`, where memory runs out.
 pub fn columns_at(
     alloc: Global,
     atom: u32,

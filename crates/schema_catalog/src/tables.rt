@@ -7,7 +7,6 @@ use std::rc::Rc;
 /// pair of both.
 #[derive(Drop)]
 pub struct Table {
-    alloc: Global,
     name: Name,
     columns: Vec<(Name, ColType)>,
 }
@@ -37,32 +36,14 @@ pub fn are_columns(columns: &[(Name, ColType)]) -> bool
     }
 }
 
-// Equal columns.
-fn copy_columns(
-    alloc: Global,
-    columns: &[(Name, ColType)],
-) -> Result<Vec<(Name, ColType)>, NoMemory>
-    ensures { IfOk result (λ v. v.items ≡ columns.now) }
-{
-    let mut copied = Vec::with_capacity(alloc, columns.len())?;
-    for (name, kind) in columns {
-        copied.push((name.copy()?, *kind))?;
-    }
-    Ok(copied)
-}
-
 impl Table {
     /// The table of this name and these columns, which stand in the order of their names, each once
     /// (`are_columns`). It takes no memory.
-    pub fn new(alloc: Global, name: Name, columns: Vec<(Name, ColType)>) -> Table
+    pub fn new(name: Name, columns: Vec<(Name, ColType)>) -> Table
         requires { AreColumns columns.items }
         ensures { result ≡ (name, columns.items) }
     {
-        Table {
-            alloc,
-            name,
-            columns,
-        }
+        Table { name, columns }
     }
 
     /// The table's name.
@@ -79,17 +60,6 @@ impl Table {
         ensures lawful { AreColumns self.now.1 }
     {
         &self.columns
-    }
-
-    /// An equal table. The one error is `NoMemory`, where memory runs out.
-    pub fn copy(&self) -> Result<Table, NoMemory>
-        ensures { IfOk result (λ t. t ≡ self.now) }
-    {
-        Ok(Table {
-            alloc: self.alloc,
-            name: self.name.copy()?,
-            columns: copy_columns(self.alloc, &self.columns)?,
-        })
     }
 }
 

@@ -55,12 +55,13 @@ fn one(alloc: Global, rows: Vec<Row>) -> Carried
     }
 }
 
-/// The relations of the tables that the operator makes, from those of the one or two tables that it makes them of
-/// (`made_of`), in the order in which it names them; where it makes them of one, or of none as DROP TABLE, what else is
-/// given is not looked at. The operator is one that is not refused
-/// over the schema `before`. Where the lists are relations of those tables' columns, the answers are relations of the made
-/// tables' columns (by the law `carried_database_is_of_the_next_schema`). The one error is `NoMemory`, where memory runs
-/// out. (PRISM 2008.)
+/// The relations of the tables that the operator makes, from those of the one or two tables that it
+/// makes them of (`made_of`), in the order in which it names them; where it makes them of one, or
+/// of none as DROP TABLE, what else is given is not looked at. The operator is one that is not
+/// refused over the schema `before`. Where the lists are relations of those tables' columns, the
+/// answers are relations of the made tables' columns (by the law
+/// `carried_database_is_of_the_next_schema`). The one error is `NoMemory`, where memory runs out.
+/// (PRISM 2008.)
 pub fn carry(
     alloc: Global,
     op: &Op,

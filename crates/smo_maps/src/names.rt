@@ -1,4 +1,5 @@
-//! The names of columns, in their order. Rows have no types, so names tell where the values of a made row stand.
+//! The names of columns, in their order. Rows have no types, so names tell where the values of a
+//! made row stand.
 
 ghost use Rattle.std.specs.Prelude.{◌≡◌, IfOk};
 ghost use Rattle.relations.specs.Sets.{set_of};

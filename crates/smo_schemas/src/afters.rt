@@ -61,7 +61,7 @@ fn create(
     ensures { IsAfter schema.now (create_table table.now columns.now) result }
 {
     check_new_table(alloc, schema, table, columns)?;
-    let made = Table::new(alloc, table.copy()?, in_order(alloc, columns)?);
+    let made = Table::new(table.copy()?, in_order(alloc, columns)?);
     let next = schema.with(made)?;
     Ok(next)
 }

@@ -32,8 +32,8 @@ pub(crate) fn are_joinable(columns: &[(Name, ColType)], others: &[(Name, ColType
     true
 }
 
-/// The columns of both, in the order of their names; of two with one name, that of the others stays. It is called with
-/// few columns. The one error is `NoMemory`, where memory runs out.
+/// The columns of both, in the order of their names; of two with one name, that of the others
+/// stays. It is called with few columns. The one error is `NoMemory`, where memory runs out.
 pub fn joined_columns(
     alloc: Global,
     columns: &[(Name, ColType)],

@@ -1,5 +1,6 @@
-//! The schema behind a schema modification operator, the tables that one makes, makes them of and consumes, and whether
-//! an inverse leads back; and the columns of a table without one, with one more, with one under another name, and beside another's.
+//! The schema behind a schema modification operator, the tables that one makes, makes them of and
+//! consumes, and whether an inverse leads back; and the columns of a table without one, with one
+//! more, with one under another name, and beside another's.
 #![tactic(auto)]
 
 mod afters;

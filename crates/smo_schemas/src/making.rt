@@ -109,8 +109,8 @@ pub fn columns_without(
     Ok(kept)
 }
 
-/// Equal columns and one more, in its place; where one has its name, that one stays. The one error is `NoMemory`, where
-/// memory runs out.
+/// Equal columns and one more, in its place; where one has its name, that one stays. The one error
+/// is `NoMemory`, where memory runs out.
 pub fn columns_with(
     alloc: Global,
     columns: &[(Name, ColType)],
@@ -138,8 +138,8 @@ fn renamed_column(
     Ok((column.0.copy()?, column.1))
 }
 
-/// Equal columns with one of them under another name, in the order of their names. It is called with few columns. The
-/// one error is `NoMemory`, where memory runs out.
+/// Equal columns with one of them under another name, in the order of their names. It is called
+/// with few columns. The one error is `NoMemory`, where memory runs out.
 pub fn columns_renamed(
     alloc: Global,
     columns: &[(Name, ColType)],
@@ -168,7 +168,7 @@ pub(crate) fn with_table(
 {
     let name = name.copy()?;
     let columns = copy_columns(alloc, columns)?;
-    let made = Table::new(alloc, name, columns);
+    let made = Table::new(name, columns);
     let next = schema.with(made)?;
     Ok(next)
 }

@@ -43,7 +43,8 @@ fn push_named(
     Ok(())
 }
 
-/// Columns equal to those that are named, in their order. The one error is `NoMemory`, where memory runs out.
+/// Columns equal to those that are named, in their order. The one error is `NoMemory`, where memory
+/// runs out.
 pub fn columns_named(
     alloc: Global,
     columns: &[(Name, ColType)],

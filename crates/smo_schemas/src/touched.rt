@@ -53,8 +53,8 @@ pub fn consumed(op: &Op) -> Made<'_>
     }
 }
 
-/// The tables of whose rows the operator makes what it makes, in the order in which it names them: DROP TABLE names one, and
-/// makes nothing of it. It takes no memory.
+/// The tables of whose rows the operator makes what it makes, in the order in which it names them:
+/// DROP TABLE names one, and makes nothing of it. It takes no memory.
 pub fn made_of(op: &Op) -> Made<'_>
     ensures first { option_copied result.first ≡ slice_get (made_of (operator_of op.now)) 0 }
     ensures second { option_copied result.second ≡ slice_get (made_of (operator_of op.now)) 1 }

@@ -8,7 +8,8 @@ use prima_base::{Name, NoMemory};
 use schema_catalog::Schema;
 use std::alloc::Global;
 
-// Puts the columns of the table of this name, as those of an atom, after what is there; none where there is no such table.
+// Puts the columns of the table of this name, as those of an atom, after what is there; none where
+// there is no such table.
 fn push_table(
     into: &mut Vec<Column>,
     atom: u32,
