@@ -2,36 +2,33 @@
 
 ghost use Rattle.std.specs.Prelude.{◌≡◌, ◌≤◌, ◌∷◌, List, [], length, nat_lt, IfOk, Some, None, MatchOption};
 ghost use Rattle.std.specs.Option.{option_map};
+ghost use Rattle.prima_base.specs.Faults.{IsTested};
 ghost use Rattle.prima_base.specs.declared.refusals.What.TheVariants.{Versions};
 ghost use Rattle.prima_base.specs.declared.refusals.Refusal.TheVariants.{TooMany};
 ghost use Rattle.smo_meaning.specs.First.{unless, first_refusal};
-ghost use Rattle.smo_types.specs.Commands.{changing, evolving, body_of, command_of};
+ghost use Rattle.smo_types.specs.Commands.{evolving, body_of, command_of};
 ghost use Rattle.smo_types.specs.Operators.{operator_of, operators_of};
-ghost use Rattle.smo_types.specs.Changes.{changes_of};
-ghost use Rattle.smo_meaning.specs.Checks.{changes_fault};
 ghost use Rattle.smo_meaning.specs.Counts.{first_excess};
 ghost use Rattle.smo_meaning.specs.After.{op_fault, HasFewNodes, HaveFewNodes};
 ghost use Rattle.smo_meaning.specs.Inverses.{inverse_fault};
-ghost use Rattle.smo_meaning.specs.Preconditions.{AreNarrow};
 ghost use Rattle.smo_meaning.specs.Accepts.{refusal_of, count_fault, stamp_fault, body_tests, command_fault, most_versions};
 ghost use Rattle.smo_meaning.specs.Past.{Past};
 ghost use Rattle.version_groups.specs.Showing.{Shows};
-ghost use Rattle.archive_state.specs.Committing.{IsJudged};
 
 use crate::CommitFault;
 use prima_base::limits::MAX_VERSIONS;
 use prima_base::{Refusal, What};
 use schema_catalog::Schema;
 use smo_ops::{
-    Body, Change, ChangeFault, Command, InverseFault, Op, OpFault, after, check_changes,
-    check_counts, check_inverse, counted_operators_are_few, refusal_of,
+    Body, Command, InverseFault, Op, OpFault, after, check_changes, check_counts, check_inverse,
+    counted_operators_are_few, refusal_of,
 };
 use std::alloc::Global;
 use version_groups::Groups;
 
 // The counts of the command are within their limits.
 fn judge_counts(command: &Command) -> Result<(), CommitFault>
-    ensures { IsJudged (count_fault (first_excess (body_of command.now.1))) result }
+    ensures { IsTested (count_fault (first_excess (body_of command.now.1))) result }
 {
     match check_counts(command) {
         Ok(()) => Ok(()),
@@ -41,7 +38,7 @@ fn judge_counts(command: &Command) -> Result<(), CommitFault>
 
 // The stamp is above the last one.
 fn judge_stamp(last: Option<u64>, stamp: u64) -> Result<(), CommitFault>
-    ensures { IsJudged (stamp_fault last stamp) result }
+    ensures { IsTested (stamp_fault last stamp) result }
 {
     match last {
         Some(last) if stamp <= last => {
@@ -51,22 +48,9 @@ fn judge_stamp(last: Option<u64>, stamp: u64) -> Result<(), CommitFault>
     }
 }
 
-// The changes, one after the other.
-fn judge_changes(alloc: Global, schema: &Schema, changes: &[Change]) -> Result<(), CommitFault>
-    requires counted { first_excess (changing (changes_of changes.now)) ≡ None }
-    requires narrow { AreNarrow schema.now }
-    ensures { IsJudged (changes_fault schema.now (changes_of changes.now)) result }
-{
-    match check_changes(alloc, schema, changes) {
-        Ok(()) => Ok(()),
-        Err(ChangeFault::Refused(refusal)) => Err(CommitFault::Refused(refusal)),
-        Err(ChangeFault::NoMemory) => Err(CommitFault::NoMemory),
-    }
-}
-
 // There is room for one version more.
 fn judge_versions(newest: u32) -> Result<(), CommitFault>
-    ensures { IsJudged (unless (nat_lt newest most_versions) (TooMany Versions most_versions)) result }
+    ensures { IsTested (unless (nat_lt newest most_versions) (TooMany Versions most_versions)) result }
 {
     if (newest as usize) < MAX_VERSIONS {
         return Ok(());
@@ -77,7 +61,7 @@ fn judge_versions(newest: u32) -> Result<(), CommitFault>
 // The preconditions of the operator.
 fn judge_operator(alloc: Global, schema: &Schema, op: &Op) -> Result<(), CommitFault>
     requires { HasFewNodes (operator_of op.now) }
-    ensures { IsJudged (option_map refusal_of (op_fault schema.now (operator_of op.now))) result }
+    ensures { IsTested (option_map refusal_of (op_fault schema.now (operator_of op.now))) result }
 {
     match after(alloc, schema, op) {
         Ok(_) => Ok(()),
@@ -92,7 +76,7 @@ fn judge_inverse(alloc: Global, schema: &Schema, op: &Op, inverse: &[Op]) -> Res
     requires operator { HasFewNodes (operator_of op.now) }
     requires inverse { HaveFewNodes (operators_of inverse.now) }
     requires few { length inverse.now ≤ 8 }
-    ensures { IsJudged (inverse_fault schema.now (operator_of op.now) (operators_of inverse.now)) result }
+    ensures { IsTested (inverse_fault schema.now (operator_of op.now) (operators_of inverse.now)) result }
 {
     match check_inverse(alloc, schema, op, inverse) {
         Ok(()) => Ok(()),
@@ -110,7 +94,7 @@ fn judge_evolve(alloc: Global, groups: &Groups, op: &Op, inverse: &[Op]) -> Resu
     requires counted { first_excess (evolving (operator_of op.now) (operators_of inverse.now)) ≡ None }
     requires shows { (past : Past) × Shows groups.now past }
     ensures { (past : Past) → Shows groups.now past
-        → IsJudged (first_refusal (body_tests past (evolving (operator_of op.now) (operators_of inverse.now)))) result }
+        → IsTested (first_refusal (body_tests past (evolving (operator_of op.now) (operators_of inverse.now)))) result }
 {
     counted_operators_are_few();
     judge_versions(groups.newest())?;
@@ -124,10 +108,14 @@ fn judge_evolve(alloc: Global, groups: &Groups, op: &Op, inverse: &[Op]) -> Resu
 fn judge_body(alloc: Global, groups: &Groups, body: &Body) -> Result<(), CommitFault>
     requires counted { first_excess (body_of body.now) ≡ None }
     requires shows { (past : Past) × Shows groups.now past }
-    ensures { (past : Past) → Shows groups.now past → IsJudged (first_refusal (body_tests past (body_of body.now))) result }
+    ensures { (past : Past) → Shows groups.now past → IsTested (first_refusal (body_tests past (body_of body.now))) result }
 {
     match body {
+<<<<<<< HEAD
         Body::Changes(changes) => judge_changes(alloc, groups.newest_schema(), changes),
+=======
+        Body::Changes(changes) => check_changes(alloc, newest_schema(groups), changes),
+>>>>>>> h-judged
         Body::Evolve { op, inverse } => judge_evolve(alloc, groups, op, inverse),
     }
 }
@@ -142,7 +130,7 @@ pub(crate) fn judge(
     command: &Command,
 ) -> Result<(), CommitFault>
     requires shows { (past : Past) × Shows groups.now past × (last ≡ past.last) }
-    ensures { (past : Past) → Shows groups.now past → last ≡ past.last → IsJudged (command_fault past (command_of command.now)) result }
+    ensures { (past : Past) → Shows groups.now past → last ≡ past.last → IsTested (command_fault past (command_of command.now)) result }
 {
     judge_counts(command)?;
     judge_stamp(last, command.stamp())?;
