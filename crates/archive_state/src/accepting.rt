@@ -111,11 +111,7 @@ fn judge_body(alloc: Global, groups: &Groups, body: &Body) -> Result<(), CommitF
     ensures { (past : Past) → Shows groups.now past → IsTested (first_refusal (body_tests past (body_of body.now))) result }
 {
     match body {
-<<<<<<< HEAD
-        Body::Changes(changes) => judge_changes(alloc, groups.newest_schema(), changes),
-=======
-        Body::Changes(changes) => check_changes(alloc, newest_schema(groups), changes),
->>>>>>> h-judged
+        Body::Changes(changes) => check_changes(alloc, groups.newest_schema(), changes),
         Body::Evolve { op, inverse } => judge_evolve(alloc, groups, op, inverse),
     }
 }
