@@ -15,28 +15,33 @@ use Rattle.smo_parse.specs.Productions.{IsPartitionTable, IsJoinTable, IsAddColu
 abbrev pub uncounted : List Lexeme → List Mark
 uncounted f = map (λ x. plain) f
 
--- PARTITION TABLE name INTO name WITH, the condition, a comma and a name. (The production behind its two words, behind the name and INTO, and behind the name and WITH: there stands the condition.)
+-- PARTITION TABLE name INTO name WITH, the condition, a comma and a name
 abbrev pub partition_marks : (o : Operator) (s : Size) (f : List Lexeme) → IsPartitionTable o s f → List Mark
 partition_marks o s f h =
-    let c = h.2.2.8.2.8.2 in
-    plain ∷ plain ∷ plain ∷ plain ∷ plain ∷ plain ∷ (cond_marks false c.0 c.1 c.3 c.7 ++ plain ∷ plain ∷ [])
+    let named = h.2.2 in
+    let met = named.8.2 in
+    let condition = met.8.2 in
+    plain ∷ plain ∷ plain ∷ plain ∷ plain ∷ plain ∷ (cond_marks false condition.0 condition.1 condition.3 condition.7 ++ plain ∷ plain ∷ [])
 
 -- nothing, or WHERE and the condition
 abbrev pub where_marks : (c : Test) (s : Size) (f : List Lexeme) → IsWhere false c s f → List Mark
 where_marks c s f (inl h) = []
 where_marks c s f (inr h) = plain ∷ cond_marks false c s h.0 h.2
 
--- JOIN TABLE name , name INTO name, and what may follow. (Behind the two words, behind the name and the comma, and behind the name and INTO.)
+-- JOIN TABLE name , name INTO name, and what may follow
 abbrev pub join_marks : (o : Operator) (s : Size) (f : List Lexeme) → IsJoinTable o s f → List Mark
 join_marks o s f h =
-    let w = h.2.2.8.2.8.2 in
-    plain ∷ plain ∷ plain ∷ plain ∷ plain ∷ plain ∷ plain ∷ where_marks w.8.0 w.2 w.4 w.8.2
+    let first = h.2.2 in
+    let second = first.8.2 in
+    let made = second.8.2 in
+    plain ∷ plain ∷ plain ∷ plain ∷ plain ∷ plain ∷ plain ∷ where_marks made.8.0 made.2 made.4 made.8.2
 
--- ADD COLUMN name AS, the expression, INTO and a name. (Behind the two words, and behind the name and AS.)
+-- ADD COLUMN name AS, the expression, INTO and a name
 abbrev pub add_marks : (o : Operator) (s : Size) (f : List Lexeme) → IsAddColumn o s f → List Mark
 add_marks o s f h =
-    let e = h.2.2.8.2 in
-    plain ∷ plain ∷ plain ∷ plain ∷ (expr_marks false e.0 e.1 e.3 e.7 ++ plain ∷ plain ∷ [])
+    let named = h.2.2 in
+    let value = named.8.2 in
+    plain ∷ plain ∷ plain ∷ plain ∷ (expr_marks false value.0 value.1 value.3 value.7 ++ plain ∷ plain ∷ [])
 
 -- by the production, in their order
 abbrev pub operator_marks : (o : Operator) (s : Size) (f : List Lexeme) → IsOperator o s f → List Mark
