@@ -65,7 +65,7 @@ impl<'a> Val<'a> {
     #[tactic(auto, using(crate::proofs::LentVals::stays_lent))]
     pub fn copy(&self) -> Result<Val<'a>, NoMemory>
         ensures value { IfOk result (λ v. shown v ≡ shown self.now) }
-        ensures borrowed { IfOk result (λ v. is_borrowed v ≡ is_borrowed self.now) }
+        ensures same { IfOk result (λ v. is_borrowed v ≡ is_borrowed self.now) }
         ensures lent { IsLent self.now → IfOk result (λ v. IsLent v) }
     {
         match self {
@@ -118,7 +118,7 @@ ghost use Rattle.prima_base.specs.Timed.{vals_cmp};
 /// `NoMemory`, where memory runs out.
 pub fn copy_vals<'a>(alloc: Global, values: &[Val<'a>]) -> Result<Vec<Val<'a>>, NoMemory>
     ensures values { IfOk result (λ v. map shown v.items ≡ map shown values.now) }
-    ensures borrowed { IfOk result (λ v. map is_borrowed v.items ≡ map is_borrowed values.now) }
+    ensures same { IfOk result (λ v. map is_borrowed v.items ≡ map is_borrowed values.now) }
     ensures lent { AreLent values.now → IfOk result (λ v. AreLent v.items) }
 {
     let mut copies = Vec::with_capacity(alloc, values.len())?;
