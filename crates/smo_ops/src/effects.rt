@@ -11,6 +11,7 @@ ghost use Rattle.cond_expr.specs.Rows.{AreLawful};
 ghost use Rattle.cond_expr.specs.Seen.{tree, test};
 ghost use Rattle.cond_expr.specs.Values.{value};
 ghost use Rattle.smo_meaning.specs.OneRow.{own_cells, meets, given, row_of, set_value, with_sets};
+ghost use Rattle.cond_expr.specs.AtomColumns.{columns_at};
 ghost use Rattle.smo_types.specs.Changes.{sets_of};
 ghost use Rattle.schema_catalog.specs.Databases.{cell};
 
@@ -77,7 +78,7 @@ pub fn inserted_row<'a>(
 // What is set in the column with this name, computed from the row's values; none where nothing is.
 fn set_value<'a>(
     alloc: Global,
-    own: &OwnColumns<'_>,
+    atoms: &[Column],
     sets: &[(Name, Expr)],
     values: &[Val<'a>],
     name: &Name,
@@ -100,7 +101,8 @@ fn set_value<'a>(
 // What is set in each column, computed from the row's values; none where nothing is.
 fn set_values<'a>(
     alloc: Global,
-    own: &OwnColumns<'_>,
+    columns: &[(Name, ColType)],
+    atoms: &[Column],
     sets: &[(Name, Expr)],
     values: &[Val<'a>],
 ) -> Result<Vec<Option<Val<'a>>>, NoMemory>

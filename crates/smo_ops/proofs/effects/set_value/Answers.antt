@@ -1,6 +1,9 @@
-use Rattle.std.proofs.Common.{map, sym, ◌∙◌}
+use Rattle.std.proofs.Common.{map, refl, sym, ap, ◌∙◌}
 use Rattle.prima_base.specs.Order.{shown}
-use Rattle.smo_ops.proofs.EffectLaws.{set_here, set_later}
+use Rattle.cond_expr.specs.Rows.{flat}
+use Rattle.cond_expr.specs.Seen.{tree}
+use Rattle.cond_expr.specs.Values.{value}
+use Rattle.smo_ops.proofs.EffectLaws.{lent_cells, set_here, set_later}
 use Rattle.smo_ops.proofs.effects.set_value.Goals as goal
 
 pub returns-then-eq-clause-value : goal.returns-then-eq-clause-value
@@ -11,6 +14,6 @@ returns-then-eq-clause-value c = λ columns atoms.
     ∙ set_here columns (map shown c.args.values.now) c.args.sets.now c.args.name.now c.loop-column.column-index c.loop-column-item.result c.loop-column-test.true c.loop-column-item.is c.if-eq.ensures)
 
 pub loop-column-preserved : goal.loop-column-preserved
-loop-column-preserved c =
-    c.loop-column.invariant
-    ∙ set_later c.args.own.now (map shown c.args.values.now) c.args.sets.now c.args.name.now c.loop-column.column-index c.loop-column-item.result c.loop-column-test.true c.loop-column-item.is c.if-eq.ensures
+loop-column-preserved c = λ columns.
+    c.loop-column.invariant columns
+    ∙ set_later columns (map shown c.args.values.now) c.args.sets.now c.args.name.now c.loop-column.column-index c.loop-column-item.result c.loop-column-test.true c.loop-column-item.is c.if-eq.ensures
