@@ -1,11 +1,13 @@
 //! What no script can say and only running shows: devices that fail at chosen calls, texts of more than a
-//! megabyte, the adapters over files, the boxed rules and their book, pieces and words with ample memory.
+//! megabyte, how often a query reads and which of its texts are borrowed, the adapters over files, the boxed rules and their book, pieces and words with ample memory.
 //!
 //! Every other case is a script with its replies, in the crates whose names end in `_cases`.
 #![tactic(auto)]
 
 #[cfg(test)]
 mod adapters;
+#[cfg(test)]
+mod archive;
 #[cfg(test)]
 mod devices;
 #[cfg(test)]

@@ -1,0 +1,140 @@
+//! An archive through its own calls: a query reads by the counter that it is given, the texts of plain columns are borrowed
+//! from what the archive keeps, on each version, and those that are computed are not.
+ghost use Rattle.std.specs.Prelude.{◌≡◌, ◌<◌};
+ghost use Rattle.rewrite.specs.Books.{EachOf};
+
+use answer_text::Listing;
+use archive_state::{ArchiveState, AskFault};
+use prima_base::{FOREVER, Period, Steps, Val};
+use rewrite_rules::{Rule, RuleBook, push_every_rule};
+use script_parse::{Statement, next_statement};
+use std::alloc::Global;
+use std::marker::Brand;
+use std::sync::ledger::{Blank, Ledger};
+use std::test::Fail;
+use temporal_lang::Query;
+
+// The statement of this text.
+fn statement(alloc: Global, text: &str) -> Result<Statement, Fail> {
+    if text.len() > 1000 {
+        return Err(Fail::new("a short text"));
+    }
+    match next_statement(alloc, text.as_bytes()) {
+        Ok(Some(statement)) => Ok(statement),
+        _ => Err(Fail::new("each text is a statement")),
+    }
+}
+
+// Commits the command of this text, which is accepted.
+fn commit(alloc: Global, archive: &mut ArchiveState, text: &str) -> Result<(), Fail> {
+    let Statement::Write(command) = statement(alloc, text)? else {
+        return Err(Fail::new("the text is a command"));
+    };
+    match archive.prepare(&command) {
+        Ok(next) => {
+            let _done = archive.carry_out(&command, next);
+            Ok(())
+        }
+        Err(_) => Err(Fail::new("each command is accepted")),
+    }
+}
+
+fn query_of(alloc: Global, text: &str) -> Result<Query, Fail> {
+    match statement(alloc, text)? {
+        Statement::Ask(query) => Ok(query),
+        _ => Err(Fail::new("the text is a query")),
+    }
+}
+
+// What the archive answers to the query, and how many steps of reading it took, by a counter of the ledger.
+fn answer_by<'a, L: Ledger>(
+    archive: &'a ArchiveState,
+    book: &RuleBook,
+    query: &Query,
+    blank: Blank,
+) -> Result<(Listing<'a>, u64), AskFault>
+    requires each { EachOf book.now.rules.items (λ r. handles (r.vtable, r.value)) }
+    requires name { blank.name ≡ L.name }
+    requires parts { blank.parts ≡ L.parts }
+    requires some { 0 < blank.parts }
+{
+    let mut steps: Steps<L> = Steps::new(blank);
+    let listing = archive.query(book, query, &mut steps)?;
+    Ok((listing, steps.count()))
+}
+
+// Whether the value is this text, and lies in what the archive keeps.
+fn is_borrowed(value: &Val<'_>, text: &[u8]) -> bool {
+    match value {
+        Val::Slice(bytes) => *bytes == text,
+        _ => false,
+    }
+}
+
+// Whether the value is this text, made for the answer.
+fn is_made(value: &Val<'_>, text: &[u8]) -> bool {
+    match value {
+        Val::Own(made) => made.bytes() == text,
+        _ => false,
+    }
+}
+
+#[test]
+fn texts_of_plain_columns_are_borrowed(rt: HostRuntime) -> Result<(), Fail> {
+    let alloc = rt.alloc();
+    let mut rules: Vec<Box<dyn Rule>> = Vec::new(alloc);
+    push_every_rule!(alloc, rules);
+    let Ok(book) = RuleBook::new(alloc, rules) else {
+        return Err(Fail::new("twelve rules make a book"));
+    };
+    let mut archive = ArchiveState::new(alloc);
+    commit(
+        alloc,
+        &mut archive,
+        "AT 1 EVOLVE CREATE TABLE t (a INT, b TEXT)",
+    )?;
+    commit(
+        alloc,
+        &mut archive,
+        "AT 5 INSERT INTO t (a, b) VALUES (1, 'x')",
+    )?;
+    commit(alloc, &mut archive, "AT 7 UPDATE t SET b = 'y' WHERE a = 1")?;
+    commit(
+        alloc,
+        &mut archive,
+        "AT 9 EVOLVE RENAME TABLE t INTO u INVERSE RENAME TABLE u INTO t",
+    )?;
+    let keys = query_of(alloc, "QUERY VERSION 2 SELECT a FROM u")?;
+    let Ok((listing, count)) = answer_by::<Brand>(&archive, &book, &keys, Blank::new(1)) else {
+        return Err(Fail::new("the query is answered"));
+    };
+    // A key and an entry of the one row, in each of the tables that it has stood in.
+    assert!(rt; listing.rows.len() == 1 && 2 <= count && count <= 4);
+    let plain = query_of(alloc, "QUERY VERSION 1 SELECT b FROM t")?;
+    let Ok((listing, _)) = answer_by::<Brand>(&archive, &book, &plain, Blank::new(1)) else {
+        return Err(Fail::new("the query is answered"));
+    };
+    assert!(rt; listing.rows.len() == 2);
+    assert!(rt; Some(listing.rows[0].period) == Period::new(5, 7));
+    assert!(rt; Some(listing.rows[1].period) == Period::new(7, FOREVER));
+    let [first] = listing.rows[0].values.as_slice() else {
+        return Err(Fail::new("a row has one value"));
+    };
+    let [second] = listing.rows[1].values.as_slice() else {
+        return Err(Fail::new("a row has one value"));
+    };
+    assert!(rt; is_borrowed(first, b"x") && is_borrowed(second, b"y"));
+    let computed = query_of(
+        alloc,
+        "QUERY VERSION 2 SELECT p.b, CONCAT(q.b, '!') FROM u p, u q AS OF 9",
+    )?;
+    let Ok((listing, _)) = answer_by::<Brand>(&archive, &book, &computed, Blank::new(1)) else {
+        return Err(Fail::new("the query is answered"));
+    };
+    assert!(rt; listing.rows.len() == 1);
+    let [borrowed, made] = listing.rows[0].values.as_slice() else {
+        return Err(Fail::new("a row has two values"));
+    };
+    assert!(rt; is_borrowed(borrowed, b"y") && is_made(made, b"y!"));
+    Ok(())
+}
