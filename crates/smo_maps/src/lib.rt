@@ -5,14 +5,19 @@
 //! says that what is answered here is what it has under the names of the made tables.
 #![tactic(auto)]
 
-mod columns;
+mod add_column;
+mod decompose_table;
+mod drop_column;
 mod groups;
-mod join;
+mod join_table;
 mod maps;
+mod merge_table;
 mod names;
 mod one_row;
-mod one_table;
+mod partition_table;
+mod projection;
+mod rename_column;
 mod sources;
-mod union;
+mod whole_table;
 
 pub use maps::{Carried, carry};

@@ -5,10 +5,14 @@ ghost use Rattle.smo_types.specs.Operators.{operator_of};
 ghost use Rattle.smo_meaning.specs.After.{op_fault};
 ghost use Rattle.smo_maps.specs.Carrying.{IsCarried};
 
-use crate::columns::{under_another_name, with_names, with_value, without_column};
-use crate::join::joined;
-use crate::one_table::{copied, parted};
-use crate::union::united;
+use crate::add_column::with_value;
+use crate::decompose_table::with_names;
+use crate::drop_column::without_column;
+use crate::join_table::joined;
+use crate::merge_table::united;
+use crate::partition_table::parted;
+use crate::rename_column::under_another_name;
+use crate::whole_table::copied;
 use prima_base::{ColType, Name, NoMemory, Row};
 use schema_catalog::Schema;
 use smo_ops::Op;

@@ -1,70 +1,40 @@
 ghost use Rattle.std.specs.Prelude.{◌≡◌, IfOk};
-ghost use Rattle.smo_types.specs.Operators.{create_table, operator_of};
+ghost use Rattle.smo_types.specs.Operators.{operator_of};
 ghost use Rattle.smo_meaning.specs.Accepts.{refusal_of};
-ghost use Rattle.smo_meaning.specs.After.{op_fault, IsAfter, HasFewNodes, IsLawful};
-ghost use Rattle.prima_base.specs.Faults.{IsTested};
+ghost use Rattle.smo_meaning.specs.After.{IsAfter, HasFewNodes, IsLawful};
 
+mod add_column;
 mod column_preconditions;
-mod decompose;
-mod one_column;
-mod partition;
+mod copy_table;
+mod create_table;
+mod decompose_table;
+mod drop_column;
+mod drop_table;
+mod join_table;
+mod merge_table;
+mod nop;
+mod partition_table;
 mod preconditions;
+mod rename_column;
+mod rename_table;
 mod tree_preconditions;
-mod two_tables;
-mod whole_tables;
 
-use crate::afters::decompose::after_decompose;
-use crate::afters::one_column::{after_add_column, after_drop_column, after_rename_column};
-use crate::afters::partition::after_partition;
-use crate::afters::two_tables::{after_join, after_merge};
-use crate::afters::whole_tables::{after_copy, after_drop, after_nop, after_rename};
-use crate::making::{first_again, in_order};
-use prima_base::limits::{MAX_COLUMNS, MAX_TABLES};
-use prima_base::{ColType, Name, OpRefusal, Refusal, What};
-use schema_catalog::{Schema, Table};
+use crate::afters::add_column::after_add_column;
+use crate::afters::copy_table::after_copy;
+use crate::afters::create_table::create;
+use crate::afters::decompose_table::after_decompose;
+use crate::afters::drop_column::after_drop_column;
+use crate::afters::drop_table::after_drop;
+use crate::afters::join_table::after_join;
+use crate::afters::merge_table::after_merge;
+use crate::afters::nop::after_nop;
+use crate::afters::partition_table::after_partition;
+use crate::afters::rename_column::after_rename_column;
+use crate::afters::rename_table::after_rename;
+use prima_base::{OpRefusal, Refusal};
+use schema_catalog::Schema;
 use smo_types::{Op, OpFault};
 use std::alloc::Global;
-
-// The preconditions of CREATE TABLE, in their order.
-fn check_new_table(
-    alloc: Global,
-    schema: &Schema,
-    table: &Name,
-    columns: &[(Name, ColType)],
-) -> Result<(), OpFault>
-    ensures { IsTested (op_fault schema.now (create_table table.now columns.now)) result }
-{
-    if schema.table(table).is_some() {
-        return Err(OpFault::Refused(OpRefusal::Exists(table.copy()?)));
-    }
-    if columns.is_empty() {
-        return Err(OpFault::Refused(OpRefusal::LastColumn(table.copy()?)));
-    }
-    if let Some(name) = first_again(alloc, columns)? {
-        return Err(OpFault::Refused(OpRefusal::ColumnExists(table.copy()?, name.copy()?)));
-    }
-    if columns.len() > MAX_COLUMNS {
-        return Err(OpFault::Refused(OpRefusal::TooMany(What::Columns, MAX_COLUMNS as u64)));
-    }
-    if schema.len() >= MAX_TABLES {
-        return Err(OpFault::Refused(OpRefusal::TooMany(What::Tables, MAX_TABLES as u64)));
-    }
-    Ok(())
-}
-
-fn create(
-    alloc: Global,
-    schema: &Schema,
-    table: &Name,
-    columns: &[(Name, ColType)],
-) -> Result<Schema, OpFault>
-    ensures { IsAfter schema.now (create_table table.now columns.now) result }
-{
-    check_new_table(alloc, schema, table, columns)?;
-    let made = Table::new(table.copy()?, in_order(alloc, columns)?);
-    let next = schema.with(made)?;
-    Ok(next)
-}
 
 // The schema behind an operator, kind by kind.
 fn next_schema(alloc: Global, schema: &Schema, op: &Op) -> Result<Schema, OpFault>

@@ -1,7 +1,0 @@
-use Rattle.std.proofs.Common.{◌≡◌, take, map, []}
-use Rattle.smo_meaning.specs.OneRow.{Row}
-use Rattle.smo_maps.specs.Picking.{picked_row}
-use Rattle.smo_maps.proofs.columns.image.Given as goal
-
-abbrev pub invariant-loop-row : goal.invariant-loop-row
-invariant-loop-row l = l.made.items ≡ map (λ (row : Row). picked_row l.sources row []) (take l.row-index l.rows)
