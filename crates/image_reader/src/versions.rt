@@ -18,7 +18,7 @@ use prima_base::limits::MAX_VERSIONS;
 use schema_catalog::Schema;
 use smo_meaning::counted_operators_are_few;
 use smo_ops::check_evolve;
-use smo_schemas::{after, check_inverse};
+use smo_schemas::{after, check_way_back};
 use smo_types::{InverseFault, Op, OpFault, Version, Versions};
 use std::alloc::Global;
 
@@ -52,7 +52,7 @@ fn next_schema(
         Err(OpFault::Refused(_)) => return Ok(None),
         Err(OpFault::NoMemory) => return Err(NoMemory),
     };
-    match check_inverse(alloc, schema, op, inverse) {
+    match check_way_back(alloc, schema, &next, inverse) {
         Ok(()) => Ok(Some(next)),
         Err(InverseFault::Op(_, _)) | Err(InverseFault::Misses(_)) => Ok(None),
         Err(InverseFault::NoMemory) => Err(NoMemory),

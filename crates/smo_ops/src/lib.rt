@@ -29,7 +29,8 @@ pub use smo_meaning::{
     pasts_that_agree_have_the_same_states, rename_column_keeps_the_cells, rename_keeps_the_rows,
 };
 pub use smo_schemas::{
-    Made, OwnColumns, after, check_inverse, consumed, made, made_of, refusal_of,
+    Made, OwnColumns, after, check_inverse, check_way_back, consumed, made, made_of, refusal_of,
+    schema_after,
 };
 pub use smo_types::{
     Body, Change, ChangeFault, Command, InverseFault, Op, OpFault, Version, Versions,

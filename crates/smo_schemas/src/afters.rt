@@ -1,7 +1,7 @@
-ghost use Rattle.std.specs.Prelude.{◌≡◌, IfOk};
+ghost use Rattle.std.specs.Prelude.{◌≡◌, None, IfOk};
 ghost use Rattle.smo_types.specs.Operators.{operator_of};
 ghost use Rattle.smo_meaning.specs.Accepts.{refusal_of};
-ghost use Rattle.smo_meaning.specs.After.{IsAfter, HasFewNodes, IsLawful};
+ghost use Rattle.smo_meaning.specs.After.{op_fault, behind, IsAfter, HasFewNodes, IsLawful};
 
 mod add_column;
 mod column_preconditions;
@@ -126,6 +126,20 @@ pub fn after(alloc: Global, schema: &Schema, op: &Op) -> Result<Schema, OpFault>
     ensures lawful { IsLawful schema.now → IfOk result (λ s. IsLawful s) }
 {
     next_schema(alloc, schema, op)
+}
+
+/// The schema after an operator that is accepted on the schema: the one that `after` answers. The one error is `NoMemory`,
+/// where memory runs out.
+pub fn schema_after(alloc: Global, schema: &Schema, op: &Op) -> Result<Schema, NoMemory>
+    requires accepted { op_fault schema.now (operator_of op.now) ≡ None }
+    requires few { HasFewNodes (operator_of op.now) }
+    ensures { IfOk result (λ next. next ≡ behind schema.now (operator_of op.now)) }
+{
+    match after(alloc, schema, op) {
+        Ok(next) => Ok(next),
+        Err(OpFault::Refused(_)) => unreachable!(),
+        Err(OpFault::NoMemory) => Err(NoMemory),
+    }
 }
 
 /// An operator's refusal as that of its statement. It takes no memory.

@@ -1,23 +1,26 @@
 ghost use Rattle.std.specs.Prelude.{◌≡◌, None, length};
 ghost use Rattle.std.specs.Option.{option_map};
 ghost use Rattle.prima_base.specs.declared.refusals.Refusal.TheVariants.{InverseMisses};
-ghost use Rattle.smo_types.specs.Operators.{operator_of, operators_of};
+ghost use Rattle.smo_types.specs.Operators.{Operator, operator_of, operators_of};
 ghost use Rattle.smo_meaning.specs.First.{first_refusal};
 ghost use Rattle.smo_meaning.specs.After.{op_fault, behind, HasFewNodes, HaveFewNodes};
 ghost use Rattle.smo_meaning.specs.Inverses.{first_difference, way_back, inverse_fault, IsInTurn, IsInverse, IsNumbered};
 
-use crate::after;
-use prima_base::{Name, OpRefusal};
+use crate::{after, schema_after};
+use prima_base::{Name, NoMemory, OpRefusal};
 use schema_catalog::{SameFault, Schema, same};
 use smo_types::{InverseFault, Op, OpFault};
 use std::alloc::Global;
 
-// The schema behind the operators, one after the other from a schema on.
-fn behind_each(alloc: Global, schema: Schema, ops: &[Op]) -> Result<Schema, InverseFault>
+// The schema after the operators, one after the other from a schema on.
+fn behind_each(alloc: Global, schema: &Schema, ops: &[Op]) -> Result<Schema, InverseFault>
     requires { HaveFewNodes (operators_of ops.now) }
-    ensures { IsInTurn schema (operators_of ops.now) result }
+    ensures { IsInTurn schema.now (operators_of ops.now) result }
 {
-    let mut now = schema;
+    let mut now = match schema.copy() {
+        Ok(copy) => copy,
+        Err(NoMemory) => return Err(InverseFault::NoMemory),
+    };
     for (i, op) in ops.iter().enumerate() {
         match after(alloc, &now, op) {
             Ok(next) => now = next,
@@ -39,27 +42,44 @@ fn check_given_back(before: &Schema, last: &Schema) -> Result<(), InverseFault>
     }
 }
 
-// The operators, of which there is one at least, lead from the schema behind an operator to the one before.
-fn check_named(alloc: Global, before: &Schema, op: &Op, inverse: &[Op]) -> Result<(), InverseFault>
-    requires accepted { op_fault before.now (operator_of op.now) ≡ None }
-    requires operator { HasFewNodes (operator_of op.now) }
-    requires inverse { HaveFewNodes (operators_of inverse.now) }
-    ensures { IsInverse (first_refusal (way_back before.now (behind before.now (operator_of op.now)) 1 (operators_of inverse.now))) result }
+// The operators, of which there is one at least, lead from a schema to the one before the operator that they go back over.
+fn check_named(
+    alloc: Global,
+    before: &Schema,
+    next: &Schema,
+    inverse: &[Op],
+) -> Result<(), InverseFault>
+    requires { HaveFewNodes (operators_of inverse.now) }
+    ensures { IsInverse (first_refusal (way_back before.now next.now 1 (operators_of inverse.now))) result }
 {
-    let behind = match after(alloc, before, op) {
-        Ok(next) => next,
-        Err(OpFault::Refused(_)) => unreachable!(),
-        Err(OpFault::NoMemory) => return Err(InverseFault::NoMemory),
-    };
-    let last = behind_each(alloc, behind, inverse)?;
+    let last = behind_each(alloc, next, inverse)?;
     check_given_back(before, &last)
 }
 
-/// Whether an operator's inverse leads back: its operators, one after the other, from the schema behind the operator to
-/// the one before it. `Op` has the number, from 1, of the first of them that is refused on the schema that stands then,
-/// and its refusal; `Misses`, where none is refused and the last schema is another than the one before, has the first
-/// name, in name order, under which they differ (`same`). An empty list names no inverse and is accepted. The operator
-/// is accepted on the schema, and each tree of all the operators has fewer than 2^32 nodes.
+/// Whether the operators of an inverse lead, one after the other, from the schema after an operator to the one before it.
+/// `Op` has the number, from 1, of the first of them that is refused on the schema that stands then, and its refusal;
+/// `Misses`, where none is refused and the last schema is another than the one before, has the first name, in name order,
+/// under which they differ (`same`). An empty list names no inverse and is accepted. Each tree of the operators has fewer
+/// than 2^32 nodes.
+pub fn check_way_back(
+    alloc: Global,
+    before: &Schema,
+    next: &Schema,
+    inverse: &[Op],
+) -> Result<(), InverseFault>
+    requires { HaveFewNodes (operators_of inverse.now) }
+    ensures judged { (op : Operator) → next.now ≡ behind before.now op
+        → IsInverse (inverse_fault before.now op (operators_of inverse.now)) result }
+    ensures number { IsNumbered (length inverse.now) result }
+{
+    if inverse.is_empty() {
+        return Ok(());
+    }
+    check_named(alloc, before, next, inverse)
+}
+
+/// Whether an operator's inverse leads back, as `check_way_back` tells it of the schema after the operator. The operator is
+/// accepted on the schema, and each tree of all the operators has fewer than 2^32 nodes.
 pub fn check_inverse(
     alloc: Global,
     before: &Schema,
@@ -72,8 +92,8 @@ pub fn check_inverse(
     ensures judged { IsInverse (inverse_fault before.now (operator_of op.now) (operators_of inverse.now)) result }
     ensures number { IsNumbered (length inverse.now) result }
 {
-    if inverse.is_empty() {
-        return Ok(());
+    match schema_after(alloc, before, op) {
+        Ok(next) => check_way_back(alloc, before, &next, inverse),
+        Err(NoMemory) => Err(InverseFault::NoMemory),
     }
-    check_named(alloc, before, op, inverse)
 }

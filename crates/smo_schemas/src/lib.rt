@@ -13,9 +13,9 @@ mod names;
 mod splitting;
 mod touched;
 
-pub use afters::{after, refusal_of};
+pub use afters::{after, refusal_of, schema_after};
 pub use columns::{OwnColumns, has_name, type_in};
-pub use inverses::check_inverse;
+pub use inverses::{check_inverse, check_way_back};
 pub use joining::joined_columns;
 pub use making::{columns_renamed, columns_with, columns_without};
 pub use names::Made;

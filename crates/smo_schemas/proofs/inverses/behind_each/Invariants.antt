@@ -8,6 +8,6 @@ use Rattle.smo_schemas.proofs.inverses.behind_each.Given as goal
 
 abbrev pub invariant-loop-i : goal.invariant-loop-i
 invariant-loop-i l = record {
-  turn : (before : Tables) → first_refusal (way_back before l.fn.schema 1 (operators_of l.ops)) ≡ first_refusal (way_back before l.now (l.i + 1) (operators_of (drop l.i l.ops)));
+  turn : (before : Tables) → first_refusal (way_back before l.schema 1 (operators_of l.ops)) ≡ first_refusal (way_back before l.now (l.i + 1) (operators_of (drop l.i l.ops)));
   small : HaveFewNodes (operators_of (drop l.i l.ops));
 }
