@@ -1,34 +1,41 @@
-//! Whether a command is accepted: the first refusal in the one order.
+//! Whether a command is accepted: the first refusal in the one order, and else what was found on the way.
 
-ghost use Rattle.std.specs.Prelude.{◌≡◌, ◌≤◌, ◌∷◌, List, [], length, nat_lt, IfOk, Some, None, MatchOption};
+ghost use Rattle.std.specs.Prelude.{◌≡◌, ◌≤◌, ◌∷◌, List, [], length, nat_lt, IfOk, OnOk, Some, None, MatchOption};
 ghost use Rattle.std.specs.Option.{option_map};
 ghost use Rattle.prima_base.specs.Faults.{IsTested};
 ghost use Rattle.prima_base.specs.declared.refusals.What.TheVariants.{Versions};
 ghost use Rattle.prima_base.specs.declared.refusals.Refusal.TheVariants.{TooMany};
 ghost use Rattle.smo_meaning.specs.First.{unless, first_refusal};
-ghost use Rattle.smo_types.specs.Commands.{evolving, body_of, command_of};
-ghost use Rattle.smo_types.specs.Operators.{operator_of, operators_of};
+ghost use Rattle.smo_types.specs.Commands.{changing, evolving, body_of, command_of, version_of};
+ghost use Rattle.smo_types.specs.Operators.{Operator, operator_of, operators_of};
+ghost use Rattle.smo_types.specs.Changes.{changes_of};
+ghost use Rattle.smo_meaning.specs.Checks.{changes_fault};
 ghost use Rattle.smo_meaning.specs.Counts.{first_excess};
-ghost use Rattle.smo_meaning.specs.After.{op_fault, HasFewNodes, HaveFewNodes};
+ghost use Rattle.smo_meaning.specs.After.{op_fault, behind, HasFewNodes, HaveFewNodes};
+ghost use Rattle.smo_meaning.specs.LawfulValues.{BodyHolds};
 ghost use Rattle.smo_meaning.specs.Inverses.{inverse_fault};
+ghost use Rattle.smo_meaning.specs.Preconditions.{AreNarrow};
 ghost use Rattle.smo_meaning.specs.Accepts.{refusal_of, count_fault, stamp_fault, body_tests, command_fault, most_versions};
-ghost use Rattle.smo_meaning.specs.Past.{Past};
+ghost use Rattle.smo_meaning.specs.Past.{Past, newest_tables, next_version};
 ghost use Rattle.version_groups.specs.Showing.{Shows};
+ghost use Rattle.version_groups.specs.Steps.{a_command};
+ghost use Rattle.version_groups.specs.Judged.{judged_command, HasNext, IsAccepted};
 
 use crate::CommitFault;
 use prima_base::limits::MAX_VERSIONS;
 use prima_base::{Refusal, What};
 use schema_catalog::Schema;
 use smo_ops::{
-    Body, Command, InverseFault, Op, OpFault, after, check_changes, check_counts, check_inverse,
-    counted_operators_are_few, refusal_of,
+    Body, Command, InverseFault, Op, OpFault, Version, after, check_changes, check_counts,
+    check_way_back, counted_operators_are_few, refusal_of,
 };
 use std::alloc::Global;
-use version_groups::Groups;
+use version_groups::{Groups, Judged, copied_version};
 
 // The counts of the command are within their limits.
 fn judge_counts(command: &Command) -> Result<(), CommitFault>
-    ensures { IsTested (count_fault (first_excess (body_of command.now.1))) result }
+    ensures counts { IsTested (count_fault (first_excess (body_of command.now.1))) result }
+    ensures constants { OnOk result (BodyHolds (body_of command.now.1)) }
 {
     match check_counts(command) {
         Ok(()) => Ok(()),
@@ -58,27 +65,31 @@ fn judge_versions(newest: u32) -> Result<(), CommitFault>
     Err(CommitFault::Refused(Refusal::TooMany(What::Versions, MAX_VERSIONS as u64)))
 }
 
-// The preconditions of the operator.
-fn judge_operator(alloc: Global, schema: &Schema, op: &Op) -> Result<(), CommitFault>
+// The preconditions of the operator; the schema after it.
+fn judge_operator(alloc: Global, schema: &Schema, op: &Op) -> Result<Schema, CommitFault>
     requires { HasFewNodes (operator_of op.now) }
-    ensures { IsTested (option_map refusal_of (op_fault schema.now (operator_of op.now))) result }
+    ensures tested { IsTested (option_map refusal_of (op_fault schema.now (operator_of op.now))) result }
+    ensures next { IfOk result (λ next. next ≡ behind schema.now (operator_of op.now)) }
 {
     match after(alloc, schema, op) {
-        Ok(_) => Ok(()),
+        Ok(next) => Ok(next),
         Err(OpFault::Refused(refusal)) => Err(CommitFault::Refused(refusal_of(refusal))),
         Err(OpFault::NoMemory) => Err(CommitFault::NoMemory),
     }
 }
 
-// The inverse leads back.
-fn judge_inverse(alloc: Global, schema: &Schema, op: &Op, inverse: &[Op]) -> Result<(), CommitFault>
-    requires accepted { op_fault schema.now (operator_of op.now) ≡ None }
-    requires operator { HasFewNodes (operator_of op.now) }
+// The inverse leads back, from the schema after the operator to the one before it.
+fn judge_inverse(
+    alloc: Global,
+    before: &Schema,
+    next: &Schema,
+    inverse: &[Op],
+) -> Result<(), CommitFault>
     requires inverse { HaveFewNodes (operators_of inverse.now) }
     requires few { length inverse.now ≤ 8 }
-    ensures { IsTested (inverse_fault schema.now (operator_of op.now) (operators_of inverse.now)) result }
+    ensures { (op : Operator) → next.now ≡ behind before.now op → IsTested (inverse_fault before.now op (operators_of inverse.now)) result }
 {
-    match check_inverse(alloc, schema, op, inverse) {
+    match check_way_back(alloc, before, next, inverse) {
         Ok(()) => Ok(()),
         Err(InverseFault::Op(number, refusal)) => {
             Err(CommitFault::Refused(Refusal::InverseOp(number as u32, refusal)))
@@ -88,47 +99,70 @@ fn judge_inverse(alloc: Global, schema: &Schema, op: &Op, inverse: &[Op]) -> Res
     }
 }
 
-// An operator and its inverse.
+// An operator and its inverse; the schema after it.
 #[tactic(auto, using(crate::proofs::Judging::few_operators))]
-fn judge_evolve(alloc: Global, groups: &Groups, op: &Op, inverse: &[Op]) -> Result<(), CommitFault>
+fn judge_evolve(
+    alloc: Global,
+    groups: &Groups,
+    op: &Op,
+    inverse: &[Op],
+) -> Result<Schema, CommitFault>
     requires counted { first_excess (evolving (operator_of op.now) (operators_of inverse.now)) ≡ None }
     requires shows { (past : Past) × Shows groups.now past }
-    ensures { (past : Past) → Shows groups.now past
+    ensures tested { (past : Past) → Shows groups.now past
         → IsTested (first_refusal (body_tests past (evolving (operator_of op.now) (operators_of inverse.now)))) result }
+    ensures next { (past : Past) → Shows groups.now past → IfOk result (λ next. next ≡ behind (newest_tables past) (operator_of op.now)) }
 {
     counted_operators_are_few();
     judge_versions(groups.newest())?;
-    let schema = groups.newest_schema();
-    judge_operator(alloc, schema, op)?;
-    judge_inverse(alloc, schema, op, inverse)
+    let before = groups.newest_schema();
+    let next = judge_operator(alloc, before, op)?;
+    judge_inverse(alloc, before, &next, inverse)?;
+    Ok(next)
 }
 
-// What the command does.
+// What the command does from the stamp on.
 #[tactic(auto, using(crate::proofs::Judging::narrow_newest))]
-fn judge_body(alloc: Global, groups: &Groups, body: &Body) -> Result<(), CommitFault>
+fn judge_body<'a>(
+    alloc: Global,
+    groups: &Groups,
+    stamp: u64,
+    body: &'a Body,
+) -> Result<Judged<'a>, CommitFault>
     requires counted { first_excess (body_of body.now) ≡ None }
     requires shows { (past : Past) × Shows groups.now past }
-    ensures { (past : Past) → Shows groups.now past → IsTested (first_refusal (body_tests past (body_of body.now))) result }
+    ensures tested { (past : Past) → Shows groups.now past → IsTested (first_refusal (body_tests past (body_of body.now))) result }
+    ensures command { IfOk result (λ j. judged_command j ≡ a_command stamp (body_of body.now)) }
+    ensures next { (past : Past) → Shows groups.now past → IfOk result (λ j. HasNext past j) }
 {
     match body {
-        Body::Changes(changes) => check_changes(alloc, groups.newest_schema(), changes),
-        Body::Evolve { op, inverse } => judge_evolve(alloc, groups, op, inverse),
+        Body::Changes(changes) => {
+            check_changes(alloc, groups.newest_schema(), changes)?;
+            Ok(Judged::Changes { stamp, changes })
+        }
+        Body::Evolve { op, inverse } => {
+            let next = judge_evolve(alloc, groups, op, inverse)?;
+            let version = copied_version(alloc, stamp, op, inverse, next)?;
+            Ok(Judged::Evolve(version))
+        }
     }
 }
 
-/// Whether the command is accepted behind the past that the groups show, with this last stamp, and else its first
-/// refusal in the one order: its counts, its stamp, and then what it does.
+/// Whether the command is accepted after the past that the groups show, with this last stamp, and then what judging it found;
+/// else its first refusal in the one order: its counts, its stamp, and then what it does.
 #[tactic(auto, using(crate::proofs::Judging::judged_behind, crate::proofs::Judging::first_decides, crate::proofs::Judging::second_decides))]
-pub(crate) fn judge(
+pub(crate) fn judge<'a>(
     alloc: Global,
     groups: &Groups,
     last: Option<u64>,
-    command: &Command,
-) -> Result<(), CommitFault>
+    command: &'a Command,
+) -> Result<Judged<'a>, CommitFault>
     requires shows { (past : Past) × Shows groups.now past × (last ≡ past.last) }
-    ensures { (past : Past) → Shows groups.now past → last ≡ past.last → IsTested (command_fault past (command_of command.now)) result }
+    ensures tested { (past : Past) → Shows groups.now past → last ≡ past.last → IsTested (command_fault past (command_of command.now)) result }
+    ensures command { IfOk result (λ j. judged_command j ≡ command_of command.now) }
+    ensures accepted { (past : Past) → Shows groups.now past → last ≡ past.last → IfOk result (λ j. IsAccepted past j) }
 {
     judge_counts(command)?;
     judge_stamp(last, command.stamp())?;
-    judge_body(alloc, groups, command.body())
+    judge_body(alloc, groups, command.stamp(), command.body())
 }

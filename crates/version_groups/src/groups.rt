@@ -1,6 +1,7 @@
 use crate::changing::{Changes, install_tables, prepare_tables};
 use crate::ending::end_consumed;
-use crate::evolving::{Evolved, prepare_version};
+use crate::evolving::begin_version;
+use crate::judged::{Judged, judge_accepted};
 use crate::made_tables::{MadeTable, find_stored, find_table};
 use crate::next::{Next, Step};
 use crate::restoring::restored_tables;
@@ -8,7 +9,7 @@ use crate::sizes::SizeLine;
 use history_store::{Prepared, StoredTable};
 use prima_base::{Name, NoMemory};
 use schema_catalog::Schema;
-use smo_ops::{Body, Change, Command, Op, Version, Versions, check_counts, made};
+use smo_ops::{Change, Command, Version, Versions, made};
 use std::alloc::Global;
 use std::marker::Model;
 use std::mem;
@@ -46,9 +47,7 @@ impl Model for Groups {
 }
 
 ghost use Rattle.std.specs.Prelude.{◌≡◌, ◌-◌, ◌<◌, ◌≤◌, ◌++◌, map, length, slice_index, IfOk, OnOk, None, vec_len, vec_capacity};
-ghost use Rattle.smo_types.specs.Commands.{version_of, versions_of, body_of};
-ghost use Rattle.smo_meaning.specs.Counts.{first_excess};
-ghost use Rattle.smo_meaning.specs.LawfulValues.{BodyHolds};
+ghost use Rattle.smo_types.specs.Commands.{version_of, versions_of};
 ghost use Rattle.smo_meaning.specs.Past.{no_tables, newest_from, tables_from, begun_at};
 
 // How many of the versions begin at the moment or before it.
@@ -94,15 +93,6 @@ fn put_behind(list: &mut Vec<MadeTable>, more: Vec<MadeTable>)
     }
 }
 
-// Meets each constant of a command whose counts are within their limits: it is a value of the code, and so a lawful one.
-#[tactic(auto, using(crate::proofs::Readied::counted_hold))]
-fn meet_constants(command: &Command)
-    requires { first_excess (body_of command.now.1) ≡ None }
-    ensures { BodyHolds (body_of command.now.1) }
-{
-    let _counted = check_counts(command);
-}
-
 impl Groups {
     ghost use Rattle.std.specs.Prelude.{◌≡◌, ◌+◌, ◌<◌, ◌≤◌, ◌^◌, ◌++◌, ◌∷◌, [], List, length, slice_index_or, MatchOption, IfOk, OnOk, None};
     ghost use Rattle.std.specs.Option.{option_copied};
@@ -130,6 +120,8 @@ impl Groups {
     ghost use Rattle.version_groups.specs.Sizes.{IsLineOf};
     ghost use Rattle.version_groups.specs.Room.{IsSame};
     ghost use Rattle.version_groups.specs.Steps.{IsReady, IsStep, Prepares, a_command, step_of};
+    ghost use Rattle.version_groups.specs.Judged.{judged_command, IsAccepted};
+    ghost use Rattle.version_groups.specs.declared.judged.Judged.TheVariants as found;
 
     /// Groups in which nothing was accepted: version 0 alone. It takes no memory.
     pub fn new(alloc: Global) -> Groups
@@ -294,10 +286,23 @@ impl Groups {
         ensures next { (past : Past) → Shows self.old past → command_fault past (command_of command.now) ≡ None
             → IfOk result (λ next. Prepares self.new past (command_of command.now) next) }
     {
-        meet_constants(command);
-        match command.body() {
-            Body::Changes(changes) => self.prepare_changes(command.stamp(), changes),
-            Body::Evolve { op, inverse } => self.prepare_operator(command.stamp(), op, inverse),
+        let newest = newest_schema(&self.nothing, &self.versions);
+        let judged = judge_accepted(self.alloc, newest, command)?;
+        self.prepare_judged(judged)
+    }
+
+    /// The same as `prepare`, of what judging a command that is accepted after the past found: for an operator the schema that
+    /// is after it. So nothing of that is computed again, and operators are not copied.
+    pub fn prepare_judged<'a>(&mut self, judged: Judged<'a>) -> Result<Next<'a>, NoMemory>
+        requires { (past : Past) × Shows self.old past × IsAccepted past judged }
+        ensures same { IsSame self.old self.new }
+        ensures shows { (past : Past) → Shows self.old past → Shows self.new past }
+        ensures next { (past : Past) → Shows self.old past → IsAccepted past judged.entry
+            → IfOk result (λ next. Prepares self.new past (judged_command judged.entry) next) }
+    {
+        match judged {
+            Judged::Changes { stamp, changes } => self.prepare_changes(stamp, changes),
+            Judged::Evolve(version) => self.prepare_version(version),
         }
     }
 
@@ -390,33 +395,23 @@ impl Groups {
         })
     }
 
-    // Makes an operator ready.
-    fn prepare_operator<'a>(
-        &mut self,
-        stamp: u64,
-        op: &Op,
-        inverse: &[Op],
-    ) -> Result<Next<'a>, NoMemory>
-        requires lawful { stamp < forever }
-        requires constants { BodyHolds (evolving (operator_of op.now) (operators_of inverse.now)) }
-        requires accepted { (past : Past) × Shows self.old past × (command_fault past (a_command stamp (evolving (operator_of op.now) (operators_of inverse.now))) ≡ None) }
+    // Makes the next version ready.
+    fn prepare_version<'a>(&mut self, version: Version) -> Result<Next<'a>, NoMemory>
+        requires { (past : Past) × Shows self.old past × IsAccepted past (found.Evolve version) }
         ensures same { IsSame self.old self.new }
-        ensures next { (past : Past) → Shows self.old past → command_fault past (a_command stamp (evolving (operator_of op.now) (operators_of inverse.now))) ≡ None
-            → IfOk result (λ next. Prepares self.new past (a_command stamp (evolving (operator_of op.now) (operators_of inverse.now))) next) }
+        ensures next { (past : Past) → Shows self.old past → IsAccepted past (found.Evolve version)
+            → IfOk result (λ next. Prepares self.new past (judged_command (found.Evolve version)) next) }
     {
         let number = self.newest() + 1;
         let schema = newest_schema(&self.nothing, &self.versions);
-        let evolved = prepare_version(
+        let tables = begin_version(
             self.alloc,
             number,
             schema,
             &self.stored,
             &self.newest,
-            stamp,
-            op,
-            inverse,
+            &version,
         )?;
-        let Evolved { version, tables } = evolved;
         self.reserve_version(tables.begun.len())?;
         Ok(Next {
             gained: 0,

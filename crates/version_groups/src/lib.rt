@@ -9,6 +9,7 @@ mod changing;
 mod ending;
 mod evolving;
 mod groups;
+mod judged;
 mod lifeline_laws;
 mod made_tables;
 mod next;
@@ -16,6 +17,7 @@ mod restoring;
 mod sizes;
 
 pub use groups::Groups;
+pub use judged::{Judged, copied_version};
 pub use lifeline_laws::{lifelines_are_few, lifelines_are_longest_runs};
 pub use made_tables::MadeTable;
 pub use next::Next;
