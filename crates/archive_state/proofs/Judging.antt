@@ -2,8 +2,6 @@
 use Rattle.std.proofs.Common.{◌≡◌, ◌≤◌, ℕ, List, ◌∷◌, length, refl, sym, subst, ◌∙◌, arith}
 use Rattle.std.specs.Prelude.{Option, Some, None, Result}
 use Rattle.std.proofs.lemmas.List.{length-map}
-use Rattle.prima_base.specs.Faults.{IsTested}
-use Rattle.prima_base.specs.declared.faults.CallFault.{CallFault}
 use Rattle.prima_base.specs.declared.refusals.Refusal.{Refusal}
 use Rattle.prima_base.specs.declared.refusals.What.{What}
 use Rattle.schema_catalog.specs.Tables.{Tables}
@@ -20,6 +18,8 @@ use Rattle.smo_meaning.proofs.CountedOperators.{counted_length}
 use Rattle.smo_meaning.proofs.Firsts.{first_at, first_later}
 use Rattle.version_groups.specs.Groups.{Kept}
 use Rattle.version_groups.specs.Showing.{Shows}
+use Rattle.archive_state.specs.declared.faults.CommitFault.{CommitFault}
+use Rattle.archive_state.specs.Committing.{IsJudged}
 
 -- an inverse whose count is within its limit
 pub few_operators : (op : Operator) (inverse : List Op) → first_excess (evolving op (operators_of inverse)) ≡ None → length inverse ≤ 8
@@ -38,10 +38,10 @@ no_excess None e = refl
 no_excess (Some x) e = absurd (cc)
 
 -- behind two tests that are met the others decide
-pub judged_behind : {A : Type 0} (first second : Fault) (tests : List Fault) (result : Result A (CallFault Refusal)) → first ≡ None → second ≡ None → IsTested (first_refusal tests) result
-    → IsTested (first_refusal (first ∷ second ∷ tests)) result
+pub judged_behind : {A : Type 0} (first second : Fault) (tests : List Fault) (result : Result A CommitFault) → first ≡ None → second ≡ None → IsJudged (first_refusal tests) result
+    → IsJudged (first_refusal (first ∷ second ∷ tests)) result
 judged_behind first second tests result e f h =
-    subst (λ (r : Fault). IsTested r result) (sym (first_later first (second ∷ tests) e ∙ first_later second tests f)) h
+    subst (λ (r : Fault). IsJudged r result) (sym (first_later first (second ∷ tests) e ∙ first_later second tests f)) h
 
 -- a test that is not met decides
 pub first_decides : (first : Fault) (tests : List Fault) (r : Refusal) → first ≡ Some r → first_refusal (first ∷ tests) ≡ Some r

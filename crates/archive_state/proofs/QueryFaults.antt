@@ -1,33 +1,29 @@
 -- The first refusal of a query, test by test.
 use Rattle.std.proofs.Common.{◌≡◌, ◌≤◌, ℕ, true, List, [], ◌∷◌, ◌++◌, length, refl, sym, ap, subst, ◌∙◌, arith}
-use Rattle.std.specs.Prelude.{nat_le, Option, Some, None, Result, Ok, Err, IfOk, MatchResult}
+use Rattle.std.specs.Prelude.{nat_le, Option, Some, None, Result}
 use Rattle.std.proofs.lemmas.List.{length-map}
 use Rattle.std.proofs.lemmas.Bool.Decides.{nat_tests}
 use Rattle.prima_base.specs.Keeping.{kept}
-use Rattle.prima_base.specs.declared.faults.CallFault.{CallFault}
-use Rattle.prima_base.specs.declared.faults.CallFault.TheVariants.{Refused, NoMemory}
 use Rattle.prima_base.specs.declared.refusals.Refusal.{Refusal}
 use Rattle.prima_base.specs.declared.refusals.Refusal.TheVariants.{NoVersion}
 use Rattle.relations.specs.Timed.{Entry}
 use Rattle.smo_types.specs.Commands.{PlainVersion, version_of}
 use Rattle.version_groups.specs.Groups.{Kept, versions_in}
 use Rattle.version_groups.specs.Showing.{Shows}
-use Rattle.schema_catalog.specs.Tables.{Tables}
 use Rattle.smo_meaning.specs.Checks.{Fault}
 use Rattle.smo_meaning.specs.First.{unless, first_refusal}
 use Rattle.smo_meaning.specs.Losses.{Loss}
 use Rattle.smo_meaning.specs.OneRow.{Row}
 use Rattle.smo_meaning.specs.Past.{Past, tables_of}
 use Rattle.smo_meaning.proofs.Firsts.{first_behind, first_before, first_later, first_alone}
-use Rattle.temporal_lang.specs.Queries.{PlainQuery, query_of, IsLasting}
-use Rattle.temporal_lang.specs.declared.queries.Query.{Query}
-use Rattle.temporal_lang.specs.Atoms.{with_atoms}
+use Rattle.temporal_lang.specs.Queries.{PlainQuery}
 use Rattle.temporal_lang.specs.Accepted.{no_way_back, loss_fault, version_fault, fault_of_query}
 use Rattle.temporal_lang.specs.Losing.{first_lost}
 use Rattle.temporal_lang.proofs.WayBackLaws.{no_way_back_is}
 use Rattle.answer_text.specs.declared.listing.Listing.{Listing}
-use Rattle.archive_state.specs.Asking.{IsAsked, IsAskedSchema, IsChecked, IsWrong, TellsWayBack}
-use Rattle.temporal_lang.specs.Checking.{excess_of, excess_fault, query_tests, query_fault, IsQueryChecked}
+use Rattle.archive_state.specs.declared.faults.AskFault.{AskFault}
+use Rattle.archive_state.specs.Asking.{IsAsked, TellsWayBack}
+use Rattle.temporal_lang.specs.Checking.{excess_of, excess_fault, query_tests, query_fault}
 
 module _ (past : Past) (query : PlainQuery) (few : excess_of query ≡ None) (there : query.version ≤ length past.versions) where
   abbrev tests : List Fault
@@ -63,21 +59,6 @@ module _ (past : Past) (query : PlainQuery) (few : excess_of query ≡ None) (th
   pub one_lost : (l : Option Loss) (at : Loss) (r : Refusal) → l ≡ first_lost past query → l ≡ Some at → r ≡ no_way_back past.versions at → first_refusal tests ≡ None → fault_of_query past query ≡ Some r
   one_lost l at r e n is t = loss_decides t ∙ ap (loss_fault past.versions) (sym e ∙ n) ∙ ap Some (sym is)
 
--- what is checked over the tables of its version
-pub checked_over : (past : Past) (query : PlainQuery) (tables : Tables) → IsAskedSchema past query tables → (result : Result Query (CallFault Refusal)) → IsQueryChecked tables query result
-    → IfOk result (λ q. IsLasting q.when) → MatchResult result (λ checked. IsChecked past query checked) (λ fault. IsWrong past query fault)
-checked_over past query tables h (Ok q) is lasts =
-    let atoms : query_of q ≡ with_atoms (tables_of past query.version) query = is.1 ∙ ap (λ (t : Tables). with_atoms t query) h.schema in
-    record {
-      few = h.few;
-      there = h.there;
-      tests = tests_met past query h.few h.there (ap (λ (t : Tables). query_fault t query) (sym h.schema) ∙ is.0);
-      atoms = atoms;
-      lasting = subst (λ (p : PlainQuery). IsLasting p.when) atoms lasts;
-    }
-checked_over past query tables h (Err (Refused r)) is lasts = test_fails past query h.few h.there r (ap (λ (t : Tables). query_fault t query) (sym h.schema) ∙ is)
-checked_over past query tables h (Err NoMemory) is lasts = tt
-
 pub within_kept : (kept : Kept) (past : Past) (n : ℕ) → Shows kept past → n ≤ length past.versions → n ≤ length kept.versions
 within_kept kept past n shows l =
     let same : length (versions_in kept) ≡ length past.versions = ap (λ (vs : List PlainVersion). length vs) shows.versions in
@@ -85,5 +66,5 @@ within_kept kept past n shows l =
     omega arith
 
 -- a refusal for want of a way back has its cause
-pub way_back_told : (past : Past) (query : PlainQuery) (result : Result Listing (CallFault Refusal)) → IsAsked past query result → TellsWayBack past query result
+pub way_back_told : (past : Past) (query : PlainQuery) (result : Result Listing AskFault) → IsAsked past query result → TellsWayBack past query result
 way_back_told past query result asked = λ k kind e. no_way_back_is past query k kind (subst (IsAsked past query) e asked)

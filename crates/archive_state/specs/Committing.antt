@@ -1,15 +1,21 @@
 -- What an archive answers to a command.
-use Rattle.std.specs.Prelude.{◌≡◌, ℕ, length, Option, Some, None, Result, Ok, Err}
-use Rattle.prima_base.specs.declared.faults.CallFault.{CallFault}
-use Rattle.prima_base.specs.declared.faults.CallFault.TheVariants.{Refused, NoMemory}
-use Rattle.prima_base.specs.declared.refusals.Refusal.{Refusal}
+use Rattle.std.specs.Prelude.{◌≡◌, ℕ, length, Option, Some, None, Result, Ok, Err, ⊤}
 use Rattle.smo_types.specs.Commands.{PlainBody, changing, evolving, PlainCommand}
+use Rattle.smo_meaning.specs.Checks.{Fault}
 use Rattle.smo_meaning.specs.Accepts.{command_fault}
 use Rattle.smo_meaning.specs.Past.{Past, past_with}
 use Rattle.version_groups.specs.Room.{IsSame}
 use Rattle.version_groups.specs.Steps.{Readied, Prepares, rows_gained, rows_lost}
 use Rattle.archive_state.specs.declared.archives.Done.{Done}
+use Rattle.archive_state.specs.declared.faults.CommitFault.{CommitFault}
+use Rattle.archive_state.specs.declared.faults.CommitFault.TheVariants.{Refused, NoMemory}
 use Rattle.archive_state.specs.Standing.{Standing, ShowsPast}
+
+-- what a test answers: it is met, or this is its refusal
+abbrev pub IsJudged : {A : Type 0} → Fault → Result A CommitFault → Type 0
+IsJudged fault (Ok a) = fault ≡ None
+IsJudged fault (Err (Refused r)) = fault ≡ Some r
+IsJudged fault (Err NoMemory) = ⊤
 
 -- the newest version, where the command made it
 abbrev pub version_made : PlainBody → ℕ → Option ℕ
@@ -30,7 +36,7 @@ pub record IsAsBefore (old new : Standing) : Type 0 where
 
 -- an accepted command was made ready, and the archive shows the past that it showed, with room for what is to be done;
 -- another is refused by its first refusal, and the archive is what it was; where memory runs out it is as it was, too
-abbrev pub Readies : Past → PlainCommand → Standing → Result Readied (CallFault Refusal) → Standing → Type 0
+abbrev pub Readies : Past → PlainCommand → Standing → Result Readied CommitFault → Standing → Type 0
 Readies past command old (Ok next) new = (command_fault past command ≡ None) × IsAsBefore old new × ShowsPast new past × Prepares new.groups past command next
 Readies past command old (Err (Refused r)) new = (command_fault past command ≡ Some r) × (new ≡ old)
 Readies past command old (Err NoMemory) new = IsAsBefore old new × ShowsPast new past

@@ -88,14 +88,14 @@ places_first columns live lost a b t = record {
 
 module _ (columns : List (List Write)) (live found from : List ℕ) (lost left : List (List Value)) (y : List Value) (at : ℕ) (rise : Ascends row_cmp (rows_of live columns))
     (p : ArePlaces columns live found from lost (y ∷ left)) (h : at < length live) (e : row_now (get_or live at 0) columns ≡ y) where
-  pub behind : p.end ≤ at
-  behind = elim (cases_lt at p.end) [
+  pub ended : p.end ≤ at
+  ended = elim (cases_lt at p.end) [
     | inl l ↦ absurd (row_exact.apart y (subst (λ r. row_cmp r y ≡ Less) e (p.low at l y (inl refl))))
     | inr l ↦ l
   ]
 
   pub not_below : length from ≤ at
-  not_below = let b = behind in let l = p.long in omega (arith, b, l)
+  not_below = let b = ended in let l = p.long in omega (arith, b, l)
 
   step : (end : ℕ) (kept : List ℕ) → IsTaken columns live found kept (drop end live) lost (y ∷ left) → without from live ≡ kept ++ drop end live → length kept + length from ≡ end → AreAmong from live → end ≤ at
       → ArePlaces columns live (found ++ get_or live at 0 ∷ []) (from ++ (at - length from) ∷ []) lost left
@@ -146,7 +146,7 @@ module _ (columns : List (List Write)) (live found from : List ℕ) (lost left :
       place_is = let f = kept_long in omega (arith, f, long, b)
 
   pub places_next : ArePlaces columns live (found ++ get_or live at 0 ∷ []) (from ++ (at - length from) ∷ []) lost left
-  places_next = step p.end p.kept p.taken p.are p.long p.placed behind
+  places_next = step p.end p.kept p.taken p.are p.long p.placed ended
 
 pub places_all : (columns : List (List Write)) (live found from : List ℕ) (lost : List (List Value)) → ArePlaces columns live found from lost [] → IsSplit columns live found (without from live) lost
 places_all columns live found from lost p = subst (λ zs. IsSplit columns live found zs lost) (sym p.are) (taken_all columns live found p.kept (drop p.end live) lost p.taken)
@@ -252,8 +252,8 @@ left_there columns (at ∷ from) ids y a i =
     subst (λ z. In z (rows_of ids columns)) r.2 (rows_of_in r.0 ids columns (was_there ids at r.0 a.0 r.1))
 
 -- what is kept by places is of few rows
-pub few_placed : (after : Index) (ids : List ℕ) → IsPlaced after ids → more_ids after ≤ few_rows
-few_placed (Whole after) ids p = omega arith
+pub few_placed : (index : Index) (ids : List ℕ) → IsPlaced index ids → more_ids index ≤ few_rows
+few_placed (Whole index) ids p = omega arith
 few_placed (Moved from to) ids p = p.2
 
 -- ---- ids that come
@@ -301,10 +301,10 @@ module _ (columns : List (List Write)) (live from ids : List ℕ) (gained : List
   }
 
   module _ (to : List (ℕ × ℕ)) (coming : List ℕ) (h : ℕ) (left : List (List Value)) (y : List Value) (free : ℕ) (placed : AreAmong from live) (c : Come columns live from ids to (h ∷ coming) gained (y ∷ left))
-      (w : free ≤ length live) (before : (k : ℕ) → k < free → row_cmp (row_now (get_or live k 0) columns) y ≡ Less) (after : (k : ℕ) → free ≤ k → k < length live → row_cmp (row_now (get_or live k 0) columns) y ≡ Greater) where
+      (w : free ≤ length live) (before : (k : ℕ) → k < free → row_cmp (row_now (get_or live k 0) columns) y ≡ Less) (above : (k : ℕ) → free ≤ k → k < length live → row_cmp (row_now (get_or live k 0) columns) y ≡ Greater) where
     not_before : c.end ≤ free
     not_before = elim (cases_lt free c.end) [
-      | inl l ↦ absurd (let e = c.low free l y (inl refl) in let i = c.within in let g = after free (omega arith) (omega (arith, l, i)) in cc)
+      | inl l ↦ absurd (let e = c.low free l y (inl refl) in let i = c.within in let g = above free (omega arith) (omega (arith, l, i)) in cc)
       | inr l ↦ l
     ]
 
@@ -320,7 +320,7 @@ module _ (columns : List (List Write)) (live from ids : List ℕ) (gained : List
       put = subst (λ zs. IsPut columns kept ids ((come ++ xs) ++ h ∷ []) zs coming gained left) ys_is
           (put_next columns kept ids come xs ys coming h gained left y (subst (λ zs. IsPut columns kept ids come zs (h ∷ coming) gained (y ∷ left)) rest_is put)
           (λ q i. all_low columns live y free w before q (part.before q (subst (In q) (sym front_is) (in_right q (take b kept) xs i))))
-          (λ q i. all_high columns live y free after q (part.behind q (subst (In q) ys_is i))));
+          (λ q i. all_high columns live y free above q (part.behind q (subst (In q) ys_is i))));
       are = λ rest.
           with-append to (p, h) (take p kept ++ rest)
           ∙ ap (with_each to) (insert_middle (take p kept) rest h p (sym (length-take-le p kept part.within)) ∙ ap (λ zs. zs ++ h ∷ rest) front_is ∙ append_assoc (take b kept) xs (h ∷ rest))

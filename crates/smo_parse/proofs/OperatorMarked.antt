@@ -205,7 +205,7 @@ abbrev pub in_join : Lexeme → Lexeme → Lexeme → List Lexeme → List Lexem
 in_join x y z l = word (codes "JOIN") ∷ word (codes "TABLE") ∷ x ∷ sign (codes ",") ∷ y ∷ word (codes "INTO") ∷ z ∷ l
 
 -- and what is read behind them
-pub join_run : (x : Lexeme) (a : List ℕ) (y : Lexeme) (b : List ℕ) (z : Lexeme) (t : List ℕ) (l : List Lexeme) → as_name x ≡ Some a → as_name y ≡ Some b → as_name z ≡ Some t → operator 0 (in_join x y z l) ≡ map_to (λ c. join_table a b t c) outer_where false 0 l
+pub join_run : (x : Lexeme) (a : List ℕ) (y : Lexeme) (b : List ℕ) (z : Lexeme) (t : List ℕ) (l : List Lexeme) → as_name x ≡ Some a → as_name y ≡ Some b → as_name z ≡ Some t → operator 0 (in_join x y z l) ≡ map_to (λ c. join_table a b t c) (outer_where false) 0 l
 unfolding operator join_rest
 join_run x a y b z t l ex ey ez = bind_name _ x a 0 _ ex ∙ bind_name _ y b 0 _ ey ∙ bind_name _ z t 0 _ ez
 

@@ -1,5 +1,5 @@
 -- Each operator that can be read, and whose tree is at most 32 deep, prints as a text whose tokens are in the grammar again.
-use Rattle.std.proofs.Common.{◌≤◌, List, ◌++◌, codes, map, inl, inr, refl, sym, ap, subst, arith}
+use Rattle.std.proofs.Common.{◌≤◌, false, List, ◌++◌, codes, map, inl, inr, refl, sym, ap, subst, arith}
 use Rattle.prima_base.specs.declared.refusals.What.{What}
 use Rattle.smo_types.specs.Operators.{Operator, nop, merge_table, partition_table, decompose_table, join_table, rename_column}
 use Rattle.lexical_grammar.specs.Lexemes.{Lexeme}

@@ -31,7 +31,7 @@ use crate::afters::nop::after_nop;
 use crate::afters::partition_table::after_partition;
 use crate::afters::rename_column::after_rename_column;
 use crate::afters::rename_table::after_rename;
-use prima_base::{OpRefusal, Refusal};
+use prima_base::{NoMemory, OpRefusal, Refusal};
 use schema_catalog::Schema;
 use smo_types::{Op, OpFault};
 use std::alloc::Global;

@@ -251,7 +251,7 @@ module _ (past : Past) (query : PlainQuery) where
         is = ap (slice_get past.versions) place ∙ cause.is;
         unnamed = cause.unnamed;
         of_kind = sym (ap version_kind here) ∙ ap (kind_in kind) e;
-        behind = omega (arith, from, behind);
+        later = omega (arith, from, behind);
         reached = omega (arith, to, behind);
       }
 

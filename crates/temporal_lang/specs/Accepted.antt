@@ -57,5 +57,5 @@ pub record HasNoWayBack (past : Past) (query : PlainQuery) (k : ℕ) (kind : OpK
   pub is : slice_get past.versions (k - 1) ≡ Some by
   pub unnamed : by.inverse ≡ []
   pub of_kind : operator_kind by.op ≡ kind
-  pub behind : query.version < k
+  pub later : query.version < k
   pub reached : k ≤ version_at past moment

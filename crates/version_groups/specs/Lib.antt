@@ -10,7 +10,6 @@ pub mod Showing
 pub mod Becoming
 pub mod Changing
 pub mod Steps
-pub mod Judged
 pub mod Room
 pub mod Installing
 pub mod Ending

@@ -1,7 +1,6 @@
 use crate::changing::{Changes, install_tables, prepare_tables};
 use crate::ending::end_consumed;
-use crate::evolving::begin_version;
-use crate::judged::{Judged, judge_accepted};
+use crate::evolving::{Evolved, prepare_version};
 use crate::made_tables::{MadeTable, find_stored, find_table};
 use crate::next::{Next, Step};
 use crate::restoring::restored_tables;
@@ -9,7 +8,7 @@ use crate::sizes::SizeLine;
 use history_store::{Prepared, StoredTable};
 use prima_base::{Name, NoMemory};
 use schema_catalog::Schema;
-use smo_ops::{Change, Command, Version, Versions, made};
+use smo_ops::{Body, Change, Command, Op, Version, Versions, check_counts, made};
 use std::alloc::Global;
 use std::marker::Model;
 use std::mem;
@@ -47,7 +46,9 @@ impl Model for Groups {
 }
 
 ghost use Rattle.std.specs.Prelude.{◌≡◌, ◌-◌, ◌<◌, ◌≤◌, ◌++◌, map, length, slice_index, IfOk, OnOk, None, vec_len, vec_capacity};
-ghost use Rattle.smo_types.specs.Commands.{version_of, versions_of};
+ghost use Rattle.smo_types.specs.Commands.{version_of, versions_of, body_of};
+ghost use Rattle.smo_meaning.specs.Counts.{first_excess};
+ghost use Rattle.smo_meaning.specs.LawfulValues.{BodyHolds};
 ghost use Rattle.smo_meaning.specs.Past.{no_tables, newest_from, tables_from, begun_at};
 
 // How many of the versions begin at the moment or before it.
@@ -93,6 +94,15 @@ fn put_behind(list: &mut Vec<MadeTable>, more: Vec<MadeTable>)
     }
 }
 
+// Meets each constant of a command whose counts are within their limits: it is a value of the code, and so a lawful one.
+#[tactic(auto, using(crate::proofs::Readied::counted_hold))]
+fn meet_constants(command: &Command)
+    requires { first_excess (body_of command.now.1) ≡ None }
+    ensures { BodyHolds (body_of command.now.1) }
+{
+    let _counted = check_counts(command);
+}
+
 impl Groups {
     ghost use Rattle.std.specs.Prelude.{◌≡◌, ◌+◌, ◌<◌, ◌≤◌, ◌^◌, ◌++◌, ◌∷◌, [], List, length, slice_index_or, MatchOption, IfOk, OnOk, None};
     ghost use Rattle.std.specs.Option.{option_copied};
@@ -108,7 +118,6 @@ impl Groups {
     ghost use Rattle.smo_meaning.specs.LawfulPast.{AreVersions};
     ghost use Rattle.smo_meaning.specs.LawfulValues.{BodyHolds};
     ghost use Rattle.smo_meaning.specs.Past.{Past, beginning, no_tables, tables_from, newest_from, version_at, past_with};
-    ghost use Rattle.smo_meaning.specs.Past.{newest_tables};
     ghost use Rattle.smo_meaning.specs.Sizes.{Size};
     ghost use Rattle.version_groups.specs.Groups.{versions_in, places_of, stored_at, table_in, newest_group, names_of};
     ghost use Rattle.version_groups.specs.Places.{at_places, AreWithin};
@@ -120,8 +129,6 @@ impl Groups {
     ghost use Rattle.version_groups.specs.Sizes.{IsLineOf};
     ghost use Rattle.version_groups.specs.Room.{IsSame};
     ghost use Rattle.version_groups.specs.Steps.{IsReady, IsStep, Prepares, a_command, step_of};
-    ghost use Rattle.version_groups.specs.Judged.{judged_command, IsAccepted};
-    ghost use Rattle.version_groups.specs.declared.judged.Judged.TheVariants as found;
 
     /// Groups in which nothing was accepted: version 0 alone. It takes no memory.
     pub fn new(alloc: Global) -> Groups
@@ -199,13 +206,6 @@ impl Groups {
             Some(version) => Some(&version.schema),
             None => None,
         }
-    }
-
-    /// The schema of the newest version. It takes no memory.
-    pub fn newest_schema(&self) -> &Schema
-        ensures { (past : Past) → Shows self.now past → result.now ≡ newest_tables past }
-    {
-        newest_schema(&self.nothing, &self.versions)
     }
 
     /// What is stored of a version's table: `None` exactly where there is no such version, or no such table in it. It
@@ -286,23 +286,10 @@ impl Groups {
         ensures next { (past : Past) → Shows self.old past → command_fault past (command_of command.now) ≡ None
             → IfOk result (λ next. Prepares self.new past (command_of command.now) next) }
     {
-        let newest = newest_schema(&self.nothing, &self.versions);
-        let judged = judge_accepted(self.alloc, newest, command)?;
-        self.prepare_judged(judged)
-    }
-
-    /// The same as `prepare`, of what judging a command that is accepted after the past found: for an operator the schema that
-    /// is after it. So nothing of that is computed again, and operators are not copied.
-    pub fn prepare_judged<'a>(&mut self, judged: Judged<'a>) -> Result<Next<'a>, NoMemory>
-        requires { (past : Past) × Shows self.old past × IsAccepted past judged }
-        ensures same { IsSame self.old self.new }
-        ensures shows { (past : Past) → Shows self.old past → Shows self.new past }
-        ensures next { (past : Past) → Shows self.old past → IsAccepted past judged.entry
-            → IfOk result (λ next. Prepares self.new past (judged_command judged.entry) next) }
-    {
-        match judged {
-            Judged::Changes { stamp, changes } => self.prepare_changes(stamp, changes),
-            Judged::Evolve(version) => self.prepare_version(version),
+        meet_constants(command);
+        match command.body() {
+            Body::Changes(changes) => self.prepare_changes(command.stamp(), changes),
+            Body::Evolve { op, inverse } => self.prepare_operator(command.stamp(), op, inverse),
         }
     }
 
@@ -395,23 +382,33 @@ impl Groups {
         })
     }
 
-    // Makes the next version ready.
-    fn prepare_version<'a>(&mut self, version: Version) -> Result<Next<'a>, NoMemory>
-        requires { (past : Past) × Shows self.old past × IsAccepted past (found.Evolve version) }
+    // Makes an operator ready.
+    fn prepare_operator<'a>(
+        &mut self,
+        stamp: u64,
+        op: &Op,
+        inverse: &[Op],
+    ) -> Result<Next<'a>, NoMemory>
+        requires lawful { stamp < forever }
+        requires constants { BodyHolds (evolving (operator_of op.now) (operators_of inverse.now)) }
+        requires accepted { (past : Past) × Shows self.old past × (command_fault past (a_command stamp (evolving (operator_of op.now) (operators_of inverse.now))) ≡ None) }
         ensures same { IsSame self.old self.new }
-        ensures next { (past : Past) → Shows self.old past → IsAccepted past (found.Evolve version)
-            → IfOk result (λ next. Prepares self.new past (judged_command (found.Evolve version)) next) }
+        ensures next { (past : Past) → Shows self.old past → command_fault past (a_command stamp (evolving (operator_of op.now) (operators_of inverse.now))) ≡ None
+            → IfOk result (λ next. Prepares self.new past (a_command stamp (evolving (operator_of op.now) (operators_of inverse.now))) next) }
     {
         let number = self.newest() + 1;
         let schema = newest_schema(&self.nothing, &self.versions);
-        let tables = begin_version(
+        let evolved = prepare_version(
             self.alloc,
             number,
             schema,
             &self.stored,
             &self.newest,
-            &version,
+            stamp,
+            op,
+            inverse,
         )?;
+        let Evolved { version, tables } = evolved;
         self.reserve_version(tables.begun.len())?;
         Ok(Next {
             gained: 0,

@@ -9,7 +9,6 @@ mod changing;
 mod ending;
 mod evolving;
 mod groups;
-mod judged;
 mod lifeline_laws;
 mod made_tables;
 mod next;
@@ -17,7 +16,6 @@ mod restoring;
 mod sizes;
 
 pub use groups::Groups;
-pub use judged::{Judged, copied_version};
 pub use lifeline_laws::{lifelines_are_few, lifelines_are_longest_runs};
 pub use made_tables::MadeTable;
 pub use next::Next;
