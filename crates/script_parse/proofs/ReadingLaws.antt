@@ -52,7 +52,8 @@ too_much tokens w h =
     let can = h.4.0 in
     let P : List Lexeme → Type 0 = λ l. IsStatement can.1 can.2 l in
     let g : IsStatement can.1 can.2 (front ++ x ∷ can.0) = subst P (append_assoc front (x ∷ []) can.0) can.3 in
-    (x ∷ h.2, passing_is_over statement IsStatement goes_statement statement_good statement_passes (back_reads statement IsStatement statement_passes statement_reads) statement_sized all w front x h.2 h.3 can.0 can.1 can.2 g (h.4.1 can.0 can.1 can.2 g))
+    let over = passing_is_over statement IsStatement goes_statement statement_good statement_passes (back_reads statement IsStatement statement_passes statement_reads) statement_sized all w front x h.2 h.3 can.0 can.1 can.2 g (h.4.1 can.0 can.1 can.2 g) in
+    (x ∷ h.2, over.0, over.1)
 
 -- ---- readings are of the grammar
 
