@@ -14,6 +14,13 @@ use prima_base::NoMemory;
 use prima_io::{Failed, Sink, put_all};
 use smo_parse::put;
 
+/// Adds a piece. The one error is `NoMemory`, where memory runs out.
+pub(crate) fn add(line: &mut Vec<u8>, piece: &[u8]) -> Result<(), NoMemory>
+    ensures { OnOk result (line.new.items ≡ line.old.items ++ piece.now) }
+{
+    put(line, piece)
+}
+
 /// Adds a number in decimal digits. The one error, here and below, is `NoMemory`, where memory runs out.
 pub(crate) fn add_number(line: &mut Vec<u8>, number: u64) -> Result<(), NoMemory>
     ensures { OnOk result (line.new.items ≡ line.old.items ++ decimal number) }

@@ -10,7 +10,7 @@ ghost use Rattle.answer_text.specs.Causes.{HasStopCause};
 ghost use Rattle.answer_text.specs.declared.stop.Stop.TheVariants as stop;
 ghost use Rattle.answer_text.specs.Texts.{end_text, piece_head, explained_text, explain_text};
 
-use crate::bytes::{add_count, add_end, add_number, put_lines};
+use crate::bytes::{add, add_count, add_end, add_number, put_lines};
 use crate::stop::Stop;
 use piece_texts::{Explained, piece_text};
 use prima_base::NoMemory;
@@ -23,17 +23,17 @@ use std::alloc::Global;
 fn add_head(line: &mut Vec<u8>, explained: &Explained) -> Result<(), NoMemory>
     ensures { OnOk result (line.new.items ≡ line.old.items ++ piece_head (explained_of explained.now)) }
 {
-    put(line, b"piece ")?;
+    add(line, b"piece ")?;
     add_number(line, explained.period.start())?;
-    put(line, b" ")?;
+    add(line, b" ")?;
     add_end(line, explained.period.end())?;
-    put(line, b" ")?;
+    add(line, b" ")?;
     add_number(line, explained.branch as u64)?;
-    put(line, b" ")?;
+    add(line, b" ")?;
     add_number(line, explained.atom as u64)?;
-    put(line, b" ")?;
+    add(line, b" ")?;
     add_number(line, explained.version as u64)?;
-    put(line, b" ")
+    add(line, b" ")
 }
 
 // The line of a piece.
