@@ -76,8 +76,8 @@ fn through_each(
         [op, rest @ ..] => {
             book.known();
             let next = schema_after(alloc, tables, op)?;
-            let behind = through_each(book, alloc, &next, rest, pieces)?;
-            through(book, alloc, op, tables, &behind)
+            let taken = through_each(book, alloc, &next, rest, pieces)?;
+            through(book, alloc, op, tables, &taken)
         }
     }
 }

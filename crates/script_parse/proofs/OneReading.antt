@@ -101,7 +101,7 @@ over_read [] end w h = absurd (no_front h.0 h.1 h.2 h.3)
     no_front : (front : List Lexeme) (x : Lexeme) (rest : List Lexeme) → [] ≡ front ++ x ∷ rest → ⊥
     no_front [] x rest e = cc
     no_front (y ∷ front) x rest e = cc
-over_read (t ∷ tokens) end w h = let k = too_much (t ∷ tokens) w h in ap (answered (t ∷ tokens) end) k.1
+over_read (t ∷ tokens) end w h = let k = too_much (t ∷ tokens) w h in ap (answered (t ∷ tokens) end) k.2
 
 -- ---- of a text
 

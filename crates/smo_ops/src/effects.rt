@@ -42,6 +42,21 @@ pub fn row_meets(
     holds(alloc, cond, own.atoms(), values)
 }
 
+/// What the expression has over the row of a table of these columns that has these values. The
+/// values are lawful, as for `eval`. The one error is `NoMemory`, where memory runs out.
+pub fn row_value(
+    alloc: Global,
+    own: &OwnColumns<'_>,
+    expr: &Expr,
+    values: &[Val<'_>],
+) -> Result<Value, NoMemory>
+    requires { AreLawful values.now }
+    ensures { IfOk result (λ v. v ≡ value (own_cells own.now (map shown values.now)) (tree expr.now)) }
+{
+    let val = eval(alloc, expr, own.atoms(), values)?;
+    val.into_value(alloc)
+}
+
 // The value that is given for the column with this name, borrowed.
 fn given_value<'a>(cells: &'a [(Name, Value)], name: &Name) -> Val<'a>
     ensures value { shown result ≡ given cells.now name.now }

@@ -13,12 +13,12 @@ through-requires-clause-typed g t c =
     let accepted = first_accepted c.args.tables.now c.args.ops.now c.op-item.result c.in-len1-up.len_at_least c.op-item.is c.requires.accepted in
     rest_typed _ c.known.ensures c.args.tables.now c.in_ok-next-in-len1-up.next c.args.ops.now c.op-item.result (pieces_of c.args.pieces.items) (pieces_of c.deref.result.now)
     c.requires.lawful c.in-len1-up.len_at_least c.op-item.is c.requires.accepted c.requires.typed (c.in_ok-next-in-len1-up.ensures.accepted accepted)
-    (ap pieces_of c.deref.ensures.value ∙ c.in_ok-behind-in-len1-up.ensures)
+    (ap pieces_of c.deref.ensures.value ∙ c.in_ok-taken-in-len1-up.ensures)
 
-pub returns-in_ok-behind-in-len1-up : goal.returns-in_ok-behind-in-len1-up
-returns-in_ok-behind-in-len1-up g t c =
+pub returns-in_ok-taken-in-len1-up : goal.returns-in_ok-taken-in-len1-up
+returns-in_ok-taken-in-len1-up g t c =
     let accepted = first_accepted c.args.tables.now c.args.ops.now c.op-item.result c.in-len1-up.len_at_least c.op-item.is c.requires.accepted in
     IfOk-weaker c.through.result _ _ (λ news h.
     all_are _ c.args.tables.now c.in_ok-next-in-len1-up.next c.args.ops.now c.op-item.result (pieces_of c.args.pieces.items) (pieces_of c.deref.result.now) (pieces_of news.items)
-    c.in-len1-up.len_at_least c.op-item.is (c.in_ok-next-in-len1-up.ensures.accepted accepted) (ap pieces_of c.deref.ensures.value ∙ c.in_ok-behind-in-len1-up.ensures) h)
+    c.in-len1-up.len_at_least c.op-item.is (c.in_ok-next-in-len1-up.ensures.accepted accepted) (ap pieces_of c.deref.ensures.value ∙ c.in_ok-taken-in-len1-up.ensures) h)
     c.through.ensures
