@@ -2,14 +2,14 @@
 # Times changes of a table of three columns (a INT, b INT, c TEXT), for tables of n rows (2,000, 20,000 and 200,000
 # unless told otherwise), over the built program: microseconds for each command, and the ratio of these between each
 # size and the one before it. The rows differ in a, and b has another order than a. What is timed:
-#   ascending, scattered   inserts of one row each, that stand behind all others, or anywhere among them
+#   ascending, scattered   inserts of one row each, that stand after all others, or anywhere among them
 #   update a, delete a     by the first column: the row is found by binary search
 #   update range, delete range   by bounds of the first column that ten rows meet
 #   index of b             the first update by another column: its ids are sorted once
 #   update b, delete b     by another column, whose index is kept from then on
 #   65 and by b            in turn an insert of 65 rows in one command, and an update by another column; microseconds for both
 #   update no pin, delete no pin   by a condition that pins no column: each row is looked at
-#   walk                   by one comparison that pins nothing and that no row meets; the nanoseconds a row stand behind
+#   walk                   by one comparison that pins nothing and that no row meets; the nanoseconds a row stand after
 #   20000 in one           one command of 20,000 changes by the first column; microseconds for each change
 #   20000 by b             the same by another column
 #   20000 by b, c          the same by two other columns in turn

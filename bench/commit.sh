@@ -77,7 +77,7 @@ TABLE = "AT 1 EVOLVE CREATE TABLE t (a INT, b TEXT);"
 
 
 def inserts(first, n):
-    # Values that jump about, so that new rows do not all stand behind the others.
+    # Values that jump about, so that new rows do not all stand after the others.
     return [f"AT {2 + i} INSERT INTO t (a, b) VALUES ({i * 7919 % 1000003 * 2 + i % 2}, 'text {i % 97}');" for i in range(first, first + n)]
 
 

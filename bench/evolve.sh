@@ -1,6 +1,6 @@
 #!/usr/bin/env bash
 # Times operators over a table of n rows, for each n (4,000, 16,000 and 64,000 unless told otherwise, ascending), over the
-# built program: the seconds of the inserts alone, then of 500 NOPs behind them, of a PARTITION with a MERGE, and of a
+# built program: the seconds of the inserts alone, then of 500 NOPs after them, of a PARTITION with a MERGE, and of a
 # DECOMPOSE with a JOIN; and the most memory in KiB of the inserts alone and with the NOPs. An operator costs what it is given and
 # makes: NOPs take as long whatever the rows are, and the others grow as the rows do.
 set -eu
@@ -36,6 +36,6 @@ for n in sizes:
     parts = [f"AT {at} EVOLVE PARTITION TABLE t INTO low WITH b < {n // 2}, high;", f"AT {at + 1} EVOLVE MERGE TABLE low, high INTO t;"]
     joined = [f"AT {at} EVOLVE DECOMPOSE TABLE t INTO x (a, b), y (a, c);", f"AT {at + 1} EVOLVE JOIN TABLE x, y INTO t;"]
     alone, least = play(rows)
-    more = [play(rows + behind) for behind in (nops, parts, joined)]
+    more = [play(rows + after) for after in (nops, parts, joined)]
     print(f"{n:>8} {alone:>9.3f} {more[0][0] - alone:>9.3f} {more[1][0] - alone:>9.3f} {more[2][0] - alone:>9.3f} {least:>8} {more[0][1]:>9}")
 PYTHON

@@ -1,6 +1,6 @@
 #!/usr/bin/env bash
 # Kills the program while it commits, and looks at what it leaves: over a real file a script that never ends is fed to it, one insert
-# behind the other; at a random moment it is killed (SIGKILL, by its own id); then the file is read by a second reading of the format, the
+# after the other; at a random moment it is killed (SIGKILL, by its own id); then the file is read by a second reading of the format, the
 # archive is opened again, and both are compared with the replies that had come. Nothing acknowledged may be lost, and at most
 # one command more may be there. N rounds (200 unless told otherwise) over files that are used ten times each; SEED is the second word.
 # This tries a process that stops, and not a machine: what the system holds and has not synced is not lost with a process.
@@ -30,13 +30,13 @@ def records_of(path):
     at, count = 8, 0
     while data[at] == 1:
         length = int.from_bytes(data[at + 2:at + 10], "big")
-        assert data[at + 1] == 1 and at + 10 + length < len(data), f"damaged behind {at}"
+        assert data[at + 1] == 1 and at + 10 + length < len(data), f"damaged after {at}"
         at, count = at + 10 + length, count + 1
     return count
 
 
 def feed(pipe, first):
-    """One insert behind the other, until nobody reads them."""
+    """One insert after the other, until nobody reads them."""
     try:
         for i in range(first, 1 << 40):
             pipe.write(b"AT %d INSERT INTO t (a) VALUES (%d);\n" % (i + 2, i))
@@ -57,7 +57,7 @@ def killed(folder, first):
     child.wait()
     reader.join()
     feeder.join(10)
-    lines = said.split(b"\n")[:-1]  # what stands behind the last LF was not acknowledged
+    lines = said.split(b"\n")[:-1]  # what stands after the last LF was not acknowledged
     assert lines == [b"ok %d +1 -0" % (first + 2 + i) for i in range(len(lines))], lines[-3:]
     return len(lines)
 

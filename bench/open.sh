@@ -1,6 +1,6 @@
 #!/usr/bin/env bash
 # Times what opening an archive takes, of n inserts and of an update of each fourth row, for each n (50,000 unless told otherwise),
-# without a CHECKPOINT and with one behind them all, beside a bare program in C that reads the bytes of the same file and sums them:
+# without a CHECKPOINT and with one after them all, beside a bare program in C that reads the bytes of the same file and sums them:
 # the bytes, the seconds of both, how many times as long as the bare program, and the most memory in KiB. Each counts with the least of
 # a few runs. An opening is a run without a statement; the first line has one over no archive, which is what the others have beside.
 # Then the seconds that the CHECKPOINT itself took. It prints what it measures, and ends with 1 only where a reply is wrong.
@@ -44,7 +44,7 @@ ROUNDS = 5
 
 
 def inserts(n):
-    # Values that jump about, so that new rows do not all stand behind the others.
+    # Values that jump about, so that new rows do not all stand after the others.
     return [f"AT {2 + i} INSERT INTO t (a, b) VALUES ({i * 7919 % 1000003}, 'text {i % 97}');" for i in range(n)]
 
 
@@ -96,7 +96,7 @@ for n in sizes:
         taken, _, replies = run(stored, "CHECKPOINT;")
         assert replies == ["ok checkpoint"], replies
         report("and a checkpoint", stored)
-        print(f"{'':>24} the checkpoint itself: {taken - opened:.4f} seconds behind the opening", flush=True)
+        print(f"{'':>24} the checkpoint itself: {taken - opened:.4f} seconds after the opening", flush=True)
         asked = "QUERY VERSION 1 SELECT a, b FROM t WHERE a = 0;"
         assert run(plain, asked)[2] == run(stored, asked)[2], "a query is answered otherwise"
 PYTHON

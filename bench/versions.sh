@@ -3,7 +3,7 @@
 # question asked on version 1 and on the last one. The versions are renames with their inverses (a table and a column in turn),
 # ADD and DROP COLUMN in turn, renames of another table, PARTITION and MERGE in turn, each the other's inverse (a question has one piece and
 # two in turn, since of those that both make of it the dead ones are left out on the way), or cuts: a PARTITION with MERGE as its inverse, and a
-# RENAME of the table that is cut off (a question has one piece more behind each cut). Prints the seconds of the load with
+# RENAME of the table that is cut off (a question has one piece more after each cut). Prints the seconds of the load with
 # its operators, the seconds that each of the two questions adds, and the most memory in KiB. A table is stored once over the versions that
 # do not touch it, so memory grows as V + n times the versions that do; a question reads it once for all neighbouring versions that do not touch it.
 set -eu

@@ -2,10 +2,10 @@
 use Rattle.std.proofs.Common.{◌≡◌, ℕ, [], ◌∷◌, pos, codes, refl}
 use Rattle.std.specs.Fmt.{digits}
 use Rattle.relations.specs.Spans.{span}
-use Rattle.prima_base.specs.declared.values.Value.TheVariants.{Int}
-use Rattle.cond_expr.specs.declared.exprs.Whose.TheVariants.{Atom}
-use Rattle.cond_expr.specs.declared.exprs.CmpOp.{CmpOp}
-use Rattle.cond_expr.specs.declared.exprs.CmpOp.TheVariants.{Gt, Lt}
+use Rattle.prima_base.specs.declared.value.Value.TheVariants.{Int}
+use Rattle.cond_expr.specs.declared.expr.Whose.TheVariants.{Atom}
+use Rattle.cond_expr.specs.declared.expr.CmpOp.{CmpOp}
+use Rattle.cond_expr.specs.declared.expr.CmpOp.TheVariants.{Gt, Lt}
 use Rattle.cond_expr.specs.Trees.{Tree, Test, column, constant, compared, all_of, a_test, no_tests}
 use Rattle.piece_texts.specs.ExplainedPieces.{PlainExplained}
 use Rattle.answer_text.specs.Texts.{piece_head, explain_text}
@@ -29,7 +29,8 @@ told = record {
   };
 }
 
-one_piece : explain_text (told ∷ []) ≡ codes "piece 1 2 1 1 1 SELECT a = t0.a FROM t WHERE t0.a > 5 AND t0.a < 10\nend 1\n"
+one_piece : explain_text (told ∷ [])
+    ≡ codes "piece 1 2 1 1 1 SELECT a = t0.a FROM t WHERE t0.a > 5 AND t0.a < 10\nend 1\n"
 unfolding explain_text piece_head digits
 one_piece = refl
 

@@ -4,7 +4,8 @@ use Rattle.prima_io.specs.Causes.{Rose}
 use Rattle.answer_text.specs.declared.stop.Stop.{Stop}
 use Rattle.answer_text.specs.declared.stop.Stop.TheVariants.{WriteFault, NoMemory}
 
--- the sink's count has not fallen; a stop by the sink has raised it, and all else has left it as it was
+-- the sink's count has not fallen; a stop by the sink has raised it, and all else has left it as it
+-- was
 pub record HasStopCause {T : Type 0} (before now : ℕ) (result : Result T Stop) : Type 0 where
   pub later : before ≤ now
   pub kept : OnOk result (now ≡ before)

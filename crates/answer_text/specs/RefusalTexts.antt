@@ -1,14 +1,14 @@
 -- The lines of refusals: the number of each, and the values that it keeps.
 use Rattle.std.specs.Prelude.{ℕ, List, [], ◌∷◌, ◌++◌, codes, decimal}
 use Rattle.std.specs.List.{flat_map}
-use Rattle.prima_base.specs.declared.refusals.What.{What}
-use Rattle.prima_base.specs.declared.refusals.What.TheVariants as what
-use Rattle.prima_base.specs.declared.refusals.OpKind.{OpKind}
-use Rattle.prima_base.specs.declared.refusals.OpKind.TheVariants as kind
-use Rattle.prima_base.specs.declared.refusals.OpRefusal.{OpRefusal}
-use Rattle.prima_base.specs.declared.refusals.OpRefusal.TheVariants as op
-use Rattle.prima_base.specs.declared.refusals.Refusal.{Refusal}
-use Rattle.prima_base.specs.declared.refusals.Refusal.TheVariants as refusal
+use Rattle.prima_base.specs.declared.refusal.What.{What}
+use Rattle.prima_base.specs.declared.refusal.What.TheVariants as what
+use Rattle.prima_base.specs.declared.refusal.OpKind.{OpKind}
+use Rattle.prima_base.specs.declared.refusal.OpKind.TheVariants as kind
+use Rattle.prima_base.specs.declared.refusal.OpRefusal.{OpRefusal}
+use Rattle.prima_base.specs.declared.refusal.OpRefusal.TheVariants as op
+use Rattle.prima_base.specs.declared.refusal.Refusal.{Refusal}
+use Rattle.prima_base.specs.declared.refusal.Refusal.TheVariants as refusal
 
 -- a value that a refusal keeps: a number, or words
 pub data Kept : Type 0 where
@@ -127,4 +127,5 @@ kept_of (refusal.TooWide measure) = number measure ∷ []
 
 -- `error`, the number and the kept values
 unfoldable pub refusal_text : Refusal → List ℕ
-refusal_text r = codes "error " ++ decimal (number_of r) ++ flat_map kept_text (kept_of r) ++ codes "\n"
+refusal_text r = codes "error " ++ decimal (number_of r) ++ flat_map kept_text (kept_of r)
+    ++ codes "\n"

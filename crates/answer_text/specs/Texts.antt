@@ -1,11 +1,12 @@
 -- The lines of replies, by their bytes. Each is ended by a line feed.
-use Rattle.std.specs.Prelude.{ℕ, Bool, true, false, List, [], ◌∷◌, ◌++◌, ◌+◌, ◌==◌, length, map, codes, decimal, Option, Some, None, if◌then◌else◌}
+use Rattle.std.specs.Prelude.{ℕ, Bool, true, false, List, [], ◌∷◌, ◌++◌, ◌+◌, ◌==◌, length, map}
+use Rattle.std.specs.Prelude.{codes, decimal, Option, Some, None, if◌then◌else◌}
 use Rattle.std.specs.List.{flat_map}
 use Rattle.std.specs.Option.{unwrap_or}
 use Rattle.std.specs.FinMap.{entries}
 use Rattle.relations.specs.Timed.{Entry}
-use Rattle.prima_base.specs.declared.periods.TheConstants.{FOREVER}
-use Rattle.prima_base.specs.declared.values.Value.{Value}
+use Rattle.prima_base.specs.declared.period.TheConstants.{FOREVER}
+use Rattle.prima_base.specs.declared.value.Value.{Value}
 use Rattle.prima_base.specs.Columns.{Column}
 use Rattle.schema_catalog.specs.Tables.{Tables}
 use Rattle.smo_types.specs.Operators.{Operator}
@@ -19,11 +20,13 @@ use Rattle.piece_texts.specs.PieceTexts.{piece_text}
 
 -- so many rows were gained and lost at this moment
 unfoldable pub changed_text : ℕ → ℕ → ℕ → List ℕ
-changed_text stamp gained lost = codes "ok " ++ decimal stamp ++ codes " +" ++ decimal gained ++ codes " -" ++ decimal lost ++ codes "\n"
+changed_text stamp gained lost = codes "ok " ++ decimal stamp ++ codes " +" ++ decimal gained
+    ++ codes " -" ++ decimal lost ++ codes "\n"
 
 -- this version was made at this moment
 unfoldable pub evolved_text : ℕ → ℕ → List ℕ
-evolved_text stamp version = codes "ok " ++ decimal stamp ++ codes " version " ++ decimal version ++ codes "\n"
+evolved_text stamp version = codes "ok " ++ decimal stamp ++ codes " version " ++ decimal version
+    ++ codes "\n"
 
 -- changes, or the version that was made
 abbrev pub made_text : ℕ → ℕ → ℕ → Option ℕ → List ℕ
@@ -46,7 +49,7 @@ not_a_journal_text place = codes "fault 6 " ++ decimal place ++ codes "\n"
 abbrev pub end_text : ℕ → List ℕ
 end_text end = if end == FOREVER then codes "now" else decimal end
 
--- the values of a row, each behind a space
+-- the values of a row, each after a space
 abbrev pub values_text : List Value → List ℕ
 values_text values = flat_map (λ v. codes " " ++ value_text v) values
 
@@ -55,11 +58,11 @@ abbrev pub head_text : Bool → ℕ → ℕ → List ℕ
 head_text false start end = codes "row"
 head_text true start end = codes "row " ++ decimal start ++ codes " " ++ end_text end
 
--- a row, behind its period where the periods are told
+-- a row, after its period where the periods are told
 abbrev pub row_text : Bool → Entry (List Value) → List ℕ
 row_text told e = head_text told e.period.start e.period.end ++ values_text e.item ++ codes "\n"
 
--- the line behind the rows
+-- the line after the rows
 abbrev pub count_text : ℕ → List ℕ
 count_text count = codes "end " ++ decimal count ++ codes "\n"
 
@@ -69,11 +72,13 @@ listing_text told entries = flat_map (row_text told) entries ++ count_text (leng
 
 -- ---- the pieces of a query
 
--- the head of a piece's line: the moments in which it is run, the branch and the atom that it is run for, and the version that it reads
+-- the head of a piece's line: the moments in which it is run, the branch and the atom that it is
+-- run for, and the version that it reads
 unfoldable pub piece_head : PlainExplained → List ℕ
 piece_head e =
     codes "piece " ++ decimal e.period.start ++ codes " " ++ end_text e.period.end
-    ++ codes " " ++ decimal e.branch ++ codes " " ++ decimal e.atom ++ codes " " ++ decimal e.version ++ codes " "
+    ++ codes " " ++ decimal e.branch ++ codes " " ++ decimal e.atom ++ codes " "
+    ++ decimal e.version ++ codes " "
 
 abbrev pub explained_text : PlainExplained → List ℕ
 explained_text e = piece_head e ++ (piece_text e.piece ++ codes "\n")
@@ -84,7 +89,7 @@ explain_text list = flat_map explained_text list ++ count_text (length list)
 
 -- ---- versions
 
--- operators, each behind THEN
+-- operators, each after THEN
 abbrev pub more_operators : List Operator → List ℕ
 more_operators [] = []
 more_operators (op ∷ ops) = codes " THEN " ++ operator_text op ++ more_operators ops
@@ -94,31 +99,37 @@ abbrev pub inverse_text : List Operator → List ℕ
 inverse_text [] = []
 inverse_text (op ∷ ops) = codes " INVERSE " ++ operator_text op ++ more_operators ops
 
--- the head of a version's line: its number, and the moments from which and up to which it is in force
+-- the head of a version's line: its number, and the moments from which and up to which it is in
+-- force
 unfoldable pub version_head : ℕ → ℕ → ℕ → List ℕ
-version_head k start end = codes "version " ++ decimal k ++ codes " " ++ decimal start ++ codes " " ++ end_text end
+version_head k start end = codes "version " ++ decimal k ++ codes " " ++ decimal start ++ codes " "
+    ++ end_text end
 
 -- version 0, which no operator made
 abbrev pub first_version_text : ℕ → List ℕ
 first_version_text end = version_head 0 0 end ++ codes "\n"
 
 abbrev pub version_text : ℕ → PlainVersion → ℕ → List ℕ
-version_text k v end = version_head k v.stamp end ++ (codes " " ++ (operator_text v.op ++ (inverse_text v.inverse ++ codes "\n")))
+version_text k v end = version_head k v.stamp end
+    ++ (codes " " ++ (operator_text v.op ++ (inverse_text v.inverse ++ codes "\n")))
 
 -- versions, the first of which has this number: each ends where the first of those after it begins
 abbrev pub version_texts : ℕ → List PlainVersion → List ℕ
 version_texts k [] = []
-version_texts k (v ∷ versions) = version_text k v (begins_at versions 1) ++ version_texts (k + 1) versions
+version_texts k (v ∷ versions) = version_text k v (begins_at versions 1)
+    ++ version_texts (k + 1) versions
 
 -- all versions, and then how many they are
 unfoldable pub versions_text : List PlainVersion → List ℕ
-versions_text versions = first_version_text (begins_at versions 1) ++ (version_texts 1 versions ++ count_text (length versions + 1))
+versions_text versions = first_version_text (begins_at versions 1)
+    ++ (version_texts 1 versions ++ count_text (length versions + 1))
 
 -- ---- tables
 
 -- a table with its columns
 abbrev pub table_text : List ℕ × List Column → List ℕ
-table_text t = codes "table " ++ (t.0 ++ (codes " " ++ (listed (map column_text t.1) ++ codes "\n")))
+table_text t = codes "table " ++ (t.0 ++ (codes " "
+    ++ (listed (map column_text t.1) ++ codes "\n")))
 
 abbrev pub tables_text : List (List ℕ × List Column) → List ℕ
 tables_text [] = []
@@ -133,11 +144,13 @@ schema_text tables = tables_text (entries tables) ++ count_text (length (entries
 -- the line of a lifeline: its table, its first version and its last, its keys, and its cells
 unfoldable pub size_text : List ℕ → ℕ → ℕ → ℕ → ℕ → List ℕ
 size_text table first last keys cells =
-    codes "size " ++ table ++ codes " " ++ decimal first ++ codes " " ++ decimal last ++ codes " " ++ decimal keys ++ codes " " ++ decimal cells ++ codes "\n"
+    codes "size " ++ table ++ codes " " ++ decimal first ++ codes " " ++ decimal last ++ codes " "
+    ++ decimal keys ++ codes " " ++ decimal cells ++ codes "\n"
 
 -- a lifeline; the last version of one that lives is this one, the newest of all
 abbrev pub lifeline_text : ℕ → Size → List ℕ
-lifeline_text newest s = size_text s.table s.first (unwrap_or s.last newest) s.keys (cells_in s.columns)
+lifeline_text newest s = size_text s.table s.first (unwrap_or s.last newest) s.keys
+    (cells_in s.columns)
 
 -- all lifelines, where this version is the newest, and then how many they are
 unfoldable pub sizes_text : ℕ → List Size → List ℕ

@@ -2,7 +2,7 @@
 
 ghost use Rattle.std.specs.Prelude.{◌≡◌, ◌++◌, ℕ, List, OnOk, OnErr, IfOk, decimal, Err};
 ghost use Rattle.std.specs.Io.KnownBytes.{Appends};
-ghost use Rattle.prima_io.specs.Moves.{AppendsFront, AppendsLess};
+ghost use Rattle.prima_io.specs.Moves.{AppendsPrefix, AppendsLess};
 ghost use Rattle.answer_text.specs.Causes.{HasStopCause};
 ghost use Rattle.answer_text.specs.declared.stop.Stop.TheVariants as stop;
 ghost use Rattle.answer_text.specs.Texts.{end_text, count_text};
@@ -21,7 +21,8 @@ pub(crate) fn add(line: &mut Vec<u8>, piece: &[u8]) -> Result<(), NoMemory>
     put(line, piece)
 }
 
-/// Adds a number in decimal digits. The one error, here and below, is `NoMemory`, where memory runs out.
+/// Adds a number in decimal digits. The one error, here and below, is `NoMemory`, where memory runs
+/// out.
 pub(crate) fn add_number(line: &mut Vec<u8>, number: u64) -> Result<(), NoMemory>
     ensures { OnOk result (line.new.items ≡ line.old.items ++ decimal number) }
 {
@@ -45,12 +46,16 @@ pub(crate) fn add_count(line: &mut Vec<u8>, count: u64) -> Result<(), NoMemory>
     put(line, text.held())
 }
 
-/// Puts lines that were made in memory, or stops where they were not. `WriteFault` comes only where the sink's count of
-/// faults rose; a front of the lines, and not all of them, was then put. Of lines that found no memory nothing was put.
+/// Puts lines that were made in memory, or stops where they were not. `WriteFault` comes only where
+/// the sink's count of faults rose; a prefix of the lines, and not all of them, was then put. Of
+/// lines that found no memory nothing was put.
 pub(crate) fn put_lines<K: Sink>(sink: &mut K, lines: Result<Vec<u8>, NoMemory>) -> Result<(), Stop>
-    ensures all { (text : List ℕ) → IfOk lines (λ l. l.items ≡ text) → OnOk result (Appends (K.written sink.old) (K.written sink.new) text) }
-    ensures part { (text : List ℕ) → IfOk lines (λ l. l.items ≡ text) → OnErr result (AppendsFront (K.written sink.old) (K.written sink.new) text) }
-    ensures less { (text : List ℕ) → IfOk lines (λ l. l.items ≡ text) → result ≡ Err stop.WriteFault → AppendsLess (K.written sink.old) (K.written sink.new) text }
+    ensures all { (text : List ℕ) → IfOk lines (λ l. l.items ≡ text)
+        → OnOk result (Appends (K.written sink.old) (K.written sink.new) text) }
+    ensures part { (text : List ℕ) → IfOk lines (λ l. l.items ≡ text)
+        → OnErr result (AppendsPrefix (K.written sink.old) (K.written sink.new) text) }
+    ensures less { (text : List ℕ) → IfOk lines (λ l. l.items ≡ text) → result ≡ Err stop.WriteFault
+        → AppendsLess (K.written sink.old) (K.written sink.new) text }
     ensures unsaid { result ≡ Err stop.NoMemory → K.written sink.new ≡ K.written sink.old }
     ensures cause { HasStopCause (K.faults sink.old) (K.faults sink.new) result }
 {

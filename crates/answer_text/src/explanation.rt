@@ -1,9 +1,10 @@
-//! The lines of EXPLAIN: each piece that a query runs, with its moments, its branch, its atom and its version.
+//! The lines of EXPLAIN: each piece that a query runs, with its moments, its branch, its atom and
+//! its version.
 
 ghost use Rattle.std.specs.Prelude.{◌≡◌, ◌++◌, Err, IfOk, OnOk, OnErr};
 ghost use Rattle.std.specs.List.{flat_map};
 ghost use Rattle.std.specs.Io.KnownBytes.{Appends};
-ghost use Rattle.prima_io.specs.Moves.{AppendsFront, AppendsLess};
+ghost use Rattle.prima_io.specs.Moves.{AppendsPrefix, AppendsLess};
 ghost use Rattle.piece_texts.specs.ExplainedPieces.{explained_of, all_explained};
 ghost use Rattle.piece_texts.specs.PieceTexts.{piece_text};
 ghost use Rattle.answer_text.specs.Causes.{HasStopCause};
@@ -21,7 +22,8 @@ use std::alloc::Global;
 // What stands before the text of a piece.
 #[tactic(auto, unfolding(crate::specs::Texts::piece_head))]
 fn add_head(line: &mut Vec<u8>, explained: &Explained) -> Result<(), NoMemory>
-    ensures { OnOk result (line.new.items ≡ line.old.items ++ piece_head (explained_of explained.now)) }
+    ensures { OnOk result (line.new.items ≡ line.old.items
+        ++ piece_head (explained_of explained.now)) }
 {
     add(line, b"piece ")?;
     add_number(line, explained.period.start())?;
@@ -38,7 +40,8 @@ fn add_head(line: &mut Vec<u8>, explained: &Explained) -> Result<(), NoMemory>
 
 // The line of a piece.
 fn add_explained(alloc: Global, lines: &mut Vec<u8>, explained: &Explained) -> Result<(), NoMemory>
-    ensures { OnOk result (lines.new.items ≡ lines.old.items ++ explained_text (explained_of explained.now)) }
+    ensures { OnOk result (lines.new.items ≡ lines.old.items
+        ++ explained_text (explained_of explained.now)) }
 {
     add_head(lines, explained)?;
     let text = piece_text(alloc, &explained.piece)?;
@@ -48,7 +51,8 @@ fn add_explained(alloc: Global, lines: &mut Vec<u8>, explained: &Explained) -> R
 
 // The lines of all these pieces.
 fn add_all(alloc: Global, lines: &mut Vec<u8>, list: &[Explained]) -> Result<(), NoMemory>
-    ensures { OnOk result (lines.new.items ≡ lines.old.items ++ flat_map explained_text (all_explained list.now)) }
+    ensures { OnOk result (lines.new.items ≡ lines.old.items
+        ++ flat_map explained_text (all_explained list.now)) }
 {
     for explained in list {
         add_explained(alloc, lines, explained)?;
@@ -56,8 +60,8 @@ fn add_all(alloc: Global, lines: &mut Vec<u8>, list: &[Explained]) -> Result<(),
     Ok(())
 }
 
-/// A line for each piece, `piece START END BRANCH ATOM VERSION TEXT`, and then how many they are. The one error is
-/// `NoMemory`, where memory runs out.
+/// A line for each piece, `piece START END BRANCH ATOM VERSION TEXT`, and then how many they are.
+/// The one error is `NoMemory`, where memory runs out.
 #[tactic(auto, unfolding(crate::specs::Texts::explain_text))]
 pub fn explain_text(alloc: Global, list: &[Explained]) -> Result<Vec<u8>, NoMemory>
     ensures { IfOk result (λ lines. lines.items ≡ explain_text (all_explained list.now)) }
@@ -68,12 +72,16 @@ pub fn explain_text(alloc: Global, list: &[Explained]) -> Result<Vec<u8>, NoMemo
     Ok(lines)
 }
 
-/// Puts the lines of `explain_text`. A failing sink's count has risen; a front of the lines, and not all of them, was then
-/// put. Where memory ran out nothing was put.
+/// Puts the lines of `explain_text`. A failing sink's count has risen; a prefix of the lines, and
+/// not all of them, was then put. Where memory ran out nothing was put.
 pub fn put_explained<K: Sink>(alloc: Global, sink: &mut K, list: &[Explained]) -> Result<(), Stop>
-    ensures all { OnOk result (Appends (K.written sink.old) (K.written sink.new) (explain_text (all_explained list.now))) }
-    ensures part { OnErr result (AppendsFront (K.written sink.old) (K.written sink.new) (explain_text (all_explained list.now))) }
-    ensures less { result ≡ Err stop.WriteFault → AppendsLess (K.written sink.old) (K.written sink.new) (explain_text (all_explained list.now)) }
+    ensures all { OnOk result (Appends (K.written sink.old) (K.written sink.new)
+        (explain_text (all_explained list.now))) }
+    ensures part { OnErr result (AppendsPrefix (K.written sink.old) (K.written sink.new)
+        (explain_text (all_explained list.now))) }
+    ensures less { result ≡ Err stop.WriteFault
+        → AppendsLess (K.written sink.old) (K.written sink.new)
+        (explain_text (all_explained list.now)) }
     ensures unsaid { result ≡ Err stop.NoMemory → K.written sink.new ≡ K.written sink.old }
     ensures cause { HasStopCause (K.faults sink.old) (K.faults sink.new) result }
 {

@@ -1,5 +1,6 @@
-//! The lines of replies: what is answered to a query, to a command and to a checkpoint, the pieces that a query runs, the
-//! versions, the tables of a schema, the lifelines of tables, and the refusals. Each is put into a sink.
+//! The lines of replies: what is answered to a query, to a command and to a checkpoint, the pieces
+//! that a query runs, the versions, the tables of a schema, the lifelines of tables, and the
+//! refusals. Each is put into a sink.
 //!
 //! `specs/Texts.antt` and `specs/RefusalTexts.antt` say each line by its bytes.
 #![tactic(auto)]
@@ -13,7 +14,7 @@ mod refusal;
 mod reply;
 mod schema;
 mod stop;
-mod versions;
+mod version;
 
 pub use explanation::{explain_text, put_explained};
 pub use lifeline::{put_count, put_size};
@@ -23,4 +24,4 @@ pub use refusal::put_refusal;
 pub use reply::{put_changed, put_checkpoint, put_evolved, put_not_a_journal, put_wrong_words};
 pub use schema::put_schema;
 pub use stop::Stop;
-pub use versions::put_versions;
+pub use version::put_versions;

@@ -36,9 +36,9 @@ fn size_line(table: &Name, first: u32, last: u32, keys: u64, cells: u64) -> Line
     line
 }
 
-/// Puts the line of a lifeline: its table, its first version and its last, and how many keys and cells are stored of it.
-/// It takes no memory. `Failed`, here and below, comes only where the sink's count of faults rose; a prefix of the line,
-/// and not all of it, was then put.
+/// Puts the line of a lifeline: its table, its first version and its last, and how many keys and
+/// cells are stored of it. It takes no memory. `Failed`, here and below, comes only where the
+/// sink's count of faults rose; a prefix of the line, and not all of it, was then put.
 pub fn put_size<K: Sink>(
     sink: &mut K,
     table: &Name,
@@ -47,18 +47,21 @@ pub fn put_size<K: Sink>(
     keys: u64,
     cells: u64,
 ) -> Result<(), Failed>
-    ensures all { OnOk result (Appends (K.written sink.old) (K.written sink.new) (size_text table.now first last keys cells)) }
-    ensures part { OnErr result (AppendsLess (K.written sink.old) (K.written sink.new) (size_text table.now first last keys cells)) }
+    ensures all { OnOk result (Appends (K.written sink.old) (K.written sink.new)
+        (size_text table.now first last keys cells)) }
+    ensures part { OnErr result (AppendsLess (K.written sink.old) (K.written sink.new)
+        (size_text table.now first last keys cells)) }
     ensures cause { HasCause (K.faults sink.old) (K.faults sink.new) result }
 {
     let mut line = size_line(table, first, last, keys, cells);
     line.flush(sink)
 }
 
-/// Puts the line behind those of all lifelines, which are so many. It takes no memory.
+/// Puts the line after those of all lifelines, which are so many. It takes no memory.
 pub fn put_count<K: Sink>(sink: &mut K, count: u64) -> Result<(), Failed>
     ensures all { OnOk result (Appends (K.written sink.old) (K.written sink.new) (count_text count)) }
-    ensures part { OnErr result (AppendsLess (K.written sink.old) (K.written sink.new) (count_text count)) }
+    ensures part { OnErr result (AppendsLess (K.written sink.old) (K.written sink.new)
+        (count_text count)) }
     ensures cause { HasCause (K.faults sink.old) (K.faults sink.new) result }
 {
     let mut line = Line::counting(count);

@@ -1,6 +1,7 @@
 //! A line of a reply, gathered in memory and put when its room is full or it ends.
 
-ghost use Rattle.std.specs.Prelude.{◌≡◌, ◌+◌, ◌≤◌, ◌++◌, [], List, ℕ, length, take, OnOk, OnErr, decimal};
+ghost use Rattle.std.specs.Prelude.{◌≡◌, ◌+◌, ◌≤◌, ◌++◌, [], List, ℕ, length, take, OnOk, OnErr};
+ghost use Rattle.std.specs.Prelude.{decimal};
 ghost use Rattle.std.specs.Io.KnownBytes.{Appends};
 ghost use Rattle.prima_io.specs.Causes.{HasCause};
 ghost use Rattle.prima_io.specs.Moves.{AppendsLess};
@@ -102,7 +103,7 @@ impl Line {
     }
 
     /// Puts what the line holds, which is then empty. `Failed` comes only where the sink's count of
-    /// faults rose; a front of what was held, and not all of it, was then put.
+    /// faults rose; a prefix of what was held, and not all of it, was then put.
     pub(crate) fn flush<K: Sink>(&mut self, sink: &mut K) -> Result<(), Failed>
         ensures emptied { self.new ≡ [] }
         ensures all { OnOk result (Appends (K.written sink.old) (K.written sink.new) self.old) }
@@ -114,11 +115,12 @@ impl Line {
         done
     }
 
-    /// Puts what the line holds where fewer than `room` bytes, at most 4,096, could be added. `Failed`
-    /// is that of `flush`.
+    /// Puts what the line holds where fewer than `room` bytes, at most 4,096, could be added.
+    /// `Failed` is that of `flush`.
     pub(crate) fn make_room<K: Sink>(&mut self, sink: &mut K, room: usize) -> Result<(), Failed>
         requires { room ≤ 4096 }
-        ensures all { OnOk result (Gathers (K.written sink.old) self.old (K.written sink.new) self.new []) }
+        ensures all { OnOk result (Gathers (K.written sink.old) self.old (K.written sink.new)
+            self.new []) }
         ensures room { OnOk result (length self.new + room ≤ 4096) }
         ensures part { OnErr result (AppendsLess (K.written sink.old) (K.written sink.new) self.old) }
         ensures emptied { OnErr result (self.new ≡ []) }
@@ -130,26 +132,30 @@ impl Line {
         Ok(())
     }
 
-    /// Adds a piece, and puts what does not fit. `Failed` comes only where the sink's count of faults
-    /// rose; a front of what was held and of the piece, and not all of it, was then put, and the line
-    /// is empty.
+    /// Adds a piece, and puts what does not fit. `Failed` comes only where the sink's count of
+    /// faults rose; a prefix of what was held and of the piece, and not all of it, was then put,
+    /// and the line is empty.
     pub(crate) fn push<K: Sink>(&mut self, sink: &mut K, piece: &[u8]) -> Result<(), Failed>
-        ensures all { OnOk result (Gathers (K.written sink.old) self.old (K.written sink.new) self.new piece.now) }
-        ensures part { OnErr result (AppendsLess (K.written sink.old) (K.written sink.new) (self.old ++ piece.now)) }
+        ensures all { OnOk result (Gathers (K.written sink.old) self.old (K.written sink.new)
+            self.new piece.now) }
+        ensures part { OnErr result (AppendsLess (K.written sink.old) (K.written sink.new)
+            (self.old ++ piece.now)) }
         ensures emptied { OnErr result (self.new ≡ []) }
         ensures cause { HasCause (K.faults sink.old) (K.faults sink.new) result }
     {
         if piece.len() > self.room() {
-            return self.push_behind(sink, piece);
+            return self.push_after(sink, piece);
         }
         self.add(piece);
         Ok(())
     }
 
     // Puts what is held, and then holds the piece, or puts it too where it is longer than a line.
-    fn push_behind<K: Sink>(&mut self, sink: &mut K, piece: &[u8]) -> Result<(), Failed>
-        ensures all { OnOk result (Gathers (K.written sink.old) self.old (K.written sink.new) self.new piece.now) }
-        ensures part { OnErr result (AppendsLess (K.written sink.old) (K.written sink.new) (self.old ++ piece.now)) }
+    fn push_after<K: Sink>(&mut self, sink: &mut K, piece: &[u8]) -> Result<(), Failed>
+        ensures all { OnOk result (Gathers (K.written sink.old) self.old (K.written sink.new)
+            self.new piece.now) }
+        ensures part { OnErr result (AppendsLess (K.written sink.old) (K.written sink.new)
+            (self.old ++ piece.now)) }
         ensures emptied { OnErr result (self.new ≡ []) }
         ensures cause { HasCause (K.faults sink.old) (K.faults sink.new) result }
     {

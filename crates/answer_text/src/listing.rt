@@ -10,26 +10,31 @@ ghost use Rattle.prima_base.specs.Order.{shown};
 ghost use Rattle.prima_base.specs.Timed.{entry_of, entries_of};
 ghost use Rattle.answer_text.specs.Gathering.{Gathers};
 ghost use Rattle.smo_parse.specs.TreeTexts.{doubled, value_text};
-ghost use Rattle.answer_text.specs.Texts.{values_text, head_text, row_text, count_text, listing_text};
+ghost use Rattle.answer_text.specs.Texts.{values_text, head_text, row_text, count_text};
+ghost use Rattle.answer_text.specs.Texts.{listing_text};
 
 use crate::line::Line;
 use itoa::Buffer;
 use prima_base::{Period, TimedRow, Val};
 use prima_io::{Failed, Sink};
 
-/// The answer to a query: its rows, each with a period in which it holds, ascending by row and start. The periods are
-/// told with the rows (`periods`), but for a query that asks of one moment. Texts of plain columns are lent by the archive.
+/// The answer to a query: its rows, each with a period in which it holds, ascending by row and
+/// start. The periods are told with the rows (`periods`), but for a query that asks of one moment.
+/// Texts of plain columns are borrowed by the archive.
 #[derive(Drop)]
 pub struct Listing<'a> {
     pub rows: Vec<TimedRow<'a>>,
     pub periods: bool,
 }
 
-/// Puts the rows, a line each, behind their periods where these are told, and then the line that counts them. It takes no
-/// memory. `Failed` comes only where the sink's count of faults rose; a prefix of the text, and not all of it, was then put.
+/// Puts the rows, a line each, after their periods where these are told, and then the line that
+/// counts them. It takes no memory. `Failed` comes only where the sink's count of faults rose; a
+/// prefix of the text, and not all of it, was then put.
 pub fn put_listing<K: Sink>(sink: &mut K, listing: &Listing<'_>) -> Result<(), Failed>
-    ensures all { OnOk result (Appends (K.written sink.old) (K.written sink.new) (listing_text listing.now.periods (entries_of listing.now.rows.items))) }
-    ensures part { OnErr result (AppendsLess (K.written sink.old) (K.written sink.new) (listing_text listing.now.periods (entries_of listing.now.rows.items))) }
+    ensures all { OnOk result (Appends (K.written sink.old) (K.written sink.new)
+        (listing_text listing.now.periods (entries_of listing.now.rows.items))) }
+    ensures part { OnErr result (AppendsLess (K.written sink.old) (K.written sink.new)
+        (listing_text listing.now.periods (entries_of listing.now.rows.items))) }
     ensures cause { HasCause (K.faults sink.old) (K.faults sink.new) result }
 {
     put_rows(sink, &listing.rows, listing.periods)
@@ -37,8 +42,10 @@ pub fn put_listing<K: Sink>(sink: &mut K, listing: &Listing<'_>) -> Result<(), F
 
 #[tactic(auto, unfolding(crate::specs::Texts::listing_text))]
 fn put_rows<K: Sink>(sink: &mut K, rows: &[TimedRow<'_>], told: bool) -> Result<(), Failed>
-    ensures all { OnOk result (Appends (K.written sink.old) (K.written sink.new) (listing_text told (entries_of rows.now))) }
-    ensures part { OnErr result (AppendsLess (K.written sink.old) (K.written sink.new) (listing_text told (entries_of rows.now))) }
+    ensures all { OnOk result (Appends (K.written sink.old) (K.written sink.new)
+        (listing_text told (entries_of rows.now))) }
+    ensures part { OnErr result (AppendsLess (K.written sink.old) (K.written sink.new)
+        (listing_text told (entries_of rows.now))) }
     ensures cause { HasCause (K.faults sink.old) (K.faults sink.new) result }
 {
     let mut line = Line::new();
@@ -53,8 +60,10 @@ fn push_rows<K: Sink>(
     rows: &[TimedRow<'_>],
     told: bool,
 ) -> Result<(), Failed>
-    ensures all { OnOk result (Gathers (K.written sink.old) line.old (K.written sink.new) line.new (flat_map (row_text told) (entries_of rows.now))) }
-    ensures part { OnErr result (AppendsLess (K.written sink.old) (K.written sink.new) (line.old ++ flat_map (row_text told) (entries_of rows.now))) }
+    ensures all { OnOk result (Gathers (K.written sink.old) line.old (K.written sink.new) line.new
+        (flat_map (row_text told) (entries_of rows.now))) }
+    ensures part { OnErr result (AppendsLess (K.written sink.old) (K.written sink.new)
+        (line.old ++ flat_map (row_text told) (entries_of rows.now))) }
     ensures cause { HasCause (K.faults sink.old) (K.faults sink.new) result }
 {
     for row in rows {
@@ -64,7 +73,8 @@ fn push_rows<K: Sink>(
 }
 
 fn push_count<K: Sink>(line: &mut Line, sink: &mut K, count: u64) -> Result<(), Failed>
-    ensures all { OnOk result (Gathers (K.written sink.old) line.old (K.written sink.new) line.new (count_text count)) }
+    ensures all { OnOk result (Gathers (K.written sink.old) line.old (K.written sink.new) line.new
+        (count_text count)) }
     ensures part { OnErr result (AppendsLess (K.written sink.old) (K.written sink.new) line.old) }
     ensures cause { HasCause (K.faults sink.old) (K.faults sink.new) result }
 {
@@ -80,8 +90,10 @@ fn push_row<K: Sink>(
     row: &TimedRow<'_>,
     told: bool,
 ) -> Result<(), Failed>
-    ensures all { OnOk result (Gathers (K.written sink.old) line.old (K.written sink.new) line.new (row_text told (entry_of row.now))) }
-    ensures part { OnErr result (AppendsLess (K.written sink.old) (K.written sink.new) (line.old ++ row_text told (entry_of row.now))) }
+    ensures all { OnOk result (Gathers (K.written sink.old) line.old (K.written sink.new) line.new
+        (row_text told (entry_of row.now))) }
+    ensures part { OnErr result (AppendsLess (K.written sink.old) (K.written sink.new)
+        (line.old ++ row_text told (entry_of row.now))) }
     ensures cause { HasCause (K.faults sink.old) (K.faults sink.new) result }
 {
     push_head(line, sink, row.period, told)?;
@@ -96,7 +108,8 @@ fn push_head<K: Sink>(
     period: Period,
     told: bool,
 ) -> Result<(), Failed>
-    ensures all { OnOk result (Gathers (K.written sink.old) line.old (K.written sink.new) line.new (head_text told period.start period.end)) }
+    ensures all { OnOk result (Gathers (K.written sink.old) line.old (K.written sink.new) line.new
+        (head_text told period.start period.end)) }
     ensures part { OnErr result (AppendsLess (K.written sink.old) (K.written sink.new) line.old) }
     ensures cause { HasCause (K.faults sink.old) (K.faults sink.new) result }
 {
@@ -119,8 +132,10 @@ fn add_head(line: &mut Line, period: Period, told: bool)
 }
 
 fn push_values<K: Sink>(line: &mut Line, sink: &mut K, values: &[Val<'_>]) -> Result<(), Failed>
-    ensures all { OnOk result (Gathers (K.written sink.old) line.old (K.written sink.new) line.new (values_text (map shown values.now))) }
-    ensures part { OnErr result (AppendsLess (K.written sink.old) (K.written sink.new) (line.old ++ values_text (map shown values.now))) }
+    ensures all { OnOk result (Gathers (K.written sink.old) line.old (K.written sink.new) line.new
+        (values_text (map shown values.now))) }
+    ensures part { OnErr result (AppendsLess (K.written sink.old) (K.written sink.new)
+        (line.old ++ values_text (map shown values.now))) }
     ensures cause { HasCause (K.faults sink.old) (K.faults sink.new) result }
 {
     for value in values {
@@ -131,8 +146,10 @@ fn push_values<K: Sink>(line: &mut Line, sink: &mut K, values: &[Val<'_>]) -> Re
 
 // A space and the value.
 fn push_value<K: Sink>(line: &mut Line, sink: &mut K, value: &Val<'_>) -> Result<(), Failed>
-    ensures all { OnOk result (Gathers (K.written sink.old) line.old (K.written sink.new) line.new (codes " " ++ value_text (shown value.now))) }
-    ensures part { OnErr result (AppendsLess (K.written sink.old) (K.written sink.new) (line.old ++ (codes " " ++ value_text (shown value.now)))) }
+    ensures all { OnOk result (Gathers (K.written sink.old) line.old (K.written sink.new) line.new
+        (codes " " ++ value_text (shown value.now))) }
+    ensures part { OnErr result (AppendsLess (K.written sink.old) (K.written sink.new)
+        (line.old ++ (codes " " ++ value_text (shown value.now)))) }
     ensures cause { HasCause (K.faults sink.old) (K.faults sink.new) result }
 {
     match value {
@@ -143,8 +160,10 @@ fn push_value<K: Sink>(line: &mut Line, sink: &mut K, value: &Val<'_>) -> Result
 }
 
 fn push_int<K: Sink>(line: &mut Line, sink: &mut K, n: i64) -> Result<(), Failed>
-    ensures all { OnOk result (Gathers (K.written sink.old) line.old (K.written sink.new) line.new (codes " " ++ signed_decimal n)) }
-    ensures part { OnErr result (AppendsLess (K.written sink.old) (K.written sink.new) (line.old ++ (codes " " ++ signed_decimal n))) }
+    ensures all { OnOk result (Gathers (K.written sink.old) line.old (K.written sink.new) line.new
+        (codes " " ++ signed_decimal n)) }
+    ensures part { OnErr result (AppendsLess (K.written sink.old) (K.written sink.new)
+        (line.old ++ (codes " " ++ signed_decimal n))) }
     ensures cause { HasCause (K.faults sink.old) (K.faults sink.new) result }
 {
     line.make_room(sink, 41)?;
@@ -154,8 +173,10 @@ fn push_int<K: Sink>(line: &mut Line, sink: &mut K, n: i64) -> Result<(), Failed
 }
 
 fn push_text<K: Sink>(line: &mut Line, sink: &mut K, bytes: &[u8]) -> Result<(), Failed>
-    ensures all { OnOk result (Gathers (K.written sink.old) line.old (K.written sink.new) line.new (codes " '" ++ doubled bytes.now ++ codes "'")) }
-    ensures part { OnErr result (AppendsLess (K.written sink.old) (K.written sink.new) (line.old ++ (codes " '" ++ doubled bytes.now ++ codes "'"))) }
+    ensures all { OnOk result (Gathers (K.written sink.old) line.old (K.written sink.new) line.new
+        (codes " '" ++ doubled bytes.now ++ codes "'")) }
+    ensures part { OnErr result (AppendsLess (K.written sink.old) (K.written sink.new)
+        (line.old ++ (codes " '" ++ doubled bytes.now ++ codes "'"))) }
     ensures cause { HasCause (K.faults sink.old) (K.faults sink.new) result }
 {
     line.push(sink, b" '")?;
@@ -165,8 +186,10 @@ fn push_text<K: Sink>(line: &mut Line, sink: &mut K, bytes: &[u8]) -> Result<(),
 
 // Each piece that is pushed ends with a quote, and the next begins with the same quote once more.
 fn push_pieces<K: Sink>(line: &mut Line, sink: &mut K, bytes: &[u8]) -> Result<(), Failed>
-    ensures all { OnOk result (Gathers (K.written sink.old) line.old (K.written sink.new) line.new (doubled bytes.now)) }
-    ensures part { OnErr result (AppendsLess (K.written sink.old) (K.written sink.new) (line.old ++ doubled bytes.now)) }
+    ensures all { OnOk result (Gathers (K.written sink.old) line.old (K.written sink.new) line.new
+        (doubled bytes.now)) }
+    ensures part { OnErr result (AppendsLess (K.written sink.old) (K.written sink.new)
+        (line.old ++ doubled bytes.now)) }
     ensures cause { HasCause (K.faults sink.old) (K.faults sink.new) result }
 {
     let mut start = 0;
@@ -179,10 +202,13 @@ fn push_pieces<K: Sink>(line: &mut Line, sink: &mut K, bytes: &[u8]) -> Result<(
     line.push(sink, &bytes[start..])
 }
 
-// The text with its quotes doubled. Most texts have none: these are looked through many bytes at a time, and pushed whole.
+// The text with its quotes doubled. Most texts have none: these are looked through many bytes at a
+// time, and pushed whole.
 fn push_doubled<K: Sink>(line: &mut Line, sink: &mut K, bytes: &[u8]) -> Result<(), Failed>
-    ensures all { OnOk result (Gathers (K.written sink.old) line.old (K.written sink.new) line.new (doubled bytes.now)) }
-    ensures part { OnErr result (AppendsLess (K.written sink.old) (K.written sink.new) (line.old ++ doubled bytes.now)) }
+    ensures all { OnOk result (Gathers (K.written sink.old) line.old (K.written sink.new) line.new
+        (doubled bytes.now)) }
+    ensures part { OnErr result (AppendsLess (K.written sink.old) (K.written sink.new)
+        (line.old ++ doubled bytes.now)) }
     ensures cause { HasCause (K.faults sink.old) (K.faults sink.new) result }
 {
     if bytes.contains(&b'\'') {

@@ -5,7 +5,8 @@ ghost use Rattle.std.specs.List.{flat_map};
 ghost use Rattle.std.specs.Io.KnownBytes.{Appends};
 ghost use Rattle.prima_io.specs.Causes.{HasCause};
 ghost use Rattle.prima_io.specs.Moves.{AppendsLess};
-ghost use Rattle.answer_text.specs.RefusalTexts.{kept_text, what_word, kind_words, op_number, op_kept, number_of, kept_of, refusal_text};
+ghost use Rattle.answer_text.specs.RefusalTexts.{kept_text, what_word, kind_words, op_number};
+ghost use Rattle.answer_text.specs.RefusalTexts.{op_kept, number_of, kept_of, refusal_text};
 ghost use Rattle.answer_text.specs.KeptValues.{value_text};
 
 use crate::line::Line;
@@ -110,7 +111,8 @@ fn number_of(refusal: &Refusal) -> u64
 
 // What an operator's refusal keeps.
 fn op_values<'a>(refusal: &'a OpRefusal) -> (Kept<'a>, Kept<'a>)
-    ensures { value_text result.0 ++ value_text result.1 ≡ flat_map kept_text (op_kept refusal.now) }
+    ensures { value_text result.0 ++ value_text result.1
+        ≡ flat_map kept_text (op_kept refusal.now) }
 {
     match refusal {
         OpRefusal::NoTable(table)
@@ -128,7 +130,8 @@ fn op_values<'a>(refusal: &'a OpRefusal) -> (Kept<'a>, Kept<'a>)
 
 // What a refusal keeps of names alone, or of one number or word and a number.
 fn values_of<'a>(refusal: &'a Refusal) -> (Kept<'a>, Kept<'a>, Kept<'a>, Kept<'a>)
-    ensures { value_text result.0 ++ value_text result.1 ++ value_text result.2 ++ value_text result.3 ≡ flat_map kept_text (kept_of refusal.now) }
+    ensures { value_text result.0 ++ value_text result.1 ++ value_text result.2
+        ++ value_text result.3 ≡ flat_map kept_text (kept_of refusal.now) }
 {
     let none = Kept::Nothing;
     match refusal {
@@ -230,11 +233,13 @@ fn refusal_line(refusal: &Refusal) -> Line
     line
 }
 
-/// Puts the line of a refusal. It takes no memory. `Failed` comes only where the sink's count of faults
-/// rose; a front of the line, and not all of it, was then put.
+/// Puts the line of a refusal. It takes no memory. `Failed` comes only where the sink's count of
+/// faults rose; a prefix of the line, and not all of it, was then put.
 pub fn put_refusal<K: Sink>(sink: &mut K, refusal: &Refusal) -> Result<(), Failed>
-    ensures all { OnOk result (Appends (K.written sink.old) (K.written sink.new) (refusal_text refusal.now)) }
-    ensures part { OnErr result (AppendsLess (K.written sink.old) (K.written sink.new) (refusal_text refusal.now)) }
+    ensures all { OnOk result (Appends (K.written sink.old) (K.written sink.new)
+        (refusal_text refusal.now)) }
+    ensures part { OnErr result (AppendsLess (K.written sink.old) (K.written sink.new)
+        (refusal_text refusal.now)) }
     ensures cause { HasCause (K.faults sink.old) (K.faults sink.new) result }
 {
     let mut line = refusal_line(refusal);

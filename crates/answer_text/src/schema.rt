@@ -3,7 +3,7 @@
 ghost use Rattle.std.specs.Prelude.{◌≡◌, ◌++◌, map, drop, IfOk, OnOk, OnErr, Err};
 ghost use Rattle.std.specs.FinMap.{entries};
 ghost use Rattle.std.specs.Io.KnownBytes.{Appends};
-ghost use Rattle.prima_io.specs.Moves.{AppendsFront, AppendsLess};
+ghost use Rattle.prima_io.specs.Moves.{AppendsPrefix, AppendsLess};
 ghost use Rattle.answer_text.specs.Causes.{HasStopCause};
 ghost use Rattle.answer_text.specs.declared.stop.Stop.TheVariants as stop;
 ghost use Rattle.answer_text.specs.Texts.{table_text, tables_text, schema_text};
@@ -27,10 +27,12 @@ fn add_table(lines: &mut Vec<u8>, table: &Table) -> Result<(), NoMemory>
     put(lines, b"\n")
 }
 
-// The lines of the tables from this place on. There is no memory for more tables than a place can number.
+// The lines of the tables from this place on. There is no memory for more tables than a place can
+// number.
 #[tactic(auto, using(crate::proofs::TablesLeft::with_one))]
 fn add_tables(lines: &mut Vec<u8>, schema: &Schema, at: u32) -> Result<(), NoMemory>
-    ensures { OnOk result (lines.new.items ≡ lines.old.items ++ tables_text (drop at (entries schema.now))) }
+    ensures { OnOk result (lines.new.items ≡ lines.old.items
+        ++ tables_text (drop at (entries schema.now))) }
 {
     match schema.at(at) {
         None => Ok(()),
@@ -54,12 +56,16 @@ fn schema_lines(alloc: Global, schema: &Schema) -> Result<Vec<u8>, NoMemory>
     Ok(lines)
 }
 
-/// Puts a line for each table of the schema, in the order of names, and then how many they are. A failing sink's count has
-/// risen; a front of the lines, and not all of them, was then put. Where memory ran out nothing was put.
+/// Puts a line for each table of the schema, in the order of names, and then how many they are. A
+/// failing sink's count has risen; a prefix of the lines, and not all of them, was then put. Where
+/// memory ran out nothing was put.
 pub fn put_schema<K: Sink>(alloc: Global, sink: &mut K, schema: &Schema) -> Result<(), Stop>
-    ensures all { OnOk result (Appends (K.written sink.old) (K.written sink.new) (schema_text schema.now)) }
-    ensures part { OnErr result (AppendsFront (K.written sink.old) (K.written sink.new) (schema_text schema.now)) }
-    ensures less { result ≡ Err stop.WriteFault → AppendsLess (K.written sink.old) (K.written sink.new) (schema_text schema.now) }
+    ensures all { OnOk result (Appends (K.written sink.old) (K.written sink.new)
+        (schema_text schema.now)) }
+    ensures part { OnErr result (AppendsPrefix (K.written sink.old) (K.written sink.new)
+        (schema_text schema.now)) }
+    ensures less { result ≡ Err stop.WriteFault
+        → AppendsLess (K.written sink.old) (K.written sink.new) (schema_text schema.now) }
     ensures unsaid { result ≡ Err stop.NoMemory → K.written sink.new ≡ K.written sink.old }
     ensures cause { HasStopCause (K.faults sink.old) (K.faults sink.new) result }
 {

@@ -3,6 +3,6 @@ pub mod ReadRecords
 pub mod SameRecords
 pub mod Replayed
 pub mod Committed
-pub mod Readied
+pub mod PreparedCommand
 pub mod Held
 pub mod Mounted

@@ -1,65 +1,91 @@
 -- Commands carried out one after the other.
-use Rattle.std.proofs.Common.{◌≡◌, ℕ, ◌+◌, ◌<◌, ◌≤◌, List, [], ◌∷◌, ◌++◌, length, get_or, take, drop, map, refl, sym, subst, ap, ◌∙◌, arith, Some, None, Err}
-use Rattle.std.proofs.lemmas.List.{take_more, drop_more, take_all, take-append-drop, length-take-le, length-map, get_or-map, get_or_default}
-use Rattle.prima_base.specs.declared.refusals.Refusal.{Refusal}
+use Rattle.std.proofs.Common.{◌≡◌, ℕ, ◌+◌, ◌<◌, ◌≤◌, List, [], ◌∷◌, ◌++◌, length, get_or, take}
+use Rattle.std.proofs.Common.{drop, map, refl, sym, subst, ap, ◌∙◌, arith, Some, None, Err}
+use Rattle.std.proofs.lemmas.List.{take_more, drop_more, take_all, take-append-drop, length-take-le}
+use Rattle.std.proofs.lemmas.List.{length-map, get_or-map, get_or_default}
+use Rattle.prima_base.specs.declared.refusal.Refusal.{Refusal}
 use Rattle.smo_types.specs.Commands.{PlainCommand, command_of}
-use Rattle.smo_types.specs.declared.commands.Body.{Body}
+use Rattle.smo_types.specs.declared.command.Body.{Body}
 use Rattle.smo_meaning.specs.Accepts.{command_fault}
 use Rattle.smo_meaning.specs.Past.{Past, past_with}
 use Rattle.smo_meaning.specs.History.{AllAccepted, past_after}
 use Rattle.journal.specs.declared.rec.Rec.{Rec}
-use Rattle.archive_state.specs.Standing.{Standing, ShowsPast}
-use Rattle.archive_core.specs.declared.faults.MountFault.{MountFault}
-use Rattle.archive_core.specs.declared.faults.MountFault.TheVariants.{Damaged}
+use Rattle.archive_state.specs.Standing.{ArchiveContent, RepresentsPast}
+use Rattle.archive_core.specs.declared.fault.MountFault.{MountFault}
+use Rattle.archive_core.specs.declared.fault.MountFault.TheVariants.{Damaged}
 use Rattle.archive_core.specs.Replaying.{Replays, IsStoppedAt, IsReplayed}
 
-accepted_push : (past : Past) (commands : List PlainCommand) (c : PlainCommand) → AllAccepted past commands → command_fault (past_after past commands) c ≡ None
+accepted_push : (past : Past) (commands : List PlainCommand) (c : PlainCommand)
+    → AllAccepted past commands → command_fault (past_after past commands) c ≡ None
     → AllAccepted past (commands ++ c ∷ [])
 accepted_push past [] c all met = (met, tt)
-accepted_push past (d ∷ commands) c all met = (all.0, accepted_push (past_with past d) commands c all.1 met)
+accepted_push past (d ∷ commands) c all met =
+    (all.0, accepted_push (past_with past d) commands c all.1 met)
 
-past_push : (past : Past) (commands : List PlainCommand) (c : PlainCommand) → past_after past (commands ++ c ∷ []) ≡ past_with (past_after past commands) c
+past_push : (past : Past) (commands : List PlainCommand) (c : PlainCommand)
+    → past_after past (commands ++ c ∷ []) ≡ past_with (past_after past commands) c
 past_push past [] c = refl
 past_push past (d ∷ commands) c = past_push (past_with past d) commands c
 
-module _ (past : Past) (commands : List (ℕ × Body)) (k : ℕ) (c : ℕ × Body) (inside : k < length commands) (is : c ≡ get_or commands k c) where
+module _ (past : Past) (commands : List (ℕ × Body)) (k : ℕ) (c : ℕ × Body)
+    (inside : k < length commands) (is : c ≡ get_or commands k c) where
   inside_plain : k < length (map command_of commands)
   inside_plain = omega (arith, length-map commands command_of)
 
   this : get_or (map command_of commands) k (command_of c) ≡ command_of c
   this = get_or-map command_of commands k c (command_of c) inside ∙ ap command_of (sym is)
 
-  more : take (k + 1) (map command_of commands) ≡ take k (map command_of commands) ++ command_of c ∷ []
-  more = take_more (map command_of commands) k (command_of c) inside_plain ∙ ap (λ (d : PlainCommand). take k (map command_of commands) ++ d ∷ []) this
+  more : take (k + 1) (map command_of commands) ≡ take k (map command_of commands) ++ command_of c
+      ∷ []
+  more = take_more (map command_of commands) k (command_of c) inside_plain
+      ∙ ap (λ (d : PlainCommand). take k (map command_of commands) ++ d ∷ []) this
 
   -- one command more is carried out
-  pub one_more_replayed : (old new : Standing) → IsReplayed past (take k (map command_of commands)) old → command_fault (past_after past (take k (map command_of commands))) (command_of c) ≡ None
-      → ShowsPast new (past_with (past_after past (take k (map command_of commands))) (command_of c)) → IsReplayed past (take (k + 1) (map command_of commands)) new
-  one_more_replayed old new before met shows = subst (λ (l : List PlainCommand). IsReplayed past l new) (sym more) (record {
-    accepted = accepted_push past (take k (map command_of commands)) (command_of c) before.accepted met;
-    shows = subst (ShowsPast new) (sym (past_push past (take k (map command_of commands)) (command_of c))) shows;
-  })
+  pub one_more_replayed : (old new : ArchiveContent)
+      → IsReplayed past (take k (map command_of commands)) old
+      → command_fault (past_after past (take k (map command_of commands))) (command_of c) ≡ None
+      → RepresentsPast new (past_with (past_after past (take k (map command_of commands)))
+      (command_of c)) → IsReplayed past (take (k + 1) (map command_of commands)) new
+  one_more_replayed old new before met shows =
+      subst (λ (l : List PlainCommand). IsReplayed past l new) (sym more) (record {
+        accepted = accepted_push past (take k (map command_of commands)) (command_of c) before.accepted
+            met;
+        shows = subst (RepresentsPast new) (sym (past_push past (take k (map command_of commands))
+            (command_of c))) shows;
+      })
 
   -- one is refused
-  pub stopped : (recs : List Rec) (old : Standing) (place : ℕ) (r : Refusal) (d : Rec) → k < length recs → IsReplayed past (take k (map command_of commands)) old
-      → command_fault (past_after past (take k (map command_of commands))) (command_of c) ≡ Some r → place ≡ (get_or recs k d).at → IsStoppedAt past (map command_of commands) recs place
+  pub stopped : (recs : List Rec) (old : ArchiveContent) (place : ℕ) (r : Refusal) (d : Rec)
+      → k < length recs → IsReplayed past (take k (map command_of commands)) old
+      → command_fault (past_after past (take k (map command_of commands))) (command_of c) ≡ Some r
+      → place ≡ (get_or recs k d).at → IsStoppedAt past (map command_of commands) recs place
   stopped recs old place r d within before refused at = record {
     before = take k (map command_of commands);
     command = command_of c;
-    behind = drop (k + 1) (map command_of commands);
-    are = sym (take-append-drop k (map command_of commands)) ∙ ap (λ (l : List PlainCommand). take k (map command_of commands) ++ l) (drop_more (map command_of commands) k (command_of c) inside_plain ∙ ap (λ (d : PlainCommand). d ∷ drop (k + 1) (map command_of commands)) this);
+    after = drop (k + 1) (map command_of commands);
+    are = sym (take-append-drop k (map command_of commands))
+        ∙ ap (λ (l : List PlainCommand). take k (map command_of commands) ++ l)
+        (drop_more (map command_of commands) k (command_of c) inside_plain
+        ∙ ap (λ (d : PlainCommand). d ∷ drop (k + 1) (map command_of commands)) this);
     accepted = before.accepted;
     refusal = r;
     refused = refused;
     place_is = λ e. at ∙ ap (λ (rec : Rec). rec.at) (get_or_default recs k d e within)
-        ∙ ap (λ (n : ℕ). (get_or recs n e).at) (sym (length-take-le k (map command_of commands) (omega (arith, inside_plain))));
+        ∙ ap (λ (n : ℕ). (get_or recs n e).at)
+        (sym (length-take-le k (map command_of commands) (omega (arith, inside_plain))));
   }
 
 -- what replaying one command answered, where it told damage
-pub told_damage : (past : Past) (c : PlainCommand) (at place : ℕ) (e : MountFault) (new : Standing) → Replays past c at (Err e) new → e ≡ Damaged place
+pub told_damage : (past : Past) (c : PlainCommand) (at place : ℕ) (e : MountFault)
+    (new : ArchiveContent) → Replays past c at (Err e) new → e ≡ Damaged place
     → (place ≡ at) × ((r : Refusal) × (command_fault past c ≡ Some r))
-told_damage past c at place e new replays is = subst (λ (f : MountFault). Replays past c at (Err f) new) is replays
+told_damage past c at place e new replays is =
+    subst (λ (f : MountFault). Replays past c at (Err f) new) is replays
 
-pub all_replayed : (past : Past) (commands : List (ℕ × Body)) (k : ℕ) (archive : Standing) → length commands ≤ k → IsReplayed past (take k (map command_of commands)) archive → IsReplayed past (map command_of commands) archive
+pub all_replayed : (past : Past) (commands : List (ℕ × Body)) (k : ℕ) (archive : ArchiveContent)
+    → length commands ≤ k → IsReplayed past (take k (map command_of commands)) archive
+    → IsReplayed past (map command_of commands) archive
 all_replayed past commands k archive all replayed =
-    subst (λ (l : List PlainCommand). IsReplayed past l archive) (take_all k (map command_of commands) (omega (arith, length-map commands command_of))) replayed
+    subst (λ (l : List PlainCommand). IsReplayed past l archive)
+    (take_all k (map command_of commands) (omega (arith, length-map commands command_of)))
+    replayed

@@ -6,17 +6,18 @@ use Rattle.image_spelling.specs.Images.{Image}
 use Rattle.image_spelling.specs.Lengths.{image_length}
 use Rattle.store_image.specs.ImageIn.{image_in}
 use Rattle.archive_file.specs.LogRecords.{LogRecord, checkpointed}
-use Rattle.archive_state.specs.Standing.{Standing}
+use Rattle.archive_state.specs.Standing.{ArchiveContent}
 use Rattle.archive_core.specs.Committing.{need_fault}
-use Rattle.archive_core.specs.declared.faults.CommitFault.{CommitFault}
-use Rattle.archive_core.specs.declared.faults.CommitFault.TheVariants.{Broken, Refused, Disk, NoMemory}
+use Rattle.archive_core.specs.declared.fault.CommitFault.{CommitFault}
+use Rattle.archive_core.specs.declared.fault.CommitFault.TheVariants.{Broken, Refused, Disk}
+use Rattle.archive_core.specs.declared.fault.CommitFault.TheVariants.{NoMemory}
 
 -- the image of what an archive has
-abbrev pub image_of : Standing → Image
+abbrev pub image_of : ArchiveContent → Image
 image_of archive = image_in archive.groups archive.last
 
 -- the record of its checkpoint
-abbrev pub checkpoint_of : Standing → LogRecord
+abbrev pub checkpoint_of : ArchiveContent → LogRecord
 checkpoint_of archive = checkpointed (image_of archive)
 
 -- how many bytes a put of the image of a past writes

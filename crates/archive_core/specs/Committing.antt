@@ -1,23 +1,24 @@
 -- What an archive on a disk answers to a command.
 use Rattle.std.specs.Prelude.{◌≡◌, ℕ, ◌+◌, ◌∷◌, [], nat_le, Some, None, Result, Ok, Err}
-use Rattle.prima_base.specs.declared.refusals.Refusal.TheVariants.{JournalFull}
+use Rattle.prima_base.specs.declared.refusal.Refusal.TheVariants.{JournalFull}
 use Rattle.smo_types.specs.Commands.{PlainCommand}
 use Rattle.smo_meaning.specs.First.{unless, first_refusal}
 use Rattle.smo_meaning.specs.Checks.{Fault}
 use Rattle.smo_meaning.specs.Accepts.{command_fault}
 use Rattle.smo_meaning.specs.Past.{Past, past_with}
-use Rattle.version_groups.specs.Steps.{Readied, Prepares}
+use Rattle.version_groups.specs.Steps.{PreparedCommand, Prepares}
 use Rattle.journal.specs.Records.{Record}
 use Rattle.journal.specs.Standing.{needs}
 use Rattle.journal.specs.declared.sealed.Sealed.{Sealed}
 use Rattle.archive_file.specs.LogRecords.{logged, record_of}
-use Rattle.archive_state.specs.declared.archives.Done.{Done}
-use Rattle.archive_state.specs.Standing.{Standing, ShowsPast}
+use Rattle.archive_state.specs.declared.archive.Done.{Done}
+use Rattle.archive_state.specs.Standing.{ArchiveContent, RepresentsPast}
 use Rattle.archive_state.specs.Committing.{IsAsBefore, IsDone}
-use Rattle.archive_core.specs.declared.faults.CommitFault.{CommitFault}
-use Rattle.archive_core.specs.declared.faults.CommitFault.TheVariants.{Broken, Refused, Disk, NoMemory}
+use Rattle.archive_core.specs.declared.fault.CommitFault.{CommitFault}
+use Rattle.archive_core.specs.declared.fault.CommitFault.TheVariants.{Broken, Refused, Disk}
+use Rattle.archive_core.specs.declared.fault.CommitFault.TheVariants.{NoMemory}
 
--- so many bytes, put behind the gate at `at`, end within the limit
+-- so many bytes, put after the gate at `at`, end within the limit
 abbrev pub need_fault : ℕ → ℕ → ℕ → Fault
 need_fault at limit need = unless (nat_le (at + need) limit) (JournalFull at need limit)
 
@@ -25,29 +26,38 @@ need_fault at limit need = unless (nat_le (at + need) limit) (JournalFull at nee
 abbrev pub room_fault : ℕ → ℕ → Record → Fault
 room_fault at limit r = need_fault at limit (needs r)
 
--- the refusal of a command by its past, and behind all others that its record does not fit
+-- the refusal of a command by its past, and after all others that its record does not fit
 abbrev pub commit_fault : Past → ℕ → ℕ → PlainCommand → Fault
-commit_fault past at limit command = first_refusal (command_fault past command ∷ room_fault at limit (record_of (logged command)) ∷ [])
+commit_fault past at limit command = first_refusal
+    (command_fault past command ∷ room_fault at limit (record_of (logged command)) ∷ [])
 
 -- the archive in memory is as it was, but for room that was made, and shows the past that it showed
-pub record IsUnchanged (past : Past) (old new : Standing) : Type 0 where
+pub record IsUnchanged (past : Past) (old new : ArchiveContent) : Type 0 where
   pub same : IsAsBefore old new
-  pub shows : ShowsPast new past
+  pub shows : RepresentsPast new past
 
--- An accepted command whose record fits leads to the next past, and is answered Ok, or Disk where the disk fails. Another is
--- refused by its first refusal. In memory all is as it was, but after Ok.
-abbrev pub Commits : Past → PlainCommand → ℕ → ℕ → Standing → Result Done CommitFault → Standing → Type 0
-Commits past command at limit old (Ok done) new = (commit_fault past at limit command ≡ None) × IsDone past command done × ShowsPast new (past_with past command)
-Commits past command at limit old (Err (Refused r)) new = (commit_fault past at limit command ≡ Some r) × IsUnchanged past old new
-Commits past command at limit old (Err Disk) new = (commit_fault past at limit command ≡ None) × IsUnchanged past old new
+-- An accepted command whose record fits leads to the next past, and is answered Ok, or Disk where
+-- the disk fails. Another is refused by its first refusal. In memory all is as it was, but after
+-- Ok.
+abbrev pub Commits : Past → PlainCommand → ℕ → ℕ → ArchiveContent → Result Done CommitFault
+    → ArchiveContent → Type 0
+Commits past command at limit old (Ok done) new = (commit_fault past at limit command ≡ None)
+    × IsDone past command done × RepresentsPast new (past_with past command)
+Commits past command at limit old (Err (Refused r)) new =
+    (commit_fault past at limit command ≡ Some r) × IsUnchanged past old new
+Commits past command at limit old (Err Disk) new = (commit_fault past at limit command ≡ None)
+    × IsUnchanged past old new
 Commits past command at limit old (Err Broken) new = new ≡ old
 Commits past command at limit old (Err NoMemory) new = IsUnchanged past old new
 
 -- a command that is accepted was made ready in memory
-abbrev pub MakesReady : Past → PlainCommand → Standing → Result (Readied × Sealed) CommitFault → Standing → Type 0
+abbrev pub MakesReady : Past → PlainCommand → ArchiveContent
+    → Result (PreparedCommand × Sealed) CommitFault → ArchiveContent → Type 0
 MakesReady past command old (Ok ready) new =
-    (command_fault past command ≡ None) × IsUnchanged past old new × Prepares new.groups past command ready.0
-MakesReady past command old (Err (Refused r)) new = (command_fault past command ≡ Some r) × IsUnchanged past old new
+    (command_fault past command ≡ None) × IsUnchanged past old new
+    × Prepares new.groups past command ready.0
+MakesReady past command old (Err (Refused r)) new = (command_fault past command ≡ Some r)
+    × IsUnchanged past old new
 MakesReady past command old (Err Disk) new = ⊥
 MakesReady past command old (Err Broken) new = ⊥
 MakesReady past command old (Err NoMemory) new = IsUnchanged past old new

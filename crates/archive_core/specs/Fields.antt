@@ -4,12 +4,12 @@ use Rattle.disk_model.specs.Meaning.{Meaning}
 use Rattle.disk_model.specs.declared.disk.Disk.{Ghosts}
 use Rattle.journal.specs.Fields as journal
 use Rattle.journal.specs.Standing.{HasGate}
-use Rattle.archive_state.specs.Standing.{Standing}
-use Rattle.archive_core.specs.declared.archives.Archive.{Archive}
+use Rattle.archive_state.specs.Standing.{ArchiveContent}
+use Rattle.archive_core.specs.declared.archive.Archive.{Archive}
 
 module _ {D : Type 0} {g : Ghosts D} where
   -- what it keeps in memory
-  abbrev pub standing_of : Archive D g → Standing
+  abbrev pub standing_of : Archive D g → ArchiveContent
   standing_of a = a.state
 
   abbrev pub disk_of : Archive D g → D

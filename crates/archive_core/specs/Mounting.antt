@@ -2,30 +2,34 @@
 use Rattle.std.specs.Prelude.{◌≡◌, ℕ, List, length}
 use Rattle.smo_meaning.specs.Past.{beginning}
 use Rattle.journal.specs.Records.{Record}
-use Rattle.archive_file.specs.LogRecords.{LogRecord, records_of, gate_behind, AreSpelled, AreAccepted, commands_in, replayed_of, past_recorded}
+use Rattle.archive_file.specs.LogRecords.{LogRecord, records_of, gate_after, AreSpelled}
+use Rattle.archive_file.specs.LogRecords.{AreAccepted, commands_in, replayed_of, past_recorded}
 use Rattle.archive_file.specs.Opening.{Opens}
-use Rattle.archive_state.specs.Standing.{Standing, ShowsPast}
-use Rattle.archive_core.specs.declared.archives.Opened.{Opened}
+use Rattle.archive_state.specs.Standing.{ArchiveContent, RepresentsPast}
+use Rattle.archive_core.specs.declared.archive.Opened.{Opened}
 
--- all commands are counted, and those behind the last image
+-- all commands are counted, and those after the last image
 pub record IsCounted (log : List LogRecord) (opened : Opened) : Type 0 where
   pub commands : opened.commands ≡ length (commands_in log)
   pub replayed : opened.replayed ≡ replayed_of log
 
--- these are records of commands and images, of which each command behind the last image is accepted after what stands before it; and the
--- archive shows their past
-pub record IsRestored (records : List Record) (archive : Standing) (opened : Opened) : Type 0 where
+-- these are records of commands and images, of which each command after the last image is accepted
+-- after what stands before it; and the archive shows their past
+pub record IsRestored (records : List Record) (archive : ArchiveContent) (opened : Opened) :
+    Type 0 where
   pub log : List LogRecord
   pub spelled : AreSpelled log
   pub records_are : records ≡ records_of log
   pub accepted : AreAccepted beginning log
-  pub shows : ShowsPast archive (past_recorded log)
+  pub shows : RepresentsPast archive (past_recorded log)
   pub counted : IsCounted log opened
 
--- the file opens as records; the archive shows just their past, the gate behind them is at this place, and their commands are counted
-pub record IsMounted (file : List ℕ) (archive : Standing) (at : ℕ) (opened : Opened) : Type 0 where
+-- the file opens as records; the archive shows just their past, the gate after them is at this
+-- place, and their commands are counted
+pub record IsMounted (file : List ℕ) (archive : ArchiveContent) (at : ℕ) (opened : Opened) :
+    Type 0 where
   pub log : List LogRecord
   pub opens : Opens file log
-  pub shows : ShowsPast archive (past_recorded log)
-  pub place : at ≡ gate_behind log
+  pub shows : RepresentsPast archive (past_recorded log)
+  pub place : at ≡ gate_after log
   pub counted : IsCounted log opened

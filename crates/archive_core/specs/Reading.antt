@@ -1,14 +1,16 @@
 -- Records read as what they stand for.
-use Rattle.std.specs.Prelude.{◌≡◌, ◌⊎◌, ℕ, ◌+◌, ◌<◌, ◌^◌, Bool, true, List, [], ◌∷◌, ◌++◌, length, map}
+use Rattle.std.specs.Prelude.{◌≡◌, ◌⊎◌, ℕ, ◌+◌, ◌<◌, ◌^◌, Bool, true, List, [], ◌∷◌, ◌++◌, length}
+use Rattle.std.specs.Prelude.{map}
 use Rattle.smo_types.specs.Commands.{command_of, PlainCommand}
 use Rattle.image_spelling.specs.Images.{Image}
 use Rattle.journal.specs.Records.{Record, before_gate, IsKnown, AreKnown}
 use Rattle.journal.specs.Reading.{records_in, record_of as plain_record, gates}
 use Rattle.journal.specs.declared.rec.Rec.{Rec}
-use Rattle.archive_file.specs.LogRecords.{LogRecord, logged, checkpointed, records_of, AreSpelled, commands_in, past_recorded}
+use Rattle.archive_file.specs.LogRecords.{LogRecord, logged, checkpointed, records_of, AreSpelled}
+use Rattle.archive_file.specs.LogRecords.{commands_in, past_recorded}
 use Rattle.archive_file.specs.Opening.{IsRefusedAt}
-use Rattle.archive_state.specs.Standing.{ShowsPast}
-use Rattle.archive_core.specs.declared.reading.ReadRecords.{ReadRecords}
+use Rattle.archive_state.specs.Standing.{RepresentsPast}
+use Rattle.archive_core.specs.declared.record_reader.ReadRecords.{ReadRecords}
 
 -- records of known kinds, each with the place of its gate in a file that has them all
 pub record AreInPlace (recs : List Rec) : Type 0 where
@@ -16,7 +18,8 @@ pub record AreInPlace (recs : List Rec) : Type 0 where
   pub places : map (λ rec. rec.at) recs ≡ gates 8 (records_in recs)
   pub short : length (before_gate (records_in recs)) < 2 ^ 64
 
--- the payload of the record at this gate is none of its kind, and this is where it is refused, by its place in the file
+-- the payload of the record at this gate is none of its kind, and this is where it is refused, by
+-- its place in the file
 pub record IsRefusedIn (at : ℕ) (r : Record) (place : ℕ) : Type 0 where
   pub within : ℕ
   pub refused : IsRefusedAt r within
@@ -24,7 +27,8 @@ pub record IsRefusedIn (at : ℕ) (r : Record) (place : ℕ) : Type 0 where
 
 -- there is none, or an image is the last
 abbrev pub EndsWithImage : List LogRecord → Type 0
-EndsWithImage log = (log ≡ []) ⊎ ((before : List LogRecord) × (i : Image) × (log ≡ before ++ checkpointed i ∷ []))
+EndsWithImage log = (log ≡ []) ⊎ ((before : List LogRecord) × (i : Image)
+    × (log ≡ before ++ checkpointed i ∷ []))
 
 abbrev pub commands_kept : ReadRecords → List PlainCommand
 commands_kept kept = map command_of kept.commands.items
@@ -36,18 +40,22 @@ pub record AreJudged (records : List Record) (count : ℕ) : Type 0 where
   pub records_are : records ≡ records_of log
   pub counted : count ≡ length (commands_in log)
 
--- what is kept of records that were read: the archive that the last image shows, or the empty one, the commands behind the image, and how
--- many commands there are in all
+-- what is kept of records that were read: the archive that the last image shows, or the empty one,
+-- the commands after the image, and how many commands there are in all
 pub record AreKept (records : List Record) (kept : ReadRecords) : Type 0 where
-  pub front : List LogRecord
-  pub ends : EndsWithImage front
-  pub spelled : AreSpelled (front ++ map logged (commands_kept kept))
-  pub records_are : records ≡ records_of (front ++ map logged (commands_kept kept))
-  pub shows : ShowsPast kept.state (past_recorded front)
-  pub counted : kept.count ≡ length (commands_in (front ++ map logged (commands_kept kept)))
+  pub prefix : List LogRecord
+  pub ends : EndsWithImage prefix
+  pub spelled : AreSpelled (prefix ++ map logged (commands_kept kept))
+  pub records_are : records ≡ records_of (prefix ++ map logged (commands_kept kept))
+  pub shows : RepresentsPast kept.state (past_recorded prefix)
+  pub counted : kept.count ≡ length (commands_in (prefix ++ map logged (commands_kept kept)))
 
--- one record was read: it was judged behind those before it; an image takes the place of what was kept; and behind the last image a command is kept
-pub record IsRead (rec : Rec) (is_behind : Bool) (old new : ReadRecords) : Type 0 where
-  pub judged : IsKnown rec.kind → (records : List Record) → AreJudged records old.count → AreJudged (records ++ plain_record rec ∷ []) new.count
-  pub image : rec.kind ≡ 2 → (records : List Record) → AreJudged records old.count → AreKept (records ++ plain_record rec ∷ []) new
-  pub kept : is_behind ≡ true → IsKnown rec.kind → (records : List Record) → AreKept records old → AreKept (records ++ plain_record rec ∷ []) new
+-- one record was read: it was judged after those before it; an image takes the place of what was
+-- kept; and after the last image a command is kept
+pub record IsRead (rec : Rec) (is_after : Bool) (old new : ReadRecords) : Type 0 where
+  pub judged : IsKnown rec.kind → (records : List Record) → AreJudged records old.count
+      → AreJudged (records ++ plain_record rec ∷ []) new.count
+  pub image : rec.kind ≡ 2 → (records : List Record) → AreJudged records old.count
+      → AreKept (records ++ plain_record rec ∷ []) new
+  pub kept : is_after ≡ true → IsKnown rec.kind → (records : List Record) → AreKept records old
+      → AreKept (records ++ plain_record rec ∷ []) new

@@ -1,34 +1,41 @@
--- The commands of a file behind its last image, carried out one after the other.
-use Rattle.std.specs.Prelude.{◌≡◌, ℕ, List, ◌∷◌, ◌++◌, length, slice_index_or, Some, None, Result, Ok, Err, ⊤}
-use Rattle.prima_base.specs.declared.refusals.Refusal.{Refusal}
+-- The commands of a file after its last image, carried out one after the other.
+use Rattle.std.specs.Prelude.{◌≡◌, ℕ, List, ◌∷◌, ◌++◌, length, slice_index_or, Some, None, Result}
+use Rattle.std.specs.Prelude.{Ok, Err, ⊤}
+use Rattle.prima_base.specs.declared.refusal.Refusal.{Refusal}
 use Rattle.smo_types.specs.Commands.{PlainCommand}
 use Rattle.smo_meaning.specs.Accepts.{command_fault}
 use Rattle.smo_meaning.specs.Past.{Past, past_with}
 use Rattle.smo_meaning.specs.History.{AllAccepted, past_after}
 use Rattle.journal.specs.declared.rec.Rec.{Rec}
-use Rattle.archive_state.specs.Standing.{Standing, ShowsPast}
-use Rattle.archive_core.specs.declared.faults.MountFault.{MountFault}
-use Rattle.archive_core.specs.declared.faults.MountFault.TheVariants.{Disk, Damaged, NoMemory}
+use Rattle.archive_state.specs.Standing.{ArchiveContent, RepresentsPast}
+use Rattle.archive_core.specs.declared.fault.MountFault.{MountFault}
+use Rattle.archive_core.specs.declared.fault.MountFault.TheVariants.{Disk, Damaged, NoMemory}
 
 -- an accepted command leads to the next past; another damages the file at its gate
-abbrev pub Replays : Past → PlainCommand → ℕ → Result (Unit {0}) MountFault → Standing → Type 0
-Replays past command at (Ok done) new = (command_fault past command ≡ None) × ShowsPast new (past_with past command)
-Replays past command at (Err (Damaged place)) new = (place ≡ at) × ((r : Refusal) × (command_fault past command ≡ Some r))
+abbrev pub Replays : Past → PlainCommand → ℕ → Result (Unit {0}) MountFault → ArchiveContent
+    → Type 0
+Replays past command at (Ok done) new = (command_fault past command ≡ None)
+    × RepresentsPast new (past_with past command)
+Replays past command at (Err (Damaged place)) new = (place ≡ at)
+    × ((r : Refusal) × (command_fault past command ≡ Some r))
 Replays past command at (Err Disk) new = ⊥
 Replays past command at (Err NoMemory) new = ⊤
 
--- one of the commands is not accepted after the past and those before it, and this is its gate's place
-pub record IsStoppedAt (past : Past) (commands : List PlainCommand) (recs : List Rec) (place : ℕ) : Type 0 where
+-- one of the commands is not accepted after the past and those before it, and this is its gate's
+-- place
+pub record IsStoppedAt (past : Past) (commands : List PlainCommand) (recs : List Rec) (place : ℕ) :
+    Type 0 where
   pub before : List PlainCommand
   pub command : PlainCommand
-  pub behind : List PlainCommand
-  pub are : commands ≡ before ++ command ∷ behind
+  pub after : List PlainCommand
+  pub are : commands ≡ before ++ command ∷ after
   pub accepted : AllAccepted past before
   pub refusal : Refusal
   pub refused : command_fault (past_after past before) command ≡ Some refusal
   pub place_is : (d : Rec) → place ≡ (slice_index_or recs (length before) d).at
 
 -- all are accepted, and the archive shows the past with them
-pub record IsReplayed (past : Past) (commands : List PlainCommand) (archive : Standing) : Type 0 where
+pub record IsReplayed (past : Past) (commands : List PlainCommand) (archive : ArchiveContent) :
+    Type 0 where
   pub accepted : AllAccepted past commands
-  pub shows : ShowsPast archive (past_after past commands)
+  pub shows : RepresentsPast archive (past_after past commands)

@@ -1,19 +1,20 @@
-//! The archive on a disk: what it has accepted stands in memory (archive_state), and as records in a journal that may stop at
-//! any moment (journal).
+//! The archive on a disk: what it has accepted stands in memory (archive_state), and as records in
+//! a journal that may stop at any moment (journal).
 //!
-//! A command is judged, made ready, written as bytes and sealed before the first call of the device; then its record is put,
-//! and then it is carried out, which cannot fail. So the file and the memory go on together: what stands in memory is always
-//! the past of the file's records, or, after a disk failed, of these but for the last.
+//! A command is judged, made ready, written as bytes and sealed before the first call of the
+//! device; then its record is put, and then it is carried out, which cannot fail. So the file and
+//! the memory go on together: what stands in memory is always the past of the file's records, or,
+//! after a disk failed, of these but for the last.
 #![tactic(auto)]
 
-mod archives;
-mod faults;
-mod reading;
-mod readying;
-mod replaying;
+mod archive;
+mod fault;
+mod preparation;
+mod record_reader;
+mod replay;
 
 pub use answer_text::Listing;
+pub use archive::{Archive, Opened};
 pub use archive_state::{AskFault, Done};
-pub use archives::{Archive, Opened};
-pub use faults::{CommitFault, MountFault};
+pub use fault::{CommitFault, MountFault};
 pub use piece_texts::Explained;

@@ -1,11 +1,13 @@
--- What the records of an archive's file stand for: commands, and images of the store. And what they lead to.
-use Rattle.std.specs.Prelude.{◌≡◌, ℕ, Bool, true, false, List, [], ◌∷◌, length, map, None, ⊤, if◌then◌else◌}
+-- What the records of an archive's file stand for: commands, and images of the store. And what they
+-- lead to.
+use Rattle.std.specs.Prelude.{◌≡◌, ℕ, Bool, true, false, List, [], ◌∷◌, length, map, None, ⊤}
+use Rattle.std.specs.Prelude.{if◌then◌else◌}
 use Rattle.std.specs.List.{AllByRecursion}
 use Rattle.smo_types.specs.Commands.{PlainCommand}
 use Rattle.smo_meaning.specs.Accepts.{command_fault}
 use Rattle.smo_meaning.specs.Past.{Past, beginning, past_with}
 use Rattle.command_spelling.specs.Spelling.{command_bytes}
-use Rattle.command_spelling.specs.Lawful.{IsCommand}
+use Rattle.command_spelling.specs.Valid.{IsCommand}
 use Rattle.image_spelling.specs.Images.{Image, IsImage}
 use Rattle.image_spelling.specs.Spelling.{image_bytes}
 use Rattle.image_spelling.specs.ShownPast.{image_past}
@@ -24,9 +26,9 @@ record_of (checkpointed image) = (2, image_bytes image)
 abbrev pub records_of : List LogRecord → List Record
 records_of records = map record_of records
 
--- the place of the gate behind these records
-abbrev pub gate_behind : List LogRecord → ℕ
-gate_behind records = length (before_gate (records_of records))
+-- the place of the gate after these records
+abbrev pub gate_after : List LogRecord → ℕ
+gate_after records = length (before_gate (records_of records))
 
 -- it has a spelling
 abbrev pub IsSpelled : LogRecord → Type 0
@@ -48,10 +50,11 @@ has_image [] = false
 has_image (logged command ∷ records) = has_image records
 has_image (checkpointed image ∷ records) = true
 
--- the commands behind the last image; all of them, where there is none
+-- the commands after the last image; all of them, where there is none
 abbrev pub replayed_in : List LogRecord → List PlainCommand
 replayed_in [] = []
-replayed_in (logged command ∷ records) = if has_image records then replayed_in records else command ∷ commands_in records
+replayed_in (logged command ∷ records) = if has_image records then replayed_in records
+    else command ∷ commands_in records
 replayed_in (checkpointed image ∷ records) = replayed_in records
 
 -- how many these are
@@ -60,27 +63,33 @@ replayed_of records = length (replayed_in records)
 
 -- ---- pasts
 
--- the past with the command; or the one that the image shows, in which the commands before it are counted
-abbrev pub behind_record : Past → LogRecord → Past
-behind_record past (logged command) = past_with past command
-behind_record past (checkpointed image) = image_past past.commands image
+-- the past with the command; or the one that the image shows, in which the commands before it are
+-- counted
+abbrev pub after_record : Past → LogRecord → Past
+after_record past (logged command) = past_with past command
+after_record past (checkpointed image) = image_past past.commands image
 
--- behind records, one after the other
-abbrev pub behind_records : Past → List LogRecord → Past
-behind_records past [] = past
-behind_records past (r ∷ records) = behind_records (behind_record past r) records
+-- after records, one after the other
+abbrev pub after_records : Past → List LogRecord → Past
+after_records past [] = past
+after_records past (r ∷ records) = after_records (after_record past r) records
 
 abbrev pub past_recorded : List LogRecord → Past
-past_recorded records = behind_records beginning records
+past_recorded records = after_records beginning records
 
--- each command behind the last image is accepted after what stands before it
+-- each command after the last image is accepted after what stands before it
 abbrev pub AreAccepted : Past → List LogRecord → Type 0
 AreAccepted past [] = ⊤
-AreAccepted past (logged command ∷ records) = (has_image records ≡ false → command_fault past command ≡ None) × AreAccepted (past_with past command) records
-AreAccepted past (checkpointed image ∷ records) = AreAccepted (image_past past.commands image) records
+AreAccepted past (logged command ∷ records) =
+    (has_image records ≡ false → command_fault past command ≡ None)
+    × AreAccepted (past_with past command) records
+AreAccepted past (checkpointed image ∷ records) =
+    AreAccepted (image_past past.commands image) records
 
 -- each command is accepted after those before it, and each image shows just the past before it
 abbrev pub AreSound : Past → List LogRecord → Type 0
 AreSound past [] = ⊤
-AreSound past (logged command ∷ records) = (command_fault past command ≡ None) × AreSound (past_with past command) records
-AreSound past (checkpointed image ∷ records) = (image_past past.commands image ≡ past) × AreSound past records
+AreSound past (logged command ∷ records) = (command_fault past command ≡ None)
+    × AreSound (past_with past command) records
+AreSound past (checkpointed image ∷ records) = (image_past past.commands image ≡ past)
+    × AreSound past records

@@ -1,5 +1,5 @@
-//! What the file of an archive stands for: records of commands and of images of the store, and so a past; or where the file is
-//! damaged. Definitions (`specs/`) and their laws.
+//! What the file of an archive stands for: records of commands and of images of the store, and so a
+//! past; or where the file is damaged. Definitions (`specs/`) and their laws.
 #![tactic(auto)]
 
 mod laws;

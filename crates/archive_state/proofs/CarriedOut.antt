@@ -1,21 +1,29 @@
--- What stands behind a command that was carried out.
+-- What stands after a command that was carried out.
 use Rattle.std.proofs.Common.{◌≡◌, ℕ, length, refl, sym, ap, ◌∙◌}
 use Rattle.std.specs.Prelude.{Option, Some}
 use Rattle.std.proofs.lemmas.List.{length-map}
 use Rattle.smo_types.specs.Commands.{PlainBody, changing, evolving, PlainCommand, version_of}
-use Rattle.smo_meaning.specs.Past.{Past, past_behind, past_with}
+use Rattle.smo_meaning.specs.Past.{Past, next_past, past_with}
 use Rattle.version_groups.specs.Groups.{Kept}
-use Rattle.version_groups.specs.Showing.{Shows}
-use Rattle.archive_state.specs.Standing.{ShowsPast}
+use Rattle.version_groups.specs.Showing.{Represents}
+use Rattle.archive_state.specs.Standing.{RepresentsPast}
 
-last_behind : (past : Past) (stamp : ℕ) (body : PlainBody) → (past_behind stamp body past).last ≡ Some stamp
-last_behind past stamp (changing changes) = refl
-last_behind past stamp (evolving op inverse) = refl
+last_after : (past : Past) (stamp : ℕ) (body : PlainBody)
+    → (next_past stamp body past).last ≡ Some stamp
+last_after past stamp (changing changes) = refl
+last_after past stamp (evolving op inverse) = refl
 
-pub shows_next : (kept : Kept) (past : Past) (command : PlainCommand) (last : Option ℕ) → Shows kept (past_with past command) → last ≡ Some command.stamp
-    → ShowsPast (record { groups = kept; last = last }) (past_with past command)
-shows_next kept past command last shows e = record { groups = shows; last = e ∙ sym (last_behind past command.stamp command.body) }
+pub shows_next : (kept : Kept) (past : Past) (command : PlainCommand) (last : Option ℕ)
+    → Represents kept (past_with past command) → last ≡ Some command.stamp
+    → RepresentsPast (record { groups = kept; last = last }) (past_with past command)
+shows_next kept past command last shows e = record {
+  groups = shows;
+  last = e
+      ∙ sym (last_after past command.stamp command.body);
+}
 
 -- the number of the newest version
-pub newest_next : (kept : Kept) (past : Past) (n : ℕ) → Shows kept past → n ≡ length kept.versions → n ≡ length past.versions
-newest_next kept past n shows e = e ∙ sym (length-map kept.versions version_of) ∙ ap (λ vs. length vs) shows.versions
+pub newest_next : (kept : Kept) (past : Past) (n : ℕ) → Represents kept past
+    → n ≡ length kept.versions → n ≡ length past.versions
+newest_next kept past n shows e = e ∙ sym (length-map kept.versions version_of)
+    ∙ ap (λ vs. length vs) shows.versions

@@ -2,10 +2,10 @@
 use Rattle.std.proofs.Common.{◌≡◌, ◌≤◌, ℕ, List, ◌∷◌, length, refl, sym, subst, ◌∙◌, arith}
 use Rattle.std.specs.Prelude.{Option, Some, None, Result}
 use Rattle.std.proofs.lemmas.List.{length-map}
-use Rattle.prima_base.specs.declared.refusals.Refusal.{Refusal}
-use Rattle.prima_base.specs.declared.refusals.What.{What}
+use Rattle.prima_base.specs.declared.refusal.Refusal.{Refusal}
+use Rattle.prima_base.specs.declared.refusal.What.{What}
 use Rattle.schema_catalog.specs.Tables.{Tables}
-use Rattle.smo_types.specs.declared.ops.Op.{Op}
+use Rattle.smo_types.specs.declared.op.Op.{Op}
 use Rattle.smo_types.specs.Operators.{Operator, operator_of, operators_of}
 use Rattle.smo_types.specs.Commands.{evolving}
 use Rattle.smo_meaning.specs.Checks.{Fault}
@@ -17,35 +17,43 @@ use Rattle.smo_meaning.specs.Past.{Past, newest_tables}
 use Rattle.smo_meaning.proofs.CountedOperators.{counted_length}
 use Rattle.smo_meaning.proofs.Firsts.{first_at, first_later}
 use Rattle.version_groups.specs.Groups.{Kept}
-use Rattle.version_groups.specs.Showing.{Shows}
-use Rattle.archive_state.specs.declared.faults.CommitFault.{CommitFault}
+use Rattle.version_groups.specs.Showing.{Represents}
+use Rattle.archive_state.specs.declared.fault.CommitFault.{CommitFault}
 use Rattle.archive_state.specs.Committing.{IsJudged}
 
 -- an inverse whose count is within its limit
-pub few_operators : (op : Operator) (inverse : List Op) → first_excess (evolving op (operators_of inverse)) ≡ None → length inverse ≤ 8
+pub few_operators : (op : Operator) (inverse : List Op)
+    → first_excess (evolving op (operators_of inverse)) ≡ None → length inverse ≤ 8
 few_operators op inverse counted =
     let few = counted_length op (operators_of inverse) counted in
     let same : length (operators_of inverse) ≡ length inverse = length-map inverse operator_of in
     omega arith
 
 -- the newest schema has no table with too many columns
-pub narrow_newest : (kept : Kept) (past : Past) (tables : Tables) → Shows kept past → tables ≡ newest_tables past → AreNarrow tables
-narrow_newest kept past tables shows e = subst AreNarrow (sym e) shows.lawful.tables.narrow
+pub narrow_newest : (kept : Kept) (past : Past) (tables : Tables) → Represents kept past
+    → tables ≡ newest_tables past → AreNarrow tables
+narrow_newest kept past tables shows e = subst AreNarrow (sym e) shows.valid.tables.narrow
 
 -- where nothing is refused for its count, there is no excess
 pub no_excess : (excess : Option (What × ℕ)) → count_fault excess ≡ None → excess ≡ None
 no_excess None e = refl
 no_excess (Some x) e = absurd (cc)
 
--- behind two tests that are met the others decide
-pub judged_behind : {A : Type 0} (first second : Fault) (tests : List Fault) (result : Result A CommitFault) → first ≡ None → second ≡ None → IsJudged (first_refusal tests) result
+-- after two tests that are met the others decide
+pub judged_after : {A : Type 0} (first second : Fault) (tests : List Fault)
+    (result : Result A CommitFault) → first ≡ None → second ≡ None
+    → IsJudged (first_refusal tests) result
     → IsJudged (first_refusal (first ∷ second ∷ tests)) result
-judged_behind first second tests result e f h =
-    subst (λ (r : Fault). IsJudged r result) (sym (first_later first (second ∷ tests) e ∙ first_later second tests f)) h
+judged_after first second tests result e f h =
+    subst (λ (r : Fault). IsJudged r result) (sym
+    (first_later first (second ∷ tests) e ∙ first_later second tests f)) h
 
 -- a test that is not met decides
-pub first_decides : (first : Fault) (tests : List Fault) (r : Refusal) → first ≡ Some r → first_refusal (first ∷ tests) ≡ Some r
+pub first_decides : (first : Fault) (tests : List Fault) (r : Refusal) → first ≡ Some r
+    → first_refusal (first ∷ tests) ≡ Some r
 first_decides first tests r e = first_at first tests r e
 
-pub second_decides : (first second : Fault) (tests : List Fault) (r : Refusal) → first ≡ None → second ≡ Some r → first_refusal (first ∷ second ∷ tests) ≡ Some r
-second_decides first second tests r e f = first_later first (second ∷ tests) e ∙ first_at second tests r f
+pub second_decides : (first second : Fault) (tests : List Fault) (r : Refusal) → first ≡ None
+    → second ≡ Some r → first_refusal (first ∷ second ∷ tests) ≡ Some r
+second_decides first second tests r e f = first_later first (second ∷ tests) e
+    ∙ first_at second tests r f

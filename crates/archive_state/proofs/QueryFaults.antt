@@ -1,31 +1,33 @@
 -- The first refusal of a query, test by test.
-use Rattle.std.proofs.Common.{◌≡◌, ◌≤◌, ℕ, true, List, [], ◌∷◌, ◌++◌, length, refl, sym, ap, subst, ◌∙◌, arith}
+use Rattle.std.proofs.Common.{◌≡◌, ◌≤◌, ℕ, true, List, [], ◌∷◌, ◌++◌, length, refl, sym, ap, subst}
+use Rattle.std.proofs.Common.{◌∙◌, arith}
 use Rattle.std.specs.Prelude.{nat_le, Option, Some, None, Result}
 use Rattle.std.proofs.lemmas.List.{length-map}
 use Rattle.std.proofs.lemmas.Bool.Decides.{nat_tests}
 use Rattle.prima_base.specs.Keeping.{kept}
-use Rattle.prima_base.specs.declared.refusals.Refusal.{Refusal}
-use Rattle.prima_base.specs.declared.refusals.Refusal.TheVariants.{NoVersion}
+use Rattle.prima_base.specs.declared.refusal.Refusal.{Refusal}
+use Rattle.prima_base.specs.declared.refusal.Refusal.TheVariants.{NoVersion}
 use Rattle.relations.specs.Timed.{Entry}
 use Rattle.smo_types.specs.Commands.{PlainVersion, version_of}
 use Rattle.version_groups.specs.Groups.{Kept, versions_in}
-use Rattle.version_groups.specs.Showing.{Shows}
+use Rattle.version_groups.specs.Showing.{Represents}
 use Rattle.smo_meaning.specs.Checks.{Fault}
 use Rattle.smo_meaning.specs.First.{unless, first_refusal}
 use Rattle.smo_meaning.specs.Losses.{Loss}
 use Rattle.smo_meaning.specs.OneRow.{Row}
 use Rattle.smo_meaning.specs.Past.{Past, tables_of}
-use Rattle.smo_meaning.proofs.Firsts.{first_behind, first_before, first_later, first_alone}
+use Rattle.smo_meaning.proofs.Firsts.{first_after, first_before, first_later, first_alone}
 use Rattle.temporal_lang.specs.Queries.{PlainQuery}
 use Rattle.temporal_lang.specs.Accepted.{no_way_back, loss_fault, version_fault, fault_of_query}
 use Rattle.temporal_lang.specs.Losing.{first_lost}
 use Rattle.temporal_lang.proofs.WayBackLaws.{no_way_back_is}
 use Rattle.answer_text.specs.declared.listing.Listing.{Listing}
-use Rattle.archive_state.specs.declared.faults.AskFault.{AskFault}
+use Rattle.archive_state.specs.declared.fault.AskFault.{AskFault}
 use Rattle.archive_state.specs.Asking.{IsAsked, TellsWayBack}
 use Rattle.temporal_lang.specs.Checking.{excess_of, excess_fault, query_tests, query_fault}
 
-module _ (past : Past) (query : PlainQuery) (few : excess_of query ≡ None) (there : query.version ≤ length past.versions) where
+module _ (past : Past) (query : PlainQuery) (few : excess_of query ≡ None)
+    (there : query.version ≤ length past.versions) where
   abbrev tests : List Fault
   tests = query_tests (tables_of past query.version) query
 
@@ -37,34 +39,46 @@ module _ (past : Past) (query : PlainQuery) (few : excess_of query ≡ None) (th
       let met : nat_le query.version (length past.versions) ≡ true = grind (arith, nat_tests) in
       ap (λ b. unless b (NoVersion query.version (length past.versions))) met
 
-  behind_version : fault_of_query past query ≡ first_refusal (tests ++ loss ∷ [])
-  behind_version =
-      first_later (excess_fault (excess_of query)) (version_fault past query.version ∷ (tests ++ loss ∷ [])) (ap excess_fault few)
+  after_version : fault_of_query past query ≡ first_refusal (tests ++ loss ∷ [])
+  after_version =
+      first_later (excess_fault (excess_of query))
+      (version_fault past query.version ∷ (tests ++ loss ∷ [])) (ap excess_fault few)
       ∙ first_later (version_fault past query.version) (tests ++ loss ∷ []) version_met
 
   -- the tests over its version's tables
-  pub test_fails : (r : Refusal) → query_fault (tables_of past query.version) query ≡ Some r → fault_of_query past query ≡ Some r
-  test_fails r e = behind_version ∙ first_before tests (loss ∷ []) r (sym (first_later (excess_fault (excess_of query)) tests (ap excess_fault few)) ∙ e)
+  pub test_fails : (r : Refusal) → query_fault (tables_of past query.version) query ≡ Some r
+      → fault_of_query past query ≡ Some r
+  test_fails r e = after_version ∙ first_before tests (loss ∷ []) r
+      (sym (first_later (excess_fault (excess_of query)) tests (ap excess_fault few)) ∙ e)
 
-  pub tests_met : query_fault (tables_of past query.version) query ≡ None → first_refusal tests ≡ None
+  pub tests_met : query_fault (tables_of past query.version) query ≡ None
+      → first_refusal tests ≡ None
   tests_met e = sym (first_later (excess_fault (excess_of query)) tests (ap excess_fault few)) ∙ e
 
   -- and last its first loss
   pub loss_decides : first_refusal tests ≡ None → fault_of_query past query ≡ loss
-  loss_decides e = behind_version ∙ first_behind tests (loss ∷ []) e ∙ first_alone loss
+  loss_decides e = after_version ∙ first_after tests (loss ∷ []) e ∙ first_alone loss
 
-  pub none_lost : (l : Option Loss) → l ≡ first_lost past query → l ≡ None → first_refusal tests ≡ None → fault_of_query past query ≡ None
+  pub none_lost : (l : Option Loss) → l ≡ first_lost past query → l ≡ None
+      → first_refusal tests ≡ None → fault_of_query past query ≡ None
   none_lost l e n t = loss_decides t ∙ ap (loss_fault past.versions) (sym e ∙ n)
 
-  pub one_lost : (l : Option Loss) (at : Loss) (r : Refusal) → l ≡ first_lost past query → l ≡ Some at → r ≡ no_way_back past.versions at → first_refusal tests ≡ None → fault_of_query past query ≡ Some r
-  one_lost l at r e n is t = loss_decides t ∙ ap (loss_fault past.versions) (sym e ∙ n) ∙ ap Some (sym is)
+  pub one_lost : (l : Option Loss) (at : Loss) (r : Refusal) → l ≡ first_lost past query
+      → l ≡ Some at → r ≡ no_way_back past.versions at → first_refusal tests ≡ None
+      → fault_of_query past query ≡ Some r
+  one_lost l at r e n is t = loss_decides t ∙ ap (loss_fault past.versions) (sym e ∙ n)
+      ∙ ap Some (sym is)
 
-pub within_kept : (kept : Kept) (past : Past) (n : ℕ) → Shows kept past → n ≤ length past.versions → n ≤ length kept.versions
+pub within_kept : (kept : Kept) (past : Past) (n : ℕ) → Represents kept past
+    → n ≤ length past.versions → n ≤ length kept.versions
 within_kept kept past n shows l =
-    let same : length (versions_in kept) ≡ length past.versions = ap (λ (vs : List PlainVersion). length vs) shows.versions in
+    let same : length (versions_in kept) ≡ length past.versions =
+    ap (λ (vs : List PlainVersion). length vs) shows.versions in
     let many = length-map kept.versions version_of in
     omega arith
 
 -- a refusal for want of a way back has its cause
-pub way_back_told : (past : Past) (query : PlainQuery) (result : Result Listing AskFault) → IsAsked past query result → TellsWayBack past query result
-way_back_told past query result asked = λ k kind e. no_way_back_is past query k kind (subst (IsAsked past query) e asked)
+pub way_back_told : (past : Past) (query : PlainQuery) (result : Result Listing AskFault)
+    → IsAsked past query result → TellsWayBack past query result
+way_back_told past query result asked = λ k kind e.
+    no_way_back_is past query k kind (subst (IsAsked past query) e asked)

@@ -1,5 +1,6 @@
 -- What an archive answers to a query, over all of history, and tells of it.
-use Rattle.std.specs.Prelude.{◌≡◌, ℕ, ◌≤◌, List, [], ◌∷◌, ◌++◌, length, Option, Some, None, Bool, true, false, Result, Err, MatchResult, ⊤}
+use Rattle.std.specs.Prelude.{◌≡◌, ℕ, ◌≤◌, List, [], ◌∷◌, ◌++◌, length, Option, Some, None, Bool}
+use Rattle.std.specs.Prelude.{true, false, Result, Err, MatchResult, ⊤}
 use Rattle.std.specs.declared.vec.Vec.{Vec}
 use Rattle.std.specs.declared.alloc.Global.{Global}
 use Rattle.prima_base.specs.Timed.{entries_of}
@@ -9,21 +10,21 @@ use Rattle.piece_meaning.specs.Rules.{Book}
 use Rattle.smo_meaning.specs.Checks.{Fault}
 use Rattle.smo_meaning.specs.First.{first_refusal}
 use Rattle.smo_meaning.specs.Past.{Past, tables_of}
-use Rattle.temporal_lang.specs.declared.whens.When.{When}
-use Rattle.temporal_lang.specs.declared.whens.When.TheVariants.{Always, AsOf, During}
-use Rattle.temporal_lang.specs.declared.queries.Query.{Query}
+use Rattle.temporal_lang.specs.declared.when.When.{When}
+use Rattle.temporal_lang.specs.declared.when.When.TheVariants.{Always, AsOf, During}
+use Rattle.temporal_lang.specs.declared.query.Query.{Query}
 use Rattle.temporal_lang.specs.Queries.{PlainQuery, query_of, IsLasting}
 use Rattle.temporal_lang.specs.Answers.{answer}
-use Rattle.prima_base.specs.declared.refusals.OpKind.{OpKind}
-use Rattle.prima_base.specs.declared.refusals.Refusal.TheVariants.{NoInverse}
+use Rattle.prima_base.specs.declared.refusal.OpKind.{OpKind}
+use Rattle.prima_base.specs.declared.refusal.Refusal.TheVariants.{NoInverse}
 use Rattle.temporal_lang.specs.Accepted.{fault_of_query, HasNoWayBack}
 use Rattle.temporal_lang.specs.Atoms.{with_atoms}
 use Rattle.temporal_lang.specs.Checking.{excess_of, query_tests}
 use Rattle.piece_texts.specs.ExplainedPieces.{PlainExplained, all_explained}
 use Rattle.piece_texts.specs.declared.explained.Explained.{Explained}
 use Rattle.query_exec.specs.QueryPieces.{ArePieces, living_pieces}
-use Rattle.archive_state.specs.declared.faults.AskFault.{AskFault}
-use Rattle.archive_state.specs.declared.faults.AskFault.TheVariants.{Refused, NoMemory}
+use Rattle.archive_state.specs.declared.fault.AskFault.{AskFault}
+use Rattle.archive_state.specs.declared.fault.AskFault.TheVariants.{Refused, NoMemory}
 
 -- the periods of the entries are told, but where one moment is asked of
 abbrev pub tells_periods : When → Bool
@@ -31,7 +32,7 @@ tells_periods Always = true
 tells_periods (AsOf m) = false
 tells_periods (During a b) = true
 
--- why a query is not answered: its first refusal; want of memory is free
+-- why a query is not answered: its first refusal; running out of memory is free
 abbrev pub IsWrong : Past → PlainQuery → AskFault → Type 0
 IsWrong past query (Refused r) = fault_of_query past query ≡ Some r
 IsWrong past query NoMemory = ⊤
@@ -44,12 +45,14 @@ pub record IsListed (past : Past) (query : PlainQuery) (listing : Listing) : Typ
 
 -- what an archive answers to a query
 abbrev pub IsAsked : Past → PlainQuery → Result Listing AskFault → Type 0
-IsAsked past query result = MatchResult result (λ listing. IsListed past query listing) (λ fault. IsWrong past query fault)
+IsAsked past query result = MatchResult result (λ listing. IsListed past query listing)
+    (λ fault. IsWrong past query fault)
 
--- it is refused for want of a way back over a version only where there is none: at a moment of the slice that version is gone back
--- over, names no inverse, and loses a table of the query
+-- it is refused for want of a way back over a version only where there is none: at a moment of the
+-- slice that version is gone back over, names no inverse, and loses a table of the query
 abbrev pub TellsWayBack : Past → PlainQuery → Result Listing AskFault → Type 0
-TellsWayBack past query result = (k : ℕ) → (kind : OpKind) → result ≡ Err (Refused (NoInverse k kind)) → HasNoWayBack past query k kind
+TellsWayBack past query result = (k : ℕ) → (kind : OpKind)
+    → result ≡ Err (Refused (NoInverse k kind)) → HasNoWayBack past query k kind
 
 -- ---- the pieces of a query
 
@@ -61,14 +64,17 @@ IfAccepted (Some r) are pieces = pieces ≡ []
 -- else those of the query with each reference made one to an atom
 abbrev pub ArePiecesOf : Book → Past → PlainQuery → List PlainExplained → Type 0
 ArePiecesOf book past query pieces =
-    IfAccepted (fault_of_query past query) (ArePieces book past.versions (with_atoms (tables_of past query.version) query) pieces) pieces
+    IfAccepted (fault_of_query past query) (ArePieces book past.versions
+    (with_atoms (tables_of past query.version) query) pieces) pieces
 
 -- the same by a function: the list that is told of a query that is not refused
 abbrev pub pieces_told : Book → Past → PlainQuery → List PlainExplained
-pieces_told book past query = living_pieces book past.versions (with_atoms (tables_of past query.version) query)
+pieces_told book past query = living_pieces book past.versions
+    (with_atoms (tables_of past query.version) query)
 
 -- the pieces of a query that is not refused, told
-pub record AreTold (book : Book) (past : Past) (query : PlainQuery) (pieces : List PlainExplained) : Type 0 where
+pub record AreTold (book : Book) (past : Past) (query : PlainQuery) (pieces : List PlainExplained) :
+    Type 0 where
   pub accepted : fault_of_query past query ≡ None
   pub are : ArePieces book past.versions (with_atoms (tables_of past query.version) query) pieces
   pub told : pieces ≡ pieces_told book past query
@@ -76,7 +82,8 @@ pub record AreTold (book : Book) (past : Past) (query : PlainQuery) (pieces : Li
 -- what an archive tells of a query: its pieces, or why it is refused
 abbrev pub IsExplained : Book → Past → PlainQuery → Result (Vec Explained Global) AskFault → Type 0
 IsExplained book past query result =
-    MatchResult result (λ list. AreTold book past query (all_explained list.items)) (λ fault. IsWrong past query fault)
+    MatchResult result (λ list. AreTold book past query (all_explained list.items))
+    (λ fault. IsWrong past query fault)
 
 -- ---- the steps of an answer
 

@@ -5,11 +5,11 @@ use Rattle.smo_meaning.specs.Checks.{Fault}
 use Rattle.smo_meaning.specs.Accepts.{command_fault}
 use Rattle.smo_meaning.specs.Past.{Past, past_with}
 use Rattle.version_groups.specs.Room.{IsSame}
-use Rattle.version_groups.specs.Steps.{Readied, Prepares, rows_gained, rows_lost}
-use Rattle.archive_state.specs.declared.archives.Done.{Done}
-use Rattle.archive_state.specs.declared.faults.CommitFault.{CommitFault}
-use Rattle.archive_state.specs.declared.faults.CommitFault.TheVariants.{Refused, NoMemory}
-use Rattle.archive_state.specs.Standing.{Standing, ShowsPast}
+use Rattle.version_groups.specs.Steps.{PreparedCommand, Prepares, rows_gained, rows_lost}
+use Rattle.archive_state.specs.declared.archive.Done.{Done}
+use Rattle.archive_state.specs.declared.fault.CommitFault.{CommitFault}
+use Rattle.archive_state.specs.declared.fault.CommitFault.TheVariants.{Refused, NoMemory}
+use Rattle.archive_state.specs.Standing.{ArchiveContent, RepresentsPast}
 
 -- what a test answers: it is met, or this is its refusal
 abbrev pub IsJudged : {A : Type 0} → Fault → Result A CommitFault → Type 0
@@ -22,7 +22,7 @@ abbrev pub version_made : PlainBody → ℕ → Option ℕ
 version_made (changing changes) newest = None
 version_made (evolving op inverse) newest = Some newest
 
--- what an accepted command did behind the past
+-- what an accepted command did after the past
 pub record IsDone (past : Past) (command : PlainCommand) (done : Done) : Type 0 where
   pub stamp : done.stamp ≡ command.stamp
   pub gained : done.gained ≡ rows_gained past command.body
@@ -30,13 +30,16 @@ pub record IsDone (past : Past) (command : PlainCommand) (done : Done) : Type 0 
   pub version : done.version ≡ version_made command.body (length (past_with past command).versions)
 
 -- the archive is as it was, but for room that was made
-pub record IsAsBefore (old new : Standing) : Type 0 where
+pub record IsAsBefore (old new : ArchiveContent) : Type 0 where
   pub groups : IsSame old.groups new.groups
   pub last : new.last ≡ old.last
 
--- an accepted command was made ready, and the archive shows the past that it showed, with room for what is to be done;
--- another is refused by its first refusal, and the archive is what it was; where memory runs out it is as it was, too
-abbrev pub Readies : Past → PlainCommand → Standing → Result Readied CommitFault → Standing → Type 0
-Readies past command old (Ok next) new = (command_fault past command ≡ None) × IsAsBefore old new × ShowsPast new past × Prepares new.groups past command next
+-- an accepted command was made ready, and the archive shows the past that it showed, with room for
+-- what is to be done; another is refused by its first refusal, and the archive is what it was;
+-- where memory runs out it is as it was, too
+abbrev pub Readies : Past → PlainCommand → ArchiveContent → Result PreparedCommand CommitFault
+    → ArchiveContent → Type 0
+Readies past command old (Ok next) new = (command_fault past command ≡ None) × IsAsBefore old new
+    × RepresentsPast new past × Prepares new.groups past command next
 Readies past command old (Err (Refused r)) new = (command_fault past command ≡ Some r) × (new ≡ old)
-Readies past command old (Err NoMemory) new = IsAsBefore old new × ShowsPast new past
+Readies past command old (Err NoMemory) new = IsAsBefore old new × RepresentsPast new past

@@ -2,21 +2,21 @@
 use Rattle.std.specs.Prelude.{◌≡◌, ℕ, Option}
 use Rattle.smo_meaning.specs.Past.{Past}
 use Rattle.version_groups.specs.Groups.{Kept}
-use Rattle.version_groups.specs.Showing.{Shows}
+use Rattle.version_groups.specs.Showing.{Represents}
 
 -- the versions with their stored tables, and the last stamp
-pub record Standing : Type 0 where
+pub record ArchiveContent : Type 0 where
   pub groups : Kept
   pub last : Option ℕ
 
-abbrev pub a_standing : Kept → Option ℕ → Standing
-a_standing groups last = record { groups = groups; last = last }
+abbrev pub archive_content : Kept → Option ℕ → ArchiveContent
+archive_content groups last = record { groups = groups; last = last }
 
 -- its versions and tables show the past, and its last stamp is the past's
-pub record ShowsPast (archive : Standing) (past : Past) : Type 0 where
-  pub groups : Shows archive.groups past
+pub record RepresentsPast (archive : ArchiveContent) (past : Past) : Type 0 where
+  pub groups : Represents archive.groups past
   pub last : archive.last ≡ past.last
 
 -- it shows some past
-abbrev pub ShowsSome : Standing → Type 0
-ShowsSome archive = (past : Past) × ShowsPast archive past
+abbrev pub RepresentsSome : ArchiveContent → Type 0
+RepresentsSome archive = (past : Past) × RepresentsPast archive past

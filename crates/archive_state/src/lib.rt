@@ -1,14 +1,14 @@
-//! The archive: it accepts commands, or refuses them, and answers queries from what was accepted. It keeps what it
-//! has in memory.
+//! The archive: it accepts commands, or refuses them, and answers queries from what was accepted.
+//! It keeps what it has in memory.
 //!
-//! `specs/Standing.antt` says when an archive stands for a past; a command that is accepted makes it stand for the
-//! past with this command.
+//! `specs/Standing.antt` says when an archive stands for a past; a command that is accepted makes
+//! it stand for the past with this command.
 #![tactic(auto)]
 
-mod accepting;
-mod archives;
-mod asking;
-mod faults;
+mod acceptance;
+mod archive;
+mod fault;
+mod question;
 
-pub use archives::{ArchiveState, Done};
-pub use faults::{AskFault, CommitFault};
+pub use archive::{ArchiveState, Done};
+pub use fault::{AskFault, CommitFault};

@@ -1,14 +1,14 @@
 //! The lines that begin a block of cases.
 
-/// What the lines behind one are.
+/// What the lines after one are.
 #[derive(Clone, Copy, PartialEq, Eq)]
 pub(crate) enum Block {
     /// A case that stands alone.
     Alone,
-    /// A script that stands before those of the cases behind it.
+    /// A script that stands before those of the cases after it.
     Setup,
-    /// A case behind the setup before it.
-    Behind,
+    /// A case after the setup before it.
+    After,
 }
 
 /// The block that a line begins, if it begins one.
@@ -16,7 +16,7 @@ pub(crate) fn block_of(line: &[u8]) -> Option<Block> {
     match line {
         [b'=', b'=', b' ', ..] => Some(Block::Alone),
         [b'=', b'.', b' ', ..] => Some(Block::Setup),
-        [b'=', b'+', b' ', ..] => Some(Block::Behind),
+        [b'=', b'+', b' ', ..] => Some(Block::After),
         _ => None,
     }
 }

@@ -1,10 +1,12 @@
 //! Plays scripts that stand as cases in one text, each over an archive of its own.
 //!
-//! A line `== name` begins a case: its script is the lines behind that line, each with its line break, up to the
-//! next line that begins a case or a setup. A line `=. name` begins a setup, whose script stands before that of
-//! each case behind it that a line `=+ name` begins, up to the next setup.
+//! A line `== name` begins a case: its script is the lines after that line, each with its line
+//! break, up to the next line that begins a case or a setup. A line `=. name` begins a setup, whose
+//! script stands before that of each case after it that a line `=+ name` begins, up to the next
+//! setup.
 //!
-//! What is played is `run` itself, over a source in memory that hands out small pieces and a sink in memory.
+//! What is played is `run` itself, over a source in memory that hands out small pieces and a sink
+//! in memory.
 #![tactic(auto)]
 
 mod block;

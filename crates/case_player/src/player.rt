@@ -29,8 +29,8 @@ struct Played {
     code: u8,
 }
 
-/// Runs a script over an empty disk in memory, with one rule for each kind of operator. The one error comes where there is no
-/// memory for the rules or the disk.
+/// Runs a script over an empty disk in memory, with one rule for each kind of operator. The one
+/// error comes where there is no memory for the rules or the disk.
 pub fn run_with_rules<S: Source, K: Sink>(
     alloc: Global,
     words: &[Word],
@@ -93,14 +93,14 @@ impl Player {
 
     // Plays the script before this point, and tells the replies that are its own.
     fn end_case(&mut self) -> Result<(), NoMemory> {
-        let is_behind = self.block == Block::Behind;
+        let is_after = self.block == Block::After;
         let mut whole = Vec::new(self.alloc);
-        if is_behind {
+        if is_after {
             whole.extend_from_slice(&self.setup)?;
         }
         whole.extend_from_slice(&self.script)?;
         let played = play_script(self.alloc, &whole)?;
-        let from = if is_behind { self.setup_replies } else { 0 };
+        let from = if is_after { self.setup_replies } else { 0 };
         let own = played.replies.get(from..).unwrap_or_default();
         self.answers.extend_from_slice(own)?;
         self.answers.extend_from_slice(b"status ")?;
@@ -146,8 +146,9 @@ impl Player {
     }
 }
 
-/// Plays each case of a text of lines, and answers for each its line `== name`, the replies to its script, those
-/// to its setup left out, and the line `status N` of the run. The one error comes where memory runs out.
+/// Plays each case of a text of lines, and answers for each its line `== name`, the replies to its
+/// script, those to its setup left out, and the line `status N` of the run. The one error comes
+/// where memory runs out.
 pub fn play(alloc: Global, cases: &[u8]) -> Result<Vec<u8>, AllocError> {
     match play_lines(alloc, cases) {
         Ok(answers) => Ok(answers),
@@ -155,7 +156,7 @@ pub fn play(alloc: Global, cases: &[u8]) -> Result<Vec<u8>, AllocError> {
     }
 }
 
-// The same, with the one word for want of memory that the crates below have.
+// The same, with the one word when out of memory that the crates below have.
 fn play_lines(alloc: Global, cases: &[u8]) -> Result<Vec<u8>, NoMemory> {
     let mut player = Player::new(alloc);
     let mut begin = 0;

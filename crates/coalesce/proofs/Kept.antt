@@ -1,5 +1,6 @@
 -- Places of a list of rows that is cut in place.
-use Rattle.std.proofs.Common.{◌≡◌, ◌<◌, ◌≤◌, ◌+◌, ℕ, List, [], ◌∷◌, ◌++◌, length, take, drop, get_or, refl, sym, ap, ◌∙◌, append_assoc, append-nil, arith}
+use Rattle.std.proofs.Common.{◌≡◌, ◌<◌, ◌≤◌, ◌+◌, ℕ, List, [], ◌∷◌, ◌++◌, length, take, drop}
+use Rattle.std.proofs.Common.{get_or, refl, sym, ap, ◌∙◌, append_assoc, append-nil, arith}
 use Rattle.std.specs.Prelude.{Some, None}
 use Rattle.std.proofs.Math.ListN.{set, drop_of_length-le}
 use Rattle.std.specs.List.{swap, filter_map, cons_option}
@@ -7,14 +8,16 @@ use Rattle.std.proofs.lemmas.List.{take-set-le, take_more, drop_more, drop-set-l
 use Rattle.std.proofs.lemmas.List.Edits.{swap_is, length-swap}
 use Rattle.std.proofs.lemmas.Grind.{common_steps}
 use Rattle.relations.specs.Spans.{Span}
-use Rattle.prima_base.specs.declared.timed_rows.TimedRow.{TimedRow}
+use Rattle.prima_base.specs.declared.timed_row.TimedRow.{TimedRow}
 use Rattle.coalesce.specs.Cutting.{cut_row, left}
 
 module _ (slice : Span) where
-  swapped : (xs : List TimedRow) (i n : ℕ) (d g : TimedRow) → i ≤ n → n < length xs → get_or (set (set (set xs n g) i g) n (get_or (set xs n g) i d)) i d ≡ g
+  swapped : (xs : List TimedRow) (i n : ℕ) (d g : TimedRow) → i ≤ n → n < length xs
+      → get_or (set (set (set xs n g) i g) n (get_or (set xs n g) i d)) i d ≡ g
   swapped xs i n d g le nl = grind (arith, common_steps)
 
-  pub kept_one : (xs ys : List TimedRow) (k n : ℕ) (d g : TimedRow) → k ≤ n → n < length xs → cut_row slice (get_or xs n d) ≡ Some g → ys ≡ swap (set xs n g) k n
+  pub kept_one : (xs ys : List TimedRow) (k n : ℕ) (d g : TimedRow) → k ≤ n → n < length xs
+      → cut_row slice (get_or xs n d) ≡ Some g → ys ≡ swap (set xs n g) k n
       → left slice k n xs ≡ left slice (k + 1) (n + 1) ys
   unfolding left
   kept_one xs ys k n d g kn nl cut ys_swap =
@@ -24,19 +27,25 @@ module _ (slice : Span) where
       let nl2 : n < length (set xs n g) = omega arith in
       let h = get_or (set xs n g) k d in
       let here : get_or (set xs n g) n d ≡ g = get_or-set_same xs n g d nl in
-      let ys_is : ys ≡ set (set (set xs n g) k g) n h = ys_swap ∙ sym (swap_is (set xs n g) k n d kl nl2) ∙ ap (λ v. set (set (set xs n g) k v) n h) here in
+      let ys_is : ys ≡ set (set (set xs n g) k g) n h = ys_swap
+      ∙ sym (swap_is (set xs n g) k n d kl nl2)
+      ∙ ap (λ v. set (set (set xs n g) k v) n h) here in
       let long : k < length ys = rw (ap length ys_swap ∙ length-swap (set xs n g) k n) kl in
-      let front : take k ys ≡ take k xs =
-      ap (take k) ys_is ∙ take-set-le k (set (set xs n g) k g) n h (omega arith) ∙ take-set-le k (set xs n g) k g (omega arith) ∙ take-set-le k xs n g (omega arith) in
+      let prefix : take k ys ≡ take k xs =
+      ap (take k) ys_is ∙ take-set-le k (set (set xs n g) k g) n h (omega arith)
+      ∙ take-set-le k (set xs n g) k g (omega arith) ∙ take-set-le k xs n g (omega arith) in
       let last : get_or ys k d ≡ g = ap (λ l. get_or l k d) ys_is ∙ swapped xs k n d g kn nl in
       let back : drop (n + 1) ys ≡ drop (n + 1) xs =
-      ap (drop (n + 1)) ys_is ∙ drop-set-lt (n + 1) (set (set xs n g) k g) n h (omega arith) ∙ drop-set-lt (n + 1) (set xs n g) k g (omega arith) ∙ drop-set-lt (n + 1) xs n g (omega arith) in
+      ap (drop (n + 1)) ys_is ∙ drop-set-lt (n + 1) (set (set xs n g) k g) n h (omega arith)
+      ∙ drop-set-lt (n + 1) (set xs n g) k g (omega arith)
+      ∙ drop-set-lt (n + 1) xs n g (omega arith) in
       ap (λ l. take k xs ++ filter_map f l) (drop_more xs n d nl)
       ∙ ap (λ o. take k xs ++ cons_option o (filter_map f (drop (n + 1) xs))) cut
       ∙ sym (append_assoc (take k xs) (g ∷ []) (filter_map f (drop (n + 1) xs)))
-      ∙ sym (rw (take_more ys k d long, front, last, back) refl)
+      ∙ sym (rw (take_more ys k d long, prefix, last, back) refl)
 
-  pub dropped_one : (xs : List TimedRow) (k n : ℕ) (d g : TimedRow) → k ≤ n → n < length xs → cut_row slice (get_or xs n d) ≡ None
+  pub dropped_one : (xs : List TimedRow) (k n : ℕ) (d g : TimedRow) → k ≤ n → n < length xs
+      → cut_row slice (get_or xs n d) ≡ None
       → left slice k n xs ≡ left slice k (n + 1) (set xs n g)
   unfolding left
   dropped_one xs k n d g kn nl cut =

@@ -3,7 +3,7 @@ use Rattle.std.specs.Prelude.{ℕ, List, ◌++◌, take, drop, Option, Some, Non
 use Rattle.std.specs.List.{filter_map}
 use Rattle.relations.specs.Spans.{Span, common}
 use Rattle.relations.specs.Timed.{Entry}
-use Rattle.prima_base.specs.declared.timed_rows.TimedRow.{TimedRow}
+use Rattle.prima_base.specs.declared.timed_row.TimedRow.{TimedRow}
 
 abbrev pub with_period : TimedRow → Option Span → Option TimedRow
 with_period row None = None

@@ -1,11 +1,12 @@
 -- Entries in order, joined where they touch.
-use Rattle.std.specs.Prelude.{◌≡◌, ℕ, ◌&&◌, Bool, nat_le, max, List, [], ◌∷◌, ◌++◌, take, drop, if◌then◌else◌}
+use Rattle.std.specs.Prelude.{◌≡◌, ℕ, ◌&&◌, Bool, nat_le, max, List, [], ◌∷◌, ◌++◌, take, drop}
+use Rattle.std.specs.Prelude.{if◌then◌else◌}
 use Rattle.std.specs.Ordering.{is_eq}
 use Rattle.std.specs.declared.cmp.Ordering.{Ordering}
 use Rattle.relations.specs.Sets.{In}
 use Rattle.relations.specs.Spans.{Span, span}
 use Rattle.relations.specs.Timed.{Entry}
-use Rattle.prima_base.specs.declared.timed_rows.TimedRow.{TimedRow}
+use Rattle.prima_base.specs.declared.timed_row.TimedRow.{TimedRow}
 use Rattle.prima_base.specs.Timed.{vals_cmp}
 
 -- the start of the first, up to the later end
@@ -14,7 +15,8 @@ both p q = span p.start (max p.end q.end)
 
 -- the second is of the same row, and begins before, or where, the first ends
 abbrev pub touch_rows : TimedRow → TimedRow → Bool
-touch_rows a b = is_eq (vals_cmp a.values.items b.values.items) && nat_le b.period.start a.period.end
+touch_rows a b = is_eq (vals_cmp a.values.items b.values.items)
+    && nat_le b.period.start a.period.end
 
 abbrev pub join_rows : TimedRow → TimedRow → TimedRow
 join_rows a b = record a { period = both a.period b.period }
@@ -25,10 +27,11 @@ touch_entries cmp a b = is_eq (cmp a.item b.item) && nat_le b.period.start a.per
 abbrev pub join_entries : {X : Type 0} → Entry X → Entry X → Entry X
 join_entries a b = record { item = a.item; period = both a.period b.period }
 
--- a member, and those behind it, each joined into the one before that it touches
+-- a member, and those after it, each joined into the one before that it touches
 abbrev pub into : {E : Type 0} → (E → E → Bool) → (E → E → E) → E → List E → List E
 into touch join e [] = e ∷ []
-into touch join e (f ∷ rest) = if touch e f then into touch join (join e f) rest else e ∷ into touch join f rest
+into touch join e (f ∷ rest) = if touch e f then into touch join (join e f) rest
+    else e ∷ into touch join f rest
 
 abbrev pub merged : {E : Type 0} → (E → E → Bool) → (E → E → E) → List E → List E
 merged touch join [] = []
@@ -41,8 +44,11 @@ goes_on touch join (e ∷ others) rest = into touch join e rest
 
 -- what the list stands for: what is kept, the last of it joined with what comes next
 unfoldable pub standing : {E : Type 0} → (E → E → Bool) → (E → E → E) → ℕ → ℕ → List E → List E
-standing touch join kept next rows = take kept rows ++ goes_on touch join (drop kept rows) (drop next rows)
+standing touch join kept next rows = take kept rows
+    ++ goes_on touch join (drop kept rows) (drop next rows)
 
--- each row of the second list has the very values of a row of the first: what of them is lent stays lent
+-- each row of the second list has the very values of a row of the first: what of them is borrowed
+-- stays borrowed
 abbrev pub HaveValuesOf : List TimedRow → List TimedRow → Type 0
-HaveValuesOf before after = (row : TimedRow) → In row after → (old : TimedRow) × In old before × (old.values.items ≡ row.values.items)
+HaveValuesOf before after = (row : TimedRow) → In row after → (old : TimedRow) × In old before
+    × (old.values.items ≡ row.values.items)

@@ -1,12 +1,12 @@
 //! Coalescing: the one list of what rows with periods hold inside a slice, made in place.
 //!
-//! The rows are cut to the slice, sorted, and joined where they touch. (Coalescing, PRIMA 2008.) Of the list `keep` keeps what
-//! meets the conditions of a KEEP.
+//! The rows are cut to the slice, sorted, and joined where they touch. (Coalescing, PRIMA 2008.) Of
+//! the list `keep` keeps what meets the conditions of a KEEP.
 #![tactic(auto)]
 
-mod cutting;
-mod joining;
-mod keeping;
+mod row_cut;
+mod row_keep;
+mod row_merge;
 
 ghost use Rattle.std.specs.Prelude.{◌≡◌, ℕ, true, false, []};
 ghost use Rattle.relations.specs.Listing.{IsListing};
@@ -15,18 +15,19 @@ ghost use Rattle.coalesce.specs.Joining.{HaveValuesOf};
 ghost use Rattle.prima_base.specs.Order.{row_cmp};
 ghost use Rattle.prima_base.specs.Timed.{rows_at, entries_of};
 
-use crate::cutting::cut_rows;
-use crate::joining::join_sorted;
-pub use keeping::keep;
+use crate::row_cut::cut_rows;
+use crate::row_merge::join_sorted;
 use prima_base::{Period, TimedRow};
+pub use row_keep::keep;
 
 /// Makes of rows with periods the one list of what they hold inside a slice: each row with its
-/// longest periods, ascending by row and start. At each moment of the slice the same rows hold as before, and at no other
-/// moment any. The values of each row are those of one that was there: what is lent stays lent. It takes no memory.
-/// (Coalescing, PRIMA 2008.)
+/// longest periods, ascending by row and start. At each moment of the slice the same rows hold as
+/// before, and at no other moment any. The values of each row are those of one that was there: what
+/// is borrowed stays borrowed. It takes no memory. (Coalescing, PRIMA 2008.)
 pub fn coalesce_in_place(rows: &mut Vec<TimedRow<'_>>, slice: Period)
     ensures listing { IsListing row_cmp (rows_at rows.old.items) slice (entries_of rows.new.items) }
-    ensures same { (m : ℕ) → covers slice m ≡ true → rows_at rows.new.items m ≡ rows_at rows.old.items m }
+    ensures same { (m : ℕ) → covers slice m ≡ true
+        → rows_at rows.new.items m ≡ rows_at rows.old.items m }
     ensures inside { (m : ℕ) → covers slice m ≡ false → rows_at rows.new.items m ≡ [] }
     ensures values { HaveValuesOf rows.old.items rows.new.items }
 {

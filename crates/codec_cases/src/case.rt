@@ -133,7 +133,7 @@ pub(crate) fn play(alloc: Global, cases: &[u8]) -> Result<Vec<u8>, AllocError> {
     }
 }
 
-// The same, with the one word for want of memory that the crates below have.
+// The same, with the one word when out of memory that the crates below have.
 fn play_lines(alloc: Global, cases: &[u8]) -> Result<Vec<u8>, NoMemory> {
     let mut case = Case::new(alloc);
     let mut begin = 0;

@@ -15,11 +15,11 @@ fn any_name(alloc: Global) -> Result<Name, NoMemory> {
     }
 }
 
-// An operator's text without so many bytes in front and at the end.
-fn inside(alloc: Global, op: &Op, front: usize, end: usize) -> Result<Vec<u8>, NoMemory> {
+// An operator's text without so many bytes in prefix and at the end.
+fn inside(alloc: Global, op: &Op, prefix: usize, end: usize) -> Result<Vec<u8>, NoMemory> {
     let text = op_text(alloc, op)?;
     let part = text
-        .get(front..text.len().saturating_sub(end))
+        .get(prefix..text.len().saturating_sub(end))
         .unwrap_or_default();
     Ok(Vec::from_slice(alloc, part)?)
 }

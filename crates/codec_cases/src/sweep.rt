@@ -52,8 +52,8 @@ pub(crate) fn write_cuts(alloc: Global, bytes: &[u8], lines: &mut Vec<u8>) -> Re
     groups.end(lines)
 }
 
-// The sign of what bytes of this length are that were changed at a place, and where they are so, if that is
-// at another place.
+// The sign of what bytes of this length are that were changed at a place, and where they are so, if
+// that is at another place.
 fn sign_of(found: Found, place: u64, len: u64) -> (u8, Option<u64>) {
     match found {
         Found::Command => (b'+', None),

@@ -18,7 +18,8 @@ with_ends to (c ∷ (d ∷ cells)) = entry c d.start ∷ with_ends to (d ∷ cel
 -- ascending by id and start
 abbrev pub entries_from : ℕ → List Span → List Write → List Cell
 entries_from id [] cells = []
-entries_from id (k ∷ keys) cells = with_ends k.end (of_id id cells) ++ entries_from (id + 1) keys cells
+entries_from id (k ∷ keys) cells = with_ends k.end (of_id id cells)
+    ++ entries_from (id + 1) keys cells
 
 -- each write starts later than the one before it, and before the end
 abbrev pub Climbs : ℕ → ℕ → List Write → Type 0

@@ -1,7 +1,7 @@
 -- The writes of a column, oldest first.
 use Rattle.std.specs.Prelude.{ℕ, ◌&&◌, nat_le, ◌==◌, List, [], ◌∷◌, if◌then◌else◌}
-use Rattle.prima_base.specs.declared.values.Value.{Value}
-use Rattle.prima_base.specs.declared.values.ColType.{ColType}
+use Rattle.prima_base.specs.declared.value.Value.{Value}
+use Rattle.prima_base.specs.declared.value.ColType.{ColType}
 
 -- from the start on, the row with this id has this value
 pub record Write : Type 0 where
@@ -9,7 +9,8 @@ pub record Write : Type 0 where
   pub value : Value
   pub start : ℕ
 
--- what is seen of a column: its type, its ids, which count up from 0, its writes, and for how many more there is room
+-- what is seen of a column: its type, its ids, which count up from 0, its writes, and for how many
+-- more there is room
 pub record Log : Type 0 where
   pub kind : ColType
   pub ids : ℕ
@@ -29,4 +30,5 @@ newest id (c ∷ cells) = over (newest id cells) (if c.id == id then c.value ∷
 -- the value that the row with this id has at the moment
 abbrev pub value_at : ℕ → ℕ → List Write → List Value
 value_at id m [] = []
-value_at id m (c ∷ cells) = over (value_at id m cells) (if (c.id == id) && nat_le c.start m then c.value ∷ [] else [])
+value_at id m (c ∷ cells) = over (value_at id m cells)
+    (if (c.id == id) && nat_le c.start m then c.value ∷ [] else [])

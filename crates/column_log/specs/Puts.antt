@@ -2,7 +2,7 @@
 use Rattle.std.specs.Prelude.{ℕ, ◌&&◌, ◌==◌, Bool, false, List, [], ◌∷◌, ◌++◌, if◌then◌else◌}
 use Rattle.relations.specs.Spans.{span, forever}
 use Rattle.prima_base.specs.Order.{value_eq}
-use Rattle.prima_base.specs.declared.values.Value.{Value}
+use Rattle.prima_base.specs.declared.value.Value.{Value}
 use Rattle.column_log.specs.Log.{Write, newest}
 use Rattle.table_histories.specs.Store.{Cell}
 
@@ -11,9 +11,11 @@ is_value v [] = false
 is_value v (w ∷ []) = value_eq w v
 is_value v (w ∷ (x ∷ ws)) = false
 
--- the column with this value of the id from the stamp on: a cell is added only where the value differs
+-- the column with this value of the id from the stamp on: a cell is added only where the value
+-- differs
 abbrev pub put : ℕ → Value → ℕ → List Write → List Write
-put id v stamp cells = if is_value v (newest id cells) then cells else cells ++ record { id = id; value = v; start = stamp } ∷ []
+put id v stamp cells = if is_value v (newest id cells) then cells
+    else cells ++ record { id = id; value = v; start = stamp } ∷ []
 
 -- the entry of this id that still goes on
 abbrev pub goes_on : ℕ → Cell → Bool
@@ -25,11 +27,13 @@ ended stamp c = record { id = c.id; value = c.value; period = span c.period.star
 abbrev pub begun : ℕ → Value → ℕ → Cell
 begun id v stamp = record { id = id; value = v; period = span stamp forever }
 
--- a column's entries where the id has this value from the stamp on: an entry is added only where the value differs,
--- and then the one that went on ends
+-- a column's entries where the id has this value from the stamp on: an entry is added only where
+-- the value differs, and then the one that went on ends
 abbrev pub write : ℕ → Value → ℕ → List Cell → List Cell
 write id v stamp [] = begun id v stamp ∷ []
-write id v stamp (c ∷ cells) = if goes_on id c then (if value_eq c.value v then c ∷ cells else ended stamp c ∷ (begun id v stamp ∷ cells)) else c ∷ write id v stamp cells
+write id v stamp (c ∷ cells) = if goes_on id c
+    then (if value_eq c.value v then c ∷ cells else ended stamp c ∷ (begun id v stamp ∷ cells))
+    else c ∷ write id v stamp cells
 
 -- a column's entries where the id ends at the stamp
 abbrev pub close : ℕ → ℕ → List Cell → List Cell

@@ -1,6 +1,6 @@
 -- What a scan of a column hands out.
 use Rattle.prima_base.specs.Order.{shown}
-use Rattle.column_log.specs.declared.scans.CellEntry.{CellEntry}
+use Rattle.column_log.specs.declared.scan.CellEntry.{CellEntry}
 use Rattle.table_histories.specs.Store.{Cell}
 
 -- the cell that an entry shows

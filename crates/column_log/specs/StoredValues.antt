@@ -1,11 +1,11 @@
 -- The values of a column, and the room that they take.
 use Rattle.std.specs.Prelude.{ℕ, ◌-◌, ◌/◌, List, [], length, map, vec_len, vec_capacity}
-use Rattle.prima_base.specs.declared.values.Value.{Value}
-use Rattle.prima_base.specs.declared.values.Value.TheVariants.{Int, Text}
-use Rattle.prima_base.specs.declared.values.ColType.{ColType}
-use Rattle.prima_base.specs.declared.values.ColType.TheVariants.{Int as IntType, Text as TextType}
-use Rattle.column_log.specs.declared.stored_values.StoredValues.{StoredValues}
-use Rattle.column_log.specs.declared.stored_values.StoredValues.TheVariants.{Numbers, Texts}
+use Rattle.prima_base.specs.declared.value.Value.{Value}
+use Rattle.prima_base.specs.declared.value.Value.TheVariants.{Int, Text}
+use Rattle.prima_base.specs.declared.value.ColType.{ColType}
+use Rattle.prima_base.specs.declared.value.ColType.TheVariants.{Int as IntType, Text as TextType}
+use Rattle.column_log.specs.declared.stored_value.StoredValues.{StoredValues}
+use Rattle.column_log.specs.declared.stored_value.StoredValues.TheVariants.{Numbers, Texts}
 use Rattle.column_log.specs.Texts.{piece}
 
 -- the type of the column

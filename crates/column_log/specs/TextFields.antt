@@ -1,5 +1,6 @@
 -- The fields of a buffer of texts.
-use Rattle.std.specs.Prelude.{◌≡◌, ℕ, ◌-◌, ◌/◌, ◌≤◌, min, List, [], ◌∷◌, length, take, drop, vec_len, vec_capacity}
+use Rattle.std.specs.Prelude.{◌≡◌, ℕ, ◌-◌, ◌/◌, ◌≤◌, min, List, [], ◌∷◌, length, take, drop}
+use Rattle.std.specs.Prelude.{vec_len, vec_capacity}
 use Rattle.prima_base.specs.Bytes.{IsTxt}
 use Rattle.column_log.specs.Texts.{Texts, piece}
 use Rattle.column_log.specs.declared.text_buffer.TextBuffer.TheInside.{Inside}
@@ -12,7 +13,8 @@ parts start (end ∷ ends) bytes = take (end - start) (drop start bytes) ∷ par
 abbrev pub texts_of : Inside → Texts
 texts_of a = record {
   items = parts 0 a.ends.items a.bytes.items;
-  spare = min ((vec_capacity a.bytes - vec_len a.bytes) / piece) (vec_capacity a.ends - vec_len a.ends);
+  spare = min ((vec_capacity a.bytes - vec_len a.bytes) / piece)
+      (vec_capacity a.ends - vec_len a.ends);
 }
 
 -- the places go up from the start to the end of all bytes
@@ -26,4 +28,4 @@ AllTexts (text ∷ texts) = IsTxt text × AllTexts texts
 
 pub record AreTexts (a : Inside) : Type 0 where
   pub rise : Rise 0 a.ends.items (length a.bytes.items)
-  pub lawful : AllTexts (parts 0 a.ends.items a.bytes.items)
+  pub valid : AllTexts (parts 0 a.ends.items a.bytes.items)

@@ -1,4 +1,4 @@
--- Texts one behind the other in one buffer.
+-- Texts one after the other in one buffer.
 use Rattle.std.specs.Prelude.{ℕ, List}
 
 -- what is seen of them: the texts, and for how many more there is room

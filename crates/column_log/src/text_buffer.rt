@@ -1,6 +1,7 @@
-//! Texts one behind the other in one buffer.
+//! Texts one after the other in one buffer.
 
-ghost use Rattle.std.specs.Prelude.{◌≡◌, ◌+◌, ◌-◌, ◌≤◌, ◌∷◌, ◌++◌, take, drop, length, slice_index, vec_len, vec_capacity};
+ghost use Rattle.std.specs.Prelude.{◌≡◌, ◌+◌, ◌-◌, ◌≤◌, ◌∷◌, ◌++◌, take, drop, length, slice_index};
+ghost use Rattle.std.specs.Prelude.{vec_len, vec_capacity};
 
 use prima_base::NoMemory;
 use std::alloc::Global;
@@ -9,7 +10,8 @@ use std::marker::Model;
 /// How many bytes of text a piece of room is for.
 pub(crate) const PIECE: usize = 32;
 
-/// Texts one behind the other in one buffer: for each the place behind its last byte, where the next one begins.
+/// Texts one after the other in one buffer: for each the place after its last byte, where the next
+/// one begins.
 #[derive(Drop)]
 pub(crate) struct TextBuffer {
     bytes: Vec<u8>,
@@ -28,7 +30,7 @@ impl Model for TextBuffer {
     ghost invariant = { AreTexts };
 }
 
-// The bytes and these behind them.
+// The bytes and these after them.
 fn append(bytes: &mut Vec<u8>, more: &[u8])
     requires { vec_len bytes.old + length more.now ≤ vec_capacity bytes.old }
     ensures items { bytes.new.items ≡ bytes.old.items ++ more.now }
@@ -60,7 +62,8 @@ fn part(bytes: &[u8], start: usize, end: usize) -> &[u8]
 }
 
 impl TextBuffer {
-    ghost use Rattle.std.specs.Prelude.{◌≡◌, ◌+◌, ◌/◌, ◌<◌, ◌≤◌, [], ◌∷◌, ◌++◌, OnOk, length, slice_index_or};
+    ghost use Rattle.std.specs.Prelude.{◌≡◌, ◌+◌, ◌/◌, ◌<◌, ◌≤◌, [], ◌∷◌, ◌++◌, OnOk, length};
+    ghost use Rattle.std.specs.Prelude.{slice_index_or};
     ghost use Rattle.prima_base.specs.Bytes.{IsTxt};
     ghost use Rattle.column_log.specs.Texts.{piece};
 
@@ -90,7 +93,7 @@ impl TextBuffer {
 
     /// One text more, whose bytes are copied once. It takes no memory.
     pub(crate) fn push(&mut self, text: &[u8])
-        requires lawful { IsTxt text.now }
+        requires valid { IsTxt text.now }
         requires room { length text.now / piece < self.old.spare }
         ensures items { self.new.items ≡ self.old.items ++ text.now ∷ [] }
         ensures spare { self.old.spare ≤ self.new.spare + length text.now / piece + 1 }
@@ -103,7 +106,7 @@ impl TextBuffer {
     pub(crate) fn text(&self, at: usize) -> &[u8]
         requires { at < length self.now.items }
         ensures text { result.now ≡ slice_index_or self.now.items at [] }
-        ensures lawful { IsTxt result.now }
+        ensures valid { IsTxt result.now }
     {
         part(&self.bytes, start_of(&self.ends, at), self.ends[at])
     }

@@ -2,12 +2,14 @@
 use Rattle.std.proofs.Common.{◌≡◌, ℕ, ◌+◌, ◌-◌, ◌<◌, ◌≤◌, List, [], ◌∷◌, ◌++◌, ap, ◌∙◌}
 use Rattle.command_codec.specs.declared.reader.Stop.{Stop}
 use Rattle.command_codec.specs.declared.reader.Stop.TheVariants as stop
-use Rattle.command_spelling.specs.Reading.{Out, Got, Stuck, Parser, and_then, digits, items, listed}
+use Rattle.command_spelling.specs.Reading.{Out, Parsed, Unexpected, Parser, and_then, digits, items}
+use Rattle.command_spelling.specs.Reading.{listed}
 use Rattle.command_codec.specs.Reads.{Passes, Halts}
 use Rattle.command_codec.proofs.ListSteps.{SoMany, none_yet, one_item, no_item, all_items}
 
 -- some were passed, and so many are left
-pub record PassesMany {A : Type 0} (p : Parser A) (count left : ℕ) (start rest : List ℕ) : Type 0 where
+pub record PassesMany {A : Type 0} (p : Parser A) (count left : ℕ) (start rest : List ℕ) :
+    Type 0 where
   pub list : List A
   pub so : SoMany p count left start rest list
 
@@ -16,24 +18,40 @@ module _ {A : Type 0} (p : Parser A) where
   none_passed count start = record { list = []; so = none_yet p count start }
 
   module _ (count i : ℕ) (start ts : List ℕ) (many : PassesMany p count (count - i) start ts) where
-    pub one_passed : (rest : List ℕ) → i < count → Passes (p ts) rest → PassesMany p count (count - (i + 1)) start rest
-    one_passed rest h one = record { list = many.list ++ one.read ∷ []; so = one_item p count i start ts many.list many.so one.read rest h one.got }
+    pub one_passed : (rest : List ℕ) → i < count → Passes (p ts) rest
+        → PassesMany p count (count - (i + 1)) start rest
+    one_passed rest h one = record {
+      list = many.list ++ one.read ∷ [];
+      so =
+          one_item p count i start ts many.list many.so one.read rest h one.got;
+    }
 
-    pub one_halts : (e : Stop) (new : List ℕ) → i < count → Halts (p ts) e new → Halts (items p count start) e new
+    pub one_halts : (e : Stop) (new : List ℕ) → i < count → Halts (p ts) e new
+        → Halts (items p count start) e new
     one_halts stop.NoMemory new h f = absurd f
-    one_halts stop.Stuck new h f = no_item p count i start ts many.list many.so stop.Stuck new h f
+    one_halts stop.Unexpected new h f = no_item p count i start ts many.list many.so stop.Unexpected
+        new h f
 
     pub all_passed : count ≤ i → Passes (items p count start) ts
-    all_passed h = record { read = many.list; got = all_items p count i start ts many.list many.so h }
+    all_passed h = record {
+      read = many.list;
+      got =
+          all_items p count i start ts many.list many.so h;
+    }
 
--- the same with the count in front
-module _ {A : Type 0} (p : Parser A) (k most count i : ℕ) (start us ts : List ℕ) (counted : digits most k 0 start ≡ Got count us) (many : PassesMany p count (count - i) us ts) where
-  behind_count : (o : Out (List A)) → items p count us ≡ o → listed k most p start ≡ o
-  behind_count o e = ap (λ o. and_then o (λ n. items p n)) counted ∙ e
+-- the same with the count in prefix
+module _ {A : Type 0} (p : Parser A) (k most count i : ℕ) (start us ts : List ℕ)
+    (counted : digits most k 0 start ≡ Parsed count us)
+    (many : PassesMany p count (count - i) us ts) where
+  after_count : (o : Out (List A)) → items p count us ≡ o → listed k most p start ≡ o
+  after_count o e = ap (λ o. and_then o (λ n. items p n)) counted ∙ e
 
-  pub one_listed_halts : (e : Stop) (new : List ℕ) → i < count → Halts (p ts) e new → Halts (listed k most p start) e new
+  pub one_listed_halts : (e : Stop) (new : List ℕ) → i < count → Halts (p ts) e new
+      → Halts (listed k most p start) e new
   one_listed_halts stop.NoMemory new h f = absurd f
-  one_listed_halts stop.Stuck new h f = behind_count (Stuck new) (one_halts p count i us ts many stop.Stuck new h f)
+  one_listed_halts stop.Unexpected new h f = after_count (Unexpected new)
+      (one_halts p count i us ts many stop.Unexpected new h f)
 
   pub all_listed : count ≤ i → Passes (listed k most p start) ts
-  all_listed h = let all = all_passed p count i us ts many h in record { read = all.read; got = behind_count (Got all.read ts) all.got }
+  all_listed h = let all = all_passed p count i us ts many h in
+      record { read = all.read; got = after_count (Parsed all.read ts) all.got }

@@ -2,12 +2,15 @@
 use Rattle.std.proofs.Common.{◌≡◌, ℕ, ◌<◌, ◌^◌, List, ◌++◌, length, get_or, sym, ap, ◌∙◌, arith}
 use Rattle.std.specs.Int.{w64, from_be_bytes, bytes_high_first}
 use Rattle.std.proofs.lemmas.Nat.{be_bytes_8}
-use Rattle.command_spelling.specs.Reading.{Got, digits}
+use Rattle.command_spelling.specs.Reading.{Parsed, digits}
 use Rattle.command_spelling.specs.Spelling.{number}
-use Rattle.command_spelling.proofs.Numbers.{number_good}
+use Rattle.command_spelling.proofs.Numbers.{number_correct}
 
-pub read_at_once : (bs : List ℕ) → length bs ≡ 8 → ((i : ℕ) → get_or bs i 0 < 256) → (n : ℕ) → n < 2 ^ 64 → n ≡ from_be_bytes w64 bs → (rest : List ℕ) → digits 18446744073709551615 8 0 (bs ++ rest) ≡ Got n rest
+pub read_at_once : (bs : List ℕ) → length bs ≡ 8 → ((i : ℕ) → get_or bs i 0 < 256) → (n : ℕ)
+    → n < 2 ^ 64 → n ≡ from_be_bytes w64 bs → (rest : List ℕ)
+    → digits 18446744073709551615 8 0 (bs ++ rest) ≡ Parsed n rest
 unfolding number
 read_at_once bs eight small n few is rest =
     let bytes : bytes_high_first 8 n ≡ bs = be_bytes_8 bs n eight small is in
-    ap (λ l. digits 18446744073709551615 8 0 (l ++ rest)) (sym bytes) ∙ (number_good 18446744073709551615 8 (omega arith)).complete n (omega (arith, few)) rest
+    ap (λ l. digits 18446744073709551615 8 0 (l ++ rest)) (sym bytes)
+    ∙ (number_correct 18446744073709551615 8 (omega arith)).complete n (omega (arith, few)) rest

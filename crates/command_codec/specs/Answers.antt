@@ -2,11 +2,12 @@
 use Rattle.std.specs.Prelude.{ℕ, Bool, Option, Some, None, Result, Ok, Err}
 use Rattle.prima_base.specs.Bytes.{is_name_byte}
 use Rattle.smo_types.specs.Commands.{command_of}
-use Rattle.smo_types.specs.declared.commands.Body.{Body}
+use Rattle.smo_types.specs.declared.command.Body.{Body}
 use Rattle.command_spelling.specs.Reader.{is_text_byte}
-use Rattle.command_spelling.specs.Found.{Decoding, whole, bad_at, rest_at, Part, part, no_part, more}
-use Rattle.command_codec.specs.declared.faults.CodecFault.{CodecFault}
-use Rattle.command_codec.specs.declared.faults.CodecFault.TheVariants.{BadAt, Rest, NoMemory}
+use Rattle.command_spelling.specs.Found.{Decoding, whole, bad_at, rest_at, Part, part, no_part}
+use Rattle.command_spelling.specs.Found.{more}
+use Rattle.command_codec.specs.declared.fault.CodecFault.{CodecFault}
+use Rattle.command_codec.specs.declared.fault.CodecFault.TheVariants.{BadAt, Rest, NoMemory}
 use Rattle.command_codec.specs.declared.reader.Alphabet.{Alphabet}
 use Rattle.command_codec.specs.declared.reader.Alphabet.TheVariants.{Named, Printed}
 

@@ -2,29 +2,29 @@
 use Rattle.std.specs.Prelude.{◌≡◌, ℕ, List, Result, Ok, Err}
 use Rattle.command_codec.specs.declared.reader.Stop.{Stop}
 use Rattle.command_codec.specs.declared.reader.Stop.TheVariants as stop
-use Rattle.command_spelling.specs.Reading.{Out, Got, Stuck}
+use Rattle.command_spelling.specs.Reading.{Out, Parsed, Unexpected}
 
--- it stands at the byte with which nothing goes on; want of memory is free
+-- it stands at the byte with which nothing goes on; running out of memory is free
 abbrev pub Fails : {A : Type 0} → Out A → Stop → List ℕ → Type 0
 Fails out stop.NoMemory new = Unit {0}
-Fails out stop.Stuck new = out ≡ Stuck new
+Fails out stop.Unexpected new = out ≡ Unexpected new
 
 -- it was read, or failed, as reading says
 abbrev pub Reads : {A X : Type 0} → (X → A) → Out A → Result X Stop → List ℕ → Type 0
-Reads view out (Ok x) new = out ≡ Got (view x) new
+Reads view out (Ok x) new = out ≡ Parsed (view x) new
 Reads view out (Err e) new = Fails out e new
 
 -- ---- functions that keep nothing of what they read, and take no memory
 
--- something was read, and this stands behind it
+-- something was read, and this stands after it
 pub record Passes {A : Type 0} (out : Out A) (new : List ℕ) : Type 0 where
   pub read : A
-  pub got : out ≡ Got read new
+  pub got : out ≡ Parsed read new
 
 -- it stands at the byte with which nothing goes on
 abbrev pub Halts : {A : Type 0} → Out A → Stop → List ℕ → Type 0
 Halts out stop.NoMemory new = ⊥
-Halts out stop.Stuck new = out ≡ Stuck new
+Halts out stop.Unexpected new = out ≡ Unexpected new
 
 -- the bytes were recognized as a spelling, or not, as reading says
 abbrev pub Recognizes : {A X : Type 0} → Out A → Result X Stop → List ℕ → Type 0

@@ -1,12 +1,13 @@
 //! Reading changes and commands.
 
-ghost use Rattle.smo_types.specs.Changes.{change_of, changes_of, set_of_expr, sets_of, insertion, deletion, update};
+ghost use Rattle.smo_types.specs.Changes.{change_of, changes_of, set_of_expr, sets_of, insertion};
+ghost use Rattle.smo_types.specs.Changes.{deletion, update};
 ghost use Rattle.smo_types.specs.Commands.{body_of, command_of, changing, evolving};
 ghost use Rattle.command_spelling.specs.Reading.{map_to, pair};
 ghost use Rattle.command_spelling.specs.Reader as spec;
 ghost use Rattle.command_codec.specs.Reads.{Reads};
 
-use crate::fields::{name, value};
+use crate::field::{name, value};
 use crate::operator_reader::{op, ops};
 use crate::reader::{Reader, Stop};
 use crate::tree_reader::{outer_cond, outer_expr};
@@ -51,7 +52,8 @@ fn set(alloc: Global, reader: &mut Reader<'_>) -> Result<(Name, Expr), Stop>
 // What columns are set to, with their count before them.
 #[tactic(auto, unfolding(command_spelling::specs::Reader::sets))]
 fn sets(alloc: Global, reader: &mut Reader<'_>) -> Result<Vec<(Name, Expr)>, Stop>
-    ensures { Reads (λ v. sets_of v.items) (spec.sets reader.old.rest.now) result reader.new.rest.now }
+    ensures { Reads (λ v. sets_of v.items) (spec.sets reader.old.rest.now) result
+        reader.new.rest.now }
 {
     let count = reader.number(4, 0xFFFF_FFFF)?;
     let mut list = Vec::new(alloc);
@@ -63,7 +65,8 @@ fn sets(alloc: Global, reader: &mut Reader<'_>) -> Result<Vec<(Name, Expr)>, Sto
 
 // What stands after the tag of INSERT.
 fn insert(alloc: Global, reader: &mut Reader<'_>) -> Result<Change, Stop>
-    ensures { Reads change_of (map_to (λ x. insertion x.0 x.1) (pair spec.name spec.cells) reader.old.rest.now) result reader.new.rest.now }
+    ensures { Reads change_of (map_to (λ x. insertion x.0 x.1) (pair spec.name spec.cells)
+        reader.old.rest.now) result reader.new.rest.now }
 {
     let table = name(alloc, reader)?;
     let cells = cells(alloc, reader)?;
@@ -72,7 +75,8 @@ fn insert(alloc: Global, reader: &mut Reader<'_>) -> Result<Change, Stop>
 
 // What stands after the tag of DELETE.
 fn delete(alloc: Global, reader: &mut Reader<'_>) -> Result<Change, Stop>
-    ensures { Reads change_of (map_to (λ x. deletion x.0 x.1) (pair spec.name spec.outermost.cond) reader.old.rest.now) result reader.new.rest.now }
+    ensures { Reads change_of (map_to (λ x. deletion x.0 x.1) (pair spec.name spec.outermost.cond)
+        reader.old.rest.now) result reader.new.rest.now }
 {
     let table = name(alloc, reader)?;
     let cond = outer_cond(alloc, reader)?;
@@ -81,7 +85,9 @@ fn delete(alloc: Global, reader: &mut Reader<'_>) -> Result<Change, Stop>
 
 // What stands after the tag of UPDATE.
 fn update(alloc: Global, reader: &mut Reader<'_>) -> Result<Change, Stop>
-    ensures { Reads change_of (map_to (λ x. update x.0.0 x.0.1 x.1) (pair (pair spec.name spec.sets) spec.outermost.cond) reader.old.rest.now) result reader.new.rest.now }
+    ensures { Reads change_of (map_to (λ x. update x.0.0 x.0.1 x.1)
+        (pair (pair spec.name spec.sets) spec.outermost.cond) reader.old.rest.now) result
+        reader.new.rest.now }
 {
     let table = name(alloc, reader)?;
     let sets = sets(alloc, reader)?;
@@ -104,7 +110,8 @@ fn change(alloc: Global, reader: &mut Reader<'_>) -> Result<Change, Stop>
 // Changes, with their count before them.
 #[tactic(auto, unfolding(command_spelling::specs::Reader::changes))]
 fn changes(alloc: Global, reader: &mut Reader<'_>) -> Result<Vec<Change>, Stop>
-    ensures { Reads (λ v. changes_of v.items) (spec.changes reader.old.rest.now) result reader.new.rest.now }
+    ensures { Reads (λ v. changes_of v.items) (spec.changes reader.old.rest.now) result
+        reader.new.rest.now }
 {
     let count = reader.number(4, 0xFFFF_FFFF)?;
     let mut list = Vec::new(alloc);

@@ -1,11 +1,14 @@
 //! Reading operators.
 
-ghost use Rattle.smo_types.specs.Operators.{operator_of, operators_of, create_table, rename_table, copy_table, merge_table, partition_table, decompose_table, join_table, add_column, drop_column, rename_column};
+ghost use Rattle.smo_types.specs.Operators.{operator_of, operators_of, create_table, rename_table};
+ghost use Rattle.smo_types.specs.Operators.{copy_table, merge_table, partition_table};
+ghost use Rattle.smo_types.specs.Operators.{decompose_table, join_table, add_column, drop_column};
+ghost use Rattle.smo_types.specs.Operators.{rename_column};
 ghost use Rattle.command_spelling.specs.Reading.{map_to, pair};
 ghost use Rattle.command_spelling.specs.Reader as spec;
 ghost use Rattle.command_codec.specs.Reads.{Reads};
 
-use crate::fields::{column_type, name};
+use crate::field::{column_type, name};
 use crate::reader::{Reader, Stop};
 use crate::tree_reader::{outer_cond, outer_expr};
 use prima_base::{ColType, Name};
@@ -51,7 +54,8 @@ fn names(alloc: Global, reader: &mut Reader<'_>) -> Result<Vec<Name>, Stop>
 // Two names.
 #[tactic(auto, unfolding(command_spelling::specs::Reader::two_names))]
 fn two_names(alloc: Global, reader: &mut Reader<'_>) -> Result<(Name, Name), Stop>
-    ensures { Reads (λ x. (x.0, x.1)) (spec.two_names reader.old.rest.now) result reader.new.rest.now }
+    ensures { Reads (λ x. (x.0, x.1)) (spec.two_names reader.old.rest.now) result
+        reader.new.rest.now }
 {
     let first = name(alloc, reader)?;
     let second = name(alloc, reader)?;
@@ -61,7 +65,8 @@ fn two_names(alloc: Global, reader: &mut Reader<'_>) -> Result<(Name, Name), Sto
 // Three names.
 #[tactic(auto, unfolding(command_spelling::specs::Reader::three_names))]
 fn three_names(alloc: Global, reader: &mut Reader<'_>) -> Result<(Name, Name, Name), Stop>
-    ensures { Reads (λ x. ((x.0, x.1), x.2)) (spec.three_names reader.old.rest.now) result reader.new.rest.now }
+    ensures { Reads (λ x. ((x.0, x.1), x.2)) (spec.three_names reader.old.rest.now) result
+        reader.new.rest.now }
 {
     let (first, second) = two_names(alloc, reader)?;
     let third = name(alloc, reader)?;
@@ -70,7 +75,8 @@ fn three_names(alloc: Global, reader: &mut Reader<'_>) -> Result<(Name, Name, Na
 
 // What stands after the tag of CREATE TABLE.
 fn created_table(alloc: Global, reader: &mut Reader<'_>) -> Result<Op, Stop>
-    ensures { Reads operator_of (map_to (λ x. create_table x.0 x.1) (pair spec.name spec.columns) reader.old.rest.now) result reader.new.rest.now }
+    ensures { Reads operator_of (map_to (λ x. create_table x.0 x.1) (pair spec.name spec.columns)
+        reader.old.rest.now) result reader.new.rest.now }
 {
     let table = name(alloc, reader)?;
     let columns = columns(alloc, reader)?;
@@ -79,7 +85,9 @@ fn created_table(alloc: Global, reader: &mut Reader<'_>) -> Result<Op, Stop>
 
 // What stands after the tag of PARTITION TABLE.
 fn partitioned_table(alloc: Global, reader: &mut Reader<'_>) -> Result<Op, Stop>
-    ensures { Reads operator_of (map_to (λ x. partition_table x.0.0.0 x.0.0.1 x.0.1 x.1) (pair (pair spec.two_names spec.outermost.cond) spec.name) reader.old.rest.now) result reader.new.rest.now }
+    ensures { Reads operator_of (map_to (λ x. partition_table x.0.0.0 x.0.0.1 x.0.1 x.1)
+        (pair (pair spec.two_names spec.outermost.cond) spec.name) reader.old.rest.now) result
+        reader.new.rest.now }
 {
     let (table, yes) = two_names(alloc, reader)?;
     let cond = outer_cond(alloc, reader)?;
@@ -94,7 +102,9 @@ fn partitioned_table(alloc: Global, reader: &mut Reader<'_>) -> Result<Op, Stop>
 
 // What stands after the tag of DECOMPOSE TABLE.
 fn decomposed_table(alloc: Global, reader: &mut Reader<'_>) -> Result<Op, Stop>
-    ensures { Reads operator_of (map_to (λ x. decompose_table x.0.0.0.0 x.0.0.0.1 x.0.0.1 x.0.1 x.1) (pair (pair (pair spec.two_names spec.names) spec.name) spec.names) reader.old.rest.now) result reader.new.rest.now }
+    ensures { Reads operator_of (map_to (λ x. decompose_table x.0.0.0.0 x.0.0.0.1 x.0.0.1 x.0.1 x.1)
+        (pair (pair (pair spec.two_names spec.names) spec.name) spec.names) reader.old.rest.now)
+        result reader.new.rest.now }
 {
     let (table, left) = two_names(alloc, reader)?;
     let left_columns = names(alloc, reader)?;
@@ -111,7 +121,8 @@ fn decomposed_table(alloc: Global, reader: &mut Reader<'_>) -> Result<Op, Stop>
 
 // What stands after the tag of JOIN TABLE.
 fn joined_table(alloc: Global, reader: &mut Reader<'_>) -> Result<Op, Stop>
-    ensures { Reads operator_of (map_to (λ x. join_table x.0.0.0 x.0.0.1 x.0.1 x.1) (pair spec.three_names spec.outermost.cond) reader.old.rest.now) result reader.new.rest.now }
+    ensures { Reads operator_of (map_to (λ x. join_table x.0.0.0 x.0.0.1 x.0.1 x.1)
+        (pair spec.three_names spec.outermost.cond) reader.old.rest.now) result reader.new.rest.now }
 {
     let (left, right, into) = three_names(alloc, reader)?;
     let cond = outer_cond(alloc, reader)?;
@@ -125,7 +136,8 @@ fn joined_table(alloc: Global, reader: &mut Reader<'_>) -> Result<Op, Stop>
 
 // What stands after the tag of ADD COLUMN.
 fn added_column(alloc: Global, reader: &mut Reader<'_>) -> Result<Op, Stop>
-    ensures { Reads operator_of (map_to (λ x. add_column x.0.1 x.1 x.0.0) (pair spec.two_names spec.outermost.expr) reader.old.rest.now) result reader.new.rest.now }
+    ensures { Reads operator_of (map_to (λ x. add_column x.0.1 x.1 x.0.0)
+        (pair spec.two_names spec.outermost.expr) reader.old.rest.now) result reader.new.rest.now }
 {
     let (table, column) = two_names(alloc, reader)?;
     let expr = outer_expr(alloc, reader)?;
@@ -138,7 +150,8 @@ fn added_column(alloc: Global, reader: &mut Reader<'_>) -> Result<Op, Stop>
 
 // What stands after the tag of RENAME COLUMN.
 fn renamed_column(alloc: Global, reader: &mut Reader<'_>) -> Result<Op, Stop>
-    ensures { Reads operator_of (map_to (λ x. rename_column x.0.1 x.0.0 x.1) spec.three_names reader.old.rest.now) result reader.new.rest.now }
+    ensures { Reads operator_of (map_to (λ x. rename_column x.0.1 x.0.0 x.1) spec.three_names
+        reader.old.rest.now) result reader.new.rest.now }
 {
     let (table, column, into) = three_names(alloc, reader)?;
     Ok(Op::RenameColumn {
@@ -186,7 +199,8 @@ pub fn op(alloc: Global, reader: &mut Reader<'_>) -> Result<Op, Stop>
 /// Operators, with their count before them.
 #[tactic(auto, unfolding(command_spelling::specs::Reader::operators))]
 pub fn ops(alloc: Global, reader: &mut Reader<'_>) -> Result<Vec<Op>, Stop>
-    ensures { Reads (λ v. operators_of v.items) (spec.operators reader.old.rest.now) result reader.new.rest.now }
+    ensures { Reads (λ v. operators_of v.items) (spec.operators reader.old.rest.now) result
+        reader.new.rest.now }
 {
     let count = reader.number(4, 0xFFFF_FFFF)?;
     let mut list = Vec::new(alloc);

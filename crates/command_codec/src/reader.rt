@@ -1,7 +1,7 @@
-//! Reading bytes from the front.
+//! Reading bytes from the start.
 
 ghost use Rattle.std.specs.Prelude.{◌≡◌, ◌++◌, ℕ, List};
-ghost use Rattle.command_spelling.specs.Reading.{Got, digits};
+ghost use Rattle.command_spelling.specs.Reading.{Parsed, digits};
 
 use prima_base::NoMemory;
 use std::alloc::{AllocError, AllocFailed};
@@ -12,7 +12,7 @@ pub enum Stop {
     /// Memory ran out. Where the reader stands then is not said.
     NoMemory,
     /// With the byte at the reader no spelling goes on, or the bytes ended.
-    Stuck,
+    Unexpected,
 }
 
 impl From<AllocError> for Stop {
@@ -74,7 +74,7 @@ impl Alphabet {
 
 // The number of eight bytes, the highest first.
 fn number_of(bytes: &[u8; 8]) -> u64
-    ensures { (rest : List ℕ) → digits u64.MAX 8 0 (bytes.now ++ rest) ≡ Got result rest }
+    ensures { (rest : List ℕ) → digits u64.MAX 8 0 (bytes.now ++ rest) ≡ Parsed result rest }
 {
     u64::from_be_bytes(*bytes)
 }
@@ -87,7 +87,8 @@ pub struct Reader<'a> {
 }
 
 impl<'a> Reader<'a> {
-    ghost use Rattle.std.specs.Prelude.{◌≡◌, ◌+◌, ◌*◌, ◌/◌, ◌≤◌, ◌<◌, ◌^◌, ◌&&◌, nat_lt, nat_le, ℕ, length, IfOk, Err};
+    ghost use Rattle.std.specs.Prelude.{◌≡◌, ◌+◌, ◌*◌, ◌/◌, ◌≤◌, ◌<◌, ◌^◌, ◌&&◌, nat_lt, nat_le, ℕ};
+    ghost use Rattle.std.specs.Prelude.{length, IfOk, Err};
     ghost use Rattle.command_codec.specs.declared.reader.Stop.TheVariants as stop;
     ghost use Rattle.command_spelling.specs.Reading.{byte, digits, run, map_to};
     ghost use Rattle.command_spelling.specs.Reader as spec;
@@ -96,7 +97,8 @@ impl<'a> Reader<'a> {
 
     /// The next byte, if it is at most this.
     pub fn tag(&mut self, most: u8) -> Result<u8, Stop>
-        ensures reads { Reads (λ b. b) (byte (spec.up_to most) self.old.rest.now) result self.new.rest.now }
+        ensures reads { Reads (λ b. b) (byte (spec.up_to most) self.old.rest.now) result
+            self.new.rest.now }
         ensures memory { result ≡ Err stop.NoMemory → ⊥ }
     {
         match self.rest {
@@ -104,22 +106,24 @@ impl<'a> Reader<'a> {
                 self.rest = rest;
                 Ok(*first)
             }
-            _ => Err(Stop::Stuck),
+            _ => Err(Stop::Unexpected),
         }
     }
 
     // A number that goes on with the next byte after `high`, if it is at most this.
     fn digit(&mut self, high: u64, most: u64) -> Result<u64, Stop>
         requires { high ≤ most / 256 }
-        ensures reads { Reads (λ n. n) (map_to (λ b. high * 256 + b) (byte (λ b. nat_lt b 256 && nat_le (high * 256 + b) most)) self.old.rest.now) result self.new.rest.now }
+        ensures reads { Reads (λ n. n) (map_to (λ b. high * 256 + b)
+            (byte (λ b. nat_lt b 256 && nat_le (high * 256 + b) most)) self.old.rest.now) result
+            self.new.rest.now }
         ensures memory { result ≡ Err stop.NoMemory → ⊥ }
     {
         let [first, rest @ ..] = self.rest else {
-            return Err(Stop::Stuck);
+            return Err(Stop::Unexpected);
         };
         let number = high * 256 + *first as u64;
         if number > most {
-            return Err(Stop::Stuck);
+            return Err(Stop::Unexpected);
         }
         self.rest = rest;
         Ok(number)
@@ -128,7 +132,8 @@ impl<'a> Reader<'a> {
     /// A number of so many bytes, at most 8, the highest first, if it is at most `most`.
     pub fn number(&mut self, width: u32, most: u64) -> Result<u64, Stop>
         requires { width ≤ 8 }
-        ensures reads { Reads (λ n. n) (digits most width 0 self.old.rest.now) result self.new.rest.now }
+        ensures reads { Reads (λ n. n) (digits most width 0 self.old.rest.now) result
+            self.new.rest.now }
         ensures memory { result ≡ Err stop.NoMemory → ⊥ }
     {
         let mut number = 0;
@@ -142,7 +147,8 @@ impl<'a> Reader<'a> {
 
     /// A number of eight bytes, the highest first. They are taken at once where so many are left.
     pub fn number_64(&mut self) -> Result<u64, Stop>
-        ensures reads { Reads (λ n. n) (digits u64.MAX 8 0 self.old.rest.now) result self.new.rest.now }
+        ensures reads { Reads (λ n. n) (digits u64.MAX 8 0 self.old.rest.now) result
+            self.new.rest.now }
         ensures memory { result ≡ Err stop.NoMemory → ⊥ }
     {
         match self.rest.split_first_chunk::<8>() {
@@ -156,7 +162,8 @@ impl<'a> Reader<'a> {
 
     /// The next byte, if it begins a name.
     pub fn name_start(&mut self) -> Result<u8, Stop>
-        ensures reads { Reads (λ b. b) (byte spec.is_name_start self.old.rest.now) result self.new.rest.now }
+        ensures reads { Reads (λ b. b) (byte spec.is_name_start self.old.rest.now) result
+            self.new.rest.now }
         ensures memory { result ≡ Err stop.NoMemory → ⊥ }
     {
         match self.rest {
@@ -164,13 +171,14 @@ impl<'a> Reader<'a> {
                 self.rest = rest;
                 Ok(*first)
             }
-            _ => Err(Stop::Stuck),
+            _ => Err(Stop::Unexpected),
         }
     }
 
     /// The next byte, if it is a name's length.
     pub fn name_length(&mut self) -> Result<u8, Stop>
-        ensures reads { Reads (λ b. b) (byte spec.is_name_length self.old.rest.now) result self.new.rest.now }
+        ensures reads { Reads (λ b. b) (byte spec.is_name_length self.old.rest.now) result
+            self.new.rest.now }
         ensures memory { result ≡ Err stop.NoMemory → ⊥ }
     {
         match self.rest {
@@ -178,13 +186,14 @@ impl<'a> Reader<'a> {
                 self.rest = rest;
                 Ok(*first)
             }
-            _ => Err(Stop::Stuck),
+            _ => Err(Stop::Unexpected),
         }
     }
 
     // The next byte, if it may stand there.
     fn one_of(&mut self, alphabet: Alphabet) -> Result<u8, Stop>
-        ensures reads { Reads (λ b. b) (byte (may_stand alphabet) self.old.rest.now) result self.new.rest.now }
+        ensures reads { Reads (λ b. b) (byte (may_stand alphabet) self.old.rest.now) result
+            self.new.rest.now }
         ensures memory { result ≡ Err stop.NoMemory → ⊥ }
     {
         match self.rest {
@@ -192,13 +201,14 @@ impl<'a> Reader<'a> {
                 self.rest = rest;
                 Ok(*first)
             }
-            _ => Err(Stop::Stuck),
+            _ => Err(Stop::Unexpected),
         }
     }
 
     /// So many bytes, each of which may stand there.
     pub fn run(&mut self, alphabet: Alphabet, count: usize) -> Result<&'a [u8], Stop>
-        ensures reads { Reads (λ s. s.now) (run (may_stand alphabet) count self.old.rest.now) result self.new.rest.now }
+        ensures reads { Reads (λ s. s.now) (run (may_stand alphabet) count self.old.rest.now) result
+            self.new.rest.now }
         ensures memory { result ≡ Err stop.NoMemory → ⊥ }
     {
         let start = self.rest;

@@ -1,15 +1,16 @@
 //! Reading expressions and conditions.
 
 ghost use Rattle.std.specs.Prelude.{◌≡◌, ◌≤◌, ◌<◌, ℕ, nat_lt, map, Err};
-ghost use Rattle.cond_expr.specs.declared.exprs.Whose.TheVariants.{Atom};
-ghost use Rattle.cond_expr.specs.Trees.{column, constant, length_of, joined, choose, compared, all_of, some_of, fails};
+ghost use Rattle.cond_expr.specs.declared.expr.Whose.TheVariants.{Atom};
+ghost use Rattle.cond_expr.specs.Trees.{column, constant, length_of, joined, choose, compared};
+ghost use Rattle.cond_expr.specs.Trees.{all_of, some_of, fails};
 ghost use Rattle.cond_expr.specs.Seen.{tree, test, trees_of, tests_of};
 ghost use Rattle.command_spelling.specs.Reading.{byte, digits, map_to, pair, items, listed};
 ghost use Rattle.command_spelling.specs.Reader as spec;
 ghost use Rattle.command_codec.specs.declared.reader.Stop.TheVariants as stop;
 ghost use Rattle.command_codec.specs.Reads.{Reads};
 
-use crate::fields::{name, sign, value};
+use crate::field::{name, sign, value};
 use crate::reader::{Reader, Stop};
 use cond_expr::{ColRef, Cond, Expr, Whose};
 use prima_base::limits::MAX_DEPTH;
@@ -18,9 +19,11 @@ use std::alloc::Global;
 /// The most levels of a tree.
 pub const MOST_LEVELS: u32 = MAX_DEPTH as u32;
 
-/// The tag of an expression. Where no level may stand below it, LENGTH and CASE cannot stand. It takes no memory.
+/// The tag of an expression. Where no level may stand below it, LENGTH and CASE cannot stand. It
+/// takes no memory.
 pub fn expr_tag(reader: &mut Reader<'_>, deeper: bool) -> Result<u8, Stop>
-    ensures reads { Reads (λ b. b) (byte (spec.is_expr_tag deeper) reader.old.rest.now) result reader.new.rest.now }
+    ensures reads { Reads (λ b. b) (byte (spec.is_expr_tag deeper) reader.old.rest.now) result
+        reader.new.rest.now }
     ensures memory { result ≡ Err stop.NoMemory → ⊥ }
 {
     if deeper {
@@ -31,13 +34,15 @@ pub fn expr_tag(reader: &mut Reader<'_>, deeper: bool) -> Result<u8, Stop>
             reader.rest = rest;
             Ok(*first)
         }
-        _ => Err(Stop::Stuck),
+        _ => Err(Stop::Unexpected),
     }
 }
 
-/// The tag of a condition. Where no level may stand below it, comparisons and NOT cannot stand. It takes no memory.
+/// The tag of a condition. Where no level may stand below it, comparisons and NOT cannot stand. It
+/// takes no memory.
 pub fn cond_tag(reader: &mut Reader<'_>, deeper: bool) -> Result<u8, Stop>
-    ensures reads { Reads (λ b. b) (byte (spec.is_cond_tag deeper) reader.old.rest.now) result reader.new.rest.now }
+    ensures reads { Reads (λ b. b) (byte (spec.is_cond_tag deeper) reader.old.rest.now) result
+        reader.new.rest.now }
     ensures memory { result ≡ Err stop.NoMemory → ⊥ }
 {
     if deeper {
@@ -48,14 +53,16 @@ pub fn cond_tag(reader: &mut Reader<'_>, deeper: bool) -> Result<u8, Stop>
             reader.rest = rest;
             Ok(*first)
         }
-        _ => Err(Stop::Stuck),
+        _ => Err(Stop::Unexpected),
     }
 }
 
-/// How many parts stand in a list, where it has any only if a level may stand below. It takes no memory.
+/// How many parts stand in a list, where it has any only if a level may stand below. It takes no
+/// memory.
 pub fn part_count(reader: &mut Reader<'_>, width: u32, most: u64, deeper: bool) -> Result<u64, Stop>
     requires { width ≤ 8 }
-    ensures reads { Reads (λ n. n) (digits (spec.most_parts deeper most) width 0 reader.old.rest.now) result reader.new.rest.now }
+    ensures reads { Reads (λ n. n) (digits (spec.most_parts deeper most) width 0
+        reader.old.rest.now) result reader.new.rest.now }
     ensures memory { result ≡ Err stop.NoMemory → ⊥ }
 {
     reader.number(width, if deeper { most } else { 0 })
@@ -63,7 +70,8 @@ pub fn part_count(reader: &mut Reader<'_>, width: u32, most: u64, deeper: bool) 
 
 // A column.
 fn column(alloc: Global, reader: &mut Reader<'_>) -> Result<Expr, Stop>
-    ensures { Reads tree (map_to (λ n. column (Atom 0) n) spec.name reader.old.rest.now) result reader.new.rest.now }
+    ensures { Reads tree (map_to (λ n. column (Atom 0) n) spec.name reader.old.rest.now) result
+        reader.new.rest.now }
 {
     let name = name(alloc, reader)?;
     let whose = Whose::Atom(0);
@@ -80,7 +88,8 @@ fn constant(alloc: Global, reader: &mut Reader<'_>) -> Result<Expr, Stop>
 // So many expressions, each of at most so many levels.
 #[cycle(reads)]
 fn exprs(alloc: Global, reader: &mut Reader<'_>, count: u64, levels: u32) -> Result<Vec<Expr>, Stop>
-    ensures { Reads (λ v. map tree v.items) (items (spec.level levels).expr count reader.old.rest.now) result reader.new.rest.now }
+    ensures { Reads (λ v. map tree v.items) (items (spec.level levels).expr count
+        reader.old.rest.now) result reader.new.rest.now }
 {
     let mut list = Vec::new(alloc);
     for _ in 0..count {
@@ -92,7 +101,8 @@ fn exprs(alloc: Global, reader: &mut Reader<'_>, count: u64, levels: u32) -> Res
 // So many conditions, each of at most so many levels.
 #[cycle(reads)]
 fn conds(alloc: Global, reader: &mut Reader<'_>, count: u64, levels: u32) -> Result<Vec<Cond>, Stop>
-    ensures { Reads (λ v. map test v.items) (items (spec.level levels).cond count reader.old.rest.now) result reader.new.rest.now }
+    ensures { Reads (λ v. map test v.items) (items (spec.level levels).cond count
+        reader.old.rest.now) result reader.new.rest.now }
 {
     let mut list = Vec::new(alloc);
     for _ in 0..count {
@@ -104,7 +114,8 @@ fn conds(alloc: Global, reader: &mut Reader<'_>, count: u64, levels: u32) -> Res
 // LENGTH, whose part has at most so many levels.
 #[cycle(reads)]
 fn length(alloc: Global, reader: &mut Reader<'_>, levels: u32) -> Result<Expr, Stop>
-    ensures { Reads tree (map_to length_of (spec.level levels).expr reader.old.rest.now) result reader.new.rest.now }
+    ensures { Reads tree (map_to length_of (spec.level levels).expr reader.old.rest.now) result
+        reader.new.rest.now }
 {
     let part = expr(alloc, reader, levels)?;
     Ok(Expr::length(alloc, part)?)
@@ -113,7 +124,9 @@ fn length(alloc: Global, reader: &mut Reader<'_>, levels: u32) -> Result<Expr, S
 // CONCAT, whose parts have at most so many levels.
 #[cycle(reads)]
 fn concat(alloc: Global, reader: &mut Reader<'_>, levels: u32) -> Result<Expr, Stop>
-    ensures { Reads tree (map_to (λ l. joined (trees_of l)) (listed 1 (spec.most_parts (nat_lt 0 levels) 255) (spec.level levels).expr) reader.old.rest.now) result reader.new.rest.now }
+    ensures { Reads tree (map_to (λ l. joined (trees_of l))
+        (listed 1 (spec.most_parts (nat_lt 0 levels) 255) (spec.level levels).expr)
+        reader.old.rest.now) result reader.new.rest.now }
 {
     let count = part_count(reader, 1, 0xFF, levels > 0)?;
     let parts = exprs(alloc, reader, count, levels)?;
@@ -123,7 +136,9 @@ fn concat(alloc: Global, reader: &mut Reader<'_>, levels: u32) -> Result<Expr, S
 // CASE, whose parts have at most so many levels.
 #[cycle(reads)]
 fn case(alloc: Global, reader: &mut Reader<'_>, levels: u32) -> Result<Expr, Stop>
-    ensures { Reads tree (map_to (λ x. choose x.0.0 x.0.1 x.1) (pair (pair (spec.level levels).cond (spec.level levels).expr) (spec.level levels).expr) reader.old.rest.now) result reader.new.rest.now }
+    ensures { Reads tree (map_to (λ x. choose x.0.0 x.0.1 x.1)
+        (pair (pair (spec.level levels).cond (spec.level levels).expr) (spec.level levels).expr)
+        reader.old.rest.now) result reader.new.rest.now }
 {
     let when = cond(alloc, reader, levels)?;
     let yes = expr(alloc, reader, levels)?;
@@ -135,7 +150,8 @@ fn case(alloc: Global, reader: &mut Reader<'_>, levels: u32) -> Result<Expr, Sto
 #[cycle(reads)]
 #[tactic(auto, unfolding(command_spelling::specs::Reader::expr))]
 fn expr_over(alloc: Global, reader: &mut Reader<'_>, levels: u32) -> Result<Expr, Stop>
-    ensures { Reads tree (spec.expr (nat_lt 0 levels) (spec.level levels) reader.old.rest.now) result reader.new.rest.now }
+    ensures { Reads tree (spec.expr (nat_lt 0 levels) (spec.level levels) reader.old.rest.now)
+        result reader.new.rest.now }
 {
     match expr_tag(reader, levels > 0)? {
         0 => column(alloc, reader),
@@ -152,7 +168,7 @@ fn expr(alloc: Global, reader: &mut Reader<'_>, levels: u32) -> Result<Expr, Sto
     ensures { Reads tree ((spec.level levels).expr reader.old.rest.now) result reader.new.rest.now }
 {
     if levels == 0 {
-        return Err(Stop::Stuck);
+        return Err(Stop::Unexpected);
     }
     expr_over(alloc, reader, levels - 1)
 }
@@ -160,7 +176,9 @@ fn expr(alloc: Global, reader: &mut Reader<'_>, levels: u32) -> Result<Expr, Sto
 // A comparison, whose sides have at most so many levels.
 #[cycle(reads)]
 fn comparison(alloc: Global, reader: &mut Reader<'_>, levels: u32) -> Result<Cond, Stop>
-    ensures { Reads test (map_to (λ x. compared x.0.0 x.0.1 x.1) (pair (pair spec.sign (spec.level levels).expr) (spec.level levels).expr) reader.old.rest.now) result reader.new.rest.now }
+    ensures { Reads test (map_to (λ x. compared x.0.0 x.0.1 x.1)
+        (pair (pair spec.sign (spec.level levels).expr) (spec.level levels).expr)
+        reader.old.rest.now) result reader.new.rest.now }
 {
     let op = sign(reader)?;
     let left = expr(alloc, reader, levels)?;
@@ -171,7 +189,8 @@ fn comparison(alloc: Global, reader: &mut Reader<'_>, levels: u32) -> Result<Con
 // The conditions of an AND or an OR, each of at most so many levels.
 #[cycle(reads)]
 fn parts(alloc: Global, reader: &mut Reader<'_>, levels: u32) -> Result<Vec<Cond>, Stop>
-    ensures { Reads (λ v. map test v.items) (listed 2 (spec.most_parts (nat_lt 0 levels) 65535) (spec.level levels).cond reader.old.rest.now) result reader.new.rest.now }
+    ensures { Reads (λ v. map test v.items) (listed 2 (spec.most_parts (nat_lt 0 levels) 65535)
+        (spec.level levels).cond reader.old.rest.now) result reader.new.rest.now }
 {
     let count = part_count(reader, 2, 0xFFFF, levels > 0)?;
     conds(alloc, reader, count, levels)
@@ -180,7 +199,8 @@ fn parts(alloc: Global, reader: &mut Reader<'_>, levels: u32) -> Result<Vec<Cond
 // NOT, whose part has at most so many levels.
 #[cycle(reads)]
 fn negation(alloc: Global, reader: &mut Reader<'_>, levels: u32) -> Result<Cond, Stop>
-    ensures { Reads test (map_to fails (spec.level levels).cond reader.old.rest.now) result reader.new.rest.now }
+    ensures { Reads test (map_to fails (spec.level levels).cond reader.old.rest.now) result
+        reader.new.rest.now }
 {
     let part = cond(alloc, reader, levels)?;
     Ok(Cond::not(alloc, part)?)
@@ -190,7 +210,8 @@ fn negation(alloc: Global, reader: &mut Reader<'_>, levels: u32) -> Result<Cond,
 #[cycle(reads)]
 #[tactic(auto, unfolding(command_spelling::specs::Reader::cond))]
 fn cond_over(alloc: Global, reader: &mut Reader<'_>, levels: u32) -> Result<Cond, Stop>
-    ensures { Reads test (spec.cond (nat_lt 0 levels) (spec.level levels) reader.old.rest.now) result reader.new.rest.now }
+    ensures { Reads test (spec.cond (nat_lt 0 levels) (spec.level levels) reader.old.rest.now)
+        result reader.new.rest.now }
 {
     match cond_tag(reader, levels > 0)? {
         0 => Ok(Cond::False),
@@ -208,7 +229,7 @@ fn cond(alloc: Global, reader: &mut Reader<'_>, levels: u32) -> Result<Cond, Sto
     ensures { Reads test ((spec.level levels).cond reader.old.rest.now) result reader.new.rest.now }
 {
     if levels == 0 {
-        return Err(Stop::Stuck);
+        return Err(Stop::Unexpected);
     }
     cond_over(alloc, reader, levels - 1)
 }

@@ -4,10 +4,14 @@ ghost use Rattle.std.specs.Prelude.{◌≡◌, ◌<◌, ◌^◌, ◌++◌, ◌�
 ghost use Rattle.std.specs.List.{flat_map, AllByRecursion};
 ghost use Rattle.prima_base.specs.Bytes.{IsName};
 ghost use Rattle.cond_expr.specs.Seen.{test};
-ghost use Rattle.smo_types.specs.Changes.{change_of, changes_of, set_of_expr, sets_of, insertion, deletion, update};
+ghost use Rattle.smo_types.specs.Changes.{change_of, changes_of, set_of_expr, sets_of, insertion};
+ghost use Rattle.smo_types.specs.Changes.{deletion, update};
 ghost use Rattle.smo_types.specs.Commands.{body_of};
-ghost use Rattle.command_spelling.specs.Spelling.{cell_bytes, set_bytes, list_bytes, change_bytes, body_bytes, name_bytes, test_bytes};
-ghost use Rattle.command_spelling.specs.Lawful.{IsValue, IsWritableTree, TestFits, TreeNamed, TestNamed, IsWritableChange, IsWritableBody, ChangeNamed, BodyNamed};
+ghost use Rattle.command_spelling.specs.Spelling.{cell_bytes, set_bytes, list_bytes, change_bytes};
+ghost use Rattle.command_spelling.specs.Spelling.{body_bytes, name_bytes, test_bytes};
+ghost use Rattle.command_spelling.specs.Valid.{IsValue, IsWritableTree, TestFits, TreeNamed};
+ghost use Rattle.command_spelling.specs.Valid.{TestNamed, IsWritableChange, IsWritableBody};
+ghost use Rattle.command_spelling.specs.Valid.{ChangeNamed, BodyNamed};
 
 use crate::operator_writer::{tagged_name, write_op, write_ops};
 use crate::part::{put, put_u32, write_name, write_value};
@@ -41,7 +45,8 @@ fn write_each_cell(out: &mut Vec<u8>, cells: &[(Name, Value)]) -> Result<(), NoM
 // INSERT.
 fn write_insert(out: &mut Vec<u8>, table: &Name, cells: &[(Name, Value)]) -> Result<(), NoMemory>
     requires { length cells.now < 2 ^ 32 }
-    ensures ok { OnOk result (out.new.items ≡ out.old.items ++ change_bytes (insertion table.now cells.now)) }
+    ensures ok { OnOk result (out.new.items ≡ out.old.items
+        ++ change_bytes (insertion table.now cells.now)) }
     ensures named { OnOk result (ChangeNamed (insertion table.now cells.now)) }
 {
     tagged_name(out, 0, table)?;
@@ -53,7 +58,8 @@ fn write_insert(out: &mut Vec<u8>, table: &Name, cells: &[(Name, Value)]) -> Res
 // DELETE.
 fn write_delete(out: &mut Vec<u8>, table: &Name, cond: &Cond) -> Result<(), NoMemory>
     requires { TestFits (test cond.now) }
-    ensures ok { OnOk result (out.new.items ≡ out.old.items ++ change_bytes (deletion table.now (test cond.now))) }
+    ensures ok { OnOk result (out.new.items ≡ out.old.items
+        ++ change_bytes (deletion table.now (test cond.now))) }
     ensures named { OnOk result (ChangeNamed (deletion table.now (test cond.now))) }
 {
     tagged_name(out, 1, table)?;
@@ -76,8 +82,10 @@ fn write_set(out: &mut Vec<u8>, set: &(Name, Expr)) -> Result<(), NoMemory>
 // What columns are set to, one after the other.
 fn write_each_set(out: &mut Vec<u8>, sets: &[(Name, Expr)]) -> Result<(), NoMemory>
     requires { AllByRecursion (λ s. IsWritableTree s.1) (sets_of sets.now) }
-    ensures ok { OnOk result (out.new.items ≡ out.old.items ++ flat_map set_bytes (sets_of sets.now)) }
-    ensures named { OnOk result (AllByRecursion (λ s. IsName s.0 × TreeNamed s.1) (sets_of sets.now)) }
+    ensures ok { OnOk result (out.new.items ≡ out.old.items
+        ++ flat_map set_bytes (sets_of sets.now)) }
+    ensures named { OnOk result (AllByRecursion (λ s. IsName s.0 × TreeNamed s.1)
+        (sets_of sets.now)) }
 {
     for set in sets {
         write_set(out, set)?;
@@ -89,8 +97,10 @@ fn write_each_set(out: &mut Vec<u8>, sets: &[(Name, Expr)]) -> Result<(), NoMemo
 fn write_sets(out: &mut Vec<u8>, sets: &[(Name, Expr)]) -> Result<(), NoMemory>
     requires counted { length sets.now < 2 ^ 32 }
     requires writable { AllByRecursion (λ s. IsWritableTree s.1) (sets_of sets.now) }
-    ensures ok { OnOk result (out.new.items ≡ out.old.items ++ list_bytes 4 set_bytes (sets_of sets.now)) }
-    ensures named { OnOk result (AllByRecursion (λ s. IsName s.0 × TreeNamed s.1) (sets_of sets.now)) }
+    ensures ok { OnOk result (out.new.items ≡ out.old.items
+        ++ list_bytes 4 set_bytes (sets_of sets.now)) }
+    ensures named { OnOk result (AllByRecursion (λ s. IsName s.0 × TreeNamed s.1)
+        (sets_of sets.now)) }
 {
     put_u32(out, sets.len() as u32)?;
     write_each_set(out, sets)?;
@@ -105,7 +115,8 @@ fn write_update(
     cond: &Cond,
 ) -> Result<(), NoMemory>
     requires { IsWritableChange (update table.now (sets_of sets.now) (test cond.now)) }
-    ensures ok { OnOk result (out.new.items ≡ out.old.items ++ change_bytes (update table.now (sets_of sets.now) (test cond.now))) }
+    ensures ok { OnOk result (out.new.items ≡ out.old.items
+        ++ change_bytes (update table.now (sets_of sets.now) (test cond.now))) }
     ensures named { OnOk result (ChangeNamed (update table.now (sets_of sets.now) (test cond.now))) }
 {
     tagged_name(out, 2, table)?;
@@ -130,7 +141,8 @@ fn write_change(out: &mut Vec<u8>, change: &Change) -> Result<(), NoMemory>
 // Changes, one after the other.
 fn write_each_change(out: &mut Vec<u8>, changes: &[Change]) -> Result<(), NoMemory>
     requires { AllByRecursion IsWritableChange (changes_of changes.now) }
-    ensures ok { OnOk result (out.new.items ≡ out.old.items ++ flat_map change_bytes (changes_of changes.now)) }
+    ensures ok { OnOk result (out.new.items ≡ out.old.items
+        ++ flat_map change_bytes (changes_of changes.now)) }
     ensures named { OnOk result (AllByRecursion ChangeNamed (changes_of changes.now)) }
 {
     for change in changes {
@@ -143,7 +155,8 @@ fn write_each_change(out: &mut Vec<u8>, changes: &[Change]) -> Result<(), NoMemo
 fn write_changes(out: &mut Vec<u8>, changes: &[Change]) -> Result<(), NoMemory>
     requires counted { length changes.now < 2 ^ 32 }
     requires writable { AllByRecursion IsWritableChange (changes_of changes.now) }
-    ensures ok { OnOk result (out.new.items ≡ out.old.items ++ list_bytes 4 change_bytes (changes_of changes.now)) }
+    ensures ok { OnOk result (out.new.items ≡ out.old.items
+        ++ list_bytes 4 change_bytes (changes_of changes.now)) }
     ensures named { OnOk result (AllByRecursion ChangeNamed (changes_of changes.now)) }
 {
     put_u32(out, changes.len() as u32)?;

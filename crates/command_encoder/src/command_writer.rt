@@ -4,7 +4,7 @@ ghost use Rattle.std.specs.Prelude.{◌≡◌, ◌++◌, IfOk, OnOk, OnErr};
 ghost use Rattle.smo_types.specs.Operators.{operator_of};
 ghost use Rattle.smo_types.specs.Commands.{command_of};
 ghost use Rattle.command_spelling.specs.Found.{Appends, Spells, SpellsOperator};
-ghost use Rattle.command_spelling.specs.Lawful.{IsWritable, IsWritableOperator, IsOperator};
+ghost use Rattle.command_spelling.specs.Valid.{IsWritable, IsWritableOperator, IsOperator};
 ghost use Rattle.command_spelling.specs.Spelling.{operator_bytes};
 
 use crate::change_writer::write_body;
@@ -39,11 +39,12 @@ fn spelled_op(alloc: Global, op: &Op) -> Result<Vec<u8>, NoMemory>
     Ok(out)
 }
 
-/// Appends the spelling of an operator that can be written. The one error is `NoMemory`, where memory
-/// runs out; the buffer then holds what it held.
+/// Appends the spelling of an operator that can be written. The one error is `NoMemory`, where
+/// memory runs out; the buffer then holds what it held.
 pub fn put_op(buffer: &mut Vec<u8>, op: &Op) -> Result<(), NoMemory>
     requires { IsWritableOperator (operator_of op.now) }
-    ensures ok { OnOk result (Appends SpellsOperator (operator_of op.now) buffer.old.items buffer.new.items) }
+    ensures ok { OnOk result (Appends SpellsOperator (operator_of op.now) buffer.old.items
+        buffer.new.items) }
     ensures err { OnErr result (buffer.new.items ≡ buffer.old.items) }
 {
     let bytes = spelled_op(*buffer.allocator(), op)?;

@@ -1,7 +1,8 @@
 //! Commands as bytes: writing them. Which bytes they are says command_spelling, with its laws.
 //!
-//! `encode` writes a command, and `put_name`, `put_value` and `put_op` append a part, all or none. The functions `put`, `put_u32`,
-//! `put_u64` and those that begin with `write` are for who writes a larger format into a buffer of its own.
+//! `encode` writes a command, and `put_name`, `put_value` and `put_op` append a part, all or none.
+//! The functions `put`, `put_u32`, `put_u64` and those that begin with `write` are for who writes a
+//! larger format into a buffer of its own.
 #![tactic(auto)]
 
 mod change_writer;
@@ -13,5 +14,5 @@ mod tree_writer;
 
 pub use command_writer::{encode, put_op};
 pub use operator_writer::{write_op, write_ops};
-pub use part::{put, put_name, put_u32, put_u64, put_value, write_lent, write_name};
-pub use size::{lent_size, name_size, op_size, ops_size};
+pub use part::{put, put_name, put_u32, put_u64, put_value, write_borrowed, write_name};
+pub use size::{borrowed_size, name_size, op_size, ops_size};

@@ -4,9 +4,13 @@ ghost use Rattle.std.specs.Prelude.{◌≡◌, ◌<◌, ◌^◌, ◌++◌, ◌�
 ghost use Rattle.std.specs.List.{flat_map, AllByRecursion};
 ghost use Rattle.prima_base.specs.Bytes.{IsName};
 ghost use Rattle.cond_expr.specs.Seen.{tree, test};
-ghost use Rattle.smo_types.specs.Operators.{operator_of, operators_of, create_table, partition_table, decompose_table, join_table, add_column};
-ghost use Rattle.command_spelling.specs.Spelling.{type_tag, name_bytes, column_bytes, list_bytes, tree_bytes, test_bytes, operator_bytes};
-ghost use Rattle.command_spelling.specs.Lawful.{TreeFits, TestFits, TreeNamed, TestNamed, IsWritableOperator, OperatorNamed};
+ghost use Rattle.smo_types.specs.Operators.{operator_of, operators_of, create_table};
+ghost use Rattle.smo_types.specs.Operators.{partition_table, decompose_table, join_table};
+ghost use Rattle.smo_types.specs.Operators.{add_column};
+ghost use Rattle.command_spelling.specs.Spelling.{type_tag, name_bytes, column_bytes, list_bytes};
+ghost use Rattle.command_spelling.specs.Spelling.{tree_bytes, test_bytes, operator_bytes};
+ghost use Rattle.command_spelling.specs.Valid.{TreeFits, TestFits, TreeNamed, TestNamed};
+ghost use Rattle.command_spelling.specs.Valid.{IsWritableOperator, OperatorNamed};
 
 use crate::part::{put, put_u8, put_u32, write_name};
 use crate::tree_writer::{write_cond, write_expr};
@@ -26,7 +30,8 @@ pub(crate) fn tagged_name(out: &mut Vec<u8>, tag: u8, name: &Name) -> Result<(),
 
 // A tag, and two names after it.
 fn tagged_names(out: &mut Vec<u8>, tag: u8, first: &Name, second: &Name) -> Result<(), NoMemory>
-    ensures ok { OnOk result (out.new.items ≡ out.old.items ++ (tag ∷ name_bytes first.now ++ name_bytes second.now)) }
+    ensures ok { OnOk result (out.new.items ≡ out.old.items
+        ++ (tag ∷ name_bytes first.now ++ name_bytes second.now)) }
     ensures first_named { OnOk result (IsName first.now) }
     ensures second_named { OnOk result (IsName second.now) }
 {
@@ -43,7 +48,8 @@ fn tagged_three(
     second: &Name,
     third: &Name,
 ) -> Result<(), NoMemory>
-    ensures ok { OnOk result (out.new.items ≡ out.old.items ++ (tag ∷ name_bytes first.now ++ name_bytes second.now ++ name_bytes third.now)) }
+    ensures ok { OnOk result (out.new.items ≡ out.old.items
+        ++ (tag ∷ name_bytes first.now ++ name_bytes second.now ++ name_bytes third.now)) }
     ensures first_named { OnOk result (IsName first.now) }
     ensures second_named { OnOk result (IsName second.now) }
     ensures third_named { OnOk result (IsName third.now) }
@@ -87,7 +93,8 @@ fn write_each_column(out: &mut Vec<u8>, columns: &[(Name, ColType)]) -> Result<(
 // Columns, with their count before them.
 fn write_columns(out: &mut Vec<u8>, columns: &[(Name, ColType)]) -> Result<(), NoMemory>
     requires { length columns.now < 2 ^ 8 }
-    ensures ok { OnOk result (out.new.items ≡ out.old.items ++ list_bytes 1 column_bytes columns.now) }
+    ensures ok { OnOk result (out.new.items ≡ out.old.items
+        ++ list_bytes 1 column_bytes columns.now) }
     ensures named { OnOk result (AllByRecursion (λ c. IsName c.0) columns.now) }
 {
     put_u8(out, columns.len() as u8)?;
@@ -120,7 +127,8 @@ fn write_names(out: &mut Vec<u8>, names: &[Name]) -> Result<(), NoMemory>
 // A table's name, and the names of its columns.
 fn write_part(out: &mut Vec<u8>, table: &Name, names: &[Name]) -> Result<(), NoMemory>
     requires { length names.now < 2 ^ 8 }
-    ensures ok { OnOk result (out.new.items ≡ out.old.items ++ (name_bytes table.now ++ list_bytes 1 name_bytes names.now)) }
+    ensures ok { OnOk result (out.new.items ≡ out.old.items
+        ++ (name_bytes table.now ++ list_bytes 1 name_bytes names.now)) }
     ensures table_named { OnOk result (IsName table.now) }
     ensures columns_named { OnOk result (AllByRecursion IsName names.now) }
 {
@@ -132,7 +140,8 @@ fn write_part(out: &mut Vec<u8>, table: &Name, names: &[Name]) -> Result<(), NoM
 // A condition, and a name after it.
 fn write_cond_and_name(out: &mut Vec<u8>, cond: &Cond, name: &Name) -> Result<(), NoMemory>
     requires { TestFits (test cond.now) }
-    ensures ok { OnOk result (out.new.items ≡ out.old.items ++ (test_bytes (test cond.now) ++ name_bytes name.now)) }
+    ensures ok { OnOk result (out.new.items ≡ out.old.items
+        ++ (test_bytes (test cond.now) ++ name_bytes name.now)) }
     ensures cond_named { OnOk result (TestNamed (test cond.now)) }
     ensures name_named { OnOk result (IsName name.now) }
 {
@@ -148,7 +157,8 @@ fn write_created(
     columns: &[(Name, ColType)],
 ) -> Result<(), NoMemory>
     requires { length columns.now < 2 ^ 8 }
-    ensures ok { OnOk result (out.new.items ≡ out.old.items ++ operator_bytes (create_table table.now columns.now)) }
+    ensures ok { OnOk result (out.new.items ≡ out.old.items
+        ++ operator_bytes (create_table table.now columns.now)) }
     ensures named { OnOk result (OperatorNamed (create_table table.now columns.now)) }
 {
     tagged_name(out, 1, table)?;
@@ -165,8 +175,10 @@ fn write_partitioned(
     no: &Name,
 ) -> Result<(), NoMemory>
     requires { TestFits (test cond.now) }
-    ensures ok { OnOk result (out.new.items ≡ out.old.items ++ operator_bytes (partition_table table.now yes.now (test cond.now) no.now)) }
-    ensures named { OnOk result (OperatorNamed (partition_table table.now yes.now (test cond.now) no.now)) }
+    ensures ok { OnOk result (out.new.items ≡ out.old.items
+        ++ operator_bytes (partition_table table.now yes.now (test cond.now) no.now)) }
+    ensures named { OnOk result (OperatorNamed
+        (partition_table table.now yes.now (test cond.now) no.now)) }
 {
     tagged_names(out, 6, table, yes)?;
     write_cond_and_name(out, cond, no)?;
@@ -184,8 +196,11 @@ fn write_decomposed(
 ) -> Result<(), NoMemory>
     requires left { length left_columns.now < 2 ^ 8 }
     requires right { length right_columns.now < 2 ^ 8 }
-    ensures ok { OnOk result (out.new.items ≡ out.old.items ++ operator_bytes (decompose_table table.now left.now left_columns.now right.now right_columns.now)) }
-    ensures named { OnOk result (OperatorNamed (decompose_table table.now left.now left_columns.now right.now right_columns.now)) }
+    ensures ok { OnOk result (out.new.items ≡ out.old.items
+        ++ operator_bytes (decompose_table table.now left.now left_columns.now right.now
+        right_columns.now)) }
+    ensures named { OnOk result (OperatorNamed
+        (decompose_table table.now left.now left_columns.now right.now right_columns.now)) }
 {
     tagged_name(out, 7, table)?;
     write_part(out, left, left_columns)?;
@@ -202,8 +217,10 @@ fn write_joined(
     cond: &Cond,
 ) -> Result<(), NoMemory>
     requires { TestFits (test cond.now) }
-    ensures ok { OnOk result (out.new.items ≡ out.old.items ++ operator_bytes (join_table left.now right.now into.now (test cond.now))) }
-    ensures named { OnOk result (OperatorNamed (join_table left.now right.now into.now (test cond.now))) }
+    ensures ok { OnOk result (out.new.items ≡ out.old.items
+        ++ operator_bytes (join_table left.now right.now into.now (test cond.now))) }
+    ensures named { OnOk result (OperatorNamed
+        (join_table left.now right.now into.now (test cond.now))) }
 {
     tagged_three(out, 8, left, right, into)?;
     write_cond(out, cond)?;
@@ -213,7 +230,8 @@ fn write_joined(
 // ADD COLUMN.
 fn write_added(out: &mut Vec<u8>, column: &Name, expr: &Expr, table: &Name) -> Result<(), NoMemory>
     requires { TreeFits (tree expr.now) }
-    ensures ok { OnOk result (out.new.items ≡ out.old.items ++ operator_bytes (add_column column.now (tree expr.now) table.now)) }
+    ensures ok { OnOk result (out.new.items ≡ out.old.items
+        ++ operator_bytes (add_column column.now (tree expr.now) table.now)) }
     ensures named { OnOk result (OperatorNamed (add_column column.now (tree expr.now) table.now)) }
 {
     tagged_names(out, 9, table, column)?;
@@ -221,8 +239,8 @@ fn write_added(out: &mut Vec<u8>, column: &Name, expr: &Expr, table: &Name) -> R
     Ok(())
 }
 
-/// Writes the spelling of an operator that can be written after what is there. The one error is `NoMemory`, where memory runs out; a part of it
-/// may then stand there.
+/// Writes the spelling of an operator that can be written after what is there. The one error is
+/// `NoMemory`, where memory runs out; a part of it may then stand there.
 pub fn write_op(out: &mut Vec<u8>, op: &Op) -> Result<(), NoMemory>
     requires { IsWritableOperator (operator_of op.now) }
     ensures ok { OnOk result (out.new.items ≡ out.old.items ++ operator_bytes (operator_of op.now)) }
@@ -271,7 +289,8 @@ pub fn write_op(out: &mut Vec<u8>, op: &Op) -> Result<(), NoMemory>
 // Operators, one after the other.
 fn write_each_op(out: &mut Vec<u8>, ops: &[Op]) -> Result<(), NoMemory>
     requires { AllByRecursion IsWritableOperator (operators_of ops.now) }
-    ensures ok { OnOk result (out.new.items ≡ out.old.items ++ flat_map operator_bytes (operators_of ops.now)) }
+    ensures ok { OnOk result (out.new.items ≡ out.old.items
+        ++ flat_map operator_bytes (operators_of ops.now)) }
     ensures named { OnOk result (AllByRecursion OperatorNamed (operators_of ops.now)) }
 {
     for op in ops {
@@ -280,12 +299,13 @@ fn write_each_op(out: &mut Vec<u8>, ops: &[Op]) -> Result<(), NoMemory>
     Ok(())
 }
 
-/// Writes operators that can be written after what is there, with their count before them. The one error is `NoMemory`, where memory runs
-/// out; a part of them may then stand there.
+/// Writes operators that can be written after what is there, with their count before them. The one
+/// error is `NoMemory`, where memory runs out; a part of them may then stand there.
 pub fn write_ops(out: &mut Vec<u8>, ops: &[Op]) -> Result<(), NoMemory>
     requires counted { length ops.now < 2 ^ 32 }
     requires writable { AllByRecursion IsWritableOperator (operators_of ops.now) }
-    ensures ok { OnOk result (out.new.items ≡ out.old.items ++ list_bytes 4 operator_bytes (operators_of ops.now)) }
+    ensures ok { OnOk result (out.new.items ≡ out.old.items
+        ++ list_bytes 4 operator_bytes (operators_of ops.now)) }
     ensures named { OnOk result (AllByRecursion OperatorNamed (operators_of ops.now)) }
 {
     put_u32(out, ops.len() as u32)?;

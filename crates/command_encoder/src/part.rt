@@ -2,16 +2,18 @@
 
 ghost use Rattle.std.specs.Prelude.{◌≡◌, ◌++◌, ◌∷◌, length, OnOk, OnErr};
 ghost use Rattle.prima_base.specs.Bytes.{IsName, IsTxt};
-ghost use Rattle.prima_base.specs.Columns.{IsLawful};
+ghost use Rattle.prima_base.specs.Columns.{IsValid};
 ghost use Rattle.prima_base.specs.Order.{shown};
-ghost use Rattle.prima_base.specs.declared.values.Value.TheVariants.{Int as IntValue, Text as TextValue};
+ghost use Rattle.prima_base.specs.declared.value.Value.TheVariants.{Int as IntValue};
+ghost use Rattle.prima_base.specs.declared.value.Value.TheVariants.{Text as TextValue};
 ghost use Rattle.command_spelling.specs.Found.{Appends, SpellsName, SpellsValue};
-ghost use Rattle.command_spelling.specs.Lawful.{IsValue};
+ghost use Rattle.command_spelling.specs.Valid.{IsValue};
 ghost use Rattle.command_spelling.specs.Spelling.{number, name_bytes, value_bytes};
 
 use prima_base::{Name, NoMemory, Val, Value};
 
-/// Writes these bytes after what is there, all or none. The one error is `NoMemory`, where memory runs out.
+/// Writes these bytes after what is there, all or none. The one error is `NoMemory`, where memory
+/// runs out.
 pub fn put(out: &mut Vec<u8>, bytes: &[u8]) -> Result<(), NoMemory>
     ensures ok { OnOk result (out.new.items ≡ out.old.items ++ bytes.now) }
     ensures err { OnErr result (out.new.items ≡ out.old.items) }
@@ -50,7 +52,8 @@ pub(crate) fn put_u16(out: &mut Vec<u8>, value: u16) -> Result<(), NoMemory>
     put(out, &value.to_be_bytes())
 }
 
-/// Writes a number in four bytes, the highest first, after what is there. The one error is `NoMemory`, where memory runs out.
+/// Writes a number in four bytes, the highest first, after what is there. The one error is
+/// `NoMemory`, where memory runs out.
 #[tactic(auto, unfolding(command_spelling::specs::Spelling::number))]
 pub fn put_u32(out: &mut Vec<u8>, value: u32) -> Result<(), NoMemory>
     ensures ok { OnOk result (out.new.items ≡ out.old.items ++ number 4 value) }
@@ -58,7 +61,8 @@ pub fn put_u32(out: &mut Vec<u8>, value: u32) -> Result<(), NoMemory>
     put(out, &value.to_be_bytes())
 }
 
-/// Writes a number in eight bytes, the highest first, after what is there. The one error is `NoMemory`, where memory runs out.
+/// Writes a number in eight bytes, the highest first, after what is there. The one error is
+/// `NoMemory`, where memory runs out.
 #[tactic(auto, unfolding(command_spelling::specs::Spelling::number))]
 pub fn put_u64(out: &mut Vec<u8>, value: u64) -> Result<(), NoMemory>
     ensures ok { OnOk result (out.new.items ≡ out.old.items ++ number 8 value) }
@@ -66,7 +70,8 @@ pub fn put_u64(out: &mut Vec<u8>, value: u64) -> Result<(), NoMemory>
     put(out, &value.to_be_bytes())
 }
 
-/// Writes the spelling of a name after what is there, all or none. The one error is `NoMemory`, where memory runs out.
+/// Writes the spelling of a name after what is there, all or none. The one error is `NoMemory`,
+/// where memory runs out.
 pub fn write_name(out: &mut Vec<u8>, name: &Name) -> Result<(), NoMemory>
     ensures ok { OnOk result (out.new.items ≡ out.old.items ++ name_bytes name.now) }
     ensures named { IsName name.now }
@@ -91,7 +96,7 @@ fn write_text(out: &mut Vec<u8>, bytes: &[u8]) -> Result<(), NoMemory>
 #[tactic(auto, unfolding(command_spelling::specs::Spelling::number))]
 fn write_int(out: &mut Vec<u8>, value: i64) -> Result<(), NoMemory>
     ensures ok { OnOk result (out.new.items ≡ out.old.items ++ value_bytes (IntValue value)) }
-    ensures lawful { IsValue (IntValue value) }
+    ensures valid { IsValue (IntValue value) }
     ensures err { OnErr result (out.new.items ≡ out.old.items) }
 {
     put_both(out, &[0], &value.to_be_bytes())
@@ -103,12 +108,13 @@ pub(crate) fn write_value(out: &mut Vec<u8>, value: &Value) -> Result<(), NoMemo
     ensures named { IsValue value.now }
     ensures err { OnErr result (out.new.items ≡ out.old.items) }
 {
-    write_lent(out, &value.lend())
+    write_borrowed(out, &value.lend())
 }
 
-/// Writes the spelling of a value that is lent after what is there, all or none. The one error is `NoMemory`, where memory runs out.
-pub fn write_lent(out: &mut Vec<u8>, value: &Val<'_>) -> Result<(), NoMemory>
-    requires { IsLawful (shown value.now) }
+/// Writes the spelling of a value that is borrowed after what is there, all or none. The one error
+/// is `NoMemory`, where memory runs out.
+pub fn write_borrowed(out: &mut Vec<u8>, value: &Val<'_>) -> Result<(), NoMemory>
+    requires { IsValid (shown value.now) }
     ensures ok { OnOk result (out.new.items ≡ out.old.items ++ value_bytes (shown value.now)) }
     ensures named { IsValue (shown value.now) }
     ensures err { OnErr result (out.new.items ≡ out.old.items) }

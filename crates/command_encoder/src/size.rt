@@ -2,13 +2,16 @@
 
 ghost use Rattle.std.specs.Prelude.{◌≡◌, ◌+◌, ◌≤◌, map, min, length};
 ghost use Rattle.std.specs.List.{flat_map};
-ghost use Rattle.prima_base.specs.Columns.{IsLawful};
+ghost use Rattle.prima_base.specs.Columns.{IsValid};
 ghost use Rattle.prima_base.specs.Order.{shown};
 ghost use Rattle.cond_expr.specs.Seen.{tree, test, trees_of, tests_of};
 ghost use Rattle.smo_types.specs.Operators.{operator_of, operators_of, decompose_table};
 ghost use Rattle.smo_types.specs.Changes.{change_of, changes_of, sets_of};
 ghost use Rattle.smo_types.specs.Commands.{body_of};
-ghost use Rattle.command_spelling.specs.Spelling.{name_bytes, value_bytes, tree_bytes, trees_bytes, test_bytes, tests_bytes, column_bytes, operator_bytes, cell_bytes, set_bytes, change_bytes, body_bytes};
+ghost use Rattle.command_spelling.specs.Spelling.{name_bytes, value_bytes, tree_bytes, trees_bytes};
+ghost use Rattle.command_spelling.specs.Spelling.{test_bytes, tests_bytes, column_bytes};
+ghost use Rattle.command_spelling.specs.Spelling.{operator_bytes, cell_bytes, set_bytes};
+ghost use Rattle.command_spelling.specs.Spelling.{change_bytes, body_bytes};
 
 use cond_expr::{Cond, Expr};
 use prima_base::{ColType, Name, Val, Value};
@@ -28,13 +31,13 @@ fn value_size(value: &Value) -> u64
     ensures size { result ≡ length (value_bytes value.now) }
     ensures small { result ≤ 4099 }
 {
-    lent_size(&value.lend())
+    borrowed_size(&value.lend())
 }
 
-/// The bytes of a value that is lent; at most 4,099.
+/// The bytes of a value that is borrowed; at most 4,099.
 #[tactic(auto, using(crate::proofs::Lengths::lengths))]
-pub fn lent_size(value: &Val<'_>) -> u64
-    requires { IsLawful (shown value.now) }
+pub fn borrowed_size(value: &Val<'_>) -> u64
+    requires { IsValid (shown value.now) }
     ensures size { result ≡ length (value_bytes (shown value.now)) }
     ensures small { result ≤ 4099 }
 {
@@ -140,7 +143,8 @@ fn decomposed_size(
     right: &Name,
     right_columns: &[Name],
 ) -> u64
-    ensures { result ≡ min (length (operator_bytes (decompose_table table.now left.now left_columns.now right.now right_columns.now))) u64.MAX }
+    ensures { result ≡ min (length (operator_bytes
+        (decompose_table table.now left.now left_columns.now right.now right_columns.now))) u64.MAX }
 {
     let columns = names_size(left_columns).saturating_add(names_size(right_columns));
     columns.saturating_add(name_size(table) + name_size(left) + name_size(right) + 3)

@@ -2,8 +2,10 @@
 
 ghost use Rattle.std.specs.Prelude.{◌≡◌, ◌<◌, ◌^◌, ◌++◌, ◌∷◌, [], map, length, OnOk};
 ghost use Rattle.cond_expr.specs.Seen.{tree, test, trees_of, tests_of};
-ghost use Rattle.command_spelling.specs.Spelling.{number, sign_tag, tree_bytes, trees_bytes, test_bytes, tests_bytes};
-ghost use Rattle.command_spelling.specs.Lawful.{TreeFits, TreesFit, TestFits, TestsFit, TreeNamed, TreesNamed, TestNamed, TestsNamed};
+ghost use Rattle.command_spelling.specs.Spelling.{number, sign_tag, tree_bytes, trees_bytes};
+ghost use Rattle.command_spelling.specs.Spelling.{test_bytes, tests_bytes};
+ghost use Rattle.command_spelling.specs.Valid.{TreeFits, TreesFit, TestFits, TestsFit, TreeNamed};
+ghost use Rattle.command_spelling.specs.Valid.{TreesNamed, TestNamed, TestsNamed};
 
 use crate::part::{put, put_u8, put_u16, write_name, write_value};
 use cond_expr::{CmpOp, Cond, Expr};
@@ -43,7 +45,7 @@ fn put_long_count(out: &mut Vec<u8>, tag: u8, count: usize) -> Result<(), NoMemo
 
 /// Writes the spelling of an expression after what is there.
 #[cycle(writes)]
-#[tactic(auto, using(cond_expr::proofs::SeenLaws::tree_of_concat, cond_expr::proofs::SeenLaws::tree_of_case, cond_expr::proofs::SeenLaws::count_is_length, crate::proofs::Behind::one_more))]
+#[tactic(auto, using(cond_expr::proofs::SeenLaws::tree_of_concat, cond_expr::proofs::SeenLaws::tree_of_case, cond_expr::proofs::SeenLaws::count_is_length, crate::proofs::After::one_more))]
 pub fn write_expr(out: &mut Vec<u8>, expr: &Expr) -> Result<(), NoMemory>
     requires { TreeFits (tree expr.now) }
     ensures ok { OnOk result (out.new.items ≡ out.old.items ++ tree_bytes (tree expr.now)) }
@@ -84,7 +86,8 @@ pub fn write_expr(out: &mut Vec<u8>, expr: &Expr) -> Result<(), NoMemory>
 #[cycle(writes)]
 fn write_exprs(out: &mut Vec<u8>, parts: &[Expr]) -> Result<(), NoMemory>
     requires { TreesFit (trees_of (map tree parts.now)) }
-    ensures ok { OnOk result (out.new.items ≡ out.old.items ++ trees_bytes (trees_of (map tree parts.now))) }
+    ensures ok { OnOk result (out.new.items ≡ out.old.items
+        ++ trees_bytes (trees_of (map tree parts.now))) }
     ensures named { OnOk result (TreesNamed (trees_of (map tree parts.now))) }
 {
     for part in parts {
@@ -95,7 +98,7 @@ fn write_exprs(out: &mut Vec<u8>, parts: &[Expr]) -> Result<(), NoMemory>
 
 /// Writes the spelling of a condition after what is there.
 #[cycle(writes)]
-#[tactic(auto, using(cond_expr::proofs::SeenLaws::test_of_and, cond_expr::proofs::SeenLaws::test_of_or, cond_expr::proofs::SeenLaws::test_of_cmp, crate::proofs::Behind::number_is_length, crate::proofs::Behind::one_more))]
+#[tactic(auto, using(cond_expr::proofs::SeenLaws::test_of_and, cond_expr::proofs::SeenLaws::test_of_or, cond_expr::proofs::SeenLaws::test_of_cmp, crate::proofs::After::number_is_length, crate::proofs::After::one_more))]
 pub fn write_cond(out: &mut Vec<u8>, cond: &Cond) -> Result<(), NoMemory>
     requires { TestFits (test cond.now) }
     ensures ok { OnOk result (out.new.items ≡ out.old.items ++ test_bytes (test cond.now)) }
@@ -132,7 +135,8 @@ pub fn write_cond(out: &mut Vec<u8>, cond: &Cond) -> Result<(), NoMemory>
 #[cycle(writes)]
 fn write_conds(out: &mut Vec<u8>, parts: &[Cond]) -> Result<(), NoMemory>
     requires { TestsFit (tests_of (map test parts.now)) }
-    ensures ok { OnOk result (out.new.items ≡ out.old.items ++ tests_bytes (tests_of (map test parts.now))) }
+    ensures ok { OnOk result (out.new.items ≡ out.old.items
+        ++ tests_bytes (tests_of (map test parts.now))) }
     ensures named { OnOk result (TestsNamed (tests_of (map test parts.now))) }
 {
     for part in parts {

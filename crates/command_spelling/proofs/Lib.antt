@@ -1,7 +1,7 @@
 pub mod AcceptedCommands
 pub mod CommandFormats
 pub mod Deciding
-pub mod Goodness
+pub mod Correctness
 pub mod Numbers
 pub mod PartFormats
 pub mod TreeFormats

@@ -1,5 +1,5 @@
 pub mod Found
-pub mod Lawful
+pub mod Valid
 pub mod Reader
 pub mod Reading
 pub mod Spelling

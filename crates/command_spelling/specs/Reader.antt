@@ -1,21 +1,27 @@
--- Reading names, values, expressions, conditions, operators, changes and commands, from left to right.
-use Rattle.std.specs.Prelude.{ℕ, zero, suc, Bool, ◌==◌, ◌&&◌, not, nat_le, nat_lt, if◌then◌else◌, List, ◌∷◌}
+-- Reading names, values, expressions, conditions, operators, changes and commands, from left to
+-- right.
+use Rattle.std.specs.Prelude.{ℕ, zero, suc, Bool, ◌==◌, ◌&&◌, not, nat_le, nat_lt, if◌then◌else◌}
+use Rattle.std.specs.Prelude.{List, ◌∷◌}
 use Rattle.std.specs.Int.{w64, cast_signed}
 use Rattle.prima_base.specs.Bytes.{is_control, is_digit, is_name_byte, longest_text}
 use Rattle.prima_base.specs.Columns.{Column}
-use Rattle.prima_base.specs.declared.values.ColType.{ColType}
-use Rattle.prima_base.specs.declared.values.ColType.TheVariants.{Int as IntType, Text as TextType}
-use Rattle.prima_base.specs.declared.values.Value.{Value}
-use Rattle.prima_base.specs.declared.values.Value.TheVariants.{Int, Text}
-use Rattle.cond_expr.specs.declared.exprs.Whose.TheVariants.{Atom}
-use Rattle.cond_expr.specs.declared.exprs.CmpOp.{CmpOp}
-use Rattle.cond_expr.specs.declared.exprs.CmpOp.TheVariants.{Eq, Ne, Lt, Le, Gt, Ge}
-use Rattle.cond_expr.specs.Trees.{Tree, column, constant, length_of, joined, choose, Test, never, always, compared, all_of, some_of, fails}
+use Rattle.prima_base.specs.declared.value.ColType.{ColType}
+use Rattle.prima_base.specs.declared.value.ColType.TheVariants.{Int as IntType, Text as TextType}
+use Rattle.prima_base.specs.declared.value.Value.{Value}
+use Rattle.prima_base.specs.declared.value.Value.TheVariants.{Int, Text}
+use Rattle.cond_expr.specs.declared.expr.Whose.TheVariants.{Atom}
+use Rattle.cond_expr.specs.declared.expr.CmpOp.{CmpOp}
+use Rattle.cond_expr.specs.declared.expr.CmpOp.TheVariants.{Eq, Ne, Lt, Le, Gt, Ge}
+use Rattle.cond_expr.specs.Trees.{Tree, column, constant, length_of, joined, choose, Test, never}
+use Rattle.cond_expr.specs.Trees.{always, compared, all_of, some_of, fails}
 use Rattle.cond_expr.specs.Seen.{trees_of, tests_of}
-use Rattle.smo_types.specs.Operators.{Operator, nop, create_table, drop_table, rename_table, copy_table, merge_table, partition_table, decompose_table, join_table, add_column, drop_column, rename_column}
+use Rattle.smo_types.specs.Operators.{Operator, nop, create_table, drop_table, rename_table}
+use Rattle.smo_types.specs.Operators.{copy_table, merge_table, partition_table, decompose_table}
+use Rattle.smo_types.specs.Operators.{join_table, add_column, drop_column, rename_column}
 use Rattle.smo_types.specs.Changes.{PlainChange, insertion, deletion, update}
 use Rattle.smo_types.specs.Commands.{PlainBody, changing, evolving, PlainCommand}
-use Rattle.command_spelling.specs.Reading.{Parser, Stuck, bind, pure, map_to, pair, byte, tagged, run, digits, listed}
+use Rattle.command_spelling.specs.Reading.{Parser, Unexpected, bind, pure, map_to, pair, byte}
+use Rattle.command_spelling.specs.Reading.{tagged, run, digits, listed}
 
 -- at most this
 abbrev pub up_to : ℕ → ℕ → Bool
@@ -35,7 +41,7 @@ is_name_length n = nat_lt 0 n && nat_le n 63
 
 -- a name of so many bytes
 unfoldable pub name_text : ℕ → Parser (List ℕ)
-name_text zero = λ ts. Stuck ts
+name_text zero = λ ts. Unexpected ts
 name_text (suc k) = bind (byte is_name_start) (λ b. map_to (λ l. b ∷ l) (run is_name_byte k))
 
 unfoldable pub name : Parser (List ℕ)
@@ -68,12 +74,14 @@ pub record Level : Type 0 where
   pub cond : Parser Test
 
 abbrev pub sign_of_tag : ℕ → CmpOp
-sign_of_tag tag = if tag == 0 then Eq else (if tag == 1 then Ne else (if tag == 2 then Lt else (if tag == 3 then Le else (if tag == 4 then Gt else Ge))))
+sign_of_tag tag = if tag == 0 then Eq else (if tag == 1 then Ne
+    else (if tag == 2 then Lt else (if tag == 3 then Le else (if tag == 4 then Gt else Ge))))
 
 unfoldable pub sign : Parser CmpOp
 sign = map_to sign_of_tag (byte (up_to 5))
 
--- Where no level may stand below, LENGTH, CASE, comparisons and NOT cannot stand, and a list has no part.
+-- Where no level may stand below, LENGTH, CASE, comparisons and NOT cannot stand, and a list has no
+-- part.
 abbrev pub is_expr_tag : Bool → ℕ → Bool
 is_expr_tag deeper x = if deeper then nat_le x 4 else nat_le x 3 && not (x == 2)
 
@@ -87,8 +95,11 @@ most_parts deeper most = if deeper then most else 0
 module _ (deeper : Bool) (inside : Level) where
   abbrev pub expr_arm : ℕ → Parser Tree
   expr_arm tag =
-      if tag == 0 then map_to (λ n. column (Atom 0) n) name else (if tag == 1 then map_to constant value else
-      (if tag == 2 then map_to length_of inside.expr else (if tag == 3 then map_to (λ l. joined (trees_of l)) (listed 1 (most_parts deeper 255) inside.expr) else
+      if tag == 0 then map_to (λ n. column (Atom 0) n) name
+      else (if tag == 1 then map_to constant value else
+      (if tag == 2 then map_to length_of inside.expr
+      else (if tag == 3 then map_to (λ l. joined (trees_of l))
+      (listed 1 (most_parts deeper 255) inside.expr) else
       map_to (λ x. choose x.0.0 x.0.1 x.1) (pair (pair inside.cond inside.expr) inside.expr))))
 
   unfoldable pub expr : Parser Tree
@@ -97,15 +108,18 @@ module _ (deeper : Bool) (inside : Level) where
   abbrev pub cond_arm : ℕ → Parser Test
   cond_arm tag =
       if tag == 0 then pure never else (if tag == 1 then pure always else
-      (if tag == 2 then map_to (λ x. compared x.0.0 x.0.1 x.1) (pair (pair sign inside.expr) inside.expr) else
-      (if tag == 3 then map_to (λ l. all_of (tests_of l)) (listed 2 (most_parts deeper 65535) inside.cond) else
-      (if tag == 4 then map_to (λ l. some_of (tests_of l)) (listed 2 (most_parts deeper 65535) inside.cond) else map_to fails inside.cond))))
+      (if tag == 2 then map_to (λ x. compared x.0.0 x.0.1 x.1)
+      (pair (pair sign inside.expr) inside.expr) else
+      (if tag == 3 then map_to (λ l. all_of (tests_of l))
+      (listed 2 (most_parts deeper 65535) inside.cond) else
+      (if tag == 4 then map_to (λ l. some_of (tests_of l))
+      (listed 2 (most_parts deeper 65535) inside.cond) else map_to fails inside.cond))))
 
   unfoldable pub cond : Parser Test
   cond = tagged (is_cond_tag deeper) cond_arm
 
 abbrev pub nothing : Level
-nothing = record { expr = λ ts. Stuck ts; cond = λ ts. Stuck ts }
+nothing = record { expr = λ ts. Unexpected ts; cond = λ ts. Unexpected ts }
 
 abbrev pub made : Bool → Level → Level
 made deeper inside = record { expr = expr deeper inside; cond = cond deeper inside }
@@ -143,9 +157,12 @@ operator_arm tag =
     (if tag == 3 then map_to (λ x. rename_table x.0 x.1) two_names else
     (if tag == 4 then map_to (λ x. copy_table x.0 x.1) two_names else
     (if tag == 5 then map_to (λ x. merge_table x.0.0 x.0.1 x.1) three_names else
-    (if tag == 6 then map_to (λ x. partition_table x.0.0.0 x.0.0.1 x.0.1 x.1) (pair (pair two_names outermost.cond) name) else
-    (if tag == 7 then map_to (λ x. decompose_table x.0.0.0.0 x.0.0.0.1 x.0.0.1 x.0.1 x.1) (pair (pair (pair two_names names) name) names) else
-    (if tag == 8 then map_to (λ x. join_table x.0.0.0 x.0.0.1 x.0.1 x.1) (pair three_names outermost.cond) else
+    (if tag == 6 then map_to (λ x. partition_table x.0.0.0 x.0.0.1 x.0.1 x.1)
+    (pair (pair two_names outermost.cond) name) else
+    (if tag == 7 then map_to (λ x. decompose_table x.0.0.0.0 x.0.0.0.1 x.0.0.1 x.0.1 x.1)
+    (pair (pair (pair two_names names) name) names) else
+    (if tag == 8 then map_to (λ x. join_table x.0.0.0 x.0.0.1 x.0.1 x.1)
+    (pair three_names outermost.cond) else
     (if tag == 9 then map_to (λ x. add_column x.0.1 x.1 x.0.0) (pair two_names outermost.expr) else
     (if tag == 10 then map_to (λ x. drop_column x.1 x.0) two_names else
     map_to (λ x. rename_column x.0.1 x.0.0 x.1) three_names))))))))))
@@ -181,7 +198,8 @@ unfoldable pub changes : Parser (List PlainChange)
 changes = listed 4 4294967295 change
 
 abbrev pub body_arm : ℕ → Parser PlainBody
-body_arm tag = if tag == 0 then map_to changing changes else map_to (λ x. evolving x.0 x.1) (pair operator operators)
+body_arm tag = if tag == 0 then map_to changing changes
+    else map_to (λ x. evolving x.0 x.1) (pair operator operators)
 
 unfoldable pub body : Parser PlainBody
 body = tagged (up_to 1) body_arm

@@ -1,18 +1,22 @@
--- The bytes of a command: which bytes spell which name, value, expression, condition, operator, change and command. Each
--- has one spelling. Numbers are unsigned, their highest byte first.
+-- The bytes of a command: which bytes spell which name, value, expression, condition, operator,
+-- change and command. Each has one spelling. Numbers are unsigned, their highest byte first.
 use Rattle.std.specs.Prelude.{ℕ, ◌+◌, List, [], ◌∷◌, ◌++◌, length}
 use Rattle.std.specs.Int.{w64, cast_unsigned, bytes_high_first}
 use Rattle.std.specs.List.{flat_map}
 use Rattle.prima_base.specs.Columns.{Column}
-use Rattle.prima_base.specs.declared.values.ColType.{ColType}
-use Rattle.prima_base.specs.declared.values.ColType.TheVariants.{Int as IntType, Text as TextType}
-use Rattle.prima_base.specs.declared.values.Value.{Value}
-use Rattle.prima_base.specs.declared.values.Value.TheVariants.{Int, Text}
-use Rattle.cond_expr.specs.declared.exprs.CmpOp.{CmpOp}
-use Rattle.cond_expr.specs.declared.exprs.CmpOp.TheVariants.{Eq, Ne, Lt, Le, Gt, Ge}
-use Rattle.cond_expr.specs.Trees.{Tree, column, constant, length_of, joined, choose, Trees, no_trees, a_tree, Test, never, always, compared, all_of, some_of, fails, Tests, no_tests, a_test}
+use Rattle.prima_base.specs.declared.value.ColType.{ColType}
+use Rattle.prima_base.specs.declared.value.ColType.TheVariants.{Int as IntType, Text as TextType}
+use Rattle.prima_base.specs.declared.value.Value.{Value}
+use Rattle.prima_base.specs.declared.value.Value.TheVariants.{Int, Text}
+use Rattle.cond_expr.specs.declared.expr.CmpOp.{CmpOp}
+use Rattle.cond_expr.specs.declared.expr.CmpOp.TheVariants.{Eq, Ne, Lt, Le, Gt, Ge}
+use Rattle.cond_expr.specs.Trees.{Tree, column, constant, length_of, joined, choose, Trees}
+use Rattle.cond_expr.specs.Trees.{no_trees, a_tree, Test, never, always, compared, all_of, some_of}
+use Rattle.cond_expr.specs.Trees.{fails, Tests, no_tests, a_test}
 use Rattle.cond_expr.specs.Sizes.{count_of}
-use Rattle.smo_types.specs.Operators.{Operator, nop, create_table, drop_table, rename_table, copy_table, merge_table, partition_table, decompose_table, join_table, add_column, drop_column, rename_column}
+use Rattle.smo_types.specs.Operators.{Operator, nop, create_table, drop_table, rename_table}
+use Rattle.smo_types.specs.Operators.{copy_table, merge_table, partition_table, decompose_table}
+use Rattle.smo_types.specs.Operators.{join_table, add_column, drop_column, rename_column}
 use Rattle.smo_types.specs.Changes.{PlainChange, insertion, deletion, update}
 use Rattle.smo_types.specs.Commands.{PlainBody, changing, evolving, PlainCommand}
 
@@ -48,7 +52,8 @@ abbrev pub number_of : Tests → ℕ
 number_of no_tests = 0
 number_of (a_test c cs) = number_of cs + 1
 
--- A column is spelled by its name alone: each is of atom 0. A CONCAT has a count of one byte, an AND and an OR one of two.
+-- A column is spelled by its name alone: each is of atom 0. A CONCAT has a count of one byte, an
+-- AND and an OR one of two.
 abbrev mutual
   pub tree_bytes : Tree → List ℕ
   tree_bytes (column w n) = 0 ∷ name_bytes n
@@ -90,9 +95,13 @@ operator_bytes (drop_table r) = 2 ∷ name_bytes r
 operator_bytes (rename_table r t) = 3 ∷ name_bytes r ++ name_bytes t
 operator_bytes (copy_table r t) = 4 ∷ name_bytes r ++ name_bytes t
 operator_bytes (merge_table r s t) = 5 ∷ name_bytes r ++ name_bytes s ++ name_bytes t
-operator_bytes (partition_table r s c t) = 6 ∷ name_bytes r ++ name_bytes s ++ test_bytes c ++ name_bytes t
-operator_bytes (decompose_table r s xs t ys) = 7 ∷ name_bytes r ++ name_bytes s ++ list_bytes 1 name_bytes xs ++ name_bytes t ++ list_bytes 1 name_bytes ys
-operator_bytes (join_table r s t c) = 8 ∷ name_bytes r ++ name_bytes s ++ name_bytes t ++ test_bytes c
+operator_bytes (partition_table r s c t) = 6 ∷ name_bytes r ++ name_bytes s ++ test_bytes c
+    ++ name_bytes t
+operator_bytes (decompose_table r s xs t ys) =
+    7 ∷ name_bytes r ++ name_bytes s ++ list_bytes 1 name_bytes xs ++ name_bytes t
+    ++ list_bytes 1 name_bytes ys
+operator_bytes (join_table r s t c) = 8 ∷ name_bytes r ++ name_bytes s ++ name_bytes t
+    ++ test_bytes c
 operator_bytes (add_column c e r) = 9 ∷ name_bytes r ++ name_bytes c ++ tree_bytes e
 operator_bytes (drop_column c r) = 10 ∷ name_bytes r ++ name_bytes c
 operator_bytes (rename_column b r c) = 11 ∷ name_bytes r ++ name_bytes b ++ name_bytes c

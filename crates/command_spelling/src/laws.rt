@@ -1,19 +1,21 @@
 //! Laws of the bytes of commands. Each is proved and does nothing.
 
 ghost use Rattle.std.specs.Prelude.{◌≡◌, ◌++◌, ℕ, List, [], None};
-ghost use Rattle.prima_base.specs.declared.values.Value.{Value};
+ghost use Rattle.prima_base.specs.declared.value.Value.{Value};
 ghost use Rattle.smo_types.specs.Operators.{Operator};
 ghost use Rattle.smo_types.specs.Commands.{PlainCommand};
-ghost use Rattle.smo_meaning.specs.After.{IsLawful};
+ghost use Rattle.smo_meaning.specs.After.{IsValid};
 ghost use Rattle.smo_meaning.specs.Past.{Past, newest_tables};
-ghost use Rattle.smo_meaning.specs.LawfulPast.{IsPast};
+ghost use Rattle.smo_meaning.specs.ValidPast.{IsPast};
 ghost use Rattle.smo_meaning.specs.Accepts.{command_fault};
 ghost use Rattle.prima_base.specs.Bytes.{IsName};
-ghost use Rattle.command_spelling.specs.Reading.{Good};
+ghost use Rattle.command_spelling.specs.Reading.{IsCorrectParser};
 ghost use Rattle.command_spelling.specs.Reader as spec;
-ghost use Rattle.command_spelling.specs.Spelling.{name_bytes, value_bytes, operator_bytes, command_bytes};
-ghost use Rattle.command_spelling.specs.Lawful.{IsValue, IsOperator, IsCommand, IsWritable};
-ghost use Rattle.command_spelling.specs.Found.{Spells, SpellsName, SpellsValue, SpellsOperator, Decoding, IsDecoding};
+ghost use Rattle.command_spelling.specs.Spelling.{name_bytes, value_bytes, operator_bytes};
+ghost use Rattle.command_spelling.specs.Spelling.{command_bytes};
+ghost use Rattle.command_spelling.specs.Valid.{IsValue, IsOperator, IsCommand, IsWritable};
+ghost use Rattle.command_spelling.specs.Found.{Spells, SpellsName, SpellsValue, SpellsOperator};
+ghost use Rattle.command_spelling.specs.Found.{Decoding, IsDecoding};
 
 /// A command has one spelling, and no other command has it.
 pub fn a_command_has_one_spelling()
@@ -23,33 +25,40 @@ pub fn a_command_has_one_spelling()
 
 /// No spelling is a prefix of another, be it of a command, of a name, of a value or of an operator.
 pub fn no_spelling_is_a_prefix()
-    ensures command { (c d : PlainCommand) (a more : List ℕ) → Spells c a → Spells d (a ++ more) → (c ≡ d) × (more ≡ []) }
-    ensures name { (m n : List ℕ) (a more : List ℕ) → SpellsName m a → SpellsName n (a ++ more) → (m ≡ n) × (more ≡ []) }
-    ensures value { (v w : Value) (a more : List ℕ) → SpellsValue v a → SpellsValue w (a ++ more) → (v ≡ w) × (more ≡ []) }
-    ensures operator { (o p : Operator) (a more : List ℕ) → SpellsOperator o a → SpellsOperator p (a ++ more) → (o ≡ p) × (more ≡ []) }
+    ensures command { (c d : PlainCommand) (a more : List ℕ) → Spells c a → Spells d (a ++ more)
+        → (c ≡ d) × (more ≡ []) }
+    ensures name { (m n : List ℕ) (a more : List ℕ) → SpellsName m a → SpellsName n (a ++ more)
+        → (m ≡ n) × (more ≡ []) }
+    ensures value { (v w : Value) (a more : List ℕ) → SpellsValue v a → SpellsValue w (a ++ more)
+        → (v ≡ w) × (more ≡ []) }
+    ensures operator { (o p : Operator) (a more : List ℕ) → SpellsOperator o a
+        → SpellsOperator p (a ++ more) → (o ≡ p) × (more ≡ []) }
 {}
 
 /// Bytes are one of three things, and one alone: a command's spelling; one and more after it; or no
 /// prefix of them is one, and a byte is the first with which none goes on.
 pub fn bytes_are_one_thing()
     ensures some { (bytes : List ℕ) → (d : Decoding) × IsDecoding bytes d }
-    ensures one { (bytes : List ℕ) (d e : Decoding) → IsDecoding bytes d → IsDecoding bytes e → d ≡ e }
+    ensures one { (bytes : List ℕ) (d e : Decoding) → IsDecoding bytes d → IsDecoding bytes e
+        → d ≡ e }
 {}
 
-/// The readers of names, values, operators and commands are good for their formats: what they read is
-/// spelled so, what is spelled so they read, whatever follows, and a fault stands at the first byte with
-/// which no spelling goes on.
+/// The readers of names, values, operators and commands are good for their formats: what they read
+/// is spelled so, what is spelled so they read, whatever follows, and a fault stands at the first
+/// byte with which no spelling goes on.
 pub fn parts_are_read()
-    ensures name { Good spec.name IsName name_bytes }
-    ensures value { Good spec.value IsValue value_bytes }
-    ensures operator { Good spec.operator IsOperator operator_bytes }
-    ensures command { Good spec.command IsCommand command_bytes }
+    ensures name { IsCorrectParser spec.name IsName name_bytes }
+    ensures value { IsCorrectParser spec.value IsValue value_bytes }
+    ensures operator { IsCorrectParser spec.operator IsOperator operator_bytes }
+    ensures command { IsCorrectParser spec.command IsCommand command_bytes }
 {}
 
-/// A command that is accepted after a past of lawful tables can be written: its counts fit their
-/// fields, its references are to atom 0, and its trees are at most 32 deep. Every past that accepted
-/// commands make is one of these (`past`).
+/// A command that is accepted after a past of valid tables can be written: its counts fit their
+/// fields, its references are to atom 0, and its trees are at most 32 deep. Every past that
+/// accepted commands make is one of these (`past`).
 pub fn accepted_commands_can_be_written()
-    ensures tables { (past : Past) (command : PlainCommand) → IsLawful (newest_tables past) → command_fault past command ≡ None → IsWritable command }
-    ensures past { (past : Past) (command : PlainCommand) → IsPast past → command_fault past command ≡ None → IsWritable command }
+    ensures tables { (past : Past) (command : PlainCommand) → IsValid (newest_tables past)
+        → command_fault past command ≡ None → IsWritable command }
+    ensures past { (past : Past) (command : PlainCommand) → IsPast past
+        → command_fault past command ≡ None → IsWritable command }
 {}

@@ -1,10 +1,10 @@
-//! The bytes of commands: which bytes spell which name, value, expression, condition, operator, change and
-//! command, what of them can be written, and what bytes are that are no whole spelling.
+//! The bytes of commands: which bytes spell which name, value, expression, condition, operator,
+//! change and command, what of them can be written, and what bytes are that are no whole spelling.
 //!
-//! The spelling stands in `specs/Spelling.antt`, and what has one in `specs/Lawful.antt`. Readers from the
-//! front stand in `specs/Reader.antt`. `Good` of `specs/Reading.antt` joins both: what a reader reads is
-//! spelled so, what is spelled so is read, whatever follows, and where nothing is read the byte is the first
-//! with which no spelling goes on.
+//! The spelling stands in `specs/Spelling.antt`, and what has one in `specs/Valid.antt`. Readers
+//! from the prefix stand in `specs/Reader.antt`. `IsCorrectParser` of `specs/Reading.antt` joins
+//! both: what a reader reads is spelled so, what is spelled so is read, whatever follows, and where
+//! nothing is read the byte is the first with which no spelling goes on.
 #![tactic(auto)]
 
 mod laws;

@@ -5,9 +5,9 @@ use Rattle.std.specs.declared.cmp.Ordering.{Ordering}
 use Rattle.std.specs.declared.cmp.Ordering.TheVariants.{Less, Equal, Greater}
 use Rattle.prima_base.specs.Order.{value_cmp}
 use Rattle.prima_base.specs.OrderLaws.{value_total}
-use Rattle.prima_base.specs.declared.values.Value.{Value}
-use Rattle.cond_expr.specs.declared.exprs.CmpOp.{CmpOp}
-use Rattle.cond_expr.specs.declared.exprs.CmpOp.TheVariants.{Eq, Ne, Lt, Le, Gt, Ge}
+use Rattle.prima_base.specs.declared.value.Value.{Value}
+use Rattle.cond_expr.specs.declared.expr.CmpOp.{CmpOp}
+use Rattle.cond_expr.specs.declared.expr.CmpOp.TheVariants.{Eq, Ne, Lt, Le, Gt, Ge}
 use Rattle.cond_expr.specs.Comparisons.{turned, same_way}
 use Rattle.cond_expr.specs.Values.{agrees}
 
@@ -49,7 +49,8 @@ same_way_is Ge Le e = absurd (cc)
 same_way_is Ge Gt e = absurd (cc)
 same_way_is Ge Ge e = refl
 
-pub agrees_reversed : (o : CmpOp) (r : Ordering) → agrees (turned o) (ordering_reverse r) ≡ agrees o r
+pub agrees_reversed : (o : CmpOp) (r : Ordering)
+    → agrees (turned o) (ordering_reverse r) ≡ agrees o r
 agrees_reversed Eq Less = refl
 agrees_reversed Eq Equal = refl
 agrees_reversed Eq Greater = refl
@@ -69,5 +70,7 @@ agrees_reversed Ge Less = refl
 agrees_reversed Ge Equal = refl
 agrees_reversed Ge Greater = refl
 
-pub agrees_turned : (o : CmpOp) (x y : Value) → agrees (turned o) (value_cmp y x) ≡ agrees o (value_cmp x y)
-agrees_turned o x y = ap (agrees (turned o)) (value_total.antisymm y x) ∙ agrees_reversed o (value_cmp x y)
+pub agrees_turned : (o : CmpOp) (x y : Value)
+    → agrees (turned o) (value_cmp y x) ≡ agrees o (value_cmp x y)
+agrees_turned o x y = ap (agrees (turned o)) (value_total.antisymm y x)
+    ∙ agrees_reversed o (value_cmp x y)

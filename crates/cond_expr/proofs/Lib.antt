@@ -5,7 +5,7 @@ pub mod FaultLaws
 pub mod ListedLaws
 pub mod KindLaws
 pub mod AtomLaws
-pub mod LawfulLaws
+pub mod ValidLaws
 pub mod ConstantLaws
 pub mod ReferenceLaws
 pub mod PinnedLaws

@@ -1,7 +1,7 @@
 -- The columns of atoms, and the kinds of references to them.
 use Rattle.std.specs.Prelude.{ℕ, ◌+◌, ◌++◌, List, [], ◌∷◌, map}
 use Rattle.prima_base.specs.Columns.{Column}
-use Rattle.cond_expr.specs.declared.exprs.Column.{Column as AtomColumn}
+use Rattle.cond_expr.specs.declared.expr.Column.{Column as AtomColumn}
 use Rattle.cond_expr.specs.Kinds.{Kinds, kinds_of}
 
 -- columns, as those of the atom with this number

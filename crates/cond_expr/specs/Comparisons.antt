@@ -1,7 +1,7 @@
 -- The six comparisons, and each with its sides exchanged.
 use Rattle.std.specs.Prelude.{Bool, true, false}
-use Rattle.cond_expr.specs.declared.exprs.CmpOp.{CmpOp}
-use Rattle.cond_expr.specs.declared.exprs.CmpOp.TheVariants.{Eq, Ne, Lt, Le, Gt, Ge}
+use Rattle.cond_expr.specs.declared.expr.CmpOp.{CmpOp}
+use Rattle.cond_expr.specs.declared.expr.CmpOp.TheVariants.{Eq, Ne, Lt, Le, Gt, Ge}
 
 -- the comparison of the right side with the left one
 abbrev pub turned : CmpOp → CmpOp

@@ -1,16 +1,17 @@
--- Expressions whose constants are lawful values. Those of a condition come into no value.
+-- Expressions whose constants are valid values. Those of a condition come into no value.
 use Rattle.std.specs.Prelude.{⊤}
-use Rattle.prima_base.specs.Columns.{IsLawful}
-use Rattle.cond_expr.specs.Trees.{Tree, column, constant, length_of, joined, choose, Trees, no_trees, a_tree}
+use Rattle.prima_base.specs.Columns.{IsValid}
+use Rattle.cond_expr.specs.Trees.{Tree, column, constant, length_of, joined, choose, Trees}
+use Rattle.cond_expr.specs.Trees.{no_trees, a_tree}
 
 abbrev mutual
-  pub HasLawful : Tree → Type 0
-  HasLawful (column w n) = ⊤
-  HasLawful (constant v) = IsLawful v
-  HasLawful (length_of t) = HasLawful t
-  HasLawful (joined ts) = HaveLawful ts
-  HasLawful (choose c a b) = HasLawful a × HasLawful b
+  pub HasValid : Tree → Type 0
+  HasValid (column w n) = ⊤
+  HasValid (constant v) = IsValid v
+  HasValid (length_of t) = HasValid t
+  HasValid (joined ts) = HaveValid ts
+  HasValid (choose c a b) = HasValid a × HasValid b
 
-  pub HaveLawful : Trees → Type 0
-  HaveLawful no_trees = ⊤
-  HaveLawful (a_tree t ts) = HasLawful t × HaveLawful ts
+  pub HaveValid : Trees → Type 0
+  HaveValid no_trees = ⊤
+  HaveValid (a_tree t ts) = HasValid t × HaveValid ts

@@ -1,11 +1,14 @@
 -- The first fault of a tree over some columns: its references in written order, and its nodes that
 -- have no type, parts before their node, by their numbers in pre-order.
-use Rattle.std.specs.Prelude.{◌≡◌, ℕ, ◌+◌, List, [], ◌∷◌, ◌++◌, Bool, true, false, not, Option, Some, None, IsSome, is_none, Result, Ok, Err, cond}
-use Rattle.prima_base.specs.declared.values.ColType.{ColType}
-use Rattle.cond_expr.specs.declared.exprs.ColRef.{ColRef}
-use Rattle.cond_expr.specs.declared.exprs.TypeFault.{TypeFault}
-use Rattle.cond_expr.specs.declared.exprs.TypeFault.TheVariants.{NoColumn, WrongType, NoMemory}
-use Rattle.cond_expr.specs.Trees.{Tree, column, constant, length_of, joined, choose, Trees, no_trees, a_tree, Test, never, always, compared, all_of, some_of, fails, Tests, no_tests, a_test}
+use Rattle.std.specs.Prelude.{◌≡◌, ℕ, ◌+◌, List, [], ◌∷◌, ◌++◌, Bool, true, false, not, Option}
+use Rattle.std.specs.Prelude.{Some, None, IsSome, is_none, Result, Ok, Err, cond}
+use Rattle.prima_base.specs.declared.value.ColType.{ColType}
+use Rattle.cond_expr.specs.declared.expr.ColRef.{ColRef}
+use Rattle.cond_expr.specs.declared.expr.TypeFault.{TypeFault}
+use Rattle.cond_expr.specs.declared.expr.TypeFault.TheVariants.{NoColumn, WrongType, NoMemory}
+use Rattle.cond_expr.specs.Trees.{Tree, column, constant, length_of, joined, choose, Trees}
+use Rattle.cond_expr.specs.Trees.{no_trees, a_tree, Test, never, always, compared, all_of, some_of}
+use Rattle.cond_expr.specs.Trees.{fails, Tests, no_tests, a_test}
 use Rattle.cond_expr.specs.Sizes.{nodes_of, test_nodes}
 use Rattle.cond_expr.specs.Kinds.{Kinds, kind_of, is_typed}
 
@@ -50,16 +53,19 @@ if_so true at = at ∷ []
 if_so false at = []
 
 -- The nodes that have no type, parts before their node and left before right; the first node has
--- the number `at`, and the others follow in pre-order. AND, OR and NOT take every condition, so they
--- are none of them.
+-- the number `at`, and the others follow in pre-order. AND, OR and NOT take every condition, so
+-- they are none of them.
 abbrev mutual
   pub untyped : Kinds → ℕ → Tree → List ℕ
   untyped of at (column w n) = if_so (is_none (of w n)) at
   untyped of at (constant v) = []
-  untyped of at (length_of t) = untyped of (at + 1) t ++ if_so (is_none (kind_of of (length_of t))) at
-  untyped of at (joined ts) = trees_untyped of (at + 1) ts ++ if_so (is_none (kind_of of (joined ts))) at
+  untyped of at (length_of t) = untyped of (at + 1) t
+      ++ if_so (is_none (kind_of of (length_of t))) at
+  untyped of at (joined ts) = trees_untyped of (at + 1) ts
+      ++ if_so (is_none (kind_of of (joined ts))) at
   untyped of at (choose c a b) = test_untyped of (at + 1) c ++ (untyped of (at + 1 + test_nodes c) a
-      ++ (untyped of (at + 1 + test_nodes c + nodes_of a) b ++ if_so (is_none (kind_of of (choose c a b))) at))
+      ++ (untyped of (at + 1 + test_nodes c + nodes_of a) b
+      ++ if_so (is_none (kind_of of (choose c a b))) at))
 
   pub trees_untyped : Kinds → ℕ → Trees → List ℕ
   trees_untyped of at no_trees = []
@@ -68,14 +74,16 @@ abbrev mutual
   pub test_untyped : Kinds → ℕ → Test → List ℕ
   test_untyped of at never = []
   test_untyped of at always = []
-  test_untyped of at (compared o a b) = untyped of (at + 1) a ++ (untyped of (at + 1 + nodes_of a) b ++ if_so (not (is_typed of (compared o a b))) at)
+  test_untyped of at (compared o a b) = untyped of (at + 1) a
+      ++ (untyped of (at + 1 + nodes_of a) b ++ if_so (not (is_typed of (compared o a b))) at)
   test_untyped of at (all_of cs) = tests_untyped of (at + 1) cs
   test_untyped of at (some_of cs) = tests_untyped of (at + 1) cs
   test_untyped of at (fails c) = test_untyped of (at + 1) c
 
   pub tests_untyped : Kinds → ℕ → Tests → List ℕ
   tests_untyped of at no_tests = []
-  tests_untyped of at (a_test c cs) = test_untyped of at c ++ tests_untyped of (at + test_nodes c) cs
+  tests_untyped of at (a_test c cs) = test_untyped of at c
+      ++ tests_untyped of (at + test_nodes c) cs
 
 abbrev pub first_of : List ℕ → Option ℕ
 first_of [] = None
@@ -85,12 +93,14 @@ first_of (x ∷ xs) = Some x
 abbrev pub Judged : Kinds → Tree → Result ColType TypeFault → Type 0
 Judged of t (Ok k) = kind_of of t ≡ Some k
 Judged of t (Err (NoColumn n)) = first_unknown of (references t) ≡ Some n
-Judged of t (Err (WrongType p)) = (first_unknown of (references t) ≡ None) × (first_of (untyped of 0 t) ≡ Some p)
+Judged of t (Err (WrongType p)) = (first_unknown of (references t) ≡ None)
+    × (first_of (untyped of 0 t) ≡ Some p)
 Judged of t (Err NoMemory) = IsSome (first_unknown of (references t))
 
 -- what the check of a condition answers
 abbrev pub TestJudged : Kinds → Test → Result (Unit {0}) TypeFault → Type 0
 TestJudged of c (Ok u) = is_typed of c ≡ true
 TestJudged of c (Err (NoColumn n)) = first_unknown of (test_references c) ≡ Some n
-TestJudged of c (Err (WrongType p)) = (first_unknown of (test_references c) ≡ None) × (first_of (test_untyped of 0 c) ≡ Some p)
+TestJudged of c (Err (WrongType p)) = (first_unknown of (test_references c) ≡ None)
+    × (first_of (test_untyped of 0 c) ≡ Some p)
 TestJudged of c (Err NoMemory) = IsSome (first_unknown of (test_references c))

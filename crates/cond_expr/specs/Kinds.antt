@@ -1,13 +1,16 @@
 -- The type of an expression, None where some part of it is not well-typed.
-use Rattle.std.specs.Prelude.{◌≡◌, ⊤, ℕ, List, [], ◌∷◌, Bool, true, false, ◌&&◌, Option, Some, None, cond}
-use Rattle.prima_base.specs.declared.values.Value.{Value}
-use Rattle.prima_base.specs.declared.values.Value.TheVariants.{Int, Text}
-use Rattle.prima_base.specs.declared.values.ColType.{ColType}
-use Rattle.prima_base.specs.declared.values.ColType.TheVariants.{Int as INT, Text as TEXT}
-use Rattle.cond_expr.specs.declared.exprs.Whose.{Whose}
-use Rattle.cond_expr.specs.declared.exprs.Column.{Column}
-use Rattle.cond_expr.specs.Trees.{Tree, column, constant, length_of, joined, choose, Trees, no_trees, a_tree, Test, never, always, compared, all_of, some_of, fails, Tests, no_tests, a_test}
-use Rattle.prima_base.specs.declared.values.Val.{Val}
+use Rattle.std.specs.Prelude.{◌≡◌, ⊤, ℕ, List, [], ◌∷◌, Bool, true, false, ◌&&◌, Option, Some, None}
+use Rattle.std.specs.Prelude.{cond}
+use Rattle.prima_base.specs.declared.value.Value.{Value}
+use Rattle.prima_base.specs.declared.value.Value.TheVariants.{Int, Text}
+use Rattle.prima_base.specs.declared.value.ColType.{ColType}
+use Rattle.prima_base.specs.declared.value.ColType.TheVariants.{Int as INT, Text as TEXT}
+use Rattle.cond_expr.specs.declared.expr.Whose.{Whose}
+use Rattle.cond_expr.specs.declared.expr.Column.{Column}
+use Rattle.cond_expr.specs.Trees.{Tree, column, constant, length_of, joined, choose, Trees}
+use Rattle.cond_expr.specs.Trees.{no_trees, a_tree, Test, never, always, compared, all_of, some_of}
+use Rattle.cond_expr.specs.Trees.{fails, Tests, no_tests, a_test}
+use Rattle.prima_base.specs.declared.value.Val.{Val}
 use Rattle.prima_base.specs.Order.{shown}
 use Rattle.cond_expr.specs.Rows.{names}
 use Rattle.cond_expr.specs.Values.{Cells}
@@ -47,7 +50,8 @@ abbrev mutual
   kind_of of (constant v) = Some (value_kind v)
   kind_of of (length_of t) = cond (is_text (kind_of of t)) (Some INT) None
   kind_of of (joined ts) = cond (all_text of ts) (Some TEXT) None
-  kind_of of (choose c a b) = cond (is_typed of c && same_kind (kind_of of a) (kind_of of b)) (kind_of of a) None
+  kind_of of (choose c a b) = cond (is_typed of c && same_kind (kind_of of a) (kind_of of b))
+      (kind_of of a) None
 
   pub all_text : Kinds → Trees → Bool
   all_text of no_trees = true

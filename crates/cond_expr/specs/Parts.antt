@@ -1,15 +1,18 @@
--- The top-level parts of a condition, and those that compare just one column with a constant. Nothing under OR or NOT is a part.
-use Rattle.std.specs.Prelude.{◌≡◌, ◌⊎◌, ℕ, ◌==◌, ◌&&◌, ◌++◌, List, [], ◌∷◌, Bool, true, false, Option, Some, None, if◌then◌else◌}
+-- The top-level parts of a condition, and those that compare just one column with a constant.
+-- Nothing under OR or NOT is a part.
+use Rattle.std.specs.Prelude.{◌≡◌, ◌⊎◌, ℕ, ◌==◌, ◌&&◌, ◌++◌, List, [], ◌∷◌, Bool, true, false}
+use Rattle.std.specs.Prelude.{Option, Some, None, if◌then◌else◌}
 use Rattle.std.specs.List.{list_all}
-use Rattle.prima_base.specs.declared.values.Value.{Value}
+use Rattle.prima_base.specs.declared.value.Value.{Value}
 use Rattle.relations.specs.Sets.{In}
-use Rattle.prima_base.specs.declared.values.ColType.{ColType}
-use Rattle.prima_base.specs.Columns.{IsLawful}
+use Rattle.prima_base.specs.declared.value.ColType.{ColType}
+use Rattle.prima_base.specs.Columns.{IsValid}
 use Rattle.prima_base.specs.Order.{same}
-use Rattle.cond_expr.specs.declared.exprs.Whose.TheVariants.{Free, Alias, Atom}
-use Rattle.cond_expr.specs.declared.exprs.CmpOp.{CmpOp}
+use Rattle.cond_expr.specs.declared.expr.Whose.TheVariants.{Free, Alias, Atom}
+use Rattle.cond_expr.specs.declared.expr.CmpOp.{CmpOp}
 use Rattle.cond_expr.specs.Comparisons.{turned}
-use Rattle.cond_expr.specs.Trees.{Tree, column, constant, length_of, joined, choose, Test, never, always, compared, all_of, some_of, fails, Tests, no_tests, a_test}
+use Rattle.cond_expr.specs.Trees.{Tree, column, constant, length_of, joined, choose, Test, never}
+use Rattle.cond_expr.specs.Trees.{always, compared, all_of, some_of, fails, Tests, no_tests, a_test}
 use Rattle.cond_expr.specs.Values.{truth}
 use Rattle.cond_expr.specs.Kinds.{Kinds, value_kind}
 
@@ -80,11 +83,13 @@ abbrev pub is_on : ℕ → List ℕ → Option Bound → Bool
 is_on i n None = false
 is_on i n (Some b) = (b.atom == i) && same b.name n
 
--- Whether the part compares just this column with a constant. The constant may stand on either side.
+-- Whether the part compares just this column with a constant. The constant may stand on either
+-- side.
 abbrev pub compares_just : ℕ → List ℕ → Test → Bool
 compares_just i n t = is_on i n (bound_of t)
 
--- the part lets the column have the value: it holds of it, where it compares just this column with a constant
+-- the part lets the column have the value: it holds of it, where it compares just this column with
+-- a constant
 abbrev pub lets : ℕ → List ℕ → Value → Test → Bool
 lets i n v t = if compares_just i n t then truth (λ w m. v) t else true
 
@@ -94,9 +99,9 @@ all_let i n ts v = list_all (lets i n v) ts
 
 -- ---- dead conditions
 
--- a value of the type: an INT in range, or a TEXT of at most 4,096 lawful bytes
+-- a value of the type: an INT in range, or a TEXT of at most 4,096 valid bytes
 abbrev pub IsOf : ColType → Value → Type 0
-IsOf k v = (value_kind v ≡ k) × IsLawful v
+IsOf k v = (value_kind v ≡ k) × IsValid v
 
 -- some column, as the kinds have it, of which the parts leave no value of its type
 pub record HasEmpty (of : Kinds) (ts : List Test) : Type 0 where
@@ -106,7 +111,7 @@ pub record HasEmpty (of : Kinds) (ts : List Test) : Type 0 where
   pub there : of (Atom atom) name ≡ Some kind
   pub none : (v : Value) → IsOf kind v → all_let atom name ts v ≡ false
 
--- A condition that can be seen to hold of no values: a part is FALSE, or the parts that compare just one column with a constant
--- leave no value of its type.
+-- A condition that can be seen to hold of no values: a part is FALSE, or the parts that compare
+-- just one column with a constant leave no value of its type.
 abbrev pub IsDead : Kinds → Test → Type 0
 IsDead of c = In never (parts c) ⊎ HasEmpty of (parts c)

@@ -1,10 +1,12 @@
--- The constants with which top-level parts of a condition compare a column. Nothing under OR or NOT is one.
+-- The constants with which top-level parts of a condition compare a column. Nothing under OR or NOT
+-- is one.
 use Rattle.std.specs.Prelude.{List, [], ◌∷◌, Bool, false, cond, ◌&&◌, Option, Some, None}
-use Rattle.prima_base.specs.declared.values.Value.{Value}
-use Rattle.cond_expr.specs.declared.exprs.CmpOp.{CmpOp}
-use Rattle.cond_expr.specs.declared.exprs.Column.{Column}
+use Rattle.prima_base.specs.declared.value.Value.{Value}
+use Rattle.cond_expr.specs.declared.expr.CmpOp.{CmpOp}
+use Rattle.cond_expr.specs.declared.expr.Column.{Column}
 use Rattle.cond_expr.specs.Comparisons.{turned, same_way}
-use Rattle.cond_expr.specs.Trees.{Tree, column, constant, length_of, joined, choose, Test, never, always, compared, all_of, some_of, fails}
+use Rattle.cond_expr.specs.Trees.{Tree, column, constant, length_of, joined, choose, Test, never}
+use Rattle.cond_expr.specs.Trees.{always, compared, all_of, some_of, fails}
 use Rattle.cond_expr.specs.Parts.{parts}
 use Rattle.cond_expr.specs.Rows.{names}
 
@@ -32,7 +34,8 @@ first_some (Some v) other = Some v
 abbrev pub pinned_by : CmpOp → Column → Test → Option Value
 pinned_by o c never = None
 pinned_by o c always = None
-pinned_by o c (compared p a b) = first_some (cond (same_way o p && is_column c a) (constant_of b) None) (cond (same_way o (turned p) && is_column c b) (constant_of a) None)
+pinned_by o c (compared p a b) = first_some (cond (same_way o p && is_column c a) (constant_of b)
+    None) (cond (same_way o (turned p) && is_column c b) (constant_of a) None)
 pinned_by o c (all_of cs) = None
 pinned_by o c (some_of cs) = None
 pinned_by o c (fails d) = None

@@ -1,9 +1,11 @@
 -- The tree that an expression or a condition of the code stands for.
 use Rattle.std.specs.Prelude.{List, [], ◌∷◌}
-use Rattle.cond_expr.specs.declared.exprs.Expr.{Expr, fold-Expr}
-use Rattle.cond_expr.specs.declared.exprs.Cond.{Cond, fold-Cond}
-use Rattle.cond_expr.specs.declared.exprs.Cond.TheOpen.{Expr-F, Cond-F}
-use Rattle.cond_expr.specs.Trees.{Tree, column, constant, length_of, joined, choose, Trees, no_trees, a_tree, Test, never, always, compared, all_of, some_of, fails, Tests, no_tests, a_test}
+use Rattle.cond_expr.specs.declared.expr.Expr.{Expr, fold-Expr}
+use Rattle.cond_expr.specs.declared.expr.Cond.{Cond, fold-Cond}
+use Rattle.cond_expr.specs.declared.expr.Cond.TheOpen.{Expr-F, Cond-F}
+use Rattle.cond_expr.specs.Trees.{Tree, column, constant, length_of, joined, choose, Trees}
+use Rattle.cond_expr.specs.Trees.{no_trees, a_tree, Test, never, always, compared, all_of, some_of}
+use Rattle.cond_expr.specs.Trees.{fails, Tests, no_tests, a_test}
 
 abbrev pub trees_of : List Tree → Trees
 trees_of [] = no_trees

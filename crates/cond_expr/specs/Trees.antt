@@ -1,9 +1,9 @@
 -- Expressions and conditions as plain trees, and what is put for their references.
 use Rattle.std.specs.Prelude.{ℕ, List, ⊤}
-use Rattle.prima_base.specs.declared.values.Value.{Value}
-use Rattle.cond_expr.specs.declared.exprs.Whose.{Whose}
-use Rattle.cond_expr.specs.declared.exprs.Whose.TheVariants.{Free, Alias, Atom}
-use Rattle.cond_expr.specs.declared.exprs.CmpOp.{CmpOp}
+use Rattle.prima_base.specs.declared.value.Value.{Value}
+use Rattle.cond_expr.specs.declared.expr.Whose.{Whose}
+use Rattle.cond_expr.specs.declared.expr.Whose.TheVariants.{Free, Alias, Atom}
+use Rattle.cond_expr.specs.declared.expr.CmpOp.{CmpOp}
 
 mutual
   pub data Tree : Type 0 where

@@ -1,16 +1,19 @@
 -- The value of an expression and the truth of a condition, by cases on the form.
-use Rattle.std.specs.Prelude.{ℕ, List, [], ◌++◌, Bool, true, false, not, ◌&&◌, ◌||◌, length, take, pos, if◌then◌else◌}
+use Rattle.std.specs.Prelude.{ℕ, List, [], ◌++◌, Bool, true, false, not, ◌&&◌, ◌||◌, length, take}
+use Rattle.std.specs.Prelude.{pos, if◌then◌else◌}
 use Rattle.std.specs.declared.cmp.Ordering.{Ordering}
 use Rattle.std.specs.Ordering.{is_eq, is_lt, is_gt, is_le}
-use Rattle.prima_base.specs.declared.values.Value.{Value}
-use Rattle.prima_base.specs.declared.values.Value.TheVariants.{Int, Text}
+use Rattle.prima_base.specs.declared.value.Value.{Value}
+use Rattle.prima_base.specs.declared.value.Value.TheVariants.{Int, Text}
 use Rattle.prima_base.specs.Bytes.{longest_text}
 use Rattle.prima_base.specs.Order.{value_cmp}
-use Rattle.cond_expr.specs.declared.exprs.Whose.{Whose}
-use Rattle.cond_expr.specs.declared.exprs.Whose.TheVariants.{Free, Alias, Atom}
-use Rattle.cond_expr.specs.declared.exprs.CmpOp.{CmpOp}
-use Rattle.cond_expr.specs.declared.exprs.CmpOp.TheVariants.{Eq, Ne, Lt, Le, Gt, Ge}
-use Rattle.cond_expr.specs.Trees.{Tree, column, constant, length_of, joined, choose, Trees, no_trees, a_tree, Test, never, always, compared, all_of, some_of, fails, Tests, no_tests, a_test}
+use Rattle.cond_expr.specs.declared.expr.Whose.{Whose}
+use Rattle.cond_expr.specs.declared.expr.Whose.TheVariants.{Free, Alias, Atom}
+use Rattle.cond_expr.specs.declared.expr.CmpOp.{CmpOp}
+use Rattle.cond_expr.specs.declared.expr.CmpOp.TheVariants.{Eq, Ne, Lt, Le, Gt, Ge}
+use Rattle.cond_expr.specs.Trees.{Tree, column, constant, length_of, joined, choose, Trees}
+use Rattle.cond_expr.specs.Trees.{no_trees, a_tree, Test, never, always, compared, all_of, some_of}
+use Rattle.cond_expr.specs.Trees.{fails, Tests, no_tests, a_test}
 
 -- what each reference stands for
 abbrev pub Cells : Type 0

@@ -5,11 +5,11 @@ use Rattle.std.proofs.lemmas.Cmp.{int_ranked, by_ranked}
 use Rattle.std.proofs.lemmas.Int.{ints}
 use Rattle.std.specs.declared.cmp.Ordering.TheVariants.{Less}
 use Rattle.std.specs.Ordering.{int_cmp, is_lt, is_gt}
-use Rattle.prima_base.specs.declared.values.Value.{Value}
-use Rattle.prima_base.specs.declared.values.Value.TheVariants.{Int, Text}
-use Rattle.prima_base.specs.declared.values.ColType.{ColType}
-use Rattle.prima_base.specs.declared.values.ColType.TheVariants.{Int as INT, Text as TEXT}
-use Rattle.prima_base.specs.Columns.{IsLawful}
+use Rattle.prima_base.specs.declared.value.Value.{Value}
+use Rattle.prima_base.specs.declared.value.Value.TheVariants.{Int, Text}
+use Rattle.prima_base.specs.declared.value.ColType.{ColType}
+use Rattle.prima_base.specs.declared.value.ColType.TheVariants.{Int as INT, Text as TEXT}
+use Rattle.prima_base.specs.Columns.{IsValid}
 use Rattle.prima_base.specs.Order.{value_cmp}
 use Rattle.cond_expr.specs.Kinds.{value_kind}
 use Rattle.cond_expr.specs.Parts.{IsOf}
@@ -21,19 +21,22 @@ below a b h = by_ranked (a <ℤ b) (a ≡ b) (b <ℤ a) (int_cmp a b) (int_ranke
     (λ o l. l) (λ o e. absurd (cc)) (λ o g. absurd (cc))
 
 is_below : (a b : ℤ) → is_lt (int_cmp a b) ≡ true → a <ℤ b
-is_below a b h = by_ranked (a <ℤ b) (a ≡ b) (b <ℤ a) (int_cmp a b) (int_ranked a b (int_cmp a b) refl)
+is_below a b h = by_ranked (a <ℤ b) (a ≡ b) (b <ℤ a) (int_cmp a b)
+    (int_ranked a b (int_cmp a b) refl)
     (λ o l. l)
     (λ o e. absurd (let k : false ≡ true = sym (ap is_lt o) ∙ h in cc))
     (λ o g. absurd (let k : false ≡ true = sym (ap is_lt o) ∙ h in cc))
 
 from_below : (a b : ℤ) → a <ℤ b → int_cmp a b ≡ Less
-from_below a b l = by_ranked (a <ℤ b) (a ≡ b) (b <ℤ a) (int_cmp a b) (int_ranked a b (int_cmp a b) refl)
+from_below a b l = by_ranked (a <ℤ b) (a ≡ b) (b <ℤ a) (int_cmp a b)
+    (int_ranked a b (int_cmp a b) refl)
     (λ o k. o)
     (λ o e. absurd (omega (arith, ints, ap (λ (x : ℤ). x) e)))
     (λ o g. absurd (omega (arith, ints)))
 
 from_up_to : (a b : ℤ) → a ≤ℤ b → is_gt (int_cmp a b) ≡ false
-from_up_to a b l = by_ranked (a <ℤ b) (a ≡ b) (b <ℤ a) (int_cmp a b) (int_ranked a b (int_cmp a b) refl)
+from_up_to a b l = by_ranked (a <ℤ b) (a ≡ b) (b <ℤ a) (int_cmp a b)
+    (int_ranked a b (int_cmp a b) refl)
     (λ o k. ap is_gt o)
     (λ o e. ap is_gt o)
     (λ o g. absurd (omega (arith, ints)))
@@ -42,17 +45,23 @@ pub next_above : (v : Value) → has_next v ≡ true → value_cmp v (next v) �
 next_above (Int n) h = from_below n (n +ℤ pos 1) (omega (arith, ints))
 next_above (Text t) h = after_above t h
 
-pub next_least : (v w : Value) → value_kind v ≡ value_kind w → IsLawful w → value_cmp v w ≡ Less
+pub next_least : (v w : Value) → value_kind v ≡ value_kind w → IsValid w → value_cmp v w ≡ Less
     → (has_next v ≡ true) × (is_gt (value_cmp (next v) w) ≡ false)
 next_least (Int n) (Int m) k i h =
-    let l = below n m h in
-    (ap is_lt (from_below n (pos (2 ^ 63 - 1)) (omega (arith, ints, i.0, i.1))), from_up_to (n +ℤ pos 1) m (omega (arith, ints)))
+    let l = below n m h in (
+      ap is_lt (from_below n (pos (2 ^ 63 - 1)) (omega (arith, ints, i.0, i.1))),
+      from_up_to (n +ℤ pos 1) m (omega (arith, ints)),
+    )
 next_least (Int n) (Text d) k i h = absurd (cc)
 next_least (Text t) (Int m) k i h = absurd (cc)
 next_least (Text t) (Text d) k i h = after_least t d i h
 
 pub next_of : (k : ColType) (v : Value) → IsOf k v → has_next v ≡ true → IsOf k (next v)
-next_of k (Int n) i h = (i.0, let l = is_below n (pos (2 ^ 63 - 1)) h in (omega (arith, ints, i.1.0, i.1.1), omega (arith, ints, i.1.0, i.1.1)))
+next_of k (Int n) i h = (
+  i.0,
+  let l = is_below n (pos (2 ^ 63 - 1)) h in
+      (omega (arith, ints, i.1.0, i.1.1), omega (arith, ints, i.1.0, i.1.1)),
+)
 next_of k (Text t) i h = (i.0, after_text t i.1 h)
 
 pub least_of : (k : ColType) → IsOf k (least k)

@@ -1,11 +1,12 @@
 -- Worked rows: conditions over an INT column a and a TEXT column b of atom 0, dead or alive.
 use Rattle.std.specs.Prelude.{◌≡◌, ℕ, ◌^◌, ◌-◌, List, [], ◌∷◌, Bool, false, pos, refl}
 use Rattle.std.specs.List.{list_any}
-use Rattle.prima_base.specs.declared.values.Value.TheVariants.{Int, Text}
-use Rattle.prima_base.specs.declared.values.ColType.TheVariants.{Int as INT, Text as TEXT}
-use Rattle.cond_expr.specs.declared.exprs.Whose.TheVariants.{Atom}
-use Rattle.cond_expr.specs.declared.exprs.CmpOp.TheVariants.{Eq, Ne, Lt, Gt, Ge}
-use Rattle.cond_expr.specs.Trees.{Tree, column, constant, length_of, Test, never, compared, all_of, some_of, fails}
+use Rattle.prima_base.specs.declared.value.Value.TheVariants.{Int, Text}
+use Rattle.prima_base.specs.declared.value.ColType.TheVariants.{Int as INT, Text as TEXT}
+use Rattle.cond_expr.specs.declared.expr.Whose.TheVariants.{Atom}
+use Rattle.cond_expr.specs.declared.expr.CmpOp.TheVariants.{Eq, Ne, Lt, Gt, Ge}
+use Rattle.cond_expr.specs.Trees.{Tree, column, constant, length_of, Test, never, compared, all_of}
+use Rattle.cond_expr.specs.Trees.{some_of, fails}
 use Rattle.cond_expr.specs.Seen.{tests_of}
 use Rattle.cond_expr.specs.Kinds.{Kinds, kinds_of}
 use Rattle.cond_expr.specs.Parts.{parts, IsDead}
@@ -19,7 +20,8 @@ abbrev b : Tree
 b = column (Atom 0) (98 ∷ [])
 
 abbrev of : Kinds
-of = kinds_of (record { atom = 0; name = 97 ∷ []; kind = INT } ∷ record { atom = 0; name = 98 ∷ []; kind = TEXT } ∷ [])
+of = kinds_of (record { atom = 0; name = 97 ∷ []; kind = INT }
+    ∷ record { atom = 0; name = 98 ∷ []; kind = TEXT } ∷ [])
 
 abbrev number : ℕ → Tree
 number n = constant (Int (pos n))
@@ -46,7 +48,8 @@ a_number_left = refl
 
 -- a >= 5 AND (a < 6 AND a <> 5)
 abbrev excluded : Test
-excluded = both (compared Ge a (number 5)) (both (compared Lt a (number 6)) (compared Ne a (number 5)))
+excluded = both (compared Ge a (number 5)) (both (compared Lt a (number 6))
+    (compared Ne a (number 5)))
 
 excluded_dead : IsDead of excluded
 excluded_dead = killed_is_dead of excluded refl refl
@@ -70,12 +73,13 @@ between_texts_dead : IsDead of between_texts
 between_texts_dead = killed_is_dead of between_texts refl refl
 
 -- b > 'a' AND b < 'a!'
-a_text_left : dies (both (compared Gt b (text (97 ∷ []))) (compared Lt b (text (97 ∷ 33 ∷ [])))) ≡ false
+a_text_left : dies (both (compared Gt b (text (97 ∷ []))) (compared Lt b (text (97 ∷ 33 ∷ []))))
+    ≡ false
 a_text_left = refl
 
 -- a > 2^63 - 1
-no_number_behind : IsDead of (compared Gt a (number (2 ^ 63 - 1)))
-no_number_behind = killed_is_dead of (compared Gt a (number (2 ^ 63 - 1))) refl refl
+no_number_after : IsDead of (compared Gt a (number (2 ^ 63 - 1)))
+no_number_after = killed_is_dead of (compared Gt a (number (2 ^ 63 - 1))) refl refl
 
 -- LENGTH(b) < 0, and a < a: no column with a constant
 of_no_column : dies (both (compared Lt (length_of b) (number 0)) (compared Lt a a)) ≡ false

@@ -1,16 +1,16 @@
 -- What the values and the comparisons of the code stand for.
 use Rattle.std.specs.Prelude.{◌++◌, [], ◌∷◌, Option, Some, None}
-use Rattle.prima_base.specs.declared.values.Value.{Value}
-use Rattle.prima_base.specs.declared.values.Value.TheVariants.{Int, Text}
+use Rattle.prima_base.specs.declared.value.Value.{Value}
+use Rattle.prima_base.specs.declared.value.Value.TheVariants.{Int, Text}
 use Rattle.cond_expr.specs.Parts.{Bound}
-use Rattle.dead_conditions.specs.declared.tried.Tried.{Tried}
-use Rattle.dead_conditions.specs.declared.tried.Tried.TheVariants.{Number, Bytes, Longer}
-use Rattle.dead_conditions.specs.declared.bounds.ColumnBound.{ColumnBound}
+use Rattle.dead_conditions.specs.declared.trial.Tried.{Tried}
+use Rattle.dead_conditions.specs.declared.trial.Tried.TheVariants.{Number, Bytes, Longer}
+use Rattle.dead_conditions.specs.declared.bound.ColumnBound.{ColumnBound}
 
 abbrev pub tried_value : Tried → Value
 tried_value (Number n) = Int n
 tried_value (Bytes t) = Text t.now
-tried_value (Longer front last) = Text (front.now ++ last ∷ [])
+tried_value (Longer prefix last) = Text (prefix.now ++ last ∷ [])
 
 abbrev pub tried_values : Option Tried → Option Value
 tried_values None = None

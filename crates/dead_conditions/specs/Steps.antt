@@ -1,11 +1,14 @@
--- The least value of a type, and the next value behind one: nothing of the type lies between the two.
-use Rattle.std.specs.Prelude.{ℕ, ◌+◌, ◌-◌, ◌^◌, ◌==◌, ◌&&◌, ◌||◌, ◌++◌, List, [], ◌∷◌, Bool, true, not, Option, Some, None, nat_lt, length, pos, neg_ℤ, ◌+ℤ◌, if◌then◌else◌}
+-- The least value of a type, and the next value after one: nothing of the type lies between the
+-- two.
+use Rattle.std.specs.Prelude.{ℕ, ◌+◌, ◌-◌, ◌^◌, ◌==◌, ◌&&◌, ◌||◌, ◌++◌, List, [], ◌∷◌, Bool, true}
+use Rattle.std.specs.Prelude.{not, Option, Some, None, nat_lt, length, pos, neg_ℤ, ◌+ℤ◌}
+use Rattle.std.specs.Prelude.{if◌then◌else◌}
 use Rattle.std.specs.Ordering.{int_cmp, is_lt}
 use Rattle.prima_base.specs.Bytes.{longest_text}
-use Rattle.prima_base.specs.declared.values.Value.{Value}
-use Rattle.prima_base.specs.declared.values.Value.TheVariants.{Int, Text}
-use Rattle.prima_base.specs.declared.values.ColType.{ColType}
-use Rattle.prima_base.specs.declared.values.ColType.TheVariants.{Int as INT, Text as TEXT}
+use Rattle.prima_base.specs.declared.value.Value.{Value}
+use Rattle.prima_base.specs.declared.value.Value.TheVariants.{Int, Text}
+use Rattle.prima_base.specs.declared.value.ColType.{ColType}
+use Rattle.prima_base.specs.declared.value.ColType.TheVariants.{Int as INT, Text as TEXT}
 
 abbrev pub least : ColType → Value
 least INT = Int (neg_ℤ (pos (2 ^ 63)))
@@ -20,12 +23,12 @@ abbrev pub all_top : List ℕ → Bool
 all_top [] = true
 all_top (b ∷ bytes) = (b == 255) && all_top bytes
 
--- the last byte that can be raised is raised, and what stands behind it is dropped
+-- the last byte that can be raised is raised, and what stands after it is dropped
 abbrev pub raise : List ℕ → List ℕ
 raise [] = []
 raise (b ∷ bytes) = if all_top bytes then raised b ∷ [] else b ∷ raise bytes
 
--- a text with the least byte behind it; where there is no room, it is raised
+-- a text with the least byte after it; where there is no room, it is raised
 abbrev pub after : List ℕ → List ℕ
 after t = if nat_lt (length t) longest_text then t ++ 32 ∷ [] else raise t
 

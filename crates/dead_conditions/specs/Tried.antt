@@ -1,19 +1,20 @@
--- The few values of which one is let by all the parts of a condition, where any value of the type is: the least of the type,
--- and those at which a part begins to hold.
+-- The few values of which one is let by all the parts of a condition, where any value of the type
+-- is: the least of the type, and those at which a part begins to hold.
 use Rattle.std.specs.Prelude.{◌≡◌, ℕ, ◌&&◌, ◌||◌, List, Bool, true, false, not, Option, Some, None}
 use Rattle.std.specs.List.{list_any}
-use Rattle.prima_base.specs.declared.values.Value.{Value}
-use Rattle.prima_base.specs.declared.values.ColType.{ColType}
-use Rattle.prima_base.specs.Columns.{IsLawful}
+use Rattle.prima_base.specs.declared.value.Value.{Value}
+use Rattle.prima_base.specs.declared.value.ColType.{ColType}
+use Rattle.prima_base.specs.Columns.{IsValid}
 use Rattle.relations.specs.Sets.{In}
-use Rattle.cond_expr.specs.declared.exprs.CmpOp.{CmpOp}
-use Rattle.cond_expr.specs.declared.exprs.CmpOp.TheVariants.{Eq, Ne, Lt, Le, Gt, Ge}
+use Rattle.cond_expr.specs.declared.expr.CmpOp.{CmpOp}
+use Rattle.cond_expr.specs.declared.expr.CmpOp.TheVariants.{Eq, Ne, Lt, Le, Gt, Ge}
 use Rattle.cond_expr.specs.Trees.{Test, never, always, compared, all_of, some_of, fails}
 use Rattle.cond_expr.specs.Kinds.{value_kind}
 use Rattle.cond_expr.specs.Parts.{parts, Bound, bound_of, is_on, all_let}
 use Rattle.dead_conditions.specs.Steps.{least, following}
 
--- where a comparison with a constant begins to hold: at the constant or right behind it, or else from the least value on
+-- where a comparison with a constant begins to hold: at the constant or right after it, or else
+-- from the least value on
 abbrev pub beginning : CmpOp → Value → Option Value
 beginning Eq v = Some v
 beginning Ne v = following v
@@ -57,6 +58,6 @@ kills ts t = is_never t || empties ts (bound_of t)
 abbrev pub is_killed : Test → Bool
 is_killed c = list_any (kills (parts c)) (parts c)
 
--- the constants of the parts are lawful
-abbrev pub HaveLawfulLimits : List Test → Type 0
-HaveLawfulLimits ts = (t : Test) (b : Bound) → In t ts → bound_of t ≡ Some b → IsLawful b.limit
+-- the constants of the parts are valid
+abbrev pub HaveValidLimits : List Test → Type 0
+HaveValidLimits ts = (t : Test) (b : Bound) → In t ts → bound_of t ≡ Some b → IsValid b.limit

@@ -4,7 +4,8 @@ use archive_core::{MountFault, Opened};
 use case_text::{write_hex, write_number};
 use prima_base::NoMemory;
 
-/// Writes the lines of replies behind each other, apart by ` | `. A line that was not ended is followed by `~`.
+/// Writes the lines of replies after each other, apart by ` | `. A line that was not ended is
+/// followed by `~`.
 pub(crate) fn write_replies(replies: &[u8], text: &mut Vec<u8>) -> Result<(), NoMemory> {
     for (at, byte) in replies.iter().enumerate() {
         if *byte != b'\n' {

@@ -58,7 +58,7 @@ impl Case {
         Ok(())
     }
 
-    // The words, each behind a blank. What is no UTF-8 is no word.
+    // The words, each after a blank. What is no UTF-8 is no word.
     fn words(&mut self, list: &[u8]) -> Result<(), NoMemory> {
         self.words.clear();
         for word in list.split(|byte| *byte == b' ').skip(1) {
@@ -123,7 +123,8 @@ impl Case {
         play_twice(self.alloc, self.runs(), &self.later, devices)
     }
 
-    // Runs the case's script over the devices of this kind in turn, up to one that does not fail in the run.
+    // Runs the case's script over the devices of this kind in turn, up to one that does not fail in
+    // the run.
     fn play_each(&mut self, kind: Kind) -> Result<(), NoMemory> {
         let mut groups = Groups::new();
         for number in 0..MOST {
@@ -160,7 +161,7 @@ impl Case {
     }
 }
 
-// Puts a line behind those of a script.
+// Puts a line after those of a script.
 fn put_line(text: &[u8], script: &mut Vec<u8>) -> Result<(), NoMemory> {
     script.extend_from_slice(text)?;
     script.push(b'\n')?;
@@ -175,7 +176,7 @@ pub(crate) fn play(alloc: Global, cases: &[u8]) -> Result<Vec<u8>, AllocError> {
     }
 }
 
-// The same, with the one word for want of memory that the crates below have.
+// The same, with the one word when out of memory that the crates below have.
 fn play_lines(alloc: Global, cases: &[u8]) -> Result<Vec<u8>, NoMemory> {
     let mut case = Case::new(alloc);
     for line in cases.split(|byte| *byte == b'\n') {

@@ -1,23 +1,29 @@
-//! Runs over files, and over sources, sinks and disks that fail at each of their calls in turn: the status,
-//! the replies that went out, the file that is left, and what a later run over that file answers.
+//! Runs over files, and over sources, sinks and disks that fail at each of their calls in turn: the
+//! status, the replies that went out, the file that is left, and what a later run over that file
+//! answers.
 //!
-//! The cases stand in `stdin`, and what each is answered in `stdout`, written by hand. A line `== name`
-//! begins a case, with an empty file, no script and the one word `run`. Then come, in any number:
+//! The cases stand in `stdin`, and what each is answered in `stdout`, written by hand. A line `==
+//! name` begins a case, with an empty file, no script and the one word `run`. Then come, in any
+//! number:
 //!
-//! - `file HEX` puts bytes behind those of the file;
-//! - `words WORD ..` are the words of the run, one behind each blank;
-//! - `script TEXT` puts a line behind those of the script;
+//! - `file HEX` puts bytes after those of the file;
+//! - `words WORD ..` are the words of the run, one after each blank;
+//! - `script TEXT` puts a line after those of the script;
 //! - `run` runs the script over the file, keeps the file that is left, and forgets the script;
 //! - `ends` does the same, and tells no bytes of the file;
-//! - `opens` mounts the archive of the file, and tells how many commands it counts, and how many of them it carries out again;
-//! - `later TEXT` puts a line behind those of the script that is run afterwards over the file that is left;
+//! - `opens` mounts the archive of the file, and tells how many commands it counts, and how many of
+//!   them it carries out again;
+//! - `later TEXT` puts a line after those of the script that is run afterwards over the file that
+//!   is left;
 //! - `piece N`: the source hands out at most N bytes a call;
-//! - `sources` runs the script, over the file each time, over sources that fail at their first call, at their second one, and so on;
+//! - `sources` runs the script, over the file each time, over sources that fail at their first
+//!   call, at their second one, and so on;
 //! - `sinks` runs it over sinks that fail so;
 //! - `rooms` runs it over sinks with room for no byte, for one, and so on;
-//! - `disks` runs it over disks that fail from their first write or sync on, from their second one, and so on;
-//! - `fuses` runs it over disks that fail from their first call of any kind on, from their second one, and so
-//!   on, and tells how many writes and syncs the disk inside then has.
+//! - `disks` runs it over disks that fail from their first write or sync on, from their second one,
+//!   and so on;
+//! - `fuses` runs it over disks that fail from their first call of any kind on, from their second
+//!   one, and so on, and tells how many writes and syncs the disk inside then has.
 //!
 //! Each goes on until a run over such a device ends well.
 #![tactic(auto)]

@@ -34,8 +34,8 @@ pub(crate) struct Runs<'a> {
     pub(crate) script: &'a [u8],
 }
 
-/// The devices of a run, and how they fail: the numbers of the failing calls of source and sink, counted
-/// from 0, the sink's room, and how many writes and syncs the disk has before it fails.
+/// The devices of a run, and how they fail: the numbers of the failing calls of source and sink,
+/// counted from 0, the sink's room, and how many writes and syncs the disk has before it fails.
 #[derive(Drop)]
 pub(crate) struct Devices {
     pub(crate) piece: usize,
@@ -166,7 +166,8 @@ pub(crate) fn play_twice(
     })
 }
 
-/// Runs a script over its file on a disk that passes so many calls, and tells how many writes and syncs passed.
+/// Runs a script over its file on a disk that passes so many calls, and tells how many writes and
+/// syncs passed.
 pub(crate) fn play_fuse(alloc: Global, runs: Runs<'_>, passes: u64) -> Result<Played, NoMemory> {
     let bytes = Vec::from_slice(alloc, runs.file)?;
     let inner = MemDisk::new(alloc, bytes, DISK_CALLS, DISK_ROOM)?;

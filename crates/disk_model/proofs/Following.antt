@@ -15,8 +15,8 @@ abbrev spliced : List ℕ → ℕ → ℕ → List ℕ → List ℕ
 spliced xs at n ys = take at xs ++ (take n (drop at ys) ++ drop (at + n) xs)
 
 module _ (xs ys : List ℕ) (at n : ℕ) (begins : at ≤ length xs) (same : length ys ≡ length xs) where
-  front : length (take at xs) ≡ at
-  front = omega (arith, length-take at xs)
+  prefix : length (take at xs) ≡ at
+  prefix = omega (arith, length-take at xs)
 
   middle : length (take n (drop at ys)) ≡ min n (length xs - at)
   middle = omega (arith, same, length-take n (drop at ys), length-drop at ys)
@@ -25,7 +25,7 @@ module _ (xs ys : List ℕ) (at n : ℕ) (begins : at ≤ length xs) (same : len
   length-spliced =
       omega (
         arith,
-        front,
+        prefix,
         middle,
         length-append (take at xs)
             (take n (drop at ys) ++ drop (at + n) xs),
@@ -36,30 +36,30 @@ module _ (xs ys : List ℕ) (at n : ℕ) (begins : at ≤ length xs) (same : len
   spliced_before : (i : ℕ) → i < at → get_or (spliced xs at n ys) i 0 ≡ get_or xs i 0
   spliced_before i lt =
       get_or_append_left (take at xs) (take n (drop at ys) ++ drop (at + n) xs) 0 i
-      (omega (arith, front)) ∙ get_or-take at xs i 0 lt
+      (omega (arith, prefix)) ∙ get_or-take at xs i 0 lt
 
   spliced_within : (i : ℕ) → at ≤ i → i < at + n → i < length xs
       → get_or (spliced xs at n ys) i 0 ≡ get_or ys i 0
   spliced_within i from to lt =
       let j : at + (i - at) ≡ i = omega arith in
-      get_or-append_right (take at xs) (take n (drop at ys) ++ drop (at + n) xs) at i 0 front from
+      get_or-append_right (take at xs) (take n (drop at ys) ++ drop (at + n) xs) at i 0 prefix from
       ∙ get_or_append_left (take n (drop at ys)) (drop (at + n) xs) 0 (i - at)
       (omega (arith, middle))
       ∙ get_or-take n (drop at ys) (i - at) 0 (omega arith) ∙ get_or-drop at ys (i - at) 0
       ∙ ap (λ k. get_or ys k 0) j
 
-  spliced_behind : (i : ℕ) → at + n ≤ i → i < length xs
+  spliced_after : (i : ℕ) → at + n ≤ i → i < length xs
       → get_or (spliced xs at n ys) i 0 ≡ get_or xs i 0
-  spliced_behind i from lt =
+  spliced_after i from lt =
       let j : at + n + (i - at - n) ≡ i = omega arith in
-      get_or-append_right (take at xs) (take n (drop at ys) ++ drop (at + n) xs) at i 0 front
+      get_or-append_right (take at xs) (take n (drop at ys) ++ drop (at + n) xs) at i 0 prefix
       (omega arith)
       ∙ get_or-append_right (take n (drop at ys)) (drop (at + n) xs) n (i - at) 0
       (omega (arith, middle)) (omega arith)
       ∙ get_or-drop (at + n) xs (i - at - n) 0 ∙ ap (λ k. get_or xs k 0) j
 
-  spliced_front : take at (spliced xs at n ys) ≡ take at xs
-  spliced_front = take_at (take at xs) (take n (drop at ys) ++ drop (at + n) xs) at front
+  spliced_prefix : take at (spliced xs at n ys) ≡ take at xs
+  spliced_prefix = take_at (take at xs) (take n (drop at ys) ++ drop (at + n) xs) at prefix
 
   spliced_back : drop (at + n) (spliced xs at n ys) ≡ drop (at + n) xs
   spliced_back = elim (cases_lt (length xs) (at + n)) [
@@ -70,7 +70,7 @@ module _ (xs ys : List ℕ) (at n : ℕ) (begins : at ≤ length xs) (same : len
         ap (λ (l : List ℕ). drop (at + n) l)
         (sym (append_assoc (take at xs) (take n (drop at ys)) (drop (at + n) xs)))
         ∙ drop_at (take at xs ++ take n (drop at ys)) (drop (at + n) xs) (at + n)
-        (omega (arith, front, middle, length-append (take at xs) (take n (drop at ys))))
+        (omega (arith, prefix, middle, length-append (take at xs) (take n (drop at ys))))
   ]
 
 -- Before the write a crash might have left a file of which the write, cut short, makes this image.
@@ -145,13 +145,13 @@ module _ (s : State) (at : ℕ) (bytes c : List ℕ) (begins : at ≤ length s.s
                         | inl in_range ↦ spliced_within cut overlaid at n within length-overlaid i
                             high in_range here ∙ get_or_append_left s.synced
                             (drop (length s.synced) cut) 0 i lt
-                        | inr behind ↦ spliced_behind cut overlaid at n within length-overlaid i
-                            behind here ∙ kept i lt ∙ image.stays i lt (inr behind, free)
+                        | inr later ↦ spliced_after cut overlaid at n within length-overlaid i
+                            later here ∙ kept i lt ∙ image.stays i lt (inr later, free)
                       ]
                 ];
           },
           record {
-            before = sym (spliced_front cut overlaid at n within length-overlaid
+            before = sym (spliced_prefix cut overlaid at n within length-overlaid
                 ∙ take-take at (length s.seen) c begins);
             after = sym (spliced_back cut overlaid at n within length-overlaid ∙ back);
             no_shorter = omega (arith, long, length-cut);

@@ -1,12 +1,12 @@
 -- Calls that change nothing but the count of faults.
 use Rattle.std.proofs.Common.{inl, ℕ, ◌≤◌, List, refl, arith}
 use Rattle.std.specs.Prelude.{Option, Some, None}
-use Rattle.disk_model.specs.Meaning.{Meaning, IsLawful, Told, with_faults}
+use Rattle.disk_model.specs.Meaning.{Meaning, IsValid, Told, with_faults}
 use Rattle.disk_model.specs.Moments.{GoesOn}
 use Rattle.disk_model.specs.DeviceCalls.{Torn, Writes, Syncs, Reads}
 use Rattle.disk_model.proofs.Shapes.{torn_same}
 
-module _ (d : Meaning) (law : IsLawful d) (faults : ℕ) (counts : d.faults ≤ faults) where
+module _ (d : Meaning) (law : IsValid d) (faults : ℕ) (counts : d.faults ≤ faults) where
   abbrev raised : Meaning
   raised = record {
     seen = d.seen;

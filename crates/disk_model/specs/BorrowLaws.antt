@@ -4,7 +4,7 @@ use Rattle.disk_model.specs.Meaning.{Meaning, borrowed_as}
 use Rattle.disk_model.specs.Moments.{GoesOn, Turns, UntilSynced}
 
 module _ (name other : ℕ) (old new : Meaning) where
-  -- what comes back is the reference that was lent
+  -- what comes back is the reference that was borrowed
   pub same_reference : GoesOn (borrowed_as name old) (borrowed_as other new) → other ≡ name
   same_reference goes = ap (λ (l : List ℕ). get_or l 0 0) goes.same
 

@@ -10,7 +10,7 @@ total [] = 0
 total (call.Write at len ∷ calls) = len + total calls
 total (call.Sync ∷ calls) = total calls
 
--- the steps, where the bytes of all writes stand behind one another
+-- the steps, where the bytes of all writes stand after one another
 abbrev pub steps_of : List Call → List ℕ → List Step
 steps_of [] bytes = []
 steps_of (call.Write at len ∷ calls) bytes =

@@ -19,7 +19,7 @@ pub record Meaning : Type 1 where
   pub names : List ℕ
 
 -- What is so of each disk at each moment.
-pub record IsLawful (d : Meaning) : Type 0 where
+pub record IsValid (d : Meaning) : Type 0 where
   -- this moment is one of those from it on, and there is no other yet
   pub now : (c : List ℕ) → d.may_leave c → d.left_since d.moment c
   pub only_now : (c : List ℕ) → d.left_since d.moment c → d.may_leave c
@@ -45,7 +45,7 @@ Told step (Some old) (Some new) = step old new
 abbrev pub Only : List ℕ → (List ℕ → Type 0) → Type 0
 Only file outcomes = (c : List ℕ) → outcomes c → c ≡ file
 
--- the disk behind a reference of this name
+-- the disk after a reference of this name
 abbrev pub borrowed_as : ℕ → Meaning → Meaning
 borrowed_as name d = record {
   seen = d.seen;

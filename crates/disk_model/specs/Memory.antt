@@ -3,7 +3,7 @@ use Rattle.std.specs.Prelude.{ℕ, ◌≤◌, true, List, [], length, take, Some
 use Rattle.disk_model.specs.Meaning.{Meaning}
 use Rattle.disk_model.specs.Images.{Step, begun, run, IsImage}
 
--- an image of a moment from t on; moment k is the one behind k steps
+-- an image of a moment from t on; moment k is the one after k steps
 abbrev pub Since : List ℕ → List Step → ℕ → List ℕ → Type 0
 Since first steps t c =
     (k : ℕ) × (t ≤ k) × (k ≤ length steps) × IsImage (run (begun first) (take k steps)) c

@@ -8,7 +8,7 @@ use Rattle.std.proofs.lemmas.Bool.Decides.{nat_tests}
 use Rattle.std.proofs.lemmas.List.{take_all, length-append, length-take, length-drop}
 use Rattle.std.proofs.lemmas.List.{get_or_append_left, get_or-append_right, get_or-take}
 use Rattle.std.proofs.lemmas.List.{get_or-drop}
-use Rattle.disk_model.specs.Meaning.{IsLawful}
+use Rattle.disk_model.specs.Meaning.{IsValid}
 use Rattle.disk_model.specs.DeviceCalls.{with_bytes}
 use Rattle.disk_model.specs.Images.{Step, State, begun, after, run, fits, all_fit, IsImage}
 use Rattle.disk_model.specs.Memory.{meaning_of}
@@ -24,13 +24,13 @@ length-with file at bytes begins =
       length-drop (at + length bytes) file,
     )
 
--- a write leaves what stands before and behind it
+-- a write leaves what stands before and after it
 pub with-elsewhere : (file : List ℕ) (at : ℕ) (bytes : List ℕ) (i : ℕ) → at ≤ length file
     → (i < at) ⊎ (at + length bytes ≤ i) → get_or (with_bytes file at bytes) i 0 ≡ get_or file i 0
 with-elsewhere file at bytes i begins (inl before) =
     get_or_append_left (take at file) (bytes ++ drop (at + length bytes) file) 0 i
     (omega (arith, length-take at file)) ∙ get_or-take at file i 0 before
-with-elsewhere file at bytes i begins (inr behind) =
+with-elsewhere file at bytes i begins (inr later) =
     let n : length (take at file) ≡ at = omega (arith, length-take at file) in
     let j : at + length bytes + (i - at - length bytes) ≡ i = omega arith in
     get_or-append_right (take at file) (bytes ++ drop (at + length bytes) file) at i 0 n
@@ -84,10 +84,10 @@ some_same a b e = ap (λ (o : Option (List ℕ)). get o) e
     get (Some x) = x
     get None = a
 
-pub lawful : (first : List ℕ) (steps : List Step) (bytes : List ℕ) (faults : ℕ)
+pub valid : (first : List ℕ) (steps : List Step) (bytes : List ℕ) (faults : ℕ)
     → IsTrue (all_fit (begun first) steps) → bytes ≡ (run (begun first) steps).seen
-    → IsLawful (meaning_of first steps bytes faults)
-lawful first steps bytes faults fit same = record {
+    → IsValid (meaning_of first steps bytes faults)
+valid first steps bytes faults fit same = record {
   now = λ c left. (
     length steps,
     omega arith,

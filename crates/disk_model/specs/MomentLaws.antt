@@ -2,12 +2,12 @@
 use Rattle.std.proofs.Common.{◌≡◌, inl, inr, ⊎_elim, ℕ, List, refl, sym, ◌∙◌, subst}
 use Rattle.std.proofs.Common.{arith}
 use Rattle.std.proofs.Common.{IsTrue}
-use Rattle.disk_model.specs.Meaning.{Meaning, IsLawful, Only}
+use Rattle.disk_model.specs.Meaning.{Meaning, IsValid, Only}
 use Rattle.disk_model.specs.Moments.{GoesOn, Leaves, Turns, UntilSynced}
 use Rattle.disk_model.specs.DeviceCalls.{Reads, Syncs}
 
 -- nothing is done
-pub goes_refl : (d : Meaning) → IsLawful d → GoesOn d d
+pub goes_refl : (d : Meaning) → IsValid d → GoesOn d d
 goes_refl d law = record {
   later = omega arith;
   joins = λ t c le left. inl left;
@@ -18,7 +18,7 @@ goes_refl d law = record {
   same = refl;
 }
 
--- two calls, one behind the other, are a call
+-- two calls, one after the other, are a call
 pub goes_trans : (a b c : Meaning) → GoesOn a b → GoesOn b c → GoesOn a c
 goes_trans a b c one two = record {
   later = omega (arith, one.later, two.later);
@@ -37,13 +37,13 @@ goes_trans a b c one two = record {
   same = two.same ∙ one.same;
 }
 
--- a disk is as honest behind a call as it was
+-- a disk is as honest after a call as it was
 pub still_honest : (old new : Meaning) → GoesOn old new → IsTrue old.is_honest
     → IsTrue new.is_honest
 still_honest old new goes = subst IsTrue (sym goes.honest)
 
 module _ (old mid new : Meaning) (P : List ℕ → Type 0) where
-  -- what a crash leaves of two calls, one behind the other
+  -- what a crash leaves of two calls, one after the other
   pub then_leaves : Leaves old mid P → GoesOn old mid → GoesOn mid new → Leaves mid new P
       → Leaves old new P
   then_leaves before one two here c left =
@@ -53,8 +53,8 @@ module _ (old mid new : Meaning) (P : List ℕ → Type 0) where
   pub leaves_later : GoesOn old mid → GoesOn mid new → Leaves old new P → Leaves mid new P
   leaves_later one two leaves c left = leaves c (two.adds old.moment c one.later left)
 
--- what a crash leaves behind a call is left by one at a moment of the call
-pub leaves_now : (old new : Meaning) (P : List ℕ → Type 0) → IsLawful new → GoesOn old new
+-- what a crash leaves after a call is left by one at a moment of the call
+pub leaves_now : (old new : Meaning) (P : List ℕ → Type 0) → IsValid new → GoesOn old new
     → Leaves old new P → (c : List ℕ) → new.may_leave c → P c
 leaves_now old new P law goes leaves c left =
     leaves c (law.earlier old.moment c goes.later (law.now c left))
@@ -86,7 +86,7 @@ turns_weaker old new P Q turns weaker = record {
 }
 
 -- once its moment has come, a crash now leaves a file that has P
-pub turns_now : (old new : Meaning) (P : List ℕ → Type 0) → IsLawful new → Turns old new P
+pub turns_now : (old new : Meaning) (P : List ℕ → Type 0) → IsValid new → Turns old new P
     → (c : List ℕ) → new.may_leave c → P c
 turns_now old new P law turns c left =
     turns.from c (law.earlier turns.moment c turns.reached (law.now c left))

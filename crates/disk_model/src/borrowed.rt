@@ -2,11 +2,11 @@ use crate::{Disk, Failed};
 
 impl<D: Disk> Disk for &mut D {
     ghost use Rattle.disk_model.specs.Meaning.{borrowed_as};
-    ghost use Rattle.disk_model.specs.DiskLaws.{lawful_borrowed};
+    ghost use Rattle.disk_model.specs.DiskLaws.{valid_borrowed};
 
     ghost meaning = { λ d. borrowed_as d.ghost_name (D.meaning d.now) };
 
-    ghost lawful = { λ d. lawful_borrowed d.ghost_name (D.meaning d.now) (D.lawful d.now) };
+    ghost valid = { λ d. valid_borrowed d.ghost_name (D.meaning d.now) (D.valid d.now) };
 
     fn len(&mut self) -> Result<u64, Failed> {
         Disk::len(&mut **self)

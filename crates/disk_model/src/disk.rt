@@ -1,7 +1,7 @@
 ghost use Rattle.std.specs.Prelude.{◌≡◌, ◌+◌, ◌-◌, ◌^◌, ◌<◌, ◌≤◌, IsTrue, length, take, drop};
 ghost use Rattle.std.specs.Prelude.{IfOk, OnOk, OnErr};
 ghost use Rattle.prima_io.specs.Causes.{Rose};
-ghost use Rattle.disk_model.specs.Meaning.{Meaning, IsLawful, Tells, Told, Only};
+ghost use Rattle.disk_model.specs.Meaning.{Meaning, IsValid, Tells, Told, Only};
 ghost use Rattle.disk_model.specs.DeviceCalls.{Reads, Writes, Syncs, with_bytes};
 
 use prima_base::Failed;
@@ -59,5 +59,5 @@ pub trait Disk {
         ensures unfailed { OnOk result ((meaning self.new).faults ≡ (meaning self.old).faults) };
 
     // A crash now is one at this moment, and what a read gives is one of the files it may leave.
-    ghost lawful: { (disk : Self) → IsLawful (meaning disk) };
+    ghost valid: { (disk : Self) → IsValid (meaning disk) };
 }

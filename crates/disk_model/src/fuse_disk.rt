@@ -45,13 +45,13 @@ impl Disk for FuseDisk {
     ghost use Rattle.disk_model.specs.Disks.{fuse_meaning, fuse_passes, fuse_inner, memory_meaning};
     ghost use Rattle.disk_model.specs.Disks.{memory_bytes, memory_first, memory_steps, SameMemory};
     ghost use Rattle.disk_model.specs.Disks.{write_fails, sync_fails};
-    ghost use Rattle.disk_model.specs.DiskLaws.{lawful_with};
-    ghost use Rattle.disk_model.specs.MemoryLaws.{lawful};
+    ghost use Rattle.disk_model.specs.DiskLaws.{valid_with};
+    ghost use Rattle.disk_model.specs.MemoryLaws.{valid};
 
     ghost meaning = { λ f. fuse_meaning f };
 
-    ghost lawful = { λ f. lawful_with (memory_meaning f.inner) f.faults
-        (lawful f.inner.first.items (steps_of f.inner.calls.items f.inner.written.items)
+    ghost valid = { λ f. valid_with (memory_meaning f.inner) f.faults
+        (valid f.inner.first.items (steps_of f.inner.calls.items f.inner.written.items)
         f.inner.bytes.items f.inner.faults f.inner.fit f.inner.same) };
 
     fn len(&mut self) -> Result<u64, Failed>

@@ -5,7 +5,7 @@ ghost use Rattle.disk_model.specs.Calls.{total, steps_of};
 ghost use Rattle.disk_model.specs.DeviceCalls.{with_bytes, StartsWith};
 ghost use Rattle.disk_model.specs.Images.{begun, run, all_fit};
 ghost use Rattle.disk_model.specs.Memory.{meaning_of};
-ghost use Rattle.disk_model.specs.MemoryLaws.{lawful};
+ghost use Rattle.disk_model.specs.MemoryLaws.{valid};
 
 use crate::call::Call;
 use crate::{Disk, Failed, NoMemory};
@@ -108,7 +108,7 @@ impl Disk for MemDisk {
     ghost meaning = { λ d. meaning_of d.first.items (steps_of d.calls.items d.written.items)
         d.bytes.items d.faults };
 
-    ghost lawful = { λ d. lawful d.first.items (steps_of d.calls.items d.written.items)
+    ghost valid = { λ d. valid d.first.items (steps_of d.calls.items d.written.items)
         d.bytes.items d.faults d.fit d.same };
 
     fn len(&mut self) -> Result<u64, Failed>

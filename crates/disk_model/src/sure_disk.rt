@@ -26,11 +26,11 @@ impl Disk for SureDisk {
     ghost use Rattle.prima_io.specs.Causes.{Rose};
     ghost use Rattle.disk_model.specs.DeviceCalls.{Reads, Writes, Syncs};
     ghost use Rattle.disk_model.specs.Disks.{sure_meaning, sure_len};
-    ghost use Rattle.disk_model.specs.DiskLaws.{lawful_sure};
+    ghost use Rattle.disk_model.specs.DiskLaws.{valid_sure};
 
     ghost meaning = { λ _. sure_meaning };
 
-    ghost lawful = { λ _. lawful_sure };
+    ghost valid = { λ _. valid_sure };
 
     fn len(&mut self) -> Result<u64, Failed>
         ensures len { IsOkAnd result (λ n. n ≡ sure_len self.old) }

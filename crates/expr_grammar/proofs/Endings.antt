@@ -1,8 +1,9 @@
--- Whether what is spelled ends in a column of no alias, which a point and a name could still follow.
+-- Whether what is spelled ends in a column of no alias, which a point and a name could still
+-- follow.
 use Rattle.std.proofs.Common.{Bool, true, false, List}
 use Rattle.cond_expr.specs.Trees.{Tree, Test}
 use Rattle.lexical_grammar.specs.Lexemes.{Lexeme}
-use Rattle.parser_combinators.specs.Parsing.{Size}
+use Rattle.parser_combinators.specs.Grammar.{Size}
 use Rattle.expr_grammar.specs.Grammar as g
 use Rattle.expr_grammar.specs.Grammar.{IsExpr, IsFact, AreFacts, IsConj, AreConjs, IsCond}
 
@@ -24,19 +25,25 @@ abbrev mutual
   fact_free q c s f (g.falsehood p) = false
   fact_free q c s f (g.comparison p o a b u v k m ha hb) = expr_free p b v m hb
 
-  -- behind a part that ends so or not
-  pub facts_free : Bool → (q : Bool) (l : List Test) (s : Size) (f : List Lexeme) → AreFacts q l s f → Bool
+  -- after a part that ends so or not
+  pub facts_free : Bool → (q : Bool) (l : List Test) (s : Size) (f : List Lexeme) → AreFacts q l s f
+      → Bool
   facts_free before q l s f (g.no_fact p) = before
-  facts_free before q l s f (g.a_fact p c others u v k m h hl) = facts_free (fact_free p c u k h) p others v m hl
+  facts_free before q l s f (g.a_fact p c others u v k m h hl) =
+      facts_free (fact_free p c u k h) p others v m hl
 
   pub conj_free : (q : Bool) (c : Test) (s : Size) (f : List Lexeme) → IsConj q c s f → Bool
   conj_free q c s f (g.one_fact p d u k h) = fact_free p d u k h
-  conj_free q c s f (g.an_and p d e l u v w k m o hd he hl) = facts_free (fact_free p e v m he) p l w o hl
+  conj_free q c s f (g.an_and p d e l u v w k m o hd he hl) =
+      facts_free (fact_free p e v m he) p l w o hl
 
-  pub conjs_free : Bool → (q : Bool) (l : List Test) (s : Size) (f : List Lexeme) → AreConjs q l s f → Bool
+  pub conjs_free : Bool → (q : Bool) (l : List Test) (s : Size) (f : List Lexeme) → AreConjs q l s f
+      → Bool
   conjs_free before q l s f (g.no_conj p) = before
-  conjs_free before q l s f (g.a_conj p c others u v k m h hl) = conjs_free (conj_free p c u k h) p others v m hl
+  conjs_free before q l s f (g.a_conj p c others u v k m h hl) =
+      conjs_free (conj_free p c u k h) p others v m hl
 
   pub cond_free : (q : Bool) (c : Test) (s : Size) (f : List Lexeme) → IsCond q c s f → Bool
   cond_free q c s f (g.one_conj p d u k h) = conj_free p d u k h
-  cond_free q c s f (g.an_or p d e l u v w k m o hd he hl) = conjs_free (conj_free p e v m he) p l w o hl
+  cond_free q c s f (g.an_or p d e l u v w k m o hd he hl) =
+      conjs_free (conj_free p e v m he) p l w o hl

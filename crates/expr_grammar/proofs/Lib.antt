@@ -1,12 +1,12 @@
 pub mod Grammar
 pub mod Singles
-pub mod Goodness
+pub mod Correctness
 pub mod TreeSteps
-pub mod MarkSizes
+pub mod CountSizes
 pub mod Endings
-pub mod MarksRead
-pub mod MarksJoined
+pub mod CountsRead
+pub mod CountsJoined
 pub mod Longest
 pub mod Unambiguous
-pub mod Fronts
+pub mod Prefixes
 pub mod Where

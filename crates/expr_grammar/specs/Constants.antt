@@ -1,9 +1,14 @@
 -- Names and constants, where a statement has them: each is one lexeme.
-use Rattle.std.specs.Prelude.{ℕ, ℤ, pos, nat_le, if◌then◌else◌, List, ◌∷◌, codes, Option, Some, None}
-use Rattle.prima_base.specs.declared.values.Value.{Value}
-use Rattle.prima_base.specs.declared.values.Value.TheVariants.{Int, Text}
-use Rattle.lexical_grammar.specs.Lexemes.{Lexeme, word, number, text, sign, is_sign, is_name, is_int}
-use Rattle.parser_combinators.specs.Parsing.{Size, Parser, bind, bindG, map_to, mapG, many, no_end, AreMore, single, singleG}
+use Rattle.std.specs.Prelude.{ℕ, ℤ, pos, nat_le, if◌then◌else◌, List, ◌∷◌, codes, Option, Some}
+use Rattle.std.specs.Prelude.{None}
+use Rattle.prima_base.specs.declared.value.Value.{Value}
+use Rattle.prima_base.specs.declared.value.Value.TheVariants.{Int, Text}
+use Rattle.lexical_grammar.specs.Lexemes.{Lexeme, word, number, text, sign, is_sign, is_name}
+use Rattle.lexical_grammar.specs.Lexemes.{is_int}
+use Rattle.parser_combinators.specs.Grammar.{Grammar}
+use Rattle.parser_combinators.specs.Parsing.{Parser, bind, map_to, many, single}
+use Rattle.parser_combinators.specs.Grammar.{Size, no_end, AreMore}
+use Rattle.parser_combinators.specs.Grammar as grammar
 
 -- a word of at most 63 bytes that is not reserved
 abbrev pub as_name : Lexeme → Option (List ℕ)
@@ -44,44 +49,44 @@ as_constant _ = None
 unfoldable pub name : Parser (List ℕ)
 name = single as_name
 
-abbrev pub nameG : List ℕ → Size → List Lexeme → Type 0
-nameG = singleG as_name
+abbrev pub name_grammar : Grammar (List ℕ)
+name_grammar = grammar.single as_name
 
 unfoldable pub natural : ℕ → Parser ℕ
 natural most = single (as_natural most)
 
-abbrev pub naturalG : ℕ → ℕ → Size → List Lexeme → Type 0
-naturalG most = singleG (as_natural most)
+abbrev pub natural_grammar : ℕ → Grammar ℕ
+natural_grammar most = grammar.single (as_natural most)
 
 unfoldable pub moment : Parser ℕ
 moment = single as_moment
 
-abbrev pub momentG : ℕ → Size → List Lexeme → Type 0
-momentG = singleG as_moment
+abbrev pub moment_grammar : Grammar ℕ
+moment_grammar = grammar.single as_moment
 
 unfoldable pub small : Parser ℕ
 small = single as_small
 
-abbrev pub smallG : ℕ → Size → List Lexeme → Type 0
-smallG = singleG as_small
+abbrev pub small_grammar : Grammar ℕ
+small_grammar = grammar.single as_small
 
 unfoldable pub int : Parser ℤ
 int = single as_int
 
-abbrev pub intG : ℤ → Size → List Lexeme → Type 0
-intG = singleG as_int
+abbrev pub int_grammar : Grammar ℤ
+int_grammar = grammar.single as_int
 
 unfoldable pub literal : Parser (List ℕ)
 literal = single as_text
 
-abbrev pub literalG : List ℕ → Size → List Lexeme → Type 0
-literalG = singleG as_text
+abbrev pub literal_grammar : Grammar (List ℕ)
+literal_grammar = grammar.single as_text
 
 unfoldable pub constant : Parser Value
 constant = single as_constant
 
-abbrev pub constantG : Value → Size → List Lexeme → Type 0
-constantG = singleG as_constant
+abbrev pub constant_grammar : Grammar Value
+constant_grammar = grammar.single as_constant
 
 -- ---- name { , name }
 
@@ -91,5 +96,6 @@ more_names = many (is_sign (codes ",")) name
 unfoldable pub names : Parser (List (List ℕ))
 names = bind name (λ n. map_to (λ l. n ∷ l) more_names)
 
-abbrev pub namesG : List (List ℕ) → Size → List Lexeme → Type 0
-namesG = bindG nameG (λ n. mapG (λ l. n ∷ l) (AreMore (sign (codes ",")) no_end nameG 0))
+abbrev pub names_grammar : Grammar (List (List ℕ))
+names_grammar = grammar.seq name_grammar (λ n.
+    grammar.map (λ l. n ∷ l) (AreMore (sign (codes ",")) no_end name_grammar 0))

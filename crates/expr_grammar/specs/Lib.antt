@@ -1,5 +1,5 @@
 pub mod Constants
 pub mod Grammar
 pub mod Reader
-pub mod TreeMarks
+pub mod TreeCounts
 pub mod Where

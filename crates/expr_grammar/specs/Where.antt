@@ -1,24 +1,26 @@
--- What may stand behind a statement's other parts: WHERE and a condition. What is missing is TRUE.
+-- What may stand after a statement's other parts: WHERE and a condition. What is missing is TRUE.
 use Rattle.std.specs.Prelude.{Bool, ◌||◌, codes}
 use Rattle.cond_expr.specs.Trees.{Test, always}
 use Rattle.lexical_grammar.specs.Lexemes.{Lexeme, word, is_word}
-use Rattle.parser_combinators.specs.Parsing.{Grammar, Parser, Takes, option, optionG, fresh, freshG}
-use Rattle.parser_combinators.specs.Passings.{Passing, option_pass, fresh_pass}
+use Rattle.parser_combinators.specs.Parsing.{Parser, Takes, option, fresh}
+use Rattle.parser_combinators.specs.Grammar.{Grammar}
+use Rattle.parser_combinators.specs.Grammar as grammar
+use Rattle.parser_combinators.specs.ListCrossings.{Crossing, option_crossing, fresh_crossing}
 use Rattle.expr_grammar.specs.Grammar.{IsCond}
-use Rattle.expr_grammar.specs.Reader.{outermost, goes_cond}
-use Rattle.expr_grammar.specs.TreeMarks.{cond_marks}
+use Rattle.expr_grammar.specs.Reader.{outermost, follow_cond}
+use Rattle.expr_grammar.specs.TreeCounts.{cond_counts}
 
 -- [ WHERE cond ]
-abbrev pub whereG : Grammar Test → Grammar Test
-whereG G = optionG always (word (codes "WHERE")) G
+abbrev pub where_grammar : Grammar Test → Grammar Test
+where_grammar G = grammar.option always (word (codes "WHERE")) G
 
 -- its counts go on from those before it
 abbrev pub IsWhere : Bool → Grammar Test
-IsWhere q = whereG (IsCond q)
+IsWhere q = where_grammar (IsCond q)
 
 -- its counts begin anew
 abbrev pub IsFreshWhere : Bool → Grammar Test
-IsFreshWhere q = whereG (freshG (IsCond q))
+IsFreshWhere q = where_grammar (grammar.fresh (IsCond q))
 
 -- ---- reading
 
@@ -32,10 +34,11 @@ unfoldable pub fresh_where : Bool → Parser Test
 fresh_where q = where_by (fresh (outermost q).cond)
 
 -- what either goes on with
-abbrev pub goes_where : Bool → Lexeme → Bool
-goes_where q x = is_word (codes "WHERE") x || goes_cond q x
+abbrev pub follow_where : Bool → Lexeme → Bool
+follow_where q x = is_word (codes "WHERE") x || follow_cond q x
 
 -- ---- at which of its tokens a count passes its limit
 
-abbrev pub where_passes : (q : Bool) → Passing (IsFreshWhere q)
-where_passes q = option_pass always (word (codes "WHERE")) (freshG (IsCond q)) (fresh_pass (IsCond q) (cond_marks q))
+abbrev pub where_crossings : (q : Bool) → Crossing (IsFreshWhere q)
+where_crossings q = option_crossing always (word (codes "WHERE")) (grammar.fresh (IsCond q))
+    (fresh_crossing (IsCond q) (cond_counts q))

@@ -1,10 +1,10 @@
 //! Rows that are given to a table.
 //!
-//! A [`GivenRow`] has the values of a row: where they stand already, as in the command that inserts it, or as its own. It
-//! is looked at value by value and compared with others. A text is copied only where a value is to be kept that is the
-//! row's own.
+//! A [`GivenRow`] has the values of a row: where they stand already, as in the command that inserts
+//! it, or as its own. It is looked at value by value and compared with others. A text is copied
+//! only where a value is to be kept that is the row's own.
 #![tactic(auto)]
 
-mod given_rows;
+mod row;
 
-pub use given_rows::{GivenRow, compare_prefix};
+pub use row::{GivenRow, compare_prefix};

@@ -3,7 +3,7 @@ use Rattle.std.specs.Prelude.{List, map}
 use Rattle.std.specs.declared.vec.Vec.{Vec}
 use Rattle.std.specs.declared.alloc.Global.{Global}
 use Rattle.prima_base.specs.Order.{shown}
-use Rattle.history_store.specs.declared.restoring.Cell.{Cell as GivenCell}
+use Rattle.history_store.specs.declared.restoration.Cell.{Cell as GivenCell}
 use Rattle.history_store.specs.Store.{Cell}
 pub use Rattle.table_meaning.specs.Restoring.{store_with, IsInOrder}
 

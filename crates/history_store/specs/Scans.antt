@@ -1,7 +1,7 @@
 -- What scans hand out.
 use Rattle.std.specs.Prelude.{ℕ, ◌+◌, List, [], ◌∷◌}
 use Rattle.relations.specs.Spans.{Span}
-use Rattle.history_store.specs.declared.scans.KeyEntry.{KeyEntry}
+use Rattle.history_store.specs.declared.scan.KeyEntry.{KeyEntry}
 pub use Rattle.column_log.specs.Scans.{seen_cell}
 
 -- the keys with their ids, counted from `id` on

@@ -6,7 +6,8 @@ use case_text::{read_hex, read_number};
 use prima_base::NoMemory;
 use std::alloc::{AllocError, Global};
 
-// The image that the cases have, the bytes of the case that is being played, and the answers so far.
+// The image that the cases have, the bytes of the case that is being played, and the answers so
+// far.
 #[derive(Drop)]
 struct Case {
     alloc: Global,
@@ -46,7 +47,7 @@ impl Case {
         }
     }
 
-    // Puts so many times bytes behind those of the image.
+    // Puts so many times bytes after those of the image.
     fn times(&mut self, text: &[u8]) -> Result<(), NoMemory> {
         let (count, hex) = first_word(text);
         let bytes = spelled(self.alloc, hex)?;
@@ -56,7 +57,7 @@ impl Case {
         Ok(())
     }
 
-    // Puts each of these numbers there, and the bytes behind it.
+    // Puts each of these numbers there, and the bytes after it.
     fn stamped(&mut self, text: &[u8]) -> Result<(), NoMemory> {
         let (first, others) = first_word(text);
         let (last, hex) = first_word(others);
@@ -144,7 +145,7 @@ pub(crate) fn play(alloc: Global, cases: &[u8]) -> Result<Vec<u8>, AllocError> {
     }
 }
 
-// The same, with the one word for want of memory that the crates below have.
+// The same, with the one word when out of memory that the crates below have.
 fn play_lines(alloc: Global, cases: &[u8]) -> Result<Vec<u8>, NoMemory> {
     let mut case = Case::new(alloc);
     for line in cases.split(|byte| *byte == b'\n') {

@@ -46,7 +46,7 @@ pub(crate) fn read_line(line: &[u8]) -> Line<'_> {
     }
 }
 
-/// The first word of a text, and what stands behind the blank after it.
+/// The first word of a text, and what stands after the blank after it.
 pub(crate) fn first_word(text: &[u8]) -> (&[u8], &[u8]) {
     for at in 0..text.len() {
         if text[at] == b' ' {

@@ -1,6 +1,8 @@
 -- The steps of reading items.
-use Rattle.std.proofs.Common.{◌≡◌, ℕ, Bool, true, false, cond, List, [], ◌∷◌, ◌++◌, refl, ap, ◌∙◌, append-nil}
-use Rattle.command_spelling.specs.Reading.{Out, Got, Stuck, Parser, and_then, pure, map_to, prepend}
+use Rattle.std.proofs.Common.{◌≡◌, ℕ, Bool, true, false, cond, List, [], ◌∷◌, ◌++◌, refl, ap, ◌∙◌}
+use Rattle.std.proofs.Common.{append-nil}
+use Rattle.command_spelling.specs.Reading.{Out, Parsed, Unexpected, Parser, and_then, pure, map_to}
+use Rattle.command_spelling.specs.Reading.{prepend}
 use Rattle.command_codec.specs.declared.reader.Stop.{Stop}
 use Rattle.command_codec.specs.declared.reader.Stop.TheVariants as stop
 use Rattle.command_codec.specs.Reads.{Fails}
@@ -8,58 +10,73 @@ use Rattle.command_codec.proofs.ReadSteps.{prepend_more}
 use Rattle.image_spelling.specs.Items.{named_at, item, if_right, judged}
 
 module _ {A : Type 0} (p : Parser A) where
-  pub item_got : (a : A) (ts rest : List ℕ) → p ts ≡ Got a rest → item p ts ≡ Got a rest
+  pub item_got : (a : A) (ts rest : List ℕ) → p ts ≡ Parsed a rest → item p ts ≡ Parsed a rest
   item_got a ts rest e = ap (named_at ts) e
 
   -- where an item is not read the reader is set back to its first byte
   pub item_fails : (e : Stop) (ts rest : List ℕ) → Fails (p ts) e rest → Fails (item p ts) e ts
   item_fails stop.NoMemory ts rest h = tt
-  item_fails stop.Stuck ts rest h = ap (named_at ts) h
+  item_fails stop.Unexpected ts rest h = ap (named_at ts) h
 
-  pub judged_got : (right : A → Bool) (a : A) (ts rest : List ℕ) → p ts ≡ Got a rest → right a ≡ true → item (judged right p) ts ≡ Got a rest
-  judged_got right a ts rest e h = ap (λ o. named_at ts (if_right ts right o)) e ∙ ap (λ b. named_at ts (cond b (Got a rest) (Stuck ts))) h
+  pub judged_got : (right : A → Bool) (a : A) (ts rest : List ℕ) → p ts ≡ Parsed a rest
+      → right a ≡ true → item (judged right p) ts ≡ Parsed a rest
+  judged_got right a ts rest e h = ap (λ o. named_at ts (if_right ts right o)) e
+      ∙ ap (λ b. named_at ts (cond b (Parsed a rest) (Unexpected ts))) h
 
-  pub judged_wrong : (right : A → Bool) (a : A) (ts rest : List ℕ) → p ts ≡ Got a rest → right a ≡ false → item (judged right p) ts ≡ Stuck ts
-  judged_wrong right a ts rest e h = ap (λ o. named_at ts (if_right ts right o)) e ∙ ap (λ b. named_at ts (cond b (Got a rest) (Stuck ts))) h
+  pub judged_wrong : (right : A → Bool) (a : A) (ts rest : List ℕ) → p ts ≡ Parsed a rest
+      → right a ≡ false → item (judged right p) ts ≡ Unexpected ts
+  judged_wrong right a ts rest e h = ap (λ o. named_at ts (if_right ts right o)) e
+      ∙ ap (λ b. named_at ts (cond b (Parsed a rest) (Unexpected ts))) h
 
-  pub judged_fails : (right : A → Bool) (e : Stop) (ts rest : List ℕ) → Fails (p ts) e rest → Fails (item (judged right p) ts) e ts
+  pub judged_fails : (right : A → Bool) (e : Stop) (ts rest : List ℕ) → Fails (p ts) e rest
+      → Fails (item (judged right p) ts) e ts
   judged_fails right stop.NoMemory ts rest h = tt
-  judged_fails right stop.Stuck ts rest h = ap (λ o. named_at ts (if_right ts right o)) h
+  judged_fails right stop.Unexpected ts rest h = ap (λ o. named_at ts (if_right ts right o)) h
 
 -- ---- lists, of which so much was read: the whole is that in front of what is still read
 
 nothing_before : {A : Type 0} (o : Out (List A)) → o ≡ prepend [] o
-nothing_before (Got l rest) = refl
-nothing_before (Stuck rest) = refl
+nothing_before (Parsed l rest) = refl
+nothing_before (Unexpected rest) = refl
 
-one_before : {A : Type 0} (a : A) (o : Out (List A)) → and_then o (λ l. pure (a ∷ l)) ≡ prepend (a ∷ []) o
-one_before a (Got l rest) = refl
-one_before a (Stuck rest) = refl
+one_before : {A : Type 0} (a : A) (o : Out (List A))
+    → and_then o (λ l. pure (a ∷ l)) ≡ prepend (a ∷ []) o
+one_before a (Parsed l rest) = refl
+one_before a (Unexpected rest) = refl
 
 pub none_before : {A : Type 0} (whole : Out (List A)) → whole ≡ prepend [] whole
 none_before whole = nothing_before whole
 
-module _ {A : Type 0} (whole : Out (List A)) (l : List A) (p : Parser A) (ts : List ℕ) (f : A → Parser (List A)) (so : whole ≡ prepend l (and_then (p ts) (λ a. map_to (λ m. a ∷ m) (f a)))) where
-  pub one_more : (a : A) (rest : List ℕ) → p ts ≡ Got a rest → whole ≡ prepend (l ++ a ∷ []) (f a rest)
-  one_more a rest e = so ∙ ap (λ o. prepend l (and_then o (λ a. map_to (λ m. a ∷ m) (f a)))) e ∙ ap (prepend l) (one_before a (f a rest)) ∙ prepend_more l (a ∷ []) (f a rest)
+module _ {A : Type 0} (whole : Out (List A)) (l : List A) (p : Parser A) (ts : List ℕ) (f : A
+    → Parser (List A)) (so : whole ≡ prepend l
+    (and_then (p ts) (λ a. map_to (λ m. a ∷ m) (f a)))) where
+  pub one_more : (a : A) (rest : List ℕ) → p ts ≡ Parsed a rest
+      → whole ≡ prepend (l ++ a ∷ []) (f a rest)
+  one_more a rest e = so ∙ ap (λ o. prepend l (and_then o (λ a. map_to (λ m. a ∷ m) (f a)))) e
+      ∙ ap (prepend l) (one_before a (f a rest)) ∙ prepend_more l (a ∷ []) (f a rest)
 
   pub no_more : (e : Stop) (new : List ℕ) → Fails (p ts) e new → Fails whole e new
   no_more stop.NoMemory new h = tt
-  no_more stop.Stuck new h = so ∙ ap (λ o. prepend l (and_then o (λ a. map_to (λ m. a ∷ m) (f a)))) h
+  no_more stop.Unexpected new h = so ∙ ap (λ o.
+      prepend l (and_then o (λ a. map_to (λ m. a ∷ m) (f a)))) h
 
-pub all_before : {A : Type 0} (whole : Out (List A)) (l : List A) (ts : List ℕ) → whole ≡ prepend l (Got [] ts) → whole ≡ Got l ts
-all_before whole l ts so = so ∙ ap (λ x. Got x ts) (append-nil l)
+pub all_before : {A : Type 0} (whole : Out (List A)) (l : List A) (ts : List ℕ)
+    → whole ≡ prepend l (Parsed [] ts) → whole ≡ Parsed l ts
+all_before whole l ts so = so ∙ ap (λ x. Parsed x ts) (append-nil l)
 
-pub stuck_behind : {A : Type 0} (whole : Out (List A)) (l : List A) (ts : List ℕ) → whole ≡ prepend l (Stuck ts) → whole ≡ Stuck ts
-stuck_behind whole l ts so = so
+pub stuck_after : {A : Type 0} (whole : Out (List A)) (l : List A) (ts : List ℕ)
+    → whole ≡ prepend l (Unexpected ts) → whole ≡ Unexpected ts
+stuck_after whole l ts so = so
 
--- ---- a count in front
+-- ---- a count in prefix
 
 module _ {A B : Type 0} (p : Parser A) (f : A → Parser B) (ts : List ℕ) where
-  pub counted_fails : (e : Stop) (rest : List ℕ) → Fails (p ts) e rest → Fails (and_then (p ts) f) e rest
+  pub counted_fails : (e : Stop) (rest : List ℕ) → Fails (p ts) e rest
+      → Fails (and_then (p ts) f) e rest
   counted_fails stop.NoMemory rest h = tt
-  counted_fails stop.Stuck rest h = ap (λ o. and_then o f) h
+  counted_fails stop.Unexpected rest h = ap (λ o. and_then o f) h
 
-  pub behind_fails : (a : A) (us : List ℕ) → p ts ≡ Got a us → (e : Stop) (rest : List ℕ) → Fails (f a us) e rest → Fails (and_then (p ts) f) e rest
-  behind_fails a us g stop.NoMemory rest h = tt
-  behind_fails a us g stop.Stuck rest h = ap (λ o. and_then o f) g ∙ h
+  pub after_fails : (a : A) (us : List ℕ) → p ts ≡ Parsed a us → (e : Stop) (rest : List ℕ)
+      → Fails (f a us) e rest → Fails (and_then (p ts) f) e rest
+  after_fails a us g stop.NoMemory rest h = tt
+  after_fails a us g stop.Unexpected rest h = ap (λ o. and_then o f) g ∙ h

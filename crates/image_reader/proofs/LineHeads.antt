@@ -9,8 +9,12 @@ use Rattle.image_spelling.specs.Judged.{is_line}
 use Rattle.image_spelling.specs.Spelling.{last_number}
 use Rattle.image_reader.specs.Seen.{head_of}
 
-pub head_due : (due : Lifeline) (read : (ℕ × ℕ) × List ℕ) → is_line due read ≡ true → read ≡ head_of due
+pub head_due : (due : Lifeline) (read : (ℕ × ℕ) × List ℕ) → is_line due read ≡ true
+    → read ≡ head_of due
 head_due due read e =
-    let a = of_both (read.0.0 == due.first && read.0.1 == last_number due.last) (same read.1 due.table) e in
+    let a = of_both (read.0.0 == due.first && read.0.1 == last_number due.last)
+    (same read.1 due.table) e in
     let b = of_both (read.0.0 == due.first) (read.0.1 == last_number due.last) a.0 in
-    ap (λ n. ((n, read.0.1), read.1)) (eqb-true read.0.0 due.first b.0) ∙ ap (λ n. ((due.first, n), read.1)) (eqb-true read.0.1 (last_number due.last) b.1) ∙ ap (λ n. ((due.first, last_number due.last), n)) (same_is read.1 due.table a.1)
+    ap (λ n. ((n, read.0.1), read.1)) (eqb-true read.0.0 due.first b.0)
+    ∙ ap (λ n. ((due.first, n), read.1)) (eqb-true read.0.1 (last_number due.last) b.1)
+    ∙ ap (λ n. ((due.first, last_number due.last), n)) (same_is read.1 due.table a.1)

@@ -10,14 +10,20 @@ use Rattle.lifelines.specs.Lifelines.{Lifeline, lifelines_of}
 use Rattle.image_spelling.specs.Images.{StoredLine, Image}
 use Rattle.image_spelling.specs.Spelling.{last_number}
 use Rattle.image_reader.specs.declared.due.DueLine.{DueLine}
-use Rattle.history_store.specs.declared.restoring.Cell.{Cell as ReadCell}
-use Rattle.image_reader.specs.declared.entries.Unjudged.{Unjudged}
-use Rattle.image_reader.specs.declared.lines.ReadLine.{ReadLine}
-use Rattle.image_reader.specs.declared.reading.ReadImage.{ReadImage}
+use Rattle.history_store.specs.declared.restoration.Cell.{Cell as ReadCell}
+use Rattle.image_reader.specs.declared.entry.Unjudged.{Unjudged}
+use Rattle.image_reader.specs.declared.line.ReadLine.{ReadLine}
+use Rattle.image_reader.specs.declared.image.ReadImage.{ReadImage}
 
 -- a lifeline
 abbrev pub line_seen : DueLine → Lifeline
-line_seen l = record { table = l.table.now; first = l.first; last = l.last; columns = l.columns.now }
+line_seen l = record {
+  table = l.table.now;
+  first = l.first;
+  last = l.last;
+  columns =
+      l.columns.now;
+}
 
 -- its versions and its table
 abbrev pub head_of : Lifeline → (ℕ × ℕ) × List ℕ
@@ -40,7 +46,12 @@ cells_seen columns = map (λ column. map cell_seen column.items) columns
 
 -- what is kept over a lifeline, by the periods of its keys and the entries of its columns
 abbrev pub parts_seen : Lifeline → Vec Span Global × Vec (Vec ReadCell Global) Global → StoredLine
-parts_seen line parts = record { line = line; keys = parts.0.items; cells = cells_seen parts.1.items }
+parts_seen line parts = record {
+  line = line;
+  keys = parts.0.items;
+  cells =
+      cells_seen parts.1.items;
+}
 
 abbrev pub stored_seen : Lifeline → ReadLine → StoredLine
 stored_seen line l = record { line = line; keys = l.keys.items; cells = cells_seen l.cells.items }
@@ -52,4 +63,9 @@ lines_seen (line ∷ due) [] = []
 lines_seen (line ∷ due) (l ∷ lines) = stored_seen line l ∷ lines_seen due lines
 
 abbrev pub image_seen : ReadImage → Image
-image_seen i = record { last = i.last; versions = versions_of i.versions; lines = lines_seen (lifelines_of (versions_of i.versions)) i.lines.items }
+image_seen i = record {
+  last = i.last;
+  versions = versions_of i.versions;
+  lines =
+      lines_seen (lifelines_of (versions_of i.versions)) i.lines.items;
+}

@@ -8,7 +8,7 @@ ghost use Rattle.smo_types.specs.Commands.{version_of, versions_of};
 ghost use Rattle.smo_types.specs.Operators.{operator_of};
 ghost use Rattle.smo_meaning.specs.Past.{no_tables};
 ghost use Rattle.schema_catalog.specs.Tables.{Tables};
-ghost use Rattle.lifelines.specs.Lifelines.{line_behind, line_begun, lifelines_behind, lifelines_of};
+ghost use Rattle.lifelines.specs.Lifelines.{line_after, line_begun, lifelines_after, lifelines_of};
 ghost use Rattle.image_reader.specs.Seen.{line_seen};
 ghost use Rattle.smo_schemas.specs.Names.{is_one_of};
 ghost use Rattle.image_reader.specs.Due.{begun_of};
@@ -19,8 +19,8 @@ use smo_schemas::{Made, consumed, made};
 use smo_types::{Version, Versions};
 use std::alloc::Global;
 
-/// A lifeline of a table, from its first version to its last, none while it lives, and the columns that it has in each of them, in the
-/// order of their names.
+/// A lifeline of a table, from its first version to its last, none while it lives, and the columns
+/// that it has in each of them, in the order of their names.
 #[derive(Clone, Copy)]
 pub struct DueLine<'a> {
     pub table: &'a Name,
@@ -30,8 +30,8 @@ pub struct DueLine<'a> {
 }
 
 // The lifeline, which ends with a version where it lives and its table is one of these.
-fn behind_names<'a>(line: &DueLine<'a>, names: Made<'_>, version: u32) -> Option<u32>
-    ensures { result ≡ (line_behind (is_one_of names.entry) version (line_seen line.now)).last }
+fn after_names<'a>(line: &DueLine<'a>, names: Made<'_>, version: u32) -> Option<u32>
+    ensures { result ≡ (line_after (is_one_of names.entry) version (line_seen line.now)).last }
 {
     match line.last {
         Some(last) => Some(last),
@@ -42,10 +42,11 @@ fn behind_names<'a>(line: &DueLine<'a>, names: Made<'_>, version: u32) -> Option
 
 // Ends the lifelines that live of these tables with a version.
 fn end_lines(lines: &mut [DueLine<'_>], names: Made<'_>, version: u32)
-    ensures { map line_seen lines.new ≡ map (line_behind (is_one_of names.entry) version) (map line_seen lines.old) }
+    ensures { map line_seen lines.new ≡ map (line_after (is_one_of names.entry) version)
+        (map line_seen lines.old) }
 {
     for i in 0..lines.len() {
-        lines[i].last = behind_names(&lines[i], names, version);
+        lines[i].last = after_names(&lines[i], names, version);
     }
 }
 
@@ -56,7 +57,8 @@ fn begin_line<'a>(
     names: Made<'_>,
     version: u32,
 ) -> Result<(), NoMemory>
-    ensures { OnOk result (map line_seen lines.new.items ≡ map line_seen lines.old.items ++ begun_of (is_one_of names.entry) version table.now) }
+    ensures { OnOk result (map line_seen lines.new.items ≡ map line_seen lines.old.items
+        ++ begun_of (is_one_of names.entry) version table.now) }
 {
     if names.has(table.name()) {
         lines.push(DueLine {
@@ -69,7 +71,8 @@ fn begin_line<'a>(
     Ok(())
 }
 
-// Begins a lifeline with a version for each table of these names that its schema has, in the order of names.
+// Begins a lifeline with a version for each table of these names that its schema has, in the order
+// of names.
 fn begin_lines<'a>(
     lines: &mut Vec<DueLine<'a>>,
     schema: &'a Schema,
@@ -77,7 +80,8 @@ fn begin_lines<'a>(
     version: u32,
 ) -> Result<(), NoMemory>
     ensures { OnOk result (map line_seen lines.new.items
-        ≡ map line_seen lines.old.items ++ map (line_begun version) (filter (λ t. is_one_of names.entry t.0) (entries schema.now))) }
+        ≡ map line_seen lines.old.items ++ map (line_begun version)
+        (filter (λ t. is_one_of names.entry t.0) (entries schema.now))) }
 {
     // No machine has memory for so many tables that this is none.
     let Ok(count) = u32::try_from(schema.len()) else {
@@ -92,24 +96,28 @@ fn begin_lines<'a>(
     Ok(())
 }
 
-// The lifelines behind a version, whose number is one more than this.
+// The lifelines after a version, whose number is one more than this.
 fn put_version<'a>(
     lines: &mut Vec<DueLine<'a>>,
     version: &'a Version,
     before: u32,
 ) -> Result<(), NoMemory>
     requires { before + 1 < 2 ^ 32 }
-    ensures { (tables : Tables) → OnOk result (map line_seen lines.new.items ≡ lifelines_behind tables before (map line_seen lines.old.items) (version_of version.now)) }
+    ensures { (tables : Tables) → OnOk result
+        (map line_seen lines.new.items ≡ lifelines_after tables before
+        (map line_seen lines.old.items) (version_of version.now)) }
 {
     end_lines(lines, consumed(&version.op), before);
     begin_lines(lines, &version.schema, made(&version.op), before + 1)
 }
 
-/// The lifelines that the versions give, by first version and then name. It goes for each version once over the lifelines before it and
-/// over its tables. The one error is `NoMemory`, where memory runs out.
+/// The lifelines that the versions give, by first version and then name. It goes for each version
+/// once over the lifelines before it and over its tables. The one error is `NoMemory`, where memory
+/// runs out.
 pub fn due_lines(alloc: Global, versions: &Versions) -> Result<Vec<DueLine<'_>>, NoMemory>
     requires { length versions.now.list.items < 2 ^ 32 }
-    ensures { IfOk result (λ lines. map line_seen lines.items ≡ lifelines_of (versions_of versions.now)) }
+    ensures { IfOk result (λ lines. map line_seen lines.items
+        ≡ lifelines_of (versions_of versions.now)) }
 {
     let mut lines = Vec::new(alloc);
     for (before, version) in versions.list.iter().enumerate() {

@@ -1,21 +1,25 @@
 //! What ids show, in order, and whether two of them show one row at one moment.
 
-ghost use Rattle.std.specs.Prelude.{◌≡◌, ◌≤◌, ℕ, List, Option, is_some, map, length, ◌++◌, IfOk, OnOk, IfSome};
+ghost use Rattle.std.specs.Prelude.{◌≡◌, ◌≤◌, ℕ, List, Option, is_some, map, length, ◌++◌, IfOk};
+ghost use Rattle.std.specs.Prelude.{OnOk, IfSome};
 ghost use Rattle.prima_base.specs.Columns.{Column};
-ghost use Rattle.command_spelling.specs.Reading.{Got};
+ghost use Rattle.command_spelling.specs.Reading.{Parsed};
 ghost use Rattle.image_spelling.specs.Judged.{are_apart};
 ghost use Rattle.image_spelling.specs.Reader as spec;
 ghost use Rattle.image_reader.specs.Seen.{cell_seen, cells_seen};
-ghost use Rattle.image_reader.specs.Stretches.{pieces_of};
-ghost use Rattle.image_reader.specs.Showing.{piece_at, number_alone, alone, as_row, piece_in, clash, none_clash, goes_on, id_on, ids_on, IsJudged, AreOrdered};
+ghost use Rattle.image_reader.specs.Stretches.{row_stretches};
+ghost use Rattle.image_reader.specs.Showing.{piece_at, number_alone, alone, as_row, piece_in};
+ghost use Rattle.image_reader.specs.Showing.{clash, none_clash, goes_on, id_on, ids_on, IsJudged};
+ghost use Rattle.image_reader.specs.Showing.{AreOrdered};
 
-use crate::stretches::{Stretch, all_stretches};
+use crate::stretch::{Stretch, all_stretches};
 use history_store::Cell;
 use prima_base::{FOREVER, NoMemory, Period, Val};
 use std::alloc::Global;
 use std::cmp::Ordering;
 
-// An id shows this from the start up to, and not at, the end. They are ordered by what is shown, then by the start.
+// An id shows this from the start up to, and not at, the end. They are ordered by what is shown,
+// then by the start.
 #[derive(Drop, PartialEq, Eq, PartialOrd, Ord)]
 struct Showing<T> {
     item: T,
@@ -50,7 +54,7 @@ fn goes_on<T>(showing: &Showing<T>) -> bool
     showing.end == FOREVER
 }
 
-// Puts the id behind the others, where it goes on.
+// Puts the id after the others, where it goes on.
 fn put_on<T>(ids: &mut Vec<usize>, showing: &Showing<T>) -> Result<(), NoMemory>
     ensures { OnOk result (ids.new.items ≡ ids.old.items ++ id_on showing.now) }
 {
@@ -71,7 +75,8 @@ fn ids_on<T>(alloc: Global, showing: &[Showing<T>]) -> Result<Vec<usize>, NoMemo
     Ok(ids)
 }
 
-// The ids of what goes on, in order, where no two clash; none where two do. They are sorted, and each is looked at with the next.
+// The ids of what goes on, in order, where no two clash; none where two do. They are sorted, and
+// each is looked at with the next.
 fn judge<T: Ord + Drop>(
     alloc: Global,
     showing: Vec<Showing<T>>,
@@ -88,7 +93,8 @@ fn judge<T: Ord + Drop>(
 
 // What each entry of a column shows, where all are INTs; none where one is a TEXT.
 fn numbers_of(alloc: Global, cells: &[Cell<'_>]) -> Result<Option<Vec<Showing<i64>>>, NoMemory>
-    ensures { IfOk result (λ numbers. IfSome numbers (λ v. map (piece_at number_alone) v.items ≡ map piece_in (map cell_seen cells.now))) }
+    ensures { IfOk result (λ numbers. IfSome numbers
+        (λ v. map (piece_at number_alone) v.items ≡ map piece_in (map cell_seen cells.now))) }
 {
     let mut showing = Vec::with_capacity(alloc, cells.len())?;
     for cell in cells {
@@ -107,7 +113,8 @@ fn numbers_of(alloc: Global, cells: &[Cell<'_>]) -> Result<Option<Vec<Showing<i6
 
 // What each entry of a column shows.
 fn values_of<'a>(alloc: Global, cells: &[Cell<'a>]) -> Result<Vec<Showing<Val<'a>>>, NoMemory>
-    ensures { IfOk result (λ v. map (piece_at alone) v.items ≡ map piece_in (map cell_seen cells.now)) }
+    ensures { IfOk result (λ v. map (piece_at alone) v.items
+        ≡ map piece_in (map cell_seen cells.now)) }
 {
     let mut showing = Vec::with_capacity(alloc, cells.len())?;
     for cell in cells {
@@ -126,7 +133,7 @@ fn rows_of<'a>(
     alloc: Global,
     stretches: Vec<Stretch<'a>>,
 ) -> Result<Vec<Showing<Vec<Val<'a>>>>, NoMemory>
-    ensures { IfOk result (λ v. map (piece_at as_row) v.items ≡ pieces_of stretches.entry.items) }
+    ensures { IfOk result (λ v. map (piece_at as_row) v.items ≡ row_stretches stretches.entry.items) }
 {
     let mut showing = Vec::with_capacity(alloc, stretches.len())?;
     for stretch in stretches {
@@ -140,18 +147,21 @@ fn rows_of<'a>(
     Ok(showing)
 }
 
-/// The ids of the rows that go on, in the order of their rows, where no two ids show one row at a moment at which an entry begins; none
-/// where two do. It goes by keys and the entries that were read for them. Mostly the first column tells its rows apart, and then its
-/// entries alone are sorted; else the rows are. For n entries that takes in the order of n log n comparisons. The one error is `NoMemory`,
-/// where memory runs out.
+/// The ids of the rows that go on, in the order of their rows, where no two ids show one row at a
+/// moment at which an entry begins; none where two do. It goes by keys and the entries that were
+/// read for them. Mostly the first column tells its rows apart, and then its entries alone are
+/// sorted; else the rows are. For n entries that takes in the order of n log n comparisons. The one
+/// error is `NoMemory`, where memory runs out.
 pub(crate) fn order_of(
     alloc: Global,
     keys: &[Period],
     cells: &[Vec<Cell<'_>>],
 ) -> Result<Option<Vec<usize>>, NoMemory>
-    requires { (last : Option ℕ) × (columns : List Column) × (ts : List ℕ) × (rest : List ℕ) × (spec.columns last keys.now columns ts ≡ Got (cells_seen cells.now) rest) }
+    requires { (last : Option ℕ) × (columns : List Column) × (ts : List ℕ) × (rest : List ℕ)
+        × (spec.columns last keys.now columns ts ≡ Parsed (cells_seen cells.now) rest) }
     ensures apart { IfOk result (λ order. is_some order ≡ are_apart keys.now (cells_seen cells.now)) }
-    ensures order { IfOk result (λ order. IfSome order (λ ids. AreOrdered keys.now (cells_seen cells.now) ids.items)) }
+    ensures order { IfOk result (λ order. IfSome order
+        (λ ids. AreOrdered keys.now (cells_seen cells.now) ids.items)) }
 {
     let Some(first) = cells.first() else {
         return Ok(Some(Vec::new(alloc)));

@@ -1,6 +1,7 @@
--- What is so of each lifeline that the operators of versions give: its name and its numbers can be spelled, and its columns are those of a
--- table, in order, and some. There are few of them.
-use Rattle.std.proofs.Common.{◌≡◌, ℕ, suc, ◌+◌, ◌*◌, ◌≤◌, Bool, true, false, cond, List, [], ◌∷◌, map, length, length-append, sym, subst, arith, inl, inr}
+-- What is so of each lifeline that the operators of versions give: its name and its numbers can be
+-- spelled, and its columns are those of a table, in order, and some. There are few of them.
+use Rattle.std.proofs.Common.{◌≡◌, ℕ, suc, ◌+◌, ◌*◌, ◌≤◌, Bool, true, false, cond, List, [], ◌∷◌}
+use Rattle.std.proofs.Common.{map, length, length-append, sym, subst, arith, inl, inr}
 use Rattle.std.specs.Prelude.{Option, Some, None, ⊤, ◌⊎◌}
 use Rattle.std.specs.List.{filter}
 use Rattle.std.specs.FinMap.{entries, len-entries}
@@ -13,23 +14,27 @@ use Rattle.prima_base.specs.OrderLaws.{bytes_exact}
 use Rattle.prima_base.specs.Columns.{Column, AreColumns}
 use Rattle.schema_catalog.specs.Tables.{Tables}
 use Rattle.smo_types.specs.Commands.{PlainVersion}
-use Rattle.smo_types.specs.Operators.{Operator, nop, create_table, drop_table, rename_table, copy_table, merge_table, partition_table, decompose_table, join_table, add_column, drop_column, rename_column}
-use Rattle.smo_meaning.specs.After.{IsLawful}
+use Rattle.smo_types.specs.Operators.{Operator, nop, create_table, drop_table, rename_table}
+use Rattle.smo_types.specs.Operators.{copy_table, merge_table, partition_table, decompose_table}
+use Rattle.smo_types.specs.Operators.{join_table, add_column, drop_column, rename_column}
+use Rattle.smo_meaning.specs.After.{IsValid}
 use Rattle.smo_meaning.specs.Touching.{makes, consumes}
 use Rattle.smo_meaning.specs.OperatorTable.{line, made_names}
-use Rattle.smo_meaning.specs.LawfulPast.{AreVersions}
+use Rattle.smo_meaning.specs.ValidPast.{AreVersions}
 use Rattle.smo_meaning.specs.Past.{no_tables}
-use Rattle.smo_meaning.proofs.NextSchemas.{Each, next_is_lawful}
+use Rattle.smo_meaning.proofs.NextSchemas.{Each, next_is_valid}
 use Rattle.smo_meaning.proofs.PastSteps.{beginning_is_past}
-use Rattle.command_spelling.specs.Lawful.{OperatorNamed}
-use Rattle.lifelines.specs.Lifelines.{Lifeline, last_behind, line_behind, line_begun, made_tables, lifelines_behind, lifelines_from, lifelines_of}
+use Rattle.command_spelling.specs.Valid.{OperatorNamed}
+use Rattle.lifelines.specs.Lifelines.{Lifeline, last_after, line_after, line_begun, made_tables}
+use Rattle.lifelines.specs.Lifelines.{lifelines_after, lifelines_from, lifelines_of}
 use Rattle.lifelines.proofs.NamedEntries.{found_under}
 use Rattle.image_spelling.specs.Images.{VersionsNamed}
 use Rattle.image_spelling.proofs.SomeColumns.{HasColumn, no_table_has_none, next_has_columns}
 
 -- ---- the names of made tables
 
-made_named : (tables : Tables) (op : Operator) → OperatorNamed op → (n : List ℕ) → In n (made_names (line tables op).made) → IsName n
+made_named : (tables : Tables) (op : Operator) → OperatorNamed op → (n : List ℕ)
+    → In n (made_names (line tables op).made) → IsName n
 made_named tables nop h n i = absurd i
 made_named tables (create_table r cs) h n (inl e) = subst IsName e h.0
 made_named tables (create_table r cs) h n (inr i) = absurd i
@@ -77,62 +82,99 @@ AreLifelines n lines = (l : Lifeline) → In l lines → IsLifeline n l
 
 kept_few : {X : Type 0} (p : X → Bool) (xs : List X) → length (filter p xs) ≤ length xs
 kept_few p [] = omega arith
-kept_few p (x ∷ xs) = (let h = kept_few p xs in elim (p x) as (λ b. length (cond b (x ∷ filter p xs) (filter p xs)) ≤ length (x ∷ xs)) [ true ↦ omega (arith, h) | false ↦ omega (arith, h) ])
+kept_few p (x ∷ xs) = (let h = kept_few p xs in
+    elim (p x) as (λ b. length (cond b (x ∷ filter p xs) (filter p xs)) ≤ length (x ∷ xs))
+    [ true ↦ omega (arith, h) | false ↦ omega (arith, h) ])
 
-still_ends : (b : Bool) (n : ℕ) (last : Option ℕ) → EndsBy n last → EndsBy (n + 1) (last_behind b n last)
+still_ends : (b : Bool) (n : ℕ) (last : Option ℕ) → EndsBy n last
+    → EndsBy (n + 1) (last_after b n last)
 still_ends true n None h = omega arith
 still_ends false n None h = tt
 still_ends b n (Some k) h = omega (arith, h)
 
-module _ (before : Tables) (n : ℕ) (v : PlainVersion) (lawful : IsLawful v.tables) (some : Each HasColumn v.tables) (named : OperatorNamed v.op) where
-  ended : (l : Lifeline) → IsLifeline n l → IsLifeline (n + 1) (line_behind (consumes before v.op) n l)
-  ended l h = record { named = h.named; columns = h.columns; some = h.some; first = (let f = h.first in omega (arith, f)); last = still_ends (consumes before v.op l.table) n l.last h.last }
+module _ (before : Tables) (n : ℕ) (v : PlainVersion) (valid : IsValid v.tables)
+    (some : Each HasColumn v.tables) (named : OperatorNamed v.op) where
+  ended : (l : Lifeline) → IsLifeline n l → IsLifeline (n + 1)
+      (line_after (consumes before v.op) n l)
+  ended l h = record {
+    named = h.named;
+    columns = h.columns;
+    some = h.some;
+    first =
+        (let f = h.first in omega (arith, f));
+    last =
+        still_ends (consumes before v.op l.table) n l.last h.last;
+  }
 
-  begun : (t : Listed) → In t (made_tables before v.op v.tables) → IsLifeline (n + 1) (line_begun (n + 1) t)
+  begun : (t : Listed) → In t (made_tables before v.op v.tables)
+      → IsLifeline (n + 1) (line_begun (n + 1) t)
   begun t i =
       let r = from_filter (λ (u : Listed). makes before v.op u.0) t (entries v.tables) i in
       let there = found_under v.tables t r.0 in
       record {
-        named = made_named before v.op named t.0 (has_in bytes_cmp bytes_exact t.0 (made_names (line before v.op).made) r.1);
-        columns = lawful.schema t.0 t.1 there;
+        named = made_named before v.op named t.0
+            (has_in bytes_cmp bytes_exact t.0 (made_names (line before v.op).made) r.1);
+        columns = valid.schema t.0 t.1 there;
         some = some t.0 t.1 there;
         first = omega arith;
         last = tt;
       }
 
-  lines_behind : (lines : List Lifeline) → AreLifelines n lines → AreLifelines (n + 1) (lifelines_behind before n lines v)
-  lines_behind lines h l i = step (in_append l (map (line_behind (consumes before v.op) n) lines) (map (line_begun (n + 1)) (made_tables before v.op v.tables)) i)
+  lines_after : (lines : List Lifeline) → AreLifelines n lines
+      → AreLifelines (n + 1) (lifelines_after before n lines v)
+  lines_after lines h l i = step (in_append l (map (line_after (consumes before v.op) n) lines)
+      (map (line_begun (n + 1)) (made_tables before v.op v.tables)) i)
     where
-      step : In l (map (line_behind (consumes before v.op) n) lines) ⊎ In l (map (line_begun (n + 1)) (made_tables before v.op v.tables)) → IsLifeline (n + 1) l
-      step (inl j) = let r = from_map (line_behind (consumes before v.op) n) l lines j in subst (IsLifeline (n + 1)) r.2 (ended r.0 (h r.0 r.1))
-      step (inr j) = let r = from_map (line_begun (n + 1)) l (made_tables before v.op v.tables) j in subst (IsLifeline (n + 1)) r.2 (begun r.0 r.1)
+      step : In l (map (line_after (consumes before v.op) n) lines)
+          ⊎ In l (map (line_begun (n + 1)) (made_tables before v.op v.tables))
+          → IsLifeline (n + 1) l
+      step (inl j) = let r = from_map (line_after (consumes before v.op) n) l lines j in
+          subst (IsLifeline (n + 1)) r.2 (ended r.0 (h r.0 r.1))
+      step (inr j) = let r = from_map (line_begun (n + 1)) l (made_tables before v.op v.tables) j in
+          subst (IsLifeline (n + 1)) r.2 (begun r.0 r.1)
 
-  few_behind : (lines : List Lifeline) → length (lifelines_behind before n lines v) ≤ length lines + 64
-  few_behind lines =
-      let a = length-append (map (line_behind (consumes before v.op) n) lines) (map (line_begun (n + 1)) (made_tables before v.op v.tables)) in
-      let b = length-map lines (line_behind (consumes before v.op) n) in
+  few_after : (lines : List Lifeline) → length (lifelines_after before n lines v) ≤ length
+      lines + 64
+  few_after lines =
+      let a = length-append (map (line_after (consumes before v.op) n) lines)
+      (map (line_begun (n + 1)) (made_tables before v.op v.tables)) in
+      let b = length-map lines (line_after (consumes before v.op) n) in
       let c = length-map (made_tables before v.op v.tables) (line_begun (n + 1)) in
       let d = kept_few (λ (u : Listed). makes before v.op u.0) (entries v.tables) in
       let e = len-entries v.tables in
-      let f = lawful.few in
+      let f = valid.few in
       omega (arith, a, b, c, d, e, f)
 
-lines_from : (last : Option ℕ) (before : Tables) (n : ℕ) (lines : List Lifeline) (versions : List PlainVersion) → IsLawful before → Each HasColumn before → AreVersions last before versions → VersionsNamed versions
-    → AreLifelines n lines → AreLifelines (n + length versions) (lifelines_from before n lines versions) × (length (lifelines_from before n lines versions) ≤ length lines + 64 * length versions)
-lines_from last before n lines [] l s are named h = (let e : n ≡ n + 0 = omega arith in subst (λ k. AreLifelines k lines) e h, omega arith)
+lines_from : (last : Option ℕ) (before : Tables) (n : ℕ) (lines : List Lifeline)
+    (versions : List PlainVersion) → IsValid before → Each HasColumn before
+    → AreVersions last before versions → VersionsNamed versions
+    → AreLifelines n lines → AreLifelines (n + length versions)
+    (lifelines_from before n lines versions)
+    × (length (lifelines_from before n lines versions) ≤ length lines + 64 * length versions)
+lines_from last before n lines [] l s are named h =
+    (let e : n ≡ n + 0 = omega arith in subst (λ k. AreLifelines k lines) e h, omega arith)
 lines_from last before n lines (v ∷ versions) l s are named h =
-    let lawful : IsLawful v.tables = subst IsLawful (sym are.0.tables) (next_is_lawful before v.op l are.0.accepted) in
-    let some : Each HasColumn v.tables = subst (Each HasColumn) (sym are.0.tables) (next_has_columns before v.op l s are.0.accepted) in
-    let r = lines_from (Some v.stamp) v.tables (n + 1) (lifelines_behind before n lines v) versions lawful some are.1 named.1 (lines_behind before n v lawful some named.0.0 lines h) in
-    let few = few_behind before n v lawful some named.0.0 lines in
+    let valid : IsValid v.tables = subst IsValid (sym are.0.tables)
+    (next_is_valid before v.op l are.0.accepted) in
+    let some : Each HasColumn v.tables = subst (Each HasColumn) (sym are.0.tables)
+    (next_has_columns before v.op l s are.0.accepted) in
+    let r = lines_from (Some v.stamp) v.tables (n + 1) (lifelines_after before n lines v) versions
+    valid some are.1 named.1 (lines_after before n v valid some named.0.0 lines h) in
+    let few = few_after before n v valid some named.0.0 lines in
     let more = r.1 in
-    let e : (n + 1) + length versions ≡ n + suc (length versions) = omega arith in
-    (subst (λ k. AreLifelines k (lifelines_from v.tables (n + 1) (lifelines_behind before n lines v) versions)) e r.0, omega (arith, few, more))
+    let e : (n + 1) + length versions ≡ n + suc (length versions) = omega arith in (
+      subst (λ k. AreLifelines k (lifelines_from v.tables (n + 1) (lifelines_after before n lines v)
+          versions)) e r.0,
+      omega (arith, few, more),
+    )
 
-pub due_lifelines : (versions : List PlainVersion) → AreVersions None no_tables versions → VersionsNamed versions
-    → AreLifelines (length versions) (lifelines_of versions) × (length (lifelines_of versions) ≤ 64 * length versions)
+pub due_lifelines : (versions : List PlainVersion) → AreVersions None no_tables versions
+    → VersionsNamed versions
+    → AreLifelines (length versions) (lifelines_of versions)
+    × (length (lifelines_of versions) ≤ 64 * length versions)
 due_lifelines versions are named =
-    let r = lines_from None no_tables 0 [] versions beginning_is_past.tables no_table_has_none are named (λ l i. absurd i) in
+    let r = lines_from None no_tables 0 [] versions beginning_is_past.tables no_table_has_none are
+    named (λ l i. absurd i) in
     let e : 0 + length versions ≡ length versions = omega arith in
     let few = r.1 in
     (subst (λ k. AreLifelines k (lifelines_of versions)) e r.0, omega (arith, few))

@@ -1,11 +1,12 @@
 -- What the tests of periods and stamps say.
-use Rattle.std.proofs.Common.{◌≡◌, ℕ, ◌≤◌, ◌<◌, ◌==◌, eqb-true, Bool, true, false, refl, sym, ap, ◌∙◌, arith, inl, inr}
+use Rattle.std.proofs.Common.{◌≡◌, ℕ, ◌≤◌, ◌<◌, ◌==◌, eqb-true, Bool, true, false, refl, sym, ap}
+use Rattle.std.proofs.Common.{◌∙◌, arith, inl, inr}
 use Rattle.std.specs.Prelude.{Option, Some, None, ◌&&◌, ◌||◌, ◌⊎◌, nat_lt}
 use Rattle.std.proofs.lemmas.Bool.{ltb-true, leb-true, lt-ltb, le-leb}
 use Rattle.relations.specs.Spans.{Span, forever}
 use Rattle.table_histories.specs.Store.{IsPeriod}
-use Rattle.smo_meaning.specs.LawfulPast.{last_or_nought}
-use Rattle.command_spelling.proofs.Goodness.{true_false}
+use Rattle.smo_meaning.specs.ValidPast.{last_or_nought}
+use Rattle.command_spelling.proofs.Correctness.{true_false}
 use Rattle.command_spelling.proofs.Numbers.{both_true, of_both}
 use Rattle.image_spelling.specs.Images.{IsUpTo, EndsUpTo}
 use Rattle.image_spelling.specs.Judged.{is_stamp, is_end, is_period}
@@ -25,7 +26,8 @@ pub second_true : (a b : Bool) → b ≡ true → (a || b) ≡ true
 second_true true b e = refl
 second_true false b e = e
 
-pub stamp_is : (last : Option ℕ) (m : ℕ) → is_stamp last m ≡ true → (k : ℕ) × (last ≡ Some k) × (m ≤ k)
+pub stamp_is : (last : Option ℕ) (m : ℕ) → is_stamp last m ≡ true → (k : ℕ) × (last ≡ Some k)
+    × (m ≤ k)
 stamp_is None m e = true_false (sym e)
 stamp_is (Some k) m e = (k, refl, leb-true m k e)
 
@@ -47,7 +49,8 @@ end_up_to last m e = step (either (m == forever) (is_stamp last m) e)
     step (inr q) = stamp_up_to last m q
 
 pub period_lasts : (last : Option ℕ) (p : Span) → is_period last p ≡ true → p.start < p.end
-period_lasts last p e = ltb-true p.start p.end (of_both (nat_lt p.start p.end) (is_stamp last p.start && is_end last p.end) e).0
+period_lasts last p e = ltb-true p.start p.end
+    (of_both (nat_lt p.start p.end) (is_stamp last p.start && is_end last p.end) e).0
 
 pub period_up_to : (last : Option ℕ) (p : Span) → is_period last p ≡ true → EndsUpTo last p
 period_up_to last p e =
@@ -55,9 +58,11 @@ period_up_to last p e =
     let b = of_both (is_stamp last p.start) (is_end last p.end) a.1 in
     (stamp_up_to last p.start b.0, end_up_to last p.end b.1)
 
-pub is_period_so : (last : Option ℕ) (p : Span) → IsPeriod p → EndsUpTo last p → is_period last p ≡ true
+pub is_period_so : (last : Option ℕ) (p : Span) → IsPeriod p → EndsUpTo last p
+    → is_period last p ≡ true
 is_period_so last p h u =
-    both_true (nat_lt p.start p.end) (is_stamp last p.start && is_end last p.end) (lt-ltb p.start p.end h.0)
+    both_true (nat_lt p.start p.end) (is_stamp last p.start && is_end last p.end)
+    (lt-ltb p.start p.end h.0)
     (both_true (is_stamp last p.start) (is_end last p.end) (starts u.0) (ends u.1))
   where
     starts : IsUpTo last p.start → is_stamp last p.start ≡ true
@@ -65,5 +70,7 @@ is_period_so last p h u =
     starts (inr k) = is_stamp_so last p.start k.0 k.1 k.2
 
     ends : IsUpTo last p.end → is_end last p.end ≡ true
-    ends (inl e) = first_true (p.end == forever) (is_stamp last p.end) (ap (λ n. n == forever) e ∙ number_itself forever)
-    ends (inr k) = second_true (p.end == forever) (is_stamp last p.end) (is_stamp_so last p.end k.0 k.1 k.2)
+    ends (inl e) = first_true (p.end == forever) (is_stamp last p.end)
+        (ap (λ n. n == forever) e ∙ number_itself forever)
+    ends (inr k) = second_true (p.end == forever) (is_stamp last p.end)
+        (is_stamp_so last p.end k.0 k.1 k.2)

@@ -6,7 +6,7 @@ pub mod FittingRows
 pub mod Formats
 pub mod ImageLengths
 pub mod Judging
-pub mod LawfulVersions
+pub mod ValidVersions
 pub mod Places
 pub mod QuietMoments
 pub mod ReadImages

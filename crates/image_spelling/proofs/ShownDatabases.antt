@@ -1,5 +1,7 @@
--- The database that an image shows at a moment has the tables of the version in force, with lawful values.
-use Rattle.std.proofs.Common.{◌≡◌, ℕ, Bool, true, false, cond, List, [], ◌∷◌, length, map, refl, sym, ap, subst, ◌∙◌, inl, inr, arith, nat_le, ◌&&◌}
+-- The database that an image shows at a moment has the tables of the version in force, with valid
+-- values.
+use Rattle.std.proofs.Common.{◌≡◌, ℕ, Bool, true, false, cond, List, [], ◌∷◌, length, map, refl}
+use Rattle.std.proofs.Common.{sym, ap, subst, ◌∙◌, inl, inr, arith, nat_le, ◌&&◌}
 use Rattle.std.specs.Prelude.{Option, Some, None}
 use Rattle.std.specs.List.{filter}
 use Rattle.std.specs.FinMap.{get, find, get-from_entries}
@@ -10,10 +12,10 @@ use Rattle.relations.proofs.SetLaws.{in_map, from_map, from_filter}
 use Rattle.prima_base.specs.Order.{bytes_cmp}
 use Rattle.prima_base.specs.Columns.{Column}
 use Rattle.schema_catalog.specs.Tables.{Tables}
-use Rattle.schema_catalog.specs.Databases.{Entry, Rows, Lost, IsEntry, IsDatabase}
+use Rattle.schema_catalog.specs.Databases.{DatabaseEntry, Rows, Lost, IsEntry, IsDatabase}
 use Rattle.table_histories.specs.Store.{relation_at}
-use Rattle.smo_meaning.specs.Effects.{rows_at}
-use Rattle.smo_meaning.specs.LawfulValues.{EntryHolds, HoldsValues}
+use Rattle.smo_meaning.specs.Effects.{rows_under}
+use Rattle.smo_meaning.specs.ValidValues.{EntryHolds, HoldsValues}
 use Rattle.smo_meaning.specs.OneRow.{same}
 use Rattle.smo_meaning.specs.Past.{no_tables, tables_from, begun_at}
 use Rattle.smo_meaning.proofs.NameLaws.{same_itself, same_is}
@@ -35,60 +37,75 @@ goes : (last : Option ℕ) (k : ℕ) → IsUpTo last k → goes_to last k ≡ tr
 goes None k h = refl
 goes (Some last) k h = grind (arith, nat_tests, h)
 
-pub covered : (k : ℕ) (l : StoredLine) → is_of_version k l ≡ true → Covers l.line.first l.line.last k
+pub covered : (k : ℕ) (l : StoredLine) → is_of_version k l ≡ true
+    → Covers l.line.first l.line.last k
 covered k l e = step (nat_le l.line.first k) (goes_to l.line.last k) refl refl e
   where
-    step : (a b : Bool) → nat_le l.line.first k ≡ a → goes_to l.line.last k ≡ b → (a && b) ≡ true → Covers l.line.first l.line.last k
+    step : (a b : Bool) → nat_le l.line.first k ≡ a → goes_to l.line.last k ≡ b → (a && b) ≡ true
+        → Covers l.line.first l.line.last k
     step true true p q h = (grind (arith, nat_tests, p), up_to l.line.last k q)
     step true false p q h = absurd (cc)
     step false b p q h = absurd (cc)
 
-pub covers_it : (k : ℕ) (l : StoredLine) → Covers l.line.first l.line.last k → is_of_version k l ≡ true
+pub covers_it : (k : ℕ) (l : StoredLine) → Covers l.line.first l.line.last k
+    → is_of_version k l ≡ true
 covers_it k l h =
     let low = h.0 in
     let first : nat_le l.line.first k ≡ true = grind (arith, nat_tests, low) in
     rw (first, goes l.line.last k h.1) refl
 
 abbrev Place : Type 0
-Place = List ℕ × Entry
+Place = List ℕ × DatabaseEntry
 
 module _ (k m : ℕ) where
   abbrev here : StoredLine → Bool
   here = is_of_version k
 
   -- each table is found under its name
-  find_own : (lines : List StoredLine) → AreApart k (map (λ (l : StoredLine). l.line) lines) → (l : StoredLine) → In l lines → here l ≡ true
+  find_own : (lines : List StoredLine) → AreApart k (map (λ (l : StoredLine). l.line) lines)
+      → (l : StoredLine) → In l lines → here l ≡ true
       → find bytes_cmp l.line.table (map (table_at m) (filter here lines)) ≡ Some (table_at m l).1
   find_own [] a l i e = absurd i
   find_own (x ∷ lines) a l (inl q) e =
-      subst (λ (y : StoredLine). find bytes_cmp l.line.table (map (table_at m) (filter here (y ∷ lines))) ≡ Some (table_at m l).1) (sym q)
-      (ap (λ b. find bytes_cmp l.line.table (map (table_at m) (cond b (l ∷ filter here lines) (filter here lines)))) e
-      ∙ ap (λ b. cond b (Some (table_at m l).1) (find bytes_cmp l.line.table (map (table_at m) (filter here lines)))) (same_itself l.line.table))
+      subst (λ (y : StoredLine). find bytes_cmp l.line.table
+      (map (table_at m) (filter here (y ∷ lines))) ≡ Some (table_at m l).1) (sym q)
+      (ap (λ b. find bytes_cmp l.line.table (map (table_at m)
+      (cond b (l ∷ filter here lines) (filter here lines)))) e
+      ∙ ap (λ b. cond b (Some (table_at m l).1)
+      (find bytes_cmp l.line.table (map (table_at m) (filter here lines))))
+      (same_itself l.line.table))
   find_own (x ∷ lines) a l (inr i) e = step (here x) refl (find_own lines a.1 l i e)
     where
       other : here x ≡ true → same l.line.table x.line.table ≡ false
       other p = apart (same l.line.table x.line.table) refl
         where
           apart : (b : Bool) → same l.line.table x.line.table ≡ b → b ≡ false
-          apart true q = absurd (a.0 l.line (in_map (λ (y : StoredLine). y.line) l lines i) (sym (same_is l.line.table x.line.table q)) (covered k x p) (covered k l e))
+          apart true q = absurd (a.0 l.line (in_map (λ (y : StoredLine). y.line) l lines i)
+              (sym (same_is l.line.table x.line.table q)) (covered k x p) (covered k l e))
           apart false q = refl
 
-      step : (b : Bool) → here x ≡ b → find bytes_cmp l.line.table (map (table_at m) (filter here lines)) ≡ Some (table_at m l).1
-          → find bytes_cmp l.line.table (map (table_at m) (cond b (x ∷ filter here lines) (filter here lines))) ≡ Some (table_at m l).1
-      step true p rest = ap (λ b. cond b (Some (table_at m x).1) (find bytes_cmp l.line.table (map (table_at m) (filter here lines)))) (other p) ∙ rest
+      step : (b : Bool) → here x ≡ b → find bytes_cmp l.line.table
+          (map (table_at m) (filter here lines)) ≡ Some (table_at m l).1
+          → find bytes_cmp l.line.table (map (table_at m)
+          (cond b (x ∷ filter here lines) (filter here lines))) ≡ Some (table_at m l).1
+      step true p rest = ap (λ b. cond b (Some (table_at m x).1)
+          (find bytes_cmp l.line.table (map (table_at m) (filter here lines)))) (other p) ∙ rest
       step false p rest = rest
 
   -- and what is found is a table of a lifeline
-  record IsFrom (lines : List StoredLine) (name : List ℕ) (entry : Entry) : Type 0 where
+  record IsFrom (lines : List StoredLine) (name : List ℕ) (entry : DatabaseEntry) : Type 0 where
     pub line : StoredLine
     pub among : In line lines
     pub of : Covers line.line.first line.line.last k
     pub named : line.line.table ≡ name
     pub is : (table_at m line).1 ≡ entry
 
-  from_find : (lines : List StoredLine) (name : List ℕ) (entry : Entry) → find bytes_cmp name (map (table_at m) (filter here lines)) ≡ Some entry → IsFrom lines name entry
+  from_find : (lines : List StoredLine) (name : List ℕ) (entry : DatabaseEntry)
+      → find bytes_cmp name (map (table_at m) (filter here lines)) ≡ Some entry
+      → IsFrom lines name entry
   from_find lines name entry e =
-      let x = from_map (table_at m) (name, entry) (filter here lines) (in_found (map (table_at m) (filter here lines)) name entry e) in
+      let x = from_map (table_at m) (name, entry) (filter here lines)
+      (in_found (map (table_at m) (filter here lines)) name entry e) in
       let f = from_filter here x.0 lines x.1 in
       record {
         line = x.0;
@@ -113,28 +130,46 @@ module _ (image : Image) (is : IsImage image) where
       (each_covered image.versions (in_force image m) is.evolved (few_begun m image.versions))
 
   -- what is kept over a lifeline of the version in force is what its table has
-  pub own_entry : (m : ℕ) (l : StoredLine) → In l image.lines → Covers l.line.first l.line.last (in_force image m) → get (image_database image m) l.line.table ≡ Some (Rows (relation_at (store_of l) m))
+  pub own_entry : (m : ℕ) (l : StoredLine) → In l image.lines
+      → Covers l.line.first l.line.last (in_force image m)
+      → get (image_database image m) l.line.table ≡ Some (Rows (relation_at (store_of l) m))
   own_entry m l i c =
-      get-from_entries nat_list_cmp_total (map (table_at m) (filter (is_of_version (in_force image m)) image.lines)) l.line.table
-      ∙ find_own (in_force image m) m image.lines (has_tables m).once l i (covers_it (in_force image m) l c)
+      get-from_entries nat_list_cmp_total (map (table_at m)
+      (filter (is_of_version (in_force image m)) image.lines)) l.line.table
+      ∙ find_own (in_force image m) m image.lines (has_tables m).once l i
+      (covers_it (in_force image m) l c)
 
-  entry_from : (m : ℕ) (name : List ℕ) (entry : Entry) → get (image_database image m) name ≡ Some entry → IsFrom (in_force image m) m image.lines name entry
+  entry_from : (m : ℕ) (name : List ℕ) (entry : DatabaseEntry)
+      → get (image_database image m) name ≡ Some entry
+      → IsFrom (in_force image m) m image.lines name entry
   entry_from m name entry e =
       from_find (in_force image m) m image.lines name entry
-      (sym (get-from_entries nat_list_cmp_total (map (table_at m) (filter (is_of_version (in_force image m)) image.lines)) name) ∙ e)
+      (sym (get-from_entries nat_list_cmp_total
+      (map (table_at m) (filter (is_of_version (in_force image m)) image.lines)) name) ∙ e)
 
   -- a table of the version in force has a lifeline
-  line_under : (m : ℕ) (name : List ℕ) (columns : List Column) → get (image_tables image m) name ≡ Some columns
-      → (l : StoredLine) × In l image.lines × Covers l.line.first l.line.last (in_force image m) × (l.line.table ≡ name)
+  line_under : (m : ℕ) (name : List ℕ) (columns : List Column)
+      → get (image_tables image m) name ≡ Some columns
+      → (l : StoredLine) × In l image.lines × Covers l.line.first l.line.last (in_force image m)
+      × (l.line.table ≡ name)
   line_under m name columns e =
       let h = (has_tables m).each name columns e in
-      let s = from_map (λ (l : StoredLine). l.line) h.0 image.lines h.1 in
-      (s.0, s.1, subst (λ (x : Lifeline). Covers x.first x.last (in_force image m)) (sym s.2) h.2, ap (λ (x : Lifeline). x.table) s.2 ∙ h.3)
+      let s = from_map (λ (l : StoredLine). l.line) h.0 image.lines h.1 in (
+        s.0,
+        s.1,
+        subst (λ (x : Lifeline). Covers x.first x.last (in_force image m)) (sym s.2) h.2,
+        ap (λ (x : Lifeline). x.table) s.2 ∙ h.3,
+      )
 
-  own_columns : (m : ℕ) (l : StoredLine) → In l image.lines → Covers l.line.first l.line.last (in_force image m) → get (image_tables image m) l.line.table ≡ Some l.line.columns
-  own_columns m l i c = (has_tables m).has l.line (in_map (λ (x : StoredLine). x.line) l image.lines i) c
+  own_columns : (m : ℕ) (l : StoredLine) → In l image.lines
+      → Covers l.line.first l.line.last (in_force image m)
+      → get (image_tables image m) l.line.table ≡ Some l.line.columns
+  own_columns m l i c = (has_tables m).has l.line
+      (in_map (λ (x : StoredLine). x.line) l image.lines i) c
 
-  is_entry : (m : ℕ) (name : List ℕ) (o : Option (List Column)) → get (image_tables image m) name ≡ o → (x : Option Entry) → get (image_database image m) name ≡ x → IsEntry o x
+  is_entry : (m : ℕ) (name : List ℕ) (o : Option (List Column))
+      → get (image_tables image m) name ≡ o → (x : Option DatabaseEntry)
+      → get (image_database image m) name ≡ x → IsEntry o x
   is_entry m name None e None f = tt
   is_entry m name None e (Some x) f =
       let h = entry_from m name x f in
@@ -142,20 +177,28 @@ module _ (image : Image) (is : IsImage image) where
       absurd (cc)
   is_entry m name (Some columns) e x f =
       let l = line_under m name columns e in
-      let own : Some l.0.line.columns ≡ Some columns = sym (own_columns m l.0 l.1 l.2) ∙ ap (get (image_tables image m)) l.3 ∙ e in
-      let kept : Some (Rows (relation_at (store_of l.0) m)) ≡ x = sym (own_entry m l.0 l.1 l.2) ∙ ap (get (image_database image m)) l.3 ∙ f in
-      subst (IsEntry (Some columns)) kept (subst (λ (o : Option (List Column)). IsEntry o (Some (Rows (relation_at (store_of l.0) m)))) own (shown_relation (store_of l.0) m (is.each l.0 l.1).store))
+      let own : Some l.0.line.columns ≡ Some columns = sym (own_columns m l.0 l.1 l.2)
+      ∙ ap (get (image_tables image m)) l.3 ∙ e in
+      let kept : Some (Rows (relation_at (store_of l.0) m)) ≡ x = sym (own_entry m l.0 l.1 l.2)
+      ∙ ap (get (image_database image m)) l.3 ∙ f in
+      subst (IsEntry (Some columns)) kept (subst
+      (λ (o : Option (List Column)). IsEntry o (Some (Rows (relation_at (store_of l.0) m)))) own
+      (shown_relation (store_of l.0) m (is.each l.0 l.1).store))
 
   pub is_database : (m : ℕ) → IsDatabase (image_tables image m) (image_database image m)
-  is_database m = λ name. is_entry m name (get (image_tables image m) name) refl (get (image_database image m) name) refl
+  is_database m = λ name. is_entry m name (get (image_tables image m) name) refl
+      (get (image_database image m) name) refl
 
-  holds_entry : (m : ℕ) (name : List ℕ) (x : Option Entry) → get (image_database image m) name ≡ x → EntryHolds x
+  holds_entry : (m : ℕ) (name : List ℕ) (x : Option DatabaseEntry)
+      → get (image_database image m) name ≡ x → EntryHolds x
   holds_entry m name None f = tt
   holds_entry m name (Some (Lost k i)) f = tt
   holds_entry m name (Some (Rows rows)) f =
       let h = entry_from m name (Rows rows) f in
-      let same : relation_at (store_of h.line) m ≡ rows = ap (λ (e : Entry). rows_at (Some e)) h.is in
-      λ row i v j. shown_values (store_of h.line) m (is.each h.line h.among).values row (subst (In row) (sym same) i) v j
+      let same : relation_at (store_of h.line) m ≡ rows =
+      ap (λ (e : DatabaseEntry). rows_under (Some e)) h.is in
+      λ row i v j. shown_values (store_of h.line) m (is.each h.line h.among).values row
+      (subst (In row) (sym same) i) v j
 
   pub holds_values : (m : ℕ) → HoldsValues (image_database image m)
   holds_values m = λ name. holds_entry m name (get (image_database image m) name) refl

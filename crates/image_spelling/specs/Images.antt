@@ -1,19 +1,20 @@
--- A store image: the versions of an archive and what it keeps of each table, at one moment of its life. A reader of the image needs no
--- command before it.
-use Rattle.std.specs.Prelude.{◌≡◌, ◌⊎◌, ℕ, ◌<◌, ◌≤◌, ◌^◌, List, [], ◌∷◌, length, map, Option, Some, None, ⊤}
+-- A store image: the versions of an archive and what it keeps of each table, at one moment of its
+-- life. A reader of the image needs no command before it.
+use Rattle.std.specs.Prelude.{◌≡◌, ◌⊎◌, ℕ, ◌<◌, ◌≤◌, ◌^◌, List, [], ◌∷◌, length, map, Option, Some}
+use Rattle.std.specs.Prelude.{None, ⊤}
 use Rattle.relations.specs.Sets.{In}
 use Rattle.relations.specs.Spans.{Span, forever}
-use Rattle.prima_base.specs.Columns.{IsLawful}
+use Rattle.prima_base.specs.Columns.{IsValid}
 use Rattle.table_histories.specs.Store.{Cell, Store, IsStore}
 use Rattle.smo_types.specs.Commands.{evolving, PlainVersion}
 use Rattle.smo_meaning.specs.Accepts.{most_versions}
-use Rattle.smo_meaning.specs.LawfulPast.{last_or_nought, AllInForce, AreVersions}
+use Rattle.smo_meaning.specs.ValidPast.{last_or_nought, AllInForce, AreVersions}
 use Rattle.smo_meaning.specs.Past.{no_tables}
-use Rattle.command_spelling.specs.Lawful.{BodyNamed}
+use Rattle.command_spelling.specs.Valid.{BodyNamed}
 use Rattle.lifelines.specs.Lifelines.{Lifeline, lifelines_of}
 
--- what is kept of a table over a lifeline of it: the period of each key, whose id is its place, and the entries of each column, in the
--- order of the columns' names
+-- what is kept of a table over a lifeline of it: the period of each key, whose id is its place, and
+-- the entries of each column, in the order of the columns' names
 pub record StoredLine : Type 0 where
   pub line : Lifeline
   pub keys : List Span
@@ -31,7 +32,14 @@ lines_in image = map (λ (l : StoredLine). l.line) image.lines
 
 -- a table that keeps this, without room for more and without an index of a column
 abbrev pub store_of : StoredLine → Store
-store_of l = record { columns = l.line.columns; keys = l.keys; cells = l.cells; spare = 0; indexed = [] }
+store_of l = record {
+  columns = l.line.columns;
+  keys = l.keys;
+  cells = l.cells;
+  spare = 0;
+  indexed =
+      [];
+}
 
 -- ---- what holds of an image
 
@@ -42,22 +50,24 @@ IsUpTo last moment = (moment ≡ forever) ⊎ ((m : ℕ) × (last ≡ Some m) ×
 abbrev pub EndsUpTo : Option ℕ → Span → Type 0
 EndsUpTo last p = IsUpTo last p.start × IsUpTo last p.end
 
--- what is kept over a lifeline makes a table, and the count of its keys, and that of each column's entries, are numbers of 64 bits
+-- what is kept over a lifeline makes a table, and the count of its keys, and that of each column's
+-- entries, are numbers of 64 bits
 pub record IsStoredLine (last : Option ℕ) (l : StoredLine) : Type 0 where
   pub store : IsStore (store_of l)
-  pub values : (cells : List Cell) → In cells l.cells → (c : Cell) → In c cells → IsLawful c.value
+  pub values : (cells : List Cell) → In cells l.cells → (c : Cell) → In c cells → IsValid c.value
   pub keys : (p : Span) → In p l.keys → EndsUpTo last p
-  pub entries : (cells : List Cell) → In cells l.cells → (c : Cell) → In c cells → EndsUpTo last c.period
+  pub entries : (cells : List Cell) → In cells l.cells → (c : Cell) → In c cells
+      → EndsUpTo last c.period
   pub few_keys : length l.keys < 2 ^ 64
   pub few_cells : (cells : List Cell) → In cells l.cells → length cells < 2 ^ 64
 
--- the names and the constants in each version's operator and in its inverse are lawful ones
+-- the names and the constants in each version's operator and in its inverse are valid ones
 abbrev pub VersionsNamed : List PlainVersion → Type 0
 VersionsNamed [] = ⊤
 VersionsNamed (v ∷ versions) = BodyNamed (evolving v.op v.inverse) × VersionsNamed versions
 
--- the versions are lawful, the lifelines are those that their operators give, and over each a table is kept; the last stamp is that of a
--- command, and no stamp is later
+-- the versions are valid, the lifelines are those that their operators give, and over each a table
+-- is kept; the last stamp is that of a command, and no stamp is later
 pub record IsImage (image : Image) : Type 0 where
   pub evolved : AreVersions None no_tables image.versions
   pub few : length image.versions ≤ most_versions

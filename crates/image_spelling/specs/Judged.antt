@@ -1,12 +1,13 @@
 -- What an item of an image must be, by what was read before it.
-use Rattle.std.specs.Prelude.{ℕ, ◌==◌, ◌&&◌, ◌||◌, not, Bool, true, false, List, [], ◌∷◌, map, nat_lt, nat_le, Option, Some, None, is_none}
+use Rattle.std.specs.Prelude.{ℕ, ◌==◌, ◌&&◌, ◌||◌, not, Bool, true, false, List, [], ◌∷◌, map}
+use Rattle.std.specs.Prelude.{nat_lt, nat_le, Option, Some, None, is_none}
 use Rattle.std.specs.List.{list_all, list_any, flat_map}
 use Rattle.std.specs.Ordering.{is_eq}
 use Rattle.relations.specs.Spans.{Span, forever}
 use Rattle.prima_base.specs.Columns.{has_type}
 use Rattle.prima_base.specs.Order.{row_cmp}
-use Rattle.prima_base.specs.declared.values.ColType.{ColType}
-use Rattle.prima_base.specs.declared.values.Value.{Value}
+use Rattle.prima_base.specs.declared.value.ColType.{ColType}
+use Rattle.prima_base.specs.declared.value.Value.{Value}
 use Rattle.schema_catalog.specs.Tables.{Tables}
 use Rattle.table_histories.specs.Store.{Cell, rows_from}
 use Rattle.smo_types.specs.Commands.{evolving, PlainVersion}
@@ -35,11 +36,13 @@ is_end last moment = moment == forever || is_stamp last moment
 
 -- ---- versions
 
--- behind so many versions, the last of which has this stamp and these tables, the operator is accepted as an EVOLVE of its stamp
+-- after so many versions, the last of which has this stamp and these tables, the operator is
+-- accepted as an EVOLVE of its stamp
 abbrev pub is_accepted : ℕ → Option ℕ → Tables → PlainVersion → Bool
 is_accepted number before tables v =
     (nat_lt number most_versions && is_later before v.stamp)
-    && (is_none (first_excess (evolving v.op v.inverse)) && (is_none (op_fault tables v.op) && is_none (inverse_fault tables v.op v.inverse)))
+    && (is_none (first_excess (evolving v.op v.inverse))
+    && (is_none (op_fault tables v.op) && is_none (inverse_fault tables v.op v.inverse)))
 
 abbrev pub is_version : Option ℕ → ℕ → Option ℕ → Tables → PlainVersion → Bool
 is_version last number before tables v = is_stamp last v.stamp && is_accepted number before tables v

@@ -18,7 +18,8 @@ abbrev pub columns_length : List Written → ℕ
 columns_length [] = 0
 columns_length (w ∷ columns) = column_length w + columns_length columns
 
--- a lifeline's first and last version and its table, a count of keys, each of which is a period, and its columns
+-- a lifeline's first and last version and its table, a count of keys, each of which is a period,
+-- and its columns
 abbrev pub size_length : Size → ℕ
 size_length s = (9 + length s.table) + ((8 + 16 * s.keys) + columns_length s.columns)
 

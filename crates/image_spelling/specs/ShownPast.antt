@@ -1,11 +1,13 @@
--- The past that an image shows: its versions, its last stamp, and at each moment the database that its tables have then.
-use Rattle.std.specs.Prelude.{ℕ, ◌+◌, ◌==◌, ◌&&◌, ◌||◌, not, List, [], ◌∷◌, ◌++◌, length, map, Option, Some, None, nat_le, nat_lt, Bool, true, false, if◌then◌else◌}
+-- The past that an image shows: its versions, its last stamp, and at each moment the database that
+-- its tables have then.
+use Rattle.std.specs.Prelude.{ℕ, ◌+◌, ◌==◌, ◌&&◌, ◌||◌, not, List, [], ◌∷◌, ◌++◌, length, map}
+use Rattle.std.specs.Prelude.{Option, Some, None, nat_le, nat_lt, Bool, true, false, if◌then◌else◌}
 use Rattle.std.specs.List.{filter, flat_map}
 use Rattle.std.specs.FinMap.{from_entries}
 use Rattle.std.specs.Ordering.{nat_cmp}
 use Rattle.relations.specs.Sets.{set_of}
 use Rattle.relations.specs.Spans.{Span, forever}
-use Rattle.schema_catalog.specs.Databases.{Database, Rows, Entry}
+use Rattle.schema_catalog.specs.Databases.{Database, Rows, DatabaseEntry}
 use Rattle.table_histories.specs.Store.{Cell, relation_at, weight}
 use Rattle.smo_types.specs.Commands.{PlainVersion}
 use Rattle.smo_meaning.specs.Effects.{gained, lost}
@@ -24,12 +26,13 @@ abbrev pub is_of_version : ℕ → StoredLine → Bool
 is_of_version k l = nat_le l.line.first k && goes_to l.line.last k
 
 -- what its table has at the moment
-abbrev pub table_at : ℕ → StoredLine → List ℕ × Entry
+abbrev pub table_at : ℕ → StoredLine → List ℕ × DatabaseEntry
 table_at m l = (l.line.table, Rows (relation_at (store_of l) m))
 
 -- the database at the moment: that of the version which is in force then
 abbrev pub image_database : Image → ℕ → Database
-image_database image m = from_entries (map (table_at m) (filter (is_of_version (length (begun_at m image.versions))) image.lines))
+image_database image m = from_entries (map (table_at m)
+    (filter (is_of_version (length (begun_at m image.versions))) image.lines))
 
 -- ---- states
 
@@ -38,11 +41,13 @@ abbrev pub stamps_of : Span → List ℕ
 stamps_of p = p.start ∷ (if p.end == forever then [] else p.end ∷ [])
 
 abbrev pub line_stamps : StoredLine → List ℕ
-line_stamps l = flat_map stamps_of l.keys ++ flat_map (λ (column : List Cell). flat_map (λ (c : Cell). stamps_of c.period) column) l.cells
+line_stamps l = flat_map stamps_of l.keys ++ flat_map
+    (λ (column : List Cell). flat_map (λ (c : Cell). stamps_of c.period) column) l.cells
 
 -- all of them and those of the versions, but for moment 0; ascending, each once
 abbrev pub image_stamps : Image → List ℕ
-image_stamps image = set_of nat_cmp (filter (λ m. nat_lt 0 m) (map (λ (v : PlainVersion). v.stamp) image.versions ++ flat_map line_stamps image.lines))
+image_stamps image = set_of nat_cmp (filter (λ m. nat_lt 0 m)
+    (map (λ (v : PlainVersion). v.stamp) image.versions ++ flat_map line_stamps image.lines))
 
 abbrev pub begins_at : List PlainVersion → ℕ → Bool
 begins_at [] m = false
@@ -68,7 +73,14 @@ abbrev pub cells_written : List Cell → Written
 cells_written cells = record { cells = length cells; bytes = weight value_bytes cells }
 
 abbrev pub line_size : StoredLine → Size
-line_size l = record { table = l.line.table; first = l.line.first; last = l.line.last; keys = length l.keys; columns = map cells_written l.cells }
+line_size l = record {
+  table = l.line.table;
+  first = l.line.first;
+  last = l.line.last;
+  keys =
+      length l.keys;
+  columns = map cells_written l.cells;
+}
 
 -- ---- the past
 

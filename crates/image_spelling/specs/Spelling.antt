@@ -1,10 +1,12 @@
--- The bytes of a store image. Numbers are unsigned, their highest byte first; names, values and operators are spelled as in a command.
+-- The bytes of a store image. Numbers are unsigned, their highest byte first; names, values and
+-- operators are spelled as in a command.
 use Rattle.std.specs.Prelude.{ℕ, List, ◌∷◌, ◌++◌, Option, Some, None}
 use Rattle.std.specs.List.{flat_map}
 use Rattle.relations.specs.Spans.{Span}
 use Rattle.table_histories.specs.Store.{Cell}
 use Rattle.smo_types.specs.Commands.{PlainVersion}
-use Rattle.command_spelling.specs.Spelling.{number, name_bytes, value_bytes, operator_bytes, list_bytes}
+use Rattle.command_spelling.specs.Spelling.{number, name_bytes, value_bytes, operator_bytes}
+use Rattle.command_spelling.specs.Spelling.{list_bytes}
 use Rattle.lifelines.specs.Lifelines.{Lifeline}
 use Rattle.image_spelling.specs.Images.{StoredLine, Image}
 
@@ -34,9 +36,12 @@ cell_bytes c = number 8 c.id ++ value_bytes c.value ++ span_bytes c.period
 abbrev pub line_bytes : Lifeline → List ℕ
 line_bytes l = number 4 l.first ++ number 4 (last_number l.last) ++ name_bytes l.table
 
--- and behind them its keys, and the entries of each column, of which there are as many lists as the table has columns
+-- and after them its keys, and the entries of each column, of which there are as many lists as the
+-- table has columns
 abbrev pub stored_bytes : StoredLine → List ℕ
-stored_bytes l = line_bytes l.line ++ list_bytes 8 span_bytes l.keys ++ flat_map (list_bytes 8 cell_bytes) l.cells
+stored_bytes l = line_bytes l.line ++ list_bytes 8 span_bytes l.keys
+    ++ flat_map (list_bytes 8 cell_bytes) l.cells
 
 abbrev pub image_bytes : Image → List ℕ
-image_bytes image = last_bytes image.last ++ list_bytes 4 version_bytes image.versions ++ list_bytes 4 stored_bytes image.lines
+image_bytes image = last_bytes image.last ++ list_bytes 4 version_bytes image.versions
+    ++ list_bytes 4 stored_bytes image.lines

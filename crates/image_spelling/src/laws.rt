@@ -5,11 +5,11 @@ ghost use Rattle.std.specs.FinMap.{get};
 ghost use Rattle.relations.specs.Sets.{In};
 ghost use Rattle.relations.specs.Spans.{forever};
 ghost use Rattle.table_histories.specs.Store.{relation_at};
-ghost use Rattle.smo_meaning.specs.Effects.{rows_at};
-ghost use Rattle.smo_meaning.specs.LawfulPast.{IsPast, last_or_nought};
-ghost use Rattle.smo_meaning.specs.LawfulValues.{PastHolds};
+ghost use Rattle.smo_meaning.specs.Effects.{rows_under};
+ghost use Rattle.smo_meaning.specs.ValidPast.{IsPast, last_or_nought};
+ghost use Rattle.smo_meaning.specs.ValidValues.{PastHolds};
 ghost use Rattle.smo_meaning.specs.Past.{version_at, database_at};
-ghost use Rattle.command_spelling.specs.Reading.{Got, Stuck};
+ghost use Rattle.command_spelling.specs.Reading.{Parsed, Unexpected};
 ghost use Rattle.lifelines.specs.Lifelines.{Covers};
 ghost use Rattle.image_spelling.specs.Images.{StoredLine, Image, IsImage, store_of};
 ghost use Rattle.image_spelling.specs.Spelling.{image_bytes};
@@ -18,36 +18,45 @@ ghost use Rattle.image_spelling.specs.ShownPast.{image_past};
 ghost use Rattle.image_spelling.specs.Lengths.{image_length};
 ghost use Rattle.smo_meaning.specs.Past.{Past};
 
-/// The reader of images reads each image from its bytes; and what it reads is an image, of just these bytes.
+/// The reader of images reads each image from its bytes; and what it reads is an image, of just
+/// these bytes.
 pub fn an_image_is_what_is_read()
-    ensures right { (bytes : List ℕ) (i : Image) (rest : List ℕ) → spec.image bytes ≡ Got i rest → IsImage i × (bytes ≡ image_bytes i) × (rest ≡ []) }
-    ensures complete { (i : Image) → IsImage i → spec.image (image_bytes i) ≡ Got i [] }
+    ensures right { (bytes : List ℕ) (i : Image) (rest : List ℕ) → spec.image bytes ≡ Parsed i rest
+        → IsImage i × (bytes ≡ image_bytes i) × (rest ≡ []) }
+    ensures complete { (i : Image) → IsImage i → spec.image (image_bytes i) ≡ Parsed i [] }
 {}
 
-/// Bytes are an image, or break at a place: where the reader stops, what is left is an end of the bytes, and no image has them.
-/// And no two images have the same bytes.
+/// Bytes are an image, or break at a place: where the reader stops, what is left is an end of the
+/// bytes, and no image has them. And no two images have the same bytes.
 pub fn bytes_are_an_image_or_break()
-    ensures place { (bytes rest : List ℕ) → spec.image bytes ≡ Stuck rest → (front : List ℕ) × (bytes ≡ front ++ rest) }
-    ensures none { (bytes rest : List ℕ) → spec.image bytes ≡ Stuck rest → (i : Image) → IsImage i → bytes ≡ image_bytes i → ⊥ }
+    ensures place { (bytes rest : List ℕ) → spec.image bytes ≡ Unexpected rest → (prefix : List ℕ)
+        × (bytes ≡ prefix ++ rest) }
+    ensures none { (bytes rest : List ℕ) → spec.image bytes ≡ Unexpected rest → (i : Image)
+        → IsImage i → bytes ≡ image_bytes i → ⊥ }
     ensures one { (i j : Image) → IsImage i → IsImage j → image_bytes i ≡ image_bytes j → i ≡ j }
 {}
 
-/// What an image shows is a past that accepted commands can have made, with lawful values; and at each moment the database has of each
-/// table of the version then in force what is kept over its lifeline.
+/// What an image shows is a past that accepted commands can have made, with valid values; and at
+/// each moment the database has of each table of the version then in force what is kept over its
+/// lifeline.
 pub fn an_image_shows_a_past()
     ensures past { (n : ℕ) (i : Image) → IsImage i → IsPast (image_past n i) }
     ensures values { (n : ℕ) (i : Image) → IsImage i → PastHolds (image_past n i) }
-    ensures tables { (n : ℕ) (i : Image) → IsImage i → (m : ℕ) → m < forever → (l : StoredLine) → In l i.lines → Covers l.line.first l.line.last (version_at (image_past n i) m)
-        → rows_at (get (database_at (image_past n i) m) l.line.table) ≡ relation_at (store_of l) m }
+    ensures tables { (n : ℕ) (i : Image) → IsImage i → (m : ℕ) → m < forever → (l : StoredLine)
+        → In l i.lines → Covers l.line.first l.line.last (version_at (image_past n i) m)
+        → rows_under (get (database_at (image_past n i) m) l.line.table)
+        ≡ relation_at (store_of l) m }
 {}
 
 /// The past that an image shows tells how many bytes it has.
 pub fn an_image_has_its_length()
-    ensures { (n : ℕ) (i : Image) → IsImage i → length (image_bytes i) ≡ image_length (image_past n i) }
+    ensures { (n : ℕ) (i : Image) → IsImage i
+        → length (image_bytes i) ≡ image_length (image_past n i) }
 {}
 
 /// A past is known by its versions, its last stamp, its counts and its database at each moment.
 pub fn a_past_is_what_it_shows()
-    ensures { (p q : Past) → IsPast p → IsPast q → last_or_nought p.last < forever → p.versions ≡ q.versions → p.last ≡ q.last → p.commands ≡ q.commands → p.sizes ≡ q.sizes
+    ensures { (p q : Past) → IsPast p → IsPast q → last_or_nought p.last < forever
+        → p.versions ≡ q.versions → p.last ≡ q.last → p.commands ≡ q.commands → p.sizes ≡ q.sizes
         → ((m : ℕ) → m < forever → database_at p m ≡ database_at q m) → p ≡ q }
 {}

@@ -1,7 +1,9 @@
-//! The bytes of store images: which bytes are an image, where others break, and the past that an image shows.
+//! The bytes of store images: which bytes are an image, where others break, and the past that an
+//! image shows.
 //!
-//! What an image has stands in `specs/Images.antt`, with what holds of it; its bytes in `specs/Spelling.antt`. The reader from the front
-//! (`specs/Reader.antt`) says where bytes that are no image break: each item is judged by what was read before it.
+//! What an image has stands in `specs/Images.antt`, with what holds of it; its bytes in
+//! `specs/Spelling.antt`. The reader from the start (`specs/Reader.antt`) says where bytes that are
+//! no image break: each item is judged by what was read before it.
 #![tactic(auto)]
 
 mod laws;

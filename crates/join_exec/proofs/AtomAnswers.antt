@@ -8,12 +8,12 @@ use Rattle.relations.specs.Spans.{Span, covers}
 use Rattle.relations.proofs.SetLaws.{set_ascends, set_same}
 use Rattle.prima_base.specs.Order.{row_cmp, bytes_cmp}
 use Rattle.prima_base.specs.OrderLaws.{row_exact, bytes_exact}
-use Rattle.prima_base.specs.declared.values.Value.{Value}
-use Rattle.prima_base.specs.declared.timed_rows.TimedRow.{TimedRow}
+use Rattle.prima_base.specs.declared.value.Value.{Value}
+use Rattle.prima_base.specs.declared.timed_row.TimedRow.{TimedRow}
 use Rattle.prima_base.specs.Columns.{Column, names_of}
 use Rattle.prima_base.specs.Timed.{rows_at}
 use Rattle.schema_catalog.specs.Databases.{cell}
-use Rattle.cond_expr.specs.declared.exprs.ColRef.{ColRef}
+use Rattle.cond_expr.specs.declared.expr.ColRef.{ColRef}
 use Rattle.cond_expr.specs.Trees.{Tree, Test, always}
 use Rattle.smo_meaning.specs.OneRow.{Row, Relation, meets}
 use Rattle.smo_meaning.specs.Making.{named}
@@ -27,16 +27,17 @@ use Rattle.plain_answers.specs.Reading.{Read, read_of, read_rows, AsMany, AreEno
 use Rattle.plain_answers.specs.Reading.{read_columns as columns_left}
 use Rattle.plain_answers.proofs.NameLaws.{in_names_at}
 use Rattle.plain_answers.proofs.ReadLaws.{same_answers}
-use Rattle.joining.specs.declared.sources.Atom.{Atom}
-use Rattle.joining.specs.Sources.{AtomsLent, atom_rows, IsNumbered, AreNumbered, HaveAtoms}
-use Rattle.timed_choices.specs.Lending.{AllLent}
+use Rattle.joining.specs.declared.source.Atom.{Atom}
+use Rattle.joining.specs.Sources.{AtomsBorrowed, atom_rows, IsNumbered, AreNumbered, HaveAtoms}
+use Rattle.timed_choices.specs.Lending.{AllBorrowed}
 use Rattle.join_exec.specs.Pieces.{columns_stored, stored_columns, stored_rows}
 use Rattle.join_exec.specs.Atoms.{IsReadOf, AreRead, IsReadable, AreReadable}
 use Rattle.join_exec.proofs.LeftNames.{names_left}
 
 -- ---- rows of which columns are left
 
-by_names : (f : List ℕ → Value) (columns : List Column) → map (λ (c : Column). f c.0) columns ≡ map f (names_of columns)
+by_names : (f : List ℕ → Value) (columns : List Column)
+    → map (λ (c : Column). f c.0) columns ≡ map f (names_of columns)
 by_names f [] = refl
 by_names f (c ∷ columns) = ap (λ (vs : List Value). f c.0 ∷ vs) (by_names f columns)
 
@@ -44,11 +45,17 @@ all_kept : (columns : List Column) (rows : Relation) → filter (meets columns a
 all_kept columns [] = refl
 all_kept columns (row ∷ rows) = ap (λ (xs : Relation). row ∷ xs) (all_kept columns rows)
 
-read_is : (ns : List (List ℕ)) (columns : List Column) (rows : Relation) → names_of (named ns columns) ≡ ns
-    → set_of row_cmp (map (λ row. map (cell columns row) ns) rows) ≡ read_of (record { test = always; names = ns }) columns rows
+read_is : (ns : List (List ℕ)) (columns : List Column) (rows : Relation)
+    → names_of (named ns columns) ≡ ns
+    → set_of row_cmp (map (λ row. map (cell columns row) ns) rows)
+    ≡ read_of (record { test = always; names = ns }) columns rows
 read_is ns columns rows e = sym (
-    ap (λ (rs : Relation). set_of row_cmp (map (λ row. map (λ (c : Column). cell columns row c.0) (named ns columns)) rs)) (all_kept columns rows)
-    ∙ ap (λ (f : Row → Row). set_of row_cmp (map f rows)) (fun_ext (λ row. by_names (cell columns row) (named ns columns) ∙ ap (map (cell columns row)) e)))
+    ap (λ (rs : Relation). set_of row_cmp (map
+    (λ row. map (λ (c : Column). cell columns row c.0) (named ns columns)) rs))
+    (all_kept columns rows)
+    ∙ ap (λ (f : Row → Row). set_of row_cmp (map f rows))
+    (fun_ext (λ row. by_names (cell columns row) (named ns columns)
+    ∙ ap (map (cell columns row)) e)))
 
 -- ---- one atom
 
@@ -57,18 +64,22 @@ module _ (slice : Span) (i : ℕ) (ns : List (List ℕ)) (a : Atom) where
   number_of None h = absurd h
   number_of (Some s) h = h.number
 
-  columns_are : (o : Option Store) → IsReadOf o slice i ns a → a.columns.items ≡ columns_at i (named ns (columns_stored o))
+  columns_are : (o : Option Store) → IsReadOf o slice i ns a
+      → a.columns.items ≡ columns_at i (named ns (columns_stored o))
   columns_are None h = absurd h
   columns_are (Some s) h = h.columns
 
-  lent_of : (o : Option Store) → IsReadOf o slice i ns a → AllLent a.rows.items
-  lent_of None h = absurd h
-  lent_of (Some s) h = h.lent
+  borrowed_of : (o : Option Store) → IsReadOf o slice i ns a → AllBorrowed a.rows.items
+  borrowed_of None h = absurd h
+  borrowed_of (Some s) h = h.borrowed
 
-  rows_are : (o : Option Store) (m : ℕ) → Ascends bytes_cmp ns → IsReadOf o slice i ns a → IsReadable o ns → covers slice m ≡ true
-      → rows_at a.rows.items m ≡ read_of (record { test = always; names = ns }) (columns_stored o) (rows_stored m o)
+  rows_are : (o : Option Store) (m : ℕ) → Ascends bytes_cmp ns → IsReadOf o slice i ns a
+      → IsReadable o ns → covers slice m ≡ true
+      → rows_at a.rows.items m ≡ read_of (record { test = always; names = ns }) (columns_stored o)
+      (rows_stored m o)
   rows_are None m up h w k = absurd h
-  rows_are (Some s) m up h w k = h.rows m k ∙ read_is ns s.columns (relation_at s m) (names_left ns s.columns up h.stored.columns w)
+  rows_are (Some s) m up h w k = h.rows m k ∙ read_is ns s.columns (relation_at s m)
+      (names_left ns s.columns up h.stored.columns w)
 
 -- ---- all of them
 
@@ -86,13 +97,19 @@ module _ (kept : Kept) (k : ℕ) (slice : Span) (rs : List ColRef) where
   pub ascending : (i : ℕ) → Ascends bytes_cmp (names_at i rs)
   ascending i = set_ascends bytes_cmp bytes_exact (written_names (filter (is_to i) rs))
 
-  pub have_atoms : (i : ℕ) (tables : List (List ℕ)) (atoms : List Atom) → Taken i tables atoms → HaveAtoms i (its_columns i tables) atoms
+  pub have_atoms : (i : ℕ) (tables : List (List ℕ)) (atoms : List Atom) → Taken i tables atoms
+      → HaveAtoms i (its_columns i tables) atoms
   have_atoms i [] [] h = tt
   have_atoms i [] (a ∷ atoms) h = absurd h
   have_atoms i (n ∷ tables) [] h = absurd h
-  have_atoms i (n ∷ tables) (a ∷ atoms) h = (columns_are slice i (names_at i rs) a (table_in kept k n) h.0, have_atoms (i + 1) tables atoms h.1)
+  have_atoms i (n ∷ tables) (a ∷ atoms) h = (
+    columns_are slice i (names_at i rs) a
+        (table_in kept k n) h.0,
+    have_atoms (i + 1) tables atoms h.1,
+  )
 
-  numbered_from : (i j : ℕ) (tables : List (List ℕ)) (atoms : List Atom) → j < i → Taken i tables atoms → IsNumbered j atoms
+  numbered_from : (i j : ℕ) (tables : List (List ℕ)) (atoms : List Atom) → j < i
+      → Taken i tables atoms → IsNumbered j atoms
   numbered_from i j [] [] l h = tt
   numbered_from i j [] (a ∷ atoms) l h = absurd h
   numbered_from i j (n ∷ tables) [] l h = absurd h
@@ -100,34 +117,48 @@ module _ (kept : Kept) (k : ℕ) (slice : Span) (rs : List ColRef) where
       let e = number_of slice i (names_at i rs) a (table_in kept k n) h.0 in
       (λ q. omega arith, numbered_from (i + 1) j tables atoms (omega arith) h.1)
 
-  pub are_numbered : (i : ℕ) (tables : List (List ℕ)) (atoms : List Atom) → Taken i tables atoms → AreNumbered atoms
+  pub are_numbered : (i : ℕ) (tables : List (List ℕ)) (atoms : List Atom) → Taken i tables atoms
+      → AreNumbered atoms
   are_numbered i [] [] h = tt
   are_numbered i [] (a ∷ atoms) h = absurd h
   are_numbered i (n ∷ tables) [] h = absurd h
   are_numbered i (n ∷ tables) (a ∷ atoms) h =
-      let e = number_of slice i (names_at i rs) a (table_in kept k n) h.0 in
-      (numbered_from (i + 1) a.number tables atoms (omega arith) h.1, are_numbered (i + 1) tables atoms h.1)
+      let e = number_of slice i (names_at i rs) a (table_in kept k n) h.0 in (
+        numbered_from (i + 1) a.number tables atoms (omega arith) h.1,
+        are_numbered (i + 1) tables atoms h.1,
+      )
 
-  pub atoms_lent : (i : ℕ) (tables : List (List ℕ)) (atoms : List Atom) → Taken i tables atoms → AtomsLent atoms
-  atoms_lent i [] [] h = tt
-  atoms_lent i [] (a ∷ atoms) h = absurd h
-  atoms_lent i (n ∷ tables) [] h = absurd h
-  atoms_lent i (n ∷ tables) (a ∷ atoms) h = (lent_of slice i (names_at i rs) a (table_in kept k n) h.0, atoms_lent (i + 1) tables atoms h.1)
+  pub atoms_borrowed : (i : ℕ) (tables : List (List ℕ)) (atoms : List Atom) → Taken i tables atoms
+      → AtomsBorrowed atoms
+  atoms_borrowed i [] [] h = tt
+  atoms_borrowed i [] (a ∷ atoms) h = absurd h
+  atoms_borrowed i (n ∷ tables) [] h = absurd h
+  atoms_borrowed i (n ∷ tables) (a ∷ atoms) h = (
+    borrowed_of slice i (names_at i rs) a (table_in kept k n) h.0,
+    atoms_borrowed (i + 1) tables atoms h.1,
+  )
 
-  rows_left : (m : ℕ) → covers slice m ≡ true → (i : ℕ) (tables : List (List ℕ)) (atoms : List Atom) → AreRead kept k slice rs i tables atoms → AreReadable kept k rs i tables
-      → atom_rows atoms m ≡ read_rows (its_reads i tables) (stored_columns kept k tables) (stored_rows kept k tables m)
+  rows_left : (m : ℕ) → covers slice m ≡ true → (i : ℕ) (tables : List (List ℕ)) (atoms : List Atom)
+      → AreRead kept k slice rs i tables atoms → AreReadable kept k rs i tables
+      → atom_rows atoms m ≡ read_rows (its_reads i tables) (stored_columns kept k tables)
+      (stored_rows kept k tables m)
   rows_left m c i [] [] h w = refl
   rows_left m c i [] (a ∷ atoms) h w = absurd h
   rows_left m c i (n ∷ tables) [] h w = absurd h
   rows_left m c i (n ∷ tables) (a ∷ atoms) h w =
-      ap (λ (r : Relation). r ∷ atom_rows atoms m) (rows_are slice i (names_at i rs) a (table_in kept k n) m (ascending i) h.0 w.0 c)
-      ∙ ap (λ (more : List Relation). read_of (record { test = always; names = names_at i rs }) (columns_stored (table_in kept k n)) (rows_stored m (table_in kept k n)) ∷ more) (rows_left m c (i + 1) tables atoms h.1 w.1)
+      ap (λ (r : Relation). r ∷ atom_rows atoms m)
+      (rows_are slice i (names_at i rs) a (table_in kept k n) m (ascending i) h.0 w.0 c)
+      ∙ ap (λ (more : List Relation). read_of (record { test = always; names = names_at i rs })
+      (columns_stored (table_in kept k n)) (rows_stored m (table_in kept k n)) ∷ more)
+      (rows_left m c (i + 1) tables atoms h.1 w.1)
 
-  as_many : (i : ℕ) (tables : List (List ℕ)) → AsMany (its_reads i tables) (stored_columns kept k tables)
+  as_many : (i : ℕ) (tables : List (List ℕ)) → AsMany (its_reads i tables)
+      (stored_columns kept k tables)
   as_many i [] = tt
   as_many i (n ∷ tables) = as_many (i + 1) tables
 
-  as_many_rows : (m : ℕ) (tables : List (List ℕ)) → AsMany (stored_columns kept k tables) (stored_rows kept k tables m)
+  as_many_rows : (m : ℕ) (tables : List (List ℕ))
+      → AsMany (stored_columns kept k tables) (stored_rows kept k tables m)
   as_many_rows m [] = tt
   as_many_rows m (n ∷ tables) = as_many_rows m tables
 
@@ -135,18 +166,30 @@ module _ (kept : Kept) (k : ℕ) (slice : Span) (outs : List Tree) (c : Test) wh
   abbrev rs : List ColRef
   rs = all_references outs c
 
-  enough : (i : ℕ) (tables : List (List ℕ)) → AreEnough i (its_reads kept k slice rs i tables) outs c
+  enough : (i : ℕ) (tables : List (List ℕ)) → AreEnough i (its_reads kept k slice rs i tables) outs
+      c
   enough i [] = tt
-  enough i (n ∷ tables) = (record { part = λ t m. absurd m; keeps = λ x m. in_names_at i rs x m }, enough (i + 1) tables)
+  enough i (n ∷ tables) = (
+    record { part = λ t m. absurd m; keeps = λ x m. in_names_at i rs x m },
+    enough (i + 1) tables,
+  )
 
-  pub atoms_answer : (tables : List (List ℕ)) (atoms : List Atom) (rows : List TimedRow) (m : ℕ) → covers slice m ≡ true → AreRead kept k slice rs 0 tables atoms → AreReadable kept k rs 0 tables
-      → rows_at rows m ≡ set_of row_cmp (answers_over (its_columns kept k slice rs 0 tables) (atom_rows atoms m) outs c)
-      → rows_at rows m ≡ set_of row_cmp (answers_over (stored_columns kept k tables) (stored_rows kept k tables m) outs c)
+  pub atoms_answer : (tables : List (List ℕ)) (atoms : List Atom) (rows : List TimedRow) (m : ℕ)
+      → covers slice m ≡ true → AreRead kept k slice rs 0 tables atoms
+      → AreReadable kept k rs 0 tables
+      → rows_at rows m ≡ set_of row_cmp (answers_over (its_columns kept k slice rs 0 tables)
+      (atom_rows atoms m) outs c)
+      → rows_at rows m ≡ set_of row_cmp (answers_over (stored_columns kept k tables)
+      (stored_rows kept k tables m) outs c)
   atoms_answer tables atoms rows m inside h w e =
       let reads = its_reads kept k slice rs 0 tables in
       let columns = stored_columns kept k tables in
       let relations = stored_rows kept k tables m in
       e
-      ∙ ap (λ (rels : List Relation). set_of row_cmp (answers_over (columns_left reads columns) rels outs c)) (rows_left kept k slice rs m inside 0 tables atoms h w)
-      ∙ set_same row_cmp row_exact (answers_over (columns_left reads columns) (read_rows reads columns relations) outs c) (answers_over columns relations outs c)
-      (same_answers outs c reads columns relations (as_many kept k slice rs 0 tables) (as_many_rows kept k slice rs m tables) (enough 0 tables))
+      ∙ ap (λ (rels : List Relation). set_of row_cmp
+      (answers_over (columns_left reads columns) rels outs c))
+      (rows_left kept k slice rs m inside 0 tables atoms h w)
+      ∙ set_same row_cmp row_exact (answers_over (columns_left reads columns)
+      (read_rows reads columns relations) outs c) (answers_over columns relations outs c)
+      (same_answers outs c reads columns relations (as_many kept k slice rs 0 tables)
+      (as_many_rows kept k slice rs m tables) (enough 0 tables))

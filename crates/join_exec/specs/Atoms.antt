@@ -7,33 +7,38 @@ use Rattle.prima_base.specs.Timed.{rows_at}
 use Rattle.schema_catalog.specs.Databases.{cell}
 use Rattle.history_store.specs.Store.{Store, relation_at, IsStore}
 use Rattle.version_groups.specs.Groups.{Kept, table_in}
-use Rattle.cond_expr.specs.declared.exprs.ColRef.{ColRef}
+use Rattle.cond_expr.specs.declared.expr.ColRef.{ColRef}
 use Rattle.cond_expr.specs.AtomColumns.{columns_at}
 use Rattle.smo_meaning.specs.Making.{named}
 use Rattle.plain_answers.specs.Naming.{names_at}
-use Rattle.timed_choices.specs.Lending.{AllLent}
-use Rattle.joining.specs.declared.sources.Atom.{Atom}
+use Rattle.timed_choices.specs.Lending.{AllBorrowed}
+use Rattle.joining.specs.declared.source.Atom.{Atom}
 use Rattle.join_exec.specs.Reading.{AreNames}
 
--- the atom has this number, and at each moment of the slice what the table has in these columns; its values are lent
-pub record IsRead (s : Store) (slice : Span) (i : ℕ) (names : List (List ℕ)) (a : Atom) : Type 0 where
+-- the atom has this number, and at each moment of the slice what the table has in these columns;
+-- its values are borrowed
+pub record IsRead (s : Store) (slice : Span) (i : ℕ) (names : List (List ℕ)) (a : Atom) :
+    Type 0 where
   pub stored : IsStore s
   pub number : a.number ≡ i
   pub columns : a.columns.items ≡ columns_at i (named names s.columns)
-  pub lent : AllLent a.rows.items
-  pub rows : (m : ℕ) → covers slice m ≡ true → rows_at a.rows.items m ≡ set_of row_cmp (map (λ row. map (cell s.columns row) names) (relation_at s m))
+  pub borrowed : AllBorrowed a.rows.items
+  pub rows : (m : ℕ) → covers slice m ≡ true → rows_at a.rows.items m
+      ≡ set_of row_cmp (map (λ row. map (cell s.columns row) names) (relation_at s m))
 
 abbrev pub IsReadOf : Option Store → Span → ℕ → List (List ℕ) → Atom → Type 0
 IsReadOf None slice i names a = ⊥
 IsReadOf (Some s) slice i names a = IsRead s slice i names a
 
--- each of the tables of version k, the first of which is the atom with this number, in the columns that are named of it
+-- each of the tables of version k, the first of which is the atom with this number, in the columns
+-- that are named of it
 abbrev pub AreRead : Kept → ℕ → Span → List ColRef → ℕ → List (List ℕ) → List Atom → Type 0
 AreRead kept k slice references i [] [] = ⊤
 AreRead kept k slice references i [] (a ∷ atoms) = ⊥
 AreRead kept k slice references i (n ∷ tables) [] = ⊥
 AreRead kept k slice references i (n ∷ tables) (a ∷ atoms) =
-    IsReadOf (table_in kept k n) slice i (names_at i references) a × AreRead kept k slice references (i + 1) tables atoms
+    IsReadOf (table_in kept k n) slice i (names_at i references) a
+    × AreRead kept k slice references (i + 1) tables atoms
 
 -- the table is stored, and has each of these columns
 abbrev pub IsReadable : Option Store → List (List ℕ) → Type 0
@@ -43,4 +48,6 @@ IsReadable (Some s) names = AreNames s.columns names
 -- so is each of the tables, with the columns that are named of it
 abbrev pub AreReadable : Kept → ℕ → List ColRef → ℕ → List (List ℕ) → Type 0
 AreReadable kept k references i [] = ⊤
-AreReadable kept k references i (n ∷ tables) = IsReadable (table_in kept k n) (names_at i references) × AreReadable kept k references (i + 1) tables
+AreReadable kept k references i (n ∷ tables) =
+    IsReadable (table_in kept k n) (names_at i references)
+    × AreReadable kept k references (i + 1) tables

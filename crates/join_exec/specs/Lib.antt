@@ -1,5 +1,5 @@
 pub mod Atoms
-pub mod LentValues
+pub mod BorrowedValues
 pub mod Merging
 pub mod Parts
 pub mod Pieces

@@ -1,5 +1,7 @@
--- How two lists of parts, both in turn, are merged: of each two that meet the common moments are kept.
-use Rattle.std.specs.Prelude.{ℕ, ◌==◌, Bool, false, nat_le, nat_lt, List, [], ◌∷◌, ◌++◌, Option, Some, None, if◌then◌else◌}
+-- How two lists of parts, both in turn, are merged: of each two that meet the common moments are
+-- kept.
+use Rattle.std.specs.Prelude.{ℕ, ◌==◌, Bool, false, nat_le, nat_lt, List, [], ◌∷◌, ◌++◌, Option}
+use Rattle.std.specs.Prelude.{Some, None, if◌then◌else◌}
 use Rattle.std.specs.List.{flat_map}
 use Rattle.relations.specs.Spans.{Span, common}
 use Rattle.join_exec.specs.Parts.{Part}
@@ -27,7 +29,8 @@ in_both make a b = part_in a.id (make a.item b.item) (shared a b)
 abbrev pub is_over : {X Y : Type 0} → Part X → Part Y → Bool
 is_over a b = if a.id == b.id then nat_le a.period.end b.period.end else nat_lt a.id b.id
 
--- what an entry gives with the parts up to the first that goes on behind it, and the parts from that one on
+-- what an entry gives with the parts up to the first that goes on after it, and the parts from that
+-- one on
 abbrev pub given : {X Y Z : Type 0} → (X → Y → Z) → List (Part X) → Part Y → List (Part Z)
 given make [] b = []
 given make (a ∷ parts) b = in_both make a b ++ (if is_over a b then given make parts b else [])
@@ -36,7 +39,7 @@ abbrev pub left_by : {X Y : Type 0} → List (Part X) → Part Y → List (Part 
 left_by [] b = []
 left_by (a ∷ parts) b = if is_over a b then left_by parts b else a ∷ parts
 
--- what all entries give, one behind the other
+-- what all entries give, one after the other
 abbrev pub merged : {X Y Z : Type 0} → (X → Y → Z) → List (Part X) → List (Part Y) → List (Part Z)
 merged make parts [] = []
 merged make parts (b ∷ entries) = given make parts b ++ merged make (left_by parts b) entries

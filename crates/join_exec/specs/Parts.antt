@@ -10,11 +10,14 @@ pub record Part (X : Type 0) : Type 0 where
 
 -- at the moment the row with the id has the item
 abbrev pub Has : {X : Type 0} → List (Part X) → ℕ → X → ℕ → Type 0
-Has {X} parts id x m = (p : Part X) × In p parts × (p.id ≡ id) × (p.item ≡ x) × (covers p.period m ≡ true)
+Has {X} parts id x m = (p : Part X) × In p parts × (p.id ≡ id) × (p.item ≡ x)
+    × (covers p.period m ≡ true)
 
 -- at the moment the row with the id has an item of each, and the two make this one
-abbrev pub HasBoth : {X Y Z : Type 0} → (X → Y → Z) → List (Part X) → List (Part Y) → ℕ → Z → ℕ → Type 0
-HasBoth {X} {Y} make xs ys id z m = (x : X) × (y : Y) × (z ≡ make x y) × Has xs id x m × Has ys id y m
+abbrev pub HasBoth : {X Y Z : Type 0} → (X → Y → Z) → List (Part X) → List (Part Y) → ℕ → Z → ℕ
+    → Type 0
+HasBoth {X} {Y} make xs ys id z m = (x : X) × (y : Y) × (z ≡ make x y) × Has xs id x m
+    × Has ys id y m
 
 -- it is of a lower id, or of the same and over when the other begins
 abbrev pub Precedes : {X Y : Type 0} → Part X → Part Y → Type 0

@@ -1,4 +1,5 @@
--- Pieces over the stored tables of a version: what is stored of their atoms, what they mean over it, and what is read for it.
+-- Pieces over the stored tables of a version: what is stored of their atoms, what they mean over
+-- it, and what is read for it.
 use Rattle.std.specs.Prelude.{ℕ, ◌+◌, List, [], ◌∷◌, map, Option, Some, None}
 use Rattle.relations.specs.Sets.{set_of}
 use Rattle.prima_base.specs.Order.{row_cmp}
@@ -6,7 +7,7 @@ use Rattle.prima_base.specs.Columns.{Column}
 use Rattle.history_store.specs.Store.{Store}
 use Rattle.version_groups.specs.Groups.{Kept, table_in}
 use Rattle.version_groups.specs.Standing.{rows_stored}
-use Rattle.cond_expr.specs.declared.exprs.ColRef.{ColRef}
+use Rattle.cond_expr.specs.declared.expr.ColRef.{ColRef}
 use Rattle.smo_meaning.specs.OneRow.{Relation}
 use Rattle.plain_answers.specs.Choosing.{answers_over}
 use Rattle.plain_answers.specs.Naming.{all_references, names_at}
@@ -27,17 +28,21 @@ stored_rows kept k tables m = map (λ n. rows_stored m (table_in kept k n)) tabl
 
 -- what a piece means over what is stored of version k at the moment
 abbrev pub stored_meaning : Kept → ℕ → PlainPiece → ℕ → Relation
-stored_meaning kept k p m = set_of row_cmp (answers_over (stored_columns kept k p.atoms) (stored_rows kept k p.atoms m) (out_trees p.outs) p.cond)
+stored_meaning kept k p m = set_of row_cmp (answers_over (stored_columns kept k p.atoms)
+    (stored_rows kept k p.atoms m) (out_trees p.outs) p.cond)
 
 -- how many keys, and entries of the columns of these names, a stored table has
 abbrev pub reads_stored : Option Store → List (List ℕ) → ℕ
 reads_stored None names = 0
 reads_stored (Some s) names = reads s names
 
--- of each of the atoms, the first of which has this number, the keys and the entries of each column that is named of it
+-- of each of the atoms, the first of which has this number, the keys and the entries of each column
+-- that is named of it
 abbrev pub atoms_read : Kept → ℕ → List ColRef → ℕ → List (List ℕ) → ℕ
 atoms_read kept k references i [] = 0
-atoms_read kept k references i (n ∷ tables) = reads_stored (table_in kept k n) (names_at i references) + atoms_read kept k references (i + 1) tables
+atoms_read kept k references i (n ∷ tables) =
+    reads_stored (table_in kept k n) (names_at i references) + atoms_read kept k references (i + 1)
+    tables
 
 -- how many are read for a piece over version k
 abbrev pub piece_reads : Kept → ℕ → PlainPiece → ℕ

@@ -13,7 +13,8 @@ abbrev pub count_in : Option (List Cell) → ℕ
 count_in None = 0
 count_in (Some cells) = length cells
 
--- how many entries the columns of these names have, and how many are read of them: these, and the keys
+-- how many entries the columns of these names have, and how many are read of them: these, and the
+-- keys
 abbrev pub entries_in : Store → List (List ℕ) → ℕ
 entries_in s [] = 0
 entries_in s (name ∷ names) = count_in (column_of s name) + entries_in s names

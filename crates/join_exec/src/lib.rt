@@ -1,18 +1,19 @@
-//! What a piece of a rewritten query answers over stored tables of attribute histories, at each moment of a slice.
+//! What a piece of a rewritten query answers over stored tables of attribute histories, at each
+//! moment of a slice.
 //!
-//! Of each atom the keys of its table inside the slice are read, then the columns that the piece names of it, one after the
-//! other, each by one walk along what was gathered and the column's entries. The atoms are joined over time. Nothing is
-//! coalesced here.
+//! Of each atom the keys of its table inside the slice are read, then the columns that the piece
+//! names of it, one after the other, each by one walk along what was gathered and the column's
+//! entries. The atoms are joined over time. Nothing is coalesced here.
 #![tactic(auto)]
 
-mod atoms;
-mod gathering;
+mod atom;
+mod gathered_row;
 mod laws;
-mod names;
-mod pieces;
-mod row_parts;
-mod stretches;
+mod name;
+mod piece;
+mod row_part;
+mod stretch;
 
 pub use laws::reads_depend_on_the_columns_named;
-pub use names::names_at;
-pub use pieces::run_piece;
+pub use name::names_at;
+pub use piece::run_piece;

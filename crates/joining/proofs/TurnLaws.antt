@@ -1,19 +1,21 @@
 -- Rows in another order.
-use Rattle.std.proofs.Common.{◌≡◌, ◌<◌, ℕ, zero, suc, List, [], ◌∷◌, length, get_or, inl, inr, arith}
+use Rattle.std.proofs.Common.{◌≡◌, ◌<◌, ℕ, zero, suc, List, [], ◌∷◌, length, get_or, inl, inr}
+use Rattle.std.proofs.Common.{arith}
 use Rattle.std.specs.Prelude.{Contains}
 use Rattle.std.specs.List.Sorted.{IsPermutation}
-use Rattle.std.proofs.lemmas.List.Sorted.{Contains-permutation, IsPermutation-sym, IsPermutation-map}
+use Rattle.std.proofs.lemmas.List.Sorted.{Contains-permutation, IsPermutation-sym}
+use Rattle.std.proofs.lemmas.List.Sorted.{IsPermutation-map}
 use Rattle.relations.specs.Sets.{In}
 use Rattle.relations.specs.Timed.{Entry, held_at, at}
 use Rattle.relations.proofs.Held.{from_held, in_held}
 use Rattle.relations.proofs.SetLaws.{set_same}
-use Rattle.prima_base.specs.declared.values.Value.{Value}
-use Rattle.prima_base.specs.declared.timed_rows.TimedRow.{TimedRow}
+use Rattle.prima_base.specs.declared.value.Value.{Value}
+use Rattle.prima_base.specs.declared.timed_row.TimedRow.{TimedRow}
 use Rattle.prima_base.specs.Order.{row_cmp}
 use Rattle.prima_base.specs.OrderLaws.{row_exact}
 use Rattle.prima_base.specs.Timed.{entry_of, entries_of, rows_at}
-use Rattle.timed_choices.specs.Lending.{AllLent}
-use Rattle.timed_choices.proofs.LentLaws.{lent_member, all_members}
+use Rattle.timed_choices.specs.Lending.{AllBorrowed}
+use Rattle.timed_choices.proofs.BorrowedLaws.{borrowed_member, all_members}
 use Rattle.timed_choices.specs.Fitting.{Fit}
 
 contains_more : {X : Type 0} (x : X) (xs : List X) (e : X) → Contains xs e → Contains (x ∷ xs) e
@@ -30,7 +32,8 @@ in_place (x ∷ xs) zero e kl is = inl is
 in_place (x ∷ xs) (suc k) e kl is = inr (in_place xs k e (omega arith) is)
 
 pub in_moved : {X : Type 0} (xs ys : List X) → IsPermutation xs ys → (e : X) → In e xs → In e ys
-in_moved xs ys p e m = let c = Contains-permutation xs ys e p (contains_in xs e m) in in_place ys c.0 e c.1 c.2
+in_moved xs ys p e m = let c = Contains-permutation xs ys e p (contains_in xs e m) in
+    in_place ys c.0 e c.1 c.2
 
 module _ (rows moved : List TimedRow) (p : IsPermutation rows moved) where
   there : IsPermutation (entries_of rows) (entries_of moved)
@@ -42,16 +45,20 @@ module _ (rows moved : List TimedRow) (p : IsPermutation rows moved) where
   pub fit_moved : (n : ℕ) → Fit n (entries_of rows) → Fit n (entries_of moved)
   fit_moved n h = λ e i. h e (in_moved (entries_of moved) (entries_of rows) back e i)
 
-  held_moved : (es fs : List (Entry (List Value))) → IsPermutation es fs → (m : ℕ) (x : List Value) → In x (held_at es m) → In x (held_at fs m)
-  held_moved es fs q m x i = let r = from_held es x m i in in_held fs x m r.0 (in_moved es fs q r.0 r.1) r.2 r.3
+  held_moved : (es fs : List (Entry (List Value))) → IsPermutation es fs → (m : ℕ) (x : List Value)
+      → In x (held_at es m) → In x (held_at fs m)
+  held_moved es fs q m x i = let r = from_held es x m i in
+      in_held fs x m r.0 (in_moved es fs q r.0 r.1) r.2 r.3
 
   -- the relation stays
   pub at_moved : (m : ℕ) → rows_at moved m ≡ rows_at rows m
   unfolding at
-  at_moved m = set_same row_cmp row_exact (held_at (entries_of moved) m) (held_at (entries_of rows) m) (record {
-    there = λ x i. held_moved (entries_of moved) (entries_of rows) back m x i;
-    back = λ x i. held_moved (entries_of rows) (entries_of moved) there m x i;
-  })
+  at_moved m = set_same row_cmp row_exact (held_at (entries_of moved) m)
+      (held_at (entries_of rows) m) (record {
+        there = λ x i. held_moved (entries_of moved) (entries_of rows) back m x i;
+        back = λ x i. held_moved (entries_of rows) (entries_of moved) there m x i;
+      })
 
-  pub lent_moved : AllLent rows → AllLent moved
-  lent_moved l = all_members moved (λ row i. lent_member rows row (in_moved moved rows (IsPermutation-sym rows moved p) row i) l)
+  pub borrowed_moved : AllBorrowed rows → AllBorrowed moved
+  borrowed_moved l = all_members moved (λ row i.
+      borrowed_member rows row (in_moved moved rows (IsPermutation-sym rows moved p) row i) l)

@@ -3,7 +3,7 @@ use Rattle.std.specs.Prelude.{List}
 use Rattle.std.specs.List.{flat_map}
 use Rattle.relations.specs.Spans.{Span, common}
 use Rattle.relations.specs.Timed.{Entry}
-use Rattle.prima_base.specs.declared.values.Value.{Value}
+use Rattle.prima_base.specs.declared.value.Value.{Value}
 use Rattle.timed_choices.specs.Choosing.{in_period}
 
 -- an entry in the moments that it has of the slice, and none where it has none

@@ -3,43 +3,46 @@ use Rattle.std.specs.Prelude.{List, [], ◌∷◌, ⊤}
 use Rattle.std.specs.List.{flat_map}
 use Rattle.std.specs.BTreeMap.{get}
 use Rattle.relations.specs.Timed.{Entry}
-use Rattle.prima_base.specs.declared.values.Value.{Value}
-use Rattle.prima_base.specs.declared.timed_rows.TimedRow.{TimedRow}
+use Rattle.prima_base.specs.declared.value.Value.{Value}
+use Rattle.prima_base.specs.declared.timed_row.TimedRow.{TimedRow}
 use Rattle.prima_base.specs.Order.{row_cmp}
 use Rattle.prima_base.specs.Timed.{entries_of}
-use Rattle.cond_expr.specs.declared.exprs.Column.{Column}
+use Rattle.cond_expr.specs.declared.expr.Column.{Column}
 use Rattle.timed_choices.specs.Choosing.{paired}
-use Rattle.timed_choices.specs.Keeping.{picked, passing, in_group, lent_tests, AllLawful}
-use Rattle.timed_choices.specs.Lending.{AllLent}
-use Rattle.joining.specs.declared.levels.Level.{Level}
+use Rattle.timed_choices.specs.Keeping.{picked, passing, in_group, borrowed_tests, AllValid}
+use Rattle.timed_choices.specs.Lending.{AllBorrowed}
+use Rattle.joining.specs.declared.level.Level.{Level}
 
 -- the rows of the level that have this key
 abbrev pub with_key : Level → List Value → List TimedRow
 with_key level key = in_group (get row_cmp level.groups key)
 
--- a choice with each row of the level behind that has its key and passes the tests, in their common moments
+-- a choice with each row of the level after that has its key and passes the tests, in their common
+-- moments
 abbrev pub made_beside : List Column → Level → Entry (List Value) → List (Entry (List Value))
-made_beside columns level p = flat_map (paired (passing columns (lent_tests level.tests.items)) p) (entries_of (with_key level (picked level.own.items p.item)))
+made_beside columns level p = flat_map (paired (passing columns (borrowed_tests level.tests.items))
+    p) (entries_of (with_key level (picked level.own.items p.item)))
 
 -- the same of each choice, and of each level after the other
 abbrev pub made_on : List Column → Level → List (Entry (List Value)) → List (Entry (List Value))
 made_on columns level ps = flat_map (made_beside columns level) ps
 
-abbrev pub made_through : List Column → List Level → List (Entry (List Value)) → List (Entry (List Value))
+abbrev pub made_through : List Column → List Level → List (Entry (List Value))
+    → List (Entry (List Value))
 made_through columns [] ps = ps
 made_through columns (level ∷ levels) ps = made_through columns levels (made_on columns level ps)
 
--- each value of a level is lawful, and each is lent
-abbrev pub IsLawfulLevel : Level → Type 0
-IsLawfulLevel level = (key : List Value) → AllLawful (entries_of (with_key level key))
+-- each value of a level is valid, and each is borrowed
+abbrev pub IsValidLevel : Level → Type 0
+IsValidLevel level = (key : List Value) → AllValid (entries_of (with_key level key))
 
-abbrev pub AreLawfulLevels : List Level → Type 0
-AreLawfulLevels [] = ⊤
-AreLawfulLevels (level ∷ levels) = IsLawfulLevel level × AreLawfulLevels levels
+abbrev pub AreValidLevels : List Level → Type 0
+AreValidLevels [] = ⊤
+AreValidLevels (level ∷ levels) = IsValidLevel level × AreValidLevels levels
 
-abbrev pub IsLentLevel : Level → Type 0
-IsLentLevel level = (key : List Value) → AllLent (with_key level key)
+abbrev pub IsBorrowedLevel : Level → Type 0
+IsBorrowedLevel level = (key : List Value) → AllBorrowed (with_key level key)
 
-abbrev pub AreLentLevels : List Level → Type 0
-AreLentLevels [] = ⊤
-AreLentLevels (level ∷ levels) = IsLentLevel level × AreLentLevels levels
+abbrev pub AreBorrowedLevels : List Level → Type 0
+AreBorrowedLevels [] = ⊤
+AreBorrowedLevels (level ∷ levels) = IsBorrowedLevel level × AreBorrowedLevels levels

@@ -2,15 +2,15 @@
 use Rattle.std.specs.Prelude.{◌≡◌, ℕ, ◌+◌, List, [], ◌∷◌, map, ⊤}
 use Rattle.std.specs.List.{flat_map}
 use Rattle.relations.specs.Timed.{held_at}
-use Rattle.prima_base.specs.declared.values.Value.{Value}
+use Rattle.prima_base.specs.declared.value.Value.{Value}
 use Rattle.prima_base.specs.Columns.{Column}
 use Rattle.prima_base.specs.Timed.{entries_of, rows_at}
-use Rattle.cond_expr.specs.declared.exprs.Column.{Column as AtomColumn}
+use Rattle.cond_expr.specs.declared.expr.Column.{Column as AtomColumn}
 use Rattle.cond_expr.specs.AtomColumns.{columns_at}
-use Rattle.timed_choices.specs.Lending.{AllLent}
+use Rattle.timed_choices.specs.Lending.{AllBorrowed}
 use Rattle.timed_choices.specs.Blocks.{Block}
-use Rattle.joining.specs.declared.sources.Source.{Source}
-use Rattle.joining.specs.declared.sources.Atom.{Atom}
+use Rattle.joining.specs.declared.source.Source.{Source}
+use Rattle.joining.specs.declared.source.Atom.{Atom}
 
 -- the rows that a list holds at a moment, and that each of several lists holds
 abbrev pub held : Source → ℕ → List (List Value)
@@ -25,7 +25,12 @@ relations_of sources m = map (λ (s : Source). rows_at s.rows.items m) sources
 
 -- the blocks of atoms at a moment
 abbrev pub block_of : ℕ → Atom → Block
-block_of m a = record { number = a.number; columns = a.columns.items; rows = rows_at a.rows.items m }
+block_of m a = record {
+  number = a.number;
+  columns = a.columns.items;
+  rows =
+      rows_at a.rows.items m;
+}
 
 abbrev pub blocks_of : ℕ → List Atom → List Block
 blocks_of m atoms = map (block_of m) atoms
@@ -43,7 +48,7 @@ abbrev pub AreNumbered : List Atom → Type 0
 AreNumbered [] = ⊤
 AreNumbered (a ∷ atoms) = IsNumbered a.number atoms × AreNumbered atoms
 
--- the columns of atoms, one atom's behind the other's
+-- the columns of atoms, one atom's after the other's
 abbrev pub columns_of : List Atom → List AtomColumn
 columns_of atoms = flat_map (λ (a : Atom). a.columns.items) atoms
 
@@ -52,13 +57,14 @@ abbrev pub HaveAtoms : ℕ → List (List Column) → List Atom → Type 0
 HaveAtoms k [] [] = ⊤
 HaveAtoms k [] (a ∷ atoms) = ⊥
 HaveAtoms k (cs ∷ columns) [] = ⊥
-HaveAtoms k (cs ∷ columns) (a ∷ atoms) = (a.columns.items ≡ columns_at k cs) × HaveAtoms (k + 1) columns atoms
+HaveAtoms k (cs ∷ columns) (a ∷ atoms) = (a.columns.items ≡ columns_at k cs)
+    × HaveAtoms (k + 1) columns atoms
 
--- each value of each list, and of each atom, is lent
-abbrev pub EachLent : List Source → Type 0
-EachLent [] = ⊤
-EachLent (s ∷ sources) = AllLent s.rows.items × EachLent sources
+-- each value of each list, and of each atom, is borrowed
+abbrev pub EachBorrowed : List Source → Type 0
+EachBorrowed [] = ⊤
+EachBorrowed (s ∷ sources) = AllBorrowed s.rows.items × EachBorrowed sources
 
-abbrev pub AtomsLent : List Atom → Type 0
-AtomsLent [] = ⊤
-AtomsLent (a ∷ atoms) = AllLent a.rows.items × AtomsLent atoms
+abbrev pub AtomsBorrowed : List Atom → Type 0
+AtomsBorrowed [] = ⊤
+AtomsBorrowed (a ∷ atoms) = AllBorrowed a.rows.items × AtomsBorrowed atoms

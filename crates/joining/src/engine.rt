@@ -6,19 +6,20 @@ ghost use Rattle.prima_base.specs.Order.{row_cmp};
 ghost use Rattle.prima_base.specs.Timed.{rows_at};
 ghost use Rattle.cond_expr.specs.Seen.{tree, test};
 ghost use Rattle.plain_answers.specs.Choosing.{answers_over};
-ghost use Rattle.timed_choices.specs.Lending.{AllStayLent};
+ghost use Rattle.timed_choices.specs.Lending.{AllStayBorrowed};
 ghost use Rattle.timed_choices.specs.Blocks.{answered};
-ghost use Rattle.joining.specs.Sources.{AtomsLent, atom_rows, blocks_of, AreNumbered, HaveAtoms};
+ghost use Rattle.joining.specs.Sources.{AtomsBorrowed, atom_rows, blocks_of, AreNumbered};
+ghost use Rattle.joining.specs.Sources.{HaveAtoms};
 
-use crate::orders::join_in_order;
+use crate::order::join_in_order;
 use crate::single_atom::answer_atom;
-use crate::sources::Atom;
+use crate::source::Atom;
 use cond_expr::{Cond, Expr};
 use prima_base::{NoMemory, Period, TimedRow};
 use std::alloc::Global;
 
-// What outputs answer of the choices of one row of each atom that hold together and meet the condition. Where there is one atom
-// alone nothing is joined.
+// What outputs answer of the choices of one row of each atom that hold together and meet the
+// condition. Where there is one atom alone nothing is joined.
 fn answer_atoms<'a>(
     alloc: Global,
     outs: &[Expr],
@@ -27,9 +28,13 @@ fn answer_atoms<'a>(
     slice: Period,
 ) -> Result<Vec<TimedRow<'a>>, NoMemory>
     requires { AreNumbered atoms.items }
-    ensures lent { AtomsLent atoms.entry.items → IfOk result (λ rows. AllStayLent (map tree outs.now) rows.items) }
-    ensures inside { (m : ℕ) → covers slice m ≡ false → IfOk result (λ rows. rows_at rows.items m ≡ []) }
-    ensures rows { (m : ℕ) → covers slice m ≡ true → IfOk result (λ rows. rows_at rows.items m ≡ answered (map tree outs.now) (test cond.now) (blocks_of m atoms.entry.items)) }
+    ensures borrowed { AtomsBorrowed atoms.entry.items
+        → IfOk result (λ rows. AllStayBorrowed (map tree outs.now) rows.items) }
+    ensures inside { (m : ℕ) → covers slice m ≡ false
+        → IfOk result (λ rows. rows_at rows.items m ≡ []) }
+    ensures rows { (m : ℕ) → covers slice m ≡ true
+        → IfOk result (λ rows. rows_at rows.items m
+        ≡ answered (map tree outs.now) (test cond.now) (blocks_of m atoms.entry.items)) }
 {
     let mut atoms = atoms;
     if atoms.len() == 1
@@ -40,11 +45,12 @@ fn answer_atoms<'a>(
     join_in_order(alloc, outs, cond, atoms, slice)
 }
 
-/// What outputs and a condition answer over one list of rows with periods for each atom, at each moment of the slice: the
-/// outputs of the choices of one row of each that hold together and meet the condition. A reference is to the atom of its
-/// number, whatever place that has; where the numbers are those of the places, the answers are those over relations (clause
-/// `rows`). The rows have the periods in which they hold, all inside the slice, in no order; a row may stand several times.
-/// Where all values of the atoms are lent, those of plain columns stay lent.
+/// What outputs and a condition answer over one list of rows with periods for each atom, at each
+/// moment of the slice: the outputs of the choices of one row of each that hold together and meet
+/// the condition. A reference is to the atom of its number, whatever place that has; where the
+/// numbers are those of the places, the answers are those over relations (clause `rows`). The rows
+/// have the periods in which they hold, all inside the slice, in no order; a row may stand several
+/// times. Where all values of the atoms are borrowed, those of plain columns stay borrowed.
 pub fn answer_choices<'a>(
     alloc: Global,
     outs: &[Expr],
@@ -53,11 +59,18 @@ pub fn answer_choices<'a>(
     slice: Period,
 ) -> Result<Vec<TimedRow<'a>>, NoMemory>
     requires { AreNumbered atoms.items }
-    ensures lent { AtomsLent atoms.entry.items → IfOk result (λ rows. AllStayLent (map tree outs.now) rows.items) }
-    ensures inside { (m : ℕ) → covers slice m ≡ false → IfOk result (λ rows. rows_at rows.items m ≡ []) }
-    ensures numbered { (m : ℕ) → covers slice m ≡ true → IfOk result (λ rows. rows_at rows.items m ≡ answered (map tree outs.now) (test cond.now) (blocks_of m atoms.entry.items)) }
-    ensures rows { (columns : List (List TableColumn)) → HaveAtoms 0 columns atoms.entry.items → (m : ℕ) → covers slice m ≡ true
-        → IfOk result (λ rows. rows_at rows.items m ≡ set_of row_cmp (answers_over columns (atom_rows atoms.entry.items m) (map tree outs.now) (test cond.now))) }
+    ensures borrowed { AtomsBorrowed atoms.entry.items
+        → IfOk result (λ rows. AllStayBorrowed (map tree outs.now) rows.items) }
+    ensures inside { (m : ℕ) → covers slice m ≡ false
+        → IfOk result (λ rows. rows_at rows.items m ≡ []) }
+    ensures numbered { (m : ℕ) → covers slice m ≡ true
+        → IfOk result (λ rows. rows_at rows.items m
+        ≡ answered (map tree outs.now) (test cond.now) (blocks_of m atoms.entry.items)) }
+    ensures rows { (columns : List (List TableColumn)) → HaveAtoms 0 columns atoms.entry.items
+        → (m : ℕ) → covers slice m ≡ true
+        → IfOk result (λ rows. rows_at rows.items m
+        ≡ set_of row_cmp (answers_over columns (atom_rows atoms.entry.items m)
+        (map tree outs.now) (test cond.now))) }
 {
     answer_atoms(alloc, outs, cond, atoms, slice)
 }

@@ -1,20 +1,21 @@
-//! Joins over time: the choices of one row of each of several lists that hold together and meet a condition.
+//! Joins over time: the choices of one row of each of several lists that hold together and meet a
+//! condition.
 #![tactic(auto)]
 
-mod answers;
+mod answer;
 mod engine;
-mod groups;
-mod joins;
-mod keys;
-mod levels;
-mod orders;
-mod own_parts;
-mod parts;
-mod places;
-mod plans;
+mod group;
+mod join;
+mod key;
+mod level;
+mod order;
+mod own_part;
+mod part;
+mod place;
+mod plan;
 mod single_atom;
-mod sources;
-mod steps;
+mod source;
+mod step;
 
 pub use engine::answer_choices;
-pub use sources::{Atom, Source};
+pub use source::{Atom, Source};

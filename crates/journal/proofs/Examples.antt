@@ -41,7 +41,7 @@ both_are_there = record {
   known = (refl, omega arith, (refl, omega arith, tt));
 }
 
--- a gate that is neither closed nor open is not open: what stands behind it means nothing
+-- a gate that is neither closed nor open is not open: what stands after it means nothing
 one_is_there : Holds (file 49 7 0) (created ∷ [])
 one_is_there = record {
   gate = 7;
@@ -51,7 +51,7 @@ one_is_there = record {
   known = (refl, omega arith, tt);
 }
 
--- without its last byte the second record has no gate behind it: its length is damaged
+-- without its last byte the second record has no gate after it: its length is damaged
 no_last_gate : IsDamagedAt (take 79 eighty) 40
 no_last_gate = record {
   long = omega arith;
@@ -76,7 +76,7 @@ nine_bytes_hold_none = inl (omega arith, refl)
 nine_bytes_become_the_empty_journal : opened_file (take 9 eighty) ≡ empty_journal
 nine_bytes_become_the_empty_journal = refl
 
--- the two puts, one behind the other
+-- the two puts, one after the other
 puts_make_eighty : with_record (with_record empty_journal 8 created) 38 inserted ≡ eighty
 puts_make_eighty = refl
 

@@ -1,4 +1,4 @@
--- A mount, and a list of puts behind it.
+-- A mount, and a list of puts after it.
 use Rattle.std.proofs.Common.{◌≡◌, ◌⊎◌, inl, inr, ℕ, IsTrue, List, length, sym}
 use Rattle.std.proofs.Common.{◌∙◌, ap, subst}
 use Rattle.std.specs.Prelude.{Some, Result, Err}
@@ -7,7 +7,7 @@ use Rattle.disk_model.specs.Moments.{GoesOn, Leaves}
 use Rattle.disk_model.specs.MomentLaws.{still_honest, turns_weaker}
 use Rattle.journal.specs.MountLaws.{opened_records, mount_then, none_yet}
 use Rattle.journal.specs.Mounting.{IsNotSynced, KeepsFile, SameOrNine}
-use Rattle.journal.specs.PutLists.{fitting, fitting_behind, PutsEach, LeavesPut}
+use Rattle.journal.specs.PutLists.{fitting, fitting_after, PutsEach, LeavesPut}
 use Rattle.journal.specs.PutLists.{MountsAndPuts, EndsWith, IsAll}
 use Rattle.journal.specs.Puts.{HoldsPrefix, StandsForPrefix}
 use Rattle.journal.specs.Reading.{IsOpened, records_in}
@@ -27,7 +27,7 @@ pub refused : (old new : Meaning) (limit : ℕ) (rs : List Record) (X : Type 0)
     → (X × IsNotSynced old new) ⊎ KeepsFile old new → MountsAndPuts old new limit rs
 refused old new limit rs X (inl early) file opening honest seen stands_for = inl (early.1 honest)
 refused old new limit rs X (inr keeps) file opening honest seen stands_for =
-    let put = fitting_behind limit opening rs in
+    let put = fitting_after limit opening rs in
     inr (turns_weaker old new (SameOrNine file) (StandsForPrefix opening put 0 (length put))
     (keeps file honest seen) (none_yet file opening put stands_for (length put)))
 
@@ -50,12 +50,12 @@ module _ (old start new : Meaning) (limit at : ℕ) (recs : List Rec) (rs : List
       honest_now : IsTrue start.is_honest
       honest_now = still_honest old start one honest
 
-      put_is : fitting limit at rs ≡ fitting_behind limit opening rs
+      put_is : fitting limit at rs ≡ fitting_after limit opening rs
       put_is = ap (λ n. fitting limit n rs) stands_now.place
 
   pub mounted : PutsEach start new at (fitting limit at rs) → MountsAndPuts old new limit rs
   mounted each file opening honest seen stands_for =
-      let put = fitting_behind limit opening rs in
+      let put = fitting_after limit opening rs in
       let same = put_is file opening seen stands_for honest in
       let leaves = each opening (honest_now file opening seen stands_for honest)
       (stands_now file opening seen stands_for honest) in

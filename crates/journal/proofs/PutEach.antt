@@ -3,9 +3,10 @@ use Rattle.std.proofs.Common.{◌≡◌, ℕ, ◌+◌, ◌<◌, ◌≤◌, IsTru
 use Rattle.std.proofs.Common.{take, drop, sym, ◌∙◌, ap, subst, arith}
 use Rattle.std.proofs.Common.{Result, Ok, Err, ⊎_elim}
 use Rattle.std.proofs.lemmas.Bool.{cases_lt, cond_below, cond_above}
-use Rattle.std.proofs.lemmas.List.{take_more, take-take, take_all, length-drop, drop-drop, get_or-drop}
+use Rattle.std.proofs.lemmas.List.{take_more, take-take, take_all, length-drop, drop-drop}
+use Rattle.std.proofs.lemmas.List.{get_or-drop}
 use Rattle.std.proofs.lemmas.List.{drop_more, drop_all, length-take-le}
-use Rattle.disk_model.specs.Meaning.{Meaning, IsLawful}
+use Rattle.disk_model.specs.Meaning.{Meaning, IsValid}
 use Rattle.disk_model.specs.Moments.{Leaves}
 use Rattle.journal.specs.Puts.{Puts, Acknowledges, HoldsPrefix, HavePut}
 use Rattle.journal.specs.PutLaws.{leaves_one_more, exit_one_more, have_more}
@@ -50,7 +51,7 @@ fits_unless_full r limit end a n l not_full full =
     ⊎_elim (λ beyond. absurd (subst IsNotFull (full beyond) not_full)) (λ within. within)
     (cases_lt limit end)
 
--- the record behind those of the list that have been tried is left out, or put
+-- the record after those of the list that have been tried is left out, or put
 module _ (limit at : ℕ) (list : List Sealed) (i : ℕ) (it : Sealed) (within : i < length list)
     (is : it ≡ get_or list i it) (left : List Record)
     (rest : left ≡ fitting limit at (records_of (drop i list))) where
@@ -66,7 +67,8 @@ module _ (limit at : ℕ) (list : List Sealed) (i : ℕ) (it : Sealed) (within :
       → next + 1 ≡ at + needs (sealed_record it)
       → left ≡ sealed_record it ∷ fitting limit next (records_of (drop (i + 1) list))
   step_in next fits place =
-      next_is ∙ put_first limit at next (sealed_record it) (records_of (drop (i + 1) list)) fits place
+      next_is ∙ put_first limit at next (sealed_record it) (records_of (drop (i + 1) list)) fits
+      place
 
 -- nothing is left to be put
 pub all_put : (limit at i done : ℕ) (list : List Sealed) (whole : List Record) → length list ≤ i
@@ -116,14 +118,15 @@ module _ (whole : List Record) (done : ℕ) (r : Record) (rest : List Record)
     -- it failed: at each moment
     pub failed_leaves : Leaves start new (HoldsPrefix opening whole 0 (length whole))
     failed_leaves c left =
-        let prefix = leaves_one_more start last gate opening (take done whole) honest have new r puts
+        let prefix = leaves_one_more start last gate opening (take done whole) honest have new r
+        puts
         c left in
         let held = of_whole opening 0 (length (take done whole ++ r ∷ [])) c (omega (arith, size))
         prefix in
         (held.0, held.1, omega (arith, held.2, size, inside), held.3)
 
-    -- and behind it
-    pub failed_exit : IsLawful new → (c : List ℕ) → new.may_leave c
+    -- and after it
+    pub failed_exit : IsValid new → (c : List ℕ) → new.may_leave c
         → HoldsPrefix opening whole done (done + 1) c
     failed_exit law c left =
         let short : length (take done whole) ≡ done =
@@ -147,5 +150,6 @@ module _ (whole : List Record) (done : ℕ) (end : length whole ≤ done) (withi
         done,
         omega arith,
         omega arith,
-        subst (λ f. Holds f (opening ++ take done whole)) (sym (stands.durable c left)) stands.holds,
+        subst (λ f. Holds f (opening ++ take done whole)) (sym (stands.durable c left))
+            stands.holds,
       )

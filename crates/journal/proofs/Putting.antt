@@ -4,7 +4,7 @@ use Rattle.std.proofs.Common.{◌++◌, length, get_or, drop, refl, sym, ◌∙�
 use Rattle.std.proofs.Common.{append_assoc, length-append, IsTrue}
 use Rattle.std.proofs.lemmas.Bool.{cases_eq}
 use Rattle.std.specs.Prelude.{Option, Some, None}
-use Rattle.disk_model.specs.Meaning.{Meaning, IsLawful, Only, Told, Tells}
+use Rattle.disk_model.specs.Meaning.{Meaning, IsValid, Only, Told, Tells}
 use Rattle.disk_model.specs.MomentLaws.{goes_refl, goes_trans}
 use Rattle.journal.specs.Puts.{Puts}
 use Rattle.disk_model.specs.Moments.{Leaves}
@@ -36,7 +36,7 @@ pub known-push : (rs : List Record) (r : Record) → AreKnown rs → IsKnown r.0
 known-push [] r known is fits = (is, fits, tt)
 known-push (s ∷ rs) r known is fits = (known.0, known.1, known-push rs r known.2 is fits)
 
--- a record behind an open gate, and a closed one behind it
+-- a record after an open gate, and a closed one after it
 opened : (rs : List Record) (r : Record) (rest : List ℕ)
     → before_gate rs ++ 1 ∷ ((body r ++ 0 ∷ []) ++ rest) ≡ before_gate (rs ++ r ∷ []) ++ 0 ∷ rest
 opened rs r rest =
@@ -57,7 +57,7 @@ tells_some : (P : List ℕ → Type 0) (old : Option (List ℕ)) (file : List �
     → Tells old P → P file
 tells_some P old file is tells = subst (λ o. Tells o P) is tells
 
--- a record's bytes stand behind the closed gate, all of it on the disk
+-- a record's bytes stand after the closed gate, all of it on the disk
 pub record IsStaged (d : Meaning) (at : ℕ) (rs : List Record) (r : Record) : Type 0 where
   pub gate : ℕ
   pub rest : List ℕ
@@ -67,7 +67,7 @@ pub record IsStaged (d : Meaning) (at : ℕ) (rs : List Record) (r : Record) : T
   pub durable : Only (before_gate rs ++ gate ∷ ((body r ++ 0 ∷ []) ++ rest)) d.may_leave
 
 module _ (d : Meaning) (at : ℕ) (rs : List Record) (s : Stands d at rs) where
-  -- a write behind the gate leaves the records as they were
+  -- a write after the gate leaves the records as they were
   first_leaves : (n : ℕ) (c : List ℕ) → ((f : List ℕ) × d.may_leave f × Torn (at + 1) n f c)
       → Holds c rs
   first_leaves n c from =
@@ -78,7 +78,7 @@ module _ (d : Meaning) (at : ℕ) (rs : List Record) (s : Stands d at rs) where
         rest = drop (at + 1) c;
         shut = s.holds.shut;
         file_is =
-            bytes.torn_behind (before_gate rs) at s.place s.holds.gate n s.holds.rest c torn;
+            bytes.torn_after (before_gate rs) at s.place s.holds.gate n s.holds.rest c torn;
         known =
             s.holds.known;
       }
@@ -88,14 +88,14 @@ module _ (d : Meaning) (at : ℕ) (rs : List Record) (s : Stands d at rs) where
   first_landed new put r is_put honest landed =
       let file = told_some (λ old new. new ≡ with_bytes old (at + 1) put) d.seen new.seen s.file
       s.seen landed.written in
-      let behind = drop (at + 1 + length put) (before_gate rs ++ s.holds.gate ∷ s.holds.rest) in
-      let is : file.0 ≡ before_gate rs ++ s.holds.gate ∷ ((body r ++ 0 ∷ []) ++ behind) =
+      let later = drop (at + 1 + length put) (before_gate rs ++ s.holds.gate ∷ s.holds.rest) in
+      let is : file.0 ≡ before_gate rs ++ s.holds.gate ∷ ((body r ++ 0 ∷ []) ++ later) =
       file.2 ∙ ap (λ (l : List ℕ). with_bytes l (at + 1) put) s.holds.file_is
-      ∙ bytes.written_behind (before_gate rs) at s.place s.holds.gate s.holds.rest put
-      ∙ ap (λ (l : List ℕ). before_gate rs ++ s.holds.gate ∷ (l ++ behind)) is_put in
+      ∙ bytes.written_after (before_gate rs) at s.place s.holds.gate s.holds.rest put
+      ∙ ap (λ (l : List ℕ). before_gate rs ++ s.holds.gate ∷ (l ++ later)) is_put in
       record {
         gate = s.holds.gate;
-        rest = behind;
+        rest = later;
         shut = s.holds.shut;
         known = s.holds.known;
         seen = file.1 ∙ ap Some is;
@@ -205,7 +205,7 @@ module _ (d0 d1 : Meaning) (at : ℕ) (rs : List Record) (put : List ℕ) (r : R
       }
 
 -- nothing is done
-pub nothing_put : (d : Meaning) (at : ℕ) (r : Record) → IsLawful d → Puts d d at r
+pub nothing_put : (d : Meaning) (at : ℕ) (r : Record) → IsValid d → Puts d d at r
 nothing_put d at r law = record {
   goes = goes_refl d law;
   any_moment = λ rs honest s c left.

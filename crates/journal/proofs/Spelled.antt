@@ -36,14 +36,14 @@ split rest payload n long small is inside pay =
     (arith, ap length pay, length-take n (drop 9 rest), length-drop 9 rest) in
     let spelled : to_be_bytes w64 (length payload) ≡ take 8 (drop 1 rest) =
     ap (λ k. to_be_bytes w64 k) size ∙ length_is rest n long small is in
-    let behind : drop 9 rest ≡ payload ++ drop (9 + n) rest =
+    let after : drop 9 rest ≡ payload ++ drop (9 + n) rest =
     sym (take-append-drop n (drop 9 rest))
     ∙ ap (λ (l : List ℕ). l ++ drop n (drop 9 rest)) (sym pay)
     ∙ ap (λ (l : List ℕ). payload ++ l)
     (drop-drop n 9 rest ∙ ap (λ k. drop k rest) (omega arith)) in
     let whole : drop 1 rest ≡ take 8 (drop 1 rest) ++ (payload ++ drop (9 + n) rest) =
     sym (take-append-drop 8 (drop 1 rest))
-    ∙ ap (λ (l : List ℕ). take 8 (drop 1 rest) ++ l) (drop-drop 8 1 rest ∙ behind) in
+    ∙ ap (λ (l : List ℕ). take 8 (drop 1 rest) ++ l) (drop-drop 8 1 rest ∙ after) in
     first_of rest (omega arith) ∙ ap (λ (l : List ℕ). get_or rest 0 0 ∷ l)
     (whole ∙ ap (λ (l : List ℕ). l ++ (payload ++ drop (9 + n) rest)) (sym spelled)
     ∙ sym (append_assoc (to_be_bytes w64 (length payload)) payload (drop (9 + n) rest)))

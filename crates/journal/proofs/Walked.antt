@@ -26,8 +26,8 @@ module _ (bytes rest : List ℕ) (at : ℕ) (recs : List Rec) (inside : at < len
     (end : at ≡ length (before_gate (records_in recs))) (known : AreKnown (records_in recs))
     (places : map (λ rec. rec.at) recs ≡ gates 8 (records_in recs))
     (is_open : get_or bytes at 0 ≡ 1) (rest_is : rest ≡ drop (at + 1) bytes) where
-  behind : bytes ≡ before_gate (records_in recs) ++ 1 ∷ rest
-  behind =
+  after : bytes ≡ before_gate (records_in recs) ++ 1 ∷ rest
+  after =
       is ∙ ap (λ (l : List ℕ). before_gate (records_in recs) ++ l)
       (drop_more bytes at 0 inside ∙ ap (λ (g : ℕ). g ∷ drop (at + 1) bytes) is_open
       ∙ ap (λ (l : List ℕ). 1 ∷ l) (sym rest_is))
@@ -39,7 +39,7 @@ module _ (bytes rest : List ℕ) (at : ℕ) (recs : List Rec) (inside : at < len
         inr (record {
           records = records_in recs;
           rest = rest;
-          file_is = behind;
+          file_is = after;
           known = known;
           bad =
               subst (λ a. IsBadFrame a rest place) end bad;
@@ -60,7 +60,7 @@ module _ (bytes rest : List ℕ) (at : ℕ) (recs : List Rec) (inside : at < len
         let later : drop used rest ≡ drop (at + (1 + used)) bytes =
         ap (λ (l : List ℕ). drop used l) rest_is ∙ drop-drop used (at + 1) bytes
         ∙ ap (λ (n : ℕ). drop n bytes) (omega arith) in
-        behind ∙ ap (λ (l : List ℕ). before_gate (records_in recs) ++ 1 ∷ l)
+        after ∙ ap (λ (l : List ℕ). before_gate (records_in recs) ++ 1 ∷ l)
         (read.is ∙ ap (λ (l : List ℕ). body (record_of rec) ++ l) later)
         ∙ sym (append_assoc (before_gate (records_in recs)) (1 ∷ body (record_of rec))
         (drop (at + (1 + used)) bytes))

@@ -29,7 +29,7 @@ abbrev IsShut : List ℕ → Type 0
 IsShut xs = (rs : List Record) × (g : ℕ) × (p : List ℕ) × (g ≢ 1) × AreKnown rs
     × (xs ≡ frames rs ++ g ∷ p)
 
--- whole records, and an open gate with no whole record behind it
+-- whole records, and an open gate with no whole record after it
 abbrev IsBroken : List ℕ → Type 0
 IsBroken xs = (rs : List Record) × (rest : List ℕ) × AreKnown rs × (xs ≡ frames rs ++ 1 ∷ rest)
     × ((at : ℕ) → (place : ℕ) × IsBadFrame at rest place)
@@ -73,15 +73,15 @@ small_number xs long small =
       small 8,
     )
 
-bytes_behind : (n : ℕ) (xs : List ℕ) → AreBytes xs → AreBytes (drop n xs)
-bytes_behind n xs small i = subst (λ x. x < 256) (sym (get_or-drop n xs i 0)) (small (n + i))
+bytes_after : (n : ℕ) (xs : List ℕ) → AreBytes xs → AreBytes (drop n xs)
+bytes_after n xs small i = subst (λ x. x < 256) (sym (get_or-drop n xs i 0)) (small (n + i))
 
 module _ (fuel g kind : ℕ) (tail : List ℕ) (le : length (g ∷ kind ∷ tail) ≤ suc fuel)
     (small : AreBytes (g ∷ kind ∷ tail))
     (further : (xs : List ℕ) → length xs ≤ fuel → 0 < length xs → AreBytes xs
     → IsShut xs ⊎ IsBroken xs) (is_open : g ≡ 1) where
   rest_small : AreBytes (kind ∷ tail)
-  rest_small = bytes_behind 1 (g ∷ kind ∷ tail) small
+  rest_small = bytes_after 1 (g ∷ kind ∷ tail) small
 
   -- what the eight bytes of the length say
   abbrev size : ℕ
@@ -101,13 +101,13 @@ module _ (fuel g kind : ℕ) (tail : List ℕ) (le : length (g ∷ kind ∷ tail
       let some : 0 < length more = omega (arith, inside, length-drop (9 + size) (kind ∷ tail)) in
       one_before g (kind ∷ tail) more (kind, payload) is_open
       (split (kind ∷ tail) payload size long rest_small refl inside refl) known short
-      (further more less some (bytes_behind (9 + size) (kind ∷ tail) rest_small))
+      (further more less some (bytes_after (9 + size) (kind ∷ tail) rest_small))
 
-  behind_open : (b : Bool) → is_known kind ≡ b
+  after_open : (b : Bool) → is_known kind ≡ b
       → IsShut (g ∷ kind ∷ tail) ⊎ IsBroken (g ∷ kind ∷ tail)
-  behind_open false unknown = inr (no_record g (kind ∷ tail) is_open
+  after_open false unknown = inr (no_record g (kind ∷ tail) is_open
       (λ at. (at + 1, inl (ap not unknown, refl))))
-  behind_open true known = elim (cases_lt (length (kind ∷ tail)) 9) [
+  after_open true known = elim (cases_lt (length (kind ∷ tail)) 9) [
     | inl short ↦ inr (no_record g (kind ∷ tail) is_open
         (λ at. (at + 2, inr (ap (λ b. not (not b)) known, inl short, refl))))
     | inr long ↦ elim (cases_lt (9 + size) (length (kind ∷ tail))) [
@@ -127,7 +127,7 @@ parsed (suc fuel) (g ∷ []) le some small = elim (same_or_not g 1) [
 ]
 parsed (suc fuel) (g ∷ kind ∷ tail) le some small = elim (same_or_not g 1) [
   | inr shut ↦ inl ([], g, kind ∷ tail, shut, tt, refl)
-  | inl is_open ↦ behind_open fuel g kind tail le small (parsed fuel) is_open (is_known kind) refl
+  | inl is_open ↦ after_open fuel g kind tail le small (parsed fuel) is_open (is_known kind) refl
 ]
 
 -- the first difference from the header, or none
@@ -192,6 +192,6 @@ stands_or_damaged file small = elim (cases_lt 9 (length file)) [
     | inl differs ↦ inr (differs.0, record { long = long; is = inl differs.1 })
     | inr starts ↦ named file long starts (parsed (length file) (drop 8 file)
         (omega (arith, length-drop 8 file)) (omega (arith, long, length-drop 8 file))
-        (bytes_behind 8 file small))
+        (bytes_after 8 file small))
   ]
 ]

@@ -11,7 +11,7 @@ pub record DiffersAt (file : List ℕ) (place : ℕ) : Type 0 where
   pub before : take place file ≡ take place header
   pub differs : get_or file place 0 ≢ get_or header place 0
 
--- what stands behind an open gate has no known kind
+-- what stands after an open gate has no known kind
 abbrev pub has_no_kind : List ℕ → Bool
 has_no_kind [] = true
 has_no_kind (kind ∷ rest) = not (is_known kind)
@@ -20,14 +20,14 @@ has_no_kind (kind ∷ rest) = not (is_known kind)
 abbrev pub IsCut : List ℕ → Type 0
 IsCut rest = (length rest < 9) ⊎ (length rest ≤ 9 + from_be_bytes w64 (take 8 (drop 1 rest)))
 
--- What stands behind the open gate at `at` is no whole record: its kind is unknown or not there,
+-- What stands after the open gate at `at` is no whole record: its kind is unknown or not there,
 -- which is damage at the kind's place, or it is cut, which is damage at the length's.
 abbrev pub IsBadFrame : ℕ → List ℕ → ℕ → Type 0
 IsBadFrame at rest place =
     (IsTrue (has_no_kind rest) × (place ≡ at + 1))
     ⊎ (IsTrue (not (has_no_kind rest)) × IsCut rest × (place ≡ at + 2))
 
--- behind whole records stands an open gate, and behind it no whole record
+-- after whole records stands an open gate, and after it no whole record
 pub record BreaksAt (file : List ℕ) (place : ℕ) : Type 0 where
   pub records : List Record
   pub rest : List ℕ

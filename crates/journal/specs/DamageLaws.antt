@@ -10,13 +10,13 @@ use Rattle.std.specs.Int.{w64, to_be_bytes, from_be_bytes}
 use Rattle.journal.specs.Records.{Record, header, body, frames, before_gate, is_known, IsKnown}
 use Rattle.journal.specs.Records.{AreKnown, Holds, StandsFor}
 use Rattle.journal.specs.Damage.{DiffersAt, BreaksAt, IsBadFrame, IsDamagedAt, has_no_kind}
-use Rattle.journal.specs.RecordLaws.{head_is, tail_is, last_part, behind, one_record}
+use Rattle.journal.specs.RecordLaws.{head_is, tail_is, last_part, after, one_record}
 
 -- what begins with a whole record and a gate is no bad frame
 whole : (r : Record) (rest xs : List ℕ) (at place : ℕ) → IsKnown r.0 → length r.1 < 2 ^ 64
     → 0 < length xs → rest ≡ body r ++ xs → IsBadFrame at rest place → ⊥
 whole r rest xs at place known short some is bad =
-    let spelled : rest ≡ r.0 ∷ (to_be_bytes w64 (length r.1) ++ (r.1 ++ xs)) = is ∙ behind r xs in
+    let spelled : rest ≡ r.0 ∷ (to_be_bytes w64 (length r.1) ++ (r.1 ++ xs)) = is ∙ after r xs in
     ⊎_elim
     (λ no_kind. let h : IsTrue (not (is_known r.0)) =
     subst (λ l. IsTrue (has_no_kind l)) spelled no_kind.0 in
@@ -80,7 +80,7 @@ not_both_ways : (b : Bool) → IsTrue b → IsTrue (not b) → ⊥
 not_both_ways true is isnt = both_ways false refl isnt
 not_both_ways false is isnt = both_ways false refl is
 
--- records, and behind them an open gate with no whole record: there is one way to read them
+-- records, and after them an open gate with no whole record: there is one way to read them
 one_break : (rs ss : List Record) (at other p q : ℕ) (rest more : List ℕ) → AreKnown rs
     → AreKnown ss → frames rs ++ 1 ∷ rest ≡ frames ss ++ 1 ∷ more → IsBadFrame at rest p
     → IsBadFrame other more q → (rs ≡ ss) × (rest ≡ more)

@@ -1,9 +1,9 @@
--- What a mount opens, and what a crash leaves of a mount and of the puts behind it.
+-- What a mount opens, and what a crash leaves of a mount and of the puts after it.
 use Rattle.std.proofs.Common.{◌≡◌, inl, inr, ℕ, ◌+◌, ◌≤◌, IsTrue, List, [], ◌∷◌, ◌++◌, length}
 use Rattle.std.proofs.Common.{take, sym}
 use Rattle.std.proofs.Common.{ap, subst, arith}
 use Rattle.std.proofs.lemmas.List.{append-nil}
-use Rattle.disk_model.specs.Meaning.{Meaning, IsLawful}
+use Rattle.disk_model.specs.Meaning.{Meaning, IsValid}
 use Rattle.disk_model.specs.Moments.{GoesOn, Leaves, Turns}
 use Rattle.disk_model.specs.MomentLaws.{goes_trans, turns_then}
 use Rattle.journal.specs.Records.{Record, StandsFor}
@@ -13,7 +13,7 @@ use Rattle.journal.specs.Reading.{IsOpened, records_in}
 use Rattle.journal.specs.Mounting.{SameOrNine}
 use Rattle.journal.specs.Puts.{Puts, ArePut, HoldsPrefix, StandsForPrefix, HavePut}
 use Rattle.journal.specs.PutLaws.{have_put, leaves_one_more, exit_one_more}
-use Rattle.journal.specs.PutLaws as puts_behind
+use Rattle.journal.specs.PutLaws as puts_after
 use Rattle.journal.specs.declared.rec.Rec.{Rec}
 
 -- what is opened, the file stands for
@@ -59,7 +59,7 @@ module _ (file : List ℕ) (opening put : List Record) (stands_for : StandsFor f
       (prefix.0, prefix.1, prefix.2, inr prefix.3))
 
   pub mount_and_put : (old start now : Meaning) (at gate : ℕ) → GoesOn old start
-      → Turns old start (SameOrNine file) → IsLawful start → IsTrue start.is_honest
+      → Turns old start (SameOrNine file) → IsValid start → IsTrue start.is_honest
       → Stands start at opening → ArePut start at put now gate
       → Turns old now (StandsForPrefix opening put 0 (length put))
   mount_and_put old start now at gate one turns law honest stands puts =
@@ -69,7 +69,7 @@ module _ (file : List ℕ) (opening put : List Record) (stands_for : StandsFor f
 -- the same where one more put follows that may have failed
 pub mount_and_stop : (file : List ℕ) (opening put : List Record) → StandsFor file opening
     → (old start last new : Meaning) (at gate : ℕ) (r : Record) → GoesOn old start
-    → Turns old start (SameOrNine file) → IsLawful start → IsTrue start.is_honest
+    → Turns old start (SameOrNine file) → IsValid start → IsTrue start.is_honest
     → Stands start at opening → ArePut start at put last gate → Puts last new gate r
     → Turns old new (StandsForPrefix opening (put ++ r ∷ []) 0 (length (put ++ r ∷ [])))
 mount_and_stop file opening put stands_for old start last new at gate r one turns law honest stands
@@ -85,7 +85,7 @@ mount_and_stop file opening put stands_for old start last new at gate r one turn
 -- from the moment on at which the first of them had been answered Ok it leaves all of these.
 pub mount_and_close : (file : List ℕ) (opening put more : List Record) → StandsFor file opening
     → (old start mid last new : Meaning) (at gate place : ℕ) (r : Record) → GoesOn old start
-    → Turns old start (SameOrNine file) → IsLawful start → IsLawful mid → IsTrue start.is_honest
+    → Turns old start (SameOrNine file) → IsValid start → IsValid mid → IsTrue start.is_honest
     → Stands start at opening → ArePut start at put mid gate → ArePut mid gate more last place
     → Puts last new place r
     → Turns old new (StandsForPrefix opening (put ++ (more ++ r ∷ [])) 0
@@ -95,23 +95,24 @@ pub mount_and_close : (file : List ℕ) (opening put more : List Record) → Sta
 mount_and_close file opening put more stands_for old start mid last new at gate place r one turns
     law law_mid honest stands before then puts =
     let whole = put ++ (more ++ r ∷ []) in
-    let first = puts_behind.first start mid last at gate place opening put more law law_mid honest
+    let first = puts_after.first start mid last at gate place opening put more law law_mid honest
     stands before then in
-    let second = puts_behind.second start mid last at gate place opening put more law law_mid honest
+    let second = puts_after.second start mid last at gate place opening put more law law_mid honest
     stands before then in (
       mount_then file opening whole stands_for old start new (length whole) one turns
           (goes_trans start mid new first.goes (goes_trans mid last new second.goes puts.goes))
-          (puts_behind.all_the_while start mid last at gate place opening put more law law_mid honest
+          (puts_after.all_the_while start mid last at gate place opening put more law law_mid honest
           stands before then new r puts),
-      λ c left. let prefix = puts_behind.from_then_on_stopped start mid last at gate place opening put
+      λ c left. let prefix = puts_after.from_then_on_stopped start mid last at gate place opening
+          put
           more law law_mid honest stands before then new r puts c left in
           (prefix.0, prefix.1, prefix.2, inr prefix.3),
     )
 
--- Mounting again: of what a crash leaves behind some puts that were answered Ok and one that may
+-- Mounting again: of what a crash leaves after some puts that were answered Ok and one that may
 -- have failed, a mount opens the opening records and all of the first, and at most that one more.
 pub mounts_again : (start last new : Meaning) (gate : ℕ) (opening put : List Record)
-    → IsTrue start.is_honest → HavePut start last gate opening put → (r : Record) → IsLawful new
+    → IsTrue start.is_honest → HavePut start last gate opening put → (r : Record) → IsValid new
     → Puts last new gate r → (c : List ℕ) → new.may_leave c → (recs : List Rec) (at : ℕ)
     → IsOpened c recs at
     → (n : ℕ) × (length put ≤ n) × (n ≤ length put + 1)

@@ -1,11 +1,11 @@
--- Whatever is put, and wherever it stops, a crash leaves the opening records and behind them a
+-- Whatever is put, and wherever it stops, a crash leaves the opening records and after them a
 -- prefix of those put, with all that were answered Ok.
 use Rattle.std.proofs.Common.{◌≡◌, inl, inr, ℕ, ◌+◌, ◌≤◌, IsTrue, List, [], ◌∷◌, ◌++◌}
 use Rattle.std.proofs.Common.{length}
 use Rattle.std.proofs.Common.{take, sym, ◌∙◌, ap, subst, arith, append_assoc, length-append}
 use Rattle.std.proofs.Math.Seq.{take-append_seam, take-append-add}
 use Rattle.std.proofs.lemmas.List.{append-nil, take_all, take-append-le}
-use Rattle.disk_model.specs.Meaning.{Meaning, IsLawful}
+use Rattle.disk_model.specs.Meaning.{Meaning, IsValid}
 use Rattle.disk_model.specs.Moments.{Leaves}
 use Rattle.disk_model.specs.MomentLaws.{goes_refl, goes_trans, still_honest, then_leaves}
 use Rattle.disk_model.specs.MomentLaws.{leaves_now}
@@ -39,11 +39,11 @@ module _ (opening put : List Record) where
       sym (take-append-le n put more (omega (arith, high, within))) in
       (n, low, high, subst (λ l. Holds c (opening ++ l)) same holds)
 
-  -- a prefix of those behind them
-  behind : (more : List Record) (least most : ℕ) (c : List ℕ)
+  -- a prefix of those after them
+  after : (more : List Record) (least most : ℕ) (c : List ℕ)
       → HoldsPrefix (opening ++ put) more least most c
       → HoldsPrefix opening (put ++ more) (length put + least) (length put + most) c
-  behind more least most c (n, low, high, holds) =
+  after more least most c (n, low, high, holds) =
       let same : (opening ++ put) ++ take n more ≡ opening ++ take (length put + n) (put ++ more) =
       append_assoc opening put (take n more)
       ∙ ap (λ (l : List Record). opening ++ l) (sym (take-append-add put more n)) in
@@ -56,7 +56,7 @@ wider opening put a b x y c low high (n, from, to, holds) =
     (n, omega (arith, low, from), omega (arith, high, to), holds)
 
 -- nothing has been put
-pub have_none : (d : Meaning) (gate : ℕ) (opening : List Record) → IsLawful d
+pub have_none : (d : Meaning) (gate : ℕ) (opening : List Record) → IsValid d
     → Stands d gate opening → HavePut d d gate opening []
 have_none d gate opening law stands = record {
   goes = goes_refl d law;
@@ -87,8 +87,8 @@ module _ (start last : Meaning) (gate : ℕ) (opening put : List Record)
       (one_more opening put r c (puts.any_moment
       (opening ++ put) still have.stands c left)))
 
-  -- and behind it: all that were answered Ok, and at most that one more
-  pub exit_one_more : (new : Meaning) (r : Record) → IsLawful new → Puts last new gate r
+  -- and after it: all that were answered Ok, and at most that one more
+  pub exit_one_more : (new : Meaning) (r : Record) → IsValid new → Puts last new gate r
       → (c : List ℕ) → new.may_leave c
       → HoldsPrefix opening (put ++ r ∷ []) (length put) (length put + 1) c
   exit_one_more new r law puts c left =
@@ -107,8 +107,8 @@ module _ (start last : Meaning) (gate : ℕ) (opening put : List Record)
         (acknowledges (opening ++ put) (still_honest start last have.goes honest) have.stands);
   }
 
--- puts behind one another
-pub have_put : (start now : Meaning) (at gate : ℕ) (opening put : List Record) → IsLawful start
+-- puts after one another
+pub have_put : (start now : Meaning) (at gate : ℕ) (opening put : List Record) → IsValid start
     → IsTrue start.is_honest → Stands start at opening → ArePut start at put now gate
     → HavePut start now gate opening put
 have_put start now at gate opening put law honest stands (ArePut.none d place) =
@@ -119,9 +119,9 @@ have_put start now at gate opening put law honest stands
     (have_put start last at mid opening rs law honest stands before) now gate r puts ok
 
 -- From the moment on at which some puts had been answered Ok, their records are in every file that
--- a crash leaves, whatever is put behind them.
+-- a crash leaves, whatever is put after them.
 module _ (start mid last : Meaning) (at gate place : ℕ) (opening put more : List Record)
-    (law : IsLawful start) (law_mid : IsLawful mid) (honest : IsTrue start.is_honest)
+    (law : IsValid start) (law_mid : IsValid mid) (honest : IsTrue start.is_honest)
     (stands : Stands start at opening) (before : ArePut start at put mid gate)
     (then : ArePut mid gate more last place) where
   pub first : HavePut start mid gate opening put
@@ -138,7 +138,7 @@ module _ (start mid last : Meaning) (at gate place : ℕ) (opening put more : Li
   from_then_on c left =
       wider opening (put ++ more) (length put + 0) (length put + length more) (length put)
       (length (put ++ more)) c (omega arith) (omega (arith, length-append put more))
-      (behind opening put more 0 (length more) c (second.leaves c left))
+      (after opening put more 0 (length more) c (second.leaves c left))
 
   -- the same where one more put follows that may have failed
   pub from_then_on_stopped : (new : Meaning) (r : Record) → Puts last new place r
@@ -149,7 +149,7 @@ module _ (start mid last : Meaning) (at gate place : ℕ) (opening put more : Li
       (length put + length (more ++ r ∷ []))
       (length put) (length (put ++ (more ++ r ∷ []))) c (omega arith)
       (omega (arith, length-append put (more ++ r ∷ [])))
-      (behind opening put (more ++ r ∷ []) 0 (length (more ++ r ∷ [])) c
+      (after opening put (more ++ r ∷ []) 0 (length (more ++ r ∷ [])) c
       (leaves_one_more mid last place (opening ++ put) more still second new r puts c left))
 
   -- and from the start on: a prefix of them all

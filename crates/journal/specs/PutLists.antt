@@ -1,4 +1,4 @@
--- Lists of records that are put one behind the other.
+-- Lists of records that are put one after the other.
 use Rattle.std.specs.Prelude.{◌≡◌, ℕ, ◌+◌, IsTrue, List, [], ◌∷◌, length, map}
 use Rattle.std.specs.Prelude.{nat_lt, if◌then◌else◌, Some}
 use Rattle.disk_model.specs.Meaning.{Meaning}
@@ -11,7 +11,7 @@ use Rattle.journal.specs.declared.sealed.Sealed.{Sealed}
 abbrev pub records_of : List Sealed → List Record
 records_of list = map sealed_record list
 
--- the records of a list that are put at a gate: each that ends within the limit, behind those before
+-- the records of a list that are put at a gate: each that ends within the limit, after those before
 -- it that do
 abbrev pub fitting : ℕ → ℕ → List Record → List Record
 fitting limit at [] = []
@@ -19,18 +19,18 @@ fitting limit at (r ∷ rs) =
     if nat_lt limit (at + needs r) then fitting limit at rs
     else r ∷ fitting limit (at + 10 + length r.1) rs
 
--- the records of a list that are put behind these, whose gates and frames stand before them
-abbrev pub fitting_behind : ℕ → List Record → List Record → List Record
-fitting_behind limit opening rs = fitting limit (length (before_gate opening)) rs
+-- the records of a list that are put after these, whose gates and frames stand before them
+abbrev pub fitting_after : ℕ → List Record → List Record → List Record
+fitting_after limit opening rs = fitting limit (length (before_gate opening)) rs
 
--- At each moment of a call that puts these a crash leaves the opening records, and behind them a
+-- At each moment of a call that puts these a crash leaves the opening records, and after them a
 -- prefix of these.
 abbrev pub PutsEach : Meaning → Meaning → ℕ → List Record → Type 0
 PutsEach old new at put =
     (opening : List Record) → IsTrue old.is_honest → Stands old at opening
     → Leaves old new (HoldsPrefix opening put 0 (length put))
 
--- Behind such a call a crash leaves at least so many of them, and at most so many.
+-- After such a call a crash leaves at least so many of them, and at most so many.
 abbrev pub LeavesPut : Meaning → Meaning → ℕ → List Record → ℕ → ℕ → Type 0
 LeavesPut old new at put least most =
     (opening : List Record) → IsTrue old.is_honest → Stands old at opening
@@ -44,18 +44,18 @@ MountsAndPuts old new limit rs =
     (file : List ℕ) (opening : List Record) → IsTrue old.is_honest → old.seen ≡ Some file
     → StandsFor file opening
     → UntilSynced old new
-    (StandsForPrefix opening (fitting_behind limit opening rs) 0
-    (length (fitting_behind limit opening rs)))
+    (StandsForPrefix opening (fitting_after limit opening rs) 0
+    (length (fitting_after limit opening rs)))
 
--- Behind it a crash leaves at least so many of them, and at most so many.
+-- After it a crash leaves at least so many of them, and at most so many.
 abbrev pub EndsWith : Meaning → Meaning → ℕ → List Record → ℕ → ℕ → Type 0
 EndsWith old new limit rs least most =
     (file : List ℕ) (opening : List Record) → IsTrue old.is_honest → old.seen ≡ Some file
     → StandsFor file opening → (c : List ℕ) → new.may_leave c
-    → StandsForPrefix opening (fitting_behind limit opening rs) least most c
+    → StandsForPrefix opening (fitting_after limit opening rs) least most c
 
 -- So many are all of the list that fit.
 abbrev pub IsAll : Meaning → ℕ → List Record → ℕ → Type 0
 IsAll old limit rs n =
     (file : List ℕ) (opening : List Record) → IsTrue old.is_honest → old.seen ≡ Some file
-    → StandsFor file opening → n ≡ length (fitting_behind limit opening rs)
+    → StandsFor file opening → n ≡ length (fitting_after limit opening rs)

@@ -15,7 +15,7 @@ abbrev pub gates : ℕ → List Record → List ℕ
 gates at [] = []
 gates at (r ∷ rs) = at ∷ gates (at + 10 + length r.1) rs
 
--- these are the records of the file, and that is the place of the gate behind them
+-- these are the records of the file, and that is the place of the gate after them
 pub record AreRead (file : List ℕ) (recs : List Rec) (at : ℕ) : Type 0 where
   pub holds : Holds file (records_in recs)
   pub places : map (λ rec. rec.at) recs ≡ gates 8 (records_in recs)
@@ -26,13 +26,13 @@ abbrev pub IsOpened : List ℕ → List Rec → ℕ → Type 0
 IsOpened file recs at =
     ((length file ≤ 9) × (recs ≡ []) × (at ≡ 8)) ⊎ ((9 < length file) × AreRead file recs at)
 
--- the payload of a record that begins here, behind which a gate stands
+-- the payload of a record that begins here, after which a gate stands
 pub record IsPayload (rest payload : List ℕ) : Type 0 where
   pub is : rest ≡ body (get_or rest 0 0, payload) ++ drop (9 + length payload) rest
   pub inside : 9 + length payload < length rest
   pub short : length payload < 2 ^ 64
 
--- one record stands behind the gate at that place, and the next gate behind it
+-- one record stands after the gate at that place, and the next gate after it
 pub record IsRead (at : ℕ) (rest : List ℕ) (rec : Rec) (used : ℕ) : Type 0 where
   pub is : rest ≡ body (record_of rec) ++ drop used rest
   pub used_is : used ≡ 9 + length rec.payload.items

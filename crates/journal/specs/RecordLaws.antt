@@ -24,15 +24,15 @@ pub last_part : (n : ℕ) (a b xs ys : List ℕ) → length a ≡ n → length b
 last_part n a b xs ys la lb e = sym (drop_at a xs n la) ∙ ap (λ (l : List ℕ). drop n l) e
     ∙ drop_at b ys n lb
 
--- what stands behind an open gate
-pub behind : (r : Record) (rest : List ℕ)
+-- what stands after an open gate
+pub after : (r : Record) (rest : List ℕ)
     → body r ++ rest ≡ r.0 ∷ (to_be_bytes w64 (length r.1) ++ (r.1 ++ rest))
-behind r rest = ap (λ (l : List ℕ). r.0 ∷ l) (append_assoc (to_be_bytes w64 (length r.1)) r.1 rest)
+after r rest = ap (λ (l : List ℕ). r.0 ∷ l) (append_assoc (to_be_bytes w64 (length r.1)) r.1 rest)
 
 pub one_record : (r s : Record) (xs ys : List ℕ) → length r.1 < 2 ^ 64 → length s.1 < 2 ^ 64
     → body r ++ xs ≡ body s ++ ys → (r ≡ s) × (xs ≡ ys)
 one_record r s xs ys short_r short_s e =
-    let whole = sym (behind r xs) ∙ e ∙ behind s ys in
+    let whole = sym (after r xs) ∙ e ∙ after s ys in
     let kind : r.0 ≡ s.0 = head_is r.0 s.0 _ _ whole in
     let rest = tail_is r.0 s.0 _ _ whole in
     let spelled : to_be_bytes w64 (length r.1) ≡ to_be_bytes w64 (length s.1) =

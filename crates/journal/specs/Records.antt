@@ -1,5 +1,6 @@
--- What the bytes of a file stand for: records behind one another, and a gate that is not open.
-use Rattle.std.specs.Prelude.{◌≡◌, ◌≢◌, ◌⊎◌, ◌==◌, ◌||◌, Bool, IsTrue, ℕ, ◌^◌, ◌<◌, ◌≤◌, List, [], ◌∷◌}
+-- What the bytes of a file stand for: records after one another, and a gate that is not open.
+use Rattle.std.specs.Prelude.{◌≡◌, ◌≢◌, ◌⊎◌, ◌==◌, ◌||◌, Bool, IsTrue, ℕ, ◌^◌, ◌<◌, ◌≤◌, List, []}
+use Rattle.std.specs.Prelude.{◌∷◌}
 use Rattle.std.specs.Prelude.{◌++◌, length, nat_le, if◌then◌else◌}
 use Rattle.std.specs.Int.{w64, to_be_bytes}
 
@@ -22,11 +23,11 @@ header = 80 ∷ 82 ∷ 73 ∷ 77 ∷ 65 ∷ 48 ∷ 48 ∷ 49 ∷ []
 abbrev pub empty_journal : List ℕ
 empty_journal = header ++ 0 ∷ []
 
--- a record behind its gate: the kind, the length in 8 bytes, and the payload
+-- a record after its gate: the kind, the length in 8 bytes, and the payload
 abbrev pub body : Record → List ℕ
 body r = r.0 ∷ to_be_bytes w64 (length r.1) ++ r.1
 
--- records behind open gates
+-- records after open gates
 abbrev pub frames : List Record → List ℕ
 frames [] = []
 frames (r ∷ rs) = 1 ∷ body r ++ frames rs
@@ -39,7 +40,7 @@ abbrev pub AreKnown : List Record → Type 0
 AreKnown [] = Unit {0}
 AreKnown (r ∷ rs) = IsKnown r.0 × (length r.1 < 2 ^ 64) × AreKnown rs
 
--- The file has these records, and then a gate that is not open. What stands behind that gate means
+-- The file has these records, and then a gate that is not open. What stands after that gate means
 -- nothing.
 pub record Holds (file : List ℕ) (rs : List Record) : Type 0 where
   pub gate : ℕ

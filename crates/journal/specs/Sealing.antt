@@ -3,7 +3,7 @@ use Rattle.std.specs.Prelude.{◌≡◌, ℕ, ◌-◌, ◌≤◌, ◌<◌, ◌^�
 use Rattle.std.specs.Prelude.{drop, get_or}
 use Rattle.journal.specs.Records.{Record, IsKnown, body}
 
--- the record of which these are the bytes, with a closed gate behind
+-- the record of which these are the bytes, with a closed gate after
 abbrev pub record_in : List ℕ → Record
 record_in bytes = (get_or bytes 0 0, take (length bytes - 10) (drop 9 bytes))
 

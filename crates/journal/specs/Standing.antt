@@ -29,8 +29,8 @@ sealed_record s = record_in (sealed_bytes s)
 abbrev pub needs : Record → ℕ
 needs r = 11 + length r.1
 
--- the file with this record behind the gate at this place, which is opened, and a closed gate
--- behind the record
+-- the file with this record after the gate at this place, which is opened, and a closed gate
+-- after the record
 abbrev pub with_record : List ℕ → ℕ → Record → List ℕ
 with_record file at r = with_bytes file at (1 ∷ (body r ++ 0 ∷ []))
 

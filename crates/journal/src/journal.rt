@@ -10,7 +10,7 @@ use crate::sealed::Sealed;
 use crate::synced_write::write_and_sync;
 use disk_model::Disk;
 
-/// Records on a disk, behind one another. A record counts once the gate before it is open. The last
+/// Records on a disk, after one another. A record counts once the gate before it is open. The last
 /// gate, at `at`, is not open, and no record reaches past `limit` bytes.
 #[derive(Drop)]
 pub struct Journal<D: Disk> {
@@ -23,7 +23,7 @@ pub struct Journal<D: Disk> {
 impl<D: Disk> Journal<D> {
     ghost use Rattle.journal.specs.Fields.{below, place_of, limit_of, disk_of};
 
-    /// Puts a record behind the others. `Full` comes exactly where it would end past the limit,
+    /// Puts a record after the others. `Full` comes exactly where it would end past the limit,
     /// and then nothing was done. `Disk` comes only where the disk's count of faults rose; the
     /// journal is then to be mounted again. At each moment of the call a crash leaves the records
     /// before, with the new one or without; after `Ok` every crash leaves it. It takes no memory.
@@ -68,7 +68,7 @@ impl<D: Disk> Journal<D> {
         Ok(())
     }
 
-    /// The place of the closed gate behind the records. It takes no memory.
+    /// The place of the closed gate after the records. It takes no memory.
     pub fn place(&self) -> u64
         ensures { result ≡ place_of self.now }
     {

@@ -1,7 +1,7 @@
 //! The journal: records on a disk that may stop at any moment.
 //!
-//! A record counts once the gate before it is open. Putting one writes it behind the closed gate,
-//! with a closed gate of its own behind it, syncs, opens the gate, and syncs again; so at each
+//! A record counts once the gate before it is open. Putting one writes it after the closed gate,
+//! with a closed gate of its own after it, syncs, opens the gate, and syncs again; so at each
 //! moment a crash leaves the records before, with the new one or without.
 #![tactic(auto)]
 

@@ -1,4 +1,5 @@
-ghost use Rattle.std.specs.Prelude.{◌≡◌, ◌+◌, ◌-◌, ◌^◌, ◌<◌, ◌++◌, ℕ, IsTrue, List, [], length, min};
+ghost use Rattle.std.specs.Prelude.{◌≡◌, ◌+◌, ◌-◌, ◌^◌, ◌<◌, ◌++◌, ℕ, IsTrue, List, [], length};
+ghost use Rattle.std.specs.Prelude.{min};
 ghost use Rattle.std.specs.Prelude.{Err, IfOk, IfErr, OnOk, OnErr};
 ghost use Rattle.prima_io.specs.Causes.{Rose};
 ghost use Rattle.disk_model.specs.Meaning.{Tells};
@@ -18,10 +19,10 @@ use disk_model::Disk;
 use std::alloc::Global;
 
 /// Puts these records in their order, and answers how many. One that does not fit is left out, and
-/// those behind it are tried. The first failure of the disk ends the call: its count of faults rose,
+/// those after it are tried. The first failure of the disk ends the call: its count of faults rose,
 /// the answer is how many had been put before, and the journal is to be mounted again. At each
-/// moment a crash leaves the records before and a prefix of those that fit; after the call it leaves
-/// all that were put, and at most the one more that failed. It takes no memory.
+/// moment a crash leaves the records before and a prefix of those that fit; after the call it
+/// leaves all that were put, and at most the one more that failed. It takes no memory.
 pub fn put_each<D: Disk>(journal: &mut Journal<D>, list: &[Sealed]) -> Result<usize, usize>
     requires ready { HasGate (below journal.old) (place_of journal.old) }
     ensures goes { GoesOn (below journal.old) (below journal.new) }
@@ -57,11 +58,11 @@ pub fn put_each<D: Disk>(journal: &mut Journal<D>, list: &[Sealed]) -> Result<us
     Ok(put)
 }
 
-/// Mounts the journal that the file on a disk holds, and puts these records behind its own as
+/// Mounts the journal that the file on a disk holds, and puts these records after its own as
 /// `put_each` does. It answers how many were put, and hands the disk back as it then stands. Until
-/// the first sync of the mount has succeeded a crash leaves what it might have left before, from then
-/// on the opening records and a prefix of those that fit; after the call it leaves all that were put,
-/// and at most the one more that failed.
+/// the first sync of the mount has succeeded a crash leaves what it might have left before, from
+/// then on the opening records and a prefix of those that fit; after the call it leaves all that
+/// were put, and at most the one more that failed.
 pub fn mount_and_put<D: Disk>(
     alloc: Global,
     disk: D,
@@ -69,7 +70,8 @@ pub fn mount_and_put<D: Disk>(
     list: &[Sealed],
 ) -> (Result<usize, PutsFault>, D)
     ensures goes { GoesOn (D.meaning disk) (D.meaning result.1) }
-    ensures any_moment { MountsAndPuts (D.meaning disk) (D.meaning result.1) (min limit (2 ^ 64 - 2))
+    ensures any_moment { MountsAndPuts (D.meaning disk) (D.meaning result.1)
+        (min limit (2 ^ 64 - 2))
         (records_of list.now) }
     ensures all { IfOk result.0
         (λ n. IsAll (D.meaning disk) (min limit (2 ^ 64 - 2)) (records_of list.now) n) }

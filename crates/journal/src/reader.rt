@@ -25,23 +25,23 @@ fn first_difference(bytes: &[u8]) -> Option<usize>
     None
 }
 
-// The payload of the record behind an open gate, where it is whole and a gate stands behind it.
+// The payload of the record after an open gate, where it is whole and a gate stands after it.
 fn read_payload(rest: &[u8]) -> Option<&[u8]>
     requires { 1 ≤ length rest.now }
     ensures found { IfSome result (λ payload. IsPayload rest.now payload.now) }
     ensures none { IfNone result (IsCut rest.now) }
 {
-    let [_, a, b, c, d, e, f, g, h, behind @ ..] = rest else {
+    let [_, a, b, c, d, e, f, g, h, after @ ..] = rest else {
         return None;
     };
     let len = u64::from_be_bytes([*a, *b, *c, *d, *e, *f, *g, *h]);
-    if len >= behind.len() as u64 {
+    if len >= after.len() as u64 {
         return None;
     }
-    Some(&behind[..len as usize])
+    Some(&after[..len as usize])
 }
 
-// The record behind the open gate at `at`, and how many bytes it has.
+// The record after the open gate at `at`, and how many bytes it has.
 fn read_record(alloc: Global, at: u64, rest: &[u8]) -> Result<(Rec, usize), JournalFault>
     requires { at + length rest.now < 2 ^ 64 - 1 }
     ensures ok { IfOk result (λ it. IsRead at rest.now it.0 it.1) }
@@ -66,7 +66,7 @@ fn read_record(alloc: Global, at: u64, rest: &[u8]) -> Result<(Rec, usize), Jour
     Ok((rec, 9 + payload.len()))
 }
 
-// The records of a file, and the place of the gate behind them.
+// The records of a file, and the place of the gate after them.
 pub(crate) fn read_records(alloc: Global, bytes: &[u8]) -> Result<(Vec<Rec>, usize), JournalFault>
     requires long { 9 < length bytes.now }
     requires short { length bytes.now < 2 ^ 64 - 1 }

@@ -3,7 +3,7 @@ ghost use Rattle.journal.specs.Sealing.{IsSealed};
 use prima_base::NoMemory;
 use std::alloc::Global;
 
-/// A record in the bytes in which it is put, with a closed gate behind it.
+/// A record in the bytes in which it is put, with a closed gate after it.
 #[derive(Drop)]
 pub struct Sealed {
     bytes: Vec<u8>,
@@ -28,7 +28,7 @@ impl Sealed {
         Ok(Sealed { bytes })
     }
 
-    // The bytes, with the closed gate behind.
+    // The bytes, with the closed gate after.
     pub(crate) fn bytes(&self) -> &[u8]
         ensures bytes { result.now ≡ sealed_bytes self.now }
         ensures sealed { IsSealed result.now }

@@ -52,7 +52,7 @@ pub(crate) fn write_puts(
     }
 }
 
-/// The places of the records' gates, behind one another.
+/// The places of the records' gates, after one another.
 pub(crate) fn write_places(recs: &[Rec], text: &mut Vec<u8>) -> Result<(), NoMemory> {
     text.extend_from_slice(b"holds")?;
     if recs.is_empty() {

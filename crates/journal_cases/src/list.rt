@@ -1,4 +1,4 @@
-//! Lists of records that are put one behind the other, over each kind of disk.
+//! Lists of records that are put one after the other, over each kind of disk.
 
 use crate::answer::{write_fault, write_puts};
 use case_text::{read_hex, write_number};
@@ -37,7 +37,7 @@ pub(crate) fn put_over_memory(
     list: &[Sealed],
     text: &mut Vec<u8>,
 ) -> Result<(), NoMemory> {
-    let (answer, _lent) = mount_and_put(alloc, &mut *disk, limit, list);
+    let (answer, _borrowed) = mount_and_put(alloc, &mut *disk, limit, list);
     write_puts(answer, text)?;
     text.extend_from_slice(b" after ")?;
     write_number(disk.moment(), text)?;
@@ -62,8 +62,8 @@ pub(crate) fn put_over_fuse(
     Ok(text)
 }
 
-/// Puts a list over a disk that keeps nothing but its length, and tells the answer, that length, and
-/// what mounting it again answers.
+/// Puts a list over a disk that keeps nothing but its length, and tells the answer, that length,
+/// and what mounting it again answers.
 pub(crate) fn put_over_nothing(
     alloc: Global,
     limit: u64,

@@ -2,16 +2,15 @@
 //!
 //! `tokens` makes the tokens of a text. `parse_expr` and `parse_cond` read an expression or a
 //! condition from a list of tokens. Their grammar is `specs/Grammar.antt` of expr_grammar; what is
-//! counted at each token is its `specs/TreeMarks.antt`, and which token is the first that is too much
-//! `specs/Passes.antt` of parser_combinators.
+//! counted at each token is its `specs/TreeCounts.antt`, and which token is the first that is too
+//! much `specs/Crossings.antt` of parser_combinators.
 //!
 //! Crates above read statements over a `Cursor`, with these readers and their own: `name` and
 //! `names`, `moment`, `small`, `int`, `literal` and `constant` (`specs/Constants.antt` of
-//! expr_grammar), `fresh_expr` and `fresh_cond`, which count anew, `outer_where` and `fresh_where` for
-//! a condition behind WHERE, and the cursor's own steps
-//! (`expect_word`, `expect_sign`, `sees_word`, `sees_sign`, `skip`). `specs/Parsing.antt` of
-//! parser_combinators has the steps of reading for any grammar, and says how a production is made of
-//! them.
+//! expr_grammar), `fresh_expr` and `fresh_cond`, which count anew, `outer_where` and `fresh_where`
+//! for a condition after WHERE, and the cursor's own steps (`expect_word`, `expect_sign`,
+//! `sees_word`, `sees_sign`, `skip`). `specs/Parsing.antt` of parser_combinators has the steps of
+//! reading for any grammar, and says how a production is made of them.
 //!
 //! This crate stands for those below it: lexical_grammar, parser_combinators and expr_grammar have
 //! the definitions with their laws, token_readers what is read of one token. Here are the readers
@@ -22,7 +21,7 @@ mod parse;
 mod reader;
 
 pub use expr_grammar::{
-    constants_are_read, fronts_are_one, marks_add_up, trees_and_rests, trees_are_one,
+    constants_are_read, counts_add_up, prefixes_are_one, trees_and_rests, trees_are_one,
     trees_are_read,
 };
 pub use lexical_grammar::{

@@ -4,14 +4,16 @@ ghost use Rattle.std.specs.Prelude.{◌≡◌, ◌++◌, ◌<◌, ◌≤◌, ◌
 ghost use Rattle.cond_expr.specs.Trees.{Tree, Test};
 ghost use Rattle.cond_expr.specs.Seen.{tree, test};
 ghost use Rattle.lexical_grammar.specs.Lexemes.{Lexeme};
-ghost use Rattle.parser_combinators.specs.declared.reading.Stop.TheVariants as stop;
+ghost use Rattle.parser_combinators.specs.declared.cursor.Stop.TheVariants as stop;
 ghost use Rattle.expr_grammar.specs.Grammar.{IsExpr, IsCond};
-ghost use Rattle.parser_combinators.specs.Passes.{IsFirstPass, IsFaultOf};
-ghost use Rattle.expr_grammar.specs.TreeMarks.{expr_passes, cond_passes};
-ghost use Rattle.parser_combinators.specs.Parsing.{Size, Stops, limit};
-ghost use Rattle.prima_base.specs.declared.refusals.What.{What as Counted};
-ghost use Rattle.expr_grammar.specs.Reader.{goes_expr, goes_cond, outermost};
-ghost use Rattle.parser_combinators.specs.Found.{IsRead, Finds, Ends, IsTooMany, Follows, FaultAt, lexemes_from};
+ghost use Rattle.parser_combinators.specs.Crossings.{IsFirstCrossing, IsFaultOf};
+ghost use Rattle.expr_grammar.specs.TreeCounts.{expr_crossings, cond_crossings};
+ghost use Rattle.parser_combinators.specs.Parsing.{Stops, limit};
+ghost use Rattle.parser_combinators.specs.Grammar.{Size};
+ghost use Rattle.prima_base.specs.declared.refusal.What.{What as Counted};
+ghost use Rattle.expr_grammar.specs.Reader.{follow_expr, follow_cond, outermost};
+ghost use Rattle.parser_combinators.specs.Found.{IsRead, Finds, Ends, IsTooMany, AnswersAs};
+ghost use Rattle.parser_combinators.specs.Found.{FaultAt, lexemes_from};
 
 use crate::reader::{outer_cond, outer_expr};
 use cond_expr::{Cond, Expr};
@@ -52,13 +54,13 @@ pub fn tail<'a, 't>(list: &'a [Token<'t>], from: usize) -> &'a [Token<'t>]
 
 /// The fault of reading that stopped before so many tokens that are left of the list.
 pub fn fault_at(why: Stop, list: &[Token<'_>], left: usize) -> ParseFault
-    requires { why ≡ stop.Stuck → left ≤ length list.now }
+    requires { why ≡ stop.Unexpected → left ≤ length list.now }
     ensures { FaultAt why list.now left result }
 {
     match why {
         Stop::NoMemory => ParseFault::NoMemory,
         Stop::TooMany(what) => ParseFault::TooMany(what, limit_of(what)),
-        Stop::Stuck => {
+        Stop::Unexpected => {
             if left == 0 {
                 ParseFault::RanOut
             } else {
@@ -68,12 +70,12 @@ pub fn fault_at(why: Stop, list: &[Token<'_>], left: usize) -> ParseFault
     }
 }
 
-/// The expression that begins at the token `from` of the list, and the place of the token behind it.
+/// The expression that begins at the token `from` of the list, and the place of the token after it.
 /// Places count the list's tokens from 0; `from` is at most its length. The longest expression is
 /// read. References are those of queries, `Free` or `Alias`, where `qualified`, and else columns of
 /// atom 0. At most 256 nodes are read, at most 32 brackets, CASEs and NOTs are open at once, and a
-/// CONCAT has at most 8 parts: the first token that is one more is `TooMany`, and of two counts that
-/// pass at one token it is the nodes.
+/// CONCAT has at most 8 parts: the first token that is one more is `TooMany`, and of two counts
+/// that pass at one token it is the nodes.
 pub fn parse_expr(
     alloc: Global,
     list: &[Token<'_>],
@@ -81,20 +83,32 @@ pub fn parse_expr(
     qualified: bool,
 ) -> Result<(Expr, usize), ParseFault>
     requires { from ≤ length list.now }
-    // What is read is in the grammar, and nothing of it goes on with the token behind it.
+    // What is read is in the grammar, and nothing of it goes on with the token after it.
     ensures read { IsRead tree (IsExpr qualified) list.now from result }
-    // What is in the grammar, up to a token that it does not go on with, is read if it is within the limits, and else refused.
-    ensures only { (e : Tree) (s : Size) (front rest : List Lexeme) → lexemes_from list.now from ≡ front ++ rest → IsExpr qualified e s front → Stops (goes_expr qualified) rest →
-        Finds tree e s (from + length front) result }
-    // What is in the grammar, where nothing of it goes on with the token behind it, is read if it is within the limits, and else refused.
-    ensures longest { (e : Tree) (s : Size) (front rest : List Lexeme) → lexemes_from list.now from ≡ front ++ rest → IsExpr qualified e s front → Ends (IsExpr qualified) (lexemes_from list.now from) (length front) →
-        Finds tree e s (from + length front) result }
-    // A fault is at the first token with which nothing of the grammar goes on, or at which a count passes its limit.
-    ensures fault { IsFaultOf (IsExpr qualified) (expr_passes qualified) list.now from result }
-    // A front that passes a limit at its last token is refused there for this count, whatever stands behind it.
-    ensures over { (w : Counted) (front rest more : List Lexeme) (x : Lexeme) (e : Tree) (s : Size) (h : IsExpr qualified e s (front ++ x ∷ more)) → lexemes_from list.now from ≡ front ++ x ∷ rest →
-        IsFirstPass w (expr_passes qualified e s (front ++ x ∷ more) h) (length front) → IsTooMany w result }
-    ensures exact { Follows tree ((outermost qualified).expr 0 (lexemes_from list.now from)) list.now result }
+    // What is in the grammar, up to a token that it does not go on with, is read if it is within
+    // the limits, and else refused.
+    ensures only { (e : Tree) (s : Size) (prefix rest : List Lexeme)
+        → lexemes_from list.now from ≡ prefix ++ rest → IsExpr qualified e s prefix
+        → Stops (follow_expr qualified) rest →
+        Finds tree e s (from + length prefix) result }
+    // What is in the grammar, where nothing of it goes on with the token after it, is read if it is
+    // within the limits, and else refused.
+    ensures longest { (e : Tree) (s : Size) (prefix rest : List Lexeme)
+        → lexemes_from list.now from ≡ prefix ++ rest → IsExpr qualified e s prefix
+        → Ends (IsExpr qualified) (lexemes_from list.now from) (length prefix) →
+        Finds tree e s (from + length prefix) result }
+    // A fault is at the first token with which nothing of the grammar goes on, or at which a count
+    // passes its limit.
+    ensures fault { IsFaultOf (IsExpr qualified) (expr_crossings qualified) list.now from result }
+    // A prefix that passes a limit at its last token is refused there for this count, whatever
+    // stands after it.
+    ensures over { (w : Counted) (prefix rest more : List Lexeme) (x : Lexeme) (e : Tree) (s : Size)
+        (h : IsExpr qualified e s (prefix ++ x ∷ more))
+        → lexemes_from list.now from ≡ prefix ++ x ∷ rest →
+        IsFirstCrossing w (expr_crossings qualified e s (prefix ++ x ∷ more) h) (length prefix)
+        → IsTooMany w result }
+    ensures exact { AnswersAs tree ((outermost qualified).expr 0 (lexemes_from list.now from))
+        list.now result }
 {
     let mut cursor = Cursor {
         rest: tail(list, from),
@@ -106,7 +120,7 @@ pub fn parse_expr(
     }
 }
 
-/// The condition that begins at the token `from` of the list, and the place of the token behind it.
+/// The condition that begins at the token `from` of the list, and the place of the token after it.
 /// Places, references and limits are those of `parse_expr`.
 pub fn parse_cond(
     alloc: Global,
@@ -116,14 +130,22 @@ pub fn parse_cond(
 ) -> Result<(Cond, usize), ParseFault>
     requires { from ≤ length list.now }
     ensures read { IsRead test (IsCond qualified) list.now from result }
-    ensures only { (c : Test) (s : Size) (front rest : List Lexeme) → lexemes_from list.now from ≡ front ++ rest → IsCond qualified c s front → Stops (goes_cond qualified) rest →
-        Finds test c s (from + length front) result }
-    ensures longest { (c : Test) (s : Size) (front rest : List Lexeme) → lexemes_from list.now from ≡ front ++ rest → IsCond qualified c s front → Ends (IsCond qualified) (lexemes_from list.now from) (length front) →
-        Finds test c s (from + length front) result }
-    ensures fault { IsFaultOf (IsCond qualified) (cond_passes qualified) list.now from result }
-    ensures over { (w : Counted) (front rest more : List Lexeme) (x : Lexeme) (c : Test) (s : Size) (h : IsCond qualified c s (front ++ x ∷ more)) → lexemes_from list.now from ≡ front ++ x ∷ rest →
-        IsFirstPass w (cond_passes qualified c s (front ++ x ∷ more) h) (length front) → IsTooMany w result }
-    ensures exact { Follows test ((outermost qualified).cond 0 (lexemes_from list.now from)) list.now result }
+    ensures only { (c : Test) (s : Size) (prefix rest : List Lexeme)
+        → lexemes_from list.now from ≡ prefix ++ rest → IsCond qualified c s prefix
+        → Stops (follow_cond qualified) rest →
+        Finds test c s (from + length prefix) result }
+    ensures longest { (c : Test) (s : Size) (prefix rest : List Lexeme)
+        → lexemes_from list.now from ≡ prefix ++ rest → IsCond qualified c s prefix
+        → Ends (IsCond qualified) (lexemes_from list.now from) (length prefix) →
+        Finds test c s (from + length prefix) result }
+    ensures fault { IsFaultOf (IsCond qualified) (cond_crossings qualified) list.now from result }
+    ensures over { (w : Counted) (prefix rest more : List Lexeme) (x : Lexeme) (c : Test) (s : Size)
+        (h : IsCond qualified c s (prefix ++ x ∷ more))
+        → lexemes_from list.now from ≡ prefix ++ x ∷ rest →
+        IsFirstCrossing w (cond_crossings qualified c s (prefix ++ x ∷ more) h) (length prefix)
+        → IsTooMany w result }
+    ensures exact { AnswersAs test ((outermost qualified).cond 0 (lexemes_from list.now from))
+        list.now result }
 {
     let mut cursor = Cursor {
         rest: tail(list, from),

@@ -1,7 +1,8 @@
 //! Reading of expressions and conditions, from left to right.
 
-ghost use Rattle.std.specs.Prelude.{◌≡◌, ◌+◌, ◌-◌, ◌≤◌, ◌<◌, ◌++◌, ℕ, List, length, drop, map, take, true, false, codes, [], ◌∷◌, IfOk, IfErr, OnOk, OnErr};
-ghost use Rattle.prima_base.specs.declared.refusals.What.TheVariants as what;
+ghost use Rattle.std.specs.Prelude.{◌≡◌, ◌+◌, ◌-◌, ◌≤◌, ◌<◌, ◌++◌, ℕ, List, length, drop, map};
+ghost use Rattle.std.specs.Prelude.{take, true, false, codes, [], ◌∷◌, IfOk, IfErr, OnOk, OnErr};
+ghost use Rattle.prima_base.specs.declared.refusal.What.TheVariants as what;
 ghost use Rattle.cond_expr.specs.Seen.{tree, test};
 ghost use Rattle.lexical_grammar.specs.Lexemes.{is_word, is_sign};
 ghost use Rattle.parser_combinators.specs.Reads.{Reads, ReadsMore, ahead};
@@ -27,7 +28,8 @@ fn length_inside(
     inner: u32,
 ) -> Result<Expr, Stop>
     requires { inner < 32 }
-    ensures { Reads tree (spec.length_rest qualified true (spec.level qualified inner) c.old.nodes (ahead c.old)) result c.new }
+    ensures { Reads tree (spec.length_rest qualified true (spec.level qualified inner) c.old.nodes
+        (ahead c.old)) result c.new }
 {
     c.expect_sign(b"(")?;
     let part = expr(alloc, c, qualified, inner)?;
@@ -44,7 +46,8 @@ fn length_rest(
     depth: u32,
 ) -> Result<Expr, Stop>
     requires { depth ≤ 32 }
-    ensures { Reads tree (spec.length_rest qualified (spec.can depth) (spec.inside qualified depth) c.old.nodes (ahead c.old)) result c.new }
+    ensures { Reads tree (spec.length_rest qualified (spec.can depth) (spec.inside qualified depth)
+        c.old.nodes (ahead c.old)) result c.new }
 {
     if depth == 0 {
         return Err(no_bracket(c));
@@ -62,7 +65,8 @@ fn more_exprs(
     inner: u32,
 ) -> Result<(), Stop>
     requires { inner < 32 }
-    ensures { ReadsMore (parsing.more (is_sign (codes ",")) what.Parts (spec.level qualified inner).expr 7 c.old.nodes (ahead c.old))
+    ensures { ReadsMore (parsing.more (is_sign (codes ",")) what.Parts
+        (spec.level qualified inner).expr 7 c.old.nodes (ahead c.old))
         (map tree parts.old.items) (map tree parts.new.items) result c.new }
 {
     let mut left: u32 = 7;
@@ -86,7 +90,8 @@ fn concat_inside(
     inner: u32,
 ) -> Result<Expr, Stop>
     requires { inner < 32 }
-    ensures { Reads tree (spec.concat_rest qualified true (spec.level qualified inner) c.old.nodes (ahead c.old)) result c.new }
+    ensures { Reads tree (spec.concat_rest qualified true (spec.level qualified inner) c.old.nodes
+        (ahead c.old)) result c.new }
 {
     c.expect_sign(b"(")?;
     let first = expr(alloc, c, qualified, inner)?;
@@ -105,7 +110,8 @@ fn concat_rest(
     depth: u32,
 ) -> Result<Expr, Stop>
     requires { depth ≤ 32 }
-    ensures { Reads tree (spec.concat_rest qualified (spec.can depth) (spec.inside qualified depth) c.old.nodes (ahead c.old)) result c.new }
+    ensures { Reads tree (spec.concat_rest qualified (spec.can depth) (spec.inside qualified depth)
+        c.old.nodes (ahead c.old)) result c.new }
 {
     if depth == 0 {
         return Err(no_bracket(c));
@@ -122,7 +128,8 @@ fn case_rest(
     inner: u32,
 ) -> Result<Expr, Stop>
     requires { inner < 32 }
-    ensures { Reads tree (spec.case_rest qualified true (spec.level qualified inner) c.old.nodes (ahead c.old)) result c.new }
+    ensures { Reads tree (spec.case_rest qualified true (spec.level qualified inner) c.old.nodes
+        (ahead c.old)) result c.new }
 {
     c.expect_word(b"WHEN")?;
     let when = cond(alloc, c, qualified, inner)?;
@@ -173,11 +180,12 @@ fn comparison(
     depth: u32,
 ) -> Result<Cond, Stop>
     requires { depth ≤ 32 }
-    ensures { Reads test (spec.comparison qualified (spec.can depth) (spec.inside qualified depth) c.old.nodes (ahead c.old)) result c.new }
+    ensures { Reads test (spec.comparison qualified (spec.can depth) (spec.inside qualified depth)
+        c.old.nodes (ahead c.old)) result c.new }
 {
     let left = expr(alloc, c, qualified, depth)?;
     let Some(op) = sees_op(c) else {
-        return Err(Stop::Stuck);
+        return Err(Stop::Unexpected);
     };
     c.step()?;
     let right = expr(alloc, c, qualified, depth)?;
@@ -193,7 +201,8 @@ fn bracketed(
     inner: u32,
 ) -> Result<Cond, Stop>
     requires { inner < 32 }
-    ensures { Reads test (spec.bracketed qualified true (spec.level qualified inner) c.old.nodes (ahead c.old)) result c.new }
+    ensures { Reads test (spec.bracketed qualified true (spec.level qualified inner) c.old.nodes
+        (ahead c.old)) result c.new }
 {
     let found = cond(alloc, c, qualified, inner)?;
     c.expect_sign(b")")?;
@@ -249,7 +258,8 @@ fn more_facts(
     depth: u32,
 ) -> Result<(), Stop>
     requires { depth ≤ 32 }
-    ensures { ReadsMore (parsing.nodes_more (is_word (codes "AND")) (spec.level qualified depth).fact c.old.nodes (ahead c.old))
+    ensures { ReadsMore (parsing.nodes_more (is_word (codes "AND"))
+        (spec.level qualified depth).fact c.old.nodes (ahead c.old))
         (map test parts.old.items) (map test parts.new.items) result c.new }
 {
     let mut left: u32 = 257 - c.nodes;
@@ -274,7 +284,8 @@ fn facts(
     depth: u32,
 ) -> Result<Cond, Stop>
     requires { depth ≤ 32 }
-    ensures { Reads test (spec.facts qualified (spec.can depth) (spec.inside qualified depth) (test first) c.old.nodes (ahead c.old)) result c.new }
+    ensures { Reads test (spec.facts qualified (spec.can depth) (spec.inside qualified depth)
+        (test first) c.old.nodes (ahead c.old)) result c.new }
 {
     if !c.sees_word(b"AND") {
         return Ok(first);
@@ -290,7 +301,8 @@ fn facts(
 #[tactic(auto, unfolding(expr_grammar::specs::Reader::conj))]
 fn conj(alloc: Global, c: &mut Cursor<'_, '_>, qualified: bool, depth: u32) -> Result<Cond, Stop>
     requires { depth ≤ 32 }
-    ensures { Reads test (spec.conj qualified (spec.can depth) (spec.inside qualified depth) c.old.nodes (ahead c.old)) result c.new }
+    ensures { Reads test (spec.conj qualified (spec.can depth) (spec.inside qualified depth)
+        c.old.nodes (ahead c.old)) result c.new }
 {
     let first = fact(alloc, c, qualified, depth)?;
     facts(alloc, c, first, qualified, depth)
@@ -307,7 +319,9 @@ fn more_conjs(
     depth: u32,
 ) -> Result<(), Stop>
     requires { depth ≤ 32 }
-    ensures { ReadsMore (parsing.nodes_more (is_word (codes "OR")) (spec.conj qualified (spec.can depth) (spec.inside qualified depth)) c.old.nodes (ahead c.old))
+    ensures { ReadsMore (parsing.nodes_more (is_word (codes "OR"))
+        (spec.conj qualified (spec.can depth) (spec.inside qualified depth)) c.old.nodes
+        (ahead c.old))
         (map test parts.old.items) (map test parts.new.items) result c.new }
 {
     let mut left: u32 = 257 - c.nodes;
@@ -332,7 +346,8 @@ fn conjs(
     depth: u32,
 ) -> Result<Cond, Stop>
     requires { depth ≤ 32 }
-    ensures { Reads test (spec.conjs qualified (spec.can depth) (spec.inside qualified depth) (test first) c.old.nodes (ahead c.old)) result c.new }
+    ensures { Reads test (spec.conjs qualified (spec.can depth) (spec.inside qualified depth)
+        (test first) c.old.nodes (ahead c.old)) result c.new }
 {
     if !c.sees_word(b"OR") {
         return Ok(first);
@@ -377,10 +392,11 @@ pub fn outer_cond(alloc: Global, c: &mut Cursor<'_, '_>, qualified: bool) -> Res
 }
 
 /// An expression with counts of its own: 256 nodes and 32 open constructs, whatever was counted
-/// before it. Behind it the cursor's count is as it was.
+/// before it. After it the cursor's count is as it was.
 #[tactic(auto, using(parser_combinators::proofs::ReadSteps::fresh_fails))]
 pub fn fresh_expr(alloc: Global, c: &mut Cursor<'_, '_>, qualified: bool) -> Result<Expr, Stop>
-    ensures { Reads tree (parsing.fresh (spec.outermost qualified).expr c.old.nodes (ahead c.old)) result c.new }
+    ensures { Reads tree (parsing.fresh (spec.outermost qualified).expr c.old.nodes (ahead c.old))
+        result c.new }
 {
     let before = c.nodes;
     c.nodes = 0;
@@ -392,7 +408,8 @@ pub fn fresh_expr(alloc: Global, c: &mut Cursor<'_, '_>, qualified: bool) -> Res
 /// A condition with counts of its own, as `fresh_expr`.
 #[tactic(auto, using(parser_combinators::proofs::ReadSteps::fresh_fails))]
 pub fn fresh_cond(alloc: Global, c: &mut Cursor<'_, '_>, qualified: bool) -> Result<Cond, Stop>
-    ensures { Reads test (parsing.fresh (spec.outermost qualified).cond c.old.nodes (ahead c.old)) result c.new }
+    ensures { Reads test (parsing.fresh (spec.outermost qualified).cond c.old.nodes (ahead c.old))
+        result c.new }
 {
     let counted = c.nodes;
     c.nodes = 0;
@@ -401,8 +418,8 @@ pub fn fresh_cond(alloc: Global, c: &mut Cursor<'_, '_>, qualified: bool) -> Res
     found
 }
 
-/// The condition behind a WHERE, where one comes, and else TRUE; counted with what was counted before
-/// it.
+/// The condition after a WHERE, where one comes, and else TRUE; counted with what was counted
+/// before it.
 #[tactic(auto, unfolding(expr_grammar::specs::Where::outer_where), using(parser_combinators::proofs::ReadSteps::option_not, parser_combinators::proofs::ReadSteps::option_takes))]
 pub fn outer_where(alloc: Global, c: &mut Cursor<'_, '_>, qualified: bool) -> Result<Cond, Stop>
     ensures { Reads test (wheres.outer_where qualified c.old.nodes (ahead c.old)) result c.new }
@@ -414,7 +431,7 @@ pub fn outer_where(alloc: Global, c: &mut Cursor<'_, '_>, qualified: bool) -> Re
     outer_cond(alloc, c, qualified)
 }
 
-/// The condition behind a WHERE, where one comes, and else TRUE; with counts of its own, as
+/// The condition after a WHERE, where one comes, and else TRUE; with counts of its own, as
 /// `fresh_cond`.
 #[tactic(auto, unfolding(expr_grammar::specs::Where::fresh_where), using(parser_combinators::proofs::ReadSteps::option_not, parser_combinators::proofs::ReadSteps::option_takes))]
 pub fn fresh_where(alloc: Global, c: &mut Cursor<'_, '_>, qualified: bool) -> Result<Cond, Stop>

@@ -22,5 +22,6 @@ word_is w = (bytes_eq-Decides w w).1 refl
 pub sign_is : (w : List ℕ) → is_sign w (sign w) ≡ true
 sign_is w = (bytes_eq-Decides w w).1 refl
 
-pub clash : {X : Type 0} (is : Lexeme → Bool) (x y : Lexeme) (l m : List Lexeme) → is x ≡ false → is y ≡ true → x ∷ l ≡ y ∷ m → X
+pub clash : {X : Type 0} (is : Lexeme → Bool) (x y : Lexeme) (l m : List Lexeme) → is x ≡ false
+    → is y ≡ true → x ∷ l ≡ y ∷ m → X
 clash is x y l m e f h = let z : x ≡ y = cc in true_false (sym f ∙ sym (ap is z) ∙ e)

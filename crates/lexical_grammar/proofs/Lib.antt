@@ -5,5 +5,5 @@ pub mod Gaps
 pub mod Shapes
 pub mod Once
 pub mod Slices
-pub mod Lawful
+pub mod Valid
 pub mod LexemeTests

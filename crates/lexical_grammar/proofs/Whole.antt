@@ -1,13 +1,17 @@
 -- A token alone is a whole token.
-use Rattle.std.proofs.Common.{◌≡◌, ℕ, suc, ◌+◌, Bool, true, false, cond, ◌||◌, ◌&&◌, List, [], ◌∷◌, length, take, get_or, refl, sym, ap, ◌∙◌, arith, eqb-true, ◌==◌, nat_lt}
+use Rattle.std.proofs.Common.{◌≡◌, ℕ, suc, ◌+◌, Bool, true, false, cond, ◌||◌, ◌&&◌, List, [], ◌∷◌}
+use Rattle.std.proofs.Common.{length, take, get_or, refl, sym, ap, ◌∙◌, arith, eqb-true, ◌==◌}
+use Rattle.std.proofs.Common.{nat_lt}
 use Rattle.std.specs.List.{prefix_len}
 use Rattle.std.proofs.lemmas.List.Folds.{length-prefix_len}
 use Rattle.prima_base.specs.Bytes.{is_control, is_digit, is_name_byte}
-use Rattle.lexical_grammar.specs.declared.kinds.TokenKind.{TokenKind}
-use Rattle.lexical_grammar.specs.declared.kinds.TokenKind.TheVariants.{Word, Number, Text, Sign}
-use Rattle.lexical_grammar.specs.declared.pieces.Piece.{Piece}
-use Rattle.lexical_grammar.specs.declared.pieces.Piece.TheVariants.{End, Of, Bad, Open, Long, Big}
-use Rattle.lexical_grammar.specs.Bytes.{is_word_start, digits_of, number, number_piece, is_big, text_value, quote_value, text_from, text_quote, sized, sign, piece_of, piece}
+use Rattle.lexical_grammar.specs.declared.kind.TokenKind.{TokenKind}
+use Rattle.lexical_grammar.specs.declared.kind.TokenKind.TheVariants.{Word, Number, Text, Sign}
+use Rattle.lexical_grammar.specs.declared.piece.Piece.{Piece}
+use Rattle.lexical_grammar.specs.declared.piece.Piece.TheVariants.{End, Of, Bad, Open, Long, Big}
+use Rattle.lexical_grammar.specs.Bytes.{is_word_start, digits_of, number, number_piece, is_big}
+use Rattle.lexical_grammar.specs.Bytes.{text_value, quote_value, text_from, text_quote, sized, sign}
+use Rattle.lexical_grammar.specs.Bytes.{piece_of, piece}
 use Rattle.lexical_grammar.proofs.Cases.{true_false, by_test}
 use Rattle.lexical_grammar.proofs.Cuts.{take_whole}
 
@@ -21,51 +25,102 @@ is_of _ = false
 
 -- ---- runs of bytes
 
-prefix_step : (p : ℕ → Bool) (b : ℕ) (l : List ℕ) → p b ≡ true → prefix_len p (b ∷ l) ≡ suc (prefix_len p l)
+prefix_step : (p : ℕ → Bool) (b : ℕ) (l : List ℕ) → p b ≡ true
+    → prefix_len p (b ∷ l) ≡ suc (prefix_len p l)
 prefix_step p b l e = ap (λ t. cond t (1 + prefix_len p l) 0) e ∙ omega arith
 
 prefix_again : (p : ℕ → Bool) (l : List ℕ) → prefix_len p (take (prefix_len p l) l) ≡ prefix_len p l
 prefix_again p [] = refl
 prefix_again p (b ∷ l) = by_test (p b)
-    (λ e. ap (λ k. prefix_len p (take k (b ∷ l))) (prefix_step p b l e) ∙ prefix_step p b (take (prefix_len p l) l) e ∙ ap suc (prefix_again p l) ∙ sym (prefix_step p b l e))
-    (λ e. let z : prefix_len p (b ∷ l) ≡ 0 = ap (λ t. cond t (1 + prefix_len p l) 0) e in ap (λ k. prefix_len p (take k (b ∷ l))) z ∙ sym z)
+    (λ e. ap (λ k. prefix_len p (take k (b ∷ l))) (prefix_step p b l e)
+    ∙ prefix_step p b (take (prefix_len p l) l) e ∙ ap suc (prefix_again p l)
+    ∙ sym (prefix_step p b l e))
+    (λ e. let z : prefix_len p (b ∷ l) ≡ 0 = ap (λ t. cond t (1 + prefix_len p l) 0) e in
+    ap (λ k. prefix_len p (take k (b ∷ l))) z ∙ sym z)
 
 digits_again : (bytes : List ℕ) → digits_of (digits_of bytes) ≡ digits_of bytes
-digits_again bytes = take_whole (digits_of bytes) (prefix_len is_digit (digits_of bytes)) (prefix_again is_digit bytes ∙ sym (length-prefix_len is_digit bytes))
+digits_again bytes = take_whole (digits_of bytes) (prefix_len is_digit (digits_of bytes))
+    (prefix_again is_digit bytes ∙ sym (length-prefix_len is_digit bytes))
 
-digits_step : (b : ℕ) (bytes : List ℕ) → is_digit b ≡ true → digits_of (b ∷ bytes) ≡ b ∷ digits_of bytes
+digits_step : (b : ℕ) (bytes : List ℕ) → is_digit b ≡ true
+    → digits_of (b ∷ bytes) ≡ b ∷ digits_of bytes
 digits_step b bytes e = ap (λ k. take k (b ∷ bytes)) (prefix_step is_digit b bytes e)
 
 -- ---- the cases of a piece
 
 module _ (b : ℕ) (bytes : List ℕ) where
-  pub at_word : is_word_start b ≡ true → piece_of b bytes ≡ Of Word (prefix_len is_name_byte bytes + 1)
+  pub at_word : is_word_start b ≡ true → piece_of b bytes
+      ≡ Of Word (prefix_len is_name_byte bytes + 1)
   unfolding piece_of
-  at_word e = ap (λ t. cond t (Of Word (prefix_len is_name_byte bytes + 1)) (cond (is_digit b) (number_piece false 0 (digits_of (b ∷ bytes))) (cond (b == 39) (sized (length (text_value bytes)) (text_from 1 bytes)) (cond (b == 45 && is_digit (get_or bytes 0 0)) (number_piece true 1 (digits_of bytes)) (sign b (get_or bytes 0 0)))))) e
+  at_word e = ap (λ t. cond t (Of Word (prefix_len is_name_byte bytes + 1))
+      (cond (is_digit b) (number_piece false 0 (digits_of (b ∷ bytes)))
+      (cond (b == 39) (sized (length (text_value bytes)) (text_from 1 bytes))
+      (cond (b == 45 && is_digit (get_or bytes 0 0)) (number_piece true 1 (digits_of bytes))
+      (sign b (get_or bytes 0 0)))))) e
 
-  pub at_digit : is_word_start b ≡ false → is_digit b ≡ true → piece_of b bytes ≡ number_piece false 0 (digits_of (b ∷ bytes))
+  pub at_digit : is_word_start b ≡ false → is_digit b ≡ true
+      → piece_of b bytes ≡ number_piece false 0 (digits_of (b ∷ bytes))
   unfolding piece_of
-  at_digit e f = ap (λ t. cond t (Of Word (prefix_len is_name_byte bytes + 1)) (cond (is_digit b) (number_piece false 0 (digits_of (b ∷ bytes))) (cond (b == 39) (sized (length (text_value bytes)) (text_from 1 bytes)) (cond (b == 45 && is_digit (get_or bytes 0 0)) (number_piece true 1 (digits_of bytes)) (sign b (get_or bytes 0 0)))))) e
-      ∙ ap (λ t. cond t (number_piece false 0 (digits_of (b ∷ bytes))) (cond (b == 39) (sized (length (text_value bytes)) (text_from 1 bytes)) (cond (b == 45 && is_digit (get_or bytes 0 0)) (number_piece true 1 (digits_of bytes)) (sign b (get_or bytes 0 0))))) f
+  at_digit e f = ap (λ t. cond t (Of Word (prefix_len is_name_byte bytes + 1))
+      (cond (is_digit b) (number_piece false 0 (digits_of (b ∷ bytes)))
+      (cond (b == 39) (sized (length (text_value bytes)) (text_from 1 bytes))
+      (cond (b == 45 && is_digit (get_or bytes 0 0)) (number_piece true 1 (digits_of bytes))
+      (sign b (get_or bytes 0 0)))))) e
+      ∙ ap (λ t. cond t (number_piece false 0 (digits_of (b ∷ bytes)))
+      (cond (b == 39) (sized (length (text_value bytes)) (text_from 1 bytes))
+      (cond (b == 45 && is_digit (get_or bytes 0 0)) (number_piece true 1 (digits_of bytes))
+      (sign b (get_or bytes 0 0))))) f
 
-  pub at_quote : is_word_start b ≡ false → is_digit b ≡ false → (b == 39) ≡ true → piece_of b bytes ≡ sized (length (text_value bytes)) (text_from 1 bytes)
+  pub at_quote : is_word_start b ≡ false → is_digit b ≡ false → (b == 39) ≡ true
+      → piece_of b bytes ≡ sized (length (text_value bytes)) (text_from 1 bytes)
   unfolding piece_of
-  at_quote e f g = ap (λ t. cond t (Of Word (prefix_len is_name_byte bytes + 1)) (cond (is_digit b) (number_piece false 0 (digits_of (b ∷ bytes))) (cond (b == 39) (sized (length (text_value bytes)) (text_from 1 bytes)) (cond (b == 45 && is_digit (get_or bytes 0 0)) (number_piece true 1 (digits_of bytes)) (sign b (get_or bytes 0 0)))))) e
-      ∙ ap (λ t. cond t (number_piece false 0 (digits_of (b ∷ bytes))) (cond (b == 39) (sized (length (text_value bytes)) (text_from 1 bytes)) (cond (b == 45 && is_digit (get_or bytes 0 0)) (number_piece true 1 (digits_of bytes)) (sign b (get_or bytes 0 0))))) f
-      ∙ ap (λ t. cond t (sized (length (text_value bytes)) (text_from 1 bytes)) (cond (b == 45 && is_digit (get_or bytes 0 0)) (number_piece true 1 (digits_of bytes)) (sign b (get_or bytes 0 0)))) g
+  at_quote e f g = ap (λ t. cond t (Of Word (prefix_len is_name_byte bytes + 1))
+      (cond (is_digit b) (number_piece false 0 (digits_of (b ∷ bytes)))
+      (cond (b == 39) (sized (length (text_value bytes)) (text_from 1 bytes))
+      (cond (b == 45 && is_digit (get_or bytes 0 0)) (number_piece true 1 (digits_of bytes))
+      (sign b (get_or bytes 0 0)))))) e
+      ∙ ap (λ t. cond t (number_piece false 0 (digits_of (b ∷ bytes)))
+      (cond (b == 39) (sized (length (text_value bytes)) (text_from 1 bytes))
+      (cond (b == 45 && is_digit (get_or bytes 0 0)) (number_piece true 1 (digits_of bytes))
+      (sign b (get_or bytes 0 0))))) f
+      ∙ ap (λ t. cond t (sized (length (text_value bytes)) (text_from 1 bytes))
+      (cond (b == 45 && is_digit (get_or bytes 0 0)) (number_piece true 1 (digits_of bytes))
+      (sign b (get_or bytes 0 0)))) g
 
-  pub at_minus : is_word_start b ≡ false → is_digit b ≡ false → (b == 39) ≡ false → (b == 45 && is_digit (get_or bytes 0 0)) ≡ true → piece_of b bytes ≡ number_piece true 1 (digits_of bytes)
+  pub at_minus : is_word_start b ≡ false → is_digit b ≡ false → (b == 39) ≡ false
+      → (b == 45 && is_digit (get_or bytes 0 0)) ≡ true
+      → piece_of b bytes ≡ number_piece true 1 (digits_of bytes)
   unfolding piece_of
-  at_minus e f g m = ap (λ t. cond t (Of Word (prefix_len is_name_byte bytes + 1)) (cond (is_digit b) (number_piece false 0 (digits_of (b ∷ bytes))) (cond (b == 39) (sized (length (text_value bytes)) (text_from 1 bytes)) (cond (b == 45 && is_digit (get_or bytes 0 0)) (number_piece true 1 (digits_of bytes)) (sign b (get_or bytes 0 0)))))) e
-      ∙ ap (λ t. cond t (number_piece false 0 (digits_of (b ∷ bytes))) (cond (b == 39) (sized (length (text_value bytes)) (text_from 1 bytes)) (cond (b == 45 && is_digit (get_or bytes 0 0)) (number_piece true 1 (digits_of bytes)) (sign b (get_or bytes 0 0))))) f
-      ∙ ap (λ t. cond t (sized (length (text_value bytes)) (text_from 1 bytes)) (cond (b == 45 && is_digit (get_or bytes 0 0)) (number_piece true 1 (digits_of bytes)) (sign b (get_or bytes 0 0)))) g
+  at_minus e f g m = ap (λ t. cond t (Of Word (prefix_len is_name_byte bytes + 1))
+      (cond (is_digit b) (number_piece false 0 (digits_of (b ∷ bytes)))
+      (cond (b == 39) (sized (length (text_value bytes)) (text_from 1 bytes))
+      (cond (b == 45 && is_digit (get_or bytes 0 0)) (number_piece true 1 (digits_of bytes))
+      (sign b (get_or bytes 0 0)))))) e
+      ∙ ap (λ t. cond t (number_piece false 0 (digits_of (b ∷ bytes)))
+      (cond (b == 39) (sized (length (text_value bytes)) (text_from 1 bytes))
+      (cond (b == 45 && is_digit (get_or bytes 0 0)) (number_piece true 1 (digits_of bytes))
+      (sign b (get_or bytes 0 0))))) f
+      ∙ ap (λ t. cond t (sized (length (text_value bytes)) (text_from 1 bytes))
+      (cond (b == 45 && is_digit (get_or bytes 0 0)) (number_piece true 1 (digits_of bytes))
+      (sign b (get_or bytes 0 0)))) g
       ∙ ap (λ t. cond t (number_piece true 1 (digits_of bytes)) (sign b (get_or bytes 0 0))) m
 
-  pub at_sign : is_word_start b ≡ false → is_digit b ≡ false → (b == 39) ≡ false → (b == 45 && is_digit (get_or bytes 0 0)) ≡ false → piece_of b bytes ≡ sign b (get_or bytes 0 0)
+  pub at_sign : is_word_start b ≡ false → is_digit b ≡ false → (b == 39) ≡ false
+      → (b == 45 && is_digit (get_or bytes 0 0)) ≡ false
+      → piece_of b bytes ≡ sign b (get_or bytes 0 0)
   unfolding piece_of
-  at_sign e f g m = ap (λ t. cond t (Of Word (prefix_len is_name_byte bytes + 1)) (cond (is_digit b) (number_piece false 0 (digits_of (b ∷ bytes))) (cond (b == 39) (sized (length (text_value bytes)) (text_from 1 bytes)) (cond (b == 45 && is_digit (get_or bytes 0 0)) (number_piece true 1 (digits_of bytes)) (sign b (get_or bytes 0 0)))))) e
-      ∙ ap (λ t. cond t (number_piece false 0 (digits_of (b ∷ bytes))) (cond (b == 39) (sized (length (text_value bytes)) (text_from 1 bytes)) (cond (b == 45 && is_digit (get_or bytes 0 0)) (number_piece true 1 (digits_of bytes)) (sign b (get_or bytes 0 0))))) f
-      ∙ ap (λ t. cond t (sized (length (text_value bytes)) (text_from 1 bytes)) (cond (b == 45 && is_digit (get_or bytes 0 0)) (number_piece true 1 (digits_of bytes)) (sign b (get_or bytes 0 0)))) g
+  at_sign e f g m = ap (λ t. cond t (Of Word (prefix_len is_name_byte bytes + 1))
+      (cond (is_digit b) (number_piece false 0 (digits_of (b ∷ bytes)))
+      (cond (b == 39) (sized (length (text_value bytes)) (text_from 1 bytes))
+      (cond (b == 45 && is_digit (get_or bytes 0 0)) (number_piece true 1 (digits_of bytes))
+      (sign b (get_or bytes 0 0)))))) e
+      ∙ ap (λ t. cond t (number_piece false 0 (digits_of (b ∷ bytes)))
+      (cond (b == 39) (sized (length (text_value bytes)) (text_from 1 bytes))
+      (cond (b == 45 && is_digit (get_or bytes 0 0)) (number_piece true 1 (digits_of bytes))
+      (sign b (get_or bytes 0 0))))) f
+      ∙ ap (λ t. cond t (sized (length (text_value bytes)) (text_from 1 bytes))
+      (cond (b == 45 && is_digit (get_or bytes 0 0)) (number_piece true 1 (digits_of bytes))
+      (sign b (get_or bytes 0 0)))) g
       ∙ ap (λ t. cond t (number_piece true 1 (digits_of bytes)) (sign b (get_or bytes 0 0))) m
 
 -- ---- each again
@@ -73,32 +128,44 @@ module _ (b : ℕ) (bytes : List ℕ) where
 abbrev Again : ℕ → List ℕ → TokenKind → ℕ → Type 0
 Again b bytes kind n = piece (take n (b ∷ bytes)) ≡ Of kind n
 
-number_len : (negative : Bool) (signs : ℕ) (digits : List ℕ) (kind : TokenKind) (n : ℕ) → number_piece negative signs digits ≡ Of kind n → n ≡ signs + length digits
+number_len : (negative : Bool) (signs : ℕ) (digits : List ℕ) (kind : TokenKind) (n : ℕ)
+    → number_piece negative signs digits ≡ Of kind n → n ≡ signs + length digits
 number_len negative signs digits kind n e = by_big (is_big negative (number digits)) e
   where
-    by_big : (t : Bool) → cond t Big (Of Number (signs + length digits)) ≡ Of kind n → n ≡ signs + length digits
+    by_big : (t : Bool) → cond t Big (Of Number (signs + length digits)) ≡ Of kind n
+        → n ≡ signs + length digits
     by_big true h = true_false (sym (ap is_of h))
     by_big false h = sym (ap len_of h)
 
-word_again : (b : ℕ) (bytes : List ℕ) (kind : TokenKind) (n : ℕ) → is_word_start b ≡ true → piece_of b bytes ≡ Of kind n → Again b bytes kind n
+word_again : (b : ℕ) (bytes : List ℕ) (kind : TokenKind) (n : ℕ) → is_word_start b ≡ true
+    → piece_of b bytes ≡ Of kind n → Again b bytes kind n
 word_again b bytes kind n w e =
-    let is : Of Word (prefix_len is_name_byte bytes + 1) ≡ Of kind n = sym (at_word b bytes w) ∙ e in
+    let is : Of Word (prefix_len is_name_byte bytes + 1) ≡ Of kind n = sym (at_word b bytes w)
+    ∙ e in
     let same : prefix_len is_name_byte bytes + 1 ≡ n = ap len_of is in
     let len : n ≡ suc (prefix_len is_name_byte bytes) = omega (arith, same) in
     ap (λ k. piece (take k (b ∷ bytes))) len
     ∙ at_word b (take (prefix_len is_name_byte bytes) bytes) w
     ∙ ap (λ k. Of Word (k + 1)) (prefix_again is_name_byte bytes) ∙ is
 
-digit_again : (b : ℕ) (bytes : List ℕ) (kind : TokenKind) (n : ℕ) → is_word_start b ≡ false → is_digit b ≡ true → piece_of b bytes ≡ Of kind n → Again b bytes kind n
+digit_again : (b : ℕ) (bytes : List ℕ) (kind : TokenKind) (n : ℕ) → is_word_start b ≡ false
+    → is_digit b ≡ true → piece_of b bytes ≡ Of kind n → Again b bytes kind n
 digit_again b bytes kind n w d e =
     let is = sym (at_digit b bytes w d) ∙ e in
-    let len : n ≡ prefix_len is_digit (b ∷ bytes) = omega (arith, number_len false 0 (digits_of (b ∷ bytes)) kind n is, length-prefix_len is_digit (b ∷ bytes)) in
+    let len : n ≡ prefix_len is_digit (b ∷ bytes) =
+    omega (
+      arith,
+      number_len false 0 (digits_of (b ∷ bytes)) kind n is,
+      length-prefix_len is_digit (b ∷ bytes),
+    ) in
     ap (λ k. piece (take k (b ∷ bytes))) len ∙ ap piece (digits_step b bytes d)
     ∙ at_digit b (digits_of bytes) w d
-    ∙ ap (number_piece false 0) (ap digits_of (sym (digits_step b bytes d)) ∙ digits_again (b ∷ bytes)) ∙ is
+    ∙ ap (number_piece false 0) (ap digits_of (sym (digits_step b bytes d))
+    ∙ digits_again (b ∷ bytes)) ∙ is
 
--- the next byte is a digit behind the digits too
-next_digit : (bytes : List ℕ) → is_digit (get_or bytes 0 0) ≡ true → is_digit (get_or (digits_of bytes) 0 0) ≡ true
+-- the next byte is a digit after the digits too
+next_digit : (bytes : List ℕ) → is_digit (get_or bytes 0 0) ≡ true
+    → is_digit (get_or (digits_of bytes) 0 0) ≡ true
 next_digit [] h = h
 next_digit (c ∷ bytes) h = ap (λ l. is_digit (get_or l 0 0)) (digits_step c bytes h) ∙ h
 
@@ -113,29 +180,48 @@ and_left false b e = true_false (sym e)
 and_both : (a b : Bool) → a ≡ true → b ≡ true → (a && b) ≡ true
 and_both a b e f = ap (λ t. t && b) e ∙ f
 
-minus_again : (b : ℕ) (bytes : List ℕ) (kind : TokenKind) (n : ℕ) → is_word_start b ≡ false → is_digit b ≡ false → (b == 39) ≡ false → (b == 45 && is_digit (get_or bytes 0 0)) ≡ true → piece_of b bytes ≡ Of kind n → Again b bytes kind n
+minus_again : (b : ℕ) (bytes : List ℕ) (kind : TokenKind) (n : ℕ) → is_word_start b ≡ false
+    → is_digit b ≡ false → (b == 39) ≡ false → (b == 45 && is_digit (get_or bytes 0 0)) ≡ true
+    → piece_of b bytes ≡ Of kind n → Again b bytes kind n
 minus_again b bytes kind n w d q m e =
     let is = sym (at_minus b bytes w d q m) ∙ e in
-    let len : n ≡ suc (prefix_len is_digit bytes) = omega (arith, number_len true 1 (digits_of bytes) kind n is, length-prefix_len is_digit bytes) in
+    let len : n ≡ suc (prefix_len is_digit bytes) =
+    omega (
+      arith,
+      number_len true 1 (digits_of bytes) kind n is,
+      length-prefix_len is_digit bytes,
+    ) in
     ap (λ k. piece (take k (b ∷ bytes))) len
-    ∙ at_minus b (digits_of bytes) w d q (and_both (b == 45) (is_digit (get_or (digits_of bytes) 0 0)) (and_left (b == 45) (is_digit (get_or bytes 0 0)) m) (next_digit bytes (and_right (b == 45) (is_digit (get_or bytes 0 0)) m)))
+    ∙ at_minus b (digits_of bytes) w d q (and_both (b == 45)
+    (is_digit (get_or (digits_of bytes) 0 0))
+    (and_left (b == 45) (is_digit (get_or bytes 0 0)) m)
+    (next_digit bytes (and_right (b == 45) (is_digit (get_or bytes 0 0)) m)))
     ∙ ap (number_piece true 1) (digits_again bytes) ∙ is
 
 -- what ends a text is within it, and tells what it stands for
 abbrev TextWithin : ℕ → List ℕ → TokenKind → ℕ → Type 0
-TextWithin k bytes kind n = (j : ℕ) × (n ≡ k + j) × (text_from k (take j bytes) ≡ Of kind n) × (text_value (take j bytes) ≡ text_value bytes)
+TextWithin k bytes kind n = (j : ℕ) × (n ≡ k + j) × (text_from k (take j bytes) ≡ Of kind n)
+    × (text_value (take j bytes) ≡ text_value bytes)
 
-pub quote_step : (k b : ℕ) (bytes : List ℕ) → (b == 39) ≡ true → text_from k (b ∷ bytes) ≡ text_quote k bytes
+pub quote_step : (k b : ℕ) (bytes : List ℕ) → (b == 39) ≡ true
+    → text_from k (b ∷ bytes) ≡ text_quote k bytes
 unfolding text_from
-quote_step k b bytes e = ap (λ t. cond t (text_quote k bytes) (cond (is_control b) (Bad k) (text_from (k + 1) bytes))) e
+quote_step k b bytes e = ap (λ t. cond t (text_quote k bytes)
+    (cond (is_control b) (Bad k) (text_from (k + 1) bytes))) e
 
-pub plain_step : (k b : ℕ) (bytes : List ℕ) → (b == 39) ≡ false → is_control b ≡ false → text_from k (b ∷ bytes) ≡ text_from (k + 1) bytes
+pub plain_step : (k b : ℕ) (bytes : List ℕ) → (b == 39) ≡ false → is_control b ≡ false
+    → text_from k (b ∷ bytes) ≡ text_from (k + 1) bytes
 unfolding text_from
-plain_step k b bytes e f = ap (λ t. cond t (text_quote k bytes) (cond (is_control b) (Bad k) (text_from (k + 1) bytes))) e ∙ ap (λ t. cond t (Bad k) (text_from (k + 1) bytes)) f
+plain_step k b bytes e f = ap (λ t. cond t (text_quote k bytes)
+    (cond (is_control b) (Bad k) (text_from (k + 1) bytes))) e
+    ∙ ap (λ t. cond t (Bad k) (text_from (k + 1) bytes)) f
 
-pub bad_step : (k b : ℕ) (bytes : List ℕ) → (b == 39) ≡ false → is_control b ≡ true → text_from k (b ∷ bytes) ≡ Bad k
+pub bad_step : (k b : ℕ) (bytes : List ℕ) → (b == 39) ≡ false → is_control b ≡ true
+    → text_from k (b ∷ bytes) ≡ Bad k
 unfolding text_from
-bad_step k b bytes e f = ap (λ t. cond t (text_quote k bytes) (cond (is_control b) (Bad k) (text_from (k + 1) bytes))) e ∙ ap (λ t. cond t (Bad k) (text_from (k + 1) bytes)) f
+bad_step k b bytes e f = ap (λ t. cond t (text_quote k bytes)
+    (cond (is_control b) (Bad k) (text_from (k + 1) bytes))) e
+    ∙ ap (λ t. cond t (Bad k) (text_from (k + 1) bytes)) f
 
 pub open_step : (k : ℕ) → text_from k [] ≡ Open
 unfolding text_from
@@ -145,31 +231,39 @@ pub last_step : (k : ℕ) → text_quote k [] ≡ Of Text (k + 1)
 unfolding text_quote
 last_step k = refl
 
-pub doubled_step : (k c : ℕ) (bytes : List ℕ) → (c == 39) ≡ true → text_quote k (c ∷ bytes) ≡ text_from (k + 2) bytes
+pub doubled_step : (k c : ℕ) (bytes : List ℕ) → (c == 39) ≡ true
+    → text_quote k (c ∷ bytes) ≡ text_from (k + 2) bytes
 unfolding text_quote
 doubled_step k c bytes e = ap (λ t. cond t (text_from (k + 2) bytes) (Of Text (k + 1))) e
 
-pub closed_step : (k c : ℕ) (bytes : List ℕ) → (c == 39) ≡ false → text_quote k (c ∷ bytes) ≡ Of Text (k + 1)
+pub closed_step : (k c : ℕ) (bytes : List ℕ) → (c == 39) ≡ false
+    → text_quote k (c ∷ bytes) ≡ Of Text (k + 1)
 unfolding text_quote
 closed_step k c bytes e = ap (λ t. cond t (text_from (k + 2) bytes) (Of Text (k + 1))) e
 
-pub value_plain : (b : ℕ) (bytes : List ℕ) → (b == 39) ≡ false → text_value (b ∷ bytes) ≡ b ∷ text_value bytes
+pub value_plain : (b : ℕ) (bytes : List ℕ) → (b == 39) ≡ false
+    → text_value (b ∷ bytes) ≡ b ∷ text_value bytes
 unfolding text_value
 value_plain b bytes e = ap (λ t. cond t (quote_value bytes) (b ∷ text_value bytes)) e
 
-pub value_doubled : (b c : ℕ) (bytes : List ℕ) → (b == 39) ≡ true → (c == 39) ≡ true → text_value (b ∷ c ∷ bytes) ≡ 39 ∷ text_value bytes
+pub value_doubled : (b c : ℕ) (bytes : List ℕ) → (b == 39) ≡ true → (c == 39) ≡ true
+    → text_value (b ∷ c ∷ bytes) ≡ 39 ∷ text_value bytes
 unfolding text_value
-value_doubled b c bytes e f = ap (λ t. cond t (cond (c == 39) (39 ∷ text_value bytes) []) (b ∷ text_value (c ∷ bytes))) e ∙ ap (λ t. cond t (39 ∷ text_value bytes) []) f
+value_doubled b c bytes e f = ap (λ t. cond t (cond (c == 39) (39 ∷ text_value bytes) [])
+    (b ∷ text_value (c ∷ bytes))) e ∙ ap (λ t. cond t (39 ∷ text_value bytes) []) f
 
-pub value_closed : (b c : ℕ) (bytes : List ℕ) → (b == 39) ≡ true → (c == 39) ≡ false → text_value (b ∷ c ∷ bytes) ≡ []
+pub value_closed : (b c : ℕ) (bytes : List ℕ) → (b == 39) ≡ true → (c == 39) ≡ false
+    → text_value (b ∷ c ∷ bytes) ≡ []
 unfolding text_value
-value_closed b c bytes e f = ap (λ t. cond t (cond (c == 39) (39 ∷ text_value bytes) []) (b ∷ text_value (c ∷ bytes))) e ∙ ap (λ t. cond t (39 ∷ text_value bytes) []) f
+value_closed b c bytes e f = ap (λ t. cond t (cond (c == 39) (39 ∷ text_value bytes) [])
+    (b ∷ text_value (c ∷ bytes))) e ∙ ap (λ t. cond t (39 ∷ text_value bytes) []) f
 
 pub value_last : (b : ℕ) → (b == 39) ≡ true → text_value (b ∷ []) ≡ []
 unfolding text_value
 value_last b e = ap (λ t. cond t [] (b ∷ text_value [])) e
 
-within_doubled : (k b c : ℕ) (bytes : List ℕ) (kind : TokenKind) (n : ℕ) → (b == 39) ≡ true → (c == 39) ≡ true → TextWithin (k + 2) bytes kind n → TextWithin k (b ∷ c ∷ bytes) kind n
+within_doubled : (k b c : ℕ) (bytes : List ℕ) (kind : TokenKind) (n : ℕ) → (b == 39) ≡ true
+    → (c == 39) ≡ true → TextWithin (k + 2) bytes kind n → TextWithin k (b ∷ c ∷ bytes) kind n
 within_doubled k b c bytes kind n q r h = (
   suc (suc h.0),
   omega (arith, h.1),
@@ -177,7 +271,9 @@ within_doubled k b c bytes kind n q r h = (
   value_doubled b c (take h.0 bytes) q r ∙ ap (λ l. 39 ∷ l) h.3 ∙ sym (value_doubled b c bytes q r),
 )
 
-within_longer : (k b c : ℕ) (bytes : List ℕ) (kind : TokenKind) (n : ℕ) → (b == 39) ≡ false → is_control b ≡ false → TextWithin (k + 1) (c ∷ bytes) kind n → TextWithin k (b ∷ c ∷ bytes) kind n
+within_longer : (k b c : ℕ) (bytes : List ℕ) (kind : TokenKind) (n : ℕ) → (b == 39) ≡ false
+    → is_control b ≡ false → TextWithin (k + 1) (c ∷ bytes) kind n
+    → TextWithin k (b ∷ c ∷ bytes) kind n
 within_longer k b c bytes kind n q f h = (
   suc h.0,
   omega (arith, h.1),
@@ -185,25 +281,39 @@ within_longer k b c bytes kind n q f h = (
   value_plain b (take h.0 (c ∷ bytes)) q ∙ ap (λ l. b ∷ l) h.3 ∙ sym (value_plain b (c ∷ bytes) q),
 )
 
-within_closed : (k b c : ℕ) (bytes : List ℕ) (kind : TokenKind) (n : ℕ) → (b == 39) ≡ true → (c == 39) ≡ false → Of Text (k + 1) ≡ Of kind n → TextWithin k (b ∷ c ∷ bytes) kind n
-within_closed k b c bytes kind n q r is = (1, sym (ap len_of is), quote_step k b [] q ∙ last_step k ∙ is, value_last b q ∙ sym (value_closed b c bytes q r))
+within_closed : (k b c : ℕ) (bytes : List ℕ) (kind : TokenKind) (n : ℕ) → (b == 39) ≡ true
+    → (c == 39) ≡ false → Of Text (k + 1) ≡ Of kind n → TextWithin k (b ∷ c ∷ bytes) kind n
+within_closed k b c bytes kind n q r is = (
+  1,
+  sym (ap len_of is),
+  quote_step k b [] q ∙ last_step k
+      ∙ is,
+  value_last b q ∙ sym (value_closed b c bytes q r),
+)
 
-text_within : (k : ℕ) (bytes : List ℕ) (kind : TokenKind) (n : ℕ) → text_from k bytes ≡ Of kind n → TextWithin k bytes kind n
+text_within : (k : ℕ) (bytes : List ℕ) (kind : TokenKind) (n : ℕ) → text_from k bytes ≡ Of kind n
+    → TextWithin k bytes kind n
 text_within k [] kind n e = true_false (sym (ap is_of (sym (open_step k) ∙ e)))
 text_within k (b ∷ []) kind n e = by_test (b == 39)
-    (λ q. let len : n ≡ k + 1 = sym (ap len_of (sym (last_step k) ∙ sym (quote_step k b [] q) ∙ e)) in (1, len, e, refl))
+    (λ q. let len : n ≡ k + 1 = sym (ap len_of
+    (sym (last_step k) ∙ sym (quote_step k b [] q) ∙ e)) in (1, len, e, refl))
     (λ q. by_test (is_control b)
     (λ c. true_false (sym (ap is_of (sym (bad_step k b [] q c) ∙ e))))
     (λ c. true_false (sym (ap is_of (sym (open_step (k + 1)) ∙ sym (plain_step k b [] q c) ∙ e)))))
 text_within k (b ∷ c ∷ bytes) kind n e = by_test (b == 39)
     (λ q. by_test (c == 39)
-    (λ r. within_doubled k b c bytes kind n q r (text_within (k + 2) bytes kind n (sym (doubled_step k c bytes r) ∙ sym (quote_step k b (c ∷ bytes) q) ∙ e)))
-    (λ r. within_closed k b c bytes kind n q r (sym (closed_step k c bytes r) ∙ sym (quote_step k b (c ∷ bytes) q) ∙ e)))
+    (λ r. within_doubled k b c bytes kind n q r
+    (text_within (k + 2) bytes kind n (sym (doubled_step k c bytes r)
+    ∙ sym (quote_step k b (c ∷ bytes) q) ∙ e)))
+    (λ r. within_closed k b c bytes kind n q r
+    (sym (closed_step k c bytes r) ∙ sym (quote_step k b (c ∷ bytes) q) ∙ e)))
     (λ q. by_test (is_control b)
     (λ f. true_false (sym (ap is_of (sym (bad_step k b (c ∷ bytes) q f) ∙ e))))
-    (λ f. within_longer k b c bytes kind n q f (text_within (k + 1) (c ∷ bytes) kind n (sym (plain_step k b (c ∷ bytes) q f) ∙ e))))
+    (λ f. within_longer k b c bytes kind n q f
+    (text_within (k + 1) (c ∷ bytes) kind n (sym (plain_step k b (c ∷ bytes) q f) ∙ e))))
 
-pub sized_of : (size : ℕ) (p : Piece) (kind : TokenKind) (n : ℕ) → sized size p ≡ Of kind n → (p ≡ Of kind n) × (nat_lt 4096 size ≡ false)
+pub sized_of : (size : ℕ) (p : Piece) (kind : TokenKind) (n : ℕ) → sized size p ≡ Of kind n
+    → (p ≡ Of kind n) × (nat_lt 4096 size ≡ false)
 sized_of size (Of k m) kind n e = by_size (nat_lt 4096 size) e
   where
     by_size : (t : Bool) → cond t Long (Of k m) ≡ Of kind n → (Of k m ≡ Of kind n) × (t ≡ false)
@@ -215,7 +325,8 @@ sized_of size Open kind n e = true_false (sym (ap is_of e))
 sized_of size Long kind n e = true_false (sym (ap is_of e))
 sized_of size Big kind n e = true_false (sym (ap is_of e))
 
-text_again : (b : ℕ) (bytes : List ℕ) (kind : TokenKind) (n : ℕ) → is_word_start b ≡ false → is_digit b ≡ false → (b == 39) ≡ true → piece_of b bytes ≡ Of kind n → Again b bytes kind n
+text_again : (b : ℕ) (bytes : List ℕ) (kind : TokenKind) (n : ℕ) → is_word_start b ≡ false
+    → is_digit b ≡ false → (b == 39) ≡ true → piece_of b bytes ≡ Of kind n → Again b bytes kind n
 text_again b bytes kind n w d q e =
     let is = sym (at_quote b bytes w d q) ∙ e in
     let s = sized_of (length (text_value bytes)) (text_from 1 bytes) kind n is in
@@ -232,11 +343,14 @@ pub or_true : {X : Type 0} (a b : Bool) → (a || b) ≡ true → (a ≡ true �
 or_true true b e f g = f refl
 or_true false b e f g = g e
 
-one_sign : (b : ℕ) → (b == 40 || (b == 41 || (b == 44 || (b == 46 || (b == 60 || (b == 61 || b == 62)))))) ≡ true → piece (b ∷ []) ≡ Of Sign 1
+one_sign : (b : ℕ) → (b == 40 || (b == 41 || (b == 44
+    || (b == 46 || (b == 60 || (b == 61 || b == 62)))))) ≡ true → piece (b ∷ []) ≡ Of Sign 1
 unfolding piece_of
 one_sign b h =
-    or_true (b == 40) (b == 41 || (b == 44 || (b == 46 || (b == 60 || (b == 61 || b == 62))))) h (at 40 refl) (λ h.
-    or_true (b == 41) (b == 44 || (b == 46 || (b == 60 || (b == 61 || b == 62)))) h (at 41 refl) (λ h.
+    or_true (b == 40) (b == 41 || (b == 44 || (b == 46 || (b == 60 || (b == 61 || b == 62))))) h
+    (at 40 refl) (λ h.
+    or_true (b == 41) (b == 44 || (b == 46 || (b == 60 || (b == 61 || b == 62)))) h (at 41 refl)
+    (λ h.
     or_true (b == 44) (b == 46 || (b == 60 || (b == 61 || b == 62))) h (at 44 refl) (λ h.
     or_true (b == 46) (b == 60 || (b == 61 || b == 62)) h (at 46 refl) (λ h.
     or_true (b == 60) (b == 61 || b == 62) h (at 60 refl) (λ h.
@@ -252,41 +366,58 @@ two_sign : (b c : ℕ) → is_two b c ≡ true → piece (b ∷ c ∷ []) ≡ Of
 unfolding piece_of
 two_sign b c h =
     or_true (b == 60 && (c == 61 || c == 62)) (b == 62 && c == 61) h
-    (λ h. or_true (c == 61) (c == 62) (and_right (b == 60) (c == 61 || c == 62) h) (at 60 61 refl (and_left (b == 60) (c == 61 || c == 62) h)) (at 60 62 refl (and_left (b == 60) (c == 61 || c == 62) h)))
+    (λ h. or_true (c == 61) (c == 62) (and_right (b == 60) (c == 61 || c == 62) h)
+    (at 60 61 refl (and_left (b == 60) (c == 61 || c == 62) h))
+    (at 60 62 refl (and_left (b == 60) (c == 61 || c == 62) h)))
     (λ h. at 62 61 refl (and_left (b == 62) (c == 61) h) (and_right (b == 62) (c == 61) h))
   where
-    at : (s t : ℕ) → piece (s ∷ t ∷ []) ≡ Of Sign 2 → (b == s) ≡ true → (c == t) ≡ true → piece (b ∷ c ∷ []) ≡ Of Sign 2
-    at s t e x y = ap (λ u. piece (u ∷ c ∷ [])) (eqb-true b s x) ∙ ap (λ u. piece (s ∷ u ∷ [])) (eqb-true c t y) ∙ e
+    at : (s t : ℕ) → piece (s ∷ t ∷ []) ≡ Of Sign 2 → (b == s) ≡ true → (c == t) ≡ true
+        → piece (b ∷ c ∷ []) ≡ Of Sign 2
+    at s t e x y = ap (λ u. piece (u ∷ c ∷ [])) (eqb-true b s x)
+        ∙ ap (λ u. piece (s ∷ u ∷ [])) (eqb-true c t y) ∙ e
 
 two_next : (b : ℕ) (bytes : List ℕ) → is_two b (get_or bytes 0 0) ≡ true → Again b bytes Sign 2
-two_next b [] h = or_true (b == 60 && false) (b == 62 && false) h (λ h. true_false (sym (and_right (b == 60) false h))) (λ h. true_false (sym (and_right (b == 62) false h)))
+two_next b [] h = or_true (b == 60 && false) (b == 62 && false) h
+    (λ h. true_false (sym (and_right (b == 60) false h)))
+    (λ h. true_false (sym (and_right (b == 62) false h)))
 two_next b (c ∷ bytes) h = two_sign b c h
 
 abbrev one_of : Bool → Piece
 one_of t = cond t (Of Sign 1) (Bad 0)
 
-sign_again : (b : ℕ) (bytes : List ℕ) (kind : TokenKind) (n : ℕ) → sign b (get_or bytes 0 0) ≡ Of kind n → Again b bytes kind n
+sign_again : (b : ℕ) (bytes : List ℕ) (kind : TokenKind) (n : ℕ)
+    → sign b (get_or bytes 0 0) ≡ Of kind n → Again b bytes kind n
 sign_again b bytes kind n e = by_test (is_two b (get_or bytes 0 0)) two one
   where
     two : is_two b (get_or bytes 0 0) ≡ true → Again b bytes kind n
     two h =
-        let is : Of Sign 2 ≡ Of kind n = sym (ap (λ t. cond t (Of Sign 2) (one_of (b == 40 || (b == 41 || (b == 44 || (b == 46 || (b == 60 || (b == 61 || b == 62)))))))) h) ∙ e in
+        let is : Of Sign 2 ≡ Of kind n = sym (ap
+        (λ t. cond t (Of Sign 2) (one_of (b == 40
+        || (b == 41 || (b == 44 || (b == 46 || (b == 60 || (b == 61 || b == 62)))))))) h) ∙ e in
         ap (λ k. piece (take k (b ∷ bytes))) (sym (ap len_of is)) ∙ two_next b bytes h ∙ is
 
-    only : (t : Bool) → (b == 40 || (b == 41 || (b == 44 || (b == 46 || (b == 60 || (b == 61 || b == 62)))))) ≡ t → one_of t ≡ Of kind n → Again b bytes kind n
+    only : (t : Bool) → (b == 40 || (b == 41 ||
+        (b == 44 || (b == 46 || (b == 60 || (b == 61 || b == 62)))))) ≡ t → one_of t ≡ Of kind n
+        → Again b bytes kind n
     only true t is = ap (λ k. piece (take k (b ∷ bytes))) (sym (ap len_of is)) ∙ one_sign b t ∙ is
     only false t is = true_false (sym (ap is_of is))
 
     one : is_two b (get_or bytes 0 0) ≡ false → Again b bytes kind n
-    one h = only (b == 40 || (b == 41 || (b == 44 || (b == 46 || (b == 60 || (b == 61 || b == 62)))))) refl (sym (ap (λ t. cond t (Of Sign 2) (one_of (b == 40 || (b == 41 || (b == 44 || (b == 46 || (b == 60 || (b == 61 || b == 62)))))))) h) ∙ e)
+    one h = only (b == 40 || (b == 41 || (b == 44
+        || (b == 46 || (b == 60 || (b == 61 || b == 62)))))) refl
+        (sym (ap (λ t. cond t (Of Sign 2) (one_of
+        (b == 40 || (b == 41 || (b == 44 || (b == 46 || (b == 60 || (b == 61 || b == 62)))))))) h)
+        ∙ e)
 
 -- ---- any token
 
-pub again : (bytes : List ℕ) (kind : TokenKind) (n : ℕ) → piece bytes ≡ Of kind n → piece (take n bytes) ≡ Of kind n
+pub again : (bytes : List ℕ) (kind : TokenKind) (n : ℕ) → piece bytes ≡ Of kind n
+    → piece (take n bytes) ≡ Of kind n
 again [] kind n e = true_false (sym (ap is_of e))
 again (b ∷ bytes) kind n e =
     by_test (is_word_start b) (λ w. word_again b bytes kind n w e) (λ w.
     by_test (is_digit b) (λ d. digit_again b bytes kind n w d e) (λ d.
     by_test (b == 39) (λ q. text_again b bytes kind n w d q e) (λ q.
-    by_test (b == 45 && is_digit (get_or bytes 0 0)) (λ m. minus_again b bytes kind n w d q m e) (λ m.
+    by_test (b == 45 && is_digit (get_or bytes 0 0)) (λ m. minus_again b bytes kind n w d q m e)
+    (λ m.
     sign_again b bytes kind n (sym (at_sign b bytes w d q m) ∙ e)))))

@@ -1,14 +1,16 @@
 -- The tokens of a text.
-use Rattle.std.specs.Prelude.{◌≡◌, ℕ, ◌+◌, ◌≤◌, false, List, [], ◌∷◌, length, map, take, drop, Option, Some, None}
+use Rattle.std.specs.Prelude.{◌≡◌, ℕ, ◌+◌, ◌≤◌, false, List, [], ◌∷◌, length, map, take, drop}
+use Rattle.std.specs.Prelude.{Option, Some, None}
 use Rattle.lexical_grammar.specs.declared.token.Token.{Token}
-use Rattle.lexical_grammar.specs.declared.kinds.TokenKind.{TokenKind}
-use Rattle.lexical_grammar.specs.declared.pieces.Piece.{Piece}
-use Rattle.lexical_grammar.specs.declared.pieces.Piece.TheVariants.{End, Of, Bad, Open, Long, Big}
-use Rattle.lexical_grammar.specs.declared.faults.LexFault.{LexFault}
-use Rattle.lexical_grammar.specs.declared.faults.LexFault.TheVariants.{NoMemory, BadByte, OpenQuote, BigNumber, LongText}
+use Rattle.lexical_grammar.specs.declared.kind.TokenKind.{TokenKind}
+use Rattle.lexical_grammar.specs.declared.piece.Piece.{Piece}
+use Rattle.lexical_grammar.specs.declared.piece.Piece.TheVariants.{End, Of, Bad, Open, Long, Big}
+use Rattle.lexical_grammar.specs.declared.fault.LexFault.{LexFault}
+use Rattle.lexical_grammar.specs.declared.fault.LexFault.TheVariants.{NoMemory, BadByte, OpenQuote}
+use Rattle.lexical_grammar.specs.declared.fault.LexFault.TheVariants.{BigNumber, LongText}
 use Rattle.lexical_grammar.specs.Bytes.{gap_len, piece}
 
--- how the tokens end, by what stands behind the last gap
+-- how the tokens end, by what stands after the last gap
 abbrev pub EndsBy : ℕ → Piece → Option LexFault → Type 0
 EndsBy at End e = e ≡ None
 EndsBy at (Of kind n) e = ⊥
@@ -17,14 +19,16 @@ EndsBy at Open e = e ≡ Some (OpenQuote at)
 EndsBy at Long e = e ≡ Some (LongText at)
 EndsBy at Big e = e ≡ Some (BigNumber at)
 
-abbrev pub behind_gap : List ℕ → List ℕ
-behind_gap bytes = drop (gap_len false 0 bytes) bytes
+abbrev pub after_gap : List ℕ → List ℕ
+after_gap bytes = drop (gap_len false 0 bytes) bytes
 
 -- from the place on these are the tokens, and then the end or a fault
 abbrev pub Lexes : ℕ → List ℕ → List Token → Option LexFault → Type 0
-Lexes at bytes [] e = EndsBy (at + gap_len false 0 bytes) (piece (behind_gap bytes)) e
-Lexes at bytes (t ∷ ts) e = (piece (behind_gap bytes) ≡ Of t.kind (length t.text.now)) × (t.text.now ≡ take (length t.text.now) (behind_gap bytes)) × (t.at ≡ at + gap_len false 0 bytes)
-    × Lexes (t.at + length t.text.now) (drop (length t.text.now) (behind_gap bytes)) ts e
+Lexes at bytes [] e = EndsBy (at + gap_len false 0 bytes) (piece (after_gap bytes)) e
+Lexes at bytes (t ∷ ts) e = (piece (after_gap bytes) ≡ Of t.kind (length t.text.now))
+    × (t.text.now ≡ take (length t.text.now) (after_gap bytes))
+    × (t.at ≡ at + gap_len false 0 bytes)
+    × Lexes (t.at + length t.text.now) (drop (length t.text.now) (after_gap bytes)) ts e
 
 -- which fault, unless memory ran out
 abbrev pub Gives : LexFault → (LexFault → Type 0) → Type 0
@@ -42,12 +46,15 @@ key t = record { kind = t.kind; text = t.text.now; at = t.at }
 
 -- a text has one list of tokens and one end, or one first fault
 abbrev pub LexesOnce : Type 0
-LexesOnce = (ts us : List Token) (at : ℕ) (bytes : List ℕ) (e f : Option LexFault) → Lexes at bytes ts e → Lexes at bytes us f → (map key ts ≡ map key us) × (e ≡ f)
+LexesOnce = (ts us : List Token) (at : ℕ) (bytes : List ℕ) (e f : Option LexFault)
+    → Lexes at bytes ts e → Lexes at bytes us f → (map key ts ≡ map key us) × (e ≡ f)
 
 -- each token is the slice of the text at its place, and they stand in order from `at` on
 abbrev pub InPlace : List ℕ → ℕ → List Token → Type 0
 InPlace text at [] = Unit {0}
-InPlace text at (t ∷ ts) = (at ≤ t.at) × (t.text.now ≡ take (length t.text.now) (drop t.at text)) × InPlace text (t.at + length t.text.now) ts
+InPlace text at (t ∷ ts) = (at ≤ t.at) × (t.text.now ≡ take (length t.text.now) (drop t.at text))
+    × InPlace text (t.at + length t.text.now) ts
 
 abbrev pub TokensInPlace : Type 0
-TokensInPlace = (text : List ℕ) (ts : List Token) (e : Option LexFault) → Lexes 0 text ts e → InPlace text 0 ts
+TokensInPlace = (text : List ℕ) (ts : List Token) (e : Option LexFault) → Lexes 0 text ts e
+    → InPlace text 0 ts

@@ -1,9 +1,10 @@
 -- What a token says, apart from its place and spelling.
-use Rattle.std.specs.Prelude.{ℕ, zero, suc, ℤ, pos, negsuc, Bool, true, false, not, ◌||◌, ◌&&◌, nat_le, ◌==◌, List, [], ◌∷◌, length, drop, codes, if◌then◌else◌}
+use Rattle.std.specs.Prelude.{ℕ, zero, suc, ℤ, pos, negsuc, Bool, true, false, not, ◌||◌, ◌&&◌}
+use Rattle.std.specs.Prelude.{nat_le, ◌==◌, List, [], ◌∷◌, length, drop, codes, if◌then◌else◌}
 use Rattle.std.specs.Str.{bytes_eq}
 use Rattle.lexical_grammar.specs.declared.token.Token.{Token}
-use Rattle.lexical_grammar.specs.declared.kinds.TokenKind.{TokenKind}
-use Rattle.lexical_grammar.specs.declared.kinds.TokenKind.TheVariants.{Word, Number, Text, Sign}
+use Rattle.lexical_grammar.specs.declared.kind.TokenKind.{TokenKind}
+use Rattle.lexical_grammar.specs.declared.kind.TokenKind.TheVariants.{Word, Number, Text, Sign}
 use Rattle.lexical_grammar.specs.Bytes.{number as value_of, text_value}
 
 pub data Lexeme : Type 0 where
@@ -22,7 +23,8 @@ signed true (suc n) = negsuc n
 -- a number by its bytes
 abbrev pub integer : List ℕ → ℤ
 integer [] = pos 0
-integer (b ∷ bytes) = if b == 45 then signed true (value_of bytes) else signed false (value_of (b ∷ bytes))
+integer (b ∷ bytes) = if b == 45 then signed true (value_of bytes)
+    else signed false (value_of (b ∷ bytes))
 
 abbrev pub says : TokenKind → List ℕ → Lexeme
 says Word bytes = word bytes
@@ -44,14 +46,22 @@ is_sign s _ = false
 -- the words that no name is
 abbrev pub reserved : List (List ℕ)
 reserved =
-    codes "ADD" ∷ codes "AND" ∷ codes "AS" ∷ codes "AT" ∷ codes "CASE" ∷ codes "CHECKPOINT" ∷ codes "COLUMN" ∷ codes "CONCAT"
-    ∷ codes "COPY" ∷ codes "COVERING" ∷ codes "CREATE" ∷ codes "DECOMPOSE" ∷ codes "DELETE" ∷ codes "DROP" ∷ codes "DURING"
-    ∷ codes "ELSE" ∷ codes "END" ∷ codes "ENDING" ∷ codes "EVOLVE" ∷ codes "EXPLAIN" ∷ codes "FALSE" ∷ codes "FROM" ∷ codes "IN"
-    ∷ codes "INSERT" ∷ codes "INT" ∷ codes "INTO" ∷ codes "INVERSE" ∷ codes "JOIN" ∷ codes "KEEP" ∷ codes "LASTING"
-    ∷ codes "LENGTH" ∷ codes "MERGE" ∷ codes "NOP" ∷ codes "NOT" ∷ codes "OF" ∷ codes "OR" ∷ codes "OVERLAPPING"
-    ∷ codes "PARTITION" ∷ codes "QUERY" ∷ codes "RENAME" ∷ codes "SCHEMA" ∷ codes "SELECT" ∷ codes "SET" ∷ codes "SHOW"
-    ∷ codes "SIZES" ∷ codes "STARTING" ∷ codes "TABLE" ∷ codes "TEXT" ∷ codes "THEN" ∷ codes "TO" ∷ codes "TRUE" ∷ codes "UNION"
-    ∷ codes "UPDATE" ∷ codes "VALUES" ∷ codes "VERSION" ∷ codes "VERSIONS" ∷ codes "WHEN" ∷ codes "WHERE" ∷ codes "WITH"
+    codes "ADD" ∷ codes "AND" ∷ codes "AS" ∷ codes "AT" ∷ codes "CASE" ∷ codes "CHECKPOINT"
+    ∷ codes "COLUMN" ∷ codes "CONCAT"
+    ∷ codes "COPY" ∷ codes "COVERING" ∷ codes "CREATE" ∷ codes "DECOMPOSE" ∷ codes "DELETE"
+    ∷ codes "DROP" ∷ codes "DURING"
+    ∷ codes "ELSE" ∷ codes "END" ∷ codes "ENDING" ∷ codes "EVOLVE" ∷ codes "EXPLAIN" ∷ codes "FALSE"
+    ∷ codes "FROM" ∷ codes "IN"
+    ∷ codes "INSERT" ∷ codes "INT" ∷ codes "INTO" ∷ codes "INVERSE" ∷ codes "JOIN" ∷ codes "KEEP"
+    ∷ codes "LASTING"
+    ∷ codes "LENGTH" ∷ codes "MERGE" ∷ codes "NOP" ∷ codes "NOT" ∷ codes "OF" ∷ codes "OR"
+    ∷ codes "OVERLAPPING"
+    ∷ codes "PARTITION" ∷ codes "QUERY" ∷ codes "RENAME" ∷ codes "SCHEMA" ∷ codes "SELECT"
+    ∷ codes "SET" ∷ codes "SHOW"
+    ∷ codes "SIZES" ∷ codes "STARTING" ∷ codes "TABLE" ∷ codes "TEXT" ∷ codes "THEN" ∷ codes "TO"
+    ∷ codes "TRUE" ∷ codes "UNION"
+    ∷ codes "UPDATE" ∷ codes "VALUES" ∷ codes "VERSION" ∷ codes "VERSIONS" ∷ codes "WHEN"
+    ∷ codes "WHERE" ∷ codes "WITH"
     ∷ codes "now" ∷ []
 
 abbrev pub is_one_of : List (List ℕ) → List ℕ → Bool

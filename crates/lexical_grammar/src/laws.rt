@@ -14,7 +14,7 @@ pub fn tokens_in_place()
 {}
 
 /// Between tokens stand blanks and comments alone, each token has its kind's form, and what stands
-/// behind it does not continue it. Behind the last gap stands nothing, or the fault.
+/// after it does not continue it. After the last gap stands nothing, or the fault.
 pub fn tokens_are_spaced()
     ensures { TokensSpaced }
 {}

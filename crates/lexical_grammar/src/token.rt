@@ -2,12 +2,12 @@
 
 ghost use Rattle.std.specs.Prelude.{◌≡◌, ◌≤◌, length, take};
 ghost use Rattle.lexical_grammar.specs.Bytes.{piece};
-ghost use Rattle.lexical_grammar.specs.declared.pieces.Piece.TheVariants.{Of};
+ghost use Rattle.lexical_grammar.specs.declared.piece.Piece.TheVariants.{Of};
 
-use crate::kinds::TokenKind;
+use crate::kind::TokenKind;
 
-/// A token: its bytes are a slice of the statement, which begins `at` bytes behind the statement's
-/// front. The bytes are one whole token of the kind, with no lexical fault.
+/// A token: its bytes are a slice of the statement, which begins `at` bytes after the statement's
+/// prefix. The bytes are one whole token of the kind, with no lexical fault.
 #[derive(Clone, Copy)]
 pub struct Token<'a> {
     /// What the token is.
@@ -22,9 +22,9 @@ pub struct Token<'a> {
 impl<'a> Token<'a> {
     ghost use Rattle.std.specs.Prelude.{◌≡◌, ◌≤◌, length, take};
     ghost use Rattle.lexical_grammar.specs.Bytes.{piece};
-    ghost use Rattle.lexical_grammar.specs.declared.pieces.Piece.TheVariants.{Of};
+    ghost use Rattle.lexical_grammar.specs.declared.piece.Piece.TheVariants.{Of};
 
-    /// The token of so many bytes at the front of these.
+    /// The token of so many bytes at the start of these.
     #[tactic(auto, using(crate::proofs::Whole::again))]
     pub fn first(kind: TokenKind, len: usize, bytes: &'a [u8], at: u32) -> Token<'a>
         requires within { len ≤ length bytes.now }

@@ -1,3 +1,3 @@
 pub mod NamedEntries
-pub mod LifelinesBehind
+pub mod LifelinesAfter
 pub mod VersionsCovered

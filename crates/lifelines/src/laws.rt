@@ -2,12 +2,14 @@
 
 ghost use Rattle.std.specs.Prelude.{◌≤◌, ℕ, List, None, length};
 ghost use Rattle.smo_types.specs.Commands.{PlainVersion};
-ghost use Rattle.smo_meaning.specs.LawfulPast.{AreVersions};
+ghost use Rattle.smo_meaning.specs.ValidPast.{AreVersions};
 ghost use Rattle.smo_meaning.specs.Past.{no_tables, tables_from};
 ghost use Rattle.lifelines.specs.Lifelines.{lifelines_of, HaveTables};
 
-/// Each version has just the tables whose lifelines cover it, each of one lifeline, with the lifeline's columns.
+/// Each version has just the tables whose lifelines cover it, each of one lifeline, with the
+/// lifeline's columns.
 pub fn each_version_has_the_tables_of_its_lifelines()
-    ensures { (versions : List PlainVersion) (k : ℕ) → AreVersions None no_tables versions → k ≤ length versions
+    ensures { (versions : List PlainVersion) (k : ℕ) → AreVersions None no_tables versions
+        → k ≤ length versions
         → HaveTables k (tables_from no_tables versions k) (lifelines_of versions) }
 {}

@@ -1,5 +1,5 @@
-//! The lifelines of tables: the longest runs of versions in which no operator makes or consumes one. Definitions (`specs/`) and
-//! their law.
+//! The lifelines of tables: the longest runs of versions in which no operator makes or consumes
+//! one. Definitions (`specs/`) and their law.
 #![tactic(auto)]
 
 mod laws;

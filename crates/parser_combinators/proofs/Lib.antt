@@ -1,8 +1,8 @@
 pub mod Parsing
 pub mod Fresh
 pub mod Alternatives
-pub mod Marked
-pub mod Passing
+pub mod Counted
+pub mod Crossing
 pub mod ReadSteps
 pub mod ManySteps
 pub mod Places

@@ -1,7 +1,8 @@
+pub mod Grammar
 pub mod Parsing
 pub mod Reads
-pub mod Marks
+pub mod TokenCounts
 pub mod Found
-pub mod Passes
-pub mod Passings
-pub mod Fronts
+pub mod Crossings
+pub mod ListCrossings
+pub mod Prefixes

@@ -1,10 +1,10 @@
 -- What a function that reads ensures.
 use Rattle.std.specs.Prelude.{◌≡◌, Bool, false, List, [], ◌∷◌, ◌++◌, map, Result, Ok, Err}
-use Rattle.parser_combinators.specs.declared.reading.Stop.{Stop}
-use Rattle.parser_combinators.specs.declared.reading.Stop.TheVariants as stop
-use Rattle.parser_combinators.specs.declared.reading.Cursor.{Cursor}
+use Rattle.parser_combinators.specs.declared.cursor.Stop.{Stop}
+use Rattle.parser_combinators.specs.declared.cursor.Stop.TheVariants as stop
+use Rattle.parser_combinators.specs.declared.cursor.Cursor.{Cursor}
 use Rattle.lexical_grammar.specs.Lexemes.{Lexeme, lexeme}
-use Rattle.parser_combinators.specs.Parsing.{Out, Got, Stuck, Over}
+use Rattle.parser_combinators.specs.Parsing.{Out, Parsed, Unexpected, LimitExceeded}
 
 -- what stands in front of the cursor
 abbrev pub ahead : Cursor → List Lexeme
@@ -16,15 +16,18 @@ sees is (x ∷ more) = is x
 
 abbrev pub Fails : {A : Type 0} → Out A → Stop → Cursor → Type 0
 Fails out stop.NoMemory new = Unit {0}
-Fails out stop.Stuck new = out ≡ Stuck new.nodes (ahead new)
-Fails out (stop.TooMany w) new = out ≡ Over w new.nodes (ahead new)
+Fails out stop.Unexpected new = out ≡ Unexpected new.nodes (ahead new)
+Fails out (stop.TooMany w) new = out ≡ LimitExceeded w new.nodes (ahead new)
 
--- it was read, or failed, as reading says, and so many nodes were counted; want of memory is free
+-- it was read, or failed, as reading says, and so many nodes were counted; running out of memory is
+-- free
 abbrev pub Reads : {A X : Type 0} → (X → A) → Out A → Result X Stop → Cursor → Type 0
-Reads view out (Ok x) new = out ≡ Got (view x) new.nodes (ahead new)
+Reads view out (Ok x) new = out ≡ Parsed (view x) new.nodes (ahead new)
 Reads view out (Err e) new = Fails out e new
 
--- more items were read behind those that were there
-abbrev pub ReadsMore : {A : Type 0} → Out (List A) → List A → List A → Result (Unit {0}) Stop → Cursor → Type 0
-ReadsMore {A} out old all (Ok x) new = (l : List A) × (out ≡ Got l new.nodes (ahead new)) × (all ≡ old ++ l)
+-- more items were read after those that were there
+abbrev pub ReadsMore : {A : Type 0} → Out (List A) → List A → List A → Result (Unit {0}) Stop
+    → Cursor → Type 0
+ReadsMore {A} out old all (Ok x) new = (l : List A) × (out ≡ Parsed l new.nodes (ahead new))
+    × (all ≡ old ++ l)
 ReadsMore out old all (Err e) new = Fails out e new

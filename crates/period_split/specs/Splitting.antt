@@ -1,5 +1,6 @@
 -- A slice of time, split by the versions that are in force in it.
-use Rattle.std.specs.Prelude.{◌≡◌, ℕ, ◌+◌, ◌<◌, ◌≤◌, true, List, [], ◌∷◌, length, Option, Some, None, ⊤}
+use Rattle.std.specs.Prelude.{◌≡◌, ℕ, ◌+◌, ◌<◌, ◌≤◌, true, List, [], ◌∷◌, length, Option, Some}
+use Rattle.std.specs.Prelude.{None, ⊤}
 use Rattle.std.specs.List.{flat_map, range_with_len}
 use Rattle.relations.specs.Sets.{In}
 use Rattle.relations.specs.Spans.{Span, covers, common}

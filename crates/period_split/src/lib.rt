@@ -1,6 +1,7 @@
-//! The periods of the versions inside a slice of time: where a query asks which version (PRIMA 2008).
+//! The periods of the versions inside a slice of time: where a query asks which version (PRIMA
+//! 2008).
 #![tactic(auto)]
 
-mod splitting;
+mod period_parts;
 
-pub use splitting::split;
+pub use period_parts::split;

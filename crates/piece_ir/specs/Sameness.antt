@@ -1,10 +1,13 @@
--- Whether two pieces are one: the same tables, the same condition and the same outputs, as they are written.
+-- Whether two pieces are one: the same tables, the same condition and the same outputs, as they are
+-- written.
 use Rattle.std.specs.Prelude.{ℕ, ◌==◌, ◌&&◌, Bool, true, false, List, [], ◌∷◌}
 use Rattle.prima_base.specs.Order.{same, value_eq}
-use Rattle.cond_expr.specs.declared.exprs.Whose.{Whose}
-use Rattle.cond_expr.specs.declared.exprs.Whose.TheVariants.{Free, Alias, Atom}
+use Rattle.cond_expr.specs.declared.expr.Whose.{Whose}
+use Rattle.cond_expr.specs.declared.expr.Whose.TheVariants.{Free, Alias, Atom}
 use Rattle.cond_expr.specs.Comparisons.{same_way}
-use Rattle.cond_expr.specs.Trees.{Tree, column, constant, length_of, joined, choose, Trees, no_trees, a_tree, Test, never, always, compared, all_of, some_of, fails, Tests, no_tests, a_test}
+use Rattle.cond_expr.specs.Trees.{Tree, column, constant, length_of, joined, choose, Trees}
+use Rattle.cond_expr.specs.Trees.{no_trees, a_tree, Test, never, always, compared, all_of, some_of}
+use Rattle.cond_expr.specs.Trees.{fails, Tests, no_tests, a_test}
 use Rattle.piece_meaning.specs.Pieces.{PlainPiece}
 
 abbrev pub same_whose : Whose → Whose → Bool

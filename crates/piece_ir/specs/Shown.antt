@@ -5,9 +5,9 @@ use Rattle.cond_expr.specs.Seen.{test}
 use Rattle.smo_types.specs.Changes.{sets_of}
 use Rattle.piece_meaning.specs.Pieces.{PlainPiece}
 use Rattle.piece_meaning.specs.Views.{PlainView, Views}
-use Rattle.piece_ir.specs.declared.pieces.Piece.{Piece}
-use Rattle.piece_ir.specs.declared.views.View.{View}
-use Rattle.piece_ir.specs.declared.views.TableViews.{TableViews}
+use Rattle.piece_ir.specs.declared.piece.Piece.{Piece}
+use Rattle.piece_ir.specs.declared.view.View.{View}
+use Rattle.piece_ir.specs.declared.view.TableViews.{TableViews}
 
 abbrev pub piece_of : Piece → PlainPiece
 piece_of p = record { atoms = p.atoms.items; cond = test p.cond; outs = sets_of p.outs.items }
@@ -16,7 +16,12 @@ abbrev pub pieces_of : List Piece → List PlainPiece
 pieces_of ps = map piece_of ps
 
 abbrev pub view_of : View → PlainView
-view_of v = record { atoms = v.atoms.items; parts = map test v.parts.items; outs = sets_of v.outs.items }
+view_of v = record {
+  atoms = v.atoms.items;
+  parts = map test v.parts.items;
+  outs =
+      sets_of v.outs.items;
+}
 
 abbrev pub table_views_of : TableViews → List ℕ × List PlainView
 table_views_of t = (t.table, map view_of t.views.items)
@@ -24,6 +29,6 @@ table_views_of t = (t.table, map view_of t.views.items)
 abbrev pub all_views_of : List TableViews → Views
 all_views_of ts = map table_views_of ts
 
--- the views that are lent
-abbrev pub lent_views : List (Bor View) → List PlainView
-lent_views views = map (λ (v : Bor View). view_of v.now) views
+-- the views that are borrowed
+abbrev pub borrowed_views : List (Bor View) → List PlainView
+borrowed_views views = map (λ (v : Bor View). view_of v.now) views

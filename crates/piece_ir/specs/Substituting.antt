@@ -1,10 +1,10 @@
 -- An expression put for a column of an atom, and whether a piece names a column.
 use Rattle.std.specs.Prelude.{◌≡◌, ℕ, ◌==◌, ◌&&◌, List, Bool, if◌then◌else◌}
 use Rattle.std.specs.List.{list_any}
-use Rattle.cond_expr.specs.declared.exprs.ColRef.{ColRef}
-use Rattle.prima_base.specs.declared.values.Value.{Value}
-use Rattle.cond_expr.specs.declared.exprs.Whose.{Whose}
-use Rattle.cond_expr.specs.declared.exprs.Whose.TheVariants.{Atom}
+use Rattle.cond_expr.specs.declared.expr.ColRef.{ColRef}
+use Rattle.prima_base.specs.declared.value.Value.{Value}
+use Rattle.cond_expr.specs.declared.expr.Whose.{Whose}
+use Rattle.cond_expr.specs.declared.expr.Whose.TheVariants.{Atom}
 use Rattle.cond_expr.specs.Trees.{Tree, column, Filling, for_atoms, fill, fill_test}
 use Rattle.cond_expr.specs.Values.{over, value}
 use Rattle.smo_meaning.specs.OneRow.{same}
@@ -18,10 +18,16 @@ to_atom i w n = column (Atom i) n
 
 -- the expression, said of the atom, for its column; each other column of an atom for itself
 abbrev pub put_column : ℕ → List ℕ → Tree → Filling
-put_column i c e = for_atoms (λ j n. if (j == i) && same n c then fill (to_atom i) e else column (Atom j) n)
+put_column i c e = for_atoms (λ j n. if (j == i) && same n c then fill (to_atom i) e
+    else column (Atom j) n)
 
 abbrev pub substituted : PlainPiece → ℕ → List ℕ → Tree → PlainPiece
-substituted p i c e = record { atoms = p.atoms; cond = fill_test (put_column i c e) p.cond; outs = filled_outs (put_column i c e) p.outs }
+substituted p i c e = record {
+  atoms = p.atoms;
+  cond = fill_test (put_column i c e) p.cond;
+  outs =
+      filled_outs (put_column i c e) p.outs;
+}
 
 -- the reference is to this column of the atom
 abbrev pub is_column : ℕ → List ℕ → ColRef → Bool

@@ -1,22 +1,23 @@
-//! Pieces of rewritten queries, and what is done with them: copied, substituted in, and unfolded by views.
+//! Pieces of rewritten queries, and what is done with them: copied, substituted in, and unfolded by
+//! views.
 #![tactic(auto)]
 
-mod choosing;
-mod fillings;
+mod choice;
+mod filling;
 mod laws;
-mod names;
-mod outputs;
-mod pieces;
-mod references;
+mod name;
+mod output;
+mod piece;
+mod reference;
 mod sameness;
-mod substitutions;
-mod unfolding;
-mod views;
+mod substitution;
+mod unfolded;
+mod view;
 
-pub use choosing::unfold_by;
+pub use choice::unfold_by;
 pub use laws::{substitution_puts_a_value, the_same_pieces_are_equal};
-pub use pieces::Piece;
+pub use piece::Piece;
 pub use sameness::same_pieces;
-pub use substitutions::{needs, substitute};
-pub use unfolding::append_parts;
-pub use views::{TableViews, View};
+pub use substitution::{needs, substitute};
+pub use unfolded::append_parts;
+pub use view::{TableViews, View};

@@ -2,7 +2,8 @@ ghost use Rattle.std.specs.Prelude.{◌≡◌, map};
 ghost use Rattle.smo_types.specs.Changes.{sets_of};
 ghost use Rattle.cond_expr.specs.Seen.{tree, test, trees_of, tests_of};
 ghost use Rattle.piece_ir.specs.Shown.{piece_of, pieces_of};
-ghost use Rattle.piece_ir.specs.Sameness.{same_whose, same_tree, same_trees, same_test, same_tests, same_names, same_outs, same_piece, same_pieces};
+ghost use Rattle.piece_ir.specs.Sameness.{same_whose, same_tree, same_trees, same_test, same_tests};
+ghost use Rattle.piece_ir.specs.Sameness.{same_names, same_outs, same_piece, same_pieces};
 
 use crate::Piece;
 use cond_expr::{ColRef, Cond, Expr, Whose, same_way};
@@ -126,8 +127,8 @@ fn same_piece(a: &Piece, b: &Piece) -> bool
     same_names(&a.atoms, &b.atoms) && same_cond(&a.cond, &b.cond) && same_outs(&a.outs, &b.outs)
 }
 
-/// Whether pieces are one by one the same: over the same tables, with the same condition and the same outputs, as they are written.
-/// It takes no memory.
+/// Whether pieces are one by one the same: over the same tables, with the same condition and the
+/// same outputs, as they are written. It takes no memory.
 pub fn same_pieces(a: &[Piece], b: &[Piece]) -> bool
     ensures { result ≡ same_pieces (pieces_of a.now) (pieces_of b.now) }
 {

@@ -3,7 +3,7 @@ use Rattle.std.specs.Prelude.{◌≡◌, ℕ, List, [], ◌∷◌, true, Some, �
 use Rattle.std.specs.List.{list_all}
 use Rattle.relations.specs.Sets.{In}
 use Rattle.relations.specs.Choices.{Chosen}
-use Rattle.prima_base.specs.declared.values.ColType.{ColType}
+use Rattle.prima_base.specs.declared.value.ColType.{ColType}
 use Rattle.prima_base.specs.Columns.{Column, names_of}
 use Rattle.schema_catalog.specs.Tables.{Tables}
 use Rattle.schema_catalog.specs.Databases.{cell, Database, IsDatabase}
@@ -20,47 +20,57 @@ use Rattle.plain_answers.specs.Choosing.{chosen_cells}
 use Rattle.piece_meaning.specs.Pieces.{atom_columns, atom_rows}
 use Rattle.piece_meaning.specs.Typed.{AreThere, atom_kinds}
 use Rattle.piece_meaning.specs.Views.{PlainView, out_of, Views}
-use Rattle.piece_meaning.specs.Constants.{LawfulInOperator, LawfulInView}
+use Rattle.piece_meaning.specs.Constants.{ValidInOperator, ValidInView}
 
 -- a choice of one row per atom of the view meets all its parts
-pub record Picks (tables : Tables) (db : Database) (v : PlainView) (choice : List Row) : Type 0 where
+pub record Picks (tables : Tables) (db : Database) (v : PlainView) (choice : List Row) :
+    Type 0 where
   pub chosen : Chosen choice (atom_rows db v.atoms)
   pub met : list_all (truth (chosen_cells (atom_columns tables v.atoms) choice)) v.parts ≡ true
 
 -- the row of these columns has in each of them what the view has of the choice
-pub record Shows (tables : Tables) (columns : List Column) (v : PlainView) (choice : List Row) (row : Row) : Type 0 where
+pub record Shows (tables : Tables) (columns : List Column) (v : PlainView) (choice : List Row)
+    (row : Row) : Type 0 where
   pub is : (n : List ℕ) → In n (names_of columns)
-      → cell columns row n ≡ value (chosen_cells (atom_columns tables v.atoms) choice) (out_of v.outs n)
+      → cell columns row n ≡ value (chosen_cells (atom_columns tables v.atoms) choice)
+      (out_of v.outs n)
 
--- a relation of these columns has just the rows that the views give: each row is shown by a choice of one of them, and each
--- of their choices shows a row
-pub record AreGiven (tables : Tables) (db : Database) (columns : List Column) (rows : Relation) (views : List PlainView) : Type 0 where
+-- a relation of these columns has just the rows that the views give: each row is shown by a choice
+-- of one of them, and each of their choices shows a row
+pub record AreGiven (tables : Tables) (db : Database) (columns : List Column) (rows : Relation)
+    (views : List PlainView) : Type 0 where
   pub there : (row : Row) → In row rows
-      → (v : PlainView) × (choice : List Row) × In v views × Picks tables db v choice × Shows tables columns v choice row
+      → (v : PlainView) × (choice : List Row) × In v views × Picks tables db v choice
+      × Shows tables columns v choice row
   pub back : (v : PlainView) → In v views → (choice : List Row) → Picks tables db v choice
       → (row : Row) × In row rows × Shows tables columns v choice row
 
--- a view over the tables, of a table of these columns: each atom is a table, each part has a type, and each column has its own
+-- a view over the tables, of a table of these columns: each atom is a table, each part has a type,
+-- and each column has its own
 pub record IsTypedView (tables : Tables) (columns : List Column) (v : PlainView) : Type 0 where
   pub there : AreThere tables v.atoms
   pub parts : (c : Test) → In c v.parts → is_typed (atom_kinds tables v.atoms) c ≡ true
-  pub outs : (n : List ℕ) (k : ColType) → type_in columns n ≡ Some k → kind_of (atom_kinds tables v.atoms) (out_of v.outs n) ≡ Some k
+  pub outs : (n : List ℕ) (k : ColType) → type_in columns n ≡ Some k
+      → kind_of (atom_kinds tables v.atoms) (out_of v.outs n) ≡ Some k
 
--- one made table and its views: for each database of the tables before; each atom is one of the operator's inputs, and their
--- constants are lawful where the operator's are
-pub record IsGivenBy (tables : Tables) (op : Operator) (m : Made) (named : List ℕ × List PlainView) : Type 0 where
+-- one made table and its views: for each database of the tables before; each atom is one of the
+-- operator's inputs, and their constants are valid where the operator's are
+pub record IsGivenBy (tables : Tables) (op : Operator) (m : Made) (named : List ℕ
+    × List PlainView) : Type 0 where
   pub name : named.0 ≡ m.name
-  pub rows : (db : Database) → IsDatabase tables db → AreGiven tables db m.columns (rows_of (m.entry db)) named.1
+  pub rows : (db : Database) → IsDatabase tables db
+      → AreGiven tables db m.columns (rows_of (m.entry db)) named.1
   pub typed : (v : PlainView) → In v named.1 → IsTypedView tables m.columns v
   pub inputs : (v : PlainView) → In v named.1 → (n : List ℕ) → In n v.atoms → In n (made_of op)
-  pub constants : LawfulInOperator op → (v : PlainView) → In v named.1 → LawfulInView v
+  pub constants : ValidInOperator op → (v : PlainView) → In v named.1 → ValidInView v
 
 -- each made table, and its views
 abbrev pub EachGivenBy : Tables → Operator → List Made → Views → Type 0
 EachGivenBy tables op [] [] = ⊤
 EachGivenBy tables op [] (named ∷ views) = ⊥
 EachGivenBy tables op (m ∷ made) [] = ⊥
-EachGivenBy tables op (m ∷ made) (named ∷ views) = IsGivenBy tables op m named × EachGivenBy tables op made views
+EachGivenBy tables op (m ∷ made) (named ∷ views) = IsGivenBy tables op m named
+    × EachGivenBy tables op made views
 
 -- the tables that the operator makes are given by the views
 abbrev pub AreViews : Tables → Operator → Views → Type 0

@@ -1,3 +1,3 @@
-pub mod LawfulCells
+pub mod ValidCells
 pub mod Pruned
 pub mod PushedTypes

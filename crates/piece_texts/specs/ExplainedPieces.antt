@@ -5,7 +5,8 @@ use Rattle.piece_meaning.specs.Pieces.{PlainPiece}
 use Rattle.piece_ir.specs.Shown.{piece_of}
 use Rattle.piece_texts.specs.declared.explained.Explained.{Explained}
 
--- a piece over the tables of a version, in a period, for an atom of a branch; branches and atoms are counted from 1
+-- a piece over the tables of a version, in a period, for an atom of a branch; branches and atoms
+-- are counted from 1
 pub record PlainExplained : Type 0 where
   pub period : Span
   pub branch : ℕ
@@ -14,7 +15,13 @@ pub record PlainExplained : Type 0 where
   pub piece : PlainPiece
 
 abbrev pub explained_of : Explained → PlainExplained
-explained_of e = record { period = e.period; branch = e.branch; atom = e.atom; version = e.version; piece = piece_of e.piece }
+explained_of e = record {
+  period = e.period;
+  branch = e.branch;
+  atom = e.atom;
+  version = e.version;
+  piece = piece_of e.piece;
+}
 
 abbrev pub all_explained : List Explained → List PlainExplained
 all_explained list = map explained_of list

@@ -15,4 +15,5 @@ listed_or_dash [] = codes "-"
 listed_or_dash (t ∷ texts) = listed (t ∷ texts)
 
 abbrev pub piece_text : PlainPiece → List ℕ
-piece_text p = codes "SELECT " ++ listed_or_dash (map out_text p.outs) ++ codes " FROM " ++ listed_or_dash p.atoms ++ codes " WHERE " ++ test_text true false p.cond
+piece_text p = codes "SELECT " ++ listed_or_dash (map out_text p.outs) ++ codes " FROM "
+    ++ listed_or_dash p.atoms ++ codes " WHERE " ++ test_text true false p.cond

@@ -1,8 +1,8 @@
 use piece_ir::Piece;
 use prima_base::Period;
 
-/// A piece that a query runs, as EXPLAIN tells it: over the tables of this version, in this period, for this atom of
-/// this branch of the query.
+/// A piece that a query runs, as EXPLAIN tells it: over the tables of this version, in this period,
+/// for this atom of this branch of the query.
 #[derive(Drop)]
 pub struct Explained {
     /// The version's period, cut to the moments that the query asks of.

@@ -2,7 +2,7 @@
 #![tactic(auto)]
 
 mod explained;
-mod printing;
+mod printer;
 
 pub use explained::Explained;
-pub use printing::piece_text;
+pub use printer::piece_text;

@@ -4,12 +4,13 @@ use Rattle.std.specs.Prelude.{◌==◌, ◌↔◌}
 use Rattle.std.specs.List.{filter}
 use Rattle.std.proofs.lemmas.Bool.Decides.{nat_tests}
 use Rattle.relations.specs.Sets.{In}
-use Rattle.relations.proofs.SetLaws.{in_map, from_map, in_filter, from_filter, in_set, from_set, set_same}
+use Rattle.relations.proofs.SetLaws.{in_map, from_map, in_filter, from_filter, in_set, from_set}
+use Rattle.relations.proofs.SetLaws.{set_same}
 use Rattle.prima_base.specs.Order.{bytes_cmp}
 use Rattle.prima_base.specs.OrderLaws.{bytes_exact}
-use Rattle.cond_expr.specs.declared.exprs.ColRef.{ColRef}
-use Rattle.cond_expr.specs.declared.exprs.Whose.{Whose}
-use Rattle.cond_expr.specs.declared.exprs.Whose.TheVariants.{Free, Alias, Atom}
+use Rattle.cond_expr.specs.declared.expr.ColRef.{ColRef}
+use Rattle.cond_expr.specs.declared.expr.Whose.{Whose}
+use Rattle.cond_expr.specs.declared.expr.Whose.TheVariants.{Free, Alias, Atom}
 use Rattle.plain_answers.specs.Naming.{is_atom, is_to, IsNamed, written_names, names_at}
 
 itself : (i : ℕ) → (i == i) ≡ true
@@ -36,12 +37,18 @@ from_names_at i rs n m =
     ∙ ap (λ (x : List ℕ). record { whose = Atom i; name = x }) f.2 in
     subst (λ (r : ColRef). In r rs) same k.0
 
-pub names_alike : (i : ℕ) (a b : List ColRef) → ((n : List ℕ) → IsNamed i a n ↔ IsNamed i b n) → names_at i a ≡ names_at i b
+pub names_alike : (i : ℕ) (a b : List ColRef) → ((n : List ℕ) → IsNamed i a n ↔ IsNamed i b n)
+    → names_at i a ≡ names_at i b
 names_alike i a b h =
-    set_same bytes_cmp bytes_exact (written_names (filter (is_to i) a)) (written_names (filter (is_to i) b)) (record {
-      there = λ n m. as_written b n ((h n).0 (from_names_at i a n (in_set bytes_cmp bytes_exact n (written_names (filter (is_to i) a)) m)));
-      back = λ n m. as_written a n ((h n).1 (from_names_at i b n (in_set bytes_cmp bytes_exact n (written_names (filter (is_to i) b)) m)));
+    set_same bytes_cmp bytes_exact (written_names (filter (is_to i) a))
+    (written_names (filter (is_to i) b)) (record {
+      there = λ n m. as_written b n ((h n).0 (from_names_at i a n
+          (in_set bytes_cmp bytes_exact n (written_names (filter (is_to i) a)) m)));
+      back = λ n m. as_written a n ((h n).1 (from_names_at i b n
+          (in_set bytes_cmp bytes_exact n (written_names (filter (is_to i) b)) m)));
     })
   where
-    as_written : (rs : List ColRef) (n : List ℕ) → IsNamed i rs n → In n (written_names (filter (is_to i) rs))
-    as_written rs n m = from_set bytes_cmp bytes_exact n (written_names (filter (is_to i) rs)) (in_names_at i rs n m)
+    as_written : (rs : List ColRef) (n : List ℕ) → IsNamed i rs n
+        → In n (written_names (filter (is_to i) rs))
+    as_written rs n m = from_set bytes_cmp bytes_exact n (written_names (filter (is_to i) rs))
+        (in_names_at i rs n m)

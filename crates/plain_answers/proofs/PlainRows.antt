@@ -4,7 +4,8 @@ use Rattle.std.specs.Prelude.{◌↔◌}
 use Rattle.std.specs.List.{filter, flat_map}
 use Rattle.relations.specs.Sets.{In}
 use Rattle.relations.specs.Choices.{choices}
-use Rattle.relations.proofs.SetLaws.{in_map, from_map, in_filter, from_filter, in_flat_map, from_flat_map, in_set, from_set}
+use Rattle.relations.proofs.SetLaws.{in_map, from_map, in_filter, from_filter, in_flat_map}
+use Rattle.relations.proofs.SetLaws.{from_flat_map, in_set, from_set}
 use Rattle.relations.proofs.ChoiceLaws.{in_choices, from_choices}
 use Rattle.prima_base.specs.Order.{row_cmp}
 use Rattle.prima_base.specs.OrderLaws.{row_exact}
@@ -14,18 +15,24 @@ use Rattle.schema_catalog.specs.Databases.{Database}
 use Rattle.cond_expr.specs.Trees.{Tree, Test}
 use Rattle.smo_meaning.specs.OneRow.{Row, Relation}
 use Rattle.plain_answers.specs.Choosing.{is_met, answered, answers_over, Gives}
-use Rattle.plain_answers.specs.Branches.{PlainBranch, item_columns, item_rows, branch_answers, plain, BranchGives}
+use Rattle.plain_answers.specs.Branches.{PlainBranch, item_columns, item_rows, branch_answers}
+use Rattle.plain_answers.specs.Branches.{plain, BranchGives}
 
-module _ (columns : List (List Column)) (relations : List Relation) (outs : List Tree) (c : Test) where
-  pub in_answers : (row : Row) → Gives columns relations outs c row → In row (answers_over columns relations outs c)
+module _ (columns : List (List Column)) (relations : List Relation) (outs : List Tree)
+    (c : Test) where
+  pub in_answers : (row : Row) → Gives columns relations outs c row
+      → In row (answers_over columns relations outs c)
   in_answers row g =
       subst (λ (r : Row). In r (answers_over columns relations outs c)) g.is
       (in_map (answered columns outs) g.choice (filter (is_met columns c) (choices relations))
-      (in_filter (is_met columns c) g.choice (choices relations) (in_choices g.choice relations g.chosen) g.met))
+      (in_filter (is_met columns c) g.choice (choices relations)
+      (in_choices g.choice relations g.chosen) g.met))
 
-  pub from_answers : (row : Row) → In row (answers_over columns relations outs c) → Gives columns relations outs c row
+  pub from_answers : (row : Row) → In row (answers_over columns relations outs c)
+      → Gives columns relations outs c row
   from_answers row m =
-      let f = from_map (answered columns outs) row (filter (is_met columns c) (choices relations)) m in
+      let f = from_map (answered columns outs) row (filter (is_met columns c) (choices relations))
+      m in
       let g = from_filter (is_met columns c) f.0 (choices relations) f.1 in
       record { choice = f.0; chosen = from_choices f.0 relations g.0; met = g.1; is = f.2 }
 
@@ -36,8 +43,12 @@ module _ (tables : Tables) (db : Database) (branches : List PlainBranch) (row : 
   there : In row (plain tables branches db) → IsGiven
   there m =
       let f = from_flat_map (branch_answers tables db) row branches
-      (from_set row_cmp row_exact row (flat_map (branch_answers tables db) branches) m) in
-      (f.0, f.1, from_answers (item_columns tables f.0.from) (item_rows db f.0.from) f.0.outs f.0.cond row f.2)
+      (from_set row_cmp row_exact row (flat_map (branch_answers tables db) branches) m) in (
+        f.0,
+        f.1,
+        from_answers (item_columns tables f.0.from) (item_rows db f.0.from) f.0.outs
+            f.0.cond row f.2,
+      )
 
   back : IsGiven → In row (plain tables branches db)
   back h =

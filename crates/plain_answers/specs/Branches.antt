@@ -1,5 +1,5 @@
--- Branches of queries as plain data, and the plain answer over one database. Each reference is to an atom: the place of an
--- item in its branch.
+-- Branches of queries as plain data, and the plain answer over one database. Each reference is to
+-- an atom: the place of an item in its branch.
 use Rattle.std.specs.Prelude.{ℕ, List, map}
 use Rattle.std.specs.List.{flat_map}
 use Rattle.std.specs.FinMap.{get}
@@ -10,7 +10,7 @@ use Rattle.schema_catalog.specs.Tables.{Tables}
 use Rattle.schema_catalog.specs.Databases.{Database}
 use Rattle.cond_expr.specs.Trees.{Tree, Test}
 use Rattle.smo_meaning.specs.OneRow.{Row, Relation}
-use Rattle.smo_meaning.specs.Effects.{columns_of, rows_at}
+use Rattle.smo_meaning.specs.Effects.{columns_of, rows_under}
 use Rattle.plain_answers.specs.Choosing.{answers_over, Gives}
 
 -- an item of a FROM: its table, and its alias
@@ -30,11 +30,13 @@ abbrev pub item_columns : Tables → List Item → List (List Column)
 item_columns tables from = map (λ (i : Item). columns_of tables i.0) from
 
 abbrev pub item_rows : Database → List Item → List Relation
-item_rows db from = map (λ (i : Item). rows_at (get db i.0)) from
+item_rows db from = map (λ (i : Item). rows_under (get db i.0)) from
 
--- a branch answers, for each choice of one row per table of its FROM that meets its condition, the values of its outputs
+-- a branch answers, for each choice of one row per table of its FROM that meets its condition, the
+-- values of its outputs
 abbrev pub branch_answers : Tables → Database → PlainBranch → List Row
-branch_answers tables db b = answers_over (item_columns tables b.from) (item_rows db b.from) b.outs b.cond
+branch_answers tables db b = answers_over (item_columns tables b.from) (item_rows db b.from) b.outs
+    b.cond
 
 -- the relation of all branches' answers
 abbrev pub plain : Tables → List PlainBranch → Database → Relation
@@ -42,4 +44,5 @@ plain tables branches db = set_of row_cmp (flat_map (branch_answers tables db) b
 
 -- a branch gives the row, for a choice of one row per item
 abbrev pub BranchGives : Tables → Database → PlainBranch → Row → Type 0
-BranchGives tables db b row = Gives (item_columns tables b.from) (item_rows db b.from) b.outs b.cond row
+BranchGives tables db b row = Gives (item_columns tables b.from) (item_rows db b.from) b.outs b.cond
+    row

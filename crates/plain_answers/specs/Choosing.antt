@@ -1,9 +1,10 @@
--- What a condition and outputs are over a choice of one row per atom, and what they answer over all choices.
+-- What a condition and outputs are over a choice of one row per atom, and what they answer over all
+-- choices.
 use Rattle.std.specs.Prelude.{◌≡◌, ℕ, zero, suc, List, [], ◌∷◌, map, pos, Bool, true}
 use Rattle.std.specs.List.{filter}
 use Rattle.relations.specs.Choices.{Chosen, choices}
-use Rattle.prima_base.specs.declared.values.Value.{Value}
-use Rattle.prima_base.specs.declared.values.Value.TheVariants.{Int}
+use Rattle.prima_base.specs.declared.value.Value.{Value}
+use Rattle.prima_base.specs.declared.value.Value.TheVariants.{Int}
 use Rattle.prima_base.specs.Columns.{Column}
 use Rattle.schema_catalog.specs.Databases.{cell}
 use Rattle.cond_expr.specs.Trees.{Tree, Test}
@@ -34,7 +35,8 @@ answers_over columns relations outs cond =
     map (answered columns outs) (filter (is_met columns cond) (choices relations))
 
 -- a choice of one row per relation meets the condition, and its outputs are the row
-pub record Gives (columns : List (List Column)) (relations : List Relation) (outs : List Tree) (cond : Test)
+pub record Gives (columns : List (List Column)) (relations : List Relation) (outs : List Tree)
+    (cond : Test)
     (row : Row) : Type 0 where
   pub choice : List Row
   pub chosen : Chosen choice relations

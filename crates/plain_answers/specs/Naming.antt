@@ -3,9 +3,9 @@ use Rattle.std.specs.Prelude.{ℕ, ◌+◌, ◌==◌, ◌++◌, Bool, false, Lis
 use Rattle.std.specs.List.{filter, flat_map}
 use Rattle.relations.specs.Sets.{In, set_of}
 use Rattle.prima_base.specs.Order.{bytes_cmp}
-use Rattle.cond_expr.specs.declared.exprs.ColRef.{ColRef}
-use Rattle.cond_expr.specs.declared.exprs.Whose.{Whose}
-use Rattle.cond_expr.specs.declared.exprs.Whose.TheVariants.{Free, Alias, Atom}
+use Rattle.cond_expr.specs.declared.expr.ColRef.{ColRef}
+use Rattle.cond_expr.specs.declared.expr.Whose.{Whose}
+use Rattle.cond_expr.specs.declared.expr.Whose.TheVariants.{Free, Alias, Atom}
 use Rattle.cond_expr.specs.Trees.{Tree, Test}
 use Rattle.cond_expr.specs.Faults.{references, test_references}
 

@@ -1,14 +1,16 @@
--- What is read of the relations of a branch: of each the rows that meet a condition of its own, and of these some columns.
+-- What is read of the relations of a branch: of each the rows that meet a condition of its own, and
+-- of these some columns.
 use Rattle.std.specs.Prelude.{ℕ, ◌+◌, ◌==◌, List, [], ◌∷◌, map, pos, if◌then◌else◌, ⊤}
 use Rattle.std.specs.List.{filter, flat_map}
 use Rattle.relations.specs.Sets.{In, set_of}
-use Rattle.prima_base.specs.declared.values.Value.TheVariants.{Int}
+use Rattle.prima_base.specs.declared.value.Value.TheVariants.{Int}
 use Rattle.prima_base.specs.Order.{row_cmp}
 use Rattle.prima_base.specs.Columns.{Column}
 use Rattle.schema_catalog.specs.Tables.{Tables}
 use Rattle.schema_catalog.specs.Databases.{cell, Database}
-use Rattle.cond_expr.specs.declared.exprs.Whose.TheVariants.{Atom}
-use Rattle.cond_expr.specs.Trees.{Tree, column, constant, Test, always, Filling, for_atoms, fill_test}
+use Rattle.cond_expr.specs.declared.expr.Whose.TheVariants.{Atom}
+use Rattle.cond_expr.specs.Trees.{Tree, column, constant, Test, always, Filling, for_atoms}
+use Rattle.cond_expr.specs.Trees.{fill_test}
 use Rattle.cond_expr.specs.Parts.{parts_but_true}
 use Rattle.smo_meaning.specs.OneRow.{Row, Relation, meets}
 use Rattle.smo_meaning.specs.Making.{named, image}
@@ -23,7 +25,8 @@ pub record Read : Type 0 where
 
 -- the selection by the condition, and of it the projection on the columns
 abbrev pub read_of : Read → List Column → Relation → Relation
-read_of r columns rows = image (named r.names columns) (cell columns) (filter (meets columns r.test) rows)
+read_of r columns rows = image (named r.names columns) (cell columns)
+    (filter (meets columns r.test) rows)
 
 -- of each relation; and the columns that are left of each
 abbrev pub read_columns : List Read → List (List Column) → List (List Column)
@@ -35,7 +38,8 @@ abbrev pub read_rows : List Read → List (List Column) → List Relation → Li
 read_rows [] columns relations = []
 read_rows (r ∷ reads) [] relations = []
 read_rows (r ∷ reads) (cs ∷ columns) [] = []
-read_rows (r ∷ reads) (cs ∷ columns) (rows ∷ relations) = read_of r cs rows ∷ read_rows reads columns relations
+read_rows (r ∷ reads) (cs ∷ columns) (rows ∷ relations) =
+    read_of r cs rows ∷ read_rows reads columns relations
 
 -- as many of each
 abbrev pub AsMany : {X Y : Type 0} → List X → List Y → Type 0
@@ -52,9 +56,11 @@ said_of i = for_atoms (λ j n. if 0 == j then column (Atom i) n else constant (I
 
 -- each part of the first, said of the atom, is a part of the second
 abbrev pub IsPartOf : ℕ → Test → Test → Type 0
-IsPartOf i own cond = (t : Test) → In t (parts_but_true own) → In (fill_test (said_of i) t) (parts_but_true cond)
+IsPartOf i own cond = (t : Test) → In t (parts_but_true own)
+    → In (fill_test (said_of i) t) (parts_but_true cond)
 
--- of the atom with this number: what is selected is a part of the condition, and each column that is named is kept
+-- of the atom with this number: what is selected is a part of the condition, and each column that
+-- is named is kept
 pub record IsEnough (i : ℕ) (r : Read) (outs : List Tree) (cond : Test) : Type 0 where
   pub part : IsPartOf i r.test cond
   pub keeps : (name : List ℕ) → IsNamed i (all_references outs cond) name → In name r.names
@@ -79,4 +85,5 @@ answers_read tables db reads b =
     (read_rows (reads b) (item_columns tables b.from) (item_rows db b.from)) b.outs b.cond
 
 abbrev pub plain_read : Tables → (PlainBranch → List Read) → List PlainBranch → Database → Relation
-plain_read tables reads branches db = set_of row_cmp (flat_map (answers_read tables db reads) branches)
+plain_read tables reads branches db = set_of row_cmp
+    (flat_map (answers_read tables db reads) branches)

@@ -1,5 +1,6 @@
-//! The plain answer: what conditions and outputs are over choices of one row per atom, what branches of a query answer over
-//! one database, and what is read for that. Definitions (`specs/`) and their laws, under queries and under pieces.
+//! The plain answer: what conditions and outputs are over choices of one row per atom, what
+//! branches of a query answer over one database, and what is read for that. Definitions (`specs/`)
+//! and their laws, under queries and under pieces.
 #![tactic(auto)]
 
 mod laws;

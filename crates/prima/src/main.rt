@@ -1,7 +1,7 @@
 //! PRIMA: a transaction-time archive under schema evolution (PRIMA 2008, PRISM 2008).
 //!
-//! The program: it hands the words of the command line, a book of the twelve rules, standard input, standard output
-//! and the file of the archive to `run`, and ends with its status.
+//! The program: it hands the words of the command line, a book of the twelve rules, standard input,
+//! standard output and the file of the archive to `run`, and ends with its status.
 #![tactic(auto)]
 
 use disk_model::{Disk, SureDisk};
@@ -17,7 +17,8 @@ use std::{env, io};
 // The archive's file, in the current folder.
 const ARCHIVE: &str = "archive.prima";
 
-// How the program ends where the system did not give what it was asked for: memory ran out, or else as told.
+// How the program ends where the system did not give what it was asked for: memory ran out, or else
+// as told.
 fn without(error: &io::Error, otherwise: Status) -> Status {
     if error.kind() == io::ErrorKind::OutOfMemory {
         Status::NoMemory
@@ -43,8 +44,8 @@ fn run_with_rules<S: Source, K: Sink, D: Disk>(
     Ok(run(alloc, words, &book, source, sink, disk))
 }
 
-// Runs over the file of the archive. The words are judged before it is opened, so that wrong ones make no file: then `run`, which
-// judges them again, gets a disk that it does not call.
+// Runs over the file of the archive. The words are judged before it is opened, so that wrong ones
+// make no file: then `run`, which judges them again, gets a disk that it does not call.
 fn run_over_the_file<S: Source, K: Sink>(
     rt: &HostRuntime,
     words: &[Word],

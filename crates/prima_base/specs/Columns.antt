@@ -1,21 +1,21 @@
--- Lawful values, the columns of a table, and the relations that fit them.
+-- Valid values, the columns of a table, and the relations that fit them.
 use Rattle.std.specs.Prelude.{◌≡◌, ℕ, ◌^◌, ◌-◌, pos, neg_ℤ, ◌≤ℤ◌, Bool, true, false, List, [], ◌∷◌}
 use Rattle.relations.specs.Sets.{In, Ascends}
 use Rattle.prima_base.specs.Bytes.{IsTxt}
 use Rattle.prima_base.specs.Order.{row_cmp, bytes_cmp}
-use Rattle.prima_base.specs.declared.values.Value.{Value}
-use Rattle.prima_base.specs.declared.values.Value.TheVariants.{Int, Text}
-use Rattle.prima_base.specs.declared.values.ColType.{ColType}
-use Rattle.prima_base.specs.declared.values.ColType.TheVariants.{Int as IntType, Text as TextType}
+use Rattle.prima_base.specs.declared.value.Value.{Value}
+use Rattle.prima_base.specs.declared.value.Value.TheVariants.{Int, Text}
+use Rattle.prima_base.specs.declared.value.ColType.{ColType}
+use Rattle.prima_base.specs.declared.value.ColType.TheVariants.{Int as IntType, Text as TextType}
 
 -- a column: its name and its type
 abbrev pub Column : Type 0
 Column = List ℕ × ColType
 
 -- an INT from -2^63 to 2^63 - 1, or a TEXT of at most 4,096 bytes and no control byte
-abbrev pub IsLawful : Value → Type 0
-IsLawful (Int n) = (neg_ℤ (pos (2 ^ 63)) ≤ℤ n) × (n ≤ℤ pos (2 ^ 63 - 1))
-IsLawful (Text t) = IsTxt t
+abbrev pub IsValid : Value → Type 0
+IsValid (Int n) = (neg_ℤ (pos (2 ^ 63)) ≤ℤ n) × (n ≤ℤ pos (2 ^ 63 - 1))
+IsValid (Text t) = IsTxt t
 
 -- the value is of the column's type
 abbrev pub has_type : ColType → Value → Bool

@@ -1,7 +1,7 @@
 -- What a test answers.
 use Rattle.std.specs.Prelude.{◌≡◌, Option, Some, None, Result, Ok, Err, ⊤}
-use Rattle.prima_base.specs.declared.faults.CallFault.{CallFault}
-use Rattle.prima_base.specs.declared.faults.CallFault.TheVariants.{Refused, NoMemory}
+use Rattle.prima_base.specs.declared.fault.CallFault.{CallFault}
+use Rattle.prima_base.specs.declared.fault.CallFault.TheVariants.{Refused, NoMemory}
 
 -- the test is met, or its refusal is answered; where memory runs out nothing is said
 abbrev pub IsTested : {A : Type 0} {R : Type 0} → Option R → Result A (CallFault R) → Type 0

@@ -3,8 +3,9 @@ use Rattle.std.specs.Prelude.{ℕ, ◌-◌, ◌==◌, ◌&&◌, ◌||◌, Bool, 
 use Rattle.std.specs.List.{filter, list_all}
 use Rattle.relations.specs.Spans.{Span, covers, forever}
 use Rattle.relations.specs.Timed.{Entry}
-use Rattle.prima_base.specs.declared.keeps.Keep.{Keep}
-use Rattle.prima_base.specs.declared.keeps.Keep.TheVariants.{Starting, Ending, Lasting, Covering, Overlapping}
+use Rattle.prima_base.specs.declared.keep.Keep.{Keep}
+use Rattle.prima_base.specs.declared.keep.Keep.TheVariants.{Starting, Ending, Lasting, Covering}
+use Rattle.prima_base.specs.declared.keep.Keep.TheVariants.{Overlapping}
 
 -- below the bound; the end of time is no limit
 abbrev pub below : ℕ → ℕ → Bool

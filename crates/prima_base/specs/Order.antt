@@ -4,10 +4,10 @@ use Rattle.std.specs.declared.cmp.Ordering.{Ordering}
 use Rattle.std.specs.declared.cmp.Ordering.TheVariants.{Less, Greater}
 use Rattle.std.specs.Ordering.{nat_cmp, int_cmp, eq_by_cmp, is_eq}
 use Rattle.std.specs.Cmp.Lexicographic.{slice_cmp}
-use Rattle.prima_base.specs.declared.values.Value.{Value}
-use Rattle.prima_base.specs.declared.values.Value.TheVariants.{Int, Text}
-use Rattle.prima_base.specs.declared.values.Val.{Val}
-use Rattle.prima_base.specs.declared.values.Val.TheVariants.{Int as ValInt, Slice, Own}
+use Rattle.prima_base.specs.declared.value.Value.{Value}
+use Rattle.prima_base.specs.declared.value.Value.TheVariants.{Int, Text}
+use Rattle.prima_base.specs.declared.value.Val.{Val}
+use Rattle.prima_base.specs.declared.value.Val.TheVariants.{Int as ValInt, Slice, Own}
 
 -- texts and names, by their bytes
 abbrev pub bytes_cmp : List ℕ → List ℕ → Ordering
@@ -35,15 +35,15 @@ shown (Slice s) = Text s.now
 shown (Own t) = Text t
 
 -- where it is a text, its bytes lie elsewhere
-abbrev pub IsLent : Val → Type 0
-IsLent (ValInt n) = ⊤
-IsLent (Slice s) = ⊤
-IsLent (Own t) = ⊥
+abbrev pub IsBorrowed : Val → Type 0
+IsBorrowed (ValInt n) = ⊤
+IsBorrowed (Slice s) = ⊤
+IsBorrowed (Own t) = ⊥
 
 -- so it is of each
-abbrev pub AreLent : List Val → Type 0
-AreLent [] = ⊤
-AreLent (v ∷ vs) = IsLent v × AreLent vs
+abbrev pub AreBorrowed : List Val → Type 0
+AreBorrowed [] = ⊤
+AreBorrowed (v ∷ vs) = IsBorrowed v × AreBorrowed vs
 
 -- a text that lies elsewhere
 abbrev pub is_borrowed : Val → Bool

@@ -2,14 +2,16 @@
 use Rattle.std.specs.Prelude.{◌≡◌, Some, refl}
 use Rattle.std.proofs.Common.{ap, ◌∙◌}
 use Rattle.std.specs.declared.cmp.Ordering.TheVariants.{Less, Equal}
-use Rattle.std.specs.Cmp.{IsTotalOrder, IsPartialOrder, IsEquivalence, IsPartialEquivalence, on_total, on_equiv, partial_equiv_from_equiv, partial_order_from_total}
+use Rattle.std.specs.Cmp.{IsTotalOrder, IsPartialOrder, IsEquivalence, IsPartialEquivalence}
+use Rattle.std.specs.Cmp.{on_total, on_equiv, partial_equiv_from_equiv, partial_order_from_total}
 use Rattle.std.specs.Cmp.Lexicographic.{nat_list_cmp_total, lists_total}
 use Rattle.std.specs.Ordering.{eq_by_cmp, ordering_reverse}
 use Rattle.std.specs.declared.cmp.Ordering.{Ordering}
-use Rattle.std.specs.FinMap.{IsAntisymmetric, nat_cmp-IsAntisymmetric, int_cmp-IsAntisymmetric, slice_cmp-IsAntisymmetric}
+use Rattle.std.specs.FinMap.{IsAntisymmetric, nat_cmp-IsAntisymmetric, int_cmp-IsAntisymmetric}
+use Rattle.std.specs.FinMap.{slice_cmp-IsAntisymmetric}
 use Rattle.std.proofs.lemmas.Cmp.{int_cmp_total, eq_by_cmp_equiv, tied_itself}
-use Rattle.prima_base.specs.declared.values.Value.{Value}
-use Rattle.prima_base.specs.declared.values.Value.TheVariants.{Int, Text}
+use Rattle.prima_base.specs.declared.value.Value.{Value}
+use Rattle.prima_base.specs.declared.value.Value.TheVariants.{Int, Text}
 use Rattle.relations.specs.Sets.{IsExact}
 use Rattle.prima_base.specs.Order.{value_cmp, row_cmp, bytes_cmp, value_eq, shown}
 
@@ -48,7 +50,8 @@ val_eq_equiv = on_equiv shown (eq_by_cmp_equiv value_total)
 pub val_eq_per : IsPartialEquivalence (λ x y. value_eq (shown x) (shown y))
 val_eq_per = partial_equiv_from_equiv val_eq_equiv
 
-pub val_po : IsPartialOrder (λ x y. value_eq (shown x) (shown y)) (λ x y. Some (value_cmp (shown x) (shown y)))
+pub val_po : IsPartialOrder (λ x y. value_eq (shown x) (shown y))
+    (λ x y. Some (value_cmp (shown x) (shown y)))
 val_po = partial_order_from_total val_total
 
 pub row_total : IsTotalOrder row_cmp
@@ -64,7 +67,8 @@ pub row_po : IsPartialOrder (eq_by_cmp row_cmp) (λ x y. Some (row_cmp x y))
 row_po = partial_order_from_total row_total
 
 -- a total order in which only equal members tie tells apart what differs
-pub exact_from : {X : Type 0} {cmp : X → X → Ordering} → IsTotalOrder cmp → IsAntisymmetric cmp → IsExact cmp
+pub exact_from : {X : Type 0} {cmp : X → X → Ordering} → IsTotalOrder cmp → IsAntisymmetric cmp
+    → IsExact cmp
 exact_from {X} {cmp} o s = record {
   turn = λ x y e. (let h = o.antisymm y x in h ∙ ap ordering_reverse e);
   trans = o.trans;

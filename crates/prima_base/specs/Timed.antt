@@ -4,9 +4,9 @@ use Rattle.std.specs.declared.cmp.Ordering.{Ordering}
 use Rattle.std.specs.Ordering.{nat_cmp, ordering_then}
 use Rattle.std.specs.Cmp.Lexicographic.{slice_cmp}
 use Rattle.relations.specs.Timed.{Entry, at}
-use Rattle.prima_base.specs.declared.values.Value.{Value}
-use Rattle.prima_base.specs.declared.values.Val.{Val}
-use Rattle.prima_base.specs.declared.timed_rows.TimedRow.{TimedRow}
+use Rattle.prima_base.specs.declared.value.Value.{Value}
+use Rattle.prima_base.specs.declared.value.Val.{Val}
+use Rattle.prima_base.specs.declared.timed_row.TimedRow.{TimedRow}
 use Rattle.prima_base.specs.Order.{value_cmp, row_cmp, shown}
 
 -- the row that is shown, with its period
@@ -26,4 +26,5 @@ vals_cmp a b = slice_cmp (λ x y. value_cmp (shown x) (shown y)) a b
 
 -- by row, then start, then end
 abbrev pub timed_cmp : TimedRow → TimedRow → Ordering
-timed_cmp a b = ordering_then (vals_cmp a.values.items b.values.items) (ordering_then (nat_cmp a.period.start b.period.start) (nat_cmp a.period.end b.period.end))
+timed_cmp a b = ordering_then (vals_cmp a.values.items b.values.items)
+    (ordering_then (nat_cmp a.period.start b.period.start) (nat_cmp a.period.end b.period.end))

@@ -1,4 +1,5 @@
-//! The limits of the statement language and of what its statements make: each number stands here alone.
+//! The limits of the statement language and of what its statements make: each number stands here
+//! alone.
 
 /// The most bytes of a name.
 pub const MAX_NAME: usize = 63;

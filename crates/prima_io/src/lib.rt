@@ -1,17 +1,17 @@
 //! What statements are read from and what replies are written to.
 //!
-//! A contract sees of a source the bytes that are left in it, of a sink the bytes that it was given,
-//! each where the object tells them, and of both how often they failed.
+//! A contract sees of a source the bytes that are left in it, of a sink the bytes that it was
+//! given, each where the object tells them, and of both how often they failed.
 #![tactic(auto)]
 
-mod lent;
+mod borrowed;
+mod device;
 mod memory;
 mod sure;
-mod traits;
-mod writing;
+mod writer;
 
+pub use device::{Sink, Source};
 pub use memory::{MemSink, MemSource};
 pub use prima_base::Failed;
 pub use sure::{SureSink, SureSource};
-pub use traits::{Sink, Source};
-pub use writing::put_all;
+pub use writer::put_all;

@@ -1,4 +1,6 @@
-ghost use Rattle.std.specs.Prelude.{◌≡◌, take, min, Some, length, ◌≤◌, ◌<◌, ◌↔◌, IsTrue, vec_len, vec_capacity, IsErr, is_ok, [], IfOk, ◌||◌, nat_lt, ◌-◌, if◌then◌else◌};
+ghost use Rattle.std.specs.Prelude.{◌≡◌, take, min, Some, length, ◌≤◌, ◌<◌, ◌↔◌, IsTrue, vec_len};
+ghost use Rattle.std.specs.Prelude.{vec_capacity, IsErr, is_ok, [], IfOk, ◌||◌, nat_lt, ◌-◌};
+ghost use Rattle.std.specs.Prelude.{if◌then◌else◌};
 ghost use Rattle.std.specs.Io.{ReadsAtMost, WritesAtMost};
 ghost use Rattle.std.specs.Io.KnownBytes.{ReadConsumes, WriteAppends};
 ghost use Rattle.prima_io.specs.Causes.{HasCause, counted};
@@ -10,8 +12,8 @@ use crate::{Failed, Sink, Source};
 use prima_base::NoMemory;
 use std::alloc::Global;
 
-/// A source in memory that hands out a bounded number of bytes a call and fails at chosen calls, as a
-/// device might. It tells its bytes.
+/// A source in memory that hands out a bounded number of bytes a call and fails at chosen calls, as
+/// a device might. It tells its bytes.
 #[derive(Drop)]
 pub struct MemSource {
     bytes: Vec<u8>,
@@ -25,10 +27,11 @@ pub struct MemSource {
 }
 
 impl MemSource {
-    ghost use Rattle.prima_io.specs.Memory.{source_left, source_most, source_failing, source_calls, source_faults};
+    ghost use Rattle.prima_io.specs.Memory.{source_left, source_most, source_failing, source_calls};
+    ghost use Rattle.prima_io.specs.Memory.{source_faults};
 
-    /// A source that hands out `bytes`, at most `most` (one at least) a call. It fails exactly at the
-    /// calls whose numbers, counted from 0, are in `failing`.
+    /// A source that hands out `bytes`, at most `most` (one at least) a call. It fails exactly at
+    /// the calls whose numbers, counted from 0, are in `failing`.
     pub fn new(bytes: Vec<u8>, most: usize, failing: Vec<u64>) -> MemSource
         requires { 1 ≤ most }
         ensures left { source_left result ≡ bytes.items }
@@ -49,7 +52,8 @@ impl MemSource {
 }
 
 impl Source for MemSource {
-    ghost use Rattle.prima_io.specs.Memory.{source_left, source_most, source_failing, source_calls, source_faults};
+    ghost use Rattle.prima_io.specs.Memory.{source_left, source_most, source_failing, source_calls};
+    ghost use Rattle.prima_io.specs.Memory.{source_faults};
 
     ghost left = { λ s. Some (source_left s) };
 
@@ -58,12 +62,16 @@ impl Source for MemSource {
     fn take(&mut self, buf: &mut [u8]) -> Result<usize, Failed>
         requires { 0 < length buf.old }
         ensures bound { ReadsAtMost result buf.new }
-        ensures bytes { ReadConsumes (Some (source_left self.old)) (Some (source_left self.new)) result buf.new }
+        ensures bytes { ReadConsumes (Some (source_left self.old)) (Some (source_left self.new))
+            result buf.new }
         ensures cause { HasCause (source_faults self.old) (source_faults self.new) result }
-        ensures exact { IsErr result ↔ IsTrue (fails (source_failing self.old) (source_calls self.old)) }
-        ensures count { IfOk result (λ n. n ≡ min (min (source_most self.old) (length buf.old)) (length (source_left self.old))) }
+        ensures exact { IsErr result ↔ IsTrue
+            (fails (source_failing self.old) (source_calls self.old)) }
+        ensures count { IfOk result (λ n. n ≡ min (min (source_most self.old) (length buf.old))
+            (length (source_left self.old))) }
         ensures calls { source_calls self.new ≡ counted (source_calls self.old) }
-        ensures faults { source_faults self.new ≡ (if is_ok result then source_faults self.old else counted (source_faults self.old)) }
+        ensures faults { source_faults self.new
+            ≡ (if is_ok result then source_faults self.old else counted (source_faults self.old)) }
         ensures most { source_most self.new ≡ source_most self.old }
         ensures failing { source_failing self.new ≡ source_failing self.old }
     {
@@ -93,11 +101,12 @@ pub struct MemSink {
 }
 
 impl MemSink {
-    ghost use Rattle.prima_io.specs.Memory.{sink_written, sink_room, sink_failing, sink_calls, sink_faults};
+    ghost use Rattle.prima_io.specs.Memory.{sink_written, sink_room, sink_failing, sink_calls};
+    ghost use Rattle.prima_io.specs.Memory.{sink_faults};
 
-    /// An empty sink with room for `room` bytes, for which it takes the memory here and now. It fails
-    /// exactly at the calls whose numbers, counted from 0, are in `failing`, and at a piece that is
-    /// longer than the room that is left; at every other call it takes the whole piece.
+    /// An empty sink with room for `room` bytes, for which it takes the memory here and now. It
+    /// fails exactly at the calls whose numbers, counted from 0, are in `failing`, and at a piece
+    /// that is longer than the room that is left; at every other call it takes the whole piece.
     pub fn new(alloc: Global, room: usize, failing: Vec<u64>) -> Result<MemSink, NoMemory>
         ensures written { IfOk result (λ s. sink_written s ≡ []) }
         ensures room { IfOk result (λ s. sink_room s ≡ room) }
@@ -123,7 +132,8 @@ impl MemSink {
 }
 
 impl Sink for MemSink {
-    ghost use Rattle.prima_io.specs.Memory.{sink_written, sink_room, sink_failing, sink_calls, sink_faults};
+    ghost use Rattle.prima_io.specs.Memory.{sink_written, sink_room, sink_failing, sink_calls};
+    ghost use Rattle.prima_io.specs.Memory.{sink_faults};
 
     ghost written = { λ s. Some (sink_written s) };
 
@@ -132,13 +142,15 @@ impl Sink for MemSink {
     fn put(&mut self, piece: &[u8]) -> Result<usize, Failed>
         ensures bound { WritesAtMost result piece.now }
         ensures some { TakesSome result piece.now }
-        ensures bytes { WriteAppends (Some (sink_written self.old)) (Some (sink_written self.new)) result piece.now }
+        ensures bytes { WriteAppends (Some (sink_written self.old)) (Some (sink_written self.new))
+            result piece.now }
         ensures cause { HasCause (sink_faults self.old) (sink_faults self.new) result }
         ensures exact { IsErr result ↔ IsTrue (fails (sink_failing self.old) (sink_calls self.old)
             || nat_lt (sink_room self.old - length (sink_written self.old)) (length piece.now)) }
         ensures whole { IfOk result (λ n. n ≡ length piece.now) }
         ensures calls { sink_calls self.new ≡ counted (sink_calls self.old) }
-        ensures faults { sink_faults self.new ≡ (if is_ok result then sink_faults self.old else counted (sink_faults self.old)) }
+        ensures faults { sink_faults self.new
+            ≡ (if is_ok result then sink_faults self.old else counted (sink_faults self.old)) }
         ensures room { sink_room self.new ≡ sink_room self.old }
         ensures failing { sink_failing self.new ≡ sink_failing self.old }
     {

@@ -1,4 +1,5 @@
-ghost use Rattle.std.specs.Prelude.{◌≡◌, drop, take, min, Some, None, length, ◌≤◌, ◌<◌, ◌+◌, ◌++◌, vec_len, IsOkAnd};
+ghost use Rattle.std.specs.Prelude.{◌≡◌, drop, take, min, Some, None, length, ◌≤◌, ◌<◌, ◌+◌, ◌++◌};
+ghost use Rattle.std.specs.Prelude.{vec_len, IsOkAnd};
 ghost use Rattle.std.specs.Io.{ReadsAtMost};
 ghost use Rattle.std.specs.Io.KnownBytes.{ReadConsumes};
 ghost use Rattle.prima_io.specs.Causes.{HasCause};
@@ -24,7 +25,7 @@ impl SureSource {
     }
 }
 
-// Moves at most `most` bytes from the place on into the front of `buf`, and says how many.
+// Moves at most `most` bytes from the place on into the prefix of `buf`, and says how many.
 pub(crate) fn hand_out(bytes: &[u8], at: usize, most: usize, buf: &mut [u8]) -> usize
     requires { at ≤ length bytes.now }
     ensures count { result ≡ min (min most (length buf.old)) (length (drop at bytes.now)) }
@@ -46,7 +47,8 @@ impl Source for SureSource {
     fn take(&mut self, buf: &mut [u8]) -> Result<usize, Failed>
         requires { 0 < length buf.old }
         ensures bound { ReadsAtMost result buf.new }
-        ensures bytes { ReadConsumes (Some (sure_left self.old)) (Some (sure_left self.new)) result buf.new }
+        ensures bytes { ReadConsumes (Some (sure_left self.old)) (Some (sure_left self.new)) result
+            buf.new }
         ensures cause { HasCause 0 0 result }
         ensures count { IsOkAnd result (λ n. n ≡ min (length buf.old) (length (sure_left self.old))) }
     {

@@ -1,14 +1,17 @@
 -- clap's steps over one word, by the kinds of words.
-use Rattle.std.proofs.Common.{◌≡◌, ℕ, Bool, true, false, List, [], ◌∷◌, ◌++◌, refl, Option, Some, None, ap, ap₂, ◌∙◌, ◌||◌, unwrap_or}
+use Rattle.std.proofs.Common.{◌≡◌, ℕ, Bool, true, false, List, [], ◌∷◌, ◌++◌, refl, Option, Some}
+use Rattle.std.proofs.Common.{None, ap, ap₂, ◌∙◌, ◌||◌, unwrap_or}
 use Rattle.std.specs.Prelude.{cond, is_some, if◌then◌else◌, fold}
 use Rattle.clap.specs.Kinds.{Kinds, or_else}
-use Rattle.clap.specs.Walk.{Held, Row, Rule, Text, Waiting, Walk, is_empty, walked, walk_from, finished, settled, settled_rows, nothing_held, has_row}
+use Rattle.clap.specs.Walk.{Held, Row, Rule, Text, Waiting, Walk, is_empty, walked, walk_from}
+use Rattle.clap.specs.Walk.{finished, settled, settled_rows, nothing_held, has_row}
 use Rattle.clap.specs.Faults.{turn_fault, walk_fault, settle_fault, defaults_fault, check_fault}
 use Rattle.clap.specs.Simple.{built, Shape, matches_of}
 use Rattle.clap.specs.declared.error.kind.ErrorKind.{ErrorKind}
 use Rattle.clap.proofs.FaultLemmas.{leaf_fault}
 use Rattle.program_words.specs.Reading.{program, parts_in, parsed}
-use Rattle.program_words.specs.Words.{Word, Parts, Setting, journal_limit, size, setting_name, with_value}
+use Rattle.program_words.specs.Words.{Word, Parts, Setting, journal_limit, size, setting_name}
+use Rattle.program_words.specs.Words.{with_value}
 use Rattle.program_words.proofs.WordsRead.{with_other}
 use Rattle.program_words.proofs.FoundRows.{Keeps, word_name, more_of, word_of}
 
@@ -55,14 +58,17 @@ held_at rows pending = record { rows = rows; pending = pending; skip = 0 }
 abbrev pub rows_with : Pending → List Row → List Row
 rows_with pending rows = settled_rows rules_built (pending_text pending) rows
 
-pub keeps_with : (pending : Pending) (rows : List Row) (parts : Parts) → Keeps rows parts → Fits pending parts → Keeps (rows_with pending rows) (parts_with pending parts)
+pub keeps_with : (pending : Pending) (rows : List Row) (parts : Parts) → Keeps rows parts
+    → Fits pending parts → Keeps (rows_with pending rows) (parts_with pending parts)
 keeps_with nothing rows parts k f = k
 keeps_with (a_value journal_limit word) rows parts k f = more_of journal_limit _ word rows parts k
 keeps_with (a_value size word) rows parts k f = more_of size _ word rows parts k
 keeps_with (a_word word) rows parts k f =
-    let lacks : has_row word_name rows ≡ false = k.has ∙ ap is_some f in word_of _ word rows parts lacks k
+    let lacks : has_row word_name rows ≡ false = k.has ∙ ap is_some f in
+    word_of _ word rows parts lacks k
 
-pub settles : (pending : Pending) (rows : List Row) (parts : Parts) → Keeps rows parts → Fits pending parts
+pub settles : (pending : Pending) (rows : List Row) (parts : Parts) → Keeps rows parts
+    → Fits pending parts
     → settle_fault rules_built false (held_at rows (pending_text pending)) ≡ []
 settles nothing rows parts k f = refl
 settles (a_value journal_limit word) rows parts k f = refl
@@ -94,7 +100,8 @@ checks_pass rows = refl
 
 abbrev pub end_fault : Held → Kinds
 end_fault h = or_else (settle_fault rules_built false h)
-    (or_else (defaults_fault (settled rules_built h).rows rules_built) (check_fault shape (finished rules_built h) false))
+    (or_else (defaults_fault (settled rules_built h).rows rules_built)
+    (check_fault shape (finished rules_built h) false))
 
 abbrev pub end_of_walk : Walk → List Word → Walk
 end_of_walk w words = fold (walked rules_built []) w words
@@ -103,7 +110,8 @@ abbrev pub outcome_by : Kinds → List Row → Option Parts
 outcome_by kinds rows = if is_empty kinds then Some (parts_in rows) else None
 
 abbrev pub outcome : Walk → List Word → Option Parts
-outcome w words = outcome_by (or_else (walk_fault shape [] w words) (end_fault (end_of_walk w words).held))
+outcome w words = outcome_by (or_else (walk_fault shape [] w words)
+    (end_fault (end_of_walk w words).held))
     (finished rules_built (end_of_walk w words).held)
 
 pub outcome_at_once : (words : List Word) → parsed words ≡ outcome (walk_from nothing_held) words
@@ -115,7 +123,8 @@ pub goes_on : (w v : Walk) (word : Word) (words : List Word) → turn_fault shap
 unfolding walk_fault
 goes_on w v word words fault next = rw fault (ap (λ x. outcome x words) next)
 
-pub is_refused : (w : Walk) (word : Word) (words : List Word) (kind : ErrorKind) → turn_fault shape [] w word ≡ kind ∷ []
+pub is_refused : (w : Walk) (word : Word) (words : List Word) (kind : ErrorKind)
+    → turn_fault shape [] w word ≡ kind ∷ []
     → outcome w (word ∷ words) ≡ None
 unfolding walk_fault
 is_refused w word words kind fault = rw fault
@@ -123,12 +132,16 @@ is_refused w word words kind fault = rw fault
 abbrev some_parts : List Word → List Word → Option Word → Option Parts
 some_parts limits sizes other = Some (record { limits = limits; sizes = sizes; other = other })
 
-same_parts : {l k s t : List Word} {o u : Option Word} → l ≡ k → s ≡ t → o ≡ u → some_parts l s o ≡ some_parts k t u
-same_parts {l} {k} {s} {t} {o} {u} e f g = ap (λ (x : List Word). some_parts x s o) e ∙ ap (λ (x : List Word). some_parts k x o) f ∙ ap (λ (x : Option Word). some_parts k t x) g
+same_parts : {l k s t : List Word} {o u : Option Word} → l ≡ k → s ≡ t → o ≡ u
+    → some_parts l s o ≡ some_parts k t u
+same_parts {l} {k} {s} {t} {o} {u} e f g = ap (λ (x : List Word). some_parts x s o) e
+    ∙ ap (λ (x : List Word). some_parts k x o) f ∙ ap (λ (x : Option Word). some_parts k t x) g
 
-pub ends : (rows : List Row) (parts : Parts) (pending : Pending) (waiting : Waiting) (position : ℕ) (trailing : Bool)
+pub ends : (rows : List Row) (parts : Parts) (pending : Pending) (waiting : Waiting) (position : ℕ)
+    (trailing : Bool)
     → Keeps rows parts → Fits pending parts
-    → outcome (walk_at rows (pending_text pending) waiting position trailing) [] ≡ Some (parts_with pending parts)
+    → outcome (walk_at rows (pending_text pending) waiting position trailing) []
+    ≡ Some (parts_with pending parts)
 unfolding walk_fault
 ends rows parts pending waiting position trailing k f =
     let s = settles pending rows parts k f in
@@ -137,7 +150,8 @@ ends rows parts pending waiting position trailing k f =
     let n = no_defaults (held_at rows (pending_text pending)) in
     rw (s, d, n) (same_parts (after.values journal_limit) (after.values size) after.other)
 
-pub ends_waiting : (setting : Setting) (rows : List Row) (waiting : Waiting) (position : ℕ) (trailing : Bool)
+pub ends_waiting : (setting : Setting) (rows : List Row) (waiting : Waiting) (position : ℕ)
+    (trailing : Bool)
     → outcome (walk_at rows (Some (setting_name setting, [])) waiting position trailing) [] ≡ None
 unfolding walk_fault
 ends_waiting journal_limit rows waiting position trailing = refl

@@ -47,8 +47,8 @@ twice = refl
 two_dashes : asked (codes "--" ∷ codes "--" ∷ codes "run" ∷ []) ≡ None
 two_dashes = refl
 
-an_option_behind : asked (codes "--" ∷ codes "run" ∷ codes "--journal-limit=80" ∷ []) ≡ None
-an_option_behind = refl
+an_option_after : asked (codes "--" ∷ codes "run" ∷ codes "--journal-limit=80" ∷ []) ≡ None
+an_option_after = refl
 
 an_empty_value : asked (codes "run" ∷ codes "--journal-limit=" ∷ []) ≡ None
 an_empty_value = refl
@@ -59,10 +59,12 @@ dashes_for_a_value = refl
 a_sample : asked (codes "sample" ∷ []) ≡ Some (request 1073741824 (Sample 500))
 a_sample = refl
 
-a_sample_of_a_size : asked (codes "--size=8" ∷ codes "sample" ∷ codes "--journal-limit" ∷ codes "90" ∷ []) ≡ Some (request 90 (Sample 8))
+a_sample_of_a_size : asked (codes "--size=8" ∷ codes "sample" ∷ codes "--journal-limit" ∷ codes "90"
+    ∷ []) ≡ Some (request 90 (Sample 8))
 a_sample_of_a_size = refl
 
-the_greatest_size : asked (codes "sample" ∷ codes "--size" ∷ codes "2000" ∷ []) ≡ Some (request 1073741824 (Sample 2000))
+the_greatest_size : asked (codes "sample" ∷ codes "--size" ∷ codes "2000" ∷ [])
+    ≡ Some (request 1073741824 (Sample 2000))
 the_greatest_size = refl
 
 a_size_of_a_run : asked (codes "run" ∷ codes "--size=8" ∷ []) ≡ Some (request 1073741824 Run)
@@ -77,7 +79,8 @@ no_size = refl
 a_size_twice : asked (codes "sample" ∷ codes "--size=8" ∷ codes "--size=8" ∷ []) ≡ None
 a_size_twice = refl
 
-an_option_for_a_value : asked (codes "sample" ∷ codes "--size" ∷ codes "--journal-limit" ∷ codes "8" ∷ []) ≡ None
+an_option_for_a_value : asked (codes "sample" ∷ codes "--size" ∷ codes "--journal-limit" ∷ codes "8"
+    ∷ []) ≡ None
 an_option_for_a_value = refl
 
 run_and_sample : asked (codes "run" ∷ codes "sample" ∷ []) ≡ None

@@ -1,5 +1,6 @@
 -- The kinds of words: `--`, two hyphens and more, one hyphen and more, and all others.
-use Rattle.std.proofs.Common.{◌≡◌, ℕ, ◌==◌, Bool, true, false, List, [], ◌∷◌, refl, None, sym, subst, eqb-true}
+use Rattle.std.proofs.Common.{◌≡◌, ℕ, ◌==◌, Bool, true, false, List, [], ◌∷◌, refl, None, sym}
+use Rattle.std.proofs.Common.{subst, eqb-true}
 use Rattle.std.specs.Str.{bytes_eq}
 use Rattle.clap.specs.Lexer.{long_of, short_of}
 use Rattle.program_words.specs.Words.{Word, option_text, is_dashed}
@@ -24,21 +25,37 @@ one_byte a false e = record { long = rw e; short = rw e; more = rw e; text = ref
 
 others : (a b : ℕ) (word : Word) → (a == 45) ≡ false → IsPlainWord (a ∷ b ∷ word)
 others a b [] e = record { long = rw e; short = rw e; more = rw e; text = refl; dashed = rw e }
-others a b (c ∷ word) e = record { long = rw e; short = rw e; more = rw e; text = rw e; dashed = rw e }
+others a b (c ∷ word) e = record {
+  long = rw e;
+  short = rw e;
+  more = rw e;
+  text = rw e;
+  dashed =
+      rw e;
+}
 
-behind_two : (word : Word) → KindOf (45 ∷ 45 ∷ word)
-behind_two [] = dashes refl
-behind_two (x ∷ xs) = long x xs refl
+after_two : (word : Word) → KindOf (45 ∷ 45 ∷ word)
+after_two [] = dashes refl
+after_two (x ∷ xs) = long x xs refl
 
-behind_one : (b : ℕ) (word : Word) (t : Bool) → (b == 45) ≡ t → KindOf (45 ∷ b ∷ word)
-behind_one b word true e = subst (λ x. KindOf (45 ∷ x ∷ word)) (sym (eqb-true b 45 e)) (behind_two word)
-behind_one b word false e = short b word refl e
+after_one : (b : ℕ) (word : Word) (t : Bool) → (b == 45) ≡ t → KindOf (45 ∷ b ∷ word)
+after_one b word true e = subst (λ x. KindOf (45 ∷ x ∷ word)) (sym (eqb-true b 45 e))
+    (after_two word)
+after_one b word false e = short b word refl e
 
 by_first : (a b : ℕ) (word : Word) (t : Bool) → (a == 45) ≡ t → KindOf (a ∷ b ∷ word)
-by_first a b word true e = subst (λ x. KindOf (x ∷ b ∷ word)) (sym (eqb-true a 45 e)) (behind_one b word (b == 45) refl)
+by_first a b word true e = subst (λ x. KindOf (x ∷ b ∷ word)) (sym (eqb-true a 45 e))
+    (after_one b word (b == 45) refl)
 by_first a b word false e = plain (others a b word e)
 
 pub kind_of_word : (word : Word) → KindOf word
-kind_of_word [] = plain (record { long = refl; short = refl; more = refl; text = refl; dashed = refl })
+kind_of_word [] = plain (record {
+  long = refl;
+  short = refl;
+  more = refl;
+  text = refl;
+  dashed =
+      refl;
+})
 kind_of_word (a ∷ []) = plain (one_byte a (a == 45) refl)
 kind_of_word (a ∷ b ∷ word) = by_first a b word (a == 45) refl

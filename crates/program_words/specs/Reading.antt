@@ -19,7 +19,8 @@ size_rule = record (new_rule (codes "size")) {
   action = Some Append;
 }
 
--- two options, each of which may come more than once as far as clap is concerned, and one other word
+-- two options, each of which may come more than once as far as clap is concerned, and one other
+-- word
 abbrev pub program : App
 program = record {
   top = record (new_shape (codes "prima")) {

@@ -15,7 +15,7 @@ Word = List ℕ
 
 -- ---- the kinds of words
 
--- `--`, behind which no word is an option
+-- `--`, after which no word is an option
 abbrev pub ends_options : Word → Bool
 ends_options word = bytes_eq word (codes "--")
 
@@ -24,7 +24,7 @@ abbrev pub is_dashed : Word → Bool
 is_dashed (a ∷ b ∷ rest) = a == 45
 is_dashed _ = false
 
--- what stands behind the two hyphens of an option
+-- what stands after the two hyphens of an option
 abbrev pub option_text : Word → Option Word
 option_text (a ∷ b ∷ c ∷ rest) = if a == 45 && b == 45 then Some (c ∷ rest) else None
 option_text _ = None
@@ -32,7 +32,7 @@ option_text _ = None
 abbrev pub is_equals : ℕ → Bool
 is_equals byte = byte == 61
 
--- an option's name, and the value that stands behind a `=` (61)
+-- an option's name, and the value that stands after a `=` (61)
 abbrev pub option_name : Word → Word
 option_name = before_first is_equals
 
@@ -66,7 +66,7 @@ pub record Parts : Type 0 where
 abbrev pub no_parts : Parts
 no_parts = record { limits = []; sizes = []; other = None }
 
--- what comes next: any word, the value of an option, or, behind `--`, a word that is no option
+-- what comes next: any word, the value of an option, or, after `--`, a word that is no option
 pub data Next : Type 0 where
   any : Next
   value : Setting → Next

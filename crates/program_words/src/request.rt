@@ -1,4 +1,5 @@
-ghost use Rattle.std.specs.Prelude.{◌≡◌, ◌↔◌, ◌≤◌, IfOk, IfSome, Some, [], map, option_map, option_and_then, unwrap_or, string_bytes};
+ghost use Rattle.std.specs.Prelude.{◌≡◌, ◌↔◌, ◌≤◌, IfOk, IfSome, Some, [], map, option_map};
+ghost use Rattle.std.specs.Prelude.{option_and_then, unwrap_or, string_bytes};
 ghost use Rattle.clap.specs.Kinds.{FailsBy};
 ghost use Rattle.clap.specs.Faults.{fault_of};
 ghost use Rattle.clap.specs.Matches.{found_of};
@@ -8,8 +9,8 @@ ghost use Rattle.program_words.specs.Consisting.{AskFor};
 ghost use Rattle.program_words.specs.declared.request.Request.{Request as Asked};
 ghost use Rattle.program_words.specs.Words as spec;
 
-use crate::numbers::number_of;
-use crate::parsing::parse;
+use crate::number::number_of;
+use crate::parser::parse;
 use clap::ArgMatches;
 use clap::error::ErrorKind;
 use prima_base::NoMemory;
@@ -53,7 +54,8 @@ fn only_limit(limits: &[&str]) -> Option<u64>
 
 // The one limit that is given, or the one that holds where none is.
 fn limit_of(limits: Option<&[&str]>) -> Option<u64>
-    ensures { result ≡ spec.limit_of (unwrap_or (option_map (λ limits. map (λ limit. limit.now) limits.now) limits.entry) []) }
+    ensures { result ≡ spec.limit_of (unwrap_or
+        (option_map (λ limits. map (λ limit. limit.now) limits.now) limits.entry) []) }
 {
     match limits {
         Some(limits) => only_limit(limits),
@@ -94,7 +96,8 @@ fn only_size(sizes: &[&str]) -> Option<u32>
 
 // The one size that is given, or the one that holds where none is.
 fn size_of(sizes: Option<&[&str]>) -> Option<u32>
-    ensures { result ≡ spec.size_of (unwrap_or (option_map (λ sizes. map (λ size. size.now) sizes.now) sizes.entry) []) }
+    ensures { result ≡ spec.size_of (unwrap_or
+        (option_map (λ sizes. map (λ size. size.now) sizes.now) sizes.entry) []) }
 {
     match sizes {
         Some(sizes) => only_size(sizes),
@@ -123,8 +126,10 @@ fn request_of(
     word: Option<&str>,
 ) -> Option<Request>
     ensures { result ≡ spec.asked_with
-        (spec.limit_of (unwrap_or (option_map (λ limits. map (λ limit. limit.now) limits.now) limits.entry) []))
-        (spec.size_of (unwrap_or (option_map (λ sizes. map (λ size. size.now) sizes.now) sizes.entry) []))
+        (spec.limit_of (unwrap_or (option_map (λ limits. map (λ limit. limit.now) limits.now)
+        limits.entry) []))
+        (spec.size_of (unwrap_or (option_map (λ sizes. map (λ size. size.now) sizes.now)
+        sizes.entry) []))
         (option_map (λ word. word.now) word.entry) }
 {
     let journal_limit = limit_of(limits)?;
@@ -147,14 +152,16 @@ fn found(matches: &ArgMatches) -> Option<Request>
     )
 }
 
-/// What the words of a call ask for, words that stand behind the program's name; none exactly where they
-/// are not accepted. They are accepted where they consist of `--journal-limit N` and `--size N`, also
-/// written `--journal-limit=N` and `--size=N`, each at most once, of the one other word `run` or `sample`,
-/// and of at most one `--`, which is skipped and behind which no option is read. N is 1 to 20 digits with
-/// a value below 2^64, and that of `--size`, which matters for `sample` alone, is 1 to 2,000.
+/// What the words of a call ask for, words that stand after the program's name; none exactly where
+/// they are not accepted. They are accepted where they consist of `--journal-limit N` and `--size
+/// N`, also written `--journal-limit=N` and `--size=N`, each at most once, of the one other word
+/// `run` or `sample`, and of at most one `--`, which is skipped and after which no option is read.
+/// N is 1 to 20 digits with a value below 2^64, and that of `--size`, which matters for `sample`
+/// alone, is 1 to 2,000.
 pub fn asked(alloc: Global, words: &[String]) -> Result<Option<Request>, NoMemory>
     ensures asked { IfOk result (λ it. it ≡ spec.asked (map string_bytes words.now)) }
-    ensures consist { IfOk result (λ it. (request : Asked) → (it ≡ Some request) ↔ AskFor (map string_bytes words.now) request) }
+    ensures consist { IfOk result (λ it. (request : Asked)
+        → (it ≡ Some request) ↔ AskFor (map string_bytes words.now) request) }
 {
     match parse(alloc, words) {
         Ok(matches) => Ok(found(&matches)),

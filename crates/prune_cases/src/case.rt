@@ -35,8 +35,8 @@ fn read_condition(alloc: Global, text: &[u8]) -> Option<Cond> {
     }
     match tokens(alloc, text) {
         Ok(list) => match parse_cond(alloc, &list, 0, false) {
-            Ok((cond, behind)) => {
-                if behind == list.len() {
+            Ok((cond, after)) => {
+                if after == list.len() {
                     return Some(cond);
                 }
                 None
@@ -94,7 +94,7 @@ pub(crate) fn play(alloc: Global, cases: &[u8]) -> Result<Vec<u8>, AllocError> {
     }
 }
 
-// The same, with the one word for want of memory that the crates below have.
+// The same, with the one word when out of memory that the crates below have.
 fn play_lines(alloc: Global, cases: &[u8]) -> Result<Vec<u8>, NoMemory> {
     let columns = columns(alloc)?;
     let mut answers = Vec::new(alloc);

@@ -1,7 +1,8 @@
-//! Cases of dead conditions, over a table with the INT columns a and c and the TEXT columns b and d.
+//! Cases of dead conditions, over a table with the INT columns a and c and the TEXT columns b and
+//! d.
 //!
-//! They stand in `stdin`, a line each, `NAME: CONDITION`, and in `stdout` whether each is dead or alive, written by hand from the
-//! definition. A line without a colon is a note.
+//! They stand in `stdin`, a line each, `NAME: CONDITION`, and in `stdout` whether each is dead or
+//! alive, written by hand from the definition. A line without a colon is a note.
 #![tactic(auto)]
 
 mod case;

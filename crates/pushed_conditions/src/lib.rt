@@ -1,6 +1,6 @@
 //! The condition that is pushed to an item of a branch: what is said of the item alone.
 #![tactic(auto)]
 
-mod pushing;
+mod pushed_part;
 
-pub use pushing::pushed;
+pub use pushed_part::pushed;

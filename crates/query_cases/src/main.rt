@@ -1,4 +1,5 @@
-//! Cases of queries, what they list, what EXPLAIN tells of them, and how they are refused; of versions, tables and sizes.
+//! Cases of queries, what they list, what EXPLAIN tells of them, and how they are refused; of
+//! versions, tables and sizes.
 //!
 //! They stand in `stdin`, and what each is answered in `stdout`, written by hand.
 #![tactic(auto)]

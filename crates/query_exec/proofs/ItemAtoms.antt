@@ -1,18 +1,20 @@
 -- The atoms that are read of items' tables, as a join takes them.
-use Rattle.std.proofs.Common.{◌≡◌, ◌+◌, ◌<◌, ◌≤◌, ℕ, true, List, [], ◌∷◌, ◌++◌, length, get_or, take, drop, refl, sym, ap, subst, ◌∙◌, append_assoc, append-nil, arith}
+use Rattle.std.proofs.Common.{◌≡◌, ◌+◌, ◌<◌, ◌≤◌, ℕ, true, List, [], ◌∷◌, ◌++◌, length, get_or}
+use Rattle.std.proofs.Common.{take, drop, refl, sym, ap, subst, ◌∙◌, append_assoc, append-nil}
+use Rattle.std.proofs.Common.{arith}
 use Rattle.std.specs.Prelude.{Option, SomeIff, Result, Ok}
 use Rattle.std.specs.Result.{result_ok}
 use Rattle.std.proofs.lemmas.List.{length-map, length-take-le}
-use Rattle.prima_base.specs.declared.failures.NoMemory.{NoMemory}
+use Rattle.prima_base.specs.declared.failure.NoMemory.{NoMemory}
 use Rattle.relations.specs.Sets.{set_of}
 use Rattle.relations.specs.Spans.{covers}
 use Rattle.relations.specs.Listing.{IsListing}
 use Rattle.prima_base.specs.Columns.{Column}
 use Rattle.prima_base.specs.Timed.{rows_at, entries_of}
 use Rattle.prima_base.specs.Order.{row_cmp}
-use Rattle.prima_base.specs.declared.timed_rows.TimedRow.{TimedRow}
-use Rattle.cond_expr.specs.declared.exprs.ColRef.{ColRef}
-use Rattle.cond_expr.specs.declared.exprs.Column.{Column as AtomColumn}
+use Rattle.prima_base.specs.declared.timed_row.TimedRow.{TimedRow}
+use Rattle.cond_expr.specs.declared.expr.ColRef.{ColRef}
+use Rattle.cond_expr.specs.declared.expr.Column.{Column as AtomColumn}
 use Rattle.cond_expr.specs.Trees.{Tree, Test}
 use Rattle.smo_types.specs.Commands.{PlainVersion}
 use Rattle.smo_meaning.specs.Effects.{columns_of}
@@ -22,7 +24,7 @@ use Rattle.schema_catalog.specs.Tables.{Tables}
 use Rattle.smo_meaning.specs.Past.{Past, no_tables, tables_from, tables_of}
 use Rattle.version_ways.specs.Migration.{migrated}
 use Rattle.version_groups.specs.Groups.{Kept, versions_in}
-use Rattle.version_groups.specs.Showing.{Shows}
+use Rattle.version_groups.specs.Showing.{Represents}
 use Rattle.plain_answers.specs.Choosing.{answers_over}
 use Rattle.cond_expr.specs.AtomColumns.{columns_at}
 use Rattle.plain_answers.specs.Branches.{Item, PlainBranch, item_columns, item_rows, branch_answers}
@@ -32,10 +34,10 @@ use Rattle.plain_answers.specs.Reading.{Read, read_columns, read_rows}
 use Rattle.piece_meaning.specs.Rules.{Book}
 use Rattle.piece_texts.specs.ExplainedPieces.{PlainExplained}
 use Rattle.timed_choices.specs.Fitting.{Fit, AreOwn}
-use Rattle.joining.specs.declared.sources.Atom.{Atom}
+use Rattle.joining.specs.declared.source.Atom.{Atom}
 use Rattle.joining.specs.Sources.{atom_rows, IsNumbered, AreNumbered, HaveAtoms}
 use Rattle.period_split.specs.Splitting.{Part}
-use Rattle.query_exec.specs.declared.routes.Route.{Route}
+use Rattle.query_exec.specs.declared.route.Route.{Route}
 use Rattle.query_exec.specs.Accepted.{IsRead, AreRead, MayItems}
 use Rattle.query_exec.specs.Questions.{own_read, table_read}
 use Rattle.query_exec.specs.QueryPieces.{table_pieces, items_pieces, AreAlive, IsAlive}
@@ -53,171 +55,253 @@ pub own_columns : (i : ℕ) (cs : List Column) → AreOwn i (columns_at i cs)
 own_columns i [] = tt
 own_columns i (c ∷ cs) = (refl, own_columns i cs)
 
-pub made_own : (i : ℕ) (cs : List Column) (columns : List AtomColumn) → columns ≡ columns_at i cs → AreOwn i columns
+pub made_own : (i : ℕ) (cs : List Column) (columns : List AtomColumn) → columns ≡ columns_at i cs
+    → AreOwn i columns
 made_own i cs columns e = subst (AreOwn i) (sym e) (own_columns i cs)
 
-pub made_many : (i : ℕ) (cs : List Column) (columns : List AtomColumn) → columns ≡ columns_at i cs → length columns ≡ length cs
+pub made_many : (i : ℕ) (cs : List Column) (columns : List AtomColumn) → columns ≡ columns_at i cs
+    → length columns ≡ length cs
 made_many i cs columns e = ap (λ (xs : List AtomColumn). length xs) e ∙ length-map cs _
 
 -- ---- several items
 
 module _ (past : Past) (route : Route) (outs : List Tree) (c : Test) where
-  pub have_atoms : (i : ℕ) (from : List Item) (atoms : List Atom) → AreRead past route (all_references outs c) c i from atoms
-      → HaveAtoms i (read_columns (pushed_from i from outs c) (item_columns (tables_of past route.asked) from)) atoms
+  pub have_atoms : (i : ℕ) (from : List Item) (atoms : List Atom)
+      → AreRead past route (all_references outs c) c i from atoms
+      → HaveAtoms i (read_columns (pushed_from i from outs c)
+      (item_columns (tables_of past route.asked) from)) atoms
   have_atoms i [] [] h = tt
   have_atoms i [] (a ∷ atoms) h = absurd h
   have_atoms i (x ∷ from) [] h = absurd h
   have_atoms i (x ∷ from) (a ∷ atoms) h = (h.0.columns, have_atoms (i + 1) from atoms h.1)
 
-  pub rows_are : (m : ℕ) → covers route.slice m ≡ true → (i : ℕ) (from : List Item) (atoms : List Atom) → AreRead past route (all_references outs c) c i from atoms
+  pub rows_are : (m : ℕ) → covers route.slice m ≡ true
+      → (i : ℕ) (from : List Item) (atoms : List Atom)
+      → AreRead past route (all_references outs c) c i from atoms
       → atom_rows atoms m
-      ≡ read_rows (pushed_from i from outs c) (item_columns (tables_of past route.asked) from) (item_rows (migrated past m route.asked) from)
+      ≡ read_rows (pushed_from i from outs c) (item_columns (tables_of past route.asked) from)
+      (item_rows (migrated past m route.asked) from)
   rows_are m inside i [] [] h = refl
   rows_are m inside i [] (a ∷ atoms) h = absurd h
   rows_are m inside i (x ∷ from) [] h = absurd h
   rows_are m inside i (x ∷ from) (a ∷ atoms) h =
       ap (λ (r : Relation). r ∷ atom_rows atoms m) (h.0.rows m inside)
-      ∙ ap (λ (r : List Relation). table_read past route.asked x.0 (own_read i (all_references outs c) c) m ∷ r) (rows_are m inside (i + 1) from atoms h.1)
+      ∙ ap (λ (r : List Relation). table_read past route.asked x.0
+      (own_read i (all_references outs c) c) m ∷ r) (rows_are m inside (i + 1) from atoms h.1)
 
 module _ (past : Past) (route : Route) (rs : List ColRef) (c : Test) where
-  numbered_from : (i j : ℕ) (from : List Item) (atoms : List Atom) → j < i → AreRead past route rs c i from atoms → IsNumbered j atoms
+  numbered_from : (i j : ℕ) (from : List Item) (atoms : List Atom) → j < i
+      → AreRead past route rs c i from atoms → IsNumbered j atoms
   numbered_from i j [] [] l h = tt
   numbered_from i j [] (a ∷ atoms) l h = absurd h
   numbered_from i j (x ∷ from) [] l h = absurd h
-  numbered_from i j (x ∷ from) (a ∷ atoms) l h = (let e = h.0.number in (λ q. omega arith, numbered_from (i + 1) j from atoms (omega arith) h.1))
+  numbered_from i j (x ∷ from) (a ∷ atoms) l h =
+      (let e = h.0.number in (
+        λ q. omega arith,
+        numbered_from (i + 1) j from atoms (omega arith) h.1,
+      ))
 
-  pub are_numbered : (i : ℕ) (from : List Item) (atoms : List Atom) → AreRead past route rs c i from atoms → AreNumbered atoms
+  pub are_numbered : (i : ℕ) (from : List Item) (atoms : List Atom)
+      → AreRead past route rs c i from atoms → AreNumbered atoms
   are_numbered i [] [] h = tt
   are_numbered i [] (a ∷ atoms) h = absurd h
   are_numbered i (x ∷ from) [] h = absurd h
-  are_numbered i (x ∷ from) (a ∷ atoms) h = (let e = h.0.number in (numbered_from (i + 1) a.number from atoms (omega arith) h.1, are_numbered (i + 1) from atoms h.1))
+  are_numbered i (x ∷ from) (a ∷ atoms) h = (let e = h.0.number in (
+    numbered_from (i + 1) a.number from atoms (omega arith) h.1,
+    are_numbered (i + 1) from atoms h.1,
+  ))
 
   -- one atom more
-  read_more : (i : ℕ) (from : List Item) (atoms : List Atom) (x : Item) (a : Atom) → AreRead past route rs c i from atoms
-      → IsRead past route (i + length from) x.0 (own_read (i + length from) rs c) a → AreRead past route rs c i (from ++ x ∷ []) (atoms ++ a ∷ [])
-  read_more i [] [] x a h k = (let e : i + 0 ≡ i = omega arith in subst (λ (j : ℕ). IsRead past route j x.0 (own_read j rs c) a) e k, tt)
+  read_more : (i : ℕ) (from : List Item) (atoms : List Atom) (x : Item) (a : Atom)
+      → AreRead past route rs c i from atoms
+      → IsRead past route (i + length from) x.0 (own_read (i + length from) rs c) a
+      → AreRead past route rs c i (from ++ x ∷ []) (atoms ++ a ∷ [])
+  read_more i [] [] x a h k = (
+    let e : i + 0 ≡ i = omega arith in
+        subst (λ (j : ℕ). IsRead past route j x.0 (own_read j rs c) a) e k,
+    tt,
+  )
   read_more i [] (b ∷ atoms) x a h k = absurd h
   read_more i (y ∷ from) [] x a h k = absurd h
   read_more i (y ∷ from) (b ∷ atoms) x a h k =
-      let e : i + length (y ∷ from) ≡ (i + 1) + length from = omega arith in
-      (h.0, read_more (i + 1) from atoms x a h.1 (subst (λ (j : ℕ). IsRead past route j x.0 (own_read j rs c) a) e k))
+      let e : i + length (y ∷ from) ≡ (i + 1) + length from = omega arith in (
+        h.0,
+        read_more (i + 1) from atoms x a h.1
+            (subst (λ (j : ℕ). IsRead past route j x.0 (own_read j rs c) a) e k),
+      )
 
-  pub next_read : (from : List Item) (i : ℕ) (x : Item) (l : i < length from) (is : x ≡ get_or from i x) (atoms new : List Atom) (a : Atom) → new ≡ atoms ++ a ∷ []
-      → AreRead past route rs c 0 (take i from) atoms → IsRead past route i x.0 (own_read i rs c) a → AreRead past route rs c 0 (take (i + 1) from) new
+  pub next_read : (from : List Item) (i : ℕ) (x : Item) (l : i < length from)
+      (is : x ≡ get_or from i x) (atoms new : List Atom) (a : Atom) → new ≡ atoms ++ a ∷ []
+      → AreRead past route rs c 0 (take i from) atoms → IsRead past route i x.0 (own_read i rs c) a
+      → AreRead past route rs c 0 (take (i + 1) from) new
   next_read from i x l is atoms new a e h k =
       let many : length (take i from) ≡ i = length-take-le i from (omega arith) in
       let place : i ≡ 0 + length (take i from) = omega arith in
       subst (λ (ps : List Item). AreRead past route rs c 0 ps new) (sym (taken_is from i x l is))
       (subst (λ (xs : List Atom). AreRead past route rs c 0 (take i from ++ x ∷ []) xs) (sym e)
-      (read_more 0 (take i from) atoms x a h (subst (λ (j : ℕ). IsRead past route j x.0 (own_read j rs c) a) place k)))
+      (read_more 0 (take i from) atoms x a h (subst
+      (λ (j : ℕ). IsRead past route j x.0 (own_read j rs c) a) place k)))
 
-module _ (versions : List PlainVersion) (route : Route) (rs : List ColRef) (c : Test) (from : List Item) (i : ℕ) (x : Item) (l : i < length from) (is : x ≡ get_or from i x) where
-  pub may_next : MayItems versions route rs c i (drop i from) → MayBeRead versions route x.0 (own_read i rs c) × MayItems versions route rs c (i + 1) (drop (i + 1) from)
-  may_next h = subst (λ (ps : List Item). MayItems versions route rs c i ps) (left_is from i x l is) h
+module _ (versions : List PlainVersion) (route : Route) (rs : List ColRef) (c : Test)
+    (from : List Item) (i : ℕ) (x : Item) (l : i < length from) (is : x ≡ get_or from i x) where
+  pub may_next : MayItems versions route rs c i (drop i from)
+      → MayBeRead versions route x.0 (own_read i rs c)
+      × MayItems versions route rs c (i + 1) (drop (i + 1) from)
+  may_next h = subst (λ (ps : List Item). MayItems versions route rs c i ps) (left_is from i x l is)
+      h
 
-module _ (book : Book) (versions : List PlainVersion) (q : ℕ) (parts : List Part) (rs : List ColRef) (c : Test) (branch : ℕ) where
-  -- the pieces of an item and those behind it, and of one item more
+module _ (book : Book) (versions : List PlainVersion) (q : ℕ) (parts : List Part) (rs : List ColRef)
+    (c : Test) (branch : ℕ) where
+  -- the pieces of an item and those after it, and of one item more
   pub items_left : (from : List Item) (i : ℕ) (x : Item) → i < length from → x ≡ get_or from i x
       → items_pieces book versions q parts rs c branch i (drop i from)
-      ≡ table_pieces book versions q x.0 (own_read i rs c) branch (i + 1) parts ++ items_pieces book versions q parts rs c branch (i + 1) (drop (i + 1) from)
-  items_left from i x l is = ap (λ (ps : List Item). items_pieces book versions q parts rs c branch i ps) (left_is from i x l is)
+      ≡ table_pieces book versions q x.0 (own_read i rs c) branch (i + 1) parts
+      ++ items_pieces book versions q parts rs c branch (i + 1) (drop (i + 1) from)
+  items_left from i x l is = ap (λ (ps : List Item).
+      items_pieces book versions q parts rs c branch i ps) (left_is from i x l is)
 
-  pub item_owes : (kept : Kept) (from : List Item) (i : ℕ) (x : Item) → i < length from → x ≡ get_or from i x → (steps all new : ℕ)
-      → Owes kept versions (items_pieces book versions q parts rs c branch i (drop i from)) steps all
-      → ((own : List PlainExplained) → AreAlive versions (table_pieces book versions q x.0 (own_read i rs c) branch (i + 1) parts) own → new ≤ steps + reads_of kept own)
-      → Owes kept versions (items_pieces book versions q parts rs c branch (i + 1) (drop (i + 1) from)) new all
+  pub item_owes : (kept : Kept) (from : List Item) (i : ℕ) (x : Item) → i < length from
+      → x ≡ get_or from i x → (steps all new : ℕ)
+      → Owes kept versions (items_pieces book versions q parts rs c branch i (drop i from)) steps
+      all
+      → ((own : List PlainExplained) → AreAlive versions
+      (table_pieces book versions q x.0 (own_read i rs c) branch (i + 1) parts) own
+      → new ≤ steps + reads_of kept own)
+      → Owes kept versions (items_pieces book versions q parts rs c branch (i + 1)
+      (drop (i + 1) from)) new all
   item_owes kept from i x l is steps all new o h =
-      owes_less kept versions (table_pieces book versions q x.0 (own_read i rs c) branch (i + 1) parts) (items_pieces book versions q parts rs c branch (i + 1) (drop (i + 1) from)) steps all new
-      (subst (λ (es : List PlainExplained). Owes kept versions es steps all) (items_left from i x l is) o) h
+      owes_less kept versions (table_pieces book versions q x.0 (own_read i rs c) branch (i + 1)
+      parts) (items_pieces book versions q parts rs c branch (i + 1) (drop (i + 1) from)) steps
+      all new
+      (subst (λ (es : List PlainExplained). Owes kept versions es steps all)
+      (items_left from i x l is) o) h
 
   -- and what is left to be read of one piece
-  pub item_left : (kept : Kept) (from : List Item) (i : ℕ) (x : Item) → i < length from → x ≡ get_or from i x → (first steps new : ℕ) (e : PlainExplained) → first ≤ steps → steps ≤ new
-      → IsLeftOrRead kept versions (items_pieces book versions q parts rs c branch i (drop i from)) first steps e
-      → (IsAlive versions (table_pieces book versions q x.0 (own_read i rs c) branch (i + 1) parts) e → steps + explained_read kept e ≤ new)
-      → IsLeftOrRead kept versions (items_pieces book versions q parts rs c branch (i + 1) (drop (i + 1) from)) first new e
+  pub item_left : (kept : Kept) (from : List Item) (i : ℕ) (x : Item) → i < length from
+      → x ≡ get_or from i x → (first steps new : ℕ) (e : PlainExplained) → first ≤ steps
+      → steps ≤ new
+      → IsLeftOrRead kept versions (items_pieces book versions q parts rs c branch i (drop i from))
+      first steps e
+      → (IsAlive versions (table_pieces book versions q x.0 (own_read i rs c) branch (i + 1) parts)
+      e → steps + explained_read kept e ≤ new)
+      → IsLeftOrRead kept versions (items_pieces book versions q parts rs c branch (i + 1)
+      (drop (i + 1) from)) first new e
   item_left kept from i x l is first steps new e a b o h =
-      left_less kept versions (table_pieces book versions q x.0 (own_read i rs c) branch (i + 1) parts) (items_pieces book versions q parts rs c branch (i + 1) (drop (i + 1) from)) first steps new e a b
-      (subst (λ (es : List PlainExplained). IsLeftOrRead kept versions es first steps e) (items_left from i x l is) o) h
+      left_less kept versions (table_pieces book versions q x.0 (own_read i rs c) branch (i + 1)
+      parts) (items_pieces book versions q parts rs c branch (i + 1) (drop (i + 1) from)) first
+      steps new e a b
+      (subst (λ (es : List PlainExplained). IsLeftOrRead kept versions es first steps e)
+      (items_left from i x l is) o) h
 
   items_last : (i : ℕ) (from : List Item) (x : Item)
       → items_pieces book versions q parts rs c branch i (from ++ x ∷ [])
-      ≡ items_pieces book versions q parts rs c branch i from ++ table_pieces book versions q x.0 (own_read (i + length from) rs c) branch (i + length from + 1) parts
+      ≡ items_pieces book versions q parts rs c branch i from
+      ++ table_pieces book versions q x.0 (own_read (i + length from) rs c) branch
+      (i + length from + 1) parts
   items_last i [] x =
       let e : i ≡ i + 0 = omega arith in
       append-nil (table_pieces book versions q x.0 (own_read i rs c) branch (i + 1) parts)
       ∙ ap (λ (j : ℕ). table_pieces book versions q x.0 (own_read j rs c) branch (j + 1) parts) e
   items_last i (y ∷ from) x =
       let e : (i + 1) + length from ≡ i + length (y ∷ from) = omega arith in
-      ap (λ (es : List PlainExplained). table_pieces book versions q y.0 (own_read i rs c) branch (i + 1) parts ++ es) (items_last (i + 1) from x)
-      ∙ sym (append_assoc (table_pieces book versions q y.0 (own_read i rs c) branch (i + 1) parts) (items_pieces book versions q parts rs c branch (i + 1) from)
-      (table_pieces book versions q x.0 (own_read ((i + 1) + length from) rs c) branch ((i + 1) + length from + 1) parts))
-      ∙ ap (λ (j : ℕ). items_pieces book versions q parts rs c branch i (y ∷ from) ++ table_pieces book versions q x.0 (own_read j rs c) branch (j + 1) parts) e
+      ap (λ (es : List PlainExplained). table_pieces book versions q y.0 (own_read i rs c) branch
+      (i + 1) parts ++ es) (items_last (i + 1) from x)
+      ∙ sym (append_assoc (table_pieces book versions q y.0 (own_read i rs c) branch (i + 1) parts)
+      (items_pieces book versions q parts rs c branch (i + 1) from)
+      (table_pieces book versions q x.0 (own_read ((i + 1) + length from) rs c) branch
+      ((i + 1) + length from + 1) parts))
+      ∙ ap (λ (j : ℕ). items_pieces book versions q parts rs c branch i (y ∷ from)
+      ++ table_pieces book versions q x.0 (own_read j rs c) branch (j + 1) parts) e
 
   pub items_more : (from : List Item) (i : ℕ) (x : Item) → i < length from → x ≡ get_or from i x
       → items_pieces book versions q parts rs c branch 0 (take (i + 1) from)
-      ≡ items_pieces book versions q parts rs c branch 0 (take i from) ++ table_pieces book versions q x.0 (own_read i rs c) branch (i + 1) parts
+      ≡ items_pieces book versions q parts rs c branch 0 (take i from)
+      ++ table_pieces book versions q x.0 (own_read i rs c) branch (i + 1) parts
   items_more from i x l is =
       let many : length (take i from) ≡ i = length-take-le i from (omega arith) in
       let place : 0 + length (take i from) ≡ i = omega arith in
-      ap (λ (ps : List Item). items_pieces book versions q parts rs c branch 0 ps) (taken_is from i x l is)
+      ap (λ (ps : List Item). items_pieces book versions q parts rs c branch 0 ps)
+      (taken_is from i x l is)
       ∙ items_last 0 (take i from) x
-      ∙ ap (λ (j : ℕ). items_pieces book versions q parts rs c branch 0 (take i from) ++ table_pieces book versions q x.0 (own_read j rs c) branch (j + 1) parts) place
+      ∙ ap (λ (j : ℕ). items_pieces book versions q parts rs c branch 0 (take i from)
+      ++ table_pieces book versions q x.0 (own_read j rs c) branch (j + 1) parts) place
 
 -- ---- one item
 
-module _ (kept : Kept) (past : Past) (shows : Shows kept past) (route : Route) (schema : Tables) (is : schema ≡ tables_from no_tables (versions_in kept) route.asked)
-    (place : ℕ) (table : List ℕ) (r again : Read) (given : List (List ℕ)) (columns : List AtomColumn) (rows : List TimedRow)
-    (made : columns ≡ columns_at place (named given (columns_of schema table))) (first : given ≡ again.names) (second : again ≡ r)
-    (listed : IsListing row_cmp (table_read past route.asked table again) route.slice (entries_of rows)) where
+module _ (kept : Kept) (past : Past) (shows : Represents kept past) (route : Route)
+    (schema : Tables) (is : schema ≡ tables_from no_tables (versions_in kept) route.asked)
+    (place : ℕ) (table : List ℕ) (r again : Read) (given : List (List ℕ))
+    (columns : List AtomColumn) (rows : List TimedRow)
+    (made : columns ≡ columns_at place (named given (columns_of schema table)))
+    (first : given ≡ again.names) (second : again ≡ r)
+    (listed : IsListing row_cmp (table_read past route.asked table again) route.slice
+    (entries_of rows)) where
   named_so : given ≡ r.names
   named_so = first ∙ ap (λ (x : Read). x.names) second
 
-  pub columns_are : columns ≡ columns_at place (named r.names (columns_of (tables_of past route.asked) table))
+  pub columns_are : columns ≡ columns_at place
+      (named r.names (columns_of (tables_of past route.asked) table))
   columns_are =
       made
       ∙ ap (λ (ns : List (List ℕ)). columns_at place (named ns (columns_of schema table))) named_so
-      ∙ ap (λ (t : Tables). columns_at place (named r.names (columns_of t table))) (is ∙ ap (λ (vs : List PlainVersion). tables_from no_tables vs route.asked) shows.versions)
+      ∙ ap (λ (t : Tables). columns_at place (named r.names (columns_of t table)))
+      (is ∙ ap (λ (vs : List PlainVersion). tables_from no_tables vs route.asked)
+      shows.versions)
 
-  listed_names : IsListing row_cmp (table_read past route.asked table r) route.slice (entries_of rows)
-  listed_names = subst (λ (x : Read). IsListing row_cmp (table_read past route.asked table x) route.slice (entries_of rows)) second listed
+  listed_names : IsListing row_cmp (table_read past route.asked table r) route.slice
+      (entries_of rows)
+  listed_names = subst (λ (x : Read). IsListing row_cmp (table_read past route.asked table x)
+      route.slice (entries_of rows)) second listed
 
   pub item_own : AreOwn place columns
   item_own = made_own place (named given (columns_of schema table)) columns made
 
   pub item_fit : Fit (length columns) (entries_of rows)
   item_fit =
-      listed_fit past shows.values route.asked table r route.slice (entries_of rows) listed_names (length columns)
-      (made_many place (named r.names (columns_of (tables_of past route.asked) table)) columns columns_are)
+      listed_fit past shows.values route.asked table r route.slice (entries_of rows) listed_names
+      (length columns)
+      (made_many place (named r.names (columns_of (tables_of past route.asked) table)) columns
+      columns_are)
 
-  pub item_rows_are : (m : ℕ) → covers route.slice m ≡ true → rows_at rows m ≡ table_read past route.asked table r m
+  pub item_rows_are : (m : ℕ) → covers route.slice m ≡ true
+      → rows_at rows m ≡ table_read past route.asked table r m
   item_rows_are m c =
       let inside = from_covering route.slice m c in
-      listed_at (table_read past route.asked table r) route.slice (entries_of rows) listed_names m inside.0 inside.1
+      listed_at (table_read past route.asked table r) route.slice (entries_of rows) listed_names m
+      inside.0 inside.1
       (read_ascends past route.asked table r m)
 
 -- ---- the atoms of a branch
 
-module _ (past : Past) (route : Route) (b : PlainBranch) (rs : List ColRef) (from : List Item) (atoms : List Atom) (same : rs ≡ all_references b.outs b.cond) (items : from ≡ b.from)
+module _ (past : Past) (route : Route) (b : PlainBranch) (rs : List ColRef) (from : List Item)
+    (atoms : List Atom) (same : rs ≡ all_references b.outs b.cond) (items : from ≡ b.from)
     (read : AreRead past route rs b.cond 0 from atoms) where
   abbrev left : List (List Column)
   left = read_columns (pushed_reads b) (item_columns (tables_of past route.asked) b.from)
 
   read_here : AreRead past route (all_references b.outs b.cond) b.cond 0 b.from atoms
   read_here =
-      subst (λ (f : List Item). AreRead past route (all_references b.outs b.cond) b.cond 0 f atoms) items
+      subst (λ (f : List Item). AreRead past route (all_references b.outs b.cond) b.cond 0 f atoms)
+      items
       (subst (λ (r : List ColRef). AreRead past route r b.cond 0 from atoms) same read)
 
-  pub branch_atoms : HaveAtoms 0 (read_columns (pushed_reads b) (item_columns (tables_of past route.asked) b.from)) atoms
+  pub branch_atoms : HaveAtoms 0 (read_columns (pushed_reads b)
+      (item_columns (tables_of past route.asked) b.from)) atoms
   branch_atoms = have_atoms past route b.outs b.cond 0 b.from atoms read_here
 
   pub branch_rows : (m : ℕ) → covers route.slice m ≡ true → (rows : Relation)
-      → rows ≡ set_of row_cmp (answers_over (read_columns (pushed_reads b) (item_columns (tables_of past route.asked) b.from)) (atom_rows atoms m) b.outs b.cond)
-      → rows ≡ set_of row_cmp (branch_answers (tables_of past route.asked) (migrated past m route.asked) b)
+      → rows ≡ set_of row_cmp (answers_over (read_columns (pushed_reads b)
+      (item_columns (tables_of past route.asked) b.from)) (atom_rows atoms m) b.outs b.cond)
+      → rows ≡ set_of row_cmp (branch_answers (tables_of past route.asked)
+      (migrated past m route.asked) b)
   branch_rows m c rows e =
       e
-      ∙ ap (λ (r : List Relation). set_of row_cmp (answers_over left r b.outs b.cond)) (rows_are past route b.outs b.cond m c 0 b.from atoms read_here)
+      ∙ ap (λ (r : List Relation). set_of row_cmp (answers_over left r b.outs b.cond))
+      (rows_are past route b.outs b.cond m c 0 b.from atoms read_here)
       ∙ pushed_answers (tables_of past route.asked) (migrated past m route.asked) b
 
 -- a place that could be counted on is the next
-pub next_place : (o : Option ℕ) (r : Result ℕ NoMemory) (room : Type 0) (next n : ℕ) → SomeIff o room next → o ≡ result_ok r → r ≡ Ok n → n ≡ next
-next_place o r room next n s made is = (subst (λ (x : Option ℕ). SomeIff x room next) (made ∙ ap result_ok is) s).1
+pub next_place : (o : Option ℕ) (r : Result ℕ NoMemory) (room : Type 0) (next n : ℕ)
+    → SomeIff o room next → o ≡ result_ok r → r ≡ Ok n → n ≡ next
+next_place o r room next n s made is = (subst (λ (x : Option ℕ). SomeIff x room next)
+    (made ∙ ap result_ok is) s).1

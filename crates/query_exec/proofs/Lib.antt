@@ -11,6 +11,6 @@ pub mod LivingLaws
 pub mod BranchRows
 pub mod ItemAtoms
 pub mod WholeAnswers
-pub mod LentRows
+pub mod BorrowedRows
 pub mod RunLaws
 pub mod FoundDead

@@ -1,9 +1,11 @@
 -- One step more along a list.
-use Rattle.std.proofs.Common.{◌≡◌, ◌+◌, ◌<◌, ℕ, zero, suc, List, [], ◌∷◌, ◌++◌, length, get_or, take, drop, sym, ap, subst, ◌∙◌, inl, inr, arith}
+use Rattle.std.proofs.Common.{◌≡◌, ◌+◌, ◌<◌, ℕ, zero, suc, List, [], ◌∷◌, ◌++◌, length, get_or}
+use Rattle.std.proofs.Common.{take, drop, sym, ap, subst, ◌∙◌, inl, inr, arith}
 use Rattle.std.proofs.lemmas.List.{drop_more, take_more}
 use Rattle.relations.specs.Sets.{In}
 
-module _ {X : Type 0} (xs : List X) (i : ℕ) (x : X) (l : i < length xs) (e : x ≡ get_or xs i x) where
+module _ {X : Type 0} (xs : List X) (i : ℕ) (x : X) (l : i < length xs)
+    (e : x ≡ get_or xs i x) where
   -- what is left begins with the next
   pub left_is : drop i xs ≡ x ∷ drop (i + 1) xs
   left_is = drop_more xs i x l ∙ ap (λ (y : X). y ∷ drop (i + 1) xs) (sym e)
@@ -12,7 +14,8 @@ module _ {X : Type 0} (xs : List X) (i : ℕ) (x : X) (l : i < length xs) (e : x
   pub taken_is : take (i + 1) xs ≡ take i xs ++ x ∷ []
   taken_is = take_more xs i x l ∙ ap (λ (y : X). take i xs ++ y ∷ []) (sym e)
 
-pub among_taken : {X : Type 0} (xs : List X) (i : ℕ) (x : X) → i < length xs → x ≡ get_or xs i x → In x xs
+pub among_taken : {X : Type 0} (xs : List X) (i : ℕ) (x : X) → i < length xs → x ≡ get_or xs i x
+    → In x xs
 among_taken [] i x l e = absurd (omega arith)
 among_taken (y ∷ xs) zero x l e = inl (sym e)
 among_taken (y ∷ xs) (suc i) x l e = inr (among_taken xs i x (omega arith) e)

@@ -1,5 +1,7 @@
--- What is read of a table at each moment: the meaning of the pieces that stand for it, a set of rows of lawful values.
-use Rattle.std.proofs.Common.{◌≡◌, ◌≤◌, ℕ, true, false, List, [], ◌∷◌, map, length, refl, sym, ap, subst, ◌∙◌, inl, inr, arith}
+-- What is read of a table at each moment: the meaning of the pieces that stand for it, a set of
+-- rows of valid values.
+use Rattle.std.proofs.Common.{◌≡◌, ◌≤◌, ℕ, true, false, List, [], ◌∷◌, map, length, refl, sym, ap}
+use Rattle.std.proofs.Common.{subst, ◌∙◌, inl, inr, arith}
 use Rattle.std.specs.Prelude.{cond, Option, Some, None}
 use Rattle.std.specs.List.{filter}
 use Rattle.std.specs.FinMap.{get}
@@ -11,12 +13,12 @@ use Rattle.relations.specs.Listing.{IsListing}
 use Rattle.relations.proofs.SetLaws.{from_set, from_map, from_filter, set_ascends}
 use Rattle.prima_base.specs.Order.{row_cmp}
 use Rattle.prima_base.specs.OrderLaws.{row_exact}
-use Rattle.prima_base.specs.Columns.{Column, IsLawful}
-use Rattle.schema_catalog.specs.Databases.{Entry as Stored, Rows, Lost, IsDatabase, cell}
+use Rattle.prima_base.specs.Columns.{Column, IsValid}
+use Rattle.schema_catalog.specs.Databases.{DatabaseEntry as Stored, Rows, Lost, IsDatabase, cell}
 use Rattle.cond_expr.proofs.ConstantLaws.{small_number}
-use Rattle.smo_meaning.specs.Effects.{columns_of, rows_at}
-use Rattle.smo_meaning.specs.LawfulPast.{IsPast}
-use Rattle.smo_meaning.specs.LawfulValues.{PastHolds, AreValues, HoldValues, EntryHolds}
+use Rattle.smo_meaning.specs.Effects.{columns_of, rows_under}
+use Rattle.smo_meaning.specs.ValidPast.{IsPast}
+use Rattle.smo_meaning.specs.ValidValues.{PastHolds, AreValues, HoldValues, EntryHolds}
 use Rattle.smo_meaning.specs.Making.{named}
 use Rattle.smo_meaning.specs.OneRow.{Row, Relation, same, meets}
 use Rattle.smo_meaning.specs.Past.{Past, tables_of, version_at, database_at}
@@ -24,66 +26,90 @@ use Rattle.version_ways.specs.Migration.{migrated, migrated_from}
 use Rattle.version_ways.proofs.WayValues.{way_values}
 use Rattle.plain_answers.specs.Reading.{Read, read_of}
 use Rattle.piece_meaning.specs.Pieces.{PlainPiece, all_mean}
-use Rattle.piece_meaning.specs.Rules.{Book, IsLawfulBook}
+use Rattle.piece_meaning.specs.Rules.{Book, IsValidBook}
 use Rattle.rewrite_chains.specs.Beginnings.{IsQuestion}
 use Rattle.rewrite_chains.specs.Standing.{StandFor}
 use Rattle.rewrite_chains.proofs.ReadMoments.{table_means}
 use Rattle.timed_choices.specs.Fitting.{Fit}
-use Rattle.timed_choices.specs.Keeping.{IsLawfulRow}
+use Rattle.timed_choices.specs.Keeping.{IsValidRow}
 use Rattle.query_exec.specs.Questions.{table_read}
 
 -- the pieces that stand at the version in force mean what is read of the table
-pub standing_means : (book : Book) → IsLawfulBook book → (past : Past) → IsPast past → PastHolds past → (q k m : ℕ) (table : List ℕ) (r : Read) (ps : List PlainPiece)
-    → IsQuestion (tables_of past q) table r → StandFor book past.versions k q table r ps → version_at past m ≡ k → all_mean (tables_of past k) (database_at past m) ps ≡ table_read past q table r m
-standing_means book lawful past is holds q k m table r ps asked h e =
+pub standing_means : (book : Book) → IsValidBook book → (past : Past) → IsPast past → PastHolds past
+    → (q k m : ℕ) (table : List ℕ) (r : Read) (ps : List PlainPiece)
+    → IsQuestion (tables_of past q) table r → StandFor book past.versions k q table r ps
+    → version_at past m ≡ k → all_mean (tables_of past k) (database_at past m) ps
+    ≡ table_read past q table r m
+standing_means book valid past is holds q k m table r ps asked h e =
     ap (all_mean (tables_of past k) (database_at past m)) h.unfolded
-    ∙ table_means past.versions is.evolved book lawful k q table r asked h.kept holds.versions (database_at past m)
-    (record { database = subst (λ (v : ℕ). IsDatabase (tables_of past v) (database_at past m)) e (is.each m); values = holds.databases m })
-    ∙ ap (λ (v : ℕ). read_of r (columns_of (tables_of past q) table) (rows_at (get (migrated_from past.versions v q (database_at past m)) table))) (sym e)
+    ∙ table_means past.versions is.evolved book valid k q table r asked h.kept holds.versions
+    (database_at past m)
+    (record {
+      database = subst (λ (v : ℕ). IsDatabase (tables_of past v) (database_at past m)) e
+          (is.each m);
+      values = holds.databases m;
+    })
+    ∙ ap (λ (v : ℕ). read_of r (columns_of (tables_of past q) table)
+    (rows_under (get (migrated_from past.versions v q (database_at past m)) table))) (sym e)
 
--- ---- sets of lawful rows
+-- ---- sets of valid rows
 
-pub read_ascends : (past : Past) (q : ℕ) (table : List ℕ) (r : Read) (m : ℕ) → Ascends row_cmp (table_read past q table r m)
+pub read_ascends : (past : Past) (q : ℕ) (table : List ℕ) (r : Read) (m : ℕ)
+    → Ascends row_cmp (table_read past q table r m)
 read_ascends past q table r m = set_ascends row_cmp row_exact _
 
-held_rows : (o : Option Stored) → EntryHolds o → HoldValues (rows_at o)
+held_rows : (o : Option Stored) → EntryHolds o → HoldValues (rows_under o)
 held_rows None h = λ row m. absurd m
 held_rows (Some (Rows rows)) h = h
 held_rows (Some (Lost k i)) h = λ row m. absurd m
 
-cell_lawful : (columns : List Column) (row : Row) (n : List ℕ) → AreValues row → IsLawful (cell columns row n)
-cell_lawful [] row n h = small_number 0 (omega arith)
-cell_lawful (c ∷ columns) [] n h = small_number 0 (omega arith)
-cell_lawful (c ∷ columns) (v ∷ row) n h =
-    elim (same c.0 n) as (λ b. IsLawful (cond b v (cell columns row n))) [ true ↦ h v (inl refl) | false ↦ cell_lawful columns row n (λ w m. h w (inr m)) ]
+cell_valid : (columns : List Column) (row : Row) (n : List ℕ) → AreValues row
+    → IsValid (cell columns row n)
+cell_valid [] row n h = small_number 0 (omega arith)
+cell_valid (c ∷ columns) [] n h = small_number 0 (omega arith)
+cell_valid (c ∷ columns) (v ∷ row) n h =
+    elim (same c.0 n) as (λ b. IsValid (cond b v (cell columns row n))) [
+      | true ↦ h v (inl refl)
+      | false ↦ cell_valid columns row n (λ w m. h w (inr m))
+    ]
 
-cells_lawful : (columns cs : List Column) (row : Row) → AreValues row → IsLawfulRow (map (λ (c : Column). cell columns row c.0) cs)
-cells_lawful columns [] row h = tt
-cells_lawful columns (c ∷ cs) row h = (cell_lawful columns row c.0 h, cells_lawful columns cs row h)
+cells_valid : (columns cs : List Column) (row : Row) → AreValues row
+    → IsValidRow (map (λ (c : Column). cell columns row c.0) cs)
+cells_valid columns [] row h = tt
+cells_valid columns (c ∷ cs) row h = (cell_valid columns row c.0 h, cells_valid columns cs row h)
 
 module _ (past : Past) (holds : PastHolds past) (q : ℕ) (table : List ℕ) (r : Read) where
   abbrev all : List Column
   all = columns_of (tables_of past q) table
 
   abbrev rows : ℕ → Relation
-  rows m = rows_at (get (migrated past m q) table)
+  rows m = rows_under (get (migrated past m q) table)
 
   rows_hold : (m : ℕ) → HoldValues (rows m)
-  rows_hold m = held_rows (get (migrated past m q) table) (way_values past.versions holds.versions (version_at past m) q (database_at past m) (holds.databases m) table)
+  rows_hold m = held_rows (get (migrated past m q) table)
+      (way_values past.versions holds.versions (version_at past m) q (database_at past m)
+      (holds.databases m) table)
 
   abbrev cut : Row → Row
   cut row = map (λ (c : Column). cell all row c.0) (named r.names all)
 
-  row_fits : (m : ℕ) (x : Row) → In x (table_read past q table r m) → (length x ≡ length (named r.names all)) × IsLawfulRow x
+  row_fits : (m : ℕ) (x : Row) → In x (table_read past q table r m)
+      → (length x ≡ length (named r.names all)) × IsValidRow x
   row_fits m x i =
       let kept : List Row = filter (meets all r.test) (rows m) in
       let g = from_map cut x kept (from_set row_cmp row_exact x (map cut kept) i) in
-      subst (λ (y : Row). (length y ≡ length (named r.names all)) × IsLawfulRow y) g.2
-      (length-map (named r.names all) (λ (c : Column). cell all g.0 c.0), cells_lawful all (named r.names all) g.0 (rows_hold m g.0 (from_filter (meets all r.test) g.0 (rows m) g.1).0))
+      subst (λ (y : Row). (length y ≡ length (named r.names all)) × IsValidRow y) g.2 (
+        length-map (named r.names all) (λ (c : Column). cell all g.0 c.0),
+        cells_valid all (named r.names all) g.0
+            (rows_hold m g.0 (from_filter (meets all r.test) g.0 (rows m) g.1).0),
+      )
 
   -- what is listed fits the columns
-  pub listed_fit : (slice : Span) (entries : List (Entry Row)) → IsListing row_cmp (table_read past q table r) slice entries → (n : ℕ) → n ≡ length (named r.names all) → Fit n entries
+  pub listed_fit : (slice : Span) (entries : List (Entry Row))
+      → IsListing row_cmp (table_read past q table r) slice entries → (n : ℕ)
+      → n ≡ length (named r.names all) → Fit n entries
   listed_fit slice entries h n e x i =
       let is = h.each x i in
       let first : x.period.start ≤ x.period.start = omega arith in
-      subst (λ (k : ℕ). (length x.item ≡ k) × IsLawfulRow x.item) (sym e) (row_fits x.period.start x.item (is.holds x.period.start first is.lasting))
+      subst (λ (k : ℕ). (length x.item ≡ k) × IsValidRow x.item) (sym e)
+      (row_fits x.period.start x.item (is.holds x.period.start first is.lasting))

@@ -2,7 +2,7 @@
 use Rattle.std.specs.Prelude.{◌≡◌, ℕ, ◌+◌, true, List, [], ◌∷◌, None, ⊤}
 use Rattle.relations.specs.Spans.{covers}
 use Rattle.prima_base.specs.Timed.{rows_at}
-use Rattle.cond_expr.specs.declared.exprs.ColRef.{ColRef}
+use Rattle.cond_expr.specs.declared.expr.ColRef.{ColRef}
 use Rattle.cond_expr.specs.Trees.{Test}
 use Rattle.smo_types.specs.Commands.{PlainVersion}
 use Rattle.smo_meaning.specs.Effects.{columns_of}
@@ -16,9 +16,9 @@ use Rattle.temporal_lang.specs.Queries.{PlainQuery}
 use Rattle.temporal_lang.specs.Atoms.{with_atoms}
 use Rattle.temporal_lang.specs.Accepted.{fault_of_query}
 use Rattle.version_groups.specs.Groups.{Kept}
-use Rattle.version_groups.specs.Showing.{Shows}
-use Rattle.joining.specs.declared.sources.Atom.{Atom}
-use Rattle.query_exec.specs.declared.routes.Route.{Route}
+use Rattle.version_groups.specs.Showing.{Represents}
+use Rattle.joining.specs.declared.source.Atom.{Atom}
+use Rattle.query_exec.specs.declared.route.Route.{Route}
 use Rattle.query_exec.specs.Questions.{own_read, table_read}
 use Rattle.query_exec.specs.Routes.{MayBeRead}
 
@@ -31,27 +31,33 @@ pub record IsAccepted (past : Past) (asked query : PlainQuery) : Type 0 where
 abbrev pub MayItems : List PlainVersion → Route → List ColRef → Test → ℕ → List Item → Type 0
 MayItems versions route references cond i [] = ⊤
 MayItems versions route references cond i (x ∷ from) =
-    MayBeRead versions route x.0 (own_read i references cond) × MayItems versions route references cond (i + 1) from
+    MayBeRead versions route x.0 (own_read i references cond)
+    × MayItems versions route references cond (i + 1) from
 
 abbrev pub MayBranch : List PlainVersion → Route → PlainBranch → Type 0
 MayBranch versions route b = MayItems versions route (all_references b.outs b.cond) b.cond 0 b.from
 
 abbrev pub MayBranches : List PlainVersion → Route → List PlainBranch → Type 0
 MayBranches versions route [] = ⊤
-MayBranches versions route (b ∷ branches) = MayBranch versions route b × MayBranches versions route branches
+MayBranches versions route (b ∷ branches) = MayBranch versions route b
+    × MayBranches versions route branches
 
--- the groups show a past behind which such a query is not refused
+-- the groups show a past after which such a query is not refused
 pub record IsShown (kept : Kept) (query : PlainQuery) : Type 0 where
   pub past : Past
   pub asked : PlainQuery
-  pub shows : Shows kept past
+  pub shows : Represents kept past
   pub accepted : IsAccepted past asked query
 
--- the atom has this number, the columns that are asked for, and at each moment of the slice what is read of the table
-pub record IsRead (past : Past) (route : Route) (place : ℕ) (table : List ℕ) (r : Read) (a : Atom) : Type 0 where
+-- the atom has this number, the columns that are asked for, and at each moment of the slice what is
+-- read of the table
+pub record IsRead (past : Past) (route : Route) (place : ℕ) (table : List ℕ) (r : Read) (a : Atom) :
+    Type 0 where
   pub number : a.number ≡ place
-  pub columns : a.columns.items ≡ columns_at place (named r.names (columns_of (tables_of past route.asked) table))
-  pub rows : (m : ℕ) → covers route.slice m ≡ true → rows_at a.rows.items m ≡ table_read past route.asked table r m
+  pub columns : a.columns.items ≡ columns_at place
+      (named r.names (columns_of (tables_of past route.asked) table))
+  pub rows : (m : ℕ) → covers route.slice m ≡ true
+      → rows_at a.rows.items m ≡ table_read past route.asked table r m
 
 -- there is such an atom for each item, the first of which has this place
 abbrev pub AreRead : Past → Route → List ColRef → Test → ℕ → List Item → List Atom → Type 0
@@ -59,4 +65,5 @@ AreRead past route references cond i [] [] = ⊤
 AreRead past route references cond i [] (a ∷ atoms) = ⊥
 AreRead past route references cond i (x ∷ from) [] = ⊥
 AreRead past route references cond i (x ∷ from) (a ∷ atoms) =
-    IsRead past route i x.0 (own_read i references cond) a × AreRead past route references cond (i + 1) from atoms
+    IsRead past route i x.0 (own_read i references cond) a
+    × AreRead past route references cond (i + 1) from atoms

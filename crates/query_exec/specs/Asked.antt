@@ -2,7 +2,7 @@
 use Rattle.cond_expr.specs.Seen.{test}
 use Rattle.plain_answers.specs.Reading.{Read}
 use Rattle.rewrite_chains.specs.Beginnings.{asking}
-use Rattle.query_exec.specs.declared.questions.Question.{Question}
+use Rattle.query_exec.specs.declared.question.Question.{Question}
 
 abbrev pub read_asked : Question → Read
 read_asked q = asking (test q.cond) q.names.items

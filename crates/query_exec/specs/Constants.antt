@@ -1,14 +1,14 @@
--- Queries that have no constants but lawful values.
+-- Queries that have no constants but valid values.
 use Rattle.std.specs.Prelude.{List}
 use Rattle.relations.specs.Sets.{In}
 use Rattle.cond_expr.specs.Trees.{Tree}
 use Rattle.plain_answers.specs.Branches.{PlainBranch}
-use Rattle.piece_meaning.specs.Constants.{LawfulInTree, LawfulInTest}
+use Rattle.piece_meaning.specs.Constants.{ValidInTree, ValidInTest}
 use Rattle.temporal_lang.specs.Queries.{PlainQuery}
 
-pub record LawfulInBranch (b : PlainBranch) : Type 0 where
-  pub outs : (t : Tree) → In t b.outs → LawfulInTree t
-  pub cond : LawfulInTest b.cond
+pub record ValidInBranch (b : PlainBranch) : Type 0 where
+  pub outs : (t : Tree) → In t b.outs → ValidInTree t
+  pub cond : ValidInTest b.cond
 
-abbrev pub LawfulInQuery : PlainQuery → Type 0
-LawfulInQuery query = (b : PlainBranch) → In b query.branches → LawfulInBranch b
+abbrev pub ValidInQuery : PlainQuery → Type 0
+ValidInQuery query = (b : PlainBranch) → In b query.branches → ValidInBranch b

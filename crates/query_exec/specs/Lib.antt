@@ -9,5 +9,5 @@ pub mod Routes
 pub mod Standing
 pub mod Reads
 pub mod Accepted
-pub mod Lent
+pub mod Borrowed
 pub mod Constants

@@ -10,9 +10,10 @@ use Rattle.query_pieces.specs.Piecewise.{loss_from}
 -- the loss from the first of the parts' versions from which there is one
 abbrev pub first_among : List PlainVersion → PlainQuery → List Part → Option Loss
 first_among versions query [] = None
-first_among versions query (p ∷ parts) = option_or (loss_from versions p.1 query) (first_among versions query parts)
+first_among versions query (p ∷ parts) = option_or (loss_from versions p.1 query)
+    (first_among versions query parts)
 
--- the version of each part is one of so many behind version 0
+-- the version of each part is one of so many after version 0
 abbrev pub AllUpTo : ℕ → List Part → Type 0
 AllUpTo n [] = ⊤
 AllUpTo n (p ∷ parts) = (p.1 ≤ n) × AllUpTo n parts

@@ -1,4 +1,5 @@
--- What is planned for a table of the asked version: in each part of a slice the pieces that are not dead.
+-- What is planned for a table of the asked version: in each part of a slice the pieces that are not
+-- dead.
 use Rattle.std.specs.Prelude.{◌≡◌, ℕ, List, [], ◌∷◌, map, ⊤}
 use Rattle.std.specs.List.{filter, flat_map}
 use Rattle.relations.specs.Spans.{Span}
@@ -13,20 +14,25 @@ use Rattle.rewrite_chains.specs.Chains.{unfolded_to}
 use Rattle.period_split.specs.Splitting.{Part}
 use Rattle.piece_texts.specs.ExplainedPieces.{PlainExplained}
 use Rattle.query_exec.specs.QueryPieces.{explained_in}
-use Rattle.query_exec.specs.declared.part_pieces.PartPieces.{PartPieces}
+use Rattle.query_exec.specs.declared.part_piece.PartPieces.{PartPieces}
 
 -- in one part
-pub record IsPlanned (book : Book) (versions : List PlainVersion) (q : ℕ) (table : List ℕ) (r : Read) (p : Part) (x : PartPieces) : Type 0 where
+pub record IsPlanned (book : Book) (versions : List PlainVersion) (q : ℕ) (table : List ℕ)
+    (r : Read) (p : Part) (x : PartPieces) : Type 0 where
   pub part : x.part ≡ p
-  pub living : AreLiving (tables_from no_tables versions p.1) (unfolded_to book versions p.1 q (first_piece table r ∷ [])) (pieces_of x.pieces.items)
-  pub told : pieces_of x.pieces.items ≡ filter lives (unfolded_to book versions p.1 q (first_piece table r ∷ []))
+  pub living : AreLiving (tables_from no_tables versions p.1)
+      (unfolded_to book versions p.1 q (first_piece table r ∷ [])) (pieces_of x.pieces.items)
+  pub told : pieces_of x.pieces.items ≡ filter lives
+      (unfolded_to book versions p.1 q (first_piece table r ∷ []))
 
 -- in each of several, in their order
-abbrev pub ArePlanned : Book → List PlainVersion → ℕ → List ℕ → Read → List Part → List PartPieces → Type 0
+abbrev pub ArePlanned : Book → List PlainVersion → ℕ → List ℕ → Read → List Part → List PartPieces
+    → Type 0
 ArePlanned book versions q table r [] [] = ⊤
 ArePlanned book versions q table r [] (x ∷ plan) = ⊥
 ArePlanned book versions q table r (p ∷ parts) [] = ⊥
-ArePlanned book versions q table r (p ∷ parts) (x ∷ plan) = IsPlanned book versions q table r p x × ArePlanned book versions q table r parts plan
+ArePlanned book versions q table r (p ∷ parts) (x ∷ plan) = IsPlanned book versions q table r p x
+    × ArePlanned book versions q table r parts plan
 
 -- the moments of the parts, and the pieces for an item of a branch
 abbrev pub planned_spans : List PartPieces → List Span

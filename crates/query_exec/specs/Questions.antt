@@ -1,10 +1,10 @@
--- What is asked of a table: of the rows that meet a condition some columns, at each moment over the database then, migrated to the
--- asked version.
+-- What is asked of a table: of the rows that meet a condition some columns, at each moment over the
+-- database then, migrated to the asked version.
 use Rattle.std.specs.Prelude.{ℕ, List}
 use Rattle.std.specs.FinMap.{get}
-use Rattle.cond_expr.specs.declared.exprs.ColRef.{ColRef}
+use Rattle.cond_expr.specs.declared.expr.ColRef.{ColRef}
 use Rattle.cond_expr.specs.Trees.{Test}
-use Rattle.smo_meaning.specs.Effects.{columns_of, rows_at}
+use Rattle.smo_meaning.specs.Effects.{columns_of, rows_under}
 use Rattle.smo_meaning.specs.OneRow.{Relation}
 use Rattle.smo_meaning.specs.Past.{Past, tables_of}
 use Rattle.version_ways.specs.Migration.{migrated}
@@ -13,11 +13,12 @@ use Rattle.plain_answers.specs.Pushing.{pushed}
 use Rattle.plain_answers.specs.Reading.{Read, read_of}
 use Rattle.rewrite_chains.specs.Beginnings.{asking}
 
--- of the table of an item, whose place in its branch this is: the columns that are named of it, of the rows that meet the condition
--- that is pushed to it
+-- of the table of an item, whose place in its branch this is: the columns that are named of it, of
+-- the rows that meet the condition that is pushed to it
 abbrev pub own_read : ℕ → List ColRef → Test → Read
 own_read i references cond = asking (pushed i cond) (names_at i references)
 
 -- what is read of the table of version q at the moment
 abbrev pub table_read : Past → ℕ → List ℕ → Read → ℕ → Relation
-table_read past q table r m = read_of r (columns_of (tables_of past q) table) (rows_at (get (migrated past m q) table))
+table_read past q table r m = read_of r (columns_of (tables_of past q) table)
+    (rows_under (get (migrated past m q) table))

@@ -5,7 +5,7 @@ use Rattle.piece_meaning.specs.Pieces.{PlainPiece}
 use Rattle.piece_ir.specs.Shown.{pieces_of}
 use Rattle.piece_texts.specs.ExplainedPieces.{PlainExplained}
 use Rattle.join_exec.specs.Pieces.{piece_reads}
-use Rattle.query_exec.specs.declared.part_pieces.PartPieces.{PartPieces}
+use Rattle.query_exec.specs.declared.part_piece.PartPieces.{PartPieces}
 use Rattle.query_exec.specs.Totals.{total}
 
 -- for pieces over version k

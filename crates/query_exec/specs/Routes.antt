@@ -1,5 +1,7 @@
--- The parts of a slice, as they are reached from the version that is asked: back from it, and on behind it.
-use Rattle.std.specs.Prelude.{◌≡◌, ℕ, ◌+◌, ◌<◌, ◌≤◌, ◌++◌, true, nat_lt, List, [], ◌∷◌, length, map, reverse, None, ⊤, if◌then◌else◌}
+-- The parts of a slice, as they are reached from the version that is asked: back from it, and on
+-- after it.
+use Rattle.std.specs.Prelude.{◌≡◌, ℕ, ◌+◌, ◌<◌, ◌≤◌, ◌++◌, true, nat_lt, List, [], ◌∷◌, length, map}
+use Rattle.std.specs.Prelude.{reverse, None, ⊤, if◌then◌else◌}
 use Rattle.std.specs.List.{filter}
 use Rattle.std.specs.FinMap.{get}
 use Rattle.relations.specs.Sets.{In}
@@ -11,7 +13,7 @@ use Rattle.plain_answers.specs.Reading.{Read}
 use Rattle.rewrite_chains.specs.Standing.{MayBeAsked}
 use Rattle.query_pieces.specs.Gathering.{HasMoment}
 use Rattle.period_split.specs.Splitting.{Part, AscendFrom}
-use Rattle.query_exec.specs.declared.routes.Route.{Route}
+use Rattle.query_exec.specs.declared.route.Route.{Route}
 
 -- those of the asked version and of versions before it, from the last to the first
 abbrev pub back_from : ℕ → List Part → List Part
@@ -35,8 +37,9 @@ pub record IsOwn (versions : List PlainVersion) (p : Part) : Type 0 where
 abbrev pub spans_of : List Part → List Span
 spans_of parts = map (λ (p : Part). p.0) parts
 
--- the parts that are earlier, and those that are later, are in the order in which a walk from the asked version comes to them; each
--- part belongs to its version, and together they have each moment of the slice
+-- the parts that are earlier, and those that are later, are in the order in which a walk from the
+-- asked version comes to them; each part belongs to its version, and together they have each moment
+-- of the slice
 pub record IsRoute (versions : List PlainVersion) (route : Route) : Type 0 where
   pub asked : route.asked ≤ length versions
   pub ends : route.slice.end ≤ forever
@@ -44,12 +47,16 @@ pub record IsRoute (versions : List PlainVersion) (route : Route) : Type 0 where
   pub on : AscendFrom (route.asked + 1) route.later.items
   pub earlier : (p : Part) → In p route.earlier.items → IsOwn versions p
   pub later : (p : Part) → In p route.later.items → IsOwn versions p
-  pub within : (p : Part) → In p route.later.items → (m : ℕ) → covers p.0 m ≡ true → covers route.slice m ≡ true
+  pub within : (p : Part) → In p route.later.items → (m : ℕ) → covers p.0 m ≡ true
+      → covers route.slice m ≡ true
   pub order : route.parts.items ≡ reverse route.earlier.items ++ route.later.items
   pub each : (p : Part) → In p route.parts.items → IsOwn versions p
-  pub all : (m : ℕ) → m < forever → covers route.slice m ≡ true → HasMoment (spans_of route.parts.items) m
+  pub all : (m : ℕ) → m < forever → covers route.slice m ≡ true
+      → HasMoment (spans_of route.parts.items) m
 
 -- something is asked of the table, which is not lost on the way from any of the parts' versions
-pub record MayBeRead (versions : List PlainVersion) (route : Route) (table : List ℕ) (r : Read) : Type 0 where
+pub record MayBeRead (versions : List PlainVersion) (route : Route) (table : List ℕ) (r : Read) :
+    Type 0 where
   pub question : MayBeAsked versions route.asked table r
-  pub kept : (p : Part) → In p route.later.items → get (lost_names versions p.1 route.asked) table ≡ None
+  pub kept : (p : Part) → In p route.later.items
+      → get (lost_names versions p.1 route.asked) table ≡ None

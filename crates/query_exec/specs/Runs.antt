@@ -1,5 +1,5 @@
--- Runs: neighbouring parts of a slice that are read as one. Their pieces are the same, over versions that share what is stored of
--- the tables of these pieces.
+-- Runs: neighbouring parts of a slice that are read as one. Their pieces are the same, over
+-- versions that share what is stored of the tables of these pieces.
 use Rattle.std.specs.Prelude.{◌≡◌, ◌<◌, ◌≤◌, ℕ, true, List, ◌∷◌, length}
 use Rattle.relations.specs.Sets.{In}
 use Rattle.relations.specs.Spans.{Span, covers}
@@ -11,7 +11,7 @@ use Rattle.piece_meaning.specs.Pieces.{PlainPiece, all_mean}
 use Rattle.piece_meaning.specs.Typed.{AllTyped}
 use Rattle.piece_ir.specs.Shown.{pieces_of}
 use Rattle.query_pieces.specs.Gathering.{HasMoment}
-use Rattle.query_exec.specs.declared.part_pieces.PartPieces.{PartPieces}
+use Rattle.query_exec.specs.declared.part_piece.PartPieces.{PartPieces}
 use Rattle.query_exec.specs.Planned.{planned_spans}
 
 -- two versions have one store of each of these tables
@@ -35,14 +35,17 @@ pub record Meet (a b both : Span) : Type 0 where
   pub begins : both.start ≡ a.start
   pub ends : both.end ≡ b.end
 
--- a part, and parts behind it that are read with it: the period has just their moments
-pub record IsRun (kept : Kept) (first : PartPieces) (more : List PartPieces) (period : Span) : Type 0 where
+-- a part, and parts after it that are read with it: the period has just their moments
+pub record IsRun (kept : Kept) (first : PartPieces) (more : List PartPieces) (period : Span) :
+    Type 0 where
   pub each : (x : PartPieces) → In x more → GoesOn kept first x
   pub within : (m : ℕ) → covers period m ≡ true → HasMoment (planned_spans (first ∷ more)) m
   pub all : (m : ℕ) → HasMoment (planned_spans (first ∷ more)) m → covers period m ≡ true
 
--- pieces that stand at version k mean these rows at the moment, at the version that is in force then and shares their tables
-pub record IsMeant (kept : Kept) (past : Past) (k : ℕ) (ps : List PlainPiece) (m : ℕ) (rows : Relation) : Type 0 where
+-- pieces that stand at version k mean these rows at the moment, at the version that is in force
+-- then and shares their tables
+pub record IsMeant (kept : Kept) (past : Past) (k : ℕ) (ps : List PlainPiece) (m : ℕ)
+    (rows : Relation) : Type 0 where
   pub version : ℕ
   pub there : version ≤ length past.versions
   pub force : IsInForce past.versions version m

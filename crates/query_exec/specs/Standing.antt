@@ -9,7 +9,8 @@ use Rattle.piece_meaning.specs.Rules.{Book}
 use Rattle.rewrite_chains.specs.Standing.{MayBeAsked, StandFor}
 
 -- at version v, for what is asked of a table of a version that is not earlier
-pub record AreBack (book : Book) (versions : List PlainVersion) (v : ℕ) (ps : List PlainPiece) : Type 0 where
+pub record AreBack (book : Book) (versions : List PlainVersion) (v : ℕ) (ps : List PlainPiece) :
+    Type 0 where
   pub asked : ℕ
   pub table : List ℕ
   pub read : Read
@@ -17,8 +18,10 @@ pub record AreBack (book : Book) (versions : List PlainVersion) (v : ℕ) (ps : 
   pub question : MayBeAsked versions asked table read
   pub stand : StandFor book versions v asked table read ps
 
--- at version v, for what is asked of a table of a version that is not later, from which it is not lost up to version w
-pub record AreOn (book : Book) (versions : List PlainVersion) (v w : ℕ) (ps : List PlainPiece) : Type 0 where
+-- at version v, for what is asked of a table of a version that is not later, from which it is not
+-- lost up to version w
+pub record AreOn (book : Book) (versions : List PlainVersion) (v w : ℕ) (ps : List PlainPiece) :
+    Type 0 where
   pub asked : ℕ
   pub table : List ℕ
   pub read : Read

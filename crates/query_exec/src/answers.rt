@@ -10,16 +10,16 @@ ghost use Rattle.smo_meaning.specs.Past.{Past};
 ghost use Rattle.temporal_lang.specs.Answers.{asked_at, answer};
 ghost use Rattle.temporal_lang.specs.Queries.{PlainQuery, query_of, slice_of, IsLasting};
 ghost use Rattle.version_groups.specs.Groups.{versions_in};
-ghost use Rattle.version_groups.specs.Showing.{Shows};
+ghost use Rattle.version_groups.specs.Showing.{Represents};
 ghost use Rattle.rewrite.specs.Books.{meaning_of, EachOf};
 ghost use Rattle.query_exec.specs.Accepted.{IsAccepted, IsShown};
 ghost use Rattle.piece_texts.specs.ExplainedPieces.{PlainExplained};
-ghost use Rattle.query_exec.specs.Lent.{NoneComputes, AreLentBy};
+ghost use Rattle.query_exec.specs.Borrowed.{NoneComputes, AreBorrowedBy};
 ghost use Rattle.query_exec.specs.QueryPieces.{ArePieces};
 ghost use Rattle.query_exec.specs.Reads.{explained_read, reads_of};
 
-use crate::branches::answer_branches;
-use crate::routes::{ends_in_time, route_of};
+use crate::branch::answer_branches;
+use crate::route::{ends_in_time, route_of};
 use coalesce::coalesce_in_place;
 use prima_base::{NoMemory, Steps, TimedRow};
 use rule_book::{Rule, RuleBook};
@@ -28,15 +28,18 @@ use std::sync::ledger::Ledger;
 use temporal_lang::{Query, slice};
 use version_groups::Groups;
 
-/// What a query lists, over all of history: each row with the longest periods of its slice in which it holds, over the borders of
-/// versions too, ascending by row and start. KEEP is left to the caller. The query is one that is not refused, with each reference
-/// made one to an atom; the groups show the past, and the book has a rule for each kind of operator.
+/// What a query lists, over all of history: each row with the longest periods of its slice in which
+/// it holds, over the borders of versions too, ascending by row and start. KEEP is left to the
+/// caller. The query is one that is not refused, with each reference made one to an atom; the
+/// groups show the past, and the book has a rule for each kind of operator.
 ///
-/// A table's pieces at a version are made from those at its neighbour, so each rule is asked once a version and piece. It takes at
-/// most as many steps as there are, for each of the query's pieces, keys of the piece's tables and entries of the columns that it
-/// names of them: just the pieces that `explain` answers; and where it answers rows, at least as many as there are for any one of them.
-/// Where none of these computes an output, the texts of the outputs that are plain columns are lent by the stored tables, as those of
-/// one of the branches. The one error is `NoMemory`, where memory runs out.
+/// A table's pieces at a version are made from those at its neighbour, so each rule is asked once a
+/// version and piece. It takes at most as many steps as there are, for each of the query's pieces,
+/// keys of the piece's tables and entries of the columns that it names of them: just the pieces
+/// that `explain` answers; and where it answers rows, at least as many as there are for any one of
+/// them. Where none of these computes an output, the texts of the outputs that are plain columns
+/// are borrowed by the stored tables, as those of one of the branches. The one error is `NoMemory`,
+/// where memory runs out.
 pub fn answer<'a, L: Ledger>(
     alloc: Global,
     groups: &'a Groups,
@@ -48,13 +51,26 @@ pub fn answer<'a, L: Ledger>(
     requires shown { IsShown groups.now (query_of query.now) }
     requires there { query.now.version ≤ length groups.now.versions }
     requires lasting { IsLasting query.now.when }
-    ensures listed { (past : Past) → (asked : PlainQuery) → Shows groups.now past → IsAccepted past asked (query_of query.now)
-        → IfOk result (λ rows. IsListing row_cmp (asked_at past asked) (slice_of asked.when) (entries_of rows.items)) }
-    ensures rows { (past : Past) → (asked : PlainQuery) → Shows groups.now past → IsAccepted past asked (query_of query.now) → IfOk result (λ rows. kept asked.keep (entries_of rows.items) ≡ answer past asked) }
-    ensures lent { (pieces : List PlainExplained) → ArePieces (meaning_of book.now.rules.items (λ r. handles (r.vtable, r.value)) (λ r. answers (r.vtable, r.value))) (versions_in groups.now) (query_of query.now) pieces → NoneComputes pieces
-        → IfOk result (λ rows. AreLentBy (query_of query.now).branches rows.items) }
-    ensures cost { (pieces : List PlainExplained) → ArePieces (meaning_of book.now.rules.items (λ r. handles (r.vtable, r.value)) (λ r. answers (r.vtable, r.value))) (versions_in groups.now) (query_of query.now) pieces → steps.new ≤ steps.old + reads_of groups.now pieces }
-    ensures least { (pieces : List PlainExplained) → ArePieces (meaning_of book.now.rules.items (λ r. handles (r.vtable, r.value)) (λ r. answers (r.vtable, r.value))) (versions_in groups.now) (query_of query.now) pieces → (e : PlainExplained) → In e pieces
+    ensures listed { (past : Past) → (asked : PlainQuery) → Represents groups.now past
+        → IsAccepted past asked (query_of query.now)
+        → IfOk result (λ rows. IsListing row_cmp (asked_at past asked) (slice_of asked.when)
+        (entries_of rows.items)) }
+    ensures rows { (past : Past) → (asked : PlainQuery) → Represents groups.now past
+        → IsAccepted past asked (query_of query.now)
+        → IfOk result (λ rows. kept asked.keep (entries_of rows.items) ≡ answer past asked) }
+    ensures borrowed { (pieces : List PlainExplained)
+        → ArePieces (meaning_of book.now.rules.items (λ r. handles (r.vtable, r.value))
+        (λ r. answers (r.vtable, r.value))) (versions_in groups.now) (query_of query.now) pieces
+        → NoneComputes pieces
+        → IfOk result (λ rows. AreBorrowedBy (query_of query.now).branches rows.items) }
+    ensures cost { (pieces : List PlainExplained)
+        → ArePieces (meaning_of book.now.rules.items (λ r. handles (r.vtable, r.value))
+        (λ r. answers (r.vtable, r.value))) (versions_in groups.now) (query_of query.now) pieces
+        → steps.new ≤ steps.old + reads_of groups.now pieces }
+    ensures least { (pieces : List PlainExplained)
+        → ArePieces (meaning_of book.now.rules.items (λ r. handles (r.vtable, r.value))
+        (λ r. answers (r.vtable, r.value))) (versions_in groups.now) (query_of query.now) pieces
+        → (e : PlainExplained) → In e pieces
         → IfOk result (λ _. steps.old + explained_read groups.now e ≤ steps.new) }
     ensures rises { steps.old ≤ steps.new }
 {

@@ -1,35 +1,43 @@
 ghost use Rattle.std.specs.Prelude.{◌≡◌, ℕ, List, None};
 ghost use Rattle.relations.specs.Sets.{In};
 ghost use Rattle.relations.specs.Spans.{Span};
-ghost use Rattle.smo_meaning.specs.LawfulPast.{IsPast};
+ghost use Rattle.smo_meaning.specs.ValidPast.{IsPast};
 ghost use Rattle.smo_meaning.specs.Past.{Past, tables_of};
 ghost use Rattle.version_groups.specs.Groups.{Kept};
-ghost use Rattle.piece_meaning.specs.Constants.{LawfulInVersions};
+ghost use Rattle.piece_meaning.specs.Constants.{ValidInVersions};
 ghost use Rattle.piece_meaning.specs.Pieces.{PlainPiece};
-ghost use Rattle.piece_meaning.specs.Rules.{Book, IsLawfulBook};
+ghost use Rattle.piece_meaning.specs.Rules.{Book, IsValidBook};
 ghost use Rattle.piece_ir.specs.Shown.{pieces_of};
 ghost use Rattle.temporal_lang.specs.Accepted.{fault_of_query};
 ghost use Rattle.temporal_lang.specs.Atoms.{with_atoms};
 ghost use Rattle.temporal_lang.specs.Queries.{PlainQuery};
 ghost use Rattle.join_exec.specs.Pieces.{stored_meaning};
-ghost use Rattle.query_exec.specs.Constants.{LawfulInQuery};
+ghost use Rattle.query_exec.specs.Constants.{ValidInQuery};
 ghost use Rattle.query_exec.specs.QueryPieces.{ArePieces, living_pieces};
 ghost use Rattle.query_exec.specs.Reads.{part_read};
 ghost use Rattle.query_exec.specs.Runs.{IsRun};
-ghost use Rattle.query_exec.specs.declared.part_pieces.PartPieces.{PartPieces as OnePart};
+ghost use Rattle.query_exec.specs.declared.part_piece.PartPieces.{PartPieces as OnePart};
 
-/// What is read of a run, over the version of its first part, is what each of its parts has alone: at each moment its pieces mean the
-/// same over what is stored of either version, and as much is read for them.
+/// What is read of a run, over the version of its first part, is what each of its parts has alone:
+/// at each moment its pieces mean the same over what is stored of either version, and as much is
+/// read for them.
 pub fn a_run_is_read_as_each_of_its_parts()
-    ensures rows { (kept : Kept) → (first : OnePart) → (more : List OnePart) → (period : Span) → IsRun kept first more period → (x : OnePart) → In x more
-        → (p : PlainPiece) → In p (pieces_of x.pieces.items) → (m : ℕ) → stored_meaning kept first.part.1 p m ≡ stored_meaning kept x.part.1 p m }
-    ensures reads { (kept : Kept) → (first : OnePart) → (more : List OnePart) → (period : Span) → IsRun kept first more period → (x : OnePart) → In x more → part_read kept x ≡ part_read kept first }
+    ensures rows { (kept : Kept) → (first : OnePart) → (more : List OnePart) → (period : Span)
+        → IsRun kept first more period → (x : OnePart) → In x more
+        → (p : PlainPiece) → In p (pieces_of x.pieces.items) → (m : ℕ)
+        → stored_meaning kept first.part.1 p m ≡ stored_meaning kept x.part.1 p m }
+    ensures reads { (kept : Kept) → (first : OnePart) → (more : List OnePart) → (period : Span)
+        → IsRun kept first more period → (x : OnePart) → In x more
+        → part_read kept x ≡ part_read kept first }
 {}
 
-/// The pieces of a query that is not refused, by the function: of those into which its items' tables unfold by a lawful book, just those
-/// that are not dead. The constants of the query, of the versions' operators and of their inverses are lawful values.
+/// The pieces of a query that is not refused, by the function: of those into which its items'
+/// tables unfold by a valid book, just those that are not dead. The constants of the query, of the
+/// versions' operators and of their inverses are valid values.
 pub fn living_pieces_are_those_that_are_not_dead()
-    ensures { (book : Book) → IsLawfulBook book → (past : Past) → IsPast past → LawfulInVersions past.versions → (query : PlainQuery)
-        → fault_of_query past query ≡ None → LawfulInQuery query
-        → ArePieces book past.versions (with_atoms (tables_of past query.version) query) (living_pieces book past.versions (with_atoms (tables_of past query.version) query)) }
+    ensures { (book : Book) → IsValidBook book → (past : Past) → IsPast past
+        → ValidInVersions past.versions → (query : PlainQuery)
+        → fault_of_query past query ≡ None → ValidInQuery query
+        → ArePieces book past.versions (with_atoms (tables_of past query.version) query)
+        (living_pieces book past.versions (with_atoms (tables_of past query.version) query)) }
 {}

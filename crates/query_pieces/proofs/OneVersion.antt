@@ -5,8 +5,8 @@ use Rattle.relations.specs.Sets.{set_of}
 use Rattle.prima_base.specs.Order.{row_cmp}
 use Rattle.schema_catalog.specs.Databases.{IsDatabase}
 use Rattle.smo_meaning.specs.OneRow.{Row}
-use Rattle.smo_meaning.specs.LawfulPast.{IsPast}
-use Rattle.smo_meaning.specs.LawfulValues.{PastHolds}
+use Rattle.smo_meaning.specs.ValidPast.{IsPast}
+use Rattle.smo_meaning.specs.ValidValues.{PastHolds}
 use Rattle.smo_meaning.specs.Past.{Past, tables_of, version_at, database_at}
 use Rattle.plain_answers.specs.Choosing.{answers_over}
 use Rattle.plain_answers.specs.Branches.{PlainBranch, item_columns}
@@ -23,26 +23,38 @@ use Rattle.temporal_lang.specs.Queries.{PlainQuery}
 use Rattle.query_pieces.specs.Piecewise.{asked_branches, pieces_at}
 
 -- the pieces that stand at the version in force for what is asked of a table
-pub standing_read : (book : Book) (past : Past) (m q k : ℕ) (table : List ℕ) (r : Read) (ps : List PlainPiece) → version_at past m ≡ k
-    → StandFor book past.versions k q table r ps → all_mean (tables_of past k) (database_at past m) ps ≡ unfolded_read book past m q table r
+pub standing_read : (book : Book) (past : Past) (m q k : ℕ) (table : List ℕ) (r : Read)
+    (ps : List PlainPiece) → version_at past m ≡ k
+    → StandFor book past.versions k q table r ps
+    → all_mean (tables_of past k) (database_at past m) ps ≡ unfolded_read book past m q table r
 standing_read book past m q k table r ps e h =
     ap (λ (xs : List PlainPiece). all_mean (tables_of past k) (database_at past m) xs) h.unfolded
-    ∙ ap (λ (v : ℕ). all_mean (tables_of past v) (database_at past m) (unfolded_to book past.versions v q (first_piece table r ∷ []))) (sym e)
+    ∙ ap (λ (v : ℕ). all_mean (tables_of past v) (database_at past m)
+    (unfolded_to book past.versions v q (first_piece table r ∷ []))) (sym e)
 
 -- and so do those that are not dead
-pub living_read : (book : Book) (past : Past) → IsPast past → PastHolds past → (m q k : ℕ) (table : List ℕ) (r : Read) (ps living : List PlainPiece) → version_at past m ≡ k
+pub living_read : (book : Book) (past : Past) → IsPast past → PastHolds past
+    → (m q k : ℕ) (table : List ℕ) (r : Read) (ps living : List PlainPiece) → version_at past m ≡ k
     → StandFor book past.versions k q table r ps → AreLiving (tables_of past k) ps living
     → all_mean (tables_of past k) (database_at past m) living ≡ unfolded_read book past m q table r
 living_read book past is holds m q k table r ps living e h a =
     mean_the_same (tables_of past k) (database_at past m)
-    (record { database = subst (λ (v : ℕ). IsDatabase (tables_of past v) (database_at past m)) e (is.each m); values = holds.databases m }) ps living a
+    (record {
+      database = subst (λ (v : ℕ). IsDatabase (tables_of past v) (database_at past m)) e
+          (is.each m);
+      values = holds.databases m;
+    }) ps living a
     ∙ standing_read book past m q k table r ps e h
 
 -- one branch
-pub one_branch_read : (book : Book) (past : Past) (query : PlainQuery) (b : PlainBranch) (m : ℕ) → asked_branches past query ≡ b ∷ []
+pub one_branch_read : (book : Book) (past : Past) (query : PlainQuery) (b : PlainBranch) (m : ℕ)
+    → asked_branches past query ≡ b ∷ []
     → pieces_at book past query m
-    ≡ set_of row_cmp (answers_over (read_columns (needed b) (item_columns (tables_of past query.version) b.from))
+    ≡ set_of row_cmp (answers_over (read_columns (needed b)
+    (item_columns (tables_of past query.version) b.from))
     (unfolded_reads book past m query.version (needed b) b.from) b.outs b.cond)
 one_branch_read book past query b m e =
-    ap (λ (bs : List PlainBranch). set_of row_cmp (flat_map (unfolded_answers book past m query.version needed) bs)) e
-    ∙ ap (λ (rows : List Row). set_of row_cmp rows) (append-nil (unfolded_answers book past m query.version needed b))
+    ap (λ (bs : List PlainBranch). set_of row_cmp
+    (flat_map (unfolded_answers book past m query.version needed) bs)) e
+    ∙ ap (λ (rows : List Row). set_of row_cmp rows)
+    (append-nil (unfolded_answers book past m query.version needed b))

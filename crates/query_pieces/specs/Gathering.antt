@@ -12,9 +12,11 @@ pub record IsOfPart (relation : ℕ → Relation) (p : Span) (entries : List (En
   pub outside : (m : ℕ) → covers p m ≡ false → at row_cmp entries m ≡ []
 
 -- all that holds at the moments of these parts, and nothing else
-pub record IsGathered (relation : ℕ → Relation) (parts : List Span) (entries : List (Entry Row)) : Type 0 where
+pub record IsGathered (relation : ℕ → Relation) (parts : List Span) (entries : List (Entry Row)) :
+    Type 0 where
   pub only : (x : Row) (m : ℕ) → In x (at row_cmp entries m) → In x (relation m)
-  pub all : (p : Span) → In p parts → (x : Row) (m : ℕ) → covers p m ≡ true → In x (relation m) → In x (at row_cmp entries m)
+  pub all : (p : Span) → In p parts → (x : Row) (m : ℕ) → covers p m ≡ true → In x (relation m)
+      → In x (at row_cmp entries m)
 
 -- one of the parts has the moment
 abbrev pub HasMoment : List Span → ℕ → Type 0

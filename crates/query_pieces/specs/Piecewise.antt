@@ -1,4 +1,5 @@
--- What a query asks of each moment of its slice, read by pieces; and what is lost on the way from a version.
+-- What a query asks of each moment of its slice, read by pieces; and what is lost on the way from a
+-- version.
 use Rattle.std.specs.Prelude.{◌≡◌, ℕ, ◌<◌, ◌≤◌, List, Option}
 use Rattle.std.specs.FinMap.{get}
 use Rattle.smo_types.specs.Commands.{PlainVersion}
@@ -17,19 +18,23 @@ use Rattle.temporal_lang.specs.Queries.{PlainQuery, slice_of}
 
 -- the loss of the first of the query's tables that is lost on the way from a version
 abbrev pub loss_from : List PlainVersion → ℕ → PlainQuery → Option Loss
-loss_from versions v query = first_loss (get (lost_names versions v query.version)) (query_tables query.branches)
+loss_from versions v query = first_loss (get (lost_names versions v query.version))
+    (query_tables query.branches)
 
 -- the query's branches, with each reference made one to an atom
 abbrev pub asked_branches : Past → PlainQuery → List PlainBranch
 asked_branches past query = branches_with_atoms (tables_of past query.version) query.branches
 
--- what the branches answer at the moment over the pieces of their items' tables, of which the columns that they name are read
+-- what the branches answer at the moment over the pieces of their items' tables, of which the
+-- columns that they name are read
 abbrev pub pieces_at : Book → Past → PlainQuery → ℕ → Relation
-pieces_at book past query m = asked_by_pieces book past m query.version needed (asked_branches past query)
+pieces_at book past query m = asked_by_pieces book past m query.version needed
+    (asked_branches past query)
 
 -- the same, with of each table the rows alone that meet the condition which is pushed to the item
 abbrev pub pushed_at : Book → Past → PlainQuery → ℕ → Relation
-pushed_at book past query m = asked_by_pieces book past m query.version pushed_reads (asked_branches past query)
+pushed_at book past query m = asked_by_pieces book past m query.version pushed_reads
+    (asked_branches past query)
 
 -- the moment is one of the query's slice
 pub record IsAskedOf (query : PlainQuery) (m : ℕ) : Type 0 where
@@ -38,4 +43,5 @@ pub record IsAskedOf (query : PlainQuery) (m : ℕ) : Type 0 where
 
 -- at each moment of the slice the relation is what is read by pieces
 abbrev pub IsReadByPieces : Book → Past → PlainQuery → (ℕ → Relation) → Type 0
-IsReadByPieces book past query relation = (m : ℕ) → IsAskedOf query m → relation m ≡ pieces_at book past query m
+IsReadByPieces book past query relation = (m : ℕ) → IsAskedOf query m
+    → relation m ≡ pieces_at book past query m

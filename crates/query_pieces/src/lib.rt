@@ -1,4 +1,5 @@
-//! Queries on any version, read by pieces at each moment of their slice: definitions (`specs/`) and their laws.
+//! Queries on any version, read by pieces at each moment of their slice: definitions (`specs/`) and
+//! their laws.
 #![tactic(auto)]
 
 mod laws;

@@ -13,7 +13,8 @@ in_choices {X} (x ∷ choice) (xs ∷ rest) h =
     in_flat_map (λ (y : X). map (λ c. y ∷ c) (choices rest)) x (x ∷ choice) xs h.0
     (in_map (λ c. x ∷ c) choice (choices rest) (in_choices choice rest h.1))
 
-pub from_choices : {X : Type 0} (choice : List X) (lists : List (List X)) → In choice (choices lists)
+pub from_choices : {X : Type 0} (choice : List X) (lists : List (List X))
+    → In choice (choices lists)
     → Chosen choice lists
 from_choices {X} choice [] (inl e) = subst (λ (c : List X). Chosen c []) e tt
 from_choices choice [] (inr m) = absurd m

@@ -1,4 +1,5 @@
--- What a relation that changes over time has, listed: each member with its longest periods inside a slice.
+-- What a relation that changes over time has, listed: each member with its longest periods inside a
+-- slice.
 use Rattle.std.specs.Prelude.{◌≡◌, ℕ, ◌-◌, ◌<◌, ◌≤◌, ◌⊎◌, List}
 use Rattle.std.specs.Ordering.{nat_cmp, ordering_then}
 use Rattle.std.specs.declared.cmp.Ordering.{Ordering}
@@ -21,10 +22,13 @@ entry_cmp cmp a b = ordering_then (cmp a.item b.item) (nat_cmp a.period.start b.
 
 -- an entry of the list has this item at this moment
 abbrev pub Covered : {X : Type 0} → List (Entry X) → X → ℕ → Type 0
-Covered {X} entries x m = (e : Entry X) × In e entries × (e.item ≡ x) × (e.period.start ≤ m) × (m < e.period.end)
+Covered {X} entries x m = (e : Entry X) × In e entries × (e.item ≡ x) × (e.period.start ≤ m)
+    × (m < e.period.end)
 
 -- the one list of what holds in the slice
-pub record IsListing {X : Type 0} (cmp : X → X → Ordering) (relation : ℕ → List X) (slice : Span) (entries : List (Entry X)) : Type 0 where
+pub record IsListing {X : Type 0} (cmp : X → X → Ordering) (relation : ℕ → List X) (slice : Span)
+    (entries : List (Entry X)) : Type 0 where
   pub each : (e : Entry X) → In e entries → IsEntry relation slice e
-  pub complete : (x : X) (m : ℕ) → slice.start ≤ m → m < slice.end → In x (relation m) → Covered entries x m
+  pub complete : (x : X) (m : ℕ) → slice.start ≤ m → m < slice.end → In x (relation m)
+      → Covered entries x m
   pub ascending : Ascends (entry_cmp cmp) entries

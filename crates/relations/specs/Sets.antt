@@ -19,7 +19,7 @@ abbrev pub BeforeAll : {X : Type 0} → (X → X → Ordering) → X → List X 
 BeforeAll cmp x [] = ⊤
 BeforeAll cmp x (y ∷ ys) = (cmp x y ≡ Less) × BeforeAll cmp x ys
 
--- each member is before those behind it
+-- each member is before those after it
 abbrev pub Ascends : {X : Type 0} → (X → X → Ordering) → List X → Type 0
 Ascends cmp [] = ⊤
 Ascends cmp (x ∷ xs) = BeforeAll cmp x xs × Ascends cmp xs

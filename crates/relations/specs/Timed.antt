@@ -11,7 +11,8 @@ pub record Entry (X : Type 0) : Type 0 where
 -- the items whose period has the moment
 abbrev pub held_at : {X : Type 0} → List (Entry X) → ℕ → List X
 held_at [] m = []
-held_at (e ∷ entries) m = if covers e.period m then e.item ∷ held_at entries m else held_at entries m
+held_at (e ∷ entries) m = if covers e.period m then e.item ∷ held_at entries m
+    else held_at entries m
 
 -- the relation at the moment
 unfoldable pub at : {X : Type 0} → (X → X → Ordering) → List (Entry X) → ℕ → List X

@@ -1,5 +1,7 @@
--- A relation that changes over time, kept as its stages: from each stage's start on it is the stage's.
-use Rattle.std.specs.Prelude.{ℕ, ◌<◌, ◌++◌, List, [], ◌∷◌, Option, Some, None, nat_le, ⊤, if◌then◌else◌}
+-- A relation that changes over time, kept as its stages: from each stage's start on it is the
+-- stage's.
+use Rattle.std.specs.Prelude.{ℕ, ◌<◌, ◌++◌, List, [], ◌∷◌, Option, Some, None, nat_le, ⊤}
+use Rattle.std.specs.Prelude.{if◌then◌else◌}
 use Rattle.std.specs.declared.cmp.Ordering.{Ordering}
 use Rattle.relations.specs.Sets.{has, set_of}
 use Rattle.relations.specs.Spans.{Span, span, forever}
@@ -12,26 +14,30 @@ pub record Stage (X : Type 0) : Type 0 where
 -- the relation at a moment: that of the last stage that has begun, and `before` where none has
 abbrev pub relation_from : {X : Type 0} → List X → List (Stage X) → ℕ → List X
 relation_from before [] m = before
-relation_from before (s ∷ stages) m = if nat_le s.start m then relation_from s.items stages m else before
+relation_from before (s ∷ stages) m = if nat_le s.start m then relation_from s.items stages m
+    else before
 
 abbrev pub relation_at : {X : Type 0} → List (Stage X) → ℕ → List X
 relation_at stages m = relation_from [] stages m
 
--- the stages begin one behind the other, each above `low`, and none at the end of time
-abbrev pub Follow : {X : Type 0} → ℕ → List (Stage X) → Type 0
-Follow low [] = ⊤
-Follow low (s ∷ stages) = (low < s.start) × (s.start < forever) × Follow s.start stages
+-- the stages begin one after the other, each above `low`, and none at the end of time
+abbrev pub StagesFollow : {X : Type 0} → ℕ → List (Stage X) → Type 0
+StagesFollow low [] = ⊤
+StagesFollow low (s ∷ stages) = (low < s.start) × (s.start < forever) × StagesFollow s.start stages
 
 abbrev pub IsTimeline : {X : Type 0} → List (Stage X) → Type 0
 IsTimeline [] = ⊤
-IsTimeline (s ∷ stages) = (s.start < forever) × Follow s.start stages
+IsTimeline (s ∷ stages) = (s.start < forever) × StagesFollow s.start stages
 
--- the longest periods in which the stages have the item; `since` is when the period began that still goes on
+-- the longest periods in which the stages have the item; `since` is when the period began that
+-- still goes on
 abbrev pub runs : {X : Type 0} → (X → X → Ordering) → X → Option ℕ → List (Stage X) → List Span
 runs cmp x None [] = []
 runs cmp x (Some since) [] = span since forever ∷ []
-runs cmp x None (s ∷ stages) = if has cmp x s.items then runs cmp x (Some s.start) stages else runs cmp x None stages
-runs cmp x (Some since) (s ∷ stages) = if has cmp x s.items then runs cmp x (Some since) stages else span since s.start ∷ runs cmp x None stages
+runs cmp x None (s ∷ stages) = if has cmp x s.items then runs cmp x (Some s.start) stages
+    else runs cmp x None stages
+runs cmp x (Some since) (s ∷ stages) = if has cmp x s.items then runs cmp x (Some since) stages
+    else span since s.start ∷ runs cmp x None stages
 
 abbrev pub all_items : {X : Type 0} → List (Stage X) → List X
 all_items [] = []

@@ -1,28 +1,31 @@
 -- The steps of the code that takes pieces along the versions.
-use Rattle.std.proofs.Common.{◌≡◌, ◌+◌, ◌-◌, ◌≤◌, ◌<◌, ℕ, suc, List, [], ◌∷◌, ◌++◌, map, take, drop, length, get_or, drop-cons, add-one, append_assoc, refl, sym, ap, subst, ◌∙◌, arith}
+use Rattle.std.proofs.Common.{◌≡◌, ◌+◌, ◌-◌, ◌≤◌, ◌<◌, ℕ, suc, List, [], ◌∷◌, ◌++◌, map, take, drop}
+use Rattle.std.proofs.Common.{length, get_or, drop-cons, add-one, append_assoc, refl, sym, ap}
+use Rattle.std.proofs.Common.{subst, ◌∙◌, arith}
 use Rattle.std.specs.Prelude.{◌==◌, true, false, Some, None, slice_get}
 use Rattle.std.proofs.lemmas.List.{map-append, take_all}
 use Rattle.relations.proofs.SetLaws.{in_map}
 use Rattle.schema_catalog.specs.Tables.{Tables}
 use Rattle.smo_types.specs.Operators.{Operator, operator_of, operators_of}
-use Rattle.smo_types.specs.declared.ops.Op.{Op}
-use Rattle.smo_types.specs.declared.versions.Version.{Version}
+use Rattle.smo_types.specs.declared.op.Op.{Op}
+use Rattle.smo_types.specs.declared.version.Version.{Version}
 use Rattle.smo_types.specs.Commands.{PlainVersion, version_of}
-use Rattle.smo_meaning.specs.After.{op_fault, behind, IsLawful, HaveFewNodes}
-use Rattle.smo_meaning.specs.Inverses.{inverse_fault, behind_each, AllAccepted}
+use Rattle.smo_meaning.specs.After.{op_fault, schema_after, IsValid, HaveFewNodes}
+use Rattle.smo_meaning.specs.Inverses.{inverse_fault, schema_after_each, AllOperatorsAccepted}
 use Rattle.smo_meaning.specs.Past.{no_tables, tables_from}
-use Rattle.smo_meaning.specs.LawfulPast.{AreVersions}
+use Rattle.smo_meaning.specs.ValidPast.{AreVersions}
 use Rattle.smo_meaning.proofs.CountedOperators.{counted_inverse}
-use Rattle.smo_meaning.proofs.LawfulInverses.{accepted_leads_back}
-use Rattle.smo_meaning.proofs.NextSchemas.{next_is_lawful}
+use Rattle.smo_meaning.proofs.ValidInverses.{accepted_leads_back}
+use Rattle.smo_meaning.proofs.NextSchemas.{next_is_valid}
 use Rattle.version_ways.proofs.VersionSteps.{Leads, leads}
-use Rattle.version_ways.proofs.WayDatabases.{lawful_at}
+use Rattle.version_ways.proofs.WayDatabases.{valid_at}
 use Rattle.piece_meaning.specs.Pieces.{PlainPiece}
 use Rattle.piece_meaning.specs.Typed.{IsTyped, AllTyped}
-use Rattle.piece_meaning.specs.Rules.{Book, IsLawfulBook}
+use Rattle.piece_meaning.specs.Rules.{Book, IsValidBook}
 use Rattle.piece_ir.specs.Shown.{piece_of, pieces_of}
-use Rattle.piece_ir.specs.declared.pieces.Piece.{Piece}
-use Rattle.rewrite_chains.specs.Chains.{through, through_each, through_operator, through_inverse, to_previous, to_next}
+use Rattle.piece_ir.specs.declared.piece.Piece.{Piece}
+use Rattle.rewrite_chains.specs.Chains.{through, through_each, through_operator, through_inverse}
+use Rattle.rewrite_chains.specs.Chains.{to_previous, to_next}
 use Rattle.rewrite_chains.proofs.ChainSteps.{all_typed}
 use Rattle.rewrite.proofs.Places.{version_at_place, in_at}
 
@@ -32,21 +35,28 @@ module _ (book : Book) (op : Operator) (before : Tables) where
   abbrev gone : List Piece → List PlainPiece
   gone ps = through book op before (pieces_of ps)
 
-  pub more : (all news pieces : List Piece) (i : ℕ) (p : Piece) (goal : List PlainPiece) → i < length pieces → p ≡ get_or pieces i p → pieces_of news ≡ book op before (piece_of p)
-      → pieces_of all ++ gone (drop i pieces) ≡ goal → pieces_of (all ++ news) ++ gone (drop (i + 1) pieces) ≡ goal
+  pub more : (all news pieces : List Piece) (i : ℕ) (p : Piece) (goal : List PlainPiece)
+      → i < length pieces → p ≡ get_or pieces i p → pieces_of news ≡ book op before (piece_of p)
+      → pieces_of all ++ gone (drop i pieces) ≡ goal
+      → pieces_of (all ++ news) ++ gone (drop (i + 1) pieces) ≡ goal
   more all news pieces i p goal l e is so =
-      let d : drop i pieces ≡ p ∷ drop (suc i) pieces = drop-cons pieces i p l ∙ ap (λ (x : Piece). x ∷ drop (suc i) pieces) (sym e) in
+      let d : drop i pieces ≡ p ∷ drop (suc i) pieces = drop-cons pieces i p l
+      ∙ ap (λ (x : Piece). x ∷ drop (suc i) pieces) (sym e) in
       ap (λ (xs : List PlainPiece). xs ++ gone (drop (i + 1) pieces)) (map-append piece_of all news)
       ∙ append_assoc (pieces_of all) (pieces_of news) (gone (drop (i + 1) pieces))
       ∙ ap (λ (xs : List PlainPiece). pieces_of all ++ (xs ++ gone (drop (i + 1) pieces))) is
-      ∙ ap (λ (k : ℕ). pieces_of all ++ (book op before (piece_of p) ++ gone (drop k pieces))) (add-one i)
+      ∙ ap (λ (k : ℕ). pieces_of all ++ (book op before (piece_of p) ++ gone (drop k pieces)))
+      (add-one i)
       ∙ sym (ap (λ (xs : List Piece). pieces_of all ++ gone xs) d)
       ∙ so
 
-  pub more_of : (all news after pieces : List Piece) (i : ℕ) (p : Piece) (goal : List PlainPiece) → i < length pieces → p ≡ get_or pieces i p → pieces_of news ≡ book op before (piece_of p)
-      → after ≡ all ++ news → pieces_of all ++ gone (drop i pieces) ≡ goal → pieces_of after ++ gone (drop (i + 1) pieces) ≡ goal
+  pub more_of : (all news after pieces : List Piece) (i : ℕ) (p : Piece) (goal : List PlainPiece)
+      → i < length pieces → p ≡ get_or pieces i p → pieces_of news ≡ book op before (piece_of p)
+      → after ≡ all ++ news → pieces_of all ++ gone (drop i pieces) ≡ goal
+      → pieces_of after ++ gone (drop (i + 1) pieces) ≡ goal
   more_of all news after pieces i p goal l e is so h =
-      ap (λ (xs : List Piece). pieces_of xs ++ gone (drop (i + 1) pieces)) so ∙ more all news pieces i p goal l e is h
+      ap (λ (xs : List Piece). pieces_of xs ++ gone (drop (i + 1) pieces)) so
+      ∙ more all news pieces i p goal l e is h
 
 pub when_empty : (n : ℕ) → true ≡ (n == 0) → n ≡ 0
 when_empty n e = grind (arith, e)
@@ -54,55 +64,73 @@ when_empty n e = grind (arith, e)
 pub when_some : (n : ℕ) → false ≡ (n == 0) → n ≡ 0 → ⊥
 when_some n e z = grind (arith, e, z)
 
-pub typed_at : (tables : Tables) (pieces : List Piece) (i : ℕ) (p : Piece) → i < length pieces → p ≡ get_or pieces i p → AllTyped tables (pieces_of pieces) → IsTyped tables (piece_of p)
+pub typed_at : (tables : Tables) (pieces : List Piece) (i : ℕ) (p : Piece) → i < length pieces
+    → p ≡ get_or pieces i p → AllTyped tables (pieces_of pieces) → IsTyped tables (piece_of p)
 typed_at tables pieces i p l e h = h (piece_of p) (in_map piece_of p pieces (in_at pieces i p l e))
 
 -- ---- operators one after the other
 
-each_typed : (book : Book) → IsLawfulBook book → (tables : Tables) (ops : List Operator) (ps : List PlainPiece) → IsLawful tables → AllAccepted tables ops → AllTyped (behind_each tables ops) ps
+each_typed : (book : Book) → IsValidBook book
+    → (tables : Tables) (ops : List Operator) (ps : List PlainPiece) → IsValid tables
+    → AllOperatorsAccepted tables ops → AllTyped (schema_after_each tables ops) ps
     → AllTyped tables (through_each book tables ops ps)
-each_typed book lawful tables [] ps good a y = y
-each_typed book lawful tables (op ∷ ops) ps good a y =
-    all_typed book lawful tables op good a.0 (through_each book (behind tables op) ops ps)
-    (each_typed book lawful (behind tables op) ops ps (next_is_lawful tables op good a.0) a.1 y)
+each_typed book valid tables [] ps good a y = y
+each_typed book valid tables (op ∷ ops) ps good a y =
+    all_typed book valid tables op good a.0 (through_each book (schema_after tables op) ops ps)
+    (each_typed book valid (schema_after tables op) ops ps (next_is_valid tables op good a.0) a.1 y)
 
 -- the first of operators that are all accepted is
-pub first_accepted : (tables : Tables) (ops : List Op) (op : Op) → 1 ≤ length ops → op ≡ get_or ops 0 op → AllAccepted tables (operators_of ops)
+pub first_accepted : (tables : Tables) (ops : List Op) (op : Op) → 1 ≤ length ops
+    → op ≡ get_or ops 0 op → AllOperatorsAccepted tables (operators_of ops)
     → op_fault tables (operator_of op) ≡ None
 first_accepted tables [] op l e a = absurd (omega arith)
 first_accepted tables (x ∷ xs) op l e a = ap (λ (o : Op). op_fault tables (operator_of o)) e ∙ a.0
 
-pub rest_typed : (book : Book) → IsLawfulBook book → (tables next : Tables) (ops : List Op) (op : Op) (ps news : List PlainPiece) → IsLawful tables → 1 ≤ length ops → op ≡ get_or ops 0 op
-    → AllAccepted tables (operators_of ops) → AllTyped (behind_each tables (operators_of ops)) ps → next ≡ behind tables (operator_of op)
-    → news ≡ through_each book next (operators_of (take (length ops - 1) (drop 1 ops))) ps → AllTyped (behind tables (operator_of op)) news
-rest_typed book lawful tables next [] op ps news good l e a y n is = absurd (omega arith)
-rest_typed book lawful tables next (x ∷ xs) op ps news good l e a y n is =
+pub rest_typed : (book : Book) → IsValidBook book
+    → (tables next : Tables) (ops : List Op) (op : Op) (ps news : List PlainPiece) → IsValid tables
+    → 1 ≤ length ops → op ≡ get_or ops 0 op
+    → AllOperatorsAccepted tables (operators_of ops)
+    → AllTyped (schema_after_each tables (operators_of ops)) ps
+    → next ≡ schema_after tables (operator_of op)
+    → news ≡ through_each book next (operators_of (take (length ops - 1) (drop 1 ops))) ps
+    → AllTyped (schema_after tables (operator_of op)) news
+rest_typed book valid tables next [] op ps news good l e a y n is = absurd (omega arith)
+rest_typed book valid tables next (x ∷ xs) op ps news good l e a y n is =
     let short : length xs ≤ length (x ∷ xs) - 1 = omega arith in
-    let rest : take (length (x ∷ xs) - 1) (drop 1 (x ∷ xs)) ≡ xs = take_all (length (x ∷ xs) - 1) xs short in
+    let rest : take (length (x ∷ xs) - 1) (drop 1 (x ∷ xs)) ≡ xs =
+    take_all (length (x ∷ xs) - 1) xs short in
     let same : operator_of op ≡ operator_of x = ap operator_of e in
-    let now : next ≡ behind tables (operator_of x) = n ∙ ap (behind tables) same in
-    let all : news ≡ through_each book (behind tables (operator_of x)) (operators_of xs) ps
-    = is ∙ ap (λ (ys : List Op). through_each book next (operators_of ys) ps) rest ∙ ap (λ (t : Tables). through_each book t (operators_of xs) ps) now in
-    subst (λ (o : Operator). AllTyped (behind tables o) news) (sym same)
-    (subst (λ (qs : List PlainPiece). AllTyped (behind tables (operator_of x)) qs) (sym all)
-    (each_typed book lawful (behind tables (operator_of x)) (operators_of xs) ps (next_is_lawful tables (operator_of x) good a.0) a.1 y))
+    let now : next ≡ schema_after tables (operator_of x) = n ∙ ap (schema_after tables) same in
+    let all : news ≡ through_each book (schema_after tables (operator_of x)) (operators_of xs) ps
+    = is ∙ ap (λ (ys : List Op). through_each book next (operators_of ys) ps) rest
+    ∙ ap (λ (t : Tables). through_each book t (operators_of xs) ps) now in
+    subst (λ (o : Operator). AllTyped (schema_after tables o) news) (sym same)
+    (subst (λ (qs : List PlainPiece). AllTyped (schema_after tables (operator_of x)) qs) (sym all)
+    (each_typed book valid (schema_after tables (operator_of x)) (operators_of xs) ps
+    (next_is_valid tables (operator_of x) good a.0) a.1 y))
 
-pub all_are : (book : Book) (tables next : Tables) (ops : List Op) (op : Op) (ps news all : List PlainPiece) → 1 ≤ length ops → op ≡ get_or ops 0 op
-    → next ≡ behind tables (operator_of op) → news ≡ through_each book next (operators_of (take (length ops - 1) (drop 1 ops))) ps
-    → all ≡ through book (operator_of op) tables news → all ≡ through_each book tables (operators_of ops) ps
+pub all_are : (book : Book) (tables next : Tables) (ops : List Op) (op : Op)
+    (ps news all : List PlainPiece) → 1 ≤ length ops → op ≡ get_or ops 0 op
+    → next ≡ schema_after tables (operator_of op)
+    → news ≡ through_each book next (operators_of (take (length ops - 1) (drop 1 ops))) ps
+    → all ≡ through book (operator_of op) tables news
+    → all ≡ through_each book tables (operators_of ops) ps
 all_are book tables next [] op ps news all l e n is so = absurd (omega arith)
 all_are book tables next (x ∷ xs) op ps news all l e n is so =
     let short : length xs ≤ length (x ∷ xs) - 1 = omega arith in
-    let rest : take (length (x ∷ xs) - 1) (drop 1 (x ∷ xs)) ≡ xs = take_all (length (x ∷ xs) - 1) xs short in
+    let rest : take (length (x ∷ xs) - 1) (drop 1 (x ∷ xs)) ≡ xs =
+    take_all (length (x ∷ xs) - 1) xs short in
     let same : operator_of op ≡ operator_of x = ap operator_of e in
-    let now : next ≡ behind tables (operator_of x) = n ∙ ap (behind tables) same in
+    let now : next ≡ schema_after tables (operator_of x) = n ∙ ap (schema_after tables) same in
     so ∙ ap (λ (o : Operator). through book o tables news) same
     ∙ ap (through book (operator_of x) tables)
-    (is ∙ ap (λ (ys : List Op). through_each book next (operators_of ys) ps) rest ∙ ap (λ (t : Tables). through_each book t (operators_of xs) ps) now)
+    (is ∙ ap (λ (ys : List Op). through_each book next (operators_of ys) ps) rest
+    ∙ ap (λ (t : Tables). through_each book t (operators_of xs) ps) now)
 
 -- ---- one version
 
-module _ (vs : List Version) (are : AreVersions None no_tables (map version_of vs)) (k : ℕ) (v : Version) (l : k < length vs) (e : v ≡ get_or vs k v) where
+module _ (vs : List Version) (are : AreVersions None no_tables (map version_of vs)) (k : ℕ)
+    (v : Version) (l : k < length vs) (e : v ≡ get_or vs k v) where
   abbrev pub all : List PlainVersion
   all = map version_of vs
 
@@ -112,57 +140,74 @@ module _ (vs : List Version) (are : AreVersions None no_tables (map version_of v
   here : slice_get (map version_of vs) k ≡ Some (version_of v)
   here = version_at_place vs k v l e
 
-  sides : Leads (tables_from no_tables (map version_of vs) k) (tables_from no_tables (map version_of vs) (k + 1)) (version_of v)
-  sides = leads None no_tables (map version_of vs) k (version_of v) are (version_at_place vs k v l e)
+  sides : Leads (tables_from no_tables (map version_of vs) k)
+      (tables_from no_tables (map version_of vs) (k + 1)) (version_of v)
+  sides = leads None no_tables (map version_of vs) k (version_of v) are
+      (version_at_place vs k v l e)
 
   -- to the version before
 
-  pub step_lawful : (before : Tables) → before ≡ at k → IsLawful before
-  step_lawful before b = subst IsLawful (sym b) (lawful_at all are k)
+  pub step_valid : (before : Tables) → before ≡ at k → IsValid before
+  step_valid before b = subst IsValid (sym b) (valid_at all are k)
 
   pub step_accepted : (before : Tables) → before ≡ at k → op_fault before (operator_of v.op) ≡ None
-  step_accepted before b = subst (λ (t : Tables). op_fault t (operator_of v.op) ≡ None) (sym b) sides.accepted
+  step_accepted before b = subst (λ (t : Tables). op_fault t (operator_of v.op) ≡ None) (sym b)
+      sides.accepted
 
-  pub step_typed : (before : Tables) (ps : List PlainPiece) → before ≡ at k → AllTyped (at (k + 1)) ps → AllTyped (behind before (operator_of v.op)) ps
+  pub step_typed : (before : Tables) (ps : List PlainPiece) → before ≡ at k
+      → AllTyped (at (k + 1)) ps → AllTyped (schema_after before (operator_of v.op)) ps
   step_typed before ps b y =
-      subst (λ (t : Tables). AllTyped t ps) (sides.next ∙ sides.tables ∙ ap (λ (t : Tables). behind t (operator_of v.op)) (sym b)) y
+      subst (λ (t : Tables). AllTyped t ps) (sides.next ∙ sides.tables
+      ∙ ap (λ (t : Tables). schema_after t (operator_of v.op)) (sym b)) y
 
-  pub step_is : (book : Book) (before : Tables) (ps news : List PlainPiece) → before ≡ at k → news ≡ through book (operator_of v.op) before ps
+  pub step_is : (book : Book) (before : Tables) (ps news : List PlainPiece) → before ≡ at k
+      → news ≡ through book (operator_of v.op) before ps
       → news ≡ to_previous book (map version_of vs) k ps
   step_is book before ps news b is =
-      is ∙ ap (λ (t : Tables). through book (operator_of v.op) t ps) b ∙ ap (λ o. through_operator book (at k) o ps) (sym here)
+      is ∙ ap (λ (t : Tables). through book (operator_of v.op) t ps) b
+      ∙ ap (λ o. through_operator book (at k) o ps) (sym here)
 
   -- to the next version
 
-  pub back_lawful : IsLawful v.schema
-  back_lawful = subst IsLawful sides.next (lawful_at all are (k + 1))
+  pub back_valid : IsValid v.schema
+  back_valid = subst IsValid sides.next (valid_at all are (k + 1))
 
   pub back_few : HaveFewNodes (operators_of v.inverse.items)
   back_few = counted_inverse (operator_of v.op) (operators_of v.inverse.items) sides.counted
 
-  pub back_accepted : AllAccepted v.schema (operators_of v.inverse.items)
+  pub back_accepted : AllOperatorsAccepted v.schema (operators_of v.inverse.items)
   back_accepted = step (operators_of v.inverse.items) sides.inverse
     where
-      step : (ops : List Operator) → inverse_fault (at k) (operator_of v.op) ops ≡ None → AllAccepted v.schema ops
+      step : (ops : List Operator) → inverse_fault (at k) (operator_of v.op) ops ≡ None
+          → AllOperatorsAccepted v.schema ops
       step [] i = tt
-      step (x ∷ inverse) i = subst (λ (t : Tables). AllAccepted t (x ∷ inverse)) (sym sides.tables) (accepted_leads_back (at k) (operator_of v.op) x inverse i).0
+      step (x ∷ inverse) i = subst (λ (t : Tables). AllOperatorsAccepted t (x ∷ inverse))
+          (sym sides.tables) (accepted_leads_back (at k) (operator_of v.op) x inverse i).0
 
-  pub back_typed : (ps : List PlainPiece) → (length v.inverse.items ≡ 0 → ⊥) → AllTyped (at k) ps → AllTyped (behind_each v.schema (operators_of v.inverse.items)) ps
+  pub back_typed : (ps : List PlainPiece) → (length v.inverse.items ≡ 0 → ⊥) → AllTyped (at k) ps
+      → AllTyped (schema_after_each v.schema (operators_of v.inverse.items)) ps
   back_typed ps some y = step v.inverse.items some sides.inverse
     where
-      step : (ops : List Op) → (length ops ≡ 0 → ⊥) → inverse_fault (at k) (operator_of v.op) (operators_of ops) ≡ None → AllTyped (behind_each v.schema (operators_of ops)) ps
+      step : (ops : List Op) → (length ops ≡ 0 → ⊥)
+          → inverse_fault (at k) (operator_of v.op) (operators_of ops) ≡ None
+          → AllTyped (schema_after_each v.schema (operators_of ops)) ps
       step [] s i = absurd (s refl)
       step (x ∷ inverse) s i =
           subst (λ (t : Tables). AllTyped t ps)
-          (sym (ap (λ (t : Tables). behind_each t (operators_of (x ∷ inverse))) sides.tables
-          ∙ (accepted_leads_back (at k) (operator_of v.op) (operator_of x) (operators_of inverse) i).1)) y
+          (sym (ap (λ (t : Tables). schema_after_each t (operators_of (x ∷ inverse))) sides.tables
+          ∙ (accepted_leads_back (at k) (operator_of v.op) (operator_of x) (operators_of inverse)
+          i).1)) y
 
-  pub back_is : (book : Book) (ps news : List PlainPiece) → news ≡ through_each book v.schema (operators_of v.inverse.items) ps → news ≡ to_next book (map version_of vs) k ps
+  pub back_is : (book : Book) (ps news : List PlainPiece)
+      → news ≡ through_each book v.schema (operators_of v.inverse.items) ps
+      → news ≡ to_next book (map version_of vs) k ps
   back_is book ps news is = is ∙ ap (λ o. through_inverse book o ps) (sym here)
 
-  pub back_stays : (book : Book) (ps : List PlainPiece) → length v.inverse.items ≡ 0 → ps ≡ to_next book (map version_of vs) k ps
+  pub back_stays : (book : Book) (ps : List PlainPiece) → length v.inverse.items ≡ 0
+      → ps ≡ to_next book (map version_of vs) k ps
   back_stays book ps none = back_is book ps ps (step v.inverse.items none)
     where
-      step : (ops : List Op) → length ops ≡ 0 → ps ≡ through_each book v.schema (operators_of ops) ps
+      step : (ops : List Op) → length ops ≡ 0
+          → ps ≡ through_each book v.schema (operators_of ops) ps
       step [] z = refl
       step (x ∷ ops) z = absurd (omega arith)

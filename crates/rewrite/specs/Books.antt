@@ -1,6 +1,6 @@
 -- A book's rules, by what each of them handles and answers.
 use Rattle.std.specs.Prelude.{List}
-use Rattle.prima_base.specs.declared.refusals.OpKind.{OpKind}
+use Rattle.prima_base.specs.declared.refusal.OpKind.{OpKind}
 use Rattle.piece_meaning.specs.Rules.{Book}
 use Rattle.piece_meaning.specs.Books.{book_of, HasEachKind}
 

@@ -1,78 +1,98 @@
--- Lawful values along the versions, and the databases with losses that hold them.
+-- Valid values along the versions, and the databases with losses that hold them.
 use Rattle.std.proofs.Common.{◌≡◌, ℕ, zero, suc, Bool, true, false, List, [], ◌∷◌, ◌++◌, sym, subst}
 use Rattle.std.specs.Prelude.{cond, Option, Some, None, slice_get}
 use Rattle.std.specs.Option.{option_map}
 use Rattle.std.specs.FinMap.{get}
 use Rattle.schema_catalog.specs.Tables.{Tables}
-use Rattle.schema_catalog.specs.Databases.{Entry, Rows, Lost, Database}
+use Rattle.schema_catalog.specs.Databases.{DatabaseEntry, Rows, Lost, Database}
 use Rattle.smo_types.specs.Operators.{Operator}
 use Rattle.smo_types.specs.Commands.{PlainVersion, PlainBody, changing, evolving, PlainCommand}
 use Rattle.smo_meaning.specs.Touching.{makes, consumes}
 use Rattle.smo_meaning.specs.Losses.{IsDatabaseWithLosses}
 use Rattle.smo_meaning.specs.After.{op_fault}
-use Rattle.smo_meaning.specs.Past.{Past, past_with, past_behind, next_version}
+use Rattle.smo_meaning.specs.Past.{Past, past_with, next_past, next_version}
 use Rattle.smo_meaning.specs.History.{past_after}
-use Rattle.smo_meaning.specs.LawfulValues.{EntryHolds, HoldsValues, BodyHolds, CommandsHold}
+use Rattle.smo_meaning.specs.ValidValues.{EntryHolds, HoldsValues, BodyHolds, CommandsHold}
 use Rattle.version_ways.specs.Whole.{whole_entry, whole}
 use Rattle.version_ways.specs.Migration.{undone}
 use Rattle.version_ways.proofs.WayDatabases.{unnamed_at}
 use Rattle.version_ways.proofs.WholeDatabases.{whole_at, whole_database}
-use Rattle.piece_meaning.specs.Constants.{LawfulInOperator, LawfulInOperators, LawfulInVersions, LawfulInEvolution, LawfulInEvolutions}
-use Rattle.piece_meaning.specs.Rules.{IsLawfulDatabase}
-use Rattle.smo_meaning.specs.LawfulValues.{VersionsHold}
+use Rattle.piece_meaning.specs.Constants.{ValidInOperator, ValidInOperators, ValidInVersions}
+use Rattle.piece_meaning.specs.Constants.{ValidInEvolution, ValidInEvolutions}
+use Rattle.piece_meaning.specs.Rules.{IsValidDatabase}
+use Rattle.smo_meaning.specs.ValidValues.{VersionsHold}
 
-whole_holds : (x : Option Entry) → EntryHolds x → EntryHolds (option_map whole_entry x)
+whole_holds : (x : Option DatabaseEntry) → EntryHolds x → EntryHolds (option_map whole_entry x)
 whole_holds None h = tt
 whole_holds (Some (Rows rows)) h = h
 whole_holds (Some (Lost k i)) h = λ row m. absurd m
 
-pub whole_lawful : (tables : Tables) (db : Database) → IsDatabaseWithLosses tables db → HoldsValues db → IsLawfulDatabase tables (whole db)
-whole_lawful tables db h w = record {
+pub whole_valid : (tables : Tables) (db : Database) → IsDatabaseWithLosses tables db
+    → HoldsValues db → IsValidDatabase tables (whole db)
+whole_valid tables db h w = record {
   database = whole_database tables db h;
   values = λ n. subst EntryHolds (sym (whole_at db n)) (whole_holds (get db n) (w n));
 }
 
-pub undone_holds : (k : ℕ) (before : Tables) (op : Operator) (db : Database) → op_fault before op ≡ None → HoldsValues db → HoldsValues (undone k before op db)
-undone_holds k before op db accepted h = λ n. subst EntryHolds (sym (unnamed_at k before op accepted db n)) (step (consumes before op n) (makes before op n) (get db n) (h n))
+pub undone_holds : (k : ℕ) (before : Tables) (op : Operator) (db : Database)
+    → op_fault before op ≡ None → HoldsValues db → HoldsValues (undone k before op db)
+undone_holds k before op db accepted h = λ n.
+    subst EntryHolds (sym (unnamed_at k before op accepted db n))
+    (step (consumes before op n) (makes before op n) (get db n) (h n))
   where
-    step : (a b : Bool) (x : Option Entry) → EntryHolds x → EntryHolds (cond a (Some (Lost k 1)) (cond b None x))
+    step : (a b : Bool) (x : Option DatabaseEntry) → EntryHolds x
+        → EntryHolds (cond a (Some (Lost k 1)) (cond b None x))
     step true b x h = tt
     step false true x h = tt
     step false false x h = h
 
 -- ---- versions
 
-pub version_holds : (versions : List PlainVersion) (k : ℕ) (v : PlainVersion) → VersionsHold versions → slice_get versions k ≡ Some v → BodyHolds (evolving v.op v.inverse)
+pub version_holds : (versions : List PlainVersion) (k : ℕ) (v : PlainVersion)
+    → VersionsHold versions → slice_get versions k ≡ Some v → BodyHolds (evolving v.op v.inverse)
 version_holds [] k v h e = absurd (cc)
-version_holds (w ∷ versions) zero v h e = (let same : w ≡ v = cc in subst (λ (x : PlainVersion). BodyHolds (evolving x.op x.inverse)) same h.0)
+version_holds (w ∷ versions) zero v h e = (let same : w ≡ v = cc in
+    subst (λ (x : PlainVersion). BodyHolds (evolving x.op x.inverse)) same h.0)
 version_holds (w ∷ versions) (suc k) v h e = version_holds versions k v h.1 e
 
-pub version_lawful : (versions : List PlainVersion) (k : ℕ) (v : PlainVersion) → LawfulInVersions versions → slice_get versions k ≡ Some v
-    → LawfulInOperator v.op × LawfulInOperators v.inverse
-version_lawful [] k v h e = absurd (cc)
-version_lawful (w ∷ versions) zero v h e = (let same : w ≡ v = cc in subst (λ (x : PlainVersion). LawfulInOperator x.op × LawfulInOperators x.inverse) same h.0)
-version_lawful (w ∷ versions) (suc k) v h e = version_lawful versions k v h.1 e
+pub version_valid : (versions : List PlainVersion) (k : ℕ) (v : PlainVersion)
+    → ValidInVersions versions → slice_get versions k ≡ Some v
+    → ValidInOperator v.op × ValidInOperators v.inverse
+version_valid [] k v h e = absurd (cc)
+version_valid (w ∷ versions) zero v h e = (let same : w ≡ v = cc in
+    subst (λ (x : PlainVersion). ValidInOperator x.op × ValidInOperators x.inverse) same h.0)
+version_valid (w ∷ versions) (suc k) v h e = version_valid versions k v h.1 e
 
-one_more : (versions : List PlainVersion) (v : PlainVersion) → VersionsHold versions → BodyHolds (evolving v.op v.inverse) → VersionsHold (versions ++ v ∷ [])
+one_more : (versions : List PlainVersion) (v : PlainVersion) → VersionsHold versions
+    → BodyHolds (evolving v.op v.inverse) → VersionsHold (versions ++ v ∷ [])
 one_more [] v h g = (g, tt)
 one_more (w ∷ versions) v h g = (h.0, one_more versions v h.1 g)
 
-pub held_behind : (past : Past) (stamp : ℕ) (body : PlainBody) → VersionsHold past.versions → BodyHolds body → VersionsHold (past_behind stamp body past).versions
-held_behind past stamp (changing changes) h g = h
-held_behind past stamp (evolving op inverse) h g = one_more past.versions (next_version stamp op inverse past) h g
+pub held_next : (past : Past) (stamp : ℕ) (body : PlainBody) → VersionsHold past.versions
+    → BodyHolds body → VersionsHold (next_past stamp body past).versions
+held_next past stamp (changing changes) h g = h
+held_next past stamp (evolving op inverse) h g =
+    one_more past.versions (next_version stamp op inverse past) h g
 
-pub held_after : (past : Past) (commands : List PlainCommand) → VersionsHold past.versions → CommandsHold commands → VersionsHold (past_after past commands).versions
+pub held_after : (past : Past) (commands : List PlainCommand) → VersionsHold past.versions
+    → CommandsHold commands → VersionsHold (past_after past commands).versions
 held_after past [] h g = h
-held_after past (c ∷ commands) h g = held_after (past_with past c) commands (held_behind past c.stamp c.body h g.0) g.1
+held_after past (c ∷ commands) h g = held_after (past_with past c) commands
+    (held_next past c.stamp c.body h g.0) g.1
 
-one_more_lawful : (versions : List PlainVersion) (v : PlainVersion) → LawfulInVersions versions → LawfulInEvolution (evolving v.op v.inverse) → LawfulInVersions (versions ++ v ∷ [])
-one_more_lawful [] v h g = (g, tt)
-one_more_lawful (w ∷ versions) v h g = (h.0, one_more_lawful versions v h.1 g)
+one_more_valid : (versions : List PlainVersion) (v : PlainVersion) → ValidInVersions versions
+    → ValidInEvolution (evolving v.op v.inverse) → ValidInVersions (versions ++ v ∷ [])
+one_more_valid [] v h g = (g, tt)
+one_more_valid (w ∷ versions) v h g = (h.0, one_more_valid versions v h.1 g)
 
-pub lawful_behind : (past : Past) (stamp : ℕ) (body : PlainBody) → LawfulInVersions past.versions → LawfulInEvolution body → LawfulInVersions (past_behind stamp body past).versions
-lawful_behind past stamp (changing changes) h g = h
-lawful_behind past stamp (evolving op inverse) h g = one_more_lawful past.versions (next_version stamp op inverse past) h g
+pub valid_next : (past : Past) (stamp : ℕ) (body : PlainBody) → ValidInVersions past.versions
+    → ValidInEvolution body → ValidInVersions (next_past stamp body past).versions
+valid_next past stamp (changing changes) h g = h
+valid_next past stamp (evolving op inverse) h g =
+    one_more_valid past.versions (next_version stamp op inverse past) h g
 
-pub lawful_after : (past : Past) (commands : List PlainCommand) → LawfulInVersions past.versions → LawfulInEvolutions commands → LawfulInVersions (past_after past commands).versions
-lawful_after past [] h g = h
-lawful_after past (c ∷ commands) h g = lawful_after (past_with past c) commands (lawful_behind past c.stamp c.body h g.0) g.1
+pub valid_after : (past : Past) (commands : List PlainCommand) → ValidInVersions past.versions
+    → ValidInEvolutions commands → ValidInVersions (past_after past commands).versions
+valid_after past [] h g = h
+valid_after past (c ∷ commands) h g = valid_after (past_with past c) commands
+    (valid_next past c.stamp c.body h g.0) g.1

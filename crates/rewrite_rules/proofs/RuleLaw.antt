@@ -1,24 +1,26 @@
--- The law of the rule of each kind: what the unfoldings have in common with the piece, those of them that live have too.
-use Rattle.std.proofs.Common.{◌≡◌, Bool, true, false, cond, List, [], ◌∷◌, ◌++◌, refl, sym, ap, subst, ◌∙◌, inl, inr}
+-- The law of the rule of each kind: what the unfoldings have in common with the piece, those of
+-- them that live have too.
+use Rattle.std.proofs.Common.{◌≡◌, Bool, true, false, cond, List, [], ◌∷◌, ◌++◌, refl, sym, ap}
+use Rattle.std.proofs.Common.{subst, ◌∙◌, inl, inr}
 use Rattle.std.specs.Prelude.{not, None}
 use Rattle.std.specs.List.{filter, flat_map}
 use Rattle.relations.specs.Sets.{set_of}
 use Rattle.relations.proofs.SetLaws.{from_filter}
 use Rattle.prima_base.specs.Order.{row_cmp}
-use Rattle.prima_base.specs.declared.refusals.OpKind.{OpKind}
+use Rattle.prima_base.specs.declared.refusal.OpKind.{OpKind}
 use Rattle.schema_catalog.specs.Tables.{Tables}
 use Rattle.schema_catalog.specs.Databases.{Database}
 use Rattle.smo_types.specs.Operators.{Operator}
 use Rattle.smo_meaning.specs.OneRow.{Row}
 use Rattle.smo_meaning.specs.OperatorKinds.{operator_kind}
-use Rattle.smo_meaning.specs.After.{op_fault, behind, IsLawful}
-use Rattle.smo_meaning.specs.LawfulValues.{IsLawfulDatabase}
+use Rattle.smo_meaning.specs.After.{op_fault, schema_after, IsValid}
+use Rattle.smo_meaning.specs.ValidValues.{IsValidDatabase}
 use Rattle.dead_conditions.specs.Tried.{is_killed}
 use Rattle.dead_conditions.proofs.DeadLaws.{killed_is_dead}
 use Rattle.piece_meaning.specs.Pieces.{PlainPiece, piece_answers}
 use Rattle.piece_meaning.specs.Typed.{IsTyped, AllTyped, atom_kinds}
-use Rattle.piece_meaning.specs.Rules.{IsLawfulRule, KeepsMeaning}
-use Rattle.piece_meaning.proofs.ViewsLaw.{views_lawful}
+use Rattle.piece_meaning.specs.Rules.{IsValidRule, KeepsMeaning}
+use Rattle.piece_meaning.proofs.ViewsLaw.{views_valid}
 use Rattle.piece_prune.specs.DeadPieces.{IsDeadPiece, lives}
 use Rattle.piece_prune.proofs.Pruned.{answers_nothing}
 use Rattle.rule_views.specs.OperatorViews.{operator_views}
@@ -31,25 +33,31 @@ from_not : (b : Bool) → not b ≡ false → b ≡ true
 from_not true e = refl
 from_not false e = absurd (cc)
 
-found_dead : (tables : Tables) (p : PlainPiece) → IsTyped tables p → lives p ≡ false → IsDeadPiece tables p
-found_dead tables p typed e = killed_is_dead (atom_kinds tables p.atoms) p.cond typed.cond (from_not (is_killed p.cond) e)
+found_dead : (tables : Tables) (p : PlainPiece) → IsTyped tables p → lives p ≡ false
+    → IsDeadPiece tables p
+found_dead tables p typed e = killed_is_dead (atom_kinds tables p.atoms) p.cond typed.cond
+    (from_not (is_killed p.cond) e)
 
 -- they answer what all of them answer
-module _ (tables : Tables) (db : Database) (d : IsLawfulDatabase tables db) where
+module _ (tables : Tables) (db : Database) (d : IsValidDatabase tables db) where
   abbrev answers : List PlainPiece → List Row
   answers = flat_map (piece_answers tables db)
 
-  living_answer : (ps : List PlainPiece) → AllTyped tables ps → answers (filter lives ps) ≡ answers ps
+  living_answer : (ps : List PlainPiece) → AllTyped tables ps
+      → answers (filter lives ps) ≡ answers ps
   living_answer [] typed = refl
   living_answer (p ∷ ps) typed = step (lives p) refl (living_answer ps (λ q m. typed q (inr m)))
     where
-      step : (b : Bool) → lives p ≡ b → answers (filter lives ps) ≡ answers ps → answers (cond b (p ∷ filter lives ps) (filter lives ps)) ≡ answers (p ∷ ps)
+      step : (b : Bool) → lives p ≡ b → answers (filter lives ps) ≡ answers ps
+          → answers (cond b (p ∷ filter lives ps) (filter lives ps)) ≡ answers (p ∷ ps)
       step true e more = ap (λ (rows : List Row). piece_answers tables db p ++ rows) more
       step false e more =
-          more ∙ sym (ap (λ (rows : List Row). rows ++ answers ps) (answers_nothing tables db d p (found_dead tables p (typed p (inl refl)) e)))
+          more ∙ sym (ap (λ (rows : List Row). rows ++ answers ps)
+          (answers_nothing tables db d p (found_dead tables p (typed p (inl refl)) e)))
 
 -- and keep the law where all of them do
-living_keep : (tables : Tables) (op : Operator) (p : PlainPiece) (news : List PlainPiece) → KeepsMeaning tables op p news → KeepsMeaning tables op p (filter lives news)
+living_keep : (tables : Tables) (op : Operator) (p : PlainPiece) (news : List PlainPiece)
+    → KeepsMeaning tables op p news → KeepsMeaning tables op p (filter lives news)
 living_keep tables op p news all = record {
   law = λ db d. ap (set_of row_cmp) (living_answer tables db d news all.typed) ∙ all.law db d;
   typed = λ q m. all.typed q (from_filter lives q news m).0;
@@ -60,11 +68,15 @@ living_keep tables op p news all = record {
 
 -- ---- the rules
 
-pub lawful : (kind : OpKind) → IsLawfulRule kind (living_by_views operator_views)
-lawful kind = record {
-  keeps = λ tables op p k good accepted typed. living_keep tables op p _ ((views_lawful kind operator_views (kind_views kind)).keeps tables op p k good accepted typed);
+pub valid : (kind : OpKind) → IsValidRule kind (living_by_views operator_views)
+valid kind = record {
+  keeps = λ tables op p k good accepted typed.
+      living_keep tables op p _ ((views_valid kind operator_views (kind_views kind)).keeps tables op
+      p k good accepted typed);
 }
 
-pub kept : (tables : Tables) (op : Operator) (p : PlainPiece) (news : List PlainPiece) → IsLawful tables → op_fault tables op ≡ None → IsTyped (behind tables op) p
+pub kept : (tables : Tables) (op : Operator) (p : PlainPiece) (news : List PlainPiece)
+    → IsValid tables → op_fault tables op ≡ None → IsTyped (schema_after tables op) p
     → news ≡ living_by_views operator_views op tables p → KeepsMeaning tables op p news
-kept tables op p news h e t is = subst (KeepsMeaning tables op p) (sym is) ((lawful (operator_kind op)).keeps tables op p refl h e t)
+kept tables op p news h e t is = subst (KeepsMeaning tables op p) (sym is)
+    ((valid (operator_kind op)).keeps tables op p refl h e t)

@@ -1,5 +1,5 @@
 ghost use Rattle.std.specs.Prelude.{◌≡◌, IfOk};
-ghost use Rattle.prima_base.specs.declared.refusals.OpKind.TheVariants.{AddColumn as Handled};
+ghost use Rattle.prima_base.specs.declared.refusal.OpKind.TheVariants.{AddColumn as Handled};
 ghost use Rattle.schema_catalog.specs.Tables.{Tables};
 ghost use Rattle.cond_expr.specs.Seen.{tree};
 ghost use Rattle.smo_types.specs.Operators.{add_column};
@@ -8,8 +8,8 @@ ghost use Rattle.rule_views.specs.OperatorViews.{operator_views};
 ghost use Rattle.rewrite_rules.specs.LivingUnfoldings.{living_by_views};
 
 use crate::Rule;
-use crate::table_views::{one, one_view};
-use crate::unfolding::unfolded;
+use crate::table_view::{one, one_view};
+use crate::unfolded_piece::unfolded;
 use crate::view::computed;
 use cond_expr::Expr;
 use piece_ir::{Piece, TableViews};
@@ -43,7 +43,7 @@ impl Rule for AddColumnRule {
 
     ghost answers = { λ _. living_by_views operator_views };
 
-    #[tactic(auto, using(crate::proofs::RuleLaw::lawful))]
+    #[tactic(auto, using(crate::proofs::RuleLaw::valid))]
     fn kind(&self) -> OpKind {
         OpKind::AddColumn
     }

@@ -1,6 +1,6 @@
 ghost use Rattle.std.specs.Prelude.{◌≡◌, IfOk, List};
 ghost use Rattle.prima_base.specs.Columns.{Column};
-ghost use Rattle.prima_base.specs.declared.refusals.OpKind.TheVariants.{CreateTable as Handled};
+ghost use Rattle.prima_base.specs.declared.refusal.OpKind.TheVariants.{CreateTable as Handled};
 ghost use Rattle.schema_catalog.specs.Tables.{Tables};
 ghost use Rattle.smo_types.specs.Operators.{create_table};
 ghost use Rattle.piece_ir.specs.Shown.{all_views_of};
@@ -8,8 +8,8 @@ ghost use Rattle.rule_views.specs.OperatorViews.{operator_views};
 ghost use Rattle.rewrite_rules.specs.LivingUnfoldings.{living_by_views};
 
 use crate::Rule;
-use crate::table_views::one;
-use crate::unfolding::unfolded;
+use crate::table_view::one;
+use crate::unfolded_piece::unfolded;
 use piece_ir::{Piece, TableViews};
 use prima_base::{Name, NoMemory, OpKind};
 use schema_catalog::Schema;
@@ -39,7 +39,7 @@ impl Rule for CreateTableRule {
 
     ghost answers = { λ _. living_by_views operator_views };
 
-    #[tactic(auto, using(crate::proofs::RuleLaw::lawful))]
+    #[tactic(auto, using(crate::proofs::RuleLaw::valid))]
     fn kind(&self) -> OpKind {
         OpKind::CreateTable
     }

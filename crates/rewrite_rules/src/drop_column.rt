@@ -1,5 +1,5 @@
 ghost use Rattle.std.specs.Prelude.{◌≡◌, IfOk, List, ℕ};
-ghost use Rattle.prima_base.specs.declared.refusals.OpKind.TheVariants.{DropColumn as Handled};
+ghost use Rattle.prima_base.specs.declared.refusal.OpKind.TheVariants.{DropColumn as Handled};
 ghost use Rattle.schema_catalog.specs.Tables.{Tables};
 ghost use Rattle.smo_types.specs.Operators.{drop_column};
 ghost use Rattle.piece_ir.specs.Shown.{all_views_of};
@@ -7,8 +7,8 @@ ghost use Rattle.rule_views.specs.OperatorViews.{operator_views};
 ghost use Rattle.rewrite_rules.specs.LivingUnfoldings.{living_by_views};
 
 use crate::Rule;
-use crate::table_views::{one, one_view};
-use crate::unfolding::unfolded;
+use crate::table_view::{one, one_view};
+use crate::unfolded_piece::unfolded;
 use piece_ir::{Piece, TableViews, View};
 use prima_base::{Name, NoMemory, OpKind};
 use schema_catalog::Schema;
@@ -33,7 +33,7 @@ impl Rule for DropColumnRule {
 
     ghost answers = { λ _. living_by_views operator_views };
 
-    #[tactic(auto, using(crate::proofs::RuleLaw::lawful))]
+    #[tactic(auto, using(crate::proofs::RuleLaw::valid))]
     fn kind(&self) -> OpKind {
         OpKind::DropColumn
     }

@@ -1,5 +1,6 @@
-/// Pushes one boxed rule for each kind of operator, in the order of the table of operators, to a vector of boxed rules.
-/// Where memory runs out it returns with that error, by `?`. A box is made by whoever asks a book: `main`, or a test.
+/// Pushes one boxed rule for each kind of operator, in the order of the table of operators, to a
+/// vector of boxed rules. Where memory runs out it returns with that error, by `?`. A box is made
+/// by whoever asks a book: `main`, or a test.
 #[macro_export]
 macro_rules! push_every_rule {
     ($alloc:expr, $rules:expr) => {{

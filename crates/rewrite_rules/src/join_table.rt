@@ -1,5 +1,5 @@
 ghost use Rattle.std.specs.Prelude.{◌≡◌, IfOk};
-ghost use Rattle.prima_base.specs.declared.refusals.OpKind.TheVariants.{JoinTable as Handled};
+ghost use Rattle.prima_base.specs.declared.refusal.OpKind.TheVariants.{JoinTable as Handled};
 ghost use Rattle.cond_expr.specs.Seen.{test};
 ghost use Rattle.smo_types.specs.Operators.{join_table};
 ghost use Rattle.piece_ir.specs.Shown.{all_views_of};
@@ -8,8 +8,8 @@ ghost use Rattle.rewrite_rules.specs.LivingUnfoldings.{living_by_views};
 
 use crate::Rule;
 use crate::pair::paired;
-use crate::table_views::{one, one_view};
-use crate::unfolding::unfolded;
+use crate::table_view::{one, one_view};
+use crate::unfolded_piece::unfolded;
 use cond_expr::Cond;
 use piece_ir::{Piece, TableViews};
 use prima_base::{Name, NoMemory, OpKind};
@@ -43,7 +43,7 @@ impl Rule for JoinTableRule {
 
     ghost answers = { λ _. living_by_views operator_views };
 
-    #[tactic(auto, using(crate::proofs::RuleLaw::lawful))]
+    #[tactic(auto, using(crate::proofs::RuleLaw::valid))]
     fn kind(&self) -> OpKind {
         OpKind::JoinTable
     }

@@ -1,5 +1,5 @@
-//! The twelve boxed rules, one for each kind of operator: each takes a piece over the tables behind an operator to pieces
-//! over those before it, by the views of the tables that the operator makes.
+//! The twelve boxed rules, one for each kind of operator: each takes a piece over the tables after
+//! an operator to pieces over those before it, by the views of the tables that the operator makes.
 #![tactic(auto)]
 
 mod add_column;
@@ -10,7 +10,7 @@ mod drop_column;
 mod drop_table;
 mod every_rule;
 mod join_table;
-mod made_tables;
+mod made_table;
 mod merge_table;
 mod nop;
 mod pair;
@@ -18,8 +18,8 @@ mod part;
 mod partition_table;
 mod rename_column;
 mod rename_table;
-mod table_views;
-mod unfolding;
+mod table_view;
+mod unfolded_piece;
 mod view;
 
 pub use add_column::AddColumnRule;

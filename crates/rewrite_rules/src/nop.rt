@@ -1,9 +1,9 @@
-ghost use Rattle.prima_base.specs.declared.refusals.OpKind.TheVariants.{Nop as Handled};
+ghost use Rattle.prima_base.specs.declared.refusal.OpKind.TheVariants.{Nop as Handled};
 ghost use Rattle.rule_views.specs.OperatorViews.{operator_views};
 ghost use Rattle.rewrite_rules.specs.LivingUnfoldings.{living_by_views};
 
 use crate::Rule;
-use crate::unfolding::unfolded;
+use crate::unfolded_piece::unfolded;
 use piece_ir::Piece;
 use prima_base::{NoMemory, OpKind};
 use schema_catalog::Schema;
@@ -19,7 +19,7 @@ impl Rule for NopRule {
 
     ghost answers = { λ _. living_by_views operator_views };
 
-    #[tactic(auto, using(crate::proofs::RuleLaw::lawful))]
+    #[tactic(auto, using(crate::proofs::RuleLaw::valid))]
     fn kind(&self) -> OpKind {
         OpKind::Nop
     }

@@ -1,7 +1,7 @@
 ghost use Rattle.std.specs.Prelude.{◌≡◌, [], ◌∷◌, ◌++◌, IfOk, OnOk, map, not, if◌then◌else◌};
 ghost use Rattle.std.specs.List.{filter};
 ghost use Rattle.prima_base.specs.Columns.{names_of};
-ghost use Rattle.cond_expr.specs.declared.exprs.Whose.TheVariants.{Atom as AtomOf};
+ghost use Rattle.cond_expr.specs.declared.expr.Whose.TheVariants.{Atom as AtomOf};
 ghost use Rattle.cond_expr.specs.Trees.{column, for_atoms};
 ghost use Rattle.cond_expr.specs.Seen.{test};
 ghost use Rattle.smo_types.specs.Changes.{sets_of};
@@ -10,7 +10,8 @@ ghost use Rattle.smo_meaning.specs.Effects.{columns_of};
 ghost use Rattle.cond_expr.specs.Parts.{parts_but_true};
 ghost use Rattle.piece_meaning.specs.Views.{out_of};
 ghost use Rattle.piece_ir.specs.Shown.{view_of};
-ghost use Rattle.rule_views.specs.OperatorViews.{common_names, second_names, from_second, in_both, shown_in, paired};
+ghost use Rattle.rule_views.specs.OperatorViews.{common_names, second_names, from_second, in_both};
+ghost use Rattle.rule_views.specs.OperatorViews.{shown_in, paired};
 
 use crate::view::column_of;
 use cond_expr::{CmpOp, ColRef, Cond, Expr, Fill, Whose};
@@ -39,7 +40,8 @@ struct Pair<'a> {
 
 // The atom from which a column of the made table is read: a common one from the first.
 fn atom_of(first: &[(Name, ColType)], second: &[(Name, ColType)], name: &Name) -> u32
-    ensures { column (AtomOf result) name.now ≡ out_of (map from_second (second_names first.now second.now)) name.now }
+    ensures { column (AtomOf result) name.now
+        ≡ out_of (map from_second (second_names first.now second.now)) name.now }
 {
     if has_name(first, name) {
         return 0;
@@ -51,7 +53,8 @@ fn atom_of(first: &[(Name, ColType)], second: &[(Name, ColType)], name: &Name) -
 }
 
 impl Fill for Pair<'_> {
-    ghost puts = { λ p. for_atoms (λ i n. out_of (map from_second (second_names p.first.now p.second.now)) n) };
+    ghost puts = { λ p. for_atoms (λ i n. out_of
+        (map from_second (second_names p.first.now p.second.now)) n) };
 
     fn put(&self, _alloc: Global, reference: &ColRef) -> Result<Expr, NoMemory> {
         match reference.whose {
@@ -72,14 +75,15 @@ fn in_both(alloc: Global, name: &Name) -> Result<Cond, NoMemory>
     Cond::compare(alloc, CmpOp::Eq, column_of(0, name)?, column_of(1, name)?)
 }
 
-// Puts it behind the others where the column is a common one.
+// Puts it after the others where the column is a common one.
 fn push_common(
     alloc: Global,
     common: bool,
     name: &Name,
     tests: &mut Vec<Cond>,
 ) -> Result<(), NoMemory>
-    ensures { OnOk result (map test tests.new.items ≡ map test tests.old.items ++ (if common then in_both name.now ∷ [] else [])) }
+    ensures { OnOk result (map test tests.new.items ≡ map test tests.old.items
+        ++ (if common then in_both name.now ∷ [] else [])) }
 {
     if common {
         tests.push(in_both(alloc, name)?)?;
@@ -104,17 +108,20 @@ fn common_parts(
 
 // All parts: that the rows agree, and then those of the condition.
 fn pair_parts(alloc: Global, pair: &Pair<'_>, cond: &Cond) -> Result<Vec<Cond>, NoMemory>
-    ensures { IfOk result (λ v. map test v.items ≡ map in_both (common_names pair.now.first.now pair.now.second.now)
-        ++ parts_but_true (shown_in (map from_second (second_names pair.now.first.now pair.now.second.now)) (test cond.now))) }
+    ensures { IfOk result (λ v. map test v.items
+        ≡ map in_both (common_names pair.now.first.now pair.now.second.now)
+        ++ parts_but_true (shown_in (map from_second
+        (second_names pair.now.first.now pair.now.second.now)) (test cond.now))) }
 {
     let mut tests = common_parts(alloc, pair.first, pair.second)?;
     append_parts(pair, alloc, cond, &mut tests)?;
     Ok(tests)
 }
 
-// Puts the second row's column behind the others where only it has one of this name.
+// Puts the second row's column after the others where only it has one of this name.
 fn push_second(alone: bool, name: &Name, outs: &mut Vec<(Name, Expr)>) -> Result<(), NoMemory>
-    ensures { OnOk result (sets_of outs.new.items ≡ sets_of outs.old.items ++ (if alone then from_second name.now ∷ [] else [])) }
+    ensures { OnOk result (sets_of outs.new.items ≡ sets_of outs.old.items
+        ++ (if alone then from_second name.now ∷ [] else [])) }
 {
     if alone {
         outs.push((name.copy()?, column_of(1, name)?))?;
@@ -128,7 +135,8 @@ fn second_outs(
     first: &[(Name, ColType)],
     second: &[(Name, ColType)],
 ) -> Result<Vec<(Name, Expr)>, NoMemory>
-    ensures { IfOk result (λ v. sets_of v.items ≡ map from_second (second_names first.now second.now)) }
+    ensures { IfOk result (λ v. sets_of v.items
+        ≡ map from_second (second_names first.now second.now)) }
 {
     let mut outs = Vec::new(alloc);
     for (name, _) in second {
@@ -155,7 +163,8 @@ pub(crate) fn paired(
     right: &Name,
     cond: &Cond,
 ) -> Result<View, NoMemory>
-    ensures { IfOk result (λ v. view_of v ≡ paired left.now (columns_of before.now left.now) right.now (columns_of before.now right.now) (test cond.now)) }
+    ensures { IfOk result (λ v. view_of v ≡ paired left.now (columns_of before.now left.now)
+        right.now (columns_of before.now right.now) (test cond.now)) }
 {
     let first = columns_of(before, left);
     let second = columns_of(before, right);

@@ -1,5 +1,5 @@
 ghost use Rattle.std.specs.Prelude.{◌≡◌, IfOk};
-ghost use Rattle.prima_base.specs.declared.refusals.OpKind.TheVariants.{PartitionTable as Handled};
+ghost use Rattle.prima_base.specs.declared.refusal.OpKind.TheVariants.{PartitionTable as Handled};
 ghost use Rattle.schema_catalog.specs.Tables.{Tables};
 ghost use Rattle.cond_expr.specs.Seen.{test};
 ghost use Rattle.smo_types.specs.Operators.{partition_table};
@@ -9,8 +9,8 @@ ghost use Rattle.rewrite_rules.specs.LivingUnfoldings.{living_by_views};
 
 use crate::Rule;
 use crate::part::{not_met, parts_of};
-use crate::table_views::{one_view, two};
-use crate::unfolding::unfolded;
+use crate::table_view::{one_view, two};
+use crate::unfolded_piece::unfolded;
 use crate::view::selected;
 use cond_expr::Cond;
 use piece_ir::{Piece, TableViews};
@@ -49,7 +49,7 @@ impl Rule for PartitionTableRule {
 
     ghost answers = { λ _. living_by_views operator_views };
 
-    #[tactic(auto, using(crate::proofs::RuleLaw::lawful))]
+    #[tactic(auto, using(crate::proofs::RuleLaw::valid))]
     fn kind(&self) -> OpKind {
         OpKind::PartitionTable
     }

@@ -1,5 +1,5 @@
 ghost use Rattle.std.specs.Prelude.{◌≡◌, IfOk, map};
-ghost use Rattle.cond_expr.specs.declared.exprs.Whose.TheVariants.{Atom as AtomOf};
+ghost use Rattle.cond_expr.specs.declared.expr.Whose.TheVariants.{Atom as AtomOf};
 ghost use Rattle.cond_expr.specs.Trees.{column};
 ghost use Rattle.cond_expr.specs.Seen.{tree, test};
 ghost use Rattle.piece_ir.specs.Shown.{view_of};

@@ -1,5 +1,6 @@
 -- Ids in an order, kept in blocks.
-use Rattle.std.specs.Prelude.{◌≡◌, ℕ, zero, suc, ◌+◌, ◌-◌, ◌*◌, ◌^◌, ◌<◌, ◌≤◌, min, max, List, [], ◌∷◌, length, All, slice_index, vec_len, vec_capacity}
+use Rattle.std.specs.Prelude.{◌≡◌, ℕ, zero, suc, ◌+◌, ◌-◌, ◌*◌, ◌^◌, ◌<◌, ◌≤◌, min, max, List, []}
+use Rattle.std.specs.Prelude.{◌∷◌, length, All, slice_index, vec_len, vec_capacity}
 use Rattle.std.specs.List.{concat}
 use Rattle.row_index.specs.declared.index.Block.TheInside.{Inside as InsideBlock}
 use Rattle.row_index.specs.declared.index.RowIndex.TheInside.{Inside}
@@ -37,19 +38,22 @@ abbrev pub filled : List (List ℕ) → ℕ
 filled [] = 0
 filled (b ∷ blocks) = (length b - half_size) + filled blocks
 
--- how many ids may come to these blocks, at any places, where so many blocks more may come: at the worst each takes a
--- block, and each block more takes half a block of ids but for those that now stand above the halves
+-- how many ids may come to these blocks, at any places, where so many blocks more may come: at the
+-- worst each takes a block, and each block more takes half a block of ids but for those that now
+-- stand above the halves
 abbrev pub ids_left : ℕ → List (List ℕ) → ℕ
 ids_left more blocks = max more (half_size * more - filled blocks)
 
--- how many blocks may come: as many as are spare, and as there is room for among the blocks and among the numbers
+-- how many blocks may come: as many as are spare, and as there is room for among the blocks and
+-- among the numbers
 abbrev pub blocks_left : ℕ → ℕ → ℕ → ℕ
 blocks_left spare blocks starts = min spare (min blocks starts)
 
 abbrev pub ids_view : Inside → Ids
 ids_view a = record {
   ids = concat a.blocks.items;
-  room = min (ids_left (blocks_left (vec_len a.spare) (vec_capacity a.blocks - vec_len a.blocks) (vec_capacity a.starts - vec_len a.starts)) a.blocks.items) (2 ^ 64 - 1 - a.count);
+  room = min (ids_left (blocks_left (vec_len a.spare) (vec_capacity a.blocks - vec_len a.blocks)
+      (vec_capacity a.starts - vec_len a.starts)) a.blocks.items) (2 ^ 64 - 1 - a.count);
 }
 
 -- there is a block always, and each spare block is empty

@@ -1,6 +1,9 @@
-ghost use Rattle.std.specs.Prelude.{◌≡◌, ◌+◌, ◌-◌, ◌/◌, ◌<◌, ◌≤◌, ◌^◌, ◌++◌, ◌∷◌, ◌==◌, ℕ, true, [], length, All, IfOk, OnOk, take, drop, slice_index, slice_index_or, vec_len, vec_capacity};
+ghost use Rattle.std.specs.Prelude.{◌≡◌, ◌+◌, ◌-◌, ◌/◌, ◌<◌, ◌≤◌, ◌^◌, ◌++◌, ◌∷◌, ◌==◌, ℕ, true};
+ghost use Rattle.std.specs.Prelude.{[], length, All, IfOk, OnOk, take, drop, slice_index};
+ghost use Rattle.std.specs.Prelude.{slice_index_or, vec_len, vec_capacity};
 ghost use Rattle.std.specs.List.{insert, remove, concat};
-ghost use Rattle.row_index.specs.Blocks.{block_size, half_size, before, filled, ids_left, blocks_left, IsCounted};
+ghost use Rattle.row_index.specs.Blocks.{block_size, half_size, before, filled, ids_left};
+ghost use Rattle.row_index.specs.Blocks.{blocks_left, IsCounted};
 
 use prima_base::NoMemory;
 use std::alloc::Global;
@@ -96,7 +99,7 @@ impl Block {
         upper
     }
 
-    // Puts the id at this place of a full block, and what is behind the middle into an empty block.
+    // Puts the id at this place of a full block, and what is after the middle into an empty block.
     fn insert_split(&mut self, at: usize, id: usize, spare: Block) -> Block
         requires spare { spare ≡ [] }
         requires full { block_size ≤ length self.old }
@@ -116,7 +119,7 @@ impl Block {
     }
 }
 
-// Puts these ids behind. It takes no memory.
+// Puts these ids after. It takes no memory.
 fn push_all(to: &mut Vec<usize>, ids: &[usize])
     requires { vec_len to.old + length ids.now ≤ vec_capacity to.old }
     ensures items { to.new.items ≡ to.old.items ++ ids.now }
@@ -164,9 +167,10 @@ impl Model for RowIndex {
     ghost invariant = { IsIndex };
 }
 
-// Whether the place is in this block, or behind it where it is the last one.
+// Whether the place is in this block, or after it where it is the last one.
 fn is_in_block(starts: &[usize], at: usize, block: usize) -> bool
-    ensures { result ≡ true → (block < length starts.now) × (slice_index starts.now block ≤ at) × (block + 1 < length starts.now → at < slice_index starts.now (block + 1)) }
+    ensures { result ≡ true → (block < length starts.now) × (slice_index starts.now block ≤ at)
+        × (block + 1 < length starts.now → at < slice_index starts.now (block + 1)) }
 {
     if block >= starts.len() || starts[block] > at {
         return false;
@@ -209,8 +213,8 @@ fn block_at(starts: &[usize], at: usize, near: usize) -> usize
     find_block(starts, at)
 }
 
-// The block in which this place among all is, or behind which it is, and the place in it. The block near which it is
-// looked for first decides nothing.
+// The block in which this place among all is, or after which it is, and the place in it. The block
+// near which it is looked for first decides nothing.
 fn place_at(blocks: &[Block], starts: &[usize], at: usize, near: usize) -> (usize, usize)
     requires some { 0 < length blocks.now }
     requires counted { IsCounted starts.now blocks.now }
@@ -218,7 +222,8 @@ fn place_at(blocks: &[Block], starts: &[usize], at: usize, near: usize) -> (usiz
     ensures block { result.0 < length blocks.now }
     ensures place { at ≡ before result.0 blocks.now + result.1 }
     ensures inside { result.1 ≤ length (slice_index_or blocks.now result.0 []) }
-    ensures within { at < length (concat blocks.now) → result.1 < length (slice_index_or blocks.now result.0 []) }
+    ensures within { at < length (concat blocks.now)
+        → result.1 < length (slice_index_or blocks.now result.0 []) }
 {
     let block = block_at(starts, at, near);
     (block, at - starts[block])
@@ -228,7 +233,8 @@ fn place_at(blocks: &[Block], starts: &[usize], at: usize, near: usize) -> (usiz
 fn recount(blocks: &[Block], starts: &mut Vec<usize>, from: usize)
     requires some { 0 < from }
     requires long { vec_len starts.old ≡ length blocks.now }
-    requires counted { (k : ℕ) → k < from → k < length blocks.now → slice_index starts.old.items k ≡ before k blocks.now }
+    requires counted { (k : ℕ) → k < from → k < length blocks.now
+        → slice_index starts.old.items k ≡ before k blocks.now }
     requires few { length (concat blocks.now) < 2 ^ 64 }
     ensures counted { IsCounted starts.new.items blocks.now }
     ensures len { vec_len starts.new ≡ vec_len starts.old }
@@ -259,8 +265,11 @@ fn put_id(
     ensures ids { concat blocks.new.items ≡ insert (concat blocks.old.items) at id }
     ensures counted { IsCounted starts.new.items blocks.new.items }
     ensures empty { All (λ b. b ≡ []) spare.new.items }
-    ensures left { ids_left (blocks_left (vec_len spare.old) (vec_capacity blocks.old - vec_len blocks.old) (vec_capacity starts.old - vec_len starts.old)) blocks.old.items
-        ≤ ids_left (blocks_left (vec_len spare.new) (vec_capacity blocks.new - vec_len blocks.new) (vec_capacity starts.new - vec_len starts.new)) blocks.new.items + 1 }
+    ensures left { ids_left (blocks_left (vec_len spare.old)
+        (vec_capacity blocks.old - vec_len blocks.old)
+        (vec_capacity starts.old - vec_len starts.old)) blocks.old.items
+        ≤ ids_left (blocks_left (vec_len spare.new) (vec_capacity blocks.new - vec_len blocks.new)
+        (vec_capacity starts.new - vec_len starts.new)) blocks.new.items + 1 }
 {
     let (block, place) = place_at(blocks, starts, at, 0);
     if blocks[block].len() < BLOCK_SIZE {
@@ -292,8 +301,10 @@ fn take_id(blocks: &mut Vec<Block>, starts: &mut Vec<usize>, at: usize) -> usize
     ensures ids { concat blocks.new.items ≡ remove (concat blocks.old.items) at }
     ensures counted { IsCounted starts.new.items blocks.new.items }
     ensures filled { filled blocks.new.items ≤ filled blocks.old.items }
-    ensures room { vec_capacity blocks.old - vec_len blocks.old ≤ vec_capacity blocks.new - vec_len blocks.new }
-    ensures start_room { vec_capacity starts.old - vec_len starts.old ≤ vec_capacity starts.new - vec_len starts.new }
+    ensures room { vec_capacity blocks.old - vec_len blocks.old ≤ vec_capacity blocks.new - vec_len
+        blocks.new }
+    ensures start_room { vec_capacity starts.old - vec_len starts.old ≤ vec_capacity
+        starts.new - vec_len starts.new }
 {
     let (block, place) = place_at(blocks, starts, at, 0);
     let id = blocks[block].remove(place);
@@ -315,8 +326,8 @@ fn cut(alloc: Global, ids: &[usize]) -> Result<Vec<Block>, NoMemory>
     let mut blocks = Vec::new(alloc);
     let mut rest = ids;
     'cut: while blocks.is_empty() || !rest.is_empty() {
-        let (front, back) = rest.split_at(rest.len().min(HALF_SIZE));
-        blocks.push(Block::of(alloc, front)?)?;
+        let (prefix, back) = rest.split_at(rest.len().min(HALF_SIZE));
+        blocks.push(Block::of(alloc, prefix)?)?;
         rest = back;
     }
     Ok(blocks)

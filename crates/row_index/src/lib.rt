@@ -1,5 +1,5 @@
-//! The ids of rows in an order, in blocks: an id that comes or goes moves those of its block alone, and the blocks behind
-//! it are counted again.
+//! The ids of rows in an order, in blocks: an id that comes or goes moves those of its block alone,
+//! and the blocks after it are counted again.
 #![tactic(auto)]
 
 mod index;

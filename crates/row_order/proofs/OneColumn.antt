@@ -1,7 +1,8 @@
 -- The value of one column of an id's newest row.
-use Rattle.std.proofs.Common.{◌≡◌, ℕ, zero, suc, ◌<◌, ◌≤◌, Bool, true, false, List, [], ◌∷◌, length, get_or, refl, arith, if◌then◌else◌, length-append}
+use Rattle.std.proofs.Common.{◌≡◌, ℕ, zero, suc, ◌<◌, ◌≤◌, Bool, true, false, List, [], ◌∷◌, length}
+use Rattle.std.proofs.Common.{get_or, refl, arith, if◌then◌else◌, length-append}
 use Rattle.std.specs.Prelude.{Some, None, slice_get, ◌==◌}
-use Rattle.prima_base.specs.declared.values.Value.{Value}
+use Rattle.prima_base.specs.declared.value.Value.{Value}
 use Rattle.column_log.specs.Log.{Write, newest, over}
 use Rattle.row_order.specs.Rows.{row_now}
 
@@ -15,7 +16,8 @@ newest_few id (c ∷ cells) = step (newest id cells) (newest_few id cells)
     by_case true = omega arith
     by_case false = omega arith
 
-    step : (vs : List Value) → length vs ≤ 1 → length (over vs (if c.id == id then c.value ∷ [] else [])) ≤ 1
+    step : (vs : List Value) → length vs ≤ 1 → length
+        (over vs (if c.id == id then c.value ∷ [] else [])) ≤ 1
     step [] h = by_case (c.id == id)
     step (v ∷ vs) h = h
 
@@ -34,21 +36,26 @@ one_is (v ∷ (w ∷ vs)) e = absurd (omega (arith, e))
 
 -- ---- and one in each column where there are so many
 
-first_is : (id : ℕ) (c : List Write) (columns : List (List Write)) → length (row_now id (c ∷ columns)) ≡ suc (length columns) → length (newest id c) ≡ 1
+first_is : (id : ℕ) (c : List Write) (columns : List (List Write))
+    → length (row_now id (c ∷ columns)) ≡ suc (length columns) → length (newest id c) ≡ 1
 first_is id c columns w =
     let a = newest_few id c in
     let b = row_few id columns in
     let l = length-append (newest id c) (row_now id columns) in
     omega (arith, a, b, l, w)
 
-rest_is : (id : ℕ) (c : List Write) (columns : List (List Write)) → length (row_now id (c ∷ columns)) ≡ suc (length columns) → length (row_now id columns) ≡ length columns
+rest_is : (id : ℕ) (c : List Write) (columns : List (List Write))
+    → length (row_now id (c ∷ columns)) ≡ suc (length columns)
+    → length (row_now id columns) ≡ length columns
 rest_is id c columns w =
     let a = newest_few id c in
     let b = row_few id columns in
     let l = length-append (newest id c) (row_now id columns) in
     omega (arith, a, b, l, w)
 
-pub value_there : (k id : ℕ) (columns : List (List Write)) (v : Value) → k < length columns → length (row_now id columns) ≡ length columns → newest id (get_or columns k []) ≡ v ∷ [] → slice_get (row_now id columns) k ≡ Some v
+pub value_there : (k id : ℕ) (columns : List (List Write)) (v : Value) → k < length columns
+    → length (row_now id columns) ≡ length columns → newest id (get_or columns k []) ≡ v ∷ []
+    → slice_get (row_now id columns) k ≡ Some v
 value_there k id [] v h w e = absurd (omega arith)
 value_there zero id (c ∷ columns) v h w e = rw e refl
 value_there (suc k) id (c ∷ columns) v h w e =
@@ -60,5 +67,7 @@ past [] k h = refl
 past (v ∷ row) zero h = absurd (omega arith)
 past (v ∷ row) (suc k) h = past row k (omega arith)
 
-pub none_there : (k id : ℕ) (columns : List (List Write)) → length columns ≤ k → slice_get (row_now id columns) k ≡ None
-none_there k id columns h = let f = row_few id columns in past (row_now id columns) k (omega (arith, f))
+pub none_there : (k id : ℕ) (columns : List (List Write)) → length columns ≤ k
+    → slice_get (row_now id columns) k ≡ None
+none_there k id columns h = let f = row_few id columns in
+    past (row_now id columns) k (omega (arith, f))

@@ -4,7 +4,7 @@ use Rattle.std.specs.Ordering.{is_eq}
 use Rattle.std.specs.declared.cmp.Ordering.{Ordering}
 use Rattle.std.specs.declared.cmp.Ordering.TheVariants.{Less}
 use Rattle.prima_base.specs.Order.{row_cmp}
-use Rattle.prima_base.specs.declared.values.Value.{Value}
+use Rattle.prima_base.specs.declared.value.Value.{Value}
 use Rattle.column_log.specs.Log.{Write}
 use Rattle.row_order.specs.Rows.{row_now}
 use Rattle.relations.specs.Sets.{has}
@@ -18,12 +18,14 @@ handed (id ∷ lost) next (row ∷ rows) = id ∷ handed lost next rows
 -- the rows that are not among the others
 abbrev pub only_in : List (List Value) → List (List Value) → List (List Value)
 only_in [] others = []
-only_in (row ∷ rows) others = if has row_cmp row others then only_in rows others else row ∷ only_in rows others
+only_in (row ∷ rows) others = if has row_cmp row others then only_in rows others
+    else row ∷ only_in rows others
 
 -- the ids whose rows are not among the others
 abbrev pub lost_ids : List (List Write) → List ℕ → List (List Value) → List ℕ
 lost_ids columns [] others = []
-lost_ids columns (id ∷ ids) others = if has row_cmp (row_now id columns) others then lost_ids columns ids others else id ∷ lost_ids columns ids others
+lost_ids columns (id ∷ ids) others = if has row_cmp (row_now id columns) others
+    then lost_ids columns ids others else id ∷ lost_ids columns ids others
 
 -- how a row compares with the first of these; before the end
 abbrev pub first_order : List Value → List (List Value) → Ordering
@@ -33,7 +35,8 @@ first_order row (r ∷ rows) = row_cmp row r
 -- the first id whose newest row this is
 abbrev pub found : List (List Write) → List Value → List ℕ → List ℕ
 found columns row [] = []
-found columns row (id ∷ ids) = if is_eq (row_cmp (row_now id columns) row) then id ∷ [] else found columns row ids
+found columns row (id ∷ ids) = if is_eq (row_cmp (row_now id columns) row) then id ∷ []
+    else found columns row ids
 
 abbrev pub gained_by : List ℕ → List Value → List (List Value) → List (List Value)
 gained_by [] row gained = row ∷ gained
@@ -42,7 +45,8 @@ gained_by (id ∷ ids) row gained = gained
 -- the rows that no id has
 abbrev pub gained_rows : List (List Write) → List ℕ → List (List Value) → List (List Value)
 gained_rows columns live [] = []
-gained_rows columns live (row ∷ rows) = gained_by (found columns row live) row (gained_rows columns live rows)
+gained_rows columns live (row ∷ rows) = gained_by (found columns row live) row
+    (gained_rows columns live rows)
 
 abbrev pub id_by : List ℕ → List ℕ → ℕ → ℕ
 id_by (id ∷ ids) lost next = id
@@ -64,7 +68,8 @@ abbrev pub after_ids : List (List Write) → List ℕ → List ℕ → ℕ → L
 after_ids columns live lost next [] = []
 after_ids columns live lost next (row ∷ rows) =
     id_by (found columns row live) lost next
-    ∷ after_ids columns live (lost_by (found columns row live) lost) (next_by (found columns row live) lost next) rows
+    ∷ after_ids columns live (lost_by (found columns row live) lost)
+    (next_by (found columns row live) lost next) rows
 
 -- the id that each row has, if any
 abbrev pub owner : List ℕ → Option ℕ
@@ -83,4 +88,5 @@ no_owners (row ∷ rows) = None ∷ no_owners rows
 abbrev pub given_ids : List (Option ℕ) → List ℕ → ℕ → List ℕ
 given_ids [] lost next = []
 given_ids (Some id ∷ owners) lost next = id ∷ given_ids owners lost next
-given_ids (None ∷ owners) lost next = id_by [] lost next ∷ given_ids owners (lost_by [] lost) (next_by [] lost next)
+given_ids (None ∷ owners) lost next = id_by [] lost next
+    ∷ given_ids owners (lost_by [] lost) (next_by [] lost next)

@@ -1,6 +1,6 @@
 -- Rows that ids have now, column by column.
 use Rattle.std.specs.Prelude.{◌≡◌, ℕ, ◌+◌, List, [], ◌∷◌, ◌++◌, length}
-use Rattle.prima_base.specs.declared.values.Value.{Value}
+use Rattle.prima_base.specs.declared.value.Value.{Value}
 use Rattle.column_log.specs.Log.{Write, newest}
 
 abbrev pub row_now : ℕ → List (List Write) → List Value

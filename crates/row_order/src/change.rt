@@ -9,8 +9,8 @@ ghost use Rattle.row_order.specs.Rows.{rows_of, AllWidth};
 ghost use Rattle.row_order.specs.Handing.{lost_ids, gained_rows, after_ids};
 ghost use Rattle.row_order.specs.Indexes.{index_of, Whole};
 
-use crate::splices::After;
-use crate::walks::{Difference, find_difference, next_ids};
+use crate::index_splice::After;
+use crate::walk::{Difference, find_difference, next_ids};
 use column_log::Column;
 use given_row::GivenRow;
 use prima_base::{NoMemory, Row};
@@ -24,8 +24,8 @@ pub struct Change<'a> {
     pub after: After,
 }
 
-/// The change from the rows of the index to these, by one walk along both. A row that stays keeps its id; the gained rows
-/// get the lost ids in turn, and then new ones.
+/// The change from the rows of the index to these, by one walk along both. A row that stays keeps
+/// its id; the gained rows get the lost ids in turn, and then new ones.
 pub fn find_change<'a>(
     alloc: Global,
     columns: &[Column],
@@ -34,15 +34,19 @@ pub fn find_change<'a>(
     rows: &'a [Row],
 ) -> Result<Change<'a>, NoMemory>
     requires wide { AllWidth (length columns.now) rows.now }
-    requires known { (id : ℕ) → (k : ℕ) (d : Log) → id < length live.now.ids → k < length columns.now
+    requires known { (id : ℕ) → (k : ℕ) (d : Log) → id < length live.now.ids
+        → k < length columns.now
         → slice_index_or live.now.ids id 0 < (slice_index_or columns.now k d).ids }
     requires live_rise { Ascends row_cmp (rows_of live.now.ids (cells_of columns.now)) }
     requires rows_rise { Ascends row_cmp rows.now }
     requires few { next + length rows.now < 2 ^ 64 }
-    ensures lost { IfOk result (λ c. c.lost.items ≡ lost_ids (cells_of columns.now) live.now.ids rows.now) }
-    ensures gained { IfOk result (λ c. c.gained.items ≡ gained_rows (cells_of columns.now) live.now.ids rows.now) }
+    ensures lost { IfOk result (λ c. c.lost.items
+        ≡ lost_ids (cells_of columns.now) live.now.ids rows.now) }
+    ensures gained { IfOk result (λ c. c.gained.items
+        ≡ gained_rows (cells_of columns.now) live.now.ids rows.now) }
     ensures after { IfOk result (λ c. index_of c.after
-        ≡ Whole (after_ids (cells_of columns.now) live.now.ids (lost_ids (cells_of columns.now) live.now.ids rows.now) next rows.now)) }
+        ≡ Whole (after_ids (cells_of columns.now) live.now.ids
+        (lost_ids (cells_of columns.now) live.now.ids rows.now) next rows.now)) }
 {
     let Difference {
         lost,

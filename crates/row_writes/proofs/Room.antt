@@ -1,6 +1,6 @@
 -- Room for rows, in pieces.
 use Rattle.std.proofs.Common.{ℕ, zero, suc, ◌<◌, ◌≤◌, List, [], ◌∷◌, length, get_or, arith}
-use Rattle.prima_base.specs.declared.values.Value.{Value}
+use Rattle.prima_base.specs.declared.value.Value.{Value}
 use Rattle.column_log.specs.StoredValues.{text_room}
 use Rattle.row_writes.specs.RowRoom.{row_room, rows_room}
 
@@ -9,7 +9,8 @@ some_room [] = omega arith
 some_room (v ∷ row) = let r = some_room row in omega (arith, r)
 
 -- each value of a row has its room in the row's
-pub room_at : (row : List Value) (k : ℕ) (d : Value) → k < length row → text_room (get_or row k d) < row_room row
+pub room_at : (row : List Value) (k : ℕ) (d : Value) → k < length row
+    → text_room (get_or row k d) < row_room row
 room_at [] k d h = absurd (omega arith)
 room_at (v ∷ row) zero d h = let r = some_room row in omega (arith, r)
 room_at (v ∷ row) (suc k) d h = let r = room_at row k d (omega arith) in omega (arith, r)

@@ -1,8 +1,9 @@
 -- The types of several columns, and the room in them.
-use Rattle.std.specs.Prelude.{◌≡◌, ℕ, ◌-◌, ◌/◌, ◌^◌, min, max, true, List, [], ◌∷◌, length, if◌then◌else◌, nat_le}
+use Rattle.std.specs.Prelude.{◌≡◌, ℕ, ◌-◌, ◌/◌, ◌^◌, min, max, true, List, [], ◌∷◌, length}
+use Rattle.std.specs.Prelude.{if◌then◌else◌, nat_le}
 use Rattle.column_log.specs.Log.{Log, Write}
-use Rattle.prima_base.specs.declared.values.Value.{Value}
-use Rattle.prima_base.specs.declared.values.ColType.{ColType}
+use Rattle.prima_base.specs.declared.value.Value.{Value}
+use Rattle.prima_base.specs.declared.value.ColType.{ColType}
 use Rattle.prima_base.specs.Columns.{Column, has_type}
 use Rattle.table_histories.specs.Store.{cells_in}
 use Rattle.row_order.specs.Logs.{cells_of}
@@ -35,11 +36,14 @@ abbrev pub least_spare : ℕ → List Log → ℕ
 least_spare least [] = least
 least_spare least (c ∷ columns) = min c.spare (least_spare least columns)
 
--- how many rows more, of which each may add a cell to each column, keep the number of all cells below 2 ^ 64
+-- how many rows more, of which each may add a cell to each column, keep the number of all cells
+-- below 2 ^ 64
 abbrev pub countable_rows : List (List Write) → ℕ
 countable_rows columns = (2 ^ 64 - 1 - cells_in columns) / max (length columns) 1
 
--- how many pieces of room there are, of which a row takes at least one: in the indexes and among the keys, in each column, and in the number of all cells.
--- No more than few rows are put into indexes
+-- how many pieces of room there are, of which a row takes at least one: in the indexes and among
+-- the keys, in each column, and in the number of all cells. No more than few rows are put into
+-- indexes
 abbrev pub spare_rows : ℕ → ℕ → ℕ → List Log → ℕ
-spare_rows few room n columns = min (least_spare (with_index few room n) columns) (countable_rows (cells_of columns))
+spare_rows few room n columns = min (least_spare (with_index few room n) columns)
+    (countable_rows (cells_of columns))

@@ -1,6 +1,6 @@
 -- The room that rows take.
 use Rattle.std.specs.Prelude.{ℕ, ◌+◌, List, [], ◌∷◌}
-use Rattle.prima_base.specs.declared.values.Value.{Value}
+use Rattle.prima_base.specs.declared.value.Value.{Value}
 use Rattle.column_log.specs.StoredValues.{text_room}
 
 -- a row takes a piece of room, and one more for each 32 bytes of a text of it

@@ -1,5 +1,6 @@
 -- The indexes of a table by the values of its columns.
-use Rattle.std.specs.Prelude.{◌≡◌, ℕ, ◌<◌, ◌≤◌, ◌&&◌, Bool, min, nat_le, List, [], ◌∷◌, length, map, if◌then◌else◌, slice_index_or}
+use Rattle.std.specs.Prelude.{◌≡◌, ℕ, ◌<◌, ◌≤◌, ◌&&◌, Bool, min, nat_le, List, [], ◌∷◌, length, map}
+use Rattle.std.specs.Prelude.{if◌then◌else◌, slice_index_or}
 use Rattle.std.specs.Ordering.{nat_cmp}
 use Rattle.relations.specs.Sets.{In, Ascends, has}
 use Rattle.column_log.specs.Log.{Log, Write}
@@ -20,9 +21,11 @@ columns_of others = map (λ x. x.column) others
 abbrev pub is_indexed : ℕ → List ℕ → Bool
 is_indexed column indexed = has nat_cmp column indexed
 
--- behind a change of so many rows that loses and gains so many: where these are not few, all indexes go
-abbrev pub indexed_behind : ℕ → ℕ → ℕ → List ℕ → List ℕ
-indexed_behind rows lost gained indexed = if nat_le lost (few_of rows) && nat_le gained (few_of rows) then indexed else []
+-- after a change of so many rows that loses and gains so many: where these are not few, all indexes
+-- go
+abbrev pub indexed_after : ℕ → ℕ → ℕ → List ℕ → List ℕ
+indexed_after rows lost gained indexed = if nat_le lost (few_of rows) && nat_le gained (few_of rows)
+    then indexed else []
 
 -- the least room of all
 abbrev pub least_room : ℕ → List Indexed → ℕ
@@ -42,13 +45,13 @@ pub record IsReady (columns : List Log) (x : Indexed) : Type 0 where
   pub known : (q : ℕ) (d : Log) → In q x.ids → q < (slice_index_or columns x.column d).ids
   pub rises : Ascends (by_value (slice_index_or (cells_of columns) x.column [])) x.ids
 
--- the index behind its loss of the lost ids
+-- the index after its loss of the lost ids
 pub record IsLosing (columns : List Log) (lost : List ℕ) (x y : Indexed) : Type 0 where
   pub column : y.column ≡ x.column
   pub without : IsWithout (slice_index_or (cells_of columns) x.column []) lost x.ids y.ids
   pub room : x.room ≤ y.room
 
--- the index behind its gain of the new ids
+-- the index after its gain of the new ids
 pub record IsGaining (columns : List Log) (new : List ℕ) (x y : Indexed) : Type 0 where
   pub column : y.column ≡ x.column
   pub with_them : IsWith (slice_index_or (cells_of columns) x.column []) new x.ids y.ids

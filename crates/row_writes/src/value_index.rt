@@ -3,12 +3,13 @@
 use column_log::Column;
 use prima_base::{NoMemory, Value};
 use row_index::RowIndex;
-use row_order::{LentRows, few_of};
+use row_order::{BorrowedRows, few_of};
 use std::alloc::Global;
 use std::marker::Model;
 use value_order::{count_under, put_handed, sort_ids, take_each};
 
-/// The ids of the current rows of a table in the order of the values of one column, and then of themselves.
+/// The ids of the current rows of a table in the order of the values of one column, and then of
+/// themselves.
 #[derive(Drop)]
 pub struct ValueIndex {
     column: usize,
@@ -24,7 +25,8 @@ impl Model for ValueIndex {
 }
 
 impl ValueIndex {
-    ghost use Rattle.std.specs.Prelude.{◌≡◌, ◌≤◌, ◌<◌, ◌+◌, ◌^◌, ◌∷◌, ℕ, List, [], All, IfOk, OnOk, length, slice_index_or};
+    ghost use Rattle.std.specs.Prelude.{◌≡◌, ◌≤◌, ◌<◌, ◌+◌, ◌^◌, ◌∷◌, ℕ, List, [], All, IfOk, OnOk};
+    ghost use Rattle.std.specs.Prelude.{length, slice_index_or};
     ghost use Rattle.relations.specs.Sets.{In};
     ghost use Rattle.column_log.specs.Log.{Log};
     ghost use Rattle.row_order.specs.Logs.{cells_of, few_of};
@@ -32,8 +34,8 @@ impl ValueIndex {
     ghost use Rattle.value_order.specs.ByValue.{Distinct, ids_handed, ids_with};
     ghost use Rattle.row_writes.specs.ValueIndexes.{IsIndexed, IsReady, IsLosing, IsGaining};
 
-    /// The index of the column at this place, with room for all ids that are put in by one change of these rows. It
-    /// sorts the ids.
+    /// The index of the column at this place, with room for all ids that are put in by one change
+    /// of these rows. It sorts the ids.
     pub fn of(
         alloc: Global,
         columns: &[Column],
@@ -41,7 +43,8 @@ impl ValueIndex {
         live: &[usize],
     ) -> Result<ValueIndex, NoMemory>
         requires within { column < length columns.now }
-        requires known { (q : ℕ) → In q live.now → (k : ℕ) (d : Log) → k < length columns.now → q < (slice_index_or columns.now k d).ids }
+        requires known { (q : ℕ) → In q live.now → (k : ℕ) (d : Log) → k < length columns.now
+            → q < (slice_index_or columns.now k d).ids }
         requires distinct { Distinct live.now }
         ensures column { IfOk result (λ x. x.column ≡ column) }
         ensures indexed { IfOk result (λ x. IsIndexed (cells_of columns.now) live.now [] x) }
@@ -84,7 +87,8 @@ impl ValueIndex {
     pub fn gain(&mut self, columns: &[Column], lost: &[usize], next: usize, count: usize)
         requires few { next + count < 2 ^ 64 }
         requires ready { IsReady columns.now self.old }
-        requires new { (q : ℕ) (d : Log) → In q (ids_handed lost.now next count) → q < (slice_index_or columns.now self.old.column d).ids }
+        requires new { (q : ℕ) (d : Log) → In q (ids_handed lost.now next count)
+            → q < (slice_index_or columns.now self.old.column d).ids }
         requires fresh { (q : ℕ) → In q (ids_handed lost.now next count) → In q self.old.ids → ⊥ }
         requires distinct { Distinct (ids_handed lost.now next count) }
         requires room { count ≤ self.old.room }
@@ -93,18 +97,22 @@ impl ValueIndex {
         put_handed(&columns[self.column], &mut self.index, lost, next, count);
     }
 
-    /// The rows that have this value in the column, lent, in the order of their ids. They are found by binary search. It
-    /// takes no memory.
-    pub fn rows_with<'a>(&'a self, columns: &'a [Column], value: &Value) -> LentRows<'a>
+    /// The rows that have this value in the column, borrowed, in the order of their ids. They are
+    /// found by binary search. It takes no memory.
+    pub fn rows_with<'a>(&'a self, columns: &'a [Column], value: &Value) -> BorrowedRows<'a>
         requires ready { IsReady columns.now self.now }
-        requires known { (q : ℕ) → In q self.now.ids → (k : ℕ) (d : Log) → k < length columns.now → q < (slice_index_or columns.now k d).ids }
-        requires whole { (q : ℕ) → In q self.now.ids → length (row_now q (cells_of columns.now)) ≡ length columns.now }
-        ensures { result ≡ rows_of (ids_with value.now (slice_index_or (cells_of columns.now) self.now.column []) self.now.ids) (cells_of columns.now) }
+        requires known { (q : ℕ) → In q self.now.ids → (k : ℕ) (d : Log) → k < length columns.now
+            → q < (slice_index_or columns.now k d).ids }
+        requires whole { (q : ℕ) → In q self.now.ids
+            → length (row_now q (cells_of columns.now)) ≡ length columns.now }
+        ensures { result ≡ rows_of (ids_with value.now
+            (slice_index_or (cells_of columns.now) self.now.column []) self.now.ids)
+            (cells_of columns.now) }
     {
         let column = &columns[self.column];
         let value = value.lend();
         let end = count_under(column, &self.index, &value, column.ids());
         let start = count_under(column, &self.index, &value, 0).min(end);
-        LentRows::over(columns, &self.index, start, end)
+        BorrowedRows::over(columns, &self.index, start, end)
     }
 }

@@ -1,11 +1,12 @@
 -- What is wrong with a list of rules, by their kinds.
 use Rattle.std.specs.Prelude.{◌≡◌, List, Some, None, Result, Ok, Err, ⊤}
-use Rattle.prima_base.specs.declared.refusals.OpKind.{OpKind}
+use Rattle.prima_base.specs.declared.refusal.OpKind.{OpKind}
 use Rattle.piece_meaning.specs.Books.{first_twice, first_missing}
-use Rattle.rule_book.specs.declared.books.BookFault.{BookFault}
-use Rattle.rule_book.specs.declared.books.BookFault.TheVariants.{Twice, Missing, NoMemory}
+use Rattle.rule_book.specs.declared.book.BookFault.{BookFault}
+use Rattle.rule_book.specs.declared.book.BookFault.TheVariants.{Twice, Missing, NoMemory}
 
--- a book has one rule of each kind: the first kind that stands twice, and else the first that is missing
+-- a book has one rule of each kind: the first kind that stands twice, and else the first that is
+-- missing
 abbrev pub IsJudged : List OpKind → Result (Unit {0}) BookFault → Type 0
 IsJudged kinds (Ok u) = (first_twice kinds ≡ None) × (first_missing kinds ≡ None)
 IsJudged kinds (Err (Twice kind)) = first_twice kinds ≡ Some kind

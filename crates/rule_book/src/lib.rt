@@ -1,10 +1,11 @@
-//! Boxed rules that take pieces through the operators of one kind each, and a book of one rule for each kind.
+//! Boxed rules that take pieces through the operators of one kind each, and a book of one rule for
+//! each kind.
 #![tactic(auto)]
 
-mod books;
-mod kinds;
-mod rules;
+mod book;
+mod kind;
+mod rule;
 
-pub use books::{BookFault, RuleBook};
-pub use kinds::{kind_of, same_kind};
-pub use rules::Rule;
+pub use book::{BookFault, RuleBook};
+pub use kind::{kind_of, same_kind};
+pub use rule::Rule;

@@ -1,18 +1,24 @@
 -- The tables that any accepted operator makes are given by its views.
 use Rattle.std.proofs.Common.{◌≡◌}
 use Rattle.std.specs.Prelude.{None}
-use Rattle.prima_base.specs.declared.refusals.OpKind.{OpKind}
+use Rattle.prima_base.specs.declared.refusal.OpKind.{OpKind}
 use Rattle.schema_catalog.specs.Tables.{Tables}
-use Rattle.smo_types.specs.Operators.{Operator, nop, create_table, drop_table, rename_table, copy_table, merge_table, partition_table, decompose_table, join_table, add_column, drop_column, rename_column}
-use Rattle.smo_meaning.specs.After.{op_fault, IsLawful}
+use Rattle.smo_types.specs.Operators.{Operator, nop, create_table, drop_table, rename_table}
+use Rattle.smo_types.specs.Operators.{copy_table, merge_table, partition_table, decompose_table}
+use Rattle.smo_types.specs.Operators.{join_table, add_column, drop_column, rename_column}
+use Rattle.smo_meaning.specs.After.{op_fault, IsValid}
 use Rattle.piece_meaning.specs.Given.{AreViews}
 use Rattle.piece_meaning.specs.Rules.{HasViews}
 use Rattle.rule_views.specs.OperatorViews.{operator_views}
-use Rattle.rule_views.proofs.OneViews.{rename_table_views, copy_table_views, add_column_views, drop_column_views, rename_column_views}
-use Rattle.rule_views.proofs.SplitViews.{nop_views, create_table_views, drop_table_views, merge_table_views, partition_table_views, decompose_table_views}
+use Rattle.rule_views.proofs.OneViews.{rename_table_views, copy_table_views, add_column_views}
+use Rattle.rule_views.proofs.OneViews.{drop_column_views, rename_column_views}
+use Rattle.rule_views.proofs.SplitViews.{nop_views, create_table_views, drop_table_views}
+use Rattle.rule_views.proofs.SplitViews.{merge_table_views, partition_table_views}
+use Rattle.rule_views.proofs.SplitViews.{decompose_table_views}
 use Rattle.rule_views.proofs.JoinViews.{join_table_views}
 
-pub each_views : (tables : Tables) (op : Operator) → IsLawful tables → op_fault tables op ≡ None → AreViews tables op (operator_views tables op)
+pub each_views : (tables : Tables) (op : Operator) → IsValid tables → op_fault tables op ≡ None
+    → AreViews tables op (operator_views tables op)
 each_views tables nop h e = nop_views tables
 each_views tables (create_table r cs) h e = create_table_views tables r cs
 each_views tables (drop_table r) h e = drop_table_views tables r

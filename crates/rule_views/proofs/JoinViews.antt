@@ -5,10 +5,11 @@ use Rattle.std.specs.List.{filter, flat_map}
 use Rattle.std.specs.FinMap.{get, contains_key}
 use Rattle.relations.specs.Sets.{In}
 use Rattle.relations.specs.Choices.{Chosen}
-use Rattle.relations.proofs.SetLaws.{in_map, from_map, in_filter, from_filter, in_flat_map, from_flat_map, in_set, from_set}
+use Rattle.relations.proofs.SetLaws.{in_map, from_map, in_filter, from_filter, in_flat_map}
+use Rattle.relations.proofs.SetLaws.{from_flat_map, in_set, from_set}
 use Rattle.prima_base.specs.Order.{row_cmp}
 use Rattle.prima_base.specs.OrderLaws.{row_exact}
-use Rattle.prima_base.specs.declared.refusals.OpRefusal.TheVariants.{ColumnsDiffer, WrongType}
+use Rattle.prima_base.specs.declared.refusal.OpRefusal.TheVariants.{ColumnsDiffer, WrongType}
 use Rattle.prima_base.specs.Columns.{Column, names_of}
 use Rattle.schema_catalog.specs.Tables.{Tables}
 use Rattle.schema_catalog.specs.Databases.{Database}
@@ -18,16 +19,16 @@ use Rattle.cond_expr.specs.Faults.{test_untyped, first_of}
 use Rattle.smo_types.specs.Operators.{join_table}
 use Rattle.smo_meaning.specs.OneRow.{Row, Relation, own_kinds, meets}
 use Rattle.smo_meaning.specs.Preconditions.{among, type_in}
-use Rattle.smo_meaning.specs.Effects.{columns_of, rows_at}
+use Rattle.smo_meaning.specs.Effects.{columns_of, rows_under}
 use Rattle.smo_meaning.specs.Making.{joined_columns, agree, joined_row, join_rows, from_two}
-use Rattle.smo_meaning.specs.After.{op_fault, IsLawful}
+use Rattle.smo_meaning.specs.After.{op_fault, IsValid}
 use Rattle.smo_meaning.proofs.Firsts.{met, none_mapped}
 use Rattle.smo_meaning.proofs.NextSchemas.{all_preconditions, is_table, ordered_columns}
 use Rattle.smo_meaning.proofs.MadeRows.{Joinable}
 use Rattle.smo_meaning.proofs.OneColumns.{made_columns}
 use Rattle.smo_meaning.proofs.ColumnsByName.{joined_types}
 use Rattle.piece_meaning.specs.Views.{PlainView}
-use Rattle.piece_meaning.specs.Constants.{LawfulInView}
+use Rattle.piece_meaning.specs.Constants.{ValidInView}
 use Rattle.piece_meaning.specs.Given.{Picks, Shows, AreGiven, IsTypedView, AreViews}
 use Rattle.rule_views.specs.OperatorViews.{paired, operator_views}
 use Rattle.rule_views.proofs.ViewConstants.{paired_constants}
@@ -36,7 +37,8 @@ use Rattle.piece_meaning.proofs.AddedParts.{both_true, and_true}
 use Rattle.rule_views.proofs.TestLaws.{typed_test}
 use Rattle.rule_views.proofs.PairCells.{joined_cell, all_met, out_typed, test_typed}
 
-two_chosen : (choice : List Row) (first second : Relation) → Chosen choice (first ∷ second ∷ []) → (a : Row) × (b : Row) × (choice ≡ a ∷ b ∷ []) × In a first × In b second
+two_chosen : (choice : List Row) (first second : Relation) → Chosen choice (first ∷ second ∷ [])
+    → (a : Row) × (b : Row) × (choice ≡ a ∷ b ∷ []) × In a first × In b second
 two_chosen [] first second h = absurd h
 two_chosen (a ∷ []) first second h = absurd h.1
 two_chosen (a ∷ (b ∷ [])) first second h = (a, b, refl, h.0, h.1.0)
@@ -57,10 +59,10 @@ module _ (tables : Tables) (r s : List ℕ) (c : Test) where
 
   module _ (known : is_typed (own_kinds new) c ≡ true) (db : Database) where
     abbrev first : Relation
-    first = rows_at (get db r)
+    first = rows_under (get db r)
 
     abbrev second : Relation
-    second = rows_at (get db s)
+    second = rows_under (get db s)
 
     abbrev made : Relation
     made = join_rows cs ds c first second
@@ -68,61 +70,92 @@ module _ (tables : Tables) (r s : List ℕ) (c : Test) where
     abbrev pairs : Row → List Row
     pairs a = map (joined_row cs ds a) (filter (agree cs ds a) second)
 
-    picked : (a b : Row) → In a first → In b second → agree cs ds a b ≡ true → meets new c (joined_row cs ds a b) ≡ true → Picks tables db view (a ∷ b ∷ [])
+    picked : (a b : Row) → In a first → In b second → agree cs ds a b ≡ true
+        → meets new c (joined_row cs ds a b) ≡ true → Picks tables db view (a ∷ b ∷ [])
     picked a b i j e h = record {
       chosen = (i, (j, tt));
-      met = all_met cs ds a b c known ∙ and_true (agree cs ds a b) (meets new c (joined_row cs ds a b)) e h;
+      met = all_met cs ds a b c known ∙ and_true (agree cs ds a b)
+          (meets new c (joined_row cs ds a b)) e h;
     }
 
     shown : (a b : Row) → Shows tables new view (a ∷ b ∷ []) (joined_row cs ds a b)
     shown a b = record { is = λ n m. joined_cell cs ds a b n m }
 
     abbrev IsFrom : Row → Type 0
-    IsFrom row = (v : PlainView) × (choice : List Row) × In v (view ∷ []) × Picks tables db v choice × Shows tables new v choice row
+    IsFrom row = (v : PlainView) × (choice : List Row) × In v (view ∷ []) × Picks tables db v choice
+        × Shows tables new v choice row
 
-    from_pair : (row a b : Row) → In a first → In b second → agree cs ds a b ≡ true → meets new c row ≡ true → joined_row cs ds a b ≡ row → IsFrom row
-    from_pair row a b i j e h q = subst IsFrom q
-        (view, a ∷ b ∷ [], inl refl, picked a b i j e (subst (λ (x : Row). meets new c x ≡ true) (sym q) h), shown a b)
+    from_pair : (row a b : Row) → In a first → In b second → agree cs ds a b ≡ true
+        → meets new c row ≡ true → joined_row cs ds a b ≡ row → IsFrom row
+    from_pair row a b i j e h q = subst IsFrom q (
+      view,
+      a ∷ b ∷ [],
+      inl refl,
+      picked a b i j e
+          (subst (λ (x : Row). meets new c x ≡ true) (sym q) h),
+      shown a b,
+    )
 
-    from_row : (row a : Row) → In a first → meets new c row ≡ true → (b : Row) × In b (filter (agree cs ds a) second) × (joined_row cs ds a b ≡ row) → IsFrom row
-    from_row row a i h (b, j, q) = (let k = from_filter (agree cs ds a) b second j in from_pair row a b i k.0 k.1 h q)
+    from_row : (row a : Row) → In a first → meets new c row ≡ true → (b : Row)
+        × In b (filter (agree cs ds a) second) × (joined_row cs ds a b ≡ row) → IsFrom row
+    from_row row a i h (b, j, q) = (let k = from_filter (agree cs ds a) b second j in
+        from_pair row a b i k.0 k.1 h q)
 
-    from_rows : (row : Row) → meets new c row ≡ true → (a : Row) × In a first × In row (pairs a) → IsFrom row
-    from_rows row h (a, i, j) = from_row row a i h (from_map (joined_row cs ds a) row (filter (agree cs ds a) second) j)
+    from_rows : (row : Row) → meets new c row ≡ true → (a : Row) × In a first × In row (pairs a)
+        → IsFrom row
+    from_rows row h (a, i, j) = from_row row a i h
+        (from_map (joined_row cs ds a) row (filter (agree cs ds a) second) j)
 
-    into_made : (a b : Row) → In a first → In b second → agree cs ds a b ≡ true → meets new c (joined_row cs ds a b) ≡ true → In (joined_row cs ds a b) made
+    into_made : (a b : Row) → In a first → In b second → agree cs ds a b ≡ true
+        → meets new c (joined_row cs ds a b) ≡ true → In (joined_row cs ds a b) made
     into_made a b i j e h =
-        in_set row_cmp row_exact (joined_row cs ds a b) (filter (meets new c) (flat_map pairs first))
+        in_set row_cmp row_exact (joined_row cs ds a b)
+        (filter (meets new c) (flat_map pairs first))
         (in_filter (meets new c) (joined_row cs ds a b) (flat_map pairs first)
         (in_flat_map pairs a (joined_row cs ds a b) first i
-        (in_map (joined_row cs ds a) b (filter (agree cs ds a) second) (in_filter (agree cs ds a) b second j e))) h)
+        (in_map (joined_row cs ds a) b (filter (agree cs ds a) second)
+        (in_filter (agree cs ds a) b second j e))) h)
 
-    of_pair : (choice : List Row) → Picks tables db view choice → (a : Row) × (b : Row) × (choice ≡ a ∷ b ∷ []) × In a first × In b second
+    of_pair : (choice : List Row) → Picks tables db view choice → (a : Row) × (b : Row)
+        × (choice ≡ a ∷ b ∷ []) × In a first × In b second
         → (row : Row) × In row made × Shows tables new view choice row
     of_pair choice p (a, b, q, i, j) =
-        let k : Picks tables db view (a ∷ b ∷ []) = subst (λ (x : List Row). Picks tables db view x) q p in
-        let h = both_true (agree cs ds a b) (meets new c (joined_row cs ds a b)) (sym (all_met cs ds a b c known) ∙ k.met) in
-        (joined_row cs ds a b, into_made a b i j h.0 h.1, subst (λ (x : List Row). Shows tables new view x (joined_row cs ds a b)) (sym q) (shown a b))
+        let k : Picks tables db view (a ∷ b ∷ []) =
+        subst (λ (x : List Row). Picks tables db view x) q p in
+        let h = both_true (agree cs ds a b) (meets new c (joined_row cs ds a b))
+        (sym (all_met cs ds a b c known) ∙ k.met) in (
+          joined_row cs ds a b,
+          into_made a b i j h.0 h.1,
+          subst (λ (x : List Row). Shows tables new view x (joined_row cs ds a b)) (sym q)
+              (shown a b),
+        )
 
     pub join_is_given : AreGiven tables db new made (view ∷ [])
     join_is_given = record {
       there = λ row m. (
-          let h = from_filter (meets new c) row (flat_map pairs first) (from_set row_cmp row_exact row (filter (meets new c) (flat_map pairs first)) m) in
+          let h = from_filter (meets new c) row (flat_map pairs first)
+          (from_set row_cmp row_exact row (filter (meets new c) (flat_map pairs first)) m) in
           from_rows row h.1 (from_flat_map pairs row first h.0));
-      back = λ v m. subst (λ (x : PlainView). (choice : List Row) → Picks tables db x choice → (row : Row) × In row made × Shows tables new x choice row)
-          (only_one view v m) (λ choice p. of_pair choice p (two_chosen choice first second p.chosen));
+      back = λ v m. subst (λ (x : PlainView). (choice : List Row) → Picks tables db x choice
+          → (row : Row) × In row made × Shows tables new x choice row)
+          (only_one view v m) (λ choice p. of_pair choice p
+          (two_chosen choice first second p.chosen));
     }
 
-  module _ (lawful : IsLawful tables) (t : List ℕ) where
-    pub join_table_views : op_fault tables (join_table r s t c) ≡ None → AreViews tables (join_table r s t c) (operator_views tables (join_table r s t c))
+  module _ (valid : IsValid tables) (t : List ℕ) where
+    pub join_table_views : op_fault tables (join_table r s t c) ≡ None
+        → AreViews tables (join_table r s t c) (operator_views tables (join_table r s t c))
     join_table_views e = (
       record {
         name = refl;
         rows = λ db h. subst (λ (rows : Relation). AreGiven tables db new rows (view ∷ []))
-            (sym (two_there (join_rows cs ds c) (get tables r) (get tables s) (get db r) (get db s) here too (h r) (h s))) (join_is_given known db);
-        typed = λ v m. subst (λ (x : PlainView). IsTypedView tables new x) (only_one view v m) typed;
-        inputs = λ v m n. subst (λ (x : PlainView). In n x.atoms → In n (r ∷ s ∷ [])) (only_one view v m) (λ j. j);
-        constants = λ h v m. subst LawfulInView (only_one view v m) (paired_constants r cs s ds c h);
+            (sym (two_there (join_rows cs ds c) (get tables r) (get tables s) (get db r) (get db s)
+            here too (h r) (h s))) (join_is_given known db);
+        typed = λ v m. subst (λ (x : PlainView). IsTypedView tables new x) (only_one view v m)
+            typed;
+        inputs = λ v m n. subst (λ (x : PlainView). In n x.atoms → In n (r ∷ s ∷ []))
+            (only_one view v m) (λ j. j);
+        constants = λ h v m. subst ValidInView (only_one view v m) (paired_constants r cs s ds c h);
       },
       tt,
     )
@@ -138,20 +171,26 @@ module _ (tables : Tables) (r s : List ℕ) (c : Test) where
 
         known : is_typed (own_kinds new) c ≡ true
         known = typed_test (own_kinds new) 0 c
-            (none_mapped WrongType (first_of (test_untyped (own_kinds new) 0 c)) (all_preconditions tables (join_table r s t c) e).1.1.1.1.1.1.1.0)
+            (none_mapped WrongType (first_of (test_untyped (own_kinds new) 0 c))
+            (all_preconditions tables (join_table r s t c) e).1.1.1.1.1.1.1.0)
 
-        types : (n : List ℕ) → type_in new n ≡ (if among n (names_of cs) then type_in cs n else type_in ds n)
+        types : (n : List ℕ) → type_in new n ≡ (if among n (names_of cs) then type_in cs n
+            else type_in ds n)
         types n =
-            ap (λ (x : List Column). type_in x n) (sym (made_columns tables (join_table r s t c) t new (λ x. from_two (join_rows cs ds c) (get x r) (get x s)) e (inl refl)))
-            ∙ joined_types tables lawful.schema r s t c n e
+            ap (λ (x : List Column). type_in x n)
+            (sym (made_columns tables (join_table r s t c) t new
+            (λ x. from_two (join_rows cs ds c) (get x r) (get x s)) e (inl refl)))
+            ∙ joined_types tables valid.schema r s t c n e
 
         table_there : (n : List ℕ) → In n (r ∷ s ∷ []) → contains_key tables n ≡ true
         table_there n (inl i) = subst (λ (x : List ℕ). contains_key tables x ≡ true) i here
-        table_there n (inr i) = subst (λ (x : List ℕ). contains_key tables x ≡ true) (only_one s n i) too
+        table_there n (inr i) = subst (λ (x : List ℕ). contains_key tables x ≡ true)
+            (only_one s n i) too
 
         typed : IsTypedView tables new view
         typed = record {
           there = table_there;
-          parts = λ x m. test_typed cs ds types (ordered_columns tables r lawful.schema) (ordered_columns tables s lawful.schema) one c known x m;
+          parts = λ x m. test_typed cs ds types (ordered_columns tables r valid.schema)
+              (ordered_columns tables s valid.schema) one c known x m;
           outs = λ n k h. out_typed cs ds types n k h;
         }

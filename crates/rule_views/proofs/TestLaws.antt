@@ -1,5 +1,6 @@
 -- Conditions without a node that has no type, and the parts of a condition.
-use Rattle.std.proofs.Common.{◌≡◌, ◌+◌, ℕ, Bool, true, false, List, [], ◌∷◌, ◌++◌, refl, ap, subst, ◌∙◌, inl, inr}
+use Rattle.std.proofs.Common.{◌≡◌, ◌+◌, ℕ, Bool, true, false, List, [], ◌∷◌, ◌++◌, refl, ap, subst}
+use Rattle.std.proofs.Common.{◌∙◌, inl, inr}
 use Rattle.std.specs.Prelude.{◌&&◌, not, None}
 use Rattle.std.specs.List.{list_all}
 use Rattle.std.proofs.lemmas.List.Folds.{list_all-append}
@@ -9,9 +10,10 @@ use Rattle.std.specs.declared.cmp.Ordering.{Ordering}
 use Rattle.std.specs.declared.cmp.Ordering.TheVariants.{Less, Equal, Greater}
 use Rattle.std.specs.Ordering.{is_eq, is_lt}
 use Rattle.prima_base.specs.Order.{value_cmp}
-use Rattle.cond_expr.specs.declared.exprs.CmpOp.{CmpOp}
-use Rattle.cond_expr.specs.declared.exprs.CmpOp.TheVariants.{Eq, Ne, Lt, Le, Gt, Ge}
-use Rattle.cond_expr.specs.Trees.{Test, never, always, compared, all_of, some_of, fails, Tests, no_tests, a_test}
+use Rattle.cond_expr.specs.declared.expr.CmpOp.{CmpOp}
+use Rattle.cond_expr.specs.declared.expr.CmpOp.TheVariants.{Eq, Ne, Lt, Le, Gt, Ge}
+use Rattle.cond_expr.specs.Trees.{Test, never, always, compared, all_of, some_of, fails, Tests}
+use Rattle.cond_expr.specs.Trees.{no_tests, a_test}
 use Rattle.cond_expr.specs.Values.{Cells, agrees, value, truth, all_true}
 use Rattle.cond_expr.specs.Kinds.{Kinds, is_typed, all_typed}
 use Rattle.cond_expr.specs.Sizes.{nodes_of, test_nodes}
@@ -20,7 +22,8 @@ use Rattle.cond_expr.specs.Parts.{parts_but_true as parts, all_parts_but_true as
 use Rattle.piece_meaning.proofs.AddedParts.{both_true, and_true}
 use Rattle.rule_views.specs.OperatorViews.{opposite, unmet}
 
-none_both : (xs ys : List ℕ) → first_of (xs ++ ys) ≡ None → (first_of xs ≡ None) × (first_of ys ≡ None)
+none_both : (xs ys : List ℕ) → first_of (xs ++ ys) ≡ None → (first_of xs ≡ None)
+    × (first_of ys ≡ None)
 none_both [] ys e = (refl, e)
 none_both (x ∷ xs) ys e = absurd (cc)
 
@@ -30,26 +33,32 @@ none_so false at e = absurd (cc)
 
 -- a condition none of whose nodes is without a type has one
 mutual
-  pub typed_test : (of : Kinds) (at : ℕ) (c : Test) → first_of (test_untyped of at c) ≡ None → is_typed of c ≡ true
+  pub typed_test : (of : Kinds) (at : ℕ) (c : Test) → first_of (test_untyped of at c) ≡ None
+      → is_typed of c ≡ true
   typed_test of at never e = refl
   typed_test of at always e = refl
   typed_test of at (compared o a b) e =
       none_so (is_typed of (compared o a b)) at
-      (none_both (untyped of (at + 1 + nodes_of a) b) (if_so (not (is_typed of (compared o a b))) at)
-      (none_both (untyped of (at + 1) a) (untyped of (at + 1 + nodes_of a) b ++ if_so (not (is_typed of (compared o a b))) at) e).1).1
+      (none_both (untyped of (at + 1 + nodes_of a) b)
+      (if_so (not (is_typed of (compared o a b))) at)
+      (none_both (untyped of (at + 1) a) (untyped of (at + 1 + nodes_of a) b
+      ++ if_so (not (is_typed of (compared o a b))) at) e).1).1
   typed_test of at (all_of cs) e = typed_tests of (at + 1) cs e
   typed_test of at (some_of cs) e = typed_tests of (at + 1) cs e
   typed_test of at (fails c) e = typed_test of (at + 1) c e
 
-  typed_tests : (of : Kinds) (at : ℕ) (cs : Tests) → first_of (tests_untyped of at cs) ≡ None → all_typed of cs ≡ true
+  typed_tests : (of : Kinds) (at : ℕ) (cs : Tests) → first_of (tests_untyped of at cs) ≡ None
+      → all_typed of cs ≡ true
   typed_tests of at no_tests e = refl
   typed_tests of at (a_test c cs) e =
       let h = none_both (test_untyped of at c) (tests_untyped of (at + test_nodes c) cs) e in
-      and_true (is_typed of c) (all_typed of cs) (typed_test of at c h.0) (typed_tests of (at + test_nodes c) cs h.1)
+      and_true (is_typed of c) (all_typed of cs) (typed_test of at c h.0)
+      (typed_tests of (at + test_nodes c) cs h.1)
 
 -- each part of a condition that has a type has one
 mutual
-  pub part_typed : (of : Kinds) (c t : Test) → is_typed of c ≡ true → In t (parts c) → is_typed of t ≡ true
+  pub part_typed : (of : Kinds) (c t : Test) → is_typed of c ≡ true → In t (parts c)
+      → is_typed of t ≡ true
   part_typed of never t e (inl m) = subst (λ (x : Test). is_typed of x ≡ true) m e
   part_typed of never t e (inr m) = absurd m
   part_typed of always t e m = absurd m
@@ -61,11 +70,15 @@ mutual
   part_typed of (fails c) t e (inl m) = subst (λ (x : Test). is_typed of x ≡ true) m e
   part_typed of (fails c) t e (inr m) = absurd m
 
-  parts_typed : (of : Kinds) (cs : Tests) (t : Test) → all_typed of cs ≡ true → In t (all_parts cs) → is_typed of t ≡ true
+  parts_typed : (of : Kinds) (cs : Tests) (t : Test) → all_typed of cs ≡ true → In t (all_parts cs)
+      → is_typed of t ≡ true
   parts_typed of no_tests t e m = absurd m
   parts_typed of (a_test c cs) t e m =
       let h = both_true (is_typed of c) (all_typed of cs) e in
-      elim (in_append t (parts c) (all_parts cs) m) [ inl i ↦ part_typed of c t h.0 i | inr i ↦ parts_typed of cs t h.1 i ]
+      elim (in_append t (parts c) (all_parts cs) m) [
+        | inl i ↦ part_typed of c t h.0 i
+        | inr i ↦ parts_typed of cs t h.1 i
+      ]
 
 pub and_all : (b : Bool) → (b && true) ≡ b
 and_all true = refl

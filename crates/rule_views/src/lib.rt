@@ -1,5 +1,5 @@
-//! Of each operator the views of the tables that it makes, and that they give these tables: definitions (`specs/`) and
-//! their laws.
+//! Of each operator the views of the tables that it makes, and that they give these tables:
+//! definitions (`specs/`) and their laws.
 #![tactic(auto)]
 
 mod laws;

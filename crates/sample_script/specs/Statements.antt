@@ -1,5 +1,6 @@
 -- The statements of the sample script, by its size.
-use Rattle.std.specs.Prelude.{ℕ, ◌+◌, ◌-◌, ◌%◌, ◌==◌, Bool, List, [], ◌∷◌, ◌++◌, map, filter, codes, decimal, if◌then◌else◌}
+use Rattle.std.specs.Prelude.{ℕ, ◌+◌, ◌-◌, ◌%◌, ◌==◌, Bool, List, [], ◌∷◌, ◌++◌, map, filter, codes}
+use Rattle.std.specs.Prelude.{decimal, if◌then◌else◌}
 use Rattle.std.specs.List.{concat, range_with_len}
 
 -- the numbers from one up to, and not at, another
@@ -13,7 +14,8 @@ stamp moment = codes "AT " ++ decimal moment ++ codes " "
 abbrev pub stamped : ℕ → List ℕ → List ℕ
 stamped moment does = stamp moment ++ does
 
--- ---- the moments: of the first row, of the first operator behind the rows, of the first update, and of the first new title
+-- ---- the moments: of the first row, of the first operator after the rows, of the first update,
+-- and of the first new title
 
 abbrev pub rows_at : ℕ
 rows_at = 10
@@ -32,12 +34,13 @@ retitled_at size = updated_at size + size
 abbrev pub page_made : List ℕ
 page_made = codes "AT 1 EVOLVE CREATE TABLE page (id INT, title TEXT, kind INT)"
 
-unfoldable pub row_front : List ℕ
-row_front = codes "INSERT INTO page (id, title, kind) VALUES ("
+unfoldable pub row_prefix : List ℕ
+row_prefix = codes "INSERT INTO page (id, title, kind) VALUES ("
 
 -- row i has the title pi, and one of four kinds
 abbrev pub row_given : ℕ → List ℕ
-row_given i = row_front ++ (decimal i ++ (codes ", 'p" ++ (decimal i ++ (codes "', " ++ (decimal (i % 4) ++ codes ")")))))
+row_given i = row_prefix ++ (decimal i ++ (codes ", 'p"
+    ++ (decimal i ++ (codes "', " ++ (decimal (i % 4) ++ codes ")")))))
 
 abbrev pub page_inserted : ℕ → List ℕ
 page_inserted i = stamped (rows_at + i) (row_given i)
@@ -45,13 +48,17 @@ page_inserted i = stamped (rows_at + i) (row_given i)
 -- ---- which is then given a column and split twice, the second time by columns
 
 abbrev pub state_added : ℕ → List ℕ
-state_added size = stamped (evolved_at size) (codes "EVOLVE ADD COLUMN state AS 'new' INTO page INVERSE DROP COLUMN state FROM page")
+state_added size = stamped (evolved_at size) (codes
+    "EVOLVE ADD COLUMN state AS 'new' INTO page INVERSE DROP COLUMN state FROM page")
 
 abbrev pub pages_split : ℕ → List ℕ
-pages_split size = stamped (evolved_at size + 1) (codes "EVOLVE PARTITION TABLE page INTO hot WITH kind = 0, cold INVERSE MERGE TABLE hot, cold INTO page")
+pages_split size = stamped (evolved_at size + 1)
+    (codes
+    "EVOLVE PARTITION TABLE page INTO hot WITH kind = 0, cold INVERSE MERGE TABLE hot, cold INTO page")
 
 abbrev pub title_renamed : ℕ → List ℕ
-title_renamed size = stamped (evolved_at size + 2) (codes "EVOLVE RENAME COLUMN title IN hot TO name INVERSE RENAME COLUMN name IN hot TO title")
+title_renamed size = stamped (evolved_at size + 2)
+    (codes "EVOLVE RENAME COLUMN title IN hot TO name INVERSE RENAME COLUMN name IN hot TO title")
 
 abbrev pub cold_split : ℕ → List ℕ
 cold_split size = stamped (evolved_at size + 3)
@@ -78,11 +85,11 @@ checkpoint_made = codes "CHECKPOINT"
 abbrev pub titles : ℕ
 titles = 35
 
--- its name behind j of them
+-- its name after j of them
 abbrev pub title_table : ℕ → List ℕ
 title_table j = if j == 0 then codes "cold_title" else codes "title_" ++ decimal j
 
--- from its name behind j of them to that behind k
+-- from its name after j of them to that after k
 unfoldable pub renaming : ℕ → ℕ → List ℕ
 renaming j k = codes "RENAME TABLE " ++ (title_table j ++ (codes " INTO " ++ title_table k))
 
@@ -98,7 +105,8 @@ abbrev pub pages_asked : List ℕ
 pages_asked = codes "QUERY VERSION 1 SELECT id FROM page"
 
 abbrev pub hot_then_asked : ℕ → List ℕ
-hot_then_asked size = codes "QUERY VERSION 5 SELECT id, state FROM hot AS OF " ++ decimal (retitled_at size + 34)
+hot_then_asked size = codes "QUERY VERSION 5 SELECT id, state FROM hot AS OF "
+    ++ decimal (retitled_at size + 34)
 
 abbrev pub hot_asked : List ℕ
 hot_asked = codes "QUERY VERSION 5 SELECT id, state FROM hot"
@@ -127,7 +135,8 @@ abbrev pub insertions : ℕ → List (List ℕ)
 insertions size = map page_inserted (numbers 0 size)
 
 abbrev pub sample_statements : ℕ → List (List ℕ)
-sample_statements size = page_made ∷ (insertions size ++ (evolutions size ++ (updates size ++ checkpoint_made ∷ (retitlings size ++ questions size))))
+sample_statements size = page_made ∷ (insertions size
+    ++ (evolutions size ++ (updates size ++ checkpoint_made ∷ (retitlings size ++ questions size))))
 
 -- each on a line of its own
 abbrev pub line_of : List ℕ → List ℕ

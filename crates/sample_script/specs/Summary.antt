@@ -1,15 +1,18 @@
 -- What is told of the replies to a sample script.
-use Rattle.std.specs.Prelude.{ℕ, ◌==◌, Bool, List, [], ◌∷◌, ◌++◌, filter, length, codes, decimal, nat_eq, if◌then◌else◌}
+use Rattle.std.specs.Prelude.{ℕ, ◌==◌, Bool, List, [], ◌∷◌, ◌++◌, filter, length, codes, decimal}
+use Rattle.std.specs.Prelude.{nat_eq, if◌then◌else◌}
 use Rattle.std.specs.List.{concat, starts_with}
 
--- the lines of a text, each with its line feed (10), behind the front of a line; what stands behind the last is none
-abbrev pub lines_behind : List ℕ → List ℕ → List (List ℕ)
-lines_behind front [] = []
-lines_behind front (byte ∷ bytes) =
-    if byte == 10 then (front ++ byte ∷ []) ∷ lines_behind [] bytes else lines_behind (front ++ byte ∷ []) bytes
+-- the lines of a text, each with its line feed (10), after the prefix of a line; what stands after
+-- the last is none
+abbrev pub lines_after : List ℕ → List ℕ → List (List ℕ)
+lines_after prefix [] = []
+lines_after prefix (byte ∷ bytes) =
+    if byte == 10 then (prefix ++ byte ∷ []) ∷ lines_after [] bytes
+    else lines_after (prefix ++ byte ∷ []) bytes
 
 abbrev pub lines : List ℕ → List (List ℕ)
-lines text = lines_behind [] text
+lines text = lines_after [] text
 
 abbrev pub is_error : List ℕ → Bool
 is_error line = starts_with nat_eq line (codes "error ")
@@ -23,10 +26,13 @@ error_count lines = length (filter is_error lines)
 abbrev pub end_lines : List (List ℕ) → List ℕ
 end_lines lines = concat (filter is_end lines)
 
--- the size, the commands of the history behind the script, how many replies are refusals, and the lines that count answers
+-- the size, the commands of the history after the script, how many replies are refusals, and the
+-- lines that count answers
 abbrev pub summary_with : ℕ → ℕ → ℕ → List ℕ → List ℕ
 summary_with size commands errors ends =
-    codes "sample " ++ (decimal size ++ (codes "\ncommands " ++ (decimal commands ++ (codes "\nerrors " ++ (decimal errors ++ (codes "\n" ++ ends))))))
+    codes "sample " ++ (decimal size ++ (codes "\ncommands "
+    ++ (decimal commands ++ (codes "\nerrors " ++ (decimal errors ++ (codes "\n" ++ ends))))))
 
 abbrev pub summary : ℕ → ℕ → List ℕ → List ℕ
-summary size commands replies = summary_with size commands (error_count (lines replies)) (end_lines (lines replies))
+summary size commands replies = summary_with size commands (error_count (lines replies))
+    (end_lines (lines replies))

@@ -15,7 +15,7 @@ use std::alloc::Global;
 /// How many times the table of titles is renamed.
 const TITLES: u32 = 35;
 
-/// An operator behind the rows.
+/// An operator after the rows.
 #[derive(Clone, Copy, PartialEq, Eq)]
 pub(crate) enum Evolution {
     State,
@@ -41,15 +41,15 @@ pub(crate) enum Place {
     /// The row with this number, if it is one of the script's.
     Row(u32),
     Evolve(Evolution),
-    /// The next update from the row with this number on, or the checkpoint behind the last.
+    /// The next update from the row with this number on, or the checkpoint after the last.
     Update(u32),
-    /// The next renaming behind so many.
+    /// The next renaming after so many.
     Retitle(u32),
     Ask(Question),
     End,
 }
 
-/// A statement and what comes behind it; none at the end.
+/// A statement and what comes after it; none at the end.
 pub(crate) type Next = Option<(Vec<u8>, Place)>;
 
 // A query, and the next one.
@@ -65,7 +65,7 @@ fn ask(alloc: Global, size: u32, question: Question) -> Result<Next, NoMemory>
     }
 }
 
-// A renaming, or what comes behind all of them.
+// A renaming, or what comes after all of them.
 fn retitle(alloc: Global, size: u32, j: u32) -> Result<Next, NoMemory>
     ensures { IfOk result (λ it. NextIs size (left_at size (at.Retitle j)) it) }
 {
@@ -82,11 +82,13 @@ fn is_hot(i: u32) -> bool
     i % 4 == 0
 }
 
-// The first number from this one on that is one of a row of kind 0, or the size where there is none.
+// The first number from this one on that is one of a row of kind 0, or the size where there is
+// none.
 fn next_hot(size: u32, i: u32) -> u32
     requires { i ≤ size }
     ensures within { result ≤ size }
-    ensures found { result < size → filter spec.is_hot (spec.numbers i size) ≡ result ∷ filter spec.is_hot (spec.numbers (result + 1) size) }
+    ensures found { result < size → filter spec.is_hot (spec.numbers i size) ≡ result
+        ∷ filter spec.is_hot (spec.numbers (result + 1) size) }
     ensures none { size ≤ result → filter spec.is_hot (spec.numbers i size) ≡ [] }
 {
     let mut i = i;
@@ -101,12 +103,13 @@ fn next_hot(size: u32, i: u32) -> u32
 
 // The checkpoint, and the first renaming.
 fn checkpoint(alloc: Global) -> Result<Next, NoMemory>
-    ensures { (size : ℕ) → IfOk result (λ it. NextIs size (spec.checkpoint_made ∷ (spec.retitlings size ++ spec.questions size)) it) }
+    ensures { (size : ℕ) → IfOk result (λ it.
+        NextIs size (spec.checkpoint_made ∷ (spec.retitlings size ++ spec.questions size)) it) }
 {
     Ok(Some((checkpoint_made(alloc)?, Place::Retitle(0))))
 }
 
-// An update, or what comes behind all of them.
+// An update, or what comes after all of them.
 fn update(alloc: Global, size: u32, i: u32) -> Result<Next, NoMemory>
     ensures { IfOk result (λ it. NextIs size (left_at size (at.Update i)) it) }
 {
@@ -121,7 +124,7 @@ fn update(alloc: Global, size: u32, i: u32) -> Result<Next, NoMemory>
     }
 }
 
-// An operator behind the rows, and the next one.
+// An operator after the rows, and the next one.
 fn evolve(alloc: Global, size: u32, evolution: Evolution) -> Result<Next, NoMemory>
     ensures { IfOk result (λ it. NextIs size (left_at size (at.Evolve evolution)) it) }
 {
@@ -133,7 +136,7 @@ fn evolve(alloc: Global, size: u32, evolution: Evolution) -> Result<Next, NoMemo
     }
 }
 
-// A row, or what comes behind all of them.
+// A row, or what comes after all of them.
 fn insert(alloc: Global, size: u32, i: u32) -> Result<Next, NoMemory>
     ensures { IfOk result (λ it. NextIs size (left_at size (at.Row i)) it) }
 {
@@ -144,7 +147,7 @@ fn insert(alloc: Global, size: u32, i: u32) -> Result<Next, NoMemory>
     }
 }
 
-/// The statement at this place of the script of this size, and the place behind it. The one error is
+/// The statement at this place of the script of this size, and the place after it. The one error is
 /// `NoMemory`, where memory runs out.
 pub(crate) fn step(alloc: Global, size: u32, place: Place) -> Result<Next, NoMemory>
     ensures { IfOk result (λ it. NextIs size (left_at size place) it) }

@@ -8,8 +8,8 @@ use prima_base::NoMemory;
 use std::alloc::Global;
 use std::marker::Model;
 
-/// A sample script, from a statement on. A contract sees the lines that are left, each a statement with
-/// its `;` and a line feed.
+/// A sample script, from a statement on. A contract sees the lines that are left, each a statement
+/// with its `;` and a line feed.
 #[derive(Drop)]
 pub struct SampleScript {
     size: u32,
@@ -37,8 +37,8 @@ impl SampleScript {
         }
     }
 
-    /// The next line, which has a byte at least; none at the end. The one error is `NoMemory`, where memory runs out, and then the
-    /// line is still the next one.
+    /// The next line, which has a byte at least; none at the end. The one error is `NoMemory`,
+    /// where memory runs out, and then the line is still the next one.
     pub fn next(&mut self, alloc: Global) -> Result<Option<Vec<u8>>, NoMemory>
         ensures next { IfOk result (λ it. Hands self.old self.new it) }
         ensures some { IfOk result (λ it. IfSome it (λ t. 0 < length t.items)) }

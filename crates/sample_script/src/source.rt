@@ -12,8 +12,8 @@ use prima_base::{Failed, NoMemory};
 use prima_io::{Source, SureSource};
 use std::alloc::Global;
 
-/// A source that hands out a sample script. It makes one line at a time, and fails only where it finds no
-/// memory for the next one. It tells its bytes.
+/// A source that hands out a sample script. It makes one line at a time, and fails only where it
+/// finds no memory for the next one. It tells its bytes.
 #[derive(Drop)]
 pub struct SampleSource {
     script: SampleScript,
@@ -64,7 +64,8 @@ impl Source for SampleSource {
     fn take(&mut self, buf: &mut [u8]) -> Result<usize, Failed>
         requires { 0 < length buf.old }
         ensures bound { ReadsAtMost result buf.new }
-        ensures bytes { ReadConsumes (Some (left_of self.old)) (Some (left_of self.new)) result buf.new }
+        ensures bytes { ReadConsumes (Some (left_of self.old)) (Some (left_of self.new)) result
+            buf.new }
         ensures cause { HasCause (faults_of self.old) (faults_of self.new) result }
     {
         let count = moved(&mut self.line, buf);

@@ -8,7 +8,7 @@ use std::alloc::Global;
 /// The moment of the first row.
 const ROWS_AT: u64 = 10;
 
-// The moment of the first operator behind the rows.
+// The moment of the first operator after the rows.
 fn evolved_at(size: u32) -> u64
     ensures { result ≡ spec.evolved_at size }
 {
@@ -39,10 +39,10 @@ pub(crate) fn page_made(alloc: Global) -> Result<Vec<u8>, NoMemory>
     )
 }
 
-// The front of what inserts a row.
-#[tactic(auto, unfolding(crate::specs::Statements::row_front))]
-fn add_row_front(text: &mut Vec<u8>) -> Result<(), NoMemory>
-    ensures { OnOk result (text.new.items ≡ text.old.items ++ spec.row_front) }
+// The prefix of what inserts a row.
+#[tactic(auto, unfolding(crate::specs::Statements::row_prefix))]
+fn add_row_prefix(text: &mut Vec<u8>) -> Result<(), NoMemory>
+    ensures { OnOk result (text.new.items ≡ text.old.items ++ spec.row_prefix) }
 {
     add(text, b"INSERT INTO page (id, title, kind) VALUES (")
 }
@@ -51,7 +51,7 @@ fn add_row_front(text: &mut Vec<u8>) -> Result<(), NoMemory>
 fn add_row(text: &mut Vec<u8>, i: u32) -> Result<(), NoMemory>
     ensures { OnOk result (text.new.items ≡ text.old.items ++ spec.row_given i) }
 {
-    add_row_front(text)?;
+    add_row_prefix(text)?;
     add_number(text, i as u64)?;
     add(text, b", 'p")?;
     add_number(text, i as u64)?;
@@ -137,7 +137,7 @@ pub(crate) fn checkpoint_made(alloc: Global) -> Result<Vec<u8>, NoMemory>
     text_of(alloc, b"CHECKPOINT")
 }
 
-// Adds the name of the table behind j renamings.
+// Adds the name of the table after j renamings.
 fn add_title_table(text: &mut Vec<u8>, j: u32) -> Result<(), NoMemory>
     ensures { OnOk result (text.new.items ≡ text.old.items ++ spec.title_table j) }
 {
@@ -148,7 +148,7 @@ fn add_title_table(text: &mut Vec<u8>, j: u32) -> Result<(), NoMemory>
     add_number(text, j as u64)
 }
 
-// A renaming of the table, from its name behind j of them to that behind k.
+// A renaming of the table, from its name after j of them to that after k.
 #[tactic(auto, unfolding(crate::specs::Statements::renaming))]
 fn add_renaming(text: &mut Vec<u8>, j: u32, k: u32) -> Result<(), NoMemory>
     ensures { OnOk result (text.new.items ≡ text.old.items ++ spec.renaming j k) }

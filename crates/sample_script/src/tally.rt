@@ -8,8 +8,8 @@ use crate::text::{add, add_number, text_of};
 use prima_base::NoMemory;
 use std::alloc::Global;
 
-/// Of the lines so far, how many are refusals, and those that count answers; and the line that is not
-/// ended.
+/// Of the lines so far, how many are refusals, and those that count answers; and the line that is
+/// not ended.
 #[derive(Drop)]
 pub(crate) struct Tally {
     line: Vec<u8>,
@@ -18,10 +18,13 @@ pub(crate) struct Tally {
 }
 
 impl Tally {
-    // Takes the line in, which has ended. There is no memory for more lines than a number can count.
+    // Takes the line in, which has ended. There is no memory for more lines than a number can
+    // count.
     fn end_line(&mut self) -> Result<(), NoMemory>
-        ensures errors { OnOk result (self.new.errors ≡ self.old.errors + spec.error_count (self.old.line.items ∷ [])) }
-        ensures ends { OnOk result (self.new.ends.items ≡ self.old.ends.items ++ spec.end_lines (self.old.line.items ∷ [])) }
+        ensures errors { OnOk result (self.new.errors
+            ≡ self.old.errors + spec.error_count (self.old.line.items ∷ [])) }
+        ensures ends { OnOk result (self.new.ends.items ≡ self.old.ends.items
+            ++ spec.end_lines (self.old.line.items ∷ [])) }
         ensures line { OnOk result (self.new.line.items ≡ []) }
     {
         if self.line.starts_with(b"error ") {
@@ -40,8 +43,10 @@ impl Tally {
     // Takes one more byte in.
     #[tactic(auto, using(crate::proofs::Lines::errors_more, crate::proofs::Lines::ends_more))]
     fn take_byte(&mut self, byte: u8) -> Result<(), NoMemory>
-        ensures errors { (rest : List ℕ) → OnOk result (errors_in self.old (byte ∷ rest) ≡ errors_in self.new rest) }
-        ensures ends { (rest : List ℕ) → OnOk result (ends_in self.old (byte ∷ rest) ≡ ends_in self.new rest) }
+        ensures errors { (rest : List ℕ) → OnOk result
+            (errors_in self.old (byte ∷ rest) ≡ errors_in self.new rest) }
+        ensures ends { (rest : List ℕ) → OnOk result
+            (ends_in self.old (byte ∷ rest) ≡ ends_in self.new rest) }
     {
         add(&mut self.line, &[byte])?;
         if byte == b'\n' {
@@ -67,9 +72,9 @@ fn tally_of(alloc: Global, replies: &[u8]) -> Result<Tally, NoMemory>
     Ok(tally)
 }
 
-/// The summary of a sample: its size, the number of the commands of the history behind it, the number of the
-/// refusals among the replies, and the lines of the replies that count answers. The one error is
-/// `NoMemory`, where memory runs out.
+/// The summary of a sample: its size, the number of the commands of the history after it, the
+/// number of the refusals among the replies, and the lines of the replies that count answers. The
+/// one error is `NoMemory`, where memory runs out.
 pub fn summary(alloc: Global, size: u32, commands: u64, replies: &[u8]) -> Result<Vec<u8>, NoMemory>
     ensures { IfOk result (λ t. t.items ≡ spec.summary size commands replies.now) }
 {

@@ -29,7 +29,7 @@ pub(crate) fn text_of(alloc: Global, bytes: &[u8]) -> Result<Vec<u8>, NoMemory>
     Ok(text)
 }
 
-/// The front of a command of this moment.
+/// The prefix of a command of this moment.
 #[tactic(auto, unfolding(crate::specs::Statements::stamp))]
 pub(crate) fn stamp(alloc: Global, moment: u64) -> Result<Vec<u8>, NoMemory>
     ensures { IfOk result (λ t. t.items ≡ spec.stamp moment) }

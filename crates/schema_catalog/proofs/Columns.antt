@@ -1,5 +1,6 @@
 -- Columns in order, by the first two of them.
-use Rattle.std.proofs.Common.{◌≡◌, ◌<◌, ◌≤◌, ◌-◌, ℕ, Bool, true, List, [], ◌∷◌, length, refl, get_or, take, drop, sym, ap, subst, ◌∙◌, arith}
+use Rattle.std.proofs.Common.{◌≡◌, ◌<◌, ◌≤◌, ◌-◌, ℕ, Bool, true, List, [], ◌∷◌, length, refl}
+use Rattle.std.proofs.Common.{get_or, take, drop, sym, ap, subst, ◌∙◌, arith}
 use Rattle.std.specs.Prelude.{IsTrue, ◌↔◌}
 use Rattle.std.proofs.lemmas.List.{take_all}
 use Rattle.prima_base.specs.Columns.{Column, names_of, AreColumns}
@@ -10,11 +11,13 @@ use Rattle.relations.specs.Sets.{BeforeAll, Ascends}
 use Rattle.prima_base.specs.Order.{bytes_cmp}
 use Rattle.prima_base.specs.OrderLaws.{bytes_exact}
 
-before_more : (a b : List ℕ) (names : List (List ℕ)) → bytes_cmp a b ≡ Less → BeforeAll bytes_cmp b names → BeforeAll bytes_cmp a names
+before_more : (a b : List ℕ) (names : List (List ℕ)) → bytes_cmp a b ≡ Less
+    → BeforeAll bytes_cmp b names → BeforeAll bytes_cmp a names
 before_more a b [] e h = tt
 before_more a b (n ∷ names) e h = (bytes_exact.trans a b n e h.0, before_more a b names e h.1)
 
-pub ascends_more : (a b : List ℕ) (names : List (List ℕ)) → bytes_cmp a b ≡ Less → Ascends bytes_cmp (b ∷ names) → Ascends bytes_cmp (a ∷ b ∷ names)
+pub ascends_more : (a b : List ℕ) (names : List (List ℕ)) → bytes_cmp a b ≡ Less
+    → Ascends bytes_cmp (b ∷ names) → Ascends bytes_cmp (a ∷ b ∷ names)
 ascends_more a b names e h = ((e, before_more a b names e h.0), h)
 
 pub few_columns : (xs : List Column) → length xs < 2 → AreColumns xs
@@ -34,7 +37,8 @@ more_columns (a ∷ []) x y r l ex ey lt h = absurd (omega arith)
 more_columns (a ∷ b ∷ xs) x y r l ex ey lt h =
     let rest : take (length (a ∷ b ∷ xs) - 1) (b ∷ xs) ≡ b ∷ xs = rest_of a (b ∷ xs) in
     let second : y ≡ b = ey ∙ ap (λ (zs : List Column). get_or zs 0 y) rest in
-    let before : bytes_cmp a.0 b.0 ≡ Less = subst (λ (z : Column). bytes_cmp a.0 z.0 ≡ Less) second (subst (λ (z : Column). bytes_cmp z.0 y.0 ≡ Less) ex lt) in (
+    let before : bytes_cmp a.0 b.0 ≡ Less = subst (λ (z : Column). bytes_cmp a.0 z.0 ≡ Less) second
+    (subst (λ (z : Column). bytes_cmp z.0 y.0 ≡ Less) ex lt) in (
       λ t. ascends_more a.0 b.0 (names_of xs) before (subst AreColumns rest (h.0 t)),
       λ c. h.1 (subst AreColumns (sym rest) c.1),
     )

@@ -1,6 +1,6 @@
 pub mod Sorting
 pub mod Placing
-pub mod Lawful
+pub mod Valid
 pub mod Cells
 pub mod Columns
 pub mod Differing

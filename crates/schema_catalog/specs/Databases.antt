@@ -2,8 +2,8 @@
 use Rattle.std.specs.Prelude.{ℕ, List, [], ◌∷◌, Option, Some, None, pos, map, if◌then◌else◌}
 use Rattle.std.specs.Ordering.{is_eq}
 use Rattle.std.specs.FinMap.{FinMap, get}
-use Rattle.prima_base.specs.declared.values.Value.{Value}
-use Rattle.prima_base.specs.declared.values.Value.TheVariants.{Int}
+use Rattle.prima_base.specs.declared.value.Value.{Value}
+use Rattle.prima_base.specs.declared.value.Value.TheVariants.{Int}
 use Rattle.prima_base.specs.Order.{bytes_cmp}
 use Rattle.prima_base.specs.Columns.{Column, IsRelation}
 use Rattle.schema_catalog.specs.Tables.{Tables}
@@ -19,15 +19,15 @@ abbrev pub cells_of : List Column → List Value → List Value
 cells_of columns row = map (λ (c : Column). cell columns row c.0) columns
 
 -- what a database has under a name: a relation, or the loss of one
-pub data Entry : Type 0 where
-  Rows : List (List Value) → Entry
-  Lost : ℕ → ℕ → Entry
+pub data DatabaseEntry : Type 0 where
+  Rows : List (List Value) → DatabaseEntry
+  Lost : ℕ → ℕ → DatabaseEntry
 
 abbrev pub Database : Type 0
-Database = FinMap bytes_cmp Entry
+Database = FinMap bytes_cmp DatabaseEntry
 
 -- what stands under one name: a relation of a table's columns, and nothing where there is no table
-abbrev pub IsEntry : Option (List Column) → Option Entry → Type 0
+abbrev pub IsEntry : Option (List Column) → Option DatabaseEntry → Type 0
 IsEntry None None = Unit {0}
 IsEntry None (Some entry) = ⊥
 IsEntry (Some columns) None = ⊥

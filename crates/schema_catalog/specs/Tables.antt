@@ -2,8 +2,8 @@
 use Rattle.std.specs.Prelude.{◌≡◌, ℕ, List, Bool, true, false, Some, refl}
 use Rattle.std.specs.FinMap.{FinMap, get, code}
 use Rattle.std.specs.Coded.{Coded, code_by, coded×, coded_ℕ, coded_bool, coded_list}
-use Rattle.prima_base.specs.declared.values.ColType.{ColType}
-use Rattle.prima_base.specs.declared.values.ColType.TheVariants.{Int, Text}
+use Rattle.prima_base.specs.declared.value.ColType.{ColType}
+use Rattle.prima_base.specs.declared.value.ColType.TheVariants.{Int, Text}
 use Rattle.prima_base.specs.Order.{bytes_cmp}
 use Rattle.prima_base.specs.Columns.{Column, AreColumns}
 
@@ -12,7 +12,8 @@ Tables = FinMap bytes_cmp (List Column)
 
 -- each table's columns stand in the order of their names, each once
 abbrev pub IsSchema : Tables → Type 0
-IsSchema tables = (name : List ℕ) (columns : List Column) → get tables name ≡ Some columns → AreColumns columns
+IsSchema tables = (name : List ℕ) (columns : List Column) → get tables name ≡ Some columns
+    → AreColumns columns
 
 -- how a `Tables` is stored
 abbrev pub is_text : ColType → Bool
@@ -28,4 +29,5 @@ type_again Int = refl
 type_again Text = refl
 
 abbrev pub tables_code : Coded Tables
-tables_code = code (coded_list coded_ℕ) (coded_list (coded× (coded_list coded_ℕ) (code_by Bool coded_bool is_text type_of type_again)))
+tables_code = code (coded_list coded_ℕ) (coded_list
+    (coded× (coded_list coded_ℕ) (code_by Bool coded_bool is_text type_of type_again)))

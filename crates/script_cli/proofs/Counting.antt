@@ -1,13 +1,14 @@
 -- How many commands were put, counted as they are, is how many the script puts.
-use Rattle.std.proofs.Common.{◌≡◌, ℕ, Bool, true, false, List, [], ◌∷◌, length, refl, sym, ap, ◌∙◌, subst, arith}
+use Rattle.std.proofs.Common.{◌≡◌, ℕ, Bool, true, false, List, [], ◌∷◌, length, refl, sym, ap, ◌∙◌}
+use Rattle.std.proofs.Common.{subst, arith}
 use Rattle.std.specs.Prelude.{Option, Some, None}
 use Rattle.std.specs.Io.KnownBytes.{Consumes, IsAtEnd}
 use Rattle.disk_model.specs.Meaning.{Tells}
 use Rattle.disk_model.specs.declared.disk.Disk.{Ghosts}
 use Rattle.archive_file.specs.LogRecords.{LogRecord, commands_in}
-use Rattle.archive_state.specs.Standing.{Standing}
-use Rattle.archive_core.specs.declared.archives.Archive.{Archive}
-use Rattle.archive_core.specs.declared.archives.Opened.{Opened}
+use Rattle.archive_state.specs.Standing.{ArchiveContent}
+use Rattle.archive_core.specs.declared.archive.Archive.{Archive}
+use Rattle.archive_core.specs.declared.archive.Opened.{Opened}
 use Rattle.archive_core.specs.Mounting.{IsMounted}
 use Rattle.script_parse.specs.Script.{Whole as Text}
 use Rattle.script_cli.specs.Given.{Given}
@@ -22,7 +23,9 @@ use Rattle.script_cli.specs.declared.script_run.ScriptRun.{ScriptRun}
 use Rattle.script_cli.specs.declared.halt.Halt.{Halt}
 use Rattle.script_cli.specs.declared.halt.Halt.TheVariants as halt
 use Rattle.script_cli.specs.declared.status.Status.{Status}
-use Rattle.script_cli.specs.declared.status.Status.TheVariants.{Done, Refused, Words, ReadFault, WriteFault, DiskFault, NotAJournal, NoMemory, InputLimit}
+use Rattle.script_cli.specs.declared.status.Status.TheVariants.{Done, Refused, Words, ReadFault}
+use Rattle.script_cli.specs.declared.status.Status.TheVariants.{WriteFault, DiskFault, NotAJournal}
+use Rattle.script_cli.specs.declared.status.Status.TheVariants.{NoMemory, InputLimit}
 use Rattle.script_cli.specs.declared.put.Put.{Put}
 use Rattle.script_cli.proofs.OneReading.{OpensOnce}
 use Rattle.script_cli.proofs.Recording.{piece_step, one_if}
@@ -37,9 +40,11 @@ error_for false (image_due past ∷ due) = refl
 
 -- ---- one statement: the `ok` line of a command tells that one was put
 
-module _ (limit : Given) (now : Recorded) (text : List ℕ) (put : Put) (is : put ≡ put_of (reply limit now text)) where
+module _ (limit : Given) (now : Recorded) (text : List ℕ) (put : Put)
+    (is : put ≡ put_of (reply limit now text)) where
   counted : length (commands_due (reply limit now text).puts) ≡ one_if (is_command put)
-  counted = (piece_step limit now (Text text)).counted ∙ ap (λ (p : Put). one_if (is_command p)) (sym is)
+  counted = (piece_step limit now (Text text)).counted
+      ∙ ap (λ (p : Put). one_if (is_command p)) (sym is)
 
   pub one_put : is_command put ≡ true → length (commands_due (reply limit now text).puts) ≡ 1
   one_put e = counted ∙ ap one_if e
@@ -53,7 +58,10 @@ module _ (limit : Given) (now : Recorded) (text : List ℕ) (put : Put) (is : pu
 
 -- ---- a script that was read to its end
 
-counts_end : (status : Status) (limit : Given) (start : Recorded) (left : Option (List ℕ)) (puts : ℕ) → WhereTold left (λ script. puts ≡ length (commands_due (script_puts limit start script))) → CountsPuts status limit start left puts
+counts_end : (status : Status) (limit : Given) (start : Recorded) (left : Option (List ℕ))
+    (puts : ℕ) → WhereTold left (λ script. puts
+    ≡ length (commands_due (script_puts limit start script)))
+    → CountsPuts status limit start left puts
 counts_end Done limit start left puts told = told
 counts_end Refused limit start left puts told = told
 counts_end Words limit start left puts told = tt
@@ -64,12 +72,14 @@ counts_end (NotAJournal place) limit start left puts told = tt
 counts_end NoMemory limit start left puts told = tt
 counts_end InputLimit limit start left puts told = tt
 
-pub counts_stopped : (h : Halt) (limit : Given) (start : Recorded) (left : Option (List ℕ)) (puts : ℕ) → CountsPuts (status_of h) limit start left puts
+pub counts_stopped : (h : Halt) (limit : Given) (start : Recorded) (left : Option (List ℕ))
+    (puts : ℕ) → CountsPuts (status_of h) limit start left puts
 counts_stopped halt.WriteFault limit start left puts = tt
 counts_stopped halt.DiskFault limit start left puts = tt
 counts_stopped halt.NoMemory limit start left puts = tt
 
-pub counts_whole : (status : Status) (limit : Given) (start : Recorded) (left : Option (List ℕ)) (puts : ℕ) → is_whole status ≡ true → CountsPuts status limit start left puts
+pub counts_whole : (status : Status) (limit : Given) (start : Recorded) (left : Option (List ℕ))
+    (puts : ℕ) → is_whole status ≡ true → CountsPuts status limit start left puts
     → WhereTold left (λ script. puts ≡ length (commands_due (script_puts limit start script)))
 counts_whole Done limit start left puts e counts = counts
 counts_whole Refused limit start left puts e counts = counts
@@ -81,20 +91,32 @@ counts_whole (NotAJournal place) limit start left puts e counts = cc
 counts_whole NoMemory limit start left puts e counts = cc
 counts_whole InputLimit limit start left puts e counts = cc
 
-pub counts_at_end : {D : Type 0} {g : Ghosts D} (limit : Given) (start : Recorded) (o m : Archive D g) (a b c u v : Option (List ℕ)) (s : ScriptRun) (n : ℕ) (status : Status) (r : Reached limit start o m a b u v s n)
+pub counts_at_end : {D : Type 0} {g : Ghosts D} (limit : Given) (start : Recorded)
+    (o m : Archive D g) (a b c u v : Option (List ℕ)) (s : ScriptRun) (n : ℕ) (status : Status)
+    (r : Reached limit start o m a b u v s n)
     → Consumes b c [] → IsAtEnd c → CountsPuts status limit start a s.puts
 counts_at_end limit start o m a b c u v s n status r consumes end =
-    let whole = ap (λ l. length (commands_due (all_puts limit start l))) (all_pieces limit start o m r.run s r.begun_so r.taken u v r.took) in
-    let counted : s.puts ≡ length (commands_due (script_puts limit start r.taken)) = omega (arith, r.took.counted, r.begun_so.puts, whole) in
-    counts_end status limit start a s.puts (told_end limit start (λ script. s.puts ≡ length (commands_due (script_puts limit start script))) a c r.taken (consumed_still a b c r.taken r.consumed consumes) end counted)
+    let whole = ap (λ l. length (commands_due (all_puts limit start l)))
+    (all_pieces limit start o m r.run s r.begun_so r.taken u v r.took) in
+    let counted : s.puts ≡ length (commands_due (script_puts limit start r.taken)) =
+    omega (arith, r.took.counted, r.begun_so.puts, whole) in
+    counts_end status limit start a s.puts (told_end limit start
+    (λ script. s.puts ≡ length (commands_due (script_puts limit start script))) a c r.taken
+    (consumed_still a b c r.taken r.consumed consumes) end counted)
 
 -- ---- the commands of the file
 
-pub opening_counted : OpensOnce → (seen : Option (List ℕ)) (standing : Standing) (at : ℕ) (opened : Opened) → Tells seen (λ file. IsMounted file standing at opened) → CountsOpening seen opened.commands
+pub opening_counted : OpensOnce → (seen : Option (List ℕ)) (standing : ArchiveContent) (at : ℕ)
+    (opened : Opened) → Tells seen (λ file. IsMounted file standing at opened)
+    → CountsOpening seen opened.commands
 opening_counted once seen standing at opened mounted file opening is opens =
-    let here : Tells (Some file) (λ x. IsMounted x standing at opened) = subst (λ s. Tells s (λ x. IsMounted x standing at opened)) is mounted in
-    here.counted.commands ∙ ap (λ (l : List LogRecord). length (commands_in l)) (once file here.log opening here.opens opens)
+    let here : Tells (Some file) (λ x. IsMounted x standing at opened) =
+    subst (λ s. Tells s (λ x. IsMounted x standing at opened)) is mounted in
+    here.counted.commands ∙ ap (λ (l : List LogRecord). length (commands_in l))
+    (once file here.log opening here.opens opens)
 
-pub start_counted : (seen : Option (List ℕ)) (start : Recorded) (count : ℕ) → IsOpening start seen → CountsOpening seen count → IsCounted start count seen
+pub start_counted : (seen : Option (List ℕ)) (start : Recorded) (count : ℕ) → IsOpening start seen
+    → CountsOpening seen count → IsCounted start count seen
 start_counted None start count opened counts = tt
-start_counted (Some file) start count (opening, opens, is) counts = (opening, opens, is, counts file opening refl opens)
+start_counted (Some file) start count (opening, opens, is) counts =
+    (opening, opens, is, counts file opening refl opens)

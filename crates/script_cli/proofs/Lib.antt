@@ -1,8 +1,8 @@
 pub mod Errors
-pub mod Fronts
+pub mod Prefixes
 pub mod DueRecords
 pub mod OneReading
-pub mod PutsBehind
+pub mod PutsAfter
 pub mod Recording
 pub mod Taking
 pub mod Reaching
@@ -12,7 +12,7 @@ pub mod ReadConstants
 pub mod ReadStatements
 pub mod WrittenStatements
 pub mod SpelledConstants
-pub mod LawfulPasts
+pub mod ValidPasts
 pub mod ExplainedQueries
 pub mod Responding
 pub mod Lifelines

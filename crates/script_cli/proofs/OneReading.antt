@@ -10,4 +10,5 @@ abbrev pub DamagedOnce : Type 0
 DamagedOnce = (file : List ℕ) (p q : ℕ) → Damages file p → Damages file q → p ≡ q
 
 abbrev pub NeverBoth : Type 0
-NeverBoth = (file : List ℕ) (log : List LogRecord) (place : ℕ) → Opens file log → Damages file place → ⊥
+NeverBoth = (file : List ℕ) (log : List LogRecord) (place : ℕ) → Opens file log → Damages file place
+    → ⊥

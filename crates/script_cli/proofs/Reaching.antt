@@ -1,33 +1,38 @@
 -- How far a run has come, and what it leaves.
-use Rattle.std.proofs.Common.{◌≡◌, ◌≤◌, ◌+◌, ℕ, false, refl, List, [], ◌∷◌, ◌++◌, length, take, sym, ap, ◌∙◌, subst, append-nil, arith, length-append, inl, inr}
+use Rattle.std.proofs.Common.{◌≡◌, ◌≤◌, ◌+◌, ℕ, false, refl, List, [], ◌∷◌, ◌++◌, length, take, sym}
+use Rattle.std.proofs.Common.{ap, ◌∙◌, subst, append-nil, arith, length-append, inl, inr}
 use Rattle.std.specs.Prelude.{Option, ◌||◌}
 use Rattle.std.specs.Io.KnownBytes.{Consumes, Appends, IsAtEnd, Keeps}
 use Rattle.std.proofs.KnownBytes.{Consumes-trans, Consumes-kept}
 use Rattle.std.proofs.lemmas.List.{take_at}
-use Rattle.prima_io.specs.Moves.{AppendsFront}
-use Rattle.disk_model.specs.Meaning.{IsLawful}
+use Rattle.prima_io.specs.Moves.{AppendsPrefix}
+use Rattle.disk_model.specs.Meaning.{IsValid}
 use Rattle.disk_model.specs.declared.disk.Disk.{Ghosts}
-use Rattle.archive_core.specs.declared.archives.Archive.{Archive}
+use Rattle.archive_core.specs.declared.archive.Archive.{Archive}
 use Rattle.archive_core.specs.Fields.{below, place_of}
-use Rattle.script_parse.specs.Script.{Piece, pieces_from, tail_from, ending}
+use Rattle.script_parse.specs.Script.{StatementPart, pieces_from, tail_from, ending}
 use Rattle.script_parse.specs.Splitting.{fresh}
 use Rattle.archive_file.specs.LogRecords.{LogRecord}
 use Rattle.script_cli.specs.Due.{Due, AreRecordsOf}
 use Rattle.script_cli.specs.Putting.{HasPut}
 use Rattle.script_cli.specs.Given.{Given}
-use Rattle.script_cli.specs.Output.{Recorded, piece_reply, all_puts, recorded_after, any_error, pieces_of, ending_of, has_error, tail_text, tail_is_due}
+use Rattle.script_cli.specs.Output.{Recorded, piece_reply, all_puts, recorded_after, any_error}
+use Rattle.script_cli.specs.Output.{parts_of, ending_of, has_error, tail_text, tail_is_due}
 use Rattle.script_cli.specs.declared.script_run.ScriptRun.{ScriptRun}
 use Rattle.script_cli.specs.declared.halt.Halt.{Halt}
 use Rattle.script_cli.specs.declared.halt.Halt.TheVariants as halt
-use Rattle.script_cli.specs.Shows.{StandsAt, PutBetween, Took, Halted, next_reply, pieces_behind, ending_behind}
+use Rattle.script_cli.specs.Shows.{StandsAt, PutBetween, Took, Halted, next_reply, pieces_after}
+use Rattle.script_cli.specs.Shows.{ending_after}
 use Rattle.script_cli.specs.Runs.{Log, Wrote, WroteAll, begun, logged_in}
 use Rattle.script_cli.specs.Driving.{Drove, PutBy, Ends, is_faulty, status_of}
 use Rattle.script_cli.specs.Limits.{longest_script}
 use Rattle.script_cli.specs.declared.status.Status.{Status}
-use Rattle.script_cli.specs.declared.status.Status.TheVariants.{Done, Refused, Words, ReadFault, WriteFault, DiskFault, NotAJournal, NoMemory, InputLimit}
+use Rattle.script_cli.specs.declared.status.Status.TheVariants.{Done, Refused, Words, ReadFault}
+use Rattle.script_cli.specs.declared.status.Status.TheVariants.{WriteFault, DiskFault, NotAJournal}
+use Rattle.script_cli.specs.declared.status.Status.TheVariants.{NoMemory, InputLimit}
 use Rattle.script_cli.proofs.DueRecords.{records_together}
-use Rattle.script_cli.proofs.PutsBehind.{put_then, put_some, then_between}
-use Rattle.script_cli.proofs.Taking.{put-append, took_none, took_more, took_longer, halted_behind}
+use Rattle.script_cli.proofs.PutsAfter.{put_then, put_some, then_between}
+use Rattle.script_cli.proofs.Taking.{put-append, took_none, took_more, took_longer, halted_after}
 
 -- the run at its beginning, which read nothing yet
 pub record IsStart (start : ScriptRun) : Type 0 where
@@ -36,7 +41,9 @@ pub record IsStart (start : ScriptRun) : Type 0 where
   pub puts : start.puts ≡ 0
 
 -- these bytes were taken, and the statements that ended in them were answered
-pub record Reached {D : Type 0} {g : Ghosts D} (limit : Given) (start : Recorded) (a b : Archive D g) (left_old left_new written_old written_new : Option (List ℕ)) (script_run : ScriptRun) (count : ℕ) : Type 0 where
+pub record Reached {D : Type 0} {g : Ghosts D} (limit : Given) (start : Recorded)
+    (a b : Archive D g) (left_old left_new written_old written_new : Option (List ℕ))
+    (script_run : ScriptRun) (count : ℕ) : Type 0 where
   pub run : ScriptRun
   pub begun_so : IsStart run
   pub taken : List ℕ
@@ -44,77 +51,116 @@ pub record Reached {D : Type 0} {g : Ghosts D} (limit : Given) (start : Recorded
   pub counted : count ≡ length taken
   pub took : Took limit start run script_run a b taken [] written_old written_new
 
-module _ {D : Type 0} {g : Ghosts D} (limit : Given) (start : Recorded) (a b : Archive D g) (run script_run : ScriptRun) (begun_so : IsStart run) (taken : List ℕ) (u v : Option (List ℕ))
+module _ {D : Type 0} {g : Ghosts D} (limit : Given) (start : Recorded) (a b : Archive D g)
+    (run script_run : ScriptRun) (begun_so : IsStart run) (taken : List ℕ) (u v : Option (List ℕ))
     (took : Took limit start run script_run a b taken [] u v) where
-  pub pieces_is : (more : List ℕ) → pieces_of (taken ++ more) ≡ took.pieces ++ pieces_behind script_run more
-  pieces_is more = ap (λ s. pieces_from s.mode s.kept (taken ++ more)) (sym begun_so.splitter) ∙ took.cut more
+  pub pieces_is : (more : List ℕ) → parts_of (taken ++ more) ≡ took.pieces
+      ++ pieces_after script_run more
+  pieces_is more = ap (λ s. pieces_from s.mode s.kept (taken ++ more)) (sym begun_so.splitter)
+      ∙ took.cut more
 
-  pub ending_is : ending_of taken ≡ ending_behind script_run []
-  ending_is = ap ending_of (sym (append-nil taken)) ∙ ap (λ s. ending (tail_from s.mode s.kept (taken ++ []))) (sym begun_so.splitter) ∙ took.end []
+  pub ending_is : ending_of taken ≡ ending_after script_run []
+  ending_is = ap ending_of (sym (append-nil taken))
+      ∙ ap (λ s. ending (tail_from s.mode s.kept (taken ++ []))) (sym begun_so.splitter)
+      ∙ took.end []
 
-  pub all_pieces : pieces_of taken ≡ took.pieces
-  all_pieces = ap pieces_of (sym (append-nil taken)) ∙ pieces_is [] ∙ append-nil took.pieces
+  pub all_pieces : parts_of taken ≡ took.pieces
+  all_pieces = ap parts_of (sym (append-nil taken)) ∙ pieces_is [] ∙ append-nil took.pieces
 
   pub faulty_is : is_faulty script_run ≡ has_error limit start taken
   faulty_is =
-      ap (λ x. x || tail_is_due (ending_behind script_run [])) (took.refused ∙ ap (λ x. x || any_error limit start took.pieces) begun_so.refused)
-      ∙ ap (λ l. any_error limit start l || tail_is_due (ending_behind script_run [])) (sym all_pieces)
-      ∙ ap (λ e. any_error limit start (pieces_of taken) || tail_is_due e) (sym ending_is)
+      ap (λ x. x || tail_is_due (ending_after script_run []))
+      (took.refused ∙ ap (λ x. x || any_error limit start took.pieces) begun_so.refused)
+      ∙ ap (λ l. any_error limit start l || tail_is_due (ending_after script_run []))
+      (sym all_pieces)
+      ∙ ap (λ e. any_error limit start (parts_of taken) || tail_is_due e) (sym ending_is)
 
 -- what the first of these statements puts
-next_puts : (limit : Given) (now : Recorded) (rest : List Piece) → all_puts limit now (take 1 rest) ≡ (next_reply limit now rest).puts
+next_puts : (limit : Given) (now : Recorded) (rest : List StatementPart)
+    → all_puts limit now (take 1 rest) ≡ (next_reply limit now rest).puts
 next_puts limit now [] = refl
 next_puts limit now (p ∷ rest) = append-nil (piece_reply limit now p).puts
 
-next_put : (limit : Given) (start : Recorded) (whole rest : List Piece)
-    → all_puts limit start whole ++ (next_reply limit (recorded_after limit start whole) rest).puts ≡ all_puts limit start (whole ++ take 1 rest)
+next_put : (limit : Given) (start : Recorded) (whole rest : List StatementPart)
+    → all_puts limit start whole ++ (next_reply limit (recorded_after limit start whole) rest).puts
+    ≡ all_puts limit start (whole ++ take 1 rest)
 next_put limit start whole rest =
-    ap (λ l. all_puts limit start whole ++ l) (sym (next_puts limit (recorded_after limit start whole) rest)) ∙ sym (put-append limit start whole (take 1 rest))
+    ap (λ l. all_puts limit start whole ++ l)
+    (sym (next_puts limit (recorded_after limit start whole) rest))
+    ∙ sym (put-append limit start whole (take 1 rest))
 
 -- ---- the records of a run
 
-module _ {D : Type 0} {g : Ghosts D} (limit : Given) (start : Recorded) (status : Status) (whole rest : List Piece) (a b : Archive D g) where
+module _ {D : Type 0} {g : Ghosts D} (limit : Given) (start : Recorded) (status : Status)
+    (whole rest : List StatementPart) (a b : Archive D g) where
   -- no statement was begun: those of the statements that were answered whole
-  pub whole_log : begun status rest ≡ [] → PutBetween a b (all_puts limit start whole) → Log limit start status whole rest
+  pub whole_log : begun status rest ≡ [] → PutBetween a b (all_puts limit start whole)
+      → Log limit start status whole rest
   whole_log none puts = record {
     done = puts.0;
     begun_with = [];
     done_are = puts.1;
-    all_are = subst (λ (l : List LogRecord). AreRecordsOf (all_puts limit start (whole ++ begun status rest)) l) (sym (append-nil puts.0))
-        (subst (λ (l : List Piece). AreRecordsOf (all_puts limit start l) puts.0) (sym (ap (λ (l : List Piece). whole ++ l) none ∙ append-nil whole)) puts.1);
+    all_are = subst (λ (l : List LogRecord). AreRecordsOf
+        (all_puts limit start (whole ++ begun status rest)) l) (sym (append-nil puts.0))
+        (subst (λ (l : List StatementPart). AreRecordsOf (all_puts limit start l) puts.0)
+        (sym (ap (λ (l : List StatementPart). whole ++ l) none ∙ append-nil whole)) puts.1);
   }
 
-  pub whole_put : (none : begun status rest ≡ []) → (puts : PutBetween a b (all_puts limit start whole)) → HasPut (below a) (below b) (place_of a) (place_of b) (logged_in (whole_log none puts))
+  pub whole_put : (none : begun status rest ≡ [])
+      → (puts : PutBetween a b (all_puts limit start whole))
+      → HasPut (below a) (below b) (place_of a) (place_of b) (logged_in (whole_log none puts))
   unfolding whole_log
-  whole_put none puts = subst (λ (l : List LogRecord). HasPut (below a) (below b) (place_of a) (place_of b) l) (sym (append-nil puts.0)) puts.2
+  whole_put none puts = subst (λ (l : List LogRecord).
+      HasPut (below a) (below b) (place_of a) (place_of b) l) (sym (append-nil puts.0)) puts.2
 
--- the record of the next is behind them
-next_log : (limit : Given) (start : Recorded) (whole rest : List Piece) (done its : List LogRecord) → AreRecordsOf (all_puts limit start whole) done
-    → AreRecordsOf (next_reply limit (recorded_after limit start whole) rest).puts its → AreRecordsOf (all_puts limit start (whole ++ take 1 rest)) (done ++ its)
+-- the record of the next is after them
+next_log : (limit : Given) (start : Recorded) (whole rest : List StatementPart)
+    (done its : List LogRecord) → AreRecordsOf (all_puts limit start whole) done
+    → AreRecordsOf (next_reply limit (recorded_after limit start whole) rest).puts its
+    → AreRecordsOf (all_puts limit start (whole ++ take 1 rest)) (done ++ its)
 next_log limit start whole rest done its first then =
     subst (λ (l : List Due). AreRecordsOf l (done ++ its)) (next_put limit start whole rest)
-    (records_together (all_puts limit start whole) (next_reply limit (recorded_after limit start whole) rest).puts done its first then)
+    (records_together (all_puts limit start whole)
+    (next_reply limit (recorded_after limit start whole) rest).puts done its first then)
 
 -- the start of a run
-pub reach_start : {D : Type 0} {g : Ghosts D} (limit : Given) (start : Recorded) (archive : Archive D g) (a u : Option (List ℕ)) (s : ScriptRun) → IsLawful (below archive) → IsStart s
-    → StandsAt archive limit start → Consumes a a [] → Reached limit start archive archive a a u u s 0
-reach_start limit start archive a u s law h stands k = record { run = s; begun_so = h; taken = []; consumed = k; counted = refl; took = took_none limit start s archive [] u law stands }
+pub reach_start : {D : Type 0} {g : Ghosts D} (limit : Given) (start : Recorded)
+    (archive : Archive D g) (a u : Option (List ℕ)) (s : ScriptRun) → IsValid (below archive)
+    → IsStart s
+    → StandsAt archive limit start → Consumes a a []
+    → Reached limit start archive archive a a u u s 0
+reach_start limit start archive a u s law h stands k =
+    record {
+      run = s;
+      begun_so = h;
+      taken = [];
+      consumed = k;
+      counted = refl;
+      took =
+          took_none limit start s archive [] u law stands;
+    }
 
-pub consumed_still : (a b c : Option (List ℕ)) (taken : List ℕ) → Consumes a b taken → Consumes b c [] → Consumes a c taken
-consumed_still a b c taken k none = subst (Consumes a c) (append-nil taken) (Consumes-trans a b c taken [] k none)
+pub consumed_still : (a b c : Option (List ℕ)) (taken : List ℕ) → Consumes a b taken
+    → Consumes b c [] → Consumes a c taken
+consumed_still a b c taken k none = subst (Consumes a c) (append-nil taken)
+    (Consumes-trans a b c taken [] k none)
 
-within_still : (n : ℕ) (taken : List ℕ) → n ≡ length taken → n ≤ longest_script → length taken ≤ longest_script
+within_still : (n : ℕ) (taken : List ℕ) → n ≡ length taken → n ≤ longest_script
+    → length taken ≤ longest_script
 within_still n taken counted l = subst (λ k. k ≤ longest_script) counted l
 
-module _ {D : Type 0} {g : Ghosts D} (limit : Given) (start : Recorded) (o m : Archive D g) {a b c u v : Option (List ℕ)} {s : ScriptRun} {n : ℕ} where
-  pub drove_read : Reached limit start o m a b u v s n → n ≤ longest_script → Keeps b c → Drove limit start ReadFault a c u v (below o) (below m) (place_of o)
+module _ {D : Type 0} {g : Ghosts D} (limit : Given) (start : Recorded)
+    (o m : Archive D g) {a b c u v : Option (List ℕ)} {s : ScriptRun} {n : ℕ} where
+  pub drove_read : Reached limit start o m a b u v s n → n ≤ longest_script → Keeps b c
+      → Drove limit start ReadFault a c u v (below o) (below m) (place_of o)
   drove_read r l k = record {
     ran = record {
       taken = r.taken;
       consumed = Consumes-kept a b c r.taken r.consumed k;
       whole = r.took.pieces;
       rest = [];
-      are = all_pieces limit start o m r.run s r.begun_so r.taken u v r.took ∙ sym (append-nil r.took.pieces);
+      are = all_pieces limit start o m r.run s r.begun_so r.taken u v r.took
+          ∙ sym (append-nil r.took.pieces);
       between = v;
       replied = r.took.wrote;
       wrote = (within_still n r.taken r.counted l, refl, refl);
@@ -123,42 +169,58 @@ module _ {D : Type 0} {g : Ghosts D} (limit : Given) (start : Recorded) (o m : A
     puts = (place_of m, whole_put limit start ReadFault r.took.pieces [] o m refl r.took.puts);
   }
 
-  pub drove_limit : (r : Reached limit start o m a b u v s n) (piece : List ℕ) → Consumes b c piece → n ≡ longest_script → length piece ≡ 1
+  pub drove_limit : (r : Reached limit start o m a b u v s n) (piece : List ℕ) → Consumes b c piece
+      → n ≡ longest_script → length piece ≡ 1
       → Drove limit start InputLimit a c u v (below o) (below m) (place_of o)
   drove_limit r piece k e l = record {
     ran = record {
       taken = r.taken ++ piece;
       consumed = Consumes-trans a b c r.taken piece r.consumed k;
       whole = r.took.pieces;
-      rest = pieces_behind s piece;
+      rest = pieces_after s piece;
       are = pieces_is limit start o m r.run s r.begun_so r.taken u v r.took piece;
       between = v;
       replied = r.took.wrote;
       wrote = (
         length-append r.taken piece ∙ omega (arith, r.counted, e, l),
-        sym (ap pieces_of (take_at r.taken piece longest_script (sym r.counted ∙ e)) ∙ all_pieces limit start o m r.run s r.begun_so r.taken u v r.took),
+        sym (ap parts_of (take_at r.taken piece longest_script (sym r.counted ∙ e))
+            ∙ all_pieces limit start o m r.run s r.begun_so r.taken u v r.took),
         refl,
       );
     };
-    log = whole_log limit start InputLimit r.took.pieces (pieces_behind s piece) o m refl r.took.puts;
-    puts = (place_of m, whole_put limit start InputLimit r.took.pieces (pieces_behind s piece) o m refl r.took.puts);
+    log = whole_log limit start InputLimit r.took.pieces (pieces_after s piece) o m refl
+        r.took.puts;
+    puts = (
+      place_of m,
+      whole_put limit start InputLimit r.took.pieces (pieces_after s piece) o m
+          refl r.took.puts,
+    );
   }
 
 -- what the run had answered when it stopped, and in which reply it did
-stopped : {D : Type 0} {g : Ghosts D} (limit : Given) (start : Recorded) (o m e : Archive D g) (a b u v w : Option (List ℕ)) (s : ScriptRun) (n : ℕ) (h : Halt) (r : Reached limit start o m a b u v s n) (piece : List ℕ)
-    → ((now : Recorded) → StandsAt m limit now → Halted h limit now (pieces_behind s piece) m e v w) → Halted h limit start (r.took.pieces ++ pieces_behind s piece) o e u w
+stopped : {D : Type 0} {g : Ghosts D} (limit : Given) (start : Recorded) (o m e : Archive D g)
+    (a b u v w : Option (List ℕ)) (s : ScriptRun) (n : ℕ) (h : Halt)
+    (r : Reached limit start o m a b u v s n) (piece : List ℕ)
+    → ((now : Recorded) → StandsAt m limit now → Halted h limit now (pieces_after s piece) m e v w)
+    → Halted h limit start (r.took.pieces ++ pieces_after s piece) o e u w
 stopped limit start o m e a b u v w s n h r piece f =
-    halted_behind limit start h r.took.pieces (pieces_behind s piece) o m e u v w r.took.puts r.took.wrote (f (recorded_after limit start r.took.pieces) r.took.stands)
+    halted_after limit start h r.took.pieces (pieces_after s piece) o m e u v w r.took.puts
+    r.took.wrote (f (recorded_after limit start r.took.pieces) r.took.stands)
 
-module _ {D : Type 0} {g : Ghosts D} (limit : Given) (start : Recorded) (o e : Archive D g) (u w : Option (List ℕ)) where
-  wrote_halted : (h : Halt) (c : Option (List ℕ)) (taken : List ℕ) (pieces : List Piece) → length taken ≤ longest_script → (x : Halted h limit start pieces o e u w)
+module _ {D : Type 0} {g : Ghosts D} (limit : Given) (start : Recorded) (o e : Archive D g)
+    (u w : Option (List ℕ)) where
+  wrote_halted : (h : Halt) (c : Option (List ℕ)) (taken : List ℕ) (pieces : List StatementPart)
+      → length taken ≤ longest_script → (x : Halted h limit start pieces o e u w)
       → Wrote (status_of h) limit start taken x.whole x.rest c x.between w
   wrote_halted halt.WriteFault c taken pieces l x = (l, inl x.stops.0)
-  wrote_halted halt.DiskFault c taken pieces l x = (l, x.stops.0, (x.stops.1.what, x.stops.1.due_is))
+  wrote_halted halt.DiskFault c taken pieces l x =
+      (l, x.stops.0, (x.stops.1.what, x.stops.1.due_is))
   wrote_halted halt.NoMemory c taken pieces l x = (l, x.stops.0)
 
-  puts_halted : (h : Halt) (pieces : List Piece) → IsLawful (below e) → (x : Halted h limit start pieces o e u w)
-      → (log : Log limit start (status_of h) x.whole x.rest) × PutBy (status_of h) (below o) (below e) (place_of o) log.done (logged_in log)
+  puts_halted : (h : Halt) (pieces : List StatementPart) → IsValid (below e)
+      → (x : Halted h limit start pieces o e u w)
+      → (log : Log limit start (status_of h) x.whole x.rest)
+      × PutBy (status_of h) (below o) (below e) (place_of o) log.done (logged_in log)
   puts_halted halt.WriteFault pieces law x =
       let its = x.stops.1 in (
         record {
@@ -167,7 +229,11 @@ module _ {D : Type 0} {g : Ghosts D} (limit : Given) (start : Recorded) (o e : A
           done_are = x.puts.1;
           all_are = next_log limit start x.whole x.rest x.puts.0 its.0 x.puts.1 its.1;
         },
-        (place_of e, put_then (below o) (below x.mid) (below e) (place_of o) (place_of x.mid) (place_of e) x.puts.0 its.0 x.puts.2 its.2),
+        (
+          place_of e,
+          put_then (below o) (below x.mid) (below e) (place_of o) (place_of x.mid)
+              (place_of e) x.puts.0 its.0 x.puts.2 its.2,
+        ),
       )
   puts_halted halt.DiskFault pieces law x =
       let may = x.stops.1 in
@@ -176,19 +242,26 @@ module _ {D : Type 0} {g : Ghosts D} (limit : Given) (start : Recorded) (o e : A
           done = x.puts.0;
           begun_with = may.its_record ∷ [];
           done_are = x.puts.1;
-          all_are = next_log limit start x.whole x.rest x.puts.0 (may.its_record ∷ []) x.puts.1 (subst (λ (l : List Due). AreRecordsOf l (may.its_record ∷ [])) (sym may.due_is) (may.is_its, tt));
+          all_are = next_log limit start x.whole x.rest x.puts.0 (may.its_record ∷ []) x.puts.1
+              (subst (λ (l : List Due). AreRecordsOf l (may.its_record ∷ [])) (sym may.due_is)
+              (may.is_its, tt));
         },
-        put_some (below o) (below x.mid) (below e) (place_of o) (place_of x.mid) x.puts.0 next.puts law x.puts.2 may,
+        put_some (below o) (below x.mid) (below e) (place_of o) (place_of x.mid) x.puts.0 next.puts
+            law x.puts.2 may,
       )
   puts_halted halt.NoMemory pieces law x =
-      let all = subst (PutBetween o e) (append-nil (all_puts limit start x.whole)) (then_between o x.mid e (all_puts limit start x.whole) [] x.puts x.stops.1) in (
+      let all = subst (PutBetween o e) (append-nil (all_puts limit start x.whole))
+      (then_between o x.mid e (all_puts limit start x.whole) [] x.puts x.stops.1) in (
         whole_log limit start NoMemory x.whole x.rest o e refl all,
         (place_of e, whole_put limit start NoMemory x.whole x.rest o e refl all),
       )
 
-module _ {D : Type 0} {g : Ghosts D} (limit : Given) (start : Recorded) (o m e : Archive D g) {a b c u v w : Option (List ℕ)} {s : ScriptRun} {n : ℕ} where
-  pub reach : (r : Reached limit start o m a b u v s n) (piece : List ℕ) (k : ℕ) (next : ScriptRun) → Consumes b c piece → k ≡ n + length piece
-      → ((now : Recorded) → StandsAt m limit now → Took limit now s next m e piece [] v w) → Reached limit start o e a c u w next k
+module _ {D : Type 0} {g : Ghosts D} (limit : Given) (start : Recorded)
+    (o m e : Archive D g) {a b c u v w : Option (List ℕ)} {s : ScriptRun} {n : ℕ} where
+  pub reach : (r : Reached limit start o m a b u v s n) (piece : List ℕ) (k : ℕ) (next : ScriptRun)
+      → Consumes b c piece → k ≡ n + length piece
+      → ((now : Recorded) → StandsAt m limit now → Took limit now s next m e piece [] v w)
+      → Reached limit start o e a c u w next k
   unfolding took_longer
   reach r piece k next consumes is f = record {
     run = r.run;
@@ -196,16 +269,21 @@ module _ {D : Type 0} {g : Ghosts D} (limit : Given) (start : Recorded) (o m e :
     taken = r.taken ++ piece;
     consumed = Consumes-trans a b c r.taken piece r.consumed consumes;
     counted = is ∙ ap (λ j. j + length piece) r.counted ∙ sym (length-append r.taken piece);
-    took = took_more limit start r.run s next o m e (r.taken ++ piece) piece [] u v w (took_longer limit start r.run s o m r.taken [] piece u v r.took)
+    took = took_more limit start r.run s next o m e (r.taken ++ piece) piece [] u v w
+        (took_longer limit start r.run s o m r.taken [] piece u v r.took)
         (f (recorded_after limit start r.took.pieces) r.took.stands);
   }
 
-  pub drove_halted : (h : Halt) (r : Reached limit start o m a b u v s n) (piece : List ℕ) → IsLawful (below e) → n + length piece ≤ longest_script → Consumes b c piece
-      → ((now : Recorded) → StandsAt m limit now → Halted h limit now (pieces_behind s piece) m e v w) → Drove limit start (status_of h) a c u w (below o) (below e) (place_of o)
+  pub drove_halted : (h : Halt) (r : Reached limit start o m a b u v s n) (piece : List ℕ)
+      → IsValid (below e) → n + length piece ≤ longest_script → Consumes b c piece
+      → ((now : Recorded) → StandsAt m limit now
+      → Halted h limit now (pieces_after s piece) m e v w)
+      → Drove limit start (status_of h) a c u w (below o) (below e) (place_of o)
   drove_halted h r piece law l k f =
       let x = stopped limit start o m e a b u v w s n h r piece f in
-      let puts = puts_halted limit start o e u w h (r.took.pieces ++ pieces_behind s piece) law x in
-      let within : length (r.taken ++ piece) ≤ longest_script = omega (arith, l, r.counted, length-append r.taken piece) in
+      let puts = puts_halted limit start o e u w h (r.took.pieces ++ pieces_after s piece) law x in
+      let within : length (r.taken ++ piece) ≤ longest_script =
+      omega (arith, l, r.counted, length-append r.taken piece) in
       record {
         ran = record {
           taken = r.taken ++ piece;
@@ -215,16 +293,20 @@ module _ {D : Type 0} {g : Ghosts D} (limit : Given) (start : Recorded) (o m e :
           are = pieces_is limit start o m r.run s r.begun_so r.taken u v r.took piece ∙ x.are;
           between = x.between;
           replied = x.wrote;
-          wrote = wrote_halted limit start o e u w h c (r.taken ++ piece) (r.took.pieces ++ pieces_behind s piece) within x;
+          wrote = wrote_halted limit start o e u w h c (r.taken ++ piece)
+              (r.took.pieces ++ pieces_after s piece) within x;
         };
         log = puts.0;
         puts = puts.1;
       }
 
-module _ {D : Type 0} {g : Ghosts D} (limit : Given) (start : Recorded) (o m : Archive D g) {a b c u v w : Option (List ℕ)} {s : ScriptRun} {n : ℕ} (r : Reached limit start o m a b u v s n)
+module _ {D : Type 0} {g : Ghosts D} (limit : Given) (start : Recorded)
+    (o m : Archive D g) {a b c u v w : Option (List ℕ)} {s : ScriptRun} {n : ℕ}
+    (r : Reached limit start o m a b u v s n)
     (within : n ≤ longest_script) (consumes : Consumes b c []) (end : IsAtEnd c) where
   ended : (status : Status) → Wrote status limit start r.taken r.took.pieces [] c v w
-      → (log : Log limit start status r.took.pieces []) × PutBy status (below o) (below m) (place_of o) log.done (logged_in log)
+      → (log : Log limit start status r.took.pieces [])
+      × PutBy status (below o) (below m) (place_of o) log.done (logged_in log)
       → Drove limit start status a c u w (below o) (below m) (place_of o)
   ended status wrote puts = record {
     ran = record {
@@ -232,7 +314,8 @@ module _ {D : Type 0} {g : Ghosts D} (limit : Given) (start : Recorded) (o m : A
       consumed = consumed_still a b c r.taken r.consumed consumes;
       whole = r.took.pieces;
       rest = [];
-      are = all_pieces limit start o m r.run s r.begun_so r.taken u v r.took ∙ sym (append-nil r.took.pieces);
+      are = all_pieces limit start o m r.run s r.begun_so r.taken u v r.took
+          ∙ sym (append-nil r.took.pieces);
       between = v;
       replied = r.took.wrote;
       wrote = wrote;
@@ -241,26 +324,43 @@ module _ {D : Type 0} {g : Ghosts D} (limit : Given) (start : Recorded) (o m : A
     puts = puts.1;
   }
 
-  wrote_all : Appends v w (tail_text (ending_behind s [])) → WroteAll r.taken [] c v w
+  wrote_all : Appends v w (tail_text (ending_after s [])) → WroteAll r.taken [] c v w
   wrote_all p = record {
     end = end;
     within = within_still n r.taken r.counted within;
     answered = refl;
-    all = subst (λ e. Appends v w (tail_text e)) (sym (ending_is limit start o m r.run s r.begun_so r.taken u v r.took)) p;
+    all = subst (λ e. Appends v w (tail_text e))
+        (sym (ending_is limit start o m r.run s r.begun_so r.taken u v r.took)) p;
   }
 
-  pub drove_end : (status : Status) → Ends status s v w → Drove limit start status a c u w (below o) (below m) (place_of o)
-  drove_end Done e = ended Done (wrote_all e.0, sym (faulty_is limit start o m r.run s r.begun_so r.taken u v r.took) ∙ e.1) (whole_log limit start Done r.took.pieces [] o m refl r.took.puts, (place_of m, whole_put limit start Done r.took.pieces [] o m refl r.took.puts))
-  drove_end Refused e = ended Refused (wrote_all e.0, sym (faulty_is limit start o m r.run s r.begun_so r.taken u v r.took) ∙ e.1) (whole_log limit start Refused r.took.pieces [] o m refl r.took.puts, (place_of m, whole_put limit start Refused r.took.pieces [] o m refl r.took.puts))
+  pub drove_end : (status : Status) → Ends status s v w
+      → Drove limit start status a c u w (below o) (below m) (place_of o)
+  drove_end Done e = ended Done (
+    wrote_all e.0,
+    sym (faulty_is limit start o m r.run s r.begun_so r.taken u v r.took) ∙ e.1,
+  ) (
+    whole_log limit start Done r.took.pieces [] o m refl r.took.puts,
+    (place_of m, whole_put limit start Done r.took.pieces [] o m refl r.took.puts),
+  )
+  drove_end Refused e = ended Refused (
+    wrote_all e.0,
+    sym (faulty_is limit start o m r.run s r.begun_so r.taken u v r.took) ∙ e.1,
+  ) (
+    whole_log limit start Refused r.took.pieces [] o m refl r.took.puts,
+    (place_of m, whole_put limit start Refused r.took.pieces [] o m refl r.took.puts),
+  )
   drove_end WriteFault e = ended WriteFault (
     within_still n r.taken r.counted within,
     inr (record {
       end = end;
       answered = refl;
-      front = subst (λ x. AppendsFront v w (tail_text x)) (sym (ending_is limit start o m r.run s r.begun_so r.taken u v r.took)) e;
+      prefix = subst (λ x. AppendsPrefix v w (tail_text x))
+          (sym (ending_is limit start o m r.run s r.begun_so r.taken u v r.took)) e;
     }),
+  ) (
+    whole_log limit start WriteFault r.took.pieces [] o m refl r.took.puts,
+    (place_of m, whole_put limit start WriteFault r.took.pieces [] o m refl r.took.puts),
   )
-      (whole_log limit start WriteFault r.took.pieces [] o m refl r.took.puts, (place_of m, whole_put limit start WriteFault r.took.pieces [] o m refl r.took.puts))
   drove_end Words e = absurd e
   drove_end ReadFault e = absurd e
   drove_end DiskFault e = absurd e

@@ -1,5 +1,6 @@
--- What stands behind statements is the past of the records that were put, and the gate behind them.
-use Rattle.std.proofs.Common.{◌≡◌, ⊎_elim, ℕ, ◌+◌, Bool, true, false, List, [], ◌∷◌, ◌++◌, length, refl, sym, ap, ◌∙◌, subst, arith, append_assoc, length-append}
+-- What stands after statements is the past of the records that were put, and the gate after them.
+use Rattle.std.proofs.Common.{◌≡◌, ⊎_elim, ℕ, ◌+◌, Bool, true, false, List, [], ◌∷◌, ◌++◌, length}
+use Rattle.std.proofs.Common.{refl, sym, ap, ◌∙◌, subst, arith, append_assoc, length-append}
 use Rattle.std.specs.Prelude.{Some, None, if◌then◌else◌}
 use Rattle.std.specs.Int.{w64, to_be_bytes}
 use Rattle.std.proofs.lemmas.List.{append-nil, map-append}
@@ -11,17 +12,23 @@ use Rattle.smo_meaning.proofs.Firsts.{none_of_first}
 use Rattle.temporal_lang.specs.Accepted.{version_fault, fault_of_query}
 use Rattle.journal.specs.Records.{Record, before_gate, body}
 use Rattle.journal.proofs.Putting.{before_gate-push}
-use Rattle.archive_file.specs.LogRecords.{LogRecord, logged, checkpointed, record_of, records_of, gate_behind, behind_record, behind_records, past_recorded, AreAccepted, AreSound}
-use Rattle.archive_file.proofs.Records.{behind_append, accepted_append, sound_accepted, sound_append}
+use Rattle.archive_file.specs.LogRecords.{LogRecord, logged, checkpointed, record_of, records_of}
+use Rattle.archive_file.specs.LogRecords.{gate_after, after_record, after_records, past_recorded}
+use Rattle.archive_file.specs.LogRecords.{AreAccepted, AreSound}
+use Rattle.archive_file.proofs.Records.{after_append, accepted_append, sound_accepted, sound_append}
 use Rattle.archive_core.specs.Committing.{room_fault, commit_fault}
 use Rattle.archive_core.specs.Checkpointing.{checkpoint_fault}
-use Rattle.script_parse.specs.Script.{Piece, Whole as Text, Skipped}
-use Rattle.script_parse.specs.Statements.{PlainStatement, write, ask, explain, show_versions, show_schema, show_sizes, checkpoint}
+use Rattle.script_parse.specs.Script.{StatementPart, Whole as Text, Skipped}
+use Rattle.script_parse.specs.Statements.{PlainStatement, write, ask, explain, show_versions}
+use Rattle.script_parse.specs.Statements.{show_schema, show_sizes, checkpoint}
 use Rattle.script_parse.specs.Reading.{Reading, Blank, Refused, Whole, reading}
 use Rattle.script_cli.specs.Given.{Given}
-use Rattle.script_cli.specs.Due.{Due, command_due, image_due, due_length, past_behind, commands_due, IsRecordOf, AreRecordsOf, AreFirstOf}
+use Rattle.script_cli.specs.Due.{Due, command_due, image_due, due_length, past_after_due}
+use Rattle.script_cli.specs.Due.{commands_due, IsRecordOf, AreRecordsOf, AreFirstOf}
 use Rattle.script_cli.specs.Puts.{is_command, put_for}
-use Rattle.script_cli.specs.Output.{Recorded, recorded, recorded_with, Reply, answered, refused_or, put, reply, statement_reply, reading_reply, piece_reply, all_puts, recorded_after}
+use Rattle.script_cli.specs.Output.{Recorded, recorded, recorded_with, Reply, answered, refused_or}
+use Rattle.script_cli.specs.Output.{put, reply, statement_reply, reading_reply, piece_reply}
+use Rattle.script_cli.specs.Output.{all_puts, recorded_after}
 use Rattle.script_cli.specs.Shows.{put_of}
 use Rattle.script_cli.proofs.DueRecords.{records_apart, are_first, first_apart}
 
@@ -30,7 +37,8 @@ use Rattle.script_cli.proofs.DueRecords.{records_apart, are_first, first_apart}
 record_length : (r : Record) → length (body r) ≡ 9 + length r.1
 record_length r = omega (arith, length-append (to_be_bytes w64 (length r.1)) r.1)
 
-gate_push : (log : List LogRecord) (r : LogRecord) → gate_behind (log ++ r ∷ []) ≡ gate_behind log + 10 + length (record_of r).1
+gate_push : (log : List LogRecord) (r : LogRecord)
+    → gate_after (log ++ r ∷ []) ≡ gate_after log + 10 + length (record_of r).1
 gate_push log r =
     ap (λ (l : List Record). length (before_gate l)) (map-append record_of log (r ∷ []))
     ∙ omega (
@@ -40,25 +48,29 @@ gate_push log r =
       record_length (record_of r),
     )
 
-its_length : (due : Due) (r : LogRecord) → IsRecordOf due r → length (record_of r).1 ≡ due_length due
-its_length (command_due command) (logged c) is = ap (λ (x : PlainCommand). length (record_of (logged x)).1) is
+its_length : (due : Due) (r : LogRecord) → IsRecordOf due r
+    → length (record_of r).1 ≡ due_length due
+its_length (command_due command) (logged c) is =
+    ap (λ (x : PlainCommand). length (record_of (logged x)).1) is
 its_length (command_due command) (checkpointed image) is = absurd is
 its_length (image_due past) (logged c) is = absurd is
 its_length (image_due past) (checkpointed image) is = is.length
 
--- what may be put behind a past: its record is sound there, and leads to the past behind it
+-- what may be put after a past: its record is sound there, and leads to the past after it
 record IsDueAt (past : Past) (due : Due) : Type 0 where
   sound : (r : LogRecord) → IsRecordOf due r → AreSound past (r ∷ [])
-  leads : (r : LogRecord) → IsRecordOf due r → behind_record past r ≡ past_behind past due
+  leads : (r : LogRecord) → IsRecordOf due r → after_record past r ≡ past_after_due past due
 
-command_at : (past : Past) (command : PlainCommand) → command_fault past command ≡ None → IsDueAt past (command_due command)
+command_at : (past : Past) (command : PlainCommand) → command_fault past command ≡ None
+    → IsDueAt past (command_due command)
 command_at past command accepted = record { sound = sound; leads = leads }
   where
     sound : (r : LogRecord) → IsRecordOf (command_due command) r → AreSound past (r ∷ [])
     sound (logged c) is = (subst (λ x. command_fault past x ≡ None) (sym is) accepted, tt)
     sound (checkpointed image) is = absurd is
 
-    leads : (r : LogRecord) → IsRecordOf (command_due command) r → behind_record past r ≡ past_with past command
+    leads : (r : LogRecord) → IsRecordOf (command_due command) r
+        → after_record past r ≡ past_with past command
     leads (logged c) is = ap (past_with past) is
     leads (checkpointed image) is = absurd is
 
@@ -69,14 +81,18 @@ image_at past = record { sound = sound; leads = leads }
     sound (logged c) is = absurd is
     sound (checkpointed image) is = (is.shows, tt)
 
-    leads : (r : LogRecord) → IsRecordOf (image_due past) r → behind_record past r ≡ past
+    leads : (r : LogRecord) → IsRecordOf (image_due past) r → after_record past r ≡ past
     leads (logged c) is = absurd is
     leads (checkpointed image) is = is.shows
 
-recorded_push : (opening : List LogRecord) (due : Due) (r : LogRecord) → IsDueAt (past_recorded opening) due → IsRecordOf due r → recorded_with (recorded opening) due ≡ recorded (opening ++ r ∷ [])
+recorded_push : (opening : List LogRecord) (due : Due) (r : LogRecord)
+    → IsDueAt (past_recorded opening) due → IsRecordOf due r
+    → recorded_with (recorded opening) due ≡ recorded (opening ++ r ∷ [])
 recorded_push opening due r here is =
-    let past : past_behind (past_recorded opening) due ≡ past_recorded (opening ++ r ∷ []) = sym (here.leads r is) ∙ sym (behind_append beginning opening (r ∷ [])) in
-    let at : gate_behind opening + 10 + due_length due ≡ gate_behind (opening ++ r ∷ []) = sym (gate_push opening r ∙ ap (λ n. gate_behind opening + 10 + n) (its_length due r is)) in
+    let past : past_after_due (past_recorded opening) due ≡ past_recorded (opening ++ r ∷ []) =
+    sym (here.leads r is) ∙ sym (after_append beginning opening (r ∷ [])) in
+    let at : gate_after opening + 10 + due_length due ≡ gate_after (opening ++ r ∷ []) =
+    sym (gate_push opening r ∙ ap (λ n. gate_after opening + 10 + n) (its_length due r is)) in
     λ i. record { past = past i; at = at i }
 
 -- ---- a statement
@@ -87,8 +103,10 @@ one_if b = if b then 1 else 0
 -- it puts nothing and changes nothing, or one thing that may be put there
 pub record IsStep (now : Recorded) (reply : Reply) : Type 0 where
   pub sound : (log : List LogRecord) → AreFirstOf reply.puts log → AreSound now.past log
-  pub past : (log : List LogRecord) → AreRecordsOf reply.puts log → reply.behind.past ≡ behind_records now.past log
-  pub recorded_is : (opening log : List LogRecord) → now ≡ recorded opening → AreRecordsOf reply.puts log → reply.behind ≡ recorded (opening ++ log)
+  pub past : (log : List LogRecord) → AreRecordsOf reply.puts log
+      → reply.after.past ≡ after_records now.past log
+  pub recorded_is : (opening log : List LogRecord) → now ≡ recorded opening
+      → AreRecordsOf reply.puts log → reply.after ≡ recorded (opening ++ log)
   pub counted : length (commands_due reply.puts) ≡ one_if (is_command (put_of reply))
 
 none_of : (log : List LogRecord) → AreRecordsOf [] log → log ≡ []
@@ -103,69 +121,96 @@ no_command : (b : Bool) → is_command (put_for b []) ≡ false
 no_command true = refl
 no_command false = refl
 
-unchanged : (now : Recorded) (reply : Reply) → reply.puts ≡ [] → reply.behind ≡ now → IsStep now reply
+unchanged : (now : Recorded) (reply : Reply) → reply.puts ≡ [] → reply.after ≡ now
+    → IsStep now reply
 unchanged now reply none same = record {
-  sound = λ log are. subst (AreSound now.past) (sym (none_first log (subst (λ l. AreFirstOf l log) none are))) tt;
-  past = λ log are. ap (λ (n : Recorded). n.past) same ∙ ap (behind_records now.past) (sym (empty log are));
-  recorded_is = λ opening log is are. same ∙ is ∙ ap recorded (sym (append-nil opening)) ∙ ap (λ (l : List LogRecord). recorded (opening ++ l)) (sym (empty log are));
-  counted = ap (λ (l : List Due). length (commands_due l)) none ∙ ap one_if (sym (no_command reply.is_error)) ∙ ap (λ (l : List Due). one_if (is_command (put_for reply.is_error l))) (sym none);
+  sound = λ log are. subst (AreSound now.past)
+      (sym (none_first log (subst (λ l. AreFirstOf l log) none are))) tt;
+  past = λ log are. ap (λ (n : Recorded). n.past) same
+      ∙ ap (after_records now.past) (sym (empty log are));
+  recorded_is = λ opening log is are. same ∙ is ∙ ap recorded (sym (append-nil opening))
+      ∙ ap (λ (l : List LogRecord). recorded (opening ++ l)) (sym (empty log are));
+  counted = ap (λ (l : List Due). length (commands_due l)) none
+      ∙ ap one_if (sym (no_command reply.is_error))
+      ∙ ap (λ (l : List Due). one_if (is_command (put_for reply.is_error l))) (sym none);
 }
   where
     empty : (log : List LogRecord) → AreRecordsOf reply.puts log → log ≡ []
     empty log are = none_of log (subst (λ l. AreRecordsOf l log) none are)
 
-refused_step : (now : Recorded) (fault : Fault) (text : List ℕ) → IsStep now (refused_or fault now (answered text now))
+refused_step : (now : Recorded) (fault : Fault) (text : List ℕ)
+    → IsStep now (refused_or fault now (answered text now))
 refused_step now None text = unchanged now (answered text now) refl refl
-refused_step now (Some r) text = unchanged now (refused_or (Some r) now (answered text now)) refl refl
+refused_step now (Some r) text = unchanged now (refused_or (Some r) now (answered text now)) refl
+    refl
 
-one_counted : (due : Due) → length (commands_due (due ∷ [])) ≡ one_if (is_command (put_for false (due ∷ [])))
+one_counted : (due : Due) → length (commands_due (due ∷ []))
+    ≡ one_if (is_command (put_for false (due ∷ [])))
 one_counted (command_due command) = refl
 one_counted (image_due past) = refl
 
-put_step : (now : Recorded) (text : List ℕ) (due : Due) (fault : Fault) → (fault ≡ None → IsDueAt now.past due) → IsStep now (refused_or fault now (put text due now))
-put_step now text due (Some r) here = unchanged now (refused_or (Some r) now (put text due now)) refl refl
-put_step now text due None here = record { sound = sound; past = past; recorded_is = recorded_so; counted = one_counted due }
+put_step : (now : Recorded) (text : List ℕ) (due : Due) (fault : Fault)
+    → (fault ≡ None → IsDueAt now.past due) → IsStep now (refused_or fault now (put text due now))
+put_step now text due (Some r) here = unchanged now (refused_or (Some r) now (put text due now))
+    refl refl
+put_step now text due None here = record {
+  sound = sound;
+  past = past;
+  recorded_is = recorded_so;
+  counted = one_counted due;
+}
   where
     sound : (log : List LogRecord) → AreFirstOf (due ∷ []) log → AreSound now.past log
     sound [] are = tt
     sound (r ∷ []) are = (here refl).sound r are.0
     sound (r ∷ s ∷ log) are = absurd are.1
 
-    past : (log : List LogRecord) → AreRecordsOf (due ∷ []) log → past_behind now.past due ≡ behind_records now.past log
+    past : (log : List LogRecord) → AreRecordsOf (due ∷ []) log
+        → past_after_due now.past due ≡ after_records now.past log
     past [] are = absurd are
     past (r ∷ []) are = sym ((here refl).leads r are.0)
     past (r ∷ s ∷ log) are = absurd are.1
 
-    recorded_so : (opening log : List LogRecord) → now ≡ recorded opening → AreRecordsOf (due ∷ []) log → recorded_with now due ≡ recorded (opening ++ log)
+    recorded_so : (opening log : List LogRecord) → now ≡ recorded opening
+        → AreRecordsOf (due ∷ []) log → recorded_with now due ≡ recorded (opening ++ log)
     recorded_so opening [] is are = absurd are
-    recorded_so opening (r ∷ []) is are = ap (λ n. recorded_with n due) is ∙ recorded_push opening due r (subst (λ (n : Recorded). IsDueAt n.past due) is (here refl)) are.0
+    recorded_so opening (r ∷ []) is are = ap (λ n. recorded_with n due) is
+        ∙ recorded_push opening due r (subst (λ (n : Recorded). IsDueAt n.past due) is (here refl))
+        are.0
     recorded_so opening (r ∷ s ∷ log) is are = absurd are.1
 
-statement_step : (limit : Given) (now : Recorded) (s : PlainStatement) → IsStep now (statement_reply limit s now)
+statement_step : (limit : Given) (now : Recorded) (s : PlainStatement)
+    → IsStep now (statement_reply limit s now)
 statement_step limit now (write command) =
     put_step now _ (command_due command) (commit_fault now.past now.at limit.limit command)
-    (λ e. command_at now.past command (none_of_first (command_fault now.past command) (room_fault now.at limit.limit (record_of (logged command)) ∷ []) e).0)
+    (λ e. command_at now.past command (none_of_first (command_fault now.past command)
+    (room_fault now.at limit.limit (record_of (logged command)) ∷ []) e).0)
 statement_step limit now (ask query) = refused_step now (fault_of_query now.past query) _
 statement_step limit now (explain query) = refused_step now (fault_of_query now.past query) _
-statement_step limit now show_versions = unchanged now (statement_reply limit show_versions now) refl refl
+statement_step limit now show_versions = unchanged now (statement_reply limit show_versions now)
+    refl refl
 statement_step limit now (show_schema version) = refused_step now (version_fault now.past version) _
 statement_step limit now show_sizes = unchanged now (statement_reply limit show_sizes now) refl refl
-statement_step limit now checkpoint = put_step now _ (image_due now.past) (checkpoint_fault now.past now.at limit.limit) (λ e. image_at now.past)
+statement_step limit now checkpoint = put_step now _ (image_due now.past)
+    (checkpoint_fault now.past now.at limit.limit) (λ e. image_at now.past)
 
-reading_step : (limit : Given) (now : Recorded) (r : Reading) → IsStep now (reading_reply limit r now)
+reading_step : (limit : Given) (now : Recorded) (r : Reading)
+    → IsStep now (reading_reply limit r now)
 reading_step limit now Blank = unchanged now (reading_reply limit Blank now) refl refl
 reading_step limit now (Refused r) = unchanged now (reading_reply limit (Refused r) now) refl refl
 reading_step limit now (Whole s) = statement_step limit now s
 
-pub piece_step : (limit : Given) (now : Recorded) (p : Piece) → IsStep now (piece_reply limit now p)
+pub piece_step : (limit : Given) (now : Recorded) (p : StatementPart)
+    → IsStep now (piece_reply limit now p)
 unfolding reply
 piece_step limit now (Text text) = reading_step limit now (reading text)
 piece_step limit now Skipped = unchanged now (piece_reply limit now Skipped) refl refl
 
 -- ---- statements one after the other
 
--- the records are sound behind the past
-pub first_sound : (limit : Given) (pieces : List Piece) (now : Recorded) (log : List LogRecord) → AreFirstOf (all_puts limit now pieces) log → AreSound now.past log
+-- the records are sound after the past
+pub first_sound : (limit : Given) (pieces : List StatementPart) (now : Recorded)
+    (log : List LogRecord) → AreFirstOf (all_puts limit now pieces) log → AreSound now.past log
 first_sound limit [] now log are = subst (AreSound now.past) (sym (none_first log are)) tt
 first_sound limit (p ∷ pieces) now log are =
     let reply = piece_reply limit now p in
@@ -173,32 +218,44 @@ first_sound limit (p ∷ pieces) now log are =
     ⊎_elim
     (λ first. step.sound log first)
     (λ parts. subst (AreSound now.past) (sym parts.both)
-    (sound_append now.past parts.front parts.rest (step.sound parts.front (are_first reply.puts parts.front parts.front_are))
-    (subst (λ past. AreSound past parts.rest) (step.past parts.front parts.front_are) (first_sound limit pieces reply.behind parts.rest parts.rest_are))))
-    (first_apart reply.puts (all_puts limit reply.behind pieces) log are)
+    (sound_append now.past parts.prefix parts.rest
+    (step.sound parts.prefix (are_first reply.puts parts.prefix parts.prefix_are))
+    (subst (λ past. AreSound past parts.rest) (step.past parts.prefix parts.prefix_are)
+    (first_sound limit pieces reply.after parts.rest parts.rest_are))))
+    (first_apart reply.puts (all_puts limit reply.after pieces) log are)
 
-recorded_from : (limit : Given) (pieces : List Piece) (now : Recorded) (opening log : List LogRecord) → now ≡ recorded opening → AreRecordsOf (all_puts limit now pieces) log
+recorded_from : (limit : Given) (pieces : List StatementPart) (now : Recorded)
+    (opening log : List LogRecord) → now ≡ recorded opening
+    → AreRecordsOf (all_puts limit now pieces) log
     → recorded_after limit now pieces ≡ recorded (opening ++ log)
-recorded_from limit [] now opening log is are = is ∙ ap recorded (sym (append-nil opening)) ∙ ap (λ (l : List LogRecord). recorded (opening ++ l)) (sym (none_of log are))
+recorded_from limit [] now opening log is are = is ∙ ap recorded (sym (append-nil opening))
+    ∙ ap (λ (l : List LogRecord). recorded (opening ++ l)) (sym (none_of log are))
 recorded_from limit (p ∷ pieces) now opening log is are =
     let reply = piece_reply limit now p in
     let step = piece_step limit now p in
-    let parts = records_apart reply.puts (all_puts limit reply.behind pieces) log are in
-    recorded_from limit pieces reply.behind (opening ++ parts.front) parts.rest (step.recorded_is opening parts.front is parts.front_are) parts.rest_are
-    ∙ ap recorded (append_assoc opening parts.front parts.rest) ∙ ap (λ (l : List LogRecord). recorded (opening ++ l)) (sym parts.both)
+    let parts = records_apart reply.puts (all_puts limit reply.after pieces) log are in
+    recorded_from limit pieces reply.after (opening ++ parts.prefix) parts.rest
+    (step.recorded_is opening parts.prefix is parts.prefix_are) parts.rest_are
+    ∙ ap recorded (append_assoc opening parts.prefix parts.rest)
+    ∙ ap (λ (l : List LogRecord). recorded (opening ++ l)) (sym parts.both)
 
-pub first_put_sound : (limit : Given) (opening : List LogRecord) (pieces : List Piece) (log : List LogRecord) → AreFirstOf (all_puts limit (recorded opening) pieces) log → AreSound (past_recorded opening) log
+pub first_put_sound : (limit : Given) (opening : List LogRecord) (pieces : List StatementPart)
+    (log : List LogRecord) → AreFirstOf (all_puts limit (recorded opening) pieces) log
+    → AreSound (past_recorded opening) log
 first_put_sound limit opening pieces log are = first_sound limit pieces (recorded opening) log are
 
-module _ (limit : Given) (opening : List LogRecord) (pieces : List Piece) (log : List LogRecord) (are : AreRecordsOf (all_puts limit (recorded opening) pieces) log) where
+module _ (limit : Given) (opening : List LogRecord) (pieces : List StatementPart)
+    (log : List LogRecord) (are : AreRecordsOf (all_puts limit (recorded opening) pieces) log) where
   pub recorded_is : recorded_after limit (recorded opening) pieces ≡ recorded (opening ++ log)
   recorded_is = recorded_from limit pieces (recorded opening) opening log refl are
 
   pub put_sound : AreSound (past_recorded opening) log
-  put_sound = first_put_sound limit opening pieces log (are_first (all_puts limit (recorded opening) pieces) log are)
+  put_sound = first_put_sound limit opening pieces log
+      (are_first (all_puts limit (recorded opening) pieces) log are)
 
   pub put_accepted : AreAccepted beginning opening → AreAccepted beginning (opening ++ log)
-  put_accepted accepted = accepted_append beginning opening log accepted (sound_accepted (past_recorded opening) log put_sound)
+  put_accepted accepted = accepted_append beginning opening log accepted
+      (sound_accepted (past_recorded opening) log put_sound)
 
   pub still_sound : AreSound beginning opening → AreSound beginning (opening ++ log)
   still_sound sound = sound_append beginning opening log sound put_sound

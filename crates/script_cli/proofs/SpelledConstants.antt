@@ -1,67 +1,78 @@
--- The constants of a command that has a spelling are lawful, and so are those of an image's versions.
+-- The constants of a command that has a spelling are valid, and so are those of an image's
+-- versions.
 use Rattle.std.proofs.Common.{List, [], ◌∷◌, arith}
 use Rattle.std.proofs.lemmas.Int.{ints}
 use Rattle.std.specs.List.{AllByRecursion}
-use Rattle.prima_base.specs.Columns.{IsLawful}
-use Rattle.prima_base.specs.declared.values.Value.{Value}
-use Rattle.prima_base.specs.declared.values.Value.TheVariants.{Int, Text}
-use Rattle.cond_expr.specs.Trees.{Tree, column, constant, length_of, joined, choose, Trees, no_trees, a_tree, Test, never, always, compared, all_of, some_of, fails, Tests, no_tests, a_test}
-use Rattle.smo_types.specs.Operators.{Operator, nop, create_table, drop_table, rename_table, copy_table, merge_table, partition_table, decompose_table, join_table, add_column, drop_column, rename_column}
+use Rattle.prima_base.specs.Columns.{IsValid}
+use Rattle.prima_base.specs.declared.value.Value.{Value}
+use Rattle.prima_base.specs.declared.value.Value.TheVariants.{Int, Text}
+use Rattle.cond_expr.specs.Trees.{Tree, column, constant, length_of, joined, choose, Trees}
+use Rattle.cond_expr.specs.Trees.{no_trees, a_tree, Test, never, always, compared, all_of, some_of}
+use Rattle.cond_expr.specs.Trees.{fails, Tests, no_tests, a_test}
+use Rattle.smo_types.specs.Operators.{Operator, nop, create_table, drop_table, rename_table}
+use Rattle.smo_types.specs.Operators.{copy_table, merge_table, partition_table, decompose_table}
+use Rattle.smo_types.specs.Operators.{join_table, add_column, drop_column, rename_column}
 use Rattle.smo_types.specs.Commands.{PlainBody, changing, evolving, PlainVersion}
-use Rattle.piece_meaning.specs.Constants.{LawfulInTree, LawfulInTrees, LawfulInTest, LawfulInTests, LawfulInOperator, LawfulInOperators, LawfulInEvolution, LawfulInVersions}
+use Rattle.piece_meaning.specs.Constants.{ValidInTree, ValidInTrees, ValidInTest, ValidInTests}
+use Rattle.piece_meaning.specs.Constants.{ValidInOperator, ValidInOperators, ValidInEvolution}
+use Rattle.piece_meaning.specs.Constants.{ValidInVersions}
 use Rattle.image_spelling.specs.Images.{VersionsNamed}
-use Rattle.command_spelling.specs.Lawful.{IsValue, TreeNamed, TreesNamed, TestNamed, TestsNamed, OperatorNamed, BodyNamed}
+use Rattle.command_spelling.specs.Valid.{IsValue, TreeNamed, TreesNamed, TestNamed, TestsNamed}
+use Rattle.command_spelling.specs.Valid.{OperatorNamed, BodyNamed}
 
-value_lawful : (v : Value) → IsValue v → IsLawful v
-value_lawful (Int z) h = (let f = h.sfits in (omega (arith, ints, f), omega (arith, ints, f)))
-value_lawful (Text t) h = h
+value_valid : (v : Value) → IsValue v → IsValid v
+value_valid (Int z) h = (let f = h.sfits in (omega (arith, ints, f), omega (arith, ints, f)))
+value_valid (Text t) h = h
 
 mutual
-  tree_lawful : (t : Tree) → TreeNamed t → LawfulInTree t
-  tree_lawful (column w n) h = tt
-  tree_lawful (constant v) h = value_lawful v h
-  tree_lawful (length_of t) h = tree_lawful t h
-  tree_lawful (joined ts) h = trees_lawful ts h
-  tree_lawful (choose c a b) h = (test_lawful c h.0, tree_lawful a h.1, tree_lawful b h.2)
+  tree_valid : (t : Tree) → TreeNamed t → ValidInTree t
+  tree_valid (column w n) h = tt
+  tree_valid (constant v) h = value_valid v h
+  tree_valid (length_of t) h = tree_valid t h
+  tree_valid (joined ts) h = trees_valid ts h
+  tree_valid (choose c a b) h = (test_valid c h.0, tree_valid a h.1, tree_valid b h.2)
 
-  trees_lawful : (ts : Trees) → TreesNamed ts → LawfulInTrees ts
-  trees_lawful no_trees h = tt
-  trees_lawful (a_tree t ts) h = (tree_lawful t h.0, trees_lawful ts h.1)
+  trees_valid : (ts : Trees) → TreesNamed ts → ValidInTrees ts
+  trees_valid no_trees h = tt
+  trees_valid (a_tree t ts) h = (tree_valid t h.0, trees_valid ts h.1)
 
-  test_lawful : (c : Test) → TestNamed c → LawfulInTest c
-  test_lawful never h = tt
-  test_lawful always h = tt
-  test_lawful (compared o a b) h = (tree_lawful a h.0, tree_lawful b h.1)
-  test_lawful (all_of cs) h = tests_lawful cs h
-  test_lawful (some_of cs) h = tests_lawful cs h
-  test_lawful (fails c) h = test_lawful c h
+  test_valid : (c : Test) → TestNamed c → ValidInTest c
+  test_valid never h = tt
+  test_valid always h = tt
+  test_valid (compared o a b) h = (tree_valid a h.0, tree_valid b h.1)
+  test_valid (all_of cs) h = tests_valid cs h
+  test_valid (some_of cs) h = tests_valid cs h
+  test_valid (fails c) h = test_valid c h
 
-  tests_lawful : (cs : Tests) → TestsNamed cs → LawfulInTests cs
-  tests_lawful no_tests h = tt
-  tests_lawful (a_test c cs) h = (test_lawful c h.0, tests_lawful cs h.1)
+  tests_valid : (cs : Tests) → TestsNamed cs → ValidInTests cs
+  tests_valid no_tests h = tt
+  tests_valid (a_test c cs) h = (test_valid c h.0, tests_valid cs h.1)
 
-operator_lawful : (op : Operator) → OperatorNamed op → LawfulInOperator op
-operator_lawful nop h = tt
-operator_lawful (create_table r cs) h = tt
-operator_lawful (drop_table r) h = tt
-operator_lawful (rename_table r t) h = tt
-operator_lawful (copy_table r t) h = tt
-operator_lawful (merge_table r s t) h = tt
-operator_lawful (partition_table r s c t) h = test_lawful c h.2
-operator_lawful (decompose_table r s xs t ys) h = tt
-operator_lawful (join_table r s t c) h = test_lawful c h.3
-operator_lawful (add_column c e r) h = tree_lawful e h.2
-operator_lawful (drop_column c r) h = tt
-operator_lawful (rename_column b r c) h = tt
+operator_valid : (op : Operator) → OperatorNamed op → ValidInOperator op
+operator_valid nop h = tt
+operator_valid (create_table r cs) h = tt
+operator_valid (drop_table r) h = tt
+operator_valid (rename_table r t) h = tt
+operator_valid (copy_table r t) h = tt
+operator_valid (merge_table r s t) h = tt
+operator_valid (partition_table r s c t) h = test_valid c h.2
+operator_valid (decompose_table r s xs t ys) h = tt
+operator_valid (join_table r s t c) h = test_valid c h.3
+operator_valid (add_column c e r) h = tree_valid e h.2
+operator_valid (drop_column c r) h = tt
+operator_valid (rename_column b r c) h = tt
 
-operators_lawful : (ops : List Operator) → AllByRecursion OperatorNamed ops → LawfulInOperators ops
-operators_lawful [] h = tt
-operators_lawful (op ∷ ops) h = (operator_lawful op h.0, operators_lawful ops h.1)
+operators_valid : (ops : List Operator) → AllByRecursion OperatorNamed ops → ValidInOperators ops
+operators_valid [] h = tt
+operators_valid (op ∷ ops) h = (operator_valid op h.0, operators_valid ops h.1)
 
-pub spelled_lawful : (b : PlainBody) → BodyNamed b → LawfulInEvolution b
-spelled_lawful (changing changes) h = tt
-spelled_lawful (evolving op inverse) h = (operator_lawful op h.0, operators_lawful inverse h.1)
+pub spelled_valid : (b : PlainBody) → BodyNamed b → ValidInEvolution b
+spelled_valid (changing changes) h = tt
+spelled_valid (evolving op inverse) h = (operator_valid op h.0, operators_valid inverse h.1)
 
-pub named_lawful : (versions : List PlainVersion) → VersionsNamed versions → LawfulInVersions versions
-named_lawful [] h = tt
-named_lawful (v ∷ versions) h = (spelled_lawful (evolving v.op v.inverse) h.0, named_lawful versions h.1)
+pub named_valid : (versions : List PlainVersion) → VersionsNamed versions → ValidInVersions versions
+named_valid [] h = tt
+named_valid (v ∷ versions) h = (
+  spelled_valid (evolving v.op v.inverse) h.0,
+  named_valid versions h.1,
+)

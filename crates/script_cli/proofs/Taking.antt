@@ -1,13 +1,14 @@
 -- What the run of a script has made of the bytes that it took.
-use Rattle.std.proofs.Common.{◌≡◌, ℕ, ◌+◌, Bool, true, false, List, [], ◌∷◌, ◌++◌, length, refl, sym, ap, ◌∙◌, subst, arith, append_assoc, append-nil, length-append}
+use Rattle.std.proofs.Common.{◌≡◌, ℕ, ◌+◌, Bool, true, false, List, [], ◌∷◌, ◌++◌, length, refl}
+use Rattle.std.proofs.Common.{sym, ap, ◌∙◌, subst, arith, append_assoc, append-nil, length-append}
 use Rattle.std.specs.Prelude.{◌||◌, Option, Some, None, MatchOption}
 use Rattle.std.specs.Io.KnownBytes.{Appends}
 use Rattle.std.proofs.KnownBytes.{Appends-trans, Appends-nil}
-use Rattle.disk_model.specs.Meaning.{IsLawful}
+use Rattle.disk_model.specs.Meaning.{IsValid}
 use Rattle.disk_model.specs.declared.disk.Disk.{Ghosts}
-use Rattle.archive_core.specs.declared.archives.Archive.{Archive}
+use Rattle.archive_core.specs.declared.archive.Archive.{Archive}
 use Rattle.archive_core.specs.Fields.{below}
-use Rattle.script_parse.specs.Script.{Piece, pieces_from, tail_from, ending}
+use Rattle.script_parse.specs.Script.{StatementPart, pieces_from, tail_from, ending}
 use Rattle.script_parse.specs.Splitting.{found, IsSettled, State}
 use Rattle.script_parse.specs.declared.splitter.Cut.{Cut}
 use Rattle.script_parse.specs.declared.splitter.Cut.TheVariants.{More}
@@ -17,9 +18,11 @@ use Rattle.script_cli.specs.Given.{Given}
 use Rattle.script_cli.specs.declared.script_run.ScriptRun.{ScriptRun}
 use Rattle.script_cli.specs.declared.halt.Halt.{Halt}
 use Rattle.script_cli.specs.declared.halt.Halt.TheVariants.{NoMemory}
-use Rattle.script_cli.specs.Output.{Recorded, piece_reply, replies, all_puts, recorded_after, any_error}
-use Rattle.script_cli.specs.Shows.{StandsAt, PutBetween, StopsIn, Took, Halted, next_reply, pieces_behind, ending_behind}
-use Rattle.script_cli.proofs.PutsBehind.{nothing_between, then_between}
+use Rattle.script_cli.specs.Output.{Recorded, piece_reply, replies, all_puts, recorded_after}
+use Rattle.script_cli.specs.Output.{any_error}
+use Rattle.script_cli.specs.Shows.{StandsAt, PutBetween, StopsIn, Took, Halted, next_reply}
+use Rattle.script_cli.specs.Shows.{pieces_after, ending_after}
+use Rattle.script_cli.proofs.PutsAfter.{nothing_between, then_between}
 use Rattle.script_cli.proofs.DueRecords.{commands_append}
 
 pub or_assoc : (a b c : Bool) → (a || (b || c)) ≡ ((a || b) || c)
@@ -33,36 +36,47 @@ or_false false = refl
 -- ---- statements one after the other
 
 module _ (limit : Given) where
-  pub after-append : (now : Recorded) (xs ys : List Piece) → recorded_after limit now (xs ++ ys) ≡ recorded_after limit (recorded_after limit now xs) ys
+  pub after-append : (now : Recorded) (xs ys : List StatementPart)
+      → recorded_after limit now (xs ++ ys) ≡ recorded_after limit (recorded_after limit now xs) ys
   after-append now [] ys = refl
-  after-append now (x ∷ xs) ys = after-append (piece_reply limit now x).behind xs ys
+  after-append now (x ∷ xs) ys = after-append (piece_reply limit now x).after xs ys
 
-  pub replies-append : (now : Recorded) (xs ys : List Piece) → replies limit now (xs ++ ys) ≡ replies limit now xs ++ replies limit (recorded_after limit now xs) ys
+  pub replies-append : (now : Recorded) (xs ys : List StatementPart)
+      → replies limit now (xs ++ ys) ≡ replies limit now xs
+      ++ replies limit (recorded_after limit now xs) ys
   replies-append now [] ys = refl
   replies-append now (x ∷ xs) ys =
-      let next = (piece_reply limit now x).behind in
+      let next = (piece_reply limit now x).after in
       ap (λ l. (piece_reply limit now x).text ++ l) (replies-append next xs ys)
-      ∙ sym (append_assoc (piece_reply limit now x).text (replies limit next xs) (replies limit (recorded_after limit next xs) ys))
+      ∙ sym (append_assoc (piece_reply limit now x).text (replies limit next xs)
+      (replies limit (recorded_after limit next xs) ys))
 
-  pub put-append : (now : Recorded) (xs ys : List Piece) → all_puts limit now (xs ++ ys) ≡ all_puts limit now xs ++ all_puts limit (recorded_after limit now xs) ys
+  pub put-append : (now : Recorded) (xs ys : List StatementPart)
+      → all_puts limit now (xs ++ ys) ≡ all_puts limit now xs
+      ++ all_puts limit (recorded_after limit now xs) ys
   put-append now [] ys = refl
   put-append now (x ∷ xs) ys =
-      let next = (piece_reply limit now x).behind in
+      let next = (piece_reply limit now x).after in
       ap (λ l. (piece_reply limit now x).puts ++ l) (put-append next xs ys)
-      ∙ sym (append_assoc (piece_reply limit now x).puts (all_puts limit next xs) (all_puts limit (recorded_after limit next xs) ys))
+      ∙ sym (append_assoc (piece_reply limit now x).puts (all_puts limit next xs)
+      (all_puts limit (recorded_after limit next xs) ys))
 
-  pub error-append : (now : Recorded) (xs ys : List Piece) → any_error limit now (xs ++ ys) ≡ (any_error limit now xs || any_error limit (recorded_after limit now xs) ys)
+  pub error-append : (now : Recorded) (xs ys : List StatementPart)
+      → any_error limit now (xs ++ ys) ≡ (any_error limit now xs
+      || any_error limit (recorded_after limit now xs) ys)
   error-append now [] ys = refl
   error-append now (x ∷ xs) ys =
-      let next = (piece_reply limit now x).behind in
+      let next = (piece_reply limit now x).after in
       ap (λ b. (piece_reply limit now x).is_error || b) (error-append next xs ys)
-      ∙ or_assoc (piece_reply limit now x).is_error (any_error limit next xs) (any_error limit (recorded_after limit next xs) ys)
+      ∙ or_assoc (piece_reply limit now x).is_error (any_error limit next xs)
+      (any_error limit (recorded_after limit next xs) ys)
 
 -- ---- bytes one after the other
 
 module _ {D : Type 0} {g : Ghosts D} (limit : Given) (now : Recorded) where
   -- none was taken
-  pub took_none : (s : ScriptRun) (a : Archive D g) (bytes : List ℕ) (w : Option (List ℕ)) → IsLawful (below a) → StandsAt a limit now → Took limit now s s a a bytes bytes w w
+  pub took_none : (s : ScriptRun) (a : Archive D g) (bytes : List ℕ) (w : Option (List ℕ))
+      → IsValid (below a) → StandsAt a limit now → Took limit now s s a a bytes bytes w w
   took_none s a bytes w law stands = record {
     pieces = [];
     cut = λ more. refl;
@@ -75,10 +89,15 @@ module _ {D : Type 0} {g : Ghosts D} (limit : Given) (now : Recorded) where
   }
 
   -- one ended
-  pub took_one : (s t : ScriptRun) (a b : Archive D g) (xs ys : List ℕ) (u v : Option (List ℕ)) (piece : Piece)
-      → ((more : List ℕ) → pieces_behind s (xs ++ more) ≡ piece ∷ pieces_behind t (ys ++ more)) → ((more : List ℕ) → ending_behind s (xs ++ more) ≡ ending_behind t (ys ++ more))
-      → StandsAt b limit (piece_reply limit now piece).behind → t.refused ≡ (s.refused || (piece_reply limit now piece).is_error) → PutBetween a b (piece_reply limit now piece).puts
-      → t.puts ≡ s.puts + length (commands_due (piece_reply limit now piece).puts) → Appends u v (piece_reply limit now piece).text → Took limit now s t a b xs ys u v
+  pub took_one : (s t : ScriptRun) (a b : Archive D g) (xs ys : List ℕ) (u v : Option (List ℕ))
+      (piece : StatementPart)
+      → ((more : List ℕ) → pieces_after s (xs ++ more) ≡ piece ∷ pieces_after t (ys ++ more))
+      → ((more : List ℕ) → ending_after s (xs ++ more) ≡ ending_after t (ys ++ more))
+      → StandsAt b limit (piece_reply limit now piece).after
+      → t.refused ≡ (s.refused || (piece_reply limit now piece).is_error)
+      → PutBetween a b (piece_reply limit now piece).puts
+      → t.puts ≡ s.puts + length (commands_due (piece_reply limit now piece).puts)
+      → Appends u v (piece_reply limit now piece).text → Took limit now s t a b xs ys u v
   took_one s t a b xs ys u v piece cut end stands faulty puts counted wrote = record {
     pieces = piece ∷ [];
     cut = cut;
@@ -86,40 +105,55 @@ module _ {D : Type 0} {g : Ghosts D} (limit : Given) (now : Recorded) where
     stands = stands;
     refused = faulty ∙ ap (λ x. s.refused || x) (or_false (piece_reply limit now piece).is_error);
     puts = subst (PutBetween a b) (sym (append-nil (piece_reply limit now piece).puts)) puts;
-    counted = counted ∙ ap (λ (l : List Due). s.puts + length (commands_due l)) (sym (append-nil (piece_reply limit now piece).puts));
+    counted = counted ∙ ap (λ (l : List Due). s.puts + length (commands_due l))
+        (sym (append-nil (piece_reply limit now piece).puts));
     wrote = subst (Appends u v) (sym (append-nil (piece_reply limit now piece).text)) wrote;
   }
 
   -- more were taken
-  pub took_more : (s t n : ScriptRun) (a b c : Archive D g) (xs ys zs : List ℕ) (u v w : Option (List ℕ)) → (k : Took limit now s t a b xs ys u v)
-      → Took limit (recorded_after limit now k.pieces) t n b c ys zs v w → Took limit now s n a c xs zs u w
+  pub took_more : (s t n : ScriptRun) (a b c : Archive D g) (xs ys zs : List ℕ)
+      (u v w : Option (List ℕ)) → (k : Took limit now s t a b xs ys u v)
+      → Took limit (recorded_after limit now k.pieces) t n b c ys zs v w
+      → Took limit now s n a c xs zs u w
   took_more s t n a b c xs ys zs u v w k m =
       let next = recorded_after limit now k.pieces in record {
         pieces = k.pieces ++ m.pieces;
-        cut = λ more. k.cut more ∙ ap (λ l. k.pieces ++ l) (m.cut more) ∙ sym (append_assoc k.pieces m.pieces (pieces_behind n (zs ++ more)));
+        cut = λ more. k.cut more ∙ ap (λ l. k.pieces ++ l) (m.cut more)
+            ∙ sym (append_assoc k.pieces m.pieces (pieces_after n (zs ++ more)));
         end = λ more. k.end more ∙ m.end more;
         stands = subst (StandsAt c limit) (sym (after-append limit now k.pieces m.pieces)) m.stands;
-        refused = m.refused ∙ ap (λ x. x || any_error limit next m.pieces) k.refused ∙ sym (or_assoc s.refused (any_error limit now k.pieces) (any_error limit next m.pieces))
+        refused = m.refused ∙ ap (λ x. x || any_error limit next m.pieces) k.refused
+            ∙ sym (or_assoc s.refused (any_error limit now k.pieces)
+            (any_error limit next m.pieces))
             ∙ ap (λ x. s.refused || x) (sym (error-append limit now k.pieces m.pieces));
         puts = subst (PutBetween a c) (sym (put-append limit now k.pieces m.pieces))
-            (then_between a b c (all_puts limit now k.pieces) (all_puts limit next m.pieces) k.puts m.puts);
+            (then_between a b c (all_puts limit now k.pieces) (all_puts limit next m.pieces) k.puts
+            m.puts);
         counted = omega (
           arith,
           m.counted,
           k.counted,
           ap (λ (l : List Due). length (commands_due l)) (put-append limit now k.pieces m.pieces),
-          ap (λ (l : List PlainCommand). length l) (commands_append (all_puts limit now k.pieces) (all_puts limit next m.pieces)),
-          length-append (commands_due (all_puts limit now k.pieces)) (commands_due (all_puts limit next m.pieces)),
+          ap (λ (l : List PlainCommand). length l)
+              (commands_append (all_puts limit now k.pieces) (all_puts limit next m.pieces)),
+          length-append (commands_due (all_puts limit now k.pieces))
+              (commands_due (all_puts limit next m.pieces)),
         );
-        wrote = subst (Appends u w) (sym (replies-append limit now k.pieces m.pieces)) (Appends-trans u v w (replies limit now k.pieces) (replies limit next m.pieces) k.wrote m.wrote);
+        wrote = subst (Appends u w) (sym (replies-append limit now k.pieces m.pieces))
+            (Appends-trans u v w (replies limit now k.pieces) (replies limit next m.pieces) k.wrote
+            m.wrote);
       }
 
   -- the same bytes in front of others
-  unfoldable pub took_longer : (s t : ScriptRun) (a b : Archive D g) (xs ys zs : List ℕ) (u v : Option (List ℕ)) → Took limit now s t a b xs ys u v → Took limit now s t a b (xs ++ zs) (ys ++ zs) u v
+  unfoldable pub took_longer : (s t : ScriptRun) (a b : Archive D g) (xs ys zs : List ℕ)
+      (u v : Option (List ℕ)) → Took limit now s t a b xs ys u v
+      → Took limit now s t a b (xs ++ zs) (ys ++ zs) u v
   took_longer s t a b xs ys zs u v k = record {
     pieces = k.pieces;
-    cut = λ more. ap (pieces_behind s) (append_assoc xs zs more) ∙ k.cut (zs ++ more) ∙ ap (λ l. k.pieces ++ pieces_behind t l) (sym (append_assoc ys zs more));
-    end = λ more. ap (ending_behind s) (append_assoc xs zs more) ∙ k.end (zs ++ more) ∙ ap (ending_behind t) (sym (append_assoc ys zs more));
+    cut = λ more. ap (pieces_after s) (append_assoc xs zs more) ∙ k.cut (zs ++ more)
+        ∙ ap (λ l. k.pieces ++ pieces_after t l) (sym (append_assoc ys zs more));
+    end = λ more. ap (ending_after s) (append_assoc xs zs more) ∙ k.end (zs ++ more)
+        ∙ ap (ending_after t) (sym (append_assoc ys zs more));
     stands = k.stands;
     refused = k.refused;
     puts = k.puts;
@@ -127,31 +161,45 @@ module _ {D : Type 0} {g : Ghosts D} (limit : Given) (now : Recorded) where
     wrote = k.wrote;
   }
 
-  -- behind statements that were answered the run stopped
-  pub halted_behind : (halt : Halt) (before pieces : List Piece) (a b c : Archive D g) (u v w : Option (List ℕ)) → PutBetween a b (all_puts limit now before)
-      → Appends u v (replies limit now before) → Halted halt limit (recorded_after limit now before) pieces b c v w → Halted halt limit now (before ++ pieces) a c u w
-  halted_behind halt before pieces a b c u v w puts wrote h =
+  -- after statements that were answered the run stopped
+  pub halted_after : (halt : Halt) (before pieces : List StatementPart) (a b c : Archive D g)
+      (u v w : Option (List ℕ)) → PutBetween a b (all_puts limit now before)
+      → Appends u v (replies limit now before)
+      → Halted halt limit (recorded_after limit now before) pieces b c v w
+      → Halted halt limit now (before ++ pieces) a c u w
+  halted_after halt before pieces a b c u v w puts wrote h =
       let next = recorded_after limit now before in record {
         whole = before ++ h.whole;
         rest = h.rest;
         are = ap (λ l. before ++ l) h.are ∙ sym (append_assoc before h.whole h.rest);
         mid = h.mid;
         between = h.between;
-        wrote = subst (Appends u h.between) (sym (replies-append limit now before h.whole)) (Appends-trans u v h.between (replies limit now before) (replies limit next h.whole) wrote h.wrote);
+        wrote = subst (Appends u h.between) (sym (replies-append limit now before h.whole))
+            (Appends-trans u v h.between (replies limit now before) (replies limit next h.whole)
+            wrote h.wrote);
         puts = subst (PutBetween a h.mid) (sym (put-append limit now before h.whole))
-            (then_between a b h.mid (all_puts limit now before) (all_puts limit next h.whole) puts h.puts);
-        stops = subst (λ n. StopsIn halt (next_reply limit n h.rest) h.mid c h.between w) (sym (after-append limit now before h.whole)) h.stops;
+            (then_between a b h.mid (all_puts limit now before) (all_puts limit next h.whole) puts
+            h.puts);
+        stops = subst (λ n. StopsIn halt (next_reply limit n h.rest) h.mid c h.between w)
+            (sym (after-append limit now before h.whole)) h.stops;
       }
 
-  -- behind bytes that were taken
-  pub halted_more : (halt : Halt) (s t : ScriptRun) (a b c : Archive D g) (xs ys : List ℕ) (u v w : Option (List ℕ)) → (k : Took limit now s t a b xs ys u v)
-      → Halted halt limit (recorded_after limit now k.pieces) (pieces_behind t ys) b c v w → Halted halt limit now (pieces_behind s xs) a c u w
+  -- after bytes that were taken
+  pub halted_more : (halt : Halt) (s t : ScriptRun) (a b c : Archive D g) (xs ys : List ℕ)
+      (u v w : Option (List ℕ)) → (k : Took limit now s t a b xs ys u v)
+      → Halted halt limit (recorded_after limit now k.pieces) (pieces_after t ys) b c v w
+      → Halted halt limit now (pieces_after s xs) a c u w
   halted_more halt s t a b c xs ys u v w k h =
-      let all : pieces_behind s xs ≡ k.pieces ++ pieces_behind t ys = ap (pieces_behind s) (sym (append-nil xs)) ∙ k.cut [] ∙ ap (λ l. k.pieces ++ pieces_behind t l) (append-nil ys) in
-      subst (λ l. Halted halt limit now l a c u w) (sym all) (halted_behind halt k.pieces (pieces_behind t ys) a b c u v w k.puts k.wrote h)
+      let all : pieces_after s xs ≡ k.pieces ++ pieces_after t ys =
+      ap (pieces_after s) (sym (append-nil xs)) ∙ k.cut []
+      ∙ ap (λ l. k.pieces ++ pieces_after t l) (append-nil ys) in
+      subst (λ l. Halted halt limit now l a c u w) (sym all)
+      (halted_after halt k.pieces (pieces_after t ys) a b c u v w k.puts k.wrote h)
 
   -- the run stopped in the first of these
-  pub halted_first : (halt : Halt) (pieces : List Piece) (a b : Archive D g) (u v : Option (List ℕ)) → IsLawful (below a) → StopsIn halt (next_reply limit now pieces) a b u v
+  pub halted_first : (halt : Halt) (pieces : List StatementPart) (a b : Archive D g)
+      (u v : Option (List ℕ)) → IsValid (below a)
+      → StopsIn halt (next_reply limit now pieces) a b u v
       → Halted halt limit now pieces a b u v
   halted_first halt pieces a b u v law stops = record {
     whole = [];
@@ -165,31 +213,42 @@ module _ {D : Type 0} {g : Ghosts D} (limit : Given) (now : Recorded) where
   }
 
   -- memory ran out before any of these was answered
-  pub halted_memory : (pieces : List Piece) (a : Archive D g) (u : Option (List ℕ)) → IsLawful (below a) → Halted NoMemory limit now pieces a a u u
+  pub halted_memory : (pieces : List StatementPart) (a : Archive D g) (u : Option (List ℕ))
+      → IsValid (below a) → Halted NoMemory limit now pieces a a u u
   halted_memory pieces a u law =
       halted_first NoMemory pieces a a u u law (refl, nothing_between a law)
 
 -- what an answer is in its case
-pub left_none : {T : Type 0} (o : Option T) (A : Type 0) (B : T → Type 0) → o ≡ None → MatchOption o A B → A
+pub left_none : {T : Type 0} (o : Option T) (A : Type 0) (B : T → Type 0) → o ≡ None
+    → MatchOption o A B → A
 left_none o A B e h = subst (λ x. MatchOption x A B) e h
 
-pub left_some : {T : Type 0} (o : Option T) (t : T) (A : Type 0) (B : T → Type 0) → o ≡ Some t → MatchOption o A B → B t
+pub left_some : {T : Type 0} (o : Option T) (t : T) (A : Type 0) (B : T → Type 0) → o ≡ Some t
+    → MatchOption o A B → B t
 left_some o t A B e h = subst (λ x. MatchOption x A B) e h
 
 -- a cut where no statement ended took all bytes
-pub all_taken : (cut : Cut) (rest : List ℕ) (state : State) → cut ≡ More → IsSettled cut rest state → rest ≡ []
+pub all_taken : (cut : Cut) (rest : List ℕ) (state : State) → cut ≡ More → IsSettled cut rest state
+    → rest ≡ []
 all_taken cut rest state e h = let P : Cut → Type 0 = λ k. IsSettled k rest state in subst P e h
 
-module _ {D : Type 0} {g : Ghosts D} (limit : Given) (now : Recorded) (s t : ScriptRun) (z : State) (a b : Archive D g) (xs ys : List ℕ) (u v : Option (List ℕ)) (cut : Cut)
-    (statements : (more : List ℕ) → pieces_behind s (xs ++ more) ≡ found cut ++ pieces_from z.mode z.kept (ys ++ more))
-    (tail : (more : List ℕ) → ending_behind s (xs ++ more) ≡ ending (tail_from z.mode z.kept (ys ++ more)))
+module _ {D : Type 0} {g : Ghosts D} (limit : Given) (now : Recorded) (s t : ScriptRun) (z : State)
+    (a b : Archive D g) (xs ys : List ℕ) (u v : Option (List ℕ)) (cut : Cut)
+    (statements : (more : List ℕ) → pieces_after s (xs ++ more) ≡ found cut
+    ++ pieces_from z.mode z.kept (ys ++ more))
+    (tail : (more : List ℕ) → ending_after s (xs ++ more)
+    ≡ ending (tail_from z.mode z.kept (ys ++ more)))
     (same : t.splitter ≡ z) where
   -- no statement ended
-  pub took_all : cut ≡ More → ys ≡ [] → IsLawful (below a) → StandsAt a limit now → t.refused ≡ s.refused → t.puts ≡ s.puts → Took limit now s t a a xs [] u u
+  pub took_all : cut ≡ More → ys ≡ [] → IsValid (below a) → StandsAt a limit now
+      → t.refused ≡ s.refused → t.puts ≡ s.puts → Took limit now s t a a xs [] u u
   took_all e all law stands faulty counted = record {
     pieces = [];
-    cut = λ more. statements more ∙ ap (λ k. found k ++ pieces_from z.mode z.kept (ys ++ more)) e ∙ ap (λ l. pieces_from z.mode z.kept (l ++ more)) all ∙ ap (λ z. pieces_from z.mode z.kept more) (sym same);
-    end = λ more. tail more ∙ ap (λ l. ending (tail_from z.mode z.kept (l ++ more))) all ∙ ap (λ z. ending (tail_from z.mode z.kept more)) (sym same);
+    cut = λ more. statements more ∙ ap (λ k. found k ++ pieces_from z.mode z.kept (ys ++ more)) e
+        ∙ ap (λ l. pieces_from z.mode z.kept (l ++ more)) all
+        ∙ ap (λ z. pieces_from z.mode z.kept more) (sym same);
+    end = λ more. tail more ∙ ap (λ l. ending (tail_from z.mode z.kept (l ++ more))) all
+        ∙ ap (λ z. ending (tail_from z.mode z.kept more)) (sym same);
     stands = stands;
     refused = faulty ∙ or_false s.refused;
     puts = nothing_between a law;
@@ -198,16 +257,26 @@ module _ {D : Type 0} {g : Ghosts D} (limit : Given) (now : Recorded) (s t : Scr
   }
 
   -- a statement ended, and was answered
-  pub took_answer : (piece : Piece) → found cut ≡ piece ∷ [] → StandsAt b limit (piece_reply limit now piece).behind → t.refused ≡ (s.refused || (piece_reply limit now piece).is_error)
-      → PutBetween a b (piece_reply limit now piece).puts → t.puts ≡ s.puts + length (commands_due (piece_reply limit now piece).puts) → Appends u v (piece_reply limit now piece).text → Took limit now s t a b xs ys u v
+  pub took_answer : (piece : StatementPart) → found cut ≡ piece ∷ []
+      → StandsAt b limit (piece_reply limit now piece).after
+      → t.refused ≡ (s.refused || (piece_reply limit now piece).is_error)
+      → PutBetween a b (piece_reply limit now piece).puts
+      → t.puts ≡ s.puts + length (commands_due (piece_reply limit now piece).puts)
+      → Appends u v (piece_reply limit now piece).text → Took limit now s t a b xs ys u v
   took_answer piece e stands faulty puts counted wrote = took_one limit now s t a b xs ys u v piece
-      (λ more. statements more ∙ ap (λ l. l ++ pieces_from z.mode z.kept (ys ++ more)) e ∙ ap (λ z. piece ∷ pieces_from z.mode z.kept (ys ++ more)) (sym same))
+      (λ more. statements more ∙ ap (λ l. l ++ pieces_from z.mode z.kept (ys ++ more)) e
+      ∙ ap (λ z. piece ∷ pieces_from z.mode z.kept (ys ++ more)) (sym same))
       (λ more. tail more ∙ ap (λ z. ending (tail_from z.mode z.kept (ys ++ more))) (sym same))
       stands faulty puts counted wrote
 
   -- or the run stopped in its reply
-  pub halted_answer : (halt : Halt) (piece : Piece) → found cut ≡ piece ∷ [] → IsLawful (below a) → StopsIn halt (piece_reply limit now piece) a b u v
-      → Halted halt limit now (pieces_behind s xs) a b u v
+  pub halted_answer : (halt : Halt) (piece : StatementPart) → found cut ≡ piece ∷ []
+      → IsValid (below a) → StopsIn halt (piece_reply limit now piece) a b u v
+      → Halted halt limit now (pieces_after s xs) a b u v
   halted_answer halt piece e law stops =
-      let whole : pieces_behind s xs ≡ piece ∷ pieces_from z.mode z.kept (ys ++ []) = ap (pieces_behind s) (sym (append-nil xs)) ∙ statements [] ∙ ap (λ l. l ++ pieces_from z.mode z.kept (ys ++ [])) e in
-      subst (λ l. Halted halt limit now l a b u v) (sym whole) (halted_first limit now halt (piece ∷ pieces_from z.mode z.kept (ys ++ [])) a b u v law stops)
+      let whole : pieces_after s xs ≡ piece ∷ pieces_from z.mode z.kept (ys ++ []) =
+      ap (pieces_after s) (sym (append-nil xs)) ∙ statements []
+      ∙ ap (λ l. l ++ pieces_from z.mode z.kept (ys ++ [])) e in
+      subst (λ l. Halted halt limit now l a b u v) (sym whole)
+      (halted_first limit now halt (piece ∷ pieces_from z.mode z.kept (ys ++ [])) a b u v law
+      stops)

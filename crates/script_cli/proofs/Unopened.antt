@@ -3,8 +3,8 @@ use Rattle.std.proofs.Common.{◌≡◌, inl, inr, ⊎_elim, ℕ, List, refl, ap
 use Rattle.std.specs.Prelude.{Option, Some, None}
 use Rattle.std.specs.Io.KnownBytes.{Keeps}
 use Rattle.disk_model.specs.Meaning.{Meaning}
-use Rattle.archive_core.specs.declared.faults.MountFault.{MountFault}
-use Rattle.archive_core.specs.declared.faults.MountFault.TheVariants as mounting
+use Rattle.archive_core.specs.declared.fault.MountFault.{MountFault}
+use Rattle.archive_core.specs.declared.fault.MountFault.TheVariants as mounting
 use Rattle.script_cli.specs.Driving.{HasNotOpened, PutsUnopened, status_of_fault}
 use Rattle.script_cli.specs.Runs.{NotOpened, ToldUnopened, SourceCounted, DiskCounted}
 use Rattle.script_cli.specs.declared.status.Status.{Status}
@@ -14,13 +14,16 @@ keeps_same None = tt
 keeps_same (Some bytes) = refl
 
 module _ (old new : Meaning) where
-  told_of : (fault : MountFault) (u w : Option (List ℕ)) (f h : ℕ) → PutsUnopened fault u w f h → HasNotOpened old new fault
+  told_of : (fault : MountFault) (u w : Option (List ℕ)) (f h : ℕ) → PutsUnopened fault u w f h
+      → HasNotOpened old new fault
       → ToldUnopened (status_of_fault fault) u w f h old.seen new.seen
   told_of mounting.Disk u w f h puts has = puts
-  told_of (mounting.Damaged place) u w f h puts has = (puts, has.damaged place refl, has.untouched place refl)
+  told_of (mounting.Damaged place) u w f h puts has =
+      (puts, has.damaged place refl, has.untouched place refl)
   told_of mounting.NoMemory u w f h puts has = puts
 
-  pub not_opened : (fault : MountFault) (a u w : Option (List ℕ)) (f h : ℕ) → PutsUnopened fault u w f h → HasNotOpened old new fault
+  pub not_opened : (fault : MountFault) (a u w : Option (List ℕ)) (f h : ℕ)
+      → PutsUnopened fault u w f h → HasNotOpened old new fault
       → NotOpened (status_of_fault fault) a a u w f h old new
   not_opened fault a u w f h puts has = record {
     kept = keeps_same a;
@@ -28,7 +31,8 @@ module _ (old new : Meaning) where
     disk = ⊎_elim (λ early. inl (ap status_of_fault early.0, early.1)) (λ late. inr late) has.turns;
   }
 
-  pub disk_unopened : (fault : MountFault) → HasNotOpened old new fault → DiskCounted (status_of_fault fault) old.faults new.faults
+  pub disk_unopened : (fault : MountFault) → HasNotOpened old new fault
+      → DiskCounted (status_of_fault fault) old.faults new.faults
   disk_unopened mounting.Disk has = (has.goes.counts, has.cause refl)
   disk_unopened (mounting.Damaged place) has = has.unfailed (λ e. cc)
   disk_unopened mounting.NoMemory has = has.unfailed (λ e. cc)
@@ -38,5 +42,6 @@ source_unopened mounting.Disk n = refl
 source_unopened (mounting.Damaged place) n = refl
 source_unopened mounting.NoMemory n = refl
 
-pub disk_behind : (status : Status) (before between now : ℕ) → between ≡ before → DiskCounted status between now → DiskCounted status before now
-disk_behind status before between now same h = subst (λ n. DiskCounted status n now) same h
+pub disk_after : (status : Status) (before between now : ℕ) → between ≡ before
+    → DiskCounted status between now → DiskCounted status before now
+disk_after status before between now same h = subst (λ n. DiskCounted status n now) same h

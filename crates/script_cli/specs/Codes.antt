@@ -1,7 +1,9 @@
 -- The number of a status.
 use Rattle.std.specs.Prelude.{ℕ}
 use Rattle.script_cli.specs.declared.status.Status.{Status}
-use Rattle.script_cli.specs.declared.status.Status.TheVariants.{Done, Refused, Words, ReadFault, WriteFault, DiskFault, NotAJournal, NoMemory, InputLimit}
+use Rattle.script_cli.specs.declared.status.Status.TheVariants.{Done, Refused, Words, ReadFault}
+use Rattle.script_cli.specs.declared.status.Status.TheVariants.{WriteFault, DiskFault, NotAJournal}
+use Rattle.script_cli.specs.declared.status.Status.TheVariants.{NoMemory, InputLimit}
 
 abbrev pub code_of : Status → ℕ
 code_of Done = 0

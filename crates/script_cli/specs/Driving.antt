@@ -1,8 +1,9 @@
 -- What the parts of a run do.
-use Rattle.std.specs.Prelude.{◌≡◌, ◌⊎◌, ℕ, IsTrue, List, [], length, Bool, ◌||◌, true, false, Option, Some}
+use Rattle.std.specs.Prelude.{◌≡◌, ◌⊎◌, ℕ, IsTrue, List, [], length, Bool, ◌||◌, true, false}
+use Rattle.std.specs.Prelude.{Option, Some}
 use Rattle.std.specs.Io.KnownBytes.{Appends}
 use Rattle.prima_io.specs.Causes.{Rose}
-use Rattle.prima_io.specs.Moves.{AppendsFront}
+use Rattle.prima_io.specs.Moves.{AppendsPrefix}
 use Rattle.disk_model.specs.Meaning.{Meaning, Tells}
 use Rattle.disk_model.specs.Moments.{GoesOn}
 use Rattle.disk_model.specs.declared.disk.Disk.{Ghosts}
@@ -10,11 +11,11 @@ use Rattle.journal.specs.Mounting.{IsNotSynced, KeepsFile}
 use Rattle.journal.specs.Standing.{Stands}
 use Rattle.archive_file.specs.LogRecords.{LogRecord, records_of, commands_in}
 use Rattle.archive_file.specs.Opening.{Opens, Damages}
-use Rattle.archive_state.specs.Standing.{ShowsSome}
-use Rattle.archive_core.specs.declared.archives.Archive.{Archive}
-use Rattle.archive_core.specs.declared.archives.Opened.{Opened}
-use Rattle.archive_core.specs.declared.faults.MountFault.{MountFault}
-use Rattle.archive_core.specs.declared.faults.MountFault.TheVariants as mounting
+use Rattle.archive_state.specs.Standing.{RepresentsSome}
+use Rattle.archive_core.specs.declared.archive.Archive.{Archive}
+use Rattle.archive_core.specs.declared.archive.Opened.{Opened}
+use Rattle.archive_core.specs.declared.fault.MountFault.{MountFault}
+use Rattle.archive_core.specs.declared.fault.MountFault.TheVariants as mounting
 use Rattle.archive_core.specs.Fields.{standing_of, below, place_of, limit_of}
 use Rattle.archive_core.specs.Holding.{HoldsAt}
 use Rattle.archive_core.specs.Mounting.{IsMounted}
@@ -24,22 +25,25 @@ use Rattle.script_cli.specs.Output.{Recorded, script_puts, tail_text, tail_is_du
 use Rattle.script_cli.specs.Putting.{HasPut, PutsSome}
 use Rattle.answer_text.specs.Texts.{not_a_journal_text}
 use Rattle.script_cli.specs.Runs.{Ran, Log, PutsLine, WhereTold, counted_limit, logged_in}
-use Rattle.script_cli.specs.Shows.{TakesRecords, ending_behind}
+use Rattle.script_cli.specs.Shows.{TakesRecords, ending_after}
 use Rattle.script_cli.specs.declared.script_run.ScriptRun.{ScriptRun}
 use Rattle.script_cli.specs.declared.halt.Halt.{Halt}
 use Rattle.script_cli.specs.declared.halt.Halt.TheVariants as halt
 use Rattle.script_cli.specs.declared.status.Status.{Status}
-use Rattle.script_cli.specs.declared.status.Status.TheVariants.{Done, Refused, WriteFault, DiskFault, NotAJournal, NoMemory}
+use Rattle.script_cli.specs.declared.status.Status.TheVariants.{Done, Refused, WriteFault}
+use Rattle.script_cli.specs.declared.status.Status.TheVariants.{DiskFault, NotAJournal, NoMemory}
 
 -- an `error` line was put, or is due at the script's end
 abbrev pub is_faulty : ScriptRun → Bool
-is_faulty script_run = script_run.refused || tail_is_due (ending_behind script_run [])
+is_faulty script_run = script_run.refused || tail_is_due (ending_after script_run [])
 
--- how the line behind the last statement ended a run
+-- how the line after the last statement ended a run
 abbrev pub Ends : Status → ScriptRun → Option (List ℕ) → Option (List ℕ) → Type 0
-Ends Done script_run old new = Appends old new (tail_text (ending_behind script_run [])) × (is_faulty script_run ≡ false)
-Ends Refused script_run old new = Appends old new (tail_text (ending_behind script_run [])) × (is_faulty script_run ≡ true)
-Ends WriteFault script_run old new = AppendsFront old new (tail_text (ending_behind script_run []))
+Ends Done script_run old new = Appends old new (tail_text (ending_after script_run []))
+    × (is_faulty script_run ≡ false)
+Ends Refused script_run old new = Appends old new (tail_text (ending_after script_run []))
+    × (is_faulty script_run ≡ true)
+Ends WriteFault script_run old new = AppendsPrefix old new (tail_text (ending_after script_run []))
 Ends other script_run old new = ⊥
 
 -- how a run ends that stops before the script's end
@@ -54,20 +58,25 @@ PutBy DiskFault old new at done log = PutsSome old new at done log
 PutBy other old new at done log = (next : ℕ) × HasPut old new at next log
 
 -- a script was read over an opened archive
-pub record Drove (limit : Given) (start : Recorded) (status : Status) (left_old left_new written_old written_new : Option (List ℕ)) (old new : Meaning) (at : ℕ) : Type 0 where
+pub record Drove (limit : Given) (start : Recorded) (status : Status)
+    (left_old left_new written_old written_new : Option (List ℕ)) (old new : Meaning) (at : ℕ) :
+    Type 0 where
   pub ran : Ran limit start status left_old left_new written_old written_new
   pub log : Log limit start status ran.whole ran.rest
   pub puts : PutBy status old new at log.done (logged_in log)
 
 -- so many commands were put by the script, where it was read to its end
 abbrev pub CountsPuts : Status → Given → Recorded → Option (List ℕ) → ℕ → Type 0
-CountsPuts Done limit start left puts = WhereTold left (λ script. puts ≡ length (commands_due (script_puts limit start script)))
-CountsPuts Refused limit start left puts = WhereTold left (λ script. puts ≡ length (commands_due (script_puts limit start script)))
+CountsPuts Done limit start left puts = WhereTold left
+    (λ script. puts ≡ length (commands_due (script_puts limit start script)))
+CountsPuts Refused limit start left puts = WhereTold left
+    (λ script. puts ≡ length (commands_due (script_puts limit start script)))
 CountsPuts other limit start left puts = Unit {0}
 
 -- so many commands the file has, where the disk tells it
 abbrev pub CountsOpening : Option (List ℕ) → ℕ → Type 0
-CountsOpening seen count = (file : List ℕ) (opening : List LogRecord) → seen ≡ Some file → Opens file opening → count ≡ length (commands_in opening)
+CountsOpening seen count = (file : List ℕ) (opening : List LogRecord) → seen ≡ Some file
+    → Opens file opening → count ≡ length (commands_in opening)
 
 -- how a run ends whose file was not opened
 abbrev pub status_of_fault : MountFault → Status
@@ -77,26 +86,33 @@ status_of_fault mounting.NoMemory = NoMemory
 
 -- of a damaged file the place is told, and nothing else
 abbrev pub PutsUnopened : MountFault → Option (List ℕ) → Option (List ℕ) → ℕ → ℕ → Type 0
-PutsUnopened (mounting.Damaged place) written_old written_new faults_old faults_new = PutsLine (not_a_journal_text place) written_old written_new faults_old faults_new
+PutsUnopened (mounting.Damaged place) written_old written_new faults_old faults_new =
+    PutsLine (not_a_journal_text place) written_old written_new faults_old faults_new
 PutsUnopened other written_old written_new faults_old faults_new = written_new ≡ written_old
 
 -- an archive was opened over this disk
-pub record HasOpened {D : Type 0} {g : Ghosts D} (old : Meaning) (limit : ℕ) (archive : Archive D g) : Type 0 where
-  pub mounted : Tells old.seen (λ file. (opened : Opened) × IsMounted file (standing_of archive) (place_of archive) opened)
-  pub shows : ShowsSome (standing_of archive)
+pub record HasOpened {D : Type 0} {g : Ghosts D} (old : Meaning) (limit : ℕ)
+    (archive : Archive D g) : Type 0 where
+  pub mounted : Tells old.seen (λ file. (opened : Opened)
+      × IsMounted file (standing_of archive) (place_of archive) opened)
+  pub shows : RepresentsSome (standing_of archive)
   pub limit_is : limit_of archive ≡ counted_limit limit
   pub takes : TakesRecords archive
   pub goes : GoesOn old (below archive)
   pub unfailed : (below archive).faults ≡ old.faults
   pub turns : KeepsFile old (below archive)
-  pub holds : (file : List ℕ) (opening : List LogRecord) → old.seen ≡ Some file → Opens file opening → HoldsAt (below archive) (place_of archive) (records_of opening)
-  pub stands : (file : List ℕ) (opening : List LogRecord) → IsTrue old.is_honest → old.seen ≡ Some file → Opens file opening → Stands (below archive) (place_of archive) (records_of opening)
+  pub holds : (file : List ℕ) (opening : List LogRecord) → old.seen ≡ Some file → Opens file opening
+      → HoldsAt (below archive) (place_of archive) (records_of opening)
+  pub stands : (file : List ℕ) (opening : List LogRecord) → IsTrue old.is_honest
+      → old.seen ≡ Some file → Opens file opening
+      → Stands (below archive) (place_of archive) (records_of opening)
 
 -- none was, and this is why
 pub record HasNotOpened (old new : Meaning) (fault : MountFault) : Type 0 where
   pub goes : GoesOn old new
   pub turns : ((fault ≡ mounting.Disk) × IsNotSynced old new) ⊎ KeepsFile old new
-  pub damaged : (place : ℕ) → fault ≡ mounting.Damaged place → Tells old.seen (λ file. Damages file place)
+  pub damaged : (place : ℕ) → fault ≡ mounting.Damaged place
+      → Tells old.seen (λ file. Damages file place)
   pub untouched : (place : ℕ) → fault ≡ mounting.Damaged place → new.seen ≡ old.seen
   pub cause : fault ≡ mounting.Disk → Rose old.faults new.faults
   pub unfailed : (fault ≡ mounting.Disk → ⊥) → new.faults ≡ old.faults

@@ -1,4 +1,5 @@
--- What accepted statements are to put: a command, or at a checkpoint an image of the past that stands there. And the records of it.
+-- What accepted statements are to put: a command, or at a checkpoint an image of the past that
+-- stands there. And the records of it.
 use Rattle.std.specs.Prelude.{◌≡◌, ℕ, List, [], ◌∷◌, length, ⊤}
 use Rattle.smo_types.specs.Commands.{PlainCommand}
 use Rattle.smo_meaning.specs.Past.{Past, past_with}
@@ -16,10 +17,10 @@ abbrev pub due_length : Due → ℕ
 due_length (command_due command) = length (command_bytes command)
 due_length (image_due past) = image_length past
 
--- the past behind it: an image changes none
-abbrev pub past_behind : Past → Due → Past
-past_behind now (command_due command) = past_with now command
-past_behind now (image_due past) = now
+-- the past after it: an image changes none
+abbrev pub past_after_due : Past → Due → Past
+past_after_due now (command_due command) = past_with now command
+past_after_due now (image_due past) = now
 
 -- the commands among what is due
 abbrev pub commands_due : List Due → List PlainCommand

@@ -9,9 +9,12 @@ use Rattle.answer_text.specs.Texts.{explain_text}
 use Rattle.script_cli.specs.Given.{Given}
 use Rattle.script_cli.specs.Output.{Recorded, reply}
 
--- the reply to a text has the lines of the query's pieces: of those into which it unfolds at each version in force in its slice, just
--- those that are not dead, branch by branch, item by item, and version by version
-pub record TellsPieces (limit : Given) (now : Recorded) (text : List ℕ) (query : PlainQuery) : Type 0 where
+-- the reply to a text has the lines of the query's pieces: of those into which it unfolds at each
+-- version in force in its slice, just those that are not dead, branch by branch, item by item, and
+-- version by version
+pub record TellsPieces (limit : Given) (now : Recorded) (text : List ℕ) (query : PlainQuery) :
+    Type 0 where
   pub pieces : List PlainExplained
-  pub are : ArePieces limit.book now.past.versions (with_atoms (tables_of now.past query.version) query) pieces
+  pub are : ArePieces limit.book now.past.versions
+      (with_atoms (tables_of now.past query.version) query) pieces
   pub told : (reply limit now text).text ≡ explain_text pieces

@@ -1,57 +1,67 @@
 -- The replies to a script, and what its statements put.
-use Rattle.std.specs.Prelude.{ℕ, ◌+◌, List, [], ◌∷◌, ◌++◌, ◌||◌, Bool, true, false, length, nat_eq, codes, Some, None}
+use Rattle.std.specs.Prelude.{ℕ, ◌+◌, List, [], ◌∷◌, ◌++◌, ◌||◌, Bool, true, false, length, nat_eq}
+use Rattle.std.specs.Prelude.{codes, Some, None}
 use Rattle.std.specs.List.{starts_with}
-use Rattle.prima_base.specs.declared.refusals.Refusal.{Refusal}
-use Rattle.prima_base.specs.declared.refusals.Refusal.TheVariants as refusal
-use Rattle.script_parse.specs.Script.{Piece, Whole as Text, Skipped, pieces_from, tail_of, ending}
-use Rattle.script_parse.specs.declared.modes.Mode.TheVariants.{Plain}
+use Rattle.prima_base.specs.declared.refusal.Refusal.{Refusal}
+use Rattle.prima_base.specs.declared.refusal.Refusal.TheVariants as refusal
+use Rattle.script_parse.specs.Script.{StatementPart, Whole as Text, Skipped, pieces_from, tail_of}
+use Rattle.script_parse.specs.Script.{ending}
+use Rattle.script_parse.specs.declared.mode.Mode.TheVariants.{Plain}
 use Rattle.script_parse.specs.declared.splitter.Tail.{Tail}
 use Rattle.script_parse.specs.declared.splitter.Tail.TheVariants as tail
 use Rattle.smo_types.specs.Commands.{PlainBody, changing, evolving, PlainCommand}
 use Rattle.smo_meaning.specs.Checks.{Fault}
 use Rattle.smo_meaning.specs.Effects.{gained, lost}
-use Rattle.smo_meaning.specs.Past.{Past, newest_database, database_behind, past_with, tables_of}
+use Rattle.smo_meaning.specs.Past.{Past, newest_database, next_database, past_with, tables_of}
 use Rattle.piece_meaning.specs.Rules.{Book}
-use Rattle.archive_file.specs.LogRecords.{LogRecord, gate_behind, past_recorded}
+use Rattle.archive_file.specs.LogRecords.{LogRecord, gate_after, past_recorded}
 use Rattle.archive_core.specs.Committing.{commit_fault}
 use Rattle.archive_core.specs.Checkpointing.{checkpoint_fault}
 use Rattle.temporal_lang.specs.Queries.{PlainQuery}
 use Rattle.temporal_lang.specs.Accepted.{version_fault, fault_of_query}
 use Rattle.temporal_lang.specs.Answers.{answer}
-use Rattle.script_parse.specs.Statements.{PlainStatement, write, ask, explain, show_versions, show_schema, show_sizes, checkpoint}
+use Rattle.script_parse.specs.Statements.{PlainStatement, write, ask, explain, show_versions}
+use Rattle.script_parse.specs.Statements.{show_schema, show_sizes, checkpoint}
 use Rattle.script_parse.specs.Reading.{Reading, Blank, Refused, Whole, reading}
-use Rattle.archive_state.specs.declared.archives.Done.{Done}
+use Rattle.archive_state.specs.declared.archive.Done.{Done}
 use Rattle.archive_state.specs.Asking.{tells_periods, pieces_told}
 use Rattle.answer_text.specs.RefusalTexts.{refusal_text}
-use Rattle.answer_text.specs.Texts.{made_text, changed_text, evolved_text, checkpoint_text, listing_text, explain_text, versions_text, schema_text, sizes_text}
-use Rattle.script_cli.specs.Due.{Due, command_due, image_due, due_length, past_behind}
+use Rattle.answer_text.specs.Texts.{made_text, changed_text, evolved_text, checkpoint_text}
+use Rattle.answer_text.specs.Texts.{listing_text, explain_text, versions_text, schema_text}
+use Rattle.answer_text.specs.Texts.{sizes_text}
+use Rattle.script_cli.specs.Due.{Due, command_due, image_due, due_length, past_after_due}
 use Rattle.script_cli.specs.Given.{Given}
 
--- what stands behind statements: the past, and the place of the gate behind the journal's records
+-- what stands after statements: the past, and the place of the gate after the journal's records
 pub record Recorded : Type 0 where
   pub past : Past
   pub at : ℕ
 
--- behind these records
+-- after these records
 abbrev pub recorded : List LogRecord → Recorded
-recorded log = record { past = past_recorded log; at = gate_behind log }
+recorded log = record { past = past_recorded log; at = gate_after log }
 
--- with what is due, whose record stands behind the gate
+-- with what is due, whose record stands after the gate
 abbrev pub recorded_with : Recorded → Due → Recorded
-recorded_with now due = record { past = past_behind now.past due; at = now.at + 10 + due_length due }
+recorded_with now due = record {
+  past = past_after_due now.past due;
+  at =
+      now.at + 10 + due_length due;
+}
 
--- a reply: its bytes; what is put, if anything is; what stands behind the statement; and whether it is an `error` line
+-- a reply: its bytes; what is put, if anything is; what stands after the statement; and whether it
+-- is an `error` line
 pub record Reply : Type 0 where
   pub text : List ℕ
   pub puts : List Due
-  pub behind : Recorded
+  pub after : Recorded
   pub is_error : Bool
 
 abbrev pub refused : Refusal → Recorded → Reply
-refused r now = record { text = refusal_text r; puts = []; behind = now; is_error = true }
+refused r now = record { text = refusal_text r; puts = []; after = now; is_error = true }
 
 abbrev pub answered : List ℕ → Recorded → Reply
-answered text now = record { text = text; puts = []; behind = now; is_error = false }
+answered text now = record { text = text; puts = []; after = now; is_error = false }
 
 -- the refusal, if there is one; else the reply
 abbrev pub refused_or : Fault → Recorded → Reply → Reply
@@ -62,9 +72,12 @@ refused_or (Some r) now reply = refused r now
 abbrev pub done_text : Done → List ℕ
 done_text done = made_text done.stamp done.gained done.lost done.version
 
--- the line of an accepted command: the rows gained and lost from the newest database to that behind the changes, or the number of the version
+-- the line of an accepted command: the rows gained and lost from the newest database to that after
+-- the changes, or the number of the version
 abbrev pub body_text : ℕ → PlainBody → Past → Past → List ℕ
-body_text stamp (changing changes) past next = changed_text stamp (gained (newest_database past) (database_behind (changing changes) past)) (lost (newest_database past) (database_behind (changing changes) past))
+body_text stamp (changing changes) past next =
+    changed_text stamp (gained (newest_database past) (next_database (changing changes) past))
+    (lost (newest_database past) (next_database (changing changes) past))
 body_text stamp (evolving op inverse) past next = evolved_text stamp (length next.versions)
 
 abbrev pub command_text : PlainCommand → Past → Past → List ℕ
@@ -72,34 +85,46 @@ command_text command past next = body_text command.stamp command.body past next
 
 -- what is due is put, and then its `ok` line
 abbrev pub put : List ℕ → Due → Recorded → Reply
-put text due now = record { text = text; puts = due ∷ []; behind = recorded_with now due; is_error = false }
+put text due now = record {
+  text = text;
+  puts = due ∷ [];
+  after = recorded_with now due;
+  is_error =
+      false;
+}
 
 abbrev pub put_command : PlainCommand → Recorded → Reply
-put_command command now = put (command_text command now.past (past_with now.past command)) (command_due command) now
+put_command command now = put (command_text command now.past (past_with now.past command))
+    (command_due command) now
 
 -- a command is accepted where its past does not refuse it, and its record ends within the limit
 abbrev pub command_reply : Given → PlainCommand → Recorded → Reply
-command_reply limit command now = refused_or (commit_fault now.past now.at limit.limit command) now (put_command command now)
+command_reply limit command now = refused_or (commit_fault now.past now.at limit.limit command) now
+    (put_command command now)
 
 abbrev pub put_image : Recorded → Reply
 put_image now = put checkpoint_text (image_due now.past) now
 
 -- an image of the past is put where its record ends within the limit
 abbrev pub checkpoint_reply : Given → Recorded → Reply
-checkpoint_reply limit now = refused_or (checkpoint_fault now.past now.at limit.limit) now (put_image now)
+checkpoint_reply limit now = refused_or (checkpoint_fault now.past now.at limit.limit) now
+    (put_image now)
 
 abbrev pub query_reply : PlainQuery → Recorded → Reply
-query_reply query now = refused_or (fault_of_query now.past query) now (answered (listing_text (tells_periods query.when) (answer now.past query)) now)
+query_reply query now = refused_or (fault_of_query now.past query) now
+    (answered (listing_text (tells_periods query.when) (answer now.past query)) now)
 
 -- the pieces that the query reads are told, and nothing is read
 abbrev pub explain_reply : Book → PlainQuery → Recorded → Reply
-explain_reply book query now = refused_or (fault_of_query now.past query) now (answered (explain_text (pieces_told book now.past query)) now)
+explain_reply book query now = refused_or (fault_of_query now.past query) now
+    (answered (explain_text (pieces_told book now.past query)) now)
 
 abbrev pub versions_reply : Recorded → Reply
 versions_reply now = answered (versions_text now.past.versions) now
 
 abbrev pub schema_reply : ℕ → Recorded → Reply
-schema_reply version now = refused_or (version_fault now.past version) now (answered (schema_text (tables_of now.past version)) now)
+schema_reply version now = refused_or (version_fault now.past version) now
+    (answered (schema_text (tables_of now.past version)) now)
 
 -- the lifelines, up to the newest version
 abbrev pub sizes_reply : Recorded → Reply
@@ -124,11 +149,11 @@ unfoldable pub reply : Given → Recorded → List ℕ → Reply
 reply limit now text = reading_reply limit (reading text) now
 
 -- the reply to what a script has in front of a `;`
-abbrev pub piece_reply : Given → Recorded → Piece → Reply
+abbrev pub piece_reply : Given → Recorded → StatementPart → Reply
 piece_reply limit now (Text text) = reply limit now text
 piece_reply limit now Skipped = refused refusal.TooLong now
 
--- the line for what stands behind the last `;`, if one is due
+-- the line for what stands after the last `;`, if one is due
 abbrev pub tail_text : Tail → List ℕ
 tail_text tail.Clean = []
 tail_text tail.Unfinished = refusal_text refusal.Unfinished
@@ -139,44 +164,48 @@ tail_is_due tail.Clean = false
 tail_is_due tail.Unfinished = true
 tail_is_due tail.TooLong = true
 
--- the statements one after the other: their replies, what is put, what stands behind them, and whether an `error` line is among the
--- replies
-abbrev pub replies : Given → Recorded → List Piece → List ℕ
+-- the statements one after the other: their replies, what is put, what stands after them, and
+-- whether an `error` line is among the replies
+abbrev pub replies : Given → Recorded → List StatementPart → List ℕ
 replies limit now [] = []
-replies limit now (p ∷ pieces) = (piece_reply limit now p).text ++ replies limit (piece_reply limit now p).behind pieces
+replies limit now (p ∷ pieces) = (piece_reply limit now p).text
+    ++ replies limit (piece_reply limit now p).after pieces
 
-abbrev pub all_puts : Given → Recorded → List Piece → List Due
+abbrev pub all_puts : Given → Recorded → List StatementPart → List Due
 all_puts limit now [] = []
-all_puts limit now (p ∷ pieces) = (piece_reply limit now p).puts ++ all_puts limit (piece_reply limit now p).behind pieces
+all_puts limit now (p ∷ pieces) = (piece_reply limit now p).puts
+    ++ all_puts limit (piece_reply limit now p).after pieces
 
-abbrev pub recorded_after : Given → Recorded → List Piece → Recorded
+abbrev pub recorded_after : Given → Recorded → List StatementPart → Recorded
 recorded_after limit now [] = now
-recorded_after limit now (p ∷ pieces) = recorded_after limit (piece_reply limit now p).behind pieces
+recorded_after limit now (p ∷ pieces) = recorded_after limit (piece_reply limit now p).after pieces
 
-abbrev pub any_error : Given → Recorded → List Piece → Bool
+abbrev pub any_error : Given → Recorded → List StatementPart → Bool
 any_error limit now [] = false
-any_error limit now (p ∷ pieces) = (piece_reply limit now p).is_error || any_error limit (piece_reply limit now p).behind pieces
+any_error limit now (p ∷ pieces) = (piece_reply limit now p).is_error
+    || any_error limit (piece_reply limit now p).after pieces
 
 -- the line is an error
 abbrev pub is_error_line : List ℕ → Bool
 is_error_line text = starts_with nat_eq text (codes "error ")
 
--- of a script: its statements, what is left behind the last `;`, the replies, all that is due, and whether an `error` line is
-abbrev pub pieces_of : List ℕ → List Piece
-pieces_of script = pieces_from Plain [] script
+-- of a script: its statements, what is left after the last `;`, the replies, all that is due, and
+-- whether an `error` line is
+abbrev pub parts_of : List ℕ → List StatementPart
+parts_of script = pieces_from Plain [] script
 
 abbrev pub ending_of : List ℕ → Tail
 ending_of script = ending (tail_of script)
 
 abbrev pub replies_of : Given → Recorded → List ℕ → List ℕ
-replies_of limit now script = replies limit now (pieces_of script)
+replies_of limit now script = replies limit now (parts_of script)
 
 abbrev pub output : Given → Recorded → List ℕ → List ℕ
 output limit now script = replies_of limit now script ++ tail_text (ending_of script)
 
 abbrev pub has_error : Given → Recorded → List ℕ → Bool
-has_error limit now script = any_error limit now (pieces_of script) || tail_is_due (ending_of script)
+has_error limit now script = any_error limit now (parts_of script) || tail_is_due (ending_of script)
 
 -- what a script's statements put
 abbrev pub script_puts : Given → Recorded → List ℕ → List Due
-script_puts limit now script = all_puts limit now (pieces_of script)
+script_puts limit now script = all_puts limit now (parts_of script)

@@ -1,4 +1,4 @@
--- Records that are put on a disk, one behind the other.
+-- Records that are put on a disk, one after the other.
 use Rattle.std.specs.Prelude.{◌≡◌, ◌⊎◌, IsTrue, ℕ, List, [], ◌∷◌, ◌++◌, length}
 use Rattle.disk_model.specs.Meaning.{Meaning}
 use Rattle.disk_model.specs.Moments.{GoesOn, Leaves}
@@ -9,13 +9,14 @@ use Rattle.archive_file.specs.LogRecords.{LogRecord, record_of, records_of, IsSp
 use Rattle.archive_core.specs.Holding.{HoldsAt}
 use Rattle.script_cli.specs.Due.{Due, IsRecordOf}
 
--- These were put behind the gate at `at`, each answered Ok, and the gate behind them is at `next`: where the disk held some
--- records, it now holds these behind them; and of an honest disk, where a crash left just those, it leaves at each moment a prefix
--- of these behind them, and now all.
+-- These were put after the gate at `at`, each answered Ok, and the gate after them is at `next`:
+-- where the disk held some records, it now holds these after them; and of an honest disk, where a
+-- crash left just those, it leaves at each moment a prefix of these after them, and now all.
 pub record HasPut (old new : Meaning) (at next : ℕ) (log : List LogRecord) : Type 0 where
   pub spelled : AreSpelled log
   pub goes : GoesOn old new
-  pub holds : (opening : List LogRecord) → HoldsAt old at (records_of opening) → HoldsAt new next (records_of (opening ++ log))
+  pub holds : (opening : List LogRecord) → HoldsAt old at (records_of opening)
+      → HoldsAt new next (records_of (opening ++ log))
   pub have : (opening : List LogRecord) → IsTrue old.is_honest → Stands old at (records_of opening)
       → HavePut old new next (records_of opening) (records_of log)
 
@@ -28,13 +29,17 @@ pub record MayHavePut (old new : Meaning) (at : ℕ) (due : List Due) : Type 0 w
   pub spelled : IsSpelled its_record
   pub puts_it : Puts old new at (record_of its_record)
 
--- The disk failed at the last of these, which are these that were done and one more: of an honest disk a crash leaves at each moment a
--- prefix of these, and now all that were done, and the last or not.
+-- The disk failed at the last of these, which are these that were done and one more: of an honest
+-- disk a crash leaves at each moment a prefix of these, and now all that were done, and the last or
+-- not.
 pub record PutsSome (old new : Meaning) (at : ℕ) (done log : List LogRecord) : Type 0 where
   pub done_spelled : AreSpelled done
   pub spelled : AreSpelled log
   pub goes : GoesOn old new
-  pub leaves : (opening : List LogRecord) → IsTrue old.is_honest → Stands old at (records_of opening)
-      → Leaves old new (HoldsPrefix (records_of opening) (records_of log) 0 (length (records_of log)))
+  pub leaves : (opening : List LogRecord) → IsTrue old.is_honest
+      → Stands old at (records_of opening)
+      → Leaves old new (HoldsPrefix (records_of opening) (records_of log) 0
+      (length (records_of log)))
   pub exit : (opening : List LogRecord) → IsTrue old.is_honest → Stands old at (records_of opening)
-      → (c : List ℕ) → new.may_leave c → Holds c (records_of (opening ++ done)) ⊎ Holds c (records_of (opening ++ log))
+      → (c : List ℕ) → new.may_leave c → Holds c (records_of (opening ++ done))
+      ⊎ Holds c (records_of (opening ++ log))

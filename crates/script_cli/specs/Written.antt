@@ -1,16 +1,18 @@
 -- What is so of each statement that stands in a text.
 use Rattle.std.specs.Prelude.{◌<◌, ⊤}
 use Rattle.relations.specs.Spans.{forever}
-use Rattle.piece_meaning.specs.Constants.{LawfulInEvolution}
-use Rattle.query_exec.specs.Constants.{LawfulInQuery}
+use Rattle.piece_meaning.specs.Constants.{ValidInEvolution}
+use Rattle.query_exec.specs.Constants.{ValidInQuery}
 use Rattle.script_parse.specs.Reading.{Reading, Blank, Refused, Whole}
-use Rattle.script_parse.specs.Statements.{PlainStatement, write, ask, explain, show_versions, show_schema, show_sizes, checkpoint}
+use Rattle.script_parse.specs.Statements.{PlainStatement, write, ask, explain, show_versions}
+use Rattle.script_parse.specs.Statements.{show_schema, show_sizes, checkpoint}
 
--- a command's stamp is a moment, and the constants of what leads to its version and back are lawful; so are those of a query
+-- a command's stamp is a moment, and the constants of what leads to its version and back are valid;
+-- so are those of a query
 abbrev pub IsWritten : PlainStatement → Type 0
-IsWritten (write command) = (command.stamp < forever) × LawfulInEvolution command.body
-IsWritten (ask query) = LawfulInQuery query
-IsWritten (explain query) = LawfulInQuery query
+IsWritten (write command) = (command.stamp < forever) × ValidInEvolution command.body
+IsWritten (ask query) = ValidInQuery query
+IsWritten (explain query) = ValidInQuery query
 IsWritten show_versions = ⊤
 IsWritten (show_schema version) = ⊤
 IsWritten show_sizes = ⊤

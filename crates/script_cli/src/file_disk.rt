@@ -7,8 +7,9 @@ use std::io;
 use std::os::unix::fs::FileExt;
 use std::rt::Files;
 
-/// A disk over a file of the system. Each error of the system counts as a fault. It tells no content,
-/// and no contract knows what a file keeps: that it keeps what was synced is the system's word.
+/// A disk over a file of the system. Each error of the system counts as a fault. It tells no
+/// content, and no contract knows what a file keeps: that it keeps what was synced is the system's
+/// word.
 #[derive(Drop)]
 pub struct FileDisk {
     file: File,
@@ -19,16 +20,17 @@ impl FileDisk {
     ghost use Rattle.std.specs.Prelude.{◌≡◌, IfOk};
     ghost use Rattle.prima_io.specs.Causes.{HasCause};
 
-    /// The file of this name in the current folder, made empty where it is missing. Where it is empty the
-    /// folder is synced, so that the file is not lost after something has been written.
+    /// The file of this name in the current folder, made empty where it is missing. Where it is
+    /// empty the folder is synced, so that the file is not lost after something has been written.
     pub fn open<R: Files<File = File>>(files: &R, name: &str) -> io::Result<FileDisk> {
         let opened = OpenOptions::new()
             .read(true)
             .write(true)
             .create(true)
             .open(files, name)?;
-        // Where standard input or output is closed, the system gives its number to the file, and replies
-        // would be written into it. A clone's number is above those of the three standard ones.
+        // Where standard input or output is closed, the system gives its number to the file, and
+        // replies would be written into it. A clone's number is above those of the three standard
+        // ones.
         let file = opened.try_clone()?;
         drop(opened);
         if file.metadata()?.len() == 0 {
@@ -63,11 +65,11 @@ fn len_of(file: &File) -> Option<u64>
 impl Disk for FileDisk {
     ghost use Rattle.disk_model.specs.Meaning.{with_faults};
     ghost use Rattle.disk_model.specs.Disks.{sure_meaning};
-    ghost use Rattle.disk_model.specs.DiskLaws.{lawful_with, lawful_sure};
+    ghost use Rattle.disk_model.specs.DiskLaws.{valid_with, valid_sure};
 
     ghost meaning = { λ disk. with_faults sure_meaning disk.faults };
 
-    ghost lawful = { λ disk. lawful_with sure_meaning disk.faults lawful_sure };
+    ghost valid = { λ disk. valid_with sure_meaning disk.faults valid_sure };
 
     fn len(&mut self) -> Result<u64, Failed> {
         let answer = len_of(&self.file);

@@ -1,32 +1,33 @@
-//! The script language over an archive on a disk: what a script is answered, byte by byte, and what it leaves in the file.
+//! The script language over an archive on a disk: what a script is answered, byte by byte, and what
+//! it leaves in the file.
 //!
-//! `run` judges the words, opens the archive, reads a script of statements from a source, answers each when it ends, and
-//! writes the replies to a sink. It carries the theorem of the whole. The adapters are such ends over the system's readers and
-//! writers.
+//! `run` judges the words, opens the archive, reads a script of statements from a source, answers
+//! each when it ends, and writes the replies to a sink. It carries the theorem of the whole. The
+//! adapters are such ends over the system's readers and writers.
 #![tactic(auto)]
 
-mod adapters;
-mod checkpointing;
-mod driving;
+mod adapter;
+mod checkpoint;
+mod driver;
 mod file_disk;
 mod halt;
+mod kept_reply;
 mod laws;
 mod opening;
+mod program_run;
 mod put;
-mod replies_kept;
-mod responses;
-mod runs;
-mod sampling;
+mod response;
+mod sample;
 mod script_run;
 mod status;
-mod words;
+mod word;
 
-pub use adapters::{ReaderSource, WriterSink};
+pub use adapter::{ReaderSource, WriterSink};
 pub use file_disk::FileDisk;
 pub use laws::a_run_follows_a_run;
-pub use runs::run;
+pub use program_run::run;
 pub use status::Status;
-pub use words::Word;
+pub use word::Word;
 
 /// The longest script of one run, in bytes.
 pub const SCRIPT_LIMIT: u64 = 1_099_511_627_776;

@@ -3,10 +3,12 @@
 ghost use Rattle.std.specs.Prelude.{◌≡◌, ◌<◌, IfOk, IfErr};
 ghost use Rattle.disk_model.specs.Moments.{GoesOn};
 ghost use Rattle.rewrite.specs.Books.{meaning_of, EachOf};
-ghost use Rattle.script_cli.specs.Driving.{HasOpened, HasNotOpened, CountsOpening, PutsUnopened, status_of_fault};
-ghost use Rattle.script_cli.specs.Runs.{RunsOver, given_by, SourceCounted, SinkCounted, DiskCounted};
+ghost use Rattle.script_cli.specs.Driving.{HasOpened, HasNotOpened, CountsOpening, PutsUnopened};
+ghost use Rattle.script_cli.specs.Driving.{status_of_fault};
+ghost use Rattle.script_cli.specs.Runs.{RunsOver, given_by, SourceCounted, SinkCounted};
+ghost use Rattle.script_cli.specs.Runs.{DiskCounted};
 
-use crate::driving::drive;
+use crate::driver::drive;
 use crate::status::Status;
 use answer_text::put_not_a_journal;
 use archive_core::{Archive, MountFault, Opened};
@@ -44,7 +46,8 @@ pub(crate) fn mount_counted<D: Disk, L: Ledger>(
 /// Ends a run whose file was not opened; of a damaged file the place is told.
 pub(crate) fn refuse_file<K: Sink>(sink: &mut K, fault: MountFault) -> Status
     ensures status { result ≡ status_of_fault fault }
-    ensures told { PutsUnopened fault (K.written sink.old) (K.written sink.new) (K.faults sink.old) (K.faults sink.new) }
+    ensures told { PutsUnopened fault (K.written sink.old) (K.written sink.new) (K.faults sink.old)
+        (K.faults sink.new) }
     ensures sink { SinkCounted result (K.faults sink.old) (K.faults sink.new) }
 {
     match fault {
@@ -68,7 +71,10 @@ pub(crate) fn run_over<S: Source, K: Sink, D: Disk>(
 ) -> (Status, D)
     requires each { EachOf book.now.rules.items (λ r. handles (r.vtable, r.value)) }
     ensures goes { GoesOn (D.meaning disk) (D.meaning result.1) }
-    ensures runs { RunsOver (given_by limit (meaning_of book.now.rules.items (λ r. handles (r.vtable, r.value)) (λ r. answers (r.vtable, r.value)))) result.0 (S.left source.old) (S.left source.new) (K.written sink.old) (K.written sink.new) (K.faults sink.old) (K.faults sink.new) (D.meaning disk) (D.meaning result.1) }
+    ensures runs { RunsOver (given_by limit (meaning_of book.now.rules.items
+        (λ r. handles (r.vtable, r.value)) (λ r. answers (r.vtable, r.value)))) result.0
+        (S.left source.old) (S.left source.new) (K.written sink.old) (K.written sink.new)
+        (K.faults sink.old) (K.faults sink.new) (D.meaning disk) (D.meaning result.1) }
     ensures source { SourceCounted result.0 (S.faults source.old) (S.faults source.new) }
     ensures sink { SinkCounted result.0 (K.faults sink.old) (K.faults sink.new) }
     ensures disk { DiskCounted result.0 (D.meaning disk).faults (D.meaning result.1).faults }

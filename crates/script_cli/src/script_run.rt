@@ -1,10 +1,11 @@
 //! A script that is being read: cut into statements, each answered as it ends.
 
-ghost use Rattle.std.specs.Prelude.{◌≡◌, ◌<◌, ◌≤◌, ◌||◌, ℕ, List, [], true, false, length, OnOk, OnErr, IfOk, IfErr, MatchResult, MatchOption, option_map};
+ghost use Rattle.std.specs.Prelude.{◌≡◌, ◌<◌, ◌≤◌, ◌||◌, ℕ, List, [], true, false, length, OnOk};
+ghost use Rattle.std.specs.Prelude.{OnErr, IfOk, IfErr, MatchResult, MatchOption, option_map};
 ghost use Rattle.std.specs.Io.KnownBytes.{Appends};
 ghost use Rattle.prima_io.specs.Causes.{HasCause};
-ghost use Rattle.prima_io.specs.Moves.{AppendsFront};
-ghost use Rattle.prima_base.specs.declared.refusals.Refusal.TheVariants as refusal;
+ghost use Rattle.prima_io.specs.Moves.{AppendsPrefix};
+ghost use Rattle.prima_base.specs.declared.refusal.Refusal.TheVariants as refusal;
 ghost use Rattle.script_parse.specs.Splitting.{fresh};
 ghost use Rattle.rewrite.specs.Books.{meaning_of, EachOf};
 ghost use Rattle.archive_core.specs.Fields.{below};
@@ -13,11 +14,12 @@ ghost use Rattle.script_cli.specs.Given.{Given};
 ghost use Rattle.script_cli.specs.Output.{Recorded, reply, refused, tail_text, tail_is_due};
 ghost use Rattle.script_cli.specs.Halts.{HaltCounted};
 ghost use Rattle.script_cli.specs.Puts.{is_error};
-ghost use Rattle.script_cli.specs.Shows.{Took, Answered, Halted, StopsIn, StandsAt, TakesRecords, pieces_behind, ending_behind};
+ghost use Rattle.script_cli.specs.Shows.{Took, Answered, Halted, StopsIn, StandsAt, TakesRecords};
+ghost use Rattle.script_cli.specs.Shows.{pieces_after, ending_after};
 
 use crate::halt::Halt;
 use crate::put::Put;
-use crate::responses::{refuse, respond};
+use crate::response::{refuse, respond};
 use archive_core::Archive;
 use disk_model::Disk;
 use prima_base::{NoMemory, Refusal};
@@ -68,13 +70,20 @@ impl ScriptRun {
         requires each { EachOf book.now.rules.items (λ r. handles (r.vtable, r.value)) }
         requires short { length text.now ≤ 1048576 }
         requires takes { TakesRecords archive.old }
-        ensures answered { (limit : Given) → limit.book ≡ meaning_of book.now.rules.items (λ r. handles (r.vtable, r.value)) (λ r. answers (r.vtable, r.value)) → (now : Recorded) → StandsAt archive.old limit now
-            → OnOk result (Answered limit (reply limit now text.now) self.old self.new archive.old archive.new (K.written sink.old) (K.written sink.new)) }
-        ensures stopped { (limit : Given) → limit.book ≡ meaning_of book.now.rules.items (λ r. handles (r.vtable, r.value)) (λ r. answers (r.vtable, r.value)) → (now : Recorded) → StandsAt archive.old limit now
-            → IfErr result (λ halt. StopsIn halt (reply limit now text.now) archive.old archive.new (K.written sink.old) (K.written sink.new)) }
+        ensures answered { (limit : Given) → limit.book
+            ≡ meaning_of book.now.rules.items (λ r. handles (r.vtable, r.value))
+            (λ r. answers (r.vtable, r.value)) → (now : Recorded) → StandsAt archive.old limit now
+            → OnOk result (Answered limit (reply limit now text.now) self.old self.new archive.old
+            archive.new (K.written sink.old) (K.written sink.new)) }
+        ensures stopped { (limit : Given) → limit.book
+            ≡ meaning_of book.now.rules.items (λ r. handles (r.vtable, r.value))
+            (λ r. answers (r.vtable, r.value)) → (now : Recorded) → StandsAt archive.old limit now
+            → IfErr result (λ halt. StopsIn halt (reply limit now text.now) archive.old archive.new
+            (K.written sink.old) (K.written sink.new)) }
         ensures splitter { self.new.splitter ≡ self.old.splitter }
         ensures takes { OnOk result (TakesRecords archive.new) }
-        ensures counts { HaltCounted result (K.faults sink.old) (K.faults sink.new) (below archive.old).faults (below archive.new).faults }
+        ensures counts { HaltCounted result (K.faults sink.old) (K.faults sink.new)
+            (below archive.old).faults (below archive.new).faults }
     {
         let Some(more) = self.puts.checked_add(1) else {
             return Err(Halt::NoMemory);
@@ -93,8 +102,10 @@ impl ScriptRun {
 
     // Puts the refusal of a statement that is too long.
     fn refuse_long<K: Sink>(&mut self, sink: &mut K) -> Result<(), Failed>
-        ensures all { OnOk result (Appends (K.written sink.old) (K.written sink.new) (refusal_text refusal.TooLong)) }
-        ensures part { OnErr result (AppendsFront (K.written sink.old) (K.written sink.new) (refusal_text refusal.TooLong)) }
+        ensures all { OnOk result (Appends (K.written sink.old) (K.written sink.new)
+            (refusal_text refusal.TooLong)) }
+        ensures part { OnErr result (AppendsPrefix (K.written sink.old) (K.written sink.new)
+            (refusal_text refusal.TooLong)) }
         ensures refused { OnOk result (self.new.refused ≡ true) }
         ensures splitter { self.new.splitter ≡ self.old.splitter }
         ensures puts { self.new.puts ≡ self.old.puts }
@@ -109,8 +120,8 @@ impl ScriptRun {
         }
     }
 
-    // Takes the bytes up to the end of a statement, and puts its reply; answers what is left of them, `None`
-    // where no statement ended.
+    // Takes the bytes up to the end of a statement, and puts its reply; answers what is left of
+    // them, `None` where no statement ended.
     fn turn<'b, K: Sink, D: Disk>(
         &mut self,
         archive: &mut Archive<D>,
@@ -121,15 +132,25 @@ impl ScriptRun {
         requires each { EachOf book.now.rules.items (λ r. handles (r.vtable, r.value)) }
         requires ready { self.old.splitter.spent ≡ false }
         requires takes { TakesRecords archive.old }
-        ensures took { (limit : Given) → limit.book ≡ meaning_of book.now.rules.items (λ r. handles (r.vtable, r.value)) (λ r. answers (r.vtable, r.value)) → (now : Recorded) → StandsAt archive.old limit now
-            → IfOk result (λ rest. MatchOption rest (Took limit now self.old self.new archive.old archive.new bytes.now [] (K.written sink.old) (K.written sink.new))
-            (λ rest. Took limit now self.old self.new archive.old archive.new bytes.now rest.now (K.written sink.old) (K.written sink.new))) }
-        ensures halted { (limit : Given) → limit.book ≡ meaning_of book.now.rules.items (λ r. handles (r.vtable, r.value)) (λ r. answers (r.vtable, r.value)) → (now : Recorded) → StandsAt archive.old limit now
-            → IfErr result (λ halt. Halted halt limit now (pieces_behind self.old bytes.now) archive.old archive.new (K.written sink.old) (K.written sink.new)) }
-        ensures fewer { IfOk result (λ rest. MatchOption rest (Unit {0}) (λ rest. length rest.now < length bytes.now)) }
+        ensures took { (limit : Given) → limit.book
+            ≡ meaning_of book.now.rules.items (λ r. handles (r.vtable, r.value))
+            (λ r. answers (r.vtable, r.value)) → (now : Recorded) → StandsAt archive.old limit now
+            → IfOk result (λ rest. MatchOption rest
+            (Took limit now self.old self.new archive.old archive.new bytes.now []
+            (K.written sink.old) (K.written sink.new))
+            (λ rest. Took limit now self.old self.new archive.old archive.new bytes.now rest.now
+            (K.written sink.old) (K.written sink.new))) }
+        ensures halted { (limit : Given) → limit.book
+            ≡ meaning_of book.now.rules.items (λ r. handles (r.vtable, r.value))
+            (λ r. answers (r.vtable, r.value)) → (now : Recorded) → StandsAt archive.old limit now
+            → IfErr result (λ halt. Halted halt limit now (pieces_after self.old bytes.now)
+            archive.old archive.new (K.written sink.old) (K.written sink.new)) }
+        ensures fewer { IfOk result (λ rest. MatchOption rest (Unit {0})
+            (λ rest. length rest.now < length bytes.now)) }
         ensures ready { OnOk result (self.new.splitter.spent ≡ false) }
         ensures takes { OnOk result (TakesRecords archive.new) }
-        ensures counts { HaltCounted result (K.faults sink.old) (K.faults sink.new) (below archive.old).faults (below archive.new).faults }
+        ensures counts { HaltCounted result (K.faults sink.old) (K.faults sink.new)
+            (below archive.old).faults (below archive.new).faults }
     {
         match self.splitter.feed(bytes) {
             Ok((cut, rest)) => match cut {
@@ -147,7 +168,8 @@ impl ScriptRun {
         }
     }
 
-    /// Takes the next piece of the script, and puts the replies to the statements that end in it. The first fault stops it.
+    /// Takes the next piece of the script, and puts the replies to the statements that end in it.
+    /// The first fault stops it.
     pub(crate) fn feed<K: Sink, D: Disk>(
         &mut self,
         archive: &mut Archive<D>,
@@ -158,13 +180,20 @@ impl ScriptRun {
         requires each { EachOf book.now.rules.items (λ r. handles (r.vtable, r.value)) }
         requires ready { self.old.splitter.spent ≡ false }
         requires takes { TakesRecords archive.old }
-        ensures took { (limit : Given) → limit.book ≡ meaning_of book.now.rules.items (λ r. handles (r.vtable, r.value)) (λ r. answers (r.vtable, r.value)) → (now : Recorded) → StandsAt archive.old limit now
-            → OnOk result (Took limit now self.old self.new archive.old archive.new piece.now [] (K.written sink.old) (K.written sink.new)) }
-        ensures halted { (limit : Given) → limit.book ≡ meaning_of book.now.rules.items (λ r. handles (r.vtable, r.value)) (λ r. answers (r.vtable, r.value)) → (now : Recorded) → StandsAt archive.old limit now
-            → IfErr result (λ halt. Halted halt limit now (pieces_behind self.old piece.now) archive.old archive.new (K.written sink.old) (K.written sink.new)) }
+        ensures took { (limit : Given) → limit.book
+            ≡ meaning_of book.now.rules.items (λ r. handles (r.vtable, r.value))
+            (λ r. answers (r.vtable, r.value)) → (now : Recorded) → StandsAt archive.old limit now
+            → OnOk result (Took limit now self.old self.new archive.old archive.new piece.now []
+            (K.written sink.old) (K.written sink.new)) }
+        ensures halted { (limit : Given) → limit.book
+            ≡ meaning_of book.now.rules.items (λ r. handles (r.vtable, r.value))
+            (λ r. answers (r.vtable, r.value)) → (now : Recorded) → StandsAt archive.old limit now
+            → IfErr result (λ halt. Halted halt limit now (pieces_after self.old piece.now)
+            archive.old archive.new (K.written sink.old) (K.written sink.new)) }
         ensures ready { OnOk result (self.new.splitter.spent ≡ false) }
         ensures takes { OnOk result (TakesRecords archive.new) }
-        ensures counts { HaltCounted result (K.faults sink.old) (K.faults sink.new) (below archive.old).faults (below archive.new).faults }
+        ensures counts { HaltCounted result (K.faults sink.old) (K.faults sink.new)
+            (below archive.old).faults (below archive.new).faults }
     {
         let mut rest = piece;
         'turns: loop {
@@ -181,9 +210,12 @@ impl ScriptRun {
     /// Puts what is due at the script's end, and answers whether an `error` line was put or is.
     pub(crate) fn finish<K: Sink>(self, sink: &mut K) -> Result<Put, Failed>
         requires { self.splitter.spent ≡ false }
-        ensures ok { IfOk result (λ put. is_error put ≡ (self.refused || tail_is_due (ending_behind self []))) }
-        ensures all { OnOk result (Appends (K.written sink.old) (K.written sink.new) (tail_text (ending_behind self []))) }
-        ensures part { OnErr result (AppendsFront (K.written sink.old) (K.written sink.new) (tail_text (ending_behind self []))) }
+        ensures ok { IfOk result (λ put. is_error put
+            ≡ (self.refused || tail_is_due (ending_after self []))) }
+        ensures all { OnOk result (Appends (K.written sink.old) (K.written sink.new)
+            (tail_text (ending_after self []))) }
+        ensures part { OnErr result (AppendsPrefix (K.written sink.old) (K.written sink.new)
+            (tail_text (ending_after self []))) }
         ensures cause { HasCause (K.faults sink.old) (K.faults sink.new) result }
     {
         let refused = self.refused;

@@ -1,6 +1,7 @@
 -- A clean tail is a gap of the lexer.
 use Rattle.std.proofs.Common.{◌≡◌, ℕ, Bool, true, false, not, ◌||◌, ◌==◌, List, [], ◌∷◌, refl, ◌∙◌}
-use Rattle.lexical_grammar.specs.Spaced.{Each, in_line, IsGap, no_gap, a_blank, a_comment, last_comment}
+use Rattle.lexical_grammar.specs.Spaced.{Each, in_line, IsGap, no_gap, a_blank, a_comment}
+use Rattle.lexical_grammar.specs.Spaced.{last_comment}
 use Rattle.script_parse.specs.Script.{is_clean}
 use Rattle.script_parse.specs.Pads.{has_line_end, ArePads, none, blank, comment, last}
 use Rattle.script_parse.proofs.Padding.{clean_is_pads, pads_are_clean}
@@ -18,7 +19,8 @@ one_line (b ∷ text) e = (let h = neither (b == 10) e in (h.0, one_line text h.
 pads_are_gap : (text : List ℕ) → ArePads text → IsGap text []
 pads_are_gap text none = no_gap []
 pads_are_gap text (blank b rest e h) = a_blank b rest [] (same_blanks b ∙ e) (pads_are_gap rest h)
-pads_are_gap text (comment line rest e h) = a_comment line rest [] (one_line line e) (pads_are_gap rest h)
+pads_are_gap text (comment line rest e h) = a_comment line rest [] (one_line line e)
+    (pads_are_gap rest h)
 pads_are_gap text (last line e) = last_comment line (one_line line e)
 
 pub clean_is_gap : (tail : List ℕ) → is_clean tail ≡ true → IsGap tail []

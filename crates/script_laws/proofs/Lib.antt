@@ -1,6 +1,6 @@
 pub mod Bytes
 pub mod PartModes
-pub mod Fronts
+pub mod Prefixes
 pub mod PartsFound
 pub mod Scripts
 pub mod LexerTexts

@@ -2,7 +2,7 @@
 use Rattle.std.specs.Prelude.{◌≡◌, ℕ, ◌==◌, Bool, false, not, List, [], ◌∷◌, ◌++◌, Some, ◌⊎◌}
 use Rattle.prima_base.specs.Bytes.{is_control}
 use Rattle.lexical_grammar.specs.declared.token.Token.{Token}
-use Rattle.lexical_grammar.specs.declared.faults.LexFault.TheVariants.{OpenQuote}
+use Rattle.lexical_grammar.specs.declared.fault.LexFault.TheVariants.{OpenQuote}
 use Rattle.lexical_grammar.specs.Lexed.{Lexes}
 use Rattle.lexical_grammar.specs.Spaced.{Each, NoneNext, IsGap, GapEnds, is_quote, IsLiteral}
 
@@ -19,14 +19,15 @@ is_semicolon b = b == 59
 abbrev pub StandsAlone : ℕ → List ℕ → Type 0
 StandsAlone b rest = GapEnds (b ∷ rest) × (is_quote b ≡ false) × (is_semicolon b ≡ false)
 
--- a part of a script, and what stands behind it: blanks and comments, a text in its quotes, or a byte
+-- a part of a script, and what stands after it: blanks and comments, a text in its quotes, or a
+-- byte
 pub data IsPart : List ℕ → List ℕ → Type 0 where
   gap : (gap rest : List ℕ) → IsGap gap rest → IsPart gap rest
   text : (inside rest : List ℕ) → IsInside inside → NoneNext is_quote rest
       → IsPart (39 ∷ (inside ++ 39 ∷ [])) rest
   other : (b : ℕ) (rest : List ℕ) → StandsAlone b rest → IsPart (b ∷ []) rest
 
--- parts one behind the other, and what stands behind the last
+-- parts one after the other, and what stands after the last
 pub data AreParts : List ℕ → List ℕ → Type 0 where
   no_part : (rest : List ℕ) → AreParts [] rest
   a_part : (part bytes rest : List ℕ) → IsPart part (bytes ++ rest) → AreParts bytes rest
@@ -34,11 +35,11 @@ pub data AreParts : List ℕ → List ℕ → Type 0 where
 
 -- parts, and then a text that does not end
 abbrev pub HasOpenText : List ℕ → Type 0
-HasOpenText bytes = (front : List ℕ) × (inside : List ℕ) × (bytes ≡ front ++ 39 ∷ inside)
-    × AreParts front (39 ∷ inside) × IsInside inside
+HasOpenText bytes = (prefix : List ℕ) × (inside : List ℕ) × (bytes ≡ prefix ++ 39 ∷ inside)
+    × AreParts prefix (39 ∷ inside) × IsInside inside
 
--- statements, each of parts and with a `;` behind it, and the tail: parts to the end, or up to a text
--- that does not end
+-- statements, each of parts and with a `;` after it, and the tail: parts to the end, or up to a
+-- text that does not end
 abbrev pub IsScript : List ℕ → List (List ℕ) → List ℕ → Type 0
 IsScript script [] tail = (script ≡ tail) × (AreParts tail [] ⊎ HasOpenText tail)
 IsScript script (s ∷ statements) tail = (rest : List ℕ) × (script ≡ s ++ 59 ∷ rest)
@@ -49,7 +50,7 @@ IsScript script (s ∷ statements) tail = (rest : List ℕ) × (script ≡ s ++ 
 abbrev pub is_shown : ℕ → Bool
 is_shown b = not (is_control b)
 
--- the bytes behind an opening quote are a literal of the lexer
+-- the bytes after an opening quote are a literal of the lexer
 abbrev pub IsClosed : List ℕ → Type 0
 IsClosed bytes = (value : List ℕ) × IsLiteral value bytes
 

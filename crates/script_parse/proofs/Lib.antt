@@ -5,8 +5,8 @@ pub mod Padding
 mod Worked
 pub mod TextLexing
 pub mod BlankTexts
-pub mod ChangeGoodness
-pub mod StatementGoodness
+pub mod ChangeCorrectness
+pub mod StatementCorrectness
 pub mod StatementAlong
 pub mod FirstFaults
 pub mod ReadingLaws

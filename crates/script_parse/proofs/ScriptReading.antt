@@ -1,16 +1,20 @@
 -- What a script still holds does not change as it is read byte by byte.
-use Rattle.std.proofs.Common.{◌≡◌, ◌<◌, ◌≤◌, ◌+◌, ◌-◌, ℕ, Bool, true, false, List, [], ◌∷◌, ◌++◌, length, map, refl, sym, ap, ◌∙◌, arith, length-append, get_or, take, drop, length-drop}
+use Rattle.std.proofs.Common.{◌≡◌, ◌<◌, ◌≤◌, ◌+◌, ◌-◌, ℕ, Bool, true, false, List, [], ◌∷◌, ◌++◌}
+use Rattle.std.proofs.Common.{length, map, refl, sym, ap, ◌∙◌, arith, length-append, get_or, take}
+use Rattle.std.proofs.Common.{drop, length-drop}
 use Rattle.std.specs.Prelude.{cond, nat_lt}
 use Rattle.std.proofs.lemmas.Bool.Decides.{nat_tests}
 use Rattle.std.proofs.lemmas.List.{drop_more, take_all}
-use Rattle.script_parse.specs.Script.{next, is_end, is_too_long, statements_from, tail_from, Skipped, piece_of, pieces_from, ending, longest_statement}
+use Rattle.script_parse.specs.Script.{next, is_end, is_too_long, statements_from, tail_from}
+use Rattle.script_parse.specs.Script.{Skipped, piece_of, pieces_from, ending, longest_statement}
 use Rattle.script_parse.specs.Splitting.{keep, IsEndOf}
-use Rattle.script_parse.specs.declared.modes.Mode.{Mode}
-use Rattle.script_parse.specs.declared.modes.Mode.TheVariants.{Plain}
+use Rattle.script_parse.specs.declared.mode.Mode.{Mode}
+use Rattle.script_parse.specs.declared.mode.Mode.TheVariants.{Plain}
 use Rattle.script_parse.specs.declared.splitter.Tail.TheVariants.{TooLong}
 
 -- a too long statement stays too long
-still_long : (m b : ℕ) (c : List ℕ) → nat_lt m (length c) ≡ true → nat_lt m (length (c ++ b ∷ [])) ≡ true
+still_long : (m b : ℕ) (c : List ℕ) → nat_lt m (length c) ≡ true
+    → nat_lt m (length (c ++ b ∷ [])) ≡ true
 still_long m b c h = grind (arith, length-append c (b ∷ []), nat_tests)
 
 piece_long : (c : List ℕ) → is_too_long c ≡ true → piece_of c ≡ Skipped
@@ -20,64 +24,93 @@ ending_long : (c : List ℕ) → is_too_long c ≡ true → ending c ≡ TooLong
 ending_long c h = rw h refl
 
 -- of a too long statement nothing more counts
-pub pieces_alike : (bs : List ℕ) (m : Mode) (c d : List ℕ) → is_too_long c ≡ true → is_too_long d ≡ true → pieces_from m c bs ≡ pieces_from m d bs
+pub pieces_alike : (bs : List ℕ) (m : Mode) (c d : List ℕ) → is_too_long c ≡ true
+    → is_too_long d ≡ true → pieces_from m c bs ≡ pieces_from m d bs
 pieces_alike [] m c d hc hd = refl
 pieces_alike (b ∷ bs) m c d hc hd =
-    elim (is_end m b) as (λ v. map piece_of (cond v (c ∷ statements_from Plain [] bs) (statements_from (next m b) (c ++ b ∷ []) bs))
-    ≡ map piece_of (cond v (d ∷ statements_from Plain [] bs) (statements_from (next m b) (d ++ b ∷ []) bs))) [
+    elim (is_end m b) as (λ v. map piece_of (cond v (c ∷ statements_from Plain [] bs)
+    (statements_from (next m b) (c ++ b ∷ []) bs))
+    ≡ map piece_of (cond v (d ∷ statements_from Plain [] bs)
+    (statements_from (next m b) (d ++ b ∷ []) bs))) [
       | true ↦ ap (λ p. p ∷ pieces_from Plain [] bs) (piece_long c hc ∙ sym (piece_long d hd))
-      | false ↦ pieces_alike bs (next m b) (c ++ b ∷ []) (d ++ b ∷ []) (still_long longest_statement b c hc) (still_long longest_statement b d hd)
+      | false ↦ pieces_alike bs (next m b) (c ++ b ∷ []) (d ++ b ∷ [])
+          (still_long longest_statement b c hc) (still_long longest_statement b d hd)
     ]
 
-pub endings_alike : (bs : List ℕ) (m : Mode) (c d : List ℕ) → is_too_long c ≡ true → is_too_long d ≡ true → ending (tail_from m c bs) ≡ ending (tail_from m d bs)
+pub endings_alike : (bs : List ℕ) (m : Mode) (c d : List ℕ) → is_too_long c ≡ true
+    → is_too_long d ≡ true → ending (tail_from m c bs) ≡ ending (tail_from m d bs)
 endings_alike [] m c d hc hd = ending_long c hc ∙ sym (ending_long d hd)
 endings_alike (b ∷ bs) m c d hc hd =
-    elim (is_end m b) as (λ v. ending (cond v (tail_from Plain [] bs) (tail_from (next m b) (c ++ b ∷ []) bs))
+    elim (is_end m b) as (λ v. ending (cond v (tail_from Plain [] bs)
+    (tail_from (next m b) (c ++ b ∷ []) bs))
     ≡ ending (cond v (tail_from Plain [] bs) (tail_from (next m b) (d ++ b ∷ []) bs))) [
       | true ↦ refl
-      | false ↦ endings_alike bs (next m b) (c ++ b ∷ []) (d ++ b ∷ []) (still_long longest_statement b c hc) (still_long longest_statement b d hd)
+      | false ↦ endings_alike bs (next m b) (c ++ b ∷ []) (d ++ b ∷ [])
+          (still_long longest_statement b c hc) (still_long longest_statement b d hd)
     ]
 
-kept_pieces : (bs : List ℕ) (m : Mode) (c : List ℕ) (b : ℕ) → pieces_from m (c ++ b ∷ []) bs ≡ pieces_from m (keep c b) bs
+kept_pieces : (bs : List ℕ) (m : Mode) (c : List ℕ) (b : ℕ)
+    → pieces_from m (c ++ b ∷ []) bs ≡ pieces_from m (keep c b) bs
 kept_pieces bs m c b = by (is_too_long c) refl
   where
-    by : (v : Bool) → is_too_long c ≡ v → pieces_from m (c ++ b ∷ []) bs ≡ pieces_from m (keep c b) bs
+    by : (v : Bool) → is_too_long c ≡ v → pieces_from m (c ++ b ∷ []) bs
+        ≡ pieces_from m (keep c b) bs
     by true e = rw e (pieces_alike bs m (c ++ b ∷ []) c (still_long longest_statement b c e) e)
     by false e = rw e refl
 
-kept_endings : (bs : List ℕ) (m : Mode) (c : List ℕ) (b : ℕ) → ending (tail_from m (c ++ b ∷ []) bs) ≡ ending (tail_from m (keep c b) bs)
+kept_endings : (bs : List ℕ) (m : Mode) (c : List ℕ) (b : ℕ)
+    → ending (tail_from m (c ++ b ∷ []) bs) ≡ ending (tail_from m (keep c b) bs)
 kept_endings bs m c b = by (is_too_long c) refl
   where
-    by : (v : Bool) → is_too_long c ≡ v → ending (tail_from m (c ++ b ∷ []) bs) ≡ ending (tail_from m (keep c b) bs)
+    by : (v : Bool) → is_too_long c ≡ v → ending (tail_from m (c ++ b ∷ []) bs)
+        ≡ ending (tail_from m (keep c b) bs)
     by true e = rw e (endings_alike bs m (c ++ b ∷ []) c (still_long longest_statement b c e) e)
     by false e = rw e refl
 
 -- a byte of a statement
-pub pieces_step : (m : Mode) (c : List ℕ) (b : ℕ) (bs : List ℕ) → is_end m b ≡ false → pieces_from m c (b ∷ bs) ≡ pieces_from (next m b) (keep c b) bs
-pieces_step m c b bs e = ap (λ v. map piece_of (cond v (c ∷ statements_from Plain [] bs) (statements_from (next m b) (c ++ b ∷ []) bs))) e ∙ kept_pieces bs (next m b) c b
+pub pieces_step : (m : Mode) (c : List ℕ) (b : ℕ) (bs : List ℕ) → is_end m b ≡ false
+    → pieces_from m c (b ∷ bs) ≡ pieces_from (next m b) (keep c b) bs
+pieces_step m c b bs e = ap (λ v. map piece_of
+    (cond v (c ∷ statements_from Plain [] bs) (statements_from (next m b) (c ++ b ∷ []) bs))) e
+    ∙ kept_pieces bs (next m b) c b
 
-pub endings_step : (m : Mode) (c : List ℕ) (b : ℕ) (bs : List ℕ) → is_end m b ≡ false → ending (tail_from m c (b ∷ bs)) ≡ ending (tail_from (next m b) (keep c b) bs)
-endings_step m c b bs e = ap (λ v. ending (cond v (tail_from Plain [] bs) (tail_from (next m b) (c ++ b ∷ []) bs))) e ∙ kept_endings bs (next m b) c b
+pub endings_step : (m : Mode) (c : List ℕ) (b : ℕ) (bs : List ℕ) → is_end m b ≡ false
+    → ending (tail_from m c (b ∷ bs)) ≡ ending (tail_from (next m b) (keep c b) bs)
+endings_step m c b bs e = ap (λ v. ending (cond v (tail_from Plain [] bs)
+    (tail_from (next m b) (c ++ b ∷ []) bs))) e ∙ kept_endings bs (next m b) c b
 
 -- a statement's end
-pub pieces_end : (m : Mode) (c : List ℕ) (b : ℕ) (bs : List ℕ) → is_end m b ≡ true → pieces_from m c (b ∷ bs) ≡ piece_of c ∷ pieces_from Plain [] bs
-pieces_end m c b bs e = ap (λ v. map piece_of (cond v (c ∷ statements_from Plain [] bs) (statements_from (next m b) (c ++ b ∷ []) bs))) e
+pub pieces_end : (m : Mode) (c : List ℕ) (b : ℕ) (bs : List ℕ) → is_end m b ≡ true
+    → pieces_from m c (b ∷ bs) ≡ piece_of c ∷ pieces_from Plain [] bs
+pieces_end m c b bs e = ap (λ v. map piece_of
+    (cond v (c ∷ statements_from Plain [] bs) (statements_from (next m b) (c ++ b ∷ []) bs))) e
 
-pub endings_end : (m : Mode) (c : List ℕ) (b : ℕ) (bs : List ℕ) → is_end m b ≡ true → ending (tail_from m c (b ∷ bs)) ≡ ending (tail_from Plain [] bs)
-endings_end m c b bs e = ap (λ v. ending (cond v (tail_from Plain [] bs) (tail_from (next m b) (c ++ b ∷ []) bs))) e
+pub endings_end : (m : Mode) (c : List ℕ) (b : ℕ) (bs : List ℕ) → is_end m b ≡ true
+    → ending (tail_from m c (b ∷ bs)) ≡ ending (tail_from Plain [] bs)
+endings_end m c b bs e = ap (λ v. ending (cond v (tail_from Plain [] bs)
+    (tail_from (next m b) (c ++ b ∷ []) bs))) e
 
 -- a loop's turn
-pub pieces_turn : (bs more : List ℕ) (i : ℕ) (m : Mode) (c : List ℕ) → i < length bs → is_end m (get_or bs i 0) ≡ false
-    → pieces_from m c (drop i bs ++ more) ≡ pieces_from (next m (get_or bs i 0)) (keep c (get_or bs i 0)) (drop (i + 1) bs ++ more)
-pieces_turn bs more i m c h e = ap (λ l. pieces_from m c (l ++ more)) (drop_more bs i 0 h) ∙ pieces_step m c (get_or bs i 0) (drop (i + 1) bs ++ more) e
+pub pieces_turn : (bs more : List ℕ) (i : ℕ) (m : Mode) (c : List ℕ) → i < length bs
+    → is_end m (get_or bs i 0) ≡ false
+    → pieces_from m c (drop i bs ++ more) ≡ pieces_from (next m (get_or bs i 0))
+    (keep c (get_or bs i 0)) (drop (i + 1) bs ++ more)
+pieces_turn bs more i m c h e = ap (λ l. pieces_from m c (l ++ more)) (drop_more bs i 0 h)
+    ∙ pieces_step m c (get_or bs i 0) (drop (i + 1) bs ++ more) e
 
-pub endings_turn : (bs more : List ℕ) (i : ℕ) (m : Mode) (c : List ℕ) → i < length bs → is_end m (get_or bs i 0) ≡ false
-    → ending (tail_from m c (drop i bs ++ more)) ≡ ending (tail_from (next m (get_or bs i 0)) (keep c (get_or bs i 0)) (drop (i + 1) bs ++ more))
-endings_turn bs more i m c h e = ap (λ l. ending (tail_from m c (l ++ more))) (drop_more bs i 0 h) ∙ endings_step m c (get_or bs i 0) (drop (i + 1) bs ++ more) e
+pub endings_turn : (bs more : List ℕ) (i : ℕ) (m : Mode) (c : List ℕ) → i < length bs
+    → is_end m (get_or bs i 0) ≡ false
+    → ending (tail_from m c (drop i bs ++ more))
+    ≡ ending (tail_from (next m (get_or bs i 0)) (keep c (get_or bs i 0))
+    (drop (i + 1) bs ++ more))
+endings_turn bs more i m c h e = ap (λ l. ending (tail_from m c (l ++ more))) (drop_more bs i 0 h)
+    ∙ endings_step m c (get_or bs i 0) (drop (i + 1) bs ++ more) e
 
--- what is left of the bytes behind `n` of them
-pub rest_is_end : (bs : List ℕ) (n : ℕ) → n ≤ length bs → IsEndOf (take (length bs - n) (drop n bs)) bs
+-- what is left of the bytes after `n` of them
+pub rest_is_end : (bs : List ℕ) (n : ℕ) → n ≤ length bs
+    → IsEndOf (take (length bs - n) (drop n bs)) bs
 rest_is_end bs n h =
-    let rest : take (length bs - n) (drop n bs) ≡ drop n bs = take_all (length bs - n) (drop n bs) (omega (arith, length-drop n bs)) in
+    let rest : take (length bs - n) (drop n bs) ≡ drop n bs =
+    take_all (length bs - n) (drop n bs) (omega (arith, length-drop n bs)) in
     let back : length bs - length (drop n bs) ≡ n = omega (arith, length-drop n bs) in
     rest ∙ ap (λ k. drop k bs) (sym back) ∙ ap (λ l. drop (length bs - length l) bs) (sym rest)

@@ -1,200 +1,310 @@
 -- The reader of statements goes along the tokens at which their counts pass limits.
-use Rattle.std.proofs.Common.{◌≡◌, ℕ, false, List, [], ◌∷◌, ◌++◌, length, inl, inr, refl, sym, ap, ◌∙◌, subst, append-nil, codes}
-use Rattle.prima_base.specs.declared.refusals.What.TheVariants.{Inverse}
+use Rattle.std.proofs.Common.{◌≡◌, ℕ, false, List, [], ◌∷◌, ◌++◌, length, inl, inr, refl, sym, ap}
+use Rattle.std.proofs.Common.{◌∙◌, subst, append-nil, codes}
+use Rattle.prima_base.specs.declared.refusal.What.TheVariants.{Inverse}
 use Rattle.cond_expr.specs.Trees.{always}
 use Rattle.smo_types.specs.Changes.{PlainChange, deletion, update}
 use Rattle.smo_types.specs.Commands.{PlainBody, changing, evolving}
 use Rattle.lexical_grammar.specs.Lexemes.{Lexeme, word, sign, is_word, is_sign}
-use Rattle.parser_combinators.specs.Parsing.{Size, Got, AreMore, so_wide, bindG, leadG, mapG, map_to, more, listG, fresh, freshG}
+use Rattle.parser_combinators.specs.Grammar.{Grammar}
+use Rattle.parser_combinators.specs.Parsing.{Parsed, map_to, more, fresh}
+use Rattle.parser_combinators.specs.Grammar.{Size, AreMore, so_wide}
+use Rattle.parser_combinators.specs.Grammar as grammar
 use Rattle.expr_grammar.specs.Grammar.{IsExpr, IsCond}
-use Rattle.expr_grammar.specs.Reader.{outermost, goes_expr, goes_cond}
+use Rattle.expr_grammar.specs.Reader.{outermost, follow_expr, follow_cond}
 use Rattle.parser_combinators.specs.Reads.{sees}
-use Rattle.expr_grammar.specs.Constants.{as_name, as_moment, as_small, as_constant, name, nameG, namesG, moment, momentG, smallG, constantG}
-use Rattle.expr_grammar.specs.TreeMarks.{expr_marks, cond_marks}
-use Rattle.parser_combinators.specs.Passings.{Passing, none_pass, fresh_pass, lead_pass, map_pass, bind_pass, list_pass, counted_pass}
+use Rattle.expr_grammar.specs.Constants.{as_name, as_moment, as_small, as_constant, name}
+use Rattle.expr_grammar.specs.Constants.{name_grammar, names_grammar, moment, moment_grammar}
+use Rattle.expr_grammar.specs.Constants.{small_grammar, constant_grammar}
+use Rattle.expr_grammar.specs.TreeCounts.{expr_counts, cond_counts}
+use Rattle.parser_combinators.specs.ListCrossings.{Crossing, none_crossing, fresh_crossing}
+use Rattle.parser_combinators.specs.ListCrossings.{lead_crossing, map_crossing, bind_crossing}
+use Rattle.parser_combinators.specs.ListCrossings.{list_crossing, counted_crossing}
 use Rattle.lexical_grammar.proofs.Cases.{by_test}
 use Rattle.parser_combinators.proofs.Parsing.{side}
 use Rattle.lexical_grammar.proofs.LexemeTests.{word_is, word_exact, sign_is, sign_exact}
-use Rattle.expr_grammar.proofs.Singles.{name_good, moment_good}
-use Rattle.expr_grammar.proofs.Goodness.{outermost_good}
-use Rattle.parser_combinators.proofs.Alternatives.{stops_never, or_left, or_right, list_not_none, list_not_first}
-use Rattle.expr_grammar.proofs.MarkSizes.{expr_length, cond_length}
-use Rattle.expr_grammar.proofs.MarksJoined.{expr_marked, cond_marked}
-use Rattle.expr_grammar.specs.Where.{IsFreshWhere, fresh_where, goes_where, where_passes}
+use Rattle.expr_grammar.proofs.Singles.{name_correct, moment_correct}
+use Rattle.expr_grammar.proofs.Correctness.{outermost_correct}
+use Rattle.parser_combinators.proofs.Alternatives.{stops_never, or_left, or_right, list_not_none}
+use Rattle.parser_combinators.proofs.Alternatives.{list_not_first}
+use Rattle.expr_grammar.proofs.CountSizes.{expr_length, cond_length}
+use Rattle.expr_grammar.proofs.CountsJoined.{expr_counted, cond_counted}
+use Rattle.expr_grammar.specs.Where.{IsFreshWhere, fresh_where, follow_where, where_crossings}
 use Rattle.expr_grammar.proofs.Where.{fresh_where_along}
-use Rattle.parser_combinators.proofs.Passing.{by_passes}
-use Rattle.parser_combinators.proofs.AlongParts.{GoesAlong, Light, stops_along, lead_goes, behind_goes, map_goes, bind_goes, option_goes, none_light, pure_light, single_light, lead_light, map_light, bind_light, list_light, light_along, light_goes, fresh_goes, list_goes, counted_goes}
+use Rattle.parser_combinators.proofs.Crossing.{by_crossings}
+use Rattle.parser_combinators.proofs.AlongParts.{GoesAlong, Light, stops_along, lead_follow}
+use Rattle.parser_combinators.proofs.AlongParts.{after_follow, map_follow, bind_follow}
+use Rattle.parser_combinators.proofs.AlongParts.{option_follow, none_light, pure_light}
+use Rattle.parser_combinators.proofs.AlongParts.{single_light, lead_light, map_light, bind_light}
+use Rattle.parser_combinators.proofs.AlongParts.{list_light, light_along, light_follow}
+use Rattle.parser_combinators.proofs.AlongParts.{fresh_follow, list_follow, counted_follow}
 use Rattle.smo_parse.specs.Productions.{IsOperator}
-use Rattle.smo_parse.specs.OperatorReader.{operator, goes_operator}
-use Rattle.smo_parse.specs.OperatorMarks.{operator_marks}
-use Rattle.smo_parse.proofs.OperatorGoodness.{operator_good}
-use Rattle.smo_parse.proofs.OperatorMarked.{operator_marked, operator_length}
+use Rattle.smo_parse.specs.OperatorReader.{operator, follow_operator}
+use Rattle.smo_parse.specs.OperatorCounts.{operator_counts}
+use Rattle.smo_parse.proofs.OperatorCorrectness.{operator_correct}
+use Rattle.smo_parse.proofs.OperatorCounted.{operator_counted, operator_length}
 use Rattle.temporal_lang.specs.QueryGrammar.{IsAsk}
 use Rattle.temporal_lang.specs.QueryReader as query
-use Rattle.temporal_lang.specs.QueryPasses.{ask_passes}
+use Rattle.temporal_lang.specs.QueryCrossings.{ask_crossings}
 use Rattle.temporal_lang.proofs.QueryAlong.{ask_along}
 use Rattle.script_parse.specs.Statements.{PlainStatement, write, ask, explain}
-use Rattle.script_parse.specs.Productions.{AreSoMany, IsRow, IsInsert, IsSetting, IsChange, IsOp, AreOps, IsInverse, AreChanges, IsBody, IsShowVersions, IsShowSchema, IsShowSizes, IsCheckpoint, IsStatement}
-use Rattle.script_parse.specs.StatementReader.{setting, settings, delete_rest, update_rest, change, changes, op, ops, inverse, evolve_rest, body, write_rest, ask_rest, explain_rest, statement, goes_settings, goes_change, goes_changes, goes_ops, goes_evolve, goes_body, goes_statement}
-use Rattle.script_parse.specs.StatementPasses.{setting_passes, change_passes, changes_passes, op_passes, ops_passes, inverse_passes, body_passes, statement_passes}
+use Rattle.script_parse.specs.Productions.{AreSoMany, IsRow, IsInsert, IsSetting, IsChange, IsOp}
+use Rattle.script_parse.specs.Productions.{AreOps, IsInverse, AreChanges, IsBody, IsShowVersions}
+use Rattle.script_parse.specs.Productions.{IsShowSchema, IsShowSizes, IsCheckpoint, IsStatement}
+use Rattle.script_parse.specs.StatementReader.{setting, settings, delete_rest, update_rest, change}
+use Rattle.script_parse.specs.StatementReader.{changes, op, ops, inverse, evolve_rest, body}
+use Rattle.script_parse.specs.StatementReader.{write_rest, ask_rest, explain_rest, statement}
+use Rattle.script_parse.specs.StatementReader.{follow_settings, follow_change, follow_changes}
+use Rattle.script_parse.specs.StatementReader.{follow_ops, follow_evolve, follow_body}
+use Rattle.script_parse.specs.StatementReader.{follow_statement}
+use Rattle.script_parse.specs.StatementCrossings.{setting_crossings, change_crossings}
+use Rattle.script_parse.specs.StatementCrossings.{changes_crossings, op_crossings, ops_crossings}
+use Rattle.script_parse.specs.StatementCrossings.{inverse_crossings, body_crossings}
+use Rattle.script_parse.specs.StatementCrossings.{statement_crossings}
 use Rattle.script_parse.proofs.BodySteps.{body_evolves, body_changes}
-use Rattle.script_parse.proofs.ChangeGoodness.{ends, setting_good, change_good, change_not_none, change_not_first, where_change, where_side}
-use Rattle.script_parse.proofs.StatementGoodness.{op_good, fewer_ops, fewer_evolve, fewer_changes, fewer_body, fewer_ask, inverse_side, statement_good}
+use Rattle.script_parse.proofs.ChangeCorrectness.{ends, setting_correct, change_correct}
+use Rattle.script_parse.proofs.ChangeCorrectness.{change_not_none, change_not_first, where_change}
+use Rattle.script_parse.proofs.ChangeCorrectness.{where_side}
+use Rattle.script_parse.proofs.StatementCorrectness.{op_correct, fewer_ops, fewer_evolve}
+use Rattle.script_parse.proofs.StatementCorrectness.{fewer_changes, fewer_body, fewer_ask}
+use Rattle.script_parse.proofs.StatementCorrectness.{inverse_side, statement_correct}
 
 -- ---- changes
 
-expr_along : GoesAlong (fresh (outermost false).expr) (freshG (IsExpr false)) (goes_expr false) (fresh_pass (IsExpr false) (expr_marks false))
-expr_along = fresh_goes (outermost false).expr (IsExpr false) (goes_expr false) (outermost_good false).expr (expr_marks false) (expr_length false) (expr_marked false)
+expr_along : GoesAlong (fresh (outermost false).expr) (grammar.fresh (IsExpr false))
+    (follow_expr false) (fresh_crossing (IsExpr false) (expr_counts false))
+expr_along = fresh_follow (outermost false).expr (IsExpr false) (follow_expr false)
+    (outermost_correct false).expr (expr_counts false) (expr_length false) (expr_counted false)
 
-where_then : GoesAlong (fresh_where false) (IsFreshWhere false) goes_change (where_passes false)
-where_then = stops_along (fresh_where false) (IsFreshWhere false) (goes_where false) goes_change (where_passes false) where_change (fresh_where_along false)
+where_then : GoesAlong (fresh_where false) (IsFreshWhere false) follow_change
+    (where_crossings false)
+where_then = stops_along (fresh_where false) (IsFreshWhere false) (follow_where false) follow_change
+    (where_crossings false) where_change (fresh_where_along false)
 
-name_along : GoesAlong name nameG ends (none_pass nameG)
-name_along = light_goes name nameG ends (name_good 0 32 ends) (single_light as_name)
+name_along : GoesAlong name name_grammar ends (none_crossing name_grammar)
+name_along = light_follow name name_grammar ends (name_correct 0 32 ends) (single_light as_name)
 
-setting_along : GoesAlong setting IsSetting (goes_expr false) setting_passes
+setting_along : GoesAlong setting IsSetting (follow_expr false) setting_crossings
 unfolding setting
-setting_along = bind_goes name _ nameG _ ends (goes_expr false) (none_pass nameG) _ name_along
-    (λ column. lead_goes (is_sign (codes "=")) (sign (codes "=")) (sign_is (codes "=")) _ _ (goes_expr false) _ (map_goes (λ e. (column, e)) (fresh (outermost false).expr) (freshG (IsExpr false)) (goes_expr false) _ expr_along))
+setting_along = bind_follow name _ name_grammar _ ends (follow_expr false)
+    (none_crossing name_grammar) _ name_along
+    (λ column. lead_follow (is_sign (codes "=")) (sign (codes "=")) (sign_is (codes "=")) _ _
+    (follow_expr false) _ (map_follow (λ e. (column, e)) (fresh (outermost false).expr)
+    (grammar.fresh (IsExpr false)) (follow_expr false) _ expr_along))
     (λ a b s ts rest h stops. stops_never (ts ++ rest))
 
-settings_along : GoesAlong settings (listG (sign (codes ",")) IsSetting) goes_settings (list_pass (sign (codes ",")) IsSetting setting_passes)
+settings_along : GoesAlong settings (grammar.list (sign (codes ",")) IsSetting) follow_settings
+    (list_crossing (sign (codes ",")) IsSetting setting_crossings)
 unfolding settings
-settings_along = list_goes (is_sign (codes ",")) (sign (codes ",")) (sign_is (codes ",")) (sign_exact (codes ",")) setting IsSetting (goes_expr false) setting_good refl setting_passes setting_along
+settings_along = list_follow (is_sign (codes ",")) (sign (codes ",")) (sign_is (codes ","))
+    (sign_exact (codes ",")) setting IsSetting (follow_expr false) setting_correct refl
+    setting_crossings setting_along
 
--- behind DELETE and UPDATE
-delete_along : GoesAlong delete_rest (leadG (word (codes "FROM")) (bindG nameG (λ t. mapG (λ c. deletion t c) (IsFreshWhere false)))) goes_change
-    (lead_pass (word (codes "FROM")) _ (bind_pass nameG (λ t. mapG (λ c. deletion t c) (IsFreshWhere false)) (none_pass nameG) (λ t. map_pass (λ c. deletion t c) (IsFreshWhere false) (where_passes false))))
+-- after DELETE and UPDATE
+delete_along : GoesAlong delete_rest (grammar.lead (word (codes "FROM"))
+    (grammar.seq name_grammar (λ t. grammar.map (λ c. deletion t c) (IsFreshWhere false))))
+    follow_change
+    (lead_crossing (word (codes "FROM")) _ (bind_crossing name_grammar
+    (λ t. grammar.map (λ c. deletion t c) (IsFreshWhere false)) (none_crossing name_grammar)
+    (λ t. map_crossing (λ c. deletion t c) (IsFreshWhere false) (where_crossings false))))
 unfolding delete_rest
-delete_along = lead_goes (is_word (codes "FROM")) (word (codes "FROM")) (word_is (codes "FROM")) _ _ goes_change _ (bind_goes name _ nameG _ ends goes_change (none_pass nameG) _ name_along
-    (λ t. map_goes (λ c. deletion t c) (fresh_where false) (IsFreshWhere false) goes_change (where_passes false) where_then) (λ a b s ts rest h stops. stops_never (ts ++ rest)))
+delete_along = lead_follow (is_word (codes "FROM")) (word (codes "FROM")) (word_is (codes "FROM")) _
+    _ follow_change _ (bind_follow name _ name_grammar _ ends follow_change
+    (none_crossing name_grammar) _ name_along
+    (λ t. map_follow (λ c. deletion t c) (fresh_where false) (IsFreshWhere false) follow_change
+    (where_crossings false) where_then) (λ a b s ts rest h stops. stops_never (ts ++ rest)))
 
-abbrev SetsRest : List ℕ → PlainChange → Size → List Lexeme → Type 0
-SetsRest t = bindG (listG (sign (codes ",")) IsSetting) (λ l. mapG (λ c. update t l c) (IsFreshWhere false))
+abbrev SetsRest : List ℕ → Grammar PlainChange
+SetsRest t = grammar.seq (grammar.list (sign (codes ",")) IsSetting)
+    (λ l. grammar.map (λ c. update t l c) (IsFreshWhere false))
 
-update_along : GoesAlong update_rest (bindG nameG (λ t. leadG (word (codes "SET")) (SetsRest t))) goes_change
-    (bind_pass nameG (λ t. leadG (word (codes "SET")) (SetsRest t)) (none_pass nameG)
-    (λ t. lead_pass (word (codes "SET")) (SetsRest t) (bind_pass (listG (sign (codes ",")) IsSetting) (λ l. mapG (λ c. update t l c) (IsFreshWhere false)) (list_pass (sign (codes ",")) IsSetting setting_passes) (λ l. map_pass (λ c. update t l c) (IsFreshWhere false) (where_passes false)))))
+update_along : GoesAlong update_rest (grammar.seq name_grammar
+    (λ t. grammar.lead (word (codes "SET")) (SetsRest t))) follow_change
+    (bind_crossing name_grammar (λ t. grammar.lead (word (codes "SET")) (SetsRest t))
+    (none_crossing name_grammar)
+    (λ t. lead_crossing (word (codes "SET")) (SetsRest t)
+    (bind_crossing (grammar.list (sign (codes ",")) IsSetting)
+    (λ l. grammar.map (λ c. update t l c) (IsFreshWhere false))
+    (list_crossing (sign (codes ",")) IsSetting setting_crossings)
+    (λ l. map_crossing (λ c. update t l c) (IsFreshWhere false) (where_crossings false)))))
 unfolding update_rest
-update_along = bind_goes name _ nameG _ ends goes_change (none_pass nameG) _ name_along
-    (λ t. lead_goes (is_word (codes "SET")) (word (codes "SET")) (word_is (codes "SET")) _ (SetsRest t) goes_change _
-    (bind_goes settings (λ l. map_to (λ c. update t l c) (fresh_where false)) (listG (sign (codes ",")) IsSetting) (λ l. mapG (λ c. update t l c) (IsFreshWhere false)) goes_settings goes_change (list_pass (sign (codes ",")) IsSetting setting_passes) _ settings_along
-    (λ l. map_goes (λ c. update t l c) (fresh_where false) (IsFreshWhere false) goes_change (where_passes false) where_then)
+update_along = bind_follow name _ name_grammar _ ends follow_change (none_crossing name_grammar) _
+    name_along
+    (λ t. lead_follow (is_word (codes "SET")) (word (codes "SET")) (word_is (codes "SET")) _
+    (SetsRest t) follow_change _
+    (bind_follow settings (λ l. map_to (λ c. update t l c) (fresh_where false))
+    (grammar.list (sign (codes ",")) IsSetting)
+    (λ l. grammar.map (λ c. update t l c) (IsFreshWhere false)) follow_settings follow_change
+    (list_crossing (sign (codes ",")) IsSetting setting_crossings) _ settings_along
+    (λ l. map_follow (λ c. update t l c) (fresh_where false) (IsFreshWhere false) follow_change
+    (where_crossings false) where_then)
     (λ l c s ts rest h stops. where_side h.0 s ts rest h.2 stops)))
     (λ a b s ts rest h stops. stops_never (ts ++ rest))
 
 so_many_light : (n : ℕ) → Light (AreSoMany n)
 so_many_light n [] s f h = none_light s h.1.0
-so_many_light n (v ∷ l) s f h = list_light (sign (codes ",")) constantG (single_light as_constant) (v ∷ l) s f h.1
+so_many_light n (v ∷ l) s f h = list_light (sign (codes ",")) constant_grammar
+    (single_light as_constant) (v ∷ l) s f h.1
 
 row_light : (ns : List (List ℕ)) → Light (IsRow ns)
-row_light ns = lead_light _ _ (bind_light _ _ (so_many_light (length ns)) (λ l. lead_light _ _ (pure_light _)))
+row_light ns = lead_light _ _ (bind_light _ _ (so_many_light (length ns))
+    (λ l. lead_light _ _ (pure_light _)))
 
-names_light : Light namesG
-names_light = list_light (sign (codes ",")) nameG (single_light as_name)
+names_light : Light names_grammar
+names_light = list_light (sign (codes ",")) name_grammar (single_light as_name)
 
 insert_light : Light IsInsert
-insert_light = lead_light _ _ (lead_light _ _ (bind_light nameG _ (single_light as_name) (λ t. lead_light _ _ (bind_light namesG _ names_light (λ ns. lead_light _ _ (lead_light _ _ (map_light _ (IsRow ns) (row_light ns))))))))
+insert_light = lead_light _ _ (lead_light _ _
+    (bind_light name_grammar _ (single_light as_name)
+    (λ t. lead_light _ _ (bind_light names_grammar _ names_light
+    (λ ns. lead_light _ _ (lead_light _ _ (map_light _ (IsRow ns) (row_light ns))))))))
 
-change_along : GoesAlong change IsChange goes_change change_passes
+change_along : GoesAlong change IsChange follow_change change_crossings
 unfolding change
-change_along a s f (inl h) us stops = light_along change IsChange goes_change change_good a s f (inl h) (insert_light a s f h) us stops
-change_along a s f (inr (inl h)) us stops = behind_goes change delete_rest (word (codes "DELETE")) (λ ts. refl) _ goes_change _ delete_along a s f h us stops
-change_along a s f (inr (inr h)) us stops = behind_goes change update_rest (word (codes "UPDATE")) (λ ts. refl) _ goes_change _ update_along a s f h us stops
+change_along a s f (inl h) us stops = light_along change IsChange follow_change change_correct a s f
+    (inl h) (insert_light a s f h) us stops
+change_along a s f (inr (inl h)) us stops = after_follow change delete_rest (word (codes "DELETE"))
+    (λ ts. refl) _ follow_change _ delete_along a s f h us stops
+change_along a s f (inr (inr h)) us stops = after_follow change update_rest (word (codes "UPDATE"))
+    (λ ts. refl) _ follow_change _ update_along a s f h us stops
 
-changes_along : GoesAlong changes (listG (word (codes "THEN")) IsChange) goes_changes (list_pass (word (codes "THEN")) IsChange change_passes)
+changes_along : GoesAlong changes (grammar.list (word (codes "THEN")) IsChange) follow_changes
+    (list_crossing (word (codes "THEN")) IsChange change_crossings)
 unfolding changes
-changes_along = list_goes (is_word (codes "THEN")) (word (codes "THEN")) (word_is (codes "THEN")) (word_exact (codes "THEN")) change IsChange goes_change change_good refl change_passes change_along
+changes_along = list_follow (is_word (codes "THEN")) (word (codes "THEN")) (word_is (codes "THEN"))
+    (word_exact (codes "THEN")) change IsChange follow_change change_correct refl change_crossings
+    change_along
 
 -- ---- operators
 
-op_along : GoesAlong op IsOp goes_operator op_passes
+op_along : GoesAlong op IsOp follow_operator op_crossings
 unfolding op
-op_along = fresh_goes operator IsOperator goes_operator operator_good operator_marks operator_length operator_marked
+op_along = fresh_follow operator IsOperator follow_operator operator_correct operator_counts
+    operator_length operator_counted
 
-ops_along : GoesAlong ops AreOps goes_ops ops_passes
+ops_along : GoesAlong ops AreOps follow_ops ops_crossings
 unfolding ops
-ops_along = bind_goes op (λ o. map_to (λ l. o ∷ l) (more (is_word (codes "THEN")) Inverse op 7)) IsOp (λ o. mapG (λ l. o ∷ l) (AreMore (word (codes "THEN")) (so_wide Inverse) IsOp 1)) goes_operator goes_ops op_passes _ op_along
-    (λ o. map_goes (λ l. o ∷ l) (more (is_word (codes "THEN")) Inverse op 7) (AreMore (word (codes "THEN")) (so_wide Inverse) IsOp 1) goes_ops (counted_pass Inverse (word (codes "THEN")) IsOp op_passes 1)
-    (counted_goes (is_word (codes "THEN")) (word (codes "THEN")) (word_is (codes "THEN")) (word_exact (codes "THEN")) op IsOp goes_operator op_good refl op_passes op_along Inverse 7 1 refl))
-    (λ a b s ts rest h stops. side (is_word (codes "THEN")) (word (codes "THEN")) (word_is (codes "THEN")) (word_exact (codes "THEN")) 32 op IsOp goes_operator op_good refl (so_wide Inverse) 1 h.0 s ts rest h.2 stops)
+ops_along = bind_follow op (λ o. map_to (λ l. o ∷ l) (more (is_word (codes "THEN")) Inverse op 7))
+    IsOp (λ o. grammar.map (λ l. o ∷ l) (AreMore (word (codes "THEN")) (so_wide Inverse) IsOp 1))
+    follow_operator follow_ops op_crossings _ op_along
+    (λ o. map_follow (λ l. o ∷ l) (more (is_word (codes "THEN")) Inverse op 7)
+    (AreMore (word (codes "THEN")) (so_wide Inverse) IsOp 1) follow_ops
+    (counted_crossing Inverse (word (codes "THEN")) IsOp op_crossings 1)
+    (counted_follow (is_word (codes "THEN")) (word (codes "THEN")) (word_is (codes "THEN"))
+    (word_exact (codes "THEN")) op IsOp follow_operator op_correct refl op_crossings op_along
+    Inverse 7 1 refl))
+    (λ a b s ts rest h stops. side (is_word (codes "THEN")) (word (codes "THEN"))
+    (word_is (codes "THEN")) (word_exact (codes "THEN")) 32 op IsOp follow_operator op_correct
+    refl (so_wide Inverse) 1 h.0 s ts rest h.2 stops)
 
-inverse_along : GoesAlong inverse IsInverse goes_evolve inverse_passes
+inverse_along : GoesAlong inverse IsInverse follow_evolve inverse_crossings
 unfolding inverse
-inverse_along = option_goes (is_word (codes "INVERSE")) (word (codes "INVERSE")) (word_is (codes "INVERSE")) ops [] AreOps goes_evolve (λ x h. or_left (is_word (codes "INVERSE") x) (goes_ops x) h) ops_passes
-    (stops_along ops AreOps goes_ops goes_evolve ops_passes fewer_ops ops_along)
+inverse_along = option_follow (is_word (codes "INVERSE")) (word (codes "INVERSE"))
+    (word_is (codes "INVERSE")) ops [] AreOps follow_evolve
+    (λ x h. or_left (is_word (codes "INVERSE") x) (follow_ops x) h) ops_crossings
+    (stops_along ops AreOps follow_ops follow_evolve ops_crossings fewer_ops ops_along)
 
-abbrev EvolveRest : PlainBody → Size → List Lexeme → Type 0
-EvolveRest = bindG IsOp (λ o. mapG (λ l. evolving o l) IsInverse)
+abbrev EvolveRest : Grammar PlainBody
+EvolveRest = grammar.seq IsOp (λ o. grammar.map (λ l. evolving o l) IsInverse)
 
-abbrev evolve_rest_passes : Passing EvolveRest
-evolve_rest_passes = bind_pass IsOp (λ o. mapG (λ l. evolving o l) IsInverse) op_passes (λ o. map_pass (λ l. evolving o l) IsInverse inverse_passes)
+abbrev evolve_rest_crossings : Crossing EvolveRest
+evolve_rest_crossings = bind_crossing IsOp (λ o. grammar.map (λ l. evolving o l) IsInverse)
+    op_crossings (λ o. map_crossing (λ l. evolving o l) IsInverse inverse_crossings)
 
-evolve_along : GoesAlong evolve_rest EvolveRest goes_evolve evolve_rest_passes
+evolve_along : GoesAlong evolve_rest EvolveRest follow_evolve evolve_rest_crossings
 unfolding evolve_rest
-evolve_along = bind_goes op (λ o. map_to (λ l. evolving o l) inverse) IsOp (λ o. mapG (λ l. evolving o l) IsInverse) goes_operator goes_evolve op_passes _ op_along
-    (λ o. map_goes (λ l. evolving o l) inverse IsInverse goes_evolve inverse_passes inverse_along)
+evolve_along = bind_follow op (λ o. map_to (λ l. evolving o l) inverse) IsOp
+    (λ o. grammar.map (λ l. evolving o l) IsInverse) follow_operator follow_evolve op_crossings _
+    op_along
+    (λ o. map_follow (λ l. evolving o l) inverse IsInverse follow_evolve inverse_crossings
+    inverse_along)
     (λ o b s ts rest h stops. inverse_side h.0 s ts rest h.2 stops)
 
-evolve_then : GoesAlong evolve_rest EvolveRest goes_body evolve_rest_passes
-evolve_then = stops_along evolve_rest EvolveRest goes_evolve goes_body evolve_rest_passes fewer_evolve evolve_along
+evolve_then : GoesAlong evolve_rest EvolveRest follow_body evolve_rest_crossings
+evolve_then = stops_along evolve_rest EvolveRest follow_evolve follow_body evolve_rest_crossings
+    fewer_evolve evolve_along
 
 -- ---- what a command does
 
-changing_along : GoesAlong (map_to (λ l. changing l) changes) AreChanges goes_body changes_passes
-changing_along = map_goes (λ l. changing l) changes (listG (word (codes "THEN")) IsChange) goes_body (list_pass (word (codes "THEN")) IsChange change_passes)
-    (stops_along changes (listG (word (codes "THEN")) IsChange) goes_changes goes_body (list_pass (word (codes "THEN")) IsChange change_passes) fewer_changes changes_along)
+changing_along : GoesAlong (map_to (λ l. changing l) changes) AreChanges follow_body
+    changes_crossings
+changing_along = map_follow (λ l. changing l) changes (grammar.list (word (codes "THEN")) IsChange)
+    follow_body (list_crossing (word (codes "THEN")) IsChange change_crossings)
+    (stops_along changes (grammar.list (word (codes "THEN")) IsChange) follow_changes follow_body
+    (list_crossing (word (codes "THEN")) IsChange change_crossings) fewer_changes changes_along)
 
 -- no changes begin with EVOLVE
-no_evolve : (a : PlainBody) (s : Size) (f us : List Lexeme) → AreChanges a s f → sees (is_word (codes "EVOLVE")) (f ++ us) ≡ false
-no_evolve a s [] us h = absurd (list_not_none (word (codes "THEN")) IsChange change_not_none h.0 s h.2)
+no_evolve : (a : PlainBody) (s : Size) (f us : List Lexeme) → AreChanges a s f
+    → sees (is_word (codes "EVOLVE")) (f ++ us) ≡ false
+no_evolve a s [] us h = absurd (list_not_none (word (codes "THEN")) IsChange change_not_none h.0 s
+    h.2)
 no_evolve a s (x ∷ f) us h = by_test (is_word (codes "EVOLVE") x)
-    (λ e. absurd (let P : Lexeme → Type 0 = λ y. AreChanges a s (y ∷ f) in let k = subst P (word_exact (codes "EVOLVE") x e) h in
-    list_not_first (word (codes "EVOLVE")) (word (codes "THEN")) IsChange change_not_none (change_not_first (codes "EVOLVE") refl refl refl) k.0 s f k.2))
+    (λ e. absurd (let P : Lexeme → Type 0 = λ y. AreChanges a s (y ∷ f) in let k =
+    subst P (word_exact (codes "EVOLVE") x e) h in
+    list_not_first (word (codes "EVOLVE")) (word (codes "THEN")) IsChange change_not_none
+    (change_not_first (codes "EVOLVE") refl refl refl) k.0 s f k.2))
     (λ e. e)
 
-body_along : GoesAlong body IsBody goes_body body_passes
-body_along a s f (inl h) us stops = behind_goes body evolve_rest (word (codes "EVOLVE")) (λ ts. body_evolves 0 (word (codes "EVOLVE") ∷ ts) (word_is (codes "EVOLVE"))) EvolveRest goes_body evolve_rest_passes evolve_then a s f h us stops
-body_along a s f (inr h) us stops = let r = changing_along a s f h us stops in record { reads = body_changes 0 (f ++ us) (no_evolve a s f us h) ∙ r.reads; sized = r.sized }
+body_along : GoesAlong body IsBody follow_body body_crossings
+body_along a s f (inl h) us stops = after_follow body evolve_rest (word (codes "EVOLVE"))
+    (λ ts. body_evolves 0 (word (codes "EVOLVE") ∷ ts) (word_is (codes "EVOLVE"))) EvolveRest
+    follow_body evolve_rest_crossings evolve_then a s f h us stops
+body_along a s f (inr h) us stops = let r = changing_along a s f h us stops in
+    record { reads = body_changes 0 (f ++ us) (no_evolve a s f us h) ∙ r.reads; sized = r.sized }
 
 -- ---- statements
 
-abbrev WriteRest : PlainStatement → Size → List Lexeme → Type 0
-WriteRest = bindG momentG (λ m. mapG (λ b. write (record { stamp = m; body = b })) IsBody)
+abbrev WriteRest : Grammar PlainStatement
+WriteRest = grammar.seq moment_grammar (λ m. grammar.map
+    (λ b. write (record { stamp = m; body = b })) IsBody)
 
-abbrev write_rest_passes : Passing WriteRest
-write_rest_passes = bind_pass momentG (λ m. mapG (λ b. write (record { stamp = m; body = b })) IsBody) (none_pass momentG) (λ m. map_pass (λ b. write (record { stamp = m; body = b })) IsBody body_passes)
+abbrev write_rest_crossings : Crossing WriteRest
+write_rest_crossings = bind_crossing moment_grammar
+    (λ m. grammar.map (λ b. write (record { stamp = m; body = b })) IsBody)
+    (none_crossing moment_grammar) (λ m. map_crossing (λ b. write (record { stamp = m; body = b }))
+    IsBody body_crossings)
 
-write_along : GoesAlong write_rest WriteRest goes_statement write_rest_passes
+write_along : GoesAlong write_rest WriteRest follow_statement write_rest_crossings
 unfolding write_rest
-write_along = bind_goes moment (λ m. map_to (λ b. write (record { stamp = m; body = b })) body) momentG (λ m. mapG (λ b. write (record { stamp = m; body = b })) IsBody) ends goes_statement (none_pass momentG) _
-    (light_goes moment momentG ends (moment_good 0 32 ends) (single_light as_moment))
-    (λ m. map_goes (λ b. write (record { stamp = m; body = b })) body IsBody goes_statement body_passes (stops_along body IsBody goes_body goes_statement body_passes fewer_body body_along))
+write_along = bind_follow moment (λ m. map_to (λ b. write (record { stamp = m; body = b })) body)
+    moment_grammar (λ m. grammar.map (λ b. write (record { stamp = m; body = b })) IsBody) ends
+    follow_statement (none_crossing moment_grammar) _
+    (light_follow moment moment_grammar ends (moment_correct 0 32 ends) (single_light as_moment))
+    (λ m. map_follow (λ b. write (record { stamp = m; body = b })) body IsBody follow_statement
+    body_crossings (stops_along body IsBody follow_body follow_statement body_crossings
+    fewer_body body_along))
     (λ a b s ts rest h stops. stops_never (ts ++ rest))
 
-abbrev query_rest_passes : Passing (mapG (λ q. ask q) IsAsk)
-query_rest_passes = map_pass (λ q. ask q) IsAsk ask_passes
+abbrev query_rest_crossings : Crossing (grammar.map (λ q. ask q) IsAsk)
+query_rest_crossings = map_crossing (λ q. ask q) IsAsk ask_crossings
 
-query_along : GoesAlong ask_rest (mapG (λ q. ask q) IsAsk) goes_statement query_rest_passes
+query_along : GoesAlong ask_rest (grammar.map (λ q. ask q) IsAsk) follow_statement
+    query_rest_crossings
 unfolding ask_rest
-query_along = map_goes (λ q. ask q) query.ask IsAsk goes_statement ask_passes (stops_along query.ask IsAsk query.goes_ask goes_statement ask_passes fewer_ask ask_along)
+query_along = map_follow (λ q. ask q) query.ask IsAsk follow_statement ask_crossings
+    (stops_along query.ask IsAsk query.follow_ask follow_statement ask_crossings fewer_ask
+    ask_along)
 
-abbrev ExplainRest : PlainStatement → Size → List Lexeme → Type 0
-ExplainRest = leadG (word (codes "QUERY")) (mapG (λ q. explain q) IsAsk)
+abbrev ExplainRest : Grammar PlainStatement
+ExplainRest = grammar.lead (word (codes "QUERY")) (grammar.map (λ q. explain q) IsAsk)
 
-abbrev explain_rest_passes : Passing ExplainRest
-explain_rest_passes = lead_pass (word (codes "QUERY")) (mapG (λ q. explain q) IsAsk) (map_pass (λ q. explain q) IsAsk ask_passes)
+abbrev explain_rest_crossings : Crossing ExplainRest
+explain_rest_crossings = lead_crossing (word (codes "QUERY")) (grammar.map (λ q. explain q) IsAsk)
+    (map_crossing (λ q. explain q) IsAsk ask_crossings)
 
-explain_along : GoesAlong explain_rest ExplainRest goes_statement explain_rest_passes
+explain_along : GoesAlong explain_rest ExplainRest follow_statement explain_rest_crossings
 unfolding explain_rest
-explain_along = lead_goes (is_word (codes "QUERY")) (word (codes "QUERY")) (word_is (codes "QUERY")) _ (mapG (λ q. explain q) IsAsk) goes_statement _
-    (map_goes (λ q. explain q) query.ask IsAsk goes_statement ask_passes (stops_along query.ask IsAsk query.goes_ask goes_statement ask_passes fewer_ask ask_along))
+explain_along = lead_follow (is_word (codes "QUERY")) (word (codes "QUERY"))
+    (word_is (codes "QUERY")) _ (grammar.map (λ q. explain q) IsAsk) follow_statement _
+    (map_follow (λ q. explain q) query.ask IsAsk follow_statement ask_crossings
+    (stops_along query.ask IsAsk query.follow_ask follow_statement ask_crossings fewer_ask
+    ask_along))
 
 versions_light : Light IsShowVersions
 versions_light = lead_light _ _ (lead_light _ _ (pure_light _))
 
 schema_light : Light IsShowSchema
-schema_light = lead_light _ _ (lead_light _ _ (map_light _ smallG (single_light as_small)))
+schema_light = lead_light _ _ (lead_light _ _ (map_light _ small_grammar (single_light as_small)))
 
 sizes_light : Light IsShowSizes
 sizes_light = lead_light _ _ (lead_light _ _ (pure_light _))
@@ -202,19 +312,37 @@ sizes_light = lead_light _ _ (lead_light _ _ (pure_light _))
 checkpoint_light : Light IsCheckpoint
 checkpoint_light = lead_light _ _ (pure_light _)
 
-pub statement_along : GoesAlong statement IsStatement goes_statement statement_passes
+pub statement_along : GoesAlong statement IsStatement follow_statement statement_crossings
 unfolding statement
-statement_along a s f (inl h) us stops = behind_goes statement write_rest (word (codes "AT")) (λ ts. refl) WriteRest goes_statement write_rest_passes write_along a s f h us stops
-statement_along a s f (inr (inl h)) us stops = behind_goes statement ask_rest (word (codes "QUERY")) (λ ts. refl) (mapG (λ q. ask q) IsAsk) goes_statement query_rest_passes query_along a s f h us stops
-statement_along a s f (inr (inr (inl h))) us stops = behind_goes statement explain_rest (word (codes "EXPLAIN")) (λ ts. refl) ExplainRest goes_statement explain_rest_passes explain_along a s f h us stops
-statement_along a s f (inr (inr (inr (inl (inl h))))) us stops = light_along statement IsStatement goes_statement statement_good a s f (inr (inr (inr (inl (inl h))))) (versions_light a s f h) us stops
-statement_along a s f (inr (inr (inr (inl (inr (inl h)))))) us stops = light_along statement IsStatement goes_statement statement_good a s f (inr (inr (inr (inl (inr (inl h)))))) (schema_light a s f h) us stops
-statement_along a s f (inr (inr (inr (inl (inr (inr h)))))) us stops = light_along statement IsStatement goes_statement statement_good a s f (inr (inr (inr (inl (inr (inr h)))))) (sizes_light a s f h) us stops
-statement_along a s f (inr (inr (inr (inr h)))) us stops = light_along statement IsStatement goes_statement statement_good a s f (inr (inr (inr (inr h)))) (checkpoint_light a s f h) us stops
+statement_along a s f (inl h) us stops = after_follow statement write_rest (word (codes "AT"))
+    (λ ts. refl) WriteRest follow_statement write_rest_crossings write_along a s f h us stops
+statement_along a s f (inr (inl h)) us stops =
+    after_follow statement ask_rest (word (codes "QUERY")) (λ ts. refl)
+    (grammar.map (λ q. ask q) IsAsk) follow_statement query_rest_crossings query_along a s f h us
+    stops
+statement_along a s f (inr (inr (inl h))) us stops =
+    after_follow statement explain_rest (word (codes "EXPLAIN")) (λ ts. refl) ExplainRest
+    follow_statement explain_rest_crossings explain_along a s f h us stops
+statement_along a s f (inr (inr (inr (inl (inl h))))) us stops =
+    light_along statement IsStatement follow_statement statement_correct a s f
+    (inr (inr (inr (inl (inl h))))) (versions_light a s f h) us stops
+statement_along a s f (inr (inr (inr (inl (inr (inl h)))))) us stops =
+    light_along statement IsStatement follow_statement statement_correct a s f
+    (inr (inr (inr (inl (inr (inl h)))))) (schema_light a s f h) us stops
+statement_along a s f (inr (inr (inr (inl (inr (inr h)))))) us stops =
+    light_along statement IsStatement follow_statement statement_correct a s f
+    (inr (inr (inr (inl (inr (inr h)))))) (sizes_light a s f h) us stops
+statement_along a s f (inr (inr (inr (inr h)))) us stops =
+    light_along statement IsStatement follow_statement statement_correct a s f
+    (inr (inr (inr (inr h)))) (checkpoint_light a s f h) us stops
 
 -- a whole text
-pub statement_reads : (a : PlainStatement) (s : Size) (f : List Lexeme) (h : IsStatement a s f) → statement 0 f ≡ by_passes 0 (statement_passes a s f h) f (Got a 0 [])
-statement_reads a s f h = let r = statement_along a s f h [] tt in ap (statement 0) (sym (append-nil f)) ∙ r.reads ∙ ap (λ l. by_passes 0 (statement_passes a s f h) l (Got a 0 [])) (append-nil f)
+pub statement_reads : (a : PlainStatement) (s : Size) (f : List Lexeme) (h : IsStatement a s f)
+    → statement 0 f ≡ by_crossings 0 (statement_crossings a s f h) f (Parsed a 0 [])
+statement_reads a s f h = let r = statement_along a s f h [] tt in
+    ap (statement 0) (sym (append-nil f)) ∙ r.reads
+    ∙ ap (λ l. by_crossings 0 (statement_crossings a s f h) l (Parsed a 0 [])) (append-nil f)
 
-pub statement_sized : (a : PlainStatement) (s : Size) (f : List Lexeme) (h : IsStatement a s f) → length (statement_passes a s f h) ≡ length f
+pub statement_sized : (a : PlainStatement) (s : Size) (f : List Lexeme) (h : IsStatement a s f)
+    → length (statement_crossings a s f h) ≡ length f
 statement_sized a s f h = (statement_along a s f h [] tt).sized

@@ -1,14 +1,14 @@
--- Statements, each with a `;` behind it, and a tail, as one script.
+-- Statements, each with a `;` after it, and a tail, as one script.
 use Rattle.std.specs.Prelude.{◌≡◌, ℕ, List, [], ◌∷◌, ◌++◌, ◌||◌, Bool, true, false, ⊤}
 use Rattle.script_parse.specs.Script.{next, is_end, mode_after}
-use Rattle.script_parse.specs.declared.modes.Mode.{Mode}
-use Rattle.script_parse.specs.declared.modes.Mode.TheVariants.{Plain}
+use Rattle.script_parse.specs.declared.mode.Mode.{Mode}
+use Rattle.script_parse.specs.declared.mode.Mode.TheVariants.{Plain}
 
 abbrev pub joined : List (List ℕ) → List ℕ → List ℕ
 joined [] tail = tail
 joined (s ∷ statements) tail = s ++ 59 ∷ joined statements tail
 
--- the bytes, behind what leaves the script in `mode`, have a `;` outside texts and comments
+-- the bytes, after what leaves the script in `mode`, have a `;` outside texts and comments
 abbrev pub has_end : Mode → List ℕ → Bool
 has_end mode [] = false
 has_end mode (b ∷ bytes) = is_end mode b || has_end (next mode b) bytes

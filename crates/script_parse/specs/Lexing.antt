@@ -1,13 +1,15 @@
 -- A text as its tokens, or as its first lexical fault.
-use Rattle.std.specs.Prelude.{◌≡◌, ℕ, zero, suc, ◌+◌, false, List, [], ◌∷◌, length, map, take, drop, Option, Some, None}
-use Rattle.lexical_grammar.specs.declared.faults.LexFault.{LexFault}
-use Rattle.lexical_grammar.specs.declared.faults.LexFault.TheVariants.{NoMemory, BadByte, OpenQuote, BigNumber, LongText}
-use Rattle.lexical_grammar.specs.declared.kinds.TokenKind.{TokenKind}
-use Rattle.lexical_grammar.specs.declared.pieces.Piece.{Piece}
-use Rattle.lexical_grammar.specs.declared.pieces.Piece.TheVariants.{End, Of, Bad, Open, Long, Big}
+use Rattle.std.specs.Prelude.{◌≡◌, ℕ, zero, suc, ◌+◌, false, List, [], ◌∷◌, length, map, take, drop}
+use Rattle.std.specs.Prelude.{Option, Some, None}
+use Rattle.lexical_grammar.specs.declared.fault.LexFault.{LexFault}
+use Rattle.lexical_grammar.specs.declared.fault.LexFault.TheVariants.{NoMemory, BadByte, OpenQuote}
+use Rattle.lexical_grammar.specs.declared.fault.LexFault.TheVariants.{BigNumber, LongText}
+use Rattle.lexical_grammar.specs.declared.kind.TokenKind.{TokenKind}
+use Rattle.lexical_grammar.specs.declared.piece.Piece.{Piece}
+use Rattle.lexical_grammar.specs.declared.piece.Piece.TheVariants.{End, Of, Bad, Open, Long, Big}
 use Rattle.lexical_grammar.specs.Bytes.{gap_len, piece}
 use Rattle.lexical_grammar.specs.declared.token.Token.{Token}
-use Rattle.lexical_grammar.specs.Lexed.{Lexes, behind_gap}
+use Rattle.lexical_grammar.specs.Lexed.{Lexes, after_gap}
 use Rattle.lexical_grammar.specs.Lexemes.{Lexeme, says, lexeme}
 
 -- what a token says, and the place of its first byte
@@ -23,23 +25,26 @@ pub data Lexed : Type 0 where
   -- the place of the first lexical fault
   Faulty : ℕ → Lexed
 
-abbrev pub behind_token : Placed → Lexed → Lexed
-behind_token t (Tokens ts) = Tokens (t ∷ ts)
-behind_token t (Faulty at) = Faulty at
+abbrev pub after_token : Placed → Lexed → Lexed
+after_token t (Tokens ts) = Tokens (t ∷ ts)
+after_token t (Faulty at) = Faulty at
 
--- by what stands in front of these bytes, which begin at a place, and what the bytes behind it are
+-- by what stands in front of these bytes, which begin at a place, and what the bytes after it are
 abbrev pub by_piece : ℕ → List ℕ → (ℕ → List ℕ → Lexed) → Piece → Lexed
 by_piece at bytes others End = Tokens []
-by_piece at bytes others (Of kind n) = behind_token (a_token kind (take n bytes) at) (others (at + n) (drop n bytes))
+by_piece at bytes others (Of kind n) = after_token (a_token kind (take n bytes) at)
+    (others (at + n) (drop n bytes))
 by_piece at bytes others (Bad n) = Faulty (at + n)
 by_piece at bytes others Open = Faulty at
 by_piece at bytes others Long = Faulty at
 by_piece at bytes others Big = Faulty at
 
--- the bytes from a place on, with no more than so many tokens: each is the longest behind the blanks and comments before it
+-- the bytes from a place on, with no more than so many tokens: each is the longest after the blanks
+-- and comments before it
 unfoldable pub lexed_from : ℕ → ℕ → List ℕ → Lexed
 lexed_from zero at bytes = Tokens []
-lexed_from (suc n) at bytes = by_piece (at + gap_len false 0 bytes) (behind_gap bytes) (lexed_from n) (piece (behind_gap bytes))
+lexed_from (suc n) at bytes = by_piece (at + gap_len false 0 bytes) (after_gap bytes) (lexed_from n)
+    (piece (after_gap bytes))
 
 -- each token takes a byte at least, so there are no more than bytes
 abbrev pub lexed : List ℕ → Lexed
@@ -53,7 +58,7 @@ saying ts = map (λ (t : Placed). t.says) ts
 abbrev pub placed : Token → Placed
 placed t = record { says = lexeme t; at = t.at }
 
--- where a fault is; want of memory is in no text
+-- where a fault is; running out of memory is in no text
 abbrev pub fault_place : LexFault → Option ℕ
 fault_place NoMemory = None
 fault_place (BadByte at) = Some at
@@ -64,4 +69,6 @@ fault_place (LongText at) = Some at
 -- the text's tokens, or the place of its first fault
 abbrev pub TextsAreLexed : Type 0
 TextsAreLexed = (text : List ℕ) (ts : List Token) →
-    (Lexes 0 text ts None → lexed text ≡ Tokens (map placed ts)) × ((e : LexFault) → Lexes 0 text ts (Some e) → (at : ℕ) × (fault_place e ≡ Some at) × (lexed text ≡ Faulty at))
+    (Lexes 0 text ts None → lexed text ≡ Tokens (map placed ts))
+    × ((e : LexFault) → Lexes 0 text ts (Some e) → (at : ℕ) × (fault_place e ≡ Some at)
+    × (lexed text ≡ Faulty at))

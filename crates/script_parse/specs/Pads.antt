@@ -11,5 +11,6 @@ has_line_end (b ∷ text) = b == 10 || has_line_end text
 pub data ArePads : List ℕ → Type 0 where
   none : ArePads []
   blank : (b : ℕ) (rest : List ℕ) → is_blank b ≡ true → ArePads rest → ArePads (b ∷ rest)
-  comment : (text rest : List ℕ) → has_line_end text ≡ false → ArePads rest → ArePads (45 ∷ 45 ∷ text ++ 10 ∷ rest)
+  comment : (text rest : List ℕ) → has_line_end text ≡ false → ArePads rest
+      → ArePads (45 ∷ 45 ∷ text ++ 10 ∷ rest)
   last : (text : List ℕ) → has_line_end text ≡ false → ArePads (45 ∷ 45 ∷ text)

@@ -1,21 +1,24 @@
 -- What a text is read as: as a function, and in the words of the grammar.
-use Rattle.std.specs.Prelude.{◌≡◌, ℕ, ◌-◌, ◌≤◌, List, [], ◌∷◌, ◌++◌, length, map, get_or, Option, Some, None, Result, Ok, Err, ◌⊎◌}
-use Rattle.prima_base.specs.declared.refusals.Refusal.{Refusal}
-use Rattle.prima_base.specs.declared.refusals.Refusal.TheVariants.{Syntax, TooMany}
-use Rattle.prima_base.specs.declared.refusals.What.{What}
+use Rattle.std.specs.Prelude.{◌≡◌, ℕ, ◌-◌, ◌≤◌, List, [], ◌∷◌, ◌++◌, length, map, get_or, Option}
+use Rattle.std.specs.Prelude.{Some, None, Result, Ok, Err, ◌⊎◌}
+use Rattle.prima_base.specs.declared.refusal.Refusal.{Refusal}
+use Rattle.prima_base.specs.declared.refusal.Refusal.TheVariants.{Syntax, TooMany}
+use Rattle.prima_base.specs.declared.refusal.What.{What}
 use Rattle.lexical_grammar.specs.Lexemes.{Lexeme}
-use Rattle.parser_combinators.specs.Parsing.{Size, Out, Got, Stuck, Over, CanGoOn, Lawful, Exceeds, limit}
+use Rattle.parser_combinators.specs.Parsing.{Out, Parsed, Unexpected, LimitExceeded, CanGoOn, Valid}
+use Rattle.parser_combinators.specs.Parsing.{Exceeds, limit}
+use Rattle.parser_combinators.specs.Grammar.{Size}
 use Rattle.parser_combinators.specs.Found.{IsFirst}
-use Rattle.parser_combinators.specs.Passes.{IsFirstPass, PassesFirst}
-use Rattle.script_parse.specs.declared.statements.ReadFault.{ReadFault}
-use Rattle.script_parse.specs.declared.statements.ReadFault.TheVariants as fault
-use Rattle.script_parse.specs.declared.statements.Statement.{Statement}
+use Rattle.parser_combinators.specs.Crossings.{IsFirstCrossing, CrossingsFirst}
+use Rattle.script_parse.specs.declared.statement.ReadFault.{ReadFault}
+use Rattle.script_parse.specs.declared.statement.ReadFault.TheVariants as fault
+use Rattle.script_parse.specs.declared.statement.Statement.{Statement}
 use Rattle.script_parse.specs.Statements.{PlainStatement, statement_of}
 use Rattle.script_parse.specs.Pads.{ArePads}
 use Rattle.script_parse.specs.Lexing.{Placed, Lexed, Tokens, Faulty, lexed, saying}
 use Rattle.script_parse.specs.Productions.{IsStatement}
 use Rattle.script_parse.specs.StatementReader.{statement}
-use Rattle.script_parse.specs.StatementPasses.{statement_passes}
+use Rattle.script_parse.specs.StatementCrossings.{statement_crossings}
 
 pub data Reading : Type 0 where
   -- blanks and comments alone
@@ -26,7 +29,7 @@ pub data Reading : Type 0 where
 
 -- ---- the function
 
--- the place of the token with this number, from 0; behind the last, the end
+-- the place of the token with this number, from 0; after the last, the end
 abbrev pub place : List Placed → ℕ → ℕ → ℕ
 place tokens k end = get_or (map (λ (t : Placed). t.at) tokens) k end
 
@@ -36,10 +39,12 @@ place_before tokens left end = place tokens (length tokens - left) end
 
 -- a statement that takes all tokens, or the first token that is refused
 abbrev pub answered : List Placed → ℕ → Out PlainStatement → Reading
-answered tokens end (Got s n []) = Whole s
-answered tokens end (Got s n (x ∷ rest)) = Refused (Syntax (place_before tokens (length (x ∷ rest)) end))
-answered tokens end (Stuck n rest) = Refused (Syntax (place_before tokens (length rest) end))
-answered tokens end (Over w n rest) = Refused (TooMany w (limit w))
+answered tokens end (Parsed s n []) = Whole s
+answered tokens end (Parsed s n (x ∷ suffix)) =
+    Refused (Syntax (place_before tokens (length (x ∷ suffix)) end))
+answered tokens end (Unexpected n suffix) = Refused
+    (Syntax (place_before tokens (length suffix) end))
+answered tokens end (LimitExceeded w n suffix) = Refused (TooMany w (limit w))
 
 -- a lexical fault comes before all else
 abbrev pub read_as : ℕ → Lexed → Reading
@@ -64,7 +69,7 @@ Answers P (Err (fault.TooMany w most)) = P (Refused (TooMany w most))
 abbrev pub Gives : Reading → Result (Option Statement) ReadFault → Type 0
 Gives wanted found = Answers (λ r. r ≡ wanted) found
 
--- the fault of a lexical one at this place; none is want of memory
+-- the fault of a lexical one at this place; none is running out of memory
 abbrev pub IsOfPlace : Option ℕ → ReadFault → Type 0
 IsOfPlace None f = f ≡ fault.NoMemory
 IsOfPlace (Some at) f = f ≡ fault.Syntax at
@@ -73,11 +78,14 @@ IsOfPlace (Some at) f = f ≡ fault.Syntax at
 
 -- nothing is more than its limit
 abbrev pub IsWithin : Size → Type 0
-IsWithin s = (s.nodes ≤ 256) × Lawful 32 s
+IsWithin s = (s.nodes ≤ 256) × Valid 32 s
 
--- however a statement goes on behind the front and this token, it is the first at which a count passes its limit, and this count
+-- however a statement goes on after the prefix and this token, it is the first at which a count
+-- passes its limit, and this count
 abbrev pub IsTooMuch : What → List Placed → Type 0
-IsTooMuch w tokens = (front : List Lexeme) × (x : Lexeme) × (rest : List Lexeme) × (saying tokens ≡ front ++ x ∷ rest) × PassesFirst IsStatement statement_passes w front x
+IsTooMuch w tokens = (prefix : List Lexeme) × (x : Lexeme) × (suffix : List Lexeme)
+    × (saying tokens ≡ prefix ++ x ∷ suffix) × CrossingsFirst IsStatement statement_crossings w
+    prefix x
 
 -- the token at this place is the first with which no statement goes on
 abbrev pub IsWrongAt : List Placed → ℕ → Type 0
@@ -86,23 +94,28 @@ IsWrongAt tokens at = (k : ℕ) × (at ≡ place tokens k 0) × IsFirst IsStatem
 -- there are tokens, and a statement goes on with them all, but they are none
 abbrev pub IsUnfinished : List Placed → Type 0
 IsUnfinished [] = ⊥
-IsUnfinished (t ∷ tokens) = CanGoOn IsStatement (saying (t ∷ tokens)) × ((s : PlainStatement) (size : Size) → IsStatement s size (saying (t ∷ tokens)) → ⊥)
+IsUnfinished (t ∷ tokens) = CanGoOn IsStatement (saying (t ∷ tokens))
+    × ((s : PlainStatement) (size : Size) → IsStatement s size (saying (t ∷ tokens)) → ⊥)
 
 -- the first token that is wrong, or their end
 abbrev pub EndsWrong : List ℕ → List Placed → ℕ → Type 0
 EndsWrong text tokens at = IsWrongAt tokens at ⊎ ((at ≡ length text) × IsUnfinished tokens)
 
--- the first lexical fault of the text; or without one the first token that is wrong, or its end, and no count has passed its limit before
+-- the first lexical fault of the text; or without one the first token that is wrong, or its end,
+-- and no count has passed its limit before
 abbrev pub IsFaultAt : List ℕ → ℕ → Type 0
 IsFaultAt text at =
     (lexed text ≡ Faulty at) ⊎
-    ((tokens : List Placed) × (lexed text ≡ Tokens tokens) × EndsWrong text tokens at × ((w : What) → IsTooMuch w tokens → ⊥))
+    ((tokens : List Placed) × (lexed text ≡ Tokens tokens) × EndsWrong text tokens at
+    × ((w : What) → IsTooMuch w tokens → ⊥))
 
 abbrev pub IsReading : List ℕ → Reading → Type 0
 IsReading text Blank = ArePads text
-IsReading text (Whole s) = (tokens : List Placed) × (lexed text ≡ Tokens tokens) × (size : Size) × IsStatement s size (saying tokens) × IsWithin size
+IsReading text (Whole s) = (tokens : List Placed) × (lexed text ≡ Tokens tokens) × (size : Size)
+    × IsStatement s size (saying tokens) × IsWithin size
 IsReading text (Refused (Syntax at)) = IsFaultAt text at
-IsReading text (Refused (TooMany w most)) = (most ≡ limit w) × (tokens : List Placed) × (lexed text ≡ Tokens tokens) × IsTooMuch w tokens
+IsReading text (Refused (TooMany w most)) = (most ≡ limit w) × (tokens : List Placed)
+    × (lexed text ≡ Tokens tokens) × IsTooMuch w tokens
 IsReading text (Refused _) = ⊥
 
 -- ---- the laws between them
@@ -124,13 +137,19 @@ abbrev pub IsReadAs : PlainStatement → Size → Reading → Type 0
 IsReadAs s size r = (IsWithin size → r ≡ Whole s) × ((IsWithin size → ⊥) → IsExceeded size r)
 
 abbrev pub StatementsAreRead : Type 0
-StatementsAreRead = (text : List ℕ) (tokens : List Placed) (s : PlainStatement) (size : Size) → lexed text ≡ Tokens tokens → IsStatement s size (saying tokens) → IsReadAs s size (reading text)
+StatementsAreRead = (text : List ℕ) (tokens : List Placed) (s : PlainStatement) (size : Size)
+    → lexed text ≡ Tokens tokens → IsStatement s size (saying tokens)
+    → IsReadAs s size (reading text)
 
 -- refused for this count
 abbrev pub IsOver : What → Reading → Type 0
 IsOver w r = r ≡ Refused (TooMany w (limit w))
 
--- a front that passes a limit at its last token, in one statement that begins with it, is refused there, whatever stands behind it
+-- a prefix that passes a limit at its last token, in one statement that begins with it, is refused
+-- there, whatever stands after it
 abbrev pub LimitsAreKept : Type 0
-LimitsAreKept = (text : List ℕ) (w : What) (tokens : List Placed) (front rest more : List Lexeme) (x : Lexeme) (s : PlainStatement) (size : Size) (h : IsStatement s size (front ++ x ∷ more)) →
-    lexed text ≡ Tokens tokens → saying tokens ≡ front ++ x ∷ rest → IsFirstPass w (statement_passes s size (front ++ x ∷ more) h) (length front) → IsOver w (reading text)
+LimitsAreKept = (text : List ℕ) (w : What) (tokens : List Placed) (prefix suffix more : List Lexeme)
+    (x : Lexeme) (s : PlainStatement) (size : Size) (h : IsStatement s size (prefix ++ x ∷ more)) →
+    lexed text ≡ Tokens tokens → saying tokens ≡ prefix ++ x ∷ suffix
+    → IsFirstCrossing w (statement_crossings s size (prefix ++ x ∷ more) h) (length prefix)
+    → IsOver w (reading text)

@@ -1,8 +1,9 @@
--- A script as its statements, each ended by a `;` that stands neither in a text literal nor in a comment,
--- and what stands behind the last.
-use Rattle.std.specs.Prelude.{ℕ, List, [], ◌∷◌, ◌++◌, ◌==◌, ◌&&◌, ◌||◌, Bool, true, false, nat_lt, length, map, if◌then◌else◌}
-use Rattle.script_parse.specs.declared.modes.Mode.{Mode}
-use Rattle.script_parse.specs.declared.modes.Mode.TheVariants.{Plain, Dash, Quoted, Comment}
+-- A script as its statements, each ended by a `;` that stands neither in a text literal nor in a
+-- comment, and what stands after the last.
+use Rattle.std.specs.Prelude.{ℕ, List, [], ◌∷◌, ◌++◌, ◌==◌, ◌&&◌, ◌||◌, Bool, true, false, nat_lt}
+use Rattle.std.specs.Prelude.{length, map, if◌then◌else◌}
+use Rattle.script_parse.specs.declared.mode.Mode.{Mode}
+use Rattle.script_parse.specs.declared.mode.Mode.TheVariants.{Plain, Dash, Quoted, Comment}
 use Rattle.script_parse.specs.declared.splitter.Tail.{Tail}
 use Rattle.script_parse.specs.declared.splitter.Tail.TheVariants.{Clean, Unfinished, TooLong}
 
@@ -10,8 +11,9 @@ use Rattle.script_parse.specs.declared.splitter.Tail.TheVariants.{Clean, Unfinis
 abbrev pub longest_statement : ℕ
 longest_statement = 1048576
 
--- where a byte leaves a script: a quote (39) opens a text literal and closes it, so a doubled one closes it and
--- opens it again; two dashes (45) outside one open a comment, which ends at the next LF (10)
+-- where a byte leaves a script: a quote (39) opens a text literal and closes it, so a doubled one
+-- closes it and opens it again; two dashes (45) outside one open a comment, which ends at the next
+-- LF (10)
 abbrev pub next : Mode → ℕ → Mode
 next Plain b = if b == 39 then Quoted else (if b == 45 then Dash else Plain)
 next Dash b = if b == 39 then Quoted else (if b == 45 then Comment else Plain)
@@ -30,15 +32,18 @@ abbrev pub mode_after : Mode → List ℕ → Mode
 mode_after mode [] = mode
 mode_after mode (b ∷ bytes) = mode_after (next mode b) bytes
 
--- the statements of `bytes`, behind `current` of the first one, which leave the script in `mode`
+-- the statements of `bytes`, after `current` of the first one, which leave the script in `mode`
 abbrev pub statements_from : Mode → List ℕ → List ℕ → List (List ℕ)
 statements_from mode current [] = []
-statements_from mode current (b ∷ bytes) = if is_end mode b then current ∷ statements_from Plain [] bytes else statements_from (next mode b) (current ++ b ∷ []) bytes
+statements_from mode current (b ∷ bytes) = if is_end mode b
+    then current ∷ statements_from Plain [] bytes
+    else statements_from (next mode b) (current ++ b ∷ []) bytes
 
--- what stands behind the last `;`
+-- what stands after the last `;`
 abbrev pub tail_from : Mode → List ℕ → List ℕ → List ℕ
 tail_from mode current [] = current
-tail_from mode current (b ∷ bytes) = if is_end mode b then tail_from Plain [] bytes else tail_from (next mode b) (current ++ b ∷ []) bytes
+tail_from mode current (b ∷ bytes) = if is_end mode b then tail_from Plain [] bytes
+    else tail_from (next mode b) (current ++ b ∷ []) bytes
 
 abbrev pub statements_of : List ℕ → List (List ℕ)
 statements_of script = statements_from Plain [] script
@@ -50,21 +55,21 @@ abbrev pub is_too_long : List ℕ → Bool
 is_too_long statement = nat_lt longest_statement (length statement)
 
 -- what is handed on of a statement: its bytes, or that it is too long
-pub data Piece : Type 0 where
-  Whole : List ℕ → Piece
-  Skipped : Piece
+pub data StatementPart : Type 0 where
+  Whole : List ℕ → StatementPart
+  Skipped : StatementPart
 
-abbrev pub piece_of : List ℕ → Piece
+abbrev pub piece_of : List ℕ → StatementPart
 piece_of statement = if is_too_long statement then Skipped else Whole statement
 
-abbrev pub pieces_from : Mode → List ℕ → List ℕ → List Piece
+abbrev pub pieces_from : Mode → List ℕ → List ℕ → List StatementPart
 pieces_from mode current bytes = map piece_of (statements_from mode current bytes)
 
 -- a space, a tab, an LF or a CR
 abbrev pub is_blank : ℕ → Bool
 is_blank b = (b == 32 || b == 9) || (b == 10 || b == 13)
 
--- the byte is a blank, or belongs to a comment if a second dash comes behind a first
+-- the byte is a blank, or belongs to a comment if a second dash comes after a first
 abbrev pub is_quiet : Mode → ℕ → Bool
 is_quiet Plain b = is_blank b || b == 45
 is_quiet Dash b = b == 45
@@ -86,6 +91,6 @@ is_settled Comment = true
 abbrev pub is_clean : List ℕ → Bool
 is_clean tail = all_quiet Plain tail && is_settled (mode_after Plain tail)
 
--- what a script's end finds behind the last `;`
+-- what a script's end finds after the last `;`
 abbrev pub ending : List ℕ → Tail
 ending tail = if is_too_long tail then TooLong else (if is_clean tail then Clean else Unfinished)

@@ -1,13 +1,15 @@
 -- What a splitter knows of the statement that it is in.
-use Rattle.std.specs.Prelude.{◌≡◌, ℕ, ◌+◌, ◌-◌, ◌<◌, ◌≤◌, List, [], ◌∷◌, ◌++◌, Bool, false, length, drop, if◌then◌else◌}
-use Rattle.script_parse.specs.Script.{next, mode_after, all_quiet, is_too_long, Piece, Whole, Skipped, longest_statement}
-use Rattle.script_parse.specs.declared.modes.Mode.{Mode}
-use Rattle.script_parse.specs.declared.modes.Mode.TheVariants.{Plain}
+use Rattle.std.specs.Prelude.{◌≡◌, ℕ, ◌+◌, ◌-◌, ◌<◌, ◌≤◌, List, [], ◌∷◌, ◌++◌, Bool, false, length}
+use Rattle.std.specs.Prelude.{drop, if◌then◌else◌}
+use Rattle.script_parse.specs.Script.{next, mode_after, all_quiet, is_too_long, StatementPart}
+use Rattle.script_parse.specs.Script.{Whole, Skipped, longest_statement}
+use Rattle.script_parse.specs.declared.mode.Mode.{Mode}
+use Rattle.script_parse.specs.declared.mode.Mode.TheVariants.{Plain}
 use Rattle.script_parse.specs.declared.splitter.Cut.{Cut}
 use Rattle.script_parse.specs.declared.splitter.Cut.TheVariants.{More, Text, TooLong}
 
--- the bytes of the current statement, of a too long one only so many as show it; where they leave the script;
--- and whether memory ran out
+-- the bytes of the current statement, of a too long one only so many as show it; where they leave
+-- the script; and whether memory ran out
 pub record State : Type 0 where
   pub mode : Mode
   pub kept : List ℕ
@@ -22,16 +24,22 @@ keep kept byte = if is_too_long kept then kept else kept ++ byte ∷ []
 
 -- a byte that ends no statement
 abbrev pub step : State → ℕ → State
-step state byte = record { mode = next state.mode byte; kept = keep state.kept byte; spent = state.spent }
+step state byte = record {
+  mode = next state.mode byte;
+  kept = keep state.kept byte;
+  spent =
+      state.spent;
+}
 
--- what is kept of a statement that is not too long leaves the script in `mode`, and is `quiet` or not
+-- what is kept of a statement that is not too long leaves the script in `mode`, and is `quiet` or
+-- not
 pub record IsTracked (mode : Mode) (kept : List ℕ) (quiet : Bool) : Type 0 where
   pub short : length kept ≤ longest_statement + 1
   pub mode_is : is_too_long kept ≡ false → mode ≡ mode_after Plain kept
   pub quiet_is : is_too_long kept ≡ false → quiet ≡ all_quiet Plain kept
 
 -- the statement that a cut hands on
-abbrev pub found : Cut → List Piece
+abbrev pub found : Cut → List StatementPart
 found More = []
 found (Text statement) = Whole statement.items ∷ []
 found TooLong = Skipped ∷ []
@@ -40,13 +48,13 @@ found TooLong = Skipped ∷ []
 abbrev pub IsEndOf : List ℕ → List ℕ → Type 0
 IsEndOf rest bytes = rest ≡ drop (length bytes - length rest) bytes
 
--- with no cut all bytes were taken, and behind one the next statement begins
+-- with no cut all bytes were taken, and after one the next statement begins
 abbrev pub IsSettled : Cut → List ℕ → State → Type 0
 IsSettled More rest state = rest ≡ []
 IsSettled (Text statement) rest state = state ≡ fresh
 IsSettled TooLong rest state = state ≡ fresh
 
--- behind a cut fewer bytes are left
+-- after a cut fewer bytes are left
 abbrev pub IsFewer : Cut → List ℕ → List ℕ → Type 0
 IsFewer More rest bytes = Unit {0}
 IsFewer (Text statement) rest bytes = length rest < length bytes

@@ -1,26 +1,30 @@
 -- Reading statements, from left to right.
-use Rattle.std.specs.Prelude.{ℕ, zero, suc, Bool, false, if◌then◌else◌, ◌||◌, List, [], ◌∷◌, length, zip, codes}
-use Rattle.prima_base.specs.declared.refusals.What.TheVariants.{Inverse}
-use Rattle.prima_base.specs.declared.values.Value.{Value}
+use Rattle.std.specs.Prelude.{ℕ, zero, suc, Bool, false, if◌then◌else◌, ◌||◌, List, [], ◌∷◌, length}
+use Rattle.std.specs.Prelude.{zip, codes}
+use Rattle.prima_base.specs.declared.refusal.What.TheVariants.{Inverse}
+use Rattle.prima_base.specs.declared.value.Value.{Value}
 use Rattle.cond_expr.specs.Trees.{Tree, Test, always}
 use Rattle.smo_types.specs.Operators.{Operator}
 use Rattle.smo_types.specs.Changes.{PlainChange, insertion, deletion, update}
 use Rattle.smo_types.specs.Commands.{PlainBody, changing, evolving}
 use Rattle.lexical_grammar.specs.Lexemes.{Lexeme, is_word, is_sign}
-use Rattle.parser_combinators.specs.Parsing.{Parser, Arm, No, Takes, Whole, bind, pure, map_to, lead, choose, option, more, many, fresh}
-use Rattle.expr_grammar.specs.Reader.{outermost, goes_expr, goes_cond}
+use Rattle.parser_combinators.specs.Parsing.{Parser, Arm, No, Takes, Whole, bind, pure, map_to}
+use Rattle.parser_combinators.specs.Parsing.{lead, choose, option, more, many, fresh}
+use Rattle.expr_grammar.specs.Reader.{outermost, follow_expr, follow_cond}
 use Rattle.expr_grammar.specs.Constants.{name, names, moment, small, constant}
-use Rattle.expr_grammar.specs.Where.{fresh_where, goes_where}
-use Rattle.smo_parse.specs.OperatorReader.{operator, goes_operator}
+use Rattle.expr_grammar.specs.Where.{fresh_where, follow_where}
+use Rattle.smo_parse.specs.OperatorReader.{operator, follow_operator}
 use Rattle.temporal_lang.specs.QueryReader as query
-use Rattle.script_parse.specs.Statements.{PlainStatement, write, ask, explain, show_versions, show_schema, show_sizes, checkpoint}
+use Rattle.script_parse.specs.Statements.{PlainStatement, write, ask, explain, show_versions}
+use Rattle.script_parse.specs.Statements.{show_schema, show_sizes, checkpoint}
 
 -- ---- changes
 
--- so many more constants, behind one
+-- so many more constants, after one
 unfoldable pub more_constants : ℕ → Parser (List Value)
 more_constants zero = pure []
-more_constants (suc n) = lead (is_sign (codes ",")) (bind constant (λ v. map_to (λ l. v ∷ l) (more_constants n)))
+more_constants (suc n) = lead (is_sign (codes ","))
+    (bind constant (λ v. map_to (λ l. v ∷ l) (more_constants n)))
 
 unfoldable pub constants : ℕ → Parser (List Value)
 constants zero = pure []
@@ -28,29 +32,37 @@ constants (suc n) = bind constant (λ v. map_to (λ l. v ∷ l) (more_constants 
 
 -- a constant for each of these names
 unfoldable pub row : List (List ℕ) → Parser (List (List ℕ × Value))
-row ns = lead (is_sign (codes "(")) (bind (constants (length ns)) (λ l. lead (is_sign (codes ")")) (pure (zip ns l))))
+row ns = lead (is_sign (codes "(")) (bind (constants (length ns))
+    (λ l. lead (is_sign (codes ")")) (pure (zip ns l))))
 
--- behind INSERT
+-- after INSERT
 unfoldable pub insert_rest : Parser PlainChange
-insert_rest = lead (is_word (codes "INTO")) (bind name (λ t. lead (is_sign (codes "(")) (bind names (λ ns. lead (is_sign (codes ")")) (lead (is_word (codes "VALUES")) (map_to (λ l. insertion t l) (row ns)))))))
+insert_rest = lead (is_word (codes "INTO")) (bind name
+    (λ t. lead (is_sign (codes "(")) (bind names
+    (λ ns. lead (is_sign (codes ")")) (lead (is_word (codes "VALUES"))
+    (map_to (λ l. insertion t l) (row ns)))))))
 
--- behind DELETE
+-- after DELETE
 unfoldable pub delete_rest : Parser PlainChange
-delete_rest = lead (is_word (codes "FROM")) (bind name (λ t. map_to (λ c. deletion t c) (fresh_where false)))
+delete_rest = lead (is_word (codes "FROM")) (bind name
+    (λ t. map_to (λ c. deletion t c) (fresh_where false)))
 
 unfoldable pub setting : Parser (List ℕ × Tree)
-setting = bind name (λ n. lead (is_sign (codes "=")) (map_to (λ e. (n, e)) (fresh (outermost false).expr)))
+setting = bind name (λ n. lead (is_sign (codes "="))
+    (map_to (λ e. (n, e)) (fresh (outermost false).expr)))
 
 unfoldable pub settings : Parser (List (List ℕ × Tree))
 settings = bind setting (λ s. map_to (λ l. s ∷ l) (many (is_sign (codes ",")) setting))
 
--- behind UPDATE
+-- after UPDATE
 unfoldable pub update_rest : Parser PlainChange
-update_rest = bind name (λ t. lead (is_word (codes "SET")) (bind settings (λ l. map_to (λ c. update t l c) (fresh_where false))))
+update_rest = bind name (λ t. lead (is_word (codes "SET"))
+    (bind settings (λ l. map_to (λ c. update t l c) (fresh_where false))))
 
 abbrev pub change_arm : Lexeme → Arm PlainChange
 change_arm x =
-    if is_word (codes "INSERT") x then Takes insert_rest else (if is_word (codes "DELETE") x then Takes delete_rest else
+    if is_word (codes "INSERT") x then Takes insert_rest
+    else (if is_word (codes "DELETE") x then Takes delete_rest else
     (if is_word (codes "UPDATE") x then Takes update_rest else No))
 
 unfoldable pub change : Parser PlainChange
@@ -64,54 +76,58 @@ changes = bind change (λ c. map_to (λ l. c ∷ l) (many (is_word (codes "THEN"
 unfoldable pub op : Parser Operator
 op = fresh operator
 
--- behind INVERSE: eight at most
+-- after INVERSE: eight at most
 unfoldable pub ops : Parser (List Operator)
 ops = bind op (λ o. map_to (λ l. o ∷ l) (more (is_word (codes "THEN")) Inverse op 7))
 
 unfoldable pub inverse : Parser (List Operator)
 inverse = option (is_word (codes "INVERSE")) (Takes ops) []
 
--- behind EVOLVE
+-- after EVOLVE
 unfoldable pub evolve_rest : Parser PlainBody
 evolve_rest = bind op (λ o. map_to (λ l. evolving o l) inverse)
 
 -- ---- statements
 
 abbrev pub body_arm : Lexeme → Arm PlainBody
-body_arm x = if is_word (codes "EVOLVE") x then Takes evolve_rest else Whole (map_to (λ l. changing l) changes)
+body_arm x = if is_word (codes "EVOLVE") x then Takes evolve_rest
+    else Whole (map_to (λ l. changing l) changes)
 
 unfoldable pub body : Parser PlainBody
 body = choose body_arm
 
--- behind AT
+-- after AT
 unfoldable pub write_rest : Parser PlainStatement
 write_rest = bind moment (λ m. map_to (λ b. write (record { stamp = m; body = b })) body)
 
--- behind QUERY
+-- after QUERY
 unfoldable pub ask_rest : Parser PlainStatement
 ask_rest = map_to (λ q. ask q) query.ask
 
--- behind EXPLAIN
+-- after EXPLAIN
 unfoldable pub explain_rest : Parser PlainStatement
 explain_rest = lead (is_word (codes "QUERY")) (map_to (λ q. explain q) query.ask)
 
--- behind SHOW SCHEMA
+-- after SHOW SCHEMA
 unfoldable pub schema_rest : Parser PlainStatement
 schema_rest = map_to (λ version. show_schema version) small
 
 abbrev pub show_arm : Lexeme → Arm PlainStatement
 show_arm x =
-    if is_word (codes "VERSIONS") x then Takes (pure show_versions) else (if is_word (codes "SCHEMA") x then Takes schema_rest else
+    if is_word (codes "VERSIONS") x then Takes (pure show_versions)
+    else (if is_word (codes "SCHEMA") x then Takes schema_rest else
     (if is_word (codes "SIZES") x then Takes (pure show_sizes) else No))
 
--- behind SHOW
+-- after SHOW
 unfoldable pub show_rest : Parser PlainStatement
 show_rest = choose show_arm
 
 abbrev pub statement_arm : Lexeme → Arm PlainStatement
 statement_arm x =
-    if is_word (codes "AT") x then Takes write_rest else (if is_word (codes "QUERY") x then Takes ask_rest else
-    (if is_word (codes "EXPLAIN") x then Takes explain_rest else (if is_word (codes "SHOW") x then Takes show_rest else
+    if is_word (codes "AT") x then Takes write_rest
+    else (if is_word (codes "QUERY") x then Takes ask_rest else
+    (if is_word (codes "EXPLAIN") x then Takes explain_rest
+    else (if is_word (codes "SHOW") x then Takes show_rest else
     (if is_word (codes "CHECKPOINT") x then Takes (pure checkpoint) else No))))
 
 unfoldable pub statement : Parser PlainStatement
@@ -119,24 +135,24 @@ statement = choose statement_arm
 
 -- ---- what each goes on with
 
-abbrev pub goes_settings : Lexeme → Bool
-goes_settings x = is_sign (codes ",") x || goes_expr false x
+abbrev pub follow_settings : Lexeme → Bool
+follow_settings x = is_sign (codes ",") x || follow_expr false x
 
-abbrev pub goes_change : Lexeme → Bool
-goes_change x = goes_settings x || goes_where false x
+abbrev pub follow_change : Lexeme → Bool
+follow_change x = follow_settings x || follow_where false x
 
-abbrev pub goes_changes : Lexeme → Bool
-goes_changes x = is_word (codes "THEN") x || goes_change x
+abbrev pub follow_changes : Lexeme → Bool
+follow_changes x = is_word (codes "THEN") x || follow_change x
 
 -- an operator alone, and with its inverse, whose last may be a JOIN
-abbrev pub goes_ops : Lexeme → Bool
-goes_ops x = is_word (codes "THEN") x || goes_operator x
+abbrev pub follow_ops : Lexeme → Bool
+follow_ops x = is_word (codes "THEN") x || follow_operator x
 
-abbrev pub goes_evolve : Lexeme → Bool
-goes_evolve x = is_word (codes "INVERSE") x || goes_ops x
+abbrev pub follow_evolve : Lexeme → Bool
+follow_evolve x = is_word (codes "INVERSE") x || follow_ops x
 
-abbrev pub goes_body : Lexeme → Bool
-goes_body x = goes_evolve x || goes_change x
+abbrev pub follow_body : Lexeme → Bool
+follow_body x = follow_evolve x || follow_change x
 
-abbrev pub goes_statement : Lexeme → Bool
-goes_statement x = goes_body x || query.goes_ask x
+abbrev pub follow_statement : Lexeme → Bool
+follow_statement x = follow_body x || query.follow_ask x

@@ -2,8 +2,10 @@
 use Rattle.std.specs.Prelude.{ℕ}
 use Rattle.smo_types.specs.Commands.{PlainCommand, command_of}
 use Rattle.temporal_lang.specs.Queries.{PlainQuery, query_of}
-use Rattle.script_parse.specs.declared.statements.Statement.{Statement}
-use Rattle.script_parse.specs.declared.statements.Statement.TheVariants.{Write, Ask, Explain, ShowVersions, ShowSchema, ShowSizes, Checkpoint}
+use Rattle.script_parse.specs.declared.statement.Statement.{Statement}
+use Rattle.script_parse.specs.declared.statement.Statement.TheVariants.{Write, Ask, Explain}
+use Rattle.script_parse.specs.declared.statement.Statement.TheVariants.{ShowVersions, ShowSchema}
+use Rattle.script_parse.specs.declared.statement.Statement.TheVariants.{ShowSizes, Checkpoint}
 
 pub data PlainStatement : Type 0 where
   write : PlainCommand → PlainStatement

@@ -13,14 +13,15 @@ use prima_base::{Name, Value};
 use smo_ops::Change;
 use std::alloc::{AllocError, Global};
 
-// So many more constants, each behind a comma.
+// So many more constants, each after a comma.
 fn more_constants(
     alloc: Global,
     c: &mut Cursor<'_, '_>,
     list: &mut Vec<Value>,
     more: usize,
 ) -> Result<(), Stop>
-    ensures { ReadsMore (spec.more_constants more c.old.nodes (ahead c.old)) list.old.items list.new.items result c.new }
+    ensures { ReadsMore (spec.more_constants more c.old.nodes (ahead c.old)) list.old.items
+        list.new.items result c.new }
 {
     let mut left = more;
     while left > 0 {
@@ -67,7 +68,7 @@ fn row(alloc: Global, c: &mut Cursor<'_, '_>, names: Vec<Name>) -> Result<Vec<(N
     Ok(paired(alloc, names, values)?)
 }
 
-// What stands behind INSERT.
+// What stands after INSERT.
 #[tactic(auto, unfolding(crate::specs::StatementReader::insert_rest), using(parser_combinators::proofs::ReadSteps::lead_seen, parser_combinators::proofs::ReadSteps::lead_not))]
 fn insert_rest(alloc: Global, c: &mut Cursor<'_, '_>) -> Result<Change, Stop>
     ensures { Reads change_of (spec.insert_rest c.old.nodes (ahead c.old)) result c.new }
@@ -82,7 +83,7 @@ fn insert_rest(alloc: Global, c: &mut Cursor<'_, '_>) -> Result<Change, Stop>
     Ok(Change::Insert { table, cells })
 }
 
-// What stands behind DELETE.
+// What stands after DELETE.
 #[tactic(auto, unfolding(crate::specs::StatementReader::delete_rest), using(parser_combinators::proofs::ReadSteps::lead_seen, parser_combinators::proofs::ReadSteps::lead_not))]
 fn delete_rest(alloc: Global, c: &mut Cursor<'_, '_>) -> Result<Change, Stop>
     ensures { Reads change_of (spec.delete_rest c.old.nodes (ahead c.old)) result c.new }
@@ -104,13 +105,14 @@ fn setting(alloc: Global, c: &mut Cursor<'_, '_>) -> Result<(Name, Expr), Stop>
     Ok((column, expr))
 }
 
-// More of them, each behind a comma, as many as there are.
+// More of them, each after a comma, as many as there are.
 fn more_settings(
     alloc: Global,
     c: &mut Cursor<'_, '_>,
     list: &mut Vec<(Name, Expr)>,
 ) -> Result<(), Stop>
-    ensures { ReadsMore (many (is_sign (codes ",")) spec.setting c.old.nodes (ahead c.old)) (sets_of list.old.items) (sets_of list.new.items) result c.new }
+    ensures { ReadsMore (many (is_sign (codes ",")) spec.setting c.old.nodes (ahead c.old))
+        (sets_of list.old.items) (sets_of list.new.items) result c.new }
 {
     while c.sees_sign(b",") {
         c.skip();
@@ -129,7 +131,7 @@ fn settings(alloc: Global, c: &mut Cursor<'_, '_>) -> Result<Vec<(Name, Expr)>, 
     Ok(list)
 }
 
-// What stands behind UPDATE.
+// What stands after UPDATE.
 #[tactic(auto, unfolding(crate::specs::StatementReader::update_rest), using(parser_combinators::proofs::ReadSteps::lead_seen, parser_combinators::proofs::ReadSteps::lead_not))]
 fn update_rest(alloc: Global, c: &mut Cursor<'_, '_>) -> Result<Change, Stop>
     ensures { Reads change_of (spec.update_rest c.old.nodes (ahead c.old)) result c.new }
@@ -158,12 +160,13 @@ fn change(alloc: Global, c: &mut Cursor<'_, '_>) -> Result<Change, Stop>
         c.skip();
         return update_rest(alloc, c);
     }
-    Err(Stop::Stuck)
+    Err(Stop::Unexpected)
 }
 
-// More changes, each behind THEN, as many as there are.
+// More changes, each after THEN, as many as there are.
 fn more_changes(alloc: Global, c: &mut Cursor<'_, '_>, list: &mut Vec<Change>) -> Result<(), Stop>
-    ensures { ReadsMore (many (is_word (codes "THEN")) spec.change c.old.nodes (ahead c.old)) (changes_of list.old.items) (changes_of list.new.items) result c.new }
+    ensures { ReadsMore (many (is_word (codes "THEN")) spec.change c.old.nodes (ahead c.old))
+        (changes_of list.old.items) (changes_of list.new.items) result c.new }
 {
     while c.sees_word(b"THEN") {
         c.skip();

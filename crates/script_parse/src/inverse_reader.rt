@@ -1,7 +1,7 @@
 //! Reading of an operator with its inverse, from left to right.
 
 ghost use Rattle.std.specs.Prelude.{◌≡◌, ◌<◌, length, codes};
-ghost use Rattle.prima_base.specs.declared.refusals.What.TheVariants as counted;
+ghost use Rattle.prima_base.specs.declared.refusal.What.TheVariants as counted;
 ghost use Rattle.smo_types.specs.Operators.{operator_of, operators_of};
 ghost use Rattle.smo_types.specs.Commands.{body_of};
 ghost use Rattle.lexical_grammar.specs.Lexemes.{is_word};
@@ -27,9 +27,10 @@ fn op(alloc: Global, c: &mut Cursor<'_, '_>) -> Result<Op, Stop>
     found
 }
 
-// More operators behind a first, each behind THEN, seven at most.
+// More operators after a first, each after THEN, seven at most.
 fn more_ops(alloc: Global, c: &mut Cursor<'_, '_>, list: &mut Vec<Op>) -> Result<(), Stop>
-    ensures { ReadsMore (more (is_word (codes "THEN")) counted.Inverse spec.op 7 c.old.nodes (ahead c.old)) (operators_of list.old.items) (operators_of list.new.items) result c.new }
+    ensures { ReadsMore (more (is_word (codes "THEN")) counted.Inverse spec.op 7 c.old.nodes
+        (ahead c.old)) (operators_of list.old.items) (operators_of list.new.items) result c.new }
 {
     let mut left: u32 = 7;
     while c.sees_word(b"THEN") {
@@ -57,7 +58,8 @@ fn ops(alloc: Global, c: &mut Cursor<'_, '_>) -> Result<Vec<Op>, Stop>
 // The inverse; a missing one has no operators.
 #[tactic(auto, unfolding(crate::specs::StatementReader::inverse), using(parser_combinators::proofs::ReadSteps::option_not, parser_combinators::proofs::ReadSteps::option_takes))]
 fn inverse(alloc: Global, c: &mut Cursor<'_, '_>) -> Result<Vec<Op>, Stop>
-    ensures { Reads (λ v. operators_of v.items) (spec.inverse c.old.nodes (ahead c.old)) result c.new }
+    ensures { Reads (λ v. operators_of v.items) (spec.inverse c.old.nodes (ahead c.old)) result
+        c.new }
 {
     if !c.sees_word(b"INVERSE") {
         return Ok(Vec::new(alloc));
@@ -66,7 +68,7 @@ fn inverse(alloc: Global, c: &mut Cursor<'_, '_>) -> Result<Vec<Op>, Stop>
     ops(alloc, c)
 }
 
-/// What stands behind EVOLVE: an operator, and its inverse if one is named.
+/// What stands after EVOLVE: an operator, and its inverse if one is named.
 #[tactic(auto, unfolding(crate::specs::StatementReader::evolve_rest))]
 pub fn evolve_rest(alloc: Global, c: &mut Cursor<'_, '_>) -> Result<Body, Stop>
     ensures { Reads body_of (spec.evolve_rest c.old.nodes (ahead c.old)) result c.new }

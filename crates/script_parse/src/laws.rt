@@ -3,8 +3,8 @@ ghost use Rattle.script_parse.specs.Script.{is_clean, statements_of, tail_of};
 ghost use Rattle.script_parse.specs.Pads.{ArePads};
 ghost use Rattle.script_parse.specs.Joining.{joined, IsStatement, IsTail, Each};
 
-/// A script is its statements, each with a `;` behind it, and the tail; and no statement and no tail holds
-/// a `;` outside its texts and comments.
+/// A script is its statements, each with a `;` after it, and the tail; and no statement and no tail
+/// holds a `;` outside its texts and comments.
 pub fn script_is_its_statements()
     ensures joined { (script : List ℕ) → joined (statements_of script) (tail_of script) ≡ script }
     ensures statements { (script : List ℕ) → Each IsStatement (statements_of script) }
@@ -13,9 +13,11 @@ pub fn script_is_its_statements()
 
 /// Whatever statements and tail are joined are found again.
 pub fn statements_are_of_a_script()
-    ensures statements { (statements : List (List ℕ)) → (tail : List ℕ) → Each IsStatement statements → IsTail tail
+    ensures statements { (statements : List (List ℕ)) → (tail : List ℕ)
+        → Each IsStatement statements → IsTail tail
         → statements_of (joined statements tail) ≡ statements }
-    ensures tail { (statements : List (List ℕ)) → (tail : List ℕ) → Each IsStatement statements → IsTail tail
+    ensures tail { (statements : List (List ℕ)) → (tail : List ℕ) → Each IsStatement statements
+        → IsTail tail
         → tail_of (joined statements tail) ≡ tail }
 {}
 

@@ -1,15 +1,15 @@
 //! The splitter: from pieces of a script to its statements.
 
-use crate::modes::Mode;
+use crate::mode::Mode;
 use prima_base::NoMemory;
 use prima_base::limits::MAX_STATEMENT;
 use std::alloc::Global;
 use std::marker::Model;
 use std::mem;
 
-/// Cuts a script into its statements. The script comes in pieces of any sizes; the cuts depend on the
-/// joined bytes alone. A splitter keeps the current statement, and of one that is too long one byte more
-/// than the longest has.
+/// Cuts a script into its statements. The script comes in pieces of any sizes; the cuts depend on
+/// the joined bytes alone. A splitter keeps the current statement, and of one that is too long one
+/// byte more than the longest has.
 #[derive(Drop)]
 pub struct Splitter {
     alloc: Global,
@@ -40,7 +40,7 @@ pub enum Cut {
     TooLong,
 }
 
-/// What stands behind the last `;` of a script.
+/// What stands after the last `;` of a script.
 #[derive(Clone, Copy, PartialEq, Eq)]
 pub enum Tail {
     /// Blanks and comments alone: no statement.
@@ -51,9 +51,12 @@ pub enum Tail {
     TooLong,
 }
 
-ghost use Rattle.std.specs.Prelude.{◌≡◌, ◌+◌, ◌≤◌, ℕ, List, [], ◌∷◌, ◌++◌, ◌&&◌, false, true, length, IfOk, OnOk, OnErr};
-ghost use Rattle.script_parse.specs.Script.{is_end, is_too_long, longest_statement, piece_of, pieces_from, tail_from, ending, all_quiet, is_settled};
-ghost use Rattle.script_parse.specs.Splitting.{State, fresh, keep, step, found, IsEndOf, IsSettled, IsFewer, IsWithin};
+ghost use Rattle.std.specs.Prelude.{◌≡◌, ◌+◌, ◌≤◌, ℕ, List, [], ◌∷◌, ◌++◌, ◌&&◌, false, true};
+ghost use Rattle.std.specs.Prelude.{length, IfOk, OnOk, OnErr};
+ghost use Rattle.script_parse.specs.Script.{is_end, is_too_long, longest_statement, piece_of};
+ghost use Rattle.script_parse.specs.Script.{pieces_from, tail_from, ending, all_quiet, is_settled};
+ghost use Rattle.script_parse.specs.Splitting.{State, fresh, keep, step, found, IsEndOf, IsSettled};
+ghost use Rattle.script_parse.specs.Splitting.{IsFewer, IsWithin};
 
 fn is_too_long(statement: &[u8]) -> bool
     ensures { result ≡ is_too_long statement.now }
@@ -128,14 +131,16 @@ impl Splitter {
         }
     }
 
-    /// Takes the bytes up to the end of a statement, or all of them, and answers the cut and the bytes
-    /// that are left. The one error is `NoMemory`, where memory runs out; the splitter is spent then, and
-    /// answers `NoMemory` from then on.
+    /// Takes the bytes up to the end of a statement, or all of them, and answers the cut and the
+    /// bytes that are left. The one error is `NoMemory`, where memory runs out; the splitter is
+    /// spent then, and answers `NoMemory` from then on.
     #[tactic(auto, using(crate::proofs::ScriptReading::rest_is_end))]
     pub fn feed<'b>(&mut self, bytes: &'b [u8]) -> Result<(Cut, &'b [u8]), NoMemory>
-        ensures statements { (more : List ℕ) → IfOk result (λ r. pieces_from self.old.mode self.old.kept (bytes.now ++ more)
+        ensures statements { (more : List ℕ) → IfOk result
+            (λ r. pieces_from self.old.mode self.old.kept (bytes.now ++ more)
             ≡ found r.0 ++ pieces_from self.new.mode self.new.kept (r.1.now ++ more)) }
-        ensures tail { (more : List ℕ) → IfOk result (λ r. ending (tail_from self.old.mode self.old.kept (bytes.now ++ more))
+        ensures tail { (more : List ℕ) → IfOk result
+            (λ r. ending (tail_from self.old.mode self.old.kept (bytes.now ++ more))
             ≡ ending (tail_from self.new.mode self.new.kept (r.1.now ++ more))) }
         ensures rest { IfOk result (λ r. IsEndOf r.1.now bytes.now) }
         ensures fewer { IfOk result (λ r. IsFewer r.0 r.1.now bytes.now) }
@@ -161,7 +166,7 @@ impl Splitter {
         Ok((Cut::More, &bytes[bytes.len()..]))
     }
 
-    /// What stands behind the last `;` of the script whose bytes were fed. It takes no memory.
+    /// What stands after the last `;` of the script whose bytes were fed. It takes no memory.
     pub fn finish(self) -> Tail
         requires { self.spent ≡ false }
         ensures { result ≡ ending self.kept }

@@ -2,17 +2,18 @@
 
 ghost use Rattle.std.specs.Prelude.{◌≡◌, ◌≤◌, ◌<◌, ◌++◌, ◌∷◌, List, length, map};
 ghost use Rattle.smo_types.specs.Commands.{body_of};
-ghost use Rattle.prima_base.specs.declared.refusals.What.{What as Counted};
+ghost use Rattle.prima_base.specs.declared.refusal.What.{What as Counted};
 ghost use Rattle.lexical_grammar.specs.Lexemes.{Lexeme};
-ghost use Rattle.parser_combinators.specs.Parsing.{Size};
-ghost use Rattle.parser_combinators.specs.Passes.{IsFirstPass};
+ghost use Rattle.parser_combinators.specs.Grammar.{Size};
+ghost use Rattle.parser_combinators.specs.Crossings.{IsFirstCrossing};
 ghost use Rattle.parser_combinators.specs.Reads.{Reads, ahead};
-ghost use Rattle.script_parse.specs.declared.statements.ReadFault.TheVariants as fault;
+ghost use Rattle.script_parse.specs.declared.statement.ReadFault.TheVariants as fault;
 ghost use Rattle.script_parse.specs.Lexing.{Placed, Tokens, lexed, placed, saying, fault_place};
 ghost use Rattle.script_parse.specs.Statements.{PlainStatement, statement_of};
 ghost use Rattle.script_parse.specs.Productions.{IsStatement};
-ghost use Rattle.script_parse.specs.StatementPasses.{statement_passes};
-ghost use Rattle.script_parse.specs.Reading.{Answers, Gives, IsOfPlace, IsOver, IsReadAs, IsReading, Reading, place_before, read_as, reading};
+ghost use Rattle.script_parse.specs.StatementCrossings.{statement_crossings};
+ghost use Rattle.script_parse.specs.Reading.{Answers, Gives, IsOfPlace, IsOver, IsReadAs};
+ghost use Rattle.script_parse.specs.Reading.{IsReading, Reading, place_before, read_as, reading};
 ghost use Rattle.script_parse.specs.StatementReader as spec;
 
 use crate::change_reader::changes;
@@ -36,7 +37,7 @@ fn body(alloc: Global, c: &mut Cursor<'_, '_>) -> Result<Body, Stop>
     Ok(Body::Changes(list))
 }
 
-// What stands behind AT.
+// What stands after AT.
 #[tactic(auto, unfolding(crate::specs::StatementReader::write_rest))]
 fn write_rest(alloc: Global, c: &mut Cursor<'_, '_>) -> Result<Statement, Stop>
     ensures { Reads statement_of (spec.write_rest c.old.nodes (ahead c.old)) result c.new }
@@ -45,12 +46,13 @@ fn write_rest(alloc: Global, c: &mut Cursor<'_, '_>) -> Result<Statement, Stop>
     let body = body(alloc, c)?;
     match Command::new(stamp, body) {
         Some(command) => Ok(Statement::Write(command)),
-        // `moment` reads no number above 2^64 - 2, so each stamp is below FOREVER, and has a command.
+        // `moment` reads no number above 2^64 - 2, so each stamp is below FOREVER, and has a
+        // command.
         None => unreachable!(),
     }
 }
 
-// What stands behind QUERY.
+// What stands after QUERY.
 #[tactic(auto, unfolding(crate::specs::StatementReader::ask_rest))]
 fn ask_rest(alloc: Global, c: &mut Cursor<'_, '_>) -> Result<Statement, Stop>
     ensures { Reads statement_of (spec.ask_rest c.old.nodes (ahead c.old)) result c.new }
@@ -59,7 +61,7 @@ fn ask_rest(alloc: Global, c: &mut Cursor<'_, '_>) -> Result<Statement, Stop>
     Ok(Statement::Ask(query))
 }
 
-// What stands behind EXPLAIN.
+// What stands after EXPLAIN.
 #[tactic(auto, unfolding(crate::specs::StatementReader::explain_rest), using(parser_combinators::proofs::ReadSteps::lead_seen, parser_combinators::proofs::ReadSteps::lead_not))]
 fn explain_rest(alloc: Global, c: &mut Cursor<'_, '_>) -> Result<Statement, Stop>
     ensures { Reads statement_of (spec.explain_rest c.old.nodes (ahead c.old)) result c.new }
@@ -69,7 +71,7 @@ fn explain_rest(alloc: Global, c: &mut Cursor<'_, '_>) -> Result<Statement, Stop
     Ok(Statement::Explain(query))
 }
 
-// What stands behind SHOW SCHEMA.
+// What stands after SHOW SCHEMA.
 #[tactic(auto, unfolding(crate::specs::StatementReader::schema_rest))]
 fn schema_rest(c: &mut Cursor<'_, '_>) -> Result<Statement, Stop>
     ensures { Reads statement_of (spec.schema_rest c.old.nodes (ahead c.old)) result c.new }
@@ -78,7 +80,7 @@ fn schema_rest(c: &mut Cursor<'_, '_>) -> Result<Statement, Stop>
     Ok(Statement::ShowSchema(version))
 }
 
-// What stands behind SHOW.
+// What stands after SHOW.
 #[tactic(auto, unfolding(crate::specs::StatementReader::show_rest), using(parser_combinators::proofs::ReadSteps::choose_takes, parser_combinators::proofs::ReadSteps::choose_no))]
 fn show_rest(c: &mut Cursor<'_, '_>) -> Result<Statement, Stop>
     ensures { Reads statement_of (spec.show_rest c.old.nodes (ahead c.old)) result c.new }
@@ -95,7 +97,7 @@ fn show_rest(c: &mut Cursor<'_, '_>) -> Result<Statement, Stop>
         c.skip();
         return Ok(Statement::ShowSizes);
     }
-    Err(Stop::Stuck)
+    Err(Stop::Unexpected)
 }
 
 // A statement.
@@ -123,7 +125,7 @@ fn statement(alloc: Global, c: &mut Cursor<'_, '_>) -> Result<Statement, Stop>
         c.skip();
         return Ok(Statement::Checkpoint);
     }
-    Err(Stop::Stuck)
+    Err(Stop::Unexpected)
 }
 
 // The place of the token before which so many are left, or the text's end where none is.
@@ -166,7 +168,7 @@ fn read_tokens(
         }
         Err(stop) => match stop {
             Stop::NoMemory => Err(ReadFault::NoMemory),
-            Stop::Stuck => Err(ReadFault::Syntax(place_of(list, left, end))),
+            Stop::Unexpected => Err(ReadFault::Syntax(place_of(list, left, end))),
             Stop::TooMany(what) => Err(ReadFault::TooMany(what, limit_of(what))),
         },
     }
@@ -187,20 +189,28 @@ fn lexical(fault: LexFault) -> ReadFault
 
 /// The statement that a text of at most 1,048,576 bytes is; `None` exactly for blanks and comments
 /// alone. A lexical fault anywhere in the text comes first, then the first token with which no
-/// statement goes on or at which a count passes its limit; at one token `Syntax` comes first. Where the
-/// tokens run out, the place is the text's length. Each expression and condition has the limits of
-/// `parse_expr` and `parse_cond`, which begin anew in each of them, an inverse has at most eight
+/// statement goes on or at which a count passes its limit; at one token `Syntax` comes first. Where
+/// the tokens run out, the place is the text's length. Each expression and condition has the limits
+/// of `parse_expr` and `parse_cond`, which begin anew in each of them, an inverse has at most eight
 /// operators, and a query the limits of `parse_query`. `NoMemory` where memory runs out.
 pub fn next_statement(alloc: Global, text: &[u8]) -> Result<Option<Statement>, ReadFault>
     requires { length text.now ≤ 1048576 }
     // What is answered is so by the grammar, and what is so by the grammar is answered.
     ensures read { Answers (IsReading text.now) result }
     ensures one { (r : Reading) → IsReading text.now r → Gives r result }
-    // A statement within the limits is read as itself, and any other is refused for what is too much.
-    ensures only { (tokens : List Placed) (s : PlainStatement) (size : Size) → lexed text.now ≡ Tokens tokens → IsStatement s size (saying tokens) → Answers (IsReadAs s size) result }
-    // A front that passes a limit at its last token is refused there for this count, whatever stands behind it.
-    ensures over { (w : Counted) (tokens : List Placed) (front rest more : List Lexeme) (x : Lexeme) (s : PlainStatement) (size : Size) (h : IsStatement s size (front ++ x ∷ more)) → lexed text.now ≡ Tokens tokens → saying tokens ≡ front ++ x ∷ rest →
-        IsFirstPass w (statement_passes s size (front ++ x ∷ more) h) (length front) → Answers (IsOver w) result }
+    // A statement within the limits is read as itself, and any other is refused for what is too
+    // much.
+    ensures only { (tokens : List Placed) (s : PlainStatement) (size : Size)
+        → lexed text.now ≡ Tokens tokens → IsStatement s size (saying tokens)
+        → Answers (IsReadAs s size) result }
+    // A prefix that passes a limit at its last token is refused there for this count, whatever
+    // stands after it.
+    ensures over { (w : Counted) (tokens : List Placed) (prefix rest more : List Lexeme)
+        (x : Lexeme) (s : PlainStatement) (size : Size)
+        (h : IsStatement s size (prefix ++ x ∷ more)) → lexed text.now ≡ Tokens tokens
+        → saying tokens ≡ prefix ++ x ∷ rest →
+        IsFirstCrossing w (statement_crossings s size (prefix ++ x ∷ more) h) (length prefix)
+        → Answers (IsOver w) result }
     ensures exact { Gives (reading text.now) result }
 {
     match tokens(alloc, text) {

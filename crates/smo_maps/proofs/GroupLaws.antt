@@ -19,7 +19,11 @@ row_same a b e = step (row_cmp a b) refl e
     step Greater q h = absurd (cc)
 
 -- taken out and put in again with the row
-pub put_in_group : (b : Bool) (old taken back : Option Relation) (group : Relation) (row : Row) → (b ≡ true → unwrap_or old [] ≡ group)
-    → taken ≡ cond b None old → back ≡ cond b (Some (group ++ row ∷ [])) taken → unwrap_or back [] ≡ unwrap_or old [] ++ cond b (row ∷ []) []
-put_in_group true old taken back group row h e f = ap (λ (o : Option Relation). unwrap_or o []) f ∙ ap (λ (g : Relation). g ++ row ∷ []) (sym (h refl))
-put_in_group false old taken back group row h e f = ap (λ (o : Option Relation). unwrap_or o []) (f ∙ e) ∙ sym (append-nil (unwrap_or old []))
+pub put_in_group : (b : Bool) (old taken back : Option Relation) (group : Relation) (row : Row)
+    → (b ≡ true → unwrap_or old [] ≡ group)
+    → taken ≡ cond b None old → back ≡ cond b (Some (group ++ row ∷ [])) taken
+    → unwrap_or back [] ≡ unwrap_or old [] ++ cond b (row ∷ []) []
+put_in_group true old taken back group row h e f = ap (λ (o : Option Relation). unwrap_or o []) f
+    ∙ ap (λ (g : Relation). g ++ row ∷ []) (sym (h refl))
+put_in_group false old taken back group row h e f =
+    ap (λ (o : Option Relation). unwrap_or o []) (f ∙ e) ∙ sym (append-nil (unwrap_or old []))

@@ -6,7 +6,7 @@ use Rattle.prima_base.specs.Order.{row_cmp}
 use Rattle.prima_base.specs.Columns.{Column, names_of}
 use Rattle.smo_meaning.specs.OneRow.{Row, Relation}
 use Rattle.smo_meaning.specs.Making.{named}
-use Rattle.smo_maps.specs.declared.sources.Source.{Source}
+use Rattle.smo_maps.specs.declared.source.Source.{Source}
 use Rattle.smo_maps.specs.Picking.{picked_row}
 
 -- the columns that another table has too

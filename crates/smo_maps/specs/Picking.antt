@@ -1,16 +1,18 @@
 -- Where the values of a made row stand in the one or two rows that it is made of.
-use Rattle.std.specs.Prelude.{ℕ, suc, List, [], ◌∷◌, Option, Some, None, pos, is_some, slice_get, map, if◌then◌else◌}
+use Rattle.std.specs.Prelude.{ℕ, suc, List, [], ◌∷◌, Option, Some, None, pos, is_some, slice_get}
+use Rattle.std.specs.Prelude.{map, if◌then◌else◌}
 use Rattle.std.specs.Option.{unwrap_or, option_map}
-use Rattle.prima_base.specs.declared.values.Value.{Value}
-use Rattle.prima_base.specs.declared.values.Value.TheVariants.{Int}
+use Rattle.prima_base.specs.declared.value.Value.{Value}
+use Rattle.prima_base.specs.declared.value.Value.TheVariants.{Int}
 use Rattle.prima_base.specs.Columns.{Column}
 use Rattle.smo_meaning.specs.OneRow.{Row, same}
-use Rattle.smo_maps.specs.declared.sources.Source.{Source}
+use Rattle.smo_maps.specs.declared.source.Source.{Source}
 
 -- the place of the first column with the name; none where there is no such column
 abbrev pub place_of : List Column → List ℕ → Option ℕ
 place_of [] name = None
-place_of (c ∷ columns) name = if same c.0 name then Some 0 else option_map suc (place_of columns name)
+place_of (c ∷ columns) name = if same c.0 name then Some 0
+    else option_map suc (place_of columns name)
 
 -- where the columns of two rows have the name
 abbrev pub source_of : List Column → List Column → List ℕ → Source

@@ -1,8 +1,9 @@
-//! The rows of the table that ADD COLUMN makes: those of the old one with the expression's value in one column more.
+//! The rows of the table that ADD COLUMN makes: those of the old one with the expression's value in
+//! one column more.
 
 ghost use Rattle.std.specs.Prelude.{◌≡◌, [], ◌∷◌, false, IfOk, map};
 ghost use Rattle.relations.specs.Sets.{set_of};
-ghost use Rattle.prima_base.specs.declared.values.ColType.{ColType as OneType};
+ghost use Rattle.prima_base.specs.declared.value.ColType.{ColType as OneType};
 ghost use Rattle.prima_base.specs.Order.{bytes_cmp, row_cmp};
 ghost use Rattle.prima_base.specs.Columns.{names_of, AreColumns};
 ghost use Rattle.cond_expr.specs.Seen.{tree};
@@ -12,9 +13,9 @@ ghost use Rattle.smo_meaning.specs.Preconditions.{among};
 ghost use Rattle.smo_meaning.specs.Making.{with_column, image, added};
 ghost use Rattle.smo_maps.specs.Picking.{picked_row};
 
-use crate::names::names_of;
+use crate::name::names_of;
 use crate::one_row::value_over;
-use crate::sources::{Source, picked_row, sources_of};
+use crate::source::{Source, picked_row, sources_of};
 use cond_expr::Expr;
 use prima_base::{ColType, Name, NoMemory, Row};
 use smo_ops::{OwnColumns, make_set};
@@ -35,7 +36,8 @@ fn names_with(
     column: &Name,
 ) -> Result<Vec<Name>, NoMemory>
     requires { AreColumns columns.now }
-    ensures { (kind : OneType) → IfOk result (λ v. v.items ≡ names_of (with_column column.now kind columns.now)) }
+    ensures { (kind : OneType) → IfOk result (λ v.
+        v.items ≡ names_of (with_column column.now kind columns.now)) }
 {
     let mut names = names_of(alloc, columns)?;
     names.push(column.copy()?)?;
@@ -51,7 +53,8 @@ fn added_row(
     expr: &Expr,
     row: &Row,
 ) -> Result<Row, NoMemory>
-    ensures { IfOk result (λ made. made ≡ picked_row sources.now row.now (value (own_cells own.now row.now) (tree expr.now) ∷ [])) }
+    ensures { IfOk result (λ made. made ≡ picked_row sources.now row.now
+        (value (own_cells own.now row.now) (tree expr.now) ∷ [])) }
 {
     let value = value_over(alloc, own, expr, row)?;
     picked_row(alloc, sources, row.values(), &[value])
@@ -66,7 +69,8 @@ fn added_rows(
     rows: &[Row],
 ) -> Result<Vec<Row>, NoMemory>
     ensures { IfOk result (λ v. v.items ≡ set_of row_cmp (map (λ (row : OneRow).
-        picked_row sources.now row (value (own_cells columns.now row) (tree expr.now) ∷ [])) rows.now)) }
+        picked_row sources.now row (value (own_cells columns.now row) (tree expr.now) ∷ []))
+        rows.now)) }
 {
     let own = OwnColumns::new(alloc, columns)?;
     let mut added = Vec::with_capacity(alloc, rows.len())?;
@@ -85,10 +89,11 @@ pub(crate) fn with_value(
     expr: &Expr,
     rows: &[Row],
 ) -> Result<Vec<Row>, NoMemory>
-    requires lawful { AreColumns columns.now }
+    requires valid { AreColumns columns.now }
     requires new { among column.now (names_of columns.now) ≡ false }
     ensures { (kind : OneType) → IfOk result (λ v. v.items
-        ≡ image (with_column column.now kind columns.now) (added columns.now column.now (tree expr.now)) rows.now) }
+        ≡ image (with_column column.now kind columns.now)
+        (added columns.now column.now (tree expr.now)) rows.now) }
 {
     let names = names_with(alloc, columns, column)?;
     // Of the new column too only the name counts.

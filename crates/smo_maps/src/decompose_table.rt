@@ -1,4 +1,5 @@
-//! The rows of a table that DECOMPOSE TABLE makes: those of the old one in the columns that are named.
+//! The rows of a table that DECOMPOSE TABLE makes: those of the old one in the columns that are
+//! named.
 
 ghost use Rattle.std.specs.Prelude.{◌≡◌, IfOk};
 ghost use Rattle.schema_catalog.specs.Databases.{cell};
@@ -16,7 +17,8 @@ pub(crate) fn with_names(
     chosen: &[Name],
     rows: &[Row],
 ) -> Result<Vec<Row>, NoMemory>
-    ensures { IfOk result (λ v. v.items ≡ image (named chosen.now columns.now) (cell columns.now) rows.now) }
+    ensures { IfOk result (λ v. v.items ≡ image (named chosen.now columns.now) (cell columns.now)
+        rows.now) }
 {
     let kept = columns_named(alloc, columns, chosen)?;
     projection(alloc, columns, &kept, rows)

@@ -16,7 +16,8 @@ pub(crate) fn without_column(
     column: &Name,
     rows: &[Row],
 ) -> Result<Vec<Row>, NoMemory>
-    ensures { IfOk result (λ v. v.items ≡ image (without column.now columns.now) (cell columns.now) rows.now) }
+    ensures { IfOk result (λ v. v.items ≡ image (without column.now columns.now) (cell columns.now)
+        rows.now) }
 {
     let kept = columns_without(alloc, columns, column)?;
     projection(alloc, columns, &kept, rows)

@@ -1,6 +1,6 @@
-//! The rows of the table that JOIN TABLE makes: those of two tables joined. The second table's rows are grouped by their
-//! values in the common columns, and each row of the first meets those of its own group alone; with no common column there
-//! is one group.
+//! The rows of the table that JOIN TABLE makes: those of two tables joined. The second table's rows
+//! are grouped by their values in the common columns, and each row of the first meets those of its
+//! own group alone; with no common column there is one group.
 
 ghost use Rattle.std.specs.Prelude.{◌≡◌, [], ◌∷◌, ◌++◌, IfOk, OnOk, map, if◌then◌else◌};
 ghost use Rattle.std.specs.Option.{unwrap_or};
@@ -14,10 +14,10 @@ ghost use Rattle.smo_meaning.specs.Making.{join_rows};
 ghost use Rattle.smo_maps.specs.Picking.{picked_row};
 ghost use Rattle.smo_maps.specs.Keys.{common, of_key};
 
-use crate::groups::{Group, grouped};
-use crate::names::names_of;
+use crate::group::{Group, grouped};
+use crate::name::names_of;
 use crate::one_row::is_met;
-use crate::sources::{Source, picked_row, sources_of};
+use crate::source::{Source, picked_row, sources_of};
 use cond_expr::Cond;
 use prima_base::{ColType, Name, NoMemory, Row};
 use smo_ops::{OwnColumns, make_set};
@@ -25,7 +25,7 @@ use smo_schemas::{columns_named, joined_columns};
 use std::alloc::Global;
 use std::collections::BTreeMap;
 
-// Puts the row behind the others where it meets the condition.
+// Puts the row after the others where it meets the condition.
 fn push_where(met: bool, row: Row, made: &mut Vec<Row>) -> Result<(), NoMemory>
     ensures { OnOk result (made.new.items ≡ made.old.items ++ (if met then row ∷ [] else [])) }
 {
@@ -35,7 +35,8 @@ fn push_where(met: bool, row: Row, made: &mut Vec<Row>) -> Result<(), NoMemory>
     Ok(())
 }
 
-// Puts what one row of the first table makes with these of the second, and that meets the condition, behind the others.
+// Puts what one row of the first table makes with these of the second, and that meets the
+// condition, after the others.
 fn append_joined(
     alloc: Global,
     own: &OwnColumns<'_>,
@@ -46,7 +47,8 @@ fn append_joined(
     made: &mut Vec<Row>,
 ) -> Result<(), NoMemory>
     ensures { OnOk result (made.new.items ≡ made.old.items
-        ++ filter (meets own.now (test cond.now)) (map (picked_row sources.now row.now) (map (λ b. b.now) partners.now))) }
+        ++ filter (meets own.now (test cond.now))
+        (map (picked_row sources.now row.now) (map (λ b. b.now) partners.now))) }
 {
     for partner in partners {
         let joined = picked_row(alloc, sources, row.values(), partner.values())?;
@@ -68,7 +70,8 @@ fn append_partners(
     made: &mut Vec<Row>,
 ) -> Result<(), NoMemory>
     ensures { OnOk result (made.new.items ≡ made.old.items ++ filter (meets own.now (test cond.now))
-        (map (picked_row sources.now row.now) (unwrap_or (tree.get row_cmp groups.now (picked_row keys.now row.now [])) []))) }
+        (map (picked_row sources.now row.now)
+        (unwrap_or (tree.get row_cmp groups.now (picked_row keys.now row.now [])) []))) }
 {
     let key = picked_row(alloc, keys, row.values(), &[])?;
     match groups.get(&key) {
@@ -87,8 +90,10 @@ fn joined_pairs(
     first: &[Row],
     groups: &BTreeMap<Row, Group<'_>>,
 ) -> Result<Vec<Row>, NoMemory>
-    ensures { IfOk result (λ v. v.items ≡ filter (meets own.now (test cond.now)) (flat_map (λ (a : OneRow).
-        map (picked_row sources.now a) (unwrap_or (tree.get row_cmp groups.now (picked_row keys.now a [])) [])) first.now)) }
+    ensures { IfOk result (λ v. v.items ≡ filter (meets own.now (test cond.now))
+        (flat_map (λ (a : OneRow).
+        map (picked_row sources.now a) (unwrap_or
+        (tree.get row_cmp groups.now (picked_row keys.now a [])) [])) first.now)) }
 {
     let mut made = Vec::new(alloc);
     for row in first {
@@ -110,7 +115,8 @@ fn common_names(
     names_of(alloc, &common)
 }
 
-/// The rows of two tables joined: each pair that agrees on all common columns, joined, that meets the condition.
+/// The rows of two tables joined: each pair that agrees on all common columns, joined, that meets
+/// the condition.
 pub(crate) fn joined(
     alloc: Global,
     columns: &[(Name, ColType)],
@@ -119,7 +125,8 @@ pub(crate) fn joined(
     first: &[Row],
     second: &[Row],
 ) -> Result<Vec<Row>, NoMemory>
-    ensures { IfOk result (λ v. v.items ≡ join_rows columns.now others.now (test cond.now) first.now second.now) }
+    ensures { IfOk result (λ v. v.items ≡ join_rows columns.now others.now (test cond.now) first.now
+        second.now) }
 {
     let common = common_names(alloc, columns, others)?;
     let keys = sources_of(alloc, columns, &[], &common)?;

@@ -7,7 +7,7 @@ use prima_base::{NoMemory, Row};
 use smo_ops::make_set;
 use std::alloc::Global;
 
-// Puts equal rows behind the others.
+// Puts equal rows after the others.
 fn append(made: &mut Vec<Row>, rows: &[Row]) -> Result<(), NoMemory>
     ensures { OnOk result (made.new.items ≡ made.old.items ++ rows.now) }
 {

@@ -12,7 +12,7 @@ use prima_base::{ColType, Name, NoMemory, Row};
 use smo_ops::OwnColumns;
 use std::alloc::Global;
 
-// Puts an equal row behind those that meet the condition, or behind the others.
+// Puts an equal row after those that meet the condition, or after the others.
 fn push_into(met: bool, row: &Row, yes: &mut Vec<Row>, no: &mut Vec<Row>) -> Result<(), NoMemory>
     ensures yes { OnOk result (yes.new.items ≡ yes.old.items ++ (if met then row.now ∷ [] else [])) }
     ensures no { OnOk result (no.new.items ≡ no.old.items ++ (if met then [] else row.now ∷ [])) }
@@ -33,8 +33,10 @@ pub(crate) fn parted(
     cond: &Cond,
     rows: &[Row],
 ) -> Result<Carried, NoMemory>
-    ensures yes { IfOk result (λ c. c.first.items ≡ filter (meets columns.now (test cond.now)) rows.now) }
-    ensures no { IfOk result (λ c. c.second.items ≡ filter (λ row. not (meets columns.now (test cond.now) row)) rows.now) }
+    ensures yes { IfOk result (λ c. c.first.items
+        ≡ filter (meets columns.now (test cond.now)) rows.now) }
+    ensures no { IfOk result (λ c. c.second.items
+        ≡ filter (λ row. not (meets columns.now (test cond.now) row)) rows.now) }
 {
     let own = OwnColumns::new(alloc, columns)?;
     let mut yes = Vec::new(alloc);

@@ -8,15 +8,16 @@ ghost use Rattle.smo_meaning.specs.OneRow.{Row as OneRow};
 ghost use Rattle.smo_meaning.specs.Making.{image};
 ghost use Rattle.smo_maps.specs.Picking.{picked_row};
 
-use crate::names::names_of;
-use crate::sources::{Source, picked_row, sources_of};
+use crate::name::names_of;
+use crate::source::{Source, picked_row, sources_of};
 use prima_base::{ColType, Name, NoMemory, Row};
 use smo_ops::make_set;
 use std::alloc::Global;
 
 /// The relation of the rows that are picked out of rows.
 pub(crate) fn image(alloc: Global, sources: &[Source], rows: &[Row]) -> Result<Vec<Row>, NoMemory>
-    ensures { IfOk result (λ v. v.items ≡ set_of row_cmp (map (λ (row : OneRow). picked_row sources.now row []) rows.now)) }
+    ensures { IfOk result (λ v. v.items ≡ set_of row_cmp
+        (map (λ (row : OneRow). picked_row sources.now row []) rows.now)) }
 {
     let mut made = Vec::with_capacity(alloc, rows.len())?;
     for row in rows {

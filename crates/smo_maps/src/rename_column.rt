@@ -1,13 +1,14 @@
-//! The rows of the table that RENAME COLUMN makes: those of the old one with one column under another name.
+//! The rows of the table that RENAME COLUMN makes: those of the old one with one column under
+//! another name.
 
 ghost use Rattle.std.specs.Prelude.{◌≡◌, [], IfOk, map, if◌then◌else◌};
 ghost use Rattle.smo_meaning.specs.OneRow.{same};
 ghost use Rattle.smo_meaning.specs.Making.{renamed, image, moved};
 ghost use Rattle.smo_maps.specs.Picking.{source_of};
 
-use crate::names::names_of;
+use crate::name::names_of;
 use crate::projection::image;
-use crate::sources::{Source, source_of};
+use crate::source::{Source, source_of};
 use prima_base::{ColType, Name, NoMemory, Row, same_name};
 use smo_schemas::columns_renamed;
 use std::alloc::Global;
@@ -46,7 +47,8 @@ pub(crate) fn under_another_name(
     rows: &[Row],
 ) -> Result<Vec<Row>, NoMemory>
     ensures { IfOk result (λ v. v.items
-        ≡ image (renamed column.now into.now columns.now) (moved columns.now column.now into.now) rows.now) }
+        ≡ image (renamed column.now into.now columns.now) (moved columns.now column.now into.now)
+        rows.now) }
 {
     let made = columns_renamed(alloc, columns, column, into)?;
     let names = names_of(alloc, &made)?;

@@ -13,7 +13,7 @@ pub mod Insertions
 pub mod SmallTrees
 pub mod CountedOperators
 pub mod InverseLaws
-pub mod LawfulInverses
+pub mod ValidInverses
 pub mod ColumnLaws
 pub mod KeptColumns
 pub mod StepLaws

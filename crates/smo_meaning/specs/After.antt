@@ -1,24 +1,28 @@
--- What is behind an operator: the first precondition that fails, or the next schema; and its database.
-use Rattle.std.specs.Prelude.{◌≡◌, ◌<◌, ◌≤◌, ◌^◌, ℕ, List, [], ◌∷◌, Option, Some, None, Result, Ok, Err, ⊤}
+-- What is after an operator: the first precondition that fails, or the next schema; and its
+-- database.
+use Rattle.std.specs.Prelude.{◌≡◌, ◌<◌, ◌≤◌, ◌^◌, ℕ, List, [], ◌∷◌, Option, Some, None, Result, Ok}
+use Rattle.std.specs.Prelude.{Err, ⊤}
 use Rattle.std.specs.FinMap.{insert, remove, len}
-use Rattle.prima_base.specs.declared.refusals.OpRefusal.{OpRefusal}
+use Rattle.prima_base.specs.declared.refusal.OpRefusal.{OpRefusal}
 use Rattle.schema_catalog.specs.Tables.{Tables, IsSchema}
 use Rattle.schema_catalog.specs.Databases.{Database}
 use Rattle.cond_expr.specs.Sizes.{nodes_of, test_nodes}
-use Rattle.prima_base.specs.declared.faults.CallFault.{CallFault}
-use Rattle.prima_base.specs.declared.faults.CallFault.TheVariants.{Refused, NoMemory}
-use Rattle.smo_types.specs.Operators.{Operator, nop, create_table, drop_table, rename_table, copy_table, merge_table, partition_table, decompose_table, join_table, add_column, drop_column, rename_column}
+use Rattle.prima_base.specs.declared.fault.CallFault.{CallFault}
+use Rattle.prima_base.specs.declared.fault.CallFault.TheVariants.{Refused, NoMemory}
+use Rattle.smo_types.specs.Operators.{Operator, nop, create_table, drop_table, rename_table}
+use Rattle.smo_types.specs.Operators.{copy_table, merge_table, partition_table, decompose_table}
+use Rattle.smo_types.specs.Operators.{join_table, add_column, drop_column, rename_column}
 use Rattle.smo_meaning.specs.First.{first_refusal}
 use Rattle.smo_meaning.specs.Preconditions.{AreNarrow, most_tables}
-use Rattle.smo_meaning.specs.OperatorTable.{Made, line, tables_behind}
+use Rattle.smo_meaning.specs.OperatorTable.{Made, line, tables_after}
 
 -- the first precondition that fails
 abbrev pub op_fault : Tables → Operator → Option OpRefusal
 op_fault tables op = first_refusal (line tables op).preconditions
 
 -- the next schema
-abbrev pub behind : Tables → Operator → Tables
-behind tables op = tables_behind tables (line tables op).made (line tables op).consumed
+abbrev pub schema_after : Tables → Operator → Tables
+schema_after tables op = tables_after tables (line tables op).made (line tables op).consumed
 
 abbrev pub lose_all : List (List ℕ) → Database → Database
 lose_all [] db = db
@@ -35,12 +39,13 @@ carried tables op db = make_all (line tables op).made db (lose_all (line tables 
 
 -- what `after` answers
 abbrev pub IsAfter : Tables → Operator → Result Tables (CallFault OpRefusal) → Type 0
-IsAfter tables op (Ok next) = (op_fault tables op ≡ None) × (next ≡ behind tables op)
+IsAfter tables op (Ok next) = (op_fault tables op ≡ None) × (next ≡ schema_after tables op)
 IsAfter tables op (Err (Refused refusal)) = op_fault tables op ≡ Some refusal
 IsAfter tables op (Err NoMemory) = ⊤
 
--- a lawful schema: each table's columns stand in the order of their names, each once, and the limits are kept
-pub record IsLawful (tables : Tables) : Type 0 where
+-- a valid schema: each table's columns stand in the order of their names, each once, and the limits
+-- are kept
+pub record IsValid (tables : Tables) : Type 0 where
   pub schema : IsSchema tables
   pub narrow : AreNarrow tables
   pub few : len tables ≤ most_tables

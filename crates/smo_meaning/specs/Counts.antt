@@ -1,11 +1,15 @@
 -- What of a command is too many: the first count, in written order, above its limit.
 use Rattle.std.specs.Prelude.{ℕ, List, [], ◌∷◌, ◌++◌, length, take, nat_le, Option}
 use Rattle.std.specs.List.{flat_map}
-use Rattle.prima_base.specs.declared.refusals.What.{What}
-use Rattle.prima_base.specs.declared.refusals.What.TheVariants.{Nodes, Depth, Parts, Changes, Inverse}
+use Rattle.prima_base.specs.declared.refusal.What.{What}
+use Rattle.prima_base.specs.declared.refusal.What.TheVariants.{Nodes, Depth, Parts, Changes}
+use Rattle.prima_base.specs.declared.refusal.What.TheVariants.{Inverse}
 use Rattle.cond_expr.specs.Trees.{Tree, Test}
-use Rattle.cond_expr.specs.Sizes.{nodes_of, depth_of, longest_of, test_nodes, test_depth, test_longest}
-use Rattle.smo_types.specs.Operators.{Operator, nop, create_table, drop_table, rename_table, copy_table, merge_table, partition_table, decompose_table, join_table, add_column, drop_column, rename_column}
+use Rattle.cond_expr.specs.Sizes.{nodes_of, depth_of, longest_of, test_nodes, test_depth}
+use Rattle.cond_expr.specs.Sizes.{test_longest}
+use Rattle.smo_types.specs.Operators.{Operator, nop, create_table, drop_table, rename_table}
+use Rattle.smo_types.specs.Operators.{copy_table, merge_table, partition_table, decompose_table}
+use Rattle.smo_types.specs.Operators.{join_table, add_column, drop_column, rename_column}
 use Rattle.smo_types.specs.Changes.{PlainChange, insertion, deletion, update}
 use Rattle.smo_types.specs.Commands.{PlainBody, changing, evolving}
 use Rattle.smo_meaning.specs.First.{unless, first_refusal}
@@ -19,10 +23,12 @@ at_most what limit count = unless (nat_le count limit) (what, limit)
 
 -- of a tree: its nodes, then its levels, then the parts of its longest CONCAT
 abbrev pub tree_counts : Tree → List Excess
-tree_counts t = at_most Nodes 256 (nodes_of t) ∷ at_most Depth 32 (depth_of t) ∷ at_most Parts 8 (longest_of t) ∷ []
+tree_counts t = at_most Nodes 256 (nodes_of t) ∷ at_most Depth 32 (depth_of t)
+    ∷ at_most Parts 8 (longest_of t) ∷ []
 
 abbrev pub test_counts : Test → List Excess
-test_counts c = at_most Nodes 256 (test_nodes c) ∷ at_most Depth 32 (test_depth c) ∷ at_most Parts 8 (test_longest c) ∷ []
+test_counts c = at_most Nodes 256 (test_nodes c) ∷ at_most Depth 32 (test_depth c)
+    ∷ at_most Parts 8 (test_longest c) ∷ []
 
 abbrev pub set_counts : List (List ℕ × Tree) → List Excess
 set_counts sets = flat_map (λ (s : List ℕ × Tree). tree_counts s.1) sets
@@ -46,10 +52,12 @@ operator_counts (add_column c e r) = tree_counts e
 operator_counts (drop_column c r) = []
 operator_counts (rename_column b r c) = []
 
--- a member too many stands where it begins, behind those before it
+-- a member too many stands where it begins, after those before it
 abbrev pub body_counts : PlainBody → List Excess
-body_counts (changing changes) = flat_map change_counts (take 65536 changes) ++ at_most Changes 65536 (length changes) ∷ []
-body_counts (evolving op inverse) = operator_counts op ++ (flat_map operator_counts (take 8 inverse) ++ at_most Inverse 8 (length inverse) ∷ [])
+body_counts (changing changes) = flat_map change_counts (take 65536 changes)
+    ++ at_most Changes 65536 (length changes) ∷ []
+body_counts (evolving op inverse) = operator_counts op
+    ++ (flat_map operator_counts (take 8 inverse) ++ at_most Inverse 8 (length inverse) ∷ [])
 
 abbrev pub first_excess : PlainBody → Excess
 first_excess body = first_refusal (body_counts body)

@@ -17,7 +17,7 @@ pub mod Inverses
 pub mod Past
 pub mod InForce
 pub mod Accepts
-pub mod LawfulPast
-pub mod LawfulValues
+pub mod ValidPast
+pub mod ValidValues
 pub mod History
 pub mod Sizes

@@ -1,6 +1,7 @@
--- What the accepted commands have made: the versions, the last stamp, how many commands there were, and the
--- database of each moment.
-use Rattle.std.specs.Prelude.{ℕ, zero, suc, ◌+◌, List, [], ◌∷◌, ◌++◌, ◌==◌, length, Option, Some, None, nat_lt, nat_le, if◌then◌else◌}
+-- What the accepted commands have made: the versions, the last stamp, how many commands there were,
+-- and the database of each moment.
+use Rattle.std.specs.Prelude.{ℕ, zero, suc, ◌+◌, List, [], ◌∷◌, ◌++◌, ◌==◌, length, Option, Some}
+use Rattle.std.specs.Prelude.{None, nat_lt, nat_le, if◌then◌else◌}
 use Rattle.std.specs.List.{filter}
 use Rattle.std.specs.FinMap.{empty}
 use Rattle.schema_catalog.specs.Tables.{Tables}
@@ -8,7 +9,7 @@ use Rattle.schema_catalog.specs.Databases.{Database}
 use Rattle.smo_types.specs.Operators.{Operator}
 use Rattle.smo_types.specs.Commands.{PlainBody, changing, evolving, PlainCommand, PlainVersion}
 use Rattle.smo_meaning.specs.Effects.{after_each, gained, lost}
-use Rattle.smo_meaning.specs.After.{behind, carried}
+use Rattle.smo_meaning.specs.After.{schema_after, carried}
 use Rattle.smo_meaning.specs.Sizes.{Size, sizes_changed, sizes_evolved}
 
 -- from a moment on the database is this one
@@ -16,9 +17,10 @@ pub record State : Type 0 where
   pub stamp : ℕ
   pub database : Database
 
--- versions 1 to the newest; the stamp of the last accepted command; how many commands were accepted; the lifelines of the tables, by
--- first version and then name, with their sizes; and a state for moment 0 and for each later stamp at which the version or the database
--- changes, ascending
+-- versions 1 to the newest; the stamp of the last accepted command; how many commands were
+-- accepted; the lifelines of the tables, by first version and then name, with their sizes; and a
+-- state for moment 0 and for each later stamp at which the version or the database changes,
+-- ascending
 pub record Past : Type 0 where
   pub versions : List PlainVersion
   pub last : Option ℕ
@@ -38,9 +40,16 @@ no_database = empty
 
 -- nothing was accepted
 abbrev pub beginning : Past
-beginning = record { versions = []; last = None; commands = 0; sizes = []; states = a_state 0 no_database ∷ [] }
+beginning = record {
+  versions = [];
+  last = None;
+  commands = 0;
+  sizes = [];
+  states =
+      a_state 0 no_database ∷ [];
+}
 
--- the tables of version k, where these versions come behind the one with the tables `before`
+-- the tables of version k, where these versions come after the one with the tables `before`
 abbrev pub tables_from : Tables → List PlainVersion → ℕ → Tables
 tables_from before [] k = before
 tables_from before (v ∷ versions) zero = before
@@ -68,7 +77,8 @@ version_at past moment = length (begun_at moment past.versions)
 -- the database at a moment: that of the last state whose stamp is at most it
 abbrev pub database_from : Database → List State → ℕ → Database
 database_from before [] moment = before
-database_from before (s ∷ states) moment = if nat_le s.stamp moment then database_from s.database states moment else before
+database_from before (s ∷ states) moment = if nat_le s.stamp moment
+    then database_from s.database states moment else before
 
 abbrev pub database_at : Past → ℕ → Database
 database_at past moment = database_from no_database past.states moment
@@ -84,11 +94,13 @@ newest_database past = latest_from no_database past.states
 -- the states before the stamp, and from it on the database
 abbrev pub from_stamp : ℕ → Database → List State → List State
 from_stamp stamp database [] = a_state stamp database ∷ []
-from_stamp stamp database (s ∷ states) = if nat_lt s.stamp stamp then s ∷ from_stamp stamp database states else a_state stamp database ∷ []
+from_stamp stamp database (s ∷ states) = if nat_lt s.stamp stamp
+    then s ∷ from_stamp stamp database states else a_state stamp database ∷ []
 
 -- where no row is gained and none lost, the states stay
 abbrev pub if_changed : ℕ → Database → Database → List State → List State
-if_changed stamp old new states = if gained old new + lost old new == 0 then states else from_stamp stamp new states
+if_changed stamp old new states = if gained old new + lost old new == 0 then states
+    else from_stamp stamp new states
 
 -- the past with changes at a stamp
 abbrev pub changed_to : ℕ → Database → Past → Past
@@ -106,22 +118,32 @@ evolved_to version new past = record {
   versions = past.versions ++ version ∷ [];
   last = Some version.stamp;
   commands = past.commands + 1;
-  sizes = sizes_evolved (newest_tables past) version.op version.tables new (length past.versions) past.sizes;
+  sizes = sizes_evolved (newest_tables past) version.op version.tables new (length past.versions)
+      past.sizes;
   states = from_stamp version.stamp new past.states;
 }
 
 abbrev pub next_version : ℕ → Operator → List Operator → Past → PlainVersion
-next_version stamp op inverse past = record { stamp = stamp; op = op; inverse = inverse; tables = behind (newest_tables past) op }
+next_version stamp op inverse past = record {
+  stamp = stamp;
+  op = op;
+  inverse = inverse;
+  tables =
+      schema_after (newest_tables past) op;
+}
 
 -- the database from the stamp on: the newest one changed, or carried over the operator
-abbrev pub database_behind : PlainBody → Past → Database
-database_behind (changing changes) past = after_each (newest_tables past) changes (newest_database past)
-database_behind (evolving op inverse) past = carried (newest_tables past) op (newest_database past)
+abbrev pub next_database : PlainBody → Past → Database
+next_database (changing changes) past = after_each (newest_tables past) changes
+    (newest_database past)
+next_database (evolving op inverse) past = carried (newest_tables past) op (newest_database past)
 
-abbrev pub past_behind : ℕ → PlainBody → Past → Past
-past_behind stamp (changing changes) past = changed_to stamp (database_behind (changing changes) past) past
-past_behind stamp (evolving op inverse) past = evolved_to (next_version stamp op inverse past) (database_behind (evolving op inverse) past) past
+abbrev pub next_past : ℕ → PlainBody → Past → Past
+next_past stamp (changing changes) past = changed_to stamp (next_database (changing changes) past)
+    past
+next_past stamp (evolving op inverse) past = evolved_to (next_version stamp op inverse past)
+    (next_database (evolving op inverse) past) past
 
 -- the past with one command more
 abbrev pub past_with : Past → PlainCommand → Past
-past_with past command = past_behind command.stamp command.body past
+past_with past command = next_past command.stamp command.body past

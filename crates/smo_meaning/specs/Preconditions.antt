@@ -1,19 +1,24 @@
 -- What operators ask of the tables before them.
-use Rattle.std.specs.Prelude.{◌≡◌, ◌≤◌, ℕ, List, [], ◌∷◌, ◌++◌, ◌&&◌, ◌||◌, Bool, true, false, not, nat_le, length, Option, Some, None, is_none, if◌then◌else◌}
+use Rattle.std.specs.Prelude.{◌≡◌, ◌≤◌, ℕ, List, [], ◌∷◌, ◌++◌, ◌&&◌, ◌||◌, Bool, true, false, not}
+use Rattle.std.specs.Prelude.{nat_le, length, Option, Some, None, is_none, if◌then◌else◌}
 use Rattle.std.specs.List.{find, list_all, list_any}
 use Rattle.std.specs.Option.{option_map}
 use Rattle.std.specs.FinMap.{get, contains_key, len}
 use Rattle.relations.specs.Sets.{has}
-use Rattle.prima_base.specs.declared.refusals.What.TheVariants.{Tables as TABLES, Columns as COLUMNS}
-use Rattle.prima_base.specs.declared.refusals.OpRefusal.{OpRefusal}
-use Rattle.prima_base.specs.declared.refusals.OpRefusal.TheVariants.{Exists, NoTable, ColumnExists, NoColumn, ColumnsDiffer, BadCover, LastColumn, SameTable, WrongType, TooMany}
-use Rattle.prima_base.specs.declared.values.ColType.{ColType}
+use Rattle.prima_base.specs.declared.refusal.What.TheVariants.{Tables as TABLES, Columns as COLUMNS}
+use Rattle.prima_base.specs.declared.refusal.OpRefusal.{OpRefusal}
+use Rattle.prima_base.specs.declared.refusal.OpRefusal.TheVariants.{Exists, NoTable, ColumnExists}
+use Rattle.prima_base.specs.declared.refusal.OpRefusal.TheVariants.{NoColumn, ColumnsDiffer}
+use Rattle.prima_base.specs.declared.refusal.OpRefusal.TheVariants.{BadCover, LastColumn, SameTable}
+use Rattle.prima_base.specs.declared.refusal.OpRefusal.TheVariants.{WrongType, TooMany}
+use Rattle.prima_base.specs.declared.value.ColType.{ColType}
 use Rattle.prima_base.specs.Order.{bytes_cmp}
 use Rattle.prima_base.specs.Columns.{Column, names_of}
 use Rattle.schema_catalog.specs.Tables.{Tables}
 use Rattle.cond_expr.specs.Trees.{Tree, Test}
 use Rattle.cond_expr.specs.Kinds.{same_type, same_kind}
-use Rattle.cond_expr.specs.Faults.{references, test_references, first_unknown, untyped, test_untyped, first_of}
+use Rattle.cond_expr.specs.Faults.{references, test_references, first_unknown, untyped}
+use Rattle.cond_expr.specs.Faults.{test_untyped, first_of}
 use Rattle.smo_meaning.specs.First.{unless}
 use Rattle.smo_meaning.specs.OneRow.{same, own_kinds}
 
@@ -26,7 +31,8 @@ most_tables = 64
 
 -- no table has more columns
 abbrev pub AreNarrow : Tables → Type 0
-AreNarrow tables = (name : List ℕ) (columns : List Column) → get tables name ≡ Some columns → length columns ≤ most_columns
+AreNarrow tables = (name : List ℕ) (columns : List Column) → get tables name ≡ Some columns
+    → length columns ≤ most_columns
 
 abbrev pub Precondition : Type 0
 Precondition = Option OpRefusal
@@ -35,13 +41,14 @@ Precondition = Option OpRefusal
 abbrev pub among : List ℕ → List (List ℕ) → Bool
 among name names = has bytes_cmp name names
 
--- the first name that stood before, where these stand in front
-abbrev pub again_behind : List (List ℕ) → List (List ℕ) → Option (List ℕ)
-again_behind before [] = None
-again_behind before (n ∷ names) = if among n before then Some n else again_behind (before ++ n ∷ []) names
+-- the first name that stood before, where these stand in prefix
+abbrev pub again_after : List (List ℕ) → List (List ℕ) → Option (List ℕ)
+again_after before [] = None
+again_after before (n ∷ names) = if among n before then Some n
+    else again_after (before ++ n ∷ []) names
 
 abbrev pub first_again : List (List ℕ) → Option (List ℕ)
-first_again names = again_behind [] names
+first_again names = again_after [] names
 
 -- the first name that is not among the others
 abbrev pub first_not_among : List (List ℕ) → List (List ℕ) → Option (List ℕ)
@@ -94,11 +101,13 @@ alike r cs s ds = unless (same_columns cs ds) (ColumnsDiffer r s)
 
 -- the columns of one name have one type
 abbrev pub joinable : List ℕ → List Column → List ℕ → List Column → Precondition
-joinable r cs s ds = unless (list_all (λ (c : Column). is_none (type_in ds c.0) || same_kind (type_in ds c.0) (Some c.1)) cs) (ColumnsDiffer r s)
+joinable r cs s ds = unless (list_all (λ (c : Column).
+    is_none (type_in ds c.0) || same_kind (type_in ds c.0) (Some c.1)) cs) (ColumnsDiffer r s)
 
 -- two parts with a common column, so that neither is empty, which together have all columns
 abbrev pub cover : List ℕ → List Column → List (List ℕ) → List (List ℕ) → Precondition
-cover r columns xs ys = unless (list_any (λ x. among x ys) xs && list_all (λ n. among n xs || among n ys) (names_of columns)) (BadCover r)
+cover r columns xs ys = unless (list_any (λ x. among x ys) xs
+    && list_all (λ n. among n xs || among n ys) (names_of columns)) (BadCover r)
 
 abbrev pub another_column : List ℕ → List Column → Precondition
 another_column r columns = unless (nat_le 2 (length columns)) (LastColumn r)
@@ -111,7 +120,8 @@ abbrev pub typed_in : List Column → Tree → Precondition
 typed_in columns t = option_map WrongType (first_of (untyped (own_kinds columns) 0 t))
 
 abbrev pub test_known_in : List ℕ → List Column → Test → Precondition
-test_known_in r columns c = option_map (NoColumn r) (first_unknown (own_kinds columns) (test_references c))
+test_known_in r columns c = option_map (NoColumn r)
+    (first_unknown (own_kinds columns) (test_references c))
 
 abbrev pub test_typed_in : List Column → Test → Precondition
 test_typed_in columns c = option_map WrongType (first_of (test_untyped (own_kinds columns) 0 c))

@@ -4,4 +4,4 @@ pub mod SmallLaws
 pub mod ManyChanges
 pub mod PassedOn
 pub mod EffectLaws
-pub mod LawfulConstants
+pub mod ValidConstants

@@ -1,5 +1,5 @@
-pub mod OperatorGoodness
-pub mod Behind
+pub mod OperatorCorrectness
+pub mod After
 pub mod SeveralTests
 mod WorkedTexts
 mod WorkedOperators
@@ -9,7 +9,7 @@ pub mod PrintedTrees
 pub mod PrintedParts
 pub mod PrintedOperators
 pub mod PrintThenRead
-pub mod OperatorMarked
-pub mod OperatorMarkSizes
+pub mod OperatorCounted
+pub mod OperatorCountSizes
 pub mod OperatorLongest
 pub mod StillThere

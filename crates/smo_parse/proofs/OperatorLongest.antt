@@ -1,9 +1,14 @@
 -- The longest operator is read.
-use Rattle.std.proofs.Common.{◌≡◌, ℕ, suc, ◌+◌, true, false, cond, List, [], ◌∷◌, ◌++◌, length, take, codes, inl, inr, refl, sym, ap, ◌∙◌, subst, arith, length-append}
+use Rattle.std.proofs.Common.{◌≡◌, ℕ, suc, ◌+◌, true, false, cond, List, [], ◌∷◌, ◌++◌, length}
+use Rattle.std.proofs.Common.{take, codes, inl, inr, refl, sym, ap, ◌∙◌, subst, arith}
+use Rattle.std.proofs.Common.{length-append}
 use Rattle.cond_expr.specs.Trees.{Test, always}
 use Rattle.smo_types.specs.Operators.{Operator, join_table}
 use Rattle.lexical_grammar.specs.Lexemes.{Lexeme, word, is_word}
-use Rattle.parser_combinators.specs.Parsing.{Size, nothing_counted, both, Out, Got, Stuck, Over, Parser, Fine, Lawful, CanGoOn, Good, and_then, pure}
+use Rattle.parser_combinators.specs.Grammar.{Grammar}
+use Rattle.parser_combinators.specs.Parsing.{Out, Parsed, Unexpected, LimitExceeded, Parser, Fine}
+use Rattle.parser_combinators.specs.Parsing.{Valid, CanGoOn, IsCorrectParser, and_then, pure}
+use Rattle.parser_combinators.specs.Grammar.{Size, nothing_counted, both}
 use Rattle.expr_grammar.specs.Grammar as g
 use Rattle.expr_grammar.specs.Grammar.{leaf, IsCond}
 use Rattle.expr_grammar.specs.Reader.{outermost}
@@ -13,32 +18,47 @@ use Rattle.parser_combinators.proofs.Parsing.{none_both}
 use Rattle.lexical_grammar.proofs.LexemeTests.{word_exact}
 use Rattle.expr_grammar.proofs.Longest.{cond_longest}
 use Rattle.expr_grammar.specs.Where.{IsWhere, outer_where}
-use Rattle.smo_parse.specs.Productions.{IsTest, IsNop, IsCreateTable, IsDropTable, IsRenameTable, IsCopyTable, IsMergeTable, IsPartitionTable, IsDecomposeTable, IsJoinTable, IsAddColumn, IsDropColumn, IsRenameColumn, IsOperator}
-use Rattle.smo_parse.specs.OperatorReader.{operator, create_rest, drop_rest, rename_rest, copy_rest, merge_rest, partition_rest, decompose_rest, add_rest, goes_operator}
+use Rattle.smo_parse.specs.Productions.{IsTest, IsNop, IsCreateTable, IsDropTable, IsRenameTable}
+use Rattle.smo_parse.specs.Productions.{IsCopyTable, IsMergeTable, IsPartitionTable}
+use Rattle.smo_parse.specs.Productions.{IsDecomposeTable, IsJoinTable, IsAddColumn, IsDropColumn}
+use Rattle.smo_parse.specs.Productions.{IsRenameColumn, IsOperator}
+use Rattle.smo_parse.specs.OperatorReader.{operator, create_rest, drop_rest, rename_rest, copy_rest}
+use Rattle.smo_parse.specs.OperatorReader.{merge_rest, partition_rest, decompose_rest, add_rest}
+use Rattle.smo_parse.specs.OperatorReader.{follow_operator}
 use Rattle.parser_combinators.proofs.Alternatives.{stops_never}
-use Rattle.smo_parse.proofs.OperatorGoodness.{ends, create_good, drop_good, rename_good, copy_good, merge_good, partition_good, decompose_good, add_good}
-use Rattle.smo_parse.proofs.OperatorMarked.{in_join, join_run, join_tokens}
+use Rattle.smo_parse.proofs.OperatorCorrectness.{ends, create_correct, drop_correct, rename_correct}
+use Rattle.smo_parse.proofs.OperatorCorrectness.{copy_correct, merge_correct, partition_correct}
+use Rattle.smo_parse.proofs.OperatorCorrectness.{decompose_correct, add_correct}
+use Rattle.smo_parse.proofs.OperatorCounted.{in_join, join_run, join_tokens}
 
 -- it is read whatever follows
 abbrev ReadsOn : Operator → Size → List Lexeme → List Lexeme → Type 0
-ReadsOn o s front rest = Fine 32 o s 0 rest (operator 0 (front ++ rest))
+ReadsOn o s prefix rest = Fine 32 o s 0 rest (operator 0 (prefix ++ rest))
 
 -- ---- those that end by themselves, by their first words
 
-by_word : (w : List ℕ) (p : Parser Operator) (G : Operator → Size → List Lexeme → Type 0) → Good 0 32 p G ends → ((ts : List Lexeme) → operator 0 (word w ∷ ts) ≡ p 0 ts) →
-    (o : Operator) (s : Size) (front more rest : List Lexeme) → front ≡ word w ∷ more → G o s more → ReadsOn o s front rest
-by_word w p G good run o s front more rest e h =
+by_word : (w : List ℕ) (p : Parser Operator) (G : Grammar Operator) → IsCorrectParser 0 32 p G ends
+    → ((ts : List Lexeme) → operator 0 (word w ∷ ts) ≡ p 0 ts) →
+    (o : Operator) (s : Size) (prefix more rest : List Lexeme) → prefix ≡ word w ∷ more → G o s more
+    → ReadsOn o s prefix rest
+by_word w p G correct run o s prefix more rest e h =
     let P : Out Operator → Type 0 = λ out. Fine 32 o s 0 rest out in
-    subst P (sym (ap (λ l. operator 0 (l ++ rest)) e ∙ run (more ++ rest))) (good.complete 0 (omega arith) o s more rest h (stops_never rest))
+    subst P (sym (ap (λ l. operator 0 (l ++ rest)) e ∙ run (more ++ rest)))
+    (correct.complete 0 (omega arith) o s more rest h (stops_never rest))
 
-nop_on : (o : Operator) (s : Size) (front rest : List Lexeme) → IsNop o s front → ReadsOn o s front rest
+nop_on : (o : Operator) (s : Size) (prefix rest : List Lexeme) → IsNop o s prefix
+    → ReadsOn o s prefix rest
 unfolding operator
-nop_on o s front rest h =
-    let same : front ≡ word (codes "NOP") ∷ [] = h.1 ∙ ap (λ l. word (codes "NOP") ∷ l) h.2.2 in
+nop_on o s prefix rest h =
+    let same : prefix ≡ word (codes "NOP") ∷ [] = h.1 ∙ ap (λ l. word (codes "NOP") ∷ l) h.2.2 in
     let P : Out Operator → Type 0 = λ out. Fine 32 o s 0 rest out in
-    let Q : Size → Type 0 = λ u. Lawful 32 u in
-    subst P (sym (ap (λ l. operator 0 (l ++ rest)) same))
-    (sym h.2.0, refl, omega (arith, ap (λ z. z.nodes) h.2.1), subst Q (sym h.2.1) (omega arith, λ w. omega arith))
+    let Q : Size → Type 0 = λ u. Valid 32 u in
+    subst P (sym (ap (λ l. operator 0 (l ++ rest)) same)) (
+      sym h.2.0,
+      refl,
+      omega (arith, ap (λ z. z.nodes) h.2.1),
+      subst Q (sym h.2.1) (omega arith, λ w. omega arith),
+    )
 
 module _ (ts : List Lexeme) where
   unfold_create : operator 0 (word (codes "CREATE") ∷ ts) ≡ create_rest 0 ts
@@ -75,50 +95,69 @@ module _ (ts : List Lexeme) where
 
 -- ---- JOIN, whose condition may go on
 
-where_none : outer_where false 0 [] ≡ Got always 0 []
+where_none : outer_where false 0 [] ≡ Parsed always 0 []
 unfolding outer_where
 where_none = refl
 
-where_not : (x : Lexeme) (rest : List Lexeme) → is_word (codes "WHERE") x ≡ false → outer_where false 0 (x ∷ rest) ≡ Got always 0 (x ∷ rest)
+where_not : (x : Lexeme) (rest : List Lexeme) → is_word (codes "WHERE") x ≡ false
+    → outer_where false 0 (x ∷ rest) ≡ Parsed always 0 (x ∷ rest)
 unfolding outer_where
-where_not x rest f = ap (λ b. cond b ((outermost false).cond 0 rest) (Got always 0 (x ∷ rest))) f
+where_not x rest f = ap (λ b. cond b ((outermost false).cond 0 rest) (Parsed always 0 (x ∷ rest))) f
 
-where_some : (rest : List Lexeme) → outer_where false 0 (word (codes "WHERE") ∷ rest) ≡ (outermost false).cond 0 rest
+where_some : (rest : List Lexeme) → outer_where false 0 (word (codes "WHERE") ∷ rest)
+    ≡ (outermost false).cond 0 rest
 unfolding outer_where
 where_some rest = refl
 
-missing : (c : Test) (u : Size) (k rest : List Lexeme) → c ≡ always → u ≡ nothing_counted → k ≡ [] → outer_where false 0 rest ≡ Got always 0 rest → Fine 32 c u 0 rest (outer_where false 0 (k ++ rest))
+missing : (c : Test) (u : Size) (k rest : List Lexeme) → c ≡ always → u ≡ nothing_counted → k ≡ []
+    → outer_where false 0 rest ≡ Parsed always 0 rest
+    → Fine 32 c u 0 rest (outer_where false 0 (k ++ rest))
 missing c u k rest ec eu ek run =
     let P : Out Test → Type 0 = λ out. Fine 32 c u 0 rest out in
-    let Q : Size → Type 0 = λ z. Lawful 32 z in
-    subst P (sym (ap (λ l. outer_where false 0 (l ++ rest)) ek ∙ run)) (sym ec, refl, omega (arith, ap (λ z. z.nodes) eu), subst Q (sym eu) (omega arith, λ w. omega arith))
+    let Q : Size → Type 0 = λ z. Valid 32 z in
+    subst P (sym (ap (λ l. outer_where false 0 (l ++ rest)) ek ∙ run)) (
+      sym ec,
+      refl,
+      omega (arith, ap (λ z. z.nodes) eu),
+      subst Q (sym eu) (omega arith, λ w. omega arith),
+    )
 
-with_true : (x : Lexeme) → is_word (codes "WHERE") x ≡ true → IsWhere false always leaf (x ∷ word (codes "TRUE") ∷ [])
-with_true x t = inr (word (codes "TRUE") ∷ [], ap (λ y. y ∷ word (codes "TRUE") ∷ []) (word_exact (codes "WHERE") x t), g.one_conj false always leaf _ (g.one_fact false always leaf _ (g.truth false)))
+with_true : (x : Lexeme) → is_word (codes "WHERE") x ≡ true
+    → IsWhere false always leaf (x ∷ word (codes "TRUE") ∷ [])
+with_true x t = inr (
+  word (codes "TRUE") ∷ [],
+  ap (λ y. y ∷ word (codes "TRUE") ∷ []) (word_exact (codes "WHERE") x t),
+  g.one_conj false always leaf _ (g.one_fact false always leaf _ (g.truth false)),
+)
 
-take_next : {A : Type 0} (f : List A) (x : A) (rest : List A) → take (length f + 1) (f ++ x ∷ rest) ≡ f ++ x ∷ []
+take_next : {A : Type 0} (f : List A) (x : A) (rest : List A)
+    → take (length f + 1) (f ++ x ∷ rest) ≡ f ++ x ∷ []
 take_next [] x rest = refl
-take_next (y ∷ f) x rest = let e : length (y ∷ f) + 1 ≡ suc (length f + 1) = omega arith in ap (λ n. take n (y ∷ (f ++ x ∷ rest))) e ∙ ap (λ l. y ∷ l) (take_next f x rest)
+take_next (y ∷ f) x rest = let e : length (y ∷ f) + 1 ≡ suc (length f + 1) = omega arith in
+    ap (λ n. take n (y ∷ (f ++ x ∷ rest))) e ∙ ap (λ l. y ∷ l) (take_next f x rest)
 
--- with what stands behind it nothing goes on
-halts : {A : Type 0} (G : A → Size → List Lexeme → Type 0) (front : List Lexeme) (x : Lexeme) (rest : List Lexeme) → Ends G (front ++ x ∷ rest) (length front) → CanGoOn G (front ++ x ∷ []) → ⊥
-halts G front x rest e h =
+-- with what stands after it nothing goes on
+halts : {A : Type 0} (G : Grammar A) (prefix : List Lexeme) (x : Lexeme) (rest : List Lexeme)
+    → Ends G (prefix ++ x ∷ rest) (length prefix) → CanGoOn G (prefix ++ x ∷ []) → ⊥
+halts G prefix x rest e h =
     let P : List Lexeme → Type 0 = λ l. CanGoOn G l in
-    e (omega (arith, length-append front (x ∷ rest))) (subst P (sym (take_next front x rest)) h)
+    e (omega (arith, length-append prefix (x ∷ rest))) (subst P (sym (take_next prefix x rest)) h)
 
 -- another value of what was read
-mapped : {A B : Type 0} (make : A → B) (a : A) (u : Size) (rest : List Lexeme) (out : Out A) → Fine 32 a u 0 rest out → Fine 32 (make a) u 0 rest (and_then out (λ x. pure (make x)))
-mapped make a u rest (Got b m r) h = (ap make h.0, h.1, h.2, h.3)
-mapped make a u rest (Stuck c r) h = h
-mapped make a u rest (Over w c r) h = h
+mapped : {A B : Type 0} (make : A → B) (a : A) (u : Size) (rest : List Lexeme) (out : Out A)
+    → Fine 32 a u 0 rest out → Fine 32 (make a) u 0 rest (and_then out (λ x. pure (make x)))
+mapped make a u rest (Parsed b m r) h = (ap make h.0, h.1, h.2, h.3)
+mapped make a u rest (Unexpected c r) h = h
+mapped make a u rest (LimitExceeded w c r) h = h
 
-module _ (o : Operator) (s : Size) (front : List Lexeme) (h : IsJoinTable o s front) where
+module _ (o : Operator) (s : Size) (prefix : List Lexeme) (h : IsJoinTable o s prefix) where
   -- its tokens with others from the WHERE on
   abbrev with_where : List Lexeme → List Lexeme
   with_where l = in_join h.2.2.7.0 h.2.2.8.2.7.0 h.2.2.8.2.8.2.7.0 l
 
   -- another condition in its place
-  other : (c : Test) (u : Size) (l : List Lexeme) → IsWhere false c u l → (p : Operator) × (v : Size) × IsOperator p v (with_where l)
+  other : (c : Test) (u : Size) (l : List Lexeme) → IsWhere false c u l → (p : Operator)
+      × (v : Size) × IsOperator p v (with_where l)
   other c u l i =
       let r = h.2.2 in
       let q = r.8.2 in
@@ -176,7 +215,9 @@ module _ (o : Operator) (s : Size) (front : List Lexeme) (h : IsJoinTable o s fr
       )
 
   -- a longer condition would be a longer operator
-  longer : (k : List Lexeme) (x : Lexeme) → front ≡ with_where k → ((more : List Lexeme) (c : Test) (u : Size) → IsWhere false c u ((k ++ x ∷ []) ++ more) → CanGoOn IsOperator (front ++ x ∷ []))
+  longer : (k : List Lexeme) (x : Lexeme) → prefix ≡ with_where k
+      → ((more : List Lexeme) (c : Test) (u : Size) → IsWhere false c u ((k ++ x ∷ []) ++ more)
+      → CanGoOn IsOperator (prefix ++ x ∷ []))
   longer k x e more c u i =
       let j = other c u ((k ++ x ∷ []) ++ more) i in
       let P : List Lexeme → Type 0 = λ l. CanGoOn IsOperator (l ++ x ∷ []) in
@@ -187,57 +228,93 @@ module _ (o : Operator) (s : Size) (front : List Lexeme) (h : IsJoinTable o s fr
       let r = h.2.2 in
       let q = r.8.2 in
       let w = q.8.2 in
-      r.5 ∙ ap (λ z. both z r.2) r.7.2 ∙ none_both r.2 ∙ q.5 ∙ ap (λ z. both z q.2) q.7.2 ∙ none_both q.2 ∙ w.5 ∙ ap (λ z. both z w.2) w.7.2 ∙ none_both w.2
+      r.5 ∙ ap (λ z. both z r.2) r.7.2 ∙ none_both r.2 ∙ q.5 ∙ ap (λ z. both z q.2) q.7.2
+      ∙ none_both q.2 ∙ w.5 ∙ ap (λ z. both z w.2) w.7.2 ∙ none_both w.2
 
-  cond_ends : (k m : List Lexeme) → k ≡ word (codes "WHERE") ∷ m → front ≡ with_where k → (l : List Lexeme) → Ends IsOperator (front ++ l) (length front) → Ends IsTest (m ++ l) (length m)
+  cond_ends : (k m : List Lexeme) → k ≡ word (codes "WHERE") ∷ m → prefix ≡ with_where k
+      → (l : List Lexeme) → Ends IsOperator (prefix ++ l) (length prefix)
+      → Ends IsTest (m ++ l) (length m)
   cond_ends k m i w [] e some = absurd (omega (arith, some, length-append m []))
   cond_ends k m i w (x ∷ l) e some = λ can.
       let C : List Lexeme → Type 0 = λ m. CanGoOn IsTest m in
       let on = subst C (take_next m x l) can in
       let Q : List Lexeme → Type 0 = λ n. IsWhere false on.1 on.2 ((n ++ x ∷ []) ++ on.0) in
-      halts IsOperator front x l e (longer k x w on.0 on.1 on.2 (subst Q (sym i) (inr ((m ++ x ∷ []) ++ on.0, refl, on.3))))
+      halts IsOperator prefix x l e (longer k x w on.0 on.1 on.2
+      (subst Q (sym i) (inr ((m ++ x ∷ []) ++ on.0, refl, on.3))))
 
-  by_where : (c : Test) (u : Size) (k : List Lexeme) → IsWhere false c u k → front ≡ with_where k → (rest : List Lexeme) → Ends IsOperator (front ++ rest) (length front) → Fine 32 c u 0 rest (outer_where false 0 (k ++ rest))
+  by_where : (c : Test) (u : Size) (k : List Lexeme) → IsWhere false c u k → prefix ≡ with_where k
+      → (rest : List Lexeme) → Ends IsOperator (prefix ++ rest) (length prefix)
+      → Fine 32 c u 0 rest (outer_where false 0 (k ++ rest))
   by_where c u k (inl i) w [] e = missing c u k [] i.0 i.1 i.2 where_none
   by_where c u k (inl i) w (x ∷ rest) e = by_test (is_word (codes "WHERE") x)
-      (λ t. let P : List Lexeme → Type 0 = λ l. IsWhere false always leaf ((l ++ x ∷ []) ++ word (codes "TRUE") ∷ []) in
-      absurd (halts IsOperator front x rest e (longer k x w (word (codes "TRUE") ∷ []) always leaf (subst P (sym i.2) (with_true x t)))))
+      (λ t. let P : List Lexeme → Type 0 = λ l.
+      IsWhere false always leaf ((l ++ x ∷ []) ++ word (codes "TRUE") ∷ []) in
+      absurd (halts IsOperator prefix x rest e
+      (longer k x w (word (codes "TRUE") ∷ []) always leaf
+      (subst P (sym i.2) (with_true x t)))))
       (λ f. missing c u k (x ∷ rest) i.0 i.1 i.2 (where_not x rest f))
   by_where c u k (inr i) w rest e =
       let P : Out Test → Type 0 = λ out. Fine 32 c u 0 rest out in
-      subst P (sym (ap (λ l. outer_where false 0 (l ++ rest)) i.1 ∙ where_some (i.0 ++ rest))) (cond_longest false c u i.0 rest (i.0 ++ rest) refl i.2 (cond_ends k i.0 i.1 w rest e))
+      subst P (sym (ap (λ l. outer_where false 0 (l ++ rest)) i.1 ∙ where_some (i.0 ++ rest)))
+      (cond_longest false c u i.0 rest (i.0 ++ rest) refl i.2 (cond_ends k i.0 i.1 w rest e))
 
-  join_on : (rest : List Lexeme) → Ends IsOperator (front ++ rest) (length front) → ReadsOn o s front rest
+  join_on : (rest : List Lexeme) → Ends IsOperator (prefix ++ rest) (length prefix)
+      → ReadsOn o s prefix rest
   join_on rest e =
       let r = h.2.2 in
       let q = r.8.2 in
       let w = q.8.2 in
       let make : Test → Operator = λ c. join_table r.0 q.0 w.0 c in
-      let fine : Fine 32 w.8.0 w.2 0 rest (outer_where false 0 (w.4 ++ rest)) = by_where w.8.0 w.2 w.4 w.8.2 (join_tokens o s front h) rest e in
+      let fine : Fine 32 w.8.0 w.2 0 rest (outer_where false 0 (w.4 ++ rest)) =
+      by_where w.8.0 w.2 w.4 w.8.2 (join_tokens o s prefix h) rest e in
       let P : Out Operator → Type 0 = λ out. Fine 32 o s 0 rest out in
-      let Q : Size → Type 0 = λ z. Fine 32 o z 0 rest (and_then (outer_where false 0 (w.4 ++ rest)) (λ c. pure (make c))) in
-      let R : Operator → Type 0 = λ v. Fine 32 v w.2 0 rest (and_then (outer_where false 0 (w.4 ++ rest)) (λ c. pure (make c))) in
-      subst P (sym (ap (λ l. operator 0 (l ++ rest)) (join_tokens o s front h) ∙ join_run r.7.0 r.0 q.7.0 q.0 w.7.0 w.0 (w.4 ++ rest) r.7.1 q.7.1 w.7.1))
-      (subst Q (sym size_is) (subst R (sym w.8.1) (mapped make w.8.0 w.2 rest (outer_where false 0 (w.4 ++ rest)) fine)))
+      let Q : Size → Type 0 = λ z. Fine 32 o z 0 rest
+      (and_then (outer_where false 0 (w.4 ++ rest)) (λ c. pure (make c))) in
+      let R : Operator → Type 0 = λ v. Fine 32 v w.2 0 rest
+      (and_then (outer_where false 0 (w.4 ++ rest)) (λ c. pure (make c))) in
+      subst P (sym (ap (λ l. operator 0 (l ++ rest)) (join_tokens o s prefix h)
+      ∙ join_run r.7.0 r.0 q.7.0 q.0 w.7.0 w.0 (w.4 ++ rest) r.7.1 q.7.1 w.7.1))
+      (subst Q (sym size_is) (subst R (sym w.8.1)
+      (mapped make w.8.0 w.2 rest (outer_where false 0 (w.4 ++ rest)) fine)))
 
 -- ---- any operator
 
-on : (o : Operator) (s : Size) (front rest : List Lexeme) → IsOperator o s front → Ends IsOperator (front ++ rest) (length front) → ReadsOn o s front rest
-on o s front rest (inl h) e = nop_on o s front rest h
-on o s front rest (inr (inl h)) e = by_word (codes "CREATE") create_rest _ (create_good ends) unfold_create o s front h.0 rest h.1 h.2
-on o s front rest (inr (inr (inl h))) e = by_word (codes "DROP") drop_rest _ (drop_good ends) unfold_drop o s front h.0 rest h.1 (inl h.2)
-on o s front rest (inr (inr (inr (inl h)))) e = by_word (codes "RENAME") rename_rest _ (rename_good ends) unfold_rename o s front h.0 rest h.1 (inl h.2)
-on o s front rest (inr (inr (inr (inr (inl h))))) e = by_word (codes "COPY") copy_rest _ (copy_good ends) unfold_copy o s front h.0 rest h.1 h.2
-on o s front rest (inr (inr (inr (inr (inr (inl h)))))) e = by_word (codes "MERGE") merge_rest _ (merge_good ends) unfold_merge o s front h.0 rest h.1 h.2
-on o s front rest (inr (inr (inr (inr (inr (inr (inl h))))))) e = by_word (codes "PARTITION") partition_rest _ (partition_good ends) unfold_partition o s front h.0 rest h.1 h.2
-on o s front rest (inr (inr (inr (inr (inr (inr (inr (inl h)))))))) e = by_word (codes "DECOMPOSE") decompose_rest _ (decompose_good ends) unfold_decompose o s front h.0 rest h.1 h.2
-on o s front rest (inr (inr (inr (inr (inr (inr (inr (inr (inl h))))))))) e = join_on o s front h rest e
-on o s front rest (inr (inr (inr (inr (inr (inr (inr (inr (inr (inl h)))))))))) e = by_word (codes "ADD") add_rest _ (add_good ends) unfold_add o s front h.0 rest h.1 h.2
-on o s front rest (inr (inr (inr (inr (inr (inr (inr (inr (inr (inr (inl h))))))))))) e = by_word (codes "DROP") drop_rest _ (drop_good ends) unfold_drop o s front h.0 rest h.1 (inr h.2)
-on o s front rest (inr (inr (inr (inr (inr (inr (inr (inr (inr (inr (inr h))))))))))) e = by_word (codes "RENAME") rename_rest _ (rename_good ends) unfold_rename o s front h.0 rest h.1 (inr h.2)
+on : (o : Operator) (s : Size) (prefix rest : List Lexeme) → IsOperator o s prefix
+    → Ends IsOperator (prefix ++ rest) (length prefix) → ReadsOn o s prefix rest
+on o s prefix rest (inl h) e = nop_on o s prefix rest h
+on o s prefix rest (inr (inl h)) e = by_word (codes "CREATE") create_rest _ (create_correct ends)
+    unfold_create o s prefix h.0 rest h.1 h.2
+on o s prefix rest (inr (inr (inl h))) e = by_word (codes "DROP") drop_rest _ (drop_correct ends)
+    unfold_drop o s prefix h.0 rest h.1 (inl h.2)
+on o s prefix rest (inr (inr (inr (inl h)))) e =
+    by_word (codes "RENAME") rename_rest _ (rename_correct ends) unfold_rename o s prefix h.0 rest
+    h.1 (inl h.2)
+on o s prefix rest (inr (inr (inr (inr (inl h))))) e =
+    by_word (codes "COPY") copy_rest _ (copy_correct ends) unfold_copy o s prefix h.0 rest h.1 h.2
+on o s prefix rest (inr (inr (inr (inr (inr (inl h)))))) e =
+    by_word (codes "MERGE") merge_rest _ (merge_correct ends) unfold_merge o s prefix h.0 rest h.1
+    h.2
+on o s prefix rest (inr (inr (inr (inr (inr (inr (inl h))))))) e =
+    by_word (codes "PARTITION") partition_rest _ (partition_correct ends) unfold_partition o s
+    prefix h.0 rest h.1 h.2
+on o s prefix rest (inr (inr (inr (inr (inr (inr (inr (inl h)))))))) e =
+    by_word (codes "DECOMPOSE") decompose_rest _ (decompose_correct ends) unfold_decompose o s
+    prefix h.0 rest h.1 h.2
+on o s prefix rest (inr (inr (inr (inr (inr (inr (inr (inr (inl h))))))))) e =
+    join_on o s prefix h rest e
+on o s prefix rest (inr (inr (inr (inr (inr (inr (inr (inr (inr (inl h)))))))))) e =
+    by_word (codes "ADD") add_rest _ (add_correct ends) unfold_add o s prefix h.0 rest h.1 h.2
+on o s prefix rest (inr (inr (inr (inr (inr (inr (inr (inr (inr (inr (inl h))))))))))) e =
+    by_word (codes "DROP") drop_rest _ (drop_correct ends) unfold_drop o s prefix h.0 rest h.1
+    (inr h.2)
+on o s prefix rest (inr (inr (inr (inr (inr (inr (inr (inr (inr (inr (inr h))))))))))) e =
+    by_word (codes "RENAME") rename_rest _ (rename_correct ends) unfold_rename o s prefix h.0 rest
+    h.1 (inr h.2)
 
-pub operator_longest : (o : Operator) (s : Size) (front rest ts : List Lexeme) → ts ≡ front ++ rest → IsOperator o s front → Ends IsOperator ts (length front) → Fine 32 o s 0 rest (operator 0 ts)
-operator_longest o s front rest ts w h e =
-    let P : List Lexeme → Type 0 = λ l. Ends IsOperator l (length front) in
+pub operator_longest : (o : Operator) (s : Size) (prefix rest ts : List Lexeme)
+    → ts ≡ prefix ++ rest → IsOperator o s prefix → Ends IsOperator ts (length prefix)
+    → Fine 32 o s 0 rest (operator 0 ts)
+operator_longest o s prefix rest ts w h e =
+    let P : List Lexeme → Type 0 = λ l. Ends IsOperator l (length prefix) in
     let Q : List Lexeme → Type 0 = λ l. Fine 32 o s 0 rest (operator 0 l) in
-    subst Q (sym w) (on o s front rest h (subst P w e))
+    subst Q (sym w) (on o s prefix rest h (subst P w e))

@@ -1,7 +1,8 @@
--- What stood at the front of a text stands there still behind each step that keeps it.
+-- What stood at the start of a text stands there still after each step that keeps it.
 use Rattle.std.proofs.Common.{◌≡◌, ℕ, List, [], ◌∷◌, take, length}
 
-pub still_there : (a b c : List ℕ) → take (length a) b ≡ a → take (length b) c ≡ b → take (length a) c ≡ a
+pub still_there : (a b c : List ℕ) → take (length a) b ≡ a → take (length b) c ≡ b
+    → take (length a) c ≡ a
 still_there [] b c h k = cc
 still_there (x ∷ a) [] c h k = let z : [] ≡ x ∷ a = h in cc
 still_there (x ∷ a) (y ∷ b) [] h k = let z : [] ≡ y ∷ b = k in cc

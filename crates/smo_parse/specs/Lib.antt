@@ -3,4 +3,4 @@ pub mod OperatorReader
 pub mod TreeTexts
 pub mod Texts
 pub mod Printed
-pub mod OperatorMarks
+pub mod OperatorCounts

@@ -1,15 +1,18 @@
 -- Printing an operator and reading it again.
 use Rattle.std.specs.Prelude.{◌≡◌, ℕ, List, [], length, Option, None, Result, Ok, Err}
 use Rattle.cond_expr.specs.Sizes.{depth_of, test_depth}
-use Rattle.smo_types.specs.declared.ops.Op.{Op}
-use Rattle.smo_types.specs.Operators.{Operator, operator_of, nop, create_table, drop_table, rename_table, copy_table, merge_table, partition_table, decompose_table, join_table, add_column, drop_column, rename_column}
+use Rattle.smo_types.specs.declared.op.Op.{Op}
+use Rattle.smo_types.specs.Operators.{Operator, operator_of, nop, create_table, drop_table}
+use Rattle.smo_types.specs.Operators.{rename_table, copy_table, merge_table, partition_table}
+use Rattle.smo_types.specs.Operators.{decompose_table, join_table, add_column, drop_column}
+use Rattle.smo_types.specs.Operators.{rename_column}
 use Rattle.lexical_grammar.specs.declared.token.Token.{Token}
-use Rattle.lexical_grammar.specs.declared.faults.LexFault.{LexFault}
-use Rattle.parser_combinators.specs.declared.faults.ParseFault.{ParseFault}
-use Rattle.parser_combinators.specs.declared.faults.ParseFault.TheVariants as fault
+use Rattle.lexical_grammar.specs.declared.fault.LexFault.{LexFault}
+use Rattle.parser_combinators.specs.declared.fault.ParseFault.{ParseFault}
+use Rattle.parser_combinators.specs.declared.fault.ParseFault.TheVariants as fault
 use Rattle.lexical_grammar.specs.Lexed.{Lexes}
-use Rattle.parser_combinators.specs.Parsing.{Got}
-use Rattle.parser_combinators.specs.Found.{IsRead, Follows, lexemes_from}
+use Rattle.parser_combinators.specs.Parsing.{Parsed}
+use Rattle.parser_combinators.specs.Found.{IsRead, AnswersAs, lexemes_from}
 use Rattle.smo_parse.specs.Productions.{IsOperator}
 use Rattle.smo_parse.specs.OperatorReader.{operator}
 use Rattle.smo_parse.specs.Texts.{operator_text}
@@ -37,10 +40,12 @@ IsWhole o n (Err (fault.Syntax at)) = ⊥
 IsWhole o n (Err fault.RanOut) = ⊥
 IsWhole o n (Err (fault.TooMany w most)) = ⊥
 
--- Whatever tokens the operator's text has by the lexical grammar, they come without a fault and are read as this operator, with nothing
--- left; and so it is with whatever call keeps what reading operators ensures.
+-- Whatever tokens the operator's text has by the lexical grammar, they come without a fault and are
+-- read as this operator, with nothing left; and so it is with whatever call keeps what reading
+-- operators ensures.
 abbrev pub IsReadAgain : Operator → Type 0
 IsReadAgain o = (ts : List Token) (e : Option LexFault) → Lexes 0 (operator_text o) ts e →
     (e ≡ None)
-    × ((m : ℕ) × (operator 0 (lexemes_from ts 0) ≡ Got o m []))
-    × ((r : Result (Op × ℕ) ParseFault) → IsRead operator_of IsOperator ts 0 r → Follows operator_of (operator 0 (lexemes_from ts 0)) ts r → IsWhole o (length ts) r)
+    × ((m : ℕ) × (operator 0 (lexemes_from ts 0) ≡ Parsed o m []))
+    × ((r : Result (Op × ℕ) ParseFault) → IsRead operator_of IsOperator ts 0 r
+    → AnswersAs operator_of (operator 0 (lexemes_from ts 0)) ts r → IsWhole o (length ts) r)

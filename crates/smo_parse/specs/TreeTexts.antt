@@ -1,13 +1,16 @@
 -- The canonical texts of expressions and conditions, byte for byte.
-use Rattle.std.specs.Prelude.{ℕ, Bool, true, false, List, [], ◌∷◌, ◌++◌, ◌==◌, codes, decimal, if◌then◌else◌}
+use Rattle.std.specs.Prelude.{ℕ, Bool, true, false, List, [], ◌∷◌, ◌++◌, ◌==◌, codes, decimal}
+use Rattle.std.specs.Prelude.{if◌then◌else◌}
 use Rattle.std.specs.Fmt.{signed_decimal}
-use Rattle.prima_base.specs.declared.values.Value.{Value}
-use Rattle.prima_base.specs.declared.values.Value.TheVariants.{Int, Text}
-use Rattle.cond_expr.specs.declared.exprs.Whose.{Whose}
-use Rattle.cond_expr.specs.declared.exprs.Whose.TheVariants.{Free, Alias, Atom}
-use Rattle.cond_expr.specs.declared.exprs.CmpOp.{CmpOp}
-use Rattle.cond_expr.specs.declared.exprs.CmpOp.TheVariants.{Eq, Ne, Lt, Le, Gt, Ge}
-use Rattle.cond_expr.specs.Trees.{Tree, Trees, Test, Tests, column, constant, length_of, joined, choose, no_trees, a_tree, never, always, compared, all_of, some_of, fails, no_tests, a_test}
+use Rattle.prima_base.specs.declared.value.Value.{Value}
+use Rattle.prima_base.specs.declared.value.Value.TheVariants.{Int, Text}
+use Rattle.cond_expr.specs.declared.expr.Whose.{Whose}
+use Rattle.cond_expr.specs.declared.expr.Whose.TheVariants.{Free, Alias, Atom}
+use Rattle.cond_expr.specs.declared.expr.CmpOp.{CmpOp}
+use Rattle.cond_expr.specs.declared.expr.CmpOp.TheVariants.{Eq, Ne, Lt, Le, Gt, Ge}
+use Rattle.cond_expr.specs.Trees.{Tree, Trees, Test, Tests, column, constant, length_of, joined}
+use Rattle.cond_expr.specs.Trees.{choose, no_trees, a_tree, never, always, compared, all_of}
+use Rattle.cond_expr.specs.Trees.{some_of, fails, no_tests, a_test}
 
 -- each quote is doubled
 abbrev pub doubled : List ℕ → List ℕ
@@ -47,14 +50,15 @@ abbrev mutual
   tree_text q (constant v) = value_text v
   tree_text q (length_of t) = codes "LENGTH(" ++ tree_text q t ++ codes ")"
   tree_text q (joined ts) = codes "CONCAT(" ++ trees_text q ts ++ codes ")"
-  tree_text q (choose c a b) = codes "CASE WHEN " ++ test_text q false c ++ codes " THEN " ++ tree_text q a ++ codes " ELSE " ++ tree_text q b ++ codes " END"
+  tree_text q (choose c a b) = codes "CASE WHEN " ++ test_text q false c ++ codes " THEN "
+      ++ tree_text q a ++ codes " ELSE " ++ tree_text q b ++ codes " END"
 
   -- with commas between them
   pub trees_text : Bool → Trees → List ℕ
   trees_text q no_trees = []
   trees_text q (a_tree t ts) = tree_text q t ++ more_trees_text q ts
 
-  -- each behind a comma
+  -- each after a comma
   pub more_trees_text : Bool → Trees → List ℕ
   more_trees_text q no_trees = []
   more_trees_text q (a_tree t ts) = codes ", " ++ tree_text q t ++ more_trees_text q ts
@@ -62,7 +66,8 @@ abbrev mutual
   pub test_text : Bool → Bool → Test → List ℕ
   test_text q part never = codes "FALSE"
   test_text q part always = codes "TRUE"
-  test_text q part (compared o a b) = tree_text q a ++ codes " " ++ sign_text o ++ codes " " ++ tree_text q b
+  test_text q part (compared o a b) = tree_text q a ++ codes " " ++ sign_text o ++ codes " "
+      ++ tree_text q b
   test_text q part (all_of cs) = bracketed part (tests_text q (codes "TRUE") (codes " AND ") cs)
   test_text q part (some_of cs) = bracketed part (tests_text q (codes "FALSE") (codes " OR ") cs)
   test_text q part (fails c) = codes "NOT " ++ test_text q true c
@@ -71,9 +76,10 @@ abbrev mutual
   pub tests_text : Bool → List ℕ → List ℕ → Tests → List ℕ
   tests_text q none word no_tests = none
   tests_text q none word (a_test c no_tests) = codes "(" ++ test_text q false c ++ codes ")"
-  tests_text q none word (a_test c (a_test d cs)) = test_text q true c ++ more_tests_text q word (a_test d cs)
+  tests_text q none word (a_test c (a_test d cs)) =
+      test_text q true c ++ more_tests_text q word (a_test d cs)
 
-  -- each behind the word
+  -- each after the word
   pub more_tests_text : Bool → List ℕ → Tests → List ℕ
   more_tests_text q word no_tests = []
   more_tests_text q word (a_test c cs) = word ++ test_text q true c ++ more_tests_text q word cs

@@ -2,8 +2,11 @@
 
 ghost use Rattle.std.specs.Prelude.{◌≡◌, ◌++◌, map, OnOk, IfOk};
 ghost use Rattle.cond_expr.specs.Seen.{tree, test};
-ghost use Rattle.smo_types.specs.Operators.{operator_of, create_table, rename_table, copy_table, merge_table, partition_table, decompose_table, join_table, add_column, drop_column, rename_column};
-ghost use Rattle.smo_parse.specs.Texts.{type_text, column_text, listed, more_listed, part_text, operator_text};
+ghost use Rattle.smo_types.specs.Operators.{operator_of, create_table, rename_table, copy_table};
+ghost use Rattle.smo_types.specs.Operators.{merge_table, partition_table, decompose_table};
+ghost use Rattle.smo_types.specs.Operators.{join_table, add_column, drop_column, rename_column};
+ghost use Rattle.smo_parse.specs.Texts.{type_text, column_text, listed, more_listed, part_text};
+ghost use Rattle.smo_parse.specs.Texts.{operator_text};
 
 use crate::tree_printer::{put, write_cond, write_expr};
 use cond_expr::{Cond, Expr};
@@ -11,7 +14,7 @@ use prima_base::{ColType, Name, NoMemory};
 use smo_ops::Op;
 use std::alloc::Global;
 
-// A word, and a name behind it.
+// A word, and a name after it.
 fn put_name(out: &mut Vec<u8>, word: &[u8], name: &Name) -> Result<(), NoMemory>
     ensures { OnOk result (out.new.items ≡ out.old.items ++ (word.now ++ name.now)) }
 {
@@ -38,9 +41,10 @@ fn write_column(out: &mut Vec<u8>, name: &Name, kind: ColType) -> Result<(), NoM
     put(out, word_of(kind))
 }
 
-// Columns, each behind a comma.
+// Columns, each after a comma.
 fn write_more_columns(out: &mut Vec<u8>, columns: &[(Name, ColType)]) -> Result<(), NoMemory>
-    ensures { OnOk result (out.new.items ≡ out.old.items ++ more_listed (map column_text columns.now)) }
+    ensures { OnOk result (out.new.items ≡ out.old.items
+        ++ more_listed (map column_text columns.now)) }
 {
     for (name, kind) in columns {
         put(out, b", ")?;
@@ -49,8 +53,8 @@ fn write_more_columns(out: &mut Vec<u8>, columns: &[(Name, ColType)]) -> Result<
     Ok(())
 }
 
-/// Writes columns with commas between them, each its name and its type, behind what is there. The one
-/// error is `NoMemory`, where memory runs out.
+/// Writes columns with commas between them, each its name and its type, after what is there. The
+/// one error is `NoMemory`, where memory runs out.
 pub fn write_columns(out: &mut Vec<u8>, columns: &[(Name, ColType)]) -> Result<(), NoMemory>
     ensures { OnOk result (out.new.items ≡ out.old.items ++ listed (map column_text columns.now)) }
 {
@@ -63,7 +67,7 @@ pub fn write_columns(out: &mut Vec<u8>, columns: &[(Name, ColType)]) -> Result<(
     }
 }
 
-// Names, each behind a comma.
+// Names, each after a comma.
 fn write_more_names(out: &mut Vec<u8>, names: &[Name]) -> Result<(), NoMemory>
     ensures { OnOk result (out.new.items ≡ out.old.items ++ more_listed names.now) }
 {
@@ -73,7 +77,7 @@ fn write_more_names(out: &mut Vec<u8>, names: &[Name]) -> Result<(), NoMemory>
     Ok(())
 }
 
-/// Writes names with commas between them behind what is there. The one error is `NoMemory`, where
+/// Writes names with commas between them after what is there. The one error is `NoMemory`, where
 /// memory runs out.
 pub fn write_names(out: &mut Vec<u8>, names: &[Name]) -> Result<(), NoMemory>
     ensures { OnOk result (out.new.items ≡ out.old.items ++ listed names.now) }
@@ -89,7 +93,8 @@ pub fn write_names(out: &mut Vec<u8>, names: &[Name]) -> Result<(), NoMemory>
 
 // A table's name and, in brackets, its columns.
 fn write_table(out: &mut Vec<u8>, table: &Name, columns: &[(Name, ColType)]) -> Result<(), NoMemory>
-    ensures { OnOk result (out.new.items ≡ out.old.items ++ part_text table.now (map column_text columns.now)) }
+    ensures { OnOk result (out.new.items ≡ out.old.items
+        ++ part_text table.now (map column_text columns.now)) }
 {
     put(out, table.bytes())?;
     put(out, b" (")?;
@@ -107,7 +112,7 @@ fn write_part(out: &mut Vec<u8>, table: &Name, names: &[Name]) -> Result<(), NoM
     put(out, b")")
 }
 
-// A word and a name, and another word and name behind them.
+// A word and a name, and another word and name after them.
 fn put_names(
     out: &mut Vec<u8>,
     word: &[u8],
@@ -115,7 +120,8 @@ fn put_names(
     between: &[u8],
     second: &Name,
 ) -> Result<(), NoMemory>
-    ensures { OnOk result (out.new.items ≡ out.old.items ++ (word.now ++ first.now ++ between.now ++ second.now)) }
+    ensures { OnOk result (out.new.items ≡ out.old.items
+        ++ (word.now ++ first.now ++ between.now ++ second.now)) }
 {
     put_name(out, word, first)?;
     put_name(out, between, second)
@@ -127,7 +133,8 @@ fn write_create_table(
     table: &Name,
     columns: &[(Name, ColType)],
 ) -> Result<(), NoMemory>
-    ensures { OnOk result (out.new.items ≡ out.old.items ++ operator_text (create_table table.now columns.now)) }
+    ensures { OnOk result (out.new.items ≡ out.old.items
+        ++ operator_text (create_table table.now columns.now)) }
 {
     put(out, b"CREATE TABLE ")?;
     write_table(out, table, columns)
@@ -140,7 +147,8 @@ fn write_merge_table(
     right: &Name,
     into: &Name,
 ) -> Result<(), NoMemory>
-    ensures { OnOk result (out.new.items ≡ out.old.items ++ operator_text (merge_table left.now right.now into.now)) }
+    ensures { OnOk result (out.new.items ≡ out.old.items
+        ++ operator_text (merge_table left.now right.now into.now)) }
 {
     put_names(out, b"MERGE TABLE ", left, b", ", right)?;
     put_name(out, b" INTO ", into)
@@ -154,7 +162,8 @@ fn write_partition_table(
     cond: &Cond,
     no: &Name,
 ) -> Result<(), NoMemory>
-    ensures { OnOk result (out.new.items ≡ out.old.items ++ operator_text (partition_table table.now yes.now (test cond.now) no.now)) }
+    ensures { OnOk result (out.new.items ≡ out.old.items
+        ++ operator_text (partition_table table.now yes.now (test cond.now) no.now)) }
 {
     put_names(out, b"PARTITION TABLE ", table, b" INTO ", yes)?;
     put(out, b" WITH ")?;
@@ -171,7 +180,9 @@ fn write_decompose_table(
     right: &Name,
     right_columns: &[Name],
 ) -> Result<(), NoMemory>
-    ensures { OnOk result (out.new.items ≡ out.old.items ++ operator_text (decompose_table table.now left.now left_columns.now right.now right_columns.now)) }
+    ensures { OnOk result (out.new.items ≡ out.old.items
+        ++ operator_text (decompose_table table.now left.now left_columns.now right.now
+        right_columns.now)) }
 {
     put_name(out, b"DECOMPOSE TABLE ", table)?;
     put(out, b" INTO ")?;
@@ -188,7 +199,8 @@ fn write_join_table(
     into: &Name,
     cond: &Cond,
 ) -> Result<(), NoMemory>
-    ensures { OnOk result (out.new.items ≡ out.old.items ++ operator_text (join_table left.now right.now into.now (test cond.now))) }
+    ensures { OnOk result (out.new.items ≡ out.old.items
+        ++ operator_text (join_table left.now right.now into.now (test cond.now))) }
 {
     put_names(out, b"JOIN TABLE ", left, b", ", right)?;
     put_name(out, b" INTO ", into)?;
@@ -203,7 +215,8 @@ fn write_add_column(
     expr: &Expr,
     table: &Name,
 ) -> Result<(), NoMemory>
-    ensures { OnOk result (out.new.items ≡ out.old.items ++ operator_text (add_column column.now (tree expr.now) table.now)) }
+    ensures { OnOk result (out.new.items ≡ out.old.items
+        ++ operator_text (add_column column.now (tree expr.now) table.now)) }
 {
     put_name(out, b"ADD COLUMN ", column)?;
     put(out, b" AS ")?;
@@ -218,7 +231,8 @@ fn write_rename_column(
     table: &Name,
     into: &Name,
 ) -> Result<(), NoMemory>
-    ensures { OnOk result (out.new.items ≡ out.old.items ++ operator_text (rename_column column.now table.now into.now)) }
+    ensures { OnOk result (out.new.items ≡ out.old.items
+        ++ operator_text (rename_column column.now table.now into.now)) }
 {
     put_names(out, b"RENAME COLUMN ", column, b" IN ", table)?;
     put_name(out, b" TO ", into)
@@ -271,9 +285,9 @@ fn write_op(out: &mut Vec<u8>, op: &Op) -> Result<(), NoMemory>
     }
 }
 
-/// An operator's canonical text: one space between words and operands, `, ` between the members of a list, a
-/// JOIN with its WHERE always. Columns of the table that an expression or a condition is over stand by
-/// their names alone. The one error is `NoMemory`, where memory runs out.
+/// An operator's canonical text: one space between words and operands, `, ` between the members of
+/// a list, a JOIN with its WHERE always. Columns of the table that an expression or a condition is
+/// over stand by their names alone. The one error is `NoMemory`, where memory runs out.
 pub fn op_text(alloc: Global, op: &Op) -> Result<Vec<u8>, NoMemory>
     ensures { IfOk result (λ v. v.items ≡ operator_text (operator_of op.now)) }
 {

@@ -26,7 +26,7 @@ fn column_type(c: &mut Cursor<'_, '_>) -> Result<ColType, Stop>
         c.skip();
         return Ok(ColType::Text);
     }
-    Err(Stop::Stuck)
+    Err(Stop::Unexpected)
 }
 
 // A column's name and its type.
@@ -39,13 +39,14 @@ fn column(alloc: Global, c: &mut Cursor<'_, '_>) -> Result<(Name, ColType), Stop
     Ok((column, kind))
 }
 
-// More columns, each behind a comma, as many as there are.
+// More columns, each after a comma, as many as there are.
 fn more_columns(
     alloc: Global,
     c: &mut Cursor<'_, '_>,
     list: &mut Vec<(Name, ColType)>,
 ) -> Result<(), Stop>
-    ensures { ReadsMore (many (is_sign (codes ",")) spec.column c.old.nodes (ahead c.old)) list.old.items list.new.items result c.new }
+    ensures { ReadsMore (many (is_sign (codes ",")) spec.column c.old.nodes (ahead c.old))
+        list.old.items list.new.items result c.new }
 {
     while c.sees_sign(b",") {
         c.skip();
@@ -77,7 +78,7 @@ fn part(alloc: Global, c: &mut Cursor<'_, '_>) -> Result<(Name, Vec<Name>), Stop
     Ok((table, columns))
 }
 
-// What stands behind CREATE.
+// What stands after CREATE.
 #[tactic(auto, unfolding(crate::specs::OperatorReader::create_rest), using(parser_combinators::proofs::ReadSteps::lead_seen, parser_combinators::proofs::ReadSteps::lead_not))]
 fn create_rest(alloc: Global, c: &mut Cursor<'_, '_>) -> Result<Op, Stop>
     ensures { Reads operator_of (spec.create_rest c.old.nodes (ahead c.old)) result c.new }
@@ -90,7 +91,7 @@ fn create_rest(alloc: Global, c: &mut Cursor<'_, '_>) -> Result<Op, Stop>
     Ok(Op::CreateTable { table, columns })
 }
 
-// What stands behind DROP TABLE.
+// What stands after DROP TABLE.
 #[tactic(auto, unfolding(crate::specs::OperatorReader::drop_table_rest))]
 fn drop_table_rest(alloc: Global, c: &mut Cursor<'_, '_>) -> Result<Op, Stop>
     ensures { Reads operator_of (spec.drop_table_rest c.old.nodes (ahead c.old)) result c.new }
@@ -99,7 +100,7 @@ fn drop_table_rest(alloc: Global, c: &mut Cursor<'_, '_>) -> Result<Op, Stop>
     Ok(Op::DropTable { table })
 }
 
-// What stands behind DROP COLUMN.
+// What stands after DROP COLUMN.
 #[tactic(auto, unfolding(crate::specs::OperatorReader::drop_column_rest), using(parser_combinators::proofs::ReadSteps::lead_seen, parser_combinators::proofs::ReadSteps::lead_not))]
 fn drop_column_rest(alloc: Global, c: &mut Cursor<'_, '_>) -> Result<Op, Stop>
     ensures { Reads operator_of (spec.drop_column_rest c.old.nodes (ahead c.old)) result c.new }
@@ -110,7 +111,7 @@ fn drop_column_rest(alloc: Global, c: &mut Cursor<'_, '_>) -> Result<Op, Stop>
     Ok(Op::DropColumn { column, table })
 }
 
-// What stands behind DROP.
+// What stands after DROP.
 #[tactic(auto, unfolding(crate::specs::OperatorReader::drop_rest), using(parser_combinators::proofs::ReadSteps::choose_takes, parser_combinators::proofs::ReadSteps::choose_no))]
 fn drop_rest(alloc: Global, c: &mut Cursor<'_, '_>) -> Result<Op, Stop>
     ensures { Reads operator_of (spec.drop_rest c.old.nodes (ahead c.old)) result c.new }
@@ -123,10 +124,10 @@ fn drop_rest(alloc: Global, c: &mut Cursor<'_, '_>) -> Result<Op, Stop>
         c.skip();
         return drop_column_rest(alloc, c);
     }
-    Err(Stop::Stuck)
+    Err(Stop::Unexpected)
 }
 
-// What stands behind RENAME TABLE.
+// What stands after RENAME TABLE.
 #[tactic(auto, unfolding(crate::specs::OperatorReader::rename_table_rest), using(parser_combinators::proofs::ReadSteps::lead_seen, parser_combinators::proofs::ReadSteps::lead_not))]
 fn rename_table_rest(alloc: Global, c: &mut Cursor<'_, '_>) -> Result<Op, Stop>
     ensures { Reads operator_of (spec.rename_table_rest c.old.nodes (ahead c.old)) result c.new }
@@ -137,7 +138,7 @@ fn rename_table_rest(alloc: Global, c: &mut Cursor<'_, '_>) -> Result<Op, Stop>
     Ok(Op::RenameTable { table, into })
 }
 
-// What stands behind RENAME COLUMN.
+// What stands after RENAME COLUMN.
 #[tactic(auto, unfolding(crate::specs::OperatorReader::rename_column_rest), using(parser_combinators::proofs::ReadSteps::lead_seen, parser_combinators::proofs::ReadSteps::lead_not))]
 fn rename_column_rest(alloc: Global, c: &mut Cursor<'_, '_>) -> Result<Op, Stop>
     ensures { Reads operator_of (spec.rename_column_rest c.old.nodes (ahead c.old)) result c.new }
@@ -154,7 +155,7 @@ fn rename_column_rest(alloc: Global, c: &mut Cursor<'_, '_>) -> Result<Op, Stop>
     })
 }
 
-// What stands behind RENAME.
+// What stands after RENAME.
 #[tactic(auto, unfolding(crate::specs::OperatorReader::rename_rest), using(parser_combinators::proofs::ReadSteps::choose_takes, parser_combinators::proofs::ReadSteps::choose_no))]
 fn rename_rest(alloc: Global, c: &mut Cursor<'_, '_>) -> Result<Op, Stop>
     ensures { Reads operator_of (spec.rename_rest c.old.nodes (ahead c.old)) result c.new }
@@ -167,10 +168,10 @@ fn rename_rest(alloc: Global, c: &mut Cursor<'_, '_>) -> Result<Op, Stop>
         c.skip();
         return rename_column_rest(alloc, c);
     }
-    Err(Stop::Stuck)
+    Err(Stop::Unexpected)
 }
 
-// What stands behind COPY.
+// What stands after COPY.
 #[tactic(auto, unfolding(crate::specs::OperatorReader::copy_rest), using(parser_combinators::proofs::ReadSteps::lead_seen, parser_combinators::proofs::ReadSteps::lead_not))]
 fn copy_rest(alloc: Global, c: &mut Cursor<'_, '_>) -> Result<Op, Stop>
     ensures { Reads operator_of (spec.copy_rest c.old.nodes (ahead c.old)) result c.new }
@@ -182,7 +183,7 @@ fn copy_rest(alloc: Global, c: &mut Cursor<'_, '_>) -> Result<Op, Stop>
     Ok(Op::CopyTable { table, into })
 }
 
-// What stands behind MERGE.
+// What stands after MERGE.
 #[tactic(auto, unfolding(crate::specs::OperatorReader::merge_rest), using(parser_combinators::proofs::ReadSteps::lead_seen, parser_combinators::proofs::ReadSteps::lead_not))]
 fn merge_rest(alloc: Global, c: &mut Cursor<'_, '_>) -> Result<Op, Stop>
     ensures { Reads operator_of (spec.merge_rest c.old.nodes (ahead c.old)) result c.new }
@@ -196,7 +197,7 @@ fn merge_rest(alloc: Global, c: &mut Cursor<'_, '_>) -> Result<Op, Stop>
     Ok(Op::MergeTable { left, right, into })
 }
 
-// What stands behind PARTITION.
+// What stands after PARTITION.
 #[tactic(auto, unfolding(crate::specs::OperatorReader::partition_rest), using(parser_combinators::proofs::ReadSteps::lead_seen, parser_combinators::proofs::ReadSteps::lead_not))]
 fn partition_rest(alloc: Global, c: &mut Cursor<'_, '_>) -> Result<Op, Stop>
     ensures { Reads operator_of (spec.partition_rest c.old.nodes (ahead c.old)) result c.new }
@@ -217,7 +218,7 @@ fn partition_rest(alloc: Global, c: &mut Cursor<'_, '_>) -> Result<Op, Stop>
     })
 }
 
-// What stands behind DECOMPOSE.
+// What stands after DECOMPOSE.
 #[tactic(auto, unfolding(crate::specs::OperatorReader::decompose_rest), using(parser_combinators::proofs::ReadSteps::lead_seen, parser_combinators::proofs::ReadSteps::lead_not))]
 fn decompose_rest(alloc: Global, c: &mut Cursor<'_, '_>) -> Result<Op, Stop>
     ensures { Reads operator_of (spec.decompose_rest c.old.nodes (ahead c.old)) result c.new }
@@ -237,7 +238,7 @@ fn decompose_rest(alloc: Global, c: &mut Cursor<'_, '_>) -> Result<Op, Stop>
     })
 }
 
-// What stands behind JOIN.
+// What stands after JOIN.
 #[tactic(auto, unfolding(crate::specs::OperatorReader::join_rest), using(parser_combinators::proofs::ReadSteps::lead_seen, parser_combinators::proofs::ReadSteps::lead_not))]
 fn join_rest(alloc: Global, c: &mut Cursor<'_, '_>) -> Result<Op, Stop>
     ensures { Reads operator_of (spec.join_rest c.old.nodes (ahead c.old)) result c.new }
@@ -257,7 +258,7 @@ fn join_rest(alloc: Global, c: &mut Cursor<'_, '_>) -> Result<Op, Stop>
     })
 }
 
-// What stands behind ADD.
+// What stands after ADD.
 #[tactic(auto, unfolding(crate::specs::OperatorReader::add_rest), using(parser_combinators::proofs::ReadSteps::lead_seen, parser_combinators::proofs::ReadSteps::lead_not))]
 fn add_rest(alloc: Global, c: &mut Cursor<'_, '_>) -> Result<Op, Stop>
     ensures { Reads operator_of (spec.add_rest c.old.nodes (ahead c.old)) result c.new }
@@ -275,7 +276,7 @@ fn add_rest(alloc: Global, c: &mut Cursor<'_, '_>) -> Result<Op, Stop>
     })
 }
 
-/// An operator, with the counts of its tree behind those that the cursor has.
+/// An operator, with the counts of its tree after those that the cursor has.
 #[tactic(auto, unfolding(crate::specs::OperatorReader::operator), using(parser_combinators::proofs::ReadSteps::choose_takes, parser_combinators::proofs::ReadSteps::choose_no))]
 pub fn operator(alloc: Global, c: &mut Cursor<'_, '_>) -> Result<Op, Stop>
     ensures { Reads operator_of (spec.operator c.old.nodes (ahead c.old)) result c.new }
@@ -320,5 +321,5 @@ pub fn operator(alloc: Global, c: &mut Cursor<'_, '_>) -> Result<Op, Stop>
         c.skip();
         return add_rest(alloc, c);
     }
-    Err(Stop::Stuck)
+    Err(Stop::Unexpected)
 }

@@ -3,13 +3,15 @@
 ghost use Rattle.std.specs.Prelude.{◌≡◌, ◌++◌, ◌<◌, ◌≤◌, ◌+◌, ◌∷◌, List, length, drop};
 ghost use Rattle.smo_types.specs.Operators.{Operator, operator_of};
 ghost use Rattle.lexical_grammar.specs.Lexemes.{Lexeme};
-ghost use Rattle.parser_combinators.specs.declared.reading.Stop.TheVariants as stop;
-ghost use Rattle.parser_combinators.specs.Parsing.{Size, Stops, limit};
-ghost use Rattle.parser_combinators.specs.Found.{IsRead, Finds, Ends, IsTooMany, Follows, FaultAt, lexemes_from};
-ghost use Rattle.parser_combinators.specs.Passes.{IsFirstPass, IsFaultOf};
-ghost use Rattle.prima_base.specs.declared.refusals.What.{What as Counted};
+ghost use Rattle.parser_combinators.specs.declared.cursor.Stop.TheVariants as stop;
+ghost use Rattle.parser_combinators.specs.Parsing.{Stops, limit};
+ghost use Rattle.parser_combinators.specs.Grammar.{Size};
+ghost use Rattle.parser_combinators.specs.Found.{IsRead, Finds, Ends, IsTooMany, AnswersAs};
+ghost use Rattle.parser_combinators.specs.Found.{FaultAt, lexemes_from};
+ghost use Rattle.parser_combinators.specs.Crossings.{IsFirstCrossing, IsFaultOf};
+ghost use Rattle.prima_base.specs.declared.refusal.What.{What as Counted};
 ghost use Rattle.smo_parse.specs.Productions.{IsOperator};
-ghost use Rattle.smo_parse.specs.OperatorMarks.{operator_passes};
+ghost use Rattle.smo_parse.specs.OperatorCounts.{operator_crossings};
 ghost use Rattle.smo_parse.specs.OperatorReader as spec;
 
 use crate::operator_reader::operator;
@@ -17,32 +19,46 @@ use lexer::{Cursor, ParseFault, Token, fault_at, tail};
 use smo_ops::Op;
 use std::alloc::Global;
 
-/// The operator that begins at the token `from` of the list, and the place of the token behind it.
-/// Places count the list's tokens from 0; `from` is at most its length. The longest operator is read.
-/// References of its expression or condition are columns of atom 0.
+/// The operator that begins at the token `from` of the list, and the place of the token after it.
+/// Places count the list's tokens from 0; `from` is at most its length. The longest operator is
+/// read. References of its expression or condition are columns of atom 0.
 ///
-/// `Syntax` has the place in the statement, in bytes as `Token::at`, of the first token with which no operator goes on:
-/// the tokens before it begin one that is not whole yet, and with this token they begin none. `RanOut` comes where the list
-/// ends inside of one: its tokens begin one that is not whole yet. The limits of its expression or condition are those of `parse_expr` and `parse_cond` (256 nodes, 32
-/// open brackets, CASEs and NOTs, 8 parts of a CONCAT): `TooMany` has the count and its limit where the first token that
-/// is one more comes before any wrong one, and of two counts that pass at one token it is the nodes. `NoMemory` comes where
-/// memory runs out, whatever the tokens are.
+/// `Syntax` has the place in the statement, in bytes as `Token::at`, of the first token with which
+/// no operator goes on: the tokens before it begin one that is not whole yet, and with this token
+/// they begin none. `RanOut` comes where the list ends inside of one: its tokens begin one that is
+/// not whole yet. The limits of its expression or condition are those of `parse_expr` and
+/// `parse_cond` (256 nodes, 32 open brackets, CASEs and NOTs, 8 parts of a CONCAT): `TooMany` has
+/// the count and its limit where the first token that is one more comes before any wrong one, and
+/// of two counts that pass at one token it is the nodes. `NoMemory` comes where memory runs out,
+/// whatever the tokens are.
 pub fn parse_op(alloc: Global, list: &[Token<'_>], from: usize) -> Result<(Op, usize), ParseFault>
     requires { from ≤ length list.now }
-    // What is read is in the grammar, and nothing of it goes on with the token behind it.
+    // What is read is in the grammar, and nothing of it goes on with the token after it.
     ensures read { IsRead operator_of IsOperator list.now from result }
-    // What is in the grammar, up to a token that it does not go on with, is read if it is within the limits, and else refused.
-    ensures only { (o : Operator) (s : Size) (front rest : List Lexeme) → lexemes_from list.now from ≡ front ++ rest → IsOperator o s front → Stops spec.goes_operator rest →
-        Finds operator_of o s (from + length front) result }
-    // What is in the grammar, where nothing of it goes on with the token behind it, is read if it is within the limits, and else refused.
-    ensures longest { (o : Operator) (s : Size) (front rest : List Lexeme) → lexemes_from list.now from ≡ front ++ rest → IsOperator o s front → Ends IsOperator (lexemes_from list.now from) (length front) →
-        Finds operator_of o s (from + length front) result }
-    // A fault is at the first token with which nothing of the grammar goes on, or at which a count passes its limit.
-    ensures fault { IsFaultOf IsOperator operator_passes list.now from result }
-    // A front that passes a limit at its last token is refused there for this count, whatever stands behind it.
-    ensures over { (w : Counted) (front rest more : List Lexeme) (x : Lexeme) (o : Operator) (s : Size) (h : IsOperator o s (front ++ x ∷ more)) → lexemes_from list.now from ≡ front ++ x ∷ rest →
-        IsFirstPass w (operator_passes o s (front ++ x ∷ more) h) (length front) → IsTooMany w result }
-    ensures exact { Follows operator_of (spec.operator 0 (lexemes_from list.now from)) list.now result }
+    // What is in the grammar, up to a token that it does not go on with, is read if it is within
+    // the limits, and else refused.
+    ensures only { (o : Operator) (s : Size) (prefix rest : List Lexeme)
+        → lexemes_from list.now from ≡ prefix ++ rest → IsOperator o s prefix
+        → Stops spec.follow_operator rest →
+        Finds operator_of o s (from + length prefix) result }
+    // What is in the grammar, where nothing of it goes on with the token after it, is read if it is
+    // within the limits, and else refused.
+    ensures longest { (o : Operator) (s : Size) (prefix rest : List Lexeme)
+        → lexemes_from list.now from ≡ prefix ++ rest → IsOperator o s prefix
+        → Ends IsOperator (lexemes_from list.now from) (length prefix) →
+        Finds operator_of o s (from + length prefix) result }
+    // A fault is at the first token with which nothing of the grammar goes on, or at which a count
+    // passes its limit.
+    ensures fault { IsFaultOf IsOperator operator_crossings list.now from result }
+    // A prefix that passes a limit at its last token is refused there for this count, whatever
+    // stands after it.
+    ensures over { (w : Counted) (prefix rest more : List Lexeme) (x : Lexeme) (o : Operator)
+        (s : Size) (h : IsOperator o s (prefix ++ x ∷ more))
+        → lexemes_from list.now from ≡ prefix ++ x ∷ rest →
+        IsFirstCrossing w (operator_crossings o s (prefix ++ x ∷ more) h) (length prefix)
+        → IsTooMany w result }
+    ensures exact { AnswersAs operator_of (spec.operator 0 (lexemes_from list.now from)) list.now
+        result }
 {
     let mut cursor = Cursor {
         rest: tail(list, from),

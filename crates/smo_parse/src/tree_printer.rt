@@ -1,17 +1,20 @@
 //! Printing of expressions and conditions, as `specs/TreeTexts.antt` has their texts.
 
-ghost use Rattle.std.specs.Prelude.{◌≡◌, ℕ, ◌<◌, length, ◌++◌, ◌∷◌, [], ◌==◌, List, take, drop, map, codes, if◌then◌else◌, OnOk};
+ghost use Rattle.std.specs.Prelude.{◌≡◌, ℕ, ◌<◌, length, ◌++◌, ◌∷◌, [], ◌==◌, List, take, drop};
+ghost use Rattle.std.specs.Prelude.{map, codes, if◌then◌else◌, OnOk};
 ghost use Rattle.cond_expr.specs.Seen.{tree, test, trees_of, tests_of};
-ghost use Rattle.smo_parse.specs.TreeTexts.{doubled, value_text, reference_text, sign_text, bracketed, tree_text, trees_text, more_trees_text, test_text, tests_text, more_tests_text};
+ghost use Rattle.smo_parse.specs.TreeTexts.{doubled, value_text, reference_text, sign_text};
+ghost use Rattle.smo_parse.specs.TreeTexts.{bracketed, tree_text, trees_text, more_trees_text};
+ghost use Rattle.smo_parse.specs.TreeTexts.{test_text, tests_text, more_tests_text};
 
 use cond_expr::{CmpOp, ColRef, Cond, Expr, Whose};
 use itoa::Buffer;
 use prima_base::{NoMemory, Value};
 
-/// Writes these bytes behind what is there. The one error is `NoMemory`, where memory runs out.
+/// Writes these bytes after what is there. The one error is `NoMemory`, where memory runs out.
 pub fn put(out: &mut Vec<u8>, bytes: &[u8]) -> Result<(), NoMemory>
     ensures ok { OnOk result (out.new.items ≡ out.old.items ++ bytes.now) }
-    ensures front { take (length out.old.items) out.new.items ≡ out.old.items }
+    ensures prefix { take (length out.old.items) out.new.items ≡ out.old.items }
 {
     out.extend_from_slice(bytes)?;
     Ok(())
@@ -19,8 +22,9 @@ pub fn put(out: &mut Vec<u8>, bytes: &[u8]) -> Result<(), NoMemory>
 
 // A byte of a text; a quote is doubled.
 fn put_byte(out: &mut Vec<u8>, byte: u8) -> Result<(), NoMemory>
-    ensures ok { OnOk result (out.new.items ≡ out.old.items ++ (if byte == 39 then 39 ∷ 39 ∷ [] else byte ∷ [])) }
-    ensures front { take (length out.old.items) out.new.items ≡ out.old.items }
+    ensures ok { OnOk result (out.new.items ≡ out.old.items
+        ++ (if byte == 39 then 39 ∷ 39 ∷ [] else byte ∷ [])) }
+    ensures prefix { take (length out.old.items) out.new.items ≡ out.old.items }
 {
     if byte == b'\'' {
         return put(out, b"''");
@@ -33,7 +37,7 @@ fn put_byte(out: &mut Vec<u8>, byte: u8) -> Result<(), NoMemory>
 #[tactic(auto, using(crate::proofs::StillThere::still_there))]
 fn put_doubled(out: &mut Vec<u8>, bytes: &[u8]) -> Result<(), NoMemory>
     ensures ok { OnOk result (out.new.items ≡ out.old.items ++ doubled bytes.now) }
-    ensures front { take (length out.old.items) out.new.items ≡ out.old.items }
+    ensures prefix { take (length out.old.items) out.new.items ≡ out.old.items }
 {
     for byte in bytes {
         put_byte(out, *byte)?;
@@ -44,7 +48,7 @@ fn put_doubled(out: &mut Vec<u8>, bytes: &[u8]) -> Result<(), NoMemory>
 // A number, or a text in quotes.
 fn write_value(out: &mut Vec<u8>, value: &Value) -> Result<(), NoMemory>
     ensures ok { OnOk result (out.new.items ≡ out.old.items ++ value_text value.now) }
-    ensures front { take (length out.old.items) out.new.items ≡ out.old.items }
+    ensures prefix { take (length out.old.items) out.new.items ≡ out.old.items }
 {
     match value {
         Value::Int(number) => put(out, Buffer::new().format(*number).as_bytes()),
@@ -58,8 +62,9 @@ fn write_value(out: &mut Vec<u8>, value: &Value) -> Result<(), NoMemory>
 
 // What stands before a column's name.
 fn write_owner(out: &mut Vec<u8>, whose: &Whose, numbered: bool) -> Result<(), NoMemory>
-    ensures ok { (n : List ℕ) → OnOk result (out.new.items ++ n ≡ out.old.items ++ reference_text numbered whose.now n) }
-    ensures front { take (length out.old.items) out.new.items ≡ out.old.items }
+    ensures ok { (n : List ℕ) → OnOk result (out.new.items ++ n ≡ out.old.items
+        ++ reference_text numbered whose.now n) }
+    ensures prefix { take (length out.old.items) out.new.items ≡ out.old.items }
 {
     match whose {
         Whose::Free => Ok(()),
@@ -80,8 +85,9 @@ fn write_owner(out: &mut Vec<u8>, whose: &Whose, numbered: bool) -> Result<(), N
 
 // A reference.
 fn write_reference(out: &mut Vec<u8>, reference: &ColRef, numbered: bool) -> Result<(), NoMemory>
-    ensures ok { OnOk result (out.new.items ≡ out.old.items ++ reference_text numbered reference.now.whose reference.now.name) }
-    ensures front { take (length out.old.items) out.new.items ≡ out.old.items }
+    ensures ok { OnOk result (out.new.items ≡ out.old.items
+        ++ reference_text numbered reference.now.whose reference.now.name) }
+    ensures prefix { take (length out.old.items) out.new.items ≡ out.old.items }
 {
     write_owner(out, &reference.whose, numbered)?;
     put(out, reference.name.bytes())
@@ -101,32 +107,32 @@ fn sign_of(op: CmpOp) -> &'static [u8]
     }
 }
 
-// The expressions behind the first.
+// The expressions after the first.
 #[tactic(auto, using(lexical_grammar::proofs::Cuts::tail_is))]
-fn exprs_behind(parts: &[Expr]) -> &[Expr]
+fn exprs_after(parts: &[Expr]) -> &[Expr]
     requires { 0 < length parts.now }
     ensures { result.now ≡ drop 1 parts.now }
 {
     &parts[1..]
 }
 
-// The conditions behind the first.
+// The conditions after the first.
 #[tactic(auto, using(lexical_grammar::proofs::Cuts::tail_is))]
-fn conds_behind(parts: &[Cond]) -> &[Cond]
+fn conds_after(parts: &[Cond]) -> &[Cond]
     requires { 0 < length parts.now }
     ensures { result.now ≡ drop 1 parts.now }
 {
     &parts[1..]
 }
 
-/// Writes an expression's text behind what is there. Where atoms are numbered, a column of atom 0 is
-/// `t0.name`, and else the name alone. After `NoMemory` what was there still stands, and behind it may stand a
-/// part of the text.
+/// Writes an expression's text after what is there. Where atoms are numbered, a column of atom 0 is
+/// `t0.name`, and else the name alone. After `NoMemory` what was there still stands, and after it
+/// may stand a part of the text.
 #[cycle(writes)]
 #[tactic(auto, using(cond_expr::proofs::SeenLaws::tree_of_concat, cond_expr::proofs::SeenLaws::tree_of_case))]
 pub fn write_expr(out: &mut Vec<u8>, expr: &Expr, numbered: bool) -> Result<(), NoMemory>
     ensures ok { OnOk result (out.new.items ≡ out.old.items ++ tree_text numbered (tree expr.now)) }
-    ensures front { take (length out.old.items) out.new.items ≡ out.old.items }
+    ensures prefix { take (length out.old.items) out.new.items ≡ out.old.items }
 {
     match expr {
         Expr::Col(reference) => write_reference(out, reference, numbered),
@@ -144,18 +150,19 @@ pub fn write_expr(out: &mut Vec<u8>, expr: &Expr, numbered: bool) -> Result<(), 
         Expr::Case(cond, first, second) => {
             put(out, b"CASE WHEN ")?;
             write_cond(out, cond, numbered, false)?;
-            write_behind(out, b" THEN ", first, numbered)?;
-            write_behind(out, b" ELSE ", second, numbered)?;
+            write_after(out, b" THEN ", first, numbered)?;
+            write_after(out, b" ELSE ", second, numbered)?;
             put(out, b" END")
         }
     }
 }
 
-// A word, and an expression behind it.
+// A word, and an expression after it.
 #[cycle(writes)]
-fn write_behind(out: &mut Vec<u8>, word: &[u8], expr: &Expr, numbered: bool) -> Result<(), NoMemory>
-    ensures ok { OnOk result (out.new.items ≡ out.old.items ++ (word.now ++ tree_text numbered (tree expr.now))) }
-    ensures front { take (length out.old.items) out.new.items ≡ out.old.items }
+fn write_after(out: &mut Vec<u8>, word: &[u8], expr: &Expr, numbered: bool) -> Result<(), NoMemory>
+    ensures ok { OnOk result (out.new.items ≡ out.old.items
+        ++ (word.now ++ tree_text numbered (tree expr.now))) }
+    ensures prefix { take (length out.old.items) out.new.items ≡ out.old.items }
 {
     put(out, word)?;
     write_expr(out, expr, numbered)
@@ -164,24 +171,26 @@ fn write_behind(out: &mut Vec<u8>, word: &[u8], expr: &Expr, numbered: bool) -> 
 // Expressions with commas between them.
 #[cycle(writes)]
 fn write_exprs(out: &mut Vec<u8>, parts: &[Expr], numbered: bool) -> Result<(), NoMemory>
-    ensures ok { OnOk result (out.new.items ≡ out.old.items ++ trees_text numbered (trees_of (map tree parts.now))) }
-    ensures front { take (length out.old.items) out.new.items ≡ out.old.items }
+    ensures ok { OnOk result (out.new.items ≡ out.old.items
+        ++ trees_text numbered (trees_of (map tree parts.now))) }
+    ensures prefix { take (length out.old.items) out.new.items ≡ out.old.items }
 {
     match parts {
         [] => Ok(()),
         [first, ..] => {
             write_expr(out, first, numbered)?;
-            write_more_exprs(out, exprs_behind(parts), numbered)
+            write_more_exprs(out, exprs_after(parts), numbered)
         }
     }
 }
 
-// Expressions, each behind a comma.
+// Expressions, each after a comma.
 #[cycle(writes)]
 #[tactic(auto, using(crate::proofs::StillThere::still_there))]
 fn write_more_exprs(out: &mut Vec<u8>, parts: &[Expr], numbered: bool) -> Result<(), NoMemory>
-    ensures ok { OnOk result (out.new.items ≡ out.old.items ++ more_trees_text numbered (trees_of (map tree parts.now))) }
-    ensures front { take (length out.old.items) out.new.items ≡ out.old.items }
+    ensures ok { OnOk result (out.new.items ≡ out.old.items
+        ++ more_trees_text numbered (trees_of (map tree parts.now))) }
+    ensures prefix { take (length out.old.items) out.new.items ≡ out.old.items }
 {
     for part in parts {
         put(out, b", ")?;
@@ -190,8 +199,8 @@ fn write_more_exprs(out: &mut Vec<u8>, parts: &[Expr], numbered: bool) -> Result
     Ok(())
 }
 
-/// Writes a condition's text behind what is there, as `write_expr`. An AND or an OR that is a part of
-/// another condition stands in brackets.
+/// Writes a condition's text after what is there, as `write_expr`. An AND or an OR that is a part
+/// of another condition stands in brackets.
 #[cycle(writes)]
 #[tactic(auto, using(cond_expr::proofs::SeenLaws::test_of_and, cond_expr::proofs::SeenLaws::test_of_or, cond_expr::proofs::SeenLaws::test_of_cmp))]
 pub fn write_cond(
@@ -200,8 +209,9 @@ pub fn write_cond(
     numbered: bool,
     part: bool,
 ) -> Result<(), NoMemory>
-    ensures ok { OnOk result (out.new.items ≡ out.old.items ++ test_text numbered part (test cond.now)) }
-    ensures front { take (length out.old.items) out.new.items ≡ out.old.items }
+    ensures ok { OnOk result (out.new.items ≡ out.old.items
+        ++ test_text numbered part (test cond.now)) }
+    ensures prefix { take (length out.old.items) out.new.items ≡ out.old.items }
 {
     match cond {
         Cond::False => put(out, b"FALSE"),
@@ -232,8 +242,9 @@ fn write_bracketed(
     none: &[u8],
     word: &[u8],
 ) -> Result<(), NoMemory>
-    ensures ok { OnOk result (out.new.items ≡ out.old.items ++ bracketed part (tests_text numbered none.now word.now (tests_of (map test parts.now)))) }
-    ensures front { take (length out.old.items) out.new.items ≡ out.old.items }
+    ensures ok { OnOk result (out.new.items ≡ out.old.items
+        ++ bracketed part (tests_text numbered none.now word.now (tests_of (map test parts.now)))) }
+    ensures prefix { take (length out.old.items) out.new.items ≡ out.old.items }
 {
     if !part {
         return write_conds(out, parts, numbered, none, word);
@@ -252,8 +263,9 @@ fn write_conds(
     none: &[u8],
     word: &[u8],
 ) -> Result<(), NoMemory>
-    ensures ok { OnOk result (out.new.items ≡ out.old.items ++ tests_text numbered none.now word.now (tests_of (map test parts.now))) }
-    ensures front { take (length out.old.items) out.new.items ≡ out.old.items }
+    ensures ok { OnOk result (out.new.items ≡ out.old.items
+        ++ tests_text numbered none.now word.now (tests_of (map test parts.now))) }
+    ensures prefix { take (length out.old.items) out.new.items ≡ out.old.items }
 {
     match parts {
         [] => put(out, none),
@@ -264,12 +276,12 @@ fn write_conds(
         }
         [first, _, ..] => {
             write_cond(out, first, numbered, true)?;
-            write_more_conds(out, conds_behind(parts), numbered, word)
+            write_more_conds(out, conds_after(parts), numbered, word)
         }
     }
 }
 
-// Conditions, each behind the word.
+// Conditions, each after the word.
 #[cycle(writes)]
 #[tactic(auto, using(crate::proofs::StillThere::still_there))]
 fn write_more_conds(
@@ -278,8 +290,9 @@ fn write_more_conds(
     numbered: bool,
     word: &[u8],
 ) -> Result<(), NoMemory>
-    ensures ok { OnOk result (out.new.items ≡ out.old.items ++ more_tests_text numbered word.now (tests_of (map test parts.now))) }
-    ensures front { take (length out.old.items) out.new.items ≡ out.old.items }
+    ensures ok { OnOk result (out.new.items ≡ out.old.items
+        ++ more_tests_text numbered word.now (tests_of (map test parts.now))) }
+    ensures prefix { take (length out.old.items) out.new.items ≡ out.old.items }
 {
     for part in parts {
         put(out, word)?;

@@ -1,12 +1,13 @@
 -- Columns of two tables, and of two parts of one.
-use Rattle.std.proofs.Common.{◌≡◌, ◌<◌, ◌≤◌, ◌+◌, ◌-◌, ℕ, Bool, true, false, List, [], ◌∷◌, ◌++◌, length, take, drop, get_or, refl, sym, ap, ◌∙◌, arith}
+use Rattle.std.proofs.Common.{◌≡◌, ◌<◌, ◌≤◌, ◌+◌, ◌-◌, ℕ, Bool, true, false, List, [], ◌∷◌, ◌++◌}
+use Rattle.std.proofs.Common.{length, take, drop, get_or, refl, sym, ap, ◌∙◌, arith}
 use Rattle.std.specs.Prelude.{◌&&◌, if◌then◌else◌, Option}
 use Rattle.std.specs.Bool.{Decides}
 use Rattle.std.proofs.lemmas.List.{take_all}
 use Rattle.relations.specs.Sets.{put_in, set_of}
-use Rattle.prima_base.specs.declared.refusals.OpRefusal.{OpRefusal}
-use Rattle.prima_base.specs.declared.values.ColType.{ColType}
-use Rattle.prima_base.specs.declared.values.ColType.TheVariants.{Int as INT, Text as TEXT}
+use Rattle.prima_base.specs.declared.refusal.OpRefusal.{OpRefusal}
+use Rattle.prima_base.specs.declared.value.ColType.{ColType}
+use Rattle.prima_base.specs.declared.value.ColType.TheVariants.{Int as INT, Text as TEXT}
 use Rattle.prima_base.specs.Columns.{Column, AreColumns}
 use Rattle.cond_expr.specs.Kinds.{same_type}
 use Rattle.smo_meaning.specs.OneRow.{same}
@@ -44,19 +45,26 @@ columns_are (c ∷ cs) [] e = absurd (cc)
 columns_are (c ∷ cs) (d ∷ ds) e =
     let p = both_hold (same c.0 d.0) (same_type c.1 d.1 && same_columns cs ds) e in
     let q = both_hold (same_type c.1 d.1) (same_columns cs ds) p.1 in
-    one_list c d cs ds (one_column c d (same_is c.0 d.0 p.0) (same_types c.1 d.1 q.0)) (columns_are cs ds q.1)
+    one_list c d cs ds (one_column c d (same_is c.0 d.0 p.0) (same_types c.1 d.1 q.0))
+    (columns_are cs ds q.1)
 
 pub columns_decided : (cs ds : List Column) → Decides (same_columns cs ds) (cs ≡ ds)
-columns_decided cs ds = (columns_are cs ds, λ e. sym (ap (same_columns cs) e) ∙ columns_themselves cs)
+columns_decided cs ds = (
+  columns_are cs ds,
+  λ e. sym (ap (same_columns cs) e)
+      ∙ columns_themselves cs,
+)
 
 -- one named column more
-pub kept_named : (names : List (List ℕ)) (items xs : List Column) (i : ℕ) (x : Column) → i < length xs → x ≡ get_or xs i x → items ≡ named names (take i xs)
+pub kept_named : (names : List (List ℕ)) (items xs : List Column) (i : ℕ) (x : Column)
+    → i < length xs → x ≡ get_or xs i x → items ≡ named names (take i xs)
     → items ++ (if among x.0 names then x ∷ [] else []) ≡ named names (take (i + 1) xs)
 kept_named names items xs i x l e h =
     ap (λ (l : List Column). l ++ (if among x.0 names then x ∷ [] else [])) h
     ∙ kept_one (λ c. among c.0 names) xs i x l e
 
-pub named_are_columns : (names : List (List ℕ)) (cs : List Column) → AreColumns cs → AreColumns (named names cs)
+pub named_are_columns : (names : List (List ℕ)) (cs : List Column) → AreColumns cs
+    → AreColumns (named names cs)
 named_are_columns names cs h = kept_are_columns (λ c. among c.0 names) cs h
 
 -- the columns of both, one by one
@@ -65,13 +73,17 @@ none_joined [] ds l = refl
 none_joined (c ∷ cs) ds l = absurd (omega arith)
 
 pub one_joined : (cs ds : List Column) (c : Column) → 1 ≤ length cs → c ≡ get_or cs 0 c
-    → put_in column_cmp c (joined_columns (take (length cs - 1) (drop 1 cs)) ds) ≡ joined_columns cs ds
+    → put_in column_cmp c (joined_columns (take (length cs - 1) (drop 1 cs)) ds)
+    ≡ joined_columns cs ds
 unfolding set_of
 one_joined [] ds c l e = absurd (omega arith)
 one_joined (d ∷ cs) ds c l e =
-    ap (λ rest. put_in column_cmp c (joined_columns rest ds)) (take_all (length (d ∷ cs) - 1) cs (omega arith))
+    ap (λ rest. put_in column_cmp c (joined_columns rest ds))
+    (take_all (length (d ∷ cs) - 1) cs (omega arith))
     ∙ ap (λ (x : Column). put_in column_cmp x (joined_columns cs ds)) e
 
 -- what the parts of a table are asked, where its columns are these
-abbrev pub part_tests : List ℕ → List Column → List ℕ → List (List ℕ) → List ℕ → List (List ℕ) → List (Option OpRefusal)
-part_tests r cs s xs t ys = each_known r cs (xs ++ ys) ∷ each_once s xs ∷ each_once t ys ∷ cover r cs xs ys ∷ []
+abbrev pub part_tests : List ℕ → List Column → List ℕ → List (List ℕ) → List ℕ → List (List ℕ)
+    → List (Option OpRefusal)
+part_tests r cs s xs t ys = each_known r cs (xs ++ ys) ∷ each_once s xs ∷ each_once t ys
+    ∷ cover r cs xs ys ∷ []

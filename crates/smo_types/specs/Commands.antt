@@ -3,10 +3,10 @@ use Rattle.std.specs.Prelude.{ℕ, List, map}
 use Rattle.schema_catalog.specs.Tables.{Tables}
 use Rattle.smo_types.specs.Operators.{Operator, operator_of, operators_of}
 use Rattle.smo_types.specs.Changes.{PlainChange, changes_of}
-use Rattle.smo_types.specs.declared.commands.Body.{Body}
-use Rattle.smo_types.specs.declared.commands.Body.TheVariants.{Changes, Evolve}
-use Rattle.smo_types.specs.declared.versions.Version.{Version}
-use Rattle.smo_types.specs.declared.versions.Versions.{Versions}
+use Rattle.smo_types.specs.declared.command.Body.{Body}
+use Rattle.smo_types.specs.declared.command.Body.TheVariants.{Changes, Evolve}
+use Rattle.smo_types.specs.declared.version.Version.{Version}
+use Rattle.smo_types.specs.declared.version.Versions.{Versions}
 
 pub data PlainBody : Type 0 where
   changing : List PlainChange → PlainBody
@@ -31,7 +31,13 @@ abbrev pub command_of : ℕ × Body → PlainCommand
 command_of c = record { stamp = c.0; body = body_of c.1 }
 
 abbrev pub version_of : Version → PlainVersion
-version_of v = record { stamp = v.stamp; op = operator_of v.op; inverse = operators_of v.inverse.items; tables = v.schema }
+version_of v = record {
+  stamp = v.stamp;
+  op = operator_of v.op;
+  inverse =
+      operators_of v.inverse.items;
+  tables = v.schema;
+}
 
 abbrev pub versions_of : Versions → List PlainVersion
 versions_of v = map version_of v.list.items

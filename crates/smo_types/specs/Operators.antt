@@ -3,8 +3,11 @@ use Rattle.std.specs.Prelude.{ℕ, List, map}
 use Rattle.prima_base.specs.Columns.{Column}
 use Rattle.cond_expr.specs.Trees.{Tree, Test}
 use Rattle.cond_expr.specs.Seen.{tree, test}
-use Rattle.smo_types.specs.declared.ops.Op.{Op}
-use Rattle.smo_types.specs.declared.ops.Op.TheVariants.{Nop, CreateTable, DropTable, RenameTable, CopyTable, MergeTable, PartitionTable, DecomposeTable, JoinTable, AddColumn, DropColumn, RenameColumn}
+use Rattle.smo_types.specs.declared.op.Op.{Op}
+use Rattle.smo_types.specs.declared.op.Op.TheVariants.{Nop, CreateTable, DropTable, RenameTable}
+use Rattle.smo_types.specs.declared.op.Op.TheVariants.{CopyTable, MergeTable, PartitionTable}
+use Rattle.smo_types.specs.declared.op.Op.TheVariants.{DecomposeTable, JoinTable, AddColumn}
+use Rattle.smo_types.specs.declared.op.Op.TheVariants.{DropColumn, RenameColumn}
 
 pub data Operator : Type 0 where
   nop : Operator

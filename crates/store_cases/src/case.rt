@@ -1,10 +1,10 @@
 //! A case: changes of one table, made in both stores.
 
+use crate::change_case::{MadeChange, Numbers, made_change, made_row};
 use crate::comparison::Difference;
 use crate::line::{Line, read_line};
-use crate::made_changes::{MadeChange, Numbers, made_change, made_row};
 use crate::pair::{Pair, add_copies};
-use crate::words::{first_word, read_row, with_number};
+use crate::word::{first_word, read_row, with_number};
 use case_text::{read_number, write_number};
 use prima_base::{ColType, Name, NameFault, NoMemory, Row};
 use std::alloc::{AllocError, Global};
@@ -14,8 +14,8 @@ const MOST_ROWS: usize = 24;
 
 const SOME_ROWS: usize = 6;
 
-// The case that is played: both tables, the rows that the next change loses and gains, all that came in changes so far, the
-// number of steps, and the step at which the tables first differed.
+// The case that is played: both tables, the rows that the next change loses and gains, all that
+// came in changes so far, the number of steps, and the step at which the tables first differed.
 #[derive(Drop)]
 struct Case {
     alloc: Global,
@@ -96,7 +96,7 @@ impl Case {
         Ok(())
     }
 
-    // Puts a column behind the others; what is no name makes none.
+    // Puts a column after the others; what is no name makes none.
     fn column(&mut self, text: &[u8]) -> Result<(), NoMemory> {
         let (name, kind) = first_word(text);
         let kind = match kind {
@@ -116,7 +116,8 @@ impl Case {
         }
     }
 
-    // Makes the change in both tables, by all rows or row by row; what is none of the table is noted.
+    // Makes the change in both tables, by all rows or row by row; what is none of the table is
+    // noted.
     fn carry_out(&mut self, stamp: u64, whole: bool) -> Result<(), NoMemory> {
         self.steps = self.steps.wrapping_add(1);
         let is_change = if whole {
@@ -131,7 +132,7 @@ impl Case {
         Ok(())
     }
 
-    // Makes the change, and compares all behind it.
+    // Makes the change, and compares all after it.
     fn change(&mut self, stamp: u64, whole: bool) -> Result<(), NoMemory> {
         add_copies(&mut self.seen, &self.lost)?;
         add_copies(&mut self.seen, &self.gained)?;
@@ -141,7 +142,8 @@ impl Case {
         self.compare_all()
     }
 
-    // Of the rows that came in changes so many that all can be compared at each: all of them where they are few.
+    // Of the rows that came in changes so many that all can be compared at each: all of them where
+    // they are few.
     fn some_seen(&self) -> Result<Vec<Row>, NoMemory> {
         let step = if self.seen.len() <= MOST_ROWS {
             1
@@ -168,7 +170,7 @@ impl Case {
         Ok(())
     }
 
-    // Asks for an index, and compares all behind it.
+    // Asks for an index, and compares all after it.
     fn index(&mut self, column: u64) -> Result<(), NoMemory> {
         self.steps = self.steps.wrapping_add(1);
         self.pair.index(column)?;
@@ -183,7 +185,7 @@ impl Case {
         Ok(())
     }
 
-    // The same, and compares all behind it.
+    // The same, and compares all after it.
     fn restore(&mut self) -> Result<(), NoMemory> {
         self.steps = self.steps.wrapping_add(1);
         self.go_on()?;
@@ -219,7 +221,8 @@ impl Case {
         Ok(())
     }
 
-    // Makes one of the made changes, and compares what the tables show now, looked at by one row of it.
+    // Makes one of the made changes, and compares what the tables show now, looked at by one row of
+    // it.
     fn make(&mut self, numbers: &mut Numbers) -> Result<(), NoMemory> {
         let made = made_change(numbers, self.pair.columns().len());
         if made.restore {
@@ -244,7 +247,7 @@ impl Case {
         Ok(())
     }
 
-    // So many of them from a seed; behind each so many all is compared.
+    // So many of them from a seed; after each so many all is compared.
     fn made(&mut self, text: &[u8]) -> Result<(), NoMemory> {
         let (seed, others) = first_word(text);
         let (count, every) = first_word(others);
@@ -320,7 +323,7 @@ pub(crate) fn play(alloc: Global, cases: &[u8]) -> Result<Vec<u8>, AllocError> {
     }
 }
 
-// The same, with the one word for want of memory that the crates below have.
+// The same, with the one word when out of memory that the crates below have.
 fn play_lines(alloc: Global, cases: &[u8]) -> Result<Vec<u8>, NoMemory> {
     let mut case = Case::new(alloc);
     for line in cases.split(|byte| *byte == b'\n') {

@@ -1,10 +1,10 @@
 //! A stored table and a plain one side by side: what each call shows, compared.
 
-use crate::moments::rows_shown;
+use crate::moment::rows_shown;
 use crate::plain_table::{PlainCell, PlainRow, PlainTable, are_of};
 use crate::row_comparison::NOW;
 use crate::tested_table::{Scanned, between, scan};
-use history_store::{Cell, Cut, GivenRow, LentRows, StoredTable};
+use history_store::{BorrowedRows, Cell, Cut, GivenRow, StoredTable};
 use prima_base::{ColType, Name, NoMemory, Period, Row, Val, Value};
 use std::alloc::Global;
 use std::cmp::Ordering;
@@ -52,19 +52,19 @@ fn are_same(values: &[Val<'_>], others: &[Val<'_>]) -> bool {
     true
 }
 
-// Whether the lent rows are those at these places, in their order.
-fn are_lent(
+// Whether the borrowed rows are those at these places, in their order.
+fn are_borrowed(
     alloc: Global,
-    mut lent: LentRows<'_>,
+    mut borrowed: BorrowedRows<'_>,
     rows: &[Vec<Val<'_>>],
     places: &[usize],
 ) -> Result<bool, NoMemory> {
     let mut values = Vec::new(alloc);
     for (at, place) in places.iter().enumerate() {
-        if at >= lent.len() {
+        if at >= borrowed.len() {
             return Ok(false);
         }
-        lent.lend(at, &mut values)?;
+        borrowed.lend(at, &mut values)?;
         match rows.get(*place) {
             Some(row) => {
                 if !are_same(&values, row) {
@@ -74,11 +74,11 @@ fn are_lent(
             None => return Ok(false),
         }
     }
-    Ok(lent.len() == places.len())
+    Ok(borrowed.len() == places.len())
 }
 
-// Whether the row is before those that begin with these values, or, with `behind`, not behind them.
-fn is_before(row: &[Val<'_>], values: &[Value], behind: bool) -> bool {
+// Whether the row is before those that begin with these values, or, with `after`, not after them.
+fn is_before(row: &[Val<'_>], values: &[Value], after: bool) -> bool {
     for (place, value) in values.iter().enumerate() {
         if let Some(own) = row.get(place) {
             match own.compare(&value.lend()) {
@@ -88,7 +88,7 @@ fn is_before(row: &[Val<'_>], values: &[Value], behind: bool) -> bool {
             }
         }
     }
-    behind
+    after
 }
 
 // The first of the values, so many of them.
@@ -100,30 +100,31 @@ fn first_values(alloc: Global, row: &Row, len: usize) -> Result<Vec<Value>, NoMe
     Ok(values)
 }
 
-// A cut, and whether it is behind the rows that begin with its values.
+// A cut, and whether it is after the rows that begin with its values.
 #[derive(Drop)]
 struct PlainCut {
     cut: Cut,
-    behind: bool,
+    after: bool,
 }
 
 impl PlainCut {
     fn has_before(&self, row: &[Val<'_>]) -> bool {
-        is_before(row, self.cut.values(), self.behind)
+        is_before(row, self.cut.values(), self.after)
     }
 }
 
-// The cuts at the row: before and behind what begins with none of its values, with the first of them, and so on.
+// The cuts at the row: before and after what begins with none of its values, with the first of
+// them, and so on.
 fn cuts_at(alloc: Global, row: &Row) -> Result<Vec<PlainCut>, NoMemory> {
     let mut cuts = Vec::new(alloc);
     for len in 0..=row.values().len() {
         cuts.push(PlainCut {
             cut: Cut::before(first_values(alloc, row, len)?),
-            behind: false,
+            after: false,
         })?;
         cuts.push(PlainCut {
-            cut: Cut::behind(first_values(alloc, row, len)?),
-            behind: true,
+            cut: Cut::after(first_values(alloc, row, len)?),
+            after: true,
         })?;
     }
     Ok(cuts)
@@ -166,7 +167,7 @@ impl<'a> Sides<'a> {
 
     fn same_holding(self, rows: &[Row]) -> Result<bool, NoMemory> {
         for row in rows {
-            if self.stored.holds(&GivenRow::lent(row.values())) != self.plain.holds(row)? {
+            if self.stored.holds(&GivenRow::borrowed(row.values())) != self.plain.holds(row)? {
                 return Ok(false);
             }
         }
@@ -187,7 +188,7 @@ impl<'a> Sides<'a> {
             }
         }
         match between(self.stored, &from.cut, &to.cut) {
-            Some(lent) => are_lent(self.alloc, lent, rows, &places),
+            Some(borrowed) => are_borrowed(self.alloc, borrowed, rows, &places),
             None => Ok(false),
         }
     }
@@ -212,7 +213,7 @@ impl<'a> Sides<'a> {
         column: usize,
         value: &Value,
     ) -> Result<bool, NoMemory> {
-        let Some(lent) = self.stored.rows_with(column, value) else {
+        let Some(borrowed) = self.stored.rows_with(column, value) else {
             return Ok(!self.plain.is_indexed(column));
         };
         if !self.plain.is_indexed(column) {
@@ -224,7 +225,7 @@ impl<'a> Sides<'a> {
                 places.push(place)?;
             }
         }
-        are_lent(self.alloc, lent, rows, &places)
+        are_borrowed(self.alloc, borrowed, rows, &places)
     }
 
     // The same for each value of the row, each column, and one column too many.
@@ -298,7 +299,8 @@ impl<'a> Sides<'a> {
         Ok(sides.same_sizes() && sides.same_rows(&rows)? && sides.compare_scans(&scanned).is_none())
     }
 
-    /// In what their histories differ: the scans, the rows at these moments, and the table that the scans make.
+    /// In what their histories differ: the scans, the rows at these moments, and the table that the
+    /// scans make.
     pub(crate) fn compare_histories(
         self,
         restored: &StoredTable,

@@ -1,6 +1,6 @@
 //! The lines of a case.
 
-use crate::words::first_word;
+use crate::word::first_word;
 use case_text::read_number;
 
 /// What a line says.

@@ -7,7 +7,8 @@ use history_store::StoredTable;
 use prima_base::{ColType, Name, NoMemory, Row};
 use std::alloc::Global;
 
-/// A stored table, once there is one, and a plain one; their columns, their last stamp, and the moments before and at each stamp.
+/// A stored table, once there is one, and a plain one; their columns, their last stamp, and the
+/// moments before and at each stamp.
 #[derive(Drop)]
 pub(crate) struct Pair {
     alloc: Global,
@@ -18,7 +19,7 @@ pub(crate) struct Pair {
     moments: Vec<u64>,
 }
 
-/// Puts a copy of each of the rows behind the list.
+/// Puts a copy of each of the rows after the list.
 pub(crate) fn add_copies(list: &mut Vec<Row>, rows: &[Row]) -> Result<(), NoMemory> {
     for row in rows {
         list.push(row.copy()?)?;
@@ -39,7 +40,7 @@ impl Pair {
         }
     }
 
-    /// Puts a column behind the others.
+    /// Puts a column after the others.
     pub(crate) fn add_column(&mut self, name: Name, kind: ColType) -> Result<(), NoMemory> {
         self.columns.push((name, kind))?;
         Ok(())
@@ -88,7 +89,8 @@ impl Pair {
         Ok(())
     }
 
-    /// Makes the change that loses and gains these rows, which are sorted; the first one makes the table: whether it is one.
+    /// Makes the change that loses and gains these rows, which are sorted; the first one makes the
+    /// table: whether it is one.
     pub(crate) fn change(
         &mut self,
         stamp: u64,
@@ -109,14 +111,15 @@ impl Pair {
         Ok(is_change)
     }
 
-    /// Makes it by all the rows that the table has behind it. Of the rows to be lost and gained only those are left that are.
+    /// Makes it by all the rows that the table has after it. Of the rows to be lost and gained only
+    /// those are left that are.
     pub(crate) fn change_whole(
         &mut self,
         stamp: u64,
         lost: &mut Vec<Row>,
         gained: &mut Vec<Row>,
     ) -> Result<bool, NoMemory> {
-        let mut rows = self.plain.behind(lost, gained)?;
+        let mut rows = self.plain.after(lost, gained)?;
         *lost = self.plain.without(&rows)?;
         *gained = self.plain.fresh(&rows)?;
         let Some(table) = &mut self.stored else {

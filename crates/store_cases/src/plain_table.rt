@@ -1,8 +1,9 @@
 //! A table that keeps its history plainly.
 //!
-//! It is the earlier form of the store, made simpler still: each row owns its values. It stands for what the stored table keeps in
-//! columns, byte buffers, links between cells and indexes; here is a list of rows in the order of their ids, each with the period of
-//! its key and, for each column, what it had there, oldest first. Whatever is asked is looked up from the first row to the last.
+//! It is the earlier form of the store, made simpler still: each row owns its values. It stands for
+//! what the stored table keeps in columns, byte buffers, links between cells and indexes; here is a
+//! list of rows in the order of their ids, each with the period of its key and, for each column,
+//! what it had there, oldest first. Whatever is asked is looked up from the first row to the last.
 
 use prima_base::{FOREVER, NoMemory, Row, Val, Value};
 use std::alloc::Global;
@@ -18,7 +19,8 @@ pub(crate) struct PlainCell {
     pub(crate) end: u64,
 }
 
-/// A row: the first moment of its key and the first behind it, and its cells in each column, oldest first.
+/// A row: the first moment of its key and the first after it, and its cells in each column, oldest
+/// first.
 #[derive(Drop)]
 pub(crate) struct PlainRow {
     pub(crate) start: u64,
@@ -112,7 +114,8 @@ impl PlainRow {
         Ok(Row::new(alloc, values))
     }
 
-    // What the row has at the moment, column by column, lent; none where its key does not have the moment.
+    // What the row has at the moment, column by column, borrowed; none where its key does not have
+    // the moment.
     fn values_at(&self, alloc: Global, moment: u64) -> Result<Option<Vec<Val<'_>>>, NoMemory> {
         if moment < self.start || self.end <= moment {
             return Ok(None);
@@ -129,7 +132,7 @@ impl PlainRow {
     }
 }
 
-/// Whether the lent values are those of the row.
+/// Whether the borrowed values are those of the row.
 pub(crate) fn are_of(values: &[Val<'_>], row: &Row) -> bool {
     if values.len() != row.values().len() {
         return false;
@@ -152,7 +155,7 @@ impl PlainTable {
         }
     }
 
-    /// The rows at the moment, lent, by their ids.
+    /// The rows at the moment, borrowed, by their ids.
     pub(crate) fn rows_by_id(&self, moment: u64) -> Result<Vec<Vec<Val<'_>>>, NoMemory> {
         let mut rows = Vec::new(self.alloc);
         for row in &self.rows {
@@ -163,7 +166,7 @@ impl PlainTable {
         Ok(rows)
     }
 
-    /// The rows at the moment, lent, ascending.
+    /// The rows at the moment, borrowed, ascending.
     pub(crate) fn rows_at(&self, moment: u64) -> Result<Vec<Vec<Val<'_>>>, NoMemory> {
         let mut rows = self.rows_by_id(moment)?;
         rows.sort_unstable();
@@ -263,8 +266,8 @@ impl PlainTable {
         Ok(others)
     }
 
-    /// The rows behind the change that loses and gains these, each once.
-    pub(crate) fn behind(&self, lost: &[Row], gained: &[Row]) -> Result<Vec<Row>, NoMemory> {
+    /// The rows after the change that loses and gains these, each once.
+    pub(crate) fn after(&self, lost: &[Row], gained: &[Row]) -> Result<Vec<Row>, NoMemory> {
         let mut rows = self.without(lost)?;
         for row in gained {
             rows.push(row.copy()?)?;
@@ -296,8 +299,9 @@ impl PlainTable {
         Ok(())
     }
 
-    /// From the stamp on these current rows are lost, and these others gained; both ascend. Each lost row hands its id to the
-    /// gained one at its place; what is left over ends, or begins with the next id. Of a change of many rows no index is left.
+    /// From the stamp on these current rows are lost, and these others gained; both ascend. Each
+    /// lost row hands its id to the gained one at its place; what is left over ends, or begins with
+    /// the next id. Of a change of many rows no index is left.
     pub(crate) fn change(
         &mut self,
         stamp: u64,

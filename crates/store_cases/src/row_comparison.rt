@@ -1,15 +1,16 @@
-//! The order of the rows that scans show now: made, and tested to be what a table that is made again wants.
+//! The order of the rows that scans show now: made, and tested to be what a table that is made
+//! again wants.
 
 ghost use Rattle.std.specs.Prelude.{◌≡◌, ◌++◌, ◌-◌, true, List, [], ◌∷◌, All, IfOk, OnOk, map};
 ghost use Rattle.relations.specs.Sets.{Same, Ascends};
 ghost use Rattle.relations.specs.Spans.{forever};
 ghost use Rattle.prima_base.specs.Order.{row_cmp, shown};
-ghost use Rattle.prima_base.specs.Columns.{IsLawful};
+ghost use Rattle.prima_base.specs.Columns.{IsValid};
 ghost use Rattle.history_store.specs.Store.{shown_at, row_at};
 ghost use Rattle.history_store.specs.Change.{ids_from, rows_along};
 ghost use Rattle.history_store.specs.Restoring.{cell_of, entries_of, IsInOrder};
 
-use crate::moments::has;
+use crate::moment::has;
 use history_store::{Cell, GivenRow};
 use prima_base::{FOREVER, NoMemory, Period, Val};
 use std::alloc::Global;
@@ -62,12 +63,13 @@ fn are_open(alloc: Global, keys: &[Period], ids: &[usize]) -> Result<bool, NoMem
     Ok(are_equal(&sorted, &open))
 }
 
-// Puts the value of the cell behind the others, where it is what the row with this id has now.
+// Puts the value of the cell after the others, where it is what the row with this id has now.
 fn add_value<'a>(cell: &Cell<'a>, id: usize, values: &mut Vec<Val<'a>>) -> Result<(), NoMemory>
-    requires cell { IsLawful (shown cell.now.value) }
-    requires values { All (λ v. IsLawful (shown v)) values.old.items }
-    ensures values { OnOk result (map shown values.new.items ≡ map shown values.old.items ++ shown_at id (forever - 1) (cell_of cell.now ∷ [])) }
-    ensures lawful { OnOk result (All (λ v. IsLawful (shown v)) values.new.items) }
+    requires cell { IsValid (shown cell.now.value) }
+    requires values { All (λ v. IsValid (shown v)) values.old.items }
+    ensures values { OnOk result (map shown values.new.items ≡ map shown values.old.items
+        ++ shown_at id (forever - 1) (cell_of cell.now ∷ [])) }
+    ensures valid { OnOk result (All (λ v. IsValid (shown v)) values.new.items) }
 {
     if cell.id == id as u64 && has(cell.period, NOW) {
         values.push(cell.value.copy()?)?;
@@ -75,12 +77,13 @@ fn add_value<'a>(cell: &Cell<'a>, id: usize, values: &mut Vec<Val<'a>>) -> Resul
     Ok(())
 }
 
-// Puts what the row with this id has in the column now behind its other values.
+// Puts what the row with this id has in the column now after its other values.
 fn add_values<'a>(cells: &[Cell<'a>], id: usize, values: &mut Vec<Val<'a>>) -> Result<(), NoMemory>
-    requires cells { All (λ c. IsLawful c.value) (map cell_of cells.now) }
-    requires values { All (λ v. IsLawful (shown v)) values.old.items }
-    ensures values { OnOk result (map shown values.new.items ≡ map shown values.old.items ++ shown_at id (forever - 1) (map cell_of cells.now)) }
-    ensures lawful { OnOk result (All (λ v. IsLawful (shown v)) values.new.items) }
+    requires cells { All (λ c. IsValid c.value) (map cell_of cells.now) }
+    requires values { All (λ v. IsValid (shown v)) values.old.items }
+    ensures values { OnOk result (map shown values.new.items ≡ map shown values.old.items
+        ++ shown_at id (forever - 1) (map cell_of cells.now)) }
+    ensures valid { OnOk result (All (λ v. IsValid (shown v)) values.new.items) }
 {
     for cell in cells {
         add_value(cell, id, values)?;
@@ -90,7 +93,7 @@ fn add_values<'a>(cells: &[Cell<'a>], id: usize, values: &mut Vec<Val<'a>>) -> R
 
 // The row with this id, as it is now.
 fn row_of<'a>(alloc: Global, columns: &[Vec<Cell<'a>>], id: usize) -> Result<GivenRow<'a>, NoMemory>
-    requires { All (All (λ c. IsLawful c.value)) (entries_of columns.now) }
+    requires { All (All (λ c. IsValid c.value)) (entries_of columns.now) }
     ensures { IfOk result (λ row. row ≡ row_at id (forever - 1) (entries_of columns.now)) }
 {
     let mut values = Vec::new(alloc);
@@ -106,7 +109,7 @@ fn rows_of<'a>(
     columns: &[Vec<Cell<'a>>],
     ids: &[usize],
 ) -> Result<Vec<GivenRow<'a>>, NoMemory>
-    requires { All (All (λ c. IsLawful c.value)) (entries_of columns.now) }
+    requires { All (All (λ c. IsValid c.value)) (entries_of columns.now) }
     ensures { IfOk result (λ v. v.items ≡ rows_along ids.now (forever - 1) (entries_of columns.now)) }
 {
     let mut rows = Vec::new(alloc);
@@ -136,7 +139,7 @@ pub(crate) fn are_in_order(
     columns: &[Vec<Cell<'_>>],
     ids: &[usize],
 ) -> Result<bool, NoMemory>
-    requires { All (All (λ c. IsLawful c.value)) (entries_of columns.now) }
+    requires { All (All (λ c. IsValid c.value)) (entries_of columns.now) }
     ensures { IfOk result (λ b. b ≡ true → IsInOrder keys.now (entries_of columns.now) ids.now) }
 {
     if !are_open(alloc, keys, ids)? {

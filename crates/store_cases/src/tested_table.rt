@@ -1,19 +1,21 @@
 //! A stored table, with what its calls require tested before each.
 
-ghost use Rattle.std.specs.Prelude.{◌≡◌, ◌+◌, ◌<◌, ◌≤◌, ℕ, true, false, List, [], map, length, IfOk, IfSome, OnOk, All, slice_index_or};
+ghost use Rattle.std.specs.Prelude.{◌≡◌, ◌+◌, ◌<◌, ◌≤◌, ℕ, true, false, List, [], map, length};
+ghost use Rattle.std.specs.Prelude.{IfOk, IfSome, OnOk, All, slice_index_or};
 ghost use Rattle.relations.specs.Sets.{In, has, BeforeAll};
 ghost use Rattle.relations.specs.Spans.{forever};
 ghost use Rattle.prima_base.specs.Order.{row_cmp, bytes_cmp, shown};
-ghost use Rattle.prima_base.specs.Columns.{has_type, IsLawful, IsRow, IsRelation, AreColumns, names_of};
-ghost use Rattle.prima_base.specs.declared.values.Value.{Value as OneValue};
+ghost use Rattle.prima_base.specs.Columns.{has_type, IsValid, IsRow, IsRelation, AreColumns};
+ghost use Rattle.prima_base.specs.Columns.{names_of};
+ghost use Rattle.prima_base.specs.declared.value.Value.{Value as OneValue};
 ghost use Rattle.history_store.specs.Store.{Store, AllBefore, IsStore, relation_at};
 ghost use Rattle.history_store.specs.Scans.{seen_cell};
 ghost use Rattle.history_store.specs.Restoring.{cell_of, entries_of};
 
-use crate::moments::ids_shown;
+use crate::moment::ids_shown;
 use crate::pair::add_copies;
 use crate::row_comparison::{NOW, are_in_order};
-use history_store::{Cell, CellEntry, CellScan, Cut, GivenRow, KeyScan, LentRows, StoredTable};
+use history_store::{BorrowedRows, Cell, CellEntry, CellScan, Cut, GivenRow, KeyScan, StoredTable};
 use prima_base::{ColType, FOREVER, Name, NoMemory, Period, Row, Steps, Value};
 use std::alloc::Global;
 use std::cmp::Ordering;
@@ -40,7 +42,8 @@ impl Model for TestedTable {
 
     ghost view = { λ t. t.stored };
 
-    ghost invariant = { λ t. (t.stored.columns ≡ t.columns.items) × ((m : ℕ) → t.last < m → AllBefore t.stored m) };
+    ghost invariant = { λ t. (t.stored.columns ≡ t.columns.items)
+        × ((m : ℕ) → t.last < m → AllBefore t.stored m) };
 }
 
 // Whether the name is before those of the columns.
@@ -125,15 +128,17 @@ fn become_relation(columns: &[(Name, ColType)], rows: &mut Vec<Row>) -> bool
 
 // Whether the table has the row.
 fn has_row(stored: &StoredTable, row: &Row) -> bool
-    ensures { (m : ℕ) → m < forever → AllBefore stored.now (m + 1) → result ≡ has row_cmp row.now (relation_at stored.now m) }
+    ensures { (m : ℕ) → m < forever → AllBefore stored.now (m + 1)
+        → result ≡ has row_cmp row.now (relation_at stored.now m) }
 {
-    let row = GivenRow::lent(row.values());
+    let row = GivenRow::borrowed(row.values());
     stored.holds(&row)
 }
 
 // Whether the table has each of the rows.
 fn are_there(stored: &StoredTable, rows: &[Row]) -> bool
-    ensures { result ≡ true → (m : ℕ) → m < forever → AllBefore stored.now (m + 1) → All (λ row. has row_cmp row (relation_at stored.now m) ≡ true) rows.now }
+    ensures { result ≡ true → (m : ℕ) → m < forever → AllBefore stored.now (m + 1)
+        → All (λ row. has row_cmp row (relation_at stored.now m) ≡ true) rows.now }
 {
     for row in rows {
         if !has_row(stored, row) {
@@ -145,7 +150,8 @@ fn are_there(stored: &StoredTable, rows: &[Row]) -> bool
 
 // Whether the table has none of the rows.
 fn are_fresh(stored: &StoredTable, rows: &[Row]) -> bool
-    ensures { result ≡ true → (m : ℕ) → m < forever → AllBefore stored.now (m + 1) → All (λ row. has row_cmp row (relation_at stored.now m) ≡ false) rows.now }
+    ensures { result ≡ true → (m : ℕ) → m < forever → AllBefore stored.now (m + 1)
+        → All (λ row. has row_cmp row (relation_at stored.now m) ≡ false) rows.now }
 {
     for row in rows {
         if has_row(stored, row) {
@@ -155,13 +161,13 @@ fn are_fresh(stored: &StoredTable, rows: &[Row]) -> bool
     true
 }
 
-// The rows, lent.
+// The rows, borrowed.
 fn given_rows<'a>(alloc: Global, rows: &'a [Row]) -> Result<Vec<GivenRow<'a>>, NoMemory>
     ensures { IfOk result (λ v. v.items ≡ rows.now) }
 {
     let mut given = Vec::new(alloc);
     for row in rows {
-        given.push(GivenRow::lent(row.values()))?;
+        given.push(GivenRow::borrowed(row.values()))?;
     }
     Ok(given)
 }
@@ -177,7 +183,7 @@ fn unite(
 ) -> Result<bool, NoMemory>
     requires same { stored.old.columns ≡ columns.now }
     requires before { AllBefore stored.old stamp }
-    requires lawful { stamp < forever }
+    requires valid { stamp < forever }
     ensures same { stored.new.columns ≡ columns.now }
     ensures later { (m : ℕ) → stamp < m → AllBefore stored.new m }
 {
@@ -192,7 +198,8 @@ fn unite(
     Ok(true)
 }
 
-// Makes the change that loses and gains these rows, where it is one. One that loses none is made by a union at each even stamp.
+// Makes the change that loses and gains these rows, where it is one. One that loses none is made by
+// a union at each even stamp.
 #[tactic(auto, using(crate::proofs::TestedLaws::still_before))]
 fn change_rows(
     alloc: Global,
@@ -204,7 +211,7 @@ fn change_rows(
 ) -> Result<bool, NoMemory>
     requires same { stored.old.columns ≡ columns.now }
     requires before { AllBefore stored.old stamp }
-    requires lawful { stamp < forever }
+    requires valid { stamp < forever }
     ensures same { stored.new.columns ≡ columns.now }
     ensures later { (m : ℕ) → stamp < m → AllBefore stored.new m }
 {
@@ -238,7 +245,7 @@ fn change_to(
 ) -> Result<bool, NoMemory>
     requires same { stored.old.columns ≡ columns.now }
     requires before { AllBefore stored.old stamp }
-    requires lawful { stamp < forever }
+    requires valid { stamp < forever }
     ensures same { stored.new.columns ≡ columns.now }
     ensures later { (m : ℕ) → stamp < m → AllBefore stored.new m }
 {
@@ -283,7 +290,7 @@ fn take_cells<'a, L: Ledger>(
     steps: &mut Steps<L>,
 ) -> Result<Vec<Cell<'a>>, NoMemory>
     ensures cells { IfOk result (λ v. map cell_of v.items ≡ scan.entry) }
-    ensures lawful { IfOk result (λ v. All (λ c. IsLawful c.value) (map cell_of v.items)) }
+    ensures valid { IfOk result (λ v. All (λ c. IsValid c.value) (map cell_of v.items)) }
 {
     let mut cells = Vec::new(alloc);
     'entries: while let Some(entry) = scan.next_cell(steps) {
@@ -299,7 +306,7 @@ fn take_columns<'a, L: Ledger>(
     steps: &mut Steps<L>,
 ) -> Result<Vec<Vec<Cell<'a>>>, NoMemory>
     ensures cells { IfOk result (λ v. entries_of v.items ≡ stored.now.cells) }
-    ensures lawful { IfOk result (λ v. All (All (λ c. IsLawful c.value)) (entries_of v.items)) }
+    ensures valid { IfOk result (λ v. All (All (λ c. IsValid c.value)) (entries_of v.items)) }
 {
     let mut columns = Vec::new(alloc);
     for column in 0..stored.width() {
@@ -308,7 +315,8 @@ fn take_columns<'a, L: Ledger>(
     Ok(columns)
 }
 
-/// What the scans of a table hand out: the keys, and the entries of each column, whose values are lent by the table.
+/// What the scans of a table hand out: the keys, and the entries of each column, whose values are
+/// borrowed by the table.
 #[derive(Drop)]
 pub(crate) struct Scanned<'a> {
     pub(crate) keys: Vec<Period>,
@@ -326,8 +334,9 @@ fn scan_counted<'a, L: Ledger>(
     requires some { 0 < blank.parts }
     ensures keys { IfOk result (λ s. s.keys.items ≡ stored.now.keys) }
     ensures cells { IfOk result (λ s. entries_of s.columns.items ≡ stored.now.cells) }
-    ensures values { IfOk result (λ s. All (All (λ c. IsLawful c.value)) (entries_of s.columns.items)) }
-    ensures lawful { IfOk result (λ s. IsStore stored.now) }
+    ensures values { IfOk result (λ s. All (All (λ c. IsValid c.value))
+        (entries_of s.columns.items)) }
+    ensures valid { IfOk result (λ s. IsStore stored.now) }
 {
     let mut steps: Steps<L> = Steps::new(blank);
     let keys = take_keys(alloc, stored.scan_keys(), &mut steps)?;
@@ -339,8 +348,9 @@ fn scan_counted<'a, L: Ledger>(
 pub(crate) fn scan(alloc: Global, stored: &StoredTable) -> Result<Scanned<'_>, NoMemory>
     ensures keys { IfOk result (λ s. s.keys.items ≡ stored.now.keys) }
     ensures cells { IfOk result (λ s. entries_of s.columns.items ≡ stored.now.cells) }
-    ensures values { IfOk result (λ s. All (All (λ c. IsLawful c.value)) (entries_of s.columns.items)) }
-    ensures lawful { IfOk result (λ s. IsStore stored.now) }
+    ensures values { IfOk result (λ s. All (All (λ c. IsValid c.value))
+        (entries_of s.columns.items)) }
+    ensures valid { IfOk result (λ s. IsStore stored.now) }
 {
     scan_counted::<Brand>(alloc, stored, Blank::new(1))
 }
@@ -353,7 +363,8 @@ fn restored_from(
 ) -> Result<Option<StoredTable>, NoMemory>
     requires { stored.now.columns ≡ columns.now }
     ensures same { IfOk result (λ o. IfSome o (λ t. t.columns ≡ columns.now)) }
-    ensures later { (m : ℕ) → AllBefore stored.now m → IfOk result (λ o. IfSome o (λ t. AllBefore t m)) }
+    ensures later { (m : ℕ) → AllBefore stored.now m
+        → IfOk result (λ o. IfSome o (λ t. AllBefore t m)) }
 {
     let scanned = scan(alloc, stored)?;
     let order = ids_shown(alloc, &scanned, NOW)?;
@@ -368,8 +379,13 @@ fn restored_from(
     Ok(Some(restored))
 }
 
-/// The table's rows between the cuts: none where one of them has more values than there are columns.
-pub(crate) fn between<'a>(stored: &'a StoredTable, from: &Cut, to: &Cut) -> Option<LentRows<'a>> {
+/// The table's rows between the cuts: none where one of them has more values than there are
+/// columns.
+pub(crate) fn between<'a>(
+    stored: &'a StoredTable,
+    from: &Cut,
+    to: &Cut,
+) -> Option<BorrowedRows<'a>> {
     let width = stored.width();
     if from.values().len() > width || to.values().len() > width {
         return None;
@@ -378,8 +394,8 @@ pub(crate) fn between<'a>(stored: &'a StoredTable, from: &Cut, to: &Cut) -> Opti
 }
 
 impl TestedTable {
-    /// The table of these columns that has these rows from the stamp on: none where they are no relation of columns in the
-    /// order of their names, or the stamp is no moment.
+    /// The table of these columns that has these rows from the stamp on: none where they are no
+    /// relation of columns in the order of their names, or the stamp is no moment.
     pub(crate) fn new(
         alloc: Global,
         columns: Vec<(Name, ColType)>,
@@ -401,7 +417,8 @@ impl TestedTable {
         }))
     }
 
-    /// Makes the change that loses and gains these rows, which are sorted: whether it was one of the table.
+    /// Makes the change that loses and gains these rows, which are sorted: whether it was one of
+    /// the table.
     pub(crate) fn change(
         &mut self,
         stamp: u64,
@@ -454,7 +471,8 @@ impl TestedTable {
     /// The table that the scans make: none where the ids are not in the order of their rows.
     pub(crate) fn restored(&self) -> Result<Option<StoredTable>, NoMemory>
         ensures same { IfOk result (λ o. IfSome o (λ t. t.columns ≡ self.now.columns)) }
-        ensures later { (m : ℕ) → AllBefore self.now m → IfOk result (λ o. IfSome o (λ t. AllBefore t m)) }
+        ensures later { (m : ℕ) → AllBefore self.now m
+            → IfOk result (λ o. IfSome o (λ t. AllBefore t m)) }
     {
         restored_from(self.alloc, &self.columns, &self.stored)
     }

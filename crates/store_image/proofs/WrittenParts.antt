@@ -1,36 +1,40 @@
--- Parts of an image that are written one behind the other.
-use Rattle.std.proofs.Common.{◌≡◌, ◌<◌, ℕ, ◌+◌, List, [], ◌∷◌, ◌++◌, length, map, drop, get_or, refl, sym, ap, subst, ◌∙◌, append_assoc, inl, inr}
+-- Parts of an image that are written one after the other.
+use Rattle.std.proofs.Common.{◌≡◌, ◌<◌, ℕ, ◌+◌, List, [], ◌∷◌, ◌++◌, length, map, drop, get_or}
+use Rattle.std.proofs.Common.{refl, sym, ap, subst, ◌∙◌, append_assoc, inl, inr}
 use Rattle.std.specs.Prelude.{Option}
 use Rattle.std.specs.List.{flat_map, AllByRecursion}
 use Rattle.std.proofs.lemmas.List.{drop_more}
 use Rattle.std.proofs.lemmas.List.Concat.{flat_map-cons}
 use Rattle.relations.specs.Spans.{Span}
-use Rattle.prima_base.specs.Columns.{IsLawful}
+use Rattle.prima_base.specs.Columns.{IsValid}
 use Rattle.schema_catalog.specs.Tables.{Tables}
 use Rattle.history_store.specs.Scans.{keys_from}
-use Rattle.history_store.specs.declared.scans.KeyEntry.{KeyEntry}
+use Rattle.history_store.specs.declared.scan.KeyEntry.{KeyEntry}
 use Rattle.table_histories.specs.Store.{Cell}
 use Rattle.smo_types.specs.Commands.{PlainVersion}
-use Rattle.smo_meaning.specs.After.{IsLawful as AreTables}
-use Rattle.smo_meaning.specs.LawfulPast.{AreVersions}
-use Rattle.smo_meaning.proofs.NextSchemas.{next_is_lawful}
+use Rattle.smo_meaning.specs.After.{IsValid as AreTables}
+use Rattle.smo_meaning.specs.ValidPast.{AreVersions}
+use Rattle.smo_meaning.proofs.NextSchemas.{next_is_valid}
 use Rattle.command_spelling.specs.Spelling.{number, list_bytes}
 use Rattle.image_spelling.specs.Spelling.{span_bytes, cell_bytes, stored_bytes}
-use Rattle.image_spelling.proofs.LawfulVersions.{version_writable}
-use Rattle.version_groups.specs.declared.made_tables.MadeTable.{MadeTable}
-use Rattle.store_image.specs.ImageIn.{kept_line, CanBeWritten, AreLawful}
+use Rattle.image_spelling.proofs.ValidVersions.{version_writable}
+use Rattle.version_groups.specs.declared.made_table.MadeTable.{MadeTable}
+use Rattle.store_image.specs.ImageIn.{kept_line, CanBeWritten, AreValid}
 
 -- one part more
-pub part_more : {A : Type 0} (f : A → List ℕ) (out new : List ℕ) (x : A) (before rest : List A) → before ≡ x ∷ rest → new ≡ out ++ f x → new ++ flat_map f rest ≡ out ++ flat_map f before
+pub part_more : {A : Type 0} (f : A → List ℕ) (out new : List ℕ) (x : A) (before rest : List A)
+    → before ≡ x ∷ rest → new ≡ out ++ f x → new ++ flat_map f rest ≡ out ++ flat_map f before
 part_more f out new x before rest e is =
-    ap (λ l. l ++ flat_map f rest) is ∙ append_assoc out (f x) (flat_map f rest) ∙ ap (λ l. out ++ l) (sym (flat_map-cons f x rest) ∙ sym (ap (flat_map f) e))
+    ap (λ l. l ++ flat_map f rest) is ∙ append_assoc out (f x) (flat_map f rest)
+    ∙ ap (λ l. out ++ l) (sym (flat_map-cons f x rest) ∙ sym (ap (flat_map f) e))
 
--- an entry, behind the lawful ones
-pub lawful_more : (c : Cell) (before rest : List Cell) → before ≡ c ∷ rest → IsLawful c.value → AreLawful rest → AreLawful before
-lawful_more c before rest e lawful others = subst AreLawful (sym e) each
+-- an entry, after the valid ones
+pub valid_more : (c : Cell) (before rest : List Cell) → before ≡ c ∷ rest → IsValid c.value
+    → AreValid rest → AreValid before
+valid_more c before rest e valid others = subst AreValid (sym e) each
   where
-    each : AreLawful (c ∷ rest)
-    each d (inl is) = subst (λ x. IsLawful x.value) is lawful
+    each : AreValid (c ∷ rest)
+    each d (inl is) = subst (λ x. IsValid x.value) is valid
     each d (inr i) = others d i
 
 -- the keys of a table, of which each has its id
@@ -39,32 +43,46 @@ periods_are id [] = refl
 periods_are id (p ∷ keys) = ap (λ ps. p ∷ ps) (periods_are (id + 1) keys)
 
 -- keys with their count
-pub keys_written : (out mid new : List ℕ) (n : ℕ) (keys : List Span) (scan : List KeyEntry) → n ≡ length keys → scan ≡ keys_from 0 keys
-    → mid ≡ out ++ number 8 n → new ≡ mid ++ flat_map span_bytes (map (λ k. k.period) scan) → new ≡ out ++ list_bytes 8 span_bytes keys
+pub keys_written : (out mid new : List ℕ) (n : ℕ) (keys : List Span) (scan : List KeyEntry)
+    → n ≡ length keys → scan ≡ keys_from 0 keys
+    → mid ≡ out ++ number 8 n → new ≡ mid ++ flat_map span_bytes (map (λ k. k.period) scan)
+    → new ≡ out ++ list_bytes 8 span_bytes keys
 keys_written out mid new n keys scan count are first second =
-    let all : map (λ k. k.period) scan ≡ keys = ap (map (λ (k : KeyEntry). k.period)) are ∙ periods_are 0 keys in
-    second ∙ ap (λ ps. mid ++ flat_map span_bytes ps) all ∙ ap (λ l. l ++ flat_map span_bytes keys) (first ∙ ap (λ m. out ++ number 8 m) count)
+    let all : map (λ k. k.period) scan ≡ keys = ap (map (λ (k : KeyEntry). k.period)) are
+    ∙ periods_are 0 keys in
+    second ∙ ap (λ ps. mid ++ flat_map span_bytes ps) all
+    ∙ ap (λ l. l ++ flat_map span_bytes keys) (first ∙ ap (λ m. out ++ number 8 m) count)
     ∙ append_assoc out (number 8 (length keys)) (flat_map span_bytes keys)
 
 -- a column with its count
-pub column_more : (out mid new : List ℕ) (columns : List (List Cell)) (k n : ℕ) (cells : List Cell) → k < length columns → n ≡ length cells → cells ≡ get_or columns k []
+pub column_more : (out mid new : List ℕ) (columns : List (List Cell)) (k n : ℕ) (cells : List Cell)
+    → k < length columns → n ≡ length cells → cells ≡ get_or columns k []
     → mid ≡ out ++ number 8 n → new ≡ mid ++ flat_map cell_bytes cells
-    → new ++ flat_map (list_bytes 8 cell_bytes) (drop (k + 1) columns) ≡ out ++ flat_map (list_bytes 8 cell_bytes) (drop k columns)
+    → new ++ flat_map (list_bytes 8 cell_bytes) (drop (k + 1) columns) ≡ out
+    ++ flat_map (list_bytes 8 cell_bytes) (drop k columns)
 column_more out mid new columns k n cells inside count are first second =
-    part_more (list_bytes 8 cell_bytes) out new cells (drop k columns) (drop (k + 1) columns) (drop_more columns k [] inside ∙ ap (λ c. c ∷ drop (k + 1) columns) (sym are))
-    (second ∙ ap (λ l. l ++ flat_map cell_bytes cells) (first ∙ ap (λ m. out ++ number 8 m) count) ∙ append_assoc out (number 8 (length cells)) (flat_map cell_bytes cells))
+    part_more (list_bytes 8 cell_bytes) out new cells (drop k columns) (drop (k + 1) columns)
+    (drop_more columns k [] inside ∙ ap (λ c. c ∷ drop (k + 1) columns) (sym are))
+    (second ∙ ap (λ l. l ++ flat_map cell_bytes cells) (first ∙ ap (λ m. out ++ number 8 m) count)
+    ∙ append_assoc out (number 8 (length cells)) (flat_map cell_bytes cells))
 
 -- a lifeline, and what is kept over it
-pub stored_more : (out new : List ℕ) (tables : List MadeTable) (k : ℕ) (t : MadeTable) → k < length tables → get_or tables k t ≡ t → new ≡ out ++ stored_bytes (kept_line t)
-    → new ++ flat_map stored_bytes (map kept_line (drop (k + 1) tables)) ≡ out ++ flat_map stored_bytes (map kept_line (drop k tables))
+pub stored_more : (out new : List ℕ) (tables : List MadeTable) (k : ℕ) (t : MadeTable)
+    → k < length tables → get_or tables k t ≡ t → new ≡ out ++ stored_bytes (kept_line t)
+    → new ++ flat_map stored_bytes (map kept_line (drop (k + 1) tables)) ≡ out
+    ++ flat_map stored_bytes (map kept_line (drop k tables))
 stored_more out new tables k t inside is written =
-    part_more stored_bytes out new (kept_line t) (map kept_line (drop k tables)) (map kept_line (drop (k + 1) tables))
-    (ap (map kept_line) (drop_more tables k t inside ∙ ap (λ u. u ∷ drop (k + 1) tables) is)) written
+    part_more stored_bytes out new (kept_line t) (map kept_line (drop k tables))
+    (map kept_line (drop (k + 1) tables))
+    (ap (map kept_line) (drop_more tables k t inside ∙ ap (λ u. u ∷ drop (k + 1) tables) is))
+    written
 
--- versions that are accepted one behind the other can be written
-pub all_writable : (last : Option ℕ) (tables : Tables) (versions : List PlainVersion) → AreTables tables → AreVersions last tables versions → AllByRecursion CanBeWritten versions
-all_writable last tables [] lawful are = tt
-all_writable last tables (v ∷ versions) lawful are = (
-  version_writable last tables v lawful are.0,
-  all_writable _ v.tables versions (subst AreTables (sym are.0.tables) (next_is_lawful tables v.op lawful are.0.accepted)) are.1,
+-- versions that are accepted one after the other can be written
+pub all_writable : (last : Option ℕ) (tables : Tables) (versions : List PlainVersion)
+    → AreTables tables → AreVersions last tables versions → AllByRecursion CanBeWritten versions
+all_writable last tables [] valid are = tt
+all_writable last tables (v ∷ versions) valid are = (
+  version_writable last tables v valid are.0,
+  all_writable _ v.tables versions (subst AreTables (sym are.0.tables)
+      (next_is_valid tables v.op valid are.0.accepted)) are.1,
 )

@@ -1,16 +1,16 @@
 -- The image of an archive's groups.
 use Rattle.std.specs.Prelude.{◌≡◌, ◌<◌, ◌^◌, ℕ, List, [], ◌∷◌, length, map, Option, All, ⊤}
 use Rattle.relations.specs.Sets.{In}
-use Rattle.prima_base.specs.Columns.{IsLawful}
+use Rattle.prima_base.specs.Columns.{IsValid}
 use Rattle.table_histories.specs.Store.{Cell, Store, IsStore}
 use Rattle.smo_types.specs.Commands.{PlainVersion, evolving}
 use Rattle.smo_meaning.specs.Past.{Past}
-use Rattle.command_spelling.specs.Lawful.{IsWritableBody, BodyNamed}
+use Rattle.command_spelling.specs.Valid.{IsWritableBody, BodyNamed}
 use Rattle.lifelines.specs.Lifelines.{Lifeline}
 use Rattle.history_store.specs.Restoring.{IsInOrder}
 use Rattle.image_reader.specs.Seen.{stored_seen, cells_seen}
-use Rattle.image_reader.specs.declared.lines.ReadLine.{ReadLine}
-use Rattle.version_groups.specs.declared.made_tables.MadeTable.{MadeTable}
+use Rattle.image_reader.specs.declared.line.ReadLine.{ReadLine}
+use Rattle.version_groups.specs.declared.made_table.MadeTable.{MadeTable}
 use Rattle.version_groups.specs.Covering.{line_of}
 use Rattle.version_groups.specs.Groups.{Kept, versions_in}
 use Rattle.image_spelling.specs.Images.{StoredLine, Image, IsImage, VersionsNamed, store_of}
@@ -24,34 +24,39 @@ kept_line t = record { line = line_of t; keys = t.store.keys; cells = t.store.ce
 
 -- the image of groups with this last stamp
 abbrev pub image_in : Kept → Option ℕ → Image
-image_in kept last = record { last = last; versions = versions_in kept; lines = map kept_line kept.stored }
+image_in kept last = record {
+  last = last;
+  versions = versions_in kept;
+  lines =
+      map kept_line kept.stored;
+}
 
-abbrev pub AreLawful : List Cell → Type 0
-AreLawful cells = (c : Cell) → In c cells → IsLawful c.value
+abbrev pub AreValid : List Cell → Type 0
+AreValid cells = (c : Cell) → In c cells → IsValid c.value
 
--- the values of a column's entries are lawful, and their count is a number of 64 bits
+-- the values of a column's entries are valid, and their count is a number of 64 bits
 pub record ColumnHolds (cells : List Cell) : Type 0 where
-  pub values : AreLawful cells
+  pub values : AreValid cells
   pub few : length cells < 2 ^ 64
 
--- what is stored makes a table of lawful values, and its counts are numbers of 64 bits
+-- what is stored makes a table of valid values, and its counts are numbers of 64 bits
 pub record TableHolds (t : MadeTable) : Type 0 where
   pub store : IsStore t.store
   pub few : length t.store.keys < 2 ^ 64
   pub columns : All ColumnHolds t.store.cells
 
--- the names and constants in the version's operator, and in those of its inverse, are lawful ones
+-- the names and constants in the version's operator, and in those of its inverse, are valid ones
 abbrev pub IsNamed : PlainVersion → Type 0
 IsNamed v = BodyNamed (evolving v.op v.inverse)
 
--- so are those of all versions of the groups, and each of their tables is lawful
+-- so are those of all versions of the groups, and each of their tables is valid
 pub record GroupsHold (kept : Kept) : Type 0 where
   pub named : VersionsNamed (versions_in kept)
   pub tables : All TableHolds kept.stored
 
 -- an image that shows just this past, and has as many bytes as it says
 pub record IsImageOf (past : Past) (image : Image) : Type 0 where
-  pub lawful : IsImage image
+  pub valid : IsImage image
   pub shows : image_past past.commands image ≡ past
   pub length : length (image_bytes image) ≡ image_length past
 
@@ -61,10 +66,11 @@ CanBeWritten v = IsWritableBody (evolving v.op v.inverse)
 
 -- ---- made again
 
--- what was read over a lifeline makes a table of lawful values, and the ids of its current rows stand in the order of the rows
+-- what was read over a lifeline makes a table of valid values, and the ids of its current rows
+-- stand in the order of the rows
 pub record CanBeMade (line : Lifeline) (l : ReadLine) : Type 0 where
   pub table : IsStore (store_of (stored_seen line l))
-  pub values : All (All (λ (c : Cell). IsLawful c.value)) (cells_seen l.cells.items)
+  pub values : All (All (λ (c : Cell). IsValid c.value)) (cells_seen l.cells.items)
   pub order : IsInOrder l.keys.items (cells_seen l.cells.items) l.order.items
 
 -- over each of these lifelines

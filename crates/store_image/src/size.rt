@@ -4,10 +4,11 @@ ghost use Rattle.std.specs.Prelude.{◌≡◌, ◌+◌, ◌≤◌, ℕ, Option, 
 ghost use Rattle.std.specs.List.{flat_map};
 ghost use Rattle.smo_types.specs.Commands.{version_of};
 ghost use Rattle.command_spelling.specs.Spelling.{list_bytes};
-ghost use Rattle.image_spelling.specs.Spelling.{cell_bytes, stored_bytes, version_bytes, image_bytes};
+ghost use Rattle.image_spelling.specs.Spelling.{cell_bytes, stored_bytes, version_bytes};
+ghost use Rattle.image_spelling.specs.Spelling.{image_bytes};
 ghost use Rattle.store_image.specs.ImageIn.{kept_line, image_in};
 
-use command_encoder::{lent_size, name_size, op_size, ops_size};
+use command_encoder::{borrowed_size, name_size, op_size, ops_size};
 use history_store::{CellScan, StoredTable};
 use prima_base::Steps;
 use smo_types::Version;
@@ -21,7 +22,7 @@ fn cells_size<L: Ledger>(mut cells: CellScan<'_>, steps: &mut Steps<L>) -> u64
 {
     let mut size: u64 = 0;
     'cells: while let Some(cell) = cells.next_cell(steps) {
-        size = size.saturating_add(lent_size(&cell.value) + 24);
+        size = size.saturating_add(borrowed_size(&cell.value) + 24);
     }
     size
 }
@@ -86,7 +87,8 @@ fn versions_size(versions: &[Version]) -> u64
 /// The bytes of the image of the groups, with any last stamp.
 #[tactic(auto, using(command_encoder::proofs::Lengths::lengths, crate::proofs::Lengths::last_length))]
 pub(crate) fn image_size<L: Ledger>(groups: &Groups, steps: &mut Steps<L>) -> u64
-    ensures { (last : Option ℕ) → result ≡ min (length (image_bytes (image_in groups.now last))) u64.MAX }
+    ensures { (last : Option ℕ) → result ≡ min (length (image_bytes (image_in groups.now last)))
+        u64.MAX }
 {
     let versions = versions_size(&groups.versions().list);
     let lines = lines_size(groups.stored(), steps);

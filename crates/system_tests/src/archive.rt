@@ -1,5 +1,6 @@
-//! An archive through its own calls: a query reads by the counter that it is given, the texts of plain columns are borrowed
-//! from what the archive keeps, on each version, and those that are computed are not.
+//! An archive through its own calls: a query reads by the counter that it is given, the texts of
+//! plain columns are borrowed from what the archive keeps, on each version, and those that are
+//! computed are not.
 ghost use Rattle.std.specs.Prelude.{◌≡◌, ◌<◌};
 ghost use Rattle.rewrite.specs.Books.{EachOf};
 
@@ -46,7 +47,8 @@ fn query_of(alloc: Global, text: &str) -> Result<Query, Fail> {
     }
 }
 
-// What the archive answers to the query, and how many steps of reading it took, by a counter of the ledger.
+// What the archive answers to the query, and how many steps of reading it took, by a counter of the
+// ledger.
 fn answer_by<'a, L: Ledger>(
     archive: &'a ArchiveState,
     book: &RuleBook,

@@ -3,10 +3,10 @@ use Rattle.std.specs.Prelude.{◌≡◌, ℕ, ◌≤◌, List, [], ◌∷◌, le
 use Rattle.std.specs.List.{filter}
 use Rattle.prima_base.specs.Columns.{Column}
 use Rattle.history_store.specs.Store.{Store, relation_at}
-use Rattle.history_store.specs.Change.{Plan, IsPlan, rows_along, rows_after}
+use Rattle.history_store.specs.Change.{PreparedChange, IsPlan, rows_along, rows_after}
 use Rattle.smo_types.specs.Changes.{PlainChange, table_of}
 use Rattle.smo_meaning.specs.First.{first_refusal}
-use Rattle.smo_meaning.specs.Checks.{tests_behind}
+use Rattle.smo_meaning.specs.Checks.{tests_after}
 use Rattle.smo_meaning.specs.Effects.{gained_rows}
 use Rattle.smo_meaning.specs.OneRow.{Relation, same}
 
@@ -17,11 +17,13 @@ of_table name changes = filter (λ change. same (table_of change) name) changes
 -- each is accepted over a table of these columns
 abbrev pub AreAccepted : List Column → List PlainChange → Type 0
 AreAccepted columns [] = ⊤
-AreAccepted columns (c ∷ changes) = ((at : ℕ) × (first_refusal (tests_behind columns c at) ≡ None)) × AreAccepted columns changes
+AreAccepted columns (c ∷ changes) = ((at : ℕ) × (first_refusal (tests_after columns c at) ≡ None))
+    × AreAccepted columns changes
 
--- a change of the table that is ready, has its room, and leads to these rows from the stamp on, by the rows in which they differ from
--- the table's
-pub record IsChange (store : Store) (stamp : ℕ) (rows : Relation) (plan : Plan) : Type 0 where
+-- a change of the table that is ready, has its room, and leads to these rows from the stamp on, by
+-- the rows in which they differ from the table's
+pub record IsChange (store : Store) (stamp : ℕ) (rows : Relation) (plan : PreparedChange) :
+    Type 0 where
   pub at : plan.stamp ≡ stamp
   pub fits : IsPlan store plan
   pub room : length plan.gained ≤ store.spare

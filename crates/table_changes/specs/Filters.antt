@@ -1,10 +1,11 @@
--- Filters: comparisons of single columns with constants, all of which a row passes that meets a condition.
+-- Filters: comparisons of single columns with constants, all of which a row passes that meets a
+-- condition.
 use Rattle.std.specs.Prelude.{◌≡◌, ℕ, Bool, true, List, All, Option, Some, None, slice_get}
 use Rattle.std.specs.List.{list_all}
-use Rattle.prima_base.specs.declared.values.Value.{Value}
+use Rattle.prima_base.specs.declared.value.Value.{Value}
 use Rattle.prima_base.specs.Order.{value_cmp}
-use Rattle.cond_expr.specs.declared.exprs.Column.{Column}
-use Rattle.cond_expr.specs.declared.exprs.CmpOp.{CmpOp}
+use Rattle.cond_expr.specs.declared.expr.Column.{Column}
+use Rattle.cond_expr.specs.declared.expr.CmpOp.{CmpOp}
 use Rattle.cond_expr.specs.PinnedParts.{pinned}
 use Rattle.cond_expr.specs.Trees.{Test}
 use Rattle.cond_expr.specs.Values.{agrees}

@@ -1,11 +1,13 @@
 //! What the changes of a command make of one table, row by row over the rows that are stored.
 //!
-//! What is known are the rows by which the table differs from what is stored, each with whether the table has it now; a row
-//! that is again as it is stored is known no more. So a change costs what it comes to, whatever the table holds: an INSERT
-//! one row, and an UPDATE or DELETE the rows between two cuts, or those with one value of a column, of those that are stored
-//! and of those that are known. Stored rows are lent while they are tested.
+//! What is known are the rows by which the table differs from what is stored, each with whether the
+//! table has it now; a row that is again as it is stored is known no more. So a change costs what
+//! it comes to, whatever the table holds: an INSERT one row, and an UPDATE or DELETE the rows
+//! between two cuts, or those with one value of a column, of those that are stored and of those
+//! that are known. Stored rows are borrowed while they are tested.
 
-ghost use Rattle.std.specs.Prelude.{◌≡◌, ◌+◌, ◌<◌, ◌++◌, ◌&&◌, ℕ, List, [], ◌∷◌, map, cond, Some, IfOk, OnOk, if◌then◌else◌};
+ghost use Rattle.std.specs.Prelude.{◌≡◌, ◌+◌, ◌<◌, ◌++◌, ◌&&◌, ℕ, List, [], ◌∷◌, map, cond, Some};
+ghost use Rattle.std.specs.Prelude.{IfOk, OnOk, if◌then◌else◌};
 ghost use Rattle.std.specs.List.{filter};
 ghost use Rattle.std.specs.Map.{lookup, keys_of};
 ghost use Rattle.std.specs.List.Sorted.{IsStrictlySortedBy};
@@ -15,8 +17,8 @@ ghost use Rattle.relations.specs.Sets.{In, has};
 ghost use Rattle.relations.specs.Spans.{forever};
 ghost use Rattle.prima_base.specs.Order.{row_cmp, shown};
 ghost use Rattle.prima_base.specs.Columns.{AreColumns, IsRow, IsRelation};
-ghost use Rattle.prima_base.specs.declared.values.Value.{Value as OneValue};
-ghost use Rattle.cond_expr.specs.Rows.{AreLawful};
+ghost use Rattle.prima_base.specs.declared.value.Value.{Value as OneValue};
+ghost use Rattle.cond_expr.specs.Rows.{AreValid};
 ghost use Rattle.cond_expr.specs.Seen.{test};
 ghost use Rattle.history_store.specs.Store.{AllBefore, relation_at};
 ghost use Rattle.smo_types.specs.Changes.{change_of, changes_of, sets_of};
@@ -24,24 +26,25 @@ ghost use Rattle.smo_meaning.specs.OneRow.{Row as OneRow, Relation, meets, row_o
 ghost use Rattle.smo_meaning.specs.Effects.{relation_after, gained_rows};
 ghost use Rattle.smo_meaning.specs.Inserting.{relation_after_each};
 ghost use Rattle.table_changes.specs.Changing.{of_table, AreAccepted};
-ghost use Rattle.table_changes.specs.Overlay.{told, is_kept, LeadsTo, AreHits, lost_by_now, gained_by_now};
+ghost use Rattle.table_changes.specs.Overlay.{told, is_kept, LeadsTo, AreHits, lost_by_now};
+ghost use Rattle.table_changes.specs.Overlay.{gained_by_now};
 
-use crate::candidates::lend_rows;
-use crate::filters::{filter_for, hits_pass_filters, passes};
-use crate::known_rows::KnownRows;
-use crate::ranges::{
+use crate::candidate::lend_rows;
+use crate::filter::{filter_for, hits_pass_filters, passes};
+use crate::known_row::KnownRows;
+use crate::range::{
     high_cut, hits_are_between_the_cuts, hits_have_pinned_values, low_cut, own_condition,
 };
-use crate::row_values::copy_values;
+use crate::row_value::copy_values;
 use cond_expr::{CmpOp, Cond, Expr, pinned};
-use history_store::{GivenRow, LentRows, StoredTable};
+use history_store::{BorrowedRows, GivenRow, StoredTable};
 use prima_base::{ColType, Name, NoMemory, Row, Val, Value, same_name};
 use smo_ops::{Change, OwnColumns, inserted_row, row_meets, row_with_sets};
 use std::alloc::Global;
 
-// The row that is lent.
+// The row that is borrowed.
 fn owned_row<'a>(alloc: Global, values: &[Val<'_>]) -> Result<GivenRow<'a>, NoMemory>
-    requires { AreLawful values.now }
+    requires { AreValid values.now }
     ensures { IfOk result (λ row. row ≡ map shown values.now) }
 {
     let mut owned = Vec::with_capacity(alloc, values.len())?;
@@ -51,7 +54,8 @@ fn owned_row<'a>(alloc: Global, values: &[Val<'_>]) -> Result<GivenRow<'a>, NoMe
     Ok(GivenRow::owned(Row::new(alloc, owned)))
 }
 
-// Puts a copy of the stored row behind the hits where it meets the condition and no change has lost it.
+// Puts a copy of the stored row after the hits where it meets the condition and no change has lost
+// it.
 fn put_stored<'a>(
     alloc: Global,
     overlay: &KnownRows<'a>,
@@ -60,8 +64,10 @@ fn put_stored<'a>(
     values: &[Val<'_>],
     hits: &mut Vec<GivenRow<'a>>,
 ) -> Result<(), NoMemory>
-    requires { AreLawful values.now }
-    ensures { OnOk result (hits.new.items ≡ hits.old.items ++ (if meets own.now (test cond.now) (map shown values.now) && is_kept overlay.now (map shown values.now) then map shown values.now ∷ [] else [])) }
+    requires { AreValid values.now }
+    ensures { OnOk result (hits.new.items ≡ hits.old.items
+        ++ (if meets own.now (test cond.now) (map shown values.now)
+        && is_kept overlay.now (map shown values.now) then map shown values.now ∷ [] else [])) }
 {
     if !row_meets(alloc, own, cond, values)? {
         return Ok(());
@@ -74,11 +80,11 @@ fn put_stored<'a>(
     Ok(())
 }
 
-// Puts copies of those of the stored rows that meet the condition and that no change has lost behind the hits. A row is looked at
-// whole where it passes a filter of the condition.
+// Puts copies of those of the stored rows that meet the condition and that no change has lost after
+// the hits. A row is looked at whole where it passes a filter of the condition.
 fn put_stored_hits<'a>(
     alloc: Global,
-    rows: &mut LentRows<'_>,
+    rows: &mut BorrowedRows<'_>,
     overlay: &KnownRows<'a>,
     own: &OwnColumns<'_>,
     cond: &Cond,
@@ -86,7 +92,9 @@ fn put_stored_hits<'a>(
 ) -> Result<(), NoMemory>
     requires columns { AreColumns own.now }
     ensures { ((row : OneRow) → In row rows.old → IsRow own.now row)
-        → OnOk result (hits.new.items ≡ hits.old.items ++ filter (λ row. meets own.now (test cond.now) row && is_kept overlay.now row) rows.old) }
+        → OnOk result (hits.new.items ≡ hits.old.items
+        ++ filter (λ row. meets own.now (test cond.now) row && is_kept overlay.now row)
+        rows.old) }
 {
     hits_pass_filters();
     let tests = filter_for(alloc, cond, own.atoms(), rows.len())?;
@@ -111,7 +119,8 @@ fn find_hits<'a>(
 ) -> Result<Vec<GivenRow<'a>>, NoMemory>
     requires columns { AreColumns own.now }
     requires same { store.now.columns ≡ own.now }
-    ensures { (m : ℕ) (now : Relation) → m < forever → AllBefore store.now (m + 1) → IsRelation own.now now → LeadsTo overlay.now (relation_at store.now m) now
+    ensures { (m : ℕ) (now : Relation) → m < forever → AllBefore store.now (m + 1)
+        → IsRelation own.now now → LeadsTo overlay.now (relation_at store.now m) now
         → IfOk result (λ v. AreHits (meets own.now (test cond.now)) now v.items) }
 {
     hits_are_between_the_cuts();
@@ -138,15 +147,18 @@ pub(crate) fn given_row<'a>(
     Ok(GivenRow::of(values))
 }
 
-// The table has the row now, or has it no more. Where it is as it is stored the map has nothing of it.
+// The table has the row now, or has it no more. Where it is as it is stored the map has nothing of
+// it.
 fn set_row<'a>(
     store: &StoredTable,
     overlay: &mut KnownRows<'a>,
     row: GivenRow<'a>,
     there: bool,
 ) -> Result<(), NoMemory>
-    ensures { (m : ℕ) → m < forever → AllBefore store.now (m + 1) → OnOk result ((q : List OneValue) → lookup (is_at (row_cmp q)) overlay.new
-        ≡ cond (is_eq (row_cmp row.entry q)) (told (has row_cmp q (relation_at store.now m)) there) (lookup (is_at (row_cmp q)) overlay.old)) }
+    ensures { (m : ℕ) → m < forever → AllBefore store.now (m + 1)
+        → OnOk result ((q : List OneValue) → lookup (is_at (row_cmp q)) overlay.new
+        ≡ cond (is_eq (row_cmp row.entry q)) (told (has row_cmp q (relation_at store.now m)) there)
+        (lookup (is_at (row_cmp q)) overlay.old)) }
 {
     if there == store.holds(&row) {
         return overlay.set(row, None);
@@ -161,8 +173,11 @@ fn set_each<'a>(
     rows: Vec<GivenRow<'a>>,
     there: bool,
 ) -> Result<(), NoMemory>
-    ensures { (m : ℕ) → m < forever → AllBefore store.now (m + 1) → OnOk result ((q : List OneValue) → lookup (is_at (row_cmp q)) overlay.new
-        ≡ cond (has row_cmp q rows.entry.items) (told (has row_cmp q (relation_at store.now m)) there) (lookup (is_at (row_cmp q)) overlay.old)) }
+    ensures { (m : ℕ) → m < forever → AllBefore store.now (m + 1)
+        → OnOk result ((q : List OneValue) → lookup (is_at (row_cmp q)) overlay.new
+        ≡ cond (has row_cmp q rows.entry.items)
+        (told (has row_cmp q (relation_at store.now m)) there)
+        (lookup (is_at (row_cmp q)) overlay.old)) }
 {
     for row in rows {
         set_row(store, overlay, row, there)?;
@@ -178,7 +193,8 @@ fn images<'a>(
     rows: &[GivenRow<'a>],
 ) -> Result<Vec<GivenRow<'a>>, NoMemory>
     requires { AreColumns own.now }
-    ensures { ((row : List OneValue) → In row rows.now → IsRow own.now row) → IfOk result (λ v. v.items ≡ map (with_sets own.now (sets_of sets.now)) rows.now) }
+    ensures { ((row : List OneValue) → In row rows.now → IsRow own.now row)
+        → IfOk result (λ v. v.items ≡ map (with_sets own.now (sets_of sets.now)) rows.now) }
 {
     let mut images = Vec::with_capacity(alloc, rows.len())?;
     for row in rows {
@@ -199,8 +215,10 @@ fn apply<'a>(
 ) -> Result<(), NoMemory>
     requires columns { AreColumns own.now }
     requires same { store.now.columns ≡ own.now }
-    ensures { (m : ℕ) (now : Relation) → m < forever → AllBefore store.now (m + 1) → IsRelation own.now now → LeadsTo overlay.old (relation_at store.now m) now
-        → OnOk result (LeadsTo overlay.new (relation_at store.now m) (relation_after own.now (change_of change.now) now)) }
+    ensures { (m : ℕ) (now : Relation) → m < forever → AllBefore store.now (m + 1)
+        → IsRelation own.now now → LeadsTo overlay.old (relation_at store.now m) now
+        → OnOk result (LeadsTo overlay.new (relation_at store.now m)
+        (relation_after own.now (change_of change.now) now)) }
 {
     match change {
         Change::Insert { cells, .. } => {
@@ -231,8 +249,10 @@ fn apply_own<'a>(
 ) -> Result<(), NoMemory>
     requires columns { AreColumns own.now }
     requires same { store.now.columns ≡ own.now }
-    ensures { (m : ℕ) (now : Relation) → m < forever → AllBefore store.now (m + 1) → IsRelation own.now now → LeadsTo overlay.old (relation_at store.now m) now
-        → OnOk result (LeadsTo overlay.new (relation_at store.now m) (relation_after_each own.now (of_table name.now (change_of change.now ∷ [])) now)) }
+    ensures { (m : ℕ) (now : Relation) → m < forever → AllBefore store.now (m + 1)
+        → IsRelation own.now now → LeadsTo overlay.old (relation_at store.now m) now
+        → OnOk result (LeadsTo overlay.new (relation_at store.now m)
+        (relation_after_each own.now (of_table name.now (change_of change.now ∷ [])) now)) }
 {
     if !same_name(change.table(), name) {
         return Ok(());
@@ -240,8 +260,8 @@ fn apply_own<'a>(
     apply(alloc, store, overlay, own, change)
 }
 
-// Puts the columns to which the change pins constants behind those that are there: none where it pins the first of all, since the
-// rows that begin with a value are found as they stand.
+// Puts the columns to which the change pins constants after those that are there: none where it
+// pins the first of all, since the rows that begin with a value are found as they stand.
 fn add_pinned(own: &OwnColumns<'_>, cond: &Cond, columns: &mut Vec<usize>) -> Result<(), NoMemory> {
     for (k, column) in own.atoms().iter().enumerate() {
         if pinned(cond, CmpOp::Eq, column).is_some() {
@@ -272,8 +292,8 @@ fn pinned_columns(
     Ok(columns)
 }
 
-// What the table's changes, one after the other, make of its rows: those by which it differs from what is stored, each
-// with whether the table has it behind the changes.
+// What the table's changes, one after the other, make of its rows: those by which it differs from
+// what is stored, each with whether the table has it after the changes.
 fn overlay_of<'a>(
     alloc: Global,
     store: &StoredTable,
@@ -285,7 +305,9 @@ fn overlay_of<'a>(
     requires same { store.now.columns ≡ own.now }
     requires accepted { AreAccepted own.now (of_table name.now (changes_of changes.now)) }
     ensures { (m : ℕ) → m < forever → AllBefore store.now (m + 1)
-        → IfOk result (λ o. LeadsTo o (relation_at store.now m) (relation_after_each own.now (of_table name.now (changes_of changes.now)) (relation_at store.now m))) }
+        → IfOk result (λ o. LeadsTo o (relation_at store.now m)
+        (relation_after_each own.now (of_table name.now (changes_of changes.now))
+        (relation_at store.now m))) }
 {
     store.rows_are_a_relation();
     let mut overlay = KnownRows::new(alloc, &pinned_columns(alloc, own, name, changes)?)?;
@@ -295,15 +317,17 @@ fn overlay_of<'a>(
     Ok(overlay)
 }
 
-// Puts the row behind those that are gained, or behind those that are lost.
+// Puts the row after those that are gained, or after those that are lost.
 fn put_row<'a>(
     row: GivenRow<'a>,
     there: bool,
     lost: &mut Vec<GivenRow<'a>>,
     gained: &mut Vec<GivenRow<'a>>,
 ) -> Result<(), NoMemory>
-    ensures lost { OnOk result (lost.new.items ≡ lost.old.items ++ (if there then [] else row.entry ∷ [])) }
-    ensures gained { OnOk result (gained.new.items ≡ gained.old.items ++ (if there then row.entry ∷ [] else [])) }
+    ensures lost { OnOk result (lost.new.items ≡ lost.old.items
+        ++ (if there then [] else row.entry ∷ [])) }
+    ensures gained { OnOk result (gained.new.items ≡ gained.old.items
+        ++ (if there then row.entry ∷ [] else [])) }
 {
     if there {
         gained.push(row)?;
@@ -343,10 +367,15 @@ pub(crate) fn lost_and_gained<'a>(
     requires columns { AreColumns columns.now }
     requires same { store.now.columns ≡ columns.now }
     requires accepted { AreAccepted columns.now (of_table name.now (changes_of changes.now)) }
-    ensures lost { (m : ℕ) → m < forever → AllBefore store.now (m + 1) → IfOk result (λ (lost, _gained). lost.items
-        ≡ gained_rows (relation_after_each columns.now (of_table name.now (changes_of changes.now)) (relation_at store.now m)) (relation_at store.now m)) }
-    ensures gained { (m : ℕ) → m < forever → AllBefore store.now (m + 1) → IfOk result (λ (_lost, gained). gained.items
-        ≡ gained_rows (relation_at store.now m) (relation_after_each columns.now (of_table name.now (changes_of changes.now)) (relation_at store.now m))) }
+    ensures lost { (m : ℕ) → m < forever → AllBefore store.now (m + 1)
+        → IfOk result (λ (lost, _gained). lost.items
+        ≡ gained_rows (relation_after_each columns.now (of_table name.now (changes_of changes.now))
+        (relation_at store.now m)) (relation_at store.now m)) }
+    ensures gained { (m : ℕ) → m < forever → AllBefore store.now (m + 1)
+        → IfOk result (λ (_lost, gained). gained.items
+        ≡ gained_rows (relation_at store.now m)
+        (relation_after_each columns.now (of_table name.now (changes_of changes.now))
+        (relation_at store.now m))) }
 {
     store.rows_are_a_relation();
     let own = OwnColumns::new(alloc, columns)?;

@@ -9,7 +9,7 @@ pub mod Moments
 pub mod Installing
 pub mod Indexing
 pub mod Showing
-pub mod Lawful
+pub mod Valid
 pub mod Entering
 pub mod Histories
 pub mod Now

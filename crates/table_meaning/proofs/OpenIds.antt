@@ -11,11 +11,14 @@ abbrev pub last_moment : ℕ
 last_moment = forever - 1
 
 module _ (keys : List Span) where
-  module _ (lasting : (id : ℕ) → id < length keys → ((get_or keys id no_span).start < (get_or keys id no_span).end) × ((get_or keys id no_span).end ≤ forever)) where
+  module _ (lasting : (id : ℕ) → id < length keys
+      → ((get_or keys id no_span).start < (get_or keys id no_span).end)
+      × ((get_or keys id no_span).end ≤ forever)) where
     pub are_open : (q : ℕ) → In q (ids_from 0 last_moment keys) → IsOpen keys q
     are_open q i = found (is_held q 0 last_moment keys i)
       where
-        found : (k : ℕ) × (k < length keys) × (covers (get_or keys k no_span) last_moment ≡ true) × (0 + k ≡ q) → IsOpen keys q
+        found : (k : ℕ) × (k < length keys) × (covers (get_or keys k no_span) last_moment ≡ true)
+            × (0 + k ≡ q) → IsOpen keys q
         found (k, h, t, e) =
             let n : k ≡ q = omega (arith, e) in
             let l = (lasting k h).1 in

@@ -1,7 +1,7 @@
 -- The columns of a table that have an index, and its rows with one value.
 use Rattle.std.specs.Prelude.{ℕ, ◌+◌, List, [], ◌∷◌, ◌++◌, if◌then◌else◌}
 use Rattle.std.specs.List.{filter}
-use Rattle.prima_base.specs.declared.values.Value.{Value}
+use Rattle.prima_base.specs.declared.value.Value.{Value}
 use Rattle.column_log.specs.Puts.{is_value}
 use Rattle.row_writes.specs.ValueIndexes.{is_indexed}
 use Rattle.table_meaning.specs.Handing.{at_column}

@@ -5,19 +5,19 @@ use Rattle.std.specs.declared.cmp.Ordering.{Ordering}
 use Rattle.relations.specs.Sets.{set_of}
 use Rattle.relations.specs.Spans.{Span, forever, covers}
 use Rattle.prima_base.specs.Order.{row_cmp}
-use Rattle.prima_base.specs.declared.values.Value.{Value}
+use Rattle.prima_base.specs.declared.value.Value.{Value}
 use Rattle.table_histories.specs.Store.{Cell, Store, row_at, AllBefore}
 use Rattle.prima_base.specs.Columns.{Column, IsRelation}
 use Rattle.row_writes.specs.Writing.{unpaired, keys_handed}
 use Rattle.row_order.specs.Handing.{handed, only_in}
 use Rattle.table_meaning.specs.Handing.{IsHandOver}
 use Rattle.row_writes.specs.RowRoom.{rows_room}
-use Rattle.row_order.specs.Indexes.{Index, ids_behind, more_ids, IsPlaced}
+use Rattle.row_order.specs.Indexes.{Index, later_ids, more_ids, IsPlaced}
 use Rattle.column_log.specs.Puts.{close, write}
 
--- a change that was made ready: its stamp, the ids of the lost rows, the gained rows, and how the ids of the rows
--- behind it come from those before it, both in the order of their rows
-pub record Plan : Type 0 where
+-- a change that was made ready: its stamp, the ids of the lost rows, the gained rows, and how the
+-- ids of the rows after it come from those before it, both in the order of their rows
+pub record PreparedChange : Type 0 where
   pub stamp : ℕ
   pub lost : List ℕ
   pub gained : List (List Value)
@@ -32,7 +32,8 @@ write_row id (v ∷ row) stamp (c ∷ columns) = write id v stamp c ∷ write_ro
 abbrev pub write_rows : List ℕ → List (List Value) → ℕ → List (List Cell) → List (List Cell)
 write_rows [] rows stamp columns = columns
 write_rows (id ∷ ids) [] stamp columns = columns
-write_rows (id ∷ ids) (row ∷ rows) stamp columns = write_rows ids rows stamp (write_row id row stamp columns)
+write_rows (id ∷ ids) (row ∷ rows) stamp columns =
+    write_rows ids rows stamp (write_row id row stamp columns)
 
 abbrev pub close_each : List ℕ → ℕ → List Cell → List Cell
 close_each [] stamp cells = cells
@@ -43,28 +44,31 @@ close_all ids stamp [] = []
 close_all ids stamp (c ∷ columns) = close_each ids stamp c ∷ close_all ids stamp columns
 
 -- the keys and the entries that the change leads to
-abbrev pub keys_after : Store → Plan → List Span
+abbrev pub keys_after : Store → PreparedChange → List Span
 keys_after s p = keys_handed s.keys p.lost p.gained p.stamp
 
-abbrev pub cells_after : Store → Plan → List (List Cell)
-cells_after s p = close_all (unpaired p.lost p.gained) p.stamp (write_rows (handed p.lost (length s.keys) p.gained) p.gained p.stamp s.cells)
+abbrev pub cells_after : Store → PreparedChange → List (List Cell)
+cells_after s p = close_all (unpaired p.lost p.gained) p.stamp
+    (write_rows (handed p.lost (length s.keys) p.gained) p.gained p.stamp s.cells)
 
 -- the ids whose keys hold at the moment
 abbrev pub ids_from : ℕ → ℕ → List Span → List ℕ
 ids_from id m [] = []
-ids_from id m (k ∷ keys) = if covers k m then id ∷ ids_from (id + 1) m keys else ids_from (id + 1) m keys
+ids_from id m (k ∷ keys) = if covers k m then id ∷ ids_from (id + 1) m keys
+    else ids_from (id + 1) m keys
 
 -- by the rows of two ids at the moment, then by the ids
 abbrev pub by_rows : ℕ → List (List Cell) → ℕ → ℕ → Ordering
-by_rows m columns i j = ordering_then (row_cmp (row_at i m columns) (row_at j m columns)) (nat_cmp i j)
+by_rows m columns i j = ordering_then (row_cmp (row_at i m columns) (row_at j m columns))
+    (nat_cmp i j)
 
 -- the ids of the rows at the moment, in the order of their rows
 unfoldable pub ids_at : Store → ℕ → List ℕ
 ids_at s m = set_of (by_rows m s.cells) (ids_from 0 m s.keys)
 
--- the ids of the rows behind the change
-abbrev pub ids_after : Store → Plan → List ℕ
-ids_after s p = ids_behind p.after (ids_at s p.stamp)
+-- the ids of the rows after the change
+abbrev pub ids_after : Store → PreparedChange → List ℕ
+ids_after s p = later_ids p.after (ids_at s p.stamp)
 
 -- the rows of these ids at the moment
 abbrev pub rows_along : List ℕ → ℕ → List (List Cell) → List (List Value)
@@ -72,7 +76,7 @@ rows_along [] m columns = []
 rows_along (id ∷ ids) m columns = row_at id m columns ∷ rows_along ids m columns
 
 -- the relation that the change leads to
-unfoldable pub rows_after : Store → Plan → List (List Value)
+unfoldable pub rows_after : Store → PreparedChange → List (List Value)
 rows_after s p = rows_along (ids_after s p) p.stamp (cells_after s p)
 
 -- the relation without the lost rows and with the gained ones
@@ -80,9 +84,9 @@ abbrev pub changed : List (List Value) → List (List Value) → List (List Valu
 changed rows lost gained = set_of row_cmp (only_in rows lost ++ gained)
 
 -- the plan was made from the store's keys and entries
-pub record IsPlan (s : Store) (p : Plan) : Type 0 where
+pub record IsPlan (s : Store) (p : PreparedChange) : Type 0 where
   pub before : AllBefore s p.stamp
-  pub lawful : p.stamp < forever
+  pub valid : p.stamp < forever
   pub placed : IsPlaced p.after (ids_at s p.stamp)
   pub more : more_ids p.after ≤ length p.gained
   pub hands : IsHandOver s.keys (length s.columns) p.lost p.gained (ids_after s p)

@@ -1,7 +1,8 @@
 -- What a stamp writes.
-use Rattle.std.specs.Prelude.{◌≡◌, ◌⊎◌, take, drop, length, ℕ, ◌+◌, Bool, false, List, [], ◌∷◌, if◌then◌else◌}
+use Rattle.std.specs.Prelude.{◌≡◌, ◌⊎◌, take, drop, length, ℕ, ◌+◌, Bool, false, List, [], ◌∷◌}
+use Rattle.std.specs.Prelude.{if◌then◌else◌}
 use Rattle.relations.specs.Spans.{Span}
-use Rattle.prima_base.specs.declared.values.Value.{Value}
+use Rattle.prima_base.specs.declared.value.Value.{Value}
 use Rattle.column_log.specs.Log.{Write}
 use Rattle.column_log.specs.Keys.{IsOpen}
 use Rattle.row_order.specs.Rows.{row_now}
@@ -18,21 +19,28 @@ Pairs id row (i ∷ ids) [] = ⊥
 Pairs id row (i ∷ ids) (r ∷ rows) = ((i ≡ id) × (r ≡ row)) ⊎ Pairs id row ids rows
 
 -- the id keeps its row, or is handed it
-abbrev pub HasNext : List Span → List (List Write) → List ℕ → List (List Value) → ℕ → List Value → Type 0
-HasNext keys columns lost gained id row = (IsOpen keys id × ((¬ (In id lost)) × (row_now id columns ≡ row))) ⊎ Pairs id row (handed lost (length keys) gained) gained
+abbrev pub HasNext : List Span → List (List Write) → List ℕ → List (List Value) → ℕ → List Value
+    → Type 0
+HasNext keys columns lost gained id row = (IsOpen keys id
+    × ((¬ (In id lost)) × (row_now id columns ≡ row)))
+    ⊎ Pairs id row (handed lost (length keys) gained) gained
 
-abbrev pub AllNext : List Span → List (List Write) → List ℕ → List (List Value) → List ℕ → List (List Value) → Type 0
+abbrev pub AllNext : List Span → List (List Write) → List ℕ → List (List Value) → List ℕ
+    → List (List Value) → Type 0
 AllNext keys columns lost gained [] [] = Unit {0}
 AllNext keys columns lost gained [] (row ∷ rows) = ⊥
 AllNext keys columns lost gained (id ∷ ids) [] = ⊥
-AllNext keys columns lost gained (id ∷ ids) (row ∷ rows) = HasNext keys columns lost gained id row × AllNext keys columns lost gained ids rows
+AllNext keys columns lost gained (id ∷ ids) (row ∷ rows) = HasNext keys columns lost gained id row
+    × AllNext keys columns lost gained ids rows
 
 -- the plan fits the keys
-pub record IsHandOver (keys : List Span) (width : ℕ) (lost : List ℕ) (gained : List (List Value)) (after : List ℕ) : Type 0 where
+pub record IsHandOver (keys : List Span) (width : ℕ) (lost : List ℕ) (gained : List (List Value))
+    (after : List ℕ) : Type 0 where
   pub lost_open : (id : ℕ) → In id lost → IsOpen keys id
   pub distinct : Distinct lost
   pub wide : AllWidth width gained
-  pub each : (id : ℕ) → In id after → (IsOpen keys id × (¬ (In id lost))) ⊎ In id (handed lost (length keys) gained)
+  pub each : (id : ℕ) → In id after → (IsOpen keys id × (¬ (In id lost)))
+      ⊎ In id (handed lost (length keys) gained)
   pub kept : (id : ℕ) → IsOpen keys id → (¬ (In id lost)) → In id after
   pub given : (id : ℕ) → In id (handed lost (length keys) gained) → In id after
 
@@ -49,9 +57,10 @@ abbrev pub weigh : (Value → ℕ) → List Value → ℕ
 weigh f [] = 0
 weigh f (v ∷ vs) = f v
 
--- what is written into a column weighs: of each pair whose values there differ the gained row's value, and of each gained
--- row without a partner its value
+-- what is written into a column weighs: of each pair whose values there differ the gained row's
+-- value, and of each gained row without a partner its value
 abbrev pub written : (Value → ℕ) → ℕ → List (List Value) → List (List Value) → ℕ
 written f k lost [] = 0
 written f k [] (g ∷ gained) = weigh f (at_column k g) + written f k [] gained
-written f k (l ∷ lost) (g ∷ gained) = (if is_same (at_column k l) (at_column k g) then 0 else weigh f (at_column k g)) + written f k lost gained
+written f k (l ∷ lost) (g ∷ gained) = (if is_same (at_column k l) (at_column k g) then 0
+    else weigh f (at_column k g)) + written f k lost gained

@@ -12,11 +12,19 @@ use Rattle.column_log.specs.Keys.{no_span}
 
 -- what contracts see of the columns, the keys and the writes
 abbrev pub store_of : List Column → List Span → List (List Write) → ℕ → List ℕ → Store
-store_of columns keys logs spare indexed = record { columns = columns; keys = keys; cells = all_entries keys logs; spare = spare; indexed = indexed }
+store_of columns keys logs spare indexed = record {
+  columns = columns;
+  keys = keys;
+  cells =
+      all_entries keys logs;
+  spare = spare;
+  indexed = indexed;
+}
 
--- the entries of each id fill its key, and `live` has the ids of the current rows in the order of their rows; at
--- each moment, as now, each id has a row of the columns, and no two have the same
-pub record IsKept (columns : List Column) (keys : List Span) (logs : List (List Write)) (live : List ℕ) : Type 0 where
+-- the entries of each id fill its key, and `live` has the ids of the current rows in the order of
+-- their rows; at each moment, as now, each id has a row of the columns, and no two have the same
+pub record IsKept (columns : List Column) (keys : List Span) (logs : List (List Write))
+    (live : List ℕ) : Type 0 where
   pub names : AreColumns columns
   pub width : length logs ≡ length columns
   pub histories : AreHistories keys logs
@@ -24,4 +32,5 @@ pub record IsKept (columns : List Column) (keys : List Span) (logs : List (List 
   pub fitting : (id : ℕ) → In id live → IsRow columns (row_now id logs)
   pub lasting : (id : ℕ) → id < length keys → IsPeriod (slice_index_or keys id no_span)
   pub fitted : (m id : ℕ) → Holds keys id m → IsRow columns (row_then id m logs)
-  pub apart : (m i j : ℕ) → Holds keys i m → Holds keys j m → row_then i m logs ≡ row_then j m logs → i ≡ j
+  pub apart : (m i j : ℕ) → Holds keys i m → Holds keys j m → row_then i m logs ≡ row_then j m logs
+      → i ≡ j

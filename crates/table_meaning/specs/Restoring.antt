@@ -2,16 +2,23 @@
 use Rattle.std.specs.Prelude.{◌≡◌, ℕ, ◌+◌, ◌-◌, ◌≤◌, ⊤, max, true, List, [], ◌∷◌, map}
 use Rattle.relations.specs.Sets.{Ascends, Same}
 use Rattle.relations.specs.Spans.{Span, forever}
-use Rattle.prima_base.specs.Columns.{IsLawful, Column, has_type}
+use Rattle.prima_base.specs.Columns.{IsValid, Column, has_type}
 use Rattle.prima_base.specs.Order.{row_cmp}
 use Rattle.column_log.specs.Log.{Write}
-use Rattle.prima_base.specs.declared.values.ColType.{ColType}
+use Rattle.prima_base.specs.declared.value.ColType.{ColType}
 use Rattle.table_histories.specs.Store.{Cell, Store}
 use Rattle.table_meaning.specs.Change.{ids_from, rows_along}
 
--- what is known of a table: its columns, the periods of its keys, and the entries of each column; no column has an index
+-- what is known of a table: its columns, the periods of its keys, and the entries of each column;
+-- no column has an index
 abbrev pub store_with : List Column → List Span → List (List Cell) → Store
-store_with columns keys cells = record { columns = columns; keys = keys; cells = cells; spare = 0; indexed = [] }
+store_with columns keys cells = record {
+  columns = columns;
+  keys = keys;
+  cells = cells;
+  spare = 0;
+  indexed = [];
+}
 
 -- these are the ids of the rows that go on, in the order of their rows
 pub record IsInOrder (keys : List Span) (cells : List (List Cell)) (ids : List ℕ) : Type 0 where
@@ -30,7 +37,7 @@ abbrev pub AreInTurn : ℕ → List Cell → Type 0
 AreInTurn known [] = ⊤
 AreInTurn known (c ∷ cells) = (c.id ≤ known) × AreInTurn (max known (c.id + 1)) cells
 
--- how many are known behind them
+-- how many are known after them
 abbrev pub ids_known : ℕ → List Cell → ℕ
 ids_known known [] = known
 ids_known known (c ∷ cells) = ids_known (max known (c.id + 1)) cells
@@ -41,9 +48,9 @@ AreCellsOf kind [] = Unit {0}
 AreCellsOf kind (c ∷ cells) = (has_type kind c.value ≡ true) × AreCellsOf kind cells
 
 -- each value of the cells is one that a column may have
-abbrev pub AreLawfulCells : List Cell → Type 0
-AreLawfulCells [] = Unit {0}
-AreLawfulCells (c ∷ cells) = IsLawful c.value × AreLawfulCells cells
+abbrev pub AreValidCells : List Cell → Type 0
+AreValidCells [] = Unit {0}
+AreValidCells (c ∷ cells) = IsValid c.value × AreValidCells cells
 
 -- those of each column, of its type
 abbrev pub AreEntriesOf : List ColType → List (List Cell) → Type 0

@@ -12,17 +12,17 @@ mod WorkedPast
 mod WorkedWays
 mod WorkedMerge
 mod WorkedDecompose
-pub mod WholeFronts
+pub mod WholePrefixes
 pub mod CountedLists
-pub mod BranchGoodness
-pub mod WhenGoodness
+pub mod BranchCorrectness
+pub mod WhenCorrectness
 pub mod BoundSteps
-pub mod LawfulQueries
-pub mod QueryGoodness
+pub mod ValidQueries
+pub mod QueryCorrectness
 pub mod QueryAlong
 pub mod QueryLongest
 pub mod PlaceLaws
-pub mod PassLaws
+pub mod CrossingLaws
 pub mod SizeLaws
 pub mod FewLaws
 pub mod TypingLaws

@@ -1,6 +1,8 @@
--- Worked rows: a table that is dropped for good, and created again: its past, what is lost first for a query on the version
--- before, and what queries answer up to the drop and on the version behind.
-use Rattle.std.specs.Prelude.{◌≡◌, ◌==◌, ℕ, zero, suc, ◌+◌, ◌<◌, ◌++◌, List, [], ◌∷◌, is_some, Option, Some, None, if◌then◌else◌}
+-- Worked rows: a table that is dropped for good, and created again: its past, what is lost first
+-- for a query on the version before, and what queries answer up to the drop and on the version
+-- after.
+use Rattle.std.specs.Prelude.{◌≡◌, ◌==◌, ℕ, zero, suc, ◌+◌, ◌<◌, ◌++◌, List, [], ◌∷◌, is_some}
+use Rattle.std.specs.Prelude.{Option, Some, None, if◌then◌else◌}
 use Rattle.std.proofs.Common.{refl, ap, subst, ◌∙◌, arith}
 use Rattle.std.specs.Option.{option_or, option_map}
 use Rattle.std.specs.FinMap.{get, insert, remove, len, empty, get-remove, get-empty, len-empty}
@@ -12,35 +14,36 @@ use Rattle.prima_base.specs.Order.{bytes_cmp, row_cmp}
 use Rattle.prima_base.specs.Keeping.{kept}
 use Rattle.schema_catalog.specs.Tables.{Tables}
 use Rattle.schema_catalog.specs.Databases.{Rows, Database}
-use Rattle.cond_expr.specs.declared.exprs.Whose.TheVariants.{Free}
+use Rattle.cond_expr.specs.declared.expr.Whose.TheVariants.{Free}
 use Rattle.cond_expr.specs.Trees.{column, always}
-use Rattle.prima_base.specs.declared.refusals.OpKind.TheVariants.{DropTable}
-use Rattle.prima_base.specs.declared.refusals.Refusal.TheVariants.{NoInverse}
-use Rattle.prima_base.specs.declared.refusals.OpRefusal.{OpRefusal}
-use Rattle.prima_base.specs.declared.refusals.OpRefusal.TheVariants.{NoTable}
+use Rattle.prima_base.specs.declared.refusal.OpKind.TheVariants.{DropTable}
+use Rattle.prima_base.specs.declared.refusal.Refusal.TheVariants.{NoInverse}
+use Rattle.prima_base.specs.declared.refusal.OpRefusal.{OpRefusal}
+use Rattle.prima_base.specs.declared.refusal.OpRefusal.TheVariants.{NoTable}
 use Rattle.smo_types.specs.Operators.{create_table, drop_table}
 use Rattle.smo_types.specs.Changes.{PlainChange, insertion}
 use Rattle.smo_types.specs.Commands.{PlainCommand, PlainVersion, changing, evolving}
 use Rattle.smo_meaning.specs.First.{unless, first_refusal}
 use Rattle.smo_meaning.specs.After.{op_fault}
-use Rattle.smo_meaning.specs.Accepts.{refusal_of, command_fault}
-use Rattle.smo_meaning.specs.LawfulPast.{IsPast}
+use Rattle.smo_meaning.specs.Accepts.{operator_refusal, command_fault}
+use Rattle.smo_meaning.specs.ValidPast.{IsPast}
 use Rattle.smo_meaning.proofs.PastSteps.{beginning_is_past}
 use Rattle.cond_expr.proofs.ConstantLaws.{small_number}
-use Rattle.prima_base.specs.Columns.{Column, IsLawful}
-use Rattle.smo_meaning.specs.LawfulValues.{PastHolds}
+use Rattle.prima_base.specs.Columns.{Column, IsValid}
+use Rattle.smo_meaning.specs.ValidValues.{PastHolds}
 use Rattle.smo_meaning.proofs.ValueLaws.{beginning_holds, history_holds}
 use Rattle.smo_meaning.specs.OneRow.{Relation}
 use Rattle.smo_meaning.specs.Effects.{after_each, gained, lost}
 use Rattle.smo_meaning.specs.Losses.{Loss}
 use Rattle.smo_meaning.specs.Sizes.{Size, sizes_changed, sizes_evolved}
-use Rattle.smo_meaning.specs.Past.{Past, State, a_state, no_tables, no_database, beginning, changed_to, past_with, from_stamp}
+use Rattle.smo_meaning.specs.Past.{Past, State, a_state, no_tables, no_database, beginning}
+use Rattle.smo_meaning.specs.Past.{changed_to, past_with, from_stamp}
 use Rattle.smo_meaning.specs.History.{past_of, IsHistory}
 use Rattle.version_ways.specs.LostNames.{Losses}
 use Rattle.version_ways.specs.Migration.{migrated}
 use Rattle.version_ways.proofs.WorkedWords.{a, t, int, a_columns, t_there}
 use Rattle.version_ways.proofs.WorkedWays.{dropped_versions}
-use Rattle.temporal_lang.specs.declared.whens.When.TheVariants.{Always, During}
+use Rattle.temporal_lang.specs.declared.when.When.TheVariants.{Always, During}
 use Rattle.temporal_lang.specs.Queries.{PlainQuery, a_query}
 use Rattle.plain_answers.specs.Branches.{plain}
 use Rattle.temporal_lang.specs.Atoms.{branches_with_atoms}
@@ -49,9 +52,12 @@ use Rattle.temporal_lang.specs.Losing.{loss_at, first_lost}
 use Rattle.temporal_lang.specs.Accepted.{no_way_back, loss_fault, fault_of_query}
 use Rattle.temporal_lang.proofs.FirstLaws.{first_is, first_none}
 use Rattle.temporal_lang.proofs.WorkedPast.{history_is_past}
-use Rattle.temporal_lang.proofs.WorkedSelects.{command, stage, changed_at, gained_is, lost_is, change_by, creates, one_more, one_less, select, selected, answers_by, tested}
+use Rattle.temporal_lang.proofs.WorkedSelects.{command, stage, changed_at, gained_is, lost_is}
+use Rattle.temporal_lang.proofs.WorkedSelects.{change_by, creates, one_more, one_less, select}
+use Rattle.temporal_lang.proofs.WorkedSelects.{selected, answers_by, tested}
 
--- ---- AT 1 EVOLVE CREATE TABLE t (a INT); AT 2 INSERT INTO t (a) VALUES (1); AT 4 EVOLVE DROP TABLE t;
+-- ---- AT 1 EVOLVE CREATE TABLE t (a INT); AT 2 INSERT INTO t (a) VALUES (1); AT 4 EVOLVE DROP
+-- TABLE t;
 -- AT 6 EVOLVE CREATE TABLE t (a INT); AT 7 INSERT INTO t (a) VALUES (2);
 
 abbrev inserting : ℕ → PlainChange
@@ -103,9 +109,16 @@ abbrev version_2 : PlainVersion
 version_2 = record { stamp = 4; op = drop_table t; inverse = []; tables = tables_2 }
 
 abbrev past : List Size → List PlainVersion → ℕ → ℕ → List State → Past
-past sizes versions last count states = record { versions = versions; last = Some last; commands = count; sizes = sizes; states = states }
+past sizes versions last count states = record {
+  versions = versions;
+  last = Some last;
+  commands =
+      count;
+  sizes = sizes;
+  states = states;
+}
 
--- what is stored behind each command
+-- what is stored after each command
 abbrev sizes_1 : List Size
 sizes_1 = sizes_evolved no_tables (create_table t a_columns) tables_1 from_1 0 []
 
@@ -139,10 +152,12 @@ unfolding set_of
 created = refl
 
 first_given : after_each tables_1 (inserting 1 ∷ []) from_1 ≡ from_2
-first_given = changed_at tables_1 from_1 (inserting 1) a_columns [] (t_there no_tables a_columns) (t_there no_database (Rows []))
+first_given = changed_at tables_1 from_1 (inserting 1) a_columns [] (t_there no_tables a_columns)
+    (t_there no_database (Rows []))
 
 second_given : after_each tables_3 (inserting 2 ∷ []) from_6 ≡ from_7
-second_given = changed_at tables_3 from_6 (inserting 2) a_columns [] (t_there tables_2 a_columns) (t_there from_4 (Rows []))
+second_given = changed_at tables_3 from_6 (inserting 2) a_columns [] (t_there tables_2 a_columns)
+    (t_there from_4 (Rows []))
 
 -- one row is gained each time, and none lost
 first_gained : gained from_1 from_2 ≡ 1
@@ -158,27 +173,33 @@ second_kept : lost from_6 from_7 ≡ 0
 second_kept = lost_is from_6 t [] (row 2) (t_there from_4 (Rows []))
 
 abbrev changed : List Size → List PlainVersion → ℕ → ℕ → Database → List State → ℕ → Past
-changed sizes versions stamp count new states n = past sizes versions stamp count (if n == 0 then states else from_stamp stamp new states)
+changed sizes versions stamp count new states n =
+    past sizes versions stamp count (if n == 0 then states else from_stamp stamp new states)
 
-at_2 : past_with (past sizes_1 (version_1 ∷ []) 1 1 states_1) (giving 2 1) ≡ past sizes_2 (version_1 ∷ []) 2 2 states_2
+at_2 : past_with (past sizes_1 (version_1 ∷ []) 1 1 states_1) (giving 2 1)
+    ≡ past sizes_2 (version_1 ∷ []) 2 2 states_2
 at_2 =
     ap (λ db. changed_to 2 db (past sizes_1 (version_1 ∷ []) 1 1 states_1)) first_given
-    ∙ ap (λ n. changed sizes_2 (version_1 ∷ []) 2 2 from_2 states_1 (n + lost from_1 from_2)) first_gained
+    ∙ ap (λ n. changed sizes_2 (version_1 ∷ []) 2 2 from_2 states_1 (n + lost from_1 from_2))
+    first_gained
     ∙ ap (λ n. changed sizes_2 (version_1 ∷ []) 2 2 from_2 states_1 (1 + n)) first_kept
 
-evolved : past_with (past_with (past sizes_2 (version_1 ∷ []) 2 2 states_2) dropping) (creating 6) ≡ past sizes_6 dropped_versions 6 4 states_6
+evolved : past_with (past_with (past sizes_2 (version_1 ∷ []) 2 2 states_2) dropping) (creating 6)
+    ≡ past sizes_6 dropped_versions 6 4 states_6
 unfolding set_of
 evolved = refl
 
 at_7 : past_with (past sizes_6 dropped_versions 6 4 states_6) (giving 7 2) ≡ dropped
 at_7 =
     ap (λ db. changed_to 7 db (past sizes_6 dropped_versions 6 4 states_6)) second_given
-    ∙ ap (λ n. changed sizes_7 dropped_versions 7 5 from_7 states_6 (n + lost from_6 from_7)) second_gained
+    ∙ ap (λ n. changed sizes_7 dropped_versions 7 5 from_7 states_6 (n + lost from_6 from_7))
+    second_gained
     ∙ ap (λ n. changed sizes_7 dropped_versions 7 5 from_7 states_6 (1 + n)) second_kept
 
 past_is : past_of commands ≡ dropped
 past_is =
-    ap (λ p. past_with (past_with (past_with (past_with p (giving 2 1)) dropping) (creating 6)) (giving 7 2)) created
+    ap (λ p. past_with (past_with (past_with (past_with p (giving 2 1)) dropping) (creating 6))
+    (giving 7 2)) created
     ∙ ap (λ p. past_with (past_with (past_with p dropping) (creating 6)) (giving 7 2)) at_2
     ∙ ap (λ p. past_with p (giving 7 2)) evolved ∙ at_7
 
@@ -190,7 +211,8 @@ on_version_1 = a_query 1 (select t (column Free a ∷ []) always) Always []
 abbrev before_4 : PlainQuery
 before_4 = a_query 1 (select t (column Free a ∷ []) always) (During 0 4) []
 
-alone : (losses : Losses) (o : Option Loss) → get losses t ≡ o → option_or (get losses t) None ≡ option_or o None
+alone : (losses : Losses) (o : Option Loss) → get losses t ≡ o
+    → option_or (get losses t) None ≡ option_or o None
 alone losses o h = ap (λ p. option_or p None) h
 
 none_before : (m : ℕ) → m < 4 → loss_at dropped on_version_1 (0 + m) ≡ None
@@ -203,9 +225,11 @@ none_before (suc (suc (suc (suc m)))) l = absurd (omega arith)
 lost_at_4 : loss_at dropped on_version_1 (0 + 4) ≡ Some (2, 1)
 lost_at_4 = alone (insert empty t (2, 1)) (Some (2, 1)) (t_there empty (2, 1))
 
--- the first loss is that of version 2, by its DROP TABLE; there is none where nothing from moment 4 on is asked
+-- the first loss is that of version 2, by its DROP TABLE; there is none where nothing from moment 4
+-- on is asked
 lost_first : first_lost dropped on_version_1 ≡ Some (2, 1)
-lost_first = first_is (loss_at dropped on_version_1) 0 forever 4 (2, 1) (omega arith) none_before lost_at_4
+lost_first = first_is (loss_at dropped on_version_1) 0 forever 4 (2, 1) (omega arith) none_before
+    lost_at_4
 
 not_before : first_lost dropped before_4 ≡ None
 not_before = first_none (loss_at dropped before_4) 0 4 none_before
@@ -216,17 +240,24 @@ no_inverse_of_it = refl
 -- so the query is refused, and accepted up to the drop
 refused : fault_of_query dropped on_version_1 ≡ Some (NoInverse 2 DropTable)
 refused =
-    ap (λ tests. first_refusal (tests ++ loss_fault dropped.versions (first_lost dropped on_version_1) ∷ [])) (tested tables_1 1 t (column Free a ∷ []) always Always a_columns (t_there no_tables a_columns))
+    ap (λ tests. first_refusal (tests ++ loss_fault dropped.versions
+    (first_lost dropped on_version_1) ∷ []))
+    (tested tables_1 1 t (column Free a ∷ []) always Always a_columns
+    (t_there no_tables a_columns))
     ∙ ap (λ loss. first_refusal (loss_fault dropped.versions loss ∷ [])) lost_first
 
 accepted : fault_of_query dropped before_4 ≡ None
 accepted =
-    ap (λ tests. first_refusal (tests ++ loss_fault dropped.versions (first_lost dropped before_4) ∷ [])) (tested tables_1 1 t (column Free a ∷ []) always (During 0 4) a_columns (t_there no_tables a_columns))
+    ap (λ tests. first_refusal (tests ++ loss_fault dropped.versions (first_lost dropped before_4)
+    ∷ [])) (tested tables_1 1 t (column Free a ∷ []) always (During 0 4) a_columns
+    (t_there no_tables a_columns))
     ∙ ap (λ loss. first_refusal (loss_fault dropped.versions loss ∷ [])) not_before
 
 on_1 : (db : Database) (rows : Relation) → get db t ≡ Some (Rows rows)
-    → plain tables_1 (branches_with_atoms tables_1 (select t (column Free a ∷ []) always)) db ≡ answers_by t (column Free a ∷ []) always (Some a_columns) (Some (Rows rows))
-on_1 db rows h = selected tables_1 db t (column Free a ∷ []) always a_columns rows (t_there no_tables a_columns) h
+    → plain tables_1 (branches_with_atoms tables_1 (select t (column Free a ∷ []) always)) db
+    ≡ answers_by t (column Free a ∷ []) always (Some a_columns) (Some (Rows rows))
+on_1 db rows h = selected tables_1 db t (column Free a ∷ []) always a_columns rows
+    (t_there no_tables a_columns) h
 
 asked_0 : asked_at dropped before_4 0 ≡ []
 unfolding set_of
@@ -240,8 +271,10 @@ asked_2 : asked_at dropped before_4 2 ≡ row 1
 unfolding set_of
 asked_2 = on_1 from_2 (row 1) (t_there from_1 (Rows (row 1)))
 
-stages_before : stages dropped before_4 ≡ stage 0 [] ∷ stage 1 [] ∷ stage 2 (row 1) ∷ stage 4 [] ∷ []
-stages_before = λ i. stage 0 (asked_0 i) ∷ stage 1 (asked_1 i) ∷ stage 2 (asked_2 i) ∷ stage 4 [] ∷ []
+stages_before : stages dropped before_4 ≡ stage 0 [] ∷ stage 1 [] ∷ stage 2 (row 1) ∷ stage 4 []
+    ∷ []
+stages_before = λ i. stage 0 (asked_0 i) ∷ stage 1 (asked_1 i) ∷ stage 2 (asked_2 i) ∷ stage 4 []
+    ∷ []
 
 -- 1 from 2 up to the drop
 answer_before : answer dropped before_4 ≡ record { item = int 1 ∷ []; period = span 2 4 } ∷ []
@@ -254,8 +287,10 @@ abbrev on_version_3 : PlainQuery
 on_version_3 = a_query 3 (select t (column Free a ∷ []) always) Always []
 
 on_3 : (db : Database) (rows : Relation) → get db t ≡ Some (Rows rows)
-    → plain tables_3 (branches_with_atoms tables_3 (select t (column Free a ∷ []) always)) db ≡ answers_by t (column Free a ∷ []) always (Some a_columns) (Some (Rows rows))
-on_3 db rows h = selected tables_3 db t (column Free a ∷ []) always a_columns rows (t_there tables_2 a_columns) h
+    → plain tables_3 (branches_with_atoms tables_3 (select t (column Free a ∷ []) always)) db
+    ≡ answers_by t (column Free a ∷ []) always (Some a_columns) (Some (Rows rows))
+on_3 db rows h = selected tables_3 db t (column Free a ∷ []) always a_columns rows
+    (t_there tables_2 a_columns) h
 
 -- what is carried over the second CREATE TABLE is empty
 later_0 : asked_at dropped on_version_3 0 ≡ []
@@ -282,11 +317,14 @@ later_7 : asked_at dropped on_version_3 7 ≡ row 2
 unfolding set_of
 later_7 = on_3 from_7 (row 2) (t_there from_6 (Rows (row 2)))
 
-later_stages : stages dropped on_version_3 ≡ stage 0 [] ∷ stage 1 [] ∷ stage 2 [] ∷ stage 4 [] ∷ stage 6 [] ∷ stage 7 (row 2) ∷ []
-later_stages = λ i. stage 0 (later_0 i) ∷ stage 1 (later_1 i) ∷ stage 2 (later_2 i) ∷ stage 4 (later_4 i) ∷ stage 6 (later_6 i) ∷ stage 7 (later_7 i) ∷ []
+later_stages : stages dropped on_version_3 ≡ stage 0 [] ∷ stage 1 [] ∷ stage 2 [] ∷ stage 4 []
+    ∷ stage 6 [] ∷ stage 7 (row 2) ∷ []
+later_stages = λ i. stage 0 (later_0 i) ∷ stage 1 (later_1 i) ∷ stage 2 (later_2 i)
+    ∷ stage 4 (later_4 i) ∷ stage 6 (later_6 i) ∷ stage 7 (later_7 i) ∷ []
 
 -- 2 from 7 on
-later_answer : answer dropped on_version_3 ≡ record { item = int 2 ∷ []; period = span 7 forever } ∷ []
+later_answer : answer dropped on_version_3 ≡ record { item = int 2 ∷ []; period = span 7 forever }
+    ∷ []
 unfolding set_of listing_of
 later_answer = ap (λ ss. kept [] (listing_of row_cmp ss)) later_stages
 
@@ -319,16 +357,20 @@ unfolding set_of
 second_create = creates tables_2 t a_columns 1 free_2 many_3
 
 drop_accepted : op_fault tables_1 (drop_table t) ≡ None
-drop_accepted = ap (λ (o : Option (List Column)). first_refusal (unless (is_some o) (NoTable t) ∷ [])) columns_1
+drop_accepted = ap (λ (o : Option (List Column)).
+    first_refusal (unless (is_some o) (NoTable t) ∷ [])) columns_1
 
 accepted_1 : command_fault beginning (creating 1) ≡ None
-accepted_1 = ap (λ (o : Option OpRefusal). first_refusal (option_map refusal_of o ∷ [])) first_create
+accepted_1 = ap (λ (o : Option OpRefusal). first_refusal (option_map operator_refusal o ∷ []))
+    first_create
 
 accepted_2 : command_fault (past sizes_1 (version_1 ∷ []) 1 1 states_1) (giving 2 1) ≡ None
-accepted_2 = ap (λ (o : Option (List Column)). first_refusal (change_by (inserting 1) 0 o ++ [])) columns_1
+accepted_2 = ap (λ (o : Option (List Column)). first_refusal (change_by (inserting 1) 0 o ++ []))
+    columns_1
 
 accepted_4 : command_fault (past sizes_2 (version_1 ∷ []) 2 2 states_2) dropping ≡ None
-accepted_4 = ap (λ (o : Option OpRefusal). first_refusal (option_map refusal_of o ∷ [])) drop_accepted
+accepted_4 = ap (λ (o : Option OpRefusal). first_refusal (option_map operator_refusal o ∷ []))
+    drop_accepted
 
 abbrev until_drop : Past
 until_drop = past sizes_4 (version_1 ∷ version_2 ∷ []) 4 3 (states_2 ++ a_state 4 from_4 ∷ [])
@@ -337,10 +379,12 @@ dropped_at_4 : past_with (past sizes_2 (version_1 ∷ []) 2 2 states_2) dropping
 dropped_at_4 = refl
 
 accepted_6 : command_fault until_drop (creating 6) ≡ None
-accepted_6 = ap (λ (o : Option OpRefusal). first_refusal (option_map refusal_of o ∷ [])) second_create
+accepted_6 = ap (λ (o : Option OpRefusal). first_refusal (option_map operator_refusal o ∷ []))
+    second_create
 
 accepted_7 : command_fault (past sizes_6 dropped_versions 6 4 states_6) (giving 7 2) ≡ None
-accepted_7 = ap (λ (o : Option (List Column)). first_refusal (change_by (inserting 2) 0 o ++ [])) (t_there tables_2 a_columns)
+accepted_7 = ap (λ (o : Option (List Column)). first_refusal (change_by (inserting 2) 0 o ++ []))
+    (t_there tables_2 a_columns)
 
 is_history : IsHistory commands
 is_history =
@@ -352,20 +396,23 @@ is_history =
         ap (λ p. command_fault p (giving 2 1)) created ∙ accepted_2,
         (
           ap (λ p. command_fault p dropping) third ∙ accepted_4,
-          (ap (λ p. command_fault p (creating 6)) (fourth ∙ dropped_at_4) ∙ accepted_6, (ap (λ p. command_fault p (giving 7 2)) fifth ∙ accepted_7, tt)),
+          (
+            ap (λ p. command_fault p (creating 6)) (fourth ∙ dropped_at_4) ∙ accepted_6,
+            (ap (λ p. command_fault p (giving 7 2)) fifth ∙ accepted_7, tt),
+          ),
         ),
       ),
     )
 
--- so their past is lawful, and at each moment its database is one of the version then in force
+-- so their past is valid, and at each moment its database is one of the version then in force
 is_past : IsPast dropped
 is_past = subst IsPast past_is (history_is_past beginning commands beginning_is_past is_history)
 
--- and it holds lawful values
-one_is : IsLawful (int 1)
+-- and it holds valid values
+one_is : IsValid (int 1)
 one_is = small_number 1 (omega arith)
 
-two_is : IsLawful (int 2)
+two_is : IsValid (int 2)
 two_is = small_number 2 (omega arith)
 
 holds : PastHolds dropped

@@ -3,7 +3,7 @@ use Rattle.std.specs.Prelude.{ℕ, Bool, List, map}
 use Rattle.std.specs.List.{position_or_len}
 use Rattle.prima_base.specs.Columns.{Column, names_of}
 use Rattle.schema_catalog.specs.Tables.{Tables}
-use Rattle.cond_expr.specs.declared.exprs.Whose.TheVariants.{Free, Alias, Atom}
+use Rattle.cond_expr.specs.declared.expr.Whose.TheVariants.{Free, Alias, Atom}
 use Rattle.cond_expr.specs.Trees.{column, Filling, fill, fill_test}
 use Rattle.cond_expr.specs.Kinds.{Kinds}
 use Rattle.smo_meaning.specs.OneRow.{same}
@@ -45,7 +45,12 @@ to_atoms sources (Alias alias) name = column (Atom (place_of_alias sources alias
 to_atoms sources (Atom i) name = column (Atom i) name
 
 abbrev pub filled_branch : Filling → PlainBranch → PlainBranch
-filled_branch by b = record { outs = map (fill by) b.outs; from = b.from; cond = fill_test by b.cond }
+filled_branch by b = record {
+  outs = map (fill by) b.outs;
+  from = b.from;
+  cond =
+      fill_test by b.cond;
+}
 
 abbrev pub branch_with_atoms : Tables → PlainBranch → PlainBranch
 branch_with_atoms tables b = filled_branch (to_atoms (sources_of tables b.from)) b
@@ -54,7 +59,8 @@ abbrev pub branches_with_atoms : Tables → List PlainBranch → List PlainBranc
 branches_with_atoms tables branches = map (branch_with_atoms tables) branches
 
 abbrev pub with_atoms : Tables → PlainQuery → PlainQuery
-with_atoms tables query = a_query query.version (branches_with_atoms tables query.branches) query.when query.keep
+with_atoms tables query = a_query query.version (branches_with_atoms tables query.branches)
+    query.when query.keep
 
 -- what the references of a branch to the columns of its items are
 abbrev pub atom_kinds : Tables → List Item → Kinds

@@ -1,14 +1,16 @@
 -- The plain branch that a branch of a query is, and what is so of each query.
-use Rattle.std.specs.Prelude.{◌≡◌, ℕ, ◌≤◌, ◌&&◌, Bool, true, List, [], ◌∷◌, map, length, nat_le, nat_lt}
+use Rattle.std.specs.Prelude.{◌≡◌, ℕ, ◌≤◌, ◌&&◌, Bool, true, List, [], ◌∷◌, map, length, nat_le}
+use Rattle.std.specs.Prelude.{nat_lt}
 use Rattle.std.specs.List.{list_all}
 use Rattle.relations.specs.Spans.{forever}
-use Rattle.prima_base.specs.declared.keeps.Keep.{Keep}
-use Rattle.prima_base.specs.declared.keeps.Keep.TheVariants.{Starting, Ending, Lasting, Covering, Overlapping}
+use Rattle.prima_base.specs.declared.keep.Keep.{Keep}
+use Rattle.prima_base.specs.declared.keep.Keep.TheVariants.{Starting, Ending, Lasting, Covering}
+use Rattle.prima_base.specs.declared.keep.Keep.TheVariants.{Overlapping}
 use Rattle.cond_expr.specs.Seen.{tree, test}
 use Rattle.plain_answers.specs.Branches.{Item, PlainBranch, a_branch}
-use Rattle.temporal_lang.specs.declared.branches.Branch.{Branch}
-use Rattle.temporal_lang.specs.declared.whens.When.{When}
-use Rattle.temporal_lang.specs.declared.whens.When.TheVariants.{Always, AsOf, During}
+use Rattle.temporal_lang.specs.declared.branch.Branch.{Branch}
+use Rattle.temporal_lang.specs.declared.when.When.{When}
+use Rattle.temporal_lang.specs.declared.when.When.TheVariants.{Always, AsOf, During}
 
 -- the aliases of the items of a FROM
 abbrev pub aliases_of : List Item → List (List ℕ)

@@ -7,6 +7,6 @@ pub mod Checking
 pub mod Accepted
 pub mod QueryGrammar
 pub mod QueryReader
-pub mod QueryPasses
+pub mod QueryCrossings
 pub mod Resolved
 pub mod Typings

@@ -19,7 +19,8 @@ query_tables branches = flat_map branch_tables branches
 
 -- the loss of the first of them that is lost on the way from the version in force at the moment
 abbrev pub loss_at : Past → PlainQuery → ℕ → Option Loss
-loss_at past query m = first_loss (get (lost_names past.versions (version_at past m) query.version)) (query_tables query.branches)
+loss_at past query m = first_loss (get (lost_names past.versions (version_at past m) query.version))
+    (query_tables query.branches)
 
 -- what there is at the first of so many moments, from m on, at which there is something
 unfoldable pub first_from : {X : Type 0} → (ℕ → Option X) → ℕ → ℕ → Option X

@@ -1,10 +1,10 @@
 -- Queries as plain data, and the moments that they ask of.
 use Rattle.std.specs.Prelude.{ℕ, ◌+◌, ◌<◌, List}
 use Rattle.relations.specs.Spans.{Span, span, always}
-use Rattle.prima_base.specs.declared.keeps.Keep.{Keep}
-use Rattle.temporal_lang.specs.declared.queries.Query.{Query}
-use Rattle.temporal_lang.specs.declared.whens.When.{When}
-use Rattle.temporal_lang.specs.declared.whens.When.TheVariants.{Always, AsOf, During}
+use Rattle.prima_base.specs.declared.keep.Keep.{Keep}
+use Rattle.temporal_lang.specs.declared.query.Query.{Query}
+use Rattle.temporal_lang.specs.declared.when.When.{When}
+use Rattle.temporal_lang.specs.declared.when.When.TheVariants.{Always, AsOf, During}
 use Rattle.plain_answers.specs.Branches.{PlainBranch}
 use Rattle.temporal_lang.specs.Branches.{branches_of}
 
@@ -15,7 +15,12 @@ pub record PlainQuery : Type 0 where
   pub keep : List Keep
 
 abbrev pub a_query : ℕ → List PlainBranch → When → List Keep → PlainQuery
-a_query version branches when keep = record { version = version; branches = branches; when = when; keep = keep }
+a_query version branches when keep = record {
+  version = version;
+  branches = branches;
+  when = when;
+  keep = keep;
+}
 
 abbrev pub query_of : Query → PlainQuery
 query_of q = a_query q.version (branches_of q.branches.items) q.when q.keep.items

@@ -31,4 +31,5 @@ AllSmall (b ∷ branches) = IsSmall b × AllSmall branches
 -- each reference is to a column of its branch's atoms
 abbrev pub AllKnown : Tables → List PlainBranch → Type 0
 AllKnown tables [] = ⊤
-AllKnown tables (b ∷ branches) = (first_unknown (atom_kinds tables b.from) (branch_references b) ≡ None) × AllKnown tables branches
+AllKnown tables (b ∷ branches) = (first_unknown (atom_kinds tables b.from) (branch_references b)
+    ≡ None) × AllKnown tables branches

@@ -1,7 +1,7 @@
 -- What typing the trees of a query answers.
 use Rattle.std.specs.Prelude.{◌≡◌, ℕ, ◌+◌, List, Option, Some, None, Result, Ok, Err, map, ⊤}
 use Rattle.std.specs.Option.{option_map}
-use Rattle.prima_base.specs.declared.values.ColType.{ColType}
+use Rattle.prima_base.specs.declared.value.ColType.{ColType}
 use Rattle.std.specs.declared.vec.Vec.{Vec}
 use Rattle.std.specs.declared.alloc.Global.{Global}
 use Rattle.schema_catalog.specs.Tables.{Tables}
@@ -9,21 +9,24 @@ use Rattle.cond_expr.specs.Trees.{Tree, Test}
 use Rattle.cond_expr.specs.Kinds.{Kinds, kind_of}
 use Rattle.cond_expr.specs.Faults.{untyped, test_untyped, first_of}
 use Rattle.smo_meaning.specs.First.{first_refusal}
-use Rattle.prima_base.specs.declared.refusals.Refusal.{Refusal}
-use Rattle.prima_base.specs.declared.faults.CallFault.{CallFault}
-use Rattle.prima_base.specs.declared.faults.CallFault.TheVariants.{Refused, NoMemory}
-use Rattle.temporal_lang.specs.declared.typing.Typed.{Typed}
+use Rattle.prima_base.specs.declared.refusal.Refusal.{Refusal}
+use Rattle.prima_base.specs.declared.fault.CallFault.{CallFault}
+use Rattle.prima_base.specs.declared.fault.CallFault.TheVariants.{Refused, NoMemory}
+use Rattle.temporal_lang.specs.declared.type_check.Typed.{Typed}
 use Rattle.plain_answers.specs.Branches.{PlainBranch}
-use Rattle.temporal_lang.specs.Checking.{trees_types, outputs_nodes, branch_types, branch_nodes, types_from, output_kinds}
+use Rattle.temporal_lang.specs.Checking.{trees_types, outputs_nodes, branch_types, branch_nodes}
+use Rattle.temporal_lang.specs.Checking.{types_from, output_kinds}
 
--- the type, where no node is ill-typed; else the place of the first that is, the root being node `at`
+-- the type, where no node is ill-typed; else the place of the first that is, the root being node
+-- `at`
 abbrev pub IsTyped : Kinds → ℕ → Tree → Result ColType ℕ → Type 0
 IsTyped of at t (Ok kind) = (kind_of of t ≡ Some kind) × (first_of (untyped of 0 t) ≡ None)
 IsTyped of at t (Err place) = option_map (λ p. at + p) (first_of (untyped of 0 t)) ≡ Some place
 
 abbrev pub IsTypedTest : Kinds → ℕ → Test → Result (Unit {0}) ℕ → Type 0
 IsTypedTest of at c (Ok u) = first_of (test_untyped of 0 c) ≡ None
-IsTypedTest of at c (Err place) = option_map (λ p. at + p) (first_of (test_untyped of 0 c)) ≡ Some place
+IsTypedTest of at c (Err place) = option_map (λ p. at + p) (first_of (test_untyped of 0 c))
+    ≡ Some place
 
 abbrev pub OutputsTyped : Kinds → ℕ → List Tree → Result Typed (CallFault Refusal) → Type 0
 OutputsTyped of at ts (Ok typed) = record {
@@ -47,7 +50,10 @@ BranchTyped of at b (Err NoMemory) = ⊤
 abbrev pub kind_lists : List (Vec ColType Global) → List (List (Option ColType))
 kind_lists kinds = map (λ (v : Vec ColType Global). map Some v.items) kinds
 
-abbrev pub BranchesTyped : Tables → List PlainBranch → Result (Vec (Vec ColType Global) Global) (CallFault Refusal) → Type 0
-BranchesTyped tables branches (Ok kinds) = (first_refusal (types_from tables 0 branches) ≡ None) × (kind_lists kinds.items ≡ map (output_kinds tables) branches)
-BranchesTyped tables branches (Err (Refused refusal)) = first_refusal (types_from tables 0 branches) ≡ Some refusal
+abbrev pub BranchesTyped : Tables → List PlainBranch
+    → Result (Vec (Vec ColType Global) Global) (CallFault Refusal) → Type 0
+BranchesTyped tables branches (Ok kinds) = (first_refusal (types_from tables 0 branches) ≡ None)
+    × (kind_lists kinds.items ≡ map (output_kinds tables) branches)
+BranchesTyped tables branches (Err (Refused refusal)) =
+    first_refusal (types_from tables 0 branches) ≡ Some refusal
 BranchesTyped tables branches (Err NoMemory) = ⊤

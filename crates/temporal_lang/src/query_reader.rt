@@ -1,7 +1,7 @@
 //! Reading of queries, from left to right.
 
 ghost use Rattle.std.specs.Prelude.{◌≡◌, ◌<◌, length, map, codes, is_some};
-ghost use Rattle.prima_base.specs.declared.refusals.What.TheVariants as limited;
+ghost use Rattle.prima_base.specs.declared.refusal.What.TheVariants as limited;
 ghost use Rattle.cond_expr.specs.Seen.{tree, test};
 ghost use Rattle.lexical_grammar.specs.Lexemes.{is_word, is_sign};
 ghost use Rattle.expr_grammar.specs.Constants.{as_name};
@@ -26,9 +26,10 @@ fn output(alloc: Global, c: &mut Cursor<'_, '_>) -> Result<Expr, Stop>
     fresh_expr(alloc, c, true)
 }
 
-// More outputs behind a first, each behind a comma, 31 at most.
+// More outputs after a first, each after a comma, 31 at most.
 fn more_outputs(alloc: Global, c: &mut Cursor<'_, '_>, list: &mut Vec<Expr>) -> Result<(), Stop>
-    ensures { ReadsMore (more (is_sign (codes ",")) limited.Outputs spec.output 31 c.old.nodes (ahead c.old)) (map tree list.old.items) (map tree list.new.items) result c.new }
+    ensures { ReadsMore (more (is_sign (codes ",")) limited.Outputs spec.output 31 c.old.nodes
+        (ahead c.old)) (map tree list.old.items) (map tree list.new.items) result c.new }
 {
     let mut left: u32 = 31;
     while c.sees_sign(b",") {
@@ -88,13 +89,14 @@ fn item(alloc: Global, c: &mut Cursor<'_, '_>) -> Result<(Name, Name), Stop>
     Ok((table, named))
 }
 
-// More items behind a first, each behind a comma, seven at most.
+// More items after a first, each after a comma, seven at most.
 fn more_items(
     alloc: Global,
     c: &mut Cursor<'_, '_>,
     list: &mut Vec<(Name, Name)>,
 ) -> Result<(), Stop>
-    ensures { ReadsMore (more (is_sign (codes ",")) limited.Tables spec.item 7 c.old.nodes (ahead c.old)) list.old.items list.new.items result c.new }
+    ensures { ReadsMore (more (is_sign (codes ",")) limited.Tables spec.item 7 c.old.nodes
+        (ahead c.old)) list.old.items list.new.items result c.new }
 {
     let mut left: u32 = 7;
     while c.sees_sign(b",") {
@@ -132,9 +134,10 @@ fn branch(alloc: Global, c: &mut Cursor<'_, '_>) -> Result<Branch, Stop>
     Ok(Branch { outs, from, cond })
 }
 
-// More branches behind a first, each behind UNION, fifteen at most.
+// More branches after a first, each after UNION, fifteen at most.
 fn more_branches(alloc: Global, c: &mut Cursor<'_, '_>, list: &mut Vec<Branch>) -> Result<(), Stop>
-    ensures { ReadsMore (more (is_word (codes "UNION")) limited.Branches spec.branch 15 c.old.nodes (ahead c.old)) (branches_of list.old.items) (branches_of list.new.items) result c.new }
+    ensures { ReadsMore (more (is_word (codes "UNION")) limited.Branches spec.branch 15 c.old.nodes
+        (ahead c.old)) (branches_of list.old.items) (branches_of list.new.items) result c.new }
 {
     let mut left: u32 = 15;
     while c.sees_word(b"UNION") {
@@ -151,7 +154,8 @@ fn more_branches(alloc: Global, c: &mut Cursor<'_, '_>, list: &mut Vec<Branch>) 
 // Branches with UNION between them, one at least.
 #[tactic(auto, unfolding(crate::specs::QueryReader::branches))]
 fn branches(alloc: Global, c: &mut Cursor<'_, '_>) -> Result<Vec<Branch>, Stop>
-    ensures { Reads (λ v. branches_of v.items) (spec.branches c.old.nodes (ahead c.old)) result c.new }
+    ensures { Reads (λ v. branches_of v.items) (spec.branches c.old.nodes (ahead c.old)) result
+        c.new }
 {
     let first = branch(alloc, c)?;
     let mut list = vec![in alloc; first]?;

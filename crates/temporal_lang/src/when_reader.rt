@@ -2,8 +2,8 @@
 
 ghost use Rattle.std.specs.Prelude.{◌≡◌, ◌<◌, length, codes};
 ghost use Rattle.relations.specs.Spans.{forever};
-ghost use Rattle.prima_base.specs.declared.refusals.What.TheVariants as limited;
-ghost use Rattle.prima_base.specs.declared.keeps.Keep.TheVariants as kinds;
+ghost use Rattle.prima_base.specs.declared.refusal.What.TheVariants as limited;
+ghost use Rattle.prima_base.specs.declared.keep.Keep.TheVariants as kinds;
 ghost use Rattle.lexical_grammar.specs.Lexemes.{is_word};
 ghost use Rattle.parser_combinators.specs.Parsing.{more};
 ghost use Rattle.parser_combinators.specs.Reads.{Reads, ReadsMore, ahead};
@@ -37,7 +37,7 @@ fn bounds(c: &mut Cursor<'_, '_>) -> Result<(u64, u64), Stop>
     Ok((first, second))
 }
 
-// What stands behind AS: of all moments, `now` is the last.
+// What stands after AS: of all moments, `now` is the last.
 #[tactic(auto, using(parser_combinators::proofs::ReadSteps::lead_seen, parser_combinators::proofs::ReadSteps::lead_not))]
 fn as_of_rest(c: &mut Cursor<'_, '_>) -> Result<Option<u64>, Stop>
     ensures { Reads (λ o. o) (spec.as_of_rest c.old.nodes (ahead c.old)) result c.new }
@@ -59,7 +59,7 @@ fn as_of(c: &mut Cursor<'_, '_>) -> Result<Option<u64>, Stop>
     as_of_rest(c)
 }
 
-// What stands behind DURING.
+// What stands after DURING.
 fn during_rest(c: &mut Cursor<'_, '_>) -> Result<When, Stop>
     ensures { Reads (λ w. w) (spec.during_rest c.old.nodes (ahead c.old)) result c.new }
 {
@@ -79,7 +79,7 @@ fn during(c: &mut Cursor<'_, '_>) -> Result<When, Stop>
     during_rest(c)
 }
 
-// What stands behind STARTING.
+// What stands after STARTING.
 #[tactic(auto, unfolding(crate::specs::QueryReader::between))]
 fn starting(c: &mut Cursor<'_, '_>) -> Result<Keep, Stop>
     ensures { Reads (λ k. k) (spec.between kinds.Starting c.old.nodes (ahead c.old)) result c.new }
@@ -88,7 +88,7 @@ fn starting(c: &mut Cursor<'_, '_>) -> Result<Keep, Stop>
     Ok(Keep::Starting(first, second))
 }
 
-// What stands behind ENDING.
+// What stands after ENDING.
 #[tactic(auto, unfolding(crate::specs::QueryReader::between))]
 fn ending(c: &mut Cursor<'_, '_>) -> Result<Keep, Stop>
     ensures { Reads (λ k. k) (spec.between kinds.Ending c.old.nodes (ahead c.old)) result c.new }
@@ -97,7 +97,7 @@ fn ending(c: &mut Cursor<'_, '_>) -> Result<Keep, Stop>
     Ok(Keep::Ending(first, second))
 }
 
-// What stands behind LASTING.
+// What stands after LASTING.
 #[tactic(auto, unfolding(crate::specs::QueryReader::between))]
 fn lasting(c: &mut Cursor<'_, '_>) -> Result<Keep, Stop>
     ensures { Reads (λ k. k) (spec.between kinds.Lasting c.old.nodes (ahead c.old)) result c.new }
@@ -106,7 +106,7 @@ fn lasting(c: &mut Cursor<'_, '_>) -> Result<Keep, Stop>
     Ok(Keep::Lasting(first, second))
 }
 
-// What stands behind OVERLAPPING.
+// What stands after OVERLAPPING.
 #[tactic(auto, unfolding(crate::specs::QueryReader::between))]
 fn overlapping(c: &mut Cursor<'_, '_>) -> Result<Keep, Stop>
     ensures { Reads (λ k. k) (spec.between kinds.Overlapping c.old.nodes (ahead c.old)) result c.new }
@@ -115,7 +115,7 @@ fn overlapping(c: &mut Cursor<'_, '_>) -> Result<Keep, Stop>
     Ok(Keep::Overlapping(first, second))
 }
 
-// What stands behind COVERING.
+// What stands after COVERING.
 #[tactic(auto, unfolding(crate::specs::QueryReader::covering))]
 fn covering(c: &mut Cursor<'_, '_>) -> Result<Keep, Stop>
     ensures { Reads (λ k. k) (spec.covering c.old.nodes (ahead c.old)) result c.new }
@@ -149,12 +149,13 @@ fn keep(c: &mut Cursor<'_, '_>) -> Result<Keep, Stop>
         c.skip();
         return covering(c);
     }
-    Err(Stop::Stuck)
+    Err(Stop::Unexpected)
 }
 
-// More conditions behind a first, each behind AND, seven at most.
+// More conditions after a first, each after AND, seven at most.
 fn more_keeps(c: &mut Cursor<'_, '_>, list: &mut Vec<Keep>) -> Result<(), Stop>
-    ensures { ReadsMore (more (is_word (codes "AND")) limited.Keeps spec.keep 7 c.old.nodes (ahead c.old)) list.old.items list.new.items result c.new }
+    ensures { ReadsMore (more (is_word (codes "AND")) limited.Keeps spec.keep 7 c.old.nodes
+        (ahead c.old)) list.old.items list.new.items result c.new }
 {
     let mut left: u32 = 7;
     while c.sees_word(b"AND") {

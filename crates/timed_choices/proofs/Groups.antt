@@ -8,8 +8,8 @@ use Rattle.std.specs.declared.cmp.Ordering.TheVariants.{Less, Equal, Greater}
 use Rattle.std.proofs.lemmas.List.{append-nil}
 use Rattle.std.proofs.lemmas.List.Elements.{filter-append}
 use Rattle.relations.specs.Timed.{Entry}
-use Rattle.prima_base.specs.declared.values.Value.{Value}
-use Rattle.prima_base.specs.declared.timed_rows.TimedRow.{TimedRow}
+use Rattle.prima_base.specs.declared.value.Value.{Value}
+use Rattle.prima_base.specs.declared.timed_row.TimedRow.{TimedRow}
 use Rattle.prima_base.specs.Order.{row_cmp}
 use Rattle.prima_base.specs.OrderLaws.{row_exact}
 use Rattle.prima_base.specs.Timed.{entry_of, entries_of}
@@ -24,25 +24,35 @@ row_same a b e = step (row_cmp a b) refl e
     step Greater q h = absurd (cc)
 
 -- taken out and put in again with the row
-pub put_in_group : (b : Bool) (old taken back : Option (List TimedRow)) (group more : List TimedRow) (row : TimedRow) → (b ≡ true → in_group old ≡ group)
-    → taken ≡ cond b None old → more ≡ group ++ row ∷ [] → back ≡ cond b (Some more) taken → in_group back ≡ in_group old ++ cond b (row ∷ []) []
-put_in_group true old taken back group more row h e p f = ap in_group f ∙ p ∙ ap (λ (g : List TimedRow). g ++ row ∷ []) (sym (h refl))
-put_in_group false old taken back group more row h e p f = ap in_group (f ∙ e) ∙ sym (append-nil (in_group old))
+pub put_in_group : (b : Bool) (old taken back : Option (List TimedRow)) (group more : List TimedRow)
+    (row : TimedRow) → (b ≡ true → in_group old ≡ group)
+    → taken ≡ cond b None old → more ≡ group ++ row ∷ [] → back ≡ cond b (Some more) taken
+    → in_group back ≡ in_group old ++ cond b (row ∷ []) []
+put_in_group true old taken back group more row h e p f = ap in_group f ∙ p
+    ∙ ap (λ (g : List TimedRow). g ++ row ∷ []) (sym (h refl))
+put_in_group false old taken back group more row h e p f = ap in_group (f ∙ e)
+    ∙ sym (append-nil (in_group old))
 
 -- one more that passes, or not
-pub kept_more : {X : Type 0} (p : X → Bool) (rows : List X) (row : X) (b : Bool) (kept more : List X) → b ≡ p row
-    → kept ≡ filter p rows → more ≡ kept ++ cond b (row ∷ []) [] → more ≡ filter p (rows ++ row ∷ [])
+pub kept_more : {X : Type 0} (p : X → Bool) (rows : List X) (row : X) (b : Bool)
+    (kept more : List X) → b ≡ p row
+    → kept ≡ filter p rows → more ≡ kept ++ cond b (row ∷ []) []
+    → more ≡ filter p (rows ++ row ∷ [])
 kept_more {X} p rows row b kept more h k m =
     m ∙ ap (λ (ys : List X). ys ++ cond b (row ∷ []) []) k
     ∙ ap (λ t. filter p rows ++ cond t (row ∷ []) []) h
     ∙ sym (filter-append p rows (row ∷ []))
 
 -- what is kept of rows by what they show
-pub shown_kept : (p : Entry (List Value) → Bool) (rows : List TimedRow) → entries_of (filter (λ (t : TimedRow). p (entry_of t)) rows) ≡ filter p (entries_of rows)
+pub shown_kept : (p : Entry (List Value) → Bool) (rows : List TimedRow)
+    → entries_of (filter (λ (t : TimedRow). p (entry_of t)) rows) ≡ filter p (entries_of rows)
 shown_kept p [] = refl
 shown_kept p (t ∷ rows) = step (p (entry_of t)) (shown_kept p rows)
   where
-    step : (b : Bool) → entries_of (filter (λ (r : TimedRow). p (entry_of r)) rows) ≡ filter p (entries_of rows)
-        → entries_of (cond b (t ∷ filter (λ (r : TimedRow). p (entry_of r)) rows) (filter (λ (r : TimedRow). p (entry_of r)) rows)) ≡ cond b (entry_of t ∷ filter p (entries_of rows)) (filter p (entries_of rows))
+    step : (b : Bool) → entries_of (filter (λ (r : TimedRow). p (entry_of r)) rows)
+        ≡ filter p (entries_of rows)
+        → entries_of (cond b (t ∷ filter (λ (r : TimedRow). p (entry_of r)) rows)
+        (filter (λ (r : TimedRow). p (entry_of r)) rows))
+        ≡ cond b (entry_of t ∷ filter p (entries_of rows)) (filter p (entries_of rows))
     step true h = ap (λ (es : List (Entry (List Value))). entry_of t ∷ es) h
     step false h = h

@@ -9,4 +9,4 @@ pub mod ColumnTrees
 pub mod JoinLaws
 pub mod Reordering
 pub mod PrunedAtoms
-pub mod LentLaws
+pub mod BorrowedLaws

@@ -1,39 +1,45 @@
--- Conditions over the values that are shown, and lawful values.
-use Rattle.std.proofs.Common.{◌≡◌, ◌<◌, ℕ, zero, suc, Bool, List, [], ◌∷◌, ◌++◌, map, length, get_or, refl, sym, subst, inl, inr, arith}
+-- Conditions over the values that are shown, and valid values.
+use Rattle.std.proofs.Common.{◌≡◌, ◌<◌, ℕ, zero, suc, Bool, List, [], ◌∷◌, ◌++◌, map, length}
+use Rattle.std.proofs.Common.{get_or, refl, sym, subst, inl, inr, arith}
 use Rattle.std.specs.List.{filter}
 use Rattle.relations.specs.Timed.{Entry}
 use Rattle.relations.proofs.SetLaws.{from_filter}
-use Rattle.prima_base.specs.declared.values.Value.{Value}
-use Rattle.prima_base.specs.declared.values.Val.{Val}
-use Rattle.prima_base.specs.declared.timed_rows.TimedRow.{TimedRow}
+use Rattle.prima_base.specs.declared.value.Value.{Value}
+use Rattle.prima_base.specs.declared.value.Val.{Val}
+use Rattle.prima_base.specs.declared.timed_row.TimedRow.{TimedRow}
 use Rattle.prima_base.specs.Order.{shown}
 use Rattle.prima_base.specs.Timed.{entry_of, entries_of}
-use Rattle.cond_expr.specs.declared.exprs.Column.{Column}
+use Rattle.cond_expr.specs.declared.expr.Column.{Column}
 use Rattle.cond_expr.specs.Trees.{Test}
 use Rattle.cond_expr.specs.Values.{truth}
-use Rattle.cond_expr.specs.Rows.{flat, AreLawful}
-use Rattle.timed_choices.specs.Keeping.{meets, IsLawfulRow, AllLawful}
+use Rattle.cond_expr.specs.Rows.{flat, AreValid}
+use Rattle.timed_choices.specs.Keeping.{meets, IsValidRow, AllValid}
 
 -- values meet what the row that they show meets
-pub met_is : (cs : List Column) (vs : List Val) (c : Test) → truth (flat cs vs) c ≡ meets cs c (map shown vs)
+pub met_is : (cs : List Column) (vs : List Val) (c : Test)
+    → truth (flat cs vs) c ≡ meets cs c (map shown vs)
 met_is cs vs c = refl
 
--- lawful values
-pub are_lawful : (vs : List Val) → IsLawfulRow (map shown vs) → AreLawful vs
-are_lawful [] h = tt
-are_lawful (v ∷ vs) h = (h.0, are_lawful vs h.1)
+-- valid values
+pub are_valid : (vs : List Val) → IsValidRow (map shown vs) → AreValid vs
+are_valid [] h = tt
+are_valid (v ∷ vs) h = (h.0, are_valid vs h.1)
 
-pub both_lawful : (a b : List Value) → IsLawfulRow a → IsLawfulRow b → IsLawfulRow (a ++ b)
-both_lawful [] b h k = k
-both_lawful (v ∷ a) b h k = (h.0, both_lawful a b h.1 k)
+pub both_valid : (a b : List Value) → IsValidRow a → IsValidRow b → IsValidRow (a ++ b)
+both_valid [] b h k = k
+both_valid (v ∷ a) b h k = (h.0, both_valid a b h.1 k)
 
-pub lawful_row : (rows : List TimedRow) (i : ℕ) (row : TimedRow) → AllLawful (entries_of rows) → i < length rows → row ≡ get_or rows i row → IsLawfulRow (map shown row.values.items)
-lawful_row [] i row h l e = absurd (omega arith)
-lawful_row (r ∷ rows) zero row h l e = subst (λ (x : TimedRow). IsLawfulRow (map shown x.values.items)) (sym e) (h (entry_of r) (inl refl))
-lawful_row (r ∷ rows) (suc i) row h l e = lawful_row rows i row (λ x k. h x (inr k)) (omega arith) e
+pub valid_row : (rows : List TimedRow) (i : ℕ) (row : TimedRow) → AllValid (entries_of rows)
+    → i < length rows → row ≡ get_or rows i row → IsValidRow (map shown row.values.items)
+valid_row [] i row h l e = absurd (omega arith)
+valid_row (r ∷ rows) zero row h l e = subst (λ (x : TimedRow).
+    IsValidRow (map shown x.values.items)) (sym e) (h (entry_of r) (inl refl))
+valid_row (r ∷ rows) (suc i) row h l e = valid_row rows i row (λ x k. h x (inr k)) (omega arith) e
 
-pub some_lawful : (p : Entry (List Value) → Bool) (es : List (Entry (List Value))) → AllLawful es → AllLawful (filter p es)
-some_lawful p es h = λ e k. h e (from_filter p e es k).0
+pub some_valid : (p : Entry (List Value) → Bool) (es : List (Entry (List Value))) → AllValid es
+    → AllValid (filter p es)
+some_valid p es h = λ e k. h e (from_filter p e es k).0
 
-pub lawful_of_both : (vs : List Val) (a b : List Value) → map shown vs ≡ a ++ b → IsLawfulRow a → IsLawfulRow b → AreLawful vs
-lawful_of_both vs a b e h k = are_lawful vs (subst IsLawfulRow (sym e) (both_lawful a b h k))
+pub valid_of_both : (vs : List Val) (a b : List Value) → map shown vs ≡ a ++ b → IsValidRow a
+    → IsValidRow b → AreValid vs
+valid_of_both vs a b e h k = are_valid vs (subst IsValidRow (sym e) (both_valid a b h k))

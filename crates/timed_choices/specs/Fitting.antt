@@ -1,24 +1,24 @@
--- Rows of so many lawful values each. That they are is no data: there is at most one proof of it.
+-- Rows of so many valid values each. That they are is no data: there is at most one proof of it.
 use Rattle.std.specs.Prelude.{◌≡◌, ℕ, List, [], ◌∷◌, length, ⊤}
-use Rattle.cond_expr.specs.declared.exprs.Column.{Column}
+use Rattle.cond_expr.specs.declared.expr.Column.{Column}
 use Rattle.std.proofs.Props.{props}
 use Rattle.relations.specs.Sets.{In}
 use Rattle.relations.specs.Timed.{Entry}
-use Rattle.prima_base.specs.declared.values.Value.{Value}
-use Rattle.prima_base.specs.declared.values.Value.TheVariants.{Int, Text}
-use Rattle.prima_base.specs.Columns.{IsLawful}
-use Rattle.timed_choices.specs.Keeping.{IsLawfulRow}
+use Rattle.prima_base.specs.declared.value.Value.{Value}
+use Rattle.prima_base.specs.declared.value.Value.TheVariants.{Int, Text}
+use Rattle.prima_base.specs.Columns.{IsValid}
+use Rattle.timed_choices.specs.Keeping.{IsValidRow}
 
 abbrev pub Fit : ℕ → List (Entry (List Value)) → Type 0
-Fit n entries = (e : Entry (List Value)) → In e entries → (length e.item ≡ n) × IsLawfulRow e.item
+Fit n entries = (e : Entry (List Value)) → In e entries → (length e.item ≡ n) × IsValidRow e.item
 
-lawful_once : (v : Value) → IsProp (IsLawful v)
-lawful_once (Int n) = hlevel props
-lawful_once (Text t) = hlevel props
+valid_once : (v : Value) → IsProp (IsValid v)
+valid_once (Int n) = hlevel props
+valid_once (Text t) = hlevel props
 
-row_once : (row : List Value) → IsProp (IsLawfulRow row)
+row_once : (row : List Value) → IsProp (IsValidRow row)
 row_once [] = hlevel props
-row_once (v ∷ row) = hlevel (props, lawful_once v, row_once row)
+row_once (v ∷ row) = hlevel (props, valid_once v, row_once row)
 
 pub fit_once : (n : ℕ) (entries : List (Entry (List Value))) → IsProp (Fit n entries)
 fit_once n entries = hlevel (props, row_once)

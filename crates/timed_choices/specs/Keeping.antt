@@ -1,17 +1,19 @@
--- Which rows are kept beside a choice: those that agree with it on some places, and with which it passes some tests.
-use Rattle.std.specs.Prelude.{◌≡◌, ℕ, Bool, true, ◌&&◌, List, [], ◌∷◌, ◌++◌, map, length, get_or, pos, Option, Some, None, ⊤}
+-- Which rows are kept beside a choice: those that agree with it on some places, and with which it
+-- passes some tests.
+use Rattle.std.specs.Prelude.{◌≡◌, ℕ, Bool, true, ◌&&◌, List, [], ◌∷◌, ◌++◌, map, length, get_or}
+use Rattle.std.specs.Prelude.{pos, Option, Some, None, ⊤}
 use Rattle.relations.specs.Timed.{Entry}
-use Rattle.prima_base.specs.declared.timed_rows.TimedRow.{TimedRow}
+use Rattle.prima_base.specs.declared.timed_row.TimedRow.{TimedRow}
 use Rattle.std.specs.Ordering.{is_eq}
-use Rattle.prima_base.specs.declared.values.Value.{Value}
-use Rattle.prima_base.specs.declared.values.Value.TheVariants.{Int}
+use Rattle.prima_base.specs.declared.value.Value.{Value}
+use Rattle.prima_base.specs.declared.value.Value.TheVariants.{Int}
 use Rattle.prima_base.specs.Order.{row_cmp}
-use Rattle.prima_base.specs.Columns.{IsLawful}
+use Rattle.prima_base.specs.Columns.{IsValid}
 use Rattle.relations.specs.Sets.{In}
 use Rattle.std.specs.Borrow.{Bor}
-use Rattle.cond_expr.specs.declared.exprs.Cond.{Cond}
+use Rattle.cond_expr.specs.declared.expr.Cond.{Cond}
 use Rattle.cond_expr.specs.Seen.{test}
-use Rattle.cond_expr.specs.declared.exprs.Column.{Column}
+use Rattle.cond_expr.specs.declared.expr.Column.{Column}
 use Rattle.cond_expr.specs.Trees.{Test}
 use Rattle.cond_expr.specs.Values.{truth}
 use Rattle.cond_expr.specs.Rows.{cells}
@@ -32,9 +34,12 @@ abbrev pub meets_all : List Column → List Test → List Value → Bool
 meets_all columns [] row = true
 meets_all columns (c ∷ cs) row = meets columns c row && meets_all columns cs row
 
--- what meets all the conditions, with any further columns behind, meets these with the first columns alone
+-- what meets all the conditions, with any further columns after, meets these with the first columns
+-- alone
 abbrev pub AreOwnParts : List Column → List Test → List Test → Type 0
-AreOwnParts columns conds own = (rest : List Column) (row more : List Value) → length row ≡ length columns → meets_all (columns ++ rest) conds (row ++ more) ≡ true → meets_all columns own row ≡ true
+AreOwnParts columns conds own = (rest : List Column) (row more : List Value)
+    → length row ≡ length columns → meets_all (columns ++ rest) conds (row ++ more) ≡ true
+    → meets_all columns own row ≡ true
 
 -- the row agrees with a choice: it has at these places what the choice has at those
 abbrev pub agrees : List ℕ → List ℕ → List Value → List Value → Bool
@@ -52,14 +57,14 @@ abbrev pub in_group : Option (List TimedRow) → List TimedRow
 in_group None = []
 in_group (Some rows) = rows
 
--- each value is lawful, of a row and of the rows of entries
-abbrev pub IsLawfulRow : List Value → Type 0
-IsLawfulRow [] = ⊤
-IsLawfulRow (v ∷ row) = IsLawful v × IsLawfulRow row
+-- each value is valid, of a row and of the rows of entries
+abbrev pub IsValidRow : List Value → Type 0
+IsValidRow [] = ⊤
+IsValidRow (v ∷ row) = IsValid v × IsValidRow row
 
-abbrev pub AllLawful : List (Entry (List Value)) → Type 0
-AllLawful entries = (e : Entry (List Value)) → In e entries → IsLawfulRow e.item
+abbrev pub AllValid : List (Entry (List Value)) → Type 0
+AllValid entries = (e : Entry (List Value)) → In e entries → IsValidRow e.item
 
--- the conditions that are lent
-abbrev pub lent_tests : List (Bor Cond) → List Test
-lent_tests conds = map (λ (c : Bor Cond). test c.now) conds
+-- the conditions that are borrowed
+abbrev pub borrowed_tests : List (Bor Cond) → List Test
+borrowed_tests conds = map (λ (c : Bor Cond). test c.now) conds

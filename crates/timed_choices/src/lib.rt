@@ -1,5 +1,5 @@
-//! Choices of one row of each of several lists of rows with periods, as flat rows: the rows of a choice one behind the other.
-//! Definitions (`specs/`) and their laws, under the engine of joins.
+//! Choices of one row of each of several lists of rows with periods, as flat rows: the rows of a
+//! choice one after the other. Definitions (`specs/`) and their laws, under the engine of joins.
 #![tactic(auto)]
 
 mod laws;

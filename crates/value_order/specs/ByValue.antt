@@ -5,7 +5,7 @@ use Rattle.std.specs.Ordering.{nat_cmp, ordering_then}
 use Rattle.std.specs.declared.cmp.Ordering.{Ordering}
 use Rattle.relations.specs.Sets.{In, Ascends}
 use Rattle.prima_base.specs.Order.{row_cmp}
-use Rattle.prima_base.specs.declared.values.Value.{Value}
+use Rattle.prima_base.specs.declared.value.Value.{Value}
 use Rattle.column_log.specs.Log.{Write, newest}
 use Rattle.column_log.specs.Puts.{is_value}
 

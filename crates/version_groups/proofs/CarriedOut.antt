@@ -1,5 +1,6 @@
 -- What was made ready, carried out.
-use Rattle.std.proofs.Common.{◌≡◌, ◌≤◌, ◌<◌, ◌+◌, ℕ, List, [], ◌∷◌, ◌++◌, map, length, get_or, refl, sym, ap, subst, ◌∙◌, arith, inl, inr}
+use Rattle.std.proofs.Common.{◌≡◌, ◌≤◌, ◌<◌, ◌+◌, ℕ, List, [], ◌∷◌, ◌++◌, map, length, get_or, refl}
+use Rattle.std.proofs.Common.{sym, ap, subst, ◌∙◌, arith, inl, inr}
 use Rattle.std.specs.Prelude.{Option, Some, None, ◌^◌}
 use Rattle.std.specs.FinMap.{get}
 use Rattle.std.proofs.lemmas.List.{length-map, map-append}
@@ -7,114 +8,167 @@ use Rattle.relations.specs.Spans.{forever}
 use Rattle.relations.specs.Sets.{In, Ascends}
 use Rattle.prima_base.specs.Order.{bytes_cmp}
 use Rattle.history_store.specs.Store.{Store, relation_at}
-use Rattle.history_store.specs.Change.{Plan}
-use Rattle.smo_types.specs.declared.versions.Version.{Version}
-use Rattle.smo_meaning.specs.Effects.{rows_at}
+use Rattle.history_store.specs.Change.{PreparedChange}
+use Rattle.smo_types.specs.declared.version.Version.{Version}
+use Rattle.smo_meaning.specs.Effects.{rows_under}
 use Rattle.smo_meaning.specs.OneRow.{Relation}
 use Rattle.smo_meaning.specs.Accepts.{command_fault}
-use Rattle.smo_meaning.specs.LawfulValues.{BodyHolds}
+use Rattle.smo_meaning.specs.ValidValues.{BodyHolds}
 use Rattle.smo_types.specs.Commands.{PlainBody, changing, evolving, PlainVersion, version_of}
-use Rattle.smo_meaning.specs.Past.{Past, database_behind, past_with}
-use Rattle.version_groups.specs.declared.made_tables.MadeTable.{MadeTable}
-use Rattle.version_groups.specs.Groups.{Kept, versions_in, group_of, newest_group, table_in, stored_as, names_of}
+use Rattle.smo_meaning.specs.Past.{Past, next_database, past_with}
+use Rattle.version_groups.specs.declared.made_table.MadeTable.{MadeTable}
+use Rattle.version_groups.specs.Groups.{Kept, versions_in, group_of, newest_group, table_in}
+use Rattle.version_groups.specs.Groups.{stored_as, names_of}
 use Rattle.version_groups.specs.Places.{at_places, AreWithin}
-use Rattle.version_groups.specs.Showing.{IsInForce, Shows}
+use Rattle.version_groups.specs.Showing.{IsInForce, Represents}
 use Rattle.version_groups.specs.Becoming.{HasRoom, Leads, IsMade}
 use Rattle.version_groups.specs.Changing.{HaveRoom}
-use Rattle.version_groups.specs.Installing.{Stays, StaysEntry, IsAmong, IsMadeBy, HasChanges, HasVersion, ComeWith}
+use Rattle.version_groups.specs.Installing.{Stays, StaysEntry, IsAmong, IsMadeBy, HasChanges}
+use Rattle.version_groups.specs.Installing.{HasVersion, ComeWith}
 use Rattle.version_groups.specs.Steps.{changed, evolved, a_command, AreChanges, IsStep}
 use Rattle.smo_meaning.proofs.PastMoments.{before_or_not}
 use Rattle.version_groups.proofs.Pairs.{Paired, paired}
 use Rattle.version_groups.proofs.SizesChanged.{sizes_follow, stamps_follow}
 use Rattle.version_groups.proofs.SizesEvolved.{sizes_begin, stamps_begin, comes_with}
 use Rattle.version_groups.proofs.Covered.{still_of_lifelines}
-use Rattle.version_groups.proofs.Installed.{made_name, plans_at, ended, shows_changed, shows_evolved}
+use Rattle.version_groups.proofs.Installed.{made_name, plans_at, ended, shows_changed}
+use Rattle.version_groups.proofs.Installed.{shows_evolved}
 
 -- as many versions as the past has
-pub as_many : (kept : Kept) (past : Past) → Shows kept past → length kept.versions ≡ length past.versions
+pub as_many : (kept : Kept) (past : Past) → Represents kept past
+    → length kept.versions ≡ length past.versions
 as_many kept past shows = sym (length-map kept.versions version_of) ∙ ap length shows.versions
 
-module _ (kept new : Kept) (past : Past) (shows : Shows kept past) where
-  pub changes_made : (plans : List (Option Plan)) → HasChanges kept new plans → (stamp : ℕ) (body : PlainBody) → stamp < forever → command_fault past (a_command stamp body) ≡ None
-      → BodyHolds body → IsStep kept past stamp body (changed plans) → Shows new (past_with past (a_command stamp body))
-  changes_made plans m stamp (evolving op inverse) lawful accepted hold ready = absurd ready
-  changes_made plans m stamp (changing changes) lawful accepted hold ready =
+module _ (kept new : Kept) (past : Past) (shows : Represents kept past) where
+  pub changes_made : (plans : List (Option PreparedChange)) → HasChanges kept new plans
+      → (stamp : ℕ) (body : PlainBody) → stamp < forever
+      → command_fault past (a_command stamp body) ≡ None
+      → BodyHolds body → IsStep kept past stamp body (changed plans)
+      → Represents new (past_with past (a_command stamp body))
+  changes_made plans m stamp (evolving op inverse) valid accepted hold ready = absurd ready
+  changes_made plans m stamp (changing changes) valid accepted hold ready =
       let n = as_many kept past shows in
-      shows_changed kept past stamp changes shows lawful accepted hold new plans (ap (map version_of) m.versions) (λ k l. m.groups k (omega (arith, l, n)))
+      shows_changed kept past stamp changes shows valid accepted hold new plans
+      (ap (map version_of) m.versions) (λ k l. m.groups k (omega (arith, l, n)))
       (subst (λ j. length (group_of new j) ≡ length (group_of kept j)) n m.made.count)
-      (subst (λ j. AreChanges stamp (database_behind (changing changes) past) (group_of kept j) plans) n ready)
-      (subst (λ j. (k : ℕ) (d : MadeTable) → k < length (group_of kept j) → IsMade (get_or (group_of kept j) k d) (get_or plans k None) (get_or (group_of new j) k d)) n m.made.each)
-      (sizes_follow kept new past stamp changes shows lawful accepted plans m ready) (still_of_lifelines kept new m.versions m.places m.lines shows.lifelines)
-      (stamps_follow kept new past stamp changes shows lawful accepted plans m ready)
+      (subst (λ j. AreChanges stamp (next_database (changing changes) past) (group_of kept j) plans)
+      n ready)
+      (subst (λ j. (k : ℕ) (d : MadeTable) → k < length (group_of kept j)
+      → IsMade (get_or (group_of kept j) k d) (get_or plans k None)
+      (get_or (group_of new j) k d)) n m.made.each)
+      (sizes_follow kept new past stamp changes shows valid accepted plans m ready)
+      (still_of_lifelines kept new m.versions m.places m.lines shows.lifelines)
+      (stamps_follow kept new past stamp changes shows valid accepted plans m ready)
 
-  pub version_made : (made : Version) (begun : List MadeTable) (places : List ℕ) → HasVersion kept new made begun places → (stamp : ℕ) (body : PlainBody) → stamp < forever
-      → command_fault past (a_command stamp body) ≡ None → BodyHolds body → IsStep kept past stamp body (evolved (version_of made) begun places) → Shows new (past_with past (a_command stamp body))
-  version_made made begun places m stamp (changing changes) lawful accepted hold ready = absurd ready
-  version_made made begun places m stamp (evolving op inverse) lawful accepted hold ready =
+  pub version_made : (made : Version) (begun : List MadeTable) (places : List ℕ)
+      → HasVersion kept new made begun places → (stamp : ℕ) (body : PlainBody) → stamp < forever
+      → command_fault past (a_command stamp body) ≡ None → BodyHolds body
+      → IsStep kept past stamp body (evolved (version_of made) begun places)
+      → Represents new (past_with past (a_command stamp body))
+  version_made made begun places m stamp (changing changes) valid accepted hold ready = absurd ready
+  version_made made begun places m stamp (evolving op inverse) valid accepted hold ready =
       let n = as_many kept past shows in
-      shows_evolved kept past stamp op inverse shows lawful accepted hold new (version_of made) begun places ready
-      (ap (map version_of) m.versions ∙ map-append version_of kept.versions (made ∷ [])) (λ k name l. m.tables k name (omega (arith, l, n)))
+      shows_evolved kept past stamp op inverse shows valid accepted hold new (version_of made) begun
+      places ready
+      (ap (map version_of) m.versions ∙ map-append version_of kept.versions (made ∷ []))
+      (λ k name l. m.tables k name (omega (arith, l, n)))
       (λ name. ap (λ j. table_in new (j + 1) name) (sym n) ∙ m.own name)
-      (sizes_begin kept new past stamp op inverse shows n accepted made begun places m ready) m.lifelines
+      (sizes_begin kept new past stamp op inverse shows n accepted made begun places m ready)
+      m.lifelines
       (stamps_begin kept new past stamp op inverse shows n accepted made begun places m ready)
 
   -- the tables of earlier versions stay at the moments at which these are in force
-  pub changes_leave : (plans : List (Option Plan)) → HasChanges kept new plans → (stamp : ℕ) (body : PlainBody) → stamp < forever → command_fault past (a_command stamp body) ≡ None
-      → IsStep kept past stamp body (changed plans) → (k : ℕ) → k < length kept.versions → (name : List ℕ) → StaysEntry (versions_in new) k (table_in kept k name) (table_in new k name)
-  changes_leave plans m stamp (evolving op inverse) lawful accepted ready k l name = absurd ready
-  changes_leave plans m stamp (changing changes) lawful accepted ready k l name =
-      step (paired (IsMadeBy plans) (λ t u h. made_name t h.plan u h.made) name (group_of kept k) (group_of new k) (m.groups k l).count (m.groups k l).each)
+  pub changes_leave : (plans : List (Option PreparedChange)) → HasChanges kept new plans
+      → (stamp : ℕ) (body : PlainBody) → stamp < forever
+      → command_fault past (a_command stamp body) ≡ None
+      → IsStep kept past stamp body (changed plans) → (k : ℕ) → k < length kept.versions
+      → (name : List ℕ) → StaysEntry (versions_in new) k (table_in kept k name)
+      (table_in new k name)
+  changes_leave plans m stamp (evolving op inverse) valid accepted ready k l name = absurd ready
+  changes_leave plans m stamp (changing changes) valid accepted ready k l name =
+      step (paired (IsMadeBy plans) (λ t u h. made_name t h.plan u h.made) name (group_of kept k)
+      (group_of new k) (m.groups k l).count (m.groups k l).each)
     where
       n : length kept.versions ≡ length past.versions
       n = as_many kept past shows
 
-      at : (plan : Plan) → In (Some plan) plans → plan.stamp ≡ stamp
-      at = plans_at stamp (database_behind (changing changes) past) (group_of kept (length past.versions)) plans
-          (subst (λ j. AreChanges stamp (database_behind (changing changes) past) (group_of kept j) plans) n ready)
+      at : (plan : PreparedChange) → In (Some plan) plans → plan.stamp ≡ stamp
+      at = plans_at stamp (next_database (changing changes) past)
+          (group_of kept (length past.versions)) plans
+          (subst (λ j. AreChanges stamp (next_database (changing changes) past) (group_of kept j)
+          plans) n ready)
 
       own : (t : ℕ) → IsInForce (versions_in new) k t → t < stamp
       own t f =
-          let past_own : IsInForce past.versions k t = subst (λ (vs : List PlainVersion). IsInForce vs k t) (ap (map version_of) m.versions ∙ shows.versions) f in
-          elim (before_or_not t stamp) [ inl b ↦ b | inr b ↦ absurd (ended kept past stamp changes shows lawful accepted k (omega (arith, l, n)) t past_own b) ]
+          let past_own : IsInForce past.versions k t =
+          subst (λ (vs : List PlainVersion). IsInForce vs k t)
+          (ap (map version_of) m.versions ∙ shows.versions) f in
+          elim (before_or_not t stamp) [
+            | inl b ↦ b
+            | inr b ↦ absurd (ended kept past stamp changes shows valid accepted k
+                (omega (arith, l, n)) t past_own b)
+          ]
 
-      stays : (t u : MadeTable) (p : Option Plan) → IsAmong p plans → IsMade t p u → Stays (versions_in new) k t.store u.store
+      stays : (t u : MadeTable) (p : Option PreparedChange) → IsAmong p plans → IsMade t p u
+          → Stays (versions_in new) k t.store u.store
       stays t u None among e =
           let is : u.store ≡ t.store = ap (λ (x : MadeTable). x.store) e in
-          record { columns = ap (λ (x : Store). x.columns) is; relation = λ j f. ap (λ (x : Store). relation_at x j) is }
+          record {
+            columns = ap (λ (x : Store). x.columns) is;
+            relation = λ j f.
+                ap (λ (x : Store). relation_at x j) is;
+          }
       stays t u (Some p) among e =
           let same = at p among in
-          record { columns = e.becomes.columns; relation = λ j f. e.becomes.before j (let b = own j f in omega (arith, b, same)) }
+          record {
+            columns = e.becomes.columns;
+            relation = λ j f.
+                e.becomes.before j (let b = own j f in omega (arith, b, same));
+          }
 
-      step : Paired (IsMadeBy plans) name (group_of kept k) (group_of new k) → StaysEntry (versions_in new) k (stored_as name (group_of kept k)) (stored_as name (group_of new k))
+      step : Paired (IsMadeBy plans) name (group_of kept k) (group_of new k)
+          → StaysEntry (versions_in new) k (stored_as name (group_of kept k))
+          (stored_as name (group_of new k))
       step (inl none) =
-          subst (λ (o : Option Store). StaysEntry (versions_in new) k o (stored_as name (group_of new k))) (sym none.0)
+          subst (λ (o : Option Store). StaysEntry (versions_in new) k o
+          (stored_as name (group_of new k))) (sym none.0)
           (subst (λ (o : Option Store). StaysEntry (versions_in new) k None o) (sym none.1) tt)
       step (inr f) =
-          subst (λ (o : Option Store). StaysEntry (versions_in new) k o (stored_as name (group_of new k))) (sym f.was)
-          (subst (λ (o : Option Store). StaysEntry (versions_in new) k (Some f.before.store) o) (sym f.now) (stays f.before f.behind f.related.plan f.related.among f.related.made))
+          subst (λ (o : Option Store). StaysEntry (versions_in new) k o
+          (stored_as name (group_of new k))) (sym f.was)
+          (subst (λ (o : Option Store). StaysEntry (versions_in new) k (Some f.before.store) o)
+          (sym f.now) (stays f.before f.after f.related.plan f.related.among f.related.made))
 
 -- tables that are what they were stay at each moment
 entry_stays : (versions : List PlainVersion) (k : ℕ) (s : Option Store) → StaysEntry versions k s s
 entry_stays versions k None = tt
 entry_stays versions k (Some store) = record { columns = refl; relation = λ m own. refl }
 
-pub table_stays : (versions : List PlainVersion) (k : ℕ) (old new : Option Store) → new ≡ old → StaysEntry versions k old new
-table_stays versions k old new e = subst (StaysEntry versions k old) (sym e) (entry_stays versions k old)
+pub table_stays : (versions : List PlainVersion) (k : ℕ) (old new : Option Store) → new ≡ old
+    → StaysEntry versions k old new
+table_stays versions k old new e = subst (StaysEntry versions k old) (sym e)
+    (entry_stays versions k old)
 
 -- what is ready has its room
-has_room : (store : Store) (stamp : ℕ) (rows : Relation) (o : Option Plan) → Leads store stamp rows o → HasRoom store o
+has_room : (store : Store) (stamp : ℕ) (rows : Relation) (o : Option PreparedChange)
+    → Leads store stamp rows o → HasRoom store o
 has_room store stamp rows None h = tt
 has_room store stamp rows (Some plan) h = (h.fits, h.room)
 
-pub have_room : (kept : Kept) (past : Past) (stamp : ℕ) (body : PlainBody) (plans : List (Option Plan)) → IsStep kept past stamp body (changed plans) → HaveRoom (newest_group kept) plans
+pub have_room : (kept : Kept) (past : Past) (stamp : ℕ) (body : PlainBody)
+    (plans : List (Option PreparedChange)) → IsStep kept past stamp body (changed plans)
+    → HaveRoom (newest_group kept) plans
 have_room kept past stamp (evolving op inverse) plans h = absurd h
 have_room kept past stamp (changing changes) plans h = record {
   count = h.count;
-  each = λ k d l. has_room (get_or (newest_group kept) k d).store stamp (rows_at (get (database_behind (changing changes) past) (get_or (newest_group kept) k d).name)) (get_or plans k None) (h.each k d l);
+  each = λ k d l. has_room (get_or (newest_group kept) k d).store stamp
+      (rows_under (get (next_database (changing changes) past)
+      (get_or (newest_group kept) k d).name)) (get_or plans k None) (h.each k d l);
 }
 
 -- the room for a version that is ready, and the tables that come with it
-pub record IsRoomFor (kept : Kept) (made : Version) (begun : List MadeTable) (places : List ℕ) : Type 0 where
+pub record IsRoomFor (kept : Kept) (made : Version) (begun : List MadeTable) (places : List ℕ) :
+    Type 0 where
   pub come : ComeWith kept made begun places
   pub there : AreWithin places (length kept.stored + length begun)
   pub ordered : Ascends bytes_cmp (names_of (at_places (kept.stored ++ begun) places))
@@ -122,8 +176,20 @@ pub record IsRoomFor (kept : Kept) (made : Version) (begun : List MadeTable) (pl
   pub beginnings : length begun ≤ kept.beginnings
   pub fits : length kept.versions + 1 < 2 ^ 32
 
-pub is_room : (kept : Kept) (past : Past) → Shows kept past → (stamp : ℕ) (body : PlainBody) → command_fault past (a_command stamp body) ≡ None → (made : Version) (begun : List MadeTable) (places : List ℕ)
-    → IsStep kept past stamp body (evolved (version_of made) begun places) → IsRoomFor kept made begun places
+pub is_room : (kept : Kept) (past : Past) → Represents kept past → (stamp : ℕ) (body : PlainBody)
+    → command_fault past (a_command stamp body) ≡ None
+    → (made : Version) (begun : List MadeTable) (places : List ℕ)
+    → IsStep kept past stamp body (evolved (version_of made) begun places)
+    → IsRoomFor kept made begun places
 is_room kept past shows stamp (changing changes) accepted made begun places h = absurd h
 is_room kept past shows stamp (evolving op inverse) accepted made begun places h =
-    record { come = comes_with kept past stamp op inverse shows (as_many kept past shows) accepted made begun places h; there = h.there; ordered = h.ordered; room = h.room; beginnings = h.beginnings; fits = h.fits }
+    record {
+      come = comes_with kept past stamp op inverse shows (as_many kept past shows) accepted
+          made begun places h;
+      there = h.there;
+      ordered = h.ordered;
+      room = h.room;
+      beginnings =
+          h.beginnings;
+      fits = h.fits;
+    }

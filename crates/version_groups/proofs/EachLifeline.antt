@@ -1,5 +1,7 @@
 -- Each table of each version has a lifeline that covers the version.
-use Rattle.std.proofs.Common.{◌≡◌, ◌≤◌, ◌+◌, ℕ, suc, Bool, true, false, cond, List, [], ◌∷◌, ◌++◌, map, length, refl, sym, ap, subst, ◌∙◌, arith, inl, inr, length-append, append_assoc, append-nil, is_some}
+use Rattle.std.proofs.Common.{◌≡◌, ◌≤◌, ◌+◌, ℕ, suc, Bool, true, false, cond, List, [], ◌∷◌, ◌++◌}
+use Rattle.std.proofs.Common.{map, length, refl, sym, ap, subst, ◌∙◌, arith, inl, inr}
+use Rattle.std.proofs.Common.{length-append, append_assoc, append-nil, is_some}
 use Rattle.std.specs.Prelude.{Option, Some, None, nat_le, ◌&&◌}
 use Rattle.std.specs.Option.{option_map}
 use Rattle.std.specs.FinMap.{get, get-empty, get-entries, entries}
@@ -10,18 +12,22 @@ use Rattle.prima_base.specs.Columns.{Column}
 use Rattle.prima_base.specs.Order.{bytes_cmp}
 use Rattle.schema_catalog.specs.Tables.{Tables}
 use Rattle.smo_types.specs.Commands.{PlainVersion}
-use Rattle.smo_meaning.specs.After.{behind}
-use Rattle.smo_meaning.specs.LawfulPast.{AreVersions}
+use Rattle.smo_meaning.specs.After.{schema_after}
+use Rattle.smo_meaning.specs.ValidPast.{AreVersions}
 use Rattle.smo_meaning.specs.OneRow.{same}
 use Rattle.smo_meaning.specs.Past.{no_tables, tables_from, newest_from}
 use Rattle.smo_meaning.specs.Touching.{makes, consumes}
 use Rattle.smo_meaning.proofs.NameLaws.{same_is, same_itself}
 use Rattle.smo_meaning.proofs.PastLaws.{newest_added}
-use Rattle.smo_meaning.proofs.PastMoments.{newest_tables_from, tables_still, tables_added, before_or_not}
+use Rattle.smo_meaning.proofs.PastMoments.{newest_tables_from, tables_still, tables_added}
+use Rattle.smo_meaning.proofs.PastMoments.{before_or_not}
 use Rattle.smo_meaning.proofs.TouchedTables.{table_stays, table_gone}
-use Rattle.version_groups.specs.Lifelines.{Lifeline, last_behind, line_behind, line_begun, made_tables, lifelines_of, is_up_to, covers, first_place, place_in}
+use Rattle.version_groups.specs.Lifelines.{Lifeline, last_after, line_after, line_begun}
+use Rattle.version_groups.specs.Lifelines.{made_tables, lifelines_of, is_up_to, covers, first_place}
+use Rattle.version_groups.specs.Lifelines.{place_in}
 use Rattle.version_groups.specs.LongestRuns.{IsLongest}
-use Rattle.version_groups.proofs.Covered.{both_true, true_both, covered_from, covered_up_to, is_covered, up_to_last, still_covers, lifelines_with}
+use Rattle.version_groups.proofs.Covered.{both_true, true_both, covered_from, covered_up_to}
+use Rattle.version_groups.proofs.Covered.{is_covered, up_to_last, still_covers, lifelines_with}
 use Rattle.version_groups.proofs.LongestRuns.{all_with, all_longest}
 use Rattle.version_groups.proofs.PlacedTables.{found_among}
 
@@ -33,12 +39,15 @@ record IsOver (versions : List PlainVersion) (k : ℕ) (name : List ℕ) : Type 
   over : covers k line ≡ true
 
 abbrev AllOver : List PlainVersion → Type 0
-AllOver versions = (k : ℕ) (name : List ℕ) → k ≤ length versions → is_some (get (tables_from no_tables versions k) name) ≡ true → IsOver versions k name
+AllOver versions = (k : ℕ) (name : List ℕ) → k ≤ length versions
+    → is_some (get (tables_from no_tables versions k) name) ≡ true → IsOver versions k name
 
 abbrev AllLongest : List PlainVersion → Type 0
 AllLongest versions = (l : Lifeline) → In l (lifelines_of versions) → IsLongest versions l
 
-module _ (versions : List PlainVersion) (v : PlainVersion) (tables : v.tables ≡ behind (newest_from no_tables versions) v.op) (runs : AllLongest versions) (h : AllOver versions) where
+module _ (versions : List PlainVersion) (v : PlainVersion)
+    (tables : v.tables ≡ schema_after (newest_from no_tables versions) v.op)
+    (runs : AllLongest versions) (h : AllOver versions) where
   abbrev n : ℕ
   n = length versions
 
@@ -49,30 +58,39 @@ module _ (versions : List PlainVersion) (v : PlainVersion) (tables : v.tables �
   more = versions ++ v ∷ []
 
   old_lines : List Lifeline
-  old_lines = map (line_behind (consumes before v.op) n) (lifelines_of versions)
+  old_lines = map (line_after (consumes before v.op) n) (lifelines_of versions)
 
   new_lines : List Lifeline
   new_lines = map (line_begun (n + 1)) (made_tables before v.op v.tables)
 
-  among_old : (m : Lifeline) → In m (lifelines_of versions) → In (line_behind (consumes before v.op) n m) (lifelines_of more)
+  among_old : (m : Lifeline) → In m (lifelines_of versions)
+      → In (line_after (consumes before v.op) n m) (lifelines_of more)
   unfolding old_lines new_lines
   among_old m i =
-      subst (λ (ls : List Lifeline). In (line_behind (consumes before v.op) n m) ls) (sym (lifelines_with versions v))
-      (in_left (line_behind (consumes before v.op) n m) old_lines new_lines (in_map (line_behind (consumes before v.op) n) m (lifelines_of versions) i))
+      subst (λ (ls : List Lifeline). In (line_after (consumes before v.op) n m) ls)
+      (sym (lifelines_with versions v))
+      (in_left (line_after (consumes before v.op) n m) old_lines new_lines
+      (in_map (line_after (consumes before v.op) n) m (lifelines_of versions) i))
 
-  among_new : (t : List ℕ × List Column) → In t (made_tables before v.op v.tables) → In (line_begun (n + 1) t) (lifelines_of more)
+  among_new : (t : List ℕ × List Column) → In t (made_tables before v.op v.tables)
+      → In (line_begun (n + 1) t) (lifelines_of more)
   unfolding old_lines new_lines
   among_new t i =
       subst (λ (ls : List Lifeline). In (line_begun (n + 1) t) ls) (sym (lifelines_with versions v))
-      (in_right (line_begun (n + 1) t) old_lines new_lines (in_map (line_begun (n + 1)) t (made_tables before v.op v.tables) i))
+      (in_right (line_begun (n + 1) t) old_lines new_lines
+      (in_map (line_begun (n + 1)) t (made_tables before v.op v.tables) i))
 
   -- a table that is made begins one
-  begun_over : (name : List ℕ) → is_some (get v.tables name) ≡ true → makes before v.op name ≡ true → IsOver more (n + 1) name
+  begun_over : (name : List ℕ) → is_some (get v.tables name) ≡ true → makes before v.op name ≡ true
+      → IsOver more (n + 1) name
   begun_over name s e =
-      let d = from_map (λ (x : List ℕ × List Column). x.0) name (entries v.tables) (found_among name (entries v.tables) (ap is_some (sym (get-entries v.tables name)) ∙ s)) in
+      let d = from_map (λ (x : List ℕ × List Column). x.0) name (entries v.tables)
+      (found_among name (entries v.tables)
+      (ap is_some (sym (get-entries v.tables name)) ∙ s)) in
       record {
         line = line_begun (n + 1) d.0;
-        among = among_new d.0 (in_filter (λ (x : List ℕ × List Column). makes before v.op x.0) d.0 (entries v.tables) d.1 (ap (makes before v.op) d.2 ∙ e));
+        among = among_new d.0 (in_filter (λ (x : List ℕ × List Column). makes before v.op x.0) d.0
+            (entries v.tables) d.1 (ap (makes before v.op) d.2 ∙ e));
         named = d.2;
         over = is_covered (n + 1) (line_begun (n + 1) d.0) (omega arith) refl;
       }
@@ -90,29 +108,34 @@ module _ (versions : List PlainVersion) (v : PlainVersion) (tables : v.tables �
           omega (arith, low, up)
           )
 
-  goes_over : (name : List ℕ) → consumes before v.op name ≡ false → IsOver versions n name → IsOver more (n + 1) name
+  goes_over : (name : List ℕ) → consumes before v.op name ≡ false → IsOver versions n name
+      → IsOver more (n + 1) name
   goes_over name e o =
       let low = covered_from n o.line o.over in
       record {
-        line = line_behind (consumes before v.op) n o.line;
+        line = line_after (consumes before v.op) n o.line;
         among = among_old o.line o.among;
         named = o.named;
-        over = is_covered (n + 1) (line_behind (consumes before v.op) n o.line) (omega (arith, low))
-            (ap (λ b. is_up_to (last_behind b n o.line.last) (n + 1)) (ap (consumes before v.op) o.named ∙ e)
-            ∙ ap (λ p. is_up_to (last_behind false n p) (n + 1)) (lives o.line o.among o.over));
+        over = is_covered (n + 1) (line_after (consumes before v.op) n o.line) (omega (arith, low))
+            (ap (λ b. is_up_to (last_after b n o.line.last) (n + 1))
+            (ap (consumes before v.op) o.named ∙ e)
+            ∙ ap (λ p. is_up_to (last_after false n p) (n + 1)) (lives o.line o.among o.over));
       }
 
   newest_over : (name : List ℕ) → is_some (get v.tables name) ≡ true → IsOver more (n + 1) name
   newest_over name s = step (makes before v.op name) refl
     where
-      there : is_some (get (behind before v.op) name) ≡ true
+      there : is_some (get (schema_after before v.op) name) ≡ true
       there = ap (λ (t : Tables). is_some (get t name)) (sym tables) ∙ s
 
-      unmade : makes before v.op name ≡ false → (b : Bool) → consumes before v.op name ≡ b → IsOver more (n + 1) name
+      unmade : makes before v.op name ≡ false → (b : Bool) → consumes before v.op name ≡ b
+          → IsOver more (n + 1) name
       unmade u true e = absurd (let gone = table_gone before v.op name u e in cc)
       unmade u false e =
           goes_over name e
-          (h n name (omega arith) (ap (λ (t : Tables). is_some (get t name)) (newest_tables_from no_tables versions) ∙ ap is_some (sym (table_stays before v.op name u e)) ∙ there))
+          (h n name (omega arith) (ap (λ (t : Tables). is_some (get t name))
+          (newest_tables_from no_tables versions)
+          ∙ ap is_some (sym (table_stays before v.op name u e)) ∙ there))
 
       step : (b : Bool) → makes before v.op name ≡ b → IsOver more (n + 1) name
       step true e = begun_over name s e
@@ -120,7 +143,7 @@ module _ (versions : List PlainVersion) (v : PlainVersion) (tables : v.tables �
 
   still_over : (k : ℕ) (name : List ℕ) → k ≤ n → IsOver versions k name → IsOver more k name
   still_over k name l o = record {
-    line = line_behind (consumes before v.op) n o.line;
+    line = line_after (consumes before v.op) n o.line;
     among = among_old o.line o.among;
     named = o.named;
     over = still_covers (consumes before v.op) n o.line k l o.over;
@@ -133,23 +156,32 @@ module _ (versions : List PlainVersion) (v : PlainVersion) (tables : v.tables �
         let is : k ≡ suc n = omega (arith, j, l, long) in
         let next : n + 1 ≡ k = omega (arith, is) in
         subst (λ i. IsOver more i name) next
-        (newest_over name (ap (λ (t : Tables). is_some (get t name)) (sym (ap (tables_from no_tables more) is ∙ tables_added no_tables versions v)) ∙ s))
-    | inr j ↦ still_over k name j (h k name j (ap (λ (t : Tables). is_some (get t name)) (sym (tables_still no_tables versions v k j)) ∙ s))
+        (newest_over name (ap (λ (t : Tables). is_some (get t name))
+        (sym (ap (tables_from no_tables more) is ∙ tables_added no_tables versions v)) ∙ s))
+    | inr j ↦ still_over k name j (h k name j
+        (ap (λ (t : Tables). is_some (get t name)) (sym (tables_still no_tables versions v k j))
+        ∙ s))
   ]
 
 none_at_first : AllOver []
-none_at_first k name l s = absurd (let none : get no_tables name ≡ None = get-empty bytes_cmp name in let some : is_some (get no_tables name) ≡ true = s in cc)
+none_at_first k name l s = absurd (let none : get no_tables name ≡ None =
+    get-empty bytes_cmp name in let some : is_some (get no_tables name) ≡ true = s in cc)
 
-over_behind : (versions left : List PlainVersion) (last : Option ℕ) → AreVersions last (newest_from no_tables versions) left → AllLongest versions → AllOver versions → AllOver (versions ++ left)
-over_behind versions [] last a r h = subst AllOver (sym (append-nil versions)) h
-over_behind versions (v ∷ left) last a r h =
+over_after : (versions left : List PlainVersion) (last : Option ℕ)
+    → AreVersions last (newest_from no_tables versions) left → AllLongest versions
+    → AllOver versions → AllOver (versions ++ left)
+over_after versions [] last a r h = subst AllOver (sym (append-nil versions)) h
+over_after versions (v ∷ left) last a r h =
     subst AllOver (append_assoc versions (v ∷ []) left)
-    (over_behind (versions ++ v ∷ []) left (Some v.stamp) (subst (λ (t : Tables). AreVersions (Some v.stamp) t left) (sym (newest_added no_tables versions v)) a.1)
+    (over_after (versions ++ v ∷ []) left (Some v.stamp)
+    (subst (λ (t : Tables). AreVersions (Some v.stamp) t left)
+    (sym (newest_added no_tables versions v)) a.1)
     (all_with versions v a.0.accepted a.0.tables r) (over_with versions v a.0.tables r h))
 
 -- ---- found by its number
 
-first_some : (test : Lifeline → Bool) (lines : List Lifeline) (l : Lifeline) → In l lines → test l ≡ true → is_some (first_place test lines) ≡ true
+first_some : (test : Lifeline → Bool) (lines : List Lifeline) (l : Lifeline) → In l lines
+    → test l ≡ true → is_some (first_place test lines) ≡ true
 first_some test [] l i t = absurd i
 first_some test (m ∷ lines) l i t = step (first_some test lines l) (test m) refl i
   where
@@ -157,12 +189,15 @@ first_some test (m ∷ lines) l i t = step (first_some test lines l) (test m) re
     mapped None = refl
     mapped (Some p) = refl
 
-    step : (In l lines → test l ≡ true → is_some (first_place test lines) ≡ true) → (b : Bool) → test m ≡ b → In l (m ∷ lines) → is_some (cond b (Some 0) (option_map suc (first_place test lines))) ≡ true
+    step : (In l lines → test l ≡ true → is_some (first_place test lines) ≡ true) → (b : Bool)
+        → test m ≡ b → In l (m ∷ lines) → is_some
+        (cond b (Some 0) (option_map suc (first_place test lines))) ≡ true
     step rest true u j = refl
     step rest false u (inl e) = absurd (let same = ap test e in cc)
     step rest false u (inr j) = mapped (first_place test lines) ∙ rest j t
 
-some_first : (test : Lifeline → Bool) (lines : List Lifeline) → is_some (first_place test lines) ≡ true → (l : Lifeline) × In l lines × (test l ≡ true)
+some_first : (test : Lifeline → Bool) (lines : List Lifeline)
+    → is_some (first_place test lines) ≡ true → (l : Lifeline) × In l lines × (test l ≡ true)
 some_first test [] s = absurd (cc)
 some_first test (m ∷ lines) s = step (some_first test lines) (test m) refl s
   where
@@ -170,29 +205,40 @@ some_first test (m ∷ lines) s = step (some_first test lines) (test m) refl s
     mapped None = refl
     mapped (Some p) = refl
 
-    step : (is_some (first_place test lines) ≡ true → (l : Lifeline) × In l lines × (test l ≡ true)) → (b : Bool) → test m ≡ b → is_some (cond b (Some 0) (option_map suc (first_place test lines))) ≡ true
+    step : (is_some (first_place test lines) ≡ true → (l : Lifeline) × In l lines × (test l ≡ true))
+        → (b : Bool) → test m ≡ b → is_some (cond b (Some 0)
+        (option_map suc (first_place test lines))) ≡ true
         → (l : Lifeline) × In l (m ∷ lines) × (test l ≡ true)
     step rest true u q = (m, inl refl, u)
-    step rest false u q = (let r = rest (mapped (first_place test lines) ∙ q) in (r.0, inr r.1, r.2))
+    step rest false u q = (let r = rest (mapped (first_place test lines) ∙ q) in
+        (r.0, inr r.1, r.2))
 
-module _ (versions : List PlainVersion) (a : AreVersions None no_tables versions) (k : ℕ) (name : List ℕ) (l : k ≤ length versions) where
+module _ (versions : List PlainVersion) (a : AreVersions None no_tables versions) (k : ℕ)
+    (name : List ℕ) (l : k ≤ length versions) where
   abbrev is_its : Lifeline → Bool
   is_its m = same m.table name && covers k m
 
   its_place : place_in versions k name ≡ first_place is_its (lifelines_of versions)
-  its_place = (let up : nat_le k (length versions) ≡ true = grind (arith, nat_tests, l) in ap (λ b. cond b (first_place is_its (lifelines_of versions)) None) up)
+  its_place = (let up : nat_le k (length versions) ≡ true = grind (arith, nat_tests, l) in
+      ap (λ b. cond b (first_place is_its (lifelines_of versions)) None) up)
 
-  found_where : is_some (get (tables_from no_tables versions k) name) ≡ true → is_some (place_in versions k name) ≡ true
+  found_where : is_some (get (tables_from no_tables versions k) name) ≡ true
+      → is_some (place_in versions k name) ≡ true
   found_where s =
-      let o = over_behind [] versions None a (λ m i. absurd i) none_at_first k name l s in
+      let o = over_after [] versions None a (λ m i. absurd i) none_at_first k name l s in
       ap is_some its_place
-      ∙ first_some is_its (lifelines_of versions) o.line o.among (true_both (same o.line.table name) (covers k o.line) (ap (λ x. same x name) o.named ∙ same_itself name) o.over)
+      ∙ first_some is_its (lifelines_of versions) o.line o.among
+      (true_both (same o.line.table name) (covers k o.line)
+      (ap (λ x. same x name) o.named ∙ same_itself name) o.over)
 
-  there_where : is_some (place_in versions k name) ≡ true → is_some (get (tables_from no_tables versions k) name) ≡ true
+  there_where : is_some (place_in versions k name) ≡ true
+      → is_some (get (tables_from no_tables versions k) name) ≡ true
   there_where s =
       let f = some_first is_its (lifelines_of versions) (ap is_some (sym its_place) ∙ s) in
       let w = both_true (same f.0.table name) (covers k f.0) f.2 in
-      ap (λ x. is_some (get (tables_from no_tables versions k) x)) (sym (same_is f.0.table name w.0)) ∙ ap is_some ((all_longest versions a f.0 f.1).there k l w.1)
+      ap (λ x. is_some (get (tables_from no_tables versions k) x))
+      (sym (same_is f.0.table name w.0)) ∙ ap is_some
+      ((all_longest versions a f.0 f.1).there k l w.1)
 
   both_or_none : (b c : Bool) → (c ≡ true → b ≡ true) → (b ≡ true → c ≡ true) → b ≡ c
   both_or_none true c f g = sym (g refl)
@@ -200,5 +246,7 @@ module _ (versions : List PlainVersion) (a : AreVersions None no_tables versions
   both_or_none false false f g = refl
 
   -- a version's table has a number just where the version has the table
-  pub numbered_where : is_some (place_in versions k name) ≡ is_some (get (tables_from no_tables versions k) name)
-  numbered_where = both_or_none (is_some (place_in versions k name)) (is_some (get (tables_from no_tables versions k) name)) found_where there_where
+  pub numbered_where : is_some (place_in versions k name)
+      ≡ is_some (get (tables_from no_tables versions k) name)
+  numbered_where = both_or_none (is_some (place_in versions k name))
+      (is_some (get (tables_from no_tables versions k) name)) found_where there_where

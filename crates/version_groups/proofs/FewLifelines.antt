@@ -1,5 +1,6 @@
 -- Versions have at most two lifelines each.
-use Rattle.std.proofs.Common.{◌≡◌, ◌≤◌, ◌+◌, ◌*◌, ℕ, Bool, true, false, cond, List, [], ◌∷◌, map, length, refl, sym, ap, subst, ◌∙◌, arith, inl, inr, length-append}
+use Rattle.std.proofs.Common.{◌≡◌, ◌≤◌, ◌+◌, ◌*◌, ℕ, Bool, true, false, cond, List, [], ◌∷◌, map}
+use Rattle.std.proofs.Common.{length, refl, sym, ap, subst, ◌∙◌, arith, inl, inr, length-append}
 use Rattle.std.specs.Prelude.{⊤}
 use Rattle.std.specs.List.{filter}
 use Rattle.std.specs.FinMap.{entries, entries_sorted}
@@ -10,21 +11,25 @@ use Rattle.prima_base.specs.Columns.{Column}
 use Rattle.prima_base.specs.Order.{bytes_cmp}
 use Rattle.schema_catalog.specs.Tables.{Tables}
 use Rattle.smo_types.specs.Commands.{PlainVersion}
-use Rattle.smo_types.specs.Operators.{Operator, nop, create_table, drop_table, rename_table, copy_table, merge_table, partition_table, decompose_table, join_table, add_column, drop_column, rename_column}
+use Rattle.smo_types.specs.Operators.{Operator, nop, create_table, drop_table, rename_table}
+use Rattle.smo_types.specs.Operators.{copy_table, merge_table, partition_table, decompose_table}
+use Rattle.smo_types.specs.Operators.{join_table, add_column, drop_column, rename_column}
 use Rattle.smo_meaning.specs.OperatorTable.{line, made_names}
 use Rattle.smo_meaning.specs.Past.{Past, no_tables}
 use Rattle.smo_meaning.specs.Touching.{makes, consumes}
 use Rattle.smo_meaning.proofs.NameLaws.{among_in}
 use Rattle.version_groups.specs.Covering.{line_of}
 use Rattle.version_groups.specs.Groups.{Kept, versions_in}
-use Rattle.version_groups.specs.Lifelines.{Lifeline, line_behind, line_begun, made_tables, lifelines_behind, lifelines_from, lifelines_of}
-use Rattle.version_groups.specs.Showing.{Shows}
+use Rattle.version_groups.specs.Lifelines.{Lifeline, line_after, line_begun, made_tables}
+use Rattle.version_groups.specs.Lifelines.{lifelines_after, lifelines_from, lifelines_of}
+use Rattle.version_groups.specs.Showing.{Represents}
 use Rattle.version_groups.proofs.BegunTables.{names_rise}
 use Rattle.version_groups.proofs.Places.{not_before_itself}
 
 -- ---- names that ascend, each of which is one of two
 
-two_alike : (a b x y : List ℕ) → In x (a ∷ b ∷ []) → In y (a ∷ b ∷ []) → (z : List ℕ) → In z (a ∷ b ∷ []) → (x ≡ y → ⊥) → (x ≡ z → ⊥) → (y ≡ z → ⊥) → ⊥
+two_alike : (a b x y : List ℕ) → In x (a ∷ b ∷ []) → In y (a ∷ b ∷ []) → (z : List ℕ)
+    → In z (a ∷ b ∷ []) → (x ≡ y → ⊥) → (x ≡ z → ⊥) → (y ≡ z → ⊥) → ⊥
 two_alike a b x y (inl e) (inl f) z k p q r = p (sym e ∙ f)
 two_alike a b x y (inl e) (inr (inl f)) z (inl g) p q r = q (sym e ∙ g)
 two_alike a b x y (inl e) (inr (inl f)) z (inr (inl g)) p q r = r (sym f ∙ g)
@@ -37,21 +42,27 @@ two_alike a b x y (inl e) (inr (inr f)) z k p q r = f
 two_alike a b x y (inr (inl e)) (inr (inr f)) z k p q r = f
 two_alike a b x y (inr (inr e)) j z k p q r = e
 
-not_same : (x : List ℕ) (ys : List (List ℕ)) (y : List ℕ) → BeforeAll bytes_cmp x ys → In y ys → x ≡ y → ⊥
-not_same x ys y b i e = not_before_itself x (before_in bytes_cmp x x ys b (subst (λ n. In n ys) (sym e) i))
+not_same : (x : List ℕ) (ys : List (List ℕ)) (y : List ℕ) → BeforeAll bytes_cmp x ys → In y ys
+    → x ≡ y → ⊥
+not_same x ys y b i e = not_before_itself x (before_in bytes_cmp x x ys b
+    (subst (λ n. In n ys) (sym e) i))
 
-at_most_two : (a b : List ℕ) (names : List (List ℕ)) → Ascends bytes_cmp names → ((n : List ℕ) → In n names → In n (a ∷ b ∷ [])) → length names ≤ 2
+at_most_two : (a b : List ℕ) (names : List (List ℕ)) → Ascends bytes_cmp names
+    → ((n : List ℕ) → In n names → In n (a ∷ b ∷ [])) → length names ≤ 2
 at_most_two a b [] o h = omega arith
 at_most_two a b (x ∷ []) o h = omega arith
 at_most_two a b (x ∷ y ∷ []) o h = omega arith
 at_most_two a b (x ∷ y ∷ z ∷ names) o h =
     absurd (two_alike a b x y (h x (inl refl)) (h y (inr (inl refl))) z (h z (inr (inr (inl refl))))
-    (not_same x (y ∷ z ∷ names) y o.0 (inl refl)) (not_same x (y ∷ z ∷ names) z o.0 (inr (inl refl))) (not_same y (z ∷ names) z o.1.0 (inl refl)))
+    (not_same x (y ∷ z ∷ names) y o.0 (inl refl))
+    (not_same x (y ∷ z ∷ names) z o.0 (inr (inl refl)))
+    (not_same y (z ∷ names) z o.1.0 (inl refl)))
 
 -- ---- what an operator makes
 
 -- one of at most two names
-made_one : (before : Tables) (op : Operator) → (a : List ℕ) × (b : List ℕ) × ((n : List ℕ) → In n (made_names (line before op).made) → In n (a ∷ b ∷ []))
+made_one : (before : Tables) (op : Operator) → (a : List ℕ) × (b : List ℕ)
+    × ((n : List ℕ) → In n (made_names (line before op).made) → In n (a ∷ b ∷ []))
 made_one before nop = ([], [], λ n i. absurd i)
 made_one before (create_table r cs) = (r, r, λ n i. elim i [ inl e ↦ inl e | inr f ↦ absurd f ])
 made_one before (drop_table r) = ([], [], λ n i. absurd i)
@@ -69,48 +80,60 @@ abbrev Listed : Type 0
 Listed = List ℕ × List Column
 
 -- some of names that ascend ascend
-some_ascend : (p : Listed → Bool) (es : List Listed) → Ascends bytes_cmp (map (λ (e : Listed). e.0) es) → Ascends bytes_cmp (map (λ (e : Listed). e.0) (filter p es))
+some_ascend : (p : Listed → Bool) (es : List Listed)
+    → Ascends bytes_cmp (map (λ (e : Listed). e.0) es)
+    → Ascends bytes_cmp (map (λ (e : Listed). e.0) (filter p es))
 some_ascend p [] o = tt
 some_ascend p (e ∷ es) o = step (p e) (some_ascend p es o.1)
   where
-    step : (b : Bool) → Ascends bytes_cmp (map (λ (e : Listed). e.0) (filter p es)) → Ascends bytes_cmp (map (λ (e : Listed). e.0) (cond b (e ∷ filter p es) (filter p es)))
+    step : (b : Bool) → Ascends bytes_cmp (map (λ (e : Listed). e.0) (filter p es))
+        → Ascends bytes_cmp (map (λ (e : Listed). e.0) (cond b (e ∷ filter p es) (filter p es)))
     step true h = (
       below_each bytes_cmp e.0 (map (λ (e : Listed). e.0) (filter p es)) (λ y i.
           let d = from_map (λ (e : Listed). e.0) y (filter p es) i in
           before_in bytes_cmp e.0 y (map (λ (e : Listed). e.0) es) o.0
-          (subst (λ n. In n (map (λ (e : Listed). e.0) es)) d.2 (in_map (λ (e : Listed). e.0) d.0 es (from_filter p d.0 es d.1).0))),
+          (subst (λ n. In n (map (λ (e : Listed). e.0) es)) d.2
+          (in_map (λ (e : Listed). e.0) d.0 es (from_filter p d.0 es d.1).0))),
       h,
     )
     step false h = h
 
-few_made : (before : Tables) (op : Operator) (after : Tables) → length (made_tables before op after) ≤ 2
+few_made : (before : Tables) (op : Operator) (after : Tables)
+    → length (made_tables before op after) ≤ 2
 few_made before op after =
     let made : Listed → Bool = λ e. makes before op e.0 in
     let two = made_one before op in
     let long = length-map (filter made (entries after)) (λ (e : Listed). e.0) in
     let few = at_most_two two.0 two.1 (map (λ (e : Listed). e.0) (filter made (entries after)))
-    (some_ascend made (entries after) (names_rise (λ name columns store. ⊤) (entries after) (entries_sorted after)))
+    (some_ascend made (entries after) (names_rise (λ name columns store. ⊤) (entries after)
+    (entries_sorted after)))
     (λ n i.
     let d = from_map (λ (e : Listed). e.0) n (filter made (entries after)) i in
-    two.2 n (subst (λ x. In x (made_names (line before op).made)) d.2 (among_in d.0.0 (made_names (line before op).made) (from_filter made d.0 (entries after) d.1).1))) in
+    two.2 n (subst (λ x. In x (made_names (line before op).made)) d.2
+    (among_in d.0.0 (made_names (line before op).made)
+    (from_filter made d.0 (entries after) d.1).1))) in
     omega (arith, long, few)
 
 -- ---- versions
 
-few_from : (before : Tables) (k : ℕ) (lines : List Lifeline) (versions : List PlainVersion) → length (lifelines_from before k lines versions) ≤ length lines + 2 * length versions
+few_from : (before : Tables) (k : ℕ) (lines : List Lifeline) (versions : List PlainVersion)
+    → length (lifelines_from before k lines versions) ≤ length lines + 2 * length versions
 few_from before k lines [] = omega arith
 few_from before k lines (v ∷ versions) =
-    let rest = few_from v.tables (k + 1) (lifelines_behind before k lines v) versions in
-    let both = length-append (map (line_behind (consumes before v.op) k) lines) (map (line_begun (k + 1)) (made_tables before v.op v.tables)) in
-    let old = length-map lines (line_behind (consumes before v.op) k) in
+    let rest = few_from v.tables (k + 1) (lifelines_after before k lines v) versions in
+    let both = length-append (map (line_after (consumes before v.op) k) lines)
+    (map (line_begun (k + 1)) (made_tables before v.op v.tables)) in
+    let old = length-map lines (line_after (consumes before v.op) k) in
     let new = length-map (made_tables before v.op v.tables) (line_begun (k + 1)) in
     let few = few_made before v.op v.tables in
     omega (arith, rest, both, old, new, few)
 
-pub few_lifelines : (versions : List PlainVersion) → length (lifelines_of versions) ≤ 2 * length versions
+pub few_lifelines : (versions : List PlainVersion)
+    → length (lifelines_of versions) ≤ 2 * length versions
 few_lifelines versions = (let few = few_from no_tables 0 [] versions in omega (arith, few))
 
-pub few_sizes : (kept : Kept) (past : Past) → Shows kept past → length past.sizes ≤ 2 * length past.versions
+pub few_sizes : (kept : Kept) (past : Past) → Represents kept past
+    → length past.sizes ≤ 2 * length past.versions
 few_sizes kept past h =
     let few = few_lifelines (versions_in kept) in
     let lines = ap length h.lifelines.lines in

@@ -1,5 +1,6 @@
 -- Groups that show a past show the past with the command, once it is carried out.
-use Rattle.std.proofs.Common.{◌≡◌, ◌≤◌, ◌<◌, ◌+◌, ℕ, suc, List, [], ◌∷◌, ◌++◌, length, get_or, sym, ap, subst, ◌∙◌, arith, length-append, inl, inr}
+use Rattle.std.proofs.Common.{◌≡◌, ◌≤◌, ◌<◌, ◌+◌, ℕ, suc, List, [], ◌∷◌, ◌++◌, length, get_or, sym}
+use Rattle.std.proofs.Common.{ap, subst, ◌∙◌, arith, length-append, inl, inr}
 use Rattle.std.specs.Prelude.{Option, Some, None, ◌⊎◌}
 use Rattle.std.specs.FinMap.{get}
 use Rattle.relations.specs.Sets.{In}
@@ -8,42 +9,49 @@ use Rattle.prima_base.specs.Columns.{Column}
 use Rattle.schema_catalog.specs.Tables.{Tables}
 use Rattle.schema_catalog.specs.Databases.{Database}
 use Rattle.history_store.specs.Store.{Store, relation_at}
-use Rattle.history_store.specs.Change.{Plan, rows_after}
+use Rattle.history_store.specs.Change.{PreparedChange, rows_after}
 use Rattle.smo_meaning.specs.Accepts.{command_fault}
 use Rattle.smo_types.specs.Changes.{PlainChange}
 use Rattle.smo_types.specs.Commands.{PlainBody, changing, evolving, PlainVersion}
 use Rattle.smo_types.specs.Operators.{Operator}
 use Rattle.smo_meaning.specs.OneRow.{Relation}
-use Rattle.smo_meaning.specs.Effects.{rows_at}
-use Rattle.smo_meaning.specs.LawfulPast.{last_or_nought, IsLater, IsPast}
-use Rattle.smo_meaning.specs.LawfulValues.{BodyHolds, PastHolds}
-use Rattle.smo_meaning.specs.Past.{Past, no_tables, no_database, tables_of, tables_from, newest_tables, version_at, database_at, newest_database, next_version, database_behind, past_with}
+use Rattle.smo_meaning.specs.Effects.{rows_under}
+use Rattle.smo_meaning.specs.ValidPast.{last_or_nought, IsLater, IsPast}
+use Rattle.smo_meaning.specs.ValidValues.{BodyHolds, PastHolds}
+use Rattle.smo_meaning.specs.Past.{Past, no_tables, no_database, tables_of, tables_from}
+use Rattle.smo_meaning.specs.Past.{newest_tables, version_at, database_at, newest_database}
+use Rattle.smo_meaning.specs.Past.{next_version, next_database, past_with}
 use Rattle.smo_meaning.proofs.PastLaws.{newest_holds, up_to_later}
 use Rattle.smo_meaning.proofs.ValueLaws.{past_stays}
-use Rattle.smo_meaning.proofs.PastSteps.{counts_accepted, stamp_accepted, later_stamp, body_accepted, stays_lawful, before_command, from_command}
-use Rattle.version_groups.specs.declared.made_tables.MadeTable.{MadeTable}
+use Rattle.smo_meaning.proofs.PastSteps.{counts_accepted, stamp_accepted, later_stamp}
+use Rattle.smo_meaning.proofs.PastSteps.{body_accepted, stays_valid, before_command, from_command}
+use Rattle.version_groups.specs.declared.made_table.MadeTable.{MadeTable}
 use Rattle.version_groups.specs.Groups.{Kept, versions_in, group_of, table_in, stored_as}
 use Rattle.version_groups.specs.Covering.{AreOfLifelines}
 use Rattle.version_groups.specs.Sizes.{HaveSizes}
-use Rattle.version_groups.specs.Showing.{AreUpTo, IsInForce, ShowsTable, ShowsEntry, Shows}
+use Rattle.version_groups.specs.Showing.{AreUpTo, IsInForce, ShowsTable, ShowsEntry, Represents}
 use Rattle.version_groups.specs.Becoming.{Becomes, Begins, Leads, IsMade}
 use Rattle.version_groups.specs.Installing.{IsAmong, IsMadeBy, AreMadeBy}
 use Rattle.version_groups.specs.Places.{at_places}
 use Rattle.version_groups.specs.Steps.{a_command, AreChanges, BeginsEntry, IsNextVersion}
-use Rattle.smo_meaning.proofs.PastMoments.{not_begun, all_begun, few_begun, all_with_one, tables_still, tables_added, is_later, still_later, before_or_not}
+use Rattle.smo_meaning.proofs.PastMoments.{not_begun, all_begun, few_begun, all_with_one}
+use Rattle.smo_meaning.proofs.PastMoments.{tables_still, tables_added, is_later, still_later}
+use Rattle.smo_meaning.proofs.PastMoments.{before_or_not}
 use Rattle.version_groups.proofs.Pairs.{Paired, paired}
 use Rattle.version_groups.proofs.Places.{something_at}
 use Rattle.version_groups.proofs.OwnMoments.{own_version, own_moment, own_within}
 
--- what is stored under a name, before and behind
+-- what is stored under a name, before and after
 abbrev pub Follows : (List Column → Store → Store → Type 0) → Option Store → Option Store → Type 0
 Follows T None None = Unit {0}
 Follows T None (Some new) = ⊥
 Follows T (Some old) None = ⊥
 Follows T (Some old) (Some new) = (columns : List Column) → T columns old new
 
-pub entry_follows : (past next : Past) (k : ℕ) (name : List ℕ) (o : Option (List Column)) (old new : Option Store)
-    → Follows (λ columns s t. ShowsTable past k name columns s → ShowsTable next k name columns t) old new → ShowsEntry past k name o old → ShowsEntry next k name o new
+pub entry_follows : (past next : Past) (k : ℕ) (name : List ℕ) (o : Option (List Column))
+    (old new : Option Store)
+    → Follows (λ columns s t. ShowsTable past k name columns s → ShowsTable next k name columns t)
+    old new → ShowsEntry past k name o old → ShowsEntry next k name o new
 entry_follows past next k name None None None f h = tt
 entry_follows past next k name None None (Some new) f h = absurd f
 entry_follows past next k name None (Some old) new f h = absurd h
@@ -51,15 +59,21 @@ entry_follows past next k name (Some columns) None new f h = absurd h
 entry_follows past next k name (Some columns) (Some old) None f h = absurd f
 entry_follows past next k name (Some columns) (Some old) (Some new) f h = f columns h
 
-entry_still : (past next : Past) (k : ℕ) (name : List ℕ) (o : Option (List Column)) (s : Option Store)
-    → ((columns : List Column) (store : Store) → ShowsTable past k name columns store → ShowsTable next k name columns store) → ShowsEntry past k name o s → ShowsEntry next k name o s
+entry_still : (past next : Past) (k : ℕ) (name : List ℕ) (o : Option (List Column))
+    (s : Option Store)
+    → ((columns : List Column) (store : Store) → ShowsTable past k name columns store
+    → ShowsTable next k name columns store) → ShowsEntry past k name o s
+    → ShowsEntry next k name o s
 entry_still past next k name None None f h = tt
 entry_still past next k name None (Some store) f h = absurd h
 entry_still past next k name (Some columns) None f h = absurd h
 entry_still past next k name (Some columns) (Some store) f h = f columns store h
 
-entry_begins : (next : Past) (k stamp : ℕ) (name : List ℕ) (rows : Relation) (o : Option (List Column)) (s : Option Store)
-    → ((columns : List Column) (store : Store) → Begins columns stamp rows store → ShowsTable next k name columns store) → BeginsEntry stamp rows o s → ShowsEntry next k name o s
+entry_begins : (next : Past) (k stamp : ℕ) (name : List ℕ) (rows : Relation)
+    (o : Option (List Column)) (s : Option Store)
+    → ((columns : List Column) (store : Store) → Begins columns stamp rows store
+    → ShowsTable next k name columns store) → BeginsEntry stamp rows o s
+    → ShowsEntry next k name o s
 entry_begins next k stamp name rows None None f h = tt
 entry_begins next k stamp name rows None (Some store) f h = absurd h
 entry_begins next k stamp name rows (Some columns) None f h = absurd h
@@ -69,7 +83,8 @@ entry_begins next k stamp name rows (Some columns) (Some store) f h = f columns 
 newest_or_not : (k n : ℕ) → k ≤ n → (k ≡ n) ⊎ (k < n)
 newest_or_not k n l = elim (before_or_not k n) [ inl h ↦ inr h | inr h ↦ inl (omega (arith, l, h)) ]
 
-module _ (kept : Kept) (past : Past) (stamp : ℕ) (body : PlainBody) (shows : Shows kept past) (lawful : stamp < forever) (accepted : command_fault past (a_command stamp body) ≡ None) where
+module _ (kept : Kept) (past : Past) (stamp : ℕ) (body : PlainBody) (shows : Represents kept past)
+    (valid : stamp < forever) (accepted : command_fault past (a_command stamp body) ≡ None) where
   abbrev next : Past
   next = past_with past (a_command stamp body)
 
@@ -79,85 +94,107 @@ module _ (kept : Kept) (past : Past) (stamp : ℕ) (body : PlainBody) (shows : S
   not_before : last_or_nought past.last ≤ stamp
   not_before = later_stamp past (a_command stamp body) accepted
 
-  pub next_is_lawful : IsPast next
-  next_is_lawful = stays_lawful past stamp body shows.lawful (stamp_accepted past (a_command stamp body) accepted) (counts_accepted past (a_command stamp body) accepted) (body_accepted past (a_command stamp body) accepted)
+  pub next_is_valid : IsPast next
+  next_is_valid = stays_valid past stamp body shows.valid
+      (stamp_accepted past (a_command stamp body) accepted)
+      (counts_accepted past (a_command stamp body) accepted)
+      (body_accepted past (a_command stamp body) accepted)
 
   pub next_holds : BodyHolds body → PastHolds next
-  next_holds hold = past_stays past (a_command stamp body) shows.lawful accepted hold shows.values
+  next_holds hold = past_stays past (a_command stamp body) shows.valid accepted hold shows.values
 
   pub all_later : (m : ℕ) → stamp < m → IsLater past.last m
   all_later m l = still_later past.last stamp m later (omega (arith, l))
 
   -- from the stamp on all versions of the past are in force, and the database is its newest one
   pub newest_then : (m : ℕ) → stamp ≤ m → version_at past m ≡ length past.versions
-  newest_then m l = ap length (all_begun (last_or_nought past.last) m past.versions shows.lawful.versions (omega (arith, l, not_before)))
+  newest_then m l = ap length (all_begun (last_or_nought past.last) m past.versions
+      shows.valid.versions (omega (arith, l, not_before)))
 
   -- so the stamp is a moment of the newest version
   pub newest_own : IsInForce past.versions (length past.versions) stamp
-  newest_own = own_moment past shows.lawful (length past.versions) stamp lawful (newest_then stamp (omega arith))
+  newest_own = own_moment past shows.valid (length past.versions) stamp valid
+      (newest_then stamp (omega arith))
 
   pub newest_is : (m : ℕ) → stamp ≤ m → database_at past m ≡ newest_database past
-  newest_is m l = newest_holds no_database past.states m (up_to_later (last_or_nought past.last) m past.states (omega (arith, l, not_before)) shows.lawful.ended)
+  newest_is m l = newest_holds no_database past.states m
+      (up_to_later (last_or_nought past.last) m past.states (omega (arith, l, not_before))
+      shows.valid.ended)
 
   pub as_before : (m : ℕ) → m < stamp → database_at next m ≡ database_at past m
   as_before m l = before_command past stamp body m l
 
-  pub from_then : (m : ℕ) → stamp ≤ m → database_at next m ≡ database_behind body past
-  from_then m l = from_command past stamp body shows.lawful not_before (body_accepted past (a_command stamp body) accepted) m l
+  pub from_then : (m : ℕ) → stamp ≤ m → database_at next m ≡ next_database body past
+  from_then m l = from_command past stamp body shows.valid not_before
+      (body_accepted past (a_command stamp body) accepted) m l
 
 -- ---- changes
 
-pub made_name : (t : MadeTable) (p : Option Plan) (u : MadeTable) → IsMade t p u → u.name ≡ t.name
+pub made_name : (t : MadeTable) (p : Option PreparedChange) (u : MadeTable) → IsMade t p u
+    → u.name ≡ t.name
 made_name t None u e = ap (λ (x : MadeTable). x.name) e
 made_name t (Some p) u e = e.name
 
 -- each of the changes is made at the stamp
-found_plan : (plans : List (Option Plan)) (p : Option Plan) → In p plans → (i : ℕ) × (i < length plans) × (get_or plans i None ≡ p)
+found_plan : (plans : List (Option PreparedChange)) (p : Option PreparedChange) → In p plans
+    → (i : ℕ) × (i < length plans) × (get_or plans i None ≡ p)
 found_plan [] p m = absurd m
 found_plan (q ∷ plans) p (inl e) = (0, omega arith, e)
-found_plan (q ∷ plans) p (inr m) = (let h = found_plan plans p m in let l = h.1 in (suc h.0, omega (arith, l), h.2))
+found_plan (q ∷ plans) p (inr m) = (let h = found_plan plans p m in let l = h.1 in
+    (suc h.0, omega (arith, l), h.2))
 
-pub plans_at : (stamp : ℕ) (next : Database) (tables : List MadeTable) (plans : List (Option Plan)) → AreChanges stamp next tables plans → (plan : Plan) → In (Some plan) plans → plan.stamp ≡ stamp
+pub plans_at : (stamp : ℕ) (next : Database) (tables : List MadeTable)
+    (plans : List (Option PreparedChange)) → AreChanges stamp next tables plans
+    → (plan : PreparedChange) → In (Some plan) plans → plan.stamp ≡ stamp
 plans_at stamp next tables plans h plan m =
     let f = found_plan plans (Some plan) m in
     let l = f.1 in
     let count = h.count in
     let within : f.0 < length tables = omega (arith, l, count) in
     let t = something_at tables f.0 within in
-    let leads : Leads (get_or tables f.0 t).store stamp (rows_at (get next (get_or tables f.0 t).name)) (Some plan) =
-    subst (λ (o : Option Plan). Leads (get_or tables f.0 t).store stamp (rows_at (get next (get_or tables f.0 t).name)) o) f.2 (h.each f.0 t within) in
+    let leads : Leads (get_or tables f.0 t).store stamp
+    (rows_under (get next (get_or tables f.0 t).name)) (Some plan) =
+    subst (λ (o : Option PreparedChange). Leads (get_or tables f.0 t).store stamp
+    (rows_under (get next (get_or tables f.0 t).name)) o) f.2 (h.each f.0 t within) in
     leads.at
 
-module _ (kept : Kept) (past : Past) (stamp : ℕ) (changes : List PlainChange) (shows : Shows kept past) (lawful : stamp < forever)
+module _ (kept : Kept) (past : Past) (stamp : ℕ) (changes : List PlainChange)
+    (shows : Represents kept past) (valid : stamp < forever)
     (accepted : command_fault past (a_command stamp (changing changes)) ≡ None) where
-  abbrev behind : Past
-  behind = past_with past (a_command stamp (changing changes))
+  abbrev after : Past
+  after = past_with past (a_command stamp (changing changes))
 
   abbrev changed_rows : List ℕ → Relation
-  changed_rows name = rows_at (get (database_behind (changing changes) past) name)
+  changed_rows name = rows_under (get (next_database (changing changes) past) name)
 
   -- from the stamp on an earlier version is not in force
-  pub ended : (k : ℕ) → k < length past.versions → (m : ℕ) → IsInForce past.versions k m → stamp ≤ m → ⊥
+  pub ended : (k : ℕ) → k < length past.versions → (m : ℕ) → IsInForce past.versions k m → stamp ≤ m
+      → ⊥
   ended k l m own b =
-      let e = own_version past shows.lawful k m (omega (arith, l)) own in
-      let n = newest_then kept past stamp (changing changes) shows lawful accepted m b in
+      let e = own_version past shows.valid k m (omega (arith, l)) own in
+      let n = newest_then kept past stamp (changing changes) shows valid accepted m b in
       omega (arith, l, e, n)
 
   -- a table of an earlier version, of which a change is made or none
-  abbrev IsAtStamp : List (Option Plan) → Type 0
-  IsAtStamp plans = (plan : Plan) → In (Some plan) plans → plan.stamp ≡ stamp
+  abbrev IsAtStamp : List (Option PreparedChange) → Type 0
+  IsAtStamp plans = (plan : PreparedChange) → In (Some plan) plans → plan.stamp ≡ stamp
 
-  earlier_table : (plans : List (Option Plan)) → IsAtStamp plans → (k : ℕ) (name : List ℕ) → k < length past.versions → (t u : MadeTable) → IsMadeBy plans t u → (columns : List Column)
-      → ShowsTable past k name columns t.store → ShowsTable behind k name columns u.store
+  earlier_table : (plans : List (Option PreparedChange)) → IsAtStamp plans → (k : ℕ) (name : List ℕ)
+      → k < length past.versions → (t u : MadeTable) → IsMadeBy plans t u → (columns : List Column)
+      → ShowsTable past k name columns t.store → ShowsTable after k name columns u.store
   earlier_table plans at k name l t u by columns h = step by.plan by.among by.made
     where
-      before : (m : ℕ) → IsInForce past.versions k m → (m < stamp → relation_at u.store m ≡ relation_at t.store m) → relation_at u.store m ≡ rows_at (get (database_at behind m) name)
+      before : (m : ℕ) → IsInForce past.versions k m
+          → (m < stamp → relation_at u.store m ≡ relation_at t.store m)
+          → relation_at u.store m ≡ rows_under (get (database_at after m) name)
       before m own same = elim (before_or_not m stamp) [
-        | inl b ↦ same b ∙ h.shown m own ∙ ap (λ d. rows_at (get d name)) (sym (as_before kept past stamp (changing changes) shows lawful accepted m b))
+        | inl b ↦ same b ∙ h.shown m own ∙ ap (λ d. rows_under (get d name))
+            (sym (as_before kept past stamp (changing changes) shows valid accepted m b))
         | inr b ↦ absurd (ended k l m own b)
       ]
 
-      step : (p : Option Plan) → IsAmong p plans → IsMade t p u → ShowsTable behind k name columns u.store
+      step : (p : Option PreparedChange) → IsAmong p plans → IsMade t p u
+          → ShowsTable after k name columns u.store
       step None among e =
           let is : u.store ≡ t.store = ap (λ (x : MadeTable). x.store) e in
           record {
@@ -176,34 +213,46 @@ module _ (kept : Kept) (past : Past) (stamp : ℕ) (changes : List PlainChange) 
 
   -- a table of the newest version, with its change
   abbrev IsChanged : MadeTable → MadeTable → Type 0
-  IsChanged t u = (p : Option Plan) × Leads t.store stamp (changed_rows t.name) p × IsMade t p u
+  IsChanged t u = (p : Option PreparedChange) × Leads t.store stamp (changed_rows t.name) p
+      × IsMade t p u
 
   keeps_name : (t u : MadeTable) → IsChanged t u → u.name ≡ t.name
   keeps_name t u h = made_name t h.0 u h.2
 
-  changed_table : (name : List ℕ) (t u : MadeTable) → t.name ≡ name → IsChanged t u → (columns : List Column) → ShowsTable past (length past.versions) name columns t.store
-      → ShowsTable behind (length past.versions) name columns u.store
+  changed_table : (name : List ℕ) (t u : MadeTable) → t.name ≡ name → IsChanged t u
+      → (columns : List Column) → ShowsTable past (length past.versions) name columns t.store
+      → ShowsTable after (length past.versions) name columns u.store
   changed_table name t u named c columns h = step c.0 c.1 c.2
     where
       n : ℕ
       n = length past.versions
 
-      step : (p : Option Plan) → Leads t.store stamp (changed_rows t.name) p → IsMade t p u → ShowsTable behind n name columns u.store
+      step : (p : Option PreparedChange) → Leads t.store stamp (changed_rows t.name) p
+          → IsMade t p u → ShowsTable after n name columns u.store
       step None leads e =
           let is : u.store ≡ t.store = ap (λ (x : MadeTable). x.store) e in
-          let shown : (m : ℕ) → IsInForce past.versions n m → relation_at t.store m ≡ rows_at (get (database_at behind m) name) = λ m own. elim (before_or_not m stamp) [
-            | inl b ↦ h.shown m own ∙ ap (λ d. rows_at (get d name)) (sym (as_before kept past stamp (changing changes) shows lawful accepted m b))
+          let shown : (m : ℕ) → IsInForce past.versions n m
+          → relation_at t.store m ≡ rows_under (get (database_at after m) name) = λ m own.
+          elim (before_or_not m stamp) [
+            | inl b ↦ h.shown m own ∙ ap (λ d. rows_under (get d name))
+                (sym (as_before kept past stamp (changing changes) shows valid accepted m b))
             | inr b ↦
-                h.shown m own ∙ ap (λ d. rows_at (get d name)) (newest_is kept past stamp (changing changes) shows lawful accepted m b)
-                ∙ sym (ap (λ d. rows_at (get d name)) (newest_is kept past stamp (changing changes) shows lawful accepted stamp (omega arith)))
-                ∙ sym (h.shown stamp (newest_own kept past stamp (changing changes) shows lawful accepted))
+                h.shown m own ∙ ap (λ d. rows_under (get d name))
+                (newest_is kept past stamp (changing changes) shows valid accepted m b)
+                ∙ sym (ap (λ d. rows_under (get d name))
+                (newest_is kept past stamp (changing changes) shows valid accepted stamp
+                (omega arith)))
+                ∙ sym (h.shown stamp (newest_own kept past stamp (changing changes) shows valid
+                accepted))
                 ∙ leads ∙ ap changed_rows named
-                ∙ ap (λ d. rows_at (get d name)) (sym (from_then kept past stamp (changing changes) shows lawful accepted m b))
+                ∙ ap (λ d. rows_under (get d name))
+                (sym (from_then kept past stamp (changing changes) shows valid accepted m b))
           ] in
-          subst (λ (s : Store). ShowsTable behind n name columns s) (sym is) (record {
+          subst (λ (s : Store). ShowsTable after n name columns s) (sym is) (record {
             columns = h.columns;
             shown = shown;
-            stamps = λ m own b. h.stamps m own (all_later kept past stamp (changing changes) shows lawful accepted m b);
+            stamps = λ m own b. h.stamps m own
+                (all_later kept past stamp (changing changes) shows valid accepted m b);
           })
       step (Some p) leads e =
           let b : Becomes t.store u.store p.stamp (rows_after t.store p) = e.becomes in
@@ -211,27 +260,41 @@ module _ (kept : Kept) (past : Past) (stamp : ℕ) (changes : List PlainChange) 
           record {
             columns = b.columns ∙ h.columns;
             shown = λ m own. elim (before_or_not m stamp) [
-              | inl l ↦ b.before m (omega (arith, l, at)) ∙ h.shown m own ∙ ap (λ d. rows_at (get d name)) (sym (as_before kept past stamp (changing changes) shows lawful accepted m l))
-              | inr l ↦ b.from m (omega (arith, l, at)) (own_within past shows.lawful n m shows.ends own) ∙ leads.leads ∙ ap changed_rows named
-                  ∙ ap (λ d. rows_at (get d name)) (sym (from_then kept past stamp (changing changes) shows lawful accepted m l))
+              | inl l ↦ b.before m (omega (arith, l, at)) ∙ h.shown m own
+                  ∙ ap (λ d. rows_under (get d name))
+                  (sym (as_before kept past stamp (changing changes) shows valid accepted m l))
+              | inr l ↦ b.from m (omega (arith, l, at))
+                  (own_within past shows.valid n m shows.ends own) ∙ leads.leads
+                  ∙ ap changed_rows named
+                  ∙ ap (λ d. rows_under (get d name))
+                  (sym (from_then kept past stamp (changing changes) shows valid accepted m l))
             ];
             stamps = λ m own l. b.later m (omega (arith, l, at));
           }
 
   -- the changes are made
-  pub shows_changed : BodyHolds (changing changes) → (new : Kept) (plans : List (Option Plan)) → versions_in new ≡ versions_in kept → ((k : ℕ) → k < length past.versions → AreMadeBy plans (group_of kept k) (group_of new k))
+  pub shows_changed : BodyHolds (changing changes)
+      → (new : Kept) (plans : List (Option PreparedChange)) → versions_in new ≡ versions_in kept
+      → ((k : ℕ) → k < length past.versions → AreMadeBy plans (group_of kept k) (group_of new k))
       → length (group_of new (length past.versions)) ≡ length (group_of kept (length past.versions))
-      → AreChanges stamp (database_behind (changing changes) past) (group_of kept (length past.versions)) plans
-      → ((k : ℕ) (d : MadeTable) → k < length (group_of kept (length past.versions)) → IsMade (get_or (group_of kept (length past.versions)) k d) (get_or plans k None) (get_or (group_of new (length past.versions)) k d))
-      → HaveSizes behind.sizes new.stored → AreOfLifelines new → AreUpTo behind.last new.stored → Shows new behind
+      → AreChanges stamp (next_database (changing changes) past)
+      (group_of kept (length past.versions)) plans
+      → ((k : ℕ) (d : MadeTable) → k < length (group_of kept (length past.versions))
+      → IsMade (get_or (group_of kept (length past.versions)) k d) (get_or plans k None)
+      (get_or (group_of new (length past.versions)) k d))
+      → HaveSizes after.sizes new.stored → AreOfLifelines new → AreUpTo after.last new.stored
+      → Represents new after
   shows_changed hold new plans versions groups count ready made sizes lifelines stamps = record {
-    lawful = next_is_lawful kept past stamp (changing changes) shows lawful accepted;
-    values = next_holds kept past stamp (changing changes) shows lawful accepted hold;
-    ends = lawful;
+    valid = next_is_valid kept past stamp (changing changes) shows valid accepted;
+    values = next_holds kept past stamp (changing changes) shows valid accepted hold;
+    ends = valid;
     versions = versions ∙ shows.versions;
     tables = λ k name l. elim (newest_or_not k n l) [
-      | inl e ↦ subst (λ j. ShowsEntry behind j name (get (tables_of behind j) name) (table_in new j name)) (sym e) (newest name)
-      | inr e ↦ earlier k e name (paired (IsMadeBy plans) names name (group_of kept k) (group_of new k) (groups k e).count (groups k e).each) (shows.tables k name (omega (arith, e)))
+      | inl e ↦ subst (λ j. ShowsEntry after j name (get (tables_of after j) name)
+          (table_in new j name)) (sym e) (newest name)
+      | inr e ↦ earlier k e name (paired (IsMadeBy plans) names name (group_of kept k)
+          (group_of new k) (groups k e).count (groups k e).each)
+          (shows.tables k name (omega (arith, e)))
     ];
     sizes = sizes;
     lifelines = lifelines;
@@ -242,40 +305,59 @@ module _ (kept : Kept) (past : Past) (stamp : ℕ) (changes : List PlainChange) 
       n = length past.versions
 
       at : IsAtStamp plans
-      at = plans_at stamp (database_behind (changing changes) past) (group_of kept n) plans ready
+      at = plans_at stamp (next_database (changing changes) past) (group_of kept n) plans ready
 
       names : (t u : MadeTable) → IsMadeBy plans t u → u.name ≡ t.name
       names t u h = made_name t h.plan u h.made
 
-      earlier : (k : ℕ) → k < n → (name : List ℕ) → Paired (IsMadeBy plans) name (group_of kept k) (group_of new k) → ShowsEntry past k name (get (tables_of past k) name) (stored_as name (group_of kept k))
-          → ShowsEntry behind k name (get (tables_of past k) name) (stored_as name (group_of new k))
+      earlier : (k : ℕ) → k < n → (name : List ℕ)
+          → Paired (IsMadeBy plans) name (group_of kept k) (group_of new k)
+          → ShowsEntry past k name (get (tables_of past k) name) (stored_as name (group_of kept k))
+          → ShowsEntry after k name (get (tables_of past k) name) (stored_as name (group_of new k))
       earlier k l name (inl none) h =
-          subst (λ (s : Option Store). ShowsEntry behind k name (get (tables_of past k) name) s) (sym none.1)
-          (entry_follows past behind k name (get (tables_of past k) name) None None tt (subst (λ (s : Option Store). ShowsEntry past k name (get (tables_of past k) name) s) none.0 h))
+          subst (λ (s : Option Store). ShowsEntry after k name (get (tables_of past k) name) s)
+          (sym none.1)
+          (entry_follows past after k name (get (tables_of past k) name) None None tt
+          (subst (λ (s : Option Store). ShowsEntry past k name (get (tables_of past k) name) s)
+          none.0 h))
       earlier k l name (inr f) h =
-          subst (λ (s : Option Store). ShowsEntry behind k name (get (tables_of past k) name) s) (sym f.now)
-          (entry_follows past behind k name (get (tables_of past k) name) (Some f.before.store) (Some f.behind.store) (earlier_table plans at k name l f.before f.behind f.related)
-          (subst (λ (s : Option Store). ShowsEntry past k name (get (tables_of past k) name) s) f.was h))
+          subst (λ (s : Option Store). ShowsEntry after k name (get (tables_of past k) name) s)
+          (sym f.now)
+          (entry_follows past after k name (get (tables_of past k) name) (Some f.before.store)
+          (Some f.after.store) (earlier_table plans at k name l f.before f.after f.related)
+          (subst (λ (s : Option Store). ShowsEntry past k name (get (tables_of past k) name) s)
+          f.was h))
 
-      each : (k : ℕ) (d : MadeTable) → k < length (group_of kept n) → IsChanged (get_or (group_of kept n) k d) (get_or (group_of new n) k d)
+      each : (k : ℕ) (d : MadeTable) → k < length (group_of kept n)
+          → IsChanged (get_or (group_of kept n) k d) (get_or (group_of new n) k d)
       each k d l = (get_or plans k None, ready.each k d l, made k d l)
 
-      entry : (name : List ℕ) → Paired IsChanged name (group_of kept n) (group_of new n) → ShowsEntry past n name (get (tables_of past n) name) (stored_as name (group_of kept n))
-          → ShowsEntry behind n name (get (tables_of past n) name) (stored_as name (group_of new n))
+      entry : (name : List ℕ) → Paired IsChanged name (group_of kept n) (group_of new n)
+          → ShowsEntry past n name (get (tables_of past n) name) (stored_as name (group_of kept n))
+          → ShowsEntry after n name (get (tables_of past n) name) (stored_as name (group_of new n))
       entry name (inl none) h =
-          subst (λ (s : Option Store). ShowsEntry behind n name (get (tables_of past n) name) s) (sym none.1)
-          (entry_follows past behind n name (get (tables_of past n) name) None None tt (subst (λ (s : Option Store). ShowsEntry past n name (get (tables_of past n) name) s) none.0 h))
+          subst (λ (s : Option Store). ShowsEntry after n name (get (tables_of past n) name) s)
+          (sym none.1)
+          (entry_follows past after n name (get (tables_of past n) name) None None tt
+          (subst (λ (s : Option Store). ShowsEntry past n name (get (tables_of past n) name) s)
+          none.0 h))
       entry name (inr f) h =
-          subst (λ (s : Option Store). ShowsEntry behind n name (get (tables_of past n) name) s) (sym f.now)
-          (entry_follows past behind n name (get (tables_of past n) name) (Some f.before.store) (Some f.behind.store) (changed_table name f.before f.behind f.named f.related)
-          (subst (λ (s : Option Store). ShowsEntry past n name (get (tables_of past n) name) s) f.was h))
+          subst (λ (s : Option Store). ShowsEntry after n name (get (tables_of past n) name) s)
+          (sym f.now)
+          (entry_follows past after n name (get (tables_of past n) name) (Some f.before.store)
+          (Some f.after.store) (changed_table name f.before f.after f.named f.related)
+          (subst (λ (s : Option Store). ShowsEntry past n name (get (tables_of past n) name) s)
+          f.was h))
 
-      newest : (name : List ℕ) → ShowsEntry behind n name (get (tables_of behind n) name) (table_in new n name)
-      newest name = entry name (paired IsChanged keeps_name name (group_of kept n) (group_of new n) count each) (shows.tables n name (omega arith))
+      newest : (name : List ℕ) → ShowsEntry after n name (get (tables_of after n) name)
+          (table_in new n name)
+      newest name = entry name (paired IsChanged keeps_name name (group_of kept n) (group_of new n)
+          count each) (shows.tables n name (omega arith))
 
 -- ---- an operator
 
-module _ (kept : Kept) (past : Past) (stamp : ℕ) (op : Operator) (inverse : List Operator) (shows : Shows kept past) (lawful : stamp < forever)
+module _ (kept : Kept) (past : Past) (stamp : ℕ) (op : Operator) (inverse : List Operator)
+    (shows : Represents kept past) (valid : stamp < forever)
     (accepted : command_fault past (a_command stamp (evolving op inverse)) ≡ None) where
   abbrev evolved : Past
   evolved = past_with past (a_command stamp (evolving op inverse))
@@ -289,22 +371,27 @@ module _ (kept : Kept) (past : Past) (stamp : ℕ) (op : Operator) (inverse : Li
   version_then : (m : ℕ) → stamp ≤ m → version_at evolved m ≡ length past.versions + 1
   version_then m l =
       let low = later_stamp past (a_command stamp (evolving op inverse)) accepted in
-      all_with_one (last_or_nought past.last) m past.versions version shows.lawful.versions (omega (arith, l, low)) l
+      all_with_one (last_or_nought past.last) m past.versions version shows.valid.versions
+      (omega (arith, l, low)) l
 
   is_past : IsPast evolved
-  is_past = next_is_lawful kept past stamp (evolving op inverse) shows lawful accepted
+  is_past = next_is_valid kept past stamp (evolving op inverse) shows valid accepted
 
   one_more : length evolved.versions ≡ length past.versions + 1
   one_more = length-append past.versions (version ∷ [])
 
   -- a table of an earlier version
-  older_table : (k : ℕ) (name : List ℕ) → k ≤ length past.versions → (columns : List Column) (store : Store) → ShowsTable past k name columns store → ShowsTable evolved k name columns store
+  older_table : (k : ℕ) (name : List ℕ) → k ≤ length past.versions
+      → (columns : List Column) (store : Store) → ShowsTable past k name columns store
+      → ShowsTable evolved k name columns store
   older_table k name l columns store h = record {
     columns = h.columns;
     shown = λ m own. elim (before_or_not m stamp) [
       | inl b ↦
-          h.shown m (own_moment past shows.lawful k m (own_within evolved is_past k m lawful own) (sym (version_before m b) ∙ is m own))
-          ∙ ap (λ d. rows_at (get d name)) (sym (as_before kept past stamp (evolving op inverse) shows lawful accepted m b))
+          h.shown m (own_moment past shows.valid k m (own_within evolved is_past k m valid own)
+          (sym (version_before m b) ∙ is m own))
+          ∙ ap (λ d. rows_under (get d name))
+          (sym (as_before kept past stamp (evolving op inverse) shows valid accepted m b))
       | inr b ↦ absurd (ended m own b)
     ];
     stamps = λ m own b. absurd (ended m own (omega (arith, b)));
@@ -321,15 +408,18 @@ module _ (kept : Kept) (past : Past) (stamp : ℕ) (op : Operator) (inverse : Li
           omega (arith, l, e, n)
 
   -- a table of the new version
-  new_table : (name : List ℕ) (columns : List Column) (store : Store) → Begins columns stamp (rows_at (get (database_behind (evolving op inverse) past) name)) store
+  new_table : (name : List ℕ) (columns : List Column) (store : Store)
+      → Begins columns stamp (rows_under (get (next_database (evolving op inverse) past) name))
+      store
       → ShowsTable evolved (length past.versions + 1) name columns store
   new_table name columns store b = record {
     columns = b.columns;
     shown = λ m own. elim (before_or_not m stamp) [
       | inl l ↦ absurd (begun m own l)
       | inr l ↦
-          b.from m l (own_within evolved is_past (length past.versions + 1) m lawful own)
-          ∙ ap (λ d. rows_at (get d name)) (sym (from_then kept past stamp (evolving op inverse) shows lawful accepted m l))
+          b.from m l (own_within evolved is_past (length past.versions + 1) m valid own)
+          ∙ ap (λ d. rows_under (get d name))
+          (sym (from_then kept past stamp (evolving op inverse) shows valid accepted m l))
     ];
     stamps = λ m own l. b.later m l;
   }
@@ -337,22 +427,30 @@ module _ (kept : Kept) (past : Past) (stamp : ℕ) (op : Operator) (inverse : Li
       -- before the stamp it is not in force
       begun : (m : ℕ) → IsInForce evolved.versions (length past.versions + 1) m → m < stamp → ⊥
       begun m own l =
-          let e = own_version evolved is_past (length past.versions + 1) m (omega (arith, one_more)) own in
+          let e = own_version evolved is_past (length past.versions + 1) m (omega (arith, one_more))
+          own in
           let n = version_before m l in
           let few = few_begun m past.versions in
           omega (arith, e, n, few)
 
   -- the version is there, with its tables
-  pub shows_evolved : BodyHolds (evolving op inverse) → (new : Kept) (made : PlainVersion) (begun : List MadeTable) (places : List ℕ)
-      → IsNextVersion kept (newest_tables past) version (database_behind (evolving op inverse) past) made begun places
-      → versions_in new ≡ versions_in kept ++ made ∷ [] → ((k : ℕ) (name : List ℕ) → k ≤ length past.versions → table_in new k name ≡ table_in kept k name)
-      → ((name : List ℕ) → table_in new (length past.versions + 1) name ≡ stored_as name (at_places (kept.stored ++ begun) places))
-      → HaveSizes evolved.sizes new.stored → AreOfLifelines new → AreUpTo evolved.last new.stored → Shows new evolved
+  pub shows_evolved : BodyHolds (evolving op inverse)
+      → (new : Kept) (made : PlainVersion) (begun : List MadeTable) (places : List ℕ)
+      → IsNextVersion kept (newest_tables past) version (next_database (evolving op inverse) past)
+      made begun places
+      → versions_in new ≡ versions_in kept ++ made ∷ []
+      → ((k : ℕ) (name : List ℕ) → k ≤ length past.versions
+      → table_in new k name ≡ table_in kept k name)
+      → ((name : List ℕ) → table_in new (length past.versions + 1) name
+      ≡ stored_as name (at_places (kept.stored ++ begun) places))
+      → HaveSizes evolved.sizes new.stored → AreOfLifelines new → AreUpTo evolved.last new.stored
+      → Represents new evolved
   shows_evolved hold new made begun places is versions tables own sizes lifelines stamps = record {
-    lawful = is_past;
-    values = next_holds kept past stamp (evolving op inverse) shows lawful accepted hold;
-    ends = lawful;
-    versions = versions ∙ ap (λ (vs : List PlainVersion). vs ++ made ∷ []) shows.versions ∙ ap (λ (v : PlainVersion). past.versions ++ v ∷ []) is.version;
+    valid = is_past;
+    values = next_holds kept past stamp (evolving op inverse) shows valid accepted hold;
+    ends = valid;
+    versions = versions ∙ ap (λ (vs : List PlainVersion). vs ++ made ∷ []) shows.versions
+        ∙ ap (λ (v : PlainVersion). past.versions ++ v ∷ []) is.version;
     tables = λ k name l. each k name (before_or_not n k) (subst (λ j. k ≤ j) one_more l);
     sizes = sizes;
     lifelines = lifelines;
@@ -363,17 +461,29 @@ module _ (kept : Kept) (past : Past) (stamp : ℕ) (op : Operator) (inverse : Li
       n = length past.versions
 
       added : tables_of evolved (n + 1) ≡ version.tables
-      added = subst (λ j. tables_from no_tables (past.versions ++ version ∷ []) j ≡ version.tables) (let e : suc n ≡ n + 1 = omega arith in e) (tables_added no_tables past.versions version)
+      added = subst (λ j. tables_from no_tables (past.versions ++ version ∷ []) j ≡ version.tables)
+          (let e : suc n ≡ n + 1 = omega arith in e) (tables_added no_tables past.versions version)
 
-      newest : (name : List ℕ) → ShowsEntry evolved (n + 1) name (get (tables_of evolved (n + 1)) name) (table_in new (n + 1) name)
+      newest : (name : List ℕ) → ShowsEntry evolved (n + 1) name
+          (get (tables_of evolved (n + 1)) name) (table_in new (n + 1) name)
       newest name =
-          subst (λ (t : Tables). ShowsEntry evolved (n + 1) name (get t name) (table_in new (n + 1) name)) (sym added)
-          (subst (λ (s : Option Store). ShowsEntry evolved (n + 1) name (get version.tables name) s) (sym (own name))
-          (entry_begins evolved (n + 1) stamp name (rows_at (get (database_behind (evolving op inverse) past) name)) (get version.tables name) (stored_as name (at_places (kept.stored ++ begun) places)) (new_table name) (is.tables name)))
+          subst (λ (t : Tables). ShowsEntry evolved (n + 1) name (get t name)
+          (table_in new (n + 1) name)) (sym added)
+          (subst (λ (s : Option Store). ShowsEntry evolved (n + 1) name (get version.tables name) s)
+          (sym (own name))
+          (entry_begins evolved (n + 1) stamp name
+          (rows_under (get (next_database (evolving op inverse) past) name))
+          (get version.tables name) (stored_as name (at_places (kept.stored ++ begun) places))
+          (new_table name) (is.tables name)))
 
-      each : (k : ℕ) (name : List ℕ) → (n < k) ⊎ (k ≤ n) → k ≤ n + 1 → ShowsEntry evolved k name (get (tables_of evolved k) name) (table_in new k name)
-      each k name (inl l) m = subst (λ j. ShowsEntry evolved j name (get (tables_of evolved j) name) (table_in new j name)) (let e : n + 1 ≡ k = omega (arith, l, m) in e) (newest name)
+      each : (k : ℕ) (name : List ℕ) → (n < k) ⊎ (k ≤ n) → k ≤ n + 1
+          → ShowsEntry evolved k name (get (tables_of evolved k) name) (table_in new k name)
+      each k name (inl l) m = subst (λ j. ShowsEntry evolved j name (get (tables_of evolved j) name)
+          (table_in new j name)) (let e : n + 1 ≡ k = omega (arith, l, m) in e) (newest name)
       each k name (inr l) m =
-          subst (λ (t : Tables). ShowsEntry evolved k name (get t name) (table_in new k name)) (sym (tables_still no_tables past.versions version k l))
-          (subst (λ (s : Option Store). ShowsEntry evolved k name (get (tables_of past k) name) s) (sym (tables k name l))
-          (entry_still past evolved k name (get (tables_of past k) name) (table_in kept k name) (older_table k name l) (shows.tables k name l)))
+          subst (λ (t : Tables). ShowsEntry evolved k name (get t name) (table_in new k name))
+          (sym (tables_still no_tables past.versions version k l))
+          (subst (λ (s : Option Store). ShowsEntry evolved k name (get (tables_of past k) name) s)
+          (sym (tables k name l))
+          (entry_still past evolved k name (get (tables_of past k) name) (table_in kept k name)
+          (older_table k name l) (shows.tables k name l)))

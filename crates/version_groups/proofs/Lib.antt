@@ -23,7 +23,7 @@ pub mod PlacedTables
 pub mod LongestRuns
 pub mod EachLifeline
 pub mod FewLifelines
-pub mod LifelinesBehind
+pub mod LifelinesAfter
 pub mod SizesEvolved
 pub mod RestoredTables
 pub mod RestoredVersions
@@ -32,5 +32,5 @@ pub mod RestoredPasts
 pub mod LifelinesNamed
 pub mod TablesInTurn
 pub mod VersionsKept
-pub mod Readied
+pub mod PreparedCommand
 pub mod ColumnCounts

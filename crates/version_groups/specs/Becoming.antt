@@ -1,14 +1,15 @@
 -- What a stored table is from a stamp on, by its relation at each moment.
-use Rattle.std.specs.Prelude.{◌≡◌, ℕ, ◌+◌, ◌-◌, ◌<◌, ◌≤◌, List, [], Option, Some, None, length, slice_index_or, ⊤}
+use Rattle.std.specs.Prelude.{◌≡◌, ℕ, ◌+◌, ◌-◌, ◌<◌, ◌≤◌, List, [], Option, Some, None, length}
+use Rattle.std.specs.Prelude.{slice_index_or, ⊤}
 use Rattle.relations.specs.Spans.{forever}
-use Rattle.prima_base.specs.declared.values.Value.{Value}
+use Rattle.prima_base.specs.declared.value.Value.{Value}
 use Rattle.prima_base.specs.Columns.{Column}
 use Rattle.history_store.specs.Store.{Store, weight, relation_at, AllBefore}
 use Rattle.history_store.specs.Handing.{written}
-use Rattle.history_store.specs.Change.{Plan, IsPlan, rows_along, rows_after}
+use Rattle.history_store.specs.Change.{PreparedChange, IsPlan, rows_along, rows_after}
 use Rattle.smo_meaning.specs.OneRow.{Relation}
 use Rattle.table_changes.specs.Changing.{IsChange}
-use Rattle.version_groups.specs.declared.made_tables.MadeTable.{MadeTable}
+use Rattle.version_groups.specs.declared.made_table.MadeTable.{MadeTable}
 
 -- from the stamp on the table has the rows, and before it what it had
 pub record Becomes (old new : Store) (stamp : ℕ) (rows : Relation) : Type 0 where
@@ -24,18 +25,19 @@ pub record Begins (its : List Column) (stamp : ℕ) (rows : Relation) (store : S
   pub later : (m : ℕ) → stamp < m → AllBefore store m
 
 -- a change that is ready and has its room, or none
-abbrev pub HasRoom : Store → Option Plan → Type 0
+abbrev pub HasRoom : Store → Option PreparedChange → Type 0
 HasRoom store None = ⊤
 HasRoom store (Some plan) = IsPlan store plan × (length plan.gained ≤ store.spare)
 
 -- a change that leads to these rows; none where these are the table's rows
-abbrev pub Leads : Store → ℕ → Relation → Option Plan → Type 0
+abbrev pub Leads : Store → ℕ → Relation → Option PreparedChange → Type 0
 Leads store stamp rows None = relation_at store stamp ≡ rows
 Leads store stamp rows (Some plan) = IsChange store stamp rows plan
 
--- the change is made of a table: it has its name and its lifeline, and each gained row without a partner is a key more, and writes
--- its values; of a row with a partner those are written that differ
-pub record IsInstalled (old : MadeTable) (plan : Plan) (new : MadeTable) : Type 0 where
+-- the change is made of a table: it has its name and its lifeline, and each gained row without a
+-- partner is a key more, and writes its values; of a row with a partner those are written that
+-- differ
+pub record IsInstalled (old : MadeTable) (plan : PreparedChange) (new : MadeTable) : Type 0 where
   pub name : new.name ≡ old.name
   pub first : new.first ≡ old.first
   pub last : new.last ≡ old.last
@@ -43,10 +45,12 @@ pub record IsInstalled (old : MadeTable) (plan : Plan) (new : MadeTable) : Type 
   pub keys : length new.store.keys ≡ length old.store.keys + (length plan.gained - length plan.lost)
   pub wide : length old.store.cells ≡ length old.store.columns
   pub count : length new.store.cells ≡ length old.store.cells
-  pub written : (f : Value → ℕ) → (k : ℕ) → k < length old.store.columns → weight f (slice_index_or new.store.cells k [])
-      ≡ weight f (slice_index_or old.store.cells k []) + written f k (rows_along plan.lost plan.stamp old.store.cells) plan.gained
+  pub written : (f : Value → ℕ) → (k : ℕ) → k < length old.store.columns
+      → weight f (slice_index_or new.store.cells k [])
+      ≡ weight f (slice_index_or old.store.cells k []) + written f k
+      (rows_along plan.lost plan.stamp old.store.cells) plan.gained
 
 -- the change is made; where there is none the table is as it was
-abbrev pub IsMade : MadeTable → Option Plan → MadeTable → Type 0
+abbrev pub IsMade : MadeTable → Option PreparedChange → MadeTable → Type 0
 IsMade old None new = new ≡ old
 IsMade old (Some plan) new = IsInstalled old plan new

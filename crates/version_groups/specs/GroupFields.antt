@@ -1,10 +1,11 @@
 -- The fields of groups.
-use Rattle.std.specs.Prelude.{◌≡◌, ℕ, ◌-◌, ◌<◌, ◌^◌, min, List, [], ◌∷◌, ◌++◌, map, length, ⊤, vec_len, vec_capacity}
+use Rattle.std.specs.Prelude.{◌≡◌, ℕ, ◌-◌, ◌<◌, ◌^◌, min, List, [], ◌∷◌, ◌++◌, map, length, ⊤}
+use Rattle.std.specs.Prelude.{vec_len, vec_capacity}
 use Rattle.std.specs.Global.{Vec}
 use Rattle.relations.specs.Sets.{Ascends}
 use Rattle.prima_base.specs.Order.{bytes_cmp}
 use Rattle.smo_meaning.specs.Past.{no_tables}
-use Rattle.version_groups.specs.declared.made_tables.MadeTable.{MadeTable}
+use Rattle.version_groups.specs.declared.made_table.MadeTable.{MadeTable}
 use Rattle.version_groups.specs.declared.groups.Groups.TheInside.{Inside}
 use Rattle.version_groups.specs.Groups.{Kept, names_of}
 use Rattle.version_groups.specs.Covering.{AreOfLifelines}
@@ -20,7 +21,8 @@ items_of groups = map (λ g. g.items) groups
 -- each version's tables stand in the order of their names, each once
 abbrev pub AllInOrder : List MadeTable → List (List ℕ) → Type 0
 AllInOrder tables [] = ⊤
-AllInOrder tables (g ∷ groups) = Ascends bytes_cmp (names_of (at_places tables g)) × AllInOrder tables groups
+AllInOrder tables (g ∷ groups) = Ascends bytes_cmp (names_of (at_places tables g))
+    × AllInOrder tables groups
 
 -- and they are there
 abbrev pub AllWithin : List (List ℕ) → ℕ → Type 0
@@ -32,11 +34,13 @@ groups_view a = record {
   versions = a.versions.list.items;
   stored = a.stored.items;
   places = all_places (items_of a.earlier.items) a.newest.items;
-  spare = min (vec_capacity a.versions.list - vec_len a.versions.list) (vec_capacity a.earlier - vec_len a.earlier);
+  spare = min (vec_capacity a.versions.list - vec_len a.versions.list)
+      (vec_capacity a.earlier - vec_len a.earlier);
   beginnings = vec_capacity a.stored - vec_len a.stored;
 }
 
--- places for each version before the newest, version 0 counted; and the stored tables of each version are those of its lifelines
+-- places for each version before the newest, version 0 counted; and the stored tables of each
+-- version are those of its lifelines
 pub record AreGroups (a : Inside) : Type 0 where
   pub count : length a.earlier.items ≡ length a.versions.list.items
   pub fits : length a.versions.list.items < 2 ^ 32

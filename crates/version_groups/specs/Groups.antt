@@ -1,16 +1,17 @@
 -- The versions, and the stored tables of each.
 use Rattle.std.specs.Prelude.{ℕ, List, [], length, map, Option, slice_get, slice_index_or}
 use Rattle.std.specs.Option.{option_map}
-use Rattle.smo_types.specs.declared.versions.Version.{Version}
+use Rattle.smo_types.specs.declared.version.Version.{Version}
 use Rattle.history_store.specs.Store.{Store}
 use Rattle.smo_types.specs.Commands.{PlainVersion, version_of}
-use Rattle.version_groups.specs.declared.made_tables.MadeTable.{MadeTable}
+use Rattle.version_groups.specs.declared.made_table.MadeTable.{MadeTable}
 use Rattle.version_groups.specs.Places.{at_places}
 pub use Rattle.version_groups.specs.Stored.{stored_as, names_of, HasEntry}
 
--- versions 1 to the newest; the stored tables, in the order in which they begin, each kept once over all versions in which no
--- operator makes or consumes it; of each version, those of version 0 first, the places of its tables among them; and how many
--- versions more, and how many tables, there is room for
+-- versions 1 to the newest; the stored tables, in the order in which they begin, each kept once
+-- over all versions in which no operator makes or consumes it; of each version, those of version 0
+-- first, the places of its tables among them; and how many versions more, and how many tables,
+-- there is room for
 pub record Kept : Type 0 where
   pub versions : List Version
   pub stored : List MadeTable

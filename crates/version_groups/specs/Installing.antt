@@ -1,29 +1,32 @@
 -- What installing makes of groups.
-use Rattle.std.specs.Prelude.{◌≡◌, ℕ, ◌+◌, ◌<◌, ◌≤◌, Bool, List, [], ◌∷◌, ◌++◌, length, map, Option, Some, None, slice_index_or, ⊤}
+use Rattle.std.specs.Prelude.{◌≡◌, ℕ, ◌+◌, ◌<◌, ◌≤◌, Bool, List, [], ◌∷◌, ◌++◌, length, map, Option}
+use Rattle.std.specs.Prelude.{Some, None, slice_index_or, ⊤}
 use Rattle.relations.specs.Sets.{In, Ascends}
 use Rattle.prima_base.specs.Order.{bytes_cmp}
 use Rattle.history_store.specs.Store.{Store, relation_at}
-use Rattle.history_store.specs.Change.{Plan}
+use Rattle.history_store.specs.Change.{PreparedChange}
 use Rattle.schema_catalog.specs.Tables.{Tables}
-use Rattle.smo_types.specs.declared.versions.Version.{Version}
+use Rattle.smo_types.specs.declared.version.Version.{Version}
 use Rattle.smo_types.specs.Operators.{operator_of}
 use Rattle.smo_types.specs.Commands.{PlainVersion}
 use Rattle.smo_meaning.specs.Past.{no_tables, newest_from}
 use Rattle.smo_meaning.specs.Touching.{consumes}
-use Rattle.version_groups.specs.declared.made_tables.MadeTable.{MadeTable}
-use Rattle.version_groups.specs.Groups.{Kept, versions_in, newest_places, group_of, newest_group, table_in, stored_as, names_of}
+use Rattle.version_groups.specs.declared.made_table.MadeTable.{MadeTable}
+use Rattle.version_groups.specs.Groups.{Kept, versions_in, newest_places, group_of, newest_group}
+use Rattle.version_groups.specs.Groups.{table_in, stored_as, names_of}
 use Rattle.version_groups.specs.declared.next.Step.{Step}
 use Rattle.version_groups.specs.declared.next.Step.TheVariants.{Changed, Evolved}
 use Rattle.version_groups.specs.Covering.{line_of, AreOfLifelines}
 use Rattle.version_groups.specs.Lifelines.{line_begun, made_tables}
-pub use Rattle.version_groups.specs.Lifelines.{last_behind}
+pub use Rattle.version_groups.specs.Lifelines.{last_after}
 use Rattle.version_groups.specs.Showing.{IsInForce}
 use Rattle.version_groups.specs.Sizes.{AreLiving}
 use Rattle.version_groups.specs.Becoming.{IsMade}
 use Rattle.version_groups.specs.Changing.{AreMade}
 use Rattle.version_groups.specs.Places.{at_places, AreWithin}
 
--- it has the columns that it had, and at each moment at which version k is in force the relation that it had
+-- it has the columns that it had, and at each moment at which version k is in force the relation
+-- that it had
 pub record Stays (versions : List PlainVersion) (k : ℕ) (old new : Store) : Type 0 where
   pub columns : new.columns ≡ old.columns
   pub relation : (m : ℕ) → IsInForce versions k m → relation_at new m ≡ relation_at old m
@@ -35,57 +38,80 @@ StaysEntry versions k None (Some new) = ⊥
 StaysEntry versions k (Some old) None = ⊥
 StaysEntry versions k (Some old) (Some new) = Stays versions k old new
 
--- each table of each version before the one that is now the newest stays at the moments at which its version is in force
+-- each table of each version before the one that is now the newest stays at the moments at which
+-- its version is in force
 abbrev pub HasEarlier : Kept → Kept → Type 0
-HasEarlier kept new = (k : ℕ) → k < length new.versions → (name : List ℕ) → StaysEntry (versions_in new) k (table_in kept k name) (table_in new k name)
+HasEarlier kept new = (k : ℕ) → k < length new.versions → (name : List ℕ)
+    → StaysEntry (versions_in new) k (table_in kept k name) (table_in new k name)
 
 -- one of these changes, or none
-abbrev pub IsAmong : Option Plan → List (Option Plan) → Type 0
+abbrev pub IsAmong : Option PreparedChange → List (Option PreparedChange) → Type 0
 IsAmong None plans = ⊤
 IsAmong (Some plan) plans = In (Some plan) plans
 
 -- one of the changes is made of it, or none
-pub record IsMadeBy (plans : List (Option Plan)) (old new : MadeTable) : Type 0 where
-  pub plan : Option Plan
+pub record IsMadeBy (plans : List (Option PreparedChange)) (old new : MadeTable) : Type 0 where
+  pub plan : Option PreparedChange
   pub among : IsAmong plan plans
   pub made : IsMade old plan new
 
-pub record AreMadeBy (plans : List (Option Plan)) (old new : List MadeTable) : Type 0 where
+pub record AreMadeBy (plans : List (Option PreparedChange)) (old new : List MadeTable) :
+    Type 0 where
   pub count : length new ≡ length old
-  pub each : (k : ℕ) → (d : MadeTable) → k < length old → IsMadeBy plans (slice_index_or old k d) (slice_index_or new k d)
+  pub each : (k : ℕ) → (d : MadeTable) → k < length old
+      → IsMadeBy plans (slice_index_or old k d) (slice_index_or new k d)
 
--- the changes are made of the tables of the newest version, some of which earlier versions may have too, and of no other
-pub record HasChanges (kept new : Kept) (plans : List (Option Plan)) : Type 0 where
+-- the changes are made of the tables of the newest version, some of which earlier versions may have
+-- too, and of no other
+pub record HasChanges (kept new : Kept) (plans : List (Option PreparedChange)) : Type 0 where
   pub versions : new.versions ≡ kept.versions
   pub places : new.places ≡ kept.places
   pub there : AreWithin (newest_places kept) (length kept.stored)
   pub ordered : Ascends bytes_cmp (names_of (newest_group kept))
   pub stored : length new.stored ≡ length kept.stored
   pub lines : map line_of new.stored ≡ map line_of kept.stored
-  pub others : (p : ℕ) → (d : MadeTable) → (In p (newest_places kept) → ⊥) → slice_index_or new.stored p d ≡ slice_index_or kept.stored p d
-  pub groups : (k : ℕ) → k < length kept.versions → AreMadeBy plans (group_of kept k) (group_of new k)
+  pub others : (p : ℕ) → (d : MadeTable) → (In p (newest_places kept) → ⊥)
+      → slice_index_or new.stored p d ≡ slice_index_or kept.stored p d
+  pub groups : (k : ℕ) → k < length kept.versions
+      → AreMadeBy plans (group_of kept k) (group_of new k)
   pub made : AreMade (newest_group kept) plans (group_of new (length kept.versions))
 
 -- the lifeline of a table that lives ends with version k where the next operator consumes it
-abbrev pub table_behind : (List ℕ → Bool) → ℕ → MadeTable → MadeTable
-table_behind consumed k t = record { name = t.name; first = t.first; last = last_behind (consumed t.name) k t.last; store = t.store }
+abbrev pub table_after : (List ℕ → Bool) → ℕ → MadeTable → MadeTable
+table_after consumed k t = record {
+  name = t.name;
+  first = t.first;
+  last =
+      last_after (consumed t.name) k t.last;
+  store = t.store;
+}
 
--- one version more, with tables that begin and the places of its own; the lifelines of the tables that its operator consumes, over
--- any schema, end
-pub record HasVersion (kept new : Kept) (made : Version) (begun : List MadeTable) (places : List ℕ) : Type 0 where
+-- one version more, with tables that begin and the places of its own; the lifelines of the tables
+-- that its operator consumes, over any schema, end
+pub record HasVersion (kept new : Kept) (made : Version) (begun : List MadeTable)
+    (places : List ℕ) : Type 0 where
   pub versions : new.versions ≡ kept.versions ++ made ∷ []
   pub newest : newest_places new ≡ places
-  pub stored : (before : Tables) → new.stored ≡ map (table_behind (consumes before (operator_of made.op)) (length kept.versions)) kept.stored ++ begun
-  pub tables : (k : ℕ) → (name : List ℕ) → k ≤ length kept.versions → table_in new k name ≡ table_in kept k name
-  pub own : (name : List ℕ) → table_in new (length kept.versions + 1) name ≡ stored_as name (at_places (kept.stored ++ begun) places)
+  pub stored : (before : Tables) → new.stored
+      ≡ map (table_after (consumes before (operator_of made.op)) (length kept.versions)) kept.stored
+      ++ begun
+  pub tables : (k : ℕ) → (name : List ℕ) → k ≤ length kept.versions
+      → table_in new k name ≡ table_in kept k name
+  pub own : (name : List ℕ) → table_in new (length kept.versions + 1) name
+      ≡ stored_as name (at_places (kept.stored ++ begun) places)
   pub lifelines : AreOfLifelines new
 
--- the tables that begin with the next version are those that its operator makes, and of all that are stored then those at these places live
-pub record ComeWith (kept : Kept) (made : Version) (begun : List MadeTable) (places : List ℕ) : Type 0 where
-  pub lines : map line_of begun ≡ map (line_begun (length kept.versions + 1)) (made_tables (newest_from no_tables (versions_in kept)) (operator_of made.op) made.schema)
-  pub living : AreLiving (map (table_behind (consumes (newest_from no_tables (versions_in kept)) (operator_of made.op)) (length kept.versions)) kept.stored ++ begun) places
+-- the tables that begin with the next version are those that its operator makes, and of all that
+-- are stored then those at these places live
+pub record ComeWith (kept : Kept) (made : Version) (begun : List MadeTable) (places : List ℕ) :
+    Type 0 where
+  pub lines : map line_of begun ≡ map (line_begun (length kept.versions + 1))
+      (made_tables (newest_from no_tables (versions_in kept)) (operator_of made.op) made.schema)
+  pub living : AreLiving (map (table_after (consumes (newest_from no_tables (versions_in kept))
+      (operator_of made.op)) (length kept.versions)) kept.stored ++ begun) places
 
 -- what installing a step makes of the groups
 abbrev pub HasStep : Kept → Kept → Step → Type 0
 HasStep kept new (Changed plans) = HasChanges kept new plans.items
-HasStep kept new (Evolved version begun places) = HasVersion kept new version begun.items places.items
+HasStep kept new (Evolved version begun places) =
+    HasVersion kept new version begun.items places.items

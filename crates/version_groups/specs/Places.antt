@@ -1,7 +1,8 @@
--- Stored tables at places of a list: each version names those of its tables, and several versions may have one.
+-- Stored tables at places of a list: each version names those of its tables, and several versions
+-- may have one.
 use Rattle.std.specs.Prelude.{◌≡◌, ℕ, ◌<◌, List, [], ◌∷◌, Option, Some, None, slice_get, ⊤}
 use Rattle.relations.specs.Sets.{In}
-use Rattle.version_groups.specs.declared.made_tables.MadeTable.{MadeTable}
+use Rattle.version_groups.specs.declared.made_table.MadeTable.{MadeTable}
 use Rattle.version_groups.specs.Stored.{stored_as}
 
 abbrev pub with_table : Option MadeTable → List MadeTable → List MadeTable
@@ -20,4 +21,5 @@ AreWithin (p ∷ places) n = (p < n) × AreWithin places n
 
 -- the table with this name, and its place
 abbrev pub IsFound : List MadeTable → List ℕ → List ℕ → ℕ → MadeTable → Type 0
-IsFound tables places name p t = (slice_get tables p ≡ Some t) × (t.name ≡ name) × (stored_as name (at_places tables places) ≡ Some t.store) × In p places
+IsFound tables places name p t = (slice_get tables p ≡ Some t) × (t.name ≡ name)
+    × (stored_as name (at_places tables places) ≡ Some t.store) × In p places

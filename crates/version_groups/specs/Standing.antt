@@ -1,13 +1,14 @@
 -- The stored tables of the newest version, and those of the next.
-use Rattle.std.specs.Prelude.{◌≡◌, ℕ, Bool, false, List, [], Option, Some, None, ⊤, ◌||◌, if◌then◌else◌}
+use Rattle.std.specs.Prelude.{◌≡◌, ℕ, Bool, false, List, [], Option, Some, None, ⊤, ◌||◌}
+use Rattle.std.specs.Prelude.{if◌then◌else◌}
 use Rattle.std.specs.FinMap.{get}
 use Rattle.prima_base.specs.Columns.{Column, IsRelation}
 use Rattle.schema_catalog.specs.Tables.{Tables}
 use Rattle.schema_catalog.specs.Databases.{Database}
 use Rattle.history_store.specs.Store.{Store, AllBefore, relation_at}
-use Rattle.smo_meaning.specs.Effects.{rows_at}
+use Rattle.smo_meaning.specs.Effects.{rows_under}
 use Rattle.smo_meaning.specs.OneRow.{Relation, same}
-use Rattle.version_groups.specs.declared.made_tables.MadeTable.{MadeTable}
+use Rattle.version_groups.specs.declared.made_table.MadeTable.{MadeTable}
 use Rattle.version_groups.specs.Groups.{stored_as}
 
 -- it has these columns, at the stamp these rows, and each of its stamps is earlier
@@ -24,7 +25,8 @@ StandsEntry stamp rows (Some columns) (Some store) = StandsFor columns stamp row
 
 -- the tables are those of the schema, and have what the database has of them
 abbrev pub AreStored : Tables → Database → ℕ → List MadeTable → Type 0
-AreStored tables database stamp made = (name : List ℕ) → StandsEntry stamp (rows_at (get database name)) (get tables name) (stored_as name made)
+AreStored tables database stamp made = (name : List ℕ)
+    → StandsEntry stamp (rows_under (get database name)) (get tables name) (stored_as name made)
 
 abbrev pub rows_stored : ℕ → Option Store → Relation
 rows_stored stamp None = []
@@ -44,7 +46,8 @@ pub record MadeRows : Type 0 where
 
 -- the rows of a table of the next version: those that were made, or else those that it had
 abbrev pub next_rows : MadeRows → ℕ → List MadeTable → List ℕ → Relation
-next_rows made stamp tables name = if is_name made.first name then made.rows else if is_name made.second name then made.others else rows_stored stamp (stored_as name tables)
+next_rows made stamp tables name = if is_name made.first name then made.rows
+    else if is_name made.second name then made.others else rows_stored stamp (stored_as name tables)
 
 -- one of those that were made has the name
 abbrev pub is_made : MadeRows → List ℕ → Bool
@@ -52,7 +55,8 @@ is_made made name = is_name made.first name || is_name made.second name
 
 -- each table of the next version has a relation of its columns
 abbrev pub FitNext : Tables → MadeRows → ℕ → List MadeTable → Type 0
-FitNext next made stamp tables = (name : List ℕ) → (columns : List Column) → get next name ≡ Some columns → IsRelation columns (next_rows made stamp tables name)
+FitNext next made stamp tables = (name : List ℕ) → (columns : List Column)
+    → get next name ≡ Some columns → IsRelation columns (next_rows made stamp tables name)
 
 -- a table of these columns is stored, and each of its stamps is earlier
 abbrev pub IsStoredBefore : ℕ → List Column → Option Store → Type 0
@@ -61,5 +65,7 @@ IsStoredBefore stamp columns (Some store) = (store.columns ≡ columns) × AllBe
 
 -- each table of the next version that is not made is stored
 abbrev pub OthersStay : Tables → MadeRows → ℕ → List MadeTable → Type 0
-OthersStay next made stamp tables = (name : List ℕ) → (columns : List Column) → get next name ≡ Some columns
-    → is_name made.first name ≡ false → is_name made.second name ≡ false → IsStoredBefore stamp columns (stored_as name tables)
+OthersStay next made stamp tables = (name : List ℕ) → (columns : List Column)
+    → get next name ≡ Some columns
+    → is_name made.first name ≡ false → is_name made.second name ≡ false
+    → IsStoredBefore stamp columns (stored_as name tables)

@@ -1,10 +1,10 @@
-use crate::changing::{Changes, install_tables, prepare_tables};
-use crate::ending::end_consumed;
-use crate::evolving::{Evolved, prepare_version};
-use crate::made_tables::{MadeTable, find_stored, find_table};
+use crate::changed_table::{Changes, install_tables, prepare_tables};
+use crate::ended_lifeline::end_consumed;
+use crate::evolution::{Evolved, prepare_version};
+use crate::made_table::{MadeTable, find_stored, find_table};
 use crate::next::{Next, Step};
-use crate::restoring::restored_tables;
-use crate::sizes::SizeLine;
+use crate::restoration::restored_tables;
+use crate::size::SizeLine;
 use history_store::{Prepared, StoredTable};
 use prima_base::{Name, NoMemory};
 use schema_catalog::Schema;
@@ -14,8 +14,8 @@ use std::marker::Model;
 use std::mem;
 use std::vec::IntoIter;
 
-/// The versions of an archive, and for each version its stored tables. A table that no operator makes or consumes is stored
-/// once over all its versions.
+/// The versions of an archive, and for each version its stored tables. A table that no operator
+/// makes or consumes is stored once over all its versions.
 #[derive(Drop)]
 pub struct Groups {
     alloc: Global,
@@ -24,8 +24,8 @@ pub struct Groups {
     versions: Versions,
     // in the order of their first versions, and then of their names
     stored: Vec<MadeTable>,
-    // the places of the tables of each version before the newest, those of version 0 first; and of the newest: in the order of
-    // their names
+    // the places of the tables of each version before the newest, those of version 0 first; and of
+    // the newest: in the order of their names
     earlier: Vec<Vec<usize>>,
     newest: Vec<usize>,
 }
@@ -33,7 +33,7 @@ pub struct Groups {
 impl Model for Groups {
     ghost use Rattle.version_groups.specs.Groups.{Kept};
     ghost use Rattle.version_groups.specs.GroupFields.{groups_view, AreGroups};
-    ghost use Rattle.smo_types.specs.contracts.versions.Version as version_row;
+    ghost use Rattle.smo_types.specs.contracts.version.Version as version_row;
     ghost use Rattle.std.specs.Coded.{codes};
 
     ghost Value = { Kept };
@@ -45,10 +45,11 @@ impl Model for Groups {
     ghost invariant = { AreGroups };
 }
 
-ghost use Rattle.std.specs.Prelude.{◌≡◌, ◌-◌, ◌<◌, ◌≤◌, ◌++◌, map, length, slice_index, IfOk, OnOk, None, vec_len, vec_capacity};
+ghost use Rattle.std.specs.Prelude.{◌≡◌, ◌-◌, ◌<◌, ◌≤◌, ◌++◌, map, length, slice_index, IfOk, OnOk};
+ghost use Rattle.std.specs.Prelude.{None, vec_len, vec_capacity};
 ghost use Rattle.smo_types.specs.Commands.{version_of, versions_of, body_of};
 ghost use Rattle.smo_meaning.specs.Counts.{first_excess};
-ghost use Rattle.smo_meaning.specs.LawfulValues.{BodyHolds};
+ghost use Rattle.smo_meaning.specs.ValidValues.{BodyHolds};
 ghost use Rattle.smo_meaning.specs.Past.{no_tables, newest_from, tables_from, begun_at};
 
 // How many of the versions begin at the moment or before it.
@@ -77,15 +78,16 @@ fn newest_schema<'a>(nothing: &'a Schema, versions: &'a Versions) -> &'a Schema
 // Room for so many more.
 fn reserve_more<T: Drop>(list: &mut Vec<T>, count: usize) -> Result<(), NoMemory>
     ensures items { list.new.items ≡ list.old.items }
-    ensures spare { vec_capacity list.old - vec_len list.old ≤ vec_capacity list.new - vec_len list.new }
+    ensures spare { vec_capacity list.old - vec_len list.old ≤ vec_capacity list.new - vec_len
+        list.new }
     ensures room { OnOk result (count ≤ vec_capacity list.new - vec_len list.new) }
 {
     list.reserve(count)?;
     Ok(())
 }
 
-// Puts all behind the others, for which there is room. It takes no memory.
-fn put_behind(list: &mut Vec<MadeTable>, more: Vec<MadeTable>)
+// Puts all after the others, for which there is room. It takes no memory.
+fn put_after(list: &mut Vec<MadeTable>, more: Vec<MadeTable>)
     requires { length more.items ≤ vec_capacity list.old - vec_len list.old }
     ensures { list.new.items ≡ list.old.items ++ more.items }
 {
@@ -94,8 +96,9 @@ fn put_behind(list: &mut Vec<MadeTable>, more: Vec<MadeTable>)
     }
 }
 
-// Meets each constant of a command whose counts are within their limits: it is a value of the code, and so a lawful one.
-#[tactic(auto, using(crate::proofs::Readied::counted_hold))]
+// Meets each constant of a command whose counts are within their limits: it is a value of the code,
+// and so a valid one.
+#[tactic(auto, using(crate::proofs::PreparedCommand::counted_hold))]
 fn meet_constants(command: &Command)
     requires { first_excess (body_of command.now.1) ≡ None }
     ensures { BodyHolds (body_of command.now.1) }
@@ -104,7 +107,8 @@ fn meet_constants(command: &Command)
 }
 
 impl Groups {
-    ghost use Rattle.std.specs.Prelude.{◌≡◌, ◌+◌, ◌<◌, ◌≤◌, ◌^◌, ◌++◌, ◌∷◌, [], List, length, slice_index_or, MatchOption, IfOk, OnOk, None};
+    ghost use Rattle.std.specs.Prelude.{◌≡◌, ◌+◌, ◌<◌, ◌≤◌, ◌^◌, ◌++◌, ◌∷◌, [], List, length};
+    ghost use Rattle.std.specs.Prelude.{slice_index_or, MatchOption, IfOk, OnOk, None};
     ghost use Rattle.std.specs.Option.{option_copied};
     ghost use Rattle.std.specs.Vec.Iter.{into_iter_items};
     ghost use Rattle.relations.specs.Sets.{Ascends};
@@ -112,27 +116,33 @@ impl Groups {
     ghost use Rattle.prima_base.specs.Order.{bytes_cmp};
     ghost use Rattle.smo_types.specs.Operators.{operator_of, operators_of};
     ghost use Rattle.smo_types.specs.Changes.{changes_of};
-    ghost use Rattle.smo_types.specs.Commands.{command_of, changing, evolving, PlainCommand, versions_of};
+    ghost use Rattle.smo_types.specs.Commands.{command_of, changing, evolving, PlainCommand};
+    ghost use Rattle.smo_types.specs.Commands.{versions_of};
     ghost use Rattle.smo_meaning.specs.Accepts.{command_fault, most_versions};
-    ghost use Rattle.smo_meaning.specs.After.{op_fault, behind, IsLawful};
-    ghost use Rattle.smo_meaning.specs.LawfulPast.{AreVersions};
-    ghost use Rattle.smo_meaning.specs.LawfulValues.{BodyHolds};
-    ghost use Rattle.smo_meaning.specs.Past.{Past, beginning, no_tables, tables_from, newest_from, version_at, past_with};
+    ghost use Rattle.smo_meaning.specs.After.{op_fault, schema_after, IsValid};
+    ghost use Rattle.smo_meaning.specs.ValidPast.{AreVersions};
+    ghost use Rattle.smo_meaning.specs.ValidValues.{BodyHolds};
+    ghost use Rattle.smo_meaning.specs.Past.{Past, beginning, no_tables, tables_from, newest_from};
+    ghost use Rattle.smo_meaning.specs.Past.{version_at, past_with};
     ghost use Rattle.smo_meaning.specs.Sizes.{Size};
-    ghost use Rattle.version_groups.specs.Groups.{versions_in, places_of, stored_at, table_in, newest_group, names_of};
+    ghost use Rattle.version_groups.specs.Groups.{versions_in, places_of, stored_at, table_in};
+    ghost use Rattle.version_groups.specs.Groups.{newest_group, names_of};
     ghost use Rattle.version_groups.specs.Places.{at_places, AreWithin};
     ghost use Rattle.version_groups.specs.Changing.{HaveRoom};
-    ghost use Rattle.version_groups.specs.Installing.{HasEarlier, HasChanges, HasVersion, ComeWith, HasStep};
-    ghost use Rattle.version_groups.specs.Lifelines.{lifelines_of, columns_of, made_tables, place_in};
-    ghost use Rattle.version_groups.specs.Restoring.{AreRestored, stores_of, store_columns, HaveColumns};
-    ghost use Rattle.version_groups.specs.Showing.{Shows};
+    ghost use Rattle.version_groups.specs.Installing.{HasEarlier, HasChanges, HasVersion, ComeWith};
+    ghost use Rattle.version_groups.specs.Installing.{HasStep};
+    ghost use Rattle.version_groups.specs.Lifelines.{lifelines_of, columns_of, made_tables};
+    ghost use Rattle.version_groups.specs.Lifelines.{place_in};
+    ghost use Rattle.version_groups.specs.Restoring.{AreRestored, stores_of, store_columns};
+    ghost use Rattle.version_groups.specs.Restoring.{HaveColumns};
+    ghost use Rattle.version_groups.specs.Showing.{Represents};
     ghost use Rattle.version_groups.specs.Sizes.{IsLineOf};
     ghost use Rattle.version_groups.specs.Room.{IsSame};
     ghost use Rattle.version_groups.specs.Steps.{IsReady, IsStep, Prepares, a_command, step_of};
 
     /// Groups in which nothing was accepted: version 0 alone. It takes no memory.
     pub fn new(alloc: Global) -> Groups
-        ensures { Shows result beginning }
+        ensures { Represents result beginning }
     {
         Groups {
             alloc,
@@ -146,11 +156,13 @@ impl Groups {
         }
     }
 
-    /// Groups of these versions, and of what is stored over each of their lifelines. The versions are those of an archive: each is
-    /// accepted behind the one before, and has the tables behind its operator. There is one stored table for each lifeline, by first
-    /// version and then name, with its lifeline's columns. The one error is `NoMemory`, where memory runs out.
+    /// Groups of these versions, and of what is stored over each of their lifelines. The versions
+    /// are those of an archive: each is accepted after the one before, and has the tables after its
+    /// operator. There is one stored table for each lifeline, by first version and then name, with
+    /// its lifeline's columns. The one error is `NoMemory`, where memory runs out.
     ///
-    /// For each version it costs a look at its tables, and a search by name among those of the version before.
+    /// For each version it costs a look at its tables, and a search by name among those of the
+    /// version before.
     pub fn restore(
         alloc: Global,
         versions: Versions,
@@ -158,7 +170,8 @@ impl Groups {
     ) -> Result<Groups, NoMemory>
         requires versions { AreVersions None no_tables (versions_of versions) }
         requires few { length versions.list.items ≤ most_versions }
-        requires stores { store_columns stores.items ≡ columns_of (lifelines_of (versions_of versions)) }
+        requires stores { store_columns stores.items
+            ≡ columns_of (lifelines_of (versions_of versions)) }
         ensures versions { IfOk result (λ groups. groups.versions ≡ versions.list.items) }
         ensures stores { IfOk result (λ groups. stores_of groups.stored ≡ stores.items) }
         ensures restored { IfOk result (λ groups. AreRestored groups) }
@@ -185,11 +198,13 @@ impl Groups {
         self.versions.list.len() as u32
     }
 
-    /// The number of the version in force at the moment: a version is in force from its own stamp on, and at `FOREVER`
-    /// it is the newest. It takes no memory.
+    /// The number of the version in force at the moment: a version is in force from its own stamp
+    /// on, and at `FOREVER` it is the newest. It takes no memory.
     pub fn version_at(&self, moment: u64) -> u32
-        ensures number { (past : Past) → past.versions ≡ versions_in self.now → result ≡ version_at past moment }
-        ensures newest { (past : Past) → Shows self.now past → moment ≡ forever → result ≡ length past.versions }
+        ensures number { (past : Past) → past.versions ≡ versions_in self.now
+            → result ≡ version_at past moment }
+        ensures newest { (past : Past) → Represents self.now past → moment ≡ forever
+            → result ≡ length past.versions }
     {
         count_begun(&self.versions.list, moment) as u32
     }
@@ -197,7 +212,8 @@ impl Groups {
     /// The schema of a version: `None` exactly where there is no such version. It takes no memory.
     pub fn schema(&self, version: u32) -> Option<&Schema>
         ensures { MatchOption result (length self.now.versions < version)
-            (λ s. (version ≤ length self.now.versions) × (s.now ≡ tables_from no_tables (versions_in self.now) version)) }
+            (λ s. (version ≤ length self.now.versions)
+            × (s.now ≡ tables_from no_tables (versions_in self.now) version)) }
     {
         if version == 0 {
             return Some(&self.nothing);
@@ -208,8 +224,8 @@ impl Groups {
         }
     }
 
-    /// What is stored of a version's table: `None` exactly where there is no such version, or no such table in it. It
-    /// takes no memory.
+    /// What is stored of a version's table: `None` exactly where there is no such version, or no
+    /// such table in it. It takes no memory.
     pub fn table(&self, version: u32, name: &Name) -> Option<&StoredTable>
         ensures { option_copied result ≡ table_in self.now version name.now }
     {
@@ -217,11 +233,13 @@ impl Groups {
         find_stored(&self.stored, places, name)
     }
 
-    // The places of a version's tables among all that are stored, in the order of their names: `None` exactly where there is no
-    // such version. It takes no memory.
+    // The places of a version's tables among all that are stored, in the order of their names:
+    // `None` exactly where there is no such version. It takes no memory.
     fn places(&self, version: u32) -> Option<&[usize]>
-        ensures { MatchOption result ((length self.now.versions < version) × (places_of self.now version ≡ []))
-            (λ places. (version ≤ length self.now.versions) × (places.now ≡ places_of self.now version)) }
+        ensures { MatchOption result ((length self.now.versions < version)
+            × (places_of self.now version ≡ []))
+            (λ places. (version ≤ length self.now.versions)
+            × (places.now ≡ places_of self.now version)) }
     {
         let version = version as usize;
         if version == self.earlier.len() {
@@ -233,12 +251,13 @@ impl Groups {
         }
     }
 
-    /// Where a version's table stands among all that are stored, by the number of its lifeline, from 0 on: so versions in which a
-    /// table has one number share what is stored of it. `None` exactly where there is no such version, or no such table in it. It
-    /// takes no memory.
+    /// Where a version's table stands among all that are stored, by the number of its lifeline,
+    /// from 0 on: so versions in which a table has one number share what is stored of it. `None`
+    /// exactly where there is no such version, or no such table in it. It takes no memory.
     pub fn place(&self, version: u32, name: &Name) -> Option<usize>
         ensures lifeline { result ≡ place_in (versions_in self.now) version name.now }
-        ensures stored { MatchOption result (table_in self.now version name.now ≡ None) (λ p. stored_at self.now p ≡ table_in self.now version name.now) }
+        ensures stored { MatchOption result (table_in self.now version name.now ≡ None)
+            (λ p. stored_at self.now p ≡ table_in self.now version name.now) }
     {
         let places = self.places(version)?;
         match find_table(&self.stored, places, name) {
@@ -247,18 +266,21 @@ impl Groups {
         }
     }
 
-    /// The stored tables, each over its lifeline: by first version, and then by name. It takes no memory.
+    /// The stored tables, each over its lifeline: by first version, and then by name. It takes no
+    /// memory.
     pub fn stored(&self) -> &[MadeTable]
         ensures { result.now ≡ self.now.stored }
     {
         &self.stored
     }
 
-    /// How much is stored over a lifeline, by their number from 0 on: they stand by first version, and then by name. `None` exactly
-    /// where there are no so many. It takes no memory.
+    /// How much is stored over a lifeline, by their number from 0 on: they stand by first version,
+    /// and then by name. `None` exactly where there are no so many. It takes no memory.
     pub fn size(&self, i: u32) -> Option<SizeLine<'_>>
-        ensures { (past : Past) → Shows self.now past
-            → MatchOption result (length past.sizes ≤ i) (λ line. (i < length past.sizes) × ((s : Size) → IsLineOf (length past.versions) (slice_index_or past.sizes i s) line)) }
+        ensures { (past : Past) → Represents self.now past
+            → MatchOption result (length past.sizes ≤ i) (λ line. (i < length past.sizes)
+            × ((s : Size) → IsLineOf (length past.versions) (slice_index_or past.sizes i s)
+            line)) }
     {
         let table = self.stored.get(i as usize)?;
         Some(SizeLine {
@@ -270,20 +292,24 @@ impl Groups {
         })
     }
 
-    /// Makes the command ready, and all the room that installing it needs. The command is accepted after the past that
-    /// is shown, which stays as it is. For changes `Next` has the counts of the rows that are gained and lost, summed
-    /// over the tables, and for an operator none. The one error is `NoMemory`, where memory runs out.
+    /// Makes the command ready, and all the room that installing it needs. The command is accepted
+    /// after the past that is shown, which stays as it is. For changes `Next` has the counts of the
+    /// rows that are gained and lost, summed over the tables, and for an operator none. The one
+    /// error is `NoMemory`, where memory runs out.
     ///
-    /// A table that has INSERTs alone costs a search for each row. Any other that the command names costs for each UPDATE
-    /// or DELETE a look at the rows between two cuts, by the constants to which its condition pins the first columns, and
-    /// a search for each row that is lost or gained; where more than 64 rows are lost or gained, a copy of the index of
-    /// its current rows too. Other tables are not looked at. An operator costs a copy of its inputs, and of the rows that
-    /// it makes; other tables go on.
+    /// A table that has INSERTs alone costs a search for each row. Any other that the command names
+    /// costs for each UPDATE or DELETE a look at the rows between two cuts, by the constants to
+    /// which its condition pins the first columns, and a search for each row that is lost or
+    /// gained; where more than 64 rows are lost or gained, a copy of the index of its current rows
+    /// too. Other tables are not looked at. An operator costs a copy of its inputs, and of the rows
+    /// that it makes; other tables go on.
     pub fn prepare<'a>(&mut self, command: &'a Command) -> Result<Next<'a>, NoMemory>
-        requires { (past : Past) × Shows self.old past × (command_fault past (command_of command.now) ≡ None) }
+        requires { (past : Past) × Represents self.old past
+            × (command_fault past (command_of command.now) ≡ None) }
         ensures same { IsSame self.old self.new }
-        ensures shows { (past : Past) → Shows self.old past → Shows self.new past }
-        ensures next { (past : Past) → Shows self.old past → command_fault past (command_of command.now) ≡ None
+        ensures shows { (past : Past) → Represents self.old past → Represents self.new past }
+        ensures next { (past : Past) → Represents self.old past
+            → command_fault past (command_of command.now) ≡ None
             → IfOk result (λ next. Prepares self.new past (command_of command.now) next) }
     {
         meet_constants(command);
@@ -293,13 +319,17 @@ impl Groups {
         }
     }
 
-    /// Carries out what was made ready: from the command's stamp on the past has the changed or carried database, and
-    /// each earlier moment is as before. Each table of each version before the one that is then the newest has at the
-    /// moments at which its version is in force what it had. Changes are made of the stored tables of the newest version, and
-    /// an operator ends lifelines and begins others: each other stored table is the very same. It takes no memory.
+    /// Carries out what was made ready: from the command's stamp on the past has the changed or
+    /// carried database, and each earlier moment is as before. Each table of each version before
+    /// the one that is then the newest has at the moments at which its version is in force what it
+    /// had. Changes are made of the stored tables of the newest version, and an operator ends
+    /// lifelines and begins others: each other stored table is the very same. It takes no memory.
     pub fn install(&mut self, next: Next<'_>)
-        requires { (past : Past) × (command : PlainCommand) × Shows self.old past × IsReady self.old past command next }
-        ensures shows { (past : Past) → (command : PlainCommand) → Shows self.old past → IsReady self.old past command next.entry → Shows self.new (past_with past command) }
+        requires { (past : Past) × (command : PlainCommand) × Represents self.old past
+            × IsReady self.old past command next }
+        ensures shows { (past : Past) → (command : PlainCommand) → Represents self.old past
+            → IsReady self.old past command next.entry
+            → Represents self.new (past_with past command) }
         ensures earlier { HasEarlier self.old self.new }
         ensures step { HasStep self.old self.new next.entry.step }
     {
@@ -308,10 +338,14 @@ impl Groups {
 
     // Carries out a step of a command that is accepted after the past. It takes no memory.
     fn install_step(&mut self, step: Step<'_>)
-        requires { (past : Past) × (command : PlainCommand) × Shows self.old past × (command_fault past command ≡ None) × (command.stamp < forever) × BodyHolds command.body
+        requires { (past : Past) × (command : PlainCommand) × Represents self.old past
+            × (command_fault past command ≡ None) × (command.stamp < forever)
+            × BodyHolds command.body
             × IsStep self.old past command.stamp command.body (step_of step) }
-        ensures shows { (past : Past) → (command : PlainCommand) → Shows self.old past → command_fault past command ≡ None → command.stamp < forever
-            → BodyHolds command.body → IsStep self.old past command.stamp command.body (step_of step.entry) → Shows self.new (past_with past command) }
+        ensures shows { (past : Past) → (command : PlainCommand) → Represents self.old past
+            → command_fault past command ≡ None → command.stamp < forever
+            → BodyHolds command.body → IsStep self.old past command.stamp command.body
+            (step_of step.entry) → Represents self.new (past_with past command) }
         ensures earlier { HasEarlier self.old self.new }
         ensures step { HasStep self.old self.new step.entry }
     {
@@ -329,12 +363,14 @@ impl Groups {
         install_tables(&mut self.stored, &self.newest, plans);
     }
 
-    // Puts the version and the tables that begin with it behind the others. The lifelines of the tables that its operator
-    // consumes, which are at most two, end with the version before. It takes no memory.
+    // Puts the version and the tables that begin with it after the others. The lifelines of the
+    // tables that its operator consumes, which are at most two, end with the version before. It
+    // takes no memory.
     fn install_version(&mut self, version: Version, begun: Vec<MadeTable>, places: Vec<usize>)
         requires come { ComeWith self.old version begun.items places.items }
         requires there { AreWithin places.items (length self.old.stored + length begun.items) }
-        requires ordered { Ascends bytes_cmp (names_of (at_places (self.old.stored ++ begun.items) places.items)) }
+        requires ordered { Ascends bytes_cmp (names_of
+            (at_places (self.old.stored ++ begun.items) places.items)) }
         requires room { 1 ≤ self.old.spare }
         requires beginnings { length begun.items ≤ self.old.beginnings }
         requires fits { length self.old.versions + 1 < 2 ^ 32 }
@@ -342,7 +378,7 @@ impl Groups {
     {
         let last = self.versions.list.len() as u32;
         end_consumed(&mut self.stored, &self.newest, &version.op, last);
-        put_behind(&mut self.stored, begun);
+        put_after(&mut self.stored, begun);
         let before = mem::replace(&mut self.newest, places);
         self.versions.list.push_reserved(version);
         self.earlier.push_reserved(before);
@@ -354,12 +390,15 @@ impl Groups {
         stamp: u64,
         changes: &'a [Change],
     ) -> Result<Next<'a>, NoMemory>
-        requires lawful { stamp < forever }
+        requires valid { stamp < forever }
         requires constants { BodyHolds (changing (changes_of changes.now)) }
-        requires accepted { (past : Past) × Shows self.old past × (command_fault past (a_command stamp (changing (changes_of changes.now))) ≡ None) }
+        requires accepted { (past : Past) × Represents self.old past
+            × (command_fault past (a_command stamp (changing (changes_of changes.now))) ≡ None) }
         ensures same { IsSame self.old self.new }
-        ensures next { (past : Past) → Shows self.old past → command_fault past (a_command stamp (changing (changes_of changes.now))) ≡ None
-            → IfOk result (λ next. Prepares self.new past (a_command stamp (changing (changes_of changes.now))) next) }
+        ensures next { (past : Past) → Represents self.old past
+            → command_fault past (a_command stamp (changing (changes_of changes.now))) ≡ None
+            → IfOk result (λ next. Prepares self.new past
+            (a_command stamp (changing (changes_of changes.now))) next) }
     {
         let schema = newest_schema(&self.nothing, &self.versions);
         let made = prepare_tables(
@@ -389,12 +428,17 @@ impl Groups {
         op: &Op,
         inverse: &[Op],
     ) -> Result<Next<'a>, NoMemory>
-        requires lawful { stamp < forever }
+        requires valid { stamp < forever }
         requires constants { BodyHolds (evolving (operator_of op.now) (operators_of inverse.now)) }
-        requires accepted { (past : Past) × Shows self.old past × (command_fault past (a_command stamp (evolving (operator_of op.now) (operators_of inverse.now))) ≡ None) }
+        requires accepted { (past : Past) × Represents self.old past
+            × (command_fault past (a_command stamp
+            (evolving (operator_of op.now) (operators_of inverse.now))) ≡ None) }
         ensures same { IsSame self.old self.new }
-        ensures next { (past : Past) → Shows self.old past → command_fault past (a_command stamp (evolving (operator_of op.now) (operators_of inverse.now))) ≡ None
-            → IfOk result (λ next. Prepares self.new past (a_command stamp (evolving (operator_of op.now) (operators_of inverse.now))) next) }
+        ensures next { (past : Past) → Represents self.old past
+            → command_fault past (a_command stamp
+            (evolving (operator_of op.now) (operators_of inverse.now))) ≡ None
+            → IfOk result (λ next. Prepares self.new past
+            (a_command stamp (evolving (operator_of op.now) (operators_of inverse.now))) next) }
     {
         let number = self.newest() + 1;
         let schema = newest_schema(&self.nothing, &self.versions);
@@ -417,21 +461,27 @@ impl Groups {
         })
     }
 
-    // Puts the version behind the others. The tables that its operator makes begin with it, over the next of the stores.
+    // Puts the version after the others. The tables that its operator makes begin with it, over the
+    // next of the stores.
     fn restore_version(
         &mut self,
         version: Version,
         stores: &mut IntoIter<StoredTable>,
     ) -> Result<(), NoMemory>
         requires restored { AreRestored self.old }
-        requires schema { IsLawful (newest_from no_tables (versions_in self.old)) }
-        requires accepted { op_fault (newest_from no_tables (versions_in self.old)) (operator_of version.op) ≡ None }
-        requires tables { version.schema ≡ behind (newest_from no_tables (versions_in self.old)) (operator_of version.op) }
+        requires schema { IsValid (newest_from no_tables (versions_in self.old)) }
+        requires accepted { op_fault (newest_from no_tables (versions_in self.old))
+            (operator_of version.op) ≡ None }
+        requires tables { version.schema ≡ schema_after
+            (newest_from no_tables (versions_in self.old)) (operator_of version.op) }
         requires fits { length self.old.versions + 1 < 2 ^ 32 }
-        requires due { HaveColumns (into_iter_items stores.old) (made_tables (newest_from no_tables (versions_in self.old)) (operator_of version.op) version.schema) }
+        requires due { HaveColumns (into_iter_items stores.old)
+            (made_tables (newest_from no_tables (versions_in self.old)) (operator_of version.op)
+            version.schema) }
         ensures versions { OnOk result (self.new.versions ≡ self.old.versions ++ version ∷ []) }
         ensures restored { OnOk result (AreRestored self.new) }
-        ensures taken { OnOk result (stores_of self.new.stored ++ into_iter_items stores.new ≡ stores_of self.old.stored ++ into_iter_items stores.old) }
+        ensures taken { OnOk result (stores_of self.new.stored ++ into_iter_items stores.new
+            ≡ stores_of self.old.stored ++ into_iter_items stores.old) }
     {
         let number = self.newest() + 1;
         let tables = restored_tables(

@@ -1,23 +1,24 @@
-//! The versions of an archive, and the stored tables of each (PRIMA 2008). A table is stored once over all versions in
-//! which no operator makes or consumes it; its history begins at the stamp of the first.
+//! The versions of an archive, and the stored tables of each (PRIMA 2008). A table is stored once
+//! over all versions in which no operator makes or consumes it; its history begins at the stamp of
+//! the first.
 //!
-//! `specs/Showing.antt` says when groups show a past. A command is made ready by `prepare`, which takes all the memory
-//! that it needs, and `install` carries it out and cannot fail.
+//! `specs/Showing.antt` says when groups show a past. A command is made ready by `prepare`, which
+//! takes all the memory that it needs, and `install` carries it out and cannot fail.
 #![tactic(auto)]
 
-mod changing;
-mod ending;
-mod evolving;
+mod changed_table;
+mod ended_lifeline;
+mod evolution;
 mod groups;
 mod lifeline_laws;
-mod made_tables;
+mod made_table;
 mod next;
-mod restoring;
-mod sizes;
+mod restoration;
+mod size;
 
 pub use groups::Groups;
 pub use lifeline_laws::{lifelines_are_few, lifelines_are_longest_runs};
-pub use made_tables::MadeTable;
+pub use made_table::MadeTable;
 pub use next::Next;
-pub use restoring::restored_shows;
-pub use sizes::{SizeLine, sizes_are_of_lifelines};
+pub use restoration::restored_shows;
+pub use size::{SizeLine, sizes_are_of_lifelines};

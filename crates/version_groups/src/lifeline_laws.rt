@@ -5,23 +5,30 @@ ghost use Rattle.std.specs.FinMap.{get};
 ghost use Rattle.relations.specs.Sets.{In};
 ghost use Rattle.smo_types.specs.Commands.{PlainVersion};
 ghost use Rattle.smo_meaning.specs.Accepts.{most_versions};
-ghost use Rattle.smo_meaning.specs.LawfulPast.{AreVersions};
+ghost use Rattle.smo_meaning.specs.ValidPast.{AreVersions};
 ghost use Rattle.smo_meaning.specs.Past.{Past, no_tables, tables_from};
 ghost use Rattle.version_groups.specs.Groups.{Kept};
 ghost use Rattle.version_groups.specs.Lifelines.{Lifeline, lifelines_of, place_in};
 ghost use Rattle.version_groups.specs.LongestRuns.{IsLongest};
-ghost use Rattle.version_groups.specs.Showing.{Shows};
+ghost use Rattle.version_groups.specs.Showing.{Represents};
 
-/// A lifeline is a longest run of versions in which no operator makes or consumes the table: it is made with the first, is there in
-/// each, and where the run ends the next operator consumes it. Each table of each version has a lifeline that covers the version.
+/// A lifeline is a longest run of versions in which no operator makes or consumes the table: it is
+/// made with the first, is there in each, and where the run ends the next operator consumes it.
+/// Each table of each version has a lifeline that covers the version.
 pub fn lifelines_are_longest_runs()
-    ensures runs { (versions : List PlainVersion) (l : Lifeline) → AreVersions None no_tables versions → In l (lifelines_of versions) → IsLongest versions l }
-    ensures tables { (versions : List PlainVersion) (k : ℕ) (name : List ℕ) → AreVersions None no_tables versions → k ≤ length versions
+    ensures runs { (versions : List PlainVersion) (l : Lifeline)
+        → AreVersions None no_tables versions → In l (lifelines_of versions)
+        → IsLongest versions l }
+    ensures tables { (versions : List PlainVersion) (k : ℕ) (name : List ℕ)
+        → AreVersions None no_tables versions → k ≤ length versions
         → is_some (place_in versions k name) ≡ is_some (get (tables_from no_tables versions k) name) }
 {}
 
-/// Each version begins at most two lifelines, since an operator makes at most two tables. So there are at most 1,024.
+/// Each version begins at most two lifelines, since an operator makes at most two tables. So there
+/// are at most 1,024.
 pub fn lifelines_are_few()
-    ensures versions { (versions : List PlainVersion) → length (lifelines_of versions) ≤ 2 * length versions }
-    ensures sizes { (kept : Kept) (past : Past) → Shows kept past → length past.sizes ≤ 2 * most_versions }
+    ensures versions { (versions : List PlainVersion)
+        → length (lifelines_of versions) ≤ 2 * length versions }
+    ensures sizes { (kept : Kept) (past : Past) → Represents kept past
+        → length past.sizes ≤ 2 * most_versions }
 {}

@@ -1,4 +1,4 @@
-use crate::made_tables::MadeTable;
+use crate::made_table::MadeTable;
 use history_store::Prepared;
 use smo_ops::Version;
 use std::marker::Model;
@@ -12,8 +12,8 @@ pub(crate) enum Step<'a> {
     Evolved(Version, Vec<MadeTable>, Vec<usize>),
 }
 
-/// A command that was made ready: it is installed into the groups that prepared it. Texts that it inserts are lent by the
-/// command until then.
+/// A command that was made ready: it is installed into the groups that prepared it. Texts that it
+/// inserts are borrowed by the command until then.
 #[derive(Drop)]
 pub struct Next<'a> {
     pub(crate) gained: u64,
@@ -23,14 +23,18 @@ pub struct Next<'a> {
 
 impl<'a> Model for Next<'a> {
     ghost use Rattle.std.specs.Prelude.{[]};
-    ghost use Rattle.version_groups.specs.Steps.{Readied};
+    ghost use Rattle.version_groups.specs.Steps.{PreparedCommand};
     ghost use Rattle.version_groups.specs.contracts.next.Step as step_row;
     ghost use Rattle.std.specs.Coded.{codes};
     ghost use mir.Syntax;
 
-    ghost Value = { Readied };
+    ghost Value = { PreparedCommand };
 
-    ghost coded = { Prim.hlevel (codes, (step_row.the_row (record { mir = Syntax.erased; lft = [] })).coded) };
+    ghost coded = { Prim.hlevel (
+      codes,
+      (step_row.the_row
+          (record { mir = Syntax.erased; lft = [] })).coded,
+    ) };
 
     ghost view = { λ n. record { gained = n.gained; lost = n.lost; step = n.step } };
 }

@@ -51,8 +51,8 @@ of_losses = record { over = losses_over; undone = losses_undone }
 abbrev pub lost_names : List PlainVersion → ℕ → ℕ → Losses
 lost_names versions v q = taken of_losses versions v q empty
 
--- the loss is by a version that is gone back over on the way from version v to version q, and that names no inverse: the one
--- behind version `before`, by its first operator
+-- the loss is by a version that is gone back over on the way from version v to version q, and that
+-- names no inverse: the one after version `before`, by its first operator
 pub record IsUnnamed (versions : List PlainVersion) (v q : ℕ) (loss : Loss) : Type 0 where
   pub before : ℕ
   pub by : PlainVersion

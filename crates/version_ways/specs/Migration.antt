@@ -29,8 +29,8 @@ abbrev pub carried_over : Tables → List Operator → Database → Database
 carried_over tables ops db = over_each of_databases tables ops db
 
 -- from version k to the next, and from the next back to version k
-abbrev pub carry : List PlainVersion → ℕ → Database → Database
-carry versions k db = to_next of_databases versions k db
+abbrev pub carried_along : List PlainVersion → ℕ → Database → Database
+carried_along versions k db = to_next of_databases versions k db
 
 abbrev pub back : List PlainVersion → ℕ → Database → Database
 back versions k db = from_next of_databases versions k db

@@ -1,14 +1,15 @@
 -- The way from one version to another: forward over the operators, and back over their inverses. It
 -- is said once for all that can be taken along it: a database, or by names alone the losses that it
 -- would have.
-use Rattle.std.specs.Prelude.{ℕ, zero, suc, ◌+◌, ◌-◌, List, [], ◌∷◌, nat_le, Option, Some, None, slice_get, if◌then◌else◌}
+use Rattle.std.specs.Prelude.{ℕ, zero, suc, ◌+◌, ◌-◌, List, [], ◌∷◌, nat_le, Option, Some, None}
+use Rattle.std.specs.Prelude.{slice_get, if◌then◌else◌}
 use Rattle.schema_catalog.specs.Tables.{Tables}
 use Rattle.smo_types.specs.Operators.{Operator}
 use Rattle.smo_types.specs.Commands.{PlainVersion}
-use Rattle.smo_meaning.specs.After.{behind}
+use Rattle.smo_meaning.specs.After.{schema_after}
 use Rattle.smo_meaning.specs.Past.{no_tables, tables_from}
 
--- what becomes of something over an operator that stands behind the tables, and back over the
+-- what becomes of something over an operator that stands after the tables, and back over the
 -- operator of version k where no inverse is named
 pub record Along (X : Type 0) : Type 0 where
   pub over : Tables → Operator → X → X
@@ -17,7 +18,7 @@ pub record Along (X : Type 0) : Type 0 where
 -- over operators, first to last
 abbrev pub over_each : {X : Type 0} → Along X → Tables → List Operator → X → X
 over_each by tables [] x = x
-over_each by tables (op ∷ ops) x = over_each by (behind tables op) ops (by.over tables op x)
+over_each by tables (op ∷ ops) x = over_each by (schema_after tables op) ops (by.over tables op x)
 
 -- Back over the operator of version k: over the operators of its inverse, first to last, where one
 -- is named. `before` and `after` are the tables on its two sides.
@@ -26,7 +27,7 @@ abbrev pub back_over : {X : Type 0} → Along X → ℕ → Tables → Operator 
 back_over by k before op after [] x = by.undone k before op x
 back_over by k before op after (i ∷ inverse) x = over_each by after (i ∷ inverse) x
 
--- over the operator of a version behind the tables, and back over it; where there is no such
+-- over the operator of a version after the tables, and back over it; where there is no such
 -- version nothing is done
 abbrev pub over_version : {X : Type 0} → Along X → Tables → Option PlainVersion → X → X
 over_version by before None x = x

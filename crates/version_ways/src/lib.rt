@@ -9,7 +9,7 @@ mod round_trips;
 pub use laws::{
     a_lost_table_may_be_taken_for_an_empty_one, a_step_is_over_its_version,
     names_tell_what_is_lost, the_way_is_step_by_step, the_way_keeps_a_database,
-    the_way_keeps_lawful_values, what_is_lost_has_no_named_inverse,
+    the_way_keeps_valid_values, what_is_lost_has_no_named_inverse,
 };
 pub use round_trips::{
     copied_and_dropped_is_as_before, partitioned_and_merged_is_as_before, renamed_back_is_as_before,

@@ -6,4 +6,5 @@ use Rattle.answer_text.proofs.explanation.add_all.Given as goal
 
 abbrev pub invariant-loop-explained : goal.invariant-loop-explained
 invariant-loop-explained l =
-    l.lines.items ++ flat_map explained_text (all_explained (drop l.explained-index l.list)) ≡ l.initial.lines.items ++ flat_map explained_text (all_explained l.list)
+    l.lines.items ++ flat_map explained_text (all_explained (drop l.explained-index l.list))
+    ≡ l.initial.lines.items ++ flat_map explained_text (all_explained l.list)

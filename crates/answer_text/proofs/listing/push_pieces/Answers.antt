@@ -9,7 +9,8 @@ pub returns-in_err-push-clause-part : goal.returns-in_err-push-clause-part
 returns-in_err-push-clause-part g c =
     let i = c.loop-i.invariant in
     let e = next_piece _ i.0 _ _ i.1 c.loop-i-test.true c.if-b-eq39.true i.4 in
-    on_err _ _ (less_within _ _ _ _ _ i.0 _ _ _ i.3 c.in_err-push.ensures.part (e ∙ append_assoc i.0 _ _))
+    on_err _ _ (less_within _ _ _ _ _ i.0 _ _ _ i.3 c.in_err-push.ensures.part
+    (e ∙ append_assoc i.0 _ _))
 
 pub loop-i-preserved : goal.loop-i-preserved
 loop-i-preserved g c =
@@ -41,4 +42,5 @@ pub returns-clause-part : goal.returns-clause-part
 returns-clause-part g c =
     let i = c.loop-i.invariant in
     let e = last_piece _ i.0 _ _ c.loop-i.auto.i-end c.loop-i-test.false i.4 in
-    on_err_weaker c.push-2.result (λ q. less_within _ _ _ _ _ _ _ [] _ i.3 q (e ∙ ap (λ l. i.0 ++ l) (sym (append-nil _)))) c.push-2.ensures.part
+    on_err_weaker c.push-2.result (λ q. less_within _ _ _ _ _ _ _ [] _ i.3 q
+    (e ∙ ap (λ l. i.0 ++ l) (sym (append-nil _)))) c.push-2.ensures.part

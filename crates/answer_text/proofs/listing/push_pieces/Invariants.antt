@@ -8,4 +8,5 @@ invariant-loop-i g l = (sent : List ℕ)
     × (l.start ≤ l.i)
     × (g.K.Sink.faults l.sink ≡ g.K.Sink.faults l.initial.sink)
     × Gathers (g.K.Sink.written l.initial.sink) l.initial.line (g.K.Sink.written l.sink) l.line sent
-    × (doubled l.bytes ≡ sent ++ (take (l.i - l.start) (drop l.start l.bytes) ++ doubled (drop l.i l.bytes)))
+    × (doubled l.bytes ≡ sent ++ (take (l.i - l.start) (drop l.start l.bytes)
+    ++ doubled (drop l.i l.bytes)))

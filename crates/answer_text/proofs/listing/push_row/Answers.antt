@@ -3,25 +3,30 @@ use Rattle.std.specs.Prelude.{map}
 use Rattle.std.proofs.lemmas.Result.{on_ok_weaker, on_err_weaker}
 use Rattle.prima_base.specs.Order.{shown}
 use Rattle.answer_text.specs.Texts.{head_text, values_text}
-use Rattle.answer_text.proofs.Gathered.{on_err, more, less_longer, less_within, less_behind}
+use Rattle.answer_text.proofs.Gathered.{on_err, more, less_longer, less_within, less_gathered}
 use Rattle.answer_text.proofs.listing.push_row.Goals as goal
 
 pub returns-in_err-push_head-clause-part : goal.returns-in_err-push_head-clause-part
-returns-in_err-push_head-clause-part g c = on_err _ _ (less_longer _ _ _ _ c.in_err-push_head.ensures.part)
+returns-in_err-push_head-clause-part g c = on_err _ _
+    (less_longer _ _ _ _ c.in_err-push_head.ensures.part)
 
 pub returns-in_err-push_values-clause-part : goal.returns-in_err-push_values-clause-part
 returns-in_err-push_values-clause-part g c =
     let p = c.in_ok-push_head.ensures.all in
     let h = head_text c.args.told c.args.row.now.period.start c.args.row.now.period.end in
     let v = values_text (map shown c.args.row.now.values.items) in
-    on_err _ _ (less_within _ _ _ _ _ h v (codes "\n") _ p (rw c.deref.ensures.value at c.in_err-push_values.ensures.part) (append_assoc h v (codes "\n")))
+    on_err _ _ (less_within _ _ _ _ _ h v (codes "\n") _ p
+    (rw c.deref.ensures.value at c.in_err-push_values.ensures.part)
+    (append_assoc h v (codes "\n")))
 
 pub returns-clause-all : goal.returns-clause-all
 returns-clause-all g c =
-    let p = more _ _ _ _ _ _ _ _ c.in_ok-push_head.ensures.all (rw c.deref.ensures.value at c.in_ok-push_values.ensures.all) in
+    let p = more _ _ _ _ _ _ _ _ c.in_ok-push_head.ensures.all
+    (rw c.deref.ensures.value at c.in_ok-push_values.ensures.all) in
     on_ok_weaker c.push.result (more _ _ _ _ _ _ _ (codes "\n") p) c.push.ensures.all
 
 pub returns-clause-part : goal.returns-clause-part
 returns-clause-part g c =
-    let p = more _ _ _ _ _ _ _ _ c.in_ok-push_head.ensures.all (rw c.deref.ensures.value at c.in_ok-push_values.ensures.all) in
-    on_err_weaker c.push.result (less_behind _ _ _ _ _ _ (codes "\n") p) c.push.ensures.part
+    let p = more _ _ _ _ _ _ _ _ c.in_ok-push_head.ensures.all
+    (rw c.deref.ensures.value at c.in_ok-push_values.ensures.all) in
+    on_err_weaker c.push.result (less_gathered _ _ _ _ _ _ (codes "\n") p) c.push.ensures.part

@@ -8,7 +8,8 @@ use Rattle.answer_text.proofs.listing.push_rows.Goals as goal
 pub returns-in_err-push_row-clause-part : goal.returns-in_err-push_row-clause-part
 returns-in_err-push_row-clause-part g c =
     let i = c.loop-row.invariant in
-    let e = next_text (row_text c.args.told) entry_of _ _ _ i.0 c.loop-row-test.true c.row-item.is i.3 in
+    let e = next_text (row_text c.args.told) entry_of _ _ _ i.0 c.loop-row-test.true c.row-item.is
+    i.3 in
     on_err _ _ (less_within _ _ _ _ _ i.0 _ _ _ i.2 c.in_err-push_row.ensures.part e)
 
 pub loop-row-preserved : goal.loop-row-preserved

@@ -9,4 +9,5 @@ abbrev pub invariant-loop-row : goal.invariant-loop-row
 invariant-loop-row g l = (sent : List ℕ)
     × (g.K.Sink.faults l.sink ≡ g.K.Sink.faults l.initial.sink)
     × Gathers (g.K.Sink.written l.initial.sink) l.initial.line (g.K.Sink.written l.sink) l.line sent
-    × (flat_map (row_text l.told) (entries_of l.rows) ≡ sent ++ flat_map (row_text l.told) (entries_of (drop l.row-index l.rows)))
+    × (flat_map (row_text l.told) (entries_of l.rows) ≡ sent
+    ++ flat_map (row_text l.told) (entries_of (drop l.row-index l.rows)))

@@ -8,7 +8,8 @@ use Rattle.answer_text.proofs.listing.push_values.Goals as goal
 pub returns-in_err-push_value-clause-part : goal.returns-in_err-push_value-clause-part
 returns-in_err-push_value-clause-part g c =
     let i = c.loop-value.invariant in
-    let e = next_text (λ v. codes " " ++ value_text v) shown _ _ _ i.0 c.loop-value-test.true c.value-item.is i.3 in
+    let e = next_text (λ v. codes " " ++ value_text v) shown _ _ _ i.0 c.loop-value-test.true
+    c.value-item.is i.3 in
     on_err _ _ (less_within _ _ _ _ _ i.0 _ _ _ i.2 c.in_err-push_value.ensures.part e)
 
 pub loop-value-preserved : goal.loop-value-preserved
@@ -17,5 +18,6 @@ loop-value-preserved g c =
       _,
       c.in_ok-push_value.ensures.cause.kept ∙ i.1,
       more _ _ _ _ _ _ _ _ i.2 c.in_ok-push_value.ensures.all,
-      sent_text (λ v. codes " " ++ value_text v) shown _ _ _ i.0 c.loop-value-test.true c.value-item.is i.3,
+      sent_text (λ v. codes " " ++ value_text v) shown _ _ _ i.0 c.loop-value-test.true
+          c.value-item.is i.3,
     )

@@ -9,4 +9,5 @@ abbrev pub invariant-loop-value : goal.invariant-loop-value
 invariant-loop-value g l = (sent : List ℕ)
     × (g.K.Sink.faults l.sink ≡ g.K.Sink.faults l.initial.sink)
     × Gathers (g.K.Sink.written l.initial.sink) l.initial.line (g.K.Sink.written l.sink) l.line sent
-    × (values_text (map shown l.values) ≡ sent ++ values_text (map shown (drop l.value-index l.values)))
+    × (values_text (map shown l.values) ≡ sent
+    ++ values_text (map shown (drop l.value-index l.values)))

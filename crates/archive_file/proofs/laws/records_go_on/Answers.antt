@@ -1,14 +1,16 @@
-use Rattle.archive_file.proofs.Records.{behind_append, behind_commands, behind_image, accepted_append, accepted_commands, accepted_image, counted, replayed_behind, from_image}
+use Rattle.archive_file.proofs.Records.{after_append, after_commands, after_image, accepted_append}
+use Rattle.archive_file.proofs.Records.{accepted_commands, accepted_image, counted, replayed_after}
+use Rattle.archive_file.proofs.Records.{from_image}
 use Rattle.archive_file.proofs.laws.records_go_on.Goals as goal
 
 pub returns-clause-past : goal.returns-clause-past
-returns-clause-past c = behind_append
+returns-clause-past c = after_append
 
 pub returns-clause-commands : goal.returns-clause-commands
-returns-clause-commands c = behind_commands
+returns-clause-commands c = after_commands
 
 pub returns-clause-image : goal.returns-clause-image
-returns-clause-image c = behind_image
+returns-clause-image c = after_image
 
 pub returns-clause-accepted : goal.returns-clause-accepted
 returns-clause-accepted c = accepted_append
@@ -23,7 +25,7 @@ pub returns-clause-counted : goal.returns-clause-counted
 returns-clause-counted c = counted
 
 pub returns-clause-replayed : goal.returns-clause-replayed
-returns-clause-replayed c = replayed_behind
+returns-clause-replayed c = replayed_after
 
 pub returns-clause-from_image : goal.returns-clause-from_image
 returns-clause-from_image c = from_image

@@ -1,5 +1,6 @@
 use Rattle.smo_meaning.specs.Past.{beginning}
-use Rattle.archive_file.proofs.Records.{sound_history, sound_past, sound_accepted, sound_front, sound_append}
+use Rattle.archive_file.proofs.Records.{sound_history, sound_past, sound_accepted, sound_prefix}
+use Rattle.archive_file.proofs.Records.{sound_append}
 use Rattle.archive_file.proofs.laws.sound_records_are_a_history.Goals as goal
 
 pub returns-clause-history : goal.returns-clause-history
@@ -11,8 +12,8 @@ returns-clause-past c = sound_past
 pub returns-clause-accepted : goal.returns-clause-accepted
 returns-clause-accepted c = sound_accepted
 
-pub returns-clause-front : goal.returns-clause-front
-returns-clause-front c = sound_front
+pub returns-clause-prefix : goal.returns-clause-prefix
+returns-clause-prefix c = sound_prefix
 
 pub returns-clause-more : goal.returns-clause-more
 returns-clause-more c = sound_append

@@ -7,12 +7,21 @@ use Rattle.command_codec.proofs.command_reader.changes.Goals as goal
 pub returns-in_err-change : goal.returns-in_err-change
 unfolding changes
 returns-in_err-change c =
-    let f = err_from_is_err_and c.from_residual-in_err-change.result c.from_residual-in_err-change.ensures.1 in
-    rw (f.1, f.2) (no_counted_item change 4 4294967295 c.in_ok-count.count c.loop.counter c.args.reader.now.rest.now c.number.new.self.rest.now c.loop.reader.rest.now _ c.in_ok-count.ensures.reads c.loop.invariant c.in_err-change.field-0.0 c.change.new.reader.rest.now c.loop-test.true c.in_err-change.ensures)
+    let f = err_from_is_err_and c.from_residual-in_err-change.result
+    c.from_residual-in_err-change.ensures.1 in
+    rw (f.1, f.2) (no_counted_item change 4 4294967295 c.in_ok-count.count c.loop.counter
+    c.args.reader.now.rest.now c.number.new.self.rest.now c.loop.reader.rest.now _
+    c.in_ok-count.ensures.reads c.loop.invariant c.in_err-change.field-0.0
+    c.change.new.reader.rest.now c.loop-test.true c.in_err-change.ensures)
 
 pub loop-preserved : goal.loop-preserved
-loop-preserved c = one_pushed change_of change c.in_ok-count.count c.loop.counter c.number.new.self.rest.now c.loop.reader.rest.now c.loop.list.items c.loop.invariant c.push.new.self.items c.in_ok-change.field-0 c.change.new.reader.rest.now c.in_ok-push.ensures.items c.loop-test.true c.in_ok-change.ensures
+loop-preserved c = one_pushed change_of change c.in_ok-count.count c.loop.counter
+    c.number.new.self.rest.now c.loop.reader.rest.now c.loop.list.items c.loop.invariant
+    c.push.new.self.items c.in_ok-change.field-0 c.change.new.reader.rest.now
+    c.in_ok-push.ensures.items c.loop-test.true c.in_ok-change.ensures
 
 pub returns : goal.returns
 unfolding changes
-returns c = all_counted change 4 4294967295 c.in_ok-count.count c.loop.counter c.args.reader.now.rest.now c.number.new.self.rest.now c.loop.reader.rest.now _ c.in_ok-count.ensures.reads c.loop.invariant c.loop-test.false
+returns c = all_counted change 4 4294967295 c.in_ok-count.count c.loop.counter
+    c.args.reader.now.rest.now c.number.new.self.rest.now c.loop.reader.rest.now _
+    c.in_ok-count.ensures.reads c.loop.invariant c.loop-test.false

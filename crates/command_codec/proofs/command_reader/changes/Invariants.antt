@@ -5,4 +5,5 @@ use Rattle.command_codec.proofs.ListSteps.{SoMany}
 use Rattle.command_codec.proofs.command_reader.changes.Given as goal
 
 abbrev pub invariant-loop : goal.invariant-loop
-invariant-loop l = SoMany change l.count (l.count - l.counter) l.initial.reader.rest.now l.reader.rest.now (map change_of l.list.items)
+invariant-loop l = SoMany change l.count (l.count - l.counter) l.initial.reader.rest.now
+    l.reader.rest.now (map change_of l.list.items)

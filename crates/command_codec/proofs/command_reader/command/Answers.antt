@@ -4,6 +4,7 @@ use Rattle.command_codec.proofs.command_reader.command.Goals as goal
 
 pub unreachable-requires : goal.unreachable-requires
 unreachable-requires c =
-    let small = number_small 18446744073709551614 8 c.in_ok-stamp.stamp c.args.reader.now.rest.now c.number.new.self.rest.now (omega arith) c.in_ok-stamp.ensures.reads in
+    let small = number_small 18446744073709551614 8 c.in_ok-stamp.stamp c.args.reader.now.rest.now
+    c.number.new.self.rest.now (omega arith) c.in_ok-stamp.ensures.reads in
     let late = c.in-None.ensures in
     omega (arith, small, late)

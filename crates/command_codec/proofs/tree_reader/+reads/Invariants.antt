@@ -41,7 +41,9 @@ abbrev pub decreases-conds : goal.decreases-conds
 decreases-conds l = 4 * l.levels + 1
 
 abbrev pub invariant-exprs-loop : goal.invariant-exprs-loop
-invariant-exprs-loop l = SoMany (level l.levels).expr l.count (l.count - l.counter) l.fn.reader.rest.now l.reader.rest.now (map tree l.list.items)
+invariant-exprs-loop l = SoMany (level l.levels).expr l.count (l.count - l.counter)
+    l.fn.reader.rest.now l.reader.rest.now (map tree l.list.items)
 
 abbrev pub invariant-conds-loop : goal.invariant-conds-loop
-invariant-conds-loop l = SoMany (level l.levels).cond l.count (l.count - l.counter) l.fn.reader.rest.now l.reader.rest.now (map test l.list.items)
+invariant-conds-loop l = SoMany (level l.levels).cond l.count (l.count - l.counter)
+    l.fn.reader.rest.now l.reader.rest.now (map test l.list.items)

@@ -6,6 +6,8 @@ use Rattle.command_encoder.proofs.operator_writer.write_each_column.Given as goa
 
 abbrev pub invariant-loop-column : goal.invariant-loop-column
 invariant-loop-column l = record {
-  written : l.out.items ++ flat_map column_bytes (drop l.column-index l.columns) ≡ l.initial.out.items ++ flat_map column_bytes l.columns;
-  named : AllByRecursion (λ c. IsName c.0) (drop l.column-index l.columns) → AllByRecursion (λ c. IsName c.0) l.columns;
+  written : l.out.items ++ flat_map column_bytes (drop l.column-index l.columns)
+      ≡ l.initial.out.items ++ flat_map column_bytes l.columns;
+  named : AllByRecursion (λ c. IsName c.0) (drop l.column-index l.columns)
+      → AllByRecursion (λ c. IsName c.0) l.columns;
 }

@@ -6,6 +6,7 @@ use Rattle.command_encoder.proofs.operator_writer.write_each_name.Given as goal
 
 abbrev pub invariant-loop-name : goal.invariant-loop-name
 invariant-loop-name l = record {
-  written : l.out.items ++ flat_map name_bytes (drop l.name-index l.names) ≡ l.initial.out.items ++ flat_map name_bytes l.names;
+  written : l.out.items ++ flat_map name_bytes (drop l.name-index l.names) ≡ l.initial.out.items
+      ++ flat_map name_bytes l.names;
   named : AllByRecursion IsName (drop l.name-index l.names) → AllByRecursion IsName l.names;
 }

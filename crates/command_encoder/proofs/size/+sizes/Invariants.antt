@@ -5,12 +5,16 @@ use Rattle.command_encoder.proofs.size.+sizes.Given as goal
 
 abbrev pub invariant-exprs_size-loop-part : goal.invariant-exprs_size-loop-part
 invariant-exprs_size-loop-part l = record {
-  counted : min (length (trees_bytes (trees_of (map tree l.list)))) 18446744073709551615 ≡ min (l.size + length (trees_bytes (trees_of (map tree (drop l.part-index l.list))))) 18446744073709551615;
+  counted : min (length (trees_bytes (trees_of (map tree l.list)))) 18446744073709551615
+      ≡ min (l.size + length (trees_bytes (trees_of (map tree (drop l.part-index l.list)))))
+      18446744073709551615;
   fits : l.size ≤ 18446744073709551615;
 }
 
 abbrev pub invariant-conds_size-loop-part : goal.invariant-conds_size-loop-part
 invariant-conds_size-loop-part l = record {
-  counted : min (length (tests_bytes (tests_of (map test l.list)))) 18446744073709551615 ≡ min (l.size + length (tests_bytes (tests_of (map test (drop l.part-index l.list))))) 18446744073709551615;
+  counted : min (length (tests_bytes (tests_of (map test l.list)))) 18446744073709551615
+      ≡ min (l.size + length (tests_bytes (tests_of (map test (drop l.part-index l.list)))))
+      18446744073709551615;
   fits : l.size ≤ 18446744073709551615;
 }

@@ -5,6 +5,7 @@ use Rattle.command_encoder.proofs.size.names_size.Given as goal
 
 abbrev pub invariant-loop-item : goal.invariant-loop-item
 invariant-loop-item l = record {
-  counted : min (length (flat_map name_bytes l.list)) 18446744073709551615 ≡ min (l.size + length (flat_map name_bytes (drop l.item-index l.list))) 18446744073709551615;
+  counted : min (length (flat_map name_bytes l.list)) 18446744073709551615
+      ≡ min (l.size + length (flat_map name_bytes (drop l.item-index l.list))) 18446744073709551615;
   fits : l.size ≤ 18446744073709551615;
 }

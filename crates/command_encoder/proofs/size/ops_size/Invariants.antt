@@ -6,6 +6,8 @@ use Rattle.command_encoder.proofs.size.ops_size.Given as goal
 
 abbrev pub invariant-loop-item : goal.invariant-loop-item
 invariant-loop-item l = record {
-  counted : min (length (flat_map operator_bytes (operators_of l.list))) 18446744073709551615 ≡ min (l.size + length (flat_map operator_bytes (operators_of (drop l.item-index l.list)))) 18446744073709551615;
+  counted : min (length (flat_map operator_bytes (operators_of l.list))) 18446744073709551615
+      ≡ min (l.size + length (flat_map operator_bytes (operators_of (drop l.item-index l.list))))
+      18446744073709551615;
   fits : l.size ≤ 18446744073709551615;
 }

@@ -1,5 +1,5 @@
 use Rattle.command_spelling.specs.Spelling.{command_bytes}
-use Rattle.command_spelling.specs.Lawful.{IsCommand}
+use Rattle.command_spelling.specs.Valid.{IsCommand}
 use Rattle.command_spelling.proofs.Deciding.{one_spelling, its_own}
 use Rattle.command_spelling.proofs.laws.a_command_has_one_spelling.Goals as goal
 

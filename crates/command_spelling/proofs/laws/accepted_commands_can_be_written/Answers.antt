@@ -5,4 +5,5 @@ pub returns-clause-tables : goal.returns-clause-tables
 returns-clause-tables c = accepted_writable
 
 pub returns-clause-past : goal.returns-clause-past
-returns-clause-past c = λ past command made accepted. accepted_writable past command made.tables accepted
+returns-clause-past c = λ past command made accepted.
+    accepted_writable past command made.tables accepted

@@ -1,16 +1,16 @@
 use Rattle.prima_base.specs.Bytes.{IsName}
 use Rattle.command_spelling.specs.Spelling.{name_bytes, value_bytes, operator_bytes, command_bytes}
-use Rattle.command_spelling.specs.Lawful.{IsValue, IsOperator, IsCommand}
+use Rattle.command_spelling.specs.Valid.{IsValue, IsOperator, IsCommand}
 use Rattle.command_spelling.specs.Reader.{name, value, operator, command}
-use Rattle.command_spelling.proofs.PartFormats.{name_good, value_good}
-use Rattle.command_spelling.proofs.CommandFormats.{operator_good, command_good}
+use Rattle.command_spelling.proofs.PartFormats.{name_correct, value_correct}
+use Rattle.command_spelling.proofs.CommandFormats.{operator_correct, command_correct}
 use Rattle.command_spelling.proofs.Deciding.{no_prefix}
 use Rattle.command_spelling.proofs.laws.no_spelling_is_a_prefix.Goals as goal
 
 pub returns : goal.returns
 returns c = record {
-  command = no_prefix command IsCommand command_bytes command_good;
-  name = no_prefix name IsName name_bytes name_good;
-  value = no_prefix value IsValue value_bytes value_good;
-  operator = no_prefix operator IsOperator operator_bytes operator_good;
+  command = no_prefix command IsCommand command_bytes command_correct;
+  name = no_prefix name IsName name_bytes name_correct;
+  value = no_prefix value IsValue value_bytes value_correct;
+  operator = no_prefix operator IsOperator operator_bytes operator_correct;
 }

@@ -1,6 +1,11 @@
-use Rattle.command_spelling.proofs.PartFormats.{name_good, value_good}
-use Rattle.command_spelling.proofs.CommandFormats.{operator_good, command_good}
+use Rattle.command_spelling.proofs.PartFormats.{name_correct, value_correct}
+use Rattle.command_spelling.proofs.CommandFormats.{operator_correct, command_correct}
 use Rattle.command_spelling.proofs.laws.parts_are_read.Goals as goal
 
 pub returns : goal.returns
-returns c = record { name = name_good; value = value_good; operator = operator_good; command = command_good }
+returns c = record {
+  name = name_correct;
+  value = value_correct;
+  operator = operator_correct;
+  command = command_correct;
+}

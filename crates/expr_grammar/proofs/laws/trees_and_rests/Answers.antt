@@ -1,4 +1,4 @@
-use Rattle.expr_grammar.proofs.Fronts.{determine_expr, determine_cond}
+use Rattle.expr_grammar.proofs.Prefixes.{determine_expr, determine_cond}
 use Rattle.expr_grammar.proofs.laws.trees_and_rests.Goals as goal
 
 pub returns : goal.returns

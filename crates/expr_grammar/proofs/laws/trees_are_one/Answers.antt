@@ -1,10 +1,10 @@
 use Rattle.expr_grammar.specs.Grammar.{IsExpr, IsCond}
-use Rattle.expr_grammar.specs.Reader.{goes_expr, goes_cond}
+use Rattle.expr_grammar.specs.Reader.{follow_expr, follow_cond}
 use Rattle.expr_grammar.proofs.Unambiguous.{once, only_expr, only_cond}
 use Rattle.expr_grammar.proofs.laws.trees_are_one.Goals as goal
 
 pub returns : goal.returns
 returns c = record {
-  expr = λ q a b s t f h k. once (IsExpr q) (goes_expr q) a b s t f k (only_expr q a s f h);
-  cond = λ q a b s t f h k. once (IsCond q) (goes_cond q) a b s t f k (only_cond q a s f h);
+  expr = λ q a b s t f h k. once (IsExpr q) (follow_expr q) a b s t f k (only_expr q a s f h);
+  cond = λ q a b s t f h k. once (IsCond q) (follow_cond q) a b s t f k (only_cond q a s f h);
 }

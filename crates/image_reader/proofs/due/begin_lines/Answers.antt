@@ -13,10 +13,15 @@ use Rattle.image_reader.proofs.due.begin_lines.Goals as goal
 pub loop-i-preserved : goal.loop-i-preserved
 loop-i-preserved c =
     let es = entries c.args.schema.now in
-    let begun = map (line_begun c.args.version) (filter (λ (e : List ℕ × List Column). is_one_of c.args.names e.0) (take c.loop-i.i es)) in
-    c.in_ok-begin_line.ensures ∙ ap (λ l. l ++ begun_of (is_one_of c.args.names) c.args.version c.in-Some.table.now) c.loop-i.invariant
-    ∙ append_assoc (map line_seen c.args.lines.now.items) begun (begun_of (is_one_of c.args.names) c.args.version c.in-Some.table.now)
-    ∙ ap (λ l. map line_seen c.args.lines.now.items ++ l) (begun_more (is_one_of c.args.names) c.args.version es c.loop-i.i c.in-Some.table.now c.in-Some.ensures.table)
+    let begun = map (line_begun c.args.version)
+    (filter (λ (e : List ℕ × List Column). is_one_of c.args.names e.0) (take c.loop-i.i es)) in
+    c.in_ok-begin_line.ensures ∙ ap (λ l. l ++ begun_of (is_one_of c.args.names) c.args.version
+    c.in-Some.table.now) c.loop-i.invariant
+    ∙ append_assoc (map line_seen c.args.lines.now.items) begun
+    (begun_of (is_one_of c.args.names) c.args.version c.in-Some.table.now)
+    ∙ ap (λ l. map line_seen c.args.lines.now.items ++ l)
+    (begun_more (is_one_of c.args.names) c.args.version es c.loop-i.i c.in-Some.table.now
+    c.in-Some.ensures.table)
 
 pub returns : goal.returns
 returns c =
@@ -26,4 +31,7 @@ returns c =
     let j = c.in-Ok.ensures.1 in
     let t = c.loop-i-test.false in
     c.loop-i.invariant
-    ∙ ap (λ l. map line_seen c.args.lines.now.items ++ map (line_begun c.args.version) (filter (λ (e : List ℕ × List Column). is_one_of c.args.names e.0) l)) (take_all c.loop-i.i es (omega (arith, n, k, j, t)))
+    ∙ ap (λ l. map line_seen c.args.lines.now.items
+    ++ map (line_begun c.args.version) (filter
+    (λ (e : List ℕ × List Column). is_one_of c.args.names e.0) l))
+    (take_all c.loop-i.i es (omega (arith, n, k, j, t)))

@@ -8,4 +8,6 @@ use Rattle.image_reader.proofs.due.due_lines.Given as goal
 -- the tables before the next version
 abbrev pub invariant-loop-before : goal.invariant-loop-before
 invariant-loop-before l =
-    (tables : Tables) × (lifelines_of (map version_of l.versions.list.items) ≡ lifelines_from tables l.before (map line_seen l.lines.items) (map version_of (drop l.before l.versions.list.items)))
+    (tables : Tables) × (lifelines_of (map version_of l.versions.list.items)
+    ≡ lifelines_from tables l.before (map line_seen l.lines.items)
+    (map version_of (drop l.before l.versions.list.items)))

@@ -1,5 +1,5 @@
 use Rattle.std.proofs.Common.{◌≡◌, sym, ap, ◌∙◌, []}
-use Rattle.command_spelling.specs.Reading.{Got, Stuck}
+use Rattle.command_spelling.specs.Reading.{Parsed, Unexpected}
 use Rattle.image_spelling.specs.Reader.{image}
 use Rattle.image_spelling.proofs.ReadParts.{image_read}
 use Rattle.image_spelling.proofs.ReadImages.{image_is_read}
@@ -10,7 +10,10 @@ pub returns-clause-place : goal.returns-clause-place
 returns-clause-place c = stuck_in_bytes
 
 pub returns-clause-none : goal.returns-clause-none
-returns-clause-none c = λ bytes rest e i h q. (let z : Stuck rest ≡ Got i [] = sym e ∙ ap image q ∙ image_read i (image_is_read i h) in absurd (cc))
+returns-clause-none c = λ bytes rest e i h q.
+    (let z : Unexpected rest ≡ Parsed i [] = sym e ∙ ap image q
+    ∙ image_read i (image_is_read i h) in absurd (cc))
 
 pub returns-clause-one : goal.returns-clause-one
-returns-clause-one c = λ i j h k q. (let z : Got i [] ≡ Got j [] = sym (image_read i (image_is_read i h)) ∙ ap image q ∙ image_read j (image_is_read j k) in cc)
+returns-clause-one c = λ i j h k q. (let z : Parsed i [] ≡ Parsed j [] =
+    sym (image_read i (image_is_read i h)) ∙ ap image q ∙ image_read j (image_is_read j k) in cc)

@@ -4,10 +4,10 @@ use Rattle.std.proofs.lemmas.Result.{IfOk-weaker}
 use Rattle.relations.specs.Choices.{choices}
 use Rattle.relations.specs.Sets.{set_of}
 use Rattle.relations.specs.Timed.{Entry, at}
-use Rattle.prima_base.specs.declared.values.Value.{Value}
+use Rattle.prima_base.specs.declared.value.Value.{Value}
 use Rattle.prima_base.specs.Order.{row_cmp}
 use Rattle.prima_base.specs.Timed.{entries_of}
-use Rattle.cond_expr.specs.declared.exprs.Column.{Column}
+use Rattle.cond_expr.specs.declared.expr.Column.{Column}
 use Rattle.cond_expr.specs.Seen.{tree, test}
 use Rattle.timed_choices.specs.Answering.{one_row, outputs}
 use Rattle.timed_choices.specs.Fitting.{Fit}
@@ -16,18 +16,24 @@ use Rattle.joining.proofs.SingleAtoms.{answered_at, unanswered_at}
 use Rattle.joining.proofs.single_atom.answer_atom.Goals as goal
 
 pub answered_rows-requires : goal.answered_rows-requires
-answered_rows-requires c = subst (λ (cs : List Column). Fit (length cs) (entries_of c.args.atom.rows.items)) (sym c.deref.ensures.value) c.args.atom.fit
+answered_rows-requires c = subst (λ (cs : List Column).
+    Fit (length cs) (entries_of c.args.atom.rows.items)) (sym c.deref.ensures.value) c.args.atom.fit
 
 pub returns-clause-inside : goal.returns-clause-inside
 returns-clause-inside c = λ m h. IfOk-weaker c.answered_rows.result _ _
     (λ rows q. ap (λ (es : List (Entry (List Value))). at row_cmp es m) q
-    ∙ unanswered_at c.deref.result.now (map tree c.args.outs.now) (test c.args.cond.now) c.args.slice (entries_of c.args.atom.rows.items) m h)
+    ∙ unanswered_at c.deref.result.now (map tree c.args.outs.now) (test c.args.cond.now)
+    c.args.slice (entries_of c.args.atom.rows.items) m h)
     c.answered_rows.ensures.rows
 
 pub returns-clause-rows : goal.returns-clause-rows
 returns-clause-rows c = λ m h. IfOk-weaker c.answered_rows.result _ _
     (λ rows q. ap (λ (es : List (Entry (List Value))). at row_cmp es m) q
-    ∙ answered_at c.deref.result.now (map tree c.args.outs.now) (test c.args.cond.now) c.args.slice (entries_of c.args.atom.rows.items) m h
-    ∙ ap (λ (cs : List Column). set_of row_cmp (map (outputs (cs ++ []) (map tree c.args.outs.now)) (filter (meets (cs ++ []) (test c.args.cond.now)) (map one_row (choices (at row_cmp (entries_of c.args.atom.rows.items) m ∷ []))))))
+    ∙ answered_at c.deref.result.now (map tree c.args.outs.now) (test c.args.cond.now) c.args.slice
+    (entries_of c.args.atom.rows.items) m h
+    ∙ ap (λ (cs : List Column). set_of row_cmp
+    (map (outputs (cs ++ []) (map tree c.args.outs.now))
+    (filter (meets (cs ++ []) (test c.args.cond.now))
+    (map one_row (choices (at row_cmp (entries_of c.args.atom.rows.items) m ∷ []))))))
     c.deref.ensures.value)
     c.answered_rows.ensures.rows

@@ -6,7 +6,8 @@ use Rattle.journal.proofs.put_list.mount_and_put.Goals as goal
 pub returns-in-Err-clause-any_moment : goal.returns-in-Err-clause-any_moment
 returns-in-Err-clause-any_moment g c =
     let M = g.D.Disk.meaning in
-    refused (M c.args.disk) (M c.in-Err.disk) (min c.args.limit (2 ^ 64 - 2)) (records_of c.args.list.now) _
+    refused (M c.args.disk) (M c.in-Err.disk) (min c.args.limit (2 ^ 64 - 2))
+    (records_of c.args.list.now) _
     c.in-Err.ensures.turns_err
 
 pub returns-in-Err-clause-unmounted : goal.returns-in-Err-clause-unmounted

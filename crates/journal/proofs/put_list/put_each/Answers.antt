@@ -22,7 +22,8 @@ returns-in-Err-Disk-clause-any_moment g c opening honest stands file left =
     let next = place_of last + 10 + length (sealed_record it).1 in
     let not_full : IsNotFull c.put.result = subst IsNotFull
     (sym (c.in-Err-Disk.is ∙ ap Err c.in-Err-Disk.field-0-is)) tt in
-    let fits = fits_unless_full c.put.result (limit_of last) (place_of last + needs (sealed_record it))
+    let fits = fits_unless_full c.put.result (limit_of last)
+    (place_of last + needs (sealed_record it))
     _ _ _ not_full c.put.ensures.full.1 in
     let here = step_in (limit_of start) (place_of last) list
     c.loop-sealed.sealed-index it c.loop-sealed-test.true c.sealed-item.is (drop done whole) i.rest
@@ -44,7 +45,8 @@ returns-in-Err-Disk-clause-stopped g c opening honest stands file left =
     let next = place_of last + 10 + length (sealed_record it).1 in
     let not_full : IsNotFull c.put.result = subst IsNotFull
     (sym (c.in-Err-Disk.is ∙ ap Err c.in-Err-Disk.field-0-is)) tt in
-    let fits = fits_unless_full c.put.result (limit_of last) (place_of last + needs (sealed_record it))
+    let fits = fits_unless_full c.put.result (limit_of last)
+    (place_of last + needs (sealed_record it))
     _ _ _ not_full c.put.ensures.full.1 in
     let here = step_in (limit_of start) (place_of last) list
     c.loop-sealed.sealed-index it c.loop-sealed-test.true c.sealed-item.is (drop done whole) i.rest
@@ -52,7 +54,7 @@ returns-in-Err-Disk-clause-stopped g c opening honest stands file left =
     failed_exit whole done (sealed_record it)
     (fitting (limit_of start) next (records_of (drop (c.loop-sealed.sealed-index + 1) list))) here
     (below start) (below last) (below c.put.new.self) (place_of last) opening honest
-    (i.have opening honest stands) c.put.ensures.puts (g.met.D.Disk.lawful c.put.new.self.disk)
+    (i.have opening honest stands) c.put.ensures.puts (g.met.D.Disk.valid c.put.new.self.disk)
     file left
 
 pub loop-sealed-preserved : goal.loop-sealed-preserved
@@ -68,7 +70,7 @@ loop-sealed-preserved g c =
     let done = c.loop-sealed.put in
     let r = sealed_record it in
     let whole = fitting (limit_of start) (place_of start) (records_of list) in
-    let behind = records_of (drop (at + 1) list) in
+    let after = records_of (drop (at + 1) list) in
     elim c.match-put.branch [
       | in-Ok w ↦
           let fits = fits_unless_full c.put.result (limit_of last) (place_of last + needs r) _ _ _
@@ -81,7 +83,7 @@ loop-sealed-preserved g c =
             limit = c.put.ensures.limit ∙ i.limit;
             goes = goes_trans _ _ _ i.goes c.put.ensures.puts.goes;
             unfailed = w.in-Ok.ensures.unfailed ∙ i.unfailed;
-            rest = subst (λ n. drop n whole ≡ fitting (limit_of start) (place_of new) behind)
+            rest = subst (λ n. drop n whole ≡ fitting (limit_of start) (place_of new) after)
                 (sym w.put-is) (rest_is whole done r _ here);
             within = omega (arith, w.put-is, inside whole done r _ here);
             counted = omega (arith, w.put-is, i.counted);
@@ -104,8 +106,8 @@ loop-sealed-preserved g c =
             limit = c.put.ensures.limit ∙ i.limit;
             goes = subst (λ d. GoesOn (below start) (M d)) (sym same.0) i.goes;
             unfailed = ap (λ d. (M d).faults) same.0 ∙ i.unfailed;
-            rest = subst (λ n. drop n whole ≡ fitting (limit_of start) (place_of new) behind)
-                (sym w.put-is) (out ∙ ap (λ n. fitting (limit_of start) n behind) (sym same.1));
+            rest = subst (λ n. drop n whole ≡ fitting (limit_of start) (place_of new) after)
+                (sym w.put-is) (out ∙ ap (λ n. fitting (limit_of start) n after) (sym same.1));
             within = omega (arith, w.put-is, i.within);
             counted = omega (arith, w.put-is, i.counted);
             have = λ opening honest stands.

@@ -13,7 +13,7 @@ returns-clause-found c =
     (c.from_be_bytes-len.ensures ∙ ap (from_be_bytes w64) (sym (eight rest long)))
     (omega (
       arith,
-      c.if-len-behind.false,
+      c.if-len-after.false,
       length-take (length rest - 9) (drop 9 rest),
       length-drop 9 rest,
     )) c.from_be_bytes-len.type_inv

@@ -1,5 +1,5 @@
 use Rattle.std.proofs.Common.{◌≡◌, ◌+◌, ◌-◌, ◌≤◌, ◌++◌, List, map, ◌*◌, codes}
-use Rattle.prima_base.specs.declared.refusals.What.TheVariants as what
+use Rattle.prima_base.specs.declared.refusal.What.TheVariants as what
 use Rattle.cond_expr.specs.Trees.{Tree, Test}
 use Rattle.cond_expr.specs.Seen.{tree, test}
 use Rattle.lexical_grammar.specs.Lexemes.{is_word, is_sign}
@@ -51,22 +51,36 @@ abbrev pub decreases-more_conjs : goal.decreases-more_conjs
 decreases-more_conjs l = 16 * l.depth + 8
 
 abbrev pub invariant-more_exprs-loop-alloc : goal.invariant-more_exprs-loop-alloc
-invariant-more_exprs-loop-alloc l = (l.left ≤ 7) × (read : List Tree) × (map tree l.parts.items ≡ map tree l.fn.parts.items ++ read) ×
-    (parsing.more (is_sign (codes ",")) what.Parts (spec.level l.qualified l.inner).expr 7 l.fn.c.nodes (ahead l.fn.c) ≡ parsing.prepend read (parsing.more (is_sign (codes ",")) what.Parts (spec.level l.qualified l.inner).expr l.left l.c.nodes (ahead l.c)))
+invariant-more_exprs-loop-alloc l = (l.left ≤ 7) × (read : List Tree)
+    × (map tree l.parts.items ≡ map tree l.fn.parts.items ++ read) ×
+    (parsing.more (is_sign (codes ",")) what.Parts (spec.level l.qualified l.inner).expr 7
+    l.fn.c.nodes (ahead l.fn.c) ≡ parsing.prepend read
+    (parsing.more (is_sign (codes ",")) what.Parts (spec.level l.qualified l.inner).expr l.left
+    l.c.nodes (ahead l.c)))
 
 abbrev pub decreases-more_exprs-loop-alloc : goal.decreases-more_exprs-loop-alloc
 decreases-more_exprs-loop-alloc l = l.left
 
 abbrev pub invariant-more_facts-loop-alloc : goal.invariant-more_facts-loop-alloc
-invariant-more_facts-loop-alloc l = (l.left ≤ 257) × (read : List Test) × (map test l.parts.items ≡ map test l.fn.parts.items ++ read) ×
-    (parsing.more (is_word (codes "AND")) what.Nodes (spec.level l.qualified l.depth).fact (257 - l.fn.c.nodes) l.fn.c.nodes (ahead l.fn.c) ≡ parsing.prepend read (parsing.more (is_word (codes "AND")) what.Nodes (spec.level l.qualified l.depth).fact l.left l.c.nodes (ahead l.c)))
+invariant-more_facts-loop-alloc l = (l.left ≤ 257) × (read : List Test)
+    × (map test l.parts.items ≡ map test l.fn.parts.items ++ read) ×
+    (parsing.more (is_word (codes "AND")) what.Nodes (spec.level l.qualified l.depth).fact
+    (257 - l.fn.c.nodes) l.fn.c.nodes (ahead l.fn.c)
+    ≡ parsing.prepend read (parsing.more (is_word (codes "AND")) what.Nodes
+    (spec.level l.qualified l.depth).fact l.left l.c.nodes (ahead l.c)))
 
 abbrev pub decreases-more_facts-loop-alloc : goal.decreases-more_facts-loop-alloc
 decreases-more_facts-loop-alloc l = l.left
 
 abbrev pub invariant-more_conjs-loop-alloc : goal.invariant-more_conjs-loop-alloc
-invariant-more_conjs-loop-alloc l = (l.left ≤ 257) × (read : List Test) × (map test l.parts.items ≡ map test l.fn.parts.items ++ read) ×
-    (parsing.more (is_word (codes "OR")) what.Nodes (spec.conj l.qualified (spec.can l.depth) (spec.inside l.qualified l.depth)) (257 - l.fn.c.nodes) l.fn.c.nodes (ahead l.fn.c) ≡ parsing.prepend read (parsing.more (is_word (codes "OR")) what.Nodes (spec.conj l.qualified (spec.can l.depth) (spec.inside l.qualified l.depth)) l.left l.c.nodes (ahead l.c)))
+invariant-more_conjs-loop-alloc l = (l.left ≤ 257) × (read : List Test)
+    × (map test l.parts.items ≡ map test l.fn.parts.items ++ read) ×
+    (parsing.more (is_word (codes "OR")) what.Nodes
+    (spec.conj l.qualified (spec.can l.depth) (spec.inside l.qualified l.depth))
+    (257 - l.fn.c.nodes) l.fn.c.nodes (ahead l.fn.c)
+    ≡ parsing.prepend read (parsing.more (is_word (codes "OR")) what.Nodes
+    (spec.conj l.qualified (spec.can l.depth) (spec.inside l.qualified l.depth)) l.left
+    l.c.nodes (ahead l.c)))
 
 abbrev pub decreases-more_conjs-loop-alloc : goal.decreases-more_conjs-loop-alloc
 decreases-more_conjs-loop-alloc l = l.left

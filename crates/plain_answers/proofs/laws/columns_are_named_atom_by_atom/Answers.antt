@@ -7,7 +7,9 @@ use Rattle.plain_answers.proofs.NameLaws.{in_names_at, from_names_at}
 use Rattle.plain_answers.proofs.laws.columns_are_named_atom_by_atom.Goals as goal
 
 pub returns-clause-members : goal.returns-clause-members
-returns-clause-members c = λ i references name. (from_names_at i references name, in_names_at i references name)
+returns-clause-members c = λ i references name.
+    (from_names_at i references name, in_names_at i references name)
 
 pub returns-clause-ascends : goal.returns-clause-ascends
-returns-clause-ascends c = λ i references. set_ascends bytes_cmp bytes_exact (written_names (filter (is_to i) references))
+returns-clause-ascends c = λ i references. set_ascends bytes_cmp bytes_exact
+    (written_names (filter (is_to i) references))

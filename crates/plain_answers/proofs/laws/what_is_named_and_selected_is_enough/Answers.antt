@@ -9,7 +9,8 @@ use Rattle.plain_answers.proofs.laws.what_is_named_and_selected_is_enough.Goals 
 
 pub returns-clause-answers : goal.returns-clause-answers
 returns-clause-answers c = λ columns relations outs test reads a b e.
-    set_same row_cmp row_exact (answers_over (read_columns reads columns) (read_rows reads columns relations) outs test) (answers_over columns relations outs test)
+    set_same row_cmp row_exact (answers_over (read_columns reads columns)
+    (read_rows reads columns relations) outs test) (answers_over columns relations outs test)
     (same_answers outs test reads columns relations a b e)
 
 pub returns-clause-branches : goal.returns-clause-branches

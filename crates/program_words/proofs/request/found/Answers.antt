@@ -8,4 +8,6 @@ pub returns : goal.returns
 returns c =
     let found = found_of c.args.matches.now in
     c.request_of.ensures
-    ∙ same_request (c.get_raw.ensures ∙ raw_values-rows found (codes "journal-limit")) (c.get_raw-2.ensures ∙ raw_values-rows found (codes "size")) (c.get_str.ensures ∙ first_value-rows found (codes "word"))
+    ∙ same_request (c.get_raw.ensures ∙ raw_values-rows found (codes "journal-limit"))
+    (c.get_raw-2.ensures ∙ raw_values-rows found (codes "size"))
+    (c.get_str.ensures ∙ first_value-rows found (codes "word"))

@@ -10,66 +10,109 @@ use Rattle.plain_answers.specs.Branches.{plain}
 use Rattle.piece_meaning.specs.Books.{book_of}
 use Rattle.piece_texts.specs.ExplainedPieces.{PlainExplained}
 use Rattle.temporal_lang.specs.Branches.{branches_of}
-use Rattle.temporal_lang.specs.declared.branches.Branch.{Branch}
+use Rattle.temporal_lang.specs.declared.branch.Branch.{Branch}
 use Rattle.temporal_lang.specs.Queries.{query_of}
 use Rattle.query_exec.specs.Accepted.{MayBranches}
-use Rattle.query_exec.specs.Lent.{NoneAliveComputes, AreLentBy}
+use Rattle.query_exec.specs.Borrowed.{NoneAliveComputes, AreBorrowedBy}
 use Rattle.query_exec.specs.QueryPieces.{branches_pieces, AreAlive}
 use Rattle.query_exec.proofs.AliveLaws.{in_alive}
-use Rattle.query_exec.proofs.LentRows.{by_values}
+use Rattle.query_exec.proofs.BorrowedRows.{by_values}
 use Rattle.query_exec.proofs.WholeAnswers.{may_all, whole_listing, whole_answer, pieces_here}
 use Rattle.query_exec.proofs.answers.answer.Goals as goal
 
 pub answer_branches-requires-clause-schema : goal.answer_branches-requires-clause-schema
 answer_branches-requires-clause-schema g c =
-    c.in-Some.ensures.1 ∙ ap (λ (v : ℕ). tables_from no_tables (versions_in c.args.groups.now) v) (sym c.in_ok-route.ensures.asked)
+    c.in-Some.ensures.1 ∙ ap (λ (v : ℕ). tables_from no_tables (versions_in c.args.groups.now) v)
+    (sym c.in_ok-route.ensures.asked)
 
 pub answer_branches-requires-clause-read : goal.answer_branches-requires-clause-read
 answer_branches-requires-clause-read g c =
     let h = c.requires.shown in
-    subst (λ (bs : List Branch). MayBranches (versions_in c.args.groups.now) c.in_ok-route.route (branches_of bs)) (sym c.deref.ensures.value)
-    (may_all c.args.groups.now h.past h.asked (query_of c.args.query.now) h.shows h.accepted c.in_ok-route.route c.in_ok-route.ensures.route c.in_ok-route.ensures.asked (c.in_ok-route.ensures.slice ∙ c.slice-slice.ensures.value))
+    subst (λ (bs : List Branch). MayBranches (versions_in c.args.groups.now) c.in_ok-route.route
+    (branches_of bs)) (sym c.deref.ensures.value)
+    (may_all c.args.groups.now h.past h.asked (query_of c.args.query.now) h.shows h.accepted
+    c.in_ok-route.route c.in_ok-route.ensures.route c.in_ok-route.ensures.asked
+    (c.in_ok-route.ensures.slice ∙ c.slice-slice.ensures.value))
 
 pub returns-in_err-rows-clause-cost : goal.returns-in_err-rows-clause-cost
 returns-in_err-rows-clause-cost g c = λ pieces h. c.answer_branches.ensures.cost 1 pieces
     (subst (λ (all : List PlainExplained). AreAlive (versions_in c.args.groups.now) all pieces)
-    (sym (pieces_here (book_of (λ r. (goal.Rule-dyn g (r.vtable, r.value)).handles r.value) (λ r. (goal.Rule-dyn g (r.vtable, r.value)).answers r.value) c.args.book.now.rules.items) (versions_in c.args.groups.now) (query_of c.args.query.now) c.in_ok-route.route.asked c.in_ok-route.route.parts.items c.slice-slice.result (branches_of c.deref.result.now) c.in_ok-route.ensures.asked c.in_ok-route.ensures.parts c.slice-slice.ensures.value (ap branches_of c.deref.ensures.value))) h)
+    (sym (pieces_here (book_of (λ r. (goal.Rule-dyn g (r.vtable, r.value)).handles r.value)
+    (λ r. (goal.Rule-dyn g (r.vtable, r.value)).answers r.value) c.args.book.now.rules.items)
+    (versions_in c.args.groups.now) (query_of c.args.query.now) c.in_ok-route.route.asked
+    c.in_ok-route.route.parts.items c.slice-slice.result (branches_of c.deref.result.now)
+    c.in_ok-route.ensures.asked c.in_ok-route.ensures.parts c.slice-slice.ensures.value
+    (ap branches_of c.deref.ensures.value))) h)
 
 pub returns-clause-rows : goal.returns-clause-rows
 returns-clause-rows g c = λ past asked shows accepted.
-    whole_answer c.args.groups.now past asked (query_of c.args.query.now) shows accepted c.in_ok-route.route c.in_ok-route.ensures.route c.in_ok-route.ensures.asked (c.in_ok-route.ensures.slice ∙ c.slice-slice.ensures.value)
+    whole_answer c.args.groups.now past asked (query_of c.args.query.now) shows accepted
+    c.in_ok-route.route c.in_ok-route.ensures.route c.in_ok-route.ensures.asked
+    (c.in_ok-route.ensures.slice ∙ c.slice-slice.ensures.value)
     (λ m. rows_at c.in_ok-rows.rows.items m)
     (λ m inside. c.in_ok-rows.ensures.rows past shows m inside
-    ∙ ap (λ (bs : List Branch). plain (tables_of past c.in_ok-route.route.asked) (branches_of bs) (migrated past m c.in_ok-route.route.asked)) c.deref.ensures.value)
-    (book_of (λ r. (goal.Rule-dyn g (r.vtable, r.value)).handles r.value) (λ r. (goal.Rule-dyn g (r.vtable, r.value)).answers r.value) c.args.book.now.rules.items) c.known.ensures
-    (subst (λ (s : Span). s.end ≤ forever) c.slice-slice.ensures.value c.ends_in_time.ensures) (entries_of c.coalesce_in_place.new.rows.items)
-    (subst (λ (s : Span). IsListing row_cmp (λ m. rows_at c.in_ok-rows.rows.items m) s (entries_of c.coalesce_in_place.new.rows.items)) c.slice-slice.ensures.value c.coalesce_in_place.ensures.listing)
+    ∙ ap (λ (bs : List Branch). plain (tables_of past c.in_ok-route.route.asked) (branches_of bs)
+    (migrated past m c.in_ok-route.route.asked)) c.deref.ensures.value)
+    (book_of (λ r. (goal.Rule-dyn g (r.vtable, r.value)).handles r.value)
+    (λ r. (goal.Rule-dyn g (r.vtable, r.value)).answers r.value) c.args.book.now.rules.items)
+    c.known.ensures
+    (subst (λ (s : Span). s.end ≤ forever) c.slice-slice.ensures.value c.ends_in_time.ensures)
+    (entries_of c.coalesce_in_place.new.rows.items)
+    (subst (λ (s : Span). IsListing row_cmp (λ m. rows_at c.in_ok-rows.rows.items m) s
+    (entries_of c.coalesce_in_place.new.rows.items)) c.slice-slice.ensures.value
+    c.coalesce_in_place.ensures.listing)
 
 pub returns-clause-listed : goal.returns-clause-listed
 returns-clause-listed g c = λ past asked shows accepted.
-    whole_listing c.args.groups.now past asked (query_of c.args.query.now) shows accepted c.in_ok-route.route c.in_ok-route.ensures.route c.in_ok-route.ensures.asked (c.in_ok-route.ensures.slice ∙ c.slice-slice.ensures.value)
+    whole_listing c.args.groups.now past asked (query_of c.args.query.now) shows accepted
+    c.in_ok-route.route c.in_ok-route.ensures.route c.in_ok-route.ensures.asked
+    (c.in_ok-route.ensures.slice ∙ c.slice-slice.ensures.value)
     (λ m. rows_at c.in_ok-rows.rows.items m)
     (λ m inside. c.in_ok-rows.ensures.rows past shows m inside
-    ∙ ap (λ (bs : List Branch). plain (tables_of past c.in_ok-route.route.asked) (branches_of bs) (migrated past m c.in_ok-route.route.asked)) c.deref.ensures.value)
+    ∙ ap (λ (bs : List Branch). plain (tables_of past c.in_ok-route.route.asked) (branches_of bs)
+    (migrated past m c.in_ok-route.route.asked)) c.deref.ensures.value)
     (entries_of c.coalesce_in_place.new.rows.items)
-    (subst (λ (s : Span). IsListing row_cmp (λ m. rows_at c.in_ok-rows.rows.items m) s (entries_of c.coalesce_in_place.new.rows.items)) c.slice-slice.ensures.value c.coalesce_in_place.ensures.listing)
+    (subst (λ (s : Span). IsListing row_cmp (λ m. rows_at c.in_ok-rows.rows.items m) s
+    (entries_of c.coalesce_in_place.new.rows.items)) c.slice-slice.ensures.value
+    c.coalesce_in_place.ensures.listing)
 
 pub returns-clause-cost : goal.returns-clause-cost
 returns-clause-cost g c = λ pieces h. c.answer_branches.ensures.cost 1 pieces
     (subst (λ (all : List PlainExplained). AreAlive (versions_in c.args.groups.now) all pieces)
-    (sym (pieces_here (book_of (λ r. (goal.Rule-dyn g (r.vtable, r.value)).handles r.value) (λ r. (goal.Rule-dyn g (r.vtable, r.value)).answers r.value) c.args.book.now.rules.items) (versions_in c.args.groups.now) (query_of c.args.query.now) c.in_ok-route.route.asked c.in_ok-route.route.parts.items c.slice-slice.result (branches_of c.deref.result.now) c.in_ok-route.ensures.asked c.in_ok-route.ensures.parts c.slice-slice.ensures.value (ap branches_of c.deref.ensures.value))) h)
+    (sym (pieces_here (book_of (λ r. (goal.Rule-dyn g (r.vtable, r.value)).handles r.value)
+    (λ r. (goal.Rule-dyn g (r.vtable, r.value)).answers r.value) c.args.book.now.rules.items)
+    (versions_in c.args.groups.now) (query_of c.args.query.now) c.in_ok-route.route.asked
+    c.in_ok-route.route.parts.items c.slice-slice.result (branches_of c.deref.result.now)
+    c.in_ok-route.ensures.asked c.in_ok-route.ensures.parts c.slice-slice.ensures.value
+    (ap branches_of c.deref.ensures.value))) h)
 
-pub returns-clause-lent : goal.returns-clause-lent
-returns-clause-lent g c = λ pieces h none.
-    by_values (query_of c.args.query.now).branches c.in_ok-rows.rows.items c.coalesce_in_place.new.rows.items c.coalesce_in_place.ensures.values
-    (subst (λ (bs : List Branch). AreLentBy (branches_of bs) c.in_ok-rows.rows.items) c.deref.ensures.value
+pub returns-clause-borrowed : goal.returns-clause-borrowed
+returns-clause-borrowed g c = λ pieces h none.
+    by_values (query_of c.args.query.now).branches c.in_ok-rows.rows.items
+    c.coalesce_in_place.new.rows.items c.coalesce_in_place.ensures.values
+    (subst (λ (bs : List Branch). AreBorrowedBy (branches_of bs) c.in_ok-rows.rows.items)
+    c.deref.ensures.value
     (c.in_ok-rows.ensures.borrowed 1
     (subst (λ (all : List PlainExplained). NoneAliveComputes (versions_in c.args.groups.now) all)
-    (sym (pieces_here (book_of (λ r. (goal.Rule-dyn g (r.vtable, r.value)).handles r.value) (λ r. (goal.Rule-dyn g (r.vtable, r.value)).answers r.value) c.args.book.now.rules.items) (versions_in c.args.groups.now) (query_of c.args.query.now) c.in_ok-route.route.asked c.in_ok-route.route.parts.items c.slice-slice.result (branches_of c.deref.result.now) c.in_ok-route.ensures.asked c.in_ok-route.ensures.parts c.slice-slice.ensures.value (ap branches_of c.deref.ensures.value)))
+    (sym (pieces_here (book_of (λ r. (goal.Rule-dyn g (r.vtable, r.value)).handles r.value)
+    (λ r. (goal.Rule-dyn g (r.vtable, r.value)).answers r.value) c.args.book.now.rules.items)
+    (versions_in c.args.groups.now) (query_of c.args.query.now) c.in_ok-route.route.asked
+    c.in_ok-route.route.parts.items c.slice-slice.result (branches_of c.deref.result.now)
+    c.in_ok-route.ensures.asked c.in_ok-route.ensures.parts c.slice-slice.ensures.value
+    (ap branches_of c.deref.ensures.value)))
     (record { alive = pieces; are = h; none = none }))))
 
 pub returns-clause-least : goal.returns-clause-least
 returns-clause-least g c = λ pieces h e m. c.in_ok-rows.ensures.least 1 e
-    (in_alive (versions_in c.args.groups.now) (branches_pieces (book_of (λ r. (goal.Rule-dyn g (r.vtable, r.value)).handles r.value) (λ r. (goal.Rule-dyn g (r.vtable, r.value)).answers r.value) c.args.book.now.rules.items) (versions_in c.args.groups.now) c.in_ok-route.route.asked c.in_ok-route.route.parts.items 1 (branches_of c.deref.result.now)) pieces e
+    (in_alive (versions_in c.args.groups.now)
+    (branches_pieces (book_of (λ r. (goal.Rule-dyn g (r.vtable, r.value)).handles r.value)
+    (λ r. (goal.Rule-dyn g (r.vtable, r.value)).answers r.value) c.args.book.now.rules.items)
+    (versions_in c.args.groups.now) c.in_ok-route.route.asked c.in_ok-route.route.parts.items 1
+    (branches_of c.deref.result.now)) pieces e
     (subst (λ (all : List PlainExplained). AreAlive (versions_in c.args.groups.now) all pieces)
-    (sym (pieces_here (book_of (λ r. (goal.Rule-dyn g (r.vtable, r.value)).handles r.value) (λ r. (goal.Rule-dyn g (r.vtable, r.value)).answers r.value) c.args.book.now.rules.items) (versions_in c.args.groups.now) (query_of c.args.query.now) c.in_ok-route.route.asked c.in_ok-route.route.parts.items c.slice-slice.result (branches_of c.deref.result.now) c.in_ok-route.ensures.asked c.in_ok-route.ensures.parts c.slice-slice.ensures.value (ap branches_of c.deref.ensures.value))) h) m)
+    (sym (pieces_here (book_of (λ r. (goal.Rule-dyn g (r.vtable, r.value)).handles r.value)
+    (λ r. (goal.Rule-dyn g (r.vtable, r.value)).answers r.value) c.args.book.now.rules.items)
+    (versions_in c.args.groups.now) (query_of c.args.query.now) c.in_ok-route.route.asked
+    c.in_ok-route.route.parts.items c.slice-slice.result (branches_of c.deref.result.now)
+    c.in_ok-route.ensures.asked c.in_ok-route.ensures.parts c.slice-slice.ensures.value
+    (ap branches_of c.deref.ensures.value))) h) m)

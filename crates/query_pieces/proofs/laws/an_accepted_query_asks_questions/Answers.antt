@@ -11,4 +11,5 @@ pub returns-clause-pushed : goal.returns-clause-pushed
 returns-clause-pushed c = λ past query accepted b m. pushed_enough past query accepted b m
 
 pub returns-clause-kept : goal.returns-clause-kept
-returns-clause-kept c = λ past query accepted m asked b k i j. items_kept past query accepted m asked b k i j
+returns-clause-kept c = λ past query accepted m asked b k i j.
+    items_kept past query accepted m asked b k i j

@@ -8,7 +8,8 @@ pub returns-clause-none : goal.returns-clause-none
 returns-clause-none c = λ past query w below e. none_lost past query w below e
 
 pub returns-clause-some : goal.returns-clause-some
-returns-clause-some c = λ past query m loss asked some none. least_lost past query m loss asked some none
+returns-clause-some c = λ past query m loss asked some none.
+    least_lost past query m loss asked some none
 
 pub returns-clause-each : goal.returns-clause-each
 returns-clause-each c = λ past query e m asked. kept_at past query e m asked

@@ -9,6 +9,10 @@ cut-preserved c =
     let p : c.push.new.self.items ≡ c.cut.blocks.items ++ c.in_ok-of.field-0 ∷ [] = search rules in
     let b : c.in_ok-of.field-0 ≡ c.split_at.result.0.now = search rules in
     let s : c.split_at.result.0.now ++ c.split_at.result.1.now ≡ c.cut.rest.now = search rules in
-    let e : concat (c.cut.blocks.items ++ c.in_ok-of.field-0 ∷ []) ≡ concat c.cut.blocks.items ++ c.in_ok-of.field-0 = concat-append c.cut.blocks.items (c.in_ok-of.field-0 ∷ []) ∙ ap (λ r. concat c.cut.blocks.items ++ r) (append-nil c.in_ok-of.field-0) in
-    ap (λ bs. concat bs ++ c.split_at.result.1.now) p ∙ ap (λ r. r ++ c.split_at.result.1.now) e ∙ append_assoc (concat c.cut.blocks.items) c.in_ok-of.field-0 c.split_at.result.1.now
-    ∙ ap (λ r. concat c.cut.blocks.items ++ (r ++ c.split_at.result.1.now)) b ∙ ap (λ r. concat c.cut.blocks.items ++ r) s ∙ w
+    let e : concat (c.cut.blocks.items ++ c.in_ok-of.field-0 ∷ []) ≡ concat c.cut.blocks.items
+    ++ c.in_ok-of.field-0 = concat-append c.cut.blocks.items (c.in_ok-of.field-0 ∷ [])
+    ∙ ap (λ r. concat c.cut.blocks.items ++ r) (append-nil c.in_ok-of.field-0) in
+    ap (λ bs. concat bs ++ c.split_at.result.1.now) p ∙ ap (λ r. r ++ c.split_at.result.1.now) e
+    ∙ append_assoc (concat c.cut.blocks.items) c.in_ok-of.field-0 c.split_at.result.1.now
+    ∙ ap (λ r. concat c.cut.blocks.items ++ (r ++ c.split_at.result.1.now)) b
+    ∙ ap (λ r. concat c.cut.blocks.items ++ r) s ∙ w

@@ -16,7 +16,8 @@ returns c =
     let f : get_or starts b 0 ≤ c.args.at = c.block_at-block.ensures.from in
     let g : before b blocks ≤ c.args.at = omega (arith, e, f) in
     let n = λ (m : suc b < length blocks). (
-    let q : c.args.at < get_or starts (b + 1) 0 = c.block_at-block.ensures.next (omega (arith, m, o)) in
+    let q : c.args.at < get_or starts (b + 1) 0 =
+    c.block_at-block.ensures.next (omega (arith, m, o)) in
     let i : b + 1 ≡ suc b = omega arith in
     let r : get_or starts (suc b) 0 ≡ before (suc b) blocks = w.each (suc b) m in
     subst (λ x. c.args.at < x) r (subst (λ x. c.args.at < get_or starts x 0) i q)) in

@@ -11,10 +11,14 @@ overflow_add-index c =
     let a : c.args.from ≤ c.loop-k.k = c.loop-k.auto.k in
     let b : 0 < c.args.from = c.requires.some in
     let h : c.loop-k.k - 1 < length c.args.blocks.now = omega arith in
-    let e : c.index.result.now ≡ before (c.loop-k.k - 1) c.args.blocks.now = c.index.ensures ∙ any_id c.loop-k.starts.items (c.loop-k.k - 1) _ 0 (omega (arith, w.long)) ∙ w.counted (c.loop-k.k - 1) (omega arith) h in
-    let f : c.len.result ≡ length (get_or c.args.blocks.now (c.loop-k.k - 1) []) = c.len.ensures.len ∙ ap length (c.index-blocks-k.is ∙ any_block c.args.blocks.now (c.loop-k.k - 1) _ [] h) in
+    let e : c.index.result.now ≡ before (c.loop-k.k - 1) c.args.blocks.now = c.index.ensures
+    ∙ any_id c.loop-k.starts.items (c.loop-k.k - 1) _ 0 (omega (arith, w.long))
+    ∙ w.counted (c.loop-k.k - 1) (omega arith) h in
+    let f : c.len.result ≡ length (get_or c.args.blocks.now (c.loop-k.k - 1) []) = c.len.ensures.len
+    ∙ ap length (c.index-blocks-k.is ∙ any_block c.args.blocks.now (c.loop-k.k - 1) _ [] h) in
     let n = counted_next c.args.blocks.now c.loop-k.k (omega arith) (omega arith) in
-    let s : before c.loop-k.k c.args.blocks.now ≤ length (concat c.args.blocks.now) = before_some c.args.blocks.now c.loop-k.k in
+    let s : before c.loop-k.k c.args.blocks.now ≤ length (concat c.args.blocks.now) =
+    before_some c.args.blocks.now c.loop-k.k in
     let r = c.requires.few in
     omega (arith, e, f, n, s, r)
 
@@ -26,12 +30,17 @@ loop-k-preserved c =
     let b : 0 < c.args.from = c.requires.some in
     let h : c.loop-k.k - 1 < length c.args.blocks.now = omega arith in
     let l : length c.loop-k.starts.items ≡ length c.args.blocks.now = omega (arith, w.long) in
-    let e : c.index.result.now ≡ before (c.loop-k.k - 1) c.args.blocks.now = c.index.ensures ∙ any_id c.loop-k.starts.items (c.loop-k.k - 1) _ 0 (omega (arith, w.long)) ∙ w.counted (c.loop-k.k - 1) (omega arith) h in
-    let f : c.len.result ≡ length (get_or c.args.blocks.now (c.loop-k.k - 1) []) = c.len.ensures.len ∙ ap length (c.index-blocks-k.is ∙ any_block c.args.blocks.now (c.loop-k.k - 1) _ [] h) in
+    let e : c.index.result.now ≡ before (c.loop-k.k - 1) c.args.blocks.now = c.index.ensures
+    ∙ any_id c.loop-k.starts.items (c.loop-k.k - 1) _ 0 (omega (arith, w.long))
+    ∙ w.counted (c.loop-k.k - 1) (omega arith) h in
+    let f : c.len.result ≡ length (get_or c.args.blocks.now (c.loop-k.k - 1) []) = c.len.ensures.len
+    ∙ ap length (c.index-blocks-k.is ∙ any_block c.args.blocks.now (c.loop-k.k - 1) _ [] h) in
     let n = counted_next c.args.blocks.now c.loop-k.k (omega arith) (omega arith) in
-    let v : c.index.result.now + c.len.result ≡ before c.loop-k.k c.args.blocks.now = omega (arith, e, f, n) in
+    let v : c.index.result.now + c.len.result ≡ before c.loop-k.k c.args.blocks.now =
+    omega (arith, e, f, n) in
     record {
       long = w.long;
-      counted = counted_more c.loop-k.starts.items c.args.blocks.now c.loop-k.k (c.index.result.now + c.len.result) l t v w.counted;
+      counted = counted_more c.loop-k.starts.items c.args.blocks.now c.loop-k.k
+          (c.index.result.now + c.len.result) l t v w.counted;
       capacity = w.capacity;
     }

@@ -9,4 +9,5 @@ cold-preserved c =
     (omega arith, w.1 ∙ past c.cold.i c.args.size t (sym c.is_hot.ensures ∙ c.if-is_hot.false))
 
 pub returns-then-is_hot-clause-found : goal.returns-then-is_hot-clause-found
-returns-then-is_hot-clause-found c = λ fits. c.cold.invariant.1 ∙ hot c.cold.i c.args.size fits (sym c.is_hot.ensures ∙ c.if-is_hot.true)
+returns-then-is_hot-clause-found c = λ fits. c.cold.invariant.1
+    ∙ hot c.cold.i c.args.size fits (sym c.is_hot.ensures ∙ c.if-is_hot.true)

@@ -4,7 +4,8 @@ use Rattle.sample_script.specs.Statements.{numbers, is_hot}
 use Rattle.sample_script.proofs.place.next_hot.Given as goal
 
 abbrev pub invariant-cold : goal.invariant-cold
-invariant-cold l = (l.i ≤ l.size) × (filter is_hot (numbers l.fn.i l.size) ≡ filter is_hot (numbers l.i l.size))
+invariant-cold l = (l.i ≤ l.size) × (filter is_hot (numbers l.fn.i l.size)
+    ≡ filter is_hot (numbers l.i l.size))
 
 abbrev pub decreases-cold : goal.decreases-cold
 decreases-cold l = l.size - l.i

@@ -1,4 +1,4 @@
-use Rattle.schema_catalog.proofs.Lawful.{only_empty, empty_is}
+use Rattle.schema_catalog.proofs.Valid.{only_empty, empty_is}
 use Rattle.schema_catalog.proofs.laws.empty_database.Goals as goal
 
 pub returns : goal.returns

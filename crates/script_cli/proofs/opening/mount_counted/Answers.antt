@@ -1,6 +1,6 @@
 use Rattle.std.specs.Prelude.{Option, Some, None, List, ℕ}
 use Rattle.disk_model.specs.Meaning.{Tells}
-use Rattle.archive_core.specs.declared.archives.Opened.{Opened}
+use Rattle.archive_core.specs.declared.archive.Opened.{Opened}
 use Rattle.script_cli.proofs.Counting.{opening_counted}
 use Rattle.script_cli.proofs.opening.mount_counted.Goals as goal
 
@@ -19,7 +19,8 @@ returns-in-Ok-clause-opened g c =
       stands = it.stands;
     }
   where
-    tells_counted : (seen : Option (List ℕ)) (P : List ℕ → Opened → Type 0) (opened : Opened) → Tells seen (λ file. P file opened) → Tells seen (λ file. (o : Opened) × P file o)
+    tells_counted : (seen : Option (List ℕ)) (P : List ℕ → Opened → Type 0) (opened : Opened)
+        → Tells seen (λ file. P file opened) → Tells seen (λ file. (o : Opened) × P file o)
     tells_counted None P opened told = tt
     tells_counted (Some file) P opened told = (opened, told)
 
@@ -36,4 +37,5 @@ returns-clause-fault g c =
     }
 
 pub returns-in-Ok-clause-commands : goal.returns-in-Ok-clause-commands
-returns-in-Ok-clause-commands g c = opening_counted c.a_file_opens_or_is_damaged.ensures.one _ _ _ _ c.in-Ok.ensures.opened
+returns-in-Ok-clause-commands g c = opening_counted c.a_file_opens_or_is_damaged.ensures.one _ _ _ _
+    c.in-Ok.ensures.opened

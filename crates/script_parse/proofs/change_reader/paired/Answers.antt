@@ -9,5 +9,7 @@ returns c =
     let first : c.zip.result.a ≡ c.into_iter.result = cc in
     let second : c.zip.result.b ≡ c.into_iter-2.result = cc in
     items_from_collect _ c.collect.ensures.ran (YieldsList-from_zip
-    (YieldsList-from_vec c.args.names.items (ap into_iter_items first ∙ search rules) (ap into_iter_len first ∙ search rules))
-    (YieldsList-from_vec c.args.values.items (ap into_iter_items second ∙ search rules) (ap into_iter_len second ∙ search rules)))
+    (YieldsList-from_vec c.args.names.items (ap into_iter_items first ∙ search rules)
+    (ap into_iter_len first ∙ search rules))
+    (YieldsList-from_vec c.args.values.items (ap into_iter_items second ∙ search rules)
+    (ap into_iter_len second ∙ search rules)))

@@ -1,17 +1,25 @@
-use Rattle.std.proofs.Common.{[], ◌∷◌, ◌++◌, map, sym, ap, ◌∙◌, append_assoc, append-nil, codes, arith}
+use Rattle.std.proofs.Common.{[], ◌∷◌, ◌++◌, map, sym, ap, ◌∙◌, append_assoc, append-nil, codes}
+use Rattle.std.proofs.Common.{arith}
 use Rattle.std.proofs.lemmas.List.{map-append}
 use Rattle.std.proofs.lemmas.Result.{err_from_is_err_and}
-use Rattle.prima_base.specs.declared.refusals.What.TheVariants.{Inverse}
+use Rattle.prima_base.specs.declared.refusal.What.TheVariants.{Inverse}
 use Rattle.smo_types.specs.Operators.{operator_of, operators_of}
 use Rattle.lexical_grammar.specs.Lexemes.{is_word}
 use Rattle.parser_combinators.specs.Parsing.{more}
 use Rattle.parser_combinators.specs.Reads.{ahead}
-use Rattle.parser_combinators.proofs.ReadSteps.{behind, behind_fails, prepend_none, more_next, more_err, more_full, more_done}
+use Rattle.parser_combinators.proofs.ReadSteps.{after, after_fails, prepend_none, more_next}
+use Rattle.parser_combinators.proofs.ReadSteps.{more_err, more_full, more_done}
 use Rattle.script_parse.specs.StatementReader.{op}
 use Rattle.script_parse.proofs.inverse_reader.more_ops.Goals as goal
 
 pub loop-alloc-init : goal.loop-alloc-init
-loop-alloc-init c = (omega arith, [], sym (append-nil (operators_of c.args.list.now.items)), prepend_none (more (is_word (codes "THEN")) Inverse op 7 c.args.c.now.nodes (ahead c.args.c.now)))
+loop-alloc-init c = (
+  omega arith,
+  [],
+  sym (append-nil (operators_of c.args.list.now.items)),
+  prepend_none (more (is_word (codes "THEN")) Inverse op 7 c.args.c.now.nodes
+      (ahead c.args.c.now)),
+)
 
 pub loop-alloc-preserved : goal.loop-alloc-preserved
 loop-alloc-preserved c =
@@ -20,25 +28,41 @@ loop-alloc-preserved c =
       omega arith,
       inv.1 ++ x ∷ [],
       (let pushed = c.in_ok-push.ensures in
-          ap (map operator_of) pushed.items ∙ map-append operator_of c.loop-alloc.list.items (c.in_ok-op.field-0 ∷ []) ∙ ap (λ l. l ++ x ∷ []) inv.2 ∙ append_assoc (map operator_of c.args.list.now.items) inv.1 (x ∷ [])),
-      more_next (is_word (codes "THEN")) Inverse op _ inv.1 c.loop-alloc.left c.loop-alloc.c.nodes (ahead c.loop-alloc.c) inv.3 x c.op.new.c.nodes (ahead c.op.new.c) (omega arith) (sym c.sees_word.ensures ∙ c.loop-alloc-test.true)
-          (behind op _ c.loop-alloc.c.nodes c.skip.new.self.nodes (ahead c.loop-alloc.c) (ahead c.skip.new.self) c.skip.ensures.nodes c.skip.ensures.rest c.in_ok-op.ensures),
+          ap (map operator_of) pushed.items ∙ map-append operator_of c.loop-alloc.list.items
+          (c.in_ok-op.field-0 ∷ []) ∙ ap (λ l. l ++ x ∷ []) inv.2
+          ∙ append_assoc (map operator_of c.args.list.now.items) inv.1 (x ∷ [])),
+      more_next (is_word (codes "THEN")) Inverse op _ inv.1 c.loop-alloc.left c.loop-alloc.c.nodes
+          (ahead c.loop-alloc.c) inv.3 x c.op.new.c.nodes (ahead c.op.new.c) (omega arith)
+          (sym c.sees_word.ensures ∙ c.loop-alloc-test.true)
+          (after op _ c.loop-alloc.c.nodes c.skip.new.self.nodes (ahead c.loop-alloc.c)
+          (ahead c.skip.new.self) c.skip.ensures.nodes c.skip.ensures.rest c.in_ok-op.ensures),
     )
 
 pub returns-in_err-op : goal.returns-in_err-op
 returns-in_err-op c =
     let inv = c.loop-alloc.invariant in
-    let failed = more_err (is_word (codes "THEN")) Inverse op _ inv.1 c.loop-alloc.left c.loop-alloc.c.nodes (ahead c.loop-alloc.c) inv.3 c.in_err-op.field-0.0 c.op.new.c (omega arith) (sym c.sees_word.ensures ∙ c.loop-alloc-test.true)
-    (behind_fails op c.in_err-op.field-0.0 c.op.new.c c.loop-alloc.c.nodes c.skip.new.self.nodes (ahead c.loop-alloc.c) (ahead c.skip.new.self) c.skip.ensures.nodes c.skip.ensures.rest c.in_err-op.ensures) in
+    let failed = more_err (is_word (codes "THEN")) Inverse op _ inv.1 c.loop-alloc.left
+    c.loop-alloc.c.nodes (ahead c.loop-alloc.c) inv.3 c.in_err-op.field-0.0 c.op.new.c
+    (omega arith) (sym c.sees_word.ensures ∙ c.loop-alloc-test.true)
+    (after_fails op c.in_err-op.field-0.0 c.op.new.c c.loop-alloc.c.nodes c.skip.new.self.nodes
+    (ahead c.loop-alloc.c) (ahead c.skip.new.self) c.skip.ensures.nodes c.skip.ensures.rest
+    c.in_err-op.ensures) in
     let f = err_from_is_err_and c.from_residual.result c.from_residual.ensures.1 in
     rw (f.1, f.2) failed
 
 pub returns-then-left-eq0 : goal.returns-then-left-eq0
 returns-then-left-eq0 c =
     let inv = c.loop-alloc.invariant in
-    more_full (is_word (codes "THEN")) Inverse op _ inv.1 c.loop-alloc.left c.loop-alloc.c.nodes (ahead c.loop-alloc.c) inv.3 c.if-left-eq0.true (sym c.sees_word.ensures ∙ c.loop-alloc-test.true)
+    more_full (is_word (codes "THEN")) Inverse op _ inv.1 c.loop-alloc.left c.loop-alloc.c.nodes
+    (ahead c.loop-alloc.c) inv.3 c.if-left-eq0.true
+    (sym c.sees_word.ensures ∙ c.loop-alloc-test.true)
 
 pub returns : goal.returns
 returns c =
-    let inv = c.loop-alloc.invariant in
-    (inv.1, more_done (is_word (codes "THEN")) Inverse op _ inv.1 c.loop-alloc.left c.loop-alloc.c.nodes (ahead c.loop-alloc.c) inv.3 (sym c.sees_word.ensures ∙ c.loop-alloc-test.false), inv.2)
+    let inv = c.loop-alloc.invariant in (
+      inv.1,
+      more_done (is_word (codes "THEN")) Inverse op _ inv.1 c.loop-alloc.left
+          c.loop-alloc.c.nodes (ahead c.loop-alloc.c) inv.3
+          (sym c.sees_word.ensures ∙ c.loop-alloc-test.false),
+      inv.2,
+    )

@@ -1,5 +1,5 @@
 use Rattle.std.proofs.Common.{[], refl}
-use Rattle.script_parse.specs.declared.modes.Mode.TheVariants.{Plain}
+use Rattle.script_parse.specs.declared.mode.Mode.TheVariants.{Plain}
 use Rattle.script_parse.proofs.Joins.{joined_again, statements_whole, tail_whole}
 use Rattle.script_parse.proofs.laws.script_is_its_statements.Goals as goal
 

@@ -8,5 +8,7 @@ use Rattle.smo_maps.proofs.add_column.names_with.Goals as goal
 pub returns : goal.returns
 returns c = λ kind.
     c.put_in_order.ensures
-    ∙ ap (set_of bytes_cmp) (c.in_ok-push.ensures.items ∙ ap (λ ns. ns ++ c.in_ok-copy.field-0 ∷ []) c.in_ok-names.ensures ∙ ap (λ n. names_of c.args.columns.now ++ n ∷ []) c.in_ok-copy.ensures)
+    ∙ ap (set_of bytes_cmp) (c.in_ok-push.ensures.items
+    ∙ ap (λ ns. ns ++ c.in_ok-copy.field-0 ∷ []) c.in_ok-names.ensures
+    ∙ ap (λ n. names_of c.args.columns.now ++ n ∷ []) c.in_ok-copy.ensures)
     ∙ with_names c.args.columns.now c.args.column.now kind c.requires

@@ -6,4 +6,6 @@ use Rattle.smo_maps.specs.Picking.{picked_row}
 use Rattle.smo_maps.proofs.join_table.append_joined.Given as goal
 
 abbrev pub invariant-loop-partner : goal.invariant-loop-partner
-invariant-loop-partner l = l.made.items ≡ l.fn.made.items ++ filter (meets l.own (test l.cond)) (map (picked_row l.sources l.row) (map (λ b. b.now) (take l.partner-index l.partners)))
+invariant-loop-partner l = l.made.items ≡ l.fn.made.items
+    ++ filter (meets l.own (test l.cond)) (map (picked_row l.sources l.row)
+    (map (λ b. b.now) (take l.partner-index l.partners)))

@@ -9,4 +9,6 @@ use Rattle.smo_maps.specs.Picking.{picked_row}
 use Rattle.smo_maps.proofs.join_table.joined_pairs.Given as goal
 
 abbrev pub invariant-loop-row : goal.invariant-loop-row
-invariant-loop-row l = l.made.items ≡ filter (meets l.own (test l.cond)) (flat_map (λ (a : Row). map (picked_row l.sources a) (unwrap_or (get row_cmp l.groups (picked_row l.keys a [])) [])) (take l.row-index l.first))
+invariant-loop-row l = l.made.items ≡ filter (meets l.own (test l.cond))
+    (flat_map (λ (a : Row). map (picked_row l.sources a)
+    (unwrap_or (get row_cmp l.groups (picked_row l.keys a [])) [])) (take l.row-index l.first))

@@ -6,5 +6,7 @@ use Rattle.smo_meaning.specs.OneRow.{meets}
 use Rattle.smo_maps.proofs.one_row.is_met.Goals as goal
 
 pub returns : goal.returns
-returns c = IfOk-weaker c.row_meets.result _ _ (λ b e. e ∙ ap (meets c.args.own.now (test c.args.cond.now))
-    (ap (map shown) c.deref.ensures.value ∙ c.in_ok-values.ensures.values ∙ c.values.ensures)) c.row_meets.ensures
+returns c = IfOk-weaker c.row_meets.result _ _
+    (λ b e. e ∙ ap (meets c.args.own.now (test c.args.cond.now))
+    (ap (map shown) c.deref.ensures.value ∙ c.in_ok-values.ensures.values ∙ c.values.ensures))
+    c.row_meets.ensures

@@ -2,39 +2,62 @@ use Rattle.std.proofs.Common.{[], ◌∷◌, ◌++◌, sym, ap, ◌∙◌, appen
 use Rattle.std.proofs.lemmas.Result.{err_from_is_err_and}
 use Rattle.lexical_grammar.specs.Lexemes.{is_sign}
 use Rattle.parser_combinators.specs.Reads.{ahead}
-use Rattle.parser_combinators.proofs.ReadSteps.{behind, behind_fails}
-use Rattle.parser_combinators.proofs.ManySteps.{many_first, many_smaller, many_next, many_done, many_err}
+use Rattle.parser_combinators.proofs.ReadSteps.{after, after_fails}
+use Rattle.parser_combinators.proofs.ManySteps.{many_first, many_smaller, many_next, many_done}
+use Rattle.parser_combinators.proofs.ManySteps.{many_err}
 use Rattle.smo_parse.specs.OperatorReader.{column}
 use Rattle.smo_parse.specs.Productions.{IsColumn}
-use Rattle.smo_parse.proofs.OperatorGoodness.{column_good}
+use Rattle.smo_parse.proofs.OperatorCorrectness.{column_correct}
 use Rattle.smo_parse.proofs.operator_reader.more_columns.Goals as goal
 
 pub loop-alloc-init : goal.loop-alloc-init
-loop-alloc-init c = ([], sym (append-nil c.args.list.now.items), many_first (is_sign (codes ",")) 32 column IsColumn (λ x. false) column_good c.args.c.now.nodes (ahead c.args.c.now))
+loop-alloc-init c = (
+  [],
+  sym (append-nil c.args.list.now.items),
+  many_first (is_sign (codes ",")) 32 column IsColumn (λ x. false) column_correct
+      c.args.c.now.nodes (ahead c.args.c.now),
+)
 
 pub loop-alloc-preserved : goal.loop-alloc-preserved
 loop-alloc-preserved c =
     let inv = c.loop-alloc.invariant in
     let x = c.in_ok-column.field-0 in (
       inv.0 ++ x ∷ [],
-      (let pushed = c.in_ok-push.ensures in pushed.items ∙ ap (λ l. l ++ x ∷ []) inv.1 ∙ append_assoc c.args.list.now.items inv.0 (x ∷ [])),
-      many_next (is_sign (codes ",")) 32 column IsColumn (λ x. false) column_good _ inv.0 c.loop-alloc.c.nodes (ahead c.loop-alloc.c) inv.2 x c.column.new.c.nodes (ahead c.column.new.c) (sym c.sees_sign.ensures ∙ c.loop-alloc-test.true)
-          (behind column _ c.loop-alloc.c.nodes c.skip.new.self.nodes (ahead c.loop-alloc.c) (ahead c.skip.new.self) c.skip.ensures.nodes c.skip.ensures.rest c.in_ok-column.ensures),
+      (let pushed = c.in_ok-push.ensures in pushed.items ∙ ap (λ l. l ++ x ∷ []) inv.1
+          ∙ append_assoc c.args.list.now.items inv.0 (x ∷ [])),
+      many_next (is_sign (codes ",")) 32 column IsColumn (λ x. false) column_correct _ inv.0
+          c.loop-alloc.c.nodes (ahead c.loop-alloc.c) inv.2 x c.column.new.c.nodes
+          (ahead c.column.new.c) (sym c.sees_sign.ensures ∙ c.loop-alloc-test.true)
+          (after column _ c.loop-alloc.c.nodes c.skip.new.self.nodes (ahead c.loop-alloc.c)
+          (ahead c.skip.new.self) c.skip.ensures.nodes c.skip.ensures.rest
+          c.in_ok-column.ensures),
     )
 
 pub loop-alloc-smaller : goal.loop-alloc-smaller
-loop-alloc-smaller c = many_smaller (is_sign (codes ",")) 32 column IsColumn (λ x. false) column_good c.loop-alloc.c c.column.new.c (c.in_ok-column.field-0) c.column.new.c.nodes (sym c.sees_sign.ensures ∙ c.loop-alloc-test.true)
-    (behind column _ c.loop-alloc.c.nodes c.skip.new.self.nodes (ahead c.loop-alloc.c) (ahead c.skip.new.self) c.skip.ensures.nodes c.skip.ensures.rest c.in_ok-column.ensures)
+loop-alloc-smaller c = many_smaller (is_sign (codes ",")) 32 column IsColumn (λ x. false)
+    column_correct c.loop-alloc.c c.column.new.c (c.in_ok-column.field-0) c.column.new.c.nodes
+    (sym c.sees_sign.ensures ∙ c.loop-alloc-test.true)
+    (after column _ c.loop-alloc.c.nodes c.skip.new.self.nodes (ahead c.loop-alloc.c)
+    (ahead c.skip.new.self) c.skip.ensures.nodes c.skip.ensures.rest c.in_ok-column.ensures)
 
 pub returns-in_err-column : goal.returns-in_err-column
 returns-in_err-column c =
     let inv = c.loop-alloc.invariant in
-    let failed = many_err (is_sign (codes ",")) 32 column IsColumn (λ x. false) column_good _ inv.0 c.loop-alloc.c.nodes (ahead c.loop-alloc.c) inv.2 c.in_err-column.field-0.0 c.column.new.c (sym c.sees_sign.ensures ∙ c.loop-alloc-test.true)
-    (behind_fails column c.in_err-column.field-0.0 c.column.new.c c.loop-alloc.c.nodes c.skip.new.self.nodes (ahead c.loop-alloc.c) (ahead c.skip.new.self) c.skip.ensures.nodes c.skip.ensures.rest c.in_err-column.ensures) in
+    let failed = many_err (is_sign (codes ",")) 32 column IsColumn (λ x. false) column_correct _
+    inv.0 c.loop-alloc.c.nodes (ahead c.loop-alloc.c) inv.2 c.in_err-column.field-0.0
+    c.column.new.c (sym c.sees_sign.ensures ∙ c.loop-alloc-test.true)
+    (after_fails column c.in_err-column.field-0.0 c.column.new.c c.loop-alloc.c.nodes
+    c.skip.new.self.nodes (ahead c.loop-alloc.c) (ahead c.skip.new.self) c.skip.ensures.nodes
+    c.skip.ensures.rest c.in_err-column.ensures) in
     let f = err_from_is_err_and c.from_residual.result c.from_residual.ensures.1 in
     rw (f.1, f.2) failed
 
 pub returns : goal.returns
 returns c =
-    let inv = c.loop-alloc.invariant in
-    (inv.0, many_done (is_sign (codes ",")) 32 column IsColumn (λ x. false) column_good _ inv.0 c.loop-alloc.c.nodes (ahead c.loop-alloc.c) inv.2 (sym c.sees_sign.ensures ∙ c.loop-alloc-test.false), inv.1)
+    let inv = c.loop-alloc.invariant in (
+      inv.0,
+      many_done (is_sign (codes ",")) 32 column IsColumn (λ x. false) column_correct _ inv.0
+          c.loop-alloc.c.nodes (ahead c.loop-alloc.c) inv.2
+          (sym c.sees_sign.ensures ∙ c.loop-alloc-test.false),
+      inv.1,
+    )

@@ -7,7 +7,9 @@ use Rattle.smo_parse.specs.OperatorReader.{column}
 use Rattle.smo_parse.proofs.operator_reader.more_columns.Given as goal
 
 abbrev pub invariant-loop-alloc : goal.invariant-loop-alloc
-invariant-loop-alloc l = (read : List Column) × (l.list.items ≡ l.fn.list.items ++ read) × (many (is_sign (codes ",")) column l.fn.c.nodes (ahead l.fn.c) ≡ prepend read (many (is_sign (codes ",")) column l.c.nodes (ahead l.c)))
+invariant-loop-alloc l = (read : List Column) × (l.list.items ≡ l.fn.list.items ++ read)
+    × (many (is_sign (codes ",")) column l.fn.c.nodes (ahead l.fn.c)
+    ≡ prepend read (many (is_sign (codes ",")) column l.c.nodes (ahead l.c)))
 
 abbrev pub decreases-loop-alloc : goal.decreases-loop-alloc
 decreases-loop-alloc l = length l.c.rest.now

@@ -5,4 +5,5 @@ use Rattle.store_cases.proofs.RowOrderLaws.{adjacent_ascend}
 use Rattle.store_cases.proofs.row_comparison.ascend.Goals as goal
 
 pub returns : goal.returns
-returns c = λ t. adjacent_ascend row_cmp row_exact c.args.rows.now (λ k d b. let f = c.loop-place-test.false in c.loop-place.invariant k d (omega (arith, b, f)))
+returns c = λ t. adjacent_ascend row_cmp row_exact c.args.rows.now
+    (λ k d b. let f = c.loop-place-test.false in c.loop-place.invariant k d (omega (arith, b, f)))

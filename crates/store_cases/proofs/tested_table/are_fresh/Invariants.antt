@@ -7,4 +7,5 @@ use Rattle.history_store.specs.Store.{AllBefore, relation_at}
 use Rattle.store_cases.proofs.tested_table.are_fresh.Given as goal
 
 abbrev pub invariant-loop-row : goal.invariant-loop-row
-invariant-loop-row l = (m : ℕ) → m < forever → AllBefore l.stored (m + 1) → All (λ row. has row_cmp row (relation_at l.stored m) ≡ false) (take l.row-index l.rows)
+invariant-loop-row l = (m : ℕ) → m < forever → AllBefore l.stored (m + 1)
+    → All (λ row. has row_cmp row (relation_at l.stored m) ≡ false) (take l.row-index l.rows)

@@ -3,7 +3,8 @@ use Rattle.store_cases.proofs.ScannedLaws.{periods_are}
 use Rattle.store_cases.proofs.tested_table.scan_counted.Goals as goal
 
 pub returns-clause-keys : goal.returns-clause-keys
-returns-clause-keys g c = c.in_ok-keys.ensures ∙ ap (map (λ k. k.period)) c.scan_keys.ensures.entries ∙ periods_are 0 c.args.stored.now.keys
+returns-clause-keys g c = c.in_ok-keys.ensures
+    ∙ ap (map (λ k. k.period)) c.scan_keys.ensures.entries ∙ periods_are 0 c.args.stored.now.keys
 
-pub returns-clause-lawful : goal.returns-clause-lawful
-returns-clause-lawful g c = c.scan_keys.ensures.lawful
+pub returns-clause-valid : goal.returns-clause-valid
+returns-clause-valid g c = c.scan_keys.ensures.valid

@@ -1,13 +1,13 @@
 use Rattle.std.proofs.Common.{◌≡◌, ◌++◌, length, map}
 use Rattle.std.specs.Prelude.{All}
-use Rattle.prima_base.specs.Columns.{IsLawful}
+use Rattle.prima_base.specs.Columns.{IsValid}
 use Rattle.history_store.specs.Restoring.{cell_of}
 use Rattle.store_cases.proofs.tested_table.take_cells.Given as goal
 
 abbrev pub invariant-entries : goal.invariant-entries
 invariant-entries g l = record {
   taken : map cell_of l.cells.items ++ l.scan ≡ l.initial.scan;
-  lawful : All (λ c. IsLawful c.value) (map cell_of l.cells.items);
+  valid : All (λ c. IsValid c.value) (map cell_of l.cells.items);
 }
 
 abbrev pub decreases-entries : goal.decreases-entries

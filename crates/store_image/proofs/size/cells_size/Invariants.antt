@@ -5,7 +5,8 @@ use Rattle.store_image.proofs.size.cells_size.Given as goal
 
 abbrev pub invariant-cells : goal.invariant-cells
 invariant-cells g l = record {
-  counted : min (length (flat_map cell_bytes l.initial.cells)) 18446744073709551615 ≡ min (l.size + length (flat_map cell_bytes l.cells)) 18446744073709551615;
+  counted : min (length (flat_map cell_bytes l.initial.cells)) 18446744073709551615
+      ≡ min (l.size + length (flat_map cell_bytes l.cells)) 18446744073709551615;
   fits : l.size ≤ 18446744073709551615;
 }
 

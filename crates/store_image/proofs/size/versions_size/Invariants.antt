@@ -6,6 +6,8 @@ use Rattle.store_image.proofs.size.versions_size.Given as goal
 
 abbrev pub invariant-loop-version : goal.invariant-loop-version
 invariant-loop-version l = record {
-  counted : min (length (flat_map version_bytes (map version_of l.versions))) 18446744073709551615 ≡ min (l.size + length (flat_map version_bytes (map version_of (drop l.version-index l.versions)))) 18446744073709551615;
+  counted : min (length (flat_map version_bytes (map version_of l.versions))) 18446744073709551615
+      ≡ min (l.size + length (flat_map version_bytes
+      (map version_of (drop l.version-index l.versions)))) 18446744073709551615;
   fits : l.size ≤ 18446744073709551615;
 }

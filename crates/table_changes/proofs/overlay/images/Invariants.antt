@@ -6,4 +6,5 @@ use Rattle.smo_meaning.specs.OneRow.{Row, with_sets}
 use Rattle.table_changes.proofs.overlay.images.Given as goal
 
 abbrev pub invariant-loop-row : goal.invariant-loop-row
-invariant-loop-row l = ((row : Row) → In row l.rows → IsRow l.own row) → l.images.items ≡ map (with_sets l.own (sets_of l.sets)) (take l.row-index l.rows)
+invariant-loop-row l = ((row : Row) → In row l.rows → IsRow l.own row)
+    → l.images.items ≡ map (with_sets l.own (sets_of l.sets)) (take l.row-index l.rows)

@@ -17,10 +17,16 @@ returns-clause-lost c = λ m l h.
     let old = relation_at c.args.store.now m in
     let new = relation_after_each c.args.columns.now its old in
     let known = c.in_ok-overlay.overlay in
-    let o : IsRelation c.args.columns.now old = subst (λ columns. IsRelation columns old) c.requires.same (c.rows_are_a_relation.ensures m l h) in
+    let o : IsRelation c.args.columns.now old =
+    subst (λ columns. IsRelation columns old) c.requires.same
+    (c.rows_are_a_relation.ensures m l h) in
     let n = kept_each c.args.columns.now its old c.requires.columns c.requires.accepted o in
-    let leads : LeadsTo known old new = subst (λ (columns : List Column). LeadsTo known old (relation_after_each columns its old)) c.in_ok-own.ensures (c.in_ok-overlay.ensures m l h) in
-    IfOk-weaker c.lost_and_gained_by_now.result _ _ (λ p e. e ∙ lost_are known old new (as_ascends (keys_of known) c.lost_and_gained_by_now.ensures.ordered) o.ascending n.ascending leads)
+    let leads : LeadsTo known old new = subst
+    (λ (columns : List Column). LeadsTo known old (relation_after_each columns its old))
+    c.in_ok-own.ensures (c.in_ok-overlay.ensures m l h) in
+    IfOk-weaker c.lost_and_gained_by_now.result _ _
+    (λ p e. e ∙ lost_are known old new (as_ascends (keys_of known)
+    c.lost_and_gained_by_now.ensures.ordered) o.ascending n.ascending leads)
     c.lost_and_gained_by_now.ensures.lost
 
 pub returns-clause-gained : goal.returns-clause-gained
@@ -29,8 +35,14 @@ returns-clause-gained c = λ m l h.
     let old = relation_at c.args.store.now m in
     let new = relation_after_each c.args.columns.now its old in
     let known = c.in_ok-overlay.overlay in
-    let o : IsRelation c.args.columns.now old = subst (λ columns. IsRelation columns old) c.requires.same (c.rows_are_a_relation.ensures m l h) in
+    let o : IsRelation c.args.columns.now old =
+    subst (λ columns. IsRelation columns old) c.requires.same
+    (c.rows_are_a_relation.ensures m l h) in
     let n = kept_each c.args.columns.now its old c.requires.columns c.requires.accepted o in
-    let leads : LeadsTo known old new = subst (λ (columns : List Column). LeadsTo known old (relation_after_each columns its old)) c.in_ok-own.ensures (c.in_ok-overlay.ensures m l h) in
-    IfOk-weaker c.lost_and_gained_by_now.result _ _ (λ p e. e ∙ gained_are known old new (as_ascends (keys_of known) c.lost_and_gained_by_now.ensures.ordered) o.ascending n.ascending leads)
+    let leads : LeadsTo known old new = subst
+    (λ (columns : List Column). LeadsTo known old (relation_after_each columns its old))
+    c.in_ok-own.ensures (c.in_ok-overlay.ensures m l h) in
+    IfOk-weaker c.lost_and_gained_by_now.result _ _
+    (λ p e. e ∙ gained_are known old new (as_ascends (keys_of known)
+    c.lost_and_gained_by_now.ensures.ordered) o.ascending n.ascending leads)
     c.lost_and_gained_by_now.ensures.gained

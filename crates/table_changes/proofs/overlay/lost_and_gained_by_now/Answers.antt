@@ -9,6 +9,10 @@ loop-row-preserved c =
     let row = c.in-Some.row in
     let there = c.in-Some.there in
     record {
-      lost = c.in_ok-put_row.ensures.lost ∙ ap (λ (rows : Relation). rows ++ (if there then [] else row ∷ [])) c.loop-row.invariant.lost ∙ sym (lost_more c.loop-row.yielded row there);
-      gained = c.in_ok-put_row.ensures.gained ∙ ap (λ (rows : Relation). rows ++ (if there then row ∷ [] else [])) c.loop-row.invariant.gained ∙ sym (gained_more c.loop-row.yielded row there);
+      lost = c.in_ok-put_row.ensures.lost ∙ ap
+          (λ (rows : Relation). rows ++ (if there then [] else row ∷ [])) c.loop-row.invariant.lost
+          ∙ sym (lost_more c.loop-row.yielded row there);
+      gained = c.in_ok-put_row.ensures.gained
+          ∙ ap (λ (rows : Relation). rows ++ (if there then row ∷ [] else []))
+          c.loop-row.invariant.gained ∙ sym (gained_more c.loop-row.yielded row there);
     }

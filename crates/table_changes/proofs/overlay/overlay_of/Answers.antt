@@ -13,7 +13,8 @@ loop-change-preserved c =
     let own = c.args.own.now in
     let name = c.args.name.now in
     let changes = c.args.changes.now in
-    let accepted = accepted_next name changes i x c.loop-change-test.true c.change-item.is own c.loop-change.invariant.accepted in
+    let accepted = accepted_next name changes i x c.loop-change-test.true c.change-item.is own
+    c.loop-change.invariant.accepted in
     record {
       accepted = accepted.1;
       leads = λ m l h.
@@ -22,6 +23,8 @@ loop-change-preserved c =
             relation_after_each own one w.0,
             kept_each own one w.0 c.requires.columns accepted.0 w.1,
             c.in_ok-apply_own.ensures m w.0 l h w.1 w.2,
-            applied_next name changes i x c.loop-change-test.true c.change-item.is own (relation_after_each own (of_table name (changes_of changes)) (relation_at c.args.store.now m)) w.0 (relation_after_each own one w.0) w.3 refl,
+            applied_next name changes i x c.loop-change-test.true c.change-item.is own
+                (relation_after_each own (of_table name (changes_of changes))
+                (relation_at c.args.store.now m)) w.0 (relation_after_each own one w.0) w.3 refl,
           );
     }

@@ -12,6 +12,9 @@ use Rattle.table_changes.proofs.overlay.overlay_of.Given as goal
 abbrev pub invariant-loop-change : goal.invariant-loop-change
 invariant-loop-change l = record {
   accepted : AreAccepted l.own (of_table l.name (changes_of (drop l.change-index l.changes)));
-  leads : (m : ℕ) → m < forever → AllBefore l.store (m + 1) → (now : Relation) × IsRelation l.own now × LeadsTo l.overlay (relation_at l.store m) now
-      × (relation_after_each l.own (of_table l.name (changes_of l.changes)) (relation_at l.store m) ≡ relation_after_each l.own (of_table l.name (changes_of (drop l.change-index l.changes))) now);
+  leads : (m : ℕ) → m < forever → AllBefore l.store (m + 1) → (now : Relation)
+      × IsRelation l.own now × LeadsTo l.overlay (relation_at l.store m) now
+      × (relation_after_each l.own (of_table l.name (changes_of l.changes)) (relation_at l.store m)
+      ≡ relation_after_each l.own (of_table l.name (changes_of (drop l.change-index l.changes)))
+      now);
 }

@@ -11,5 +11,7 @@ use Rattle.table_changes.proofs.overlay.put_stored_hits.Given as goal
 abbrev pub invariant-loop-at : goal.invariant-loop-at
 invariant-loop-at l = record {
   same : l.rows ≡ l.fn.rows;
-  hits : ((row : Row) → In row l.fn.rows → IsRow l.own row) → l.hits.items ≡ l.fn.hits.items ++ filter (λ row. meets l.own (test l.cond) row && is_kept l.overlay row) (take l.at l.fn.rows);
+  hits : ((row : Row) → In row l.fn.rows → IsRow l.own row)
+      → l.hits.items ≡ l.fn.hits.items ++ filter
+      (λ row. meets l.own (test l.cond) row && is_kept l.overlay row) (take l.at l.fn.rows);
 }

@@ -14,5 +14,7 @@ abbrev pub invariant-loop-row : goal.invariant-loop-row
 invariant-loop-row l = record {
   left : l.fn.rows.items ≡ l.yielded ++ into_iter_items l.row-iterator;
   put : (m : ℕ) → m < forever → AllBefore l.store (m + 1) → (row : Row)
-      → lookup (is_at (row_cmp row)) l.overlay ≡ cond (has row_cmp row l.yielded) (told (has row_cmp row (relation_at l.store m)) l.there) (lookup (is_at (row_cmp row)) l.fn.overlay);
+      → lookup (is_at (row_cmp row)) l.overlay
+      ≡ cond (has row_cmp row l.yielded) (told (has row_cmp row (relation_at l.store m))
+      l.there) (lookup (is_at (row_cmp row)) l.fn.overlay);
 }

@@ -16,7 +16,8 @@ returns-then-there-holds c = λ m l h.
     let stored = relation_at c.args.store.now m in
     let same : c.args.there ≡ c.holds.result = grind (arith, common_steps) in
     on_ok_weaker c.set.result
-    (λ g q. one_set row q stored c.args.there None (lookup (is_at (row_cmp q)) c.args.overlay.now) (lookup (is_at (row_cmp q)) c.set.new.self) (g q)
+    (λ g q. one_set row q stored c.args.there None (lookup (is_at (row_cmp q)) c.args.overlay.now)
+    (lookup (is_at (row_cmp q)) c.set.new.self) (g q)
     (told_same (has row_cmp row stored) c.args.there (sym (same ∙ c.holds.ensures.now m l h))))
     c.set.ensures
 
@@ -26,6 +27,9 @@ returns c = λ m l h.
     let stored = relation_at c.args.store.now m in
     let apart : c.args.there ≢ c.holds.result = grind (arith, common_steps) in
     on_ok_weaker c.set-2.result
-    (λ g q. one_set row q stored c.args.there (Some c.args.there) (lookup (is_at (row_cmp q)) c.args.overlay.now) (lookup (is_at (row_cmp q)) c.set-2.new.self) (g q)
-    (told_other (has row_cmp row stored) c.args.there (λ e. apart (sym e ∙ sym (c.holds.ensures.now m l h)))))
+    (λ g q. one_set row q stored c.args.there (Some c.args.there)
+    (lookup (is_at (row_cmp q)) c.args.overlay.now)
+    (lookup (is_at (row_cmp q)) c.set-2.new.self) (g q)
+    (told_other (has row_cmp row stored) c.args.there
+    (λ e. apart (sym e ∙ sym (c.holds.ensures.now m l h)))))
     c.set-2.ensures

@@ -12,8 +12,10 @@ pub returns-clause-is : goal.returns-clause-is
 returns-clause-is c = listing_is
 
 pub returns-clause-one : goal.returns-clause-one
-returns-clause-one c = λ past query a b p q. one_listing row_cmp row_exact (asked_at past query) (slice_of query.when) a b p q
+returns-clause-one c = λ past query a b p q. one_listing row_cmp row_exact (asked_at past query)
+    (slice_of query.when) a b p q
 
 pub returns-clause-answer : goal.returns-clause-answer
 returns-clause-answer c = λ past query entries a b l to h.
-    ap (kept query.keep) (one_listing row_cmp row_exact (asked_at past query) (slice_of query.when) (listing past query) entries (listing_is past query a b l to) h)
+    ap (kept query.keep) (one_listing row_cmp row_exact (asked_at past query) (slice_of query.when)
+    (listing past query) entries (listing_is past query a b l to) h)

@@ -5,6 +5,7 @@ use Rattle.version_groups.proofs.groups.count_begun.Given as goal
 
 abbrev pub invariant-loop-version : goal.invariant-loop-version
 invariant-loop-version l = record {
-  counted : length (begun_at l.moment (map version_of l.versions)) ≡ l.count + length (begun_at l.moment (map version_of (drop l.version-index l.versions)));
+  counted : length (begun_at l.moment (map version_of l.versions))
+      ≡ l.count + length (begun_at l.moment (map version_of (drop l.version-index l.versions)));
   few : l.count ≤ l.version-index;
 }

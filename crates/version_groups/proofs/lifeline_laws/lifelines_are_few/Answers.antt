@@ -8,5 +8,5 @@ returns-clause-versions c = few_lifelines
 pub returns-clause-sizes : goal.returns-clause-sizes
 returns-clause-sizes c = λ kept past shows.
     let few = few_sizes kept past shows in
-    let most = shows.lawful.few in
+    let most = shows.valid.few in
     omega (arith, few, most)

@@ -4,4 +4,5 @@ use Rattle.version_ways.proofs.LossesByName.{losses_are, no_losses}
 use Rattle.version_ways.proofs.laws.names_tell_what_is_lost.Goals as goal
 
 pub returns : goal.returns
-returns c = λ versions v q database h. losses_are versions v q empty database (no_losses (tables_from no_tables versions v) database h)
+returns c = λ versions v q database h. losses_are versions v q empty database
+    (no_losses (tables_from no_tables versions v) database h)

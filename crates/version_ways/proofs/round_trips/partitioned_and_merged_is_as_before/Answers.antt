@@ -5,4 +5,5 @@ pub returns-clause-inverse : goal.returns-clause-inverse
 returns-clause-inverse c = λ tables r s test t e. partition_inverse tables r s t test e
 
 pub returns-clause-database : goal.returns-clause-database
-returns-clause-database c = λ tables r s test t database e h. partition_back tables r s t test e database h
+returns-clause-database c = λ tables r s test t database e h.
+    partition_back tables r s t test e database h

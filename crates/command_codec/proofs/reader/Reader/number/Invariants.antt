@@ -6,7 +6,8 @@ abbrev pub invariant-loop-left : goal.invariant-loop-left
 invariant-loop-left l = record {
   few : l.left ≤ 8;
   small : l.number ≤ l.most / 2 ^ (8 * l.left);
-  so_far : digits l.most l.width 0 l.fn.self.rest.now ≡ digits l.most l.left l.number l.self.rest.now;
+  so_far : digits l.most l.width 0 l.fn.self.rest.now
+      ≡ digits l.most l.left l.number l.self.rest.now;
 }
 
 abbrev pub decreases-loop-left : goal.decreases-loop-left

@@ -7,4 +7,6 @@ pub returns-in-Some-clause-reads : goal.returns-in-Some-clause-reads
 returns-in-Some-clause-reads c =
     let ts = c.args.self.now.rest.now in
     let parts = c.in-Some.ensures.cases in
-    sym (ap (digits 18446744073709551615 8 0) (ap (λ l. l ++ c.in-Some.rest.now) parts.0 ∙ ap (λ l. take 8 ts ++ l) parts.1 ∙ take-append-drop 8 ts)) ∙ c.number_of.ensures c.in-Some.rest.now
+    sym (ap (digits 18446744073709551615 8 0)
+    (ap (λ l. l ++ c.in-Some.rest.now) parts.0 ∙ ap (λ l. take 8 ts ++ l) parts.1
+    ∙ take-append-drop 8 ts)) ∙ c.number_of.ensures c.in-Some.rest.now

@@ -11,12 +11,18 @@ returns-in_err-one_of-clause-reads c =
     let ts = c.loop-left.self.rest.now in
     let f = err_from_is_err_and c.from_residual.result c.from_residual.ensures.1 in
     rw (f.1, f.2)
-    (fails_along (byte P ts) (run P c.args.count start) c.in_err-one_of.field-0.0 c.one_of.new.self.rest.now
-    (λ rest h. then_stuck P c.args.count c.loop-left.left start ts rest c.loop-left.invariant c.loop-left-test.true h) c.in_err-one_of.ensures.reads)
+    (fails_along (byte P ts) (run P c.args.count start) c.in_err-one_of.field-0.0
+    c.one_of.new.self.rest.now
+    (λ rest h. then_stuck P c.args.count c.loop-left.left start ts rest c.loop-left.invariant
+    c.loop-left-test.true h) c.in_err-one_of.ensures.reads)
 
 pub loop-left-preserved : goal.loop-left-preserved
 loop-left-preserved c =
-    one_more (takes c.args.alphabet) c.args.count c.loop-left.left c.in_ok-one_of.field-0 c.args.self.now.rest.now c.loop-left.self.rest.now c.one_of.new.self.rest.now c.loop-left.invariant c.loop-left-test.true c.in_ok-one_of.ensures.reads
+    one_more (takes c.args.alphabet) c.args.count c.loop-left.left c.in_ok-one_of.field-0
+    c.args.self.now.rest.now c.loop-left.self.rest.now c.one_of.new.self.rest.now
+    c.loop-left.invariant c.loop-left-test.true c.in_ok-one_of.ensures.reads
 
 pub returns-clause-reads : goal.returns-clause-reads
-returns-clause-reads c = (all_read (takes c.args.alphabet) c.args.count c.loop-left.left c.args.self.now.rest.now c.loop-left.self.rest.now c.loop-left.invariant c.loop-left-test.false).1
+returns-clause-reads c = (all_read (takes c.args.alphabet) c.args.count c.loop-left.left
+    c.args.self.now.rest.now c.loop-left.self.rest.now c.loop-left.invariant
+    c.loop-left-test.false).1

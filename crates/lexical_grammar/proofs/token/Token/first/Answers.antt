@@ -1,7 +1,11 @@
 use Rattle.std.proofs.Common.{ap, sym, ◌∙◌, length-take-le}
-use Rattle.lexical_grammar.specs.declared.pieces.Piece.TheVariants.{Of}
+use Rattle.lexical_grammar.specs.declared.piece.Piece.TheVariants.{Of}
 use Rattle.lexical_grammar.proofs.Whole.{again}
 use Rattle.lexical_grammar.proofs.token.Token.first.Goals as goal
 
 pub invariant_of-result : goal.invariant_of-result
-invariant_of-result c = record { whole = again c.args.bytes.now c.args.kind c.args.len c.requires.token ∙ ap (Of c.args.kind) (sym (length-take-le c.args.len c.args.bytes.now c.requires.within)) }
+invariant_of-result c = record {
+  whole = again c.args.bytes.now c.args.kind c.args.len
+      c.requires.token ∙ ap (Of c.args.kind) (sym
+      (length-take-le c.args.len c.args.bytes.now c.requires.within));
+}

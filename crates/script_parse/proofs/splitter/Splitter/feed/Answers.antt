@@ -8,6 +8,9 @@ loop-i-preserved c =
     record {
       alive = rw c.in-Ok.ensures.ok c.loop-i.invariant.alive;
       short = c.in-Ok.ensures.short;
-      pieces = λ more. rw c.in-Ok.ensures.ok (c.loop-i.invariant.pieces more ∙ pieces_turn c.args.bytes.now more c.loop-i.i _ _ c.loop-i-test.true open_is);
-      endings = λ more. rw c.in-Ok.ensures.ok (c.loop-i.invariant.endings more ∙ endings_turn c.args.bytes.now more c.loop-i.i _ _ c.loop-i-test.true open_is);
+      pieces = λ more. rw c.in-Ok.ensures.ok (c.loop-i.invariant.pieces more
+          ∙ pieces_turn c.args.bytes.now more c.loop-i.i _ _ c.loop-i-test.true open_is);
+      endings = λ more. rw c.in-Ok.ensures.ok
+          (c.loop-i.invariant.endings more ∙ endings_turn c.args.bytes.now more c.loop-i.i _ _
+          c.loop-i-test.true open_is);
     }

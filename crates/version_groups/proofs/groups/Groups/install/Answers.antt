@@ -1,6 +1,6 @@
 use Rattle.std.proofs.Common.{◌≡◌, sym, ap, subst}
 use Rattle.version_groups.specs.Installing.{HasStep}
-use Rattle.version_groups.specs.Steps.{step_of, Readied, IsStep}
+use Rattle.version_groups.specs.Steps.{step_of, PreparedCommand, IsStep}
 use Rattle.version_groups.proofs.groups.Groups.install.Goals as goal
 
 pub install_step-requires : goal.install_step-requires
@@ -8,13 +8,24 @@ install_step-requires c =
     let past = c.requires.0 in
     let command = c.requires.1 in
     let ready = c.requires.3 in
-    let is : step_of c.args.next.step ≡ step_of c.next.inside.step = ap (λ (r : Readied). step_of r.step) (sym c.next.view_is) in
-    (past, command, c.requires.2, ready.accepted, ready.lawful, ready.constants, subst (IsStep c.args.self.now past command.stamp command.body) is ready.step)
+    let is : step_of c.args.next.step ≡ step_of c.next.inside.step =
+    ap (λ (r : PreparedCommand). step_of r.step) (sym c.next.view_is) in (
+      past,
+      command,
+      c.requires.2,
+      ready.accepted,
+      ready.valid,
+      ready.constants,
+      subst (IsStep c.args.self.now past command.stamp command.body) is ready.step,
+    )
 
 pub returns-clause-shows : goal.returns-clause-shows
 returns-clause-shows c = λ past command shows ready.
-    let is : step_of c.args.next.step ≡ step_of c.next.inside.step = ap (λ (r : Readied). step_of r.step) (sym c.next.view_is) in
-    c.install_step.ensures.shows past command shows ready.accepted ready.lawful ready.constants (subst (IsStep c.args.self.now past command.stamp command.body) is ready.step)
+    let is : step_of c.args.next.step ≡ step_of c.next.inside.step =
+    ap (λ (r : PreparedCommand). step_of r.step) (sym c.next.view_is) in
+    c.install_step.ensures.shows past command shows ready.accepted ready.valid ready.constants
+    (subst (IsStep c.args.self.now past command.stamp command.body) is ready.step)
 
 pub returns-clause-step : goal.returns-clause-step
-returns-clause-step c = subst (HasStep c.args.self.now c.install_step.new.self) (ap (λ (r : Readied). r.step) c.next.view_is) c.install_step.ensures.step
+returns-clause-step c = subst (HasStep c.args.self.now c.install_step.new.self)
+    (ap (λ (r : PreparedCommand). r.step) c.next.view_is) c.install_step.ensures.step

@@ -3,7 +3,7 @@ use Rattle.relations.specs.Sets.{Ascends}
 use Rattle.prima_base.specs.Order.{bytes_cmp}
 use Rattle.schema_catalog.specs.Tables.{Tables}
 use Rattle.smo_types.specs.Changes.{changes_of}
-use Rattle.version_groups.specs.declared.made_tables.MadeTable.{MadeTable}
+use Rattle.version_groups.specs.declared.made_table.MadeTable.{MadeTable}
 use Rattle.version_groups.specs.declared.groups.Groups.TheInside.{Inside}
 use Rattle.std.specs.Prelude.{List, length}
 use Rattle.version_groups.specs.Groups.{Kept, newest_group, names_of}
@@ -11,63 +11,95 @@ use Rattle.version_groups.specs.GroupFields.{groups_view}
 use Rattle.version_groups.specs.Changing.{AreChangeable, AreReady, all_gained, all_lost}
 use Rattle.version_groups.specs.Room.{IsSame}
 use Rattle.version_groups.specs.Places.{at_places, AreWithin}
-use Rattle.version_groups.proofs.GroupPlaces.{newest_is, view_same, are_groups, names_kept, lines_kept}
-use Rattle.version_groups.proofs.Readied.{schema_is, changeable_now, changes_ready}
+use Rattle.version_groups.proofs.GroupPlaces.{newest_is, view_same, are_groups, names_kept}
+use Rattle.version_groups.proofs.GroupPlaces.{lines_kept}
+use Rattle.version_groups.proofs.PreparedCommand.{schema_is, changeable_now, changes_ready}
 use Rattle.version_groups.proofs.groups.Groups.prepare_changes.Goals as goal
 
 pub prepare_tables-requires-clause-there : goal.prepare_tables-requires-clause-there
-prepare_tables-requires-clause-there c = subst (λ ps. AreWithin ps (length c.self.inside.stored.items)) (sym c.deref.ensures.value) c.self.invariant.newest_there
+prepare_tables-requires-clause-there c = subst
+    (λ ps. AreWithin ps (length c.self.inside.stored.items)) (sym c.deref.ensures.value)
+    c.self.invariant.newest_there
 
 pub prepare_tables-requires-clause-ordered : goal.prepare_tables-requires-clause-ordered
-prepare_tables-requires-clause-ordered c = subst (λ ps. Ascends bytes_cmp (names_of (at_places c.self.inside.stored.items ps))) (sym c.deref.ensures.value) c.self.invariant.newest
+prepare_tables-requires-clause-ordered c = subst
+    (λ ps. Ascends bytes_cmp (names_of (at_places c.self.inside.stored.items ps)))
+    (sym c.deref.ensures.value) c.self.invariant.newest
 
 pub prepare_tables-requires-clause-changeable : goal.prepare_tables-requires-clause-changeable
 prepare_tables-requires-clause-changeable c =
     let a = c.self.inside in
     let h = c.requires.accepted in
-    let own : newest_group c.args.self.now ≡ at_places a.stored.items a.newest.items = ap newest_group (sym c.self.view_is) ∙ newest_is a c.self.invariant in
-    let group : newest_group c.args.self.now ≡ at_places a.stored.items c.deref.result.now = own ∙ ap (at_places a.stored.items) (sym c.deref.ensures.value) in
-    let ordered : Ascends bytes_cmp (names_of (newest_group c.args.self.now)) = subst (λ (ts : List MadeTable). Ascends bytes_cmp (names_of ts)) (sym own) c.self.invariant.newest in
-    let schema = c.newest_schema-schema.ensures ∙ schema_is c.args.self.now h.0 h.1 a.nothing a.versions.list.items c.self.invariant.nothing (ap (λ (k : Kept). k.versions) c.self.view_is) in
-    subst (λ (t : Tables). AreChangeable t c.args.stamp (changes_of c.args.changes.now) (at_places a.stored.items c.deref.result.now)) (sym schema)
-    (subst (AreChangeable _ c.args.stamp (changes_of c.args.changes.now)) group (changeable_now c.args.self.now h.0 c.args.stamp (changes_of c.args.changes.now) h.1 c.requires.lawful h.2 ordered))
+    let own : newest_group c.args.self.now ≡ at_places a.stored.items a.newest.items =
+    ap newest_group (sym c.self.view_is) ∙ newest_is a c.self.invariant in
+    let group : newest_group c.args.self.now ≡ at_places a.stored.items c.deref.result.now = own
+    ∙ ap (at_places a.stored.items) (sym c.deref.ensures.value) in
+    let ordered : Ascends bytes_cmp (names_of (newest_group c.args.self.now)) =
+    subst (λ (ts : List MadeTable). Ascends bytes_cmp (names_of ts)) (sym own)
+    c.self.invariant.newest in
+    let schema = c.newest_schema-schema.ensures
+    ∙ schema_is c.args.self.now h.0 h.1 a.nothing a.versions.list.items c.self.invariant.nothing
+    (ap (λ (k : Kept). k.versions) c.self.view_is) in
+    subst (λ (t : Tables). AreChangeable t c.args.stamp (changes_of c.args.changes.now)
+    (at_places a.stored.items c.deref.result.now)) (sym schema)
+    (subst (AreChangeable _ c.args.stamp (changes_of c.args.changes.now)) group
+    (changeable_now c.args.self.now h.0 c.args.stamp (changes_of c.args.changes.now) h.1
+    c.requires.valid h.2 ordered))
 
 pub invariant_of-self : goal.invariant_of-self
 invariant_of-self c =
     let a = c.self.inside in
     let b : Inside = record a { stored = c.prepare_tables.new.tables } in
-    are_groups a b refl refl refl c.self.invariant refl (names_kept a.stored.items c.prepare_tables.new.tables.items c.prepare_tables.ensures.same) (lines_kept a.stored.items c.prepare_tables.new.tables.items c.prepare_tables.ensures.same)
+    are_groups a b refl refl refl c.self.invariant refl
+    (names_kept a.stored.items c.prepare_tables.new.tables.items c.prepare_tables.ensures.same)
+    (lines_kept a.stored.items c.prepare_tables.new.tables.items c.prepare_tables.ensures.same)
 
 pub returns-clause-same : goal.returns-clause-same
 returns-clause-same c =
     let a = c.self.inside in
     let b : Inside = record a { stored = c.prepare_tables.new.tables } in
-    subst (λ (k : Kept). IsSame k (groups_view b)) c.self.view_is (view_same a b refl refl refl c.prepare_tables.ensures.same (omega arith) (omega arith))
+    subst (λ (k : Kept). IsSame k (groups_view b)) c.self.view_is
+    (view_same a b refl refl refl c.prepare_tables.ensures.same (omega arith) (omega arith))
 
 pub returns-clause-next : goal.returns-clause-next
 returns-clause-next c = λ past shows accepted.
     let a = c.self.inside in
     let b : Inside = record a { stored = c.prepare_tables.new.tables } in
     let its = changes_of c.args.changes.now in
-    let own : newest_group c.args.self.now ≡ at_places a.stored.items a.newest.items = ap newest_group (sym c.self.view_is) ∙ newest_is a c.self.invariant in
-    let group : newest_group c.args.self.now ≡ at_places a.stored.items c.deref.result.now = own ∙ ap (at_places a.stored.items) (sym c.deref.ensures.value) in
-    let ordered : Ascends bytes_cmp (names_of (newest_group c.args.self.now)) = subst (λ (ts : List MadeTable). Ascends bytes_cmp (names_of ts)) (sym own) c.self.invariant.newest in
-    let same : IsSame c.args.self.now (groups_view b) = subst (λ (k : Kept). IsSame k (groups_view b)) c.self.view_is (view_same a b refl refl refl c.prepare_tables.ensures.same (omega arith) (omega arith)) in
-    let now : newest_group (groups_view b) ≡ at_places b.stored.items c.deref.result.now = newest_is b
-    (are_groups a b refl refl refl c.self.invariant refl (names_kept a.stored.items c.prepare_tables.new.tables.items c.prepare_tables.ensures.same) (lines_kept a.stored.items c.prepare_tables.new.tables.items c.prepare_tables.ensures.same))
+    let own : newest_group c.args.self.now ≡ at_places a.stored.items a.newest.items =
+    ap newest_group (sym c.self.view_is) ∙ newest_is a c.self.invariant in
+    let group : newest_group c.args.self.now ≡ at_places a.stored.items c.deref.result.now = own
+    ∙ ap (at_places a.stored.items) (sym c.deref.ensures.value) in
+    let ordered : Ascends bytes_cmp (names_of (newest_group c.args.self.now)) =
+    subst (λ (ts : List MadeTable). Ascends bytes_cmp (names_of ts)) (sym own)
+    c.self.invariant.newest in
+    let same : IsSame c.args.self.now (groups_view b) =
+    subst (λ (k : Kept). IsSame k (groups_view b)) c.self.view_is
+    (view_same a b refl refl refl c.prepare_tables.ensures.same (omega arith) (omega arith)) in
+    let now : newest_group (groups_view b) ≡ at_places b.stored.items c.deref.result.now =
+    newest_is b
+    (are_groups a b refl refl refl c.self.invariant refl
+    (names_kept a.stored.items c.prepare_tables.new.tables.items c.prepare_tables.ensures.same)
+    (lines_kept a.stored.items c.prepare_tables.new.tables.items c.prepare_tables.ensures.same))
     ∙ ap (at_places b.stored.items) (sym c.deref.ensures.value) in
-    changes_ready c.args.self.now past c.args.stamp its shows c.requires.lawful accepted ordered c.requires.constants (groups_view b) same c.in_ok-made.made.plans.items
-    (subst (λ (ts : List MadeTable). AreReady c.args.stamp its ts c.in_ok-made.made.plans.items) (sym now) c.in_ok-made.ensures.ready) _ refl
-    (c.in_ok-made.ensures.gained ∙ ap (all_gained c.args.stamp its) (sym group)) (c.in_ok-made.ensures.lost ∙ ap (all_lost c.args.stamp its) (sym group))
+    changes_ready c.args.self.now past c.args.stamp its shows c.requires.valid accepted ordered
+    c.requires.constants (groups_view b) same c.in_ok-made.made.plans.items
+    (subst (λ (ts : List MadeTable). AreReady c.args.stamp its ts c.in_ok-made.made.plans.items)
+    (sym now) c.in_ok-made.ensures.ready) _ refl
+    (c.in_ok-made.ensures.gained ∙ ap (all_gained c.args.stamp its) (sym group))
+    (c.in_ok-made.ensures.lost ∙ ap (all_lost c.args.stamp its) (sym group))
 
 pub returns-in_err-made-clause-same : goal.returns-in_err-made-clause-same
 returns-in_err-made-clause-same c =
     let a = c.self.inside in
     let b : Inside = record a { stored = c.prepare_tables.new.tables } in
-    subst (λ (k : Kept). IsSame k (groups_view b)) c.self.view_is (view_same a b refl refl refl c.prepare_tables.ensures.same (omega arith) (omega arith))
+    subst (λ (k : Kept). IsSame k (groups_view b)) c.self.view_is
+    (view_same a b refl refl refl c.prepare_tables.ensures.same (omega arith) (omega arith))
 
 pub invariant_of-self-2 : goal.invariant_of-self-2
 invariant_of-self-2 c =
     let a = c.self.inside in
     let b : Inside = record a { stored = c.prepare_tables.new.tables } in
-    are_groups a b refl refl refl c.self.invariant refl (names_kept a.stored.items c.prepare_tables.new.tables.items c.prepare_tables.ensures.same) (lines_kept a.stored.items c.prepare_tables.new.tables.items c.prepare_tables.ensures.same)
+    are_groups a b refl refl refl c.self.invariant refl
+    (names_kept a.stored.items c.prepare_tables.new.tables.items c.prepare_tables.ensures.same)
+    (lines_kept a.stored.items c.prepare_tables.new.tables.items c.prepare_tables.ensures.same)

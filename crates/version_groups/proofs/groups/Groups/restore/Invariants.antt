@@ -2,8 +2,8 @@ use Rattle.std.proofs.Common.{◌≡◌, ◌++◌, ℕ, map}
 use Rattle.std.specs.Prelude.{Option}
 use Rattle.std.specs.Vec.Iter.{into_iter_items}
 use Rattle.smo_types.specs.Commands.{version_of}
-use Rattle.smo_meaning.specs.After.{IsLawful}
-use Rattle.smo_meaning.specs.LawfulPast.{AreVersions}
+use Rattle.smo_meaning.specs.After.{IsValid}
+use Rattle.smo_meaning.specs.ValidPast.{AreVersions}
 use Rattle.smo_meaning.specs.Past.{no_tables, newest_from}
 use Rattle.version_groups.specs.Groups.{versions_in}
 use Rattle.version_groups.specs.Restoring.{AreRestored, stores_of}
@@ -14,6 +14,7 @@ invariant-loop-version l = record {
   restored : AreRestored l.groups;
   done : l.groups.versions ++ into_iter_items l.version-iterator ≡ l.fn.versions.list.items;
   taken : stores_of l.groups.stored ++ into_iter_items l.left ≡ l.fn.stores.items;
-  lawful : IsLawful (newest_from no_tables (versions_in l.groups));
-  accepted : (last : Option ℕ) × AreVersions last (newest_from no_tables (versions_in l.groups)) (map version_of (into_iter_items l.version-iterator));
+  valid : IsValid (newest_from no_tables (versions_in l.groups));
+  accepted : (last : Option ℕ) × AreVersions last (newest_from no_tables (versions_in l.groups))
+      (map version_of (into_iter_items l.version-iterator));
 }

@@ -5,4 +5,6 @@ use Rattle.version_groups.specs.Places.{at_places}
 use Rattle.version_groups.proofs.groups.Groups.table.Goals as goal
 
 pub returns-in_err-places : goal.returns-in_err-places
-returns-in_err-places c = ap (λ o. option_copied o) c.from_residual.ensures ∙ sym (ap (λ ps. stored_as c.args.name.now (at_places c.args.self.now.stored ps)) c.in_err-places.ensures.1)
+returns-in_err-places c = ap (λ o. option_copied o) c.from_residual.ensures
+    ∙ sym (ap (λ ps. stored_as c.args.name.now (at_places c.args.self.now.stored ps))
+    c.in_err-places.ensures.1)

@@ -1,7 +1,7 @@
 use Rattle.std.proofs.Common.{length, map, ap, sym, ◌∙◌, arith}
 use Rattle.std.proofs.lemmas.List.{length-map}
 use Rattle.smo_types.specs.Commands.{version_of}
-use Rattle.smo_meaning.specs.LawfulPast.{last_or_nought}
+use Rattle.smo_meaning.specs.ValidPast.{last_or_nought}
 use Rattle.smo_meaning.specs.Past.{begun_at}
 use Rattle.smo_meaning.proofs.PastMoments.{all_begun, few_begun}
 use Rattle.version_groups.specs.Groups.{Kept}
@@ -17,9 +17,13 @@ overflow_cast-result c =
 pub returns-clause-number : goal.returns-clause-number
 returns-clause-number c = λ past e.
     c.count_begun.ensures
-    ∙ ap (λ vs. length (begun_at c.args.moment vs)) (ap (map version_of) (c.deref.ensures.value ∙ ap (λ (k : Kept). k.versions) c.self.view_is) ∙ sym e)
+    ∙ ap (λ vs. length (begun_at c.args.moment vs))
+    (ap (map version_of) (c.deref.ensures.value ∙ ap (λ (k : Kept). k.versions) c.self.view_is)
+    ∙ sym e)
 
 pub returns-clause-newest : goal.returns-clause-newest
 returns-clause-newest c = λ past shows at.
     let ends = shows.ends in
-    returns-clause-number c past (sym shows.versions) ∙ ap length (all_begun (last_or_nought past.last) c.args.moment past.versions shows.lawful.versions (omega (arith, ends, at)))
+    returns-clause-number c past (sym shows.versions)
+    ∙ ap length (all_begun (last_or_nought past.last) c.args.moment past.versions
+    shows.valid.versions (omega (arith, ends, at)))

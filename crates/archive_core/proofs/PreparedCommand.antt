@@ -1,0 +1,12 @@
+-- An archive in memory that is as it was, but for room.
+use Rattle.std.proofs.Common.{◌≡◌, refl, sym, subst}
+use Rattle.smo_meaning.specs.Past.{Past}
+use Rattle.version_groups.proofs.PreparedCommand.{is_same}
+use Rattle.archive_state.specs.Standing.{ArchiveContent, RepresentsPast}
+use Rattle.archive_core.specs.Committing.{IsUnchanged}
+
+pub unchanged : (past : Past) (old new : ArchiveContent) → RepresentsPast old past → new ≡ old
+    → IsUnchanged past old new
+unchanged past old new shows e =
+    subst (λ (s : ArchiveContent). IsUnchanged past old s) (sym e)
+    (record { same = record { groups = is_same old.groups; last = refl }; shows = shows })

@@ -1,0 +1,390 @@
+ghost use Rattle.std.specs.Prelude.{◌≡◌, ◌⊎◌, ◌+◌, ◌-◌, ◌^◌, ◌≤◌, ◌↔◌, ◌++◌, ◌∷◌, [], IsTrue, ℕ};
+ghost use Rattle.std.specs.Prelude.{List, length, min, Some, Err, true, false, IfOk, IfErr, OnOk};
+ghost use Rattle.relations.specs.Sets.{In};
+ghost use Rattle.prima_io.specs.Causes.{Rose};
+ghost use Rattle.disk_model.specs.Meaning.{Tells, Told};
+ghost use Rattle.disk_model.specs.Moments.{GoesOn};
+ghost use Rattle.smo_types.specs.Commands.{command_of};
+ghost use Rattle.smo_meaning.specs.Past.{Past};
+ghost use Rattle.command_spelling.specs.Valid.{IsCommand};
+ghost use Rattle.temporal_lang.specs.Queries.{query_of};
+ghost use Rattle.rewrite.specs.Books.{meaning_of, EachOf};
+ghost use Rattle.journal.specs.Mounting.{IsNotSynced, KeepsFile};
+ghost use Rattle.journal.specs.Puts.{Puts, Acknowledges};
+ghost use Rattle.journal.specs.Records.{Record, StandsFor, opened_file};
+ghost use Rattle.journal.specs.Standing.{Stands, needs, sealed_record, with_record};
+ghost use Rattle.archive_file.specs.LogRecords.{LogRecord, logged, record_of, records_of};
+ghost use Rattle.archive_file.specs.LogRecords.{replayed_of};
+ghost use Rattle.archive_file.specs.Opening.{Opens, Damages};
+ghost use Rattle.archive_state.specs.Standing.{RepresentsPast, RepresentsSome};
+ghost use Rattle.archive_state.specs.Asking.{IsAsked, IsExplained, TellsWayBack, ArePiecesOf};
+ghost use Rattle.piece_texts.specs.ExplainedPieces.{PlainExplained};
+ghost use Rattle.query_exec.specs.Borrowed.{NoneComputes, AreBorrowedBy};
+ghost use Rattle.query_exec.specs.Reads.{explained_read, reads_of};
+ghost use Rattle.archive_core.specs.declared.fault.CommitFault.TheVariants as fault;
+ghost use Rattle.archive_core.specs.declared.fault.MountFault.TheVariants as mounting;
+
+use crate::fault::mount_fault;
+use crate::preparation::{make_ready, seal_checkpoint};
+use crate::replay::restore;
+use crate::{AskFault, CommitFault, MountFault};
+use answer_text::Listing;
+use archive_state::{ArchiveState, Done};
+use disk_model::Disk;
+use journal::{Journal, PutFault, Sealed};
+use piece_texts::Explained;
+use prima_base::{Refusal, Steps};
+use rule_book::{Rule, RuleBook};
+use smo_types::Command;
+use std::alloc::Global;
+use std::sync::ledger::Ledger;
+use store_image::an_image_shows_its_archive;
+use temporal_lang::Query;
+use version_groups::Groups;
+
+/// An archive whose accepted commands stand as records in a journal on a disk, and in memory as the
+/// past that they make.
+#[derive(Drop)]
+pub struct Archive<D: Disk> {
+    alloc: Global,
+    pub(crate) state: ArchiveState,
+    pub(crate) journal: Journal<D>,
+    // a call has answered that the disk failed
+    pub(crate) broken: bool,
+}
+
+/// What mounting found: how many commands the file has, and how many of them stand after its last
+/// image and were carried out again; all of them, where it has none.
+#[derive(Clone, Copy, Debug, PartialEq, Eq)]
+pub struct Opened {
+    pub commands: u64,
+    pub replayed: u64,
+}
+
+impl<D: Disk> Archive<D> {
+    ghost use Rattle.archive_core.specs.Fields.{standing_of, disk_of, below, place_of, limit_of};
+    ghost use Rattle.archive_core.specs.Fields.{is_broken, IsReady};
+    ghost use Rattle.archive_core.specs.Committing.{Commits, IsPut};
+    ghost use Rattle.archive_core.specs.Holding.{HoldsAt};
+    ghost use Rattle.archive_core.specs.Checkpointing.{Checkpoints, image_of, checkpoint_of};
+    ghost use Rattle.archive_core.specs.Mounting.{IsMounted};
+    ghost use Rattle.store_image.specs.ImageIn.{IsImageOf};
+
+    /// Opens the archive whose records the file on a disk holds: its past is exactly the one that
+    /// the last image shows, or the empty one, with the commands after it, in order, and counts all
+    /// commands. It begins with a sync. A file of at most nine bytes is made the empty journal; any
+    /// other is read alone. A limit of `u64::MAX` bytes counts as one less. `Disk` comes only where
+    /// the disk's count of faults rose, and `Damaged` exactly where the file is damaged, with the
+    /// place: its frames are judged first, then each payload, then each command after the last
+    /// image. A fault hands the disk back as it then stands. It takes at most one step for each
+    /// command after the last image, whatever it answers; over a damaged file at most one for each
+    /// record.
+    pub fn mount<L: Ledger>(
+        alloc: Global,
+        disk: D,
+        limit: u64,
+        steps: &mut Steps<L>,
+    ) -> Result<(Archive<D>, Opened), (D, MountFault)>
+        ensures opened { IfOk result (λ it. Tells (D.meaning disk).seen
+            (λ file. IsMounted file (standing_of it.0) (place_of it.0) it.1)) }
+        ensures shows { IfOk result (λ it. RepresentsSome (standing_of it.0)) }
+        ensures limit { IfOk result (λ it. limit_of it.0 ≡ min limit (2 ^ 64 - 2)) }
+        ensures whole { IfOk result (λ it. is_broken it.0 ≡ false) }
+        ensures ready { IfOk result (λ it. IsReady it.0) }
+        ensures file { IfOk result (λ it. Told (λ old new. new ≡ opened_file old)
+            (D.meaning disk).seen (below it.0).seen) }
+        ensures stands { IfOk result (λ it. (file : List ℕ) (log : List LogRecord)
+            → IsTrue (D.meaning disk).is_honest → (D.meaning disk).seen ≡ Some file
+            → Opens file log → Stands (below it.0) (place_of it.0) (records_of log)) }
+        ensures holds { IfOk result (λ it. (file : List ℕ) (log : List LogRecord)
+            → (D.meaning disk).seen ≡ Some file
+            → Opens file log → HoldsAt (below it.0) (place_of it.0) (records_of log)) }
+        ensures goes { IfOk result (λ it. GoesOn (D.meaning disk) (below it.0)) }
+        ensures goes_err { IfErr result (λ it. GoesOn (D.meaning disk) (D.meaning it.0)) }
+        ensures turns { IfOk result (λ it. KeepsFile (D.meaning disk) (below it.0)) }
+        ensures turns_err { IfErr result (λ it.
+            ((it.1 ≡ mounting.Disk) × IsNotSynced (D.meaning disk) (D.meaning it.0))
+            ⊎ KeepsFile (D.meaning disk) (D.meaning it.0)) }
+        ensures damaged { IfErr result (λ it. (place : ℕ) → it.1 ≡ mounting.Damaged place
+            → Tells (D.meaning disk).seen (λ file. Damages file place)) }
+        ensures untouched { IfErr result (λ it. (place : ℕ) → it.1 ≡ mounting.Damaged place
+            → (D.meaning it.0).seen ≡ (D.meaning disk).seen) }
+        ensures cause { IfErr result (λ it. it.1 ≡ mounting.Disk
+            → Rose (D.meaning disk).faults (D.meaning it.0).faults) }
+        ensures unfailed { IfOk result (λ it. (below it.0).faults ≡ (D.meaning disk).faults) }
+        ensures unfailed_err { IfErr result (λ it. (it.1 ≡ mounting.Disk → ⊥)
+            → (D.meaning it.0).faults ≡ (D.meaning disk).faults) }
+        ensures cost { Tells (D.meaning disk).seen (λ file. (records : List Record)
+            → StandsFor file records → steps.new ≤ steps.old + length records) }
+        ensures cost_open { Tells (D.meaning disk).seen (λ file. (log : List LogRecord)
+            → Opens file log → steps.new ≤ steps.old + replayed_of log) }
+        ensures steps { IfOk result (λ it. steps.new ≤ steps.old + it.1.replayed) }
+    {
+        match Journal::mount(alloc, disk, limit) {
+            Err((disk, fault)) => Err((disk, mount_fault(fault))),
+            Ok((journal, recs)) => {
+                // a number of 64 bits, and so is each place before it
+                let _end = journal.place();
+                match restore(alloc, &recs, steps) {
+                    Err(fault) => Err((journal.into_disk(), fault)),
+                    Ok((state, opened)) => {
+                        let archive = Archive {
+                            alloc,
+                            state,
+                            journal,
+                            broken: false,
+                        };
+                        Ok((archive, opened))
+                    }
+                }
+            }
+        }
+    }
+
+    /// Accepts the command and puts its record, or refuses it. `Broken` comes first, exactly where
+    /// an earlier call has answered `Disk`. Then come the refusals in the one order, as those of
+    /// the archive in memory, and after them `JournalFull`, exactly where the record would end past
+    /// the limit. `Disk` comes only where the disk's count of faults rose: the file then has the
+    /// record or not. All memory is taken before the first call of the device. At each moment of
+    /// the call a crash leaves the records before, with the command's or without; after `Ok` every
+    /// crash leaves it. After `Ok` the archive stands for the past with the command, and else for
+    /// the past that it stood for.
+    pub fn commit(&mut self, command: Command) -> Result<Done, CommitFault>
+        requires ready { IsReady self.old }
+        ensures broken { (result ≡ Err fault.Broken) ↔ (is_broken self.old ≡ true) }
+        ensures breaks { (is_broken self.new ≡ true)
+            ↔ ((is_broken self.old ≡ true) ⊎ (result ≡ Err fault.Disk)) }
+        ensures commits { (past : Past) → RepresentsPast (standing_of self.old) past
+            → Commits past (command_of command) (place_of self.old) (limit_of self.old)
+            (standing_of self.old) result (standing_of self.new) }
+        ensures stands { is_broken self.old ≡ false → RepresentsSome (standing_of self.old)
+            × RepresentsSome (standing_of self.new) }
+        ensures untouched { IfErr result (λ e. (e ≡ fault.Disk → ⊥)
+            → (disk_of self.new ≡ disk_of self.old) × (place_of self.new ≡ place_of self.old)) }
+        ensures limit { limit_of self.new ≡ limit_of self.old }
+        ensures place { OnOk result (place_of self.new + 1
+            ≡ place_of self.old + needs (record_of (logged (command_of command)))) }
+        ensures ready { IsReady self.new }
+        ensures written { OnOk result (Told (λ old new.
+            new ≡ with_record old (place_of self.old) (record_of (logged (command_of command))))
+            (below self.old).seen (below self.new).seen) }
+        ensures holds { OnOk result ((rs : List Record)
+            → HoldsAt (below self.old) (place_of self.old) rs
+            → HoldsAt (below self.new) (place_of self.new)
+            (rs ++ record_of (logged (command_of command)) ∷ [])) }
+        ensures spelled { OnOk result (IsCommand (command_of command)) }
+        ensures spelled_so_far { result ≡ Err fault.Disk → IsCommand (command_of command) }
+        ensures cause { result ≡ Err fault.Disk
+            → Rose (below self.old).faults (below self.new).faults }
+        ensures unfailed { (result ≡ Err fault.Disk → ⊥)
+            → (below self.new).faults ≡ (below self.old).faults }
+        ensures puts { Puts (below self.old) (below self.new) (place_of self.old)
+            (record_of (logged (command_of command))) }
+        ensures acknowledged { OnOk result (Acknowledges (below self.old) (below self.new)
+            (place_of self.old) (place_of self.new) (record_of (logged (command_of command)))) }
+    {
+        self.accept(&command)
+    }
+
+    /// Puts a record with the image of all that the archive has, so that a later mount carries out
+    /// only the commands after it. `Broken` comes first, exactly where an earlier call has answered
+    /// `Disk`. `Refused` comes with `JournalFull` alone, exactly where the record would end past
+    /// the limit. `Disk` comes only where the disk's count of faults rose: the file then has the
+    /// record or not. All memory is taken before the first call of the device. At each moment of
+    /// the call a crash leaves the records before, with the checkpoint's or without; after `Ok`
+    /// every crash leaves it. What stands in memory stays as it is.
+    pub fn checkpoint(&mut self) -> Result<(), CommitFault>
+        requires ready { IsReady self.old }
+        ensures broken { (result ≡ Err fault.Broken) ↔ (is_broken self.old ≡ true) }
+        ensures breaks { (is_broken self.new ≡ true)
+            ↔ ((is_broken self.old ≡ true) ⊎ (result ≡ Err fault.Disk)) }
+        ensures checkpoints { (past : Past) → RepresentsPast (standing_of self.old) past
+            → Checkpoints past (place_of self.old) (limit_of self.old) result }
+        ensures image { OnOk result ((past : Past) → RepresentsPast (standing_of self.old) past
+            → IsImageOf past (image_of (standing_of self.old))) }
+        ensures image_so_far { result ≡ Err fault.Disk → (past : Past)
+            → RepresentsPast (standing_of self.old) past
+            → IsImageOf past (image_of (standing_of self.old)) }
+        ensures same { standing_of self.new ≡ standing_of self.old }
+        ensures untouched { IfErr result (λ e. (e ≡ fault.Disk → ⊥)
+            → (disk_of self.new ≡ disk_of self.old) × (place_of self.new ≡ place_of self.old)) }
+        ensures limit { limit_of self.new ≡ limit_of self.old }
+        ensures place { OnOk result (place_of self.new + 1
+            ≡ place_of self.old + needs (record_of (checkpoint_of (standing_of self.old)))) }
+        ensures ready { IsReady self.new }
+        ensures written { OnOk result (Told (λ old new.
+            new ≡ with_record old (place_of self.old)
+            (record_of (checkpoint_of (standing_of self.old)))) (below self.old).seen
+            (below self.new).seen) }
+        ensures holds { OnOk result ((rs : List Record)
+            → HoldsAt (below self.old) (place_of self.old) rs
+            → HoldsAt (below self.new) (place_of self.new)
+            (rs ++ record_of (checkpoint_of (standing_of self.old)) ∷ [])) }
+        ensures cause { result ≡ Err fault.Disk
+            → Rose (below self.old).faults (below self.new).faults }
+        ensures unfailed { (result ≡ Err fault.Disk → ⊥)
+            → (below self.new).faults ≡ (below self.old).faults }
+        ensures puts { Puts (below self.old) (below self.new) (place_of self.old)
+            (record_of (checkpoint_of (standing_of self.old))) }
+        ensures acknowledged { OnOk result (Acknowledges (below self.old) (below self.new)
+            (place_of self.old) (place_of self.new)
+            (record_of (checkpoint_of (standing_of self.old)))) }
+    {
+        an_image_shows_its_archive();
+        if self.broken {
+            return Err(CommitFault::Broken);
+        }
+        let sealed = seal_checkpoint(self.alloc, &self.state)?;
+        self.put(&sealed)
+    }
+
+    /// What a query lists over all of history, and else its first refusal in the one order, as the
+    /// archive in memory answers it (`ArchiveState::query`), in at most and at least as many steps.
+    /// It calls no device, and may be asked after any answer.
+    pub fn query<'a, L: Ledger>(
+        &'a self,
+        book: &RuleBook,
+        query: &Query,
+        steps: &mut Steps<L>,
+    ) -> Result<Listing<'a>, AskFault>
+        requires each { EachOf book.now.rules.items (λ r. handles (r.vtable, r.value)) }
+        ensures asked { (past : Past) → RepresentsPast (standing_of self.now) past
+            → IsAsked past (query_of query.now) result }
+        ensures way_back { (past : Past) → RepresentsPast (standing_of self.now) past
+            → TellsWayBack past (query_of query.now) result }
+        ensures stands { RepresentsSome (standing_of self.now) }
+        ensures borrowed { (past : Past) → RepresentsPast (standing_of self.now) past
+            → (pieces : List PlainExplained) → ArePiecesOf
+            (meaning_of book.now.rules.items (λ r. handles (r.vtable, r.value))
+            (λ r. answers (r.vtable, r.value))) past (query_of query.now) pieces
+            → NoneComputes pieces
+            → IfOk result (λ listing. AreBorrowedBy (query_of query.now).branches
+            listing.rows.items) }
+        ensures cost { (past : Past) → RepresentsPast (standing_of self.now) past
+            → (pieces : List PlainExplained) → ArePiecesOf
+            (meaning_of book.now.rules.items (λ r. handles (r.vtable, r.value))
+            (λ r. answers (r.vtable, r.value))) past (query_of query.now) pieces
+            → steps.new ≤ steps.old + reads_of (standing_of self.now).groups pieces }
+        ensures least { (past : Past) → RepresentsPast (standing_of self.now) past
+            → (pieces : List PlainExplained) → ArePiecesOf
+            (meaning_of book.now.rules.items (λ r. handles (r.vtable, r.value))
+            (λ r. answers (r.vtable, r.value))) past (query_of query.now) pieces
+            → (e : PlainExplained) → In e pieces
+            → IfOk result (λ _. steps.old + explained_read (standing_of self.now).groups e ≤
+            steps.new) }
+        ensures rises { steps.old ≤ steps.new }
+    {
+        self.state.query(book, query, steps)
+    }
+
+    /// The pieces that a query reads, and else its first refusal in the one order, as the archive
+    /// in memory tells them (`ArchiveState::explain`). It calls no device, and may be asked after
+    /// any answer.
+    pub fn explain(&self, book: &RuleBook, query: &Query) -> Result<Vec<Explained>, AskFault>
+        requires each { EachOf book.now.rules.items (λ r. handles (r.vtable, r.value)) }
+        ensures explained { (past : Past) → RepresentsPast (standing_of self.now) past
+            → IsExplained (meaning_of book.now.rules.items (λ r. handles (r.vtable, r.value))
+            (λ r. answers (r.vtable, r.value))) past (query_of query.now) result }
+        ensures stands { RepresentsSome (standing_of self.now) }
+    {
+        self.state.explain(book, query)
+    }
+
+    /// The versions with their stored tables. It takes no memory.
+    pub fn groups(&self) -> &Groups
+        ensures { result.now ≡ (standing_of self.now).groups }
+    {
+        self.state.groups()
+    }
+
+    /// The disk as it stands. It takes no memory.
+    pub fn into_disk(self) -> D
+        ensures { result ≡ disk_of self }
+    {
+        self.journal.into_disk()
+    }
+
+    // Makes the command ready, puts its record, and carries it out.
+    fn accept(&mut self, command: &Command) -> Result<Done, CommitFault>
+        requires ready { IsReady self.old }
+        ensures broken { (result ≡ Err fault.Broken) ↔ (is_broken self.old ≡ true) }
+        ensures breaks { (is_broken self.new ≡ true)
+            ↔ ((is_broken self.old ≡ true) ⊎ (result ≡ Err fault.Disk)) }
+        ensures commits { (past : Past) → RepresentsPast (standing_of self.old) past
+            → Commits past (command_of command.now) (place_of self.old) (limit_of self.old)
+            (standing_of self.old) result (standing_of self.new) }
+        ensures stands { is_broken self.old ≡ false → RepresentsSome (standing_of self.old)
+            × RepresentsSome (standing_of self.new) }
+        ensures untouched { IfErr result (λ e. (e ≡ fault.Disk → ⊥)
+            → (disk_of self.new ≡ disk_of self.old) × (place_of self.new ≡ place_of self.old)) }
+        ensures limit { limit_of self.new ≡ limit_of self.old }
+        ensures place { OnOk result (place_of self.new + 1
+            ≡ place_of self.old + needs (record_of (logged (command_of command.now)))) }
+        ensures ready { IsReady self.new }
+        ensures written { OnOk result (Told (λ old new.
+            new ≡ with_record old (place_of self.old) (record_of (logged (command_of command.now))))
+            (below self.old).seen (below self.new).seen) }
+        ensures holds { OnOk result ((rs : List Record)
+            → HoldsAt (below self.old) (place_of self.old) rs
+            → HoldsAt (below self.new) (place_of self.new)
+            (rs ++ record_of (logged (command_of command.now)) ∷ [])) }
+        ensures spelled { OnOk result (IsCommand (command_of command.now)) }
+        ensures spelled_so_far { result ≡ Err fault.Disk → IsCommand (command_of command.now) }
+        ensures cause { result ≡ Err fault.Disk
+            → Rose (below self.old).faults (below self.new).faults }
+        ensures unfailed { (result ≡ Err fault.Disk → ⊥)
+            → (below self.new).faults ≡ (below self.old).faults }
+        ensures puts { Puts (below self.old) (below self.new) (place_of self.old)
+            (record_of (logged (command_of command.now))) }
+        ensures acknowledged { OnOk result (Acknowledges (below self.old) (below self.new)
+            (place_of self.old) (place_of self.new) (record_of (logged (command_of command.now)))) }
+    {
+        if self.broken {
+            return Err(CommitFault::Broken);
+        }
+        let (next, sealed) = make_ready(self.alloc, &mut self.state, command)?;
+        self.put(&sealed)?;
+        Ok(self.state.carry_out(command, next))
+    }
+
+    // Puts a record after the others. What stands in memory stays as it is.
+    fn put(&mut self, sealed: &Sealed) -> Result<(), CommitFault>
+        requires whole { is_broken self.old ≡ false }
+        requires ready { IsReady self.old }
+        ensures breaks { (is_broken self.new ≡ true) ↔ (result ≡ Err fault.Disk) }
+        ensures is_put { IsPut (sealed_record sealed.now) (place_of self.old) (limit_of self.old)
+            result }
+        ensures same { standing_of self.new ≡ standing_of self.old }
+        ensures untouched { IfErr result (λ e. (e ≡ fault.Disk → ⊥)
+            → (disk_of self.new ≡ disk_of self.old) × (place_of self.new ≡ place_of self.old)) }
+        ensures limit { limit_of self.new ≡ limit_of self.old }
+        ensures place { OnOk result (place_of self.new + 1
+            ≡ place_of self.old + needs (sealed_record sealed.now)) }
+        ensures ready { IsReady self.new }
+        ensures written { OnOk result (Told (λ old new.
+            new ≡ with_record old (place_of self.old) (sealed_record sealed.now))
+            (below self.old).seen (below self.new).seen) }
+        ensures holds { OnOk result ((rs : List Record)
+            → HoldsAt (below self.old) (place_of self.old) rs
+            → HoldsAt (below self.new) (place_of self.new) (rs ++ sealed_record sealed.now ∷ [])) }
+        ensures cause { result ≡ Err fault.Disk
+            → Rose (below self.old).faults (below self.new).faults }
+        ensures unfailed { (result ≡ Err fault.Disk → ⊥)
+            → (below self.new).faults ≡ (below self.old).faults }
+        ensures puts { Puts (below self.old) (below self.new) (place_of self.old)
+            (sealed_record sealed.now) }
+        ensures acknowledged { OnOk result (Acknowledges (below self.old) (below self.new)
+            (place_of self.old) (place_of self.new) (sealed_record sealed.now)) }
+    {
+        match self.journal.put(sealed) {
+            Ok(()) => Ok(()),
+            Err(PutFault::Full { at, need, limit }) => {
+                Err(CommitFault::Refused(Refusal::JournalFull(at, need, limit)))
+            }
+            Err(PutFault::Disk) => {
+                self.broken = true;
+                Err(CommitFault::Disk)
+            }
+        }
+    }
+}

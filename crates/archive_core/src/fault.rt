@@ -1,0 +1,79 @@
+ghost use Rattle.std.specs.Prelude.{◌≡◌};
+ghost use Rattle.journal.specs.declared.fault.JournalFault.TheVariants as journal;
+ghost use Rattle.archive_core.specs.declared.fault.CommitFault.TheVariants as commit;
+ghost use Rattle.archive_core.specs.declared.fault.MountFault.TheVariants as mounting;
+
+use journal::JournalFault;
+use prima_base::{NoMemory, Refusal};
+use std::alloc::{AllocError, AllocFailed};
+
+/// Why a command is not accepted, or no checkpoint made. In memory the archive is then as it was.
+#[derive(Drop)]
+pub enum CommitFault {
+    /// An earlier call has answered `Disk`: the archive is to be mounted again. Nothing was done.
+    Broken,
+    /// The first refusal of the command in the one order; `JournalFull` after all others, and of a
+    /// checkpoint alone. Nothing was written.
+    Refused(Refusal),
+    /// The disk failed, and its count of faults rose. The file has the record or not.
+    Disk,
+    /// Memory ran out. Nothing was written.
+    NoMemory,
+}
+
+impl From<NoMemory> for CommitFault {
+    ghost from_gives = { λ _ e. e ≡ commit.NoMemory };
+
+    fn from(_error: NoMemory) -> CommitFault {
+        CommitFault::NoMemory
+    }
+}
+
+/// Why a file was not mounted.
+#[derive(Clone, Copy, Debug, PartialEq, Eq)]
+pub enum MountFault {
+    /// The disk failed, and its count of faults rose.
+    Disk,
+    /// The file is no archive's: it is damaged at this place. It was not written.
+    Damaged(u64),
+    /// Memory ran out.
+    NoMemory,
+}
+
+impl From<NoMemory> for MountFault {
+    ghost from_gives = { λ _ e. e ≡ mounting.NoMemory };
+
+    fn from(_error: NoMemory) -> MountFault {
+        MountFault::NoMemory
+    }
+}
+
+impl From<AllocError> for MountFault {
+    ghost from_gives = { λ _ e. e ≡ mounting.NoMemory };
+
+    fn from(_: AllocError) -> MountFault {
+        MountFault::NoMemory
+    }
+}
+
+impl<T: Drop> From<AllocFailed<T>> for MountFault {
+    ghost from_gives = { λ _ e. e ≡ mounting.NoMemory };
+
+    fn from(_: AllocFailed<T>) -> MountFault {
+        MountFault::NoMemory
+    }
+}
+
+// A fault of the journal as one of the archive.
+pub(crate) fn mount_fault(fault: JournalFault) -> MountFault
+    ensures damaged { (place : _) → result ≡ mounting.Damaged place
+        → fault ≡ journal.Damaged place }
+    ensures disk { result ≡ mounting.Disk → fault ≡ journal.Disk }
+    ensures from_disk { fault ≡ journal.Disk → result ≡ mounting.Disk }
+{
+    match fault {
+        JournalFault::Disk => MountFault::Disk,
+        JournalFault::Damaged(place) => MountFault::Damaged(place),
+        JournalFault::NoMemory => MountFault::NoMemory,
+    }
+}

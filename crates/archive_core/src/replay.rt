@@ -1,0 +1,91 @@
+//! The records of a file, made an archive in memory.
+
+ghost use Rattle.std.specs.Prelude.{◌≡◌, ◌+◌, ◌≤◌, List, length, map, IfOk, OnOk, Err};
+ghost use Rattle.smo_types.specs.Commands.{command_of};
+ghost use Rattle.smo_meaning.specs.Past.{Past};
+ghost use Rattle.journal.specs.Reading.{records_in};
+ghost use Rattle.archive_state.specs.Standing.{RepresentsPast, RepresentsSome};
+ghost use Rattle.archive_file.specs.LogRecords.{LogRecord, records_of, replayed_of};
+ghost use Rattle.archive_file.specs.Opening.{HasFaultAt};
+ghost use Rattle.archive_core.specs.Reading.{AreInPlace};
+ghost use Rattle.archive_core.specs.Replaying.{Replays, IsStoppedAt, IsReplayed};
+ghost use Rattle.archive_core.specs.Mounting.{IsRestored};
+ghost use Rattle.archive_core.specs.declared.fault.MountFault.TheVariants as mounting;
+
+use crate::MountFault;
+use crate::archive::Opened;
+use crate::record_reader::read_all;
+use archive_state::{ArchiveState, CommitFault};
+use journal::Rec;
+use prima_base::Steps;
+use smo_types::Command;
+use std::alloc::Global;
+use std::sync::ledger::Ledger;
+
+// Carries out a command of the record whose gate is at `at`, if it is accepted.
+fn replay_command(state: &mut ArchiveState, command: &Command, at: u64) -> Result<(), MountFault>
+    ensures replays { (past : Past) → RepresentsPast state.old past
+        → Replays past (command_of command.now) at result state.new }
+    ensures stands { RepresentsSome state.old × RepresentsSome state.new }
+{
+    match state.prepare(command) {
+        Ok(next) => {
+            let _done = state.carry_out(command, next);
+            Ok(())
+        }
+        Err(CommitFault::Refused(_refusal)) => Err(MountFault::Damaged(at)),
+        Err(CommitFault::NoMemory) => Err(MountFault::NoMemory),
+    }
+}
+
+// Carries out the commands, each of the record beside it; a step for each.
+fn replay<L: Ledger>(
+    state: &mut ArchiveState,
+    recs: &[Rec],
+    commands: &[Command],
+    steps: &mut Steps<L>,
+) -> Result<(), MountFault>
+    requires { length commands.now ≡ length recs.now }
+    ensures shows { (past : Past) → RepresentsPast state.old past
+        → OnOk result (IsReplayed past (map command_of commands.now) state.new) }
+    ensures stopped { (past : Past) → RepresentsPast state.old past → (place : _)
+        → result ≡ Err (mounting.Damaged place)
+        → IsStoppedAt past (map command_of commands.now) recs.now place }
+    ensures disk { result ≡ Err mounting.Disk → ⊥ }
+    ensures cost { steps.new ≤ steps.old + length commands.now }
+{
+    for (index, command) in commands.iter().enumerate() {
+        steps.tick();
+        replay_command(state, command, recs[index].at)?;
+    }
+    Ok(())
+}
+
+/// The archive that the records stand for: all payloads are read before any command is judged, and
+/// then the commands after the last image are carried out over what it shows. A step for each of
+/// these, at most.
+pub(crate) fn restore<L: Ledger>(
+    alloc: Global,
+    recs: &[Rec],
+    steps: &mut Steps<L>,
+) -> Result<(ArchiveState, Opened), MountFault>
+    ensures restored { IfOk result (λ it. AreInPlace recs.now
+        → IsRestored (records_in recs.now) it.0 it.1) }
+    ensures shows { IfOk result (λ it. RepresentsSome it.0) }
+    ensures damaged { (place : _) → result ≡ Err (mounting.Damaged place) → AreInPlace recs.now
+        → HasFaultAt (records_in recs.now) place }
+    ensures disk { result ≡ Err mounting.Disk → ⊥ }
+    ensures cost { steps.new ≤ steps.old + length recs.now }
+    ensures cost_open { AreInPlace recs.now → (log : List LogRecord)
+        → records_in recs.now ≡ records_of log → steps.new ≤ steps.old + replayed_of log }
+    ensures steps { IfOk result (λ it. steps.new ≤ steps.old + it.1.replayed) }
+{
+    let mut kept = read_all(alloc, recs)?;
+    let after = &recs[recs.len() - kept.commands.len()..];
+    replay(&mut kept.state, after, &kept.commands, steps)?;
+    let opened = Opened {
+        commands: kept.count,
+        replayed: kept.commands.len() as u64,
+    };
+    Ok((kept.state, opened))
+}

@@ -1,0 +1,126 @@
+use Rattle.std.proofs.Common.{◌≡◌, ◌≤◌, ◌+◌, List, ap, sym, subst, ◌∙◌}
+use Rattle.prima_base.specs.declared.keep.Keep.{Keep}
+use Rattle.prima_base.specs.Keeping.{kept}
+use Rattle.prima_base.specs.Timed.{entries_of}
+use Rattle.smo_types.specs.Commands.{PlainVersion}
+use Rattle.smo_meaning.specs.Checks.{Fault}
+use Rattle.smo_meaning.specs.Past.{tables_of}
+use Rattle.temporal_lang.specs.Atoms.{with_atoms}
+use Rattle.temporal_lang.specs.Queries.{PlainQuery, query_of}
+use Rattle.version_groups.specs.Groups.{versions_in}
+use Rattle.piece_meaning.specs.Books.{book_of}
+use Rattle.query_exec.specs.Accepted.{IsAccepted}
+use Rattle.query_exec.specs.Borrowed.{AreBorrowedBy}
+use Rattle.query_exec.specs.QueryPieces.{ArePieces}
+use Rattle.query_exec.proofs.BorrowedRows.{by_values}
+use Rattle.archive_state.specs.Asking.{IfAccepted, IsReady}
+use Rattle.archive_state.proofs.AskedBranches.{as_asked}
+use Rattle.archive_state.proofs.question.ask.Goals as goal
+
+pub answer-requires-clause-shown : goal.answer-requires-clause-shown
+answer-requires-clause-shown g c =
+    let past = c.requires.shows.0 in
+    let shows = c.requires.shows.1 in
+    let h : IsReady past (query_of c.args.query.now) c.in_ok-atoms.atoms =
+    c.in_ok-atoms.ensures past shows in
+    record {
+      past = past;
+      asked = query_of c.args.query.now;
+      shows = shows;
+      accepted =
+          record { accepted = h.accepted; atoms = h.atoms };
+    }
+
+pub returns-in_err-rows-clause-cost : goal.returns-in_err-rows-clause-cost
+returns-in_err-rows-clause-cost g c = λ past shows pieces are.
+    let query = query_of c.args.query.now in
+    let h : IsReady past query c.in_ok-atoms.atoms = c.in_ok-atoms.ensures past shows in
+    c.answer.ensures.cost pieces
+    (subst (λ (q : PlainQuery). ArePieces (book_of
+    (λ r. (goal.Rule-dyn g (r.vtable, r.value)).handles r.value)
+    (λ r. (goal.Rule-dyn g (r.vtable, r.value)).answers r.value) c.args.book.now.rules.items)
+    (versions_in c.args.groups.now) q pieces) (sym h.atoms)
+    (subst (λ (vs : List PlainVersion). ArePieces
+    (book_of (λ r. (goal.Rule-dyn g (r.vtable, r.value)).handles r.value)
+    (λ r. (goal.Rule-dyn g (r.vtable, r.value)).answers r.value) c.args.book.now.rules.items) vs
+    (with_atoms (tables_of past query.version) query) pieces) (sym shows.versions)
+    (subst (λ (f : Fault). IfAccepted f (ArePieces
+    (book_of (λ r. (goal.Rule-dyn g (r.vtable, r.value)).handles r.value)
+    (λ r. (goal.Rule-dyn g (r.vtable, r.value)).answers r.value) c.args.book.now.rules.items)
+    past.versions (with_atoms (tables_of past query.version) query) pieces) pieces) h.accepted
+    are)))
+
+pub returns-clause-asked : goal.returns-clause-asked
+returns-clause-asked g c past shows =
+    let query = query_of c.args.query.now in
+    let h : IsReady past query c.in_ok-atoms.atoms = c.in_ok-atoms.ensures past shows in
+    record {
+      accepted = h.accepted;
+      rows = c.keep.ensures.rows ∙ ap (λ (k : List Keep).
+          kept k (entries_of c.in_ok-rows.rows.items)) c.deref.ensures.value
+          ∙ c.in_ok-rows.ensures.rows past query shows
+          (record { accepted = h.accepted; atoms = h.atoms });
+      periods = c.tells_periods.ensures;
+    }
+
+pub returns-clause-cost : goal.returns-clause-cost
+returns-clause-cost g c = λ past shows pieces are.
+    let query = query_of c.args.query.now in
+    let h : IsReady past query c.in_ok-atoms.atoms = c.in_ok-atoms.ensures past shows in
+    c.answer.ensures.cost pieces
+    (subst (λ (q : PlainQuery). ArePieces (book_of
+    (λ r. (goal.Rule-dyn g (r.vtable, r.value)).handles r.value)
+    (λ r. (goal.Rule-dyn g (r.vtable, r.value)).answers r.value) c.args.book.now.rules.items)
+    (versions_in c.args.groups.now) q pieces) (sym h.atoms)
+    (subst (λ (vs : List PlainVersion). ArePieces
+    (book_of (λ r. (goal.Rule-dyn g (r.vtable, r.value)).handles r.value)
+    (λ r. (goal.Rule-dyn g (r.vtable, r.value)).answers r.value) c.args.book.now.rules.items) vs
+    (with_atoms (tables_of past query.version) query) pieces) (sym shows.versions)
+    (subst (λ (f : Fault). IfAccepted f (ArePieces
+    (book_of (λ r. (goal.Rule-dyn g (r.vtable, r.value)).handles r.value)
+    (λ r. (goal.Rule-dyn g (r.vtable, r.value)).answers r.value) c.args.book.now.rules.items)
+    past.versions (with_atoms (tables_of past query.version) query) pieces) pieces) h.accepted
+    are)))
+
+pub returns-clause-borrowed : goal.returns-clause-borrowed
+returns-clause-borrowed g c = λ past shows pieces are none.
+    let query = query_of c.args.query.now in
+    let h : IsReady past query c.in_ok-atoms.atoms = c.in_ok-atoms.ensures past shows in
+    by_values query.branches c.in_ok-rows.rows.items c.keep.new.rows.items c.keep.ensures.values
+    (as_asked (tables_of past query.version) query.branches c.in_ok-rows.rows.items
+    (subst (λ (q : PlainQuery). AreBorrowedBy q.branches c.in_ok-rows.rows.items) h.atoms
+    (c.in_ok-rows.ensures.borrowed pieces
+    (subst (λ (q : PlainQuery). ArePieces (book_of
+    (λ r. (goal.Rule-dyn g (r.vtable, r.value)).handles r.value)
+    (λ r. (goal.Rule-dyn g (r.vtable, r.value)).answers r.value) c.args.book.now.rules.items)
+    (versions_in c.args.groups.now) q pieces) (sym h.atoms)
+    (subst (λ (vs : List PlainVersion). ArePieces
+    (book_of (λ r. (goal.Rule-dyn g (r.vtable, r.value)).handles r.value)
+    (λ r. (goal.Rule-dyn g (r.vtable, r.value)).answers r.value) c.args.book.now.rules.items) vs
+    (with_atoms (tables_of past query.version) query) pieces) (sym shows.versions)
+    (subst (λ (f : Fault). IfAccepted f (ArePieces
+    (book_of (λ r. (goal.Rule-dyn g (r.vtable, r.value)).handles r.value)
+    (λ r. (goal.Rule-dyn g (r.vtable, r.value)).answers r.value) c.args.book.now.rules.items)
+    past.versions (with_atoms (tables_of past query.version) query) pieces) pieces) h.accepted
+    are)))
+    none)))
+
+pub returns-clause-least : goal.returns-clause-least
+returns-clause-least g c = λ past shows pieces are e m.
+    let query = query_of c.args.query.now in
+    let h : IsReady past query c.in_ok-atoms.atoms = c.in_ok-atoms.ensures past shows in
+    c.in_ok-rows.ensures.least pieces
+    (subst (λ (q : PlainQuery). ArePieces (book_of
+    (λ r. (goal.Rule-dyn g (r.vtable, r.value)).handles r.value)
+    (λ r. (goal.Rule-dyn g (r.vtable, r.value)).answers r.value) c.args.book.now.rules.items)
+    (versions_in c.args.groups.now) q pieces) (sym h.atoms)
+    (subst (λ (vs : List PlainVersion). ArePieces
+    (book_of (λ r. (goal.Rule-dyn g (r.vtable, r.value)).handles r.value)
+    (λ r. (goal.Rule-dyn g (r.vtable, r.value)).answers r.value) c.args.book.now.rules.items) vs
+    (with_atoms (tables_of past query.version) query) pieces) (sym shows.versions)
+    (subst (λ (f : Fault). IfAccepted f (ArePieces
+    (book_of (λ r. (goal.Rule-dyn g (r.vtable, r.value)).handles r.value)
+    (λ r. (goal.Rule-dyn g (r.vtable, r.value)).answers r.value) c.args.book.now.rules.items)
+    past.versions (with_atoms (tables_of past query.version) query) pieces) pieces) h.accepted
+    are)))
+    e m

@@ -1,0 +1,53 @@
+use Rattle.std.proofs.Common.{◌≡◌, ◌∙◌, List, ap, sym, subst}
+use Rattle.smo_types.specs.Commands.{PlainVersion}
+use Rattle.smo_meaning.specs.Past.{tables_of}
+use Rattle.temporal_lang.specs.Atoms.{with_atoms}
+use Rattle.temporal_lang.specs.Queries.{PlainQuery, query_of}
+use Rattle.version_groups.specs.Groups.{versions_in}
+use Rattle.piece_meaning.specs.Books.{book_of}
+use Rattle.piece_texts.specs.ExplainedPieces.{all_explained}
+use Rattle.query_exec.specs.QueryPieces.{ArePieces, living_pieces}
+use Rattle.archive_state.specs.Asking.{IsReady}
+use Rattle.archive_state.proofs.question.explain_query.Goals as goal
+
+pub explain-requires-clause-shown : goal.explain-requires-clause-shown
+explain-requires-clause-shown g c =
+    let past = c.requires.shows.0 in
+    let shows = c.requires.shows.1 in
+    let h : IsReady past (query_of c.args.query.now) c.in_ok-atoms.atoms =
+    c.in_ok-atoms.ensures past shows in
+    record {
+      past = past;
+      asked = query_of c.args.query.now;
+      shows = shows;
+      accepted =
+          record { accepted = h.accepted; atoms = h.atoms };
+    }
+
+pub returns : goal.returns
+returns g c = λ past shows.
+    let query = query_of c.args.query.now in
+    let h : IsReady past query c.in_ok-atoms.atoms = c.in_ok-atoms.ensures past shows in
+    record {
+      accepted = h.accepted;
+      are = subst (λ (vs : List PlainVersion).
+          ArePieces (book_of (λ r. (goal.Rule-dyn g (r.vtable, r.value)).handles r.value)
+          (λ r. (goal.Rule-dyn g (r.vtable, r.value)).answers r.value) c.args.book.now.rules.items)
+          vs (with_atoms (tables_of past query.version) query)
+          (all_explained c.in_ok-pieces.pieces.items)) shows.versions
+          (subst (λ (q : PlainQuery). ArePieces
+          (book_of (λ r. (goal.Rule-dyn g (r.vtable, r.value)).handles r.value)
+          (λ r. (goal.Rule-dyn g (r.vtable, r.value)).answers r.value)
+          c.args.book.now.rules.items) (versions_in c.args.groups.now) q
+          (all_explained c.in_ok-pieces.pieces.items)) h.atoms c.in_ok-pieces.ensures.are);
+      told = c.in_ok-pieces.ensures.told
+          ∙ ap (λ (q : PlainQuery). living_pieces
+          (book_of (λ r. (goal.Rule-dyn g (r.vtable, r.value)).handles r.value)
+          (λ r. (goal.Rule-dyn g (r.vtable, r.value)).answers r.value)
+          c.args.book.now.rules.items) (versions_in c.args.groups.now) q) h.atoms
+          ∙ ap (λ (vs : List PlainVersion). living_pieces
+          (book_of (λ r. (goal.Rule-dyn g (r.vtable, r.value)).handles r.value)
+          (λ r. (goal.Rule-dyn g (r.vtable, r.value)).answers r.value)
+          c.args.book.now.rules.items) vs (with_atoms (tables_of past query.version) query))
+          shows.versions;
+    }

@@ -1,0 +1,236 @@
+use crate::acceptance::judge;
+use crate::question::{ask, explain_query};
+use crate::{AskFault, CommitFault};
+use answer_text::Listing;
+use piece_texts::Explained;
+use prima_base::Steps;
+use rule_book::{Rule, RuleBook};
+use smo_ops::{Body, Command};
+use std::alloc::Global;
+use std::marker::Model;
+use std::sync::ledger::Ledger;
+use temporal_lang::Query;
+use version_groups::{Groups, Next};
+
+/// What was accepted: the versions with their stored tables, and the last stamp. Every archive
+/// stands for a past.
+#[derive(Drop)]
+pub struct ArchiveState {
+    alloc: Global,
+    groups: Groups,
+    last: Option<u64>,
+}
+
+impl Model for ArchiveState {
+    ghost use Rattle.archive_state.specs.Standing.{ArchiveContent, RepresentsSome};
+    ghost use Rattle.smo_types.specs.contracts.version.Version as version_row;
+    ghost use Rattle.std.specs.Coded.{codes};
+
+    ghost Value = { ArchiveContent };
+
+    ghost coded = { Prim.hlevel (codes, version_row.the_row.coded) };
+
+    ghost view = { λ a. record { groups = a.groups; last = a.last } };
+
+    ghost invariant = { λ a. RepresentsSome (record { groups = a.groups; last = a.last }) };
+}
+
+/// What an accepted command did: its stamp; how many rows it gained and lost over all tables, none
+/// for an operator; and the version that an operator made.
+#[derive(Clone, Copy)]
+pub struct Done {
+    pub stamp: u64,
+    pub gained: u64,
+    pub lost: u64,
+    pub version: Option<u32>,
+}
+
+ghost use Rattle.std.specs.Prelude.{◌≡◌};
+ghost use Rattle.smo_types.specs.Commands.{body_of};
+ghost use Rattle.archive_state.specs.Committing.{version_made};
+
+// The newest version, where the command made it.
+fn version_made(command: &Command, newest: u32) -> Option<u32>
+    ensures { result ≡ version_made (body_of command.now.1) newest }
+{
+    match command.body() {
+        Body::Changes(_) => None,
+        Body::Evolve { op: _, inverse: _ } => Some(newest),
+    }
+}
+
+impl ArchiveState {
+    ghost use Rattle.std.specs.Prelude.{◌≡◌, ◌+◌, ◌≤◌, [], None, List, IfOk};
+    ghost use Rattle.relations.specs.Sets.{In};
+    ghost use Rattle.smo_types.specs.Commands.{command_of};
+    ghost use Rattle.smo_meaning.specs.Accepts.{command_fault};
+    ghost use Rattle.smo_meaning.specs.Past.{Past, beginning, past_with};
+    ghost use Rattle.version_groups.specs.Steps.{Prepares};
+    ghost use Rattle.archive_state.specs.Standing.{RepresentsPast, RepresentsSome, archive_content};
+    ghost use Rattle.temporal_lang.specs.Queries.{query_of};
+    ghost use Rattle.archive_state.specs.Committing.{Readies, IsDone};
+    ghost use Rattle.rewrite.specs.Books.{meaning_of, EachOf};
+    ghost use Rattle.piece_texts.specs.ExplainedPieces.{PlainExplained};
+    ghost use Rattle.query_exec.specs.Borrowed.{NoneComputes, AreBorrowedBy};
+    ghost use Rattle.query_exec.specs.Reads.{explained_read, reads_of};
+    ghost use Rattle.archive_state.specs.Asking.{IsAsked, IsExplained, TellsWayBack, ArePiecesOf};
+
+    /// An archive that has accepted nothing. It takes no memory.
+    pub fn new(alloc: Global) -> ArchiveState
+        ensures { RepresentsPast result beginning }
+    {
+        ArchiveState {
+            alloc,
+            groups: Groups::new(alloc),
+            last: None,
+        }
+    }
+
+    /// An archive that has these versions with their stored tables, and whose last command had this
+    /// stamp: one that stands for each past that the tables show and that ends with this stamp. It
+    /// takes no memory.
+    pub fn restored(alloc: Global, groups: Groups, last: Option<u64>) -> ArchiveState
+        requires { RepresentsSome (archive_content groups last) }
+        ensures { result ≡ archive_content groups last }
+    {
+        ArchiveState {
+            alloc,
+            groups,
+            last,
+        }
+    }
+
+    /// The stamp of the last accepted command, if there is one. It takes no memory.
+    pub fn last(&self) -> Option<u64>
+        ensures last { result ≡ self.now.last }
+        ensures stands { RepresentsSome self.now }
+    {
+        self.last
+    }
+
+    /// The versions with their stored tables. It takes no memory.
+    pub fn groups(&self) -> &Groups
+        ensures { result.now ≡ self.now.groups }
+    {
+        &self.groups
+    }
+
+    /// Judges the command, and makes an accepted one ready: all the memory that it needs is taken,
+    /// and `carry_out` then accepts it. Another is refused by the first refusal in the one order:
+    /// its counts (38); its stamp (20); of changes, one after the other, each whole before the next
+    /// (22, 27, 23, 35, 25); of an operator the number of versions (38), its preconditions in
+    /// written order, and then its inverse (32). The archive stands for the past that it stood for,
+    /// with the same stored tables but for room; where the command is refused, it is as it was.
+    /// `NoMemory` comes where memory runs out.
+    pub fn prepare<'a>(&mut self, command: &'a Command) -> Result<Next<'a>, CommitFault>
+        ensures readies { (past : Past) → RepresentsPast self.old past
+            → Readies past (command_of command.now) self.old result self.new }
+        ensures stands { RepresentsSome self.old × RepresentsSome self.new }
+    {
+        match judge(self.alloc, &self.groups, self.last, command) {
+            Ok(()) => self.make_ready(command),
+            Err(fault) => Err(fault),
+        }
+    }
+
+    /// Carries out what `prepare` made of the command and this very archive, which then stands for
+    /// the past with the command. It takes no memory, and cannot fail.
+    #[tactic(auto, using(crate::proofs::CarriedOut::shows_next, crate::proofs::CarriedOut::newest_next))]
+    pub fn carry_out(&mut self, command: &Command, next: Next<'_>) -> Done
+        requires { (past : Past) × RepresentsPast self.old past
+            × Prepares self.old.groups past (command_of command.now) next }
+        ensures done { (past : Past) → RepresentsPast self.old past
+            → Prepares self.old.groups past (command_of command.now) next.entry
+            → IsDone past (command_of command.now) result
+            × RepresentsPast self.new (past_with past (command_of command.now)) }
+        ensures stands { RepresentsSome self.new }
+    {
+        let gained = next.gained();
+        let lost = next.lost();
+        self.groups.install(next);
+        self.last = Some(command.stamp());
+        Done {
+            stamp: command.stamp(),
+            gained,
+            lost,
+            version: version_made(command, self.groups.newest()),
+        }
+    }
+
+    /// What a query lists over all of history: at each moment of its slice its plain answer over
+    /// the database of that moment, migrated to the version that it names; each row with its
+    /// longest periods, ascending by row and start. Else the first refusal in the one order: its
+    /// counts (38); the version (21); then the refusals of `check_query` over the version's tables;
+    /// and last (33), where by names alone a table of the query is lost on the way from a version
+    /// in force in its slice: only where at the least such moment the version that is told is gone
+    /// back over, names no inverse, and loses a table of the query. Of the entries those stay that
+    /// meet every condition of KEEP. The book has a rule for each kind of operator.
+    ///
+    /// It takes at most as many steps as there are, for each of the query's pieces, which are those
+    /// that `explain` tells, keys of the piece's tables and entries of the columns that it names of
+    /// them, and none where the query is refused; where it lists, at least as many as there are for
+    /// any one of these pieces. Where none of them computes an output, the texts of the outputs
+    /// that are plain columns are borrowed by what the archive keeps: each row is borrowed as those
+    /// of one of the branches. The one other error is `NoMemory`, where memory runs out.
+    pub fn query<'a, L: Ledger>(
+        &'a self,
+        book: &RuleBook,
+        query: &Query,
+        steps: &mut Steps<L>,
+    ) -> Result<Listing<'a>, AskFault>
+        requires each { EachOf book.now.rules.items (λ r. handles (r.vtable, r.value)) }
+        ensures asked { (past : Past) → RepresentsPast self.now past
+            → IsAsked past (query_of query.now) result }
+        ensures way_back { (past : Past) → RepresentsPast self.now past
+            → TellsWayBack past (query_of query.now) result }
+        ensures stands { RepresentsSome self.now }
+        ensures borrowed { (past : Past) → RepresentsPast self.now past
+            → (pieces : List PlainExplained) → ArePiecesOf
+            (meaning_of book.now.rules.items (λ r. handles (r.vtable, r.value))
+            (λ r. answers (r.vtable, r.value))) past (query_of query.now) pieces
+            → NoneComputes pieces
+            → IfOk result (λ listing. AreBorrowedBy (query_of query.now).branches
+            listing.rows.items) }
+        ensures cost { (past : Past) → RepresentsPast self.now past → (pieces : List PlainExplained)
+            → ArePiecesOf (meaning_of book.now.rules.items (λ r. handles (r.vtable, r.value))
+            (λ r. answers (r.vtable, r.value))) past (query_of query.now) pieces
+            → steps.new ≤ steps.old + reads_of self.now.groups pieces }
+        ensures least { (past : Past) → RepresentsPast self.now past
+            → (pieces : List PlainExplained) → ArePiecesOf
+            (meaning_of book.now.rules.items (λ r. handles (r.vtable, r.value))
+            (λ r. answers (r.vtable, r.value))) past (query_of query.now) pieces
+            → (e : PlainExplained) → In e pieces
+            → IfOk result (λ _. steps.old + explained_read self.now.groups e ≤ steps.new) }
+        ensures rises { steps.old ≤ steps.new }
+    {
+        ask(self.alloc, &self.groups, book, query, steps)
+    }
+
+    /// The pieces of a query, just those that `query` reads: for each branch and item in text
+    /// order, and for each version that is in force in the slice, those into which what is asked of
+    /// the item's table unfolds there, the rows that meet the condition that is pushed to it with
+    /// the columns that the branch names, but for the dead. A query is refused as by `query`. The
+    /// book has a rule for each kind of operator. The one other error is `NoMemory`, where memory
+    /// runs out.
+    pub fn explain(&self, book: &RuleBook, query: &Query) -> Result<Vec<Explained>, AskFault>
+        requires each { EachOf book.now.rules.items (λ r. handles (r.vtable, r.value)) }
+        ensures explained { (past : Past) → RepresentsPast self.now past
+            → IsExplained (meaning_of book.now.rules.items (λ r. handles (r.vtable, r.value))
+            (λ r. answers (r.vtable, r.value))) past (query_of query.now) result }
+        ensures stands { RepresentsSome self.now }
+    {
+        explain_query(self.alloc, &self.groups, book, query)
+    }
+
+    // Makes an accepted command ready.
+    fn make_ready<'a>(&mut self, command: &'a Command) -> Result<Next<'a>, CommitFault>
+        requires { (past : Past) × RepresentsPast self.old past
+            × (command_fault past (command_of command.now) ≡ None) }
+        ensures { (past : Past) → RepresentsPast self.old past
+            → command_fault past (command_of command.now) ≡ None
+            → Readies past (command_of command.now) self.old result self.new }
+    {
+        let next = self.groups.prepare(command)?;
+        Ok(next)
+    }
+}

@@ -1,9 +1,0 @@
-use Rattle.std.proofs.Common.{◌≡◌, ◌<◌, ◌≤◌, ◌-◌, vec_len}
-use Rattle.coalesce.specs.Joining.{merged, standing, touch_rows, join_rows}
-use Rattle.coalesce.proofs.joining.join_sorted.Given as goal
-
-abbrev pub invariant-rows : goal.invariant-rows
-invariant-rows l = (l.kept < l.next) × (l.next ≤ vec_len l.rows) × (merged touch_rows join_rows l.fn.rows.items ≡ standing touch_rows join_rows l.kept l.next l.rows.items)
-
-abbrev pub decreases-rows : goal.decreases-rows
-decreases-rows l = vec_len l.rows - l.next

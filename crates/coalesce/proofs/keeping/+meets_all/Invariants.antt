@@ -1,5 +1,0 @@
-use Rattle.std.proofs.Common.{length}
-use Rattle.coalesce.proofs.keeping.+meets_all.Given as goal
-
-abbrev pub decreases-meets_all : goal.decreases-meets_all
-decreases-meets_all l = length l.conditions.now

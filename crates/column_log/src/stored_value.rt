@@ -1,0 +1,99 @@
+//! The values of one column.
+
+ghost use Rattle.std.specs.Prelude.{◌≡◌, ◌≤◌};
+ghost use Rattle.prima_base.specs.Order.{shown};
+ghost use Rattle.prima_base.specs.Columns.{IsValid};
+ghost use Rattle.column_log.specs.StoredValues.{text_room};
+
+use crate::text_buffer::{PIECE, TextBuffer};
+use prima_base::{ColType, NoMemory, Val};
+use std::alloc::Global;
+
+/// How many pieces of room the value's text takes beside the one of its write.
+pub fn text_room(value: &Val<'_>) -> usize
+    requires valid { IsValid (shown value.now) }
+    ensures room { result ≡ text_room (shown value.now) }
+    ensures small { result ≤ 128 }
+{
+    match value {
+        Val::Int(_) => 0,
+        Val::Slice(bytes) => bytes.len() / PIECE,
+        Val::Own(text) => text.bytes().len() / PIECE,
+    }
+}
+
+/// The values of a column of the one type or the other: 8 bytes a number, and 8 beside its bytes a
+/// text.
+#[derive(Drop)]
+pub(crate) enum StoredValues {
+    Numbers(Vec<i64>),
+    Texts(TextBuffer),
+}
+
+impl StoredValues {
+    ghost use Rattle.std.specs.Prelude.{◌≡◌, ◌+◌, ◌<◌, ◌≤◌, [], ◌∷◌, ◌++◌, true, OnOk, length};
+    ghost use Rattle.std.specs.Prelude.{slice_index_or};
+    ghost use Rattle.prima_base.specs.Order.{shown, IsBorrowed};
+    ghost use Rattle.prima_base.specs.Columns.{has_type, IsValid};
+    ghost use Rattle.prima_base.specs.declared.value.Value.{Value as OneValue};
+    ghost use Rattle.column_log.specs.StoredValues.{kind_of, values_in, spare_in, text_room};
+
+    /// No values, for a column of this type.
+    pub(crate) fn new(alloc: Global, kind: ColType) -> StoredValues
+        ensures kind { kind_of result ≡ kind }
+        ensures values { values_in result ≡ [] }
+    {
+        match kind {
+            ColType::Int => StoredValues::Numbers(Vec::new(alloc)),
+            ColType::Text => StoredValues::Texts(TextBuffer::new(alloc)),
+        }
+    }
+
+    /// Room for this many values more, with as many pieces of text.
+    pub(crate) fn reserve(&mut self, more: usize) -> Result<(), NoMemory>
+        ensures kind { kind_of self.new ≡ kind_of self.old }
+        ensures values { values_in self.new ≡ values_in self.old }
+        ensures spare { spare_in self.old ≤ spare_in self.new }
+        ensures room { OnOk result (more ≤ spare_in self.new) }
+    {
+        match self {
+            StoredValues::Numbers(numbers) => {
+                numbers.reserve(more)?;
+                Ok(())
+            }
+            StoredValues::Texts(texts) => texts.reserve(more),
+        }
+    }
+
+    /// One value more, of the column's type: a text is copied once, from where it stands. It takes
+    /// no memory.
+    pub(crate) fn push(&mut self, value: &Val<'_>)
+        requires valid { IsValid (shown value.now) }
+        requires typed { has_type (kind_of self.old) (shown value.now) ≡ true }
+        requires room { text_room (shown value.now) < spare_in self.old }
+        ensures kind { kind_of self.new ≡ kind_of self.old }
+        ensures values { values_in self.new ≡ values_in self.old ++ shown value.now ∷ [] }
+        ensures spare { spare_in self.old ≤ spare_in self.new + text_room (shown value.now) + 1 }
+    {
+        match (self, value) {
+            (StoredValues::Numbers(numbers), Val::Int(n)) => numbers.push_reserved(*n),
+            (StoredValues::Texts(texts), Val::Slice(bytes)) => texts.push(bytes),
+            (StoredValues::Texts(texts), Val::Own(text)) => texts.push(text.bytes()),
+            // A value of the other type is not of the column's type.
+            _ => unreachable!(),
+        }
+    }
+
+    /// The value at this place, a text as it stands in the buffer. It takes no memory.
+    pub(crate) fn lend(&self, at: usize) -> Val<'_>
+        requires { at < length (values_in self.now) }
+        ensures value { (d : OneValue) → shown result ≡ slice_index_or (values_in self.now) at d }
+        ensures valid { IsValid (shown result) }
+        ensures borrowed { IsBorrowed result }
+    {
+        match self {
+            StoredValues::Numbers(numbers) => Val::Int(numbers[at]),
+            StoredValues::Texts(texts) => Val::Slice(texts.text(at)),
+        }
+    }
+}

@@ -1,8 +1,0 @@
-use Rattle.command_codec.proofs.FieldSteps.{length_taken, name_lawful}
-use Rattle.command_codec.proofs.fields.lent_name.Goals as goal
-
-pub name_text-requires : goal.name_text-requires
-name_text-requires c = length_taken c.in_ok-count.count c.args.reader.now.rest.now c.name_length.new.self.rest.now c.in_ok-count.ensures.reads
-
-pub returns-clause-lawful : goal.returns-clause-lawful
-returns-clause-lawful c = name_lawful c.in_ok-count.count c.args.reader.now.rest.now c.name_length.new.self.rest.now c.in_ok-bytes.bytes.now c.name_text.new.reader.rest.now c.in_ok-count.ensures.reads c.in_ok-bytes.ensures.reads

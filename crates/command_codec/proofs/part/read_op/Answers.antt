@@ -1,0 +1,44 @@
+use Rattle.smo_types.specs.Operators.{operator_of}
+use Rattle.command_spelling.specs.Spelling.{operator_bytes}
+use Rattle.command_spelling.specs.Valid.{IsOperator}
+use Rattle.command_spelling.specs.Reader.{operator}
+use Rattle.command_spelling.proofs.CommandFormats.{operator_correct}
+use Rattle.command_codec.proofs.ReadSteps.{of_stuck}
+use Rattle.command_spelling.proofs.Deciding.{got_at, stuck_at}
+use Rattle.command_codec.proofs.part.read_op.Goals as goal
+
+pub overflow_sub-result : goal.overflow_sub-result
+overflow_sub-result c = (got_at operator IsOperator operator_bytes operator_correct c.args.bytes.now
+    c.args.from c.requires c.reader_at-reader.result.rest.now (operator_of c.in-Ok.op)
+    c.op.new.reader.rest.now c.reader_at-reader.ensures c.in-Ok.ensures).0
+
+pub overflow_sub-result-in-Err-Unexpected : goal.overflow_sub-result-in-Err-Unexpected
+overflow_sub-result-in-Err-Unexpected c = (stuck_at operator IsOperator operator_bytes
+    operator_correct c.args.bytes.now c.args.from c.requires c.reader_at-reader.result.rest.now
+    c.op.new.reader.rest.now c.reader_at-reader.ensures
+    (of_stuck (operator c.reader_at-reader.result.rest.now) c.in-Err-Unexpected.field-0
+    c.op.new.reader.rest.now c.in-Err-Unexpected.field-0-is c.in-Err-Unexpected.ensures)).0
+
+pub returns-in-Ok-clause-right : goal.returns-in-Ok-clause-right
+returns-in-Ok-clause-right c = (got_at operator IsOperator operator_bytes operator_correct
+    c.args.bytes.now c.args.from c.requires c.reader_at-reader.result.rest.now
+    (operator_of c.in-Ok.op) c.op.new.reader.rest.now c.reader_at-reader.ensures c.in-Ok.ensures).1
+
+pub returns-in-Ok-clause-exact : goal.returns-in-Ok-clause-exact
+returns-in-Ok-clause-exact c = (got_at operator IsOperator operator_bytes operator_correct
+    c.args.bytes.now c.args.from c.requires c.reader_at-reader.result.rest.now
+    (operator_of c.in-Ok.op) c.op.new.reader.rest.now c.reader_at-reader.ensures c.in-Ok.ensures).2
+
+pub returns-in-Err-Unexpected-clause-right : goal.returns-in-Err-Unexpected-clause-right
+returns-in-Err-Unexpected-clause-right c = (stuck_at operator IsOperator operator_bytes
+    operator_correct c.args.bytes.now c.args.from c.requires c.reader_at-reader.result.rest.now
+    c.op.new.reader.rest.now c.reader_at-reader.ensures
+    (of_stuck (operator c.reader_at-reader.result.rest.now) c.in-Err-Unexpected.field-0
+    c.op.new.reader.rest.now c.in-Err-Unexpected.field-0-is c.in-Err-Unexpected.ensures)).1
+
+pub returns-in-Err-Unexpected-clause-exact : goal.returns-in-Err-Unexpected-clause-exact
+returns-in-Err-Unexpected-clause-exact c = (stuck_at operator IsOperator operator_bytes
+    operator_correct c.args.bytes.now c.args.from c.requires c.reader_at-reader.result.rest.now
+    c.op.new.reader.rest.now c.reader_at-reader.ensures
+    (of_stuck (operator c.reader_at-reader.result.rest.now) c.in-Err-Unexpected.field-0
+    c.op.new.reader.rest.now c.in-Err-Unexpected.field-0-is c.in-Err-Unexpected.ensures)).2

@@ -1,9 +1,0 @@
-use Rattle.std.proofs.Common.{◌≡◌, true, length, drop, ◌≤◌}
-use Rattle.dead_conditions.specs.Steps.{all_top}
-use Rattle.dead_conditions.proofs.tried.last_low.Given as goal
-
-abbrev pub invariant-loop-place : goal.invariant-loop-place
-invariant-loop-place l = record { within : l.place ≤ length l.bytes; top : all_top (drop l.place l.bytes) ≡ true }
-
-abbrev pub decreases-loop-place : goal.decreases-loop-place
-decreases-loop-place l = l.place

@@ -1,0 +1,23 @@
+use Rattle.std.proofs.Common.{rules, ◌≡◌, ◌<◌, length, sym, subst, ◌∙◌, vec_len}
+use Rattle.row_order.proofs.Cells.{length-cells_of}
+use Rattle.table_meaning.proofs.Reading.{counted}
+use Rattle.history_store.proofs.table.StoredTable.entries_at.Goals as goal
+
+pub index-requires : goal.index-requires
+index-requires c =
+    let a = c.self.inside in
+    let h : c.args.column < length a.columns.items = rw (← c.self.view_is) at c.requires in
+    let n : length a.columns.items ≡ vec_len a.logs = sym c.self.invariant.kept.width
+    ∙ length-cells_of a.logs.items ∙ search rules in
+    subst (λ n. c.args.column < n) n h
+
+pub returns : goal.returns
+returns c =
+    let a = c.self.inside in
+    let h : c.args.column < length a.columns.items = rw (← c.self.view_is) at c.requires in
+    let h' : c.args.column < length a.logs.items =
+    subst (λ n. c.args.column < n) (sym c.self.invariant.kept.width
+    ∙ length-cells_of a.logs.items) h in
+    rw (← c.self.view_is) (c.count.ensures ∙ sym
+    (counted a.columns.items a.keys.items a.logs.items a.live.ids c.self.invariant.kept
+    c.args.column c.index.result.now h' c.index.ensures))

@@ -1,0 +1,55 @@
+//! Reading numbers and counts.
+
+ghost use Rattle.std.specs.Prelude.{◌≡◌, ◌<◌, ◌/◌, min, length};
+ghost use Rattle.image_spelling.specs.Items.{item};
+ghost use Rattle.image_spelling.specs.Reader as spec;
+ghost use Rattle.command_codec.specs.Reads.{Reads};
+
+use command_codec::{Reader, Stop};
+
+/// A number of eight bytes.
+#[tactic(auto, unfolding(image_spelling::specs::Reader::number_64))]
+pub(crate) fn number_64(reader: &mut Reader<'_>) -> Result<u64, Stop>
+    ensures { Reads (λ n. n) (spec.number_64 reader.old.rest.now) result reader.new.rest.now }
+{
+    reader.number_64()
+}
+
+/// A count of four bytes. Where it is cut off the reader stands at its first byte.
+#[tactic(auto, unfolding(image_spelling::specs::Reader::number_32), using(crate::proofs::ItemSteps::item_got, crate::proofs::ItemSteps::item_fails))]
+pub(crate) fn count_32(reader: &mut Reader<'_>) -> Result<u64, Stop>
+    ensures { Reads (λ n. n) (item spec.number_32 reader.old.rest.now) result reader.new.rest.now }
+{
+    let start = reader.rest;
+    match reader.number(4, 0xFFFF_FFFF) {
+        Ok(count) => Ok(count),
+        Err(stop) => {
+            reader.rest = start;
+            Err(stop)
+        }
+    }
+}
+
+/// A count of eight bytes. Where it is cut off the reader stands at its first byte.
+#[tactic(auto, using(crate::proofs::ItemSteps::item_got, crate::proofs::ItemSteps::item_fails))]
+pub(crate) fn count_64(reader: &mut Reader<'_>) -> Result<u64, Stop>
+    ensures { Reads (λ n. n) (item spec.number_64 reader.old.rest.now) result reader.new.rest.now }
+{
+    let start = reader.rest;
+    match number_64(reader) {
+        Ok(count) => Ok(count),
+        Err(stop) => {
+            reader.rest = start;
+            Err(stop)
+        }
+    }
+}
+
+/// For how many items there is to be room where so many are announced, each of at least so many
+/// bytes: never for more than the bytes that are left can hold.
+pub(crate) fn room_for(count: u64, reader: &Reader<'_>, least: usize) -> usize
+    requires { 0 < least }
+    ensures { result ≡ min count (length reader.now.rest.now / least) }
+{
+    count.min((reader.rest.len() / least) as u64) as usize
+}

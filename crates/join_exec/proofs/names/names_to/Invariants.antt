@@ -1,8 +1,0 @@
-use Rattle.std.proofs.Common.{◌≡◌, take}
-use Rattle.std.specs.List.{filter}
-use Rattle.plain_answers.specs.Naming.{is_to, written_names}
-use Rattle.cond_expr.specs.References.{lent}
-use Rattle.join_exec.proofs.names.names_to.Given as goal
-
-abbrev pub invariant-loop-reference : goal.invariant-loop-reference
-invariant-loop-reference l = l.names.items ≡ written_names (filter (is_to l.atom) (lent (take l.reference-index l.references)))

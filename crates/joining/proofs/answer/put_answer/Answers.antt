@@ -1,0 +1,21 @@
+use Rattle.std.proofs.Common.{map, sym, ap, subst}
+use Rattle.prima_base.specs.Order.{shown}
+use Rattle.timed_choices.specs.Keeping.{IsValidRow}
+use Rattle.cond_expr.specs.Seen.{tree}
+use Rattle.cond_expr.specs.Rows.{AreBorrowed}
+use Rattle.timed_choices.proofs.BorrowedLaws.{all_more}
+use Rattle.timed_choices.proofs.Tests.{are_valid}
+use Rattle.joining.proofs.answer.put_answer.Goals as goal
+
+pub is_met-requires : goal.is_met-requires
+is_met-requires c = are_valid c.deref.result.now
+    (subst IsValidRow (ap (map shown) (sym c.deref.ensures.value)) c.requires)
+
+pub output_row-requires : goal.output_row-requires
+output_row-requires c = are_valid c.deref-2.result.now
+    (subst IsValidRow (ap (map shown) (sym c.deref-2.ensures.value)) c.requires)
+
+pub returns-clause-borrowed : goal.returns-clause-borrowed
+returns-clause-borrowed c = λ h k. all_more (map tree c.args.outs.now) c.args.rows.now.items
+    c.push.new.self.items _ c.in_ok-push.ensures.items h
+    (c.in_ok-values.ensures.borrowed (subst AreBorrowed (sym c.deref-2.ensures.value) k))

@@ -1,0 +1,11 @@
+use Rattle.joining.proofs.CoalescedRows.{borrowed_by_values, still_none}
+use Rattle.joining.proofs.answer.settled.Goals as goal
+
+pub returns-clause-borrowed : goal.returns-clause-borrowed
+returns-clause-borrowed c = λ outs l. borrowed_by_values outs c.args.rows.now.items
+    c.coalesce_in_place.new.rows.items c.coalesce_in_place.ensures.values l
+
+pub returns-clause-inside : goal.returns-clause-inside
+returns-clause-inside c = λ m none. still_none c.args.slice c.args.rows.now.items
+    c.coalesce_in_place.new.rows.items m (c.coalesce_in_place.ensures.same m)
+    (c.coalesce_in_place.ensures.inside m) none

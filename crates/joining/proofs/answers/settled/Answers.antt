@@ -1,8 +1,0 @@
-use Rattle.joining.proofs.CoalescedRows.{lent_by_values, still_none}
-use Rattle.joining.proofs.answers.settled.Goals as goal
-
-pub returns-clause-lent : goal.returns-clause-lent
-returns-clause-lent c = λ outs l. lent_by_values outs c.args.rows.now.items c.coalesce_in_place.new.rows.items c.coalesce_in_place.ensures.values l
-
-pub returns-clause-inside : goal.returns-clause-inside
-returns-clause-inside c = λ m none. still_none c.args.slice c.args.rows.now.items c.coalesce_in_place.new.rows.items m (c.coalesce_in_place.ensures.same m) (c.coalesce_in_place.ensures.inside m) none

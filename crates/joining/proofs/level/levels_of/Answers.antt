@@ -1,0 +1,73 @@
+use Rattle.std.proofs.Common.{◌≡◌, ◌+◌, List, [], sym, ap, ◌∙◌, subst, arith}
+use Rattle.std.specs.List.{filter, sum_by}
+use Rattle.std.proofs.lemmas.List.Sums.{sum_by-cons}
+use Rattle.relations.specs.Timed.{Entry, held_at}
+use Rattle.prima_base.specs.declared.value.Value.{Value}
+use Rattle.timed_choices.specs.Choosing.{completed}
+use Rattle.timed_choices.specs.Fitting.{Fit}
+use Rattle.timed_choices.specs.Keeping.{meets_all, borrowed_tests}
+use Rattle.joining.specs.declared.level.Level.{Level}
+use Rattle.joining.specs.declared.source.Source.{Source}
+use Rattle.joining.specs.Levels.{made_through, AreValidLevels, AreBorrowedLevels}
+use Rattle.joining.specs.Sources.{EachBorrowed, held_of}
+use Rattle.joining.proofs.LevelLaws.{through_more, valid_more, borrowed_more, none_left}
+use Rattle.joining.proofs.level.levels_of.Goals as goal
+
+pub sources-preserved : goal.sources-preserved
+sources-preserved c =
+    let cs = c.args.columns.now in
+    let met = meets_all cs (borrowed_tests c.args.parts.now) in
+    let level : Level = c.in_ok-level_of.field-0 in
+    let before : List Level = c.sources.levels.items in
+    let left : List Source = c.pop_front.new.self.items in
+    record {
+      room = (
+          let room = c.sources.invariant.room in
+          let sum : sum_by (λ (s : Source). s.width) c.sources.sources.items
+          ≡ c.in-Some.source.width + sum_by (λ (s : Source). s.width) left =
+          ap (λ (xs : List Source). sum_by (λ (s : Source). s.width) xs) c.in-Some.ensures.items
+          ∙ sum_by-cons (λ (s : Source). s.width) c.in-Some.source left in
+          omega (arith, room, sum)
+          );
+      valid = subst AreValidLevels (sym c.in_ok-push.ensures.items)
+          (valid_more before level c.sources.invariant.valid c.in_ok-level_of.ensures.valid);
+      borrowed = λ h.
+          let so = c.sources.invariant.borrowed h in
+          let here = subst EachBorrowed c.in-Some.ensures.items so.1 in (
+            subst AreBorrowedLevels (sym c.in_ok-push.ensures.items)
+                (borrowed_more before level so.0 (c.in_ok-level_of.ensures.borrowed here.0)),
+            here.1,
+          );
+      wide = λ ps f.
+          subst (λ (ls : List Level). Fit (c.sources.taken + c.in-Some.source.width)
+          (made_through cs ls ps)) (sym c.in_ok-push.ensures.items)
+          (subst (λ (es : List (Entry (List Value))).
+          Fit (c.sources.taken + c.in-Some.source.width) es)
+          (sym (through_more cs before level ps))
+          (c.in_ok-level_of.ensures.wide (made_through cs before ps)
+          (c.sources.invariant.wide ps f)));
+      joined = λ ps f m.
+          ap (λ (ls : List Level). filter met
+          (completed (held_at (made_through cs ls ps) m) (held_of left m)))
+          c.in_ok-push.ensures.items
+          ∙ ap (λ (es : List (Entry (List Value))).
+          filter met (completed (held_at es m) (held_of left m)))
+          (through_more cs before level ps)
+          ∙ c.in_ok-level_of.ensures.joined (made_through cs before ps)
+          (c.sources.invariant.wide ps f) m (held_of left m)
+          ∙ ap (λ (xs : List Source). filter met
+          (completed (held_at (made_through cs before ps) m) (held_of xs m)))
+          (sym c.in-Some.ensures.items)
+          ∙ c.sources.invariant.joined ps f m;
+    }
+
+pub returns-clause-joined : goal.returns-clause-joined
+returns-clause-joined c = λ ps f m.
+    let cs = c.args.columns.now in
+    let met = meets_all cs (borrowed_tests c.args.parts.now) in
+    let none : c.sources.sources.items ≡ [] =
+    none_left c.sources.sources.items c.pop_front.new.self.items c.in_default.ensures.items
+    c.in_default.ensures.rest in
+    ap (λ (xs : List Source). filter met (completed
+    (held_at (made_through cs c.sources.levels.items ps) m) (held_of xs m))) (sym none)
+    ∙ c.sources.invariant.joined ps f m

@@ -1,0 +1,30 @@
+use Rattle.std.proofs.Common.{sym, ◌≡◌, ◌++◌, [], ◌∷◌, List, length, ap, ◌∙◌, subst, arith}
+use Rattle.prima_base.specs.declared.value.Value.{Value}
+use Rattle.prima_base.specs.Timed.{entries_of, rows_at}
+use Rattle.std.proofs.lemmas.List.{map-append}
+use Rattle.joining.specs.declared.source.Source.{Source}
+use Rattle.timed_choices.specs.Fitting.{Fit}
+use Rattle.joining.specs.Sources.{EachBorrowed, relations_of}
+use Rattle.joining.proofs.AtomOrder.{sources_with}
+use Rattle.joining.proofs.TurnLaws.{fit_moved, at_moved, borrowed_moved}
+use Rattle.joining.proofs.order.put_apart.Goals as goal
+
+pub invariant_of-push_back : goal.invariant_of-push_back
+invariant_of-push_back c = record {
+  fit = (let e : length c.args.atom.columns.items ≡ c.len-width.result = omega arith in
+      subst (λ n. Fit n (entries_of c.in_turn.result.items)) e
+      (fit_moved c.args.atom.rows.items c.in_turn.result.items c.in_turn.ensures
+      (length c.args.atom.columns.items) c.args.atom.fit));
+}
+
+pub returns-clause-rows : goal.returns-clause-rows
+returns-clause-rows c = λ m.
+    ap (λ (ss : List Source). relations_of ss m) c.in_ok-push_back.ensures.items
+    ∙ map-append (λ (s : Source). rows_at s.rows.items m) c.args.sources.now.items _
+    ∙ ap (λ (rows : List (List Value)). relations_of c.args.sources.now.items m ++ rows ∷ [])
+    (at_moved c.args.atom.rows.items c.in_turn.result.items c.in_turn.ensures m)
+
+pub returns-clause-borrowed : goal.returns-clause-borrowed
+returns-clause-borrowed c = λ h k. subst EachBorrowed (sym c.in_ok-push_back.ensures.items)
+    (sources_with c.args.sources.now.items _ h
+    (borrowed_moved c.args.atom.rows.items c.in_turn.result.items c.in_turn.ensures k))

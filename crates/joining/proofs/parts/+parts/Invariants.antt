@@ -1,8 +1,0 @@
-use Rattle.std.proofs.Common.{◌≡◌, ◌++◌, map, drop}
-use Rattle.cond_expr.specs.Seen.{test, tests_of}
-use Rattle.timed_choices.specs.Keeping.{lent_tests}
-use Rattle.cond_expr.specs.Parts.{all_parts as all_parts}
-use Rattle.joining.proofs.parts.+parts.Given as goal
-
-abbrev pub invariant-gather_all-loop-cond : goal.invariant-gather_all-loop-cond
-invariant-gather_all-loop-cond l = lent_tests l.into.items ++ all_parts (tests_of (map test (drop l.cond-index l.conds))) ≡ lent_tests l.initial.into.items ++ all_parts (tests_of (map test l.conds))

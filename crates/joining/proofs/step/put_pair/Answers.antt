@@ -1,0 +1,22 @@
+use Rattle.std.proofs.Common.{sym, subst, List, ◌++◌, map, ap, ◌∙◌}
+use Rattle.prima_base.specs.declared.value.Val.{Val}
+use Rattle.prima_base.specs.Order.{shown}
+use Rattle.cond_expr.specs.Rows.{AreBorrowed}
+use Rattle.timed_choices.proofs.BorrowedLaws.{row_borrowed}
+use Rattle.timed_choices.proofs.Tests.{valid_of_both}
+use Rattle.joining.proofs.step.put_pair.Goals as goal
+
+pub all_met-requires : goal.all_met-requires
+all_met-requires c = valid_of_both c.deref-3.result.now (map shown c.args.choice.now.values.items)
+    (map shown c.args.row.now.values.items)
+    (ap (map shown) c.deref-3.ensures.value ∙ c.in_ok-values.ensures.values
+    ∙ ap (λ (a : List Val). map shown a ++ map shown c.deref-2.result.now) c.deref.ensures.value
+    ∙ ap (λ (a : List Val). map shown c.args.choice.now.values.items ++ map shown a)
+    c.deref-2.ensures.value)
+    c.requires.choice c.requires.row
+
+pub returns-clause-borrowed : goal.returns-clause-borrowed
+returns-clause-borrowed c = λ h k l. row_borrowed c.args.into.now.items c.push.new.self.items _
+    c.in_ok-push.ensures.items h
+    (c.in_ok-values.ensures.borrowed (subst AreBorrowed (sym c.deref.ensures.value) k)
+    (subst AreBorrowed (sym c.deref-2.ensures.value) l))

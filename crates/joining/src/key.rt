@@ -1,0 +1,104 @@
+//! Keys by which rows are looked up.
+
+ghost use Rattle.std.specs.Prelude.{◌≡◌, IfOk, map};
+ghost use Rattle.prima_base.specs.Order.{shown};
+ghost use Rattle.timed_choices.specs.Keeping.{value_at, picked};
+
+use prima_base::{NoMemory, Val, compare_vals};
+use std::alloc::Global;
+use std::cmp::Ordering;
+use std::marker::Model;
+
+/// Values by which rows are looked up. A contract sees the list of the values that they show.
+#[derive(Drop)]
+pub(crate) struct Key<'a> {
+    values: Vec<Val<'a>>,
+}
+
+impl<'a> Model for Key<'a> {
+    ghost use Rattle.std.specs.Prelude.{List, map};
+    ghost use Rattle.prima_base.specs.declared.value.Value.{Value as OneValue};
+    ghost use Rattle.prima_base.specs.Order.{shown};
+
+    ghost Value = { List OneValue };
+
+    ghost view = { λ k. map shown k.values.items };
+}
+
+impl PartialEq for Key<'_> {
+    ghost use Rattle.std.specs.Ordering.{eq_by_cmp};
+    ghost use Rattle.prima_base.specs.Order.{row_cmp};
+    ghost use Rattle.prima_base.specs.OrderLaws.{row_eq_per};
+
+    ghost eq = { eq_by_cmp (row_cmp) };
+
+    ghost laws = { row_eq_per };
+
+    fn eq(&self, other: &Key<'_>) -> bool {
+        self.cmp(other) == Ordering::Equal
+    }
+}
+
+impl Eq for Key<'_> {
+    ghost use Rattle.prima_base.specs.OrderLaws.{row_eq_equiv};
+
+    ghost laws = { row_eq_equiv };
+}
+
+impl PartialOrd for Key<'_> {
+    ghost use Rattle.std.specs.Prelude.{Some};
+    ghost use Rattle.prima_base.specs.Order.{row_cmp};
+    ghost use Rattle.prima_base.specs.OrderLaws.{row_po};
+
+    ghost partial_cmp = { λ x y. Some (row_cmp x y) };
+
+    ghost laws = { row_po };
+
+    fn partial_cmp(&self, other: &Key<'_>) -> Option<Ordering> {
+        Some(self.cmp(other))
+    }
+}
+
+impl Ord for Key<'_> {
+    ghost use Rattle.std.specs.Prelude.{refl};
+    ghost use Rattle.prima_base.specs.Order.{row_cmp};
+    ghost use Rattle.prima_base.specs.OrderLaws.{row_total};
+
+    ghost cmp = { row_cmp };
+
+    ghost total = { row_total };
+
+    ghost matches_partial_cmp = { λ x y. refl };
+
+    ghost matches_eq = { λ x y. refl };
+
+    #[tactic(auto, using(timed_choices::proofs::ShownOrder::by_shown))]
+    fn cmp(&self, other: &Key<'_>) -> Ordering {
+        compare_vals(&self.values, &other.values)
+    }
+}
+
+// The value at the place. A borrowed text stays borrowed.
+fn value_at<'a>(values: &[Val<'a>], place: usize) -> Result<Val<'a>, NoMemory>
+    ensures { IfOk result (λ v. shown v ≡ value_at (map shown values.now) place) }
+{
+    match values.get(place) {
+        Some(value) => value.copy(),
+        None => Ok(Val::Int(0)),
+    }
+}
+
+/// The values at the places.
+pub(crate) fn key_of<'a>(
+    alloc: Global,
+    places: &[usize],
+    values: &[Val<'a>],
+) -> Result<Key<'a>, NoMemory>
+    ensures { IfOk result (λ k. k ≡ picked places.now (map shown values.now)) }
+{
+    let mut key = Vec::with_capacity(alloc, places.len())?;
+    for place in places {
+        key.push(value_at(values, *place)?)?;
+    }
+    Ok(Key { values: key })
+}

@@ -1,0 +1,122 @@
+//! The parts of a condition that speak of one atom alone, tested on its rows before any join.
+
+ghost use Rattle.std.specs.Prelude.{◌≡◌, ◌++◌, ◌∷◌, [], ℕ, List, map, if◌then◌else◌, IfOk, OnOk};
+ghost use Rattle.std.specs.List.{filter};
+ghost use Rattle.prima_base.specs.declared.timed_row.TimedRow.{TimedRow as OneRow};
+ghost use Rattle.prima_base.specs.Order.{shown};
+ghost use Rattle.prima_base.specs.Timed.{entry_of, entries_of};
+ghost use Rattle.cond_expr.specs.Trees.{Tree, Test};
+ghost use Rattle.timed_choices.specs.Keeping.{meets_all, borrowed_tests, IsValidRow, AllValid};
+ghost use Rattle.timed_choices.specs.Keeping.{AreOwnParts};
+ghost use Rattle.timed_choices.specs.Lending.{AllBorrowed};
+ghost use Rattle.cond_expr.specs.Parts.{parts as parts_of};
+ghost use Rattle.timed_choices.specs.Blocks.{answered, IsPruned};
+ghost use Rattle.joining.specs.Sources.{AtomsBorrowed, block_of, blocks_of, AreNumbered};
+
+use crate::place::is_settled;
+use crate::source::Atom;
+use crate::step::all_met;
+use cond_expr::{Column, Cond};
+use prima_base::{NoMemory, TimedRow};
+use std::alloc::Global;
+
+// The parts all of whose references are among the columns.
+fn own_parts<'c>(
+    alloc: Global,
+    columns: &[Column],
+    parts: &[&'c Cond],
+) -> Result<Vec<&'c Cond>, NoMemory>
+    ensures { IfOk result (λ own. AreOwnParts columns.now (borrowed_tests parts.now)
+        (borrowed_tests own.items)) }
+{
+    let mut own = Vec::new(alloc);
+    for part in parts {
+        if is_settled(alloc, columns, part, 0, columns.len())? {
+            own.push(*part)?;
+        }
+    }
+    Ok(own)
+}
+
+// Puts the row after the others, where it meets all of the conditions.
+fn put_passing<'a>(
+    alloc: Global,
+    columns: &[Column],
+    conds: &[&Cond],
+    kept: &mut Vec<TimedRow<'a>>,
+    row: TimedRow<'a>,
+) -> Result<(), NoMemory>
+    requires { IsValidRow (map shown row.values.items) }
+    ensures { OnOk result (kept.new.items ≡ kept.old.items
+        ++ (if meets_all columns.now (borrowed_tests conds.now) (entry_of row.entry).item
+        then row.entry ∷ [] else [])) }
+{
+    if !all_met(alloc, conds, columns, &row.values)? {
+        return Ok(());
+    }
+    kept.push(row)?;
+    Ok(())
+}
+
+// The rows that meet all of the conditions.
+fn passing<'a>(
+    alloc: Global,
+    columns: &[Column],
+    conds: &[&Cond],
+    rows: Vec<TimedRow<'a>>,
+) -> Result<Vec<TimedRow<'a>>, NoMemory>
+    requires { AllValid (entries_of rows.items) }
+    ensures { IfOk result (λ kept. kept.items
+        ≡ filter (λ (t : OneRow). meets_all columns.now (borrowed_tests conds.now)
+        (entry_of t).item) rows.entry.items) }
+{
+    let mut kept = Vec::new(alloc);
+    for row in rows {
+        put_passing(alloc, columns, conds, &mut kept, row)?;
+    }
+    Ok(kept)
+}
+
+// The atom with those of its rows that meet the parts that speak of it alone.
+fn pruned<'a>(alloc: Global, parts: &[&Cond], atom: Atom<'a>) -> Result<Atom<'a>, NoMemory>
+    ensures borrowed { AllBorrowed atom.entry.rows.items
+        → IfOk result (λ a. AllBorrowed a.rows.items) }
+    ensures pruned { (m : ℕ) → IfOk result (λ a.
+        IsPruned (borrowed_tests parts.now) (block_of m atom.entry) (block_of m a)) }
+{
+    let own = own_parts(alloc, &atom.columns, parts)?;
+    if own.is_empty() {
+        return Ok(atom);
+    }
+    let Atom {
+        number,
+        columns,
+        rows,
+    } = atom;
+    let rows = passing(alloc, &columns, &own, rows)?;
+    Ok(Atom {
+        number,
+        columns,
+        rows,
+    })
+}
+
+/// The atoms with those of their rows that meet the parts that speak of one atom alone.
+pub(crate) fn pruned_atoms<'a>(
+    alloc: Global,
+    parts: &[&Cond],
+    atoms: Vec<Atom<'a>>,
+) -> Result<Vec<Atom<'a>>, NoMemory>
+    requires { AreNumbered atoms.items }
+    ensures numbered { IfOk result (λ r. AreNumbered r.items) }
+    ensures borrowed { AtomsBorrowed atoms.entry.items → IfOk result (λ r. AtomsBorrowed r.items) }
+    ensures same { (outs : List Tree) → (cond : Test) → borrowed_tests parts.now ≡ parts_of cond
+        → (m : ℕ) → IfOk result (λ r. answered outs cond (blocks_of m r.items)
+        ≡ answered outs cond (blocks_of m atoms.entry.items)) }
+{
+    let mut done = Vec::new(alloc);
+    for atom in atoms {
+        done.push(pruned(alloc, parts, atom)?)?;
+    }
+    Ok(done)
+}

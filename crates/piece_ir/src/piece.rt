@@ -1,0 +1,36 @@
+use crate::name::copy_names;
+use crate::output::copy_outputs;
+use cond_expr::{Cond, Expr};
+use prima_base::{Name, NoMemory};
+use std::alloc::Global;
+
+/// A query over the tables of one version, as rewriting takes it from version to version (PRISM
+/// 2008, PRIMA 2008).
+///
+/// It means, over a database of that version, for each choice of one row per atom that meets the
+/// condition, the row of the outputs. Each reference is to an atom.
+#[derive(Drop)]
+pub struct Piece {
+    /// The tables, by their names. A table may be several atoms.
+    pub atoms: Vec<Name>,
+    /// Which choices are taken.
+    pub cond: Cond,
+    /// The outputs, in ascending order of their names.
+    pub outs: Vec<(Name, Expr)>,
+}
+
+impl Piece {
+    ghost use Rattle.std.specs.Prelude.{◌≡◌, IfOk};
+    ghost use Rattle.piece_ir.specs.Shown.{piece_of};
+
+    /// An equal piece. The one error is `NoMemory`, where memory runs out.
+    pub fn copy(&self, alloc: Global) -> Result<Piece, NoMemory>
+        ensures { IfOk result (λ p. piece_of p ≡ piece_of self.now) }
+    {
+        Ok(Piece {
+            atoms: copy_names(alloc, &self.atoms)?,
+            cond: self.cond.copy(alloc)?,
+            outs: copy_outputs(alloc, &self.outs)?,
+        })
+    }
+}

@@ -1,0 +1,171 @@
+ghost use Rattle.std.specs.Prelude.{◌≡◌, ◌+◌, ◌++◌, [], ◌∷◌, IfOk, OnOk, map};
+ghost use Rattle.cond_expr.specs.Seen.{test, tests_of};
+ghost use Rattle.cond_expr.specs.Trees.{fill_test, fill_tests};
+ghost use Rattle.cond_expr.specs.Parts.{parts_but_true as parts_of};
+ghost use Rattle.cond_expr.specs.Parts.{all_parts_but_true as all_parts_of};
+ghost use Rattle.piece_meaning.specs.Unfolding.{moved_on, parts_from, with_parts, atoms_of};
+ghost use Rattle.piece_meaning.specs.Unfolding.{unfolded};
+ghost use Rattle.piece_ir.specs.Shown.{piece_of, borrowed_views};
+ghost use Rattle.piece_ir.specs.Placing.{places_from};
+
+use crate::filling::{MovedOn, PutViews};
+use crate::name::append_names;
+use crate::output::fill_outputs;
+use crate::{Piece, View};
+use cond_expr::{Cond, Fill, fill_cond};
+use prima_base::{Name, NoMemory};
+use std::alloc::Global;
+
+// The place after so many more atoms. No piece in memory has more.
+fn next_place(place: u32, count: usize) -> Result<u32, NoMemory>
+    ensures { IfOk result (λ p. p ≡ place + count) }
+{
+    match u32::try_from(count) {
+        Ok(count) => place.checked_add(count).ok_or(NoMemory),
+        Err(_) => Err(NoMemory),
+    }
+}
+
+fn places_of(alloc: Global, views: &[&View]) -> Result<Vec<u32>, NoMemory>
+    ensures { IfOk result (λ v. v.items ≡ places_from 0 (borrowed_views views.now)) }
+{
+    let mut places = Vec::with_capacity(alloc, views.len())?;
+    let mut place = 0;
+    for view in views {
+        places.push(place)?;
+        place = next_place(place, view.atoms.len())?;
+    }
+    Ok(places)
+}
+
+fn all_atoms(alloc: Global, views: &[&View]) -> Result<Vec<Name>, NoMemory>
+    ensures { IfOk result (λ v. v.items ≡ atoms_of (borrowed_views views.now)) }
+{
+    let mut atoms = Vec::new(alloc);
+    for view in views {
+        append_names(&mut atoms, &view.atoms)?;
+    }
+    Ok(atoms)
+}
+
+// Puts conditions after the others, each said of the atoms so many places on.
+fn append_moved(
+    parts: &mut Vec<Cond>,
+    alloc: Global,
+    added: &[Cond],
+    by: u32,
+) -> Result<(), NoMemory>
+    ensures { OnOk result (map test parts.new.items ≡ map test parts.old.items
+        ++ map (fill_test (moved_on by)) (map test added.now)) }
+{
+    for part in added {
+        parts.push(fill_cond(&MovedOn { by }, alloc, part)?)?;
+    }
+    Ok(())
+}
+
+// The parts of the views, said of the atoms of each.
+fn all_parts(alloc: Global, views: &[&View]) -> Result<Vec<Cond>, NoMemory>
+    ensures { IfOk result (λ v. map test v.items ≡ parts_from 0 (borrowed_views views.now)) }
+{
+    let mut parts = Vec::new(alloc);
+    let mut place = 0;
+    for view in views {
+        append_moved(&mut parts, alloc, &view.parts, place)?;
+        place = next_place(place, view.atoms.len())?;
+    }
+    Ok(parts)
+}
+
+fn append_filled<F: Fill>(
+    by: &F,
+    alloc: Global,
+    cond: &Cond,
+    parts: &mut Vec<Cond>,
+) -> Result<(), NoMemory>
+    ensures { OnOk result (map test parts.new.items ≡ map test parts.old.items
+        ++ fill_test (F.puts by.now) (test cond.now) ∷ []) }
+{
+    parts.push(fill_cond(by, alloc, cond)?)?;
+    Ok(())
+}
+
+/// Puts the parts of a condition after the others, with what is put for its references. The one
+/// error is `NoMemory`, where memory runs out.
+#[cycle(parts)]
+#[tactic(auto, using(cond_expr::proofs::SeenLaws::test_of_and, cond_expr::proofs::SeenLaws::test_of_or, cond_expr::proofs::SeenLaws::test_of_cmp))]
+pub fn append_parts<F: Fill>(
+    by: &F,
+    alloc: Global,
+    cond: &Cond,
+    parts: &mut Vec<Cond>,
+) -> Result<(), NoMemory>
+    ensures { OnOk result (map test parts.new.items ≡ map test parts.old.items
+        ++ parts_of (fill_test (F.puts by.now) (test cond.now))) }
+{
+    match cond {
+        Cond::True => Ok(()),
+        Cond::And(list) => append_lists(by, alloc, list, parts),
+        Cond::False => append_filled(by, alloc, cond, parts),
+        Cond::Cmp(_, _, _) => append_filled(by, alloc, cond, parts),
+        Cond::Or(_) => append_filled(by, alloc, cond, parts),
+        Cond::Not(_) => append_filled(by, alloc, cond, parts),
+    }
+}
+
+#[cycle(parts)]
+#[tactic(auto, using(cond_expr::proofs::SeenLaws::test_of_and, cond_expr::proofs::SeenLaws::test_of_or, cond_expr::proofs::SeenLaws::test_of_cmp))]
+fn append_lists<F: Fill>(
+    by: &F,
+    alloc: Global,
+    list: &[Cond],
+    parts: &mut Vec<Cond>,
+) -> Result<(), NoMemory>
+    ensures { OnOk result (map test parts.new.items ≡ map test parts.old.items
+        ++ all_parts_of (fill_tests (F.puts by.now) (tests_of (map test list.now)))) }
+{
+    for cond in list {
+        append_parts(by, alloc, cond, parts)?;
+    }
+    Ok(())
+}
+
+// The condition, filled, with these parts after its own.
+fn add_parts<F: Fill>(
+    by: &F,
+    alloc: Global,
+    cond: &Cond,
+    added: Vec<Cond>,
+) -> Result<Cond, NoMemory>
+    ensures { IfOk result (λ c. test c ≡ with_parts (fill_test (F.puts by.now) (test cond.now))
+        (map test added.items)) }
+{
+    if added.is_empty() {
+        let filled = fill_cond(by, alloc, cond)?;
+        return Ok(filled);
+    }
+    let mut added = added;
+    let mut parts = Vec::new(alloc);
+    append_parts(by, alloc, cond, &mut parts)?;
+    parts.append(&mut added)?;
+    Ok(Cond::and(parts))
+}
+
+/// The piece with one view in place of each atom. The one error is `NoMemory`, where memory runs
+/// out.
+pub(crate) fn unfold(alloc: Global, piece: &Piece, views: &[&View]) -> Result<Piece, NoMemory>
+    ensures { IfOk result (λ p. piece_of p ≡ unfolded (piece_of piece.now)
+        (borrowed_views views.now)) }
+{
+    let places = places_of(alloc, views)?;
+    let by = PutViews {
+        views,
+        places: &places,
+    };
+    let added = all_parts(alloc, views)?;
+    Ok(Piece {
+        atoms: all_atoms(alloc, views)?,
+        cond: add_parts(&by, alloc, &piece.cond, added)?,
+        outs: fill_outputs(&by, alloc, &piece.outs)?,
+    })
+}

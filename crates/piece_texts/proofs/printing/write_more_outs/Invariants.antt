@@ -1,8 +1,0 @@
-use Rattle.std.proofs.Common.{◌≡◌, ◌++◌, map, drop}
-use Rattle.smo_types.specs.Changes.{sets_of}
-use Rattle.smo_parse.specs.Texts.{more_listed}
-use Rattle.piece_texts.specs.PieceTexts.{out_text}
-use Rattle.piece_texts.proofs.printing.write_more_outs.Given as goal
-
-abbrev pub invariant-loop-out : goal.invariant-loop-out
-invariant-loop-out l = l.text.items ++ more_listed (map out_text (sets_of (drop l.out-index l.outs))) ≡ l.initial.text.items ++ more_listed (map out_text (sets_of l.outs))

@@ -1,5 +1,0 @@
-use Rattle.prima_base.specs.OrderLaws.{row_exact}
-use Rattle.prima_base.proofs.rows.rows_are_told_apart.Goals as goal
-
-pub returns : goal.returns
-returns c = row_exact

@@ -1,0 +1,162 @@
+use Rattle.std.proofs.Common.{◌≡◌, ◌++◌, List, map, sym, ap, subst, ◌∙◌}
+use Rattle.std.specs.Borrow.{Bor}
+use Rattle.std.proofs.lemmas.Result.{IfOk-weaker}
+use Rattle.relations.specs.Sets.{set_of}
+use Rattle.prima_base.specs.Order.{row_cmp}
+use Rattle.prima_base.specs.Timed.{rows_at}
+use Rattle.cond_expr.specs.declared.expr.ColRef.{ColRef}
+use Rattle.cond_expr.specs.declared.expr.Expr.{Expr}
+use Rattle.cond_expr.specs.References.{borrowed}
+use Rattle.cond_expr.specs.Seen.{tree, test}
+use Rattle.smo_meaning.specs.Past.{tables_of}
+use Rattle.version_groups.specs.Groups.{versions_in}
+use Rattle.plain_answers.specs.Branches.{Item, PlainBranch, item_columns}
+use Rattle.plain_answers.specs.Choosing.{answers_over}
+use Rattle.plain_answers.specs.Naming.{all_references}
+use Rattle.plain_answers.specs.Pushing.{pushed_reads}
+use Rattle.plain_answers.specs.Reading.{read_columns}
+use Rattle.piece_meaning.specs.Books.{book_of}
+use Rattle.joining.specs.Sources.{atom_rows}
+use Rattle.join_exec.proofs.AtomSteps.{if_known}
+use Rattle.temporal_lang.specs.Branches.{branch_of}
+use Rattle.timed_choices.specs.Lending.{AllStayBorrowed}
+use Rattle.query_exec.specs.Accepted.{MayItems}
+use Rattle.query_exec.specs.Borrowed.{NoneAliveComputes}
+use Rattle.query_exec.specs.QueryPieces.{items_pieces, AreAlive, IsAlive}
+use Rattle.query_exec.proofs.ItemAtoms.{are_numbered, branch_atoms, branch_rows}
+use Rattle.query_exec.proofs.branch.answer_branch.Goals as goal
+
+pub read_items-requires-clause-read : goal.read_items-requires-clause-read
+read_items-requires-clause-read g c =
+    let b : PlainBranch = branch_of c.args.branch.now in
+    let same : borrowed c.deref-3.result.now ≡ all_references b.outs b.cond =
+    ap borrowed c.deref-3.ensures.value ∙ c.in_ok-gather_references.ensures
+    ∙ ap (λ (xs : List Expr). borrowed c.new-references.result.items
+    ++ all_references (map tree xs) (test c.args.branch.now.cond)) c.deref.ensures.value
+    ∙ ap (λ (rs : List (Bor ColRef)). borrowed rs ++ all_references b.outs b.cond)
+    c.new-references.ensures.items in
+    subst (λ (rs : List ColRef). MayItems (versions_in c.args.groups.now) c.args.route.now rs
+    b.cond 0 c.deref-2.result.now) (sym same)
+    (subst (λ (from : List Item). MayItems (versions_in c.args.groups.now) c.args.route.now
+    (all_references b.outs b.cond) b.cond 0 from) (sym c.deref-2.ensures.value) c.requires.read)
+
+pub returns-in_err-atoms-clause-cost : goal.returns-in_err-atoms-clause-cost
+returns-in_err-atoms-clause-cost g c =
+    let b : PlainBranch = branch_of c.args.branch.now in
+    let same : borrowed c.deref-3.result.now ≡ all_references b.outs b.cond =
+    ap borrowed c.deref-3.ensures.value ∙ c.in_ok-gather_references.ensures
+    ∙ ap (λ (xs : List Expr). borrowed c.new-references.result.items
+    ++ all_references (map tree xs) (test c.args.branch.now.cond)) c.deref.ensures.value
+    ∙ ap (λ (rs : List (Bor ColRef)). borrowed rs ++ all_references b.outs b.cond)
+    c.new-references.ensures.items in
+    λ number alive h. c.read_items.ensures.cost number alive
+    (subst (λ (from : List Item). AreAlive (versions_in c.args.groups.now)
+    (items_pieces (book_of (λ r. (goal.Rule-dyn g (r.vtable, r.value)).handles r.value)
+    (λ r. (goal.Rule-dyn g (r.vtable, r.value)).answers r.value) c.args.book.now.rules.items)
+    (versions_in c.args.groups.now) c.args.route.now.asked c.args.route.now.parts.items
+    (borrowed c.deref-3.result.now) b.cond number 0 from) alive) (sym c.deref-2.ensures.value)
+    (subst (λ (rs : List ColRef). AreAlive (versions_in c.args.groups.now)
+    (items_pieces (book_of (λ r. (goal.Rule-dyn g (r.vtable, r.value)).handles r.value)
+    (λ r. (goal.Rule-dyn g (r.vtable, r.value)).answers r.value) c.args.book.now.rules.items)
+    (versions_in c.args.groups.now) c.args.route.now.asked c.args.route.now.parts.items rs
+    b.cond number 0 b.from) alive) (sym same) h))
+
+pub answer_choices-requires : goal.answer_choices-requires
+answer_choices-requires g c =
+    are_numbered c.requires.shows.0 c.args.route.now (borrowed c.deref-3.result.now)
+    (test c.args.branch.now.cond) 0 c.deref-2.result.now c.in_ok-atoms.atoms.items
+    (c.in_ok-atoms.ensures.atoms c.requires.shows.0 c.requires.shows.1)
+
+pub returns-clause-rows : goal.returns-clause-rows
+returns-clause-rows g c = λ past shows m inside.
+    let b : PlainBranch = branch_of c.args.branch.now in
+    let same : borrowed c.deref-3.result.now ≡ all_references b.outs b.cond =
+    ap borrowed c.deref-3.ensures.value ∙ c.in_ok-gather_references.ensures
+    ∙ ap (λ (xs : List Expr). borrowed c.new-references.result.items
+    ++ all_references (map tree xs) (test c.args.branch.now.cond)) c.deref.ensures.value
+    ∙ ap (λ (rs : List (Bor ColRef)). borrowed rs ++ all_references b.outs b.cond)
+    c.new-references.ensures.items in
+    let read = c.in_ok-atoms.ensures.atoms past shows in
+    IfOk-weaker c.answer_choices.result _ _
+    (λ rows q. branch_rows past c.args.route.now b (borrowed c.deref-3.result.now)
+    c.deref-2.result.now c.in_ok-atoms.atoms.items same c.deref-2.ensures.value read m inside
+    (rows_at rows.items m)
+    (q ∙ ap (λ (xs : List Expr). set_of row_cmp
+    (answers_over (read_columns (pushed_reads b)
+    (item_columns (tables_of past c.args.route.now.asked) b.from))
+    (atom_rows c.in_ok-atoms.atoms.items m) (map tree xs) (test c.args.branch.now.cond)))
+    c.deref-4.ensures.value))
+    (c.answer_choices.ensures.rows (read_columns (pushed_reads b)
+    (item_columns (tables_of past c.args.route.now.asked) b.from))
+    (branch_atoms past c.args.route.now b (borrowed c.deref-3.result.now) c.deref-2.result.now
+    c.in_ok-atoms.atoms.items same c.deref-2.ensures.value read) m inside)
+
+pub returns-clause-cost : goal.returns-clause-cost
+returns-clause-cost g c =
+    let b : PlainBranch = branch_of c.args.branch.now in
+    let same : borrowed c.deref-3.result.now ≡ all_references b.outs b.cond =
+    ap borrowed c.deref-3.ensures.value ∙ c.in_ok-gather_references.ensures
+    ∙ ap (λ (xs : List Expr). borrowed c.new-references.result.items
+    ++ all_references (map tree xs) (test c.args.branch.now.cond)) c.deref.ensures.value
+    ∙ ap (λ (rs : List (Bor ColRef)). borrowed rs ++ all_references b.outs b.cond)
+    c.new-references.ensures.items in
+    λ number alive h. c.read_items.ensures.cost number alive
+    (subst (λ (from : List Item). AreAlive (versions_in c.args.groups.now)
+    (items_pieces (book_of (λ r. (goal.Rule-dyn g (r.vtable, r.value)).handles r.value)
+    (λ r. (goal.Rule-dyn g (r.vtable, r.value)).answers r.value) c.args.book.now.rules.items)
+    (versions_in c.args.groups.now) c.args.route.now.asked c.args.route.now.parts.items
+    (borrowed c.deref-3.result.now) b.cond number 0 from) alive) (sym c.deref-2.ensures.value)
+    (subst (λ (rs : List ColRef). AreAlive (versions_in c.args.groups.now)
+    (items_pieces (book_of (λ r. (goal.Rule-dyn g (r.vtable, r.value)).handles r.value)
+    (λ r. (goal.Rule-dyn g (r.vtable, r.value)).answers r.value) c.args.book.now.rules.items)
+    (versions_in c.args.groups.now) c.args.route.now.asked c.args.route.now.parts.items rs
+    b.cond number 0 b.from) alive) (sym same) h))
+
+pub returns-clause-borrowed : goal.returns-clause-borrowed
+returns-clause-borrowed g c =
+    let b : PlainBranch = branch_of c.args.branch.now in
+    let same : borrowed c.deref-3.result.now ≡ all_references b.outs b.cond =
+    ap borrowed c.deref-3.ensures.value ∙ c.in_ok-gather_references.ensures
+    ∙ ap (λ (xs : List Expr). borrowed c.new-references.result.items
+    ++ all_references (map tree xs) (test c.args.branch.now.cond)) c.deref.ensures.value
+    ∙ ap (λ (rs : List (Bor ColRef)). borrowed rs ++ all_references b.outs b.cond)
+    c.new-references.ensures.items in
+    λ number h.
+    IfOk-weaker c.answer_choices.result _ _
+    (λ rows l. subst (λ (xs : List Expr). AllStayBorrowed (map tree xs) rows.items)
+    c.deref-4.ensures.value l)
+    (c.answer_choices.ensures.borrowed
+    (c.in_ok-atoms.ensures.borrowed number
+    (subst (λ (from : List Item). NoneAliveComputes (versions_in c.args.groups.now)
+    (items_pieces (book_of (λ r. (goal.Rule-dyn g (r.vtable, r.value)).handles r.value)
+    (λ r. (goal.Rule-dyn g (r.vtable, r.value)).answers r.value) c.args.book.now.rules.items)
+    (versions_in c.args.groups.now) c.args.route.now.asked c.args.route.now.parts.items
+    (borrowed c.deref-3.result.now) b.cond number 0 from)) (sym c.deref-2.ensures.value)
+    (subst (λ (rs : List ColRef). NoneAliveComputes (versions_in c.args.groups.now)
+    (items_pieces (book_of (λ r. (goal.Rule-dyn g (r.vtable, r.value)).handles r.value)
+    (λ r. (goal.Rule-dyn g (r.vtable, r.value)).answers r.value) c.args.book.now.rules.items)
+    (versions_in c.args.groups.now) c.args.route.now.asked c.args.route.now.parts.items rs
+    b.cond number 0 b.from)) (sym same) h))))
+
+pub returns-clause-least : goal.returns-clause-least
+returns-clause-least g c =
+    let b : PlainBranch = branch_of c.args.branch.now in
+    let same : borrowed c.deref-3.result.now ≡ all_references b.outs b.cond =
+    ap borrowed c.deref-3.ensures.value ∙ c.in_ok-gather_references.ensures
+    ∙ ap (λ (xs : List Expr). borrowed c.new-references.result.items
+    ++ all_references (map tree xs) (test c.args.branch.now.cond)) c.deref.ensures.value
+    ∙ ap (λ (rs : List (Bor ColRef)). borrowed rs ++ all_references b.outs b.cond)
+    c.new-references.ensures.items in
+    λ number e h.
+    if_known c.answer_choices.result
+    (c.in_ok-atoms.ensures.least number e
+    (subst (λ (from : List Item). IsAlive (versions_in c.args.groups.now)
+    (items_pieces (book_of (λ r. (goal.Rule-dyn g (r.vtable, r.value)).handles r.value)
+    (λ r. (goal.Rule-dyn g (r.vtable, r.value)).answers r.value) c.args.book.now.rules.items)
+    (versions_in c.args.groups.now) c.args.route.now.asked c.args.route.now.parts.items
+    (borrowed c.deref-3.result.now) b.cond number 0 from) e) (sym c.deref-2.ensures.value)
+    (subst (λ (rs : List ColRef). IsAlive (versions_in c.args.groups.now)
+    (items_pieces (book_of (λ r. (goal.Rule-dyn g (r.vtable, r.value)).handles r.value)
+    (λ r. (goal.Rule-dyn g (r.vtable, r.value)).answers r.value) c.args.book.now.rules.items)
+    (versions_in c.args.groups.now) c.args.route.now.asked c.args.route.now.parts.items rs
+    b.cond number 0 b.from) e) (sym same) h)))

@@ -1,0 +1,59 @@
+use Rattle.std.proofs.Common.{◌≡◌, ◌+◌, ◌≤◌, ℕ, List, take, drop}
+use Rattle.cond_expr.specs.References.{borrowed}
+use Rattle.cond_expr.specs.Seen.{test}
+use Rattle.smo_meaning.specs.Past.{Past}
+use Rattle.version_groups.specs.Groups.{versions_in}
+use Rattle.version_groups.specs.Showing.{Represents}
+use Rattle.piece_meaning.specs.Books.{book_of}
+use Rattle.piece_texts.specs.ExplainedPieces.{PlainExplained}
+use Rattle.query_exec.specs.Accepted.{MayItems, AreRead}
+use Rattle.query_exec.specs.QueryPieces.{items_pieces, AreAlive, IsAlive}
+use Rattle.joining.specs.Sources.{AtomsBorrowed}
+use Rattle.query_exec.specs.Borrowed.{NoneAliveComputes}
+use Rattle.query_exec.specs.Reads.{reads_of}
+use Rattle.query_exec.proofs.AliveLaws.{Owes, IsLeftOrRead}
+use Rattle.query_exec.proofs.branch.read_items.Given as goal
+
+abbrev pub invariant-loop-item : goal.invariant-loop-item
+invariant-loop-item g l = record {
+  place : l.place ≡ l.item-index;
+  may : MayItems (versions_in l.groups) l.route (borrowed l.references) (test l.cond) l.item-index
+      (drop l.item-index l.from);
+  read : (past : Past) → Represents l.groups past
+      → AreRead past l.route (borrowed l.references) (test l.cond) 0 (take l.item-index l.from)
+      l.atoms.items;
+  borrowed : (branch : ℕ) → NoneAliveComputes (versions_in l.groups)
+      (items_pieces (book_of (λ r. (goal.Rule-dyn g (r.vtable, r.value)).handles r.value)
+      (λ r. (goal.Rule-dyn g (r.vtable, r.value)).answers r.value) l.book.rules.items)
+      (versions_in l.groups) l.route.asked l.route.parts.items (borrowed l.references) (test l.cond)
+      branch 0 l.from)
+      → AtomsBorrowed l.atoms.items × NoneAliveComputes (versions_in l.groups)
+      (items_pieces (book_of (λ r. (goal.Rule-dyn g (r.vtable, r.value)).handles r.value)
+      (λ r. (goal.Rule-dyn g (r.vtable, r.value)).answers r.value) l.book.rules.items)
+      (versions_in l.groups) l.route.asked l.route.parts.items (borrowed l.references)
+      (test l.cond) branch l.item-index (drop l.item-index l.from));
+  count : (branch : ℕ) → (alive : List PlainExplained)
+      → AreAlive (versions_in l.groups) (items_pieces
+      (book_of (λ r. (goal.Rule-dyn g (r.vtable, r.value)).handles r.value)
+      (λ r. (goal.Rule-dyn g (r.vtable, r.value)).answers r.value) l.book.rules.items)
+      (versions_in l.groups) l.route.asked l.route.parts.items (borrowed l.references) (test l.cond)
+      branch 0 l.from) alive
+      → Owes l.groups (versions_in l.groups) (items_pieces
+      (book_of (λ r. (goal.Rule-dyn g (r.vtable, r.value)).handles r.value)
+      (λ r. (goal.Rule-dyn g (r.vtable, r.value)).answers r.value) l.book.rules.items)
+      (versions_in l.groups) l.route.asked l.route.parts.items (borrowed l.references)
+      (test l.cond) branch l.item-index (drop l.item-index l.from)) l.steps
+      (l.initial.steps + reads_of l.groups alive);
+  least : (branch : ℕ) → (e : PlainExplained)
+      → IsAlive (versions_in l.groups) (items_pieces
+      (book_of (λ r. (goal.Rule-dyn g (r.vtable, r.value)).handles r.value)
+      (λ r. (goal.Rule-dyn g (r.vtable, r.value)).answers r.value) l.book.rules.items)
+      (versions_in l.groups) l.route.asked l.route.parts.items (borrowed l.references) (test l.cond)
+      branch 0 l.from) e
+      → IsLeftOrRead l.groups (versions_in l.groups)
+      (items_pieces (book_of (λ r. (goal.Rule-dyn g (r.vtable, r.value)).handles r.value)
+      (λ r. (goal.Rule-dyn g (r.vtable, r.value)).answers r.value) l.book.rules.items)
+      (versions_in l.groups) l.route.asked l.route.parts.items (borrowed l.references)
+      (test l.cond) branch l.item-index (drop l.item-index l.from)) l.initial.steps l.steps e;
+  rises : l.initial.steps ≤ l.steps;
+}

@@ -1,0 +1,42 @@
+use Rattle.std.proofs.Common.{List, ap, sym, subst, ◌∙◌}
+use Rattle.version_groups.specs.Groups.{versions_in}
+use Rattle.piece_meaning.specs.Books.{book_of}
+use Rattle.piece_texts.specs.ExplainedPieces.{PlainExplained, all_explained}
+use Rattle.temporal_lang.specs.Branches.{branches_of}
+use Rattle.temporal_lang.specs.declared.branch.Branch.{Branch}
+use Rattle.temporal_lang.specs.Queries.{query_of}
+use Rattle.query_exec.specs.Accepted.{MayBranches}
+use Rattle.query_exec.specs.QueryPieces.{AreLeft}
+use Rattle.query_exec.proofs.WholeAnswers.{may_all, pieces_here}
+use Rattle.query_exec.proofs.explanation.explain.Goals as goal
+
+pub explain_branches-requires-clause-read : goal.explain_branches-requires-clause-read
+explain_branches-requires-clause-read g c =
+    let h = c.requires.shown in
+    subst (λ (bs : List Branch). MayBranches (versions_in c.args.groups.now) c.in_ok-route.route
+    (branches_of bs)) (sym c.deref.ensures.value)
+    (may_all c.args.groups.now h.past h.asked (query_of c.args.query.now) h.shows h.accepted
+    c.in_ok-route.route c.in_ok-route.ensures.route c.in_ok-route.ensures.asked
+    (c.in_ok-route.ensures.slice ∙ c.slice-slice.ensures.value))
+
+pub returns-clause-are : goal.returns-clause-are
+returns-clause-are g c =
+    (subst (λ (all : List PlainExplained). AreLeft (versions_in c.args.groups.now) all
+    (all_explained c.in_ok-pieces.pieces.items))
+    (pieces_here (book_of (λ r. (goal.Rule-dyn g (r.vtable, r.value)).handles r.value)
+    (λ r. (goal.Rule-dyn g (r.vtable, r.value)).answers r.value) c.args.book.now.rules.items)
+    (versions_in c.args.groups.now) (query_of c.args.query.now) c.in_ok-route.route.asked
+    c.in_ok-route.route.parts.items c.slice-slice.result (branches_of c.deref.result.now)
+    c.in_ok-route.ensures.asked c.in_ok-route.ensures.parts c.slice-slice.ensures.value
+    (ap branches_of c.deref.ensures.value)) c.in_ok-pieces.ensures).alive
+
+pub returns-clause-told : goal.returns-clause-told
+returns-clause-told g c =
+    (subst (λ (all : List PlainExplained). AreLeft (versions_in c.args.groups.now) all
+    (all_explained c.in_ok-pieces.pieces.items))
+    (pieces_here (book_of (λ r. (goal.Rule-dyn g (r.vtable, r.value)).handles r.value)
+    (λ r. (goal.Rule-dyn g (r.vtable, r.value)).answers r.value) c.args.book.now.rules.items)
+    (versions_in c.args.groups.now) (query_of c.args.query.now) c.in_ok-route.route.asked
+    c.in_ok-route.route.parts.items c.slice-slice.result (branches_of c.deref.result.now)
+    c.in_ok-route.ensures.asked c.in_ok-route.ensures.parts c.slice-slice.ensures.value
+    (ap branches_of c.deref.ensures.value)) c.in_ok-pieces.ensures).told

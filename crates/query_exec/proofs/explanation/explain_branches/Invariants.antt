@@ -1,0 +1,19 @@
+use Rattle.std.proofs.Common.{◌≡◌, take, drop}
+use Rattle.version_groups.specs.Groups.{versions_in}
+use Rattle.piece_meaning.specs.Books.{book_of}
+use Rattle.piece_texts.specs.ExplainedPieces.{all_explained}
+use Rattle.temporal_lang.specs.Branches.{branches_of}
+use Rattle.query_exec.specs.Accepted.{MayBranches}
+use Rattle.query_exec.specs.QueryPieces.{branches_pieces, AreLeft}
+use Rattle.query_exec.proofs.explanation.explain_branches.Given as goal
+
+abbrev pub invariant-loop-branch : goal.invariant-loop-branch
+invariant-loop-branch g l = record {
+  number : l.number ≡ l.branch-index;
+  may : MayBranches (versions_in l.groups) l.route (branches_of (drop l.branch-index l.branches));
+  alive : AreLeft (versions_in l.groups) (branches_pieces
+      (book_of (λ r. (goal.Rule-dyn g (r.vtable, r.value)).handles r.value)
+      (λ r. (goal.Rule-dyn g (r.vtable, r.value)).answers r.value) l.book.rules.items)
+      (versions_in l.groups) l.route.asked l.route.parts.items 1
+      (branches_of (take l.branch-index l.branches))) (all_explained l.pieces.items);
+}

@@ -1,0 +1,87 @@
+use Rattle.std.proofs.Common.{refl, sym, subst}
+use Rattle.cond_expr.specs.References.{borrowed}
+use Rattle.cond_expr.specs.Seen.{test}
+use Rattle.version_groups.specs.Groups.{versions_in}
+use Rattle.plain_answers.specs.Reading.{Read}
+use Rattle.piece_meaning.specs.Books.{book_of}
+use Rattle.query_exec.specs.Asked.{read_asked}
+use Rattle.query_exec.specs.Borrowed.{NoneAliveComputes}
+use Rattle.query_exec.specs.Questions.{own_read}
+use Rattle.query_exec.specs.QueryPieces.{table_pieces, AreAlive, IsAlive}
+use Rattle.query_exec.specs.Routes.{MayBeRead}
+use Rattle.query_exec.proofs.ItemAtoms.{columns_are, item_own, item_fit, item_rows_are}
+use Rattle.query_exec.proofs.item.read_item.Goals as goal
+
+pub read_table-requires-clause-read : goal.read_table-requires-clause-read
+read_table-requires-clause-read g c =
+    subst (λ (r : Read). MayBeRead (versions_in c.args.groups.now) c.args.route.now c.args.table.now
+    r) (sym c.in_ok-question.ensures) c.requires.read
+
+pub invariant_of-result : goal.invariant_of-result
+invariant_of-result g c =
+    let past = c.requires.shows.0 in
+    let shows = c.requires.shows.1 in
+    record {
+      own = item_own c.args.groups.now past shows c.args.route.now c.args.schema.now
+          c.requires.schema c.args.place c.args.table.now
+          (own_read c.args.place (borrowed c.args.references.now) (test c.args.cond.now))
+          (read_asked c.in_ok-question.question) c.deref.result.now c.in_ok-columns.columns.items
+          c.in_ok-rows.rows.items c.in_ok-columns.ensures c.deref.ensures.value
+          c.in_ok-question.ensures (c.in_ok-rows.ensures.rows past shows);
+      fit = item_fit c.args.groups.now past shows c.args.route.now c.args.schema.now
+          c.requires.schema c.args.place c.args.table.now
+          (own_read c.args.place (borrowed c.args.references.now) (test c.args.cond.now))
+          (read_asked c.in_ok-question.question) c.deref.result.now c.in_ok-columns.columns.items
+          c.in_ok-rows.rows.items c.in_ok-columns.ensures c.deref.ensures.value
+          c.in_ok-question.ensures (c.in_ok-rows.ensures.rows past shows);
+    }
+
+pub returns-in_err-rows-clause-cost : goal.returns-in_err-rows-clause-cost
+returns-in_err-rows-clause-cost g c = λ branch atom alive h.
+    c.read_table.ensures.cost branch atom alive
+    (subst (λ (r : Read). AreAlive (versions_in c.args.groups.now)
+    (table_pieces (book_of (λ r. (goal.Rule-dyn g (r.vtable, r.value)).handles r.value)
+    (λ r. (goal.Rule-dyn g (r.vtable, r.value)).answers r.value) c.args.book.now.rules.items)
+    (versions_in c.args.groups.now) c.args.route.now.asked c.args.table.now r branch atom
+    c.args.route.now.parts.items) alive) (sym c.in_ok-question.ensures) h)
+
+pub returns-clause-atom : goal.returns-clause-atom
+returns-clause-atom g c = λ past shows. record {
+  number = refl;
+  columns = columns_are c.args.groups.now past shows c.args.route.now c.args.schema.now
+      c.requires.schema c.args.place c.args.table.now
+      (own_read c.args.place (borrowed c.args.references.now) (test c.args.cond.now))
+      (read_asked c.in_ok-question.question) c.deref.result.now c.in_ok-columns.columns.items
+      c.in_ok-rows.rows.items c.in_ok-columns.ensures c.deref.ensures.value c.in_ok-question.ensures
+      (c.in_ok-rows.ensures.rows past shows);
+  rows = item_rows_are c.args.groups.now past shows c.args.route.now c.args.schema.now
+      c.requires.schema c.args.place c.args.table.now
+      (own_read c.args.place (borrowed c.args.references.now) (test c.args.cond.now))
+      (read_asked c.in_ok-question.question) c.deref.result.now c.in_ok-columns.columns.items
+      c.in_ok-rows.rows.items c.in_ok-columns.ensures c.deref.ensures.value c.in_ok-question.ensures
+      (c.in_ok-rows.ensures.rows past shows);
+}
+
+pub returns-clause-cost : goal.returns-clause-cost
+returns-clause-cost g c = λ branch atom alive h. c.read_table.ensures.cost branch atom alive
+    (subst (λ (r : Read). AreAlive (versions_in c.args.groups.now)
+    (table_pieces (book_of (λ r. (goal.Rule-dyn g (r.vtable, r.value)).handles r.value)
+    (λ r. (goal.Rule-dyn g (r.vtable, r.value)).answers r.value) c.args.book.now.rules.items)
+    (versions_in c.args.groups.now) c.args.route.now.asked c.args.table.now r branch atom
+    c.args.route.now.parts.items) alive) (sym c.in_ok-question.ensures) h)
+
+pub returns-clause-borrowed : goal.returns-clause-borrowed
+returns-clause-borrowed g c = λ branch atom h. c.in_ok-rows.ensures.borrowed branch atom
+    (subst (λ (r : Read). NoneAliveComputes (versions_in c.args.groups.now)
+    (table_pieces (book_of (λ r. (goal.Rule-dyn g (r.vtable, r.value)).handles r.value)
+    (λ r. (goal.Rule-dyn g (r.vtable, r.value)).answers r.value) c.args.book.now.rules.items)
+    (versions_in c.args.groups.now) c.args.route.now.asked c.args.table.now r branch atom
+    c.args.route.now.parts.items)) (sym c.in_ok-question.ensures) h)
+
+pub returns-clause-least : goal.returns-clause-least
+returns-clause-least g c = λ branch atom e h. c.in_ok-rows.ensures.least branch atom e
+    (subst (λ (r : Read). IsAlive (versions_in c.args.groups.now)
+    (table_pieces (book_of (λ r. (goal.Rule-dyn g (r.vtable, r.value)).handles r.value)
+    (λ r. (goal.Rule-dyn g (r.vtable, r.value)).answers r.value) c.args.book.now.rules.items)
+    (versions_in c.args.groups.now) c.args.route.now.asked c.args.table.now r branch atom
+    c.args.route.now.parts.items) e) (sym c.in_ok-question.ensures) h)

@@ -1,0 +1,82 @@
+use Rattle.std.proofs.Common.{◌<◌, List, length, sym, ap, subst, ◌∙◌, arith}
+use Rattle.std.proofs.lemmas.List.{take_all}
+use Rattle.relations.proofs.SetLaws.{in_map}
+use Rattle.prima_base.specs.declared.timed_row.TimedRow.{TimedRow}
+use Rattle.prima_base.specs.Timed.{rows_at}
+use Rattle.timed_choices.specs.Lending.{AllBorrowed}
+use Rattle.piece_meaning.specs.Pieces.{all_mean, out_trees}
+use Rattle.piece_ir.specs.Shown.{piece_of, pieces_of}
+use Rattle.piece_ir.specs.declared.piece.Piece.{Piece}
+use Rattle.query_pieces.proofs.RunPieces.{none_run}
+use Rattle.smo_meaning.specs.Past.{tables_of, database_at}
+use Rattle.rewrite.proofs.CodeSteps.{typed_at}
+use Rattle.query_exec.proofs.BorrowedRows.{plain_borrowed, borrowed_joined, piece_at}
+use Rattle.query_exec.proofs.PieceRows.{next_run, none_after, nothing_at, reads_left}
+use Rattle.query_exec.proofs.ListSteps.{among_taken}
+use Rattle.query_exec.proofs.RunLaws.{piece_meant}
+use Rattle.query_exec.proofs.piece.run_pieces.Goals as goal
+
+pub run_piece-requires : goal.run_piece-requires
+run_piece-requires g c =
+    let below : c.loop-piece.piece-index < length c.args.pieces.now = omega arith in (
+      c.requires.0,
+      c.requires.1,
+      c.requires.2,
+      typed_at (tables_of c.requires.0 c.args.version) c.args.pieces.now c.loop-piece.piece-index
+          c.piece-item.result below c.piece-item.is c.requires.3,
+    )
+
+pub loop-piece-preserved : goal.loop-piece-preserved
+loop-piece-preserved g c =
+    let below : c.loop-piece.piece-index < length c.args.pieces.now = omega arith in
+    record {
+      rows = λ past shows m inside meant h.
+          next_run c.args.pieces.now c.loop-piece.piece-index c.piece-item.result below
+          c.piece-item.is (tables_of past h.version) (database_at past m)
+          c.loop-piece.rows.items c.in_ok-news.news.items c.append.new.self.items m
+          c.in_ok-append.ensures.items
+          (c.loop-piece.invariant.rows past shows m inside meant h)
+          (c.in_ok-news.ensures.stored m inside
+          ∙ piece_meant c.args.groups.now past shows c.args.version (pieces_of c.args.pieces.now) m
+          meant h (piece_of c.piece-item.result)
+          (in_map piece_of c.piece-item.result c.args.pieces.now
+          (among_taken c.args.pieces.now c.loop-piece.piece-index c.piece-item.result below
+          c.piece-item.is)));
+      inside = λ m outside.
+          none_after c.loop-piece.rows.items c.in_ok-news.news.items c.append.new.self.items m
+          c.in_ok-append.ensures.items
+          (c.loop-piece.invariant.inside m outside) (c.in_ok-news.ensures.inside m outside);
+      borrowed = λ h.
+          borrowed_joined c.loop-piece.rows.items c.in_ok-news.news.items c.append.new.self.items
+          c.in_ok-append.ensures.items (c.loop-piece.invariant.borrowed h)
+          (plain_borrowed (out_trees (piece_of c.piece-item.result).outs) c.in_ok-news.news.items
+          (piece_at c.args.pieces.now c.loop-piece.piece-index c.piece-item.result below
+          c.piece-item.is h) c.in_ok-news.ensures.borrowed);
+      count = omega (
+        arith,
+        c.loop-piece.invariant.count,
+        c.in_ok-news.ensures.counted,
+        reads_left c.args.pieces.now c.loop-piece.piece-index c.piece-item.result below
+            c.piece-item.is c.args.groups.now c.args.version,
+      );
+      rises = omega (arith, c.loop-piece.invariant.rises, c.run_piece.ensures.rises);
+    }
+
+pub loop-piece-init : goal.loop-piece-init
+loop-piece-init g c = record {
+  rows = λ past shows m inside meant h. ap (λ (rs : List TimedRow). rows_at rs m)
+      c.new-rows.ensures.items ∙ none_run (tables_of past h.version) (database_at past m) m;
+  inside = λ m outside. ap (λ (rs : List TimedRow). rows_at rs m) c.new-rows.ensures.items
+      ∙ nothing_at m;
+  borrowed = λ h. subst AllBorrowed (sym c.new-rows.ensures.items) tt;
+  count = omega arith;
+  rises = omega arith;
+}
+
+pub returns-clause-rows : goal.returns-clause-rows
+returns-clause-rows g c = λ past shows m inside meant h.
+    c.loop-piece.invariant.rows past shows m inside meant h
+    ∙ ap (λ (ps : List Piece). all_mean (tables_of past h.version) (database_at past m)
+    (pieces_of ps)) (take_all c.loop-piece.piece-index c.args.pieces.now
+    c.loop-piece-test.false)
+    ∙ h.means

@@ -1,0 +1,118 @@
+use Rattle.std.proofs.Common.{◌≡◌, ◌+◌, ◌≤◌, ℕ, true, List, ap, sym, subst, ◌∙◌}
+use Rattle.relations.specs.Sets.{In}
+use Rattle.relations.specs.Spans.{Span, covers}
+use Rattle.prima_base.specs.Timed.{entries_of}
+use Rattle.smo_meaning.specs.Past.{tables_of, database_at}
+use Rattle.version_groups.specs.Groups.{versions_in}
+use Rattle.piece_meaning.specs.Books.{book_of}
+use Rattle.piece_meaning.specs.Pieces.{all_mean}
+use Rattle.piece_meaning.specs.Typed.{AllTyped}
+use Rattle.piece_ir.specs.Shown.{pieces_of}
+use Rattle.query_pieces.specs.Gathering.{IsGathered}
+use Rattle.query_exec.specs.Asked.{read_asked}
+use Rattle.query_exec.specs.declared.part_piece.PartPieces.{PartPieces}
+use Rattle.query_exec.specs.Borrowed.{ComputeNothing}
+use Rattle.query_exec.specs.Planned.{planned_spans}
+use Rattle.query_exec.specs.Questions.{table_read}
+use Rattle.query_exec.specs.Reads.{part_read, explained_read}
+use Rattle.query_exec.specs.Routes.{IsOwn}
+use Rattle.query_exec.specs.Totals.{total}
+use Rattle.query_exec.proofs.AliveLaws.{plan_cost, plan_least}
+use Rattle.query_exec.proofs.BorrowedRows.{borrowed_values, plan_none}
+use Rattle.query_exec.proofs.PlanLaws.{plan_ready, plan_means, planned_over}
+use Rattle.query_exec.proofs.RouteLaws.{gathered_listed}
+use Rattle.query_exec.proofs.TotalLaws.{from_part}
+use Rattle.query_exec.proofs.table.read_table.Goals as goal
+
+pub read_parts-requires : goal.read_parts-requires
+read_parts-requires g c =
+    let past = c.requires.shows.0 in
+    let shows = c.requires.shows.1 in
+    record {
+      ready = (
+        past,
+        shows,
+        subst (λ (xs : List PartPieces). (x : PartPieces) → In x xs
+            → IsOwn (versions_in c.args.groups.now) x.part
+            × AllTyped (tables_of past x.part.1) (pieces_of x.pieces.items))
+            (sym c.deref.ensures.value)
+            (plan_ready c.args.groups.now past shows
+            (book_of (λ r. (goal.Rule-dyn g (r.vtable, r.value)).handles r.value)
+            (λ r. (goal.Rule-dyn g (r.vtable, r.value)).answers r.value)
+            c.args.book.now.rules.items) c.known.ensures c.args.route.now c.requires.route
+            c.args.table.now (read_asked c.args.question.now) c.requires.read
+            c.in_ok-plan.plan.items c.in_ok-plan.ensures),
+      );
+    }
+
+pub returns-clause-rows : goal.returns-clause-rows
+returns-clause-rows g c = λ past shows.
+    let r = read_asked c.args.question.now in
+    let relation = table_read past c.args.route.now.asked c.args.table.now r in
+    let over = ap planned_spans c.deref.ensures.value
+    ∙ planned_over (book_of (λ r. (goal.Rule-dyn g (r.vtable, r.value)).handles r.value)
+    (λ r. (goal.Rule-dyn g (r.vtable, r.value)).answers r.value) c.args.book.now.rules.items)
+    (versions_in c.args.groups.now) c.args.route.now.asked c.args.table.now r
+    c.args.route.now.parts.items c.in_ok-plan.plan.items c.in_ok-plan.ensures in
+    gathered_listed past c.args.route.now c.requires.route c.args.table.now r
+    (entries_of c.in_ok-rows.rows.items) (entries_of c.coalesce_in_place.new.rows.items)
+    (subst (λ (spans : List Span). IsGathered relation spans (entries_of c.in_ok-rows.rows.items))
+    over
+    (c.in_ok-rows.ensures.rows past shows relation
+    (subst (λ (xs : List PartPieces). (x : PartPieces) → In x xs → (m : ℕ)
+    → covers x.part.0 m ≡ true → all_mean (tables_of past x.part.1) (database_at past m)
+    (pieces_of x.pieces.items) ≡ relation m) (sym c.deref.ensures.value)
+    (plan_means c.args.groups.now past shows (book_of
+    (λ r. (goal.Rule-dyn g (r.vtable, r.value)).handles r.value)
+    (λ r. (goal.Rule-dyn g (r.vtable, r.value)).answers r.value) c.args.book.now.rules.items)
+    c.known.ensures c.args.route.now c.requires.route c.args.table.now
+    (read_asked c.args.question.now) c.requires.read c.in_ok-plan.plan.items
+    c.in_ok-plan.ensures))))
+    c.coalesce_in_place.ensures.listing
+
+pub returns-in_err-rows-clause-cost : goal.returns-in_err-rows-clause-cost
+returns-in_err-rows-clause-cost g c = λ branch atom alive h.
+    subst (λ (n : ℕ). c.read_parts.new.steps ≤ c.args.steps.now + n)
+    (ap (λ (xs : List PartPieces). total (part_read c.args.groups.now) xs) c.deref.ensures.value
+    ∙ plan_cost c.args.groups.now (versions_in c.args.groups.now)
+    (book_of (λ r. (goal.Rule-dyn g (r.vtable, r.value)).handles r.value)
+    (λ r. (goal.Rule-dyn g (r.vtable, r.value)).answers r.value) c.args.book.now.rules.items)
+    c.args.route.now.asked c.args.table.now (read_asked c.args.question.now) branch atom
+    c.args.route.now.parts.items c.in_ok-plan.plan.items c.in_ok-plan.ensures alive h)
+    c.read_parts.ensures.cost
+
+pub returns-clause-cost : goal.returns-clause-cost
+returns-clause-cost g c = λ branch atom alive h.
+    subst (λ (n : ℕ). c.read_parts.new.steps ≤ c.args.steps.now + n)
+    (ap (λ (xs : List PartPieces). total (part_read c.args.groups.now) xs) c.deref.ensures.value
+    ∙ plan_cost c.args.groups.now (versions_in c.args.groups.now)
+    (book_of (λ r. (goal.Rule-dyn g (r.vtable, r.value)).handles r.value)
+    (λ r. (goal.Rule-dyn g (r.vtable, r.value)).answers r.value) c.args.book.now.rules.items)
+    c.args.route.now.asked c.args.table.now (read_asked c.args.question.now) branch atom
+    c.args.route.now.parts.items c.in_ok-plan.plan.items c.in_ok-plan.ensures alive h)
+    c.read_parts.ensures.cost
+
+pub returns-clause-borrowed : goal.returns-clause-borrowed
+returns-clause-borrowed g c = λ branch atom h.
+    borrowed_values c.in_ok-rows.rows.items c.coalesce_in_place.new.rows.items
+    c.coalesce_in_place.ensures.values
+    (c.in_ok-rows.ensures.borrowed
+    (subst (λ (xs : List PartPieces). (x : PartPieces) → In x xs
+    → ComputeNothing (pieces_of x.pieces.items)) (sym c.deref.ensures.value)
+    (plan_none (versions_in c.args.groups.now)
+    (book_of (λ r. (goal.Rule-dyn g (r.vtable, r.value)).handles r.value)
+    (λ r. (goal.Rule-dyn g (r.vtable, r.value)).answers r.value) c.args.book.now.rules.items)
+    c.args.route.now.asked c.args.table.now (read_asked c.args.question.now) branch atom
+    c.args.route.now.parts.items c.in_ok-plan.plan.items c.in_ok-plan.ensures h)))
+
+pub returns-clause-least : goal.returns-clause-least
+returns-clause-least g c = λ branch atom e h.
+    let x = plan_least c.args.groups.now (versions_in c.args.groups.now)
+    (book_of (λ r. (goal.Rule-dyn g (r.vtable, r.value)).handles r.value)
+    (λ r. (goal.Rule-dyn g (r.vtable, r.value)).answers r.value) c.args.book.now.rules.items)
+    c.args.route.now.asked c.args.table.now (read_asked c.args.question.now) branch atom
+    c.args.route.now.parts.items c.in_ok-plan.plan.items c.in_ok-plan.ensures e h in
+    from_part (explained_read c.args.groups.now e) (part_read c.args.groups.now x.0)
+    c.args.steps.now c.read_parts.new.steps x.2
+    (c.in_ok-rows.ensures.least x.0 (subst (λ (xs : List PartPieces). In x.0 xs)
+    (sym c.deref.ensures.value) x.1))

@@ -1,0 +1,39 @@
+use Rattle.std.proofs.Common.{◌++◌, List, reverse, sym, subst}
+use Rattle.version_groups.specs.Groups.{versions_in}
+use Rattle.piece_meaning.specs.Books.{book_of}
+use Rattle.period_split.specs.Splitting.{Part}
+use Rattle.query_exec.specs.Asked.{read_asked}
+use Rattle.query_exec.specs.Planned.{ArePlanned}
+use Rattle.query_exec.specs.declared.part_piece.PartPieces.{PartPieces}
+use Rattle.query_exec.proofs.PlanLaws.{planned_joined, planned_reversed}
+use Rattle.query_exec.proofs.table.table_pieces.Goals as goal
+
+pub returns : goal.returns
+returns g c =
+    let r = read_asked c.args.question.now in
+    subst (λ (ps : List Part). ArePlanned (book_of
+    (λ r. (goal.Rule-dyn g (r.vtable, r.value)).handles r.value)
+    (λ r. (goal.Rule-dyn g (r.vtable, r.value)).answers r.value) c.args.book.now.rules.items)
+    (versions_in c.args.groups.now) c.args.route.now.asked c.args.table.now r ps
+    c.append.new.self.items) (sym c.requires.route.order)
+    (subst (λ (xs : List PartPieces). ArePlanned
+    (book_of (λ r. (goal.Rule-dyn g (r.vtable, r.value)).handles r.value)
+    (λ r. (goal.Rule-dyn g (r.vtable, r.value)).answers r.value) c.args.book.now.rules.items)
+    (versions_in c.args.groups.now) c.args.route.now.asked c.args.table.now r
+    (reverse c.args.route.now.earlier.items ++ c.args.route.now.later.items) xs)
+    (sym c.in_ok-append.ensures.items)
+    (planned_joined (book_of (λ r. (goal.Rule-dyn g (r.vtable, r.value)).handles r.value)
+    (λ r. (goal.Rule-dyn g (r.vtable, r.value)).answers r.value) c.args.book.now.rules.items)
+    (versions_in c.args.groups.now) c.args.route.now.asked c.args.table.now r
+    (reverse c.args.route.now.earlier.items) c.args.route.now.later.items
+    c.reverse.new.self.items c.in_ok-later.later.items
+    (subst (λ (xs : List PartPieces). ArePlanned
+    (book_of (λ r. (goal.Rule-dyn g (r.vtable, r.value)).handles r.value)
+    (λ r. (goal.Rule-dyn g (r.vtable, r.value)).answers r.value) c.args.book.now.rules.items)
+    (versions_in c.args.groups.now) c.args.route.now.asked c.args.table.now r
+    (reverse c.args.route.now.earlier.items) xs) (sym c.reverse.ensures.items)
+    (planned_reversed (book_of (λ r. (goal.Rule-dyn g (r.vtable, r.value)).handles r.value)
+    (λ r. (goal.Rule-dyn g (r.vtable, r.value)).answers r.value) c.args.book.now.rules.items)
+    (versions_in c.args.groups.now) c.args.route.now.asked c.args.table.now r
+    c.args.route.now.earlier.items c.in_ok-plan.plan.items c.in_ok-plan.ensures))
+    c.in_ok-later.ensures))

@@ -1,0 +1,211 @@
+use Rattle.std.proofs.Common.{◌≡◌, ◌+◌, ◌<◌, ℕ, List, [], ◌∷◌, map, length, get_or, take, drop, sym}
+use Rattle.std.proofs.Common.{ap, subst, ◌∙◌, arith}
+use Rattle.std.proofs.lemmas.List.{length-map, take_all}
+use Rattle.smo_types.specs.Commands.{version_of, versions_of}
+use Rattle.smo_types.specs.declared.version.Version.{Version}
+use Rattle.smo_meaning.specs.Past.{no_tables, tables_from}
+use Rattle.version_groups.specs.Groups.{versions_in}
+use Rattle.piece_meaning.specs.Books.{book_of}
+use Rattle.piece_meaning.specs.Typed.{AllTyped}
+use Rattle.piece_ir.specs.Shown.{pieces_of}
+use Rattle.piece_ir.specs.declared.piece.Piece.{Piece}
+use Rattle.rewrite_chains.specs.Beginnings.{asking, first_piece}
+use Rattle.rewrite_chains.specs.Standing.{StandFor}
+use Rattle.rewrite_chains.proofs.Standings.{stand_first}
+use Rattle.period_split.specs.Splitting.{Part, AscendFrom}
+use Rattle.period_split.proofs.PartLaws.{from_lower}
+use Rattle.query_exec.specs.Asked.{read_asked}
+use Rattle.query_exec.specs.Planned.{ArePlanned}
+use Rattle.query_exec.specs.declared.part_piece.PartPieces.{PartPieces}
+use Rattle.query_exec.proofs.ListSteps.{taken_is, among_taken, within_same, at_same}
+use Rattle.query_exec.proofs.PlanLaws.{one_planned, planned_last}
+use Rattle.query_exec.proofs.WalkSteps.{on_next, on_ready, kept_here, here_typed, stand_here}
+use Rattle.query_exec.proofs.walk.pieces_on.Goals as goal
+
+pub loop-part-init : goal.loop-part-init
+loop-part-init g c = record {
+  there = omega (arith, c.in_ok-start.ensures.version);
+  order = subst (λ (v : ℕ). AscendFrom v c.args.route.now.later.items)
+      (sym c.in_ok-start.ensures.version) (from_lower c.args.route.now.asked
+      (c.args.route.now.asked + 1) c.args.route.now.later.items (omega arith) c.requires.route.on);
+  stand = stand_first (book_of (λ r. (goal.Rule-dyn g (r.vtable, r.value)).handles r.value)
+      (λ r. (goal.Rule-dyn g (r.vtable, r.value)).answers r.value) c.args.book.now.rules.items)
+      (versions_of c.versions-versions.result.now) c.in_ok-start.start.version
+      c.args.route.now.asked c.args.table.now (read_asked c.args.question.now)
+      (pieces_of c.in_ok-start.start.pieces.items) c.in_ok-start.ensures.version
+      (c.in_ok-start.ensures.pieces ∙ ap (λ (ns : List (List ℕ)).
+      first_piece c.args.table.now (asking (read_asked c.args.question.now).test ns) ∷ [])
+      c.deref.ensures.value);
+  planned = subst (λ (xs : List PartPieces). ArePlanned
+      (book_of (λ r. (goal.Rule-dyn g (r.vtable, r.value)).handles r.value)
+      (λ r. (goal.Rule-dyn g (r.vtable, r.value)).answers r.value) c.args.book.now.rules.items)
+      (versions_in c.args.groups.now) c.args.route.now.asked c.args.table.now
+      (read_asked c.args.question.now) [] xs) (sym c.new-plan.ensures.items) tt;
+}
+
+pub on_to-requires-clause-order : goal.on_to-requires-clause-order
+on_to-requires-clause-order g c =
+    let parts : List Part = c.args.route.now.later.items in
+    let i : ℕ = c.loop-part.part-index in
+    let p : Part = c.part-item.result in
+    let below : i < length parts = within_same c.deref-part-items.result.now parts
+    c.deref-part-items.ensures.value i p c.loop-part-test.true in
+    let is : p ≡ get_or parts i p = at_same c.deref-part-items.result.now parts
+    c.deref-part-items.ensures.value i p c.part-item.is in
+    let next = on_next parts i p below is c.loop-part.walk.version c.loop-part.invariant.order in
+    next.0
+
+pub on_to-requires-clause-there : goal.on_to-requires-clause-there
+on_to-requires-clause-there g c =
+    let parts : List Part = c.args.route.now.later.items in
+    let i : ℕ = c.loop-part.part-index in
+    let p : Part = c.part-item.result in
+    let below : i < length parts = within_same c.deref-part-items.result.now parts
+    c.deref-part-items.ensures.value i p c.loop-part-test.true in
+    let is : p ≡ get_or parts i p = at_same c.deref-part-items.result.now parts
+    c.deref-part-items.ensures.value i p c.part-item.is in
+    let own = c.requires.route.later p (among_taken parts i p below is) in
+    let within = own.there in
+    let many = length-map c.args.groups.now.versions version_of in
+    let stored = ap (λ (vs : List Version). length vs) c.versions-versions.ensures in
+    omega (arith, within, many, stored)
+
+pub on_to-requires-clause-pieces : goal.on_to-requires-clause-pieces
+on_to-requires-clause-pieces g c =
+    let parts : List Part = c.args.route.now.later.items in
+    let i : ℕ = c.loop-part.part-index in
+    let p : Part = c.part-item.result in
+    let below : i < length parts = within_same c.deref-part-items.result.now parts
+    c.deref-part-items.ensures.value i p c.loop-part-test.true in
+    let is : p ≡ get_or parts i p = at_same c.deref-part-items.result.now parts
+    c.deref-part-items.ensures.value i p c.part-item.is in
+    let same : versions_of c.versions-versions.result.now ≡ versions_in c.args.groups.now =
+    ap (λ (vs : List Version). map version_of vs) c.versions-versions.ensures in
+    on_ready c.args.groups.now (book_of (λ r. (goal.Rule-dyn g (r.vtable, r.value)).handles r.value)
+    (λ r. (goal.Rule-dyn g (r.vtable, r.value)).answers r.value) c.args.book.now.rules.items)
+    (versions_of c.versions-versions.result.now) same c.args.route.now c.requires.route
+    c.args.table.now (read_asked c.args.question.now) c.requires.read c.loop-part.walk.version
+    (pieces_of c.loop-part.walk.pieces.items) p (among_taken parts i p below is)
+    c.loop-part.invariant.there c.loop-part.invariant.stand
+
+pub part_pieces-requires-clause-there : goal.part_pieces-requires-clause-there
+part_pieces-requires-clause-there g c =
+    let parts : List Part = c.args.route.now.later.items in
+    let i : ℕ = c.loop-part.part-index in
+    let p : Part = c.part-item.result in
+    let below : i < length parts = within_same c.deref-part-items.result.now parts
+    c.deref-part-items.ensures.value i p c.loop-part-test.true in
+    let is : p ≡ get_or parts i p = at_same c.deref-part-items.result.now parts
+    c.deref-part-items.ensures.value i p c.part-item.is in
+    let own = c.requires.route.later p (among_taken parts i p below is) in
+    let within = own.there in
+    let many = length-map c.args.groups.now.versions version_of in
+    omega (arith, within, many)
+
+pub part_pieces-requires-clause-typed : goal.part_pieces-requires-clause-typed
+part_pieces-requires-clause-typed g c =
+    let parts : List Part = c.args.route.now.later.items in
+    let i : ℕ = c.loop-part.part-index in
+    let p : Part = c.part-item.result in
+    let below : i < length parts = within_same c.deref-part-items.result.now parts
+    c.deref-part-items.ensures.value i p c.loop-part-test.true in
+    let is : p ≡ get_or parts i p = at_same c.deref-part-items.result.now parts
+    c.deref-part-items.ensures.value i p c.part-item.is in
+    let same : versions_of c.versions-versions.result.now ≡ versions_in c.args.groups.now =
+    ap (λ (vs : List Version). map version_of vs) c.versions-versions.ensures in
+    let stand : StandFor (book_of (λ r. (goal.Rule-dyn g (r.vtable, r.value)).handles r.value)
+    (λ r. (goal.Rule-dyn g (r.vtable, r.value)).answers r.value) c.args.book.now.rules.items)
+    (versions_of c.versions-versions.result.now) p.1 c.args.route.now.asked c.args.table.now
+    (read_asked c.args.question.now) (pieces_of c.in_ok-walk.walk.pieces.items) =
+    c.in_ok-walk.ensures.pieces c.args.route.now.asked c.args.table.now
+    (read_asked c.args.question.now) c.loop-part.invariant.there
+    (kept_here c.args.groups.now (book_of
+    (λ r. (goal.Rule-dyn g (r.vtable, r.value)).handles r.value)
+    (λ r. (goal.Rule-dyn g (r.vtable, r.value)).answers r.value) c.args.book.now.rules.items)
+    (versions_of c.versions-versions.result.now) same c.args.route.now c.requires.route
+    c.args.table.now (read_asked c.args.question.now) c.requires.read p
+    (among_taken parts i p below is)) c.loop-part.invariant.stand in
+    subst (λ (ps : List Piece). AllTyped (tables_from no_tables (versions_in c.args.groups.now) p.1)
+    (pieces_of ps)) (sym c.deref-in-loop-part.ensures.value)
+    (here_typed c.args.groups.now (book_of (λ r.
+    (goal.Rule-dyn g (r.vtable, r.value)).handles r.value)
+    (λ r. (goal.Rule-dyn g (r.vtable, r.value)).answers r.value) c.args.book.now.rules.items)
+    (versions_of c.versions-versions.result.now) same c.args.route.now c.requires.route
+    c.args.table.now (read_asked c.args.question.now) c.requires.read c.known.ensures p.1
+    (pieces_of c.in_ok-walk.walk.pieces.items) stand)
+
+pub loop-part-preserved : goal.loop-part-preserved
+loop-part-preserved g c =
+    let parts : List Part = c.args.route.now.later.items in
+    let i : ℕ = c.loop-part.part-index in
+    let p : Part = c.part-item.result in
+    let below : i < length parts = within_same c.deref-part-items.result.now parts
+    c.deref-part-items.ensures.value i p c.loop-part-test.true in
+    let is : p ≡ get_or parts i p = at_same c.deref-part-items.result.now parts
+    c.deref-part-items.ensures.value i p c.part-item.is in
+    let next = on_next parts i p below is c.loop-part.walk.version c.loop-part.invariant.order in
+    let same : versions_of c.versions-versions.result.now ≡ versions_in c.args.groups.now =
+    ap (λ (vs : List Version). map version_of vs) c.versions-versions.ensures in
+    let stand : StandFor (book_of (λ r. (goal.Rule-dyn g (r.vtable, r.value)).handles r.value)
+    (λ r. (goal.Rule-dyn g (r.vtable, r.value)).answers r.value) c.args.book.now.rules.items)
+    (versions_of c.versions-versions.result.now) p.1 c.args.route.now.asked c.args.table.now
+    (read_asked c.args.question.now) (pieces_of c.in_ok-walk.walk.pieces.items) =
+    c.in_ok-walk.ensures.pieces c.args.route.now.asked c.args.table.now
+    (read_asked c.args.question.now) c.loop-part.invariant.there
+    (kept_here c.args.groups.now (book_of
+    (λ r. (goal.Rule-dyn g (r.vtable, r.value)).handles r.value)
+    (λ r. (goal.Rule-dyn g (r.vtable, r.value)).answers r.value) c.args.book.now.rules.items)
+    (versions_of c.versions-versions.result.now) same c.args.route.now c.requires.route
+    c.args.table.now (read_asked c.args.question.now) c.requires.read p
+    (among_taken parts i p below is)) c.loop-part.invariant.stand in
+    let first = next.0 in
+    let r = read_asked c.args.question.now in
+    let x = c.in_ok-part_pieces.field-0 in
+    record {
+      there = omega (arith, c.in_ok-walk.ensures.version, first, c.loop-part.invariant.there);
+      order = subst (λ (v : ℕ). AscendFrom v (drop (i + 1) parts))
+          (sym c.in_ok-walk.ensures.version) (from_lower p.1 (p.1 + 1) (drop (i + 1) parts)
+          (omega arith) next.1);
+      stand = subst (λ (v : ℕ). StandFor (book_of
+          (λ r. (goal.Rule-dyn g (r.vtable, r.value)).handles r.value)
+          (λ r. (goal.Rule-dyn g (r.vtable, r.value)).answers r.value) c.args.book.now.rules.items)
+          (versions_of c.versions-versions.result.now) v c.args.route.now.asked c.args.table.now
+          (read_asked c.args.question.now) (pieces_of c.in_ok-walk.walk.pieces.items))
+          (sym c.in_ok-walk.ensures.version) stand;
+      planned = subst (λ (ps : List Part). ArePlanned
+          (book_of (λ r. (goal.Rule-dyn g (r.vtable, r.value)).handles r.value)
+          (λ r. (goal.Rule-dyn g (r.vtable, r.value)).answers r.value) c.args.book.now.rules.items)
+          (versions_in c.args.groups.now) c.args.route.now.asked c.args.table.now r ps
+          c.push.new.self.items) (sym (taken_is parts i p below is))
+          (planned_last (book_of (λ r. (goal.Rule-dyn g (r.vtable, r.value)).handles r.value)
+          (λ r. (goal.Rule-dyn g (r.vtable, r.value)).answers r.value)
+          c.args.book.now.rules.items) (versions_in c.args.groups.now) c.args.route.now.asked
+          c.args.table.now r (take i parts) p c.loop-part.plan.items c.push.new.self.items x
+          c.in_ok-push.ensures.items c.loop-part.invariant.planned
+          (one_planned (book_of (λ r. (goal.Rule-dyn g (r.vtable, r.value)).handles r.value)
+          (λ r. (goal.Rule-dyn g (r.vtable, r.value)).answers r.value)
+          c.args.book.now.rules.items) (versions_in c.args.groups.now) c.args.route.now.asked
+          c.args.table.now r p x (pieces_of c.deref-in-loop-part.result.now)
+          c.in_ok-part_pieces.ensures.part
+          (ap pieces_of c.deref-in-loop-part.ensures.value
+          ∙ (stand_here c.args.groups.now
+          (book_of (λ r. (goal.Rule-dyn g (r.vtable, r.value)).handles r.value)
+          (λ r. (goal.Rule-dyn g (r.vtable, r.value)).answers r.value)
+          c.args.book.now.rules.items) (versions_of c.versions-versions.result.now) same
+          c.args.route.now c.requires.route c.args.table.now r c.requires.read p.1
+          (pieces_of c.in_ok-walk.walk.pieces.items) stand).unfolded)
+          c.in_ok-part_pieces.ensures.living c.in_ok-part_pieces.ensures.told));
+    }
+
+pub returns : goal.returns
+returns g c =
+    let parts : List Part = c.args.route.now.later.items in
+    subst (λ (ps : List Part). ArePlanned (book_of
+    (λ r. (goal.Rule-dyn g (r.vtable, r.value)).handles r.value)
+    (λ r. (goal.Rule-dyn g (r.vtable, r.value)).answers r.value) c.args.book.now.rules.items)
+    (versions_in c.args.groups.now) c.args.route.now.asked c.args.table.now
+    (read_asked c.args.question.now) ps c.loop-part.plan.items)
+    (sym (ap (λ (ps : List Part). take c.loop-part.part-index ps)
+    c.deref-part-items.ensures.value) ∙ take_all c.loop-part.part-index
+    c.deref-part-items.result.now c.loop-part-test.false ∙ c.deref-part-items.ensures.value)
+    c.loop-part.invariant.planned

@@ -1,0 +1,193 @@
+//! Branches of a query, answered over what is read of their items' tables.
+
+ghost use Rattle.std.specs.Prelude.{◌≡◌, ℕ, ◌+◌, ◌≤◌, List, true, IfOk};
+ghost use Rattle.std.specs.List.{flat_map};
+ghost use Rattle.relations.specs.Sets.{set_of};
+ghost use Rattle.relations.specs.Spans.{covers};
+ghost use Rattle.prima_base.specs.Order.{row_cmp};
+ghost use Rattle.prima_base.specs.Timed.{rows_at};
+ghost use Rattle.cond_expr.specs.References.{borrowed};
+ghost use Rattle.cond_expr.specs.Seen.{test};
+ghost use Rattle.smo_meaning.specs.Past.{Past, no_tables, tables_from, tables_of};
+ghost use Rattle.version_ways.specs.Migration.{migrated};
+ghost use Rattle.version_groups.specs.Groups.{versions_in};
+ghost use Rattle.version_groups.specs.Showing.{Represents};
+ghost use Rattle.plain_answers.specs.Branches.{branch_answers, plain};
+ghost use Rattle.temporal_lang.specs.Branches.{branch_of, branches_of};
+ghost use Rattle.rewrite.specs.Books.{meaning_of, EachOf};
+ghost use Rattle.query_exec.specs.Accepted.{MayItems, MayBranch, MayBranches, AreRead};
+ghost use Rattle.query_exec.specs.Routes.{IsRoute};
+ghost use Rattle.piece_texts.specs.ExplainedPieces.{PlainExplained};
+ghost use Rattle.query_exec.specs.QueryPieces.{items_pieces, branch_pieces, branches_pieces};
+ghost use Rattle.query_exec.specs.QueryPieces.{AreAlive, IsAlive};
+ghost use Rattle.timed_choices.specs.Lending.{AllStayBorrowed};
+ghost use Rattle.joining.specs.Sources.{AtomsBorrowed};
+ghost use Rattle.query_exec.specs.Borrowed.{NoneAliveComputes, AreBorrowedBy};
+ghost use Rattle.query_exec.specs.Reads.{explained_read, reads_of};
+
+use crate::item::read_item;
+use crate::route::Route;
+use cond_expr::{ColRef, Cond, gather_references};
+use joining::{Atom, answer_choices};
+use prima_base::{Name, NoMemory, Steps, TimedRow};
+use rule_book::{Rule, RuleBook};
+use schema_catalog::Schema;
+use std::alloc::Global;
+use std::sync::ledger::Ledger;
+use temporal_lang::Branch;
+use version_groups::Groups;
+
+// What is read of each item's table, as the atom that is its place.
+fn read_items<'a, L: Ledger>(
+    alloc: Global,
+    groups: &'a Groups,
+    book: &RuleBook,
+    route: &Route,
+    schema: &Schema,
+    from: &[(Name, Name)],
+    references: &[&ColRef],
+    cond: &Cond,
+    steps: &mut Steps<L>,
+) -> Result<Vec<Atom<'a>>, NoMemory>
+    requires each { EachOf book.now.rules.items (λ r. handles (r.vtable, r.value)) }
+    requires shows { (past : Past) × Represents groups.now past }
+    requires route { IsRoute (versions_in groups.now) route.now }
+    requires schema { schema.now ≡ tables_from no_tables (versions_in groups.now) route.now.asked }
+    requires read { MayItems (versions_in groups.now) route.now (borrowed references.now)
+        (test cond.now) 0 from.now }
+    ensures atoms { (past : Past) → Represents groups.now past
+        → IfOk result (λ atoms. AreRead past route.now (borrowed references.now) (test cond.now) 0
+        from.now atoms.items) }
+    ensures borrowed { (branch : ℕ) → NoneAliveComputes (versions_in groups.now)
+        (items_pieces (meaning_of book.now.rules.items (λ r. handles (r.vtable, r.value))
+        (λ r. answers (r.vtable, r.value))) (versions_in groups.now) route.now.asked
+        route.now.parts.items (borrowed references.now) (test cond.now) branch 0 from.now)
+        → IfOk result (λ atoms. AtomsBorrowed atoms.items) }
+    ensures cost { (branch : ℕ) → (alive : List PlainExplained)
+        → AreAlive (versions_in groups.now) (items_pieces
+        (meaning_of book.now.rules.items (λ r. handles (r.vtable, r.value))
+        (λ r. answers (r.vtable, r.value))) (versions_in groups.now) route.now.asked
+        route.now.parts.items (borrowed references.now) (test cond.now) branch 0 from.now) alive
+        → steps.new ≤ steps.old + reads_of groups.now alive }
+    ensures least { (branch : ℕ) → (e : PlainExplained)
+        → IsAlive (versions_in groups.now) (items_pieces
+        (meaning_of book.now.rules.items (λ r. handles (r.vtable, r.value))
+        (λ r. answers (r.vtable, r.value))) (versions_in groups.now) route.now.asked
+        route.now.parts.items (borrowed references.now) (test cond.now) branch 0 from.now) e
+        → IfOk result (λ _. steps.old + explained_read groups.now e ≤ steps.new) }
+    ensures rises { steps.old ≤ steps.new }
+{
+    let mut atoms = Vec::new(alloc);
+    let mut place: u32 = 0;
+    for item in from {
+        let atom = read_item(
+            alloc, groups, book, route, schema, place, &item.0, references, cond, steps,
+        )?;
+        atoms.push(atom)?;
+        // no branch in memory has more items
+        place = place.checked_add(1).ok_or(NoMemory)?;
+    }
+    Ok(atoms)
+}
+
+// What a branch answers at each moment of the slice.
+fn answer_branch<'a, L: Ledger>(
+    alloc: Global,
+    groups: &'a Groups,
+    book: &RuleBook,
+    route: &Route,
+    schema: &Schema,
+    branch: &Branch,
+    steps: &mut Steps<L>,
+) -> Result<Vec<TimedRow<'a>>, NoMemory>
+    requires each { EachOf book.now.rules.items (λ r. handles (r.vtable, r.value)) }
+    requires shows { (past : Past) × Represents groups.now past }
+    requires route { IsRoute (versions_in groups.now) route.now }
+    requires schema { schema.now ≡ tables_from no_tables (versions_in groups.now) route.now.asked }
+    requires read { MayBranch (versions_in groups.now) route.now (branch_of branch.now) }
+    ensures rows { (past : Past) → Represents groups.now past → (m : ℕ)
+        → covers route.now.slice m ≡ true
+        → IfOk result (λ rows. rows_at rows.items m
+        ≡ set_of row_cmp (branch_answers (tables_of past route.now.asked)
+        (migrated past m route.now.asked) (branch_of branch.now))) }
+    ensures borrowed { (number : ℕ) → NoneAliveComputes (versions_in groups.now)
+        (branch_pieces (meaning_of book.now.rules.items (λ r. handles (r.vtable, r.value))
+        (λ r. answers (r.vtable, r.value))) (versions_in groups.now) route.now.asked
+        route.now.parts.items number (branch_of branch.now))
+        → IfOk result (λ rows. AllStayBorrowed (branch_of branch.now).outs rows.items) }
+    ensures cost { (number : ℕ) → (alive : List PlainExplained)
+        → AreAlive (versions_in groups.now) (branch_pieces
+        (meaning_of book.now.rules.items (λ r. handles (r.vtable, r.value))
+        (λ r. answers (r.vtable, r.value))) (versions_in groups.now) route.now.asked
+        route.now.parts.items number (branch_of branch.now)) alive
+        → steps.new ≤ steps.old + reads_of groups.now alive }
+    ensures least { (number : ℕ) → (e : PlainExplained)
+        → IsAlive (versions_in groups.now) (branch_pieces
+        (meaning_of book.now.rules.items (λ r. handles (r.vtable, r.value))
+        (λ r. answers (r.vtable, r.value))) (versions_in groups.now) route.now.asked
+        route.now.parts.items number (branch_of branch.now)) e
+        → IfOk result (λ _. steps.old + explained_read groups.now e ≤ steps.new) }
+    ensures rises { steps.old ≤ steps.new }
+{
+    let mut references = Vec::new(alloc);
+    gather_references(&mut references, &branch.outs, &branch.cond)?;
+    let atoms = read_items(
+        alloc,
+        groups,
+        book,
+        route,
+        schema,
+        &branch.from,
+        &references,
+        &branch.cond,
+        steps,
+    )?;
+    answer_choices(alloc, &branch.outs, &branch.cond, atoms, route.slice)
+}
+
+/// What branches answer at each moment of the slice, all together.
+pub(crate) fn answer_branches<'a, L: Ledger>(
+    alloc: Global,
+    groups: &'a Groups,
+    book: &RuleBook,
+    route: &Route,
+    schema: &Schema,
+    branches: &[Branch],
+    steps: &mut Steps<L>,
+) -> Result<Vec<TimedRow<'a>>, NoMemory>
+    requires each { EachOf book.now.rules.items (λ r. handles (r.vtable, r.value)) }
+    requires shows { (past : Past) × Represents groups.now past }
+    requires route { IsRoute (versions_in groups.now) route.now }
+    requires schema { schema.now ≡ tables_from no_tables (versions_in groups.now) route.now.asked }
+    requires read { MayBranches (versions_in groups.now) route.now (branches_of branches.now) }
+    ensures rows { (past : Past) → Represents groups.now past → (m : ℕ)
+        → covers route.now.slice m ≡ true
+        → IfOk result (λ rows. rows_at rows.items m
+        ≡ plain (tables_of past route.now.asked) (branches_of branches.now)
+        (migrated past m route.now.asked)) }
+    ensures borrowed { (number : ℕ) → NoneAliveComputes (versions_in groups.now)
+        (branches_pieces (meaning_of book.now.rules.items (λ r. handles (r.vtable, r.value))
+        (λ r. answers (r.vtable, r.value))) (versions_in groups.now) route.now.asked
+        route.now.parts.items number (branches_of branches.now))
+        → IfOk result (λ rows. AreBorrowedBy (branches_of branches.now) rows.items) }
+    ensures cost { (number : ℕ) → (alive : List PlainExplained)
+        → AreAlive (versions_in groups.now) (branches_pieces
+        (meaning_of book.now.rules.items (λ r. handles (r.vtable, r.value))
+        (λ r. answers (r.vtable, r.value))) (versions_in groups.now) route.now.asked
+        route.now.parts.items number (branches_of branches.now)) alive
+        → steps.new ≤ steps.old + reads_of groups.now alive }
+    ensures least { (number : ℕ) → (e : PlainExplained)
+        → IsAlive (versions_in groups.now) (branches_pieces
+        (meaning_of book.now.rules.items (λ r. handles (r.vtable, r.value))
+        (λ r. answers (r.vtable, r.value))) (versions_in groups.now) route.now.asked
+        route.now.parts.items number (branches_of branches.now)) e
+        → IfOk result (λ _. steps.old + explained_read groups.now e ≤ steps.new) }
+    ensures rises { steps.old ≤ steps.new }
+{
+    let mut rows = Vec::new(alloc);
+    for branch in branches {
+        let mut news = answer_branch(alloc, groups, book, route, schema, branch, steps)?;
+        rows.append(&mut news)?;
+    }
+    Ok(rows)
+}

@@ -1,0 +1,108 @@
+//! The table of an item of a FROM, read as an atom of a join.
+
+ghost use Rattle.std.specs.Prelude.{◌≡◌, ℕ, ◌+◌, ◌≤◌, List, IfOk};
+ghost use Rattle.cond_expr.specs.References.{borrowed};
+ghost use Rattle.cond_expr.specs.Seen.{test};
+ghost use Rattle.smo_meaning.specs.Effects.{columns_of};
+ghost use Rattle.smo_meaning.specs.Making.{named};
+ghost use Rattle.smo_meaning.specs.Past.{Past, no_tables, tables_from};
+ghost use Rattle.version_groups.specs.Groups.{versions_in};
+ghost use Rattle.version_groups.specs.Showing.{Represents};
+ghost use Rattle.cond_expr.specs.AtomColumns.{columns_at};
+ghost use Rattle.rewrite.specs.Books.{meaning_of, EachOf};
+ghost use Rattle.query_exec.specs.Accepted.{IsRead};
+ghost use Rattle.query_exec.specs.Questions.{own_read};
+ghost use Rattle.piece_texts.specs.ExplainedPieces.{PlainExplained};
+ghost use Rattle.query_exec.specs.QueryPieces.{table_pieces, AreAlive, IsAlive};
+ghost use Rattle.timed_choices.specs.Lending.{AllBorrowed};
+ghost use Rattle.query_exec.specs.Borrowed.{NoneAliveComputes};
+ghost use Rattle.query_exec.specs.Routes.{IsRoute, MayBeRead};
+ghost use Rattle.query_exec.specs.Reads.{explained_read, reads_of};
+
+use crate::question::question_of;
+use crate::route::Route;
+use crate::table::read_table;
+use cond_expr::{ColRef, Column, Cond, columns_at};
+use joining::Atom;
+use prima_base::{Name, NoMemory, Steps};
+use rule_book::{Rule, RuleBook};
+use schema_catalog::Schema;
+use smo_schemas::columns_named;
+use std::alloc::Global;
+use std::sync::ledger::Ledger;
+use version_groups::Groups;
+
+// The columns of the table that are named, as those of an atom.
+fn named_columns(
+    alloc: Global,
+    atom: u32,
+    schema: &Schema,
+    table: &Name,
+    names: &[Name],
+) -> Result<Vec<Column>, NoMemory>
+    ensures { IfOk result (λ v. v.items ≡ columns_at atom
+        (named names.now (columns_of schema.now table.now))) }
+{
+    let Some(found) = schema.table(table) else {
+        return Ok(Vec::new(alloc));
+    };
+    let named = columns_named(alloc, found.columns(), names)?;
+    let columns = columns_at(alloc, atom, &named)?;
+    Ok(columns)
+}
+
+/// What is read of an item's table over the slice, in the columns that are named of it and the rows
+/// that meet the condition that is pushed to it, as the atom that is the item's place.
+pub(crate) fn read_item<'a, L: Ledger>(
+    alloc: Global,
+    groups: &'a Groups,
+    book: &RuleBook,
+    route: &Route,
+    schema: &Schema,
+    place: u32,
+    table: &Name,
+    references: &[&ColRef],
+    cond: &Cond,
+    steps: &mut Steps<L>,
+) -> Result<Atom<'a>, NoMemory>
+    requires each { EachOf book.now.rules.items (λ r. handles (r.vtable, r.value)) }
+    requires shows { (past : Past) × Represents groups.now past }
+    requires route { IsRoute (versions_in groups.now) route.now }
+    requires schema { schema.now ≡ tables_from no_tables (versions_in groups.now) route.now.asked }
+    requires read { MayBeRead (versions_in groups.now) route.now table.now
+        (own_read place (borrowed references.now) (test cond.now)) }
+    ensures atom { (past : Past) → Represents groups.now past
+        → IfOk result (λ a. IsRead past route.now place table.now
+        (own_read place (borrowed references.now) (test cond.now)) a) }
+    ensures borrowed { (branch : ℕ) → (atom : ℕ)
+        → NoneAliveComputes (versions_in groups.now)
+        (table_pieces (meaning_of book.now.rules.items (λ r. handles (r.vtable, r.value))
+        (λ r. answers (r.vtable, r.value))) (versions_in groups.now) route.now.asked table.now
+        (own_read place (borrowed references.now) (test cond.now)) branch atom
+        route.now.parts.items)
+        → IfOk result (λ a. AllBorrowed a.rows.items) }
+    ensures cost { (branch : ℕ) → (atom : ℕ) → (alive : List PlainExplained)
+        → AreAlive (versions_in groups.now) (table_pieces
+        (meaning_of book.now.rules.items (λ r. handles (r.vtable, r.value))
+        (λ r. answers (r.vtable, r.value))) (versions_in groups.now) route.now.asked table.now
+        (own_read place (borrowed references.now) (test cond.now)) branch atom
+        route.now.parts.items) alive
+        → steps.new ≤ steps.old + reads_of groups.now alive }
+    ensures least { (branch : ℕ) → (atom : ℕ) → (e : PlainExplained)
+        → IsAlive (versions_in groups.now) (table_pieces
+        (meaning_of book.now.rules.items (λ r. handles (r.vtable, r.value))
+        (λ r. answers (r.vtable, r.value))) (versions_in groups.now) route.now.asked table.now
+        (own_read place (borrowed references.now) (test cond.now)) branch atom
+        route.now.parts.items) e
+        → IfOk result (λ _. steps.old + explained_read groups.now e ≤ steps.new) }
+    ensures rises { steps.old ≤ steps.new }
+{
+    let question = question_of(alloc, references, cond, place)?;
+    let columns = named_columns(alloc, place, schema, table, &question.names)?;
+    let rows = read_table(alloc, groups, book, route, table, &question, steps)?;
+    Ok(Atom {
+        number: place,
+        columns,
+        rows,
+    })
+}

@@ -1,0 +1,84 @@
+//! Pieces that stand at a version, run over its stored tables, also at moments of other versions
+//! that share these.
+
+ghost use Rattle.std.specs.Prelude.{◌≡◌, ℕ, ◌+◌, ◌≤◌, ◌++◌, List, [], ◌∷◌, true, false, IfOk, OnOk};
+ghost use Rattle.std.specs.Prelude.{length};
+ghost use Rattle.relations.specs.Spans.{Span, covers};
+ghost use Rattle.prima_base.specs.Timed.{rows_at, entries_of};
+ghost use Rattle.smo_meaning.specs.OneRow.{Relation};
+ghost use Rattle.smo_meaning.specs.Past.{Past, tables_of};
+ghost use Rattle.version_groups.specs.Showing.{Represents};
+ghost use Rattle.piece_meaning.specs.Typed.{AllTyped};
+ghost use Rattle.piece_ir.specs.Shown.{pieces_of};
+ghost use Rattle.query_pieces.specs.Gathering.{IsGathered};
+ghost use Rattle.query_exec.specs.Runs.{IsMeant};
+ghost use Rattle.timed_choices.specs.Lending.{AllBorrowed};
+ghost use Rattle.query_exec.specs.Borrowed.{ComputeNothing};
+ghost use Rattle.query_exec.specs.Reads.{pieces_read};
+
+use join_exec::run_piece;
+use piece_ir::Piece;
+use prima_base::{NoMemory, Period, Steps, TimedRow};
+use std::alloc::Global;
+use std::sync::ledger::Ledger;
+use version_groups::Groups;
+
+// What pieces over a version mean in the period, all together.
+fn run_pieces<'a, L: Ledger>(
+    alloc: Global,
+    groups: &'a Groups,
+    version: u32,
+    pieces: &[Piece],
+    period: Period,
+    steps: &mut Steps<L>,
+) -> Result<Vec<TimedRow<'a>>, NoMemory>
+    requires { (past : Past) × Represents groups.now past × (version ≤ length past.versions)
+        × AllTyped (tables_of past version) (pieces_of pieces.now) }
+    ensures rows { (past : Past) → Represents groups.now past → (m : ℕ) → covers period m ≡ true
+        → (meant : Relation) → IsMeant groups.now past version (pieces_of pieces.now) m meant
+        → IfOk result (λ rows. rows_at rows.items m ≡ meant) }
+    ensures inside { (m : ℕ) → covers period m ≡ false
+        → IfOk result (λ rows. rows_at rows.items m ≡ []) }
+    ensures borrowed { ComputeNothing (pieces_of pieces.now)
+        → IfOk result (λ rows. AllBorrowed rows.items) }
+    ensures cost { steps.new ≤ steps.old + pieces_read groups.now version (pieces_of pieces.now) }
+    ensures counted { IfOk result (λ _. steps.new
+        ≡ steps.old + pieces_read groups.now version (pieces_of pieces.now)) }
+    ensures rises { steps.old ≤ steps.new }
+{
+    let mut rows = Vec::new(alloc);
+    for piece in pieces {
+        let mut news = run_piece(alloc, groups, version, piece, period, steps)?;
+        rows.append(&mut news)?;
+    }
+    Ok(rows)
+}
+
+/// Puts what the pieces mean at the moments of a run, each over the version that is in force then,
+/// after the rows of other runs. The version that is read shares their tables with each of these.
+pub(crate) fn read_run<'a, L: Ledger>(
+    alloc: Global,
+    groups: &'a Groups,
+    run: (Period, u32),
+    pieces: &[Piece],
+    rows: &mut Vec<TimedRow<'a>>,
+    steps: &mut Steps<L>,
+) -> Result<(), NoMemory>
+    requires { (past : Past) × Represents groups.now past × (run.1 ≤ length past.versions)
+        × AllTyped (tables_of past run.1) (pieces_of pieces.now) }
+    ensures rows { (past : Past) → Represents groups.now past → (relation : ℕ → Relation)
+        → ((m : ℕ) → covers run.0 m ≡ true → IsMeant groups.now past run.1 (pieces_of pieces.now) m
+        (relation m))
+        → (spans : List Span) → IsGathered relation spans (entries_of rows.old.items)
+        → OnOk result (IsGathered relation (spans ++ run.0 ∷ []) (entries_of rows.new.items)) }
+    ensures borrowed { ComputeNothing (pieces_of pieces.now) → AllBorrowed rows.old.items
+        → OnOk result (AllBorrowed rows.new.items) }
+    ensures cost { steps.new ≤ steps.old + pieces_read groups.now run.1 (pieces_of pieces.now) }
+    ensures counted { OnOk result (steps.new ≡ steps.old + pieces_read groups.now run.1
+        (pieces_of pieces.now)) }
+    ensures rises { steps.old ≤ steps.new }
+{
+    let mut news = run_pieces(alloc, groups, run.1, pieces, run.0, steps)?;
+    rows.append(&mut news)?;
+    Ok(())
+}

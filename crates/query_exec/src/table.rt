@@ -1,0 +1,155 @@
+//! A table of the asked version, read over a whole slice.
+
+ghost use Rattle.std.specs.Prelude.{◌≡◌, ℕ, ◌+◌, ◌≤◌, List, true, IfOk, map, length};
+ghost use Rattle.relations.specs.Sets.{In};
+ghost use Rattle.relations.specs.Spans.{covers};
+ghost use Rattle.relations.specs.Listing.{IsListing};
+ghost use Rattle.prima_base.specs.Order.{row_cmp};
+ghost use Rattle.prima_base.specs.Timed.{entries_of};
+ghost use Rattle.prima_base.specs.declared.timed_row.TimedRow.{TimedRow as OneRow};
+ghost use Rattle.smo_meaning.specs.OneRow.{Relation};
+ghost use Rattle.smo_meaning.specs.Past.{Past, tables_of, database_at};
+ghost use Rattle.version_groups.specs.Groups.{versions_in};
+ghost use Rattle.version_groups.specs.Showing.{Represents};
+ghost use Rattle.piece_meaning.specs.Pieces.{all_mean};
+ghost use Rattle.piece_meaning.specs.Typed.{AllTyped};
+ghost use Rattle.piece_ir.specs.Shown.{pieces_of};
+ghost use Rattle.rewrite.specs.Books.{meaning_of, EachOf};
+ghost use Rattle.query_pieces.specs.Gathering.{IsGathered};
+ghost use Rattle.query_exec.specs.Asked.{read_asked};
+ghost use Rattle.query_exec.specs.Questions.{table_read};
+ghost use Rattle.query_exec.specs.Planned.{ArePlanned, planned_spans};
+ghost use Rattle.piece_texts.specs.ExplainedPieces.{PlainExplained};
+ghost use Rattle.query_exec.specs.QueryPieces.{table_pieces, AreAlive, IsAlive};
+ghost use Rattle.timed_choices.specs.Lending.{AllBorrowed};
+ghost use Rattle.query_exec.specs.Borrowed.{ComputeNothing, NoneAliveComputes};
+ghost use Rattle.query_exec.specs.Routes.{IsOwn, IsRoute, MayBeRead};
+ghost use Rattle.query_exec.specs.Reads.{part_read, explained_read, reads_of};
+ghost use Rattle.query_exec.specs.Totals.{total};
+ghost use Rattle.query_exec.specs.declared.part_piece.PartPieces.{PartPieces as OnePart};
+
+use crate::part_piece::PartPieces;
+use crate::piece::read_run;
+use crate::question::Question;
+use crate::route::Route;
+use crate::run::run_of;
+use crate::walk::{pieces_back, pieces_on};
+use coalesce::coalesce_in_place;
+use prima_base::{Name, NoMemory, Steps, TimedRow};
+use rule_book::{Rule, RuleBook};
+use std::alloc::Global;
+use std::sync::ledger::Ledger;
+use version_groups::Groups;
+
+/// The pieces of the table over each version of the slice, in the order of the versions. Each rule
+/// of the book is asked once a version and piece.
+pub(crate) fn table_pieces(
+    alloc: Global,
+    groups: &Groups,
+    book: &RuleBook,
+    route: &Route,
+    table: &Name,
+    question: &Question,
+) -> Result<Vec<PartPieces>, NoMemory>
+    requires each { EachOf book.now.rules.items (λ r. handles (r.vtable, r.value)) }
+    requires shows { (past : Past) × Represents groups.now past }
+    requires route { IsRoute (versions_in groups.now) route.now }
+    requires read { MayBeRead (versions_in groups.now) route.now table.now (read_asked question.now) }
+    ensures { IfOk result (λ v. ArePlanned (meaning_of book.now.rules.items
+        (λ r. handles (r.vtable, r.value)) (λ r. answers (r.vtable, r.value)))
+        (versions_in groups.now) route.now.asked table.now (read_asked question.now)
+        route.now.parts.items v.items) }
+{
+    let mut plan = pieces_back(alloc, groups, book, route, table, question)?;
+    plan.reverse();
+    let mut later = pieces_on(alloc, groups, book, route, table, question)?;
+    plan.append(&mut later)?;
+    Ok(plan)
+}
+
+// What pieces mean at the moments of their parts. Parts that may be read as one are.
+fn read_parts<'a, L: Ledger>(
+    alloc: Global,
+    groups: &'a Groups,
+    plan: &[PartPieces],
+    steps: &mut Steps<L>,
+) -> Result<Vec<TimedRow<'a>>, NoMemory>
+    requires ready { (past : Past) × Represents groups.now past
+        × ((x : OnePart) → In x plan.now → IsOwn (versions_in groups.now) x.part
+        × AllTyped (tables_of past x.part.1) (pieces_of x.pieces.items)) }
+    ensures rows { (past : Past) → Represents groups.now past → (relation : ℕ → Relation)
+        → ((x : OnePart) → In x plan.now → (m : ℕ) → covers x.part.0 m ≡ true
+        → all_mean (tables_of past x.part.1) (database_at past m) (pieces_of x.pieces.items)
+        ≡ relation m)
+        → IfOk result (λ rows. IsGathered relation (planned_spans plan.now) (entries_of rows.items)) }
+    ensures borrowed { ((x : OnePart) → In x plan.now → ComputeNothing (pieces_of x.pieces.items))
+        → IfOk result (λ rows. AllBorrowed rows.items) }
+    ensures cost { steps.new ≤ steps.old + total (part_read groups.now) plan.now }
+    ensures least { (x : OnePart) → In x plan.now
+        → IfOk result (λ _. steps.old + part_read groups.now x ≤ steps.new) }
+    ensures rises { steps.old ≤ steps.new }
+{
+    let mut rows = Vec::new(alloc);
+    let mut at: usize = 0;
+    'runs: while at < plan.len() {
+        let first = &plan[at];
+        let (period, more) = run_of(groups, first, &plan[at + 1..]);
+        read_run(
+            alloc,
+            groups,
+            (period, first.part.1),
+            &first.pieces,
+            &mut rows,
+            steps,
+        )?;
+        at += 1 + more;
+    }
+    Ok(rows)
+}
+
+/// What is asked of the table, migrated to the asked version, at each moment of the slice: each row
+/// with its longest periods, over the borders of versions too. Its pieces are read, each of them,
+/// and nothing else; where none of them computes an output, all values are borrowed.
+pub(crate) fn read_table<'a, L: Ledger>(
+    alloc: Global,
+    groups: &'a Groups,
+    book: &RuleBook,
+    route: &Route,
+    table: &Name,
+    question: &Question,
+    steps: &mut Steps<L>,
+) -> Result<Vec<TimedRow<'a>>, NoMemory>
+    requires each { EachOf book.now.rules.items (λ r. handles (r.vtable, r.value)) }
+    requires shows { (past : Past) × Represents groups.now past }
+    requires route { IsRoute (versions_in groups.now) route.now }
+    requires read { MayBeRead (versions_in groups.now) route.now table.now (read_asked question.now) }
+    ensures rows { (past : Past) → Represents groups.now past
+        → IfOk result (λ rows. IsListing row_cmp
+        (table_read past route.now.asked table.now (read_asked question.now)) route.now.slice
+        (entries_of rows.items)) }
+    ensures borrowed { (branch : ℕ) → (atom : ℕ)
+        → NoneAliveComputes (versions_in groups.now)
+        (table_pieces (meaning_of book.now.rules.items (λ r. handles (r.vtable, r.value))
+        (λ r. answers (r.vtable, r.value))) (versions_in groups.now) route.now.asked table.now
+        (read_asked question.now) branch atom route.now.parts.items)
+        → IfOk result (λ rows. AllBorrowed rows.items) }
+    ensures cost { (branch : ℕ) → (atom : ℕ) → (alive : List PlainExplained)
+        → AreAlive (versions_in groups.now) (table_pieces
+        (meaning_of book.now.rules.items (λ r. handles (r.vtable, r.value))
+        (λ r. answers (r.vtable, r.value))) (versions_in groups.now) route.now.asked table.now
+        (read_asked question.now) branch atom route.now.parts.items) alive
+        → steps.new ≤ steps.old + reads_of groups.now alive }
+    ensures least { (branch : ℕ) → (atom : ℕ) → (e : PlainExplained)
+        → IsAlive (versions_in groups.now) (table_pieces
+        (meaning_of book.now.rules.items (λ r. handles (r.vtable, r.value))
+        (λ r. answers (r.vtable, r.value))) (versions_in groups.now) route.now.asked table.now
+        (read_asked question.now) branch atom route.now.parts.items) e
+        → IfOk result (λ _. steps.old + explained_read groups.now e ≤ steps.new) }
+    ensures rises { steps.old ≤ steps.new }
+{
+    book.known();
+    let plan = table_pieces(alloc, groups, book, route, table, question)?;
+    let mut rows = read_parts(alloc, groups, &plan, steps)?;
+    coalesce_in_place(&mut rows, route.slice);
+    Ok(rows)
+}

@@ -1,0 +1,56 @@
+ghost use Rattle.std.specs.Prelude.{◌≡◌, None, IfOk};
+ghost use Rattle.std.specs.List.{filter};
+ghost use Rattle.smo_types.specs.Operators.{operator_of};
+ghost use Rattle.smo_meaning.specs.After.{op_fault, schema_after, IsValid};
+ghost use Rattle.piece_meaning.specs.Typed.{IsTyped};
+ghost use Rattle.piece_meaning.specs.Rules.{KeepsMeaning};
+ghost use Rattle.piece_ir.specs.Shown.{piece_of, pieces_of};
+ghost use Rattle.piece_prune.specs.DeadPieces.{lives};
+ghost use Rattle.rule_views.specs.OperatorViews.{operator_views};
+ghost use Rattle.rewrite_rules.specs.LivingUnfoldings.{living_by_views};
+
+use crate::made_table::made_tables;
+use dead_conditions::is_dead;
+use piece_ir::{Piece, unfold_by};
+use prima_base::NoMemory;
+use schema_catalog::Schema;
+use smo_types::Op;
+use std::alloc::Global;
+
+// Whether the piece is not found dead.
+fn lives(piece: &Piece) -> bool
+    ensures { result ≡ lives (piece_of piece.now) }
+{
+    !is_dead(&piece.cond)
+}
+
+// The pieces that live, in their order.
+fn living(pieces: Vec<Piece>) -> Vec<Piece>
+    ensures { pieces_of result.items ≡ filter lives (pieces_of pieces.items) }
+{
+    let mut left = pieces;
+    left.retain(lives);
+    left
+}
+
+/// The piece, unfolded by the views of the tables that the operator makes, without the pieces that
+/// are found dead: what each rule answers. What is made is asked of the operator itself, whichever
+/// rule answers.
+pub(crate) fn unfolded(
+    alloc: Global,
+    op: &Op,
+    before: &Schema,
+    piece: &Piece,
+) -> Result<Vec<Piece>, NoMemory>
+    requires valid { IsValid before.now }
+    requires accepted { op_fault before.now (operator_of op.now) ≡ None }
+    requires typed { IsTyped (schema_after before.now (operator_of op.now)) (piece_of piece.now) }
+    ensures is { IfOk result (λ news. pieces_of news.items
+        ≡ living_by_views operator_views (operator_of op.now) before.now (piece_of piece.now)) }
+    ensures keeps { IfOk result (λ news. KeepsMeaning before.now (operator_of op.now)
+        (piece_of piece.now) (pieces_of news.items)) }
+{
+    let made = made_tables(alloc, op, before)?;
+    let news = unfold_by(alloc, &made, piece)?;
+    Ok(living(news))
+}

@@ -1,0 +1,14 @@
+use Rattle.std.proofs.Common.{◌≡◌, ◌++◌, drop, map}
+use Rattle.std.specs.Prelude.{All}
+use Rattle.prima_base.specs.Order.{shown}
+use Rattle.prima_base.specs.Columns.{IsValid}
+use Rattle.row_order.specs.Logs.{cells_of}
+use Rattle.row_order.specs.Rows.{row_now}
+use Rattle.row_order.proofs.cut.lend_now.Given as goal
+
+abbrev pub invariant-loop-column : goal.invariant-loop-column
+invariant-loop-column l = record {
+  borrowed : row_now l.id (cells_of l.columns) ≡ map shown l.row.items
+      ++ row_now l.id (cells_of (drop l.column-index l.columns));
+  valid : All (λ v. IsValid (shown v)) l.row.items;
+}

@@ -1,9 +1,0 @@
-use Rattle.std.proofs.Common.{sym, ap, ◌∙◌, length}
-use Rattle.row_order.proofs.Cutting.{length-part}
-use Rattle.row_order.specs.Logs.{cells_of}
-use Rattle.row_order.proofs.cuts.LentRows.len.Goals as goal
-
-pub returns : goal.returns
-returns c =
-    let a = c.self.inside in
-    sym (ap length (sym c.self.view_is) ∙ length-part a.index.now.ids a.start a.end (cells_of a.columns.now) c.self.invariant.order c.self.invariant.within)

@@ -1,0 +1,16 @@
+use Rattle.row_order.specs.Logs.{cells_of}
+use Rattle.row_order.proofs.Sides.{exact_rows}
+use Rattle.value_order.proofs.Places.{in_get}
+use Rattle.row_order.proofs.Splicing.{no_place}
+use Rattle.row_order.proofs.index_splice.found_in.Goals as goal
+
+pub place_in-requires-clause-known : goal.place_in-requires-clause-known
+place_in-requires-clause-known c = λ id k d h b.
+    c.requires.known _ (in_get c.args.index.now.ids id 0 h) k d b
+
+pub unreachable-requires : goal.unreachable-requires
+unreachable-requires c = no_place (cells_of c.args.columns.now) c.args.index.now.ids c.args.row.now
+    c.in-Err.field-0 c.requires.there c.in-Err.ensures.before c.in-Err.ensures.after
+
+pub returns-clause-row : goal.returns-clause-row
+returns-clause-row c = exact_rows _ c.args.row.now c.in-Ok.ensures.found.1

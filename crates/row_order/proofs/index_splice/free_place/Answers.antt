@@ -1,0 +1,12 @@
+use Rattle.row_order.specs.Logs.{cells_of}
+use Rattle.value_order.proofs.Places.{in_get}
+use Rattle.row_order.proofs.Splicing.{has_place}
+use Rattle.row_order.proofs.index_splice.free_place.Goals as goal
+
+pub place_of-requires-clause-known : goal.place_of-requires-clause-known
+place_of-requires-clause-known c = λ id k d h b.
+    c.requires.known _ (in_get c.args.ids.now id 0 h) k d b
+
+pub unreachable-requires : goal.unreachable-requires
+unreachable-requires c = c.requires.fresh (has_place (cells_of c.args.columns.now) c.args.ids.now
+    c.args.row.now c.in-Ok.field-0 c.in-Ok.ensures.found.0 c.in-Ok.ensures.found.1)

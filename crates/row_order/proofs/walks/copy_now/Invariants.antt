@@ -1,9 +1,0 @@
-use Rattle.std.proofs.Common.{◌≡◌, ◌++◌, drop}
-use Rattle.row_order.specs.Logs.{cells_of}
-use Rattle.row_order.specs.Rows.{row_now}
-use Rattle.row_order.proofs.walks.copy_now.Given as goal
-
-abbrev pub invariant-loop-column : goal.invariant-loop-column
-invariant-loop-column l = record {
-  same : row_now l.id (cells_of l.columns) ≡ l.values.items ++ row_now l.id (cells_of (drop l.column-index l.columns));
-}

@@ -1,0 +1,6 @@
+use Rattle.std.proofs.Common.{◌≡◌, map, take}
+use Rattle.rule_book.proofs.book.kinds_of.Given as goal
+
+abbrev pub invariant-loop-rule : goal.invariant-loop-rule
+invariant-loop-rule g l = l.kinds.items ≡ map
+    (λ r. (goal.Rule-dyn g (r.vtable, r.value)).handles r.value) (take l.rule-index l.rules)

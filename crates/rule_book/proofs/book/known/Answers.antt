@@ -1,0 +1,5 @@
+use Rattle.piece_meaning.proofs.BookLaws.{valid_book}
+use Rattle.rule_book.proofs.book.known.Goals as goal
+
+pub returns : goal.returns
+returns g c = valid_book _ _ c.args.rules.now c.all_known.ensures c.requires

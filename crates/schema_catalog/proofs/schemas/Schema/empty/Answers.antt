@@ -1,5 +1,0 @@
-use Rattle.schema_catalog.proofs.Lawful.{none_is_empty}
-use Rattle.schema_catalog.proofs.schemas.Schema.empty.Goals as goal
-
-pub returns : goal.returns
-returns c = none_is_empty c.new.result.items c.new.ensures.items

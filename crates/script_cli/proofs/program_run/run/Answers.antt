@@ -1,0 +1,255 @@
+use Rattle.std.proofs.Common.{◌≡◌, ◌⊎◌, ⊎_elim, inl, inr, ℕ, [], refl, sym, ap, ◌∙◌}
+use Rattle.std.specs.Prelude.{Option, Some, None, map, option_and_then, string_bytes}
+use Rattle.smo_meaning.specs.Past.{Past}
+use Rattle.piece_meaning.specs.Books.{book_of}
+use Rattle.program_words.specs.declared.request.Mode.{Mode}
+use Rattle.program_words.specs.declared.request.Mode.TheVariants.{Run, Sample}
+use Rattle.program_words.specs.declared.request.Request.{Request}
+use Rattle.program_words.specs.Words.{asked, limit_in, limit_of_run, request}
+use Rattle.sample_script.specs.Statements.{sample_script}
+use Rattle.script_cli.specs.Output.{recorded, recorded_after}
+use Rattle.script_cli.specs.Files.{IsSoundFile}
+use Rattle.script_cli.specs.Runs.{given_by}
+use Rattle.script_cli.specs.declared.status.Status.{Status}
+use Rattle.script_cli.specs.declared.status.Status.TheVariants.{NotAJournal, Words, NoMemory}
+use Rattle.script_cli.proofs.ValidPasts.{still_made}
+use Rattle.script_cli.proofs.ExplainedQueries.{tells_pieces}
+use Rattle.script_cli.proofs.Errors.{error_told}
+use Rattle.script_cli.proofs.Recording.{recorded_is, put_sound, put_accepted, still_sound}
+use Rattle.script_cli.proofs.OnDisks.{sound_opens}
+use Rattle.script_cli.proofs.Telling.{prefix_over, whole_over, crash_over, sound_over, damaged_over}
+use Rattle.script_cli.proofs.Telling.{refuses_over, prefix_untouched, crash_untouched}
+use Rattle.script_cli.proofs.Telling.{untouched_leaves, not_whole_untouched, refuses_untouched}
+use Rattle.script_cli.proofs.Telling.{not_damaged_untouched}
+use Rattle.script_cli.proofs.SampleRuns.{sample_damaged, sample_refuses, sample_whole, sample_held}
+use Rattle.script_cli.proofs.SampleRuns.{sample_crash, sample_sound}
+use Rattle.script_cli.proofs.program_run.run.Goals as goal
+
+-- nothing is asked for, or a run, or a sample
+asks : (o : Option Request) → (o ≡ None) ⊎ (((limit : ℕ)
+    × (option_and_then limit_of_run o ≡ Some limit))
+    ⊎ ((limit : ℕ) × (size : ℕ) × (o ≡ Some (request limit (Sample size)))))
+asks None = inl refl
+asks (Some r) = by r.mode refl
+  where
+    by : (mode : Mode) → r.mode ≡ mode
+        → (Some r ≡ None) ⊎ (((limit : ℕ) × (limit_in r.mode r.journal_limit ≡ Some limit))
+        ⊎ ((limit : ℕ) × (size : ℕ) × (Some r ≡ Some (request limit (Sample size)))))
+    by Run is = inr (inl (r.journal_limit, ap (λ m. limit_in m r.journal_limit) is))
+    by (Sample size) is = inr (inr (
+      r.journal_limit,
+      size,
+      ap (λ m. Some (request r.journal_limit m)) is,
+    ))
+
+-- wrong words are not answered by damage
+words_not_damaged : (status : Status) (place : ℕ) → status ≡ NotAJournal place → (status ≡ Words)
+    ⊎ (status ≡ NoMemory) → ⊥
+words_not_damaged status place is (inl words) = let same : NotAJournal place ≡ Words = sym is
+    ∙ words in cc
+words_not_damaged status place is (inr memory) = let same : NotAJournal place ≡ NoMemory = sym is
+    ∙ memory in cc
+
+pub returns-clause-damaged : goal.returns-clause-damaged
+returns-clause-damaged g c = λ place is.
+    let M = g.D.Disk.meaning in
+    ⊎_elim
+    (λ none. let refused = c.judge_and_run.ensures.refused none in
+    absurd (words_not_damaged c.judge_and_run.result place is
+    (⊎_elim (λ w. inl w.0) (λ m. inr m.0) refused.wrote)))
+    (λ some. ⊎_elim
+    (λ run. ⊎_elim
+    (λ untouched. absurd (not_damaged_untouched M _ _ _ _ _ _ _ untouched place is))
+    (λ over. damaged_over (given_by run.0 (book_of
+    (λ r. (goal.Rule-dyn g (r.vtable, r.value)).handles r.value)
+    (λ r. (goal.Rule-dyn g (r.vtable, r.value)).answers r.value) c.args.book.now.rules.items)) _
+    _ _ _ _ _ _ (M c.args.disk.now) (M c.judge_and_run.new.disk) place is over)
+    (c.judge_and_run.ensures.runs run.0 run.1))
+    (λ sample. ⊎_elim
+    (λ untouched. absurd (not_damaged_untouched M _ _ _ _ _ _ _ untouched place is))
+    (λ over. sample_damaged sample.1 (given_by sample.0
+    (book_of (λ r. (goal.Rule-dyn g (r.vtable, r.value)).handles r.value)
+    (λ r. (goal.Rule-dyn g (r.vtable, r.value)).answers r.value) c.args.book.now.rules.items))
+    (sample_script sample.1) _ _ _ _ _ _ _ (M c.args.disk.now) (M c.judge_and_run.new.disk) over
+    place is)
+    (c.judge_and_run.ensures.samples sample.0 sample.1 sample.2))
+    some)
+    (asks (asked (map string_bytes c.args.words.now)))
+
+pub returns-clause-refuses : goal.returns-clause-refuses
+returns-clause-refuses g c = λ limit file place asked seen damages.
+    let M = g.D.Disk.meaning in
+    ⊎_elim
+    (λ untouched. refuses_untouched M _ _ _ _ _ _ _ untouched place)
+    (λ over. refuses_over (given_by limit (book_of
+    (λ r. (goal.Rule-dyn g (r.vtable, r.value)).handles r.value)
+    (λ r. (goal.Rule-dyn g (r.vtable, r.value)).answers r.value) c.args.book.now.rules.items)) _
+    _ _ _ _ _ _ (M c.args.disk.now) (M c.judge_and_run.new.disk)
+    c.a_file_opens_or_is_damaged.ensures.place c.a_file_opens_or_is_damaged.ensures.apart file
+    place seen damages over)
+    (c.judge_and_run.ensures.runs limit asked)
+
+pub returns-clause-prefix : goal.returns-clause-prefix
+returns-clause-prefix g c = λ limit file opening asked seen opens.
+    let M = g.D.Disk.meaning in
+    ⊎_elim
+    (λ untouched. prefix_untouched M _ _ _ _ _ _ _ untouched
+    (given_by limit (book_of (λ r. (goal.Rule-dyn g (r.vtable, r.value)).handles r.value)
+    (λ r. (goal.Rule-dyn g (r.vtable, r.value)).answers r.value) c.args.book.now.rules.items))
+    (recorded opening))
+    (λ over. prefix_over (given_by limit (book_of
+    (λ r. (goal.Rule-dyn g (r.vtable, r.value)).handles r.value)
+    (λ r. (goal.Rule-dyn g (r.vtable, r.value)).answers r.value) c.args.book.now.rules.items)) _
+    _ _ _ _ _ _ (M c.args.disk.now) (M c.judge_and_run.new.disk)
+    c.a_file_opens_or_is_damaged.ensures.one c.a_file_opens_or_is_damaged.ensures.apart file
+    opening seen opens over)
+    (c.judge_and_run.ensures.runs limit asked)
+
+pub returns-clause-whole : goal.returns-clause-whole
+returns-clause-whole g c = λ limit file opening asked seen opens is_whole.
+    let M = g.D.Disk.meaning in
+    ⊎_elim
+    (λ untouched. absurd (not_whole_untouched M _ _ _ _ _ _ _ untouched is_whole))
+    (λ over. whole_over (given_by limit (book_of
+    (λ r. (goal.Rule-dyn g (r.vtable, r.value)).handles r.value)
+    (λ r. (goal.Rule-dyn g (r.vtable, r.value)).answers r.value) c.args.book.now.rules.items)) _
+    _ _ _ _ _ _ (M c.args.disk.now) (M c.judge_and_run.new.disk)
+    c.a_file_opens_or_is_damaged.ensures.one c.a_file_opens_or_is_damaged.ensures.apart file
+    opening seen opens is_whole over)
+    (c.judge_and_run.ensures.runs limit asked)
+
+pub returns-clause-crash : goal.returns-clause-crash
+returns-clause-crash g c = λ limit file opening asked honest seen opens.
+    let M = g.D.Disk.meaning in
+    ⊎_elim
+    (λ untouched. crash_untouched M _ _ _ _ _ _ _ untouched (g.met.D.Disk.valid c.args.disk.now)
+    (given_by limit (book_of (λ r. (goal.Rule-dyn g (r.vtable, r.value)).handles r.value)
+    (λ r. (goal.Rule-dyn g (r.vtable, r.value)).answers r.value) c.args.book.now.rules.items))
+    opening)
+    (λ over. crash_over (given_by limit (book_of
+    (λ r. (goal.Rule-dyn g (r.vtable, r.value)).handles r.value)
+    (λ r. (goal.Rule-dyn g (r.vtable, r.value)).answers r.value) c.args.book.now.rules.items)) _
+    _ _ _ _ _ _ (M c.args.disk.now) (M c.judge_and_run.new.disk)
+    c.a_file_opens_or_is_damaged.ensures.one c.a_file_opens_or_is_damaged.ensures.apart file
+    opening seen opens honest over)
+    (c.judge_and_run.ensures.runs limit asked)
+
+pub returns-clause-sample_refuses : goal.returns-clause-sample_refuses
+returns-clause-sample_refuses g c = λ limit size file place for seen damages.
+    let M = g.D.Disk.meaning in
+    ⊎_elim
+    (λ untouched. refuses_untouched M _ _ _ _ _ _ _ untouched place)
+    (λ over. sample_refuses size (given_by limit
+    (book_of (λ r. (goal.Rule-dyn g (r.vtable, r.value)).handles r.value)
+    (λ r. (goal.Rule-dyn g (r.vtable, r.value)).answers r.value) c.args.book.now.rules.items))
+    (sample_script size) _ _ _ _ _ _ _ (M c.args.disk.now) (M c.judge_and_run.new.disk) over
+    c.a_file_opens_or_is_damaged.ensures.place c.a_file_opens_or_is_damaged.ensures.apart file
+    place seen damages)
+    (c.judge_and_run.ensures.samples limit size for)
+
+pub returns-clause-summary : goal.returns-clause-summary
+returns-clause-summary g c = λ limit size file opening for seen opens is_whole.
+    let M = g.D.Disk.meaning in
+    ⊎_elim
+    (λ untouched. absurd (not_whole_untouched M _ _ _ _ _ _ _ untouched is_whole))
+    (λ over. sample_whole size (given_by limit
+    (book_of (λ r. (goal.Rule-dyn g (r.vtable, r.value)).handles r.value)
+    (λ r. (goal.Rule-dyn g (r.vtable, r.value)).answers r.value) c.args.book.now.rules.items))
+    (sample_script size) _ _ _ _ _ _ _ (M c.args.disk.now) (M c.judge_and_run.new.disk) over
+    c.a_file_opens_or_is_damaged.ensures.one file opening seen opens is_whole)
+    (c.judge_and_run.ensures.samples limit size for)
+
+pub returns-clause-held : goal.returns-clause-held
+returns-clause-held g c = λ limit size file opening for honest seen opens is_whole.
+    let M = g.D.Disk.meaning in
+    ⊎_elim
+    (λ untouched. absurd (not_whole_untouched M _ _ _ _ _ _ _ untouched is_whole))
+    (λ over. sample_held size (given_by limit
+    (book_of (λ r. (goal.Rule-dyn g (r.vtable, r.value)).handles r.value)
+    (λ r. (goal.Rule-dyn g (r.vtable, r.value)).answers r.value) c.args.book.now.rules.items))
+    (sample_script size) _ _ _ _ _ _ _ (M c.args.disk.now) (M c.judge_and_run.new.disk) over
+    c.a_file_opens_or_is_damaged.ensures.one file opening seen opens honest is_whole)
+    (c.judge_and_run.ensures.samples limit size for)
+
+pub returns-clause-sample_crash : goal.returns-clause-sample_crash
+returns-clause-sample_crash g c = λ limit size file opening for honest seen opens.
+    let M = g.D.Disk.meaning in
+    ⊎_elim
+    (λ untouched. (
+      [],
+      tt,
+      untouched_leaves M _ _ _ _ _ _ _ untouched
+          (g.met.D.Disk.valid c.args.disk.now) _,
+    ))
+    (λ over. sample_crash size (given_by limit
+    (book_of (λ r. (goal.Rule-dyn g (r.vtable, r.value)).handles r.value)
+    (λ r. (goal.Rule-dyn g (r.vtable, r.value)).answers r.value) c.args.book.now.rules.items))
+    (sample_script size) _ _ _ _ _ _ _ (M c.args.disk.now) (M c.judge_and_run.new.disk) over
+    c.a_file_opens_or_is_damaged.ensures.one file opening seen opens honest)
+    (c.judge_and_run.ensures.samples limit size for)
+
+pub returns-clause-records : goal.returns-clause-records
+returns-clause-records g c = λ limit opening statements log are. (
+  recorded_is limit opening statements log are,
+  put_sound limit opening statements log are,
+  put_accepted limit opening statements log are,
+  still_sound limit opening statements log are,
+)
+
+pub returns-clause-sound : goal.returns-clause-sound
+returns-clause-sound g c = λ limit file opening asked honest seen sound.
+    let M = g.D.Disk.meaning in
+    ⊎_elim
+    (λ untouched. untouched_leaves M _ _ _ _ _ _ _ untouched (g.met.D.Disk.valid c.args.disk.now)
+    IsSoundFile)
+    (λ over. sound_over (given_by limit (book_of
+    (λ r. (goal.Rule-dyn g (r.vtable, r.value)).handles r.value)
+    (λ r. (goal.Rule-dyn g (r.vtable, r.value)).answers r.value) c.args.book.now.rules.items)) _
+    _ _ _ _ _ _ (M c.args.disk.now) (M c.judge_and_run.new.disk)
+    c.a_file_opens_or_is_damaged.ensures.one c.a_file_opens_or_is_damaged.ensures.apart file
+    opening seen (sound_opens file opening sound) honest sound.sound over)
+    (c.judge_and_run.ensures.runs limit asked)
+
+pub returns-clause-sample_sound : goal.returns-clause-sample_sound
+returns-clause-sample_sound g c = λ limit size file opening for honest seen sound.
+    let M = g.D.Disk.meaning in
+    ⊎_elim
+    (λ untouched. untouched_leaves M _ _ _ _ _ _ _ untouched (g.met.D.Disk.valid c.args.disk.now)
+    IsSoundFile)
+    (λ over. sample_sound size (given_by limit
+    (book_of (λ r. (goal.Rule-dyn g (r.vtable, r.value)).handles r.value)
+    (λ r. (goal.Rule-dyn g (r.vtable, r.value)).answers r.value) c.args.book.now.rules.items))
+    (sample_script size) _ _ _ _ _ _ _ (M c.args.disk.now) (M c.judge_and_run.new.disk) over
+    c.a_file_opens_or_is_damaged.ensures.one file opening seen (sound_opens file opening sound)
+    honest sound.sound)
+    (c.judge_and_run.ensures.samples limit size for)
+
+pub returns-clause-answers : goal.returns-clause-answers
+returns-clause-answers g c =
+    let one = c.listing_is_the_one_list.ensures.is in
+    let lasting = c.an_accepted_query_asks_questions.ensures.lasting in
+    λ limit opening statements query are history accepted to.
+    let past : Past = (recorded_after limit (recorded opening) statements).past in
+    let made = still_made c.an_image_shows_a_past.ensures.past limit opening statements are
+    history in
+    (one past query made.states made.begun (lasting past query accepted) to, refl)
+
+pub returns-clause-explains : goal.returns-clause-explains
+returns-clause-explains g c = λ limit opening statements text query are history read accepted.
+    tells_pieces c.an_image_shows_a_past.ensures.past
+    (given_by limit (book_of (λ r. (goal.Rule-dyn g (r.vtable, r.value)).handles r.value)
+    (λ r. (goal.Rule-dyn g (r.vtable, r.value)).answers r.value) c.args.book.now.rules.items))
+    c.known.ensures opening statements text query are history read accepted
+
+pub returns-clause-seen : goal.returns-clause-seen
+returns-clause-seen g c =
+    let law = c.a_command_is_seen_from_its_stamp_on.ensures in
+    λ limit opening statements command m are history accepted. (
+      λ l. law.before _ command m l,
+      λ l. law.from _ command m
+          (still_made c.an_image_shows_a_past.ensures.past limit opening statements are history)
+          accepted l,
+    )
+
+pub returns-clause-errors : goal.returns-clause-errors
+returns-clause-errors g c = error_told

@@ -1,0 +1,228 @@
+ghost use Rattle.std.specs.Prelude.{◌≡◌, ◌++◌, ◌+◌, ◌<◌, ◌≤◌, ◌^◌, ◌∷◌, [], ◌⊎◌, length, Some};
+ghost use Rattle.std.specs.Prelude.{None, IsOkUnless, IsErrOf};
+ghost use Rattle.prima_base.specs.Columns.{AreColumns, names_of};
+ghost use Rattle.cond_expr.specs.Kinds.{value_kind};
+ghost use Rattle.smo_meaning.specs.First.{first_refusal};
+ghost use Rattle.cond_expr.specs.Seen.{test};
+ghost use Rattle.cond_expr.specs.Sizes.{test_nodes};
+ghost use Rattle.cond_expr.specs.Faults.{test_references};
+ghost use Rattle.prima_base.specs.declared.refusal.Refusal.{Refusal as OneRefusal};
+ghost use Rattle.schema_catalog.specs.Tables.{IsSchema};
+ghost use Rattle.smo_types.specs.Commands.{changing};
+ghost use Rattle.smo_meaning.specs.Counts.{first_excess};
+ghost use Rattle.smo_types.specs.Changes.{insertion, update, change_of, changes_of, sets_of};
+ghost use Rattle.smo_meaning.specs.Preconditions.{AreNarrow};
+ghost use Rattle.prima_base.specs.Faults.{IsTested};
+ghost use Rattle.prima_base.specs.declared.fault.CallFault.TheVariants.{Refused};
+ghost use Rattle.prima_base.specs.declared.fault.CallFault.TheVariants.{NoMemory as OutOfMemory};
+ghost use Rattle.smo_meaning.specs.Checks.{IsSmall, AreSmall, pair_names, name_faults};
+ghost use Rattle.smo_meaning.specs.Checks.{missing_fault, cell_faults, reference_fault, test_fault};
+ghost use Rattle.smo_meaning.specs.Checks.{tests_after, change_fault, changes_fault};
+
+use crate::count::change_nodes;
+use crate::type_check::{
+    check_all_references, check_sets, check_test_references, check_test_types,
+};
+use cond_expr::{Cond, Expr};
+use prima_base::{ColType, Name, Refusal, Value};
+use schema_catalog::Schema;
+use smo_schemas::{OwnColumns, has_name, type_in};
+use smo_types::{Change, ChangeFault};
+use std::alloc::Global;
+
+// Of each name, in order: whether it stood before, and whether it is unknown. What stood before is
+// known, so at most one name more than there are columns is looked at.
+fn check_names<T>(
+    table: &Name,
+    columns: &[(Name, ColType)],
+    pairs: &[(Name, T)],
+) -> Result<(), ChangeFault>
+    ensures { IsTested (first_refusal (name_faults table.now columns.now (pair_names pairs.now)))
+        result }
+{
+    for (i, (name, _)) in pairs.iter().enumerate() {
+        if has_name(&pairs[..i], name) {
+            return Err(ChangeFault::Refused(Refusal::ColumnExists(table.copy()?, name.copy()?)));
+        }
+        if !has_name(columns, name) {
+            return Err(ChangeFault::Refused(Refusal::NoColumn(name.copy()?)));
+        }
+    }
+    Ok(())
+}
+
+// The first column, in name order, that is not named.
+fn check_missing(
+    table: &Name,
+    columns: &[(Name, ColType)],
+    cells: &[(Name, Value)],
+) -> Result<(), ChangeFault>
+    ensures { IsTested (missing_fault table.now columns.now (pair_names cells.now)) result }
+{
+    for (column, _) in columns {
+        if !has_name(cells, column) {
+            return Err(ChangeFault::Refused(Refusal::ColumnMissing(table.copy()?, column.copy()?)));
+        }
+    }
+    Ok(())
+}
+
+// Each value is of its column's type; the first one is node `at`.
+fn check_cells(
+    columns: &[(Name, ColType)],
+    cells: &[(Name, Value)],
+    at: u32,
+) -> Result<(), ChangeFault>
+    requires { at + length cells.now < 2 ^ 32 }
+    ensures { IsTested (first_refusal (cell_faults columns.now at cells.now)) result }
+{
+    for (i, (name, value)) in cells.iter().enumerate() {
+        if type_in(columns, name) != Some(kind_of(value)) {
+            return Err(ChangeFault::Refused(Refusal::WrongType(at + i as u32)));
+        }
+    }
+    Ok(())
+}
+
+pub(crate) fn kind_of(value: &Value) -> ColType
+    ensures { result ≡ value_kind value.now }
+{
+    match value {
+        Value::Int(_) => ColType::Int,
+        Value::Text(_) => ColType::Text,
+    }
+}
+
+fn check_insert(
+    table: &Name,
+    columns: &[(Name, ColType)],
+    cells: &[(Name, Value)],
+    at: u32,
+) -> Result<(), ChangeFault>
+    requires columns { AreColumns columns.now }
+    requires narrow { length columns.now ≤ 32 }
+    requires place { at < 2 ^ 31 }
+    ensures { IsTested (first_refusal (tests_after columns.now (insertion table.now cells.now) at))
+        result }
+{
+    check_names(table, columns, cells)?;
+    check_missing(table, columns, cells)?;
+    check_cells(columns, cells, at)
+}
+
+fn check_delete(own: &OwnColumns<'_>, cond: &Cond, at: u32) -> Result<(), ChangeFault>
+    requires small { test_nodes (test cond.now) ≤ 256 }
+    requires place { at < 2 ^ 31 }
+    ensures { IsTested (first_refusal (reference_fault own.now (test_references (test cond.now))
+        ∷ test_fault own.now at (test cond.now) ∷ [])) result }
+{
+    check_test_references(own, cond)?;
+    check_test_types(own, cond, at)
+}
+
+fn check_update(
+    own: &OwnColumns<'_>,
+    table: &Name,
+    sets: &[(Name, Expr)],
+    cond: &Cond,
+    at: u32,
+) -> Result<(), ChangeFault>
+    requires columns { AreColumns own.now }
+    requires narrow { length own.now ≤ 32 }
+    requires sets { AreSmall (sets_of sets.now) }
+    requires test { test_nodes (test cond.now) ≤ 256 }
+    requires place { at < 2 ^ 31 }
+    ensures { IsTested (first_refusal (tests_after own.now
+        (update table.now (sets_of sets.now) (test cond.now)) at)) result }
+{
+    check_names(table, own.columns(), sets)?;
+    check_all_references(own, sets, cond)?;
+    let next = check_sets(own, sets, at)?;
+    check_test_types(own, cond, next)
+}
+
+// The tests of a change of a table with these columns.
+fn check_in_table(
+    alloc: Global,
+    columns: &[(Name, ColType)],
+    change: &Change,
+    at: u32,
+) -> Result<(), ChangeFault>
+    requires columns { AreColumns columns.now }
+    requires narrow { length columns.now ≤ 32 }
+    requires small { IsSmall (change_of change.now) }
+    requires place { at < 2 ^ 31 }
+    ensures { IsTested (first_refusal (tests_after columns.now (change_of change.now) at)) result }
+{
+    match change {
+        Change::Insert { table, cells } => check_insert(table, columns, cells, at),
+        Change::Delete { cond, .. } => {
+            let own = OwnColumns::new(alloc, columns)?;
+            check_delete(&own, cond, at)
+        }
+        Change::Update { table, sets, cond } => {
+            let own = OwnColumns::new(alloc, columns)?;
+            check_update(&own, table, sets, cond, at)
+        }
+    }
+}
+
+/// Whether a change is accepted over a schema, and else its first refusal in the one order: its
+/// table (22); of the columns of an INSERT or the set columns of an UPDATE, in written order, for
+/// each whether it stood before (27) and whether it is unknown (23); of an INSERT the first missing
+/// column in name order (35); the references of its expressions and its condition, in written order
+/// (23); its types (25). Places count nodes from `first_node` on, which is below 2^31; each tree
+/// has at most 256 nodes, and each table of the schema at most 32 columns.
+pub fn check_change(
+    alloc: Global,
+    schema: &Schema,
+    change: &Change,
+    first_node: u32,
+) -> Result<(), ChangeFault>
+    requires small { IsSmall (change_of change.now) }
+    requires narrow { AreNarrow schema.now }
+    requires place { first_node < 2 ^ 31 }
+    ensures checked { IsTested (change_fault schema.now (change_of change.now) first_node) result }
+    ensures accepted { change_fault schema.now (change_of change.now) first_node ≡ None
+        → IsOkUnless result OutOfMemory }
+    ensures refused { (r : OneRefusal) → change_fault schema.now (change_of change.now) first_node
+        ≡ Some r
+        → IsErrOf result (Refused r) ⊎ IsErrOf result OutOfMemory }
+    ensures valid { IsSchema schema.now }
+{
+    let name = change.table();
+    match schema.table(name) {
+        Some(table) => check_in_table(alloc, table.columns(), change, first_node),
+        None => Err(ChangeFault::Refused(Refusal::NoTable(name.copy()?))),
+    }
+}
+
+// The changes one after the other, with the number of the first node of each.
+fn check_in_turn(alloc: Global, schema: &Schema, changes: &[Change]) -> Result<(), ChangeFault>
+    requires counted { first_excess (changing (changes_of changes.now)) ≡ None }
+    requires narrow { AreNarrow schema.now }
+    ensures { IsTested (changes_fault schema.now (changes_of changes.now)) result }
+{
+    let mut at = 0u32;
+    for change in changes {
+        check_change(alloc, schema, change, at)?;
+        at += change_nodes(change) as u32;
+    }
+    Ok(())
+}
+
+/// Whether all changes of a command are accepted over a schema, each whole before the next, and
+/// else the first refusal. Places count nodes through the whole command. The counts of the command
+/// have to be within their limits (`check_counts`), and each table of the schema has at most 32
+/// columns.
+pub fn check_changes(alloc: Global, schema: &Schema, changes: &[Change]) -> Result<(), ChangeFault>
+    requires counted { first_excess (changing (changes_of changes.now)) ≡ None }
+    requires narrow { AreNarrow schema.now }
+    ensures checked { IsTested (changes_fault schema.now (changes_of changes.now)) result }
+    ensures accepted { changes_fault schema.now (changes_of changes.now) ≡ None
+        → IsOkUnless result OutOfMemory }
+    ensures refused { (r : OneRefusal) → changes_fault schema.now (changes_of changes.now) ≡ Some r
+        → IsErrOf result (Refused r) ⊎ IsErrOf result OutOfMemory }
+{
+    check_in_turn(alloc, schema, changes)
+}

@@ -1,5 +1,0 @@
-use Rattle.smo_parse.proofs.OperatorMarkSizes.{operator_adds_up}
-use Rattle.smo_parse.proofs.laws.operator_marks_add_up.Goals as goal
-
-pub returns : goal.returns
-returns c = operator_adds_up

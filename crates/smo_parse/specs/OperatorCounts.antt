@@ -1,0 +1,75 @@
+-- What is counted at each token of an operator: at those of its expression or condition what is
+-- counted there, and at each other nothing.
+use Rattle.std.specs.Prelude.{false, List, [], ◌∷◌, ◌++◌, map}
+use mathlib.Core.Logic.{inl, inr}
+use Rattle.smo_types.specs.Operators.{Operator}
+use Rattle.cond_expr.specs.Trees.{Test}
+use Rattle.lexical_grammar.specs.Lexemes.{Lexeme}
+use Rattle.parser_combinators.specs.Grammar.{Size}
+use Rattle.parser_combinators.specs.TokenCounts.{TokenCounts, plain}
+use Rattle.parser_combinators.specs.ListCrossings.{Crossing, count_crossing}
+use Rattle.expr_grammar.specs.TreeCounts.{expr_counts, cond_counts}
+use Rattle.expr_grammar.specs.Where.{IsWhere}
+use Rattle.smo_parse.specs.Productions.{IsPartitionTable, IsJoinTable, IsAddColumn, IsOperator}
+
+-- nothing at each of these
+abbrev pub uncounted : List Lexeme → List TokenCounts
+uncounted f = map (λ x. plain) f
+
+-- PARTITION TABLE name INTO name WITH, the condition, a comma and a name
+abbrev pub partition_counts : (o : Operator) (s : Size) (f : List Lexeme) → IsPartitionTable o s f
+    → List TokenCounts
+partition_counts o s f h =
+    let named = h.2.2 in
+    let met = named.8.2 in
+    let condition = met.8.2 in
+    plain ∷ plain ∷ plain ∷ plain ∷ plain ∷ plain
+    ∷ (cond_counts false condition.0 condition.1 condition.3 condition.7 ++ plain ∷ plain ∷ [])
+
+-- nothing, or WHERE and the condition
+abbrev pub where_counts : (c : Test) (s : Size) (f : List Lexeme) → IsWhere false c s f
+    → List TokenCounts
+where_counts c s f (inl h) = []
+where_counts c s f (inr h) = plain ∷ cond_counts false c s h.0 h.2
+
+-- JOIN TABLE name , name INTO name, and what may follow
+abbrev pub join_counts : (o : Operator) (s : Size) (f : List Lexeme) → IsJoinTable o s f
+    → List TokenCounts
+join_counts o s f h =
+    let first = h.2.2 in
+    let second = first.8.2 in
+    let made = second.8.2 in
+    plain ∷ plain ∷ plain ∷ plain ∷ plain ∷ plain ∷ plain
+    ∷ where_counts made.8.0 made.2 made.4 made.8.2
+
+-- ADD COLUMN name AS, the expression, INTO and a name
+abbrev pub add_counts : (o : Operator) (s : Size) (f : List Lexeme) → IsAddColumn o s f
+    → List TokenCounts
+add_counts o s f h =
+    let named = h.2.2 in
+    let value = named.8.2 in
+    plain ∷ plain ∷ plain ∷ plain ∷ (expr_counts false value.0 value.1 value.3 value.7 ++ plain
+    ∷ plain ∷ [])
+
+-- by the production, in their order
+abbrev pub operator_counts : (o : Operator) (s : Size) (f : List Lexeme) → IsOperator o s f
+    → List TokenCounts
+operator_counts o s f (inl h) = uncounted f
+operator_counts o s f (inr (inl h)) = uncounted f
+operator_counts o s f (inr (inr (inl h))) = uncounted f
+operator_counts o s f (inr (inr (inr (inl h)))) = uncounted f
+operator_counts o s f (inr (inr (inr (inr (inl h))))) = uncounted f
+operator_counts o s f (inr (inr (inr (inr (inr (inl h)))))) = uncounted f
+operator_counts o s f (inr (inr (inr (inr (inr (inr (inl h))))))) = partition_counts o s f h
+operator_counts o s f (inr (inr (inr (inr (inr (inr (inr (inl h)))))))) = uncounted f
+operator_counts o s f (inr (inr (inr (inr (inr (inr (inr (inr (inl h))))))))) = join_counts o s f h
+operator_counts o s f (inr (inr (inr (inr (inr (inr (inr (inr (inr (inl h)))))))))) =
+    add_counts o s f h
+operator_counts o s f (inr (inr (inr (inr (inr (inr (inr (inr (inr (inr (inl h))))))))))) =
+    uncounted f
+operator_counts o s f (inr (inr (inr (inr (inr (inr (inr (inr (inr (inr (inr h))))))))))) =
+    uncounted f
+
+-- at which of them a count passes its limit
+abbrev pub operator_crossings : Crossing IsOperator
+operator_crossings = count_crossing IsOperator operator_counts

@@ -1,8 +1,0 @@
-use Rattle.std.proofs.Common.{◌∙◌}
-use Rattle.smo_schemas.proofs.PairedColumns.{kept_named}
-use Rattle.smo_schemas.proofs.splitting.columns_named.Goals as goal
-
-pub loop-column-preserved : goal.loop-column-preserved
-loop-column-preserved c =
-    c.in_ok-push_named.ensures
-    ∙ kept_named c.args.names.now c.loop-column.kept.items c.args.columns.now c.loop-column.column-index c.column-item.result c.loop-column-test.true c.column-item.is c.loop-column.invariant

@@ -1,0 +1,14 @@
+use Rattle.std.proofs.Common.{◌≡◌, ◌<◌, ◌++◌, ℕ, List, drop, get_or}
+use Rattle.std.specs.List.{flat_map}
+use Rattle.table_histories.specs.Store.{Cell}
+use Rattle.command_spelling.specs.Spelling.{list_bytes}
+use Rattle.image_spelling.specs.Spelling.{cell_bytes}
+use Rattle.store_image.specs.ImageIn.{ColumnHolds}
+use Rattle.store_image.proofs.image_of_store.put_columns.Given as goal
+
+abbrev pub invariant-loop-column : goal.invariant-loop-column
+invariant-loop-column g l = record {
+  written : l.out.items ++ flat_map (list_bytes 8 cell_bytes) (drop l.column l.store.cells)
+      ≡ l.initial.out.items ++ flat_map (list_bytes 8 cell_bytes) l.store.cells;
+  holds : (k : ℕ) → (d : List Cell) → k < l.column → ColumnHolds (get_or l.store.cells k d);
+}

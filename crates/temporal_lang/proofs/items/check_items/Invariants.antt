@@ -1,8 +1,0 @@
-use Rattle.std.proofs.Common.{◌≡◌, take, drop}
-use Rattle.smo_meaning.specs.First.{first_refusal}
-use Rattle.temporal_lang.specs.Branches.{aliases_of}
-use Rattle.temporal_lang.specs.Checking.{item_tests, items_behind}
-use Rattle.temporal_lang.proofs.items.check_items.Given as goal
-
-abbrev pub invariant-loop-i : goal.invariant-loop-i
-invariant-loop-i l = first_refusal (item_tests l.schema l.from) ≡ first_refusal (items_behind l.schema (aliases_of (take l.i l.from)) (drop l.i l.from))

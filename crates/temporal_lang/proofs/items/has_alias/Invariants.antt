@@ -1,7 +1,0 @@
-use Rattle.std.proofs.Common.{◌≡◌, drop}
-use Rattle.smo_meaning.specs.Preconditions.{among}
-use Rattle.temporal_lang.specs.Branches.{aliases_of}
-use Rattle.temporal_lang.proofs.items.has_alias.Given as goal
-
-abbrev pub invariant-loop-other : goal.invariant-loop-other
-invariant-loop-other l = among l.alias (aliases_of l.from) ≡ among l.alias (aliases_of (drop l.other-index l.from))

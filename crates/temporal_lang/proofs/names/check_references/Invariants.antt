@@ -1,9 +1,0 @@
-use Rattle.std.proofs.Common.{◌≡◌, map, drop}
-use Rattle.smo_meaning.specs.First.{first_refusal}
-use Rattle.temporal_lang.specs.Atoms.{sources_of}
-use Rattle.temporal_lang.specs.Checking.{reference_test}
-use Rattle.cond_expr.specs.References.{lent}
-use Rattle.temporal_lang.proofs.names.check_references.Given as goal
-
-abbrev pub invariant-loop-reference : goal.invariant-loop-reference
-invariant-loop-reference l = first_refusal (map (reference_test (sources_of l.schema l.from)) (lent l.references)) ≡ first_refusal (map (reference_test (sources_of l.schema l.from)) (lent (drop l.reference-index l.references)))

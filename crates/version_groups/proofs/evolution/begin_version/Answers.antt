@@ -1,0 +1,57 @@
+use Rattle.std.proofs.Common.{sym, subst}
+use Rattle.std.proofs.lemmas.Result.{IfOk-weaker}
+use Rattle.smo_types.specs.Operators.{operator_of}
+use Rattle.smo_meaning.specs.After.{IsValid}
+use Rattle.version_groups.specs.MadeRows.{made_rows}
+use Rattle.version_groups.specs.Places.{at_places}
+use Rattle.version_groups.proofs.NextTables.{fit_after, others_after, next_evolved}
+use Rattle.version_groups.proofs.evolution.begin_version.Goals as goal
+
+pub carry_rows-requires-clause-stored : goal.carry_rows-requires-clause-stored
+carry_rows-requires-clause-stored c = (
+  c.args.stamp,
+  c.requires.valid,
+  c.requires.stored.0,
+  c.requires.stored.1,
+  c.requires.stored.2,
+)
+
+pub next_tables-requires-clause-schema : goal.next_tables-requires-clause-schema
+next_tables-requires-clause-schema c =
+    subst IsValid (sym c.requires.next) (c.next_schema_is_valid.ensures c.args.before.now
+    (operator_of c.args.op.now) c.requires.schema c.requires.accepted)
+
+pub next_tables-requires-clause-relations : goal.next_tables-requires-clause-relations
+next_tables-requires-clause-relations c =
+    let it = made_rows c.made.result c.in_ok-rows.rows in
+    let h = c.requires.stored in
+    fit_after c.args.before.now (operator_of c.args.op.now) h.0 c.args.stamp
+    (at_places c.args.tables.now c.args.places.now) c.requires.schema.schema c.requires.accepted
+    h.1 h.2 it
+    (c.made.ensures.names c.args.before.now) (c.made.ensures.second c.args.before.now)
+    (c.in_ok-rows.ensures c.args.stamp c.requires.valid h.0 h.1 h.2) c.args.next.now
+    c.requires.next
+
+pub next_tables-requires-clause-others : goal.next_tables-requires-clause-others
+next_tables-requires-clause-others c =
+    let it = made_rows c.made.result c.in_ok-rows.rows in
+    let h = c.requires.stored in
+    others_after c.args.before.now (operator_of c.args.op.now) h.0 c.args.stamp
+    (at_places c.args.tables.now c.args.places.now) c.requires.schema.schema c.requires.accepted
+    h.1 h.2 it
+    (c.made.ensures.names c.args.before.now) (c.made.ensures.second c.args.before.now)
+    (c.in_ok-rows.ensures c.args.stamp c.requires.valid h.0 h.1 h.2) c.args.next.now
+    c.requires.next
+
+pub returns : goal.returns
+returns c = λ database whole stored.
+    let it = made_rows c.made.result c.in_ok-rows.rows in
+    let group = at_places c.args.tables.now c.args.places.now in
+    IfOk-weaker c.next_tables.result _ _
+    (λ t h. next_evolved c.args.before.now (operator_of c.args.op.now) database c.args.stamp group
+    c.requires.schema.schema c.requires.accepted whole stored it
+    (c.made.ensures.names c.args.before.now) (c.made.ensures.second c.args.before.now)
+    (c.in_ok-rows.ensures c.args.stamp c.requires.valid database whole stored) c.args.next.now
+    c.requires.next
+    c.args.places.now c.args.number c.args.tables.now t.begun.items t.places.items h)
+    c.next_tables.ensures

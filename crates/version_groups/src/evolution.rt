@@ -1,0 +1,383 @@
+//! The next version after an operator, and its stored tables.
+
+ghost use Rattle.std.specs.Prelude.{◌≡◌, ◌+◌, ◌<◌, ◌≤◌, ◌++◌, ◌∷◌, [], ℕ, List, length, false};
+ghost use Rattle.std.specs.Prelude.{IfOk, OnOk, None};
+ghost use Rattle.std.specs.Option.{option_copied};
+ghost use Rattle.std.specs.FinMap.{get};
+ghost use Rattle.relations.specs.Sets.{Ascends};
+ghost use Rattle.relations.specs.Spans.{forever};
+ghost use Rattle.prima_base.specs.Order.{bytes_cmp};
+ghost use Rattle.prima_base.specs.Columns.{AreColumns, IsRelation};
+ghost use Rattle.schema_catalog.specs.Databases.{Database, IsDatabase};
+ghost use Rattle.history_store.specs.Store.{AllBefore};
+ghost use Rattle.smo_types.specs.Operators.{operator_of, operators_of};
+ghost use Rattle.smo_meaning.specs.After.{op_fault, schema_after, carried, IsValid, HasFewNodes};
+ghost use Rattle.smo_meaning.specs.Effects.{rows_under};
+ghost use Rattle.smo_types.specs.Commands.{version_of};
+ghost use Rattle.smo_meaning.specs.OperatorTable.{line, made_names};
+ghost use Rattle.smo_meaning.specs.Touching.{makes};
+ghost use Rattle.smo_maps.specs.Carrying.{Has};
+ghost use Rattle.smo_meaning.specs.OneRow.{Relation};
+ghost use Rattle.version_groups.specs.Groups.{stored_as, names_of};
+ghost use Rattle.version_groups.specs.Places.{at_places, AreWithin};
+ghost use Rattle.version_groups.specs.declared.made_table.MadeTable.{MadeTable as Stored};
+ghost use Rattle.version_groups.specs.Becoming.{Begins};
+ghost use Rattle.version_groups.specs.Sizes.{BeginsWith};
+ghost use Rattle.version_groups.specs.Standing.{AreStored, is_name, is_made, next_rows, FitNext};
+ghost use Rattle.version_groups.specs.Standing.{IsStoredBefore, OthersStay};
+ghost use Rattle.version_groups.specs.MadeRows.{made_rows};
+ghost use Rattle.version_groups.specs.Evolving.{AreEarlier, rows_named, AreNext, IsNextTable};
+ghost use Rattle.version_groups.specs.Evolving.{IsBegun, Comes, IsEvolved};
+
+use crate::made_table::{MadeTable, find_stored, find_table};
+use history_store::StoredTable;
+use prima_base::{Name, NoMemory, Row, same_name};
+use schema_catalog::{Schema, Table};
+use smo_maps::{Carried, carry};
+use smo_ops::{Made, Op, OpFault, Version, after, made, made_of, next_schema_is_valid};
+use std::alloc::Global;
+
+/// Tables that begin, and the places of a version's own among all that are stored and those.
+#[derive(Drop)]
+pub(crate) struct NextTables {
+    pub(crate) begun: Vec<MadeTable>,
+    pub(crate) places: Vec<usize>,
+}
+
+/// The next version, and its tables.
+#[derive(Drop)]
+pub(crate) struct Evolved {
+    pub(crate) version: Version,
+    pub(crate) tables: NextTables,
+}
+
+// The rows that are stored under the name now; none where there is no such table.
+fn current_rows(
+    alloc: Global,
+    tables: &[MadeTable],
+    places: &[usize],
+    name: Option<&Name>,
+) -> Result<Vec<Row>, NoMemory>
+    ensures { (stamp : ℕ) → stamp < forever → AreEarlier stamp (at_places tables.now places.now)
+        → IfOk result (λ rows. rows.items ≡ rows_named stamp (option_copied name.entry)
+        (at_places tables.now places.now)) }
+{
+    let Some(name) = name else {
+        return Ok(Vec::new(alloc));
+    };
+    match find_stored(tables, places, name) {
+        Some(store) => store.current(),
+        None => Ok(Vec::new(alloc)),
+    }
+}
+
+// The schema after an operator whose preconditions hold.
+fn next_schema(alloc: Global, before: &Schema, op: &Op) -> Result<Schema, NoMemory>
+    requires valid { IsValid before.now }
+    requires accepted { op_fault before.now (operator_of op.now) ≡ None }
+    requires few { HasFewNodes (operator_of op.now) }
+    ensures { IfOk result (λ next. next ≡ schema_after before.now (operator_of op.now)) }
+{
+    match after(alloc, before, op) {
+        Ok(next) => Ok(next),
+        Err(OpFault::Refused(_)) => unreachable!(),
+        Err(OpFault::NoMemory) => Err(NoMemory),
+    }
+}
+
+// A table with these rows from the stamp on, whose lifeline begins with a version.
+fn begin_table(
+    alloc: Global,
+    version: u32,
+    table: &Table,
+    stamp: u64,
+    rows: &[Row],
+) -> Result<MadeTable, NoMemory>
+    requires valid { stamp < forever }
+    requires relation { IsRelation table.now.1 rows.now }
+    ensures begins { IfOk result (λ t. Begins table.now.1 stamp rows.now t.store) }
+    ensures size { IfOk result (λ t. BeginsWith version stamp (λ name. rows.now) table.now t) }
+{
+    Ok(MadeTable {
+        name: table.name().copy()?,
+        first: version,
+        last: None,
+        store: StoredTable::new(alloc, table.columns(), stamp, rows)?,
+    })
+}
+
+// Whether the name is this one.
+fn is_name(named: Option<&Name>, name: &Name) -> bool
+    ensures { result ≡ is_name (option_copied named.entry) name.now }
+{
+    match named {
+        Some(named) => same_name(named, name),
+        None => false,
+    }
+}
+
+/// The place of a table that begins with a version, after all that are stored and those that have
+/// begun. The one error is `NoMemory`, where memory runs out.
+pub(crate) fn put_begun(
+    stored: usize,
+    table: MadeTable,
+    begun: &mut Vec<MadeTable>,
+) -> Result<usize, NoMemory>
+    ensures place { IfOk result (λ p. p ≡ stored + length begun.old.items) }
+    ensures grown { OnOk result (begun.new.items ≡ begun.old.items ++ table ∷ []) }
+    ensures there { IfOk result (λ p. p < stored + length begun.new.items) }
+{
+    // There is no memory for so many tables that it would not fit.
+    let Some(place) = stored.checked_add(begun.len()) else {
+        return Err(NoMemory);
+    };
+    begun.push(table)?;
+    Ok(place)
+}
+
+// A new table begins with a version, after those that have begun.
+fn begin_after(
+    alloc: Global,
+    stored: usize,
+    version: u32,
+    table: &Table,
+    stamp: u64,
+    rows: &[Row],
+    begun: &mut Vec<MadeTable>,
+) -> Result<usize, NoMemory>
+    requires valid { stamp < forever }
+    requires relation { IsRelation table.now.1 rows.now }
+    ensures next { (tables : List Stored) → stored ≡ length tables
+        → IfOk result (λ p. IsNextTable tables begun.old.items begun.new.items p table.now.0
+        (Begins table.now.1 stamp rows.now)) }
+    ensures begun { (tables : List Stored) → stored ≡ length tables
+        → IfOk result (λ p. IsBegun tables begun.old.items begun.new.items p
+        (BeginsWith version stamp (λ name. rows.now) table.now)) }
+    ensures there { IfOk result (λ p. p < stored + length begun.new.items) }
+{
+    let made = begin_table(alloc, version, table, stamp, rows)?;
+    let place = put_begun(stored, made, begun)?;
+    Ok(place)
+}
+
+// The place of a table of the next version: a new one begins with the rows that were made for it,
+// and a table that is not made goes on.
+fn next_place(
+    alloc: Global,
+    tables: &[MadeTable],
+    places: &[usize],
+    names: Made<'_>,
+    rows: &Carried,
+    version: u32,
+    table: &Table,
+    stamp: u64,
+    begun: &mut Vec<MadeTable>,
+) -> Result<usize, NoMemory>
+    requires valid { stamp < forever }
+    requires relation { IsRelation table.now.1
+        (next_rows (made_rows names rows.now) stamp (at_places tables.now places.now) table.now.0) }
+    requires others { is_name (option_copied names.first) table.now.0 ≡ false
+        → is_name (option_copied names.second) table.now.0 ≡ false
+        → IsStoredBefore stamp table.now.1 (stored_as table.now.0 (at_places tables.now places.now)) }
+    ensures next { IfOk result (λ p. IsNextTable tables.now begun.old.items begun.new.items p
+        table.now.0
+        (Begins table.now.1 stamp (next_rows (made_rows names.entry rows.now) stamp
+        (at_places tables.now places.now) table.now.0))) }
+    ensures comes { IfOk result (λ p. Comes (is_made (made_rows names.entry rows.now) table.now.0)
+        tables.now begun.old.items begun.new.items places.now p table.now.0
+        (BeginsWith version stamp (λ name. next_rows (made_rows names.entry rows.now) stamp
+        (at_places tables.now places.now) table.now.0) table.now)) }
+    ensures there { IfOk result (λ p. p < length tables.now + length begun.new.items) }
+{
+    if is_name(names.first, table.name()) {
+        return begin_after(
+            alloc,
+            tables.len(),
+            version,
+            table,
+            stamp,
+            &rows.first,
+            begun,
+        );
+    }
+    if is_name(names.second, table.name()) {
+        return begin_after(
+            alloc,
+            tables.len(),
+            version,
+            table,
+            stamp,
+            &rows.second,
+            begun,
+        );
+    }
+    match find_table(tables, places, table.name()) {
+        Some((place, _)) => Ok(place),
+        // A table that is not made is stored.
+        None => unreachable!(),
+    }
+}
+
+// The tables of the next version, in the order of their names: those that are made begin, and the
+// others go on.
+fn next_tables(
+    alloc: Global,
+    version: u32,
+    next: &Schema,
+    tables: &[MadeTable],
+    places: &[usize],
+    names: Made<'_>,
+    rows: &Carried,
+    stamp: u64,
+) -> Result<NextTables, NoMemory>
+    requires valid { stamp < forever }
+    requires schema { IsValid next.now }
+    requires there { AreWithin places.now (length tables.now) }
+    requires ordered { Ascends bytes_cmp (names_of (at_places tables.now places.now)) }
+    requires relations { FitNext next.now (made_rows names rows.now) stamp
+        (at_places tables.now places.now) }
+    requires others { OthersStay next.now (made_rows names rows.now) stamp
+        (at_places tables.now places.now) }
+    ensures { IfOk result (λ t. AreNext tables.now places.now version stamp
+        (is_made (made_rows names.entry rows.now))
+        (next_rows (made_rows names.entry rows.now) stamp (at_places tables.now places.now))
+        next.now t.begun.items t.places.items) }
+{
+    let mut begun = Vec::new(alloc);
+    let mut own = Vec::with_capacity(alloc, next.len())?;
+    for i in 0..next.len() as u32 {
+        let Some(table) = next.at(i) else {
+            unreachable!();
+        };
+        let place = next_place(
+            alloc, tables, places, names, rows, version, table, stamp, &mut begun,
+        )?;
+        own.push(place)?;
+    }
+    Ok(NextTables { begun, places: own })
+}
+
+// Equal operators.
+fn copy_operators(alloc: Global, ops: &[Op]) -> Result<Vec<Op>, NoMemory>
+    ensures { IfOk result (λ v. operators_of v.items ≡ operators_of ops.now) }
+{
+    let mut copies = Vec::with_capacity(alloc, ops.len())?;
+    for op in ops {
+        copies.push(op.copy(alloc)?)?;
+    }
+    Ok(copies)
+}
+
+// The rows that the operator makes of those that are stored now.
+fn carry_rows(
+    alloc: Global,
+    before: &Schema,
+    tables: &[MadeTable],
+    places: &[usize],
+    op: &Op,
+) -> Result<Carried, NoMemory>
+    requires schema { IsValid before.now }
+    requires accepted { op_fault before.now (operator_of op.now) ≡ None }
+    requires stored { (stamp : ℕ) × (stamp < forever) × (database : Database)
+        × IsDatabase before.now database × AreStored before.now database stamp
+        (at_places tables.now places.now) }
+    ensures { (stamp : ℕ) → stamp < forever → (database : Database) → IsDatabase before.now database
+        → AreStored before.now database stamp (at_places tables.now places.now)
+        → IfOk result (λ c. Has (made_names (line before.now (operator_of op.now)).made)
+        (carried before.now (operator_of op.now) database) c.first.items c.second.items) }
+{
+    let given = made_of(op);
+    let first = current_rows(alloc, tables, places, given.first)?;
+    let second = current_rows(alloc, tables, places, given.second)?;
+    carry(alloc, op, before, &first, &second)
+}
+
+// The stored tables of the next version: the made ones with the rows that are carried over the
+// operator, the others as they stand.
+fn begin_version(
+    alloc: Global,
+    number: u32,
+    before: &Schema,
+    next: &Schema,
+    tables: &[MadeTable],
+    places: &[usize],
+    stamp: u64,
+    op: &Op,
+) -> Result<NextTables, NoMemory>
+    requires schema { IsValid before.now }
+    requires accepted { op_fault before.now (operator_of op.now) ≡ None }
+    requires next { next.now ≡ schema_after before.now (operator_of op.now) }
+    requires there { AreWithin places.now (length tables.now) }
+    requires ordered { Ascends bytes_cmp (names_of (at_places tables.now places.now)) }
+    requires valid { stamp < forever }
+    requires stored { (database : Database) × IsDatabase before.now database
+        × AreStored before.now database stamp (at_places tables.now places.now) }
+    ensures { (database : Database) → IsDatabase before.now database
+        → AreStored before.now database stamp (at_places tables.now places.now)
+        → IfOk result (λ t. AreNext tables.now places.now number stamp
+        (makes before.now (operator_of op.now))
+        (λ name. rows_under (get (carried before.now (operator_of op.now) database) name)) next.now
+        t.begun.items t.places.items) }
+{
+    next_schema_is_valid();
+    let rows = carry_rows(alloc, before, tables, places, op)?;
+    next_tables(alloc, number, next, tables, places, made(op), &rows, stamp)
+}
+
+// The version that the operator makes, with copies of it and of its inverse.
+fn make_version(
+    alloc: Global,
+    stamp: u64,
+    op: &Op,
+    inverse: &[Op],
+    schema: Schema,
+) -> Result<Version, NoMemory>
+    ensures { IfOk result (λ v. version_of v
+        ≡ record {
+          stamp = stamp;
+          op = operator_of op.now;
+          inverse = operators_of inverse.now;
+          tables = schema;
+        }) }
+{
+    Ok(Version {
+        stamp,
+        op: op.copy(alloc)?,
+        inverse: copy_operators(alloc, inverse)?,
+        schema,
+    })
+}
+
+/// The version of this number that the operator makes of this schema at the stamp, and its stored
+/// tables: the made ones with the rows that are carried over the operator, whose lifelines begin
+/// with it, the others as they stand. It costs a copy of the operator's inputs, and of what it
+/// makes. The one error is `NoMemory`, where memory runs out.
+pub(crate) fn prepare_version(
+    alloc: Global,
+    number: u32,
+    before: &Schema,
+    tables: &[MadeTable],
+    places: &[usize],
+    stamp: u64,
+    op: &Op,
+    inverse: &[Op],
+) -> Result<Evolved, NoMemory>
+    requires schema { IsValid before.now }
+    requires accepted { op_fault before.now (operator_of op.now) ≡ None }
+    requires few { HasFewNodes (operator_of op.now) }
+    requires there { AreWithin places.now (length tables.now) }
+    requires ordered { Ascends bytes_cmp (names_of (at_places tables.now places.now)) }
+    requires valid { stamp < forever }
+    requires stored { (database : Database) × IsDatabase before.now database
+        × AreStored before.now database stamp (at_places tables.now places.now) }
+    ensures { (database : Database) → IsDatabase before.now database
+        → AreStored before.now database stamp (at_places tables.now places.now)
+        → IfOk result (λ e. IsEvolved tables.now places.now number before.now database stamp
+        (operator_of op.now) (operators_of inverse.now) (version_of e.version)
+        e.tables.begun.items e.tables.places.items) }
+{
+    let schema = next_schema(alloc, before, op)?;
+    let tables = begin_version(alloc, number, before, &schema, tables, places, stamp, op)?;
+    let version = make_version(alloc, stamp, op, inverse, schema)?;
+    Ok(Evolved { version, tables })
+}
