@@ -1,6 +1,6 @@
 pub mod Doubling
 pub mod Gathered
 pub mod Listed
-pub mod TablesLeft
+pub mod TablesBefore
 mod Worked
 mod WorkedSizes

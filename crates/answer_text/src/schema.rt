@@ -27,23 +27,14 @@ fn add_table(lines: &mut Vec<u8>, table: &Table) -> Result<(), NoMemory>
     put(lines, b"\n")
 }
 
-// The lines of the tables from this place on. There is no memory for more tables than a place can
-// number.
-#[tactic(auto, using(crate::proofs::TablesLeft::with_one))]
-fn add_tables(lines: &mut Vec<u8>, schema: &Schema, at: u32) -> Result<(), NoMemory>
-    ensures { OnOk result (lines.new.items ≡ lines.old.items
-        ++ tables_text (drop at (entries schema.now))) }
+// The lines of all tables.
+fn add_tables(lines: &mut Vec<u8>, schema: &Schema) -> Result<(), NoMemory>
+    ensures { OnOk result (lines.new.items ≡ lines.old.items ++ tables_text (entries schema.now)) }
 {
-    match schema.at(at) {
-        None => Ok(()),
-        Some(table) => {
-            let Some(next) = at.checked_add(1) else {
-                return Err(NoMemory);
-            };
-            add_table(lines, table)?;
-            add_tables(lines, schema, next)
-        }
+    for place in 0..schema.len() {
+        add_table(lines, schema.at(place))?;
     }
+    Ok(())
 }
 
 // The lines of all tables, and then how many they are.
@@ -51,7 +42,7 @@ fn schema_lines(alloc: Global, schema: &Schema) -> Result<Vec<u8>, NoMemory>
     ensures { IfOk result (λ lines. lines.items ≡ schema_text schema.now) }
 {
     let mut lines = Vec::new(alloc);
-    add_tables(&mut lines, schema, 0)?;
+    add_tables(&mut lines, schema)?;
     add_count(&mut lines, schema.len() as u64)?;
     Ok(lines)
 }

@@ -42,11 +42,7 @@ fn period_of(start: u64, end: u64) -> Period
     requires { start < end }
     ensures { result ≡ record { start = start; end = end } }
 {
-    let Some(period) = Period::new(start, end) else {
-        // The start is before the end.
-        unreachable!();
-    };
-    period
+    Period::between(start, end)
 }
 
 ghost use Rattle.std.specs.Prelude.{◌≡◌, ◌<◌, length, slice_index_or, [], ◌∷◌, IfSome, option_map};

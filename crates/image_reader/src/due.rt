@@ -83,15 +83,8 @@ fn begin_lines<'a>(
         ≡ map line_seen lines.old.items ++ map (line_begun version)
         (filter (λ t. is_one_of names.entry t.0) (entries schema.now))) }
 {
-    // No machine has memory for so many tables that this is none.
-    let Ok(count) = u32::try_from(schema.len()) else {
-        return Err(NoMemory);
-    };
-    for i in 0..count {
-        let Some(table) = schema.at(i) else {
-            unreachable!();
-        };
-        begin_line(lines, table, names, version)?;
+    for place in 0..schema.len() {
+        begin_line(lines, schema.at(place), names, version)?;
     }
     Ok(())
 }

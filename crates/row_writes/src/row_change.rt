@@ -47,10 +47,7 @@ fn ended(period: Period, moment: u64) -> Period
     requires { period.start < moment }
     ensures { result ≡ ended_at moment period }
 {
-    let Some(ended) = Period::new(period.start(), moment) else {
-        unreachable!();
-    };
-    ended
+    Period::between(period.start(), moment)
 }
 
 /// Ends the keys with these ids.

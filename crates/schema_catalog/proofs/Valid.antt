@@ -1,7 +1,7 @@
 -- What a list of tables stands for, and the databases of a schema.
 use Rattle.std.proofs.Common.{◌≡◌, ◌<◌, ◌≤◌, ℕ, true, false, List, [], ◌∷◌, length, refl, sym, ap}
 use Rattle.std.proofs.Common.{subst, ◌∙◌, get_or, set}
-use Rattle.std.specs.Prelude.{T, cond, Option, Some, None, Ok, Err, MatchOption, slice_get}
+use Rattle.std.specs.Prelude.{T, cond, Option, Some, None, Ok, Err, slice_get}
 use Rattle.std.specs.Ordering.{eq_by_cmp}
 use Rattle.std.specs.List.{insert as insert_at}
 use Rattle.std.specs.declared.cmp.Ordering.TheVariants.{Less, Equal, Greater}
@@ -116,15 +116,16 @@ pub count_is : (es : List NamedColumns) → T (is_sorted bytes_cmp es)
 count_is es s = len-entries (from_sorted {R = bytes_cmp} es)
     ∙ ap length (entries-from_sorted bytes_cmp es s)
 
-pub table_at : {A : Type 0} (now : A → NamedColumns) (es : List NamedColumns) (i : ℕ) (r : Option A)
-    → T (is_sorted bytes_cmp es)
-    → MatchOption r (length es ≤ i) (λ x. (i < length es)
-    × ((d : NamedColumns) → now x ≡ get_or es i d))
-    → MatchOption r (len (from_sorted {R = bytes_cmp} es) ≤ i)
-    (λ t. slice_get (entries (from_sorted {R = bytes_cmp} es)) i ≡ Some (now t))
-table_at now es i None s h = rw (count_is es s) h
-table_at now es i (Some x) s h = rw (entries-from_sorted bytes_cmp es s)
-    (slice_get-get_or es i (now x) h.0 ∙ ap Some (sym (h.1 (now x))))
+-- the place of a table is one of the list
+pub place_there : (es : List NamedColumns) (i : ℕ) → T (is_sorted bytes_cmp es)
+    → i < len (from_sorted {R = bytes_cmp} es) → i < length es
+place_there es i s h = subst (λ n. i < n) (count_is es s) h
+
+pub table_at : (es : List NamedColumns) (i : ℕ) (t : NamedColumns) → T (is_sorted bytes_cmp es)
+    → i < length es → t ≡ get_or es i t
+    → slice_get (entries (from_sorted {R = bytes_cmp} es)) i ≡ Some t
+table_at es i t s h e = rw (entries-from_sorted bytes_cmp es s)
+    (slice_get-get_or es i t h ∙ ap Some (sym e))
 
 pub table_found : (n : List ℕ) (es : List NamedColumns) (i : ℕ) (t : NamedColumns)
     → T (is_sorted bytes_cmp es) → IsPlace es n (Ok i) → t ≡ get_or es i t

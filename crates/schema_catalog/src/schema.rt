@@ -28,7 +28,7 @@ impl Model for Schema {
 }
 
 impl Schema {
-    ghost use Rattle.std.specs.Prelude.{◌≡◌, ◌≤◌, Some, None, length, slice_get, MatchOption, IfOk};
+    ghost use Rattle.std.specs.Prelude.{◌≡◌, ◌<◌, Some, None, length, slice_get, MatchOption, IfOk};
     ghost use Rattle.std.specs.FinMap as map;
     ghost use Rattle.schema_catalog.specs.Tables.{IsSchema};
     ghost use Rattle.schema_catalog.specs.Places.{AreTablesOf};
@@ -63,17 +63,13 @@ impl Schema {
         }
     }
 
-    /// The table at this place, from 0, in the order of names: `None` exactly after the last. It
-    /// takes no memory.
-    pub fn at(&self, i: u32) -> Option<&Table>
-        ensures table { MatchOption result (map.len self.now ≤ i)
-            (λ t. slice_get (map.entries self.now) i ≡ Some t.now) }
+    /// The table at this place, from 0, in the order of names. It takes no memory.
+    pub fn at(&self, place: usize) -> &Table
+        requires there { place < map.len self.now }
+        ensures table { slice_get (map.entries self.now) place ≡ Some result.now }
         ensures valid { IsSchema self.now }
     {
-        match self.tables.get(i as usize) {
-            Some(shared) => Some(shared.table()),
-            None => None,
-        }
+        self.tables[place].table()
     }
 
     /// An equal schema. The one error is `NoMemory`, where memory runs out.

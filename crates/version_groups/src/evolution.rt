@@ -245,10 +245,8 @@ fn next_tables(
 {
     let mut begun = Vec::new(alloc);
     let mut own = Vec::with_capacity(alloc, next.len())?;
-    for i in 0..next.len() as u32 {
-        let Some(table) = next.at(i) else {
-            unreachable!();
-        };
+    for i in 0..next.len() {
+        let table = next.at(i);
         let place = next_place(
             alloc, tables, places, names, rows, version, table, stamp, &mut begun,
         )?;

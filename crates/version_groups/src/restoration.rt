@@ -130,10 +130,8 @@ pub(crate) fn restored_tables(
 {
     let mut begun = Vec::new(alloc);
     let mut own = Vec::with_capacity(alloc, next.len())?;
-    for i in 0..next.len() as u32 {
-        let Some(table) = next.at(i) else {
-            unreachable!();
-        };
+    for i in 0..next.len() {
+        let table = next.at(i);
         let place = restored_place(tables, places, names, version, table, stores, &mut begun)?;
         own.push(place)?;
     }

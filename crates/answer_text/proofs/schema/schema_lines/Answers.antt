@@ -1,4 +1,4 @@
-use Rattle.answer_text.proofs.TablesLeft.{whole_schema}
+use Rattle.answer_text.proofs.TablesBefore.{whole_schema}
 use Rattle.answer_text.proofs.schema.schema_lines.Goals as goal
 
 pub returns : goal.returns

@@ -10,28 +10,28 @@ use Rattle.image_reader.specs.Seen.{line_seen}
 use Rattle.image_reader.proofs.BegunLines.{begun_more}
 use Rattle.image_reader.proofs.due.begin_lines.Goals as goal
 
-pub loop-i-preserved : goal.loop-i-preserved
-loop-i-preserved c =
+pub loop-place-preserved : goal.loop-place-preserved
+loop-place-preserved c =
     let es = entries c.args.schema.now in
     let begun = map (line_begun c.args.version)
-    (filter (λ (e : List ℕ × List Column). is_one_of c.args.names e.0) (take c.loop-i.i es)) in
+    (filter (λ (e : List ℕ × List Column). is_one_of c.args.names e.0)
+    (take c.loop-place.place es)) in
     c.in_ok-begin_line.ensures ∙ ap (λ l. l ++ begun_of (is_one_of c.args.names) c.args.version
-    c.in-Some.table.now) c.loop-i.invariant
+    c.at.result.now) c.loop-place.invariant
     ∙ append_assoc (map line_seen c.args.lines.now.items) begun
-    (begun_of (is_one_of c.args.names) c.args.version c.in-Some.table.now)
+    (begun_of (is_one_of c.args.names) c.args.version c.at.result.now)
     ∙ ap (λ l. map line_seen c.args.lines.now.items ++ l)
-    (begun_more (is_one_of c.args.names) c.args.version es c.loop-i.i c.in-Some.table.now
-    c.in-Some.ensures.table)
+    (begun_more (is_one_of c.args.names) c.args.version es c.loop-place.place c.at.result.now
+    c.at.ensures.table)
 
 pub returns : goal.returns
 returns c =
     let es = entries c.args.schema.now in
     let n = len-entries c.args.schema.now in
-    let k = c.len.ensures.count in
-    let j = c.in-Ok.ensures.1 in
-    let t = c.loop-i-test.false in
-    c.loop-i.invariant
+    let k = c.len-place-end.ensures.count in
+    let t = c.loop-place-test.false in
+    c.loop-place.invariant
     ∙ ap (λ l. map line_seen c.args.lines.now.items
     ++ map (line_begun c.args.version) (filter
     (λ (e : List ℕ × List Column). is_one_of c.args.names e.0) l))
-    (take_all c.loop-i.i es (omega (arith, n, k, j, t)))
+    (take_all c.loop-place.place es (omega (arith, n, k, t)))

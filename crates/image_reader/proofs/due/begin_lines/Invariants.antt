@@ -7,7 +7,7 @@ use Rattle.smo_schemas.specs.Names.{is_one_of}
 use Rattle.image_reader.specs.Seen.{line_seen}
 use Rattle.image_reader.proofs.due.begin_lines.Given as goal
 
-abbrev pub invariant-loop-i : goal.invariant-loop-i
-invariant-loop-i l = map line_seen l.lines.items ≡ map line_seen l.initial.lines.items
+abbrev pub invariant-loop-place : goal.invariant-loop-place
+invariant-loop-place l = map line_seen l.lines.items ≡ map line_seen l.initial.lines.items
     ++ map (line_begun l.version) (filter (λ (t : List ℕ × List Column). is_one_of l.names t.0)
-    (take l.i (entries l.schema)))
+    (take l.place (entries l.schema)))

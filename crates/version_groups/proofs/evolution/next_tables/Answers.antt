@@ -16,21 +16,21 @@ use Rattle.version_groups.proofs.evolution.next_tables.Goals as goal
 
 pub next_place-requires-clause-relation : goal.next_place-requires-clause-relation
 next_place-requires-clause-relation c =
-    c.requires.relations c.in-Some.table.now.0 c.in-Some.table.now.1
+    c.requires.relations c.at-table.result.now.0 c.at-table.result.now.1
     (listed_there (λ name columns store. Begins columns c.args.stamp [] store) c.args.next.now
-    c.loop-i.i c.in-Some.table.now c.in-Some.ensures.table)
+    c.loop-i.i c.at-table.result.now c.at-table.ensures.table)
 
 pub next_place-requires-clause-others : goal.next_place-requires-clause-others
 next_place-requires-clause-others c =
-    c.requires.others c.in-Some.table.now.0 c.in-Some.table.now.1
+    c.requires.others c.at-table.result.now.0 c.at-table.result.now.1
     (listed_there (λ name columns store. Begins columns c.args.stamp [] store) c.args.next.now
-    c.loop-i.i c.in-Some.table.now c.in-Some.ensures.table)
+    c.loop-i.i c.at-table.result.now c.at-table.ensures.table)
 
 pub loop-i-preserved : goal.loop-i-preserved
 loop-i-preserved c =
     let group = at_places c.args.tables.now c.args.places.now in
     let rows = next_rows (made_rows c.args.names c.args.rows.now) c.args.stamp group in
-    let table = c.in-Some.table.now in
+    let table = c.at-table.result.now in
     let has : Store → Type 0 = Begins table.1 c.args.stamp (rows table.0) in
     let made = is_made (made_rows c.args.names c.args.rows.now) in
     let h = c.in_ok-place.ensures.next in
@@ -39,7 +39,7 @@ loop-i-preserved c =
           (entries c.args.next.now) c.loop-i.i table
           (at_places (c.args.tables.now ++ c.loop-i.begun.items) c.loop-i.own.items)
           (at_places (c.args.tables.now ++ c.next_place.new.begun.items) c.push.new.self.items)
-          h.table c.in-Some.ensures.table c.loop-i.invariant.begun
+          h.table c.at-table.ensures.table c.loop-i.invariant.begun
           (placed_more c.args.tables.now c.loop-i.begun.items c.next_place.new.begun.items
           c.loop-i.own.items c.push.new.self.items c.in_ok-place.place table.0 has
           c.loop-i.invariant.there h c.in_ok-push.ensures.items) h.named h.has;
@@ -50,7 +50,7 @@ loop-i-preserved c =
           (BeginsWith c.args.version c.args.stamp rows) c.requires.there c.requires.ordered
           (entries c.args.next.now) c.loop-i.i table
           c.loop-i.begun.items c.next_place.new.begun.items c.loop-i.own.items c.push.new.self.items
-          c.in_ok-place.place c.in-Some.ensures.table c.loop-i.invariant.coming
+          c.in_ok-place.place c.at-table.ensures.table c.loop-i.invariant.coming
           (comes_under c.args.version c.args.stamp rows (made table.0) c.args.tables.now
           c.loop-i.begun.items c.next_place.new.begun.items c.args.places.now
           c.in_ok-place.place table c.in_ok-place.ensures.comes)

@@ -20,18 +20,18 @@ restored_place-requires-clause-due c =
     let es = entries c.args.next.now in (
       filter made (drop (c.loop-i.i + 1) es),
       due_now made (into_iter_items c.loop-i.stores) es
-          c.loop-i.i c.in-Some.table.now c.in-Some.ensures.table c.loop-i.invariant.due,
+          c.loop-i.i c.at-table.result.now c.at-table.ensures.table c.loop-i.invariant.due,
     )
 
 pub restored_place-requires-clause-others : goal.restored_place-requires-clause-others
 restored_place-requires-clause-others c =
-    c.requires.others c.in-Some.table.now.0 c.in-Some.table.now.1
-    (listed_there HasColumns c.args.next.now c.loop-i.i c.in-Some.table.now
-    c.in-Some.ensures.table)
+    c.requires.others c.at-table.result.now.0 c.at-table.result.now.1
+    (listed_there HasColumns c.args.next.now c.loop-i.i c.at-table.result.now
+    c.at-table.ensures.table)
 
 pub loop-i-preserved : goal.loop-i-preserved
 loop-i-preserved c =
-    let table = c.in-Some.table.now in
+    let table = c.at-table.result.now in
     let has = HasColumns table.0 table.1 in
     let made : List ℕ × List Column → Bool = λ e. is_one_of c.args.names e.0 in
     let es = entries c.args.next.now in
@@ -40,7 +40,7 @@ loop-i-preserved c =
       begun = next_begun HasColumns es c.loop-i.i table
           (at_places (c.args.tables.now ++ c.loop-i.begun.items) c.loop-i.own.items)
           (at_places (c.args.tables.now ++ c.restored_place.new.begun.items) c.push.new.self.items)
-          h.table c.in-Some.ensures.table c.loop-i.invariant.begun
+          h.table c.at-table.ensures.table c.loop-i.invariant.begun
           (placed_more c.args.tables.now c.loop-i.begun.items c.restored_place.new.begun.items
           c.loop-i.own.items c.push.new.self.items c.in_ok-place.place table.0 has
           c.loop-i.invariant.there h c.in_ok-push.ensures.items) h.named h.has;
@@ -50,12 +50,12 @@ loop-i-preserved c =
       coming = next_coming c.args.tables.now c.args.places.now (is_one_of c.args.names)
           (BeginsOver c.args.version) c.requires.there c.requires.ordered es c.loop-i.i table
           c.loop-i.begun.items c.restored_place.new.begun.items c.loop-i.own.items
-          c.push.new.self.items c.in_ok-place.place c.in-Some.ensures.table
+          c.push.new.self.items c.in_ok-place.place c.at-table.ensures.table
           c.loop-i.invariant.coming c.in_ok-place.ensures.comes
           c.in_ok-push.ensures.items;
       due = c.in_ok-place.ensures.due (filter made (drop (c.loop-i.i + 1) es))
           (due_now made (into_iter_items c.loop-i.stores) es c.loop-i.i table
-          c.in-Some.ensures.table c.loop-i.invariant.due);
+          c.at-table.ensures.table c.loop-i.invariant.due);
       taken = c.in_ok-place.ensures.taken ∙ c.loop-i.invariant.taken;
     }
 
