@@ -1,5 +1,5 @@
 -- The columns of some names, of which each is a column's, have just these names.
-use Rattle.std.proofs.Common.{◌≡◌, ℕ, Bool, true, false, cond, List, [], ◌∷◌, length, refl, sym, ap}
+use Rattle.std.proofs.Common.{◌≡◌, ℕ, suc, Bool, true, false, cond, List, [], ◌∷◌, length, refl, sym, ap}
 use Rattle.std.proofs.Common.{◌∙◌}
 use Rattle.std.specs.List.{filter}
 use Rattle.relations.specs.Sets.{Ascends}
@@ -50,7 +50,7 @@ names_left ns columns a b known =
 -- and are as many
 many_names : (columns : List Column) → length (names_of columns) ≡ length columns
 many_names [] = refl
-many_names (c ∷ columns) = ap (λ n. 1 + n) (many_names columns)
+many_names (c ∷ columns) = ap suc (many_names columns)
 
 pub as_many : (ns : List (List ℕ)) (columns : List Column) → names_of (named ns columns) ≡ ns
     → length (named ns columns) ≡ length ns

@@ -147,7 +147,7 @@ over_read [] end w h = absurd (no_prefix h.0 h.1 h.2 h.3)
     no_prefix [] x suffix e = cc
     no_prefix (y ∷ prefix) x suffix e = cc
 over_read (t ∷ tokens) end w h = let k = too_much (t ∷ tokens) w h in
-    ap (answered (t ∷ tokens) end) k.1
+    ap (answered (t ∷ tokens) end) k.2
 
 -- ---- of a text
 

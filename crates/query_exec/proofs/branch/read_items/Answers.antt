@@ -30,7 +30,7 @@ loop-item-init g c = record {
   read = λ past shows. subst (λ (xs : List Atom).
       AreRead past c.args.route.now (borrowed c.args.references.now) (test c.args.cond.now) 0 [] xs)
       (sym c.new-atoms.ensures.items) tt;
-  borrowed = λ branch h. (subst AtomsBorrowed (sym c.new-atoms.ensures.items) tt, h);
+  all_borrowed = λ branch h. (subst AtomsBorrowed (sym c.new-atoms.ensures.items) tt, h);
   count = λ branch alive h. owes_all c.args.groups.now (versions_in c.args.groups.now)
       (items_pieces (book_of (λ r. (goal.Rule-dyn g (r.vtable, r.value)).handles r.value)
       (λ r. (goal.Rule-dyn g (r.vtable, r.value)).answers r.value) c.args.book.now.rules.items)
@@ -79,8 +79,8 @@ loop-item-preserved g c =
           (subst (λ (j : ℕ). IsRead past c.args.route.now j x.0 (own_read j rs cd)
           c.in_ok-atom.atom) c.loop-item.invariant.place
           (c.in_ok-atom.ensures.atom past shows));
-      borrowed = λ branch h.
-          let before = c.loop-item.invariant.borrowed branch h in
+      all_borrowed = λ branch h.
+          let before = c.loop-item.invariant.all_borrowed branch h in
           let pieces = next_item (versions_in c.args.groups.now)
           (book_of (λ r. (goal.Rule-dyn g (r.vtable, r.value)).handles r.value)
           (λ r. (goal.Rule-dyn g (r.vtable, r.value)).answers r.value)
@@ -230,7 +230,7 @@ returns-clause-cost g c = λ branch alive h.
     (c.loop-item.invariant.count branch alive h)
 
 pub returns-clause-borrowed : goal.returns-clause-borrowed
-returns-clause-borrowed g c = λ branch h. (c.loop-item.invariant.borrowed branch h).0
+returns-clause-borrowed g c = λ branch h. (c.loop-item.invariant.all_borrowed branch h).0
 
 pub returns-clause-least : goal.returns-clause-least
 returns-clause-least g c = λ branch e h.

@@ -22,7 +22,7 @@ invariant-loop-item g l = record {
   read : (past : Past) → Represents l.groups past
       → AreRead past l.route (borrowed l.references) (test l.cond) 0 (take l.item-index l.from)
       l.atoms.items;
-  borrowed : (branch : ℕ) → NoneAliveComputes (versions_in l.groups)
+  all_borrowed : (branch : ℕ) → NoneAliveComputes (versions_in l.groups)
       (items_pieces (book_of (λ r. (goal.Rule-dyn g (r.vtable, r.value)).handles r.value)
       (λ r. (goal.Rule-dyn g (r.vtable, r.value)).answers r.value) l.book.rules.items)
       (versions_in l.groups) l.route.asked l.route.parts.items (borrowed l.references) (test l.cond)
