@@ -7,7 +7,7 @@ ghost use Rattle.disk_model.specs.Moments.{GoesOn};
 ghost use Rattle.smo_types.specs.Commands.{command_of};
 ghost use Rattle.smo_meaning.specs.Past.{Past};
 ghost use Rattle.command_spelling.specs.Valid.{IsCommand};
-ghost use Rattle.temporal_lang.specs.Queries.{query_of};
+ghost use Rattle.query_types.specs.Queries.{query_of};
 ghost use Rattle.rewrite.specs.Books.{meaning_of, EachOf};
 ghost use Rattle.journal.specs.Mounting.{IsNotSynced, KeepsFile};
 ghost use Rattle.journal.specs.Puts.{Puts, Acknowledges};

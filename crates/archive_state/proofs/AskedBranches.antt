@@ -10,8 +10,8 @@ use Rattle.cond_expr.specs.declared.expr.Whose.TheVariants.{Free, Alias, Atom}
 use Rattle.cond_expr.specs.Trees.{Tree, column, constant, length_of, joined, choose, fill}
 use Rattle.timed_choices.specs.Lending.{IsPlain, StaysBorrowed}
 use Rattle.plain_answers.specs.Branches.{PlainBranch}
-use Rattle.temporal_lang.specs.Atoms.{Source, to_atoms, sources_of, branch_with_atoms}
-use Rattle.temporal_lang.specs.Atoms.{branches_with_atoms}
+use Rattle.query_meaning.specs.Atoms.{Source, to_atoms, sources_of, branch_with_atoms}
+use Rattle.query_meaning.specs.Atoms.{branches_with_atoms}
 use Rattle.query_exec.specs.Borrowed.{AreBorrowedBy}
 
 still_plain : (sources : List Source) (t : Tree) → IsPlain t → IsPlain (fill (to_atoms sources) t)

@@ -17,14 +17,14 @@ use Rattle.smo_meaning.specs.Losses.{Loss}
 use Rattle.smo_meaning.specs.OneRow.{Row}
 use Rattle.smo_meaning.specs.Past.{Past, tables_of}
 use Rattle.smo_meaning.proofs.Firsts.{first_after, first_before, first_later, first_alone}
-use Rattle.temporal_lang.specs.Queries.{PlainQuery}
-use Rattle.temporal_lang.specs.Accepted.{no_way_back, loss_fault, version_fault, fault_of_query}
-use Rattle.temporal_lang.specs.Losing.{first_lost}
-use Rattle.temporal_lang.proofs.WayBackLaws.{no_way_back_is}
+use Rattle.query_types.specs.Queries.{PlainQuery}
+use Rattle.query_meaning.specs.Accepted.{no_way_back, loss_fault, version_fault, fault_of_query}
+use Rattle.query_meaning.specs.Losing.{first_lost}
+use Rattle.query_meaning.proofs.WayBackLaws.{no_way_back_is}
 use Rattle.answer_text.specs.declared.listing.Listing.{Listing}
 use Rattle.archive_state.specs.declared.fault.AskFault.{AskFault}
 use Rattle.archive_state.specs.Asking.{IsAsked, TellsWayBack}
-use Rattle.temporal_lang.specs.Checking.{excess_of, excess_fault, query_tests, query_fault}
+use Rattle.query_meaning.specs.Checking.{excess_of, excess_fault, query_tests, query_fault}
 
 module _ (past : Past) (query : PlainQuery) (few : excess_of query ≡ None)
     (there : query.version ≤ length past.versions) where

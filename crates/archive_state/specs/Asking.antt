@@ -10,16 +10,16 @@ use Rattle.piece_meaning.specs.Rules.{Book}
 use Rattle.smo_meaning.specs.Checks.{Fault}
 use Rattle.smo_meaning.specs.First.{first_refusal}
 use Rattle.smo_meaning.specs.Past.{Past, tables_of}
-use Rattle.temporal_lang.specs.declared.when.When.{When}
-use Rattle.temporal_lang.specs.declared.when.When.TheVariants.{Always, AsOf, During}
-use Rattle.temporal_lang.specs.declared.query.Query.{Query}
-use Rattle.temporal_lang.specs.Queries.{PlainQuery, query_of, IsLasting}
-use Rattle.temporal_lang.specs.Answers.{answer}
+use Rattle.query_types.specs.declared.when.When.{When}
+use Rattle.query_types.specs.declared.when.When.TheVariants.{Always, AsOf, During}
+use Rattle.query_types.specs.declared.query.Query.{Query}
+use Rattle.query_types.specs.Queries.{PlainQuery, query_of, IsLasting}
+use Rattle.query_meaning.specs.Answers.{answer}
 use Rattle.prima_base.specs.declared.refusal.OpKind.{OpKind}
 use Rattle.prima_base.specs.declared.refusal.Refusal.TheVariants.{NoInverse}
-use Rattle.temporal_lang.specs.Accepted.{fault_of_query, HasNoWayBack}
-use Rattle.temporal_lang.specs.Atoms.{with_atoms}
-use Rattle.temporal_lang.specs.Checking.{excess_of, query_tests}
+use Rattle.query_meaning.specs.Accepted.{fault_of_query, HasNoWayBack}
+use Rattle.query_meaning.specs.Atoms.{with_atoms}
+use Rattle.query_meaning.specs.Checking.{excess_of, query_tests}
 use Rattle.piece_texts.specs.ExplainedPieces.{PlainExplained, all_explained}
 use Rattle.piece_texts.specs.declared.explained.Explained.{Explained}
 use Rattle.query_exec.specs.QueryPieces.{ArePieces, living_pieces}

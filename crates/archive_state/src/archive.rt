@@ -67,7 +67,7 @@ impl ArchiveState {
     ghost use Rattle.smo_meaning.specs.Past.{Past, beginning, past_with};
     ghost use Rattle.version_groups.specs.Steps.{Prepares};
     ghost use Rattle.archive_state.specs.Standing.{RepresentsPast, RepresentsSome, archive_content};
-    ghost use Rattle.temporal_lang.specs.Queries.{query_of};
+    ghost use Rattle.query_types.specs.Queries.{query_of};
     ghost use Rattle.archive_state.specs.Committing.{Readies, IsDone};
     ghost use Rattle.rewrite.specs.Books.{meaning_of, EachOf};
     ghost use Rattle.piece_texts.specs.ExplainedPieces.{PlainExplained};

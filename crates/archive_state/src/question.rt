@@ -3,8 +3,8 @@
 ghost use Rattle.std.specs.Prelude.{◌≡◌, ◌≤◌, ◌+◌, List, MatchResult, None, IfOk};
 ghost use Rattle.smo_types.specs.Commands.{versions_of};
 ghost use Rattle.smo_meaning.specs.Past.{Past};
-ghost use Rattle.temporal_lang.specs.Accepted.{no_way_back, fault_of_query};
-ghost use Rattle.temporal_lang.specs.Queries.{query_of};
+ghost use Rattle.query_meaning.specs.Accepted.{no_way_back, fault_of_query};
+ghost use Rattle.query_types.specs.Queries.{query_of};
 ghost use Rattle.piece_texts.specs.ExplainedPieces.{PlainExplained};
 ghost use Rattle.query_exec.specs.Borrowed.{NoneComputes, AreBorrowedBy};
 ghost use Rattle.relations.specs.Sets.{In};

@@ -24,8 +24,8 @@ use Rattle.piece_ir.specs.Shown.{piece_of, pieces_of}
 use Rattle.piece_ir.specs.declared.piece.Piece.{Piece}
 use Rattle.piece_texts.specs.ExplainedPieces.{PlainExplained}
 use Rattle.period_split.specs.Splitting.{Part}
-use Rattle.temporal_lang.specs.Branches.{branch_of, branches_of}
-use Rattle.temporal_lang.specs.declared.branch.Branch.{Branch}
+use Rattle.query_types.specs.Branches.{branch_of, branches_of}
+use Rattle.query_types.specs.declared.branch.Branch.{Branch}
 use Rattle.query_exec.specs.declared.part_piece.PartPieces.{PartPieces}
 use Rattle.query_exec.specs.Borrowed.{ArePlain, ComputeNothing, NoneComputes, NoneAliveComputes}
 use Rattle.query_exec.specs.Borrowed.{AreBorrowedBy}

@@ -23,8 +23,8 @@ use Rattle.plain_answers.specs.Pushing.{pushed_reads}
 use Rattle.plain_answers.specs.Reading.{answers_read}
 use Rattle.plain_answers.proofs.ReadLaws.{same_plain}
 use Rattle.plain_answers.proofs.PushedParts.{is_pushed}
-use Rattle.temporal_lang.specs.Branches.{branch_of, branches_of}
-use Rattle.temporal_lang.specs.declared.branch.Branch.{Branch}
+use Rattle.query_types.specs.Branches.{branch_of, branches_of}
+use Rattle.query_types.specs.declared.branch.Branch.{Branch}
 use Rattle.query_pieces.proofs.Gatherings.{of_either, of_first, of_second}
 use Rattle.piece_meaning.specs.Rules.{Book}
 use Rattle.piece_texts.specs.ExplainedPieces.{PlainExplained}

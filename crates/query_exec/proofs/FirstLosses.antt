@@ -10,9 +10,9 @@ use Rattle.smo_types.specs.Commands.{PlainVersion, version_of}
 use Rattle.version_groups.specs.Groups.{Kept, versions_in}
 use Rattle.smo_meaning.specs.Losses.{Loss}
 use Rattle.smo_meaning.specs.Past.{Past, version_at}
-use Rattle.temporal_lang.specs.Queries.{PlainQuery, slice_of}
-use Rattle.temporal_lang.specs.Losing.{first_lost}
-use Rattle.temporal_lang.proofs.FirstLaws.{no_loss}
+use Rattle.query_types.specs.Queries.{PlainQuery, slice_of}
+use Rattle.query_meaning.specs.Losing.{first_lost}
+use Rattle.query_meaning.proofs.FirstLaws.{no_loss}
 use Rattle.query_pieces.specs.Piecewise.{loss_from, IsAskedOf}
 use Rattle.query_pieces.proofs.LeastLoss.{none_before, least_lost}
 use Rattle.period_split.specs.Splitting.{Part, AscendFrom, HasMoment, split_by}

@@ -41,9 +41,9 @@ use Rattle.rewrite_chains.specs.Beginnings.{IsQuestion, first_piece}
 use Rattle.rewrite_chains.specs.Chains.{unfolded_to}
 use Rattle.rewrite_chains.specs.Reading.{AreQuestions, Suffices}
 use Rattle.rewrite_chains.proofs.ReadMoments.{table_typed, table_valid}
-use Rattle.temporal_lang.specs.Accepted.{fault_of_query}
-use Rattle.temporal_lang.specs.Atoms.{Source, sources_of, to_atoms, branch_with_atoms, with_atoms}
-use Rattle.temporal_lang.specs.Queries.{PlainQuery, slice_of}
+use Rattle.query_meaning.specs.Accepted.{fault_of_query}
+use Rattle.query_meaning.specs.Atoms.{Source, sources_of, to_atoms, branch_with_atoms, with_atoms}
+use Rattle.query_types.specs.Queries.{PlainQuery, slice_of}
 use Rattle.query_pieces.specs.Piecewise.{asked_branches, IsAskedOf}
 use Rattle.query_pieces.proofs.ReadByPieces.{pushed_enough, items_kept}
 use Rattle.period_split.specs.Splitting.{Part, split_by}

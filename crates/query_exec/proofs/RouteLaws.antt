@@ -16,7 +16,7 @@ use Rattle.plain_answers.specs.Reading.{Read}
 use Rattle.relations.proofs.SetLaws.{in_append, in_map, from_filter}
 use Rattle.smo_types.specs.Commands.{PlainVersion}
 use Rattle.smo_meaning.specs.InForce.{in_force}
-use Rattle.temporal_lang.specs.Queries.{PlainQuery, slice_of}
+use Rattle.query_types.specs.Queries.{PlainQuery, slice_of}
 use Rattle.query_pieces.specs.Gathering.{HasMoment, IsGathered}
 use Rattle.query_pieces.proofs.Gatherings.{all_gathered}
 use Rattle.query_pieces.specs.Piecewise.{IsAskedOf}

@@ -26,9 +26,9 @@ use Rattle.plain_answers.specs.Naming.{all_references}
 use Rattle.plain_answers.specs.Pushing.{pushed_from, pushed_reads}
 use Rattle.piece_meaning.specs.Rules.{Book, IsValidBook}
 use Rattle.rewrite_chains.specs.Reading.{AreQuestions, Suffices}
-use Rattle.temporal_lang.specs.Queries.{PlainQuery, slice_of, IsLasting}
-use Rattle.temporal_lang.specs.Atoms.{branches_with_atoms}
-use Rattle.temporal_lang.specs.Answers.{asked_at, answer}
+use Rattle.query_types.specs.Queries.{PlainQuery, slice_of, IsLasting}
+use Rattle.query_meaning.specs.Atoms.{branches_with_atoms}
+use Rattle.query_meaning.specs.Answers.{asked_at, answer}
 use Rattle.query_pieces.specs.Piecewise.{asked_branches, IsAskedOf}
 use Rattle.query_pieces.proofs.ReadByPieces.{is_lasting, pushed_enough, items_kept, asked_is}
 use Rattle.query_pieces.proofs.ReadByPieces.{answer_is}

@@ -12,9 +12,9 @@ use Rattle.cond_expr.specs.AtomColumns.{columns_at}
 use Rattle.plain_answers.specs.Branches.{Item, PlainBranch}
 use Rattle.plain_answers.specs.Naming.{all_references}
 use Rattle.plain_answers.specs.Reading.{Read}
-use Rattle.temporal_lang.specs.Queries.{PlainQuery}
-use Rattle.temporal_lang.specs.Atoms.{with_atoms}
-use Rattle.temporal_lang.specs.Accepted.{fault_of_query}
+use Rattle.query_types.specs.Queries.{PlainQuery}
+use Rattle.query_meaning.specs.Atoms.{with_atoms}
+use Rattle.query_meaning.specs.Accepted.{fault_of_query}
 use Rattle.version_groups.specs.Groups.{Kept}
 use Rattle.version_groups.specs.Showing.{Represents}
 use Rattle.joining.specs.declared.source.Atom.{Atom}

@@ -4,7 +4,7 @@ use Rattle.relations.specs.Sets.{In}
 use Rattle.cond_expr.specs.Trees.{Tree}
 use Rattle.plain_answers.specs.Branches.{PlainBranch}
 use Rattle.piece_meaning.specs.Constants.{ValidInTree, ValidInTest}
-use Rattle.temporal_lang.specs.Queries.{PlainQuery}
+use Rattle.query_types.specs.Queries.{PlainQuery}
 
 pub record ValidInBranch (b : PlainBranch) : Type 0 where
   pub outs : (t : Tree) → In t b.outs → ValidInTree t

@@ -4,7 +4,7 @@ use Rattle.std.specs.Option.{option_or}
 use Rattle.smo_types.specs.Commands.{PlainVersion}
 use Rattle.smo_meaning.specs.Losses.{Loss}
 use Rattle.period_split.specs.Splitting.{Part}
-use Rattle.temporal_lang.specs.Queries.{PlainQuery}
+use Rattle.query_types.specs.Queries.{PlainQuery}
 use Rattle.query_pieces.specs.Piecewise.{loss_from}
 
 -- the loss from the first of the parts' versions from which there is one

@@ -17,7 +17,7 @@ use Rattle.piece_prune.specs.DeadPieces.{IsDeadPiece, lives}
 use Rattle.piece_texts.specs.ExplainedPieces.{PlainExplained}
 use Rattle.rewrite_chains.specs.Beginnings.{first_piece}
 use Rattle.rewrite_chains.specs.Chains.{unfolded_to}
-use Rattle.temporal_lang.specs.Queries.{PlainQuery, slice_of}
+use Rattle.query_types.specs.Queries.{PlainQuery, slice_of}
 use Rattle.period_split.specs.Splitting.{Part, split_by}
 use Rattle.query_exec.specs.Questions.{own_read}
 

@@ -13,7 +13,7 @@ ghost use Rattle.version_ways.specs.Migration.{migrated};
 ghost use Rattle.version_groups.specs.Groups.{versions_in};
 ghost use Rattle.version_groups.specs.Showing.{Represents};
 ghost use Rattle.plain_answers.specs.Branches.{branch_answers, plain};
-ghost use Rattle.temporal_lang.specs.Branches.{branch_of, branches_of};
+ghost use Rattle.query_types.specs.Branches.{branch_of, branches_of};
 ghost use Rattle.rewrite.specs.Books.{meaning_of, EachOf};
 ghost use Rattle.query_exec.specs.Accepted.{MayItems, MayBranch, MayBranches, AreRead};
 ghost use Rattle.query_exec.specs.Routes.{IsRoute};

@@ -4,8 +4,8 @@ ghost use Rattle.std.specs.Prelude.{◌≡◌, ◌≤◌, IfOk, None, length, ta
 ghost use Rattle.std.specs.Option.{option_or};
 ghost use Rattle.smo_types.specs.Commands.{versions_of};
 ghost use Rattle.smo_meaning.specs.Past.{Past};
-ghost use Rattle.temporal_lang.specs.Queries.{query_of, IsLasting};
-ghost use Rattle.temporal_lang.specs.Losing.{first_lost};
+ghost use Rattle.query_types.specs.Queries.{query_of, IsLasting};
+ghost use Rattle.query_meaning.specs.Losing.{first_lost};
 ghost use Rattle.version_groups.specs.Showing.{Represents};
 ghost use Rattle.period_split.specs.Splitting.{AscendFrom};
 ghost use Rattle.query_exec.specs.Losing.{first_among, AllUpTo};

@@ -25,12 +25,12 @@ use Rattle.plain_answers.specs.Reading.{needed, whole_rows}
 use Rattle.plain_answers.proofs.NameLaws.{from_names_at}
 use Rattle.plain_answers.proofs.ReadLaws.{is_needed}
 use Rattle.rewrite_chains.specs.Reading.{AreQuestions, Suffices}
-use Rattle.temporal_lang.specs.Atoms.{branch_with_atoms, branches_with_atoms, sources_of}
-use Rattle.temporal_lang.specs.Atoms.{atom_kinds}
-use Rattle.temporal_lang.specs.Checking.{items_after, item_tests, branch_references, branch_names}
-use Rattle.temporal_lang.specs.Checking.{names_tests, reference_test}
-use Rattle.temporal_lang.specs.Resolved.{AllKnown}
-use Rattle.temporal_lang.proofs.BranchLaws.{all_known}
+use Rattle.query_meaning.specs.Atoms.{branch_with_atoms, branches_with_atoms, sources_of}
+use Rattle.query_meaning.specs.Atoms.{atom_kinds}
+use Rattle.query_meaning.specs.Checking.{items_after, item_tests, branch_references, branch_names}
+use Rattle.query_meaning.specs.Checking.{names_tests, reference_test}
+use Rattle.query_meaning.specs.Resolved.{AllKnown}
+use Rattle.query_meaning.proofs.BranchLaws.{all_known}
 use Rattle.query_pieces.proofs.NamedColumns.{known_each, in_first, in_later}
 
 module _ (tables : Tables) (refs : List ColRef) where

@@ -15,7 +15,7 @@ use Rattle.smo_meaning.specs.Past.{Past}
 use Rattle.plain_answers.specs.Reading.{needed}
 use Rattle.piece_meaning.specs.Rules.{Book}
 use Rattle.rewrite_chains.specs.Reading.{unfolded_answers}
-use Rattle.temporal_lang.specs.Queries.{PlainQuery}
+use Rattle.query_types.specs.Queries.{PlainQuery}
 use Rattle.query_pieces.specs.Piecewise.{asked_branches, pieces_at, IsAskedOf, IsReadByPieces}
 use Rattle.query_pieces.specs.Gathering.{IsOfPart, IsGathered, HasMoment}
 

@@ -14,9 +14,9 @@ use Rattle.smo_meaning.specs.Past.{Past, begun_at, version_at}
 use Rattle.smo_meaning.proofs.PastLaws.{at_least}
 use Rattle.version_ways.specs.LostNames.{lost_names}
 use Rattle.rewrite_chains.proofs.StaysLost.{stays_lost, none_forward}
-use Rattle.temporal_lang.specs.Queries.{PlainQuery, slice_of}
-use Rattle.temporal_lang.specs.Losing.{query_tables, loss_at, first_from, first_lost}
-use Rattle.temporal_lang.proofs.FirstLaws.{first_is, no_loss}
+use Rattle.query_types.specs.Queries.{PlainQuery, slice_of}
+use Rattle.query_meaning.specs.Losing.{query_tables, loss_at, first_from, first_lost}
+use Rattle.query_meaning.proofs.FirstLaws.{first_is, no_loss}
 use Rattle.query_pieces.specs.Piecewise.{loss_from, IsAskedOf}
 
 -- ---- of several names

@@ -19,7 +19,7 @@ use Rattle.rewrite_chains.specs.Beginnings.{first_piece}
 use Rattle.rewrite_chains.specs.Chains.{unfolded_to}
 use Rattle.rewrite_chains.specs.Reading.{unfolded_read, unfolded_reads, unfolded_answers}
 use Rattle.rewrite_chains.specs.Standing.{StandFor}
-use Rattle.temporal_lang.specs.Queries.{PlainQuery}
+use Rattle.query_types.specs.Queries.{PlainQuery}
 use Rattle.query_pieces.specs.Piecewise.{asked_branches, pieces_at}
 
 -- the pieces that stand at the version in force for what is asked of a table

@@ -32,13 +32,13 @@ use Rattle.plain_answers.proofs.PushedParts.{is_pushed}
 use Rattle.rule_views.proofs.TestLaws.{typed_test}
 use Rattle.piece_prune.proofs.PushedTypes.{pushed_typed}
 use Rattle.rewrite_chains.specs.Reading.{AreQuestions, Suffices}
-use Rattle.temporal_lang.specs.Atoms.{branch_with_atoms, branches_with_atoms, sources_of}
-use Rattle.temporal_lang.specs.Atoms.{atom_kinds}
-use Rattle.temporal_lang.specs.Checking.{items_after, item_tests, branch_references, branch_names}
-use Rattle.temporal_lang.specs.Checking.{names_tests, reference_test, trees_types, outputs_nodes}
-use Rattle.temporal_lang.specs.Checking.{branch_types, branch_nodes, types_from}
-use Rattle.temporal_lang.specs.Resolved.{AllKnown}
-use Rattle.temporal_lang.proofs.BranchLaws.{all_known}
+use Rattle.query_meaning.specs.Atoms.{branch_with_atoms, branches_with_atoms, sources_of}
+use Rattle.query_meaning.specs.Atoms.{atom_kinds}
+use Rattle.query_meaning.specs.Checking.{items_after, item_tests, branch_references, branch_names}
+use Rattle.query_meaning.specs.Checking.{names_tests, reference_test, trees_types, outputs_nodes}
+use Rattle.query_meaning.specs.Checking.{branch_types, branch_nodes, types_from}
+use Rattle.query_meaning.specs.Resolved.{AllKnown}
+use Rattle.query_meaning.proofs.BranchLaws.{all_known}
 use Rattle.query_pieces.proofs.NamedColumns.{known_each, in_first, in_later}
 
 module _ (tables : Tables) (outs : List Tree) (c : Test) where

@@ -28,17 +28,17 @@ use Rattle.plain_answers.specs.Reading.{needed}
 use Rattle.piece_meaning.specs.Rules.{Book, IsValidBook}
 use Rattle.rewrite_chains.specs.Reading.{Suffices}
 use Rattle.rewrite_chains.proofs.ReadMoments.{moment_read}
-use Rattle.temporal_lang.specs.declared.when.When.{When}
-use Rattle.temporal_lang.specs.declared.when.When.TheVariants.{Always, AsOf, During}
-use Rattle.temporal_lang.specs.Queries.{PlainQuery, slice_of, IsLasting}
-use Rattle.temporal_lang.specs.Atoms.{branch_with_atoms, branches_with_atoms}
-use Rattle.temporal_lang.specs.Losing.{branch_tables, query_tables, first_lost}
-use Rattle.temporal_lang.specs.Checking.{excess_of, excess_fault, query_tests, names_tests}
-use Rattle.temporal_lang.specs.Checking.{types_from, arities, output_kinds, typing_tests}
-use Rattle.temporal_lang.specs.Checking.{period_tests, when_fault, keep_fault}
-use Rattle.temporal_lang.specs.Accepted.{no_way_back, loss_fault, version_fault, fault_of_query}
-use Rattle.temporal_lang.specs.Answers.{asked_at, listing, answer}
-use Rattle.temporal_lang.proofs.StageLaws.{listing_is}
+use Rattle.query_types.specs.declared.when.When.{When}
+use Rattle.query_types.specs.declared.when.When.TheVariants.{Always, AsOf, During}
+use Rattle.query_types.specs.Queries.{PlainQuery, slice_of, IsLasting}
+use Rattle.query_meaning.specs.Atoms.{branch_with_atoms, branches_with_atoms}
+use Rattle.query_meaning.specs.Losing.{branch_tables, query_tables, first_lost}
+use Rattle.query_meaning.specs.Checking.{excess_of, excess_fault, query_tests, names_tests}
+use Rattle.query_meaning.specs.Checking.{types_from, arities, output_kinds, typing_tests}
+use Rattle.query_meaning.specs.Checking.{period_tests, when_fault, keep_fault}
+use Rattle.query_meaning.specs.Accepted.{no_way_back, loss_fault, version_fault, fault_of_query}
+use Rattle.query_meaning.specs.Answers.{asked_at, listing, answer}
+use Rattle.query_meaning.proofs.StageLaws.{listing_is}
 use Rattle.query_pieces.specs.Piecewise.{asked_branches, pieces_at, pushed_at, IsAskedOf}
 use Rattle.query_pieces.specs.Piecewise.{IsReadByPieces}
 use Rattle.query_pieces.proofs.LeastLoss.{none_at, kept_at}

@@ -12,9 +12,9 @@ use Rattle.plain_answers.specs.Pushing.{pushed_reads}
 use Rattle.plain_answers.specs.Reading.{needed}
 use Rattle.piece_meaning.specs.Rules.{Book}
 use Rattle.rewrite_chains.specs.Reading.{asked_by_pieces}
-use Rattle.temporal_lang.specs.Atoms.{branches_with_atoms}
-use Rattle.temporal_lang.specs.Losing.{query_tables}
-use Rattle.temporal_lang.specs.Queries.{PlainQuery, slice_of}
+use Rattle.query_meaning.specs.Atoms.{branches_with_atoms}
+use Rattle.query_meaning.specs.Losing.{query_tables}
+use Rattle.query_types.specs.Queries.{PlainQuery, slice_of}
 
 -- the loss of the first of the query's tables that is lost on the way from a version
 abbrev pub loss_from : List PlainVersion → ℕ → PlainQuery → Option Loss

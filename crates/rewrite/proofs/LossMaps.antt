@@ -21,9 +21,9 @@ use Rattle.smo_meaning.specs.Past.{no_tables, tables_from}
 use Rattle.smo_meaning.specs.Losses.{Loss, first_loss}
 use Rattle.version_ways.specs.Ways.{over_each, back_over, back_over_version, from_next}
 use Rattle.version_ways.specs.LostNames.{Losses, of_losses}
-use Rattle.temporal_lang.specs.declared.branch.Branch.{Branch}
-use Rattle.temporal_lang.specs.Branches.{branch_of, branches_of}
-use Rattle.temporal_lang.specs.Losing.{branch_tables, query_tables}
+use Rattle.query_types.specs.declared.branch.Branch.{Branch}
+use Rattle.query_types.specs.Branches.{branch_of, branches_of}
+use Rattle.query_meaning.specs.Losing.{branch_tables, query_tables}
 use Rattle.rewrite.proofs.Places.{version_at_place}
 
 module _ {X : Type 0} where

@@ -14,8 +14,8 @@ use Rattle.smo_meaning.specs.Sizes.{Size}
 use Rattle.archive_core.specs.Committing.{commit_fault}
 use Rattle.archive_core.specs.Checkpointing.{checkpoint_fault}
 use Rattle.piece_texts.specs.ExplainedPieces.{PlainExplained}
-use Rattle.temporal_lang.specs.Accepted.{version_fault, fault_of_query}
-use Rattle.temporal_lang.specs.Answers.{answer}
+use Rattle.query_meaning.specs.Accepted.{version_fault, fault_of_query}
+use Rattle.query_meaning.specs.Answers.{answer}
 use Rattle.script_parse.specs.Statements.{PlainStatement, write, ask, explain, show_versions}
 use Rattle.script_parse.specs.Statements.{show_schema, show_sizes, checkpoint}
 use Rattle.script_parse.specs.Reading.{Reading, Blank, Refused, Whole, reading}

@@ -5,8 +5,8 @@ use Rattle.smo_meaning.specs.Past.{beginning}
 use Rattle.smo_meaning.specs.Checks.{Fault}
 use Rattle.piece_meaning.specs.Rules.{IsValidBook}
 use Rattle.archive_file.specs.LogRecords.{LogRecord, AreSpelled, AreAccepted}
-use Rattle.temporal_lang.specs.Accepted.{fault_of_query}
-use Rattle.temporal_lang.specs.Queries.{PlainQuery}
+use Rattle.query_meaning.specs.Accepted.{fault_of_query}
+use Rattle.query_types.specs.Queries.{PlainQuery}
 use Rattle.script_parse.specs.Script.{StatementPart}
 use Rattle.script_parse.specs.Statements.{explain}
 use Rattle.script_parse.specs.Reading.{Whole, reading}

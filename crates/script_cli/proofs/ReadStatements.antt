@@ -14,8 +14,8 @@ use Rattle.lexical_grammar.specs.Lexemes.{Lexeme, word, sign}
 use Rattle.parser_combinators.specs.Grammar.{Size, AreMore, so_wide}
 use Rattle.expr_grammar.specs.Where.{IsWhere, IsFreshWhere}
 use Rattle.smo_parse.specs.Productions.{IsOperator}
-use Rattle.temporal_lang.specs.QueryGrammar.{counted_grammar, IsOutput, IsBranch, IsAsk}
-use Rattle.temporal_lang.specs.Queries.{PlainQuery}
+use Rattle.query_grammar.specs.QueryGrammar.{counted_grammar, IsOutput, IsBranch, IsAsk}
+use Rattle.query_types.specs.Queries.{PlainQuery}
 use Rattle.script_parse.specs.Productions.{IsOp, IsInverse, IsBody}
 use Rattle.query_exec.specs.Constants.{ValidInBranch, ValidInQuery}
 use Rattle.script_cli.proofs.ReadConstants.{AllValid, expr_valid, cond_valid, after, prefix, back}

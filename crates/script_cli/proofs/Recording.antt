@@ -9,7 +9,7 @@ use Rattle.smo_meaning.specs.Checks.{Fault}
 use Rattle.smo_meaning.specs.Accepts.{command_fault}
 use Rattle.smo_meaning.specs.Past.{Past, beginning, past_with}
 use Rattle.smo_meaning.proofs.Firsts.{none_of_first}
-use Rattle.temporal_lang.specs.Accepted.{version_fault, fault_of_query}
+use Rattle.query_meaning.specs.Accepted.{version_fault, fault_of_query}
 use Rattle.journal.specs.Records.{Record, before_gate, body}
 use Rattle.journal.proofs.Putting.{before_gate-push}
 use Rattle.archive_file.specs.LogRecords.{LogRecord, logged, checkpointed, record_of, records_of}

@@ -15,8 +15,8 @@ use Rattle.smo_meaning.proofs.PastSteps.{beginning_is_past, stays_valid, stamp_a
 use Rattle.smo_meaning.proofs.PastSteps.{counts_accepted, body_accepted}
 use Rattle.piece_meaning.specs.Constants.{ValidInVersions, ValidInEvolution}
 use Rattle.rewrite_chains.proofs.HeldValues.{valid_next}
-use Rattle.temporal_lang.specs.Accepted.{version_fault, fault_of_query}
-use Rattle.temporal_lang.specs.Answers.{answer}
+use Rattle.query_meaning.specs.Accepted.{version_fault, fault_of_query}
+use Rattle.query_meaning.specs.Answers.{answer}
 use Rattle.script_parse.specs.Script.{StatementPart, Whole as Text, Skipped}
 use Rattle.script_parse.specs.Statements.{PlainStatement, write, ask, explain, show_versions}
 use Rattle.script_parse.specs.Statements.{show_schema, show_sizes, checkpoint}

@@ -2,8 +2,8 @@
 use Rattle.std.specs.Prelude.{◌≡◌, ℕ, List}
 use Rattle.smo_meaning.specs.Past.{tables_of}
 use Rattle.piece_texts.specs.ExplainedPieces.{PlainExplained}
-use Rattle.temporal_lang.specs.Atoms.{with_atoms}
-use Rattle.temporal_lang.specs.Queries.{PlainQuery}
+use Rattle.query_meaning.specs.Atoms.{with_atoms}
+use Rattle.query_types.specs.Queries.{PlainQuery}
 use Rattle.query_exec.specs.QueryPieces.{ArePieces}
 use Rattle.answer_text.specs.Texts.{explain_text}
 use Rattle.script_cli.specs.Given.{Given}

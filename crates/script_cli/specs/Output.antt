@@ -17,9 +17,9 @@ use Rattle.piece_meaning.specs.Rules.{Book}
 use Rattle.archive_file.specs.LogRecords.{LogRecord, gate_after, past_recorded}
 use Rattle.archive_core.specs.Committing.{commit_fault}
 use Rattle.archive_core.specs.Checkpointing.{checkpoint_fault}
-use Rattle.temporal_lang.specs.Queries.{PlainQuery}
-use Rattle.temporal_lang.specs.Accepted.{version_fault, fault_of_query}
-use Rattle.temporal_lang.specs.Answers.{answer}
+use Rattle.query_types.specs.Queries.{PlainQuery}
+use Rattle.query_meaning.specs.Accepted.{version_fault, fault_of_query}
+use Rattle.query_meaning.specs.Answers.{answer}
 use Rattle.script_parse.specs.Statements.{PlainStatement, write, ask, explain, show_versions}
 use Rattle.script_parse.specs.Statements.{show_schema, show_sizes, checkpoint}
 use Rattle.script_parse.specs.Reading.{Reading, Blank, Refused, Whole, reading}

@@ -12,7 +12,7 @@ ghost use Rattle.prima_io.specs.Causes.{HasCause};
 ghost use Rattle.prima_io.specs.Moves.{AppendsPrefix};
 ghost use Rattle.smo_types.specs.Commands.{command_of};
 ghost use Rattle.smo_meaning.specs.Past.{Past};
-ghost use Rattle.temporal_lang.specs.Queries.{query_of};
+ghost use Rattle.query_types.specs.Queries.{query_of};
 ghost use Rattle.script_parse.specs.Statements.{statement_of};
 ghost use Rattle.rewrite.specs.Books.{meaning_of, EachOf};
 ghost use Rattle.piece_texts.specs.ExplainedPieces.{all_explained};

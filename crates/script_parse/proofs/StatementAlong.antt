@@ -43,10 +43,10 @@ use Rattle.smo_parse.specs.OperatorReader.{operator, follow_operator}
 use Rattle.smo_parse.specs.OperatorCounts.{operator_counts}
 use Rattle.smo_parse.proofs.OperatorCorrectness.{operator_correct}
 use Rattle.smo_parse.proofs.OperatorCounted.{operator_counted, operator_length}
-use Rattle.temporal_lang.specs.QueryGrammar.{IsAsk}
-use Rattle.temporal_lang.specs.QueryReader as query
-use Rattle.temporal_lang.specs.QueryCrossings.{ask_crossings}
-use Rattle.temporal_lang.proofs.QueryAlong.{ask_along}
+use Rattle.query_grammar.specs.QueryGrammar.{IsAsk}
+use Rattle.query_grammar.specs.QueryReader as query
+use Rattle.query_grammar.specs.QueryCrossings.{ask_crossings}
+use Rattle.query_grammar.proofs.QueryAlong.{ask_along}
 use Rattle.script_parse.specs.Statements.{PlainStatement, write, ask, explain}
 use Rattle.script_parse.specs.Productions.{AreSoMany, IsRow, IsInsert, IsSetting, IsChange, IsOp}
 use Rattle.script_parse.specs.Productions.{AreOps, IsInverse, AreChanges, IsBody, IsShowVersions}

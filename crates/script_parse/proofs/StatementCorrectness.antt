@@ -25,9 +25,9 @@ use Rattle.parser_combinators.proofs.Alternatives.{last_arm, first_arm}
 use Rattle.smo_parse.specs.Productions.{IsOperator}
 use Rattle.smo_parse.specs.OperatorReader.{operator, follow_operator}
 use Rattle.smo_parse.proofs.OperatorCorrectness.{operator_correct}
-use Rattle.temporal_lang.specs.QueryGrammar.{IsAsk}
-use Rattle.temporal_lang.specs.QueryReader as query
-use Rattle.temporal_lang.proofs.QueryCorrectness.{ask_correct}
+use Rattle.query_grammar.specs.QueryGrammar.{IsAsk}
+use Rattle.query_grammar.specs.QueryReader as query
+use Rattle.query_grammar.proofs.QueryCorrectness.{ask_correct}
 use Rattle.script_parse.specs.Statements.{PlainStatement, write, ask, explain, show_versions}
 use Rattle.script_parse.specs.Statements.{show_schema, show_sizes, checkpoint}
 use Rattle.script_parse.specs.Productions.{IsChange, IsOp, AreOps, IsInverse, IsEvolve, AreChanges}

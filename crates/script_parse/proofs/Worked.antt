@@ -23,10 +23,10 @@ use Rattle.expr_grammar.specs.Reader.{ref_rest, concat_rest, expr, comparison, b
 use Rattle.expr_grammar.specs.Reader.{facts, conj, conjs, cond, outermost}
 use Rattle.expr_grammar.specs.Where.{outer_where, fresh_where}
 use Rattle.smo_parse.specs.OperatorReader as smo
-use Rattle.temporal_lang.specs.declared.when.When.TheVariants.{Always, AsOf, During}
+use Rattle.query_types.specs.declared.when.When.TheVariants.{Always, AsOf, During}
 use Rattle.plain_answers.specs.Branches.{a_branch}
-use Rattle.temporal_lang.specs.Queries.{PlainQuery, a_query}
-use Rattle.temporal_lang.specs.QueryReader as query
+use Rattle.query_types.specs.Queries.{PlainQuery, a_query}
+use Rattle.query_grammar.specs.QueryReader as query
 use Rattle.script_parse.specs.Statements.{ask, explain, write, show_versions, show_schema}
 use Rattle.script_parse.specs.Statements.{show_sizes, checkpoint}
 use Rattle.script_parse.specs.Lexing.{lexed_from}

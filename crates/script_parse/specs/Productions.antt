@@ -15,7 +15,7 @@ use Rattle.expr_grammar.specs.Constants.{name_grammar, names_grammar, moment_gra
 use Rattle.expr_grammar.specs.Constants.{constant_grammar}
 use Rattle.expr_grammar.specs.Where.{IsFreshWhere}
 use Rattle.smo_parse.specs.Productions.{IsOperator}
-use Rattle.temporal_lang.specs.QueryGrammar.{IsAsk}
+use Rattle.query_grammar.specs.QueryGrammar.{IsAsk}
 use Rattle.script_parse.specs.Statements.{PlainStatement, write, ask, explain, show_versions}
 use Rattle.script_parse.specs.Statements.{show_schema, show_sizes, checkpoint}
 

@@ -19,8 +19,8 @@ use Rattle.parser_combinators.specs.ListCrossings.{option_crossing, either_cross
 use Rattle.parser_combinators.specs.ListCrossings.{counted_crossing}
 use Rattle.smo_parse.specs.Productions.{IsOperator}
 use Rattle.smo_parse.specs.OperatorCounts.{operator_counts}
-use Rattle.temporal_lang.specs.QueryGrammar.{IsAsk}
-use Rattle.temporal_lang.specs.QueryCrossings.{ask_crossings}
+use Rattle.query_grammar.specs.QueryGrammar.{IsAsk}
+use Rattle.query_grammar.specs.QueryCrossings.{ask_crossings}
 use Rattle.script_parse.specs.Statements.{write, ask, explain}
 use Rattle.script_parse.specs.Productions.{IsInsert, IsDelete, IsSetting, IsUpdate, IsChange, IsOp}
 use Rattle.script_parse.specs.Productions.{AreOps, IsInverse, IsEvolve, AreChanges, IsBody, IsWrite}

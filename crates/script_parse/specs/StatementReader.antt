@@ -14,7 +14,7 @@ use Rattle.expr_grammar.specs.Reader.{outermost, follow_expr, follow_cond}
 use Rattle.expr_grammar.specs.Constants.{name, names, moment, small, constant}
 use Rattle.expr_grammar.specs.Where.{fresh_where, follow_where}
 use Rattle.smo_parse.specs.OperatorReader.{operator, follow_operator}
-use Rattle.temporal_lang.specs.QueryReader as query
+use Rattle.query_grammar.specs.QueryReader as query
 use Rattle.script_parse.specs.Statements.{PlainStatement, write, ask, explain, show_versions}
 use Rattle.script_parse.specs.Statements.{show_schema, show_sizes, checkpoint}
 

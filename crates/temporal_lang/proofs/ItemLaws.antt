@@ -11,8 +11,8 @@ use Rattle.smo_meaning.specs.Checks.{Fault}
 use Rattle.smo_meaning.specs.Preconditions.{among}
 use Rattle.smo_meaning.proofs.Firsts.{drop_at}
 use Rattle.plain_answers.specs.Branches.{Item}
-use Rattle.temporal_lang.specs.Branches.{aliases_of}
-use Rattle.temporal_lang.specs.Checking.{items_after}
+use Rattle.query_types.specs.Branches.{aliases_of}
+use Rattle.query_meaning.specs.Checking.{items_after}
 
 aliases_append : (a b : List Item) → aliases_of (a ++ b) ≡ aliases_of a ++ aliases_of b
 aliases_append [] b = refl

@@ -21,10 +21,10 @@ use Rattle.prima_base.specs.declared.refusal.Refusal.{Refusal}
 use Rattle.prima_base.specs.declared.fault.CallFault.{CallFault}
 use Rattle.prima_base.specs.declared.fault.CallFault.TheVariants.{Refused, NoMemory}
 use Rattle.plain_answers.specs.Branches.{PlainBranch}
-use Rattle.temporal_lang.specs.Checking.{trees_types, outputs_nodes, branch_types, branch_nodes}
-use Rattle.temporal_lang.specs.Resolved.{AreSmall, IsSmall}
+use Rattle.query_meaning.specs.Checking.{trees_types, outputs_nodes, branch_types, branch_nodes}
+use Rattle.query_meaning.specs.Resolved.{AreSmall, IsSmall}
 use Rattle.temporal_lang.specs.Typings.{OutputsTyped, BranchTyped}
-use Rattle.temporal_lang.proofs.FillLaws.{map_both}
+use Rattle.query_meaning.proofs.FillLaws.{map_both}
 
 -- ---- references
 

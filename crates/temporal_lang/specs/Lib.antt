@@ -1,12 +1,1 @@
-pub mod Branches
-pub mod Queries
-pub mod Answers
-pub mod Losing
-pub mod Atoms
-pub mod Checking
-pub mod Accepted
-pub mod QueryGrammar
-pub mod QueryReader
-pub mod QueryCrossings
-pub mod Resolved
 pub mod Typings

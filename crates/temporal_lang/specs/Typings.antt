@@ -14,8 +14,8 @@ use Rattle.prima_base.specs.declared.fault.CallFault.{CallFault}
 use Rattle.prima_base.specs.declared.fault.CallFault.TheVariants.{Refused, NoMemory}
 use Rattle.temporal_lang.specs.declared.type_check.Typed.{Typed}
 use Rattle.plain_answers.specs.Branches.{PlainBranch}
-use Rattle.temporal_lang.specs.Checking.{trees_types, outputs_nodes, branch_types, branch_nodes}
-use Rattle.temporal_lang.specs.Checking.{types_from, output_kinds}
+use Rattle.query_meaning.specs.Checking.{trees_types, outputs_nodes, branch_types, branch_nodes}
+use Rattle.query_meaning.specs.Checking.{types_from, output_kinds}
 
 -- the type, where no node is ill-typed; else the place of the first that is, the root being node
 -- `at`

@@ -2,10 +2,9 @@ ghost use Rattle.std.specs.Prelude.{◌≡◌, IfOk, IsOkUnless, IsErrOf, ◌⊎
 ghost use Rattle.prima_base.specs.declared.refusal.Refusal.{Refusal as OneRefusal};
 ghost use Rattle.prima_base.specs.declared.fault.CallFault.TheVariants.{Refused};
 ghost use Rattle.prima_base.specs.declared.fault.CallFault.TheVariants.{NoMemory as OutOfMemory};
-ghost use Rattle.temporal_lang.specs.Queries.{query_of, IsLasting};
-ghost use Rattle.temporal_lang.specs.Checking.{query_fault, IsQueryChecked};
+ghost use Rattle.query_types.specs.Queries.{query_of, IsLasting};
+ghost use Rattle.query_meaning.specs.Checking.{query_fault, IsQueryChecked};
 
-use crate::copy::copy_keeps;
 use crate::name::check_names;
 use crate::period::check_periods;
 use crate::resolution::resolve_branches;
@@ -13,6 +12,7 @@ use crate::size::check_query_counts;
 use crate::type_check::check_typing;
 use crate::{Query, QueryFault};
 use prima_base::Refusal;
+use query_types::copy_keeps;
 use schema_catalog::Schema;
 use std::alloc::Global;
 

@@ -5,9 +5,9 @@ ghost use Rattle.schema_catalog.specs.Tables.{Tables};
 ghost use Rattle.smo_meaning.specs.Effects.{columns_of};
 ghost use Rattle.smo_meaning.specs.Preconditions.{among};
 ghost use Rattle.smo_meaning.specs.First.{first_refusal};
-ghost use Rattle.temporal_lang.specs.Branches.{aliases_of};
-ghost use Rattle.temporal_lang.specs.Atoms.{sources_of, place_of_column, place_of_alias};
-ghost use Rattle.temporal_lang.specs.Checking.{item_tests, holders};
+ghost use Rattle.query_types.specs.Branches.{aliases_of};
+ghost use Rattle.query_meaning.specs.Atoms.{sources_of, place_of_column, place_of_alias};
+ghost use Rattle.query_meaning.specs.Checking.{item_tests, holders};
 ghost use Rattle.prima_base.specs.Faults.{IsTested};
 
 use crate::QueryFault;

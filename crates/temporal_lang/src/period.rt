@@ -1,6 +1,6 @@
 ghost use Rattle.std.specs.Prelude.{◌≡◌, map};
 ghost use Rattle.smo_meaning.specs.First.{first_refusal};
-ghost use Rattle.temporal_lang.specs.Checking.{bounds_fault, when_fault, keep_fault, period_tests};
+ghost use Rattle.query_meaning.specs.Checking.{bounds_fault, when_fault, keep_fault, period_tests};
 ghost use Rattle.prima_base.specs.Faults.{IsTested};
 
 use crate::{Keep, QueryFault, When};

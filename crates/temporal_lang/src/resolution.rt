@@ -1,17 +1,17 @@
 ghost use Rattle.std.specs.Prelude.{◌≡◌, ◌≤◌, IfOk, map, length};
 ghost use Rattle.cond_expr.specs.Trees.{fill, fill_test};
 ghost use Rattle.cond_expr.specs.Seen.{tree, test};
-ghost use Rattle.temporal_lang.specs.Branches.{branch_of, branches_of};
-ghost use Rattle.temporal_lang.specs.Atoms.{sources_of, to_atoms, branch_with_atoms};
-ghost use Rattle.temporal_lang.specs.Atoms.{branches_with_atoms};
-ghost use Rattle.temporal_lang.specs.Resolved.{HaveFew};
+ghost use Rattle.query_types.specs.Branches.{branch_of, branches_of};
+ghost use Rattle.query_meaning.specs.Atoms.{sources_of, to_atoms, branch_with_atoms};
+ghost use Rattle.query_meaning.specs.Atoms.{branches_with_atoms};
+ghost use Rattle.query_meaning.specs.Resolved.{HaveFew};
 
 use crate::Branch;
-use crate::copy::copy_items;
 use crate::list::push;
 use crate::to_atom::ToAtoms;
 use cond_expr::{Expr, fill_cond, fill_expr};
 use prima_base::NoMemory;
+use query_types::copy_items;
 use schema_catalog::Schema;
 use std::alloc::Global;
 

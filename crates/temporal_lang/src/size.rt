@@ -4,10 +4,10 @@ ghost use Rattle.prima_base.specs.declared.refusal.What.TheVariants.{Nodes, Dept
 ghost use Rattle.cond_expr.specs.Seen.{tree, test};
 ghost use Rattle.smo_meaning.specs.First.{first_refusal};
 ghost use Rattle.smo_meaning.specs.Counts.{at_most, tree_counts, test_counts};
-ghost use Rattle.temporal_lang.specs.Branches.{branch_of, branches_of};
-ghost use Rattle.temporal_lang.specs.Queries.{query_of};
-ghost use Rattle.temporal_lang.specs.Checking.{output_counts, branch_counts, branches_counts};
-ghost use Rattle.temporal_lang.specs.Checking.{excess_of};
+ghost use Rattle.query_types.specs.Branches.{branch_of, branches_of};
+ghost use Rattle.query_types.specs.Queries.{query_of};
+ghost use Rattle.query_meaning.specs.Checking.{output_counts, branch_counts, branches_counts};
+ghost use Rattle.query_meaning.specs.Checking.{excess_of};
 ghost use Rattle.std.specs.Result.{result_err};
 
 use crate::{Branch, Query};

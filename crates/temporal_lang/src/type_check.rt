@@ -4,13 +4,13 @@ ghost use Rattle.cond_expr.specs.Seen.{tree, test};
 ghost use Rattle.cond_expr.specs.Sizes.{nodes_of, test_nodes};
 ghost use Rattle.cond_expr.specs.Kinds.{kinds_of};
 ghost use Rattle.cond_expr.specs.Faults.{references, test_references, first_unknown};
-ghost use Rattle.temporal_lang.specs.Branches.{branch_of, branches_of};
-ghost use Rattle.temporal_lang.specs.Atoms.{atom_kinds};
+ghost use Rattle.query_types.specs.Branches.{branch_of, branches_of};
+ghost use Rattle.query_meaning.specs.Atoms.{atom_kinds};
 ghost use Rattle.prima_base.specs.Faults.{IsTested};
-ghost use Rattle.temporal_lang.specs.Checking.{typing_tests, outputs_nodes, branch_references};
-ghost use Rattle.temporal_lang.specs.Checking.{branch_nodes};
+ghost use Rattle.query_meaning.specs.Checking.{typing_tests, outputs_nodes, branch_references};
+ghost use Rattle.query_meaning.specs.Checking.{branch_nodes};
 ghost use Rattle.smo_meaning.specs.First.{first_refusal};
-ghost use Rattle.temporal_lang.specs.Resolved.{AreSmall, IsSmall, AllSmall, HaveFew, AllKnown};
+ghost use Rattle.query_meaning.specs.Resolved.{AreSmall, IsSmall, AllSmall, HaveFew, AllKnown};
 ghost use Rattle.temporal_lang.specs.Typings.{IsTyped, IsTypedTest, OutputsTyped, BranchTyped};
 ghost use Rattle.temporal_lang.specs.Typings.{BranchesTyped};
 

@@ -5,8 +5,8 @@ use Rattle.prima_base.specs.Timed.{entries_of}
 use Rattle.smo_types.specs.Commands.{PlainVersion}
 use Rattle.smo_meaning.specs.Checks.{Fault}
 use Rattle.smo_meaning.specs.Past.{tables_of}
-use Rattle.temporal_lang.specs.Atoms.{with_atoms}
-use Rattle.temporal_lang.specs.Queries.{PlainQuery, query_of}
+use Rattle.query_meaning.specs.Atoms.{with_atoms}
+use Rattle.query_types.specs.Queries.{PlainQuery, query_of}
 use Rattle.version_groups.specs.Groups.{versions_in}
 use Rattle.piece_meaning.specs.Books.{book_of}
 use Rattle.query_exec.specs.Accepted.{IsAccepted}

@@ -2,9 +2,9 @@ use Rattle.std.proofs.Common.{sym, ap, subst, ◌≡◌, ◌∙◌}
 use Rattle.std.specs.Prelude.{None, Some}
 use Rattle.schema_catalog.specs.Tables.{Tables}
 use Rattle.smo_meaning.specs.Past.{tables_of}
-use Rattle.temporal_lang.specs.Queries.{PlainQuery, query_of, IsLasting}
-use Rattle.temporal_lang.specs.Atoms.{with_atoms}
-use Rattle.temporal_lang.specs.Checking.{query_fault}
+use Rattle.query_types.specs.Queries.{PlainQuery, query_of, IsLasting}
+use Rattle.query_meaning.specs.Atoms.{with_atoms}
+use Rattle.query_meaning.specs.Checking.{query_fault}
 use Rattle.archive_state.proofs.QueryFaults.{test_fails, tests_met}
 use Rattle.archive_state.proofs.question.checked.Goals as goal
 

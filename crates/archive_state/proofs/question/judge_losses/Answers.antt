@@ -1,8 +1,8 @@
 use Rattle.std.proofs.Common.{sym, ap, ◌∙◌, List, map}
 use Rattle.smo_types.specs.Commands.{PlainVersion, version_of}
 use Rattle.smo_types.specs.declared.version.Version.{Version}
-use Rattle.temporal_lang.specs.Queries.{query_of}
-use Rattle.temporal_lang.specs.Accepted.{no_way_back}
+use Rattle.query_types.specs.Queries.{query_of}
+use Rattle.query_meaning.specs.Accepted.{no_way_back}
 use Rattle.archive_state.proofs.QueryFaults.{none_lost, one_lost, within_kept}
 use Rattle.archive_state.proofs.question.judge_losses.Goals as goal
 

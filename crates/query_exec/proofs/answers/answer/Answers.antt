@@ -9,9 +9,9 @@ use Rattle.version_groups.specs.Groups.{versions_in}
 use Rattle.plain_answers.specs.Branches.{plain}
 use Rattle.piece_meaning.specs.Books.{book_of}
 use Rattle.piece_texts.specs.ExplainedPieces.{PlainExplained}
-use Rattle.temporal_lang.specs.Branches.{branches_of}
-use Rattle.temporal_lang.specs.declared.branch.Branch.{Branch}
-use Rattle.temporal_lang.specs.Queries.{query_of}
+use Rattle.query_types.specs.Branches.{branches_of}
+use Rattle.query_types.specs.declared.branch.Branch.{Branch}
+use Rattle.query_types.specs.Queries.{query_of}
 use Rattle.query_exec.specs.Accepted.{MayBranches}
 use Rattle.query_exec.specs.Borrowed.{NoneAliveComputes, AreBorrowedBy}
 use Rattle.query_exec.specs.QueryPieces.{branches_pieces, AreAlive}

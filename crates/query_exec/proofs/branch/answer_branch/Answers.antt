@@ -18,7 +18,7 @@ use Rattle.plain_answers.specs.Reading.{read_columns}
 use Rattle.piece_meaning.specs.Books.{book_of}
 use Rattle.joining.specs.Sources.{atom_rows}
 use Rattle.join_exec.proofs.AtomSteps.{if_known}
-use Rattle.temporal_lang.specs.Branches.{branch_of}
+use Rattle.query_types.specs.Branches.{branch_of}
 use Rattle.timed_choices.specs.Lending.{AllStayBorrowed}
 use Rattle.query_exec.specs.Accepted.{MayItems}
 use Rattle.query_exec.specs.Borrowed.{NoneAliveComputes}

@@ -8,8 +8,8 @@ use Rattle.version_ways.specs.Migration.{migrated}
 use Rattle.version_groups.specs.Groups.{versions_in}
 use Rattle.plain_answers.specs.Branches.{plain, branch_answers}
 use Rattle.piece_meaning.specs.Books.{book_of}
-use Rattle.temporal_lang.specs.Branches.{branch_of, branches_of}
-use Rattle.temporal_lang.specs.declared.branch.Branch.{Branch}
+use Rattle.query_types.specs.Branches.{branch_of, branches_of}
+use Rattle.query_types.specs.declared.branch.Branch.{Branch}
 use Rattle.query_exec.specs.QueryPieces.{branches_pieces, IsAlive}
 use Rattle.relations.proofs.SetLaws.{in_map}
 use Rattle.query_exec.specs.Borrowed.{NoneAliveComputes, AreBorrowedBy}

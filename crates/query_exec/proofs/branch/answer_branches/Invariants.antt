@@ -8,7 +8,7 @@ use Rattle.version_groups.specs.Showing.{Represents}
 use Rattle.plain_answers.specs.Branches.{plain}
 use Rattle.piece_meaning.specs.Books.{book_of}
 use Rattle.piece_texts.specs.ExplainedPieces.{PlainExplained}
-use Rattle.temporal_lang.specs.Branches.{branches_of}
+use Rattle.query_types.specs.Branches.{branches_of}
 use Rattle.query_exec.specs.Accepted.{MayBranches}
 use Rattle.query_exec.specs.QueryPieces.{branches_pieces, AreAlive, IsAlive}
 use Rattle.query_exec.specs.Borrowed.{NoneAliveComputes, AreBorrowedBy}

@@ -9,7 +9,7 @@ use Rattle.plain_answers.specs.Branches.{Item, PlainBranch}
 use Rattle.plain_answers.specs.Naming.{all_references}
 use Rattle.piece_meaning.specs.Books.{book_of}
 use Rattle.piece_texts.specs.ExplainedPieces.{all_explained}
-use Rattle.temporal_lang.specs.Branches.{branch_of}
+use Rattle.query_types.specs.Branches.{branch_of}
 use Rattle.query_exec.specs.Accepted.{MayItems}
 use Rattle.query_exec.specs.QueryPieces.{items_pieces, AreLeft}
 use Rattle.query_exec.proofs.explanation.explain_branch.Goals as goal

@@ -2,7 +2,7 @@ use Rattle.std.proofs.Common.{◌≡◌, take, drop}
 use Rattle.version_groups.specs.Groups.{versions_in}
 use Rattle.piece_meaning.specs.Books.{book_of}
 use Rattle.piece_texts.specs.ExplainedPieces.{all_explained}
-use Rattle.temporal_lang.specs.Branches.{branches_of}
+use Rattle.query_types.specs.Branches.{branches_of}
 use Rattle.query_exec.specs.Accepted.{MayBranches}
 use Rattle.query_exec.specs.QueryPieces.{branches_pieces, AreLeft}
 use Rattle.query_exec.proofs.explanation.explain_branches.Given as goal

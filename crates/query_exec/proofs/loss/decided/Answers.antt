@@ -2,7 +2,7 @@ use Rattle.std.proofs.Common.{◌≡◌, ◌-◌, ◌+◌, ◌<◌, length, take
 use Rattle.std.proofs.Common.{arith}
 use Rattle.std.specs.Option.{option_or}
 use Rattle.smo_types.specs.Commands.{versions_of}
-use Rattle.temporal_lang.specs.Queries.{query_of}
+use Rattle.query_types.specs.Queries.{query_of}
 use Rattle.query_exec.specs.Losing.{first_among}
 use Rattle.query_exec.proofs.FirstLosses.{up_to_at, greatest, none_among, some_up_to, all_parts}
 use Rattle.query_exec.proofs.loss.decided.Goals as goal

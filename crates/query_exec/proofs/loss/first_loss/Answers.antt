@@ -4,7 +4,7 @@ use Rattle.std.proofs.lemmas.Result.{IfOk-weaker}
 use Rattle.relations.specs.Spans.{Span, covers, forever}
 use Rattle.smo_types.specs.Commands.{PlainVersion, version_of}
 use Rattle.smo_types.specs.declared.version.Version.{Version}
-use Rattle.temporal_lang.specs.Queries.{query_of}
+use Rattle.query_types.specs.Queries.{query_of}
 use Rattle.period_split.specs.Splitting.{Part}
 use Rattle.query_exec.specs.Losing.{first_among, AllUpTo}
 use Rattle.query_exec.proofs.FirstLosses.{all_there, first_of_parts}

@@ -1,8 +1,8 @@
 use Rattle.std.proofs.Common.{ap, refl, sym, subst, ◌∙◌}
 use Rattle.prima_base.specs.Timed.{entries_of}
-use Rattle.temporal_lang.specs.Queries.{query_of}
-use Rattle.temporal_lang.specs.Accepted.{fault_of_query}
-use Rattle.temporal_lang.specs.Answers.{answer}
+use Rattle.query_types.specs.Queries.{query_of}
+use Rattle.query_meaning.specs.Accepted.{fault_of_query}
+use Rattle.query_meaning.specs.Answers.{answer}
 use Rattle.archive_state.specs.Asking.{tells_periods}
 use Rattle.answer_text.specs.Texts.{listing_text}
 use Rattle.script_cli.specs.Output.{query_reply}

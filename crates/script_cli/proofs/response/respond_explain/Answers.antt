@@ -1,8 +1,8 @@
 use Rattle.std.proofs.Common.{ap, refl, sym, subst, ◌∙◌}
 use Rattle.piece_meaning.specs.Books.{book_of}
 use Rattle.piece_texts.specs.ExplainedPieces.{all_explained}
-use Rattle.temporal_lang.specs.Queries.{query_of}
-use Rattle.temporal_lang.specs.Accepted.{fault_of_query}
+use Rattle.query_types.specs.Queries.{query_of}
+use Rattle.query_meaning.specs.Accepted.{fault_of_query}
 use Rattle.archive_state.specs.Asking.{pieces_told}
 use Rattle.answer_text.specs.Texts.{explain_text}
 use Rattle.script_cli.specs.Output.{explain_reply}

@@ -2,8 +2,8 @@ use Rattle.std.proofs.Common.{◌≡◌, refl, sym, subst, List, ℕ, []}
 use Rattle.std.specs.Prelude.{Some, None}
 use Rattle.smo_meaning.specs.Checks.{Fault}
 use Rattle.piece_meaning.specs.Rules.{Book}
-use Rattle.temporal_lang.specs.Queries.{query_of}
-use Rattle.temporal_lang.specs.Accepted.{version_fault, fault_of_query}
+use Rattle.query_types.specs.Queries.{query_of}
+use Rattle.query_meaning.specs.Accepted.{version_fault, fault_of_query}
 use Rattle.script_parse.specs.Statements.{statement_of}
 use Rattle.script_cli.specs.Output.{Recorded, query_reply, explain_reply, versions_reply}
 use Rattle.script_cli.specs.Output.{schema_reply, sizes_reply, statement_reply, refused_or}

@@ -1,6 +1,6 @@
 use Rattle.std.proofs.Common.{◌≡◌, ◌≤◌, ◌+◌, drop}
-use Rattle.temporal_lang.specs.Atoms.{sources_of}
-use Rattle.temporal_lang.specs.Checking.{holders}
+use Rattle.query_meaning.specs.Atoms.{sources_of}
+use Rattle.query_meaning.specs.Checking.{holders}
 use Rattle.temporal_lang.proofs.item.holders_of.Given as goal
 
 abbrev pub invariant-loop-table : goal.invariant-loop-table

@@ -5,8 +5,8 @@ use Rattle.smo_meaning.specs.First.{unless}
 use Rattle.smo_meaning.specs.Effects.{columns_of}
 use Rattle.smo_meaning.specs.Preconditions.{among}
 use Rattle.plain_answers.specs.Branches.{Item}
-use Rattle.temporal_lang.specs.Atoms.{source_of, has_alias}
-use Rattle.temporal_lang.specs.Checking.{column_fault}
+use Rattle.query_meaning.specs.Atoms.{source_of, has_alias}
+use Rattle.query_meaning.specs.Checking.{column_fault}
 use Rattle.temporal_lang.proofs.PlaceLaws.{nowhere, somewhere}
 use Rattle.temporal_lang.proofs.name.check_alias.Goals as goal
 

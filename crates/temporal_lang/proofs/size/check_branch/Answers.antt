@@ -5,7 +5,7 @@ use Rattle.cond_expr.specs.Seen.{tree, test}
 use Rattle.smo_meaning.specs.First.{first_refusal}
 use Rattle.smo_meaning.specs.Counts.{at_most, test_counts}
 use Rattle.smo_meaning.proofs.Firsts.{first_after, first_before, first_at, first_later}
-use Rattle.temporal_lang.specs.Checking.{output_counts}
+use Rattle.query_meaning.specs.Checking.{output_counts}
 use Rattle.temporal_lang.proofs.SizeLaws.{above_limit, within_limit}
 use Rattle.temporal_lang.proofs.size.check_branch.Goals as goal
 

@@ -1,7 +1,7 @@
 use Rattle.std.proofs.lemmas.Result.{err_from_is_err_and}
 use Rattle.prima_base.specs.declared.refusal.What.TheVariants.{Branches}
-use Rattle.temporal_lang.specs.Branches.{branch_of}
-use Rattle.temporal_lang.specs.Checking.{branch_counts}
+use Rattle.query_types.specs.Branches.{branch_of}
+use Rattle.query_meaning.specs.Checking.{branch_counts}
 use Rattle.smo_meaning.proofs.CountLaws.{limited_before, limited_above, limited_within}
 use Rattle.temporal_lang.proofs.size.check_branches.Goals as goal
 

@@ -4,8 +4,8 @@ use Rattle.prima_base.specs.declared.refusal.What.TheVariants.{Keeps}
 use Rattle.smo_meaning.specs.First.{first_refusal}
 use Rattle.smo_meaning.specs.Counts.{at_most}
 use Rattle.smo_meaning.proofs.Firsts.{first_after, first_before, first_alone}
-use Rattle.temporal_lang.specs.Branches.{branches_of}
-use Rattle.temporal_lang.specs.Checking.{branches_counts}
+use Rattle.query_types.specs.Branches.{branches_of}
+use Rattle.query_meaning.specs.Checking.{branches_counts}
 use Rattle.temporal_lang.proofs.SizeLaws.{above_limit, within_limit}
 use Rattle.temporal_lang.proofs.size.check_query_counts.Goals as goal
 

@@ -3,9 +3,9 @@ use Rattle.std.proofs.lemmas.Result.{err_from_is_err_and}
 use Rattle.smo_meaning.specs.Checks.{Fault}
 use Rattle.smo_meaning.specs.First.{first_refusal}
 use Rattle.smo_meaning.proofs.Firsts.{first_after}
-use Rattle.temporal_lang.specs.Branches.{branches_of}
+use Rattle.query_types.specs.Branches.{branches_of}
 use Rattle.prima_base.specs.Faults.{IsTested}
-use Rattle.temporal_lang.specs.Checking.{types_from, typing_tests, arities, output_kinds}
+use Rattle.query_meaning.specs.Checking.{types_from, typing_tests, arities, output_kinds}
 use Rattle.temporal_lang.specs.Typings.{kind_lists}
 use Rattle.temporal_lang.proofs.BranchTypeLaws.{typing_stop}
 use Rattle.temporal_lang.proofs.type_check.check_typing.Goals as goal

@@ -1,7 +1,7 @@
 use Rattle.std.proofs.Common.{◌≤◌, ◌+◌, List, sym, subst}
 use Rattle.std.specs.Prelude.{IfOk}
 use Rattle.piece_meaning.specs.Books.{book_of}
-use Rattle.temporal_lang.specs.Queries.{query_of}
+use Rattle.query_types.specs.Queries.{query_of}
 use Rattle.piece_texts.specs.ExplainedPieces.{PlainExplained}
 use Rattle.query_exec.specs.Reads.{explained_read, reads_of}
 use Rattle.archive_state.specs.Asking.{ArePiecesOf}

@@ -1,0 +1,9 @@
+pub mod WholePrefixes
+pub mod CountedLists
+pub mod BoundSteps
+pub mod BranchCorrectness
+pub mod WhenCorrectness
+pub mod QueryCorrectness
+pub mod ValidQueries
+pub mod QueryAlong
+pub mod QueryLongest

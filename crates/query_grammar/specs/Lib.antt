@@ -1,0 +1,3 @@
+pub mod QueryGrammar
+pub mod QueryReader
+pub mod QueryCrossings

@@ -1,0 +1,35 @@
+-- What is so of a query whose counts are within their limits.
+use Rattle.std.specs.Prelude.{◌≡◌, ◌≤◌, List, [], ◌∷◌, None, length, ⊤}
+use Rattle.schema_catalog.specs.Tables.{Tables}
+use Rattle.cond_expr.specs.Faults.{first_unknown}
+use Rattle.query_meaning.specs.Atoms.{atom_kinds}
+use Rattle.query_meaning.specs.Checking.{branch_references}
+use Rattle.cond_expr.specs.Trees.{Tree}
+use Rattle.cond_expr.specs.Sizes.{nodes_of, test_nodes}
+use Rattle.plain_answers.specs.Branches.{PlainBranch}
+
+-- no branch has more than eight items
+abbrev pub HaveFew : List PlainBranch → Type 0
+HaveFew [] = ⊤
+HaveFew (b ∷ branches) = (length b.from ≤ 8) × HaveFew branches
+
+-- no tree has more than 256 nodes
+abbrev pub AreSmall : List Tree → Type 0
+AreSmall [] = ⊤
+AreSmall (t ∷ ts) = (nodes_of t ≤ 256) × AreSmall ts
+
+-- a branch has at most 32 outputs
+pub record IsSmall (b : PlainBranch) : Type 0 where
+  pub few : length b.outs ≤ 32
+  pub outs : AreSmall b.outs
+  pub cond : test_nodes b.cond ≤ 256
+
+abbrev pub AllSmall : List PlainBranch → Type 0
+AllSmall [] = ⊤
+AllSmall (b ∷ branches) = IsSmall b × AllSmall branches
+
+-- each reference is to a column of its branch's atoms
+abbrev pub AllKnown : Tables → List PlainBranch → Type 0
+AllKnown tables [] = ⊤
+AllKnown tables (b ∷ branches) = (first_unknown (atom_kinds tables b.from) (branch_references b)
+    ≡ None) × AllKnown tables branches
