@@ -3,11 +3,5 @@ pub mod ListSteps
 pub mod ListPlaces
 pub mod LineHeads
 pub mod StandingVersions
-pub mod FilledKeys
-pub mod MergedColumns
-pub mod ClashingRows
-pub mod Walking
 pub mod BegunLines
 pub mod LineParts
-pub mod CurrentRows
-pub mod JudgedShowings

@@ -1,5 +1,4 @@
 pub mod Seen
 pub mod Due
 pub mod Standing
-pub mod Stretches
-pub mod Showing
+pub mod Ordered

@@ -1,5 +1,5 @@
 -- What is seen of the parts of an image that were read.
-use Rattle.std.specs.Prelude.{ℕ, List, [], ◌∷◌, map}
+use Rattle.std.specs.Prelude.{ℕ, List, [], ◌∷◌}
 use Rattle.std.specs.declared.vec.Vec.{Vec}
 use Rattle.std.specs.declared.alloc.Global.{Global}
 use Rattle.relations.specs.Spans.{Span, span}
@@ -9,6 +9,7 @@ use Rattle.smo_types.specs.Commands.{versions_of}
 use Rattle.lifelines.specs.Lifelines.{Lifeline, lifelines_of}
 use Rattle.image_spelling.specs.Images.{StoredLine, Image}
 use Rattle.image_spelling.specs.Spelling.{last_number}
+pub use Rattle.shown_rows.specs.Cells.{cell_seen, cells_seen}
 use Rattle.image_reader.specs.declared.due.DueLine.{DueLine}
 use Rattle.history_store.specs.declared.restoration.Cell.{Cell as ReadCell}
 use Rattle.image_reader.specs.declared.entry.Unjudged.{Unjudged}
@@ -31,16 +32,9 @@ head_of l = ((l.first, last_number l.last), l.table)
 
 -- ---- entries
 
-abbrev pub cell_seen : ReadCell → Cell
-cell_seen c = record { id = c.id; value = shown c.value; period = c.period }
-
--- before it is judged
+-- one before it is judged
 abbrev pub unjudged_seen : Unjudged → Cell
 unjudged_seen c = record { id = c.id; value = shown c.value; period = span c.start c.end }
-
--- of each column
-abbrev pub cells_seen : List (Vec ReadCell Global) → List (List Cell)
-cells_seen columns = map (λ column. map cell_seen column.items) columns
 
 -- ---- lifelines
 

@@ -7,7 +7,7 @@ ghost use Rattle.command_spelling.specs.Reading.{Parsed, Unexpected};
 ghost use Rattle.command_codec.specs.Reads.{Reads};
 ghost use Rattle.image_spelling.specs.Reader as spec;
 ghost use Rattle.image_reader.specs.Seen.{image_seen, lines_seen};
-ghost use Rattle.image_reader.specs.Showing.{IsOrdered};
+ghost use Rattle.image_reader.specs.Ordered.{IsOrdered};
 ghost use Rattle.image_reader.specs.declared.fault.ImageFault.TheVariants as fault;
 
 use crate::ImageFault;

@@ -12,9 +12,7 @@ mod fault;
 mod image;
 mod key;
 mod line;
-mod order;
 mod stamp;
-mod stretch;
 mod version;
 
 pub use due::{DueLine, due_lines};

@@ -8,16 +8,16 @@ ghost use Rattle.image_spelling.specs.Judged.{is_line};
 ghost use Rattle.image_spelling.specs.Spelling.{last_number};
 ghost use Rattle.image_spelling.specs.Reader as spec;
 ghost use Rattle.image_reader.specs.Seen.{line_seen, parts_seen, stored_seen, lines_seen, head_of};
-ghost use Rattle.image_reader.specs.Showing.{IsOrdered};
+ghost use Rattle.image_reader.specs.Ordered.{IsOrdered};
 
 use crate::count::count_32;
 use crate::due::DueLine;
 use crate::entry::columns;
 use crate::key::keys;
-use crate::order::order_of;
 use command_codec::{Reader, Stop, name};
 use history_store::Cell;
 use prima_base::{Name, Period, same_name};
+use shown_rows::order_of;
 use std::alloc::Global;
 
 // In place of the last version of a lifeline that lives.

@@ -24,7 +24,7 @@ use Rattle.image_spelling.specs.ShownPast.{cells_written, line_size, image_past}
 use Rattle.image_spelling.proofs.ShownPasts.{is_past, past_holds, table_shown}
 use Rattle.image_spelling.proofs.DueLifelines.{due_lifelines}
 use Rattle.image_reader.specs.Seen.{stored_seen, cells_seen, lines_seen}
-use Rattle.image_reader.specs.Showing.{IsOrdered}
+use Rattle.image_reader.specs.Ordered.{IsOrdered}
 use Rattle.image_reader.specs.declared.line.ReadLine.{ReadLine}
 use Rattle.version_groups.specs.declared.made_table.MadeTable.{MadeTable}
 use Rattle.version_groups.specs.Covering.{line_of, AreOfLifelines}

@@ -11,7 +11,7 @@ ghost use Rattle.image_spelling.specs.ShownPast.{image_past};
 ghost use Rattle.image_reader.specs.Seen.{line_seen, stored_seen, lines_seen, image_seen};
 ghost use Rattle.image_reader.specs.declared.fault.ImageFault.TheVariants as fault;
 ghost use Rattle.version_groups.specs.Showing.{Represents};
-ghost use Rattle.image_reader.specs.Showing.{IsOrdered};
+ghost use Rattle.image_reader.specs.Ordered.{IsOrdered};
 ghost use Rattle.store_image.specs.ImageIn.{image_in, bare, CanBeMade, CanAllBeMade};
 
 use history_store::StoredTable;

@@ -17,7 +17,7 @@ use Rattle.prima_base.specs.OrderLaws.{row_exact}
 use Rattle.history_store.specs.Cuts.{Cut, is_before}
 use Rattle.history_store.specs.Handing.{is_value, at_column}
 use Rattle.smo_meaning.specs.OneRow.{Row, Relation}
-use Rattle.table_changes.specs.Ranges.{cut_at}
+use Rattle.candidate_rows.specs.Ranges.{cut_at}
 use Rattle.table_changes.specs.Overlay.{Known, known_hits, HaveKnownHits, AreLed, led_by, led_of}
 use Rattle.table_changes.specs.Overlay.{IsToldLed, Led, IsToldToo}
 use Rattle.table_changes.proofs.OverlayLaws.{found_in, in_found, picked_is, is_picked, and_true}

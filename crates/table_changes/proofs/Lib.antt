@@ -1,11 +1,8 @@
 pub mod Becoming
 pub mod Applying
-pub mod RangeEnds
-pub mod RangeLaws
 pub mod OverlayLaws
 pub mod LedRows
 pub mod OverlayWalks
 pub mod OverlaySteps
-pub mod FilterLaws
 pub mod Differences
 pub mod RowValues

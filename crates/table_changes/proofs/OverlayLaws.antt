@@ -17,13 +17,14 @@ use Rattle.relations.proofs.SetLaws.{in_has, has_in, put_back, in_set, from_set}
 use Rattle.prima_base.specs.declared.value.Value.{Value}
 use Rattle.prima_base.specs.Order.{value_cmp, row_cmp}
 use Rattle.prima_base.specs.OrderLaws.{row_exact, row_total, value_total}
-use Rattle.history_store.specs.Cuts.{Cut, is_before, between}
+use Rattle.history_store.specs.Cuts.{Cut, is_before}
 use Rattle.row_order.proofs.Cutting.{before_less}
 use Rattle.smo_meaning.specs.OneRow.{Row, Relation}
 use Rattle.smo_meaning.specs.Effects.{gained_rows}
 use Rattle.smo_meaning.proofs.RelationLaws.{put_is_set, filter_ascends}
 use Rattle.table_changes.specs.Overlay.{Known, told, is_kept, LeadsTo, lost_by_now, gained_by_now}
-use Rattle.table_changes.specs.Overlay.{HaveHits, HaveKnownHits, AreHits}
+use Rattle.candidate_rows.specs.Candidates.{HaveHits}
+use Rattle.table_changes.specs.Overlay.{HaveKnownHits, AreHits}
 use Rattle.table_changes.proofs.Applying.{not_true, not_of}
 
 -- ---- truths
@@ -263,18 +264,6 @@ module _ (known : Known) (stored now : Relation) (ordered : Ascends row_cmp (key
                 (has_known.all row (found_in known row true e) p)
             step (Some false) e k = absurd (never (has row_cmp row now) k
                 (has_now row false (found_in known row false e)))
-
--- the stored rows between the cuts
-pub between_has_hits : (passes : Row → Bool) (from to : Cut) (stored : Relation)
-    → ((row : Row) → In row stored → passes row ≡ true → (is_before from row ≡ false)
-    × (is_before to row ≡ true)) → HaveHits passes stored (between from to stored)
-between_has_hits passes from to stored within = record {
-  only = λ row i. (from_filter (λ r. not (is_before from r) && is_before to r) row stored i).0;
-  all = λ row i p. (let l = within row i p in
-      in_filter (λ r. not (is_before from r) && is_before to r) row stored i
-      (and_true (not (is_before from row)) (is_before to row) (not_of (is_before from row) l.0)
-      l.1));
-}
 
 -- after a row that is not before the cut none is
 pub none_past : (from to : Cut) (passes : Row → Bool) (e : Row × Bool) (rest : Known)

@@ -65,3 +65,14 @@ no_first false b e = refl
 pub no_second : (a b : Bool) → b ≡ false → (a && b) ≡ false
 no_second true b e = e
 no_second false b e = refl
+
+-- what fails where that fails which it leads to
+pub fails_too : (b c : Bool) → (b ≡ true → c ≡ true) → c ≡ false → b ≡ false
+fails_too true c f e = absurd (let g = f refl in cc)
+fails_too false c f e = refl
+
+-- a row that does not pass adds nothing
+pub passed_over : (p : Row → Bool) (rows : Relation) (i : ℕ) (row : Row) → i < length rows
+    → row ≡ get_or rows i [] → p row ≡ false → filter p (take (i + 1) rows) ≡ filter p (take i rows)
+passed_over p rows i row h is e = passed_more p rows i row h is
+    ∙ sym (left_out (p row) (filter p (take i rows)) row e)

@@ -1,5 +1,3 @@
 pub mod Changing
-pub mod Ranges
-pub mod Filters
 pub mod Overlay
 pub mod KnownFields

@@ -19,7 +19,7 @@ use Rattle.cond_expr.specs.Trees.{Test}
 use Rattle.history_store.specs.Cuts.{Cut, is_before}
 use Rattle.history_store.specs.Handing.{is_value, at_column}
 use Rattle.smo_meaning.specs.OneRow.{Row, Relation, meets}
-use Rattle.table_changes.specs.Ranges.{cut_at}
+use Rattle.candidate_rows.specs.Ranges.{cut_at}
 
 -- of rows that are not as they are stored, whether the table has them now
 abbrev pub Known : Type 0
@@ -55,11 +55,6 @@ abbrev pub known_hits : Cut → Cut → (Row → Bool) → Known → Relation
 known_hits from to passes known = keys_of (filter
     (λ (e : Row × Bool). is_le (row_cmp from.values e.0)
     && (is_before to e.0 && (e.1 && passes e.0))) known)
-
--- some rows of the relation, and among them all that pass the test
-pub record HaveHits (passes : Row → Bool) (stored : Relation) (rows : List Row) : Type 0 where
-  pub only : (row : Row) → In row rows → In row stored
-  pub all : (row : Row) → In row stored → passes row ≡ true → In row rows
 
 -- the rows of which it is known that the table has them, and that pass the test, in any order
 pub record HaveKnownHits (passes : Row → Bool) (known : Known) (rows : List Row) : Type 0 where

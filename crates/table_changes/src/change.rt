@@ -14,9 +14,8 @@ ghost use Rattle.smo_meaning.specs.Effects.{gained_rows};
 ghost use Rattle.smo_meaning.specs.Inserting.{relation_after_each, insertions};
 ghost use Rattle.table_changes.specs.Changing.{AreAccepted, IsChange, of_table};
 
-use crate::candidate::column_asked;
-use crate::overlay::{given_row, lost_and_gained};
-use crate::range::own_condition;
+use crate::overlay::{given_row, lost_and_gained, own_condition};
+use candidate_rows::column_asked;
 use history_store::{GivenRow, Prepared, StoredTable};
 use prima_base::{ColType, Name, NoMemory, same_name};
 use smo_ops::{Change, OwnColumns, insertions_are_a_union};

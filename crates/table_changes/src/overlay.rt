@@ -29,13 +29,12 @@ ghost use Rattle.table_changes.specs.Changing.{of_table, AreAccepted};
 ghost use Rattle.table_changes.specs.Overlay.{told, is_kept, LeadsTo, AreHits, lost_by_now};
 ghost use Rattle.table_changes.specs.Overlay.{gained_by_now};
 
-use crate::candidate::lend_rows;
-use crate::filter::{filter_for, hits_pass_filters, passes};
 use crate::known_row::KnownRows;
-use crate::range::{
-    high_cut, hits_are_between_the_cuts, hits_have_pinned_values, low_cut, own_condition,
-};
 use crate::row_value::copy_values;
+use candidate_rows::{
+    filter_for, high_cut, hits_are_between_the_cuts, hits_have_pinned_values, hits_pass_filters,
+    lend_rows, low_cut, passes,
+};
 use cond_expr::{CmpOp, Cond, Expr, pinned};
 use history_store::{BorrowedRows, GivenRow, StoredTable};
 use prima_base::{ColType, Name, NoMemory, Row, Val, Value, same_name};
@@ -258,6 +257,18 @@ fn apply_own<'a>(
         return Ok(());
     }
     apply(alloc, store, overlay, own, change)
+}
+
+/// The condition of the change, where it is an UPDATE or DELETE of the table with this name. It
+/// takes no memory.
+pub(crate) fn own_condition<'c>(name: &Name, change: &'c Change) -> Option<&'c Cond> {
+    if !same_name(change.table(), name) {
+        return None;
+    }
+    match change {
+        Change::Update { cond, .. } | Change::Delete { cond, .. } => Some(cond),
+        Change::Insert { .. } => None,
+    }
 }
 
 // Puts the columns to which the change pins constants after those that are there: none where it

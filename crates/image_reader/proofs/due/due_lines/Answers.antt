@@ -3,7 +3,7 @@ use Rattle.smo_types.specs.Commands.{version_of}
 use Rattle.smo_meaning.specs.Past.{no_tables}
 use Rattle.lifelines.specs.Lifelines.{lifelines_from}
 use Rattle.image_reader.specs.Seen.{line_seen}
-use Rattle.image_reader.proofs.ListPlaces.{dropped_plain}
+use Rattle.shown_rows.proofs.ListPlaces.{dropped_plain}
 use Rattle.image_reader.proofs.due.due_lines.Goals as goal
 
 pub loop-before-init : goal.loop-before-init

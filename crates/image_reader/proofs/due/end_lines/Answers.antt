@@ -3,7 +3,8 @@ use Rattle.lifelines.specs.Lifelines.{Lifeline, last_after, line_after}
 use Rattle.image_reader.specs.declared.due.DueLine.{DueLine}
 use Rattle.smo_schemas.specs.Names.{is_one_of}
 use Rattle.image_reader.specs.Seen.{line_seen}
-use Rattle.image_reader.proofs.ListPlaces.{same_got, changed_up_to, all_changed}
+use Rattle.shown_rows.proofs.ListPlaces.{same_got}
+use Rattle.image_reader.proofs.ListPlaces.{changed_up_to, all_changed}
 use Rattle.std.proofs.lemmas.List.{length-map}
 use Rattle.image_reader.proofs.due.end_lines.Goals as goal
 

@@ -7,7 +7,8 @@ use Rattle.command_spelling.specs.Reading.{prepend}
 use Rattle.image_spelling.specs.Reader as spec
 use Rattle.history_store.specs.declared.restoration.Cell.{Cell as ReadCell}
 use Rattle.image_reader.specs.Seen.{cell_seen, cells_seen}
-use Rattle.image_reader.proofs.ListPlaces.{dropped_plain, none_dropped}
+use Rattle.shown_rows.proofs.ListPlaces.{dropped_plain}
+use Rattle.image_reader.proofs.ListPlaces.{none_dropped}
 use Rattle.image_reader.proofs.ListSteps.{column_taken, column_failed, columns_taken}
 use Rattle.image_reader.proofs.entry.columns.Goals as goal
 

@@ -8,9 +8,10 @@ use Rattle.command_spelling.specs.Reading.{Parsed, and_then, prepend}
 use Rattle.image_spelling.specs.Items.{item}
 use Rattle.image_spelling.specs.Reader as spec
 use Rattle.image_reader.specs.Seen.{line_seen, stored_seen, lines_seen}
-use Rattle.image_reader.specs.Showing.{IsOrdered}
+use Rattle.image_reader.specs.Ordered.{IsOrdered}
 use Rattle.image_reader.proofs.ItemSteps.{counted_fails, after_fails}
-use Rattle.image_reader.proofs.ListPlaces.{dropped_here, none_dropped, got_map, some_dropped}
+use Rattle.shown_rows.proofs.ListPlaces.{dropped_here}
+use Rattle.image_reader.proofs.ListPlaces.{none_dropped, got_map, some_dropped}
 use Rattle.image_reader.proofs.ListSteps.{line_taken, line_failed, due_missing, due_left}
 use Rattle.image_reader.proofs.ListSteps.{lines_taken, lines_pushed}
 use Rattle.image_reader.proofs.line.all_lines.Goals as goal

@@ -3,7 +3,7 @@ use Rattle.std.specs.Prelude.{All}
 use Rattle.command_spelling.specs.Reading.{prepend}
 use Rattle.image_spelling.specs.Reader.{lines}
 use Rattle.image_reader.specs.Seen.{line_seen, lines_seen}
-use Rattle.image_reader.specs.Showing.{IsOrdered}
+use Rattle.image_reader.specs.Ordered.{IsOrdered}
 use Rattle.image_reader.proofs.line.all_lines.Given as goal
 
 abbrev pub invariant-loop-i : goal.invariant-loop-i

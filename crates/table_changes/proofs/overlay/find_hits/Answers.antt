@@ -12,7 +12,7 @@ use Rattle.history_store.specs.Cuts.{Cut, is_before}
 use Rattle.history_store.specs.Store.{relation_at}
 use Rattle.smo_meaning.specs.OneRow.{Row, Relation, meets}
 use Rattle.table_changes.specs.Overlay.{AreHits, CanBeHits}
-use Rattle.table_changes.specs.Ranges.{low_cut, high_cut}
+use Rattle.candidate_rows.specs.Ranges.{low_cut, high_cut}
 use Rattle.table_changes.proofs.OverlayLaws.{as_ascends, has_now, hits_are}
 use Rattle.table_changes.proofs.overlay.find_hits.Goals as goal
 

@@ -9,9 +9,9 @@ use Rattle.cond_expr.specs.AtomColumns.{columns_at}
 use Rattle.cond_expr.specs.Rows.{AreValid}
 use Rattle.cond_expr.specs.Seen.{test}
 use Rattle.smo_meaning.specs.OneRow.{Row, Relation, meets}
-use Rattle.table_changes.specs.Filters.{ColumnTest, passes, IsFilter}
+use Rattle.candidate_rows.specs.Filters.{ColumnTest, passes, IsFilter}
 use Rattle.table_changes.specs.Overlay.{is_kept}
-use Rattle.table_changes.proofs.FilterLaws.{fails_too, passed_over}
+use Rattle.table_changes.proofs.OverlaySteps.{fails_too, passed_over}
 use Rattle.table_changes.proofs.OverlaySteps.{all_valid, passed_more, in_get, no_first}
 use Rattle.table_changes.proofs.overlay.put_stored_hits.Goals as goal
 

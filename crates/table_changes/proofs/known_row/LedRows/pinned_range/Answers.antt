@@ -4,7 +4,7 @@ use Rattle.cond_expr.specs.declared.expr.CmpOp.TheVariants.{Eq}
 use Rattle.cond_expr.specs.declared.expr.Column.{Column}
 use Rattle.cond_expr.specs.PinnedParts.{pinned}
 use Rattle.cond_expr.specs.Seen.{test}
-use Rattle.table_changes.proofs.RangeLaws.{any_default}
+use Rattle.candidate_rows.proofs.RangeLaws.{any_default}
 use Rattle.table_changes.proofs.known_row.LedRows.pinned_range.Goals as goal
 
 pub returns-clause-range : goal.returns-clause-range

@@ -1,0 +1,4 @@
+pub mod RangeEnds
+pub mod RangeLaws
+pub mod FilterLaws
+pub mod BetweenCuts
