@@ -1,25 +1,29 @@
 -- How the tests of a command are joined.
-use Rattle.std.proofs.Common.{◌≡◌, ◌≤◌, ℕ, List, ◌∷◌, length, refl, sym, subst, ◌∙◌, arith}
-use Rattle.std.specs.Prelude.{Option, Some, None, Result}
+use Rattle.std.proofs.Common.{◌≡◌, ◌≤◌, ◌<◌, ℕ, List, ◌∷◌, length, refl, sym, subst, ◌∙◌, arith}
+use Rattle.std.specs.Prelude.{Option, Some, None, Result, Ok, Err, IfOk}
 use Rattle.std.proofs.lemmas.List.{length-map}
+use Rattle.prima_base.specs.Faults.{IsTested}
+use Rattle.prima_base.specs.declared.fault.CallFault.{CallFault}
 use Rattle.prima_base.specs.declared.refusal.Refusal.{Refusal}
 use Rattle.prima_base.specs.declared.refusal.What.{What}
+use Rattle.relations.specs.Spans.{forever}
 use Rattle.schema_catalog.specs.Tables.{Tables}
 use Rattle.smo_types.specs.declared.op.Op.{Op}
 use Rattle.smo_types.specs.Operators.{Operator, operator_of, operators_of}
-use Rattle.smo_types.specs.Commands.{evolving}
+use Rattle.smo_types.specs.Commands.{evolving, PlainCommand}
 use Rattle.smo_meaning.specs.Checks.{Fault}
 use Rattle.smo_meaning.specs.Counts.{first_excess}
-use Rattle.smo_meaning.specs.Accepts.{count_fault}
+use Rattle.smo_meaning.specs.Accepts.{count_fault, command_fault}
 use Rattle.smo_meaning.specs.First.{first_refusal}
 use Rattle.smo_meaning.specs.Preconditions.{AreNarrow}
+use Rattle.smo_meaning.specs.ValidValues.{BodyHolds}
 use Rattle.smo_meaning.specs.Past.{Past, newest_tables}
 use Rattle.smo_meaning.proofs.CountedOperators.{counted_length}
 use Rattle.smo_meaning.proofs.Firsts.{first_at, first_later}
 use Rattle.version_groups.specs.Groups.{Kept}
+use Rattle.version_groups.specs.Judged.{judged_command, HasNext, IsAccepted}
+use Rattle.version_groups.specs.declared.judged.Judged.{Judged}
 use Rattle.version_groups.specs.Showing.{Represents}
-use Rattle.archive_state.specs.declared.fault.CommitFault.{CommitFault}
-use Rattle.archive_state.specs.Committing.{IsJudged}
 
 -- an inverse whose count is within its limit
 pub few_operators : (op : Operator) (inverse : List Op)
@@ -41,11 +45,11 @@ no_excess (Some x) e = absurd (cc)
 
 -- after two tests that are met the others decide
 pub judged_after : {A : Type 0} (first second : Fault) (tests : List Fault)
-    (result : Result A CommitFault) → first ≡ None → second ≡ None
-    → IsJudged (first_refusal tests) result
-    → IsJudged (first_refusal (first ∷ second ∷ tests)) result
+    (result : Result A (CallFault Refusal)) → first ≡ None → second ≡ None
+    → IsTested (first_refusal tests) result
+    → IsTested (first_refusal (first ∷ second ∷ tests)) result
 judged_after first second tests result e f h =
-    subst (λ (r : Fault). IsJudged r result) (sym
+    subst (λ (r : Fault). IsTested r result) (sym
     (first_later first (second ∷ tests) e ∙ first_later second tests f)) h
 
 -- a test that is not met decides
@@ -57,3 +61,16 @@ pub second_decides : (first second : Fault) (tests : List Fault) (r : Refusal) �
     → second ≡ Some r → first_refusal (first ∷ second ∷ tests) ≡ Some r
 second_decides first second tests r e f = first_later first (second ∷ tests) e
     ∙ first_at second tests r f
+
+-- what is found of a command that passes each test is of an accepted one
+pub judged_accepted : (past : Past) (command : PlainCommand)
+    (result : Result Judged (CallFault Refusal)) → IsTested (command_fault past command) result
+    → IfOk result (λ j. judged_command j ≡ command) → IfOk result (λ j. HasNext past j)
+    → command.stamp < forever → BodyHolds command.body → IfOk result (λ j. IsAccepted past j)
+judged_accepted past command (Ok j) none is next stamp hold = record {
+  accepted = subst (λ (x : PlainCommand). command_fault past x ≡ None) (sym is) none;
+  stamp = subst (λ (x : PlainCommand). x.stamp < forever) (sym is) stamp;
+  constants = subst (λ (x : PlainCommand). BodyHolds x.body) (sym is) hold;
+  next = next;
+}
+judged_accepted past command (Err e) none is next stamp hold = tt

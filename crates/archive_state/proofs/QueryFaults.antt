@@ -1,30 +1,35 @@
 -- The first refusal of a query, test by test.
 use Rattle.std.proofs.Common.{◌≡◌, ◌≤◌, ℕ, true, List, [], ◌∷◌, ◌++◌, length, refl, sym, ap, subst}
 use Rattle.std.proofs.Common.{◌∙◌, arith}
-use Rattle.std.specs.Prelude.{nat_le, Option, Some, None, Result}
+use Rattle.std.specs.Prelude.{nat_le, Option, Some, None, Result, Ok, Err, IfOk, MatchResult}
 use Rattle.std.proofs.lemmas.List.{length-map}
 use Rattle.std.proofs.lemmas.Bool.Decides.{nat_tests}
 use Rattle.prima_base.specs.Keeping.{kept}
+use Rattle.prima_base.specs.declared.fault.CallFault.{CallFault}
+use Rattle.prima_base.specs.declared.fault.CallFault.TheVariants.{Refused, NoMemory}
 use Rattle.prima_base.specs.declared.refusal.Refusal.{Refusal}
 use Rattle.prima_base.specs.declared.refusal.Refusal.TheVariants.{NoVersion}
 use Rattle.relations.specs.Timed.{Entry}
 use Rattle.smo_types.specs.Commands.{PlainVersion, version_of}
 use Rattle.version_groups.specs.Groups.{Kept, versions_in}
 use Rattle.version_groups.specs.Showing.{Represents}
+use Rattle.schema_catalog.specs.Tables.{Tables}
 use Rattle.smo_meaning.specs.Checks.{Fault}
 use Rattle.smo_meaning.specs.First.{unless, first_refusal}
 use Rattle.smo_meaning.specs.Losses.{Loss}
 use Rattle.smo_meaning.specs.OneRow.{Row}
 use Rattle.smo_meaning.specs.Past.{Past, tables_of}
 use Rattle.smo_meaning.proofs.Firsts.{first_after, first_before, first_later, first_alone}
-use Rattle.query_types.specs.Queries.{PlainQuery}
+use Rattle.query_types.specs.Queries.{PlainQuery, query_of, IsLasting}
+use Rattle.query_types.specs.declared.query.Query.{Query}
+use Rattle.query_meaning.specs.Atoms.{with_atoms}
 use Rattle.query_meaning.specs.Accepted.{no_way_back, loss_fault, version_fault, fault_of_query}
 use Rattle.query_meaning.specs.Losing.{first_lost}
 use Rattle.query_meaning.proofs.WayBackLaws.{no_way_back_is}
 use Rattle.answer_text.specs.declared.listing.Listing.{Listing}
-use Rattle.archive_state.specs.declared.fault.AskFault.{AskFault}
-use Rattle.archive_state.specs.Asking.{IsAsked, TellsWayBack}
+use Rattle.archive_state.specs.Asking.{IsAsked, IsAskedSchema, IsChecked, IsWrong, TellsWayBack}
 use Rattle.query_meaning.specs.Checking.{excess_of, excess_fault, query_tests, query_fault}
+use Rattle.query_meaning.specs.Checking.{IsQueryChecked}
 
 module _ (past : Past) (query : PlainQuery) (few : excess_of query ≡ None)
     (there : query.version ≤ length past.versions) where
@@ -69,6 +74,28 @@ module _ (past : Past) (query : PlainQuery) (few : excess_of query ≡ None)
   one_lost l at r e n is t = loss_decides t ∙ ap (loss_fault past.versions) (sym e ∙ n)
       ∙ ap Some (sym is)
 
+-- what is checked over the tables of its version
+pub checked_over : (past : Past) (query : PlainQuery) (tables : Tables)
+    → IsAskedSchema past query tables → (result : Result Query (CallFault Refusal))
+    → IsQueryChecked tables query result
+    → IfOk result (λ q. IsLasting q.when) → MatchResult result
+    (λ checked. IsChecked past query checked) (λ fault. IsWrong past query fault)
+checked_over past query tables h (Ok q) is lasts =
+    let atoms : query_of q ≡ with_atoms (tables_of past query.version) query = is.1
+    ∙ ap (λ (t : Tables). with_atoms t query) h.schema in
+    record {
+      few = h.few;
+      there = h.there;
+      tests = tests_met past query h.few h.there
+          (ap (λ (t : Tables). query_fault t query) (sym h.schema) ∙ is.0);
+      atoms = atoms;
+      lasting = subst (λ (p : PlainQuery). IsLasting p.when) atoms lasts;
+    }
+checked_over past query tables h (Err (Refused r)) is lasts =
+    test_fails past query h.few h.there r (ap (λ (t : Tables). query_fault t query) (sym h.schema)
+    ∙ is)
+checked_over past query tables h (Err NoMemory) is lasts = tt
+
 pub within_kept : (kept : Kept) (past : Past) (n : ℕ) → Represents kept past
     → n ≤ length past.versions → n ≤ length kept.versions
 within_kept kept past n shows l =
@@ -78,7 +105,7 @@ within_kept kept past n shows l =
     omega arith
 
 -- a refusal for want of a way back has its cause
-pub way_back_told : (past : Past) (query : PlainQuery) (result : Result Listing AskFault)
+pub way_back_told : (past : Past) (query : PlainQuery) (result : Result Listing (CallFault Refusal))
     → IsAsked past query result → TellsWayBack past query result
 way_back_told past query result asked = λ k kind e.
     no_way_back_is past query k kind (subst (IsAsked past query) e asked)

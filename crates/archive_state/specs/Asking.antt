@@ -1,9 +1,13 @@
 -- What an archive answers to a query, over all of history, and tells of it.
 use Rattle.std.specs.Prelude.{◌≡◌, ℕ, ◌≤◌, List, [], ◌∷◌, ◌++◌, length, Option, Some, None, Bool}
-use Rattle.std.specs.Prelude.{true, false, Result, Err, MatchResult, ⊤}
+use Rattle.std.specs.Prelude.{true, false, Result, Err, MatchResult}
 use Rattle.std.specs.declared.vec.Vec.{Vec}
 use Rattle.std.specs.declared.alloc.Global.{Global}
+use Rattle.prima_base.specs.Faults.{IsTested}
 use Rattle.prima_base.specs.Timed.{entries_of}
+use Rattle.prima_base.specs.declared.fault.CallFault.{CallFault}
+use Rattle.prima_base.specs.declared.fault.CallFault.TheVariants.{Refused}
+use Rattle.prima_base.specs.declared.refusal.Refusal.{Refusal}
 use Rattle.answer_text.specs.declared.listing.Listing.{Listing}
 use Rattle.schema_catalog.specs.Tables.{Tables}
 use Rattle.piece_meaning.specs.Rules.{Book}
@@ -23,8 +27,6 @@ use Rattle.query_meaning.specs.Checking.{excess_of, query_tests}
 use Rattle.piece_texts.specs.ExplainedPieces.{PlainExplained, all_explained}
 use Rattle.piece_texts.specs.declared.explained.Explained.{Explained}
 use Rattle.query_exec.specs.QueryPieces.{ArePieces, living_pieces}
-use Rattle.archive_state.specs.declared.fault.AskFault.{AskFault}
-use Rattle.archive_state.specs.declared.fault.AskFault.TheVariants.{Refused, NoMemory}
 
 -- the periods of the entries are told, but where one moment is asked of
 abbrev pub tells_periods : When → Bool
@@ -32,10 +34,9 @@ tells_periods Always = true
 tells_periods (AsOf m) = false
 tells_periods (During a b) = true
 
--- why a query is not answered: its first refusal; running out of memory is free
-abbrev pub IsWrong : Past → PlainQuery → AskFault → Type 0
-IsWrong past query (Refused r) = fault_of_query past query ≡ Some r
-IsWrong past query NoMemory = ⊤
+-- why a query is not answered: its first refusal; that memory runs out is free
+abbrev pub IsWrong : Past → PlainQuery → CallFault Refusal → Type 0
+IsWrong past query fault = IsTested {A = Listing} (fault_of_query past query) (Err fault)
 
 -- the one listing of a query that is not refused
 pub record IsListed (past : Past) (query : PlainQuery) (listing : Listing) : Type 0 where
@@ -44,13 +45,13 @@ pub record IsListed (past : Past) (query : PlainQuery) (listing : Listing) : Typ
   pub periods : listing.periods ≡ tells_periods query.when
 
 -- what an archive answers to a query
-abbrev pub IsAsked : Past → PlainQuery → Result Listing AskFault → Type 0
+abbrev pub IsAsked : Past → PlainQuery → Result Listing (CallFault Refusal) → Type 0
 IsAsked past query result = MatchResult result (λ listing. IsListed past query listing)
     (λ fault. IsWrong past query fault)
 
 -- it is refused for want of a way back over a version only where there is none: at a moment of the
 -- slice that version is gone back over, names no inverse, and loses a table of the query
-abbrev pub TellsWayBack : Past → PlainQuery → Result Listing AskFault → Type 0
+abbrev pub TellsWayBack : Past → PlainQuery → Result Listing (CallFault Refusal) → Type 0
 TellsWayBack past query result = (k : ℕ) → (kind : OpKind)
     → result ≡ Err (Refused (NoInverse k kind)) → HasNoWayBack past query k kind
 
@@ -80,7 +81,8 @@ pub record AreTold (book : Book) (past : Past) (query : PlainQuery) (pieces : Li
   pub told : pieces ≡ pieces_told book past query
 
 -- what an archive tells of a query: its pieces, or why it is refused
-abbrev pub IsExplained : Book → Past → PlainQuery → Result (Vec Explained Global) AskFault → Type 0
+abbrev pub IsExplained : Book → Past → PlainQuery
+    → Result (Vec Explained Global) (CallFault Refusal) → Type 0
 IsExplained book past query result =
     MatchResult result (λ list. AreTold book past query (all_explained list.items))
     (λ fault. IsWrong past query fault)

@@ -1,21 +1,15 @@
 -- What an archive answers to a command.
-use Rattle.std.specs.Prelude.{◌≡◌, ℕ, length, Option, Some, None, Result, Ok, Err, ⊤}
+use Rattle.std.specs.Prelude.{◌≡◌, ℕ, length, Option, Some, None, Result, Ok, Err}
+use Rattle.prima_base.specs.declared.fault.CallFault.{CallFault}
+use Rattle.prima_base.specs.declared.fault.CallFault.TheVariants.{Refused, NoMemory}
+use Rattle.prima_base.specs.declared.refusal.Refusal.{Refusal}
 use Rattle.smo_types.specs.Commands.{PlainBody, changing, evolving, PlainCommand}
-use Rattle.smo_meaning.specs.Checks.{Fault}
 use Rattle.smo_meaning.specs.Accepts.{command_fault}
 use Rattle.smo_meaning.specs.Past.{Past, past_with}
 use Rattle.version_groups.specs.Room.{IsSame}
 use Rattle.version_groups.specs.Steps.{PreparedCommand, Prepares, rows_gained, rows_lost}
 use Rattle.archive_state.specs.declared.archive.Done.{Done}
-use Rattle.archive_state.specs.declared.fault.CommitFault.{CommitFault}
-use Rattle.archive_state.specs.declared.fault.CommitFault.TheVariants.{Refused, NoMemory}
 use Rattle.archive_state.specs.Standing.{ArchiveContent, RepresentsPast}
-
--- what a test answers: it is met, or this is its refusal
-abbrev pub IsJudged : {A : Type 0} → Fault → Result A CommitFault → Type 0
-IsJudged fault (Ok a) = fault ≡ None
-IsJudged fault (Err (Refused r)) = fault ≡ Some r
-IsJudged fault (Err NoMemory) = ⊤
 
 -- the newest version, where the command made it
 abbrev pub version_made : PlainBody → ℕ → Option ℕ
@@ -37,8 +31,8 @@ pub record IsAsBefore (old new : ArchiveContent) : Type 0 where
 -- an accepted command was made ready, and the archive shows the past that it showed, with room for
 -- what is to be done; another is refused by its first refusal, and the archive is what it was;
 -- where memory runs out it is as it was, too
-abbrev pub Readies : Past → PlainCommand → ArchiveContent → Result PreparedCommand CommitFault
-    → ArchiveContent → Type 0
+abbrev pub Readies : Past → PlainCommand → ArchiveContent
+    → Result PreparedCommand (CallFault Refusal) → ArchiveContent → Type 0
 Readies past command old (Ok next) new = (command_fault past command ≡ None) × IsAsBefore old new
     × RepresentsPast new past × Prepares new.groups past command next
 Readies past command old (Err (Refused r)) new = (command_fault past command ≡ Some r) × (new ≡ old)

@@ -10,7 +10,7 @@ use std::alloc::Global;
 use std::marker::Model;
 use std::sync::ledger::Ledger;
 use temporal_lang::Query;
-use version_groups::{Groups, Next};
+use version_groups::{Groups, Judged, Next};
 
 /// What was accepted: the versions with their stored tables, and the last stamp. Every archive
 /// stands for a past.
@@ -63,8 +63,8 @@ impl ArchiveState {
     ghost use Rattle.std.specs.Prelude.{◌≡◌, ◌+◌, ◌≤◌, [], None, List, IfOk};
     ghost use Rattle.relations.specs.Sets.{In};
     ghost use Rattle.smo_types.specs.Commands.{command_of};
-    ghost use Rattle.smo_meaning.specs.Accepts.{command_fault};
     ghost use Rattle.smo_meaning.specs.Past.{Past, beginning, past_with};
+    ghost use Rattle.version_groups.specs.Judged.{judged_command, IsAccepted};
     ghost use Rattle.version_groups.specs.Steps.{Prepares};
     ghost use Rattle.archive_state.specs.Standing.{RepresentsPast, RepresentsSome, archive_content};
     ghost use Rattle.query_types.specs.Queries.{query_of};
@@ -128,7 +128,7 @@ impl ArchiveState {
         ensures stands { RepresentsSome self.old × RepresentsSome self.new }
     {
         match judge(self.alloc, &self.groups, self.last, command) {
-            Ok(()) => self.make_ready(command),
+            Ok(judged) => self.make_ready(judged),
             Err(fault) => Err(fault),
         }
     }
@@ -223,14 +223,12 @@ impl ArchiveState {
     }
 
     // Makes an accepted command ready.
-    fn make_ready<'a>(&mut self, command: &'a Command) -> Result<Next<'a>, CommitFault>
-        requires { (past : Past) × RepresentsPast self.old past
-            × (command_fault past (command_of command.now) ≡ None) }
-        ensures { (past : Past) → RepresentsPast self.old past
-            → command_fault past (command_of command.now) ≡ None
-            → Readies past (command_of command.now) self.old result self.new }
+    fn make_ready<'a>(&mut self, judged: Judged<'a>) -> Result<Next<'a>, CommitFault>
+        requires { (past : Past) × RepresentsPast self.old past × IsAccepted past judged }
+        ensures { (past : Past) → RepresentsPast self.old past → IsAccepted past judged.entry
+            → Readies past (judged_command judged.entry) self.old result self.new }
     {
-        let next = self.groups.prepare(command)?;
+        let next = self.groups.prepare_judged(judged)?;
         Ok(next)
     }
 }

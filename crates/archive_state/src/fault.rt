@@ -1,41 +1,8 @@
-use prima_base::{NoMemory, Refusal};
+use prima_base::{CallFault, Refusal};
 
-/// Why a command is not accepted; the archive is then as it was.
-#[derive(Drop)]
-pub enum CommitFault {
-    /// The first refusal in the one order.
-    Refused(Refusal),
-    /// Memory ran out.
-    NoMemory,
-}
+/// Why a command is not accepted: the first refusal in the one order, or memory ran out. The
+/// archive is then as it was.
+pub type CommitFault = CallFault<Refusal>;
 
-impl From<NoMemory> for CommitFault {
-    ghost use Rattle.std.specs.Prelude.{◌≡◌};
-    ghost use Rattle.archive_state.specs.declared.fault.CommitFault.TheVariants.{NoMemory as OutOfMemory};
-
-    ghost from_gives = { λ _ e. e ≡ OutOfMemory };
-
-    fn from(_error: NoMemory) -> CommitFault {
-        CommitFault::NoMemory
-    }
-}
-
-/// Why a query is not answered.
-#[derive(Drop)]
-pub enum AskFault {
-    /// The first refusal in the one order.
-    Refused(Refusal),
-    /// Memory ran out.
-    NoMemory,
-}
-
-impl From<NoMemory> for AskFault {
-    ghost use Rattle.std.specs.Prelude.{◌≡◌};
-    ghost use Rattle.archive_state.specs.declared.fault.AskFault.TheVariants.{NoMemory as OutOfMemory};
-
-    ghost from_gives = { λ _ e. e ≡ OutOfMemory };
-
-    fn from(_error: NoMemory) -> AskFault {
-        AskFault::NoMemory
-    }
-}
+/// Why a query is not answered: the first refusal in the one order, or memory ran out.
+pub type AskFault = CallFault<Refusal>;

@@ -25,7 +25,7 @@ use schema_catalog::Schema;
 use smo_ops::Versions;
 use std::alloc::Global;
 use std::sync::ledger::Ledger;
-use temporal_lang::{Query, QueryFault, When, check_query, check_query_counts};
+use temporal_lang::{Query, When, check_query, check_query_counts};
 use version_groups::Groups;
 
 // The schema of the version that the query names. What there is too much of is refused before it.
@@ -51,11 +51,7 @@ fn checked(alloc: Global, schema: &Schema, query: &Query) -> Result<Query, AskFa
         → MatchResult result (λ checked. IsChecked past (query_of query.now) checked)
         (λ fault. IsWrong past (query_of query.now) fault) }
 {
-    match check_query(alloc, schema, query) {
-        Ok(checked) => Ok(checked),
-        Err(QueryFault::Refused(refusal)) => Err(AskFault::Refused(refusal)),
-        Err(QueryFault::NoMemory) => Err(AskFault::NoMemory),
-    }
+    check_query(alloc, schema, query)
 }
 
 // Which version's operator there is no way back over, and what kind of operator it is.

@@ -78,10 +78,7 @@ pub fn answer<'a, L: Ledger>(
     let slice = slice(query);
     ends_in_time(slice);
     let route = route_of(alloc, groups, slice, query.version)?;
-    let Some(schema) = groups.schema(query.version) else {
-        // the groups have each version up to the newest, and `there` says that it is one of them
-        unreachable!()
-    };
+    let schema = groups.schema_of(query.version);
     let mut rows = answer_branches(alloc, groups, book, &route, schema, &query.branches, steps)?;
     coalesce_in_place(&mut rows, slice);
     Ok(rows)

@@ -75,10 +75,7 @@ pub(crate) fn part_pieces(
         (pieces_of x.pieces.items)) }
     ensures told { IfOk result (λ x. pieces_of x.pieces.items ≡ filter lives (pieces_of pieces.now)) }
 {
-    let Some(schema) = groups.schema(part.1) else {
-        // the groups have each version up to the newest, and `there` says that it is one of them
-        unreachable!()
-    };
+    let schema = groups.schema_of(part.1);
     let pieces = living_copies(alloc, pieces, schema)?;
     Ok(PartPieces { part, pieces })
 }

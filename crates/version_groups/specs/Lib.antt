@@ -10,6 +10,7 @@ pub mod Showing
 pub mod Becoming
 pub mod Changing
 pub mod Steps
+pub mod Judged
 pub mod Room
 pub mod Installing
 pub mod Ending

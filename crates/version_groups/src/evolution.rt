@@ -11,7 +11,7 @@ ghost use Rattle.prima_base.specs.Columns.{AreColumns, IsRelation};
 ghost use Rattle.schema_catalog.specs.Databases.{Database, IsDatabase};
 ghost use Rattle.history_store.specs.Store.{AllBefore};
 ghost use Rattle.smo_types.specs.Operators.{operator_of, operators_of};
-ghost use Rattle.smo_meaning.specs.After.{op_fault, schema_after, carried, IsValid, HasFewNodes};
+ghost use Rattle.smo_meaning.specs.After.{op_fault, schema_after, carried, IsValid};
 ghost use Rattle.smo_meaning.specs.Effects.{rows_under};
 ghost use Rattle.smo_types.specs.Commands.{version_of};
 ghost use Rattle.smo_meaning.specs.OperatorTable.{line, made_names};
@@ -34,7 +34,7 @@ use history_store::StoredTable;
 use prima_base::{Name, NoMemory, Row, same_name};
 use schema_catalog::{Schema, Table};
 use smo_maps::{Carried, carry};
-use smo_ops::{Made, Op, OpFault, Version, after, made, made_of, next_schema_is_valid};
+use smo_ops::{Made, Op, Version, made, made_of, next_schema_is_valid};
 use std::alloc::Global;
 
 /// Tables that begin, and the places of a version's own among all that are stored and those.
@@ -42,13 +42,6 @@ use std::alloc::Global;
 pub(crate) struct NextTables {
     pub(crate) begun: Vec<MadeTable>,
     pub(crate) places: Vec<usize>,
-}
-
-/// The next version, and its tables.
-#[derive(Drop)]
-pub(crate) struct Evolved {
-    pub(crate) version: Version,
-    pub(crate) tables: NextTables,
 }
 
 // The rows that are stored under the name now; none where there is no such table.
@@ -68,20 +61,6 @@ fn current_rows(
     match find_stored(tables, places, name) {
         Some(store) => store.current(),
         None => Ok(Vec::new(alloc)),
-    }
-}
-
-// The schema after an operator whose preconditions hold.
-fn next_schema(alloc: Global, before: &Schema, op: &Op) -> Result<Schema, NoMemory>
-    requires valid { IsValid before.now }
-    requires accepted { op_fault before.now (operator_of op.now) ≡ None }
-    requires few { HasFewNodes (operator_of op.now) }
-    ensures { IfOk result (λ next. next ≡ schema_after before.now (operator_of op.now)) }
-{
-    match after(alloc, before, op) {
-        Ok(next) => Ok(next),
-        Err(OpFault::Refused(_)) => unreachable!(),
-        Err(OpFault::NoMemory) => Err(NoMemory),
     }
 }
 
@@ -213,7 +192,7 @@ fn next_place(
     }
     match find_table(tables, places, table.name()) {
         Some((place, _)) => Ok(place),
-        // A table that is not made is stored.
+        // A table that is not made is stored under its name at one of these places (`others`).
         None => unreachable!(),
     }
 }
@@ -255,17 +234,6 @@ fn next_tables(
     Ok(NextTables { begun, places: own })
 }
 
-// Equal operators.
-fn copy_operators(alloc: Global, ops: &[Op]) -> Result<Vec<Op>, NoMemory>
-    ensures { IfOk result (λ v. operators_of v.items ≡ operators_of ops.now) }
-{
-    let mut copies = Vec::with_capacity(alloc, ops.len())?;
-    for op in ops {
-        copies.push(op.copy(alloc)?)?;
-    }
-    Ok(copies)
-}
-
 // The rows that the operator makes of those that are stored now.
 fn carry_rows(
     alloc: Global,
@@ -290,92 +258,42 @@ fn carry_rows(
     carry(alloc, op, before, &first, &second)
 }
 
-// The stored tables of the next version: the made ones with the rows that are carried over the
-// operator, the others as they stand.
-fn begin_version(
-    alloc: Global,
-    number: u32,
-    before: &Schema,
-    next: &Schema,
-    tables: &[MadeTable],
-    places: &[usize],
-    stamp: u64,
-    op: &Op,
-) -> Result<NextTables, NoMemory>
-    requires schema { IsValid before.now }
-    requires accepted { op_fault before.now (operator_of op.now) ≡ None }
-    requires next { next.now ≡ schema_after before.now (operator_of op.now) }
-    requires there { AreWithin places.now (length tables.now) }
-    requires ordered { Ascends bytes_cmp (names_of (at_places tables.now places.now)) }
-    requires valid { stamp < forever }
-    requires stored { (database : Database) × IsDatabase before.now database
-        × AreStored before.now database stamp (at_places tables.now places.now) }
-    ensures { (database : Database) → IsDatabase before.now database
-        → AreStored before.now database stamp (at_places tables.now places.now)
-        → IfOk result (λ t. AreNext tables.now places.now number stamp
-        (makes before.now (operator_of op.now))
-        (λ name. rows_under (get (carried before.now (operator_of op.now) database) name)) next.now
-        t.begun.items t.places.items) }
-{
-    next_schema_is_valid();
-    let rows = carry_rows(alloc, before, tables, places, op)?;
-    next_tables(alloc, number, next, tables, places, made(op), &rows, stamp)
-}
-
-// The version that the operator makes, with copies of it and of its inverse.
-fn make_version(
-    alloc: Global,
-    stamp: u64,
-    op: &Op,
-    inverse: &[Op],
-    schema: Schema,
-) -> Result<Version, NoMemory>
-    ensures { IfOk result (λ v. version_of v
-        ≡ record {
-          stamp = stamp;
-          op = operator_of op.now;
-          inverse = operators_of inverse.now;
-          tables = schema;
-        }) }
-{
-    Ok(Version {
-        stamp,
-        op: op.copy(alloc)?,
-        inverse: copy_operators(alloc, inverse)?,
-        schema,
-    })
-}
-
-/// The version of this number that the operator makes of this schema at the stamp, and its stored
-/// tables: the made ones with the rows that are carried over the operator, whose lifelines begin
+/// The stored tables of the version, which has this number, and which its operator makes of this
+/// schema: the made ones with the rows that are carried over the operator, whose lifelines begin
 /// with it, the others as they stand. It costs a copy of the operator's inputs, and of what it
 /// makes. The one error is `NoMemory`, where memory runs out.
-pub(crate) fn prepare_version(
+pub(crate) fn begin_version(
     alloc: Global,
     number: u32,
     before: &Schema,
     tables: &[MadeTable],
     places: &[usize],
-    stamp: u64,
-    op: &Op,
-    inverse: &[Op],
-) -> Result<Evolved, NoMemory>
+    version: &Version,
+) -> Result<NextTables, NoMemory>
     requires schema { IsValid before.now }
-    requires accepted { op_fault before.now (operator_of op.now) ≡ None }
-    requires few { HasFewNodes (operator_of op.now) }
+    requires accepted { op_fault before.now (operator_of version.now.op) ≡ None }
+    requires next { version.now.schema ≡ schema_after before.now (operator_of version.now.op) }
     requires there { AreWithin places.now (length tables.now) }
     requires ordered { Ascends bytes_cmp (names_of (at_places tables.now places.now)) }
-    requires valid { stamp < forever }
+    requires valid { version.now.stamp < forever }
     requires stored { (database : Database) × IsDatabase before.now database
-        × AreStored before.now database stamp (at_places tables.now places.now) }
+        × AreStored before.now database version.now.stamp (at_places tables.now places.now) }
     ensures { (database : Database) → IsDatabase before.now database
-        → AreStored before.now database stamp (at_places tables.now places.now)
-        → IfOk result (λ e. IsEvolved tables.now places.now number before.now database stamp
-        (operator_of op.now) (operators_of inverse.now) (version_of e.version)
-        e.tables.begun.items e.tables.places.items) }
+        → AreStored before.now database version.now.stamp (at_places tables.now places.now)
+        → IfOk result (λ t. IsEvolved tables.now places.now number before.now database
+        version.now.stamp (operator_of version.now.op) (operators_of version.now.inverse.items)
+        (version_of version.now) t.begun.items t.places.items) }
 {
-    let schema = next_schema(alloc, before, op)?;
-    let tables = begin_version(alloc, number, before, &schema, tables, places, stamp, op)?;
-    let version = make_version(alloc, stamp, op, inverse, schema)?;
-    Ok(Evolved { version, tables })
+    next_schema_is_valid();
+    let rows = carry_rows(alloc, before, tables, places, &version.op)?;
+    next_tables(
+        alloc,
+        number,
+        &version.schema,
+        tables,
+        places,
+        made(&version.op),
+        &rows,
+        version.stamp,
+    )
 }

@@ -1,6 +1,7 @@
 use crate::changed_table::{Changes, install_tables, prepare_tables};
 use crate::ended_lifeline::end_consumed;
-use crate::evolution::{Evolved, prepare_version};
+use crate::evolution::begin_version;
+use crate::judged::{Judged, judge_accepted};
 use crate::made_table::{MadeTable, find_stored, find_table};
 use crate::next::{Next, Step};
 use crate::restoration::restored_tables;
@@ -8,7 +9,7 @@ use crate::size::SizeLine;
 use history_store::{Prepared, StoredTable};
 use prima_base::{Name, NoMemory};
 use schema_catalog::Schema;
-use smo_ops::{Body, Change, Command, Op, Version, Versions, check_counts, made};
+use smo_ops::{Change, Command, Version, Versions, made};
 use std::alloc::Global;
 use std::marker::Model;
 use std::mem;
@@ -47,9 +48,7 @@ impl Model for Groups {
 
 ghost use Rattle.std.specs.Prelude.{◌≡◌, ◌-◌, ◌<◌, ◌≤◌, ◌++◌, map, length, slice_index, IfOk, OnOk};
 ghost use Rattle.std.specs.Prelude.{None, vec_len, vec_capacity};
-ghost use Rattle.smo_types.specs.Commands.{version_of, versions_of, body_of};
-ghost use Rattle.smo_meaning.specs.Counts.{first_excess};
-ghost use Rattle.smo_meaning.specs.ValidValues.{BodyHolds};
+ghost use Rattle.smo_types.specs.Commands.{version_of, versions_of};
 ghost use Rattle.smo_meaning.specs.Past.{no_tables, newest_from, tables_from, begun_at};
 
 // How many of the versions begin at the moment or before it.
@@ -96,16 +95,6 @@ fn put_after(list: &mut Vec<MadeTable>, more: Vec<MadeTable>)
     }
 }
 
-// Meets each constant of a command whose counts are within their limits: it is a value of the code,
-// and so a valid one.
-#[tactic(auto, using(crate::proofs::PreparedCommand::counted_hold))]
-fn meet_constants(command: &Command)
-    requires { first_excess (body_of command.now.1) ≡ None }
-    ensures { BodyHolds (body_of command.now.1) }
-{
-    let _counted = check_counts(command);
-}
-
 impl Groups {
     ghost use Rattle.std.specs.Prelude.{◌≡◌, ◌+◌, ◌<◌, ◌≤◌, ◌^◌, ◌++◌, ◌∷◌, [], List, length};
     ghost use Rattle.std.specs.Prelude.{slice_index_or, MatchOption, IfOk, OnOk, None};
@@ -124,6 +113,7 @@ impl Groups {
     ghost use Rattle.smo_meaning.specs.ValidValues.{BodyHolds};
     ghost use Rattle.smo_meaning.specs.Past.{Past, beginning, no_tables, tables_from, newest_from};
     ghost use Rattle.smo_meaning.specs.Past.{version_at, past_with};
+    ghost use Rattle.smo_meaning.specs.Past.{newest_tables};
     ghost use Rattle.smo_meaning.specs.Sizes.{Size};
     ghost use Rattle.version_groups.specs.Groups.{versions_in, places_of, stored_at, table_in};
     ghost use Rattle.version_groups.specs.Groups.{newest_group, names_of};
@@ -139,6 +129,8 @@ impl Groups {
     ghost use Rattle.version_groups.specs.Sizes.{IsLineOf};
     ghost use Rattle.version_groups.specs.Room.{IsSame};
     ghost use Rattle.version_groups.specs.Steps.{IsReady, IsStep, Prepares, a_command, step_of};
+    ghost use Rattle.version_groups.specs.Judged.{judged_command, IsAccepted};
+    ghost use Rattle.version_groups.specs.declared.judged.Judged.TheVariants as found;
 
     /// Groups in which nothing was accepted: version 0 alone. It takes no memory.
     pub fn new(alloc: Global) -> Groups
@@ -215,13 +207,28 @@ impl Groups {
             (λ s. (version ≤ length self.now.versions)
             × (s.now ≡ tables_from no_tables (versions_in self.now) version)) }
     {
+        if version > self.newest() {
+            return None;
+        }
+        Some(self.schema_of(version))
+    }
+
+    /// The schema of a version that there is. It takes no memory.
+    pub fn schema_of(&self, version: u32) -> &Schema
+        requires there { version ≤ length self.now.versions }
+        ensures { result.now ≡ tables_from no_tables (versions_in self.now) version }
+    {
         if version == 0 {
-            return Some(&self.nothing);
+            return &self.nothing;
         }
-        match self.versions.list.get(version as usize - 1) {
-            Some(version) => Some(&version.schema),
-            None => None,
-        }
+        &self.versions.list[version as usize - 1].schema
+    }
+
+    /// The schema of the newest version. It takes no memory.
+    pub fn newest_schema(&self) -> &Schema
+        ensures { (past : Past) → Represents self.now past → result.now ≡ newest_tables past }
+    {
+        newest_schema(&self.nothing, &self.versions)
     }
 
     /// What is stored of a version's table: `None` exactly where there is no such version, or no
@@ -312,10 +319,24 @@ impl Groups {
             → command_fault past (command_of command.now) ≡ None
             → IfOk result (λ next. Prepares self.new past (command_of command.now) next) }
     {
-        meet_constants(command);
-        match command.body() {
-            Body::Changes(changes) => self.prepare_changes(command.stamp(), changes),
-            Body::Evolve { op, inverse } => self.prepare_operator(command.stamp(), op, inverse),
+        let newest = newest_schema(&self.nothing, &self.versions);
+        let judged = judge_accepted(self.alloc, newest, command)?;
+        self.prepare_judged(judged)
+    }
+
+    /// The same as `prepare`, of what judging a command that is accepted after the past found: for
+    /// an operator the schema that is after it. So nothing of that is computed again, and operators
+    /// are not copied.
+    pub fn prepare_judged<'a>(&mut self, judged: Judged<'a>) -> Result<Next<'a>, NoMemory>
+        requires { (past : Past) × Represents self.old past × IsAccepted past judged }
+        ensures same { IsSame self.old self.new }
+        ensures shows { (past : Past) → Represents self.old past → Represents self.new past }
+        ensures next { (past : Past) → Represents self.old past → IsAccepted past judged.entry
+            → IfOk result (λ next. Prepares self.new past (judged_command judged.entry) next) }
+    {
+        match judged {
+            Judged::Changes { stamp, changes } => self.prepare_changes(stamp, changes),
+            Judged::Evolve(version) => self.prepare_version(version),
         }
     }
 
@@ -421,38 +442,26 @@ impl Groups {
         })
     }
 
-    // Makes an operator ready.
-    fn prepare_operator<'a>(
-        &mut self,
-        stamp: u64,
-        op: &Op,
-        inverse: &[Op],
-    ) -> Result<Next<'a>, NoMemory>
-        requires valid { stamp < forever }
-        requires constants { BodyHolds (evolving (operator_of op.now) (operators_of inverse.now)) }
-        requires accepted { (past : Past) × Represents self.old past
-            × (command_fault past (a_command stamp
-            (evolving (operator_of op.now) (operators_of inverse.now))) ≡ None) }
+    // Makes the next version ready.
+    fn prepare_version<'a>(&mut self, version: Version) -> Result<Next<'a>, NoMemory>
+        requires { (past : Past) × Represents self.old past
+            × IsAccepted past (found.Evolve version) }
         ensures same { IsSame self.old self.new }
         ensures next { (past : Past) → Represents self.old past
-            → command_fault past (a_command stamp
-            (evolving (operator_of op.now) (operators_of inverse.now))) ≡ None
-            → IfOk result (λ next. Prepares self.new past
-            (a_command stamp (evolving (operator_of op.now) (operators_of inverse.now))) next) }
+            → IsAccepted past (found.Evolve version)
+            → IfOk result (λ next. Prepares self.new past (judged_command (found.Evolve version))
+            next) }
     {
         let number = self.newest() + 1;
         let schema = newest_schema(&self.nothing, &self.versions);
-        let evolved = prepare_version(
+        let tables = begin_version(
             self.alloc,
             number,
             schema,
             &self.stored,
             &self.newest,
-            stamp,
-            op,
-            inverse,
+            &version,
         )?;
-        let Evolved { version, tables } = evolved;
         self.reserve_version(tables.begun.len())?;
         Ok(Next {
             gained: 0,

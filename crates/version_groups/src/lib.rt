@@ -10,6 +10,7 @@ mod changed_table;
 mod ended_lifeline;
 mod evolution;
 mod groups;
+mod judged;
 mod lifeline_laws;
 mod made_table;
 mod next;
@@ -17,6 +18,7 @@ mod restoration;
 mod size;
 
 pub use groups::Groups;
+pub use judged::{Judged, copied_version};
 pub use lifeline_laws::{lifelines_are_few, lifelines_are_longest_runs};
 pub use made_table::MadeTable;
 pub use next::Next;

@@ -54,7 +54,8 @@ fn begin_over(
         ≡ stores_of begun.old.items ++ into_iter_items stores.old) }
 {
     let Some(store) = stores.next() else {
-        // There is a store for each table that is made.
+        // There is a store for each table that is made: `due` says that the first that is left is
+        // this table's.
         unreachable!();
     };
     let made = MadeTable {
@@ -99,7 +100,7 @@ fn restored_place(
     }
     match find_table(tables, places, table.name()) {
         Some((place, _)) => Ok(place),
-        // A table that is not made is stored.
+        // A table that is not made is stored under its name at one of these places (`others`).
         None => unreachable!(),
     }
 }

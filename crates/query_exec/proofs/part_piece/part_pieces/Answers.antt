@@ -6,4 +6,4 @@ use Rattle.query_exec.proofs.part_piece.part_pieces.Goals as goal
 
 pub living_copies-requires : goal.living_copies-requires
 living_copies-requires c = subst (λ (t : Tables). AllTyped t (pieces_of c.args.pieces.now))
-    (sym c.in-Some.ensures.1) c.requires.typed
+    (sym c.schema_of-schema.ensures) c.requires.typed
