@@ -6,7 +6,7 @@ ghost use Rattle.rewrite.specs.Books.{EachOf};
 
 use answer_text::Listing;
 use archive_state::{ArchiveState, AskFault};
-use prima_base::{FOREVER, Period, Steps, Val};
+use prima_base::{FOREVER, Period, Steps, TimedRow, Val};
 use rewrite_rules::{Rule, RuleBook, push_every_rule};
 use script_parse::{Statement, next_statement};
 use std::alloc::Global;
@@ -65,6 +65,22 @@ fn answer_by<'a, L: Ledger>(
     Ok((listing, steps.count()))
 }
 
+// The same for the query of this text.
+fn ask<'a>(
+    alloc: Global,
+    archive: &'a ArchiveState,
+    book: &RuleBook,
+    text: &str,
+) -> Result<(Listing<'a>, u64), Fail>
+    requires { EachOf book.now.rules.items (λ r. handles (r.vtable, r.value)) }
+{
+    let query = query_of(alloc, text)?;
+    match answer_by::<Brand>(archive, book, &query, Blank::new(1)) {
+        Ok(answer) => Ok(answer),
+        Err(_) => Err(Fail::new("the query is answered")),
+    }
+}
+
 // Whether the value is this text, and lies in what the archive keeps.
 fn is_borrowed(value: &Val<'_>, text: &[u8]) -> bool {
     match value {
@@ -81,6 +97,71 @@ fn is_made(value: &Val<'_>, text: &[u8]) -> bool {
     }
 }
 
+// Fills the archive with a row that was changed, in a table that has another name in version 2.
+fn fill(alloc: Global, archive: &mut ArchiveState) -> Result<(), Fail> {
+    let create = "AT 1 EVOLVE CREATE TABLE t (a INT, b TEXT)";
+    let rename = "AT 9 EVOLVE RENAME TABLE t INTO u INVERSE RENAME TABLE u INTO t";
+    commit(alloc, archive, create)?;
+    commit(alloc, archive, "AT 5 INSERT INTO t (a, b) VALUES (1, 'x')")?;
+    commit(alloc, archive, "AT 7 UPDATE t SET b = 'y' WHERE a = 1")?;
+    commit(alloc, archive, rename)
+}
+
+// The counter that a query is given has the steps of what it read.
+fn keys_are_counted(alloc: Global, archive: &ArchiveState, book: &RuleBook) -> Result<(), Fail>
+    requires { EachOf book.now.rules.items (λ r. handles (r.vtable, r.value)) }
+{
+    let (listing, count) = ask(alloc, archive, book, "QUERY VERSION 2 SELECT a FROM u")?;
+    // A key and an entry of the one row, in each of the tables that it has stood in.
+    if listing.rows.len() == 1 && 2 <= count && count <= 4 {
+        return Ok(());
+    }
+    Err(Fail::new("a key and an entry of the one row are read, in each table"))
+}
+
+// The one value of a row.
+fn only_value<'a, 'b>(row: &'b TimedRow<'a>) -> Result<&'b Val<'a>, Fail> {
+    match row.values.as_slice() {
+        [value] => Ok(value),
+        _ => Err(Fail::new("a row has one value")),
+    }
+}
+
+// Texts of a plain column lie in what the archive keeps.
+fn texts_are_borrowed(alloc: Global, archive: &ArchiveState, book: &RuleBook) -> Result<(), Fail>
+    requires { EachOf book.now.rules.items (λ r. handles (r.vtable, r.value)) }
+{
+    let (listing, _) = ask(alloc, archive, book, "QUERY VERSION 1 SELECT b FROM t")?;
+    let [first, second] = listing.rows.as_slice() else {
+        return Err(Fail::new("the row has two periods"));
+    };
+    if Some(first.period) != Period::new(5, 7) || Some(second.period) != Period::new(7, FOREVER) {
+        return Err(Fail::new("the periods are those before and after the change"));
+    }
+    if is_borrowed(only_value(first)?, b"x") && is_borrowed(only_value(second)?, b"y") {
+        return Ok(());
+    }
+    Err(Fail::new("both texts are borrowed"))
+}
+
+// A text that is computed is made for the answer, beside one that is not.
+fn computed_text_is_made(alloc: Global, archive: &ArchiveState, book: &RuleBook) -> Result<(), Fail>
+    requires { EachOf book.now.rules.items (λ r. handles (r.vtable, r.value)) }
+{
+    let text = "QUERY VERSION 2 SELECT p.b, CONCAT(q.b, '!') FROM u p, u q AS OF 9";
+    let (listing, _) = ask(alloc, archive, book, text)?;
+    let [row] = listing.rows.as_slice() else {
+        return Err(Fail::new("one row holds at the moment"));
+    };
+    let [borrowed, made] = row.values.as_slice() else {
+        return Err(Fail::new("a row has two values"));
+    };
+    if is_borrowed(borrowed, b"y") && is_made(made, b"y!") {
+        return Ok(());
+    }
+    Err(Fail::new("the one text is borrowed, the other made"))
+}
+
 #[test]
 fn texts_of_plain_columns_are_borrowed(rt: HostRuntime) -> Result<(), Fail> {
     let alloc = rt.alloc();
@@ -90,53 +171,8 @@ fn texts_of_plain_columns_are_borrowed(rt: HostRuntime) -> Result<(), Fail> {
         return Err(Fail::new("twelve rules make a book"));
     };
     let mut archive = ArchiveState::new(alloc);
-    commit(
-        alloc,
-        &mut archive,
-        "AT 1 EVOLVE CREATE TABLE t (a INT, b TEXT)",
-    )?;
-    commit(
-        alloc,
-        &mut archive,
-        "AT 5 INSERT INTO t (a, b) VALUES (1, 'x')",
-    )?;
-    commit(alloc, &mut archive, "AT 7 UPDATE t SET b = 'y' WHERE a = 1")?;
-    commit(
-        alloc,
-        &mut archive,
-        "AT 9 EVOLVE RENAME TABLE t INTO u INVERSE RENAME TABLE u INTO t",
-    )?;
-    let keys = query_of(alloc, "QUERY VERSION 2 SELECT a FROM u")?;
-    let Ok((listing, count)) = answer_by::<Brand>(&archive, &book, &keys, Blank::new(1)) else {
-        return Err(Fail::new("the query is answered"));
-    };
-    // A key and an entry of the one row, in each of the tables that it has stood in.
-    assert!(rt; listing.rows.len() == 1 && 2 <= count && count <= 4);
-    let plain = query_of(alloc, "QUERY VERSION 1 SELECT b FROM t")?;
-    let Ok((listing, _)) = answer_by::<Brand>(&archive, &book, &plain, Blank::new(1)) else {
-        return Err(Fail::new("the query is answered"));
-    };
-    assert!(rt; listing.rows.len() == 2);
-    assert!(rt; Some(listing.rows[0].period) == Period::new(5, 7));
-    assert!(rt; Some(listing.rows[1].period) == Period::new(7, FOREVER));
-    let [first] = listing.rows[0].values.as_slice() else {
-        return Err(Fail::new("a row has one value"));
-    };
-    let [second] = listing.rows[1].values.as_slice() else {
-        return Err(Fail::new("a row has one value"));
-    };
-    assert!(rt; is_borrowed(first, b"x") && is_borrowed(second, b"y"));
-    let computed = query_of(
-        alloc,
-        "QUERY VERSION 2 SELECT p.b, CONCAT(q.b, '!') FROM u p, u q AS OF 9",
-    )?;
-    let Ok((listing, _)) = answer_by::<Brand>(&archive, &book, &computed, Blank::new(1)) else {
-        return Err(Fail::new("the query is answered"));
-    };
-    assert!(rt; listing.rows.len() == 1);
-    let [borrowed, made] = listing.rows[0].values.as_slice() else {
-        return Err(Fail::new("a row has two values"));
-    };
-    assert!(rt; is_borrowed(borrowed, b"y") && is_made(made, b"y!"));
-    Ok(())
+    fill(alloc, &mut archive)?;
+    keys_are_counted(alloc, &archive, &book)?;
+    texts_are_borrowed(alloc, &archive, &book)?;
+    computed_text_is_made(alloc, &archive, &book)
 }
