@@ -2,7 +2,7 @@
 //! change and command, what of them can be written, and what bytes are that are no whole spelling.
 //!
 //! The spelling stands in `specs/Spelling.antt`, and what has one in `specs/Valid.antt`. Readers
-//! from the prefix stand in `specs/Reader.antt`. `IsCorrectParser` of `specs/Reading.antt` joins
+//! from the start stand in `specs/Reader.antt`. `IsCorrectParser` of `specs/Reading.antt` joins
 //! both: what a reader reads is spelled so, what is spelled so is read, whatever follows, and where
 //! nothing is read the byte is the first with which no spelling goes on.
 #![tactic(auto)]

@@ -4,7 +4,7 @@
 //! They begin as the keys of a table inside a slice, with no value, and take in one column after
 //! another. Both the stretches and the entries of a column ascend by id, and those of one id follow
 //! one another, so that one walk along both finds all that meet: whichever ends first is left
-//! after.
+//! behind.
 
 ghost use Rattle.std.specs.Prelude.{◌≡◌, ℕ, ◌+◌, ◌≤◌, ◌++◌, ◌∷◌, [], ◌↔◌, List, true, false};
 ghost use Rattle.std.specs.Prelude.{length, map, IfOk, OnOk, MatchOption, option_to_list};

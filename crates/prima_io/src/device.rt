@@ -15,7 +15,7 @@ pub trait Source {
     // How often it has failed. The count never falls; one kept in 64 bits stays at its last value.
     ghost faults: { Self → ℕ };
 
-    /// Moves some of the bytes that are left into the prefix of `buf`, which has room for one at
+    /// Moves some of the bytes that are left into the start of `buf`, which has room for one at
     /// least, and answers how many. `Ok(0)` is the end of the input: nothing was left. `Failed`
     /// comes only where the count of faults rose in this call, and what is left is then as it was;
     /// `Ok` only where the count is as it was.

@@ -25,7 +25,7 @@ impl SureSource {
     }
 }
 
-// Moves at most `most` bytes from the place on into the prefix of `buf`, and says how many.
+// Moves at most `most` bytes from the place on into the start of `buf`, and says how many.
 pub(crate) fn hand_out(bytes: &[u8], at: usize, most: usize, buf: &mut [u8]) -> usize
     requires { at ≤ length bytes.now }
     ensures count { result ≡ min (min most (length buf.old)) (length (drop at bytes.now)) }

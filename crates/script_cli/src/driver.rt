@@ -39,7 +39,7 @@ fn room_for(count: u64) -> usize
     }
 }
 
-// Takes at most so many bytes into the prefix of the chunk.
+// Takes at most so many bytes into the start of the chunk.
 fn take_some<S: Source>(source: &mut S, chunk: &mut [u8], room: usize) -> Result<usize, Failed>
     requires some { 0 < room }
     requires fits { room ≤ length chunk.old }
