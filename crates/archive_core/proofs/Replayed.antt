@@ -3,6 +3,8 @@ use Rattle.std.proofs.Common.{◌≡◌, ℕ, ◌+◌, ◌<◌, ◌≤◌, List,
 use Rattle.std.proofs.Common.{drop, map, refl, sym, subst, ap, ◌∙◌, arith, Some, None, Err}
 use Rattle.std.proofs.lemmas.List.{take_more, drop_more, take_all, take-append-drop, length-take-le}
 use Rattle.std.proofs.lemmas.List.{length-map, get_or-map, get_or_default}
+use Rattle.std.proofs.lemmas.Slice.Zip.{get_or-zip, firsts-zip}
+use Rattle.std.specs.List.{zip}
 use Rattle.prima_base.specs.declared.refusal.Refusal.{Refusal}
 use Rattle.smo_types.specs.Commands.{PlainCommand, command_of}
 use Rattle.smo_types.specs.declared.command.Body.{Body}
@@ -75,6 +77,13 @@ module _ (past : Past) (commands : List (ℕ × Body)) (k : ℕ) (c : ℕ × Bod
         (sym (length-take-le k (map command_of commands) (omega (arith, inside_plain))));
   }
 
+-- as many go together in turn as there are commands
+pub pairs : (commands : List (ℕ × Body)) (recs : List Rec) → length commands ≡ length recs
+    → length (zip commands recs) ≡ length commands
+pairs commands recs same =
+    sym (length-map (zip commands recs) (λ (p : (ℕ × Body) × Rec). p.0))
+    ∙ ap (λ (l : List (ℕ × Body)). length l) (firsts-zip commands recs (sym same))
+
 -- what replaying one command answered, where it told damage
 pub told_damage : (past : Past) (c : PlainCommand) (at place : ℕ) (e : MountFault)
     (new : ArchiveContent) → Replays past c at (Err e) new → e ≡ Damaged place
@@ -89,3 +98,13 @@ all_replayed past commands k archive all replayed =
     subst (λ (l : List PlainCommand). IsReplayed past l archive)
     (take_all k (map command_of commands) (omega (arith, length-map commands command_of)))
     replayed
+
+-- a command and its record, of those that go together in turn
+pub pair_at : (commands : List (ℕ × Body)) (recs : List Rec) → length commands ≡ length recs
+    → (n : ℕ) (c : ℕ × Body) (r : Rec) → n < length (zip commands recs)
+    → (c, r) ≡ get_or (zip commands recs) n (c, r)
+    → (n < length commands) × (c ≡ get_or commands n c) × (r ≡ get_or recs n r)
+pair_at commands recs same n c r within is =
+    let inside : n < length commands = omega (arith, pairs commands recs same, within) in
+    let both = is ∙ get_or-zip commands recs n (c, r) inside (omega (arith, inside, same)) in
+    (inside, ap (λ (p : (ℕ × Body) × Rec). p.0) both, ap (λ (p : (ℕ × Body) × Rec). p.1) both)

@@ -1,19 +1,20 @@
 -- What an archive on a disk answers to a command.
-use Rattle.std.specs.Prelude.{◌≡◌, ℕ, ◌+◌, ◌∷◌, [], nat_le, Some, None, Result, Ok, Err}
+use Rattle.std.specs.Prelude.{◌≡◌, ℕ, ◌+◌, ◌∷◌, [], nat_le, Option, Some, None, Result, Ok, Err}
+use Rattle.std.specs.Prelude.{⊤}
 use Rattle.prima_base.specs.declared.refusal.Refusal.TheVariants.{JournalFull}
 use Rattle.smo_types.specs.Commands.{PlainCommand}
 use Rattle.smo_meaning.specs.First.{unless, first_refusal}
 use Rattle.smo_meaning.specs.Checks.{Fault}
 use Rattle.smo_meaning.specs.Accepts.{command_fault}
 use Rattle.smo_meaning.specs.Past.{Past, past_with}
-use Rattle.version_groups.specs.Steps.{PreparedCommand, Prepares}
+use Rattle.schema_catalog.specs.Tables.{Tables}
 use Rattle.journal.specs.Records.{Record}
 use Rattle.journal.specs.Standing.{needs}
 use Rattle.journal.specs.declared.sealed.Sealed.{Sealed}
 use Rattle.archive_file.specs.LogRecords.{logged, record_of}
 use Rattle.archive_state.specs.declared.archive.Done.{Done}
 use Rattle.archive_state.specs.Standing.{ArchiveContent, RepresentsPast}
-use Rattle.archive_state.specs.Committing.{IsAsBefore, IsDone}
+use Rattle.archive_state.specs.Committing.{IsAsBefore, IsDone, Finds}
 use Rattle.archive_core.specs.declared.fault.CommitFault.{CommitFault}
 use Rattle.archive_core.specs.declared.fault.CommitFault.TheVariants.{Broken, Refused, Disk}
 use Rattle.archive_core.specs.declared.fault.CommitFault.TheVariants.{NoMemory}
@@ -50,17 +51,13 @@ Commits past command at limit old (Err Disk) new = (commit_fault past at limit c
 Commits past command at limit old (Err Broken) new = new ≡ old
 Commits past command at limit old (Err NoMemory) new = IsUnchanged past old new
 
--- a command that is accepted was made ready in memory
-abbrev pub MakesReady : Past → PlainCommand → ArchiveContent
-    → Result (PreparedCommand × Sealed) CommitFault → ArchiveContent → Type 0
-MakesReady past command old (Ok ready) new =
-    (command_fault past command ≡ None) × IsUnchanged past old new
-    × Prepares new.groups past command ready.0
-MakesReady past command old (Err (Refused r)) new = (command_fault past command ≡ Some r)
-    × IsUnchanged past old new
-MakesReady past command old (Err Disk) new = ⊥
-MakesReady past command old (Err Broken) new = ⊥
-MakesReady past command old (Err NoMemory) new = IsUnchanged past old new
+-- a command that is accepted was judged, and this was found; another is refused by its first refusal
+abbrev pub IsJudged : Past → PlainCommand → Result (Option Tables × Sealed) CommitFault → Type 0
+IsJudged past command (Ok it) = Finds past command it.0
+IsJudged past command (Err (Refused r)) = command_fault past command ≡ Some r
+IsJudged past command (Err Disk) = ⊥
+IsJudged past command (Err Broken) = ⊥
+IsJudged past command (Err NoMemory) = ⊤
 
 -- a record that fits is put, or else the disk fails; another is refused
 abbrev pub IsPut : Record → ℕ → ℕ → Result (Unit {0}) CommitFault → Type 0

@@ -17,6 +17,7 @@ ghost use Rattle.archive_file.specs.LogRecords.{LogRecord, logged, record_of, re
 ghost use Rattle.archive_file.specs.LogRecords.{replayed_of};
 ghost use Rattle.archive_file.specs.Opening.{Opens, Damages};
 ghost use Rattle.archive_state.specs.Standing.{RepresentsPast, RepresentsSome};
+ghost use Rattle.version_groups.specs.Judged.{judged_command, IsAccepted};
 ghost use Rattle.archive_state.specs.Asking.{IsAsked, IsExplained, TellsWayBack, ArePiecesOf};
 ghost use Rattle.piece_texts.specs.ExplainedPieces.{PlainExplained};
 ghost use Rattle.query_exec.specs.Borrowed.{NoneComputes, AreBorrowedBy};
@@ -25,22 +26,22 @@ ghost use Rattle.archive_core.specs.declared.fault.CommitFault.TheVariants as fa
 ghost use Rattle.archive_core.specs.declared.fault.MountFault.TheVariants as mounting;
 
 use crate::fault::mount_fault;
-use crate::preparation::{make_ready, seal_checkpoint};
+use crate::preparation::{judge_and_seal, seal_checkpoint};
 use crate::replay::restore;
 use crate::{AskFault, CommitFault, MountFault};
 use answer_text::Listing;
-use archive_state::{ArchiveState, Done};
+use archive_state::{ArchiveState, Done, next_version};
 use disk_model::Disk;
 use journal::{Journal, PutFault, Sealed};
 use piece_texts::Explained;
 use prima_base::{Refusal, Steps};
 use rule_book::{Rule, RuleBook};
-use smo_types::Command;
+use smo_types::{Body, Command};
 use std::alloc::Global;
 use std::sync::ledger::Ledger;
 use store_image::an_image_shows_its_archive;
 use temporal_lang::Query;
-use version_groups::Groups;
+use version_groups::{Groups, Judged};
 
 /// An archive whose accepted commands stand as records in a journal on a disk, and in memory as the
 /// past that they make.
@@ -183,7 +184,24 @@ impl<D: Disk> Archive<D> {
         ensures acknowledged { OnOk result (Acknowledges (below self.old) (below self.new)
             (place_of self.old) (place_of self.new) (record_of (logged (command_of command)))) }
     {
-        self.accept(&command)
+        if self.broken {
+            return Err(CommitFault::Broken);
+        }
+        let (found, sealed) = judge_and_seal(self.alloc, &self.state, &command)?;
+        let stamp = command.stamp();
+        match command.into_body() {
+            Body::Changes(changes) => {
+                let judged = Judged::Changes {
+                    stamp,
+                    changes: &changes,
+                };
+                self.accept(judged, &sealed)
+            }
+            Body::Evolve { op, inverse } => {
+                let version = next_version(stamp, op, inverse, found);
+                self.accept(Judged::Evolve(version), &sealed)
+            }
+        }
     }
 
     /// Puts a record with the image of all that the archive has, so that a later mount carries out
@@ -304,47 +322,44 @@ impl<D: Disk> Archive<D> {
         self.journal.into_disk()
     }
 
-    // Makes the command ready, puts its record, and carries it out.
-    fn accept(&mut self, command: &Command) -> Result<Done, CommitFault>
+    // Makes a command ready that was judged and is accepted, puts its record, and carries it out.
+    fn accept(&mut self, judged: Judged<'_>, sealed: &Sealed) -> Result<Done, CommitFault>
+        requires whole { is_broken self.old ≡ false }
         requires ready { IsReady self.old }
-        ensures broken { (result ≡ Err fault.Broken) ↔ (is_broken self.old ≡ true) }
-        ensures breaks { (is_broken self.new ≡ true)
-            ↔ ((is_broken self.old ≡ true) ⊎ (result ≡ Err fault.Disk)) }
+        requires accepted { (past : Past) × RepresentsPast (standing_of self.old) past
+            × IsAccepted past judged }
+        requires sealed { sealed_record sealed.now ≡ record_of (logged (judged_command judged)) }
+        ensures breaks { (is_broken self.new ≡ true) ↔ (result ≡ Err fault.Disk) }
+        ensures unbroken { result ≡ Err fault.Broken → ⊥ }
         ensures commits { (past : Past) → RepresentsPast (standing_of self.old) past
-            → Commits past (command_of command.now) (place_of self.old) (limit_of self.old)
+            → IsAccepted past judged.entry
+            → Commits past (judged_command judged.entry) (place_of self.old) (limit_of self.old)
             (standing_of self.old) result (standing_of self.new) }
-        ensures stands { is_broken self.old ≡ false → RepresentsSome (standing_of self.old)
-            × RepresentsSome (standing_of self.new) }
+        ensures stands { RepresentsSome (standing_of self.new) }
         ensures untouched { IfErr result (λ e. (e ≡ fault.Disk → ⊥)
             → (disk_of self.new ≡ disk_of self.old) × (place_of self.new ≡ place_of self.old)) }
         ensures limit { limit_of self.new ≡ limit_of self.old }
         ensures place { OnOk result (place_of self.new + 1
-            ≡ place_of self.old + needs (record_of (logged (command_of command.now)))) }
+            ≡ place_of self.old + needs (sealed_record sealed.now)) }
         ensures ready { IsReady self.new }
         ensures written { OnOk result (Told (λ old new.
-            new ≡ with_record old (place_of self.old) (record_of (logged (command_of command.now))))
+            new ≡ with_record old (place_of self.old) (sealed_record sealed.now))
             (below self.old).seen (below self.new).seen) }
         ensures holds { OnOk result ((rs : List Record)
             → HoldsAt (below self.old) (place_of self.old) rs
-            → HoldsAt (below self.new) (place_of self.new)
-            (rs ++ record_of (logged (command_of command.now)) ∷ [])) }
-        ensures spelled { OnOk result (IsCommand (command_of command.now)) }
-        ensures spelled_so_far { result ≡ Err fault.Disk → IsCommand (command_of command.now) }
+            → HoldsAt (below self.new) (place_of self.new) (rs ++ sealed_record sealed.now ∷ [])) }
         ensures cause { result ≡ Err fault.Disk
             → Rose (below self.old).faults (below self.new).faults }
         ensures unfailed { (result ≡ Err fault.Disk → ⊥)
             → (below self.new).faults ≡ (below self.old).faults }
         ensures puts { Puts (below self.old) (below self.new) (place_of self.old)
-            (record_of (logged (command_of command.now))) }
+            (sealed_record sealed.now) }
         ensures acknowledged { OnOk result (Acknowledges (below self.old) (below self.new)
-            (place_of self.old) (place_of self.new) (record_of (logged (command_of command.now)))) }
+            (place_of self.old) (place_of self.new) (sealed_record sealed.now)) }
     {
-        if self.broken {
-            return Err(CommitFault::Broken);
-        }
-        let (next, sealed) = make_ready(self.alloc, &mut self.state, command)?;
-        self.put(&sealed)?;
-        Ok(self.state.carry_out(command, next))
+        let next = self.state.prepare(judged)?;
+        self.put(sealed)?;
+        Ok(self.state.carry_out(next))
     }
 
     // Puts a record after the others. What stands in memory stays as it is.

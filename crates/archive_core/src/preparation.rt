@@ -7,7 +7,7 @@ ghost use Rattle.command_spelling.specs.Valid.{IsCommand, IsWritable};
 ghost use Rattle.journal.specs.Standing.{sealed_record};
 ghost use Rattle.archive_state.specs.Standing.{RepresentsPast, RepresentsSome};
 ghost use Rattle.archive_file.specs.LogRecords.{logged, record_of};
-ghost use Rattle.archive_core.specs.Committing.{MakesReady};
+ghost use Rattle.archive_core.specs.Committing.{IsJudged};
 ghost use Rattle.archive_core.specs.Checkpointing.{checkpoint_of};
 ghost use Rattle.store_image.specs.ImageIn.{GroupsHold};
 
@@ -17,10 +17,10 @@ use command_codec::encode;
 use command_spelling::accepted_commands_can_be_written;
 use journal::{CHECKPOINT, COMMAND, Sealed};
 use prima_base::NoMemory;
+use schema_catalog::Schema;
 use smo_types::Command;
 use std::alloc::Global;
 use store_image::image_of;
-use version_groups::Next;
 
 // The record of a command.
 fn seal(alloc: Global, command: &Command) -> Result<Sealed, NoMemory>
@@ -33,25 +33,25 @@ fn seal(alloc: Global, command: &Command) -> Result<Sealed, NoMemory>
     Sealed::new(alloc, COMMAND, &bytes)
 }
 
-/// Judges the command, makes it ready and seals its record. No device is called. The archive shows
-/// the past that it showed, and is as it was but for room.
-pub(crate) fn make_ready<'a>(
+/// Judges the command, which is still whole, and seals the record of an accepted one; what judging
+/// found is told. No device is called, and what stands in memory stays as it is.
+pub(crate) fn judge_and_seal(
     alloc: Global,
-    state: &mut ArchiveState,
-    command: &'a Command,
-) -> Result<(Next<'a>, Sealed), CommitFault>
-    ensures readies { (past : Past) → RepresentsPast state.old past
-        → MakesReady past (command_of command.now) state.old result state.new }
+    state: &ArchiveState,
+    command: &Command,
+) -> Result<(Option<Schema>, Sealed), CommitFault>
+    ensures judged { (past : Past) → RepresentsPast state.now past
+        → IsJudged past (command_of command.now) result }
     ensures sealed { IfOk result (λ it. sealed_record it.1
         ≡ record_of (logged (command_of command.now))) }
     ensures spelled { OnOk result (IsCommand (command_of command.now)) }
-    ensures stands { RepresentsSome state.old × RepresentsSome state.new }
+    ensures stands { RepresentsSome state.now }
 {
-    match state.prepare(command) {
-        Ok(next) => {
+    match state.judge(command) {
+        Ok(found) => {
             accepted_commands_can_be_written();
             let sealed = seal(alloc, command)?;
-            Ok((next, sealed))
+            Ok((found, sealed))
         }
         Err(StateFault::Refused(refusal)) => Err(CommitFault::Refused(refusal)),
         Err(StateFault::NoMemory) => Err(CommitFault::NoMemory),

@@ -23,16 +23,13 @@ use std::alloc::Global;
 use std::sync::ledger::Ledger;
 
 // Carries out a command of the record whose gate is at `at`, if it is accepted.
-fn replay_command(state: &mut ArchiveState, command: &Command, at: u64) -> Result<(), MountFault>
+fn replay_command(state: &mut ArchiveState, command: Command, at: u64) -> Result<(), MountFault>
     ensures replays { (past : Past) → RepresentsPast state.old past
-        → Replays past (command_of command.now) at result state.new }
+        → Replays past (command_of command) at result state.new }
     ensures stands { RepresentsSome state.old × RepresentsSome state.new }
 {
-    match state.prepare(command) {
-        Ok(next) => {
-            let _done = state.carry_out(command, next);
-            Ok(())
-        }
+    match state.commit(command) {
+        Ok(_done) => Ok(()),
         Err(CommitFault::Refused(_refusal)) => Err(MountFault::Damaged(at)),
         Err(CommitFault::NoMemory) => Err(MountFault::NoMemory),
     }
@@ -42,21 +39,21 @@ fn replay_command(state: &mut ArchiveState, command: &Command, at: u64) -> Resul
 fn replay<L: Ledger>(
     state: &mut ArchiveState,
     recs: &[Rec],
-    commands: &[Command],
+    commands: Vec<Command>,
     steps: &mut Steps<L>,
 ) -> Result<(), MountFault>
-    requires { length commands.now ≡ length recs.now }
+    requires { length commands.items ≡ length recs.now }
     ensures shows { (past : Past) → RepresentsPast state.old past
-        → OnOk result (IsReplayed past (map command_of commands.now) state.new) }
+        → OnOk result (IsReplayed past (map command_of commands.items) state.new) }
     ensures stopped { (past : Past) → RepresentsPast state.old past → (place : _)
         → result ≡ Err (mounting.Damaged place)
-        → IsStoppedAt past (map command_of commands.now) recs.now place }
+        → IsStoppedAt past (map command_of commands.items) recs.now place }
     ensures disk { result ≡ Err mounting.Disk → ⊥ }
-    ensures cost { steps.new ≤ steps.old + length commands.now }
+    ensures cost { steps.new ≤ steps.old + length commands.items }
 {
-    for (index, command) in commands.iter().enumerate() {
+    for (command, rec) in commands.into_iter().zip(recs) {
         steps.tick();
-        replay_command(state, command, recs[index].at)?;
+        replay_command(state, command, rec.at)?;
     }
     Ok(())
 }
@@ -80,12 +77,13 @@ pub(crate) fn restore<L: Ledger>(
         → records_in recs.now ≡ records_of log → steps.new ≤ steps.old + replayed_of log }
     ensures steps { IfOk result (λ it. steps.new ≤ steps.old + it.1.replayed) }
 {
-    let mut kept = read_all(alloc, recs)?;
-    let after = &recs[recs.len() - kept.commands.len()..];
-    replay(&mut kept.state, after, &kept.commands, steps)?;
+    let kept = read_all(alloc, recs)?;
     let opened = Opened {
         commands: kept.count,
         replayed: kept.commands.len() as u64,
     };
-    Ok((kept.state, opened))
+    let after = &recs[recs.len() - kept.commands.len()..];
+    let mut state = kept.state;
+    replay(&mut state, after, kept.commands, steps)?;
+    Ok((state, opened))
 }

@@ -1,11 +1,15 @@
 -- What stands after a command that was carried out.
 use Rattle.std.proofs.Common.{◌≡◌, ℕ, length, refl, sym, ap, ◌∙◌}
-use Rattle.std.specs.Prelude.{Option, Some}
+use Rattle.std.specs.Prelude.{Option, Some, None, if◌then◌else◌}
 use Rattle.std.proofs.lemmas.List.{length-map}
 use Rattle.smo_types.specs.Commands.{PlainBody, changing, evolving, PlainCommand, version_of}
 use Rattle.smo_meaning.specs.Past.{Past, next_past, past_with}
 use Rattle.version_groups.specs.Groups.{Kept}
 use Rattle.version_groups.specs.Showing.{Represents}
+use Rattle.version_groups.specs.Steps.{step_of, makes_version, IsStep}
+use Rattle.version_groups.specs.declared.next.Step.{Step}
+use Rattle.version_groups.specs.declared.next.Step.TheVariants.{Changed, Evolved}
+use Rattle.archive_state.specs.Committing.{version_made}
 use Rattle.archive_state.specs.Standing.{RepresentsPast}
 
 last_after : (past : Past) (stamp : ℕ) (body : PlainBody)
@@ -27,3 +31,12 @@ pub newest_next : (kept : Kept) (past : Past) (n : ℕ) → Represents kept past
     → n ≡ length kept.versions → n ≡ length past.versions
 newest_next kept past n shows e = e ∙ sym (length-map kept.versions version_of)
     ∙ ap (λ vs. length vs) shows.versions
+
+-- a step that was made ready makes a version just where the command does
+pub version_is : (kept : Kept) (past : Past) (stamp : ℕ) (body : PlainBody) (step : Step) (n : ℕ)
+    → IsStep kept past stamp body (step_of step)
+    → (if makes_version step then Some n else None) ≡ version_made body n
+version_is kept past stamp (changing changes) (Changed plans) n is = refl
+version_is kept past stamp (changing changes) (Evolved version begun places) n is = absurd is
+version_is kept past stamp (evolving op inverse) (Changed plans) n is = absurd is
+version_is kept past stamp (evolving op inverse) (Evolved version begun places) n is = refl

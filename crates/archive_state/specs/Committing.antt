@@ -1,15 +1,38 @@
 -- What an archive answers to a command.
-use Rattle.std.specs.Prelude.{◌≡◌, ℕ, length, Option, Some, None, Result, Ok, Err}
+use Rattle.std.specs.Prelude.{◌≡◌, ℕ, ◌<◌, length, Option, Some, None, Result, Ok, Err, ⊤}
 use Rattle.prima_base.specs.declared.fault.CallFault.{CallFault}
 use Rattle.prima_base.specs.declared.fault.CallFault.TheVariants.{Refused, NoMemory}
 use Rattle.prima_base.specs.declared.refusal.Refusal.{Refusal}
+use Rattle.relations.specs.Spans.{forever}
+use Rattle.schema_catalog.specs.Tables.{Tables}
 use Rattle.smo_types.specs.Commands.{PlainBody, changing, evolving, PlainCommand}
 use Rattle.smo_meaning.specs.Accepts.{command_fault}
-use Rattle.smo_meaning.specs.Past.{Past, past_with}
+use Rattle.smo_meaning.specs.After.{schema_after}
+use Rattle.smo_meaning.specs.ValidValues.{BodyHolds}
+use Rattle.smo_meaning.specs.Past.{Past, newest_tables, past_with}
 use Rattle.version_groups.specs.Room.{IsSame}
-use Rattle.version_groups.specs.Steps.{PreparedCommand, Prepares, rows_gained, rows_lost}
+use Rattle.version_groups.specs.Steps.{rows_gained, rows_lost}
 use Rattle.archive_state.specs.declared.archive.Done.{Done}
 use Rattle.archive_state.specs.Standing.{ArchiveContent, RepresentsPast}
+
+-- the schema that judging finds: of an operator the one that is after it, and of changes none
+abbrev pub schema_found : Past → PlainBody → Option Tables
+schema_found past (changing changes) = None
+schema_found past (evolving op inverse) = Some (schema_after (newest_tables past) op)
+
+-- the command is accepted after the past, its constants are valid values, and this was found
+pub record Finds (past : Past) (command : PlainCommand) (found : Option Tables) : Type 0 where
+  pub accepted : command_fault past command ≡ None
+  pub stamp : command.stamp < forever
+  pub constants : BodyHolds command.body
+  pub schema : found ≡ schema_found past command.body
+
+-- what judging a command answers: another is refused by its first refusal; that memory runs out is
+-- free
+abbrev pub Judges : Past → PlainCommand → Result (Option Tables) (CallFault Refusal) → Type 0
+Judges past command (Ok found) = Finds past command found
+Judges past command (Err (Refused r)) = command_fault past command ≡ Some r
+Judges past command (Err NoMemory) = ⊤
 
 -- the newest version, where the command made it
 abbrev pub version_made : PlainBody → ℕ → Option ℕ
@@ -28,12 +51,12 @@ pub record IsAsBefore (old new : ArchiveContent) : Type 0 where
   pub groups : IsSame old.groups new.groups
   pub last : new.last ≡ old.last
 
--- an accepted command was made ready, and the archive shows the past that it showed, with room for
--- what is to be done; another is refused by its first refusal, and the archive is what it was;
--- where memory runs out it is as it was, too
-abbrev pub Readies : Past → PlainCommand → ArchiveContent
-    → Result PreparedCommand (CallFault Refusal) → ArchiveContent → Type 0
-Readies past command old (Ok next) new = (command_fault past command ≡ None) × IsAsBefore old new
-    × RepresentsPast new past × Prepares new.groups past command next
-Readies past command old (Err (Refused r)) new = (command_fault past command ≡ Some r) × (new ≡ old)
-Readies past command old (Err NoMemory) new = IsAsBefore old new × RepresentsPast new past
+-- an accepted command was carried out, and the archive shows the past with it; another is refused
+-- by its first refusal, and the archive is what it was; where memory runs out it is as it was, too,
+-- and shows the past that it showed
+abbrev pub Accepts : Past → PlainCommand → ArchiveContent → Result Done (CallFault Refusal)
+    → ArchiveContent → Type 0
+Accepts past command old (Ok done) new = (command_fault past command ≡ None)
+    × IsDone past command done × RepresentsPast new (past_with past command)
+Accepts past command old (Err (Refused r)) new = (command_fault past command ≡ Some r) × (new ≡ old)
+Accepts past command old (Err NoMemory) new = IsAsBefore old new × RepresentsPast new past

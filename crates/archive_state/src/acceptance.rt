@@ -21,8 +21,7 @@ ghost use Rattle.smo_meaning.specs.Accepts.{operator_refusal, count_fault, stamp
 ghost use Rattle.smo_meaning.specs.Accepts.{command_fault, most_versions};
 ghost use Rattle.smo_meaning.specs.Past.{Past, newest_tables, next_version};
 ghost use Rattle.version_groups.specs.Showing.{Represents};
-ghost use Rattle.version_groups.specs.Steps.{a_command};
-ghost use Rattle.version_groups.specs.Judged.{judged_command, HasNext, IsAccepted};
+ghost use Rattle.archive_state.specs.Committing.{schema_found, Finds};
 
 use crate::CommitFault;
 use prima_base::limits::MAX_VERSIONS;
@@ -33,7 +32,7 @@ use smo_ops::{
     check_way_back, counted_operators_are_few, operator_refusal,
 };
 use std::alloc::Global;
-use version_groups::{Groups, Judged, copied_version};
+use version_groups::Groups;
 
 // The counts of the command are within their limits.
 fn judge_counts(command: &Command) -> Result<(), CommitFault>
@@ -130,30 +129,24 @@ fn judge_evolve(
     Ok(next)
 }
 
-// What the command does from the stamp on.
+// What the command does; for an operator the schema after it.
 #[tactic(auto, using(crate::proofs::Judging::narrow_newest))]
-fn judge_body<'a>(
-    alloc: Global,
-    groups: &Groups,
-    stamp: u64,
-    body: &'a Body,
-) -> Result<Judged<'a>, CommitFault>
+fn judge_body(alloc: Global, groups: &Groups, body: &Body) -> Result<Option<Schema>, CommitFault>
     requires counted { first_excess (body_of body.now) ≡ None }
     requires shows { (past : Past) × Represents groups.now past }
     ensures tested { (past : Past) → Represents groups.now past
         → IsTested (first_refusal (body_tests past (body_of body.now))) result }
-    ensures command { IfOk result (λ j. judged_command j ≡ a_command stamp (body_of body.now)) }
-    ensures next { (past : Past) → Represents groups.now past → IfOk result (λ j. HasNext past j) }
+    ensures schema { (past : Past) → Represents groups.now past
+        → IfOk result (λ found. found ≡ schema_found past (body_of body.now)) }
 {
     match body {
         Body::Changes(changes) => {
             check_changes(alloc, groups.newest_schema(), changes)?;
-            Ok(Judged::Changes { stamp, changes })
+            Ok(None)
         }
         Body::Evolve { op, inverse } => {
             let next = judge_evolve(alloc, groups, op, inverse)?;
-            let version = copied_version(alloc, stamp, op, inverse, next)?;
-            Ok(Judged::Evolve(version))
+            Ok(Some(next))
         }
     }
 }
@@ -162,20 +155,41 @@ fn judge_body<'a>(
 /// then what judging it found; else its first refusal in the one order: its counts, its stamp, and
 /// then what it does.
 #[tactic(auto, using(crate::proofs::Judging::judged_after, crate::proofs::Judging::first_decides, crate::proofs::Judging::second_decides))]
-pub(crate) fn judge<'a>(
+pub(crate) fn judge(
     alloc: Global,
     groups: &Groups,
     last: Option<u64>,
-    command: &'a Command,
-) -> Result<Judged<'a>, CommitFault>
+    command: &Command,
+) -> Result<Option<Schema>, CommitFault>
     requires shows { (past : Past) × Represents groups.now past × (last ≡ past.last) }
     ensures tested { (past : Past) → Represents groups.now past → last ≡ past.last
         → IsTested (command_fault past (command_of command.now)) result }
-    ensures command { IfOk result (λ j. judged_command j ≡ command_of command.now) }
-    ensures accepted { (past : Past) → Represents groups.now past → last ≡ past.last
-        → IfOk result (λ j. IsAccepted past j) }
+    ensures found { (past : Past) → Represents groups.now past → last ≡ past.last
+        → IfOk result (λ found. Finds past (command_of command.now) found) }
 {
     judge_counts(command)?;
     judge_stamp(last, command.stamp())?;
-    judge_body(alloc, groups, command.stamp(), command.body())
+    judge_body(alloc, groups, command.body())
+}
+
+/// The version that an accepted operator makes at the stamp, with the schema that judging found.
+/// The operator and its inverse move into it. It takes no memory.
+pub fn next_version(stamp: u64, op: Op, inverse: Vec<Op>, found: Option<Schema>) -> Version
+    requires judged { (past : Past)
+        × (found ≡ schema_found past (evolving (operator_of op) (operators_of inverse.items))) }
+    ensures { (past : Past)
+        → found ≡ schema_found past (evolving (operator_of op) (operators_of inverse.items))
+        → version_of result ≡ next_version stamp (operator_of op) (operators_of inverse.items)
+        past }
+{
+    let Some(schema) = found else {
+        // Of an operator a schema was found, the one that is after it (`judged`).
+        unreachable!();
+    };
+    Version {
+        stamp,
+        op,
+        inverse,
+        schema,
+    }
 }

@@ -1,10 +1,11 @@
-use crate::acceptance::judge;
+use crate::acceptance::{judge, next_version};
 use crate::question::{ask, explain_query};
 use crate::{AskFault, CommitFault};
 use answer_text::Listing;
 use piece_texts::Explained;
-use prima_base::Steps;
+use prima_base::{NoMemory, Steps};
 use rule_book::{Rule, RuleBook};
+use schema_catalog::Schema;
 use smo_ops::{Body, Command};
 use std::alloc::Global;
 use std::marker::Model;
@@ -45,30 +46,28 @@ pub struct Done {
     pub version: Option<u32>,
 }
 
-ghost use Rattle.std.specs.Prelude.{◌≡◌};
-ghost use Rattle.smo_types.specs.Commands.{body_of};
-ghost use Rattle.archive_state.specs.Committing.{version_made};
+ghost use Rattle.std.specs.Prelude.{◌≡◌, Some, None, if◌then◌else◌};
 
 // The newest version, where the command made it.
-fn version_made(command: &Command, newest: u32) -> Option<u32>
-    ensures { result ≡ version_made (body_of command.now.1) newest }
+fn version_made(makes_version: bool, newest: u32) -> Option<u32>
+    ensures { result ≡ (if makes_version then Some newest else None) }
 {
-    match command.body() {
-        Body::Changes(_) => None,
-        Body::Evolve { op: _, inverse: _ } => Some(newest),
+    if makes_version {
+        return Some(newest);
     }
+    None
 }
 
 impl ArchiveState {
     ghost use Rattle.std.specs.Prelude.{◌≡◌, ◌+◌, ◌≤◌, [], None, List, IfOk};
     ghost use Rattle.relations.specs.Sets.{In};
-    ghost use Rattle.smo_types.specs.Commands.{command_of};
+    ghost use Rattle.smo_types.specs.Commands.{command_of, PlainCommand};
     ghost use Rattle.smo_meaning.specs.Past.{Past, beginning, past_with};
     ghost use Rattle.version_groups.specs.Judged.{judged_command, IsAccepted};
     ghost use Rattle.version_groups.specs.Steps.{Prepares};
     ghost use Rattle.archive_state.specs.Standing.{RepresentsPast, RepresentsSome, archive_content};
     ghost use Rattle.query_types.specs.Queries.{query_of};
-    ghost use Rattle.archive_state.specs.Committing.{Readies, IsDone};
+    ghost use Rattle.archive_state.specs.Committing.{Judges, IsAsBefore, IsDone, Accepts};
     ghost use Rattle.rewrite.specs.Books.{meaning_of, EachOf};
     ghost use Rattle.piece_texts.specs.ExplainedPieces.{PlainExplained};
     ghost use Rattle.query_exec.specs.Borrowed.{NoneComputes, AreBorrowedBy};
@@ -115,45 +114,79 @@ impl ArchiveState {
         &self.groups
     }
 
-    /// Judges the command, and makes an accepted one ready: all the memory that it needs is taken,
-    /// and `carry_out` then accepts it. Another is refused by the first refusal in the one order:
-    /// its counts (38); its stamp (20); of changes, one after the other, each whole before the next
-    /// (22, 27, 23, 35, 25); of an operator the number of versions (38), its preconditions in
-    /// written order, and then its inverse (32). The archive stands for the past that it stood for,
-    /// with the same stored tables but for room; where the command is refused, it is as it was.
-    /// `NoMemory` comes where memory runs out.
-    pub fn prepare<'a>(&mut self, command: &'a Command) -> Result<Next<'a>, CommitFault>
-        ensures readies { (past : Past) → RepresentsPast self.old past
-            → Readies past (command_of command.now) self.old result self.new }
-        ensures stands { RepresentsSome self.old × RepresentsSome self.new }
+    /// Judges the command. Of an accepted one it answers what it found: of an operator the schema
+    /// that is after it, and of changes none. Another is refused by the first refusal in the one
+    /// order: its counts (38); its stamp (20); of changes, one after the other, each whole before
+    /// the next (22, 27, 23, 35, 25); of an operator the number of versions (38), its preconditions
+    /// in written order, and then its inverse (32). `NoMemory` comes where memory runs out.
+    pub fn judge(&self, command: &Command) -> Result<Option<Schema>, CommitFault>
+        ensures judges { (past : Past) → RepresentsPast self.now past
+            → Judges past (command_of command.now) result }
+        ensures stands { RepresentsSome self.now }
     {
-        match judge(self.alloc, &self.groups, self.last, command) {
-            Ok(judged) => self.make_ready(judged),
-            Err(fault) => Err(fault),
+        judge(self.alloc, &self.groups, self.last, command)
+    }
+
+    /// Makes a command ready that was judged, and is accepted: all the memory that it needs is
+    /// taken, and `carry_out` then accepts it. The archive stands for the past that it stood for,
+    /// with the same stored tables but for room. The one error is `NoMemory`, where memory runs
+    /// out.
+    pub fn prepare<'a>(&mut self, judged: Judged<'a>) -> Result<Next<'a>, NoMemory>
+        requires { (past : Past) × RepresentsPast self.old past × IsAccepted past judged }
+        ensures before { IsAsBefore self.old self.new }
+        ensures shows { (past : Past) → RepresentsPast self.old past
+            → RepresentsPast self.new past }
+        ensures next { (past : Past) → RepresentsPast self.old past → IsAccepted past judged.entry
+            → IfOk result (λ next. Prepares self.new.groups past (judged_command judged.entry)
+            next) }
+    {
+        self.groups.prepare(judged)
+    }
+
+    /// Carries out what `prepare` made of a command and this very archive, which then stands for
+    /// the past with the command. It takes no memory, and cannot fail.
+    #[tactic(auto, using(crate::proofs::CarriedOut::shows_next, crate::proofs::CarriedOut::newest_next))]
+    pub fn carry_out(&mut self, next: Next<'_>) -> Done
+        requires { (past : Past) × (command : PlainCommand) × RepresentsPast self.old past
+            × Prepares self.old.groups past command next }
+        ensures done { (past : Past) → (command : PlainCommand) → RepresentsPast self.old past
+            → Prepares self.old.groups past command next.entry
+            → IsDone past command result × RepresentsPast self.new (past_with past command) }
+        ensures stands { RepresentsSome self.new }
+    {
+        let stamp = next.stamp();
+        let gained = next.gained();
+        let lost = next.lost();
+        let makes_version = next.makes_version();
+        self.groups.install(next);
+        self.last = Some(stamp);
+        Done {
+            stamp,
+            gained,
+            lost,
+            version: version_made(makes_version, self.groups.newest()),
         }
     }
 
-    /// Carries out what `prepare` made of the command and this very archive, which then stands for
-    /// the past with the command. It takes no memory, and cannot fail.
-    #[tactic(auto, using(crate::proofs::CarriedOut::shows_next, crate::proofs::CarriedOut::newest_next))]
-    pub fn carry_out(&mut self, command: &Command, next: Next<'_>) -> Done
-        requires { (past : Past) × RepresentsPast self.old past
-            × Prepares self.old.groups past (command_of command.now) next }
-        ensures done { (past : Past) → RepresentsPast self.old past
-            → Prepares self.old.groups past (command_of command.now) next.entry
-            → IsDone past (command_of command.now) result
-            × RepresentsPast self.new (past_with past (command_of command.now)) }
-        ensures stands { RepresentsSome self.new }
+    /// Judges the command and carries an accepted one out, with nothing between: so a command is
+    /// carried out whose record stands already. Another is refused as by `judge`, and the archive
+    /// is what it was. Where memory runs out it stands for the past that it stood for, as it was
+    /// but for room.
+    pub fn commit(&mut self, command: Command) -> Result<Done, CommitFault>
+        ensures commits { (past : Past) → RepresentsPast self.old past
+            → Accepts past (command_of command) self.old result self.new }
+        ensures stands { RepresentsSome self.old × RepresentsSome self.new }
     {
-        let gained = next.gained();
-        let lost = next.lost();
-        self.groups.install(next);
-        self.last = Some(command.stamp());
-        Done {
-            stamp: command.stamp(),
-            gained,
-            lost,
-            version: version_made(command, self.groups.newest()),
+        let found = self.judge(&command)?;
+        let stamp = command.stamp();
+        match command.into_body() {
+            Body::Changes(changes) => self.accept(Judged::Changes {
+                stamp,
+                changes: &changes,
+            }),
+            Body::Evolve { op, inverse } => {
+                self.accept(Judged::Evolve(next_version(stamp, op, inverse, found)))
+            }
         }
     }
 
@@ -222,13 +255,15 @@ impl ArchiveState {
         explain_query(self.alloc, &self.groups, book, query)
     }
 
-    // Makes an accepted command ready.
-    fn make_ready<'a>(&mut self, judged: Judged<'a>) -> Result<Next<'a>, CommitFault>
+    // Makes an accepted command ready, and carries it out.
+    fn accept(&mut self, judged: Judged<'_>) -> Result<Done, CommitFault>
         requires { (past : Past) × RepresentsPast self.old past × IsAccepted past judged }
-        ensures { (past : Past) → RepresentsPast self.old past → IsAccepted past judged.entry
-            → Readies past (judged_command judged.entry) self.old result self.new }
+        ensures commits { (past : Past) → RepresentsPast self.old past
+            → IsAccepted past judged.entry
+            → Accepts past (judged_command judged.entry) self.old result self.new }
+        ensures stands { RepresentsSome self.new }
     {
-        let next = self.groups.prepare_judged(judged)?;
-        Ok(next)
+        let next = self.prepare(judged)?;
+        Ok(self.carry_out(next))
     }
 }

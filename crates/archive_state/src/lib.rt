@@ -10,5 +10,6 @@ mod archive;
 mod fault;
 mod question;
 
+pub use acceptance::next_version;
 pub use archive::{ArchiveState, Done};
 pub use fault::{AskFault, CommitFault};

@@ -1,7 +1,8 @@
--- The changes of a command, one after the other, and rows that a table gains.
+-- The changes of a table, one after the other, and rows that it gains.
 use Rattle.std.proofs.Common.{◌≡◌, ◌<◌, ◌≤◌, ◌+◌, ℕ, Bool, true, false, cond, List, [], ◌∷◌, ◌++◌}
 use Rattle.std.proofs.Common.{length, drop, get_or, refl, sym, ap, ◌∙◌, subst, arith, inl, inr}
 use Rattle.std.specs.Prelude.{not, Some, None, ◌⊎◌, Option, if◌then◌else◌}
+use Rattle.std.specs.Borrow.{Bor}
 use Rattle.relations.specs.Sets.{In, Ascends, has, set_of}
 use Rattle.relations.specs.Spans.{Span, forever}
 use Rattle.relations.proofs.SetLaws.{in_filter, from_filter, in_append, in_left, in_right, in_set}
@@ -13,71 +14,38 @@ use Rattle.prima_base.specs.Columns.{Column, AreColumns, IsRow, IsRelation}
 use Rattle.prima_base.specs.declared.value.Value.{Value}
 use Rattle.history_store.specs.Handing.{only_in}
 use Rattle.history_store.specs.Store.{Store, rows_from, relation_at, IsBefore, AllBefore}
-use Rattle.smo_types.specs.Changes.{PlainChange, insertion, deletion, update, table_of, change_of}
-use Rattle.smo_types.specs.Changes.{changes_of}
+use Rattle.smo_types.specs.Changes.{PlainChange, insertion, deletion, update, change_of}
 use Rattle.smo_meaning.specs.Effects.{relation_after, gained_rows}
 use Rattle.std.specs.Option.{option_map}
 use Rattle.smo_meaning.specs.Inserting.{relation_after_each, insertions}
-use Rattle.smo_meaning.specs.OneRow.{row_of, same}
+use Rattle.smo_meaning.specs.OneRow.{row_of}
 use Rattle.smo_types.specs.declared.change.Change.{Change}
 use Rattle.smo_meaning.proofs.Firsts.{drop_at}
 use Rattle.smo_meaning.proofs.RelationLaws.{keeps_relation, filter_ascends, inserted_row}
-use Rattle.table_changes.specs.Changing.{AreAccepted, of_table}
+use Rattle.table_changes.specs.Changing.{AreAccepted, borrowed_changes}
 
 abbrev Rows : Type 0
 Rows = List (List Value)
 
 -- ---- change by change
 
--- of the changes of a table, those from a place on
-of_table-append : (name : List ℕ) (xs ys : List PlainChange)
-    → of_table name (xs ++ ys) ≡ of_table name xs ++ of_table name ys
-of_table-append name [] ys = refl
-of_table-append name (x ∷ xs) ys =
-    elim (same (table_of x) name) as (λ b. cond b (x ∷ of_table name (xs ++ ys))
-    (of_table name (xs ++ ys)) ≡ cond b (x ∷ of_table name xs) (of_table name xs)
-    ++ of_table name ys) [
-      | true ↦ ap (λ l. x ∷ l) (of_table-append name xs ys)
-      | false ↦ of_table-append name xs ys
-    ]
-
-accepted-append : (columns : List Column) (xs ys : List PlainChange)
-    → AreAccepted columns (xs ++ ys) → AreAccepted columns xs × AreAccepted columns ys
-accepted-append columns [] ys h = (tt, h)
-accepted-append columns (x ∷ xs) ys h = (let r = accepted-append columns xs ys h.1 in
-    ((h.0, r.0), r.1))
-
-after_each-append : (columns : List Column) (xs ys : List PlainChange) (rows : Rows)
-    → relation_after_each columns (xs ++ ys) rows
-    ≡ relation_after_each columns ys (relation_after_each columns xs rows)
-after_each-append columns [] ys rows = refl
-after_each-append columns (x ∷ xs) ys rows = after_each-append columns xs ys
-    (relation_after columns x rows)
-
-module _ (name : List ℕ) (changes : List Change) (i : ℕ) (x : Change) (within : i < length changes)
+-- the change at a place, and those after it
+module _ (changes : List (Bor Change)) (i : ℕ) (x : Bor Change) (within : i < length changes)
     (is : x ≡ get_or changes i x) where
-  pub next_of_table : of_table name (changes_of (drop i changes)) ≡ of_table name (change_of x ∷ [])
-      ++ of_table name (changes_of (drop (i + 1) changes))
-  next_of_table = ap (λ l. of_table name (changes_of l)) (drop_at changes i x within is)
-      ∙ of_table-append name (change_of x ∷ []) (changes_of (drop (i + 1) changes))
+  next_change : borrowed_changes (drop i changes)
+      ≡ change_of x.now ∷ borrowed_changes (drop (i + 1) changes)
+  next_change = ap borrowed_changes (drop_at changes i x within is)
 
   pub accepted_next : (columns : List Column)
-      → AreAccepted columns (of_table name (changes_of (drop i changes)))
-      → AreAccepted columns (of_table name (change_of x ∷ []))
-      × AreAccepted columns (of_table name (changes_of (drop (i + 1) changes)))
-  accepted_next columns h = accepted-append columns (of_table name (change_of x ∷ []))
-      (of_table name (changes_of (drop (i + 1) changes)))
-      (subst (AreAccepted columns) next_of_table h)
+      → AreAccepted columns (borrowed_changes (drop i changes))
+      → AreAccepted columns (change_of x.now ∷ borrowed_changes (drop (i + 1) changes))
+  accepted_next columns h = subst (AreAccepted columns) next_change h
 
-  pub applied_next : (columns : List Column) (whole old new : Rows)
-      → whole ≡ relation_after_each columns (of_table name (changes_of (drop i changes))) old
-      → new ≡ relation_after_each columns (of_table name (change_of x ∷ [])) old
-      → whole ≡ relation_after_each columns (of_table name (changes_of (drop (i + 1) changes))) new
-  applied_next columns whole old new e n =
-      e ∙ ap (λ l. relation_after_each columns l old) next_of_table
-      ∙ after_each-append columns (of_table name (change_of x ∷ []))
-      (of_table name (changes_of (drop (i + 1) changes))) old
-      ∙ ap (relation_after_each columns (of_table name (changes_of (drop (i + 1) changes)))) (sym n)
+  pub applied_next : (columns : List Column) (whole old : Rows)
+      → whole ≡ relation_after_each columns (borrowed_changes (drop i changes)) old
+      → whole ≡ relation_after_each columns (borrowed_changes (drop (i + 1) changes))
+      (relation_after columns (change_of x.now) old)
+  applied_next columns whole old e = e ∙ ap (λ l. relation_after_each columns l old) next_change
 
 -- ---- a relation that stays one
 

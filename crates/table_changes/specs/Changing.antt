@@ -1,18 +1,19 @@
--- The changes of a command that are of one table, and what is made ready of them.
-use Rattle.std.specs.Prelude.{◌≡◌, ℕ, ◌≤◌, List, [], ◌∷◌, length, None, ⊤}
-use Rattle.std.specs.List.{filter}
+-- The changes of one table, and what is made ready of them.
+use Rattle.std.specs.Prelude.{◌≡◌, ℕ, ◌≤◌, List, [], ◌∷◌, length, map, None, ⊤}
+use Rattle.std.specs.Borrow.{Bor}
 use Rattle.prima_base.specs.Columns.{Column}
 use Rattle.history_store.specs.Store.{Store, relation_at}
 use Rattle.history_store.specs.Change.{PreparedChange, IsPlan, rows_along, rows_after}
-use Rattle.smo_types.specs.Changes.{PlainChange, table_of}
+use Rattle.smo_types.specs.Changes.{PlainChange, change_of}
+use Rattle.smo_types.specs.declared.change.Change.{Change}
 use Rattle.smo_meaning.specs.First.{first_refusal}
 use Rattle.smo_meaning.specs.Checks.{tests_after}
 use Rattle.smo_meaning.specs.Effects.{gained_rows}
-use Rattle.smo_meaning.specs.OneRow.{Relation, same}
+use Rattle.smo_meaning.specs.OneRow.{Relation}
 
--- those of the table with this name, in order
-abbrev pub of_table : List ℕ → List PlainChange → List PlainChange
-of_table name changes = filter (λ change. same (table_of change) name) changes
+-- those that are borrowed
+abbrev pub borrowed_changes : List (Bor Change) → List PlainChange
+borrowed_changes changes = map (λ (c : Bor Change). change_of c.now) changes
 
 -- each is accepted over a table of these columns
 abbrev pub AreAccepted : List Column → List PlainChange → Type 0

@@ -1,7 +1,6 @@
-//! What the changes of a command make of one table.
+//! What the changes of a table make of it.
 
-ghost use Rattle.std.specs.Prelude.{◌≡◌, ◌+◌, ◌<◌, ◌≤◌, ◌++◌, ℕ, List, [], ◌∷◌, length, nat_lt};
-ghost use Rattle.std.specs.Prelude.{IfOk, None};
+ghost use Rattle.std.specs.Prelude.{◌≡◌, ◌+◌, ◌<◌, ◌≤◌, ◌++◌, ℕ, List, [], ◌∷◌, length, IfOk};
 ghost use Rattle.std.specs.Option.{option_map};
 ghost use Rattle.std.specs.FinMap.{get};
 ghost use Rattle.relations.specs.Sets.{set_of};
@@ -9,46 +8,29 @@ ghost use Rattle.relations.specs.Spans.{forever};
 ghost use Rattle.prima_base.specs.Order.{row_cmp};
 ghost use Rattle.prima_base.specs.Columns.{AreColumns, IsRelation};
 ghost use Rattle.history_store.specs.Store.{AllBefore, relation_at};
-ghost use Rattle.smo_types.specs.Changes.{change_of, changes_of};
+ghost use Rattle.smo_types.specs.Changes.{change_of};
 ghost use Rattle.smo_meaning.specs.Effects.{gained_rows};
 ghost use Rattle.smo_meaning.specs.Inserting.{relation_after_each, insertions};
-ghost use Rattle.table_changes.specs.Changing.{AreAccepted, IsChange, of_table};
+ghost use Rattle.table_changes.specs.Changing.{AreAccepted, IsChange, borrowed_changes};
 
-use crate::overlay::{given_row, lost_and_gained, own_condition};
+use crate::overlay::{condition, given_row, lost_and_gained};
 use candidate_rows::column_asked;
 use history_store::{GivenRow, Prepared, StoredTable};
-use prima_base::{ColType, Name, NoMemory, same_name};
+use prima_base::{ColType, Name, NoMemory};
 use smo_ops::{Change, OwnColumns, insertions_are_a_union};
 use std::alloc::Global;
 
-/// Whether one of the changes is of the table with this name. It takes no memory.
-pub fn is_touched(changes: &[Change], name: &Name) -> bool
-    ensures { result ≡ nat_lt 0 (length (of_table name.now (changes_of changes.now))) }
-{
-    for change in changes {
-        if same_name(change.table(), name) {
-            return true;
-        }
-    }
-    false
-}
-
-// The rows, and the one that the change gives where it is of the table, borrowed by it; none where
-// it is no INSERT.
+// The rows, and the one that the change gives, borrowed by it; none where it is no INSERT.
 fn add_given<'a>(
     alloc: Global,
     columns: &[(Name, ColType)],
-    name: &Name,
     change: &'a Change,
     rows: Vec<GivenRow<'a>>,
 ) -> Result<Option<Vec<GivenRow<'a>>>, NoMemory>
     ensures { IfOk result (λ o. option_map (λ v. v.items) o
         ≡ option_map (λ more. rows.entry.items ++ more)
-        (insertions columns.now (of_table name.now (change_of change.now ∷ [])))) }
+        (insertions columns.now (change_of change.now ∷ []))) }
 {
-    if !same_name(change.table(), name) {
-        return Ok(Some(rows));
-    }
     let Change::Insert { cells, .. } = change else {
         return Ok(None);
     };
@@ -57,20 +39,18 @@ fn add_given<'a>(
     Ok(Some(rows))
 }
 
-// The rows that the table's changes give, in order, borrowed by them; none where one of them is no
-// INSERT.
+// The rows that the changes give, in order, borrowed by them; none where one of them is no INSERT.
 fn given_rows<'a>(
     alloc: Global,
     columns: &[(Name, ColType)],
-    name: &Name,
-    changes: &'a [Change],
+    changes: &[&'a Change],
 ) -> Result<Option<Vec<GivenRow<'a>>>, NoMemory>
     ensures { IfOk result (λ o. option_map (λ v. v.items) o
-        ≡ insertions columns.now (of_table name.now (changes_of changes.now))) }
+        ≡ insertions columns.now (borrowed_changes changes.now)) }
 {
     let mut rows = Vec::new(alloc);
     for change in changes {
-        let Some(more) = add_given(alloc, columns, name, change, rows)? else {
+        let Some(more) = add_given(alloc, columns, *change, rows)? else {
             return Ok(None);
         };
         rows = more;
@@ -112,45 +92,43 @@ fn prepare_given<'a>(
     Ok(prepared)
 }
 
-// Makes ready what the table's changes lose and gain, from the stamp on.
+// Makes ready what the changes lose and gain, from the stamp on.
 fn prepare_overlay<'a>(
     alloc: Global,
     columns: &[(Name, ColType)],
-    name: &Name,
     store: &mut StoredTable,
     stamp: u64,
-    changes: &'a [Change],
+    changes: &[&'a Change],
 ) -> Result<Prepared<'a>, NoMemory>
     requires columns { AreColumns columns.now }
     requires same { store.old.columns ≡ columns.now }
-    requires accepted { AreAccepted columns.now (of_table name.now (changes_of changes.now)) }
+    requires accepted { AreAccepted columns.now (borrowed_changes changes.now) }
     requires before { AllBefore store.old stamp }
     requires valid { stamp < forever }
     ensures same { store.new ≡ record store.old { spare = store.new.spare } }
     ensures spare { store.old.spare ≤ store.new.spare }
     ensures change { IfOk result (λ p. IsChange store.new stamp
-        (relation_after_each columns.now (of_table name.now (changes_of changes.now))
+        (relation_after_each columns.now (borrowed_changes changes.now)
         (relation_at store.old stamp)) p) }
     ensures gained { IfOk result (λ p. length p.gained
         ≡ length (gained_rows (relation_at store.old stamp)
-        (relation_after_each columns.now (of_table name.now (changes_of changes.now))
+        (relation_after_each columns.now (borrowed_changes changes.now)
         (relation_at store.old stamp)))) }
     ensures lost { IfOk result (λ p. length p.lost
         ≡ length (gained_rows (relation_after_each columns.now
-        (of_table name.now (changes_of changes.now)) (relation_at store.old stamp))
+        (borrowed_changes changes.now) (relation_at store.old stamp))
         (relation_at store.old stamp))) }
 {
     store.rows_are_a_relation();
-    let (lost, gained) = lost_and_gained(alloc, columns, name, store, changes)?;
+    let (lost, gained) = lost_and_gained(alloc, columns, store, changes)?;
     let prepared = store.prepare_change(stamp, &lost, gained)?;
     Ok(prepared)
 }
 
-// Keeps the index that finding the rows of the change asks for, where it is of the table.
+// Keeps the index that finding the rows of the change asks for.
 fn index_asked(
     alloc: Global,
     own: &OwnColumns<'_>,
-    name: &Name,
     store: &mut StoredTable,
     change: &Change,
 ) -> Result<(), NoMemory>
@@ -160,7 +138,7 @@ fn index_asked(
         { spare = store.new.spare; indexed = store.new.indexed } }
     ensures spare { store.old.spare ≤ store.new.spare }
 {
-    let Some(cond) = own_condition(name, change) else {
+    let Some(cond) = condition(change) else {
         return Ok(());
     };
     match column_asked(alloc, store, own, cond)? {
@@ -169,13 +147,12 @@ fn index_asked(
     }
 }
 
-// Keeps the indexes that finding the rows of the table's changes asks for.
+// Keeps the indexes that finding the rows of the changes asks for.
 fn index_each(
     alloc: Global,
     own: &OwnColumns<'_>,
-    name: &Name,
     store: &mut StoredTable,
-    changes: &[Change],
+    changes: &[&Change],
 ) -> Result<(), NoMemory>
     requires columns { AreColumns own.now }
     requires same { store.old.columns ≡ own.now }
@@ -184,7 +161,7 @@ fn index_each(
     ensures spare { store.old.spare ≤ store.new.spare }
 {
     for change in changes {
-        index_asked(alloc, own, name, store, change)?;
+        index_asked(alloc, own, store, *change)?;
     }
     Ok(())
 }
@@ -193,37 +170,36 @@ fn index_each(
 fn prepare_indexed<'a>(
     alloc: Global,
     columns: &[(Name, ColType)],
-    name: &Name,
     store: &mut StoredTable,
     stamp: u64,
-    changes: &'a [Change],
+    changes: &[&'a Change],
 ) -> Result<Prepared<'a>, NoMemory>
     requires columns { AreColumns columns.now }
     requires same { store.old.columns ≡ columns.now }
-    requires accepted { AreAccepted columns.now (of_table name.now (changes_of changes.now)) }
+    requires accepted { AreAccepted columns.now (borrowed_changes changes.now) }
     requires before { AllBefore store.old stamp }
     requires valid { stamp < forever }
     ensures same { store.new ≡ record store.old
         { spare = store.new.spare; indexed = store.new.indexed } }
     ensures spare { store.old.spare ≤ store.new.spare }
     ensures change { IfOk result (λ p. IsChange store.new stamp
-        (relation_after_each columns.now (of_table name.now (changes_of changes.now))
+        (relation_after_each columns.now (borrowed_changes changes.now)
         (relation_at store.old stamp)) p) }
     ensures gained { IfOk result (λ p. length p.gained
         ≡ length (gained_rows (relation_at store.old stamp)
-        (relation_after_each columns.now (of_table name.now (changes_of changes.now))
+        (relation_after_each columns.now (borrowed_changes changes.now)
         (relation_at store.old stamp)))) }
     ensures lost { IfOk result (λ p. length p.lost
         ≡ length (gained_rows (relation_after_each columns.now
-        (of_table name.now (changes_of changes.now)) (relation_at store.old stamp))
+        (borrowed_changes changes.now) (relation_at store.old stamp))
         (relation_at store.old stamp))) }
 {
     let own = OwnColumns::new(alloc, columns)?;
-    index_each(alloc, &own, name, store, changes)?;
-    prepare_overlay(alloc, columns, name, store, stamp, changes)
+    index_each(alloc, &own, store, changes)?;
+    prepare_overlay(alloc, columns, store, stamp, changes)
 }
 
-/// Makes the table's changes ready, from the stamp on, and all the room that installing them needs.
+/// Makes a table's changes ready, from the stamp on, and all the room that installing them needs.
 /// INSERTs alone cost one search a row, and each row stays borrowed by its change until it is
 /// installed. An UPDATE or DELETE costs a look at each row between two cuts in the order of the
 /// rows, where its condition pins the first columns to constants or bounds them, or at the rows
@@ -235,35 +211,34 @@ fn prepare_indexed<'a>(
 pub fn prepare_table<'a>(
     alloc: Global,
     columns: &[(Name, ColType)],
-    name: &Name,
     store: &mut StoredTable,
     stamp: u64,
-    changes: &'a [Change],
+    changes: &[&'a Change],
 ) -> Result<Prepared<'a>, NoMemory>
     requires columns { AreColumns columns.now }
     requires same { store.old.columns ≡ columns.now }
-    requires accepted { AreAccepted columns.now (of_table name.now (changes_of changes.now)) }
+    requires accepted { AreAccepted columns.now (borrowed_changes changes.now) }
     requires before { AllBefore store.old stamp }
     requires valid { stamp < forever }
     ensures same { store.new ≡ record store.old
         { spare = store.new.spare; indexed = store.new.indexed } }
     ensures spare { store.old.spare ≤ store.new.spare }
     ensures change { IfOk result (λ p. IsChange store.new stamp
-        (relation_after_each columns.now (of_table name.now (changes_of changes.now))
+        (relation_after_each columns.now (borrowed_changes changes.now)
         (relation_at store.old stamp)) p) }
     ensures gained { IfOk result (λ p. length p.gained
         ≡ length (gained_rows (relation_at store.old stamp)
-        (relation_after_each columns.now (of_table name.now (changes_of changes.now))
+        (relation_after_each columns.now (borrowed_changes changes.now)
         (relation_at store.old stamp)))) }
     ensures lost { IfOk result (λ p. length p.lost
         ≡ length (gained_rows (relation_after_each columns.now
-        (of_table name.now (changes_of changes.now)) (relation_at store.old stamp))
+        (borrowed_changes changes.now) (relation_at store.old stamp))
         (relation_at store.old stamp))) }
 {
     insertions_are_a_union();
-    let given = given_rows(alloc, columns, name, changes)?;
+    let given = given_rows(alloc, columns, changes)?;
     match given {
         Some(rows) => prepare_given(store, stamp, rows),
-        None => prepare_indexed(alloc, columns, name, store, stamp, changes),
+        None => prepare_indexed(alloc, columns, store, stamp, changes),
     }
 }

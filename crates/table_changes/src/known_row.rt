@@ -42,8 +42,8 @@ fn row_after<'a>(alloc: Global, column: usize, row: &GivenRow<'a>) -> Result<Giv
     ensures { IfOk result (λ led. Some led ≡ led_of column row.now) }
 {
     let mut values = Vec::with_capacity(alloc, row.len())?;
-    values.push(row.copy_value(alloc, column)?)?;
-    put_values(alloc, row, 0, &mut values)?;
+    values.push(row.copy_value(column)?)?;
+    put_values(row, 0, &mut values)?;
     Ok(GivenRow::of(values))
 }
 

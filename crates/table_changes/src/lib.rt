@@ -1,4 +1,4 @@
-//! What the changes of a command make of one table: the rows that it loses and those that it gains.
+//! What the changes of a table make of it: the rows that it loses and those that it gains.
 //!
 //! INSERTs alone are rows that the table gets too. Else the changes are carried out one after the
 //! other over what is stored, and what they come to is kept as the rows by which the table differs
@@ -11,4 +11,4 @@ mod known_row;
 mod overlay;
 mod row_value;
 
-pub use change::{is_touched, prepare_table};
+pub use change::prepare_table;

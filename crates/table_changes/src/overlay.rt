@@ -1,4 +1,4 @@
-//! What the changes of a command make of one table, row by row over the rows that are stored.
+//! What the changes of a table make of it, row by row over the rows that are stored.
 //!
 //! What is known are the rows by which the table differs from what is stored, each with whether the
 //! table has it now; a row that is again as it is stored is known no more. So a change costs what
@@ -21,11 +21,11 @@ ghost use Rattle.prima_base.specs.declared.value.Value.{Value as OneValue};
 ghost use Rattle.cond_expr.specs.Rows.{AreValid};
 ghost use Rattle.cond_expr.specs.Seen.{test};
 ghost use Rattle.history_store.specs.Store.{AllBefore, relation_at};
-ghost use Rattle.smo_types.specs.Changes.{change_of, changes_of, sets_of};
+ghost use Rattle.smo_types.specs.Changes.{change_of, sets_of};
 ghost use Rattle.smo_meaning.specs.OneRow.{Row as OneRow, Relation, meets, row_of, with_sets};
 ghost use Rattle.smo_meaning.specs.Effects.{relation_after, gained_rows};
 ghost use Rattle.smo_meaning.specs.Inserting.{relation_after_each};
-ghost use Rattle.table_changes.specs.Changing.{of_table, AreAccepted};
+ghost use Rattle.table_changes.specs.Changing.{AreAccepted, borrowed_changes};
 ghost use Rattle.table_changes.specs.Overlay.{told, is_kept, LeadsTo, AreHits, lost_by_now};
 ghost use Rattle.table_changes.specs.Overlay.{gained_by_now};
 
@@ -37,7 +37,7 @@ use candidate_rows::{
 };
 use cond_expr::{CmpOp, Cond, Expr, pinned};
 use history_store::{BorrowedRows, GivenRow, StoredTable};
-use prima_base::{ColType, Name, NoMemory, Row, Val, Value, same_name};
+use prima_base::{ColType, Name, NoMemory, Row, Val, Value};
 use smo_ops::{Change, OwnColumns, inserted_row, row_meets, row_with_sets};
 use std::alloc::Global;
 
@@ -237,34 +237,8 @@ fn apply<'a>(
     }
 }
 
-// The same where the change is of the table.
-fn apply_own<'a>(
-    alloc: Global,
-    store: &StoredTable,
-    overlay: &mut KnownRows<'a>,
-    own: &OwnColumns<'_>,
-    name: &Name,
-    change: &'a Change,
-) -> Result<(), NoMemory>
-    requires columns { AreColumns own.now }
-    requires same { store.now.columns ≡ own.now }
-    ensures { (m : ℕ) (now : Relation) → m < forever → AllBefore store.now (m + 1)
-        → IsRelation own.now now → LeadsTo overlay.old (relation_at store.now m) now
-        → OnOk result (LeadsTo overlay.new (relation_at store.now m)
-        (relation_after_each own.now (of_table name.now (change_of change.now ∷ [])) now)) }
-{
-    if !same_name(change.table(), name) {
-        return Ok(());
-    }
-    apply(alloc, store, overlay, own, change)
-}
-
-/// The condition of the change, where it is an UPDATE or DELETE of the table with this name. It
-/// takes no memory.
-pub(crate) fn own_condition<'c>(name: &Name, change: &'c Change) -> Option<&'c Cond> {
-    if !same_name(change.table(), name) {
-        return None;
-    }
+/// The condition of the change, where it is an UPDATE or DELETE. It takes no memory.
+pub(crate) fn condition(change: &Change) -> Option<&Cond> {
     match change {
         Change::Update { cond, .. } | Change::Delete { cond, .. } => Some(cond),
         Change::Insert { .. } => None,
@@ -287,43 +261,41 @@ fn add_pinned(own: &OwnColumns<'_>, cond: &Cond, columns: &mut Vec<usize>) -> Re
     Ok(())
 }
 
-// The columns to which changes of the table pin constants.
+// The columns to which the changes pin constants.
 fn pinned_columns(
     alloc: Global,
     own: &OwnColumns<'_>,
-    name: &Name,
-    changes: &[Change],
+    changes: &[&Change],
 ) -> Result<Vec<usize>, NoMemory> {
     let mut columns = Vec::new(alloc);
     for change in changes {
-        if let Some(cond) = own_condition(name, change) {
+        if let Some(cond) = condition(*change) {
             add_pinned(own, cond, &mut columns)?;
         }
     }
     Ok(columns)
 }
 
-// What the table's changes, one after the other, make of its rows: those by which it differs from
+// What the changes, one after the other, make of the table's rows: those by which it differs from
 // what is stored, each with whether the table has it after the changes.
 fn overlay_of<'a>(
     alloc: Global,
     store: &StoredTable,
     own: &OwnColumns<'_>,
-    name: &Name,
-    changes: &'a [Change],
+    changes: &[&'a Change],
 ) -> Result<KnownRows<'a>, NoMemory>
     requires columns { AreColumns own.now }
     requires same { store.now.columns ≡ own.now }
-    requires accepted { AreAccepted own.now (of_table name.now (changes_of changes.now)) }
+    requires accepted { AreAccepted own.now (borrowed_changes changes.now) }
     ensures { (m : ℕ) → m < forever → AllBefore store.now (m + 1)
         → IfOk result (λ o. LeadsTo o (relation_at store.now m)
-        (relation_after_each own.now (of_table name.now (changes_of changes.now))
+        (relation_after_each own.now (borrowed_changes changes.now)
         (relation_at store.now m))) }
 {
     store.rows_are_a_relation();
-    let mut overlay = KnownRows::new(alloc, &pinned_columns(alloc, own, name, changes)?)?;
+    let mut overlay = KnownRows::new(alloc, &pinned_columns(alloc, own, changes)?)?;
     for change in changes {
-        apply_own(alloc, store, &mut overlay, own, name, change)?;
+        apply(alloc, store, &mut overlay, own, *change)?;
     }
     Ok(overlay)
 }
@@ -371,25 +343,24 @@ fn lost_and_gained_by_now<'a>(
 pub(crate) fn lost_and_gained<'a>(
     alloc: Global,
     columns: &[(Name, ColType)],
-    name: &Name,
     store: &StoredTable,
-    changes: &'a [Change],
+    changes: &[&'a Change],
 ) -> Result<(Vec<GivenRow<'a>>, Vec<GivenRow<'a>>), NoMemory>
     requires columns { AreColumns columns.now }
     requires same { store.now.columns ≡ columns.now }
-    requires accepted { AreAccepted columns.now (of_table name.now (changes_of changes.now)) }
+    requires accepted { AreAccepted columns.now (borrowed_changes changes.now) }
     ensures lost { (m : ℕ) → m < forever → AllBefore store.now (m + 1)
         → IfOk result (λ (lost, _gained). lost.items
-        ≡ gained_rows (relation_after_each columns.now (of_table name.now (changes_of changes.now))
+        ≡ gained_rows (relation_after_each columns.now (borrowed_changes changes.now)
         (relation_at store.now m)) (relation_at store.now m)) }
     ensures gained { (m : ℕ) → m < forever → AllBefore store.now (m + 1)
         → IfOk result (λ (_lost, gained). gained.items
         ≡ gained_rows (relation_at store.now m)
-        (relation_after_each columns.now (of_table name.now (changes_of changes.now))
+        (relation_after_each columns.now (borrowed_changes changes.now)
         (relation_at store.now m))) }
 {
     store.rows_are_a_relation();
     let own = OwnColumns::new(alloc, columns)?;
-    let overlay = overlay_of(alloc, store, &own, name, changes)?;
+    let overlay = overlay_of(alloc, store, &own, changes)?;
     lost_and_gained_by_now(alloc, overlay)
 }

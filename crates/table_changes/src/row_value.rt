@@ -29,7 +29,6 @@ pub(crate) fn lend_values<'r>(
 /// each text of them that stands elsewhere stays there, and one of the row's own is copied. The one
 /// error is `NoMemory`, where memory runs out.
 pub(crate) fn put_values<'a>(
-    alloc: Global,
     row: &GivenRow<'a>,
     skip: usize,
     values: &mut Vec<Val<'a>>,
@@ -40,7 +39,7 @@ pub(crate) fn put_values<'a>(
         → OnOk result (All (λ v. IsValid (shown v)) values.new.items) }
 {
     for at in skip..row.len() {
-        values.push(row.copy_value(alloc, at)?)?;
+        values.push(row.copy_value(at)?)?;
     }
     Ok(())
 }
@@ -55,6 +54,6 @@ pub(crate) fn copy_values<'a>(
     ensures valid { IfOk result (λ v. All (λ v. IsValid (shown v)) v.items) }
 {
     let mut values = Vec::with_capacity(alloc, row.len())?;
-    put_values(alloc, row, skip, &mut values)?;
+    put_values(row, skip, &mut values)?;
     Ok(values)
 }

@@ -31,6 +31,7 @@ pub mod RestoredGroups
 pub mod RestoredPasts
 pub mod LifelinesNamed
 pub mod TablesInTurn
+pub mod ChangeGroups
 pub mod VersionsKept
 pub mod PreparedCommand
 pub mod ColumnCounts

@@ -1,8 +1,7 @@
 -- What was made ready, of a past that is shown.
 use Rattle.std.proofs.Common.{◌≡◌, ◌≤◌, ◌<◌, ◌+◌, ℕ, suc, zero, List, [], ◌∷◌, map, length, get_or}
 use Rattle.std.proofs.Common.{refl, sym, ap, subst, ◌∙◌, arith, inl, inr}
-use Rattle.std.specs.Prelude.{Option, Some, None, nat_lt, Result, Ok, Err, OnOk}
-use Rattle.std.specs.Result.{result_err}
+use Rattle.std.specs.Prelude.{Option, Some, None, nat_lt}
 use Rattle.std.specs.Option.{option_map}
 use Rattle.std.specs.FinMap.{get, get-empty}
 use Rattle.relations.specs.Sets.{Ascends}
@@ -12,24 +11,20 @@ use Rattle.prima_base.specs.Columns.{Column}
 use Rattle.schema_catalog.specs.Tables.{Tables}
 use Rattle.history_store.specs.Store.{Store, AllBefore}
 use Rattle.history_store.specs.Change.{PreparedChange}
-use Rattle.smo_types.specs.declared.command.Body.{Body}
 use Rattle.smo_types.specs.declared.version.Version.{Version}
-use Rattle.smo_meaning.specs.Accepts.{command_fault, count_fault, stamp_fault, operator_refusal}
+use Rattle.smo_meaning.specs.Accepts.{command_fault, operator_refusal}
 use Rattle.smo_meaning.specs.Accepts.{most_versions, body_tests}
-use Rattle.smo_meaning.specs.After.{op_fault, HasFewNodes}
-use Rattle.smo_meaning.specs.Counts.{first_excess}
+use Rattle.smo_meaning.specs.After.{op_fault}
 use Rattle.smo_meaning.specs.First.{unless, first_refusal}
 use Rattle.smo_meaning.specs.ValidPast.{IsLater}
 use Rattle.smo_meaning.specs.ValidValues.{BodyHolds}
 use Rattle.smo_meaning.specs.Inverses.{inverse_tests}
-use Rattle.prima_base.specs.declared.refusal.What.{What}
 use Rattle.prima_base.specs.declared.refusal.What.TheVariants.{Versions}
 use Rattle.prima_base.specs.declared.refusal.Refusal.TheVariants.{TooMany as OverLimit}
 use Rattle.std.proofs.lemmas.Bool.Decides.{nat_tests}
-use Rattle.smo_meaning.proofs.Firsts.{met, none_of_first, none_mapped}
-use Rattle.smo_meaning.proofs.CountedOperators.{counted_operator}
+use Rattle.smo_meaning.proofs.Firsts.{met, none_of_first}
 use Rattle.smo_types.specs.Changes.{PlainChange}
-use Rattle.smo_types.specs.Commands.{PlainBody, changing, evolving, version_of, body_of, command_of}
+use Rattle.smo_types.specs.Commands.{changing, evolving, version_of}
 use Rattle.smo_types.specs.Operators.{Operator}
 use Rattle.smo_meaning.specs.Past.{Past, beginning, no_tables, newest_from, tables_of}
 use Rattle.smo_meaning.specs.Past.{newest_tables, newest_database, next_database}
@@ -210,11 +205,11 @@ module _ (kept : Kept) (past : Past) (stamp : ℕ) (changes : List PlainChange)
 
   pub changes_ready : BodyHolds (changing changes) → (new : Kept) → IsSame kept new
       → (plans : List (Option PreparedChange)) → AreReady stamp changes (newest_group new) plans
-      → (next : PreparedCommand) → step_of next.step ≡ changed plans
+      → (next : PreparedCommand) → next.stamp ≡ stamp → step_of next.step ≡ changed plans
       → next.gained ≡ all_gained stamp changes (newest_group kept)
       → next.lost ≡ all_lost stamp changes (newest_group kept)
       → Prepares new past (a_command stamp (changing changes)) next
-  changes_ready hold new same plans ready next is gains loses =
+  changes_ready hold new same plans ready next own_stamp is gains loses =
       let n = length past.versions in
       let e : length new.versions ≡ length past.versions = ap length same.versions ∙ number in
       let stored = stands kept past stamp (changing changes) shows valid accepted in
@@ -239,15 +234,12 @@ module _ (kept : Kept) (past : Past) (stamp : ℕ) (changes : List PlainChange)
                     (get_or (group_of new n) k d) (group.each k d l),
               ))));
         };
+        stamp = own_stamp;
         gained = gains ∙ ap (λ j. all_gained stamp changes (group_of kept j)) number ∙ c.0;
         lost = loses ∙ ap (λ j. all_lost stamp changes (group_of kept j)) number ∙ c.1;
       }
 
--- ---- commands and schemas of the groups' fields
-
-pub command_is : (c : ℕ × Body) (stamp : ℕ) (body : PlainBody) → stamp ≡ c.0 → body ≡ body_of c.1
-    → a_command stamp body ≡ command_of c
-command_is c stamp body e b = ap (λ n. a_command n body) e ∙ ap (a_command c.0) b
+-- ---- schemas of the groups' fields
 
 pub schema_is : (kept : Kept) (past : Past) → Represents kept past
     → (nothing : Tables) (versions : List Version) → nothing ≡ no_tables → versions ≡ kept.versions
@@ -255,12 +247,6 @@ pub schema_is : (kept : Kept) (past : Past) → Represents kept past
 schema_is kept past shows nothing versions n e =
     ap (λ t. newest_from t (map version_of versions)) n
     ∙ ap (newest_from no_tables) (ap (map version_of) e ∙ shows.versions)
-
--- what holds where no count is too large holds, where none is
-pub counted_hold : (r : Result (Unit {0}) (What × ℕ)) (body : PlainBody) → first_excess body ≡ None
-    → result_err r ≡ first_excess body → OnOk r (BodyHolds body) → BodyHolds body
-counted_hold (Ok u) body few is h = h
-counted_hold (Err e) body few is h = absurd (cc)
 
 -- ---- an operator
 
@@ -272,13 +258,6 @@ module _ (kept : Kept) (past : Past) (stamp : ℕ) (op : Operator) (inverse : Li
 
   pub op_accepted : op_fault (newest_tables past) op ≡ None
   op_accepted = operator_accepted past stamp op inverse accepted
-
-  pub few_nodes : HasFewNodes op
-  few_nodes =
-      counted_operator op inverse
-      (none_mapped (λ e. OverLimit e.0 e.1) (first_excess (evolving op inverse))
-      (none_of_first (count_fault (first_excess (evolving op inverse)))
-      (stamp_fault past.last stamp ∷ body_tests past (evolving op inverse)) accepted).0)
 
   pub few_versions : length past.versions < most_versions
   few_versions =
@@ -300,10 +279,11 @@ module _ (kept : Kept) (past : Past) (stamp : ℕ) (op : Operator) (inverse : Li
       → length begun ≤ new.beginnings → IsEvolved kept.stored (newest_places kept)
       (length kept.versions + 1) (newest_tables past) (newest_database past) stamp op inverse
       (version_of version) begun places
-      → (next : PreparedCommand) → step_of next.step ≡ evolved (version_of version) begun places
+      → (next : PreparedCommand) → next.stamp ≡ stamp
+      → step_of next.step ≡ evolved (version_of version) begun places
       → next.gained ≡ 0 → next.lost ≡ 0 → Prepares new past (a_command stamp (evolving op inverse))
       next
-  operator_ready hold new same stored room version begun places beginnings e next is g l =
+  operator_ready hold new same stored room version begun places beginnings e next own_stamp is g l =
       let number : length kept.versions ≡ length new.versions = sym (ap length same.versions) in
       let at : newest_places kept ≡ newest_places new = sym (same_newest kept new same) in
       let h = subst (λ (ts : List MadeTable).
@@ -331,6 +311,7 @@ module _ (kept : Kept) (past : Past) (stamp : ℕ) (op : Operator) (inverse : Li
                 as_many kept past shows in omega (arith, few, e, n));
           });
         };
+        stamp = own_stamp;
         gained = g;
         lost = l;
       }

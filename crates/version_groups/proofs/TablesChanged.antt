@@ -23,7 +23,8 @@ use Rattle.smo_meaning.proofs.Firsts.{none_of_both, none_of_first}
 use Rattle.smo_meaning.proofs.NameLaws.{same_itself, same_is, same_not, same_turned}
 use Rattle.version_groups.specs.declared.made_table.MadeTable.{MadeTable}
 use Rattle.version_groups.specs.Groups.{stored_as, names_of}
-use Rattle.table_changes.specs.Changing.{AreAccepted, of_table}
+use Rattle.version_groups.specs.Grouping.{of_table}
+use Rattle.table_changes.specs.Changing.{AreAccepted}
 
 -- ---- what is accepted
 

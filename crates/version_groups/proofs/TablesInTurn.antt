@@ -1,46 +1,47 @@
 -- Tables whose changes are made ready, or made, one after the other.
-use Rattle.std.proofs.Common.{◌≡◌, ◌≤◌, ◌<◌, ◌+◌, ℕ, suc, zero, false, List, [], ◌∷◌, ◌++◌, length}
+use Rattle.std.proofs.Common.{◌≡◌, ◌≤◌, ◌<◌, ◌+◌, ℕ, suc, zero, true, List, [], ◌∷◌, ◌++◌, length}
 use Rattle.std.proofs.Common.{drop, get_or, refl, sym, ap, subst, ◌∙◌, arith, inl, inr}
 use Rattle.std.proofs.Common.{length-append, get_or-set_same, get_or-set_other}
-use Rattle.std.specs.Prelude.{Option, None, ◌⊎◌, nat_lt}
+use Rattle.std.specs.Prelude.{Option, None, ◌⊎◌, ◌==◌}
+use Rattle.std.specs.Borrow.{Bor}
 use Rattle.std.proofs.lemmas.Bool.Decides.{nat_tests}
 use Rattle.std.proofs.Math.ListN.{set, length-set, drop_of_length-le}
 use Rattle.std.proofs.Math.Seq.{get_or-append_seam}
-use Rattle.std.proofs.lemmas.List.{get_or_append_left, get_or_read}
+use Rattle.std.proofs.lemmas.List.{get_or_append_left, get_or_read, nil_from_length}
 use Rattle.history_store.specs.Change.{PreparedChange}
 use Rattle.smo_types.specs.Changes.{PlainChange}
+use Rattle.smo_types.specs.declared.change.Change.{Change}
 use Rattle.smo_meaning.specs.Effects.{gained_rows}
 use Rattle.smo_meaning.specs.Inserting.{relation_after_each}
 use Rattle.smo_meaning.proofs.CountingLaws.{gains_nothing}
 use Rattle.smo_meaning.proofs.Firsts.{drop_at}
 use Rattle.version_groups.specs.declared.made_table.MadeTable.{MadeTable}
+use Rattle.table_changes.specs.Changing.{borrowed_changes}
 use Rattle.version_groups.specs.Becoming.{Leads, IsMade}
-use Rattle.table_changes.specs.Changing.{of_table}
-use Rattle.version_groups.specs.Changing.{rows_now, rows_after, AreReady, all_gained, all_lost}
+use Rattle.version_groups.specs.Grouping.{of_table}
+use Rattle.version_groups.specs.Changing.{rows_now, rows_after_own, rows_after, AreReady}
+use Rattle.version_groups.specs.Changing.{all_gained, all_lost}
 use Rattle.version_groups.specs.Room.{IsSameTable, AreSameTables}
 use Rattle.table_changes.proofs.Becoming.{same_relation, same_columns}
 use Rattle.smo_meaning.proofs.PastMoments.{before_or_not}
 
 -- ---- a table that no change is of
 
-no_changes : (changes : List PlainChange) → nat_lt 0 (length changes) ≡ false → changes ≡ []
-no_changes [] e = refl
-no_changes (c ∷ changes) e = (let l : length (c ∷ changes) ≤ 0 = grind (arith, nat_tests, e) in
-    absurd (omega (arith, l)))
+module _ (stamp : ℕ) (own : List (Bor Change)) (t : MadeTable) (none : (length own == 0) ≡ true)
+  where
+    untouched_rows : rows_after_own stamp (borrowed_changes own) t ≡ rows_now stamp t
+    untouched_rows = ap (λ cs. rows_after_own stamp (borrowed_changes cs) t)
+        (nil_from_length own (grind (arith, nat_tests, none)))
 
-module _ (stamp : ℕ) (changes : List PlainChange) (t : MadeTable)
-    (untouched : nat_lt 0 (length (of_table t.name changes)) ≡ false) where
-  pub untouched_rows : rows_now stamp t ≡ rows_after stamp changes t
-  untouched_rows = sym (ap (λ cs. relation_after_each t.store.columns cs (rows_now stamp t))
-      (no_changes (of_table t.name changes) untouched))
+    pub untouched_gained : 0 ≡ length (gained_rows (rows_now stamp t)
+        (rows_after_own stamp (borrowed_changes own) t))
+    untouched_gained = sym (ap (λ rows. length (gained_rows (rows_now stamp t) rows)) untouched_rows
+        ∙ ap length (gains_nothing (rows_now stamp t)))
 
-  pub untouched_gained : 0 ≡ length (gained_rows (rows_now stamp t) (rows_after stamp changes t))
-  untouched_gained = sym (ap (λ r. length (gained_rows (rows_now stamp t) r)) (sym untouched_rows)
-      ∙ ap length (gains_nothing (rows_now stamp t)))
-
-  pub untouched_lost : 0 ≡ length (gained_rows (rows_after stamp changes t) (rows_now stamp t))
-  untouched_lost = sym (ap (λ r. length (gained_rows r (rows_now stamp t))) (sym untouched_rows)
-      ∙ ap length (gains_nothing (rows_now stamp t)))
+    pub untouched_lost : 0 ≡ length (gained_rows (rows_after_own stamp (borrowed_changes own) t)
+        (rows_now stamp t))
+    untouched_lost = sym (ap (λ rows. length (gained_rows rows (rows_now stamp t))) untouched_rows
+        ∙ ap length (gains_nothing (rows_now stamp t)))
 
 -- ---- one place or another
 

@@ -2,7 +2,6 @@
 use Rattle.std.specs.Prelude.{◌≡◌, ℕ, ◌+◌, ◌<◌, List, [], ◌∷◌, length, Option, Some, None}
 use Rattle.std.specs.Prelude.{slice_index_or}
 use Rattle.std.specs.FinMap.{get}
-use Rattle.prima_base.specs.Columns.{Column}
 use Rattle.schema_catalog.specs.Tables.{Tables}
 use Rattle.history_store.specs.Store.{AllBefore, relation_at}
 use Rattle.history_store.specs.Change.{PreparedChange}
@@ -10,29 +9,34 @@ use Rattle.smo_types.specs.Changes.{PlainChange}
 use Rattle.smo_meaning.specs.Effects.{gained_rows}
 use Rattle.smo_meaning.specs.Inserting.{relation_after_each}
 use Rattle.smo_meaning.specs.OneRow.{Relation}
-use Rattle.table_changes.specs.Changing.{of_table, AreAccepted}
+use Rattle.table_changes.specs.Changing.{AreAccepted}
 use Rattle.version_groups.specs.declared.made_table.MadeTable.{MadeTable}
 use Rattle.version_groups.specs.Becoming.{HasRoom, Leads, IsMade}
+use Rattle.version_groups.specs.Grouping.{of_table}
 
--- the rows of a table at the stamp, and after its changes
+-- the rows of a table at the stamp, after changes of it, and after those of the command's changes
+-- that are of it
 abbrev pub rows_now : ℕ → MadeTable → Relation
 rows_now stamp table = relation_at table.store stamp
 
-abbrev pub rows_after : ℕ → List PlainChange → MadeTable → Relation
-rows_after stamp changes table = relation_after_each table.store.columns
-    (of_table table.name changes) (rows_now stamp table)
+abbrev pub rows_after_own : ℕ → List PlainChange → MadeTable → Relation
+rows_after_own stamp own table = relation_after_each table.store.columns own (rows_now stamp table)
 
--- it has the columns of the schema's table, its changes are accepted, and each of its stamps is
--- earlier
-pub record IsChangeable (tables : Tables) (stamp : ℕ) (changes : List PlainChange)
-    (table : MadeTable) : Type 0 where
+abbrev pub rows_after : ℕ → List PlainChange → MadeTable → Relation
+rows_after stamp changes table = rows_after_own stamp (of_table table.name changes) table
+
+-- it has the columns of the schema's table, these changes of it are accepted, and each of its
+-- stamps is earlier
+pub record IsChangeable (tables : Tables) (stamp : ℕ) (own : List PlainChange) (table : MadeTable) :
+    Type 0 where
   pub columns : get tables table.name ≡ Some table.store.columns
-  pub accepted : AreAccepted table.store.columns (of_table table.name changes)
+  pub accepted : AreAccepted table.store.columns own
   pub before : AllBefore table.store stamp
 
 abbrev pub AreChangeable : Tables → ℕ → List PlainChange → List MadeTable → Type 0
 AreChangeable tables stamp changes made = (k : ℕ) → (d : MadeTable) → k < length made
-    → IsChangeable tables stamp changes (slice_index_or made k d)
+    → IsChangeable tables stamp (of_table (slice_index_or made k d).name changes)
+    (slice_index_or made k d)
 
 -- of each table, in turn, a change that leads to the rows after its changes
 pub record AreReady (stamp : ℕ) (changes : List PlainChange) (tables : List MadeTable)

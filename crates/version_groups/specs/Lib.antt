@@ -8,6 +8,7 @@ pub mod Sizes
 pub mod GroupFields
 pub mod Showing
 pub mod Becoming
+pub mod Grouping
 pub mod Changing
 pub mod Steps
 pub mod Judged

@@ -1,6 +1,6 @@
 -- What a command does to groups, made ready.
 use Rattle.std.specs.Prelude.{◌≡◌, ℕ, ◌+◌, ◌<◌, ◌≤◌, ◌^◌, List, ◌++◌, length, slice_index_or}
-use Rattle.std.specs.Prelude.{Option, None}
+use Rattle.std.specs.Prelude.{Option, None, Bool, true, false}
 use Rattle.std.specs.List.{filter}
 use Rattle.std.specs.FinMap.{get, entries}
 use Rattle.relations.specs.Sets.{Ascends}
@@ -39,8 +39,13 @@ abbrev pub step_of : Step → PlainStep
 step_of (Changed plans) = changed plans.items
 step_of (Evolved version begun places) = evolved (version_of version) begun.items places.items
 
--- how many rows are gained and lost, and what is to be done
+abbrev pub makes_version : Step → Bool
+makes_version (Changed plans) = false
+makes_version (Evolved version begun places) = true
+
+-- from when on it is seen, how many rows are gained and lost, and what is to be done
 pub record PreparedCommand : Type 0 where
+  pub stamp : ℕ
   pub gained : ℕ
   pub lost : ℕ
   pub step : Step
@@ -112,5 +117,6 @@ a_command stamp body = record { stamp = stamp; body = body }
 pub record Prepares (kept : Kept) (past : Past) (command : PlainCommand) (next : PreparedCommand) :
     Type 0 where
   pub ready : IsReady kept past command next
+  pub stamp : next.stamp ≡ command.stamp
   pub gained : next.gained ≡ rows_gained past command.body
   pub lost : next.lost ≡ rows_lost past command.body

@@ -8,23 +8,24 @@ ghost use Rattle.prima_base.specs.Order.{bytes_cmp};
 ghost use Rattle.smo_types.specs.Changes.{changes_of};
 ghost use Rattle.smo_meaning.specs.Effects.{gained_rows};
 ghost use Rattle.version_groups.specs.declared.made_table.MadeTable.{MadeTable as Stored};
-ghost use Rattle.table_changes.specs.Changing.{IsChange};
+ghost use Rattle.table_changes.specs.Changing.{IsChange, borrowed_changes};
 ghost use Rattle.version_groups.specs.Becoming.{Leads, IsMade, HasRoom};
 ghost use Rattle.version_groups.specs.Changing.{IsChangeable, AreChangeable, AreReady, HaveRoom};
-ghost use Rattle.version_groups.specs.Changing.{AreMade, rows_now, rows_after, all_gained};
+ghost use Rattle.version_groups.specs.Changing.{AreMade, rows_now, rows_after_own, all_gained};
 ghost use Rattle.version_groups.specs.Changing.{all_lost, gained_by, lost_by};
 ghost use Rattle.version_groups.specs.Room.{IsSameTable, AreSameTables};
 ghost use Rattle.version_groups.specs.Groups.{names_of};
 ghost use Rattle.version_groups.specs.Places.{at_places, AreWithin};
 ghost use Rattle.version_groups.specs.Installing.{AreMadeBy};
 
+use crate::change_group::changes_by_table;
 use crate::made_table::MadeTable;
 use history_store::Prepared;
 use prima_base::NoMemory;
 use schema_catalog::Schema;
 use smo_ops::Change;
 use std::alloc::Global;
-use table_changes::{is_touched, prepare_table};
+use table_changes::prepare_table;
 
 /// The changes of tables that are ready, and the rows that they gain and lose.
 #[derive(Drop)]
@@ -40,34 +41,26 @@ fn prepare_touched<'a>(
     schema: &Schema,
     table: &mut MadeTable,
     stamp: u64,
-    changes: &'a [Change],
+    changes: &[&'a Change],
 ) -> Result<Prepared<'a>, NoMemory>
-    requires changeable { IsChangeable schema.now stamp (changes_of changes.now) table.old }
+    requires changeable { IsChangeable schema.now stamp (borrowed_changes changes.now) table.old }
     requires valid { stamp < forever }
     ensures same { IsSameTable table.old table.new }
     ensures change { IfOk result (λ p. IsChange table.new.store stamp
-        (rows_after stamp (changes_of changes.now) table.old) p) }
+        (rows_after_own stamp (borrowed_changes changes.now) table.old) p) }
     ensures gained { IfOk result (λ p. length p.gained
         ≡ length (gained_rows (rows_now stamp table.old)
-        (rows_after stamp (changes_of changes.now) table.old))) }
+        (rows_after_own stamp (borrowed_changes changes.now) table.old))) }
     ensures lost { IfOk result (λ p. length p.lost
-        ≡ length (gained_rows (rows_after stamp (changes_of changes.now) table.old)
+        ≡ length (gained_rows (rows_after_own stamp (borrowed_changes changes.now) table.old)
         (rows_now stamp table.old))) }
 {
     let Some(of_schema) = schema.table(&table.name) else {
-        // The schema has the table with its columns, since the changes are of a table of it
-        // (`IsChangeable`).
+        // The schema has the table with its columns (`IsChangeable`).
         unreachable!();
     };
     let columns = of_schema.columns();
-    prepare_table(
-        alloc,
-        columns,
-        &table.name,
-        &mut table.store,
-        stamp,
-        changes,
-    )
+    prepare_table(alloc, columns, &mut table.store, stamp, changes)
 }
 
 // Makes the changes of one table ready, where there are any.
@@ -76,25 +69,25 @@ fn prepare_one<'a>(
     schema: &Schema,
     table: &mut MadeTable,
     stamp: u64,
-    changes: &'a [Change],
+    changes: &[&'a Change],
 ) -> Result<Option<Prepared<'a>>, NoMemory>
-    requires changeable { IsChangeable schema.now stamp (changes_of changes.now) table.old }
+    requires changeable { IsChangeable schema.now stamp (borrowed_changes changes.now) table.old }
     requires valid { stamp < forever }
     ensures same { IsSameTable table.old table.new }
     ensures leads { IfOk result (λ p. Leads table.new.store stamp
-        (rows_after stamp (changes_of changes.now) table.old) p) }
+        (rows_after_own stamp (borrowed_changes changes.now) table.old) p) }
     ensures gained { IfOk result (λ p. gained_by p
         ≡ length (gained_rows (rows_now stamp table.old)
-        (rows_after stamp (changes_of changes.now) table.old))) }
+        (rows_after_own stamp (borrowed_changes changes.now) table.old))) }
     ensures lost { IfOk result (λ p. lost_by p
-        ≡ length (gained_rows (rows_after stamp (changes_of changes.now) table.old)
+        ≡ length (gained_rows (rows_after_own stamp (borrowed_changes changes.now) table.old)
         (rows_now stamp table.old))) }
 {
-    if is_touched(changes, &table.name) {
-        let prepared = prepare_touched(alloc, schema, table, stamp, changes)?;
-        return Ok(Some(prepared));
+    if changes.is_empty() {
+        return Ok(None);
     }
-    Ok(None)
+    let prepared = prepare_touched(alloc, schema, table, stamp, changes)?;
+    Ok(Some(prepared))
 }
 
 // The rows that a change gains.
@@ -129,8 +122,9 @@ fn sum(a: u64, b: u64) -> Result<u64, NoMemory>
 }
 
 /// Makes the changes of each table at these places ready, from the stamp on, and all the room that
-/// installing them needs. Only tables that a change is of are looked at. The one error is
-/// `NoMemory`, where memory runs out. What the tables stand for stays as it is.
+/// installing them needs. The changes are looked through once, to group them by table, and only
+/// tables that a change is of are looked at. The one error is `NoMemory`, where memory runs out.
+/// What the tables stand for stays as it is.
 pub(crate) fn prepare_tables<'a>(
     alloc: Global,
     schema: &Schema,
@@ -154,11 +148,12 @@ pub(crate) fn prepare_tables<'a>(
     ensures lost { IfOk result (λ c. c.lost ≡ all_lost stamp (changes_of changes.now)
         (at_places tables.old.items places.now)) }
 {
+    let groups = changes_by_table(alloc, tables, places, changes)?;
     let mut plans = Vec::with_capacity(alloc, places.len())?;
     let mut gained = 0;
     let mut lost = 0;
     for i in 0..places.len() {
-        let plan = prepare_one(alloc, schema, &mut tables[places[i]], stamp, changes)?;
+        let plan = prepare_one(alloc, schema, &mut tables[places[i]], stamp, &groups[i])?;
         gained = sum(gained, gained_by(&plan))?;
         lost = sum(lost, lost_by(&plan))?;
         plans.push(plan)?;

@@ -1,7 +1,7 @@
 use crate::changed_table::{Changes, install_tables, prepare_tables};
 use crate::ended_lifeline::end_consumed;
 use crate::evolution::begin_version;
-use crate::judged::{Judged, judge_accepted};
+use crate::judged::Judged;
 use crate::made_table::{MadeTable, find_stored, find_table};
 use crate::next::{Next, Step};
 use crate::restoration::restored_tables;
@@ -9,7 +9,7 @@ use crate::size::SizeLine;
 use history_store::{Prepared, StoredTable};
 use prima_base::{Name, NoMemory};
 use schema_catalog::Schema;
-use smo_ops::{Change, Command, Version, Versions, made};
+use smo_ops::{Change, Version, Versions, made};
 use std::alloc::Global;
 use std::marker::Model;
 use std::mem;
@@ -103,10 +103,9 @@ impl Groups {
     ghost use Rattle.relations.specs.Sets.{Ascends};
     ghost use Rattle.relations.specs.Spans.{forever};
     ghost use Rattle.prima_base.specs.Order.{bytes_cmp};
-    ghost use Rattle.smo_types.specs.Operators.{operator_of, operators_of};
+    ghost use Rattle.smo_types.specs.Operators.{operator_of};
     ghost use Rattle.smo_types.specs.Changes.{changes_of};
-    ghost use Rattle.smo_types.specs.Commands.{command_of, changing, evolving, PlainCommand};
-    ghost use Rattle.smo_types.specs.Commands.{versions_of};
+    ghost use Rattle.smo_types.specs.Commands.{changing, PlainCommand, versions_of};
     ghost use Rattle.smo_meaning.specs.Accepts.{command_fault, most_versions};
     ghost use Rattle.smo_meaning.specs.After.{op_fault, schema_after, IsValid};
     ghost use Rattle.smo_meaning.specs.ValidPast.{AreVersions};
@@ -299,8 +298,9 @@ impl Groups {
         })
     }
 
-    /// Makes the command ready, and all the room that installing it needs. The command is accepted
-    /// after the past that is shown, which stays as it is. For changes `Next` has the counts of the
+    /// Makes a command ready, and all the room that installing it needs. The command was judged,
+    /// and is accepted after the past that is shown, which stays as it is; for an operator judging
+    /// found the schema that is after it. `Next` has its stamp; for changes it has the counts of the
     /// rows that are gained and lost, summed over the tables, and for an operator none. The one
     /// error is `NoMemory`, where memory runs out.
     ///
@@ -310,24 +310,7 @@ impl Groups {
     /// gained; where more than 64 rows are lost or gained, a copy of the index of its current rows
     /// too. Other tables are not looked at. An operator costs a copy of its inputs, and of the rows
     /// that it makes; other tables go on.
-    pub fn prepare<'a>(&mut self, command: &'a Command) -> Result<Next<'a>, NoMemory>
-        requires { (past : Past) × Represents self.old past
-            × (command_fault past (command_of command.now) ≡ None) }
-        ensures same { IsSame self.old self.new }
-        ensures shows { (past : Past) → Represents self.old past → Represents self.new past }
-        ensures next { (past : Past) → Represents self.old past
-            → command_fault past (command_of command.now) ≡ None
-            → IfOk result (λ next. Prepares self.new past (command_of command.now) next) }
-    {
-        let newest = newest_schema(&self.nothing, &self.versions);
-        let judged = judge_accepted(self.alloc, newest, command)?;
-        self.prepare_judged(judged)
-    }
-
-    /// The same as `prepare`, of what judging a command that is accepted after the past found: for
-    /// an operator the schema that is after it. So nothing of that is computed again, and operators
-    /// are not copied.
-    pub fn prepare_judged<'a>(&mut self, judged: Judged<'a>) -> Result<Next<'a>, NoMemory>
+    pub fn prepare<'a>(&mut self, judged: Judged<'a>) -> Result<Next<'a>, NoMemory>
         requires { (past : Past) × Represents self.old past × IsAccepted past judged }
         ensures same { IsSame self.old self.new }
         ensures shows { (past : Past) → Represents self.old past → Represents self.new past }
@@ -436,6 +419,7 @@ impl Groups {
             plans,
         } = made;
         Ok(Next {
+            stamp,
             gained,
             lost,
             step: Step::Changed(plans),
@@ -464,6 +448,7 @@ impl Groups {
         )?;
         self.reserve_version(tables.begun.len())?;
         Ok(Next {
+            stamp: version.stamp,
             gained: 0,
             lost: 0,
             step: Step::Evolved(version, tables.begun, tables.places),

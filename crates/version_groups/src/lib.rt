@@ -2,10 +2,12 @@
 //! over all versions in which no operator makes or consumes it; its history begins at the stamp of
 //! the first.
 //!
-//! `specs/Showing.antt` says when groups show a past. A command is made ready by `prepare`, which
-//! takes all the memory that it needs, and `install` carries it out and cannot fail.
+//! `specs/Showing.antt` says when groups show a past. A command that was judged is made ready by
+//! `prepare`, which takes all the memory that it needs, and `install` carries it out and cannot
+//! fail.
 #![tactic(auto)]
 
+mod change_group;
 mod changed_table;
 mod ended_lifeline;
 mod evolution;
@@ -18,7 +20,7 @@ mod restoration;
 mod size;
 
 pub use groups::Groups;
-pub use judged::{Judged, copied_version};
+pub use judged::Judged;
 pub use lifeline_laws::{lifelines_are_few, lifelines_are_longest_runs};
 pub use made_table::MadeTable;
 pub use next::Next;

@@ -16,6 +16,7 @@ pub(crate) enum Step<'a> {
 /// inserts are borrowed by the command until then.
 #[derive(Drop)]
 pub struct Next<'a> {
+    pub(crate) stamp: u64,
     pub(crate) gained: u64,
     pub(crate) lost: u64,
     pub(crate) step: Step<'a>,
@@ -36,11 +37,24 @@ impl<'a> Model for Next<'a> {
           (record { mir = Syntax.erased; lft = [] })).coded,
     ) };
 
-    ghost view = { λ n. record { gained = n.gained; lost = n.lost; step = n.step } };
+    ghost view = { λ n. record {
+      stamp = n.stamp;
+      gained = n.gained;
+      lost = n.lost;
+      step = n.step;
+    } };
 }
 
 impl Next<'_> {
     ghost use Rattle.std.specs.Prelude.{◌≡◌};
+    ghost use Rattle.version_groups.specs.Steps.{makes_version};
+
+    /// The moment from which the command's effect is seen.
+    pub fn stamp(&self) -> u64
+        ensures { result ≡ self.now.stamp }
+    {
+        self.stamp
+    }
 
     /// How many rows the command gains, over all tables; 0 for an operator.
     pub fn gained(&self) -> u64
@@ -54,5 +68,15 @@ impl Next<'_> {
         ensures { result ≡ self.now.lost }
     {
         self.lost
+    }
+
+    /// Whether the command makes a version, as an operator does, and changes do not.
+    pub fn makes_version(&self) -> bool
+        ensures { result ≡ makes_version self.now.step }
+    {
+        match &self.step {
+            Step::Changed(_) => false,
+            Step::Evolved(_, _, _) => true,
+        }
     }
 }

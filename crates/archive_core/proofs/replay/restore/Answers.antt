@@ -7,7 +7,7 @@ use Rattle.smo_types.specs.Commands.{command_of}
 use Rattle.journal.specs.Reading.{records_in}
 use Rattle.archive_file.specs.LogRecords.{past_recorded}
 use Rattle.archive_core.specs.declared.fault.MountFault.TheVariants.{Damaged}
-use Rattle.archive_core.specs.Replaying.{IsStoppedAt, IsReplayed}
+use Rattle.archive_core.specs.Replaying.{IsStoppedAt}
 use Rattle.archive_core.proofs.Mounted.{restored, stopped_fault}
 use Rattle.archive_core.proofs.SameRecords.{kept_replayed}
 use Rattle.archive_core.proofs.replay.restore.Goals as goal
@@ -20,44 +20,37 @@ returns-in_err-replay-clause-damaged g c place is places =
     let recs = c.args.recs.now in
     let kept = c.in_ok-kept.ensures.kept places in
     let past = past_recorded kept.prefix in
-    let count : c.len.result ≡ length c.in_ok-kept.kept.commands.items =
-    grind (arith, common_steps, c.len.ensures) in
+    let count : c.len-2.result ≡ length c.in_ok-kept.kept.commands.items =
+    grind (arith, common_steps, c.len-2.ensures) in
     let stops = c.in_err-replay.ensures.stopped past kept.shows place fault in
-    let after : take (length recs - (length recs - c.len.result))
-    (drop (length recs - c.len.result) recs)
+    let after : take (length recs - (length recs - c.len-2.result))
+    (drop (length recs - c.len-2.result) recs)
     ≡ drop (length recs - length c.in_ok-kept.kept.commands.items) recs =
-    take_all (length recs - (length recs - c.len.result)) (drop (length recs - c.len.result) recs)
-    (omega (arith, length-drop (length recs - c.len.result) recs))
+    take_all (length recs - (length recs - c.len-2.result))
+    (drop (length recs - c.len-2.result) recs)
+    (omega (arith, length-drop (length recs - c.len-2.result) recs))
     ∙ ap (λ n. drop (length recs - n) recs) count in
     stopped_fault recs c.in_ok-kept.kept place kept
     (subst (λ l. IsStoppedAt past (map command_of c.in_ok-kept.kept.commands.items) l place) after
-    (subst (λ l. IsStoppedAt past (map command_of l)
-    (take (length recs - (length recs - c.len.result)) (drop (length recs - c.len.result) recs))
-    place) c.deref.ensures.value stops)) places
+    stops) places
 
 pub returns-clause-restored : goal.returns-clause-restored
 returns-clause-restored g c places =
     let kept = c.in_ok-kept.ensures.kept places in
     let past = past_recorded kept.prefix in
-    let count : c.len-2.result ≡ length c.in_ok-kept.kept.commands.items =
-    grind (arith, common_steps, c.len-2.ensures) in
-    let replayed = c.in_ok-replay.ensures.shows past kept.shows in
+    let count : c.len.result ≡ length c.in_ok-kept.kept.commands.items =
+    grind (arith, common_steps, c.len.ensures) in
     restored _ c.in_ok-kept.kept c.replay.new.state _ kept
-    (subst (λ l. IsReplayed past (map command_of l) c.replay.new.state) c.deref.ensures.value
-    replayed) refl count
+    (c.in_ok-replay.ensures.shows past kept.shows) refl count
 
 pub returns-in_err-replay-clause-cost_open : goal.returns-in_err-replay-clause-cost_open
 returns-in_err-replay-clause-cost_open g c places log same =
     let after = kept_replayed (records_in c.args.recs.now) c.in_ok-kept.kept log
     (c.in_ok-kept.ensures.kept places) same in
-    subst (λ n. c.replay.new.steps ≤ c.args.steps.now + n) after
-    (subst (λ l. c.replay.new.steps ≤ c.args.steps.now + length l) c.deref.ensures.value
-    c.replay.ensures.cost)
+    subst (λ n. c.replay.new.steps ≤ c.args.steps.now + n) after c.replay.ensures.cost
 
 pub returns-clause-cost_open : goal.returns-clause-cost_open
 returns-clause-cost_open g c places log same =
     let after = kept_replayed (records_in c.args.recs.now) c.in_ok-kept.kept log
     (c.in_ok-kept.ensures.kept places) same in
-    subst (λ n. c.replay.new.steps ≤ c.args.steps.now + n) after
-    (subst (λ l. c.replay.new.steps ≤ c.args.steps.now + length l) c.deref.ensures.value
-    c.replay.ensures.cost)
+    subst (λ n. c.replay.new.steps ≤ c.args.steps.now + n) after c.replay.ensures.cost

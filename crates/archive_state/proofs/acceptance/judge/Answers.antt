@@ -1,12 +1,12 @@
 use Rattle.std.proofs.Common.{◌≡◌, ap, sym, subst, ◌∙◌}
-use Rattle.std.proofs.lemmas.Result.{IfOk-weaker}
+use Rattle.std.specs.Result.{IfOk}
 use Rattle.prima_base.specs.Faults.{IsTested}
 use Rattle.smo_meaning.specs.First.{first_refusal}
 use Rattle.smo_types.specs.Commands.{body_of, command_of}
 use Rattle.smo_meaning.specs.Counts.{first_excess}
 use Rattle.smo_meaning.specs.Accepts.{count_fault, stamp_fault, body_tests}
-use Rattle.version_groups.proofs.PreparedCommand.{command_is}
-use Rattle.archive_state.proofs.Judging.{no_excess, judged_after, judged_accepted}
+use Rattle.archive_state.specs.Committing.{schema_found}
+use Rattle.archive_state.proofs.Judging.{no_excess, judged_after, found_accepted}
 use Rattle.archive_state.proofs.acceptance.judge.Goals as goal
 
 pub judge_body-requires-clause-counted : goal.judge_body-requires-clause-counted
@@ -26,16 +26,10 @@ returns-clause-tested c past shows last =
     (subst (λ b. IsTested (first_refusal (body_tests past (body_of b))) c.judge_body.result)
     c.body.ensures.value (c.judge_body.ensures.tested past shows))
 
-pub returns-clause-command : goal.returns-clause-command
-returns-clause-command c =
-    IfOk-weaker c.judge_body.result _ _
-    (λ j is. is ∙ command_is c.args.command.now c.stamp-2.result (body_of c.body.result.now)
-    c.stamp-2.ensures.value (ap body_of c.body.ensures.value))
-    c.judge_body.ensures.command
-
-pub returns-clause-accepted : goal.returns-clause-accepted
-returns-clause-accepted c past shows last =
-    judged_accepted past (command_of c.args.command.now) c.judge_body.result
-    (returns-clause-tested c past shows last) (returns-clause-command c)
-    (c.judge_body.ensures.next past shows) c.stamp.ensures.valid
+pub returns-clause-found : goal.returns-clause-found
+returns-clause-found c past shows last =
+    found_accepted past (command_of c.args.command.now) c.judge_body.result
+    (returns-clause-tested c past shows last)
+    (subst (λ b. IfOk c.judge_body.result (λ found. found ≡ schema_found past (body_of b)))
+    c.body.ensures.value (c.judge_body.ensures.schema past shows)) c.stamp.ensures.valid
     c.in_ok-judge_counts.ensures.constants

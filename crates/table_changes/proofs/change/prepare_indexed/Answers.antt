@@ -1,10 +1,9 @@
 use Rattle.std.proofs.Common.{◌≡◌, length, subst}
 use Rattle.std.specs.Result.{IfOk}
-use Rattle.smo_types.specs.Changes.{changes_of}
 use Rattle.smo_meaning.specs.Effects.{gained_rows}
 use Rattle.smo_meaning.specs.Inserting.{relation_after_each}
 use Rattle.smo_meaning.specs.OneRow.{Relation}
-use Rattle.table_changes.specs.Changing.{IsChange, of_table}
+use Rattle.table_changes.specs.Changing.{IsChange, borrowed_changes}
 use Rattle.table_changes.proofs.Becoming.{same_relation, same_before}
 use Rattle.table_changes.proofs.change.prepare_indexed.Goals as goal
 
@@ -18,7 +17,7 @@ returns-clause-change c =
     let old = c.args.store.now in
     let mid = c.index_each.new.store in
     let is = same_relation old mid mid.spare mid.indexed c.index_each.ensures.same c.args.stamp in
-    let its = of_table c.args.name.now (changes_of c.args.changes.now) in
+    let its = borrowed_changes c.args.changes.now in
     subst (λ (rows : Relation). IfOk c.prepare_overlay.result
     (λ p. IsChange c.prepare_overlay.new.store c.args.stamp
     (relation_after_each c.args.columns.now its rows) p)) is c.prepare_overlay.ensures.change
@@ -28,7 +27,7 @@ returns-clause-gained c =
     let old = c.args.store.now in
     let mid = c.index_each.new.store in
     let is = same_relation old mid mid.spare mid.indexed c.index_each.ensures.same c.args.stamp in
-    let its = of_table c.args.name.now (changes_of c.args.changes.now) in
+    let its = borrowed_changes c.args.changes.now in
     subst (λ (rows : Relation). IfOk c.prepare_overlay.result
     (λ p. length p.gained ≡ length (gained_rows rows
     (relation_after_each c.args.columns.now its rows)))) is c.prepare_overlay.ensures.gained
@@ -38,7 +37,7 @@ returns-clause-lost c =
     let old = c.args.store.now in
     let mid = c.index_each.new.store in
     let is = same_relation old mid mid.spare mid.indexed c.index_each.ensures.same c.args.stamp in
-    let its = of_table c.args.name.now (changes_of c.args.changes.now) in
+    let its = borrowed_changes c.args.changes.now in
     subst (λ (rows : Relation). IfOk c.prepare_overlay.result
     (λ p. length p.lost ≡ length (gained_rows (relation_after_each c.args.columns.now its rows)
     rows))) is c.prepare_overlay.ensures.lost

@@ -3,11 +3,10 @@ use Rattle.relations.specs.Sets.{In}
 use Rattle.prima_base.specs.Columns.{IsRelation}
 use Rattle.history_store.specs.Change.{changed, rows_along}
 use Rattle.history_store.specs.Store.{Store, AllBefore, relation_at}
-use Rattle.smo_types.specs.Changes.{changes_of}
 use Rattle.smo_meaning.specs.Effects.{gained_rows}
 use Rattle.smo_meaning.specs.Inserting.{relation_after_each}
 use Rattle.smo_meaning.specs.OneRow.{Relation}
-use Rattle.table_changes.specs.Changing.{of_table}
+use Rattle.table_changes.specs.Changing.{borrowed_changes}
 use Rattle.table_changes.proofs.Applying.{all_later, gains_new, kept_each}
 use Rattle.table_changes.proofs.Becoming.{same_relation, along_length}
 use Rattle.table_changes.proofs.Differences.{apart_relation, apart_in, leads_to}
@@ -20,7 +19,7 @@ prepare_change-requires-clause-lost c =
     all_later s c.args.stamp (c.args.stamp + 1) (omega arith) c.requires.before in
     let old = relation_at s c.args.stamp in
     let new = relation_after_each c.args.columns.now
-    (of_table c.args.name.now (changes_of c.args.changes.now)) old in
+    (borrowed_changes c.args.changes.now) old in
     let is : c.deref.result.now ≡ gained_rows new old = c.deref.ensures.value
     ∙ c.in_ok-lost.ensures.lost c.args.stamp c.requires.valid later in
     subst (IsRelation s.columns) (sym is) (apart_relation s.columns old new
@@ -29,7 +28,7 @@ prepare_change-requires-clause-lost c =
 pub prepare_change-requires-clause-gained : goal.prepare_change-requires-clause-gained
 prepare_change-requires-clause-gained c =
     let s = c.args.store.now in
-    let its = of_table c.args.name.now (changes_of c.args.changes.now) in
+    let its = borrowed_changes c.args.changes.now in
     let later : AllBefore s (c.args.stamp + 1) =
     all_later s c.args.stamp (c.args.stamp + 1) (omega arith) c.requires.before in
     let old = relation_at s c.args.stamp in
@@ -51,7 +50,7 @@ prepare_change-requires-clause-there c =
     all_later s c.args.stamp (c.args.stamp + 1) (omega arith) c.requires.before in
     let old = relation_at s c.args.stamp in
     let new = relation_after_each c.args.columns.now
-    (of_table c.args.name.now (changes_of c.args.changes.now)) old in
+    (borrowed_changes c.args.changes.now) old in
     let is : c.deref.result.now ≡ gained_rows new old = c.deref.ensures.value
     ∙ c.in_ok-lost.ensures.lost c.args.stamp c.requires.valid later in
     λ row m. apart_in old new row (subst (In row) is m)
@@ -63,7 +62,7 @@ prepare_change-requires-clause-fresh c =
     all_later s c.args.stamp (c.args.stamp + 1) (omega arith) c.requires.before in
     let old = relation_at s c.args.stamp in
     let new = relation_after_each c.args.columns.now
-    (of_table c.args.name.now (changes_of c.args.changes.now)) old in
+    (borrowed_changes c.args.changes.now) old in
     let is : c.in_ok-lost.gained.items ≡ gained_rows old new =
     c.in_ok-lost.ensures.gained c.args.stamp c.requires.valid later in
     λ row m. gains_new old new row (subst (In row) is m)
@@ -71,7 +70,7 @@ prepare_change-requires-clause-fresh c =
 pub returns-clause-change : goal.returns-clause-change
 returns-clause-change c =
     let s = c.args.store.now in
-    let its = of_table c.args.name.now (changes_of c.args.changes.now) in
+    let its = borrowed_changes c.args.changes.now in
     let later : AllBefore s (c.args.stamp + 1) =
     all_later s c.args.stamp (c.args.stamp + 1) (omega arith) c.requires.before in
     let old = relation_at s c.args.stamp in

@@ -6,27 +6,26 @@ use Rattle.relations.specs.Sets.{set_of}
 use Rattle.prima_base.specs.Order.{row_cmp}
 use Rattle.prima_base.specs.declared.value.Value.{Value}
 use Rattle.history_store.specs.Store.{relation_at}
-use Rattle.smo_types.specs.Changes.{changes_of}
 use Rattle.smo_meaning.specs.Inserting.{relation_after_each, insertions}
 use Rattle.smo_meaning.specs.Effects.{gained_rows}
-use Rattle.table_changes.specs.Changing.{IsChange, of_table}
+use Rattle.table_changes.specs.Changing.{IsChange, borrowed_changes}
 use Rattle.table_changes.proofs.Applying.{given_relation, relation_ascends}
 use Rattle.table_changes.proofs.change.prepare_table.Goals as goal
 
 pub prepare_given-requires-clause-relation : goal.prepare_given-requires-clause-relation
 prepare_given-requires-clause-relation c =
-    let its = of_table c.args.name.now (changes_of c.args.changes.now) in
+    let its = borrowed_changes c.args.changes.now in
     let given : insertions c.args.columns.now
-    (of_table c.args.name.now (changes_of c.args.changes.now)) ≡ Some c.in-Some.rows.items =
+    (borrowed_changes c.args.changes.now) ≡ Some c.in-Some.rows.items =
     sym c.in_ok-given.ensures ∙ ap (option_map (λ v. v.items)) c.in-Some.is in
     rw c.requires.same (given_relation c.args.columns.now its c.in-Some.rows.items
     c.requires.columns c.requires.accepted given)
 
 pub returns-in-Some-clause-change : goal.returns-in-Some-clause-change
 returns-in-Some-clause-change c =
-    let its = of_table c.args.name.now (changes_of c.args.changes.now) in
+    let its = borrowed_changes c.args.changes.now in
     let given : insertions c.args.columns.now
-    (of_table c.args.name.now (changes_of c.args.changes.now)) ≡ Some c.in-Some.rows.items =
+    (borrowed_changes c.args.changes.now) ≡ Some c.in-Some.rows.items =
     sym c.in_ok-given.ensures ∙ ap (option_map (λ v. v.items)) c.in-Some.is in
     let is : set_of row_cmp (relation_at c.args.store.now c.args.stamp ++ c.in-Some.rows.items)
     ≡ relation_after_each c.args.columns.now its (relation_at c.args.store.now c.args.stamp) =
@@ -39,9 +38,9 @@ returns-in-Some-clause-change c =
 
 pub returns-in-Some-clause-gained : goal.returns-in-Some-clause-gained
 returns-in-Some-clause-gained c =
-    let its = of_table c.args.name.now (changes_of c.args.changes.now) in
+    let its = borrowed_changes c.args.changes.now in
     let given : insertions c.args.columns.now
-    (of_table c.args.name.now (changes_of c.args.changes.now)) ≡ Some c.in-Some.rows.items =
+    (borrowed_changes c.args.changes.now) ≡ Some c.in-Some.rows.items =
     sym c.in_ok-given.ensures ∙ ap (option_map (λ v. v.items)) c.in-Some.is in
     let is : set_of row_cmp (relation_at c.args.store.now c.args.stamp ++ c.in-Some.rows.items)
     ≡ relation_after_each c.args.columns.now its (relation_at c.args.store.now c.args.stamp) =
@@ -54,9 +53,9 @@ returns-in-Some-clause-gained c =
 
 pub returns-in-Some-clause-lost : goal.returns-in-Some-clause-lost
 returns-in-Some-clause-lost c =
-    let its = of_table c.args.name.now (changes_of c.args.changes.now) in
+    let its = borrowed_changes c.args.changes.now in
     let given : insertions c.args.columns.now
-    (of_table c.args.name.now (changes_of c.args.changes.now)) ≡ Some c.in-Some.rows.items =
+    (borrowed_changes c.args.changes.now) ≡ Some c.in-Some.rows.items =
     sym c.in_ok-given.ensures ∙ ap (option_map (λ v. v.items)) c.in-Some.is in
     let is : set_of row_cmp (relation_at c.args.store.now c.args.stamp ++ c.in-Some.rows.items)
     ≡ relation_after_each c.args.columns.now its (relation_at c.args.store.now c.args.stamp) =

@@ -3,9 +3,8 @@ use Rattle.std.specs.Map.{keys_of}
 use Rattle.std.proofs.lemmas.Result.{IfOk-weaker}
 use Rattle.prima_base.specs.Columns.{Column, IsRelation}
 use Rattle.history_store.specs.Store.{relation_at}
-use Rattle.smo_types.specs.Changes.{changes_of}
 use Rattle.smo_meaning.specs.Inserting.{relation_after_each}
-use Rattle.table_changes.specs.Changing.{of_table}
+use Rattle.table_changes.specs.Changing.{borrowed_changes}
 use Rattle.table_changes.specs.Overlay.{LeadsTo}
 use Rattle.table_changes.proofs.Applying.{kept_each}
 use Rattle.table_changes.proofs.OverlayLaws.{as_ascends, lost_are, gained_are}
@@ -13,7 +12,7 @@ use Rattle.table_changes.proofs.overlay.lost_and_gained.Goals as goal
 
 pub returns-clause-lost : goal.returns-clause-lost
 returns-clause-lost c = λ m l h.
-    let its = of_table c.args.name.now (changes_of c.args.changes.now) in
+    let its = borrowed_changes c.args.changes.now in
     let old = relation_at c.args.store.now m in
     let new = relation_after_each c.args.columns.now its old in
     let known = c.in_ok-overlay.overlay in
@@ -31,7 +30,7 @@ returns-clause-lost c = λ m l h.
 
 pub returns-clause-gained : goal.returns-clause-gained
 returns-clause-gained c = λ m l h.
-    let its = of_table c.args.name.now (changes_of c.args.changes.now) in
+    let its = borrowed_changes c.args.changes.now in
     let old = relation_at c.args.store.now m in
     let new = relation_after_each c.args.columns.now its old in
     let known = c.in_ok-overlay.overlay in

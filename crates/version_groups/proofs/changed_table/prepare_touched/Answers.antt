@@ -1,7 +1,6 @@
 use Rattle.std.proofs.Common.{◌≡◌, ◌∙◌, List, Some, None, sym, subst}
 use Rattle.prima_base.specs.Columns.{Column}
-use Rattle.smo_types.specs.Changes.{changes_of}
-use Rattle.table_changes.specs.Changing.{AreAccepted, of_table}
+use Rattle.table_changes.specs.Changing.{AreAccepted, borrowed_changes}
 use Rattle.version_groups.proofs.changed_table.prepare_touched.Goals as goal
 
 pub unreachable-requires : goal.unreachable-requires
@@ -26,8 +25,7 @@ prepare_table-requires-clause-accepted c =
     let same : c.in-Some.of_schema.now.1 ≡ c.args.table.now.store.columns = cc in
     let columns : c.columns-columns.result.now ≡ c.args.table.now.store.columns =
     c.columns-columns.ensures.value ∙ same in
-    subst (λ (cs : List Column). AreAccepted cs
-    (of_table c.args.table.now.name (changes_of c.args.changes.now))) (sym columns)
+    subst (λ (cs : List Column). AreAccepted cs (borrowed_changes c.args.changes.now)) (sym columns)
     c.requires.changeable.accepted
 
 pub returns-clause-change : goal.returns-clause-change

@@ -1,41 +1,56 @@
-use Rattle.std.proofs.Common.{◌≡◌, None, ap, subst, ◌∙◌}
+use Rattle.std.proofs.Common.{◌≡◌, ◌<◌, None, sym, subst}
 use Rattle.std.specs.Result.{IfOk}
-use Rattle.smo_types.specs.Commands.{PlainCommand}
-use Rattle.version_groups.specs.Groups.{Kept}
+use Rattle.relations.specs.Spans.{forever}
+use Rattle.smo_meaning.specs.Accepts.{command_fault}
+use Rattle.smo_meaning.specs.ValidValues.{BodyHolds}
+use Rattle.version_groups.specs.Judged.{judged_command, IsAccepted}
 use Rattle.version_groups.specs.Steps.{Prepares}
-use Rattle.version_groups.proofs.PreparedCommand.{schema_is, is_same}
+use Rattle.version_groups.specs.declared.judged.Judged.{Judged}
+use Rattle.version_groups.proofs.PreparedCommand.{shows_same}
 use Rattle.version_groups.proofs.groups.Groups.prepare.Goals as goal
 
-pub judge_accepted-requires : goal.judge_accepted-requires
-judge_accepted-requires c =
-    let a = c.self.inside in
-    let h = c.requires in (
-      h.0,
-      c.newest_schema-newest.ensures ∙ schema_is c.args.self.now h.0 h.1 a.nothing
-          a.versions.list.items c.self.invariant.nothing
-          (ap (λ (k : Kept). k.versions) c.self.view_is),
-      h.2,
-    )
+pub prepare_changes-requires-clause-valid : goal.prepare_changes-requires-clause-valid
+prepare_changes-requires-clause-valid c =
+    subst (λ (j : Judged). (judged_command j).stamp < forever) c.in-Changes.is c.requires.2.stamp
 
-pub prepare_judged-requires : goal.prepare_judged-requires
-prepare_judged-requires c =
-    let a = c.self.inside in
-    let h = c.requires in
-    let newest = c.newest_schema-newest.ensures
-    ∙ schema_is c.args.self.now h.0 h.1 a.nothing a.versions.list.items c.self.invariant.nothing
-    (ap (λ (k : Kept). k.versions) c.self.view_is) in
-    (h.0, h.1, c.in_ok-judged.ensures.accepted h.0 newest h.2)
+pub prepare_changes-requires-clause-constants : goal.prepare_changes-requires-clause-constants
+prepare_changes-requires-clause-constants c =
+    subst (λ (j : Judged). BodyHolds (judged_command j).body) c.in-Changes.is
+    c.requires.2.constants
 
-pub returns-in_err-judged-clause-same : goal.returns-in_err-judged-clause-same
-returns-in_err-judged-clause-same c = is_same c.args.self.now
+pub prepare_changes-requires-clause-accepted : goal.prepare_changes-requires-clause-accepted
+prepare_changes-requires-clause-accepted c = (
+  c.requires.0,
+  c.requires.1,
+  subst (λ (j : Judged). command_fault c.requires.0 (judged_command j) ≡ None) c.in-Changes.is
+      c.requires.2.accepted,
+)
 
-pub returns-clause-next : goal.returns-clause-next
-returns-clause-next c = λ past shows accepted.
-    let a = c.self.inside in
-    let newest = c.newest_schema-newest.ensures
-    ∙ schema_is c.args.self.now past shows a.nothing a.versions.list.items
-    c.self.invariant.nothing (ap (λ (k : Kept). k.versions) c.self.view_is) in
-    subst (λ (x : PlainCommand). IfOk c.prepare_judged.result
-    (λ next. Prepares c.prepare_judged.new.self past x next)) c.in_ok-judged.ensures.command
-    (c.prepare_judged.ensures.next past shows
-    (c.in_ok-judged.ensures.accepted past newest accepted))
+pub returns-in-Changes-clause-shows : goal.returns-in-Changes-clause-shows
+returns-in-Changes-clause-shows c = λ past shows.
+    shows_same c.args.self.now c.prepare_changes.new.self c.prepare_changes.ensures.same past shows
+
+pub returns-in-Changes-clause-next : goal.returns-in-Changes-clause-next
+returns-in-Changes-clause-next c = λ past shows accepted.
+    subst (λ (j : Judged). IfOk c.prepare_changes.result
+    (λ next. Prepares c.prepare_changes.new.self past (judged_command j) next))
+    (sym c.in-Changes.is)
+    (c.prepare_changes.ensures.next past shows
+    (subst (λ (j : Judged). command_fault past (judged_command j) ≡ None) c.in-Changes.is
+    accepted.accepted))
+
+pub prepare_version-requires : goal.prepare_version-requires
+prepare_version-requires c =
+    (c.requires.0, c.requires.1, subst (IsAccepted c.requires.0) c.in-Evolve.is c.requires.2)
+
+pub returns-in-Evolve-clause-shows : goal.returns-in-Evolve-clause-shows
+returns-in-Evolve-clause-shows c = λ past shows.
+    shows_same c.args.self.now c.prepare_version.new.self c.prepare_version.ensures.same past shows
+
+pub returns-in-Evolve-clause-next : goal.returns-in-Evolve-clause-next
+returns-in-Evolve-clause-next c = λ past shows accepted.
+    subst (λ (j : Judged). IfOk c.prepare_version.result
+    (λ next. Prepares c.prepare_version.new.self past (judged_command j) next))
+    (sym c.in-Evolve.is)
+    (c.prepare_version.ensures.next past shows
+    (subst (IsAccepted past) c.in-Evolve.is accepted))

@@ -85,7 +85,7 @@ returns-clause-next c = λ past shows accepted.
     changes_ready c.args.self.now past c.args.stamp its shows c.requires.valid accepted ordered
     c.requires.constants (groups_view b) same c.in_ok-made.made.plans.items
     (subst (λ (ts : List MadeTable). AreReady c.args.stamp its ts c.in_ok-made.made.plans.items)
-    (sym now) c.in_ok-made.ensures.ready) _ refl
+    (sym now) c.in_ok-made.ensures.ready) _ refl refl
     (c.in_ok-made.ensures.gained ∙ ap (all_gained c.args.stamp its) (sym group))
     (c.in_ok-made.ensures.lost ∙ ap (all_lost c.args.stamp its) (sym group))
 

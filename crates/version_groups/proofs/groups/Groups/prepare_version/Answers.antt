@@ -146,4 +146,4 @@ returns-clause-next c = λ past shows judged.
     (newest_database past) stamp op inverse (version_of version) begun places) number
     (subst (λ (t : Tables). IsEvolved c.deref.result.now c.deref-2.result.now
     (c.newest-number.result + 1) t (newest_database past) stamp op inverse (version_of version)
-    begun places) schema made)))) _ refl refl refl
+    begun places) schema made)))) _ refl refl refl refl
