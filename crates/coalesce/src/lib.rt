@@ -5,6 +5,7 @@
 #![tactic(auto)]
 
 mod row_cut;
+mod row_group;
 mod row_keep;
 mod row_merge;
 
@@ -16,6 +17,7 @@ ghost use Rattle.prima_base.specs.Order.{row_cmp};
 ghost use Rattle.prima_base.specs.Timed.{rows_at, entries_of};
 
 use crate::row_cut::cut_rows;
+use crate::row_group::sort_groups;
 use crate::row_merge::join_sorted;
 use prima_base::{Period, TimedRow};
 pub use row_keep::keep;
@@ -32,6 +34,7 @@ pub fn coalesce_in_place(rows: &mut Vec<TimedRow<'_>>, slice: Period)
     ensures values { HaveValuesOf rows.old.items rows.new.items }
 {
     cut_rows(rows, slice);
+    sort_groups(rows);
     rows.sort_unstable();
     join_sorted(rows);
 }

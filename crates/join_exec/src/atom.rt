@@ -31,7 +31,7 @@ fn rows_of<'a>(
     ensures { IfOk result (λ rows. rows.items
         ≡ map (λ (s : OneStretch). s.row) stretches.entry.items) }
 {
-    let mut rows = Vec::new(alloc);
+    let mut rows = Vec::with_capacity(alloc, stretches.len())?;
     'stretches: while let Some(stretch) = stretches.pop_front() {
         let Stretch { id: _, row } = stretch;
         rows.push(row)?;

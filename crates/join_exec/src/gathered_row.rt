@@ -60,7 +60,7 @@ pub(crate) fn gather<'a, L: Ledger>(
     ensures counted { IfOk result (λ _. steps.new ≡ steps.old + reads table.now columns.now) }
     ensures rises { steps.old ≤ steps.new }
 {
-    let mut stretches = of_keys(alloc, table.scan_keys(), slice, steps)?;
+    let mut stretches = of_keys(alloc, table.scan_keys(), slice, columns.len(), steps)?;
     for name in columns {
         take_column(alloc, table, name, &mut stretches, steps)?;
     }

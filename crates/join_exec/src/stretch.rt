@@ -26,11 +26,13 @@ use std::mem;
 use std::sync::ledger::Ledger;
 
 // Puts a stretch without a value for the key after the others, where it has a moment of the slice.
+// It has room for so many values.
 fn put_key(
     stretches: &mut VecDeque<Stretch<'_>>,
     alloc: Global,
     key: &KeyEntry,
     slice: Period,
+    width: usize,
 ) -> Result<(), NoMemory>
     ensures { OnOk result (parts_of stretches.new.items ≡ parts_of stretches.old.items
         ++ inside slice (key_part key.now)) }
@@ -38,7 +40,7 @@ fn put_key(
     match meet(key.period, slice) {
         None => Ok(()),
         Some(period) => {
-            let values = Vec::new(alloc);
+            let values = Vec::with_capacity(alloc, width)?;
             stretches.push_back(Stretch {
                 id: key.id,
                 row: TimedRow { values, period },
@@ -48,11 +50,13 @@ fn put_key(
     }
 }
 
-/// A stretch without a value for each key that has a moment of the slice.
+/// A stretch without a value for each key that has a moment of the slice. It has room for `width`
+/// values, so that a column is taken in without a row being made anew.
 pub(crate) fn of_keys<'a, L: Ledger>(
     alloc: Global,
     mut keys: KeyScan<'_>,
     slice: Period,
+    width: usize,
     steps: &mut Steps<L>,
 ) -> Result<VecDeque<Stretch<'a>>, NoMemory>
     ensures parts { IfOk result (λ stretches.
@@ -63,7 +67,7 @@ pub(crate) fn of_keys<'a, L: Ledger>(
 {
     let mut stretches = VecDeque::new(alloc);
     'keys: while let Some(key) = keys.next_key(steps) {
-        put_key(&mut stretches, alloc, &key, slice)?;
+        put_key(&mut stretches, alloc, &key, slice, width)?;
     }
     Ok(stretches)
 }
@@ -91,12 +95,13 @@ fn shared(stretch: &Stretch<'_>, cell: &CellEntry<'_>) -> Option<Period>
     }
 }
 
-// The same stretch.
+// The same stretch, with room for as many columns.
 fn again<'a>(stretch: &Stretch<'a>) -> Result<Stretch<'a>, NoMemory>
     ensures { IfOk result (λ s. part_of s ≡ part_of stretch.now) }
 {
     let values = &stretch.row.values;
-    let values = copy_vals(*values.allocator(), values)?;
+    let spare = values.capacity().saturating_sub(values.len());
+    let values = copy_vals(*values.allocator(), values, spare)?;
     Ok(Stretch {
         id: stretch.id,
         row: TimedRow {

@@ -1,7 +1,7 @@
 //! Keys by which rows are looked up.
 
 ghost use Rattle.std.specs.Prelude.{◌≡◌, IfOk, map};
-ghost use Rattle.prima_base.specs.Order.{shown};
+ghost use Rattle.prima_base.specs.Order.{shown, IsBorrowed, AreBorrowed};
 ghost use Rattle.timed_choices.specs.Keeping.{value_at, picked};
 
 use prima_base::{NoMemory, Val, compare_vals};
@@ -79,8 +79,10 @@ impl Ord for Key<'_> {
 }
 
 // The value at the place. A borrowed text stays borrowed.
+#[tactic(auto, using(timed_choices::proofs::BorrowedLaws::borrowed_here))]
 fn value_at<'a>(values: &[Val<'a>], place: usize) -> Result<Val<'a>, NoMemory>
-    ensures { IfOk result (λ v. shown v ≡ value_at (map shown values.now) place) }
+    ensures value { IfOk result (λ v. shown v ≡ value_at (map shown values.now) place) }
+    ensures borrowed { AreBorrowed values.now → IfOk result IsBorrowed }
 {
     match values.get(place) {
         Some(value) => value.copy(),
@@ -88,7 +90,26 @@ fn value_at<'a>(values: &[Val<'a>], place: usize) -> Result<Val<'a>, NoMemory>
     }
 }
 
-/// The values at the places.
+// The values at the places. A borrowed text stays borrowed, so that what is looked up by such keys
+// has no text of its own.
+fn values_at<'a>(
+    alloc: Global,
+    places: &[usize],
+    values: &[Val<'a>],
+) -> Result<Vec<Val<'a>>, NoMemory>
+    ensures values { IfOk result (λ v. map shown v.items
+        ≡ picked places.now (map shown values.now)) }
+    ensures borrowed { AreBorrowed values.now → IfOk result (λ v. AreBorrowed v.items) }
+{
+    let mut picked = Vec::with_capacity(alloc, places.len())?;
+    for place in places {
+        let value = value_at(values, *place)?;
+        picked.push(value)?;
+    }
+    Ok(picked)
+}
+
+/// The key of the values at the places.
 pub(crate) fn key_of<'a>(
     alloc: Global,
     places: &[usize],
@@ -96,9 +117,7 @@ pub(crate) fn key_of<'a>(
 ) -> Result<Key<'a>, NoMemory>
     ensures { IfOk result (λ k. k ≡ picked places.now (map shown values.now)) }
 {
-    let mut key = Vec::with_capacity(alloc, places.len())?;
-    for place in places {
-        key.push(value_at(values, *place)?)?;
-    }
-    Ok(Key { values: key })
+    Ok(Key {
+        values: values_at(alloc, places, values)?,
+    })
 }

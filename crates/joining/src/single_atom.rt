@@ -129,7 +129,7 @@ fn answered_rows<'a>(
         (all_in_slice slice (entries_of rows.entry.items))) }
 {
     let same = are_columns(columns, outs);
-    let mut answered = Vec::new(alloc);
+    let mut answered = Vec::with_capacity(alloc, rows.len())?;
     for row in rows {
         put_in_slice(alloc, &mut answered, outs, cond, columns, same, slice, row)?;
     }

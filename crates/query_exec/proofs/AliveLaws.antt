@@ -124,8 +124,8 @@ module _ (versions : List PlainVersion) where
         | inl is ↦ record {
           among = inl is;
           alive =
-              subst (λ (y : PlainExplained). ¬ IsDeadPiece (tables_from no_tables versions y.version)
-              y.piece) is n;
+              subst (λ (y : PlainExplained). ¬ IsDeadPiece
+              (tables_from no_tables versions y.version) y.piece) is n;
         }
         | inr l ↦ (let h = in_alive xs rest e k l in
             record { among = inr h.among; alive = h.alive })

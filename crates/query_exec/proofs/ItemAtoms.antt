@@ -2,10 +2,7 @@
 use Rattle.std.proofs.Common.{◌≡◌, ◌+◌, ◌<◌, ◌≤◌, ℕ, true, List, [], ◌∷◌, ◌++◌, length, get_or}
 use Rattle.std.proofs.Common.{take, drop, refl, sym, ap, subst, ◌∙◌, append_assoc, append-nil}
 use Rattle.std.proofs.Common.{arith}
-use Rattle.std.specs.Prelude.{Option, SomeIff, Result, Ok}
-use Rattle.std.specs.Result.{result_ok}
 use Rattle.std.proofs.lemmas.List.{length-map, length-take-le}
-use Rattle.prima_base.specs.declared.failure.NoMemory.{NoMemory}
 use Rattle.relations.specs.Sets.{set_of}
 use Rattle.relations.specs.Spans.{covers}
 use Rattle.relations.specs.Listing.{IsListing}
@@ -299,9 +296,3 @@ module _ (past : Past) (route : Route) (b : PlainBranch) (rs : List ColRef) (fro
       ∙ ap (λ (r : List Relation). set_of row_cmp (answers_over left r b.outs b.cond))
       (rows_are past route b.outs b.cond m c 0 b.from atoms read_here)
       ∙ pushed_answers (tables_of past route.asked) (migrated past m route.asked) b
-
--- a place that could be counted on is the next
-pub next_place : (o : Option ℕ) (r : Result ℕ NoMemory) (room : Type 0) (next n : ℕ)
-    → SomeIff o room next → o ≡ result_ok r → r ≡ Ok n → n ≡ next
-next_place o r room next n s made is = (subst (λ (x : Option ℕ). SomeIff x room next)
-    (made ∙ ap result_ok is) s).1

@@ -1,9 +1,10 @@
 -- A query that is not refused, over the whole slice: its tables may be read, and what is listed is
 -- its answer.
-use Rattle.std.proofs.Common.{◌≡◌, ◌+◌, ◌<◌, ◌≤◌, ℕ, true, List, [], ◌∷◌, refl, sym, ap, subst, ◌∙◌}
-use Rattle.std.proofs.Common.{inl, inr}
+use Rattle.std.proofs.Common.{◌≡◌, ◌+◌, ◌<◌, ◌≤◌, ℕ, true, List, [], ◌∷◌, ◌++◌, length, refl, sym}
+use Rattle.std.proofs.Common.{ap, subst, ◌∙◌, inl, inr, arith}
 use Rattle.std.specs.Prelude.{None, ◌↔◌}
 use Rattle.std.specs.FinMap.{get}
+use Rattle.std.proofs.lemmas.List.{length-map}
 use Rattle.relations.specs.Sets.{In}
 use Rattle.relations.specs.Spans.{Span, covers, forever}
 use Rattle.relations.specs.Timed.{Entry}
@@ -11,11 +12,14 @@ use Rattle.relations.specs.Listing.{IsListing}
 use Rattle.relations.proofs.ListingLaws.{listing_same}
 use Rattle.prima_base.specs.Order.{row_cmp}
 use Rattle.prima_base.specs.Keeping.{kept}
+use Rattle.prima_base.specs.declared.refusal.Refusal.TheVariants.{TooMany}
+use Rattle.prima_base.specs.declared.refusal.What.{What}
 use Rattle.cond_expr.specs.Trees.{Tree, Test}
 use Rattle.smo_types.specs.Commands.{PlainVersion}
 use Rattle.smo_meaning.specs.ValidPast.{IsPast}
 use Rattle.smo_meaning.specs.OneRow.{Row, Relation}
 use Rattle.smo_meaning.specs.Past.{Past, tables_of, version_at}
+use Rattle.smo_meaning.proofs.Firsts.{none_of_first, none_mapped}
 use Rattle.version_ways.specs.LostNames.{lost_names}
 use Rattle.version_ways.specs.Migration.{migrated}
 use Rattle.version_groups.specs.Groups.{Kept, versions_in}
@@ -26,8 +30,15 @@ use Rattle.plain_answers.specs.Naming.{all_references}
 use Rattle.plain_answers.specs.Pushing.{pushed_from, pushed_reads}
 use Rattle.piece_meaning.specs.Rules.{Book, IsValidBook}
 use Rattle.rewrite_chains.specs.Reading.{AreQuestions, Suffices}
+use Rattle.query_types.specs.Branches.{branch_of, branches_of}
+use Rattle.query_types.specs.declared.branch.Branch.{Branch}
 use Rattle.query_types.specs.Queries.{PlainQuery, slice_of, IsLasting}
-use Rattle.query_meaning.specs.Atoms.{branches_with_atoms}
+use Rattle.query_meaning.specs.Atoms.{branch_with_atoms, branches_with_atoms}
+use Rattle.query_meaning.specs.Losing.{first_lost}
+use Rattle.query_meaning.specs.Checking.{excess_of, excess_fault, query_tests}
+use Rattle.query_meaning.specs.Accepted.{version_fault, loss_fault}
+use Rattle.query_meaning.specs.Resolved.{HaveFew, AllSmall}
+use Rattle.query_meaning.proofs.BranchLaws.{query_small, still_few}
 use Rattle.query_meaning.specs.Answers.{asked_at, answer}
 use Rattle.query_pieces.specs.Piecewise.{asked_branches, IsAskedOf}
 use Rattle.query_pieces.proofs.ReadByPieces.{is_lasting, pushed_enough, items_kept, asked_is}
@@ -60,14 +71,17 @@ module _ (past : Past) (is : IsPast past) (route : Route) where
     may_items outs c (i + 1) from asked.1 (λ y m. none y (inr m)),
   )
 
-  may_branches : (bs : List PlainBranch) → ((b : PlainBranch) → In b bs
+  may_branches : (bs : List PlainBranch) → HaveFew bs → ((b : PlainBranch) → In b bs
       → Suffices (tables_of past route.asked) (pushed_reads b) b)
       → ((b : PlainBranch) → In b bs → NoneLost past.versions route b.from)
       → MayBranches past.versions route bs
-  may_branches [] s none = tt
-  may_branches (b ∷ bs) s none = (
-    may_items b.outs b.cond 0 b.from (s b (inl refl)).asked (none b (inl refl)),
-    may_branches bs (λ c m. s c (inr m)) (λ c m. none c (inr m)),
+  may_branches [] few s none = tt
+  may_branches (b ∷ bs) few s none = (
+    record {
+      items = may_items b.outs b.cond 0 b.from (s b (inl refl)).asked (none b (inl refl));
+      few = few.0;
+    },
+    may_branches bs few.1 (λ c m. s c (inr m)) (λ c m. none c (inr m)),
   )
 
 module _ (kept_ : Kept) (past : Past) (asked query : PlainQuery) (shows : Represents kept_ past)
@@ -80,6 +94,23 @@ module _ (kept_ : Kept) (past : Past) (asked query : PlainQuery) (shows : Repres
 
   same_branches : query.branches ≡ branches_with_atoms (tables_of past asked.version) asked.branches
   same_branches = ap (λ (q : PlainQuery). q.branches) h.atoms
+
+  small : (length asked.branches ≤ 16) × HaveFew asked.branches × AllSmall asked.branches
+  small =
+      query_small asked (none_mapped (λ (e : What × ℕ). TooMany e.0 e.1) (excess_of asked)
+      (none_of_first (excess_fault (excess_of asked)) (version_fault past asked.version
+      ∷ (query_tests (tables_of past asked.version) asked
+      ++ loss_fault past.versions (first_lost past asked) ∷ [])) h.accepted).0)
+
+  -- there are no more branches than a query may have
+  pub few_branches : (bs : List Branch) → branches_of bs ≡ query.branches → length bs ≤ 16
+  few_branches bs e =
+      let shown : length (branches_of bs) ≡ length bs = length-map bs branch_of in
+      let filled : length (branches_with_atoms (tables_of past asked.version) asked.branches)
+      ≡ length asked.branches = length-map asked.branches
+      (branch_with_atoms (tables_of past asked.version)) in
+      let same = ap (λ (xs : List PlainBranch). length xs) (e ∙ same_branches) in
+      let few = small.0 in omega (arith, shown, filled, same, few)
 
   pub lasts : IsLasting query.when
   lasts = subst (λ w. IsLasting w) (sym same_when) (is_lasting past asked h.accepted)
@@ -110,6 +141,7 @@ module _ (kept_ : Kept) (past : Past) (asked query : PlainQuery) (shows : Repres
     may_asked : MayBranches past.versions route (asked_branches past asked)
     may_asked =
         may_branches past shows.valid route (asked_branches past asked)
+        (still_few (tables_of past asked.version) asked.branches small.1)
         (λ b m. subst (λ (q : ℕ). Suffices (tables_of past q) (pushed_reads b) b)
         (sym (at ∙ same_version)) (pushed_enough past asked h.accepted b m)) none_lost
 

@@ -1,5 +1,5 @@
 -- A query that is not refused, and what is read for it.
-use Rattle.std.specs.Prelude.{◌≡◌, ℕ, ◌+◌, true, List, [], ◌∷◌, None, ⊤}
+use Rattle.std.specs.Prelude.{◌≡◌, ℕ, ◌+◌, ◌≤◌, true, List, [], ◌∷◌, length, None, ⊤}
 use Rattle.relations.specs.Spans.{covers}
 use Rattle.prima_base.specs.Timed.{rows_at}
 use Rattle.cond_expr.specs.declared.expr.ColRef.{ColRef}
@@ -34,8 +34,11 @@ MayItems versions route references cond i (x ∷ from) =
     MayBeRead versions route x.0 (own_read i references cond)
     × MayItems versions route references cond (i + 1) from
 
-abbrev pub MayBranch : List PlainVersion → Route → PlainBranch → Type 0
-MayBranch versions route b = MayItems versions route (all_references b.outs b.cond) b.cond 0 b.from
+-- so may those of the items of a branch, and there are no more of them than a branch may have
+pub record MayBranch (versions : List PlainVersion) (route : Route) (b : PlainBranch) :
+    Type 0 where
+  pub items : MayItems versions route (all_references b.outs b.cond) b.cond 0 b.from
+  pub few : length b.from ≤ 8
 
 abbrev pub MayBranches : List PlainVersion → Route → List PlainBranch → Type 0
 MayBranches versions route [] = ⊤

@@ -1,6 +1,6 @@
 //! Branches of a query, answered over what is read of their items' tables.
 
-ghost use Rattle.std.specs.Prelude.{◌≡◌, ℕ, ◌+◌, ◌≤◌, List, true, IfOk};
+ghost use Rattle.std.specs.Prelude.{◌≡◌, ℕ, ◌+◌, ◌≤◌, List, length, true, IfOk};
 ghost use Rattle.std.specs.List.{flat_map};
 ghost use Rattle.relations.specs.Sets.{set_of};
 ghost use Rattle.relations.specs.Spans.{covers};
@@ -26,6 +26,7 @@ ghost use Rattle.query_exec.specs.Borrowed.{NoneAliveComputes, AreBorrowedBy};
 ghost use Rattle.query_exec.specs.Reads.{explained_read, reads_of};
 
 use crate::item::read_item;
+use crate::piece::put_rows;
 use crate::route::Route;
 use cond_expr::{ColRef, Cond, gather_references};
 use joining::{Atom, answer_choices};
@@ -55,6 +56,7 @@ fn read_items<'a, L: Ledger>(
     requires schema { schema.now ≡ tables_from no_tables (versions_in groups.now) route.now.asked }
     requires read { MayItems (versions_in groups.now) route.now (borrowed references.now)
         (test cond.now) 0 from.now }
+    requires few { length from.now ≤ 8 }
     ensures atoms { (past : Past) → Represents groups.now past
         → IfOk result (λ atoms. AreRead past route.now (borrowed references.now) (test cond.now) 0
         from.now atoms.items) }
@@ -84,8 +86,7 @@ fn read_items<'a, L: Ledger>(
             alloc, groups, book, route, schema, place, &item.0, references, cond, steps,
         )?;
         atoms.push(atom)?;
-        // no branch in memory has more items
-        place = place.checked_add(1).ok_or(NoMemory)?;
+        place += 1;
     }
     Ok(atoms)
 }
@@ -186,8 +187,8 @@ pub(crate) fn answer_branches<'a, L: Ledger>(
 {
     let mut rows = Vec::new(alloc);
     for branch in branches {
-        let mut news = answer_branch(alloc, groups, book, route, schema, branch, steps)?;
-        rows.append(&mut news)?;
+        let news = answer_branch(alloc, groups, book, route, schema, branch, steps)?;
+        put_rows(&mut rows, news)?;
     }
     Ok(rows)
 }

@@ -132,6 +132,7 @@ fn explain_items(
     requires route { IsRoute (versions_in groups.now) route.now }
     requires read { MayItems (versions_in groups.now) route.now (borrowed references.now)
         (test cond.now) 0 from.now }
+    requires few { length from.now ≤ 8 }
     ensures { (before : List PlainExplained) → AreLeft (versions_in groups.now) before
         (all_explained into.old.items)
         → OnOk result (AreLeft (versions_in groups.now)
@@ -142,8 +143,7 @@ fn explain_items(
 {
     let mut place: u32 = 0;
     for item in from {
-        // no branch in memory has more items
-        let atom = place.checked_add(1).ok_or(NoMemory)?;
+        let atom = place + 1;
         explain_item(
             alloc, groups, book, route, &item.0, references, cond, place, branch, atom, into,
         )?;
@@ -202,6 +202,7 @@ fn explain_branches(
     requires shows { (past : Past) × Represents groups.now past }
     requires route { IsRoute (versions_in groups.now) route.now }
     requires read { MayBranches (versions_in groups.now) route.now (branches_of branches.now) }
+    requires few { length branches.now ≤ 16 }
     ensures { IfOk result (λ v. AreLeft (versions_in groups.now)
         (branches_pieces (meaning_of book.now.rules.items (λ r. handles (r.vtable, r.value))
         (λ r. answers (r.vtable, r.value))) (versions_in groups.now) route.now.asked
@@ -210,8 +211,7 @@ fn explain_branches(
     let mut pieces = Vec::new(alloc);
     let mut number: u32 = 0;
     for branch in branches {
-        // no query in memory has more branches
-        number = number.checked_add(1).ok_or(NoMemory)?;
+        number += 1;
         explain_branch(alloc, groups, book, route, branch, number, &mut pieces)?;
     }
     Ok(pieces)

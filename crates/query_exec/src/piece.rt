@@ -23,6 +23,23 @@ use std::alloc::Global;
 use std::sync::ledger::Ledger;
 use version_groups::Groups;
 
+/// Puts rows after the others. The first are taken as they are, so that what is read of one table
+/// at one time is copied nowhere on the way.
+pub(crate) fn put_rows<'a>(
+    rows: &mut Vec<TimedRow<'a>>,
+    news: Vec<TimedRow<'a>>,
+) -> Result<(), NoMemory>
+    ensures items { OnOk result (rows.new.items ≡ rows.old.items ++ news.entry.items) }
+{
+    if rows.is_empty() {
+        *rows = news;
+        return Ok(());
+    }
+    let mut news = news;
+    rows.append(&mut news)?;
+    Ok(())
+}
+
 // What pieces over a version mean in the period, all together.
 fn run_pieces<'a, L: Ledger>(
     alloc: Global,
@@ -48,8 +65,8 @@ fn run_pieces<'a, L: Ledger>(
 {
     let mut rows = Vec::new(alloc);
     for piece in pieces {
-        let mut news = run_piece(alloc, groups, version, piece, period, steps)?;
-        rows.append(&mut news)?;
+        let news = run_piece(alloc, groups, version, piece, period, steps)?;
+        put_rows(&mut rows, news)?;
     }
     Ok(rows)
 }
@@ -78,7 +95,7 @@ pub(crate) fn read_run<'a, L: Ledger>(
         (pieces_of pieces.now)) }
     ensures rises { steps.old ≤ steps.new }
 {
-    let mut news = run_pieces(alloc, groups, run.1, pieces, run.0, steps)?;
-    rows.append(&mut news)?;
+    let news = run_pieces(alloc, groups, run.1, pieces, run.0, steps)?;
+    put_rows(rows, news)?;
     Ok(())
 }

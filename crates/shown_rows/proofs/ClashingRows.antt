@@ -142,8 +142,8 @@ apart_in_order (a ∷ (b ∷ rest)) o l n =
       (
         first,
         all_such (λ y. clash a y ≡ false) rest
-            (λ y i. no_clash a y (not_after a b y o.0 (pairwise b rest o.1 y i) (l b (inr (inl refl)))
-            apart)),
+            (λ y i. no_clash a y
+            (not_after a b y o.0 (pairwise b rest o.1 y i) (l b (inr (inl refl))) apart)),
       ),
       apart_in_order (b ∷ rest) o.1 (λ e i. l e (inr i)) both.1,
     )

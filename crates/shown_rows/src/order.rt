@@ -1,6 +1,6 @@
 //! What ids show, in order, and whether two of them show one row at one moment.
 
-ghost use Rattle.std.specs.Prelude.{◌≡◌, ◌≤◌, ℕ, List, Option, is_some, map, length, ◌++◌, IfOk};
+ghost use Rattle.std.specs.Prelude.{◌≡◌, ℕ, List, Option, is_some, map, ◌++◌, IfOk};
 ghost use Rattle.std.specs.Prelude.{OnOk, IfSome};
 ghost use Rattle.prima_base.specs.Columns.{Column};
 ghost use Rattle.command_spelling.specs.Reading.{Parsed};

@@ -1,6 +1,6 @@
 //! The stretches in which each id shows one row.
 
-ghost use Rattle.std.specs.Prelude.{◌≡◌, ◌++◌, ◌∷◌, [], ◌<◌, ◌≤◌, map, drop, length, IfOk, OnOk};
+ghost use Rattle.std.specs.Prelude.{◌≡◌, ◌++◌, ◌∷◌, [], ◌<◌, map, drop, IfOk, OnOk};
 ghost use Rattle.prima_base.specs.Order.{shown};
 ghost use Rattle.shown_rows.specs.Cells.{cell_seen, cells_seen};
 ghost use Rattle.shown_rows.specs.Stretches.{piece_of, row_stretches, bare_from, longer, begun};
@@ -80,7 +80,7 @@ fn split<'a>(
 {
     let end = cell.period.end();
     if let Some(period) = Period::new(stretch.period.start(), end) {
-        let values = copy_vals(*stretch.values.allocator(), &stretch.values)?;
+        let values = copy_vals(*stretch.values.allocator(), &stretch.values, 1)?;
         put(done, stretch.id, values, cell, period)?;
     }
     stretch.period = Period::between(end, stretch.period.end());

@@ -47,12 +47,12 @@ pub loop-row-init : goal.loop-row-init
 loop-row-init c =
     let given = c.into_iter-row-iterator.ensures.into_iter_gives.0 in
     record {
-      rows = ap (λ (rows : List TimedRow). entries_of rows) c.new-answered.ensures.items;
+      rows = ap (λ (rows : List TimedRow). entries_of rows) c.in_ok-answered.ensures.items;
       left = subst (λ (rows : List TimedRow). Fit (length c.args.columns.now) (entries_of rows))
           (sym given) c.requires;
       borrowed = λ h. (
         subst (AllStayBorrowed (map tree c.args.outs.now))
-            (sym c.new-answered.ensures.items) tt,
+            (sym c.in_ok-answered.ensures.items) tt,
         subst AllBorrowed (sym given) h,
       );
     }

@@ -22,7 +22,8 @@ use Rattle.query_exec.proofs.answers.answer.Goals as goal
 
 pub answer_branches-requires-clause-schema : goal.answer_branches-requires-clause-schema
 answer_branches-requires-clause-schema g c =
-    c.schema_of-schema.ensures ∙ ap (λ (v : ℕ). tables_from no_tables (versions_in c.args.groups.now) v)
+    c.schema_of-schema.ensures
+    ∙ ap (λ (v : ℕ). tables_from no_tables (versions_in c.args.groups.now) v)
     (sym c.in_ok-route.ensures.asked)
 
 pub answer_branches-requires-clause-read : goal.answer_branches-requires-clause-read

@@ -1,4 +1,4 @@
-use Rattle.std.proofs.Common.{◌≡◌, ◌++◌, List, map, sym, ap, subst, ◌∙◌}
+use Rattle.std.proofs.Common.{◌≡◌, ◌≤◌, ◌++◌, List, map, length, sym, ap, subst, ◌∙◌}
 use Rattle.std.specs.Borrow.{Bor}
 use Rattle.std.proofs.lemmas.Result.{IfOk-weaker}
 use Rattle.relations.specs.Sets.{set_of}
@@ -38,7 +38,12 @@ read_items-requires-clause-read g c =
     subst (λ (rs : List ColRef). MayItems (versions_in c.args.groups.now) c.args.route.now rs
     b.cond 0 c.deref-2.result.now) (sym same)
     (subst (λ (from : List Item). MayItems (versions_in c.args.groups.now) c.args.route.now
-    (all_references b.outs b.cond) b.cond 0 from) (sym c.deref-2.ensures.value) c.requires.read)
+    (all_references b.outs b.cond) b.cond 0 from) (sym c.deref-2.ensures.value)
+    c.requires.read.items)
+
+pub read_items-requires-clause-few : goal.read_items-requires-clause-few
+read_items-requires-clause-few g c =
+    subst (λ (from : List Item). length from ≤ 8) (sym c.deref-2.ensures.value) c.requires.read.few
 
 pub returns-in_err-atoms-clause-cost : goal.returns-in_err-atoms-clause-cost
 returns-in_err-atoms-clause-cost g c =

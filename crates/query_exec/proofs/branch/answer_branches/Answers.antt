@@ -84,7 +84,7 @@ loop-branch-preserved g c =
       rows = λ past shows m inside.
           next_branch bs i b below is (tables_of past c.args.route.now.asked)
           (migrated past m c.args.route.now.asked) c.loop-branch.rows.items
-          c.in_ok-news.news.items c.append.new.self.items m c.in_ok-append.ensures.items
+          c.in_ok-news.news.items c.put_rows.new.rows.items m c.in_ok-put_rows.ensures.items
           (c.loop-branch.invariant.rows past shows m inside)
           (c.in_ok-news.ensures.rows past shows m inside);
       borrowed = λ number h.
@@ -94,8 +94,9 @@ loop-branch-preserved g c =
           (λ r. (goal.Rule-dyn g (r.vtable, r.value)).answers r.value)
           c.args.book.now.rules.items) c.args.route.now.asked c.args.route.now.parts.items bs i
           b below is number before.1 in (
-            branch_more bs b c.loop-branch.rows.items c.in_ok-news.news.items c.append.new.self.items
-                c.in_ok-append.ensures.items (in_map branch_of b bs (among_taken bs i b below is))
+            branch_more bs b c.loop-branch.rows.items c.in_ok-news.news.items
+                c.put_rows.new.rows.items c.in_ok-put_rows.ensures.items
+                (in_map branch_of b bs (among_taken bs i b below is))
                 before.0 (c.in_ok-news.ensures.borrowed (number + i) pieces.0),
             pieces.1,
           );
@@ -142,8 +143,8 @@ returns-in_err-news-clause-cost g c =
     (c.loop-branch.invariant.count number alive h)
     (λ own k. c.answer_branch.ensures.cost (number + i) own k))
 
-pub returns-in_err-append-clause-cost : goal.returns-in_err-append-clause-cost
-returns-in_err-append-clause-cost g c =
+pub returns-in_err-put_rows-clause-cost : goal.returns-in_err-put_rows-clause-cost
+returns-in_err-put_rows-clause-cost g c =
     let bs : List Branch = c.args.branches.now in
     let i : ℕ = c.loop-branch.branch-index in
     let b : Branch = c.branch-item.result in

@@ -1,6 +1,5 @@
-use Rattle.std.proofs.Common.{◌≡◌, ◌<◌, ◌+◌, ℕ, List, [], length, get_or, drop, refl, sym, subst}
+use Rattle.std.proofs.Common.{◌≡◌, ◌<◌, ◌+◌, ℕ, List, [], length, get_or, drop, refl, sym, ap, subst}
 use Rattle.std.proofs.Common.{inl, arith}
-use Rattle.std.specs.Prelude.{◌^◌}
 use Rattle.std.proofs.lemmas.List.{drop_all}
 use Rattle.cond_expr.specs.declared.expr.ColRef.{ColRef}
 use Rattle.cond_expr.specs.References.{borrowed}
@@ -18,7 +17,7 @@ use Rattle.query_exec.specs.Borrowed.{NoneAliveComputes}
 use Rattle.query_exec.specs.Reads.{reads_of}
 use Rattle.query_exec.specs.Routes.{MayBeRead}
 use Rattle.query_exec.proofs.AliveLaws.{owes_all, owes_within, IsLeftOrRead, all_read}
-use Rattle.query_exec.proofs.ItemAtoms.{may_next, next_read, next_place, item_owes, item_left}
+use Rattle.query_exec.proofs.ItemAtoms.{may_next, next_read, item_owes, item_left}
 use Rattle.query_exec.proofs.BorrowedRows.{next_item, atom_more}
 use Rattle.query_exec.proofs.TotalLaws.{from_first}
 use Rattle.query_exec.proofs.branch.read_items.Goals as goal
@@ -66,11 +65,8 @@ loop-item-preserved g c =
     let is : x ≡ get_or from i x = c.item-item.is in
     let next = may_next (versions_in c.args.groups.now) c.args.route.now rs cd from i x below is
     c.loop-item.invariant.may in
-    let on = next_place c.checked_add.result c.ok_or.result (c.loop-item.place + 1 < 2 ^ 32)
-    (c.loop-item.place + 1) c.in_ok-place.place c.checked_add.ensures c.ok_or.ensures.ok_part
-    c.in_ok-place.was in
     record {
-      place = omega (arith, c.loop-item.invariant.place, on);
+      place = ap (λ (j : ℕ). j + 1) c.loop-item.invariant.place;
       may = next.1;
       read = λ past shows.
           next_read past c.args.route.now rs cd from i x below is c.loop-item.atoms.items
@@ -133,35 +129,6 @@ loop-item-preserved g c =
 
 pub returns-in_err-atom-clause-cost : goal.returns-in_err-atom-clause-cost
 returns-in_err-atom-clause-cost g c =
-    let rs : List ColRef = borrowed c.args.references.now in
-    let cd : Test = test c.args.cond.now in
-    let from : List Item = c.args.from.now in
-    let i : ℕ = c.loop-item.item-index in
-    let x : Item = c.item-item.result in
-    let below : i < length from = c.loop-item-test.true in
-    let is : x ≡ get_or from i x = c.item-item.is in
-    λ branch alive h.
-    owes_within c.args.groups.now (versions_in c.args.groups.now)
-    (items_pieces (book_of (λ r. (goal.Rule-dyn g (r.vtable, r.value)).handles r.value)
-    (λ r. (goal.Rule-dyn g (r.vtable, r.value)).answers r.value) c.args.book.now.rules.items)
-    (versions_in c.args.groups.now) c.args.route.now.asked c.args.route.now.parts.items rs cd
-    branch (i + 1) (drop (i + 1) from)) c.read_item.new.steps
-    (c.args.steps.now + reads_of c.args.groups.now alive)
-    (item_owes (book_of (λ r. (goal.Rule-dyn g (r.vtable, r.value)).handles r.value)
-    (λ r. (goal.Rule-dyn g (r.vtable, r.value)).answers r.value) c.args.book.now.rules.items)
-    (versions_in c.args.groups.now) c.args.route.now.asked c.args.route.now.parts.items rs cd
-    branch c.args.groups.now from i x below is c.loop-item.steps
-    (c.args.steps.now + reads_of c.args.groups.now alive) c.read_item.new.steps
-    (c.loop-item.invariant.count branch alive h)
-    (λ own k. c.read_item.ensures.cost branch (i + 1) own
-    (subst (λ (j : ℕ). AreAlive (versions_in c.args.groups.now)
-    (table_pieces (book_of (λ r. (goal.Rule-dyn g (r.vtable, r.value)).handles r.value)
-    (λ r. (goal.Rule-dyn g (r.vtable, r.value)).answers r.value) c.args.book.now.rules.items)
-    (versions_in c.args.groups.now) c.args.route.now.asked x.0 (own_read j rs cd) branch (i + 1)
-    c.args.route.now.parts.items) own) (sym c.loop-item.invariant.place) k)))
-
-pub returns-in_err-place-clause-cost : goal.returns-in_err-place-clause-cost
-returns-in_err-place-clause-cost g c =
     let rs : List ColRef = borrowed c.args.references.now in
     let cd : Test = test c.args.cond.now in
     let from : List Item = c.args.from.now in

@@ -7,7 +7,7 @@ use Rattle.query_types.specs.declared.branch.Branch.{Branch}
 use Rattle.query_types.specs.Queries.{query_of}
 use Rattle.query_exec.specs.Accepted.{MayBranches}
 use Rattle.query_exec.specs.QueryPieces.{AreLeft}
-use Rattle.query_exec.proofs.WholeAnswers.{may_all, pieces_here}
+use Rattle.query_exec.proofs.WholeAnswers.{may_all, few_branches, pieces_here}
 use Rattle.query_exec.proofs.explanation.explain.Goals as goal
 
 pub explain_branches-requires-clause-read : goal.explain_branches-requires-clause-read
@@ -18,6 +18,12 @@ explain_branches-requires-clause-read g c =
     (may_all c.args.groups.now h.past h.asked (query_of c.args.query.now) h.shows h.accepted
     c.in_ok-route.route c.in_ok-route.ensures.route c.in_ok-route.ensures.asked
     (c.in_ok-route.ensures.slice ∙ c.slice-slice.ensures.value))
+
+pub explain_branches-requires-clause-few : goal.explain_branches-requires-clause-few
+explain_branches-requires-clause-few g c =
+    let h = c.requires.shown in
+    few_branches c.args.groups.now h.past h.asked (query_of c.args.query.now) h.shows h.accepted
+    c.deref.result.now (ap branches_of c.deref.ensures.value)
 
 pub returns-clause-are : goal.returns-clause-are
 returns-clause-are g c =

@@ -1,4 +1,4 @@
-use Rattle.std.proofs.Common.{◌≡◌, ◌++◌, List, map, sym, ap, subst, ◌∙◌}
+use Rattle.std.proofs.Common.{◌≡◌, ◌≤◌, ◌++◌, List, map, length, sym, ap, subst, ◌∙◌}
 use Rattle.std.specs.Borrow.{Bor}
 use Rattle.cond_expr.specs.declared.expr.ColRef.{ColRef}
 use Rattle.cond_expr.specs.declared.expr.Expr.{Expr}
@@ -26,7 +26,12 @@ explain_items-requires-clause-read g c =
     subst (λ (rs : List ColRef). MayItems (versions_in c.args.groups.now) c.args.route.now rs
     b.cond 0 c.deref-2.result.now) (sym same)
     (subst (λ (from : List Item). MayItems (versions_in c.args.groups.now) c.args.route.now
-    (all_references b.outs b.cond) b.cond 0 from) (sym c.deref-2.ensures.value) c.requires.read)
+    (all_references b.outs b.cond) b.cond 0 from) (sym c.deref-2.ensures.value)
+    c.requires.read.items)
+
+pub explain_items-requires-clause-few : goal.explain_items-requires-clause-few
+explain_items-requires-clause-few g c =
+    subst (λ (from : List Item). length from ≤ 8) (sym c.deref-2.ensures.value) c.requires.read.few
 
 pub returns : goal.returns
 returns g c = λ before h.

@@ -1,6 +1,5 @@
 use Rattle.std.proofs.Common.{◌≡◌, ◌<◌, ◌+◌, ◌++◌, ℕ, List, [], length, get_or, take, refl, sym, ap}
 use Rattle.std.proofs.Common.{subst, ◌∙◌}
-use Rattle.std.specs.Prelude.{◌^◌}
 use Rattle.std.proofs.lemmas.List.{take_all}
 use Rattle.version_groups.specs.Groups.{versions_in}
 use Rattle.piece_meaning.specs.Books.{book_of}
@@ -11,7 +10,6 @@ use Rattle.query_types.specs.declared.branch.Branch.{Branch}
 use Rattle.query_exec.specs.QueryPieces.{branch_pieces, branches_pieces, AreLeft}
 use Rattle.query_exec.proofs.AliveLaws.{none_over}
 use Rattle.query_exec.proofs.BranchRows.{branches_more, may_next_branch}
-use Rattle.query_exec.proofs.ItemAtoms.{next_place}
 use Rattle.query_exec.proofs.explanation.explain_branches.Goals as goal
 
 pub loop-branch-init : goal.loop-branch-init
@@ -40,11 +38,8 @@ loop-branch-preserved g c =
     let b : Branch = c.branch-item.result in
     let below : i < length bs = c.loop-branch-test.true in
     let is : b ≡ get_or bs i b = c.branch-item.is in
-    let on = next_place c.checked_add.result c.ok_or.result (c.loop-branch.number + 1 < 2 ^ 32)
-    (c.loop-branch.number + 1) c.in_ok-number.number c.checked_add.ensures
-    c.ok_or.ensures.ok_part c.in_ok-number.was in
-    let here : c.in_ok-number.number ≡ i + 1 = on
-    ∙ ap (λ (j : ℕ). j + 1) c.loop-branch.invariant.number in
+    let here : c.loop-branch.number + 1 ≡ i + 1 = ap (λ (j : ℕ). j + 1)
+    c.loop-branch.invariant.number in
     let so : List PlainExplained = branches_pieces
     (book_of (λ r. (goal.Rule-dyn g (r.vtable, r.value)).handles r.value)
     (λ r. (goal.Rule-dyn g (r.vtable, r.value)).answers r.value) c.args.book.now.rules.items)

@@ -1,6 +1,5 @@
 use Rattle.std.proofs.Common.{◌≡◌, ◌<◌, ◌+◌, ◌++◌, ℕ, List, length, get_or, take, refl, sym, ap}
 use Rattle.std.proofs.Common.{subst, ◌∙◌, append_assoc, append-nil}
-use Rattle.std.specs.Prelude.{◌^◌}
 use Rattle.std.proofs.lemmas.List.{take_all}
 use Rattle.cond_expr.specs.declared.expr.ColRef.{ColRef}
 use Rattle.cond_expr.specs.References.{borrowed}
@@ -13,7 +12,7 @@ use Rattle.piece_texts.specs.ExplainedPieces.{PlainExplained, all_explained}
 use Rattle.query_exec.specs.Questions.{own_read}
 use Rattle.query_exec.specs.QueryPieces.{table_pieces, items_pieces, AreLeft}
 use Rattle.query_exec.specs.Routes.{MayBeRead}
-use Rattle.query_exec.proofs.ItemAtoms.{may_next, next_place, items_more}
+use Rattle.query_exec.proofs.ItemAtoms.{may_next, items_more}
 use Rattle.query_exec.proofs.explanation.explain_items.Goals as goal
 
 pub loop-item-init : goal.loop-item-init
@@ -50,17 +49,13 @@ loop-item-preserved g c =
     let is : x ≡ get_or from i x = c.item-item.is in
     let next = may_next (versions_in c.args.groups.now) c.args.route.now rs cd from i x below is
     c.loop-item.invariant.may in
-    let on = next_place c.checked_add.result c.ok_or.result (c.loop-item.place + 1 < 2 ^ 32)
-    (c.loop-item.place + 1) c.in_ok-atom.atom c.checked_add.ensures c.ok_or.ensures.ok_part
-    c.in_ok-atom.was in
-    let first : c.in_ok-atom.atom ≡ c.loop-item.place + 1 = on in
     let so : List PlainExplained = items_pieces
     (book_of (λ r. (goal.Rule-dyn g (r.vtable, r.value)).handles r.value)
     (λ r. (goal.Rule-dyn g (r.vtable, r.value)).answers r.value) c.args.book.now.rules.items)
     (versions_in c.args.groups.now) c.args.route.now.asked c.args.route.now.parts.items rs cd
     c.args.branch 0 (take i from) in
     record {
-      place = on ∙ ap (λ (j : ℕ). j + 1) c.loop-item.invariant.place;
+      place = ap (λ (j : ℕ). j + 1) c.loop-item.invariant.place;
       may = next.1;
       alive = λ before h.
           let was : AreLeft (versions_in c.args.groups.now)
@@ -68,26 +63,20 @@ loop-item-preserved g c =
           (book_of (λ r. (goal.Rule-dyn g (r.vtable, r.value)).handles r.value)
           (λ r. (goal.Rule-dyn g (r.vtable, r.value)).answers r.value)
           c.args.book.now.rules.items) (versions_in c.args.groups.now) c.args.route.now.asked
-          x.0 (own_read c.loop-item.place rs cd) c.args.branch c.in_ok-atom.atom
+          x.0 (own_read c.loop-item.place rs cd) c.args.branch (c.loop-item.place + 1)
           c.args.route.now.parts.items) (all_explained c.explain_item.new.into.items) =
           c.in_ok-explain_item.ensures (before ++ so) (c.loop-item.invariant.alive before h) in
           let here : (before ++ so) ++ table_pieces
           (book_of (λ r. (goal.Rule-dyn g (r.vtable, r.value)).handles r.value)
           (λ r. (goal.Rule-dyn g (r.vtable, r.value)).answers r.value)
           c.args.book.now.rules.items) (versions_in c.args.groups.now) c.args.route.now.asked
-          x.0 (own_read c.loop-item.place rs cd) c.args.branch c.in_ok-atom.atom
+          x.0 (own_read c.loop-item.place rs cd) c.args.branch (c.loop-item.place + 1)
           c.args.route.now.parts.items ≡ before
           ++ items_pieces (book_of (λ r. (goal.Rule-dyn g (r.vtable, r.value)).handles r.value)
           (λ r. (goal.Rule-dyn g (r.vtable, r.value)).answers r.value)
           c.args.book.now.rules.items) (versions_in c.args.groups.now) c.args.route.now.asked
           c.args.route.now.parts.items rs cd c.args.branch 0 (take (i + 1) from) =
-          ap (λ (a : ℕ). (before ++ so) ++ table_pieces
-          (book_of (λ r. (goal.Rule-dyn g (r.vtable, r.value)).handles r.value)
-          (λ r. (goal.Rule-dyn g (r.vtable, r.value)).answers r.value)
-          c.args.book.now.rules.items) (versions_in c.args.groups.now) c.args.route.now.asked
-          x.0 (own_read c.loop-item.place rs cd) c.args.branch a c.args.route.now.parts.items)
-          first
-          ∙ ap (λ (j : ℕ). (before ++ so) ++ table_pieces
+          ap (λ (j : ℕ). (before ++ so) ++ table_pieces
           (book_of (λ r. (goal.Rule-dyn g (r.vtable, r.value)).handles r.value)
           (λ r. (goal.Rule-dyn g (r.vtable, r.value)).answers r.value)
           c.args.book.now.rules.items) (versions_in c.args.groups.now) c.args.route.now.asked

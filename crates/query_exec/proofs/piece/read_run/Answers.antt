@@ -5,10 +5,10 @@ use Rattle.query_exec.proofs.piece.read_run.Goals as goal
 pub returns-clause-rows : goal.returns-clause-rows
 returns-clause-rows g c = λ past shows relation means spans gathered.
     part_gathered relation spans c.args.run.0 c.args.rows.now.items c.in_ok-news.news.items
-    c.append.new.self.items c.in_ok-append.ensures.items gathered
+    c.put_rows.new.rows.items c.in_ok-put_rows.ensures.items gathered
     (λ m inside. c.in_ok-news.ensures.rows past shows m inside (relation m) (means m inside))
     (λ m outside. c.in_ok-news.ensures.inside m outside)
 
 pub returns-clause-borrowed : goal.returns-clause-borrowed
 returns-clause-borrowed g c = λ h l. borrowed_joined c.args.rows.now.items c.in_ok-news.news.items
-    c.append.new.self.items c.in_ok-append.ensures.items l (c.in_ok-news.ensures.borrowed h)
+    c.put_rows.new.rows.items c.in_ok-put_rows.ensures.items l (c.in_ok-news.ensures.borrowed h)

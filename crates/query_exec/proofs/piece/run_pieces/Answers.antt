@@ -33,8 +33,8 @@ loop-piece-preserved g c =
       rows = λ past shows m inside meant h.
           next_run c.args.pieces.now c.loop-piece.piece-index c.piece-item.result below
           c.piece-item.is (tables_of past h.version) (database_at past m)
-          c.loop-piece.rows.items c.in_ok-news.news.items c.append.new.self.items m
-          c.in_ok-append.ensures.items
+          c.loop-piece.rows.items c.in_ok-news.news.items c.put_rows.new.rows.items m
+          c.in_ok-put_rows.ensures.items
           (c.loop-piece.invariant.rows past shows m inside meant h)
           (c.in_ok-news.ensures.stored m inside
           ∙ piece_meant c.args.groups.now past shows c.args.version (pieces_of c.args.pieces.now) m
@@ -43,12 +43,12 @@ loop-piece-preserved g c =
           (among_taken c.args.pieces.now c.loop-piece.piece-index c.piece-item.result below
           c.piece-item.is)));
       inside = λ m outside.
-          none_after c.loop-piece.rows.items c.in_ok-news.news.items c.append.new.self.items m
-          c.in_ok-append.ensures.items
+          none_after c.loop-piece.rows.items c.in_ok-news.news.items c.put_rows.new.rows.items m
+          c.in_ok-put_rows.ensures.items
           (c.loop-piece.invariant.inside m outside) (c.in_ok-news.ensures.inside m outside);
       borrowed = λ h.
-          borrowed_joined c.loop-piece.rows.items c.in_ok-news.news.items c.append.new.self.items
-          c.in_ok-append.ensures.items (c.loop-piece.invariant.borrowed h)
+          borrowed_joined c.loop-piece.rows.items c.in_ok-news.news.items c.put_rows.new.rows.items
+          c.in_ok-put_rows.ensures.items (c.loop-piece.invariant.borrowed h)
           (plain_borrowed (out_trees (piece_of c.piece-item.result).outs) c.in_ok-news.news.items
           (piece_at c.args.pieces.now c.loop-piece.piece-index c.piece-item.result below
           c.piece-item.is h) c.in_ok-news.ensures.borrowed);
