@@ -144,7 +144,8 @@ entries_lasting : (low : ℕ) (keys : List Span) (cells : List Write) (e : Cell)
 entries_lasting low [] cells e f t i = absurd i
 entries_lasting low (k ∷ keys) cells e f t i =
     elim (in_append e (with_ends k.end (of_id low cells)) (entries_from (low + 1) keys cells) i) [
-      | inl j ↦ fit_lasting k (of_id low cells) e (first_fits low k keys cells f) (t 0 (omega arith)) j
+      | inl j ↦ fit_lasting k (of_id low cells) e (first_fits low k keys cells f)
+          (t 0 (omega arith)) j
       | inr j ↦ entries_lasting (low + 1) keys cells e (rest_fit low k keys cells f)
           (λ q h. t (suc q) (omega (arith, h))) j
     ]

@@ -228,8 +228,8 @@ module _ (first next last : List ℕ) (cells : List Write) (c : Write)
     known = λ p b. subst (λ n. id_at (cells ++ c ∷ []) p < n)
         (sym (length-set last c.id (length cells))) (elim (at_end cells c p b) [
           | inl l ↦ subst (λ n. n < length last) (sym (id_prefix cells c p l)) (k.known p l)
-          | inr e ↦ subst (λ n. n < length last) (sym (ap (id_at (cells ++ c ∷ [])) e ∙ id_end cells c))
-              h
+          | inr e ↦ subst (λ n. n < length last)
+              (sym (ap (id_at (cells ++ c ∷ [])) e ∙ id_end cells c)) h
         ]);
     last_in = last_in';
   }

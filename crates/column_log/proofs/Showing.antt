@@ -273,6 +273,6 @@ entries_before low last m (k ∷ keys) cells e a l f i =
     elim (in_append e (with_ends k.end (of_id low cells)) (entries_from (low + 1) keys cells) i) [
       | inl j ↦ ends_before last k.end m (of_id low cells) e (all_of last low cells a) l
           (elim (f 0 (omega arith)) [ inl q ↦ inl (omega (arith, q, l)) | inr q ↦ inr q ]) j
-      | inr j ↦ entries_before (low + 1) last m keys cells e a l (λ id h. f (suc id) (omega (arith, h)))
-          j
+      | inr j ↦ entries_before (low + 1) last m keys cells e a l
+          (λ id h. f (suc id) (omega (arith, h))) j
     ]

@@ -79,7 +79,7 @@ impl StoredValues {
             (StoredValues::Numbers(numbers), Val::Int(n)) => numbers.push_reserved(*n),
             (StoredValues::Texts(texts), Val::Slice(bytes)) => texts.push(bytes),
             (StoredValues::Texts(texts), Val::Own(text)) => texts.push(text.bytes()),
-            // A value of the other type is not of the column's type.
+            // The value is of the column's type, as `typed` says.
             _ => unreachable!(),
         }
     }

@@ -1,6 +1,6 @@
 ghost use Rattle.std.specs.Prelude.{◌≡◌, ◌≤◌, ◌++◌, map, length, take, pos, IfOk, ℕ, List};
 ghost use Rattle.prima_base.specs.Bytes.{IsTxt};
-ghost use Rattle.prima_base.specs.Order.{shown, is_borrowed};
+ghost use Rattle.prima_base.specs.Order.{shown, is_borrowed, IsBorrowed};
 ghost use Rattle.cond_expr.specs.Trees.{column};
 ghost use Rattle.cond_expr.specs.Values.{value, texts, truth, all_true, some_true, bytes_of};
 ghost use Rattle.cond_expr.specs.Values.{agrees};
@@ -60,6 +60,28 @@ fn look_up<'a>(
                     return value.copy();
                 }
                 look_up(rest, more, reference)
+            }
+        },
+    }
+}
+
+// The same, borrowed.
+fn lend_column<'a>(columns: &[Column], values: &'a [Val<'_>], reference: &ColRef) -> Val<'a>
+    requires { AreValid values.now }
+    ensures value { shown result
+        ≡ flat columns.now values.now reference.now.whose reference.now.name }
+    ensures valid { IsValid (shown result) }
+    ensures borrowed { IsBorrowed result }
+{
+    match columns {
+        [] => Val::Int(0),
+        [first, rest @ ..] => match values {
+            [] => Val::Int(0),
+            [value, more @ ..] => {
+                if names(reference, first) {
+                    return value.lend();
+                }
+                lend_column(rest, more, reference)
             }
         },
     }
@@ -176,23 +198,26 @@ fn join(
         let v = eval(alloc, part, columns, values)?;
         append(&mut joined, &v)?;
     }
-    Txt::of(alloc, &joined)
+    Ok(Txt::owning(alloc, joined))
 }
 
-// A side of a comparison: a constant is borrowed, so that a condition over many rows copies no text
-// of its own.
+// A side of a comparison: a constant and the value of a plain column are borrowed, so that a
+// condition over many rows copies no text that it only compares.
 #[cycle(eval)]
 fn side<'a>(
     alloc: Global,
     expr: &'a Expr,
     columns: &[Column],
-    values: &[Val<'a>],
+    values: &'a [Val<'_>],
 ) -> Result<Val<'a>, NoMemory>
     requires { AreValid values.now }
     ensures value { IfOk result (λ v. shown v ≡ value (flat columns.now values.now) (tree expr.now)) }
     ensures valid { IfOk result (λ v. IsValid (shown v)) }
+    ensures borrowed { IfOk result (λ v. (w : WhoseColumn) → (n : List ℕ)
+        → tree expr.now ≡ column w n → IsBorrowed v) }
 {
     match expr {
+        Expr::Col(reference) => Ok(lend_column(columns, values, reference)),
         Expr::Const(constant) => Ok(constant.lend()),
         _ => eval(alloc, expr, columns, values),
     }

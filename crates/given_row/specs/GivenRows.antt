@@ -1,6 +1,6 @@
 -- Rows that are given to a table.
 use Rattle.std.specs.Prelude.{⊤, All, List, map}
-use Rattle.prima_base.specs.Order.{shown}
+use Rattle.prima_base.specs.Order.{shown, IsBorrowed}
 use Rattle.prima_base.specs.Columns.{IsValid}
 use Rattle.prima_base.specs.declared.value.Value.{Value}
 use Rattle.given_row.specs.declared.row.RowValues.{RowValues}
@@ -17,6 +17,12 @@ abbrev pub AreValid : RowValues → Type 0
 AreValid (Borrowed values) = ⊤
 AreValid (Owned values) = ⊤
 AreValid (Each values) = All (λ v. IsValid (shown v)) values.items
+
+-- no text is the row's own
+abbrev pub LieElsewhere : RowValues → Type 0
+LieElsewhere (Borrowed values) = ⊤
+LieElsewhere (Owned values) = ⊥
+LieElsewhere (Each values) = All IsBorrowed values.items
 
 abbrev pub row_values : Inside → List Value
 row_values row = values_of row.values

@@ -3,10 +3,9 @@
 ghost use Rattle.std.specs.Prelude.{◌≡◌, ◌<◌, All, IfOk, length, map, slice_index_or, take};
 ghost use Rattle.prima_base.specs.Order.{row_cmp, shown, IsBorrowed};
 ghost use Rattle.prima_base.specs.Columns.{IsValid};
-ghost use Rattle.given_row.specs.GivenRows.{values_of, AreValid};
+ghost use Rattle.given_row.specs.GivenRows.{values_of, AreValid, LieElsewhere};
 
-use prima_base::{NoMemory, Row, Txt, Val, Value};
-use std::alloc::Global;
+use prima_base::{NoMemory, Row, Val, Value};
 use std::cmp::Ordering;
 use std::marker::Model;
 
@@ -16,18 +15,6 @@ enum RowValues<'a> {
     Borrowed(&'a [Value]),
     Owned(Vec<Value>),
     Each(Vec<Val<'a>>),
-}
-
-// The same value, with a text where it stands in this one.
-fn lend<'a>(value: &'a Val<'_>) -> Val<'a>
-    ensures value { shown result ≡ shown value.now }
-    ensures borrowed { IsBorrowed result }
-{
-    match value {
-        Val::Int(n) => Val::Int(*n),
-        Val::Slice(bytes) => Val::Slice(bytes),
-        Val::Own(text) => Val::Slice(text.bytes()),
-    }
 }
 
 // The value at this place, borrowed.
@@ -41,26 +28,26 @@ fn lend_at(values: &[Value], at: usize) -> Val<'_>
 }
 
 // An equal value. A text is copied.
-fn copy<'a>(alloc: Global, value: &Value) -> Result<Val<'a>, NoMemory>
+fn copy<'a>(value: &Value) -> Result<Val<'a>, NoMemory>
     ensures value { IfOk result (λ v. shown v ≡ value.now) }
     ensures valid { IfOk result (λ v. IsValid (shown v)) }
 {
     match value {
         Value::Int(n) => Ok(Val::Int(*n)),
         Value::Text(text) => {
-            let text = Txt::of(alloc, text.bytes())?;
-            Ok(Val::Own(text))
+            let _valid = text.bytes();
+            Ok(Val::Own(text.copy()?))
         }
     }
 }
 
 // The value at this place. A text is copied.
-fn copy_at<'a>(alloc: Global, values: &[Value], at: usize) -> Result<Val<'a>, NoMemory>
+fn copy_at<'a>(values: &[Value], at: usize) -> Result<Val<'a>, NoMemory>
     requires { at < length values.now }
     ensures value { IfOk result (λ v. shown v ≡ slice_index_or values.now at (shown v)) }
     ensures valid { IfOk result (λ v. IsValid (shown v)) }
 {
-    let value = copy(alloc, &values[at])?;
+    let value = copy(&values[at])?;
     Ok(value)
 }
 
@@ -70,6 +57,7 @@ fn copy_val_at<'a>(values: &[Val<'a>], at: usize) -> Result<Val<'a>, NoMemory>
     requires valid { All (λ v. IsValid (shown v)) values.now }
     ensures value { IfOk result (λ v. shown v ≡ slice_index_or (map shown values.now) at (shown v)) }
     ensures valid { IfOk result (λ v. IsValid (shown v)) }
+    ensures borrowed { All IsBorrowed values.now → IfOk result IsBorrowed }
 {
     let value = values[at].copy()?;
     Ok(value)
@@ -77,16 +65,17 @@ fn copy_val_at<'a>(values: &[Val<'a>], at: usize) -> Result<Val<'a>, NoMemory>
 
 impl<'a> RowValues<'a> {
     // The value at this place, to keep. A text that stands elsewhere stays there.
-    fn copy_value(&self, alloc: Global, at: usize) -> Result<Val<'a>, NoMemory>
+    fn copy_value(&self, at: usize) -> Result<Val<'a>, NoMemory>
         requires valid { AreValid self.now }
         requires within { at < length (values_of self.now) }
         ensures value { IfOk result (λ v. shown v
             ≡ slice_index_or (values_of self.now) at (shown v)) }
         ensures valid { IfOk result (λ v. IsValid (shown v)) }
+        ensures borrowed { LieElsewhere self.now → IfOk result IsBorrowed }
     {
         match self {
             RowValues::Borrowed(values) => return Ok(lend_at(values, at)),
-            RowValues::Owned(values) => return copy_at(alloc, values, at),
+            RowValues::Owned(values) => return copy_at(values, at),
             RowValues::Each(values) => return copy_val_at(values, at),
         }
     }
@@ -115,7 +104,7 @@ impl RowValues<'_> {
         match self {
             RowValues::Borrowed(values) => lend_at(values, at),
             RowValues::Owned(values) => lend_at(values, at),
-            RowValues::Each(values) => lend(&values[at]),
+            RowValues::Each(values) => values[at].lend(),
         }
     }
 }
@@ -177,12 +166,12 @@ impl<'a> GivenRow<'a> {
     /// The value at this place, to keep: a text that stands elsewhere stays there, the row's own is
     /// copied. It has at most 4,096 bytes and no control byte. The one error is `NoMemory`, where
     /// memory runs out.
-    pub fn copy_value(&self, alloc: Global, at: usize) -> Result<Val<'a>, NoMemory>
+    pub fn copy_value(&self, at: usize) -> Result<Val<'a>, NoMemory>
         requires { at < length self.now }
         ensures value { IfOk result (λ v. shown v ≡ slice_index_or self.now at (shown v)) }
         ensures valid { IfOk result (λ v. IsValid (shown v)) }
     {
-        self.values.copy_value(alloc, at)
+        self.values.copy_value(at)
     }
 }
 

@@ -4,6 +4,7 @@
 //! its two moments, and a counter as its count.
 #![tactic(auto)]
 
+mod column;
 mod counter;
 mod failure;
 mod fault;
@@ -17,6 +18,7 @@ mod text;
 mod timed_row;
 mod value;
 
+pub use column::copy_columns;
 pub use counter::Steps;
 pub use failure::{Failed, NoMemory};
 pub use fault::CallFault;

@@ -105,6 +105,14 @@ impl Txt {
         })
     }
 
+    /// The text of these bytes, which are a text's. They are moved: it takes no memory.
+    pub fn owning(alloc: Global, bytes: Vec<u8>) -> Txt
+        requires { IsTxt bytes.items }
+        ensures { result ≡ bytes.items }
+    {
+        Txt { alloc, bytes }
+    }
+
     /// The bytes. It takes no memory.
     pub fn bytes(&self) -> &[u8]
         ensures value { result.now ≡ self.now }

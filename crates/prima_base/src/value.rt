@@ -62,6 +62,18 @@ impl<'a> Val<'a> {
     ghost use Rattle.std.specs.Prelude.{◌≡◌, IfOk};
     ghost use Rattle.prima_base.specs.Order.{shown, is_borrowed, IsBorrowed};
 
+    /// The same value, borrowed from this one. It takes no memory.
+    pub fn lend(&self) -> Val<'_>
+        ensures value { shown result ≡ shown self.now }
+        ensures borrowed { IsBorrowed result }
+    {
+        match self {
+            Val::Int(n) => Val::Int(*n),
+            Val::Slice(bytes) => Val::Slice(bytes),
+            Val::Own(text) => Val::Slice(text.bytes()),
+        }
+    }
+
     /// One that shows the same value. A borrowed text stays borrowed, where it was.
     #[tactic(auto, using(crate::proofs::BorrowedVals::stays_borrowed))]
     pub fn copy(&self) -> Result<Val<'a>, NoMemory>
@@ -115,14 +127,18 @@ ghost use Rattle.std.specs.Prelude.{◌≡◌, IfOk, map};
 ghost use Rattle.prima_base.specs.Order.{shown, is_borrowed, AreBorrowed};
 ghost use Rattle.prima_base.specs.Timed.{vals_cmp};
 
-/// Vals that show the same values, in their order. A borrowed text stays borrowed, where it was.
-/// The one error is `NoMemory`, where memory runs out.
-pub fn copy_vals<'a>(alloc: Global, values: &[Val<'a>]) -> Result<Vec<Val<'a>>, NoMemory>
+/// Vals that show the same values, in their order, with room for `spare` more. A borrowed text stays
+/// borrowed, where it was. The one error is `NoMemory`, where memory runs out.
+pub fn copy_vals<'a>(
+    alloc: Global,
+    values: &[Val<'a>],
+    spare: usize,
+) -> Result<Vec<Val<'a>>, NoMemory>
     ensures values { IfOk result (λ v. map shown v.items ≡ map shown values.now) }
     ensures same { IfOk result (λ v. map is_borrowed v.items ≡ map is_borrowed values.now) }
     ensures borrowed { AreBorrowed values.now → IfOk result (λ v. AreBorrowed v.items) }
 {
-    let mut copies = Vec::with_capacity(alloc, values.len())?;
+    let mut copies = Vec::with_capacity(alloc, values.len().saturating_add(spare))?;
     for value in values {
         copies.push(value.copy()?)?;
     }

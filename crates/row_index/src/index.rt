@@ -140,7 +140,7 @@ fn insert_reserved<T: Drop>(items: &mut Vec<T>, at: usize, item: T)
     ensures capacity { vec_capacity items.new ≡ vec_capacity items.old }
 {
     if items.insert(at, item).is_err() {
-        // A vector that has room for one more takes it: only a full one may refuse it.
+        // The vector has room for one more, as `room` says: only a full one may refuse an item.
         unreachable!();
     }
 }

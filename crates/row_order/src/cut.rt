@@ -1,9 +1,9 @@
 //! Rows of a table between two cuts in their order, borrowed.
 
-ghost use Rattle.std.specs.Prelude.{◌≡◌, ◌+◌, ◌++◌, ◌<◌, ◌≤◌, ℕ, All, OnOk, true, false, length};
+ghost use Rattle.std.specs.Prelude.{◌≡◌, ◌+◌, ◌<◌, ◌≤◌, ℕ, All, OnOk, true, false, length};
 ghost use Rattle.std.specs.Prelude.{map, slice_index, slice_index_or};
 ghost use Rattle.relations.specs.Sets.{Ascends, In};
-ghost use Rattle.prima_base.specs.Order.{row_cmp, shown};
+ghost use Rattle.prima_base.specs.Order.{row_cmp, shown, IsBorrowed};
 ghost use Rattle.prima_base.specs.Columns.{IsValid};
 ghost use Rattle.row_order.specs.Cuts.{is_before};
 ghost use Rattle.column_log.specs.Log.{Log};
@@ -124,6 +124,7 @@ fn lend_now<'a>(columns: &'a [Column], id: usize, row: &mut Vec<Val<'a>>) -> Res
     requires { All (λ c. id < c.ids) columns.now }
     ensures values { OnOk result (map shown row.new.items ≡ row_now id (cells_of columns.now)) }
     ensures valid { OnOk result (All (λ v. IsValid (shown v)) row.new.items) }
+    ensures borrowed { OnOk result (All IsBorrowed row.new.items) }
 {
     row.clear();
     for column in columns {
@@ -159,7 +160,7 @@ impl<'a> BorrowedRows<'a> {
     ghost use Rattle.std.specs.Prelude.{◌≡◌, ◌-◌, ◌<◌, ◌≤◌, ℕ, [], take, drop, map, option_map};
     ghost use Rattle.std.specs.Prelude.{length, All, IfSome, OnOk, slice_get, slice_index_or};
     ghost use Rattle.relations.specs.Sets.{In};
-    ghost use Rattle.prima_base.specs.Order.{shown};
+    ghost use Rattle.prima_base.specs.Order.{shown, IsBorrowed};
     ghost use Rattle.prima_base.specs.Columns.{IsValid};
     ghost use Rattle.column_log.specs.Log.{Log};
     ghost use Rattle.row_order.specs.Logs.{cells_of};
@@ -206,6 +207,7 @@ impl<'a> BorrowedRows<'a> {
         ensures same { self.new ≡ self.old }
         ensures values { OnOk result (map shown row.new.items ≡ slice_index_or self.old at []) }
         ensures valid { OnOk result (All (λ v. IsValid (shown v)) row.new.items) }
+        ensures borrowed { OnOk result (All IsBorrowed row.new.items) }
     {
         let id = self.index.id_near(self.start + at, &mut self.near);
         lend_now(self.columns, id, row)
@@ -218,6 +220,7 @@ impl<'a> BorrowedRows<'a> {
         ensures same { self.new ≡ self.old }
         ensures value { option_map shown result ≡ slice_get (slice_index_or self.old at []) column }
         ensures valid { IfSome result (λ v. IsValid (shown v)) }
+        ensures borrowed { IfSome result IsBorrowed }
     {
         let columns = self.columns;
         if column >= columns.len() {

@@ -58,6 +58,7 @@ fn found_place(columns: &[Column], ids: &[usize], row: &GivenRow<'_>) -> usize
 {
     match place_of(columns, ids, row) {
         Ok(at) => at,
+        // The row is that of one of the ids, as `there` says.
         Err(_) => unreachable!(),
     }
 }
@@ -76,6 +77,7 @@ fn free_place(columns: &[Column], ids: &[usize], row: &GivenRow<'_>) -> usize
         → row_cmp (row_now (slice_index ids.now k) (cells_of columns.now)) row.now ≡ Greater }
 {
     match place_of(columns, ids, row) {
+        // The row is that of none of the ids, as `fresh` says.
         Ok(_) => unreachable!(),
         Err(at) => at,
     }
@@ -93,6 +95,7 @@ fn found_in(columns: &[Column], index: &RowIndex, row: &GivenRow<'_>) -> usize
 {
     match place_in(columns, index, row) {
         Ok(at) => at,
+        // The row is that of one of the ids, as `there` says.
         Err(_) => unreachable!(),
     }
 }
@@ -111,6 +114,7 @@ fn free_in(columns: &[Column], index: &RowIndex, row: &GivenRow<'_>) -> usize
         → row_cmp (row_now (slice_index index.now.ids k) (cells_of columns.now)) row.now ≡ Greater }
 {
     match place_in(columns, index, row) {
+        // The row is that of none of the ids, as `fresh` says.
         Ok(_) => unreachable!(),
         Err(at) => at,
     }

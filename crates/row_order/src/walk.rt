@@ -1,10 +1,10 @@
-ghost use Rattle.std.specs.Prelude.{◌≡◌, List, [], slice_index, true, IfErr, ◌⊎◌, ◌∷◌, ℕ, Option};
+ghost use Rattle.std.specs.Prelude.{◌≡◌, List, [], slice_index, true, IfErr, ◌∷◌, ℕ, Option};
 ghost use Rattle.std.specs.Prelude.{◌+◌, ◌^◌, ◌<◌, ◌≤◌, ◌++◌, take, drop, length, All};
 ghost use Rattle.std.specs.Prelude.{slice_index_or, IfOk, OnOk};
 ghost use Rattle.row_order.specs.Logs.{cells_of};
 ghost use Rattle.column_log.specs.Log.{Log};
 ghost use Rattle.prima_base.specs.Order.{row_cmp};
-ghost use Rattle.relations.specs.Sets.{Ascends, In};
+ghost use Rattle.relations.specs.Sets.{Ascends};
 ghost use Rattle.row_order.specs.Rows.{row_now, rows_of};
 ghost use Rattle.row_order.specs.Handing.{lost_ids, first_order, owners, no_owners, gained_rows};
 ghost use Rattle.row_order.specs.Handing.{given_ids, id_by, lost_by, next_by};

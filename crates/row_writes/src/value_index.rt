@@ -25,7 +25,7 @@ impl Model for ValueIndex {
 }
 
 impl ValueIndex {
-    ghost use Rattle.std.specs.Prelude.{◌≡◌, ◌≤◌, ◌<◌, ◌+◌, ◌^◌, ◌∷◌, ℕ, List, [], All, IfOk, OnOk};
+    ghost use Rattle.std.specs.Prelude.{◌≡◌, ◌≤◌, ◌<◌, ◌+◌, ◌^◌, ℕ, [], IfOk, OnOk};
     ghost use Rattle.std.specs.Prelude.{length, slice_index_or};
     ghost use Rattle.relations.specs.Sets.{In};
     ghost use Rattle.column_log.specs.Log.{Log};

@@ -3,8 +3,8 @@
 ghost use Rattle.std.specs.Prelude.{◌≡◌, ◌+◌, ◌≤◌, ◌<◌, length, drop, map, IfOk, IfErr, codes};
 ghost use Rattle.prima_base.specs.Bytes.{IsName};
 ghost use Rattle.lexical_grammar.specs.declared.kind.TokenKind.TheVariants as kind;
-ghost use Rattle.lexical_grammar.specs.declared.piece.Piece.TheVariants.{Of};
-ghost use Rattle.lexical_grammar.specs.Bytes.{text_value, piece};
+ghost use Rattle.lexical_grammar.specs.declared.scanned.Scanned.TheVariants.{Of};
+ghost use Rattle.lexical_grammar.specs.Bytes.{text_value, scanned};
 ghost use Rattle.lexical_grammar.specs.Lexemes.{is_sign};
 ghost use Rattle.parser_combinators.specs.Reads.{Reads, ReadsMore, ahead};
 ghost use Rattle.expr_grammar.specs.Constants as spec;
@@ -51,12 +51,12 @@ pub fn name_of(alloc: Global, text: &[u8]) -> Result<Name, Stop>
 /// The text that a whole literal stands for. Only memory can be missing.
 #[tactic(auto, using(lexical_grammar::proofs::Valid::texted))]
 pub fn text_of(alloc: Global, literal: &[u8]) -> Result<Txt, Stop>
-    requires { piece literal.now ≡ Of kind.Text (length literal.now) }
+    requires { scanned literal.now ≡ Of kind.Text (length literal.now) }
     ensures ok { IfOk result (λ t. t ≡ text_value (drop 1 literal.now)) }
     ensures err { IfErr result (λ e. e ≡ stop.NoMemory) }
 {
     let bytes = undoubled(alloc, &literal[1..])?;
-    Ok(Txt::of(alloc, &bytes)?)
+    Ok(Txt::owning(alloc, bytes))
 }
 
 /// A name: a word of at most 63 bytes that is not reserved.

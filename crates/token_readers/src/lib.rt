@@ -11,18 +11,18 @@ ghost use Rattle.std.specs.Prelude.{None, Some};
 ghost use Rattle.lexical_grammar.specs.Lexed.{Lexes, Gives};
 ghost use Rattle.lexical_grammar.specs.Spaced.{Spaced};
 
-use lexical_grammar::{LexFault, Piece, Token};
+use lexical_grammar::{LexFault, Scanned, Token};
 use std::alloc::{AllocError, Global};
 
 mod atom_reader;
 mod constant_reader;
 mod number;
-mod piece;
+mod scanned;
 mod word;
 
 pub use atom_reader::{atom, falsehood, no_bracket, sees_op, truth};
 pub use constant_reader::{constant, int, literal, moment, name, names, natural, small};
-use piece::{gap, piece_at};
+use scanned::{gap, scan_at};
 pub use word::is_name;
 
 /// The tokens of a statement of at most 1,048,576 bytes, from the left, or its first lexical fault.
@@ -43,17 +43,17 @@ pub fn tokens<'a>(alloc: Global, text: &'a [u8]) -> Result<Vec<Token<'a>>, LexFa
         let skipped = gap(rest);
         rest = &rest[skipped..];
         at += skipped as u32;
-        match piece_at(rest) {
-            Piece::End => return Ok(out),
-            Piece::Of(kind, len) => {
+        match scan_at(rest) {
+            Scanned::End => return Ok(out),
+            Scanned::Of(kind, len) => {
                 out.push(Token::first(kind, len, rest, at))?;
                 rest = &rest[len..];
                 at += len as u32;
             }
-            Piece::Bad(len) => return Err(LexFault::BadByte(at + len as u32)),
-            Piece::Open => return Err(LexFault::OpenQuote(at)),
-            Piece::Long => return Err(LexFault::LongText(at)),
-            Piece::Big => return Err(LexFault::BigNumber(at)),
+            Scanned::Bad(len) => return Err(LexFault::BadByte(at + len as u32)),
+            Scanned::Open => return Err(LexFault::OpenQuote(at)),
+            Scanned::Long => return Err(LexFault::LongText(at)),
+            Scanned::Big => return Err(LexFault::BigNumber(at)),
         }
     }
 }

@@ -4,7 +4,7 @@ ghost use Rattle.std.specs.Prelude.{◌≡◌, ◌^◌, ◌≤◌, ◌<◌, leng
 ghost use Rattle.lexical_grammar.specs.Lexemes.{integer, signed};
 ghost use Rattle.token_readers.specs.Numbers.{in_range, natural_in};
 
-use crate::piece::magnitude;
+use crate::scanned::magnitude;
 
 // The integer of 64 bits with this magnitude.
 fn in_range(negative: bool, number: u64) -> Option<i64>

@@ -5,7 +5,7 @@ ghost use Rattle.std.specs.Prelude.{IfOk, OnOk, length, slice_index, slice_index
 ghost use Rattle.std.specs.Ordering.{is_lt};
 ghost use Rattle.std.specs.declared.cmp.Ordering.TheVariants.{Less};
 ghost use Rattle.relations.specs.Sets.{Ascends, In, Same};
-ghost use Rattle.prima_base.specs.Order.{shown};
+ghost use Rattle.prima_base.specs.Order.{shown, IsBorrowed};
 ghost use Rattle.column_log.specs.Log.{newest};
 ghost use Rattle.value_order.specs.ByValue.{Distinct, mark_cmp, mark_of, by_value, ids_handed};
 ghost use Rattle.value_order.specs.ByValue.{IsWithout, IsWith};
@@ -131,6 +131,7 @@ fn lend_values<'a>(
     ensures ids { IfOk result (λ v. map (λ m. m.1) v.items ≡ live.now) }
     ensures values { IfOk result (λ v. All (λ m. newest m.1 column.now.cells ≡ shown m.0 ∷ [])
         v.items) }
+    ensures borrowed { IfOk result (λ v. All (λ m. IsBorrowed m.0) v.items) }
 {
     let mut marks = Vec::with_capacity(alloc, live.len())?;
     for id in live {

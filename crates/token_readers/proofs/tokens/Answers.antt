@@ -1,5 +1,5 @@
 use Rattle.std.proofs.Common.{refl, None}
-use Rattle.lexical_grammar.specs.declared.piece.Piece.TheVariants.{End, Bad, Open, Long, Big}
+use Rattle.lexical_grammar.specs.declared.scanned.Scanned.TheVariants.{End, Bad, Open, Long, Big}
 use Rattle.token_readers.proofs.Steps.{ends_here}
 use Rattle.lexical_grammar.proofs.Shapes.{spaced}
 use Rattle.token_readers.proofs.tokens.Goals as goal

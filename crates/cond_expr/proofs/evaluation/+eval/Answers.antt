@@ -18,8 +18,7 @@ join-loop-part-preserved t c = record {
 
 pub join-returns-clause-value : goal.join-returns-clause-value
 join-returns-clause-value t c =
-    let whole = c.deref.ensures.value ∙ sym (c.loop-part.invariant.value
+    c.owning.ensures ∙ sym (c.loop-part.invariant.value
     ∙ joined_whole (flat c.args.columns.now c.args.values.now) 4096 c.args.parts.now
     c.loop-part.part-index
-    c.loop-part.joined.items c.loop-part-test.false c.loop-part.invariant.valid.0) in
-    rw whole at c.of.ensures
+    c.loop-part.joined.items c.loop-part-test.false c.loop-part.invariant.valid.0)

@@ -1,4 +1,4 @@
-use Rattle.std.proofs.Common.{rules, ◌≡◌, ◌+◌, ◌<◌, ◌^◌, length, refl, arith, ap, ◌∙◌}
+use Rattle.std.proofs.Common.{◌≡◌, length, refl, arith, ap, ◌∙◌}
 use Rattle.row_order.specs.Logs.{cells_of}
 use Rattle.row_order.proofs.SideBySide.{given_after, length-owners}
 use Rattle.row_order.proofs.change.find_change.Goals as goal

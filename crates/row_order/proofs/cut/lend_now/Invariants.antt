@@ -1,6 +1,6 @@
 use Rattle.std.proofs.Common.{◌≡◌, ◌++◌, drop, map}
 use Rattle.std.specs.Prelude.{All}
-use Rattle.prima_base.specs.Order.{shown}
+use Rattle.prima_base.specs.Order.{shown, IsBorrowed}
 use Rattle.prima_base.specs.Columns.{IsValid}
 use Rattle.row_order.specs.Logs.{cells_of}
 use Rattle.row_order.specs.Rows.{row_now}
@@ -11,4 +11,5 @@ invariant-loop-column l = record {
   borrowed : row_now l.id (cells_of l.columns) ≡ map shown l.row.items
       ++ row_now l.id (cells_of (drop l.column-index l.columns));
   valid : All (λ v. IsValid (shown v)) l.row.items;
+  lent : All IsBorrowed l.row.items;
 }

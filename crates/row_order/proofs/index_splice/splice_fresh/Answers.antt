@@ -1,4 +1,3 @@
-use Rattle.std.proofs.Common.{arith}
 use Rattle.row_order.specs.Logs.{cells_of}
 use Rattle.row_order.proofs.Splicing.{taken_none}
 use Rattle.row_order.proofs.index_splice.splice_fresh.Goals as goal

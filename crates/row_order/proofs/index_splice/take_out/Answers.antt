@@ -1,5 +1,5 @@
 use Rattle.std.proofs.Common.{rules, ◌≡◌, ◌+◌, ◌++◌, [], ◌∷◌, length, get_or, take, drop, arith}
-use Rattle.std.proofs.Common.{◌∙◌, subst, inl, refl}
+use Rattle.std.proofs.Common.{subst, inl, refl}
 use Rattle.std.proofs.lemmas.Grind.{common_steps}
 use Rattle.std.proofs.Math.ListN.{drop_of_length-le}
 use Rattle.relations.proofs.SetLaws.{in_right}

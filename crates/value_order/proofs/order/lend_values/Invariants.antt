@@ -1,5 +1,5 @@
 use Rattle.std.proofs.Common.{◌≡◌, [], ◌∷◌, map, take, All}
-use Rattle.prima_base.specs.Order.{shown}
+use Rattle.prima_base.specs.Order.{shown, IsBorrowed}
 use Rattle.column_log.specs.Log.{newest}
 use Rattle.value_order.proofs.order.lend_values.Given as goal
 
@@ -7,4 +7,5 @@ abbrev pub invariant-loop-id : goal.invariant-loop-id
 invariant-loop-id l = record {
   ids : map (λ m. m.1) l.marks.items ≡ take l.id-index l.live;
   values : All (λ m. newest m.1 l.column.cells ≡ shown m.0 ∷ []) l.marks.items;
+  borrowed : All (λ m. IsBorrowed m.0) l.marks.items;
 }

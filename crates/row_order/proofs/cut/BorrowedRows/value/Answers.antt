@@ -1,10 +1,9 @@
 use Rattle.std.proofs.Common.{◌≡◌, ◌+◌, ◌-◌, ◌<◌, ◌≤◌, ℕ, List, sym, ap, ◌∙◌, length, subst, get_or}
 use Rattle.std.proofs.Common.{[], ◌∷◌, arith}
 use Rattle.std.specs.Prelude.{slice_get}
-use Rattle.relations.specs.Sets.{In}
 use Rattle.prima_base.specs.declared.value.Value.{Value}
 use Rattle.prima_base.specs.Order.{shown}
-use Rattle.column_log.specs.Log.{Log, Write, newest}
+use Rattle.column_log.specs.Log.{Log, newest}
 use Rattle.row_order.specs.Logs.{cells_of}
 use Rattle.value_order.proofs.Places.{in_get}
 use Rattle.row_order.proofs.Cutting.{length-part, get_or-part}

@@ -1,6 +1,6 @@
 use Rattle.std.proofs.Common.{arith}
 use Rattle.token_readers.proofs.Digits.{too_large}
-use Rattle.token_readers.proofs.piece.magnitude.Goals as goal
+use Rattle.token_readers.proofs.scanned.magnitude.Goals as goal
 
 pub returns-in-None : goal.returns-in-None
 returns-in-None c = omega (

@@ -1,6 +1,6 @@
 use Rattle.std.proofs.Common.{length, ◌≡◌, ◌≤◌, drop, false, ◌-◌}
 use Rattle.lexical_grammar.specs.Bytes as spec
-use Rattle.token_readers.proofs.piece.gap.Given as goal
+use Rattle.token_readers.proofs.scanned.gap.Given as goal
 
 abbrev pub invariant-loop-i : goal.invariant-loop-i
 invariant-loop-i l = (l.i ≤ length l.bytes) × (spec.gap_len false 0 l.bytes

@@ -6,7 +6,7 @@ ghost use Rattle.std.specs.List.{prefix_len};
 ghost use Rattle.prima_base.specs.Bytes as base;
 ghost use Rattle.lexical_grammar.specs.Bytes as spec;
 
-use lexical_grammar::{Piece, TokenKind};
+use lexical_grammar::{Scanned, TokenKind};
 use prima_base::limits::MAX_TEXT;
 
 fn is_digit(b: u8) -> bool
@@ -65,7 +65,7 @@ pub fn gap(bytes: &[u8]) -> usize
 
 // Where a text ends, from after its opening quote on.
 #[tactic(auto, unfolding(lexical_grammar::specs::Bytes::text_from), using(crate::proofs::Steps::dropped))]
-fn text_end(bytes: &[u8]) -> Piece
+fn text_end(bytes: &[u8]) -> Scanned
     ensures value { result ≡ spec.text_from 1 bytes.now }
     ensures within { spec.Within (length bytes.now + 1) result }
 {
@@ -76,15 +76,15 @@ fn text_end(bytes: &[u8]) -> Piece
                 // A doubled quote goes on.
                 i += 2;
             } else {
-                return Piece::Of(TokenKind::Text, i + 2);
+                return Scanned::Of(TokenKind::Text, i + 2);
             }
         } else if is_control(bytes[i]) {
-            return Piece::Bad(i + 1);
+            return Scanned::Bad(i + 1);
         } else {
             i += 1;
         }
     }
-    Piece::Open
+    Scanned::Open
 }
 
 // How many bytes a text stands for, from after its opening quote on.
@@ -110,17 +110,17 @@ fn text_size(bytes: &[u8]) -> usize
 }
 
 // The text after an opening quote.
-fn text_piece(bytes: &[u8]) -> Piece
+fn scanned_text(bytes: &[u8]) -> Scanned
     ensures value { result ≡ spec.sized (length (spec.text_value bytes.now))
         (spec.text_from 1 bytes.now) }
     ensures within { spec.Within (length bytes.now + 1) result }
 {
     match text_end(bytes) {
-        Piece::Of(kind, n) => {
+        Scanned::Of(kind, n) => {
             if text_size(bytes) > MAX_TEXT {
-                Piece::Long
+                Scanned::Long
             } else {
-                Piece::Of(kind, n)
+                Scanned::Of(kind, n)
             }
         }
         other => other,
@@ -167,18 +167,18 @@ fn digits_len(bytes: &[u8]) -> usize
 }
 
 // The number whose digits are these, so many bytes after its prefix.
-fn number_piece(negative: bool, signs: usize, bytes: &[u8]) -> Piece
+fn scanned_number(negative: bool, signs: usize, bytes: &[u8]) -> Scanned
     requires few { signs ≤ 1 }
     requires some { 0 < prefix_len base.is_digit bytes.now }
     requires room { length bytes.now < 2 ^ 62 }
-    ensures value { result ≡ spec.number_piece negative signs (spec.digits_of bytes.now) }
+    ensures value { result ≡ spec.scanned_number negative signs (spec.digits_of bytes.now) }
     ensures within { spec.Within (signs + length bytes.now) result }
 {
     let n = digits_len(bytes);
     if is_big(negative, &bytes[..n]) {
-        Piece::Big
+        Scanned::Big
     } else {
-        Piece::Of(TokenKind::Number, signs + n)
+        Scanned::Of(TokenKind::Number, signs + n)
     }
 }
 
@@ -195,13 +195,13 @@ fn first_of(bytes: &[u8]) -> u8
     if bytes.is_empty() { 0 } else { bytes[0] }
 }
 
-fn sign(first: u8, next: u8, len: usize) -> Piece
+fn sign(first: u8, next: u8, len: usize) -> Scanned
     requires { 0 < next → 0 < len }
     ensures value { result ≡ spec.sign first next }
     ensures within { spec.Within (len + 1) result }
 {
     if (first == b'<' && (next == b'=' || next == b'>')) || (first == b'>' && next == b'=') {
-        return Piece::Of(TokenKind::Sign, 2);
+        return Scanned::Of(TokenKind::Sign, 2);
     }
     if first == b'('
         || first == b')'
@@ -211,35 +211,35 @@ fn sign(first: u8, next: u8, len: usize) -> Piece
         || first == b'='
         || first == b'>'
     {
-        return Piece::Of(TokenKind::Sign, 1);
+        return Scanned::Of(TokenKind::Sign, 1);
     }
-    Piece::Bad(0)
+    Scanned::Bad(0)
 }
 
 /// The token at the start, as long as possible.
-#[tactic(auto, unfolding(lexical_grammar::specs::Bytes::piece_of))]
-pub fn piece_at(bytes: &[u8]) -> Piece
+#[tactic(auto, unfolding(lexical_grammar::specs::Bytes::scanned_from))]
+pub fn scan_at(bytes: &[u8]) -> Scanned
     requires { length bytes.now ≤ 1048576 }
-    ensures value { result ≡ spec.piece bytes.now }
+    ensures value { result ≡ spec.scanned bytes.now }
     ensures within { spec.Within (length bytes.now) result }
 {
     if bytes.is_empty() {
-        return Piece::End;
+        return Scanned::End;
     }
     let first = bytes[0];
     let rest = &bytes[1..];
     if is_word_start(first) {
-        return Piece::Of(TokenKind::Word, word_len(rest) + 1);
+        return Scanned::Of(TokenKind::Word, word_len(rest) + 1);
     }
     if is_digit(first) {
-        return number_piece(false, 0, bytes);
+        return scanned_number(false, 0, bytes);
     }
     if first == b'\'' {
-        return text_piece(rest);
+        return scanned_text(rest);
     }
     let next = first_of(rest);
     if first == b'-' && is_digit(next) {
-        return number_piece(true, 1, rest);
+        return scanned_number(true, 1, rest);
     }
     sign(first, next, rest.len())
 }

@@ -1,10 +1,10 @@
 use Rattle.std.proofs.Common.{length, ◌≡◌, ◌+◌, ◌≤◌, drop, ◌-◌}
 use Rattle.lexical_grammar.specs.Bytes as spec
-use Rattle.token_readers.proofs.piece.text_end.Given as goal
+use Rattle.token_readers.proofs.scanned.text_size.Given as goal
 
 abbrev pub invariant-loop-i : goal.invariant-loop-i
-invariant-loop-i l = (l.i ≤ length l.bytes) × (spec.text_from 1 l.bytes
-    ≡ spec.text_from (l.i + 1) (drop l.i l.bytes))
+invariant-loop-i l = (l.i ≤ length l.bytes) × (l.size ≤ l.i)
+    × (length (spec.text_value l.bytes) ≡ l.size + length (spec.text_value (drop l.i l.bytes)))
 
 abbrev pub decreases-loop-i : goal.decreases-loop-i
 decreases-loop-i l = length l.bytes - l.i
