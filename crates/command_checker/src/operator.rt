@@ -1,7 +1,6 @@
 //! Operators.
 
-ghost use Rattle.smo_types.specs.Operators.{create_table, partition_table, decompose_table};
-ghost use Rattle.smo_types.specs.Operators.{join_table, add_column};
+ghost use Rattle.smo_types.specs.Operators.{create_table, add_column};
 ghost use Rattle.command_spelling.specs.Reading.{map_to, pair};
 ghost use Rattle.command_spelling.specs.Reader as spec;
 ghost use Rattle.command_codec.specs.Reads.{Recognizes};
@@ -72,7 +71,7 @@ fn check_created_table(reader: &mut Reader<'_>) -> Result<(), Stop>
 
 // Goes over what stands after the tag of PARTITION TABLE.
 fn check_partitioned_table(reader: &mut Reader<'_>) -> Result<(), Stop>
-    ensures { Recognizes (map_to (λ x. partition_table x.0.0.0 x.0.0.1 x.0.1 x.1)
+    ensures { Recognizes (map_to spec.partitioned
         (pair (pair spec.two_names spec.outermost.cond) spec.name) reader.old.rest.now) result
         reader.new.rest.now }
 {
@@ -83,7 +82,7 @@ fn check_partitioned_table(reader: &mut Reader<'_>) -> Result<(), Stop>
 
 // Goes over what stands after the tag of DECOMPOSE TABLE.
 fn check_decomposed_table(reader: &mut Reader<'_>) -> Result<(), Stop>
-    ensures { Recognizes (map_to (λ x. decompose_table x.0.0.0.0 x.0.0.0.1 x.0.0.1 x.0.1 x.1)
+    ensures { Recognizes (map_to spec.decomposed
         (pair (pair (pair spec.two_names spec.names) spec.name) spec.names) reader.old.rest.now)
         result reader.new.rest.now }
 {
@@ -95,7 +94,7 @@ fn check_decomposed_table(reader: &mut Reader<'_>) -> Result<(), Stop>
 
 // Goes over what stands after the tag of JOIN TABLE.
 fn check_joined_table(reader: &mut Reader<'_>) -> Result<(), Stop>
-    ensures { Recognizes (map_to (λ x. join_table x.0.0.0 x.0.0.1 x.0.1 x.1)
+    ensures { Recognizes (map_to spec.joined_tables
         (pair spec.three_names spec.outermost.cond) reader.old.rest.now) result reader.new.rest.now }
 {
     check_three_names(reader)?;

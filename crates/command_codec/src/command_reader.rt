@@ -143,9 +143,5 @@ pub fn command(alloc: Global, reader: &mut Reader<'_>) -> Result<Command, Stop>
 {
     let stamp = reader.number(8, FOREVER - 1)?;
     let body = body(alloc, reader)?;
-    match Command::new(stamp, body) {
-        Some(command) => Ok(command),
-        // only `FOREVER` is no stamp, and no number so large was read
-        None => unreachable!(),
-    }
+    Ok(Command::of(stamp, body))
 }

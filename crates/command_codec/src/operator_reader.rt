@@ -1,8 +1,6 @@
 //! Reading operators.
 
-ghost use Rattle.smo_types.specs.Operators.{operator_of, operators_of, create_table, rename_table};
-ghost use Rattle.smo_types.specs.Operators.{copy_table, merge_table, partition_table};
-ghost use Rattle.smo_types.specs.Operators.{decompose_table, join_table, add_column, drop_column};
+ghost use Rattle.smo_types.specs.Operators.{operator_of, operators_of, create_table, add_column};
 ghost use Rattle.smo_types.specs.Operators.{rename_column};
 ghost use Rattle.command_spelling.specs.Reading.{map_to, pair};
 ghost use Rattle.command_spelling.specs.Reader as spec;
@@ -85,7 +83,7 @@ fn created_table(alloc: Global, reader: &mut Reader<'_>) -> Result<Op, Stop>
 
 // What stands after the tag of PARTITION TABLE.
 fn partitioned_table(alloc: Global, reader: &mut Reader<'_>) -> Result<Op, Stop>
-    ensures { Reads operator_of (map_to (λ x. partition_table x.0.0.0 x.0.0.1 x.0.1 x.1)
+    ensures { Reads operator_of (map_to spec.partitioned
         (pair (pair spec.two_names spec.outermost.cond) spec.name) reader.old.rest.now) result
         reader.new.rest.now }
 {
@@ -102,7 +100,7 @@ fn partitioned_table(alloc: Global, reader: &mut Reader<'_>) -> Result<Op, Stop>
 
 // What stands after the tag of DECOMPOSE TABLE.
 fn decomposed_table(alloc: Global, reader: &mut Reader<'_>) -> Result<Op, Stop>
-    ensures { Reads operator_of (map_to (λ x. decompose_table x.0.0.0.0 x.0.0.0.1 x.0.0.1 x.0.1 x.1)
+    ensures { Reads operator_of (map_to spec.decomposed
         (pair (pair (pair spec.two_names spec.names) spec.name) spec.names) reader.old.rest.now)
         result reader.new.rest.now }
 {
@@ -121,7 +119,7 @@ fn decomposed_table(alloc: Global, reader: &mut Reader<'_>) -> Result<Op, Stop>
 
 // What stands after the tag of JOIN TABLE.
 fn joined_table(alloc: Global, reader: &mut Reader<'_>) -> Result<Op, Stop>
-    ensures { Reads operator_of (map_to (λ x. join_table x.0.0.0 x.0.0.1 x.0.1 x.1)
+    ensures { Reads operator_of (map_to spec.joined_tables
         (pair spec.three_names spec.outermost.cond) reader.old.rest.now) result reader.new.rest.now }
 {
     let (left, right, into) = three_names(alloc, reader)?;

@@ -22,7 +22,8 @@ use Rattle.command_spelling.specs.Valid.{IsValue, IsWritableTree, IsWritableOper
 use Rattle.command_spelling.specs.Valid.{IsWritableChange, TreeNamed, OperatorNamed, ChangeNamed}
 use Rattle.command_spelling.specs.Valid.{IsTree, IsTest, IsOperator, IsChange, IsBody, IsCommand}
 use Rattle.command_spelling.specs.Reader.{up_to, name, value, column_type, outermost, column_of}
-use Rattle.command_spelling.specs.Reader.{columns, names, two_names, three_names, operator_arm}
+use Rattle.command_spelling.specs.Reader.{columns, names, two_names, three_names, partitioned}
+use Rattle.command_spelling.specs.Reader.{decomposed, joined_tables, operator_arm}
 use Rattle.command_spelling.specs.Reader.{operator, operators, cell, cells, set, sets, change_arm}
 use Rattle.command_spelling.specs.Reader.{change, changes, body_arm, body, a_command, command}
 use Rattle.command_spelling.proofs.Correctness.{retold, mapped_correct, pair_correct, ArmCorrect}
@@ -145,7 +146,7 @@ partition_parts = pair_correct (pair two_names outermost.cond) (λ x. Two x.0 ×
     (pair_correct two_names Two two_bytes outermost.cond IsTest test_bytes two_correct
     cond_correct_outermost) name_correct
 
-a_partition : MadeOf 6 Partition partition_bytes (λ x. partition_table x.0.0.0 x.0.0.1 x.0.1 x.1)
+a_partition : MadeOf 6 Partition partition_bytes partitioned
 a_partition x h = ((h.0.1.0, (h.0.0.0, h.0.0.1, h.0.1.1, h.1)), refl)
 
 abbrev Decompose : (((List ℕ × List ℕ) × List (List ℕ)) × List ℕ) × List (List ℕ) → Type 0
@@ -167,8 +168,7 @@ decompose_parts =
     (λ x. two_bytes x.0.0 ++ list_bytes 1 name_bytes x.0.1 ++ name_bytes x.1) names Names
     (list_bytes 1 name_bytes) second names_correct
 
-a_decompose : MadeOf 7 Decompose decompose_bytes
-    (λ x. decompose_table x.0.0.0.0 x.0.0.0.1 x.0.0.1 x.0.1 x.1)
+a_decompose : MadeOf 7 Decompose decompose_bytes decomposed
 a_decompose x h = (
   (
     ((let a = h.0.0.1.0 in omega (arith, a)), (let b = h.1.0 in omega (arith, b))),
@@ -187,7 +187,7 @@ join_parts : IsCorrectParser (pair three_names outermost.cond) Join join_bytes
 join_parts = pair_correct three_names Three three_bytes outermost.cond IsTest test_bytes
     three_correct cond_correct_outermost
 
-a_join : MadeOf 8 Join join_bytes (λ x. join_table x.0.0.0 x.0.0.1 x.0.1 x.1)
+a_join : MadeOf 8 Join join_bytes joined_tables
 a_join x h = ((h.1.0, (h.0.0.0, h.0.0.1, h.0.1, h.1.1)), refl)
 
 abbrev Add : (List ℕ × List ℕ) × Tree → Type 0
@@ -225,15 +225,13 @@ operator_arms (suc (suc (suc (suc (suc zero))))) t =
     IsOperator operator_bytes 5 a_merge
 operator_arms (suc (suc (suc (suc (suc (suc zero)))))) t =
     parts_correct (pair (pair two_names outermost.cond) name) Partition partition_bytes
-    partition_parts (λ x. partition_table x.0.0.0 x.0.0.1 x.0.1 x.1) IsOperator operator_bytes 6
-    a_partition
+    partition_parts partitioned IsOperator operator_bytes 6 a_partition
 operator_arms (suc (suc (suc (suc (suc (suc (suc zero))))))) t =
     parts_correct (pair (pair (pair two_names names) name) names) Decompose decompose_bytes
-    decompose_parts (λ x. decompose_table x.0.0.0.0 x.0.0.0.1 x.0.0.1 x.0.1 x.1) IsOperator
-    operator_bytes 7 a_decompose
+    decompose_parts decomposed IsOperator operator_bytes 7 a_decompose
 operator_arms (suc (suc (suc (suc (suc (suc (suc (suc zero)))))))) t =
     parts_correct (pair three_names outermost.cond) Join join_bytes join_parts
-    (λ x. join_table x.0.0.0 x.0.0.1 x.0.1 x.1) IsOperator operator_bytes 8 a_join
+    joined_tables IsOperator operator_bytes 8 a_join
 operator_arms (suc (suc (suc (suc (suc (suc (suc (suc (suc zero))))))))) t =
     parts_correct (pair two_names outermost.expr) Add add_bytes add_parts
     (λ x. add_column x.0.1 x.1 x.0.0) IsOperator operator_bytes 9 an_add
@@ -267,18 +265,17 @@ operator_again (merge_table r s t) h rest = parts_read three_names Three three_b
     ((h.1.0, h.1.1), h.1.2) rest
 operator_again (partition_table r s c t) h rest =
     parts_read (pair (pair two_names outermost.cond) name) Partition partition_bytes partition_parts
-    (λ x. partition_table x.0.0.0 x.0.0.1 x.0.1 x.1) IsOperator operator_bytes 6 a_partition
+    partitioned IsOperator operator_bytes 6 a_partition
     (((r, s), c), t) (((h.1.0, h.1.1), (h.0, h.1.2)), h.1.3) rest
 operator_again (decompose_table r s xs t ys) h rest =
     parts_read (pair (pair (pair two_names names) name) names) Decompose decompose_bytes
-    decompose_parts (λ x. decompose_table x.0.0.0.0 x.0.0.0.1 x.0.0.1 x.0.1 x.1) IsOperator
-    operator_bytes 7 a_decompose ((((r, s), xs), t), ys) (
+    decompose_parts decomposed IsOperator operator_bytes 7 a_decompose ((((r, s), xs), t), ys) (
       (((h.1.0, h.1.1), ((let a = h.0.0 in omega (arith, a)), h.1.2)), h.1.3),
       ((let b = h.0.1 in omega (arith, b)), h.1.4),
     ) rest
 operator_again (join_table r s t c) h rest = parts_read (pair three_names outermost.cond) Join
-    join_bytes join_parts (λ x. join_table x.0.0.0 x.0.0.1 x.0.1 x.1) IsOperator operator_bytes 8
-    a_join (((r, s), t), c) (((h.1.0, h.1.1), h.1.2), (h.0, h.1.3)) rest
+    join_bytes join_parts joined_tables IsOperator operator_bytes 8 a_join
+    (((r, s), t), c) (((h.1.0, h.1.1), h.1.2), (h.0, h.1.3)) rest
 operator_again (add_column c e r) h rest = parts_read (pair two_names outermost.expr) Add add_bytes
     add_parts (λ x. add_column x.0.1 x.1 x.0.0) IsOperator operator_bytes 9 an_add ((r, c), e)
     ((h.1.0, h.1.1), (h.0, h.1.2)) rest

@@ -149,6 +149,17 @@ two_names = pair name name
 unfoldable pub three_names : Parser ((List ℕ × List ℕ) × List ℕ)
 three_names = pair two_names name
 
+-- what is read after a tag, as its operator
+abbrev pub partitioned : ((List ℕ × List ℕ) × Test) × List ℕ → Operator
+partitioned (((table, met), cond), others) = partition_table table met cond others
+
+abbrev pub decomposed : (((List ℕ × List ℕ) × List (List ℕ)) × List ℕ) × List (List ℕ) → Operator
+decomposed ((((table, left), left_columns), right), right_columns) =
+    decompose_table table left left_columns right right_columns
+
+abbrev pub joined_tables : ((List ℕ × List ℕ) × List ℕ) × Test → Operator
+joined_tables (((left, right), into), cond) = join_table left right into cond
+
 abbrev pub operator_arm : ℕ → Parser Operator
 operator_arm tag =
     if tag == 0 then pure nop else
@@ -157,12 +168,9 @@ operator_arm tag =
     (if tag == 3 then map_to (λ x. rename_table x.0 x.1) two_names else
     (if tag == 4 then map_to (λ x. copy_table x.0 x.1) two_names else
     (if tag == 5 then map_to (λ x. merge_table x.0.0 x.0.1 x.1) three_names else
-    (if tag == 6 then map_to (λ x. partition_table x.0.0.0 x.0.0.1 x.0.1 x.1)
-    (pair (pair two_names outermost.cond) name) else
-    (if tag == 7 then map_to (λ x. decompose_table x.0.0.0.0 x.0.0.0.1 x.0.0.1 x.0.1 x.1)
-    (pair (pair (pair two_names names) name) names) else
-    (if tag == 8 then map_to (λ x. join_table x.0.0.0 x.0.0.1 x.0.1 x.1)
-    (pair three_names outermost.cond) else
+    (if tag == 6 then map_to partitioned (pair (pair two_names outermost.cond) name) else
+    (if tag == 7 then map_to decomposed (pair (pair (pair two_names names) name) names) else
+    (if tag == 8 then map_to joined_tables (pair three_names outermost.cond) else
     (if tag == 9 then map_to (λ x. add_column x.0.1 x.1 x.0.0) (pair two_names outermost.expr) else
     (if tag == 10 then map_to (λ x. drop_column x.1 x.0) two_names else
     map_to (λ x. rename_column x.0.1 x.0.0 x.1) three_names))))))))))

@@ -1,9 +1,9 @@
 use crate::restoration::{Cell, check_cells, columns_of};
 use crate::scan::KeyScan;
-use crate::table_heading::{column_place, copy_columns};
+use crate::table_heading::column_place;
 use column_log::{CellScan, Column};
 use given_row::GivenRow;
-use prima_base::{ColType, Name, NoMemory, Period, Row, Value};
+use prima_base::{ColType, Name, NoMemory, Period, Row, Value, copy_columns};
 use row_index::RowIndex;
 use row_order::{
     After, BorrowedRows, Change, Cut, change_index, copy_rows, count_before, few_of, find_change,

@@ -3,12 +3,13 @@ use Rattle.std.proofs.Common.{◌≡◌, ℕ, ◌+◌, List, [], ◌∷◌, map,
 use Rattle.std.proofs.Common.{sym, ap, ◌∙◌, subst}
 use Rattle.lexical_grammar.specs.declared.token.Token.{Token}
 use Rattle.lexical_grammar.specs.declared.kind.TokenKind.{TokenKind}
-use Rattle.lexical_grammar.specs.declared.piece.Piece.{Piece}
-use Rattle.lexical_grammar.specs.declared.piece.Piece.TheVariants.{End, Of, Bad, Open, Long, Big}
+use Rattle.lexical_grammar.specs.declared.scanned.Scanned.{Scanned}
+use Rattle.lexical_grammar.specs.declared.scanned.Scanned.TheVariants.{End, Of, Bad, Open, Long}
+use Rattle.lexical_grammar.specs.declared.scanned.Scanned.TheVariants.{Big}
 use Rattle.lexical_grammar.specs.declared.fault.LexFault.{LexFault}
 use Rattle.lexical_grammar.specs.Lexed.{Lexes, EndsBy, key, after_gap}
 
-ends_once : (at : ℕ) (p : Piece) (e f : Option LexFault) → EndsBy at p e → EndsBy at p f → e ≡ f
+ends_once : (at : ℕ) (p : Scanned) (e f : Option LexFault) → EndsBy at p e → EndsBy at p f → e ≡ f
 ends_once at End e f h k = h ∙ sym k
 ends_once at (Of kind n) e f h k = absurd h
 ends_once at (Bad n) e f h k = h ∙ sym k
@@ -16,9 +17,9 @@ ends_once at Open e f h k = h ∙ sym k
 ends_once at Long e f h k = h ∙ sym k
 ends_once at Big e f h k = h ∙ sym k
 
-no_end : {X : Type 0} (at : ℕ) (p : Piece) (kind : TokenKind) (n : ℕ) (e : Option LexFault)
+no_end : {X : Type 0} (at : ℕ) (p : Scanned) (kind : TokenKind) (n : ℕ) (e : Option LexFault)
     → p ≡ Of kind n → EndsBy at p e → X
-no_end at p kind n e h k = absurd (let P : Piece → Type 0 = λ q. EndsBy at q e in subst P h k)
+no_end at p kind n e h k = absurd (let P : Scanned → Type 0 = λ q. EndsBy at q e in subst P h k)
 
 same_of : (k l : TokenKind) (m n : ℕ) → Of k m ≡ Of l n → (k ≡ l) × (m ≡ n)
 same_of k l m n e = (cc, cc)

@@ -7,14 +7,15 @@ use Rattle.std.proofs.lemmas.Bool.Decides.{nat_tests}
 use Rattle.prima_base.specs.Bytes.{is_control, is_digit, is_name_byte}
 use Rattle.lexical_grammar.specs.declared.kind.TokenKind.{TokenKind}
 use Rattle.lexical_grammar.specs.declared.kind.TokenKind.TheVariants.{Word, Number, Text, Sign}
-use Rattle.lexical_grammar.specs.declared.piece.Piece.{Piece}
-use Rattle.lexical_grammar.specs.declared.piece.Piece.TheVariants.{End, Of, Bad, Open, Long, Big}
+use Rattle.lexical_grammar.specs.declared.scanned.Scanned.{Scanned}
+use Rattle.lexical_grammar.specs.declared.scanned.Scanned.TheVariants.{End, Of, Bad, Open, Long}
+use Rattle.lexical_grammar.specs.declared.scanned.Scanned.TheVariants.{Big}
 use Rattle.lexical_grammar.specs.declared.token.Token.{Token}
 use Rattle.lexical_grammar.specs.declared.fault.LexFault.{LexFault}
 use Rattle.lexical_grammar.specs.declared.fault.LexFault.TheVariants.{BadByte, OpenQuote, BigNumber}
 use Rattle.lexical_grammar.specs.declared.fault.LexFault.TheVariants.{LongText}
-use Rattle.lexical_grammar.specs.Bytes.{is_word_start, digits_of, number, number_piece, is_big}
-use Rattle.lexical_grammar.specs.Bytes.{text_value, text_from, sized, sign, piece_of, piece}
+use Rattle.lexical_grammar.specs.Bytes.{is_word_start, digits_of, number, scanned_number, is_big}
+use Rattle.lexical_grammar.specs.Bytes.{text_value, text_from, sized, sign, scanned_from, scanned}
 use Rattle.lexical_grammar.specs.Bytes.{gap_len}
 use Rattle.lexical_grammar.specs.Lexed.{Lexes, EndsBy, after_gap}
 use Rattle.lexical_grammar.specs.Spaced as s
@@ -56,7 +57,7 @@ run p (b ∷ l) = by_test (p b) (λ e. one_more p b l e (run p l))
     (λ e. let z : prefix_len p (b ∷ l) ≡ 0 = ap (λ t. cond t (1 + prefix_len p l) 0) e in
     ([], b ∷ l, refl, z, ap (λ k. take k (b ∷ l)) z, tt, e))
 
--- ---- what a piece's bytes are
+-- ---- what the bytes of what is scanned are
 
 -- the first n of these bytes are a token of the kind
 abbrev Shaped : TokenKind → ℕ → List ℕ → Type 0
@@ -95,7 +96,7 @@ great_enough n e = grind (arith, nat_tests)
 
 -- digits, of which there is one at least
 digit_shape : (b : ℕ) (bytes : List ℕ) (kind : TokenKind) (n : ℕ) → is_digit b ≡ true
-    → number_piece false 0 (digits_of (b ∷ bytes)) ≡ Of kind n → Shaped kind n (b ∷ bytes)
+    → scanned_number false 0 (digits_of (b ∷ bytes)) ≡ Of kind n → Shaped kind n (b ∷ bytes)
 unfolding one_more
 digit_shape b bytes kind n d e =
     let r = run is_digit bytes in
@@ -112,7 +113,7 @@ digit_shape b bytes kind n d e =
 
 minus_shape : (b : ℕ) (bytes : List ℕ) (kind : TokenKind) (n : ℕ)
     → (b == 45 && is_digit (get_or bytes 0 0)) ≡ true
-    → number_piece true 1 (digits_of bytes) ≡ Of kind n → Shaped kind n (b ∷ bytes)
+    → scanned_number true 1 (digits_of bytes) ≡ Of kind n → Shaped kind n (b ∷ bytes)
 unfolding one_more
 minus_shape b [] kind n m e = true_false (sym (and_right (b == 45) false m))
 minus_shape b (c ∷ bytes) kind n m e =
@@ -194,7 +195,7 @@ doubles k b c bytes kind n q r h =
     )
 
 -- how what stands after so many bytes of a literal ends
-abbrev TextEnds : ℕ → List ℕ → Piece → Type 0
+abbrev TextEnds : ℕ → List ℕ → Scanned → Type 0
 TextEnds k bytes (Of kind n) = Literal k bytes kind n
 TextEnds k bytes (Bad n) = (inner : List ℕ) × (c : ℕ) × (more : List ℕ)
     × (bytes ≡ inner ++ c ∷ more) × IsOpen inner × (is_control c ≡ true) × (n ≡ k + length inner)
@@ -210,7 +211,7 @@ two_quotes : (b c : ℕ) (bytes : List ℕ) → (b == 39) ≡ true → (c == 39)
 two_quotes b c bytes q r h = let P : ℕ → Type 0 = λ x. IsOpen (39 ∷ x ∷ bytes) in
     quote_open b (c ∷ bytes) q (subst P (sym (eqb-true c 39 r)) (s.a_quote_more bytes h))
 
-ends_on : (k b : ℕ) (bytes : List ℕ) (p : Piece) → (b == 39) ≡ false → is_control b ≡ false
+ends_on : (k b : ℕ) (bytes : List ℕ) (p : Scanned) → (b == 39) ≡ false → is_control b ≡ false
     → TextEnds (k + 1) bytes p → TextEnds k (b ∷ bytes) p
 ends_on k b bytes (Of kind n) q c h = goes_on k b bytes kind n q c h
 ends_on k b bytes (Bad n) q c h = (
@@ -227,7 +228,7 @@ ends_on k b bytes End q c h = h
 ends_on k b bytes Long q c h = h
 ends_on k b bytes Big q c h = h
 
-ends_doubled : (k b c : ℕ) (bytes : List ℕ) (p : Piece) → (b == 39) ≡ true → (c == 39) ≡ true
+ends_doubled : (k b c : ℕ) (bytes : List ℕ) (p : Scanned) → (b == 39) ≡ true → (c == 39) ≡ true
     → TextEnds (k + 2) bytes p → TextEnds k (b ∷ c ∷ bytes) p
 ends_doubled k b c bytes (Of kind n) q r h = doubles k b c bytes kind n q r h
 ends_doubled k b c bytes (Bad n) q r h = (
@@ -244,8 +245,8 @@ ends_doubled k b c bytes End q r h = h
 ends_doubled k b c bytes Long q r h = h
 ends_doubled k b c bytes Big q r h = h
 
-ends_as : (k : ℕ) (bytes : List ℕ) (p r : Piece) → p ≡ r → TextEnds k bytes r → TextEnds k bytes p
-ends_as k bytes p r e h = let P : Piece → Type 0 = λ x. TextEnds k bytes x in subst P (sym e) h
+ends_as : (k : ℕ) (bytes : List ℕ) (p r : Scanned) → p ≡ r → TextEnds k bytes r → TextEnds k bytes p
+ends_as k bytes p r e h = let P : Scanned → Type 0 = λ x. TextEnds k bytes x in subst P (sym e) h
 
 -- a control byte ends it
 stops_at : (k b : ℕ) (bytes : List ℕ) → is_control b ≡ true → TextEnds k (b ∷ bytes) (Bad k)
@@ -278,7 +279,7 @@ text_ends k (b ∷ c ∷ bytes) = by_test (b == 39)
 
 literal : (k : ℕ) (bytes : List ℕ) (kind : TokenKind) (n : ℕ) → text_from k bytes ≡ Of kind n
     → Literal k bytes kind n
-literal k bytes kind n e = let P : Piece → Type 0 = λ x. TextEnds k bytes x in
+literal k bytes kind n e = let P : Scanned → Type 0 = λ x. TextEnds k bytes x in
     subst P e (text_ends k bytes)
 
 short_enough : (n : ℕ) → nat_lt 4096 n ≡ false → n ≤ 4096
@@ -307,7 +308,7 @@ text_shape b bytes kind n q e =
 
 -- ---- signs
 
-abbrev single : ℕ → Piece
+abbrev single : ℕ → Scanned
 single b = cond (is_one_sign b) (Of Sign 1) (Bad 0)
 
 two_shape : (b c : ℕ) (bytes : List ℕ) → are_sign b c ≡ true → Shaped Sign 2 (b ∷ c ∷ bytes)
@@ -338,9 +339,9 @@ sign_shape b bytes kind n e = by_two bytes e
         (sym (ap (λ u. cond u (Of Sign 2) (single b)) t) ∙ f) (two_shape b c l t))
         (λ t. by_one (c ∷ l) t (sym (ap (λ u. cond u (Of Sign 2) (single b)) t) ∙ f))
 
--- ---- any piece
+-- ---- whatever is scanned
 
-pub shape : (bytes : List ℕ) (kind : TokenKind) (n : ℕ) → piece bytes ≡ Of kind n
+pub shape : (bytes : List ℕ) (kind : TokenKind) (n : ℕ) → scanned bytes ≡ Of kind n
     → Shaped kind n bytes
 shape [] kind n e = true_false (sym (ap is_of e))
 shape (b ∷ bytes) kind n e =
@@ -364,7 +365,7 @@ drop_prefix (x ∷ prefix) rest = drop_prefix prefix rest
 
 -- ---- faults
 
--- what ends the tokens where a piece is none
+-- what ends the tokens where no token is scanned
 by_none : (at : ℕ) (bytes : List ℕ) (e : Option LexFault) → e ≡ None → bytes ≡ []
     → EndsSo at bytes e
 by_none at bytes e n h = let P : Option LexFault
@@ -375,12 +376,12 @@ by_fault : (at : ℕ) (bytes : List ℕ) (e : Option LexFault) (f : LexFault) �
 by_fault at bytes e f n h = let P : Option LexFault
     → Type 0 = λ x. EndsSo at bytes x in subst P (sym n) h
 
-no_end : {X : Type 0} (at : ℕ) (p : Piece) (kind : TokenKind) (n : ℕ) (e : Option LexFault)
+no_end : {X : Type 0} (at : ℕ) (p : Scanned) (kind : TokenKind) (n : ℕ) (e : Option LexFault)
     → p ≡ Of kind n → EndsBy at p e → X
-no_end at p kind n e h k = absurd (let P : Piece → Type 0 = λ q. EndsBy at q e in subst P h k)
+no_end at p kind n e h k = absurd (let P : Scanned → Type 0 = λ q. EndsBy at q e in subst P h k)
 
-ends_by : (at : ℕ) (p r : Piece) (e : Option LexFault) → p ≡ r → EndsBy at p e → EndsBy at r e
-ends_by at p r e h k = let P : Piece → Type 0 = λ q. EndsBy at q e in subst P h k
+ends_by : (at : ℕ) (p r : Scanned) (e : Option LexFault) → p ≡ r → EndsBy at p e → EndsBy at r e
+ends_by at p r e h k = let P : Scanned → Type 0 = λ q. EndsBy at q e in subst P h k
 
 too_big : (n : ℕ) → is_big false n ≡ true → 18446744073709551615 < n
 too_big n e = grind (arith, nat_tests)
@@ -392,12 +393,12 @@ too_long : (n : ℕ) → nat_lt 4096 n ≡ true → 4096 < n
 too_long n e = grind (arith, nat_tests)
 
 digits_end : (at b : ℕ) (bytes : List ℕ) (e : Option LexFault) → is_digit b ≡ true
-    → EndsBy at (number_piece false 0 (digits_of (b ∷ bytes))) e → EndsSo at (b ∷ bytes) e
+    → EndsBy at (scanned_number false 0 (digits_of (b ∷ bytes))) e → EndsSo at (b ∷ bytes) e
 unfolding one_more
 digits_end at b bytes e d h = by_test (is_big false (number (digits_of (b ∷ bytes)))) big small
   where
     small : is_big false (number (digits_of (b ∷ bytes))) ≡ false → EndsSo at (b ∷ bytes) e
-    small f = no_end at (number_piece false 0 (digits_of (b ∷ bytes))) Number
+    small f = no_end at (scanned_number false 0 (digits_of (b ∷ bytes))) Number
         (0 + length (digits_of (b ∷ bytes))) e
         (ap (λ t. cond t Big (Of Number (0 + length (digits_of (b ∷ bytes))))) f) h
 
@@ -409,13 +410,13 @@ digits_end at b bytes e d h = by_test (is_big false (number (digits_of (b ∷ by
         let over : 18446744073709551615 < number (b ∷ r.0) =
         too_big (number (b ∷ r.0)) (sym (ap (λ l. is_big false (number l)) same) ∙ f) in
         by_fault at (b ∷ bytes) e (BigNumber at)
-        (ends_by at (number_piece false 0 (digits_of (b ∷ bytes))) Big e
+        (ends_by at (scanned_number false 0 (digits_of (b ∷ bytes))) Big e
         (ap (λ t. cond t Big (Of Number (0 + length (digits_of (b ∷ bytes))))) f) h)
         (b, r.0, r.1, (d, r.5), r.6, refl, inl (o.2, over))
 
 minus_end : (at b : ℕ) (bytes : List ℕ) (e : Option LexFault)
     → (b == 45 && is_digit (get_or bytes 0 0)) ≡ true
-    → EndsBy at (number_piece true 1 (digits_of bytes)) e → EndsSo at (b ∷ bytes) e
+    → EndsBy at (scanned_number true 1 (digits_of bytes)) e → EndsSo at (b ∷ bytes) e
 unfolding one_more
 minus_end at b [] e m h = true_false (sym (and_right (b == 45) false m))
 minus_end at b (c ∷ bytes) e m h = by_test (is_big true (number (digits_of (c ∷ bytes)))) big small
@@ -424,7 +425,7 @@ minus_end at b (c ∷ bytes) e m h = by_test (is_big true (number (digits_of (c 
     d = and_right (b == 45) (is_digit c) m
 
     small : is_big true (number (digits_of (c ∷ bytes))) ≡ false → EndsSo at (b ∷ c ∷ bytes) e
-    small f = no_end at (number_piece true 1 (digits_of (c ∷ bytes))) Number
+    small f = no_end at (scanned_number true 1 (digits_of (c ∷ bytes))) Number
         (1 + length (digits_of (c ∷ bytes))) e
         (ap (λ t. cond t Big (Of Number (1 + length (digits_of (c ∷ bytes))))) f) h
 
@@ -437,7 +438,7 @@ minus_end at b (c ∷ bytes) e m h = by_test (is_big true (number (digits_of (c 
         too_low (number (c ∷ r.0)) (sym (ap (λ l. is_big true (number l)) same) ∙ f) in
         let dash : b ≡ 45 = eqb-true b 45 (and_left (b == 45) (is_digit c) m) in
         by_fault at (b ∷ c ∷ bytes) e (BigNumber at)
-        (ends_by at (number_piece true 1 (digits_of (c ∷ bytes))) Big e
+        (ends_by at (scanned_number true 1 (digits_of (c ∷ bytes))) Big e
         (ap (λ t. cond t Big (Of Number (1 + length (digits_of (c ∷ bytes))))) f) h) (
           c,
           r.0,
@@ -451,7 +452,7 @@ minus_end at b (c ∷ bytes) e m h = by_test (is_big true (number (digits_of (c 
 
 text_end : (at b : ℕ) (bytes : List ℕ) (e : Option LexFault) → (b == 39) ≡ true
     → EndsBy at (sized (length (text_value bytes)) (text_from 1 bytes)) e → EndsSo at (b ∷ bytes) e
-text_end at b bytes e q h = by_piece (text_from 1 bytes) (text_ends 1 bytes) h
+text_end at b bytes e q h = by_scanned (text_from 1 bytes) (text_ends 1 bytes) h
   where
     quote : b ≡ 39
     quote = eqb-true b 39 q
@@ -469,15 +470,15 @@ text_end at b bytes e q h = by_piece (text_from 1 bytes) (text_ends 1 bytes) h
       refl,
     )
 
-    by_piece : (p : Piece) → TextEnds 1 bytes p → EndsBy at (sized (length (text_value bytes)) p) e
+    by_scanned : (p : Scanned) → TextEnds 1 bytes p → EndsBy at (sized (length (text_value bytes)) p) e
         → EndsSo at (b ∷ bytes) e
-    by_piece (Of kind n) t k = by_test (nat_lt 4096 (length (text_value bytes)))
+    by_scanned (Of kind n) t k = by_test (nat_lt 4096 (length (text_value bytes)))
         (λ f. by_fault at (b ∷ bytes) e (LongText at)
         (ends_by at (cond (nat_lt 4096 (length (text_value bytes))) Long (Of kind n)) Long e
         (ap (λ u. cond u Long (Of kind n)) f) k) (long kind n t f))
         (λ f. no_end at (cond (nat_lt 4096 (length (text_value bytes))) Long (Of kind n)) kind n e
         (ap (λ u. cond u Long (Of kind n)) f) k)
-    by_piece (Bad n) t k = by_fault at (b ∷ bytes) e (BadByte (at + n)) k
+    by_scanned (Bad n) t k = by_fault at (b ∷ bytes) e (BadByte (at + n)) k
         (inr (
           t.0,
           t.1,
@@ -487,11 +488,11 @@ text_end at b bytes e q h = by_piece (text_from 1 bytes) (text_ends 1 bytes) h
           t.5,
           omega (arith, t.6),
         ))
-    by_piece Open t k = by_fault at (b ∷ bytes) e (OpenQuote at) k
+    by_scanned Open t k = by_fault at (b ∷ bytes) e (OpenQuote at) k
         (bytes, ap (λ x. x ∷ bytes) quote, t, refl)
-    by_piece End t k = absurd t
-    by_piece Long t k = absurd t
-    by_piece Big t k = absurd t
+    by_scanned End t k = absurd t
+    by_scanned Long t k = absurd t
+    by_scanned Big t k = absurd t
 
 sign_end : (at b : ℕ) (bytes : List ℕ) (e : Option LexFault) → is_word_start b ≡ false
     → is_digit b ≡ false → (b == 39) ≡ false → (b == 45 && is_digit (get_or bytes 0 0)) ≡ false
@@ -508,22 +509,22 @@ sign_end at b bytes e w d q m h = by_test (are_sign b (get_or bytes 0 0))
         (ends_by at (single b) (Bad 0) e (ap (λ u. cond u (Of Sign 1) (Bad 0)) t) k)
         (inl (omega arith, (w, d, q, t, m))))
 
-ends : (at : ℕ) (bytes : List ℕ) (e : Option LexFault) → EndsBy at (piece bytes) e
+ends : (at : ℕ) (bytes : List ℕ) (e : Option LexFault) → EndsBy at (scanned bytes) e
     → EndsSo at bytes e
 ends at [] e h = by_none at [] e h refl
 ends at (b ∷ bytes) e h =
-    by_test (is_word_start b) (λ w. no_end at (piece_of b bytes) Word
+    by_test (is_word_start b) (λ w. no_end at (scanned_from b bytes) Word
     (prefix_len is_name_byte bytes + 1) e (at_word b bytes w) h) (λ w.
     by_test (is_digit b) (λ d. digits_end at b bytes e d
-    (ends_by at (piece_of b bytes) (number_piece false 0 (digits_of (b ∷ bytes))) e
+    (ends_by at (scanned_from b bytes) (scanned_number false 0 (digits_of (b ∷ bytes))) e
     (at_digit b bytes w d) h)) (λ d.
     by_test (b == 39) (λ q. text_end at b bytes e q
-    (ends_by at (piece_of b bytes) (sized (length (text_value bytes)) (text_from 1 bytes)) e
+    (ends_by at (scanned_from b bytes) (sized (length (text_value bytes)) (text_from 1 bytes)) e
     (at_quote b bytes w d q) h)) (λ q.
     by_test (b == 45 && is_digit (get_or bytes 0 0))
-    (λ m. minus_end at b bytes e m (ends_by at (piece_of b bytes)
-    (number_piece true 1 (digits_of bytes)) e (at_minus b bytes w d q m) h)) (λ m.
-    sign_end at b bytes e w d q m (ends_by at (piece_of b bytes) (sign b (get_or bytes 0 0)) e
+    (λ m. minus_end at b bytes e m (ends_by at (scanned_from b bytes)
+    (scanned_number true 1 (digits_of bytes)) e (at_minus b bytes w d q m) h)) (λ m.
+    sign_end at b bytes e w d q m (ends_by at (scanned_from b bytes) (sign b (get_or bytes 0 0)) e
     (at_sign b bytes w d q m) h)))))
 
 -- ---- a whole text

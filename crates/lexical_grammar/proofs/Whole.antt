@@ -7,19 +7,20 @@ use Rattle.std.proofs.lemmas.List.Folds.{length-prefix_len}
 use Rattle.prima_base.specs.Bytes.{is_control, is_digit, is_name_byte}
 use Rattle.lexical_grammar.specs.declared.kind.TokenKind.{TokenKind}
 use Rattle.lexical_grammar.specs.declared.kind.TokenKind.TheVariants.{Word, Number, Text, Sign}
-use Rattle.lexical_grammar.specs.declared.piece.Piece.{Piece}
-use Rattle.lexical_grammar.specs.declared.piece.Piece.TheVariants.{End, Of, Bad, Open, Long, Big}
-use Rattle.lexical_grammar.specs.Bytes.{is_word_start, digits_of, number, number_piece, is_big}
+use Rattle.lexical_grammar.specs.declared.scanned.Scanned.{Scanned}
+use Rattle.lexical_grammar.specs.declared.scanned.Scanned.TheVariants.{End, Of, Bad, Open, Long}
+use Rattle.lexical_grammar.specs.declared.scanned.Scanned.TheVariants.{Big}
+use Rattle.lexical_grammar.specs.Bytes.{is_word_start, digits_of, number, scanned_number, is_big}
 use Rattle.lexical_grammar.specs.Bytes.{text_value, quote_value, text_from, text_quote, sized, sign}
-use Rattle.lexical_grammar.specs.Bytes.{piece_of, piece}
+use Rattle.lexical_grammar.specs.Bytes.{scanned_from, scanned}
 use Rattle.lexical_grammar.proofs.Cases.{true_false, by_test}
 use Rattle.lexical_grammar.proofs.Cuts.{take_whole}
 
-abbrev pub len_of : Piece → ℕ
+abbrev pub len_of : Scanned → ℕ
 len_of (Of kind n) = n
 len_of _ = 0
 
-abbrev pub is_of : Piece → Bool
+abbrev pub is_of : Scanned → Bool
 is_of (Of kind n) = true
 is_of _ = false
 
@@ -46,90 +47,90 @@ digits_step : (b : ℕ) (bytes : List ℕ) → is_digit b ≡ true
     → digits_of (b ∷ bytes) ≡ b ∷ digits_of bytes
 digits_step b bytes e = ap (λ k. take k (b ∷ bytes)) (prefix_step is_digit b bytes e)
 
--- ---- the cases of a piece
+-- ---- the cases of what is scanned
 
 module _ (b : ℕ) (bytes : List ℕ) where
-  pub at_word : is_word_start b ≡ true → piece_of b bytes
+  pub at_word : is_word_start b ≡ true → scanned_from b bytes
       ≡ Of Word (prefix_len is_name_byte bytes + 1)
-  unfolding piece_of
+  unfolding scanned_from
   at_word e = ap (λ t. cond t (Of Word (prefix_len is_name_byte bytes + 1))
-      (cond (is_digit b) (number_piece false 0 (digits_of (b ∷ bytes)))
+      (cond (is_digit b) (scanned_number false 0 (digits_of (b ∷ bytes)))
       (cond (b == 39) (sized (length (text_value bytes)) (text_from 1 bytes))
-      (cond (b == 45 && is_digit (get_or bytes 0 0)) (number_piece true 1 (digits_of bytes))
+      (cond (b == 45 && is_digit (get_or bytes 0 0)) (scanned_number true 1 (digits_of bytes))
       (sign b (get_or bytes 0 0)))))) e
 
   pub at_digit : is_word_start b ≡ false → is_digit b ≡ true
-      → piece_of b bytes ≡ number_piece false 0 (digits_of (b ∷ bytes))
-  unfolding piece_of
+      → scanned_from b bytes ≡ scanned_number false 0 (digits_of (b ∷ bytes))
+  unfolding scanned_from
   at_digit e f = ap (λ t. cond t (Of Word (prefix_len is_name_byte bytes + 1))
-      (cond (is_digit b) (number_piece false 0 (digits_of (b ∷ bytes)))
+      (cond (is_digit b) (scanned_number false 0 (digits_of (b ∷ bytes)))
       (cond (b == 39) (sized (length (text_value bytes)) (text_from 1 bytes))
-      (cond (b == 45 && is_digit (get_or bytes 0 0)) (number_piece true 1 (digits_of bytes))
+      (cond (b == 45 && is_digit (get_or bytes 0 0)) (scanned_number true 1 (digits_of bytes))
       (sign b (get_or bytes 0 0)))))) e
-      ∙ ap (λ t. cond t (number_piece false 0 (digits_of (b ∷ bytes)))
+      ∙ ap (λ t. cond t (scanned_number false 0 (digits_of (b ∷ bytes)))
       (cond (b == 39) (sized (length (text_value bytes)) (text_from 1 bytes))
-      (cond (b == 45 && is_digit (get_or bytes 0 0)) (number_piece true 1 (digits_of bytes))
+      (cond (b == 45 && is_digit (get_or bytes 0 0)) (scanned_number true 1 (digits_of bytes))
       (sign b (get_or bytes 0 0))))) f
 
   pub at_quote : is_word_start b ≡ false → is_digit b ≡ false → (b == 39) ≡ true
-      → piece_of b bytes ≡ sized (length (text_value bytes)) (text_from 1 bytes)
-  unfolding piece_of
+      → scanned_from b bytes ≡ sized (length (text_value bytes)) (text_from 1 bytes)
+  unfolding scanned_from
   at_quote e f g = ap (λ t. cond t (Of Word (prefix_len is_name_byte bytes + 1))
-      (cond (is_digit b) (number_piece false 0 (digits_of (b ∷ bytes)))
+      (cond (is_digit b) (scanned_number false 0 (digits_of (b ∷ bytes)))
       (cond (b == 39) (sized (length (text_value bytes)) (text_from 1 bytes))
-      (cond (b == 45 && is_digit (get_or bytes 0 0)) (number_piece true 1 (digits_of bytes))
+      (cond (b == 45 && is_digit (get_or bytes 0 0)) (scanned_number true 1 (digits_of bytes))
       (sign b (get_or bytes 0 0)))))) e
-      ∙ ap (λ t. cond t (number_piece false 0 (digits_of (b ∷ bytes)))
+      ∙ ap (λ t. cond t (scanned_number false 0 (digits_of (b ∷ bytes)))
       (cond (b == 39) (sized (length (text_value bytes)) (text_from 1 bytes))
-      (cond (b == 45 && is_digit (get_or bytes 0 0)) (number_piece true 1 (digits_of bytes))
+      (cond (b == 45 && is_digit (get_or bytes 0 0)) (scanned_number true 1 (digits_of bytes))
       (sign b (get_or bytes 0 0))))) f
       ∙ ap (λ t. cond t (sized (length (text_value bytes)) (text_from 1 bytes))
-      (cond (b == 45 && is_digit (get_or bytes 0 0)) (number_piece true 1 (digits_of bytes))
+      (cond (b == 45 && is_digit (get_or bytes 0 0)) (scanned_number true 1 (digits_of bytes))
       (sign b (get_or bytes 0 0)))) g
 
   pub at_minus : is_word_start b ≡ false → is_digit b ≡ false → (b == 39) ≡ false
       → (b == 45 && is_digit (get_or bytes 0 0)) ≡ true
-      → piece_of b bytes ≡ number_piece true 1 (digits_of bytes)
-  unfolding piece_of
+      → scanned_from b bytes ≡ scanned_number true 1 (digits_of bytes)
+  unfolding scanned_from
   at_minus e f g m = ap (λ t. cond t (Of Word (prefix_len is_name_byte bytes + 1))
-      (cond (is_digit b) (number_piece false 0 (digits_of (b ∷ bytes)))
+      (cond (is_digit b) (scanned_number false 0 (digits_of (b ∷ bytes)))
       (cond (b == 39) (sized (length (text_value bytes)) (text_from 1 bytes))
-      (cond (b == 45 && is_digit (get_or bytes 0 0)) (number_piece true 1 (digits_of bytes))
+      (cond (b == 45 && is_digit (get_or bytes 0 0)) (scanned_number true 1 (digits_of bytes))
       (sign b (get_or bytes 0 0)))))) e
-      ∙ ap (λ t. cond t (number_piece false 0 (digits_of (b ∷ bytes)))
+      ∙ ap (λ t. cond t (scanned_number false 0 (digits_of (b ∷ bytes)))
       (cond (b == 39) (sized (length (text_value bytes)) (text_from 1 bytes))
-      (cond (b == 45 && is_digit (get_or bytes 0 0)) (number_piece true 1 (digits_of bytes))
+      (cond (b == 45 && is_digit (get_or bytes 0 0)) (scanned_number true 1 (digits_of bytes))
       (sign b (get_or bytes 0 0))))) f
       ∙ ap (λ t. cond t (sized (length (text_value bytes)) (text_from 1 bytes))
-      (cond (b == 45 && is_digit (get_or bytes 0 0)) (number_piece true 1 (digits_of bytes))
+      (cond (b == 45 && is_digit (get_or bytes 0 0)) (scanned_number true 1 (digits_of bytes))
       (sign b (get_or bytes 0 0)))) g
-      ∙ ap (λ t. cond t (number_piece true 1 (digits_of bytes)) (sign b (get_or bytes 0 0))) m
+      ∙ ap (λ t. cond t (scanned_number true 1 (digits_of bytes)) (sign b (get_or bytes 0 0))) m
 
   pub at_sign : is_word_start b ≡ false → is_digit b ≡ false → (b == 39) ≡ false
       → (b == 45 && is_digit (get_or bytes 0 0)) ≡ false
-      → piece_of b bytes ≡ sign b (get_or bytes 0 0)
-  unfolding piece_of
+      → scanned_from b bytes ≡ sign b (get_or bytes 0 0)
+  unfolding scanned_from
   at_sign e f g m = ap (λ t. cond t (Of Word (prefix_len is_name_byte bytes + 1))
-      (cond (is_digit b) (number_piece false 0 (digits_of (b ∷ bytes)))
+      (cond (is_digit b) (scanned_number false 0 (digits_of (b ∷ bytes)))
       (cond (b == 39) (sized (length (text_value bytes)) (text_from 1 bytes))
-      (cond (b == 45 && is_digit (get_or bytes 0 0)) (number_piece true 1 (digits_of bytes))
+      (cond (b == 45 && is_digit (get_or bytes 0 0)) (scanned_number true 1 (digits_of bytes))
       (sign b (get_or bytes 0 0)))))) e
-      ∙ ap (λ t. cond t (number_piece false 0 (digits_of (b ∷ bytes)))
+      ∙ ap (λ t. cond t (scanned_number false 0 (digits_of (b ∷ bytes)))
       (cond (b == 39) (sized (length (text_value bytes)) (text_from 1 bytes))
-      (cond (b == 45 && is_digit (get_or bytes 0 0)) (number_piece true 1 (digits_of bytes))
+      (cond (b == 45 && is_digit (get_or bytes 0 0)) (scanned_number true 1 (digits_of bytes))
       (sign b (get_or bytes 0 0))))) f
       ∙ ap (λ t. cond t (sized (length (text_value bytes)) (text_from 1 bytes))
-      (cond (b == 45 && is_digit (get_or bytes 0 0)) (number_piece true 1 (digits_of bytes))
+      (cond (b == 45 && is_digit (get_or bytes 0 0)) (scanned_number true 1 (digits_of bytes))
       (sign b (get_or bytes 0 0)))) g
-      ∙ ap (λ t. cond t (number_piece true 1 (digits_of bytes)) (sign b (get_or bytes 0 0))) m
+      ∙ ap (λ t. cond t (scanned_number true 1 (digits_of bytes)) (sign b (get_or bytes 0 0))) m
 
 -- ---- each again
 
 abbrev Again : ℕ → List ℕ → TokenKind → ℕ → Type 0
-Again b bytes kind n = piece (take n (b ∷ bytes)) ≡ Of kind n
+Again b bytes kind n = scanned (take n (b ∷ bytes)) ≡ Of kind n
 
 number_len : (negative : Bool) (signs : ℕ) (digits : List ℕ) (kind : TokenKind) (n : ℕ)
-    → number_piece negative signs digits ≡ Of kind n → n ≡ signs + length digits
+    → scanned_number negative signs digits ≡ Of kind n → n ≡ signs + length digits
 number_len negative signs digits kind n e = by_big (is_big negative (number digits)) e
   where
     by_big : (t : Bool) → cond t Big (Of Number (signs + length digits)) ≡ Of kind n
@@ -138,18 +139,18 @@ number_len negative signs digits kind n e = by_big (is_big negative (number digi
     by_big false h = sym (ap len_of h)
 
 word_again : (b : ℕ) (bytes : List ℕ) (kind : TokenKind) (n : ℕ) → is_word_start b ≡ true
-    → piece_of b bytes ≡ Of kind n → Again b bytes kind n
+    → scanned_from b bytes ≡ Of kind n → Again b bytes kind n
 word_again b bytes kind n w e =
     let is : Of Word (prefix_len is_name_byte bytes + 1) ≡ Of kind n = sym (at_word b bytes w)
     ∙ e in
     let same : prefix_len is_name_byte bytes + 1 ≡ n = ap len_of is in
     let len : n ≡ suc (prefix_len is_name_byte bytes) = omega (arith, same) in
-    ap (λ k. piece (take k (b ∷ bytes))) len
+    ap (λ k. scanned (take k (b ∷ bytes))) len
     ∙ at_word b (take (prefix_len is_name_byte bytes) bytes) w
     ∙ ap (λ k. Of Word (k + 1)) (prefix_again is_name_byte bytes) ∙ is
 
 digit_again : (b : ℕ) (bytes : List ℕ) (kind : TokenKind) (n : ℕ) → is_word_start b ≡ false
-    → is_digit b ≡ true → piece_of b bytes ≡ Of kind n → Again b bytes kind n
+    → is_digit b ≡ true → scanned_from b bytes ≡ Of kind n → Again b bytes kind n
 digit_again b bytes kind n w d e =
     let is = sym (at_digit b bytes w d) ∙ e in
     let len : n ≡ prefix_len is_digit (b ∷ bytes) =
@@ -158,9 +159,9 @@ digit_again b bytes kind n w d e =
       number_len false 0 (digits_of (b ∷ bytes)) kind n is,
       length-prefix_len is_digit (b ∷ bytes),
     ) in
-    ap (λ k. piece (take k (b ∷ bytes))) len ∙ ap piece (digits_step b bytes d)
+    ap (λ k. scanned (take k (b ∷ bytes))) len ∙ ap scanned (digits_step b bytes d)
     ∙ at_digit b (digits_of bytes) w d
-    ∙ ap (number_piece false 0) (ap digits_of (sym (digits_step b bytes d))
+    ∙ ap (scanned_number false 0) (ap digits_of (sym (digits_step b bytes d))
     ∙ digits_again (b ∷ bytes)) ∙ is
 
 -- the next byte is a digit after the digits too
@@ -182,7 +183,7 @@ and_both a b e f = ap (λ t. t && b) e ∙ f
 
 minus_again : (b : ℕ) (bytes : List ℕ) (kind : TokenKind) (n : ℕ) → is_word_start b ≡ false
     → is_digit b ≡ false → (b == 39) ≡ false → (b == 45 && is_digit (get_or bytes 0 0)) ≡ true
-    → piece_of b bytes ≡ Of kind n → Again b bytes kind n
+    → scanned_from b bytes ≡ Of kind n → Again b bytes kind n
 minus_again b bytes kind n w d q m e =
     let is = sym (at_minus b bytes w d q m) ∙ e in
     let len : n ≡ suc (prefix_len is_digit bytes) =
@@ -191,12 +192,12 @@ minus_again b bytes kind n w d q m e =
       number_len true 1 (digits_of bytes) kind n is,
       length-prefix_len is_digit bytes,
     ) in
-    ap (λ k. piece (take k (b ∷ bytes))) len
+    ap (λ k. scanned (take k (b ∷ bytes))) len
     ∙ at_minus b (digits_of bytes) w d q (and_both (b == 45)
     (is_digit (get_or (digits_of bytes) 0 0))
     (and_left (b == 45) (is_digit (get_or bytes 0 0)) m)
     (next_digit bytes (and_right (b == 45) (is_digit (get_or bytes 0 0)) m)))
-    ∙ ap (number_piece true 1) (digits_again bytes) ∙ is
+    ∙ ap (scanned_number true 1) (digits_again bytes) ∙ is
 
 -- what ends a text is within it, and tells what it stands for
 abbrev TextWithin : ℕ → List ℕ → TokenKind → ℕ → Type 0
@@ -312,7 +313,7 @@ text_within k (b ∷ c ∷ bytes) kind n e = by_test (b == 39)
     (λ f. within_longer k b c bytes kind n q f
     (text_within (k + 1) (c ∷ bytes) kind n (sym (plain_step k b (c ∷ bytes) q f) ∙ e))))
 
-pub sized_of : (size : ℕ) (p : Piece) (kind : TokenKind) (n : ℕ) → sized size p ≡ Of kind n
+pub sized_of : (size : ℕ) (p : Scanned) (kind : TokenKind) (n : ℕ) → sized size p ≡ Of kind n
     → (p ≡ Of kind n) × (nat_lt 4096 size ≡ false)
 sized_of size (Of k m) kind n e = by_size (nat_lt 4096 size) e
   where
@@ -326,13 +327,13 @@ sized_of size Long kind n e = true_false (sym (ap is_of e))
 sized_of size Big kind n e = true_false (sym (ap is_of e))
 
 text_again : (b : ℕ) (bytes : List ℕ) (kind : TokenKind) (n : ℕ) → is_word_start b ≡ false
-    → is_digit b ≡ false → (b == 39) ≡ true → piece_of b bytes ≡ Of kind n → Again b bytes kind n
+    → is_digit b ≡ false → (b == 39) ≡ true → scanned_from b bytes ≡ Of kind n → Again b bytes kind n
 text_again b bytes kind n w d q e =
     let is = sym (at_quote b bytes w d q) ∙ e in
     let s = sized_of (length (text_value bytes)) (text_from 1 bytes) kind n is in
     let h = text_within 1 bytes kind n s.0 in
     let len : n ≡ suc h.0 = omega (arith, h.1) in
-    ap (λ k. piece (take k (b ∷ bytes))) len
+    ap (λ k. scanned (take k (b ∷ bytes))) len
     ∙ at_quote b (take h.0 bytes) w d q
     ∙ ap (λ v. sized (length v) (text_from 1 (take h.0 bytes))) h.3
     ∙ ap (sized (length (text_value bytes))) (h.2 ∙ sym s.0) ∙ is
@@ -344,8 +345,8 @@ or_true true b e f g = f refl
 or_true false b e f g = g e
 
 one_sign : (b : ℕ) → (b == 40 || (b == 41 || (b == 44
-    || (b == 46 || (b == 60 || (b == 61 || b == 62)))))) ≡ true → piece (b ∷ []) ≡ Of Sign 1
-unfolding piece_of
+    || (b == 46 || (b == 60 || (b == 61 || b == 62)))))) ≡ true → scanned (b ∷ []) ≡ Of Sign 1
+unfolding scanned_from
 one_sign b h =
     or_true (b == 40) (b == 41 || (b == 44 || (b == 46 || (b == 60 || (b == 61 || b == 62))))) h
     (at 40 refl) (λ h.
@@ -356,14 +357,14 @@ one_sign b h =
     or_true (b == 60) (b == 61 || b == 62) h (at 60 refl) (λ h.
     or_true (b == 61) (b == 62) h (at 61 refl) (at 62 refl))))))
   where
-    at : (s : ℕ) → piece (s ∷ []) ≡ Of Sign 1 → (b == s) ≡ true → piece (b ∷ []) ≡ Of Sign 1
-    at s e t = ap (λ x. piece (x ∷ [])) (eqb-true b s t) ∙ e
+    at : (s : ℕ) → scanned (s ∷ []) ≡ Of Sign 1 → (b == s) ≡ true → scanned (b ∷ []) ≡ Of Sign 1
+    at s e t = ap (λ x. scanned (x ∷ [])) (eqb-true b s t) ∙ e
 
 abbrev is_two : ℕ → ℕ → Bool
 is_two b c = (b == 60 && (c == 61 || c == 62)) || (b == 62 && c == 61)
 
-two_sign : (b c : ℕ) → is_two b c ≡ true → piece (b ∷ c ∷ []) ≡ Of Sign 2
-unfolding piece_of
+two_sign : (b c : ℕ) → is_two b c ≡ true → scanned (b ∷ c ∷ []) ≡ Of Sign 2
+unfolding scanned_from
 two_sign b c h =
     or_true (b == 60 && (c == 61 || c == 62)) (b == 62 && c == 61) h
     (λ h. or_true (c == 61) (c == 62) (and_right (b == 60) (c == 61 || c == 62) h)
@@ -371,10 +372,10 @@ two_sign b c h =
     (at 60 62 refl (and_left (b == 60) (c == 61 || c == 62) h)))
     (λ h. at 62 61 refl (and_left (b == 62) (c == 61) h) (and_right (b == 62) (c == 61) h))
   where
-    at : (s t : ℕ) → piece (s ∷ t ∷ []) ≡ Of Sign 2 → (b == s) ≡ true → (c == t) ≡ true
-        → piece (b ∷ c ∷ []) ≡ Of Sign 2
-    at s t e x y = ap (λ u. piece (u ∷ c ∷ [])) (eqb-true b s x)
-        ∙ ap (λ u. piece (s ∷ u ∷ [])) (eqb-true c t y) ∙ e
+    at : (s t : ℕ) → scanned (s ∷ t ∷ []) ≡ Of Sign 2 → (b == s) ≡ true → (c == t) ≡ true
+        → scanned (b ∷ c ∷ []) ≡ Of Sign 2
+    at s t e x y = ap (λ u. scanned (u ∷ c ∷ [])) (eqb-true b s x)
+        ∙ ap (λ u. scanned (s ∷ u ∷ [])) (eqb-true c t y) ∙ e
 
 two_next : (b : ℕ) (bytes : List ℕ) → is_two b (get_or bytes 0 0) ≡ true → Again b bytes Sign 2
 two_next b [] h = or_true (b == 60 && false) (b == 62 && false) h
@@ -382,7 +383,7 @@ two_next b [] h = or_true (b == 60 && false) (b == 62 && false) h
     (λ h. true_false (sym (and_right (b == 62) false h)))
 two_next b (c ∷ bytes) h = two_sign b c h
 
-abbrev one_of : Bool → Piece
+abbrev one_of : Bool → Scanned
 one_of t = cond t (Of Sign 1) (Bad 0)
 
 sign_again : (b : ℕ) (bytes : List ℕ) (kind : TokenKind) (n : ℕ)
@@ -394,12 +395,12 @@ sign_again b bytes kind n e = by_test (is_two b (get_or bytes 0 0)) two one
         let is : Of Sign 2 ≡ Of kind n = sym (ap
         (λ t. cond t (Of Sign 2) (one_of (b == 40
         || (b == 41 || (b == 44 || (b == 46 || (b == 60 || (b == 61 || b == 62)))))))) h) ∙ e in
-        ap (λ k. piece (take k (b ∷ bytes))) (sym (ap len_of is)) ∙ two_next b bytes h ∙ is
+        ap (λ k. scanned (take k (b ∷ bytes))) (sym (ap len_of is)) ∙ two_next b bytes h ∙ is
 
     only : (t : Bool) → (b == 40 || (b == 41 ||
         (b == 44 || (b == 46 || (b == 60 || (b == 61 || b == 62)))))) ≡ t → one_of t ≡ Of kind n
         → Again b bytes kind n
-    only true t is = ap (λ k. piece (take k (b ∷ bytes))) (sym (ap len_of is)) ∙ one_sign b t ∙ is
+    only true t is = ap (λ k. scanned (take k (b ∷ bytes))) (sym (ap len_of is)) ∙ one_sign b t ∙ is
     only false t is = true_false (sym (ap is_of is))
 
     one : is_two b (get_or bytes 0 0) ≡ false → Again b bytes kind n
@@ -411,8 +412,8 @@ sign_again b bytes kind n e = by_test (is_two b (get_or bytes 0 0)) two one
 
 -- ---- any token
 
-pub again : (bytes : List ℕ) (kind : TokenKind) (n : ℕ) → piece bytes ≡ Of kind n
-    → piece (take n bytes) ≡ Of kind n
+pub again : (bytes : List ℕ) (kind : TokenKind) (n : ℕ) → scanned bytes ≡ Of kind n
+    → scanned (take n bytes) ≡ Of kind n
 again [] kind n e = true_false (sym (ap is_of e))
 again (b ∷ bytes) kind n e =
     by_test (is_word_start b) (λ w. word_again b bytes kind n w e) (λ w.

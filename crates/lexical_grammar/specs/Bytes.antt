@@ -5,8 +5,9 @@ use Rattle.std.specs.Prelude.{if◌then◌else◌}
 use Rattle.std.specs.List.{prefix_len}
 use Rattle.prima_base.specs.Bytes.{is_control, is_digit, is_name_byte, longest_text}
 use Rattle.lexical_grammar.specs.declared.kind.TokenKind.TheVariants.{Word, Number, Text, Sign}
-use Rattle.lexical_grammar.specs.declared.piece.Piece.{Piece}
-use Rattle.lexical_grammar.specs.declared.piece.Piece.TheVariants.{End, Of, Bad, Open, Long, Big}
+use Rattle.lexical_grammar.specs.declared.scanned.Scanned.{Scanned}
+use Rattle.lexical_grammar.specs.declared.scanned.Scanned.TheVariants.{End, Of, Bad, Open, Long}
+use Rattle.lexical_grammar.specs.declared.scanned.Scanned.TheVariants.{Big}
 
 abbrev pub is_word_start : ℕ → Bool
 is_word_start b = (nat_le 97 b && nat_le b 122) || ((nat_le 65 b && nat_le b 90) || b == 95)
@@ -46,8 +47,8 @@ is_big true n = nat_lt 9223372036854775808 n
 is_big false n = nat_lt 18446744073709551615 n
 
 -- a number of these digits, which stand so many bytes after its prefix
-abbrev pub number_piece : Bool → ℕ → List ℕ → Piece
-number_piece negative signs digits = if is_big negative (number digits) then Big
+abbrev pub scanned_number : Bool → ℕ → List ℕ → Scanned
+scanned_number negative signs digits = if is_big negative (number digits) then Big
     else Of Number (signs + length digits)
 
 -- the digits at the start
@@ -69,45 +70,45 @@ unfoldable mutual
 
 -- where a text ends, after its opening quote and `n - 1` more bytes: a doubled quote goes on
 unfoldable mutual
-  pub text_from : ℕ → List ℕ → Piece
+  pub text_from : ℕ → List ℕ → Scanned
   text_from n [] = Open
   text_from n (b ∷ bytes) = if b == 39 then text_quote n bytes
       else (if is_control b then Bad n else text_from (n + 1) bytes)
 
   -- after a quote inside
-  pub text_quote : ℕ → List ℕ → Piece
+  pub text_quote : ℕ → List ℕ → Scanned
   text_quote n [] = Of Text (n + 1)
   text_quote n (b ∷ bytes) = if b == 39 then text_from (n + 2) bytes else Of Text (n + 1)
 
 -- a text that ends is too long when it stands for more bytes than a text has at most
-abbrev pub sized : ℕ → Piece → Piece
+abbrev pub sized : ℕ → Scanned → Scanned
 sized size (Of kind n) = if nat_lt longest_text size then Long else Of kind n
-sized size piece = piece
+sized size scanned = scanned
 
 -- ---- one token
 
 -- a sign, by its first byte and the next, which is 0 at the end
-abbrev pub sign : ℕ → ℕ → Piece
+abbrev pub sign : ℕ → ℕ → Scanned
 sign b next =
     if (b == 60 && (next == 61 || next == 62)) || (b == 62 && next == 61) then Of Sign 2
     else (if b == 40 || (b == 41 || (b == 44 || (b == 46 || (b == 60 || (b == 61 || b == 62)))))
     then Of Sign 1 else Bad 0)
 
 -- the token of this byte and those after it, as long as possible
-unfoldable pub piece_of : ℕ → List ℕ → Piece
-piece_of b bytes =
+unfoldable pub scanned_from : ℕ → List ℕ → Scanned
+scanned_from b bytes =
     if is_word_start b then Of Word (prefix_len is_name_byte bytes + 1)
-    else (if is_digit b then number_piece false 0 (digits_of (b ∷ bytes))
+    else (if is_digit b then scanned_number false 0 (digits_of (b ∷ bytes))
     else (if b == 39 then sized (length (text_value bytes)) (text_from 1 bytes)
-    else (if b == 45 && is_digit (get_or bytes 0 0) then number_piece true 1 (digits_of bytes)
+    else (if b == 45 && is_digit (get_or bytes 0 0) then scanned_number true 1 (digits_of bytes)
     else sign b (get_or bytes 0 0))))
 
-abbrev pub piece : List ℕ → Piece
-piece [] = End
-piece (b ∷ bytes) = piece_of b bytes
+abbrev pub scanned : List ℕ → Scanned
+scanned [] = End
+scanned (b ∷ bytes) = scanned_from b bytes
 
--- the piece lies within this many bytes
-abbrev pub Within : ℕ → Piece → Type 0
+-- what is scanned lies within this many bytes
+abbrev pub Within : ℕ → Scanned → Type 0
 Within len (Of kind n) = (0 < n) × (n ≤ len)
 Within len (Bad n) = n < len
 Within len _ = Unit {0}

@@ -3,15 +3,16 @@ use Rattle.std.specs.Prelude.{◌≡◌, ℕ, ◌+◌, ◌≤◌, false, List, [
 use Rattle.std.specs.Prelude.{Option, Some, None}
 use Rattle.lexical_grammar.specs.declared.token.Token.{Token}
 use Rattle.lexical_grammar.specs.declared.kind.TokenKind.{TokenKind}
-use Rattle.lexical_grammar.specs.declared.piece.Piece.{Piece}
-use Rattle.lexical_grammar.specs.declared.piece.Piece.TheVariants.{End, Of, Bad, Open, Long, Big}
+use Rattle.lexical_grammar.specs.declared.scanned.Scanned.{Scanned}
+use Rattle.lexical_grammar.specs.declared.scanned.Scanned.TheVariants.{End, Of, Bad, Open, Long}
+use Rattle.lexical_grammar.specs.declared.scanned.Scanned.TheVariants.{Big}
 use Rattle.lexical_grammar.specs.declared.fault.LexFault.{LexFault}
 use Rattle.lexical_grammar.specs.declared.fault.LexFault.TheVariants.{NoMemory, BadByte, OpenQuote}
 use Rattle.lexical_grammar.specs.declared.fault.LexFault.TheVariants.{BigNumber, LongText}
-use Rattle.lexical_grammar.specs.Bytes.{gap_len, piece}
+use Rattle.lexical_grammar.specs.Bytes.{gap_len, scanned}
 
 -- how the tokens end, by what stands after the last gap
-abbrev pub EndsBy : ℕ → Piece → Option LexFault → Type 0
+abbrev pub EndsBy : ℕ → Scanned → Option LexFault → Type 0
 EndsBy at End e = e ≡ None
 EndsBy at (Of kind n) e = ⊥
 EndsBy at (Bad n) e = e ≡ Some (BadByte (at + n))
@@ -24,8 +25,8 @@ after_gap bytes = drop (gap_len false 0 bytes) bytes
 
 -- from the place on these are the tokens, and then the end or a fault
 abbrev pub Lexes : ℕ → List ℕ → List Token → Option LexFault → Type 0
-Lexes at bytes [] e = EndsBy (at + gap_len false 0 bytes) (piece (after_gap bytes)) e
-Lexes at bytes (t ∷ ts) e = (piece (after_gap bytes) ≡ Of t.kind (length t.text.now))
+Lexes at bytes [] e = EndsBy (at + gap_len false 0 bytes) (scanned (after_gap bytes)) e
+Lexes at bytes (t ∷ ts) e = (scanned (after_gap bytes) ≡ Of t.kind (length t.text.now))
     × (t.text.now ≡ take (length t.text.now) (after_gap bytes))
     × (t.at ≡ at + gap_len false 0 bytes)
     × Lexes (t.at + length t.text.now) (drop (length t.text.now) (after_gap bytes)) ts e

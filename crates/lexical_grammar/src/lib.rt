@@ -12,11 +12,11 @@
 mod fault;
 mod kind;
 mod laws;
-mod piece;
+mod scanned;
 mod token;
 
 pub use fault::LexFault;
 pub use kind::TokenKind;
 pub use laws::{lexes_once, tokens_are_spaced, tokens_in_place};
-pub use piece::Piece;
+pub use scanned::Scanned;
 pub use token::Token;

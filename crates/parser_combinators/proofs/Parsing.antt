@@ -730,8 +730,8 @@ module _ {A B : Type 0} (d : ℕ) (f : A → B) (p : Parser A) (G : A → Size �
     h.1,
     follow_map h.0 suffix h.2,
     same_first d p (λ a. pure (f a)) G
-        (λ a. grammar.pure (f a)) n ts (LimitExceeded w c) (LimitExceeded w c) h.0 suffix (λ l. refl)
-        h.3,
+        (λ a. grammar.pure (f a)) n ts (LimitExceeded w c) (LimitExceeded w c) h.0 suffix
+        (λ l. refl) h.3,
   )
     where
       follow_map : (prefix suffix : List Lexeme) → GoesOnWith G prefix suffix

@@ -116,7 +116,8 @@ module _ {A : Type 0} (p : Parser A) (G : A → Size → List Lexeme → Type 0)
         let h = explained (Parsed a m suffix) e in
         let P : List Lexeme → Type 0 = λ l. G a h.1 l in
         let Q : ℕ → Type 0 = λ k. Ends G ts k in
-        let n : length list - left - from ≡ length h.0 = omega (arith, z, lengths h.0 suffix h.2) in (
+        let n : length list - left - from ≡ length h.0 =
+        omega (arith, z, lengths h.0 suffix h.2) in (
           omega (arith, z, lengths h.0 suffix h.2),
           omega arith,
           h.1,

@@ -10,7 +10,7 @@ use Rattle.disk_model.specs.Meaning.{IsValid}
 use Rattle.disk_model.specs.declared.disk.Disk.{Ghosts}
 use Rattle.archive_core.specs.declared.archive.Archive.{Archive}
 use Rattle.archive_core.specs.Fields.{below, place_of}
-use Rattle.script_parse.specs.Script.{StatementPart, pieces_from, tail_from, ending}
+use Rattle.script_parse.specs.Script.{StatementPart, parts_from, tail_from, ending}
 use Rattle.script_parse.specs.Splitting.{fresh}
 use Rattle.archive_file.specs.LogRecords.{LogRecord}
 use Rattle.script_cli.specs.Due.{Due, AreRecordsOf}
@@ -56,7 +56,7 @@ module _ {D : Type 0} {g : Ghosts D} (limit : Given) (start : Recorded) (a b : A
     (took : Took limit start run script_run a b taken [] u v) where
   pub pieces_is : (more : List ℕ) → parts_of (taken ++ more) ≡ took.pieces
       ++ pieces_after script_run more
-  pieces_is more = ap (λ s. pieces_from s.mode s.kept (taken ++ more)) (sym begun_so.splitter)
+  pieces_is more = ap (λ s. parts_from s.mode s.kept (taken ++ more)) (sym begun_so.splitter)
       ∙ took.cut more
 
   pub ending_is : ending_of taken ≡ ending_after script_run []

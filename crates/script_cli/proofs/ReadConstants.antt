@@ -15,9 +15,10 @@ use Rattle.cond_expr.specs.Seen.{trees_of, tests_of}
 use Rattle.piece_meaning.specs.Constants.{ValidInTree, ValidInTrees, ValidInTest, ValidInTests}
 use Rattle.lexical_grammar.specs.declared.kind.TokenKind.{TokenKind}
 use Rattle.lexical_grammar.specs.declared.kind.TokenKind.TheVariants.{Word, Number, Text, Sign}
-use Rattle.lexical_grammar.specs.declared.piece.Piece.{Piece}
-use Rattle.lexical_grammar.specs.declared.piece.Piece.TheVariants.{End, Of, Bad, Open, Long, Big}
-use Rattle.lexical_grammar.specs.Bytes.{gap_len, piece}
+use Rattle.lexical_grammar.specs.declared.scanned.Scanned.{Scanned}
+use Rattle.lexical_grammar.specs.declared.scanned.Scanned.TheVariants.{End, Of, Bad, Open, Long}
+use Rattle.lexical_grammar.specs.declared.scanned.Scanned.TheVariants.{Big}
+use Rattle.lexical_grammar.specs.Bytes.{gap_len, scanned}
 use Rattle.lexical_grammar.specs.Lexed.{after_gap}
 use Rattle.lexical_grammar.specs.Lexemes.{Lexeme, word, number, text, sign, says, is_int}
 use Rattle.lexical_grammar.proofs.Whole.{again}
@@ -27,7 +28,7 @@ use Rattle.parser_combinators.specs.Grammar.{Size}
 use Rattle.expr_grammar.specs.Grammar as g
 use Rattle.expr_grammar.specs.Grammar.{spelled, IsExpr, AreParts, IsFact, AreFacts, IsConj}
 use Rattle.expr_grammar.specs.Grammar.{AreConjs, IsCond}
-use Rattle.script_parse.specs.Lexing.{Placed, a_token, Lexed, Tokens, Faulty, after_token, by_piece}
+use Rattle.script_parse.specs.Lexing.{Placed, a_token, Lexed, Tokens, Faulty, after_token, by_scanned}
 use Rattle.script_parse.specs.Lexing.{lexed_from, saying}
 
 -- ---- tokens
@@ -41,7 +42,7 @@ ValidLexeme (sign s) = ⊤
 pub record AllValid (ts : List Lexeme) : Type 0 where
   pub each : (x : Lexeme) → In x ts → ValidLexeme x
 
-text_valid : (n : ℕ) (bytes : List ℕ) → piece bytes ≡ Of Text n
+text_valid : (n : ℕ) (bytes : List ℕ) → scanned bytes ≡ Of Text n
     → ValidLexeme (says Text (take n bytes))
 text_valid n bytes e =
     let h = shape bytes Text n e in
@@ -50,7 +51,7 @@ text_valid n bytes e =
     let whole : n ≡ length (take n bytes) = sym (length-take-le n bytes few) in
     (texted (take n bytes) (again bytes Text n e ∙ ap (Of Text) whole)).1
 
-token_valid : (kind : TokenKind) (n : ℕ) (bytes : List ℕ) → piece bytes ≡ Of kind n
+token_valid : (kind : TokenKind) (n : ℕ) (bytes : List ℕ) → scanned bytes ≡ Of kind n
     → ValidLexeme (says kind (take n bytes))
 token_valid Word n bytes e = tt
 token_valid Number n bytes e = tt
@@ -78,11 +79,11 @@ pub lexed_valid : (n at : ℕ) (bytes : List ℕ) → TokensValid (lexed_from n 
 unfolding lexed_from
 lexed_valid zero at bytes = none_valid
 lexed_valid (suc n) at bytes = step (λ k. lexed_valid n (at + gap_len false 0 bytes + k)
-    (drop k (after_gap bytes))) (piece (after_gap bytes)) refl
+    (drop k (after_gap bytes))) (scanned (after_gap bytes)) refl
   where
     step : ((k : ℕ) → TokensValid (lexed_from n (at + gap_len false 0 bytes + k)
-        (drop k (after_gap bytes)))) → (p : Piece) → piece (after_gap bytes) ≡ p
-        → TokensValid (by_piece (at + gap_len false 0 bytes) (after_gap bytes) (lexed_from n) p)
+        (drop k (after_gap bytes)))) → (p : Scanned) → scanned (after_gap bytes) ≡ p
+        → TokensValid (by_scanned (at + gap_len false 0 bytes) (after_gap bytes) (lexed_from n) p)
     step more End e = none_valid
     step more (Of kind k) e =
         one_more (a_token kind (take k (after_gap bytes)) (at + gap_len false 0 bytes))

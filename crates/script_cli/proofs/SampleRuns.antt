@@ -132,7 +132,8 @@ module _ (size : ℕ) (limit : Given) (script : List ℕ) (status : Status) (a c
       (λ n. record {
         kept = n.kept;
         status_is =
-            unopened_damaged place_once status u w f h old.seen new.seen file place is damages n.told;
+            unopened_damaged place_once status u w f h old.seen new.seen file place is damages
+            n.told;
       })
       (λ s. absurd (opens_not_damaged apart old.seen s.start file place is
       (opening_of old.seen s.start s.count s.opened) damages))

@@ -8,7 +8,7 @@ use Rattle.disk_model.specs.Meaning.{IsValid}
 use Rattle.disk_model.specs.declared.disk.Disk.{Ghosts}
 use Rattle.archive_core.specs.declared.archive.Archive.{Archive}
 use Rattle.archive_core.specs.Fields.{below}
-use Rattle.script_parse.specs.Script.{StatementPart, pieces_from, tail_from, ending}
+use Rattle.script_parse.specs.Script.{StatementPart, parts_from, tail_from, ending}
 use Rattle.script_parse.specs.Splitting.{found, IsSettled, State}
 use Rattle.script_parse.specs.declared.splitter.Cut.{Cut}
 use Rattle.script_parse.specs.declared.splitter.Cut.TheVariants.{More}
@@ -235,7 +235,7 @@ all_taken cut rest state e h = let P : Cut → Type 0 = λ k. IsSettled k rest s
 module _ {D : Type 0} {g : Ghosts D} (limit : Given) (now : Recorded) (s t : ScriptRun) (z : State)
     (a b : Archive D g) (xs ys : List ℕ) (u v : Option (List ℕ)) (cut : Cut)
     (statements : (more : List ℕ) → pieces_after s (xs ++ more) ≡ found cut
-    ++ pieces_from z.mode z.kept (ys ++ more))
+    ++ parts_from z.mode z.kept (ys ++ more))
     (tail : (more : List ℕ) → ending_after s (xs ++ more)
     ≡ ending (tail_from z.mode z.kept (ys ++ more)))
     (same : t.splitter ≡ z) where
@@ -244,9 +244,9 @@ module _ {D : Type 0} {g : Ghosts D} (limit : Given) (now : Recorded) (s t : Scr
       → t.refused ≡ s.refused → t.puts ≡ s.puts → Took limit now s t a a xs [] u u
   took_all e all law stands faulty counted = record {
     pieces = [];
-    cut = λ more. statements more ∙ ap (λ k. found k ++ pieces_from z.mode z.kept (ys ++ more)) e
-        ∙ ap (λ l. pieces_from z.mode z.kept (l ++ more)) all
-        ∙ ap (λ z. pieces_from z.mode z.kept more) (sym same);
+    cut = λ more. statements more ∙ ap (λ k. found k ++ parts_from z.mode z.kept (ys ++ more)) e
+        ∙ ap (λ l. parts_from z.mode z.kept (l ++ more)) all
+        ∙ ap (λ z. parts_from z.mode z.kept more) (sym same);
     end = λ more. tail more ∙ ap (λ l. ending (tail_from z.mode z.kept (l ++ more))) all
         ∙ ap (λ z. ending (tail_from z.mode z.kept more)) (sym same);
     stands = stands;
@@ -264,8 +264,8 @@ module _ {D : Type 0} {g : Ghosts D} (limit : Given) (now : Recorded) (s t : Scr
       → t.puts ≡ s.puts + length (commands_due (piece_reply limit now piece).puts)
       → Appends u v (piece_reply limit now piece).text → Took limit now s t a b xs ys u v
   took_answer piece e stands faulty puts counted wrote = took_one limit now s t a b xs ys u v piece
-      (λ more. statements more ∙ ap (λ l. l ++ pieces_from z.mode z.kept (ys ++ more)) e
-      ∙ ap (λ z. piece ∷ pieces_from z.mode z.kept (ys ++ more)) (sym same))
+      (λ more. statements more ∙ ap (λ l. l ++ parts_from z.mode z.kept (ys ++ more)) e
+      ∙ ap (λ z. piece ∷ parts_from z.mode z.kept (ys ++ more)) (sym same))
       (λ more. tail more ∙ ap (λ z. ending (tail_from z.mode z.kept (ys ++ more))) (sym same))
       stands faulty puts counted wrote
 
@@ -274,9 +274,9 @@ module _ {D : Type 0} {g : Ghosts D} (limit : Given) (now : Recorded) (s t : Scr
       → IsValid (below a) → StopsIn halt (piece_reply limit now piece) a b u v
       → Halted halt limit now (pieces_after s xs) a b u v
   halted_answer halt piece e law stops =
-      let whole : pieces_after s xs ≡ piece ∷ pieces_from z.mode z.kept (ys ++ []) =
+      let whole : pieces_after s xs ≡ piece ∷ parts_from z.mode z.kept (ys ++ []) =
       ap (pieces_after s) (sym (append-nil xs)) ∙ statements []
-      ∙ ap (λ l. l ++ pieces_from z.mode z.kept (ys ++ [])) e in
+      ∙ ap (λ l. l ++ parts_from z.mode z.kept (ys ++ [])) e in
       subst (λ l. Halted halt limit now l a b u v) (sym whole)
-      (halted_first limit now halt (piece ∷ pieces_from z.mode z.kept (ys ++ [])) a b u v law
+      (halted_first limit now halt (piece ∷ parts_from z.mode z.kept (ys ++ [])) a b u v law
       stops)

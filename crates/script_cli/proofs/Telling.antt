@@ -14,7 +14,7 @@ use Rattle.journal.specs.Mounting.{SameOrNine, IsNotSynced, KeepsFile}
 use Rattle.smo_meaning.specs.Past.{beginning}
 use Rattle.archive_file.specs.LogRecords.{LogRecord, AreSound}
 use Rattle.archive_file.specs.Opening.{Opens, Damages}
-use Rattle.script_parse.specs.Script.{StatementPart, pieces_from, tail_of}
+use Rattle.script_parse.specs.Script.{StatementPart, parts_from, tail_of}
 use Rattle.script_cli.specs.Due.{Due, AreRecordsOf, AreFirstOf}
 use Rattle.script_cli.specs.Given.{Given}
 use Rattle.script_cli.specs.Output.{Recorded, recorded, piece_reply, replies, replies_of, all_puts}
@@ -54,10 +54,10 @@ module _ (limit : Given) (start : Recorded) where
   -- a script's replies begin with those to its prefix
   replies_begin : (xs ys : List ℕ) → replies_of limit start (xs ++ ys) ≡ replies_of limit start xs
       ++ replies limit (recorded_after limit start (parts_of xs))
-      (pieces_from (mode_after_script xs) (tail_of xs) ys)
+      (parts_from (mode_after_script xs) (tail_of xs) ys)
   replies_begin xs ys = ap (replies limit start) (pieces-append xs ys)
       ∙ replies-append limit start (parts_of xs)
-      (pieces_from (mode_after_script xs) (tail_of xs) ys)
+      (parts_from (mode_after_script xs) (tail_of xs) ys)
 
   -- a prefix of the replies to a prefix is a prefix of the output
   prefix_more : (u w : Option (List ℕ)) (xs ys : List ℕ)
@@ -173,9 +173,9 @@ begun_is InputLimit rest = (rest, refl)
 module _ (limit : Given) (start : Recorded) where
   puts_begin : (xs ys : List ℕ) → script_puts limit start (xs ++ ys) ≡ script_puts limit start xs
       ++ all_puts limit (recorded_after limit start (parts_of xs))
-      (pieces_from (mode_after_script xs) (tail_of xs) ys)
+      (parts_from (mode_after_script xs) (tail_of xs) ys)
   puts_begin xs ys = ap (all_puts limit start) (pieces-append xs ys)
-      ∙ put-append limit start (parts_of xs) (pieces_from (mode_after_script xs) (tail_of xs) ys)
+      ∙ put-append limit start (parts_of xs) (parts_from (mode_after_script xs) (tail_of xs) ys)
 
   -- those that were attempted are the first of those that the script puts
   pub attempted_prefix : (status : Status) (taken ys : List ℕ) (whole rest : List StatementPart)
@@ -189,7 +189,7 @@ module _ (limit : Given) (start : Recorded) where
       let tried = all_puts limit start (whole ++ begun status rest) in
       let others = all_puts limit (recorded_after limit start (whole ++ begun status rest)) b.0 in
       let later = all_puts limit (recorded_after limit start (parts_of taken))
-      (pieces_from (mode_after_script taken) (tail_of taken) ys) in (
+      (parts_from (mode_after_script taken) (tail_of taken) ys) in (
         others ++ later,
         puts_begin taken ys ∙ ap (λ l. l ++ later)
             (ap (all_puts limit start) first ∙ put-append limit start (whole ++ begun status rest)

@@ -4,7 +4,7 @@ use Rattle.std.specs.Prelude.{codes, Some, None}
 use Rattle.std.specs.List.{starts_with}
 use Rattle.prima_base.specs.declared.refusal.Refusal.{Refusal}
 use Rattle.prima_base.specs.declared.refusal.Refusal.TheVariants as refusal
-use Rattle.script_parse.specs.Script.{StatementPart, Whole as Text, Skipped, pieces_from, tail_of}
+use Rattle.script_parse.specs.Script.{StatementPart, Whole as Text, Skipped, parts_from, tail_of}
 use Rattle.script_parse.specs.Script.{ending}
 use Rattle.script_parse.specs.declared.mode.Mode.TheVariants.{Plain}
 use Rattle.script_parse.specs.declared.splitter.Tail.{Tail}
@@ -192,7 +192,7 @@ is_error_line text = starts_with nat_eq text (codes "error ")
 -- of a script: its statements, what is left after the last `;`, the replies, all that is due, and
 -- whether an `error` line is
 abbrev pub parts_of : List ℕ → List StatementPart
-parts_of script = pieces_from Plain [] script
+parts_of script = parts_from Plain [] script
 
 abbrev pub ending_of : List ℕ → Tail
 ending_of script = ending (tail_of script)

@@ -5,7 +5,7 @@ use Rattle.std.specs.Io.KnownBytes.{Appends}
 use Rattle.prima_io.specs.Moves.{AppendsPrefix}
 use Rattle.disk_model.specs.declared.disk.Disk.{Ghosts}
 use Rattle.journal.specs.Standing.{HasGate}
-use Rattle.script_parse.specs.Script.{StatementPart, pieces_from, tail_from, ending}
+use Rattle.script_parse.specs.Script.{StatementPart, parts_from, tail_from, ending}
 use Rattle.script_parse.specs.declared.splitter.Tail.{Tail}
 use Rattle.archive_file.specs.LogRecords.{LogRecord}
 use Rattle.archive_state.specs.Standing.{RepresentsPast}
@@ -36,7 +36,7 @@ Says reply (Err NoMemory) old new = new ≡ old
 
 -- the statements that bytes bring, after what the run has of its current one
 abbrev pub pieces_after : ScriptRun → List ℕ → List StatementPart
-pieces_after script_run bytes = pieces_from script_run.splitter.mode script_run.splitter.kept bytes
+pieces_after script_run bytes = parts_from script_run.splitter.mode script_run.splitter.kept bytes
 
 -- and what they leave after the last `;`
 abbrev pub ending_after : ScriptRun → List ℕ → Tail

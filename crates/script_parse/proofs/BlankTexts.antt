@@ -2,9 +2,10 @@
 use Rattle.std.proofs.Common.{◌≡◌, ℕ, zero, suc, ◌+◌, Bool, true, false, not, cond, ◌||◌, ◌==◌}
 use Rattle.std.proofs.Common.{List, [], ◌∷◌, ◌++◌, length, drop, None, refl, sym, ap, ◌∙◌, subst}
 use Rattle.std.proofs.Common.{append-nil, arith, length-append}
-use Rattle.lexical_grammar.specs.declared.piece.Piece.{Piece}
-use Rattle.lexical_grammar.specs.declared.piece.Piece.TheVariants.{End, Of, Bad, Open, Long, Big}
-use Rattle.lexical_grammar.specs.Bytes.{gap_len, gap_dash, piece}
+use Rattle.lexical_grammar.specs.declared.scanned.Scanned.{Scanned}
+use Rattle.lexical_grammar.specs.declared.scanned.Scanned.TheVariants.{End, Of, Bad, Open, Long}
+use Rattle.lexical_grammar.specs.declared.scanned.Scanned.TheVariants.{Big}
+use Rattle.lexical_grammar.specs.Bytes.{gap_len, gap_dash, scanned}
 use Rattle.lexical_grammar.specs.Bytes as lexer
 use Rattle.lexical_grammar.specs.Lexed.{Lexes, EndsBy, after_gap}
 use Rattle.lexical_grammar.specs.Spaced.{Each, in_line, IsGap, no_gap, a_blank, a_comment}
@@ -12,7 +13,7 @@ use Rattle.lexical_grammar.specs.Spaced.{last_comment}
 use Rattle.lexical_grammar.proofs.Shapes.{spaced}
 use Rattle.script_parse.specs.Script.{is_blank}
 use Rattle.script_parse.specs.Pads.{has_line_end, ArePads, none, blank, comment, last}
-use Rattle.script_parse.specs.Lexing.{Placed, Lexed, Tokens, Faulty, after_token, by_piece}
+use Rattle.script_parse.specs.Lexing.{Placed, Lexed, Tokens, Faulty, after_token, by_scanned}
 use Rattle.script_parse.specs.Lexing.{lexed_from, lexed}
 
 -- ---- the blanks of both grammars
@@ -47,8 +48,8 @@ no_token : (t : Placed) (l : Lexed) → after_token t l ≡ Tokens [] → ⊥
 no_token t (Tokens ts) e = cc
 no_token t (Faulty at) e = cc
 
-at_its_end : (at : ℕ) (bytes : List ℕ) (others : ℕ → List ℕ → Lexed) (p : Piece)
-    → by_piece at bytes others p ≡ Tokens [] → EndsBy at p None
+at_its_end : (at : ℕ) (bytes : List ℕ) (others : ℕ → List ℕ → Lexed) (p : Scanned)
+    → by_scanned at bytes others p ≡ Tokens [] → EndsBy at p None
 at_its_end at bytes others End e = refl
 at_its_end at bytes others (Of kind n) e = absurd (no_token _ (others (at + n) (drop n bytes)) e)
 at_its_end at bytes others (Bad n) e = cc
@@ -60,7 +61,7 @@ has_no_token : (text : List ℕ) (n : ℕ) → lexed_from (suc n) 0 text ≡ Tok
     → Lexes 0 text [] None
 unfolding lexed_from
 has_no_token text n e = at_its_end (0 + gap_len false 0 text) (after_gap text) (lexed_from n)
-    (piece (after_gap text)) e
+    (scanned (after_gap text)) e
 
 pub blank_is_pads : (text : List ℕ) → lexed text ≡ Tokens [] → ArePads text
 blank_is_pads [] e = none
@@ -142,8 +143,8 @@ nothing_after text h = let e : gap_len false 0 text ≡ length text =
 ends_there : (text : List ℕ) (n : ℕ) → after_gap text ≡ [] → lexed_from n 0 text ≡ Tokens []
 unfolding lexed_from
 ends_there text zero e = refl
-ends_there text (suc n) e = ap (by_piece (0 + gap_len false 0 text) (after_gap text) (lexed_from n))
-    (ap piece e)
+ends_there text (suc n) e = ap (by_scanned (0 + gap_len false 0 text) (after_gap text) (lexed_from n))
+    (ap scanned e)
 
 pub pads_are_blank : (text : List ℕ) → ArePads text → lexed text ≡ Tokens []
 pads_are_blank text h = ends_there text (length text) (nothing_after text h)

@@ -52,7 +52,8 @@ plain b t more q s = elim (b == 45) as (λ v. (b == 45) ≡ v → (is_blank b ||
     → ArePads (b ∷ t)) [
       | true ↦ λ e k. subst (λ n. Reads (n ∷ t) Plain) (sym (same_number 45 b e)) (more Dash) q s
       | false ↦ λ e k. elim (blanks b (or_left (is_blank b) k)) [
-        | inl e ↦ subst (λ n. Reads (n ∷ t) Plain) (sym e) (λ q s. blank 32 t refl (more Plain q s)) q s
+        | inl e ↦ subst (λ n. Reads (n ∷ t) Plain) (sym e)
+            (λ q s. blank 32 t refl (more Plain q s)) q s
         | inr (inl e) ↦ subst (λ n. Reads (n ∷ t) Plain) (sym e)
             (λ q s. blank 9 t refl (more Plain q s)) q s
         | inr (inr (inl e)) ↦ subst (λ n. Reads (n ∷ t) Plain) (sym e)

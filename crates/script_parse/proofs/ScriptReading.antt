@@ -6,7 +6,7 @@ use Rattle.std.specs.Prelude.{cond, nat_lt}
 use Rattle.std.proofs.lemmas.Bool.Decides.{nat_tests}
 use Rattle.std.proofs.lemmas.List.{drop_more, take_all}
 use Rattle.script_parse.specs.Script.{next, is_end, is_too_long, statements_from, tail_from}
-use Rattle.script_parse.specs.Script.{Skipped, piece_of, pieces_from, ending, longest_statement}
+use Rattle.script_parse.specs.Script.{Skipped, part_of, parts_from, ending, longest_statement}
 use Rattle.script_parse.specs.Splitting.{keep, IsEndOf}
 use Rattle.script_parse.specs.declared.mode.Mode.{Mode}
 use Rattle.script_parse.specs.declared.mode.Mode.TheVariants.{Plain}
@@ -17,7 +17,7 @@ still_long : (m b : ℕ) (c : List ℕ) → nat_lt m (length c) ≡ true
     → nat_lt m (length (c ++ b ∷ [])) ≡ true
 still_long m b c h = grind (arith, length-append c (b ∷ []), nat_tests)
 
-piece_long : (c : List ℕ) → is_too_long c ≡ true → piece_of c ≡ Skipped
+piece_long : (c : List ℕ) → is_too_long c ≡ true → part_of c ≡ Skipped
 piece_long c h = rw h refl
 
 ending_long : (c : List ℕ) → is_too_long c ≡ true → ending c ≡ TooLong
@@ -25,14 +25,14 @@ ending_long c h = rw h refl
 
 -- of a too long statement nothing more counts
 pub pieces_alike : (bs : List ℕ) (m : Mode) (c d : List ℕ) → is_too_long c ≡ true
-    → is_too_long d ≡ true → pieces_from m c bs ≡ pieces_from m d bs
+    → is_too_long d ≡ true → parts_from m c bs ≡ parts_from m d bs
 pieces_alike [] m c d hc hd = refl
 pieces_alike (b ∷ bs) m c d hc hd =
-    elim (is_end m b) as (λ v. map piece_of (cond v (c ∷ statements_from Plain [] bs)
+    elim (is_end m b) as (λ v. map part_of (cond v (c ∷ statements_from Plain [] bs)
     (statements_from (next m b) (c ++ b ∷ []) bs))
-    ≡ map piece_of (cond v (d ∷ statements_from Plain [] bs)
+    ≡ map part_of (cond v (d ∷ statements_from Plain [] bs)
     (statements_from (next m b) (d ++ b ∷ []) bs))) [
-      | true ↦ ap (λ p. p ∷ pieces_from Plain [] bs) (piece_long c hc ∙ sym (piece_long d hd))
+      | true ↦ ap (λ p. p ∷ parts_from Plain [] bs) (piece_long c hc ∙ sym (piece_long d hd))
       | false ↦ pieces_alike bs (next m b) (c ++ b ∷ []) (d ++ b ∷ [])
           (still_long longest_statement b c hc) (still_long longest_statement b d hd)
     ]
@@ -50,11 +50,11 @@ endings_alike (b ∷ bs) m c d hc hd =
     ]
 
 kept_pieces : (bs : List ℕ) (m : Mode) (c : List ℕ) (b : ℕ)
-    → pieces_from m (c ++ b ∷ []) bs ≡ pieces_from m (keep c b) bs
+    → parts_from m (c ++ b ∷ []) bs ≡ parts_from m (keep c b) bs
 kept_pieces bs m c b = by (is_too_long c) refl
   where
-    by : (v : Bool) → is_too_long c ≡ v → pieces_from m (c ++ b ∷ []) bs
-        ≡ pieces_from m (keep c b) bs
+    by : (v : Bool) → is_too_long c ≡ v → parts_from m (c ++ b ∷ []) bs
+        ≡ parts_from m (keep c b) bs
     by true e = rw e (pieces_alike bs m (c ++ b ∷ []) c (still_long longest_statement b c e) e)
     by false e = rw e refl
 
@@ -69,8 +69,8 @@ kept_endings bs m c b = by (is_too_long c) refl
 
 -- a byte of a statement
 pub pieces_step : (m : Mode) (c : List ℕ) (b : ℕ) (bs : List ℕ) → is_end m b ≡ false
-    → pieces_from m c (b ∷ bs) ≡ pieces_from (next m b) (keep c b) bs
-pieces_step m c b bs e = ap (λ v. map piece_of
+    → parts_from m c (b ∷ bs) ≡ parts_from (next m b) (keep c b) bs
+pieces_step m c b bs e = ap (λ v. map part_of
     (cond v (c ∷ statements_from Plain [] bs) (statements_from (next m b) (c ++ b ∷ []) bs))) e
     ∙ kept_pieces bs (next m b) c b
 
@@ -81,8 +81,8 @@ endings_step m c b bs e = ap (λ v. ending (cond v (tail_from Plain [] bs)
 
 -- a statement's end
 pub pieces_end : (m : Mode) (c : List ℕ) (b : ℕ) (bs : List ℕ) → is_end m b ≡ true
-    → pieces_from m c (b ∷ bs) ≡ piece_of c ∷ pieces_from Plain [] bs
-pieces_end m c b bs e = ap (λ v. map piece_of
+    → parts_from m c (b ∷ bs) ≡ part_of c ∷ parts_from Plain [] bs
+pieces_end m c b bs e = ap (λ v. map part_of
     (cond v (c ∷ statements_from Plain [] bs) (statements_from (next m b) (c ++ b ∷ []) bs))) e
 
 pub endings_end : (m : Mode) (c : List ℕ) (b : ℕ) (bs : List ℕ) → is_end m b ≡ true
@@ -93,9 +93,9 @@ endings_end m c b bs e = ap (λ v. ending (cond v (tail_from Plain [] bs)
 -- a loop's turn
 pub pieces_turn : (bs more : List ℕ) (i : ℕ) (m : Mode) (c : List ℕ) → i < length bs
     → is_end m (get_or bs i 0) ≡ false
-    → pieces_from m c (drop i bs ++ more) ≡ pieces_from (next m (get_or bs i 0))
+    → parts_from m c (drop i bs ++ more) ≡ parts_from (next m (get_or bs i 0))
     (keep c (get_or bs i 0)) (drop (i + 1) bs ++ more)
-pieces_turn bs more i m c h e = ap (λ l. pieces_from m c (l ++ more)) (drop_more bs i 0 h)
+pieces_turn bs more i m c h e = ap (λ l. parts_from m c (l ++ more)) (drop_more bs i 0 h)
     ∙ pieces_step m c (get_or bs i 0) (drop (i + 1) bs ++ more) e
 
 pub endings_turn : (bs more : List ℕ) (i : ℕ) (m : Mode) (c : List ℕ) → i < length bs

@@ -6,12 +6,13 @@ use Rattle.lexical_grammar.specs.declared.fault.LexFault.{LexFault}
 use Rattle.lexical_grammar.specs.declared.fault.LexFault.TheVariants.{NoMemory, BadByte, OpenQuote}
 use Rattle.lexical_grammar.specs.declared.fault.LexFault.TheVariants.{BigNumber, LongText}
 use Rattle.lexical_grammar.specs.declared.kind.TokenKind.{TokenKind}
-use Rattle.lexical_grammar.specs.declared.piece.Piece.{Piece}
-use Rattle.lexical_grammar.specs.declared.piece.Piece.TheVariants.{End, Of, Bad, Open, Long, Big}
+use Rattle.lexical_grammar.specs.declared.scanned.Scanned.{Scanned}
+use Rattle.lexical_grammar.specs.declared.scanned.Scanned.TheVariants.{End, Of, Bad, Open, Long}
+use Rattle.lexical_grammar.specs.declared.scanned.Scanned.TheVariants.{Big}
 use Rattle.lexical_grammar.specs.declared.token.Token.{Token}
-use Rattle.lexical_grammar.specs.Bytes.{gap_len, piece}
+use Rattle.lexical_grammar.specs.Bytes.{gap_len, scanned}
 use Rattle.lexical_grammar.specs.Lexed.{Lexes, EndsBy, after_gap}
-use Rattle.script_parse.specs.Lexing.{Placed, Lexed, Tokens, Faulty, a_token, after_token, by_piece}
+use Rattle.script_parse.specs.Lexing.{Placed, Lexed, Tokens, Faulty, a_token, after_token, by_scanned}
 use Rattle.script_parse.specs.Lexing.{lexed_from, placed, fault_place, TextsAreLexed}
 
 -- how the text ends
@@ -44,18 +45,18 @@ drop_nothing (suc n) = refl
 gap_of_nothing : after_gap [] ≡ []
 gap_of_nothing = drop_nothing (gap_len false 0 [])
 
-nothing_left : (bytes : List ℕ) → length bytes ≤ 0 → piece (after_gap bytes) ≡ End
-nothing_left bytes h = ap (λ l. piece (after_gap l)) (no_bytes bytes h) ∙ ap piece gap_of_nothing
+nothing_left : (bytes : List ℕ) → length bytes ≤ 0 → scanned (after_gap bytes) ≡ End
+nothing_left bytes h = ap (λ l. scanned (after_gap l)) (no_bytes bytes h) ∙ ap scanned gap_of_nothing
 
-end_of_nothing : (at : ℕ) (p : Piece) (e : Option LexFault) → p ≡ End → EndsBy at p e
+end_of_nothing : (at : ℕ) (p : Scanned) (e : Option LexFault) → p ≡ End → EndsBy at p e
     → Tokens [] ≡ ended e
-end_of_nothing at p e h k = let P : Piece → Type 0 = λ q. EndsBy at q e in let z : e ≡ None =
+end_of_nothing at p e h k = let P : Scanned → Type 0 = λ q. EndsBy at q e in let z : e ≡ None =
     subst P h k in ap ended (sym z)
 
--- ---- by the piece in prefix
+-- ---- by what is scanned in prefix
 
-ends_so : (at : ℕ) (bytes : List ℕ) (others : ℕ → List ℕ → Lexed) (p : Piece) (e : Option LexFault)
-    → EndsBy at p e → by_piece at bytes others p ≡ ended e
+ends_so : (at : ℕ) (bytes : List ℕ) (others : ℕ → List ℕ → Lexed) (p : Scanned) (e : Option LexFault)
+    → EndsBy at p e → by_scanned at bytes others p ≡ ended e
 ends_so at bytes others End e h = ap ended (sym h)
 ends_so at bytes others (Of kind n) e h = absurd h
 ends_so at bytes others (Bad n) e h = ap ended (sym h)
@@ -64,7 +65,7 @@ ends_so at bytes others Long e h = ap ended (sym h)
 ends_so at bytes others Big e h = ap ended (sym h)
 
 -- a token has a byte at least
-some_bytes : (kind : TokenKind) (bytes : List ℕ) → piece bytes ≡ Of kind (length bytes)
+some_bytes : (kind : TokenKind) (bytes : List ℕ) → scanned bytes ≡ Of kind (length bytes)
     → 0 < length bytes
 some_bytes kind [] e = let z : End ≡ Of kind 0 = e in cc
 some_bytes kind (b ∷ bytes) e = omega arith
@@ -78,9 +79,9 @@ lexed_so : (ts : List Token) (n at : ℕ) (bytes : List ℕ) (e : Option LexFaul
     → Lexes at bytes ts e → lexed_from n at bytes ≡ with_all (map placed ts) (ended e)
 unfolding lexed_from
 lexed_so [] zero at bytes e h k = end_of_nothing (at + gap_len false 0 bytes)
-    (piece (after_gap bytes)) e (nothing_left bytes h) k
+    (scanned (after_gap bytes)) e (nothing_left bytes h) k
 lexed_so [] (suc n) at bytes e h k = ends_so (at + gap_len false 0 bytes) (after_gap bytes)
-    (lexed_from n) (piece (after_gap bytes)) e k
+    (lexed_from n) (scanned (after_gap bytes)) e k
 lexed_so (t ∷ ts) zero at bytes e h k = let z : End ≡ Of t.kind (length t.text.now) =
     sym (nothing_left bytes h) ∙ k.0 in cc
 lexed_so (t ∷ ts) (suc n) at bytes e h k =
@@ -91,18 +92,18 @@ lexed_so (t ∷ ts) (suc n) at bytes e h k =
     let fewer : length (drop len after) ≤ n =
     omega (arith, h, some, length-drop len after, length-drop (gap_len false 0 bytes) bytes) in
     let rest = lexed_so ts n (t.at + len) (drop len after) e fewer k.3 in
-    ap (by_piece from after (lexed_from n)) k.0
+    ap (by_scanned from after (lexed_from n)) k.0
     ∙ ap (λ q. after_token q (lexed_from n (from + len) (drop len after)))
     (same_token t after from k.1 k.2)
     ∙ ap (after_token (placed t)) (ap (λ a. lexed_from n (a + len) (drop len after)) (sym k.2)
     ∙ rest)
 
 -- no text wants memory
-placed_end : (at : ℕ) (p : Piece) (e : LexFault) → EndsBy at p (Some e)
+placed_end : (at : ℕ) (p : Scanned) (e : LexFault) → EndsBy at p (Some e)
     → fault_place e ≡ Some (unwrap_or (fault_place e) 0)
 placed_end at p NoMemory h = absurd (no_memory at p h)
   where
-    no_memory : (at : ℕ) (p : Piece) → EndsBy at p (Some NoMemory) → ⊥
+    no_memory : (at : ℕ) (p : Scanned) → EndsBy at p (Some NoMemory) → ⊥
     no_memory at End k = cc
     no_memory at (Of kind n) k = k
     no_memory at (Bad n) k = cc
@@ -116,7 +117,7 @@ placed_end at p (LongText n) h = refl
 
 placed_fault : (ts : List Token) (at : ℕ) (bytes : List ℕ) (e : LexFault)
     → Lexes at bytes ts (Some e) → fault_place e ≡ Some (unwrap_or (fault_place e) 0)
-placed_fault [] at bytes e h = placed_end (at + gap_len false 0 bytes) (piece (after_gap bytes)) e h
+placed_fault [] at bytes e h = placed_end (at + gap_len false 0 bytes) (scanned (after_gap bytes)) e h
 placed_fault (t ∷ ts) at bytes e h = placed_fault ts (t.at + length t.text.now)
     (drop (length t.text.now) (after_gap bytes)) e h.3
 

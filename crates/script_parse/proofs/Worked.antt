@@ -14,7 +14,7 @@ use Rattle.cond_expr.specs.Trees.{Tree, column, constant, always, compared}
 use Rattle.smo_types.specs.Operators.{nop, create_table, drop_table, rename_table, join_table}
 use Rattle.smo_types.specs.Changes.{insertion, deletion, update}
 use Rattle.smo_types.specs.Commands.{PlainBody, changing, evolving}
-use Rattle.lexical_grammar.specs.Bytes.{gap_len, gap_dash, piece_of, text_value, quote_value}
+use Rattle.lexical_grammar.specs.Bytes.{gap_len, gap_dash, scanned_from, text_value, quote_value}
 use Rattle.lexical_grammar.specs.Bytes.{text_from, text_quote}
 use Rattle.lexical_grammar.specs.Lexemes.{is_name}
 use Rattle.parser_combinators.specs.Parsing.{as_many, more, nodes_more}
@@ -45,7 +45,7 @@ Reads text r = reading text ≡ r
 blanks : Reads (codes "") Blank × Reads (codes " -- AT 1") Blank
     × Reads (codes "AT $ 'b") (Refused (Syntax 3))
     × Reads (codes "QUERY foo 18446744073709551616") (Refused (Syntax 10))
-unfolding reading lexed_from gap_len gap_dash piece_of text_value quote_value text_from text_quote
+unfolding reading lexed_from gap_len gap_dash scanned_from text_value quote_value text_from text_quote
 blanks = (refl, refl, refl, refl)
 
 -- ---- queries
@@ -70,7 +70,7 @@ queries :
     × Reads (codes "QUERY VERSION 4294967296 SELECT a FROM t") (Refused (Syntax 14))
     × Reads (codes "QUERY VERSION 1 SELECT FROM t") (Refused (Syntax 23))
     × Reads (codes "QUERY VERSION 1 SELECT a ") (Refused (Syntax 25))
-unfolding reading lexed_from gap_len gap_dash piece_of is_name name small more statement ask_rest
+unfolding reading lexed_from gap_len gap_dash scanned_from is_name name small more statement ask_rest
     query.ask query.branches query.branch query.outputs query.output query.items query.item
     query.alias fresh_where expr ref_rest outermost query.when_part query.as_of query.range
     query.during query.keeping
@@ -95,7 +95,7 @@ wide_queries :
     × Reads (codes
     "QUERY VERSION 1 SELECT a FROM t KEEP COVERING 1 AND COVERING 1 AND COVERING 1 AND COVERING 1 AND COVERING 1 AND COVERING 1 AND COVERING 1 AND COVERING 1 AND")
     (Refused (TooMany Keeps 8))
-unfolding reading lexed_from gap_len gap_dash piece_of is_name name small moment more statement
+unfolding reading lexed_from gap_len gap_dash scanned_from is_name name small moment more statement
     ask_rest query.ask query.branches query.branch query.outputs query.output query.items query.item
     query.alias fresh_where expr ref_rest outermost query.when_part query.as_of query.range
     query.during query.keeping query.keeps query.keep query.between query.covering query.bounds
@@ -107,7 +107,7 @@ many_branches : Reads
     (codes
     "QUERY VERSION 1 SELECT 1 FROM t UNION SELECT 1 FROM t UNION SELECT 1 FROM t UNION SELECT 1 FROM t UNION SELECT 1 FROM t UNION SELECT 1 FROM t UNION SELECT 1 FROM t UNION SELECT 1 FROM t UNION SELECT 1 FROM t UNION SELECT 1 FROM t UNION SELECT 1 FROM t UNION SELECT 1 FROM t UNION SELECT 1 FROM t UNION SELECT 1 FROM t UNION SELECT 1 FROM t UNION SELECT 1 FROM t UNION")
     (Refused (TooMany Branches 16))
-unfolding reading lexed_from gap_len gap_dash piece_of is_name name small more statement ask_rest
+unfolding reading lexed_from gap_len gap_dash scanned_from is_name name small more statement ask_rest
     query.ask query.branches query.branch query.outputs query.output query.items query.item
     query.alias fresh_where expr ref_rest outermost
 many_branches = refl
@@ -119,7 +119,7 @@ explained :
     × Reads (codes "EXPLAIN EXPLAIN QUERY VERSION 1 SELECT a FROM t") (Refused (Syntax 8))
     × Reads (codes "EXPLAIN QUERY") (Refused (Syntax 13))
     × Reads (codes "EXPLAIN SHOW VERSIONS") (Refused (Syntax 8))
-unfolding reading lexed_from gap_len gap_dash piece_of is_name name small more statement
+unfolding reading lexed_from gap_len gap_dash scanned_from is_name name small more statement
     explain_rest query.ask query.branches query.branch query.outputs query.output query.items
     query.item query.alias fresh_where expr ref_rest outermost query.when_part query.as_of
     query.range query.during query.keeping
@@ -132,7 +132,7 @@ shown :
     × Reads (codes "SHOW SIZES") (Whole show_sizes)
     × Reads (codes "SHOW TABLE") (Refused (Syntax 5))
     × Reads (codes "SHOW SIZES 1") (Refused (Syntax 11))
-unfolding reading lexed_from gap_len gap_dash piece_of small statement show_rest schema_rest
+unfolding reading lexed_from gap_len gap_dash scanned_from small statement show_rest schema_rest
 shown = (refl, refl, refl, refl, refl, refl)
 
 -- the word alone, which no name spells
@@ -142,7 +142,7 @@ checkpoints :
     × Reads (codes "checkpoint") (Refused (Syntax 0))
     × Reads (codes "AT 1 CHECKPOINT") (Refused (Syntax 5))
     × Reads (codes "SHOW CHECKPOINT") (Refused (Syntax 5))
-unfolding reading lexed_from gap_len gap_dash piece_of moment statement write_rest body changes
+unfolding reading lexed_from gap_len gap_dash scanned_from moment statement write_rest body changes
     change show_rest
 checkpoints = (refl, refl, refl, refl, refl)
 
@@ -174,7 +174,7 @@ evolutions :
     × Reads (codes
     "AT 1 EVOLVE NOP INVERSE NOP THEN NOP THEN NOP THEN NOP THEN NOP THEN NOP THEN NOP THEN NOP NOP")
     (Refused (Syntax 91))
-unfolding reading lexed_from gap_len gap_dash piece_of is_name name moment as_many more statement
+unfolding reading lexed_from gap_len gap_dash scanned_from is_name name moment as_many more statement
     write_rest body evolve_rest inverse ops op smo.operator smo.create_rest smo.columns smo.column
     smo.column_type smo.rename_rest smo.rename_table_rest smo.join_rest outer_where smo.drop_rest
     smo.drop_table_rest
@@ -187,7 +187,7 @@ insertions :
     (at 5 (changing (insertion t ((a, number 1) ∷ []) ∷ deletion t always ∷ [])))
     × Reads (codes "AT 5 INSERT INTO t (a, b) VALUES (1)") (Refused (Syntax 35))
     × Reads (codes "AT 5 INSERT INTO t (a) VALUES (1, 2)") (Refused (Syntax 32))
-unfolding reading lexed_from gap_len gap_dash piece_of text_value quote_value text_from text_quote
+unfolding reading lexed_from gap_len gap_dash scanned_from text_value quote_value text_from text_quote
     is_name name names moment const as_many statement write_rest body changes change insert_rest row
     constants more_constants delete_rest fresh_where
 insertions = (refl, refl, refl, refl)
@@ -204,7 +204,7 @@ conditions :
     × Reads (codes "AT 5 DELETE FROM t WHERE ((((((((((((((((((((((((((((((((( x")
     (Refused (TooMany Depth 32))
     × Reads (codes "AT 5 UPDATE t SET a = CONCAT(1,2,3,4,5,6,7,8,9)") (Refused (TooMany Parts 8))
-unfolding reading lexed_from gap_len gap_dash piece_of is_name name moment as_many statement
+unfolding reading lexed_from gap_len gap_dash scanned_from is_name name moment as_many statement
     write_rest body changes change delete_rest update_rest settings setting fresh_where ref_rest
     concat_rest expr comparison bracketed fact facts conj conjs cond outermost more nodes_more
 conditions = (refl, refl, refl, refl, refl, refl)

@@ -5,9 +5,10 @@ use Rattle.lexical_grammar.specs.declared.fault.LexFault.{LexFault}
 use Rattle.lexical_grammar.specs.declared.fault.LexFault.TheVariants.{NoMemory, BadByte, OpenQuote}
 use Rattle.lexical_grammar.specs.declared.fault.LexFault.TheVariants.{BigNumber, LongText}
 use Rattle.lexical_grammar.specs.declared.kind.TokenKind.{TokenKind}
-use Rattle.lexical_grammar.specs.declared.piece.Piece.{Piece}
-use Rattle.lexical_grammar.specs.declared.piece.Piece.TheVariants.{End, Of, Bad, Open, Long, Big}
-use Rattle.lexical_grammar.specs.Bytes.{gap_len, piece}
+use Rattle.lexical_grammar.specs.declared.scanned.Scanned.{Scanned}
+use Rattle.lexical_grammar.specs.declared.scanned.Scanned.TheVariants.{End, Of, Bad, Open, Long}
+use Rattle.lexical_grammar.specs.declared.scanned.Scanned.TheVariants.{Big}
+use Rattle.lexical_grammar.specs.Bytes.{gap_len, scanned}
 use Rattle.lexical_grammar.specs.declared.token.Token.{Token}
 use Rattle.lexical_grammar.specs.Lexed.{Lexes, after_gap}
 use Rattle.lexical_grammar.specs.Lexemes.{Lexeme, says, lexeme}
@@ -30,21 +31,21 @@ after_token t (Tokens ts) = Tokens (t ∷ ts)
 after_token t (Faulty at) = Faulty at
 
 -- by what stands in front of these bytes, which begin at a place, and what the bytes after it are
-abbrev pub by_piece : ℕ → List ℕ → (ℕ → List ℕ → Lexed) → Piece → Lexed
-by_piece at bytes others End = Tokens []
-by_piece at bytes others (Of kind n) = after_token (a_token kind (take n bytes) at)
+abbrev pub by_scanned : ℕ → List ℕ → (ℕ → List ℕ → Lexed) → Scanned → Lexed
+by_scanned at bytes others End = Tokens []
+by_scanned at bytes others (Of kind n) = after_token (a_token kind (take n bytes) at)
     (others (at + n) (drop n bytes))
-by_piece at bytes others (Bad n) = Faulty (at + n)
-by_piece at bytes others Open = Faulty at
-by_piece at bytes others Long = Faulty at
-by_piece at bytes others Big = Faulty at
+by_scanned at bytes others (Bad n) = Faulty (at + n)
+by_scanned at bytes others Open = Faulty at
+by_scanned at bytes others Long = Faulty at
+by_scanned at bytes others Big = Faulty at
 
 -- the bytes from a place on, with no more than so many tokens: each is the longest after the blanks
 -- and comments before it
 unfoldable pub lexed_from : ℕ → ℕ → List ℕ → Lexed
 lexed_from zero at bytes = Tokens []
-lexed_from (suc n) at bytes = by_piece (at + gap_len false 0 bytes) (after_gap bytes) (lexed_from n)
-    (piece (after_gap bytes))
+lexed_from (suc n) at bytes = by_scanned (at + gap_len false 0 bytes) (after_gap bytes) (lexed_from n)
+    (scanned (after_gap bytes))
 
 -- each token takes a byte at least, so there are no more than bytes
 abbrev pub lexed : List ℕ → Lexed

@@ -59,11 +59,11 @@ pub data StatementPart : Type 0 where
   Whole : List ℕ → StatementPart
   Skipped : StatementPart
 
-abbrev pub piece_of : List ℕ → StatementPart
-piece_of statement = if is_too_long statement then Skipped else Whole statement
+abbrev pub part_of : List ℕ → StatementPart
+part_of statement = if is_too_long statement then Skipped else Whole statement
 
-abbrev pub pieces_from : Mode → List ℕ → List ℕ → List StatementPart
-pieces_from mode current bytes = map piece_of (statements_from mode current bytes)
+abbrev pub parts_from : Mode → List ℕ → List ℕ → List StatementPart
+parts_from mode current bytes = map part_of (statements_from mode current bytes)
 
 -- a space, a tab, an LF or a CR
 abbrev pub is_blank : ℕ → Bool

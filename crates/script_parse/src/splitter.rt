@@ -53,8 +53,8 @@ pub enum Tail {
 
 ghost use Rattle.std.specs.Prelude.{◌≡◌, ◌+◌, ◌≤◌, ℕ, List, [], ◌∷◌, ◌++◌, ◌&&◌, false, true};
 ghost use Rattle.std.specs.Prelude.{length, IfOk, OnOk, OnErr};
-ghost use Rattle.script_parse.specs.Script.{is_end, is_too_long, longest_statement, piece_of};
-ghost use Rattle.script_parse.specs.Script.{pieces_from, tail_from, ending, all_quiet, is_settled};
+ghost use Rattle.script_parse.specs.Script.{is_end, is_too_long, longest_statement, part_of};
+ghost use Rattle.script_parse.specs.Script.{parts_from, tail_from, ending, all_quiet, is_settled};
 ghost use Rattle.script_parse.specs.Splitting.{State, fresh, keep, step, found, IsEndOf, IsSettled};
 ghost use Rattle.script_parse.specs.Splitting.{IsFewer, IsWithin};
 
@@ -117,7 +117,7 @@ impl Splitter {
     // Hands out the current statement at its `;`.
     fn end(&mut self) -> Cut
         requires { self.old.spent ≡ false }
-        ensures cut { found result ≡ piece_of self.old.kept ∷ [] }
+        ensures cut { found result ≡ part_of self.old.kept ∷ [] }
         ensures within { IsWithin result }
         ensures next { self.new ≡ fresh }
     {
@@ -137,8 +137,8 @@ impl Splitter {
     #[tactic(auto, using(crate::proofs::ScriptReading::rest_is_end))]
     pub fn feed<'b>(&mut self, bytes: &'b [u8]) -> Result<(Cut, &'b [u8]), NoMemory>
         ensures statements { (more : List ℕ) → IfOk result
-            (λ r. pieces_from self.old.mode self.old.kept (bytes.now ++ more)
-            ≡ found r.0 ++ pieces_from self.new.mode self.new.kept (r.1.now ++ more)) }
+            (λ r. parts_from self.old.mode self.old.kept (bytes.now ++ more)
+            ≡ found r.0 ++ parts_from self.new.mode self.new.kept (r.1.now ++ more)) }
         ensures tail { (more : List ℕ) → IfOk result
             (λ r. ending (tail_from self.old.mode self.old.kept (bytes.now ++ more))
             ≡ ending (tail_from self.new.mode self.new.kept (r.1.now ++ more))) }

@@ -44,12 +44,7 @@ fn write_rest(alloc: Global, c: &mut Cursor<'_, '_>) -> Result<Statement, Stop>
 {
     let stamp = moment(c)?;
     let body = body(alloc, c)?;
-    match Command::new(stamp, body) {
-        Some(command) => Ok(Statement::Write(command)),
-        // `moment` reads no number above 2^64 - 2, so each stamp is below FOREVER, and has a
-        // command.
-        None => unreachable!(),
-    }
+    Ok(Statement::Write(Command::of(stamp, body)))
 }
 
 // What stands after QUERY.

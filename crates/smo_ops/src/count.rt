@@ -20,7 +20,9 @@ use prima_base::limits::{MAX_CHANGES, MAX_DEPTH, MAX_INVERSE, MAX_NODES, MAX_PAR
 use prima_base::{Name, Value, What};
 use smo_types::{Body, Change, Command, Op};
 
-fn check_size(size: TreeSize) -> Result<(), (What, u64)>
+/// Whether a tree's nodes, depth and parts are within their limits: else the first that is not, with
+/// its limit. It takes no memory.
+pub fn check_size(size: TreeSize) -> Result<(), (What, u64)>
     ensures { result_err result ≡ first_refusal
         (at_most Nodes 256 size.nodes ∷ at_most Depth 32 size.depth ∷ at_most Parts 8 size.parts
         ∷ []) }

@@ -13,7 +13,7 @@ mod effect;
 mod type_check;
 
 pub use check::{check_change, check_changes};
-pub use count::{change_nodes, check_counts, check_evolve};
+pub use count::{change_nodes, check_counts, check_evolve, check_size};
 pub use effect::{inserted_row, make_set, row_meets, row_value, row_with_sets};
 pub use prima_base::OpRefusal;
 pub use smo_meaning::{

@@ -10,10 +10,10 @@ use Rattle.smo_types.specs.Operators.{Operator, operator_of}
 use Rattle.lexical_grammar.specs.declared.token.Token.{Token}
 use Rattle.lexical_grammar.specs.declared.kind.TokenKind.{TokenKind}
 use Rattle.lexical_grammar.specs.declared.kind.TokenKind.TheVariants.{Word, Number, Text, Sign}
-use Rattle.lexical_grammar.specs.declared.piece.Piece.TheVariants.{Of}
+use Rattle.lexical_grammar.specs.declared.scanned.Scanned.TheVariants.{Of}
 use Rattle.parser_combinators.specs.declared.fault.ParseFault.{ParseFault}
 use Rattle.parser_combinators.specs.declared.fault.ParseFault.TheVariants as fault
-use Rattle.lexical_grammar.specs.Bytes.{piece}
+use Rattle.lexical_grammar.specs.Bytes.{scanned}
 use Rattle.lexical_grammar.specs.Lexemes.{Lexeme, says, lexeme}
 use Rattle.parser_combinators.specs.Parsing.{Out, Parsed, Unexpected, LimitExceeded, Fine, Exceeds}
 use Rattle.parser_combinators.specs.Parsing.{Valid as WithinLimits, limit}
@@ -31,7 +31,7 @@ use Rattle.smo_parse.proofs.PrintedOperators.{operator_prints}
 
 -- ---- tokens say what is valid
 
-token_valid : (kind : TokenKind) (bytes : List ℕ) → piece bytes ≡ Of kind (length bytes)
+token_valid : (kind : TokenKind) (bytes : List ℕ) → scanned bytes ≡ Of kind (length bytes)
     → Valid (says kind bytes)
 token_valid Word bytes e = λ ok. named Word bytes e refl ok
 token_valid Number bytes e = tt

@@ -179,7 +179,8 @@ same_ways q c nodes wide e p =
     record {
       part = p;
       whole = subst P e (as_cond q c nodes wide (test_depth c)
-          (test_text false true c) (as_conj q c nodes wide (test_depth c) (test_text false true c) p));
+          (test_text false true c)
+          (as_conj q c nodes wide (test_depth c) (test_text false true c) p));
     }
 
 -- one less than the depth by itself, and in brackets as a part
@@ -360,7 +361,8 @@ mutual
           arith,
           deep_too i.size.depth (max j.size.depth y.size.depth)
               (test_depth c) (max (depth_of a) (depth_of b)) i.no_deeper
-              (deep_too j.size.depth y.size.depth (depth_of a) (depth_of b) j.no_deeper y.no_deeper),
+              (deep_too j.size.depth y.size.depth (depth_of a) (depth_of b) j.no_deeper
+              y.no_deeper),
         );
         spells = as_text _ _ _ (right7 (codes "CASE WHEN ") (test_text false false c)
             (codes " THEN ") (tree_text false a) (codes " ELSE ") (tree_text false b)

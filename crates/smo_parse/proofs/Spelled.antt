@@ -2,12 +2,12 @@
 use Rattle.std.proofs.Common.{◌≡◌, ℕ, suc, ◌+◌, Bool, true, false, cond, not, ◌==◌, List, [], ◌∷◌}
 use Rattle.std.proofs.Common.{◌++◌, length, map, take, drop, codes, Option, None, refl, sym, ap}
 use Rattle.std.proofs.Common.{◌∙◌, subst, arith, append_assoc, append-nil}
-use Rattle.lexical_grammar.specs.declared.token.Token.{Token as Piece_token}
+use Rattle.lexical_grammar.specs.declared.token.Token.{Token as Scanned_token}
 use Rattle.lexical_grammar.specs.declared.kind.TokenKind.{TokenKind}
-use Rattle.lexical_grammar.specs.declared.piece.Piece.{Piece}
-use Rattle.lexical_grammar.specs.declared.piece.Piece.TheVariants.{End, Of}
+use Rattle.lexical_grammar.specs.declared.scanned.Scanned.{Scanned}
+use Rattle.lexical_grammar.specs.declared.scanned.Scanned.TheVariants.{End, Of}
 use Rattle.lexical_grammar.specs.declared.fault.LexFault.{LexFault}
-use Rattle.lexical_grammar.specs.Bytes.{is_blank, gap_len, gap_dash, piece}
+use Rattle.lexical_grammar.specs.Bytes.{is_blank, gap_len, gap_dash, scanned}
 use Rattle.lexical_grammar.specs.Lexed.{Lexes, EndsBy, after_gap}
 use Rattle.lexical_grammar.specs.Lexemes.{Lexeme, sign, says, lexeme}
 use Rattle.smo_parse.proofs.Spellings.{kind_of, written, Writable, Closing, closing_append, Token}
@@ -103,15 +103,15 @@ space_gap bytes = let e : gap_len false 0 bytes + 1 ≡ suc (gap_len false 0 byt
     gap_later false 0 bytes ∙ e
 
 -- after a space the same tokens stand, one place further
-without_space : (at : ℕ) (bytes : List ℕ) (ts : List Piece_token) (e : Option LexFault)
+without_space : (at : ℕ) (bytes : List ℕ) (ts : List Scanned_token) (e : Option LexFault)
     → Lexes at (32 ∷ bytes) ts e → Lexes (at + 1) bytes ts e
 without_space at bytes [] e h =
-    let P : ℕ → Type 0 = λ k. EndsBy (at + k) (piece (drop k (32 ∷ bytes))) e in
-    let Q : ℕ → Type 0 = λ k. EndsBy k (piece (after_gap bytes)) e in
+    let P : ℕ → Type 0 = λ k. EndsBy (at + k) (scanned (drop k (32 ∷ bytes))) e in
+    let Q : ℕ → Type 0 = λ k. EndsBy k (scanned (after_gap bytes)) e in
     let z : at + suc (gap_len false 0 bytes) ≡ at + 1 + gap_len false 0 bytes = omega arith in
     subst Q z (subst P (space_gap bytes) h)
 without_space at bytes (t ∷ ts) e h =
-    let P : ℕ → Type 0 = λ k. piece (drop k (32 ∷ bytes)) ≡ Of t.kind (length t.text.now) in
+    let P : ℕ → Type 0 = λ k. scanned (drop k (32 ∷ bytes)) ≡ Of t.kind (length t.text.now) in
     let Q : ℕ → Type 0 = λ k. t.text.now ≡ take (length t.text.now) (drop k (32 ∷ bytes)) in
     let R : ℕ → Type 0 = λ k. Lexes (t.at + length t.text.now)
     (drop (length t.text.now) (drop k (32 ∷ bytes))) ts e in
@@ -140,7 +140,7 @@ same_of k l m n e = (cc, cc)
 
 -- just these tokens, and no fault
 abbrev pub HasTokens : List Lexeme → List ℕ → Type 0
-HasTokens f bytes = (at : ℕ) (ts : List Piece_token) (e : Option LexFault) → Lexes at bytes ts e
+HasTokens f bytes = (at : ℕ) (ts : List Scanned_token) (e : Option LexFault) → Lexes at bytes ts e
     → (map lexeme ts ≡ f) × (e ≡ None)
 
 token_first : (x : Lexeme) (f : List Lexeme) (rest : List ℕ) → Token x rest → HasTokens f rest
@@ -150,12 +150,12 @@ token_first x f rest k more at ts e h = by_tokens ts h
     after : after_gap (written x ++ rest) ≡ written x ++ rest
     after = ap (λ n. drop n (written x ++ rest)) k.near
 
-    is : piece (after_gap (written x ++ rest)) ≡ Of (kind_of x) (length (written x))
-    is = ap piece after ∙ k.whole
+    is : scanned (after_gap (written x ++ rest)) ≡ Of (kind_of x) (length (written x))
+    is = ap scanned after ∙ k.whole
 
-    by_tokens : (us : List Piece_token) → Lexes at (written x ++ rest) us e
+    by_tokens : (us : List Scanned_token) → Lexes at (written x ++ rest) us e
         → (map lexeme us ≡ x ∷ f) × (e ≡ None)
-    by_tokens [] i = absurd (let P : Piece → Type 0 = λ p.
+    by_tokens [] i = absurd (let P : Scanned → Type 0 = λ p.
         EndsBy (at + gap_len false 0 (written x ++ rest)) p e in subst P is i)
     by_tokens (t ∷ us) i =
         let s = same_of t.kind (kind_of x) (length t.text.now) (length (written x))

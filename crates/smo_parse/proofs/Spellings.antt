@@ -13,11 +13,11 @@ use Rattle.std.proofs.lemmas.Str.Parse.{IsNumeralModel, numerals_by_fold}
 use Rattle.prima_base.specs.Bytes.{is_control, is_digit, is_name_byte, first_from, IsName, IsTxt}
 use Rattle.lexical_grammar.specs.declared.kind.TokenKind.{TokenKind}
 use Rattle.lexical_grammar.specs.declared.kind.TokenKind.TheVariants.{Word, Number, Text, Sign}
-use Rattle.lexical_grammar.specs.declared.piece.Piece.TheVariants.{Of, Long, Big}
+use Rattle.lexical_grammar.specs.declared.scanned.Scanned.TheVariants.{Of, Long, Big}
 use Rattle.lexical_grammar.specs.Bytes.{is_word_start, is_blank, gap_len, gap_dash, number_from}
-use Rattle.lexical_grammar.specs.Bytes.{number as value_of, is_big, number_piece, digits_of}
+use Rattle.lexical_grammar.specs.Bytes.{number as value_of, is_big, scanned_number, digits_of}
 use Rattle.lexical_grammar.specs.Bytes.{text_value, text_from, text_quote, sized}
-use Rattle.lexical_grammar.specs.Bytes.{sign as sign_piece, piece}
+use Rattle.lexical_grammar.specs.Bytes.{sign as scanned_sign, scanned}
 use Rattle.lexical_grammar.specs.Spaced.{Each, NoneNext, is_quote}
 use Rattle.lexical_grammar.specs.Lexemes.{Lexeme, word, number, text, sign, signed, integer, says}
 use Rattle.lexical_grammar.specs.Lexemes.{is_int, is_one_of}
@@ -68,7 +68,7 @@ closing_append (b ∷ bytes) rest h k = h
 -- no gap stands before it, it is one token, and that says it
 pub record Token (x : Lexeme) (rest : List ℕ) : Type 0 where
   pub near : gap_len false 0 (written x ++ rest) ≡ 0
-  pub whole : piece (written x ++ rest) ≡ Of (kind_of x) (length (written x))
+  pub whole : scanned (written x ++ rest) ≡ Of (kind_of x) (length (written x))
   pub means : says (kind_of x) (written x) ≡ x
 
 -- ---- what a byte is
@@ -206,12 +206,12 @@ below n h = omega (arith, h)
 -- digits, with no sign before them
 digits_token : (n : ℕ) (ds rest : List ℕ) → n < 2 ^ 64 → 0 < length ds → Each is_digit ds
     → value_of ds ≡ n → Closing rest → (gap_len false 0 (ds ++ rest) ≡ 0)
-    × (piece (ds ++ rest) ≡ Of Number (length ds)) × (integer ds ≡ pos n)
+    × (scanned (ds ++ rest) ≡ Of Number (length ds)) × (integer ds ≡ pos n)
 digits_token n [] rest few some h e k = absurd (omega (arith, some))
 digits_token n (d ∷ ds) rest few some h e k = (
   no_gap d (ds ++ rest) (digit_no_blank d h.0) (digit_no_dash d h.0),
   at_digit d (ds ++ rest) (digit_no_start d h.0) h.0
-      ∙ ap (number_piece false 0) (digits_are (d ∷ ds) rest h k)
+      ∙ ap (scanned_number false 0) (digits_are (d ∷ ds) rest h k)
       ∙ ap (λ t. cond t Big (Of Number (0 + length (d ∷ ds)))) (ap (is_big false) e ∙ not_big n few)
       ∙ (let z : 0 + length (d ∷ ds) ≡ length (d ∷ ds) = omega arith in ap (Of Number) z),
   ap (λ t. cond t (signed true (value_of ds)) (signed false (value_of (d ∷ ds))))
@@ -221,12 +221,12 @@ digits_token n (d ∷ ds) rest few some h e k = (
 minus_token : (n : ℕ) (ds rest : List ℕ) → suc n ≤ 9223372036854775808 → 0 < length ds
     → Each is_digit ds → value_of ds ≡ suc n → Closing rest
     → (gap_len false 0 (45 ∷ (ds ++ rest)) ≡ 0)
-    × (piece (45 ∷ (ds ++ rest)) ≡ Of Number (length (45 ∷ ds))) × (integer (45 ∷ ds) ≡ negsuc n)
+    × (scanned (45 ∷ (ds ++ rest)) ≡ Of Number (length (45 ∷ ds))) × (integer (45 ∷ ds) ≡ negsuc n)
 minus_token n [] rest few some h e k = absurd (omega (arith, some))
 minus_token n (d ∷ ds) rest few some h e k = (
   no_comment d (ds ++ rest) (digit_no_dash d h.0),
   at_minus 45 (d ∷ (ds ++ rest)) refl refl refl h.0
-      ∙ ap (number_piece true 1) (digits_are (d ∷ ds) rest h k)
+      ∙ ap (scanned_number true 1) (digits_are (d ∷ ds) rest h k)
       ∙ ap (λ t. cond t Big (Of Number (1 + length (d ∷ ds))))
       (ap (is_big true) e ∙ not_low (suc n) few)
       ∙ (let z : 1 + length (d ∷ ds) ≡ length (45 ∷ d ∷ ds) = omega arith in ap (Of Number) z),
@@ -310,7 +310,7 @@ text_token t rest h k =
     omega (arith, length-append (doubled t) (39 ∷ [])) in
     record {
       near = no_gap 39 ((doubled t ++ 39 ∷ []) ++ rest) refl refl;
-      whole = ap (λ l. piece (39 ∷ l)) same ∙ at_quote 39 (doubled t ++ 39 ∷ rest) refl refl refl
+      whole = ap (λ l. scanned (39 ∷ l)) same ∙ at_quote 39 (doubled t ++ 39 ∷ rest) refl refl refl
           ∙ ap (λ l. sized (length l) (text_from 1 (doubled t ++ 39 ∷ rest))) (text_means t rest k)
           ∙ ap (sized (length t)) (text_follow 1 0 t rest h.1 k)
           ∙ ap (λ b. cond b Long (Of Text (1 + length (doubled t) + 1))) (not_long (length t) h.0)
@@ -321,7 +321,7 @@ text_token t rest h k =
 -- ---- signs
 
 -- ( ) , . =
-alone : (b : ℕ) (rest : List ℕ) → gap_len false 0 (b ∷ rest) ≡ 0 → piece (b ∷ rest) ≡ Of Sign 1
+alone : (b : ℕ) (rest : List ℕ) → gap_len false 0 (b ∷ rest) ≡ 0 → scanned (b ∷ rest) ≡ Of Sign 1
     → Token (sign (b ∷ [])) rest
 alone b rest e f = record { near = e; whole = f; means = refl }
 
@@ -344,7 +344,7 @@ less_token : (rest : List ℕ) → Closing rest → Token (sign (codes "<")) res
 less_token rest k = alone 60 rest (no_gap 60 rest refl refl)
     (at_sign 60 rest refl refl refl refl ∙ one rest k)
   where
-    one : (l : List ℕ) → Closing l → sign_piece 60 (get_or l 0 0) ≡ Of Sign 1
+    one : (l : List ℕ) → Closing l → scanned_sign 60 (get_or l 0 0) ≡ Of Sign 1
     one [] h = refl
     one (c ∷ l) h = ap (λ t. cond (t || false) (Of Sign 2) (Of Sign 1)) (no_second c h)
 
@@ -352,12 +352,12 @@ greater_token : (rest : List ℕ) → Closing rest → Token (sign (codes ">")) 
 greater_token rest k = alone 62 rest (no_gap 62 rest refl refl)
     (at_sign 62 rest refl refl refl refl ∙ one rest k)
   where
-    one : (l : List ℕ) → Closing l → sign_piece 62 (get_or l 0 0) ≡ Of Sign 1
+    one : (l : List ℕ) → Closing l → scanned_sign 62 (get_or l 0 0) ≡ Of Sign 1
     one [] h = refl
     one (c ∷ l) h = ap (λ t. cond t (Of Sign 2) (Of Sign 1)) (no_equal c h)
 
 two : (b c : ℕ) (rest : List ℕ) → gap_len false 0 (b ∷ c ∷ rest) ≡ 0
-    → piece (b ∷ c ∷ rest) ≡ Of Sign 2 → Token (sign (b ∷ c ∷ [])) rest
+    → scanned (b ∷ c ∷ rest) ≡ Of Sign 2 → Token (sign (b ∷ c ∷ [])) rest
 two b c rest e f = record { near = e; whole = f; means = refl }
 
 unequal_token : (rest : List ℕ) → Token (sign (codes "<>")) rest

@@ -9,9 +9,8 @@ ghost use Rattle.smo_meaning.specs.OneRow.{same};
 ghost use Rattle.smo_meaning.specs.Making.{column_cmp, in_order, without, renamed, with_column};
 ghost use Rattle.smo_schemas.specs.Placed.{IsGap};
 
-use prima_base::{ColType, Name, NoMemory, same_name};
+use prima_base::{ColType, Name, NoMemory, copy_columns, same_name};
 use schema_catalog::{Schema, Table};
-use smo_types::copy_columns;
 use std::alloc::Global;
 use std::cmp::Ordering;
 use std::collections::BTreeSet;

@@ -143,6 +143,7 @@ pub fn schema_after(alloc: Global, schema: &Schema, op: &Op) -> Result<Schema, N
 {
     match after(alloc, schema, op) {
         Ok(next) => Ok(next),
+        // The operator is not refused on the schema, as `accepted` says.
         Err(OpFault::Refused(_)) => unreachable!(),
         Err(OpFault::NoMemory) => Err(NoMemory),
     }

@@ -54,6 +54,15 @@ impl Command {
         None
     }
 
+    /// The command with this stamp, which is a moment below `FOREVER`, and this body. It takes no
+    /// memory.
+    pub fn of(stamp: u64, body: Body) -> Command
+        requires { stamp < forever }
+        ensures { result ≡ (stamp, body) }
+    {
+        Command { stamp, body }
+    }
+
     /// The moment from which the command's effect is seen.
     pub fn stamp(&self) -> u64
         ensures value { result ≡ self.now.0 }

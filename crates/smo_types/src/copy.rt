@@ -9,22 +9,8 @@ ghost use Rattle.cond_expr.specs.Seen.{tree, test};
 
 use crate::{Body, Change, Op};
 use cond_expr::{Cond, Expr};
-use prima_base::{ColType, Name, NoMemory, Value};
+use prima_base::{ColType, Name, NoMemory, Value, copy_columns};
 use std::alloc::Global;
-
-/// Equal columns. The one error is `NoMemory`, where memory runs out.
-pub fn copy_columns(
-    alloc: Global,
-    columns: &[(Name, ColType)],
-) -> Result<Vec<(Name, ColType)>, NoMemory>
-    ensures { IfOk result (λ v. v.items ≡ columns.now) }
-{
-    let mut copied = Vec::with_capacity(alloc, columns.len())?;
-    for (name, kind) in columns {
-        copied.push((name.copy()?, *kind))?;
-    }
-    Ok(copied)
-}
 
 fn copy_names(alloc: Global, names: &[Name]) -> Result<Vec<Name>, NoMemory>
     ensures { IfOk result (λ v. v.items ≡ names.now) }

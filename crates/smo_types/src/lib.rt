@@ -13,6 +13,5 @@ mod version;
 
 pub use change::{Change, ChangeFault};
 pub use command::{Body, Command};
-pub use copy::copy_columns;
 pub use op::{InverseFault, Op, OpFault};
 pub use version::{Version, Versions};

@@ -1,9 +1,8 @@
-ghost use Rattle.std.specs.Prelude.{◌≡◌, ◌∷◌, [], map};
+ghost use Rattle.std.specs.Prelude.{◌≡◌, map};
 ghost use Rattle.std.specs.List.{flat_map};
-ghost use Rattle.prima_base.specs.declared.refusal.What.TheVariants.{Nodes, Depth, Parts};
 ghost use Rattle.cond_expr.specs.Seen.{tree, test};
 ghost use Rattle.smo_meaning.specs.First.{first_refusal};
-ghost use Rattle.smo_meaning.specs.Counts.{at_most, tree_counts, test_counts};
+ghost use Rattle.smo_meaning.specs.Counts.{tree_counts, test_counts};
 ghost use Rattle.query_types.specs.Branches.{branch_of, branches_of};
 ghost use Rattle.query_types.specs.Queries.{query_of};
 ghost use Rattle.query_meaning.specs.Checking.{output_counts, branch_counts, branches_counts};
@@ -11,28 +10,10 @@ ghost use Rattle.query_meaning.specs.Checking.{excess_of};
 ghost use Rattle.std.specs.Result.{result_err};
 
 use crate::{Branch, Query};
-use cond_expr::{Cond, Expr, TreeSize, cond_size, expr_size};
+use cond_expr::{Cond, Expr, cond_size, expr_size};
 use prima_base::What;
-use prima_base::limits::{
-    MAX_BRANCH_TABLES, MAX_BRANCHES, MAX_DEPTH, MAX_KEEPS, MAX_NODES, MAX_OUTPUTS, MAX_PARTS,
-};
-
-fn check_size(size: TreeSize) -> Result<(), (What, u64)>
-    ensures { result_err result ≡ first_refusal
-        (at_most Nodes 256 size.nodes ∷ at_most Depth 32 size.depth ∷ at_most Parts 8 size.parts
-        ∷ []) }
-{
-    if size.nodes > MAX_NODES {
-        return Err((What::Nodes, MAX_NODES));
-    }
-    if size.depth > MAX_DEPTH {
-        return Err((What::Depth, MAX_DEPTH));
-    }
-    if size.parts > MAX_PARTS {
-        return Err((What::Parts, MAX_PARTS));
-    }
-    Ok(())
-}
+use prima_base::limits::{MAX_BRANCH_TABLES, MAX_BRANCHES, MAX_KEEPS, MAX_OUTPUTS};
+use smo_ops::check_size;
 
 fn check_output(expr: &Expr) -> Result<(), (What, u64)>
     ensures { result_err result ≡ first_refusal (tree_counts (tree expr.now)) }

@@ -1,7 +1,6 @@
 use Rattle.std.proofs.lemmas.Result.{err_from_is_err_and}
-use Rattle.smo_types.specs.Operators.{decompose_table}
 use Rattle.command_spelling.specs.Reading.{pair}
-use Rattle.command_spelling.specs.Reader.{name, names, two_names}
+use Rattle.command_spelling.specs.Reader.{name, names, two_names, decomposed}
 use Rattle.command_checker.proofs.Steps.{mapped, mapped_halts, paired, both_pass}
 use Rattle.command_checker.proofs.Steps.{first_of_pair_halts, second_of_pair_halts}
 use Rattle.command_checker.proofs.operator.check_decomposed_table.Goals as goal
@@ -9,8 +8,8 @@ use Rattle.command_checker.proofs.operator.check_decomposed_table.Goals as goal
 pub returns-in_err-check_two_names : goal.returns-in_err-check_two_names
 returns-in_err-check_two_names c =
     let f = err_from_is_err_and c.from_residual.result c.from_residual.ensures.1 in
-    rw (f.1, f.2) (mapped_halts (λ x. decompose_table x.0.0.0.0 x.0.0.0.1 x.0.0.1 x.0.1 x.1)
-    (pair (pair (pair two_names names) name) names) c.args.reader.now.rest.now
+    rw (f.1, f.2) (mapped_halts decomposed (pair (pair (pair two_names names) name) names)
+    c.args.reader.now.rest.now
     c.in_err-check_two_names.field-0.0 c.check_two_names.new.reader.rest.now
     (first_of_pair_halts (pair (pair two_names names) name) names c.args.reader.now.rest.now
     c.in_err-check_two_names.field-0.0 c.check_two_names.new.reader.rest.now
@@ -24,8 +23,8 @@ pub returns-in_err-check_names : goal.returns-in_err-check_names
 returns-in_err-check_names c =
     let f = err_from_is_err_and c.from_residual-in_err-check_names.result
     c.from_residual-in_err-check_names.ensures.1 in
-    rw (f.1, f.2) (mapped_halts (λ x. decompose_table x.0.0.0.0 x.0.0.0.1 x.0.0.1 x.0.1 x.1)
-    (pair (pair (pair two_names names) name) names) c.args.reader.now.rest.now
+    rw (f.1, f.2) (mapped_halts decomposed (pair (pair (pair two_names names) name) names)
+    c.args.reader.now.rest.now
     c.in_err-check_names.field-0.0 c.check_names.new.reader.rest.now
     (first_of_pair_halts (pair (pair two_names names) name) names c.args.reader.now.rest.now
     c.in_err-check_names.field-0.0 c.check_names.new.reader.rest.now
@@ -40,8 +39,8 @@ pub returns-in_err-check_name : goal.returns-in_err-check_name
 returns-in_err-check_name c =
     let f = err_from_is_err_and c.from_residual-in_err-check_name.result
     c.from_residual-in_err-check_name.ensures.1 in
-    rw (f.1, f.2) (mapped_halts (λ x. decompose_table x.0.0.0.0 x.0.0.0.1 x.0.0.1 x.0.1 x.1)
-    (pair (pair (pair two_names names) name) names) c.args.reader.now.rest.now
+    rw (f.1, f.2) (mapped_halts decomposed (pair (pair (pair two_names names) name) names)
+    c.args.reader.now.rest.now
     c.in_err-check_name.field-0.0 c.check_name.new.reader.rest.now
     (first_of_pair_halts (pair (pair two_names names) name) names c.args.reader.now.rest.now
     c.in_err-check_name.field-0.0 c.check_name.new.reader.rest.now
@@ -52,9 +51,8 @@ returns-in_err-check_name c =
     c.in_ok-check_two_names.ensures c.in_ok-check_names.ensures) c.in_err-check_name.ensures)))
 
 pub returns : goal.returns
-returns c = mapped (λ x. decompose_table x.0.0.0.0 x.0.0.0.1 x.0.0.1 x.0.1 x.1)
-    (pair (pair (pair two_names names) name) names) c.args.reader.now.rest.now
-    c.check_names-2.result c.check_names-2.new.reader.rest.now
+returns c = mapped decomposed (pair (pair (pair two_names names) name) names)
+    c.args.reader.now.rest.now c.check_names-2.result c.check_names-2.new.reader.rest.now
     (paired (pair (pair two_names names) name) names c.args.reader.now.rest.now
     c.check_name.new.reader.rest.now c.check_names-2.result c.check_names-2.new.reader.rest.now
     (both_pass (pair two_names names) name c.args.reader.now.rest.now

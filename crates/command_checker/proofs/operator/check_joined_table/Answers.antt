@@ -1,22 +1,21 @@
 use Rattle.std.proofs.lemmas.Result.{err_from_is_err_and}
-use Rattle.smo_types.specs.Operators.{join_table}
 use Rattle.command_spelling.specs.Reading.{pair}
-use Rattle.command_spelling.specs.Reader.{three_names, outermost}
+use Rattle.command_spelling.specs.Reader.{three_names, outermost, joined_tables}
 use Rattle.command_checker.proofs.Steps.{mapped, mapped_halts, paired, first_of_pair_halts}
 use Rattle.command_checker.proofs.operator.check_joined_table.Goals as goal
 
 pub returns-in_err-check_three_names : goal.returns-in_err-check_three_names
 returns-in_err-check_three_names c =
     let f = err_from_is_err_and c.from_residual.result c.from_residual.ensures.1 in
-    rw (f.1, f.2) (mapped_halts (λ x. join_table x.0.0.0 x.0.0.1 x.0.1 x.1)
-    (pair three_names (outermost.cond)) c.args.reader.now.rest.now
+    rw (f.1, f.2) (mapped_halts joined_tables (pair three_names (outermost.cond))
+    c.args.reader.now.rest.now
     c.in_err-check_three_names.field-0.0 c.check_three_names.new.reader.rest.now
     (first_of_pair_halts three_names (outermost.cond) c.args.reader.now.rest.now
     c.in_err-check_three_names.field-0.0 c.check_three_names.new.reader.rest.now
     c.in_err-check_three_names.ensures))
 
 pub returns : goal.returns
-returns c = mapped (λ x. join_table x.0.0.0 x.0.0.1 x.0.1 x.1) (pair three_names (outermost.cond))
+returns c = mapped joined_tables (pair three_names (outermost.cond))
     c.args.reader.now.rest.now c.check_outer_cond.result c.check_outer_cond.new.reader.rest.now
     (paired three_names (outermost.cond) c.args.reader.now.rest.now
     c.check_three_names.new.reader.rest.now c.check_outer_cond.result

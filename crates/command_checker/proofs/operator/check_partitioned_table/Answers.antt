@@ -1,7 +1,6 @@
 use Rattle.std.proofs.lemmas.Result.{err_from_is_err_and}
-use Rattle.smo_types.specs.Operators.{partition_table}
 use Rattle.command_spelling.specs.Reading.{pair}
-use Rattle.command_spelling.specs.Reader.{name, two_names, outermost}
+use Rattle.command_spelling.specs.Reader.{name, two_names, outermost, partitioned}
 use Rattle.command_checker.proofs.Steps.{mapped, mapped_halts, paired, both_pass}
 use Rattle.command_checker.proofs.Steps.{first_of_pair_halts, second_of_pair_halts}
 use Rattle.command_checker.proofs.operator.check_partitioned_table.Goals as goal
@@ -9,8 +8,8 @@ use Rattle.command_checker.proofs.operator.check_partitioned_table.Goals as goal
 pub returns-in_err-check_two_names : goal.returns-in_err-check_two_names
 returns-in_err-check_two_names c =
     let f = err_from_is_err_and c.from_residual.result c.from_residual.ensures.1 in
-    rw (f.1, f.2) (mapped_halts (λ x. partition_table x.0.0.0 x.0.0.1 x.0.1 x.1)
-    (pair (pair two_names (outermost.cond)) name) c.args.reader.now.rest.now
+    rw (f.1, f.2) (mapped_halts partitioned (pair (pair two_names (outermost.cond)) name)
+    c.args.reader.now.rest.now
     c.in_err-check_two_names.field-0.0 c.check_two_names.new.reader.rest.now
     (first_of_pair_halts (pair two_names (outermost.cond)) name c.args.reader.now.rest.now
     c.in_err-check_two_names.field-0.0 c.check_two_names.new.reader.rest.now
@@ -22,8 +21,8 @@ pub returns-in_err-check_outer_cond : goal.returns-in_err-check_outer_cond
 returns-in_err-check_outer_cond c =
     let f = err_from_is_err_and c.from_residual-in_err-check_outer_cond.result
     c.from_residual-in_err-check_outer_cond.ensures.1 in
-    rw (f.1, f.2) (mapped_halts (λ x. partition_table x.0.0.0 x.0.0.1 x.0.1 x.1)
-    (pair (pair two_names (outermost.cond)) name) c.args.reader.now.rest.now
+    rw (f.1, f.2) (mapped_halts partitioned (pair (pair two_names (outermost.cond)) name)
+    c.args.reader.now.rest.now
     c.in_err-check_outer_cond.field-0.0 c.check_outer_cond.new.reader.rest.now
     (first_of_pair_halts (pair two_names (outermost.cond)) name c.args.reader.now.rest.now
     c.in_err-check_outer_cond.field-0.0 c.check_outer_cond.new.reader.rest.now
@@ -33,8 +32,8 @@ returns-in_err-check_outer_cond c =
     c.in_err-check_outer_cond.ensures)))
 
 pub returns : goal.returns
-returns c = mapped (λ x. partition_table x.0.0.0 x.0.0.1 x.0.1 x.1)
-    (pair (pair two_names (outermost.cond)) name) c.args.reader.now.rest.now c.check_name.result
+returns c = mapped partitioned (pair (pair two_names (outermost.cond)) name)
+    c.args.reader.now.rest.now c.check_name.result
     c.check_name.new.reader.rest.now (paired (pair two_names (outermost.cond)) name
     c.args.reader.now.rest.now c.check_outer_cond.new.reader.rest.now c.check_name.result
     c.check_name.new.reader.rest.now (both_pass two_names (outermost.cond)

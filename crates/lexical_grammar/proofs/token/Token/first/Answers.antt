@@ -1,5 +1,5 @@
 use Rattle.std.proofs.Common.{ap, sym, ◌∙◌, length-take-le}
-use Rattle.lexical_grammar.specs.declared.piece.Piece.TheVariants.{Of}
+use Rattle.lexical_grammar.specs.declared.scanned.Scanned.TheVariants.{Of}
 use Rattle.lexical_grammar.proofs.Whole.{again}
 use Rattle.lexical_grammar.proofs.token.Token.first.Goals as goal
 

@@ -4,12 +4,12 @@ use crate::kind::TokenKind;
 
 /// What stands at the start.
 #[derive(Clone, Copy)]
-pub enum Piece {
+pub enum Scanned {
     /// Nothing.
     End,
     /// A token of this kind and so many bytes.
     Of(TokenKind, usize),
-    /// A byte so far after the prefix that cannot stand there.
+    /// A byte that cannot stand there, so far from the start.
     Bad(usize),
     /// A text without an end.
     Open,
