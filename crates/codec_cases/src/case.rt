@@ -3,7 +3,7 @@
 use crate::command_text::write_command;
 use crate::line::{Line, read_line};
 use crate::sweep::{write_changes, write_cuts};
-use case_text::{read_hex, write_hex, write_number};
+use case_text::{LinePlayer, play_lines, read_hex, write_hex, write_number};
 use command_codec::{
     CodecFault, decode, encode, put_name, put_op, put_value, read_name, read_op, read_value,
 };
@@ -109,7 +109,9 @@ impl Case {
             Err(fault) => write_fault(fault, &mut self.answers),
         }
     }
+}
 
+impl LinePlayer for Case {
     fn line(&mut self, line: &[u8]) -> Result<(), NoMemory> {
         match read_line(line) {
             Line::Name(name) => self.begin(name),
@@ -127,21 +129,7 @@ impl Case {
 
 /// Plays the cases of a text of lines. The one error comes where memory runs out.
 pub(crate) fn play(alloc: Global, cases: &[u8]) -> Result<Vec<u8>, AllocError> {
-    match play_lines(alloc, cases) {
-        Ok(answers) => Ok(answers),
-        Err(NoMemory) => Err(AllocError),
-    }
-}
-
-// The same, with the one word when out of memory that the crates below have.
-fn play_lines(alloc: Global, cases: &[u8]) -> Result<Vec<u8>, NoMemory> {
     let mut case = Case::new(alloc);
-    let mut begin = 0;
-    for at in 0..cases.len() {
-        if cases[at] == b'\n' {
-            case.line(&cases[begin..at])?;
-            begin = at + 1;
-        }
-    }
+    play_lines(&mut case, cases)?;
     Ok(case.answers)
 }

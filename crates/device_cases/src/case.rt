@@ -3,7 +3,7 @@
 use crate::answer::{write_end, write_file, write_opened};
 use crate::line::{Line, read_line};
 use crate::run::{Devices, Played, Runs, open, play_fuse, play_once, play_twice};
-use case_text::{Groups, read_hex};
+use case_text::{Groups, LinePlayer, play_lines, read_hex};
 use prima_base::NoMemory;
 use script_cli::Word;
 use std::alloc::{AllocError, Global};
@@ -136,7 +136,9 @@ impl Case {
         }
         groups.end(&mut self.answers)
     }
+}
 
+impl LinePlayer for Case {
     fn line(&mut self, line: &[u8]) -> Result<(), NoMemory> {
         match read_line(line) {
             Line::Name(name) => self.begin(name),
@@ -170,17 +172,7 @@ fn put_line(text: &[u8], script: &mut Vec<u8>) -> Result<(), NoMemory> {
 
 /// Plays each case of a text of lines. The one error comes where memory runs out.
 pub(crate) fn play(alloc: Global, cases: &[u8]) -> Result<Vec<u8>, AllocError> {
-    match play_lines(alloc, cases) {
-        Ok(answers) => Ok(answers),
-        Err(NoMemory) => Err(AllocError),
-    }
-}
-
-// The same, with the one word when out of memory that the crates below have.
-fn play_lines(alloc: Global, cases: &[u8]) -> Result<Vec<u8>, NoMemory> {
     let mut case = Case::new(alloc);
-    for line in cases.split(|byte| *byte == b'\n') {
-        case.line(line)?;
-    }
+    play_lines(&mut case, cases)?;
     Ok(case.answers)
 }

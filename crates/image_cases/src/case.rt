@@ -1,8 +1,8 @@
 //! A case: the bytes of an image, and how they are damaged.
 
 use crate::answer::{read_text, write_cuts, write_each};
-use crate::line::{Line, first_word, read_line};
-use case_text::{read_hex, read_number};
+use crate::line::{Line, read_line};
+use case_text::{LinePlayer, first_word, play_lines, read_hex, read_number};
 use prima_base::NoMemory;
 use std::alloc::{AllocError, Global};
 
@@ -114,7 +114,9 @@ impl Case {
         self.answers.push(b'\n')?;
         Ok(())
     }
+}
 
+impl LinePlayer for Case {
     fn line(&mut self, line: &[u8]) -> Result<(), NoMemory> {
         match read_line(line) {
             Line::Image => {
@@ -139,17 +141,7 @@ impl Case {
 
 /// Plays the cases of a text of lines. The one error comes where memory runs out.
 pub(crate) fn play(alloc: Global, cases: &[u8]) -> Result<Vec<u8>, AllocError> {
-    match play_lines(alloc, cases) {
-        Ok(answers) => Ok(answers),
-        Err(NoMemory) => Err(AllocError),
-    }
-}
-
-// The same, with the one word when out of memory that the crates below have.
-fn play_lines(alloc: Global, cases: &[u8]) -> Result<Vec<u8>, NoMemory> {
     let mut case = Case::new(alloc);
-    for line in cases.split(|byte| *byte == b'\n') {
-        case.line(line)?;
-    }
+    play_lines(&mut case, cases)?;
     Ok(case.answers)
 }

@@ -45,13 +45,3 @@ pub(crate) fn read_line(line: &[u8]) -> Line<'_> {
         _ => read_change(line),
     }
 }
-
-/// The first word of a text, and what stands after the blank after it.
-pub(crate) fn first_word(text: &[u8]) -> (&[u8], &[u8]) {
-    for at in 0..text.len() {
-        if text[at] == b' ' {
-            return (&text[..at], &text[at + 1..]);
-        }
-    }
-    (text, &text[text.len()..])
-}

@@ -3,7 +3,7 @@
 use crate::answer::{write_fault, write_places, write_put, write_records};
 use crate::line::{Line, read_line};
 use crate::list::{put_over_fuse, put_over_memory, put_over_nothing, seal_each};
-use case_text::{Groups, read_hex, write_hex};
+use case_text::{Groups, LinePlayer, play_lines, read_hex, write_hex};
 use disk_model::{Disk, FuseDisk, MemDisk};
 use journal::{COMMAND, Journal, Sealed};
 use prima_base::NoMemory;
@@ -206,7 +206,9 @@ impl Case {
         let list = seal_each(self.alloc, text)?;
         put_over_nothing(self.alloc, self.limit, &list, &mut self.answers)
     }
+}
 
+impl LinePlayer for Case {
     fn line(&mut self, line: &[u8]) -> Result<(), NoMemory> {
         match read_line(line) {
             Line::Name(name) => self.begin(name),
@@ -230,21 +232,7 @@ impl Case {
 
 /// Plays the cases of a text of lines. The one error comes where memory runs out.
 pub(crate) fn play(alloc: Global, cases: &[u8]) -> Result<Vec<u8>, AllocError> {
-    match play_lines(alloc, cases) {
-        Ok(answers) => Ok(answers),
-        Err(NoMemory) => Err(AllocError),
-    }
-}
-
-// The same, with the one word when out of memory that the crates below have.
-fn play_lines(alloc: Global, cases: &[u8]) -> Result<Vec<u8>, NoMemory> {
     let mut case = Case::new(alloc);
-    let mut begin = 0;
-    for at in 0..cases.len() {
-        if cases[at] == b'\n' {
-            case.line(&cases[begin..at])?;
-            begin = at + 1;
-        }
-    }
+    play_lines(&mut case, cases)?;
     Ok(case.answers)
 }

@@ -4,8 +4,8 @@ use crate::change_case::{MadeChange, Numbers, made_change, made_row};
 use crate::comparison::Difference;
 use crate::line::{Line, read_line};
 use crate::pair::{Pair, add_copies};
-use crate::word::{first_word, read_row, with_number};
-use case_text::{read_number, write_number};
+use crate::word::{read_row, with_number};
+use case_text::{LinePlayer, first_word, play_lines, read_number, write_number};
 use prima_base::{ColType, Name, NameFault, NoMemory, Row};
 use std::alloc::{AllocError, Global};
 
@@ -63,25 +63,6 @@ impl Case {
             found: None,
             answers: Vec::new(alloc),
         }
-    }
-
-    // Answers the case that was played, if there is one.
-    fn end(&mut self) -> Result<(), NoMemory> {
-        if self.name.is_empty() {
-            return Ok(());
-        }
-        self.answers.extend_from_slice(&self.name)?;
-        match self.found {
-            None => self.answers.extend_from_slice(b": same")?,
-            Some((step, difference)) => {
-                self.answers.extend_from_slice(b": step ")?;
-                write_number(step, &mut self.answers)?;
-                self.answers.extend_from_slice(b", ")?;
-                write_difference(difference, &mut self.answers)?;
-            }
-        }
-        self.answers.push(b'\n')?;
-        Ok(())
     }
 
     fn begin(&mut self, name: &[u8]) -> Result<(), NoMemory> {
@@ -299,7 +280,9 @@ impl Case {
         }
         Ok(())
     }
+}
 
+impl LinePlayer for Case {
     fn line(&mut self, line: &[u8]) -> Result<(), NoMemory> {
         match read_line(line) {
             Line::Name(name) => self.begin(name),
@@ -313,22 +296,30 @@ impl Case {
             rows => self.rows(rows),
         }
     }
+
+    // Answers the case that was played, if there is one.
+    fn end(&mut self) -> Result<(), NoMemory> {
+        if self.name.is_empty() {
+            return Ok(());
+        }
+        self.answers.extend_from_slice(&self.name)?;
+        match self.found {
+            None => self.answers.extend_from_slice(b": same")?,
+            Some((step, difference)) => {
+                self.answers.extend_from_slice(b": step ")?;
+                write_number(step, &mut self.answers)?;
+                self.answers.extend_from_slice(b", ")?;
+                write_difference(difference, &mut self.answers)?;
+            }
+        }
+        self.answers.push(b'\n')?;
+        Ok(())
+    }
 }
 
 /// Plays the cases of a text of lines. The one error comes where memory runs out.
 pub(crate) fn play(alloc: Global, cases: &[u8]) -> Result<Vec<u8>, AllocError> {
-    match play_lines(alloc, cases) {
-        Ok(answers) => Ok(answers),
-        Err(NoMemory) => Err(AllocError),
-    }
-}
-
-// The same, with the one word when out of memory that the crates below have.
-fn play_lines(alloc: Global, cases: &[u8]) -> Result<Vec<u8>, NoMemory> {
     let mut case = Case::new(alloc);
-    for line in cases.split(|byte| *byte == b'\n') {
-        case.line(line)?;
-    }
-    case.end()?;
+    play_lines(&mut case, cases)?;
     Ok(case.answers)
 }

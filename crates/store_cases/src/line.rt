@@ -1,7 +1,6 @@
 //! The lines of a case.
 
-use crate::word::first_word;
-use case_text::read_number;
+use case_text::{first_word, read_number};
 
 /// What a line says.
 #[derive(Clone, Copy)]

@@ -4,16 +4,6 @@ use case_text::{read_number, write_number};
 use prima_base::{NoMemory, Row, Txt, TxtFault, Value};
 use std::alloc::Global;
 
-/// The first word of a text, and what stands after the blank after it.
-pub(crate) fn first_word(text: &[u8]) -> (&[u8], &[u8]) {
-    for at in 0..text.len() {
-        if text[at] == b' ' {
-            return (&text[..at], &text[at + 1..]);
-        }
-    }
-    (text, &text[text.len()..])
-}
-
 // The number that a word spells, with a `-` before it or without.
 fn read_int(word: &[u8]) -> i64 {
     let mut below: i64 = 0;

@@ -1,6 +1,6 @@
 //! An archive through its own calls: a query reads by the counter that it is given, the texts of
-//! plain columns are borrowed from what the archive keeps, on each version, and those that are
-//! computed are not.
+//! plain columns are borrowed from what the archive keeps, on each version and over joins, and those
+//! that are computed are not.
 ghost use Rattle.std.specs.Prelude.{◌≡◌, ◌<◌};
 ghost use Rattle.rewrite.specs.Books.{EachOf};
 
@@ -31,11 +31,8 @@ fn commit(alloc: Global, archive: &mut ArchiveState, text: &str) -> Result<(), F
     let Statement::Write(command) = statement(alloc, text)? else {
         return Err(Fail::new("the text is a command"));
     };
-    match archive.prepare(&command) {
-        Ok(next) => {
-            let _done = archive.carry_out(&command, next);
-            Ok(())
-        }
+    match archive.commit(command) {
+        Ok(_done) => Ok(()),
         Err(_) => Err(Fail::new("each command is accepted")),
     }
 }
@@ -162,6 +159,71 @@ fn computed_text_is_made(alloc: Global, archive: &ArchiveState, book: &RuleBook)
     Err(Fail::new("the one text is borrowed, the other made"))
 }
 
+// Whether just the text that an operator computes for an older row is made for the answer: those
+// that are kept are borrowed, of the row's other column, and of the newer row.
+fn just_computed_is_made(listing: &Listing<'_>) -> bool {
+    let [older, newer] = listing.rows.as_slice() else {
+        return false;
+    };
+    let [kept, computed] = older.values.as_slice() else {
+        return false;
+    };
+    let [first, second] = newer.values.as_slice() else {
+        return false;
+    };
+    is_borrowed(kept, b"y")
+        && is_made(computed, b"unknown")
+        && is_borrowed(first, b"z")
+        && is_borrowed(second, b"red")
+}
+
+// Beside a text that an operator computes for an older row, the texts that are kept are borrowed:
+// those of the row's other column, and those of the newer row.
+fn texts_beside_computed_ones(
+    alloc: Global,
+    archive: &mut ArchiveState,
+    book: &RuleBook,
+) -> Result<(), Fail>
+    requires { EachOf book.now.rules.items (λ r. handles (r.vtable, r.value)) }
+{
+    let add = "AT 11 EVOLVE ADD COLUMN c AS 'unknown' INTO u INVERSE DROP COLUMN c FROM u";
+    commit(alloc, archive, add)?;
+    commit(
+        alloc,
+        archive,
+        "AT 12 INSERT INTO u (a, b, c) VALUES (2, 'z', 'red')",
+    )?;
+    let (listing, _) = ask(
+        alloc,
+        archive,
+        book,
+        "QUERY VERSION 3 SELECT b, c FROM u AS OF 12",
+    )?;
+    if just_computed_is_made(&listing) {
+        return Ok(());
+    }
+    Err(Fail::new("just the text that the operator computes is made"))
+}
+
+// Texts that are joined on are borrowed.
+fn joined_texts_are_borrowed(
+    alloc: Global,
+    archive: &ArchiveState,
+    book: &RuleBook,
+) -> Result<(), Fail>
+    requires { EachOf book.now.rules.items (λ r. handles (r.vtable, r.value)) }
+{
+    let text = "QUERY VERSION 2 SELECT p.b FROM u p, u q WHERE p.b = q.b AS OF 9";
+    let (listing, _) = ask(alloc, archive, book, text)?;
+    let [row] = listing.rows.as_slice() else {
+        return Err(Fail::new("one row holds at the moment"));
+    };
+    if is_borrowed(only_value(row)?, b"y") {
+        return Ok(());
+    }
+    Err(Fail::new("the text is borrowed"))
+}
+
 #[test]
 fn texts_of_plain_columns_are_borrowed(rt: HostRuntime) -> Result<(), Fail> {
     let alloc = rt.alloc();
@@ -174,5 +236,7 @@ fn texts_of_plain_columns_are_borrowed(rt: HostRuntime) -> Result<(), Fail> {
     fill(alloc, &mut archive)?;
     keys_are_counted(alloc, &archive, &book)?;
     texts_are_borrowed(alloc, &archive, &book)?;
-    computed_text_is_made(alloc, &archive, &book)
+    computed_text_is_made(alloc, &archive, &book)?;
+    joined_texts_are_borrowed(alloc, &archive, &book)?;
+    texts_beside_computed_ones(alloc, &mut archive, &book)
 }
