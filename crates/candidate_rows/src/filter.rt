@@ -4,7 +4,7 @@
 //! test of one value. A row that fails one cannot meet the condition, and is passed over by that
 //! value alone.
 
-ghost use Rattle.std.specs.Prelude.{◌≡◌, ◌<◌, true, List, [], All, IfOk, length, slice_index_or};
+ghost use Rattle.std.specs.Prelude.{◌≡◌, ◌<◌, true, List, [], IfOk, length, slice_index_or};
 ghost use Rattle.prima_base.specs.declared.value.Value.{Value as OneValue};
 ghost use Rattle.prima_base.specs.Columns.{Column as OwnColumn, AreColumns, IsRow};
 ghost use Rattle.cond_expr.specs.AtomColumns.{columns_at};

@@ -1,7 +1,7 @@
 //! The rows that can meet a condition.
 
-ghost use Rattle.std.specs.Prelude.{◌≡◌, ◌≤◌, false, true, ◌<◌, ℕ, length, List, Bool, Some, IfOk};
-ghost use Rattle.std.specs.Prelude.{IfSome, [], ◌∷◌, slice_index_or};
+ghost use Rattle.std.specs.Prelude.{◌≡◌, ◌≤◌, false, true, ◌<◌, ℕ, length, List, Some, IfOk};
+ghost use Rattle.std.specs.Prelude.{[], ◌∷◌, slice_index_or};
 ghost use Rattle.prima_base.specs.declared.value.Value.{Value as OneValue};
 ghost use Rattle.prima_base.specs.Columns.{Column as OwnColumn, AreColumns, IsRow};
 ghost use Rattle.cond_expr.specs.AtomColumns.{columns_at};
@@ -18,7 +18,7 @@ ghost use Rattle.candidate_rows.specs.Ranges.{low_cut, high_cut};
 use crate::end::{Side, cut_at_end};
 use cond_expr::{CmpOp, Column, Cond, pinned};
 use history_store::Cut;
-use prima_base::{NoMemory, Value};
+use prima_base::NoMemory;
 use std::alloc::Global;
 
 /// The cut before which no row can meet the condition. The one error is `NoMemory`, where memory

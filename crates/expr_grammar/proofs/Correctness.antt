@@ -266,8 +266,8 @@ module _ (q may : Bool) (d : ℕ) (inside : Level) (deep : may ≡ true → (e :
     _,
     _,
     g.a_case q always (constant (Int (pos 1))) (constant (Int (pos 1))) leaf
-        leaf leaf (word TRUE ∷ []) (number (pos 1) ∷ []) (number (pos 1) ∷ []) (true_cond q) (a_one q)
-        (a_one q),
+        leaf leaf (word TRUE ∷ []) (number (pos 1) ∷ []) (number (pos 1) ∷ []) (true_cond q)
+        (a_one q) (a_one q),
   )
 
   expr_arms : (x : Lexeme) → ArmCorrect 0 d (expr_arm q may inside x) x (IsExpr q) (follow_expr q)

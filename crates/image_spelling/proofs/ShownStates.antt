@@ -140,7 +140,8 @@ module _ (image : Image) where
   differs before m e = elim (one_of (begins_at image.versions m)
       (gained before (now m) + lost before (now m) == 0) e) [
         | inl q ↦ inr (begins image.versions m q)
-        | inr q ↦ inl (λ same. let none : (gained before (now m) + lost before (now m) == 0) ≡ true =
+        | inr q ↦ inl (λ same.
+            let none : (gained before (now m) + lost before (now m) == 0) ≡ true =
             ap (λ (d : Database). gained before d + gained d before == 0) same
             ∙ ap (λ n. n + n == 0) (self_gains_nothing before) in absurd (cc))
       ]

@@ -1,4 +1,4 @@
-ghost use Rattle.std.specs.Prelude.{◌≡◌, ℕ, ◌+◌, IfOk};
+ghost use Rattle.std.specs.Prelude.{◌≡◌, IfOk};
 ghost use Rattle.cond_expr.specs.declared.expr.Whose.TheVariants.{Atom};
 ghost use Rattle.cond_expr.specs.Seen.{tree};
 ghost use Rattle.cond_expr.specs.Trees.{column, fill};
@@ -14,8 +14,8 @@ use cond_expr::{ColRef, Expr, Fill, Whose, fill_expr};
 use prima_base::{Name, NoMemory, same_name};
 use std::alloc::Global;
 
-/// A column of an atom.
-fn column_of(atom: u32, name: &Name) -> Result<Expr, NoMemory>
+/// A column of an atom. The one error is `NoMemory`, where memory runs out.
+pub fn column_of(atom: u32, name: &Name) -> Result<Expr, NoMemory>
     ensures { IfOk result (λ e. tree e ≡ column (Atom atom) name.now) }
 {
     Ok(Expr::Col(ColRef {

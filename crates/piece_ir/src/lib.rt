@@ -15,6 +15,7 @@ mod unfolded;
 mod view;
 
 pub use choice::unfold_by;
+pub use filling::column_of;
 pub use laws::{substitution_puts_a_value, the_same_pieces_are_equal};
 pub use piece::Piece;
 pub use sameness::same_pieces;

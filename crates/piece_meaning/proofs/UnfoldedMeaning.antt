@@ -394,13 +394,13 @@ module _ (t : Tables) (db : Database) (u : Tables) (eb : Database) (vs : List �
         (piece_answers u eb p) (record {
           there = λ row m. (
               let f = from_flat_map (piece_answers t db) row news m in
-              in_answers (atom_columns u p.atoms) (atom_rows eb p.atoms) (out_trees p.outs) p.cond row
-              (piece_gives f.0 f.1 row (from_answers (atom_columns t f.0.atoms) (atom_rows db f.0.atoms)
-              (out_trees f.0.outs) f.0.cond row f.2))
+              in_answers (atom_columns u p.atoms) (atom_rows eb p.atoms) (out_trees p.outs) p.cond
+              row (piece_gives f.0 f.1 row (from_answers (atom_columns t f.0.atoms)
+              (atom_rows db f.0.atoms) (out_trees f.0.outs) f.0.cond row f.2))
               );
           back = λ row m. (
-              let g = unfolded_gives row (from_answers (atom_columns u p.atoms) (atom_rows eb p.atoms)
-              (out_trees p.outs) p.cond row m) in
+              let g = unfolded_gives row (from_answers (atom_columns u p.atoms)
+              (atom_rows eb p.atoms) (out_trees p.outs) p.cond row m) in
               in_flat_map (piece_answers t db) g.0 row news g.1
               (in_answers (atom_columns t g.0.atoms) (atom_rows db g.0.atoms) (out_trees g.0.outs)
               g.0.cond row g.2)

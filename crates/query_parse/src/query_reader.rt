@@ -1,8 +1,8 @@
 //! Reading of queries, from left to right.
 
-ghost use Rattle.std.specs.Prelude.{◌≡◌, ◌<◌, length, map, codes, is_some};
+ghost use Rattle.std.specs.Prelude.{◌≡◌, ◌<◌, map, codes, is_some};
 ghost use Rattle.prima_base.specs.declared.refusal.What.TheVariants as limited;
-ghost use Rattle.cond_expr.specs.Seen.{tree, test};
+ghost use Rattle.cond_expr.specs.Seen.{tree};
 ghost use Rattle.lexical_grammar.specs.Lexemes.{is_word, is_sign};
 ghost use Rattle.expr_grammar.specs.Constants.{as_name};
 ghost use Rattle.parser_combinators.specs.Parsing.{more};

@@ -1,7 +1,6 @@
 //! Reading of the moments that a query asks of, and of its conditions of KEEP, from left to right.
 
-ghost use Rattle.std.specs.Prelude.{◌≡◌, ◌<◌, length, codes};
-ghost use Rattle.relations.specs.Spans.{forever};
+ghost use Rattle.std.specs.Prelude.{◌<◌, codes};
 ghost use Rattle.prima_base.specs.declared.refusal.What.TheVariants as limited;
 ghost use Rattle.prima_base.specs.declared.keep.Keep.TheVariants as kinds;
 ghost use Rattle.lexical_grammar.specs.Lexemes.{is_word};

@@ -1,11 +1,8 @@
-ghost use Rattle.std.specs.Prelude.{◌≡◌, [], ◌∷◌, ◌++◌, IfOk, OnOk, map, not, if◌then◌else◌};
-ghost use Rattle.std.specs.List.{filter};
-ghost use Rattle.prima_base.specs.Columns.{names_of};
+ghost use Rattle.std.specs.Prelude.{◌≡◌, [], ◌∷◌, ◌++◌, IfOk, OnOk, map, if◌then◌else◌};
 ghost use Rattle.cond_expr.specs.declared.expr.Whose.TheVariants.{Atom as AtomOf};
 ghost use Rattle.cond_expr.specs.Trees.{column, for_atoms};
 ghost use Rattle.cond_expr.specs.Seen.{test};
 ghost use Rattle.smo_types.specs.Changes.{sets_of};
-ghost use Rattle.smo_meaning.specs.Preconditions.{among};
 ghost use Rattle.smo_meaning.specs.Effects.{columns_of};
 ghost use Rattle.cond_expr.specs.Parts.{parts_but_true};
 ghost use Rattle.piece_meaning.specs.Views.{out_of};
@@ -13,9 +10,8 @@ ghost use Rattle.piece_ir.specs.Shown.{view_of};
 ghost use Rattle.rule_views.specs.OperatorViews.{common_names, second_names, from_second, in_both};
 ghost use Rattle.rule_views.specs.OperatorViews.{shown_in, paired};
 
-use crate::view::column_of;
 use cond_expr::{CmpOp, ColRef, Cond, Expr, Fill, Whose};
-use piece_ir::{View, append_parts};
+use piece_ir::{View, append_parts, column_of};
 use prima_base::{ColType, Name, NoMemory};
 use schema_catalog::Schema;
 use smo_schemas::has_name;

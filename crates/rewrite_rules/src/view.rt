@@ -1,24 +1,12 @@
 ghost use Rattle.std.specs.Prelude.{◌≡◌, IfOk, map};
-ghost use Rattle.cond_expr.specs.declared.expr.Whose.TheVariants.{Atom as AtomOf};
-ghost use Rattle.cond_expr.specs.Trees.{column};
 ghost use Rattle.cond_expr.specs.Seen.{tree, test};
 ghost use Rattle.piece_ir.specs.Shown.{view_of};
 ghost use Rattle.rule_views.specs.OperatorViews.{selected, computed};
 
-use cond_expr::{ColRef, Cond, Expr, Whose};
+use cond_expr::{Cond, Expr};
 use piece_ir::View;
 use prima_base::{Name, NoMemory};
 use std::alloc::Global;
-
-/// A column of an atom.
-pub(crate) fn column_of(atom: u32, name: &Name) -> Result<Expr, NoMemory>
-    ensures { IfOk result (λ e. tree e ≡ column (AtomOf atom) name.now) }
-{
-    Ok(Expr::Col(ColRef {
-        whose: Whose::Atom(atom),
-        name: name.copy()?,
-    }))
-}
 
 /// The rows of the table that meet all parts.
 pub(crate) fn selected(alloc: Global, table: &Name, parts: Vec<Cond>) -> Result<View, NoMemory>

@@ -50,7 +50,7 @@ fn restored_tables(
     let mut left = lines.into_iter();
     for line in due {
         let Some(kept) = left.next() else {
-            // There is a line for each lifeline.
+            // There is a line for each lifeline, as `enough` says.
             unreachable!();
         };
         tables.push(restored_table(alloc, line, kept)?)?;

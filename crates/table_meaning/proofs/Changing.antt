@@ -135,7 +135,8 @@ module _ {indexed : List ℕ} (columns : List Column) (keys : List Span) (logs :
   stays q i = rows_other q (handed found (length keys) gained) gained stamp logs
       (λ h. elim (handed_is q found (length keys) gained h) [
         | inl f ↦ s.apart q f i
-        | inr n ↦ (let p = n.0 in let o = (stored.are_open q (s.kept_in q i)).0 in omega (arith, p, o))
+        | inr n ↦ (let p = n.0 in
+            let o = (stored.are_open q (s.kept_in q i)).0 in omega (arith, p, o))
       ])
 
   fresh_rows : rows_of (handed found (length keys) gained) new ≡ gained

@@ -196,9 +196,9 @@ ended_same q (id ∷ ids) stamp keys i h =
           (set keys id (ended_at stamp (get_or keys id no_span))) n)
           ∙ elim i [
             | inl e ↦ subst (λ n. (get_or
-                (set keys n (ended_at stamp (get_or keys n no_span))) q no_span).end ≡ stamp) (sym e)
-                (ap (λ p. p.end) (get_or-set_same keys q (ended_at stamp (get_or keys q no_span)) no_span
-                h))
+                (set keys n (ended_at stamp (get_or keys n no_span))) q no_span).end ≡ stamp)
+                (sym e) (ap (λ p. p.end)
+                (get_or-set_same keys q (ended_at stamp (get_or keys q no_span)) no_span h))
             | inr j ↦ absurd (n j)
           ]
     ]

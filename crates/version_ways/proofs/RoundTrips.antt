@@ -182,8 +182,8 @@ module _ (tables : Tables) (r t : List ℕ) (e : op_fault tables (rename_table r
         (
           turned r t (all_preconditions tables (rename_table r t) e).1.0,
           (
-            ap (λ (o : Option (List Column)). unless (not (is_some o) || among r (t ∷ [])) (Exists r))
-                old_gone,
+            ap (λ (o : Option (List Column)).
+                unless (not (is_some o) || among r (t ∷ [])) (Exists r)) old_gone,
             tt,
           ),
         ),

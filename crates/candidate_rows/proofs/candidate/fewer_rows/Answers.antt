@@ -1,4 +1,4 @@
-use Rattle.std.proofs.Common.{◌≡◌, ◌∙◌, ◌<◌, ℕ, zero, suc, arith, ap, Bool, Some, true, false, List}
+use Rattle.std.proofs.Common.{◌≡◌, ◌∙◌, ◌<◌, ℕ, ap, Bool, true, List}
 use Rattle.std.proofs.Common.{[], ◌∷◌, length, get_or, refl, sym, subst}
 use Rattle.std.proofs.lemmas.Cmp.{tied_itself}
 use Rattle.relations.specs.Sets.{In}
@@ -11,7 +11,6 @@ use Rattle.cond_expr.specs.declared.expr.CmpOp.TheVariants.{Eq}
 use Rattle.cond_expr.specs.declared.expr.Column.{Column}
 use Rattle.cond_expr.specs.PinnedParts.{pinned}
 use Rattle.cond_expr.specs.Seen.{test}
-use Rattle.history_store.specs.Cuts.{Cut, is_before}
 use Rattle.history_store.specs.Store.{Store, rows_from, relation_at}
 use Rattle.history_store.specs.Handing.{is_value, at_column}
 use Rattle.history_store.specs.ByValue.{rows_with}

@@ -1,21 +1,9 @@
-use Rattle.std.proofs.Common.{◌≡◌, ◌<◌, ℕ, Bool, Some, true, false, List, [], ◌∷◌, length, get_or}
-use Rattle.std.proofs.Common.{refl, sym, subst}
-use Rattle.std.proofs.lemmas.Cmp.{tied_itself}
-use Rattle.relations.specs.Sets.{In}
-use Rattle.relations.proofs.SetLaws.{in_filter, from_filter, in_set, from_set}
-use Rattle.prima_base.specs.Order.{row_cmp}
-use Rattle.prima_base.specs.OrderLaws.{row_exact, value_total}
-use Rattle.prima_base.specs.declared.value.Value.{Value}
+use Rattle.std.proofs.Common.{◌≡◌, true, false, sym, subst}
 use Rattle.prima_base.specs.Columns.{IsRelation}
-use Rattle.cond_expr.specs.declared.expr.CmpOp.TheVariants.{Eq}
-use Rattle.cond_expr.specs.declared.expr.Column.{Column}
-use Rattle.cond_expr.specs.PinnedParts.{pinned}
 use Rattle.cond_expr.specs.Seen.{test}
 use Rattle.history_store.specs.Cuts.{Cut, is_before}
-use Rattle.history_store.specs.Store.{Store, rows_from, relation_at}
-use Rattle.history_store.specs.Handing.{is_value, at_column}
-use Rattle.history_store.specs.ByValue.{rows_with}
-use Rattle.smo_meaning.specs.OneRow.{Row, Relation, meets}
+use Rattle.history_store.specs.Store.{relation_at}
+use Rattle.smo_meaning.specs.OneRow.{Relation, meets}
 use Rattle.candidate_rows.specs.Candidates.{HaveHits}
 use Rattle.candidate_rows.proofs.BetweenCuts.{between_has_hits}
 use Rattle.candidate_rows.proofs.candidate.lend_rows.Goals as goal

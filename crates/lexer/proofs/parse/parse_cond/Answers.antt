@@ -54,8 +54,9 @@ returns-in-Ok-clause-exact c = (
   c.outer_cond.new.c.nodes,
   got_exact (outermost c.args.qualified).cond (IsCond c.args.qualified)
       (follow_cond c.args.qualified) (outermost_correct c.args.qualified).cond c.args.list.now
-      c.args.from c.requires (test c.in-Ok.found) c.outer_cond.new.c.nodes (ahead c.outer_cond.new.c)
-      (length c.outer_cond.new.c.rest.now) (length_map lexeme c.outer_cond.new.c.rest.now)
+      c.args.from c.requires (test c.in-Ok.found) c.outer_cond.new.c.nodes
+      (ahead c.outer_cond.new.c) (length c.outer_cond.new.c.rest.now)
+      (length_map lexeme c.outer_cond.new.c.rest.now)
       (ap (λ l. (outermost c.args.qualified).cond 0 (map lexeme l)) (sym c.tail.ensures)
       ∙ c.in-Ok.ensures),
 )

@@ -54,8 +54,9 @@ returns-in-Ok-clause-exact c = (
   c.outer_expr.new.c.nodes,
   got_exact (outermost c.args.qualified).expr (IsExpr c.args.qualified)
       (follow_expr c.args.qualified) (outermost_correct c.args.qualified).expr c.args.list.now
-      c.args.from c.requires (tree c.in-Ok.found) c.outer_expr.new.c.nodes (ahead c.outer_expr.new.c)
-      (length c.outer_expr.new.c.rest.now) (length_map lexeme c.outer_expr.new.c.rest.now)
+      c.args.from c.requires (tree c.in-Ok.found) c.outer_expr.new.c.nodes
+      (ahead c.outer_expr.new.c) (length c.outer_expr.new.c.rest.now)
+      (length_map lexeme c.outer_expr.new.c.rest.now)
       (ap (λ l. (outermost c.args.qualified).expr 0 (map lexeme l)) (sym c.tail.ensures)
       ∙ c.in-Ok.ensures),
 )

@@ -71,7 +71,8 @@ returns-in_ok-joined-in-JoinTable c = arm c.args.before.now c.args.op.now _ c.ar
           ∙ ap (λ (cs : List Column). join_rows cs c.columns_of-others.result.now
           (test c.in-JoinTable.cond) c.args.first.now c.args.second.now)
           c.columns_of-columns-in-JoinTable.ensures.columns
-          ∙ ap (λ (ds : List Column). join_rows (columns_of c.args.before.now c.in-JoinTable.left) ds
+          ∙ ap (λ (ds : List Column). join_rows
+          (columns_of c.args.before.now c.in-JoinTable.left) ds
           (test c.in-JoinTable.cond) c.args.first.now c.args.second.now)
           c.columns_of-others.ensures.columns,
       c.one-in-JoinTable.ensures.second,
@@ -106,7 +107,8 @@ returns-in_ok-under_another_name-in-RenameColumn c =
     arm c.args.before.now c.args.op.now _ c.args.first.now c.args.second.now _ _
     c.in-RenameColumn.is c.requires.accepted (
       c.one-in-RenameColumn.ensures.first ∙ c.in_ok-under_another_name-in-RenameColumn.ensures
-          ∙ ap (λ (cs : List Column). image (renamed c.in-RenameColumn.column c.in-RenameColumn.into cs)
+          ∙ ap (λ (cs : List Column). image
+          (renamed c.in-RenameColumn.column c.in-RenameColumn.into cs)
           (moved cs c.in-RenameColumn.column c.in-RenameColumn.into) c.args.first.now)
           c.columns_of-columns-in-RenameColumn.ensures.columns,
       c.one-in-RenameColumn.ensures.second,
