@@ -1,7 +1,8 @@
 #!/usr/bin/env bash
-# Times changes of a table of three columns (a INT, b INT, c TEXT), for tables of n rows (2,000, 20,000 and 200,000
-# unless told otherwise), over the built program: microseconds for each command, and the ratio of these between each
-# size and the one before it. The rows differ in a, and b has another order than a. What is timed:
+# Times changes of a table of three columns (a INT, b INT, c TEXT), for tables of n rows (2,000,
+# 20,000 and 200,000 unless told otherwise), over the built program: microseconds for each command,
+# and the ratio of these between each size and the one before it. The rows differ in a, and b has
+# another order than a. What is timed:
 #   ascending, scattered   inserts of one row each, that stand after all others, or anywhere among them
 #   update a, delete a     by the first column: the row is found by binary search
 #   update range, delete range   by bounds of the first column that ten rows meet
@@ -13,10 +14,10 @@
 #   20000 in one           one command of 20,000 changes by the first column; microseconds for each change
 #   20000 by b             the same by another column
 #   20000 by b, c          the same by two other columns in turn
-# Inserts are over an empty archive, the others each over a copy of one with the rows, in which a run without the commands in question
-# is taken off. What counts are the processor's seconds in the program itself, not in the system's calls, of the least of a few runs.
-# Files stand in memory where the machine has a folder there.
-# PROGRAM names another build to be timed in place of this one.
+# Inserts are over an empty archive, the others each over a copy of one with the rows, in which a
+# run without the commands in question is taken off. What counts are the processor's seconds in the
+# program itself, not in the system's calls, of the least of a few runs. Files stand in memory where
+# the machine has a folder there. PROGRAM names another build to be timed in place of this one.
 set -eu
 top=$(cd "$(dirname "$0")/.." && pwd)
 if [ -z "${PROGRAM:-}" ]; then

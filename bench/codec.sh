@@ -1,8 +1,8 @@
 #!/usr/bin/env bash
-# Shows that a command is read from its bytes, and written as bytes again, in time linear in them: a program that
-# calls `decode` and `encode` is timed over commands of two sizes (250,000 and 4,000,000 bytes unless told
-# otherwise, ascending), and the time per byte is compared. The program is made here, in a folder of its own,
-# over copies of the crates that it stands on.
+# Shows that a command is read from its bytes, and written as bytes again, in time linear in them: a
+# program that calls `decode` and `encode` is timed over commands of two sizes (250,000 and
+# 4,000,000 bytes unless told otherwise, ascending), and the time per byte is compared. The program
+# is made here, in a folder of its own, over copies of the crates that it stands on.
 set -eu
 top=$(cd "$(dirname "$0")/.." && pwd)
 [ $# -gt 0 ] || set -- 250000 4000000

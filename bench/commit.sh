@@ -1,12 +1,14 @@
 #!/usr/bin/env bash
-# Times commits of one row, for each n (2,000 and 20,000 unless told otherwise, ascending), over a real file, beside a bare loop in C
-# that writes the same bytes at the same places with the same two syncs for each: seconds, microseconds for each, and how many times as long
-# as the bare loop. Both take turns over a few rounds, of which the least counts. FOLDER names the folder on whose disk the files are made
-# (the present one unless told otherwise): in memory, as /dev/shm, no disk is waited for, and the ratio says nothing.
-# Ends with 1 where a run takes more than 1.25 times as long, or more than four calls of the disk a commit.
-# Then, where strace is there: the calls of the disk for each commit. Then, over files in memory, what opening an archive of 20,000 and of
-# 200,000 commands takes, and what a command of 5,000 inserts does, and how many commands come first (NUMBERS names others).
-# PROGRAM names another build to be timed in place of this one.
+# Times commits of one row, for each n (2,000 and 20,000 unless told otherwise, ascending), over a
+# real file, beside a bare loop in C that writes the same bytes at the same places with the same two
+# syncs for each: seconds, microseconds for each, and how many times as long as the bare loop. Both
+# take turns over a few rounds, of which the least counts. FOLDER names the folder on whose disk the
+# files are made (the present one unless told otherwise): in memory, as /dev/shm, no disk is waited
+# for, and the ratio says nothing. Ends with 1 where a run takes more than 1.25 times as long, or
+# more than four calls of the disk a commit. Then, where strace is there: the calls of the disk for
+# each commit. Then, over files in memory, what opening an archive of 20,000 and of 200,000 commands
+# takes, and what a command of 5,000 inserts does, and how many commands come first (NUMBERS names
+# others). PROGRAM names another build to be timed in place of this one.
 set -eu
 top=$(cd "$(dirname "$0")/.." && pwd)
 if [ -z "${PROGRAM:-}" ]; then

@@ -1,8 +1,9 @@
 #!/usr/bin/env bash
-# Times operators over a table of n rows, for each n (4,000, 16,000 and 64,000 unless told otherwise, ascending), over the
-# built program: the seconds of the inserts alone, then of 500 NOPs after them, of a PARTITION with a MERGE, and of a
-# DECOMPOSE with a JOIN; and the most memory in KiB of the inserts alone and with the NOPs. An operator costs what it is given and
-# makes: NOPs take as long whatever the rows are, and the others grow as the rows do.
+# Times operators over a table of n rows, for each n (4,000, 16,000 and 64,000 unless told
+# otherwise, ascending), over the built program: the seconds of the inserts alone, then of 500 NOPs
+# after them, of a PARTITION with a MERGE, and of a DECOMPOSE with a JOIN; and the most memory in
+# KiB of the inserts alone and with the NOPs. An operator costs what it is given and makes: NOPs
+# take as long whatever the rows are, and the others grow as the rows do.
 set -eu
 top=$(cd "$(dirname "$0")/.." && pwd)
 "$top/prima" </dev/null >/dev/null || [ $? -eq 2 ] # builds what is missing; no words, no archive

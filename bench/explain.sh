@@ -1,11 +1,13 @@
 #!/usr/bin/env bash
-# Times what pruning saves, over the built program: a table of n rows (500 unless told otherwise) is renamed there and back, each rename with
-# its inverse, and then cut into sixteen by PARTITIONs, each with a MERGE as its inverse, so that there are V versions (100 and 500 unless told
-# otherwise). Asked on the last version are all sixteen tables, as one union: without a condition, and with one that rules out all rows of
-# fifteen of them. Where the table is not yet cut all pieces but one are then dead; of tables that are cut off nothing tells which rows they
-# have, so each is a living piece at its own versions. EXPLAIN must tell just so many pieces. Prints the seconds that each question adds to the
-# load, and their ratio.
-# ROWS names another n. PROGRAM names another build to be timed in place of this one.
+# Times what pruning saves, over the built program: a table of n rows (500 unless told otherwise) is
+# renamed there and back, each rename with its inverse, and then cut into sixteen by PARTITIONs,
+# each with a MERGE as its inverse, so that there are V versions (100 and 500 unless told
+# otherwise). Asked on the last version are all sixteen tables, as one union: without a condition,
+# and with one that rules out all rows of fifteen of them. Where the table is not yet cut all pieces
+# but one are then dead; of tables that are cut off nothing tells which rows they have, so each is a
+# living piece at its own versions. EXPLAIN must tell just so many pieces. Prints the seconds that
+# each question adds to the load, and their ratio. ROWS names another n. PROGRAM names another build
+# to be timed in place of this one.
 set -eu
 top=$(cd "$(dirname "$0")/.." && pwd)
 if [ -z "${PROGRAM:-}" ]; then

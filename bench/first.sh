@@ -1,7 +1,7 @@
 #!/usr/bin/env bash
-# Times a script of n inserts of distinct rows and one query, for each n (500, 2,000 and 8,000 unless told
-# otherwise, ascending), over the built program: seconds, and the peak memory of the largest run so far.
-# A script of ten times the inserts may take little more than ten times as long.
+# Times a script of n inserts of distinct rows and one query, for each n (500, 2,000 and 8,000
+# unless told otherwise, ascending), over the built program: seconds, and the peak memory of the
+# largest run so far. A script of ten times the inserts may take little more than ten times as long.
 set -eu
 top=$(cd "$(dirname "$0")/.." && pwd)
 "$top/prima" </dev/null >/dev/null || [ $? -eq 2 ] # builds what is missing; no words, no archive

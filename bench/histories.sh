@@ -1,10 +1,14 @@
 #!/usr/bin/env bash
-# Times a full listing of a table's history over the built program: n entries (200,000 unless told otherwise), half of them of rows
-# that were inserted and half of what an update made of each, with texts of 16 and of 1,024 bytes (or the numbers in WIDTHS). Prints
-# the seconds that the listing adds to opening the archive, beside a bare program in C that writes the same bytes from a buffer and
-# one that writes them line by line with printf; the most memory of opening and of the listing in KiB, and what the listing adds in
-# bytes an entry, which the texts have no part in, since a listing lends them. It prints what it measures, and ends with 1 only where a
-# reply is wrong. Files stand in memory where the machine has a folder there. PROGRAM names another build to be timed in place of this one.
+# Times a full listing of a table's history over the built program: n entries (200,000 unless told
+# otherwise), half of them of rows that were inserted and half of what an update made of each, with
+# texts of 16 and of 1,024 bytes (or the numbers in WIDTHS). Prints the seconds that the listing
+# adds to opening the archive, beside a bare program in C that writes the same bytes from a buffer
+# and one that writes them line by line with printf; the most memory of opening in KiB; and the most
+# memory that the listing takes beside the archive, in bytes an entry, in a process that has made
+# the archive itself and given back what that took for a while: texts have no part in it, since a
+# listing borrows them. It prints what it measures, and ends with 1 only where a reply is wrong.
+# Files stand in memory where the machine has a folder there. PROGRAM names another build to be
+# timed in place of this one.
 set -eu
 top=$(cd "$(dirname "$0")/.." && pwd)
 if [ -z "${PROGRAM:-}" ]; then
@@ -87,13 +91,54 @@ def least(words, folder, script, replies):
     return best, most
 
 
+def status(child, name):
+    """A number of KiB that the system tells of a process."""
+    with open(f"/proc/{child.pid}/status") as it:
+        return next(int(line.split()[1]) for line in it if line.startswith(name + ":"))
+
+
+def wait_for_lines(path, count):
+    """Waits until so many lines have come."""
+    while True:
+        with open(path, "rb") as replies:
+            if sum(part.count(b"\n") for part in iter(lambda: replies.read(1 << 20), b"")) >= count:
+                return
+        time.sleep(0.05)
+
+
+def listing_memory(folder, commands, n):
+    """The most KiB that the listing takes beside the archive that its process has made. Blocks of memory that are given back are no
+    longer the process's, so what is more than before is the listing's."""
+    place = os.path.join(folder, "once")
+    os.mkdir(place)
+    settings = dict(os.environ, MALLOC_MMAP_THRESHOLD_="65536", MALLOC_TRIM_THRESHOLD_="0")
+    listed = os.path.join(folder, "listed")
+    with open(listed, "wb") as replies:
+        child = subprocess.Popen([program, "run"], stdin=subprocess.PIPE, stdout=replies, cwd=place, env=settings)
+        child.stdin.write("\n".join(commands).encode() + b"\n")
+        child.stdin.flush()
+        wait_for_lines(listed, len(commands))
+        before = status(child, "VmRSS")
+        with open(f"/proc/{child.pid}/clear_refs", "w") as it:
+            it.write("5")  # the peak is counted anew from here on
+        child.stdin.write(QUERY + b"\n")
+        child.stdin.flush()
+        wait_for_lines(listed, len(commands) + n + 1)
+        most = status(child, "VmHWM")
+        child.stdin.close()
+        if child.wait() != 0:
+            sys.exit("the run with the listing failed")
+    return most - before
+
+
 print(f"{'width':>6} {'entries':>8} {'reply':>11} {'listing':>8} {'write':>8} {'printf':>8} {'open KiB':>9} {'list KiB':>9} {'B/entry':>8}")
 for width in widths:
     for n in sizes:
         with tempfile.TemporaryDirectory(dir=in_memory) as folder:
             paths = [os.path.join(folder, name) for name in ("script", "nothing", "query", "replies")]
+            commands = list(load(n, width))
             with open(paths[0], "w") as it:
-                it.writelines(line + "\n" for line in load(n, width))
+                it.writelines(line + "\n" for line in commands)
             open(paths[1], "w").close()
             with open(paths[2], "wb") as it:
                 it.write(QUERY)
@@ -104,7 +149,7 @@ for width in widths:
                 if b"error" in replies.read():
                     sys.exit("a command was refused")
                 opening, open_most = least([program, "run"], folder, nothing, replies)
-                listing, list_most = least([program, "run"], folder, query, replies)
+                listing, _ = least([program, "run"], folder, query, replies)
                 replies.seek(0)
                 said = replies.read()
             if not said.endswith(f"end {n}\n".encode()) or said.count(b"\n") != n + 1:
@@ -112,6 +157,7 @@ for width in widths:
             with open(paths[0], "w+b") as out:
                 block, _ = least([bare, paths[3], "block"], folder, nothing, out)
                 lines, _ = least([bare, paths[3], "lines"], folder, nothing, out)
-        grown = (list_most - open_most) * 1024 / n
-        print(f"{width:>6} {n:>8} {len(said):>11} {listing - opening:>8.3f} {block:>8.3f} {lines:>8.3f} {open_most:>9} {list_most:>9} {grown:>8.1f}")
+            taken = listing_memory(folder, commands, n)
+        grown = taken * 1024 / n
+        print(f"{width:>6} {n:>8} {len(said):>11} {listing - opening:>8.3f} {block:>8.3f} {lines:>8.3f} {open_most:>9} {taken:>9} {grown:>8.1f}")
 PYTHON

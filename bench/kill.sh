@@ -1,10 +1,12 @@
 #!/usr/bin/env bash
-# Kills the program while it commits, and looks at what it leaves: over a real file a script that never ends is fed to it, one insert
-# after the other; at a random moment it is killed (SIGKILL, by its own id); then the file is read by a second reading of the format, the
-# archive is opened again, and both are compared with the replies that had come. Nothing acknowledged may be lost, and at most
-# one command more may be there. N rounds (200 unless told otherwise) over files that are used ten times each; SEED is the second word.
-# This tries a process that stops, and not a machine: what the system holds and has not synced is not lost with a process.
-# FOLDER names the folder on whose disk the files are made (the present one unless told otherwise). PROGRAM names another build.
+# Kills the program while it commits, and looks at what it leaves: over a real file a script that
+# never ends is fed to it, one insert after the other; at a random moment it is killed (SIGKILL, by
+# its own id); then the file is read by a second reading of the format, the archive is opened again,
+# and both are compared with the replies that had come. Nothing acknowledged may be lost, and at
+# most one command more may be there. N rounds (200 unless told otherwise) over files that are used
+# ten times each; SEED is the second word. This tries a process that stops, and not a machine: what
+# the system holds and has not synced is not lost with a process. FOLDER names the folder on whose
+# disk the files are made (the present one unless told otherwise). PROGRAM names another build.
 set -eu
 top=$(cd "$(dirname "$0")/.." && pwd)
 if [ -z "${PROGRAM:-}" ]; then

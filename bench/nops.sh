@@ -1,9 +1,10 @@
 #!/usr/bin/env bash
-# What versions cost that touch no table: a table of n rows (20,000 unless told otherwise) and ten questions on it, without NOPs and with N
-# of them (400 unless told otherwise) between the rows and the questions, over the built program. Prints the processor's seconds and the
-# most memory in KiB of either, the middle one of three runs, and how many times the second has of the first: a table is stored once over
-# versions that leave it alone, and a question reads it once for all of them, so both are near 1.
-# PROGRAM names another build to be timed in place of this one.
+# What versions cost that touch no table: a table of n rows (20,000 unless told otherwise) and ten
+# questions on it, without NOPs and with N of them (400 unless told otherwise) between the rows and
+# the questions, over the built program. Prints the processor's seconds and the most memory in KiB
+# of either, the middle one of three runs, and how many times the second has of the first: a table
+# is stored once over versions that leave it alone, and a question reads it once for all of them, so
+# both are near 1. PROGRAM names another build to be timed in place of this one.
 set -eu
 top=$(cd "$(dirname "$0")/.." && pwd)
 if [ -z "${PROGRAM:-}" ]; then

@@ -1,10 +1,12 @@
 #!/usr/bin/env bash
-# Times what opening an archive takes, of n inserts and of an update of each fourth row, for each n (50,000 unless told otherwise),
-# without a CHECKPOINT and with one after them all, beside a bare program in C that reads the bytes of the same file and sums them:
-# the bytes, the seconds of both, how many times as long as the bare program, and the most memory in KiB. Each counts with the least of
-# a few runs. An opening is a run without a statement; the first line has one over no archive, which is what the others have beside.
-# Then the seconds that the CHECKPOINT itself took. It prints what it measures, and ends with 1 only where a reply is wrong.
-# Files stand in memory where the machine has a folder there. PROGRAM names another build to be timed in place of this one.
+# Times what opening an archive takes, of n inserts and of an update of each fourth row, for each n
+# (50,000 unless told otherwise), without a CHECKPOINT and with one after them all, beside a bare
+# program in C that reads the bytes of the same file and sums them: the bytes, the seconds of both,
+# how many times as long as the bare program, and the most memory in KiB. Each counts with the least
+# of a few runs. An opening is a run without a statement; the first line has one over no archive,
+# which is what the others have beside. Then the seconds that the CHECKPOINT itself took. It prints
+# what it measures, and ends with 1 only where a reply is wrong. Files stand in memory where the
+# machine has a folder there. PROGRAM names another build to be timed in place of this one.
 set -eu
 top=$(cd "$(dirname "$0")/.." && pwd)
 if [ -z "${PROGRAM:-}" ]; then

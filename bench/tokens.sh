@@ -1,8 +1,9 @@
 #!/usr/bin/env bash
-# Shows that the tokens of one long statement, and the conditions in it, are read in time linear in its bytes: a
-# program that calls `tokens` and `parse_cond` is timed over two sizes (250,000 and 1,000,000 bytes unless told
-# otherwise, ascending), and the time per byte is compared. The program is made here, in a folder of its own, over
-# copies of the crates that it stands on, so that reading alone is timed, without the limits of a statement.
+# Shows that the tokens of one long statement, and the conditions in it, are read in time linear in
+# its bytes: a program that calls `tokens` and `parse_cond` is timed over two sizes (250,000 and
+# 1,000,000 bytes unless told otherwise, ascending), and the time per byte is compared. The program
+# is made here, in a folder of its own, over copies of the crates that it stands on, so that reading
+# alone is timed, without the limits of a statement.
 set -eu
 top=$(cd "$(dirname "$0")/.." && pwd)
 [ $# -gt 0 ] || set -- 250000 1000000

@@ -1,11 +1,14 @@
 #!/usr/bin/env bash
-# Times queries over many versions, over the built program: n rows (1,000 and 10,000, or the numbers in ROWS) entered under version 1, then V versions, and the same
-# question asked on version 1 and on the last one. The versions are renames with their inverses (a table and a column in turn),
-# ADD and DROP COLUMN in turn, renames of another table, PARTITION and MERGE in turn, each the other's inverse (a question has one piece and
-# two in turn, since of those that both make of it the dead ones are left out on the way), or cuts: a PARTITION with MERGE as its inverse, and a
-# RENAME of the table that is cut off (a question has one piece more after each cut). Prints the seconds of the load with
-# its operators, the seconds that each of the two questions adds, and the most memory in KiB. A table is stored once over the versions that
-# do not touch it, so memory grows as V + n times the versions that do; a question reads it once for all neighbouring versions that do not touch it.
+# Times queries over many versions, over the built program: n rows (1,000 and 10,000, or the numbers
+# in ROWS) entered under version 1, then V versions, and the same question asked on version 1 and on
+# the last one. The versions are renames with their inverses (a table and a column in turn), ADD and
+# DROP COLUMN in turn, renames of another table, PARTITION and MERGE in turn, each the other's
+# inverse (a question has one piece and two in turn, since of those that both make of it the dead
+# ones are left out on the way), or cuts: a PARTITION with MERGE as its inverse, and a RENAME of the
+# table that is cut off (a question has one piece more after each cut). Prints the seconds of the
+# load with its operators, the seconds that each of the two questions adds, and the most memory in
+# KiB. A table is stored once over the versions that do not touch it, so memory grows as V + n times
+# the versions that do; a question reads it once for all neighbouring versions that do not touch it.
 set -eu
 top=$(cd "$(dirname "$0")/.." && pwd)
 "$top/prima" </dev/null >/dev/null || [ $? -eq 2 ] # builds what is missing; no words, no archive
