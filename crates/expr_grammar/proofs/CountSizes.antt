@@ -1,4 +1,4 @@
--- Each token has one mark, and a fact counts a node at least.
+-- Each token has its counts, and a fact counts a node at least.
 use Rattle.std.proofs.Common.{◌≡◌, ℕ, suc, ◌+◌, ◌≤◌, max, Bool, List, [], ◌∷◌, ◌++◌, length, map}
 use Rattle.std.proofs.Common.{refl, arith, length-append}
 use Rattle.cond_expr.specs.Trees.{Tree, Test}

@@ -1,4 +1,4 @@
--- The readers go along the marks of what is in the grammar.
+-- The readers go along the token counts of what is in the grammar.
 use Rattle.std.proofs.Common.{◌≡◌, ℕ, ℤ, zero, suc, ◌+◌, ◌≤◌, Bool, true, false, cond, ◌&&◌, Some}
 use Rattle.std.proofs.Common.{None, List, [], ◌∷◌, ◌++◌, length, refl, sym, ap, ◌∙◌, append_assoc}
 use Rattle.std.proofs.Common.{arith}
@@ -48,7 +48,8 @@ in_room n u v o h = by_test (has_room n)
     (λ r. ap (λ b. cond b u o) r ∙ h (grind (arith, nat_tests)) ∙ sym (ap (λ b. cond b v o) r))
     (λ r. ap (λ b. cond b u o) r ∙ sym (ap (λ b. cond b v o) r))
 
--- ---- what reading along the marks says of each nonterminal; the second flag tells whether it ends
+-- ---- what reading along the counts says of each nonterminal; the second flag tells whether it
+-- ends
 -- in a column of no alias
 
 abbrev pub ExprRead : Bool → Bool → Tree → List Lexeme → List TokenCounts → Type 0

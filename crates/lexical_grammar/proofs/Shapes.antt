@@ -470,7 +470,8 @@ text_end at b bytes e q h = by_scanned (text_from 1 bytes) (text_ends 1 bytes) h
       refl,
     )
 
-    by_scanned : (p : Scanned) → TextEnds 1 bytes p → EndsBy at (sized (length (text_value bytes)) p) e
+    by_scanned : (p : Scanned) → TextEnds 1 bytes p
+        → EndsBy at (sized (length (text_value bytes)) p) e
         → EndsSo at (b ∷ bytes) e
     by_scanned (Of kind n) t k = by_test (nat_lt 4096 (length (text_value bytes)))
         (λ f. by_fault at (b ∷ bytes) e (LongText at)

@@ -22,7 +22,8 @@ none_left text prefix (b ∷ suffix) e h = absurd
     (omega (arith, h, ap length e, length-append prefix (b ∷ suffix)))
 
 -- a token alone has its kind's form
-alone : (kind : TokenKind) (text : List ℕ) → scanned text ≡ Of kind (length text) → (suffix : List ℕ)
+alone : (kind : TokenKind) (text : List ℕ) → scanned text ≡ Of kind (length text)
+    → (suffix : List ℕ)
     × IsToken kind text suffix
 alone kind text e =
     let h = shape text kind (length text) e in

@@ -327,7 +327,8 @@ sized_of size Long kind n e = true_false (sym (ap is_of e))
 sized_of size Big kind n e = true_false (sym (ap is_of e))
 
 text_again : (b : ℕ) (bytes : List ℕ) (kind : TokenKind) (n : ℕ) → is_word_start b ≡ false
-    → is_digit b ≡ false → (b == 39) ≡ true → scanned_from b bytes ≡ Of kind n → Again b bytes kind n
+    → is_digit b ≡ false → (b == 39) ≡ true → scanned_from b bytes ≡ Of kind n
+    → Again b bytes kind n
 text_again b bytes kind n w d q e =
     let is = sym (at_quote b bytes w d q) ∙ e in
     let s = sized_of (length (text_value bytes)) (text_from 1 bytes) kind n is in

@@ -1,4 +1,4 @@
--- Reading along the marks of what is read.
+-- Reading along the token counts of what is read.
 use Rattle.std.proofs.Common.{◌≡◌, ℕ, suc, ◌+◌, ◌<◌, ◌≤◌, Bool, true, false, cond, nat_lt, Option}
 use Rattle.std.proofs.Common.{Some, None, List, [], ◌∷◌, ◌++◌, length, refl, sym, ap, ◌∙◌, arith}
 use Rattle.std.proofs.lemmas.Bool.Decides.{nat_tests}
@@ -16,7 +16,7 @@ abbrev pub or_else : {A : Type 0} → Option What → ℕ → List Lexeme → Ou
 or_else (Some w) n us o = LimitExceeded w n us
 or_else None n us o = o
 
--- how reading ends that goes along these marks
+-- how reading ends that goes along these token counts
 abbrev pub along : {A : Type 0} → ℕ → A → ℕ → List TokenCounts → List Lexeme → Out A
 along d a n [] ts = Parsed a n ts
 along d a n (m ∷ ms) [] = Parsed a n []

@@ -23,7 +23,7 @@ use Rattle.parser_combinators.specs.TokenCounts.{TokenCounts, crossed_by}
 use Rattle.parser_combinators.specs.Found.{lexemes_from, IsTooMany, FaultAt}
 use Rattle.parser_combinators.specs.Crossings.{crossings, crossings_after, no_crossings}
 use Rattle.parser_combinators.specs.Crossings.{IsFirstCrossing, CrossingsFirst, IsFaultOf}
-use Rattle.parser_combinators.specs.ListCrossings.{Marking, Crossing, count_crossing}
+use Rattle.parser_combinators.specs.ListCrossings.{CountsOf, Crossing, count_crossing}
 use Rattle.parser_combinators.proofs.Counted.{along, or_else, by_crossed}
 use Rattle.parser_combinators.proofs.Places.{err_syntax, err_ran_out}
 use Rattle.lexical_grammar.proofs.Cuts.{drop_prefix}
@@ -281,8 +281,8 @@ pub back_reads : {A : Type 0} (p : Parser A) (G : Grammar A) (crossing : Crossin
 back_reads p G crossing read a s f h = ap (set_back 0) (read a s f h)
     ∙ back_crossings a (crossing a s f h) f
 
--- what goes along its marks
-module _ {A : Type 0} (p : Parser A) (G : A → Size → List Lexeme → Type 0) (counts : Marking G)
+-- what goes along its token counts
+module _ {A : Type 0} (p : Parser A) (G : A → Size → List Lexeme → Type 0) (counts : CountsOf G)
     (sized : (a : A) (s : Size) (f : List Lexeme) (h : G a s f)
     → length (counts a s f h) ≡ length f) where
   pub counts_read : ((a : A) (s : Size) (f : List Lexeme) (h : G a s f)

@@ -1,5 +1,5 @@
--- At which token a count passes its limit, and which is the first of them: of one part, of which
--- each token has its marks, and of a text whose parts have counts of their own.
+-- At which token a count passes its limit, and which is the first of them: of one part, each of
+-- whose tokens has its counts, and of a text whose parts have counts of their own.
 use Rattle.std.specs.Prelude.{◌≡◌, ℕ, ◌+◌, ◌<◌, ◌++◌, List, [], ◌∷◌, length, map, get_or, Option}
 use Rattle.std.specs.Prelude.{Some, None, Result, Err}
 use Rattle.prima_base.specs.declared.refusal.What.{What}

@@ -1,4 +1,5 @@
 pub mod Grammar
+pub mod Derivations
 pub mod Parsing
 pub mod Reads
 pub mod TokenCounts

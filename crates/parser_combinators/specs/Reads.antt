@@ -6,7 +6,7 @@ use Rattle.parser_combinators.specs.declared.cursor.Cursor.{Cursor}
 use Rattle.lexical_grammar.specs.Lexemes.{Lexeme, lexeme}
 use Rattle.parser_combinators.specs.Parsing.{Out, Parsed, Unexpected, LimitExceeded}
 
--- what stands in front of the cursor
+-- what is still to be read
 abbrev pub ahead : Cursor → List Lexeme
 ahead c = map lexeme c.rest.now
 

@@ -41,7 +41,7 @@ abbrev pub deepest : List TokenCounts → ℕ
 deepest [] = 0
 deepest (m ∷ ms) = max m.depth (deepest ms)
 
--- one mark for each lexeme, and together the size
+-- the counts of each lexeme, and together the size
 abbrev pub AddUp : Grammar (List TokenCounts)
 AddUp ms s f = (length ms ≡ length f) × (nodes_in ms ≡ s.nodes) × (deepest ms ≡ s.depth)
 

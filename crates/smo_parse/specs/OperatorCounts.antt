@@ -11,6 +11,7 @@ use Rattle.parser_combinators.specs.ListCrossings.{Crossing, count_crossing}
 use Rattle.expr_grammar.specs.TreeCounts.{expr_counts, cond_counts}
 use Rattle.expr_grammar.specs.Where.{IsWhere}
 use Rattle.smo_parse.specs.Productions.{IsPartitionTable, IsJoinTable, IsAddColumn, IsOperator}
+use Rattle.smo_parse.specs.OperatorParts.{partition_condition, join_condition, column_value}
 
 -- nothing at each of these
 abbrev pub uncounted : List Lexeme → List TokenCounts
@@ -20,11 +21,10 @@ uncounted f = map (λ x. plain) f
 abbrev pub partition_counts : (o : Operator) (s : Size) (f : List Lexeme) → IsPartitionTable o s f
     → List TokenCounts
 partition_counts o s f h =
-    let named = h.2.2 in
-    let met = named.8.2 in
-    let condition = met.8.2 in
+    let condition = partition_condition o s f h in
     plain ∷ plain ∷ plain ∷ plain ∷ plain ∷ plain
-    ∷ (cond_counts false condition.0 condition.1 condition.3 condition.7 ++ plain ∷ plain ∷ [])
+    ∷ (cond_counts false condition.value condition.size condition.lexemes condition.derives
+    ++ plain ∷ plain ∷ [])
 
 -- nothing, or WHERE and the condition
 abbrev pub where_counts : (c : Test) (s : Size) (f : List Lexeme) → IsWhere false c s f
@@ -36,20 +36,17 @@ where_counts c s f (inr h) = plain ∷ cond_counts false c s h.0 h.2
 abbrev pub join_counts : (o : Operator) (s : Size) (f : List Lexeme) → IsJoinTable o s f
     → List TokenCounts
 join_counts o s f h =
-    let first = h.2.2 in
-    let second = first.8.2 in
-    let made = second.8.2 in
+    let condition = join_condition o s f h in
     plain ∷ plain ∷ plain ∷ plain ∷ plain ∷ plain ∷ plain
-    ∷ where_counts made.8.0 made.2 made.4 made.8.2
+    ∷ where_counts condition.value condition.size condition.lexemes condition.derives
 
 -- ADD COLUMN name AS, the expression, INTO and a name
 abbrev pub add_counts : (o : Operator) (s : Size) (f : List Lexeme) → IsAddColumn o s f
     → List TokenCounts
 add_counts o s f h =
-    let named = h.2.2 in
-    let value = named.8.2 in
-    plain ∷ plain ∷ plain ∷ plain ∷ (expr_counts false value.0 value.1 value.3 value.7 ++ plain
-    ∷ plain ∷ [])
+    let value = column_value o s f h in
+    plain ∷ plain ∷ plain ∷ plain
+    ∷ (expr_counts false value.value value.size value.lexemes value.derives ++ plain ∷ plain ∷ [])
 
 -- by the production, in their order
 abbrev pub operator_counts : (o : Operator) (s : Size) (f : List Lexeme) → IsOperator o s f
