@@ -1,44 +1,20 @@
 //! Replies that are made in memory before they are put.
 
-ghost use Rattle.std.specs.Prelude.{◌≡◌, ◌++◌, ℕ, List, OnOk, OnErr, IfOk, decimal, Err};
+ghost use Rattle.std.specs.Prelude.{◌≡◌, ◌++◌, ℕ, List, OnOk, OnErr, IfOk, Err};
 ghost use Rattle.std.specs.Io.KnownBytes.{Appends};
 ghost use Rattle.prima_io.specs.Moves.{AppendsPrefix, AppendsLess};
 ghost use Rattle.answer_text.specs.Causes.{HasStopCause};
 ghost use Rattle.answer_text.specs.declared.stop.Stop.TheVariants as stop;
-ghost use Rattle.answer_text.specs.Texts.{end_text, count_text};
+ghost use Rattle.answer_text.specs.Texts.{count_text};
 
 use crate::line::Line;
 use crate::stop::Stop;
-use itoa::Buffer;
 use prima_base::NoMemory;
 use prima_io::{Failed, Sink, put_all};
 use smo_parse::put;
 
-/// Adds a piece. The one error is `NoMemory`, where memory runs out.
-pub(crate) fn add(line: &mut Vec<u8>, piece: &[u8]) -> Result<(), NoMemory>
-    ensures { OnOk result (line.new.items ≡ line.old.items ++ piece.now) }
-{
-    put(line, piece)
-}
-
-/// Adds a number in decimal digits. The one error, here and below, is `NoMemory`, where memory runs
+/// Adds the line that counts the lines before it. The one error is `NoMemory`, where memory runs
 /// out.
-pub(crate) fn add_number(line: &mut Vec<u8>, number: u64) -> Result<(), NoMemory>
-    ensures { OnOk result (line.new.items ≡ line.old.items ++ decimal number) }
-{
-    put(line, Buffer::new().format(number).as_bytes())
-}
-
-/// Adds the end of a period, which may still go on.
-pub(crate) fn add_end(line: &mut Vec<u8>, end: u64) -> Result<(), NoMemory>
-    ensures { OnOk result (line.new.items ≡ line.old.items ++ end_text end) }
-{
-    let mut text = Line::new();
-    text.add_end(end);
-    put(line, text.held())
-}
-
-/// Adds the line that counts the lines before it.
 pub(crate) fn add_count(line: &mut Vec<u8>, count: u64) -> Result<(), NoMemory>
     ensures { OnOk result (line.new.items ≡ line.old.items ++ count_text count) }
 {

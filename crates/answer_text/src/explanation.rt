@@ -9,9 +9,10 @@ ghost use Rattle.piece_texts.specs.ExplainedPieces.{explained_of, all_explained}
 ghost use Rattle.piece_texts.specs.PieceTexts.{piece_text};
 ghost use Rattle.answer_text.specs.Causes.{HasStopCause};
 ghost use Rattle.answer_text.specs.declared.stop.Stop.TheVariants as stop;
-ghost use Rattle.answer_text.specs.Texts.{end_text, piece_head, explained_text, explain_text};
+ghost use Rattle.answer_text.specs.Texts.{piece_head, explained_text, explain_text};
 
-use crate::bytes::{add, add_count, add_end, add_number, put_lines};
+use crate::bytes::{add_count, put_lines};
+use crate::line::Line;
 use crate::stop::Stop;
 use piece_texts::{Explained, piece_text};
 use prima_base::NoMemory;
@@ -21,21 +22,22 @@ use std::alloc::Global;
 
 // What stands before the text of a piece.
 #[tactic(auto, unfolding(crate::specs::Texts::piece_head))]
-fn add_head(line: &mut Vec<u8>, explained: &Explained) -> Result<(), NoMemory>
-    ensures { OnOk result (line.new.items ≡ line.old.items
-        ++ piece_head (explained_of explained.now)) }
+fn head_line(explained: &Explained) -> Line
+    ensures { result ≡ piece_head (explained_of explained.now) }
 {
-    add(line, b"piece ")?;
-    add_number(line, explained.period.start())?;
-    add(line, b" ")?;
-    add_end(line, explained.period.end())?;
-    add(line, b" ")?;
-    add_number(line, explained.branch as u64)?;
-    add(line, b" ")?;
-    add_number(line, explained.atom as u64)?;
-    add(line, b" ")?;
-    add_number(line, explained.version as u64)?;
-    add(line, b" ")
+    let mut line = Line::new();
+    line.add(b"piece ");
+    line.add_number(explained.period.start());
+    line.add(b" ");
+    line.add_end(explained.period.end());
+    line.add(b" ");
+    line.add_number(explained.branch as u64);
+    line.add(b" ");
+    line.add_number(explained.atom as u64);
+    line.add(b" ");
+    line.add_number(explained.version as u64);
+    line.add(b" ");
+    line
 }
 
 // The line of a piece.
@@ -43,7 +45,8 @@ fn add_explained(alloc: Global, lines: &mut Vec<u8>, explained: &Explained) -> R
     ensures { OnOk result (lines.new.items ≡ lines.old.items
         ++ explained_text (explained_of explained.now)) }
 {
-    add_head(lines, explained)?;
+    let head = head_line(explained);
+    put(lines, head.held())?;
     let text = piece_text(alloc, &explained.piece)?;
     put(lines, &text)?;
     put(lines, b"\n")

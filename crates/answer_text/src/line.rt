@@ -67,7 +67,8 @@ impl Line {
     /// Adds the end of a period, for which there is room: `now` where the period still goes on.
     pub(crate) fn add_end(&mut self, end: u64)
         requires { length self.old + 20 ≤ 4096 }
-        ensures { self.new ≡ self.old ++ end_text end }
+        ensures added { self.new ≡ self.old ++ end_text end }
+        ensures short { length self.new ≤ length self.old + 20 }
     {
         if end == FOREVER {
             self.add(b"now");

@@ -6,7 +6,6 @@ ghost use Rattle.std.specs.Io.KnownBytes.{Appends};
 ghost use Rattle.prima_io.specs.Moves.{AppendsPrefix, AppendsLess};
 ghost use Rattle.smo_types.specs.Operators.{operator_of, operators_of};
 ghost use Rattle.smo_types.specs.Commands.{version_of};
-ghost use Rattle.smo_meaning.specs.InForce.{begins_at};
 ghost use Rattle.smo_parse.specs.Texts.{operator_text};
 ghost use Rattle.answer_text.specs.Causes.{HasStopCause};
 ghost use Rattle.answer_text.specs.declared.stop.Stop.TheVariants as stop;
@@ -14,11 +13,12 @@ ghost use Rattle.answer_text.specs.Texts.{more_operators, inverse_text, version_
 ghost use Rattle.answer_text.specs.Texts.{first_version_text, version_text, version_texts};
 ghost use Rattle.answer_text.specs.Texts.{versions_text};
 
-use crate::bytes::{add_count, add_end, add_number, put_lines};
+use crate::bytes::{add_count, put_lines};
+use crate::line::Line;
 use crate::stop::Stop;
-use prima_base::{FOREVER, NoMemory};
+use prima_base::NoMemory;
 use prima_io::Sink;
-use smo_ops::{Op, Version};
+use smo_ops::{Op, Version, begins_at};
 use smo_parse::{op_text, put};
 use std::alloc::Global;
 
@@ -61,15 +61,24 @@ fn add_inverse(alloc: Global, line: &mut Vec<u8>, inverse: &[Op]) -> Result<(), 
 
 // The number of a version, and the moments from which and up to which it is in force.
 #[tactic(auto, unfolding(crate::specs::Texts::version_head))]
+fn head_line(number: u64, start: u64, end: u64) -> Line
+    ensures { result ≡ version_head number start end }
+{
+    let mut line = Line::new();
+    line.add(b"version ");
+    line.add_number(number);
+    line.add(b" ");
+    line.add_number(start);
+    line.add(b" ");
+    line.add_end(end);
+    line
+}
+
 fn add_head(line: &mut Vec<u8>, number: u64, start: u64, end: u64) -> Result<(), NoMemory>
     ensures { OnOk result (line.new.items ≡ line.old.items ++ version_head number start end) }
 {
-    put(line, b"version ")?;
-    add_number(line, number)?;
-    put(line, b" ")?;
-    add_number(line, start)?;
-    put(line, b" ")?;
-    add_end(line, end)
+    let head = head_line(number, start, end);
+    put(line, head.held())
 }
 
 // The line of version 0.
@@ -97,17 +106,6 @@ fn add_version(
     put(lines, b"\n")
 }
 
-// The moment at which what is in force before these versions ends: the stamp of the first of them,
-// or the end of time.
-fn next_stamp(versions: &[Version]) -> u64
-    ensures { result ≡ begins_at (map version_of versions.now) 1 }
-{
-    match versions {
-        [] => FOREVER,
-        [first, ..] => first.stamp,
-    }
-}
-
 // The lines of versions, the first of which has this number.
 fn add_versions(
     alloc: Global,
@@ -122,7 +120,7 @@ fn add_versions(
     match versions {
         [] => Ok(()),
         [first, more @ ..] => {
-            add_version(alloc, lines, number, first, next_stamp(more))?;
+            add_version(alloc, lines, number, first, begins_at(more, 1))?;
             add_versions(alloc, lines, number + 1, more)
         }
     }
@@ -134,7 +132,7 @@ fn version_lines(alloc: Global, versions: &[Version]) -> Result<Vec<u8>, NoMemor
     ensures { IfOk result (λ lines. lines.items ≡ versions_text (map version_of versions.now)) }
 {
     let mut lines = Vec::new(alloc);
-    add_first_version(&mut lines, next_stamp(versions))?;
+    add_first_version(&mut lines, begins_at(versions, 1))?;
     add_versions(alloc, &mut lines, 1, versions)?;
     add_count(&mut lines, versions.len() as u64 + 1)?;
     Ok(lines)

@@ -2,9 +2,9 @@ use crate::{ColRef, Column, Cond, Expr, Fill, Whose, fill_cond, fill_expr};
 use prima_base::NoMemory;
 use std::alloc::Global;
 
-// Puts each reference for itself.
+/// Puts each reference for itself.
 #[derive(Drop)]
-struct Itself;
+pub struct Itself;
 
 impl Fill for Itself {
     ghost use Rattle.cond_expr.specs.Trees.{column};

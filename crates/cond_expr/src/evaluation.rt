@@ -10,7 +10,7 @@ ghost use Rattle.cond_expr.specs.declared.expr.Whose.{Whose as WhoseColumn};
 
 use crate::{CmpOp, ColRef, Column, Cond, Expr, Whose};
 use prima_base::limits::MAX_TEXT;
-use prima_base::{NoMemory, Txt, Val, Value, same_name};
+use prima_base::{NoMemory, Txt, Val, same_name};
 use std::alloc::Global;
 use std::cmp::Ordering;
 
@@ -21,20 +21,6 @@ pub(crate) fn names(reference: &ColRef, column: &Column) -> bool
     match reference.whose {
         Whose::Atom(atom) => column.atom == atom && same_name(&reference.name, &column.name),
         Whose::Free | Whose::Alias(_) => false,
-    }
-}
-
-// The constant.
-fn owned<'a>(constant: &Value) -> Result<Val<'a>, NoMemory>
-    ensures value { IfOk result (λ w. shown w ≡ constant.now) }
-    ensures valid { IfOk result (λ w. IsValid (shown w)) }
-{
-    match constant {
-        Value::Int(n) => Ok(Val::Int(*n)),
-        Value::Text(text) => {
-            let _valid = text.bytes();
-            Ok(Val::Own(text.copy()?))
-        }
     }
 }
 
@@ -165,7 +151,7 @@ pub fn eval<'a>(
 {
     match expr {
         Expr::Col(reference) => look_up(columns, values, reference),
-        Expr::Const(constant) => owned(constant),
+        Expr::Const(constant) => constant.to_val(),
         Expr::Length(part) => {
             let v = eval(alloc, part, columns, values)?;
             Ok(Val::Int(byte_count(&v)))

@@ -1,4 +1,4 @@
-//! The references of expressions and conditions, in written order.
+//! References: the atom that one is to, and those of expressions and conditions, in written order.
 
 ghost use Rattle.std.specs.Prelude.{◌≡◌, ◌++◌, OnOk, map};
 ghost use Rattle.std.specs.List.{flat_map};
@@ -7,8 +7,23 @@ ghost use Rattle.cond_expr.specs.Faults.{references, trees_references, test_refe
 ghost use Rattle.cond_expr.specs.Faults.{tests_references};
 ghost use Rattle.cond_expr.specs.References.{borrowed};
 
-use crate::{ColRef, Cond, Expr};
+use crate::{ColRef, Cond, Expr, Whose};
 use prima_base::NoMemory;
+
+impl ColRef {
+    ghost use Rattle.std.specs.Prelude.{◌≡◌};
+    ghost use Rattle.cond_expr.specs.References.{is_to};
+
+    /// Whether it names a column of this atom. It takes no memory.
+    pub fn is_to(&self, atom: u32) -> bool
+        ensures { result ≡ is_to atom self.now }
+    {
+        match &self.whose {
+            Whose::Atom(own) => atom == *own,
+            Whose::Free | Whose::Alias(_) => false,
+        }
+    }
+}
 
 // Puts the references of an expression, in written order, after what is there.
 #[cycle(gathers)]

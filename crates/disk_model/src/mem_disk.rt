@@ -9,6 +9,7 @@ ghost use Rattle.disk_model.specs.MemoryLaws.{valid};
 
 use crate::call::Call;
 use crate::{Disk, Failed, NoMemory};
+use prima_base::push_all_reserved;
 use std::alloc::Global;
 
 /// A disk in memory that keeps a list of all its writes and syncs. It is honest and tells its
@@ -33,18 +34,6 @@ pub struct MemDisk {
     ghost bytes_reserved: { vec_len bytes + (room - vec_len written) ≤ vec_capacity bytes },
 }
 
-// Puts these bytes after the others, for which there is room. It takes no memory.
-fn push_all(to: &mut Vec<u8>, bytes: &[u8])
-    requires { vec_len to.old + length bytes.now ≤ vec_capacity to.old }
-    ensures items { to.new.items ≡ to.old.items ++ bytes.now }
-    ensures len { vec_len to.new ≡ vec_len to.old + length bytes.now }
-    ensures capacity { vec_capacity to.new ≡ vec_capacity to.old }
-{
-    for byte in bytes {
-        to.push_reserved(*byte);
-    }
-}
-
 // Writes over what is there, and past the end. It takes no memory.
 fn put_bytes(file: &mut Vec<u8>, at: usize, bytes: &[u8])
     requires begins { at ≤ vec_len file.old }
@@ -54,7 +43,7 @@ fn put_bytes(file: &mut Vec<u8>, at: usize, bytes: &[u8])
     ensures capacity { vec_capacity file.old ≤ vec_capacity file.new }
 {
     let over = bytes.len().min(file.len() - at);
-    push_all(file, &bytes[over..]);
+    push_all_reserved(file, &bytes[over..]);
     file[at..at + over].copy_from_slice(&bytes[..over]);
 }
 
@@ -160,7 +149,7 @@ impl Disk for MemDisk {
             return Err(Failed);
         }
         put_bytes(&mut self.bytes, at as usize, bytes);
-        push_all(&mut self.written, bytes);
+        push_all_reserved(&mut self.written, bytes);
         let call = Call::Write {
             at,
             len: bytes.len(),

@@ -27,27 +27,13 @@ fn lend_at(values: &[Value], at: usize) -> Val<'_>
     values[at].lend()
 }
 
-// An equal value. A text is copied.
-fn copy<'a>(value: &Value) -> Result<Val<'a>, NoMemory>
-    ensures value { IfOk result (λ v. shown v ≡ value.now) }
-    ensures valid { IfOk result (λ v. IsValid (shown v)) }
-{
-    match value {
-        Value::Int(n) => Ok(Val::Int(*n)),
-        Value::Text(text) => {
-            let _valid = text.bytes();
-            Ok(Val::Own(text.copy()?))
-        }
-    }
-}
-
 // The value at this place. A text is copied.
 fn copy_at<'a>(values: &[Value], at: usize) -> Result<Val<'a>, NoMemory>
     requires { at < length values.now }
     ensures value { IfOk result (λ v. shown v ≡ slice_index_or values.now at (shown v)) }
     ensures valid { IfOk result (λ v. IsValid (shown v)) }
 {
-    let value = copy(&values[at])?;
+    let value = values[at].to_val()?;
     Ok(value)
 }
 

@@ -18,7 +18,7 @@ use Rattle.smo_types.specs.Commands.{PlainVersion, version_of}
 use Rattle.smo_meaning.specs.InForce.{stamp_of, begins_at, in_force}
 use Rattle.smo_meaning.specs.Past.{Past, version_at, begun_at}
 use Rattle.version_groups.specs.Groups.{Kept, versions_in}
-use Rattle.version_groups.specs.Showing.{Represents}
+use Rattle.version_groups.specs.Representation.{Represents}
 use Rattle.version_groups.proofs.OwnMoments.{own_version, own_moment}
 use Rattle.period_split.specs.Splitting.{Part, as_part, part_of, parts_below, split_by, HasMoment}
 use Rattle.period_split.specs.Splitting.{AscendFrom}
@@ -208,15 +208,6 @@ module _ (kept : Kept) (past : Past) (slice : Span) (shows : Represents kept pas
       (made ∙ ap (λ (vs : List PlainVersion). split_by vs slice) shows.versions) h) in
       let b = both_hold (covers (in_force past.versions k) m) (covers slice m) f.1 in
       (b.1, own_version past shows.valid k m f.0 (from_covering (in_force past.versions k) m b.0))
-
-pub begins_newest : (versions : List Version) (k : ℕ) (v : Version) → k + 1 ≡ length versions
-    → v ≡ get_or versions k v → v.stamp ≡ begins_at (map version_of versions) (length versions)
-begins_newest versions k v l e = sym (begins_next versions k v (omega (arith, l)) e)
-    ∙ ap (begins_at (map version_of versions)) l
-
-pub begins_first : (versions : List Version) → length versions ≡ 0
-    → 0 ≡ begins_at (map version_of versions) (length versions)
-begins_first versions e = ap (begins_at (map version_of versions)) (sym e)
 
 -- the parts of all versions before the newest, and its own
 pub whole_split : (versions : List Version) (slice : Span) (before parts : List Part) (n from : ℕ)

@@ -2,6 +2,6 @@
 //! 2008).
 #![tactic(auto)]
 
-mod period_parts;
+mod period_part;
 
-pub use period_parts::split;
+pub use period_part::split;

@@ -1,26 +1,17 @@
 -- The columns that outputs and a condition name, atom by atom.
-use Rattle.std.specs.Prelude.{ℕ, ◌+◌, ◌==◌, ◌++◌, Bool, false, List, [], ◌∷◌, map}
+use Rattle.std.specs.Prelude.{ℕ, ◌+◌, ◌++◌, List, [], ◌∷◌, map}
 use Rattle.std.specs.List.{filter, flat_map}
 use Rattle.relations.specs.Sets.{In, set_of}
 use Rattle.prima_base.specs.Order.{bytes_cmp}
 use Rattle.cond_expr.specs.declared.expr.ColRef.{ColRef}
-use Rattle.cond_expr.specs.declared.expr.Whose.{Whose}
-use Rattle.cond_expr.specs.declared.expr.Whose.TheVariants.{Free, Alias, Atom}
+use Rattle.cond_expr.specs.declared.expr.Whose.TheVariants.{Atom}
 use Rattle.cond_expr.specs.Trees.{Tree, Test}
+pub use Rattle.cond_expr.specs.References.{is_atom, is_to}
 use Rattle.cond_expr.specs.Faults.{references, test_references}
 
 -- the references of outputs, and then of a condition, in written order
 abbrev pub all_references : List Tree → Test → List ColRef
 all_references outs cond = flat_map references outs ++ test_references cond
-
--- it is to this atom
-abbrev pub is_atom : ℕ → Whose → Bool
-is_atom i Free = false
-is_atom i (Alias a) = false
-is_atom i (Atom j) = i == j
-
-abbrev pub is_to : ℕ → ColRef → Bool
-is_to i r = is_atom i r.whose
 
 -- the column of the atom with this name is named
 abbrev pub IsNamed : ℕ → List ColRef → List ℕ → Type 0

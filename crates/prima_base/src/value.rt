@@ -31,7 +31,7 @@ impl Value {
 }
 
 impl Value {
-    ghost use Rattle.std.specs.Prelude.{◌≡◌};
+    ghost use Rattle.std.specs.Prelude.{◌≡◌, IfOk};
     ghost use Rattle.prima_base.specs.Order.{shown, IsBorrowed};
     ghost use Rattle.prima_base.specs.Columns.{IsValid};
 
@@ -45,6 +45,21 @@ impl Value {
         match self {
             Value::Int(n) => Val::Int(*n),
             Value::Text(text) => Val::Slice(text.bytes()),
+        }
+    }
+
+    /// The same value, to keep; a text has at most 4,096 bytes and no control byte, and is copied.
+    /// The one error is `NoMemory`, where memory runs out.
+    pub fn to_val<'a>(&self) -> Result<Val<'a>, NoMemory>
+        ensures value { IfOk result (λ v. shown v ≡ self.now) }
+        ensures valid { IfOk result (λ v. IsValid (shown v)) }
+    {
+        match self {
+            Value::Int(n) => Ok(Val::Int(*n)),
+            Value::Text(text) => {
+                let _valid = text.bytes();
+                Ok(Val::Own(text.copy()?))
+            }
         }
     }
 }
@@ -127,8 +142,8 @@ ghost use Rattle.std.specs.Prelude.{◌≡◌, IfOk, map};
 ghost use Rattle.prima_base.specs.Order.{shown, is_borrowed, AreBorrowed};
 ghost use Rattle.prima_base.specs.Timed.{vals_cmp};
 
-/// Vals that show the same values, in their order, with room for `spare` more. A borrowed text stays
-/// borrowed, where it was. The one error is `NoMemory`, where memory runs out.
+/// Vals that show the same values, in their order, with room for `spare` more. A borrowed text
+/// stays borrowed, where it was. The one error is `NoMemory`, where memory runs out.
 pub fn copy_vals<'a>(
     alloc: Global,
     values: &[Val<'a>],

@@ -4,8 +4,7 @@ ghost use Rattle.cond_expr.specs.Seen.{tree, test, tests_of};
 ghost use Rattle.cond_expr.specs.Trees.{fill_test};
 ghost use Rattle.cond_expr.specs.Faults.{test_references};
 ghost use Rattle.cond_expr.specs.Parts.{parts, all_parts};
-ghost use Rattle.cond_expr.specs.References.{borrowed};
-ghost use Rattle.plain_answers.specs.Naming.{is_to};
+ghost use Rattle.cond_expr.specs.References.{is_to, borrowed};
 ghost use Rattle.plain_answers.specs.Pushing.{are_own, own_parts, as_first, pushed};
 
 use cond_expr::{ColRef, Cond, Expr, Fill, Whose, fill_cond, gather_references};
@@ -44,21 +43,12 @@ impl Fill for AsFirst {
     }
 }
 
-fn is_to(reference: &ColRef, atom: u32) -> bool
-    ensures { result ≡ is_to atom reference.now }
-{
-    match &reference.whose {
-        Whose::Atom(own) => atom == *own,
-        Whose::Free | Whose::Alias(_) => false,
-    }
-}
-
 fn all_to(references: &[&ColRef], atom: u32) -> bool
     ensures { result ≡ list_all (is_to atom) (borrowed references.now) }
 {
     match references {
         [] => true,
-        [reference, rest @ ..] => is_to(reference, atom) && all_to(rest, atom),
+        [reference, rest @ ..] => reference.is_to(atom) && all_to(rest, atom),
     }
 }
 

@@ -3,24 +3,10 @@ ghost use Rattle.cond_expr.specs.Seen.{test};
 ghost use Rattle.cond_expr.specs.Parts.{parts_but_true};
 ghost use Rattle.rule_views.specs.OperatorViews.{opposite, unmet};
 
-use cond_expr::{CmpOp, ColRef, Cond, Expr, Fill};
+use cond_expr::{CmpOp, Cond, Itself};
 use piece_ir::append_parts;
 use prima_base::NoMemory;
 use std::alloc::Global;
-
-// Puts each reference for itself.
-#[derive(Drop)]
-struct Itself;
-
-impl Fill for Itself {
-    ghost use Rattle.cond_expr.specs.Trees.{column};
-
-    ghost puts = { λ _. column };
-
-    fn put(&self, _alloc: Global, reference: &ColRef) -> Result<Expr, NoMemory> {
-        Ok(Expr::Col(reference.copy()?))
-    }
-}
 
 /// The parts of the condition.
 pub(crate) fn parts_of(alloc: Global, cond: &Cond) -> Result<Vec<Cond>, NoMemory>

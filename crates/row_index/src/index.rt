@@ -5,7 +5,7 @@ ghost use Rattle.std.specs.List.{insert, remove, concat};
 ghost use Rattle.row_index.specs.Blocks.{block_size, half_size, before, filled, ids_left};
 ghost use Rattle.row_index.specs.Blocks.{blocks_left, IsCounted};
 
-use prima_base::NoMemory;
+use prima_base::{NoMemory, push_all_reserved};
 use std::alloc::Global;
 use std::marker::Model;
 
@@ -94,7 +94,7 @@ impl Block {
         ensures few { length self.old ≤ block_size }
     {
         let half = self.ids.len() / 2;
-        push_all(&mut upper.ids, self.ids.split_at(half).1);
+        push_all_reserved(&mut upper.ids, self.ids.split_at(half).1);
         self.ids.truncate(half);
         upper
     }
@@ -116,18 +116,6 @@ impl Block {
         }
         upper.insert(at - half, id);
         upper
-    }
-}
-
-// Puts these ids after. It takes no memory.
-fn push_all(to: &mut Vec<usize>, ids: &[usize])
-    requires { vec_len to.old + length ids.now ≤ vec_capacity to.old }
-    ensures items { to.new.items ≡ to.old.items ++ ids.now }
-    ensures len { vec_len to.new ≡ vec_len to.old + length ids.now }
-    ensures capacity { vec_capacity to.new ≡ vec_capacity to.old }
-{
-    for id in ids {
-        to.push_reserved(*id);
     }
 }
 

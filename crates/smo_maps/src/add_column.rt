@@ -4,7 +4,7 @@
 ghost use Rattle.std.specs.Prelude.{◌≡◌, [], ◌∷◌, false, IfOk, map};
 ghost use Rattle.relations.specs.Sets.{set_of};
 ghost use Rattle.prima_base.specs.declared.value.ColType.{ColType as OneType};
-ghost use Rattle.prima_base.specs.Order.{bytes_cmp, row_cmp};
+ghost use Rattle.prima_base.specs.Order.{row_cmp};
 ghost use Rattle.prima_base.specs.Columns.{names_of, AreColumns};
 ghost use Rattle.cond_expr.specs.Seen.{tree};
 ghost use Rattle.cond_expr.specs.Values.{value};
@@ -13,21 +13,13 @@ ghost use Rattle.smo_meaning.specs.Preconditions.{among};
 ghost use Rattle.smo_meaning.specs.Making.{with_column, image, added};
 ghost use Rattle.smo_maps.specs.Picking.{picked_row};
 
-use crate::name::names_of;
+use crate::name::{names_of, put_in_order};
 use crate::one_row::value_over;
 use crate::source::{Source, picked_row, sources_of};
 use cond_expr::Expr;
 use prima_base::{ColType, Name, NoMemory, Row};
 use smo_ops::{OwnColumns, make_set};
 use std::alloc::Global;
-
-// Puts names in their order, each once.
-fn put_in_order(names: &mut Vec<Name>)
-    ensures { names.new.items ≡ set_of bytes_cmp names.old.items }
-{
-    names.sort_unstable();
-    names.dedup();
-}
 
 // The names of columns with one column more.
 fn names_with(

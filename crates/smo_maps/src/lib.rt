@@ -22,3 +22,4 @@ mod source;
 mod whole_table;
 
 pub use map::{Carried, carry};
+pub use name::put_in_order;

@@ -2,7 +2,9 @@
 //! made row stand.
 
 ghost use Rattle.std.specs.Prelude.{◌≡◌, IfOk};
+ghost use Rattle.relations.specs.Sets.{set_of};
 ghost use Rattle.prima_base.specs.Columns.{names_of};
+ghost use Rattle.prima_base.specs.Order.{bytes_cmp};
 
 use prima_base::{ColType, Name, NoMemory};
 use std::alloc::Global;
@@ -16,4 +18,12 @@ pub(crate) fn names_of(alloc: Global, columns: &[(Name, ColType)]) -> Result<Vec
         names.push(name.copy()?)?;
     }
     Ok(names)
+}
+
+/// Puts names in their order, each once. It takes no memory.
+pub fn put_in_order(names: &mut Vec<Name>)
+    ensures { names.new.items ≡ set_of bytes_cmp names.old.items }
+{
+    names.sort_unstable();
+    names.dedup();
 }

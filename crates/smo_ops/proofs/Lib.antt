@@ -5,3 +5,4 @@ pub mod ManyChanges
 pub mod PassedOn
 pub mod EffectLaws
 pub mod ValidConstants
+pub mod BeginLaws

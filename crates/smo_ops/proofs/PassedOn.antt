@@ -11,7 +11,7 @@ use Rattle.smo_ops.specs.Walks.{IsWalked}
 
 -- what is refused by one test is refused by tests of which it is the first that is not met
 pub passed_on : (f g : Fault) (e : CallFault Refusal) → ((r : Refusal) → f ≡ Some r → g ≡ Some r)
-    → IsTested {A = Unit {0}} f (Err e) → IsTested {A = Unit {0}} g (Err e)
+    → IsTested {A = ℕ} f (Err e) → IsTested {A = Unit {0}} g (Err e)
 passed_on f g (Refused r) h c = h r c
 passed_on f g NoMemory h c = tt
 
@@ -22,11 +22,12 @@ pub walked_on : (a b : List Fault) (m n : ℕ) (e : CallFault Refusal)
 walked_on a b m n (Refused r) h c = h r c
 walked_on a b m n NoMemory h c = tt
 
-pub walk_passed : (a : List Fault) (m : ℕ) (g : Fault) (e : CallFault Refusal)
-    → ((r : Refusal) → first_refusal a ≡ Some r → g ≡ Some r) → IsWalked a m (Err e)
-    → IsTested {A = Unit {0}} g (Err e)
-walk_passed a m g (Refused r) h c = h r c
-walk_passed a m g NoMemory h c = tt
+-- the same of a walk of which it is a part
+pub test_walked : (f : Fault) (b : List Fault) (n : ℕ) (e : CallFault Refusal)
+    → ((r : Refusal) → f ≡ Some r → first_refusal b ≡ Some r)
+    → IsTested {A = Unit {0}} f (Err e) → IsWalked b n (Err e)
+test_walked f b n (Refused r) h c = h r c
+test_walked f b n NoMemory h c = tt
 
 -- what is checked is answered
 pub accepted : (f : Fault) (r : Result (Unit {0}) (CallFault Refusal)) → IsTested f r → f ≡ None

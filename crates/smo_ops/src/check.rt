@@ -1,5 +1,5 @@
 ghost use Rattle.std.specs.Prelude.{◌≡◌, ◌++◌, ◌+◌, ◌<◌, ◌≤◌, ◌^◌, ◌∷◌, [], ◌⊎◌, length, Some};
-ghost use Rattle.std.specs.Prelude.{None, IsOkUnless, IsErrOf};
+ghost use Rattle.std.specs.Prelude.{None, IsOkUnless, IsErrOf, IfOk};
 ghost use Rattle.prima_base.specs.Columns.{AreColumns, names_of};
 ghost use Rattle.cond_expr.specs.Kinds.{value_kind};
 ghost use Rattle.smo_meaning.specs.First.{first_refusal};
@@ -17,13 +17,14 @@ ghost use Rattle.prima_base.specs.declared.fault.CallFault.TheVariants.{Refused}
 ghost use Rattle.prima_base.specs.declared.fault.CallFault.TheVariants.{NoMemory as OutOfMemory};
 ghost use Rattle.smo_meaning.specs.Checks.{IsSmall, AreSmall, pair_names, name_faults};
 ghost use Rattle.smo_meaning.specs.Checks.{missing_fault, cell_faults, reference_fault, test_fault};
-ghost use Rattle.smo_meaning.specs.Checks.{tests_after, change_fault, changes_fault};
+ghost use Rattle.smo_meaning.specs.Checks.{tests_after, change_fault, changes_fault, sets_nodes};
+ghost use Rattle.smo_meaning.specs.Checks.{change_nodes};
+ghost use Rattle.smo_ops.specs.Walks.{IsWalked};
 
-use crate::count::change_nodes;
 use crate::type_check::{
     check_all_references, check_sets, check_test_references, check_test_types,
 };
-use cond_expr::{Cond, Expr};
+use cond_expr::{Cond, Expr, cond_size};
 use prima_base::{ColType, Name, Refusal, Value};
 use schema_catalog::Schema;
 use smo_schemas::{OwnColumns, has_name, type_in};
@@ -93,66 +94,74 @@ pub(crate) fn kind_of(value: &Value) -> ColType
     }
 }
 
+// The tests of an INSERT; the number of the node after it.
 fn check_insert(
     table: &Name,
     columns: &[(Name, ColType)],
     cells: &[(Name, Value)],
     at: u32,
-) -> Result<(), ChangeFault>
+) -> Result<u32, ChangeFault>
     requires columns { AreColumns columns.now }
     requires narrow { length columns.now ≤ 32 }
     requires place { at < 2 ^ 31 }
-    ensures { IsTested (first_refusal (tests_after columns.now (insertion table.now cells.now) at))
-        result }
+    ensures { IsWalked (tests_after columns.now (insertion table.now cells.now) at)
+        (at + length cells.now) result }
 {
     check_names(table, columns, cells)?;
     check_missing(table, columns, cells)?;
-    check_cells(columns, cells, at)
+    check_cells(columns, cells, at)?;
+    Ok(at + cells.len() as u32)
 }
 
-fn check_delete(own: &OwnColumns<'_>, cond: &Cond, at: u32) -> Result<(), ChangeFault>
+// The tests of a DELETE; the number of the node after it.
+fn check_delete(own: &OwnColumns<'_>, cond: &Cond, at: u32) -> Result<u32, ChangeFault>
     requires small { test_nodes (test cond.now) ≤ 256 }
     requires place { at < 2 ^ 31 }
-    ensures { IsTested (first_refusal (reference_fault own.now (test_references (test cond.now))
-        ∷ test_fault own.now at (test cond.now) ∷ [])) result }
+    ensures { IsWalked (reference_fault own.now (test_references (test cond.now))
+        ∷ test_fault own.now at (test cond.now) ∷ []) (at + test_nodes (test cond.now)) result }
 {
     check_test_references(own, cond)?;
-    check_test_types(own, cond, at)
+    check_test_types(own, cond, at)?;
+    Ok(at + cond_size(cond).nodes as u32)
 }
 
+// The tests of an UPDATE; the number of the node after it.
 fn check_update(
     own: &OwnColumns<'_>,
     table: &Name,
     sets: &[(Name, Expr)],
     cond: &Cond,
     at: u32,
-) -> Result<(), ChangeFault>
+) -> Result<u32, ChangeFault>
     requires columns { AreColumns own.now }
     requires narrow { length own.now ≤ 32 }
     requires sets { AreSmall (sets_of sets.now) }
     requires test { test_nodes (test cond.now) ≤ 256 }
     requires place { at < 2 ^ 31 }
-    ensures { IsTested (first_refusal (tests_after own.now
-        (update table.now (sets_of sets.now) (test cond.now)) at)) result }
+    ensures { IsWalked (tests_after own.now
+        (update table.now (sets_of sets.now) (test cond.now)) at)
+        (at + (sets_nodes (sets_of sets.now) + test_nodes (test cond.now))) result }
 {
     check_names(table, own.columns(), sets)?;
     check_all_references(own, sets, cond)?;
     let next = check_sets(own, sets, at)?;
-    check_test_types(own, cond, next)
+    check_test_types(own, cond, next)?;
+    Ok(next + cond_size(cond).nodes as u32)
 }
 
-// The tests of a change of a table with these columns.
+// The tests of a change of a table with these columns; the number of the node after it.
 fn check_in_table(
     alloc: Global,
     columns: &[(Name, ColType)],
     change: &Change,
     at: u32,
-) -> Result<(), ChangeFault>
+) -> Result<u32, ChangeFault>
     requires columns { AreColumns columns.now }
     requires narrow { length columns.now ≤ 32 }
     requires small { IsSmall (change_of change.now) }
     requires place { at < 2 ^ 31 }
-    ensures { IsTested (first_refusal (tests_after columns.now (change_of change.now) at)) result }
+    ensures { IsWalked (tests_after columns.now (change_of change.now) at)
+        (at + change_nodes (change_of change.now)) result }
 {
     match change {
         Change::Insert { table, cells } => check_insert(table, columns, cells, at),
@@ -171,14 +180,15 @@ fn check_in_table(
 /// table (22); of the columns of an INSERT or the set columns of an UPDATE, in written order, for
 /// each whether it stood before (27) and whether it is unknown (23); of an INSERT the first missing
 /// column in name order (35); the references of its expressions and its condition, in written order
-/// (23); its types (25). Places count nodes from `first_node` on, which is below 2^31; each tree
-/// has at most 256 nodes, and each table of the schema at most 32 columns.
+/// (23); its types (25). Places count nodes from `first_node` on, which is below 2^31; of an INSERT
+/// each value is one. The number of the node after the change is answered. Each tree has at most
+/// 256 nodes, and each table of the schema at most 32 columns.
 pub fn check_change(
     alloc: Global,
     schema: &Schema,
     change: &Change,
     first_node: u32,
-) -> Result<(), ChangeFault>
+) -> Result<u32, ChangeFault>
     requires small { IsSmall (change_of change.now) }
     requires narrow { AreNarrow schema.now }
     requires place { first_node < 2 ^ 31 }
@@ -188,6 +198,7 @@ pub fn check_change(
     ensures refused { (r : OneRefusal) → change_fault schema.now (change_of change.now) first_node
         ≡ Some r
         → IsErrOf result (Refused r) ⊎ IsErrOf result OutOfMemory }
+    ensures next { IfOk result (λ next. next ≡ first_node + change_nodes (change_of change.now)) }
     ensures valid { IsSchema schema.now }
 {
     let name = change.table();
@@ -205,8 +216,7 @@ fn check_in_turn(alloc: Global, schema: &Schema, changes: &[Change]) -> Result<(
 {
     let mut at = 0u32;
     for change in changes {
-        check_change(alloc, schema, change, at)?;
-        at += change_nodes(change) as u32;
+        at = check_change(alloc, schema, change, at)?;
     }
     Ok(())
 }

@@ -1,4 +1,4 @@
-ghost use Rattle.std.specs.Prelude.{◌≡◌, ◌+◌, ◌∷◌, [], min, take, OnOk};
+ghost use Rattle.std.specs.Prelude.{◌≡◌, ◌∷◌, [], OnOk};
 ghost use Rattle.std.specs.Result.{result_err};
 ghost use Rattle.std.specs.List.{flat_map};
 ghost use Rattle.prima_base.specs.declared.refusal.What.TheVariants.{Nodes, Depth, Parts, Changes};
@@ -11,7 +11,6 @@ ghost use Rattle.smo_types.specs.Operators.{operator_of, operators_of};
 ghost use Rattle.smo_types.specs.Changes.{change_of, changes_of, sets_of};
 ghost use Rattle.smo_types.specs.Commands.{changing, evolving, body_of};
 ghost use Rattle.smo_meaning.specs.First.{first_refusal};
-ghost use Rattle.smo_meaning.specs.Checks.{sets_nodes, change_nodes};
 ghost use Rattle.smo_meaning.specs.Counts.{at_most, tree_counts, test_counts, set_counts};
 ghost use Rattle.smo_meaning.specs.Counts.{change_counts, operator_counts, first_excess};
 
@@ -20,8 +19,8 @@ use prima_base::limits::{MAX_CHANGES, MAX_DEPTH, MAX_INVERSE, MAX_NODES, MAX_PAR
 use prima_base::{Name, Value, What};
 use smo_types::{Body, Change, Command, Op};
 
-/// Whether a tree's nodes, depth and parts are within their limits: else the first that is not, with
-/// its limit. It takes no memory.
+/// Whether a tree's nodes, depth and parts are within their limits: else the first that is not,
+/// with its limit. It takes no memory.
 pub fn check_size(size: TreeSize) -> Result<(), (What, u64)>
     ensures { result_err result ≡ first_refusal
         (at_most Nodes 256 size.nodes ∷ at_most Depth 32 size.depth ∷ at_most Parts 8 size.parts
@@ -163,29 +162,5 @@ pub fn check_counts(command: &Command) -> Result<(), (What, u64)>
     match command.body() {
         Body::Changes(changes) => check_changes(changes),
         Body::Evolve { op, inverse } => check_evolve(op, inverse),
-    }
-}
-
-fn nodes_of_sets(sets: &[(Name, Expr)]) -> u64
-    ensures { result ≡ min (sets_nodes (sets_of sets.now)) u64.MAX }
-{
-    let mut nodes = 0u64;
-    for (_, expr) in sets {
-        nodes = nodes.saturating_add(expr_size(expr).nodes);
-    }
-    nodes
-}
-
-/// How many nodes a change has: of an INSERT each value is one. The number stops at `u64::MAX`. It
-/// takes no memory.
-pub fn change_nodes(change: &Change) -> u64
-    ensures { result ≡ min (change_nodes (change_of change.now)) u64.MAX }
-{
-    match change {
-        Change::Insert { cells, .. } => cells.len() as u64,
-        Change::Delete { cond, .. } => cond_size(cond).nodes,
-        Change::Update { sets, cond, .. } => {
-            nodes_of_sets(sets).saturating_add(cond_size(cond).nodes)
-        }
     }
 }

@@ -11,9 +11,10 @@ mod check;
 mod count;
 mod effect;
 mod type_check;
+mod version;
 
 pub use check::{check_change, check_changes};
-pub use count::{change_nodes, check_counts, check_evolve, check_size};
+pub use count::{check_counts, check_evolve, check_size};
 pub use effect::{inserted_row, make_set, row_meets, row_value, row_with_sets};
 pub use prima_base::OpRefusal;
 pub use smo_meaning::{
@@ -37,6 +38,7 @@ pub use smo_schemas::{
 pub use smo_types::{
     Body, Change, ChangeFault, Command, InverseFault, Op, OpFault, Version, Versions,
 };
+pub use version::begins_at;
 pub use version_ways::{
     a_lost_table_may_be_taken_for_an_empty_one, copied_and_dropped_is_as_before,
     names_tell_what_is_lost, partitioned_and_merged_is_as_before, renamed_back_is_as_before,

@@ -1,4 +1,4 @@
-use Rattle.std.proofs.Common.{refl, ◌≡◌, ◌∙◌, arith}
+use Rattle.std.proofs.Common.{refl, ◌≡◌, ◌+◌, ◌∙◌, arith}
 use Rattle.std.proofs.lemmas.Result.{err_from_is_err_and}
 use Rattle.std.proofs.lemmas.List.{length-map}
 use Rattle.smo_types.specs.Changes.{change_of, changes_of}
@@ -26,55 +26,32 @@ check_change-requires-clause-place c =
     let count = length-map c.args.changes.now change_of in
     omega arith
 
-pub returns-in_err-check_change : goal.returns-in_err-check_change
-returns-in_err-check_change c =
+pub returns-in_err-at : goal.returns-in_err-at
+returns-in_err-at c =
     let p = err_from_is_err_and c.from_residual.result c.from_residual.ensures.1 in
     rw (p.1, p.2)
     (passed_on (change_fault c.args.schema.now (change_of c.change-item.result) c.loop-change.at)
     (changes_fault c.args.schema.now (changes_of c.args.changes.now))
-    c.in_err-check_change.field-0.0
+    c.in_err-at.field-0.0
     (λ r h. c.loop-change.invariant.faults
     ∙ change_refused c.args.schema.now c.args.changes.now c.loop-change.change-index
     c.loop-change.at c.change-item.result c.loop-change-test.true c.change-item.is r h)
-    c.in_err-check_change.ensures.checked)
-
-pub overflow_cast-at : goal.overflow_cast-at
-overflow_cast-at c =
-    let small = (change_is_small c.args.changes.now c.loop-change.change-index c.change-item.result
-    c.loop-change-test.true c.change-item.is c.loop-change.invariant.small).0 in
-    let few = few_nodes c.args.schema.now (change_of c.change-item.result) c.loop-change.at
-    c.in_ok-check_change.ensures.valid c.requires.narrow small
-    c.in_ok-check_change.ensures.checked in
-    let same = c.change_nodes.ensures in
-    omega arith
-
-pub overflow_add-at : goal.overflow_add-at
-overflow_add-at c =
-    let small = (change_is_small c.args.changes.now c.loop-change.change-index c.change-item.result
-    c.loop-change-test.true c.change-item.is c.loop-change.invariant.small).0 in
-    let few = few_nodes c.args.schema.now (change_of c.change-item.result) c.loop-change.at
-    c.in_ok-check_change.ensures.valid c.requires.narrow small
-    c.in_ok-check_change.ensures.checked in
-    let same = c.change_nodes.ensures in
-    let limit = counted_few (changes_of c.args.changes.now) c.requires.counted in
-    let count = length-map c.args.changes.now change_of in
-    omega arith
+    c.in_err-at.ensures.checked)
 
 pub loop-change-preserved : goal.loop-change-preserved
 loop-change-preserved c =
     let small = change_is_small c.args.changes.now c.loop-change.change-index c.change-item.result
     c.loop-change-test.true c.change-item.is c.loop-change.invariant.small in
     let few = few_nodes c.args.schema.now (change_of c.change-item.result) c.loop-change.at
-    c.in_ok-check_change.ensures.valid c.requires.narrow small.0
-    c.in_ok-check_change.ensures.checked in
-    let same = c.change_nodes.ensures in
-    let nodes : c.change_nodes.result ≡ change_nodes (change_of c.change-item.result) =
-    omega arith in
+    c.in_ok-at.ensures.valid c.requires.narrow small.0
+    c.in_ok-at.ensures.checked in
+    let next : c.in_ok-at.at ≡ c.loop-change.at + change_nodes (change_of c.change-item.result) =
+    c.in_ok-at.ensures.next in
     record {
       faults = c.loop-change.invariant.faults
           ∙ change_accepted c.args.schema.now c.args.changes.now c.loop-change.change-index
-          c.loop-change.at c.change-item.result c.loop-change-test.true c.change-item.is _
-          (omega arith) c.in_ok-check_change.ensures.checked;
+          c.loop-change.at c.change-item.result c.loop-change-test.true c.change-item.is
+          c.in_ok-at.at next c.in_ok-at.ensures.checked;
       small = small.1;
       nodes = omega arith;
     }

@@ -8,7 +8,7 @@ returns-clause-writes c =
     let d = c.args.self.now in
     let pushed : c.push_reserved.new.self.items
     ≡ d.calls.items ++ call.Write c.args.at (length c.args.bytes.now) ∷ [] = search rules in
-    let more : c.push_all.new.to.items ≡ d.written.items ++ c.args.bytes.now =
+    let more : c.push_all_reserved.new.to.items ≡ d.written.items ++ c.args.bytes.now =
     search rules in
     write_writes _ _ _ _ _ _ _ _ _ d.total d.fit d.same c.requires.begins pushed more
     c.put_bytes.ensures.items d.faults
@@ -18,7 +18,7 @@ invariant_of-self-2-clause-total c =
     let d = c.args.self.now in
     let pushed : c.push_reserved.new.self.items
     ≡ d.calls.items ++ call.Write c.args.at (length c.args.bytes.now) ∷ [] = search rules in
-    let more : c.push_all.new.to.items ≡ d.written.items ++ c.args.bytes.now =
+    let more : c.push_all_reserved.new.to.items ≡ d.written.items ++ c.args.bytes.now =
     search rules in
     write_total _ _ _ _ _ _ _ _ _ d.total d.fit d.same c.requires.begins pushed more
     c.put_bytes.ensures.items
@@ -28,7 +28,7 @@ invariant_of-self-2-clause-fit c =
     let d = c.args.self.now in
     let pushed : c.push_reserved.new.self.items
     ≡ d.calls.items ++ call.Write c.args.at (length c.args.bytes.now) ∷ [] = search rules in
-    let more : c.push_all.new.to.items ≡ d.written.items ++ c.args.bytes.now =
+    let more : c.push_all_reserved.new.to.items ≡ d.written.items ++ c.args.bytes.now =
     search rules in
     write_fit _ _ _ _ _ _ _ _ _ d.total d.fit d.same c.requires.begins pushed more
     c.put_bytes.ensures.items
@@ -38,7 +38,7 @@ invariant_of-self-2-clause-same c =
     let d = c.args.self.now in
     let pushed : c.push_reserved.new.self.items
     ≡ d.calls.items ++ call.Write c.args.at (length c.args.bytes.now) ∷ [] = search rules in
-    let more : c.push_all.new.to.items ≡ d.written.items ++ c.args.bytes.now =
+    let more : c.push_all_reserved.new.to.items ≡ d.written.items ++ c.args.bytes.now =
     search rules in
     write_same _ _ _ _ _ _ _ _ _ d.total d.fit d.same c.requires.begins pushed more
     c.put_bytes.ensures.items
@@ -48,7 +48,7 @@ returns-clause-listed c =
     let d = c.args.self.now in
     let pushed : c.push_reserved.new.self.items
     ≡ d.calls.items ++ call.Write c.args.at (length c.args.bytes.now) ∷ [] = search rules in
-    let more : c.push_all.new.to.items ≡ d.written.items ++ c.args.bytes.now =
+    let more : c.push_all_reserved.new.to.items ≡ d.written.items ++ c.args.bytes.now =
     search rules in
     write_steps _ _ _ _ _ _ _ _ _ d.total d.fit d.same c.requires.begins pushed more
     c.put_bytes.ensures.items

@@ -4,7 +4,7 @@ use Rattle.smo_types.specs.Commands.{version_of}
 use Rattle.period_split.specs.Splitting.{Part, as_part}
 use Rattle.std.specs.Prelude.{List}
 use Rattle.period_split.proofs.PartLaws.{begins_next, one_more}
-use Rattle.period_split.proofs.period_parts.parts_before.Goals as goal
+use Rattle.period_split.proofs.period_part.parts_before.Goals as goal
 
 pub loop-number-preserved : goal.loop-number-preserved
 loop-number-preserved c = record {

@@ -4,12 +4,12 @@ ghost use Rattle.smo_types.specs.Commands.{version_of};
 ghost use Rattle.smo_meaning.specs.InForce.{begins_at};
 ghost use Rattle.smo_meaning.specs.Past.{Past, version_at};
 ghost use Rattle.version_groups.specs.Groups.{versions_in};
-ghost use Rattle.version_groups.specs.Showing.{Represents};
+ghost use Rattle.version_groups.specs.Representation.{Represents};
 ghost use Rattle.period_split.specs.Splitting.{as_part, parts_below, split_by, HasMoment};
 ghost use Rattle.period_split.specs.Splitting.{AscendFrom};
 
 use prima_base::{FOREVER, NoMemory, Period, meet};
-use smo_ops::Version;
+use smo_ops::{Version, begins_at};
 use std::alloc::Global;
 use version_groups::Groups;
 
@@ -65,11 +65,7 @@ fn parts_before(
 fn last_stamp(versions: &[Version]) -> u64
     ensures { result ≡ begins_at (map version_of versions.now) (length versions.now) }
 {
-    if versions.is_empty() {
-        0
-    } else {
-        versions[versions.len() - 1].stamp
-    }
+    begins_at(versions, versions.len())
 }
 
 /// The versions that are in force in the slice, each with its moments there: ascending, and without

@@ -2,7 +2,7 @@ use Rattle.std.proofs.Common.{◌≡◌, map}
 use Rattle.smo_types.specs.Commands.{version_of}
 use Rattle.smo_meaning.specs.InForce.{begins_at}
 use Rattle.period_split.specs.Splitting.{parts_below}
-use Rattle.period_split.proofs.period_parts.parts_before.Given as goal
+use Rattle.period_split.proofs.period_part.parts_before.Given as goal
 
 abbrev pub invariant-loop-number : goal.invariant-loop-number
 invariant-loop-number l = record {

@@ -5,7 +5,7 @@ use Rattle.std.proofs.lemmas.List.Filters.{dedup_is}
 use Rattle.prima_base.specs.Order.{bytes_cmp}
 use Rattle.prima_base.specs.OrderLaws.{bytes_exact}
 use Rattle.smo_meaning.proofs.SortLaws.{sorted_set}
-use Rattle.smo_maps.proofs.add_column.put_in_order.Goals as goal
+use Rattle.smo_maps.proofs.name.put_in_order.Goals as goal
 
 pub returns : goal.returns
 returns c = sorted_set bytes_cmp nat_list_cmp_total bytes_exact (pointwise nat_eq) nat_list_eq_equiv

@@ -5,8 +5,8 @@ use Rattle.smo_meaning.specs.InForce.{begins_at}
 use Rattle.version_groups.specs.Groups.{versions_in}
 use Rattle.period_split.specs.Splitting.{Part, parts_below, split_by, AscendFrom}
 use Rattle.period_split.proofs.PartLaws.{whole_split, each_moment, only_moments, split_ascends}
-use Rattle.period_split.proofs.period_parts.split.Goals as goal
-use Rattle.period_split.proofs.period_parts.split.Goals.{In_ok-put_part}
+use Rattle.period_split.proofs.period_part.split.Goals as goal
+use Rattle.period_split.proofs.period_part.split.Goals.{In_ok-put_part}
 
 made : (c : In_ok-put_part) → c.put_part.new.parts.items
     ≡ split_by (versions_in c.args.groups.now) c.args.slice
