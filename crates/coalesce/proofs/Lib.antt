@@ -6,4 +6,5 @@ pub mod Cut
 pub mod Sorted
 pub mod Values
 pub mod Listed
+pub mod Unmoved
 pub mod KeptEntries

@@ -95,17 +95,17 @@ ordered (x ∷ (y ∷ rest)) f = (
 )
 
 -- joins of rows are joins of their entries
-joined_rows : (rows : List TimedRow) → entries_of (merged touch_rows join_rows rows)
+pub joined_rows : (rows : List TimedRow) → entries_of (merged touch_rows join_rows rows)
     ≡ merged (touch_entries row_cmp) join_entries (entries_of rows)
 joined_rows = map_merged entry_of touch_rows join_rows (touch_entries row_cmp) join_entries
     (λ a b. rw (vals_as_rows a b) refl) (λ a b. refl)
 
-pub coalesced : (old cut sorted : List TimedRow) (slice : Span)
+-- what is cut and put in order, joined
+pub joined_listing : (old cut sorted : List TimedRow) (slice : Span)
     → cut ≡ filter_map (cut_row slice) old → IsPermutation cut sorted
-    → ((k : ℕ) (d : TimedRow) → 0 ≤ k → k + 1 < length sorted
-    → is_lt (timed_cmp (get_or sorted (k + 1) d) (get_or sorted k d)) ≡ false)
+    → Ordered row_cmp row_exact (entries_of sorted)
     → IsListing row_cmp (rows_at old) slice (entries_of (merged touch_rows join_rows sorted))
-coalesced old cut sorted slice is p f =
+joined_listing old cut sorted slice is p in_order =
     let es = entries_of old in
     let cs = filter_map (cut_entry slice) es in
     let ss = entries_of sorted in
@@ -115,7 +115,7 @@ coalesced old cut sorted slice is p f =
     let q' = IsPermutation-sym cs ss q in
     let l : IsListing row_cmp (at row_cmp ss) slice
     (merged (touch_entries row_cmp) join_entries ss) =
-    merged_listing row_cmp row_exact slice ss (ordered sorted f)
+    merged_listing row_cmp row_exact slice ss in_order
     (λ e m. each_within slice es e (in_moved ss cs q' e m)) in
     let r : IsListing row_cmp (at row_cmp es) slice
     (merged (touch_entries row_cmp) join_entries ss) =
@@ -130,3 +130,11 @@ coalesced old cut sorted slice is p f =
     ))
     l in
     subst (IsListing row_cmp (at row_cmp es) slice) (sym (joined_rows sorted)) r
+
+pub coalesced : (old cut sorted : List TimedRow) (slice : Span)
+    → cut ≡ filter_map (cut_row slice) old → IsPermutation cut sorted
+    → ((k : ℕ) (d : TimedRow) → 0 ≤ k → k + 1 < length sorted
+    → is_lt (timed_cmp (get_or sorted (k + 1) d) (get_or sorted k d)) ≡ false)
+    → IsListing row_cmp (rows_at old) slice (entries_of (merged touch_rows join_rows sorted))
+coalesced old cut sorted slice is p f =
+    joined_listing old cut sorted slice is p (ordered sorted f)

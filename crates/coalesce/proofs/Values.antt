@@ -89,3 +89,15 @@ have_values before cut sorted after slice c p j = λ row m.
     let b = in_moved sorted cut (IsPermutation-sym cut sorted p) a.0 a.1 in
     let d = of_cut slice before a.0 (subst (λ (l : List TimedRow). In a.0 l) c b) in
     (d.0, d.1, d.2 ∙ a.2)
+
+pub cut_have_values : (before cut : List TimedRow) (slice : Span)
+    → cut ≡ filter_map (cut_row slice) before → HaveValuesOf before cut
+cut_have_values before cut slice c = λ row m.
+    of_cut slice before row (subst (λ (l : List TimedRow). In row l) c m)
+
+pub moved_have_values : (before cut sorted : List TimedRow) (slice : Span)
+    → cut ≡ filter_map (cut_row slice) before → IsPermutation cut sorted
+    → HaveValuesOf before sorted
+moved_have_values before cut sorted slice c p = λ row m.
+    cut_have_values before cut slice c row
+    (in_moved sorted cut (IsPermutation-sym cut sorted p) row m)

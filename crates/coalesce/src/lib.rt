@@ -1,12 +1,14 @@
 //! Coalescing: the one list of what rows with periods hold inside a slice, made in place.
 //!
-//! The rows are cut to the slice, sorted, and joined where they touch. (Coalescing, PRIMA 2008.) Of
-//! the list `keep` keeps what meets the conditions of a KEEP.
+//! The rows are cut to the slice, sorted, and joined where they touch. (Coalescing, PRIMA 2008.)
+//! Rows that are the list already are left as they are. Of the list `keep` keeps what meets the
+//! conditions of a KEEP.
 #![tactic(auto)]
 
 mod row_cut;
 mod row_group;
 mod row_keep;
+mod row_list;
 mod row_merge;
 
 ghost use Rattle.std.specs.Prelude.{◌≡◌, ℕ, true, false, []};
@@ -18,8 +20,10 @@ ghost use Rattle.prima_base.specs.Timed.{rows_at, entries_of};
 
 use crate::row_cut::cut_rows;
 use crate::row_group::sort_groups;
+use crate::row_list::is_listing;
 use crate::row_merge::join_sorted;
 use prima_base::{Period, TimedRow};
+pub use row_cut::cut_to_slice;
 pub use row_keep::keep;
 
 /// Makes of rows with periods the one list of what they hold inside a slice: each row with its
@@ -33,8 +37,14 @@ pub fn coalesce_in_place(rows: &mut Vec<TimedRow<'_>>, slice: Period)
     ensures inside { (m : ℕ) → covers slice m ≡ false → rows_at rows.new.items m ≡ [] }
     ensures values { HaveValuesOf rows.old.items rows.new.items }
 {
+    if is_listing(rows, slice) {
+        return;
+    }
     cut_rows(rows, slice);
     sort_groups(rows);
+    if is_listing(rows, slice) {
+        return;
+    }
     rows.sort_unstable();
     join_sorted(rows);
 }

@@ -2,8 +2,8 @@
 //!
 //! What is read of a table comes by the ids of its rows: where these ascend, as in a table that was
 //! filled in order, all that a row ever was stands together, by time. Each such group is put in
-//! order by itself; where the groups ascend, all rows are then in order, which a sort finds out
-//! in one pass.
+//! order by itself; where the groups ascend, all rows are then in order, and one pass finds that
+//! out.
 
 ghost use Rattle.std.specs.Prelude.{◌≡◌, ◌≤◌, ◌<◌, length};
 ghost use Rattle.std.specs.List.Sorted.{IsPermutation};

@@ -1,6 +1,7 @@
 ghost use Rattle.std.specs.Prelude.{◌≡◌, ◌≤◌, ◌<◌, ◌+◌, length};
 ghost use Rattle.coalesce.specs.Joining.{standing, merged, touch_rows, join_rows};
 
+use crate::row_cut::exchange;
 use prima_base::{TimedRow, compare_vals};
 
 // Whether the next is of the same row and begins before, or where, the first ends.
@@ -25,7 +26,7 @@ fn turn(rows: &mut [TimedRow<'_>], kept: usize, next: usize) -> usize
         rows[kept].period = rows[kept].period.until(end);
         kept
     } else {
-        rows.swap(kept + 1, next);
+        exchange(rows, kept + 1, next);
         kept + 1
     }
 }

@@ -1,4 +1,5 @@
-use Rattle.std.proofs.Common.{◌≡◌, sym, subst, ◌∙◌, List, length, arith}
+use Rattle.std.proofs.Common.{◌≡◌, sym, ap, subst, ◌∙◌, List, ◌++◌, length, take, drop, arith}
+use Rattle.std.proofs.Common.{true}
 use Rattle.std.specs.List.Sorted.{IsPermutation}
 use Rattle.std.proofs.lemmas.Grind.{common_steps}
 use Rattle.std.proofs.lemmas.List.{take_at}
@@ -7,11 +8,13 @@ use Rattle.relations.specs.Listing.{IsListing}
 use Rattle.prima_base.specs.Order.{row_cmp}
 use Rattle.prima_base.specs.Timed.{rows_at, entries_of}
 use Rattle.prima_base.specs.declared.timed_row.TimedRow.{TimedRow}
+use Rattle.coalesce.specs.Listed.{is_listing}
 use Rattle.coalesce.proofs.Sorted.{coalesced}
-use Rattle.coalesce.proofs.Values.{have_values}
+use Rattle.coalesce.proofs.Values.{have_values, moved_have_values}
 use Rattle.coalesce.proofs.Listed.{same_at, unlisted_at}
+use Rattle.coalesce.proofs.Unmoved.{unmoved, unjoined_listing}
 use Rattle.coalesce.proofs.coalesce_in_place.Goals as goal
-use Rattle.coalesce.proofs.coalesce_in_place.Goals.{After-join_sorted}
+use Rattle.coalesce.proofs.coalesce_in_place.Goals.{After-is_listing-2, After-join_sorted}
 
 -- sorting by groups moves rows, and so does sorting all
 moved : (c : After-join_sorted)
@@ -52,3 +55,59 @@ pub returns-clause-values : goal.returns-clause-values
 returns-clause-values c = have_values c.args.rows.now.items c.cut_rows.new.rows.items
     c.sort_unstable.new.self.items _ c.args.slice c.cut_rows.ensures
     (moved (goal.at.returns-clause-values c).After-join_sorted) c.join_sorted.ensures
+
+pub returns-then-is_listing-clause-listing : goal.returns-then-is_listing-clause-listing
+returns-then-is_listing-clause-listing c = unmoved c.args.slice c.args.rows.now.items
+    (ap (is_listing c.args.slice) (sym c.deref.ensures.value) ∙ sym c.is_listing.ensures
+    ∙ c.if-is_listing.true)
+
+pub returns-then-is_listing-clause-inside : goal.returns-then-is_listing-clause-inside
+returns-then-is_listing-clause-inside c = unlisted_at (rows_at c.args.rows.now.items) c.args.slice
+    (entries_of c.args.rows.now.items)
+    (unmoved c.args.slice c.args.rows.now.items
+    (ap (is_listing c.args.slice) (sym c.deref.ensures.value) ∙ sym c.is_listing.ensures
+    ∙ c.if-is_listing.true))
+
+-- ---- the groups in order are the list
+
+abbrev grouped : After-is_listing-2 → List TimedRow
+grouped c = take c.cut_rows.new.rows.len (c.sort_groups.new.rows
+    ++ drop (length c.sort_groups.new.rows) c.cut_rows.new.rows.items)
+
+in_groups : (c : After-is_listing-2) → IsPermutation c.cut_rows.new.rows.items (grouped c)
+in_groups c =
+    let sorted : IsPermutation c.cut_rows.new.rows.items c.sort_groups.new.rows =
+    subst (λ (l : List TimedRow). IsPermutation l c.sort_groups.new.rows)
+    c.deref_mut.ensures.value c.sort_groups.ensures in
+    let len : length c.cut_rows.new.rows.items ≡ c.cut_rows.new.rows.len =
+    grind (arith, common_steps) in
+    subst (λ (l : List TimedRow). IsPermutation c.cut_rows.new.rows.items l)
+    (sym (take_at c.sort_groups.new.rows _ _ (length_permutation _ _ sorted ∙ len))) sorted
+
+listed_groups : (c : After-is_listing-2) → c.is_listing-2.result ≡ true
+    → IsListing row_cmp (rows_at c.args.rows.now.items) c.args.slice (entries_of (grouped c))
+listed_groups c found = unjoined_listing c.args.rows.now.items c.cut_rows.new.rows.items
+    (grouped c) c.args.slice c.cut_rows.ensures (in_groups c)
+    (ap (is_listing c.args.slice) (sym c.deref-2.ensures.value) ∙ sym c.is_listing-2.ensures
+    ∙ found)
+
+pub returns-then-is_listing-2-clause-listing : goal.returns-then-is_listing-2-clause-listing
+returns-then-is_listing-2-clause-listing c =
+    listed_groups (goal.at.returns-then-is_listing-2-clause-listing c).After-is_listing-2
+    c.if-is_listing-2.true
+
+pub returns-then-is_listing-2-clause-same : goal.returns-then-is_listing-2-clause-same
+returns-then-is_listing-2-clause-same c = same_at c.args.rows.now.items _ c.args.slice
+    (listed_groups (goal.at.returns-then-is_listing-2-clause-same c).After-is_listing-2
+    c.if-is_listing-2.true)
+
+pub returns-then-is_listing-2-clause-inside : goal.returns-then-is_listing-2-clause-inside
+returns-then-is_listing-2-clause-inside c = unlisted_at (rows_at c.args.rows.now.items)
+    c.args.slice _
+    (listed_groups (goal.at.returns-then-is_listing-2-clause-inside c).After-is_listing-2
+    c.if-is_listing-2.true)
+
+pub returns-then-is_listing-2-clause-values : goal.returns-then-is_listing-2-clause-values
+returns-then-is_listing-2-clause-values c = moved_have_values c.args.rows.now.items
+    c.cut_rows.new.rows.items _ c.args.slice c.cut_rows.ensures
+    (in_groups (goal.at.returns-then-is_listing-2-clause-values c).After-is_listing-2)

@@ -19,7 +19,7 @@ returns-then-touches-clause-stands c =
 
 pub returns-else-touches-clause-stands : goal.returns-else-touches-clause-stands
 returns-else-touches-clause-stands c =
-    turn_swap touch_rows join_rows c.args.rows.now c.swap.new.self c.args.kept c.args.next
+    turn_swap touch_rows join_rows c.args.rows.now c.exchange.new.rows c.args.kept c.args.next
     c.index-rows-kept.result c.index-rows-next.result c.requires.apart c.requires.within
     c.index-rows-kept.is c.index-rows-next.is (sym c.touches.ensures ∙ c.if-touches.false)
-    c.swap.ensures.after
+    c.exchange.ensures
