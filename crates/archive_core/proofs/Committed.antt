@@ -13,7 +13,7 @@ use Rattle.smo_meaning.specs.First.{unless}
 use Rattle.smo_meaning.specs.Past.{Past}
 use Rattle.smo_meaning.specs.Accepts.{command_fault}
 use Rattle.smo_meaning.proofs.Firsts.{first_at, first_later, first_alone}
-use Rattle.journal.specs.Standing.{needs}
+use Rattle.journal.specs.JournalFiles.{needs}
 use Rattle.archive_file.specs.LogRecords.{logged, record_of}
 use Rattle.archive_core.specs.declared.fault.CommitFault.{CommitFault}
 use Rattle.archive_core.specs.declared.fault.CommitFault.TheVariants as fault

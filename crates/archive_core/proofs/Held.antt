@@ -12,7 +12,7 @@ use Rattle.disk_model.specs.DeviceCalls.{with_bytes}
 use Rattle.journal.specs.Records.{Record, Holds, StandsFor, IsKnown, before_gate, body}
 use Rattle.journal.specs.Records.{empty_journal, opened_file}
 use Rattle.journal.specs.RecordLaws.{none_in_nine}
-use Rattle.journal.specs.Standing.{needs, with_record}
+use Rattle.journal.specs.JournalFiles.{needs, with_record}
 use Rattle.journal.proofs.Putting.{before_gate-push, known-push}
 use Rattle.archive_core.specs.Holding.{HoldsAt}
 

@@ -11,13 +11,13 @@ use Rattle.disk_model.specs.Meaning.{Meaning, Tells, Told}
 use Rattle.journal.specs.Records.{Record, StandsFor, before_gate, empty_journal, opened_file}
 use Rattle.journal.specs.Reading.{records_in, record_of as plain_record, IsOpened}
 use Rattle.journal.specs.MountLaws.{opened_stands, opened_records}
-use Rattle.journal.specs.Standing.{Stands}
+use Rattle.journal.specs.JournalFiles.{Stands}
 use Rattle.journal.specs.declared.rec.Rec.{Rec}
 use Rattle.archive_file.specs.LogRecords.{LogRecord, logged, record_of, records_of, gate_after}
 use Rattle.archive_file.specs.LogRecords.{AreSpelled, past_recorded, replayed_of}
 use Rattle.archive_file.specs.Opening.{HasFaultAt, Damages, Opens}
 use Rattle.archive_file.proofs.Records.{no_images}
-use Rattle.archive_state.specs.Standing.{ArchiveContent, RepresentsPast}
+use Rattle.archive_state.specs.ArchiveContents.{ArchiveContent, RepresentsPast}
 use Rattle.archive_core.specs.declared.archive.Opened.{Opened}
 use Rattle.archive_core.specs.declared.record_reader.ReadRecords.{ReadRecords}
 use Rattle.archive_core.specs.Reading.{AreInPlace, AreKept, commands_kept}

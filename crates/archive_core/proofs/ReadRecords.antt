@@ -24,7 +24,7 @@ use Rattle.archive_file.specs.Opening.{HasNoSpellingAt}
 use Rattle.archive_file.proofs.Records.{after_append, after_commands, after_image, accepted_append}
 use Rattle.archive_file.proofs.Records.{accepted_commands, accepted_image, no_images, all_replayed}
 use Rattle.archive_file.proofs.Records.{replayed_after}
-use Rattle.archive_state.specs.Standing.{ArchiveContent, RepresentsPast}
+use Rattle.archive_state.specs.ArchiveContents.{ArchiveContent, RepresentsPast}
 use Rattle.archive_core.specs.declared.record_reader.ReadRecords.{ReadRecords}
 use Rattle.archive_core.specs.Reading.{AreInPlace, IsRefusedIn, EndsWithImage, commands_kept}
 use Rattle.archive_core.specs.Reading.{AreJudged, AreKept, IsRead}

@@ -12,7 +12,7 @@ use Rattle.smo_meaning.specs.Accepts.{command_fault}
 use Rattle.smo_meaning.specs.Past.{Past, past_with}
 use Rattle.smo_meaning.specs.History.{AllAccepted, past_after}
 use Rattle.journal.specs.declared.rec.Rec.{Rec}
-use Rattle.archive_state.specs.Standing.{ArchiveContent, RepresentsPast}
+use Rattle.archive_state.specs.ArchiveContents.{ArchiveContent, RepresentsPast}
 use Rattle.archive_core.specs.declared.fault.MountFault.{MountFault}
 use Rattle.archive_core.specs.declared.fault.MountFault.TheVariants.{Damaged}
 use Rattle.archive_core.specs.Replaying.{Replays, IsStoppedAt, IsReplayed}
@@ -50,7 +50,8 @@ module _ (past : Past) (commands : List (ℕ × Body)) (k : ℕ) (c : ℕ × Bod
       (command_of c)) → IsReplayed past (take (k + 1) (map command_of commands)) new
   one_more_replayed old new before met shows =
       subst (λ (l : List PlainCommand). IsReplayed past l new) (sym more) (record {
-        accepted = accepted_push past (take k (map command_of commands)) (command_of c) before.accepted
+        accepted = accepted_push past (take k (map command_of commands)) (command_of c)
+            before.accepted
             met;
         shows = subst (RepresentsPast new) (sym (past_push past (take k (map command_of commands))
             (command_of c))) shows;

@@ -6,7 +6,7 @@ use Rattle.image_spelling.specs.Images.{Image}
 use Rattle.image_spelling.specs.Lengths.{image_length}
 use Rattle.store_image.specs.ImageIn.{image_in}
 use Rattle.archive_file.specs.LogRecords.{LogRecord, checkpointed}
-use Rattle.archive_state.specs.Standing.{ArchiveContent}
+use Rattle.archive_state.specs.ArchiveContents.{ArchiveContent}
 use Rattle.archive_core.specs.Committing.{need_fault}
 use Rattle.archive_core.specs.declared.fault.CommitFault.{CommitFault}
 use Rattle.archive_core.specs.declared.fault.CommitFault.TheVariants.{Broken, Refused, Disk}

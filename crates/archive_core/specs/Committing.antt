@@ -9,11 +9,11 @@ use Rattle.smo_meaning.specs.Accepts.{command_fault}
 use Rattle.smo_meaning.specs.Past.{Past, past_with}
 use Rattle.schema_catalog.specs.Tables.{Tables}
 use Rattle.journal.specs.Records.{Record}
-use Rattle.journal.specs.Standing.{needs}
+use Rattle.journal.specs.JournalFiles.{needs}
 use Rattle.journal.specs.declared.sealed.Sealed.{Sealed}
 use Rattle.archive_file.specs.LogRecords.{logged, record_of}
 use Rattle.archive_state.specs.declared.archive.Done.{Done}
-use Rattle.archive_state.specs.Standing.{ArchiveContent, RepresentsPast}
+use Rattle.archive_state.specs.ArchiveContents.{ArchiveContent, RepresentsPast}
 use Rattle.archive_state.specs.Committing.{IsAsBefore, IsDone, Finds}
 use Rattle.archive_core.specs.declared.fault.CommitFault.{CommitFault}
 use Rattle.archive_core.specs.declared.fault.CommitFault.TheVariants.{Broken, Refused, Disk}
@@ -32,7 +32,8 @@ abbrev pub commit_fault : Past → ℕ → ℕ → PlainCommand → Fault
 commit_fault past at limit command = first_refusal
     (command_fault past command ∷ room_fault at limit (record_of (logged command)) ∷ [])
 
--- the archive in memory is as it was, but for room that was made, and shows the past that it showed
+-- the archive in memory is as it was, but for room that was made, and represents the past that it
+-- did
 pub record IsUnchanged (past : Past) (old new : ArchiveContent) : Type 0 where
   pub same : IsAsBefore old new
   pub shows : RepresentsPast new past
@@ -51,7 +52,8 @@ Commits past command at limit old (Err Disk) new = (commit_fault past at limit c
 Commits past command at limit old (Err Broken) new = new ≡ old
 Commits past command at limit old (Err NoMemory) new = IsUnchanged past old new
 
--- a command that is accepted was judged, and this was found; another is refused by its first refusal
+-- a command that is accepted was judged, and this was found; another is refused by its first
+-- refusal
 abbrev pub IsJudged : Past → PlainCommand → Result (Option Tables × Sealed) CommitFault → Type 0
 IsJudged past command (Ok it) = Finds past command it.0
 IsJudged past command (Err (Refused r)) = command_fault past command ≡ Some r

@@ -5,7 +5,7 @@ use Rattle.journal.specs.Records.{Record}
 use Rattle.archive_file.specs.LogRecords.{LogRecord, records_of, gate_after, AreSpelled}
 use Rattle.archive_file.specs.LogRecords.{AreAccepted, commands_in, replayed_of, past_recorded}
 use Rattle.archive_file.specs.Opening.{Opens}
-use Rattle.archive_state.specs.Standing.{ArchiveContent, RepresentsPast}
+use Rattle.archive_state.specs.ArchiveContents.{ArchiveContent, RepresentsPast}
 use Rattle.archive_core.specs.declared.archive.Opened.{Opened}
 
 -- all commands are counted, and those after the last image

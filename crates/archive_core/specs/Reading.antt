@@ -9,7 +9,7 @@ use Rattle.journal.specs.declared.rec.Rec.{Rec}
 use Rattle.archive_file.specs.LogRecords.{LogRecord, logged, checkpointed, records_of, AreSpelled}
 use Rattle.archive_file.specs.LogRecords.{commands_in, past_recorded}
 use Rattle.archive_file.specs.Opening.{IsRefusedAt}
-use Rattle.archive_state.specs.Standing.{RepresentsPast}
+use Rattle.archive_state.specs.ArchiveContents.{RepresentsPast}
 use Rattle.archive_core.specs.declared.record_reader.ReadRecords.{ReadRecords}
 
 -- records of known kinds, each with the place of its gate in a file that has them all

@@ -7,7 +7,7 @@ use Rattle.smo_meaning.specs.Accepts.{command_fault}
 use Rattle.smo_meaning.specs.Past.{Past, past_with}
 use Rattle.smo_meaning.specs.History.{AllAccepted, past_after}
 use Rattle.journal.specs.declared.rec.Rec.{Rec}
-use Rattle.archive_state.specs.Standing.{ArchiveContent, RepresentsPast}
+use Rattle.archive_state.specs.ArchiveContents.{ArchiveContent, RepresentsPast}
 use Rattle.archive_core.specs.declared.fault.MountFault.{MountFault}
 use Rattle.archive_core.specs.declared.fault.MountFault.TheVariants.{Disk, Damaged, NoMemory}
 
@@ -34,7 +34,7 @@ pub record IsStoppedAt (past : Past) (commands : List PlainCommand) (recs : List
   pub refused : command_fault (past_after past before) command ≡ Some refusal
   pub place_is : (d : Rec) → place ≡ (slice_index_or recs (length before) d).at
 
--- all are accepted, and the archive shows the past with them
+-- all are accepted, and the archive represents the past with them
 pub record IsReplayed (past : Past) (commands : List PlainCommand) (archive : ArchiveContent) :
     Type 0 where
   pub accepted : AllAccepted past commands

@@ -12,15 +12,16 @@ ghost use Rattle.rewrite.specs.Books.{meaning_of, EachOf};
 ghost use Rattle.journal.specs.Mounting.{IsNotSynced, KeepsFile};
 ghost use Rattle.journal.specs.Puts.{Puts, Acknowledges};
 ghost use Rattle.journal.specs.Records.{Record, StandsFor, opened_file};
-ghost use Rattle.journal.specs.Standing.{Stands, needs, sealed_record, with_record};
+ghost use Rattle.journal.specs.JournalFiles.{Stands, needs, sealed_record, with_record};
 ghost use Rattle.archive_file.specs.LogRecords.{LogRecord, logged, record_of, records_of};
 ghost use Rattle.archive_file.specs.LogRecords.{replayed_of};
 ghost use Rattle.archive_file.specs.Opening.{Opens, Damages};
-ghost use Rattle.archive_state.specs.Standing.{RepresentsPast, RepresentsSome};
+ghost use Rattle.archive_state.specs.ArchiveContents.{RepresentsPast, RepresentsSome};
 ghost use Rattle.version_groups.specs.Judged.{judged_command, IsAccepted};
 ghost use Rattle.archive_state.specs.Asking.{IsAsked, IsExplained, TellsWayBack, ArePiecesOf};
+ghost use Rattle.archive_state.specs.Asking.{branches_asked};
 ghost use Rattle.piece_texts.specs.ExplainedPieces.{PlainExplained};
-ghost use Rattle.query_exec.specs.Borrowed.{NoneComputes, AreBorrowedBy};
+ghost use Rattle.query_exec.specs.Borrowed.{AreBorrowedBy};
 ghost use Rattle.query_exec.specs.Reads.{explained_read, reads_of};
 ghost use Rattle.archive_core.specs.declared.fault.CommitFault.TheVariants as fault;
 ghost use Rattle.archive_core.specs.declared.fault.MountFault.TheVariants as mounting;
@@ -148,7 +149,7 @@ impl<D: Disk> Archive<D> {
     /// the limit. `Disk` comes only where the disk's count of faults rose: the file then has the
     /// record or not. All memory is taken before the first call of the device. At each moment of
     /// the call a crash leaves the records before, with the command's or without; after `Ok` every
-    /// crash leaves it. After `Ok` the archive stands for the past with the command, and else for
+    /// crash leaves it. After `Ok` the archive represents the past with the command, and else for
     /// the past that it stood for.
     pub fn commit(&mut self, command: Command) -> Result<Done, CommitFault>
         requires ready { IsReady self.old }
@@ -275,9 +276,8 @@ impl<D: Disk> Archive<D> {
             → (pieces : List PlainExplained) → ArePiecesOf
             (meaning_of book.now.rules.items (λ r. handles (r.vtable, r.value))
             (λ r. answers (r.vtable, r.value))) past (query_of query.now) pieces
-            → NoneComputes pieces
-            → IfOk result (λ listing. AreBorrowedBy (query_of query.now).branches
-            listing.rows.items) }
+            → IfOk result (λ listing. AreBorrowedBy pieces
+            (branches_asked past (query_of query.now)) listing.rows.items) }
         ensures cost { (past : Past) → RepresentsPast (standing_of self.now) past
             → (pieces : List PlainExplained) → ArePiecesOf
             (meaning_of book.now.rules.items (λ r. handles (r.vtable, r.value))

@@ -11,7 +11,7 @@ ghost use Rattle.image_spelling.specs.ShownPast.{image_past};
 ghost use Rattle.journal.specs.Records.{Record, IsKnown};
 ghost use Rattle.journal.specs.Reading.{records_in, record_of};
 ghost use Rattle.journal.specs.declared.rec.Rec.{Rec as ARecord};
-ghost use Rattle.version_groups.specs.Showing.{Represents};
+ghost use Rattle.version_groups.specs.Representation.{Represents};
 ghost use Rattle.archive_file.specs.Opening.{HasNoSpellingAt};
 ghost use Rattle.archive_core.specs.Reading.{AreInPlace, IsRefusedIn, IsRead, AreKept};
 ghost use Rattle.archive_core.specs.declared.fault.MountFault.TheVariants as mounting;

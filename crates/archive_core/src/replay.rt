@@ -4,7 +4,7 @@ ghost use Rattle.std.specs.Prelude.{◌≡◌, ◌+◌, ◌≤◌, List, length,
 ghost use Rattle.smo_types.specs.Commands.{command_of};
 ghost use Rattle.smo_meaning.specs.Past.{Past};
 ghost use Rattle.journal.specs.Reading.{records_in};
-ghost use Rattle.archive_state.specs.Standing.{RepresentsPast, RepresentsSome};
+ghost use Rattle.archive_state.specs.ArchiveContents.{RepresentsPast, RepresentsSome};
 ghost use Rattle.archive_file.specs.LogRecords.{LogRecord, records_of, replayed_of};
 ghost use Rattle.archive_file.specs.Opening.{HasFaultAt};
 ghost use Rattle.archive_core.specs.Reading.{AreInPlace};

@@ -5,12 +5,12 @@ use Rattle.std.proofs.lemmas.List.{length-map}
 use Rattle.smo_types.specs.Commands.{PlainBody, changing, evolving, PlainCommand, version_of}
 use Rattle.smo_meaning.specs.Past.{Past, next_past, past_with}
 use Rattle.version_groups.specs.Groups.{Kept}
-use Rattle.version_groups.specs.Showing.{Represents}
+use Rattle.version_groups.specs.Representation.{Represents}
 use Rattle.version_groups.specs.Steps.{step_of, makes_version, IsStep}
 use Rattle.version_groups.specs.declared.next.Step.{Step}
 use Rattle.version_groups.specs.declared.next.Step.TheVariants.{Changed, Evolved}
 use Rattle.archive_state.specs.Committing.{version_made}
-use Rattle.archive_state.specs.Standing.{RepresentsPast}
+use Rattle.archive_state.specs.ArchiveContents.{RepresentsPast}
 
 last_after : (past : Past) (stamp : ℕ) (body : PlainBody)
     → (next_past stamp body past).last ≡ Some stamp

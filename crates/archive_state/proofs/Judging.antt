@@ -1,6 +1,5 @@
 -- How the tests of a command are joined.
-use Rattle.std.proofs.Common.{◌≡◌, ◌≤◌, ◌<◌, ℕ, List, ◌∷◌, length, refl, sym, subst, ap, ◌∙◌}
-use Rattle.std.proofs.Common.{arith}
+use Rattle.std.proofs.Common.{◌≡◌, ◌≤◌, ◌<◌, ℕ, List, ◌∷◌, length, refl, sym, subst, ◌∙◌, arith}
 use Rattle.std.specs.Prelude.{Option, Some, None, Result, Ok, Err, IfOk}
 use Rattle.std.proofs.lemmas.List.{length-map}
 use Rattle.prima_base.specs.Faults.{IsTested}
@@ -10,30 +9,20 @@ use Rattle.prima_base.specs.declared.refusal.Refusal.{Refusal}
 use Rattle.prima_base.specs.declared.refusal.What.{What}
 use Rattle.relations.specs.Spans.{forever}
 use Rattle.schema_catalog.specs.Tables.{Tables}
-use Rattle.std.specs.Global.{Vec}
 use Rattle.smo_types.specs.declared.op.Op.{Op}
-use Rattle.smo_types.specs.declared.command.Body.{Body}
-use Rattle.smo_types.specs.declared.command.Body.TheVariants.{Evolve}
-use Rattle.smo_types.specs.declared.version.Version.{Version}
 use Rattle.smo_types.specs.Operators.{Operator, operator_of, operators_of}
-use Rattle.smo_types.specs.Commands.{PlainBody, evolving, PlainCommand, PlainVersion, body_of}
-use Rattle.smo_types.specs.Commands.{command_of, version_of}
+use Rattle.smo_types.specs.Commands.{evolving, PlainCommand}
 use Rattle.smo_meaning.specs.Checks.{Fault}
 use Rattle.smo_meaning.specs.Counts.{first_excess}
 use Rattle.smo_meaning.specs.Accepts.{count_fault, command_fault}
 use Rattle.smo_meaning.specs.First.{first_refusal}
 use Rattle.smo_meaning.specs.Preconditions.{AreNarrow}
 use Rattle.smo_meaning.specs.ValidValues.{BodyHolds}
-use Rattle.smo_meaning.specs.After.{schema_after}
-use Rattle.smo_meaning.specs.Past.{Past, newest_tables, next_version}
+use Rattle.smo_meaning.specs.Past.{Past, newest_tables}
 use Rattle.smo_meaning.proofs.CountedOperators.{counted_length}
 use Rattle.smo_meaning.proofs.Firsts.{first_at, first_later}
 use Rattle.version_groups.specs.Groups.{Kept}
-use Rattle.version_groups.specs.Judged.{judged_command, HasNext, IsAccepted}
-use Rattle.version_groups.specs.declared.judged.Judged.{Judged}
-use Rattle.version_groups.specs.declared.judged.Judged.TheVariants as judged
-use Rattle.version_groups.specs.Steps.{a_command}
-use Rattle.version_groups.specs.Showing.{Represents}
+use Rattle.version_groups.specs.Representation.{Represents}
 use Rattle.archive_state.specs.Committing.{schema_found, Finds, Judges}
 
 -- an inverse whose count is within its limit
@@ -95,40 +84,3 @@ pub answers : (past : Past) (command : PlainCommand)
 answers past command (Ok found) none finds = finds
 answers past command (Err (Refused r)) refused finds = refused
 answers past command (Err NoMemory) refused finds = tt
-
--- ---- a command that was judged, taken apart
-
-pub command_is : (c : ℕ × Body) (stamp : ℕ) (body : PlainBody) → stamp ≡ c.0 → body ≡ body_of c.1
-    → a_command stamp body ≡ command_of c
-command_is c stamp body e b = ap (λ n. a_command n body) e ∙ ap (a_command c.0) b
-
-pub accepted_is : (past : Past) (command : PlainCommand) (found : Option Tables) (j : Judged)
-    → Finds past command found → judged_command j ≡ command → HasNext past j → IsAccepted past j
-accepted_is past command found j finds is next = record {
-  accepted = subst (λ (x : PlainCommand). command_fault past x ≡ None) (sym is) finds.accepted;
-  stamp = subst (λ (x : PlainCommand). x.stamp < forever) (sym is) finds.stamp;
-  constants = subst (λ (x : PlainCommand). BodyHolds x.body) (sym is) finds.constants;
-  next = next;
-}
-
-module _ (past : Past) (command : ℕ × Body) (found : Option Tables) (op : Op) (inverse : Vec Op)
-    (finds : Finds past (command_of command) found) (is : Evolve op inverse ≡ command.1) where
-  -- of an operator its schema was found
-  pub operator_found : found
-      ≡ schema_found past (evolving (operator_of op) (operators_of inverse.items))
-  operator_found = finds.schema ∙ ap (λ (b : Body). schema_found past (body_of b)) (sym is)
-
-  module _ (stamp : ℕ) (version : Version) (at : stamp ≡ command.0)
-      (made : version_of version
-      ≡ next_version stamp (operator_of op) (operators_of inverse.items) past) where
-    -- the version that it makes is the one of the command
-    pub version_command : judged_command (judged.Evolve version) ≡ command_of command
-    version_command = ap (λ (v : PlainVersion). a_command v.stamp (evolving v.op v.inverse)) made
-        ∙ command_is command stamp (evolving (operator_of op) (operators_of inverse.items)) at
-        (ap body_of is)
-
-    pub version_accepted : IsAccepted past (judged.Evolve version)
-    version_accepted =
-        accepted_is past (command_of command) found (judged.Evolve version) finds version_command
-        (ap (λ (v : PlainVersion). v.tables) made
-        ∙ ap (schema_after (newest_tables past)) (sym (ap (λ (v : PlainVersion). v.op) made)))

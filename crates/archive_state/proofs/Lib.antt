@@ -1,4 +1,3 @@
 pub mod QueryFaults
 pub mod Judging
 pub mod CarriedOut
-pub mod AskedBranches

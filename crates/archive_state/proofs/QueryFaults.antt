@@ -12,7 +12,7 @@ use Rattle.prima_base.specs.declared.refusal.Refusal.TheVariants.{NoVersion}
 use Rattle.relations.specs.Timed.{Entry}
 use Rattle.smo_types.specs.Commands.{PlainVersion, version_of}
 use Rattle.version_groups.specs.Groups.{Kept, versions_in}
-use Rattle.version_groups.specs.Showing.{Represents}
+use Rattle.version_groups.specs.Representation.{Represents}
 use Rattle.schema_catalog.specs.Tables.{Tables}
 use Rattle.smo_meaning.specs.Checks.{Fault}
 use Rattle.smo_meaning.specs.First.{unless, first_refusal}

@@ -14,6 +14,7 @@ use Rattle.piece_meaning.specs.Rules.{Book}
 use Rattle.smo_meaning.specs.Checks.{Fault}
 use Rattle.smo_meaning.specs.First.{first_refusal}
 use Rattle.smo_meaning.specs.Past.{Past, tables_of}
+use Rattle.plain_answers.specs.Branches.{PlainBranch}
 use Rattle.query_types.specs.declared.when.When.{When}
 use Rattle.query_types.specs.declared.when.When.TheVariants.{Always, AsOf, During}
 use Rattle.query_types.specs.declared.query.Query.{Query}
@@ -56,6 +57,10 @@ TellsWayBack past query result = (k : ℕ) → (kind : OpKind)
     → result ≡ Err (Refused (NoInverse k kind)) → HasNoWayBack past query k kind
 
 -- ---- the pieces of a query
+
+-- the branches of a query, with each reference made one to an atom
+abbrev pub branches_asked : Past → PlainQuery → List PlainBranch
+branches_asked past query = (with_atoms (tables_of past query.version) query).branches
 
 -- none where it is refused
 abbrev pub IfAccepted : Fault → Type 0 → List PlainExplained → Type 0

@@ -13,7 +13,7 @@ use Rattle.smo_meaning.specs.Past.{Past, newest_tables, past_with}
 use Rattle.version_groups.specs.Room.{IsSame}
 use Rattle.version_groups.specs.Steps.{rows_gained, rows_lost}
 use Rattle.archive_state.specs.declared.archive.Done.{Done}
-use Rattle.archive_state.specs.Standing.{ArchiveContent, RepresentsPast}
+use Rattle.archive_state.specs.ArchiveContents.{ArchiveContent, RepresentsPast}
 
 -- the schema that judging finds: of an operator the one that is after it, and of changes none
 abbrev pub schema_found : Past → PlainBody → Option Tables
@@ -51,9 +51,9 @@ pub record IsAsBefore (old new : ArchiveContent) : Type 0 where
   pub groups : IsSame old.groups new.groups
   pub last : new.last ≡ old.last
 
--- an accepted command was carried out, and the archive shows the past with it; another is refused
--- by its first refusal, and the archive is what it was; where memory runs out it is as it was, too,
--- and shows the past that it showed
+-- an accepted command was carried out, and the archive represents the past with it; another is
+-- refused by its first refusal, and the archive is what it was; where memory runs out it is as it
+-- was, too, and represents the past that it did
 abbrev pub Accepts : Past → PlainCommand → ArchiveContent → Result Done (CallFault Refusal)
     → ArchiveContent → Type 0
 Accepts past command old (Ok done) new = (command_fault past command ≡ None)

@@ -1,3 +1,3 @@
-pub mod Standing
+pub mod ArchiveContents
 pub mod Committing
 pub mod Asking

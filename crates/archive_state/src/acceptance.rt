@@ -1,26 +1,22 @@
 //! Whether a command is accepted: the first refusal in the one order, and else what was found on
 //! the way.
 
-ghost use Rattle.std.specs.Prelude.{◌≡◌, ◌≤◌, ◌∷◌, List, [], length, nat_lt, IfOk, OnOk, Some};
-ghost use Rattle.std.specs.Prelude.{None, MatchOption};
+ghost use Rattle.std.specs.Prelude.{◌≡◌, ◌≤◌, length, nat_lt, IfOk, OnOk, None};
 ghost use Rattle.std.specs.Option.{option_map};
 ghost use Rattle.prima_base.specs.Faults.{IsTested};
 ghost use Rattle.prima_base.specs.declared.refusal.What.TheVariants.{Versions};
 ghost use Rattle.prima_base.specs.declared.refusal.Refusal.TheVariants.{TooMany};
 ghost use Rattle.smo_meaning.specs.First.{unless, first_refusal};
-ghost use Rattle.smo_types.specs.Commands.{changing, evolving, body_of, command_of, version_of};
+ghost use Rattle.smo_types.specs.Commands.{evolving, body_of, command_of, version_of};
 ghost use Rattle.smo_types.specs.Operators.{Operator, operator_of, operators_of};
-ghost use Rattle.smo_types.specs.Changes.{changes_of};
-ghost use Rattle.smo_meaning.specs.Checks.{changes_fault};
 ghost use Rattle.smo_meaning.specs.Counts.{first_excess};
 ghost use Rattle.smo_meaning.specs.After.{op_fault, schema_after, HasFewNodes, HaveFewNodes};
 ghost use Rattle.smo_meaning.specs.ValidValues.{BodyHolds};
 ghost use Rattle.smo_meaning.specs.Inverses.{inverse_fault};
-ghost use Rattle.smo_meaning.specs.Preconditions.{AreNarrow};
 ghost use Rattle.smo_meaning.specs.Accepts.{operator_refusal, count_fault, stamp_fault, body_tests};
 ghost use Rattle.smo_meaning.specs.Accepts.{command_fault, most_versions};
 ghost use Rattle.smo_meaning.specs.Past.{Past, newest_tables, next_version};
-ghost use Rattle.version_groups.specs.Showing.{Represents};
+ghost use Rattle.version_groups.specs.Representation.{Represents};
 ghost use Rattle.archive_state.specs.Committing.{schema_found, Finds};
 
 use crate::CommitFault;

@@ -14,7 +14,7 @@ use temporal_lang::Query;
 use version_groups::{Groups, Judged, Next};
 
 /// What was accepted: the versions with their stored tables, and the last stamp. Every archive
-/// stands for a past.
+/// represents a past.
 #[derive(Drop)]
 pub struct ArchiveState {
     alloc: Global,
@@ -23,7 +23,7 @@ pub struct ArchiveState {
 }
 
 impl Model for ArchiveState {
-    ghost use Rattle.archive_state.specs.Standing.{ArchiveContent, RepresentsSome};
+    ghost use Rattle.archive_state.specs.ArchiveContents.{ArchiveContent, RepresentsSome};
     ghost use Rattle.smo_types.specs.contracts.version.Version as version_row;
     ghost use Rattle.std.specs.Coded.{codes};
 
@@ -59,20 +59,22 @@ fn version_made(makes_version: bool, newest: u32) -> Option<u32>
 }
 
 impl ArchiveState {
-    ghost use Rattle.std.specs.Prelude.{◌≡◌, ◌+◌, ◌≤◌, [], None, List, IfOk};
+    ghost use Rattle.std.specs.Prelude.{◌≡◌, ◌+◌, ◌≤◌, List, IfOk};
     ghost use Rattle.relations.specs.Sets.{In};
     ghost use Rattle.smo_types.specs.Commands.{command_of, PlainCommand};
     ghost use Rattle.smo_meaning.specs.Past.{Past, beginning, past_with};
     ghost use Rattle.version_groups.specs.Judged.{judged_command, IsAccepted};
     ghost use Rattle.version_groups.specs.Steps.{Prepares};
-    ghost use Rattle.archive_state.specs.Standing.{RepresentsPast, RepresentsSome, archive_content};
+    ghost use Rattle.archive_state.specs.ArchiveContents.{RepresentsPast, RepresentsSome};
+    ghost use Rattle.archive_state.specs.ArchiveContents.{archive_content};
     ghost use Rattle.query_types.specs.Queries.{query_of};
     ghost use Rattle.archive_state.specs.Committing.{Judges, IsAsBefore, IsDone, Accepts};
     ghost use Rattle.rewrite.specs.Books.{meaning_of, EachOf};
     ghost use Rattle.piece_texts.specs.ExplainedPieces.{PlainExplained};
-    ghost use Rattle.query_exec.specs.Borrowed.{NoneComputes, AreBorrowedBy};
+    ghost use Rattle.query_exec.specs.Borrowed.{AreBorrowedBy};
     ghost use Rattle.query_exec.specs.Reads.{explained_read, reads_of};
     ghost use Rattle.archive_state.specs.Asking.{IsAsked, IsExplained, TellsWayBack, ArePiecesOf};
+    ghost use Rattle.archive_state.specs.Asking.{branches_asked};
 
     /// An archive that has accepted nothing. It takes no memory.
     pub fn new(alloc: Global) -> ArchiveState
@@ -128,7 +130,7 @@ impl ArchiveState {
     }
 
     /// Makes a command ready that was judged, and is accepted: all the memory that it needs is
-    /// taken, and `carry_out` then accepts it. The archive stands for the past that it stood for,
+    /// taken, and `carry_out` then accepts it. The archive represents the past that it represented,
     /// with the same stored tables but for room. The one error is `NoMemory`, where memory runs
     /// out.
     pub fn prepare<'a>(&mut self, judged: Judged<'a>) -> Result<Next<'a>, NoMemory>
@@ -170,7 +172,7 @@ impl ArchiveState {
 
     /// Judges the command and carries an accepted one out, with nothing between: so a command is
     /// carried out whose record stands already. Another is refused as by `judge`, and the archive
-    /// is what it was. Where memory runs out it stands for the past that it stood for, as it was
+    /// is what it was. Where memory runs out it represents the past that it represented, as it was
     /// but for room.
     pub fn commit(&mut self, command: Command) -> Result<Done, CommitFault>
         ensures commits { (past : Past) → RepresentsPast self.old past
@@ -202,9 +204,9 @@ impl ArchiveState {
     /// It takes at most as many steps as there are, for each of the query's pieces, which are those
     /// that `explain` tells, keys of the piece's tables and entries of the columns that it names of
     /// them, and none where the query is refused; where it lists, at least as many as there are for
-    /// any one of these pieces. Where none of them computes an output, the texts of the outputs
-    /// that are plain columns are borrowed by what the archive keeps: each row is borrowed as those
-    /// of one of the branches. The one other error is `NoMemory`, where memory runs out.
+    /// any one of these pieces. The texts of each output that is a plain column are borrowed by
+    /// what the archive keeps, unless one of these pieces computes that column of its item: each
+    /// row is so of one of the branches. The one other error is `NoMemory`, where memory runs out.
     pub fn query<'a, L: Ledger>(
         &'a self,
         book: &RuleBook,
@@ -221,9 +223,8 @@ impl ArchiveState {
             → (pieces : List PlainExplained) → ArePiecesOf
             (meaning_of book.now.rules.items (λ r. handles (r.vtable, r.value))
             (λ r. answers (r.vtable, r.value))) past (query_of query.now) pieces
-            → NoneComputes pieces
-            → IfOk result (λ listing. AreBorrowedBy (query_of query.now).branches
-            listing.rows.items) }
+            → IfOk result (λ listing. AreBorrowedBy pieces
+            (branches_asked past (query_of query.now)) listing.rows.items) }
         ensures cost { (past : Past) → RepresentsPast self.now past → (pieces : List PlainExplained)
             → ArePiecesOf (meaning_of book.now.rules.items (λ r. handles (r.vtable, r.value))
             (λ r. answers (r.vtable, r.value))) past (query_of query.now) pieces

@@ -1,8 +1,8 @@
 //! The archive: it accepts commands, or refuses them, and answers queries from what was accepted.
 //! It keeps what it has in memory.
 //!
-//! `specs/Standing.antt` says when an archive stands for a past; a command that is accepted makes
-//! it stand for the past with this command.
+//! `specs/ArchiveContents.antt` says when an archive represents a past; a command that is accepted
+//! makes it represent the past with this command.
 #![tactic(auto)]
 
 mod acceptance;

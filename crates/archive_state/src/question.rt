@@ -6,12 +6,13 @@ ghost use Rattle.smo_meaning.specs.Past.{Past};
 ghost use Rattle.query_meaning.specs.Accepted.{no_way_back, fault_of_query};
 ghost use Rattle.query_types.specs.Queries.{query_of};
 ghost use Rattle.piece_texts.specs.ExplainedPieces.{PlainExplained};
-ghost use Rattle.query_exec.specs.Borrowed.{NoneComputes, AreBorrowedBy};
+ghost use Rattle.query_exec.specs.Borrowed.{AreBorrowedBy};
 ghost use Rattle.relations.specs.Sets.{In};
 ghost use Rattle.query_exec.specs.Reads.{explained_read, reads_of};
-ghost use Rattle.version_groups.specs.Showing.{Represents};
+ghost use Rattle.version_groups.specs.Representation.{Represents};
 ghost use Rattle.rewrite.specs.Books.{meaning_of, EachOf};
 ghost use Rattle.archive_state.specs.Asking.{tells_periods, ArePiecesOf, IsAsked, IsExplained};
+ghost use Rattle.archive_state.specs.Asking.{branches_asked};
 ghost use Rattle.archive_state.specs.Asking.{IsWrong, IsAskedSchema, IsChecked, IsReady};
 
 use crate::AskFault;
@@ -19,7 +20,7 @@ use answer_text::Listing;
 use coalesce::keep;
 use piece_texts::Explained;
 use prima_base::{OpKind, Refusal, Steps};
-use query_exec::{answer, explain, first_loss};
+use query_exec::{answer, explain, first_loss_in_slice};
 use rule_book::{Rule, RuleBook, kind_of};
 use schema_catalog::Schema;
 use smo_ops::Versions;
@@ -79,7 +80,7 @@ fn judge_losses(
         → MatchResult result (λ u. fault_of_query past (query_of query.now) ≡ None)
         (λ fault. IsWrong past (query_of query.now) fault) }
 {
-    let loss = first_loss(alloc, groups, query)?;
+    let loss = first_loss_in_slice(alloc, groups, query)?;
     match loss {
         None => Ok(()),
         Some(loss) => Err(AskFault::Refused(no_way_back(groups.versions(), loss))),
@@ -124,8 +125,9 @@ pub(crate) fn ask<'a, L: Ledger>(
         → IsAsked past (query_of query.now) result }
     ensures borrowed { (past : Past) → Represents groups.now past → (pieces : List PlainExplained)
         → ArePiecesOf (meaning_of book.now.rules.items (λ r. handles (r.vtable, r.value))
-        (λ r. answers (r.vtable, r.value))) past (query_of query.now) pieces → NoneComputes pieces
-        → IfOk result (λ listing. AreBorrowedBy (query_of query.now).branches listing.rows.items) }
+        (λ r. answers (r.vtable, r.value))) past (query_of query.now) pieces
+        → IfOk result (λ listing. AreBorrowedBy pieces (branches_asked past (query_of query.now))
+        listing.rows.items) }
     ensures cost { (past : Past) → Represents groups.now past → (pieces : List PlainExplained)
         → ArePiecesOf (meaning_of book.now.rules.items (λ r. handles (r.vtable, r.value))
         (λ r. answers (r.vtable, r.value))) past (query_of query.now) pieces

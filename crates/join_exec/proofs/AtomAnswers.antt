@@ -19,7 +19,7 @@ use Rattle.smo_meaning.specs.OneRow.{Row, Relation, meets}
 use Rattle.smo_meaning.specs.Making.{named}
 use Rattle.history_store.specs.Store.{Store, relation_at}
 use Rattle.version_groups.specs.Groups.{Kept, table_in}
-use Rattle.version_groups.specs.Standing.{rows_stored}
+use Rattle.version_groups.specs.NewestTables.{rows_stored}
 use Rattle.cond_expr.specs.AtomColumns.{columns_at}
 use Rattle.plain_answers.specs.Choosing.{answers_over}
 use Rattle.plain_answers.specs.Naming.{is_to, written_names, names_at, names_from, all_references}
@@ -28,8 +28,9 @@ use Rattle.plain_answers.specs.Reading.{read_columns as columns_left}
 use Rattle.plain_answers.proofs.NameLaws.{in_names_at}
 use Rattle.plain_answers.proofs.ReadLaws.{same_answers}
 use Rattle.joining.specs.declared.source.Atom.{Atom}
-use Rattle.joining.specs.Sources.{AtomsBorrowed, atom_rows, IsNumbered, AreNumbered, HaveAtoms}
-use Rattle.timed_choices.specs.Lending.{AllBorrowed}
+use Rattle.joining.specs.Sources.{AtomsLend, atom_rows, IsNumbered, AreNumbered, HaveAtoms}
+use Rattle.timed_choices.specs.Lending.{AllBorrowed, Lent}
+use Rattle.timed_choices.proofs.BorrowedLaws.{rows_lend}
 use Rattle.join_exec.specs.Pieces.{columns_stored, stored_columns, stored_rows}
 use Rattle.join_exec.specs.Atoms.{IsReadOf, AreRead, IsReadable, AreReadable}
 use Rattle.join_exec.proofs.LeftNames.{names_left}
@@ -128,14 +129,16 @@ module _ (kept : Kept) (k : ℕ) (slice : Span) (rs : List ColRef) where
         are_numbered (i + 1) tables atoms h.1,
       )
 
-  pub atoms_borrowed : (i : ℕ) (tables : List (List ℕ)) (atoms : List Atom) → Taken i tables atoms
-      → AtomsBorrowed atoms
-  atoms_borrowed i [] [] h = tt
-  atoms_borrowed i [] (a ∷ atoms) h = absurd h
-  atoms_borrowed i (n ∷ tables) [] h = absurd h
-  atoms_borrowed i (n ∷ tables) (a ∷ atoms) h = (
-    borrowed_of slice i (names_at i rs) a (table_in kept k n) h.0,
-    atoms_borrowed (i + 1) tables atoms h.1,
+  -- they lend any of their columns
+  pub atoms_lend : (lent : Lent) (i : ℕ) (tables : List (List ℕ)) (atoms : List Atom)
+      → Taken i tables atoms → AtomsLend lent atoms
+  atoms_lend lent i [] [] h = tt
+  atoms_lend lent i [] (a ∷ atoms) h = absurd h
+  atoms_lend lent i (n ∷ tables) [] h = absurd h
+  atoms_lend lent i (n ∷ tables) (a ∷ atoms) h = (
+    rows_lend lent a.columns.items a.rows.items a.fit
+        (borrowed_of slice i (names_at i rs) a (table_in kept k n) h.0),
+    atoms_lend lent (i + 1) tables atoms h.1,
   )
 
   rows_left : (m : ℕ) → covers slice m ≡ true → (i : ℕ) (tables : List (List ℕ)) (atoms : List Atom)

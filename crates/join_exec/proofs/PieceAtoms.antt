@@ -23,8 +23,8 @@ use Rattle.smo_meaning.specs.Past.{Past, no_tables, tables_from, tables_of, data
 use Rattle.smo_types.specs.Commands.{PlainVersion}
 use Rattle.history_store.specs.Store.{Store}
 use Rattle.version_groups.specs.Groups.{Kept, table_in}
-use Rattle.version_groups.specs.Standing.{rows_stored}
-use Rattle.version_groups.specs.Showing.{IsInForce, ShowsEntry, Represents}
+use Rattle.version_groups.specs.NewestTables.{rows_stored}
+use Rattle.version_groups.specs.Representation.{IsInForce, RepresentsEntry, Represents}
 use Rattle.plain_answers.specs.Naming.{IsNamed, names_at, all_references}
 use Rattle.plain_answers.specs.Choosing.{answers_over}
 use Rattle.plain_answers.proofs.NameLaws.{from_names_at}
@@ -67,7 +67,7 @@ module _ (kept : Kept) (past : Past) (k : ℕ) (shows : Represents kept past)
 
   -- a table that is one of the version is stored
   readable_of : (ns : List (List ℕ)) (n : List ℕ) (its : Option (List Column)) (o : Option Store)
-      → is_some its ≡ true → ShowsEntry past k n its o
+      → is_some its ≡ true → RepresentsEntry past k n its o
       → ((name : List ℕ) → In name ns → In name (names_of (unwrap_or its []))) → IsReadable o ns
   readable_of ns n None o e h f = absurd (cc)
   readable_of ns n (Some cs) None e h f = absurd h
@@ -104,7 +104,7 @@ module _ (kept : Kept) (past : Past) (k : ℕ) (shows : Represents kept past)
 
   -- what is stored of it is what the database has
   columns_same : (n : List ℕ) (its : Option (List Column)) (o : Option Store)
-      → ShowsEntry past k n its o → columns_stored o ≡ unwrap_or its []
+      → RepresentsEntry past k n its o → columns_stored o ≡ unwrap_or its []
   columns_same n None None h = refl
   columns_same n None (Some s) h = absurd h
   columns_same n (Some cs) None h = absurd h
@@ -112,7 +112,7 @@ module _ (kept : Kept) (past : Past) (k : ℕ) (shows : Represents kept past)
 
   rows_same : (m : ℕ) → IsInForce past.versions k m
       → (n : List ℕ) (its : Option (List Column)) (o : Option Store) → is_some its ≡ true
-      → ShowsEntry past k n its o
+      → RepresentsEntry past k n its o
       → rows_stored m o ≡ rows_under (get (database_at past m) n)
   rows_same m f n None o e h = absurd (cc)
   rows_same m f n (Some cs) None e h = absurd h

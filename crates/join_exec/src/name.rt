@@ -2,31 +2,13 @@
 
 ghost use Rattle.std.specs.Prelude.{◌≡◌, IfOk};
 ghost use Rattle.std.specs.List.{filter};
-ghost use Rattle.relations.specs.Sets.{set_of};
-ghost use Rattle.prima_base.specs.Order.{bytes_cmp};
-ghost use Rattle.plain_answers.specs.Naming.{written_names, is_to, names_at};
-ghost use Rattle.cond_expr.specs.References.{borrowed};
+ghost use Rattle.plain_answers.specs.Naming.{written_names, names_at};
+ghost use Rattle.cond_expr.specs.References.{is_to, borrowed};
 
-use cond_expr::{ColRef, Whose};
+use cond_expr::ColRef;
 use prima_base::{Name, NoMemory};
+use smo_maps::put_in_order;
 use std::alloc::Global;
-
-// Puts names in their order, each once.
-fn put_in_order(names: &mut Vec<Name>)
-    ensures { names.new.items ≡ set_of bytes_cmp names.old.items }
-{
-    names.sort_unstable();
-    names.dedup();
-}
-
-fn is_to(reference: &ColRef, atom: u32) -> bool
-    ensures { result ≡ is_to atom reference.now }
-{
-    match &reference.whose {
-        Whose::Atom(own) => atom == *own,
-        Whose::Free | Whose::Alias(_) => false,
-    }
-}
 
 // The names of the references to one atom, one for each.
 fn names_to(alloc: Global, references: &[&ColRef], atom: u32) -> Result<Vec<Name>, NoMemory>
@@ -35,7 +17,7 @@ fn names_to(alloc: Global, references: &[&ColRef], atom: u32) -> Result<Vec<Name
 {
     let mut names = Vec::new(alloc);
     for reference in references {
-        if is_to(reference, atom) {
+        if reference.is_to(atom) {
             names.push(reference.name.copy()?)?;
         }
     }

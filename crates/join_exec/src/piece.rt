@@ -8,13 +8,13 @@ ghost use Rattle.prima_base.specs.Timed.{rows_at};
 ghost use Rattle.cond_expr.specs.Seen.{tree, test};
 ghost use Rattle.smo_meaning.specs.Past.{Past, tables_of, database_at};
 ghost use Rattle.smo_types.specs.Changes.{sets_of};
-ghost use Rattle.version_groups.specs.Showing.{Represents, IsInForce};
+ghost use Rattle.version_groups.specs.Representation.{Represents, IsInForce};
 ghost use Rattle.plain_answers.specs.Choosing.{answers_over};
 ghost use Rattle.plain_answers.specs.Naming.{all_references};
 ghost use Rattle.piece_meaning.specs.Pieces.{means, out_trees};
 ghost use Rattle.piece_meaning.specs.Typed.{IsTyped};
 ghost use Rattle.piece_ir.specs.Shown.{piece_of};
-ghost use Rattle.timed_choices.specs.Lending.{AllStayBorrowed};
+ghost use Rattle.timed_choices.specs.Lending.{all_lent, AllStayBorrowed};
 ghost use Rattle.join_exec.specs.Pieces.{stored_columns, stored_rows, stored_meaning, atoms_read};
 ghost use Rattle.join_exec.specs.Pieces.{piece_reads};
 ghost use Rattle.join_exec.specs.Atoms.{AreReadable};
@@ -57,7 +57,8 @@ fn answer_tables<'a, L: Ledger>(
         (stored_rows groups.now version tables.now m) (map tree outs.now) (test cond.now))) }
     ensures inside { (m : ℕ) → covers slice m ≡ false
         → IfOk result (λ rows. rows_at rows.items m ≡ []) }
-    ensures borrowed { IfOk result (λ rows. AllStayBorrowed (map tree outs.now) rows.items) }
+    ensures borrowed { IfOk result (λ rows.
+        AllStayBorrowed all_lent (map tree outs.now) rows.items) }
     ensures cost { steps.new ≤ steps.old + atoms_read groups.now version
         (all_references (map tree outs.now) (test cond.now)) 0 tables.now }
     ensures counted { IfOk result (λ _. steps.new
@@ -99,8 +100,8 @@ pub fn run_piece<'a, L: Ledger>(
         ≡ stored_meaning groups.now version (piece_of piece.now) m) }
     ensures inside { (m : ℕ) → covers slice m ≡ false
         → IfOk result (λ rows. rows_at rows.items m ≡ []) }
-    ensures borrowed { IfOk result (λ rows. AllStayBorrowed (out_trees (piece_of piece.now).outs)
-        rows.items) }
+    ensures borrowed { IfOk result (λ rows. AllStayBorrowed all_lent
+        (out_trees (piece_of piece.now).outs) rows.items) }
     ensures cost { steps.new ≤ steps.old + piece_reads groups.now version (piece_of piece.now) }
     ensures counted { IfOk result (λ _. steps.new
         ≡ steps.old + piece_reads groups.now version (piece_of piece.now)) }

@@ -218,7 +218,8 @@ fn take_in<'a>(
     split_first(done, stretches, cell)
 }
 
-// All that the entries give with the stretches.
+// All that the entries give with the stretches. It has room for as many as these; where an entry
+// splits one there are more.
 fn merge<'a, L: Ledger>(
     alloc: Global,
     mut stretches: VecDeque<Stretch<'a>>,
@@ -231,7 +232,7 @@ fn merge<'a, L: Ledger>(
     ensures counted { IfOk result (λ _. steps.new ≡ steps.old + length cells.entry) }
     ensures rises { steps.old ≤ steps.new }
 {
-    let mut done = VecDeque::new(alloc);
+    let mut done = VecDeque::with_capacity(alloc, stretches.len())?;
     'cells: while let Some(cell) = cells.next_cell(steps) {
         take_in(&mut done, &mut stretches, cell)?;
     }

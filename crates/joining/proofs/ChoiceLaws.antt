@@ -122,9 +122,11 @@ module _ (sources : List Source) (m : ℕ) (met : List Value → Bool) (make : L
   of_relations = set_same row_cmp row_exact (made_of (choices (held_of sources m)))
       (made_of (choices (relations_of sources m))) (record {
         there = there (choices (held_of sources m)) (choices (relations_of sources m))
-            (same_choices (λ (s : Source). held s m) (λ (s : Source). rows_at s.rows.items m) sources
+            (same_choices (λ (s : Source). held s m) (λ (s : Source). rows_at s.rows.items m)
+            sources
             (λ s x h. in_set row_cmp row_exact x (held s m) h));
         back = there (choices (relations_of sources m)) (choices (held_of sources m))
-            (same_choices (λ (s : Source). rows_at s.rows.items m) (λ (s : Source). held s m) sources
+            (same_choices (λ (s : Source). rows_at s.rows.items m) (λ (s : Source). held s m)
+            sources
             (λ s x h. from_set row_cmp row_exact x (held s m) h));
       })

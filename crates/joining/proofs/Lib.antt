@@ -9,3 +9,5 @@ pub mod CoalescedRows
 pub mod PrunedRows
 pub mod RunLaws
 pub mod SingleAtoms
+pub mod OwnRows
+pub mod KeptRows

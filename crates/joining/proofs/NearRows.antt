@@ -19,8 +19,9 @@ use Rattle.prima_base.specs.Timed.{entry_of, entries_of}
 use Rattle.timed_choices.specs.Choosing.{in_period, pair, paired}
 use Rattle.relations.proofs.SetLaws.{in_map, from_map}
 use Rattle.timed_choices.specs.Keeping.{AllValid, IsValidRow}
-use Rattle.timed_choices.specs.Lending.{AllBorrowed}
-use Rattle.timed_choices.proofs.BorrowedLaws.{borrowed_member, all_members}
+use Rattle.prima_base.specs.declared.value.Val.{Val}
+use Rattle.timed_choices.specs.Lending.{EachRow}
+use Rattle.timed_choices.proofs.BorrowedLaws.{each_member, all_members}
 use Rattle.joining.specs.Grouping.{EndBy, AreInTurn, IsNear}
 
 -- a member has a place
@@ -263,7 +264,7 @@ valid_piece period rows piece near h = λ e i. let r = shown_in piece e i in
     subst (λ (x : Entry (List Value)). IsValidRow x.item) r.2
     (h (entry_of r.0) (in_map entry_of r.0 rows (near_in period rows piece near r.0 r.1)))
 
-pub near_borrowed : (period : Span) (rows piece : List TimedRow) → IsNear period rows piece
-    → AllBorrowed rows → AllBorrowed piece
-near_borrowed period rows piece near l = all_members piece
-    (λ t i. borrowed_member rows t (near_in period rows piece near t i) l)
+pub near_each : (so : List Val → Type 0) (period : Span) (rows piece : List TimedRow)
+    → IsNear period rows piece → EachRow so rows → EachRow so piece
+near_each so period rows piece near l = all_members so piece
+    (λ t i. each_member so rows t (near_in period rows piece near t i) l)

@@ -19,14 +19,15 @@ use Rattle.cond_expr.specs.Trees.{Tree, Test}
 use Rattle.joining.specs.declared.source.Atom.{Atom}
 use Rattle.timed_choices.specs.Keeping.{meets_all, borrowed_tests, AreOwnParts}
 use Rattle.cond_expr.specs.Parts.{parts}
-use Rattle.timed_choices.specs.Lending.{AllBorrowed}
+use Rattle.prima_base.specs.declared.value.Val.{Val}
+use Rattle.timed_choices.specs.Lending.{EachRow, Lent, RowsLend}
 use Rattle.timed_choices.specs.Fitting.{Fit}
 use Rattle.timed_choices.specs.Blocks.{answered, IsPruned}
 use Rattle.timed_choices.proofs.Groups.{shown_kept}
-use Rattle.timed_choices.proofs.BorrowedLaws.{kept_borrowed}
+use Rattle.timed_choices.proofs.BorrowedLaws.{each_kept}
 use Rattle.timed_choices.proofs.PrunedAtoms.{one_pruned}
-use Rattle.joining.proofs.AtomOrder.{is_block, are_blocks, apart_of, atoms_borrowed, both_atoms}
-use Rattle.joining.specs.Sources.{AtomsBorrowed, block_of, blocks_of, IsNumbered, AreNumbered}
+use Rattle.joining.proofs.AtomOrder.{is_block, are_blocks, apart_of, atoms_lend, both_atoms}
+use Rattle.joining.specs.Sources.{AtomsLend, block_of, blocks_of, IsNumbered, AreNumbered}
 
 -- the rows that meet some conditions
 module _ (columns : List Column) (own : List Test) (rows kept : List TimedRow)
@@ -43,9 +44,9 @@ module _ (columns : List Column) (own : List Test) (rows kept : List TimedRow)
   pub fit_kept : (n : ℕ) → Fit n (entries_of rows) → Fit n (entries_of kept)
   fit_kept n f = λ e i. f e (from_kept e i)
 
-  pub borrowed_kept : AllBorrowed rows → AllBorrowed kept
-  borrowed_kept l = subst AllBorrowed (sym made)
-      (kept_borrowed (λ (t : TimedRow). meets_all columns own (entry_of t).item) rows l)
+  pub each_kept_too : (so : List Val → Type 0) → EachRow so rows → EachRow so kept
+  each_kept_too so l = subst (EachRow so) (sym made)
+      (each_kept so (λ (t : TimedRow). meets_all columns own (entry_of t).item) rows l)
 
   only_kept : (m : ℕ) (row : List Value) → In row (rows_at kept m) → In row (rows_at rows m)
   only_kept m row i = let h = (in_at row_cmp row_exact (entries_of kept) row m).0 i in
@@ -120,11 +121,11 @@ module _ (before done more : List Atom) (a d : Atom) (made : more ≡ done ++ d 
       (subst AreNumbered (sym (append_assoc done (d ∷ []) rest))
       (all_numbered_like done rest a d e (with_rest rest h)))
 
-  pub borrowed_more : (AtomsBorrowed before → AtomsBorrowed done)
-      → (AllBorrowed a.rows.items → AllBorrowed d.rows.items) → AtomsBorrowed (before ++ a ∷ [])
-      → AtomsBorrowed more
-  borrowed_more f g h = let p = atoms_borrowed before (a ∷ []) h in
-      subst AtomsBorrowed (sym made) (both_atoms done (d ∷ []) (f p.0) (g p.1.0, tt))
+  pub lends_more : (lent : Lent) → (AtomsLend lent before → AtomsLend lent done)
+      → (RowsLend lent a.columns.items a.rows.items → RowsLend lent d.columns.items d.rows.items)
+      → AtomsLend lent (before ++ a ∷ []) → AtomsLend lent more
+  lends_more lent f g h = let p = atoms_lend lent before (a ∷ []) h in
+      subst (AtomsLend lent) (sym made) (both_atoms lent done (d ∷ []) (f p.0) (g p.1.0, tt))
 
   pub same_more : (outs : List Tree) (cond : Test) (m : ℕ)
       → IsPruned (parts cond) (block_of m a) (block_of m d)

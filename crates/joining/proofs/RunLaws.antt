@@ -13,8 +13,9 @@ use Rattle.prima_base.specs.declared.value.Value.{Value}
 use Rattle.prima_base.specs.declared.timed_row.TimedRow.{TimedRow}
 use Rattle.prima_base.specs.Timed.{entry_of, entries_of}
 use Rattle.timed_choices.specs.Keeping.{AllValid, IsValidRow}
-use Rattle.timed_choices.specs.Lending.{AllBorrowed}
-use Rattle.timed_choices.proofs.BorrowedLaws.{borrowed_member, all_members}
+use Rattle.prima_base.specs.declared.value.Val.{Val}
+use Rattle.timed_choices.specs.Lending.{EachRow}
+use Rattle.timed_choices.proofs.BorrowedLaws.{each_member, all_members}
 use Rattle.joining.specs.Grouping.{rows_of_runs}
 
 pub runs_pairs : (f : Entry (List Value) → List (Entry (List Value))) (runs : List (List TimedRow))
@@ -46,10 +47,11 @@ run_valid runs i run below is h = λ e m.
     (h (entry_of r.0) (in_map entry_of r.0 (rows_of_runs runs)
     (row_among runs i run below is r.0 r.1)))
 
-pub run_borrowed : (runs : List (List TimedRow)) (i : ℕ) (run : List TimedRow) → i < length runs
-    → run ≡ get_or runs i run → AllBorrowed (rows_of_runs runs) → AllBorrowed run
-run_borrowed runs i run below is l = all_members run
-    (λ t m. borrowed_member (rows_of_runs runs) t (row_among runs i run below is t m) l)
+pub run_each : (so : List Val → Type 0) (runs : List (List TimedRow)) (i : ℕ)
+    (run : List TimedRow) → i < length runs → run ≡ get_or runs i run
+    → EachRow so (rows_of_runs runs) → EachRow so run
+run_each so runs i run below is l = all_members so run
+    (λ t m. each_member so (rows_of_runs runs) t (row_among runs i run below is t m) l)
 
 -- one row more, after those of the last
 pub last_longer : (runs : List (List TimedRow)) (i : ℕ) (run : List TimedRow) (row : TimedRow)

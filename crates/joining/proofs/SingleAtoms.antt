@@ -3,7 +3,7 @@ use Rattle.std.proofs.Common.{◌≡◌, ◌<◌, ◌+◌, ℕ, zero, suc, Bool,
 use Rattle.std.proofs.Common.{◌++◌, append_assoc, map, take, length, get_or, refl, sym, ap, ◌∙◌}
 use Rattle.std.proofs.Common.{subst, arith}
 use Rattle.std.specs.List.{flat_map, filter}
-use Rattle.std.proofs.lemmas.List.{append-nil, length-map, map-append, take_more}
+use Rattle.std.proofs.lemmas.List.{append-nil, map-append, take_more}
 use Rattle.std.proofs.lemmas.List.Concat.{flat_map-append}
 use Rattle.relations.specs.Sets.{In, set_of}
 use Rattle.relations.specs.Choices.{choices}
@@ -12,9 +12,8 @@ use Rattle.relations.specs.Timed.{Entry, held_at, at}
 use Rattle.relations.proofs.SetLaws.{in_map, from_map, in_filter, from_filter, in_set, from_set}
 use Rattle.relations.proofs.SetLaws.{set_same}
 use Rattle.prima_base.specs.declared.value.Value.{Value}
-use Rattle.prima_base.specs.declared.value.Val.{Val}
 use Rattle.prima_base.specs.declared.timed_row.TimedRow.{TimedRow}
-use Rattle.prima_base.specs.Order.{row_cmp, shown}
+use Rattle.prima_base.specs.Order.{row_cmp}
 use Rattle.prima_base.specs.OrderLaws.{row_exact}
 use Rattle.prima_base.specs.Timed.{entry_of, entries_of}
 use Rattle.cond_expr.specs.declared.expr.Column.{Column}
@@ -22,11 +21,10 @@ use Rattle.cond_expr.specs.declared.expr.Expr.{Expr}
 use Rattle.cond_expr.specs.Trees.{Tree, Test}
 use Rattle.cond_expr.specs.Values.{value}
 use Rattle.cond_expr.specs.Seen.{tree}
-use Rattle.cond_expr.specs.Rows.{AreBorrowed, cells}
+use Rattle.cond_expr.specs.Rows.{cells}
 use Rattle.timed_choices.specs.Answering.{one_row, outputs, answer, answers}
 use Rattle.timed_choices.specs.Choosing.{extended_where, pairs}
 use Rattle.timed_choices.specs.Keeping.{meets, value_at}
-use Rattle.timed_choices.specs.Lending.{StaysBorrowed}
 use Rattle.timed_choices.proofs.HeldPairs.{held_pairs}
 use Rattle.timed_choices.proofs.JoinLaws.{start_held}
 use Rattle.joining.specs.InSlice.{in_slice, all_in_slice}
@@ -47,14 +45,6 @@ column_more columns outs i out row below is same wide before here =
     ∙ ap (λ (l : List Value). l ++ f (get_or outs i out) ∷ []) before
     ∙ ap (λ (v : Value). take i row ++ v ∷ []) (ap f (sym is) ∙ here)
     ∙ sym (take_more row i _ (omega (arith, below, same, wide)))
-
--- values that are borrowed stay borrowed as so many outputs
-pub stay_as : (outs : List Tree) (values : List Val) → length outs ≡ length values
-    → AreBorrowed values → StaysBorrowed outs values
-stay_as [] [] e l = tt
-stay_as [] (v ∷ values) e l = absurd (omega (arith, e))
-stay_as (t ∷ outs) [] e l = absurd (omega (arith, e))
-stay_as (t ∷ outs) (v ∷ values) e l = ((λ _. l.0), stay_as outs values (omega (arith, e)) l.1)
 
 -- ---- entries in their moments of a slice
 
@@ -156,17 +146,3 @@ module _ (cs : List Column) (outs : List Tree) (c : Test) where
       (sym (append-nil (in_slice slice (entry_of row))))
       ∙ sym (flat_map-append (in_slice slice) (entries_of before) (entry_of row ∷ []))
       ∙ ap (all_in_slice slice) (sym (map-append entry_of before (row ∷ []))))
-
--- the values of a choice that are those of the outputs
-pub stays_moved : (cs : List Column) (outs : List Tree) (values : List Val)
-    → outputs cs outs (map shown values) ≡ map shown values → AreBorrowed values
-    → StaysBorrowed outs values
-stays_moved cs outs values same l =
-    let e : length (map (value (cells cs (map shown values))) outs) ≡ length (map shown values) =
-    ap (λ (l : List Value). length l) same in
-    stay_as outs values (omega (
-      arith,
-      e,
-      length-map outs (value (cells cs (map shown values))),
-      length-map values shown,
-    )) l

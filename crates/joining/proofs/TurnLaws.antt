@@ -14,8 +14,9 @@ use Rattle.prima_base.specs.declared.timed_row.TimedRow.{TimedRow}
 use Rattle.prima_base.specs.Order.{row_cmp}
 use Rattle.prima_base.specs.OrderLaws.{row_exact}
 use Rattle.prima_base.specs.Timed.{entry_of, entries_of, rows_at}
-use Rattle.timed_choices.specs.Lending.{AllBorrowed}
-use Rattle.timed_choices.proofs.BorrowedLaws.{borrowed_member, all_members}
+use Rattle.prima_base.specs.declared.value.Val.{Val}
+use Rattle.timed_choices.specs.Lending.{EachRow}
+use Rattle.timed_choices.proofs.BorrowedLaws.{each_member, all_members}
 use Rattle.timed_choices.specs.Fitting.{Fit}
 
 contains_more : {X : Type 0} (x : X) (xs : List X) (e : X) → Contains xs e → Contains (x ∷ xs) e
@@ -59,6 +60,6 @@ module _ (rows moved : List TimedRow) (p : IsPermutation rows moved) where
         back = λ x i. held_moved (entries_of rows) (entries_of moved) there m x i;
       })
 
-  pub borrowed_moved : AllBorrowed rows → AllBorrowed moved
-  borrowed_moved l = all_members moved (λ row i.
-      borrowed_member rows row (in_moved moved rows (IsPermutation-sym rows moved p) row i) l)
+  pub each_moved : (so : List Val → Type 0) → EachRow so rows → EachRow so moved
+  each_moved so l = all_members so moved (λ row i.
+      each_member so rows row (in_moved moved rows (IsPermutation-sym rows moved p) row i) l)

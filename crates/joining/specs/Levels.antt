@@ -1,5 +1,5 @@
 -- Lists joined level by level: the rows beside each choice of the levels before.
-use Rattle.std.specs.Prelude.{List, [], ◌∷◌, ⊤}
+use Rattle.std.specs.Prelude.{◌≡◌, List, [], ◌∷◌, ◌++◌, ⊤}
 use Rattle.std.specs.List.{flat_map}
 use Rattle.std.specs.BTreeMap.{get}
 use Rattle.relations.specs.Timed.{Entry}
@@ -10,7 +10,7 @@ use Rattle.prima_base.specs.Timed.{entries_of}
 use Rattle.cond_expr.specs.declared.expr.Column.{Column}
 use Rattle.timed_choices.specs.Choosing.{paired}
 use Rattle.timed_choices.specs.Keeping.{picked, passing, in_group, borrowed_tests, AllValid}
-use Rattle.timed_choices.specs.Lending.{AllBorrowed}
+use Rattle.timed_choices.specs.Lending.{Lent, RowsLend}
 use Rattle.joining.specs.declared.level.Level.{Level}
 
 -- the rows of the level that have this key
@@ -32,7 +32,7 @@ abbrev pub made_through : List Column → List Level → List (Entry (List Value
 made_through columns [] ps = ps
 made_through columns (level ∷ levels) ps = made_through columns levels (made_on columns level ps)
 
--- each value of a level is valid, and each is borrowed
+-- each value of a level is valid
 abbrev pub IsValidLevel : Level → Type 0
 IsValidLevel level = (key : List Value) → AllValid (entries_of (with_key level key))
 
@@ -40,9 +40,12 @@ abbrev pub AreValidLevels : List Level → Type 0
 AreValidLevels [] = ⊤
 AreValidLevels (level ∷ levels) = IsValidLevel level × AreValidLevels levels
 
-abbrev pub IsBorrowedLevel : Level → Type 0
-IsBorrowedLevel level = (key : List Value) → AllBorrowed (with_key level key)
+-- the rows of a level lend those of its columns that are lent
+abbrev pub LevelLends : Lent → List Column → Level → Type 0
+LevelLends lent columns level = (key : List Value) → RowsLend lent columns (with_key level key)
 
-abbrev pub AreBorrowedLevels : List Level → Type 0
-AreBorrowedLevels [] = ⊤
-AreBorrowedLevels (level ∷ levels) = IsBorrowedLevel level × AreBorrowedLevels levels
+-- and so do those of each level, whose columns are these, one level's after the other's
+abbrev pub LevelsLend : Lent → List Column → List Level → Type 0
+LevelsLend lent columns [] = columns ≡ []
+LevelsLend lent columns (level ∷ levels) = (own : List Column) × (rest : List Column)
+    × (columns ≡ own ++ rest) × LevelLends lent own level × LevelsLend lent rest levels

@@ -1,5 +1,5 @@
 -- Lists of rows with periods, and atoms, as they are at a moment.
-use Rattle.std.specs.Prelude.{◌≡◌, ℕ, ◌+◌, List, [], ◌∷◌, map, ⊤}
+use Rattle.std.specs.Prelude.{◌≡◌, ℕ, ◌+◌, List, [], ◌∷◌, ◌++◌, map, ⊤}
 use Rattle.std.specs.List.{flat_map}
 use Rattle.relations.specs.Timed.{held_at}
 use Rattle.prima_base.specs.declared.value.Value.{Value}
@@ -7,7 +7,7 @@ use Rattle.prima_base.specs.Columns.{Column}
 use Rattle.prima_base.specs.Timed.{entries_of, rows_at}
 use Rattle.cond_expr.specs.declared.expr.Column.{Column as AtomColumn}
 use Rattle.cond_expr.specs.AtomColumns.{columns_at}
-use Rattle.timed_choices.specs.Lending.{AllBorrowed}
+use Rattle.timed_choices.specs.Lending.{Lent, RowsLend}
 use Rattle.timed_choices.specs.Blocks.{Block}
 use Rattle.joining.specs.declared.source.Source.{Source}
 use Rattle.joining.specs.declared.source.Atom.{Atom}
@@ -60,11 +60,13 @@ HaveAtoms k (cs ∷ columns) [] = ⊥
 HaveAtoms k (cs ∷ columns) (a ∷ atoms) = (a.columns.items ≡ columns_at k cs)
     × HaveAtoms (k + 1) columns atoms
 
--- each value of each list, and of each atom, is borrowed
-abbrev pub EachBorrowed : List Source → Type 0
-EachBorrowed [] = ⊤
-EachBorrowed (s ∷ sources) = AllBorrowed s.rows.items × EachBorrowed sources
+-- the rows of each atom lend the columns of the atom that are lent
+abbrev pub AtomsLend : Lent → List Atom → Type 0
+AtomsLend lent [] = ⊤
+AtomsLend lent (a ∷ atoms) = RowsLend lent a.columns.items a.rows.items × AtomsLend lent atoms
 
-abbrev pub AtomsBorrowed : List Atom → Type 0
-AtomsBorrowed [] = ⊤
-AtomsBorrowed (a ∷ atoms) = AllBorrowed a.rows.items × AtomsBorrowed atoms
+-- and so do the rows of each list, whose columns are these, one list's after the other's
+abbrev pub SourcesLend : Lent → List AtomColumn → List Source → Type 0
+SourcesLend lent columns [] = columns ≡ []
+SourcesLend lent columns (s ∷ sources) = (own : List AtomColumn) × (rest : List AtomColumn)
+    × (columns ≡ own ++ rest) × RowsLend lent own s.rows.items × SourcesLend lent rest sources

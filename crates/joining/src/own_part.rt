@@ -1,17 +1,15 @@
 //! The parts of a condition that speak of one atom alone, tested on its rows before any join.
 
-ghost use Rattle.std.specs.Prelude.{◌≡◌, ◌++◌, ◌∷◌, [], ℕ, List, map, if◌then◌else◌, IfOk, OnOk};
+ghost use Rattle.std.specs.Prelude.{◌≡◌, ℕ, List, IfOk};
 ghost use Rattle.std.specs.List.{filter};
 ghost use Rattle.prima_base.specs.declared.timed_row.TimedRow.{TimedRow as OneRow};
-ghost use Rattle.prima_base.specs.Order.{shown};
 ghost use Rattle.prima_base.specs.Timed.{entry_of, entries_of};
 ghost use Rattle.cond_expr.specs.Trees.{Tree, Test};
-ghost use Rattle.timed_choices.specs.Keeping.{meets_all, borrowed_tests, IsValidRow, AllValid};
-ghost use Rattle.timed_choices.specs.Keeping.{AreOwnParts};
-ghost use Rattle.timed_choices.specs.Lending.{AllBorrowed};
+ghost use Rattle.timed_choices.specs.Keeping.{meets_all, borrowed_tests, AllValid, AreOwnParts};
+ghost use Rattle.timed_choices.specs.Lending.{Lent, RowsLend};
 ghost use Rattle.cond_expr.specs.Parts.{parts as parts_of};
 ghost use Rattle.timed_choices.specs.Blocks.{answered, IsPruned};
-ghost use Rattle.joining.specs.Sources.{AtomsBorrowed, block_of, blocks_of, AreNumbered};
+ghost use Rattle.joining.specs.Sources.{AtomsLend, block_of, blocks_of, AreNumbered};
 
 use crate::place::is_settled;
 use crate::source::Atom;
@@ -38,28 +36,8 @@ fn own_parts<'c>(
     Ok(own)
 }
 
-// Puts the row after the others, where it meets all of the conditions.
-fn put_passing<'a>(
-    alloc: Global,
-    columns: &[Column],
-    conds: &[&Cond],
-    kept: &mut Vec<TimedRow<'a>>,
-    row: TimedRow<'a>,
-) -> Result<(), NoMemory>
-    requires { IsValidRow (map shown row.values.items) }
-    ensures { OnOk result (kept.new.items ≡ kept.old.items
-        ++ (if meets_all columns.now (borrowed_tests conds.now) (entry_of row.entry).item
-        then row.entry ∷ [] else [])) }
-{
-    if !all_met(alloc, conds, columns, &row.values)? {
-        return Ok(());
-    }
-    kept.push(row)?;
-    Ok(())
-}
-
-// The rows that meet all of the conditions.
-fn passing<'a>(
+/// The rows that meet all of the conditions, in their order. They move down in place.
+pub(crate) fn passing<'a>(
     alloc: Global,
     columns: &[Column],
     conds: &[&Cond],
@@ -70,17 +48,25 @@ fn passing<'a>(
         ≡ filter (λ (t : OneRow). meets_all columns.now (borrowed_tests conds.now)
         (entry_of t).item) rows.entry.items) }
 {
-    let mut kept = Vec::new(alloc);
-    for row in rows {
-        put_passing(alloc, columns, conds, &mut kept, row)?;
+    let mut rows = rows;
+    let mut kept = 0;
+    let mut next = 0;
+    'rows: while next < rows.len() {
+        if all_met(alloc, conds, columns, &rows[next].values)? {
+            rows.swap(kept, next);
+            kept += 1;
+        }
+        next += 1;
     }
-    Ok(kept)
+    rows.truncate(kept);
+    Ok(rows)
 }
 
 // The atom with those of its rows that meet the parts that speak of it alone.
 fn pruned<'a>(alloc: Global, parts: &[&Cond], atom: Atom<'a>) -> Result<Atom<'a>, NoMemory>
-    ensures borrowed { AllBorrowed atom.entry.rows.items
-        → IfOk result (λ a. AllBorrowed a.rows.items) }
+    ensures borrowed { (lent : Lent)
+        → RowsLend lent atom.entry.columns.items atom.entry.rows.items
+        → IfOk result (λ a. RowsLend lent a.columns.items a.rows.items) }
     ensures pruned { (m : ℕ) → IfOk result (λ a.
         IsPruned (borrowed_tests parts.now) (block_of m atom.entry) (block_of m a)) }
 {
@@ -109,7 +95,8 @@ pub(crate) fn pruned_atoms<'a>(
 ) -> Result<Vec<Atom<'a>>, NoMemory>
     requires { AreNumbered atoms.items }
     ensures numbered { IfOk result (λ r. AreNumbered r.items) }
-    ensures borrowed { AtomsBorrowed atoms.entry.items → IfOk result (λ r. AtomsBorrowed r.items) }
+    ensures borrowed { (lent : Lent) → AtomsLend lent atoms.entry.items
+        → IfOk result (λ r. AtomsLend lent r.items) }
     ensures same { (outs : List Tree) → (cond : Test) → borrowed_tests parts.now ≡ parts_of cond
         → (m : ℕ) → IfOk result (λ r. answered outs cond (blocks_of m r.items)
         ≡ answered outs cond (blocks_of m atoms.entry.items)) }

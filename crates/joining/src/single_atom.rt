@@ -1,27 +1,33 @@
 //! What is answered over one atom alone. Its rows are gone over once, in their order: none is
-//! looked up, and where the outputs are the atom's own columns none is made anew.
+//! looked up, and where the outputs are the atom's own columns the rows stay where they are.
 
 ghost use Rattle.std.specs.Prelude.{◌≡◌, ◌++◌, ◌∷◌, [], ℕ, true, false, List, map, length, IfOk};
 ghost use Rattle.std.specs.Prelude.{OnOk};
+ghost use Rattle.std.specs.List.{filter, filter_map};
 ghost use Rattle.relations.specs.Spans.{covers};
+ghost use Rattle.relations.specs.Timed.{Entry as OneEntry};
 ghost use Rattle.prima_base.specs.declared.value.Value.{Value as OneValue};
 ghost use Rattle.prima_base.specs.Order.{shown};
 ghost use Rattle.prima_base.specs.Timed.{entry_of, entries_of, rows_at};
-ghost use Rattle.cond_expr.specs.Rows.{AreBorrowed, cells};
+ghost use Rattle.cond_expr.specs.Rows.{cells};
 ghost use Rattle.cond_expr.specs.Seen.{tree, test};
+ghost use Rattle.cond_expr.specs.Trees.{always};
 ghost use Rattle.cond_expr.specs.Values.{value};
-ghost use Rattle.timed_choices.specs.Answering.{outputs, answer, answers};
+ghost use Rattle.coalesce.specs.Cutting.{cut_entry};
+ghost use Rattle.coalesce.specs.Joining.{HaveValuesOf};
+ghost use Rattle.timed_choices.specs.Answering.{outputs, answers};
 ghost use Rattle.timed_choices.specs.Blocks.{answered};
 ghost use Rattle.timed_choices.specs.Fitting.{Fit};
-ghost use Rattle.timed_choices.specs.Keeping.{value_at, IsValidRow};
-ghost use Rattle.timed_choices.specs.Lending.{AllBorrowed, AllStayBorrowed};
+ghost use Rattle.timed_choices.specs.Keeping.{value_at, meets, IsValidRow, AllValid};
+ghost use Rattle.timed_choices.specs.Lending.{Lent, RowLends, RowsLend, AllStayBorrowed};
 ghost use Rattle.joining.specs.InSlice.{in_slice, all_in_slice};
 ghost use Rattle.joining.specs.Sources.{block_of};
 
 use crate::answer::put_answer;
+use crate::own_part::passing;
 use crate::place::column_place;
 use crate::source::Atom;
-use crate::step::is_met;
+use coalesce::cut_to_slice;
 use cond_expr::{Column, Cond, Expr};
 use prima_base::{NoMemory, Period, TimedRow, meet};
 use std::alloc::Global;
@@ -53,50 +59,20 @@ fn are_columns(columns: &[Column], outs: &[Expr]) -> bool
     true
 }
 
-// Puts the choice after the rows where it meets the condition, as it is: its values are those of
-// the outputs.
-fn put_moved<'a>(
-    alloc: Global,
-    rows: &mut Vec<TimedRow<'a>>,
-    outs: &[Expr],
-    cond: &Cond,
-    columns: &[Column],
-    choice: TimedRow<'a>,
-) -> Result<(), NoMemory>
-    requires valid { IsValidRow (map shown choice.values.items) }
-    requires same { outputs columns.now (map tree outs.now) (map shown choice.values.items)
-        ≡ map shown choice.values.items }
-    ensures borrowed { AllStayBorrowed (map tree outs.now) rows.old.items
-        → AreBorrowed choice.entry.values.items
-        → OnOk result (AllStayBorrowed (map tree outs.now) rows.new.items) }
-    ensures rows { OnOk result (entries_of rows.new.items ≡ entries_of rows.old.items
-        ++ answer columns.now (map tree outs.now) (test cond.now) (entry_of choice.entry)) }
-{
-    if !is_met(alloc, cond, columns, &choice.values)? {
-        return Ok(());
-    }
-    rows.push(choice)?;
-    Ok(())
-}
-
-// Puts what the row answers in its moments of the slice after the rows. Where its values are those
-// of the outputs it is moved.
+// Puts what the row answers in its moments of the slice after the rows.
 fn put_in_slice<'a>(
     alloc: Global,
     rows: &mut Vec<TimedRow<'a>>,
     outs: &[Expr],
     cond: &Cond,
     columns: &[Column],
-    same: bool,
     slice: Period,
     row: TimedRow<'a>,
 ) -> Result<(), NoMemory>
-    requires valid { IsValidRow (map shown row.values.items) }
-    requires same { same ≡ true → outputs columns.now (map tree outs.now)
-        (map shown row.values.items) ≡ map shown row.values.items }
-    ensures borrowed { AllStayBorrowed (map tree outs.now) rows.old.items
-        → AreBorrowed row.entry.values.items → OnOk result
-        (AllStayBorrowed (map tree outs.now) rows.new.items) }
+    requires { IsValidRow (map shown row.values.items) }
+    ensures borrowed { (lent : Lent) → AllStayBorrowed lent (map tree outs.now) rows.old.items
+        → RowLends lent columns.now row.entry.values.items
+        → OnOk result (AllStayBorrowed lent (map tree outs.now) rows.new.items) }
     ensures rows { OnOk result (entries_of rows.new.items ≡ entries_of rows.old.items
         ++ answers columns.now (map tree outs.now) (test cond.now)
         (in_slice slice (entry_of row.entry))) }
@@ -106,13 +82,64 @@ fn put_in_slice<'a>(
         return Ok(());
     };
     let choice = TimedRow { values, period };
-    if same {
-        return put_moved(alloc, rows, outs, cond, columns, choice);
-    }
     put_answer(alloc, rows, outs, cond, columns, &choice)
 }
 
-// What the rows answer in their moments of the slice.
+// What the rows answer in their moments of the slice, each row made anew.
+fn made_rows<'a>(
+    alloc: Global,
+    outs: &[Expr],
+    cond: &Cond,
+    columns: &[Column],
+    slice: Period,
+    rows: Vec<TimedRow<'a>>,
+) -> Result<Vec<TimedRow<'a>>, NoMemory>
+    requires { AllValid (entries_of rows.items) }
+    ensures borrowed { (lent : Lent) → RowsLend lent columns.now rows.entry.items
+        → IfOk result (λ v. AllStayBorrowed lent (map tree outs.now) v.items) }
+    ensures rows { IfOk result (λ v. entries_of v.items
+        ≡ answers columns.now (map tree outs.now) (test cond.now)
+        (all_in_slice slice (entries_of rows.entry.items))) }
+{
+    let mut made = Vec::with_capacity(alloc, rows.len())?;
+    for row in rows {
+        put_in_slice(alloc, &mut made, outs, cond, columns, slice, row)?;
+    }
+    Ok(made)
+}
+
+// Whether the condition is TRUE.
+fn is_always(cond: &Cond) -> bool
+    ensures { result ≡ true → test cond.now ≡ always }
+{
+    matches!(cond, Cond::True)
+}
+
+// The rows that meet the condition, in their moments of the slice, as they are. Where the condition
+// is TRUE none is looked at.
+fn own_rows<'a>(
+    alloc: Global,
+    cond: &Cond,
+    columns: &[Column],
+    slice: Period,
+    rows: Vec<TimedRow<'a>>,
+) -> Result<Vec<TimedRow<'a>>, NoMemory>
+    requires { AllValid (entries_of rows.items) }
+    ensures values { IfOk result (λ v. HaveValuesOf rows.entry.items v.items) }
+    ensures rows { IfOk result (λ v. entries_of v.items
+        ≡ filter (λ (e : OneEntry (List OneValue)). meets columns.now (test cond.now) e.item)
+        (filter_map (cut_entry slice) (entries_of rows.entry.items))) }
+{
+    let mut rows = rows;
+    cut_to_slice(&mut rows, slice);
+    if is_always(cond) {
+        return Ok(rows);
+    }
+    passing(alloc, columns, &[cond], rows)
+}
+
+// What the rows answer in their moments of the slice. Where the outputs are the columns the rows
+// are their own answers.
 fn answered_rows<'a>(
     alloc: Global,
     outs: &[Expr],
@@ -122,18 +149,16 @@ fn answered_rows<'a>(
     rows: Vec<TimedRow<'a>>,
 ) -> Result<Vec<TimedRow<'a>>, NoMemory>
     requires { Fit (length columns.now) (entries_of rows.items) }
-    ensures borrowed { AllBorrowed rows.entry.items
-        → IfOk result (λ v. AllStayBorrowed (map tree outs.now) v.items) }
+    ensures borrowed { (lent : Lent) → RowsLend lent columns.now rows.entry.items
+        → IfOk result (λ v. AllStayBorrowed lent (map tree outs.now) v.items) }
     ensures rows { IfOk result (λ v. entries_of v.items
         ≡ answers columns.now (map tree outs.now) (test cond.now)
         (all_in_slice slice (entries_of rows.entry.items))) }
 {
-    let same = are_columns(columns, outs);
-    let mut answered = Vec::with_capacity(alloc, rows.len())?;
-    for row in rows {
-        put_in_slice(alloc, &mut answered, outs, cond, columns, same, slice, row)?;
+    if are_columns(columns, outs) {
+        return own_rows(alloc, cond, columns, slice, rows);
     }
-    Ok(answered)
+    made_rows(alloc, outs, cond, columns, slice, rows)
 }
 
 /// What outputs answer of the rows of one atom that meet the condition: at each moment of the slice
@@ -146,8 +171,9 @@ pub(crate) fn answer_atom<'a>(
     atom: Atom<'a>,
     slice: Period,
 ) -> Result<Vec<TimedRow<'a>>, NoMemory>
-    ensures borrowed { AllBorrowed atom.entry.rows.items
-        → IfOk result (λ rows. AllStayBorrowed (map tree outs.now) rows.items) }
+    ensures borrowed { (lent : Lent)
+        → RowsLend lent atom.entry.columns.items atom.entry.rows.items
+        → IfOk result (λ rows. AllStayBorrowed lent (map tree outs.now) rows.items) }
     ensures inside { (m : ℕ) → covers slice m ≡ false
         → IfOk result (λ rows. rows_at rows.items m ≡ []) }
     ensures rows { (m : ℕ) → covers slice m ≡ true

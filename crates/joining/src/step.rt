@@ -4,11 +4,12 @@ ghost use Rattle.std.specs.Prelude.{◌≡◌, ◌++◌, map, IfOk, OnOk, List};
 ghost use Rattle.std.specs.List.{flat_map};
 ghost use Rattle.std.specs.BTreeMap as tree;
 ghost use Rattle.prima_base.specs.declared.value.Value.{Value as OneValue};
-ghost use Rattle.prima_base.specs.Order.{row_cmp, shown};
+ghost use Rattle.prima_base.specs.Order.{row_cmp, shown, is_borrowed};
 ghost use Rattle.prima_base.specs.Timed.{entry_of, entries_of};
-ghost use Rattle.cond_expr.specs.Rows.{AreValid, AreBorrowed};
+ghost use Rattle.cond_expr.specs.Rows.{AreValid};
 ghost use Rattle.cond_expr.specs.Seen.{test};
-ghost use Rattle.timed_choices.specs.Lending.{AllBorrowed};
+ghost use Rattle.cond_expr.specs.declared.expr.Column.{Column as OneColumn};
+ghost use Rattle.timed_choices.specs.Lending.{Lent, RowLends, RowsLend};
 ghost use Rattle.timed_choices.specs.Choosing.{paired};
 ghost use Rattle.joining.specs.Grouping.{rows_of_runs};
 ghost use Rattle.timed_choices.specs.Keeping.{picked, meets, meets_all, passing, in_group};
@@ -58,12 +59,12 @@ pub(crate) fn all_met(
     }
 }
 
-// Puts the values after the others.
+// Puts the values after the others. A borrowed text stays borrowed.
 fn append<'a>(into: &mut Vec<Val<'a>>, values: &[Val<'a>]) -> Result<(), NoMemory>
     ensures values { OnOk result (map shown into.new.items ≡ map shown into.old.items
         ++ map shown values.now) }
-    ensures borrowed { AreBorrowed into.old.items → AreBorrowed values.now
-        → OnOk result (AreBorrowed into.new.items) }
+    ensures same { OnOk result (map is_borrowed into.new.items ≡ map is_borrowed into.old.items
+        ++ map is_borrowed values.now) }
 {
     for value in values {
         into.push(value.copy()?)?;
@@ -71,7 +72,7 @@ fn append<'a>(into: &mut Vec<Val<'a>>, values: &[Val<'a>]) -> Result<(), NoMemor
     Ok(())
 }
 
-// The values of both.
+// The values of both. A borrowed text stays borrowed.
 fn of_both<'a>(
     alloc: Global,
     first: &[Val<'a>],
@@ -79,8 +80,8 @@ fn of_both<'a>(
 ) -> Result<Vec<Val<'a>>, NoMemory>
     ensures values { IfOk result (λ v. map shown v.items ≡ map shown first.now
         ++ map shown second.now) }
-    ensures borrowed { AreBorrowed first.now → AreBorrowed second.now
-        → IfOk result (λ v. AreBorrowed v.items) }
+    ensures same { IfOk result (λ v. map is_borrowed v.items ≡ map is_borrowed first.now
+        ++ map is_borrowed second.now) }
 {
     let mut values = Vec::with_capacity(alloc, first.len().saturating_add(second.len()))?;
     append(&mut values, first)?;
@@ -100,8 +101,10 @@ fn put_pair<'a>(
 ) -> Result<(), NoMemory>
     requires choice { IsValidRow (map shown choice.now.values.items) }
     requires row { IsValidRow (map shown row.now.values.items) }
-    ensures borrowed { AllBorrowed into.old.items → AreBorrowed choice.now.values.items
-        → AreBorrowed row.now.values.items → OnOk result (AllBorrowed into.new.items) }
+    ensures borrowed { (lent : Lent) → (before : List OneColumn) → (own : List OneColumn)
+        → RowsLend lent (before ++ own) into.old.items
+        → RowLends lent before choice.now.values.items → RowLends lent own row.now.values.items
+        → OnOk result (RowsLend lent (before ++ own) into.new.items) }
     ensures rows { OnOk result (entries_of into.new.items ≡ entries_of into.old.items
         ++ paired (passing columns.now (borrowed_tests tests.now)) (entry_of choice.now)
         (entry_of row.now)) }
@@ -128,8 +131,10 @@ fn put_group<'a>(
 ) -> Result<(), NoMemory>
     requires choice { IsValidRow (map shown choice.now.values.items) }
     requires rows { AllValid (entries_of rows.now) }
-    ensures borrowed { AllBorrowed into.old.items → AreBorrowed choice.now.values.items
-        → AllBorrowed rows.now → OnOk result (AllBorrowed into.new.items) }
+    ensures borrowed { (lent : Lent) → (before : List OneColumn) → (own : List OneColumn)
+        → RowsLend lent (before ++ own) into.old.items
+        → RowLends lent before choice.now.values.items → RowsLend lent own rows.now
+        → OnOk result (RowsLend lent (before ++ own) into.new.items) }
     ensures rows { OnOk result (entries_of into.new.items ≡ entries_of into.old.items
         ++ flat_map (paired (passing columns.now (borrowed_tests tests.now)) (entry_of choice.now))
         (entries_of rows.now)) }
@@ -152,8 +157,10 @@ fn put_runs<'a>(
 ) -> Result<(), NoMemory>
     requires choice { IsValidRow (map shown choice.now.values.items) }
     requires rows { AllValid (entries_of (rows_of_runs runs.now)) }
-    ensures borrowed { AllBorrowed into.old.items → AreBorrowed choice.now.values.items
-        → AllBorrowed (rows_of_runs runs.now) → OnOk result (AllBorrowed into.new.items) }
+    ensures borrowed { (lent : Lent) → (before : List OneColumn) → (own : List OneColumn)
+        → RowsLend lent (before ++ own) into.old.items
+        → RowLends lent before choice.now.values.items → RowsLend lent own (rows_of_runs runs.now)
+        → OnOk result (RowsLend lent (before ++ own) into.new.items) }
     ensures rows { OnOk result (entries_of into.new.items ≡ entries_of into.old.items
         ++ flat_map (paired (passing columns.now (borrowed_tests tests.now)) (entry_of choice.now))
         (entries_of (rows_of_runs runs.now))) }
@@ -178,9 +185,12 @@ pub(crate) fn put_choice<'a>(
     requires choice { IsValidRow (map shown choice.now.values.items) }
     requires rows { (key : List OneValue) → AllValid
         (entries_of (in_group (tree.get row_cmp groups.now key))) }
-    ensures borrowed { AllBorrowed into.old.items → AreBorrowed choice.now.values.items
-        → ((key : List OneValue) → AllBorrowed (in_group (tree.get row_cmp groups.now key)))
-        → OnOk result (AllBorrowed into.new.items) }
+    ensures borrowed { (lent : Lent) → (before : List OneColumn) → (own_columns : List OneColumn)
+        → RowsLend lent (before ++ own_columns) into.old.items
+        → RowLends lent before choice.now.values.items
+        → ((key : List OneValue)
+        → RowsLend lent own_columns (in_group (tree.get row_cmp groups.now key)))
+        → OnOk result (RowsLend lent (before ++ own_columns) into.new.items) }
     ensures rows { OnOk result (entries_of into.new.items ≡ entries_of into.old.items
         ++ flat_map (paired (passing columns.now (borrowed_tests tests.now)) (entry_of choice.now))
         (entries_of (in_group (tree.get row_cmp groups.now

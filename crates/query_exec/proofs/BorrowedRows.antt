@@ -1,191 +1,300 @@
 -- What is borrowed stays borrowed, from the pieces to the answer.
-use Rattle.std.proofs.Common.{◌≡◌, ◌<◌, ◌+◌, ℕ, zero, suc, List, [], ◌∷◌, ◌++◌, map, length, get_or}
-use Rattle.std.proofs.Common.{drop, sym, subst, inl, inr, arith}
-use Rattle.std.specs.Prelude.{◌⊎◌}
+use Rattle.std.proofs.Common.{◌≡◌, ◌<◌, ◌+◌, ℕ, zero, suc, Bool, true, false, not, List, [], ◌∷◌}
+use Rattle.std.proofs.Common.{◌++◌, map, length, get_or, drop, refl, sym, ap, ◌∙◌, subst}
+use Rattle.std.proofs.Common.{inl, inr, arith}
+use Rattle.std.specs.Prelude.{◌&&◌, ◌||◌, Option}
+use Rattle.std.proofs.lemmas.Bool.Decides.{nat_tests}
 use Rattle.relations.specs.Sets.{In}
-use Rattle.relations.proofs.SetLaws.{in_append}
+use Rattle.relations.proofs.SetLaws.{in_left, in_right, in_map, from_map, in_flat_map}
+use Rattle.relations.proofs.SetLaws.{from_flat_map}
 use Rattle.prima_base.specs.declared.value.Val.{Val}
 use Rattle.prima_base.specs.declared.timed_row.TimedRow.{TimedRow}
-use Rattle.cond_expr.specs.Rows.{AreBorrowed}
-use Rattle.cond_expr.specs.Trees.{Tree, Test}
+use Rattle.prima_base.specs.Order.{same}
+use Rattle.prima_base.specs.Columns.{Column, names_of}
 use Rattle.cond_expr.specs.declared.expr.ColRef.{ColRef}
+use Rattle.cond_expr.specs.declared.expr.Column.{Column as AtomColumn}
+use Rattle.cond_expr.specs.declared.expr.Whose.TheVariants.{Atom as AtAtom}
+use Rattle.cond_expr.specs.AtomColumns.{columns_at}
+use Rattle.cond_expr.specs.Kinds.{Kinds}
+use Rattle.cond_expr.specs.Trees.{Tree, Test}
+use Rattle.prima_base.specs.declared.value.ColType.{ColType}
 use Rattle.smo_types.specs.Commands.{PlainVersion}
-use Rattle.timed_choices.specs.Lending.{StaysBorrowed, AllBorrowed, AllStayBorrowed}
-use Rattle.timed_choices.proofs.BorrowedLaws.{borrowed_member, all_members}
-use Rattle.coalesce.specs.Joining.{HaveValuesOf}
+use Rattle.smo_meaning.specs.Past.{no_tables, tables_from}
+use Rattle.smo_meaning.proofs.NameLaws.{same_itself}
+use Rattle.timed_choices.specs.Lending.{EachRow, Lent, all_lent, RowLends, RowsLend, is_plain}
+use Rattle.timed_choices.specs.Lending.{StaysBorrowed, AllStayBorrowed}
+use Rattle.timed_choices.proofs.BorrowedLaws.{each_both, each_member, all_members}
 use Rattle.joining.specs.declared.source.Atom.{Atom}
-use Rattle.joining.specs.Sources.{AtomsBorrowed}
-use Rattle.joining.proofs.CoalescedRows.{stays_in}
-use Rattle.plain_answers.specs.Branches.{Item, PlainBranch}
+use Rattle.joining.specs.Sources.{AtomsLend}
+use Rattle.plain_answers.specs.Branches.{Item}
 use Rattle.plain_answers.specs.Reading.{Read}
-use Rattle.piece_meaning.specs.Pieces.{PlainPiece, out_trees}
-use Rattle.piece_meaning.specs.Rules.{Book}
+use Rattle.piece_meaning.specs.Pieces.{PlainPiece, out_names, out_trees}
+use Rattle.piece_meaning.specs.Rules.{Book, IsValidBook}
+use Rattle.piece_meaning.specs.Typed.{atom_kinds, typed_names}
 use Rattle.piece_ir.specs.Shown.{piece_of, pieces_of}
 use Rattle.piece_ir.specs.declared.piece.Piece.{Piece}
 use Rattle.piece_texts.specs.ExplainedPieces.{PlainExplained}
+use Rattle.rewrite_chains.specs.Beginnings.{first_piece, own_column}
+use Rattle.rewrite_chains.specs.Chains.{unfolded_to}
+use Rattle.rewrite_chains.proofs.ReadMoments.{table_output}
 use Rattle.period_split.specs.Splitting.{Part}
 use Rattle.query_types.specs.Branches.{branch_of, branches_of}
 use Rattle.query_types.specs.declared.branch.Branch.{Branch}
 use Rattle.query_exec.specs.declared.part_piece.PartPieces.{PartPieces}
-use Rattle.query_exec.specs.Borrowed.{ArePlain, ComputeNothing, NoneComputes, NoneAliveComputes}
-use Rattle.query_exec.specs.Borrowed.{AreBorrowedBy}
+use Rattle.query_exec.specs.declared.route.Route.{Route}
+use Rattle.query_exec.specs.Borrowed.{computes, is_of, lent_by, IsBorrowedBy, ArePlain, AllPlain}
+use Rattle.query_exec.specs.Borrowed.{HaveLiving}
 use Rattle.query_exec.specs.Planned.{ArePlanned, own_pieces, planned_pieces}
 use Rattle.query_exec.specs.Questions.{own_read}
-use Rattle.query_exec.specs.QueryPieces.{explained_in, table_pieces, items_pieces, branch_pieces}
-use Rattle.query_exec.specs.QueryPieces.{branches_pieces}
-use Rattle.query_exec.proofs.AliveLaws.{halved, one_list, planned_alive}
+use Rattle.query_exec.specs.QueryPieces.{explained_in, part_pieces, table_pieces, items_pieces}
+use Rattle.query_exec.specs.QueryPieces.{branch_pieces, branches_pieces, IsAlive}
+use Rattle.query_exec.specs.Routes.{IsRoute, MayBeRead}
+use Rattle.query_exec.proofs.AliveLaws.{in_alive, planned_alive}
 use Rattle.query_exec.proofs.BranchRows.{branches_left}
 use Rattle.query_exec.proofs.ListSteps.{left_is}
+use Rattle.query_exec.proofs.PlanLaws.{none_lost}
 
--- ---- rows
+-- ---- rows of a piece
 
-all_plain_borrowed : (outs : List Tree) (values : List Val) → ArePlain outs
-    → StaysBorrowed outs values → AreBorrowed values
-all_plain_borrowed [] [] p s = tt
-all_plain_borrowed [] (v ∷ values) p s = absurd s
-all_plain_borrowed (t ∷ outs) [] p s = absurd s
-all_plain_borrowed (t ∷ outs) (v ∷ values) p s = (s.0 p.0, all_plain_borrowed outs values p.1 s.1)
-
--- where all outputs are plain columns, all is borrowed
-pub plain_borrowed : (outs : List Tree) (rows : List TimedRow) → ArePlain outs
-    → AllStayBorrowed outs rows → AllBorrowed rows
-plain_borrowed outs [] p l = tt
-plain_borrowed outs (r ∷ rows) p l = (
-  all_plain_borrowed outs r.values.items p l.0,
-  plain_borrowed outs rows p l.1,
+plain_lends : (lent : Lent) (columns : List AtomColumn) (outs : List Tree) (values : List Val)
+    → ArePlain lent columns outs → StaysBorrowed all_lent outs values
+    → RowLends lent columns values
+plain_lends lent [] [] [] p s = tt
+plain_lends lent [] [] (v ∷ values) p s = absurd s
+plain_lends lent [] (t ∷ outs) values p s = absurd p
+plain_lends lent (c ∷ columns) [] values p s = absurd p
+plain_lends lent (c ∷ columns) (t ∷ outs) [] p s = absurd s
+plain_lends lent (c ∷ columns) (t ∷ outs) (v ∷ values) p s = (
+  λ so. s.0 (p.0 so),
+  plain_lends lent columns outs values p.1 s.1,
 )
 
-borrowed_both : (xs ys : List TimedRow) → AllBorrowed xs → AllBorrowed ys → AllBorrowed (xs ++ ys)
-borrowed_both [] ys l k = k
-borrowed_both (x ∷ xs) ys l k = (l.0, borrowed_both xs ys l.1 k)
+-- where each output whose column is lent is a plain column, the rows lend these columns
+pub piece_lends : (lent : Lent) (columns : List AtomColumn) (outs : List Tree)
+    (rows : List TimedRow) → ArePlain lent columns outs → AllStayBorrowed all_lent outs rows
+    → RowsLend lent columns rows
+piece_lends lent columns outs [] p l = tt
+piece_lends lent columns outs (r ∷ rows) p l = (
+  plain_lends lent columns outs r.values.items p l.0,
+  piece_lends lent columns outs rows p l.1,
+)
 
-pub borrowed_joined : (old news new : List TimedRow) → new ≡ old ++ news → AllBorrowed old
-    → AllBorrowed news → AllBorrowed new
-borrowed_joined old news new e l k = subst AllBorrowed (sym e) (borrowed_both old news l k)
+pub each_joined : (so : List Val → Type 0) (old news new : List TimedRow) → new ≡ old ++ news
+    → EachRow so old → EachRow so news → EachRow so new
+each_joined so old news new e l k = subst (EachRow so) (sym e) (each_both so old news l k)
 
--- rows with the values of others
-pub borrowed_values : (before after : List TimedRow) → HaveValuesOf before after
-    → AllBorrowed before → AllBorrowed after
-borrowed_values before after h l = all_members after
-    (λ row i. let r = h row i in subst AreBorrowed r.2 (borrowed_member before r.0 r.1 l))
+pub piece_at : (lent : Lent) (columns : List AtomColumn) (pieces : List Piece) (i : ℕ) (p : Piece)
+    → i < length pieces → p ≡ get_or pieces i p → AllPlain lent columns (pieces_of pieces)
+    → ArePlain lent columns (out_trees (piece_of p).outs)
+piece_at lent columns [] i p below is h = absurd (omega arith)
+piece_at lent columns (x ∷ pieces) zero p below is h = h (piece_of p) (inl (ap piece_of (sym is)))
+piece_at lent columns (x ∷ pieces) (suc i) p below is h =
+    piece_at lent columns pieces i p (omega arith) is (λ q m. h q (inr m))
 
--- ---- pieces
+-- ---- the pieces of a table
 
-pub piece_at : (pieces : List Piece) (i : ℕ) (p : Piece) → i < length pieces → p ≡ get_or pieces i p
-    → ComputeNothing (pieces_of pieces) → ArePlain (out_trees (piece_of p).outs)
-piece_at [] i p below is h = absurd (omega arith)
-piece_at (x ∷ pieces) zero p below is h = subst
-    (λ (y : Piece). ArePlain (out_trees (piece_of y).outs)) (sym is) h.0
-piece_at (x ∷ pieces) (suc i) p below is h = piece_at pieces i p (omega arith) is h.1
+-- what is said of each piece that is not dead is said of each that is planned
+pub plan_plain : (versions : List PlainVersion) (book : Book) (q : ℕ) (table : List ℕ) (r : Read)
+    (branch atom : ℕ) (parts : List Part) (plan : List PartPieces) (lent : Lent)
+    (columns : List AtomColumn) → ArePlanned book versions q table r parts plan
+    → ((e : PlainExplained) → IsAlive versions (table_pieces book versions q table r branch atom
+    parts) e → ArePlain lent columns (out_trees e.piece.outs))
+    → (x : PartPieces) → In x plan → AllPlain lent columns (pieces_of x.pieces.items)
+plan_plain versions book q table r branch atom parts plan lent columns planned h x m = λ p k.
+    h (explained_in branch atom x.part p)
+    (in_alive versions (table_pieces book versions q table r branch atom parts)
+    (planned_pieces branch atom plan) (explained_in branch atom x.part p)
+    (planned_alive versions book q table r branch atom parts plan planned)
+    (in_flat_map (own_pieces branch atom) x (explained_in branch atom x.part p) plan m
+    (in_map (explained_in branch atom x.part) p (pieces_of x.pieces.items) k)))
 
-both_none : (xs ys : List PlainExplained) → NoneComputes (xs ++ ys) → NoneComputes xs
-    × NoneComputes ys
-both_none [] ys h = (tt, h)
-both_none (x ∷ xs) ys h = let r = both_none xs ys h.1 in ((h.0, r.0), r.1)
+-- ---- a column that no piece computes
 
-own_none : (branch atom : ℕ) (p : Part) (ps : List PlainPiece)
-    → NoneComputes (map (explained_in branch atom p) ps) → ComputeNothing ps
-own_none branch atom p [] h = tt
-own_none branch atom p (x ∷ ps) h = (h.0, own_none branch atom p ps h.1)
+both_true : (a b : Bool) → (a && b) ≡ true → (a ≡ true) × (b ≡ true)
+both_true true true e = (refl, refl)
+both_true true false e = absurd (cc)
+both_true false b e = absurd (cc)
 
-planned_none : (branch atom : ℕ) (plan : List PartPieces)
-    → NoneComputes (planned_pieces branch atom plan) → (x : PartPieces) → In x plan
-    → ComputeNothing (pieces_of x.pieces.items)
-planned_none branch atom [] h x m = absurd m
-planned_none branch atom (y ∷ plan) h x m =
-    let r = both_none (own_pieces branch atom y) (planned_pieces branch atom plan) h in
-    elim m [
-      | inl e ↦ subst (λ (z : PartPieces). ComputeNothing (pieces_of z.pieces.items)) e
-          (own_none branch atom y.part (pieces_of y.pieces.items) r.0)
-      | inr k ↦ planned_none branch atom plan r.1 x k
-    ]
+neither : (a b : Bool) → (a || b) ≡ false → (a ≡ false) × (b ≡ false)
+neither false false e = (refl, refl)
+neither false true e = absurd (cc)
+neither true b e = absurd (cc)
 
-module _ (versions : List PlainVersion) where
-  pub none_halved : (xs ys : List PlainExplained) → NoneAliveComputes versions (xs ++ ys)
-      → NoneAliveComputes versions xs × NoneAliveComputes versions ys
-  none_halved xs ys h =
-      let halves = halved versions xs ys h.alive h.are in
-      let r = both_none halves.first halves.second (subst NoneComputes halves.both h.none) in (
-        record { alive = halves.first; are = halves.left; none = r.0 },
-        record { alive = halves.second; are = halves.right; none = r.1 },
-      )
+second_false : (a b : Bool) → a ≡ true → not (a && b) ≡ true → b ≡ false
+second_false a true e h = absurd (cc)
+second_false a false e h = refl
 
-  -- of a table's pieces, those that are planned
-  pub plan_none : (book : Book) (q : ℕ) (table : List ℕ) (r : Read) (branch atom : ℕ)
-      (parts : List Part) (plan : List PartPieces) → ArePlanned book versions q table r parts plan
-      → NoneAliveComputes versions (table_pieces book versions q table r branch atom parts)
-      → (x : PartPieces) → In x plan → ComputeNothing (pieces_of x.pieces.items)
-  plan_none book q table r branch atom parts plan planned h =
-      planned_none branch atom plan
-      (subst NoneComputes (one_list versions (table_pieces book versions q table r branch atom
-      parts) h.alive (planned_pieces branch atom plan) h.are
-      (planned_alive versions book q table r branch atom parts plan planned)) h.none)
+first_true : (a b : Bool) → a ≡ true → (a && not b) ≡ false → b ≡ true
+first_true a true e h = refl
+first_true a false e h = absurd (cc)
+
+not_computed : (branch place : ℕ) (n : List ℕ) (pieces : List PlainExplained) (e : PlainExplained)
+    → In e pieces → e.branch ≡ branch → e.atom ≡ place + 1
+    → lent_by pieces branch (AtAtom place) n ≡ true → computes n e.piece.outs ≡ false
+not_computed branch place n [] e m b a h = absurd m
+not_computed branch place n (x ∷ pieces) e (inl i) b a h =
+    let own : is_of branch (AtAtom place) x ≡ true =
+    subst (λ (y : PlainExplained). is_of branch (AtAtom place) y ≡ true) (sym i)
+    (grind (arith, nat_tests)) in
+    subst (λ (y : PlainExplained). computes n y.piece.outs ≡ false) i
+    (second_false (is_of branch (AtAtom place) x) (computes n x.piece.outs) own
+    (both_true (not (is_of branch (AtAtom place) x && computes n x.piece.outs))
+    (lent_by pieces branch (AtAtom place) n) h).0)
+not_computed branch place n (x ∷ pieces) e (inr m) b a h =
+    not_computed branch place n pieces e m b a
+    (both_true (not (is_of branch (AtAtom place) x && computes n x.piece.outs))
+    (lent_by pieces branch (AtAtom place) n) h).1
+
+-- outputs with the names of columns, in their order
+plain_by_names : (lent : Lent) (place : ℕ) (columns : List Column) (outs : List (List ℕ × Tree))
+    → out_names outs ≡ names_of columns
+    → ((n : List ℕ) → lent (AtAtom place) n ≡ true → computes n outs ≡ false)
+    → ArePlain lent (columns_at place columns) (out_trees outs)
+plain_by_names lent place [] [] e h = tt
+plain_by_names lent place [] (o ∷ outs) e h = absurd (cc)
+plain_by_names lent place (c ∷ columns) [] e h = absurd (cc)
+plain_by_names lent place (c ∷ columns) (o ∷ outs) e h =
+    let first : o.0 ≡ c.0 = cc in
+    let more : out_names outs ≡ names_of columns = cc in (
+      λ so. first_true (same o.0 c.0) (is_plain o.1)
+          (ap (λ (n : List ℕ). same n c.0) first ∙ same_itself c.0)
+          (neither (same o.0 c.0 && not (is_plain o.1)) (computes c.0 outs) (h c.0 so)).0,
+      plain_by_names lent place columns outs more
+          (λ n so. (neither (same o.0 n && not (is_plain o.1)) (computes n outs) (h n so)).1),
+    )
+
+-- ---- the names of a piece's outputs
+
+names_typed : (of : Kinds) (outs : List (List ℕ × Tree))
+    → map (λ (o : List ℕ × Option ColType). o.0) (typed_names of outs) ≡ out_names outs
+names_typed of [] = refl
+names_typed of (o ∷ outs) = ap (λ (ns : List (List ℕ)). o.0 ∷ ns) (names_typed of outs)
+
+own_names : (names : List (List ℕ)) → out_names (map own_column names) ≡ names
+own_names [] = refl
+own_names (n ∷ names) = ap (λ (ns : List (List ℕ)). n ∷ ns) (own_names names)
+
+module _ (versions : List PlainVersion) (book : Book) (valid : IsValidBook book) (route : Route)
+    (is : IsRoute versions route) (table : List ℕ) (r : Read)
+    (may : MayBeRead versions route table r) where
+  -- those of a piece of one of the parts are the names that are asked for
+  piece_names : (p : Part) → In p route.parts.items → (piece : PlainPiece)
+      → In piece (unfolded_to book versions p.1 route.asked (first_piece table r ∷ []))
+      → out_names piece.outs ≡ r.names
+  piece_names p m piece i =
+      let before = atom_kinds (tables_from no_tables versions p.1) piece.atoms in
+      let after = atom_kinds (tables_from no_tables versions route.asked) (table ∷ []) in
+      sym (names_typed before piece.outs)
+      ∙ ap (map (λ (o : List ℕ × Option ColType). o.0))
+      (table_output versions may.question.valid book valid p.1 route.asked table r
+      may.question.question (none_lost versions route is table r may p m) piece i)
+      ∙ names_typed after (map own_column r.names)
+      ∙ own_names r.names
+
+  -- so those are plain columns that no piece of the item computes
+  pub item_plain : (columns : List Column) → names_of columns ≡ r.names → (branch place : ℕ)
+      (pieces : List PlainExplained) → HaveLiving versions
+      (table_pieces book versions route.asked table r branch (place + 1) route.parts.items) pieces
+      → (e : PlainExplained) → IsAlive versions
+      (table_pieces book versions route.asked table r branch (place + 1) route.parts.items) e
+      → ArePlain (lent_by pieces branch) (columns_at place columns) (out_trees e.piece.outs)
+  item_plain columns named_so branch place pieces living e alive =
+      let part = from_flat_map (part_pieces book versions route.asked table r branch (place + 1)) e
+      route.parts.items alive.among in
+      let made = from_map (explained_in branch (place + 1) part.0) e
+      (unfolded_to book versions part.0.1 route.asked (first_piece table r ∷ [])) part.2 in
+      plain_by_names (lent_by pieces branch) place columns e.piece.outs
+      (subst (λ (x : PlainExplained). out_names x.piece.outs ≡ names_of columns) made.2
+      (piece_names part.0 part.1 made.0 made.1 ∙ sym named_so))
+      (λ n so. not_computed branch place n pieces e (living e alive)
+      (ap (λ (x : PlainExplained). x.branch) (sym made.2))
+      (ap (λ (x : PlainExplained). x.atom) (sym made.2)) so)
+
+-- ---- pieces of two lists
+
+module _ (versions : List PlainVersion) (pieces : List PlainExplained) where
+  pub living_both : (xs ys : List PlainExplained) → HaveLiving versions (xs ++ ys) pieces
+      → HaveLiving versions xs pieces × HaveLiving versions ys pieces
+  living_both xs ys h = (
+    λ e a. h e (record { among = in_left e xs ys a.among; alive = a.alive }),
+    λ e a. h e (record { among = in_right e xs ys a.among; alive = a.alive }),
+  )
 
   module _ (book : Book) (q : ℕ) (parts : List Part) where
     -- of the items that are left, those of the next and of those after it
     pub next_item : (references : List ColRef) (cond : Test) (branch : ℕ) (from : List Item) (i : ℕ)
         (x : Item) → i < length from → x ≡ get_or from i x
-        → NoneAliveComputes versions (items_pieces book versions q parts references cond branch i
-        (drop i from))
-        → NoneAliveComputes versions (table_pieces book versions q x.0 (own_read i references cond)
-        branch (i + 1) parts) × NoneAliveComputes versions
+        → HaveLiving versions (items_pieces book versions q parts references cond branch i
+        (drop i from)) pieces
+        → HaveLiving versions (table_pieces book versions q x.0 (own_read i references cond)
+        branch (i + 1) parts) pieces × HaveLiving versions
         (items_pieces book versions q parts references cond branch (i + 1) (drop (i + 1) from))
+        pieces
     next_item references cond branch from i x below is h =
-        none_halved (table_pieces book versions q x.0 (own_read i references cond) branch (i + 1)
+        living_both (table_pieces book versions q x.0 (own_read i references cond) branch (i + 1)
         parts) (items_pieces book versions q parts references cond branch (i + 1)
         (drop (i + 1) from))
-        (subst (λ (xs : List Item). NoneAliveComputes versions
-        (items_pieces book versions q parts references cond branch i xs))
+        (subst (λ (xs : List Item). HaveLiving versions
+        (items_pieces book versions q parts references cond branch i xs) pieces)
         (left_is from i x below is) h)
 
     pub next_branch : (branches : List Branch) (i : ℕ) (b : Branch) → i < length branches
         → b ≡ get_or branches i b → (number : ℕ)
-        → NoneAliveComputes versions (branches_pieces book versions q parts (number + i)
-        (branches_of (drop i branches)))
-        → NoneAliveComputes versions (branch_pieces book versions q parts (number + i)
-        (branch_of b)) × NoneAliveComputes versions
+        → HaveLiving versions (branches_pieces book versions q parts (number + i)
+        (branches_of (drop i branches))) pieces
+        → HaveLiving versions (branch_pieces book versions q parts (number + i)
+        (branch_of b)) pieces × HaveLiving versions
         (branches_pieces book versions q parts (number + (i + 1))
-        (branches_of (drop (i + 1) branches)))
+        (branches_of (drop (i + 1) branches))) pieces
     next_branch branches i b below is number h =
         let e : (number + i) + 1 ≡ number + (i + 1) = omega arith in
-        subst (λ (n : ℕ). NoneAliveComputes versions
-        (branch_pieces book versions q parts (number + i) (branch_of b))
-        × NoneAliveComputes versions (branches_pieces book versions q parts n
-        (branches_of (drop (i + 1) branches)))) e
-        (none_halved (branch_pieces book versions q parts (number + i) (branch_of b))
+        subst (λ (n : ℕ). HaveLiving versions
+        (branch_pieces book versions q parts (number + i) (branch_of b)) pieces
+        × HaveLiving versions (branches_pieces book versions q parts n
+        (branches_of (drop (i + 1) branches))) pieces) e
+        (living_both (branch_pieces book versions q parts (number + i) (branch_of b))
         (branches_pieces book versions q parts ((number + i) + 1)
         (branches_of (drop (i + 1) branches)))
-        (subst (NoneAliveComputes versions) (branches_left branches i b below is book versions q
-        parts (number + i)) h))
+        (subst (λ (es : List PlainExplained). HaveLiving versions es pieces)
+        (branches_left branches i b below is book versions q parts (number + i)) h))
 
 -- ---- atoms
 
-with_atom : (atoms : List Atom) (a : Atom) → AtomsBorrowed atoms → AllBorrowed a.rows.items
-    → AtomsBorrowed (atoms ++ a ∷ [])
-with_atom [] a l k = (k, tt)
-with_atom (x ∷ atoms) a l k = (l.0, with_atom atoms a l.1 k)
+with_atom : (lent : Lent) (atoms : List Atom) (a : Atom) → AtomsLend lent atoms
+    → RowsLend lent a.columns.items a.rows.items → AtomsLend lent (atoms ++ a ∷ [])
+with_atom lent [] a l k = (k, tt)
+with_atom lent (x ∷ atoms) a l k = (l.0, with_atom lent atoms a l.1 k)
 
-pub atom_more : (atoms new : List Atom) (a : Atom) → new ≡ atoms ++ a ∷ [] → AtomsBorrowed atoms
-    → AllBorrowed a.rows.items → AtomsBorrowed new
-atom_more atoms new a e l k = subst AtomsBorrowed (sym e) (with_atom atoms a l k)
+pub atom_more : (lent : Lent) (atoms new : List Atom) (a : Atom) → new ≡ atoms ++ a ∷ []
+    → AtomsLend lent atoms → RowsLend lent a.columns.items a.rows.items → AtomsLend lent new
+atom_more lent atoms new a e l k = subst (AtomsLend lent) (sym e) (with_atom lent atoms a l k)
 
 -- ---- branches
 
-pub branch_more : (branches : List Branch) (b : Branch) (old news new : List TimedRow)
-    → new ≡ old ++ news → In (branch_of b) (branches_of branches)
-    → AreBorrowedBy (branches_of branches) old → AllStayBorrowed (branch_of b).outs news
-    → AreBorrowedBy (branches_of branches) new
-branch_more branches b old news new e among l s = λ row m.
-    step row (in_append row old news (subst (λ (xs : List TimedRow). In row xs) e m))
-  where
-    step : (row : TimedRow) → In row old ⊎ In row news → (c : PlainBranch)
-        × In c (branches_of branches) × StaysBorrowed c.outs row.values.items
-    step row (inl k) = l row k
-    step row (inr k) = (branch_of b, among, stays_in (branch_of b).outs news row k s)
+-- values of one of the branches are so of all of them
+among_branches : (pieces : List PlainExplained) (number : ℕ) (branches : List Branch) (i : ℕ)
+    (b : Branch) → i < length branches → b ≡ get_or branches i b → (values : List Val)
+    → StaysBorrowed (lent_by pieces (number + i)) (branch_of b).outs values
+    → IsBorrowedBy pieces number (branches_of branches) values
+among_branches pieces number [] i b below is values s = absurd (omega arith)
+among_branches pieces number (x ∷ branches) zero b below is values s =
+    let e : number + 0 ≡ number = omega arith in
+    inl (subst (λ (n : ℕ). StaysBorrowed (lent_by pieces n) (branch_of x).outs values) e
+    (subst (λ (y : Branch). StaysBorrowed (lent_by pieces (number + 0)) (branch_of y).outs values)
+    is s))
+among_branches pieces number (x ∷ branches) (suc i) b below is values s =
+    let e : number + suc i ≡ (number + 1) + i = omega arith in
+    inr (among_branches pieces (number + 1) branches i b (omega arith) is values
+    (subst (λ (n : ℕ). StaysBorrowed (lent_by pieces n) (branch_of b).outs values) e s))
 
-pub by_values : (branches : List PlainBranch) (before after : List TimedRow)
-    → HaveValuesOf before after → AreBorrowedBy branches before → AreBorrowedBy branches after
-by_values branches before after h l = λ row m.
-    let r = h row m in
-    let b = l r.0 r.1 in
-    (b.0, b.1, subst (StaysBorrowed b.0.outs) r.2 b.2)
+pub branch_more : (pieces : List PlainExplained) (number : ℕ) (branches : List Branch) (i : ℕ)
+    (b : Branch) → i < length branches → b ≡ get_or branches i b
+    → (old news new : List TimedRow) → new ≡ old ++ news
+    → EachRow (IsBorrowedBy pieces number (branches_of branches)) old
+    → AllStayBorrowed (lent_by pieces (number + i)) (branch_of b).outs news
+    → EachRow (IsBorrowedBy pieces number (branches_of branches)) new
+branch_more pieces number branches i b below is old news new e l s =
+    each_joined (IsBorrowedBy pieces number (branches_of branches)) old news new e l
+    (all_members (IsBorrowedBy pieces number (branches_of branches)) news
+    (λ row m. among_branches pieces number branches i b below is row.values.items
+    (each_member (StaysBorrowed (lent_by pieces (number + i)) (branch_of b).outs) news row m s)))

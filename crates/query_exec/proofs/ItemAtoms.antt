@@ -6,7 +6,7 @@ use Rattle.std.proofs.lemmas.List.{length-map, length-take-le}
 use Rattle.relations.specs.Sets.{set_of}
 use Rattle.relations.specs.Spans.{covers}
 use Rattle.relations.specs.Listing.{IsListing}
-use Rattle.prima_base.specs.Columns.{Column}
+use Rattle.prima_base.specs.Columns.{Column, names_of}
 use Rattle.prima_base.specs.Timed.{rows_at, entries_of}
 use Rattle.prima_base.specs.Order.{row_cmp}
 use Rattle.prima_base.specs.declared.timed_row.TimedRow.{TimedRow}
@@ -17,11 +17,13 @@ use Rattle.smo_types.specs.Commands.{PlainVersion}
 use Rattle.smo_meaning.specs.Effects.{columns_of}
 use Rattle.smo_meaning.specs.Making.{named}
 use Rattle.smo_meaning.specs.OneRow.{Relation}
+use Rattle.smo_meaning.proofs.NextSchemas.{ordered_columns}
 use Rattle.schema_catalog.specs.Tables.{Tables}
 use Rattle.smo_meaning.specs.Past.{Past, no_tables, tables_from, tables_of}
 use Rattle.version_ways.specs.Migration.{migrated}
+use Rattle.version_ways.proofs.WayDatabases.{valid_at}
 use Rattle.version_groups.specs.Groups.{Kept, versions_in}
-use Rattle.version_groups.specs.Showing.{Represents}
+use Rattle.version_groups.specs.Representation.{Represents}
 use Rattle.plain_answers.specs.Choosing.{answers_over}
 use Rattle.cond_expr.specs.AtomColumns.{columns_at}
 use Rattle.plain_answers.specs.Branches.{Item, PlainBranch, item_columns, item_rows, branch_answers}
@@ -31,6 +33,8 @@ use Rattle.plain_answers.specs.Reading.{Read, read_columns, read_rows}
 use Rattle.piece_meaning.specs.Rules.{Book}
 use Rattle.piece_texts.specs.ExplainedPieces.{PlainExplained}
 use Rattle.timed_choices.specs.Fitting.{Fit, AreOwn}
+use Rattle.join_exec.proofs.LeftNames.{names_left}
+use Rattle.rewrite_chains.specs.Beginnings.{IsQuestion}
 use Rattle.joining.specs.declared.source.Atom.{Atom}
 use Rattle.joining.specs.Sources.{atom_rows, IsNumbered, AreNumbered, HaveAtoms}
 use Rattle.period_split.specs.Splitting.{Part}
@@ -267,6 +271,18 @@ module _ (kept : Kept) (past : Past) (shows : Represents kept past) (route : Rou
       listed_at (table_read past route.asked table r) route.slice (entries_of rows) listed_names m
       inside.0 inside.1
       (read_ascends past route.asked table r m)
+
+-- the names of its columns are those that are asked for
+pub item_names : (kept : Kept) (past : Past) → Represents kept past → (route : Route)
+    (table : List ℕ) (r : Read) → MayBeRead (versions_in kept) route table r
+    → names_of (named r.names (columns_of (tables_of past route.asked) table)) ≡ r.names
+item_names kept past shows route table r may =
+    let asked : IsQuestion (tables_of past route.asked) table r =
+    subst (λ (vs : List PlainVersion). IsQuestion (tables_from no_tables vs route.asked) table r)
+    shows.versions may.question.question in
+    names_left r.names (columns_of (tables_of past route.asked) table) asked.ascending
+    (ordered_columns (tables_of past route.asked) table
+    (valid_at past.versions shows.valid.evolved route.asked).schema) asked.columns
 
 -- ---- the atoms of a branch
 

@@ -14,7 +14,7 @@ use Rattle.smo_types.specs.Commands.{PlainVersion}
 use Rattle.smo_meaning.specs.Past.{Past, no_tables, tables_from, tables_of, version_at, database_at}
 use Rattle.version_ways.specs.LostNames.{lost_names}
 use Rattle.version_groups.specs.Groups.{Kept, versions_in}
-use Rattle.version_groups.specs.Showing.{Represents, IsInForce}
+use Rattle.version_groups.specs.Representation.{Represents, IsInForce}
 use Rattle.version_groups.proofs.OwnMoments.{own_version}
 use Rattle.plain_answers.specs.Reading.{Read}
 use Rattle.piece_meaning.specs.Pieces.{PlainPiece, all_mean}
@@ -25,9 +25,9 @@ use Rattle.piece_prune.specs.DeadPieces.{AreLiving, none_left, a_dead_one, a_liv
 use Rattle.piece_prune.proofs.Pruned.{mean_the_same}
 use Rattle.rewrite_chains.specs.Beginnings.{first_piece}
 use Rattle.rewrite_chains.specs.Chains.{unfolded_to}
-use Rattle.rewrite_chains.specs.Standing.{StandFor}
+use Rattle.rewrite_chains.specs.UnfoldedPieces.{StandFor}
 use Rattle.rewrite_chains.proofs.StaysLost.{none_forward}
-use Rattle.rewrite_chains.proofs.Standings.{stand_typed}
+use Rattle.rewrite_chains.proofs.UnfoldedPieceLaws.{stand_typed}
 use Rattle.period_split.specs.Splitting.{Part}
 use Rattle.query_exec.specs.declared.part_piece.PartPieces.{PartPieces}
 use Rattle.query_exec.specs.declared.route.Route.{Route}

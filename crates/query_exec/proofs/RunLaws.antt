@@ -18,8 +18,8 @@ use Rattle.smo_meaning.specs.Past.{Past, tables_of, database_at}
 use Rattle.cond_expr.specs.declared.expr.ColRef.{ColRef}
 use Rattle.history_store.specs.Store.{Store}
 use Rattle.version_groups.specs.Groups.{Kept, versions_in, table_in}
-use Rattle.version_groups.specs.Standing.{rows_stored}
-use Rattle.version_groups.specs.Showing.{Represents, IsInForce}
+use Rattle.version_groups.specs.NewestTables.{rows_stored}
+use Rattle.version_groups.specs.Representation.{Represents, IsInForce}
 use Rattle.plain_answers.specs.Choosing.{answers_over}
 use Rattle.plain_answers.specs.Naming.{all_references, names_at}
 use Rattle.piece_meaning.specs.Pieces.{PlainPiece, out_trees, means, all_mean}

@@ -28,7 +28,7 @@ use Rattle.plain_answers.specs.Reading.{Read, read_of}
 use Rattle.piece_meaning.specs.Pieces.{PlainPiece, all_mean}
 use Rattle.piece_meaning.specs.Rules.{Book, IsValidBook}
 use Rattle.rewrite_chains.specs.Beginnings.{IsQuestion}
-use Rattle.rewrite_chains.specs.Standing.{StandFor}
+use Rattle.rewrite_chains.specs.UnfoldedPieces.{StandFor}
 use Rattle.rewrite_chains.proofs.ReadMoments.{table_means}
 use Rattle.timed_choices.specs.Fitting.{Fit}
 use Rattle.timed_choices.specs.Keeping.{IsValidRow}

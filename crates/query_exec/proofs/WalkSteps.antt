@@ -5,7 +5,7 @@ use Rattle.std.specs.FinMap.{get}
 use Rattle.relations.specs.Sets.{In}
 use Rattle.relations.specs.Spans.{covers}
 use Rattle.version_groups.specs.Groups.{Kept, versions_in}
-use Rattle.version_groups.specs.Showing.{Represents, IsInForce}
+use Rattle.version_groups.specs.Representation.{Represents, IsInForce}
 use Rattle.version_groups.proofs.OwnMoments.{own_version}
 use Rattle.smo_types.specs.Commands.{PlainVersion}
 use Rattle.smo_meaning.specs.Past.{Past, no_tables, tables_from, tables_of, database_at}
@@ -14,13 +14,13 @@ use Rattle.plain_answers.specs.Reading.{Read}
 use Rattle.piece_meaning.specs.Pieces.{PlainPiece, all_mean}
 use Rattle.piece_meaning.specs.Typed.{AllTyped}
 use Rattle.piece_meaning.specs.Rules.{Book, IsValidBook}
-use Rattle.rewrite_chains.specs.Standing.{MayBeAsked, StandFor}
-use Rattle.rewrite_chains.proofs.Standings.{stand_typed}
+use Rattle.rewrite_chains.specs.UnfoldedPieces.{MayBeAsked, StandFor}
+use Rattle.rewrite_chains.proofs.UnfoldedPieceLaws.{stand_typed}
 use Rattle.period_split.specs.Splitting.{Part, AscendFrom}
 use Rattle.query_exec.specs.declared.route.Route.{Route}
 use Rattle.query_exec.specs.Questions.{table_read}
 use Rattle.query_exec.specs.Routes.{DescendFrom, IsOwn, IsRoute, MayBeRead}
-use Rattle.query_exec.specs.Standing.{AreBack, AreOn}
+use Rattle.query_exec.specs.RewrittenPieces.{AreBack, AreOn}
 use Rattle.query_exec.proofs.ListSteps.{left_is}
 use Rattle.query_exec.proofs.TableReads.{standing_means}
 

@@ -23,7 +23,7 @@ use Rattle.smo_meaning.proofs.Firsts.{none_of_first, none_mapped}
 use Rattle.version_ways.specs.LostNames.{lost_names}
 use Rattle.version_ways.specs.Migration.{migrated}
 use Rattle.version_groups.specs.Groups.{Kept, versions_in}
-use Rattle.version_groups.specs.Showing.{Represents}
+use Rattle.version_groups.specs.Representation.{Represents}
 use Rattle.version_groups.proofs.OwnMoments.{own_version}
 use Rattle.plain_answers.specs.Branches.{Item, PlainBranch, plain}
 use Rattle.plain_answers.specs.Naming.{all_references}

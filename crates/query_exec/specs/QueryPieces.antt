@@ -98,8 +98,8 @@ ArePieces book versions query list = AreAlive versions (all_pieces book versions
 abbrev pub alive_of : List PlainExplained → List PlainExplained
 alive_of list = filter (λ (e : PlainExplained). lives e.piece) list
 
--- The pieces of a query. Of one that is not refused, over groups that show its past, they are the
--- only ones: `explain` finds them, and `ArePieces` is met by one list at most.
+-- The pieces of a query. Of one that is not refused, over groups that represent its past, they are
+-- the only ones: `explain` finds them, and `ArePieces` is met by one list at most.
 abbrev pub living_pieces : Book → List PlainVersion → PlainQuery → List PlainExplained
 living_pieces book versions query = alive_of (all_pieces book versions query)
 

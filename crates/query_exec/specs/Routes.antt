@@ -8,9 +8,9 @@ use Rattle.relations.specs.Sets.{In}
 use Rattle.relations.specs.Spans.{Span, covers, forever}
 use Rattle.smo_types.specs.Commands.{PlainVersion}
 use Rattle.version_ways.specs.LostNames.{lost_names}
-use Rattle.version_groups.specs.Showing.{IsInForce}
+use Rattle.version_groups.specs.Representation.{IsInForce}
 use Rattle.plain_answers.specs.Reading.{Read}
-use Rattle.rewrite_chains.specs.Standing.{MayBeAsked}
+use Rattle.rewrite_chains.specs.UnfoldedPieces.{MayBeAsked}
 use Rattle.query_pieces.specs.Gathering.{HasMoment}
 use Rattle.period_split.specs.Splitting.{Part, AscendFrom}
 use Rattle.query_exec.specs.declared.route.Route.{Route}

@@ -6,7 +6,7 @@ use Rattle.relations.specs.Spans.{Span, covers}
 use Rattle.smo_meaning.specs.OneRow.{Relation}
 use Rattle.smo_meaning.specs.Past.{Past, tables_of, database_at}
 use Rattle.version_groups.specs.Groups.{Kept, table_in}
-use Rattle.version_groups.specs.Showing.{IsInForce}
+use Rattle.version_groups.specs.Representation.{IsInForce}
 use Rattle.piece_meaning.specs.Pieces.{PlainPiece, all_mean}
 use Rattle.piece_meaning.specs.Typed.{AllTyped}
 use Rattle.piece_ir.specs.Shown.{pieces_of}

@@ -11,7 +11,7 @@ ghost use Rattle.cond_expr.specs.Seen.{test};
 ghost use Rattle.smo_meaning.specs.Past.{Past, no_tables, tables_from, tables_of};
 ghost use Rattle.version_ways.specs.Migration.{migrated};
 ghost use Rattle.version_groups.specs.Groups.{versions_in};
-ghost use Rattle.version_groups.specs.Showing.{Represents};
+ghost use Rattle.version_groups.specs.Representation.{Represents};
 ghost use Rattle.plain_answers.specs.Branches.{branch_answers, plain};
 ghost use Rattle.query_types.specs.Branches.{branch_of, branches_of};
 ghost use Rattle.rewrite.specs.Books.{meaning_of, EachOf};
@@ -20,9 +20,9 @@ ghost use Rattle.query_exec.specs.Routes.{IsRoute};
 ghost use Rattle.piece_texts.specs.ExplainedPieces.{PlainExplained};
 ghost use Rattle.query_exec.specs.QueryPieces.{items_pieces, branch_pieces, branches_pieces};
 ghost use Rattle.query_exec.specs.QueryPieces.{AreAlive, IsAlive};
-ghost use Rattle.timed_choices.specs.Lending.{AllStayBorrowed};
-ghost use Rattle.joining.specs.Sources.{AtomsBorrowed};
-ghost use Rattle.query_exec.specs.Borrowed.{NoneAliveComputes, AreBorrowedBy};
+ghost use Rattle.timed_choices.specs.Lending.{EachRow, AllStayBorrowed};
+ghost use Rattle.joining.specs.Sources.{AtomsLend};
+ghost use Rattle.query_exec.specs.Borrowed.{lent_by, IsBorrowedBy, HaveLiving};
 ghost use Rattle.query_exec.specs.Reads.{explained_read, reads_of};
 
 use crate::item::read_item;
@@ -60,11 +60,12 @@ fn read_items<'a, L: Ledger>(
     ensures atoms { (past : Past) → Represents groups.now past
         → IfOk result (λ atoms. AreRead past route.now (borrowed references.now) (test cond.now) 0
         from.now atoms.items) }
-    ensures borrowed { (branch : ℕ) → NoneAliveComputes (versions_in groups.now)
+    ensures borrowed { (branch : ℕ) → (pieces : List PlainExplained)
+        → HaveLiving (versions_in groups.now)
         (items_pieces (meaning_of book.now.rules.items (λ r. handles (r.vtable, r.value))
         (λ r. answers (r.vtable, r.value))) (versions_in groups.now) route.now.asked
-        route.now.parts.items (borrowed references.now) (test cond.now) branch 0 from.now)
-        → IfOk result (λ atoms. AtomsBorrowed atoms.items) }
+        route.now.parts.items (borrowed references.now) (test cond.now) branch 0 from.now) pieces
+        → IfOk result (λ atoms. AtomsLend (lent_by pieces branch) atoms.items) }
     ensures cost { (branch : ℕ) → (alive : List PlainExplained)
         → AreAlive (versions_in groups.now) (items_pieces
         (meaning_of book.now.rules.items (λ r. handles (r.vtable, r.value))
@@ -111,11 +112,13 @@ fn answer_branch<'a, L: Ledger>(
         → IfOk result (λ rows. rows_at rows.items m
         ≡ set_of row_cmp (branch_answers (tables_of past route.now.asked)
         (migrated past m route.now.asked) (branch_of branch.now))) }
-    ensures borrowed { (number : ℕ) → NoneAliveComputes (versions_in groups.now)
+    ensures borrowed { (number : ℕ) → (pieces : List PlainExplained)
+        → HaveLiving (versions_in groups.now)
         (branch_pieces (meaning_of book.now.rules.items (λ r. handles (r.vtable, r.value))
         (λ r. answers (r.vtable, r.value))) (versions_in groups.now) route.now.asked
-        route.now.parts.items number (branch_of branch.now))
-        → IfOk result (λ rows. AllStayBorrowed (branch_of branch.now).outs rows.items) }
+        route.now.parts.items number (branch_of branch.now)) pieces
+        → IfOk result (λ rows. AllStayBorrowed (lent_by pieces number) (branch_of branch.now).outs
+        rows.items) }
     ensures cost { (number : ℕ) → (alive : List PlainExplained)
         → AreAlive (versions_in groups.now) (branch_pieces
         (meaning_of book.now.rules.items (λ r. handles (r.vtable, r.value))
@@ -166,11 +169,13 @@ pub(crate) fn answer_branches<'a, L: Ledger>(
         → IfOk result (λ rows. rows_at rows.items m
         ≡ plain (tables_of past route.now.asked) (branches_of branches.now)
         (migrated past m route.now.asked)) }
-    ensures borrowed { (number : ℕ) → NoneAliveComputes (versions_in groups.now)
+    ensures borrowed { (number : ℕ) → (pieces : List PlainExplained)
+        → HaveLiving (versions_in groups.now)
         (branches_pieces (meaning_of book.now.rules.items (λ r. handles (r.vtable, r.value))
         (λ r. answers (r.vtable, r.value))) (versions_in groups.now) route.now.asked
-        route.now.parts.items number (branches_of branches.now))
-        → IfOk result (λ rows. AreBorrowedBy (branches_of branches.now) rows.items) }
+        route.now.parts.items number (branches_of branches.now)) pieces
+        → IfOk result (λ rows. EachRow (IsBorrowedBy pieces number (branches_of branches.now))
+        rows.items) }
     ensures cost { (number : ℕ) → (alive : List PlainExplained)
         → AreAlive (versions_in groups.now) (branches_pieces
         (meaning_of book.now.rules.items (λ r. handles (r.vtable, r.value))

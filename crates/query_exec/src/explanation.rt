@@ -9,7 +9,7 @@ ghost use Rattle.piece_texts.specs.ExplainedPieces.{PlainExplained, explained_of
 ghost use Rattle.query_types.specs.Branches.{branch_of, branches_of};
 ghost use Rattle.query_types.specs.Queries.{query_of, IsLasting};
 ghost use Rattle.version_groups.specs.Groups.{versions_in};
-ghost use Rattle.version_groups.specs.Showing.{Represents};
+ghost use Rattle.version_groups.specs.Representation.{Represents};
 ghost use Rattle.rewrite.specs.Books.{meaning_of, EachOf};
 ghost use Rattle.query_exec.specs.Accepted.{MayItems, MayBranch, MayBranches, IsShown};
 ghost use Rattle.query_exec.specs.Planned.{planned_pieces};
@@ -220,7 +220,7 @@ fn explain_branches(
 /// The pieces of a query, just those that `answer` reads: for each branch and item in text order,
 /// and for each version that is in force in the slice, those into which what is asked of the item's
 /// table unfolds there, but for the dead. The query is one that is not refused, with each reference
-/// made one to an atom; the groups show the past, and the book has a rule for each kind of
+/// made one to an atom; the groups represent the past, and the book has a rule for each kind of
 /// operator. The one error is `NoMemory`, where memory runs out.
 pub fn explain(
     alloc: Global,

@@ -7,15 +7,15 @@ ghost use Rattle.smo_meaning.specs.Effects.{columns_of};
 ghost use Rattle.smo_meaning.specs.Making.{named};
 ghost use Rattle.smo_meaning.specs.Past.{Past, no_tables, tables_from};
 ghost use Rattle.version_groups.specs.Groups.{versions_in};
-ghost use Rattle.version_groups.specs.Showing.{Represents};
+ghost use Rattle.version_groups.specs.Representation.{Represents};
 ghost use Rattle.cond_expr.specs.AtomColumns.{columns_at};
 ghost use Rattle.rewrite.specs.Books.{meaning_of, EachOf};
 ghost use Rattle.query_exec.specs.Accepted.{IsRead};
 ghost use Rattle.query_exec.specs.Questions.{own_read};
 ghost use Rattle.piece_texts.specs.ExplainedPieces.{PlainExplained};
 ghost use Rattle.query_exec.specs.QueryPieces.{table_pieces, AreAlive, IsAlive};
-ghost use Rattle.timed_choices.specs.Lending.{AllBorrowed};
-ghost use Rattle.query_exec.specs.Borrowed.{NoneAliveComputes};
+ghost use Rattle.timed_choices.specs.Lending.{RowsLend};
+ghost use Rattle.query_exec.specs.Borrowed.{lent_by, HaveLiving};
 ghost use Rattle.query_exec.specs.Routes.{IsRoute, MayBeRead};
 ghost use Rattle.query_exec.specs.Reads.{explained_read, reads_of};
 
@@ -52,7 +52,8 @@ fn named_columns(
 }
 
 /// What is read of an item's table over the slice, in the columns that are named of it and the rows
-/// that meet the condition that is pushed to it, as the atom that is the item's place.
+/// that meet the condition that is pushed to it, as the atom that is the item's place. The texts of
+/// a column that no piece of the item computes are borrowed.
 pub(crate) fn read_item<'a, L: Ledger>(
     alloc: Global,
     groups: &'a Groups,
@@ -74,13 +75,13 @@ pub(crate) fn read_item<'a, L: Ledger>(
     ensures atom { (past : Past) → Represents groups.now past
         → IfOk result (λ a. IsRead past route.now place table.now
         (own_read place (borrowed references.now) (test cond.now)) a) }
-    ensures borrowed { (branch : ℕ) → (atom : ℕ)
-        → NoneAliveComputes (versions_in groups.now)
+    ensures borrowed { (branch : ℕ) → (pieces : List PlainExplained)
+        → HaveLiving (versions_in groups.now)
         (table_pieces (meaning_of book.now.rules.items (λ r. handles (r.vtable, r.value))
         (λ r. answers (r.vtable, r.value))) (versions_in groups.now) route.now.asked table.now
-        (own_read place (borrowed references.now) (test cond.now)) branch atom
-        route.now.parts.items)
-        → IfOk result (λ a. AllBorrowed a.rows.items) }
+        (own_read place (borrowed references.now) (test cond.now)) branch (place + 1)
+        route.now.parts.items) pieces
+        → IfOk result (λ a. RowsLend (lent_by pieces branch) a.columns.items a.rows.items) }
     ensures cost { (branch : ℕ) → (atom : ℕ) → (alive : List PlainExplained)
         → AreAlive (versions_in groups.now) (table_pieces
         (meaning_of book.now.rules.items (λ r. handles (r.vtable, r.value))
@@ -97,6 +98,7 @@ pub(crate) fn read_item<'a, L: Ledger>(
         → IfOk result (λ _. steps.old + explained_read groups.now e ≤ steps.new) }
     ensures rises { steps.old ≤ steps.new }
 {
+    book.known();
     let question = question_of(alloc, references, cond, place)?;
     let columns = named_columns(alloc, place, schema, table, &question.names)?;
     let rows = read_table(alloc, groups, book, route, table, &question, steps)?;

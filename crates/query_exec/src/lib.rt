@@ -3,7 +3,6 @@
 //! 2008).
 #![tactic(auto)]
 
-mod answers;
 mod branch;
 mod explanation;
 mod item;
@@ -11,13 +10,14 @@ mod laws;
 mod loss;
 mod part_piece;
 mod piece;
+mod query_answer;
 mod question;
 mod route;
 mod run;
 mod table;
 mod walk;
 
-pub use answers::answer;
 pub use explanation::explain;
 pub use laws::{a_run_is_read_as_each_of_its_parts, living_pieces_are_those_that_are_not_dead};
-pub use loss::first_loss;
+pub use loss::first_loss_in_slice;
+pub use query_answer::answer;

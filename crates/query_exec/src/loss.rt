@@ -6,7 +6,7 @@ ghost use Rattle.smo_types.specs.Commands.{versions_of};
 ghost use Rattle.smo_meaning.specs.Past.{Past};
 ghost use Rattle.query_types.specs.Queries.{query_of, IsLasting};
 ghost use Rattle.query_meaning.specs.Losing.{first_lost};
-ghost use Rattle.version_groups.specs.Showing.{Represents};
+ghost use Rattle.version_groups.specs.Representation.{Represents};
 ghost use Rattle.period_split.specs.Splitting.{AscendFrom};
 ghost use Rattle.query_exec.specs.Losing.{first_among, AllUpTo};
 
@@ -88,7 +88,7 @@ fn decided(
 /// exactly where none is. For n versions in the slice it is one walk along the versions where
 /// nothing is lost, else one more each time that n doubles. The one error is `NoMemory`, where
 /// memory runs out.
-pub fn first_loss(
+pub fn first_loss_in_slice(
     alloc: Global,
     groups: &Groups,
     query: &Query,

@@ -7,13 +7,14 @@ ghost use Rattle.relations.specs.Spans.{Span, covers};
 ghost use Rattle.prima_base.specs.Timed.{rows_at, entries_of};
 ghost use Rattle.smo_meaning.specs.OneRow.{Relation};
 ghost use Rattle.smo_meaning.specs.Past.{Past, tables_of};
-ghost use Rattle.version_groups.specs.Showing.{Represents};
+ghost use Rattle.version_groups.specs.Representation.{Represents};
 ghost use Rattle.piece_meaning.specs.Typed.{AllTyped};
 ghost use Rattle.piece_ir.specs.Shown.{pieces_of};
 ghost use Rattle.query_pieces.specs.Gathering.{IsGathered};
 ghost use Rattle.query_exec.specs.Runs.{IsMeant};
-ghost use Rattle.timed_choices.specs.Lending.{AllBorrowed};
-ghost use Rattle.query_exec.specs.Borrowed.{ComputeNothing};
+ghost use Rattle.cond_expr.specs.declared.expr.Column.{Column as AtomColumn};
+ghost use Rattle.timed_choices.specs.Lending.{Lent, RowsLend};
+ghost use Rattle.query_exec.specs.Borrowed.{AllPlain};
 ghost use Rattle.query_exec.specs.Reads.{pieces_read};
 
 use join_exec::run_piece;
@@ -56,8 +57,9 @@ fn run_pieces<'a, L: Ledger>(
         → IfOk result (λ rows. rows_at rows.items m ≡ meant) }
     ensures inside { (m : ℕ) → covers period m ≡ false
         → IfOk result (λ rows. rows_at rows.items m ≡ []) }
-    ensures borrowed { ComputeNothing (pieces_of pieces.now)
-        → IfOk result (λ rows. AllBorrowed rows.items) }
+    ensures borrowed { (lent : Lent) → (columns : List AtomColumn)
+        → AllPlain lent columns (pieces_of pieces.now)
+        → IfOk result (λ rows. RowsLend lent columns rows.items) }
     ensures cost { steps.new ≤ steps.old + pieces_read groups.now version (pieces_of pieces.now) }
     ensures counted { IfOk result (λ _. steps.new
         ≡ steps.old + pieces_read groups.now version (pieces_of pieces.now)) }
@@ -88,8 +90,9 @@ pub(crate) fn read_run<'a, L: Ledger>(
         (relation m))
         → (spans : List Span) → IsGathered relation spans (entries_of rows.old.items)
         → OnOk result (IsGathered relation (spans ++ run.0 ∷ []) (entries_of rows.new.items)) }
-    ensures borrowed { ComputeNothing (pieces_of pieces.now) → AllBorrowed rows.old.items
-        → OnOk result (AllBorrowed rows.new.items) }
+    ensures borrowed { (lent : Lent) → (columns : List AtomColumn)
+        → AllPlain lent columns (pieces_of pieces.now) → RowsLend lent columns rows.old.items
+        → OnOk result (RowsLend lent columns rows.new.items) }
     ensures cost { steps.new ≤ steps.old + pieces_read groups.now run.1 (pieces_of pieces.now) }
     ensures counted { OnOk result (steps.new ≡ steps.old + pieces_read groups.now run.1
         (pieces_of pieces.now)) }

@@ -10,8 +10,8 @@ ghost use Rattle.prima_base.specs.declared.timed_row.TimedRow.{TimedRow as OneRo
 ghost use Rattle.smo_meaning.specs.OneRow.{Relation};
 ghost use Rattle.smo_meaning.specs.Past.{Past, tables_of, database_at};
 ghost use Rattle.version_groups.specs.Groups.{versions_in};
-ghost use Rattle.version_groups.specs.Showing.{Represents};
-ghost use Rattle.piece_meaning.specs.Pieces.{all_mean};
+ghost use Rattle.version_groups.specs.Representation.{Represents};
+ghost use Rattle.piece_meaning.specs.Pieces.{all_mean, out_trees};
 ghost use Rattle.piece_meaning.specs.Typed.{AllTyped};
 ghost use Rattle.piece_ir.specs.Shown.{pieces_of};
 ghost use Rattle.rewrite.specs.Books.{meaning_of, EachOf};
@@ -21,8 +21,9 @@ ghost use Rattle.query_exec.specs.Questions.{table_read};
 ghost use Rattle.query_exec.specs.Planned.{ArePlanned, planned_spans};
 ghost use Rattle.piece_texts.specs.ExplainedPieces.{PlainExplained};
 ghost use Rattle.query_exec.specs.QueryPieces.{table_pieces, AreAlive, IsAlive};
-ghost use Rattle.timed_choices.specs.Lending.{AllBorrowed};
-ghost use Rattle.query_exec.specs.Borrowed.{ComputeNothing, NoneAliveComputes};
+ghost use Rattle.cond_expr.specs.declared.expr.Column.{Column as AtomColumn};
+ghost use Rattle.timed_choices.specs.Lending.{Lent, RowsLend};
+ghost use Rattle.query_exec.specs.Borrowed.{ArePlain, AllPlain};
 ghost use Rattle.query_exec.specs.Routes.{IsOwn, IsRoute, MayBeRead};
 ghost use Rattle.query_exec.specs.Reads.{part_read, explained_read, reads_of};
 ghost use Rattle.query_exec.specs.Totals.{total};
@@ -82,8 +83,9 @@ fn read_parts<'a, L: Ledger>(
         → all_mean (tables_of past x.part.1) (database_at past m) (pieces_of x.pieces.items)
         ≡ relation m)
         → IfOk result (λ rows. IsGathered relation (planned_spans plan.now) (entries_of rows.items)) }
-    ensures borrowed { ((x : OnePart) → In x plan.now → ComputeNothing (pieces_of x.pieces.items))
-        → IfOk result (λ rows. AllBorrowed rows.items) }
+    ensures borrowed { (lent : Lent) → (columns : List AtomColumn)
+        → ((x : OnePart) → In x plan.now → AllPlain lent columns (pieces_of x.pieces.items))
+        → IfOk result (λ rows. RowsLend lent columns rows.items) }
     ensures cost { steps.new ≤ steps.old + total (part_read groups.now) plan.now }
     ensures least { (x : OnePart) → In x plan.now
         → IfOk result (λ _. steps.old + part_read groups.now x ≤ steps.new) }
@@ -109,7 +111,7 @@ fn read_parts<'a, L: Ledger>(
 
 /// What is asked of the table, migrated to the asked version, at each moment of the slice: each row
 /// with its longest periods, over the borders of versions too. Its pieces are read, each of them,
-/// and nothing else; where none of them computes an output, all values are borrowed.
+/// and nothing else; the texts of outputs that are plain columns in each of them are borrowed.
 pub(crate) fn read_table<'a, L: Ledger>(
     alloc: Global,
     groups: &'a Groups,
@@ -127,12 +129,13 @@ pub(crate) fn read_table<'a, L: Ledger>(
         → IfOk result (λ rows. IsListing row_cmp
         (table_read past route.now.asked table.now (read_asked question.now)) route.now.slice
         (entries_of rows.items)) }
-    ensures borrowed { (branch : ℕ) → (atom : ℕ)
-        → NoneAliveComputes (versions_in groups.now)
+    ensures borrowed { (branch : ℕ) → (atom : ℕ) → (lent : Lent) → (columns : List AtomColumn)
+        → ((e : PlainExplained) → IsAlive (versions_in groups.now)
         (table_pieces (meaning_of book.now.rules.items (λ r. handles (r.vtable, r.value))
         (λ r. answers (r.vtable, r.value))) (versions_in groups.now) route.now.asked table.now
-        (read_asked question.now) branch atom route.now.parts.items)
-        → IfOk result (λ rows. AllBorrowed rows.items) }
+        (read_asked question.now) branch atom route.now.parts.items) e
+        → ArePlain lent columns (out_trees e.piece.outs))
+        → IfOk result (λ rows. RowsLend lent columns rows.items) }
     ensures cost { (branch : ℕ) → (atom : ℕ) → (alive : List PlainExplained)
         → AreAlive (versions_in groups.now) (table_pieces
         (meaning_of book.now.rules.items (λ r. handles (r.vtable, r.value))

@@ -6,15 +6,15 @@ ghost use Rattle.smo_types.specs.Commands.{versions_of};
 ghost use Rattle.smo_meaning.specs.Past.{Past};
 ghost use Rattle.version_ways.specs.LostNames.{lost_names};
 ghost use Rattle.version_groups.specs.Groups.{versions_in};
-ghost use Rattle.version_groups.specs.Showing.{Represents};
+ghost use Rattle.version_groups.specs.Representation.{Represents};
 ghost use Rattle.plain_answers.specs.Reading.{Read};
 ghost use Rattle.piece_ir.specs.Shown.{pieces_of};
 ghost use Rattle.rewrite.specs.Books.{meaning_of, EachOf};
-ghost use Rattle.rewrite_chains.specs.Standing.{MayBeAsked, StandFor};
+ghost use Rattle.rewrite_chains.specs.UnfoldedPieces.{MayBeAsked, StandFor};
 ghost use Rattle.query_exec.specs.Asked.{read_asked};
 ghost use Rattle.query_exec.specs.Planned.{ArePlanned};
 ghost use Rattle.query_exec.specs.Routes.{IsRoute, MayBeRead};
-ghost use Rattle.query_exec.specs.Standing.{AreBack, AreOn};
+ghost use Rattle.query_exec.specs.RewrittenPieces.{AreBack, AreOn};
 
 use crate::part_piece::{PartPieces, part_pieces};
 use crate::question::Question;

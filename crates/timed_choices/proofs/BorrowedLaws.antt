@@ -2,102 +2,259 @@
 use Rattle.std.proofs.Common.{◌≡◌, ℕ, zero, suc, ◌+◌, ◌<◌, arith, Bool, true, false, cond, List, []}
 use Rattle.std.proofs.Common.{◌∷◌, ◌++◌, append_assoc, map, take, length, get_or, refl, sym, ap}
 use Rattle.std.proofs.Common.{◌∙◌, subst, inl, inr}
-use Rattle.std.proofs.lemmas.List.{map-append, take_more}
+use Rattle.std.specs.Prelude.{◌&&◌, ◌==◌, pos}
+use Rattle.std.specs.Ordering.{is_eq}
+use Rattle.std.specs.declared.cmp.Ordering.{Ordering}
+use Rattle.std.specs.declared.cmp.Ordering.TheVariants.{Less, Equal, Greater}
+use Rattle.std.proofs.lemmas.Bool.Decides.{nat_tests}
+use Rattle.std.proofs.lemmas.List.{map-append, take_more, length-map}
 use Rattle.std.specs.List.{filter}
 use Rattle.prima_base.specs.declared.value.Value.{Value}
+use Rattle.prima_base.specs.declared.value.Value.TheVariants.{Int}
 use Rattle.relations.specs.Sets.{In}
 use Rattle.prima_base.specs.declared.value.Val.{Val}
 use Rattle.prima_base.specs.declared.value.Val.TheVariants.{Int as ValInt, Slice, Own}
 use Rattle.prima_base.specs.declared.timed_row.TimedRow.{TimedRow}
-use Rattle.prima_base.specs.Order.{shown, IsBorrowed, is_borrowed}
+use Rattle.prima_base.specs.Order.{shown, IsBorrowed, is_borrowed, same, bytes_cmp}
+use Rattle.prima_base.specs.OrderLaws.{bytes_exact}
+use Rattle.prima_base.specs.Timed.{entry_of, entries_of}
+use Rattle.prima_base.proofs.BorrowedVals.{stays_borrowed}
 use Rattle.cond_expr.specs.declared.expr.Whose.{Whose}
+use Rattle.cond_expr.specs.declared.expr.Whose.TheVariants.{Free, Alias, Atom}
 use Rattle.cond_expr.specs.declared.expr.Column.{Column}
 use Rattle.cond_expr.specs.declared.expr.Expr.{Expr}
 use Rattle.cond_expr.specs.Trees.{Tree, column, constant, length_of, joined, choose}
 use Rattle.cond_expr.specs.Values.{value}
 use Rattle.cond_expr.specs.Seen.{tree}
-use Rattle.cond_expr.specs.Rows.{AreBorrowed, names, flat, lies_elsewhere}
-use Rattle.timed_choices.specs.Lending.{AllBorrowed, IsPlain, StaysBorrowed, AllStayBorrowed}
+use Rattle.cond_expr.specs.Rows.{AreBorrowed, names, cells, flat, lies_elsewhere}
+use Rattle.timed_choices.specs.Answering.{outputs}
+use Rattle.timed_choices.specs.Fitting.{Fit}
+use Rattle.timed_choices.specs.Lending.{EachRow, AllBorrowed, Lent, RowLends, RowsLend, is_lent}
+use Rattle.timed_choices.specs.Lending.{StaysBorrowed}
 
--- one that shows what is borrowed, and lies elsewhere where that does
-borrowed_like : (columns : List Column) (values : List Val) (w : Whose) (n : List ℕ) (v : Val)
-    → AreBorrowed values → shown v ≡ flat columns values w n
-    → is_borrowed v ≡ lies_elsewhere columns values w n → IsBorrowed v
-borrowed_like columns values w n (ValInt k) l e b = tt
-borrowed_like columns values w n (Slice s) l e b = tt
-borrowed_like [] values w n (Own t) l e b = absurd (cc)
-borrowed_like (c ∷ columns) [] w n (Own t) l e b = absurd (cc)
-borrowed_like (c ∷ columns) (v ∷ values) w n (Own t) l e b =
-    step v (names w n c) (λ p q. borrowed_like columns values w n (Own t) l.1 p q) l.0 e b
+-- ---- columns that are lent
+
+-- what a reference names is the column that it speaks of
+named_lent : (lent : Lent) (w : Whose) (n : List ℕ) (c : Column) → names w n c ≡ true
+    → lent w n ≡ true → lent (Atom c.atom) c.name ≡ true
+named_lent lent Free n c e l = absurd (cc)
+named_lent lent (Alias a) n c e l = absurd (cc)
+named_lent lent (Atom i) n c e l =
+    let both = both_true (c.atom == i) (same n c.name) e in
+    let own : i ≡ c.atom = (let h = both.0 in grind (arith, nat_tests)) in
+    subst (λ (j : ℕ). lent (Atom j) c.name ≡ true) own
+    (subst (λ (name : List ℕ). lent (Atom i) name ≡ true) (same_name n c.name both.1) l)
   where
-    step : (x : Val) (named : Bool) → (shown (Own t) ≡ flat columns values w n
-        → false ≡ lies_elsewhere columns values w n → ⊥) → IsBorrowed x
-        → shown (Own t) ≡ cond named (shown x) (flat columns values w n)
-        → false ≡ cond named (is_borrowed x) (lies_elsewhere columns values w n) → ⊥
-    step (ValInt k) true f m p q = cc
-    step (Slice s) true f m p q = cc
-    step (Own u) true f m p q = m
-    step (ValInt k) false f m p q = f p q
-    step (Slice s) false f m p q = f p q
-    step (Own u) false f m p q = m
+    both_true : (a b : Bool) → (a && b) ≡ true → (a ≡ true) × (b ≡ true)
+    both_true true true e = (refl, refl)
+    both_true true false e = absurd (cc)
+    both_true false b e = absurd (cc)
 
-plain_borrowed : (columns : List Column) (values : List Val) (t : Tree) (v : Val)
-    → AreBorrowed values → shown v ≡ value (flat columns values) t
-    → ((w : Whose) → (n : List ℕ) → t ≡ column w n
-    → is_borrowed v ≡ lies_elsewhere columns values w n) → IsPlain t → IsBorrowed v
-plain_borrowed columns values (column w n) v l e b p =
-    borrowed_like columns values w n v l e (b w n refl)
-plain_borrowed columns values (constant x) v l e b p = absurd p
-plain_borrowed columns values (length_of t) v l e b p = absurd p
-plain_borrowed columns values (joined ts) v l e b p = absurd p
-plain_borrowed columns values (choose c x y) v l e b p = absurd p
+    same_name : (a b : List ℕ) → same a b ≡ true → a ≡ b
+    same_name a b e = step (bytes_cmp a b) refl e
+      where
+        step : (o : Ordering) → bytes_cmp a b ≡ o → is_eq o ≡ true → a ≡ b
+        step Less q h = absurd (cc)
+        step Equal q h = bytes_exact.same a b q
+        step Greater q h = absurd (cc)
 
-stays_with : (outs : List Tree) (values : List Val) (t : Tree) (v : Val) → StaysBorrowed outs values
-    → (IsPlain t → IsBorrowed v) → StaysBorrowed (outs ++ t ∷ []) (values ++ v ∷ [])
-stays_with [] [] t v s f = (f, tt)
-stays_with [] (x ∷ values) t v s f = absurd s
-stays_with (o ∷ outs) [] t v s f = absurd s
-stays_with (o ∷ outs) (x ∷ values) t v s f = (s.0, stays_with outs values t v s.1 f)
+module _ (lent : Lent) where
+  -- one that shows what a column that is lent holds, and lies elsewhere where that does
+  borrowed_like : (columns : List Column) (values : List Val) (w : Whose) (n : List ℕ) (v : Val)
+      → RowLends lent columns values → lent w n ≡ true → shown v ≡ flat columns values w n
+      → is_borrowed v ≡ lies_elsewhere columns values w n → IsBorrowed v
+  borrowed_like columns values w n (ValInt k) l so e b = tt
+  borrowed_like columns values w n (Slice s) l so e b = tt
+  borrowed_like [] values w n (Own t) l so e b = absurd (cc)
+  borrowed_like (c ∷ columns) [] w n (Own t) l so e b = absurd (cc)
+  borrowed_like (c ∷ columns) (v ∷ values) w n (Own t) l so e b =
+      step v (names w n c) (λ h. l.0 (named_lent lent w n c h so))
+      (λ p q. borrowed_like columns values w n (Own t) l.1 so p q) e b
+    where
+      step : (x : Val) (named : Bool) → (named ≡ true → IsBorrowed x)
+          → (shown (Own t) ≡ flat columns values w n
+          → false ≡ lies_elsewhere columns values w n → ⊥)
+          → shown (Own t) ≡ cond named (shown x) (flat columns values w n)
+          → false ≡ cond named (is_borrowed x) (lies_elsewhere columns values w n) → ⊥
+      step (ValInt k) true m f p q = cc
+      step (Slice s) true m f p q = cc
+      step (Own u) true m f p q = m refl
+      step (ValInt k) false m f p q = f p q
+      step (Slice s) false m f p q = f p q
+      step (Own u) false m f p q = f p q
 
--- one output more
-pub stays_more : (columns : List Column) (values : List Val) (outs : List Expr) (i : ℕ) (out : Expr)
-    (row new : List Val) (v : Val) → i < length outs → out ≡ get_or outs i out → AreBorrowed values
-    → StaysBorrowed (map tree (take i outs)) row → shown v ≡ value (flat columns values) (tree out)
-    → ((w : Whose) → (n : List ℕ) → tree out ≡ column w n
-    → is_borrowed v ≡ lies_elsewhere columns values w n)
-    → new ≡ row ++ v ∷ [] → StaysBorrowed (map tree (take (i + 1) outs)) new
-stays_more columns values outs i out row new v below is borrowed before e b made =
-    let more : map tree (take (i + 1) outs) ≡ map tree (take i outs) ++ tree out ∷ [] =
-    ap (map tree) (take_more outs i out below)
-    ∙ map-append tree (take i outs) (get_or outs i out ∷ [])
-    ∙ ap (λ (x : Expr). map tree (take i outs) ++ tree x ∷ []) (sym is) in
-    let there : StaysBorrowed (map tree (take i outs) ++ tree out ∷ []) (row ++ v ∷ []) =
-    stays_with (map tree (take i outs)) row (tree out) v before
-    (plain_borrowed columns values (tree out) v borrowed e b) in
-    subst (λ (ts : List Tree). StaysBorrowed ts new) (sym more)
-    (subst (λ (vs : List Val). StaysBorrowed (map tree (take i outs) ++ tree out ∷ []) vs)
-    (sym made) there)
+  lent_borrowed : (columns : List Column) (values : List Val) (t : Tree) (v : Val)
+      → RowLends lent columns values → shown v ≡ value (flat columns values) t
+      → ((w : Whose) → (n : List ℕ) → t ≡ column w n
+      → is_borrowed v ≡ lies_elsewhere columns values w n) → is_lent lent t ≡ true → IsBorrowed v
+  lent_borrowed columns values (column w n) v l e b so =
+      borrowed_like columns values w n v l so e (b w n refl)
+  lent_borrowed columns values (constant x) v l e b so = absurd (cc)
+  lent_borrowed columns values (length_of t) v l e b so = absurd (cc)
+  lent_borrowed columns values (joined ts) v l e b so = absurd (cc)
+  lent_borrowed columns values (choose c x y) v l e b so = absurd (cc)
 
--- one row more
-all_with : (outs : List Tree) (rows : List TimedRow) (row : TimedRow) → AllStayBorrowed outs rows
-    → StaysBorrowed outs row.values.items → AllStayBorrowed outs (rows ++ row ∷ [])
-all_with outs [] row a s = (s, tt)
-all_with outs (r ∷ rows) row a s = (a.0, all_with outs rows row a.1 s)
+  stays_with : (outs : List Tree) (values : List Val) (t : Tree) (v : Val)
+      → StaysBorrowed lent outs values → (is_lent lent t ≡ true → IsBorrowed v)
+      → StaysBorrowed lent (outs ++ t ∷ []) (values ++ v ∷ [])
+  stays_with [] [] t v s f = (f, tt)
+  stays_with [] (x ∷ values) t v s f = absurd s
+  stays_with (o ∷ outs) [] t v s f = absurd s
+  stays_with (o ∷ outs) (x ∷ values) t v s f = (s.0, stays_with outs values t v s.1 f)
 
-pub all_more : (outs : List Tree) (rows new : List TimedRow) (row : TimedRow)
-    → new ≡ rows ++ row ∷ [] → AllStayBorrowed outs rows → StaysBorrowed outs row.values.items
-    → AllStayBorrowed outs new
-all_more outs rows new row made a s = subst (AllStayBorrowed outs) (sym made)
-    (all_with outs rows row a s)
+  -- one output more
+  pub stays_more : (columns : List Column) (values : List Val) (outs : List Expr) (i : ℕ)
+      (out : Expr) (row new : List Val) (v : Val) → i < length outs → out ≡ get_or outs i out
+      → RowLends lent columns values → StaysBorrowed lent (map tree (take i outs)) row
+      → shown v ≡ value (flat columns values) (tree out)
+      → ((w : Whose) → (n : List ℕ) → tree out ≡ column w n
+      → is_borrowed v ≡ lies_elsewhere columns values w n)
+      → new ≡ row ++ v ∷ [] → StaysBorrowed lent (map tree (take (i + 1) outs)) new
+  stays_more columns values outs i out row new v below is lends before e b made =
+      let more : map tree (take (i + 1) outs) ≡ map tree (take i outs) ++ tree out ∷ [] =
+      ap (map tree) (take_more outs i out below)
+      ∙ map-append tree (take i outs) (get_or outs i out ∷ [])
+      ∙ ap (λ (x : Expr). map tree (take i outs) ++ tree x ∷ []) (sym is) in
+      let there : StaysBorrowed lent (map tree (take i outs) ++ tree out ∷ []) (row ++ v ∷ []) =
+      stays_with (map tree (take i outs)) row (tree out) v before
+      (lent_borrowed columns values (tree out) v lends e b) in
+      subst (λ (ts : List Tree). StaysBorrowed lent ts new) (sym more)
+      (subst (λ (vs : List Val). StaysBorrowed lent (map tree (take i outs) ++ tree out ∷ []) vs)
+      (sym made) there)
 
--- one value of a list that is borrowed
+  -- values that show the same, and lie elsewhere where the others do
+  lends_like : (columns : List Column) (values new : List Val) → map shown new ≡ map shown values
+      → map is_borrowed new ≡ map is_borrowed values → RowLends lent columns values
+      → RowLends lent columns new
+  lends_like [] [] [] e b l = tt
+  lends_like [] [] (w ∷ new) e b l = absurd (cc)
+  lends_like [] (v ∷ values) new e b l = absurd l
+  lends_like (c ∷ columns) [] new e b l = absurd l
+  lends_like (c ∷ columns) (v ∷ values) [] e b l = absurd (cc)
+  lends_like (c ∷ columns) (v ∷ values) (w ∷ new) e b l =
+      let first : shown w ≡ shown v = cc in
+      let lies : is_borrowed w ≡ is_borrowed v = cc in
+      let more : map shown new ≡ map shown values = cc in
+      let all : map is_borrowed new ≡ map is_borrowed values = cc in (
+        λ so. stays_borrowed v w first lies (l.0 so),
+        lends_like columns values new more all l.1,
+      )
+
+  -- the values of both
+  pub both_lend : (ours theirs : List Column) (first second values : List Val)
+      → map shown values ≡ map shown first ++ map shown second
+      → map is_borrowed values ≡ map is_borrowed first ++ map is_borrowed second
+      → RowLends lent ours first → RowLends lent theirs second
+      → RowLends lent (ours ++ theirs) values
+  both_lend [] theirs [] second values e b l k = lends_like theirs second values e b k
+  both_lend [] theirs (v ∷ first) second values e b l k = absurd l
+  both_lend (c ∷ ours) theirs [] second values e b l k = absurd l
+  both_lend (c ∷ ours) theirs (v ∷ first) second [] e b l k = absurd (cc)
+  both_lend (c ∷ ours) theirs (v ∷ first) second (w ∷ values) e b l k =
+      let one : shown w ≡ shown v = cc in
+      let lies : is_borrowed w ≡ is_borrowed v = cc in
+      let more : map shown values ≡ map shown first ++ map shown second = cc in
+      let all : map is_borrowed values ≡ map is_borrowed first ++ map is_borrowed second = cc in (
+        λ so. stays_borrowed v w one lies (l.0 so),
+        both_lend ours theirs first second values more all l.1 k,
+      )
+
+  -- where all values are borrowed, those of any columns are
+  row_lends : (columns : List Column) (values : List Val) → length (map shown values)
+      ≡ length columns → AreBorrowed values → RowLends lent columns values
+  row_lends [] [] e l = tt
+  row_lends [] (v ∷ values) e l = absurd (omega (arith, e))
+  row_lends (c ∷ columns) [] e l = absurd (omega (arith, e))
+  row_lends (c ∷ columns) (v ∷ values) e l = (
+    λ so. l.0,
+    row_lends columns values (omega (arith, e)) l.1,
+  )
+
+  pub rows_lend : (columns : List Column) (rows : List TimedRow)
+      → Fit (length columns) (entries_of rows) → AllBorrowed rows → RowsLend lent columns rows
+  rows_lend columns [] f l = tt
+  rows_lend columns (row ∷ rows) f l = (
+    row_lends columns row.values.items (f (entry_of row) (inl refl)).0 l.0,
+    rows_lend columns rows (λ e i. f e (inr i)) l.1,
+  )
+
+-- ---- outputs that are the columns
+
+-- a row of as many values, all of them 0
+abbrev nothing : List Column → List Value
+nothing columns = map (λ (c : Column). Int (pos 0)) columns
+
+-- a reference that does not name a column says nothing of its value
+without : (before after : List Column) (c : Column) (w : Whose) (n : List ℕ) (v : Value)
+    → names w n c ≡ false
+    → cells (before ++ c ∷ after) (nothing before ++ v ∷ nothing after) w n
+    ≡ cells (before ++ c ∷ after) (nothing before ++ Int (pos 0) ∷ nothing after) w n
+without [] after c w n v e =
+    ap (λ (b : Bool). cond b v (cells after (nothing after) w n)) e
+    ∙ sym (ap (λ (b : Bool). cond b (Int (pos 0)) (cells after (nothing after) w n)) e)
+without (d ∷ before) after c w n v e =
+    ap (λ (x : Value). cond (names w n d) (Int (pos 0)) x) (without before after c w n v e)
+
+-- one that says each value that the column may hold names it
+names_it : (before after : List Column) (c : Column) (w : Whose) (n : List ℕ)
+    → ((v : Value) → cells (before ++ c ∷ after) (nothing before ++ v ∷ nothing after) w n ≡ v)
+    → names w n c ≡ true
+names_it before after c w n says = step (names w n c) refl
+  where
+    step : (b : Bool) → names w n c ≡ b → names w n c ≡ true
+    step true e = e
+    step false e = absurd (let h : Int (pos 1) ≡ Int (pos 0) = sym (says (Int (pos 1)))
+        ∙ without before after c w n (Int (pos 1)) e ∙ says (Int (pos 0)) in cc)
+
+module _ (lent : Lent) where
+  -- from the columns after some others
+  from : (front back : List Column) (outs : List Tree) (values : List Val)
+      → ((row : List Value) → length row ≡ length back
+      → map (value (cells (front ++ back) (nothing front ++ row))) outs ≡ row)
+      → RowLends lent back values → StaysBorrowed lent outs values
+  from front [] [] [] keeps l = tt
+  from front [] [] (v ∷ values) keeps l = absurd l
+  from front [] (t ∷ outs) values keeps l = absurd (let h = keeps [] refl in cc)
+  from front (c ∷ after) outs [] keeps l = absurd l
+  from front (c ∷ after) [] (v ∷ values) keeps l =
+      absurd (let h = keeps (nothing (c ∷ after)) (length-map (c ∷ after) _) in cc)
+  from front (c ∷ after) (t ∷ outs) (v ∷ values) keeps l = (
+    first t (λ x. let h = keeps (x ∷ nothing after)
+        (ap suc (length-map after (λ (d : Column). Int (pos 0)))) in cc),
+    from (front ++ c ∷ []) after outs values
+        (λ row wide. let h = keeps (Int (pos 0) ∷ row) (ap suc wide) in
+        ap (λ (cs : List Column). map (value (cells cs (nothing (front ++ c ∷ []) ++ row))) outs)
+        (append_assoc front (c ∷ []) after)
+        ∙ ap (λ (zeros : List Value). map (value (cells (front ++ c ∷ after) (zeros ++ row))) outs)
+        (map-append (λ (d : Column). Int (pos 0)) front (c ∷ []))
+        ∙ ap (λ (vs : List Value). map (value (cells (front ++ c ∷ after) vs)) outs)
+        (append_assoc (nothing front) (Int (pos 0) ∷ []) row)
+        ∙ cc) l.1,
+  )
+    where
+      first : (o : Tree) → ((x : Value)
+          → value (cells (front ++ c ∷ after) (nothing front ++ x ∷ nothing after)) o ≡ x)
+          → is_lent lent o ≡ true → IsBorrowed v
+      first (column w n) says so =
+          l.0 (named_lent lent w n c (names_it front after c w n says) so)
+      first (constant x) says so = absurd (cc)
+      first (length_of o) says so = absurd (cc)
+      first (joined ts) says so = absurd (cc)
+      first (choose d a b) says so = absurd (cc)
+
+  -- values of columns that are lent stay borrowed, as outputs that are the columns in their order
+  pub columns_stay : (columns : List Column) (outs : List Tree) (values : List Val)
+      → ((row : List Value) → length row ≡ length columns → outputs columns outs row ≡ row)
+      → RowLends lent columns values → StaysBorrowed lent outs values
+  columns_stay columns outs values keeps l = from [] columns outs values keeps l
+
+-- ---- one value of a list that is borrowed
+
 pub borrowed_here : (values : List Val) (i : ℕ) (v : Val) → i < length values
     → v ≡ get_or values i v → AreBorrowed values → IsBorrowed v
 borrowed_here [] i v below is l = absurd (omega arith)
 borrowed_here (x ∷ values) zero v below is l = subst IsBorrowed (sym is) l.0
 borrowed_here (x ∷ values) (suc i) v below is l = borrowed_here values i v (omega arith) is l.1
-
--- ---- rows of which all is borrowed
 
 with_value : (values : List Val) (v : Val) → AreBorrowed values → IsBorrowed v
     → AreBorrowed (values ++ v ∷ [])
@@ -108,55 +265,63 @@ pub value_borrowed : (values new : List Val) (v : Val) → new ≡ values ++ v �
     → IsBorrowed v → AreBorrowed new
 value_borrowed values new v made l m = subst AreBorrowed (sym made) (with_value values v l m)
 
-with_row : (rows : List TimedRow) (row : TimedRow) → AllBorrowed rows → AreBorrowed row.values.items
-    → AllBorrowed (rows ++ row ∷ [])
-with_row [] row l m = (m, tt)
-with_row (r ∷ rows) row l m = (l.0, with_row rows row l.1 m)
+-- ---- rows whose values are so
 
-pub row_borrowed : (rows new : List TimedRow) (row : TimedRow) → new ≡ rows ++ row ∷ []
-    → AllBorrowed rows → AreBorrowed row.values.items → AllBorrowed new
-row_borrowed rows new row made l m = subst AllBorrowed (sym made) (with_row rows row l m)
+module _ (so : List Val → Type 0) where
+  with_row : (rows : List TimedRow) (row : TimedRow) → EachRow so rows → so row.values.items
+      → EachRow so (rows ++ row ∷ [])
+  with_row [] row l m = (m, tt)
+  with_row (r ∷ rows) row l m = (l.0, with_row rows row l.1 m)
 
-pub borrowed_at : (rows : List TimedRow) (i : ℕ) (row : TimedRow) → i < length rows
-    → row ≡ get_or rows i row → AllBorrowed rows → AreBorrowed row.values.items
-borrowed_at [] i row below is l = absurd (omega arith)
-borrowed_at (r ∷ rows) zero row below is l = subst (λ (x : TimedRow). AreBorrowed x.values.items)
-    (sym is) l.0
-borrowed_at (r ∷ rows) (suc i) row below is l = borrowed_at rows i row (omega arith) is l.1
+  -- one row more
+  pub each_more : (rows new : List TimedRow) (row : TimedRow) → new ≡ rows ++ row ∷ []
+      → EachRow so rows → so row.values.items → EachRow so new
+  each_more rows new row made l m = subst (EachRow so) (sym made) (with_row rows row l m)
 
-pub borrowed_member : (rows : List TimedRow) (row : TimedRow) → In row rows → AllBorrowed rows
-    → AreBorrowed row.values.items
-borrowed_member [] row i l = absurd i
-borrowed_member (r ∷ rows) row (inl e) l = subst (λ (x : TimedRow). AreBorrowed x.values.items) e
-    l.0
-borrowed_member (r ∷ rows) row (inr i) l = borrowed_member rows row i l.1
+  pub each_both : (xs ys : List TimedRow) → EachRow so xs → EachRow so ys → EachRow so (xs ++ ys)
+  each_both [] ys l k = k
+  each_both (x ∷ xs) ys l k = (l.0, each_both xs ys l.1 k)
 
-pub all_members : (rows : List TimedRow) → ((row : TimedRow) → In row rows
-    → AreBorrowed row.values.items) → AllBorrowed rows
-all_members [] h = tt
-all_members (r ∷ rows) h = (h r (inl refl), all_members rows (λ row i. h row (inr i)))
+  pub each_at : (rows : List TimedRow) (i : ℕ) (row : TimedRow) → i < length rows
+      → row ≡ get_or rows i row → EachRow so rows → so row.values.items
+  each_at [] i row below is l = absurd (omega arith)
+  each_at (r ∷ rows) zero row below is l = subst (λ (x : TimedRow). so x.values.items) (sym is) l.0
+  each_at (r ∷ rows) (suc i) row below is l = each_at rows i row (omega arith) is l.1
 
-pub kept_borrowed : (p : TimedRow → Bool) (rows : List TimedRow) → AllBorrowed rows
-    → AllBorrowed (filter p rows)
-kept_borrowed p [] l = tt
-kept_borrowed p (r ∷ rows) l = step (p r) (kept_borrowed p rows l.1)
-  where
-    step : (b : Bool) → AllBorrowed (filter p rows)
-        → AllBorrowed (cond b (r ∷ filter p rows) (filter p rows))
-    step true h = (l.0, h)
-    step false h = h
+  pub each_member : (rows : List TimedRow) (row : TimedRow) → In row rows → EachRow so rows
+      → so row.values.items
+  each_member [] row i l = absurd i
+  each_member (r ∷ rows) row (inl e) l = subst (λ (x : TimedRow). so x.values.items) e l.0
+  each_member (r ∷ rows) row (inr i) l = each_member rows row i l.1
 
--- one value more, that shows the same
-pub shown_step : (values : List Val) (i : ℕ) (x v : Val) (into new : List Val) (start : List Value)
-    → i < length values → x ≡ get_or values i x
-    → map shown into ≡ start ++ map shown (take i values) → shown v ≡ shown x → new ≡ into ++ v ∷ []
-    → map shown new ≡ start ++ map shown (take (i + 1) values)
-shown_step values i x v into new start below is before same made =
-    ap (map shown) made ∙ map-append shown into (v ∷ [])
-    ∙ ap (λ (l : List Value). l ++ shown v ∷ []) before
-    ∙ append_assoc start (map shown (take i values)) (shown v ∷ [])
-    ∙ ap (λ (l : List Value). start ++ l) (
-    ap (λ (y : Value). map shown (take i values) ++ y ∷ []) (same ∙ ap shown is)
-    ∙ sym (map-append shown (take i values) (get_or values i x ∷ []))
-    ∙ ap (map shown) (sym (take_more values i x below))
-    )
+  pub all_members : (rows : List TimedRow) → ((row : TimedRow) → In row rows → so row.values.items)
+      → EachRow so rows
+  all_members [] h = tt
+  all_members (r ∷ rows) h = (h r (inl refl), all_members rows (λ row i. h row (inr i)))
+
+  pub each_kept : (p : TimedRow → Bool) (rows : List TimedRow) → EachRow so rows
+      → EachRow so (filter p rows)
+  each_kept p [] l = tt
+  each_kept p (r ∷ rows) l = step (p r) (each_kept p rows l.1)
+    where
+      step : (b : Bool) → EachRow so (filter p rows)
+          → EachRow so (cond b (r ∷ filter p rows) (filter p rows))
+      step true h = (l.0, h)
+      step false h = h
+
+-- ---- one value more, which is a copy
+
+module _ {X : Type 0} (f : Val → X) where
+  pub copied_step : (values : List Val) (i : ℕ) (x v : Val) (into new : List Val) (start : List X)
+      → i < length values → x ≡ get_or values i x
+      → map f into ≡ start ++ map f (take i values) → f v ≡ f x → new ≡ into ++ v ∷ []
+      → map f new ≡ start ++ map f (take (i + 1) values)
+  copied_step values i x v into new start below is before alike made =
+      ap (map f) made ∙ map-append f into (v ∷ [])
+      ∙ ap (λ (l : List X). l ++ f v ∷ []) before
+      ∙ append_assoc start (map f (take i values)) (f v ∷ [])
+      ∙ ap (λ (l : List X). start ++ l) (
+      ap (λ (y : X). map f (take i values) ++ y ∷ []) (alike ∙ ap f is)
+      ∙ sym (map-append f (take i values) (get_or values i x ∷ []))
+      ∙ ap (map f) (sym (take_more values i x below))
+      )

@@ -1,31 +1,62 @@
--- Rows whose texts are borrowed, and outputs over them that stay borrowed.
-use Rattle.std.specs.Prelude.{List, [], ◌∷◌, ⊤}
+-- Columns whose texts are borrowed, and outputs over them that stay borrowed.
+use Rattle.std.specs.Prelude.{◌≡◌, ℕ, Bool, true, false, List, [], ◌∷◌, ⊤}
 use Rattle.prima_base.specs.declared.value.Val.{Val}
 use Rattle.prima_base.specs.declared.timed_row.TimedRow.{TimedRow}
 use Rattle.prima_base.specs.Order.{IsBorrowed}
+use Rattle.cond_expr.specs.declared.expr.Whose.{Whose}
+use Rattle.cond_expr.specs.declared.expr.Whose.TheVariants.{Atom}
+use Rattle.cond_expr.specs.declared.expr.Column.{Column}
 use Rattle.cond_expr.specs.Trees.{Tree, column, constant, length_of, joined, choose}
 use Rattle.cond_expr.specs.Rows.{AreBorrowed}
 
+-- the values of each row are so
+abbrev pub EachRow : (List Val → Type 0) → List TimedRow → Type 0
+EachRow so [] = ⊤
+EachRow so (row ∷ rows) = so row.values.items × EachRow so rows
+
 -- each value of each row is borrowed
 abbrev pub AllBorrowed : List TimedRow → Type 0
-AllBorrowed [] = ⊤
-AllBorrowed (row ∷ rows) = AreBorrowed row.values.items × AllBorrowed rows
+AllBorrowed rows = EachRow AreBorrowed rows
+
+-- which columns are lent, by what a reference to one says
+abbrev pub Lent : Type 0
+Lent = Whose → List ℕ → Bool
+
+-- all are
+abbrev pub all_lent : Lent
+all_lent w n = true
+
+-- the value of each column that is lent is borrowed, in a row and in each of several
+abbrev pub RowLends : Lent → List Column → List Val → Type 0
+RowLends lent [] [] = ⊤
+RowLends lent [] (v ∷ values) = ⊥
+RowLends lent (c ∷ columns) [] = ⊥
+RowLends lent (c ∷ columns) (v ∷ values) =
+    (lent (Atom c.atom) c.name ≡ true → IsBorrowed v) × RowLends lent columns values
+
+abbrev pub RowsLend : Lent → List Column → List TimedRow → Type 0
+RowsLend lent columns rows = EachRow (RowLends lent columns) rows
+
+-- it is a column that is lent, and nothing is computed of it
+abbrev pub is_lent : Lent → Tree → Bool
+is_lent lent (column w n) = lent w n
+is_lent lent (constant v) = false
+is_lent lent (length_of t) = false
+is_lent lent (joined ts) = false
+is_lent lent (choose c a b) = false
 
 -- it is a column, and nothing is computed of it
-abbrev pub IsPlain : Tree → Type 0
-IsPlain (column w n) = ⊤
-IsPlain (constant v) = ⊥
-IsPlain (length_of t) = ⊥
-IsPlain (joined ts) = ⊥
-IsPlain (choose c a b) = ⊥
+abbrev pub is_plain : Tree → Bool
+is_plain t = is_lent all_lent t
 
--- the value of each output that is a plain column is borrowed
-abbrev pub StaysBorrowed : List Tree → List Val → Type 0
-StaysBorrowed [] [] = ⊤
-StaysBorrowed [] (v ∷ values) = ⊥
-StaysBorrowed (t ∷ outs) [] = ⊥
-StaysBorrowed (t ∷ outs) (v ∷ values) = (IsPlain t → IsBorrowed v) × StaysBorrowed outs values
+-- the value of each output that is a column that is lent is borrowed, in a row of the outputs and
+-- in each of several
+abbrev pub StaysBorrowed : Lent → List Tree → List Val → Type 0
+StaysBorrowed lent [] [] = ⊤
+StaysBorrowed lent [] (v ∷ values) = ⊥
+StaysBorrowed lent (t ∷ outs) [] = ⊥
+StaysBorrowed lent (t ∷ outs) (v ∷ values) =
+    (is_lent lent t ≡ true → IsBorrowed v) × StaysBorrowed lent outs values
 
-abbrev pub AllStayBorrowed : List Tree → List TimedRow → Type 0
-AllStayBorrowed outs [] = ⊤
-AllStayBorrowed outs (row ∷ rows) = StaysBorrowed outs row.values.items × AllStayBorrowed outs rows
+abbrev pub AllStayBorrowed : Lent → List Tree → List TimedRow → Type 0
+AllStayBorrowed lent outs rows = EachRow (StaysBorrowed lent outs) rows

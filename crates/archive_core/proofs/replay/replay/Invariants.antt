@@ -1,7 +1,7 @@
 use Rattle.std.proofs.Common.{◌≤◌, ◌+◌, take, map, length}
 use Rattle.smo_types.specs.Commands.{command_of}
 use Rattle.smo_meaning.specs.Past.{Past}
-use Rattle.archive_state.specs.Standing.{RepresentsPast}
+use Rattle.archive_state.specs.ArchiveContents.{RepresentsPast}
 use Rattle.archive_core.specs.Replaying.{IsReplayed}
 use Rattle.archive_core.proofs.replay.replay.Given as goal
 

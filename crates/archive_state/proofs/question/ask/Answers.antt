@@ -10,11 +10,10 @@ use Rattle.query_types.specs.Queries.{PlainQuery, query_of}
 use Rattle.version_groups.specs.Groups.{versions_in}
 use Rattle.piece_meaning.specs.Books.{book_of}
 use Rattle.query_exec.specs.Accepted.{IsAccepted}
-use Rattle.query_exec.specs.Borrowed.{AreBorrowedBy}
+use Rattle.joining.proofs.CoalescedRows.{each_by_values}
+use Rattle.query_exec.specs.Borrowed.{IsBorrowedBy, AreBorrowedBy}
 use Rattle.query_exec.specs.QueryPieces.{ArePieces}
-use Rattle.query_exec.proofs.BorrowedRows.{by_values}
-use Rattle.archive_state.specs.Asking.{IfAccepted, IsReady}
-use Rattle.archive_state.proofs.AskedBranches.{as_asked}
+use Rattle.archive_state.specs.Asking.{IfAccepted, IsReady, branches_asked}
 use Rattle.archive_state.proofs.question.ask.Goals as goal
 
 pub answer-requires-clause-shown : goal.answer-requires-clause-shown
@@ -83,12 +82,12 @@ returns-clause-cost g c = λ past shows pieces are.
     are)))
 
 pub returns-clause-borrowed : goal.returns-clause-borrowed
-returns-clause-borrowed g c = λ past shows pieces are none.
+returns-clause-borrowed g c = λ past shows pieces are.
     let query = query_of c.args.query.now in
     let h : IsReady past query c.in_ok-atoms.atoms = c.in_ok-atoms.ensures past shows in
-    by_values query.branches c.in_ok-rows.rows.items c.keep.new.rows.items c.keep.ensures.values
-    (as_asked (tables_of past query.version) query.branches c.in_ok-rows.rows.items
-    (subst (λ (q : PlainQuery). AreBorrowedBy q.branches c.in_ok-rows.rows.items) h.atoms
+    each_by_values (IsBorrowedBy pieces 1 (branches_asked past query)) c.in_ok-rows.rows.items
+    c.keep.new.rows.items c.keep.ensures.values
+    (subst (λ (q : PlainQuery). AreBorrowedBy pieces q.branches c.in_ok-rows.rows.items) h.atoms
     (c.in_ok-rows.ensures.borrowed pieces
     (subst (λ (q : PlainQuery). ArePieces (book_of
     (λ r. (goal.Rule-dyn g (r.vtable, r.value)).handles r.value)
@@ -102,8 +101,7 @@ returns-clause-borrowed g c = λ past shows pieces are none.
     (book_of (λ r. (goal.Rule-dyn g (r.vtable, r.value)).handles r.value)
     (λ r. (goal.Rule-dyn g (r.vtable, r.value)).answers r.value) c.args.book.now.rules.items)
     past.versions (with_atoms (tables_of past query.version) query) pieces) pieces) h.accepted
-    are)))
-    none)))
+    are)))))
 
 pub returns-clause-least : goal.returns-clause-least
 returns-clause-least g c = λ past shows pieces are e m.

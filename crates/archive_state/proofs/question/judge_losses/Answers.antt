@@ -6,8 +6,8 @@ use Rattle.query_meaning.specs.Accepted.{no_way_back}
 use Rattle.archive_state.proofs.QueryFaults.{none_lost, one_lost, within_kept}
 use Rattle.archive_state.proofs.question.judge_losses.Goals as goal
 
-pub first_loss-requires-clause-asked : goal.first_loss-requires-clause-asked
-first_loss-requires-clause-asked c = within_kept c.args.groups.now c.requires.0
+pub first_loss_in_slice-requires-clause-asked : goal.first_loss_in_slice-requires-clause-asked
+first_loss_in_slice-requires-clause-asked c = within_kept c.args.groups.now c.requires.0
     c.args.query.now.version c.requires.1 c.requires.2.there
 
 pub returns-in-None : goal.returns-in-None

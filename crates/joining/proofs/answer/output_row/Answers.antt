@@ -16,9 +16,10 @@ loop-out-preserved c = record {
       c.push.new.self.items c.in_ok-eval.field-0
       c.loop-out-test.true c.out-item.is c.loop-out.invariant.values c.in_ok-eval.ensures.value
       c.in_ok-push.ensures.items;
-  borrowed = λ h. stays_more c.args.columns.now c.args.values.now c.args.outs.now
+  borrowed = λ lent h. stays_more lent c.args.columns.now c.args.values.now c.args.outs.now
       c.loop-out.out-index c.out-item.result c.loop-out.row.items c.push.new.self.items
-      c.in_ok-eval.field-0 c.loop-out-test.true c.out-item.is h (c.loop-out.invariant.borrowed h)
+      c.in_ok-eval.field-0 c.loop-out-test.true c.out-item.is h
+      (c.loop-out.invariant.borrowed lent h)
       c.in_ok-eval.ensures.value c.in_ok-eval.ensures.borrowed c.in_ok-push.ensures.items;
 }
 
@@ -30,5 +31,7 @@ returns-clause-values c = c.loop-out.invariant.values
     c.args.outs.now)
 
 pub returns-clause-borrowed : goal.returns-clause-borrowed
-returns-clause-borrowed c = λ h. subst (λ outs. StaysBorrowed (map tree outs) c.loop-out.row.items)
-    (take_all c.loop-out.out-index c.args.outs.now (omega arith)) (c.loop-out.invariant.borrowed h)
+returns-clause-borrowed c = λ lent h.
+    subst (λ outs. StaysBorrowed lent (map tree outs) c.loop-out.row.items)
+    (take_all c.loop-out.out-index c.args.outs.now (omega arith))
+    (c.loop-out.invariant.borrowed lent h)

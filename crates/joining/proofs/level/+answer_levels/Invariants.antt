@@ -1,12 +1,13 @@
-use Rattle.std.proofs.Common.{◌≡◌, ◌++◌, ℕ, true, [], map, take, length}
+use Rattle.std.proofs.Common.{◌≡◌, ◌++◌, ℕ, true, List, [], map, take, length}
 use Rattle.std.specs.List.{flat_map}
 use Rattle.relations.specs.Spans.{covers}
 use Rattle.relations.specs.Timed.{held_at, at}
 use Rattle.prima_base.specs.Order.{row_cmp}
 use Rattle.prima_base.specs.Timed.{entries_of, rows_at}
 use Rattle.cond_expr.specs.Seen.{tree, test}
-use Rattle.timed_choices.specs.Lending.{AllBorrowed, AllStayBorrowed}
-use Rattle.joining.specs.Levels.{IsBorrowedLevel, AreBorrowedLevels}
+use Rattle.cond_expr.specs.declared.expr.Column.{Column}
+use Rattle.timed_choices.specs.Lending.{Lent, RowsLend, AllStayBorrowed}
+use Rattle.joining.specs.Levels.{LevelLends, LevelsLend}
 use Rattle.joining.proofs.LevelLaws.{of_choice}
 use Rattle.joining.proofs.level.+answer_levels.Given as goal
 
@@ -15,9 +16,12 @@ decreases-answer_levels l = length l.levels.now
 
 abbrev pub invariant-loop-choice : goal.invariant-loop-choice
 invariant-loop-choice l = record {
-  borrowed : AllStayBorrowed (map tree l.outs) l.initial.answered.rows.items → AllBorrowed l.choices
-      → IsBorrowedLevel l.level → AreBorrowedLevels l.rest
-      → AllStayBorrowed (map tree l.outs) l.answered.rows.items;
+  borrowed : (lent : Lent) → (before : List Column) → (own : List Column) → (after : List Column)
+      → l.columns ≡ (before ++ own) ++ after
+      → AllStayBorrowed lent (map tree l.outs) l.initial.answered.rows.items
+      → RowsLend lent before l.choices → LevelLends lent own l.level
+      → LevelsLend lent after l.rest
+      → AllStayBorrowed lent (map tree l.outs) l.answered.rows.items;
   rows : (m : ℕ) → covers l.slice m ≡ true
       → rows_at l.answered.rows.items m ≡ at row_cmp
       (entries_of l.initial.answered.rows.items

@@ -1,16 +1,18 @@
-use Rattle.std.proofs.Common.{◌≡◌, ◌+◌, List, [], sym, ap, ◌∙◌, subst, arith}
+use Rattle.std.proofs.Common.{◌≡◌, ◌+◌, ◌++◌, List, [], append_assoc, append-nil, refl, sym, ap}
+use Rattle.std.proofs.Common.{◌∙◌, subst, arith}
 use Rattle.std.specs.List.{filter, sum_by}
 use Rattle.std.proofs.lemmas.List.Sums.{sum_by-cons}
 use Rattle.relations.specs.Timed.{Entry, held_at}
 use Rattle.prima_base.specs.declared.value.Value.{Value}
+use Rattle.cond_expr.specs.declared.expr.Column.{Column}
 use Rattle.timed_choices.specs.Choosing.{completed}
 use Rattle.timed_choices.specs.Fitting.{Fit}
 use Rattle.timed_choices.specs.Keeping.{meets_all, borrowed_tests}
 use Rattle.joining.specs.declared.level.Level.{Level}
 use Rattle.joining.specs.declared.source.Source.{Source}
-use Rattle.joining.specs.Levels.{made_through, AreValidLevels, AreBorrowedLevels}
-use Rattle.joining.specs.Sources.{EachBorrowed, held_of}
-use Rattle.joining.proofs.LevelLaws.{through_more, valid_more, borrowed_more, none_left}
+use Rattle.joining.specs.Levels.{made_through, AreValidLevels, LevelsLend}
+use Rattle.joining.specs.Sources.{SourcesLend, held_of}
+use Rattle.joining.proofs.LevelLaws.{through_more, valid_more, levels_more, none_left}
 use Rattle.joining.proofs.level.levels_of.Goals as goal
 
 pub sources-preserved : goal.sources-preserved
@@ -31,12 +33,17 @@ sources-preserved c =
           );
       valid = subst AreValidLevels (sym c.in_ok-push.ensures.items)
           (valid_more before level c.sources.invariant.valid c.in_ok-level_of.ensures.valid);
-      borrowed = λ h.
-          let so = c.sources.invariant.borrowed h in
-          let here = subst EachBorrowed c.in-Some.ensures.items so.1 in (
-            subst AreBorrowedLevels (sym c.in_ok-push.ensures.items)
-                (borrowed_more before level so.0 (c.in_ok-level_of.ensures.borrowed here.0)),
+      borrowed = λ lent all h.
+          let so = c.sources.invariant.borrowed lent all h in
+          let here = subst (SourcesLend lent so.1) c.in-Some.ensures.items so.4 in (
+            so.0 ++ here.0,
             here.1,
+            so.2 ∙ ap (λ (cs : List Column). so.0 ++ cs) here.2
+                ∙ sym (append_assoc so.0 here.0 here.1),
+            subst (LevelsLend lent (so.0 ++ here.0)) (sym c.in_ok-push.ensures.items)
+                (levels_more lent so.0 here.0 before level so.3
+                (c.in_ok-level_of.ensures.borrowed lent here.0 here.3)),
+            here.4,
           );
       wide = λ ps f.
           subst (λ (ls : List Level). Fit (c.sources.taken + c.in-Some.source.width)
@@ -60,6 +67,35 @@ sources-preserved c =
           (sym c.in-Some.ensures.items)
           ∙ c.sources.invariant.joined ps f m;
     }
+
+pub sources-init : goal.sources-init
+sources-init c = record {
+  room = (let k = c.requires in omega (arith, k));
+  valid = subst AreValidLevels (sym c.new-levels.ensures.items) tt;
+  borrowed = λ lent all h. (
+    [],
+    all,
+    refl,
+    subst (LevelsLend lent []) (sym c.new-levels.ensures.items) refl,
+    h,
+  );
+  wide = λ ps f. subst (λ (ls : List Level). Fit 0 (made_through c.args.columns.now ls ps))
+      (sym c.new-levels.ensures.items) f;
+  joined = λ ps f m. ap (λ (ls : List Level).
+      filter (meets_all c.args.columns.now (borrowed_tests c.args.parts.now))
+      (completed (held_at (made_through c.args.columns.now ls ps) m)
+      (held_of c.args.sources.items m))) c.new-levels.ensures.items;
+}
+
+pub returns-clause-borrowed : goal.returns-clause-borrowed
+returns-clause-borrowed c = λ lent all h.
+    let so = c.sources.invariant.borrowed lent all h in
+    let none : c.sources.sources.items ≡ [] =
+    none_left c.sources.sources.items c.pop_front.new.self.items c.in_default.ensures.items
+    c.in_default.ensures.rest in
+    let last : so.1 ≡ [] = subst (SourcesLend lent so.1) none so.4 in
+    subst (λ (cs : List Column). LevelsLend lent cs c.sources.levels.items)
+    (sym (so.2 ∙ ap (λ (cs : List Column). so.0 ++ cs) last ∙ append-nil so.0)) so.3
 
 pub returns-clause-joined : goal.returns-clause-joined
 returns-clause-joined c = λ ps f m.

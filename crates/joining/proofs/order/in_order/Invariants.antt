@@ -2,8 +2,9 @@ use Rattle.std.proofs.Common.{◌≡◌, ◌++◌, ℕ, length}
 use Rattle.cond_expr.specs.Trees.{Tree, Test}
 use Rattle.std.specs.Prelude.{List}
 use Rattle.timed_choices.specs.Blocks.{answered}
+use Rattle.timed_choices.specs.Lending.{Lent}
 use Rattle.joining.proofs.order.in_order.Given as goal
-use Rattle.joining.specs.Sources.{AtomsBorrowed, blocks_of, AreNumbered}
+use Rattle.joining.specs.Sources.{AtomsLend, blocks_of, AreNumbered}
 
 abbrev pub invariant-atoms : goal.invariant-atoms
 invariant-atoms l = record {
@@ -11,8 +12,8 @@ invariant-atoms l = record {
   same : (outs : List Tree) (cond : Test) (m : ℕ)
       → answered outs cond (blocks_of m l.done.items ++ blocks_of m l.left.items)
       ≡ answered outs cond (blocks_of m l.initial.left.items);
-  borrowed : AtomsBorrowed l.initial.left.items → AtomsBorrowed l.done.items
-      × AtomsBorrowed l.left.items;
+  borrowed : (lent : Lent) → AtomsLend lent l.initial.left.items → AtomsLend lent l.done.items
+      × AtomsLend lent l.left.items;
 }
 
 abbrev pub decreases-atoms : goal.decreases-atoms

@@ -4,9 +4,11 @@ use Rattle.prima_base.specs.Timed.{entries_of, rows_at}
 use Rattle.std.proofs.lemmas.List.{map-append}
 use Rattle.joining.specs.declared.source.Source.{Source}
 use Rattle.timed_choices.specs.Fitting.{Fit}
-use Rattle.joining.specs.Sources.{EachBorrowed, relations_of}
+use Rattle.cond_expr.specs.declared.expr.Column.{Column}
+use Rattle.timed_choices.specs.Lending.{RowLends}
+use Rattle.joining.specs.Sources.{SourcesLend, relations_of}
 use Rattle.joining.proofs.AtomOrder.{sources_with}
-use Rattle.joining.proofs.TurnLaws.{fit_moved, at_moved, borrowed_moved}
+use Rattle.joining.proofs.TurnLaws.{fit_moved, at_moved, each_moved}
 use Rattle.joining.proofs.order.put_apart.Goals as goal
 
 pub invariant_of-push_back : goal.invariant_of-push_back
@@ -25,6 +27,11 @@ returns-clause-rows c = λ m.
     (at_moved c.args.atom.rows.items c.in_turn.result.items c.in_turn.ensures m)
 
 pub returns-clause-borrowed : goal.returns-clause-borrowed
-returns-clause-borrowed c = λ h k. subst EachBorrowed (sym c.in_ok-push_back.ensures.items)
-    (sources_with c.args.sources.now.items _ h
-    (borrowed_moved c.args.atom.rows.items c.in_turn.result.items c.in_turn.ensures k))
+returns-clause-borrowed c = λ lent h k.
+    subst (λ (cs : List Column). SourcesLend lent cs c.push_back.new.self.items)
+    (sym c.in_ok-append.ensures.items)
+    (subst (SourcesLend lent (c.args.types.now.items ++ c.args.atom.columns.items))
+    (sym c.in_ok-push_back.ensures.items)
+    (sources_with lent c.args.types.now.items c.args.atom.columns.items c.args.sources.now.items _ h
+    (each_moved c.args.atom.rows.items c.in_turn.result.items c.in_turn.ensures
+    (RowLends lent c.args.atom.columns.items) k)))

@@ -1,17 +1,19 @@
-use Rattle.std.proofs.Common.{◌≡◌, ◌++◌, map, take}
+use Rattle.std.proofs.Common.{◌≡◌, ◌++◌, List, map, take}
 use Rattle.std.specs.List.{flat_map}
 use Rattle.prima_base.specs.Timed.{entry_of, entries_of}
-use Rattle.cond_expr.specs.Rows.{AreBorrowed}
+use Rattle.cond_expr.specs.declared.expr.Column.{Column}
 use Rattle.timed_choices.specs.Choosing.{paired}
 use Rattle.timed_choices.specs.Keeping.{passing, borrowed_tests}
-use Rattle.timed_choices.specs.Lending.{AllBorrowed}
+use Rattle.timed_choices.specs.Lending.{Lent, RowLends, RowsLend}
 use Rattle.joining.specs.Grouping.{rows_of_runs}
 use Rattle.joining.proofs.step.put_runs.Given as goal
 
 abbrev pub invariant-loop-run : goal.invariant-loop-run
 invariant-loop-run l = record {
-  borrowed : AllBorrowed l.initial.into.items → AreBorrowed l.choice.values.items
-      → AllBorrowed (rows_of_runs l.runs) → AllBorrowed l.into.items;
+  borrowed : (lent : Lent) → (before : List Column) → (own : List Column)
+      → RowsLend lent (before ++ own) l.initial.into.items
+      → RowLends lent before l.choice.values.items → RowsLend lent own (rows_of_runs l.runs)
+      → RowsLend lent (before ++ own) l.into.items;
   rows : entries_of l.into.items ≡ entries_of l.initial.into.items
       ++ flat_map (flat_map (paired (passing l.columns (borrowed_tests l.tests))
       (entry_of l.choice))) (map entries_of (take l.run-index l.runs));

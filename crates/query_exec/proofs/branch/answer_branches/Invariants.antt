@@ -4,14 +4,15 @@ use Rattle.prima_base.specs.Timed.{rows_at}
 use Rattle.smo_meaning.specs.Past.{Past, tables_of}
 use Rattle.version_ways.specs.Migration.{migrated}
 use Rattle.version_groups.specs.Groups.{versions_in}
-use Rattle.version_groups.specs.Showing.{Represents}
+use Rattle.version_groups.specs.Representation.{Represents}
 use Rattle.plain_answers.specs.Branches.{plain}
 use Rattle.piece_meaning.specs.Books.{book_of}
 use Rattle.piece_texts.specs.ExplainedPieces.{PlainExplained}
 use Rattle.query_types.specs.Branches.{branches_of}
 use Rattle.query_exec.specs.Accepted.{MayBranches}
 use Rattle.query_exec.specs.QueryPieces.{branches_pieces, AreAlive, IsAlive}
-use Rattle.query_exec.specs.Borrowed.{NoneAliveComputes, AreBorrowedBy}
+use Rattle.timed_choices.specs.Lending.{EachRow}
+use Rattle.query_exec.specs.Borrowed.{IsBorrowedBy, HaveLiving}
 use Rattle.query_exec.specs.Reads.{reads_of}
 use Rattle.query_exec.proofs.AliveLaws.{Owes, IsLeftOrRead}
 use Rattle.query_exec.proofs.branch.answer_branches.Given as goal
@@ -22,16 +23,17 @@ invariant-loop-branch g l = record {
   rows : (past : Past) → Represents l.groups past → (m : ℕ) → covers l.route.slice m ≡ true
       → rows_at l.rows.items m ≡ plain (tables_of past l.route.asked)
       (branches_of (take l.branch-index l.branches)) (migrated past m l.route.asked);
-  borrowed : (number : ℕ) → NoneAliveComputes (versions_in l.groups)
+  borrowed : (number : ℕ) → (pieces : List PlainExplained) → HaveLiving (versions_in l.groups)
       (branches_pieces (book_of (λ r. (goal.Rule-dyn g (r.vtable, r.value)).handles r.value)
       (λ r. (goal.Rule-dyn g (r.vtable, r.value)).answers r.value) l.book.rules.items)
       (versions_in l.groups) l.route.asked l.route.parts.items number (branches_of l.branches))
-      → AreBorrowedBy (branches_of l.branches) l.rows.items
-      × NoneAliveComputes (versions_in l.groups)
+      pieces
+      → EachRow (IsBorrowedBy pieces number (branches_of l.branches)) l.rows.items
+      × HaveLiving (versions_in l.groups)
       (branches_pieces (book_of (λ r. (goal.Rule-dyn g (r.vtable, r.value)).handles r.value)
       (λ r. (goal.Rule-dyn g (r.vtable, r.value)).answers r.value) l.book.rules.items)
       (versions_in l.groups) l.route.asked l.route.parts.items (number + l.branch-index)
-      (branches_of (drop l.branch-index l.branches)));
+      (branches_of (drop l.branch-index l.branches))) pieces;
   count : (number : ℕ) → (alive : List PlainExplained)
       → AreAlive (versions_in l.groups) (branches_pieces
       (book_of (λ r. (goal.Rule-dyn g (r.vtable, r.value)).handles r.value)

@@ -1,15 +1,25 @@
-use Rattle.std.proofs.Common.{refl, sym, subst}
+use Rattle.std.proofs.Common.{◌≡◌, ◌+◌, List, refl, sym, subst}
 use Rattle.cond_expr.specs.References.{borrowed}
 use Rattle.cond_expr.specs.Seen.{test}
+use Rattle.smo_meaning.specs.Effects.{columns_of}
+use Rattle.smo_meaning.specs.Making.{named}
+use Rattle.smo_meaning.specs.Past.{tables_of}
+use Rattle.timed_choices.specs.Lending.{RowsLend}
 use Rattle.version_groups.specs.Groups.{versions_in}
 use Rattle.plain_answers.specs.Reading.{Read}
 use Rattle.piece_meaning.specs.Books.{book_of}
 use Rattle.query_exec.specs.Asked.{read_asked}
-use Rattle.query_exec.specs.Borrowed.{NoneAliveComputes}
+use Rattle.prima_base.specs.Columns.{Column}
+use Rattle.cond_expr.specs.declared.expr.Column.{Column as AtomColumn}
+use Rattle.cond_expr.specs.AtomColumns.{columns_at}
+use Rattle.piece_meaning.specs.Pieces.{out_trees}
+use Rattle.piece_texts.specs.ExplainedPieces.{PlainExplained}
+use Rattle.query_exec.specs.Borrowed.{lent_by, ArePlain}
 use Rattle.query_exec.specs.Questions.{own_read}
 use Rattle.query_exec.specs.QueryPieces.{table_pieces, AreAlive, IsAlive}
 use Rattle.query_exec.specs.Routes.{MayBeRead}
-use Rattle.query_exec.proofs.ItemAtoms.{columns_are, item_own, item_fit, item_rows_are}
+use Rattle.query_exec.proofs.BorrowedRows.{item_plain}
+use Rattle.query_exec.proofs.ItemAtoms.{columns_are, item_own, item_fit, item_rows_are, item_names}
 use Rattle.query_exec.proofs.item.read_item.Goals as goal
 
 pub read_table-requires-clause-read : goal.read_table-requires-clause-read
@@ -71,12 +81,35 @@ returns-clause-cost g c = λ branch atom alive h. c.read_table.ensures.cost bran
     c.args.route.now.parts.items) alive) (sym c.in_ok-question.ensures) h)
 
 pub returns-clause-borrowed : goal.returns-clause-borrowed
-returns-clause-borrowed g c = λ branch atom h. c.in_ok-rows.ensures.borrowed branch atom
-    (subst (λ (r : Read). NoneAliveComputes (versions_in c.args.groups.now)
-    (table_pieces (book_of (λ r. (goal.Rule-dyn g (r.vtable, r.value)).handles r.value)
-    (λ r. (goal.Rule-dyn g (r.vtable, r.value)).answers r.value) c.args.book.now.rules.items)
-    (versions_in c.args.groups.now) c.args.route.now.asked c.args.table.now r branch atom
-    c.args.route.now.parts.items)) (sym c.in_ok-question.ensures) h)
+returns-clause-borrowed g c = λ branch pieces living.
+    let past = c.requires.shows.0 in
+    let shows = c.requires.shows.1 in
+    let own : Read =
+    own_read c.args.place (borrowed c.args.references.now) (test c.args.cond.now) in
+    let book = book_of (λ r. (goal.Rule-dyn g (r.vtable, r.value)).handles r.value)
+    (λ r. (goal.Rule-dyn g (r.vtable, r.value)).answers r.value) c.args.book.now.rules.items in
+    let columns : List Column = named own.names (columns_of (tables_of past c.args.route.now.asked)
+    c.args.table.now) in
+    let are : c.in_ok-columns.columns.items ≡ columns_at c.args.place columns =
+    columns_are c.args.groups.now past shows c.args.route.now c.args.schema.now
+    c.requires.schema c.args.place c.args.table.now own
+    (read_asked c.in_ok-question.question) c.deref.result.now c.in_ok-columns.columns.items
+    c.in_ok-rows.rows.items c.in_ok-columns.ensures c.deref.ensures.value
+    c.in_ok-question.ensures (c.in_ok-rows.ensures.rows past shows) in
+    subst (λ (cs : List AtomColumn). RowsLend (lent_by pieces branch) cs c.in_ok-rows.rows.items)
+    (sym are)
+    (c.in_ok-rows.ensures.borrowed branch (c.args.place + 1) (lent_by pieces branch)
+    (columns_at c.args.place columns)
+    (subst (λ (r : Read). (e : PlainExplained) → IsAlive (versions_in c.args.groups.now)
+    (table_pieces book (versions_in c.args.groups.now) c.args.route.now.asked c.args.table.now r
+    branch (c.args.place + 1) c.args.route.now.parts.items) e
+    → ArePlain (lent_by pieces branch) (columns_at c.args.place columns) (out_trees e.piece.outs))
+    (sym c.in_ok-question.ensures)
+    (item_plain (versions_in c.args.groups.now) book c.known.ensures c.args.route.now
+    c.requires.route c.args.table.now own c.requires.read columns
+    (item_names c.args.groups.now past shows c.args.route.now c.args.table.now own
+    c.requires.read)
+    branch c.args.place pieces living)))
 
 pub returns-clause-least : goal.returns-clause-least
 returns-clause-least g c = λ branch atom e h. c.in_ok-rows.ensures.least branch atom e

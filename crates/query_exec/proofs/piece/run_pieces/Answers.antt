@@ -3,14 +3,14 @@ use Rattle.std.proofs.lemmas.List.{take_all}
 use Rattle.relations.proofs.SetLaws.{in_map}
 use Rattle.prima_base.specs.declared.timed_row.TimedRow.{TimedRow}
 use Rattle.prima_base.specs.Timed.{rows_at}
-use Rattle.timed_choices.specs.Lending.{AllBorrowed}
+use Rattle.timed_choices.specs.Lending.{RowLends, RowsLend}
 use Rattle.piece_meaning.specs.Pieces.{all_mean, out_trees}
 use Rattle.piece_ir.specs.Shown.{piece_of, pieces_of}
 use Rattle.piece_ir.specs.declared.piece.Piece.{Piece}
 use Rattle.query_pieces.proofs.RunPieces.{none_run}
 use Rattle.smo_meaning.specs.Past.{tables_of, database_at}
 use Rattle.rewrite.proofs.CodeSteps.{typed_at}
-use Rattle.query_exec.proofs.BorrowedRows.{plain_borrowed, borrowed_joined, piece_at}
+use Rattle.query_exec.proofs.BorrowedRows.{piece_lends, each_joined, piece_at}
 use Rattle.query_exec.proofs.PieceRows.{next_run, none_after, nothing_at, reads_left}
 use Rattle.query_exec.proofs.ListSteps.{among_taken}
 use Rattle.query_exec.proofs.RunLaws.{piece_meant}
@@ -46,12 +46,14 @@ loop-piece-preserved g c =
           none_after c.loop-piece.rows.items c.in_ok-news.news.items c.put_rows.new.rows.items m
           c.in_ok-put_rows.ensures.items
           (c.loop-piece.invariant.inside m outside) (c.in_ok-news.ensures.inside m outside);
-      borrowed = λ h.
-          borrowed_joined c.loop-piece.rows.items c.in_ok-news.news.items c.put_rows.new.rows.items
-          c.in_ok-put_rows.ensures.items (c.loop-piece.invariant.borrowed h)
-          (plain_borrowed (out_trees (piece_of c.piece-item.result).outs) c.in_ok-news.news.items
-          (piece_at c.args.pieces.now c.loop-piece.piece-index c.piece-item.result below
-          c.piece-item.is h) c.in_ok-news.ensures.borrowed);
+      borrowed = λ lent columns h.
+          each_joined (RowLends lent columns) c.loop-piece.rows.items c.in_ok-news.news.items
+          c.put_rows.new.rows.items c.in_ok-put_rows.ensures.items
+          (c.loop-piece.invariant.borrowed lent columns h)
+          (piece_lends lent columns (out_trees (piece_of c.piece-item.result).outs)
+          c.in_ok-news.news.items
+          (piece_at lent columns c.args.pieces.now c.loop-piece.piece-index c.piece-item.result
+          below c.piece-item.is h) c.in_ok-news.ensures.borrowed);
       count = omega (
         arith,
         c.loop-piece.invariant.count,
@@ -68,10 +70,17 @@ loop-piece-init g c = record {
       c.new-rows.ensures.items ∙ none_run (tables_of past h.version) (database_at past m) m;
   inside = λ m outside. ap (λ (rs : List TimedRow). rows_at rs m) c.new-rows.ensures.items
       ∙ nothing_at m;
-  borrowed = λ h. subst AllBorrowed (sym c.new-rows.ensures.items) tt;
+  borrowed = λ lent columns h. subst (RowsLend lent columns) (sym c.new-rows.ensures.items) tt;
   count = omega arith;
   rises = omega arith;
 }
+
+pub returns-in_err-put_rows-clause-cost : goal.returns-in_err-put_rows-clause-cost
+returns-in_err-put_rows-clause-cost g c =
+    let below : c.loop-piece.piece-index < length c.args.pieces.now = omega arith in
+    let left = reads_left c.args.pieces.now c.loop-piece.piece-index c.piece-item.result below
+    c.piece-item.is c.args.groups.now c.args.version in
+    omega (arith, c.loop-piece.invariant.count, c.in_ok-news.ensures.counted, left)
 
 pub returns-clause-rows : goal.returns-clause-rows
 returns-clause-rows g c = λ past shows m inside meant h.

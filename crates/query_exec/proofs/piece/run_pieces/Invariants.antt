@@ -1,13 +1,14 @@
-use Rattle.std.proofs.Common.{◌≡◌, ◌+◌, ◌≤◌, ℕ, true, false, [], take, drop}
+use Rattle.std.proofs.Common.{◌≡◌, ◌+◌, ◌≤◌, ℕ, true, false, List, [], take, drop}
 use Rattle.relations.specs.Spans.{covers}
 use Rattle.prima_base.specs.Timed.{rows_at}
 use Rattle.smo_meaning.specs.OneRow.{Relation}
 use Rattle.smo_meaning.specs.Past.{Past, tables_of, database_at}
-use Rattle.version_groups.specs.Showing.{Represents}
+use Rattle.version_groups.specs.Representation.{Represents}
 use Rattle.piece_meaning.specs.Pieces.{all_mean}
 use Rattle.piece_ir.specs.Shown.{pieces_of}
-use Rattle.timed_choices.specs.Lending.{AllBorrowed}
-use Rattle.query_exec.specs.Borrowed.{ComputeNothing}
+use Rattle.cond_expr.specs.declared.expr.Column.{Column}
+use Rattle.timed_choices.specs.Lending.{Lent, RowsLend}
+use Rattle.query_exec.specs.Borrowed.{AllPlain}
 use Rattle.query_exec.specs.Reads.{pieces_read}
 use Rattle.query_exec.specs.Runs.{IsMeant}
 use Rattle.query_exec.proofs.piece.run_pieces.Given as goal
@@ -19,7 +20,8 @@ invariant-loop-piece g l = record {
       → rows_at l.rows.items m ≡ all_mean (tables_of past h.version) (database_at past m)
       (pieces_of (take l.piece-index l.pieces));
   inside : (m : ℕ) → covers l.fn.period m ≡ false → rows_at l.rows.items m ≡ [];
-  borrowed : ComputeNothing (pieces_of l.pieces) → AllBorrowed l.rows.items;
+  borrowed : (lent : Lent) → (columns : List Column) → AllPlain lent columns (pieces_of l.pieces)
+      → RowsLend lent columns l.rows.items;
   count : l.steps + pieces_read l.groups l.version (pieces_of (drop l.piece-index l.pieces))
       ≡ l.initial.steps + pieces_read l.groups l.version (pieces_of l.pieces);
   rises : l.initial.steps ≤ l.steps;

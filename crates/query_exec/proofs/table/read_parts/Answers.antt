@@ -8,7 +8,7 @@ use Rattle.prima_base.specs.Timed.{entries_of}
 use Rattle.smo_types.specs.Commands.{PlainVersion}
 use Rattle.smo_meaning.specs.Past.{Past, no_tables, tables_from, tables_of}
 use Rattle.version_groups.specs.Groups.{versions_in}
-use Rattle.version_groups.specs.Showing.{Represents}
+use Rattle.version_groups.specs.Representation.{Represents}
 use Rattle.piece_meaning.specs.Typed.{AllTyped}
 use Rattle.piece_ir.specs.Shown.{pieces_of}
 use Rattle.piece_ir.specs.declared.piece.Piece.{Piece}
@@ -16,8 +16,8 @@ use Rattle.query_pieces.specs.Gathering.{IsGathered}
 use Rattle.query_pieces.proofs.Gatherings.{nothing_gathered}
 use Rattle.join_exec.proofs.PieceAtoms.{same_versions}
 use Rattle.query_exec.specs.declared.part_piece.PartPieces.{PartPieces}
-use Rattle.timed_choices.specs.Lending.{AllBorrowed}
-use Rattle.query_exec.specs.Borrowed.{ComputeNothing}
+use Rattle.timed_choices.specs.Lending.{RowsLend}
+use Rattle.query_exec.specs.Borrowed.{AllPlain}
 use Rattle.query_exec.specs.Planned.{planned_spans}
 use Rattle.query_exec.specs.Reads.{pieces_read, part_read}
 use Rattle.query_exec.specs.Routes.{IsOwn}
@@ -35,7 +35,7 @@ runs-init g c = record {
   rows = λ past shows relation means. subst (λ (rs : List TimedRow).
       IsGathered relation [] (entries_of rs)) (sym c.new-rows.ensures.items)
       (nothing_gathered relation);
-  borrowed = λ h. subst AllBorrowed (sym c.new-rows.ensures.items) tt;
+  borrowed = λ lent columns h. subst (RowsLend lent columns) (sym c.new-rows.ensures.items) tt;
   cost = omega arith;
   least = λ x m. absurd m;
   rises = omega arith;
@@ -118,11 +118,11 @@ runs-preserved g c =
           (λ x k. own past shows x (among_plan plan i n first below is x k))
           (λ x k. means x (among_plan plan i n first below is x k)) m inside))
           (planned_spans (take i plan)) (c.runs.invariant.rows past shows relation means));
-      borrowed = λ h.
-          c.in_ok-read_run.ensures.borrowed (subst
-          (λ (ps : List Piece). ComputeNothing (pieces_of ps)) (sym c.deref.ensures.value)
+      borrowed = λ lent columns h.
+          c.in_ok-read_run.ensures.borrowed lent columns (subst
+          (λ (ps : List Piece). AllPlain lent columns (pieces_of ps)) (sym c.deref.ensures.value)
           (h first (among_taken plan i first below is)))
-          (c.runs.invariant.borrowed h);
+          (c.runs.invariant.borrowed lent columns h);
       cost = run_cost plan i n first below is kept c.args.steps.now c.runs.steps
           c.read_run.new.steps (pieces_read kept first.part.1 (pieces_of c.deref.result.now))
           c.runs.invariant.cost c.read_run.ensures.cost here;

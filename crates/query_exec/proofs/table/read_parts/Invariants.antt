@@ -1,16 +1,17 @@
-use Rattle.std.proofs.Common.{◌≡◌, ◌+◌, ◌≤◌, ◌-◌, ℕ, true, length, take}
+use Rattle.std.proofs.Common.{◌≡◌, ◌+◌, ◌≤◌, ◌-◌, ℕ, true, List, length, take}
 use Rattle.relations.specs.Sets.{In}
 use Rattle.relations.specs.Spans.{covers}
 use Rattle.prima_base.specs.Timed.{entries_of}
 use Rattle.smo_meaning.specs.OneRow.{Relation}
 use Rattle.smo_meaning.specs.Past.{Past, tables_of, database_at}
-use Rattle.version_groups.specs.Showing.{Represents}
+use Rattle.version_groups.specs.Representation.{Represents}
 use Rattle.piece_meaning.specs.Pieces.{all_mean}
 use Rattle.piece_ir.specs.Shown.{pieces_of}
 use Rattle.query_pieces.specs.Gathering.{IsGathered}
 use Rattle.query_exec.specs.declared.part_piece.PartPieces.{PartPieces}
-use Rattle.timed_choices.specs.Lending.{AllBorrowed}
-use Rattle.query_exec.specs.Borrowed.{ComputeNothing}
+use Rattle.cond_expr.specs.declared.expr.Column.{Column}
+use Rattle.timed_choices.specs.Lending.{Lent, RowsLend}
+use Rattle.query_exec.specs.Borrowed.{AllPlain}
 use Rattle.query_exec.specs.Planned.{planned_spans}
 use Rattle.query_exec.specs.Reads.{part_read}
 use Rattle.query_exec.specs.Totals.{total}
@@ -24,8 +25,9 @@ invariant-runs g l = record {
       → all_mean (tables_of past x.part.1) (database_at past m) (pieces_of x.pieces.items)
       ≡ relation m)
       → IsGathered relation (planned_spans (take l.at l.plan)) (entries_of l.rows.items);
-  borrowed : ((x : PartPieces) → In x l.plan → ComputeNothing (pieces_of x.pieces.items))
-      → AllBorrowed l.rows.items;
+  borrowed : (lent : Lent) → (columns : List Column)
+      → ((x : PartPieces) → In x l.plan → AllPlain lent columns (pieces_of x.pieces.items))
+      → RowsLend lent columns l.rows.items;
   cost : l.steps ≤ l.initial.steps + total (part_read l.groups) (take l.at l.plan);
   least : (x : PartPieces) → In x (take l.at l.plan)
       → l.initial.steps + part_read l.groups x ≤ l.steps;

@@ -11,14 +11,16 @@ use Rattle.piece_ir.specs.Shown.{pieces_of}
 use Rattle.query_pieces.specs.Gathering.{IsGathered}
 use Rattle.query_exec.specs.Asked.{read_asked}
 use Rattle.query_exec.specs.declared.part_piece.PartPieces.{PartPieces}
-use Rattle.query_exec.specs.Borrowed.{ComputeNothing}
+use Rattle.timed_choices.specs.Lending.{RowLends}
+use Rattle.joining.proofs.CoalescedRows.{each_by_values}
+use Rattle.query_exec.specs.Borrowed.{AllPlain}
 use Rattle.query_exec.specs.Planned.{planned_spans}
 use Rattle.query_exec.specs.Questions.{table_read}
 use Rattle.query_exec.specs.Reads.{part_read, explained_read}
 use Rattle.query_exec.specs.Routes.{IsOwn}
 use Rattle.query_exec.specs.Totals.{total}
 use Rattle.query_exec.proofs.AliveLaws.{plan_cost, plan_least}
-use Rattle.query_exec.proofs.BorrowedRows.{borrowed_values, plan_none}
+use Rattle.query_exec.proofs.BorrowedRows.{plan_plain}
 use Rattle.query_exec.proofs.PlanLaws.{plan_ready, plan_means, planned_over}
 use Rattle.query_exec.proofs.RouteLaws.{gathered_listed}
 use Rattle.query_exec.proofs.TotalLaws.{from_part}
@@ -93,17 +95,17 @@ returns-clause-cost g c = λ branch atom alive h.
     c.read_parts.ensures.cost
 
 pub returns-clause-borrowed : goal.returns-clause-borrowed
-returns-clause-borrowed g c = λ branch atom h.
-    borrowed_values c.in_ok-rows.rows.items c.coalesce_in_place.new.rows.items
-    c.coalesce_in_place.ensures.values
-    (c.in_ok-rows.ensures.borrowed
+returns-clause-borrowed g c = λ branch atom lent columns h.
+    each_by_values (RowLends lent columns) c.in_ok-rows.rows.items
+    c.coalesce_in_place.new.rows.items c.coalesce_in_place.ensures.values
+    (c.in_ok-rows.ensures.borrowed lent columns
     (subst (λ (xs : List PartPieces). (x : PartPieces) → In x xs
-    → ComputeNothing (pieces_of x.pieces.items)) (sym c.deref.ensures.value)
-    (plan_none (versions_in c.args.groups.now)
+    → AllPlain lent columns (pieces_of x.pieces.items)) (sym c.deref.ensures.value)
+    (plan_plain (versions_in c.args.groups.now)
     (book_of (λ r. (goal.Rule-dyn g (r.vtable, r.value)).handles r.value)
     (λ r. (goal.Rule-dyn g (r.vtable, r.value)).answers r.value) c.args.book.now.rules.items)
     c.args.route.now.asked c.args.table.now (read_asked c.args.question.now) branch atom
-    c.args.route.now.parts.items c.in_ok-plan.plan.items c.in_ok-plan.ensures h)))
+    c.args.route.now.parts.items c.in_ok-plan.plan.items lent columns c.in_ok-plan.ensures h)))
 
 pub returns-clause-least : goal.returns-clause-least
 returns-clause-least g c = λ branch atom e h.

@@ -2,8 +2,8 @@ use Rattle.std.proofs.Common.{◌≡◌, ◌<◌, sym, subst, arith}
 use Rattle.smo_types.specs.Commands.{versions_of}
 use Rattle.piece_meaning.specs.Books.{book_of}
 use Rattle.piece_ir.specs.Shown.{pieces_of}
-use Rattle.rewrite_chains.specs.Standing.{StandFor}
-use Rattle.rewrite_chains.proofs.Standings.{stand_typed, stand_previous}
+use Rattle.rewrite_chains.specs.UnfoldedPieces.{StandFor}
+use Rattle.rewrite_chains.proofs.UnfoldedPieceLaws.{stand_typed, stand_previous}
 use Rattle.query_exec.proofs.walk.back_to.Goals as goal
 
 pub to_previous-requires-clause-typed : goal.to_previous-requires-clause-typed

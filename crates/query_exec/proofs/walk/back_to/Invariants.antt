@@ -3,7 +3,7 @@ use Rattle.smo_types.specs.Commands.{versions_of}
 use Rattle.plain_answers.specs.Reading.{Read}
 use Rattle.piece_meaning.specs.Books.{book_of}
 use Rattle.piece_ir.specs.Shown.{pieces_of}
-use Rattle.rewrite_chains.specs.Standing.{StandFor}
+use Rattle.rewrite_chains.specs.UnfoldedPieces.{StandFor}
 use Rattle.query_exec.proofs.walk.back_to.Given as goal
 
 abbrev pub invariant-loop-walk : goal.invariant-loop-walk

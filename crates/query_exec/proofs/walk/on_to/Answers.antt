@@ -2,9 +2,9 @@ use Rattle.std.proofs.Common.{◌≡◌, ◌+◌, ◌≤◌, sym, subst, arith}
 use Rattle.smo_types.specs.Commands.{versions_of}
 use Rattle.piece_meaning.specs.Books.{book_of}
 use Rattle.piece_ir.specs.Shown.{pieces_of}
-use Rattle.rewrite_chains.specs.Standing.{StandFor}
+use Rattle.rewrite_chains.specs.UnfoldedPieces.{StandFor}
 use Rattle.rewrite_chains.proofs.StaysLost.{stays_lost}
-use Rattle.rewrite_chains.proofs.Standings.{stand_typed, stand_next}
+use Rattle.rewrite_chains.proofs.UnfoldedPieceLaws.{stand_typed, stand_next}
 use Rattle.query_exec.proofs.walk.on_to.Goals as goal
 
 pub to_next-requires-clause-typed : goal.to_next-requires-clause-typed

@@ -6,7 +6,7 @@ use Rattle.version_ways.specs.LostNames.{lost_names}
 use Rattle.plain_answers.specs.Reading.{Read}
 use Rattle.piece_meaning.specs.Books.{book_of}
 use Rattle.piece_ir.specs.Shown.{pieces_of}
-use Rattle.rewrite_chains.specs.Standing.{StandFor}
+use Rattle.rewrite_chains.specs.UnfoldedPieces.{StandFor}
 use Rattle.query_exec.proofs.walk.on_to.Given as goal
 
 abbrev pub invariant-loop-walk : goal.invariant-loop-walk

@@ -10,8 +10,8 @@ use Rattle.piece_meaning.specs.Typed.{AllTyped}
 use Rattle.piece_ir.specs.Shown.{pieces_of}
 use Rattle.piece_ir.specs.declared.piece.Piece.{Piece}
 use Rattle.rewrite_chains.specs.Beginnings.{asking, first_piece}
-use Rattle.rewrite_chains.specs.Standing.{StandFor}
-use Rattle.rewrite_chains.proofs.Standings.{stand_first}
+use Rattle.rewrite_chains.specs.UnfoldedPieces.{StandFor}
+use Rattle.rewrite_chains.proofs.UnfoldedPieceLaws.{stand_first}
 use Rattle.period_split.specs.Splitting.{Part}
 use Rattle.query_exec.specs.Routes.{DescendFrom}
 use Rattle.query_exec.specs.Asked.{read_asked}

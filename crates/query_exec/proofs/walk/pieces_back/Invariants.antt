@@ -3,7 +3,7 @@ use Rattle.smo_types.specs.Commands.{versions_of}
 use Rattle.version_groups.specs.Groups.{versions_in}
 use Rattle.piece_meaning.specs.Books.{book_of}
 use Rattle.piece_ir.specs.Shown.{pieces_of}
-use Rattle.rewrite_chains.specs.Standing.{StandFor}
+use Rattle.rewrite_chains.specs.UnfoldedPieces.{StandFor}
 use Rattle.query_exec.specs.Routes.{DescendFrom}
 use Rattle.query_exec.specs.Asked.{read_asked}
 use Rattle.query_exec.specs.Planned.{ArePlanned}

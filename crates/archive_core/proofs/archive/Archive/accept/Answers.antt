@@ -4,7 +4,7 @@ use Rattle.smo_types.specs.Commands.{PlainCommand}
 use Rattle.smo_meaning.specs.Past.{Past}
 use Rattle.version_groups.specs.Judged.{judged_command}
 use Rattle.version_groups.specs.Steps.{Prepares}
-use Rattle.archive_state.specs.Standing.{RepresentsPast}
+use Rattle.archive_state.specs.ArchiveContents.{RepresentsPast}
 use Rattle.archive_core.proofs.archive.Archive.accept.Goals as goal
 
 pub returns-in_err-put-clause-untouched : goal.returns-in_err-put-clause-untouched

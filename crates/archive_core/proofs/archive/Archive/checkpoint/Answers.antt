@@ -1,5 +1,5 @@
 use Rattle.std.proofs.Common.{◌≡◌, ◌+◌, length, ap, ◌∙◌}
-use Rattle.journal.specs.Standing.{needs, sealed_record}
+use Rattle.journal.specs.JournalFiles.{needs, sealed_record}
 use Rattle.archive_core.proofs.Committed.{checkpoint_answers, so_if_ok}
 use Rattle.archive_core.proofs.archive.Archive.checkpoint.Goals as goal
 

@@ -3,7 +3,7 @@ use Rattle.smo_types.specs.Commands.{command_of}
 use Rattle.image_spelling.specs.ShownPast.{image_past}
 use Rattle.journal.specs.Records.{Record}
 use Rattle.journal.specs.Reading.{record_of}
-use Rattle.archive_state.specs.Standing.{RepresentsPast}
+use Rattle.archive_state.specs.ArchiveContents.{RepresentsPast}
 use Rattle.archive_core.specs.declared.record_reader.ReadRecords.{ReadRecords}
 use Rattle.archive_core.specs.Reading.{AreJudged, AreKept}
 use Rattle.archive_core.proofs.ReadRecords.{command_judged, kept_judged, command_kept, image_kept}

@@ -3,7 +3,7 @@ use Rattle.std.specs.Prelude.{None, if◌then◌else◌}
 use Rattle.smo_meaning.specs.Past.{past_with}
 use Rattle.version_groups.specs.Steps.{Prepares}
 use Rattle.archive_state.specs.Committing.{version_made}
-use Rattle.archive_state.specs.Standing.{ArchiveContent, RepresentsPast}
+use Rattle.archive_state.specs.ArchiveContents.{ArchiveContent, RepresentsPast}
 use Rattle.archive_state.proofs.CarriedOut.{shows_next, newest_next, version_is}
 use Rattle.archive_state.proofs.archive.ArchiveState.carry_out.Goals as goal
 
@@ -24,7 +24,8 @@ returns-clause-done c past command stands prepares =
         version = c.version_made.ensures
             ∙ ap (λ b. if b then Some c.newest.result else None)
             c.makes_version-makes_version.ensures
-            ∙ version_is c.self.inside.groups past command.stamp command.body c.args.next.step c.newest.result
+            ∙ version_is c.self.inside.groups past command.stamp command.body c.args.next.step
+            c.newest.result
             prepared.ready.step
             ∙ ap (version_made command.body) newest;
       },

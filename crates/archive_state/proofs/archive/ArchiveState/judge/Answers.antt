@@ -1,6 +1,6 @@
 use Rattle.std.proofs.Common.{sym, subst}
 use Rattle.smo_types.specs.Commands.{command_of}
-use Rattle.archive_state.specs.Standing.{ArchiveContent, RepresentsPast}
+use Rattle.archive_state.specs.ArchiveContents.{ArchiveContent, RepresentsPast}
 use Rattle.archive_state.proofs.Judging.{answers}
 use Rattle.archive_state.proofs.archive.ArchiveState.judge.Goals as goal
 

@@ -5,7 +5,7 @@ use Rattle.query_types.specs.Queries.{query_of}
 use Rattle.piece_texts.specs.ExplainedPieces.{PlainExplained}
 use Rattle.query_exec.specs.Reads.{explained_read, reads_of}
 use Rattle.archive_state.specs.Asking.{ArePiecesOf}
-use Rattle.archive_state.specs.Standing.{ArchiveContent, RepresentsPast}
+use Rattle.archive_state.specs.ArchiveContents.{ArchiveContent, RepresentsPast}
 use Rattle.archive_state.proofs.QueryFaults.{way_back_told}
 use Rattle.archive_state.proofs.archive.ArchiveState.query.Goals as goal
 
@@ -25,10 +25,10 @@ returns-clause-way_back g c = λ past stands.
     (c.ask.ensures.asked past before.groups)
 
 pub returns-clause-borrowed : goal.returns-clause-borrowed
-returns-clause-borrowed g c = λ past stands pieces are none.
+returns-clause-borrowed g c = λ past stands pieces are.
     let before = subst (λ (s : ArchiveContent). RepresentsPast s past) (sym c.self.view_is)
     stands in
-    c.ask.ensures.borrowed past before.groups pieces are none
+    c.ask.ensures.borrowed past before.groups pieces are
 
 pub returns-clause-least : goal.returns-clause-least
 returns-clause-least g c = λ past stands pieces are e m.

@@ -1,8 +1,8 @@
--- When an archive stands for a past.
+-- When an archive represents a past.
 use Rattle.std.specs.Prelude.{◌≡◌, ℕ, Option}
 use Rattle.smo_meaning.specs.Past.{Past}
 use Rattle.version_groups.specs.Groups.{Kept}
-use Rattle.version_groups.specs.Showing.{Represents}
+use Rattle.version_groups.specs.Representation.{Represents}
 
 -- the versions with their stored tables, and the last stamp
 pub record ArchiveContent : Type 0 where
@@ -12,11 +12,11 @@ pub record ArchiveContent : Type 0 where
 abbrev pub archive_content : Kept → Option ℕ → ArchiveContent
 archive_content groups last = record { groups = groups; last = last }
 
--- its versions and tables show the past, and its last stamp is the past's
+-- its versions and tables represent the past, and its last stamp is the past's
 pub record RepresentsPast (archive : ArchiveContent) (past : Past) : Type 0 where
   pub groups : Represents archive.groups past
   pub last : archive.last ≡ past.last
 
--- it shows some past
+-- it represents some past
 abbrev pub RepresentsSome : ArchiveContent → Type 0
 RepresentsSome archive = (past : Past) × RepresentsPast archive past

@@ -8,7 +8,7 @@ use Rattle.query_types.specs.Queries.{query_of}
 use Rattle.period_split.specs.Splitting.{Part}
 use Rattle.query_exec.specs.Losing.{first_among, AllUpTo}
 use Rattle.query_exec.proofs.FirstLosses.{all_there, first_of_parts}
-use Rattle.query_exec.proofs.loss.first_loss.Goals as goal
+use Rattle.query_exec.proofs.loss.first_loss_in_slice.Goals as goal
 
 pub decided-requires-clause-there : goal.decided-requires-clause-there
 decided-requires-clause-there c =

@@ -10,11 +10,11 @@ ghost use Rattle.smo_meaning.specs.Past.{Past};
 ghost use Rattle.query_meaning.specs.Answers.{asked_at, answer};
 ghost use Rattle.query_types.specs.Queries.{PlainQuery, query_of, slice_of, IsLasting};
 ghost use Rattle.version_groups.specs.Groups.{versions_in};
-ghost use Rattle.version_groups.specs.Showing.{Represents};
+ghost use Rattle.version_groups.specs.Representation.{Represents};
 ghost use Rattle.rewrite.specs.Books.{meaning_of, EachOf};
 ghost use Rattle.query_exec.specs.Accepted.{IsAccepted, IsShown};
 ghost use Rattle.piece_texts.specs.ExplainedPieces.{PlainExplained};
-ghost use Rattle.query_exec.specs.Borrowed.{NoneComputes, AreBorrowedBy};
+ghost use Rattle.query_exec.specs.Borrowed.{AreBorrowedBy};
 ghost use Rattle.query_exec.specs.QueryPieces.{ArePieces};
 ghost use Rattle.query_exec.specs.Reads.{explained_read, reads_of};
 
@@ -31,15 +31,15 @@ use version_groups::Groups;
 /// What a query lists, over all of history: each row with the longest periods of its slice in which
 /// it holds, over the borders of versions too, ascending by row and start. KEEP is left to the
 /// caller. The query is one that is not refused, with each reference made one to an atom; the
-/// groups show the past, and the book has a rule for each kind of operator.
+/// groups represent the past, and the book has a rule for each kind of operator.
 ///
 /// A table's pieces at a version are made from those at its neighbour, so each rule is asked once a
 /// version and piece. It takes at most as many steps as there are, for each of the query's pieces,
 /// keys of the piece's tables and entries of the columns that it names of them: just the pieces
 /// that `explain` answers; and where it answers rows, at least as many as there are for any one of
-/// them. Where none of these computes an output, the texts of the outputs that are plain columns
-/// are borrowed by the stored tables, as those of one of the branches. The one error is `NoMemory`,
-/// where memory runs out.
+/// them. The texts of each output that is a plain column are borrowed by the stored tables, unless
+/// one of these pieces computes that column of its item: each row is so of one of the branches. The
+/// one error is `NoMemory`, where memory runs out.
 pub fn answer<'a, L: Ledger>(
     alloc: Global,
     groups: &'a Groups,
@@ -61,8 +61,7 @@ pub fn answer<'a, L: Ledger>(
     ensures borrowed { (pieces : List PlainExplained)
         → ArePieces (meaning_of book.now.rules.items (λ r. handles (r.vtable, r.value))
         (λ r. answers (r.vtable, r.value))) (versions_in groups.now) (query_of query.now) pieces
-        → NoneComputes pieces
-        → IfOk result (λ rows. AreBorrowedBy (query_of query.now).branches rows.items) }
+        → IfOk result (λ rows. AreBorrowedBy pieces (query_of query.now).branches rows.items) }
     ensures cost { (pieces : List PlainExplained)
         → ArePieces (meaning_of book.now.rules.items (λ r. handles (r.vtable, r.value))
         (λ r. answers (r.vtable, r.value))) (versions_in groups.now) (query_of query.now) pieces

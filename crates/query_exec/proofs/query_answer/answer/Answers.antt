@@ -13,12 +13,12 @@ use Rattle.query_types.specs.Branches.{branches_of}
 use Rattle.query_types.specs.declared.branch.Branch.{Branch}
 use Rattle.query_types.specs.Queries.{query_of}
 use Rattle.query_exec.specs.Accepted.{MayBranches}
-use Rattle.query_exec.specs.Borrowed.{NoneAliveComputes, AreBorrowedBy}
+use Rattle.joining.proofs.CoalescedRows.{each_by_values}
+use Rattle.query_exec.specs.Borrowed.{IsBorrowedBy, AreBorrowedBy, HaveLiving}
 use Rattle.query_exec.specs.QueryPieces.{branches_pieces, AreAlive}
-use Rattle.query_exec.proofs.AliveLaws.{in_alive}
-use Rattle.query_exec.proofs.BorrowedRows.{by_values}
+use Rattle.query_exec.proofs.AliveLaws.{alive_in, in_alive}
 use Rattle.query_exec.proofs.WholeAnswers.{may_all, whole_listing, whole_answer, pieces_here}
-use Rattle.query_exec.proofs.answers.answer.Goals as goal
+use Rattle.query_exec.proofs.query_answer.answer.Goals as goal
 
 pub answer_branches-requires-clause-schema : goal.answer_branches-requires-clause-schema
 answer_branches-requires-clause-schema g c =
@@ -88,20 +88,21 @@ returns-clause-cost g c = λ pieces h. c.answer_branches.ensures.cost 1 pieces
     (ap branches_of c.deref.ensures.value))) h)
 
 pub returns-clause-borrowed : goal.returns-clause-borrowed
-returns-clause-borrowed g c = λ pieces h none.
-    by_values (query_of c.args.query.now).branches c.in_ok-rows.rows.items
-    c.coalesce_in_place.new.rows.items c.coalesce_in_place.ensures.values
-    (subst (λ (bs : List Branch). AreBorrowedBy (branches_of bs) c.in_ok-rows.rows.items)
+returns-clause-borrowed g c = λ pieces h.
+    each_by_values (IsBorrowedBy pieces 1 (query_of c.args.query.now).branches)
+    c.in_ok-rows.rows.items c.coalesce_in_place.new.rows.items
+    c.coalesce_in_place.ensures.values
+    (subst (λ (bs : List Branch). AreBorrowedBy pieces (branches_of bs) c.in_ok-rows.rows.items)
     c.deref.ensures.value
-    (c.in_ok-rows.ensures.borrowed 1
-    (subst (λ (all : List PlainExplained). NoneAliveComputes (versions_in c.args.groups.now) all)
+    (c.in_ok-rows.ensures.borrowed 1 pieces
+    (subst (λ (all : List PlainExplained). HaveLiving (versions_in c.args.groups.now) all pieces)
     (sym (pieces_here (book_of (λ r. (goal.Rule-dyn g (r.vtable, r.value)).handles r.value)
     (λ r. (goal.Rule-dyn g (r.vtable, r.value)).answers r.value) c.args.book.now.rules.items)
     (versions_in c.args.groups.now) (query_of c.args.query.now) c.in_ok-route.route.asked
     c.in_ok-route.route.parts.items c.slice-slice.result (branches_of c.deref.result.now)
     c.in_ok-route.ensures.asked c.in_ok-route.ensures.parts c.slice-slice.ensures.value
     (ap branches_of c.deref.ensures.value)))
-    (record { alive = pieces; are = h; none = none }))))
+    (λ e alive. alive_in (versions_in c.args.groups.now) _ pieces e h alive))))
 
 pub returns-clause-least : goal.returns-clause-least
 returns-clause-least g c = λ pieces h e m. c.in_ok-rows.ensures.least 1 e

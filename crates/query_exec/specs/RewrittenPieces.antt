@@ -6,7 +6,7 @@ use Rattle.version_ways.specs.LostNames.{lost_names}
 use Rattle.plain_answers.specs.Reading.{Read}
 use Rattle.piece_meaning.specs.Pieces.{PlainPiece}
 use Rattle.piece_meaning.specs.Rules.{Book}
-use Rattle.rewrite_chains.specs.Standing.{MayBeAsked, StandFor}
+use Rattle.rewrite_chains.specs.UnfoldedPieces.{MayBeAsked, StandFor}
 
 -- at version v, for what is asked of a table of a version that is not earlier
 pub record AreBack (book : Book) (versions : List PlainVersion) (v : ℕ) (ps : List PlainPiece) :
