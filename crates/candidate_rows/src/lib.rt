@@ -2,8 +2,8 @@
 //! condition compares columns.
 //!
 //! The rows in their order are looked at between two cuts (`range`), or those with one value of a
-//! column that has an index (`candidate`). Of these a row is passed over that fails a test of one of
-//! its columns (`filter`).
+//! column that has an index (`candidate`). Of these a row is passed over that fails a test of one
+//! of its columns (`filter`).
 #![tactic(auto)]
 
 mod candidate;

@@ -33,7 +33,7 @@ module _ {A : Type 0} (p : Parser A) where
   judged_fails right stop.NoMemory ts rest h = tt
   judged_fails right stop.Unexpected ts rest h = ap (λ o. named_at ts (if_right ts right o)) h
 
--- ---- lists, of which so much was read: the whole is that in front of what is still read
+-- ---- lists, of which so much was read: the whole is that before what is still read
 
 nothing_before : {A : Type 0} (o : Out (List A)) → o ≡ prepend [] o
 nothing_before (Parsed l rest) = refl

@@ -2,6 +2,6 @@ pub mod ItemSteps
 pub mod ListSteps
 pub mod ListPlaces
 pub mod LineHeads
-pub mod StandingVersions
+pub mod NewestVersion
 pub mod BegunLines
 pub mod LineParts

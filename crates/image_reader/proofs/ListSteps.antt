@@ -22,7 +22,7 @@ use Rattle.image_spelling.specs.Reader as spec
 use Rattle.image_reader.specs.declared.line.ReadLine.{ReadLine}
 use Rattle.image_reader.specs.Seen.{stored_seen, lines_seen}
 use Rattle.image_reader.specs.Due.{with_left}
-use Rattle.image_reader.specs.Standing.{newest_stamp}
+use Rattle.image_reader.specs.NextVersion.{newest_stamp}
 use Rattle.image_reader.proofs.ItemSteps.{one_more, no_more, all_before}
 
 left_one : (count i : ℕ) → i < count → count - i ≡ suc (count - (i + 1))

@@ -1,4 +1,4 @@
 pub mod Seen
 pub mod Due
-pub mod Standing
+pub mod NextVersion
 pub mod Ordered

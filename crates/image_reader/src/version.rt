@@ -8,8 +8,8 @@ ghost use Rattle.command_spelling.specs.Reading.{pair};
 ghost use Rattle.command_spelling.specs.Reader as parts;
 ghost use Rattle.command_codec.specs.Reads.{Reads};
 ghost use Rattle.image_spelling.specs.Reader as spec;
-ghost use Rattle.image_reader.specs.Standing.{newest_stamp, is_in_turn, IsAccepted};
-ghost use Rattle.image_reader.specs.Standing.{IsAcceptedAfter};
+ghost use Rattle.image_reader.specs.NextVersion.{newest_stamp, is_in_turn, IsAccepted};
+ghost use Rattle.image_reader.specs.NextVersion.{IsAcceptedAfter};
 
 use crate::count::count_32;
 use crate::stamp::{is_later, is_stamp};

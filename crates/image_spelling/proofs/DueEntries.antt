@@ -22,7 +22,7 @@ abbrev pub Last : List Span → Type 0
 Last [] = ⊤
 Last (k ∷ keys) = (k.start < k.end) × Last keys
 
--- nothing stands in front of the first
+-- nothing stands before the first
 not_earlier : (c : Cell) (cells : List Cell) (e : Cell) → Ascends cell_cmp (c ∷ cells)
     → In e (c ∷ cells) → (c.id < e.id) ⊎ ((c.id ≡ e.id) × (c.period.start ≤ e.period.start))
 not_earlier c cells e a (inl q) = inr (

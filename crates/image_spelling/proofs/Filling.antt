@@ -44,7 +44,7 @@ cell_later a b e l = let f : nat_cmp a.id b.id ≡ Equal = ap (λ n. nat_cmp a.i
 cell_above : (a b : Cell) → a.id < b.id → cell_cmp a b ≡ Less
 cell_above a b l = let f = nat_less a.id b.id l in rw f refl
 
--- what stands in front of another has a lower id, or the same and an earlier start
+-- what stands before another has a lower id, or the same and an earlier start
 pub cell_before : (a b : Cell) → cell_cmp a b ≡ Less → (a.id < b.id)
     ⊎ ((a.id ≡ b.id) × (a.period.start < b.period.start))
 cell_before a b e = step (nat_cmp a.id b.id) refl e

@@ -3,7 +3,7 @@ use Rattle.std.proofs.Common.{◌≡◌, inl, inr, ℕ, List, [], ◌∷◌, len
 use Rattle.std.proofs.Common.{arith}
 use Rattle.journal.specs.Records.{Record, Holds, StandsFor, opened_file, empty_journal}
 use Rattle.journal.specs.Damage.{IsDamagedAt}
-use Rattle.journal.specs.Standing.{with_record, needs}
+use Rattle.journal.specs.JournalFiles.{with_record, needs}
 
 -- `AT 1 EVOLVE CREATE TABLE t (a INT)`
 abbrev created : Record

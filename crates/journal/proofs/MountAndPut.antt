@@ -12,7 +12,7 @@ use Rattle.journal.specs.PutLists.{MountsAndPuts, EndsWith, IsAll}
 use Rattle.journal.specs.Puts.{HoldsPrefix, StandsForPrefix}
 use Rattle.journal.specs.Reading.{IsOpened, records_in}
 use Rattle.journal.specs.Records.{Record, StandsFor}
-use Rattle.journal.specs.Standing.{Stands}
+use Rattle.journal.specs.JournalFiles.{Stands}
 use Rattle.journal.specs.declared.rec.Rec.{Rec}
 use Rattle.journal.specs.declared.fault.PutsFault.{PutsFault}
 use Rattle.journal.specs.declared.fault.PutsFault.TheVariants as puts

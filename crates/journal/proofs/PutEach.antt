@@ -12,7 +12,7 @@ use Rattle.journal.specs.Puts.{Puts, Acknowledges, HoldsPrefix, HavePut}
 use Rattle.journal.specs.PutLaws.{leaves_one_more, exit_one_more, have_more}
 use Rattle.journal.specs.PutLists.{records_of, fitting}
 use Rattle.journal.specs.Records.{Record, Holds}
-use Rattle.journal.specs.Standing.{sealed_record, needs}
+use Rattle.journal.specs.JournalFiles.{sealed_record, needs}
 use Rattle.journal.specs.declared.sealed.Sealed.{Sealed}
 use Rattle.journal.specs.declared.fault.PutFault.{PutFault}
 use Rattle.journal.specs.declared.fault.PutFault.TheVariants as put

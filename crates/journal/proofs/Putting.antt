@@ -14,7 +14,7 @@ use Rattle.journal.specs.Records.{Record, Holds, IsKnown, AreKnown, before_gate,
 use Rattle.journal.specs.Records.{header}
 use Rattle.journal.specs.Sealing.{IsSealed, record_in}
 use Rattle.std.proofs.Common.{length-take}
-use Rattle.journal.specs.Standing.{Stands, WithOrWithout}
+use Rattle.journal.specs.JournalFiles.{Stands, WithOrWithout}
 use Rattle.journal.proofs.Bytes as bytes
 
 pub frames-push : (rs : List Record) (r : Record) → frames (rs ++ r ∷ []) ≡ frames rs ++ 1 ∷ body r

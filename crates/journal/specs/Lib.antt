@@ -1,6 +1,6 @@
 pub mod Records
 pub mod Sealing
-pub mod Standing
+pub mod JournalFiles
 pub mod SyncedWrites
 pub mod Damage
 pub mod Reading

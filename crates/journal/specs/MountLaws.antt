@@ -8,7 +8,7 @@ use Rattle.disk_model.specs.Moments.{GoesOn, Leaves, Turns}
 use Rattle.disk_model.specs.MomentLaws.{goes_trans, turns_then}
 use Rattle.journal.specs.Records.{Record, StandsFor}
 use Rattle.journal.specs.RecordLaws.{none_in_nine, stands_for_one}
-use Rattle.journal.specs.Standing.{Stands}
+use Rattle.journal.specs.JournalFiles.{Stands}
 use Rattle.journal.specs.Reading.{IsOpened, records_in}
 use Rattle.journal.specs.Mounting.{SameOrNine}
 use Rattle.journal.specs.Puts.{Puts, ArePut, HoldsPrefix, StandsForPrefix, HavePut}

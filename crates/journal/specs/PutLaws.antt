@@ -10,7 +10,7 @@ use Rattle.disk_model.specs.Moments.{Leaves}
 use Rattle.disk_model.specs.MomentLaws.{goes_refl, goes_trans, still_honest, then_leaves}
 use Rattle.disk_model.specs.MomentLaws.{leaves_now}
 use Rattle.journal.specs.Records.{Record, Holds}
-use Rattle.journal.specs.Standing.{Stands, WithOrWithout}
+use Rattle.journal.specs.JournalFiles.{Stands, WithOrWithout}
 use Rattle.journal.specs.Puts.{Puts, Acknowledges, ArePut, HoldsPrefix, HavePut}
 
 module _ (opening put : List Record) where

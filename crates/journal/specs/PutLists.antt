@@ -5,7 +5,7 @@ use Rattle.disk_model.specs.Meaning.{Meaning}
 use Rattle.disk_model.specs.Moments.{Leaves, UntilSynced}
 use Rattle.journal.specs.Puts.{HoldsPrefix, StandsForPrefix}
 use Rattle.journal.specs.Records.{Record, StandsFor, before_gate}
-use Rattle.journal.specs.Standing.{Stands, sealed_record, needs}
+use Rattle.journal.specs.JournalFiles.{Stands, sealed_record, needs}
 use Rattle.journal.specs.declared.sealed.Sealed.{Sealed}
 
 abbrev pub records_of : List Sealed → List Record

@@ -3,7 +3,7 @@ use Rattle.std.specs.Prelude.{ℕ, ◌≤◌, IsTrue, List, [], ◌∷◌, ◌++
 use Rattle.disk_model.specs.Meaning.{Meaning}
 use Rattle.disk_model.specs.Moments.{GoesOn, Leaves}
 use Rattle.journal.specs.Records.{Record, Holds, StandsFor}
-use Rattle.journal.specs.Standing.{Stands, WithOrWithout}
+use Rattle.journal.specs.JournalFiles.{Stands, WithOrWithout}
 
 -- A put of a record at this gate, whatever it answers: at each moment of the call a crash leaves
 -- the records before, with the new one or without.

@@ -2,7 +2,7 @@ ghost use Rattle.std.specs.Prelude.{◌≡◌, ◌+◌, ◌-◌, ◌^◌, ◌<�
 ghost use Rattle.prima_io.specs.Causes.{Rose};
 ghost use Rattle.disk_model.specs.Meaning.{Told};
 ghost use Rattle.journal.specs.Puts.{Puts, Acknowledges};
-ghost use Rattle.journal.specs.Standing.{HasGate, sealed_record, needs, with_record};
+ghost use Rattle.journal.specs.JournalFiles.{HasGate, sealed_record, needs, with_record};
 ghost use Rattle.journal.specs.declared.fault.PutFault.TheVariants as put;
 
 use crate::fault::PutFault;

@@ -8,7 +8,7 @@ ghost use Rattle.journal.specs.Damage.{IsDamagedAt};
 ghost use Rattle.journal.specs.Mounting.{SameOrNine, IsNotSynced, KeepsFile};
 ghost use Rattle.journal.specs.Reading.{IsOpened, records_in};
 ghost use Rattle.journal.specs.Records.{empty_journal, opened_file};
-ghost use Rattle.journal.specs.Standing.{Stands, HasGate};
+ghost use Rattle.journal.specs.JournalFiles.{Stands, HasGate};
 ghost use Rattle.journal.specs.declared.fault.JournalFault.TheVariants as mounting;
 
 use crate::fault::JournalFault;

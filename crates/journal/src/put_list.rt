@@ -8,7 +8,7 @@ ghost use Rattle.journal.specs.Damage.{IsDamagedAt};
 ghost use Rattle.journal.specs.Fields.{below, place_of, limit_of};
 ghost use Rattle.journal.specs.PutLists.{records_of, fitting, PutsEach, LeavesPut};
 ghost use Rattle.journal.specs.PutLists.{MountsAndPuts, EndsWith, IsAll};
-ghost use Rattle.journal.specs.Standing.{HasGate, Stands};
+ghost use Rattle.journal.specs.JournalFiles.{HasGate, Stands};
 ghost use Rattle.journal.specs.declared.fault.JournalFault.TheVariants as mounting;
 ghost use Rattle.journal.specs.declared.fault.PutsFault.TheVariants as puts;
 

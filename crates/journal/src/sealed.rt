@@ -13,7 +13,7 @@ pub struct Sealed {
 impl Sealed {
     ghost use Rattle.std.specs.Prelude.{◌≡◌, IfOk};
     ghost use Rattle.journal.specs.Records.{IsKnown};
-    ghost use Rattle.journal.specs.Standing.{sealed_bytes, sealed_record};
+    ghost use Rattle.journal.specs.JournalFiles.{sealed_bytes, sealed_record};
 
     /// The record of this kind, a command or a checkpoint, with a copy of the payload.
     pub fn new(alloc: Global, kind: u8, payload: &[u8]) -> Result<Sealed, NoMemory>

@@ -2,8 +2,8 @@
 //! views.
 #![tactic(auto)]
 
+mod atom_fill;
 mod choice;
-mod filling;
 mod laws;
 mod name;
 mod output;
@@ -14,8 +14,8 @@ mod substitution;
 mod unfolded;
 mod view;
 
+pub use atom_fill::column_of;
 pub use choice::unfold_by;
-pub use filling::column_of;
 pub use laws::{substitution_puts_a_value, the_same_pieces_are_equal};
 pub use piece::Piece;
 pub use sameness::same_pieces;

@@ -5,7 +5,7 @@ ghost use Rattle.piece_ir.specs.Shown.{piece_of};
 ghost use Rattle.piece_ir.specs.Substituting.{substituted, names_column, piece_references};
 
 use crate::Piece;
-use crate::filling::PutColumn;
+use crate::atom_fill::PutColumn;
 use crate::name::copy_names;
 use crate::output::fill_outputs;
 use crate::reference::{cond_names, outputs_name};

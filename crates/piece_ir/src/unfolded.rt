@@ -8,7 +8,7 @@ ghost use Rattle.piece_meaning.specs.Unfolding.{unfolded};
 ghost use Rattle.piece_ir.specs.Shown.{piece_of, borrowed_views};
 ghost use Rattle.piece_ir.specs.Placing.{places_from};
 
-use crate::filling::{MovedOn, PutViews};
+use crate::atom_fill::{MovedOn, PutViews};
 use crate::name::append_names;
 use crate::output::fill_outputs;
 use crate::{Piece, View};

@@ -27,7 +27,8 @@ use Rattle.piece_meaning.specs.Pieces.{PlainPiece}
 use Rattle.piece_meaning.specs.Typed.{AreThere, IsTyped, output_types}
 use Rattle.piece_meaning.specs.Views.{PlainView, whole, Views, views_of}
 use Rattle.piece_meaning.specs.Unfolding.{unfolded, unfoldings}
-use Rattle.piece_meaning.specs.Given.{Picks, Shows, AreGiven, IsTypedView, IsGivenBy, EachGivenBy}
+use Rattle.piece_meaning.specs.Given.{Picks, HasOutputs, AreGiven, IsTypedView, IsGivenBy}
+use Rattle.piece_meaning.specs.Given.{EachGivenBy}
 use Rattle.piece_meaning.specs.Given.{AreViews}
 use Rattle.piece_meaning.specs.Rules.{sources_of, KeepsMeaning, IsValidRule, by_views, HasViews}
 use Rattle.piece_meaning.specs.Constants.{ValidInOperator, ValidInView, ValidInPiece, ValidInPieces}
@@ -41,7 +42,7 @@ use Rattle.piece_meaning.proofs.UnfoldedTypes.{unfolded_typed, unfolded_outputs,
 module _ (t : Tables) (db : Database) (a : List ℕ) where
   whole_there : (row : Row) → In row (rows_under (get db a))
       → (v : PlainView) × (choice : List Row) × In v (whole a ∷ []) × Picks t db v choice
-      × Shows t (columns_of t a) v choice row
+      × HasOutputs t (columns_of t a) v choice row
   whole_there row m = (
     whole a,
     row ∷ [],
@@ -51,16 +52,16 @@ module _ (t : Tables) (db : Database) (a : List ℕ) where
   )
 
   whole_row : (choice : List Row) → Picks t db (whole a) choice → (row : Row)
-      × In row (rows_under (get db a)) × Shows t (columns_of t a) (whole a) choice row
+      × In row (rows_under (get db a)) × HasOutputs t (columns_of t a) (whole a) choice row
   whole_row [] p = absurd p.chosen
   whole_row (r ∷ []) p = (r, p.chosen.0, record { is = λ n i. refl })
   whole_row (r ∷ s ∷ choice) p = absurd p.chosen.1
 
   whole_back : (v : PlainView) → In v (whole a ∷ []) → (choice : List Row) → Picks t db v choice
-      → (row : Row) × In row (rows_under (get db a)) × Shows t (columns_of t a) v choice row
+      → (row : Row) × In row (rows_under (get db a)) × HasOutputs t (columns_of t a) v choice row
   whole_back v (inl e) =
       subst (λ (x : PlainView). (choice : List Row) → Picks t db x choice → (row : Row)
-      × In row (rows_under (get db a)) × Shows t (columns_of t a) x choice row) e whole_row
+      × In row (rows_under (get db a)) × HasOutputs t (columns_of t a) x choice row) e whole_row
   whole_back v (inr m) = absurd m
 
   whole_given : AreGiven t db (columns_of t a) (rows_under (get db a)) (whole a ∷ [])

@@ -34,7 +34,7 @@ other i j = grind (arith)
 abbrev none_there : List AtomColumn → List ℕ → ℕ → Bool
 none_there columns n i = is_none (kinds_of columns (Atom i) n)
 
--- the columns of an item, in front of others
+-- the columns of an item, before others
 own : (i : ℕ) (n : List ℕ) (cs : List Column) (rest : List AtomColumn)
     → among n (names_of cs) ≡ true → none_there (columns_at i cs ++ rest) n i ≡ false
 own i n [] rest h = absurd (cc)

@@ -1,4 +1,5 @@
-//! Queries read from tokens, from left to right, by the readers that query_grammar has as functions.
+//! Queries read from tokens, from left to right, by the readers that query_grammar has as
+//! functions.
 #![tactic(auto)]
 
 mod parse;

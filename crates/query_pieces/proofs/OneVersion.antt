@@ -18,7 +18,7 @@ use Rattle.piece_prune.proofs.Pruned.{mean_the_same}
 use Rattle.rewrite_chains.specs.Beginnings.{first_piece}
 use Rattle.rewrite_chains.specs.Chains.{unfolded_to}
 use Rattle.rewrite_chains.specs.Reading.{unfolded_read, unfolded_reads, unfolded_answers}
-use Rattle.rewrite_chains.specs.Standing.{StandFor}
+use Rattle.rewrite_chains.specs.UnfoldedPieces.{StandFor}
 use Rattle.query_types.specs.Queries.{PlainQuery}
 use Rattle.query_pieces.specs.Piecewise.{asked_branches, pieces_at}
 

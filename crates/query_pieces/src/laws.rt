@@ -23,7 +23,7 @@ ghost use Rattle.piece_meaning.specs.Pieces.{PlainPiece, means, all_mean};
 ghost use Rattle.piece_meaning.specs.Rules.{Book, IsValidBook};
 ghost use Rattle.piece_prune.specs.DeadPieces.{AreLiving};
 ghost use Rattle.rewrite_chains.specs.Reading.{Suffices, unfolded_read, unfolded_reads};
-ghost use Rattle.rewrite_chains.specs.Standing.{StandFor};
+ghost use Rattle.rewrite_chains.specs.UnfoldedPieces.{StandFor};
 ghost use Rattle.query_types.specs.Queries.{PlainQuery, slice_of, IsLasting};
 ghost use Rattle.query_meaning.specs.Losing.{first_lost};
 ghost use Rattle.query_meaning.specs.Accepted.{fault_of_query};

@@ -208,7 +208,8 @@ module _ {X : Type 0} (cmp : X → X → Ordering) (o : IsExact cmp) (x : X) (re
           | true ↦ λ q. all_runs stages s.start s.items (Some s.start) f.2
               (next_from low before s stages f.0 is)
               (opened low before s stages f.0 f.1 is k (has_in cmp o x s.items q)) m l v h
-          | false ↦ λ q. all_runs stages s.start s.items None f.2 (next_from low before s stages f.0 is)
+          | false ↦ λ q. all_runs stages s.start s.items None f.2
+              (next_from low before s stages f.0 is)
               (has_not cmp o x s.items q) m l v h
         ] refl
   ]

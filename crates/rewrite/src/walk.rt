@@ -19,7 +19,7 @@ ghost use Rattle.piece_ir.specs.Shown.{pieces_of};
 ghost use Rattle.rewrite_chains.specs.Chains.{to_previous, to_next, unfolded_to};
 ghost use Rattle.smo_meaning.specs.ValidValues.{VersionsHold};
 ghost use Rattle.rewrite_chains.specs.Beginnings.{asking, first_piece};
-ghost use Rattle.rewrite_chains.specs.Standing.{MayBeAsked, StandFor};
+ghost use Rattle.rewrite_chains.specs.UnfoldedPieces.{MayBeAsked, StandFor};
 
 use crate::lost_piece::loss_of;
 use crate::question::first_piece;

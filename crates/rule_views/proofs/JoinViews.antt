@@ -29,7 +29,7 @@ use Rattle.smo_meaning.proofs.OneColumns.{made_columns}
 use Rattle.smo_meaning.proofs.ColumnsByName.{joined_types}
 use Rattle.piece_meaning.specs.Views.{PlainView}
 use Rattle.piece_meaning.specs.Constants.{ValidInView}
-use Rattle.piece_meaning.specs.Given.{Picks, Shows, AreGiven, IsTypedView, AreViews}
+use Rattle.piece_meaning.specs.Given.{Picks, HasOutputs, AreGiven, IsTypedView, AreViews}
 use Rattle.rule_views.specs.OperatorViews.{paired, operator_views}
 use Rattle.rule_views.proofs.ViewConstants.{paired_constants}
 use Rattle.rule_views.proofs.OneTable.{only_one, two_there}
@@ -78,12 +78,12 @@ module _ (tables : Tables) (r s : List ℕ) (c : Test) where
           (meets new c (joined_row cs ds a b)) e h;
     }
 
-    shown : (a b : Row) → Shows tables new view (a ∷ b ∷ []) (joined_row cs ds a b)
+    shown : (a b : Row) → HasOutputs tables new view (a ∷ b ∷ []) (joined_row cs ds a b)
     shown a b = record { is = λ n m. joined_cell cs ds a b n m }
 
     abbrev IsFrom : Row → Type 0
     IsFrom row = (v : PlainView) × (choice : List Row) × In v (view ∷ []) × Picks tables db v choice
-        × Shows tables new v choice row
+        × HasOutputs tables new v choice row
 
     from_pair : (row a b : Row) → In a first → In b second → agree cs ds a b ≡ true
         → meets new c row ≡ true → joined_row cs ds a b ≡ row → IsFrom row
@@ -118,7 +118,7 @@ module _ (tables : Tables) (r s : List ℕ) (c : Test) where
 
     of_pair : (choice : List Row) → Picks tables db view choice → (a : Row) × (b : Row)
         × (choice ≡ a ∷ b ∷ []) × In a first × In b second
-        → (row : Row) × In row made × Shows tables new view choice row
+        → (row : Row) × In row made × HasOutputs tables new view choice row
     of_pair choice p (a, b, q, i, j) =
         let k : Picks tables db view (a ∷ b ∷ []) =
         subst (λ (x : List Row). Picks tables db view x) q p in
@@ -126,7 +126,7 @@ module _ (tables : Tables) (r s : List ℕ) (c : Test) where
         (sym (all_met cs ds a b c known) ∙ k.met) in (
           joined_row cs ds a b,
           into_made a b i j h.0 h.1,
-          subst (λ (x : List Row). Shows tables new view x (joined_row cs ds a b)) (sym q)
+          subst (λ (x : List Row). HasOutputs tables new view x (joined_row cs ds a b)) (sym q)
               (shown a b),
         )
 
@@ -137,7 +137,7 @@ module _ (tables : Tables) (r s : List ℕ) (c : Test) where
           (from_set row_cmp row_exact row (filter (meets new c) (flat_map pairs first)) m) in
           from_rows row h.1 (from_flat_map pairs row first h.0));
       back = λ v m. subst (λ (x : PlainView). (choice : List Row) → Picks tables db x choice
-          → (row : Row) × In row made × Shows tables new x choice row)
+          → (row : Row) × In row made × HasOutputs tables new x choice row)
           (only_one view v m) (λ choice p. of_pair choice p
           (two_chosen choice first second p.chosen));
     }

@@ -29,7 +29,7 @@ use Rattle.cond_expr.specs.AtomColumns.{kinds_of_atoms}
 use Rattle.plain_answers.proofs.OneRelation.{own_alike}
 use Rattle.piece_meaning.specs.Views.{PlainView, out_of}
 use Rattle.piece_meaning.specs.Constants.{ValidInOperator, ValidInView}
-use Rattle.piece_meaning.specs.Given.{Picks, Shows, AreGiven, IsTypedView, IsGivenBy}
+use Rattle.piece_meaning.specs.Given.{Picks, HasOutputs, AreGiven, IsTypedView, IsGivenBy}
 
 -- the made row has in each column what the outputs have of the old one
 abbrev pub IsShown : List Column → List Column → List (List ℕ × Tree) → Row → Row → Type 0
@@ -69,7 +69,7 @@ module _ (tables : Tables) (db : Database) (r : List ℕ) (new : List Column) (p
     met = subst (λ (at : Cells). list_all (truth at) parts ≡ true) (sym (own_alike cs old)) e;
   }
 
-  shown : (old row : Row) → IsShown cs new outs old row → Shows tables new view (old ∷ []) row
+  shown : (old row : Row) → IsShown cs new outs old row → HasOutputs tables new view (old ∷ []) row
   shown old row h = record {
     is = λ n m. h n m
         ∙ ap (λ (at : Cells). value at (out_of outs n)) (sym (own_alike cs old));
@@ -81,13 +81,13 @@ module _ (tables : Tables) (db : Database) (r : List ℕ) (new : List Column) (p
     there = λ row m. (let g = h.there row m in
         (view, g.0 ∷ [], inl refl, picked g.0 g.1 g.2, shown g.0 row g.3));
     back = λ v m. subst (λ (q : PlainView). (choice : List Row) → Picks tables db q choice
-        → (row : Row) × In row made × Shows tables new q choice row)
+        → (row : Row) × In row made × HasOutputs tables new q choice row)
         (only_one view v m) of_view;
   }
     where
       of_row : (choice : List Row) → Picks tables db view choice → (old : Row) × (choice ≡ old ∷ [])
           × In old (rows_under (get db r))
-          → (row : Row) × In row made × Shows tables new view choice row
+          → (row : Row) × In row made × HasOutputs tables new view choice row
       of_row choice p (old, e, m) =
           let q : Picks tables db view (old ∷ []) =
           subst (λ (c : List Row). Picks tables db view c) e p in
@@ -95,12 +95,12 @@ module _ (tables : Tables) (db : Database) (r : List ℕ) (new : List Column) (p
           (own_alike cs old) q.met) in (
             g.0,
             g.1,
-            subst (λ (c : List Row). Shows tables new view c g.0) (sym e)
+            subst (λ (c : List Row). HasOutputs tables new view c g.0) (sym e)
                 (shown old g.0 g.2),
           )
 
       of_view : (choice : List Row) → Picks tables db view choice → (row : Row) × In row made
-          × Shows tables new view choice row
+          × HasOutputs tables new view choice row
       of_view choice p = of_row choice p (one_chosen choice (rows_under (get db r)) p.chosen)
 
 -- the union of two relations has the views of both

@@ -17,11 +17,11 @@ stamped moment does = stamp moment ++ does
 -- ---- the moments: of the first row, of the first operator after the rows, of the first update,
 -- and of the first new title
 
-abbrev pub rows_at : ℕ
-rows_at = 10
+abbrev pub first_row_at : ℕ
+first_row_at = 10
 
 abbrev pub evolved_at : ℕ → ℕ
-evolved_at size = rows_at + size
+evolved_at size = first_row_at + size
 
 abbrev pub updated_at : ℕ → ℕ
 updated_at size = evolved_at size + 4
@@ -43,7 +43,7 @@ row_given i = row_prefix ++ (decimal i ++ (codes ", 'p"
     ++ (decimal i ++ (codes "', " ++ (decimal (i % 4) ++ codes ")")))))
 
 abbrev pub page_inserted : ℕ → List ℕ
-page_inserted i = stamped (rows_at + i) (row_given i)
+page_inserted i = stamped (first_row_at + i) (row_given i)
 
 -- ---- which is then given a column and split twice, the second time by columns
 

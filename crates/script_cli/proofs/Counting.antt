@@ -6,7 +6,7 @@ use Rattle.std.specs.Io.KnownBytes.{Consumes, IsAtEnd}
 use Rattle.disk_model.specs.Meaning.{Tells}
 use Rattle.disk_model.specs.declared.disk.Disk.{Ghosts}
 use Rattle.archive_file.specs.LogRecords.{LogRecord, commands_in}
-use Rattle.archive_state.specs.Standing.{ArchiveContent}
+use Rattle.archive_state.specs.ArchiveContents.{ArchiveContent}
 use Rattle.archive_core.specs.declared.archive.Archive.{Archive}
 use Rattle.archive_core.specs.declared.archive.Opened.{Opened}
 use Rattle.archive_core.specs.Mounting.{IsMounted}
@@ -15,7 +15,7 @@ use Rattle.script_cli.specs.Given.{Given}
 use Rattle.script_cli.specs.Due.{Due, command_due, image_due, commands_due}
 use Rattle.script_cli.specs.Puts.{is_error, is_command, put_for}
 use Rattle.script_cli.specs.Output.{Recorded, reply, script_puts, all_puts}
-use Rattle.script_cli.specs.Shows.{put_of}
+use Rattle.script_cli.specs.Responses.{put_of}
 use Rattle.script_cli.specs.Driving.{CountsPuts, CountsOpening, status_of}
 use Rattle.script_cli.specs.Runs.{IsOpening, WhereTold, is_whole}
 use Rattle.script_cli.specs.Sampling.{IsCounted}

@@ -9,7 +9,7 @@ use Rattle.disk_model.specs.Moments.{GoesOn, Leaves, Turns}
 use Rattle.disk_model.specs.MomentLaws.{still_honest, turns_weaker}
 use Rattle.disk_model.specs.declared.disk.Disk.{Ghosts}
 use Rattle.journal.specs.Records.{Record, Holds, StandsFor}
-use Rattle.journal.specs.Standing.{Stands}
+use Rattle.journal.specs.JournalFiles.{Stands}
 use Rattle.journal.specs.Mounting.{SameOrNine}
 use Rattle.journal.specs.Puts.{HoldsPrefix, StandsForPrefix}
 use Rattle.journal.specs.MountLaws.{none_yet, mount_then}
@@ -28,7 +28,7 @@ use Rattle.script_parse.specs.Script.{StatementPart}
 use Rattle.script_cli.specs.Due.{AreRecordsOf}
 use Rattle.script_cli.specs.Output.{Recorded, recorded, all_puts}
 use Rattle.script_cli.specs.Putting.{HasPut, PutsSome}
-use Rattle.script_cli.specs.Shows.{StandsAt}
+use Rattle.script_cli.specs.Responses.{RepresentsAt}
 use Rattle.script_cli.specs.Files.{OpensPrefix, EndsAs, IsSoundFile}
 use Rattle.script_cli.specs.Runs.{RanOpened, IsOpening, begun, given_by, logged_in}
 use Rattle.script_cli.specs.Driving.{Drove, PutBy, HasOpened}
@@ -219,7 +219,7 @@ module _ {D : Type 0} {g : Ghosts D} (old : Meaning) (limit : ℕ) (book : Book)
     (archive : Archive D g) (has : HasOpened old limit archive) where
   start_told : (seen : Option (List ℕ)) → Tells seen (λ file. (opened : Opened)
       × IsMounted file (standing_of archive) (place_of archive) opened)
-      → (start : Recorded) × StandsAt archive (given_by limit book) start × IsOpening start seen
+      → (start : Recorded) × RepresentsAt archive (given_by limit book) start × IsOpening start seen
   start_told None told = (
     record { past = has.shows.0; at = place_of archive },
     record { past = has.shows.1; place = refl; limit_is = has.limit_is },
@@ -232,7 +232,7 @@ module _ {D : Type 0} {g : Ghosts D} (old : Meaning) (limit : ℕ) (book : Book)
   )
 
   -- the start of a script after it
-  pub start_of : (start : Recorded) × StandsAt archive (given_by limit book) start
+  pub start_of : (start : Recorded) × RepresentsAt archive (given_by limit book) start
       × IsOpening start old.seen
   start_of = start_told old.seen has.mounted
 

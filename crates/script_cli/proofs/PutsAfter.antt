@@ -9,7 +9,7 @@ use Rattle.disk_model.specs.declared.disk.Disk.{Ghosts}
 use Rattle.disk_model.specs.MomentLaws.{goes_refl, goes_trans, still_honest, then_leaves}
 use Rattle.disk_model.specs.MomentLaws.{leaves_now}
 use Rattle.journal.specs.Records.{Record, Holds}
-use Rattle.journal.specs.Standing.{Stands, WithOrWithout}
+use Rattle.journal.specs.JournalFiles.{Stands, WithOrWithout}
 use Rattle.journal.specs.Puts.{Puts, Acknowledges, HoldsPrefix, HavePut}
 use Rattle.journal.specs.PutLaws.{have_none, have_more, leaves_one_more}
 use Rattle.archive_file.specs.LogRecords.{LogRecord, record_of, records_of, IsSpelled}
@@ -18,7 +18,7 @@ use Rattle.archive_core.specs.declared.archive.Archive.{Archive}
 use Rattle.archive_core.specs.Fields.{below, place_of}
 use Rattle.script_cli.specs.Due.{Due}
 use Rattle.script_cli.specs.Putting.{HasPut, MayHavePut, PutsSome}
-use Rattle.script_cli.specs.Shows.{PutBetween}
+use Rattle.script_cli.specs.Responses.{PutBetween}
 use Rattle.script_cli.proofs.DueRecords.{records_together, spelled_append}
 
 -- ---- records

@@ -21,8 +21,9 @@ use Rattle.script_cli.specs.Output.{parts_of, ending_of, has_error, tail_text, t
 use Rattle.script_cli.specs.declared.script_run.ScriptRun.{ScriptRun}
 use Rattle.script_cli.specs.declared.halt.Halt.{Halt}
 use Rattle.script_cli.specs.declared.halt.Halt.TheVariants as halt
-use Rattle.script_cli.specs.Shows.{StandsAt, PutBetween, Took, Halted, next_reply, pieces_after}
-use Rattle.script_cli.specs.Shows.{ending_after}
+use Rattle.script_cli.specs.Responses.{RepresentsAt, PutBetween, Took, Halted, next_reply}
+use Rattle.script_cli.specs.Responses.{pieces_after}
+use Rattle.script_cli.specs.Responses.{ending_after}
 use Rattle.script_cli.specs.Runs.{Log, Wrote, WroteAll, begun, logged_in}
 use Rattle.script_cli.specs.Driving.{Drove, PutBy, Ends, is_faulty, status_of}
 use Rattle.script_cli.specs.Limits.{longest_script}
@@ -127,7 +128,7 @@ next_log limit start whole rest done its first then =
 pub reach_start : {D : Type 0} {g : Ghosts D} (limit : Given) (start : Recorded)
     (archive : Archive D g) (a u : Option (List ℕ)) (s : ScriptRun) → IsValid (below archive)
     → IsStart s
-    → StandsAt archive limit start → Consumes a a []
+    → RepresentsAt archive limit start → Consumes a a []
     → Reached limit start archive archive a a u u s 0
 reach_start limit start archive a u s law h stands k =
     record {
@@ -201,7 +202,8 @@ module _ {D : Type 0} {g : Ghosts D} (limit : Given) (start : Recorded)
 stopped : {D : Type 0} {g : Ghosts D} (limit : Given) (start : Recorded) (o m e : Archive D g)
     (a b u v w : Option (List ℕ)) (s : ScriptRun) (n : ℕ) (h : Halt)
     (r : Reached limit start o m a b u v s n) (piece : List ℕ)
-    → ((now : Recorded) → StandsAt m limit now → Halted h limit now (pieces_after s piece) m e v w)
+    → ((now : Recorded) → RepresentsAt m limit now
+    → Halted h limit now (pieces_after s piece) m e v w)
     → Halted h limit start (r.took.pieces ++ pieces_after s piece) o e u w
 stopped limit start o m e a b u v w s n h r piece f =
     halted_after limit start h r.took.pieces (pieces_after s piece) o m e u v w r.took.puts
@@ -260,7 +262,7 @@ module _ {D : Type 0} {g : Ghosts D} (limit : Given) (start : Recorded)
     (o m e : Archive D g) {a b c u v w : Option (List ℕ)} {s : ScriptRun} {n : ℕ} where
   pub reach : (r : Reached limit start o m a b u v s n) (piece : List ℕ) (k : ℕ) (next : ScriptRun)
       → Consumes b c piece → k ≡ n + length piece
-      → ((now : Recorded) → StandsAt m limit now → Took limit now s next m e piece [] v w)
+      → ((now : Recorded) → RepresentsAt m limit now → Took limit now s next m e piece [] v w)
       → Reached limit start o e a c u w next k
   unfolding took_longer
   reach r piece k next consumes is f = record {
@@ -276,7 +278,7 @@ module _ {D : Type 0} {g : Ghosts D} (limit : Given) (start : Recorded)
 
   pub drove_halted : (h : Halt) (r : Reached limit start o m a b u v s n) (piece : List ℕ)
       → IsValid (below e) → n + length piece ≤ longest_script → Consumes b c piece
-      → ((now : Recorded) → StandsAt m limit now
+      → ((now : Recorded) → RepresentsAt m limit now
       → Halted h limit now (pieces_after s piece) m e v w)
       → Drove limit start (status_of h) a c u w (below o) (below e) (place_of o)
   drove_halted h r piece law l k f =

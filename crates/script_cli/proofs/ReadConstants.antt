@@ -28,7 +28,8 @@ use Rattle.parser_combinators.specs.Grammar.{Size}
 use Rattle.expr_grammar.specs.Grammar as g
 use Rattle.expr_grammar.specs.Grammar.{spelled, IsExpr, AreParts, IsFact, AreFacts, IsConj}
 use Rattle.expr_grammar.specs.Grammar.{AreConjs, IsCond}
-use Rattle.script_parse.specs.Lexing.{Placed, a_token, Lexed, Tokens, Faulty, after_token, by_scanned}
+use Rattle.script_parse.specs.Lexing.{Placed, a_token, Lexed, Tokens, Faulty, after_token}
+use Rattle.script_parse.specs.Lexing.{by_scanned}
 use Rattle.script_parse.specs.Lexing.{lexed_from, saying}
 
 -- ---- tokens

@@ -29,7 +29,7 @@ use Rattle.script_cli.specs.Puts.{is_command, put_for}
 use Rattle.script_cli.specs.Output.{Recorded, recorded, recorded_with, Reply, answered, refused_or}
 use Rattle.script_cli.specs.Output.{put, reply, statement_reply, reading_reply, piece_reply}
 use Rattle.script_cli.specs.Output.{all_puts, recorded_after}
-use Rattle.script_cli.specs.Shows.{put_of}
+use Rattle.script_cli.specs.Responses.{put_of}
 use Rattle.script_cli.proofs.DueRecords.{records_apart, are_first, first_apart}
 
 -- ---- one record more

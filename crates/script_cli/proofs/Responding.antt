@@ -17,11 +17,11 @@ use Rattle.version_groups.specs.Steps.{rows_gained, rows_lost}
 use Rattle.archive_state.specs.declared.archive.Done.{Done}
 use Rattle.archive_state.specs.Committing.{version_made, IsDone}
 use Rattle.archive_core.specs.declared.archive.Archive.{Archive}
-use Rattle.journal.specs.Standing.{needs}
+use Rattle.journal.specs.JournalFiles.{needs}
 use Rattle.archive_file.specs.LogRecords.{logged, record_of}
 use Rattle.image_spelling.specs.Lengths.{image_length}
 use Rattle.archive_core.specs.Checkpointing.{checkpoint_fault}
-use Rattle.archive_state.specs.Standing.{RepresentsPast}
+use Rattle.archive_state.specs.ArchiveContents.{RepresentsPast}
 use Rattle.archive_core.specs.Fields.{standing_of, disk_of, below, place_of, limit_of, is_broken}
 use Rattle.archive_core.specs.Fields.{IsReady}
 use Rattle.archive_core.specs.Committing.{commit_fault}
@@ -41,7 +41,7 @@ use Rattle.script_cli.specs.declared.halt.Halt.TheVariants.{WriteFault, DiskFaul
 use Rattle.script_cli.specs.Halts.{or_write_fault, HaltCounted, SaidCounted}
 use Rattle.script_cli.specs.Puts.{put_for}
 use Rattle.script_cli.specs.Putting.{HasPut}
-use Rattle.script_cli.specs.Shows.{Says, Responds, StandsAt, TakesRecords, PutBetween}
+use Rattle.script_cli.specs.Responses.{Says, Responds, RepresentsAt, TakesRecords, PutBetween}
 use Rattle.script_cli.proofs.PutsAfter.{put_nothing, nothing_between}
 
 -- the line tells what the command did
@@ -120,11 +120,11 @@ module _ (old new : Option (List ℕ)) where
   module _ {D : Type 0} {g : Ghosts D} (limit : Given) (now : Recorded) (a b : Archive D g) where
     -- a statement that calls no disk
     pub says_responds : (reply : Reply) (result : Result Put Halt) → IsValid (below a)
-        → StandsAt a limit now → reply.puts ≡ [] → reply.after ≡ now → Says reply result old new
+        → RepresentsAt a limit now → reply.puts ≡ [] → reply.after ≡ now → Says reply result old new
         → Responds limit reply result a a old new
     says_responds reply (Ok put) law stands none same says = record {
       is = says.0;
-      stands = subst (StandsAt a limit) (sym same) stands;
+      stands = subst (RepresentsAt a limit) (sym same) stands;
       puts = subst (PutBetween a a) (sym none) (nothing_between a law);
       text = says.1;
     }
@@ -136,7 +136,7 @@ module _ (old new : Option (List ℕ)) where
     -- the record of what is due was put, and then a line
     put_responds : (text said : List ℕ) (due : Due) (told : Put) (fault : Fault)
         (result : Result Put Failed) → fault ≡ None → told ≡ put_for false (due ∷ []) → said ≡ text
-        → StandsAt b limit (recorded_with now due) → PutBetween a b (due ∷ [])
+        → RepresentsAt b limit (recorded_with now due) → PutBetween a b (due ∷ [])
         → IfOk result (λ p. p ≡ told) → OnOk result (Appends old new said)
         → OnErr result (AppendsPrefix old new said)
         → Responds limit (refused_or fault now (put text due now)) (or_write_fault result) a b
@@ -156,7 +156,7 @@ module _ (old new : Option (List ℕ)) where
     -- an accepted command that was put
     pub done_responds : (command : PlainCommand) (done : Done) (result : Result Put Failed)
         → commit_fault now.past now.at limit.limit command ≡ None → IsDone now.past command done
-        → StandsAt b limit (recorded_with now (command_due command))
+        → RepresentsAt b limit (recorded_with now (command_due command))
         → PutBetween a b (command_due command ∷ []) → IfOk result (λ put. put ≡ Command)
         → OnOk result (Appends old new (done_text done))
         → OnErr result (AppendsPrefix old new (done_text done))
@@ -169,7 +169,7 @@ module _ (old new : Option (List ℕ)) where
     -- a checkpoint that was put
     pub stored_responds : (result : Result Put Failed)
         → checkpoint_fault now.past now.at limit.limit ≡ None
-        → StandsAt b limit (recorded_with now (image_due now.past))
+        → RepresentsAt b limit (recorded_with now (image_due now.past))
         → PutBetween a b (image_due now.past ∷ []) → IfOk result (λ put. put ≡ NoError)
         → OnOk result (Appends old new checkpoint_text)
         → OnErr result (AppendsPrefix old new checkpoint_text)
@@ -181,7 +181,7 @@ module _ (old new : Option (List ℕ)) where
 
     -- what is refused
     pub refused_responds : (r : Refusal) (fault : Fault) (other : Reply)
-        (result : Result Put Failed) → fault ≡ Some r → StandsAt b limit now → PutBetween a b []
+        (result : Result Put Failed) → fault ≡ Some r → RepresentsAt b limit now → PutBetween a b []
         → IfOk result (λ put. put ≡ ErrorLine) → OnOk result (Appends old new (refusal_text r))
         → OnErr result (AppendsPrefix old new (refusal_text r))
         → Responds limit (refused_or fault now other) (or_write_fault result) a b old new
@@ -199,7 +199,7 @@ module _ (old new : Option (List ℕ)) where
 -- ---- what putting a record does
 
 pub fault_here : {D : Type 0} {g : Ghosts D} (a : Archive D g) (limit : Given) (now : Recorded)
-    (command : PlainCommand) (fault : Fault) → StandsAt a limit now
+    (command : PlainCommand) (fault : Fault) → RepresentsAt a limit now
     → commit_fault now.past (place_of a) (limit_of a) command ≡ fault
     → commit_fault now.past now.at limit.limit command ≡ fault
 fault_here a limit now command fault stands e =
@@ -207,7 +207,7 @@ fault_here a limit now command fault stands e =
     ∙ ap (λ n. commit_fault now.past (place_of a) n command) (sym stands.limit_is) ∙ e
 
 pub checkpoint_fault_here : {D : Type 0} {g : Ghosts D} (a : Archive D g) (limit : Given)
-    (now : Recorded) (fault : Fault) → StandsAt a limit now
+    (now : Recorded) (fault : Fault) → RepresentsAt a limit now
     → checkpoint_fault now.past (place_of a) (limit_of a) ≡ fault
     → checkpoint_fault now.past now.at limit.limit ≡ fault
 checkpoint_fault_here a limit now fault stands e =
@@ -215,12 +215,12 @@ checkpoint_fault_here a limit now fault stands e =
     ∙ ap (λ n. checkpoint_fault now.past (place_of a) n) (sym stands.limit_is) ∙ e
 
 module _ {D : Type 0} {g : Ghosts D} (a b : Archive D g) (limit : Given) (now : Recorded)
-    (stands : StandsAt a limit now) where
+    (stands : RepresentsAt a limit now) where
   -- it stands for what is after a command that was put
   pub stands_after : (command : PlainCommand)
       → RepresentsPast (standing_of b) (past_with now.past command)
       → place_of b + 1 ≡ place_of a + needs (record_of (logged command)) → limit_of b ≡ limit_of a
-      → StandsAt b limit (recorded_with now (command_due command))
+      → RepresentsAt b limit (recorded_with now (command_due command))
   stands_after command shows place same = record {
     past = shows;
     place =
@@ -231,7 +231,7 @@ module _ {D : Type 0} {g : Ghosts D} (a b : Archive D g) (limit : Given) (now : 
   -- or after an image, whose past is the same
   pub stands_stored : (n : ℕ) → n ≡ image_length now.past → RepresentsPast (standing_of b) now.past
       → place_of b + 1 ≡ place_of a + (11 + n) → limit_of b ≡ limit_of a
-      → StandsAt b limit (recorded_with now (image_due now.past))
+      → RepresentsAt b limit (recorded_with now (image_due now.past))
   stands_stored n is shows place same = record {
     past = shows;
     place =
@@ -241,7 +241,7 @@ module _ {D : Type 0} {g : Ghosts D} (a b : Archive D g) (limit : Given) (now : 
 
   -- it stands as it stood
   pub stands_still : RepresentsPast (standing_of b) now.past → place_of b ≡ place_of a
-      → limit_of b ≡ limit_of a → StandsAt b limit now
+      → limit_of b ≡ limit_of a → RepresentsAt b limit now
   stands_still shows place same = record {
     past = shows;
     place = place ∙ stands.place;
@@ -297,7 +297,7 @@ module _ {D : Type 0} {g : Ghosts D} (a b : Archive D g) (limit : Given) (now : 
       (reply_is limit now text (Whole s) e) h
 
   -- no statement
-  pub blank_responds : Blank ≡ reading text → IsValid (below a) → StandsAt a limit now
+  pub blank_responds : Blank ≡ reading text → IsValid (below a) → RepresentsAt a limit now
       → Responds limit (reply limit now text) (Ok NoError) a a u u
   blank_responds e law stands = subst (λ y. Responds limit y (Ok NoError) a a u u)
       (reply_is limit now text Blank e)
@@ -307,7 +307,7 @@ module _ {D : Type 0} {g : Ghosts D} (a b : Archive D g) (limit : Given) (now : 
   -- what is read as no statement is refused
   pub unread_responds : (r : Refusal) (put : Result Put Failed) (said : Result Put Halt)
       → Refused r ≡ reading text → said ≡ or_write_fault put → IsValid (below a)
-      → StandsAt a limit now
+      → RepresentsAt a limit now
       → IfOk put (λ p. p ≡ ErrorLine) → OnOk put (Appends u w (refusal_text r))
       → OnErr put (AppendsPrefix u w (refusal_text r))
       → Responds limit (reply limit now text) said a a u w

@@ -20,8 +20,8 @@ use Rattle.script_cli.specs.declared.halt.Halt.{Halt}
 use Rattle.script_cli.specs.declared.halt.Halt.TheVariants.{NoMemory}
 use Rattle.script_cli.specs.Output.{Recorded, piece_reply, replies, all_puts, recorded_after}
 use Rattle.script_cli.specs.Output.{any_error}
-use Rattle.script_cli.specs.Shows.{StandsAt, PutBetween, StopsIn, Took, Halted, next_reply}
-use Rattle.script_cli.specs.Shows.{pieces_after, ending_after}
+use Rattle.script_cli.specs.Responses.{RepresentsAt, PutBetween, StopsIn, Took, Halted, next_reply}
+use Rattle.script_cli.specs.Responses.{pieces_after, ending_after}
 use Rattle.script_cli.proofs.PutsAfter.{nothing_between, then_between}
 use Rattle.script_cli.proofs.DueRecords.{commands_append}
 
@@ -76,7 +76,7 @@ module _ (limit : Given) where
 module _ {D : Type 0} {g : Ghosts D} (limit : Given) (now : Recorded) where
   -- none was taken
   pub took_none : (s : ScriptRun) (a : Archive D g) (bytes : List ℕ) (w : Option (List ℕ))
-      → IsValid (below a) → StandsAt a limit now → Took limit now s s a a bytes bytes w w
+      → IsValid (below a) → RepresentsAt a limit now → Took limit now s s a a bytes bytes w w
   took_none s a bytes w law stands = record {
     pieces = [];
     cut = λ more. refl;
@@ -93,7 +93,7 @@ module _ {D : Type 0} {g : Ghosts D} (limit : Given) (now : Recorded) where
       (piece : StatementPart)
       → ((more : List ℕ) → pieces_after s (xs ++ more) ≡ piece ∷ pieces_after t (ys ++ more))
       → ((more : List ℕ) → ending_after s (xs ++ more) ≡ ending_after t (ys ++ more))
-      → StandsAt b limit (piece_reply limit now piece).after
+      → RepresentsAt b limit (piece_reply limit now piece).after
       → t.refused ≡ (s.refused || (piece_reply limit now piece).is_error)
       → PutBetween a b (piece_reply limit now piece).puts
       → t.puts ≡ s.puts + length (commands_due (piece_reply limit now piece).puts)
@@ -121,7 +121,8 @@ module _ {D : Type 0} {g : Ghosts D} (limit : Given) (now : Recorded) where
         cut = λ more. k.cut more ∙ ap (λ l. k.pieces ++ l) (m.cut more)
             ∙ sym (append_assoc k.pieces m.pieces (pieces_after n (zs ++ more)));
         end = λ more. k.end more ∙ m.end more;
-        stands = subst (StandsAt c limit) (sym (after-append limit now k.pieces m.pieces)) m.stands;
+        stands = subst (RepresentsAt c limit) (sym (after-append limit now k.pieces m.pieces))
+            m.stands;
         refused = m.refused ∙ ap (λ x. x || any_error limit next m.pieces) k.refused
             ∙ sym (or_assoc s.refused (any_error limit now k.pieces)
             (any_error limit next m.pieces))
@@ -144,7 +145,7 @@ module _ {D : Type 0} {g : Ghosts D} (limit : Given) (now : Recorded) where
             m.wrote);
       }
 
-  -- the same bytes in front of others
+  -- the same bytes before others
   unfoldable pub took_longer : (s t : ScriptRun) (a b : Archive D g) (xs ys zs : List ℕ)
       (u v : Option (List ℕ)) → Took limit now s t a b xs ys u v
       → Took limit now s t a b (xs ++ zs) (ys ++ zs) u v
@@ -240,7 +241,7 @@ module _ {D : Type 0} {g : Ghosts D} (limit : Given) (now : Recorded) (s t : Scr
     ≡ ending (tail_from z.mode z.kept (ys ++ more)))
     (same : t.splitter ≡ z) where
   -- no statement ended
-  pub took_all : cut ≡ More → ys ≡ [] → IsValid (below a) → StandsAt a limit now
+  pub took_all : cut ≡ More → ys ≡ [] → IsValid (below a) → RepresentsAt a limit now
       → t.refused ≡ s.refused → t.puts ≡ s.puts → Took limit now s t a a xs [] u u
   took_all e all law stands faulty counted = record {
     pieces = [];
@@ -258,7 +259,7 @@ module _ {D : Type 0} {g : Ghosts D} (limit : Given) (now : Recorded) (s t : Scr
 
   -- a statement ended, and was answered
   pub took_answer : (piece : StatementPart) → found cut ≡ piece ∷ []
-      → StandsAt b limit (piece_reply limit now piece).after
+      → RepresentsAt b limit (piece_reply limit now piece).after
       → t.refused ≡ (s.refused || (piece_reply limit now piece).is_error)
       → PutBetween a b (piece_reply limit now piece).puts
       → t.puts ≡ s.puts + length (commands_due (piece_reply limit now piece).puts)

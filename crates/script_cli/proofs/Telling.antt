@@ -20,7 +20,7 @@ use Rattle.script_cli.specs.Given.{Given}
 use Rattle.script_cli.specs.Output.{Recorded, recorded, piece_reply, replies, replies_of, all_puts}
 use Rattle.script_cli.specs.Output.{script_puts, recorded_after, parts_of, ending_of, output}
 use Rattle.script_cli.specs.Output.{tail_text}
-use Rattle.script_cli.specs.Shows.{next_reply}
+use Rattle.script_cli.specs.Responses.{next_reply}
 use Rattle.script_cli.specs.Files.{OpensPrefix, IsSoundFile, LeavesPrefix}
 use Rattle.script_cli.specs.Runs.{Ran, WroteTail, RanOpened, IsOpening, ToldUnopened, IsUntouched}
 use Rattle.script_cli.specs.Runs.{RunsOver, RefusesFile, WhereTold, begun, is_whole, logged_in}

@@ -8,10 +8,10 @@ use Rattle.disk_model.specs.Meaning.{Meaning, Tells}
 use Rattle.disk_model.specs.Moments.{GoesOn}
 use Rattle.disk_model.specs.declared.disk.Disk.{Ghosts}
 use Rattle.journal.specs.Mounting.{IsNotSynced, KeepsFile}
-use Rattle.journal.specs.Standing.{Stands}
+use Rattle.journal.specs.JournalFiles.{Stands}
 use Rattle.archive_file.specs.LogRecords.{LogRecord, records_of, commands_in}
 use Rattle.archive_file.specs.Opening.{Opens, Damages}
-use Rattle.archive_state.specs.Standing.{RepresentsSome}
+use Rattle.archive_state.specs.ArchiveContents.{RepresentsSome}
 use Rattle.archive_core.specs.declared.archive.Archive.{Archive}
 use Rattle.archive_core.specs.declared.archive.Opened.{Opened}
 use Rattle.archive_core.specs.declared.fault.MountFault.{MountFault}
@@ -25,7 +25,7 @@ use Rattle.script_cli.specs.Output.{Recorded, script_puts, tail_text, tail_is_du
 use Rattle.script_cli.specs.Putting.{HasPut, PutsSome}
 use Rattle.answer_text.specs.Texts.{not_a_journal_text}
 use Rattle.script_cli.specs.Runs.{Ran, Log, PutsLine, WhereTold, counted_limit, logged_in}
-use Rattle.script_cli.specs.Shows.{TakesRecords, ending_after}
+use Rattle.script_cli.specs.Responses.{TakesRecords, ending_after}
 use Rattle.script_cli.specs.declared.script_run.ScriptRun.{ScriptRun}
 use Rattle.script_cli.specs.declared.halt.Halt.{Halt}
 use Rattle.script_cli.specs.declared.halt.Halt.TheVariants as halt

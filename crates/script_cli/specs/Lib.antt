@@ -6,7 +6,7 @@ pub mod Output
 pub mod Puts
 pub mod Halts
 pub mod Putting
-pub mod Shows
+pub mod Responses
 pub mod Files
 pub mod Runs
 pub mod Driving

@@ -148,7 +148,7 @@ reading_reply limit (Whole statement) now = statement_reply limit statement now
 unfoldable pub reply : Given → Recorded → List ℕ → Reply
 reply limit now text = reading_reply limit (reading text) now
 
--- the reply to what a script has in front of a `;`
+-- the reply to what a script has before a `;`
 abbrev pub piece_reply : Given → Recorded → StatementPart → Reply
 piece_reply limit now (Text text) = reply limit now text
 piece_reply limit now Skipped = refused refusal.TooLong now

@@ -3,7 +3,7 @@ use Rattle.std.specs.Prelude.{◌≡◌, ◌⊎◌, IsTrue, ℕ, List, [], ◌�
 use Rattle.disk_model.specs.Meaning.{Meaning}
 use Rattle.disk_model.specs.Moments.{GoesOn, Leaves}
 use Rattle.journal.specs.Records.{Holds}
-use Rattle.journal.specs.Standing.{Stands}
+use Rattle.journal.specs.JournalFiles.{Stands}
 use Rattle.journal.specs.Puts.{HavePut, HoldsPrefix, Puts}
 use Rattle.archive_file.specs.LogRecords.{LogRecord, record_of, records_of, IsSpelled, AreSpelled}
 use Rattle.archive_core.specs.Holding.{HoldsAt}

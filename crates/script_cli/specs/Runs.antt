@@ -18,7 +18,7 @@ use Rattle.script_cli.specs.Given.{Given}
 use Rattle.script_cli.specs.Output.{Recorded, recorded, replies, all_puts, recorded_after, parts_of}
 use Rattle.script_cli.specs.Output.{ending_of, has_error, tail_text}
 use Rattle.script_cli.specs.Limits.{longest_script}
-use Rattle.script_cli.specs.Shows.{next_reply}
+use Rattle.script_cli.specs.Responses.{next_reply}
 use Rattle.script_cli.specs.Files.{OpensPrefix, EndsAs}
 use Rattle.script_cli.specs.declared.status.Status.{Status}
 use Rattle.script_cli.specs.declared.status.Status.TheVariants.{Done, Refused, Words, ReadFault}

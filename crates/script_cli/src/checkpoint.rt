@@ -11,7 +11,7 @@ ghost use Rattle.script_cli.specs.Given.{Given};
 ghost use Rattle.script_cli.specs.Output.{Recorded, checkpoint_reply};
 ghost use Rattle.script_cli.specs.Halts.{HaltCounted};
 ghost use Rattle.script_cli.specs.declared.put.Put.TheVariants as Put;
-ghost use Rattle.script_cli.specs.Shows.{Responds, StandsAt, TakesRecords};
+ghost use Rattle.script_cli.specs.Responses.{Responds, RepresentsAt, TakesRecords};
 
 use crate::halt::{Halt, or_write_fault};
 use crate::put::Put;
@@ -42,7 +42,7 @@ pub(crate) fn respond_checkpoint<K: Sink, D: Disk>(
     sink: &mut K,
 ) -> Result<Put, Halt>
     requires takes { TakesRecords archive.old }
-    ensures replies { (limit : Given) → (now : Recorded) → StandsAt archive.old limit now
+    ensures replies { (limit : Given) → (now : Recorded) → RepresentsAt archive.old limit now
         → Responds limit (checkpoint_reply limit now) result archive.old archive.new
         (K.written sink.old) (K.written sink.new) }
     ensures takes { OnOk result (TakesRecords archive.new) }

@@ -8,7 +8,7 @@ ghost use Rattle.archive_core.specs.Fields.{below, place_of};
 ghost use Rattle.script_cli.specs.Given.{Given};
 ghost use Rattle.script_cli.specs.Output.{Recorded};
 ghost use Rattle.script_cli.specs.Runs.{SourceCounted, SinkCounted, DiskCounted};
-ghost use Rattle.script_cli.specs.Shows.{StandsAt, TakesRecords};
+ghost use Rattle.script_cli.specs.Responses.{RepresentsAt, TakesRecords};
 ghost use Rattle.script_cli.specs.Driving.{Drove, Ends, CountsPuts, status_of};
 
 use crate::SCRIPT_LIMIT;
@@ -97,13 +97,15 @@ pub(crate) fn drive<S: Source, K: Sink, D: Disk>(
     requires takes { TakesRecords archive.old }
     ensures drove { (limit : Given) → limit.book
         ≡ meaning_of book.now.rules.items (λ r. handles (r.vtable, r.value))
-        (λ r. answers (r.vtable, r.value)) → (start : Recorded) → StandsAt archive.old limit start
+        (λ r. answers (r.vtable, r.value)) → (start : Recorded)
+        → RepresentsAt archive.old limit start
         → Drove limit start result.status (S.left source.old) (S.left source.new)
         (K.written sink.old) (K.written sink.new) (below archive.old) (below archive.new)
         (place_of archive.old) }
     ensures counted { (limit : Given) → limit.book
         ≡ meaning_of book.now.rules.items (λ r. handles (r.vtable, r.value))
-        (λ r. answers (r.vtable, r.value)) → (start : Recorded) → StandsAt archive.old limit start
+        (λ r. answers (r.vtable, r.value)) → (start : Recorded)
+        → RepresentsAt archive.old limit start
         → CountsPuts result.status limit start (S.left source.old) result.puts }
     ensures source { SourceCounted result.status (S.faults source.old) (S.faults source.new) }
     ensures sink { SinkCounted result.status (K.faults sink.old) (K.faults sink.new) }

@@ -8,12 +8,12 @@
 
 mod adapter;
 mod checkpoint;
+mod disk_run;
 mod driver;
 mod file_disk;
 mod halt;
 mod kept_reply;
 mod laws;
-mod opening;
 mod program_run;
 mod put;
 mod response;

@@ -45,7 +45,7 @@ ghost use Rattle.script_cli.specs.Sampling.{AsksSample, SamplesOver, sample_told
 ghost use Rattle.script_cli.specs.Sampling.{sample_end};
 ghost use Rattle.script_cli.specs.declared.status.Status.TheVariants as Status;
 
-use crate::opening::run_over;
+use crate::disk_run::run_over;
 use crate::sample::sample_over;
 use crate::status::Status;
 use crate::word::{Word, refuse_words};

@@ -16,9 +16,9 @@ ghost use Rattle.query_types.specs.Queries.{query_of};
 ghost use Rattle.script_parse.specs.Statements.{statement_of};
 ghost use Rattle.rewrite.specs.Books.{meaning_of, EachOf};
 ghost use Rattle.piece_texts.specs.ExplainedPieces.{all_explained};
-ghost use Rattle.version_groups.specs.Showing.{Represents};
+ghost use Rattle.version_groups.specs.Representation.{Represents};
 ghost use Rattle.archive_state.specs.Asking.{IsAsked};
-ghost use Rattle.archive_state.specs.Standing.{RepresentsPast};
+ghost use Rattle.archive_state.specs.ArchiveContents.{RepresentsPast};
 ghost use Rattle.archive_core.specs.Fields.{standing_of, below, limit_of};
 ghost use Rattle.answer_text.specs.RefusalTexts.{refusal_text};
 ghost use Rattle.answer_text.specs.Texts.{listing_text, explain_text, sizes_text};
@@ -28,7 +28,7 @@ ghost use Rattle.script_cli.specs.Output.{query_reply, explain_reply, versions_r
 ghost use Rattle.script_cli.specs.Output.{sizes_reply, statement_reply};
 ghost use Rattle.script_cli.specs.Halts.{HaltCounted, SaidCounted};
 ghost use Rattle.script_cli.specs.declared.put.Put.TheVariants as Put;
-ghost use Rattle.script_cli.specs.Shows.{Says, Responds, StandsAt, TakesRecords};
+ghost use Rattle.script_cli.specs.Responses.{Says, Responds, RepresentsAt, TakesRecords};
 
 use crate::checkpoint::respond_checkpoint;
 use crate::halt::{Halt, or_write_fault};
@@ -95,7 +95,7 @@ fn respond_write<K: Sink, D: Disk>(
     command: Command,
 ) -> Result<Put, Halt>
     requires takes { TakesRecords archive.old }
-    ensures replies { (limit : Given) → (now : Recorded) → StandsAt archive.old limit now
+    ensures replies { (limit : Given) → (now : Recorded) → RepresentsAt archive.old limit now
         → Responds limit (command_reply limit (command_of command) now) result archive.old
         archive.new (K.written sink.old) (K.written sink.new) }
     ensures takes { OnOk result (TakesRecords archive.new) }
@@ -296,7 +296,7 @@ fn respond_statement<K: Sink, D: Disk>(
     requires takes { TakesRecords archive.old }
     ensures replies { (limit : Given) → limit.book
         ≡ meaning_of book.now.rules.items (λ r. handles (r.vtable, r.value))
-        (λ r. answers (r.vtable, r.value)) → (now : Recorded) → StandsAt archive.old limit now
+        (λ r. answers (r.vtable, r.value)) → (now : Recorded) → RepresentsAt archive.old limit now
         → Responds limit (statement_reply limit (statement_of statement) now) result archive.old
         archive.new (K.written sink.old) (K.written sink.new) }
     ensures takes { OnOk result (TakesRecords archive.new) }
@@ -328,7 +328,7 @@ pub(crate) fn respond<K: Sink, D: Disk>(
     requires takes { TakesRecords archive.old }
     ensures replies { (limit : Given) → limit.book
         ≡ meaning_of book.now.rules.items (λ r. handles (r.vtable, r.value))
-        (λ r. answers (r.vtable, r.value)) → (now : Recorded) → StandsAt archive.old limit now
+        (λ r. answers (r.vtable, r.value)) → (now : Recorded) → RepresentsAt archive.old limit now
         → Responds limit (reply limit now text.now) result archive.old archive.new
         (K.written sink.old) (K.written sink.new) }
     ensures takes { OnOk result (TakesRecords archive.new) }

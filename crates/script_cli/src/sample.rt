@@ -11,13 +11,13 @@ ghost use Rattle.script_cli.specs.Given.{Given};
 ghost use Rattle.script_cli.specs.Output.{Recorded};
 ghost use Rattle.script_cli.specs.Halts.{SaidCounted};
 ghost use Rattle.script_cli.specs.Runs.{SinkCounted, DiskCounted, given_by, is_whole};
-ghost use Rattle.script_cli.specs.Shows.{StandsAt, TakesRecords};
+ghost use Rattle.script_cli.specs.Responses.{RepresentsAt, TakesRecords};
 ghost use Rattle.script_cli.specs.Sampling.{SamplesOver, DroveSample, PutsSummary, stop_of};
 
+use crate::disk_run::{mount_counted, refuse_file};
 use crate::driver::{drive, status_of};
 use crate::halt::Halt;
 use crate::kept_reply::RepliesKept;
-use crate::opening::{mount_counted, refuse_file};
 use crate::status::Status;
 use archive_core::Archive;
 use archive_file::a_file_opens_or_is_damaged;
@@ -91,7 +91,8 @@ fn sample<K: Sink, D: Disk>(
     requires takes { TakesRecords archive.old }
     ensures drove { (limit : Given) → limit.book
         ≡ meaning_of book.now.rules.items (λ r. handles (r.vtable, r.value))
-        (λ r. answers (r.vtable, r.value)) → (start : Recorded) → StandsAt archive.old limit start
+        (λ r. answers (r.vtable, r.value)) → (start : Recorded)
+        → RepresentsAt archive.old limit start
         → DroveSample size limit (sample_script size) start commands result (K.written sink.old)
         (K.written sink.new) (below archive.old) (below archive.new) (place_of archive.old) }
     ensures sink { SinkCounted result (K.faults sink.old) (K.faults sink.new) }

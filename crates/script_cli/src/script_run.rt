@@ -14,8 +14,9 @@ ghost use Rattle.script_cli.specs.Given.{Given};
 ghost use Rattle.script_cli.specs.Output.{Recorded, reply, refused, tail_text, tail_is_due};
 ghost use Rattle.script_cli.specs.Halts.{HaltCounted};
 ghost use Rattle.script_cli.specs.Puts.{is_error};
-ghost use Rattle.script_cli.specs.Shows.{Took, Answered, Halted, StopsIn, StandsAt, TakesRecords};
-ghost use Rattle.script_cli.specs.Shows.{pieces_after, ending_after};
+ghost use Rattle.script_cli.specs.Responses.{Took, Answered, Halted, StopsIn, RepresentsAt};
+ghost use Rattle.script_cli.specs.Responses.{TakesRecords};
+ghost use Rattle.script_cli.specs.Responses.{pieces_after, ending_after};
 
 use crate::halt::Halt;
 use crate::put::Put;
@@ -72,12 +73,14 @@ impl ScriptRun {
         requires takes { TakesRecords archive.old }
         ensures answered { (limit : Given) → limit.book
             ≡ meaning_of book.now.rules.items (λ r. handles (r.vtable, r.value))
-            (λ r. answers (r.vtable, r.value)) → (now : Recorded) → StandsAt archive.old limit now
+            (λ r. answers (r.vtable, r.value)) → (now : Recorded)
+            → RepresentsAt archive.old limit now
             → OnOk result (Answered limit (reply limit now text.now) self.old self.new archive.old
             archive.new (K.written sink.old) (K.written sink.new)) }
         ensures stopped { (limit : Given) → limit.book
             ≡ meaning_of book.now.rules.items (λ r. handles (r.vtable, r.value))
-            (λ r. answers (r.vtable, r.value)) → (now : Recorded) → StandsAt archive.old limit now
+            (λ r. answers (r.vtable, r.value)) → (now : Recorded)
+            → RepresentsAt archive.old limit now
             → IfErr result (λ halt. StopsIn halt (reply limit now text.now) archive.old archive.new
             (K.written sink.old) (K.written sink.new)) }
         ensures splitter { self.new.splitter ≡ self.old.splitter }
@@ -134,7 +137,8 @@ impl ScriptRun {
         requires takes { TakesRecords archive.old }
         ensures took { (limit : Given) → limit.book
             ≡ meaning_of book.now.rules.items (λ r. handles (r.vtable, r.value))
-            (λ r. answers (r.vtable, r.value)) → (now : Recorded) → StandsAt archive.old limit now
+            (λ r. answers (r.vtable, r.value)) → (now : Recorded)
+            → RepresentsAt archive.old limit now
             → IfOk result (λ rest. MatchOption rest
             (Took limit now self.old self.new archive.old archive.new bytes.now []
             (K.written sink.old) (K.written sink.new))
@@ -142,7 +146,8 @@ impl ScriptRun {
             (K.written sink.old) (K.written sink.new))) }
         ensures halted { (limit : Given) → limit.book
             ≡ meaning_of book.now.rules.items (λ r. handles (r.vtable, r.value))
-            (λ r. answers (r.vtable, r.value)) → (now : Recorded) → StandsAt archive.old limit now
+            (λ r. answers (r.vtable, r.value)) → (now : Recorded)
+            → RepresentsAt archive.old limit now
             → IfErr result (λ halt. Halted halt limit now (pieces_after self.old bytes.now)
             archive.old archive.new (K.written sink.old) (K.written sink.new)) }
         ensures fewer { IfOk result (λ rest. MatchOption rest (Unit {0})
@@ -182,12 +187,14 @@ impl ScriptRun {
         requires takes { TakesRecords archive.old }
         ensures took { (limit : Given) → limit.book
             ≡ meaning_of book.now.rules.items (λ r. handles (r.vtable, r.value))
-            (λ r. answers (r.vtable, r.value)) → (now : Recorded) → StandsAt archive.old limit now
+            (λ r. answers (r.vtable, r.value)) → (now : Recorded)
+            → RepresentsAt archive.old limit now
             → OnOk result (Took limit now self.old self.new archive.old archive.new piece.now []
             (K.written sink.old) (K.written sink.new)) }
         ensures halted { (limit : Given) → limit.book
             ≡ meaning_of book.now.rules.items (λ r. handles (r.vtable, r.value))
-            (λ r. answers (r.vtable, r.value)) → (now : Recorded) → StandsAt archive.old limit now
+            (λ r. answers (r.vtable, r.value)) → (now : Recorded)
+            → RepresentsAt archive.old limit now
             → IfErr result (λ halt. Halted halt limit now (pieces_after self.old piece.now)
             archive.old archive.new (K.written sink.old) (K.written sink.new)) }
         ensures ready { OnOk result (self.new.splitter.spent ≡ false) }

@@ -29,7 +29,7 @@ single_dash : (l : List ℕ) → NoneNext is_dash l → GapEnds (45 ∷ l)
 single_dash [] h = refl
 single_dash (c ∷ l) h = no_comment_at 45 c l refl h
 
--- of bytes in front of the rest, which begins with no quote and no dash
+-- of bytes before the rest, which begins with no quote and no dash
 module _ (rest : List ℕ) (quote : NoneNext is_quote rest) (dash : NoneNext is_dash rest) where
   abbrev pub Split : List ℕ → Type 0
   Split bytes = AreParts bytes rest ⊎ ((rest ≡ []) × HasOpenText bytes)

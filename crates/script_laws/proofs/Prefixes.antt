@@ -1,4 +1,4 @@
--- Parts in front of others.
+-- Parts before others.
 use Rattle.std.proofs.Common.{ℕ, List, [], ◌∷◌, ◌++◌, sym, ap, ◌∙◌, subst, append_assoc, append-nil}
 use Rattle.script_laws.specs.Parts.{IsPart, AreParts, no_part, a_part, HasOpenText}
 

@@ -143,7 +143,8 @@ nothing_after text h = let e : gap_len false 0 text ≡ length text =
 ends_there : (text : List ℕ) (n : ℕ) → after_gap text ≡ [] → lexed_from n 0 text ≡ Tokens []
 unfolding lexed_from
 ends_there text zero e = refl
-ends_there text (suc n) e = ap (by_scanned (0 + gap_len false 0 text) (after_gap text) (lexed_from n))
+ends_there text (suc n) e = ap (by_scanned (0 + gap_len false 0 text) (after_gap text)
+    (lexed_from n))
     (ap scanned e)
 
 pub pads_are_blank : (text : List ℕ) → ArePads text → lexed text ≡ Tokens []

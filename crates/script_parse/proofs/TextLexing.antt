@@ -12,7 +12,8 @@ use Rattle.lexical_grammar.specs.declared.scanned.Scanned.TheVariants.{Big}
 use Rattle.lexical_grammar.specs.declared.token.Token.{Token}
 use Rattle.lexical_grammar.specs.Bytes.{gap_len, scanned}
 use Rattle.lexical_grammar.specs.Lexed.{Lexes, EndsBy, after_gap}
-use Rattle.script_parse.specs.Lexing.{Placed, Lexed, Tokens, Faulty, a_token, after_token, by_scanned}
+use Rattle.script_parse.specs.Lexing.{Placed, Lexed, Tokens, Faulty, a_token, after_token}
+use Rattle.script_parse.specs.Lexing.{by_scanned}
 use Rattle.script_parse.specs.Lexing.{lexed_from, placed, fault_place, TextsAreLexed}
 
 -- how the text ends
@@ -46,7 +47,8 @@ gap_of_nothing : after_gap [] ≡ []
 gap_of_nothing = drop_nothing (gap_len false 0 [])
 
 nothing_left : (bytes : List ℕ) → length bytes ≤ 0 → scanned (after_gap bytes) ≡ End
-nothing_left bytes h = ap (λ l. scanned (after_gap l)) (no_bytes bytes h) ∙ ap scanned gap_of_nothing
+nothing_left bytes h = ap (λ l. scanned (after_gap l)) (no_bytes bytes h)
+    ∙ ap scanned gap_of_nothing
 
 end_of_nothing : (at : ℕ) (p : Scanned) (e : Option LexFault) → p ≡ End → EndsBy at p e
     → Tokens [] ≡ ended e
@@ -55,7 +57,8 @@ end_of_nothing at p e h k = let P : Scanned → Type 0 = λ q. EndsBy at q e in 
 
 -- ---- by what is scanned in prefix
 
-ends_so : (at : ℕ) (bytes : List ℕ) (others : ℕ → List ℕ → Lexed) (p : Scanned) (e : Option LexFault)
+ends_so : (at : ℕ) (bytes : List ℕ) (others : ℕ → List ℕ → Lexed) (p : Scanned)
+    (e : Option LexFault)
     → EndsBy at p e → by_scanned at bytes others p ≡ ended e
 ends_so at bytes others End e h = ap ended (sym h)
 ends_so at bytes others (Of kind n) e h = absurd h
@@ -117,7 +120,8 @@ placed_end at p (LongText n) h = refl
 
 placed_fault : (ts : List Token) (at : ℕ) (bytes : List ℕ) (e : LexFault)
     → Lexes at bytes ts (Some e) → fault_place e ≡ Some (unwrap_or (fault_place e) 0)
-placed_fault [] at bytes e h = placed_end (at + gap_len false 0 bytes) (scanned (after_gap bytes)) e h
+placed_fault [] at bytes e h = placed_end (at + gap_len false 0 bytes) (scanned (after_gap bytes)) e
+    h
 placed_fault (t ∷ ts) at bytes e h = placed_fault ts (t.at + length t.text.now)
     (drop (length t.text.now) (after_gap bytes)) e h.3
 

@@ -45,7 +45,8 @@ Reads text r = reading text ≡ r
 blanks : Reads (codes "") Blank × Reads (codes " -- AT 1") Blank
     × Reads (codes "AT $ 'b") (Refused (Syntax 3))
     × Reads (codes "QUERY foo 18446744073709551616") (Refused (Syntax 10))
-unfolding reading lexed_from gap_len gap_dash scanned_from text_value quote_value text_from text_quote
+unfolding reading lexed_from gap_len gap_dash scanned_from text_value quote_value text_from
+    text_quote
 blanks = (refl, refl, refl, refl)
 
 -- ---- queries
@@ -70,7 +71,8 @@ queries :
     × Reads (codes "QUERY VERSION 4294967296 SELECT a FROM t") (Refused (Syntax 14))
     × Reads (codes "QUERY VERSION 1 SELECT FROM t") (Refused (Syntax 23))
     × Reads (codes "QUERY VERSION 1 SELECT a ") (Refused (Syntax 25))
-unfolding reading lexed_from gap_len gap_dash scanned_from is_name name small more statement ask_rest
+unfolding reading lexed_from gap_len gap_dash scanned_from is_name name small more statement
+    ask_rest
     query.ask query.branches query.branch query.outputs query.output query.items query.item
     query.alias fresh_where expr ref_rest outermost query.when_part query.as_of query.range
     query.during query.keeping
@@ -107,7 +109,8 @@ many_branches : Reads
     (codes
     "QUERY VERSION 1 SELECT 1 FROM t UNION SELECT 1 FROM t UNION SELECT 1 FROM t UNION SELECT 1 FROM t UNION SELECT 1 FROM t UNION SELECT 1 FROM t UNION SELECT 1 FROM t UNION SELECT 1 FROM t UNION SELECT 1 FROM t UNION SELECT 1 FROM t UNION SELECT 1 FROM t UNION SELECT 1 FROM t UNION SELECT 1 FROM t UNION SELECT 1 FROM t UNION SELECT 1 FROM t UNION SELECT 1 FROM t UNION")
     (Refused (TooMany Branches 16))
-unfolding reading lexed_from gap_len gap_dash scanned_from is_name name small more statement ask_rest
+unfolding reading lexed_from gap_len gap_dash scanned_from is_name name small more statement
+    ask_rest
     query.ask query.branches query.branch query.outputs query.output query.items query.item
     query.alias fresh_where expr ref_rest outermost
 many_branches = refl
@@ -174,7 +177,8 @@ evolutions :
     × Reads (codes
     "AT 1 EVOLVE NOP INVERSE NOP THEN NOP THEN NOP THEN NOP THEN NOP THEN NOP THEN NOP THEN NOP NOP")
     (Refused (Syntax 91))
-unfolding reading lexed_from gap_len gap_dash scanned_from is_name name moment as_many more statement
+unfolding reading lexed_from gap_len gap_dash scanned_from is_name name moment as_many more
+    statement
     write_rest body evolve_rest inverse ops op smo.operator smo.create_rest smo.columns smo.column
     smo.column_type smo.rename_rest smo.rename_table_rest smo.join_rest outer_where smo.drop_rest
     smo.drop_table_rest
@@ -187,7 +191,8 @@ insertions :
     (at 5 (changing (insertion t ((a, number 1) ∷ []) ∷ deletion t always ∷ [])))
     × Reads (codes "AT 5 INSERT INTO t (a, b) VALUES (1)") (Refused (Syntax 35))
     × Reads (codes "AT 5 INSERT INTO t (a) VALUES (1, 2)") (Refused (Syntax 32))
-unfolding reading lexed_from gap_len gap_dash scanned_from text_value quote_value text_from text_quote
+unfolding reading lexed_from gap_len gap_dash scanned_from text_value quote_value text_from
+    text_quote
     is_name name names moment const as_many statement write_rest body changes change insert_rest row
     constants more_constants delete_rest fresh_where
 insertions = (refl, refl, refl, refl)

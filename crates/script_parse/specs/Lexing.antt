@@ -30,7 +30,7 @@ abbrev pub after_token : Placed → Lexed → Lexed
 after_token t (Tokens ts) = Tokens (t ∷ ts)
 after_token t (Faulty at) = Faulty at
 
--- by what stands in front of these bytes, which begin at a place, and what the bytes after it are
+-- by what these bytes begin with, at a place, and what the bytes after it are
 abbrev pub by_scanned : ℕ → List ℕ → (ℕ → List ℕ → Lexed) → Scanned → Lexed
 by_scanned at bytes others End = Tokens []
 by_scanned at bytes others (Of kind n) = after_token (a_token kind (take n bytes) at)
@@ -44,7 +44,8 @@ by_scanned at bytes others Big = Faulty at
 -- and comments before it
 unfoldable pub lexed_from : ℕ → ℕ → List ℕ → Lexed
 lexed_from zero at bytes = Tokens []
-lexed_from (suc n) at bytes = by_scanned (at + gap_len false 0 bytes) (after_gap bytes) (lexed_from n)
+lexed_from (suc n) at bytes = by_scanned (at + gap_len false 0 bytes) (after_gap bytes)
+    (lexed_from n)
     (scanned (after_gap bytes))
 
 -- each token takes a byte at least, so there are no more than bytes

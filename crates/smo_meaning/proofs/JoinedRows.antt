@@ -73,10 +73,10 @@ module _ (cs ds : List Column) where
   joined = joined_columns cs ds
 
   -- a row with the cells of a row of each
-  abbrev pub Shows : Row → Row → Row → Type 0
-  Shows a b row = SameIn (names_of cs) cs joined a row × SameIn (names_of ds) ds joined b row
+  abbrev pub HasBoth : Row → Row → Row → Type 0
+  HasBoth a b row = SameIn (names_of cs) cs joined a row × SameIn (names_of ds) ds joined b row
 
-  agrees : (a b row : Row) → Shows a b row → agree cs ds a b ≡ true
+  agrees : (a b row : Row) → HasBoth a b row → agree cs ds a b ≡ true
   agrees a b row h = each_so (λ (c : Column).
       not (among c.0 (names_of ds)) || value_eq (cell cs a c.0) (cell ds b c.0)) cs
       (λ c m. step c m (among c.0 (names_of ds)) refl)
@@ -87,7 +87,7 @@ module _ (cs ds : List Column) where
       step c m true q = values_equal (cell cs a c.0) (cell ds b c.0)
           (sym (h.0 c.0 (in_among c.0 (names_of cs) (in_names cs c m))) ∙ h.1 c.0 q)
 
-  shown_row : (a b row : Row) → IsRow joined row → Shows a b row → joined_row cs ds a b ≡ row
+  shown_row : (a b row : Row) → IsRow joined row → HasBoth a b row → joined_row cs ds a b ≡ row
   shown_row a b row i h =
       same_map (λ (c : Column). joined_value cs ds a b c.0) (λ (c : Column). cell joined row c.0)
       joined (λ c m. step c m (among c.0 (names_of cs)) refl)
@@ -108,7 +108,7 @@ module _ (cs ds : List Column) where
     abbrev pairs : Row → List Row
     pairs a = map (joined_row cs ds a) (filter (agree cs ds a) second)
 
-    pub into_join : (a b row : Row) → In a first → In b second → IsRow joined row → Shows a b row
+    pub into_join : (a b row : Row) → In a first → In b second → IsRow joined row → HasBoth a b row
         → meets joined c row ≡ true → In row (join_rows cs ds c first second)
     into_join a b row m n i h e =
         in_set row_cmp row_exact row (filter (meets joined c) (flat_map pairs first))
@@ -153,7 +153,7 @@ module _ (cs ds : List Column) where
         either (inl i) = of_left (column_named cs n i)
         either (inr i) = of_right (column_named ds n i)
 
-    shows : (a b : Row) → agree cs ds a b ≡ true → Shows a b (joined_row cs ds a b)
+    shows : (a b : Row) → agree cs ds a b ≡ true → HasBoth a b (joined_row cs ds a b)
     shows a b e = (
       λ n q. made_cell joined (joined_value cs ds a b) n
           (in_names_joined n (inl (among_in n (names_of cs) q)))
@@ -176,7 +176,7 @@ module _ (cs ds : List Column) where
             × SameIn (names_of cs) cs joined a row × SameIn (names_of ds) ds joined b row
         of_row a i (b, n, e) =
             (let k = from_filter (agree cs ds a) b second n in let s =
-            subst (Shows a b) e (shows a b k.1) in (a, b, i, k.0, s.0, s.1))
+            subst (HasBoth a b) e (shows a b k.1) in (a, b, i, k.0, s.0, s.1))
 
         of_pair : (a : Row) × In a first × In row (pairs a) → (a : Row) × (b : Row) × In a first
             × In b second × SameIn (names_of cs) cs joined a row

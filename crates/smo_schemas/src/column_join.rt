@@ -7,7 +7,7 @@ ghost use Rattle.smo_meaning.specs.Preconditions.{type_in, same_columns};
 ghost use Rattle.smo_meaning.specs.Making.{joined_columns};
 
 use crate::column::type_in;
-use crate::made_columns::{in_order, put_column};
+use crate::made_column::{in_order, put_column};
 use prima_base::{ColType, Name, NoMemory};
 use std::alloc::Global;
 

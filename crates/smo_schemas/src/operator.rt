@@ -14,7 +14,7 @@ mod join_table;
 mod merge_table;
 mod nop;
 mod partition_table;
-mod preconditions;
+mod precondition;
 mod rename_column;
 mod rename_table;
 mod tree_preconditions;

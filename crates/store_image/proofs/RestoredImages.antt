@@ -1,4 +1,4 @@
--- Groups whose image is valid show the past that it shows.
+-- Groups whose image is valid represent the past that it shows.
 use Rattle.std.proofs.Common.{◌≡◌, ◌⊎◌, ◌≤◌, ◌<◌, ℕ, zero, suc, List, [], ◌∷◌, length, map, get_or}
 use Rattle.std.proofs.Common.{refl, sym, subst, ap, ◌∙◌, inl, inr, arith}
 use Rattle.std.specs.Prelude.{All, Option, Some, None, slice_get, option_map}
@@ -30,7 +30,7 @@ use Rattle.version_groups.specs.declared.made_table.MadeTable.{MadeTable}
 use Rattle.version_groups.specs.Covering.{line_of, AreOfLifelines}
 use Rattle.version_groups.specs.Groups.{Kept, versions_in, places_of, table_in}
 use Rattle.version_groups.specs.Restoring.{IsPastOf, stores_of, store_columns}
-use Rattle.version_groups.specs.Showing.{IsInForce, AreUpTo}
+use Rattle.version_groups.specs.Representation.{IsInForce, AreUpTo}
 use Rattle.version_groups.specs.Sizes.{IsWritten, AreWritten, HasSize, HaveSizes}
 use Rattle.version_groups.proofs.OwnMoments.{own_version, own_within}
 use Rattle.store_image.specs.ImageIn.{kept_line, image_in, bare, CanAllBeMade}

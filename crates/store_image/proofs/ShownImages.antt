@@ -29,7 +29,7 @@ use Rattle.image_spelling.proofs.ShownPasts.{is_past, table_shown}
 use Rattle.version_groups.specs.declared.made_table.MadeTable.{MadeTable}
 use Rattle.version_groups.specs.Covering.{line_of}
 use Rattle.version_groups.specs.Groups.{Kept, versions_in, places_of, table_in}
-use Rattle.version_groups.specs.Showing.{Represents, ShowsTable, ShowsEntry}
+use Rattle.version_groups.specs.Representation.{Represents, RepresentsTable, RepresentsEntry}
 use Rattle.version_groups.proofs.OwnMoments.{own_moment}
 use Rattle.store_image.specs.ImageIn.{kept_line, image_in, ColumnHolds, TableHolds, GroupsHold}
 use Rattle.store_image.specs.ImageIn.{IsImageOf}
@@ -50,15 +50,15 @@ same_entry (Some c) (Some (Rows a)) (Some (Rows b)) i j f = ap (λ r. Some (Rows
 
 -- what is stored of a table that a version has
 shown_entry : (past : Past) (k : ℕ) (name : List ℕ) (o : Option (List Column)) (s : Option Store)
-    (columns : List Column) → ShowsEntry past k name o s → o ≡ Some columns
-    → (store : Store) × (s ≡ Some store) × ShowsTable past k name columns store
+    (columns : List Column) → RepresentsEntry past k name o s → o ≡ Some columns
+    → (store : Store) × (s ≡ Some store) × RepresentsTable past k name columns store
 shown_entry past k name None s columns shows e = absurd (cc)
 shown_entry past k name (Some its) None columns shows e = absurd shows
 shown_entry past k name (Some its) (Some store) columns shows e =
     let same : its ≡ columns = cc in (
       store,
       refl,
-      subst (λ c. ShowsTable past k name c store) same shows,
+      subst (λ c. RepresentsTable past k name c store) same shows,
     )
 
 module _ (kept : Kept) (past : Past) (last : Option ℕ) (shows : Represents kept past)

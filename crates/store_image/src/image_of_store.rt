@@ -15,7 +15,7 @@ ghost use Rattle.image_spelling.specs.Spelling.{span_bytes, cell_bytes, line_byt
 ghost use Rattle.image_spelling.specs.Spelling.{last_bytes, version_bytes, image_bytes};
 ghost use Rattle.version_groups.specs.Groups.{versions_in};
 ghost use Rattle.version_groups.specs.Covering.{line_of};
-ghost use Rattle.version_groups.specs.Showing.{Represents};
+ghost use Rattle.version_groups.specs.Representation.{Represents};
 ghost use Rattle.image_spelling.specs.Images.{VersionsNamed};
 ghost use Rattle.store_image.specs.ImageIn.{kept_line, image_in, CanBeWritten, IsNamed, AreValid};
 ghost use Rattle.store_image.specs.ImageIn.{ColumnHolds, TableHolds, GroupsHold, IsImageOf};

@@ -10,7 +10,7 @@ ghost use Rattle.image_spelling.specs.Reader as spec;
 ghost use Rattle.image_spelling.specs.ShownPast.{image_past};
 ghost use Rattle.image_reader.specs.Seen.{line_seen, stored_seen, lines_seen, image_seen};
 ghost use Rattle.image_reader.specs.declared.fault.ImageFault.TheVariants as fault;
-ghost use Rattle.version_groups.specs.Showing.{Represents};
+ghost use Rattle.version_groups.specs.Representation.{Represents};
 ghost use Rattle.image_reader.specs.Ordered.{IsOrdered};
 ghost use Rattle.store_image.specs.ImageIn.{image_in, bare, CanBeMade, CanAllBeMade};
 
@@ -94,8 +94,8 @@ fn restored(alloc: Global, image: ReadImage<'_>) -> Result<(Groups, Option<u64>)
 }
 
 /// The groups and the last stamp of the image that is all of these bytes. The groups' image is just
-/// this one, and they show the past that it shows. `BadAt` comes exactly where the bytes are no
-/// image, with the place of the first byte of what breaks it; `NoMemory` where memory runs out.
+/// this one, and they represent the past that it shows. `BadAt` comes exactly where the bytes are
+/// no image, with the place of the first byte of what breaks it; `NoMemory` where memory runs out.
 pub fn read_image(alloc: Global, bytes: &[u8]) -> Result<(Groups, Option<u64>), ImageFault>
     ensures image { IfOk result (λ it. (i : Image) × (spec.image bytes.now ≡ Parsed i [])
         × IsImage i × (it.1 ≡ i.last) × ((n : ℕ) → Represents it.0 (image_past n i))) }

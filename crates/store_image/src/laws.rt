@@ -3,7 +3,7 @@
 ghost use Rattle.std.specs.Prelude.{◌≡◌, ℕ, Option};
 ghost use Rattle.smo_meaning.specs.Past.{Past};
 ghost use Rattle.version_groups.specs.Groups.{Kept};
-ghost use Rattle.version_groups.specs.Showing.{Represents};
+ghost use Rattle.version_groups.specs.Representation.{Represents};
 ghost use Rattle.store_image.specs.ImageIn.{image_in, GroupsHold, IsImageOf};
 
 /// The image of groups that show a past, with its last stamp, is valid, shows just this past, and

@@ -1,6 +1,6 @@
 //! An archive through its own calls: a query reads by the counter that it is given, the texts of
-//! plain columns are borrowed from what the archive keeps, on each version and over joins, and those
-//! that are computed are not.
+//! plain columns are borrowed from what the archive keeps, on each version and over joins, and
+//! those that are computed are not.
 ghost use Rattle.std.specs.Prelude.{◌≡◌, ◌<◌};
 ghost use Rattle.rewrite.specs.Books.{EachOf};
 

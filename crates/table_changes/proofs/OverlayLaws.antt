@@ -339,7 +339,8 @@ module _ (now : Relation) where
             (in_filter (λ row. not (passes row)) q now i (not_of (passes q)
             (elim (known_or_not (passes q)) [
               | inl p ↦
-                  absurd (never (has row_cmp q hits) (in_has row_cmp row_exact q hits (are.all q i p))
+                  absurd (never (has row_cmp q hits)
+                  (in_has row_cmp row_exact q hits (are.all q i p))
                   e)
               | inr p ↦ p
             ]))))
@@ -475,7 +476,8 @@ module _ (known : Known) (stored now : Relation) (ordered : Ascends row_cmp (key
   lost_are = one_list row_cmp row_exact lost (gained_rows now stored) (picked is_lost known ordered)
       (filter_ascends (λ row. not (has row_cmp row now)) stored there) (record {
         there = λ row m. let h = lost_was row m in
-            in_filter (λ r. not (has row_cmp r now)) row stored h.0 (not_of (has row_cmp row now) h.1);
+            in_filter (λ r. not (has row_cmp r now)) row stored h.0
+            (not_of (has row_cmp row now) h.1);
         back = λ row m. let h = from_filter (λ r. not (has row_cmp r now)) row stored m in
             in_lost row h.0 (not_true (has row_cmp row now) h.1);
       })

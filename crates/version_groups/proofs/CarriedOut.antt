@@ -20,7 +20,7 @@ use Rattle.version_groups.specs.declared.made_table.MadeTable.{MadeTable}
 use Rattle.version_groups.specs.Groups.{Kept, versions_in, group_of, newest_group, table_in}
 use Rattle.version_groups.specs.Groups.{stored_as, names_of}
 use Rattle.version_groups.specs.Places.{at_places, AreWithin}
-use Rattle.version_groups.specs.Showing.{IsInForce, Represents}
+use Rattle.version_groups.specs.Representation.{IsInForce, Represents}
 use Rattle.version_groups.specs.Becoming.{HasRoom, Leads, IsMade}
 use Rattle.version_groups.specs.Changing.{HaveRoom}
 use Rattle.version_groups.specs.Installing.{Stays, StaysEntry, IsAmong, IsMadeBy, HasChanges}

@@ -22,7 +22,7 @@ use Rattle.version_groups.specs.Covering.{line_of}
 use Rattle.version_groups.specs.Groups.{Kept, versions_in}
 use Rattle.version_groups.specs.Lifelines.{Lifeline, line_after, line_begun, made_tables}
 use Rattle.version_groups.specs.Lifelines.{lifelines_after, lifelines_from, lifelines_of}
-use Rattle.version_groups.specs.Showing.{Represents}
+use Rattle.version_groups.specs.Representation.{Represents}
 use Rattle.version_groups.proofs.BegunTables.{names_rise}
 use Rattle.version_groups.proofs.Places.{not_before_itself}
 

@@ -20,7 +20,7 @@ use Rattle.smo_meaning.specs.Touching.{made_of}
 use Rattle.smo_maps.specs.Carrying.{AreIn}
 use Rattle.version_groups.specs.declared.made_table.MadeTable.{MadeTable}
 use Rattle.version_groups.specs.Groups.{stored_as}
-use Rattle.version_groups.specs.Standing.{StandsEntry, AreStored, rows_stored}
+use Rattle.version_groups.specs.NewestTables.{IsStoredEntry, AreStored, rows_stored}
 use Rattle.version_groups.specs.Evolving.{IsEarlier, AreEarlier, rows_named}
 
 -- each is there
@@ -61,7 +61,7 @@ module _ (tables : Tables) (database : Database) (stamp : ℕ) (made : List Made
   are_earlier name = step (get tables name) (stored_as name made) (stored name)
     where
       step : (o : Option (List Column)) (s : Option Store)
-          → StandsEntry stamp (rows_under (get database name)) o s → IsEarlier stamp s
+          → IsStoredEntry stamp (rows_under (get database name)) o s → IsEarlier stamp s
       step o None h = tt
       step None (Some store) h = absurd h
       step (Some columns) (Some store) h = h.before
@@ -74,7 +74,7 @@ module _ (tables : Tables) (database : Database) (stamp : ℕ) (made : List Made
         (whole name) (stored name)
       where
         step : (o : Option (List Column)) (p : Option DatabaseEntry) (s : Option Store)
-            → is_some o ≡ true → IsEntry o p → StandsEntry stamp (rows_under p) o s
+            → is_some o ≡ true → IsEntry o p → IsStoredEntry stamp (rows_under p) o s
             → p ≡ Some (Rows (rows_stored stamp s))
         step None p s e h k = absurd (cc)
         step (Some columns) None s e h k = absurd h

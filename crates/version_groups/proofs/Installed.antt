@@ -1,4 +1,4 @@
--- Groups that show a past show the past with the command, once it is carried out.
+-- Groups that represent a past represent the past with the command, once it is carried out.
 use Rattle.std.proofs.Common.{◌≡◌, ◌≤◌, ◌<◌, ◌+◌, ℕ, suc, List, [], ◌∷◌, ◌++◌, length, get_or, sym}
 use Rattle.std.proofs.Common.{ap, subst, ◌∙◌, arith, length-append, inl, inr}
 use Rattle.std.specs.Prelude.{Option, Some, None, ◌⊎◌}
@@ -29,7 +29,8 @@ use Rattle.version_groups.specs.declared.made_table.MadeTable.{MadeTable}
 use Rattle.version_groups.specs.Groups.{Kept, versions_in, group_of, table_in, stored_as}
 use Rattle.version_groups.specs.Covering.{AreOfLifelines}
 use Rattle.version_groups.specs.Sizes.{HaveSizes}
-use Rattle.version_groups.specs.Showing.{AreUpTo, IsInForce, ShowsTable, ShowsEntry, Represents}
+use Rattle.version_groups.specs.Representation.{AreUpTo, IsInForce, RepresentsTable}
+use Rattle.version_groups.specs.Representation.{RepresentsEntry, Represents}
 use Rattle.version_groups.specs.Becoming.{Becomes, Begins, Leads, IsMade}
 use Rattle.version_groups.specs.Installing.{IsAmong, IsMadeBy, AreMadeBy}
 use Rattle.version_groups.specs.Places.{at_places}
@@ -50,8 +51,9 @@ Follows T (Some old) (Some new) = (columns : List Column) → T columns old new
 
 pub entry_follows : (past next : Past) (k : ℕ) (name : List ℕ) (o : Option (List Column))
     (old new : Option Store)
-    → Follows (λ columns s t. ShowsTable past k name columns s → ShowsTable next k name columns t)
-    old new → ShowsEntry past k name o old → ShowsEntry next k name o new
+    → Follows (λ columns s t. RepresentsTable past k name columns s
+    → RepresentsTable next k name columns t)
+    old new → RepresentsEntry past k name o old → RepresentsEntry next k name o new
 entry_follows past next k name None None None f h = tt
 entry_follows past next k name None None (Some new) f h = absurd f
 entry_follows past next k name None (Some old) new f h = absurd h
@@ -61,9 +63,9 @@ entry_follows past next k name (Some columns) (Some old) (Some new) f h = f colu
 
 entry_still : (past next : Past) (k : ℕ) (name : List ℕ) (o : Option (List Column))
     (s : Option Store)
-    → ((columns : List Column) (store : Store) → ShowsTable past k name columns store
-    → ShowsTable next k name columns store) → ShowsEntry past k name o s
-    → ShowsEntry next k name o s
+    → ((columns : List Column) (store : Store) → RepresentsTable past k name columns store
+    → RepresentsTable next k name columns store) → RepresentsEntry past k name o s
+    → RepresentsEntry next k name o s
 entry_still past next k name None None f h = tt
 entry_still past next k name None (Some store) f h = absurd h
 entry_still past next k name (Some columns) None f h = absurd h
@@ -72,8 +74,8 @@ entry_still past next k name (Some columns) (Some store) f h = f columns store h
 entry_begins : (next : Past) (k stamp : ℕ) (name : List ℕ) (rows : Relation)
     (o : Option (List Column)) (s : Option Store)
     → ((columns : List Column) (store : Store) → Begins columns stamp rows store
-    → ShowsTable next k name columns store) → BeginsEntry stamp rows o s
-    → ShowsEntry next k name o s
+    → RepresentsTable next k name columns store) → BeginsEntry stamp rows o s
+    → RepresentsEntry next k name o s
 entry_begins next k stamp name rows None None f h = tt
 entry_begins next k stamp name rows None (Some store) f h = absurd h
 entry_begins next k stamp name rows (Some columns) None f h = absurd h
@@ -181,7 +183,7 @@ module _ (kept : Kept) (past : Past) (stamp : ℕ) (changes : List PlainChange)
 
   earlier_table : (plans : List (Option PreparedChange)) → IsAtStamp plans → (k : ℕ) (name : List ℕ)
       → k < length past.versions → (t u : MadeTable) → IsMadeBy plans t u → (columns : List Column)
-      → ShowsTable past k name columns t.store → ShowsTable after k name columns u.store
+      → RepresentsTable past k name columns t.store → RepresentsTable after k name columns u.store
   earlier_table plans at k name l t u by columns h = step by.plan by.among by.made
     where
       before : (m : ℕ) → IsInForce past.versions k m
@@ -194,7 +196,7 @@ module _ (kept : Kept) (past : Past) (stamp : ℕ) (changes : List PlainChange)
       ]
 
       step : (p : Option PreparedChange) → IsAmong p plans → IsMade t p u
-          → ShowsTable after k name columns u.store
+          → RepresentsTable after k name columns u.store
       step None among e =
           let is : u.store ≡ t.store = ap (λ (x : MadeTable). x.store) e in
           record {
@@ -220,15 +222,15 @@ module _ (kept : Kept) (past : Past) (stamp : ℕ) (changes : List PlainChange)
   keeps_name t u h = made_name t h.0 u h.2
 
   changed_table : (name : List ℕ) (t u : MadeTable) → t.name ≡ name → IsChanged t u
-      → (columns : List Column) → ShowsTable past (length past.versions) name columns t.store
-      → ShowsTable after (length past.versions) name columns u.store
+      → (columns : List Column) → RepresentsTable past (length past.versions) name columns t.store
+      → RepresentsTable after (length past.versions) name columns u.store
   changed_table name t u named c columns h = step c.0 c.1 c.2
     where
       n : ℕ
       n = length past.versions
 
       step : (p : Option PreparedChange) → Leads t.store stamp (changed_rows t.name) p
-          → IsMade t p u → ShowsTable after n name columns u.store
+          → IsMade t p u → RepresentsTable after n name columns u.store
       step None leads e =
           let is : u.store ≡ t.store = ap (λ (x : MadeTable). x.store) e in
           let shown : (m : ℕ) → IsInForce past.versions n m
@@ -248,7 +250,7 @@ module _ (kept : Kept) (past : Past) (stamp : ℕ) (changes : List PlainChange)
                 ∙ ap (λ d. rows_under (get d name))
                 (sym (from_then kept past stamp (changing changes) shows valid accepted m b))
           ] in
-          subst (λ (s : Store). ShowsTable after n name columns s) (sym is) (record {
+          subst (λ (s : Store). RepresentsTable after n name columns s) (sym is) (record {
             columns = h.columns;
             shown = shown;
             stamps = λ m own b. h.stamps m own
@@ -290,7 +292,7 @@ module _ (kept : Kept) (past : Past) (stamp : ℕ) (changes : List PlainChange)
     ends = valid;
     versions = versions ∙ shows.versions;
     tables = λ k name l. elim (newest_or_not k n l) [
-      | inl e ↦ subst (λ j. ShowsEntry after j name (get (tables_of after j) name)
+      | inl e ↦ subst (λ j. RepresentsEntry after j name (get (tables_of after j) name)
           (table_in new j name)) (sym e) (newest name)
       | inr e ↦ earlier k e name (paired (IsMadeBy plans) names name (group_of kept k)
           (group_of new k) (groups k e).count (groups k e).each)
@@ -312,20 +314,22 @@ module _ (kept : Kept) (past : Past) (stamp : ℕ) (changes : List PlainChange)
 
       earlier : (k : ℕ) → k < n → (name : List ℕ)
           → Paired (IsMadeBy plans) name (group_of kept k) (group_of new k)
-          → ShowsEntry past k name (get (tables_of past k) name) (stored_as name (group_of kept k))
-          → ShowsEntry after k name (get (tables_of past k) name) (stored_as name (group_of new k))
+          → RepresentsEntry past k name (get (tables_of past k) name)
+          (stored_as name (group_of kept k))
+          → RepresentsEntry after k name (get (tables_of past k) name)
+          (stored_as name (group_of new k))
       earlier k l name (inl none) h =
-          subst (λ (s : Option Store). ShowsEntry after k name (get (tables_of past k) name) s)
+          subst (λ (s : Option Store). RepresentsEntry after k name (get (tables_of past k) name) s)
           (sym none.1)
           (entry_follows past after k name (get (tables_of past k) name) None None tt
-          (subst (λ (s : Option Store). ShowsEntry past k name (get (tables_of past k) name) s)
+          (subst (λ (s : Option Store). RepresentsEntry past k name (get (tables_of past k) name) s)
           none.0 h))
       earlier k l name (inr f) h =
-          subst (λ (s : Option Store). ShowsEntry after k name (get (tables_of past k) name) s)
+          subst (λ (s : Option Store). RepresentsEntry after k name (get (tables_of past k) name) s)
           (sym f.now)
           (entry_follows past after k name (get (tables_of past k) name) (Some f.before.store)
           (Some f.after.store) (earlier_table plans at k name l f.before f.after f.related)
-          (subst (λ (s : Option Store). ShowsEntry past k name (get (tables_of past k) name) s)
+          (subst (λ (s : Option Store). RepresentsEntry past k name (get (tables_of past k) name) s)
           f.was h))
 
       each : (k : ℕ) (d : MadeTable) → k < length (group_of kept n)
@@ -333,23 +337,25 @@ module _ (kept : Kept) (past : Past) (stamp : ℕ) (changes : List PlainChange)
       each k d l = (get_or plans k None, ready.each k d l, made k d l)
 
       entry : (name : List ℕ) → Paired IsChanged name (group_of kept n) (group_of new n)
-          → ShowsEntry past n name (get (tables_of past n) name) (stored_as name (group_of kept n))
-          → ShowsEntry after n name (get (tables_of past n) name) (stored_as name (group_of new n))
+          → RepresentsEntry past n name (get (tables_of past n) name)
+          (stored_as name (group_of kept n))
+          → RepresentsEntry after n name (get (tables_of past n) name)
+          (stored_as name (group_of new n))
       entry name (inl none) h =
-          subst (λ (s : Option Store). ShowsEntry after n name (get (tables_of past n) name) s)
+          subst (λ (s : Option Store). RepresentsEntry after n name (get (tables_of past n) name) s)
           (sym none.1)
           (entry_follows past after n name (get (tables_of past n) name) None None tt
-          (subst (λ (s : Option Store). ShowsEntry past n name (get (tables_of past n) name) s)
+          (subst (λ (s : Option Store). RepresentsEntry past n name (get (tables_of past n) name) s)
           none.0 h))
       entry name (inr f) h =
-          subst (λ (s : Option Store). ShowsEntry after n name (get (tables_of past n) name) s)
+          subst (λ (s : Option Store). RepresentsEntry after n name (get (tables_of past n) name) s)
           (sym f.now)
           (entry_follows past after n name (get (tables_of past n) name) (Some f.before.store)
           (Some f.after.store) (changed_table name f.before f.after f.named f.related)
-          (subst (λ (s : Option Store). ShowsEntry past n name (get (tables_of past n) name) s)
+          (subst (λ (s : Option Store). RepresentsEntry past n name (get (tables_of past n) name) s)
           f.was h))
 
-      newest : (name : List ℕ) → ShowsEntry after n name (get (tables_of after n) name)
+      newest : (name : List ℕ) → RepresentsEntry after n name (get (tables_of after n) name)
           (table_in new n name)
       newest name = entry name (paired IsChanged keeps_name name (group_of kept n) (group_of new n)
           count each) (shows.tables n name (omega arith))
@@ -382,8 +388,8 @@ module _ (kept : Kept) (past : Past) (stamp : ℕ) (op : Operator) (inverse : Li
 
   -- a table of an earlier version
   older_table : (k : ℕ) (name : List ℕ) → k ≤ length past.versions
-      → (columns : List Column) (store : Store) → ShowsTable past k name columns store
-      → ShowsTable evolved k name columns store
+      → (columns : List Column) (store : Store) → RepresentsTable past k name columns store
+      → RepresentsTable evolved k name columns store
   older_table k name l columns store h = record {
     columns = h.columns;
     shown = λ m own. elim (before_or_not m stamp) [
@@ -411,7 +417,7 @@ module _ (kept : Kept) (past : Past) (stamp : ℕ) (op : Operator) (inverse : Li
   new_table : (name : List ℕ) (columns : List Column) (store : Store)
       → Begins columns stamp (rows_under (get (next_database (evolving op inverse) past) name))
       store
-      → ShowsTable evolved (length past.versions + 1) name columns store
+      → RepresentsTable evolved (length past.versions + 1) name columns store
   new_table name columns store b = record {
     columns = b.columns;
     shown = λ m own. elim (before_or_not m stamp) [
@@ -464,12 +470,13 @@ module _ (kept : Kept) (past : Past) (stamp : ℕ) (op : Operator) (inverse : Li
       added = subst (λ j. tables_from no_tables (past.versions ++ version ∷ []) j ≡ version.tables)
           (let e : suc n ≡ n + 1 = omega arith in e) (tables_added no_tables past.versions version)
 
-      newest : (name : List ℕ) → ShowsEntry evolved (n + 1) name
+      newest : (name : List ℕ) → RepresentsEntry evolved (n + 1) name
           (get (tables_of evolved (n + 1)) name) (table_in new (n + 1) name)
       newest name =
-          subst (λ (t : Tables). ShowsEntry evolved (n + 1) name (get t name)
+          subst (λ (t : Tables). RepresentsEntry evolved (n + 1) name (get t name)
           (table_in new (n + 1) name)) (sym added)
-          (subst (λ (s : Option Store). ShowsEntry evolved (n + 1) name (get version.tables name) s)
+          (subst (λ (s : Option Store). RepresentsEntry evolved (n + 1) name
+          (get version.tables name) s)
           (sym (own name))
           (entry_begins evolved (n + 1) stamp name
           (rows_under (get (next_database (evolving op inverse) past) name))
@@ -477,13 +484,15 @@ module _ (kept : Kept) (past : Past) (stamp : ℕ) (op : Operator) (inverse : Li
           (new_table name) (is.tables name)))
 
       each : (k : ℕ) (name : List ℕ) → (n < k) ⊎ (k ≤ n) → k ≤ n + 1
-          → ShowsEntry evolved k name (get (tables_of evolved k) name) (table_in new k name)
-      each k name (inl l) m = subst (λ j. ShowsEntry evolved j name (get (tables_of evolved j) name)
+          → RepresentsEntry evolved k name (get (tables_of evolved k) name) (table_in new k name)
+      each k name (inl l) m = subst (λ j. RepresentsEntry evolved j name
+          (get (tables_of evolved j) name)
           (table_in new j name)) (let e : n + 1 ≡ k = omega (arith, l, m) in e) (newest name)
       each k name (inr l) m =
-          subst (λ (t : Tables). ShowsEntry evolved k name (get t name) (table_in new k name))
+          subst (λ (t : Tables). RepresentsEntry evolved k name (get t name) (table_in new k name))
           (sym (tables_still no_tables past.versions version k l))
-          (subst (λ (s : Option Store). ShowsEntry evolved k name (get (tables_of past k) name) s)
+          (subst (λ (s : Option Store). RepresentsEntry evolved k name (get (tables_of past k) name)
+          s)
           (sym (tables k name l))
           (entry_still past evolved k name (get (tables_of past k) name) (table_in kept k name)
           (older_table k name l) (shows.tables k name l)))

@@ -19,7 +19,7 @@ use Rattle.version_groups.specs.Installing.{last_after, table_after}
 use Rattle.version_groups.specs.Ending.{AreEnding}
 use Rattle.version_groups.specs.Places.{with_table, at_places, AreWithin, IsFound}
 use Rattle.version_groups.specs.Sizes.{AreLiving}
-use Rattle.version_groups.specs.Standing.{is_name}
+use Rattle.version_groups.specs.NewestTables.{is_name}
 use Rattle.version_groups.specs.Stored.{stored_as, names_of}
 use Rattle.version_groups.proofs.NamedPlaces.{none_named, one_by_name}
 use Rattle.version_groups.proofs.TablesInTurn.{one_place}

@@ -24,11 +24,11 @@ use Rattle.smo_meaning.proofs.DatabaseLaws.{changes_keep}
 use Rattle.smo_meaning.proofs.PastSteps.{stamp_accepted}
 use Rattle.version_groups.specs.declared.made_table.MadeTable.{MadeTable}
 use Rattle.version_groups.specs.Groups.{Kept, group_of, table_in, stored_as, names_of}
-use Rattle.version_groups.specs.Showing.{ShowsEntry, Represents}
+use Rattle.version_groups.specs.Representation.{RepresentsEntry, Represents}
 use Rattle.version_groups.specs.Becoming.{Leads}
 use Rattle.version_groups.specs.Changing.{rows_now, rows_after, AreChangeable, AreReady, all_gained}
 use Rattle.version_groups.specs.Changing.{all_lost}
-use Rattle.version_groups.specs.Standing.{StandsEntry, AreStored}
+use Rattle.version_groups.specs.NewestTables.{IsStoredEntry, AreStored}
 use Rattle.version_groups.specs.Steps.{a_command, AreChanges}
 use Rattle.smo_meaning.proofs.PastMoments.{newest_tables_from, is_later}
 use Rattle.version_groups.proofs.Installed.{newest_own, newest_is}
@@ -41,8 +41,8 @@ use Rattle.version_groups.proofs.TablesCounted.{IsStored, is_stored}
 module _ (kept : Kept) (past : Past) (stamp : ℕ) (body : PlainBody) (shows : Represents kept past)
     (valid : stamp < forever) (accepted : command_fault past (a_command stamp body) ≡ None) where
   stands_entry : (name : List ℕ) (o : Option (List Column)) (s : Option Store)
-      → ShowsEntry past (length past.versions) name o s
-      → StandsEntry stamp (rows_under (get (newest_database past) name)) o s
+      → RepresentsEntry past (length past.versions) name o s
+      → IsStoredEntry stamp (rows_under (get (newest_database past) name)) o s
   stands_entry name None None h = tt
   stands_entry name None (Some store) h = absurd h
   stands_entry name (Some columns) None h = absurd h
@@ -59,7 +59,7 @@ module _ (kept : Kept) (past : Past) (stamp : ℕ) (body : PlainBody) (shows : R
   pub stands : AreStored (newest_tables past) (newest_database past) stamp
       (group_of kept (length past.versions))
   stands name =
-      subst (λ (t : Tables). StandsEntry stamp (rows_under (get (newest_database past) name))
+      subst (λ (t : Tables). IsStoredEntry stamp (rows_under (get (newest_database past) name))
       (get t name) (table_in kept (length past.versions) name))
       (newest_tables_from no_tables past.versions)
       (stands_entry name (get (tables_of past (length past.versions)) name)
@@ -78,7 +78,7 @@ module _ (tables : Tables) (database : Database) (stamp : ℕ) (made : List Made
     pub before : AllBefore store stamp
 
   of_entry : (name : List ℕ) (o : Option (List Column)) (store : Store) → get tables name ≡ o
-      → StandsEntry stamp (rows_under (get database name)) o (Some store) → Stands name store
+      → IsStoredEntry stamp (rows_under (get database name)) o (Some store) → Stands name store
   of_entry name None store e h = absurd h
   of_entry name (Some columns) store e h = record {
     columns = e
@@ -91,7 +91,7 @@ module _ (tables : Tables) (database : Database) (stamp : ℕ) (made : List Made
       → Stands name store
   stands_under name store e =
       of_entry name (get tables name) store refl
-      (subst (λ (s : Option Store). StandsEntry stamp (rows_under (get database name))
+      (subst (λ (s : Option Store). IsStoredEntry stamp (rows_under (get database name))
       (get tables name) s) e (stored name))
 
   pub stands_at : (k : ℕ) (d : MadeTable) → k < length made
@@ -166,13 +166,13 @@ module _ (tables : Tables) (database : Database) (stamp : ℕ) (made : List Made
   nothing_there None h = refl
   nothing_there (Some entry) h = absurd h
 
-  nothing_stored : (rows : List (List Value)) (s : Option Store) → StandsEntry stamp rows None s
+  nothing_stored : (rows : List (List Value)) (s : Option Store) → IsStoredEntry stamp rows None s
       → s ≡ None
   nothing_stored rows None h = refl
   nothing_stored rows (Some store) h = absurd h
 
   something_stored : (rows : List (List Value)) (columns : List Column) (s : Option Store)
-      → StandsEntry stamp rows (Some columns) s → (store : Store) × (s ≡ Some store)
+      → IsStoredEntry stamp rows (Some columns) s → (store : Store) × (s ≡ Some store)
   something_stored rows columns None h = absurd h
   something_stored rows columns (Some store) h = (store, refl)
 
@@ -199,7 +199,7 @@ module _ (tables : Tables) (database : Database) (stamp : ℕ) (made : List Made
         ∙ not_stored stamp changes made name (get database name)
         (nothing_stored (rows_under (get database name)) (stored_as name made)
         (subst (λ (p : Option (List Column)).
-        StandsEntry stamp (rows_under (get database name)) p (stored_as name made)) e
+        IsStoredEntry stamp (rows_under (get database name)) p (stored_as name made)) e
         (stored name)))
         ∙ nothing_there (get database name) (subst
         (λ (p : Option (List Column)). IsEntry p (get database name)) e (whole name))
@@ -209,7 +209,7 @@ module _ (tables : Tables) (database : Database) (stamp : ℕ) (made : List Made
     each_after name (Some columns) e =
         let s = something_stored (rows_under (get database name)) columns (stored_as name made)
         (subst (λ (p : Option (List Column)).
-        StandsEntry stamp (rows_under (get database name)) p (stored_as name made)) e
+        IsStoredEntry stamp (rows_under (get database name)) p (stored_as name made)) e
         (stored name)) in
         let r = is_stored stamp changes made name (get database name) s.0 s.1 in
         got stamp changes made database name ordered ∙ r.entry ∙ own_after name s.0 r s.1

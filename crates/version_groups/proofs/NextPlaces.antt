@@ -13,7 +13,8 @@ use Rattle.version_groups.specs.declared.made_table.MadeTable.{MadeTable}
 use Rattle.version_groups.specs.Becoming.{Begins}
 use Rattle.version_groups.specs.Evolving.{IsNextTable}
 use Rattle.version_groups.specs.Places.{with_table, at_places, AreWithin, IsFound}
-use Rattle.version_groups.specs.Standing.{MadeRows, is_name, next_rows, rows_stored, IsStoredBefore}
+use Rattle.version_groups.specs.NewestTables.{MadeRows, is_name, next_rows, rows_stored}
+use Rattle.version_groups.specs.NewestTables.{IsStoredBefore}
 use Rattle.version_groups.specs.Stored.{stored_as}
 use Rattle.version_groups.proofs.Places.{at_more, at_last, got_more, places_within, more_within}
 use Rattle.version_groups.proofs.StillStored.{goes_on}

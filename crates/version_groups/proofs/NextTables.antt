@@ -23,8 +23,10 @@ use Rattle.smo_maps.specs.Carrying.{Has}
 use Rattle.version_groups.specs.declared.made_table.MadeTable.{MadeTable}
 use Rattle.version_groups.specs.Groups.{stored_as}
 use Rattle.version_groups.specs.Becoming.{Begins}
-use Rattle.version_groups.specs.Standing.{StandsEntry, AreStored, rows_stored, MadeRows, is_name}
-use Rattle.version_groups.specs.Standing.{is_made, next_rows, FitNext, IsStoredBefore, OthersStay}
+use Rattle.version_groups.specs.NewestTables.{IsStoredEntry, AreStored, rows_stored, MadeRows}
+use Rattle.version_groups.specs.NewestTables.{is_name}
+use Rattle.version_groups.specs.NewestTables.{is_made, next_rows, FitNext, IsStoredBefore}
+use Rattle.version_groups.specs.NewestTables.{OthersStay}
 use Rattle.version_groups.specs.Evolving.{AreNext}
 use Rattle.version_groups.specs.Places.{at_places}
 use Rattle.version_groups.specs.Sizes.{BeginsWith, BeginInOrder}
@@ -78,7 +80,7 @@ module _ (before : Tables) (op : Operator) (database : Database) (stamp : ℕ) (
   next = carried before op database
 
   entry_rows : (o : Option (List Column)) (p : Option DatabaseEntry) (s : Option Store)
-      → IsEntry o p → StandsEntry stamp (rows_under p) o s → rows_stored stamp s ≡ rows_under p
+      → IsEntry o p → IsStoredEntry stamp (rows_under p) o s → rows_stored stamp s ≡ rows_under p
   entry_rows None None None h k = refl
   entry_rows None None (Some store) h k = absurd k
   entry_rows None (Some entry) s h k = absurd h
@@ -126,7 +128,7 @@ module _ (before : Tables) (op : Operator) (database : Database) (stamp : ℕ) (
 
     -- a table that is not made is stored
     stored_before : (columns : List Column) (rows : Relation) (s : Option Store)
-        → StandsEntry stamp rows (Some columns) s → IsStoredBefore stamp columns s
+        → IsStoredEntry stamp rows (Some columns) s → IsStoredBefore stamp columns s
     stored_before columns rows None h = absurd h
     stored_before columns rows (Some store) h = (h.columns, h.before)
 
@@ -142,7 +144,7 @@ module _ (before : Tables) (op : Operator) (database : Database) (stamp : ℕ) (
         step false q =
             stored_before columns (rows_under (get database name)) (stored_as name made)
             (subst (λ (o : Option (List Column)).
-            StandsEntry stamp (rows_under (get database name)) o (stored_as name made))
+            IsStoredEntry stamp (rows_under (get database name)) o (stored_as name made))
             (sym (table_stays before op name unmade q) ∙ there) (stored name))
 
     pub begins_next : (name : List ℕ) (s : Option Store)

@@ -7,7 +7,7 @@ use Rattle.smo_meaning.specs.InForce.{stamp_of}
 use Rattle.smo_meaning.specs.ValidPast.{AllInForce, last_or_nought, IsPast}
 use Rattle.smo_meaning.specs.Past.{Past, no_tables, version_at}
 use Rattle.smo_meaning.proofs.VersionsInForce.{in_force_at, is_now}
-use Rattle.version_groups.specs.Showing.{IsInForce}
+use Rattle.version_groups.specs.Representation.{IsInForce}
 
 -- each version begins before the end of time
 pub stamp_within : (low : ℕ) (versions : List PlainVersion) (k : ℕ) → AllInForce low versions

@@ -37,11 +37,12 @@ use Rattle.version_groups.specs.Covering.{line_of, AreCovered}
 use Rattle.version_groups.specs.Lifelines.{lifelines_of}
 use Rattle.version_groups.specs.Groups.{Kept, newest_places, group_of, newest_group, table_in}
 use Rattle.version_groups.specs.Groups.{stored_as, names_of}
-use Rattle.version_groups.specs.Showing.{ShowsTable, ShowsEntry, AreUpTo, Represents}
+use Rattle.version_groups.specs.Representation.{RepresentsTable, RepresentsEntry, AreUpTo}
+use Rattle.version_groups.specs.Representation.{Represents}
 use Rattle.version_groups.specs.Room.{IsSameTable, AreSameTables, IsSame}
 use Rattle.version_groups.specs.Changing.{AreChangeable, AreReady, all_gained, all_lost}
 use Rattle.version_groups.specs.Evolving.{IsEvolved}
-use Rattle.version_groups.specs.Standing.{AreStored}
+use Rattle.version_groups.specs.NewestTables.{AreStored}
 use Rattle.version_groups.specs.Steps.{a_command, step_of, changed, evolved, AreChanges, IsStep}
 use Rattle.version_groups.specs.Steps.{PreparedCommand, Prepares}
 use Rattle.table_changes.proofs.Becoming.{same_relation, same_before, same_columns}
@@ -73,9 +74,10 @@ new_shows kept versions places stored = record {
   ends = omega arith;
   versions = ap (map version_of) versions;
   tables = λ k name l.
-      subst (λ (o : Option (List Column)). ShowsEntry beginning k name o (table_in kept k name))
+      subst (λ (o : Option (List Column)). RepresentsEntry beginning k name o
+      (table_in kept k name))
       (sym (get-empty bytes_cmp name))
-      (subst (λ (s : Option Store). ShowsEntry beginning k name None s)
+      (subst (λ (s : Option Store). RepresentsEntry beginning k name None s)
       (sym (none_stored k name kept.stored kept.places places)) tt);
   sizes = record { count = ap length stored; each = λ k s t l. absurd (omega (arith, l)) };
   stamps = subst (λ (ts : List MadeTable). AreUpTo None ts) (sym stored)
@@ -97,8 +99,8 @@ new_shows kept versions places stored = record {
 -- ---- what is as it was shows what it showed
 
 still_shown : (past : Past) (k : ℕ) (name : List ℕ) (t u : MadeTable) → IsSameTable t u
-    → (columns : List Column) → ShowsTable past k name columns t.store
-    → ShowsTable past k name columns u.store
+    → (columns : List Column) → RepresentsTable past k name columns t.store
+    → RepresentsTable past k name columns u.store
 still_shown past k name t u same columns h =
     let n : ℕ = u.store.spare in
     let i : List ℕ = u.store.indexed in
@@ -157,19 +159,21 @@ shows_same old new same past shows = record {
     }
 
     entry : (k : ℕ) (name : List ℕ) → Paired IsSameTable name (group_of old k) (group_of new k)
-        → ShowsEntry past k name (get (tables_of past k) name) (table_in old k name)
-        → ShowsEntry past k name (get (tables_of past k) name) (table_in new k name)
+        → RepresentsEntry past k name (get (tables_of past k) name) (table_in old k name)
+        → RepresentsEntry past k name (get (tables_of past k) name) (table_in new k name)
     entry k name (inl none) h =
-        subst (λ (s : Option Store). ShowsEntry past k name (get (tables_of past k) name) s)
+        subst (λ (s : Option Store). RepresentsEntry past k name (get (tables_of past k) name) s)
         (sym none.1)
-        (subst (λ (s : Option Store). ShowsEntry past k name (get (tables_of past k) name) s) none.0
+        (subst (λ (s : Option Store). RepresentsEntry past k name (get (tables_of past k) name) s)
+        none.0
         h)
     entry k name (inr f) h =
-        subst (λ (s : Option Store). ShowsEntry past k name (get (tables_of past k) name) s)
+        subst (λ (s : Option Store). RepresentsEntry past k name (get (tables_of past k) name) s)
         (sym f.now)
         (entry_follows past past k name (get (tables_of past k) name) (Some f.before.store)
         (Some f.after.store) (still_shown past k name f.before f.after f.related)
-        (subst (λ (s : Option Store). ShowsEntry past k name (get (tables_of past k) name) s) f.was
+        (subst (λ (s : Option Store). RepresentsEntry past k name (get (tables_of past k) name) s)
+        f.was
         h))
 
 pub is_same : (kept : Kept) → IsSame kept kept

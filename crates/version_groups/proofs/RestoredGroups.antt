@@ -25,7 +25,7 @@ use Rattle.version_groups.specs.Lifelines.{lifelines_after, lifelines_from, life
 use Rattle.version_groups.specs.Lifelines.{columns_of}
 use Rattle.version_groups.specs.Restoring.{stores_of, store_columns, HasColumns, AreRestored}
 use Rattle.version_groups.specs.Restoring.{HaveColumns}
-use Rattle.version_groups.specs.Showing.{ShowsEntry, Represents}
+use Rattle.version_groups.specs.Representation.{RepresentsEntry, Represents}
 use Rattle.version_groups.proofs.RestoredTables.{Listed}
 
 -- ---- nothing was accepted
@@ -46,7 +46,7 @@ module _ (kept : Kept) (h : Represents kept beginning) where
   nothing_stored = no_tables_more kept.stored h.sizes.count
 
   no_entry : (Is : List Column → Store → Type 0) (k : ℕ) (name : List ℕ) (o : Option (List Column))
-      (s : Option Store) → o ≡ None → ShowsEntry beginning k name o s → HasEntry Is o s
+      (s : Option Store) → o ≡ None → RepresentsEntry beginning k name o s → HasEntry Is o s
   no_entry Is k name None None e s = tt
   no_entry Is k name None (Some store) e s = s
   no_entry Is k name (Some columns) s e r = absurd (cc)

@@ -15,7 +15,7 @@ use Rattle.version_groups.specs.declared.made_table.MadeTable.{MadeTable}
 use Rattle.version_groups.specs.Groups.{Kept, places_of, table_in, HasEntry}
 use Rattle.version_groups.specs.Places.{with_table, at_places}
 use Rattle.version_groups.specs.Restoring.{HasColumns, AreRestored, IsPastOf}
-use Rattle.version_groups.specs.Showing.{ShowsEntry, Represents}
+use Rattle.version_groups.specs.Representation.{RepresentsEntry, Represents}
 use Rattle.version_groups.specs.Stored.{stored_as}
 
 -- what is stored under a name is stored of a table
@@ -53,7 +53,7 @@ module _ (kept : Kept) (past : Past) (restored : AreRestored kept) (is : IsPastO
       subst (λ (s : Store). AllBefore s m) one.3 (is.stamps one.0 one.1 m one.2 later)
 
   entry_shows : (k : ℕ) (name : List ℕ) (o : Option (List Column)) (s : Option Store)
-      → table_in kept k name ≡ s → HasEntry (HasColumns name) o s → ShowsEntry past k name o s
+      → table_in kept k name ≡ s → HasEntry (HasColumns name) o s → RepresentsEntry past k name o s
   entry_shows k name None None e h = tt
   entry_shows k name None (Some store) e h = absurd h
   entry_shows k name (Some columns) None e h = absurd h

@@ -26,10 +26,10 @@ use Rattle.version_groups.specs.Groups.{Kept, newest_places, group_of, newest_gr
 use Rattle.version_groups.specs.Becoming.{Leads, IsMade, IsInstalled}
 use Rattle.version_groups.specs.Installing.{HasChanges}
 use Rattle.version_groups.specs.Places.{at_places, AreWithin}
-use Rattle.version_groups.specs.Showing.{AreUpTo, Represents}
+use Rattle.version_groups.specs.Representation.{AreUpTo, Represents}
 use Rattle.version_groups.specs.Sizes.{HasSize, HaveSizes, AreLiving}
 use Rattle.version_groups.proofs.Covered.{newest_living}
-use Rattle.version_groups.specs.Standing.{AreStored}
+use Rattle.version_groups.specs.NewestTables.{AreStored}
 use Rattle.version_groups.specs.Steps.{a_command, AreChanges}
 use Rattle.table_changes.proofs.Becoming.{along_length}
 use Rattle.version_groups.proofs.Installed.{all_later}

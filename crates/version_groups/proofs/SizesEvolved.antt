@@ -41,7 +41,7 @@ use Rattle.version_groups.specs.Groups.{Kept, versions_in, newest_places, table_
 use Rattle.version_groups.specs.Installing.{last_after, table_after, HasVersion, ComeWith}
 use Rattle.version_groups.specs.Lifelines.{line_begun, made_tables}
 use Rattle.version_groups.specs.Places.{at_places}
-use Rattle.version_groups.specs.Showing.{AreUpTo, ShowsEntry, Represents}
+use Rattle.version_groups.specs.Representation.{AreUpTo, RepresentsEntry, Represents}
 use Rattle.version_groups.specs.Sizes.{HasSize, HaveSizes, AreLiving, BeginsWith, BeginInOrder}
 use Rattle.version_groups.specs.Sizes.{ArePlaced}
 use Rattle.version_groups.specs.Steps.{a_command, BeginsEntry, IsNextVersion}
@@ -238,7 +238,7 @@ module _ (kept : Kept) (past : Past) (op : Operator) (stamp : ℕ) (database : D
       (shows.tables (length past.versions) name (omega arith)))
     where
       something : (o : Option (List Column)) (s : Option Store) (x : Store) → s ≡ Some x
-          → ShowsEntry past (length past.versions) name o s → is_some o ≡ true
+          → RepresentsEntry past (length past.versions) name o s → is_some o ≡ true
       something None None x e h = absurd (cc)
       something None (Some y) x e h = absurd h
       something (Some columns) s x e h = refl

@@ -17,7 +17,7 @@ use Rattle.smo_meaning.specs.Touching.{makes}
 use Rattle.smo_types.specs.Operators.{Operator}
 use Rattle.version_groups.specs.declared.made_table.MadeTable.{MadeTable}
 use Rattle.version_groups.specs.Groups.{stored_as, names_of, HasEntry}
-use Rattle.version_groups.specs.Standing.{rows_stored}
+use Rattle.version_groups.specs.NewestTables.{rows_stored}
 use Rattle.version_groups.specs.Becoming.{Begins}
 use Rattle.version_groups.specs.Places.{at_places, AreWithin}
 use Rattle.version_groups.specs.Sizes.{BeginsWith, BeginInOrder, ArePlaced}

@@ -19,7 +19,7 @@ use Rattle.version_groups.specs.declared.next.Step.TheVariants.{Changed, Evolved
 use Rattle.version_groups.specs.Covering.{line_of, AreOfLifelines}
 use Rattle.version_groups.specs.Lifelines.{line_begun, made_tables}
 pub use Rattle.version_groups.specs.Lifelines.{last_after}
-use Rattle.version_groups.specs.Showing.{IsInForce}
+use Rattle.version_groups.specs.Representation.{IsInForce}
 use Rattle.version_groups.specs.Sizes.{AreLiving}
 use Rattle.version_groups.specs.Becoming.{IsMade}
 use Rattle.version_groups.specs.Changing.{AreMade}

@@ -6,7 +6,7 @@ pub mod Covering
 pub mod LongestRuns
 pub mod Sizes
 pub mod GroupFields
-pub mod Showing
+pub mod Representation
 pub mod Becoming
 pub mod Grouping
 pub mod Changing
@@ -15,7 +15,7 @@ pub mod Judged
 pub mod Room
 pub mod Installing
 pub mod Ending
-pub mod Standing
+pub mod NewestTables
 pub mod MadeRows
 pub mod Evolving
 pub mod Restoring

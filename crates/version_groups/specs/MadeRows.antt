@@ -2,7 +2,7 @@
 use Rattle.std.specs.Option.{option_copied}
 use Rattle.smo_schemas.specs.declared.name.Made.{Made}
 use Rattle.smo_maps.specs.declared.map.Carried.{Carried}
-use Rattle.version_groups.specs.Standing.{MadeRows}
+use Rattle.version_groups.specs.NewestTables.{MadeRows}
 
 abbrev pub made_rows : Made → Carried → MadeRows
 made_rows names rows = record {

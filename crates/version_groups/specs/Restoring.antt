@@ -13,7 +13,7 @@ use Rattle.smo_meaning.specs.Past.{Past, no_tables, tables_from, database_at}
 use Rattle.version_groups.specs.declared.made_table.MadeTable.{MadeTable}
 use Rattle.version_groups.specs.Covering.{AreOfLifelines}
 use Rattle.version_groups.specs.Groups.{Kept, versions_in, table_in, HasEntry}
-use Rattle.version_groups.specs.Showing.{IsInForce, AreUpTo}
+use Rattle.version_groups.specs.Representation.{IsInForce, AreUpTo}
 use Rattle.version_groups.specs.Sizes.{HaveSizes}
 
 abbrev pub stores_of : List MadeTable → List Store

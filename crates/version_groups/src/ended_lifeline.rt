@@ -11,7 +11,7 @@ ghost use Rattle.version_groups.specs.Groups.{names_of};
 ghost use Rattle.version_groups.specs.Installing.{table_after};
 ghost use Rattle.version_groups.specs.Places.{at_places, AreWithin};
 ghost use Rattle.version_groups.specs.Sizes.{AreLiving};
-ghost use Rattle.version_groups.specs.Standing.{is_name};
+ghost use Rattle.version_groups.specs.NewestTables.{is_name};
 ghost use Rattle.version_groups.specs.Ending.{AreEnding};
 
 use crate::made_table::{MadeTable, find_table};

@@ -124,7 +124,7 @@ impl Groups {
     ghost use Rattle.version_groups.specs.Lifelines.{place_in};
     ghost use Rattle.version_groups.specs.Restoring.{AreRestored, stores_of, store_columns};
     ghost use Rattle.version_groups.specs.Restoring.{HaveColumns};
-    ghost use Rattle.version_groups.specs.Showing.{Represents};
+    ghost use Rattle.version_groups.specs.Representation.{Represents};
     ghost use Rattle.version_groups.specs.Sizes.{IsLineOf};
     ghost use Rattle.version_groups.specs.Room.{IsSame};
     ghost use Rattle.version_groups.specs.Steps.{IsReady, IsStep, Prepares, a_command, step_of};
@@ -300,8 +300,8 @@ impl Groups {
 
     /// Makes a command ready, and all the room that installing it needs. The command was judged,
     /// and is accepted after the past that is shown, which stays as it is; for an operator judging
-    /// found the schema that is after it. `Next` has its stamp; for changes it has the counts of the
-    /// rows that are gained and lost, summed over the tables, and for an operator none. The one
+    /// found the schema that is after it. `Next` has its stamp; for changes it has the counts of
+    /// the rows that are gained and lost, summed over the tables, and for an operator none. The one
     /// error is `NoMemory`, where memory runs out.
     ///
     /// A table that has INSERTs alone costs a search for each row. Any other that the command names

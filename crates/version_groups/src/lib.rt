@@ -2,9 +2,9 @@
 //! over all versions in which no operator makes or consumes it; its history begins at the stamp of
 //! the first.
 //!
-//! `specs/Showing.antt` says when groups show a past. A command that was judged is made ready by
-//! `prepare`, which takes all the memory that it needs, and `install` carries it out and cannot
-//! fail.
+//! `specs/Representation.antt` says when groups represent a past. A command that was judged is made
+//! ready by `prepare`, which takes all the memory that it needs, and `install` carries it out and
+//! cannot fail.
 #![tactic(auto)]
 
 mod change_group;

@@ -10,7 +10,7 @@ ghost use Rattle.smo_meaning.specs.Past.{Past, no_tables, tables_from};
 ghost use Rattle.version_groups.specs.Groups.{Kept};
 ghost use Rattle.version_groups.specs.Lifelines.{Lifeline, lifelines_of, place_in};
 ghost use Rattle.version_groups.specs.LongestRuns.{IsLongest};
-ghost use Rattle.version_groups.specs.Showing.{Represents};
+ghost use Rattle.version_groups.specs.Representation.{Represents};
 
 /// A lifeline is a longest run of versions in which no operator makes or consumes the table: it is
 /// made with the first, is there in each, and where the run ends the next operator consumes it.

@@ -17,7 +17,7 @@ ghost use Rattle.version_groups.specs.Evolving.{ComeNext, IsNextTable, IsBegun, 
 ghost use Rattle.version_groups.specs.Restoring.{stores_of, HaveColumns, with_made, BeginsOver};
 ghost use Rattle.version_groups.specs.Restoring.{HasColumns, IsStored, OthersAre, AreRestored};
 ghost use Rattle.version_groups.specs.Restoring.{IsPastOf};
-ghost use Rattle.version_groups.specs.Showing.{Represents};
+ghost use Rattle.version_groups.specs.Representation.{Represents};
 ghost use Rattle.version_groups.specs.declared.made_table.MadeTable.{MadeTable as Stored};
 
 use crate::Groups;

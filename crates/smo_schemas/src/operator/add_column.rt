@@ -5,8 +5,8 @@ ghost use Rattle.cond_expr.specs.Sizes.{nodes_of};
 ghost use Rattle.smo_types.specs.Operators.{add_column};
 ghost use Rattle.smo_meaning.specs.After.{IsAfter};
 
-use crate::made_columns::{columns_with, with_table};
-use crate::operator::preconditions::{check_new, columns_there};
+use crate::made_column::{columns_with, with_table};
+use crate::operator::precondition::{check_new, columns_there};
 use crate::operator::tree_preconditions::{check_few_columns, check_tree};
 use cond_expr::Expr;
 use prima_base::Name;

@@ -2,8 +2,8 @@
 ghost use Rattle.smo_types.specs.Operators.{copy_table};
 ghost use Rattle.smo_meaning.specs.After.{IsAfter};
 
-use crate::made_columns::with_table;
-use crate::operator::preconditions::{check_free, check_tables, columns_there};
+use crate::made_column::with_table;
+use crate::operator::precondition::{check_free, check_tables, columns_there};
 use prima_base::Name;
 use schema_catalog::Schema;
 use smo_types::OpFault;

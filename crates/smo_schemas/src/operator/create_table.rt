@@ -3,7 +3,7 @@ ghost use Rattle.smo_types.specs.Operators.{create_table};
 ghost use Rattle.smo_meaning.specs.After.{op_fault, IsAfter};
 ghost use Rattle.prima_base.specs.Faults.{IsTested};
 
-use crate::made_columns::{first_again, in_order};
+use crate::made_column::{first_again, in_order};
 use prima_base::limits::{MAX_COLUMNS, MAX_TABLES};
 use prima_base::{ColType, Name, OpRefusal, What};
 use schema_catalog::{Schema, Table};

@@ -2,8 +2,8 @@
 ghost use Rattle.smo_types.specs.Operators.{drop_column};
 ghost use Rattle.smo_meaning.specs.After.{IsAfter};
 
-use crate::made_columns::{columns_without, with_table};
-use crate::operator::preconditions::{check_another, check_known, columns_there};
+use crate::made_column::{columns_without, with_table};
+use crate::operator::precondition::{check_another, check_known, columns_there};
 use prima_base::Name;
 use schema_catalog::Schema;
 use smo_types::OpFault;

@@ -9,10 +9,10 @@ ghost use Rattle.prima_base.specs.Faults.{IsTested};
 ghost use Rattle.smo_meaning.specs.After.{IsAfter};
 
 use crate::column_join::joined_columns;
-use crate::made_columns::in_one;
+use crate::made_column::in_one;
 use crate::name_list::is_either;
 use crate::operator::column_preconditions::check_joinable;
-use crate::operator::preconditions::{check_differ, check_free, columns_there};
+use crate::operator::precondition::{check_differ, check_free, columns_there};
 use crate::operator::tree_preconditions::{check_few_columns, check_test};
 use cond_expr::Cond;
 use prima_base::{ColType, Name};

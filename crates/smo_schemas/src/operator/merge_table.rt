@@ -2,10 +2,10 @@
 ghost use Rattle.smo_types.specs.Operators.{merge_table};
 ghost use Rattle.smo_meaning.specs.After.{IsAfter};
 
-use crate::made_columns::in_one;
+use crate::made_column::in_one;
 use crate::name_list::is_either;
 use crate::operator::column_preconditions::check_alike;
-use crate::operator::preconditions::{check_differ, check_free, columns_there};
+use crate::operator::precondition::{check_differ, check_free, columns_there};
 use prima_base::Name;
 use schema_catalog::Schema;
 use smo_types::OpFault;

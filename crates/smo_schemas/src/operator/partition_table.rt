@@ -5,8 +5,8 @@ ghost use Rattle.cond_expr.specs.Sizes.{test_nodes};
 ghost use Rattle.smo_types.specs.Operators.{partition_table};
 ghost use Rattle.smo_meaning.specs.After.{IsAfter};
 
-use crate::made_columns::in_two;
-use crate::operator::preconditions::{check_tables, check_two_names, columns_there};
+use crate::made_column::in_two;
+use crate::operator::precondition::{check_tables, check_two_names, columns_there};
 use crate::operator::tree_preconditions::check_test;
 use cond_expr::Cond;
 use prima_base::Name;

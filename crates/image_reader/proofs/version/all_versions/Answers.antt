@@ -6,7 +6,7 @@ use Rattle.smo_meaning.specs.Past.{no_tables, newest_from}
 use Rattle.command_spelling.specs.Reading.{and_then}
 use Rattle.image_spelling.specs.Items.{item}
 use Rattle.image_spelling.specs.Reader as spec
-use Rattle.image_reader.specs.Standing.{newest_stamp}
+use Rattle.image_reader.specs.NextVersion.{newest_stamp}
 use Rattle.image_reader.proofs.ItemSteps.{counted_fails, after_fails}
 use Rattle.image_reader.proofs.ListSteps.{version_taken, version_failed, versions_taken}
 use Rattle.image_reader.proofs.ListSteps.{version_pushed}

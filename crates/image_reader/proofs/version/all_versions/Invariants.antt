@@ -4,7 +4,7 @@ use Rattle.smo_types.specs.Commands.{version_of}
 use Rattle.smo_meaning.specs.Past.{no_tables, newest_from}
 use Rattle.command_spelling.specs.Reading.{prepend}
 use Rattle.image_spelling.specs.Reader.{versions}
-use Rattle.image_reader.specs.Standing.{newest_stamp}
+use Rattle.image_reader.specs.NextVersion.{newest_stamp}
 use Rattle.image_reader.proofs.version.all_versions.Given as goal
 
 abbrev pub invariant-loop : goal.invariant-loop

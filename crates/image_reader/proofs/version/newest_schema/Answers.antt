@@ -1,6 +1,6 @@
 use Rattle.std.proofs.Common.{◌-◌, length, arith}
 use Rattle.smo_meaning.specs.Past.{no_tables}
-use Rattle.image_reader.proofs.StandingVersions.{last_schema}
+use Rattle.image_reader.proofs.NewestVersion.{last_schema}
 use Rattle.image_reader.proofs.version.newest_schema.Goals as goal
 
 pub returns-in-Some : goal.returns-in-Some

@@ -1,5 +1,5 @@
 use Rattle.std.proofs.Common.{◌-◌, length, arith}
-use Rattle.image_reader.proofs.StandingVersions.{last_stamp}
+use Rattle.image_reader.proofs.NewestVersion.{last_stamp}
 use Rattle.image_reader.proofs.version.newest_stamp.Goals as goal
 
 pub returns-in-Some : goal.returns-in-Some

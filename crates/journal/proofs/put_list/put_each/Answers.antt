@@ -4,7 +4,7 @@ use Rattle.disk_model.specs.MomentLaws.{goes_trans}
 use Rattle.journal.specs.Fields.{below, place_of, limit_of}
 use Rattle.journal.specs.PutLists.{records_of, fitting}
 use Rattle.journal.specs.Puts.{HavePut}
-use Rattle.journal.specs.Standing.{HasGate, sealed_record, needs}
+use Rattle.journal.specs.JournalFiles.{HasGate, sealed_record, needs}
 use Rattle.journal.proofs.PutEach.{IsNotFull, fits_unless_full, step_out, step_in, inside, rest_is}
 use Rattle.journal.proofs.PutEach.{is_put, failed_leaves, failed_exit, all_put, have_all}
 use Rattle.journal.proofs.put_list.put_each.Goals as goal

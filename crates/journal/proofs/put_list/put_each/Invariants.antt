@@ -4,7 +4,7 @@ use Rattle.journal.specs.Fields.{below, place_of, limit_of}
 use Rattle.journal.specs.PutLists.{records_of, fitting}
 use Rattle.journal.specs.Puts.{HavePut}
 use Rattle.journal.specs.Records.{Record}
-use Rattle.journal.specs.Standing.{Stands, HasGate}
+use Rattle.journal.specs.JournalFiles.{Stands, HasGate}
 use Rattle.journal.proofs.put_list.put_each.Given as goal
 
 abbrev pub invariant-loop-sealed : goal.invariant-loop-sealed

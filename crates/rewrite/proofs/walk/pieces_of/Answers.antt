@@ -7,7 +7,7 @@ use Rattle.piece_meaning.specs.Pieces.{all_mean}
 use Rattle.piece_meaning.specs.Books.{book_of}
 use Rattle.piece_ir.specs.Shown.{pieces_of}
 use Rattle.rewrite_chains.specs.Beginnings.{asking}
-use Rattle.rewrite_chains.proofs.Standings.{stand_typed}
+use Rattle.rewrite_chains.proofs.UnfoldedPieceLaws.{stand_typed}
 use Rattle.rewrite_chains.proofs.ReadMoments.{table_means, table_output}
 use Rattle.rewrite.proofs.walk.pieces_of.Goals as goal
 

@@ -4,7 +4,7 @@ use Rattle.smo_types.specs.Commands.{versions_of}
 use Rattle.piece_meaning.specs.Books.{book_of}
 use Rattle.piece_ir.specs.Shown.{pieces_of}
 use Rattle.rewrite_chains.specs.Beginnings.{asking}
-use Rattle.rewrite_chains.specs.Standing.{StandFor}
+use Rattle.rewrite_chains.specs.UnfoldedPieces.{StandFor}
 use Rattle.rewrite.proofs.walk.walked_back.Given as goal
 
 abbrev pub invariant-loop-walk : goal.invariant-loop-walk

@@ -4,9 +4,9 @@ use Rattle.smo_types.specs.Commands.{versions_of}
 use Rattle.piece_meaning.specs.Books.{book_of}
 use Rattle.piece_ir.specs.Shown.{pieces_of}
 use Rattle.rewrite_chains.specs.Beginnings.{asking}
-use Rattle.rewrite_chains.specs.Standing.{StandFor}
+use Rattle.rewrite_chains.specs.UnfoldedPieces.{StandFor}
 use Rattle.rewrite_chains.proofs.StaysLost.{stays_lost}
-use Rattle.rewrite_chains.proofs.Standings.{stand_first, stand_typed, stand_next}
+use Rattle.rewrite_chains.proofs.UnfoldedPieceLaws.{stand_first, stand_typed, stand_next}
 use Rattle.rewrite.proofs.walk.walked_on.Goals as goal
 
 pub loop-walk-init : goal.loop-walk-init

@@ -4,9 +4,9 @@ use Rattle.archive_core.specs.Fields.{standing_of, below, place_of}
 use Rattle.archive_core.specs.Checkpointing.{checkpoint_fault, image_of, checkpoint_of}
 use Rattle.script_cli.specs.Due.{image_due}
 use Rattle.script_cli.specs.Output.{checkpoint_reply, put_image}
-use Rattle.archive_state.specs.Standing.{RepresentsPast}
+use Rattle.archive_state.specs.ArchiveContents.{RepresentsPast}
 use Rattle.script_cli.specs.Halts.{HaltCounted}
-use Rattle.script_cli.specs.Shows.{Responds}
+use Rattle.script_cli.specs.Responses.{Responds}
 use Rattle.script_cli.proofs.PutsAfter.{put_one}
 use Rattle.script_cli.proofs.Responding.{stored_responds, refused_responds, checkpoint_fault_here}
 use Rattle.script_cli.proofs.Responding.{stands_stored, stands_still, untouched_between}

@@ -3,7 +3,7 @@ use Rattle.piece_meaning.specs.Books.{book_of}
 use Rattle.archive_core.specs.Fields.{below}
 use Rattle.script_cli.specs.Given.{Given}
 use Rattle.script_cli.specs.Output.{Recorded}
-use Rattle.script_cli.specs.Shows.{StandsAt, TakesRecords}
+use Rattle.script_cli.specs.Responses.{RepresentsAt, TakesRecords}
 use Rattle.script_cli.specs.Limits.{longest_script}
 use Rattle.script_cli.proofs.Reaching.{Reached}
 use Rattle.script_cli.proofs.driver.drive.Given as goal
@@ -13,7 +13,7 @@ invariant-turns g l = record {
   reached : (limit : Given) → limit.book ≡ book_of
       (λ r. (goal.Rule-dyn g (r.vtable, r.value)).handles r.value)
       (λ r. (goal.Rule-dyn g (r.vtable, r.value)).answers r.value) l.book.rules.items
-      → (start : Recorded) → StandsAt l.initial.archive limit start
+      → (start : Recorded) → RepresentsAt l.initial.archive limit start
       → Reached limit start l.initial.archive l.archive (g.S.Source.left l.initial.source)
       (g.S.Source.left l.source) (g.K.Sink.written l.initial.sink) (g.K.Sink.written l.sink)
       l.script_run l.count;

@@ -2,7 +2,7 @@ use Rattle.std.proofs.Common.{◌≡◌, length, take}
 use Rattle.std.specs.List.{flat_map}
 use Rattle.std.specs.Io.KnownBytes.{Appends}
 use Rattle.smo_meaning.specs.Past.{Past}
-use Rattle.version_groups.specs.Showing.{Represents}
+use Rattle.version_groups.specs.Representation.{Represents}
 use Rattle.answer_text.specs.Texts.{lifeline_text}
 use Rattle.script_cli.proofs.response.put_lifelines.Given as goal
 

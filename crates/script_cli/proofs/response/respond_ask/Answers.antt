@@ -7,7 +7,7 @@ use Rattle.archive_state.specs.Asking.{tells_periods}
 use Rattle.answer_text.specs.Texts.{listing_text}
 use Rattle.script_cli.specs.Output.{query_reply}
 use Rattle.script_cli.specs.Halts.{SaidCounted}
-use Rattle.script_cli.specs.Shows.{Says}
+use Rattle.script_cli.specs.Responses.{Says}
 use Rattle.script_cli.proofs.Responding.{answered_says, refused_says, said_counted}
 use Rattle.script_cli.proofs.response.respond_ask.Goals as goal
 

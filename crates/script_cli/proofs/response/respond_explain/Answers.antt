@@ -7,7 +7,7 @@ use Rattle.archive_state.specs.Asking.{pieces_told}
 use Rattle.answer_text.specs.Texts.{explain_text}
 use Rattle.script_cli.specs.Output.{explain_reply}
 use Rattle.script_cli.specs.Halts.{SaidCounted}
-use Rattle.script_cli.specs.Shows.{Says}
+use Rattle.script_cli.specs.Responses.{Says}
 use Rattle.script_cli.proofs.Responding.{accepted_says, refused_says, said_counted}
 use Rattle.script_cli.proofs.response.respond_explain.Goals as goal
 

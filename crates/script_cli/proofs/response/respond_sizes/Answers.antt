@@ -1,11 +1,11 @@
 use Rattle.std.proofs.Common.{length, refl, sym, subst}
 use Rattle.std.specs.Prelude.{None}
 use Rattle.version_groups.specs.Groups.{Kept}
-use Rattle.version_groups.specs.Showing.{Represents}
+use Rattle.version_groups.specs.Representation.{Represents}
 use Rattle.answer_text.specs.Texts.{sizes_text}
 use Rattle.script_cli.specs.Output.{sizes_reply}
 use Rattle.script_cli.specs.Halts.{SaidCounted}
-use Rattle.script_cli.specs.Shows.{Says}
+use Rattle.script_cli.specs.Responses.{Says}
 use Rattle.script_cli.proofs.Responding.{answered_says, said_counted}
 use Rattle.script_cli.proofs.response.respond_sizes.Goals as goal
 

@@ -8,7 +8,7 @@ use Rattle.script_parse.specs.Statements.{statement_of}
 use Rattle.script_cli.specs.Output.{Recorded, query_reply, explain_reply, versions_reply}
 use Rattle.script_cli.specs.Output.{schema_reply, sizes_reply, statement_reply, refused_or}
 use Rattle.script_cli.specs.Output.{answered}
-use Rattle.script_cli.specs.Shows.{Says, Responds}
+use Rattle.script_cli.specs.Responses.{Says, Responds}
 use Rattle.script_cli.proofs.Responding.{says_responds, halt_said, on_ok}
 use Rattle.script_cli.proofs.response.respond_statement.Goals as goal
 

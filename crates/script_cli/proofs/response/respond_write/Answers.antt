@@ -6,7 +6,7 @@ use Rattle.archive_core.specs.Committing.{commit_fault}
 use Rattle.script_cli.specs.Due.{command_due}
 use Rattle.script_cli.specs.Output.{command_reply, put_command}
 use Rattle.script_cli.specs.Halts.{HaltCounted}
-use Rattle.script_cli.specs.Shows.{Responds}
+use Rattle.script_cli.specs.Responses.{Responds}
 use Rattle.script_cli.proofs.PutsAfter.{put_one}
 use Rattle.script_cli.proofs.Responding.{done_responds, refused_responds, fault_here, stands_after}
 use Rattle.script_cli.proofs.Responding.{stands_still, untouched_between, puts_itself, still_takes}

@@ -10,7 +10,7 @@ use Rattle.version_groups.specs.declared.made_table.MadeTable.{MadeTable}
 use Rattle.version_groups.specs.Ending.{AreEnding}
 use Rattle.version_groups.specs.Installing.{table_after}
 use Rattle.version_groups.specs.Places.{at_places}
-use Rattle.version_groups.specs.Standing.{is_name}
+use Rattle.version_groups.specs.NewestTables.{is_name}
 use Rattle.version_groups.specs.Stored.{names_of}
 use Rattle.version_groups.proofs.LifelinesEnded.{names_still, are_ending, still_ending, among_these}
 use Rattle.version_groups.proofs.LifelinesEnded.{both_end}

@@ -1,7 +1,7 @@
 use Rattle.std.proofs.Common.{◌∙◌, map, sym, ap}
 use Rattle.std.specs.Option.{option_copied}
 use Rattle.version_groups.specs.Installing.{table_after}
-use Rattle.version_groups.specs.Standing.{is_name}
+use Rattle.version_groups.specs.NewestTables.{is_name}
 use Rattle.version_groups.proofs.LifelinesEnded.{none_end, none_ends, found_ends}
 use Rattle.version_groups.proofs.ended_lifeline.end_named.Goals as goal
 

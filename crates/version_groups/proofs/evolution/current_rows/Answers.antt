@@ -4,7 +4,7 @@ use Rattle.std.specs.Result.{IfOk}
 use Rattle.prima_base.specs.declared.value.Value.{Value}
 use Rattle.history_store.specs.Store.{AllBefore, relation_at}
 use Rattle.version_groups.specs.Groups.{stored_as}
-use Rattle.version_groups.specs.Standing.{rows_stored}
+use Rattle.version_groups.specs.NewestTables.{rows_stored}
 use Rattle.version_groups.specs.Evolving.{IsEarlier, rows_named}
 use Rattle.version_groups.specs.Places.{at_places}
 use Rattle.table_changes.proofs.Applying.{all_later}

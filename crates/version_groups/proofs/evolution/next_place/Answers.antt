@@ -5,7 +5,7 @@ use Rattle.version_groups.specs.Becoming.{Begins}
 use Rattle.version_groups.specs.Evolving.{IsNextTable}
 use Rattle.version_groups.specs.MadeRows.{made_rows}
 use Rattle.version_groups.specs.Places.{at_places, IsFound}
-use Rattle.version_groups.specs.Standing.{is_name}
+use Rattle.version_groups.specs.NewestTables.{is_name}
 use Rattle.version_groups.proofs.NextPlaces.{goes_there, is_there, neither_made}
 use Rattle.version_groups.proofs.evolution.next_place.Goals as goal
 

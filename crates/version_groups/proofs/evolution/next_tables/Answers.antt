@@ -7,7 +7,7 @@ use Rattle.version_groups.specs.Becoming.{Begins}
 use Rattle.version_groups.specs.MadeRows.{made_rows}
 use Rattle.version_groups.specs.Places.{at_places}
 use Rattle.version_groups.specs.Sizes.{BeginsWith}
-use Rattle.version_groups.specs.Standing.{is_made, next_rows}
+use Rattle.version_groups.specs.NewestTables.{is_made, next_rows}
 use Rattle.version_groups.proofs.BegunTables.{listed_there, next_begun, all_begun, begun_ordered}
 use Rattle.version_groups.proofs.BegunTables.{begun_each}
 use Rattle.version_groups.proofs.NextPlaces.{placed_more, within_more}

@@ -4,7 +4,7 @@ use Rattle.version_groups.specs.Becoming.{Begins}
 use Rattle.version_groups.specs.MadeRows.{made_rows}
 use Rattle.version_groups.specs.Places.{at_places, AreWithin}
 use Rattle.version_groups.specs.Sizes.{BeginsWith}
-use Rattle.version_groups.specs.Standing.{is_made, next_rows}
+use Rattle.version_groups.specs.NewestTables.{is_made, next_rows}
 use Rattle.version_groups.proofs.BegunTables.{AreBegun}
 use Rattle.version_groups.proofs.PlacedTables.{AreComing}
 use Rattle.version_groups.proofs.evolution.next_tables.Given as goal

@@ -3,7 +3,7 @@ use Rattle.piece_meaning.specs.Books.{book_of}
 use Rattle.archive_core.specs.Fields.{below}
 use Rattle.script_cli.specs.Given.{Given}
 use Rattle.script_cli.specs.Output.{Recorded}
-use Rattle.script_cli.specs.Shows.{Took, StandsAt, TakesRecords}
+use Rattle.script_cli.specs.Responses.{Took, RepresentsAt, TakesRecords}
 use Rattle.script_cli.proofs.script_run.ScriptRun.feed.Given as goal
 
 abbrev pub invariant-turns : goal.invariant-turns
@@ -11,7 +11,7 @@ invariant-turns g l = record {
   took : (limit : Given) → limit.book ≡ book_of
       (λ r. (goal.Rule-dyn g (r.vtable, r.value)).handles r.value)
       (λ r. (goal.Rule-dyn g (r.vtable, r.value)).answers r.value) l.book.rules.items
-      → (now : Recorded) → StandsAt l.initial.archive limit now
+      → (now : Recorded) → RepresentsAt l.initial.archive limit now
       → Took limit now l.initial.self l.self l.initial.archive l.archive l.piece l.rest
       (g.K.Sink.written l.initial.sink) (g.K.Sink.written l.sink);
   ready : l.self.splitter.spent ≡ false;

@@ -1,4 +1,0 @@
-use Rattle.script_cli.proofs.opening.run_over.Given as goal
-
-abbrev pub ghosts-mount_counted : goal.ghosts-mount_counted
-ghosts-mount_counted g a = record { name = a.blank.name; parts = a.blank.parts }
