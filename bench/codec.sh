@@ -9,7 +9,8 @@ top=$(cd "$(dirname "$0")/.." && pwd)
 scratch=$(mktemp -d)
 trap 'rm -rf "$scratch"' EXIT
 mkdir -p "$scratch/crates/codec_again/src"
-below='relations prima_base cond_expr schema_catalog smo_types smo_meaning command_spelling command_encoder command_codec'
+below='relations prima_base cond_expr schema_catalog smo_types smo_meaning command_spelling'
+below="$below command_encoder command_codec"
 for crate in $below; do
     mkdir "$scratch/crates/$crate"
     (cd "$top/crates/$crate" && tar cf - --exclude=./out .) | tar xf - -C "$scratch/crates/$crate"
@@ -70,7 +71,8 @@ def name(text):
 
 
 def insert(i):
-    cells = [name(b"a") + b"\0" + struct.pack(">q", i), name(b"text_of_it") + b"\1" + struct.pack(">H", 40) + b"x" * 40]
+    cells = [name(b"a") + b"\0" + struct.pack(">q", i),
+        name(b"text_of_it") + b"\1" + struct.pack(">H", 40) + b"x" * 40]
     return b"\0" + name(b"table") + struct.pack(">I", len(cells)) + b"".join(cells)
 
 
@@ -78,7 +80,8 @@ def update(i):
     column = b"\0" + name(b"a")
     below = b"\2\2" + column + b"\1\0" + struct.pack(">q", i)
     sets = [name(b"a") + b"\4" + below + column + b"\1\0" + struct.pack(">q", -i)]
-    return b"\2" + name(b"table") + struct.pack(">I", 1) + b"".join(sets) + b"\3\0\2" + below + b"\5" + below
+    return (b"\2" + name(b"table") + struct.pack(">I", 1) + b"".join(sets) + b"\3\0\2" + below
+        + b"\5" + below)
 
 
 def command(size):

@@ -13,14 +13,15 @@ set -eu
 top=$(cd "$(dirname "$0")/.." && pwd)
 if [ -z "${PROGRAM:-}" ]; then
     PROGRAM=$top/crates/prima/out/prima
-    "$top/prima" </dev/null >/dev/null || [ $? -eq 2 ] # builds what is missing; no words, no archive
+    # builds what is missing; no words, no archive
+    "$top/prima" </dev/null >/dev/null || [ $? -eq 2 ]
 fi
 [ $# -gt 0 ] || set -- 2000 20000
 scratch=$(mktemp -d)
 trap 'rm -rf "$scratch"' EXIT
 cat >"$scratch/bare.c" <<'C'
-// Writes the records of the journal that the first file holds into the second one: kind, length, payload and closed gate, a sync, the
-// open gate, a sync. Prints the seconds that this takes.
+// Writes the records of the journal that the first file holds into the second one: kind, length,
+// payload and closed gate, a sync, the open gate, a sync. Prints the seconds that this takes.
 #include <fcntl.h>
 #include <stdio.h>
 #include <stdlib.h>
@@ -71,7 +72,8 @@ cc -O2 -o "$scratch/bare" "$scratch/bare.c"
 exec python3 - "$PROGRAM" "$scratch/bare" "$@" <<'PYTHON'
 import os, shutil, subprocess, sys, tempfile, time
 
-program, bare, sizes = os.path.realpath(sys.argv[1]), sys.argv[2], [int(word) for word in sys.argv[3:]]
+program, bare = os.path.realpath(sys.argv[1]), sys.argv[2]
+sizes = [int(word) for word in sys.argv[3:]]
 on_disk = os.environ.get("FOLDER", ".")
 in_memory = "/dev/shm" if os.path.isdir("/dev/shm") else None
 numbers = [int(word) for word in os.environ.get("NUMBERS", "20000 200000").split()]
@@ -80,12 +82,17 @@ TABLE = "AT 1 EVOLVE CREATE TABLE t (a INT, b TEXT);"
 
 def inserts(first, n):
     # Values that jump about, so that new rows do not all stand after the others.
-    return [f"AT {2 + i} INSERT INTO t (a, b) VALUES ({i * 7919 % 1000003 * 2 + i % 2}, 'text {i % 97}');" for i in range(first, first + n)]
+    return [
+        f"AT {2 + i} INSERT INTO t (a, b) "
+        f"VALUES ({i * 7919 % 1000003 * 2 + i % 2}, 'text {i % 97}');"
+        for i in range(first, first + n)
+    ]
 
 
 def run(folder, statements, replies, before=()):
     """The seconds of a run there, and the most memory that it had, in KiB."""
-    with tempfile.TemporaryFile(dir=in_memory) as script, tempfile.TemporaryFile(dir=in_memory) as said:
+    with (tempfile.TemporaryFile(dir=in_memory) as script,
+            tempfile.TemporaryFile(dir=in_memory) as said):
         script.write("\n".join(statements).encode())
         script.seek(0)
         begun = time.perf_counter()
@@ -107,9 +114,11 @@ for n in sizes:
             run(folder, [TABLE], 1)
             ours.append(run(folder, inserts(0, n), n)[0])
             bytes_of = os.path.join(folder, "archive.prima")
-            theirs.append(float(subprocess.check_output([bare, bytes_of, os.path.join(folder, "bare.bytes")])))
+            theirs.append(float(subprocess.check_output(
+                [bare, bytes_of, os.path.join(folder, "bare.bytes")])))
     a, b = min(ours), min(theirs)
-    print(f"{n:>8} {a:>9.3f} {1e6 * a / n:>9.1f} {b:>9.3f} {1e6 * b / (n + 1):>9.1f} {a / b:>6.2f}", flush=True)
+    print(f"{n:>8} {a:>9.3f} {1e6 * a / n:>9.1f} {b:>9.3f} {1e6 * b / (n + 1):>9.1f} {a / b:>6.2f}",
+        flush=True)
     if a > 1.25 * b:
         too_much.append(f"{n} commits took {a / b:.2f} times as long as the bare loop")
 
@@ -121,14 +130,17 @@ if shutil.which("strace"):
         with tempfile.TemporaryDirectory(dir=in_memory) as folder:
             run(folder, [TABLE], 1)
             trace = os.path.join(folder, "trace")
-            run(folder, inserts(0, n), n, ["strace", "-f", "-e", "trace=" + ",".join(CALLS), "-o", trace])
+            run(folder, inserts(0, n), n,
+                ["strace", "-f", "-e", "trace=" + ",".join(CALLS), "-o", trace])
             with open(trace) as lines:
                 names = [line.split(None, 1)[1].split("(")[0] for line in lines if "(" in line]
         return {name: names.count(name) for name in CALLS}
 
     few, many = calls(100), calls(300)
     each = {name: (many[name] - few[name]) / 200 for name in CALLS if many[name] != few[name]}
-    print("calls of the disk for each commit:", ", ".join(f"{name} {count:g}" for name, count in each.items()), f"(sum {sum(each.values()):g})")
+    print("calls of the disk for each commit:",
+        ", ".join(f"{name} {count:g}" for name, count in each.items()),
+        f"(sum {sum(each.values()):g})")
     if sum(each.values()) > 4:
         too_much.append(f"a commit calls the disk {sum(each.values()):g} times")
 
@@ -140,10 +152,13 @@ for n in numbers:
         size = os.path.getsize(os.path.join(folder, "archive.prima"))
         print(f"{n:>9} {size:>10} {taken:>10.3f} {memory:>8}", flush=True)
         many = 5000
-        one = f"AT {n + 2} " + " THEN ".join(f"INSERT INTO t (a, b) VALUES ({3000000 + i * 7919 % 100003}, 'text {i % 97}')" for i in range(many)) + ";"
+        one = f"AT {n + 2} " + " THEN ".join(
+            f"INSERT INTO t (a, b) VALUES ({3000000 + i * 7919 % 100003}, 'text {i % 97}')"
+            for i in range(many)) + ";"
         opened = run(folder, [], 0)[0]
         taken = run(folder, [one], 1)[0] - opened
-        print(f"{'':>9} a command of {many} inserts there: {taken:.3f} seconds, {many / taken:,.0f} rows a second", flush=True)
+        print(f"{'':>9} a command of {many} inserts there: {taken:.3f} seconds, "
+              f"{many / taken:,.0f} rows a second", flush=True)
 if too_much:
     sys.exit("; ".join(too_much))
 PYTHON

@@ -24,19 +24,25 @@ def play(statements):
         _, status, used = os.wait4(run.pid, 0)
         taken = time.perf_counter() - begun
         replies.seek(0)
-        assert status == 0 and replies.read().count(b"\n") >= len(statements), "a statement was refused"
+        assert status == 0 and replies.read().count(b"\n") >= len(statements), (
+            "a statement was refused")
     return taken, used.ru_maxrss
 
 
-print(f"{'rows':>8} {'inserts':>9} {'NOPs':>9} {'in parts':>9} {'joined':>9} {'KiB':>8} {'NOPs KiB':>9}")
+print(f"{'rows':>8} {'inserts':>9} {'NOPs':>9} {'in parts':>9} {'joined':>9} "
+      f"{'KiB':>8} {'NOPs KiB':>9}")
 for n in sizes:
     rows = ["AT 1 EVOLVE CREATE TABLE t (a INT, b INT, c INT);"]
-    rows += [f"AT {2 + i} INSERT INTO t (a, b, c) VALUES ({i}, {i * 7919 % n}, {i % 10});" for i in range(n)]
+    rows += [f"AT {2 + i} INSERT INTO t (a, b, c) VALUES ({i}, {i * 7919 % n}, {i % 10});"
+        for i in range(n)]
     at = n + 2
     nops = [f"AT {at + i} EVOLVE NOP;" for i in range(500)]
-    parts = [f"AT {at} EVOLVE PARTITION TABLE t INTO low WITH b < {n // 2}, high;", f"AT {at + 1} EVOLVE MERGE TABLE low, high INTO t;"]
-    joined = [f"AT {at} EVOLVE DECOMPOSE TABLE t INTO x (a, b), y (a, c);", f"AT {at + 1} EVOLVE JOIN TABLE x, y INTO t;"]
+    parts = [f"AT {at} EVOLVE PARTITION TABLE t INTO low WITH b < {n // 2}, high;",
+        f"AT {at + 1} EVOLVE MERGE TABLE low, high INTO t;"]
+    joined = [f"AT {at} EVOLVE DECOMPOSE TABLE t INTO x (a, b), y (a, c);",
+        f"AT {at + 1} EVOLVE JOIN TABLE x, y INTO t;"]
     alone, least = play(rows)
     more = [play(rows + after) for after in (nops, parts, joined)]
-    print(f"{n:>8} {alone:>9.3f} {more[0][0] - alone:>9.3f} {more[1][0] - alone:>9.3f} {more[2][0] - alone:>9.3f} {least:>8} {more[0][1]:>9}")
+    print(f"{n:>8} {alone:>9.3f} {more[0][0] - alone:>9.3f} {more[1][0] - alone:>9.3f} "
+          f"{more[2][0] - alone:>9.3f} {least:>8} {more[0][1]:>9}")
 PYTHON

@@ -12,7 +12,8 @@ set -eu
 top=$(cd "$(dirname "$0")/.." && pwd)
 if [ -z "${PROGRAM:-}" ]; then
     PROGRAM=$top/crates/prima/out/prima
-    "$top/prima" </dev/null >/dev/null || [ $? -eq 2 ] # builds what is missing; no words, no archive
+    # builds what is missing; no words, no archive
+    "$top/prima" </dev/null >/dev/null || [ $? -eq 2 ]
 fi
 [ $# -gt 0 ] || set -- 100 500
 exec python3 - "$top/examples/fresh" "$PROGRAM" "${ROWS:-500}" "$@" <<'PYTHON'
@@ -37,32 +38,39 @@ def play(statements):
 
 
 def loaded(versions):
-    """The rows under version 1, renames of their table there and back, and then the sixteen tables `p1` to `p16`; with the number of the last version."""
+    """The rows under version 1, renames of their table there and back, and then the sixteen tables
+    `p1` to `p16`; with the number of the last version."""
     step = -(-n // PARTS)
     script = ["AT 1 EVOLVE CREATE TABLE t0 (k INT, x INT);"]
-    script.append("AT 2 " + " THEN ".join(f"INSERT INTO t0 (k, x) VALUES ({k}, {k * 7919 % n})" for k in range(n)) + ";")
+    script.append("AT 2 "
+        + " THEN ".join(f"INSERT INTO t0 (k, x) VALUES ({k}, {k * 7919 % n})" for k in range(n))
+        + ";")
     at, version = 3, 1
     names = ["t0", "q"]
     while version < versions - (PARTS - 1) or names[0] != "t0":
-        script.append(f"AT {at} EVOLVE RENAME TABLE {names[0]} INTO {names[1]} INVERSE RENAME TABLE {names[1]} INTO {names[0]};")
+        script.append(f"AT {at} EVOLVE RENAME TABLE {names[0]} INTO {names[1]} "
+                      f"INVERSE RENAME TABLE {names[1]} INTO {names[0]};")
         names.reverse()
         at, version = at + 1, version + 1
     for i in range(1, PARTS):
         rest = f"t{i}" if i < PARTS - 1 else f"p{PARTS}"
-        script.append(f"AT {at} EVOLVE PARTITION TABLE t{i - 1} INTO p{i} WITH k < {i * step}, {rest} INVERSE MERGE TABLE p{i}, {rest} INTO t{i - 1};")
+        script.append(f"AT {at} EVOLVE PARTITION TABLE t{i - 1} INTO p{i} WITH k < {i * step}, "
+                      f"{rest} INVERSE MERGE TABLE p{i}, {rest} INTO t{i - 1};")
         at, version = at + 1, version + 1
     return script, version
 
 
 def union(version, where):
-    return f"QUERY VERSION {version} " + " UNION ".join(f"SELECT k, x FROM p{i}{where}" for i in range(1, PARTS + 1)) + ";"
+    return f"QUERY VERSION {version} " + " UNION ".join(f"SELECT k, x FROM p{i}{where}"
+        for i in range(1, PARTS + 1)) + ";"
 
 
 print(f"{'versions':>8} {'rows':>8} {'load':>8} {'all':>8} {'one':>8} {'times':>6}")
 for versions in sizes:
     script, last = loaded(versions)
     alone = min(play(script)[0] for _ in range(3))
-    pieces = [int(play(script + ["EXPLAIN " + union(last, where)])[1][-1].split()[1]) for where in ("", " WHERE k = 1")]
+    pieces = [int(play(script + ["EXPLAIN " + union(last, where)])[1][-1].split()[1])
+        for where in ("", " WHERE k = 1")]
     whole = last - (PARTS - 1)  # the versions in which the table is not yet cut
     assert pieces == [PARTS * last, whole + sum(range(2, PARTS + 1))], pieces
     costs = []
@@ -71,5 +79,6 @@ for versions in sizes:
         assert runs[0][1][-1] == f"end {rows}", runs[0][1][-1]
         costs.append(max(min(taken for taken, _ in runs) - alone, 0))
     ratio = costs[1] / costs[0] if costs[0] else 0
-    print(f"{last:>8} {n:>8} {alone:>8.3f} {costs[0]:>8.3f} {costs[1]:>8.3f} {ratio:>6.2f}", flush=True)
+    print(f"{last:>8} {n:>8} {alone:>8.3f} {costs[0]:>8.3f} {costs[1]:>8.3f} {ratio:>6.2f}",
+        flush=True)
 PYTHON

@@ -13,8 +13,10 @@ program, sizes = sys.argv[1:3], [int(word) for word in sys.argv[3:]]
 print(f"{'rows':>8} {'bytes':>10} {'seconds':>9} {'peak KiB':>9}")
 for n in sizes:
     # Values that jump about, so that new rows do not all stand after the others.
-    inserts = [f"AT {2 + i} INSERT INTO t (a) VALUES ({i * 7919 % (8 * n) * 2 + i % 2});" for i in range(n)]
-    script = "\n".join(["AT 1 EVOLVE CREATE TABLE t (a INT);", *inserts, "QUERY VERSION 1 SELECT a FROM t;"])
+    inserts = [f"AT {2 + i} INSERT INTO t (a) VALUES ({i * 7919 % (8 * n) * 2 + i % 2});"
+        for i in range(n)]
+    script = "\n".join(["AT 1 EVOLVE CREATE TABLE t (a INT);", *inserts,
+        "QUERY VERSION 1 SELECT a FROM t;"])
     begun = time.perf_counter()
     run = subprocess.run([*program, "run"], input=script.encode(), stdout=subprocess.PIPE)
     seconds = time.perf_counter() - begun

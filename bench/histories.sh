@@ -13,7 +13,8 @@ set -eu
 top=$(cd "$(dirname "$0")/.." && pwd)
 if [ -z "${PROGRAM:-}" ]; then
     PROGRAM=$top/crates/prima/out/prima
-    "$top/prima" </dev/null >/dev/null || [ $? -eq 2 ] # builds what is missing; no words, no archive
+    # builds what is missing; no words, no archive
+    "$top/prima" </dev/null >/dev/null || [ $? -eq 2 ]
 fi
 [ $# -gt 0 ] || set -- 200000
 scratch=$(mktemp -d)
@@ -35,7 +36,8 @@ int main(int count, char **words) {
     if (bytes == NULL || fread(bytes, 1, size, file) != (size_t)size) return 1;
     if (words[2][0] == 'b') return write(1, bytes, size) != size;
     bytes[size] = 0;
-    for (char *line = strtok(bytes, "\n"); line != NULL; line = strtok(NULL, "\n")) printf("%s\n", line);
+    for (char *line = strtok(bytes, "\n"); line != NULL; line = strtok(NULL, "\n"))
+        printf("%s\n", line);
     return 0;
 }
 C
@@ -43,7 +45,8 @@ cc -O2 -o "$scratch/bare" "$scratch/bare.c"
 exec python3 - "$PROGRAM" "$scratch/bare" "${WIDTHS:-16 1024}" "$@" <<'PYTHON'
 import os, subprocess, sys, tempfile, time
 
-program, bare, widths, sizes = os.path.realpath(sys.argv[1]), sys.argv[2], *[[int(w) for w in ws] for ws in (sys.argv[3].split(), sys.argv[4:])]
+program, bare, widths, sizes = os.path.realpath(sys.argv[1]), sys.argv[2], *[[int(w) for w in ws]
+    for ws in (sys.argv[3].split(), sys.argv[4:])]
 in_memory = "/dev/shm" if os.path.isdir("/dev/shm") else None
 ROUNDS, TOGETHER = 5, 200
 QUERY = b"QUERY VERSION 1 SELECT a, b FROM t;"
@@ -62,7 +65,8 @@ def load(n, width):
             at += 1
             keys = range(low, min(low + TOGETHER, n // 2))
             if turn == "first":
-                parts = [f"INSERT INTO t (a, b) VALUES ({k}, '{text(k, turn, width)}')" for k in keys]
+                parts = [f"INSERT INTO t (a, b) VALUES ({k}, '{text(k, turn, width)}')"
+                    for k in keys]
             else:
                 parts = [f"UPDATE t SET b = '{text(k, turn, width)}' WHERE a = {k}" for k in keys]
             yield f"AT {at} {' THEN '.join(parts)};"
@@ -107,14 +111,16 @@ def wait_for_lines(path, count):
 
 
 def listing_memory(folder, commands, n):
-    """The most KiB that the listing takes beside the archive that its process has made. Blocks of memory that are given back are no
-    longer the process's, so what is more than before is the listing's."""
+    """The most KiB that the listing takes beside the archive that its process has made. Blocks of
+    memory that are given back are no longer the process's, so what is more than before is the
+    listing's."""
     place = os.path.join(folder, "once")
     os.mkdir(place)
     settings = dict(os.environ, MALLOC_MMAP_THRESHOLD_="65536", MALLOC_TRIM_THRESHOLD_="0")
     listed = os.path.join(folder, "listed")
     with open(listed, "wb") as replies:
-        child = subprocess.Popen([program, "run"], stdin=subprocess.PIPE, stdout=replies, cwd=place, env=settings)
+        child = subprocess.Popen([program, "run"], stdin=subprocess.PIPE, stdout=replies, cwd=place,
+            env=settings)
         child.stdin.write("\n".join(commands).encode() + b"\n")
         child.stdin.flush()
         wait_for_lines(listed, len(commands))
@@ -131,11 +137,13 @@ def listing_memory(folder, commands, n):
     return most - before
 
 
-print(f"{'width':>6} {'entries':>8} {'reply':>11} {'listing':>8} {'write':>8} {'printf':>8} {'open KiB':>9} {'list KiB':>9} {'B/entry':>8}")
+print(f"{'width':>6} {'entries':>8} {'reply':>11} {'listing':>8} {'write':>8} {'printf':>8} "
+      f"{'open KiB':>9} {'list KiB':>9} {'B/entry':>8}")
 for width in widths:
     for n in sizes:
         with tempfile.TemporaryDirectory(dir=in_memory) as folder:
-            paths = [os.path.join(folder, name) for name in ("script", "nothing", "query", "replies")]
+            paths = [os.path.join(folder, name)
+                for name in ("script", "nothing", "query", "replies")]
             commands = list(load(n, width))
             with open(paths[0], "w") as it:
                 it.writelines(line + "\n" for line in commands)
@@ -159,5 +167,6 @@ for width in widths:
                 lines, _ = least([bare, paths[3], "lines"], folder, nothing, out)
             taken = listing_memory(folder, commands, n)
         grown = taken * 1024 / n
-        print(f"{width:>6} {n:>8} {len(said):>11} {listing - opening:>8.3f} {block:>8.3f} {lines:>8.3f} {open_most:>9} {taken:>9} {grown:>8.1f}")
+        print(f"{width:>6} {n:>8} {len(said):>11} {listing - opening:>8.3f} {block:>8.3f} "
+              f"{lines:>8.3f} {open_most:>9} {taken:>9} {grown:>8.1f}")
 PYTHON

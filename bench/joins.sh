@@ -14,7 +14,8 @@ set -eu
 top=$(cd "$(dirname "$0")/.." && pwd)
 if [ -z "${PROGRAM:-}" ]; then
     PROGRAM=$top/crates/prima/out/prima
-    "$top/prima" </dev/null >/dev/null || [ $? -eq 2 ] # builds what is missing; no words, no archive
+    # builds what is missing; no words, no archive
+    "$top/prima" </dev/null >/dev/null || [ $? -eq 2 ]
 fi
 [ $# -gt 0 ] || set -- 1000 10000 100000
 exec python3 - "$top/examples/fresh" "$PROGRAM" "$@" <<'PYTHON'
@@ -42,7 +43,8 @@ def insertions(table, columns, rows):
     return [f"INSERT INTO {table} ({names}) VALUES ({', '.join(map(str, row))})" for row in rows]
 
 
-TABLES = ["r (k INT, x INT)", "s (k INT, y INT)", "u (k INT, z INT)", "early (k INT)", "late (k INT)", "turns (k INT, x INT)"]
+TABLES = ["r (k INT, x INT)", "s (k INT, y INT)", "u (k INT, z INT)", "early (k INT)",
+    "late (k INT)", "turns (k INT, x INT)"]
 TABLES += ["words (w TEXT, x INT)", "names (w TEXT, y INT)"]
 
 
@@ -52,12 +54,16 @@ def text(key):
 
 
 def loaded(n):
-    """Tables of n rows, loaded by commands of 5,000 rows; those of `late` begin where those of `early` have ended. In `turns` one key has
-    n versions (10,000 at most) that follow one another, beside a row that still goes on."""
+    """Tables of n rows, loaded by commands of 5,000 rows; those of `late` begin where those of
+    `early` have ended. In `turns` one key has n versions (10,000 at most) that follow one another,
+    beside a row that still goes on."""
     script = [f"AT {i} EVOLVE CREATE TABLE {t};" for i, t in enumerate(TABLES)]
-    changes = insertions("r", "kx", ((i, i * 7919 % n) for i in range(n))) + insertions("s", "ky", ((i * 31 % n, n + i) for i in range(n)))
-    changes += insertions("u", "kz", ((i * 17 % n, i) for i in range(n))) + insertions("early", "k", ((i,) for i in range(n)))
-    changes += insertions("words", "wx", ((text(i), i) for i in range(n))) + insertions("names", "wy", ((text(i * 31 % n), i) for i in range(n)))
+    changes = insertions("r", "kx", ((i, i * 7919 % n) for i in range(n))) + insertions("s", "ky",
+        ((i * 31 % n, n + i) for i in range(n)))
+    changes += insertions("u", "kz", ((i * 17 % n, i) for i in range(n))) + insertions("early", "k",
+        ((i,) for i in range(n)))
+    changes += insertions("words", "wx", ((text(i), i) for i in range(n))) + insertions("names",
+        "wy", ((text(i * 31 % n), i) for i in range(n)))
     at = 10
     for i in range(0, len(changes), 5000):
         script.append(f"AT {at} " + " THEN ".join(changes[i : i + 5000]) + ";")
@@ -67,8 +73,10 @@ def loaded(n):
     for i in range(0, len(changes), 5000):
         at += 1
         script.append(f"AT {at} " + " THEN ".join(changes[i : i + 5000]) + ";")
-    script.append(f"AT {at + 1} INSERT INTO turns (k, x) VALUES (1, 0) THEN INSERT INTO turns (k, x) VALUES (1, 1);")
-    script += [f"AT {at + i} UPDATE turns SET x = {i} WHERE x = {i - 1};" for i in range(2, min(n, 10000))]
+    script.append(f"AT {at + 1} INSERT INTO turns (k, x) VALUES (1, 0) "
+                  "THEN INSERT INTO turns (k, x) VALUES (1, 1);")
+    script += [f"AT {at + i} UPDATE turns SET x = {i} WHERE x = {i - 1};"
+        for i in range(2, min(n, 10000))]
     return script
 
 
@@ -89,7 +97,9 @@ print(f"{'rows':>8} {'load':>8} " + " ".join(f"{name:>8}" for name, _ in QUESTIO
 for n in sizes:
     script = loaded(n)
     alone, loaded_in = play(script)
-    taken = [play(script + [f"QUERY VERSION {len(TABLES)} {question};"]) for _, question in QUESTIONS]
+    taken = [play(script + [f"QUERY VERSION {len(TABLES)} {question};"])
+        for _, question in QUESTIONS]
     print(f"{n:>8} {alone:>8.3f} " + " ".join(f"{seconds - alone:>8.3f}" for seconds, _ in taken))
-    print(f"{'KiB':>8} {loaded_in:>8} " + " ".join(f"{memory:>8}" for _, memory in taken), flush=True)
+    print(f"{'KiB':>8} {loaded_in:>8} " + " ".join(f"{memory:>8}" for _, memory in taken),
+        flush=True)
 PYTHON

@@ -11,7 +11,8 @@ set -eu
 top=$(cd "$(dirname "$0")/.." && pwd)
 if [ -z "${PROGRAM:-}" ]; then
     PROGRAM=$top/crates/prima/out/prima
-    "$top/prima" </dev/null >/dev/null || [ $? -eq 2 ] # builds what is missing; no words, no archive
+    # builds what is missing; no words, no archive
+    "$top/prima" </dev/null >/dev/null || [ $? -eq 2 ]
 fi
 exec python3 - "$PROGRAM" "${1:-200}" "${2:-$RANDOM}" <<'PYTHON'
 import os, random, signal, subprocess, sys, tempfile, threading, time
@@ -48,7 +49,8 @@ def feed(pipe, first):
 
 def killed(folder, first):
     """How many commits were acknowledged, in a run over the archive there that is killed."""
-    child = subprocess.Popen([program, "run"], cwd=folder, stdin=subprocess.PIPE, stdout=subprocess.PIPE)
+    child = subprocess.Popen([program, "run"], cwd=folder, stdin=subprocess.PIPE,
+        stdout=subprocess.PIPE)
     feeder = threading.Thread(target=feed, args=(child.stdin, first), daemon=True)
     said = bytearray()
     reader = threading.Thread(target=lambda: said.extend(child.stdout.read()), daemon=True)
@@ -66,7 +68,8 @@ def killed(folder, first):
 
 def rows(folder):
     """The rows that the archive has when it is opened again."""
-    ran = subprocess.run([program, "run"], cwd=folder, input=b"QUERY VERSION 1 SELECT a FROM t;", stdout=subprocess.PIPE)
+    ran = subprocess.run([program, "run"], cwd=folder, input=b"QUERY VERSION 1 SELECT a FROM t;",
+        stdout=subprocess.PIPE)
     assert ran.returncode == 0, (ran.returncode, ran.stdout[-80:])
     lines = ran.stdout.split(b"\n")[:-2]
     return [tuple(map(int, (line.split()[1], line.split()[3]))) for line in lines]
@@ -78,17 +81,23 @@ for turn in range(rounds):
         if files:
             folder.cleanup()
         folder = tempfile.TemporaryDirectory(dir=on_disk)
-        begun = subprocess.run([program, "run"], cwd=folder.name, input=b"AT 1 EVOLVE CREATE TABLE t (a INT);", stdout=subprocess.PIPE)
+        begun = subprocess.run([program, "run"], cwd=folder.name,
+            input=b"AT 1 EVOLVE CREATE TABLE t (a INT);", stdout=subprocess.PIPE)
         assert begun.stdout == b"ok 1 version 1\n", begun.stdout
         files, there = files + 1, 0
     count = killed(folder.name, there)
     records = records_of(os.path.join(folder.name, "archive.prima")) - 1
     found = rows(folder.name)
-    assert found == [(i + 2, i) for i in range(len(found))], f"turn {turn} of seed {seed}: other rows"
-    assert len(found) == records, f"turn {turn} of seed {seed}: {records} records and {len(found)} rows"
-    assert there + count <= len(found) <= there + count + 1, f"turn {turn} of seed {seed}: {there} + {count} acknowledged, {len(found)} there"
-    acknowledged, more, most = acknowledged + count, more + len(found) - there - count, max(most, count)
+    assert found == [(i + 2, i) for i in range(len(found))], (
+        f"turn {turn} of seed {seed}: other rows")
+    assert len(found) == records, (
+        f"turn {turn} of seed {seed}: {records} records and {len(found)} rows")
+    assert there + count <= len(found) <= there + count + 1, (
+        f"turn {turn} of seed {seed}: {there} + {count} acknowledged, {len(found)} there")
+    acknowledged, more, most = acknowledged + count, more + len(found) - there - count, max(most,
+        count)
     there = len(found)
 folder.cleanup()
-print(f"killed {rounds} times over {files} files (seed {seed}): {acknowledged} commands acknowledged, at most {most} a run, none lost; {more} times one more was there")
+print(f"killed {rounds} times over {files} files (seed {seed}): {acknowledged} commands "
+      f"acknowledged, at most {most} a run, none lost; {more} times one more was there")
 PYTHON

@@ -9,7 +9,8 @@ set -eu
 top=$(cd "$(dirname "$0")/.." && pwd)
 if [ -z "${PROGRAM:-}" ]; then
     PROGRAM=$top/crates/prima/out/prima
-    "$top/prima" </dev/null >/dev/null || [ $? -eq 2 ] # builds what is missing; no words, no archive
+    # builds what is missing; no words, no archive
+    "$top/prima" </dev/null >/dev/null || [ $? -eq 2 ]
 fi
 exec python3 - "$top/examples/fresh" "$PROGRAM" "${1:-20000}" "${2:-400}" <<'PYTHON'
 import os, subprocess, sys, tempfile
@@ -35,7 +36,8 @@ def middle(statements):
 
 
 load = ["AT 1 EVOLVE CREATE TABLE t (a INT, b INT, c TEXT);"]
-load += [f"AT {i + 2} INSERT INTO t (a, b, c) VALUES ({i}, {i % 10}, 'text {i % 97}');" for i in range(rows)]
+load += [f"AT {i + 2} INSERT INTO t (a, b, c) VALUES ({i}, {i % 10}, 'text {i % 97}');"
+    for i in range(rows)]
 versions = [f"AT {rows + 2 + i} EVOLVE NOP INVERSE NOP;" for i in range(nops)]
 
 

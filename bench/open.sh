@@ -11,7 +11,8 @@ set -eu
 top=$(cd "$(dirname "$0")/.." && pwd)
 if [ -z "${PROGRAM:-}" ]; then
     PROGRAM=$top/crates/prima/out/prima
-    "$top/prima" </dev/null >/dev/null || [ $? -eq 2 ] # builds what is missing; no words, no archive
+    # builds what is missing; no words, no archive
+    "$top/prima" </dev/null >/dev/null || [ $? -eq 2 ]
 fi
 [ $# -gt 0 ] || set -- 50000
 scratch=$(mktemp -d)
@@ -40,18 +41,21 @@ cc -O2 -o "$scratch/bare" "$scratch/bare.c"
 exec python3 - "$PROGRAM" "$scratch/bare" "$@" <<'PYTHON'
 import os, shutil, subprocess, sys, tempfile, time
 
-program, bare, sizes = os.path.realpath(sys.argv[1]), sys.argv[2], [int(word) for word in sys.argv[3:]]
+program, bare = os.path.realpath(sys.argv[1]), sys.argv[2]
+sizes = [int(word) for word in sys.argv[3:]]
 in_memory = "/dev/shm" if os.path.isdir("/dev/shm") else None
 ROUNDS = 5
 
 
 def inserts(n):
     # Values that jump about, so that new rows do not all stand after the others.
-    return [f"AT {2 + i} INSERT INTO t (a, b) VALUES ({i * 7919 % 1000003}, 'text {i % 97}');" for i in range(n)]
+    return [f"AT {2 + i} INSERT INTO t (a, b) VALUES ({i * 7919 % 1000003}, 'text {i % 97}');"
+        for i in range(n)]
 
 
 def updates(n):
-    return [f"AT {2 + n + i} UPDATE t SET b = 'again' WHERE a = {4 * i * 7919 % 1000003};" for i in range(n // 4)]
+    return [f"AT {2 + n + i} UPDATE t SET b = 'again' WHERE a = {4 * i * 7919 % 1000003};"
+        for i in range(n // 4)]
 
 
 def timed(words, folder, script):
@@ -81,7 +85,8 @@ def report(what, folder):
     with open(os.devnull) as nothing:
         theirs = min(timed([bare], folder, nothing)[0] for _ in range(ROUNDS))
     size = os.path.getsize(os.path.join(folder, "archive.prima"))
-    print(f"{what:>24} {size:>10} {taken:>9.4f} {theirs:>9.4f} {taken / theirs:>7.2f} {memory:>8}", flush=True)
+    print(f"{what:>24} {size:>10} {taken:>9.4f} {theirs:>9.4f} {taken / theirs:>7.2f} {memory:>8}",
+        flush=True)
     return taken
 
 
@@ -90,15 +95,19 @@ with tempfile.TemporaryDirectory(dir=in_memory) as folder:
     run(folder)
     report("of no command", folder)
 for n in sizes:
-    with tempfile.TemporaryDirectory(dir=in_memory) as plain, tempfile.TemporaryDirectory(dir=in_memory) as stored:
-        replies = run(plain, "AT 1 EVOLVE CREATE TABLE t (a INT, b TEXT);", *inserts(n), *updates(n))[2]
-        assert replies[1:] == [f"ok {2 + i} +1 -{int(i >= n)}" for i in range(n + n // 4)], "a reply is wrong"
+    with (tempfile.TemporaryDirectory(dir=in_memory) as plain,
+            tempfile.TemporaryDirectory(dir=in_memory) as stored):
+        replies = run(plain, "AT 1 EVOLVE CREATE TABLE t (a INT, b TEXT);", *inserts(n),
+            *updates(n))[2]
+        assert replies[1:] == [f"ok {2 + i} +1 -{int(i >= n)}" for i in range(n + n // 4)], (
+            "a reply is wrong")
         shutil.copy(os.path.join(plain, "archive.prima"), stored)
         opened = report(f"{n + n // 4 + 1} commands", plain)
         taken, _, replies = run(stored, "CHECKPOINT;")
         assert replies == ["ok checkpoint"], replies
         report("and a checkpoint", stored)
-        print(f"{'':>24} the checkpoint itself: {taken - opened:.4f} seconds after the opening", flush=True)
+        print(f"{'':>24} the checkpoint itself: {taken - opened:.4f} seconds after the opening",
+            flush=True)
         asked = "QUERY VERSION 1 SELECT a, b FROM t WHERE a = 0;"
         assert run(plain, asked)[2] == run(stored, asked)[2], "a query is answered otherwise"
 PYTHON

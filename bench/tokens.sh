@@ -18,7 +18,8 @@ grep -E '^(relations|prima_base|cond_expr|lexer):' "$top/crates.txt" >"$scratch/
 echo 'count_tokens: lexer cond_expr prima_base' >>"$scratch/crates.txt"
 cp "$top/HANDLES" "$scratch/HANDLES"
 cat >"$scratch/crates/count_tokens/src/main.rt" <<'RATTLE'
-//! Counts the tokens of standard input, and the conditions in it, between which stands one token each.
+//! Counts the tokens of standard input, and the conditions in it, between which stands one token
+//! each.
 #![tactic(auto)]
 
 use lexer::{Token, parse_cond, tokens};
@@ -61,7 +62,8 @@ fn main(rt: HostRuntime) -> ExitCode {
     }
 }
 RATTLE
-(cd "$scratch/crates/count_tokens" && printf 'TRUE' >stdin && echo 'tokens 1 conditions 1' >stdout && rt run) >"$scratch/log" 2>&1 || {
+(cd "$scratch/crates/count_tokens" && printf 'TRUE' >stdin &&
+    echo 'tokens 1 conditions 1' >stdout && rt run) >"$scratch/log" 2>&1 || {
     tail -n 20 "$scratch/log"
     exit 1
 }
@@ -70,7 +72,8 @@ import subprocess, sys, time
 
 program, sizes = sys.argv[1], [int(word) for word in sys.argv[2:]]
 # One condition of 64 comparisons, with each kind of token, a comment and blanks.
-condition = "\nAND ".join(f"name_{i} <> 'it''s {i}' -- a note" if i % 2 else f"( length_{i}>=-{i * 77} )" for i in range(64))
+condition = "\nAND ".join(f"name_{i} <> 'it''s {i}' -- a note" if i % 2
+    else f"( length_{i}>=-{i * 77} )" for i in range(64))
 condition_tokens = sum(3 if i % 2 else 5 for i in range(64)) + 63
 
 

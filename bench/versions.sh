@@ -13,10 +13,12 @@ set -eu
 top=$(cd "$(dirname "$0")/.." && pwd)
 "$top/prima" </dev/null >/dev/null || [ $? -eq 2 ] # builds what is missing; no words, no archive
 [ $# -gt 0 ] || set -- 10 100 # even numbers
-exec python3 - "$top/examples/fresh" "$top/crates/prima/out/prima" "${ROWS:-1000 10000}" "$@" <<'PYTHON'
+exec python3 - "$top/examples/fresh" "$top/crates/prima/out/prima" \
+    "${ROWS:-1000 10000}" "$@" <<'PYTHON'
 import os, subprocess, sys, tempfile, time
 
-program, sizes, counts = sys.argv[1:3], [int(word) for word in sys.argv[3].split()], [int(word) for word in sys.argv[4:]]
+program = sys.argv[1:3]
+sizes, counts = ([int(word) for word in words] for words in (sys.argv[3].split(), sys.argv[4:]))
 
 
 def play(statements):
@@ -43,7 +45,8 @@ def renames(count):
 
 def columns(count):
     for i in range(count):
-        yield "ADD COLUMN c AS a INTO t INVERSE DROP COLUMN c FROM t" if i % 2 == 0 else "DROP COLUMN c FROM t INVERSE ADD COLUMN c AS a INTO t"
+        yield ("ADD COLUMN c AS a INTO t INVERSE DROP COLUMN c FROM t" if i % 2 == 0
+               else "DROP COLUMN c FROM t INVERSE ADD COLUMN c AS a INTO t")
 
 
 def others(count):
@@ -70,16 +73,21 @@ def question(version, table):
     return f"QUERY VERSION {version} SELECT a FROM {table} WHERE a < 10;"
 
 
-print(f"{'versions of':>12} {'V':>4} {'rows':>7} {'load':>8} {'on first':>9} {'on last':>9} {'KiB':>8}")
-for kind, make in (("renames", renames), ("columns", columns), ("others", others), ("parts", parts), ("cuts", cuts)):
+print(f"{'versions of':>12} {'V':>4} {'rows':>7} {'load':>8} {'on first':>9} {'on last':>9} "
+      f"{'KiB':>8}")
+for kind, make in (("renames", renames), ("columns", columns), ("others", others), ("parts", parts),
+    ("cuts", cuts)):
     for count in counts:
         for n in sizes:
-            script = ["AT 0 EVOLVE CREATE TABLE w (c INT);", "AT 1 EVOLVE CREATE TABLE t (a INT, b INT);"]
-            script += [f"AT {2 + i} INSERT INTO t (a, b) VALUES ({i}, {i * 7919 % n});" for i in range(n)]
+            script = ["AT 0 EVOLVE CREATE TABLE w (c INT);",
+                "AT 1 EVOLVE CREATE TABLE t (a INT, b INT);"]
+            script += [f"AT {2 + i} INSERT INTO t (a, b) VALUES ({i}, {i * 7919 % n});"
+                for i in range(n)]
             script += [f"AT {n + 2 + i} EVOLVE {op};" for i, op in enumerate(make(count))]
             load, _ = play(script)
             first, _ = play(script + [question(2, "t")])
             newest = "u" if kind == "renames" and count % 4 in (1, 2) else "t"
             last, memory = play(script + [question(count + 2, newest)])
-            print(f"{kind:>12} {count:>4} {n:>7} {load:>8.3f} {first - load:>9.3f} {last - load:>9.3f} {memory:>8}", flush=True)
+            print(f"{kind:>12} {count:>4} {n:>7} {load:>8.3f} {first - load:>9.3f} "
+                  f"{last - load:>9.3f} {memory:>8}", flush=True)
 PYTHON
