@@ -57,6 +57,7 @@ impl Value {
         match self {
             Value::Int(n) => Ok(Val::Int(*n)),
             Value::Text(text) => {
+                // the clause of this call says that the text is valid
                 let _valid = text.bytes();
                 Ok(Val::Own(text.copy()?))
             }

@@ -34,8 +34,9 @@ lent_by [] branch w n = true
 lent_by (e ∷ pieces) branch w n =
     not (is_of branch w e && computes n e.piece.outs) && lent_by pieces branch w n
 
--- the values are those of one of the branches, the first of which has this number: they are
--- borrowed where an output is a plain column that no piece of its item computes
+-- the values are borrowed as one of the branches asks, the first of which has this number: where
+-- an output of it is a plain column that no piece of its item computes. That the branch answers
+-- these values is not said
 abbrev pub IsBorrowedBy : List PlainExplained → ℕ → List PlainBranch → List Val → Type 0
 IsBorrowedBy pieces number [] values = ⊥
 IsBorrowedBy pieces number (b ∷ branches) values =

@@ -350,7 +350,8 @@ pub fn run<S: Source, K: Sink, D: Disk>(
         → UntilSynced (D.meaning disk.old) (D.meaning disk.new) IsSoundFile }
 
     // A fault is answered only where the count of its object rose in this call, and with any
-    // other status the count is as it was.
+    // other status the count is as it was; but where the words are wrong or the file is no journal
+    // the sink's may have risen, by the line that says so.
     ensures source { SourceCounted result (S.faults source.old) (S.faults source.new) }
     ensures sink { SinkCounted result (K.faults sink.old) (K.faults sink.new) }
     ensures disk { DiskCounted result (D.meaning disk.old).faults (D.meaning disk.new).faults }
