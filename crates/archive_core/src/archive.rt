@@ -19,7 +19,7 @@ ghost use Rattle.archive_file.specs.Opening.{Opens, Damages};
 ghost use Rattle.archive_state.specs.ArchiveContents.{RepresentsPast, RepresentsSome};
 ghost use Rattle.version_groups.specs.Judged.{judged_command, IsAccepted};
 ghost use Rattle.archive_state.specs.Asking.{IsAsked, IsExplained, TellsWayBack, ArePiecesOf};
-ghost use Rattle.archive_state.specs.Asking.{branches_asked};
+ghost use Rattle.archive_state.specs.Asking.{query_asked};
 ghost use Rattle.piece_texts.specs.ExplainedPieces.{PlainExplained};
 ghost use Rattle.query_exec.specs.Borrowed.{AreBorrowedBy};
 ghost use Rattle.query_exec.specs.Reads.{explained_read, reads_of};
@@ -276,8 +276,8 @@ impl<D: Disk> Archive<D> {
             → (pieces : List PlainExplained) → ArePiecesOf
             (meaning_of book.now.rules.items (λ r. handles (r.vtable, r.value))
             (λ r. answers (r.vtable, r.value))) past (query_of query.now) pieces
-            → IfOk result (λ listing. AreBorrowedBy pieces
-            (branches_asked past (query_of query.now)) listing.rows.items) }
+            → IfOk result (λ listing. AreBorrowedBy past
+            (query_asked past (query_of query.now)) pieces listing.rows.items) }
         ensures cost { (past : Past) → RepresentsPast (standing_of self.now) past
             → (pieces : List PlainExplained) → ArePiecesOf
             (meaning_of book.now.rules.items (λ r. handles (r.vtable, r.value))

@@ -14,7 +14,6 @@ use Rattle.piece_meaning.specs.Rules.{Book}
 use Rattle.smo_meaning.specs.Checks.{Fault}
 use Rattle.smo_meaning.specs.First.{first_refusal}
 use Rattle.smo_meaning.specs.Past.{Past, tables_of}
-use Rattle.plain_answers.specs.Branches.{PlainBranch}
 use Rattle.query_types.specs.declared.when.When.{When}
 use Rattle.query_types.specs.declared.when.When.TheVariants.{Always, AsOf, During}
 use Rattle.query_types.specs.declared.query.Query.{Query}
@@ -58,9 +57,9 @@ TellsWayBack past query result = (k : ℕ) → (kind : OpKind)
 
 -- ---- the pieces of a query
 
--- the branches of a query, with each reference made one to an atom
-abbrev pub branches_asked : Past → PlainQuery → List PlainBranch
-branches_asked past query = (with_atoms (tables_of past query.version) query).branches
+-- the query with each reference made one to an atom
+abbrev pub query_asked : Past → PlainQuery → PlainQuery
+query_asked past query = with_atoms (tables_of past query.version) query
 
 -- none where it is refused
 abbrev pub IfAccepted : Fault → Type 0 → List PlainExplained → Type 0
@@ -70,19 +69,19 @@ IfAccepted (Some r) are pieces = pieces ≡ []
 -- else those of the query with each reference made one to an atom
 abbrev pub ArePiecesOf : Book → Past → PlainQuery → List PlainExplained → Type 0
 ArePiecesOf book past query pieces =
-    IfAccepted (fault_of_query past query) (ArePieces book past.versions
-    (with_atoms (tables_of past query.version) query) pieces) pieces
+    IfAccepted (fault_of_query past query) (ArePieces book past.versions (query_asked past query)
+    pieces) pieces
 
 -- the same by a function: the list that is told of a query that is not refused
 abbrev pub pieces_told : Book → Past → PlainQuery → List PlainExplained
 pieces_told book past query = living_pieces book past.versions
-    (with_atoms (tables_of past query.version) query)
+    (query_asked past query)
 
 -- the pieces of a query that is not refused, told
 pub record AreTold (book : Book) (past : Past) (query : PlainQuery) (pieces : List PlainExplained) :
     Type 0 where
   pub accepted : fault_of_query past query ≡ None
-  pub are : ArePieces book past.versions (with_atoms (tables_of past query.version) query) pieces
+  pub are : ArePieces book past.versions (query_asked past query) pieces
   pub told : pieces ≡ pieces_told book past query
 
 -- what an archive tells of a query: its pieces, or why it is refused
@@ -105,12 +104,12 @@ pub record IsChecked (past : Past) (query : PlainQuery) (checked : Query) : Type
   pub few : excess_of query ≡ None
   pub there : query.version ≤ length past.versions
   pub tests : first_refusal (query_tests (tables_of past query.version) query) ≡ None
-  pub atoms : query_of checked ≡ with_atoms (tables_of past query.version) query
+  pub atoms : query_of checked ≡ query_asked past query
   pub lasting : IsLasting query.when
 
 -- a query that is not refused, with each reference made one to an atom
 pub record IsReady (past : Past) (query : PlainQuery) (checked : Query) : Type 0 where
   pub accepted : fault_of_query past query ≡ None
   pub there : query.version ≤ length past.versions
-  pub atoms : query_of checked ≡ with_atoms (tables_of past query.version) query
+  pub atoms : query_of checked ≡ query_asked past query
   pub lasting : IsLasting query.when

@@ -74,7 +74,7 @@ impl ArchiveState {
     ghost use Rattle.query_exec.specs.Borrowed.{AreBorrowedBy};
     ghost use Rattle.query_exec.specs.Reads.{explained_read, reads_of};
     ghost use Rattle.archive_state.specs.Asking.{IsAsked, IsExplained, TellsWayBack, ArePiecesOf};
-    ghost use Rattle.archive_state.specs.Asking.{branches_asked};
+    ghost use Rattle.archive_state.specs.Asking.{query_asked};
 
     /// An archive that has accepted nothing. It takes no memory.
     pub fn new(alloc: Global) -> ArchiveState
@@ -206,7 +206,8 @@ impl ArchiveState {
     /// them, and none where the query is refused; where it lists, at least as many as there are for
     /// any one of these pieces. The texts of each output that is a plain column are borrowed by
     /// what the archive keeps, unless one of these pieces computes that column of its item: each
-    /// row is so of one of the branches. The one other error is `NoMemory`, where memory runs out.
+    /// row is so of one of the branches that answer it in the slice. The one other error is
+    /// `NoMemory`, where memory runs out.
     pub fn query<'a, L: Ledger>(
         &'a self,
         book: &RuleBook,
@@ -223,8 +224,8 @@ impl ArchiveState {
             → (pieces : List PlainExplained) → ArePiecesOf
             (meaning_of book.now.rules.items (λ r. handles (r.vtable, r.value))
             (λ r. answers (r.vtable, r.value))) past (query_of query.now) pieces
-            → IfOk result (λ listing. AreBorrowedBy pieces
-            (branches_asked past (query_of query.now)) listing.rows.items) }
+            → IfOk result (λ listing. AreBorrowedBy past
+            (query_asked past (query_of query.now)) pieces listing.rows.items) }
         ensures cost { (past : Past) → RepresentsPast self.now past → (pieces : List PlainExplained)
             → ArePiecesOf (meaning_of book.now.rules.items (λ r. handles (r.vtable, r.value))
             (λ r. answers (r.vtable, r.value))) past (query_of query.now) pieces

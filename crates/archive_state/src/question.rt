@@ -12,7 +12,7 @@ ghost use Rattle.query_exec.specs.Reads.{explained_read, reads_of};
 ghost use Rattle.version_groups.specs.Representation.{Represents};
 ghost use Rattle.rewrite.specs.Books.{meaning_of, EachOf};
 ghost use Rattle.archive_state.specs.Asking.{tells_periods, ArePiecesOf, IsAsked, IsExplained};
-ghost use Rattle.archive_state.specs.Asking.{branches_asked};
+ghost use Rattle.archive_state.specs.Asking.{query_asked};
 ghost use Rattle.archive_state.specs.Asking.{IsWrong, IsAskedSchema, IsChecked, IsReady};
 
 use crate::AskFault;
@@ -126,7 +126,7 @@ pub(crate) fn ask<'a, L: Ledger>(
     ensures borrowed { (past : Past) → Represents groups.now past → (pieces : List PlainExplained)
         → ArePiecesOf (meaning_of book.now.rules.items (λ r. handles (r.vtable, r.value))
         (λ r. answers (r.vtable, r.value))) past (query_of query.now) pieces
-        → IfOk result (λ listing. AreBorrowedBy pieces (branches_asked past (query_of query.now))
+        → IfOk result (λ listing. AreBorrowedBy past (query_asked past (query_of query.now)) pieces
         listing.rows.items) }
     ensures cost { (past : Past) → Represents groups.now past → (pieces : List PlainExplained)
         → ArePiecesOf (meaning_of book.now.rules.items (λ r. handles (r.vtable, r.value))

@@ -4,12 +4,16 @@ use Rattle.std.proofs.Common.{◌++◌, map, length, get_or, drop, refl, sym, ap
 use Rattle.std.proofs.Common.{inl, inr, arith}
 use Rattle.std.specs.Prelude.{◌&&◌, ◌||◌, Option}
 use Rattle.std.proofs.lemmas.Bool.Decides.{nat_tests}
-use Rattle.relations.specs.Sets.{In}
+use Rattle.relations.specs.Sets.{In, set_of}
+use Rattle.relations.specs.Spans.{Span, covers}
+use Rattle.relations.proofs.Held.{in_at, covers_is}
 use Rattle.relations.proofs.SetLaws.{in_left, in_right, in_map, from_map, in_flat_map}
-use Rattle.relations.proofs.SetLaws.{from_flat_map}
+use Rattle.relations.proofs.SetLaws.{from_flat_map, from_set}
 use Rattle.prima_base.specs.declared.value.Val.{Val}
 use Rattle.prima_base.specs.declared.timed_row.TimedRow.{TimedRow}
-use Rattle.prima_base.specs.Order.{same}
+use Rattle.prima_base.specs.Order.{same, shown, row_cmp}
+use Rattle.prima_base.specs.OrderLaws.{row_exact}
+use Rattle.prima_base.specs.Timed.{entry_of, entries_of, rows_at}
 use Rattle.prima_base.specs.Columns.{Column, names_of}
 use Rattle.cond_expr.specs.declared.expr.ColRef.{ColRef}
 use Rattle.cond_expr.specs.declared.expr.Column.{Column as AtomColumn}
@@ -19,14 +23,16 @@ use Rattle.cond_expr.specs.Kinds.{Kinds}
 use Rattle.cond_expr.specs.Trees.{Tree, Test}
 use Rattle.prima_base.specs.declared.value.ColType.{ColType}
 use Rattle.smo_types.specs.Commands.{PlainVersion}
-use Rattle.smo_meaning.specs.Past.{no_tables, tables_from}
+use Rattle.smo_meaning.specs.OneRow.{Row, Relation}
+use Rattle.smo_meaning.specs.Past.{Past, no_tables, tables_from, tables_of}
 use Rattle.smo_meaning.proofs.NameLaws.{same_itself}
 use Rattle.timed_choices.specs.Lending.{EachRow, Lent, all_lent, RowLends, RowsLend, is_plain}
 use Rattle.timed_choices.specs.Lending.{StaysBorrowed, AllStayBorrowed}
 use Rattle.timed_choices.proofs.BorrowedLaws.{each_both, each_member, all_members}
 use Rattle.joining.specs.declared.source.Atom.{Atom}
 use Rattle.joining.specs.Sources.{AtomsLend}
-use Rattle.plain_answers.specs.Branches.{Item}
+use Rattle.version_ways.specs.Migration.{migrated}
+use Rattle.plain_answers.specs.Branches.{Item, PlainBranch, branch_answers}
 use Rattle.plain_answers.specs.Reading.{Read}
 use Rattle.piece_meaning.specs.Pieces.{PlainPiece, out_names, out_trees}
 use Rattle.piece_meaning.specs.Rules.{Book, IsValidBook}
@@ -43,7 +49,7 @@ use Rattle.query_types.specs.declared.branch.Branch.{Branch}
 use Rattle.query_exec.specs.declared.part_piece.PartPieces.{PartPieces}
 use Rattle.query_exec.specs.declared.route.Route.{Route}
 use Rattle.query_exec.specs.Borrowed.{computes, is_of, lent_by, IsBorrowedBy, ArePlain, AllPlain}
-use Rattle.query_exec.specs.Borrowed.{HaveLiving}
+use Rattle.query_exec.specs.Borrowed.{HaveLiving, IsAnswered}
 use Rattle.query_exec.specs.Planned.{ArePlanned, own_pieces, planned_pieces}
 use Rattle.query_exec.specs.Questions.{own_read}
 use Rattle.query_exec.specs.QueryPieces.{explained_in, part_pieces, table_pieces, items_pieces}
@@ -271,30 +277,69 @@ atom_more lent atoms new a e l k = subst (AtomsLend lent) (sym e) (with_atom len
 
 -- ---- branches
 
--- values of one of the branches are so of all of them
-among_branches : (pieces : List PlainExplained) (number : ℕ) (branches : List Branch) (i : ℕ)
-    (b : Branch) → i < length branches → b ≡ get_or branches i b → (values : List Val)
-    → StaysBorrowed (lent_by pieces (number + i)) (branch_of b).outs values
-    → IsBorrowedBy pieces number (branches_of branches) values
-among_branches pieces number [] i b below is values s = absurd (omega arith)
-among_branches pieces number (x ∷ branches) zero b below is values s =
-    let e : number + 0 ≡ number = omega arith in
-    inl (subst (λ (n : ℕ). StaysBorrowed (lent_by pieces n) (branch_of x).outs values) e
-    (subst (λ (y : Branch). StaysBorrowed (lent_by pieces (number + 0)) (branch_of y).outs values)
-    is s))
-among_branches pieces number (x ∷ branches) (suc i) b below is values s =
-    let e : number + suc i ≡ (number + 1) + i = omega arith in
-    inr (among_branches pieces (number + 1) branches i b (omega arith) is values
-    (subst (λ (n : ℕ). StaysBorrowed (lent_by pieces n) (branch_of b).outs values) e s))
+-- each row of a branch is answered at its first moment, which is one of the slice
+pub row_answered : (past : Past) (version : ℕ) (slice : Span) (b : PlainBranch)
+    (rows : List TimedRow)
+    → ((m : ℕ) → covers slice m ≡ true → rows_at rows m
+    ≡ set_of row_cmp (branch_answers (tables_of past version) (migrated past m version) b))
+    → ((m : ℕ) → covers slice m ≡ false → rows_at rows m ≡ [])
+    → (row : TimedRow) → In row rows → row.period.start < row.period.end
+    → IsAnswered past version slice b (map shown row.values.items)
+row_answered past version slice b rows answered outside row i some =
+    step (covers slice row.period.start) refl
+  where
+    here : In (map shown row.values.items) (rows_at rows row.period.start)
+    here = (in_at row_cmp row_exact (entries_of rows) (map shown row.values.items)
+        row.period.start).1 (
+          entry_of row,
+          in_map entry_of row rows i,
+          refl,
+          (covers_is row.period row.period.start).1 (omega arith, some),
+        )
 
-pub branch_more : (pieces : List PlainExplained) (number : ℕ) (branches : List Branch) (i : ℕ)
-    (b : Branch) → i < length branches → b ≡ get_or branches i b
-    → (old news new : List TimedRow) → new ≡ old ++ news
-    → EachRow (IsBorrowedBy pieces number (branches_of branches)) old
-    → AllStayBorrowed (lent_by pieces (number + i)) (branch_of b).outs news
-    → EachRow (IsBorrowedBy pieces number (branches_of branches)) new
-branch_more pieces number branches i b below is old news new e l s =
-    each_joined (IsBorrowedBy pieces number (branches_of branches)) old news new e l
-    (all_members (IsBorrowedBy pieces number (branches_of branches)) news
-    (λ row m. among_branches pieces number branches i b below is row.values.items
-    (each_member (StaysBorrowed (lent_by pieces (number + i)) (branch_of b).outs) news row m s)))
+    step : (inside : Bool) → covers slice row.period.start ≡ inside
+        → IsAnswered past version slice b (map shown row.values.items)
+    step true e = (
+      row.period.start,
+      e,
+      from_set row_cmp row_exact (map shown row.values.items)
+          (branch_answers (tables_of past version) (migrated past row.period.start version) b)
+          (subst (λ (r : Relation). In (map shown row.values.items) r)
+          (answered row.period.start e) here),
+    )
+    step false e = absurd (subst (λ (r : Relation). In (map shown row.values.items) r)
+        (outside row.period.start e) here)
+
+module _ (answers : PlainBranch → Row → Type 0) (pieces : List PlainExplained) where
+  -- values of one of the branches are so of all of them
+  among_branches : (number : ℕ) (branches : List Branch) (i : ℕ) (b : Branch)
+      → i < length branches → b ≡ get_or branches i b → (values : List Val)
+      → answers (branch_of b) (map shown values)
+      → StaysBorrowed (lent_by pieces (number + i)) (branch_of b).outs values
+      → IsBorrowedBy answers pieces number (branches_of branches) values
+  among_branches number [] i b below is values a s = absurd (omega arith)
+  among_branches number (x ∷ branches) zero b below is values a s =
+      let e : number + 0 ≡ number = omega arith in
+      inl (
+        subst (λ (y : Branch). answers (branch_of y) (map shown values)) is a,
+        subst (λ (n : ℕ). StaysBorrowed (lent_by pieces n) (branch_of x).outs values) e
+            (subst (λ (y : Branch). StaysBorrowed (lent_by pieces (number + 0)) (branch_of y).outs
+            values) is s),
+      )
+  among_branches number (x ∷ branches) (suc i) b below is values a s =
+      let e : number + suc i ≡ (number + 1) + i = omega arith in
+      inr (among_branches (number + 1) branches i b (omega arith) is values a
+      (subst (λ (n : ℕ). StaysBorrowed (lent_by pieces n) (branch_of b).outs values) e s))
+
+  pub branch_more : (number : ℕ) (branches : List Branch) (i : ℕ) (b : Branch)
+      → i < length branches → b ≡ get_or branches i b → (old news new : List TimedRow)
+      → new ≡ old ++ news
+      → EachRow (IsBorrowedBy answers pieces number (branches_of branches)) old
+      → ((row : TimedRow) → In row news → answers (branch_of b) (map shown row.values.items))
+      → AllStayBorrowed (lent_by pieces (number + i)) (branch_of b).outs news
+      → EachRow (IsBorrowedBy answers pieces number (branches_of branches)) new
+  branch_more number branches i b below is old news new e l a s =
+      each_joined (IsBorrowedBy answers pieces number (branches_of branches)) old news new e l
+      (all_members (IsBorrowedBy answers pieces number (branches_of branches)) news
+      (λ row m. among_branches number branches i b below is row.values.items (a row m)
+      (each_member (StaysBorrowed (lent_by pieces (number + i)) (branch_of b).outs) news row m s)))

@@ -1,18 +1,23 @@
 -- Which texts of an answer are borrowed by the stored tables: those of the outputs that are plain
 -- columns, but for the columns that a piece of their item computes.
 use Rattle.std.specs.Prelude.{◌≡◌, ℕ, ◌+◌, ◌==◌, Bool, true, false, not, ◌&&◌, ◌||◌, List, [], ◌∷◌}
-use Rattle.std.specs.Prelude.{◌⊎◌, ⊤}
+use Rattle.std.specs.Prelude.{map, ◌⊎◌, ⊤}
 use Rattle.relations.specs.Sets.{In}
+use Rattle.relations.specs.Spans.{Span, covers}
 use Rattle.prima_base.specs.declared.timed_row.TimedRow.{TimedRow}
 use Rattle.prima_base.specs.declared.value.Val.{Val}
-use Rattle.prima_base.specs.Order.{same}
+use Rattle.prima_base.specs.Order.{same, shown}
 use Rattle.cond_expr.specs.declared.expr.Whose.{Whose}
 use Rattle.cond_expr.specs.declared.expr.Whose.TheVariants.{Free, Alias, Atom}
 use Rattle.cond_expr.specs.declared.expr.Column.{Column}
 use Rattle.cond_expr.specs.Trees.{Tree}
 use Rattle.smo_types.specs.Commands.{PlainVersion}
+use Rattle.smo_meaning.specs.OneRow.{Row}
+use Rattle.smo_meaning.specs.Past.{Past, tables_of}
+use Rattle.version_ways.specs.Migration.{migrated}
 use Rattle.timed_choices.specs.Lending.{EachRow, Lent, is_plain, StaysBorrowed}
-use Rattle.plain_answers.specs.Branches.{PlainBranch}
+use Rattle.plain_answers.specs.Branches.{PlainBranch, branch_answers}
+use Rattle.query_types.specs.Queries.{PlainQuery, slice_of}
 use Rattle.piece_meaning.specs.Pieces.{PlainPiece, out_trees}
 use Rattle.piece_texts.specs.ExplainedPieces.{PlainExplained}
 use Rattle.query_exec.specs.QueryPieces.{IsAlive}
@@ -34,18 +39,26 @@ lent_by [] branch w n = true
 lent_by (e ∷ pieces) branch w n =
     not (is_of branch w e && computes n e.piece.outs) && lent_by pieces branch w n
 
--- the values are borrowed as one of the branches asks, the first of which has this number: where
--- an output of it is a plain column that no piece of its item computes. That the branch answers
--- these values is not said
-abbrev pub IsBorrowedBy : List PlainExplained → ℕ → List PlainBranch → List Val → Type 0
-IsBorrowedBy pieces number [] values = ⊥
-IsBorrowedBy pieces number (b ∷ branches) values =
-    StaysBorrowed (lent_by pieces number) b.outs values
-    ⊎ IsBorrowedBy pieces (number + 1) branches values
+-- the branch answers the row at some moment of the slice, over the tables as they are migrated to
+-- the version
+abbrev pub IsAnswered : Past → ℕ → Span → PlainBranch → Row → Type 0
+IsAnswered past version slice b row = (m : ℕ) × (covers slice m ≡ true)
+    × In row (branch_answers (tables_of past version) (migrated past m version) b)
+
+-- the values show what one of the branches answers, the first of which has this number: they are
+-- borrowed where an output of that branch is a plain column that no piece of its item computes
+abbrev pub IsBorrowedBy : (PlainBranch → Row → Type 0) → List PlainExplained → ℕ → List PlainBranch
+    → List Val → Type 0
+IsBorrowedBy answers pieces number [] values = ⊥
+IsBorrowedBy answers pieces number (b ∷ branches) values =
+    (answers b (map shown values) × StaysBorrowed (lent_by pieces number) b.outs values)
+    ⊎ IsBorrowedBy answers pieces (number + 1) branches values
 
 -- so are those of each row of a query's answer
-abbrev pub AreBorrowedBy : List PlainExplained → List PlainBranch → List TimedRow → Type 0
-AreBorrowedBy pieces branches rows = EachRow (IsBorrowedBy pieces 1 branches) rows
+abbrev pub AreBorrowedBy : Past → PlainQuery → List PlainExplained → List TimedRow → Type 0
+AreBorrowedBy past query pieces rows =
+    EachRow (IsBorrowedBy (IsAnswered past query.version (slice_of query.when)) pieces 1
+    query.branches) rows
 
 -- ---- on the way there
 

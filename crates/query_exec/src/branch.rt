@@ -1,9 +1,10 @@
 //! Branches of a query, answered over what is read of their items' tables.
 
-ghost use Rattle.std.specs.Prelude.{◌≡◌, ℕ, ◌+◌, ◌≤◌, List, length, true, IfOk};
+ghost use Rattle.std.specs.Prelude.{◌≡◌, ℕ, ◌+◌, ◌<◌, ◌≤◌, List, [], length, true, false, IfOk};
 ghost use Rattle.std.specs.List.{flat_map};
-ghost use Rattle.relations.specs.Sets.{set_of};
+ghost use Rattle.relations.specs.Sets.{In, set_of};
 ghost use Rattle.relations.specs.Spans.{covers};
+ghost use Rattle.prima_base.specs.declared.timed_row.TimedRow.{TimedRow as OneRow};
 ghost use Rattle.prima_base.specs.Order.{row_cmp};
 ghost use Rattle.prima_base.specs.Timed.{rows_at};
 ghost use Rattle.cond_expr.specs.References.{borrowed};
@@ -22,7 +23,7 @@ ghost use Rattle.query_exec.specs.QueryPieces.{items_pieces, branch_pieces, bran
 ghost use Rattle.query_exec.specs.QueryPieces.{AreAlive, IsAlive};
 ghost use Rattle.timed_choices.specs.Lending.{EachRow, AllStayBorrowed};
 ghost use Rattle.joining.specs.Sources.{AtomsLend};
-ghost use Rattle.query_exec.specs.Borrowed.{lent_by, IsBorrowedBy, HaveLiving};
+ghost use Rattle.query_exec.specs.Borrowed.{lent_by, IsAnswered, IsBorrowedBy, HaveLiving};
 ghost use Rattle.query_exec.specs.Reads.{explained_read, reads_of};
 
 use crate::item::read_item;
@@ -30,7 +31,7 @@ use crate::piece::put_rows;
 use crate::route::Route;
 use cond_expr::{ColRef, Cond, gather_references};
 use joining::{Atom, answer_choices};
-use prima_base::{Name, NoMemory, Steps, TimedRow};
+use prima_base::{Name, NoMemory, Period, Steps, TimedRow};
 use rule_book::{Rule, RuleBook};
 use schema_catalog::Schema;
 use std::alloc::Global;
@@ -112,6 +113,8 @@ fn answer_branch<'a, L: Ledger>(
         → IfOk result (λ rows. rows_at rows.items m
         ≡ set_of row_cmp (branch_answers (tables_of past route.now.asked)
         (migrated past m route.now.asked) (branch_of branch.now))) }
+    ensures inside { (m : ℕ) → covers route.now.slice m ≡ false
+        → IfOk result (λ rows. rows_at rows.items m ≡ []) }
     ensures borrowed { (number : ℕ) → (pieces : List PlainExplained)
         → HaveLiving (versions_in groups.now)
         (branch_pieces (meaning_of book.now.rules.items (λ r. handles (r.vtable, r.value))
@@ -149,6 +152,22 @@ fn answer_branch<'a, L: Ledger>(
     answer_choices(alloc, &branch.outs, &branch.cond, atoms, route.slice)
 }
 
+// A period has a moment: its start.
+fn has_moments(period: Period)
+    ensures { period.start < period.end }
+{
+    let _start = period.start();
+}
+
+// So has each row.
+fn have_moments(rows: &[TimedRow<'_>])
+    ensures { (row : OneRow) → In row rows.now → row.period.start < row.period.end }
+{
+    for row in rows {
+        has_moments(row.period);
+    }
+}
+
 /// What branches answer at each moment of the slice, all together.
 pub(crate) fn answer_branches<'a, L: Ledger>(
     alloc: Global,
@@ -169,12 +188,13 @@ pub(crate) fn answer_branches<'a, L: Ledger>(
         → IfOk result (λ rows. rows_at rows.items m
         ≡ plain (tables_of past route.now.asked) (branches_of branches.now)
         (migrated past m route.now.asked)) }
-    ensures borrowed { (number : ℕ) → (pieces : List PlainExplained)
-        → HaveLiving (versions_in groups.now)
+    ensures borrowed { (past : Past) → Represents groups.now past → (number : ℕ)
+        → (pieces : List PlainExplained) → HaveLiving (versions_in groups.now)
         (branches_pieces (meaning_of book.now.rules.items (λ r. handles (r.vtable, r.value))
         (λ r. answers (r.vtable, r.value))) (versions_in groups.now) route.now.asked
         route.now.parts.items number (branches_of branches.now)) pieces
-        → IfOk result (λ rows. EachRow (IsBorrowedBy pieces number (branches_of branches.now))
+        → IfOk result (λ rows. EachRow (IsBorrowedBy
+        (IsAnswered past route.now.asked route.now.slice) pieces number (branches_of branches.now))
         rows.items) }
     ensures cost { (number : ℕ) → (alive : List PlainExplained)
         → AreAlive (versions_in groups.now) (branches_pieces
@@ -193,6 +213,7 @@ pub(crate) fn answer_branches<'a, L: Ledger>(
     let mut rows = Vec::new(alloc);
     for branch in branches {
         let news = answer_branch(alloc, groups, book, route, schema, branch, steps)?;
+        have_moments(&news);
         put_rows(&mut rows, news)?;
     }
     Ok(rows)

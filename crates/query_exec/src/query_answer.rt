@@ -38,8 +38,8 @@ use version_groups::Groups;
 /// keys of the piece's tables and entries of the columns that it names of them: just the pieces
 /// that `explain` answers; and where it answers rows, at least as many as there are for any one of
 /// them. The texts of each output that is a plain column are borrowed by the stored tables, unless
-/// one of these pieces computes that column of its item: each row is so of one of the branches. The
-/// one error is `NoMemory`, where memory runs out.
+/// one of these pieces computes that column of its item: each row is so of one of the branches that
+/// answer it in the slice. The one error is `NoMemory`, where memory runs out.
 pub fn answer<'a, L: Ledger>(
     alloc: Global,
     groups: &'a Groups,
@@ -58,10 +58,10 @@ pub fn answer<'a, L: Ledger>(
     ensures rows { (past : Past) → (asked : PlainQuery) → Represents groups.now past
         → IsAccepted past asked (query_of query.now)
         → IfOk result (λ rows. kept asked.keep (entries_of rows.items) ≡ answer past asked) }
-    ensures borrowed { (pieces : List PlainExplained)
+    ensures borrowed { (past : Past) → Represents groups.now past → (pieces : List PlainExplained)
         → ArePieces (meaning_of book.now.rules.items (λ r. handles (r.vtable, r.value))
         (λ r. answers (r.vtable, r.value))) (versions_in groups.now) (query_of query.now) pieces
-        → IfOk result (λ rows. AreBorrowedBy pieces (query_of query.now).branches rows.items) }
+        → IfOk result (λ rows. AreBorrowedBy past (query_of query.now) pieces rows.items) }
     ensures cost { (pieces : List PlainExplained)
         → ArePieces (meaning_of book.now.rules.items (λ r. handles (r.vtable, r.value))
         (λ r. answers (r.vtable, r.value))) (versions_in groups.now) (query_of query.now) pieces

@@ -6,14 +6,14 @@ use Rattle.smo_types.specs.Commands.{PlainVersion}
 use Rattle.smo_meaning.specs.Checks.{Fault}
 use Rattle.smo_meaning.specs.Past.{tables_of}
 use Rattle.query_meaning.specs.Atoms.{with_atoms}
-use Rattle.query_types.specs.Queries.{PlainQuery, query_of}
+use Rattle.query_types.specs.Queries.{PlainQuery, query_of, slice_of}
 use Rattle.version_groups.specs.Groups.{versions_in}
 use Rattle.piece_meaning.specs.Books.{book_of}
 use Rattle.query_exec.specs.Accepted.{IsAccepted}
 use Rattle.joining.proofs.CoalescedRows.{each_by_values}
-use Rattle.query_exec.specs.Borrowed.{IsBorrowedBy, AreBorrowedBy}
+use Rattle.query_exec.specs.Borrowed.{IsAnswered, IsBorrowedBy, AreBorrowedBy}
 use Rattle.query_exec.specs.QueryPieces.{ArePieces}
-use Rattle.archive_state.specs.Asking.{IfAccepted, IsReady, branches_asked}
+use Rattle.archive_state.specs.Asking.{IfAccepted, IsReady, query_asked}
 use Rattle.archive_state.proofs.question.ask.Goals as goal
 
 pub answer-requires-clause-shown : goal.answer-requires-clause-shown
@@ -85,10 +85,11 @@ pub returns-clause-borrowed : goal.returns-clause-borrowed
 returns-clause-borrowed g c = λ past shows pieces are.
     let query = query_of c.args.query.now in
     let h : IsReady past query c.in_ok-atoms.atoms = c.in_ok-atoms.ensures past shows in
-    each_by_values (IsBorrowedBy pieces 1 (branches_asked past query)) c.in_ok-rows.rows.items
-    c.keep.new.rows.items c.keep.ensures.values
-    (subst (λ (q : PlainQuery). AreBorrowedBy pieces q.branches c.in_ok-rows.rows.items) h.atoms
-    (c.in_ok-rows.ensures.borrowed pieces
+    each_by_values (IsBorrowedBy (IsAnswered past query.version (slice_of query.when)) pieces 1
+    (query_asked past query).branches) c.in_ok-rows.rows.items c.keep.new.rows.items
+    c.keep.ensures.values
+    (subst (λ (q : PlainQuery). AreBorrowedBy past q pieces c.in_ok-rows.rows.items) h.atoms
+    (c.in_ok-rows.ensures.borrowed past shows pieces
     (subst (λ (q : PlainQuery). ArePieces (book_of
     (λ r. (goal.Rule-dyn g (r.vtable, r.value)).handles r.value)
     (λ r. (goal.Rule-dyn g (r.vtable, r.value)).answers r.value) c.args.book.now.rules.items)

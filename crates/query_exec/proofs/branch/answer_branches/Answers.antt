@@ -1,6 +1,7 @@
 use Rattle.std.proofs.Common.{◌≡◌, ◌<◌, ◌+◌, ℕ, List, length, get_or, drop, sym, ap, subst, ◌∙◌}
 use Rattle.std.proofs.Common.{inl, arith}
 use Rattle.std.proofs.lemmas.List.{take_all, drop_all}
+use Rattle.relations.specs.Sets.{In}
 use Rattle.prima_base.specs.declared.timed_row.TimedRow.{TimedRow}
 use Rattle.prima_base.specs.Timed.{rows_at}
 use Rattle.smo_meaning.specs.Past.{tables_of}
@@ -8,16 +9,17 @@ use Rattle.version_ways.specs.Migration.{migrated}
 use Rattle.version_groups.specs.Groups.{versions_in}
 use Rattle.plain_answers.specs.Branches.{plain, branch_answers}
 use Rattle.piece_meaning.specs.Books.{book_of}
-use Rattle.query_types.specs.Branches.{branches_of}
+use Rattle.query_types.specs.Branches.{branch_of, branches_of}
 use Rattle.query_types.specs.declared.branch.Branch.{Branch}
 use Rattle.query_exec.specs.QueryPieces.{branches_pieces, IsAlive}
 use Rattle.timed_choices.specs.Lending.{EachRow}
-use Rattle.query_exec.specs.Borrowed.{IsBorrowedBy, HaveLiving}
+use Rattle.query_exec.specs.Borrowed.{IsAnswered, IsBorrowedBy, HaveLiving}
 use Rattle.query_exec.specs.Reads.{reads_of}
 use Rattle.query_exec.proofs.AliveLaws.{Owes, owes_all, owes_within, IsLeftOrRead, all_read}
 use Rattle.query_exec.proofs.BranchRows.{none_answered, next_branch, branch_owes, branch_left}
 use Rattle.query_exec.proofs.BranchRows.{may_next_branch}
 use Rattle.query_exec.proofs.BorrowedRows.{next_branch as next_branch_pieces, branch_more}
+use Rattle.query_exec.proofs.BorrowedRows.{row_answered}
 use Rattle.query_exec.proofs.TotalLaws.{from_first}
 use Rattle.query_exec.proofs.branch.answer_branches.Goals as goal
 
@@ -27,10 +29,10 @@ loop-branch-init g c = record {
   rows = λ past shows m inside. ap (λ (rs : List TimedRow). rows_at rs m) c.new-rows.ensures.items
       ∙ none_answered (branch_answers (tables_of past c.args.route.now.asked)
       (migrated past m c.args.route.now.asked)) m;
-  borrowed = λ number pieces h.
+  borrowed = λ past shows number pieces h.
       let e : number ≡ number + 0 = omega arith in (
-        subst (EachRow (IsBorrowedBy pieces number (branches_of c.args.branches.now)))
-            (sym c.new-rows.ensures.items) tt,
+        subst (EachRow (IsBorrowedBy (IsAnswered past c.args.route.now.asked c.args.route.now.slice)
+            pieces number (branches_of c.args.branches.now))) (sym c.new-rows.ensures.items) tt,
         subst (λ (n : ℕ). HaveLiving (versions_in c.args.groups.now)
             (branches_pieces (book_of (λ r. (goal.Rule-dyn g (r.vtable, r.value)).handles r.value)
             (λ r. (goal.Rule-dyn g (r.vtable, r.value)).answers r.value)
@@ -86,16 +88,21 @@ loop-branch-preserved g c =
           c.in_ok-news.news.items c.put_rows.new.rows.items m c.in_ok-put_rows.ensures.items
           (c.loop-branch.invariant.rows past shows m inside)
           (c.in_ok-news.ensures.rows past shows m inside);
-      borrowed = λ number pieces h.
-          let before = c.loop-branch.invariant.borrowed number pieces h in
+      borrowed = λ past shows number pieces h.
+          let before = c.loop-branch.invariant.borrowed past shows number pieces h in
           let both = next_branch_pieces (versions_in c.args.groups.now) pieces
           (book_of (λ r. (goal.Rule-dyn g (r.vtable, r.value)).handles r.value)
           (λ r. (goal.Rule-dyn g (r.vtable, r.value)).answers r.value)
           c.args.book.now.rules.items) c.args.route.now.asked c.args.route.now.parts.items bs i
           b below is number before.1 in (
-            branch_more pieces number bs i b below is c.loop-branch.rows.items
-                c.in_ok-news.news.items c.put_rows.new.rows.items c.in_ok-put_rows.ensures.items
-                before.0 (c.in_ok-news.ensures.borrowed (number + i) pieces both.0),
+            branch_more (IsAnswered past c.args.route.now.asked c.args.route.now.slice) pieces
+                number bs i b below is c.loop-branch.rows.items c.in_ok-news.news.items
+                c.put_rows.new.rows.items c.in_ok-put_rows.ensures.items before.0
+                (λ row m. row_answered past c.args.route.now.asked c.args.route.now.slice
+                (branch_of b) c.in_ok-news.news.items (c.in_ok-news.ensures.rows past shows)
+                c.in_ok-news.ensures.inside row m (c.have_moments.ensures row
+                (subst (In row) (sym c.deref.ensures.value) m)))
+                (c.in_ok-news.ensures.borrowed (number + i) pieces both.0),
             both.1,
           );
       count = λ number alive h. branch_owes bs i b below is c.args.groups.now
@@ -183,8 +190,8 @@ returns-clause-cost g c = λ number alive h.
     (c.loop-branch.invariant.count number alive h)
 
 pub returns-clause-borrowed : goal.returns-clause-borrowed
-returns-clause-borrowed g c = λ number pieces h.
-    (c.loop-branch.invariant.borrowed number pieces h).0
+returns-clause-borrowed g c = λ past shows number pieces h.
+    (c.loop-branch.invariant.borrowed past shows number pieces h).0
 
 pub returns-clause-least : goal.returns-clause-least
 returns-clause-least g c = λ number e h.
