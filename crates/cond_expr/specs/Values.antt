@@ -64,3 +64,11 @@ abbrev mutual
   pub some_true : Cells → Tests → Bool
   some_true at no_tests = false
   some_true at (a_test c cs) = truth at c || some_true at cs
+
+-- what of an expression has its value: of a CASE what it chooses, and of any other all of it
+abbrev pub chosen : Cells → Tree → Tree
+chosen at (column w n) = column w n
+chosen at (constant v) = constant v
+chosen at (length_of t) = length_of t
+chosen at (joined ts) = joined ts
+chosen at (choose c a b) = if truth at c then chosen at a else chosen at b

@@ -3,7 +3,7 @@ ghost use Rattle.prima_base.specs.Bytes.{IsTxt};
 ghost use Rattle.prima_base.specs.Order.{shown, is_borrowed, IsBorrowed};
 ghost use Rattle.cond_expr.specs.Trees.{column};
 ghost use Rattle.cond_expr.specs.Values.{value, texts, truth, all_true, some_true, bytes_of};
-ghost use Rattle.cond_expr.specs.Values.{agrees};
+ghost use Rattle.cond_expr.specs.Values.{agrees, chosen};
 ghost use Rattle.cond_expr.specs.Seen.{tree, test, trees_of, tests_of};
 ghost use Rattle.cond_expr.specs.Rows.{names, flat, IsValid, AreValid, lies_elsewhere};
 ghost use Rattle.cond_expr.specs.declared.expr.Whose.{Whose as WhoseColumn};
@@ -125,7 +125,7 @@ pub fn decide(op: CmpOp, order: Ordering) -> bool
 }
 
 /// The value of an expression over one value a column. The value of a plain column stays borrowed
-/// where it was. It fails only when out of memory.
+/// where it was, also where a CASE chooses it. It fails only when out of memory.
 ///
 /// The values are valid: a text among them has at most 4,096 bytes and no control byte.
 /// `Value::lend` and `lend_row` give valid ones of any `Value`; of values that a store lends, its
@@ -146,7 +146,7 @@ pub fn eval<'a>(
     ensures value { IfOk result (λ v. shown v ≡ value (flat columns.now values.now) (tree expr.now)) }
     ensures valid { IfOk result (λ v. IsValid (shown v)) }
     ensures borrowed { IfOk result (λ v. (w : WhoseColumn) → (n : List ℕ)
-        → tree expr.now ≡ column w n
+        → chosen (flat columns.now values.now) (tree expr.now) ≡ column w n
         → is_borrowed v ≡ lies_elsewhere columns.now values.now w n) }
 {
     match expr {

@@ -24,7 +24,7 @@ use Rattle.cond_expr.specs.declared.expr.Whose.TheVariants.{Free, Alias, Atom}
 use Rattle.cond_expr.specs.declared.expr.Column.{Column}
 use Rattle.cond_expr.specs.declared.expr.Expr.{Expr}
 use Rattle.cond_expr.specs.Trees.{Tree, column, constant, length_of, joined, choose}
-use Rattle.cond_expr.specs.Values.{value}
+use Rattle.cond_expr.specs.Values.{Cells, value, truth, chosen}
 use Rattle.cond_expr.specs.Seen.{tree}
 use Rattle.cond_expr.specs.Rows.{AreBorrowed, names, cells, flat, lies_elsewhere}
 use Rattle.timed_choices.specs.Answering.{outputs}
@@ -33,6 +33,11 @@ use Rattle.timed_choices.specs.Lending.{EachRow, AllBorrowed, Lent, RowLends, Ro
 use Rattle.timed_choices.specs.Lending.{StaysBorrowed}
 
 -- ---- columns that are lent
+
+both_true : (a b : Bool) → (a && b) ≡ true → (a ≡ true) × (b ≡ true)
+both_true true true e = (refl, refl)
+both_true true false e = absurd (cc)
+both_true false b e = absurd (cc)
 
 -- what a reference names is the column that it speaks of
 named_lent : (lent : Lent) (w : Whose) (n : List ℕ) (c : Column) → names w n c ≡ true
@@ -45,11 +50,6 @@ named_lent lent (Atom i) n c e l =
     subst (λ (j : ℕ). lent (Atom j) c.name ≡ true) own
     (subst (λ (name : List ℕ). lent (Atom i) name ≡ true) (same_name n c.name both.1) l)
   where
-    both_true : (a b : Bool) → (a && b) ≡ true → (a ≡ true) × (b ≡ true)
-    both_true true true e = (refl, refl)
-    both_true true false e = absurd (cc)
-    both_true false b e = absurd (cc)
-
     same_name : (a b : List ℕ) → same a b ≡ true → a ≡ b
     same_name a b e = step (bytes_cmp a b) refl e
       where
@@ -83,16 +83,34 @@ module _ (lent : Lent) where
       step (Slice s) false m f p q = f p q
       step (Own u) false m f p q = f p q
 
+  -- the expression is a column that is lent, whose value this is
+  abbrev IsColumn : Cells → Tree → Value → Type 0
+  IsColumn at t v = (w : Whose) × (n : List ℕ) × (t ≡ column w n) × (lent w n ≡ true) × (v ≡ at w n)
+
+  -- what is lent chooses such a column
+  chosen_column : (at : Cells) (t : Tree) → is_lent lent t ≡ true
+      → IsColumn at (chosen at t) (value at t)
+  chosen_column at (column w n) so = (w, n, refl, so, refl)
+  chosen_column at (constant x) so = absurd (cc)
+  chosen_column at (length_of t) so = absurd (cc)
+  chosen_column at (joined ts) so = absurd (cc)
+  chosen_column at (choose c a b) so =
+      let both = both_true (is_lent lent a) (is_lent lent b) so in
+      step (truth at c) (chosen_column at a both.0) (chosen_column at b both.1)
+    where
+      step : (t : Bool) → IsColumn at (chosen at a) (value at a)
+          → IsColumn at (chosen at b) (value at b)
+          → IsColumn at (cond t (chosen at a) (chosen at b)) (cond t (value at a) (value at b))
+      step true p q = p
+      step false p q = q
+
   lent_borrowed : (columns : List Column) (values : List Val) (t : Tree) (v : Val)
       → RowLends lent columns values → shown v ≡ value (flat columns values) t
-      → ((w : Whose) → (n : List ℕ) → t ≡ column w n
+      → ((w : Whose) → (n : List ℕ) → chosen (flat columns values) t ≡ column w n
       → is_borrowed v ≡ lies_elsewhere columns values w n) → is_lent lent t ≡ true → IsBorrowed v
-  lent_borrowed columns values (column w n) v l e b so =
-      borrowed_like columns values w n v l so e (b w n refl)
-  lent_borrowed columns values (constant x) v l e b so = absurd (cc)
-  lent_borrowed columns values (length_of t) v l e b so = absurd (cc)
-  lent_borrowed columns values (joined ts) v l e b so = absurd (cc)
-  lent_borrowed columns values (choose c x y) v l e b so = absurd (cc)
+  lent_borrowed columns values t v l e b so =
+      let h = chosen_column (flat columns values) t so in
+      borrowed_like columns values h.0 h.1 v l h.3 (e ∙ h.4) (b h.0 h.1 h.2)
 
   stays_with : (outs : List Tree) (values : List Val) (t : Tree) (v : Val)
       → StaysBorrowed lent outs values → (is_lent lent t ≡ true → IsBorrowed v)
@@ -107,7 +125,7 @@ module _ (lent : Lent) where
       (out : Expr) (row new : List Val) (v : Val) → i < length outs → out ≡ get_or outs i out
       → RowLends lent columns values → StaysBorrowed lent (map tree (take i outs)) row
       → shown v ≡ value (flat columns values) (tree out)
-      → ((w : Whose) → (n : List ℕ) → tree out ≡ column w n
+      → ((w : Whose) → (n : List ℕ) → chosen (flat columns values) (tree out) ≡ column w n
       → is_borrowed v ≡ lies_elsewhere columns values w n)
       → new ≡ row ++ v ∷ [] → StaysBorrowed lent (map tree (take (i + 1) outs)) new
   stays_more columns values outs i out row new v below is lends before e b made =
@@ -195,16 +213,41 @@ without [] after c w n v e =
 without (d ∷ before) after c w n v e =
     ap (λ (x : Value). cond (names w n d) (Int (pos 0)) x) (without before after c w n v e)
 
--- one that says each value that the column may hold names it
+-- of a row of zeros each reference says 0
+zero_both : (b : Bool) (v : Value) → v ≡ Int (pos 0) → cond b (Int (pos 0)) v ≡ Int (pos 0)
+zero_both true v e = refl
+zero_both false v e = e
+
+says_zero : (columns : List Column) (w : Whose) (n : List ℕ)
+    → cells columns (nothing columns) w n ≡ Int (pos 0)
+says_zero [] w n = refl
+says_zero (c ∷ columns) w n =
+    zero_both (names w n c) (cells columns (nothing columns) w n) (says_zero columns w n)
+
+all_zero : (before after : List Column) (c : Column) (w : Whose) (n : List ℕ)
+    → cells (before ++ c ∷ after) (nothing before ++ Int (pos 0) ∷ nothing after) w n ≡ Int (pos 0)
+all_zero [] after c w n = says_zero (c ∷ after) w n
+all_zero (d ∷ before) after c w n =
+    zero_both (names w n d)
+    (cells (before ++ c ∷ after) (nothing before ++ Int (pos 0) ∷ nothing after) w n)
+    (all_zero before after c w n)
+
+-- one that says the 1 of a column beside zeros names it
 names_it : (before after : List Column) (c : Column) (w : Whose) (n : List ℕ)
-    → ((v : Value) → cells (before ++ c ∷ after) (nothing before ++ v ∷ nothing after) w n ≡ v)
-    → names w n c ≡ true
+    → cells (before ++ c ∷ after) (nothing before ++ Int (pos 1) ∷ nothing after) w n
+    ≡ Int (pos 1) → names w n c ≡ true
 names_it before after c w n says = step (names w n c) refl
   where
     step : (b : Bool) → names w n c ≡ b → names w n c ≡ true
     step true e = e
-    step false e = absurd (let h : Int (pos 1) ≡ Int (pos 0) = sym (says (Int (pos 1)))
-        ∙ without before after c w n (Int (pos 1)) e ∙ says (Int (pos 0)) in cc)
+    step false e = absurd (let h : Int (pos 1) ≡ Int (pos 0) = sym says
+        ∙ without before after c w n (Int (pos 1)) e ∙ all_zero before after c w n in cc)
+
+-- what follows of both values follows of the one that is chosen
+either_way : (So : Type 0) (b : Bool) (x y v : Value) → cond b x y ≡ v → (x ≡ v → So)
+    → (y ≡ v → So) → So
+either_way So true x y v e f g = f e
+either_way So false x y v e f g = g e
 
 module _ (lent : Lent) where
   -- from the columns after some others
@@ -219,7 +262,7 @@ module _ (lent : Lent) where
   from front (c ∷ after) [] (v ∷ values) keeps l =
       absurd (let h = keeps (nothing (c ∷ after)) (length-map (c ∷ after) _) in cc)
   from front (c ∷ after) (t ∷ outs) (v ∷ values) keeps l = (
-    first t (λ x. let h = keeps (x ∷ nothing after)
+    first t (let h = keeps (Int (pos 1) ∷ nothing after)
         (ap suc (length-map after (λ (d : Column). Int (pos 0)))) in cc),
     from (front ++ c ∷ []) after outs values
         (λ row wide. let h = keeps (Int (pos 0) ∷ row) (ap suc wide) in
@@ -232,15 +275,20 @@ module _ (lent : Lent) where
         ∙ cc) l.1,
   )
     where
-      first : (o : Tree) → ((x : Value)
-          → value (cells (front ++ c ∷ after) (nothing front ++ x ∷ nothing after)) o ≡ x)
-          → is_lent lent o ≡ true → IsBorrowed v
+      first : (o : Tree)
+          → value (cells (front ++ c ∷ after) (nothing front ++ Int (pos 1) ∷ nothing after)) o
+          ≡ Int (pos 1) → is_lent lent o ≡ true → IsBorrowed v
       first (column w n) says so =
           l.0 (named_lent lent w n c (names_it front after c w n says) so)
       first (constant x) says so = absurd (cc)
       first (length_of o) says so = absurd (cc)
       first (joined ts) says so = absurd (cc)
-      first (choose d a b) says so = absurd (cc)
+      first (choose d a b) says so =
+          let at : Cells = cells (front ++ c ∷ after)
+          (nothing front ++ Int (pos 1) ∷ nothing after) in
+          let both = both_true (is_lent lent a) (is_lent lent b) so in
+          either_way (IsBorrowed v) (truth at d) (value at a) (value at b) (Int (pos 1)) says
+          (λ e. first a e both.0) (λ e. first b e both.1)
 
   -- values of columns that are lent stay borrowed, as outputs that are the columns in their order
   pub columns_stay : (columns : List Column) (outs : List Tree) (values : List Val)

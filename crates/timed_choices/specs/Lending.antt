@@ -1,5 +1,5 @@
 -- Columns whose texts are borrowed, and outputs over them that stay borrowed.
-use Rattle.std.specs.Prelude.{◌≡◌, ℕ, Bool, true, false, List, [], ◌∷◌, ⊤}
+use Rattle.std.specs.Prelude.{◌≡◌, ℕ, Bool, true, false, ◌&&◌, List, [], ◌∷◌, ⊤}
 use Rattle.prima_base.specs.declared.value.Val.{Val}
 use Rattle.prima_base.specs.declared.timed_row.TimedRow.{TimedRow}
 use Rattle.prima_base.specs.Order.{IsBorrowed}
@@ -37,20 +37,19 @@ RowLends lent (c ∷ columns) (v ∷ values) =
 abbrev pub RowsLend : Lent → List Column → List TimedRow → Type 0
 RowsLend lent columns rows = EachRow (RowLends lent columns) rows
 
--- it is a column that is lent, and nothing is computed of it
+-- it is a column that is lent, or a CASE that chooses one either way, and nothing is computed of it
 abbrev pub is_lent : Lent → Tree → Bool
 is_lent lent (column w n) = lent w n
 is_lent lent (constant v) = false
 is_lent lent (length_of t) = false
 is_lent lent (joined ts) = false
-is_lent lent (choose c a b) = false
+is_lent lent (choose c a b) = is_lent lent a && is_lent lent b
 
--- it is a column, and nothing is computed of it
+-- it is a column, or a CASE that chooses one either way, and nothing is computed of it
 abbrev pub is_plain : Tree → Bool
 is_plain t = is_lent all_lent t
 
--- the value of each output that is a column that is lent is borrowed, in a row of the outputs and
--- in each of several
+-- the value of each output that is lent is borrowed, in a row of the outputs and in each of several
 abbrev pub StaysBorrowed : Lent → List Tree → List Val → Type 0
 StaysBorrowed lent [] [] = ⊤
 StaysBorrowed lent [] (v ∷ values) = ⊥
