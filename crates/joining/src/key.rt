@@ -1,8 +1,8 @@
 //! Keys by which rows are looked up.
 
 ghost use Rattle.std.specs.Prelude.{◌≡◌, IfOk, map};
-ghost use Rattle.prima_base.specs.Order.{shown, IsBorrowed, AreBorrowed};
-ghost use Rattle.timed_choices.specs.Keeping.{value_at, picked};
+ghost use Rattle.prima_base.specs.Order.{shown, is_borrowed};
+ghost use Rattle.timed_choices.specs.Keeping.{value_at, picked, lies_at};
 
 use prima_base::{NoMemory, Val, compare_vals};
 use std::alloc::Global;
@@ -79,10 +79,9 @@ impl Ord for Key<'_> {
 }
 
 // The value at the place. A borrowed text stays borrowed.
-#[tactic(auto, using(timed_choices::proofs::BorrowedLaws::borrowed_here))]
 fn value_at<'a>(values: &[Val<'a>], place: usize) -> Result<Val<'a>, NoMemory>
     ensures value { IfOk result (λ v. shown v ≡ value_at (map shown values.now) place) }
-    ensures borrowed { AreBorrowed values.now → IfOk result IsBorrowed }
+    ensures same { IfOk result (λ v. is_borrowed v ≡ lies_at values.now place) }
 {
     match values.get(place) {
         Some(value) => value.copy(),
@@ -90,8 +89,8 @@ fn value_at<'a>(values: &[Val<'a>], place: usize) -> Result<Val<'a>, NoMemory>
     }
 }
 
-// The values at the places. A borrowed text stays borrowed, so that what is looked up by such keys
-// has no text of its own.
+// The values at the places. A borrowed text stays borrowed, so that a key has no text of its own
+// but where the row has one there.
 fn values_at<'a>(
     alloc: Global,
     places: &[usize],
@@ -99,7 +98,8 @@ fn values_at<'a>(
 ) -> Result<Vec<Val<'a>>, NoMemory>
     ensures values { IfOk result (λ v. map shown v.items
         ≡ picked places.now (map shown values.now)) }
-    ensures borrowed { AreBorrowed values.now → IfOk result (λ v. AreBorrowed v.items) }
+    ensures same { IfOk result (λ v. map is_borrowed v.items
+        ≡ map (lies_at values.now) places.now) }
 {
     let mut picked = Vec::with_capacity(alloc, places.len())?;
     for place in places {

@@ -296,23 +296,6 @@ module _ (lent : Lent) where
       → RowLends lent columns values → StaysBorrowed lent outs values
   columns_stay columns outs values keeps l = from [] columns outs values keeps l
 
--- ---- one value of a list that is borrowed
-
-pub borrowed_here : (values : List Val) (i : ℕ) (v : Val) → i < length values
-    → v ≡ get_or values i v → AreBorrowed values → IsBorrowed v
-borrowed_here [] i v below is l = absurd (omega arith)
-borrowed_here (x ∷ values) zero v below is l = subst IsBorrowed (sym is) l.0
-borrowed_here (x ∷ values) (suc i) v below is l = borrowed_here values i v (omega arith) is l.1
-
-with_value : (values : List Val) (v : Val) → AreBorrowed values → IsBorrowed v
-    → AreBorrowed (values ++ v ∷ [])
-with_value [] v l m = (m, tt)
-with_value (x ∷ values) v l m = (l.0, with_value values v l.1 m)
-
-pub value_borrowed : (values new : List Val) (v : Val) → new ≡ values ++ v ∷ [] → AreBorrowed values
-    → IsBorrowed v → AreBorrowed new
-value_borrowed values new v made l m = subst AreBorrowed (sym made) (with_value values v l m)
-
 -- ---- rows whose values are so
 
 module _ (so : List Val → Type 0) where

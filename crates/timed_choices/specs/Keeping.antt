@@ -1,13 +1,14 @@
 -- Which rows are kept beside a choice: those that agree with it on some places, and with which it
 -- passes some tests.
-use Rattle.std.specs.Prelude.{◌≡◌, ℕ, Bool, true, ◌&&◌, List, [], ◌∷◌, ◌++◌, map, length, get_or}
-use Rattle.std.specs.Prelude.{pos, Option, Some, None, ⊤}
+use Rattle.std.specs.Prelude.{◌≡◌, ℕ, Bool, true, false, ◌&&◌, List, [], ◌∷◌, ◌++◌, map, length}
+use Rattle.std.specs.Prelude.{get_or, pos, Option, Some, None, ⊤}
 use Rattle.relations.specs.Timed.{Entry}
 use Rattle.prima_base.specs.declared.timed_row.TimedRow.{TimedRow}
 use Rattle.std.specs.Ordering.{is_eq}
 use Rattle.prima_base.specs.declared.value.Value.{Value}
 use Rattle.prima_base.specs.declared.value.Value.TheVariants.{Int}
-use Rattle.prima_base.specs.Order.{row_cmp}
+use Rattle.prima_base.specs.declared.value.Val.{Val}
+use Rattle.prima_base.specs.Order.{row_cmp, is_borrowed}
 use Rattle.prima_base.specs.Columns.{IsValid}
 use Rattle.relations.specs.Sets.{In}
 use Rattle.std.specs.Borrow.{Bor}
@@ -25,6 +26,10 @@ value_at values i = get_or values i (Int (pos 0))
 -- the values at some places
 abbrev pub picked : List ℕ → List Value → List Value
 picked places values = map (value_at values) places
+
+-- whether the value at a place is a text that lies elsewhere
+abbrev pub lies_at : List Val → ℕ → Bool
+lies_at values i = get_or (map is_borrowed values) i false
 
 -- the row meets the condition, and each of some conditions
 abbrev pub meets : List Column → Test → List Value → Bool
