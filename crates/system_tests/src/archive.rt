@@ -208,6 +208,86 @@ fn joined_texts_are_borrowed(
     Err(Fail::new("the text is borrowed"))
 }
 
+// Whether a row has two texts, the first of which is borrowed and the second computed.
+fn is_half_made(row: &TimedRow<'_>, kept: &[u8], computed: &[u8]) -> bool {
+    match row.values.as_slice() {
+        [first, second] => is_borrowed(first, kept) && is_made(second, computed),
+        _ => false,
+    }
+}
+
+// Whether a row has two texts, both borrowed.
+fn is_all_borrowed(row: &TimedRow<'_>, first_text: &[u8], second_text: &[u8]) -> bool {
+    match row.values.as_slice() {
+        [first, second] => is_borrowed(first, first_text) && is_borrowed(second, second_text),
+        _ => false,
+    }
+}
+
+// Asked over all time, a column that an operator computes for the rows of an older version is
+// borrowed in those of a later one.
+fn texts_of_a_later_version(
+    alloc: Global,
+    archive: &mut ArchiveState,
+    book: &RuleBook,
+) -> Result<(), Fail>
+    requires { EachOf book.now.rules.items (λ r. handles (r.vtable, r.value)) }
+{
+    commit(
+        alloc,
+        archive,
+        "AT 12 INSERT INTO u (a, b, c) VALUES (2, 'z', 'kept')",
+    )?;
+    let text = "QUERY VERSION 3 SELECT b, c FROM u WHERE b = 'x' OR b = 'z'";
+    let (listing, _) = ask(alloc, archive, book, text)?;
+    let [older, later] = listing.rows.as_slice() else {
+        return Err(Fail::new("each of two texts has one period"));
+    };
+    if is_half_made(older, b"x", b"unknown") && is_all_borrowed(later, b"z", b"kept") {
+        return Ok(());
+    }
+    Err(Fail::new("just the text of the older version is made"))
+}
+
+// Beside a branch that computes its output, the texts of another branch are borrowed.
+fn texts_beside_a_computed_branch(
+    alloc: Global,
+    archive: &ArchiveState,
+    book: &RuleBook,
+) -> Result<(), Fail>
+    requires { EachOf book.now.rules.items (λ r. handles (r.vtable, r.value)) }
+{
+    let text = "QUERY VERSION 3 SELECT CONCAT(c, '!') FROM u UNION SELECT b FROM u AS OF 12";
+    let (listing, _) = ask(alloc, archive, book, text)?;
+    let [kept, unknown, y, z] = listing.rows.as_slice() else {
+        return Err(Fail::new("each branch answers two rows"));
+    };
+    let made = is_made(only_value(kept)?, b"kept!") && is_made(only_value(unknown)?, b"unknown!");
+    if made && is_borrowed(only_value(y)?, b"y") && is_borrowed(only_value(z)?, b"z") {
+        return Ok(());
+    }
+    Err(Fail::new("just the texts of the first branch are made"))
+}
+
+// A text that a CASE chooses is borrowed.
+fn chosen_texts_are_borrowed(
+    alloc: Global,
+    archive: &ArchiveState,
+    book: &RuleBook,
+) -> Result<(), Fail>
+    requires { EachOf book.now.rules.items (λ r. handles (r.vtable, r.value)) }
+{
+    let text = "QUERY VERSION 3 SELECT CASE WHEN a = 1 THEN b ELSE c END FROM u AS OF 12";
+    let (listing, _) = ask(alloc, archive, book, text)?;
+    let [kept, y] = listing.rows.as_slice() else {
+        return Err(Fail::new("two rows hold at the moment"));
+    };
+    if is_borrowed(only_value(kept)?, b"kept") && is_borrowed(only_value(y)?, b"y") {
+        return Ok(());
+    }
+    Err(Fail::new("both texts are borrowed"))
+}
+
 #[test]
 fn texts_of_plain_columns_are_borrowed(rt: HostRuntime) -> Result<(), Fail> {
     let alloc = rt.alloc();
@@ -222,5 +302,8 @@ fn texts_of_plain_columns_are_borrowed(rt: HostRuntime) -> Result<(), Fail> {
     texts_are_borrowed(alloc, &archive, &book)?;
     computed_text_is_made(alloc, &archive, &book)?;
     joined_texts_are_borrowed(alloc, &archive, &book)?;
-    text_beside_a_computed_one(alloc, &mut archive, &book)
+    text_beside_a_computed_one(alloc, &mut archive, &book)?;
+    texts_of_a_later_version(alloc, &mut archive, &book)?;
+    texts_beside_a_computed_branch(alloc, &archive, &book)?;
+    chosen_texts_are_borrowed(alloc, &archive, &book)
 }
