@@ -50,8 +50,8 @@ fn answer_atoms<'a>(
 /// the condition. A reference is to the atom of its number, whatever place that has; where the
 /// numbers are those of the places, the answers are those over relations (clause `rows`). The rows
 /// have the periods in which they hold, all inside the slice, in no order; a row may stand several
-/// times. Whatever columns have only borrowed texts, those of outputs that are such columns stay
-/// borrowed.
+/// times. Whatever texts of a column are borrowed in each row that has them, the same texts stay
+/// borrowed in outputs that are the column.
 pub fn answer_choices<'a>(
     alloc: Global,
     outs: &[Expr],

@@ -9,6 +9,7 @@ use Rattle.relations.specs.Spans.{Span, covers}
 use Rattle.relations.proofs.Held.{in_at, covers_is}
 use Rattle.relations.proofs.SetLaws.{in_left, in_right, in_map, from_map, in_flat_map}
 use Rattle.relations.proofs.SetLaws.{from_flat_map, from_set}
+use Rattle.prima_base.specs.declared.value.Value.{Value}
 use Rattle.prima_base.specs.declared.value.Val.{Val}
 use Rattle.prima_base.specs.declared.timed_row.TimedRow.{TimedRow}
 use Rattle.prima_base.specs.Order.{same, shown, row_cmp}
@@ -71,7 +72,7 @@ plain_lends lent [] (t ∷ outs) values p s = absurd p
 plain_lends lent (c ∷ columns) [] values p s = absurd p
 plain_lends lent (c ∷ columns) (t ∷ outs) [] p s = absurd s
 plain_lends lent (c ∷ columns) (t ∷ outs) (v ∷ values) p s = (
-  λ so. s.0 (p.0 so),
+  λ so. s.0 (p.0 (shown v) so),
   plain_lends lent columns outs values p.1 s.1,
 )
 
@@ -134,27 +135,27 @@ first_true : (a b : Bool) → a ≡ true → (a && not b) ≡ false → b ≡ tr
 first_true a true e h = refl
 first_true a false e h = absurd (cc)
 
-not_computed : (branch place : ℕ) (n : List ℕ) (pieces : List PlainExplained) (e : PlainExplained)
-    → In e pieces → e.branch ≡ branch → e.atom ≡ place + 1
-    → lent_by pieces branch (AtAtom place) n ≡ true → computes n e.piece.outs ≡ false
-not_computed branch place n [] e m b a h = absurd m
-not_computed branch place n (x ∷ pieces) e (inl i) b a h =
+not_computed : (branch place : ℕ) (n : List ℕ) (v : Value) (pieces : List PlainExplained)
+    (e : PlainExplained) → In e pieces → e.branch ≡ branch → e.atom ≡ place + 1
+    → lent_by pieces branch (AtAtom place) n v ≡ true → computes n e.piece.outs ≡ false
+not_computed branch place n v [] e m b a h = absurd m
+not_computed branch place n v (x ∷ pieces) e (inl i) b a h =
     let own : is_of branch (AtAtom place) x ≡ true =
     subst (λ (y : PlainExplained). is_of branch (AtAtom place) y ≡ true) (sym i)
     (grind (arith, nat_tests)) in
     subst (λ (y : PlainExplained). computes n y.piece.outs ≡ false) i
     (second_false (is_of branch (AtAtom place) x) (computes n x.piece.outs) own
     (both_true (not (is_of branch (AtAtom place) x && computes n x.piece.outs))
-    (lent_by pieces branch (AtAtom place) n) h).0)
-not_computed branch place n (x ∷ pieces) e (inr m) b a h =
-    not_computed branch place n pieces e m b a
+    (lent_by pieces branch (AtAtom place) n v) h).0)
+not_computed branch place n v (x ∷ pieces) e (inr m) b a h =
+    not_computed branch place n v pieces e m b a
     (both_true (not (is_of branch (AtAtom place) x && computes n x.piece.outs))
-    (lent_by pieces branch (AtAtom place) n) h).1
+    (lent_by pieces branch (AtAtom place) n v) h).1
 
 -- outputs with the names of columns, in their order
 plain_by_names : (lent : Lent) (place : ℕ) (columns : List Column) (outs : List (List ℕ × Tree))
     → out_names outs ≡ names_of columns
-    → ((n : List ℕ) → lent (AtAtom place) n ≡ true → computes n outs ≡ false)
+    → ((n : List ℕ) → (v : Value) → lent (AtAtom place) n v ≡ true → computes n outs ≡ false)
     → ArePlain lent (columns_at place columns) (out_trees outs)
 plain_by_names lent place [] [] e h = tt
 plain_by_names lent place [] (o ∷ outs) e h = absurd (cc)
@@ -162,11 +163,11 @@ plain_by_names lent place (c ∷ columns) [] e h = absurd (cc)
 plain_by_names lent place (c ∷ columns) (o ∷ outs) e h =
     let first : o.0 ≡ c.0 = cc in
     let more : out_names outs ≡ names_of columns = cc in (
-      λ so. first_true (same o.0 c.0) (is_plain o.1)
+      λ v so. first_true (same o.0 c.0) (is_plain o.1)
           (ap (λ (n : List ℕ). same n c.0) first ∙ same_itself c.0)
-          (neither (same o.0 c.0 && not (is_plain o.1)) (computes c.0 outs) (h c.0 so)).0,
+          (neither (same o.0 c.0 && not (is_plain o.1)) (computes c.0 outs) (h c.0 v so)).0,
       plain_by_names lent place columns outs more
-          (λ n so. (neither (same o.0 n && not (is_plain o.1)) (computes n outs) (h n so)).1),
+          (λ n v so. (neither (same o.0 n && not (is_plain o.1)) (computes n outs) (h n v so)).1),
     )
 
 -- ---- the names of a piece's outputs
@@ -212,7 +213,7 @@ module _ (versions : List PlainVersion) (book : Book) (valid : IsValidBook book)
       plain_by_names (lent_by pieces branch) place columns e.piece.outs
       (subst (λ (x : PlainExplained). out_names x.piece.outs ≡ names_of columns) made.2
       (piece_names part.0 part.1 made.0 made.1 ∙ sym named_so))
-      (λ n so. not_computed branch place n pieces e (living e alive)
+      (λ n v so. not_computed branch place n v pieces e (living e alive)
       (ap (λ (x : PlainExplained). x.branch) (sym made.2))
       (ap (λ (x : PlainExplained). x.atom) (sym made.2)) so)
 

@@ -5,6 +5,7 @@ use Rattle.std.specs.Prelude.{map, ◌⊎◌, ⊤}
 use Rattle.relations.specs.Sets.{In}
 use Rattle.relations.specs.Spans.{Span, covers}
 use Rattle.prima_base.specs.declared.timed_row.TimedRow.{TimedRow}
+use Rattle.prima_base.specs.declared.value.Value.{Value}
 use Rattle.prima_base.specs.declared.value.Val.{Val}
 use Rattle.prima_base.specs.Order.{same, shown}
 use Rattle.cond_expr.specs.declared.expr.Whose.{Whose}
@@ -33,11 +34,12 @@ is_of branch Free e = false
 is_of branch (Alias a) e = false
 is_of branch (Atom i) e = (e.branch == branch) && (e.atom == i + 1)
 
--- the column is lent by the stored tables: none of the pieces of its item computes it
+-- the column is lent by the stored tables, whatever its values show: none of the pieces of its item
+-- computes it
 abbrev pub lent_by : List PlainExplained → ℕ → Lent
-lent_by [] branch w n = true
-lent_by (e ∷ pieces) branch w n =
-    not (is_of branch w e && computes n e.piece.outs) && lent_by pieces branch w n
+lent_by [] branch w n x = true
+lent_by (e ∷ pieces) branch w n x =
+    not (is_of branch w e && computes n e.piece.outs) && lent_by pieces branch w n x
 
 -- the branch answers the row at some moment of the slice, over the tables as they are migrated to
 -- the version
@@ -62,13 +64,15 @@ AreBorrowedBy past query pieces rows =
 
 -- ---- on the way there
 
--- of some outputs each whose column is lent is a plain column, and so are those of each piece
+-- of some outputs each is a plain column of whose column a value is lent, and so are those of each
+-- piece
 abbrev pub ArePlain : Lent → List Column → List Tree → Type 0
 ArePlain lent [] [] = ⊤
 ArePlain lent [] (t ∷ outs) = ⊥
 ArePlain lent (c ∷ columns) [] = ⊥
 ArePlain lent (c ∷ columns) (t ∷ outs) =
-    (lent (Atom c.atom) c.name ≡ true → is_plain t ≡ true) × ArePlain lent columns outs
+    ((x : Value) → lent (Atom c.atom) c.name x ≡ true → is_plain t ≡ true)
+    × ArePlain lent columns outs
 
 abbrev pub AllPlain : Lent → List Column → List PlainPiece → Type 0
 AllPlain lent columns ps = (p : PlainPiece) → In p ps → ArePlain lent columns (out_trees p.outs)

@@ -40,7 +40,8 @@ both_true true false e = absurd (cc)
 both_true false b e = absurd (cc)
 
 -- what a reference names is the column that it speaks of
-named_lent : (lent : Lent) (w : Whose) (n : List ℕ) (c : Column) → names w n c ≡ true
+named_lent : (lent : Whose → List ℕ → Bool) (w : Whose) (n : List ℕ) (c : Column)
+    → names w n c ≡ true
     → lent w n ≡ true → lent (Atom c.atom) c.name ≡ true
 named_lent lent Free n c e l = absurd (cc)
 named_lent lent (Alias a) n c e l = absurd (cc)
@@ -58,31 +59,9 @@ named_lent lent (Atom i) n c e l =
         step Equal q h = bytes_exact.same a b q
         step Greater q h = absurd (cc)
 
-module _ (lent : Lent) where
-  -- one that shows what a column that is lent holds, and lies elsewhere where that does
-  borrowed_like : (columns : List Column) (values : List Val) (w : Whose) (n : List ℕ) (v : Val)
-      → RowLends lent columns values → lent w n ≡ true → shown v ≡ flat columns values w n
-      → is_borrowed v ≡ lies_elsewhere columns values w n → IsBorrowed v
-  borrowed_like columns values w n (ValInt k) l so e b = tt
-  borrowed_like columns values w n (Slice s) l so e b = tt
-  borrowed_like [] values w n (Own t) l so e b = absurd (cc)
-  borrowed_like (c ∷ columns) [] w n (Own t) l so e b = absurd (cc)
-  borrowed_like (c ∷ columns) (v ∷ values) w n (Own t) l so e b =
-      step v (names w n c) (λ h. l.0 (named_lent lent w n c h so))
-      (λ p q. borrowed_like columns values w n (Own t) l.1 so p q) e b
-    where
-      step : (x : Val) (named : Bool) → (named ≡ true → IsBorrowed x)
-          → (shown (Own t) ≡ flat columns values w n
-          → false ≡ lies_elsewhere columns values w n → ⊥)
-          → shown (Own t) ≡ cond named (shown x) (flat columns values w n)
-          → false ≡ cond named (is_borrowed x) (lies_elsewhere columns values w n) → ⊥
-      step (ValInt k) true m f p q = cc
-      step (Slice s) true m f p q = cc
-      step (Own u) true m f p q = m refl
-      step (ValInt k) false m f p q = f p q
-      step (Slice s) false m f p q = f p q
-      step (Own u) false m f p q = f p q
+-- ---- what is chosen
 
+module _ (lent : Whose → List ℕ → Bool) where
   -- the expression is a column that is lent, whose value this is
   abbrev IsColumn : Cells → Tree → Value → Type 0
   IsColumn at t v = (w : Whose) × (n : List ℕ) × (t ≡ column w n) × (lent w n ≡ true) × (v ≡ at w n)
@@ -104,16 +83,47 @@ module _ (lent : Lent) where
       step true p q = p
       step false p q = q
 
+module _ (lent : Lent) where
+  -- one that shows what a column that is lent holds, and lies elsewhere where that does
+  borrowed_like : (columns : List Column) (values : List Val) (w : Whose) (n : List ℕ) (v : Val)
+      → RowLends lent columns values → lent w n (shown v) ≡ true
+      → shown v ≡ flat columns values w n
+      → is_borrowed v ≡ lies_elsewhere columns values w n → IsBorrowed v
+  borrowed_like columns values w n (ValInt k) l so e b = tt
+  borrowed_like columns values w n (Slice s) l so e b = tt
+  borrowed_like [] values w n (Own t) l so e b = absurd (cc)
+  borrowed_like (c ∷ columns) [] w n (Own t) l so e b = absurd (cc)
+  borrowed_like (c ∷ columns) (v ∷ values) w n (Own t) l so e b =
+      step v (names w n c)
+      (λ h s. l.0 (subst (λ (x : Value). lent (Atom c.atom) c.name x ≡ true) s
+      (named_lent (λ u m. lent u m (shown (Own t))) w n c h so)))
+      (λ p q. borrowed_like columns values w n (Own t) l.1 so p q) e b
+    where
+      step : (x : Val) (named : Bool)
+          → (named ≡ true → shown (Own t) ≡ shown x → IsBorrowed x)
+          → (shown (Own t) ≡ flat columns values w n
+          → false ≡ lies_elsewhere columns values w n → ⊥)
+          → shown (Own t) ≡ cond named (shown x) (flat columns values w n)
+          → false ≡ cond named (is_borrowed x) (lies_elsewhere columns values w n) → ⊥
+      step (ValInt k) true m f p q = cc
+      step (Slice s) true m f p q = cc
+      step (Own u) true m f p q = m refl p
+      step (ValInt k) false m f p q = f p q
+      step (Slice s) false m f p q = f p q
+      step (Own u) false m f p q = f p q
+
   lent_borrowed : (columns : List Column) (values : List Val) (t : Tree) (v : Val)
       → RowLends lent columns values → shown v ≡ value (flat columns values) t
       → ((w : Whose) → (n : List ℕ) → chosen (flat columns values) t ≡ column w n
-      → is_borrowed v ≡ lies_elsewhere columns values w n) → is_lent lent t ≡ true → IsBorrowed v
+      → is_borrowed v ≡ lies_elsewhere columns values w n)
+      → is_lent (λ w n. lent w n (shown v)) t ≡ true → IsBorrowed v
   lent_borrowed columns values t v l e b so =
-      let h = chosen_column (flat columns values) t so in
+      let h = chosen_column (λ w n. lent w n (shown v)) (flat columns values) t so in
       borrowed_like columns values h.0 h.1 v l h.3 (e ∙ h.4) (b h.0 h.1 h.2)
 
   stays_with : (outs : List Tree) (values : List Val) (t : Tree) (v : Val)
-      → StaysBorrowed lent outs values → (is_lent lent t ≡ true → IsBorrowed v)
+      → StaysBorrowed lent outs values
+      → (is_lent (λ w n. lent w n (shown v)) t ≡ true → IsBorrowed v)
       → StaysBorrowed lent (outs ++ t ∷ []) (values ++ v ∷ [])
   stays_with [] [] t v s f = (f, tt)
   stays_with [] (x ∷ values) t v s f = absurd s
@@ -154,7 +164,8 @@ module _ (lent : Lent) where
       let lies : is_borrowed w ≡ is_borrowed v = cc in
       let more : map shown new ≡ map shown values = cc in
       let all : map is_borrowed new ≡ map is_borrowed values = cc in (
-        λ so. stays_borrowed v w first lies (l.0 so),
+        λ so. stays_borrowed v w first lies (l.0
+            (subst (λ (x : Value). lent (Atom c.atom) c.name x ≡ true) first so)),
         lends_like columns values new more all l.1,
       )
 
@@ -173,7 +184,8 @@ module _ (lent : Lent) where
       let lies : is_borrowed w ≡ is_borrowed v = cc in
       let more : map shown values ≡ map shown first ++ map shown second = cc in
       let all : map is_borrowed values ≡ map is_borrowed first ++ map is_borrowed second = cc in (
-        λ so. stays_borrowed v w one lies (l.0 so),
+        λ so. stays_borrowed v w one lies (l.0
+            (subst (λ (x : Value). lent (Atom c.atom) c.name x ≡ true) one so)),
         both_lend ours theirs first second values more all l.1 k,
       )
 
@@ -277,16 +289,17 @@ module _ (lent : Lent) where
     where
       first : (o : Tree)
           → value (cells (front ++ c ∷ after) (nothing front ++ Int (pos 1) ∷ nothing after)) o
-          ≡ Int (pos 1) → is_lent lent o ≡ true → IsBorrowed v
+          ≡ Int (pos 1) → is_lent (λ w n. lent w n (shown v)) o ≡ true → IsBorrowed v
       first (column w n) says so =
-          l.0 (named_lent lent w n c (names_it front after c w n says) so)
+          l.0 (named_lent (λ u m. lent u m (shown v)) w n c (names_it front after c w n says) so)
       first (constant x) says so = absurd (cc)
       first (length_of o) says so = absurd (cc)
       first (joined ts) says so = absurd (cc)
       first (choose d a b) says so =
           let at : Cells = cells (front ++ c ∷ after)
           (nothing front ++ Int (pos 1) ∷ nothing after) in
-          let both = both_true (is_lent lent a) (is_lent lent b) so in
+          let both = both_true (is_lent (λ w n. lent w n (shown v)) a)
+          (is_lent (λ w n. lent w n (shown v)) b) so in
           either_way (IsBorrowed v) (truth at d) (value at a) (value at b) (Int (pos 1)) says
           (λ e. first a e both.0) (λ e. first b e both.1)
 
