@@ -71,7 +71,7 @@ impl ArchiveState {
     ghost use Rattle.archive_state.specs.Committing.{Judges, IsAsBefore, IsDone, Accepts};
     ghost use Rattle.rewrite.specs.Books.{meaning_of, EachOf};
     ghost use Rattle.piece_texts.specs.ExplainedPieces.{PlainExplained};
-    ghost use Rattle.query_exec.specs.Borrowed.{AreBorrowedBy};
+    ghost use Rattle.query_exec.specs.Borrowed.{Lents, AreSpared, AreBorrowedBy};
     ghost use Rattle.query_exec.specs.Reads.{explained_read, reads_of};
     ghost use Rattle.archive_state.specs.Asking.{IsAsked, IsExplained, TellsWayBack, ArePiecesOf};
     ghost use Rattle.archive_state.specs.Asking.{query_asked};
@@ -205,9 +205,9 @@ impl ArchiveState {
     /// that `explain` tells, keys of the piece's tables and entries of the columns that it names of
     /// them, and none where the query is refused; where it lists, at least as many as there are for
     /// any one of these pieces. The texts of each output that is a plain column are borrowed by
-    /// what the archive keeps, unless one of these pieces computes that column of its item: each
-    /// row is so of one of the branches that answer it in the slice. The one other error is
-    /// `NoMemory`, where memory runs out.
+    /// what the archive keeps, unless one of these pieces computes that text for the column of its
+    /// item: each row is so of one of the branches that answer it in the slice. The one other error
+    /// is `NoMemory`, where memory runs out.
     pub fn query<'a, L: Ledger>(
         &'a self,
         book: &RuleBook,
@@ -224,8 +224,9 @@ impl ArchiveState {
             → (pieces : List PlainExplained) → ArePiecesOf
             (meaning_of book.now.rules.items (λ r. handles (r.vtable, r.value))
             (λ r. answers (r.vtable, r.value))) past (query_of query.now) pieces
+            → (lents : Lents) → AreSpared self.now.groups lents pieces
             → IfOk result (λ listing. AreBorrowedBy past
-            (query_asked past (query_of query.now)) pieces listing.rows.items) }
+            (query_asked past (query_of query.now)) lents listing.rows.items) }
         ensures cost { (past : Past) → RepresentsPast self.now past → (pieces : List PlainExplained)
             → ArePiecesOf (meaning_of book.now.rules.items (λ r. handles (r.vtable, r.value))
             (λ r. answers (r.vtable, r.value))) past (query_of query.now) pieces

@@ -2,17 +2,15 @@
 use Rattle.std.proofs.Common.{◌≡◌, ◌<◌, ◌+◌, ℕ, zero, suc, Bool, true, false, not, List, [], ◌∷◌}
 use Rattle.std.proofs.Common.{◌++◌, map, length, get_or, drop, refl, sym, ap, ◌∙◌, subst}
 use Rattle.std.proofs.Common.{inl, inr, arith}
-use Rattle.std.specs.Prelude.{◌&&◌, ◌||◌, Option}
-use Rattle.std.proofs.lemmas.Bool.Decides.{nat_tests}
+use Rattle.std.specs.Prelude.{Option}
 use Rattle.relations.specs.Sets.{In, set_of}
 use Rattle.relations.specs.Spans.{Span, covers}
 use Rattle.relations.proofs.Held.{in_at, covers_is}
 use Rattle.relations.proofs.SetLaws.{in_left, in_right, in_map, from_map, in_flat_map}
 use Rattle.relations.proofs.SetLaws.{from_flat_map, from_set}
-use Rattle.prima_base.specs.declared.value.Value.{Value}
 use Rattle.prima_base.specs.declared.value.Val.{Val}
 use Rattle.prima_base.specs.declared.timed_row.TimedRow.{TimedRow}
-use Rattle.prima_base.specs.Order.{same, shown, row_cmp}
+use Rattle.prima_base.specs.Order.{shown, row_cmp}
 use Rattle.prima_base.specs.OrderLaws.{row_exact}
 use Rattle.prima_base.specs.Timed.{entry_of, entries_of, rows_at}
 use Rattle.prima_base.specs.Columns.{Column, names_of}
@@ -26,13 +24,13 @@ use Rattle.prima_base.specs.declared.value.ColType.{ColType}
 use Rattle.smo_types.specs.Commands.{PlainVersion}
 use Rattle.smo_meaning.specs.OneRow.{Row, Relation}
 use Rattle.smo_meaning.specs.Past.{Past, no_tables, tables_from, tables_of}
-use Rattle.smo_meaning.proofs.NameLaws.{same_itself}
 use Rattle.timed_choices.specs.Lending.{EachRow, Lent, all_lent, RowLends, RowsLend, is_plain}
 use Rattle.timed_choices.specs.Lending.{StaysBorrowed, AllStayBorrowed}
 use Rattle.timed_choices.proofs.BorrowedLaws.{each_both, each_member, all_members}
 use Rattle.joining.specs.declared.source.Atom.{Atom}
 use Rattle.joining.specs.Sources.{AtomsLend}
 use Rattle.version_ways.specs.Migration.{migrated}
+use Rattle.version_groups.specs.Groups.{Kept, versions_in}
 use Rattle.plain_answers.specs.Branches.{Item, PlainBranch, branch_answers}
 use Rattle.plain_answers.specs.Reading.{Read}
 use Rattle.piece_meaning.specs.Pieces.{PlainPiece, out_names, out_trees}
@@ -49,8 +47,8 @@ use Rattle.query_types.specs.Branches.{branch_of, branches_of}
 use Rattle.query_types.specs.declared.branch.Branch.{Branch}
 use Rattle.query_exec.specs.declared.part_piece.PartPieces.{PartPieces}
 use Rattle.query_exec.specs.declared.route.Route.{Route}
-use Rattle.query_exec.specs.Borrowed.{computes, is_of, lent_by, IsBorrowedBy, ArePlain, AllPlain}
-use Rattle.query_exec.specs.Borrowed.{HaveLiving, IsAnswered}
+use Rattle.query_exec.specs.Borrowed.{Lents, SparesRow, Spares, AllSpare, IsAnswered, IsBorrowedBy}
+use Rattle.query_exec.specs.Borrowed.{ArePlainIn, IsPlainIn, AllPlainIn}
 use Rattle.query_exec.specs.Planned.{ArePlanned, own_pieces, planned_pieces}
 use Rattle.query_exec.specs.Questions.{own_read}
 use Rattle.query_exec.specs.QueryPieces.{explained_in, part_pieces, table_pieces, items_pieces}
@@ -64,7 +62,7 @@ use Rattle.query_exec.proofs.PlanLaws.{none_lost}
 -- ---- rows of a piece
 
 plain_lends : (lent : Lent) (columns : List AtomColumn) (outs : List Tree) (values : List Val)
-    → ArePlain lent columns outs → StaysBorrowed all_lent outs values
+    → ArePlainIn lent columns outs (map shown values) → StaysBorrowed all_lent outs values
     → RowLends lent columns values
 plain_lends lent [] [] [] p s = tt
 plain_lends lent [] [] (v ∷ values) p s = absurd s
@@ -72,42 +70,67 @@ plain_lends lent [] (t ∷ outs) values p s = absurd p
 plain_lends lent (c ∷ columns) [] values p s = absurd p
 plain_lends lent (c ∷ columns) (t ∷ outs) [] p s = absurd s
 plain_lends lent (c ∷ columns) (t ∷ outs) (v ∷ values) p s = (
-  λ so. s.0 (p.0 (shown v) so),
+  λ so. s.0 (p.0 so),
   plain_lends lent columns outs values p.1 s.1,
 )
 
--- where each output whose column is lent is a plain column, the rows lend these columns
-pub piece_lends : (lent : Lent) (columns : List AtomColumn) (outs : List Tree)
-    (rows : List TimedRow) → ArePlain lent columns outs → AllStayBorrowed all_lent outs rows
-    → RowsLend lent columns rows
-piece_lends lent columns outs [] p l = tt
-piece_lends lent columns outs (r ∷ rows) p l = (
-  plain_lends lent columns outs r.values.items p l.0,
-  piece_lends lent columns outs rows p l.1,
-)
+-- rows that are a relation at each moment of a period, and nothing at any other: each shows, at its
+-- first moment, a row of it
+module _ (relation : ℕ → Relation) (period : Span) (rows : List TimedRow)
+    (inside : (m : ℕ) → covers period m ≡ true → rows_at rows m ≡ relation m)
+    (outside : (m : ℕ) → covers period m ≡ false → rows_at rows m ≡ []) where
+  pub row_holds : (row : TimedRow) → In row rows → row.period.start < row.period.end
+      → (m : ℕ) × (covers period m ≡ true) × In (map shown row.values.items) (relation m)
+  row_holds row i some = step (covers period row.period.start) refl
+    where
+      here : In (map shown row.values.items) (rows_at rows row.period.start)
+      here = (in_at row_cmp row_exact (entries_of rows) (map shown row.values.items)
+          row.period.start).1 (
+            entry_of row,
+            in_map entry_of row rows i,
+            refl,
+            (covers_is row.period row.period.start).1 (omega arith, some),
+          )
+
+      step : (b : Bool) → covers period row.period.start ≡ b
+          → (m : ℕ) × (covers period m ≡ true) × In (map shown row.values.items) (relation m)
+      step true e = (
+        row.period.start,
+        e,
+        subst (λ (r : Relation). In (map shown row.values.items) r) (inside row.period.start e)
+            here,
+      )
+      step false e = absurd (subst (λ (r : Relation). In (map shown row.values.items) r)
+          (outside row.period.start e) here)
+
+  -- where in each row of it each output whose column is lent is a plain column, the rows lend these
+  -- columns
+  pub piece_lends : (lent : Lent) (columns : List AtomColumn) (outs : List Tree)
+      → ((row : TimedRow) → In row rows → row.period.start < row.period.end)
+      → ((m : ℕ) → covers period m ≡ true → (row : Row) → In row (relation m)
+      → ArePlainIn lent columns outs row)
+      → AllStayBorrowed all_lent outs rows → RowsLend lent columns rows
+  piece_lends lent columns outs some plain l = all_members (RowLends lent columns) rows (λ row i.
+      let h = row_holds row i (some row i) in
+      plain_lends lent columns outs row.values.items
+      (plain h.0 h.1 (map shown row.values.items) h.2)
+      (each_member (StaysBorrowed all_lent outs) rows row i l))
 
 pub each_joined : (so : List Val → Type 0) (old news new : List TimedRow) → new ≡ old ++ news
     → EachRow so old → EachRow so news → EachRow so new
 each_joined so old news new e l k = subst (EachRow so) (sym e) (each_both so old news l k)
 
-pub piece_at : (lent : Lent) (columns : List AtomColumn) (pieces : List Piece) (i : ℕ) (p : Piece)
-    → i < length pieces → p ≡ get_or pieces i p → AllPlain lent columns (pieces_of pieces)
-    → ArePlain lent columns (out_trees (piece_of p).outs)
-piece_at lent columns [] i p below is h = absurd (omega arith)
-piece_at lent columns (x ∷ pieces) zero p below is h = h (piece_of p) (inl (ap piece_of (sym is)))
-piece_at lent columns (x ∷ pieces) (suc i) p below is h =
-    piece_at lent columns pieces i p (omega arith) is (λ q m. h q (inr m))
-
 -- ---- the pieces of a table
 
 -- what is said of each piece that is not dead is said of each that is planned
-pub plan_plain : (versions : List PlainVersion) (book : Book) (q : ℕ) (table : List ℕ) (r : Read)
-    (branch atom : ℕ) (parts : List Part) (plan : List PartPieces) (lent : Lent)
-    (columns : List AtomColumn) → ArePlanned book versions q table r parts plan
+pub plan_plain : (kept : Kept) (versions : List PlainVersion) (book : Book) (q : ℕ)
+    (table : List ℕ) (r : Read) (branch atom : ℕ) (parts : List Part) (plan : List PartPieces)
+    (lent : Lent) (columns : List AtomColumn) → ArePlanned book versions q table r parts plan
     → ((e : PlainExplained) → IsAlive versions (table_pieces book versions q table r branch atom
-    parts) e → ArePlain lent columns (out_trees e.piece.outs))
-    → (x : PartPieces) → In x plan → AllPlain lent columns (pieces_of x.pieces.items)
-plan_plain versions book q table r branch atom parts plan lent columns planned h x m = λ p k.
+    parts) e → IsPlainIn kept lent columns e)
+    → (x : PartPieces) → In x plan
+    → AllPlainIn kept x.part.1 x.part.0 lent columns (pieces_of x.pieces.items)
+plan_plain kept versions book q table r branch atom parts plan lent columns planned h x m = λ p k.
     h (explained_in branch atom x.part p)
     (in_alive versions (table_pieces book versions q table r branch atom parts)
     (planned_pieces branch atom plan) (explained_in branch atom x.part p)
@@ -115,59 +138,21 @@ plan_plain versions book q table r branch atom parts plan lent columns planned h
     (in_flat_map (own_pieces branch atom) x (explained_in branch atom x.part p) plan m
     (in_map (explained_in branch atom x.part) p (pieces_of x.pieces.items) k)))
 
--- ---- a column that no piece computes
-
-both_true : (a b : Bool) → (a && b) ≡ true → (a ≡ true) × (b ≡ true)
-both_true true true e = (refl, refl)
-both_true true false e = absurd (cc)
-both_true false b e = absurd (cc)
-
-neither : (a b : Bool) → (a || b) ≡ false → (a ≡ false) × (b ≡ false)
-neither false false e = (refl, refl)
-neither false true e = absurd (cc)
-neither true b e = absurd (cc)
-
-second_false : (a b : Bool) → a ≡ true → not (a && b) ≡ true → b ≡ false
-second_false a true e h = absurd (cc)
-second_false a false e h = refl
-
-first_true : (a b : Bool) → a ≡ true → (a && not b) ≡ false → b ≡ true
-first_true a true e h = refl
-first_true a false e h = absurd (cc)
-
-not_computed : (branch place : ℕ) (n : List ℕ) (v : Value) (pieces : List PlainExplained)
-    (e : PlainExplained) → In e pieces → e.branch ≡ branch → e.atom ≡ place + 1
-    → lent_by pieces branch (AtAtom place) n v ≡ true → computes n e.piece.outs ≡ false
-not_computed branch place n v [] e m b a h = absurd m
-not_computed branch place n v (x ∷ pieces) e (inl i) b a h =
-    let own : is_of branch (AtAtom place) x ≡ true =
-    subst (λ (y : PlainExplained). is_of branch (AtAtom place) y ≡ true) (sym i)
-    (grind (arith, nat_tests)) in
-    subst (λ (y : PlainExplained). computes n y.piece.outs ≡ false) i
-    (second_false (is_of branch (AtAtom place) x) (computes n x.piece.outs) own
-    (both_true (not (is_of branch (AtAtom place) x && computes n x.piece.outs))
-    (lent_by pieces branch (AtAtom place) n v) h).0)
-not_computed branch place n v (x ∷ pieces) e (inr m) b a h =
-    not_computed branch place n v pieces e m b a
-    (both_true (not (is_of branch (AtAtom place) x && computes n x.piece.outs))
-    (lent_by pieces branch (AtAtom place) n v) h).1
+-- ---- outputs and columns of one name
 
 -- outputs with the names of columns, in their order
 plain_by_names : (lent : Lent) (place : ℕ) (columns : List Column) (outs : List (List ℕ × Tree))
-    → out_names outs ≡ names_of columns
-    → ((n : List ℕ) → (v : Value) → lent (AtAtom place) n v ≡ true → computes n outs ≡ false)
-    → ArePlain lent (columns_at place columns) (out_trees outs)
-plain_by_names lent place [] [] e h = tt
-plain_by_names lent place [] (o ∷ outs) e h = absurd (cc)
-plain_by_names lent place (c ∷ columns) [] e h = absurd (cc)
-plain_by_names lent place (c ∷ columns) (o ∷ outs) e h =
+    (row : Row) → out_names outs ≡ names_of columns → SparesRow lent place outs row
+    → ArePlainIn lent (columns_at place columns) (out_trees outs) row
+plain_by_names lent place [] [] row e s = tt
+plain_by_names lent place [] (o ∷ outs) row e s = absurd (cc)
+plain_by_names lent place (c ∷ columns) [] row e s = absurd (cc)
+plain_by_names lent place (c ∷ columns) (o ∷ outs) [] e s = tt
+plain_by_names lent place (c ∷ columns) (o ∷ outs) (x ∷ row) e s =
     let first : o.0 ≡ c.0 = cc in
     let more : out_names outs ≡ names_of columns = cc in (
-      λ v so. first_true (same o.0 c.0) (is_plain o.1)
-          (ap (λ (n : List ℕ). same n c.0) first ∙ same_itself c.0)
-          (neither (same o.0 c.0 && not (is_plain o.1)) (computes c.0 outs) (h c.0 v so)).0,
-      plain_by_names lent place columns outs more
-          (λ n v so. (neither (same o.0 n && not (is_plain o.1)) (computes n outs) (h n v so)).1),
+      subst (λ (n : List ℕ). lent (AtAtom place) n x ≡ true → is_plain o.1 ≡ true) first s.0,
+      plain_by_names lent place columns outs row more s.1,
     )
 
 -- ---- the names of a piece's outputs
@@ -198,31 +183,29 @@ module _ (versions : List PlainVersion) (book : Book) (valid : IsValidBook book)
       ∙ names_typed after (map own_column r.names)
       ∙ own_names r.names
 
-  -- so those are plain columns that no piece of the item computes
-  pub item_plain : (columns : List Column) → names_of columns ≡ r.names → (branch place : ℕ)
-      (pieces : List PlainExplained) → HaveLiving versions
-      (table_pieces book versions route.asked table r branch (place + 1) route.parts.items) pieces
-      → (e : PlainExplained) → IsAlive versions
+  -- so what is lent of a piece that computes nothing of it is plain in each of its rows
+  pub item_plain : (kept : Kept) (columns : List Column) → names_of columns ≡ r.names
+      → (branch place : ℕ) (lents : Lents) (e : PlainExplained) → IsAlive versions
       (table_pieces book versions route.asked table r branch (place + 1) route.parts.items) e
-      → ArePlain (lent_by pieces branch) (columns_at place columns) (out_trees e.piece.outs)
-  item_plain columns named_so branch place pieces living e alive =
+      → Spares kept lents e → IsPlainIn kept (lents branch) (columns_at place columns) e
+  item_plain kept columns named_so branch place lents e alive spares m inside row i =
       let part = from_flat_map (part_pieces book versions route.asked table r branch (place + 1)) e
       route.parts.items alive.among in
       let made = from_map (explained_in branch (place + 1) part.0) e
       (unfolded_to book versions part.0.1 route.asked (first_piece table r ∷ [])) part.2 in
-      plain_by_names (lent_by pieces branch) place columns e.piece.outs
+      plain_by_names (lents branch) place columns e.piece.outs row
       (subst (λ (x : PlainExplained). out_names x.piece.outs ≡ names_of columns) made.2
       (piece_names part.0 part.1 made.0 made.1 ∙ sym named_so))
-      (λ n v so. not_computed branch place n v pieces e (living e alive)
+      (subst (λ (b : ℕ). SparesRow (lents b) place e.piece.outs row)
       (ap (λ (x : PlainExplained). x.branch) (sym made.2))
-      (ap (λ (x : PlainExplained). x.atom) (sym made.2)) so)
+      (spares place (ap (λ (x : PlainExplained). x.atom) (sym made.2)) m inside row i))
 
 -- ---- pieces of two lists
 
-module _ (versions : List PlainVersion) (pieces : List PlainExplained) where
-  pub living_both : (xs ys : List PlainExplained) → HaveLiving versions (xs ++ ys) pieces
-      → HaveLiving versions xs pieces × HaveLiving versions ys pieces
-  living_both xs ys h = (
+module _ (kept : Kept) (lents : Lents) where
+  pub spare_both : (xs ys : List PlainExplained) → AllSpare kept lents (xs ++ ys)
+      → AllSpare kept lents xs × AllSpare kept lents ys
+  spare_both xs ys h = (
     λ e a. h e (record { among = in_left e xs ys a.among; alive = a.alive }),
     λ e a. h e (record { among = in_right e xs ys a.among; alive = a.alive }),
   )
@@ -231,39 +214,34 @@ module _ (versions : List PlainVersion) (pieces : List PlainExplained) where
     -- of the items that are left, those of the next and of those after it
     pub next_item : (references : List ColRef) (cond : Test) (branch : ℕ) (from : List Item) (i : ℕ)
         (x : Item) → i < length from → x ≡ get_or from i x
-        → HaveLiving versions (items_pieces book versions q parts references cond branch i
-        (drop i from)) pieces
-        → HaveLiving versions (table_pieces book versions q x.0 (own_read i references cond)
-        branch (i + 1) parts) pieces × HaveLiving versions
-        (items_pieces book versions q parts references cond branch (i + 1) (drop (i + 1) from))
-        pieces
+        → AllSpare kept lents (items_pieces book (versions_in kept) q parts references cond branch i
+        (drop i from))
+        → AllSpare kept lents (table_pieces book (versions_in kept) q x.0 (own_read i references cond)
+        branch (i + 1) parts) × AllSpare kept lents (items_pieces book (versions_in kept) q parts references cond branch (i + 1) (drop (i + 1) from))
     next_item references cond branch from i x below is h =
-        living_both (table_pieces book versions q x.0 (own_read i references cond) branch (i + 1)
-        parts) (items_pieces book versions q parts references cond branch (i + 1)
+        spare_both (table_pieces book (versions_in kept) q x.0 (own_read i references cond) branch (i + 1)
+        parts) (items_pieces book (versions_in kept) q parts references cond branch (i + 1)
         (drop (i + 1) from))
-        (subst (λ (xs : List Item). HaveLiving versions
-        (items_pieces book versions q parts references cond branch i xs) pieces)
+        (subst (λ (xs : List Item). AllSpare kept lents (items_pieces book (versions_in kept) q parts references cond branch i xs))
         (left_is from i x below is) h)
 
     pub next_branch : (branches : List Branch) (i : ℕ) (b : Branch) → i < length branches
         → b ≡ get_or branches i b → (number : ℕ)
-        → HaveLiving versions (branches_pieces book versions q parts (number + i)
-        (branches_of (drop i branches))) pieces
-        → HaveLiving versions (branch_pieces book versions q parts (number + i)
-        (branch_of b)) pieces × HaveLiving versions
-        (branches_pieces book versions q parts (number + (i + 1))
-        (branches_of (drop (i + 1) branches))) pieces
+        → AllSpare kept lents (branches_pieces book (versions_in kept) q parts (number + i)
+        (branches_of (drop i branches)))
+        → AllSpare kept lents (branch_pieces book (versions_in kept) q parts (number + i)
+        (branch_of b)) × AllSpare kept lents (branches_pieces book (versions_in kept) q parts (number + (i + 1))
+        (branches_of (drop (i + 1) branches)))
     next_branch branches i b below is number h =
         let e : (number + i) + 1 ≡ number + (i + 1) = omega arith in
-        subst (λ (n : ℕ). HaveLiving versions
-        (branch_pieces book versions q parts (number + i) (branch_of b)) pieces
-        × HaveLiving versions (branches_pieces book versions q parts n
-        (branches_of (drop (i + 1) branches))) pieces) e
-        (living_both (branch_pieces book versions q parts (number + i) (branch_of b))
-        (branches_pieces book versions q parts ((number + i) + 1)
+        subst (λ (n : ℕ). AllSpare kept lents (branch_pieces book (versions_in kept) q parts (number + i) (branch_of b))
+        × AllSpare kept lents (branches_pieces book (versions_in kept) q parts n
+        (branches_of (drop (i + 1) branches)))) e
+        (spare_both (branch_pieces book (versions_in kept) q parts (number + i) (branch_of b))
+        (branches_pieces book (versions_in kept) q parts ((number + i) + 1)
         (branches_of (drop (i + 1) branches)))
-        (subst (λ (es : List PlainExplained). HaveLiving versions es pieces)
-        (branches_left branches i b below is book versions q parts (number + i)) h))
+        (subst (λ (es : List PlainExplained). AllSpare kept lents es)
+        (branches_left branches i b below is book (versions_in kept) q parts (number + i)) h))
 
 -- ---- atoms
 
@@ -278,7 +256,7 @@ atom_more lent atoms new a e l k = subst (AtomsLend lent) (sym e) (with_atom len
 
 -- ---- branches
 
--- each row of a branch is answered at its first moment, which is one of the slice
+-- each row of a branch is answered at a moment of the slice
 pub row_answered : (past : Past) (version : ℕ) (slice : Span) (b : PlainBranch)
     (rows : List TimedRow)
     → ((m : ℕ) → covers slice m ≡ true → rows_at rows m
@@ -286,61 +264,46 @@ pub row_answered : (past : Past) (version : ℕ) (slice : Span) (b : PlainBranch
     → ((m : ℕ) → covers slice m ≡ false → rows_at rows m ≡ [])
     → (row : TimedRow) → In row rows → row.period.start < row.period.end
     → IsAnswered past version slice b (map shown row.values.items)
-row_answered past version slice b rows answered outside row i some =
-    step (covers slice row.period.start) refl
-  where
-    here : In (map shown row.values.items) (rows_at rows row.period.start)
-    here = (in_at row_cmp row_exact (entries_of rows) (map shown row.values.items)
-        row.period.start).1 (
-          entry_of row,
-          in_map entry_of row rows i,
-          refl,
-          (covers_is row.period row.period.start).1 (omega arith, some),
-        )
-
-    step : (inside : Bool) → covers slice row.period.start ≡ inside
-        → IsAnswered past version slice b (map shown row.values.items)
-    step true e = (
-      row.period.start,
-      e,
+row_answered past version slice b rows inside outside row i some =
+    let h = row_holds (λ m. set_of row_cmp
+    (branch_answers (tables_of past version) (migrated past m version) b)) slice rows inside outside
+    row i some in (
+      h.0,
+      h.1,
       from_set row_cmp row_exact (map shown row.values.items)
-          (branch_answers (tables_of past version) (migrated past row.period.start version) b)
-          (subst (λ (r : Relation). In (map shown row.values.items) r)
-          (answered row.period.start e) here),
+          (branch_answers (tables_of past version) (migrated past h.0 version) b) h.2,
     )
-    step false e = absurd (subst (λ (r : Relation). In (map shown row.values.items) r)
-        (outside row.period.start e) here)
 
-module _ (answers : PlainBranch → Row → Type 0) (pieces : List PlainExplained) where
+module _ (answers : PlainBranch → Row → Type 0) (lents : Lents) where
   -- values of one of the branches are so of all of them
   among_branches : (number : ℕ) (branches : List Branch) (i : ℕ) (b : Branch)
       → i < length branches → b ≡ get_or branches i b → (values : List Val)
       → answers (branch_of b) (map shown values)
-      → StaysBorrowed (lent_by pieces (number + i)) (branch_of b).outs values
-      → IsBorrowedBy answers pieces number (branches_of branches) values
+      → StaysBorrowed (lents (number + i)) (branch_of b).outs values
+      → IsBorrowedBy answers lents number (branches_of branches) values
   among_branches number [] i b below is values a s = absurd (omega arith)
   among_branches number (x ∷ branches) zero b below is values a s =
       let e : number + 0 ≡ number = omega arith in
       inl (
         subst (λ (y : Branch). answers (branch_of y) (map shown values)) is a,
-        subst (λ (n : ℕ). StaysBorrowed (lent_by pieces n) (branch_of x).outs values) e
-            (subst (λ (y : Branch). StaysBorrowed (lent_by pieces (number + 0)) (branch_of y).outs
+        subst (λ (n : ℕ). StaysBorrowed (lents n) (branch_of x).outs values) e
+            (subst (λ (y : Branch). StaysBorrowed (lents (number + 0)) (branch_of y).outs
             values) is s),
       )
   among_branches number (x ∷ branches) (suc i) b below is values a s =
       let e : number + suc i ≡ (number + 1) + i = omega arith in
       inr (among_branches (number + 1) branches i b (omega arith) is values a
-      (subst (λ (n : ℕ). StaysBorrowed (lent_by pieces n) (branch_of b).outs values) e s))
+      (subst (λ (n : ℕ). StaysBorrowed (lents n) (branch_of b).outs values) e s))
 
   pub branch_more : (number : ℕ) (branches : List Branch) (i : ℕ) (b : Branch)
       → i < length branches → b ≡ get_or branches i b → (old news new : List TimedRow)
       → new ≡ old ++ news
-      → EachRow (IsBorrowedBy answers pieces number (branches_of branches)) old
+      → EachRow (IsBorrowedBy answers lents number (branches_of branches)) old
       → ((row : TimedRow) → In row news → answers (branch_of b) (map shown row.values.items))
-      → AllStayBorrowed (lent_by pieces (number + i)) (branch_of b).outs news
-      → EachRow (IsBorrowedBy answers pieces number (branches_of branches)) new
+      → AllStayBorrowed (lents (number + i)) (branch_of b).outs news
+      → EachRow (IsBorrowedBy answers lents number (branches_of branches)) new
   branch_more number branches i b below is old news new e l a s =
-      each_joined (IsBorrowedBy answers pieces number (branches_of branches)) old news new e l
-      (all_members (IsBorrowedBy answers pieces number (branches_of branches)) news
+      each_joined (IsBorrowedBy answers lents number (branches_of branches)) old news new e l
+      (all_members (IsBorrowedBy answers lents number (branches_of branches)) news
       (λ row m. among_branches number branches i b below is row.values.items (a row m)
-      (each_member (StaysBorrowed (lent_by pieces (number + i)) (branch_of b).outs) news row m s)))
+      (each_member (StaysBorrowed (lents (number + i)) (branch_of b).outs) news row m s)))

@@ -16,6 +16,8 @@ use Rattle.smo_types.specs.Commands.{PlainVersion}
 use Rattle.smo_meaning.specs.OneRow.{Row, Relation}
 use Rattle.smo_meaning.specs.Past.{Past, tables_of, database_at}
 use Rattle.cond_expr.specs.declared.expr.ColRef.{ColRef}
+use Rattle.cond_expr.specs.declared.expr.Column.{Column as AtomColumn}
+use Rattle.timed_choices.specs.Lending.{Lent}
 use Rattle.history_store.specs.Store.{Store}
 use Rattle.version_groups.specs.Groups.{Kept, versions_in, table_in}
 use Rattle.version_groups.specs.NewestTables.{rows_stored}
@@ -31,6 +33,7 @@ use Rattle.join_exec.specs.Pieces.{columns_stored, stored_columns, stored_rows, 
 use Rattle.join_exec.specs.Pieces.{reads_stored, atoms_read, piece_reads}
 use Rattle.join_exec.proofs.PieceAtoms.{meaning_shown}
 use Rattle.query_exec.specs.declared.part_piece.PartPieces.{PartPieces}
+use Rattle.query_exec.specs.Borrowed.{AllPlainIn}
 use Rattle.query_exec.specs.Planned.{planned_spans}
 use Rattle.query_exec.specs.Reads.{pieces_read, part_read}
 use Rattle.query_exec.specs.Routes.{IsOwn}
@@ -246,6 +249,22 @@ module _ (kept : Kept) (first : PartPieces) (more : List PartPieces) (period : S
         means = ap (all_mean (tables_of past x.0.part.1) (database_at past m)) (sym g.pieces)
             ∙ means x.0 x.1 m inside;
       }
+
+  -- what is plain in the rows of each of its parts is so in those of the run
+  pub run_plain : (lent : Lent) (columns : List AtomColumn)
+      → ((x : PartPieces) → In x (first ∷ more)
+      → AllPlainIn kept x.part.1 x.part.0 lent columns (pieces_of x.pieces.items))
+      → AllPlainIn kept first.part.1 period lent columns (pieces_of first.pieces.items)
+  run_plain lent columns h p i m c row j =
+      let s = run.within m c in
+      let x = from_map (λ (y : PartPieces). y.part.0) s.0 (first ∷ more) s.1 in
+      let g = goes x.0 x.1 in
+      let inside : covers x.0.part.0 m ≡ true =
+      subst (λ (t : Span). covers t m ≡ true) (sym x.2) s.2 in
+      let among : In p (pieces_of x.0.pieces.items) =
+      subst (λ (ps : List PlainPiece). In p ps) (sym g.pieces) i in
+      h x.0 x.1 p among m inside row
+      (subst (λ (r : Relation). In row r) (run_rows kept first x.0 g p among m) j)
 
 -- ---- the runs of a plan, one after the other
 

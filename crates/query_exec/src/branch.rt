@@ -1,10 +1,9 @@
 //! Branches of a query, answered over what is read of their items' tables.
 
-ghost use Rattle.std.specs.Prelude.{◌≡◌, ℕ, ◌+◌, ◌<◌, ◌≤◌, List, [], length, true, false, IfOk};
+ghost use Rattle.std.specs.Prelude.{◌≡◌, ℕ, ◌+◌, ◌≤◌, List, [], length, true, false, IfOk};
 ghost use Rattle.std.specs.List.{flat_map};
-ghost use Rattle.relations.specs.Sets.{In, set_of};
+ghost use Rattle.relations.specs.Sets.{set_of};
 ghost use Rattle.relations.specs.Spans.{covers};
-ghost use Rattle.prima_base.specs.declared.timed_row.TimedRow.{TimedRow as OneRow};
 ghost use Rattle.prima_base.specs.Order.{row_cmp};
 ghost use Rattle.prima_base.specs.Timed.{rows_at};
 ghost use Rattle.cond_expr.specs.References.{borrowed};
@@ -23,15 +22,15 @@ ghost use Rattle.query_exec.specs.QueryPieces.{items_pieces, branch_pieces, bran
 ghost use Rattle.query_exec.specs.QueryPieces.{AreAlive, IsAlive};
 ghost use Rattle.timed_choices.specs.Lending.{EachRow, AllStayBorrowed};
 ghost use Rattle.joining.specs.Sources.{AtomsLend};
-ghost use Rattle.query_exec.specs.Borrowed.{lent_by, IsAnswered, IsBorrowedBy, HaveLiving};
+ghost use Rattle.query_exec.specs.Borrowed.{Lents, IsAnswered, IsBorrowedBy, AllSpare};
 ghost use Rattle.query_exec.specs.Reads.{explained_read, reads_of};
 
 use crate::item::read_item;
-use crate::piece::put_rows;
+use crate::piece::{have_moments, put_rows};
 use crate::route::Route;
 use cond_expr::{ColRef, Cond, gather_references};
 use joining::{Atom, answer_choices};
-use prima_base::{Name, NoMemory, Period, Steps, TimedRow};
+use prima_base::{Name, NoMemory, Steps, TimedRow};
 use rule_book::{Rule, RuleBook};
 use schema_catalog::Schema;
 use std::alloc::Global;
@@ -61,12 +60,12 @@ fn read_items<'a, L: Ledger>(
     ensures atoms { (past : Past) → Represents groups.now past
         → IfOk result (λ atoms. AreRead past route.now (borrowed references.now) (test cond.now) 0
         from.now atoms.items) }
-    ensures borrowed { (branch : ℕ) → (pieces : List PlainExplained)
-        → HaveLiving (versions_in groups.now)
+    ensures borrowed { (branch : ℕ) → (lents : Lents)
+        → AllSpare groups.now lents
         (items_pieces (meaning_of book.now.rules.items (λ r. handles (r.vtable, r.value))
         (λ r. answers (r.vtable, r.value))) (versions_in groups.now) route.now.asked
-        route.now.parts.items (borrowed references.now) (test cond.now) branch 0 from.now) pieces
-        → IfOk result (λ atoms. AtomsLend (lent_by pieces branch) atoms.items) }
+        route.now.parts.items (borrowed references.now) (test cond.now) branch 0 from.now)
+        → IfOk result (λ atoms. AtomsLend (lents branch) atoms.items) }
     ensures cost { (branch : ℕ) → (alive : List PlainExplained)
         → AreAlive (versions_in groups.now) (items_pieces
         (meaning_of book.now.rules.items (λ r. handles (r.vtable, r.value))
@@ -115,12 +114,12 @@ fn answer_branch<'a, L: Ledger>(
         (migrated past m route.now.asked) (branch_of branch.now))) }
     ensures inside { (m : ℕ) → covers route.now.slice m ≡ false
         → IfOk result (λ rows. rows_at rows.items m ≡ []) }
-    ensures borrowed { (number : ℕ) → (pieces : List PlainExplained)
-        → HaveLiving (versions_in groups.now)
+    ensures borrowed { (number : ℕ) → (lents : Lents)
+        → AllSpare groups.now lents
         (branch_pieces (meaning_of book.now.rules.items (λ r. handles (r.vtable, r.value))
         (λ r. answers (r.vtable, r.value))) (versions_in groups.now) route.now.asked
-        route.now.parts.items number (branch_of branch.now)) pieces
-        → IfOk result (λ rows. AllStayBorrowed (lent_by pieces number) (branch_of branch.now).outs
+        route.now.parts.items number (branch_of branch.now))
+        → IfOk result (λ rows. AllStayBorrowed (lents number) (branch_of branch.now).outs
         rows.items) }
     ensures cost { (number : ℕ) → (alive : List PlainExplained)
         → AreAlive (versions_in groups.now) (branch_pieces
@@ -152,22 +151,6 @@ fn answer_branch<'a, L: Ledger>(
     answer_choices(alloc, &branch.outs, &branch.cond, atoms, route.slice)
 }
 
-// A period has a moment: its start.
-fn has_moments(period: Period)
-    ensures { period.start < period.end }
-{
-    let _start = period.start();
-}
-
-// So has each row.
-fn have_moments(rows: &[TimedRow<'_>])
-    ensures { (row : OneRow) → In row rows.now → row.period.start < row.period.end }
-{
-    for row in rows {
-        has_moments(row.period);
-    }
-}
-
 /// What branches answer at each moment of the slice, all together.
 pub(crate) fn answer_branches<'a, L: Ledger>(
     alloc: Global,
@@ -189,12 +172,12 @@ pub(crate) fn answer_branches<'a, L: Ledger>(
         ≡ plain (tables_of past route.now.asked) (branches_of branches.now)
         (migrated past m route.now.asked)) }
     ensures borrowed { (past : Past) → Represents groups.now past → (number : ℕ)
-        → (pieces : List PlainExplained) → HaveLiving (versions_in groups.now)
+        → (lents : Lents) → AllSpare groups.now lents
         (branches_pieces (meaning_of book.now.rules.items (λ r. handles (r.vtable, r.value))
         (λ r. answers (r.vtable, r.value))) (versions_in groups.now) route.now.asked
-        route.now.parts.items number (branches_of branches.now)) pieces
+        route.now.parts.items number (branches_of branches.now))
         → IfOk result (λ rows. EachRow (IsBorrowedBy
-        (IsAnswered past route.now.asked route.now.slice) pieces number (branches_of branches.now))
+        (IsAnswered past route.now.asked route.now.slice) lents number (branches_of branches.now))
         rows.items) }
     ensures cost { (number : ℕ) → (alive : List PlainExplained)
         → AreAlive (versions_in groups.now) (branches_pieces

@@ -1,9 +1,11 @@
 //! Pieces that stand at a version, run over its stored tables, also at moments of other versions
 //! that share these.
 
-ghost use Rattle.std.specs.Prelude.{◌≡◌, ℕ, ◌+◌, ◌≤◌, ◌++◌, List, [], ◌∷◌, true, false, IfOk, OnOk};
+ghost use Rattle.std.specs.Prelude.{◌≡◌, ℕ, ◌+◌, ◌<◌, ◌≤◌, ◌++◌, List, [], ◌∷◌, true, false, IfOk, OnOk};
 ghost use Rattle.std.specs.Prelude.{length};
+ghost use Rattle.relations.specs.Sets.{In};
 ghost use Rattle.relations.specs.Spans.{Span, covers};
+ghost use Rattle.prima_base.specs.declared.timed_row.TimedRow.{TimedRow as OneRow};
 ghost use Rattle.prima_base.specs.Timed.{rows_at, entries_of};
 ghost use Rattle.smo_meaning.specs.OneRow.{Relation};
 ghost use Rattle.smo_meaning.specs.Past.{Past, tables_of};
@@ -14,7 +16,7 @@ ghost use Rattle.query_pieces.specs.Gathering.{IsGathered};
 ghost use Rattle.query_exec.specs.Runs.{IsMeant};
 ghost use Rattle.cond_expr.specs.declared.expr.Column.{Column as AtomColumn};
 ghost use Rattle.timed_choices.specs.Lending.{Lent, RowsLend};
-ghost use Rattle.query_exec.specs.Borrowed.{AllPlain};
+ghost use Rattle.query_exec.specs.Borrowed.{AllPlainIn};
 ghost use Rattle.query_exec.specs.Reads.{pieces_read};
 
 use join_exec::run_piece;
@@ -41,6 +43,22 @@ pub(crate) fn put_rows<'a>(
     Ok(())
 }
 
+// A period has a moment: its start.
+fn has_moments(period: Period)
+    ensures { period.start < period.end }
+{
+    let _start = period.start();
+}
+
+/// Each row has a moment, the first of its period. So nothing is done here.
+pub(crate) fn have_moments(rows: &[TimedRow<'_>])
+    ensures { (row : OneRow) → In row rows.now → row.period.start < row.period.end }
+{
+    for row in rows {
+        has_moments(row.period);
+    }
+}
+
 // What pieces over a version mean in the period, all together.
 fn run_pieces<'a, L: Ledger>(
     alloc: Global,
@@ -58,7 +76,7 @@ fn run_pieces<'a, L: Ledger>(
     ensures inside { (m : ℕ) → covers period m ≡ false
         → IfOk result (λ rows. rows_at rows.items m ≡ []) }
     ensures borrowed { (lent : Lent) → (columns : List AtomColumn)
-        → AllPlain lent columns (pieces_of pieces.now)
+        → AllPlainIn groups.now version period lent columns (pieces_of pieces.now)
         → IfOk result (λ rows. RowsLend lent columns rows.items) }
     ensures cost { steps.new ≤ steps.old + pieces_read groups.now version (pieces_of pieces.now) }
     ensures counted { IfOk result (λ _. steps.new
@@ -68,6 +86,7 @@ fn run_pieces<'a, L: Ledger>(
     let mut rows = Vec::new(alloc);
     for piece in pieces {
         let news = run_piece(alloc, groups, version, piece, period, steps)?;
+        have_moments(&news);
         put_rows(&mut rows, news)?;
     }
     Ok(rows)
@@ -91,7 +110,8 @@ pub(crate) fn read_run<'a, L: Ledger>(
         → (spans : List Span) → IsGathered relation spans (entries_of rows.old.items)
         → OnOk result (IsGathered relation (spans ++ run.0 ∷ []) (entries_of rows.new.items)) }
     ensures borrowed { (lent : Lent) → (columns : List AtomColumn)
-        → AllPlain lent columns (pieces_of pieces.now) → RowsLend lent columns rows.old.items
+        → AllPlainIn groups.now run.1 run.0 lent columns (pieces_of pieces.now)
+        → RowsLend lent columns rows.old.items
         → OnOk result (RowsLend lent columns rows.new.items) }
     ensures cost { steps.new ≤ steps.old + pieces_read groups.now run.1 (pieces_of pieces.now) }
     ensures counted { OnOk result (steps.new ≡ steps.old + pieces_read groups.now run.1

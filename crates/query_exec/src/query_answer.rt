@@ -14,7 +14,7 @@ ghost use Rattle.version_groups.specs.Representation.{Represents};
 ghost use Rattle.rewrite.specs.Books.{meaning_of, EachOf};
 ghost use Rattle.query_exec.specs.Accepted.{IsAccepted, IsShown};
 ghost use Rattle.piece_texts.specs.ExplainedPieces.{PlainExplained};
-ghost use Rattle.query_exec.specs.Borrowed.{AreBorrowedBy};
+ghost use Rattle.query_exec.specs.Borrowed.{Lents, AreSpared, AreBorrowedBy};
 ghost use Rattle.query_exec.specs.QueryPieces.{ArePieces};
 ghost use Rattle.query_exec.specs.Reads.{explained_read, reads_of};
 
@@ -38,8 +38,8 @@ use version_groups::Groups;
 /// keys of the piece's tables and entries of the columns that it names of them: just the pieces
 /// that `explain` answers; and where it answers rows, at least as many as there are for any one of
 /// them. The texts of each output that is a plain column are borrowed by the stored tables, unless
-/// one of these pieces computes that column of its item: each row is so of one of the branches that
-/// answer it in the slice. The one error is `NoMemory`, where memory runs out.
+/// one of these pieces computes that text for the column of its item: each row is so of one of the
+/// branches that answer it in the slice. The one error is `NoMemory`, where memory runs out.
 pub fn answer<'a, L: Ledger>(
     alloc: Global,
     groups: &'a Groups,
@@ -61,7 +61,8 @@ pub fn answer<'a, L: Ledger>(
     ensures borrowed { (past : Past) → Represents groups.now past → (pieces : List PlainExplained)
         → ArePieces (meaning_of book.now.rules.items (λ r. handles (r.vtable, r.value))
         (λ r. answers (r.vtable, r.value))) (versions_in groups.now) (query_of query.now) pieces
-        → IfOk result (λ rows. AreBorrowedBy past (query_of query.now) pieces rows.items) }
+        → (lents : Lents) → AreSpared groups.now lents pieces
+        → IfOk result (λ rows. AreBorrowedBy past (query_of query.now) lents rows.items) }
     ensures cost { (pieces : List PlainExplained)
         → ArePieces (meaning_of book.now.rules.items (λ r. handles (r.vtable, r.value))
         (λ r. answers (r.vtable, r.value))) (versions_in groups.now) (query_of query.now) pieces

@@ -11,7 +11,7 @@ ghost use Rattle.smo_meaning.specs.OneRow.{Relation};
 ghost use Rattle.smo_meaning.specs.Past.{Past, tables_of, database_at};
 ghost use Rattle.version_groups.specs.Groups.{versions_in};
 ghost use Rattle.version_groups.specs.Representation.{Represents};
-ghost use Rattle.piece_meaning.specs.Pieces.{all_mean, out_trees};
+ghost use Rattle.piece_meaning.specs.Pieces.{all_mean};
 ghost use Rattle.piece_meaning.specs.Typed.{AllTyped};
 ghost use Rattle.piece_ir.specs.Shown.{pieces_of};
 ghost use Rattle.rewrite.specs.Books.{meaning_of, EachOf};
@@ -23,7 +23,7 @@ ghost use Rattle.piece_texts.specs.ExplainedPieces.{PlainExplained};
 ghost use Rattle.query_exec.specs.QueryPieces.{table_pieces, AreAlive, IsAlive};
 ghost use Rattle.cond_expr.specs.declared.expr.Column.{Column as AtomColumn};
 ghost use Rattle.timed_choices.specs.Lending.{Lent, RowsLend};
-ghost use Rattle.query_exec.specs.Borrowed.{ArePlain, AllPlain};
+ghost use Rattle.query_exec.specs.Borrowed.{IsPlainIn, AllPlainIn};
 ghost use Rattle.query_exec.specs.Routes.{IsOwn, IsRoute, MayBeRead};
 ghost use Rattle.query_exec.specs.Reads.{part_read, explained_read, reads_of};
 ghost use Rattle.query_exec.specs.Totals.{total};
@@ -84,7 +84,8 @@ fn read_parts<'a, L: Ledger>(
         ≡ relation m)
         → IfOk result (λ rows. IsGathered relation (planned_spans plan.now) (entries_of rows.items)) }
     ensures borrowed { (lent : Lent) → (columns : List AtomColumn)
-        → ((x : OnePart) → In x plan.now → AllPlain lent columns (pieces_of x.pieces.items))
+        → ((x : OnePart) → In x plan.now
+        → AllPlainIn groups.now x.part.1 x.part.0 lent columns (pieces_of x.pieces.items))
         → IfOk result (λ rows. RowsLend lent columns rows.items) }
     ensures cost { steps.new ≤ steps.old + total (part_read groups.now) plan.now }
     ensures least { (x : OnePart) → In x plan.now
@@ -111,7 +112,8 @@ fn read_parts<'a, L: Ledger>(
 
 /// What is asked of the table, migrated to the asked version, at each moment of the slice: each row
 /// with its longest periods, over the borders of versions too. Its pieces are read, each of them,
-/// and nothing else; the texts of outputs that are plain columns in each of them are borrowed.
+/// and nothing else; the texts that are those of a plain column in each of them that answers them
+/// are borrowed.
 pub(crate) fn read_table<'a, L: Ledger>(
     alloc: Global,
     groups: &'a Groups,
@@ -134,7 +136,7 @@ pub(crate) fn read_table<'a, L: Ledger>(
         (table_pieces (meaning_of book.now.rules.items (λ r. handles (r.vtable, r.value))
         (λ r. answers (r.vtable, r.value))) (versions_in groups.now) route.now.asked table.now
         (read_asked question.now) branch atom route.now.parts.items) e
-        → ArePlain lent columns (out_trees e.piece.outs))
+        → IsPlainIn groups.now lent columns e)
         → IfOk result (λ rows. RowsLend lent columns rows.items) }
     ensures cost { (branch : ℕ) → (atom : ℕ) → (alive : List PlainExplained)
         → AreAlive (versions_in groups.now) (table_pieces

@@ -82,13 +82,13 @@ returns-clause-cost g c = λ past shows pieces are.
     are)))
 
 pub returns-clause-borrowed : goal.returns-clause-borrowed
-returns-clause-borrowed g c = λ past shows pieces are.
+returns-clause-borrowed g c = λ past shows pieces are lents spared.
     let query = query_of c.args.query.now in
     let h : IsReady past query c.in_ok-atoms.atoms = c.in_ok-atoms.ensures past shows in
-    each_by_values (IsBorrowedBy (IsAnswered past query.version (slice_of query.when)) pieces 1
+    each_by_values (IsBorrowedBy (IsAnswered past query.version (slice_of query.when)) lents 1
     (query_asked past query).branches) c.in_ok-rows.rows.items c.keep.new.rows.items
     c.keep.ensures.values
-    (subst (λ (q : PlainQuery). AreBorrowedBy past q pieces c.in_ok-rows.rows.items) h.atoms
+    (subst (λ (q : PlainQuery). AreBorrowedBy past q lents c.in_ok-rows.rows.items) h.atoms
     (c.in_ok-rows.ensures.borrowed past shows pieces
     (subst (λ (q : PlainQuery). ArePieces (book_of
     (λ r. (goal.Rule-dyn g (r.vtable, r.value)).handles r.value)
@@ -102,7 +102,8 @@ returns-clause-borrowed g c = λ past shows pieces are.
     (book_of (λ r. (goal.Rule-dyn g (r.vtable, r.value)).handles r.value)
     (λ r. (goal.Rule-dyn g (r.vtable, r.value)).answers r.value) c.args.book.now.rules.items)
     past.versions (with_atoms (tables_of past query.version) query) pieces) pieces) h.accepted
-    are)))))
+    are)))
+    lents spared))
 
 pub returns-clause-least : goal.returns-clause-least
 returns-clause-least g c = λ past shows pieces are e m.

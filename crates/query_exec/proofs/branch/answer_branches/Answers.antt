@@ -13,7 +13,7 @@ use Rattle.query_types.specs.Branches.{branch_of, branches_of}
 use Rattle.query_types.specs.declared.branch.Branch.{Branch}
 use Rattle.query_exec.specs.QueryPieces.{branches_pieces, IsAlive}
 use Rattle.timed_choices.specs.Lending.{EachRow}
-use Rattle.query_exec.specs.Borrowed.{IsAnswered, IsBorrowedBy, HaveLiving}
+use Rattle.query_exec.specs.Borrowed.{IsAnswered, IsBorrowedBy, AllSpare}
 use Rattle.query_exec.specs.Reads.{reads_of}
 use Rattle.query_exec.proofs.AliveLaws.{Owes, owes_all, owes_within, IsLeftOrRead, all_read}
 use Rattle.query_exec.proofs.BranchRows.{none_answered, next_branch, branch_owes, branch_left}
@@ -29,15 +29,15 @@ loop-branch-init g c = record {
   rows = λ past shows m inside. ap (λ (rs : List TimedRow). rows_at rs m) c.new-rows.ensures.items
       ∙ none_answered (branch_answers (tables_of past c.args.route.now.asked)
       (migrated past m c.args.route.now.asked)) m;
-  borrowed = λ past shows number pieces h.
+  borrowed = λ past shows number lents h.
       let e : number ≡ number + 0 = omega arith in (
         subst (EachRow (IsBorrowedBy (IsAnswered past c.args.route.now.asked c.args.route.now.slice)
-            pieces number (branches_of c.args.branches.now))) (sym c.new-rows.ensures.items) tt,
-        subst (λ (n : ℕ). HaveLiving (versions_in c.args.groups.now)
+            lents number (branches_of c.args.branches.now))) (sym c.new-rows.ensures.items) tt,
+        subst (λ (n : ℕ). AllSpare c.args.groups.now lents
             (branches_pieces (book_of (λ r. (goal.Rule-dyn g (r.vtable, r.value)).handles r.value)
             (λ r. (goal.Rule-dyn g (r.vtable, r.value)).answers r.value)
             c.args.book.now.rules.items) (versions_in c.args.groups.now) c.args.route.now.asked
-            c.args.route.now.parts.items n (branches_of c.args.branches.now)) pieces) e h,
+            c.args.route.now.parts.items n (branches_of c.args.branches.now))) e h,
       );
   count = λ number alive h.
       let e : number ≡ number + 0 = omega arith in
@@ -88,21 +88,21 @@ loop-branch-preserved g c =
           c.in_ok-news.news.items c.put_rows.new.rows.items m c.in_ok-put_rows.ensures.items
           (c.loop-branch.invariant.rows past shows m inside)
           (c.in_ok-news.ensures.rows past shows m inside);
-      borrowed = λ past shows number pieces h.
-          let before = c.loop-branch.invariant.borrowed past shows number pieces h in
-          let both = next_branch_pieces (versions_in c.args.groups.now) pieces
+      borrowed = λ past shows number lents h.
+          let before = c.loop-branch.invariant.borrowed past shows number lents h in
+          let both = next_branch_pieces c.args.groups.now lents
           (book_of (λ r. (goal.Rule-dyn g (r.vtable, r.value)).handles r.value)
           (λ r. (goal.Rule-dyn g (r.vtable, r.value)).answers r.value)
           c.args.book.now.rules.items) c.args.route.now.asked c.args.route.now.parts.items bs i
           b below is number before.1 in (
-            branch_more (IsAnswered past c.args.route.now.asked c.args.route.now.slice) pieces
+            branch_more (IsAnswered past c.args.route.now.asked c.args.route.now.slice) lents
                 number bs i b below is c.loop-branch.rows.items c.in_ok-news.news.items
                 c.put_rows.new.rows.items c.in_ok-put_rows.ensures.items before.0
                 (λ row m. row_answered past c.args.route.now.asked c.args.route.now.slice
                 (branch_of b) c.in_ok-news.news.items (c.in_ok-news.ensures.rows past shows)
                 c.in_ok-news.ensures.inside row m (c.have_moments.ensures row
                 (subst (In row) (sym c.deref.ensures.value) m)))
-                (c.in_ok-news.ensures.borrowed (number + i) pieces both.0),
+                (c.in_ok-news.ensures.borrowed (number + i) lents both.0),
             both.1,
           );
       count = λ number alive h. branch_owes bs i b below is c.args.groups.now
@@ -190,8 +190,8 @@ returns-clause-cost g c = λ number alive h.
     (c.loop-branch.invariant.count number alive h)
 
 pub returns-clause-borrowed : goal.returns-clause-borrowed
-returns-clause-borrowed g c = λ past shows number pieces h.
-    (c.loop-branch.invariant.borrowed past shows number pieces h).0
+returns-clause-borrowed g c = λ past shows number lents h.
+    (c.loop-branch.invariant.borrowed past shows number lents h).0
 
 pub returns-clause-least : goal.returns-clause-least
 returns-clause-least g c = λ number e h.

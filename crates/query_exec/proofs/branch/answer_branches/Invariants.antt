@@ -12,7 +12,7 @@ use Rattle.query_types.specs.Branches.{branches_of}
 use Rattle.query_exec.specs.Accepted.{MayBranches}
 use Rattle.query_exec.specs.QueryPieces.{branches_pieces, AreAlive, IsAlive}
 use Rattle.timed_choices.specs.Lending.{EachRow}
-use Rattle.query_exec.specs.Borrowed.{IsAnswered, IsBorrowedBy, HaveLiving}
+use Rattle.query_exec.specs.Borrowed.{Lents, IsAnswered, IsBorrowedBy, AllSpare}
 use Rattle.query_exec.specs.Reads.{reads_of}
 use Rattle.query_exec.proofs.AliveLaws.{Owes, IsLeftOrRead}
 use Rattle.query_exec.proofs.branch.answer_branches.Given as goal
@@ -24,18 +24,17 @@ invariant-loop-branch g l = record {
       → rows_at l.rows.items m ≡ plain (tables_of past l.route.asked)
       (branches_of (take l.branch-index l.branches)) (migrated past m l.route.asked);
   borrowed : (past : Past) → Represents l.groups past → (number : ℕ)
-      → (pieces : List PlainExplained) → HaveLiving (versions_in l.groups)
+      → (lents : Lents) → AllSpare l.groups lents
       (branches_pieces (book_of (λ r. (goal.Rule-dyn g (r.vtable, r.value)).handles r.value)
       (λ r. (goal.Rule-dyn g (r.vtable, r.value)).answers r.value) l.book.rules.items)
       (versions_in l.groups) l.route.asked l.route.parts.items number (branches_of l.branches))
-      pieces
-      → EachRow (IsBorrowedBy (IsAnswered past l.route.asked l.route.slice) pieces number
+      → EachRow (IsBorrowedBy (IsAnswered past l.route.asked l.route.slice) lents number
       (branches_of l.branches)) l.rows.items
-      × HaveLiving (versions_in l.groups)
+      × AllSpare l.groups lents
       (branches_pieces (book_of (λ r. (goal.Rule-dyn g (r.vtable, r.value)).handles r.value)
       (λ r. (goal.Rule-dyn g (r.vtable, r.value)).answers r.value) l.book.rules.items)
       (versions_in l.groups) l.route.asked l.route.parts.items (number + l.branch-index)
-      (branches_of (drop l.branch-index l.branches))) pieces;
+      (branches_of (drop l.branch-index l.branches)));
   count : (number : ℕ) → (alive : List PlainExplained)
       → AreAlive (versions_in l.groups) (branches_pieces
       (book_of (λ r. (goal.Rule-dyn g (r.vtable, r.value)).handles r.value)

@@ -12,9 +12,8 @@ use Rattle.query_exec.specs.Asked.{read_asked}
 use Rattle.prima_base.specs.Columns.{Column}
 use Rattle.cond_expr.specs.declared.expr.Column.{Column as AtomColumn}
 use Rattle.cond_expr.specs.AtomColumns.{columns_at}
-use Rattle.piece_meaning.specs.Pieces.{out_trees}
 use Rattle.piece_texts.specs.ExplainedPieces.{PlainExplained}
-use Rattle.query_exec.specs.Borrowed.{lent_by, ArePlain}
+use Rattle.query_exec.specs.Borrowed.{IsPlainIn}
 use Rattle.query_exec.specs.Questions.{own_read}
 use Rattle.query_exec.specs.QueryPieces.{table_pieces, AreAlive, IsAlive}
 use Rattle.query_exec.specs.Routes.{MayBeRead}
@@ -81,7 +80,7 @@ returns-clause-cost g c = λ branch atom alive h. c.read_table.ensures.cost bran
     c.args.route.now.parts.items) alive) (sym c.in_ok-question.ensures) h)
 
 pub returns-clause-borrowed : goal.returns-clause-borrowed
-returns-clause-borrowed g c = λ branch pieces living.
+returns-clause-borrowed g c = λ branch lents spares.
     let past = c.requires.shows.0 in
     let shows = c.requires.shows.1 in
     let own : Read =
@@ -96,20 +95,20 @@ returns-clause-borrowed g c = λ branch pieces living.
     (read_asked c.in_ok-question.question) c.deref.result.now c.in_ok-columns.columns.items
     c.in_ok-rows.rows.items c.in_ok-columns.ensures c.deref.ensures.value
     c.in_ok-question.ensures (c.in_ok-rows.ensures.rows past shows) in
-    subst (λ (cs : List AtomColumn). RowsLend (lent_by pieces branch) cs c.in_ok-rows.rows.items)
+    subst (λ (cs : List AtomColumn). RowsLend (lents branch) cs c.in_ok-rows.rows.items)
     (sym are)
-    (c.in_ok-rows.ensures.borrowed branch (c.args.place + 1) (lent_by pieces branch)
+    (c.in_ok-rows.ensures.borrowed branch (c.args.place + 1) (lents branch)
     (columns_at c.args.place columns)
     (subst (λ (r : Read). (e : PlainExplained) → IsAlive (versions_in c.args.groups.now)
     (table_pieces book (versions_in c.args.groups.now) c.args.route.now.asked c.args.table.now r
     branch (c.args.place + 1) c.args.route.now.parts.items) e
-    → ArePlain (lent_by pieces branch) (columns_at c.args.place columns) (out_trees e.piece.outs))
+    → IsPlainIn c.args.groups.now (lents branch) (columns_at c.args.place columns) e)
     (sym c.in_ok-question.ensures)
-    (item_plain (versions_in c.args.groups.now) book c.known.ensures c.args.route.now
-    c.requires.route c.args.table.now own c.requires.read columns
+    (λ e alive. item_plain (versions_in c.args.groups.now) book c.known.ensures c.args.route.now
+    c.requires.route c.args.table.now own c.requires.read c.args.groups.now columns
     (item_names c.args.groups.now past shows c.args.route.now c.args.table.now own
     c.requires.read)
-    branch c.args.place pieces living)))
+    branch c.args.place lents e alive (spares e alive))))
 
 pub returns-clause-least : goal.returns-clause-least
 returns-clause-least g c = λ branch atom e h. c.in_ok-rows.ensures.least branch atom e

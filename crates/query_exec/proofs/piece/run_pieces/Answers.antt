@@ -1,6 +1,8 @@
 use Rattle.std.proofs.Common.{◌<◌, List, length, sym, ap, subst, ◌∙◌, arith}
 use Rattle.std.proofs.lemmas.List.{take_all}
+use Rattle.relations.specs.Sets.{In}
 use Rattle.relations.proofs.SetLaws.{in_map}
+use Rattle.join_exec.specs.Pieces.{stored_meaning}
 use Rattle.prima_base.specs.declared.timed_row.TimedRow.{TimedRow}
 use Rattle.prima_base.specs.Timed.{rows_at}
 use Rattle.timed_choices.specs.Lending.{RowLends, RowsLend}
@@ -10,7 +12,7 @@ use Rattle.piece_ir.specs.declared.piece.Piece.{Piece}
 use Rattle.query_pieces.proofs.RunPieces.{none_run}
 use Rattle.smo_meaning.specs.Past.{tables_of, database_at}
 use Rattle.rewrite.proofs.CodeSteps.{typed_at}
-use Rattle.query_exec.proofs.BorrowedRows.{piece_lends, each_joined, piece_at}
+use Rattle.query_exec.proofs.BorrowedRows.{piece_lends, each_joined}
 use Rattle.query_exec.proofs.PieceRows.{next_run, none_after, nothing_at, reads_left}
 use Rattle.query_exec.proofs.ListSteps.{among_taken}
 use Rattle.query_exec.proofs.RunLaws.{piece_meant}
@@ -50,10 +52,14 @@ loop-piece-preserved g c =
           each_joined (RowLends lent columns) c.loop-piece.rows.items c.in_ok-news.news.items
           c.put_rows.new.rows.items c.in_ok-put_rows.ensures.items
           (c.loop-piece.invariant.borrowed lent columns h)
-          (piece_lends lent columns (out_trees (piece_of c.piece-item.result).outs)
-          c.in_ok-news.news.items
-          (piece_at lent columns c.args.pieces.now c.loop-piece.piece-index c.piece-item.result
-          below c.piece-item.is h) c.in_ok-news.ensures.borrowed);
+          (piece_lends (stored_meaning c.args.groups.now c.args.version
+          (piece_of c.piece-item.result)) c.args.period c.in_ok-news.news.items
+          c.in_ok-news.ensures.stored c.in_ok-news.ensures.inside lent columns
+          (out_trees (piece_of c.piece-item.result).outs)
+          (λ row i. c.have_moments.ensures row (subst (In row) (sym c.deref.ensures.value) i))
+          (h (piece_of c.piece-item.result) (in_map piece_of c.piece-item.result c.args.pieces.now
+          (among_taken c.args.pieces.now c.loop-piece.piece-index c.piece-item.result below
+          c.piece-item.is))) c.in_ok-news.ensures.borrowed);
       count = omega (
         arith,
         c.loop-piece.invariant.count,

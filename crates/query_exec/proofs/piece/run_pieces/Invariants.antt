@@ -8,7 +8,7 @@ use Rattle.piece_meaning.specs.Pieces.{all_mean}
 use Rattle.piece_ir.specs.Shown.{pieces_of}
 use Rattle.cond_expr.specs.declared.expr.Column.{Column}
 use Rattle.timed_choices.specs.Lending.{Lent, RowsLend}
-use Rattle.query_exec.specs.Borrowed.{AllPlain}
+use Rattle.query_exec.specs.Borrowed.{AllPlainIn}
 use Rattle.query_exec.specs.Reads.{pieces_read}
 use Rattle.query_exec.specs.Runs.{IsMeant}
 use Rattle.query_exec.proofs.piece.run_pieces.Given as goal
@@ -20,7 +20,7 @@ invariant-loop-piece g l = record {
       → rows_at l.rows.items m ≡ all_mean (tables_of past h.version) (database_at past m)
       (pieces_of (take l.piece-index l.pieces));
   inside : (m : ℕ) → covers l.fn.period m ≡ false → rows_at l.rows.items m ≡ [];
-  borrowed : (lent : Lent) → (columns : List Column) → AllPlain lent columns (pieces_of l.pieces)
+  borrowed : (lent : Lent) → (columns : List Column) → AllPlainIn l.groups l.version l.fn.period lent columns (pieces_of l.pieces)
       → RowsLend lent columns l.rows.items;
   count : l.steps + pieces_read l.groups l.version (pieces_of (drop l.piece-index l.pieces))
       ≡ l.initial.steps + pieces_read l.groups l.version (pieces_of l.pieces);

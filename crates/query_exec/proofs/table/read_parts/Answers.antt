@@ -17,13 +17,13 @@ use Rattle.query_pieces.proofs.Gatherings.{nothing_gathered}
 use Rattle.join_exec.proofs.PieceAtoms.{same_versions}
 use Rattle.query_exec.specs.declared.part_piece.PartPieces.{PartPieces}
 use Rattle.timed_choices.specs.Lending.{RowsLend}
-use Rattle.query_exec.specs.Borrowed.{AllPlain}
+use Rattle.query_exec.specs.Borrowed.{AllPlainIn}
 use Rattle.query_exec.specs.Planned.{planned_spans}
 use Rattle.query_exec.specs.Reads.{pieces_read, part_read}
 use Rattle.query_exec.specs.Routes.{IsOwn}
 use Rattle.query_exec.specs.Runs.{IsRun, IsMeant}
 use Rattle.query_exec.proofs.ListSteps.{among_taken}
-use Rattle.query_exec.proofs.RunLaws.{among_plan, run_meant, run_gathered, run_cost, run_within}
+use Rattle.query_exec.proofs.RunLaws.{among_plan, run_meant, run_plain, run_gathered, run_cost, run_within}
 use Rattle.query_exec.proofs.RunLaws.{run_least}
 use Rattle.query_exec.proofs.TotalLaws.{from_first}
 use Rattle.query_exec.proofs.WalkSteps.{within_there}
@@ -120,8 +120,10 @@ runs-preserved g c =
           (planned_spans (take i plan)) (c.runs.invariant.rows past shows relation means));
       borrowed = λ lent columns h.
           c.in_ok-read_run.ensures.borrowed lent columns (subst
-          (λ (ps : List Piece). AllPlain lent columns (pieces_of ps)) (sym c.deref.ensures.value)
-          (h first (among_taken plan i first below is)))
+          (λ (ps : List Piece). AllPlainIn kept first.part.1 period lent columns (pieces_of ps))
+          (sym c.deref.ensures.value)
+          (run_plain kept first (take n (drop (i + 1) plan)) period run lent columns
+          (λ x k. h x (among_plan plan i n first below is x k))))
           (c.runs.invariant.borrowed lent columns h);
       cost = run_cost plan i n first below is kept c.args.steps.now c.runs.steps
           c.read_run.new.steps (pieces_read kept first.part.1 (pieces_of c.deref.result.now))

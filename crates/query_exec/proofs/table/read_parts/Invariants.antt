@@ -11,7 +11,7 @@ use Rattle.query_pieces.specs.Gathering.{IsGathered}
 use Rattle.query_exec.specs.declared.part_piece.PartPieces.{PartPieces}
 use Rattle.cond_expr.specs.declared.expr.Column.{Column}
 use Rattle.timed_choices.specs.Lending.{Lent, RowsLend}
-use Rattle.query_exec.specs.Borrowed.{AllPlain}
+use Rattle.query_exec.specs.Borrowed.{AllPlainIn}
 use Rattle.query_exec.specs.Planned.{planned_spans}
 use Rattle.query_exec.specs.Reads.{part_read}
 use Rattle.query_exec.specs.Totals.{total}
@@ -26,7 +26,8 @@ invariant-runs g l = record {
       ≡ relation m)
       → IsGathered relation (planned_spans (take l.at l.plan)) (entries_of l.rows.items);
   borrowed : (lent : Lent) → (columns : List Column)
-      → ((x : PartPieces) → In x l.plan → AllPlain lent columns (pieces_of x.pieces.items))
+      → ((x : PartPieces) → In x l.plan
+      → AllPlainIn l.groups x.part.1 x.part.0 lent columns (pieces_of x.pieces.items))
       → RowsLend lent columns l.rows.items;
   cost : l.steps ≤ l.initial.steps + total (part_read l.groups) (take l.at l.plan);
   least : (x : PartPieces) → In x (take l.at l.plan)

@@ -13,7 +13,7 @@ use Rattle.query_exec.specs.Asked.{read_asked}
 use Rattle.query_exec.specs.declared.part_piece.PartPieces.{PartPieces}
 use Rattle.timed_choices.specs.Lending.{RowLends}
 use Rattle.joining.proofs.CoalescedRows.{each_by_values}
-use Rattle.query_exec.specs.Borrowed.{AllPlain}
+use Rattle.query_exec.specs.Borrowed.{AllPlainIn}
 use Rattle.query_exec.specs.Planned.{planned_spans}
 use Rattle.query_exec.specs.Questions.{table_read}
 use Rattle.query_exec.specs.Reads.{part_read, explained_read}
@@ -100,8 +100,9 @@ returns-clause-borrowed g c = λ branch atom lent columns h.
     c.coalesce_in_place.new.rows.items c.coalesce_in_place.ensures.values
     (c.in_ok-rows.ensures.borrowed lent columns
     (subst (λ (xs : List PartPieces). (x : PartPieces) → In x xs
-    → AllPlain lent columns (pieces_of x.pieces.items)) (sym c.deref.ensures.value)
-    (plan_plain (versions_in c.args.groups.now)
+    → AllPlainIn c.args.groups.now x.part.1 x.part.0 lent columns (pieces_of x.pieces.items))
+    (sym c.deref.ensures.value)
+    (plan_plain c.args.groups.now (versions_in c.args.groups.now)
     (book_of (λ r. (goal.Rule-dyn g (r.vtable, r.value)).handles r.value)
     (λ r. (goal.Rule-dyn g (r.vtable, r.value)).answers r.value) c.args.book.now.rules.items)
     c.args.route.now.asked c.args.table.now (read_asked c.args.question.now) branch atom

@@ -3,6 +3,7 @@ use Rattle.std.specs.Prelude.{IfOk}
 use Rattle.piece_meaning.specs.Books.{book_of}
 use Rattle.query_types.specs.Queries.{query_of}
 use Rattle.piece_texts.specs.ExplainedPieces.{PlainExplained}
+use Rattle.query_exec.specs.Borrowed.{AreSpared}
 use Rattle.query_exec.specs.Reads.{explained_read, reads_of}
 use Rattle.archive_state.specs.Asking.{ArePiecesOf}
 use Rattle.archive_state.specs.ArchiveContents.{ArchiveContent, RepresentsPast}
@@ -25,10 +26,11 @@ returns-clause-way_back g c = λ past stands.
     (c.ask.ensures.asked past before.groups)
 
 pub returns-clause-borrowed : goal.returns-clause-borrowed
-returns-clause-borrowed g c = λ past stands pieces are.
+returns-clause-borrowed g c = λ past stands pieces are lents spared.
     let before = subst (λ (s : ArchiveContent). RepresentsPast s past) (sym c.self.view_is)
     stands in
-    c.ask.ensures.borrowed past before.groups pieces are
+    c.ask.ensures.borrowed past before.groups pieces are lents
+    (subst (λ (s : ArchiveContent). AreSpared s.groups lents pieces) (sym c.self.view_is) spared)
 
 pub returns-clause-least : goal.returns-clause-least
 returns-clause-least g c = λ past stands pieces are e m.

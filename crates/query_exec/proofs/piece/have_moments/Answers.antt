@@ -3,7 +3,7 @@ use Rattle.std.proofs.lemmas.List.{take_all}
 use Rattle.relations.specs.Sets.{In}
 use Rattle.prima_base.specs.declared.timed_row.TimedRow.{TimedRow}
 use Rattle.query_exec.proofs.ListSteps.{next_said}
-use Rattle.query_exec.proofs.branch.have_moments.Goals as goal
+use Rattle.query_exec.proofs.piece.have_moments.Goals as goal
 
 pub loop-row-init : goal.loop-row-init
 loop-row-init c = λ row m. absurd m

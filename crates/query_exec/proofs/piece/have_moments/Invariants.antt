@@ -1,7 +1,7 @@
 use Rattle.std.proofs.Common.{◌<◌, take}
 use Rattle.relations.specs.Sets.{In}
 use Rattle.prima_base.specs.declared.timed_row.TimedRow.{TimedRow}
-use Rattle.query_exec.proofs.branch.have_moments.Given as goal
+use Rattle.query_exec.proofs.piece.have_moments.Given as goal
 
 abbrev pub invariant-loop-row : goal.invariant-loop-row
 invariant-loop-row l = (row : TimedRow) → In row (take l.row-index l.rows)
