@@ -1,8 +1,7 @@
-ghost use Rattle.std.specs.Prelude.{◌≡◌, ◌+◌, ◌<◌, ◌≤◌, Some, None, IfOk, vec_len};
-ghost use Rattle.prima_base.specs.declared.refusal.OpRefusal.{OpRefusal};
+ghost use Rattle.std.specs.Prelude.{◌≡◌, ◌+◌, ◌<◌, ◌≤◌, None, IfOk, vec_len};
 ghost use Rattle.smo_types.specs.Operators.{operator_of, operators_of};
 ghost use Rattle.smo_types.specs.Commands.{versions_of};
-ghost use Rattle.smo_meaning.specs.After.{op_fault, schema_after, IsValid, HasFewNodes};
+ghost use Rattle.smo_meaning.specs.After.{op_fault, schema_after, IsValid};
 ghost use Rattle.smo_meaning.specs.After.{HaveFewNodes};
 ghost use Rattle.smo_meaning.specs.Inverses.{schema_after_each, AllOperatorsAccepted};
 ghost use Rattle.smo_meaning.specs.Past.{no_tables, tables_from};
@@ -16,8 +15,8 @@ use piece_ir::Piece;
 use prima_base::NoMemory;
 use rule_book::{Rule, RuleBook};
 use schema_catalog::Schema;
-use smo_schemas::after;
-use smo_types::{Op, OpFault, Versions};
+use smo_schemas::schema_after;
+use smo_types::{Op, Versions};
 use std::alloc::Global;
 
 // Pieces over the tables after an operator, taken through it: what the book answers, piece by
@@ -42,23 +41,6 @@ fn through(
         all.append(&mut news)?;
     }
     Ok(all)
-}
-
-// The schema after an operator: one that is refused changes no table.
-fn schema_after(alloc: Global, before: &Schema, op: &Op) -> Result<Schema, NoMemory>
-    requires few { HasFewNodes (operator_of op.now) }
-    ensures accepted { op_fault before.now (operator_of op.now) ≡ None
-        → IfOk result (λ next. next ≡ schema_after before.now (operator_of op.now)) }
-    ensures refused { (refusal : OpRefusal) → op_fault before.now (operator_of op.now)
-        ≡ Some refusal
-        → IfOk result (λ next. next ≡ before.now) }
-    ensures valid { IsValid before.now → IfOk result (λ next. IsValid next) }
-{
-    match after(alloc, before, op) {
-        Ok(next) => Ok(next),
-        Err(OpFault::Refused(_)) => before.copy(),
-        Err(OpFault::NoMemory) => Err(NoMemory),
-    }
 }
 
 // Through operators that stand one after the other, from the last to the first, each on the tables

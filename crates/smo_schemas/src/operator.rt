@@ -139,7 +139,8 @@ pub fn after(alloc: Global, schema: &Schema, op: &Op) -> Result<Schema, OpFault>
 pub fn schema_after(alloc: Global, schema: &Schema, op: &Op) -> Result<Schema, NoMemory>
     requires accepted { op_fault schema.now (operator_of op.now) ≡ None }
     requires few { HasFewNodes (operator_of op.now) }
-    ensures { IfOk result (λ next. next ≡ schema_after schema.now (operator_of op.now)) }
+    ensures after { IfOk result (λ next. next ≡ schema_after schema.now (operator_of op.now)) }
+    ensures valid { IsValid schema.now → IfOk result (λ next. IsValid next) }
 {
     match after(alloc, schema, op) {
         Ok(next) => Ok(next),
