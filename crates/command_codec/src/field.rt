@@ -54,7 +54,7 @@ fn text(alloc: Global, reader: &mut Reader<'_>) -> Result<Txt, Stop>
 }
 
 /// A value.
-#[tactic(auto, unfolding(command_spelling::specs::Reader::value, command_spelling::specs::Reader::integer))]
+#[tactic(auto, unfolding(command_spelling::specs::Reader::value, command_spelling::specs::Reader::number_64))]
 pub fn value(alloc: Global, reader: &mut Reader<'_>) -> Result<Value, Stop>
     ensures { Reads (λ v. v) (spec.value reader.old.rest.now) result reader.new.rest.now }
 {

@@ -25,7 +25,7 @@ pub fn borrowed_text<'a>(reader: &mut Reader<'a>) -> Result<&'a [u8], Stop>
 }
 
 /// A value; a text where it stands in the bytes. It takes no memory.
-#[tactic(auto, unfolding(command_spelling::specs::Reader::value, command_spelling::specs::Reader::integer))]
+#[tactic(auto, unfolding(command_spelling::specs::Reader::value, command_spelling::specs::Reader::number_64))]
 pub fn borrowed_value<'a>(reader: &mut Reader<'a>) -> Result<Val<'a>, Stop>
     ensures reads { Reads shown (spec.value reader.old.rest.now) result reader.new.rest.now }
     ensures valid { IfOk result (λ v. IsValid (shown v)) }

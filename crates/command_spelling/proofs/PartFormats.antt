@@ -23,7 +23,7 @@ use Rattle.command_spelling.specs.Spelling.{number, name_bytes, type_tag, value_
 use Rattle.command_spelling.specs.Spelling.{list_bytes}
 use Rattle.command_spelling.specs.Valid.{IsValue}
 use Rattle.command_spelling.specs.Reader.{up_to, is_name_start, is_name_length, name_text, name}
-use Rattle.command_spelling.specs.Reader.{is_text_byte, text, integer, value_arm, value}
+use Rattle.command_spelling.specs.Reader.{is_text_byte, text, number_64, value_arm, value}
 use Rattle.command_spelling.specs.Reader.{type_of_tag, column_type, sign_of_tag, sign}
 use Rattle.command_spelling.proofs.Correctness.{by_test, true_false, retold, pure_correct}
 use Rattle.command_spelling.proofs.Correctness.{mapped_correct, then_correct, byte_correct, Each}
@@ -170,9 +170,9 @@ text_correct = then_correct (digits 4096 2 0) (λ n. n ≤ 4096) (λ n. number 2
     (λ n l h i. (are_text n l h i, ap (λ m. number 2 m ++ l) i.0))
     (λ l i. (length l, i.0, (refl, not_each is_control l (each_passes is_control 0 l i.1))))
 
-pub integer_correct : IsCorrectParser integer (λ n. n ≤ 18446744073709551615) (λ n. number 8 n)
-unfolding integer
-integer_correct = number_correct 18446744073709551615 8 (omega arith)
+pub number_64_correct : IsCorrectParser number_64 (λ n. n ≤ 18446744073709551615) (λ n. number 8 n)
+unfolding number_64
+number_64_correct = number_correct 18446744073709551615 8 (omega arith)
 
 made_int : (n : ℕ) → n ≤ 18446744073709551615 → IsValue (Int (cast_signed w64 n))
     × (value_bytes (Int (cast_signed w64 n)) ≡ 0 ∷ number 8 n)
@@ -192,8 +192,8 @@ value_correct = tagged_correct (up_to 1) value_arm IsValue value_bytes (Int (pos
     sfits_zero = record { sfits = omega arith }
 
     each : (x : ℕ) → up_to 1 x ≡ true → ArmCorrect IsValue value_bytes x (value_arm x)
-    each zero e = parts_correct integer (λ n. n ≤ 18446744073709551615) (λ n. number 8 n)
-        integer_correct (λ n. Int (cast_signed w64 n)) IsValue value_bytes 0 made_int
+    each zero e = parts_correct number_64 (λ n. n ≤ 18446744073709551615) (λ n. number 8 n)
+        number_64_correct (λ n. Int (cast_signed w64 n)) IsValue value_bytes 0 made_int
     each (suc zero) e = parts_correct text IsTxt (λ t. number 2 (length t) ++ t) text_correct Text
         IsValue value_bytes 1 (λ t h. (h, refl))
     each (suc (suc n)) e = absurd (omega (arith, leb-true (suc (suc n)) 1 e))
@@ -201,7 +201,7 @@ value_correct = tagged_correct (up_to 1) value_arm IsValue value_bytes (Int (pos
     complete : (v : Value) → IsValue v → (rest : List ℕ)
         → tagged (up_to 1) value_arm (value_bytes v ++ rest) ≡ Parsed v rest
     complete (Int z) h rest =
-        parts_read integer (λ n. n ≤ 18446744073709551615) (λ n. number 8 n) integer_correct
+        parts_read number_64 (λ n. n ≤ 18446744073709551615) (λ n. number 8 n) number_64_correct
         (λ n. Int (cast_signed w64 n)) IsValue value_bytes 0 made_int (cast_unsigned w64 z)
         (small z h) rest
         ∙ ap (λ x. Parsed (Int x) rest) (to_z-of_z h)

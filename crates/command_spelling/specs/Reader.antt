@@ -51,11 +51,13 @@ name = tagged is_name_length name_text
 unfoldable pub text : Parser (List ℕ)
 text = bind (digits longest_text 2 0) (λ n. run is_text_byte n)
 
-unfoldable pub integer : Parser ℕ
-integer = digits 18446744073709551615 8 0
+-- a number of 8 bytes
+unfoldable pub number_64 : Parser ℕ
+number_64 = digits 18446744073709551615 8 0
 
 abbrev pub value_arm : ℕ → Parser Value
-value_arm tag = if tag == 0 then map_to (λ n. Int (cast_signed w64 n)) integer else map_to Text text
+value_arm tag = if tag == 0 then map_to (λ n. Int (cast_signed w64 n)) number_64
+    else map_to Text text
 
 unfoldable pub value : Parser Value
 value = tagged (up_to 1) value_arm

@@ -1,6 +1,7 @@
 //! Reading numbers and counts.
 
 ghost use Rattle.std.specs.Prelude.{◌≡◌, ◌<◌, ◌/◌, min, length};
+ghost use Rattle.command_spelling.specs.Reader as parts;
 ghost use Rattle.image_spelling.specs.Items.{item};
 ghost use Rattle.image_spelling.specs.Reader as spec;
 ghost use Rattle.command_codec.specs.Reads.{Reads};
@@ -8,9 +9,9 @@ ghost use Rattle.command_codec.specs.Reads.{Reads};
 use command_codec::{Reader, Stop};
 
 /// A number of eight bytes.
-#[tactic(auto, unfolding(image_spelling::specs::Reader::number_64))]
+#[tactic(auto, unfolding(command_spelling::specs::Reader::number_64))]
 pub(crate) fn number_64(reader: &mut Reader<'_>) -> Result<u64, Stop>
-    ensures { Reads (λ n. n) (spec.number_64 reader.old.rest.now) result reader.new.rest.now }
+    ensures { Reads (λ n. n) (parts.number_64 reader.old.rest.now) result reader.new.rest.now }
 {
     reader.number_64()
 }
@@ -33,7 +34,7 @@ pub(crate) fn count_32(reader: &mut Reader<'_>) -> Result<u64, Stop>
 /// A count of eight bytes. Where it is cut off the reader stands at its first byte.
 #[tactic(auto, using(crate::proofs::ItemSteps::item_got, crate::proofs::ItemSteps::item_fails))]
 pub(crate) fn count_64(reader: &mut Reader<'_>) -> Result<u64, Stop>
-    ensures { Reads (λ n. n) (item spec.number_64 reader.old.rest.now) result reader.new.rest.now }
+    ensures { Reads (λ n. n) (item parts.number_64 reader.old.rest.now) result reader.new.rest.now }
 {
     let start = reader.rest;
     match number_64(reader) {

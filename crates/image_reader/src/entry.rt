@@ -33,7 +33,7 @@ struct Unjudged<'a> {
 // An entry, not yet judged.
 fn entry_read<'a>(reader: &mut Reader<'a>) -> Result<Unjudged<'a>, Stop>
     ensures { Reads unjudged_seen (map_to spec.cell_of
-        (pair (pair spec.number_64 parts.value) spec.period) reader.old.rest.now) result
+        (pair (pair parts.number_64 parts.value) spec.period) reader.old.rest.now) result
         reader.new.rest.now }
 {
     let id = number_64(reader)?;

@@ -24,10 +24,10 @@ use smo_types::{InverseFault, Op, OpFault, Version, Versions};
 use std::alloc::Global;
 
 // A stamp, an operator, and the operators of its inverse.
-#[tactic(auto, unfolding(image_spelling::specs::Reader::number_64))]
+#[tactic(auto, unfolding(command_spelling::specs::Reader::number_64))]
 fn evolution(alloc: Global, reader: &mut Reader<'_>) -> Result<(u64, Op, Vec<Op>), Stop>
     ensures { Reads (λ x. (x.0, (operator_of x.1, operators_of x.2.items)))
-        (pair spec.number_64 (pair parts.operator parts.operators) reader.old.rest.now) result
+        (pair parts.number_64 (pair parts.operator parts.operators) reader.old.rest.now) result
         reader.new.rest.now }
 {
     let stamp = reader.number(8, u64::MAX)?;

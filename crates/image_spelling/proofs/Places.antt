@@ -14,7 +14,7 @@ use Rattle.smo_meaning.specs.Past.{no_tables}
 use Rattle.command_spelling.specs.Reading.{Out, Parsed, Unexpected, Parser, IsCorrectParser}
 use Rattle.command_spelling.specs.Reading.{Explains, and_then, bind, byte, pure, map_to, pair}
 use Rattle.command_spelling.specs.Reading.{digits, items}
-use Rattle.command_spelling.specs.Reader.{up_to, name, value, operator, operators}
+use Rattle.command_spelling.specs.Reader.{up_to, number_64, name, value, operator, operators}
 use Rattle.command_spelling.specs.Spelling.{number, name_bytes, value_bytes, operator_bytes}
 use Rattle.command_spelling.specs.Valid.{IsValue, IsOperator}
 use Rattle.command_spelling.proofs.Correctness.{byte_correct}
@@ -25,7 +25,7 @@ use Rattle.lifelines.specs.Lifelines.{Lifeline, lifelines_of}
 use Rattle.image_spelling.specs.Images.{StoredLine, Image}
 use Rattle.image_spelling.specs.Items.{named_at, item, if_right, judged, missing}
 use Rattle.image_spelling.specs.Judged.{is_version, is_line, is_period, is_due}
-use Rattle.image_spelling.specs.Reader.{number_32, number_64, last_arm, last_stamp, version_after}
+use Rattle.image_spelling.specs.Reader.{number_32, last_arm, last_stamp, version_after}
 use Rattle.image_spelling.specs.Reader.{evolution, version, versions, all_versions, period, key}
 use Rattle.image_spelling.specs.Reader.{keys, cell_of, entry, entries, column_entries, columns}
 use Rattle.image_spelling.specs.Reader.{line_head, a_line, has_apart, stored_line, lines, all_lines}

@@ -20,7 +20,7 @@ use Rattle.smo_meaning.specs.Past.{no_tables}
 use Rattle.smo_meaning.proofs.NameLaws.{same_itself, same_is}
 use Rattle.command_spelling.specs.Reading.{Out, Parsed, Unexpected, and_then, bind, byte, map_to}
 use Rattle.command_spelling.specs.Reading.{pair, digits, items}
-use Rattle.command_spelling.specs.Reader.{up_to, name, value, operator, operators}
+use Rattle.command_spelling.specs.Reader.{up_to, number_64, name, value, operator, operators}
 use Rattle.command_spelling.specs.Spelling.{number, name_bytes, value_bytes, operator_bytes}
 use Rattle.command_spelling.specs.Spelling.{list_bytes}
 use Rattle.command_spelling.specs.Valid.{IsValue, IsOperator}
@@ -35,7 +35,7 @@ use Rattle.image_spelling.specs.Items.{item, judged}
 use Rattle.image_spelling.specs.Judged.{is_version, is_line, is_period, is_due}
 use Rattle.image_spelling.specs.Spelling.{last_number, last_bytes, version_bytes, span_bytes}
 use Rattle.image_spelling.specs.Spelling.{cell_bytes, line_bytes, stored_bytes, image_bytes}
-use Rattle.image_spelling.specs.Reader.{number_32, number_64, last_arm, last_stamp, version_after}
+use Rattle.image_spelling.specs.Reader.{number_32, last_arm, last_stamp, version_after}
 use Rattle.image_spelling.specs.Reader.{evolution, version, versions, all_versions, period, key}
 use Rattle.image_spelling.specs.Reader.{keys, cell_of, entry, entries, column_entries, columns}
 use Rattle.image_spelling.specs.Reader.{line_head, a_line, has_apart, stored_line, lines, all_lines}

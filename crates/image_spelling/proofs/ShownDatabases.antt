@@ -20,28 +20,28 @@ use Rattle.smo_meaning.specs.OneRow.{same}
 use Rattle.smo_meaning.specs.Past.{no_tables, tables_from, begun_at}
 use Rattle.smo_meaning.proofs.NameLaws.{same_itself, same_is}
 use Rattle.smo_meaning.proofs.PastMoments.{few_begun}
-use Rattle.lifelines.specs.Lifelines.{Lifeline, IsUpTo, Covers, AreApart, HaveTables}
+use Rattle.lifelines.specs.Lifelines.{Lifeline, is_up_to, IsUpTo, Covers, AreApart, HaveTables}
 use Rattle.lifelines.proofs.NamedEntries.{in_found}
 use Rattle.lifelines.proofs.VersionsCovered.{each_covered}
 use Rattle.image_spelling.specs.Images.{StoredLine, Image, IsImage, lines_in, store_of}
-use Rattle.image_spelling.specs.ShownPast.{goes_to, is_of_version, table_at, image_database}
+use Rattle.image_spelling.specs.ShownPast.{is_of_version, table_at, image_database}
 use Rattle.image_spelling.proofs.ShownRelations.{shown_relation, shown_values}
 
 -- ---- the lifelines of a version
 
-up_to : (last : Option ℕ) (k : ℕ) → goes_to last k ≡ true → IsUpTo last k
+up_to : (last : Option ℕ) (k : ℕ) → is_up_to last k ≡ true → IsUpTo last k
 up_to None k e = tt
 up_to (Some last) k e = grind (arith, nat_tests, e)
 
-goes : (last : Option ℕ) (k : ℕ) → IsUpTo last k → goes_to last k ≡ true
+goes : (last : Option ℕ) (k : ℕ) → IsUpTo last k → is_up_to last k ≡ true
 goes None k h = refl
 goes (Some last) k h = grind (arith, nat_tests, h)
 
 pub covered : (k : ℕ) (l : StoredLine) → is_of_version k l ≡ true
     → Covers l.line.first l.line.last k
-covered k l e = step (nat_le l.line.first k) (goes_to l.line.last k) refl refl e
+covered k l e = step (nat_le l.line.first k) (is_up_to l.line.last k) refl refl e
   where
-    step : (a b : Bool) → nat_le l.line.first k ≡ a → goes_to l.line.last k ≡ b → (a && b) ≡ true
+    step : (a b : Bool) → nat_le l.line.first k ≡ a → is_up_to l.line.last k ≡ b → (a && b) ≡ true
         → Covers l.line.first l.line.last k
     step true true p q h = (grind (arith, nat_tests, p), up_to l.line.last k q)
     step true false p q h = absurd (cc)

@@ -16,18 +16,15 @@ use Rattle.smo_meaning.specs.After.{schema_after}
 use Rattle.smo_meaning.specs.Past.{no_tables}
 use Rattle.command_spelling.specs.Reading.{Parsed, Unexpected, Parser, bind, pure, map_to, pair}
 use Rattle.command_spelling.specs.Reading.{tagged, digits, items}
-use Rattle.command_spelling.specs.Reader.{up_to, name, value, operator, operators}
+use Rattle.command_spelling.specs.Reader.{up_to, number_64, name, value, operator, operators}
 use Rattle.lifelines.specs.Lifelines.{Lifeline, lifelines_of}
 use Rattle.image_spelling.specs.Images.{StoredLine, Image}
 use Rattle.image_spelling.specs.Items.{item, judged, missing}
 use Rattle.image_spelling.specs.Judged.{is_version, is_line, is_period, is_due, are_apart}
 
--- a number of 4 bytes, and of 8
+-- a number of 4 bytes
 unfoldable pub number_32 : Parser ℕ
 number_32 = digits 4294967295 4 0
-
-unfoldable pub number_64 : Parser ℕ
-number_64 = digits 18446744073709551615 8 0
 
 -- ---- the last stamp
 

@@ -1,7 +1,7 @@
 -- The past that an image shows: its versions, its last stamp, and at each moment the database that
 -- its tables have then.
 use Rattle.std.specs.Prelude.{ℕ, ◌+◌, ◌==◌, ◌&&◌, ◌||◌, not, List, [], ◌∷◌, ◌++◌, length, map}
-use Rattle.std.specs.Prelude.{Option, Some, None, nat_le, nat_lt, Bool, true, false, if◌then◌else◌}
+use Rattle.std.specs.Prelude.{nat_lt, Bool, false, if◌then◌else◌}
 use Rattle.std.specs.List.{filter, flat_map}
 use Rattle.std.specs.FinMap.{from_entries}
 use Rattle.std.specs.Ordering.{nat_cmp}
@@ -13,17 +13,14 @@ use Rattle.smo_types.specs.Commands.{PlainVersion}
 use Rattle.smo_meaning.specs.Effects.{gained, lost}
 use Rattle.smo_meaning.specs.Past.{State, a_state, Past, begun_at}
 use Rattle.smo_meaning.specs.Sizes.{Written, Size, value_bytes}
+use Rattle.lifelines.specs.Lifelines.{covers}
 use Rattle.image_spelling.specs.Images.{StoredLine, Image, store_of}
 
 -- ---- databases
 
 -- the lifeline is one of version k
-abbrev pub goes_to : Option ℕ → ℕ → Bool
-goes_to None k = true
-goes_to (Some last) k = nat_le k last
-
 abbrev pub is_of_version : ℕ → StoredLine → Bool
-is_of_version k l = nat_le l.line.first k && goes_to l.line.last k
+is_of_version k l = covers k l.line
 
 -- what its table has at the moment
 abbrev pub table_at : ℕ → StoredLine → List ℕ × DatabaseEntry

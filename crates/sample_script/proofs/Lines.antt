@@ -1,16 +1,16 @@
 -- What a line tells, and the others after it.
 use Rattle.std.proofs.Common.{◌≡◌, ℕ, ◌+◌, Bool, true, false, List, [], ◌∷◌, ◌++◌, refl, sym, ap}
 use Rattle.std.proofs.Common.{append-nil, arith}
-use Rattle.sample_script.specs.Summary.{is_error, is_end, error_count, end_lines}
+use Rattle.sample_script.specs.Summary.{is_error_line, is_end, error_count, end_lines}
 
 module _ (line : List ℕ) (lines : List (List ℕ)) where
-  errors_by : (b : Bool) → is_error line ≡ b → error_count (line ∷ lines)
+  errors_by : (b : Bool) → is_error_line line ≡ b → error_count (line ∷ lines)
       ≡ error_count (line ∷ []) + error_count lines
   errors_by true e = rw e (omega arith)
   errors_by false e = rw e (omega arith)
 
   pub errors_more : error_count (line ∷ lines) ≡ error_count (line ∷ []) + error_count lines
-  errors_more = errors_by (is_error line) refl
+  errors_more = errors_by (is_error_line line) refl
 
   ends_by : (b : Bool) → is_end line ≡ b → end_lines (line ∷ lines) ≡ end_lines (line ∷ [])
       ++ end_lines lines

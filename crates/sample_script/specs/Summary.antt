@@ -14,14 +14,15 @@ lines_after prefix (byte ∷ bytes) =
 abbrev pub lines : List ℕ → List (List ℕ)
 lines text = lines_after [] text
 
-abbrev pub is_error : List ℕ → Bool
-is_error line = starts_with nat_eq line (codes "error ")
+-- the line is of an error
+abbrev pub is_error_line : List ℕ → Bool
+is_error_line line = starts_with nat_eq line (codes "error ")
 
 abbrev pub is_end : List ℕ → Bool
 is_end line = starts_with nat_eq line (codes "end ")
 
 abbrev pub error_count : List (List ℕ) → ℕ
-error_count lines = length (filter is_error lines)
+error_count lines = length (filter is_error_line lines)
 
 abbrev pub end_lines : List (List ℕ) → List ℕ
 end_lines lines = concat (filter is_end lines)

@@ -17,7 +17,7 @@ use Rattle.script_cli.specs.Puts.{is_error, is_command, put_for}
 use Rattle.script_cli.specs.Output.{Recorded, reply, script_puts, all_puts}
 use Rattle.script_cli.specs.Responses.{put_of}
 use Rattle.script_cli.specs.Driving.{CountsPuts, CountsOpening, status_of}
-use Rattle.script_cli.specs.Runs.{IsOpening, WhereTold, is_whole}
+use Rattle.script_cli.specs.Runs.{IsOpening, is_whole}
 use Rattle.script_cli.specs.Sampling.{IsCounted}
 use Rattle.script_cli.specs.declared.script_run.ScriptRun.{ScriptRun}
 use Rattle.script_cli.specs.declared.halt.Halt.{Halt}
@@ -59,7 +59,7 @@ module _ (limit : Given) (now : Recorded) (text : List ℕ) (put : Put)
 -- ---- a script that was read to its end
 
 counts_end : (status : Status) (limit : Given) (start : Recorded) (left : Option (List ℕ))
-    (puts : ℕ) → WhereTold left (λ script. puts
+    (puts : ℕ) → Tells left (λ script. puts
     ≡ length (commands_due (script_puts limit start script)))
     → CountsPuts status limit start left puts
 counts_end Done limit start left puts told = told
@@ -80,7 +80,7 @@ counts_stopped halt.NoMemory limit start left puts = tt
 
 pub counts_whole : (status : Status) (limit : Given) (start : Recorded) (left : Option (List ℕ))
     (puts : ℕ) → is_whole status ≡ true → CountsPuts status limit start left puts
-    → WhereTold left (λ script. puts ≡ length (commands_due (script_puts limit start script)))
+    → Tells left (λ script. puts ≡ length (commands_due (script_puts limit start script)))
 counts_whole Done limit start left puts e counts = counts
 counts_whole Refused limit start left puts e counts = counts
 counts_whole Words limit start left puts e counts = cc

@@ -27,7 +27,8 @@ use Rattle.answer_text.specs.RefusalTexts.{refusal_text}
 use Rattle.script_cli.specs.Given.{Given}
 use Rattle.script_cli.specs.Output.{Recorded, Reply, refused, answered, put_command, put_image}
 use Rattle.script_cli.specs.Output.{refused_or, body_text, statement_reply, reading_reply}
-use Rattle.script_cli.specs.Output.{is_error_line, reply}
+use Rattle.sample_script.specs.Summary.{is_error_line}
+use Rattle.script_cli.specs.Output.{reply}
 
 abbrev Told : Reply → Type 0
 Told r = r.is_error ≡ is_error_line r.text

@@ -24,7 +24,7 @@ use Rattle.script_cli.specs.Given.{Given}
 use Rattle.script_cli.specs.Output.{Recorded, script_puts, tail_text, tail_is_due}
 use Rattle.script_cli.specs.Putting.{HasPut, PutsSome}
 use Rattle.answer_text.specs.Texts.{not_a_journal_text}
-use Rattle.script_cli.specs.Runs.{Ran, Log, PutsLine, WhereTold, counted_limit, logged_in}
+use Rattle.script_cli.specs.Runs.{Ran, Log, PutsLine, counted_limit, logged_in}
 use Rattle.script_cli.specs.Responses.{TakesRecords, ending_after}
 use Rattle.script_cli.specs.declared.script_run.ScriptRun.{ScriptRun}
 use Rattle.script_cli.specs.declared.halt.Halt.{Halt}
@@ -67,9 +67,9 @@ pub record Drove (limit : Given) (start : Recorded) (status : Status)
 
 -- so many commands were put by the script, where it was read to its end
 abbrev pub CountsPuts : Status → Given → Recorded → Option (List ℕ) → ℕ → Type 0
-CountsPuts Done limit start left puts = WhereTold left
+CountsPuts Done limit start left puts = Tells left
     (λ script. puts ≡ length (commands_due (script_puts limit start script)))
-CountsPuts Refused limit start left puts = WhereTold left
+CountsPuts Refused limit start left puts = Tells left
     (λ script. puts ≡ length (commands_due (script_puts limit start script)))
 CountsPuts other limit start left puts = Unit {0}
 

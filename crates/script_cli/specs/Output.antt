@@ -1,7 +1,6 @@
 -- The replies to a script, and what its statements put.
-use Rattle.std.specs.Prelude.{ℕ, ◌+◌, List, [], ◌∷◌, ◌++◌, ◌||◌, Bool, true, false, length, nat_eq}
-use Rattle.std.specs.Prelude.{codes, Some, None}
-use Rattle.std.specs.List.{starts_with}
+use Rattle.std.specs.Prelude.{ℕ, ◌+◌, List, [], ◌∷◌, ◌++◌, ◌||◌, Bool, true, false, length, Some}
+use Rattle.std.specs.Prelude.{None}
 use Rattle.prima_base.specs.declared.refusal.Refusal.{Refusal}
 use Rattle.prima_base.specs.declared.refusal.Refusal.TheVariants as refusal
 use Rattle.script_parse.specs.Script.{StatementPart, Whole as Text, Skipped, parts_from, tail_of}
@@ -184,10 +183,6 @@ abbrev pub any_error : Given → Recorded → List StatementPart → Bool
 any_error limit now [] = false
 any_error limit now (p ∷ pieces) = (piece_reply limit now p).is_error
     || any_error limit (piece_reply limit now p).after pieces
-
--- the line is an error
-abbrev pub is_error_line : List ℕ → Bool
-is_error_line text = starts_with nat_eq text (codes "error ")
 
 -- of a script: its statements, what is left after the last `;`, the replies, all that is due, and
 -- whether an `error` line is

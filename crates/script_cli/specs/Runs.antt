@@ -1,6 +1,6 @@
 -- What a run takes, writes and answers, and what it leaves on the disk.
 use Rattle.std.specs.Prelude.{◌≡◌, ℕ, ◌+◌, ◌≤◌, ◌^◌, ◌-◌, min, IsTrue, List, [], ◌∷◌, ◌++◌, length}
-use Rattle.std.specs.Prelude.{take, Bool, ◌⊎◌, true, false, Option, Some, None}
+use Rattle.std.specs.Prelude.{take, Bool, ◌⊎◌, true, false, Option, Some}
 use Rattle.std.specs.Io.KnownBytes.{Consumes, Appends, IsAtEnd, Keeps}
 use Rattle.prima_io.specs.Causes.{Rose}
 use Rattle.prima_io.specs.Moves.{AppendsPrefix, AppendsLess}
@@ -24,11 +24,6 @@ use Rattle.script_cli.specs.declared.status.Status.{Status}
 use Rattle.script_cli.specs.declared.status.Status.TheVariants.{Done, Refused, Words, ReadFault}
 use Rattle.script_cli.specs.declared.status.Status.TheVariants.{WriteFault, DiskFault, NotAJournal}
 use Rattle.script_cli.specs.declared.status.Status.TheVariants.{NoMemory, InputLimit}
-
--- a fact about the bytes, where they are told
-abbrev pub WhereTold : Option (List ℕ) → (List ℕ → Type 0) → Type 0
-WhereTold None P = Unit {0}
-WhereTold (Some bytes) P = P bytes
 
 -- a journal of at most 2 ^ 64 - 1 bytes counts as one of one byte less
 abbrev pub counted_limit : ℕ → ℕ

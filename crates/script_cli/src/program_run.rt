@@ -34,12 +34,13 @@ ghost use Rattle.script_cli.specs.Due.{AreRecordsOf};
 ghost use Rattle.script_cli.specs.Explaining.{TellsPieces};
 ghost use Rattle.script_cli.specs.Given.{Given};
 ghost use Rattle.script_cli.specs.Output.{Recorded, recorded, output, script_puts, all_puts};
-ghost use Rattle.script_cli.specs.Output.{recorded_after, reply, is_error_line};
+ghost use Rattle.sample_script.specs.Summary.{is_error_line};
+ghost use Rattle.script_cli.specs.Output.{recorded_after, reply};
 ghost use Rattle.program_words.specs.Words.{asked, asked_for, limit_of_run};
 ghost use Rattle.program_words.specs.declared.request.Mode.TheVariants.{Sample};
 ghost use Rattle.script_cli.specs.Files.{IsSoundFile, LeavesPrefix};
 ghost use Rattle.script_cli.specs.Runs.{IsUntouched, RunsOver, RefusedWords, RefusesFile};
-ghost use Rattle.script_cli.specs.Runs.{SourceCounted, SinkCounted, DiskCounted, WhereTold};
+ghost use Rattle.script_cli.specs.Runs.{SourceCounted, SinkCounted, DiskCounted};
 ghost use Rattle.script_cli.specs.Runs.{given_by, is_whole};
 ghost use Rattle.script_cli.specs.Sampling.{AsksSample, SamplesOver, sample_told, sample_puts};
 ghost use Rattle.script_cli.specs.Sampling.{sample_end};
@@ -279,7 +280,7 @@ pub fn run<S: Source, K: Sink, D: Disk>(
     ensures prefix { (limit : ℕ) → (file : List ℕ) → (opening : List LogRecord)
         → asked_for (map string_bytes words.now) ≡ Some limit
         → (D.meaning disk.old).seen ≡ Some file → Opens file opening
-        → WhereTold (S.left source.old) (λ script.
+        → Tells (S.left source.old) (λ script.
         AppendsPrefix (K.written sink.old) (K.written sink.new)
         (output (given_by limit (meaning_of book.now.rules.items
         (λ r. handles (r.vtable, r.value)) (λ r. answers (r.vtable, r.value))))
@@ -287,7 +288,7 @@ pub fn run<S: Source, K: Sink, D: Disk>(
     ensures whole { (limit : ℕ) → (file : List ℕ) → (opening : List LogRecord)
         → asked_for (map string_bytes words.now) ≡ Some limit
         → (D.meaning disk.old).seen ≡ Some file → Opens file opening → is_whole result ≡ true
-        → WhereTold (S.left source.old) (λ script.
+        → Tells (S.left source.old) (λ script.
         Appends (K.written sink.old) (K.written sink.new)
         (output (given_by limit (meaning_of book.now.rules.items
         (λ r. handles (r.vtable, r.value)) (λ r. answers (r.vtable, r.value))))
@@ -323,7 +324,7 @@ pub fn run<S: Source, K: Sink, D: Disk>(
         → asked_for (map string_bytes words.now) ≡ Some limit
         → IsTrue (D.meaning disk.old).is_honest → (D.meaning disk.old).seen ≡ Some file
         → Opens file opening
-        → WhereTold (S.left source.old) (λ script.
+        → Tells (S.left source.old) (λ script.
         LeavesPrefix (D.meaning disk.old) (D.meaning disk.new) opening
         (script_puts (given_by limit (meaning_of book.now.rules.items
         (λ r. handles (r.vtable, r.value)) (λ r. answers (r.vtable, r.value))))

@@ -5,7 +5,7 @@ use Rattle.lexical_grammar.specs.Spaced.{last_comment}
 use Rattle.script_parse.specs.Script.{is_clean}
 use Rattle.script_parse.specs.Pads.{has_line_end, ArePads, none, blank, comment, last}
 use Rattle.script_parse.proofs.Padding.{clean_is_pads, pads_are_clean}
-use Rattle.script_parse.proofs.BlankTexts.{same_blanks, gap_is_pads}
+use Rattle.script_parse.proofs.BlankTexts.{gap_is_pads}
 use Rattle.script_laws.proofs.Bytes.{true_false}
 
 neither : (p : Bool) {q : Bool} → (p || q) ≡ false → (not p ≡ true) × (q ≡ false)
@@ -18,7 +18,7 @@ one_line (b ∷ text) e = (let h = neither (b == 10) e in (h.0, one_line text h.
 
 pads_are_gap : (text : List ℕ) → ArePads text → IsGap text []
 pads_are_gap text none = no_gap []
-pads_are_gap text (blank b rest e h) = a_blank b rest [] (same_blanks b ∙ e) (pads_are_gap rest h)
+pads_are_gap text (blank b rest e h) = a_blank b rest [] e (pads_are_gap rest h)
 pads_are_gap text (comment line rest e h) = a_comment line rest [] (one_line line e)
     (pads_are_gap rest h)
 pads_are_gap text (last line e) = last_comment line (one_line line e)

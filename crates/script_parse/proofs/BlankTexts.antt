@@ -5,25 +5,16 @@ use Rattle.std.proofs.Common.{append-nil, arith, length-append}
 use Rattle.lexical_grammar.specs.declared.scanned.Scanned.{Scanned}
 use Rattle.lexical_grammar.specs.declared.scanned.Scanned.TheVariants.{End, Of, Bad, Open, Long}
 use Rattle.lexical_grammar.specs.declared.scanned.Scanned.TheVariants.{Big}
-use Rattle.lexical_grammar.specs.Bytes.{gap_len, gap_dash, scanned}
-use Rattle.lexical_grammar.specs.Bytes as lexer
+use Rattle.lexical_grammar.specs.Bytes.{is_blank, gap_len, gap_dash, scanned}
 use Rattle.lexical_grammar.specs.Lexed.{Lexes, EndsBy, after_gap}
 use Rattle.lexical_grammar.specs.Spaced.{Each, in_line, IsGap, no_gap, a_blank, a_comment}
 use Rattle.lexical_grammar.specs.Spaced.{last_comment}
 use Rattle.lexical_grammar.proofs.Shapes.{spaced}
-use Rattle.script_parse.specs.Script.{is_blank}
 use Rattle.script_parse.specs.Pads.{has_line_end, ArePads, none, blank, comment, last}
 use Rattle.script_parse.specs.Lexing.{Placed, Lexed, Tokens, Faulty, after_token, by_scanned}
 use Rattle.script_parse.specs.Lexing.{lexed_from, lexed}
 
--- ---- the blanks of both grammars
-
-or_assoc : (p q r s : Bool) → (p || (q || (r || s))) ≡ ((p || q) || (r || s))
-or_assoc true q r s = refl
-or_assoc false q r s = refl
-
-pub same_blanks : (b : ℕ) → lexer.is_blank b ≡ is_blank b
-same_blanks b = or_assoc (b == 32) (b == 9) (b == 10) (b == 13)
+-- ---- what has no token is blanks and comments
 
 no_line_end_here : (here : Bool) {later : Bool} → not here ≡ true → later ≡ false
     → (here || later) ≡ false
@@ -34,12 +25,10 @@ no_line_end : (line : List ℕ) → Each in_line line → has_line_end line ≡ 
 no_line_end [] h = refl
 no_line_end (b ∷ line) h = no_line_end_here (b == 10) h.0 (no_line_end line h.1)
 
--- ---- what has no token is blanks and comments
-
 pub gap_is_pads : (gap rest : List ℕ) → IsGap gap rest → ArePads gap
 gap_is_pads gap rest (no_gap others) = none
 gap_is_pads gap rest (a_blank b more others e h) =
-    blank b more (sym (same_blanks b) ∙ e) (gap_is_pads more others h)
+    blank b more e (gap_is_pads more others h)
 gap_is_pads gap rest (a_comment line more others e h) =
     comment line more (no_line_end line e) (gap_is_pads more others h)
 gap_is_pads gap rest (last_comment line e) = last line (no_line_end line e)
@@ -74,7 +63,7 @@ blank_is_pads (b ∷ bytes) e =
 -- ---- and back: the gap at its prefix is all of it
 
 module _ (n b : ℕ) (bytes : List ℕ) where
-  at_blank : lexer.is_blank b ≡ true → gap_len false n (b ∷ bytes) ≡ gap_len false (n + 1) bytes
+  at_blank : is_blank b ≡ true → gap_len false n (b ∷ bytes) ≡ gap_len false (n + 1) bytes
   unfolding gap_len
   at_blank e = ap (λ t. cond t (gap_len false (n + 1) bytes) (cond (b == 45) (gap_dash n bytes) n))
       e
@@ -118,7 +107,7 @@ through (b ∷ line) rest n h =
 pads_reach : (text : List ℕ) (n : ℕ) → ArePads text → gap_len false n text ≡ n + length text
 pads_reach text n none = let e : gap_len false n [] ≡ n = at_end false n in omega (arith, e)
 pads_reach text n (blank b rest e h) = let k = pads_reach rest (n + 1) h in let s =
-    at_blank n b rest (same_blanks b ∙ e) in omega (arith, k, s)
+    at_blank n b rest e in omega (arith, k, s)
 pads_reach text n (comment line rest e h) =
     let k = pads_reach rest (n + 2 + length line + 1) h in
     let s : gap_len false n (45 ∷ 45 ∷ line ++ 10 ∷ rest)

@@ -3,7 +3,8 @@ use Rattle.std.proofs.Common.{◌≡◌, ℕ, Bool, true, false, List, [], ◌�
 use Rattle.std.proofs.Common.{subst, ◌∙◌, append_assoc, append-nil, inl, inr}
 use Rattle.std.specs.Prelude.{◌==◌, ◌||◌, ◌&&◌, ◌⊎◌, cond}
 use Rattle.std.proofs.lemmas.Bool.Decides.{nat_tests}
-use Rattle.script_parse.specs.Script.{next, is_blank, is_quiet, all_quiet, mode_after, is_settled}
+use Rattle.lexical_grammar.specs.Bytes.{is_blank}
+use Rattle.script_parse.specs.Script.{next, is_quiet, all_quiet, mode_after, is_settled}
 use Rattle.script_parse.specs.Script.{is_clean}
 use Rattle.script_parse.specs.Pads.{has_line_end, ArePads, none, blank, comment, last}
 use Rattle.script_parse.specs.declared.mode.Mode.{Mode}
@@ -20,7 +21,7 @@ blanks : (b : ℕ) → is_blank b ≡ true → (b ≡ 32) ⊎ ((b ≡ 9) ⊎ ((b
 blanks b h = by (b == 32) (b == 9) (b == 10) (b == 13) refl refl refl refl h
   where
     by : (p q r s : Bool) → (b == 32) ≡ p → (b == 9) ≡ q → (b == 10) ≡ r → (b == 13) ≡ s
-        → ((p || q) || (r || s)) ≡ true → (b ≡ 32) ⊎ ((b ≡ 9) ⊎ ((b ≡ 10) ⊎ (b ≡ 13)))
+        → (p || (q || (r || s))) ≡ true → (b ≡ 32) ⊎ ((b ≡ 9) ⊎ ((b ≡ 10) ⊎ (b ≡ 13)))
     by true q r s ep eq er es k = inl (same_number 32 b ep)
     by false true r s ep eq er es k = inr (inl (same_number 9 b eq))
     by false false true s ep eq er es k = inr (inr (inl (same_number 10 b er)))

@@ -1,6 +1,6 @@
 -- Blanks and comments alone, piece by piece.
 use Rattle.std.specs.Prelude.{◌≡◌, ℕ, List, [], ◌∷◌, ◌++◌, ◌==◌, ◌||◌, Bool, true, false}
-use Rattle.script_parse.specs.Script.{is_blank}
+use Rattle.lexical_grammar.specs.Bytes.{is_blank}
 
 -- the text has an LF
 abbrev pub has_line_end : List ℕ → Bool

@@ -2,6 +2,7 @@
 -- comment, and what stands after the last.
 use Rattle.std.specs.Prelude.{ℕ, List, [], ◌∷◌, ◌++◌, ◌==◌, ◌&&◌, ◌||◌, Bool, true, false, nat_lt}
 use Rattle.std.specs.Prelude.{length, map, if◌then◌else◌}
+use Rattle.lexical_grammar.specs.Bytes.{is_blank}
 use Rattle.script_parse.specs.declared.mode.Mode.{Mode}
 use Rattle.script_parse.specs.declared.mode.Mode.TheVariants.{Plain, Dash, Quoted, Comment}
 use Rattle.script_parse.specs.declared.splitter.Tail.{Tail}
@@ -64,10 +65,6 @@ part_of statement = if is_too_long statement then Skipped else Whole statement
 
 abbrev pub parts_from : Mode → List ℕ → List ℕ → List StatementPart
 parts_from mode current bytes = map part_of (statements_from mode current bytes)
-
--- a space, a tab, an LF or a CR
-abbrev pub is_blank : ℕ → Bool
-is_blank b = (b == 32 || b == 9) || (b == 10 || b == 13)
 
 -- the byte is a blank, or belongs to a comment if a second dash comes after a first
 abbrev pub is_quiet : Mode → ℕ → Bool

@@ -1,7 +1,8 @@
 //! Where a script stands after some bytes: in plain text, a text literal or a comment.
 
 ghost use Rattle.std.specs.Prelude.{◌≡◌, ◌==◌, ◌&&◌, if◌then◌else◌};
-ghost use Rattle.script_parse.specs.Script.{next, is_end, is_blank, is_quiet, is_settled};
+ghost use Rattle.lexical_grammar.specs.Bytes.{is_blank};
+ghost use Rattle.script_parse.specs.Script.{next, is_end, is_quiet, is_settled};
 
 /// Where a byte stands: outside texts and comments, there after a single dash, in a text literal,
 /// or in a comment.

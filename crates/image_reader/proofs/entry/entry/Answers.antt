@@ -2,9 +2,9 @@ use Rattle.std.proofs.Common.{sym, ap, ◌∙◌, arith}
 use Rattle.relations.specs.Spans.{span}
 use Rattle.prima_base.specs.Order.{shown}
 use Rattle.command_spelling.specs.Reading.{Parsed, map_to, pair}
-use Rattle.command_spelling.specs.Reader.{value}
+use Rattle.command_spelling.specs.Reader.{number_64, value}
 use Rattle.image_spelling.specs.Judged.{is_due}
-use Rattle.image_spelling.specs.Reader.{entry, number_64, period, cell_of}
+use Rattle.image_spelling.specs.Reader.{entry, period, cell_of}
 use Rattle.image_spelling.proofs.Filling.{due_is}
 use Rattle.image_reader.specs.Seen.{unjudged_seen}
 use Rattle.image_reader.proofs.ItemSteps.{judged_got, judged_wrong, judged_fails}

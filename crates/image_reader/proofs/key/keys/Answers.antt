@@ -1,6 +1,7 @@
 use Rattle.std.proofs.lemmas.Result.{err_from_is_err_and}
 use Rattle.std.proofs.Common.{ap, ◌∙◌}
 use Rattle.command_spelling.specs.Reading.{and_then, items}
+use Rattle.command_spelling.specs.Reader as parts
 use Rattle.image_spelling.specs.Items.{item}
 use Rattle.image_spelling.specs.Reader as spec
 use Rattle.image_reader.proofs.ItemSteps.{counted_fails, after_fails}
@@ -11,7 +12,7 @@ pub returns-in_err-count : goal.returns-in_err-count
 unfolding spec.keys
 returns-in_err-count c =
     let f = err_from_is_err_and c.from_residual.result c.from_residual.ensures.1 in
-    rw (f.1, f.2) (counted_fails (item spec.number_64) (λ n. items (spec.key c.args.last) n)
+    rw (f.1, f.2) (counted_fails (item parts.number_64) (λ n. items (spec.key c.args.last) n)
     c.args.reader.now.rest.now c.in_err-count.field-0.0 c.count_64.new.reader.rest.now
     c.in_err-count.ensures)
 
@@ -20,7 +21,7 @@ unfolding spec.keys
 returns-in_err-key c =
     let f = err_from_is_err_and c.from_residual-in_err-key.result
     c.from_residual-in_err-key.ensures.1 in
-    rw (f.1, f.2) (after_fails (item spec.number_64) (λ n. items (spec.key c.args.last) n)
+    rw (f.1, f.2) (after_fails (item parts.number_64) (λ n. items (spec.key c.args.last) n)
     c.args.reader.now.rest.now c.in_ok-count.count c.count_64.new.reader.rest.now
     c.in_ok-count.ensures c.in_err-key.field-0.0 c.key.new.reader.rest.now
     (item_failed (spec.key c.args.last) (items (spec.key c.args.last) c.in_ok-count.count

@@ -2,9 +2,9 @@ use Rattle.std.proofs.Common.{◌≡◌, map, length, sym, ap, ◌∙◌}
 use Rattle.smo_types.specs.Commands.{version_of}
 use Rattle.smo_meaning.specs.Past.{no_tables, newest_from}
 use Rattle.command_spelling.specs.Reading.{Parsed, and_then, pure, pair}
-use Rattle.command_spelling.specs.Reader.{operator, operators}
+use Rattle.command_spelling.specs.Reader.{number_64, operator, operators}
 use Rattle.image_spelling.specs.Judged.{is_version}
-use Rattle.image_spelling.specs.Reader.{version, evolution, version_after, number_64}
+use Rattle.image_spelling.specs.Reader.{version, evolution, version_after}
 use Rattle.image_reader.specs.NextVersion.{newest_stamp, version_read}
 use Rattle.image_reader.proofs.ItemSteps.{judged_got, judged_wrong, judged_fails, counted_fails}
 use Rattle.image_reader.proofs.version.version.Goals as goal
