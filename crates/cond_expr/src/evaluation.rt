@@ -5,24 +5,14 @@ ghost use Rattle.cond_expr.specs.Trees.{column};
 ghost use Rattle.cond_expr.specs.Values.{value, texts, truth, all_true, some_true, bytes_of};
 ghost use Rattle.cond_expr.specs.Values.{agrees, chosen};
 ghost use Rattle.cond_expr.specs.Seen.{tree, test, trees_of, tests_of};
-ghost use Rattle.cond_expr.specs.Rows.{names, flat, IsValid, AreValid, lies_elsewhere};
+ghost use Rattle.cond_expr.specs.Rows.{flat, IsValid, AreValid, lies_elsewhere};
 ghost use Rattle.cond_expr.specs.declared.expr.Whose.{Whose as WhoseColumn};
 
-use crate::{CmpOp, ColRef, Column, Cond, Expr, Whose};
+use crate::{CmpOp, ColRef, Column, Cond, Expr};
 use prima_base::limits::MAX_TEXT;
-use prima_base::{NoMemory, Txt, Val, same_name};
+use prima_base::{NoMemory, Txt, Val};
 use std::alloc::Global;
 use std::cmp::Ordering;
-
-// Whether the reference names this column.
-pub(crate) fn names(reference: &ColRef, column: &Column) -> bool
-    ensures { result ≡ names reference.now.whose reference.now.name column.now }
-{
-    match reference.whose {
-        Whose::Atom(atom) => column.atom == atom && same_name(&reference.name, &column.name),
-        Whose::Free | Whose::Alias(_) => false,
-    }
-}
 
 // The value of the first column that the reference names.
 fn look_up<'a>(
@@ -42,7 +32,7 @@ fn look_up<'a>(
         [first, rest @ ..] => match values {
             [] => Ok(Val::Int(0)),
             [value, more @ ..] => {
-                if names(reference, first) {
+                if reference.names(first) {
                     return value.copy();
                 }
                 look_up(rest, more, reference)
@@ -64,7 +54,7 @@ fn lend_column<'a>(columns: &[Column], values: &'a [Val<'_>], reference: &ColRef
         [first, rest @ ..] => match values {
             [] => Val::Int(0),
             [value, more @ ..] => {
-                if names(reference, first) {
+                if reference.names(first) {
                     return value.lend();
                 }
                 lend_column(rest, more, reference)

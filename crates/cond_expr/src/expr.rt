@@ -1,4 +1,4 @@
-use prima_base::{ColType, Name, NoMemory, Value};
+use prima_base::{ColType, Name, NoMemory, Value, same_name};
 
 /// Whose column a reference names. `Free` and `Alias` stand only in a query as written; what is
 /// typed and evaluated names each column by its atom, counted from 0.
@@ -19,6 +19,22 @@ pub struct ColRef {
     pub whose: Whose,
     /// The column's name.
     pub name: Name,
+}
+
+impl ColRef {
+    ghost use Rattle.std.specs.Prelude.{◌≡◌};
+    ghost use Rattle.cond_expr.specs.Rows.{names};
+
+    /// Whether it names this column: it is to the column's atom and has its name. It takes no
+    /// memory.
+    pub fn names(&self, column: &Column) -> bool
+        ensures { result ≡ names self.now.whose self.now.name column.now }
+    {
+        match self.whose {
+            Whose::Atom(atom) => column.atom == atom && same_name(&self.name, &column.name),
+            Whose::Free | Whose::Alias(_) => false,
+        }
+    }
 }
 
 /// An expression.

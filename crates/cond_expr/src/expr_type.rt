@@ -6,13 +6,12 @@ ghost use Rattle.cond_expr.specs.declared.expr.TypeFault.TheVariants.{NoMemory a
 ghost use Rattle.cond_expr.specs.Trees.{length_of, joined};
 ghost use Rattle.cond_expr.specs.Seen.{tree, test, trees_of, tests_of};
 ghost use Rattle.cond_expr.specs.Sizes.{nodes_of, trees_nodes, test_nodes, tests_nodes};
-ghost use Rattle.cond_expr.specs.Kinds.{kinds_of, kind_of, is_typed};
+ghost use Rattle.cond_expr.specs.Kinds.{kinds_of, kind_of, is_typed, value_kind};
 ghost use Rattle.cond_expr.specs.Faults.{references, trees_references, test_references};
 ghost use Rattle.cond_expr.specs.Faults.{tests_references, first_unknown, untyped, test_untyped};
 ghost use Rattle.cond_expr.specs.Faults.{first_of, Judged, TestJudged};
 ghost use Rattle.cond_expr.specs.Walks.{Walked, TreesWalked, TestWalked, TestsWalked};
 
-use crate::evaluation::names;
 use crate::{ColRef, Column, Cond, Expr, TypeFault};
 use prima_base::{ColType, Name, Value};
 
@@ -30,12 +29,22 @@ pub(crate) struct Parts {
     next: u32,
 }
 
+/// The type of a value. It takes no memory.
+pub fn value_kind(value: &Value) -> ColType
+    ensures { result ≡ value_kind value.now }
+{
+    match value {
+        Value::Int(_) => ColType::Int,
+        Value::Text(_) => ColType::Text,
+    }
+}
+
 // The type of the first column that the reference names.
 fn column_kind(reference: &ColRef, columns: &[Column]) -> Option<ColType>
     ensures { result ≡ kinds_of columns.now reference.now.whose reference.now.name }
 {
     for column in columns {
-        if names(reference, column) {
+        if reference.names(column) {
             return Some(column.kind);
         }
     }

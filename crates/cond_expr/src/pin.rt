@@ -17,7 +17,6 @@ ghost use Rattle.cond_expr.specs.PinnedParts.{pinned};
 ghost use Rattle.std.specs.Prelude.{Some};
 
 use crate::comparison::{same_way, turned};
-use crate::evaluation::names;
 use crate::{CmpOp, Column, Cond, Expr};
 use prima_base::Value;
 
@@ -32,7 +31,7 @@ fn beside<'e>(asked: bool, side: &Expr, other: &'e Expr, column: &Column) -> Opt
     }
     match side {
         Expr::Col(reference) => {
-            if !names(reference, column) {
+            if !reference.names(column) {
                 return None;
             }
             match other {

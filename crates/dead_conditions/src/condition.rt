@@ -7,17 +7,7 @@ ghost use Rattle.dead_conditions.specs.Tried.{is_never, one_is_let, kills, is_ki
 use crate::bound::{ColumnBound, bound_of};
 use crate::column::{ColumnOf, one_is_let};
 use crate::part::{PartTest, some_part};
-use cond_expr::Cond;
-use prima_base::{ColType, Value};
-
-fn kind_of(value: &Value) -> ColType
-    ensures { result ≡ value_kind value.now }
-{
-    match value {
-        Value::Int(_) => ColType::Int,
-        Value::Text(_) => ColType::Text,
-    }
-}
+use cond_expr::{Cond, value_kind};
 
 // Whether it is FALSE.
 #[tactic(auto, using(cond_expr::proofs::SeenLaws::test_of_and, cond_expr::proofs::SeenLaws::test_of_or, cond_expr::proofs::SeenLaws::test_of_cmp))]
@@ -39,7 +29,7 @@ fn empties(whole: &Cond, bound: ColumnBound<'_>) -> bool
         atom: bound.atom,
         name: bound.name,
     };
-    !one_is_let(whole, column, kind_of(bound.limit))
+    !one_is_let(whole, column, value_kind(bound.limit))
 }
 
 /// Passes FALSE, and the parts whose column is left no value.

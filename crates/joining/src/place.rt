@@ -4,7 +4,7 @@ ghost use Rattle.std.specs.Prelude.{◌≡◌, ◌+◌, ◌++◌, true, List, le
 ghost use Rattle.std.specs.Ordering.{is_eq};
 ghost use Rattle.prima_base.specs.declared.value.Value.{Value as OneValue};
 ghost use Rattle.prima_base.specs.Order.{value_cmp};
-ghost use Rattle.cond_expr.specs.Rows.{names, cells};
+ghost use Rattle.cond_expr.specs.Rows.{cells};
 ghost use Rattle.cond_expr.specs.Seen.{tree, test};
 ghost use Rattle.cond_expr.specs.Faults.{test_references};
 ghost use Rattle.cond_expr.specs.Values.{value};
@@ -12,27 +12,15 @@ ghost use Rattle.timed_choices.specs.Keeping.{value_at, meets, meets_all, picked
 ghost use Rattle.timed_choices.specs.Placing.{place, is_below, all_below};
 ghost use Rattle.cond_expr.specs.References.{borrowed};
 
-use cond_expr::{CmpOp, ColRef, Column, Cond, Expr, Whose, gather_references};
-use prima_base::{NoMemory, same_name};
+use cond_expr::{CmpOp, ColRef, Column, Cond, Expr, gather_references};
+use prima_base::NoMemory;
 use std::alloc::Global;
-
-// Whether the reference names the column.
-fn is_named(reference: &ColRef, column: &Column) -> bool
-    ensures { result ≡ names reference.now.whose reference.now.name column.now }
-{
-    match reference.whose {
-        Whose::Atom(atom) => column.atom == atom && same_name(&reference.name, &column.name),
-        Whose::Free | Whose::Alias(_) => false,
-    }
-}
 
 /// The place of the first column that the reference names.
 pub(crate) fn place_of(columns: &[Column], reference: &ColRef) -> Option<usize>
     ensures { result ≡ place columns.now reference.now.whose reference.now.name }
 {
-    columns
-        .iter()
-        .position(|column| is_named(reference, column))
+    columns.iter().position(|column| reference.names(column))
 }
 
 // Whether the reference stands among so many values, and then so many more.

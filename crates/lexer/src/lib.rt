@@ -31,5 +31,5 @@ pub use parse::{fault_at, limit_of, parse_cond, parse_expr, tail};
 pub use parser_combinators::{Cursor, ParseFault, Stop};
 pub use reader::{fresh_cond, fresh_expr, fresh_where, outer_cond, outer_expr, outer_where};
 pub use token_readers::{
-    constant, int, is_name, literal, moment, name, names, natural, small, tokens,
+    constant, int, is_blank, is_name, literal, moment, name, names, natural, small, tokens,
 };

@@ -6,26 +6,6 @@ use cond_expr::{Expr, Fill, fill_expr};
 use prima_base::{Name, NoMemory};
 use std::alloc::Global;
 
-fn copy_output(alloc: Global, out: &(Name, Expr)) -> Result<(Name, Expr), NoMemory>
-    ensures { IfOk result (λ o. set_of_expr o ≡ set_of_expr out.now) }
-{
-    Ok((out.0.copy()?, out.1.copy(alloc)?))
-}
-
-/// Equal outputs.
-pub(crate) fn copy_outputs(
-    alloc: Global,
-    outs: &[(Name, Expr)],
-) -> Result<Vec<(Name, Expr)>, NoMemory>
-    ensures { IfOk result (λ v. sets_of v.items ≡ sets_of outs.now) }
-{
-    let mut copied = Vec::with_capacity(alloc, outs.len())?;
-    for out in outs {
-        copied.push(copy_output(alloc, out)?)?;
-    }
-    Ok(copied)
-}
-
 fn fill_output<F: Fill>(by: &F, alloc: Global, out: &(Name, Expr)) -> Result<(Name, Expr), NoMemory>
     ensures { IfOk result (λ o. set_of_expr o ≡ filled_out (F.puts by.now) (set_of_expr out.now)) }
 {

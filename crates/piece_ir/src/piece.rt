@@ -1,7 +1,7 @@
 use crate::name::copy_names;
-use crate::output::copy_outputs;
 use cond_expr::{Cond, Expr};
 use prima_base::{Name, NoMemory};
+use smo_types::copy_sets;
 use std::alloc::Global;
 
 /// A query over the tables of one version, as rewriting takes it from version to version (PRISM
@@ -30,7 +30,7 @@ impl Piece {
         Ok(Piece {
             atoms: copy_names(alloc, &self.atoms)?,
             cond: self.cond.copy(alloc)?,
-            outs: copy_outputs(alloc, &self.outs)?,
+            outs: copy_sets(alloc, &self.outs)?,
         })
     }
 }

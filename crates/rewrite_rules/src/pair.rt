@@ -17,16 +17,6 @@ use schema_catalog::Schema;
 use smo_schemas::has_name;
 use std::alloc::Global;
 
-// The columns of the table; none where there is no such table.
-fn columns_of<'a>(schema: &'a Schema, table: &Name) -> &'a [(Name, ColType)]
-    ensures { result.now ≡ columns_of schema.now table.now }
-{
-    match schema.table(table) {
-        Some(found) => found.columns(),
-        None => &[],
-    }
-}
-
 // The columns of the two tables of a JOIN.
 #[derive(Drop)]
 struct Pair<'a> {
@@ -162,8 +152,8 @@ pub(crate) fn paired(
     ensures { IfOk result (λ v. view_of v ≡ paired left.now (columns_of before.now left.now)
         right.now (columns_of before.now right.now) (test cond.now)) }
 {
-    let first = columns_of(before, left);
-    let second = columns_of(before, right);
+    let first = before.columns_of(left);
+    let second = before.columns_of(right);
     let pair = Pair { first, second };
     Ok(View {
         atoms: two_atoms(alloc, left, right)?,

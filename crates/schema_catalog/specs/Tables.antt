@@ -1,5 +1,6 @@
 -- A schema: the map from its tables' names to their columns.
-use Rattle.std.specs.Prelude.{◌≡◌, ℕ, List, Bool, true, false, Some, refl}
+use Rattle.std.specs.Prelude.{◌≡◌, ℕ, List, [], Bool, true, false, Some, refl}
+use Rattle.std.specs.Option.{unwrap_or}
 use Rattle.std.specs.FinMap.{FinMap, get, code}
 use Rattle.std.specs.Coded.{Coded, code_by, coded×, coded_ℕ, coded_bool, coded_list}
 use Rattle.prima_base.specs.declared.value.ColType.{ColType}
@@ -9,6 +10,10 @@ use Rattle.prima_base.specs.Columns.{Column, AreColumns}
 
 abbrev pub Tables : Type 0
 Tables = FinMap bytes_cmp (List Column)
+
+-- the columns of a table; none where there is no such table
+abbrev pub columns_of : Tables → List ℕ → List Column
+columns_of tables name = unwrap_or (get tables name) []
 
 -- each table's columns stand in the order of their names, each once
 abbrev pub IsSchema : Tables → Type 0

@@ -1,6 +1,6 @@
 use crate::place::{copy_tables, copy_without, place_of, put_table};
 use crate::table::{SharedTable, Table};
-use prima_base::{Name, NoMemory};
+use prima_base::{ColType, Name, NoMemory};
 use std::alloc::Global;
 use std::marker::Model;
 
@@ -30,7 +30,8 @@ impl Model for Schema {
 impl Schema {
     ghost use Rattle.std.specs.Prelude.{◌≡◌, ◌<◌, Some, None, length, slice_get, MatchOption, IfOk};
     ghost use Rattle.std.specs.FinMap as map;
-    ghost use Rattle.schema_catalog.specs.Tables.{IsSchema};
+    ghost use Rattle.prima_base.specs.Columns.{AreColumns};
+    ghost use Rattle.schema_catalog.specs.Tables.{IsSchema, columns_of};
     ghost use Rattle.schema_catalog.specs.Places.{AreTablesOf};
 
     /// The schema with no table. It takes no memory.
@@ -60,6 +61,18 @@ impl Schema {
         match place_of(&self.tables, name) {
             Ok(i) => Some(self.tables[i].table()),
             Err(_) => None,
+        }
+    }
+
+    /// The columns of the table with this name; none where there is no such table. It takes no
+    /// memory.
+    pub fn columns_of(&self, name: &Name) -> &[(Name, ColType)]
+        ensures columns { result.now ≡ columns_of self.now name.now }
+        ensures valid { AreColumns result.now }
+    {
+        match self.table(name) {
+            Some(found) => found.columns(),
+            None => &[],
         }
     }
 

@@ -1,8 +1,9 @@
 //! Where a script stands after some bytes: in plain text, a text literal or a comment.
 
 ghost use Rattle.std.specs.Prelude.{◌≡◌, ◌==◌, ◌&&◌, if◌then◌else◌};
-ghost use Rattle.lexical_grammar.specs.Bytes.{is_blank};
 ghost use Rattle.script_parse.specs.Script.{next, is_end, is_quiet, is_settled};
+
+use lexer::is_blank;
 
 /// Where a byte stands: outside texts and comments, there after a single dash, in a text literal,
 /// or in a comment.
@@ -12,12 +13,6 @@ pub(crate) enum Mode {
     Dash,
     Quoted,
     Comment,
-}
-
-fn is_blank(byte: u8) -> bool
-    ensures { result ≡ is_blank byte }
-{
-    matches!(byte, b' ' | b'\t' | b'\n' | b'\r')
 }
 
 // Outside texts and comments: `dashed` is where a dash leads.

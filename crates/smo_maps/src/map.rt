@@ -1,6 +1,4 @@
 ghost use Rattle.std.specs.Prelude.{◌≡◌, [], None, IfOk};
-ghost use Rattle.prima_base.specs.Columns.{AreColumns};
-ghost use Rattle.smo_meaning.specs.Effects.{columns_of};
 ghost use Rattle.smo_types.specs.Operators.{operator_of};
 ghost use Rattle.smo_meaning.specs.After.{op_fault};
 ghost use Rattle.smo_maps.specs.Carrying.{IsCarried};
@@ -13,7 +11,7 @@ use crate::merge_table::united;
 use crate::partition_table::parted;
 use crate::rename_column::under_another_name;
 use crate::whole_table::copied;
-use prima_base::{ColType, Name, NoMemory, Row};
+use prima_base::{NoMemory, Row};
 use schema_catalog::Schema;
 use smo_ops::Op;
 use std::alloc::Global;
@@ -24,17 +22,6 @@ use std::alloc::Global;
 pub struct Carried {
     pub first: Vec<Row>,
     pub second: Vec<Row>,
-}
-
-// The columns of the table; none where there is no such table.
-fn columns_of<'a>(schema: &'a Schema, table: &Name) -> &'a [(Name, ColType)]
-    ensures columns { result.now ≡ columns_of schema.now table.now }
-    ensures valid { AreColumns result.now }
-{
-    match schema.table(table) {
-        Some(found) => found.columns(),
-        None => &[],
-    }
 }
 
 // Where no table is made.
@@ -85,7 +72,7 @@ pub fn carry(
         Op::CopyTable { .. } => Ok(one(alloc, copied(alloc, first)?)),
         Op::MergeTable { .. } => Ok(one(alloc, united(alloc, first, second)?)),
         Op::PartitionTable { table, cond, .. } => {
-            parted(alloc, columns_of(before, table), cond, first)
+            parted(alloc, before.columns_of(table), cond, first)
         }
         Op::DecomposeTable {
             table,
@@ -93,7 +80,7 @@ pub fn carry(
             right_columns,
             ..
         } => {
-            let columns = columns_of(before, table);
+            let columns = before.columns_of(table);
             Ok(Carried {
                 first: with_names(alloc, columns, left_columns, first)?,
                 second: with_names(alloc, columns, right_columns, first)?,
@@ -105,8 +92,8 @@ pub fn carry(
             cond,
             ..
         } => {
-            let columns = columns_of(before, left);
-            let others = columns_of(before, right);
+            let columns = before.columns_of(left);
+            let others = before.columns_of(right);
             Ok(one(alloc, joined(alloc, columns, others, cond, first, second)?))
         }
         Op::AddColumn {
@@ -114,11 +101,11 @@ pub fn carry(
             expr,
             table,
         } => {
-            let columns = columns_of(before, table);
+            let columns = before.columns_of(table);
             Ok(one(alloc, with_value(alloc, columns, column, expr, first)?))
         }
         Op::DropColumn { column, table } => {
-            let columns = columns_of(before, table);
+            let columns = before.columns_of(table);
             Ok(one(alloc, without_column(alloc, columns, column, first)?))
         }
         Op::RenameColumn {
@@ -126,7 +113,7 @@ pub fn carry(
             table,
             into,
         } => {
-            let columns = columns_of(before, table);
+            let columns = before.columns_of(table);
             Ok(one(
                 alloc,
                 under_another_name(alloc, columns, column, into, first)?,

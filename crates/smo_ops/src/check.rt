@@ -1,7 +1,6 @@
 ghost use Rattle.std.specs.Prelude.{◌≡◌, ◌++◌, ◌+◌, ◌<◌, ◌≤◌, ◌^◌, ◌∷◌, [], ◌⊎◌, length, Some};
 ghost use Rattle.std.specs.Prelude.{None, IsOkUnless, IsErrOf, IfOk};
 ghost use Rattle.prima_base.specs.Columns.{AreColumns, names_of};
-ghost use Rattle.cond_expr.specs.Kinds.{value_kind};
 ghost use Rattle.smo_meaning.specs.First.{first_refusal};
 ghost use Rattle.cond_expr.specs.Seen.{test};
 ghost use Rattle.cond_expr.specs.Sizes.{test_nodes};
@@ -24,7 +23,7 @@ ghost use Rattle.smo_ops.specs.Walks.{IsWalked};
 use crate::type_check::{
     check_all_references, check_sets, check_test_references, check_test_types,
 };
-use cond_expr::{Cond, Expr, cond_size};
+use cond_expr::{Cond, Expr, cond_size, value_kind};
 use prima_base::{ColType, Name, Refusal, Value};
 use schema_catalog::Schema;
 use smo_schemas::{OwnColumns, has_name, type_in};
@@ -78,20 +77,11 @@ fn check_cells(
     ensures { IsTested (first_refusal (cell_faults columns.now at cells.now)) result }
 {
     for (i, (name, value)) in cells.iter().enumerate() {
-        if type_in(columns, name) != Some(kind_of(value)) {
+        if type_in(columns, name) != Some(value_kind(value)) {
             return Err(ChangeFault::Refused(Refusal::WrongType(at + i as u32)));
         }
     }
     Ok(())
-}
-
-pub(crate) fn kind_of(value: &Value) -> ColType
-    ensures { result ≡ value_kind value.now }
-{
-    match value {
-        Value::Int(_) => ColType::Int,
-        Value::Text(_) => ColType::Text,
-    }
 }
 
 // The tests of an INSERT; the number of the node after it.

@@ -38,7 +38,9 @@ fn copy_set(alloc: Global, set: &(Name, Expr)) -> Result<(Name, Expr), NoMemory>
     Ok((set.0.copy()?, set.1.copy(alloc)?))
 }
 
-fn copy_sets(alloc: Global, sets: &[(Name, Expr)]) -> Result<Vec<(Name, Expr)>, NoMemory>
+/// Equal pairs of a column and what it gets or shows, in their order. The one error is `NoMemory`,
+/// where memory runs out.
+pub fn copy_sets(alloc: Global, sets: &[(Name, Expr)]) -> Result<Vec<(Name, Expr)>, NoMemory>
     ensures { IfOk result (λ v. sets_of v.items ≡ sets_of sets.now) }
 {
     let mut copied = Vec::with_capacity(alloc, sets.len())?;

@@ -13,5 +13,6 @@ mod version;
 
 pub use change::{Change, ChangeFault};
 pub use command::{Body, Command};
+pub use copy::copy_sets;
 pub use op::{InverseFault, Op, OpFault};
 pub use version::{Version, Versions};

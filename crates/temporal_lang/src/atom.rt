@@ -19,10 +19,7 @@ fn push_table(
     ensures { OnOk result (into.new.items ≡ into.old.items
         ++ columns_at atom (columns_of schema.now table.now)) }
 {
-    match schema.table(table) {
-        Some(found) => push_columns_at(into, atom, found.columns()),
-        None => Ok(()),
-    }
+    push_columns_at(into, atom, schema.columns_of(table))
 }
 
 /// The columns of the items, each as those of the atom that is the item's place.

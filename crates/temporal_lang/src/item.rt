@@ -30,10 +30,7 @@ fn is_named(columns: &[(Name, ColType)], name: &Name) -> bool
 pub(crate) fn has_column(schema: &Schema, table: &Name, name: &Name) -> bool
     ensures { result ≡ among name.now (names_of (columns_of schema.now table.now)) }
 {
-    match schema.table(table) {
-        Some(found) => is_named(found.columns(), name),
-        None => false,
-    }
+    is_named(schema.columns_of(table), name)
 }
 
 // Whether one of the items has the alias.

@@ -22,6 +22,7 @@ mod word;
 
 pub use atom_reader::{atom, falsehood, no_bracket, sees_op, truth};
 pub use constant_reader::{constant, int, literal, moment, name, names, natural, small};
+pub use scanned::is_blank;
 use scanned::{gap, scan_at};
 pub use word::is_name;
 

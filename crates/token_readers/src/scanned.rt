@@ -27,7 +27,8 @@ fn is_name_byte(b: u8) -> bool
     (b'a' <= b && b <= b'z') || (b'A' <= b && b <= b'Z') || is_digit(b) || b == b'_'
 }
 
-fn is_blank(b: u8) -> bool
+/// Whether the byte is a blank: a space, a tab, an LF or a CR. It takes no memory.
+pub fn is_blank(b: u8) -> bool
     ensures { result ≡ spec.is_blank b }
 {
     b == b' ' || b == b'\t' || b == b'\n' || b == b'\r'
