@@ -392,11 +392,12 @@ pub fn outer_cond(alloc: Global, c: &mut Cursor<'_, '_>, qualified: bool) -> Res
 }
 
 /// An expression with counts of its own: 256 nodes and 32 open constructs, whatever was counted
-/// before it. After it the cursor's count is as it was.
+/// before it. After it the cursor's count is as it was, whatever the answer.
 #[tactic(auto, using(parser_combinators::proofs::ReadSteps::fresh_fails))]
 pub fn fresh_expr(alloc: Global, c: &mut Cursor<'_, '_>, qualified: bool) -> Result<Expr, Stop>
-    ensures { Reads tree (parsing.fresh (spec.outermost qualified).expr c.old.nodes (ahead c.old))
-        result c.new }
+    ensures read { Reads tree (parsing.fresh (spec.outermost qualified).expr c.old.nodes
+        (ahead c.old)) result c.new }
+    ensures count { c.new.nodes ≡ c.old.nodes }
 {
     let before = c.nodes;
     c.nodes = 0;
@@ -408,8 +409,9 @@ pub fn fresh_expr(alloc: Global, c: &mut Cursor<'_, '_>, qualified: bool) -> Res
 /// A condition with counts of its own, as `fresh_expr`.
 #[tactic(auto, using(parser_combinators::proofs::ReadSteps::fresh_fails))]
 pub fn fresh_cond(alloc: Global, c: &mut Cursor<'_, '_>, qualified: bool) -> Result<Cond, Stop>
-    ensures { Reads test (parsing.fresh (spec.outermost qualified).cond c.old.nodes (ahead c.old))
-        result c.new }
+    ensures read { Reads test (parsing.fresh (spec.outermost qualified).cond c.old.nodes
+        (ahead c.old)) result c.new }
+    ensures count { c.new.nodes ≡ c.old.nodes }
 {
     let counted = c.nodes;
     c.nodes = 0;
@@ -435,7 +437,9 @@ pub fn outer_where(alloc: Global, c: &mut Cursor<'_, '_>, qualified: bool) -> Re
 /// `fresh_cond`.
 #[tactic(auto, unfolding(expr_grammar::specs::Where::fresh_where), using(parser_combinators::proofs::ReadSteps::option_not, parser_combinators::proofs::ReadSteps::option_takes))]
 pub fn fresh_where(alloc: Global, c: &mut Cursor<'_, '_>, qualified: bool) -> Result<Cond, Stop>
-    ensures { Reads test (wheres.fresh_where qualified c.old.nodes (ahead c.old)) result c.new }
+    ensures read { Reads test (wheres.fresh_where qualified c.old.nodes (ahead c.old)) result
+        c.new }
+    ensures count { c.new.nodes ≡ c.old.nodes }
 {
     if !c.sees_word(b"WHERE") {
         return Ok(truth());
