@@ -9,11 +9,17 @@ use Rattle.smo_types.specs.declared.change.Change.{Change}
 use Rattle.smo_meaning.specs.First.{first_refusal}
 use Rattle.smo_meaning.specs.Checks.{tests_after}
 use Rattle.smo_meaning.specs.Effects.{gained_rows}
+use Rattle.smo_meaning.specs.Inserting.{relation_after_each}
 use Rattle.smo_meaning.specs.OneRow.{Relation}
 
 -- those that are borrowed
 abbrev pub borrowed_changes : List (Bor Change) → List PlainChange
 borrowed_changes changes = map (λ (c : Bor Change). change_of c.now) changes
+
+-- the relation that the changes make of the one that the table has at the stamp
+abbrev pub changed_relation : List Column → List (Bor Change) → Store → ℕ → Relation
+changed_relation columns changes store stamp = relation_after_each columns
+    (borrowed_changes changes) (relation_at store stamp)
 
 -- each is accepted over a table of these columns
 abbrev pub AreAccepted : List Column → List PlainChange → Type 0

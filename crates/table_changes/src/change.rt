@@ -10,8 +10,9 @@ ghost use Rattle.prima_base.specs.Columns.{AreColumns, IsRelation};
 ghost use Rattle.history_store.specs.Store.{AllBefore, relation_at};
 ghost use Rattle.smo_types.specs.Changes.{change_of};
 ghost use Rattle.smo_meaning.specs.Effects.{gained_rows};
-ghost use Rattle.smo_meaning.specs.Inserting.{relation_after_each, insertions};
+ghost use Rattle.smo_meaning.specs.Inserting.{insertions};
 ghost use Rattle.table_changes.specs.Changing.{AreAccepted, IsChange, borrowed_changes};
+ghost use Rattle.table_changes.specs.Changing.{changed_relation};
 
 use crate::overlay::{condition, given_row, lost_and_gained};
 use candidate_rows::column_asked;
@@ -108,16 +109,11 @@ fn prepare_overlay<'a>(
     ensures same { store.new ≡ record store.old { spare = store.new.spare } }
     ensures spare { store.old.spare ≤ store.new.spare }
     ensures change { IfOk result (λ p. IsChange store.new stamp
-        (relation_after_each columns.now (borrowed_changes changes.now)
-        (relation_at store.old stamp)) p) }
-    ensures gained { IfOk result (λ p. length p.gained
-        ≡ length (gained_rows (relation_at store.old stamp)
-        (relation_after_each columns.now (borrowed_changes changes.now)
-        (relation_at store.old stamp)))) }
-    ensures lost { IfOk result (λ p. length p.lost
-        ≡ length (gained_rows (relation_after_each columns.now
-        (borrowed_changes changes.now) (relation_at store.old stamp))
-        (relation_at store.old stamp))) }
+        (changed_relation columns.now changes.now store.old stamp) p) }
+    ensures gained { IfOk result (λ p. length p.gained ≡ length (gained_rows
+        (relation_at store.old stamp) (changed_relation columns.now changes.now store.old stamp))) }
+    ensures lost { IfOk result (λ p. length p.lost ≡ length (gained_rows
+        (changed_relation columns.now changes.now store.old stamp) (relation_at store.old stamp))) }
 {
     store.rows_are_a_relation();
     let (lost, gained) = lost_and_gained(alloc, columns, store, changes)?;
@@ -183,16 +179,11 @@ fn prepare_indexed<'a>(
         { spare = store.new.spare; indexed = store.new.indexed } }
     ensures spare { store.old.spare ≤ store.new.spare }
     ensures change { IfOk result (λ p. IsChange store.new stamp
-        (relation_after_each columns.now (borrowed_changes changes.now)
-        (relation_at store.old stamp)) p) }
-    ensures gained { IfOk result (λ p. length p.gained
-        ≡ length (gained_rows (relation_at store.old stamp)
-        (relation_after_each columns.now (borrowed_changes changes.now)
-        (relation_at store.old stamp)))) }
-    ensures lost { IfOk result (λ p. length p.lost
-        ≡ length (gained_rows (relation_after_each columns.now
-        (borrowed_changes changes.now) (relation_at store.old stamp))
-        (relation_at store.old stamp))) }
+        (changed_relation columns.now changes.now store.old stamp) p) }
+    ensures gained { IfOk result (λ p. length p.gained ≡ length (gained_rows
+        (relation_at store.old stamp) (changed_relation columns.now changes.now store.old stamp))) }
+    ensures lost { IfOk result (λ p. length p.lost ≡ length (gained_rows
+        (changed_relation columns.now changes.now store.old stamp) (relation_at store.old stamp))) }
 {
     let own = OwnColumns::new(alloc, columns)?;
     index_each(alloc, &own, store, changes)?;
@@ -224,16 +215,11 @@ pub fn prepare_table<'a>(
         { spare = store.new.spare; indexed = store.new.indexed } }
     ensures spare { store.old.spare ≤ store.new.spare }
     ensures change { IfOk result (λ p. IsChange store.new stamp
-        (relation_after_each columns.now (borrowed_changes changes.now)
-        (relation_at store.old stamp)) p) }
-    ensures gained { IfOk result (λ p. length p.gained
-        ≡ length (gained_rows (relation_at store.old stamp)
-        (relation_after_each columns.now (borrowed_changes changes.now)
-        (relation_at store.old stamp)))) }
-    ensures lost { IfOk result (λ p. length p.lost
-        ≡ length (gained_rows (relation_after_each columns.now
-        (borrowed_changes changes.now) (relation_at store.old stamp))
-        (relation_at store.old stamp))) }
+        (changed_relation columns.now changes.now store.old stamp) p) }
+    ensures gained { IfOk result (λ p. length p.gained ≡ length (gained_rows
+        (relation_at store.old stamp) (changed_relation columns.now changes.now store.old stamp))) }
+    ensures lost { IfOk result (λ p. length p.lost ≡ length (gained_rows
+        (changed_relation columns.now changes.now store.old stamp) (relation_at store.old stamp))) }
 {
     insertions_are_a_union();
     let given = given_rows(alloc, columns, changes)?;
