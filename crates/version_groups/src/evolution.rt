@@ -1,6 +1,6 @@
 //! The next version after an operator, and its stored tables.
 
-ghost use Rattle.std.specs.Prelude.{◌≡◌, ◌+◌, ◌<◌, ◌≤◌, ◌++◌, ◌∷◌, [], ℕ, List, length, false};
+ghost use Rattle.std.specs.Prelude.{◌≡◌, ◌+◌, ◌<◌, ◌≤◌, ◌++◌, ◌∷◌, [], ℕ, length, false};
 ghost use Rattle.std.specs.Prelude.{IfOk, OnOk, None};
 ghost use Rattle.std.specs.Option.{option_copied};
 ghost use Rattle.std.specs.FinMap.{get};
@@ -20,7 +20,6 @@ ghost use Rattle.smo_maps.specs.Carrying.{Has};
 ghost use Rattle.smo_meaning.specs.OneRow.{Relation};
 ghost use Rattle.version_groups.specs.Groups.{stored_as, names_of};
 ghost use Rattle.version_groups.specs.Places.{at_places, AreWithin};
-ghost use Rattle.version_groups.specs.declared.made_table.MadeTable.{MadeTable as Stored};
 ghost use Rattle.version_groups.specs.Becoming.{Begins};
 ghost use Rattle.version_groups.specs.Sizes.{BeginsWith};
 ghost use Rattle.version_groups.specs.NewestTables.{AreStored, is_name, is_made, next_rows};
@@ -99,18 +98,15 @@ fn is_name(named: Option<&Name>, name: &Name) -> bool
 /// The place of a table that begins with a version, after all that are stored and those that have
 /// begun. The one error is `NoMemory`, where memory runs out.
 pub(crate) fn put_begun(
-    stored: usize,
+    stored: &[MadeTable],
     table: MadeTable,
     begun: &mut Vec<MadeTable>,
 ) -> Result<usize, NoMemory>
-    ensures place { IfOk result (λ p. p ≡ stored + length begun.old.items) }
+    ensures place { IfOk result (λ p. p ≡ length stored.now + length begun.old.items) }
     ensures grown { OnOk result (begun.new.items ≡ begun.old.items ++ table ∷ []) }
-    ensures there { IfOk result (λ p. p < stored + length begun.new.items) }
+    ensures there { IfOk result (λ p. p < length stored.now + length begun.new.items) }
 {
-    // There is no memory for so many tables that it would not fit.
-    let Some(place) = stored.checked_add(begun.len()) else {
-        return Err(NoMemory);
-    };
+    let place = stored.len() + begun.len();
     begun.push(table)?;
     Ok(place)
 }
@@ -118,7 +114,7 @@ pub(crate) fn put_begun(
 // A new table begins with a version, after those that have begun.
 fn begin_after(
     alloc: Global,
-    stored: usize,
+    stored: &[MadeTable],
     version: u32,
     table: &Table,
     stamp: u64,
@@ -127,13 +123,11 @@ fn begin_after(
 ) -> Result<usize, NoMemory>
     requires valid { stamp < forever }
     requires relation { IsRelation table.now.1 rows.now }
-    ensures next { (tables : List Stored) → stored ≡ length tables
-        → IfOk result (λ p. IsNextTable tables begun.old.items begun.new.items p table.now.0
-        (Begins table.now.1 stamp rows.now)) }
-    ensures begun { (tables : List Stored) → stored ≡ length tables
-        → IfOk result (λ p. IsBegun tables begun.old.items begun.new.items p
+    ensures next { IfOk result (λ p. IsNextTable stored.now begun.old.items begun.new.items p
+        table.now.0 (Begins table.now.1 stamp rows.now)) }
+    ensures begun { IfOk result (λ p. IsBegun stored.now begun.old.items begun.new.items p
         (BeginsWith version stamp (λ name. rows.now) table.now)) }
-    ensures there { IfOk result (λ p. p < stored + length begun.new.items) }
+    ensures there { IfOk result (λ p. p < length stored.now + length begun.new.items) }
 {
     let made = begin_table(alloc, version, table, stamp, rows)?;
     let place = put_begun(stored, made, begun)?;
@@ -170,26 +164,10 @@ fn next_place(
     ensures there { IfOk result (λ p. p < length tables.now + length begun.new.items) }
 {
     if is_name(names.first, table.name()) {
-        return begin_after(
-            alloc,
-            tables.len(),
-            version,
-            table,
-            stamp,
-            &rows.first,
-            begun,
-        );
+        return begin_after(alloc, tables, version, table, stamp, &rows.first, begun);
     }
     if is_name(names.second, table.name()) {
-        return begin_after(
-            alloc,
-            tables.len(),
-            version,
-            table,
-            stamp,
-            &rows.second,
-            begun,
-        );
+        return begin_after(alloc, tables, version, table, stamp, &rows.second, begun);
     }
     match find_table(tables, places, table.name()) {
         Some((place, _)) => Ok(place),

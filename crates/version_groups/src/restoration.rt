@@ -18,7 +18,6 @@ ghost use Rattle.version_groups.specs.Restoring.{stores_of, HaveColumns, with_ma
 ghost use Rattle.version_groups.specs.Restoring.{HasColumns, IsStored, OthersAre, AreRestored};
 ghost use Rattle.version_groups.specs.Restoring.{IsPastOf};
 ghost use Rattle.version_groups.specs.Representation.{Represents};
-ghost use Rattle.version_groups.specs.declared.made_table.MadeTable.{MadeTable as Stored};
 
 use crate::Groups;
 use crate::evolution::{NextTables, put_begun};
@@ -32,7 +31,7 @@ use std::vec::IntoIter;
 
 // A table that is made begins with a version, over the next of the stores.
 fn begin_over(
-    stored: usize,
+    stored: &[MadeTable],
     version: u32,
     table: &Table,
     stores: &mut IntoIter<StoredTable>,
@@ -40,13 +39,11 @@ fn begin_over(
 ) -> Result<usize, NoMemory>
     requires due { (more : List (List ℕ × List Column))
         × HaveColumns (into_iter_items stores.old) (table.now ∷ more) }
-    ensures next { (tables : List Stored) → stored ≡ length tables
-        → IfOk result (λ p. IsNextTable tables begun.old.items begun.new.items p table.now.0
-        (HasColumns table.now.0 table.now.1)) }
-    ensures begun { (tables : List Stored) → stored ≡ length tables
-        → IfOk result (λ p. IsBegun tables begun.old.items begun.new.items p
+    ensures next { IfOk result (λ p. IsNextTable stored.now begun.old.items begun.new.items p
+        table.now.0 (HasColumns table.now.0 table.now.1)) }
+    ensures begun { IfOk result (λ p. IsBegun stored.now begun.old.items begun.new.items p
         (BeginsOver version table.now)) }
-    ensures there { IfOk result (λ p. p < stored + length begun.new.items) }
+    ensures there { IfOk result (λ p. p < length stored.now + length begun.new.items) }
     ensures due { (more : List (List ℕ × List Column))
         → HaveColumns (into_iter_items stores.old) (table.now ∷ more)
         → OnOk result (HaveColumns (into_iter_items stores.new) more) }
@@ -96,7 +93,7 @@ fn restored_place(
         ≡ stores_of begun.old.items ++ into_iter_items stores.old) }
 {
     if names.has(table.name()) {
-        return begin_over(tables.len(), version, table, stores, begun);
+        return begin_over(tables, version, table, stores, begun);
     }
     match find_table(tables, places, table.name()) {
         Some((place, _)) => Ok(place),
