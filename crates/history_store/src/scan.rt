@@ -39,6 +39,13 @@ impl<'a> KeyScan<'a> {
         KeyScan { keys, at: 0 }
     }
 
+    /// How many keys are left. It takes no memory.
+    pub fn left(&self) -> usize
+        ensures { result ≡ length self.now }
+    {
+        self.keys.len() - self.at
+    }
+
     /// The next key. Each one that is handed out is one step. It takes no memory.
     pub fn next_key<L: Ledger>(&mut self, steps: &mut Steps<L>) -> Option<KeyEntry>
         ensures entries { self.old ≡ option_to_list result ++ self.new }

@@ -326,10 +326,6 @@ column_taken (Ok x) s name cells parts more w e t wide both slice names g =
 column_taken (Err x) s name cells parts more w e t wide both slice names g = tt
 
 -- the columns that are still to come
-pub keys_count : (base : ℕ) (keys : List Span) → length (keys_from base keys) ≡ length keys
-keys_count base [] = refl
-keys_count base (k ∷ keys) = ap suc (keys_count (base + 1) keys)
-
 pub in_at : {X : Type 0} (xs : List X) (i : ℕ) (x : X) → i < length xs → x ≡ get_or xs i x → In x xs
 in_at [] i x l e = absurd (omega arith)
 in_at (y ∷ xs) zero x l e = inl (sym e)

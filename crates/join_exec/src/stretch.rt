@@ -65,7 +65,7 @@ pub(crate) fn of_keys<'a, L: Ledger>(
     ensures counted { IfOk result (λ _. steps.new ≡ steps.old + length keys.entry) }
     ensures rises { steps.old ≤ steps.new }
 {
-    let mut stretches = VecDeque::new(alloc);
+    let mut stretches = VecDeque::with_capacity(alloc, keys.left())?;
     'keys: while let Some(key) = keys.next_key(steps) {
         put_key(&mut stretches, alloc, &key, slice, width)?;
     }

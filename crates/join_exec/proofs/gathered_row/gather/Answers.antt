@@ -5,7 +5,8 @@ use Rattle.join_exec.specs.Merging.{cut}
 use Rattle.join_exec.specs.Parts.{Part}
 use Rattle.join_exec.specs.Reading.{entries_in}
 use Rattle.join_exec.specs.Stretches.{key_part, IsGathered}
-use Rattle.join_exec.proofs.Picked.{keys_gathered, keys_count, in_at, next_entries, next_names}
+use Rattle.history_store.proofs.Scanning.{keys_count}
+use Rattle.join_exec.proofs.Picked.{keys_gathered, in_at, next_entries, next_names}
 use Rattle.join_exec.proofs.gathered_row.gather.Goals as goal
 
 pub returns-in_err-stretches-clause-cost : goal.returns-in_err-stretches-clause-cost
