@@ -11,26 +11,15 @@ ghost use Rattle.query_meaning.specs.Checking.{item_tests, holders};
 ghost use Rattle.prima_base.specs.Faults.{IsTested};
 
 use crate::QueryFault;
-use prima_base::{ColType, Name, Refusal, same_name};
+use prima_base::{Name, Refusal, same_name};
 use schema_catalog::Schema;
-
-// Whether one of the columns has the name. A table has few columns, so they are looked through.
-fn is_named(columns: &[(Name, ColType)], name: &Name) -> bool
-    ensures { result ≡ among name.now (names_of columns.now) }
-{
-    for (column, _) in columns {
-        if same_name(name, column) {
-            return true;
-        }
-    }
-    false
-}
+use smo_schemas::has_name;
 
 /// Whether the table has the column; false where there is no such table.
 pub(crate) fn has_column(schema: &Schema, table: &Name, name: &Name) -> bool
     ensures { result ≡ among name.now (names_of (columns_of schema.now table.now)) }
 {
-    is_named(schema.columns_of(table), name)
+    has_name(schema.columns_of(table), name)
 }
 
 // Whether one of the items has the alias.
