@@ -16,11 +16,11 @@ use Rattle.piece_meaning.specs.Typed.{AllTyped}
 use Rattle.piece_meaning.specs.Rules.{Book, IsValidBook}
 use Rattle.rewrite_chains.specs.UnfoldedPieces.{MayBeAsked, StandFor}
 use Rattle.rewrite_chains.proofs.UnfoldedPieceLaws.{stand_typed}
+use Rattle.rewrite.specs.WalkedPieces.{AreBack, AreOn}
 use Rattle.period_split.specs.Splitting.{Part, AscendFrom}
 use Rattle.query_exec.specs.declared.route.Route.{Route}
 use Rattle.query_exec.specs.Questions.{table_read}
 use Rattle.query_exec.specs.Routes.{DescendFrom, IsOwn, IsRoute, MayBeRead}
-use Rattle.query_exec.specs.RewrittenPieces.{AreBack, AreOn}
 use Rattle.query_exec.proofs.ListSteps.{left_is}
 use Rattle.query_exec.proofs.TableReads.{standing_means}
 

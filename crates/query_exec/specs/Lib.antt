@@ -6,7 +6,6 @@ pub mod QueryPieces
 pub mod Planned
 pub mod Losing
 pub mod Routes
-pub mod RewrittenPieces
 pub mod Reads
 pub mod Accepted
 pub mod Borrowed

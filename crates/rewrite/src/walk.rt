@@ -10,11 +10,12 @@ ghost use Rattle.smo_meaning.specs.Past.{no_tables, tables_from};
 ghost use Rattle.smo_meaning.specs.ValidPast.{AreVersions};
 ghost use Rattle.version_ways.specs.Migration.{migrated_from};
 ghost use Rattle.version_ways.specs.LostNames.{lost_names};
-ghost use Rattle.plain_answers.specs.Reading.{read_of};
+ghost use Rattle.plain_answers.specs.Reading.{Read, read_of};
 ghost use Rattle.piece_meaning.specs.Pieces.{PlainPiece, all_mean};
 ghost use Rattle.piece_meaning.specs.Typed.{AllTyped, output_types};
 ghost use Rattle.piece_meaning.specs.Rules.{IsValidDatabase};
 ghost use Rattle.rewrite.specs.Books.{meaning_of, EachOf};
+ghost use Rattle.rewrite.specs.WalkedPieces.{AreBack, AreOn};
 ghost use Rattle.piece_ir.specs.Shown.{pieces_of};
 ghost use Rattle.rewrite_chains.specs.Chains.{to_previous, to_next, unfolded_to};
 ghost use Rattle.smo_meaning.specs.ValidValues.{VersionsHold};
@@ -116,6 +117,73 @@ impl Walk {
             pieces: next,
         })
     }
+
+    /// Back to an earlier version, or to the same, one at a time. The pieces stand for what is
+    /// asked of a table of a version that is not earlier than this one. The one error is
+    /// `NoMemory`, where memory runs out.
+    pub fn back_to(
+        self,
+        book: &RuleBook,
+        alloc: Global,
+        versions: &Versions,
+        version: u32,
+    ) -> Result<Walk, NoMemory>
+        requires each { EachOf book.now.rules.items (λ r. handles (r.vtable, r.value)) }
+        requires order { version ≤ self.version }
+        requires there { self.version ≤ vec_len versions.now.list }
+        requires pieces { AreBack (meaning_of book.now.rules.items
+            (λ r. handles (r.vtable, r.value)) (λ r. answers (r.vtable, r.value)))
+            (versions_of versions.now) self.version (pieces_of self.pieces.items) }
+        ensures version { IfOk result (λ w. w.version ≡ version) }
+        ensures pieces { (q : ℕ) → (table : List ℕ) → (r : Read) → self.version ≤ q
+            → StandFor (meaning_of book.now.rules.items (λ r. handles (r.vtable, r.value))
+            (λ r. answers (r.vtable, r.value))) (versions_of versions.now) self.version q table r
+            (pieces_of self.pieces.items)
+            → IfOk result (λ w. StandFor (meaning_of book.now.rules.items
+            (λ r. handles (r.vtable, r.value)) (λ r. answers (r.vtable, r.value)))
+            (versions_of versions.now) version q table r (pieces_of w.pieces.items)) }
+    {
+        book.known();
+        let mut walk = self;
+        while walk.version > version {
+            walk = walk.to_previous(book, alloc, versions)?;
+        }
+        Ok(walk)
+    }
+
+    /// On to a later version, or to the same, one at a time. The pieces stand for what is asked of
+    /// a table of a version that is not later than this one, and the table is not lost on the way
+    /// from there. The one error is `NoMemory`, where memory runs out.
+    pub fn on_to(
+        self,
+        book: &RuleBook,
+        alloc: Global,
+        versions: &Versions,
+        version: u32,
+    ) -> Result<Walk, NoMemory>
+        requires each { EachOf book.now.rules.items (λ r. handles (r.vtable, r.value)) }
+        requires order { self.version ≤ version }
+        requires there { version ≤ vec_len versions.now.list }
+        requires pieces { AreOn (meaning_of book.now.rules.items
+            (λ r. handles (r.vtable, r.value)) (λ r. answers (r.vtable, r.value)))
+            (versions_of versions.now) self.version version (pieces_of self.pieces.items) }
+        ensures version { IfOk result (λ w. w.version ≡ version) }
+        ensures pieces { (q : ℕ) → (table : List ℕ) → (r : Read) → q ≤ self.version
+            → get (lost_names (versions_of versions.now) version q) table ≡ None
+            → StandFor (meaning_of book.now.rules.items (λ r. handles (r.vtable, r.value))
+            (λ r. answers (r.vtable, r.value))) (versions_of versions.now) self.version q table r
+            (pieces_of self.pieces.items)
+            → IfOk result (λ w. StandFor (meaning_of book.now.rules.items
+            (λ r. handles (r.vtable, r.value)) (λ r. answers (r.vtable, r.value)))
+            (versions_of versions.now) version q table r (pieces_of w.pieces.items)) }
+    {
+        book.known();
+        let mut walk = self;
+        while walk.version < version {
+            walk = walk.to_next(book, alloc, versions)?;
+        }
+        Ok(walk)
+    }
 }
 
 /// What keeps a table of one version from being read from another.
@@ -159,12 +227,8 @@ fn walked_back(
         (versions_of versions.now) stored asked table.now (asking (test cond.now) columns.now)
         (pieces_of news.items)) }
 {
-    book.known();
     let start = Walk::start(alloc, asked, table, cond, columns)?;
-    let mut walk = start;
-    while walk.version > stored {
-        walk = walk.to_previous(book, alloc, versions)?;
-    }
+    let walk = start.back_to(book, alloc, versions, stored)?;
     let Walk { version: _, pieces } = walk;
     Ok(pieces)
 }
@@ -191,12 +255,8 @@ fn walked_on(
         (versions_of versions.now) stored asked table.now (asking (test cond.now) columns.now)
         (pieces_of news.items)) }
 {
-    book.known();
     let start = Walk::start(alloc, asked, table, cond, columns)?;
-    let mut walk = start;
-    while walk.version < stored {
-        walk = walk.to_next(book, alloc, versions)?;
-    }
+    let walk = start.on_to(book, alloc, versions, stored)?;
     let Walk { version: _, pieces } = walk;
     Ok(pieces)
 }

@@ -1,17 +1,25 @@
-use Rattle.std.proofs.Common.{◌<◌, sym, subst, arith}
+use Rattle.std.proofs.Common.{arith}
 use Rattle.cond_expr.specs.Seen.{test}
 use Rattle.smo_types.specs.Commands.{versions_of}
 use Rattle.piece_meaning.specs.Books.{book_of}
 use Rattle.piece_ir.specs.Shown.{pieces_of}
 use Rattle.rewrite_chains.specs.Beginnings.{asking}
-use Rattle.rewrite_chains.specs.UnfoldedPieces.{StandFor}
-use Rattle.rewrite_chains.proofs.UnfoldedPieceLaws.{stand_first, stand_typed, stand_previous}
+use Rattle.rewrite_chains.proofs.UnfoldedPieceLaws.{stand_first}
 use Rattle.rewrite.proofs.walk.walked_back.Goals as goal
 
-pub loop-walk-init : goal.loop-walk-init
-loop-walk-init g c = record {
-  low = omega (arith, c.in_ok-start.ensures.version, c.requires.order);
-  high = omega (arith, c.in_ok-start.ensures.version);
+pub back_to-requires-clause-order : goal.back_to-requires-clause-order
+back_to-requires-clause-order g c = omega (arith, c.in_ok-start.ensures.version, c.requires.order)
+
+pub back_to-requires-clause-there : goal.back_to-requires-clause-there
+back_to-requires-clause-there g c = omega (arith, c.in_ok-start.ensures.version, c.requires.there)
+
+pub back_to-requires-clause-pieces : goal.back_to-requires-clause-pieces
+back_to-requires-clause-pieces g c = record {
+  asked = c.args.asked;
+  table = c.args.table.now;
+  read = asking (test c.args.cond.now) c.args.columns.now;
+  order = omega (arith, c.in_ok-start.ensures.version);
+  question = c.requires.asked;
   stand = stand_first (book_of (λ r. (goal.Rule-dyn g (r.vtable, r.value)).handles r.value)
       (λ r. (goal.Rule-dyn g (r.vtable, r.value)).answers r.value) c.args.book.now.rules.items)
       (versions_of c.args.versions.now) c.in_ok-start.start.version c.args.asked c.args.table.now
@@ -20,33 +28,14 @@ loop-walk-init g c = record {
       c.in_ok-start.ensures.pieces;
 }
 
-pub to_previous-requires-clause-typed : goal.to_previous-requires-clause-typed
-to_previous-requires-clause-typed g c =
-    stand_typed (book_of (λ r. (goal.Rule-dyn g (r.vtable, r.value)).handles r.value)
+pub returns : goal.returns
+returns g c =
+    c.in_ok-walk.ensures.pieces c.args.asked c.args.table.now
+    (asking (test c.args.cond.now) c.args.columns.now)
+    (omega (arith, c.in_ok-start.ensures.version))
+    (stand_first (book_of (λ r. (goal.Rule-dyn g (r.vtable, r.value)).handles r.value)
     (λ r. (goal.Rule-dyn g (r.vtable, r.value)).answers r.value) c.args.book.now.rules.items)
-    (versions_of c.args.versions.now) c.loop-walk.walk.version c.args.asked c.args.table.now
-    (asking (test c.args.cond.now) c.args.columns.now) c.known.ensures
-    (pieces_of c.loop-walk.walk.pieces.items) c.requires.asked c.loop-walk.invariant.stand
-
-pub loop-walk-preserved : goal.loop-walk-preserved
-loop-walk-preserved g c =
-    let earlier : c.in_ok-walk.walk.version < c.args.asked =
-    omega (arith, c.in_ok-walk.ensures.version, c.loop-walk.invariant.high) in
-    record {
-      low = omega (arith, c.in_ok-walk.ensures.version, c.loop-walk-test.true);
-      high = omega (arith, c.in_ok-walk.ensures.version, c.loop-walk.invariant.high);
-      stand = stand_previous (book_of (λ r. (goal.Rule-dyn g (r.vtable, r.value)).handles r.value)
-          (λ r. (goal.Rule-dyn g (r.vtable, r.value)).answers r.value) c.args.book.now.rules.items)
-          (versions_of c.args.versions.now) c.in_ok-walk.walk.version c.args.asked c.args.table.now
-          (asking (test c.args.cond.now) c.args.columns.now)
-          (pieces_of c.loop-walk.walk.pieces.items) (pieces_of c.in_ok-walk.walk.pieces.items)
-          earlier
-          (subst (λ j. StandFor (book_of (λ r.
-          (goal.Rule-dyn g (r.vtable, r.value)).handles r.value)
-          (λ r. (goal.Rule-dyn g (r.vtable, r.value)).answers r.value)
-          c.args.book.now.rules.items) (versions_of c.args.versions.now) j c.args.asked
-          c.args.table.now (asking (test c.args.cond.now) c.args.columns.now)
-          (pieces_of c.loop-walk.walk.pieces.items)) (sym c.in_ok-walk.ensures.version)
-          c.loop-walk.invariant.stand)
-          c.in_ok-walk.ensures.pieces;
-    }
+    (versions_of c.args.versions.now) c.in_ok-start.start.version c.args.asked c.args.table.now
+    (asking (test c.args.cond.now) c.args.columns.now)
+    (pieces_of c.in_ok-start.start.pieces.items) c.in_ok-start.ensures.version
+    c.in_ok-start.ensures.pieces)

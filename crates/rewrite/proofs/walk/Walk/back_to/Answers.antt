@@ -4,7 +4,7 @@ use Rattle.piece_meaning.specs.Books.{book_of}
 use Rattle.piece_ir.specs.Shown.{pieces_of}
 use Rattle.rewrite_chains.specs.UnfoldedPieces.{StandFor}
 use Rattle.rewrite_chains.proofs.UnfoldedPieceLaws.{stand_typed, stand_previous}
-use Rattle.query_exec.proofs.walk.back_to.Goals as goal
+use Rattle.rewrite.proofs.walk.Walk.back_to.Goals as goal
 
 pub to_previous-requires-clause-typed : goal.to_previous-requires-clause-typed
 to_previous-requires-clause-typed g c =

@@ -1,27 +1,23 @@
-use Rattle.std.proofs.Common.{◌≡◌, ◌-◌, ◌≤◌, ℕ, List}
-use Rattle.std.specs.Prelude.{None}
-use Rattle.std.specs.FinMap.{get}
+use Rattle.std.proofs.Common.{◌-◌, ◌≤◌, ℕ, List}
 use Rattle.smo_types.specs.Commands.{versions_of}
-use Rattle.version_ways.specs.LostNames.{lost_names}
 use Rattle.plain_answers.specs.Reading.{Read}
 use Rattle.piece_meaning.specs.Books.{book_of}
 use Rattle.piece_ir.specs.Shown.{pieces_of}
 use Rattle.rewrite_chains.specs.UnfoldedPieces.{StandFor}
-use Rattle.query_exec.proofs.walk.on_to.Given as goal
+use Rattle.rewrite.proofs.walk.Walk.back_to.Given as goal
 
 abbrev pub invariant-loop-walk : goal.invariant-loop-walk
 invariant-loop-walk g l = record {
-  low : l.fn.walk.version ≤ l.walk.version;
-  high : l.walk.version ≤ l.version;
-  stand : (q : ℕ) → (table : List ℕ) → (r : Read) → q ≤ l.fn.walk.version
-      → get (lost_names (versions_of l.versions) l.version q) table ≡ None
+  low : l.version ≤ l.walk.version;
+  high : l.walk.version ≤ l.fn.self.version;
+  stand : (q : ℕ) → (table : List ℕ) → (r : Read) → l.fn.self.version ≤ q
       → StandFor (book_of (λ r. (goal.Rule-dyn g (r.vtable, r.value)).handles r.value)
       (λ r. (goal.Rule-dyn g (r.vtable, r.value)).answers r.value) l.book.rules.items)
-      (versions_of l.versions) l.fn.walk.version q table r (pieces_of l.fn.walk.pieces.items)
+      (versions_of l.versions) l.fn.self.version q table r (pieces_of l.fn.self.pieces.items)
       → StandFor (book_of (λ r. (goal.Rule-dyn g (r.vtable, r.value)).handles r.value)
       (λ r. (goal.Rule-dyn g (r.vtable, r.value)).answers r.value) l.book.rules.items)
       (versions_of l.versions) l.walk.version q table r (pieces_of l.walk.pieces.items);
 }
 
 abbrev pub decreases-loop-walk : goal.decreases-loop-walk
-decreases-loop-walk g l = l.version - l.walk.version
+decreases-loop-walk g l = l.walk.version - l.version

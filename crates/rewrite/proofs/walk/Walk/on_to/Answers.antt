@@ -5,7 +5,7 @@ use Rattle.piece_ir.specs.Shown.{pieces_of}
 use Rattle.rewrite_chains.specs.UnfoldedPieces.{StandFor}
 use Rattle.rewrite_chains.proofs.StaysLost.{stays_lost}
 use Rattle.rewrite_chains.proofs.UnfoldedPieceLaws.{stand_typed, stand_next}
-use Rattle.query_exec.proofs.walk.on_to.Goals as goal
+use Rattle.rewrite.proofs.walk.Walk.on_to.Goals as goal
 
 pub to_next-requires-clause-typed : goal.to_next-requires-clause-typed
 to_next-requires-clause-typed g c =
