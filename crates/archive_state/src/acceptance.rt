@@ -6,6 +6,7 @@ ghost use Rattle.std.specs.Option.{option_map};
 ghost use Rattle.prima_base.specs.Faults.{IsTested};
 ghost use Rattle.prima_base.specs.declared.refusal.What.TheVariants.{Versions};
 ghost use Rattle.prima_base.specs.declared.refusal.Refusal.TheVariants.{TooMany};
+ghost use Rattle.prima_base.specs.Limits.{max_versions};
 ghost use Rattle.smo_meaning.specs.First.{unless, first_refusal};
 ghost use Rattle.smo_types.specs.Commands.{evolving, body_of, command_of, version_of};
 ghost use Rattle.smo_types.specs.Operators.{Operator, operator_of, operators_of};
@@ -14,7 +15,7 @@ ghost use Rattle.smo_meaning.specs.After.{op_fault, schema_after, HasFewNodes, H
 ghost use Rattle.smo_meaning.specs.ValidValues.{BodyHolds};
 ghost use Rattle.smo_meaning.specs.Inverses.{inverse_fault};
 ghost use Rattle.smo_meaning.specs.Accepts.{operator_refusal, count_fault, stamp_fault, body_tests};
-ghost use Rattle.smo_meaning.specs.Accepts.{command_fault, most_versions};
+ghost use Rattle.smo_meaning.specs.Accepts.{command_fault};
 ghost use Rattle.smo_meaning.specs.Past.{Past, newest_tables, next_version};
 ghost use Rattle.version_groups.specs.Representation.{Represents};
 ghost use Rattle.archive_state.specs.Committing.{schema_found, Finds};
@@ -55,7 +56,7 @@ fn judge_stamp(last: Option<u64>, stamp: u64) -> Result<(), CommitFault>
 
 // There is room for one version more.
 fn judge_versions(newest: u32) -> Result<(), CommitFault>
-    ensures { IsTested (unless (nat_lt newest most_versions) (TooMany Versions most_versions))
+    ensures { IsTested (unless (nat_lt newest max_versions) (TooMany Versions max_versions))
         result }
 {
     if (newest as usize) < MAX_VERSIONS {

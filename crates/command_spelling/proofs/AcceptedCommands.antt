@@ -15,6 +15,7 @@ use Rattle.prima_base.specs.declared.refusal.What.TheVariants.{Columns as COLUMN
 use Rattle.prima_base.specs.declared.refusal.OpRefusal.TheVariants as op_refusal
 use Rattle.prima_base.specs.declared.refusal.Refusal.TheVariants as refusal
 use Rattle.prima_base.specs.Columns.{Column, names_of, AreColumns}
+use Rattle.prima_base.specs.Limits.{max_versions}
 use Rattle.schema_catalog.specs.Tables.{Tables}
 use Rattle.cond_expr.specs.declared.expr.ColRef.{ColRef}
 use Rattle.cond_expr.specs.declared.expr.Column.{Column as AtomColumn}
@@ -47,7 +48,7 @@ use Rattle.smo_meaning.specs.Checks.{cell_faults, reference_fault, set_reference
 use Rattle.smo_meaning.specs.Checks.{sets_nodes, test_fault, table_fault, tests_after, change_tests}
 use Rattle.smo_meaning.specs.Checks.{change_nodes, changes_tests}
 use Rattle.smo_meaning.specs.Past.{Past, newest_tables}
-use Rattle.smo_meaning.specs.Accepts.{operator_refusal, count_fault, stamp_fault, most_versions}
+use Rattle.smo_meaning.specs.Accepts.{operator_refusal, count_fault, stamp_fault}
 use Rattle.smo_meaning.specs.Accepts.{body_tests, command_fault}
 use Rattle.smo_types.specs.Operators.{Operator, nop, create_table, drop_table, rename_table}
 use Rattle.smo_types.specs.Operators.{copy_table, merge_table, partition_table, decompose_table}
@@ -429,8 +430,8 @@ body_writable past l (changing changes) e k =
     )
 body_writable past l (evolving op inverse) e k =
     let tables : Tables = newest_tables past in
-    let versions = none_of_first (unless (nat_lt (length past.versions) most_versions)
-    (refusal.TooMany Versions most_versions))
+    let versions = none_of_first (unless (nat_lt (length past.versions) max_versions)
+    (refusal.TooMany Versions max_versions))
     (option_map operator_refusal (op_fault tables op) ∷ inverse_tests tables op inverse) e in
     let tests = none_of_first (option_map operator_refusal (op_fault tables op))
     (inverse_tests tables op inverse) versions.1 in

@@ -3,12 +3,13 @@
 use Rattle.std.specs.Prelude.{ℕ, zero, suc, Bool, ◌==◌, ◌&&◌, not, nat_le, nat_lt, if◌then◌else◌}
 use Rattle.std.specs.Prelude.{List, ◌∷◌}
 use Rattle.std.specs.Int.{w64, cast_signed}
-use Rattle.prima_base.specs.Bytes.{is_control, is_digit, is_name_byte, longest_text}
+use Rattle.prima_base.specs.Bytes.{is_control, is_digit, is_name_byte}
 use Rattle.prima_base.specs.Columns.{Column}
 use Rattle.prima_base.specs.declared.value.ColType.{ColType}
 use Rattle.prima_base.specs.declared.value.ColType.TheVariants.{Int as IntType, Text as TextType}
 use Rattle.prima_base.specs.declared.value.Value.{Value}
 use Rattle.prima_base.specs.declared.value.Value.TheVariants.{Int, Text}
+use Rattle.prima_base.specs.Limits.{max_name, max_text, max_depth}
 use Rattle.cond_expr.specs.declared.expr.Whose.TheVariants.{Atom}
 use Rattle.cond_expr.specs.declared.expr.CmpOp.{CmpOp}
 use Rattle.cond_expr.specs.declared.expr.CmpOp.TheVariants.{Eq, Ne, Lt, Le, Gt, Ge}
@@ -37,7 +38,7 @@ abbrev pub is_text_byte : ℕ → Bool
 is_text_byte b = not (is_control b)
 
 abbrev pub is_name_length : ℕ → Bool
-is_name_length n = nat_lt 0 n && nat_le n 63
+is_name_length n = nat_lt 0 n && nat_le n max_name
 
 -- a name of so many bytes
 unfoldable pub name_text : ℕ → Parser (List ℕ)
@@ -49,7 +50,7 @@ name = tagged is_name_length name_text
 
 -- the length, at most 4,096, and that many bytes
 unfoldable pub text : Parser (List ℕ)
-text = bind (digits longest_text 2 0) (λ n. run is_text_byte n)
+text = bind (digits max_text 2 0) (λ n. run is_text_byte n)
 
 -- a number of 8 bytes
 unfoldable pub number_64 : Parser ℕ
@@ -132,7 +133,7 @@ level zero = nothing
 level (suc d) = made (nat_lt 0 d) (level d)
 
 unfoldable pub outermost : Level
-outermost = level 32
+outermost = level max_depth
 
 -- ---- operators, changes and commands
 

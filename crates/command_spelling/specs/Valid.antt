@@ -7,6 +7,7 @@ use Rattle.relations.specs.Spans.{forever}
 use Rattle.prima_base.specs.Bytes.{IsName, IsTxt}
 use Rattle.prima_base.specs.declared.value.Value.{Value}
 use Rattle.prima_base.specs.declared.value.Value.TheVariants.{Int, Text}
+use Rattle.prima_base.specs.Limits.{max_depth}
 use Rattle.cond_expr.specs.declared.expr.Whose.TheVariants.{Atom}
 use Rattle.cond_expr.specs.Trees.{Tree, column, constant, length_of, joined, choose, Trees}
 use Rattle.cond_expr.specs.Trees.{no_trees, a_tree, Test, never, always, compared, all_of, some_of}
@@ -19,8 +20,8 @@ use Rattle.smo_types.specs.Changes.{PlainChange, insertion, deletion, update}
 use Rattle.smo_types.specs.Commands.{PlainBody, changing, evolving, PlainCommand}
 use Rattle.command_spelling.specs.Spelling.{number_of}
 
--- ---- what a writer asks: each count fits its field, each reference is to atom 0, each tree is at
--- most 32 deep
+-- ---- what a writer asks: each count fits its field, each reference is to atom 0, each tree is no
+-- deeper than a tree may be
 
 -- the references and the counts
 abbrev mutual
@@ -47,15 +48,11 @@ abbrev mutual
   TestsFit no_tests = ⊤
   TestsFit (a_test c cs) = TestFits c × TestsFit cs
 
--- the most levels of a tree
-abbrev pub most_levels : ℕ
-most_levels = 32
-
 abbrev pub IsWritableTree : Tree → Type 0
-IsWritableTree t = TreeFits t × (depth_of t ≤ most_levels)
+IsWritableTree t = TreeFits t × (depth_of t ≤ max_depth)
 
 abbrev pub IsWritableTest : Test → Type 0
-IsWritableTest c = TestFits c × (test_depth c ≤ most_levels)
+IsWritableTest c = TestFits c × (test_depth c ≤ max_depth)
 
 abbrev pub IsWritableOperator : Operator → Type 0
 IsWritableOperator nop = ⊤

@@ -5,8 +5,8 @@ use Rattle.std.specs.declared.cmp.Ordering.{Ordering}
 use Rattle.std.specs.Ordering.{is_eq, is_lt, is_gt, is_le}
 use Rattle.prima_base.specs.declared.value.Value.{Value}
 use Rattle.prima_base.specs.declared.value.Value.TheVariants.{Int, Text}
-use Rattle.prima_base.specs.Bytes.{longest_text}
 use Rattle.prima_base.specs.Order.{value_cmp}
+use Rattle.prima_base.specs.Limits.{max_text}
 use Rattle.cond_expr.specs.declared.expr.Whose.{Whose}
 use Rattle.cond_expr.specs.declared.expr.Whose.TheVariants.{Free, Alias, Atom}
 use Rattle.cond_expr.specs.declared.expr.CmpOp.{CmpOp}
@@ -42,7 +42,7 @@ abbrev mutual
   value at (column w n) = at w n
   value at (constant v) = v
   value at (length_of t) = Int (pos (length (bytes_of (value at t))))
-  value at (joined ts) = Text (take longest_text (texts at ts))
+  value at (joined ts) = Text (take max_text (texts at ts))
   value at (choose c a b) = if truth at c then value at a else value at b
 
   pub texts : Cells → Trees → List ℕ

@@ -4,11 +4,11 @@ use Rattle.std.specs.Prelude.{ℕ, ◌+◌, ◌-◌, ◌^◌, ◌==◌, ◌&&◌
 use Rattle.std.specs.Prelude.{not, Option, Some, None, nat_lt, length, pos, neg_ℤ, ◌+ℤ◌}
 use Rattle.std.specs.Prelude.{if◌then◌else◌}
 use Rattle.std.specs.Ordering.{int_cmp, is_lt}
-use Rattle.prima_base.specs.Bytes.{longest_text}
 use Rattle.prima_base.specs.declared.value.Value.{Value}
 use Rattle.prima_base.specs.declared.value.Value.TheVariants.{Int, Text}
 use Rattle.prima_base.specs.declared.value.ColType.{ColType}
 use Rattle.prima_base.specs.declared.value.ColType.TheVariants.{Int as INT, Text as TEXT}
+use Rattle.prima_base.specs.Limits.{max_text}
 
 abbrev pub least : ColType → Value
 least INT = Int (neg_ℤ (pos (2 ^ 63)))
@@ -30,7 +30,7 @@ raise (b ∷ bytes) = if all_top bytes then raised b ∷ [] else b ∷ raise byt
 
 -- a text with the least byte after it; where there is no room, it is raised
 abbrev pub after : List ℕ → List ℕ
-after t = if nat_lt (length t) longest_text then t ++ 32 ∷ [] else raise t
+after t = if nat_lt (length t) max_text then t ++ 32 ∷ [] else raise t
 
 abbrev pub next : Value → Value
 next (Int n) = Int (n +ℤ pos 1)
@@ -39,7 +39,7 @@ next (Text t) = Text (after t)
 -- it is not the greatest of its type
 abbrev pub has_next : Value → Bool
 has_next (Int n) = is_lt (int_cmp n (pos (2 ^ 63 - 1)))
-has_next (Text t) = nat_lt (length t) longest_text || not (all_top t)
+has_next (Text t) = nat_lt (length t) max_text || not (all_top t)
 
 -- the next value, where there is one; and of a text
 abbrev pub following : Value → Option Value

@@ -3,6 +3,7 @@ use Rattle.std.specs.Prelude.{ℕ, zero, suc, Bool, true, false, if◌then◌els
 use Rattle.std.specs.Prelude.{◌&&◌, codes, Option, Some, None}
 use Rattle.prima_base.specs.declared.refusal.What.TheVariants as what
 use Rattle.prima_base.specs.declared.value.Value.TheVariants.{Int, Text}
+use Rattle.prima_base.specs.Limits.{max_depth}
 use Rattle.cond_expr.specs.declared.expr.Whose.TheVariants.{Free, Alias, Atom}
 use Rattle.cond_expr.specs.declared.expr.CmpOp.{CmpOp}
 use Rattle.cond_expr.specs.declared.expr.CmpOp.TheVariants.{Eq, Ne, Lt, Le, Gt, Ge}
@@ -157,4 +158,4 @@ follow_cond q x = is_word (codes "OR") x || follow_conj q x
 
 -- where nothing is open yet
 unfoldable pub outermost : Bool → Level
-outermost q = level q 32
+outermost q = level q max_depth

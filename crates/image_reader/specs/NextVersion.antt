@@ -8,7 +8,7 @@ use Rattle.smo_types.specs.declared.op.Op.{Op}
 use Rattle.smo_types.specs.declared.version.Version.{Version}
 use Rattle.std.specs.declared.vec.Vec.{Vec}
 use Rattle.std.specs.declared.alloc.Global.{Global}
-use Rattle.smo_meaning.specs.Accepts.{most_versions}
+use Rattle.prima_base.specs.Limits.{max_versions}
 use Rattle.smo_meaning.specs.After.{op_fault, schema_after}
 use Rattle.smo_meaning.specs.Counts.{first_excess}
 use Rattle.smo_meaning.specs.Inverses.{inverse_fault}
@@ -25,7 +25,7 @@ newest_stamp (v ∷ (w ∷ versions)) = newest_stamp (w ∷ versions)
 -- the last
 abbrev pub is_in_turn : Option ℕ → ℕ → Option ℕ → ℕ → Bool
 is_in_turn last number before stamp = is_stamp last stamp
-    && (nat_lt number most_versions && is_later before stamp)
+    && (nat_lt number max_versions && is_later before stamp)
 
 -- the operator is accepted and its inverse leads back
 abbrev pub is_valid : Tables → Operator → List Operator → Bool

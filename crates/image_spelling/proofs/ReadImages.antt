@@ -7,8 +7,8 @@ use Rattle.relations.specs.Sets.{In}
 use Rattle.relations.specs.Spans.{Span, forever}
 use Rattle.prima_base.specs.Columns.{Column, AreColumns}
 use Rattle.prima_base.specs.declared.value.ColType.{ColType}
+use Rattle.prima_base.specs.Limits.{max_versions}
 use Rattle.table_histories.specs.Store.{Cell, IsPeriod, IsFilled}
-use Rattle.smo_meaning.specs.Accepts.{most_versions}
 use Rattle.smo_meaning.specs.ValidPast.{last_or_nought}
 use Rattle.smo_meaning.specs.Past.{no_tables}
 use Rattle.lifelines.specs.Lifelines.{Lifeline, lifelines_of}
@@ -183,7 +183,7 @@ line_is last n due l d h = record {
         ap length same in omega (arith, a, w, s)
 
 -- what is kept is read
-line_read : (last : Option ℕ) (n : ℕ) (l : StoredLine) → n ≤ most_versions → IsLifeline n l.line
+line_read : (last : Option ℕ) (n : ℕ) (l : StoredLine) → n ≤ max_versions → IsLifeline n l.line
     → IsStoredLine last l → LineRead last l.line l
 line_read last n l few d h = (
   (
@@ -243,7 +243,7 @@ lines_are last (suc k) n (d ∷ due) (x ∷ l) f h =
     each g r y (inl e) = subst (IsStoredLine last) e g
     each g r y (inr i) = r y i
 
-lines_read : (last : Option ℕ) (n : ℕ) (l : List StoredLine) → n ≤ most_versions
+lines_read : (last : Option ℕ) (n : ℕ) (l : List StoredLine) → n ≤ max_versions
     → ((d : Lifeline) → In d (map (λ (x : StoredLine). x.line) l) → IsLifeline n d)
     → ((x : StoredLine) → In x l → IsStoredLine last x)
     → LinesRead last (length l) (map (λ (x : StoredLine). x.line) l) l
@@ -283,7 +283,7 @@ read_is_image i h =
 pub image_is_read : (i : Image) → IsImage i → ImageRead i
 image_is_read i h = record { last = below_last i.last h.ends; versions = versions; lines = lines }
   where
-    few : length i.versions ≤ most_versions
+    few : length i.versions ≤ max_versions
     few = h.few
 
     versions : AllRead i.last i.versions

@@ -9,9 +9,10 @@ use Rattle.relations.specs.Spans.{forever}
 use Rattle.schema_catalog.specs.Tables.{Tables}
 use Rattle.prima_base.specs.declared.refusal.What.TheVariants.{Versions}
 use Rattle.prima_base.specs.declared.refusal.Refusal.TheVariants.{TooMany as OverLimit}
+use Rattle.prima_base.specs.Limits.{max_versions}
 use Rattle.smo_types.specs.Operators.{Operator, nop}
 use Rattle.smo_types.specs.Commands.{evolving, PlainCommand, PlainVersion}
-use Rattle.smo_meaning.specs.Accepts.{operator_refusal, count_fault, stamp_fault, most_versions}
+use Rattle.smo_meaning.specs.Accepts.{operator_refusal, count_fault, stamp_fault}
 use Rattle.smo_meaning.specs.Accepts.{command_fault}
 use Rattle.smo_meaning.specs.After.{op_fault, schema_after, IsValid}
 use Rattle.smo_meaning.specs.Counts.{first_excess}
@@ -50,17 +51,17 @@ is_later_so (Some b) m h = lt-ltb b m h
 module _ (last : Option ℕ) where
   accepted_is : (number : ℕ) (before : Option ℕ) (tables : Tables) (v : PlainVersion)
       → is_accepted number before tables v ≡ true → v.tables ≡ schema_after tables v.op
-      → (number < most_versions) × IsVersion before tables v
+      → (number < max_versions) × IsVersion before tables v
   accepted_is number before tables v e t =
-      let a = of_both (nat_lt number most_versions && is_later before v.stamp)
+      let a = of_both (nat_lt number max_versions && is_later before v.stamp)
       (is_none (first_excess (evolving v.op v.inverse))
       && (is_none (op_fault tables v.op) && is_none (inverse_fault tables v.op v.inverse))) e in
-      let b = of_both (nat_lt number most_versions) (is_later before v.stamp) a.0 in
+      let b = of_both (nat_lt number max_versions) (is_later before v.stamp) a.0 in
       let c = of_both (is_none (first_excess (evolving v.op v.inverse)))
       (is_none (op_fault tables v.op) && is_none (inverse_fault tables v.op v.inverse)) a.1 in
       let d = of_both (is_none (op_fault tables v.op))
       (is_none (inverse_fault tables v.op v.inverse)) c.1 in (
-        ltb-true number most_versions b.0,
+        ltb-true number max_versions b.0,
         record {
           later = later_is before v.stamp b.1;
           counted = none_is (first_excess (evolving v.op v.inverse)) c.0;
@@ -71,14 +72,14 @@ module _ (last : Option ℕ) where
       )
 
   is_accepted_so : (number : ℕ) (before : Option ℕ) (tables : Tables) (v : PlainVersion)
-      → number < most_versions → IsVersion before tables v
+      → number < max_versions → IsVersion before tables v
       → is_accepted number before tables v ≡ true
   is_accepted_so number before tables v n h =
-      both_true (nat_lt number most_versions && is_later before v.stamp)
+      both_true (nat_lt number max_versions && is_later before v.stamp)
       (is_none (first_excess (evolving v.op v.inverse))
       && (is_none (op_fault tables v.op) && is_none (inverse_fault tables v.op v.inverse)))
-      (both_true (nat_lt number most_versions) (is_later before v.stamp)
-      (lt-ltb number most_versions n) (is_later_so before v.stamp h.later))
+      (both_true (nat_lt number max_versions) (is_later before v.stamp)
+      (lt-ltb number max_versions n) (is_later_so before v.stamp h.later))
       (both_true (is_none (first_excess (evolving v.op v.inverse)))
       (is_none (op_fault tables v.op) && is_none (inverse_fault tables v.op v.inverse))
       (ap is_none h.counted)
@@ -94,7 +95,7 @@ module _ (last : Option ℕ) where
     pub evolved : AreVersions before tables l
     pub begun : AllInForce (last_or_nought last) l
     pub without : last ≡ None → l ≡ []
-    pub few : number ≤ most_versions → number + length l ≤ most_versions
+    pub few : number ≤ max_versions → number + length l ≤ max_versions
     pub named : VersionsNamed l
 
   pub read_valid : (n number : ℕ) (before : Option ℕ) (tables : Tables) (l : List PlainVersion)
@@ -147,7 +148,7 @@ version_writable last tables v l h = accepted_writable (one_version tables) comm
         (record { stamp = 0; body = evolving v.op v.inverse }) ≡ None
     accepted =
         first_later (count_fault (first_excess (evolving v.op v.inverse)))
-        (stamp_fault None 0 ∷ unless (nat_lt 1 most_versions) (OverLimit Versions most_versions)
+        (stamp_fault None 0 ∷ unless (nat_lt 1 max_versions) (OverLimit Versions max_versions)
         ∷ option_map operator_refusal (op_fault tables v.op) ∷ inverse_tests tables v.op v.inverse)
         (ap count_fault h.counted)
         ∙ first_later (option_map operator_refusal (op_fault tables v.op))
@@ -176,7 +177,7 @@ module _ (last : Option ℕ) (ends : last_or_nought last < forever) where
   pub valid_read : (number : ℕ) (before : Option ℕ) (tables : Tables) (l : List PlainVersion)
       → IsValid tables → AreVersions before tables l → AllInForce (last_or_nought last) l
       → (last ≡ None → l ≡ [])
-      → number + length l ≤ most_versions → VersionsNamed l
+      → number + length l ≤ max_versions → VersionsNamed l
       → AreRead last (length l) number before tables l
   valid_read number before tables [] w a b f n k = refl
   valid_read number before tables (v ∷ l) w a b f n k = (

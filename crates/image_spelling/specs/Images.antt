@@ -5,9 +5,9 @@ use Rattle.std.specs.Prelude.{None, ⊤}
 use Rattle.relations.specs.Sets.{In}
 use Rattle.relations.specs.Spans.{Span, forever}
 use Rattle.prima_base.specs.Columns.{IsValid}
+use Rattle.prima_base.specs.Limits.{max_versions}
 use Rattle.table_histories.specs.Store.{Cell, Store, IsStore}
 use Rattle.smo_types.specs.Commands.{evolving, PlainVersion}
-use Rattle.smo_meaning.specs.Accepts.{most_versions}
 use Rattle.smo_meaning.specs.ValidPast.{last_or_nought, AllInForce, AreVersions}
 use Rattle.smo_meaning.specs.Past.{no_tables}
 use Rattle.command_spelling.specs.Valid.{BodyNamed}
@@ -70,7 +70,7 @@ VersionsNamed (v ∷ versions) = BodyNamed (evolving v.op v.inverse) × Versions
 -- is kept; the last stamp is that of a command, and no stamp is later
 pub record IsImage (image : Image) : Type 0 where
   pub evolved : AreVersions None no_tables image.versions
-  pub few : length image.versions ≤ most_versions
+  pub few : length image.versions ≤ max_versions
   pub named : VersionsNamed image.versions
   pub ends : last_or_nought image.last < forever
   pub begun : AllInForce (last_or_nought image.last) image.versions

@@ -8,10 +8,10 @@ use Rattle.prima_base.specs.Columns.{has_type}
 use Rattle.prima_base.specs.Order.{row_cmp}
 use Rattle.prima_base.specs.declared.value.ColType.{ColType}
 use Rattle.prima_base.specs.declared.value.Value.{Value}
+use Rattle.prima_base.specs.Limits.{max_versions}
 use Rattle.schema_catalog.specs.Tables.{Tables}
 use Rattle.table_histories.specs.Store.{Cell, rows_from}
 use Rattle.smo_types.specs.Commands.{evolving, PlainVersion}
-use Rattle.smo_meaning.specs.Accepts.{most_versions}
 use Rattle.smo_meaning.specs.After.{op_fault}
 use Rattle.smo_meaning.specs.Counts.{first_excess}
 use Rattle.smo_meaning.specs.Inverses.{inverse_fault}
@@ -40,7 +40,7 @@ is_end last moment = moment == forever || is_stamp last moment
 -- accepted as an EVOLVE of its stamp
 abbrev pub is_accepted : ℕ → Option ℕ → Tables → PlainVersion → Bool
 is_accepted number before tables v =
-    (nat_lt number most_versions && is_later before v.stamp)
+    (nat_lt number max_versions && is_later before v.stamp)
     && (is_none (first_excess (evolving v.op v.inverse))
     && (is_none (op_fault tables v.op) && is_none (inverse_fault tables v.op v.inverse)))
 

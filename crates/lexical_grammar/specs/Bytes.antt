@@ -3,7 +3,8 @@ use Rattle.std.specs.Prelude.{ℕ, ◌+◌, ◌-◌, ◌*◌, ◌<◌, ◌≤◌
 use Rattle.std.specs.Prelude.{nat_lt, nat_le, ◌==◌, List, [], ◌∷◌, length, take, get_or}
 use Rattle.std.specs.Prelude.{if◌then◌else◌}
 use Rattle.std.specs.List.{prefix_len}
-use Rattle.prima_base.specs.Bytes.{is_control, is_digit, is_name_byte, longest_text}
+use Rattle.prima_base.specs.Bytes.{is_control, is_digit, is_name_byte}
+use Rattle.prima_base.specs.Limits.{max_text}
 use Rattle.lexical_grammar.specs.declared.kind.TokenKind.TheVariants.{Word, Number, Text, Sign}
 use Rattle.lexical_grammar.specs.declared.scanned.Scanned.{Scanned}
 use Rattle.lexical_grammar.specs.declared.scanned.Scanned.TheVariants.{End, Of, Bad, Open, Long}
@@ -82,7 +83,7 @@ unfoldable mutual
 
 -- a text that ends is too long when it stands for more bytes than a text has at most
 abbrev pub sized : ℕ → Scanned → Scanned
-sized size (Of kind n) = if nat_lt longest_text size then Long else Of kind n
+sized size (Of kind n) = if nat_lt max_text size then Long else Of kind n
 sized size scanned = scanned
 
 -- ---- one token

@@ -2,6 +2,7 @@
 use Rattle.std.specs.Prelude.{ℕ, zero, suc, ℤ, pos, negsuc, Bool, true, false, not, ◌||◌, ◌&&◌}
 use Rattle.std.specs.Prelude.{nat_le, ◌==◌, List, [], ◌∷◌, length, drop, codes, if◌then◌else◌}
 use Rattle.std.specs.Str.{bytes_eq}
+use Rattle.prima_base.specs.Limits.{max_name}
 use Rattle.lexical_grammar.specs.declared.token.Token.{Token}
 use Rattle.lexical_grammar.specs.declared.kind.TokenKind.{TokenKind}
 use Rattle.lexical_grammar.specs.declared.kind.TokenKind.TheVariants.{Word, Number, Text, Sign}
@@ -70,7 +71,7 @@ is_one_of (w ∷ words) bytes = bytes_eq bytes w || is_one_of words bytes
 
 -- a word of at most 63 bytes that is not reserved
 unfoldable pub is_name : List ℕ → Bool
-is_name bytes = nat_le (length bytes) 63 && not (is_one_of reserved bytes)
+is_name bytes = nat_le (length bytes) max_name && not (is_one_of reserved bytes)
 
 -- -2^63 to 2^63 - 1
 abbrev pub is_int : ℤ → Bool

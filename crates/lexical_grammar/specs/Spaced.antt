@@ -2,7 +2,8 @@
 -- long as can be.
 use Rattle.std.specs.Prelude.{◌≡◌, ℕ, ◌+◌, ◌<◌, ◌≤◌, Bool, true, false, not, ◌||◌, ◌&&◌, ◌==◌, List}
 use Rattle.std.specs.Prelude.{[], ◌∷◌, ◌++◌, length, get_or, Option, Some, None, ◌⊎◌}
-use Rattle.prima_base.specs.Bytes.{is_control, is_digit, is_name_byte, longest_text}
+use Rattle.prima_base.specs.Bytes.{is_control, is_digit, is_name_byte}
+use Rattle.prima_base.specs.Limits.{max_text}
 use Rattle.lexical_grammar.specs.declared.kind.TokenKind.{TokenKind}
 use Rattle.lexical_grammar.specs.declared.kind.TokenKind.TheVariants.{Word, Number, Text, Sign}
 use Rattle.lexical_grammar.specs.declared.token.Token.{Token}
@@ -72,7 +73,7 @@ IsToken Number text rest = (d : ℕ) × (more : List ℕ) × Each is_digit (d �
     × (((text ≡ d ∷ more) × (number (d ∷ more) ≤ 18446744073709551615))
     ⊎ ((text ≡ 45 ∷ d ∷ more) × (number (d ∷ more) ≤ 9223372036854775808)))
 IsToken Text text rest = (value : List ℕ) × (bytes : List ℕ) × (text ≡ 39 ∷ bytes)
-    × IsLiteral value bytes × (length value ≤ longest_text) × NoneNext is_quote rest
+    × IsLiteral value bytes × (length value ≤ max_text) × NoneNext is_quote rest
 IsToken Sign text rest = ((b : ℕ) × (c : ℕ) × (text ≡ b ∷ c ∷ []) × (are_sign b c ≡ true))
     ⊎ ((b : ℕ) × (text ≡ b ∷ []) × (is_one_sign b ≡ true) × NoneNext (are_sign b) rest)
 
@@ -100,7 +101,7 @@ IsFault at bytes (BadByte p) = ((p ≡ at) × BeginsNothing bytes)
     × IsOpen inner × (is_control c ≡ true) × (p ≡ at + 1 + length inner))
 IsFault at bytes (OpenQuote p) = (inner : List ℕ) × (bytes ≡ 39 ∷ inner) × IsOpen inner × (p ≡ at)
 IsFault at bytes (LongText p) = (value : List ℕ) × (inner : List ℕ) × (more : List ℕ)
-    × (bytes ≡ 39 ∷ (inner ++ more)) × IsLiteral value inner × (longest_text < length value)
+    × (bytes ≡ 39 ∷ (inner ++ more)) × IsLiteral value inner × (max_text < length value)
     × NoneNext is_quote more × (p ≡ at)
 IsFault at bytes (BigNumber p) = (d : ℕ) × (digits : List ℕ) × (more : List ℕ)
     × Each is_digit (d ∷ digits) × NoneNext is_digit more × (p ≡ at)

@@ -3,6 +3,7 @@
 use Rattle.std.specs.Prelude.{◌≡◌, ℕ, ◌+◌, ◌<◌, ◌++◌, List, [], ◌∷◌, length, map, get_or, Option}
 use Rattle.std.specs.Prelude.{Some, None, Result, Err}
 use Rattle.prima_base.specs.declared.refusal.What.{What}
+use Rattle.prima_base.specs.Limits.{max_depth}
 use Rattle.lexical_grammar.specs.declared.token.Token.{Token}
 use Rattle.parser_combinators.specs.Grammar.{Grammar}
 use Rattle.parser_combinators.specs.declared.fault.ParseFault.{ParseFault}
@@ -16,7 +17,7 @@ use Rattle.parser_combinators.specs.Found.{lexemes_from, place, IsFirst}
 -- at each token, after so many nodes: the count that passes its limit there, if one does
 abbrev pub crossings_after : ℕ → List TokenCounts → List (Option What)
 crossings_after n [] = []
-crossings_after n (m ∷ ms) = crossed_by 32 (n + m.nodes) m ∷ crossings_after (n + m.nodes) ms
+crossings_after n (m ∷ ms) = crossed_by max_depth (n + m.nodes) m ∷ crossings_after (n + m.nodes) ms
 
 -- in a part with counts of its own
 abbrev pub crossings : List TokenCounts → List (Option What)

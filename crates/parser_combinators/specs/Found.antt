@@ -2,6 +2,7 @@
 use Rattle.std.specs.Prelude.{◌≡◌, ℕ, ◌+◌, ◌-◌, ◌<◌, ◌≤◌, List, length, take, drop, map, get_or}
 use Rattle.std.specs.Prelude.{Result, Ok, Err}
 use Rattle.prima_base.specs.declared.refusal.What.{What}
+use Rattle.prima_base.specs.Limits.{max_nodes, max_depth}
 use Rattle.lexical_grammar.specs.declared.token.Token.{Token}
 use Rattle.parser_combinators.specs.Grammar.{Grammar}
 use Rattle.parser_combinators.specs.declared.fault.ParseFault.{ParseFault}
@@ -30,15 +31,15 @@ Ends G ts k = k < length ts → CanGoOn G (take (k + 1) ts) → ⊥
 abbrev pub IsRead : {A X : Type 0} → (X → A) → Grammar A → List Token → ℕ
     → Result (X × ℕ) ParseFault → Type 0
 IsRead view G list from (Ok r) = (from ≤ r.1) × (r.1 ≤ length list) × (s : Size)
-    × G (view r.0) s (take (r.1 - from) (lexemes_from list from)) × (s.nodes ≤ 256) × Valid 32 s
-    × Ends G (lexemes_from list from) (r.1 - from)
+    × G (view r.0) s (take (r.1 - from) (lexemes_from list from)) × (s.nodes ≤ max_nodes)
+    × Valid max_depth s × Ends G (lexemes_from list from) (r.1 - from)
 IsRead view G list from (Err e) = Unit {0}
 
 -- this and the place after it, and it is not too much; or it is indeed too much
 abbrev pub Finds : {A X : Type 0} → (X → A) → A → Size → ℕ → Result (X × ℕ) ParseFault → Type 0
-Finds view a s n (Ok r) = (view r.0 ≡ a) × (r.1 ≡ n) × (s.nodes ≤ 256) × Valid 32 s
+Finds view a s n (Ok r) = (view r.0 ≡ a) × (r.1 ≡ n) × (s.nodes ≤ max_nodes) × Valid max_depth s
 Finds view a s n (Err fault.NoMemory) = Unit {0}
-Finds view a s n (Err (fault.TooMany w most)) = Exceeds w 0 32 s
+Finds view a s n (Err (fault.TooMany w most)) = Exceeds w 0 max_depth s
 Finds view a s n (Err (fault.Syntax at)) = ⊥
 Finds view a s n (Err fault.RanOut) = ⊥
 

@@ -8,10 +8,10 @@
 --    `option`.
 -- 2. Its grammar, from those beside the parsers (`grammar.lead`, `grammar.seq`, `grammar.map`,
 --    `AreMore`, `grammar.fresh`), or an inductive one with laws both ways (`correct_iff`).
--- 3. `IsCorrectParser 0 32 reader grammar follow`, by the law of each part: `lead_correct`,
---    `bind_lead`, `map_correct`, `name_correct`, `fresh_expr_correct`, `more_correct`,
---    `many_correct`. `follow` tells the lexemes with which the production itself goes on; `λ x.
---    false` where it ends by itself.
+-- 3. `IsCorrectParser 0 max_depth reader grammar follow`, by the law of each part:
+--    `lead_correct`, `bind_lead`, `map_correct`, `name_correct`, `fresh_expr_correct`,
+--    `more_correct`, `many_correct`. `follow` tells the lexemes with which the production
+--    itself goes on; `λ x. false` where it ends by itself.
 -- 4. The Rust function over the `Cursor`, which ensures `Reads view (reader c.old.nodes (ahead
 --    c.old)) result c.new`: what it calls ensures the same of its own part, and `lead_seen`,
 --    `lead_not`, `option_takes`, `option_not` and the steps of loops (`more_next`, `many_next`, ..)
@@ -23,6 +23,8 @@ use Rattle.std.specs.Prelude.{if◌then◌else◌, nat_lt, get_or, List, [], ◌
 use Rattle.std.specs.Prelude.{Some, None, ◌⊎◌}
 use Rattle.prima_base.specs.declared.refusal.What.{What}
 use Rattle.prima_base.specs.declared.refusal.What.TheVariants as what
+use Rattle.prima_base.specs.Limits.{max_nodes, max_depth, max_parts, max_branch_tables}
+use Rattle.prima_base.specs.Limits.{max_outputs, max_branches, max_keeps, max_inverse}
 use Rattle.lexical_grammar.specs.Lexemes.{Lexeme}
 use Rattle.parser_combinators.specs.Grammar.{Grammar}
 use Rattle.parser_combinators.specs.Grammar.{Size, rank}
@@ -31,14 +33,15 @@ use Rattle.parser_combinators.specs.Grammar.{Size, rank}
 
 -- the most of each, by its rank; no list of kinds 7, 8 and 10 is counted while it is read
 abbrev pub limits : List ℕ
-limits = 256 ∷ 32 ∷ 8 ∷ 8 ∷ 16 ∷ 32 ∷ 8 ∷ 0 ∷ 0 ∷ 8 ∷ 0 ∷ []
+limits = max_nodes ∷ max_depth ∷ max_parts ∷ max_branch_tables ∷ max_branches ∷ max_outputs
+    ∷ max_keeps ∷ 0 ∷ 0 ∷ max_inverse ∷ 0 ∷ []
 
 abbrev pub limit : What → ℕ
 limit w = get_or limits (rank w) 0
 
 -- one node more is not too many
 abbrev pub has_room : ℕ → Bool
-has_room n = nat_lt n 256
+has_room n = nat_lt n max_nodes
 
 -- ---- reading
 
@@ -75,8 +78,8 @@ Valid d s = (s.depth ≤ d) × ((w : What) → s.wide w ≤ limit w)
 abbrev pub Explains : {A : Type 0} → ℕ → (List Lexeme → Out A) → Grammar A → ℕ → List Lexeme → Out A
     → Type 0
 Explains d run G n ts (Parsed a m suffix) = (prefix : List Lexeme) × (s : Size)
-    × (ts ≡ prefix ++ suffix) × G a s prefix × (m ≡ n + s.nodes) × (n ≤ 256 → m ≤ 256) × Valid d s
-    × Same run prefix suffix (Parsed a m)
+    × (ts ≡ prefix ++ suffix) × G a s prefix × (m ≡ n + s.nodes) × (n ≤ max_nodes → m ≤ max_nodes)
+    × Valid d s × Same run prefix suffix (Parsed a m)
 Explains d run G n ts (Unexpected m suffix) = (prefix : List Lexeme) × (ts ≡ prefix ++ suffix)
     × CanGoOn G prefix × Same run prefix suffix (Unexpected m)
 Explains d run G n ts (LimitExceeded w m suffix) = (prefix : List Lexeme) × (ts ≡ prefix ++ suffix)
@@ -89,7 +92,7 @@ Stops follow (x ∷ suffix) = follow x ≡ false
 
 -- too much of this, with so many nodes before it and so many constructs that may be opened
 abbrev pub Exceeds : What → ℕ → ℕ → Size → Type 0
-Exceeds what.Nodes n d s = 256 < max (n + s.nodes) (s.wide what.Nodes)
+Exceeds what.Nodes n d s = max_nodes < max (n + s.nodes) (s.wide what.Nodes)
 Exceeds what.Depth n d s = d < s.depth
 Exceeds w n d s = limit w < s.wide w
 
@@ -177,7 +180,7 @@ more is w item (suc k) = option is (Takes (bind item
 -- each after the separator, and each of at least one node, so that there are no more than nodes
 -- that are left
 unfoldable pub nodes_more : {A : Type 0} → (Lexeme → Bool) → Parser A → Parser (List A)
-nodes_more is item = λ n ts. more is what.Nodes item (257 - n) n ts
+nodes_more is item = λ n ts. more is what.Nodes item (max_nodes + 1 - n) n ts
 
 -- each after the separator, as many as there are, but no more than the first number
 unfoldable pub as_many : {A : Type 0} → (Lexeme → Bool) → Parser A → ℕ → Parser (List A)

@@ -4,6 +4,7 @@ use Rattle.std.specs.Prelude.{◌≡◌, ℕ, ◌+◌, if◌then◌else◌, nat_
 use Rattle.std.specs.Prelude.{Option, Some, None}
 use Rattle.prima_base.specs.declared.refusal.What.{What}
 use Rattle.prima_base.specs.declared.refusal.What.TheVariants as what
+use Rattle.prima_base.specs.Limits.{max_nodes, max_parts}
 use Rattle.lexical_grammar.specs.Lexemes.{Lexeme}
 use Rattle.parser_combinators.specs.Grammar.{Grammar}
 use Rattle.parser_combinators.specs.Grammar.{Size}
@@ -48,6 +49,6 @@ AddUp ms s f = (length ms ≡ length f) × (nodes_in ms ≡ s.nodes) × (deepest
 -- with so many nodes up to this token, and constructs that may be opened: the first of its counts
 -- that passes its limit
 abbrev pub crossed_by : ℕ → ℕ → TokenCounts → Option What
-crossed_by d n m = if nat_lt 256 n then Some what.Nodes
+crossed_by d n m = if nat_lt max_nodes n then Some what.Nodes
     else (if nat_lt d m.depth then Some what.Depth
-    else (if nat_lt 8 m.part then Some what.Parts else None))
+    else (if nat_lt max_parts m.part then Some what.Parts else None))

@@ -2,6 +2,7 @@ pub mod Bytes
 pub mod Columns
 pub mod Faults
 pub mod Keeping
+pub mod Limits
 pub mod Order
 pub mod OrderLaws
 pub mod Timed

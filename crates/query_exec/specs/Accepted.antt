@@ -2,6 +2,7 @@
 use Rattle.std.specs.Prelude.{◌≡◌, ℕ, ◌+◌, ◌≤◌, true, List, [], ◌∷◌, length, None, ⊤}
 use Rattle.relations.specs.Spans.{covers}
 use Rattle.prima_base.specs.Timed.{rows_at}
+use Rattle.prima_base.specs.Limits.{max_branch_tables}
 use Rattle.cond_expr.specs.declared.expr.ColRef.{ColRef}
 use Rattle.cond_expr.specs.Trees.{Test}
 use Rattle.smo_types.specs.Commands.{PlainVersion}
@@ -38,7 +39,7 @@ MayItems versions route references cond i (x ∷ from) =
 pub record MayBranch (versions : List PlainVersion) (route : Route) (b : PlainBranch) :
     Type 0 where
   pub items : MayItems versions route (all_references b.outs b.cond) b.cond 0 b.from
-  pub few : length b.from ≤ 8
+  pub few : length b.from ≤ max_branch_tables
 
 abbrev pub MayBranches : List PlainVersion → Route → List PlainBranch → Type 0
 MayBranches versions route [] = ⊤

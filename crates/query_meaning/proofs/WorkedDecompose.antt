@@ -37,10 +37,11 @@ use Rattle.smo_meaning.proofs.ValueLaws.{beginning_holds, history_holds}
 use Rattle.prima_base.specs.declared.refusal.OpRefusal.{OpRefusal}
 use Rattle.prima_base.specs.declared.refusal.OpRefusal.TheVariants.{Exists, NoTable, TooMany}
 use Rattle.prima_base.specs.declared.refusal.What.TheVariants.{Tables as TABLES}
+use Rattle.prima_base.specs.Limits.{max_tables}
 use Rattle.smo_meaning.specs.First.{unless, first_refusal}
 use Rattle.smo_meaning.specs.After.{op_fault, schema_after}
 use Rattle.smo_meaning.specs.Preconditions.{among, differ, joinable, few_columns, each_known}
-use Rattle.smo_meaning.specs.Preconditions.{each_once, cover, most_tables, test_known_in}
+use Rattle.smo_meaning.specs.Preconditions.{each_once, cover, test_known_in}
 use Rattle.smo_meaning.specs.Preconditions.{test_typed_in}
 use Rattle.smo_meaning.specs.Inverses.{inverse_tests, inverse_fault}
 use Rattle.smo_meaning.proofs.InverseLaws.{accepted_so}
@@ -424,7 +425,7 @@ parting_by o first second count =
     ∷ each_known emp columns (id ∷ name ∷ id ∷ city ∷ [])
     ∷ each_once who (id ∷ name ∷ []) ∷ each_once home (id ∷ city ∷ [])
     ∷ cover emp columns (id ∷ name ∷ []) (id ∷ city ∷ [])
-    ∷ unless (nat_le count most_tables) (TooMany TABLES most_tables) ∷ [])
+    ∷ unless (nat_le count max_tables) (TooMany TABLES max_tables) ∷ [])
 
 parting_accepted : op_fault with_emp parting ≡ None
 parting_accepted =

@@ -37,9 +37,9 @@ use Rattle.smo_meaning.proofs.ValueLaws.{beginning_holds, history_holds}
 use Rattle.prima_base.specs.declared.refusal.What.TheVariants.{Tables as TABLES}
 use Rattle.prima_base.specs.declared.refusal.OpRefusal.{OpRefusal}
 use Rattle.prima_base.specs.declared.refusal.OpRefusal.TheVariants.{Exists, TooMany, NoTable}
+use Rattle.prima_base.specs.Limits.{max_tables}
 use Rattle.smo_meaning.specs.First.{unless, first_refusal}
 use Rattle.smo_meaning.specs.Preconditions.{among, differ, alike, test_known_in, test_typed_in}
-use Rattle.smo_meaning.specs.Preconditions.{most_tables}
 use Rattle.smo_meaning.specs.Inverses.{inverse_tests, inverse_fault}
 use Rattle.smo_meaning.proofs.InverseLaws.{accepted_so}
 use Rattle.smo_meaning.proofs.NameLaws.{same_is}
@@ -459,7 +459,7 @@ parting_by o first second count =
     ∷ unless (not (is_some first) || among r (t ∷ [])) (Exists r)
     ∷ unless (not (is_some second) || among s (t ∷ [])) (Exists s)
     ∷ test_known_in t (unwrap_or o []) low ∷ test_typed_in (unwrap_or o []) low
-    ∷ unless (nat_le count most_tables) (TooMany TABLES most_tables) ∷ [])
+    ∷ unless (nat_le count max_tables) (TooMany TABLES max_tables) ∷ [])
 
 parting_accepted : op_fault merged parting ≡ None
 parting_accepted =

@@ -14,6 +14,7 @@ use Rattle.prima_base.specs.declared.refusal.What.TheVariants.{Tables as TABLES}
 use Rattle.prima_base.specs.declared.refusal.OpRefusal.{OpRefusal}
 use Rattle.prima_base.specs.declared.refusal.OpRefusal.TheVariants.{Exists, TooMany}
 use Rattle.prima_base.specs.Columns.{Column, names_of}
+use Rattle.prima_base.specs.Limits.{max_tables}
 use Rattle.schema_catalog.specs.Tables.{Tables}
 use Rattle.schema_catalog.specs.Databases.{DatabaseEntry, Rows, Database}
 use Rattle.cond_expr.specs.Trees.{Tree, Test, fill, fill_test}
@@ -28,7 +29,6 @@ use Rattle.smo_meaning.specs.OneRow.{Row, Relation}
 use Rattle.smo_meaning.specs.Effects.{relation_after, with_changed, database_after, gained_rows}
 use Rattle.smo_meaning.specs.Effects.{gained, lost, rows_under}
 use Rattle.smo_meaning.specs.Preconditions.{among, is_some_column, each_once, few_columns}
-use Rattle.smo_meaning.specs.Preconditions.{most_tables}
 use Rattle.smo_meaning.proofs.CountingLaws.{self_gains_nothing, gains_nothing, gained_step}
 use Rattle.smo_meaning.proofs.CountingLaws.{lost_with}
 use Rattle.plain_answers.specs.Branches.{PlainBranch, plain}
@@ -91,7 +91,7 @@ abbrev pub creating_by : List ℕ → List Column → Option (List Column) → �
 creating_by n columns o count =
     first_refusal (unless (not (is_some o) || among n []) (Exists n) ∷ is_some_column n columns
     ∷ each_once n (names_of columns) ∷ few_columns columns
-    ∷ unless (nat_le count most_tables) (TooMany TABLES most_tables) ∷ [])
+    ∷ unless (nat_le count max_tables) (TooMany TABLES max_tables) ∷ [])
 
 pub creates : (tables : Tables) (n : List ℕ) (columns : List Column) (count : ℕ)
     → get tables n ≡ None → len (insert tables n (in_order columns)) ≡ count

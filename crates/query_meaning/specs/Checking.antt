@@ -31,6 +31,7 @@ use Rattle.query_types.specs.declared.when.When.TheVariants.{Always, AsOf, Durin
 use Rattle.prima_base.specs.declared.refusal.Refusal.{Refusal}
 use Rattle.prima_base.specs.declared.fault.CallFault.{CallFault}
 use Rattle.prima_base.specs.declared.fault.CallFault.TheVariants.{Refused, NoMemory}
+use Rattle.prima_base.specs.Limits.{max_branch_tables, max_outputs, max_branches, max_keeps}
 use Rattle.plain_answers.specs.Branches.{Item, PlainBranch}
 use Rattle.plain_answers.specs.Naming.{all_references}
 use Rattle.query_types.specs.declared.query.Query.{Query}
@@ -41,17 +42,20 @@ use Rattle.query_meaning.specs.Atoms.{branches_with_atoms, with_atoms, atom_kind
 -- ---- counts, in written order: what is too many stands where it begins, after those before it
 
 abbrev pub output_counts : List Tree → List Excess
-output_counts outs = flat_map tree_counts (take 32 outs) ++ at_most Outputs 32 (length outs) ∷ []
+output_counts outs = flat_map tree_counts (take max_outputs outs)
+    ++ at_most Outputs max_outputs (length outs) ∷ []
 
 abbrev pub branch_counts : PlainBranch → List Excess
-branch_counts b = output_counts b.outs ++ (at_most TABLES 8 (length b.from) ∷ test_counts b.cond)
+branch_counts b = output_counts b.outs
+    ++ (at_most TABLES max_branch_tables (length b.from) ∷ test_counts b.cond)
 
 abbrev pub branches_counts : List PlainBranch → List Excess
-branches_counts branches = flat_map branch_counts (take 16 branches)
-    ++ at_most Branches 16 (length branches) ∷ []
+branches_counts branches = flat_map branch_counts (take max_branches branches)
+    ++ at_most Branches max_branches (length branches) ∷ []
 
 abbrev pub query_counts : PlainQuery → List Excess
-query_counts query = branches_counts query.branches ++ at_most Keeps 8 (length query.keep) ∷ []
+query_counts query = branches_counts query.branches
+    ++ at_most Keeps max_keeps (length query.keep) ∷ []
 
 abbrev pub excess_of : PlainQuery → Excess
 excess_of query = first_refusal (query_counts query)

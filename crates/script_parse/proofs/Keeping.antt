@@ -3,8 +3,8 @@ use Rattle.std.proofs.Common.{◌≡◌, ◌≤◌, ◌+◌, ℕ, Bool, true, fa
 use Rattle.std.proofs.Common.{refl, sym, ap, ◌∙◌, arith, length-append}
 use Rattle.std.specs.Prelude.{◌&&◌, nat_lt}
 use Rattle.std.proofs.lemmas.Bool.Decides.{nat_tests}
+use Rattle.prima_base.specs.Limits.{max_statement}
 use Rattle.script_parse.specs.Script.{next, is_too_long, mode_after, all_quiet, is_quiet}
-use Rattle.script_parse.specs.Script.{longest_statement}
 use Rattle.script_parse.specs.Splitting.{keep, IsTracked}
 use Rattle.script_parse.specs.declared.mode.Mode.{Mode}
 use Rattle.script_parse.specs.declared.mode.Mode.TheVariants.{Plain}
@@ -39,7 +39,7 @@ room m b c h = grind (arith, length-append c (b ∷ []), nat_tests)
 tracked_kept : (m : Mode) (c : List ℕ) (q : Bool) (b : ℕ) → is_too_long c ≡ false → IsTracked m c q
     → IsTracked (next m b) (c ++ b ∷ []) (q && is_quiet m b)
 tracked_kept m c q b short h = record {
-  short = room longest_statement b c short;
+  short = room max_statement b c short;
   mode_is = λ e. ap (λ n. next n b) (h.mode_is short) ∙ sym (mode_append c Plain b);
   quiet_is = λ e. ap (λ n. q && is_quiet n b) (h.mode_is short)
       ∙ ap (λ p. p && is_quiet (mode_after Plain c) b) (h.quiet_is short)

@@ -5,8 +5,9 @@ use Rattle.std.proofs.Common.{drop, length-drop}
 use Rattle.std.specs.Prelude.{cond, nat_lt}
 use Rattle.std.proofs.lemmas.Bool.Decides.{nat_tests}
 use Rattle.std.proofs.lemmas.List.{drop_more, take_all}
+use Rattle.prima_base.specs.Limits.{max_statement}
 use Rattle.script_parse.specs.Script.{next, is_end, is_too_long, statements_from, tail_from}
-use Rattle.script_parse.specs.Script.{Skipped, part_of, parts_from, ending, longest_statement}
+use Rattle.script_parse.specs.Script.{Skipped, part_of, parts_from, ending}
 use Rattle.script_parse.specs.Splitting.{keep, IsEndOf}
 use Rattle.script_parse.specs.declared.mode.Mode.{Mode}
 use Rattle.script_parse.specs.declared.mode.Mode.TheVariants.{Plain}
@@ -34,7 +35,7 @@ pieces_alike (b ∷ bs) m c d hc hd =
     (statements_from (next m b) (d ++ b ∷ []) bs))) [
       | true ↦ ap (λ p. p ∷ parts_from Plain [] bs) (piece_long c hc ∙ sym (piece_long d hd))
       | false ↦ pieces_alike bs (next m b) (c ++ b ∷ []) (d ++ b ∷ [])
-          (still_long longest_statement b c hc) (still_long longest_statement b d hd)
+          (still_long max_statement b c hc) (still_long max_statement b d hd)
     ]
 
 pub endings_alike : (bs : List ℕ) (m : Mode) (c d : List ℕ) → is_too_long c ≡ true
@@ -46,7 +47,7 @@ endings_alike (b ∷ bs) m c d hc hd =
     ≡ ending (cond v (tail_from Plain [] bs) (tail_from (next m b) (d ++ b ∷ []) bs))) [
       | true ↦ refl
       | false ↦ endings_alike bs (next m b) (c ++ b ∷ []) (d ++ b ∷ [])
-          (still_long longest_statement b c hc) (still_long longest_statement b d hd)
+          (still_long max_statement b c hc) (still_long max_statement b d hd)
     ]
 
 kept_pieces : (bs : List ℕ) (m : Mode) (c : List ℕ) (b : ℕ)
@@ -55,7 +56,7 @@ kept_pieces bs m c b = by (is_too_long c) refl
   where
     by : (v : Bool) → is_too_long c ≡ v → parts_from m (c ++ b ∷ []) bs
         ≡ parts_from m (keep c b) bs
-    by true e = rw e (pieces_alike bs m (c ++ b ∷ []) c (still_long longest_statement b c e) e)
+    by true e = rw e (pieces_alike bs m (c ++ b ∷ []) c (still_long max_statement b c e) e)
     by false e = rw e refl
 
 kept_endings : (bs : List ℕ) (m : Mode) (c : List ℕ) (b : ℕ)
@@ -64,7 +65,7 @@ kept_endings bs m c b = by (is_too_long c) refl
   where
     by : (v : Bool) → is_too_long c ≡ v → ending (tail_from m (c ++ b ∷ []) bs)
         ≡ ending (tail_from m (keep c b) bs)
-    by true e = rw e (endings_alike bs m (c ++ b ∷ []) c (still_long longest_statement b c e) e)
+    by true e = rw e (endings_alike bs m (c ++ b ∷ []) c (still_long max_statement b c e) e)
     by false e = rw e refl
 
 -- a byte of a statement

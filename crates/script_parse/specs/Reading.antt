@@ -4,6 +4,7 @@ use Rattle.std.specs.Prelude.{Some, None, Result, Ok, Err, ◌⊎◌}
 use Rattle.prima_base.specs.declared.refusal.Refusal.{Refusal}
 use Rattle.prima_base.specs.declared.refusal.Refusal.TheVariants.{Syntax, TooMany}
 use Rattle.prima_base.specs.declared.refusal.What.{What}
+use Rattle.prima_base.specs.Limits.{max_nodes, max_depth}
 use Rattle.lexical_grammar.specs.Lexemes.{Lexeme}
 use Rattle.parser_combinators.specs.Parsing.{Out, Parsed, Unexpected, LimitExceeded, CanGoOn, Valid}
 use Rattle.parser_combinators.specs.Parsing.{Exceeds, limit}
@@ -78,7 +79,7 @@ IsOfPlace (Some at) f = f ≡ fault.Syntax at
 
 -- nothing is more than its limit
 abbrev pub IsWithin : Size → Type 0
-IsWithin s = (s.nodes ≤ 256) × Valid 32 s
+IsWithin s = (s.nodes ≤ max_nodes) × Valid max_depth s
 
 -- however a statement goes on after the prefix and this token, it is the first at which a count
 -- passes its limit, and this count
@@ -130,7 +131,7 @@ ReadingsAreOne = (text : List ℕ) (r : Reading) → IsReading text r → readin
 
 -- refused since something is too much that is so in this size
 abbrev pub IsExceeded : Size → Reading → Type 0
-IsExceeded size r = (w : What) × Exceeds w 0 32 size × (r ≡ Refused (TooMany w (limit w)))
+IsExceeded size r = (w : What) × Exceeds w 0 max_depth size × (r ≡ Refused (TooMany w (limit w)))
 
 -- read as this statement if it is within the limits, and else refused for what is over its limit
 abbrev pub IsReadAs : PlainStatement → Size → Reading → Type 0

@@ -3,14 +3,11 @@
 use Rattle.std.specs.Prelude.{ℕ, List, [], ◌∷◌, ◌++◌, ◌==◌, ◌&&◌, ◌||◌, Bool, true, false, nat_lt}
 use Rattle.std.specs.Prelude.{length, map, if◌then◌else◌}
 use Rattle.lexical_grammar.specs.Bytes.{is_blank}
+use Rattle.prima_base.specs.Limits.{max_statement}
 use Rattle.script_parse.specs.declared.mode.Mode.{Mode}
 use Rattle.script_parse.specs.declared.mode.Mode.TheVariants.{Plain, Dash, Quoted, Comment}
 use Rattle.script_parse.specs.declared.splitter.Tail.{Tail}
 use Rattle.script_parse.specs.declared.splitter.Tail.TheVariants.{Clean, Unfinished, TooLong}
-
--- the most bytes of a statement, without its `;`: 2 ^ 20
-abbrev pub longest_statement : ℕ
-longest_statement = 1048576
 
 -- where a byte leaves a script: a quote (39) opens a text literal and closes it, so a doubled one
 -- closes it and opens it again; two dashes (45) outside one open a comment, which ends at the next
@@ -53,7 +50,7 @@ abbrev pub tail_of : List ℕ → List ℕ
 tail_of script = tail_from Plain [] script
 
 abbrev pub is_too_long : List ℕ → Bool
-is_too_long statement = nat_lt longest_statement (length statement)
+is_too_long statement = nat_lt max_statement (length statement)
 
 -- what is handed on of a statement: its bytes, or that it is too long
 pub data StatementPart : Type 0 where

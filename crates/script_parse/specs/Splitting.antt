@@ -1,8 +1,9 @@
 -- What a splitter knows of the statement that it is in.
 use Rattle.std.specs.Prelude.{◌≡◌, ℕ, ◌+◌, ◌-◌, ◌<◌, ◌≤◌, List, [], ◌∷◌, ◌++◌, Bool, false, length}
 use Rattle.std.specs.Prelude.{drop, if◌then◌else◌}
+use Rattle.prima_base.specs.Limits.{max_statement}
 use Rattle.script_parse.specs.Script.{next, mode_after, all_quiet, is_too_long, StatementPart}
-use Rattle.script_parse.specs.Script.{Whole, Skipped, longest_statement}
+use Rattle.script_parse.specs.Script.{Whole, Skipped}
 use Rattle.script_parse.specs.declared.mode.Mode.{Mode}
 use Rattle.script_parse.specs.declared.mode.Mode.TheVariants.{Plain}
 use Rattle.script_parse.specs.declared.splitter.Cut.{Cut}
@@ -34,7 +35,7 @@ step state byte = record {
 -- what is kept of a statement that is not too long leaves the script in `mode`, and is `quiet` or
 -- not
 pub record IsTracked (mode : Mode) (kept : List ℕ) (quiet : Bool) : Type 0 where
-  pub short : length kept ≤ longest_statement + 1
+  pub short : length kept ≤ max_statement + 1
   pub mode_is : is_too_long kept ≡ false → mode ≡ mode_after Plain kept
   pub quiet_is : is_too_long kept ≡ false → quiet ≡ all_quiet Plain kept
 
@@ -63,5 +64,5 @@ IsFewer TooLong rest bytes = length rest < length bytes
 -- a statement that is handed on is not too long
 abbrev pub IsWithin : Cut → Type 0
 IsWithin More = Unit {0}
-IsWithin (Text statement) = length statement.items ≤ longest_statement
+IsWithin (Text statement) = length statement.items ≤ max_statement
 IsWithin TooLong = Unit {0}

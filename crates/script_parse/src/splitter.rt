@@ -53,7 +53,8 @@ pub enum Tail {
 
 ghost use Rattle.std.specs.Prelude.{◌≡◌, ◌+◌, ◌≤◌, ℕ, List, [], ◌∷◌, ◌++◌, ◌&&◌, false, true};
 ghost use Rattle.std.specs.Prelude.{length, IfOk, OnOk, OnErr};
-ghost use Rattle.script_parse.specs.Script.{is_end, is_too_long, longest_statement, part_of};
+ghost use Rattle.prima_base.specs.Limits.{max_statement};
+ghost use Rattle.script_parse.specs.Script.{is_end, is_too_long, part_of};
 ghost use Rattle.script_parse.specs.Script.{parts_from, tail_from, ending, all_quiet, is_settled};
 ghost use Rattle.script_parse.specs.Splitting.{State, fresh, keep, step, found, IsEndOf, IsSettled};
 ghost use Rattle.script_parse.specs.Splitting.{IsFewer, IsWithin};
@@ -99,7 +100,7 @@ impl Splitter {
     fn keep(&mut self, byte: u8) -> Result<(), NoMemory>
         ensures ok { OnOk result (self.new ≡ step self.old byte) }
         ensures err { OnErr result (self.new.spent ≡ true) }
-        ensures short { length self.new.kept ≤ longest_statement + 1 }
+        ensures short { length self.new.kept ≤ max_statement + 1 }
     {
         match put(&mut self.kept, byte) {
             Ok(()) => {
@@ -146,7 +147,7 @@ impl Splitter {
         ensures fewer { IfOk result (λ r. IsFewer r.0 r.1.now bytes.now) }
         ensures within { IfOk result (λ r. IsWithin r.0) }
         ensures settled { IfOk result (λ r. IsSettled r.0 r.1.now self.new) }
-        ensures kept { length self.new.kept ≤ longest_statement + 1 }
+        ensures kept { length self.new.kept ≤ max_statement + 1 }
         ensures before { OnOk result (self.old.spent ≡ false) }
         ensures after { OnOk result (self.new.spent ≡ false) }
         ensures spent { OnErr result (self.new.spent ≡ true) }

@@ -5,6 +5,7 @@ use Rattle.std.specs.Prelude.{nat_lt, Option}
 use Rattle.std.specs.Option.{option_map}
 use Rattle.prima_base.specs.declared.refusal.What.TheVariants.{Versions}
 use Rattle.prima_base.specs.declared.refusal.Refusal.TheVariants.{TooMany}
+use Rattle.prima_base.specs.Limits.{max_versions}
 use Rattle.schema_catalog.specs.Tables.{Tables}
 use Rattle.smo_types.specs.Commands.{PlainBody, changing, evolving, PlainCommand}
 use Rattle.smo_meaning.specs.First.{unless, first_refusal}
@@ -13,14 +14,14 @@ use Rattle.smo_meaning.specs.Counts.{first_excess}
 use Rattle.smo_meaning.specs.Checks.{Fault, changes_tests}
 use Rattle.smo_meaning.specs.Inverses.{inverse_tests}
 use Rattle.smo_meaning.specs.Past.{Past, newest_tables}
-use Rattle.smo_meaning.specs.Accepts.{operator_refusal, count_fault, stamp_fault, most_versions}
+use Rattle.smo_meaning.specs.Accepts.{operator_refusal, count_fault, stamp_fault}
 use Rattle.smo_meaning.specs.Accepts.{body_tests, command_fault}
 
 -- the tests of a body over tables, with so many versions before it
 abbrev tests_over : Tables → ℕ → PlainBody → List Fault
 tests_over tables n (changing changes) = changes_tests tables changes 0
 tests_over tables n (evolving op inverse) =
-    unless (nat_lt n most_versions) (TooMany Versions most_versions)
+    unless (nat_lt n max_versions) (TooMany Versions max_versions)
     ∷ option_map operator_refusal (op_fault tables op) ∷ inverse_tests tables op inverse
 
 same_tests : (p q : Past) → newest_tables p ≡ newest_tables q

@@ -16,14 +16,14 @@ use Rattle.prima_base.specs.declared.refusal.OpRefusal.TheVariants.{NoTable, Too
 use Rattle.prima_base.specs.Order.{bytes_cmp}
 use Rattle.prima_base.specs.OrderLaws.{bytes_exact}
 use Rattle.prima_base.specs.Columns.{Column, names_of, AreColumns}
+use Rattle.prima_base.specs.Limits.{max_columns, max_tables}
 use Rattle.schema_catalog.specs.Tables.{Tables, IsSchema}
 use Rattle.smo_types.specs.Operators.{Operator, nop, create_table, drop_table, rename_table}
 use Rattle.smo_types.specs.Operators.{copy_table, merge_table, partition_table, decompose_table}
 use Rattle.smo_types.specs.Operators.{join_table, add_column, drop_column, rename_column}
 use Rattle.smo_meaning.specs.OneRow.{same}
 use Rattle.smo_meaning.specs.Effects.{columns_of}
-use Rattle.smo_meaning.specs.Preconditions.{is_there, few_columns, few_tables, most_columns}
-use Rattle.smo_meaning.specs.Preconditions.{most_tables}
+use Rattle.smo_meaning.specs.Preconditions.{is_there, few_columns, few_tables}
 use Rattle.smo_meaning.specs.Making.{column_cmp, without, renamed, with_column, type_of_value}
 use Rattle.smo_meaning.specs.Making.{joined_columns}
 use Rattle.smo_meaning.specs.OperatorTable.{Made, line, without_all, with_all, tables_after}
@@ -43,11 +43,11 @@ at_most_is n limit e = grind (arith, e)
 
 pub few_are : (columns : List Column) → few_columns columns ≡ None → length columns ≤ 32
 few_are columns e = at_most_is (length columns) 32
-    (met (nat_le (length columns) most_columns) (TooMany COLUMNS most_columns) e)
+    (met (nat_le (length columns) max_columns) (TooMany COLUMNS max_columns) e)
 
 pub few_after : (tables : Tables) → few_tables tables ≡ None → len tables ≤ 64
 few_after tables e = at_most_is (len tables) 64
-    (met (nat_le (len tables) most_tables) (TooMany TABLES most_tables) e)
+    (met (nat_le (len tables) max_tables) (TooMany TABLES max_tables) e)
 
 pub is_table : (tables : Tables) (r : List ℕ) → is_there tables r ≡ None
     → contains_key tables r ≡ true

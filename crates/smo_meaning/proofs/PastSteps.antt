@@ -9,6 +9,7 @@ use Rattle.prima_base.specs.declared.refusal.What.TheVariants.{Versions}
 use Rattle.prima_base.specs.declared.refusal.Refusal.TheVariants.{StampNotLater, TooMany}
 use Rattle.prima_base.specs.Order.{bytes_cmp}
 use Rattle.prima_base.specs.Columns.{Column}
+use Rattle.prima_base.specs.Limits.{max_versions}
 use Rattle.schema_catalog.specs.Tables.{Tables}
 use Rattle.schema_catalog.specs.Databases.{DatabaseEntry, Database, IsEntry, IsDatabase}
 use Rattle.smo_types.specs.Operators.{Operator}
@@ -25,7 +26,7 @@ use Rattle.smo_meaning.specs.ValidPast.{AreStates, AllUpTo, AreDistinct, EachSta
 use Rattle.smo_meaning.specs.ValidPast.{IsPast}
 use Rattle.smo_meaning.specs.Counts.{first_excess}
 use Rattle.smo_meaning.specs.Inverses.{inverse_tests, inverse_fault}
-use Rattle.smo_meaning.specs.Accepts.{operator_refusal, count_fault, stamp_fault, most_versions}
+use Rattle.smo_meaning.specs.Accepts.{operator_refusal, count_fault, stamp_fault}
 use Rattle.smo_meaning.specs.Accepts.{body_tests, command_fault}
 use Rattle.smo_meaning.proofs.Firsts.{none_of_first, none_mapped, met}
 use Rattle.smo_meaning.proofs.DatabaseLaws.{changes_keep}
@@ -104,8 +105,8 @@ inverse_accepted : (past : Past) (op : Operator) (inverse : List Operator)
     → first_refusal (body_tests past (evolving op inverse)) ≡ None
     → inverse_fault (newest_tables past) op inverse ≡ None
 inverse_accepted past op inverse e =
-    let rest = none_of_first (unless (nat_lt (length past.versions) most_versions)
-    (TooMany Versions most_versions))
+    let rest = none_of_first (unless (nat_lt (length past.versions) max_versions)
+    (TooMany Versions max_versions))
     (option_map operator_refusal (op_fault (newest_tables past) op)
     ∷ inverse_tests (newest_tables past) op inverse) e in
     (none_of_first (option_map operator_refusal (op_fault (newest_tables past) op))
@@ -115,8 +116,8 @@ operator_accepted : (past : Past) (op : Operator) (inverse : List Operator)
     → first_refusal (body_tests past (evolving op inverse)) ≡ None
     → op_fault (newest_tables past) op ≡ None
 operator_accepted past op inverse e =
-    let rest = none_of_first (unless (nat_lt (length past.versions) most_versions)
-    (TooMany Versions most_versions))
+    let rest = none_of_first (unless (nat_lt (length past.versions) max_versions)
+    (TooMany Versions max_versions))
     (option_map operator_refusal (op_fault (newest_tables past) op)
     ∷ inverse_tests (newest_tables past) op inverse) e in
     none_mapped operator_refusal (op_fault (newest_tables past) op)
@@ -126,14 +127,14 @@ operator_accepted past op inverse e =
 -- where a version is accepted there is room for it
 one_more_version : (past : Past) (op : Operator) (inverse : List Operator) (version : PlainVersion)
     → first_refusal (body_tests past (evolving op inverse)) ≡ None
-    → length (past.versions ++ version ∷ []) ≤ most_versions
+    → length (past.versions ++ version ∷ []) ≤ max_versions
 one_more_version past op inverse version e =
-    let h = met (nat_lt (length past.versions) most_versions) (TooMany Versions most_versions)
-    (none_of_first (unless (nat_lt (length past.versions) most_versions)
-    (TooMany Versions most_versions)) (option_map operator_refusal
+    let h = met (nat_lt (length past.versions) max_versions) (TooMany Versions max_versions)
+    (none_of_first (unless (nat_lt (length past.versions) max_versions)
+    (TooMany Versions max_versions)) (option_map operator_refusal
     (op_fault (newest_tables past) op) ∷ inverse_tests (newest_tables past) op inverse) e).0 in
     let more = length-append past.versions (version ∷ []) in
-    let few : length past.versions < most_versions = grind (arith, nat_tests, h) in
+    let few : length past.versions < max_versions = grind (arith, nat_tests, h) in
     omega (arith, few, more)
 
 -- the states stay, or the new database holds from the stamp on

@@ -19,6 +19,7 @@ use Rattle.prima_base.specs.declared.refusal.Refusal.TheVariants.{LastColumn as 
 use Rattle.prima_base.specs.declared.refusal.Refusal.TheVariants.{SameTable as OneTable}
 use Rattle.prima_base.specs.declared.refusal.Refusal.TheVariants.{WrongType as IllTyped}
 use Rattle.prima_base.specs.declared.refusal.Refusal.TheVariants.{TooMany as OverLimit}
+use Rattle.prima_base.specs.Limits.{max_versions}
 use Rattle.smo_types.specs.Commands.{PlainBody, changing, evolving, PlainCommand}
 use Rattle.smo_meaning.specs.First.{unless, first_refusal}
 use Rattle.smo_meaning.specs.After.{op_fault}
@@ -48,14 +49,10 @@ abbrev pub stamp_fault : Option ℕ → ℕ → Fault
 stamp_fault None stamp = None
 stamp_fault (Some last) stamp = unless (nat_lt last stamp) (StampNotLater stamp last)
 
--- the most versions after version 0
-abbrev pub most_versions : ℕ
-most_versions = 512
-
 abbrev pub body_tests : Past → PlainBody → List Fault
 body_tests past (changing changes) = changes_tests (newest_tables past) changes 0
 body_tests past (evolving op inverse) =
-    unless (nat_lt (length past.versions) most_versions) (OverLimit Versions most_versions)
+    unless (nat_lt (length past.versions) max_versions) (OverLimit Versions max_versions)
     ∷ option_map operator_refusal (op_fault (newest_tables past) op)
     ∷ inverse_tests (newest_tables past) op inverse
 

@@ -9,11 +9,12 @@ use Rattle.schema_catalog.specs.Databases.{Database}
 use Rattle.cond_expr.specs.Sizes.{nodes_of, test_nodes}
 use Rattle.prima_base.specs.declared.fault.CallFault.{CallFault}
 use Rattle.prima_base.specs.declared.fault.CallFault.TheVariants.{Refused, NoMemory}
+use Rattle.prima_base.specs.Limits.{max_tables}
 use Rattle.smo_types.specs.Operators.{Operator, nop, create_table, drop_table, rename_table}
 use Rattle.smo_types.specs.Operators.{copy_table, merge_table, partition_table, decompose_table}
 use Rattle.smo_types.specs.Operators.{join_table, add_column, drop_column, rename_column}
 use Rattle.smo_meaning.specs.First.{first_refusal}
-use Rattle.smo_meaning.specs.Preconditions.{AreNarrow, most_tables}
+use Rattle.smo_meaning.specs.Preconditions.{AreNarrow}
 use Rattle.smo_meaning.specs.OperatorTable.{Made, line, tables_after}
 
 -- the first precondition that fails
@@ -48,7 +49,7 @@ IsAfter tables op (Err NoMemory) = ⊤
 pub record IsValid (tables : Tables) : Type 0 where
   pub schema : IsSchema tables
   pub narrow : AreNarrow tables
-  pub few : len tables ≤ most_tables
+  pub few : len tables ≤ max_tables
 
 -- the operator's tree, where it has one, has so few nodes that the number of each fits a refusal
 abbrev pub HasFewNodes : Operator → Type 0

@@ -9,6 +9,7 @@ use Rattle.prima_base.specs.declared.refusal.Refusal.{Refusal}
 use Rattle.prima_base.specs.declared.refusal.Refusal.TheVariants.{NoTable, NoColumn, WrongType}
 use Rattle.prima_base.specs.declared.refusal.Refusal.TheVariants.{ColumnExists, ColumnMissing}
 use Rattle.prima_base.specs.Columns.{Column, names_of}
+use Rattle.prima_base.specs.Limits.{max_nodes}
 use Rattle.schema_catalog.specs.Tables.{Tables}
 use Rattle.cond_expr.specs.declared.expr.ColRef.{ColRef}
 use Rattle.cond_expr.specs.Trees.{Tree, Test}
@@ -93,15 +94,15 @@ change_nodes (insertion t cells) = length cells
 change_nodes (deletion t c) = test_nodes c
 change_nodes (update t sets c) = sets_nodes sets + test_nodes c
 
--- no tree of the change has more than 256 nodes
+-- no tree of the change has more nodes than a tree may have
 abbrev pub AreSmall : List (List ℕ × Tree) → Type 0
 AreSmall [] = ⊤
-AreSmall (s ∷ sets) = (nodes_of s.1 ≤ 256) × AreSmall sets
+AreSmall (s ∷ sets) = (nodes_of s.1 ≤ max_nodes) × AreSmall sets
 
 abbrev pub IsSmall : PlainChange → Type 0
 IsSmall (insertion t cells) = ⊤
-IsSmall (deletion t c) = test_nodes c ≤ 256
-IsSmall (update t sets c) = AreSmall sets × (test_nodes c ≤ 256)
+IsSmall (deletion t c) = test_nodes c ≤ max_nodes
+IsSmall (update t sets c) = AreSmall sets × (test_nodes c ≤ max_nodes)
 
 abbrev pub AllSmall : List PlainChange → Type 0
 AllSmall [] = ⊤

@@ -4,6 +4,7 @@ use Rattle.std.specs.List.{flat_map}
 use Rattle.prima_base.specs.declared.refusal.What.{What}
 use Rattle.prima_base.specs.declared.refusal.What.TheVariants.{Nodes, Depth, Parts, Changes}
 use Rattle.prima_base.specs.declared.refusal.What.TheVariants.{Inverse}
+use Rattle.prima_base.specs.Limits.{max_nodes, max_depth, max_parts, max_changes, max_inverse}
 use Rattle.cond_expr.specs.Trees.{Tree, Test}
 use Rattle.cond_expr.specs.Sizes.{nodes_of, depth_of, longest_of, test_nodes, test_depth}
 use Rattle.cond_expr.specs.Sizes.{test_longest}
@@ -23,12 +24,12 @@ at_most what limit count = unless (nat_le count limit) (what, limit)
 
 -- of a tree: its nodes, then its levels, then the parts of its longest CONCAT
 abbrev pub tree_counts : Tree → List Excess
-tree_counts t = at_most Nodes 256 (nodes_of t) ∷ at_most Depth 32 (depth_of t)
-    ∷ at_most Parts 8 (longest_of t) ∷ []
+tree_counts t = at_most Nodes max_nodes (nodes_of t) ∷ at_most Depth max_depth (depth_of t)
+    ∷ at_most Parts max_parts (longest_of t) ∷ []
 
 abbrev pub test_counts : Test → List Excess
-test_counts c = at_most Nodes 256 (test_nodes c) ∷ at_most Depth 32 (test_depth c)
-    ∷ at_most Parts 8 (test_longest c) ∷ []
+test_counts c = at_most Nodes max_nodes (test_nodes c) ∷ at_most Depth max_depth (test_depth c)
+    ∷ at_most Parts max_parts (test_longest c) ∷ []
 
 abbrev pub set_counts : List (List ℕ × Tree) → List Excess
 set_counts sets = flat_map (λ (s : List ℕ × Tree). tree_counts s.1) sets
@@ -54,10 +55,11 @@ operator_counts (rename_column b r c) = []
 
 -- a member too many stands where it begins, after those before it
 abbrev pub body_counts : PlainBody → List Excess
-body_counts (changing changes) = flat_map change_counts (take 65536 changes)
-    ++ at_most Changes 65536 (length changes) ∷ []
+body_counts (changing changes) = flat_map change_counts (take max_changes changes)
+    ++ at_most Changes max_changes (length changes) ∷ []
 body_counts (evolving op inverse) = operator_counts op
-    ++ (flat_map operator_counts (take 8 inverse) ++ at_most Inverse 8 (length inverse) ∷ [])
+    ++ (flat_map operator_counts (take max_inverse inverse)
+    ++ at_most Inverse max_inverse (length inverse) ∷ [])
 
 abbrev pub first_excess : PlainBody → Excess
 first_excess body = first_refusal (body_counts body)

@@ -1,9 +1,9 @@
 -- What holds of each past that accepted commands make.
 use Rattle.std.specs.Prelude.{◌≡◌, ◌≤◌, ◌<◌, ◌⊎◌, ℕ, List, [], ◌∷◌, length, Option, Some, None, ⊤}
+use Rattle.prima_base.specs.Limits.{max_versions}
 use Rattle.schema_catalog.specs.Databases.{Database, IsDatabase}
 use Rattle.smo_types.specs.Commands.{evolving, PlainVersion}
 use Rattle.schema_catalog.specs.Tables.{Tables}
-use Rattle.smo_meaning.specs.Accepts.{most_versions}
 use Rattle.smo_meaning.specs.After.{op_fault, schema_after, IsValid}
 use Rattle.smo_meaning.specs.Counts.{first_excess}
 use Rattle.smo_meaning.specs.Inverses.{inverse_fault}
@@ -93,7 +93,7 @@ pub record IsPast (past : Past) : Type 0 where
       (database_at past moment)
   pub versions : AllInForce (last_or_nought past.last) past.versions
   pub evolved : AreVersions None no_tables past.versions
-  pub few : length past.versions ≤ most_versions
+  pub few : length past.versions ≤ max_versions
   pub without : past.last ≡ None → past.versions ≡ []
   pub states : AreStates past.states
   pub distinct : AreDistinct past.versions past.states

@@ -9,11 +9,11 @@ use Rattle.relations.specs.Sets.{In}
 use Rattle.relations.specs.Spans.{forever}
 use Rattle.relations.proofs.SetLaws.{in_map, from_map}
 use Rattle.prima_base.specs.Columns.{Column}
+use Rattle.prima_base.specs.Limits.{max_versions}
 use Rattle.schema_catalog.specs.Tables.{Tables}
 use Rattle.schema_catalog.specs.Databases.{DatabaseEntry, Rows, Lost, IsEntry, IsDatabase}
 use Rattle.table_histories.specs.Store.{Cell, Store, AllBefore, relation_at}
 use Rattle.smo_types.specs.Commands.{PlainVersion, version_of}
-use Rattle.smo_meaning.specs.Accepts.{most_versions}
 use Rattle.smo_meaning.specs.Effects.{rows_under}
 use Rattle.smo_meaning.specs.ValidPast.{last_or_nought, IsLater, AllInForce, AreVersions, IsPast}
 use Rattle.smo_meaning.specs.Past.{Past, no_tables, tables_from, tables_of, begun_at, version_at}
@@ -96,7 +96,7 @@ module _ (kept : Kept) (past : Past) (last : Option ℕ) (shows : Represents kep
   is_image : IsImage image
   is_image = record {
     evolved = subst (AreVersions None no_tables) (sym shows.versions) shows.valid.evolved;
-    few = subst (λ (vs : List PlainVersion). length vs ≤ most_versions) (sym shows.versions)
+    few = subst (λ (vs : List PlainVersion). length vs ≤ max_versions) (sym shows.versions)
         shows.valid.few;
     named = holds.named;
     ends = subst (λ l. last_or_nought l < forever) (sym ends) shows.ends;

@@ -13,7 +13,7 @@ use Rattle.history_store.specs.Store.{Store, AllBefore}
 use Rattle.history_store.specs.Change.{PreparedChange}
 use Rattle.smo_types.specs.declared.version.Version.{Version}
 use Rattle.smo_meaning.specs.Accepts.{command_fault, operator_refusal}
-use Rattle.smo_meaning.specs.Accepts.{most_versions, body_tests}
+use Rattle.smo_meaning.specs.Accepts.{body_tests}
 use Rattle.smo_meaning.specs.After.{op_fault}
 use Rattle.smo_meaning.specs.First.{unless, first_refusal}
 use Rattle.smo_meaning.specs.ValidPast.{IsLater}
@@ -21,6 +21,7 @@ use Rattle.smo_meaning.specs.ValidValues.{BodyHolds}
 use Rattle.smo_meaning.specs.Inverses.{inverse_tests}
 use Rattle.prima_base.specs.declared.refusal.What.TheVariants.{Versions}
 use Rattle.prima_base.specs.declared.refusal.Refusal.TheVariants.{TooMany as OverLimit}
+use Rattle.prima_base.specs.Limits.{max_versions}
 use Rattle.std.proofs.lemmas.Bool.Decides.{nat_tests}
 use Rattle.smo_meaning.proofs.Firsts.{met, none_of_first}
 use Rattle.smo_types.specs.Changes.{PlainChange}
@@ -263,11 +264,11 @@ module _ (kept : Kept) (past : Past) (stamp : ℕ) (op : Operator) (inverse : Li
   pub op_accepted : op_fault (newest_tables past) op ≡ None
   op_accepted = operator_accepted past stamp op inverse accepted
 
-  pub few_versions : length past.versions < most_versions
+  pub few_versions : length past.versions < max_versions
   few_versions =
-      let h = met (nat_lt (length past.versions) most_versions) (OverLimit Versions most_versions)
-      (none_of_first (unless (nat_lt (length past.versions) most_versions)
-      (OverLimit Versions most_versions))
+      let h = met (nat_lt (length past.versions) max_versions) (OverLimit Versions max_versions)
+      (none_of_first (unless (nat_lt (length past.versions) max_versions)
+      (OverLimit Versions max_versions))
       (option_map operator_refusal (op_fault (newest_tables past) op)
       ∷ inverse_tests (newest_tables past) op inverse) tests).0 in
       grind (arith, nat_tests, h)

@@ -13,13 +13,14 @@ use Rattle.relations.proofs.SetLaws.{from_filter}
 use Rattle.prima_base.specs.declared.refusal.Refusal.TheVariants.{TooMany as OverLimit}
 use Rattle.prima_base.specs.declared.refusal.What.TheVariants.{Versions}
 use Rattle.prima_base.specs.Columns.{Column, IsRelation}
+use Rattle.prima_base.specs.Limits.{max_versions}
 use Rattle.schema_catalog.specs.Tables.{Tables}
 use Rattle.schema_catalog.specs.Databases.{Database, DatabaseEntry, Rows, Lost, IsEntry, IsDatabase}
 use Rattle.history_store.specs.Store.{Store, AllBefore}
 use Rattle.smo_types.specs.Commands.{evolving, PlainVersion, version_of}
 use Rattle.smo_types.specs.declared.version.Version.{Version}
 use Rattle.smo_types.specs.Operators.{Operator, operator_of}
-use Rattle.smo_meaning.specs.Accepts.{command_fault, operator_refusal, most_versions}
+use Rattle.smo_meaning.specs.Accepts.{command_fault, operator_refusal}
 use Rattle.smo_meaning.specs.After.{op_fault, schema_after}
 use Rattle.smo_meaning.specs.Effects.{rows_under}
 use Rattle.smo_meaning.specs.OneRow.{Relation}
@@ -263,8 +264,8 @@ pub operator_accepted : (past : Past) (stamp : ℕ) (op : Operator) (inverse : L
     → command_fault past (a_command stamp (evolving op inverse)) ≡ None
     → op_fault (newest_tables past) op ≡ None
 operator_accepted past stamp op inverse accepted =
-    let rest = none_of_first (unless (nat_lt (length past.versions) most_versions)
-    (OverLimit Versions most_versions))
+    let rest = none_of_first (unless (nat_lt (length past.versions) max_versions)
+    (OverLimit Versions max_versions))
     (option_map operator_refusal (op_fault (newest_tables past) op)
     ∷ inverse_tests (newest_tables past) op inverse)
     (body_accepted past (a_command stamp (evolving op inverse)) accepted) in

@@ -103,10 +103,11 @@ impl Groups {
     ghost use Rattle.relations.specs.Sets.{Ascends};
     ghost use Rattle.relations.specs.Spans.{forever};
     ghost use Rattle.prima_base.specs.Order.{bytes_cmp};
+    ghost use Rattle.prima_base.specs.Limits.{max_versions};
     ghost use Rattle.smo_types.specs.Operators.{operator_of};
     ghost use Rattle.smo_types.specs.Changes.{changes_of};
     ghost use Rattle.smo_types.specs.Commands.{changing, PlainCommand, versions_of};
-    ghost use Rattle.smo_meaning.specs.Accepts.{command_fault, most_versions};
+    ghost use Rattle.smo_meaning.specs.Accepts.{command_fault};
     ghost use Rattle.smo_meaning.specs.After.{op_fault, schema_after, IsValid};
     ghost use Rattle.smo_meaning.specs.ValidPast.{AreVersions};
     ghost use Rattle.smo_meaning.specs.ValidValues.{BodyHolds};
@@ -160,7 +161,7 @@ impl Groups {
         stores: Vec<StoredTable>,
     ) -> Result<Groups, NoMemory>
         requires versions { AreVersions None no_tables (versions_of versions) }
-        requires few { length versions.list.items ≤ most_versions }
+        requires few { length versions.list.items ≤ max_versions }
         requires stores { store_columns stores.items
             ≡ columns_of (lifelines_of (versions_of versions)) }
         ensures versions { IfOk result (λ groups. groups.versions ≡ versions.list.items) }

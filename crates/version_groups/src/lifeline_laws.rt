@@ -3,8 +3,8 @@
 ghost use Rattle.std.specs.Prelude.{◌≡◌, ◌≤◌, ◌*◌, ℕ, List, None, is_some, length};
 ghost use Rattle.std.specs.FinMap.{get};
 ghost use Rattle.relations.specs.Sets.{In};
+ghost use Rattle.prima_base.specs.Limits.{max_versions};
 ghost use Rattle.smo_types.specs.Commands.{PlainVersion};
-ghost use Rattle.smo_meaning.specs.Accepts.{most_versions};
 ghost use Rattle.smo_meaning.specs.ValidPast.{AreVersions};
 ghost use Rattle.smo_meaning.specs.Past.{Past, no_tables, tables_from};
 ghost use Rattle.version_groups.specs.Groups.{Kept};
@@ -30,5 +30,5 @@ pub fn lifelines_are_few()
     ensures versions { (versions : List PlainVersion)
         → length (lifelines_of versions) ≤ 2 * length versions }
     ensures sizes { (kept : Kept) (past : Past) → Represents kept past
-        → length past.sizes ≤ 2 * most_versions }
+        → length past.sizes ≤ 2 * max_versions }
 {}
