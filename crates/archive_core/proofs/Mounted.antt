@@ -40,8 +40,8 @@ restored records kept archive opened is replayed count after = record {
   spelled = is.spelled;
   records_are = is.records_are;
   accepted = all_accepted is.prefix is.ends (commands_kept kept) replayed.accepted;
-  shows = subst (RepresentsPast archive) (sym (past_after_them is.prefix (commands_kept kept)))
-      replayed.shows;
+  represents = subst (RepresentsPast archive) (sym (past_after_them is.prefix (commands_kept kept)))
+      replayed.represents;
   counted = record {
     commands = count ∙ is.counted;
     replayed = after ∙ sym (length-map kept.commands.items command_of)
@@ -165,7 +165,7 @@ mounted file recs at archive opened small is_opened restores =
         spelled = made.spelled;
         accepted = made.accepted;
       };
-      shows = made.shows;
+      represents = made.represents;
       place = gate_is file recs at made.log is_opened made.records_are;
       counted = made.counted;
     }

@@ -7,6 +7,6 @@ use Rattle.archive_core.specs.Committing.{IsUnchanged}
 
 pub unchanged : (past : Past) (old new : ArchiveContent) → RepresentsPast old past → new ≡ old
     → IsUnchanged past old new
-unchanged past old new shows e =
+unchanged past old new represents e =
     subst (λ (s : ArchiveContent). IsUnchanged past old s) (sym e)
-    (record { same = record { groups = is_same old.groups; last = refl }; shows = shows })
+    (record { same = record { groups = is_same old.groups; last = refl }; represents = represents })

@@ -113,7 +113,7 @@ module _ (records : List Record) (count : ℕ) (judged : AreJudged records count
   pub image_kept : (new : ReadRecords) (r : Record) (i : Image) → r ≡ record_of (checkpointed i)
       → IsImage i → ((n : ℕ) → RepresentsPast new.state (image_past n i)) → new.commands.items ≡ []
       → new.count ≡ count → AreKept (records ++ r ∷ []) new
-  image_kept new r i e is shows items same =
+  image_kept new r i e is represents items same =
       let prefix : List LogRecord = judged.log ++ checkpointed i ∷ [] in
       let log : prefix ++ map logged (commands_kept new) ≡ prefix =
       ap (λ (l : List (ℕ × Body)). prefix ++ map logged (map command_of l)) items
@@ -127,8 +127,8 @@ module _ (records : List Record) (count : ℕ) (judged : AreJudged records count
             judged.spelled (is, tt));
         records_are = log_with records judged.log judged.records_are r (checkpointed i) e
             ∙ sym (ap records_of log);
-        shows = subst (RepresentsPast new.state) (sym (after_image beginning judged.log i))
-            (shows (past_recorded judged.log).commands);
+        represents = subst (RepresentsPast new.state) (sym (after_image beginning judged.log i))
+            (represents (past_recorded judged.log).commands);
         counted = same ∙ judged.counted ∙ ap (λ (l : List PlainCommand). length l) (sym all)
             ∙ sym (ap (λ (l : List LogRecord). length (commands_in l)) log);
       }
@@ -164,8 +164,8 @@ module _ (records : List Record) (old new : ReadRecords) (kept : AreKept records
             kept.spelled (is, tt));
         records_are = log_with records whole kept.records_are r (logged (command_of c)) e
             ∙ sym (ap records_of log);
-        shows = subst (λ (s : ArchiveContent). RepresentsPast s (past_recorded kept.prefix))
-            (sym state) kept.shows;
+        represents = subst (λ (s : ArchiveContent). RepresentsPast s (past_recorded kept.prefix))
+            (sym state) kept.represents;
         counted = count ∙ ap (λ n. n + 1) kept.counted ∙ sym all
             ∙ sym (ap (λ (l : List LogRecord). length (commands_in l)) log);
       }
@@ -173,14 +173,14 @@ module _ (records : List Record) (old new : ReadRecords) (kept : AreKept records
 -- nothing was read
 pub none_kept : (kept : ReadRecords) → RepresentsPast kept.state beginning
     → kept.commands.items ≡ [] → kept.count ≡ 0 → AreKept [] kept
-none_kept kept shows items count =
+none_kept kept represents items count =
     let log : map logged (commands_kept kept) ≡ [] =
     ap (λ (l : List (ℕ × Body)). map logged (map command_of l)) items in record {
       prefix = [];
       ends = inl refl;
       spelled = subst AreSpelled (sym log) tt;
       records_are = sym (ap records_of log);
-      shows = shows;
+      represents = represents;
       counted = count ∙ sym (ap (λ (l : List LogRecord). length (commands_in l)) log);
     }
 
@@ -195,8 +195,11 @@ pub record AreReadTo (recs : List Rec) (before k : ℕ) (kept : ReadRecords) : T
 pub none_read : (recs : List Rec) (before : ℕ) (kept : ReadRecords)
     → RepresentsPast kept.state beginning → kept.commands.items ≡ [] → kept.count ≡ 0
     → AreReadTo recs before 0 kept
-none_read recs before kept shows items count =
-    record { judged = none_judged kept.count count; after = λ h. none_kept kept shows items count }
+none_read recs before kept represents items count =
+    record {
+      judged = none_judged kept.count count;
+      after = λ h. none_kept kept represents items count;
+    }
 
 -- where there is an image, the last one stands there
 abbrev pub IsLastImage : List Rec → ℕ → Type 0

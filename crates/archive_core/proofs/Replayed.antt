@@ -48,13 +48,14 @@ module _ (past : Past) (commands : List (ℕ × Body)) (k : ℕ) (c : ℕ × Bod
       → command_fault (past_after past (take k (map command_of commands))) (command_of c) ≡ None
       → RepresentsPast new (past_with (past_after past (take k (map command_of commands)))
       (command_of c)) → IsReplayed past (take (k + 1) (map command_of commands)) new
-  one_more_replayed old new before met shows =
+  one_more_replayed old new before met represents =
       subst (λ (l : List PlainCommand). IsReplayed past l new) (sym more) (record {
         accepted = accepted_push past (take k (map command_of commands)) (command_of c)
             before.accepted
             met;
-        shows = subst (RepresentsPast new) (sym (past_push past (take k (map command_of commands))
-            (command_of c))) shows;
+        represents = subst (RepresentsPast new)
+            (sym (past_push past (take k (map command_of commands))
+            (command_of c))) represents;
       })
 
   -- one is refused

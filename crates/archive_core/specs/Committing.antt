@@ -36,7 +36,7 @@ commit_fault past at limit command = first_refusal
 -- did
 pub record IsUnchanged (past : Past) (old new : ArchiveContent) : Type 0 where
   pub same : IsAsBefore old new
-  pub shows : RepresentsPast new past
+  pub represents : RepresentsPast new past
 
 -- An accepted command whose record fits leads to the next past, and is answered Ok, or Disk where
 -- the disk fails. Another is refused by its first refusal. In memory all is as it was, but after

@@ -21,7 +21,7 @@ pub record IsRestored (records : List Record) (archive : ArchiveContent) (opened
   pub spelled : AreSpelled log
   pub records_are : records ≡ records_of log
   pub accepted : AreAccepted beginning log
-  pub shows : RepresentsPast archive (past_recorded log)
+  pub represents : RepresentsPast archive (past_recorded log)
   pub counted : IsCounted log opened
 
 -- the file opens as records; the archive shows just their past, the gate after them is at this
@@ -30,6 +30,6 @@ pub record IsMounted (file : List ℕ) (archive : ArchiveContent) (at : ℕ) (op
     Type 0 where
   pub log : List LogRecord
   pub opens : Opens file log
-  pub shows : RepresentsPast archive (past_recorded log)
+  pub represents : RepresentsPast archive (past_recorded log)
   pub place : at ≡ gate_after log
   pub counted : IsCounted log opened

@@ -47,7 +47,7 @@ pub record AreKept (records : List Record) (kept : ReadRecords) : Type 0 where
   pub ends : EndsWithImage prefix
   pub spelled : AreSpelled (prefix ++ map logged (commands_kept kept))
   pub records_are : records ≡ records_of (prefix ++ map logged (commands_kept kept))
-  pub shows : RepresentsPast kept.state (past_recorded prefix)
+  pub represents : RepresentsPast kept.state (past_recorded prefix)
   pub counted : kept.count ≡ length (commands_in (prefix ++ map logged (commands_kept kept)))
 
 -- one record was read: it was judged after those before it; an image takes the place of what was

@@ -38,4 +38,4 @@ pub record IsStoppedAt (past : Past) (commands : List PlainCommand) (recs : List
 pub record IsReplayed (past : Past) (commands : List PlainCommand) (archive : ArchiveContent) :
     Type 0 where
   pub accepted : AllAccepted past commands
-  pub shows : RepresentsPast archive (past_after past commands)
+  pub represents : RepresentsPast archive (past_after past commands)

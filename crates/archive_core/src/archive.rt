@@ -89,7 +89,7 @@ impl<D: Disk> Archive<D> {
     ) -> Result<(Archive<D>, Opened), (D, MountFault)>
         ensures opened { IfOk result (λ it. Tells (D.meaning disk).seen
             (λ file. IsMounted file (standing_of it.0) (place_of it.0) it.1)) }
-        ensures shows { IfOk result (λ it. RepresentsSome (standing_of it.0)) }
+        ensures represents { IfOk result (λ it. RepresentsSome (standing_of it.0)) }
         ensures limit { IfOk result (λ it. limit_of it.0 ≡ min limit (2 ^ 64 - 2)) }
         ensures whole { IfOk result (λ it. is_broken it.0 ≡ false) }
         ensures ready { IfOk result (λ it. IsReady it.0) }
@@ -159,7 +159,7 @@ impl<D: Disk> Archive<D> {
         ensures commits { (past : Past) → RepresentsPast (standing_of self.old) past
             → Commits past (command_of command) (place_of self.old) (limit_of self.old)
             (standing_of self.old) result (standing_of self.new) }
-        ensures stands { is_broken self.old ≡ false → RepresentsSome (standing_of self.old)
+        ensures represents { is_broken self.old ≡ false → RepresentsSome (standing_of self.old)
             × RepresentsSome (standing_of self.new) }
         ensures untouched { IfErr result (λ e. (e ≡ fault.Disk → ⊥)
             → (disk_of self.new ≡ disk_of self.old) × (place_of self.new ≡ place_of self.old)) }
@@ -271,7 +271,7 @@ impl<D: Disk> Archive<D> {
             → IsAsked past (query_of query.now) result }
         ensures way_back { (past : Past) → RepresentsPast (standing_of self.now) past
             → TellsWayBack past (query_of query.now) result }
-        ensures stands { RepresentsSome (standing_of self.now) }
+        ensures represents { RepresentsSome (standing_of self.now) }
         ensures borrowed { (past : Past) → RepresentsPast (standing_of self.now) past
             → (pieces : List PlainExplained) → ArePiecesOf
             (meaning_of book.now.rules.items (λ r. handles (r.vtable, r.value))
@@ -304,7 +304,7 @@ impl<D: Disk> Archive<D> {
         ensures explained { (past : Past) → RepresentsPast (standing_of self.now) past
             → IsExplained (meaning_of book.now.rules.items (λ r. handles (r.vtable, r.value))
             (λ r. answers (r.vtable, r.value))) past (query_of query.now) result }
-        ensures stands { RepresentsSome (standing_of self.now) }
+        ensures represents { RepresentsSome (standing_of self.now) }
     {
         self.state.explain(book, query)
     }
@@ -336,7 +336,7 @@ impl<D: Disk> Archive<D> {
             → IsAccepted past judged.entry
             → Commits past (judged_command judged.entry) (place_of self.old) (limit_of self.old)
             (standing_of self.old) result (standing_of self.new) }
-        ensures stands { RepresentsSome (standing_of self.new) }
+        ensures represents { RepresentsSome (standing_of self.new) }
         ensures untouched { IfErr result (λ e. (e ≡ fault.Disk → ⊥)
             → (disk_of self.new ≡ disk_of self.old) × (place_of self.new ≡ place_of self.old)) }
         ensures limit { limit_of self.new ≡ limit_of self.old }

@@ -45,7 +45,7 @@ pub(crate) fn judge_and_seal(
     ensures sealed { IfOk result (λ it. sealed_record it.1
         ≡ record_of (logged (command_of command.now))) }
     ensures spelled { OnOk result (IsCommand (command_of command.now)) }
-    ensures stands { RepresentsSome state.now }
+    ensures represents { RepresentsSome state.now }
 {
     match state.judge(command) {
         Ok(found) => {

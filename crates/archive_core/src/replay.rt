@@ -26,7 +26,7 @@ use std::sync::ledger::Ledger;
 fn replay_command(state: &mut ArchiveState, command: Command, at: u64) -> Result<(), MountFault>
     ensures replays { (past : Past) → RepresentsPast state.old past
         → Replays past (command_of command) at result state.new }
-    ensures stands { RepresentsSome state.old × RepresentsSome state.new }
+    ensures represents { RepresentsSome state.old × RepresentsSome state.new }
 {
     match state.commit(command) {
         Ok(_done) => Ok(()),
@@ -43,7 +43,7 @@ fn replay<L: Ledger>(
     steps: &mut Steps<L>,
 ) -> Result<(), MountFault>
     requires { length commands.items ≡ length recs.now }
-    ensures shows { (past : Past) → RepresentsPast state.old past
+    ensures represents { (past : Past) → RepresentsPast state.old past
         → OnOk result (IsReplayed past (map command_of commands.items) state.new) }
     ensures stopped { (past : Past) → RepresentsPast state.old past → (place : _)
         → result ≡ Err (mounting.Damaged place)
@@ -68,7 +68,7 @@ pub(crate) fn restore<L: Ledger>(
 ) -> Result<(ArchiveState, Opened), MountFault>
     ensures restored { IfOk result (λ it. AreInPlace recs.now
         → IsRestored (records_in recs.now) it.0 it.1) }
-    ensures shows { IfOk result (λ it. RepresentsSome it.0) }
+    ensures represents { IfOk result (λ it. RepresentsSome it.0) }
     ensures damaged { (place : _) → result ≡ Err (mounting.Damaged place) → AreInPlace recs.now
         → HasFaultAt (records_in recs.now) place }
     ensures disk { result ≡ Err mounting.Disk → ⊥ }

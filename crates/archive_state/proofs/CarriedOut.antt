@@ -20,8 +20,8 @@ last_after past stamp (evolving op inverse) = refl
 pub shows_next : (kept : Kept) (past : Past) (command : PlainCommand) (last : Option ℕ)
     → Represents kept (past_with past command) → last ≡ Some command.stamp
     → RepresentsPast (record { groups = kept; last = last }) (past_with past command)
-shows_next kept past command last shows e = record {
-  groups = shows;
+shows_next kept past command last represents e = record {
+  groups = represents;
   last = e
       ∙ sym (last_after past command.stamp command.body);
 }
@@ -29,8 +29,8 @@ shows_next kept past command last shows e = record {
 -- the number of the newest version
 pub newest_next : (kept : Kept) (past : Past) (n : ℕ) → Represents kept past
     → n ≡ length kept.versions → n ≡ length past.versions
-newest_next kept past n shows e = e ∙ sym (length-map kept.versions version_of)
-    ∙ ap (λ vs. length vs) shows.versions
+newest_next kept past n represents e = e ∙ sym (length-map kept.versions version_of)
+    ∙ ap (λ vs. length vs) represents.versions
 
 -- a step that was made ready makes a version just where the command does
 pub version_is : (kept : Kept) (past : Past) (stamp : ℕ) (body : PlainBody) (step : Step) (n : ℕ)

@@ -36,7 +36,7 @@ few_operators op inverse counted =
 -- the newest schema has no table with too many columns
 pub narrow_newest : (kept : Kept) (past : Past) (tables : Tables) → Represents kept past
     → tables ≡ newest_tables past → AreNarrow tables
-narrow_newest kept past tables shows e = subst AreNarrow (sym e) shows.valid.tables.narrow
+narrow_newest kept past tables represents e = subst AreNarrow (sym e) represents.valid.tables.narrow
 
 -- where nothing is refused for its count, there is no excess
 pub no_excess : (excess : Option (What × ℕ)) → count_fault excess ≡ None → excess ≡ None

@@ -98,9 +98,9 @@ checked_over past query tables h (Err NoMemory) is lasts = tt
 
 pub within_kept : (kept : Kept) (past : Past) (n : ℕ) → Represents kept past
     → n ≤ length past.versions → n ≤ length kept.versions
-within_kept kept past n shows l =
+within_kept kept past n represents l =
     let same : length (versions_in kept) ≡ length past.versions =
-    ap (λ (vs : List PlainVersion). length vs) shows.versions in
+    ap (λ (vs : List PlainVersion). length vs) represents.versions in
     let many = length-map kept.versions version_of in
     omega arith
 

@@ -111,7 +111,7 @@ fn judge_evolve(
 ) -> Result<Schema, CommitFault>
     requires counted { first_excess (evolving (operator_of op.now) (operators_of inverse.now))
         ≡ None }
-    requires shows { (past : Past) × Represents groups.now past }
+    requires represents { (past : Past) × Represents groups.now past }
     ensures tested { (past : Past) → Represents groups.now past
         → IsTested (first_refusal (body_tests past
         (evolving (operator_of op.now) (operators_of inverse.now)))) result }
@@ -130,7 +130,7 @@ fn judge_evolve(
 #[tactic(auto, using(crate::proofs::Judging::narrow_newest))]
 fn judge_body(alloc: Global, groups: &Groups, body: &Body) -> Result<Option<Schema>, CommitFault>
     requires counted { first_excess (body_of body.now) ≡ None }
-    requires shows { (past : Past) × Represents groups.now past }
+    requires represents { (past : Past) × Represents groups.now past }
     ensures tested { (past : Past) → Represents groups.now past
         → IsTested (first_refusal (body_tests past (body_of body.now))) result }
     ensures schema { (past : Past) → Represents groups.now past
@@ -158,7 +158,7 @@ pub(crate) fn judge(
     last: Option<u64>,
     command: &Command,
 ) -> Result<Option<Schema>, CommitFault>
-    requires shows { (past : Past) × Represents groups.now past × (last ≡ past.last) }
+    requires represents { (past : Past) × Represents groups.now past × (last ≡ past.last) }
     ensures tested { (past : Past) → Represents groups.now past → last ≡ past.last
         → IsTested (command_fault past (command_of command.now)) result }
     ensures found { (past : Past) → Represents groups.now past → last ≡ past.last

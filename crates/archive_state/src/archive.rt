@@ -104,7 +104,7 @@ impl ArchiveState {
     /// The stamp of the last accepted command, if there is one. It takes no memory.
     pub fn last(&self) -> Option<u64>
         ensures last { result ≡ self.now.last }
-        ensures stands { RepresentsSome self.now }
+        ensures represents { RepresentsSome self.now }
     {
         self.last
     }
@@ -124,7 +124,7 @@ impl ArchiveState {
     pub fn judge(&self, command: &Command) -> Result<Option<Schema>, CommitFault>
         ensures judges { (past : Past) → RepresentsPast self.now past
             → Judges past (command_of command.now) result }
-        ensures stands { RepresentsSome self.now }
+        ensures represents { RepresentsSome self.now }
     {
         judge(self.alloc, &self.groups, self.last, command)
     }
@@ -136,7 +136,7 @@ impl ArchiveState {
     pub fn prepare<'a>(&mut self, judged: Judged<'a>) -> Result<Next<'a>, NoMemory>
         requires { (past : Past) × RepresentsPast self.old past × IsAccepted past judged }
         ensures before { IsAsBefore self.old self.new }
-        ensures shows { (past : Past) → RepresentsPast self.old past
+        ensures represents { (past : Past) → RepresentsPast self.old past
             → RepresentsPast self.new past }
         ensures next { (past : Past) → RepresentsPast self.old past → IsAccepted past judged.entry
             → IfOk result (λ next. Prepares self.new.groups past (judged_command judged.entry)
@@ -154,7 +154,7 @@ impl ArchiveState {
         ensures done { (past : Past) → (command : PlainCommand) → RepresentsPast self.old past
             → Prepares self.old.groups past command next.entry
             → IsDone past command result × RepresentsPast self.new (past_with past command) }
-        ensures stands { RepresentsSome self.new }
+        ensures represents { RepresentsSome self.new }
     {
         let stamp = next.stamp();
         let gained = next.gained();
@@ -177,7 +177,7 @@ impl ArchiveState {
     pub fn commit(&mut self, command: Command) -> Result<Done, CommitFault>
         ensures commits { (past : Past) → RepresentsPast self.old past
             → Accepts past (command_of command) self.old result self.new }
-        ensures stands { RepresentsSome self.old × RepresentsSome self.new }
+        ensures represents { RepresentsSome self.old × RepresentsSome self.new }
     {
         let found = self.judge(&command)?;
         let stamp = command.stamp();
@@ -219,7 +219,7 @@ impl ArchiveState {
             → IsAsked past (query_of query.now) result }
         ensures way_back { (past : Past) → RepresentsPast self.now past
             → TellsWayBack past (query_of query.now) result }
-        ensures stands { RepresentsSome self.now }
+        ensures represents { RepresentsSome self.now }
         ensures borrowed { (past : Past) → RepresentsPast self.now past
             → (pieces : List PlainExplained) → ArePiecesOf
             (meaning_of book.now.rules.items (λ r. handles (r.vtable, r.value))
@@ -253,7 +253,7 @@ impl ArchiveState {
         ensures explained { (past : Past) → RepresentsPast self.now past
             → IsExplained (meaning_of book.now.rules.items (λ r. handles (r.vtable, r.value))
             (λ r. answers (r.vtable, r.value))) past (query_of query.now) result }
-        ensures stands { RepresentsSome self.now }
+        ensures represents { RepresentsSome self.now }
     {
         explain_query(self.alloc, &self.groups, book, query)
     }
@@ -264,7 +264,7 @@ impl ArchiveState {
         ensures commits { (past : Past) → RepresentsPast self.old past
             → IsAccepted past judged.entry
             → Accepts past (judged_command judged.entry) self.old result self.new }
-        ensures stands { RepresentsSome self.new }
+        ensures represents { RepresentsSome self.new }
     {
         let next = self.prepare(judged)?;
         Ok(self.carry_out(next))

@@ -120,7 +120,7 @@ pub(crate) fn ask<'a, L: Ledger>(
     steps: &mut Steps<L>,
 ) -> Result<Listing<'a>, AskFault>
     requires each { EachOf book.now.rules.items (λ r. handles (r.vtable, r.value)) }
-    requires shows { (past : Past) × Represents groups.now past }
+    requires represents { (past : Past) × Represents groups.now past }
     ensures asked { (past : Past) → Represents groups.now past
         → IsAsked past (query_of query.now) result }
     ensures borrowed { (past : Past) → Represents groups.now past → (pieces : List PlainExplained)
@@ -157,7 +157,7 @@ pub(crate) fn explain_query(
     query: &Query,
 ) -> Result<Vec<Explained>, AskFault>
     requires each { EachOf book.now.rules.items (λ r. handles (r.vtable, r.value)) }
-    requires shows { (past : Past) × Represents groups.now past }
+    requires represents { (past : Past) × Represents groups.now past }
     ensures { (past : Past) → Represents groups.now past
         → IsExplained (meaning_of book.now.rules.items (λ r. handles (r.vtable, r.value))
         (λ r. answers (r.vtable, r.value))) past (query_of query.now) result }

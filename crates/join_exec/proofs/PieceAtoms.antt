@@ -60,7 +60,7 @@ all_known tables p typed r i =
     ]
 
 -- one version, shown
-module _ (kept : Kept) (past : Past) (k : ℕ) (shows : Represents kept past)
+module _ (kept : Kept) (past : Past) (k : ℕ) (represents : Represents kept past)
     (there : k ≤ length past.versions) where
   abbrev tables : Tables
   tables = tables_of past k
@@ -82,7 +82,7 @@ module _ (kept : Kept) (past : Past) (k : ℕ) (shows : Represents kept past)
   readable_from rs i (n ∷ atoms) t f =
       let z : i + 0 ≡ i = omega arith in (
         readable_of (names_at i rs) n (get tables n) (table_in kept k n) (t n (inl refl))
-            (shows.tables k n there)
+            (represents.tables k n there)
             (λ name m. typed_named (columns_of tables n) name
             (f 0 name (subst (λ j. IsNamed j rs name) (sym z) (from_names_at i rs name m)))),
         readable_from rs (i + 1) atoms (λ x m. t x (inr m))
@@ -122,7 +122,7 @@ module _ (kept : Kept) (past : Past) (k : ℕ) (shows : Represents kept past)
   columns_shown [] = refl
   columns_shown (n ∷ atoms) =
       ap (λ (cs : List Column). cs ∷ stored_columns kept k atoms)
-      (columns_same n (get tables n) (table_in kept k n) (shows.tables k n there))
+      (columns_same n (get tables n) (table_in kept k n) (represents.tables k n there))
       ∙ ap (λ (more : List (List Column)). columns_of tables n ∷ more) (columns_shown atoms)
 
   rows_shown : (m : ℕ) → IsInForce past.versions k m → (atoms : List (List ℕ))
@@ -131,7 +131,7 @@ module _ (kept : Kept) (past : Past) (k : ℕ) (shows : Represents kept past)
   rows_shown m f (n ∷ atoms) t =
       ap (λ (r : Relation). r ∷ stored_rows kept k atoms m)
       (rows_same m f n (get tables n) (table_in kept k n) (t n (inl refl))
-      (shows.tables k n there))
+      (represents.tables k n there))
       ∙ ap (λ (more : List Relation). rows_under (get (database_at past m) n) ∷ more)
       (rows_shown m f atoms (λ x i. t x (inr i)))
 

@@ -189,14 +189,14 @@ both_hold : (a b : Bool) → (a && b) ≡ true → (a ≡ true) × (b ≡ true)
 both_hold true b e = (refl, e)
 both_hold false b e = absurd (cc)
 
-module _ (kept : Kept) (past : Past) (slice : Span) (shows : Represents kept past)
+module _ (kept : Kept) (past : Past) (slice : Span) (represents : Represents kept past)
     (parts : List Part) (made : parts ≡ split_by (versions_in kept) slice) where
   pub each_moment : (m : ℕ) → m < forever → covers slice m ≡ true
       → HasMoment parts (version_at past m) m
   each_moment m l e =
-      let h = own_moment past shows.valid (version_at past m) m l refl in
+      let h = own_moment past represents.valid (version_at past m) m l refl in
       subst (λ (ps : List Part). HasMoment ps (version_at past m) m)
-      (sym (made ∙ ap (λ (vs : List PlainVersion). split_by vs slice) shows.versions))
+      (sym (made ∙ ap (λ (vs : List PlainVersion). split_by vs slice) represents.versions))
       (in_split past.versions slice (version_at past m) m (few_begun m past.versions)
       (covering (in_force past.versions (version_at past m)) m h.0 h.1) e)
 
@@ -205,9 +205,12 @@ module _ (kept : Kept) (past : Past) (slice : Span) (shows : Represents kept pas
   only_moments k m h =
       let f = from_split past.versions slice k m
       (subst (λ (ps : List Part). HasMoment ps k m)
-      (made ∙ ap (λ (vs : List PlainVersion). split_by vs slice) shows.versions) h) in
-      let b = both_hold (covers (in_force past.versions k) m) (covers slice m) f.1 in
-      (b.1, own_version past shows.valid k m f.0 (from_covering (in_force past.versions k) m b.0))
+      (made ∙ ap (λ (vs : List PlainVersion). split_by vs slice) represents.versions) h) in
+      let b = both_hold (covers (in_force past.versions k) m) (covers slice m) f.1 in (
+        b.1,
+        own_version past represents.valid k m f.0
+            (from_covering (in_force past.versions k) m b.0),
+      )
 
 -- the parts of all versions before the newest, and its own
 pub whole_split : (versions : List Version) (slice : Span) (before parts : List Part) (n from : ℕ)

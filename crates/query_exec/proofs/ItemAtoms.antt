@@ -229,7 +229,7 @@ module _ (book : Book) (versions : List PlainVersion) (q : ℕ) (parts : List Pa
 
 -- ---- one item
 
-module _ (kept : Kept) (past : Past) (shows : Represents kept past) (route : Route)
+module _ (kept : Kept) (past : Past) (represents : Represents kept past) (route : Route)
     (schema : Tables) (is : schema ≡ tables_from no_tables (versions_in kept) route.asked)
     (place : ℕ) (table : List ℕ) (r again : Read) (given : List (List ℕ))
     (columns : List AtomColumn) (rows : List TimedRow)
@@ -247,7 +247,7 @@ module _ (kept : Kept) (past : Past) (shows : Represents kept past) (route : Rou
       ∙ ap (λ (ns : List (List ℕ)). columns_at place (named ns (columns_of schema table))) named_so
       ∙ ap (λ (t : Tables). columns_at place (named r.names (columns_of t table)))
       (is ∙ ap (λ (vs : List PlainVersion). tables_from no_tables vs route.asked)
-      shows.versions)
+      represents.versions)
 
   listed_names : IsListing row_cmp (table_read past route.asked table r) route.slice
       (entries_of rows)
@@ -259,7 +259,8 @@ module _ (kept : Kept) (past : Past) (shows : Represents kept past) (route : Rou
 
   pub item_fit : Fit (length columns) (entries_of rows)
   item_fit =
-      listed_fit past shows.values route.asked table r route.slice (entries_of rows) listed_names
+      listed_fit past represents.values route.asked table r route.slice
+      (entries_of rows) listed_names
       (length columns)
       (made_many place (named r.names (columns_of (tables_of past route.asked) table)) columns
       columns_are)
@@ -276,13 +277,13 @@ module _ (kept : Kept) (past : Past) (shows : Represents kept past) (route : Rou
 pub item_names : (kept : Kept) (past : Past) → Represents kept past → (route : Route)
     (table : List ℕ) (r : Read) → MayBeRead (versions_in kept) route table r
     → names_of (named r.names (columns_of (tables_of past route.asked) table)) ≡ r.names
-item_names kept past shows route table r may =
+item_names kept past represents route table r may =
     let asked : IsQuestion (tables_of past route.asked) table r =
     subst (λ (vs : List PlainVersion). IsQuestion (tables_from no_tables vs route.asked) table r)
-    shows.versions may.question.question in
+    represents.versions may.question.question in
     names_left r.names (columns_of (tables_of past route.asked) table) asked.ascending
     (ordered_columns (tables_of past route.asked) table
-    (valid_at past.versions shows.valid.evolved route.asked).schema) asked.columns
+    (valid_at past.versions represents.valid.evolved route.asked).schema) asked.columns
 
 -- ---- the atoms of a branch
 

@@ -176,7 +176,7 @@ module _ (versions : List PlainVersion) (route : Route) (is : IsRoute versions r
 
 -- ---- a plan
 
-module _ (kept : Kept) (past : Past) (shows : Represents kept past) (book : Book)
+module _ (kept : Kept) (past : Past) (represents : Represents kept past) (book : Book)
     (valid : IsValidBook book) (route : Route) (is : IsRoute (versions_in kept) route)
     (table : List ℕ) (r : Read)
     (may : MayBeRead (versions_in kept) route table r) (plan : List PartPieces)
@@ -206,7 +206,7 @@ module _ (kept : Kept) (past : Past) (shows : Represents kept past) (book : Book
       subst (λ (p : Part). IsOwn (versions_in kept) p
       × AllTyped (tables_of past p.1) (pieces_of x.pieces.items)) (sym h.is.part) (
         is.each h.part h.among,
-        typed_there kept past shows h.part.1 (pieces_of x.pieces.items)
+        typed_there kept past represents h.part.1 (pieces_of x.pieces.items)
             typed,
       )
 
@@ -219,20 +219,21 @@ module _ (kept : Kept) (past : Past) (shows : Represents kept past) (book : Book
   its_meaning p i living a m c =
       let own = is.each p i in
       let force : version_at past m ≡ p.1 =
-      own_version past shows.valid p.1 m (subst (λ (vs : List PlainVersion). p.1 ≤ length vs)
-      shows.versions own.there)
-      (subst (λ (vs : List PlainVersion). IsInForce vs p.1 m) shows.versions (own.moments m c)) in
+      own_version past represents.valid p.1 m (subst (λ (vs : List PlainVersion). p.1 ≤ length vs)
+      represents.versions own.there)
+      (subst (λ (vs : List PlainVersion). IsInForce vs p.1 m) represents.versions
+      (own.moments m c)) in
       mean_the_same (tables_of past p.1) (database_at past m)
       (record {
         database = subst (λ (v : ℕ). IsDatabase (tables_of past v) (database_at past m))
-            force (shows.valid.each m);
-        values = shows.values.databases m;
+            force (represents.valid.each m);
+        values = represents.values.databases m;
       })
       (unfolded_to book (versions_in kept) p.1 route.asked (first_piece table r ∷ [])) living
       (subst (λ (vs : List PlainVersion). AreLiving (tables_from no_tables vs p.1)
       (unfolded_to book (versions_in kept) p.1 route.asked (first_piece table r ∷ [])) living)
-      shows.versions a)
-      ∙ means_there kept past shows book valid route.asked table r
+      represents.versions a)
+      ∙ means_there kept past represents book valid route.asked table r
       (unfolded_to book (versions_in kept) p.1 route.asked (first_piece table r ∷ [])) p
       may.question own
       (stands (versions_in kept) route is table r may book p i) m c

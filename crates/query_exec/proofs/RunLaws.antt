@@ -138,9 +138,9 @@ pub piece_meant : (kept : Kept) (past : Past) → Represents kept past
     → (k : ℕ) (ps : List PlainPiece) (m : ℕ) (rows : Relation) (h : IsMeant kept past k ps m rows)
     (p : PlainPiece) → In p ps
     → stored_meaning kept k p m ≡ means (tables_of past h.version) (database_at past m) p
-piece_meant kept past shows k ps m rows h p among =
+piece_meant kept past represents k ps m rows h p among =
     meaning_shared kept k h.version p m (h.shared p among)
-    ∙ meaning_shown kept past h.version shows h.there p m h.force (h.typed p among).there
+    ∙ meaning_shown kept past h.version represents h.there p m h.force (h.typed p among).there
 
 -- ---- a run that goes on
 
@@ -233,7 +233,7 @@ module _ (kept : Kept) (first : PartPieces) (more : List PartPieces) (period : S
       ≡ relation m)
       → (m : ℕ) → covers period m ≡ true → IsMeant kept past first.part.1
       (pieces_of first.pieces.items) m (relation m)
-  run_meant past shows relation own means m c =
+  run_meant past represents relation own means m c =
       let s = run.within m c in
       let x = from_map (λ (y : PartPieces). y.part.0) s.0 (first ∷ more) s.1 in
       let g = goes x.0 x.1 in
@@ -241,8 +241,8 @@ module _ (kept : Kept) (first : PartPieces) (more : List PartPieces) (period : S
       subst (λ (t : Span). covers t m ≡ true) (sym x.2) s.2 in
       record {
         version = x.0.part.1;
-        there = within_there kept past shows x.0.part (own x.0 x.1).0;
-        force = subst (λ (vs : List PlainVersion). IsInForce vs x.0.part.1 m) shows.versions
+        there = within_there kept past represents x.0.part (own x.0 x.1).0;
+        force = subst (λ (vs : List PlainVersion). IsInForce vs x.0.part.1 m) represents.versions
             ((own x.0 x.1).0.moments m inside);
         shared = g.shared;
         typed = subst (AllTyped (tables_of past x.0.part.1)) g.pieces (own x.0 x.1).1;

@@ -36,7 +36,7 @@ module _ (parts : List Part) (i : ℕ) (p : Part) (l : i < length parts)
   on_next low h = (let k = subst (λ (ps : List Part). AscendFrom low ps) (left_is parts i p l is)
       h in (k.0.version, k.1))
 
-module _ (kept : Kept) (past : Past) (shows : Represents kept past) where
+module _ (kept : Kept) (past : Past) (represents : Represents kept past) where
   -- the pieces that stand at a part's version mean at its moments what is read of the table
   pub means_there : (book : Book) → IsValidBook book
       → (q : ℕ) (table : List ℕ) (r : Read) (ps : List PlainPiece) (p : Part)
@@ -44,20 +44,23 @@ module _ (kept : Kept) (past : Past) (shows : Represents kept past) where
       → StandFor book (versions_in kept) p.1 q table r ps → (m : ℕ) → covers p.0 m ≡ true
       → all_mean (tables_of past p.1) (database_at past m) ps ≡ table_read past q table r m
   means_there book valid q table r ps p may own stand m c =
-      standing_means book valid past shows.valid shows.values q p.1 m table r ps
-      (subst (λ (vs : List PlainVersion). MayBeAsked vs q table r) shows.versions may).question
-      (subst (λ (vs : List PlainVersion). StandFor book vs p.1 q table r ps) shows.versions stand)
-      (own_version past shows.valid p.1 m (subst (λ (vs : List PlainVersion). p.1 ≤ length vs)
-      shows.versions own.there)
-      (subst (λ (vs : List PlainVersion). IsInForce vs p.1 m) shows.versions (own.moments m c)))
+      standing_means book valid past represents.valid represents.values q p.1 m table r ps
+      (subst (λ (vs : List PlainVersion). MayBeAsked vs q table r) represents.versions may).question
+      (subst (λ (vs : List PlainVersion). StandFor book vs p.1 q table r ps) represents.versions
+      stand)
+      (own_version past represents.valid p.1 m (subst (λ (vs : List PlainVersion). p.1 ≤ length vs)
+      represents.versions own.there)
+      (subst (λ (vs : List PlainVersion). IsInForce vs p.1 m) represents.versions
+      (own.moments m c)))
 
   pub typed_there : (v : ℕ) (ps : List PlainPiece)
       → AllTyped (tables_from no_tables (versions_in kept) v) ps → AllTyped (tables_of past v) ps
   typed_there v ps h = subst (λ (vs : List PlainVersion). AllTyped (tables_from no_tables vs v) ps)
-      shows.versions h
+      represents.versions h
 
   pub within_there : (p : Part) → IsOwn (versions_in kept) p → p.1 ≤ length past.versions
-  within_there p own = subst (λ (vs : List PlainVersion). p.1 ≤ length vs) shows.versions own.there
+  within_there p own = subst (λ (vs : List PlainVersion). p.1 ≤ length vs) represents.versions
+      own.there
 
 module _ (kept : Kept) (book : Book) (versions : List PlainVersion)
     (same : versions ≡ versions_in kept) (route : Route) (is : IsRoute (versions_in kept) route)

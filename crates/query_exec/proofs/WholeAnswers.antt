@@ -84,7 +84,8 @@ module _ (past : Past) (is : IsPast past) (route : Route) where
     may_branches bs few.1 (λ c m. s c (inr m)) (λ c m. none c (inr m)),
   )
 
-module _ (kept_ : Kept) (past : Past) (asked query : PlainQuery) (shows : Represents kept_ past)
+module _ (kept_ : Kept) (past : Past) (asked query : PlainQuery)
+    (represents : Represents kept_ past)
     (h : IsAccepted past asked query) where
   same_version : query.version ≡ asked.version
   same_version = ap (λ (q : PlainQuery). q.version) h.atoms
@@ -118,7 +119,7 @@ module _ (kept_ : Kept) (past : Past) (asked query : PlainQuery) (shows : Repres
   module _ (route : Route) (r : IsRoute (versions_in kept_) route)
       (at : route.asked ≡ query.version) (over : route.slice ≡ slice_of query.when) where
     here : IsRoute past.versions route
-    here = subst (λ (vs : List PlainVersion). IsRoute vs route) shows.versions r
+    here = subst (λ (vs : List PlainVersion). IsRoute vs route) represents.versions r
 
     part_asked : (p : Part) → In p route.later.items → IsAskedOf asked p.0.start
         × (version_at past p.0.start ≡ p.1)
@@ -127,7 +128,7 @@ module _ (kept_ : Kept) (past : Past) (asked query : PlainQuery) (shows : Repres
         let own = here.later p i in (
           asked_of asked p.0.start (subst (λ (s : Span). covers s p.0.start ≡ true)
               (over ∙ ap slice_of same_when) (here.within p i p.0.start c)),
-          own_version past shows.valid p.1 p.0.start own.there (own.moments p.0.start c),
+          own_version past represents.valid p.1 p.0.start own.there (own.moments p.0.start c),
         )
 
     none_lost : (b : PlainBranch) → In b (asked_branches past asked)
@@ -140,7 +141,7 @@ module _ (kept_ : Kept) (past : Past) (asked query : PlainQuery) (shows : Repres
 
     may_asked : MayBranches past.versions route (asked_branches past asked)
     may_asked =
-        may_branches past shows.valid route (asked_branches past asked)
+        may_branches past represents.valid route (asked_branches past asked)
         (still_few (tables_of past asked.version) asked.branches small.1)
         (λ b m. subst (λ (q : ℕ). Suffices (tables_of past q) (pushed_reads b) b)
         (sym (at ∙ same_version)) (pushed_enough past asked h.accepted b m)) none_lost
@@ -151,7 +152,7 @@ module _ (kept_ : Kept) (past : Past) (asked query : PlainQuery) (shows : Repres
         subst (λ (bs : List PlainBranch). MayBranches (versions_in kept_) route bs)
         (sym same_branches)
         (subst (λ (vs : List PlainVersion). MayBranches vs route (asked_branches past asked))
-        (sym shows.versions) may_asked)
+        (sym represents.versions) may_asked)
 
     module _ (relation : ℕ → Relation) (rows : (m : ℕ) → covers route.slice m ≡ true
         → relation m ≡ plain (tables_of past route.asked) query.branches
@@ -187,9 +188,10 @@ module _ (kept_ : Kept) (past : Past) (asked query : PlainQuery) (shows : Repres
           → (entries : List (Entry Row)) → IsListing row_cmp relation (slice_of query.when) entries
           → kept asked.keep entries ≡ answer past asked
       whole_answer book valid ends entries listed =
-          answer_is past asked h.accepted book valid shows.valid shows.values
+          answer_is past asked h.accepted book valid represents.valid represents.values
           (subst (λ w. (slice_of w).end ≤ forever) same_when ends) relation
-          (λ m k. read m k ∙ asked_is past asked h.accepted book valid shows.valid shows.values m k)
+          (λ m k. read m k ∙ asked_is past asked h.accepted book valid represents.valid
+          represents.values m k)
           entries
           (subst (λ w. IsListing row_cmp relation (slice_of w) entries) same_when listed)
 

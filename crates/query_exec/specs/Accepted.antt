@@ -50,7 +50,7 @@ MayBranches versions route (b ∷ branches) = MayBranch versions route b
 pub record IsShown (kept : Kept) (query : PlainQuery) : Type 0 where
   pub past : Past
   pub asked : PlainQuery
-  pub shows : Represents kept past
+  pub represents : Represents kept past
   pub accepted : IsAccepted past asked query
 
 -- the atom has this number, the columns that are asked for, and at each moment of the slice what is

@@ -51,7 +51,7 @@ fn read_items<'a, L: Ledger>(
     steps: &mut Steps<L>,
 ) -> Result<Vec<Atom<'a>>, NoMemory>
     requires each { EachOf book.now.rules.items (λ r. handles (r.vtable, r.value)) }
-    requires shows { (past : Past) × Represents groups.now past }
+    requires represents { (past : Past) × Represents groups.now past }
     requires route { IsRoute (versions_in groups.now) route.now }
     requires schema { schema.now ≡ tables_from no_tables (versions_in groups.now) route.now.asked }
     requires read { MayItems (versions_in groups.now) route.now (borrowed references.now)
@@ -103,7 +103,7 @@ fn answer_branch<'a, L: Ledger>(
     steps: &mut Steps<L>,
 ) -> Result<Vec<TimedRow<'a>>, NoMemory>
     requires each { EachOf book.now.rules.items (λ r. handles (r.vtable, r.value)) }
-    requires shows { (past : Past) × Represents groups.now past }
+    requires represents { (past : Past) × Represents groups.now past }
     requires route { IsRoute (versions_in groups.now) route.now }
     requires schema { schema.now ≡ tables_from no_tables (versions_in groups.now) route.now.asked }
     requires read { MayBranch (versions_in groups.now) route.now (branch_of branch.now) }
@@ -162,7 +162,7 @@ pub(crate) fn answer_branches<'a, L: Ledger>(
     steps: &mut Steps<L>,
 ) -> Result<Vec<TimedRow<'a>>, NoMemory>
     requires each { EachOf book.now.rules.items (λ r. handles (r.vtable, r.value)) }
-    requires shows { (past : Past) × Represents groups.now past }
+    requires represents { (past : Past) × Represents groups.now past }
     requires route { IsRoute (versions_in groups.now) route.now }
     requires schema { schema.now ≡ tables_from no_tables (versions_in groups.now) route.now.asked }
     requires read { MayBranches (versions_in groups.now) route.now (branches_of branches.now) }

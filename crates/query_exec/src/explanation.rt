@@ -96,7 +96,7 @@ fn explain_item(
     into: &mut Vec<Explained>,
 ) -> Result<(), NoMemory>
     requires each { EachOf book.now.rules.items (λ r. handles (r.vtable, r.value)) }
-    requires shows { (past : Past) × Represents groups.now past }
+    requires represents { (past : Past) × Represents groups.now past }
     requires route { IsRoute (versions_in groups.now) route.now }
     requires read { MayBeRead (versions_in groups.now) route.now table.now
         (own_read place (borrowed references.now) (test cond.now)) }
@@ -128,7 +128,7 @@ fn explain_items(
     into: &mut Vec<Explained>,
 ) -> Result<(), NoMemory>
     requires each { EachOf book.now.rules.items (λ r. handles (r.vtable, r.value)) }
-    requires shows { (past : Past) × Represents groups.now past }
+    requires represents { (past : Past) × Represents groups.now past }
     requires route { IsRoute (versions_in groups.now) route.now }
     requires read { MayItems (versions_in groups.now) route.now (borrowed references.now)
         (test cond.now) 0 from.now }
@@ -163,7 +163,7 @@ fn explain_branch(
     into: &mut Vec<Explained>,
 ) -> Result<(), NoMemory>
     requires each { EachOf book.now.rules.items (λ r. handles (r.vtable, r.value)) }
-    requires shows { (past : Past) × Represents groups.now past }
+    requires represents { (past : Past) × Represents groups.now past }
     requires route { IsRoute (versions_in groups.now) route.now }
     requires read { MayBranch (versions_in groups.now) route.now (branch_of branch.now) }
     ensures { (before : List PlainExplained) → AreLeft (versions_in groups.now) before
@@ -199,7 +199,7 @@ fn explain_branches(
     branches: &[Branch],
 ) -> Result<Vec<Explained>, NoMemory>
     requires each { EachOf book.now.rules.items (λ r. handles (r.vtable, r.value)) }
-    requires shows { (past : Past) × Represents groups.now past }
+    requires represents { (past : Past) × Represents groups.now past }
     requires route { IsRoute (versions_in groups.now) route.now }
     requires read { MayBranches (versions_in groups.now) route.now (branches_of branches.now) }
     requires few { length branches.now ≤ 16 }

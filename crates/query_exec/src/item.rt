@@ -67,7 +67,7 @@ pub(crate) fn read_item<'a, L: Ledger>(
     steps: &mut Steps<L>,
 ) -> Result<Atom<'a>, NoMemory>
     requires each { EachOf book.now.rules.items (λ r. handles (r.vtable, r.value)) }
-    requires shows { (past : Past) × Represents groups.now past }
+    requires represents { (past : Past) × Represents groups.now past }
     requires route { IsRoute (versions_in groups.now) route.now }
     requires schema { schema.now ≡ tables_from no_tables (versions_in groups.now) route.now.asked }
     requires read { MayBeRead (versions_in groups.now) route.now table.now

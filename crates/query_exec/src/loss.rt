@@ -93,7 +93,7 @@ pub fn first_loss_in_slice(
     groups: &Groups,
     query: &Query,
 ) -> Result<Option<(u32, u32)>, NoMemory>
-    requires shows { (past : Past) × Represents groups.now past }
+    requires represents { (past : Past) × Represents groups.now past }
     requires asked { query.now.version ≤ length groups.now.versions }
     requires lasting { IsLasting query.now.when }
     ensures { (past : Past) → Represents groups.now past

@@ -75,7 +75,7 @@ pub(crate) fn route_of(
     slice: Period,
     asked: u32,
 ) -> Result<Route, NoMemory>
-    requires shows { (past : Past) × Represents groups.now past }
+    requires represents { (past : Past) × Represents groups.now past }
     requires there { asked ≤ length groups.now.versions }
     ensures route { IfOk result (λ r. IsRoute (versions_in groups.now) r) }
     ensures asked { IfOk result (λ r. r.asked ≡ asked) }

@@ -53,7 +53,7 @@ pub(crate) fn table_pieces(
     question: &Question,
 ) -> Result<Vec<PartPieces>, NoMemory>
     requires each { EachOf book.now.rules.items (λ r. handles (r.vtable, r.value)) }
-    requires shows { (past : Past) × Represents groups.now past }
+    requires represents { (past : Past) × Represents groups.now past }
     requires route { IsRoute (versions_in groups.now) route.now }
     requires read { MayBeRead (versions_in groups.now) route.now table.now (read_asked question.now) }
     ensures { IfOk result (λ v. ArePlanned (meaning_of book.now.rules.items
@@ -124,7 +124,7 @@ pub(crate) fn read_table<'a, L: Ledger>(
     steps: &mut Steps<L>,
 ) -> Result<Vec<TimedRow<'a>>, NoMemory>
     requires each { EachOf book.now.rules.items (λ r. handles (r.vtable, r.value)) }
-    requires shows { (past : Past) × Represents groups.now past }
+    requires represents { (past : Past) × Represents groups.now past }
     requires route { IsRoute (versions_in groups.now) route.now }
     requires read { MayBeRead (versions_in groups.now) route.now table.now (read_asked question.now) }
     ensures rows { (past : Past) → Represents groups.now past

@@ -29,7 +29,7 @@ pub(crate) fn pieces_back(
     question: &Question,
 ) -> Result<Vec<PartPieces>, NoMemory>
     requires each { EachOf book.now.rules.items (λ r. handles (r.vtable, r.value)) }
-    requires shows { (past : Past) × Represents groups.now past }
+    requires represents { (past : Past) × Represents groups.now past }
     requires route { IsRoute (versions_in groups.now) route.now }
     requires read { MayBeRead (versions_in groups.now) route.now table.now (read_asked question.now) }
     ensures { IfOk result (λ v. ArePlanned (meaning_of book.now.rules.items
@@ -59,7 +59,7 @@ pub(crate) fn pieces_on(
     question: &Question,
 ) -> Result<Vec<PartPieces>, NoMemory>
     requires each { EachOf book.now.rules.items (λ r. handles (r.vtable, r.value)) }
-    requires shows { (past : Past) × Represents groups.now past }
+    requires represents { (past : Past) × Represents groups.now past }
     requires route { IsRoute (versions_in groups.now) route.now }
     requires read { MayBeRead (versions_in groups.now) route.now table.now (read_asked question.now) }
     ensures { IfOk result (λ v. ArePlanned (meaning_of book.now.rules.items

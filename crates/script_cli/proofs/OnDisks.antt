@@ -221,13 +221,13 @@ module _ {D : Type 0} {g : Ghosts D} (old : Meaning) (limit : ℕ) (book : Book)
       × IsMounted file (standing_of archive) (place_of archive) opened)
       → (start : Recorded) × RepresentsAt archive (given_by limit book) start × IsOpening start seen
   start_told None told = (
-    record { past = has.shows.0; at = place_of archive },
-    record { past = has.shows.1; place = refl; limit_is = has.limit_is },
+    record { past = has.represents.0; at = place_of archive },
+    record { past = has.represents.1; place = refl; limit_is = has.limit_is },
     tt,
   )
   start_told (Some file) (opened, mounted) = (
     recorded mounted.log,
-    record { past = mounted.shows; place = mounted.place; limit_is = has.limit_is },
+    record { past = mounted.represents; place = mounted.place; limit_is = has.limit_is },
     (mounted.log, mounted.opens, refl),
   )
 

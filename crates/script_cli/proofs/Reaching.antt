@@ -130,7 +130,7 @@ pub reach_start : {D : Type 0} {g : Ghosts D} (limit : Given) (start : Recorded)
     → IsStart s
     → RepresentsAt archive limit start → Consumes a a []
     → Reached limit start archive archive a a u u s 0
-reach_start limit start archive a u s law h stands k =
+reach_start limit start archive a u s law h represents k =
     record {
       run = s;
       begun_so = h;
@@ -138,7 +138,7 @@ reach_start limit start archive a u s law h stands k =
       consumed = k;
       counted = refl;
       took =
-          took_none limit start s archive [] u law stands;
+          took_none limit start s archive [] u law represents;
     }
 
 pub consumed_still : (a b c : Option (List ℕ)) (taken : List ℕ) → Consumes a b taken
@@ -207,7 +207,7 @@ stopped : {D : Type 0} {g : Ghosts D} (limit : Given) (start : Recorded) (o m e 
     → Halted h limit start (r.took.pieces ++ pieces_after s piece) o e u w
 stopped limit start o m e a b u v w s n h r piece f =
     halted_after limit start h r.took.pieces (pieces_after s piece) o m e u v w r.took.puts
-    r.took.wrote (f (recorded_after limit start r.took.pieces) r.took.stands)
+    r.took.wrote (f (recorded_after limit start r.took.pieces) r.took.represents)
 
 module _ {D : Type 0} {g : Ghosts D} (limit : Given) (start : Recorded) (o e : Archive D g)
     (u w : Option (List ℕ)) where
@@ -273,7 +273,7 @@ module _ {D : Type 0} {g : Ghosts D} (limit : Given) (start : Recorded)
     counted = is ∙ ap (λ j. j + length piece) r.counted ∙ sym (length-append r.taken piece);
     took = took_more limit start r.run s next o m e (r.taken ++ piece) piece [] u v w
         (took_longer limit start r.run s o m r.taken [] piece u v r.took)
-        (f (recorded_after limit start r.took.pieces) r.took.stands);
+        (f (recorded_after limit start r.took.pieces) r.took.represents);
   }
 
   pub drove_halted : (h : Halt) (r : Reached limit start o m a b u v s n) (piece : List ℕ)

@@ -122,16 +122,16 @@ module _ (old new : Option (List ℕ)) where
     pub says_responds : (reply : Reply) (result : Result Put Halt) → IsValid (below a)
         → RepresentsAt a limit now → reply.puts ≡ [] → reply.after ≡ now → Says reply result old new
         → Responds limit reply result a a old new
-    says_responds reply (Ok put) law stands none same says = record {
+    says_responds reply (Ok put) law represents none same says = record {
       is = says.0;
-      stands = subst (RepresentsAt a limit) (sym same) stands;
+      represents = subst (RepresentsAt a limit) (sym same) represents;
       puts = subst (PutBetween a a) (sym none) (nothing_between a law);
       text = says.1;
     }
-    says_responds reply (Err WriteFault) law stands none same says =
+    says_responds reply (Err WriteFault) law represents none same says =
         (says, subst (PutBetween a a) (sym none) (nothing_between a law))
-    says_responds reply (Err DiskFault) law stands none same says = absurd says
-    says_responds reply (Err NoMemory) law stands none same says = (says, nothing_between a law)
+    says_responds reply (Err DiskFault) law represents none same says = absurd says
+    says_responds reply (Err NoMemory) law represents none same says = (says, nothing_between a law)
 
     -- the record of what is due was put, and then a line
     put_responds : (text said : List ℕ) (due : Due) (told : Put) (fault : Fault)
@@ -141,17 +141,18 @@ module _ (old new : Option (List ℕ)) where
         → OnErr result (AppendsPrefix old new said)
         → Responds limit (refused_or fault now (put text due now)) (or_write_fault result) a b
         old new
-    put_responds text said due told None (Ok p) e is same stands puts ok all part =
+    put_responds text said due told None (Ok p) e is same represents puts ok all part =
         record {
           is = ok ∙ is;
-          stands = stands;
+          represents = represents;
           puts = puts;
           text =
               subst (λ (t : List ℕ). Appends old new t) same all;
         }
-    put_responds text said due told None (Err stop) e is same stands puts ok all part =
+    put_responds text said due told None (Err stop) e is same represents puts ok all part =
         (subst (λ (t : List ℕ). AppendsPrefix old new t) same part, puts)
-    put_responds text said due told (Some r) result e is same stands puts ok all part = absurd (cc)
+    put_responds text said due told (Some r) result e is same represents puts ok all part =
+        absurd (cc)
 
     -- an accepted command that was put
     pub done_responds : (command : PlainCommand) (done : Done) (result : Result Put Failed)
@@ -161,10 +162,10 @@ module _ (old new : Option (List ℕ)) where
         → OnOk result (Appends old new (done_text done))
         → OnErr result (AppendsPrefix old new (done_text done))
         → Responds limit (command_reply limit command now) (or_write_fault result) a b old new
-    done_responds command done result e h stands puts ok all part =
+    done_responds command done result e h represents puts ok all part =
         put_responds (command_text command now.past (past_with now.past command)) (done_text done)
         (command_due command) Command (commit_fault now.past now.at limit.limit command) result
-        e refl (done_said now.past command done h) stands puts ok all part
+        e refl (done_said now.past command done h) represents puts ok all part
 
     -- a checkpoint that was put
     pub stored_responds : (result : Result Put Failed)
@@ -174,9 +175,9 @@ module _ (old new : Option (List ℕ)) where
         → OnOk result (Appends old new checkpoint_text)
         → OnErr result (AppendsPrefix old new checkpoint_text)
         → Responds limit (checkpoint_reply limit now) (or_write_fault result) a b old new
-    stored_responds result e stands puts ok all part =
+    stored_responds result e represents puts ok all part =
         put_responds checkpoint_text checkpoint_text (image_due now.past) NoError
-        (checkpoint_fault now.past now.at limit.limit) result e refl refl stands puts ok all
+        (checkpoint_fault now.past now.at limit.limit) result e refl refl represents puts ok all
         part
 
     -- what is refused
@@ -185,7 +186,7 @@ module _ (old new : Option (List ℕ)) where
         → IfOk result (λ put. put ≡ ErrorLine) → OnOk result (Appends old new (refusal_text r))
         → OnErr result (AppendsPrefix old new (refusal_text r))
         → Responds limit (refused_or fault now other) (or_write_fault result) a b old new
-    refused_responds r fault other result e stands puts ok all part =
+    refused_responds r fault other result e represents puts ok all part =
         subst (λ (f : Fault). Responds limit (refused_or f now other) (or_write_fault result) a b
         old new) (sym e) (step result ok all part)
       where
@@ -193,7 +194,8 @@ module _ (old new : Option (List ℕ)) where
             → OnOk x (Appends old new (refusal_text r))
             → OnErr x (AppendsPrefix old new (refusal_text r))
             → Responds limit (refused r now) (or_write_fault x) a b old new
-        step (Ok p) ok all part = record { is = ok; stands = stands; puts = puts; text = all }
+        step (Ok p) ok all part =
+            record { is = ok; represents = represents; puts = puts; text = all }
         step (Err stop) ok all part = (part, puts)
 
 -- ---- what putting a record does
@@ -202,51 +204,51 @@ pub fault_here : {D : Type 0} {g : Ghosts D} (a : Archive D g) (limit : Given) (
     (command : PlainCommand) (fault : Fault) → RepresentsAt a limit now
     → commit_fault now.past (place_of a) (limit_of a) command ≡ fault
     → commit_fault now.past now.at limit.limit command ≡ fault
-fault_here a limit now command fault stands e =
-    ap (λ n. commit_fault now.past n limit.limit command) (sym stands.place)
-    ∙ ap (λ n. commit_fault now.past (place_of a) n command) (sym stands.limit_is) ∙ e
+fault_here a limit now command fault represents e =
+    ap (λ n. commit_fault now.past n limit.limit command) (sym represents.place)
+    ∙ ap (λ n. commit_fault now.past (place_of a) n command) (sym represents.limit_is) ∙ e
 
 pub checkpoint_fault_here : {D : Type 0} {g : Ghosts D} (a : Archive D g) (limit : Given)
     (now : Recorded) (fault : Fault) → RepresentsAt a limit now
     → checkpoint_fault now.past (place_of a) (limit_of a) ≡ fault
     → checkpoint_fault now.past now.at limit.limit ≡ fault
-checkpoint_fault_here a limit now fault stands e =
-    ap (λ n. checkpoint_fault now.past n limit.limit) (sym stands.place)
-    ∙ ap (λ n. checkpoint_fault now.past (place_of a) n) (sym stands.limit_is) ∙ e
+checkpoint_fault_here a limit now fault represents e =
+    ap (λ n. checkpoint_fault now.past n limit.limit) (sym represents.place)
+    ∙ ap (λ n. checkpoint_fault now.past (place_of a) n) (sym represents.limit_is) ∙ e
 
 module _ {D : Type 0} {g : Ghosts D} (a b : Archive D g) (limit : Given) (now : Recorded)
-    (stands : RepresentsAt a limit now) where
+    (represents : RepresentsAt a limit now) where
   -- it stands for what is after a command that was put
   pub stands_after : (command : PlainCommand)
       → RepresentsPast (standing_of b) (past_with now.past command)
       → place_of b + 1 ≡ place_of a + needs (record_of (logged command)) → limit_of b ≡ limit_of a
       → RepresentsAt b limit (recorded_with now (command_due command))
-  stands_after command shows place same = record {
-    past = shows;
+  stands_after command h place same = record {
+    past = h;
     place =
-        omega (arith, place, stands.place);
-    limit_is = same ∙ stands.limit_is;
+        omega (arith, place, represents.place);
+    limit_is = same ∙ represents.limit_is;
   }
 
   -- or after an image, whose past is the same
   pub stands_stored : (n : ℕ) → n ≡ image_length now.past → RepresentsPast (standing_of b) now.past
       → place_of b + 1 ≡ place_of a + (11 + n) → limit_of b ≡ limit_of a
       → RepresentsAt b limit (recorded_with now (image_due now.past))
-  stands_stored n is shows place same = record {
-    past = shows;
+  stands_stored n is h place same = record {
+    past = h;
     place =
-        omega (arith, place, stands.place, is);
-    limit_is = same ∙ stands.limit_is;
+        omega (arith, place, represents.place, is);
+    limit_is = same ∙ represents.limit_is;
   }
 
   -- it stands as it stood
   pub stands_still : RepresentsPast (standing_of b) now.past → place_of b ≡ place_of a
       → limit_of b ≡ limit_of a → RepresentsAt b limit now
-  stands_still shows place same = record {
-    past = shows;
-    place = place ∙ stands.place;
+  stands_still h place same = record {
+    past = h;
+    place = place ∙ represents.place;
     limit_is =
-        same ∙ stands.limit_is;
+        same ∙ represents.limit_is;
   }
 
 -- no disk was called
@@ -299,9 +301,9 @@ module _ {D : Type 0} {g : Ghosts D} (a b : Archive D g) (limit : Given) (now : 
   -- no statement
   pub blank_responds : Blank ≡ reading text → IsValid (below a) → RepresentsAt a limit now
       → Responds limit (reply limit now text) (Ok NoError) a a u u
-  blank_responds e law stands = subst (λ y. Responds limit y (Ok NoError) a a u u)
+  blank_responds e law represents = subst (λ y. Responds limit y (Ok NoError) a a u u)
       (reply_is limit now text Blank e)
-      (says_responds u u limit now a a (answered [] now) (Ok NoError) law stands refl refl
+      (says_responds u u limit now a a (answered [] now) (Ok NoError) law represents refl refl
       (refl, Appends-nil u))
 
   -- what is read as no statement is refused
@@ -311,11 +313,11 @@ module _ {D : Type 0} {g : Ghosts D} (a b : Archive D g) (limit : Given) (now : 
       → IfOk put (λ p. p ≡ ErrorLine) → OnOk put (Appends u w (refusal_text r))
       → OnErr put (AppendsPrefix u w (refusal_text r))
       → Responds limit (reply limit now text) said a a u w
-  unread_responds r put said e is law stands ok all part =
+  unread_responds r put said e is law represents ok all part =
       subst (λ x. Responds limit (reply limit now text) x a a u w) (sym is)
       (subst (λ y. Responds limit y (or_write_fault put) a a u w)
       (reply_is limit now text (Refused r) e)
-      (says_responds u w limit now a a (refused r now) (or_write_fault put) law stands refl refl
+      (says_responds u w limit now a a (refused r now) (or_write_fault put) law represents refl refl
       (refused_says u w (Some r) r now (refused r now) put refl ok all part)))
 
   -- or memory ran out

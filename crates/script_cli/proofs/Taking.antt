@@ -77,11 +77,11 @@ module _ {D : Type 0} {g : Ghosts D} (limit : Given) (now : Recorded) where
   -- none was taken
   pub took_none : (s : ScriptRun) (a : Archive D g) (bytes : List ℕ) (w : Option (List ℕ))
       → IsValid (below a) → RepresentsAt a limit now → Took limit now s s a a bytes bytes w w
-  took_none s a bytes w law stands = record {
+  took_none s a bytes w law represents = record {
     pieces = [];
     cut = λ more. refl;
     end = λ more. refl;
-    stands = stands;
+    represents = represents;
     refused = or_false s.refused;
     puts = nothing_between a law;
     counted = omega arith;
@@ -98,11 +98,11 @@ module _ {D : Type 0} {g : Ghosts D} (limit : Given) (now : Recorded) where
       → PutBetween a b (piece_reply limit now piece).puts
       → t.puts ≡ s.puts + length (commands_due (piece_reply limit now piece).puts)
       → Appends u v (piece_reply limit now piece).text → Took limit now s t a b xs ys u v
-  took_one s t a b xs ys u v piece cut end stands faulty puts counted wrote = record {
+  took_one s t a b xs ys u v piece cut end represents faulty puts counted wrote = record {
     pieces = piece ∷ [];
     cut = cut;
     end = end;
-    stands = stands;
+    represents = represents;
     refused = faulty ∙ ap (λ x. s.refused || x) (or_false (piece_reply limit now piece).is_error);
     puts = subst (PutBetween a b) (sym (append-nil (piece_reply limit now piece).puts)) puts;
     counted = counted ∙ ap (λ (l : List Due). s.puts + length (commands_due l))
@@ -121,8 +121,8 @@ module _ {D : Type 0} {g : Ghosts D} (limit : Given) (now : Recorded) where
         cut = λ more. k.cut more ∙ ap (λ l. k.pieces ++ l) (m.cut more)
             ∙ sym (append_assoc k.pieces m.pieces (pieces_after n (zs ++ more)));
         end = λ more. k.end more ∙ m.end more;
-        stands = subst (RepresentsAt c limit) (sym (after-append limit now k.pieces m.pieces))
-            m.stands;
+        represents = subst (RepresentsAt c limit) (sym (after-append limit now k.pieces m.pieces))
+            m.represents;
         refused = m.refused ∙ ap (λ x. x || any_error limit next m.pieces) k.refused
             ∙ sym (or_assoc s.refused (any_error limit now k.pieces)
             (any_error limit next m.pieces))
@@ -155,7 +155,7 @@ module _ {D : Type 0} {g : Ghosts D} (limit : Given) (now : Recorded) where
         ∙ ap (λ l. k.pieces ++ pieces_after t l) (sym (append_assoc ys zs more));
     end = λ more. ap (ending_after s) (append_assoc xs zs more) ∙ k.end (zs ++ more)
         ∙ ap (ending_after t) (sym (append_assoc ys zs more));
-    stands = k.stands;
+    represents = k.represents;
     refused = k.refused;
     puts = k.puts;
     counted = k.counted;
@@ -243,14 +243,14 @@ module _ {D : Type 0} {g : Ghosts D} (limit : Given) (now : Recorded) (s t : Scr
   -- no statement ended
   pub took_all : cut ≡ More → ys ≡ [] → IsValid (below a) → RepresentsAt a limit now
       → t.refused ≡ s.refused → t.puts ≡ s.puts → Took limit now s t a a xs [] u u
-  took_all e all law stands faulty counted = record {
+  took_all e all law represents faulty counted = record {
     pieces = [];
     cut = λ more. statements more ∙ ap (λ k. found k ++ parts_from z.mode z.kept (ys ++ more)) e
         ∙ ap (λ l. parts_from z.mode z.kept (l ++ more)) all
         ∙ ap (λ z. parts_from z.mode z.kept more) (sym same);
     end = λ more. tail more ∙ ap (λ l. ending (tail_from z.mode z.kept (l ++ more))) all
         ∙ ap (λ z. ending (tail_from z.mode z.kept more)) (sym same);
-    stands = stands;
+    represents = represents;
     refused = faulty ∙ or_false s.refused;
     puts = nothing_between a law;
     counted = omega (arith, counted);
@@ -264,11 +264,12 @@ module _ {D : Type 0} {g : Ghosts D} (limit : Given) (now : Recorded) (s t : Scr
       → PutBetween a b (piece_reply limit now piece).puts
       → t.puts ≡ s.puts + length (commands_due (piece_reply limit now piece).puts)
       → Appends u v (piece_reply limit now piece).text → Took limit now s t a b xs ys u v
-  took_answer piece e stands faulty puts counted wrote = took_one limit now s t a b xs ys u v piece
+  took_answer piece e represents faulty puts counted wrote = took_one limit now s t a b xs ys u v
+      piece
       (λ more. statements more ∙ ap (λ l. l ++ parts_from z.mode z.kept (ys ++ more)) e
       ∙ ap (λ z. piece ∷ parts_from z.mode z.kept (ys ++ more)) (sym same))
       (λ more. tail more ∙ ap (λ z. ending (tail_from z.mode z.kept (ys ++ more))) (sym same))
-      stands faulty puts counted wrote
+      represents faulty puts counted wrote
 
   -- or the run stopped in its reply
   pub halted_answer : (halt : Halt) (piece : StatementPart) → found cut ≡ piece ∷ []

@@ -95,7 +95,7 @@ pub record HasOpened {D : Type 0} {g : Ghosts D} (old : Meaning) (limit : ℕ)
     (archive : Archive D g) : Type 0 where
   pub mounted : Tells old.seen (λ file. (opened : Opened)
       × IsMounted file (standing_of archive) (place_of archive) opened)
-  pub shows : RepresentsSome (standing_of archive)
+  pub represents : RepresentsSome (standing_of archive)
   pub limit_is : limit_of archive ≡ counted_limit limit
   pub takes : TakesRecords archive
   pub goes : GoesOn old (below archive)

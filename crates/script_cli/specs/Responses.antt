@@ -81,7 +81,7 @@ module _ {D : Type 0} {g : Ghosts D} where
   pub record Replied (limit : Given) (reply : Reply) (put : Put) (a b : Archive D g)
       (written_old written_new : Option (List ℕ)) : Type 0 where
     pub is : put ≡ put_of reply
-    pub stands : RepresentsAt b limit reply.after
+    pub represents : RepresentsAt b limit reply.after
     pub puts : PutBetween a b reply.puts
     pub text : Appends written_old written_new reply.text
 
@@ -95,7 +95,7 @@ module _ {D : Type 0} {g : Ghosts D} where
   pub record Answered (limit : Given) (reply : Reply) (old new : ScriptRun) (a b : Archive D g)
       (written_old written_new : Option (List ℕ)) : Type 0 where
     pub splitter : new.splitter ≡ old.splitter
-    pub stands : RepresentsAt b limit reply.after
+    pub represents : RepresentsAt b limit reply.after
     pub refused : new.refused ≡ (old.refused || reply.is_error)
     pub puts : PutBetween a b reply.puts
     pub counted : new.puts ≡ old.puts + length (commands_due reply.puts)
@@ -108,7 +108,7 @@ module _ {D : Type 0} {g : Ghosts D} where
     pub cut : (more : List ℕ) → pieces_after old (bytes ++ more) ≡ pieces
         ++ pieces_after new (rest ++ more)
     pub end : (more : List ℕ) → ending_after old (bytes ++ more) ≡ ending_after new (rest ++ more)
-    pub stands : RepresentsAt b limit (recorded_after limit now pieces)
+    pub represents : RepresentsAt b limit (recorded_after limit now pieces)
     pub refused : new.refused ≡ (old.refused || any_error limit now pieces)
     pub puts : PutBetween a b (all_puts limit now pieces)
     pub counted : new.puts ≡ old.puts + length (commands_due (all_puts limit now pieces))

@@ -52,16 +52,16 @@ same_entry (Some c) (Some (Rows a)) (Some (Rows b)) i j f = ap (λ r. Some (Rows
 shown_entry : (past : Past) (k : ℕ) (name : List ℕ) (o : Option (List Column)) (s : Option Store)
     (columns : List Column) → RepresentsEntry past k name o s → o ≡ Some columns
     → (store : Store) × (s ≡ Some store) × RepresentsTable past k name columns store
-shown_entry past k name None s columns shows e = absurd (cc)
-shown_entry past k name (Some its) None columns shows e = absurd shows
-shown_entry past k name (Some its) (Some store) columns shows e =
+shown_entry past k name None s columns represents e = absurd (cc)
+shown_entry past k name (Some its) None columns represents e = absurd represents
+shown_entry past k name (Some its) (Some store) columns represents e =
     let same : its ≡ columns = cc in (
       store,
       refl,
-      subst (λ c. RepresentsTable past k name c store) same shows,
+      subst (λ c. RepresentsTable past k name c store) same represents,
     )
 
-module _ (kept : Kept) (past : Past) (last : Option ℕ) (shows : Represents kept past)
+module _ (kept : Kept) (past : Past) (last : Option ℕ) (represents : Represents kept past)
     (ends : last ≡ past.last) (holds : GroupsHold kept) where
   abbrev image : Image
   image = image_in kept last
@@ -73,7 +73,7 @@ module _ (kept : Kept) (past : Past) (last : Option ℕ) (shows : Represents kep
       let column : (cells : List Cell) → In cells t.store.cells
       → ColumnHolds cells = all_in ColumnHolds t.store.cells h.columns in
       let all : (m : ℕ) → IsLater last m → AllBefore t.store m = λ m later.
-      all_before past.last kept.stored shows.stamps t i m
+      all_before past.last kept.stored represents.stamps t i m
       (subst (λ l. IsLater l m) ends later) in
       record {
         store = record {
@@ -95,15 +95,16 @@ module _ (kept : Kept) (past : Past) (last : Option ℕ) (shows : Represents kep
 
   is_image : IsImage image
   is_image = record {
-    evolved = subst (AreVersions None no_tables) (sym shows.versions) shows.valid.evolved;
-    few = subst (λ (vs : List PlainVersion). length vs ≤ max_versions) (sym shows.versions)
-        shows.valid.few;
+    evolved = subst (AreVersions None no_tables) (sym represents.versions) represents.valid.evolved;
+    few = subst (λ (vs : List PlainVersion). length vs ≤ max_versions) (sym represents.versions)
+        represents.valid.few;
     named = holds.named;
-    ends = subst (λ l. last_or_nought l < forever) (sym ends) shows.ends;
+    ends = subst (λ l. last_or_nought l < forever) (sym ends) represents.ends;
     begun = subst (λ l. AllInForce (last_or_nought l) (versions_in kept)) (sym ends)
-        (subst (AllInForce (last_or_nought past.last)) (sym shows.versions) shows.valid.versions);
-    without = λ e. shows.versions ∙ shows.valid.without (sym ends ∙ e);
-    lines = lines_are kept.stored ∙ shows.lifelines.lines;
+        (subst (AllInForce (last_or_nought past.last))
+        (sym represents.versions) represents.valid.versions);
+    without = λ e. represents.versions ∙ represents.valid.without (sym ends ∙ e);
+    lines = lines_are kept.stored ∙ represents.lifelines.lines;
     each = λ l i. let h = from_map kept_line l kept.stored i in
         subst (IsStoredLine last) h.2 (stored_line h.0 h.1);
   }
@@ -115,7 +116,7 @@ module _ (kept : Kept) (past : Past) (last : Option ℕ) (shows : Represents kep
   valid = is_past past.commands image is_image
 
   one_version : (m : ℕ) → version_at shown m ≡ version_at past m
-  one_version m = ap (λ vs. length (begun_at m vs)) shows.versions
+  one_version m = ap (λ vs. length (begun_at m vs)) represents.versions
 
   within : (m : ℕ) → version_at past m ≤ length past.versions
   within m = few_begun m past.versions
@@ -124,7 +125,7 @@ module _ (kept : Kept) (past : Past) (last : Option ℕ) (shows : Represents kep
   within_kept m = let n = within m in omega (
     arith,
     n,
-    ap (λ (vs : List PlainVersion). length vs) shows.versions,
+    ap (λ (vs : List PlainVersion). length vs) represents.versions,
     length-map kept.versions version_of,
   )
 
@@ -135,13 +136,13 @@ module _ (kept : Kept) (past : Past) (last : Option ℕ) (shows : Represents kep
   same_rows m lasts name columns e =
       let k = version_at past m in
       let entry = shown_entry past k name (get (tables_of past k) name) (table_in kept k name)
-      columns (shows.tables k name (within m)) e in
+      columns (represents.tables k name (within m)) e in
       let found = found_at kept.stored (places_of kept k) name entry.0 entry.1 in
       let t = found.table in
       let line : slice_get (map line_of kept.stored) found.place ≡ Some (line_of t) =
       slice_get-map line_of kept.stored found.place ∙ ap (option_map line_of) found.at in
       let covered : Covers t.first t.last k =
-      covering k (line_of t) (shows.lifelines.places.covered k found.place (line_of t)
+      covering k (line_of t) (represents.lifelines.places.covered k found.place (line_of t)
       (within_kept m) line found.among) in
       let own : rows_under (get (database_at shown m) t.name)
       ≡ relation_at (store_of (kept_line t)) m =
@@ -150,24 +151,25 @@ module _ (kept : Kept) (past : Past) (last : Option ℕ) (shows : Represents kep
       (subst (Covers t.first t.last) (sym (one_version m)) covered) in
       ap (λ n. rows_under (get (database_at shown m) n)) (sym found.named) ∙ own
       ∙ same_relations t m ∙ ap (λ s. relation_at s m) found.is
-      ∙ entry.2.shown m (own_moment past shows.valid k m lasts refl)
+      ∙ entry.2.shown m (own_moment past represents.valid k m lasts refl)
 
   same_databases : (m : ℕ) → m < forever → database_at shown m ≡ database_at past m
   same_databases m lasts =
       let tables : tables_of shown (version_at shown m) ≡ tables_of past (version_at past m) =
       ap (λ n. tables_from no_tables (versions_in kept) n) (one_version m)
-      ∙ ap (λ vs. tables_from no_tables vs (version_at past m)) shows.versions in
+      ∙ ap (λ vs. tables_from no_tables vs (version_at past m)) represents.versions in
       let of_shown : IsDatabase (tables_of past (version_at past m)) (database_at shown m) =
       subst (λ (t : Tables). IsDatabase t (database_at shown m)) tables (valid.each m) in
       same_map nat_list_cmp_total (slice_cmp-IsAntisymmetric nat_cmp-IsAntisymmetric)
       (database_at shown m) (database_at past m)
       (λ n. same_entry (get (tables_of past (version_at past m)) n) (get (database_at shown m) n)
-      (get (database_at past m) n) (of_shown n) (shows.valid.each m n)
+      (get (database_at past m) n) (of_shown n) (represents.valid.each m n)
       (λ c e. same_rows m lasts n c e))
 
   same_past : shown ≡ past
-  same_past = known_past shown past valid shows.valid is_image.ends shows.versions ends refl
-      (sizes_are past.sizes kept.stored shows.sizes) same_databases
+  same_past = known_past shown past valid represents.valid is_image.ends represents.versions ends
+      refl
+      (sizes_are past.sizes kept.stored represents.sizes) same_databases
 
   its_image : IsImageOf past image
   its_image = record {

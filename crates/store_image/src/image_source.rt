@@ -79,7 +79,7 @@ fn restored(alloc: Global, image: ReadImage<'_>) -> Result<(Groups, Option<u64>)
     requires valid { IsImage (image_seen image) }
     requires order { All IsOrdered image.lines.items }
     ensures image { IfOk result (λ it. image_in it.0 it.1 ≡ image_seen image.entry) }
-    ensures shows { (n : ℕ) → IfOk result (λ it.
+    ensures represents { (n : ℕ) → IfOk result (λ it.
         Represents it.0 (image_past n (image_seen image.entry))) }
 {
     let ReadImage {

@@ -37,9 +37,10 @@ use Rattle.version_groups.proofs.Installed.{shows_evolved}
 -- as many versions as the past has
 pub as_many : (kept : Kept) (past : Past) → Represents kept past
     → length kept.versions ≡ length past.versions
-as_many kept past shows = sym (length-map kept.versions version_of) ∙ ap length shows.versions
+as_many kept past represents = sym (length-map kept.versions version_of)
+    ∙ ap length represents.versions
 
-module _ (kept new : Kept) (past : Past) (shows : Represents kept past) where
+module _ (kept new : Kept) (past : Past) (represents : Represents kept past) where
   pub changes_made : (plans : List (Option PreparedChange)) → HasChanges kept new plans
       → (stamp : ℕ) (body : PlainBody) → stamp < forever
       → command_fault past (a_command stamp body) ≡ None
@@ -47,8 +48,8 @@ module _ (kept new : Kept) (past : Past) (shows : Represents kept past) where
       → Represents new (past_with past (a_command stamp body))
   changes_made plans m stamp (evolving op inverse) valid accepted hold ready = absurd ready
   changes_made plans m stamp (changing changes) valid accepted hold ready =
-      let n = as_many kept past shows in
-      shows_changed kept past stamp changes shows valid accepted hold new plans
+      let n = as_many kept past represents in
+      shows_changed kept past stamp changes represents valid accepted hold new plans
       (ap (map version_of) m.versions) (λ k l. m.groups k (omega (arith, l, n)))
       (subst (λ j. length (group_of new j) ≡ length (group_of kept j)) n m.made.count)
       (subst (λ j. AreChanges stamp (next_database (changing changes) past) (group_of kept j) plans)
@@ -56,9 +57,9 @@ module _ (kept new : Kept) (past : Past) (shows : Represents kept past) where
       (subst (λ j. (k : ℕ) (d : MadeTable) → k < length (group_of kept j)
       → IsMade (get_or (group_of kept j) k d) (get_or plans k None)
       (get_or (group_of new j) k d)) n m.made.each)
-      (sizes_follow kept new past stamp changes shows valid accepted plans m ready)
-      (still_of_lifelines kept new m.versions m.places m.lines shows.lifelines)
-      (stamps_follow kept new past stamp changes shows valid accepted plans m ready)
+      (sizes_follow kept new past stamp changes represents valid accepted plans m ready)
+      (still_of_lifelines kept new m.versions m.places m.lines represents.lifelines)
+      (stamps_follow kept new past stamp changes represents valid accepted plans m ready)
 
   pub version_made : (made : Version) (begun : List MadeTable) (places : List ℕ)
       → HasVersion kept new made begun places → (stamp : ℕ) (body : PlainBody) → stamp < forever
@@ -67,15 +68,16 @@ module _ (kept new : Kept) (past : Past) (shows : Represents kept past) where
       → Represents new (past_with past (a_command stamp body))
   version_made made begun places m stamp (changing changes) valid accepted hold ready = absurd ready
   version_made made begun places m stamp (evolving op inverse) valid accepted hold ready =
-      let n = as_many kept past shows in
-      shows_evolved kept past stamp op inverse shows valid accepted hold new (version_of made) begun
+      let n = as_many kept past represents in
+      shows_evolved kept past stamp op inverse represents valid accepted hold new
+      (version_of made) begun
       places ready
       (ap (map version_of) m.versions ∙ map-append version_of kept.versions (made ∷ []))
       (λ k name l. m.tables k name (omega (arith, l, n)))
       (λ name. ap (λ j. table_in new (j + 1) name) (sym n) ∙ m.own name)
-      (sizes_begin kept new past stamp op inverse shows n accepted made begun places m ready)
+      (sizes_begin kept new past stamp op inverse represents n accepted made begun places m ready)
       m.lifelines
-      (stamps_begin kept new past stamp op inverse shows n accepted made begun places m ready)
+      (stamps_begin kept new past stamp op inverse represents n accepted made begun places m ready)
 
   -- the tables of earlier versions stay at the moments at which these are in force
   pub changes_leave : (plans : List (Option PreparedChange)) → HasChanges kept new plans
@@ -90,7 +92,7 @@ module _ (kept new : Kept) (past : Past) (shows : Represents kept past) where
       (group_of new k) (m.groups k l).count (m.groups k l).each)
     where
       n : length kept.versions ≡ length past.versions
-      n = as_many kept past shows
+      n = as_many kept past represents
 
       at : (plan : PreparedChange) → In (Some plan) plans → plan.stamp ≡ stamp
       at = plans_at stamp (next_database (changing changes) past)
@@ -102,10 +104,10 @@ module _ (kept new : Kept) (past : Past) (shows : Represents kept past) where
       own t f =
           let past_own : IsInForce past.versions k t =
           subst (λ (vs : List PlainVersion). IsInForce vs k t)
-          (ap (map version_of) m.versions ∙ shows.versions) f in
+          (ap (map version_of) m.versions ∙ represents.versions) f in
           elim (before_or_not t stamp) [
             | inl b ↦ b
-            | inr b ↦ absurd (ended kept past stamp changes shows valid accepted k
+            | inr b ↦ absurd (ended kept past stamp changes represents valid accepted k
                 (omega (arith, l, n)) t past_own b)
           ]
 
@@ -181,10 +183,11 @@ pub is_room : (kept : Kept) (past : Past) → Represents kept past → (stamp : 
     → (made : Version) (begun : List MadeTable) (places : List ℕ)
     → IsStep kept past stamp body (evolved (version_of made) begun places)
     → IsRoomFor kept made begun places
-is_room kept past shows stamp (changing changes) accepted made begun places h = absurd h
-is_room kept past shows stamp (evolving op inverse) accepted made begun places h =
+is_room kept past represents stamp (changing changes) accepted made begun places h = absurd h
+is_room kept past represents stamp (evolving op inverse) accepted made begun places h =
     record {
-      come = comes_with kept past stamp op inverse shows (as_many kept past shows) accepted
+      come = comes_with kept past stamp op inverse represents
+          (as_many kept past represents) accepted
           made begun places h;
       there = h.there;
       ordered = h.ordered;

@@ -85,7 +85,8 @@ entry_begins next k stamp name rows (Some columns) (Some store) f h = f columns 
 newest_or_not : (k n : ℕ) → k ≤ n → (k ≡ n) ⊎ (k < n)
 newest_or_not k n l = elim (before_or_not k n) [ inl h ↦ inr h | inr h ↦ inl (omega (arith, l, h)) ]
 
-module _ (kept : Kept) (past : Past) (stamp : ℕ) (body : PlainBody) (shows : Represents kept past)
+module _ (kept : Kept) (past : Past) (stamp : ℕ) (body : PlainBody)
+    (represents : Represents kept past)
     (valid : stamp < forever) (accepted : command_fault past (a_command stamp body) ≡ None) where
   abbrev next : Past
   next = past_with past (a_command stamp body)
@@ -97,13 +98,14 @@ module _ (kept : Kept) (past : Past) (stamp : ℕ) (body : PlainBody) (shows : R
   not_before = later_stamp past (a_command stamp body) accepted
 
   pub next_is_valid : IsPast next
-  next_is_valid = stays_valid past stamp body shows.valid
+  next_is_valid = stays_valid past stamp body represents.valid
       (stamp_accepted past (a_command stamp body) accepted)
       (counts_accepted past (a_command stamp body) accepted)
       (body_accepted past (a_command stamp body) accepted)
 
   pub next_holds : BodyHolds body → PastHolds next
-  next_holds hold = past_stays past (a_command stamp body) shows.valid accepted hold shows.values
+  next_holds hold = past_stays past
+      (a_command stamp body) represents.valid accepted hold represents.values
 
   pub all_later : (m : ℕ) → stamp < m → IsLater past.last m
   all_later m l = still_later past.last stamp m later (omega (arith, l))
@@ -111,23 +113,23 @@ module _ (kept : Kept) (past : Past) (stamp : ℕ) (body : PlainBody) (shows : R
   -- from the stamp on all versions of the past are in force, and the database is its newest one
   pub newest_then : (m : ℕ) → stamp ≤ m → version_at past m ≡ length past.versions
   newest_then m l = ap length (all_begun (last_or_nought past.last) m past.versions
-      shows.valid.versions (omega (arith, l, not_before)))
+      represents.valid.versions (omega (arith, l, not_before)))
 
   -- so the stamp is a moment of the newest version
   pub newest_own : IsInForce past.versions (length past.versions) stamp
-  newest_own = own_moment past shows.valid (length past.versions) stamp valid
+  newest_own = own_moment past represents.valid (length past.versions) stamp valid
       (newest_then stamp (omega arith))
 
   pub newest_is : (m : ℕ) → stamp ≤ m → database_at past m ≡ newest_database past
   newest_is m l = newest_holds no_database past.states m
       (up_to_later (last_or_nought past.last) m past.states (omega (arith, l, not_before))
-      shows.valid.ended)
+      represents.valid.ended)
 
   pub as_before : (m : ℕ) → m < stamp → database_at next m ≡ database_at past m
   as_before m l = before_command past stamp body m l
 
   pub from_then : (m : ℕ) → stamp ≤ m → database_at next m ≡ next_database body past
-  from_then m l = from_command past stamp body shows.valid not_before
+  from_then m l = from_command past stamp body represents.valid not_before
       (body_accepted past (a_command stamp body) accepted) m l
 
 -- ---- changes
@@ -161,7 +163,7 @@ plans_at stamp next tables plans h plan m =
     leads.at
 
 module _ (kept : Kept) (past : Past) (stamp : ℕ) (changes : List PlainChange)
-    (shows : Represents kept past) (valid : stamp < forever)
+    (represents : Represents kept past) (valid : stamp < forever)
     (accepted : command_fault past (a_command stamp (changing changes)) ≡ None) where
   abbrev after : Past
   after = past_with past (a_command stamp (changing changes))
@@ -173,8 +175,8 @@ module _ (kept : Kept) (past : Past) (stamp : ℕ) (changes : List PlainChange)
   pub ended : (k : ℕ) → k < length past.versions → (m : ℕ) → IsInForce past.versions k m → stamp ≤ m
       → ⊥
   ended k l m own b =
-      let e = own_version past shows.valid k m (omega (arith, l)) own in
-      let n = newest_then kept past stamp (changing changes) shows valid accepted m b in
+      let e = own_version past represents.valid k m (omega (arith, l)) own in
+      let n = newest_then kept past stamp (changing changes) represents valid accepted m b in
       omega (arith, l, e, n)
 
   -- a table of an earlier version, of which a change is made or none
@@ -191,7 +193,7 @@ module _ (kept : Kept) (past : Past) (stamp : ℕ) (changes : List PlainChange)
           → relation_at u.store m ≡ rows_under (get (database_at after m) name)
       before m own same = elim (before_or_not m stamp) [
         | inl b ↦ same b ∙ h.shown m own ∙ ap (λ d. rows_under (get d name))
-            (sym (as_before kept past stamp (changing changes) shows valid accepted m b))
+            (sym (as_before kept past stamp (changing changes) represents valid accepted m b))
         | inr b ↦ absurd (ended k l m own b)
       ]
 
@@ -237,24 +239,24 @@ module _ (kept : Kept) (past : Past) (stamp : ℕ) (changes : List PlainChange)
           → relation_at t.store m ≡ rows_under (get (database_at after m) name) = λ m own.
           elim (before_or_not m stamp) [
             | inl b ↦ h.shown m own ∙ ap (λ d. rows_under (get d name))
-                (sym (as_before kept past stamp (changing changes) shows valid accepted m b))
+                (sym (as_before kept past stamp (changing changes) represents valid accepted m b))
             | inr b ↦
                 h.shown m own ∙ ap (λ d. rows_under (get d name))
-                (newest_is kept past stamp (changing changes) shows valid accepted m b)
+                (newest_is kept past stamp (changing changes) represents valid accepted m b)
                 ∙ sym (ap (λ d. rows_under (get d name))
-                (newest_is kept past stamp (changing changes) shows valid accepted stamp
+                (newest_is kept past stamp (changing changes) represents valid accepted stamp
                 (omega arith)))
-                ∙ sym (h.shown stamp (newest_own kept past stamp (changing changes) shows valid
+                ∙ sym (h.shown stamp (newest_own kept past stamp (changing changes) represents valid
                 accepted))
                 ∙ leads ∙ ap changed_rows named
                 ∙ ap (λ d. rows_under (get d name))
-                (sym (from_then kept past stamp (changing changes) shows valid accepted m b))
+                (sym (from_then kept past stamp (changing changes) represents valid accepted m b))
           ] in
           subst (λ (s : Store). RepresentsTable after n name columns s) (sym is) (record {
             columns = h.columns;
             shown = shown;
             stamps = λ m own b. h.stamps m own
-                (all_later kept past stamp (changing changes) shows valid accepted m b);
+                (all_later kept past stamp (changing changes) represents valid accepted m b);
           })
       step (Some p) leads e =
           let b : Becomes t.store u.store p.stamp (rows_after t.store p) = e.becomes in
@@ -264,12 +266,12 @@ module _ (kept : Kept) (past : Past) (stamp : ℕ) (changes : List PlainChange)
             shown = λ m own. elim (before_or_not m stamp) [
               | inl l ↦ b.before m (omega (arith, l, at)) ∙ h.shown m own
                   ∙ ap (λ d. rows_under (get d name))
-                  (sym (as_before kept past stamp (changing changes) shows valid accepted m l))
+                  (sym (as_before kept past stamp (changing changes) represents valid accepted m l))
               | inr l ↦ b.from m (omega (arith, l, at))
-                  (own_within past shows.valid n m shows.ends own) ∙ leads.leads
+                  (own_within past represents.valid n m represents.ends own) ∙ leads.leads
                   ∙ ap changed_rows named
                   ∙ ap (λ d. rows_under (get d name))
-                  (sym (from_then kept past stamp (changing changes) shows valid accepted m l))
+                  (sym (from_then kept past stamp (changing changes) represents valid accepted m l))
             ];
             stamps = λ m own l. b.later m (omega (arith, l, at));
           }
@@ -287,16 +289,16 @@ module _ (kept : Kept) (past : Past) (stamp : ℕ) (changes : List PlainChange)
       → HaveSizes after.sizes new.stored → AreOfLifelines new → AreUpTo after.last new.stored
       → Represents new after
   shows_changed hold new plans versions groups count ready made sizes lifelines stamps = record {
-    valid = next_is_valid kept past stamp (changing changes) shows valid accepted;
-    values = next_holds kept past stamp (changing changes) shows valid accepted hold;
+    valid = next_is_valid kept past stamp (changing changes) represents valid accepted;
+    values = next_holds kept past stamp (changing changes) represents valid accepted hold;
     ends = valid;
-    versions = versions ∙ shows.versions;
+    versions = versions ∙ represents.versions;
     tables = λ k name l. elim (newest_or_not k n l) [
       | inl e ↦ subst (λ j. RepresentsEntry after j name (get (tables_of after j) name)
           (table_in new j name)) (sym e) (newest name)
       | inr e ↦ earlier k e name (paired (IsMadeBy plans) names name (group_of kept k)
           (group_of new k) (groups k e).count (groups k e).each)
-          (shows.tables k name (omega (arith, e)))
+          (represents.tables k name (omega (arith, e)))
     ];
     sizes = sizes;
     lifelines = lifelines;
@@ -358,12 +360,12 @@ module _ (kept : Kept) (past : Past) (stamp : ℕ) (changes : List PlainChange)
       newest : (name : List ℕ) → RepresentsEntry after n name (get (tables_of after n) name)
           (table_in new n name)
       newest name = entry name (paired IsChanged keeps_name name (group_of kept n) (group_of new n)
-          count each) (shows.tables n name (omega arith))
+          count each) (represents.tables n name (omega arith))
 
 -- ---- an operator
 
 module _ (kept : Kept) (past : Past) (stamp : ℕ) (op : Operator) (inverse : List Operator)
-    (shows : Represents kept past) (valid : stamp < forever)
+    (represents : Represents kept past) (valid : stamp < forever)
     (accepted : command_fault past (a_command stamp (evolving op inverse)) ≡ None) where
   abbrev evolved : Past
   evolved = past_with past (a_command stamp (evolving op inverse))
@@ -377,11 +379,11 @@ module _ (kept : Kept) (past : Past) (stamp : ℕ) (op : Operator) (inverse : Li
   version_then : (m : ℕ) → stamp ≤ m → version_at evolved m ≡ length past.versions + 1
   version_then m l =
       let low = later_stamp past (a_command stamp (evolving op inverse)) accepted in
-      all_with_one (last_or_nought past.last) m past.versions version shows.valid.versions
+      all_with_one (last_or_nought past.last) m past.versions version represents.valid.versions
       (omega (arith, l, low)) l
 
   is_past : IsPast evolved
-  is_past = next_is_valid kept past stamp (evolving op inverse) shows valid accepted
+  is_past = next_is_valid kept past stamp (evolving op inverse) represents valid accepted
 
   one_more : length evolved.versions ≡ length past.versions + 1
   one_more = length-append past.versions (version ∷ [])
@@ -394,10 +396,10 @@ module _ (kept : Kept) (past : Past) (stamp : ℕ) (op : Operator) (inverse : Li
     columns = h.columns;
     shown = λ m own. elim (before_or_not m stamp) [
       | inl b ↦
-          h.shown m (own_moment past shows.valid k m (own_within evolved is_past k m valid own)
+          h.shown m (own_moment past represents.valid k m (own_within evolved is_past k m valid own)
           (sym (version_before m b) ∙ is m own))
           ∙ ap (λ d. rows_under (get d name))
-          (sym (as_before kept past stamp (evolving op inverse) shows valid accepted m b))
+          (sym (as_before kept past stamp (evolving op inverse) represents valid accepted m b))
       | inr b ↦ absurd (ended m own b)
     ];
     stamps = λ m own b. absurd (ended m own (omega (arith, b)));
@@ -425,7 +427,7 @@ module _ (kept : Kept) (past : Past) (stamp : ℕ) (op : Operator) (inverse : Li
       | inr l ↦
           b.from m l (own_within evolved is_past (length past.versions + 1) m valid own)
           ∙ ap (λ d. rows_under (get d name))
-          (sym (from_then kept past stamp (evolving op inverse) shows valid accepted m l))
+          (sym (from_then kept past stamp (evolving op inverse) represents valid accepted m l))
     ];
     stamps = λ m own l. b.later m l;
   }
@@ -453,9 +455,9 @@ module _ (kept : Kept) (past : Past) (stamp : ℕ) (op : Operator) (inverse : Li
       → Represents new evolved
   shows_evolved hold new made begun places is versions tables own sizes lifelines stamps = record {
     valid = is_past;
-    values = next_holds kept past stamp (evolving op inverse) shows valid accepted hold;
+    values = next_holds kept past stamp (evolving op inverse) represents valid accepted hold;
     ends = valid;
-    versions = versions ∙ ap (λ (vs : List PlainVersion). vs ++ made ∷ []) shows.versions
+    versions = versions ∙ ap (λ (vs : List PlainVersion). vs ++ made ∷ []) represents.versions
         ∙ ap (λ (v : PlainVersion). past.versions ++ v ∷ []) is.version;
     tables = λ k name l. each k name (before_or_not n k) (subst (λ j. k ≤ j) one_more l);
     sizes = sizes;
@@ -495,4 +497,4 @@ module _ (kept : Kept) (past : Past) (stamp : ℕ) (op : Operator) (inverse : Li
           s)
           (sym (tables k name l))
           (entry_still past evolved k name (get (tables_of past k) name) (table_in kept k name)
-          (older_table k name l) (shows.tables k name l)))
+          (older_table k name l) (represents.tables k name l)))

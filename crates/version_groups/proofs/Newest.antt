@@ -38,7 +38,8 @@ use Rattle.version_groups.proofs.TablesCounted.{IsStored, is_stored}
 
 -- ---- of a past that is shown
 
-module _ (kept : Kept) (past : Past) (stamp : ℕ) (body : PlainBody) (shows : Represents kept past)
+module _ (kept : Kept) (past : Past) (stamp : ℕ) (body : PlainBody)
+    (represents : Represents kept past)
     (valid : stamp < forever) (accepted : command_fault past (a_command stamp body) ≡ None) where
   stands_entry : (name : List ℕ) (o : Option (List Column)) (s : Option Store)
       → RepresentsEntry past (length past.versions) name o s
@@ -47,11 +48,11 @@ module _ (kept : Kept) (past : Past) (stamp : ℕ) (body : PlainBody) (shows : R
   stands_entry name None (Some store) h = absurd h
   stands_entry name (Some columns) None h = absurd h
   stands_entry name (Some columns) (Some store) h =
-      let own = newest_own kept past stamp body shows valid accepted in
+      let own = newest_own kept past stamp body represents valid accepted in
       record {
         columns = h.columns;
         rows = h.shown stamp own ∙ ap (λ d. rows_under (get d name))
-            (newest_is kept past stamp body shows valid accepted stamp (omega arith));
+            (newest_is kept past stamp body represents valid accepted stamp (omega arith));
         before = h.stamps stamp own (is_later past.last stamp
             (stamp_accepted past (a_command stamp body) accepted));
       }
@@ -64,7 +65,7 @@ module _ (kept : Kept) (past : Past) (stamp : ℕ) (body : PlainBody) (shows : R
       (newest_tables_from no_tables past.versions)
       (stands_entry name (get (tables_of past (length past.versions)) name)
       (table_in kept (length past.versions) name)
-      (shows.tables (length past.versions) name (omega arith)))
+      (represents.tables (length past.versions) name (omega arith)))
 
 -- ---- tables that stand for a database
 

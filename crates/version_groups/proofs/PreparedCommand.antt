@@ -124,22 +124,22 @@ same_newest old new same = ap (λ (ps : List (List ℕ)). get_or ps (length new.
 
 pub shows_same : (old new : Kept) → IsSame old new → (past : Past) → Represents old past
     → Represents new past
-shows_same old new same past shows = record {
-  valid = shows.valid;
-  values = shows.values;
-  ends = shows.ends;
-  versions = ap (map version_of) same.versions ∙ shows.versions;
+shows_same old new same past represents = record {
+  valid = represents.valid;
+  values = represents.values;
+  ends = represents.ends;
+  versions = ap (map version_of) same.versions ∙ represents.versions;
   tables = λ k name l. let group = same_groups old new same k in
       entry k name (paired IsSameTable (λ t u h. h.name) name (group_of old k) (group_of new k)
-      group.count group.each) (shows.tables k name l);
+      group.count group.each) (represents.tables k name l);
   sizes = record {
-    count = same.stored.count ∙ shows.sizes.count;
+    count = same.stored.count ∙ represents.sizes.count;
     each = λ k s t l. size (get_or past.sizes k s) (get_or old.stored k t) (get_or new.stored k t)
-        (same.stored.each k t (let n = shows.sizes.count in omega (arith, l, n)))
-        (shows.sizes.each k s t l);
+        (same.stored.each k t (let n = represents.sizes.count in omega (arith, l, n)))
+        (represents.sizes.each k s t l);
   };
   lifelines = still_of_lifelines old new same.versions same.places
-      (lines_kept old.stored new.stored same.stored) shows.lifelines;
+      (lines_kept old.stored new.stored same.stored) represents.lifelines;
   stamps = λ p t m l later. stays p t m (let n = same.stored.count in omega (arith, l, n)) later;
 }
   where
@@ -148,7 +148,7 @@ shows_same old new same past shows = record {
     stays p t m l later =
         let u = get_or new.stored p t in
         same_before (get_or old.stored p t).store u.store u.store.spare u.store.indexed
-        (same.stored.each p t l).store m (shows.stamps p t m l later)
+        (same.stored.each p t l).store m (represents.stamps p t m l later)
 
     size : (s : Size) (t u : MadeTable) → IsSameTable t u → HasSize s t → HasSize s u
     size s t u e h = record {
@@ -191,11 +191,11 @@ is_same kept = record {
 -- ---- changes
 
 module _ (kept : Kept) (past : Past) (stamp : ℕ) (changes : List PlainChange)
-    (shows : Represents kept past) (valid : stamp < forever)
+    (represents : Represents kept past) (valid : stamp < forever)
     (accepted : command_fault past (a_command stamp (changing changes)) ≡ None)
     (ordered : Ascends bytes_cmp (names_of (newest_group kept))) where
   number : length kept.versions ≡ length past.versions
-  number = as_many kept past shows
+  number = as_many kept past represents
 
   in_order : Ascends bytes_cmp (names_of (group_of kept (length past.versions)))
   in_order = subst (λ j. Ascends bytes_cmp (names_of (group_of kept j))) number ordered
@@ -205,7 +205,7 @@ module _ (kept : Kept) (past : Past) (stamp : ℕ) (changes : List PlainChange)
       subst (λ j. AreChangeable (newest_tables past) stamp changes (group_of kept j)) (sym number)
       (changeable (newest_tables past) (newest_database past) stamp
       (group_of kept (length past.versions)) in_order
-      (stands kept past stamp (changing changes) shows valid accepted) changes
+      (stands kept past stamp (changing changes) represents valid accepted) changes
       (body_accepted past (a_command stamp (changing changes)) accepted))
 
   pub changes_ready : BodyHolds (changing changes) → (new : Kept) → IsSame kept new
@@ -217,10 +217,10 @@ module _ (kept : Kept) (past : Past) (stamp : ℕ) (changes : List PlainChange)
   changes_ready hold new same plans ready next own_stamp is gains loses =
       let n = length past.versions in
       let e : length new.versions ≡ length past.versions = ap length same.versions ∙ number in
-      let stored = stands kept past stamp (changing changes) shows valid accepted in
+      let stored = stands kept past stamp (changing changes) represents valid accepted in
       let own = body_accepted past (a_command stamp (changing changes)) accepted in
       let c = counts (newest_tables past) (newest_database past) stamp (group_of kept n) in_order
-      stored shows.valid.tables.schema shows.valid.database changes own in
+      stored represents.valid.tables.schema represents.valid.database changes own in
       let group = same_groups kept new same n in
       record {
         ready = record {
@@ -231,7 +231,7 @@ module _ (kept : Kept) (past : Past) (stamp : ℕ) (changes : List PlainChange)
               (subst (λ j. AreChanges stamp (next_database (changing changes) past) (group_of new j)
               plans) (sym e)
               (are_changes (newest_tables past) (newest_database past) stamp (group_of kept n)
-              in_order stored shows.valid.database changes (group_of new n) plans
+              in_order stored represents.valid.database changes (group_of new n) plans
               (subst (λ j. AreReady stamp changes (group_of new j) plans) e ready) group.count
               (λ k d l. (
                 (group.each k d l).name,
@@ -249,14 +249,14 @@ module _ (kept : Kept) (past : Past) (stamp : ℕ) (changes : List PlainChange)
 pub schema_is : (kept : Kept) (past : Past) → Represents kept past
     → (nothing : Tables) (versions : List Version) → nothing ≡ no_tables → versions ≡ kept.versions
     → newest_from nothing (map version_of versions) ≡ newest_tables past
-schema_is kept past shows nothing versions n e =
+schema_is kept past represents nothing versions n e =
     ap (λ t. newest_from t (map version_of versions)) n
-    ∙ ap (newest_from no_tables) (ap (map version_of) e ∙ shows.versions)
+    ∙ ap (newest_from no_tables) (ap (map version_of) e ∙ represents.versions)
 
 -- ---- an operator
 
 module _ (kept : Kept) (past : Past) (stamp : ℕ) (op : Operator) (inverse : List Operator)
-    (shows : Represents kept past) (valid : stamp < forever)
+    (represents : Represents kept past) (valid : stamp < forever)
     (accepted : command_fault past (a_command stamp (evolving op inverse)) ≡ None) where
   tests : first_refusal (body_tests past (evolving op inverse)) ≡ None
   tests = body_accepted past (a_command stamp (evolving op inverse)) accepted
@@ -275,8 +275,8 @@ module _ (kept : Kept) (past : Past) (stamp : ℕ) (op : Operator) (inverse : Li
 
   pub stored_now : AreStored (newest_tables past) (newest_database past) stamp (newest_group kept)
   stored_now = subst (λ j. AreStored (newest_tables past) (newest_database past) stamp
-      (group_of kept j)) (sym (as_many kept past shows))
-      (stands kept past stamp (evolving op inverse) shows valid accepted)
+      (group_of kept j)) (sym (as_many kept past represents))
+      (stands kept past stamp (evolving op inverse) represents valid accepted)
 
   pub operator_ready : BodyHolds (evolving op inverse) → (new : Kept) → IsSame kept new
       → new.stored ≡ kept.stored → 1 ≤ new.spare
@@ -313,7 +313,7 @@ module _ (kept : Kept) (past : Past) (stamp : ℕ) (op : Operator) (inverse : Li
             room = room;
             beginnings = beginnings;
             fits = (let few = few_versions in let e = ap length same.versions in let n =
-                as_many kept past shows in omega (arith, few, e, n));
+                as_many kept past represents in omega (arith, few, e, n));
           });
         };
         stamp = own_stamp;

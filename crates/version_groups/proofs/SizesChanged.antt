@@ -120,7 +120,7 @@ place_at (q ∷ places) p (inr m) = (let h = place_at places p m in let l = h.1 
     (suc h.0, omega (arith, l), h.2))
 
 module _ (kept new : Kept) (past : Past) (stamp : ℕ) (changes : List PlainChange)
-    (shows : Represents kept past) (valid : stamp < forever)
+    (represents : Represents kept past) (valid : stamp < forever)
     (accepted : command_fault past (a_command stamp (changing changes)) ≡ None)
     (plans : List (Option PreparedChange)) (m : HasChanges kept new plans)
     (ready : AreChanges stamp (next_database (changing changes) past) (newest_group kept)
@@ -132,18 +132,18 @@ module _ (kept new : Kept) (past : Past) (stamp : ℕ) (changes : List PlainChan
   next = next_database (changing changes) past
 
   number : length kept.versions ≡ length past.versions
-  number = sym (length-map kept.versions version_of) ∙ ap length shows.versions
+  number = sym (length-map kept.versions version_of) ∙ ap length represents.versions
 
   lives : AreLiving kept.stored (newest_places kept)
-  lives = newest_living kept shows.lifelines
+  lives = newest_living kept represents.lifelines
 
   pub stored : AreStored (newest_tables past) now stamp (newest_group kept)
   stored = subst (λ j. AreStored (newest_tables past) now stamp (group_of kept j)) (sym number)
-      (stands kept past stamp (changing changes) shows valid accepted)
+      (stands kept past stamp (changing changes) represents valid accepted)
 
   next_is : IsDatabase (newest_tables past) next
-  next_is = changes_keep (newest_tables past) now changes 0 shows.valid.tables.schema
-      shows.valid.database (body_accepted past (a_command stamp (changing changes)) accepted)
+  next_is = changes_keep (newest_tables past) now changes 0 represents.valid.tables.schema
+      represents.valid.database (body_accepted past (a_command stamp (changing changes)) accepted)
 
   -- a table with its change
   changed : (size : Size) (old u : MadeTable) (plan : Option PreparedChange) → HasSize size old
@@ -164,7 +164,7 @@ module _ (kept new : Kept) (past : Past) (stamp : ℕ) (changes : List PlainChan
       grows now next size old u h lives plan made
       (relation_there old.store.columns (get now size.table)
       (subst (λ (o : Option (List Column)). IsEntry o (get now size.table)) columns
-      (shows.valid.database size.table)))
+      (represents.valid.database size.table)))
       (relation_there old.store.columns (get next size.table)
       (subst (λ (o : Option (List Column)). IsEntry o (get next size.table)) columns
       (next_is size.table)))
@@ -224,7 +224,7 @@ module _ (kept new : Kept) (past : Past) (stamp : ℕ) (changes : List PlainChan
   pub sizes_follow : HaveSizes (past_with past (a_command stamp (changing changes))).sizes
       new.stored
   sizes_follow = record {
-    count = m.stored ∙ shows.sizes.count ∙ sym (length-map past.sizes (size_changed now next));
+    count = m.stored ∙ represents.sizes.count ∙ sym (length-map past.sizes (size_changed now next));
     each = λ k s t l. of_each k s t (let n = length-map past.sizes (size_changed now next) in
         omega (arith, l, n));
   }
@@ -233,18 +233,19 @@ module _ (kept new : Kept) (past : Past) (stamp : ℕ) (changes : List PlainChan
           → (get_or kept.stored k t).last ≡ last
           → HasSize (size_changed now next (get_or past.sizes k s)) (get_or new.stored k t)
       by_last k s t l None e =
-          let c = changed_at k t (lives.among k t (let n = shows.sizes.count in omega (arith, l, n))
+          let c = changed_at k t
+          (lives.among k t (let n = represents.sizes.count in omega (arith, l, n))
           e) in
           changed (get_or past.sizes k s) (get_or kept.stored k t) (get_or new.stored k t) c.plan
-          (shows.sizes.each k s t l) e c.stands c.leads c.made
+          (represents.sizes.each k s t l) e c.stands c.leads c.made
       by_last k s t l (Some j) e =
-          let h = shows.sizes.each k s t l in
+          let h = represents.sizes.each k s t l in
           let size : Size = get_or past.sizes k s in
           let same : size_changed now next size ≡ size =
           ap (λ o. if_living o (living_changed now next size) size) (sym h.last ∙ e) in
           subst (λ (x : Size). HasSize x (get_or new.stored k t)) (sym same)
           (subst (λ (x : MadeTable). HasSize size x)
-          (sym (ended_stays k t j (let n = shows.sizes.count in omega (arith, l, n)) e)) h)
+          (sym (ended_stays k t j (let n = represents.sizes.count in omega (arith, l, n)) e)) h)
 
       of_each : (k : ℕ) (s : Size) (t : MadeTable) → k < length past.sizes
           → HasSize (get_or (map (size_changed now next) past.sizes) k s) (get_or new.stored k t)
@@ -261,7 +262,8 @@ module _ (kept new : Kept) (past : Past) (stamp : ℕ) (changes : List PlainChan
       within = let s = m.stored in omega (arith, l, s)
 
       before : AllBefore (get_or kept.stored p t).store n
-      before = shows.stamps p t n within (all_later kept past stamp (changing changes) shows valid
+      before = represents.stamps p t n within
+          (all_later kept past stamp (changing changes) represents valid
           accepted n later)
 
       stays : get_or new.stored p t ≡ get_or kept.stored p t

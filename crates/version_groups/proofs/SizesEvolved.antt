@@ -181,7 +181,7 @@ relation_in columns (Some (Rows rows)) h = h
 relation_in columns (Some (Lost k i)) h = absurd h
 
 module _ (kept : Kept) (past : Past) (op : Operator) (stamp : ℕ) (database : Database)
-    (shows : Represents kept past) (accepted : op_fault (newest_tables past) op ≡ None)
+    (represents : Represents kept past) (accepted : op_fault (newest_tables past) op ≡ None)
     (number : length kept.versions ≡ length past.versions)
     (whole : IsDatabase (schema_after (newest_tables past) op) database) (begun : List MadeTable)
     (places : List ℕ)
@@ -214,7 +214,7 @@ module _ (kept : Kept) (past : Past) (op : Operator) (stamp : ℕ) (database : D
       (have_joined (map (size_after before op n) past.sizes)
       (map (size_begun (n + 1) database) (filter
       (λ (e : List ℕ × List Column). makes before op e.0) (entries after))) ended begun
-      (have_after before op n past.sizes kept.stored shows.sizes)
+      (have_after before op n past.sizes kept.stored represents.sizes)
       (have_begun database (n + 1) stamp (filter
       (λ (e : List ℕ × List Column). makes before op e.0) (entries after)) begun begin own))
     where
@@ -236,7 +236,7 @@ module _ (kept : Kept) (past : Past) (op : Operator) (stamp : ℕ) (database : D
       (something (get (tables_of past (length past.versions)) name)
       (table_in kept (length past.versions) name) s
       (ap (λ k. table_in kept k name) (sym number) ∙ e)
-      (shows.tables (length past.versions) name (omega arith)))
+      (represents.tables (length past.versions) name (omega arith)))
     where
       something : (o : Option (List Column)) (s : Option Store) (x : Store) → s ≡ Some x
           → RepresentsEntry past (length past.versions) name o s → is_some o ≡ true
@@ -255,7 +255,7 @@ module _ (kept : Kept) (past : Past) (op : Operator) (stamp : ℕ) (database : D
   still_living : AreLiving (ended ++ begun) places
   still_living =
       living_after kept.stored begun (newest_places kept) places before op n accepted
-      (newest_living kept shows.lifelines) known
+      (newest_living kept represents.lifelines) known
       (λ j t l. (begin.each j ([], []) t (let as_many = begin.count in
       omega (arith, l, as_many))).last) placed gone
 
@@ -280,7 +280,7 @@ begins_line version stamp rows m t h = line_is version m t h.name h.first h.last
 
 -- a version that is ready, with the tables that begin with it
 module _ (kept : Kept) (past : Past) (stamp : ℕ) (op : Operator) (inverse : List Operator)
-    (shows : Represents kept past) (number : length kept.versions ≡ length past.versions)
+    (represents : Represents kept past) (number : length kept.versions ≡ length past.versions)
     (accepted : command_fault past (a_command stamp (evolving op inverse)) ≡ None) (made : Version)
     (begun : List MadeTable) (places : List ℕ)
     (ready : IsNextVersion kept (newest_tables past) (next_version stamp op inverse past)
@@ -291,8 +291,9 @@ module _ (kept : Kept) (past : Past) (stamp : ℕ) (op : Operator) (inverse : Li
   -- the carried database is of the next schema
   whole : IsDatabase (schema_after (newest_tables past) op)
       (next_database (evolving op inverse) past)
-  whole = carried_database (newest_tables past) op (newest_database past) shows.valid.tables.schema
-      op_accepted shows.valid.database
+  whole = carried_database (newest_tables past) op
+      (newest_database past) represents.valid.tables.schema
+      op_accepted represents.valid.database
 
   abbrev its : Operator
   its = operator_of made.op
@@ -301,7 +302,7 @@ module _ (kept : Kept) (past : Past) (stamp : ℕ) (op : Operator) (inverse : Li
   same_op = ap (λ (v : PlainVersion). v.op) ready.version
 
   same_before : newest_from no_tables (versions_in kept) ≡ newest_tables past
-  same_before = ap (newest_from no_tables) shows.versions
+  same_before = ap (newest_from no_tables) represents.versions
 
   pub comes_with : ComeWith kept made begun places
   comes_with = record {
@@ -324,7 +325,7 @@ module _ (kept : Kept) (past : Past) (stamp : ℕ) (op : Operator) (inverse : Li
         kept.stored ++ begun) places) (sym same_before)
         (subst (λ o. AreLiving (map (table_after (consumes (newest_tables past) o)
         (length kept.versions)) kept.stored ++ begun) places) (sym same_op)
-        (still_living kept past op stamp (next_database (evolving op inverse) past) shows
+        (still_living kept past op stamp (next_database (evolving op inverse) past) represents
         op_accepted number whole begun places ready.begin ready.placed ready.tables));
   }
 
@@ -344,7 +345,8 @@ module _ (kept : Kept) (past : Past) (stamp : ℕ) (op : Operator) (inverse : Li
     sizes_after_it =
         subst (HaveSizes (past_with past (a_command stamp (evolving op inverse))).sizes)
         (sym stored)
-        (sizes_after kept past op stamp (next_database (evolving op inverse) past) shows op_accepted
+        (sizes_after kept past op stamp
+        (next_database (evolving op inverse) past) represents op_accepted
         number whole begun places ready.begin ready.placed ready.tables)
 
     -- and no stamp in its tables is later than the operator's
@@ -368,7 +370,7 @@ module _ (kept : Kept) (past : Past) (stamp : ℕ) (op : Operator) (inverse : Li
               get_or_append_left ended begun t p (omega (arith, b, as_long))
               ∙ get_or-map (table_after consumed (length kept.versions)) kept.stored p t t b in
               subst (λ (x : MadeTable). AllBefore x.store m) (sym is)
-              (shows.stamps p t m b (still_later past.last stamp m
+              (represents.stamps p t m b (still_later past.last stamp m
               (is_later past.last stamp (stamp_accepted past
               (a_command stamp (evolving op inverse)) accepted)) (omega (arith, later))))
           | inr b ↦
@@ -382,7 +384,7 @@ module _ (kept : Kept) (past : Past) (stamp : ℕ) (op : Operator) (inverse : Li
         ]
 
 pub sizes_begin : (kept new : Kept) (past : Past) (stamp : ℕ) (op : Operator)
-    (inverse : List Operator) (shows : Represents kept past)
+    (inverse : List Operator) (represents : Represents kept past)
     → length kept.versions ≡ length past.versions
     → command_fault past (a_command stamp (evolving op inverse)) ≡ None
     → (made : Version) (begun : List MadeTable) (places : List ℕ)
@@ -390,11 +392,12 @@ pub sizes_begin : (kept new : Kept) (past : Past) (stamp : ℕ) (op : Operator)
     → IsNextVersion kept (newest_tables past) (next_version stamp op inverse past)
     (next_database (evolving op inverse) past) (version_of made) begun places
     → HaveSizes (past_with past (a_command stamp (evolving op inverse))).sizes new.stored
-sizes_begin kept new past stamp op inverse shows number accepted made begun places has ready =
-    sizes_after_it kept past stamp op inverse shows number accepted made begun places ready new has
+sizes_begin kept new past stamp op inverse represents number accepted made begun places has ready =
+    sizes_after_it kept past stamp op inverse represents number accepted made begun places ready new
+    has
 
 pub stamps_begin : (kept new : Kept) (past : Past) (stamp : ℕ) (op : Operator)
-    (inverse : List Operator) (shows : Represents kept past)
+    (inverse : List Operator) (represents : Represents kept past)
     → length kept.versions ≡ length past.versions
     → command_fault past (a_command stamp (evolving op inverse)) ≡ None
     → (made : Version) (begun : List MadeTable) (places : List ℕ)
@@ -402,5 +405,6 @@ pub stamps_begin : (kept new : Kept) (past : Past) (stamp : ℕ) (op : Operator)
     → IsNextVersion kept (newest_tables past) (next_version stamp op inverse past)
     (next_database (evolving op inverse) past) (version_of made) begun places
     → AreUpTo (Some stamp) new.stored
-stamps_begin kept new past stamp op inverse shows number accepted made begun places has ready =
-    stamps_after_it kept past stamp op inverse shows number accepted made begun places ready new has
+stamps_begin kept new past stamp op inverse represents number accepted made begun places has ready =
+    stamps_after_it kept past stamp op inverse represents number accepted made begun places ready
+    new has

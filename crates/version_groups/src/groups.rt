@@ -314,7 +314,7 @@ impl Groups {
     pub fn prepare<'a>(&mut self, judged: Judged<'a>) -> Result<Next<'a>, NoMemory>
         requires { (past : Past) × Represents self.old past × IsAccepted past judged }
         ensures same { IsSame self.old self.new }
-        ensures shows { (past : Past) → Represents self.old past → Represents self.new past }
+        ensures represents { (past : Past) → Represents self.old past → Represents self.new past }
         ensures next { (past : Past) → Represents self.old past → IsAccepted past judged.entry
             → IfOk result (λ next. Prepares self.new past (judged_command judged.entry) next) }
     {
@@ -332,7 +332,7 @@ impl Groups {
     pub fn install(&mut self, next: Next<'_>)
         requires { (past : Past) × (command : PlainCommand) × Represents self.old past
             × IsReady self.old past command next }
-        ensures shows { (past : Past) → (command : PlainCommand) → Represents self.old past
+        ensures represents { (past : Past) → (command : PlainCommand) → Represents self.old past
             → IsReady self.old past command next.entry
             → Represents self.new (past_with past command) }
         ensures earlier { HasEarlier self.old self.new }
@@ -347,7 +347,7 @@ impl Groups {
             × (command_fault past command ≡ None) × (command.stamp < forever)
             × BodyHolds command.body
             × IsStep self.old past command.stamp command.body (step_of step) }
-        ensures shows { (past : Past) → (command : PlainCommand) → Represents self.old past
+        ensures represents { (past : Past) → (command : PlainCommand) → Represents self.old past
             → command_fault past command ≡ None → command.stamp < forever
             → BodyHolds command.body → IsStep self.old past command.stamp command.body
             (step_of step.entry) → Represents self.new (past_with past command) }

@@ -32,10 +32,10 @@ loop-command-preserved L c =
     let at = pair_at commands recs c.requires n c.in-Some.command c.in-Some.rec.now turn.0 turn.1 in
     let push = length_push c.loop-command.yielded (c.in-Some.command, c.in-Some.rec) in
     record {
-      replayed = λ past shows.
-          let before = c.loop-command.invariant.replayed past shows in
+      replayed = λ past represents.
+          let before = c.loop-command.invariant.replayed past represents in
           let done = c.in_ok-replay_command.ensures.replays
-          (past_after past (take n (map command_of commands))) before.shows in
+          (past_after past (take n (map command_of commands))) before.represents in
           subst (λ k. IsReplayed past (take k (map command_of commands))
           c.replay_command.new.state) (sym push)
           (one_more_replayed past commands n c.in-Some.command at.0 at.1 c.loop-command.state
@@ -44,7 +44,7 @@ loop-command-preserved L c =
     }
 
 pub returns-in_err-replay_command-clause-stopped : goal.returns-in_err-replay_command-clause-stopped
-returns-in_err-replay_command-clause-stopped L c past shows place is =
+returns-in_err-replay_command-clause-stopped L c past represents place is =
     let commands = c.args.commands.items in
     let recs = c.args.recs.now in
     let n = length c.loop-command.yielded in
@@ -59,17 +59,17 @@ returns-in_err-replay_command-clause-stopped L c past shows place is =
     let at = pair_at commands recs c.requires n c.in-Some.command c.in-Some.rec.now turn.0 turn.1 in
     let p = err_from_is_err_and c.from_residual.result c.from_residual.ensures.1 in
     let fault : c.in_err-replay_command.field-0.0 ≡ Damaged place = cc (p.1, p.2, is) in
-    let before = c.loop-command.invariant.replayed past shows in
+    let before = c.loop-command.invariant.replayed past represents in
     let here = past_after past (take n (map command_of commands)) in
     let told = told_damage here (command_of c.in-Some.command) c.in-Some.rec.now.at place
     c.in_err-replay_command.field-0.0 c.replay_command.new.state
-    (c.in_err-replay_command.ensures.replays here before.shows) fault in
+    (c.in_err-replay_command.ensures.replays here before.represents) fault in
     stopped past commands n c.in-Some.command at.0 at.1 recs c.loop-command.state place told.1.0
     c.in-Some.rec.now (omega (arith, at.0, c.requires)) before told.1.1
     (told.0 ∙ ap (λ (r : Rec). r.at) at.2)
 
-pub returns-clause-shows : goal.returns-clause-shows
-returns-clause-shows L c past shows =
+pub returns-clause-represents : goal.returns-clause-represents
+returns-clause-represents L c past represents =
     let commands = c.args.commands.items in
     let recs = c.args.recs.now in
     let first : zip_first c.into_iter-command-iterator.result ≡ c.into_iter.result = cc in
@@ -82,4 +82,4 @@ returns-clause-shows L c past shows =
     c.in-None.is c.next.ensures.steps in
     all_replayed past commands (length c.loop-command.yielded) c.loop-command.state
     (omega (arith, ended.1, pairs commands recs c.requires))
-    (c.loop-command.invariant.replayed past shows)
+    (c.loop-command.invariant.replayed past represents)

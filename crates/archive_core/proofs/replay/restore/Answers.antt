@@ -22,7 +22,7 @@ returns-in_err-replay-clause-damaged g c place is places =
     let past = past_recorded kept.prefix in
     let count : c.len-2.result ≡ length c.in_ok-kept.kept.commands.items =
     grind (arith, common_steps, c.len-2.ensures) in
-    let stops = c.in_err-replay.ensures.stopped past kept.shows place fault in
+    let stops = c.in_err-replay.ensures.stopped past kept.represents place fault in
     let after : take (length recs - (length recs - c.len-2.result))
     (drop (length recs - c.len-2.result) recs)
     ≡ drop (length recs - length c.in_ok-kept.kept.commands.items) recs =
@@ -41,7 +41,7 @@ returns-clause-restored g c places =
     let count : c.len.result ≡ length c.in_ok-kept.kept.commands.items =
     grind (arith, common_steps, c.len.ensures) in
     restored _ c.in_ok-kept.kept c.replay.new.state _ kept
-    (c.in_ok-replay.ensures.shows past kept.shows) refl count
+    (c.in_ok-replay.ensures.represents past kept.represents) refl count
 
 pub returns-in_err-replay-clause-cost_open : goal.returns-in_err-replay-clause-cost_open
 returns-in_err-replay-clause-cost_open g c places log same =

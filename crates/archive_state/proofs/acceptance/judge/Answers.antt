@@ -16,7 +16,7 @@ judge_body-requires-clause-counted c =
     c.in_ok-judge_counts.ensures.counts
 
 pub returns-clause-tested : goal.returns-clause-tested
-returns-clause-tested c past shows last =
+returns-clause-tested c past represents last =
     judged_after (count_fault (first_excess (body_of c.args.command.now.1)))
     (stamp_fault past.last c.args.command.now.0)
     (body_tests past (body_of c.args.command.now.1)) c.judge_body.result
@@ -24,12 +24,12 @@ returns-clause-tested c past shows last =
     (ap (λ l. stamp_fault l c.args.command.now.0) (sym last)
     ∙ ap (stamp_fault c.args.last) (sym c.stamp.ensures.value) ∙ c.in_ok-judge_stamp.ensures)
     (subst (λ b. IsTested (first_refusal (body_tests past (body_of b))) c.judge_body.result)
-    c.body.ensures.value (c.judge_body.ensures.tested past shows))
+    c.body.ensures.value (c.judge_body.ensures.tested past represents))
 
 pub returns-clause-found : goal.returns-clause-found
-returns-clause-found c past shows last =
+returns-clause-found c past represents last =
     found_accepted past (command_of c.args.command.now) c.judge_body.result
-    (returns-clause-tested c past shows last)
+    (returns-clause-tested c past represents last)
     (subst (λ b. IfOk c.judge_body.result (λ found. found ≡ schema_found past (body_of b)))
-    c.body.ensures.value (c.judge_body.ensures.schema past shows)) c.stamp.ensures.valid
+    c.body.ensures.value (c.judge_body.ensures.schema past represents)) c.stamp.ensures.valid
     c.in_ok-judge_counts.ensures.constants

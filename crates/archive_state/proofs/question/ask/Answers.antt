@@ -18,22 +18,22 @@ use Rattle.archive_state.proofs.question.ask.Goals as goal
 
 pub answer-requires-clause-shown : goal.answer-requires-clause-shown
 answer-requires-clause-shown g c =
-    let past = c.requires.shows.0 in
-    let shows = c.requires.shows.1 in
+    let past = c.requires.represents.0 in
+    let represents = c.requires.represents.1 in
     let h : IsReady past (query_of c.args.query.now) c.in_ok-atoms.atoms =
-    c.in_ok-atoms.ensures past shows in
+    c.in_ok-atoms.ensures past represents in
     record {
       past = past;
       asked = query_of c.args.query.now;
-      shows = shows;
+      represents = represents;
       accepted =
           record { accepted = h.accepted; atoms = h.atoms };
     }
 
 pub returns-in_err-rows-clause-cost : goal.returns-in_err-rows-clause-cost
-returns-in_err-rows-clause-cost g c = λ past shows pieces are.
+returns-in_err-rows-clause-cost g c = λ past represents pieces are.
     let query = query_of c.args.query.now in
-    let h : IsReady past query c.in_ok-atoms.atoms = c.in_ok-atoms.ensures past shows in
+    let h : IsReady past query c.in_ok-atoms.atoms = c.in_ok-atoms.ensures past represents in
     c.answer.ensures.cost pieces
     (subst (λ (q : PlainQuery). ArePieces (book_of
     (λ r. (goal.Rule-dyn g (r.vtable, r.value)).handles r.value)
@@ -42,7 +42,7 @@ returns-in_err-rows-clause-cost g c = λ past shows pieces are.
     (subst (λ (vs : List PlainVersion). ArePieces
     (book_of (λ r. (goal.Rule-dyn g (r.vtable, r.value)).handles r.value)
     (λ r. (goal.Rule-dyn g (r.vtable, r.value)).answers r.value) c.args.book.now.rules.items) vs
-    (with_atoms (tables_of past query.version) query) pieces) (sym shows.versions)
+    (with_atoms (tables_of past query.version) query) pieces) (sym represents.versions)
     (subst (λ (f : Fault). IfAccepted f (ArePieces
     (book_of (λ r. (goal.Rule-dyn g (r.vtable, r.value)).handles r.value)
     (λ r. (goal.Rule-dyn g (r.vtable, r.value)).answers r.value) c.args.book.now.rules.items)
@@ -50,22 +50,22 @@ returns-in_err-rows-clause-cost g c = λ past shows pieces are.
     are)))
 
 pub returns-clause-asked : goal.returns-clause-asked
-returns-clause-asked g c past shows =
+returns-clause-asked g c past represents =
     let query = query_of c.args.query.now in
-    let h : IsReady past query c.in_ok-atoms.atoms = c.in_ok-atoms.ensures past shows in
+    let h : IsReady past query c.in_ok-atoms.atoms = c.in_ok-atoms.ensures past represents in
     record {
       accepted = h.accepted;
       rows = c.keep.ensures.rows ∙ ap (λ (k : List Keep).
           kept k (entries_of c.in_ok-rows.rows.items)) c.deref.ensures.value
-          ∙ c.in_ok-rows.ensures.rows past query shows
+          ∙ c.in_ok-rows.ensures.rows past query represents
           (record { accepted = h.accepted; atoms = h.atoms });
       periods = c.tells_periods.ensures;
     }
 
 pub returns-clause-cost : goal.returns-clause-cost
-returns-clause-cost g c = λ past shows pieces are.
+returns-clause-cost g c = λ past represents pieces are.
     let query = query_of c.args.query.now in
-    let h : IsReady past query c.in_ok-atoms.atoms = c.in_ok-atoms.ensures past shows in
+    let h : IsReady past query c.in_ok-atoms.atoms = c.in_ok-atoms.ensures past represents in
     c.answer.ensures.cost pieces
     (subst (λ (q : PlainQuery). ArePieces (book_of
     (λ r. (goal.Rule-dyn g (r.vtable, r.value)).handles r.value)
@@ -74,7 +74,7 @@ returns-clause-cost g c = λ past shows pieces are.
     (subst (λ (vs : List PlainVersion). ArePieces
     (book_of (λ r. (goal.Rule-dyn g (r.vtable, r.value)).handles r.value)
     (λ r. (goal.Rule-dyn g (r.vtable, r.value)).answers r.value) c.args.book.now.rules.items) vs
-    (with_atoms (tables_of past query.version) query) pieces) (sym shows.versions)
+    (with_atoms (tables_of past query.version) query) pieces) (sym represents.versions)
     (subst (λ (f : Fault). IfAccepted f (ArePieces
     (book_of (λ r. (goal.Rule-dyn g (r.vtable, r.value)).handles r.value)
     (λ r. (goal.Rule-dyn g (r.vtable, r.value)).answers r.value) c.args.book.now.rules.items)
@@ -82,14 +82,14 @@ returns-clause-cost g c = λ past shows pieces are.
     are)))
 
 pub returns-clause-borrowed : goal.returns-clause-borrowed
-returns-clause-borrowed g c = λ past shows pieces are lents spared.
+returns-clause-borrowed g c = λ past represents pieces are lents spared.
     let query = query_of c.args.query.now in
-    let h : IsReady past query c.in_ok-atoms.atoms = c.in_ok-atoms.ensures past shows in
+    let h : IsReady past query c.in_ok-atoms.atoms = c.in_ok-atoms.ensures past represents in
     each_by_values (IsBorrowedBy (IsAnswered past query.version (slice_of query.when)) lents 1
     (query_asked past query).branches) c.in_ok-rows.rows.items c.keep.new.rows.items
     c.keep.ensures.values
     (subst (λ (q : PlainQuery). AreBorrowedBy past q lents c.in_ok-rows.rows.items) h.atoms
-    (c.in_ok-rows.ensures.borrowed past shows pieces
+    (c.in_ok-rows.ensures.borrowed past represents pieces
     (subst (λ (q : PlainQuery). ArePieces (book_of
     (λ r. (goal.Rule-dyn g (r.vtable, r.value)).handles r.value)
     (λ r. (goal.Rule-dyn g (r.vtable, r.value)).answers r.value) c.args.book.now.rules.items)
@@ -97,7 +97,7 @@ returns-clause-borrowed g c = λ past shows pieces are lents spared.
     (subst (λ (vs : List PlainVersion). ArePieces
     (book_of (λ r. (goal.Rule-dyn g (r.vtable, r.value)).handles r.value)
     (λ r. (goal.Rule-dyn g (r.vtable, r.value)).answers r.value) c.args.book.now.rules.items) vs
-    (with_atoms (tables_of past query.version) query) pieces) (sym shows.versions)
+    (with_atoms (tables_of past query.version) query) pieces) (sym represents.versions)
     (subst (λ (f : Fault). IfAccepted f (ArePieces
     (book_of (λ r. (goal.Rule-dyn g (r.vtable, r.value)).handles r.value)
     (λ r. (goal.Rule-dyn g (r.vtable, r.value)).answers r.value) c.args.book.now.rules.items)
@@ -106,9 +106,9 @@ returns-clause-borrowed g c = λ past shows pieces are lents spared.
     lents spared))
 
 pub returns-clause-least : goal.returns-clause-least
-returns-clause-least g c = λ past shows pieces are e m.
+returns-clause-least g c = λ past represents pieces are e m.
     let query = query_of c.args.query.now in
-    let h : IsReady past query c.in_ok-atoms.atoms = c.in_ok-atoms.ensures past shows in
+    let h : IsReady past query c.in_ok-atoms.atoms = c.in_ok-atoms.ensures past represents in
     c.in_ok-rows.ensures.least pieces
     (subst (λ (q : PlainQuery). ArePieces (book_of
     (λ r. (goal.Rule-dyn g (r.vtable, r.value)).handles r.value)
@@ -117,7 +117,7 @@ returns-clause-least g c = λ past shows pieces are e m.
     (subst (λ (vs : List PlainVersion). ArePieces
     (book_of (λ r. (goal.Rule-dyn g (r.vtable, r.value)).handles r.value)
     (λ r. (goal.Rule-dyn g (r.vtable, r.value)).answers r.value) c.args.book.now.rules.items) vs
-    (with_atoms (tables_of past query.version) query) pieces) (sym shows.versions)
+    (with_atoms (tables_of past query.version) query) pieces) (sym represents.versions)
     (subst (λ (f : Fault). IfAccepted f (ArePieces
     (book_of (λ r. (goal.Rule-dyn g (r.vtable, r.value)).handles r.value)
     (λ r. (goal.Rule-dyn g (r.vtable, r.value)).answers r.value) c.args.book.now.rules.items)

@@ -12,29 +12,29 @@ use Rattle.archive_state.proofs.question.explain_query.Goals as goal
 
 pub explain-requires-clause-shown : goal.explain-requires-clause-shown
 explain-requires-clause-shown g c =
-    let past = c.requires.shows.0 in
-    let shows = c.requires.shows.1 in
+    let past = c.requires.represents.0 in
+    let represents = c.requires.represents.1 in
     let h : IsReady past (query_of c.args.query.now) c.in_ok-atoms.atoms =
-    c.in_ok-atoms.ensures past shows in
+    c.in_ok-atoms.ensures past represents in
     record {
       past = past;
       asked = query_of c.args.query.now;
-      shows = shows;
+      represents = represents;
       accepted =
           record { accepted = h.accepted; atoms = h.atoms };
     }
 
 pub returns : goal.returns
-returns g c = λ past shows.
+returns g c = λ past represents.
     let query = query_of c.args.query.now in
-    let h : IsReady past query c.in_ok-atoms.atoms = c.in_ok-atoms.ensures past shows in
+    let h : IsReady past query c.in_ok-atoms.atoms = c.in_ok-atoms.ensures past represents in
     record {
       accepted = h.accepted;
       are = subst (λ (vs : List PlainVersion).
           ArePieces (book_of (λ r. (goal.Rule-dyn g (r.vtable, r.value)).handles r.value)
           (λ r. (goal.Rule-dyn g (r.vtable, r.value)).answers r.value) c.args.book.now.rules.items)
           vs (with_atoms (tables_of past query.version) query)
-          (all_explained c.in_ok-pieces.pieces.items)) shows.versions
+          (all_explained c.in_ok-pieces.pieces.items)) represents.versions
           (subst (λ (q : PlainQuery). ArePieces
           (book_of (λ r. (goal.Rule-dyn g (r.vtable, r.value)).handles r.value)
           (λ r. (goal.Rule-dyn g (r.vtable, r.value)).answers r.value)
@@ -49,5 +49,5 @@ returns g c = λ past shows.
           (book_of (λ r. (goal.Rule-dyn g (r.vtable, r.value)).handles r.value)
           (λ r. (goal.Rule-dyn g (r.vtable, r.value)).answers r.value)
           c.args.book.now.rules.items) vs (with_atoms (tables_of past query.version) query))
-          shows.versions;
+          represents.versions;
     }

@@ -11,12 +11,13 @@ first_loss_in_slice-requires-clause-asked c = within_kept c.args.groups.now c.re
     c.args.query.now.version c.requires.1 c.requires.2.there
 
 pub returns-in-None : goal.returns-in-None
-returns-in-None c = λ past shows h. none_lost past (query_of c.args.query.now) h.few h.there
-    c.in_ok-loss.loss (c.in_ok-loss.ensures past shows) c.in-None.is h.tests
+returns-in-None c = λ past represents h. none_lost past (query_of c.args.query.now) h.few h.there
+    c.in_ok-loss.loss (c.in_ok-loss.ensures past represents) c.in-None.is h.tests
 
 pub returns-in-Some : goal.returns-in-Some
-returns-in-Some c = λ past shows h.
+returns-in-Some c = λ past represents h.
     one_lost past (query_of c.args.query.now) h.few h.there c.in_ok-loss.loss c.in-Some.loss
-    c.no_way_back.result (c.in_ok-loss.ensures past shows) c.in-Some.is
+    c.no_way_back.result (c.in_ok-loss.ensures past represents) c.in-Some.is
     (c.no_way_back.ensures ∙ ap (λ (vs : List PlainVersion). no_way_back vs c.in-Some.loss)
-    (ap (λ (vs : List Version). map version_of vs) c.versions.ensures ∙ shows.versions)) h.tests
+    (ap (λ (vs : List Version). map version_of vs) c.versions.ensures
+    ∙ represents.versions)) h.tests

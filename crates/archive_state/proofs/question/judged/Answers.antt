@@ -8,11 +8,11 @@ judge_losses-requires c = (
 )
 
 pub returns : goal.returns
-returns c = λ past shows.
-    let schema = c.in_ok-schema.ensures past shows in
+returns c = λ past represents.
+    let schema = c.in_ok-schema.ensures past represents in
     let h = c.in_ok-atoms.ensures past schema in
     record {
-      accepted = c.in_ok-judge_losses.ensures past shows h;
+      accepted = c.in_ok-judge_losses.ensures past represents h;
       there = h.there;
       atoms = h.atoms;
       lasting = h.lasting;

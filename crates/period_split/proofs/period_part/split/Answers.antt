@@ -27,11 +27,13 @@ pub returns-clause-parts : goal.returns-clause-parts
 returns-clause-parts c = made (goal.at.returns-clause-parts c).In_ok-put_part
 
 pub returns-clause-each : goal.returns-clause-each
-returns-clause-each c = λ past shows m l e. each_moment c.args.groups.now past c.args.slice shows
+returns-clause-each c = λ past represents m l e. each_moment c.args.groups.now past c.args.slice
+    represents
     c.put_part.new.parts.items (made (goal.at.returns-clause-each c).In_ok-put_part) m l e
 
 pub returns-clause-only : goal.returns-clause-only
-returns-clause-only c = λ past shows k m h. only_moments c.args.groups.now past c.args.slice shows
+returns-clause-only c = λ past represents k m h. only_moments c.args.groups.now past c.args.slice
+    represents
     c.put_part.new.parts.items (made (goal.at.returns-clause-only c).In_ok-put_part) k m h
 
 pub returns-clause-ascending : goal.returns-clause-ascending

@@ -68,12 +68,12 @@ returns-in_err-atoms-clause-cost g c =
 
 pub answer_choices-requires : goal.answer_choices-requires
 answer_choices-requires g c =
-    are_numbered c.requires.shows.0 c.args.route.now (borrowed c.deref-3.result.now)
+    are_numbered c.requires.represents.0 c.args.route.now (borrowed c.deref-3.result.now)
     (test c.args.branch.now.cond) 0 c.deref-2.result.now c.in_ok-atoms.atoms.items
-    (c.in_ok-atoms.ensures.atoms c.requires.shows.0 c.requires.shows.1)
+    (c.in_ok-atoms.ensures.atoms c.requires.represents.0 c.requires.represents.1)
 
 pub returns-clause-rows : goal.returns-clause-rows
-returns-clause-rows g c = λ past shows m inside.
+returns-clause-rows g c = λ past represents m inside.
     let b : PlainBranch = branch_of c.args.branch.now in
     let same : borrowed c.deref-3.result.now ≡ all_references b.outs b.cond =
     ap borrowed c.deref-3.ensures.value ∙ c.in_ok-gather_references.ensures
@@ -81,7 +81,7 @@ returns-clause-rows g c = λ past shows m inside.
     ++ all_references (map tree xs) (test c.args.branch.now.cond)) c.deref.ensures.value
     ∙ ap (λ (rs : List (Bor ColRef)). borrowed rs ++ all_references b.outs b.cond)
     c.new-references.ensures.items in
-    let read = c.in_ok-atoms.ensures.atoms past shows in
+    let read = c.in_ok-atoms.ensures.atoms past represents in
     IfOk-weaker c.answer_choices.result _ _
     (λ rows q. branch_rows past c.args.route.now b (borrowed c.deref-3.result.now)
     c.deref-2.result.now c.in_ok-atoms.atoms.items same c.deref-2.ensures.value read m inside

@@ -26,10 +26,11 @@ use Rattle.query_exec.proofs.branch.answer_branches.Goals as goal
 pub loop-branch-init : goal.loop-branch-init
 loop-branch-init g c = record {
   may = c.requires.read;
-  rows = λ past shows m inside. ap (λ (rs : List TimedRow). rows_at rs m) c.new-rows.ensures.items
+  rows = λ past represents m inside. ap (λ (rs : List TimedRow). rows_at rs m)
+      c.new-rows.ensures.items
       ∙ none_answered (branch_answers (tables_of past c.args.route.now.asked)
       (migrated past m c.args.route.now.asked)) m;
-  borrowed = λ past shows number lents h.
+  borrowed = λ past represents number lents h.
       let e : number ≡ number + 0 = omega arith in (
         subst (EachRow (IsBorrowedBy (IsAnswered past c.args.route.now.asked c.args.route.now.slice)
             lents number (branches_of c.args.branches.now))) (sym c.new-rows.ensures.items) tt,
@@ -82,14 +83,14 @@ loop-branch-preserved g c =
     record {
       may = (may_next_branch bs i b below is (versions_in c.args.groups.now) c.args.route.now
           c.loop-branch.invariant.may).1;
-      rows = λ past shows m inside.
+      rows = λ past represents m inside.
           next_branch bs i b below is (tables_of past c.args.route.now.asked)
           (migrated past m c.args.route.now.asked) c.loop-branch.rows.items
           c.in_ok-news.news.items c.put_rows.new.rows.items m c.in_ok-put_rows.ensures.items
-          (c.loop-branch.invariant.rows past shows m inside)
-          (c.in_ok-news.ensures.rows past shows m inside);
-      borrowed = λ past shows number lents h.
-          let before = c.loop-branch.invariant.borrowed past shows number lents h in
+          (c.loop-branch.invariant.rows past represents m inside)
+          (c.in_ok-news.ensures.rows past represents m inside);
+      borrowed = λ past represents number lents h.
+          let before = c.loop-branch.invariant.borrowed past represents number lents h in
           let both = next_branch_pieces c.args.groups.now lents
           (book_of (λ r. (goal.Rule-dyn g (r.vtable, r.value)).handles r.value)
           (λ r. (goal.Rule-dyn g (r.vtable, r.value)).answers r.value)
@@ -99,7 +100,7 @@ loop-branch-preserved g c =
                 number bs i b below is c.loop-branch.rows.items c.in_ok-news.news.items
                 c.put_rows.new.rows.items c.in_ok-put_rows.ensures.items before.0
                 (λ row m. row_answered past c.args.route.now.asked c.args.route.now.slice
-                (branch_of b) c.in_ok-news.news.items (c.in_ok-news.ensures.rows past shows)
+                (branch_of b) c.in_ok-news.news.items (c.in_ok-news.ensures.rows past represents)
                 c.in_ok-news.ensures.inside row m (c.have_moments.ensures row
                 (subst (In row) (sym c.deref.ensures.value) m)))
                 (c.in_ok-news.ensures.borrowed (number + i) lents both.0),
@@ -172,8 +173,8 @@ returns-in_err-put_rows-clause-cost g c =
     (λ own k. c.answer_branch.ensures.cost (number + i) own k))
 
 pub returns-clause-rows : goal.returns-clause-rows
-returns-clause-rows g c = λ past shows m inside.
-    c.loop-branch.invariant.rows past shows m inside
+returns-clause-rows g c = λ past represents m inside.
+    c.loop-branch.invariant.rows past represents m inside
     ∙ ap (λ (bs : List Branch). plain (tables_of past c.args.route.now.asked) (branches_of bs)
     (migrated past m c.args.route.now.asked))
     (take_all c.loop-branch.branch-index c.args.branches.now c.loop-branch-test.false)
@@ -190,8 +191,8 @@ returns-clause-cost g c = λ number alive h.
     (c.loop-branch.invariant.count number alive h)
 
 pub returns-clause-borrowed : goal.returns-clause-borrowed
-returns-clause-borrowed g c = λ past shows number lents h.
-    (c.loop-branch.invariant.borrowed past shows number lents h).0
+returns-clause-borrowed g c = λ past represents number lents h.
+    (c.loop-branch.invariant.borrowed past represents number lents h).0
 
 pub returns-clause-least : goal.returns-clause-least
 returns-clause-least g c = λ number e h.

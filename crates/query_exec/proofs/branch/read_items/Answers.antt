@@ -27,7 +27,7 @@ pub loop-item-init : goal.loop-item-init
 loop-item-init g c = record {
   place = refl;
   may = c.requires.read;
-  read = λ past shows. subst (λ (xs : List Atom).
+  read = λ past represents. subst (λ (xs : List Atom).
       AreRead past c.args.route.now (borrowed c.args.references.now) (test c.args.cond.now) 0 [] xs)
       (sym c.new-atoms.ensures.items) tt;
   all_borrowed = λ branch lents h. (
@@ -72,13 +72,13 @@ loop-item-preserved g c =
     record {
       place = ap (λ (j : ℕ). j + 1) c.loop-item.invariant.place;
       may = next.1;
-      read = λ past shows.
+      read = λ past represents.
           next_read past c.args.route.now rs cd from i x below is c.loop-item.atoms.items
           c.push.new.self.items c.in_ok-atom.atom c.in_ok-push.ensures.items
-          (c.loop-item.invariant.read past shows)
+          (c.loop-item.invariant.read past represents)
           (subst (λ (j : ℕ). IsRead past c.args.route.now j x.0 (own_read j rs cd)
           c.in_ok-atom.atom) c.loop-item.invariant.place
-          (c.in_ok-atom.ensures.atom past shows));
+          (c.in_ok-atom.ensures.atom past represents));
       all_borrowed = λ branch lents h.
           let before = c.loop-item.invariant.all_borrowed branch lents h in
           let both = next_item c.args.groups.now lents

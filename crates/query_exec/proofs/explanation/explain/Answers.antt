@@ -15,14 +15,15 @@ explain_branches-requires-clause-read g c =
     let h = c.requires.shown in
     subst (λ (bs : List Branch). MayBranches (versions_in c.args.groups.now) c.in_ok-route.route
     (branches_of bs)) (sym c.deref.ensures.value)
-    (may_all c.args.groups.now h.past h.asked (query_of c.args.query.now) h.shows h.accepted
+    (may_all c.args.groups.now h.past h.asked (query_of c.args.query.now) h.represents h.accepted
     c.in_ok-route.route c.in_ok-route.ensures.route c.in_ok-route.ensures.asked
     (c.in_ok-route.ensures.slice ∙ c.slice-slice.ensures.value))
 
 pub explain_branches-requires-clause-few : goal.explain_branches-requires-clause-few
 explain_branches-requires-clause-few g c =
     let h = c.requires.shown in
-    few_branches c.args.groups.now h.past h.asked (query_of c.args.query.now) h.shows h.accepted
+    few_branches c.args.groups.now h.past h.asked
+    (query_of c.args.query.now) h.represents h.accepted
     c.deref.result.now (ap branches_of c.deref.ensures.value)
 
 pub returns-clause-are : goal.returns-clause-are

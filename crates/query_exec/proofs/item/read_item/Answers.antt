@@ -28,21 +28,21 @@ read_table-requires-clause-read g c =
 
 pub invariant_of-result : goal.invariant_of-result
 invariant_of-result g c =
-    let past = c.requires.shows.0 in
-    let shows = c.requires.shows.1 in
+    let past = c.requires.represents.0 in
+    let represents = c.requires.represents.1 in
     record {
-      own = item_own c.args.groups.now past shows c.args.route.now c.args.schema.now
+      own = item_own c.args.groups.now past represents c.args.route.now c.args.schema.now
           c.requires.schema c.args.place c.args.table.now
           (own_read c.args.place (borrowed c.args.references.now) (test c.args.cond.now))
           (read_asked c.in_ok-question.question) c.deref.result.now c.in_ok-columns.columns.items
           c.in_ok-rows.rows.items c.in_ok-columns.ensures c.deref.ensures.value
-          c.in_ok-question.ensures (c.in_ok-rows.ensures.rows past shows);
-      fit = item_fit c.args.groups.now past shows c.args.route.now c.args.schema.now
+          c.in_ok-question.ensures (c.in_ok-rows.ensures.rows past represents);
+      fit = item_fit c.args.groups.now past represents c.args.route.now c.args.schema.now
           c.requires.schema c.args.place c.args.table.now
           (own_read c.args.place (borrowed c.args.references.now) (test c.args.cond.now))
           (read_asked c.in_ok-question.question) c.deref.result.now c.in_ok-columns.columns.items
           c.in_ok-rows.rows.items c.in_ok-columns.ensures c.deref.ensures.value
-          c.in_ok-question.ensures (c.in_ok-rows.ensures.rows past shows);
+          c.in_ok-question.ensures (c.in_ok-rows.ensures.rows past represents);
     }
 
 pub returns-in_err-rows-clause-cost : goal.returns-in_err-rows-clause-cost
@@ -55,20 +55,20 @@ returns-in_err-rows-clause-cost g c = λ branch atom alive h.
     c.args.route.now.parts.items) alive) (sym c.in_ok-question.ensures) h)
 
 pub returns-clause-atom : goal.returns-clause-atom
-returns-clause-atom g c = λ past shows. record {
+returns-clause-atom g c = λ past represents. record {
   number = refl;
-  columns = columns_are c.args.groups.now past shows c.args.route.now c.args.schema.now
+  columns = columns_are c.args.groups.now past represents c.args.route.now c.args.schema.now
       c.requires.schema c.args.place c.args.table.now
       (own_read c.args.place (borrowed c.args.references.now) (test c.args.cond.now))
       (read_asked c.in_ok-question.question) c.deref.result.now c.in_ok-columns.columns.items
       c.in_ok-rows.rows.items c.in_ok-columns.ensures c.deref.ensures.value c.in_ok-question.ensures
-      (c.in_ok-rows.ensures.rows past shows);
-  rows = item_rows_are c.args.groups.now past shows c.args.route.now c.args.schema.now
+      (c.in_ok-rows.ensures.rows past represents);
+  rows = item_rows_are c.args.groups.now past represents c.args.route.now c.args.schema.now
       c.requires.schema c.args.place c.args.table.now
       (own_read c.args.place (borrowed c.args.references.now) (test c.args.cond.now))
       (read_asked c.in_ok-question.question) c.deref.result.now c.in_ok-columns.columns.items
       c.in_ok-rows.rows.items c.in_ok-columns.ensures c.deref.ensures.value c.in_ok-question.ensures
-      (c.in_ok-rows.ensures.rows past shows);
+      (c.in_ok-rows.ensures.rows past represents);
 }
 
 pub returns-clause-cost : goal.returns-clause-cost
@@ -81,8 +81,8 @@ returns-clause-cost g c = λ branch atom alive h. c.read_table.ensures.cost bran
 
 pub returns-clause-borrowed : goal.returns-clause-borrowed
 returns-clause-borrowed g c = λ branch lents spares.
-    let past = c.requires.shows.0 in
-    let shows = c.requires.shows.1 in
+    let past = c.requires.represents.0 in
+    let represents = c.requires.represents.1 in
     let own : Read =
     own_read c.args.place (borrowed c.args.references.now) (test c.args.cond.now) in
     let book = book_of (λ r. (goal.Rule-dyn g (r.vtable, r.value)).handles r.value)
@@ -90,11 +90,11 @@ returns-clause-borrowed g c = λ branch lents spares.
     let columns : List Column = named own.names (columns_of (tables_of past c.args.route.now.asked)
     c.args.table.now) in
     let are : c.in_ok-columns.columns.items ≡ columns_at c.args.place columns =
-    columns_are c.args.groups.now past shows c.args.route.now c.args.schema.now
+    columns_are c.args.groups.now past represents c.args.route.now c.args.schema.now
     c.requires.schema c.args.place c.args.table.now own
     (read_asked c.in_ok-question.question) c.deref.result.now c.in_ok-columns.columns.items
     c.in_ok-rows.rows.items c.in_ok-columns.ensures c.deref.ensures.value
-    c.in_ok-question.ensures (c.in_ok-rows.ensures.rows past shows) in
+    c.in_ok-question.ensures (c.in_ok-rows.ensures.rows past represents) in
     subst (λ (cs : List AtomColumn). RowsLend (lents branch) cs c.in_ok-rows.rows.items)
     (sym are)
     (c.in_ok-rows.ensures.borrowed branch (c.args.place + 1) (lents branch)
@@ -106,7 +106,7 @@ returns-clause-borrowed g c = λ branch lents spares.
     (sym c.in_ok-question.ensures)
     (λ e alive. item_plain (versions_in c.args.groups.now) book c.known.ensures c.args.route.now
     c.requires.route c.args.table.now own c.requires.read c.args.groups.now columns
-    (item_names c.args.groups.now past shows c.args.route.now c.args.table.now own
+    (item_names c.args.groups.now past represents c.args.route.now c.args.table.now own
     c.requires.read)
     branch c.args.place lents e alive (spares e alive))))
 

@@ -19,17 +19,17 @@ decided-requires-clause-there c =
     (let e = ap (λ (vs : List Version). length vs) c.versions.ensures in omega (arith, e)))
 
 pub returns : goal.returns
-returns c = λ past shows.
+returns c = λ past represents.
     let query = query_of c.args.query.now in
     IfOk-weaker c.decided.result _ _
     (λ loss e. e
     ∙ ap (λ (vs : List PlainVersion). first_among vs query c.deref.result.now)
-    (ap (λ (vs : List Version). map version_of vs) c.versions.ensures ∙ shows.versions)
+    (ap (λ (vs : List Version). map version_of vs) c.versions.ensures ∙ represents.versions)
     ∙ ap (λ (ps : List Part). first_among past.versions query ps) c.deref.ensures.value
     ∙ first_of_parts past query c.in_ok-parts.parts.items c.in_ok-parts.ensures.ascending
     (subst (λ (s : Span). s.end ≤ forever) c.slice-slice.ensures.value c.ends_in_time.ensures)
-    (λ m l i. c.in_ok-parts.ensures.each past shows m l
+    (λ m l i. c.in_ok-parts.ensures.each past represents m l
     (subst (λ (s : Span). covers s m ≡ true) (sym c.slice-slice.ensures.value) i))
-    (λ k m h. (let f = c.in_ok-parts.ensures.only past shows k m h in
+    (λ k m h. (let f = c.in_ok-parts.ensures.only past represents k m h in
     (subst (λ (s : Span). covers s m ≡ true) c.slice-slice.ensures.value f.0, f.1))))
     c.decided.ensures

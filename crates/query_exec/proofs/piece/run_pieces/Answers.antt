@@ -32,14 +32,15 @@ pub loop-piece-preserved : goal.loop-piece-preserved
 loop-piece-preserved g c =
     let below : c.loop-piece.piece-index < length c.args.pieces.now = omega arith in
     record {
-      rows = λ past shows m inside meant h.
+      rows = λ past represents m inside meant h.
           next_run c.args.pieces.now c.loop-piece.piece-index c.piece-item.result below
           c.piece-item.is (tables_of past h.version) (database_at past m)
           c.loop-piece.rows.items c.in_ok-news.news.items c.put_rows.new.rows.items m
           c.in_ok-put_rows.ensures.items
-          (c.loop-piece.invariant.rows past shows m inside meant h)
+          (c.loop-piece.invariant.rows past represents m inside meant h)
           (c.in_ok-news.ensures.stored m inside
-          ∙ piece_meant c.args.groups.now past shows c.args.version (pieces_of c.args.pieces.now) m
+          ∙ piece_meant c.args.groups.now past represents c.args.version
+          (pieces_of c.args.pieces.now) m
           meant h (piece_of c.piece-item.result)
           (in_map piece_of c.piece-item.result c.args.pieces.now
           (among_taken c.args.pieces.now c.loop-piece.piece-index c.piece-item.result below
@@ -72,7 +73,7 @@ loop-piece-preserved g c =
 
 pub loop-piece-init : goal.loop-piece-init
 loop-piece-init g c = record {
-  rows = λ past shows m inside meant h. ap (λ (rs : List TimedRow). rows_at rs m)
+  rows = λ past represents m inside meant h. ap (λ (rs : List TimedRow). rows_at rs m)
       c.new-rows.ensures.items ∙ none_run (tables_of past h.version) (database_at past m) m;
   inside = λ m outside. ap (λ (rs : List TimedRow). rows_at rs m) c.new-rows.ensures.items
       ∙ nothing_at m;
@@ -89,8 +90,8 @@ returns-in_err-put_rows-clause-cost g c =
     omega (arith, c.loop-piece.invariant.count, c.in_ok-news.ensures.counted, left)
 
 pub returns-clause-rows : goal.returns-clause-rows
-returns-clause-rows g c = λ past shows m inside meant h.
-    c.loop-piece.invariant.rows past shows m inside meant h
+returns-clause-rows g c = λ past represents m inside meant h.
+    c.loop-piece.invariant.rows past represents m inside meant h
     ∙ ap (λ (ps : List Piece). all_mean (tables_of past h.version) (database_at past m)
     (pieces_of ps)) (take_all c.loop-piece.piece-index c.args.pieces.now
     c.loop-piece-test.false)

@@ -32,7 +32,7 @@ answer_branches-requires-clause-read g c =
     let h = c.requires.shown in
     subst (λ (bs : List Branch). MayBranches (versions_in c.args.groups.now) c.in_ok-route.route
     (branches_of bs)) (sym c.deref.ensures.value)
-    (may_all c.args.groups.now h.past h.asked (query_of c.args.query.now) h.shows h.accepted
+    (may_all c.args.groups.now h.past h.asked (query_of c.args.query.now) h.represents h.accepted
     c.in_ok-route.route c.in_ok-route.ensures.route c.in_ok-route.ensures.asked
     (c.in_ok-route.ensures.slice ∙ c.slice-slice.ensures.value))
 
@@ -47,12 +47,12 @@ returns-in_err-rows-clause-cost g c = λ pieces h. c.answer_branches.ensures.cos
     (ap branches_of c.deref.ensures.value))) h)
 
 pub returns-clause-rows : goal.returns-clause-rows
-returns-clause-rows g c = λ past asked shows accepted.
-    whole_answer c.args.groups.now past asked (query_of c.args.query.now) shows accepted
+returns-clause-rows g c = λ past asked represents accepted.
+    whole_answer c.args.groups.now past asked (query_of c.args.query.now) represents accepted
     c.in_ok-route.route c.in_ok-route.ensures.route c.in_ok-route.ensures.asked
     (c.in_ok-route.ensures.slice ∙ c.slice-slice.ensures.value)
     (λ m. rows_at c.in_ok-rows.rows.items m)
-    (λ m inside. c.in_ok-rows.ensures.rows past shows m inside
+    (λ m inside. c.in_ok-rows.ensures.rows past represents m inside
     ∙ ap (λ (bs : List Branch). plain (tables_of past c.in_ok-route.route.asked) (branches_of bs)
     (migrated past m c.in_ok-route.route.asked)) c.deref.ensures.value)
     (book_of (λ r. (goal.Rule-dyn g (r.vtable, r.value)).handles r.value)
@@ -65,12 +65,12 @@ returns-clause-rows g c = λ past asked shows accepted.
     c.coalesce_in_place.ensures.listing)
 
 pub returns-clause-listed : goal.returns-clause-listed
-returns-clause-listed g c = λ past asked shows accepted.
-    whole_listing c.args.groups.now past asked (query_of c.args.query.now) shows accepted
+returns-clause-listed g c = λ past asked represents accepted.
+    whole_listing c.args.groups.now past asked (query_of c.args.query.now) represents accepted
     c.in_ok-route.route c.in_ok-route.ensures.route c.in_ok-route.ensures.asked
     (c.in_ok-route.ensures.slice ∙ c.slice-slice.ensures.value)
     (λ m. rows_at c.in_ok-rows.rows.items m)
-    (λ m inside. c.in_ok-rows.ensures.rows past shows m inside
+    (λ m inside. c.in_ok-rows.ensures.rows past represents m inside
     ∙ ap (λ (bs : List Branch). plain (tables_of past c.in_ok-route.route.asked) (branches_of bs)
     (migrated past m c.in_ok-route.route.asked)) c.deref.ensures.value)
     (entries_of c.coalesce_in_place.new.rows.items)

@@ -27,6 +27,6 @@ returns-clause-route c =
     (c.in_ok-later.ensures ∙ ap (λ (ps : List Part). on_from c.args.asked ps)
     c.deref-2.ensures.value)
     (λ m l i. (
-      version_at c.requires.shows.0 m,
-      c.in_ok-parts.ensures.each c.requires.shows.0 c.requires.shows.1 m l i,
+      version_at c.requires.represents.0 m,
+      c.in_ok-parts.ensures.each c.requires.represents.0 c.requires.represents.1 m l i,
     ))

@@ -32,7 +32,7 @@ use Rattle.query_exec.proofs.table.read_parts.Goals as goal
 pub runs-init : goal.runs-init
 runs-init g c = record {
   within = omega arith;
-  rows = λ past shows relation means. subst (λ (rs : List TimedRow).
+  rows = λ past represents relation means. subst (λ (rs : List TimedRow).
       IsGathered relation [] (entries_of rs)) (sym c.new-rows.ensures.items)
       (nothing_gathered relation);
   borrowed = λ lent columns h. subst (RowsLend lent columns) (sym c.new-rows.ensures.items) tt;
@@ -49,11 +49,11 @@ read_run-requires g c =
     let below : i < length plan = c.runs-test.true in
     let is : first ≡ get_or plan i first = c.index-plan-at.is in
     let past = c.requires.ready.0 in
-    let shows = c.requires.ready.1 in
+    let represents = c.requires.ready.1 in
     let ready = c.requires.ready.2 first (among_taken plan i first below is) in (
       past,
-      shows,
-      within_there c.args.groups.now past shows first.part ready.0,
+      represents,
+      within_there c.args.groups.now past represents first.part ready.0,
       subst (λ (ps : List Piece). AllTyped (tables_of past first.part.1) (pieces_of ps))
           (sym c.deref.ensures.value) ready.1,
     )
@@ -98,26 +98,26 @@ runs-preserved g c =
     let own : (past : Past) → Represents kept past → (x : PartPieces) → In x plan
     → IsOwn (versions_in kept) x.part × AllTyped (tables_of past x.part.1)
     (pieces_of x.pieces.items) =
-    λ past shows x m.
+    λ past represents x m.
     let h = c.requires.ready.2 x m in (
       h.0,
       subst (λ (vs : List PlainVersion). AllTyped (tables_from no_tables vs x.part.1)
           (pieces_of x.pieces.items)) (same_versions kept c.requires.ready.0 past c.requires.ready.1
-          shows) h.1,
+          represents) h.1,
     ) in
     record {
       within = omega (arith, below, fits, left);
-      rows = λ past shows relation means.
+      rows = λ past represents relation means.
           run_gathered plan i n first below is kept relation period
           (entries_of c.read_run.new.rows.items) run
-          (c.in_ok-read_run.ensures.rows past shows relation
+          (c.in_ok-read_run.ensures.rows past represents relation
           (λ m inside.
           subst (λ (ps : List Piece). IsMeant kept past first.part.1 (pieces_of ps) m (relation m))
           (sym c.deref.ensures.value)
-          (run_meant kept first (take n (drop (i + 1) plan)) period run past shows relation
-          (λ x k. own past shows x (among_plan plan i n first below is x k))
+          (run_meant kept first (take n (drop (i + 1) plan)) period run past represents relation
+          (λ x k. own past represents x (among_plan plan i n first below is x k))
           (λ x k. means x (among_plan plan i n first below is x k)) m inside))
-          (planned_spans (take i plan)) (c.runs.invariant.rows past shows relation means));
+          (planned_spans (take i plan)) (c.runs.invariant.rows past represents relation means));
       borrowed = λ lent columns h.
           c.in_ok-read_run.ensures.borrowed lent columns (subst
           (λ (ps : List Piece). AllPlainIn kept first.part.1 period lent columns (pieces_of ps))
@@ -137,7 +137,7 @@ runs-preserved g c =
     }
 
 pub returns-clause-rows : goal.returns-clause-rows
-returns-clause-rows g c = λ past shows relation means.
+returns-clause-rows g c = λ past represents relation means.
     subst (λ (plan : List PartPieces). IsGathered relation (planned_spans plan)
     (entries_of c.runs.rows.items)) (take_all c.runs.at c.args.plan.now c.runs-test.false)
-    (c.runs.invariant.rows past shows relation means)
+    (c.runs.invariant.rows past represents relation means)

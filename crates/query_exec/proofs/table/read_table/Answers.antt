@@ -28,17 +28,17 @@ use Rattle.query_exec.proofs.table.read_table.Goals as goal
 
 pub read_parts-requires : goal.read_parts-requires
 read_parts-requires g c =
-    let past = c.requires.shows.0 in
-    let shows = c.requires.shows.1 in
+    let past = c.requires.represents.0 in
+    let represents = c.requires.represents.1 in
     record {
       ready = (
         past,
-        shows,
+        represents,
         subst (λ (xs : List PartPieces). (x : PartPieces) → In x xs
             → IsOwn (versions_in c.args.groups.now) x.part
             × AllTyped (tables_of past x.part.1) (pieces_of x.pieces.items))
             (sym c.deref.ensures.value)
-            (plan_ready c.args.groups.now past shows
+            (plan_ready c.args.groups.now past represents
             (book_of (λ r. (goal.Rule-dyn g (r.vtable, r.value)).handles r.value)
             (λ r. (goal.Rule-dyn g (r.vtable, r.value)).answers r.value)
             c.args.book.now.rules.items) c.known.ensures c.args.route.now c.requires.route
@@ -48,7 +48,7 @@ read_parts-requires g c =
     }
 
 pub returns-clause-rows : goal.returns-clause-rows
-returns-clause-rows g c = λ past shows.
+returns-clause-rows g c = λ past represents.
     let r = read_asked c.args.question.now in
     let relation = table_read past c.args.route.now.asked c.args.table.now r in
     let over = ap planned_spans c.deref.ensures.value
@@ -60,11 +60,11 @@ returns-clause-rows g c = λ past shows.
     (entries_of c.in_ok-rows.rows.items) (entries_of c.coalesce_in_place.new.rows.items)
     (subst (λ (spans : List Span). IsGathered relation spans (entries_of c.in_ok-rows.rows.items))
     over
-    (c.in_ok-rows.ensures.rows past shows relation
+    (c.in_ok-rows.ensures.rows past represents relation
     (subst (λ (xs : List PartPieces). (x : PartPieces) → In x xs → (m : ℕ)
     → covers x.part.0 m ≡ true → all_mean (tables_of past x.part.1) (database_at past m)
     (pieces_of x.pieces.items) ≡ relation m) (sym c.deref.ensures.value)
-    (plan_means c.args.groups.now past shows (book_of
+    (plan_means c.args.groups.now past represents (book_of
     (λ r. (goal.Rule-dyn g (r.vtable, r.value)).handles r.value)
     (λ r. (goal.Rule-dyn g (r.vtable, r.value)).answers r.value) c.args.book.now.rules.items)
     c.known.ensures c.args.route.now c.requires.route c.args.table.now

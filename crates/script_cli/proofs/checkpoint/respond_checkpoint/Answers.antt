@@ -14,19 +14,19 @@ use Rattle.script_cli.proofs.Responding.{puts_itself, still_takes, on_ok, halt_c
 use Rattle.script_cli.proofs.checkpoint.respond_checkpoint.Goals as goal
 
 pub returns-in-Ok-clause-replies : goal.returns-in-Ok-clause-replies
-returns-in-Ok-clause-replies g c = λ limit now stands.
+returns-in-Ok-clause-replies g c = λ limit now represents.
     let M = g.D.Disk.meaning in
     let a = c.args.archive.now in
     let b = c.checkpoint.new.self in
-    let is = c.in-Ok.ensures.image now.past stands.past in
+    let is = c.in-Ok.ensures.image now.past represents.past in
     let image = image_of (standing_of a) in
-    let fits = rw c.in-Ok.is at (c.checkpoint.ensures.checkpoints now.past stands.past) in
+    let fits = rw c.in-Ok.is at (c.checkpoint.ensures.checkpoints now.past represents.past) in
     subst (λ r. Responds limit (checkpoint_reply limit now) r a b (g.K.Sink.written c.args.sink.now)
     (g.K.Sink.written c.put_stored.new.sink)) (sym c.or_write_fault.ensures)
     (stored_responds _ _ limit now a b c.put_stored.result
-    (checkpoint_fault_here a limit now None stands fits)
-    (stands_stored a b limit now stands (length (image_bytes image)) is.length
-    (subst (λ s. RepresentsPast s now.past) (sym c.checkpoint.ensures.same) stands.past)
+    (checkpoint_fault_here a limit now None represents fits)
+    (stands_stored a b limit now represents (length (image_bytes image)) is.length
+    (subst (λ s. RepresentsPast s now.past) (sym c.checkpoint.ensures.same) represents.past)
     c.in-Ok.ensures.place c.checkpoint.ensures.limit) (
       checkpoint_of (standing_of a) ∷ [],
       (is, tt),
@@ -37,40 +37,40 @@ returns-in-Ok-clause-replies g c = λ limit now stands.
     c.put_stored.ensures.ok c.put_stored.ensures.all c.put_stored.ensures.part)
 
 pub returns-in-Err-Refused-clause-replies : goal.returns-in-Err-Refused-clause-replies
-returns-in-Err-Refused-clause-replies g c = λ limit now stands.
+returns-in-Err-Refused-clause-replies g c = λ limit now represents.
     let a = c.args.archive.now in
     let b = c.checkpoint.new.self in
     let refused = rw c.in-Err-Refused.field-0-is at
-    (rw c.in-Err-Refused.is at (c.checkpoint.ensures.checkpoints now.past stands.past)) in
+    (rw c.in-Err-Refused.is at (c.checkpoint.ensures.checkpoints now.past represents.past)) in
     let same = c.in-Err-Refused.ensures.untouched (λ e. cc (e, c.in-Err-Refused.field-0-is)) in
     subst (λ r. Responds limit (checkpoint_reply limit now) r a b (g.K.Sink.written c.args.sink.now)
     (g.K.Sink.written c.refuse.new.sink)) (sym c.or_write_fault-in-Err-Refused.ensures)
     (refused_responds _ _ limit now a b c.in-Err-Refused.refusal
     (checkpoint_fault now.past now.at limit.limit) (put_image now) c.refuse.result
-    (checkpoint_fault_here a limit now (Some c.in-Err-Refused.refusal) stands refused)
-    (stands_still a b limit now stands (subst (λ s. RepresentsPast s now.past)
-    (sym c.checkpoint.ensures.same) stands.past) same.1 c.checkpoint.ensures.limit)
+    (checkpoint_fault_here a limit now (Some c.in-Err-Refused.refusal) represents refused)
+    (stands_still a b limit now represents (subst (λ s. RepresentsPast s now.past)
+    (sym c.checkpoint.ensures.same) represents.past) same.1 c.checkpoint.ensures.limit)
     (untouched_between a b (g.met.D.Disk.valid a.journal.disk) same.0 same.1)
     c.refuse.ensures.ok c.refuse.ensures.all c.refuse.ensures.part)
 
 pub returns-in-Err-Broken-clause-replies : goal.returns-in-Err-Broken-clause-replies
-returns-in-Err-Broken-clause-replies g c = λ limit now stands.
+returns-in-Err-Broken-clause-replies g c = λ limit now represents.
     let broken = c.checkpoint.ensures.broken.0
     (c.in-Err-Broken.is ∙ ap Err c.in-Err-Broken.field-0-is) in
     absurd (cc (broken, c.requires.takes.0))
 
 pub returns-in-Err-Disk-clause-replies : goal.returns-in-Err-Disk-clause-replies
-returns-in-Err-Disk-clause-replies g c = λ limit now stands.
+returns-in-Err-Disk-clause-replies g c = λ limit now represents.
     let a = c.args.archive.now in
     let is = c.checkpoint.ensures.image_so_far (c.in-Err-Disk.is ∙ ap Err c.in-Err-Disk.field-0-is)
-    now.past stands.past in
+    now.past represents.past in
     let fits = rw c.in-Err-Disk.field-0-is at
-    (rw c.in-Err-Disk.is at (c.checkpoint.ensures.checkpoints now.past stands.past)) in (
+    (rw c.in-Err-Disk.is at (c.checkpoint.ensures.checkpoints now.past represents.past)) in (
       refl,
       record {
         what = image_due now.past;
         due_is = puts_itself now (checkpoint_fault now.past now.at limit.limit) _
-            (image_due now.past) (checkpoint_fault_here a limit now None stands fits);
+            (image_due now.past) (checkpoint_fault_here a limit now None represents fits);
         its_record = checkpoint_of (standing_of a);
         is_its = is;
         spelled = is.valid;
@@ -79,7 +79,7 @@ returns-in-Err-Disk-clause-replies g c = λ limit now stands.
     )
 
 pub returns-in-Err-NoMemory-clause-replies : goal.returns-in-Err-NoMemory-clause-replies
-returns-in-Err-NoMemory-clause-replies g c = λ limit now stands.
+returns-in-Err-NoMemory-clause-replies g c = λ limit now represents.
     let a = c.args.archive.now in
     let b = c.checkpoint.new.self in
     let same = c.in-Err-NoMemory.ensures.untouched (λ e. cc (e, c.in-Err-NoMemory.field-0-is)) in

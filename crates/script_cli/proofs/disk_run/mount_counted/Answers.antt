@@ -9,7 +9,7 @@ returns-in-Ok-clause-opened g c =
     let it = c.in-Ok.ensures in
     record {
       mounted = tells_counted (g.D.Disk.meaning c.args.disk).seen _ c.in-Ok.opened it.opened;
-      shows = it.shows;
+      represents = it.represents;
       limit_is = it.limit;
       takes = (it.whole, it.ready it.whole);
       goes = it.goes;

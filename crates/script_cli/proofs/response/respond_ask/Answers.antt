@@ -12,10 +12,10 @@ use Rattle.script_cli.proofs.Responding.{answered_says, refused_says, said_count
 use Rattle.script_cli.proofs.response.respond_ask.Goals as goal
 
 pub returns-in-Ok-clause-says : goal.returns-in-Ok-clause-says
-returns-in-Ok-clause-says g c = λ now shows.
+returns-in-Ok-clause-says g c = λ now represents.
     let past = now.past in
     let query = query_of c.args.query.now in
-    let h = c.in-Ok.ensures past shows in
+    let h = c.in-Ok.ensures past represents in
     subst (λ r. Says (query_reply query now) r (g.K.Sink.written c.args.sink.now)
     (g.K.Sink.written c.put_answer.new.sink)) (sym c.or_write_fault.ensures)
     (answered_says _ _ (fault_of_query past query) now
@@ -27,16 +27,16 @@ returns-in-Ok-clause-says g c = λ now shows.
     c.put_answer.ensures.ok c.put_answer.ensures.all c.put_answer.ensures.part)
 
 pub returns-in-Err-Refused-clause-says : goal.returns-in-Err-Refused-clause-says
-returns-in-Err-Refused-clause-says g c = λ now shows.
+returns-in-Err-Refused-clause-says g c = λ now represents.
     let query = query_of c.args.query.now in
     subst (λ r. Says (query_reply query now) r (g.K.Sink.written c.args.sink.now)
     (g.K.Sink.written c.refuse.new.sink)) (sym c.or_write_fault-in-Err-Refused.ensures)
     (refused_says _ _ _ c.in-Err-Refused.refusal now _ c.refuse.result
-    (rw c.in-Err-Refused.field-0-is at (c.in-Err-Refused.ensures now.past shows))
+    (rw c.in-Err-Refused.field-0-is at (c.in-Err-Refused.ensures now.past represents))
     c.refuse.ensures.ok c.refuse.ensures.all c.refuse.ensures.part)
 
 pub returns-in-Err-NoMemory-clause-says : goal.returns-in-Err-NoMemory-clause-says
-returns-in-Err-NoMemory-clause-says g c = λ now shows. refl
+returns-in-Err-NoMemory-clause-says g c = λ now represents. refl
 
 pub returns-in-Ok-clause-counts : goal.returns-in-Ok-clause-counts
 returns-in-Ok-clause-counts g c = subst (λ r.

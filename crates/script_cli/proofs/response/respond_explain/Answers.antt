@@ -12,10 +12,10 @@ use Rattle.script_cli.proofs.Responding.{accepted_says, refused_says, said_count
 use Rattle.script_cli.proofs.response.respond_explain.Goals as goal
 
 pub returns-in-Ok-clause-says : goal.returns-in-Ok-clause-says
-returns-in-Ok-clause-says g c = λ now shows.
+returns-in-Ok-clause-says g c = λ now represents.
     let past = now.past in
     let query = query_of c.args.query.now in
-    let h = c.in-Ok.ensures.explained past shows in
+    let h = c.in-Ok.ensures.explained past represents in
     accepted_says _ _ (fault_of_query past query) now
     (explain_text (pieces_told (book_of (λ r.
     (goal.Rule-dyn g (r.vtable, r.value)).handles r.value)
@@ -26,7 +26,7 @@ returns-in-Ok-clause-says g c = λ now shows.
     (c.put_pieces.ensures.says now)
 
 pub returns-in-Err-Refused-clause-says : goal.returns-in-Err-Refused-clause-says
-returns-in-Err-Refused-clause-says g c = λ now shows.
+returns-in-Err-Refused-clause-says g c = λ now represents.
     let query = query_of c.args.query.now in
     subst (λ r. Says (explain_reply (book_of (λ r.
     (goal.Rule-dyn g (r.vtable, r.value)).handles r.value)
@@ -34,13 +34,13 @@ returns-in-Err-Refused-clause-says g c = λ now shows.
     query now) r (g.K.Sink.written c.args.sink.now) (g.K.Sink.written c.refuse.new.sink))
     (sym c.or_write_fault.ensures)
     (refused_says _ _ _ c.in-Err-Refused.refusal now _ c.refuse.result
-    (rw c.in-Err-Refused.field-0-is at (c.in-Err-Refused.ensures.explained now.past shows))
+    (rw c.in-Err-Refused.field-0-is at (c.in-Err-Refused.ensures.explained now.past represents))
     c.refuse.ensures.ok
     (rw c.in-Err-Refused.field-0-is at c.refuse.ensures.all)
     (rw c.in-Err-Refused.field-0-is at c.refuse.ensures.part))
 
 pub returns-in-Err-NoMemory-clause-says : goal.returns-in-Err-NoMemory-clause-says
-returns-in-Err-NoMemory-clause-says g c = λ now shows. refl
+returns-in-Err-NoMemory-clause-says g c = λ now represents. refl
 
 pub returns-in-Err-Refused-clause-counts : goal.returns-in-Err-Refused-clause-counts
 returns-in-Err-Refused-clause-counts g c = subst

@@ -14,18 +14,19 @@ use Rattle.script_cli.proofs.Responding.{on_ok, halt_counted}
 use Rattle.script_cli.proofs.response.respond_write.Goals as goal
 
 pub returns-in-Ok-clause-replies : goal.returns-in-Ok-clause-replies
-returns-in-Ok-clause-replies g c = λ limit now stands.
+returns-in-Ok-clause-replies g c = λ limit now represents.
     let M = g.D.Disk.meaning in
     let a = c.args.archive.now in
     let b = c.commit.new.self in
     let command = command_of c.args.command in
-    let h = c.in-Ok.ensures.commits now.past stands.past in
+    let h = c.in-Ok.ensures.commits now.past represents.past in
     subst (λ r. Responds limit (command_reply limit command now) r a b
     (g.K.Sink.written c.args.sink.now) (g.K.Sink.written c.put_done.new.sink))
     (sym c.or_write_fault.ensures)
     (done_responds _ _ limit now a b command c.in-Ok.done c.put_done.result
-    (fault_here a limit now command None stands h.0) h.1
-    (stands_after a b limit now stands command h.2 c.in-Ok.ensures.place c.commit.ensures.limit) (
+    (fault_here a limit now command None represents h.0) h.1
+    (stands_after a b limit now represents command h.2 c.in-Ok.ensures.place
+    c.commit.ensures.limit) (
       logged command ∷ [],
       (refl, tt),
       put_one (below a) (below b) (place_of a) (place_of b) (logged command)
@@ -35,38 +36,39 @@ returns-in-Ok-clause-replies g c = λ limit now stands.
     c.put_done.ensures.ok c.put_done.ensures.all c.put_done.ensures.part)
 
 pub returns-in-Err-Refused-clause-replies : goal.returns-in-Err-Refused-clause-replies
-returns-in-Err-Refused-clause-replies g c = λ limit now stands.
+returns-in-Err-Refused-clause-replies g c = λ limit now represents.
     let a = c.args.archive.now in
     let b = c.commit.new.self in
     let command = command_of c.args.command in
     let h = rw c.in-Err-Refused.field-0-is at
-    (c.in-Err-Refused.ensures.commits now.past stands.past) in
+    (c.in-Err-Refused.ensures.commits now.past represents.past) in
     let same = c.in-Err-Refused.ensures.untouched (λ e. cc (e, c.in-Err-Refused.field-0-is)) in
     subst (λ r. Responds limit (command_reply limit command now) r a b
     (g.K.Sink.written c.args.sink.now) (g.K.Sink.written c.refuse.new.sink))
     (sym c.or_write_fault-in-Err-Refused.ensures)
     (refused_responds _ _ limit now a b c.in-Err-Refused.refusal
     (commit_fault now.past now.at limit.limit command) (put_command command now) c.refuse.result
-    (fault_here a limit now command (Some c.in-Err-Refused.refusal) stands h.0)
-    (stands_still a b limit now stands h.1.shows same.1 c.commit.ensures.limit)
+    (fault_here a limit now command (Some c.in-Err-Refused.refusal) represents h.0)
+    (stands_still a b limit now represents h.1.represents same.1 c.commit.ensures.limit)
     (untouched_between a b (g.met.D.Disk.valid a.journal.disk) same.0 same.1)
     c.refuse.ensures.ok c.refuse.ensures.all c.refuse.ensures.part)
 
 pub returns-in-Err-Broken-clause-replies : goal.returns-in-Err-Broken-clause-replies
-returns-in-Err-Broken-clause-replies g c = λ limit now stands.
+returns-in-Err-Broken-clause-replies g c = λ limit now represents.
     let broken = c.commit.ensures.broken.0 (c.in-Err-Broken.is
     ∙ ap Err c.in-Err-Broken.field-0-is) in absurd (cc (broken, c.requires.takes.0))
 
 pub returns-in-Err-Disk-clause-replies : goal.returns-in-Err-Disk-clause-replies
-returns-in-Err-Disk-clause-replies g c = λ limit now stands.
+returns-in-Err-Disk-clause-replies g c = λ limit now represents.
     let a = c.args.archive.now in
     let command = command_of c.args.command in
-    let h = rw c.in-Err-Disk.field-0-is at (c.in-Err-Disk.ensures.commits now.past stands.past) in (
+    let h = rw c.in-Err-Disk.field-0-is at
+    (c.in-Err-Disk.ensures.commits now.past represents.past) in (
       refl,
       record {
         what = command_due command;
         due_is = puts_itself now (commit_fault now.past now.at limit.limit command) _
-            (command_due command) (fault_here a limit now command None stands h.0);
+            (command_due command) (fault_here a limit now command None represents h.0);
         its_record = logged command;
         is_its = refl;
         spelled = c.commit.ensures.spelled_so_far
@@ -76,7 +78,7 @@ returns-in-Err-Disk-clause-replies g c = λ limit now stands.
     )
 
 pub returns-in-Err-NoMemory-clause-replies : goal.returns-in-Err-NoMemory-clause-replies
-returns-in-Err-NoMemory-clause-replies g c = λ limit now stands.
+returns-in-Err-NoMemory-clause-replies g c = λ limit now represents.
     let a = c.args.archive.now in
     let b = c.commit.new.self in
     let same = c.in-Err-NoMemory.ensures.untouched (λ e. cc (e, c.in-Err-NoMemory.field-0-is)) in

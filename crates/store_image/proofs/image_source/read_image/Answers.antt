@@ -14,5 +14,5 @@ returns-in-Ok-restored-clause-image c = (
   (c.an_image_is_what_is_read.ensures.right c.args.bytes.now (image_seen c.in-Ok.image) []
       c.in-Ok.ensures.image).0,
   ap (λ (i : Image). i.last) c.in-Ok-restored.ensures.image,
-  c.in-Ok-restored.ensures.shows,
+  c.in-Ok-restored.ensures.represents,
 )

@@ -32,8 +32,8 @@ returns-clause-image c =
     (ap (λ (vs : List Version). map version_of vs) groups.versions) groups.restored.lifelines
     c.requires.valid.lines (ap (map bare) groups.stores ∙ c.in_ok-tables.ensures)
 
-pub returns-clause-shows : goal.returns-clause-shows
-returns-clause-shows c = λ n.
+pub returns-clause-represents : goal.returns-clause-represents
+returns-clause-represents c = λ n.
     let kept = c.in_ok-groups.groups in
     let image = image_seen c.args.image in
     let same : image_in kept image.last ≡ image = returns-clause-image c in

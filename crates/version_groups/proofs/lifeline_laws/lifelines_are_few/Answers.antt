@@ -6,7 +6,7 @@ pub returns-clause-versions : goal.returns-clause-versions
 returns-clause-versions c = few_lifelines
 
 pub returns-clause-sizes : goal.returns-clause-sizes
-returns-clause-sizes c = λ kept past shows.
-    let few = few_sizes kept past shows in
-    let most = shows.valid.few in
+returns-clause-sizes c = λ kept past represents.
+    let few = few_sizes kept past represents in
+    let most = represents.valid.few in
     omega (arith, few, most)

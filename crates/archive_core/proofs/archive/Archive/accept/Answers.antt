@@ -20,6 +20,6 @@ carry_out-requires g c =
     × Prepares s.groups x command c.in_ok-next.next) (sym c.in_ok-put.ensures.same) (
       some.0,
       judged_command c.args.judged,
-      c.prepare.ensures.shows some.0 some.1,
+      c.prepare.ensures.represents some.0 some.1,
       c.in_ok-next.ensures.next some.0 some.1 some.2,
     )

@@ -8,13 +8,13 @@ use Rattle.archive_state.proofs.CarriedOut.{shows_next, newest_next, version_is}
 use Rattle.archive_state.proofs.archive.ArchiveState.carry_out.Goals as goal
 
 pub returns-clause-done : goal.returns-clause-done
-returns-clause-done c past command stands prepares =
+returns-clause-done c past command represents prepares =
     let before = subst (λ (s : ArchiveContent). RepresentsPast s past) (sym c.self.view_is)
-    stands in
+    represents in
     let prepared = subst (λ (s : ArchiveContent). Prepares s.groups past command c.args.next)
     (sym c.self.view_is) prepares in
-    let shows = c.install.ensures.shows past command before.groups prepared.ready in
-    let newest = newest_next c.install.new.self (past_with past command) c.newest.result shows
+    let after = c.install.ensures.represents past command before.groups prepared.ready in
+    let newest = newest_next c.install.new.self (past_with past command) c.newest.result after
     c.newest.ensures in
     let stamp = c.stamp-stamp.ensures ∙ prepared.stamp in (
       record {
@@ -29,20 +29,20 @@ returns-clause-done c past command stands prepares =
             prepared.ready.step
             ∙ ap (version_made command.body) newest;
       },
-      shows_next c.install.new.self past command (Some c.stamp-stamp.result) shows (ap Some stamp),
+      shows_next c.install.new.self past command (Some c.stamp-stamp.result) after (ap Some stamp),
     )
 
-pub returns-clause-stands : goal.returns-clause-stands
-returns-clause-stands c =
+pub returns-clause-represents : goal.returns-clause-represents
+returns-clause-represents c =
     let past = c.requires.0 in
     let command = c.requires.1 in
     let before = subst (λ (s : ArchiveContent). RepresentsPast s past) (sym c.self.view_is)
     c.requires.2 in
     let prepared = subst (λ (s : ArchiveContent). Prepares s.groups past command c.args.next)
     (sym c.self.view_is) c.requires.3 in
-    let shows = c.install.ensures.shows past command before.groups prepared.ready in (
+    let after = c.install.ensures.represents past command before.groups prepared.ready in (
       past_with past command,
-      shows_next c.install.new.self past command (Some c.stamp-stamp.result) shows
+      shows_next c.install.new.self past command (Some c.stamp-stamp.result) after
           (ap Some (c.stamp-stamp.ensures ∙ prepared.stamp)),
     )
 
@@ -54,8 +54,8 @@ invariant_of-self c =
     c.requires.2 in
     let prepared = subst (λ (s : ArchiveContent). Prepares s.groups past command c.args.next)
     (sym c.self.view_is) c.requires.3 in
-    let shows = c.install.ensures.shows past command before.groups prepared.ready in (
+    let after = c.install.ensures.represents past command before.groups prepared.ready in (
       past_with past command,
-      shows_next c.install.new.self past command (Some c.stamp-stamp.result) shows
+      shows_next c.install.new.self past command (Some c.stamp-stamp.result) after
           (ap Some (c.stamp-stamp.ensures ∙ prepared.stamp)),
     )

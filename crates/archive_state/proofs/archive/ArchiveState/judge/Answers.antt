@@ -5,8 +5,8 @@ use Rattle.archive_state.proofs.Judging.{answers}
 use Rattle.archive_state.proofs.archive.ArchiveState.judge.Goals as goal
 
 pub returns-clause-judges : goal.returns-clause-judges
-returns-clause-judges c past stands =
-    let shows = subst (λ (s : ArchiveContent). RepresentsPast s past) (sym c.self.view_is) stands in
+returns-clause-judges c past h =
+    let represents = subst (λ (s : ArchiveContent). RepresentsPast s past) (sym c.self.view_is) h in
     answers past (command_of c.args.command.now) c.judge.result
-    (c.judge.ensures.tested past shows.groups shows.last)
-    (c.judge.ensures.found past shows.groups shows.last)
+    (c.judge.ensures.tested past represents.groups represents.last)
+    (c.judge.ensures.found past represents.groups represents.last)

@@ -7,14 +7,14 @@ use Rattle.script_cli.proofs.script_run.ScriptRun.answer.Goals.{then-self, else-
 use Rattle.script_cli.proofs.script_run.ScriptRun.answer.Goals as goal
 
 pub returns-then-is_command-clause-answered : goal.returns-then-is_command-clause-answered
-returns-then-is_command-clause-answered g c = λ limit same now stands.
+returns-then-is_command-clause-answered g c = λ limit same now represents.
     let r = reply limit now c.args.text.now in
-    let replied = c.in-Ok.ensures.replies limit same now stands in
+    let replied = c.in-Ok.ensures.replies limit same now represents in
     let one = one_put limit now c.args.text.now c.in-Ok.put replied.is
     (sym c.is_command.ensures ∙ c.if-is_command.true) in
     record {
       splitter = refl;
-      stands = replied.stands;
+      represents = replied.represents;
       refused = elim c.if-self.branch [
         | then-self w ↦ w.self-is ∙ w.if-self.true ∙ ap (λ x. x || r.is_error) (sym w.if-self.true)
         | else-self w ↦ w.self-is ∙ w.is_error-self.ensures
@@ -27,14 +27,14 @@ returns-then-is_command-clause-answered g c = λ limit same now stands.
     }
 
 pub returns-else-is_command-clause-answered : goal.returns-else-is_command-clause-answered
-returns-else-is_command-clause-answered g c = λ limit same now stands.
+returns-else-is_command-clause-answered g c = λ limit same now represents.
     let r = reply limit now c.args.text.now in
-    let replied = c.in-Ok.ensures.replies limit same now stands in
+    let replied = c.in-Ok.ensures.replies limit same now represents in
     let none = none_put limit now c.args.text.now c.in-Ok.put replied.is
     (sym c.is_command.ensures ∙ c.if-is_command.false) in
     record {
       splitter = refl;
-      stands = replied.stands;
+      represents = replied.represents;
       refused = elim c.if-self.branch [
         | then-self w ↦ w.self-is ∙ w.if-self.true ∙ ap (λ x. x || r.is_error) (sym w.if-self.true)
         | else-self w ↦ w.self-is ∙ w.is_error-self.ensures
@@ -47,5 +47,5 @@ returns-else-is_command-clause-answered g c = λ limit same now stands.
     }
 
 pub returns-in_default-clause-stopped : goal.returns-in_default-clause-stopped
-returns-in_default-clause-stopped g c = λ limit same now stands.
+returns-in_default-clause-stopped g c = λ limit same now represents.
     let a = c.args.archive.now in (refl, nothing_between a (g.met.D.Disk.valid a.journal.disk))

@@ -6,8 +6,8 @@ use Rattle.script_cli.proofs.script_run.ScriptRun.feed.Goals as goal
 
 pub turns-init : goal.turns-init
 turns-init g c = record {
-  took = λ limit same now stands. took_none limit now c.args.self.now c.args.archive.now
-      c.args.piece.now _ (g.met.D.Disk.valid c.args.archive.now.journal.disk) stands;
+  took = λ limit same now represents. took_none limit now c.args.self.now c.args.archive.now
+      c.args.piece.now _ (g.met.D.Disk.valid c.args.archive.now.journal.disk) represents;
   ready = c.requires.ready;
   takes = c.requires.takes;
   kept = refl;
@@ -16,10 +16,10 @@ turns-init g c = record {
 
 pub turns-preserved : goal.turns-preserved
 turns-preserved g c = record {
-  took = λ limit same now stands.
-      let before = c.turns.invariant.took limit same now stands in
+  took = λ limit same now represents.
+      let before = c.turns.invariant.took limit same now represents in
       took_more limit now _ _ _ _ _ _ _ _ _ _ _ _ before
-      (left_some _ _ _ _ c.in-Some.is (c.in-Ok.ensures.took limit same _ before.stands));
+      (left_some _ _ _ _ c.in-Some.is (c.in-Ok.ensures.took limit same _ before.represents));
   ready = c.in-Ok.ensures.ready;
   takes = c.in-Ok.ensures.takes;
   kept = c.in-Ok.ensures.counts.0 ∙ c.turns.invariant.kept;
@@ -27,16 +27,16 @@ turns-preserved g c = record {
 }
 
 pub returns-in-None-clause-took : goal.returns-in-None-clause-took
-returns-in-None-clause-took g c = λ limit same now stands.
-    let before = c.turns.invariant.took limit same now stands in
+returns-in-None-clause-took g c = λ limit same now represents.
+    let before = c.turns.invariant.took limit same now represents in
     took_more limit now _ _ _ _ _ _ _ _ _ _ _ _ before
-    (left_none _ _ _ c.in-None.is (c.in-Ok.ensures.took limit same _ before.stands))
+    (left_none _ _ _ c.in-None.is (c.in-Ok.ensures.took limit same _ before.represents))
 
 pub returns-in-Err-clause-halted : goal.returns-in-Err-clause-halted
-returns-in-Err-clause-halted g c = λ limit same now stands.
-    let before = c.turns.invariant.took limit same now stands in
+returns-in-Err-clause-halted g c = λ limit same now represents.
+    let before = c.turns.invariant.took limit same now represents in
     halted_more limit now c.in-Err.halt _ _ _ _ _ _ _ _ _ _ before
-    (c.in-Err.ensures.halted limit same _ before.stands)
+    (c.in-Err.ensures.halted limit same _ before.represents)
 
 pub returns-in-None-clause-counts : goal.returns-in-None-clause-counts
 returns-in-None-clause-counts g c = (

@@ -15,48 +15,48 @@ plus_none : (n : ℕ) → n ≡ n + 0
 plus_none n = omega arith
 
 pub returns-in-More-clause-took : goal.returns-in-More-clause-took
-returns-in-More-clause-took g c = λ limit same now stands.
+returns-in-More-clause-took g c = λ limit same now represents.
     took_all limit now c.args.self.now _ c.feed.new.self c.args.archive.now c.args.archive.now
     c.args.bytes.now c.in-Ok.rest.now (g.K.Sink.written c.args.sink.now)
     (g.K.Sink.written c.args.sink.now) c.in-Ok.cut c.in-Ok.ensures.statements
     c.in-Ok.ensures.tail refl
     c.in-More.is (all_taken _ _ _ c.in-More.is c.in-Ok.ensures.settled)
-    (g.met.D.Disk.valid c.args.archive.now.journal.disk) stands refl refl
+    (g.met.D.Disk.valid c.args.archive.now.journal.disk) represents refl refl
 
 pub returns-in-Ok-answer-clause-took : goal.returns-in-Ok-answer-clause-took
-returns-in-Ok-answer-clause-took g c = λ limit same now stands.
-    let answered = c.in-Ok-answer.ensures.answered limit same now stands in
+returns-in-Ok-answer-clause-took g c = λ limit same now represents.
+    let answered = c.in-Ok-answer.ensures.answered limit same now represents in
     let text = c.deref.ensures.value in
     took_answer limit now c.args.self.now c.answer.new.self c.feed.new.self c.args.archive.now
     c.answer.new.archive c.args.bytes.now c.in-Ok.rest.now _ _ c.in-Ok.cut
     c.in-Ok.ensures.statements c.in-Ok.ensures.tail answered.splitter
-    (Whole c.in-Text.text.items) (ap found c.in-Text.is) (rw text at answered.stands)
+    (Whole c.in-Text.text.items) (ap found c.in-Text.is) (rw text at answered.represents)
     (rw text at answered.refused) (rw text at answered.puts) (rw text at answered.counted)
     (rw text at answered.wrote)
 
 pub returns-in-Text-clause-halted : goal.returns-in-Text-clause-halted
-returns-in-Text-clause-halted g c = λ limit same now stands.
+returns-in-Text-clause-halted g c = λ limit same now represents.
     halted_answer limit now c.args.self.now c.answer.new.self c.feed.new.self c.args.archive.now
     c.answer.new.archive c.args.bytes.now c.in-Ok.rest.now _ _ c.in-Ok.cut
     c.in-Ok.ensures.statements c.in-Ok.ensures.tail c.answer.ensures.splitter
     c.in-Err-answer.halt (Whole c.in-Text.text.items) (ap found c.in-Text.is)
     (g.met.D.Disk.valid c.args.archive.now.journal.disk)
-    (rw c.deref.ensures.value at (c.in-Err-answer.ensures.stopped limit same now stands))
+    (rw c.deref.ensures.value at (c.in-Err-answer.ensures.stopped limit same now represents))
 
 pub returns-in-Ok-refuse_long-clause-took : goal.returns-in-Ok-refuse_long-clause-took
-returns-in-Ok-refuse_long-clause-took g c = λ limit same now stands.
+returns-in-Ok-refuse_long-clause-took g c = λ limit same now represents.
     let a = c.args.archive.now in
     took_answer limit now c.args.self.now c.refuse_long.new.self c.feed.new.self a a
     c.args.bytes.now c.in-Ok.rest.now _ _ c.in-Ok.cut c.in-Ok.ensures.statements
     c.in-Ok.ensures.tail c.refuse_long.ensures.splitter
-    Skipped (ap found c.in-TooLong.is) stands
+    Skipped (ap found c.in-TooLong.is) represents
     (c.in-Ok-refuse_long.ensures.refused ∙ sym (or_true c.args.self.now.refused))
     (nothing_between a (g.met.D.Disk.valid a.journal.disk))
     (c.refuse_long.ensures.puts ∙ plus_none c.args.self.now.puts)
     c.in-Ok-refuse_long.ensures.all
 
 pub returns-in-Ok-clause-halted : goal.returns-in-Ok-clause-halted
-returns-in-Ok-clause-halted g c = λ limit same now stands.
+returns-in-Ok-clause-halted g c = λ limit same now represents.
     let a = c.args.archive.now in
     let law = g.met.D.Disk.valid a.journal.disk in
     halted_answer limit now c.args.self.now c.refuse_long.new.self c.feed.new.self a a
@@ -66,7 +66,7 @@ returns-in-Ok-clause-halted g c = λ limit same now stands.
     (c.in-Err-refuse_long.ensures.part, nothing_between a law)
 
 pub returns-clause-halted : goal.returns-clause-halted
-returns-clause-halted g c = λ limit same now stands.
+returns-clause-halted g c = λ limit same now represents.
     halted_memory limit now _ c.args.archive.now _
     (g.met.D.Disk.valid c.args.archive.now.journal.disk)
 

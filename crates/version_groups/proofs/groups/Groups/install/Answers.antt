@@ -19,11 +19,12 @@ install_step-requires c =
       subst (IsStep c.args.self.now past command.stamp command.body) is ready.step,
     )
 
-pub returns-clause-shows : goal.returns-clause-shows
-returns-clause-shows c = λ past command shows ready.
+pub returns-clause-represents : goal.returns-clause-represents
+returns-clause-represents c = λ past command represents ready.
     let is : step_of c.args.next.step ≡ step_of c.next.inside.step =
     ap (λ (r : PreparedCommand). step_of r.step) (sym c.next.view_is) in
-    c.install_step.ensures.shows past command shows ready.accepted ready.valid ready.constants
+    c.install_step.ensures.represents past command represents ready.accepted ready.valid
+    ready.constants
     (subst (IsStep c.args.self.now past command.stamp command.body) is ready.step)
 
 pub returns-clause-step : goal.returns-clause-step

@@ -17,10 +17,10 @@ install_changes-requires c =
     have_room c.args.self.now past command.stamp command.body c.in-Changed.plans.items
     (subst (IsStep c.args.self.now past command.stamp command.body) is c.requires.6)
 
-pub returns-in-Changed-clause-shows : goal.returns-in-Changed-clause-shows
-returns-in-Changed-clause-shows c = λ past command shows accepted valid hold ready.
+pub returns-in-Changed-clause-represents : goal.returns-in-Changed-clause-represents
+returns-in-Changed-clause-represents c = λ past command represents accepted valid hold ready.
     let is : step_of c.args.step ≡ changed c.in-Changed.plans.items = ap step_of c.in-Changed.is in
-    changes_made c.args.self.now c.install_changes.new.self past shows c.in-Changed.plans.items
+    changes_made c.args.self.now c.install_changes.new.self past represents c.in-Changed.plans.items
     c.install_changes.ensures command.stamp command.body valid accepted hold
     (subst (IsStep c.args.self.now past command.stamp command.body) is ready)
 
@@ -43,11 +43,11 @@ install_version-requires c =
       fits = r.fits;
     }
 
-pub returns-in-Evolved-clause-shows : goal.returns-in-Evolved-clause-shows
-returns-in-Evolved-clause-shows c = λ past command shows accepted valid hold ready.
+pub returns-in-Evolved-clause-represents : goal.returns-in-Evolved-clause-represents
+returns-in-Evolved-clause-represents c = λ past command represents accepted valid hold ready.
     let is : step_of c.args.step ≡ evolved (version_of c.in-Evolved.version)
     c.in-Evolved.begun.items c.in-Evolved.places.items = ap step_of c.in-Evolved.is in
-    version_made c.args.self.now c.install_version.new.self past shows c.in-Evolved.version
+    version_made c.args.self.now c.install_version.new.self past represents c.in-Evolved.version
     c.in-Evolved.begun.items c.in-Evolved.places.items c.install_version.ensures command.stamp
     command.body valid accepted hold
     (subst (IsStep c.args.self.now past command.stamp command.body) is ready)

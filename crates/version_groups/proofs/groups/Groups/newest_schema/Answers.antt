@@ -4,7 +4,8 @@ use Rattle.version_groups.proofs.PreparedCommand.{schema_is}
 use Rattle.version_groups.proofs.groups.Groups.newest_schema.Goals as goal
 
 pub returns : goal.returns
-returns c past shows =
+returns c past represents =
     let a = c.self.inside in
-    c.newest_schema.ensures ∙ schema_is c.args.self.now past shows a.nothing a.versions.list.items
+    c.newest_schema.ensures ∙ schema_is c.args.self.now past represents a.nothing
+    a.versions.list.items
     c.self.invariant.nothing (ap (λ (k : Kept). k.versions) c.self.view_is)

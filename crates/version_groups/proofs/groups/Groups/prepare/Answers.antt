@@ -26,16 +26,17 @@ prepare_changes-requires-clause-accepted c = (
       c.requires.2.accepted,
 )
 
-pub returns-in-Changes-clause-shows : goal.returns-in-Changes-clause-shows
-returns-in-Changes-clause-shows c = λ past shows.
-    shows_same c.args.self.now c.prepare_changes.new.self c.prepare_changes.ensures.same past shows
+pub returns-in-Changes-clause-represents : goal.returns-in-Changes-clause-represents
+returns-in-Changes-clause-represents c = λ past represents.
+    shows_same c.args.self.now c.prepare_changes.new.self c.prepare_changes.ensures.same past
+    represents
 
 pub returns-in-Changes-clause-next : goal.returns-in-Changes-clause-next
-returns-in-Changes-clause-next c = λ past shows accepted.
+returns-in-Changes-clause-next c = λ past represents accepted.
     subst (λ (j : Judged). IfOk c.prepare_changes.result
     (λ next. Prepares c.prepare_changes.new.self past (judged_command j) next))
     (sym c.in-Changes.is)
-    (c.prepare_changes.ensures.next past shows
+    (c.prepare_changes.ensures.next past represents
     (subst (λ (j : Judged). command_fault past (judged_command j) ≡ None) c.in-Changes.is
     accepted.accepted))
 
@@ -43,14 +44,15 @@ pub prepare_version-requires : goal.prepare_version-requires
 prepare_version-requires c =
     (c.requires.0, c.requires.1, subst (IsAccepted c.requires.0) c.in-Evolve.is c.requires.2)
 
-pub returns-in-Evolve-clause-shows : goal.returns-in-Evolve-clause-shows
-returns-in-Evolve-clause-shows c = λ past shows.
-    shows_same c.args.self.now c.prepare_version.new.self c.prepare_version.ensures.same past shows
+pub returns-in-Evolve-clause-represents : goal.returns-in-Evolve-clause-represents
+returns-in-Evolve-clause-represents c = λ past represents.
+    shows_same c.args.self.now c.prepare_version.new.self c.prepare_version.ensures.same past
+    represents
 
 pub returns-in-Evolve-clause-next : goal.returns-in-Evolve-clause-next
-returns-in-Evolve-clause-next c = λ past shows accepted.
+returns-in-Evolve-clause-next c = λ past represents accepted.
     subst (λ (j : Judged). IfOk c.prepare_version.result
     (λ next. Prepares c.prepare_version.new.self past (judged_command j) next))
     (sym c.in-Evolve.is)
-    (c.prepare_version.ensures.next past shows
+    (c.prepare_version.ensures.next past represents
     (subst (IsAccepted past) c.in-Evolve.is accepted))

@@ -62,7 +62,7 @@ returns-clause-same c =
     (view_same a b refl refl refl c.prepare_tables.ensures.same (omega arith) (omega arith))
 
 pub returns-clause-next : goal.returns-clause-next
-returns-clause-next c = λ past shows accepted.
+returns-clause-next c = λ past represents accepted.
     let a = c.self.inside in
     let b : Inside = record a { stored = c.prepare_tables.new.tables } in
     let its = changes_of c.args.changes.now in
@@ -82,7 +82,7 @@ returns-clause-next c = λ past shows accepted.
     (names_kept a.stored.items c.prepare_tables.new.tables.items c.prepare_tables.ensures.same)
     (lines_kept a.stored.items c.prepare_tables.new.tables.items c.prepare_tables.ensures.same))
     ∙ ap (at_places b.stored.items) (sym c.deref.ensures.value) in
-    changes_ready c.args.self.now past c.args.stamp its shows c.requires.valid accepted ordered
+    changes_ready c.args.self.now past c.args.stamp its represents c.requires.valid accepted ordered
     c.requires.constants (groups_view b) same c.in_ok-made.made.plans.items
     (subst (λ (ts : List MadeTable). AreReady c.args.stamp its ts c.in_ok-made.made.plans.items)
     (sym now) c.in_ok-made.ensures.ready) _ refl refl

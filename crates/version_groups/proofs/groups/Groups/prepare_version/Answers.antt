@@ -102,14 +102,14 @@ pub returns-in_err-tables-clause-same : goal.returns-in_err-tables-clause-same
 returns-in_err-tables-clause-same c = is_same c.args.self.now
 
 pub returns-clause-next : goal.returns-clause-next
-returns-clause-next c = λ past shows judged.
+returns-clause-next c = λ past represents judged.
     let a = c.self.inside in
     let version = c.args.version in
     let stamp = version.stamp in
     let op = operator_of version.op in
     let inverse = operators_of version.inverse.items in
     let schema = c.newest_schema-schema.ensures
-    ∙ schema_is c.args.self.now past shows a.nothing a.versions.list.items
+    ∙ schema_is c.args.self.now past represents a.nothing a.versions.list.items
     c.self.invariant.nothing (ap (λ (k : Kept). k.versions) c.self.view_is) in
     let group : newest_group c.args.self.now ≡ at_places c.deref.result.now c.deref-2.result.now =
     ap newest_group (sym c.self.view_is) ∙ newest_is a c.self.invariant
@@ -118,10 +118,10 @@ returns-clause-next c = λ past shows judged.
     let stored = subst (λ (t : Tables). AreStored t (newest_database past) stamp
     (at_places c.deref.result.now c.deref-2.result.now)) (sym schema)
     (subst (AreStored (newest_tables past) (newest_database past) stamp) group
-    (stored_now c.args.self.now past stamp op inverse shows judged.stamp judged.accepted)) in
+    (stored_now c.args.self.now past stamp op inverse represents judged.stamp judged.accepted)) in
     let made = c.in_ok-tables.ensures (newest_database past)
     (subst (λ (t : Tables). IsDatabase t (newest_database past)) (sym schema)
-    shows.valid.database) stored in
+    represents.valid.database) stored in
     let kept : c.deref.result.now ≡ c.args.self.now.stored = c.deref.ensures.value
     ∙ ap (λ (k : Kept). k.stored) c.self.view_is in
     let own : c.deref-2.result.now ≡ newest_places c.args.self.now = c.deref-2.ensures.value
@@ -130,7 +130,7 @@ returns-clause-next c = λ past shows judged.
     ap (λ n. n + 1) c.newest-number.ensures in
     let begun = c.in_ok-tables.tables.begun.items in
     let places = c.in_ok-tables.tables.places.items in
-    operator_ready c.args.self.now past stamp op inverse shows judged.stamp judged.accepted
+    operator_ready c.args.self.now past stamp op inverse represents judged.stamp judged.accepted
     judged.constants c.reserve_version.new.self c.reserve_version.ensures.same
     c.reserve_version.ensures.stored
     c.in_ok-reserve_version.ensures.room version begun places

@@ -19,22 +19,22 @@ use Rattle.version_groups.proofs.groups.Groups.restore.Goals as goal
 pub loop-version-init : goal.loop-version-init
 loop-version-init c =
     let kept = c.new-groups.result in
-    let shows = c.new-groups.ensures in
+    let represents = c.new-groups.ensures in
     let left : into_iter_items c.into_iter-version-iterator.result ≡ c.args.versions.list.items =
     search rules in
     let stores = c.into_iter-left.ensures.rest in
     record {
-      restored = nothing_restored kept shows;
+      restored = nothing_restored kept represents;
       done = ap (λ (vs : List Version). vs ++ into_iter_items c.into_iter-version-iterator.result)
-          (no_versions kept shows) ∙ left;
+          (no_versions kept represents) ∙ left;
       taken = ap (λ ts. stores_of ts ++ into_iter_items c.into_iter-left.result)
-          (nothing_stored kept shows) ∙ stores;
+          (nothing_stored kept represents) ∙ stores;
       valid = search rules;
       accepted = (
         None,
         subst (λ vs. AreVersions None (newest_from no_tables vs)
             (map version_of (into_iter_items c.into_iter-version-iterator.result)))
-            (sym shows.versions)
+            (sym represents.versions)
             (subst (λ (vs : List Version). AreVersions None no_tables (map version_of vs))
             (sym left) c.requires.versions),
       );

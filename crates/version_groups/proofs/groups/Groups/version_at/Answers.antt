@@ -22,8 +22,8 @@ returns-clause-number c = λ past e.
     ∙ sym e)
 
 pub returns-clause-newest : goal.returns-clause-newest
-returns-clause-newest c = λ past shows at.
-    let ends = shows.ends in
-    returns-clause-number c past (sym shows.versions)
+returns-clause-newest c = λ past represents at.
+    let ends = represents.ends in
+    returns-clause-number c past (sym represents.versions)
     ∙ ap length (all_begun (last_or_nought past.last) c.args.moment past.versions
-    shows.valid.versions (omega (arith, ends, at)))
+    represents.valid.versions (omega (arith, ends, at)))
