@@ -28,8 +28,8 @@ use Rattle.script_cli.specs.declared.status.Status.TheVariants.{WriteFault, Disk
 use Rattle.script_cli.specs.declared.status.Status.TheVariants.{NoMemory, InputLimit}
 use Rattle.script_cli.specs.declared.put.Put.{Put}
 use Rattle.script_cli.proofs.OneReading.{OpensOnce}
-use Rattle.script_cli.proofs.Recording.{piece_step, one_if}
-use Rattle.script_cli.proofs.Reaching.{Reached, all_pieces, consumed_still}
+use Rattle.script_cli.proofs.Recording.{part_step, one_if}
+use Rattle.script_cli.proofs.Reaching.{Reached, all_parts, consumed_still}
 use Rattle.script_cli.proofs.Telling.{told_end}
 
 error_for : (b : Bool) (due : List Due) → is_error (put_for b due) ≡ b
@@ -43,7 +43,7 @@ error_for false (image_due past ∷ due) = refl
 module _ (limit : Given) (now : Recorded) (text : List ℕ) (put : Put)
     (is : put ≡ put_of (reply limit now text)) where
   counted : length (commands_due (reply limit now text).puts) ≡ one_if (is_command put)
-  counted = (piece_step limit now (Text text)).counted
+  counted = (part_step limit now (Text text)).counted
       ∙ ap (λ (p : Put). one_if (is_command p)) (sym is)
 
   pub one_put : is_command put ≡ true → length (commands_due (reply limit now text).puts) ≡ 1
@@ -97,7 +97,7 @@ pub counts_at_end : {D : Type 0} {g : Ghosts D} (limit : Given) (start : Recorde
     → Consumes b c [] → IsAtEnd c → CountsPuts status limit start a s.puts
 counts_at_end limit start o m a b c u v s n status r consumes end =
     let whole = ap (λ l. length (commands_due (all_puts limit start l)))
-    (all_pieces limit start o m r.run s r.begun_so r.taken u v r.took) in
+    (all_parts limit start o m r.run s r.begun_so r.taken u v r.took) in
     let counted : s.puts ≡ length (commands_due (script_puts limit start r.taken)) =
     omega (arith, r.took.counted, r.begun_so.puts, whole) in
     counts_end status limit start a s.puts (told_end limit start

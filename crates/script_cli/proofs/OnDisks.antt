@@ -258,12 +258,12 @@ module _ {D : Type 0} {g : Ghosts D} (once : OpensOnce) (old : Meaning) (limit :
 
   module _ (file : List ℕ) (opening : List LogRecord) (is : old.seen ≡ Some file)
       (opens : Opens file opening) where
-    put_after : (pieces : List StatementPart) (log : List LogRecord)
-        → AreRecordsOf (all_puts (given_by limit book) start pieces) log
+    put_after : (parts : List StatementPart) (log : List LogRecord)
+        → AreRecordsOf (all_puts (given_by limit book) start parts) log
         → AreSound (past_recorded opening) log
-    put_after pieces log are =
-        put_sound (given_by limit book) opening pieces log
-        (subst (λ n. AreRecordsOf (all_puts (given_by limit book) n pieces) log)
+    put_after parts log are =
+        put_sound (given_by limit book) opening parts log
+        (subst (λ n. AreRecordsOf (all_puts (given_by limit book) n parts) log)
         (start_is once old.seen start file opening is opened opens) are)
 
     sound : AreSound (past_recorded opening) all

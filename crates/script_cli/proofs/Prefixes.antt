@@ -31,6 +31,6 @@ from_prefix mode current (b ∷ xs) ys =
       | false ↦ from_prefix (next mode b) (current ++ b ∷ []) xs ys
     ]
 
-pub pieces-append : (xs ys : List ℕ) → parts_from Plain [] (xs ++ ys) ≡ parts_from Plain [] xs
+pub parts-append : (xs ys : List ℕ) → parts_from Plain [] (xs ++ ys) ≡ parts_from Plain [] xs
     ++ parts_from (mode_after_script xs) (tail_from Plain [] xs) ys
-pieces-append xs ys = from_prefix Plain [] xs ys
+parts-append xs ys = from_prefix Plain [] xs ys

@@ -16,13 +16,13 @@ use Rattle.archive_file.specs.LogRecords.{LogRecord}
 use Rattle.script_cli.specs.Due.{Due, AreRecordsOf}
 use Rattle.script_cli.specs.Putting.{HasPut}
 use Rattle.script_cli.specs.Given.{Given}
-use Rattle.script_cli.specs.Output.{Recorded, piece_reply, all_puts, recorded_after, any_error}
+use Rattle.script_cli.specs.Output.{Recorded, part_reply, all_puts, recorded_after, any_error}
 use Rattle.script_cli.specs.Output.{parts_of, ending_of, has_error, tail_text, tail_is_due}
 use Rattle.script_cli.specs.declared.script_run.ScriptRun.{ScriptRun}
 use Rattle.script_cli.specs.declared.halt.Halt.{Halt}
 use Rattle.script_cli.specs.declared.halt.Halt.TheVariants as halt
 use Rattle.script_cli.specs.Responses.{RepresentsAt, PutBetween, Took, Halted, next_reply}
-use Rattle.script_cli.specs.Responses.{pieces_after}
+use Rattle.script_cli.specs.Responses.{parts_after}
 use Rattle.script_cli.specs.Responses.{ending_after}
 use Rattle.script_cli.specs.Runs.{Log, Wrote, WroteAll, begun, logged_in}
 use Rattle.script_cli.specs.Driving.{Drove, PutBy, Ends, is_faulty, status_of}
@@ -55,9 +55,9 @@ pub record Reached {D : Type 0} {g : Ghosts D} (limit : Given) (start : Recorded
 module _ {D : Type 0} {g : Ghosts D} (limit : Given) (start : Recorded) (a b : Archive D g)
     (run script_run : ScriptRun) (begun_so : IsStart run) (taken : List ℕ) (u v : Option (List ℕ))
     (took : Took limit start run script_run a b taken [] u v) where
-  pub pieces_is : (more : List ℕ) → parts_of (taken ++ more) ≡ took.pieces
-      ++ pieces_after script_run more
-  pieces_is more = ap (λ s. parts_from s.mode s.kept (taken ++ more)) (sym begun_so.splitter)
+  pub parts_is : (more : List ℕ) → parts_of (taken ++ more) ≡ took.parts
+      ++ parts_after script_run more
+  parts_is more = ap (λ s. parts_from s.mode s.kept (taken ++ more)) (sym begun_so.splitter)
       ∙ took.cut more
 
   pub ending_is : ending_of taken ≡ ending_after script_run []
@@ -65,22 +65,22 @@ module _ {D : Type 0} {g : Ghosts D} (limit : Given) (start : Recorded) (a b : A
       ∙ ap (λ s. ending (tail_from s.mode s.kept (taken ++ []))) (sym begun_so.splitter)
       ∙ took.end []
 
-  pub all_pieces : parts_of taken ≡ took.pieces
-  all_pieces = ap parts_of (sym (append-nil taken)) ∙ pieces_is [] ∙ append-nil took.pieces
+  pub all_parts : parts_of taken ≡ took.parts
+  all_parts = ap parts_of (sym (append-nil taken)) ∙ parts_is [] ∙ append-nil took.parts
 
   pub faulty_is : is_faulty script_run ≡ has_error limit start taken
   faulty_is =
       ap (λ x. x || tail_is_due (ending_after script_run []))
-      (took.refused ∙ ap (λ x. x || any_error limit start took.pieces) begun_so.refused)
+      (took.refused ∙ ap (λ x. x || any_error limit start took.parts) begun_so.refused)
       ∙ ap (λ l. any_error limit start l || tail_is_due (ending_after script_run []))
-      (sym all_pieces)
+      (sym all_parts)
       ∙ ap (λ e. any_error limit start (parts_of taken) || tail_is_due e) (sym ending_is)
 
 -- what the first of these statements puts
 next_puts : (limit : Given) (now : Recorded) (rest : List StatementPart)
     → all_puts limit now (take 1 rest) ≡ (next_reply limit now rest).puts
 next_puts limit now [] = refl
-next_puts limit now (p ∷ rest) = append-nil (piece_reply limit now p).puts
+next_puts limit now (p ∷ rest) = append-nil (part_reply limit now p).puts
 
 next_put : (limit : Given) (start : Recorded) (whole rest : List StatementPart)
     → all_puts limit start whole ++ (next_reply limit (recorded_after limit start whole) rest).puts
@@ -158,16 +158,16 @@ module _ {D : Type 0} {g : Ghosts D} (limit : Given) (start : Recorded)
     ran = record {
       taken = r.taken;
       consumed = Consumes-kept a b c r.taken r.consumed k;
-      whole = r.took.pieces;
+      whole = r.took.parts;
       rest = [];
-      are = all_pieces limit start o m r.run s r.begun_so r.taken u v r.took
-          ∙ sym (append-nil r.took.pieces);
+      are = all_parts limit start o m r.run s r.begun_so r.taken u v r.took
+          ∙ sym (append-nil r.took.parts);
       between = v;
       replied = r.took.wrote;
       wrote = (within_still n r.taken r.counted l, refl, refl);
     };
-    log = whole_log limit start ReadFault r.took.pieces [] o m refl r.took.puts;
-    puts = (place_of m, whole_put limit start ReadFault r.took.pieces [] o m refl r.took.puts);
+    log = whole_log limit start ReadFault r.took.parts [] o m refl r.took.puts;
+    puts = (place_of m, whole_put limit start ReadFault r.took.parts [] o m refl r.took.puts);
   }
 
   pub drove_limit : (r : Reached limit start o m a b u v s n) (piece : List ℕ) → Consumes b c piece
@@ -177,23 +177,23 @@ module _ {D : Type 0} {g : Ghosts D} (limit : Given) (start : Recorded)
     ran = record {
       taken = r.taken ++ piece;
       consumed = Consumes-trans a b c r.taken piece r.consumed k;
-      whole = r.took.pieces;
-      rest = pieces_after s piece;
-      are = pieces_is limit start o m r.run s r.begun_so r.taken u v r.took piece;
+      whole = r.took.parts;
+      rest = parts_after s piece;
+      are = parts_is limit start o m r.run s r.begun_so r.taken u v r.took piece;
       between = v;
       replied = r.took.wrote;
       wrote = (
         length-append r.taken piece ∙ omega (arith, r.counted, e, l),
         sym (ap parts_of (take_at r.taken piece longest_script (sym r.counted ∙ e))
-            ∙ all_pieces limit start o m r.run s r.begun_so r.taken u v r.took),
+            ∙ all_parts limit start o m r.run s r.begun_so r.taken u v r.took),
         refl,
       );
     };
-    log = whole_log limit start InputLimit r.took.pieces (pieces_after s piece) o m refl
+    log = whole_log limit start InputLimit r.took.parts (parts_after s piece) o m refl
         r.took.puts;
     puts = (
       place_of m,
-      whole_put limit start InputLimit r.took.pieces (pieces_after s piece) o m
+      whole_put limit start InputLimit r.took.parts (parts_after s piece) o m
           refl r.took.puts,
     );
   }
@@ -203,27 +203,27 @@ stopped : {D : Type 0} {g : Ghosts D} (limit : Given) (start : Recorded) (o m e 
     (a b u v w : Option (List ℕ)) (s : ScriptRun) (n : ℕ) (h : Halt)
     (r : Reached limit start o m a b u v s n) (piece : List ℕ)
     → ((now : Recorded) → RepresentsAt m limit now
-    → Halted h limit now (pieces_after s piece) m e v w)
-    → Halted h limit start (r.took.pieces ++ pieces_after s piece) o e u w
+    → Halted h limit now (parts_after s piece) m e v w)
+    → Halted h limit start (r.took.parts ++ parts_after s piece) o e u w
 stopped limit start o m e a b u v w s n h r piece f =
-    halted_after limit start h r.took.pieces (pieces_after s piece) o m e u v w r.took.puts
-    r.took.wrote (f (recorded_after limit start r.took.pieces) r.took.represents)
+    halted_after limit start h r.took.parts (parts_after s piece) o m e u v w r.took.puts
+    r.took.wrote (f (recorded_after limit start r.took.parts) r.took.represents)
 
 module _ {D : Type 0} {g : Ghosts D} (limit : Given) (start : Recorded) (o e : Archive D g)
     (u w : Option (List ℕ)) where
-  wrote_halted : (h : Halt) (c : Option (List ℕ)) (taken : List ℕ) (pieces : List StatementPart)
-      → length taken ≤ longest_script → (x : Halted h limit start pieces o e u w)
+  wrote_halted : (h : Halt) (c : Option (List ℕ)) (taken : List ℕ) (parts : List StatementPart)
+      → length taken ≤ longest_script → (x : Halted h limit start parts o e u w)
       → Wrote (status_of h) limit start taken x.whole x.rest c x.between w
-  wrote_halted halt.WriteFault c taken pieces l x = (l, inl x.stops.0)
-  wrote_halted halt.DiskFault c taken pieces l x =
+  wrote_halted halt.WriteFault c taken parts l x = (l, inl x.stops.0)
+  wrote_halted halt.DiskFault c taken parts l x =
       (l, x.stops.0, (x.stops.1.what, x.stops.1.due_is))
-  wrote_halted halt.NoMemory c taken pieces l x = (l, x.stops.0)
+  wrote_halted halt.NoMemory c taken parts l x = (l, x.stops.0)
 
-  puts_halted : (h : Halt) (pieces : List StatementPart) → IsValid (below e)
-      → (x : Halted h limit start pieces o e u w)
+  puts_halted : (h : Halt) (parts : List StatementPart) → IsValid (below e)
+      → (x : Halted h limit start parts o e u w)
       → (log : Log limit start (status_of h) x.whole x.rest)
       × PutBy (status_of h) (below o) (below e) (place_of o) log.done (logged_in log)
-  puts_halted halt.WriteFault pieces law x =
+  puts_halted halt.WriteFault parts law x =
       let its = x.stops.1 in (
         record {
           done = x.puts.0;
@@ -237,7 +237,7 @@ module _ {D : Type 0} {g : Ghosts D} (limit : Given) (start : Recorded) (o e : A
               (place_of e) x.puts.0 its.0 x.puts.2 its.2,
         ),
       )
-  puts_halted halt.DiskFault pieces law x =
+  puts_halted halt.DiskFault parts law x =
       let may = x.stops.1 in
       let next = next_reply limit (recorded_after limit start x.whole) x.rest in (
         record {
@@ -251,7 +251,7 @@ module _ {D : Type 0} {g : Ghosts D} (limit : Given) (start : Recorded) (o e : A
         put_some (below o) (below x.mid) (below e) (place_of o) (place_of x.mid) x.puts.0 next.puts
             law x.puts.2 may,
       )
-  puts_halted halt.NoMemory pieces law x =
+  puts_halted halt.NoMemory parts law x =
       let all = subst (PutBetween o e) (append-nil (all_puts limit start x.whole))
       (then_between o x.mid e (all_puts limit start x.whole) [] x.puts x.stops.1) in (
         whole_log limit start NoMemory x.whole x.rest o e refl all,
@@ -273,17 +273,17 @@ module _ {D : Type 0} {g : Ghosts D} (limit : Given) (start : Recorded)
     counted = is ∙ ap (λ j. j + length piece) r.counted ∙ sym (length-append r.taken piece);
     took = took_more limit start r.run s next o m e (r.taken ++ piece) piece [] u v w
         (took_longer limit start r.run s o m r.taken [] piece u v r.took)
-        (f (recorded_after limit start r.took.pieces) r.took.represents);
+        (f (recorded_after limit start r.took.parts) r.took.represents);
   }
 
   pub drove_halted : (h : Halt) (r : Reached limit start o m a b u v s n) (piece : List ℕ)
       → IsValid (below e) → n + length piece ≤ longest_script → Consumes b c piece
       → ((now : Recorded) → RepresentsAt m limit now
-      → Halted h limit now (pieces_after s piece) m e v w)
+      → Halted h limit now (parts_after s piece) m e v w)
       → Drove limit start (status_of h) a c u w (below o) (below e) (place_of o)
   drove_halted h r piece law l k f =
       let x = stopped limit start o m e a b u v w s n h r piece f in
-      let puts = puts_halted limit start o e u w h (r.took.pieces ++ pieces_after s piece) law x in
+      let puts = puts_halted limit start o e u w h (r.took.parts ++ parts_after s piece) law x in
       let within : length (r.taken ++ piece) ≤ longest_script =
       omega (arith, l, r.counted, length-append r.taken piece) in
       record {
@@ -292,11 +292,11 @@ module _ {D : Type 0} {g : Ghosts D} (limit : Given) (start : Recorded)
           consumed = Consumes-trans a b c r.taken piece r.consumed k;
           whole = x.whole;
           rest = x.rest;
-          are = pieces_is limit start o m r.run s r.begun_so r.taken u v r.took piece ∙ x.are;
+          are = parts_is limit start o m r.run s r.begun_so r.taken u v r.took piece ∙ x.are;
           between = x.between;
           replied = x.wrote;
           wrote = wrote_halted limit start o e u w h c (r.taken ++ piece)
-              (r.took.pieces ++ pieces_after s piece) within x;
+              (r.took.parts ++ parts_after s piece) within x;
         };
         log = puts.0;
         puts = puts.1;
@@ -306,18 +306,18 @@ module _ {D : Type 0} {g : Ghosts D} (limit : Given) (start : Recorded)
     (o m : Archive D g) {a b c u v w : Option (List ℕ)} {s : ScriptRun} {n : ℕ}
     (r : Reached limit start o m a b u v s n)
     (within : n ≤ longest_script) (consumes : Consumes b c []) (end : IsAtEnd c) where
-  ended : (status : Status) → Wrote status limit start r.taken r.took.pieces [] c v w
-      → (log : Log limit start status r.took.pieces [])
+  ended : (status : Status) → Wrote status limit start r.taken r.took.parts [] c v w
+      → (log : Log limit start status r.took.parts [])
       × PutBy status (below o) (below m) (place_of o) log.done (logged_in log)
       → Drove limit start status a c u w (below o) (below m) (place_of o)
   ended status wrote puts = record {
     ran = record {
       taken = r.taken;
       consumed = consumed_still a b c r.taken r.consumed consumes;
-      whole = r.took.pieces;
+      whole = r.took.parts;
       rest = [];
-      are = all_pieces limit start o m r.run s r.begun_so r.taken u v r.took
-          ∙ sym (append-nil r.took.pieces);
+      are = all_parts limit start o m r.run s r.begun_so r.taken u v r.took
+          ∙ sym (append-nil r.took.parts);
       between = v;
       replied = r.took.wrote;
       wrote = wrote;
@@ -341,15 +341,15 @@ module _ {D : Type 0} {g : Ghosts D} (limit : Given) (start : Recorded)
     wrote_all e.0,
     sym (faulty_is limit start o m r.run s r.begun_so r.taken u v r.took) ∙ e.1,
   ) (
-    whole_log limit start Done r.took.pieces [] o m refl r.took.puts,
-    (place_of m, whole_put limit start Done r.took.pieces [] o m refl r.took.puts),
+    whole_log limit start Done r.took.parts [] o m refl r.took.puts,
+    (place_of m, whole_put limit start Done r.took.parts [] o m refl r.took.puts),
   )
   drove_end Refused e = ended Refused (
     wrote_all e.0,
     sym (faulty_is limit start o m r.run s r.begun_so r.taken u v r.took) ∙ e.1,
   ) (
-    whole_log limit start Refused r.took.pieces [] o m refl r.took.puts,
-    (place_of m, whole_put limit start Refused r.took.pieces [] o m refl r.took.puts),
+    whole_log limit start Refused r.took.parts [] o m refl r.took.puts,
+    (place_of m, whole_put limit start Refused r.took.parts [] o m refl r.took.puts),
   )
   drove_end WriteFault e = ended WriteFault (
     within_still n r.taken r.counted within,
@@ -360,8 +360,8 @@ module _ {D : Type 0} {g : Ghosts D} (limit : Given) (start : Recorded)
           (sym (ending_is limit start o m r.run s r.begun_so r.taken u v r.took)) e;
     }),
   ) (
-    whole_log limit start WriteFault r.took.pieces [] o m refl r.took.puts,
-    (place_of m, whole_put limit start WriteFault r.took.pieces [] o m refl r.took.puts),
+    whole_log limit start WriteFault r.took.parts [] o m refl r.took.puts,
+    (place_of m, whole_put limit start WriteFault r.took.parts [] o m refl r.took.puts),
   )
   drove_end Words e = absurd e
   drove_end ReadFault e = absurd e

@@ -27,7 +27,7 @@ use Rattle.script_cli.specs.Due.{Due, command_due, image_due, due_length, past_a
 use Rattle.script_cli.specs.Due.{commands_due, IsRecordOf, AreRecordsOf, AreFirstOf}
 use Rattle.script_cli.specs.Puts.{is_command, put_for}
 use Rattle.script_cli.specs.Output.{Recorded, recorded, recorded_with, Reply, answered, refused_or}
-use Rattle.script_cli.specs.Output.{put, reply, statement_reply, reading_reply, piece_reply}
+use Rattle.script_cli.specs.Output.{put, reply, statement_reply, reading_reply, part_reply}
 use Rattle.script_cli.specs.Output.{all_puts, recorded_after}
 use Rattle.script_cli.specs.Responses.{put_of}
 use Rattle.script_cli.proofs.DueRecords.{records_apart, are_first, first_apart}
@@ -200,58 +200,58 @@ reading_step limit now Blank = unchanged now (reading_reply limit Blank now) ref
 reading_step limit now (Refused r) = unchanged now (reading_reply limit (Refused r) now) refl refl
 reading_step limit now (Whole s) = statement_step limit now s
 
-pub piece_step : (limit : Given) (now : Recorded) (p : StatementPart)
-    → IsStep now (piece_reply limit now p)
+pub part_step : (limit : Given) (now : Recorded) (p : StatementPart)
+    → IsStep now (part_reply limit now p)
 unfolding reply
-piece_step limit now (Text text) = reading_step limit now (reading text)
-piece_step limit now Skipped = unchanged now (piece_reply limit now Skipped) refl refl
+part_step limit now (Text text) = reading_step limit now (reading text)
+part_step limit now Skipped = unchanged now (part_reply limit now Skipped) refl refl
 
 -- ---- statements one after the other
 
 -- the records are sound after the past
-pub first_sound : (limit : Given) (pieces : List StatementPart) (now : Recorded)
-    (log : List LogRecord) → AreFirstOf (all_puts limit now pieces) log → AreSound now.past log
+pub first_sound : (limit : Given) (parts : List StatementPart) (now : Recorded)
+    (log : List LogRecord) → AreFirstOf (all_puts limit now parts) log → AreSound now.past log
 first_sound limit [] now log are = subst (AreSound now.past) (sym (none_first log are)) tt
-first_sound limit (p ∷ pieces) now log are =
-    let reply = piece_reply limit now p in
-    let step = piece_step limit now p in
+first_sound limit (p ∷ parts) now log are =
+    let reply = part_reply limit now p in
+    let step = part_step limit now p in
     ⊎_elim
     (λ first. step.sound log first)
-    (λ parts. subst (AreSound now.past) (sym parts.both)
-    (sound_append now.past parts.prefix parts.rest
-    (step.sound parts.prefix (are_first reply.puts parts.prefix parts.prefix_are))
-    (subst (λ past. AreSound past parts.rest) (step.past parts.prefix parts.prefix_are)
-    (first_sound limit pieces reply.after parts.rest parts.rest_are))))
-    (first_apart reply.puts (all_puts limit reply.after pieces) log are)
+    (λ apart. subst (AreSound now.past) (sym apart.both)
+    (sound_append now.past apart.prefix apart.rest
+    (step.sound apart.prefix (are_first reply.puts apart.prefix apart.prefix_are))
+    (subst (λ past. AreSound past apart.rest) (step.past apart.prefix apart.prefix_are)
+    (first_sound limit parts reply.after apart.rest apart.rest_are))))
+    (first_apart reply.puts (all_puts limit reply.after parts) log are)
 
-recorded_from : (limit : Given) (pieces : List StatementPart) (now : Recorded)
+recorded_from : (limit : Given) (parts : List StatementPart) (now : Recorded)
     (opening log : List LogRecord) → now ≡ recorded opening
-    → AreRecordsOf (all_puts limit now pieces) log
-    → recorded_after limit now pieces ≡ recorded (opening ++ log)
+    → AreRecordsOf (all_puts limit now parts) log
+    → recorded_after limit now parts ≡ recorded (opening ++ log)
 recorded_from limit [] now opening log is are = is ∙ ap recorded (sym (append-nil opening))
     ∙ ap (λ (l : List LogRecord). recorded (opening ++ l)) (sym (none_of log are))
-recorded_from limit (p ∷ pieces) now opening log is are =
-    let reply = piece_reply limit now p in
-    let step = piece_step limit now p in
-    let parts = records_apart reply.puts (all_puts limit reply.after pieces) log are in
-    recorded_from limit pieces reply.after (opening ++ parts.prefix) parts.rest
-    (step.recorded_is opening parts.prefix is parts.prefix_are) parts.rest_are
-    ∙ ap recorded (append_assoc opening parts.prefix parts.rest)
-    ∙ ap (λ (l : List LogRecord). recorded (opening ++ l)) (sym parts.both)
+recorded_from limit (p ∷ parts) now opening log is are =
+    let reply = part_reply limit now p in
+    let step = part_step limit now p in
+    let apart = records_apart reply.puts (all_puts limit reply.after parts) log are in
+    recorded_from limit parts reply.after (opening ++ apart.prefix) apart.rest
+    (step.recorded_is opening apart.prefix is apart.prefix_are) apart.rest_are
+    ∙ ap recorded (append_assoc opening apart.prefix apart.rest)
+    ∙ ap (λ (l : List LogRecord). recorded (opening ++ l)) (sym apart.both)
 
-pub first_put_sound : (limit : Given) (opening : List LogRecord) (pieces : List StatementPart)
-    (log : List LogRecord) → AreFirstOf (all_puts limit (recorded opening) pieces) log
+pub first_put_sound : (limit : Given) (opening : List LogRecord) (parts : List StatementPart)
+    (log : List LogRecord) → AreFirstOf (all_puts limit (recorded opening) parts) log
     → AreSound (past_recorded opening) log
-first_put_sound limit opening pieces log are = first_sound limit pieces (recorded opening) log are
+first_put_sound limit opening parts log are = first_sound limit parts (recorded opening) log are
 
-module _ (limit : Given) (opening : List LogRecord) (pieces : List StatementPart)
-    (log : List LogRecord) (are : AreRecordsOf (all_puts limit (recorded opening) pieces) log) where
-  pub recorded_is : recorded_after limit (recorded opening) pieces ≡ recorded (opening ++ log)
-  recorded_is = recorded_from limit pieces (recorded opening) opening log refl are
+module _ (limit : Given) (opening : List LogRecord) (parts : List StatementPart)
+    (log : List LogRecord) (are : AreRecordsOf (all_puts limit (recorded opening) parts) log) where
+  pub recorded_is : recorded_after limit (recorded opening) parts ≡ recorded (opening ++ log)
+  recorded_is = recorded_from limit parts (recorded opening) opening log refl are
 
   pub put_sound : AreSound (past_recorded opening) log
-  put_sound = first_put_sound limit opening pieces log
-      (are_first (all_puts limit (recorded opening) pieces) log are)
+  put_sound = first_put_sound limit opening parts log
+      (are_first (all_puts limit (recorded opening) parts) log are)
 
   pub put_accepted : AreAccepted beginning opening → AreAccepted beginning (opening ++ log)
   put_accepted accepted = accepted_append beginning opening log accepted

@@ -18,10 +18,10 @@ use Rattle.script_cli.specs.Given.{Given}
 use Rattle.script_cli.specs.declared.script_run.ScriptRun.{ScriptRun}
 use Rattle.script_cli.specs.declared.halt.Halt.{Halt}
 use Rattle.script_cli.specs.declared.halt.Halt.TheVariants.{NoMemory}
-use Rattle.script_cli.specs.Output.{Recorded, piece_reply, replies, all_puts, recorded_after}
+use Rattle.script_cli.specs.Output.{Recorded, part_reply, replies, all_puts, recorded_after}
 use Rattle.script_cli.specs.Output.{any_error}
 use Rattle.script_cli.specs.Responses.{RepresentsAt, PutBetween, StopsIn, Took, Halted, next_reply}
-use Rattle.script_cli.specs.Responses.{pieces_after, ending_after}
+use Rattle.script_cli.specs.Responses.{parts_after, ending_after}
 use Rattle.script_cli.proofs.PutsAfter.{nothing_between, then_between}
 use Rattle.script_cli.proofs.DueRecords.{commands_append}
 
@@ -39,16 +39,16 @@ module _ (limit : Given) where
   pub after-append : (now : Recorded) (xs ys : List StatementPart)
       → recorded_after limit now (xs ++ ys) ≡ recorded_after limit (recorded_after limit now xs) ys
   after-append now [] ys = refl
-  after-append now (x ∷ xs) ys = after-append (piece_reply limit now x).after xs ys
+  after-append now (x ∷ xs) ys = after-append (part_reply limit now x).after xs ys
 
   pub replies-append : (now : Recorded) (xs ys : List StatementPart)
       → replies limit now (xs ++ ys) ≡ replies limit now xs
       ++ replies limit (recorded_after limit now xs) ys
   replies-append now [] ys = refl
   replies-append now (x ∷ xs) ys =
-      let next = (piece_reply limit now x).after in
-      ap (λ l. (piece_reply limit now x).text ++ l) (replies-append next xs ys)
-      ∙ sym (append_assoc (piece_reply limit now x).text (replies limit next xs)
+      let next = (part_reply limit now x).after in
+      ap (λ l. (part_reply limit now x).text ++ l) (replies-append next xs ys)
+      ∙ sym (append_assoc (part_reply limit now x).text (replies limit next xs)
       (replies limit (recorded_after limit next xs) ys))
 
   pub put-append : (now : Recorded) (xs ys : List StatementPart)
@@ -56,9 +56,9 @@ module _ (limit : Given) where
       ++ all_puts limit (recorded_after limit now xs) ys
   put-append now [] ys = refl
   put-append now (x ∷ xs) ys =
-      let next = (piece_reply limit now x).after in
-      ap (λ l. (piece_reply limit now x).puts ++ l) (put-append next xs ys)
-      ∙ sym (append_assoc (piece_reply limit now x).puts (all_puts limit next xs)
+      let next = (part_reply limit now x).after in
+      ap (λ l. (part_reply limit now x).puts ++ l) (put-append next xs ys)
+      ∙ sym (append_assoc (part_reply limit now x).puts (all_puts limit next xs)
       (all_puts limit (recorded_after limit next xs) ys))
 
   pub error-append : (now : Recorded) (xs ys : List StatementPart)
@@ -66,9 +66,9 @@ module _ (limit : Given) where
       || any_error limit (recorded_after limit now xs) ys)
   error-append now [] ys = refl
   error-append now (x ∷ xs) ys =
-      let next = (piece_reply limit now x).after in
-      ap (λ b. (piece_reply limit now x).is_error || b) (error-append next xs ys)
-      ∙ or_assoc (piece_reply limit now x).is_error (any_error limit next xs)
+      let next = (part_reply limit now x).after in
+      ap (λ b. (part_reply limit now x).is_error || b) (error-append next xs ys)
+      ∙ or_assoc (part_reply limit now x).is_error (any_error limit next xs)
       (any_error limit (recorded_after limit next xs) ys)
 
 -- ---- bytes one after the other
@@ -78,7 +78,7 @@ module _ {D : Type 0} {g : Ghosts D} (limit : Given) (now : Recorded) where
   pub took_none : (s : ScriptRun) (a : Archive D g) (bytes : List ℕ) (w : Option (List ℕ))
       → IsValid (below a) → RepresentsAt a limit now → Took limit now s s a a bytes bytes w w
   took_none s a bytes w law represents = record {
-    pieces = [];
+    parts = [];
     cut = λ more. refl;
     end = λ more. refl;
     represents = represents;
@@ -90,58 +90,58 @@ module _ {D : Type 0} {g : Ghosts D} (limit : Given) (now : Recorded) where
 
   -- one ended
   pub took_one : (s t : ScriptRun) (a b : Archive D g) (xs ys : List ℕ) (u v : Option (List ℕ))
-      (piece : StatementPart)
-      → ((more : List ℕ) → pieces_after s (xs ++ more) ≡ piece ∷ pieces_after t (ys ++ more))
+      (part : StatementPart)
+      → ((more : List ℕ) → parts_after s (xs ++ more) ≡ part ∷ parts_after t (ys ++ more))
       → ((more : List ℕ) → ending_after s (xs ++ more) ≡ ending_after t (ys ++ more))
-      → RepresentsAt b limit (piece_reply limit now piece).after
-      → t.refused ≡ (s.refused || (piece_reply limit now piece).is_error)
-      → PutBetween a b (piece_reply limit now piece).puts
-      → t.puts ≡ s.puts + length (commands_due (piece_reply limit now piece).puts)
-      → Appends u v (piece_reply limit now piece).text → Took limit now s t a b xs ys u v
-  took_one s t a b xs ys u v piece cut end represents faulty puts counted wrote = record {
-    pieces = piece ∷ [];
+      → RepresentsAt b limit (part_reply limit now part).after
+      → t.refused ≡ (s.refused || (part_reply limit now part).is_error)
+      → PutBetween a b (part_reply limit now part).puts
+      → t.puts ≡ s.puts + length (commands_due (part_reply limit now part).puts)
+      → Appends u v (part_reply limit now part).text → Took limit now s t a b xs ys u v
+  took_one s t a b xs ys u v part cut end represents faulty puts counted wrote = record {
+    parts = part ∷ [];
     cut = cut;
     end = end;
     represents = represents;
-    refused = faulty ∙ ap (λ x. s.refused || x) (or_false (piece_reply limit now piece).is_error);
-    puts = subst (PutBetween a b) (sym (append-nil (piece_reply limit now piece).puts)) puts;
+    refused = faulty ∙ ap (λ x. s.refused || x) (or_false (part_reply limit now part).is_error);
+    puts = subst (PutBetween a b) (sym (append-nil (part_reply limit now part).puts)) puts;
     counted = counted ∙ ap (λ (l : List Due). s.puts + length (commands_due l))
-        (sym (append-nil (piece_reply limit now piece).puts));
-    wrote = subst (Appends u v) (sym (append-nil (piece_reply limit now piece).text)) wrote;
+        (sym (append-nil (part_reply limit now part).puts));
+    wrote = subst (Appends u v) (sym (append-nil (part_reply limit now part).text)) wrote;
   }
 
   -- more were taken
   pub took_more : (s t n : ScriptRun) (a b c : Archive D g) (xs ys zs : List ℕ)
       (u v w : Option (List ℕ)) → (k : Took limit now s t a b xs ys u v)
-      → Took limit (recorded_after limit now k.pieces) t n b c ys zs v w
+      → Took limit (recorded_after limit now k.parts) t n b c ys zs v w
       → Took limit now s n a c xs zs u w
   took_more s t n a b c xs ys zs u v w k m =
-      let next = recorded_after limit now k.pieces in record {
-        pieces = k.pieces ++ m.pieces;
-        cut = λ more. k.cut more ∙ ap (λ l. k.pieces ++ l) (m.cut more)
-            ∙ sym (append_assoc k.pieces m.pieces (pieces_after n (zs ++ more)));
+      let next = recorded_after limit now k.parts in record {
+        parts = k.parts ++ m.parts;
+        cut = λ more. k.cut more ∙ ap (λ l. k.parts ++ l) (m.cut more)
+            ∙ sym (append_assoc k.parts m.parts (parts_after n (zs ++ more)));
         end = λ more. k.end more ∙ m.end more;
-        represents = subst (RepresentsAt c limit) (sym (after-append limit now k.pieces m.pieces))
+        represents = subst (RepresentsAt c limit) (sym (after-append limit now k.parts m.parts))
             m.represents;
-        refused = m.refused ∙ ap (λ x. x || any_error limit next m.pieces) k.refused
-            ∙ sym (or_assoc s.refused (any_error limit now k.pieces)
-            (any_error limit next m.pieces))
-            ∙ ap (λ x. s.refused || x) (sym (error-append limit now k.pieces m.pieces));
-        puts = subst (PutBetween a c) (sym (put-append limit now k.pieces m.pieces))
-            (then_between a b c (all_puts limit now k.pieces) (all_puts limit next m.pieces) k.puts
+        refused = m.refused ∙ ap (λ x. x || any_error limit next m.parts) k.refused
+            ∙ sym (or_assoc s.refused (any_error limit now k.parts)
+            (any_error limit next m.parts))
+            ∙ ap (λ x. s.refused || x) (sym (error-append limit now k.parts m.parts));
+        puts = subst (PutBetween a c) (sym (put-append limit now k.parts m.parts))
+            (then_between a b c (all_puts limit now k.parts) (all_puts limit next m.parts) k.puts
             m.puts);
         counted = omega (
           arith,
           m.counted,
           k.counted,
-          ap (λ (l : List Due). length (commands_due l)) (put-append limit now k.pieces m.pieces),
+          ap (λ (l : List Due). length (commands_due l)) (put-append limit now k.parts m.parts),
           ap (λ (l : List PlainCommand). length l)
-              (commands_append (all_puts limit now k.pieces) (all_puts limit next m.pieces)),
-          length-append (commands_due (all_puts limit now k.pieces))
-              (commands_due (all_puts limit next m.pieces)),
+              (commands_append (all_puts limit now k.parts) (all_puts limit next m.parts)),
+          length-append (commands_due (all_puts limit now k.parts))
+              (commands_due (all_puts limit next m.parts)),
         );
-        wrote = subst (Appends u w) (sym (replies-append limit now k.pieces m.pieces))
-            (Appends-trans u v w (replies limit now k.pieces) (replies limit next m.pieces) k.wrote
+        wrote = subst (Appends u w) (sym (replies-append limit now k.parts m.parts))
+            (Appends-trans u v w (replies limit now k.parts) (replies limit next m.parts) k.wrote
             m.wrote);
       }
 
@@ -150,9 +150,9 @@ module _ {D : Type 0} {g : Ghosts D} (limit : Given) (now : Recorded) where
       (u v : Option (List ℕ)) → Took limit now s t a b xs ys u v
       → Took limit now s t a b (xs ++ zs) (ys ++ zs) u v
   took_longer s t a b xs ys zs u v k = record {
-    pieces = k.pieces;
-    cut = λ more. ap (pieces_after s) (append_assoc xs zs more) ∙ k.cut (zs ++ more)
-        ∙ ap (λ l. k.pieces ++ pieces_after t l) (sym (append_assoc ys zs more));
+    parts = k.parts;
+    cut = λ more. ap (parts_after s) (append_assoc xs zs more) ∙ k.cut (zs ++ more)
+        ∙ ap (λ l. k.parts ++ parts_after t l) (sym (append_assoc ys zs more));
     end = λ more. ap (ending_after s) (append_assoc xs zs more) ∙ k.end (zs ++ more)
         ∙ ap (ending_after t) (sym (append_assoc ys zs more));
     represents = k.represents;
@@ -163,12 +163,12 @@ module _ {D : Type 0} {g : Ghosts D} (limit : Given) (now : Recorded) where
   }
 
   -- after statements that were answered the run stopped
-  pub halted_after : (halt : Halt) (before pieces : List StatementPart) (a b c : Archive D g)
+  pub halted_after : (halt : Halt) (before parts : List StatementPart) (a b c : Archive D g)
       (u v w : Option (List ℕ)) → PutBetween a b (all_puts limit now before)
       → Appends u v (replies limit now before)
-      → Halted halt limit (recorded_after limit now before) pieces b c v w
-      → Halted halt limit now (before ++ pieces) a c u w
-  halted_after halt before pieces a b c u v w puts wrote h =
+      → Halted halt limit (recorded_after limit now before) parts b c v w
+      → Halted halt limit now (before ++ parts) a c u w
+  halted_after halt before parts a b c u v w puts wrote h =
       let next = recorded_after limit now before in record {
         whole = before ++ h.whole;
         rest = h.rest;
@@ -188,23 +188,23 @@ module _ {D : Type 0} {g : Ghosts D} (limit : Given) (now : Recorded) where
   -- after bytes that were taken
   pub halted_more : (halt : Halt) (s t : ScriptRun) (a b c : Archive D g) (xs ys : List ℕ)
       (u v w : Option (List ℕ)) → (k : Took limit now s t a b xs ys u v)
-      → Halted halt limit (recorded_after limit now k.pieces) (pieces_after t ys) b c v w
-      → Halted halt limit now (pieces_after s xs) a c u w
+      → Halted halt limit (recorded_after limit now k.parts) (parts_after t ys) b c v w
+      → Halted halt limit now (parts_after s xs) a c u w
   halted_more halt s t a b c xs ys u v w k h =
-      let all : pieces_after s xs ≡ k.pieces ++ pieces_after t ys =
-      ap (pieces_after s) (sym (append-nil xs)) ∙ k.cut []
-      ∙ ap (λ l. k.pieces ++ pieces_after t l) (append-nil ys) in
+      let all : parts_after s xs ≡ k.parts ++ parts_after t ys =
+      ap (parts_after s) (sym (append-nil xs)) ∙ k.cut []
+      ∙ ap (λ l. k.parts ++ parts_after t l) (append-nil ys) in
       subst (λ l. Halted halt limit now l a c u w) (sym all)
-      (halted_after halt k.pieces (pieces_after t ys) a b c u v w k.puts k.wrote h)
+      (halted_after halt k.parts (parts_after t ys) a b c u v w k.puts k.wrote h)
 
   -- the run stopped in the first of these
-  pub halted_first : (halt : Halt) (pieces : List StatementPart) (a b : Archive D g)
+  pub halted_first : (halt : Halt) (parts : List StatementPart) (a b : Archive D g)
       (u v : Option (List ℕ)) → IsValid (below a)
-      → StopsIn halt (next_reply limit now pieces) a b u v
-      → Halted halt limit now pieces a b u v
-  halted_first halt pieces a b u v law stops = record {
+      → StopsIn halt (next_reply limit now parts) a b u v
+      → Halted halt limit now parts a b u v
+  halted_first halt parts a b u v law stops = record {
     whole = [];
-    rest = pieces;
+    rest = parts;
     are = refl;
     mid = a;
     between = u;
@@ -214,10 +214,10 @@ module _ {D : Type 0} {g : Ghosts D} (limit : Given) (now : Recorded) where
   }
 
   -- memory ran out before any of these was answered
-  pub halted_memory : (pieces : List StatementPart) (a : Archive D g) (u : Option (List ℕ))
-      → IsValid (below a) → Halted NoMemory limit now pieces a a u u
-  halted_memory pieces a u law =
-      halted_first NoMemory pieces a a u u law (refl, nothing_between a law)
+  pub halted_memory : (parts : List StatementPart) (a : Archive D g) (u : Option (List ℕ))
+      → IsValid (below a) → Halted NoMemory limit now parts a a u u
+  halted_memory parts a u law =
+      halted_first NoMemory parts a a u u law (refl, nothing_between a law)
 
 -- what an answer is in its case
 pub left_none : {T : Type 0} (o : Option T) (A : Type 0) (B : T → Type 0) → o ≡ None
@@ -235,7 +235,7 @@ all_taken cut rest state e h = let P : Cut → Type 0 = λ k. IsSettled k rest s
 
 module _ {D : Type 0} {g : Ghosts D} (limit : Given) (now : Recorded) (s t : ScriptRun) (z : State)
     (a b : Archive D g) (xs ys : List ℕ) (u v : Option (List ℕ)) (cut : Cut)
-    (statements : (more : List ℕ) → pieces_after s (xs ++ more) ≡ found cut
+    (statements : (more : List ℕ) → parts_after s (xs ++ more) ≡ found cut
     ++ parts_from z.mode z.kept (ys ++ more))
     (tail : (more : List ℕ) → ending_after s (xs ++ more)
     ≡ ending (tail_from z.mode z.kept (ys ++ more)))
@@ -244,7 +244,7 @@ module _ {D : Type 0} {g : Ghosts D} (limit : Given) (now : Recorded) (s t : Scr
   pub took_all : cut ≡ More → ys ≡ [] → IsValid (below a) → RepresentsAt a limit now
       → t.refused ≡ s.refused → t.puts ≡ s.puts → Took limit now s t a a xs [] u u
   took_all e all law represents faulty counted = record {
-    pieces = [];
+    parts = [];
     cut = λ more. statements more ∙ ap (λ k. found k ++ parts_from z.mode z.kept (ys ++ more)) e
         ∙ ap (λ l. parts_from z.mode z.kept (l ++ more)) all
         ∙ ap (λ z. parts_from z.mode z.kept more) (sym same);
@@ -258,27 +258,27 @@ module _ {D : Type 0} {g : Ghosts D} (limit : Given) (now : Recorded) (s t : Scr
   }
 
   -- a statement ended, and was answered
-  pub took_answer : (piece : StatementPart) → found cut ≡ piece ∷ []
-      → RepresentsAt b limit (piece_reply limit now piece).after
-      → t.refused ≡ (s.refused || (piece_reply limit now piece).is_error)
-      → PutBetween a b (piece_reply limit now piece).puts
-      → t.puts ≡ s.puts + length (commands_due (piece_reply limit now piece).puts)
-      → Appends u v (piece_reply limit now piece).text → Took limit now s t a b xs ys u v
-  took_answer piece e represents faulty puts counted wrote = took_one limit now s t a b xs ys u v
-      piece
+  pub took_answer : (part : StatementPart) → found cut ≡ part ∷ []
+      → RepresentsAt b limit (part_reply limit now part).after
+      → t.refused ≡ (s.refused || (part_reply limit now part).is_error)
+      → PutBetween a b (part_reply limit now part).puts
+      → t.puts ≡ s.puts + length (commands_due (part_reply limit now part).puts)
+      → Appends u v (part_reply limit now part).text → Took limit now s t a b xs ys u v
+  took_answer part e represents faulty puts counted wrote = took_one limit now s t a b xs ys u v
+      part
       (λ more. statements more ∙ ap (λ l. l ++ parts_from z.mode z.kept (ys ++ more)) e
-      ∙ ap (λ z. piece ∷ parts_from z.mode z.kept (ys ++ more)) (sym same))
+      ∙ ap (λ z. part ∷ parts_from z.mode z.kept (ys ++ more)) (sym same))
       (λ more. tail more ∙ ap (λ z. ending (tail_from z.mode z.kept (ys ++ more))) (sym same))
       represents faulty puts counted wrote
 
   -- or the run stopped in its reply
-  pub halted_answer : (halt : Halt) (piece : StatementPart) → found cut ≡ piece ∷ []
-      → IsValid (below a) → StopsIn halt (piece_reply limit now piece) a b u v
-      → Halted halt limit now (pieces_after s xs) a b u v
-  halted_answer halt piece e law stops =
-      let whole : pieces_after s xs ≡ piece ∷ parts_from z.mode z.kept (ys ++ []) =
-      ap (pieces_after s) (sym (append-nil xs)) ∙ statements []
+  pub halted_answer : (halt : Halt) (part : StatementPart) → found cut ≡ part ∷ []
+      → IsValid (below a) → StopsIn halt (part_reply limit now part) a b u v
+      → Halted halt limit now (parts_after s xs) a b u v
+  halted_answer halt part e law stops =
+      let whole : parts_after s xs ≡ part ∷ parts_from z.mode z.kept (ys ++ []) =
+      ap (parts_after s) (sym (append-nil xs)) ∙ statements []
       ∙ ap (λ l. l ++ parts_from z.mode z.kept (ys ++ [])) e in
       subst (λ l. Halted halt limit now l a b u v) (sym whole)
-      (halted_first limit now halt (piece ∷ parts_from z.mode z.kept (ys ++ [])) a b u v law
+      (halted_first limit now halt (part ∷ parts_from z.mode z.kept (ys ++ [])) a b u v law
       stops)

@@ -17,7 +17,7 @@ use Rattle.archive_file.specs.Opening.{Opens, Damages}
 use Rattle.script_parse.specs.Script.{StatementPart, parts_from, tail_of}
 use Rattle.script_cli.specs.Due.{Due, AreRecordsOf, AreFirstOf}
 use Rattle.script_cli.specs.Given.{Given}
-use Rattle.script_cli.specs.Output.{Recorded, recorded, piece_reply, replies, replies_of, all_puts}
+use Rattle.script_cli.specs.Output.{Recorded, recorded, part_reply, replies, replies_of, all_puts}
 use Rattle.script_cli.specs.Output.{script_puts, recorded_after, parts_of, ending_of, output}
 use Rattle.script_cli.specs.Output.{tail_text}
 use Rattle.script_cli.specs.Responses.{next_reply}
@@ -29,7 +29,7 @@ use Rattle.script_cli.specs.declared.status.Status.TheVariants.{Done, Refused, W
 use Rattle.script_cli.specs.declared.status.Status.TheVariants.{WriteFault, DiskFault, NotAJournal}
 use Rattle.script_cli.specs.declared.status.Status.TheVariants.{NoMemory, InputLimit}
 use Rattle.script_cli.proofs.Taking.{replies-append, put-append}
-use Rattle.script_cli.proofs.Prefixes.{mode_after_script, pieces-append}
+use Rattle.script_cli.proofs.Prefixes.{mode_after_script, parts-append}
 use Rattle.script_cli.proofs.DueRecords.{all_first}
 use Rattle.script_cli.proofs.OneReading.{OpensOnce, DamagedOnce, NeverBoth}
 use Rattle.script_cli.proofs.Recording.{put_sound}
@@ -48,14 +48,14 @@ module _ (limit : Given) (start : Recorded) where
       → AppendsPrefix u v (next_reply limit now rest).text
       → AppendsPrefix u v (replies limit now rest)
   next_prefix now [] u v p = p
-  next_prefix now (x ∷ rest) u v p = longer u v (piece_reply limit now x).text
-      (replies limit (piece_reply limit now x).after rest) p
+  next_prefix now (x ∷ rest) u v p = longer u v (part_reply limit now x).text
+      (replies limit (part_reply limit now x).after rest) p
 
   -- a script's replies begin with those to its prefix
   replies_begin : (xs ys : List ℕ) → replies_of limit start (xs ++ ys) ≡ replies_of limit start xs
       ++ replies limit (recorded_after limit start (parts_of xs))
       (parts_from (mode_after_script xs) (tail_of xs) ys)
-  replies_begin xs ys = ap (replies limit start) (pieces-append xs ys)
+  replies_begin xs ys = ap (replies limit start) (parts-append xs ys)
       ∙ replies-append limit start (parts_of xs)
       (parts_from (mode_after_script xs) (tail_of xs) ys)
 
@@ -174,7 +174,7 @@ module _ (limit : Given) (start : Recorded) where
   puts_begin : (xs ys : List ℕ) → script_puts limit start (xs ++ ys) ≡ script_puts limit start xs
       ++ all_puts limit (recorded_after limit start (parts_of xs))
       (parts_from (mode_after_script xs) (tail_of xs) ys)
-  puts_begin xs ys = ap (all_puts limit start) (pieces-append xs ys)
+  puts_begin xs ys = ap (all_puts limit start) (parts-append xs ys)
       ∙ put-append limit start (parts_of xs) (parts_from (mode_after_script xs) (tail_of xs) ys)
 
   -- those that were attempted are the first of those that the script puts

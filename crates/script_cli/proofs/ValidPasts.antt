@@ -27,7 +27,7 @@ use Rattle.archive_core.specs.Committing.{room_fault, commit_fault}
 use Rattle.archive_core.specs.Checkpointing.{checkpoint_fault}
 use Rattle.script_cli.specs.Given.{Given}
 use Rattle.script_cli.specs.Output.{Recorded, recorded, answered, refused_or, put_command}
-use Rattle.script_cli.specs.Output.{put_image, statement_reply, reading_reply, reply, piece_reply}
+use Rattle.script_cli.specs.Output.{put_image, statement_reply, reading_reply, reply, part_reply}
 use Rattle.script_cli.specs.Output.{recorded_after}
 use Rattle.answer_text.specs.Texts.{listing_text, explain_text, schema_text}
 use Rattle.script_cli.specs.Written.{IsWritten, HasWritten}
@@ -102,16 +102,16 @@ module _ (limit : Given) where
   reading_keeps now (Refused r) has h = h
   reading_keeps now (Whole s) has h = statement_keeps now s has h
 
-  piece_keeps : (now : Recorded) (p : StatementPart) → IsOfScript now.past
-      → IsOfScript (piece_reply limit now p).after.past
+  part_keeps : (now : Recorded) (p : StatementPart) → IsOfScript now.past
+      → IsOfScript (part_reply limit now p).after.past
   unfolding reply
-  piece_keeps now (Text text) h = reading_keeps now (reading text) (has_written text) h
-  piece_keeps now Skipped h = h
+  part_keeps now (Text text) h = reading_keeps now (reading text) (has_written text) h
+  part_keeps now Skipped h = h
 
-  keeps : (pieces : List StatementPart) (now : Recorded) → IsOfScript now.past
-      → IsOfScript (recorded_after limit now pieces).past
+  keeps : (parts : List StatementPart) (now : Recorded) → IsOfScript now.past
+      → IsOfScript (recorded_after limit now parts).past
   keeps [] now h = h
-  keeps (p ∷ pieces) now h = keeps pieces (piece_reply limit now p).after (piece_keeps now p h)
+  keeps (p ∷ parts) now h = keeps parts (part_reply limit now p).after (part_keeps now p h)
 
 -- ---- the opening records
 
@@ -140,22 +140,22 @@ module _ (shown : ImagesShowPasts) where
       opening_keeps log (image_past past.commands i) are.1 accepted
       (λ none. image_is past.commands i are.0)
 
-  of_script : (limit : Given) (opening : List LogRecord) (pieces : List StatementPart)
+  of_script : (limit : Given) (opening : List LogRecord) (parts : List StatementPart)
       → AreSpelled opening → AreAccepted beginning opening
-      → IsOfScript (recorded_after limit (recorded opening) pieces).past
-  of_script limit opening pieces are accepted =
-      keeps limit pieces (recorded opening) (opening_keeps opening beginning are accepted
+      → IsOfScript (recorded_after limit (recorded opening) parts).past
+  of_script limit opening parts are accepted =
+      keeps limit parts (recorded opening) (opening_keeps opening beginning are accepted
       (λ none. beginning_is))
 
   -- it is one that accepted commands make
-  pub still_made : (limit : Given) (opening : List LogRecord) (pieces : List StatementPart)
+  pub still_made : (limit : Given) (opening : List LogRecord) (parts : List StatementPart)
       → AreSpelled opening → AreAccepted beginning opening
-      → IsPast (recorded_after limit (recorded opening) pieces).past
-  still_made limit opening pieces are accepted = (of_script limit opening pieces are accepted).made
+      → IsPast (recorded_after limit (recorded opening) parts).past
+  still_made limit opening parts are accepted = (of_script limit opening parts are accepted).made
 
   -- and the constants of its versions are valid
-  pub valid_constants : (limit : Given) (opening : List LogRecord) (pieces : List StatementPart)
+  pub valid_constants : (limit : Given) (opening : List LogRecord) (parts : List StatementPart)
       → AreSpelled opening → AreAccepted beginning opening
-      → ValidInVersions (recorded_after limit (recorded opening) pieces).past.versions
-  valid_constants limit opening pieces are accepted =
-      (of_script limit opening pieces are accepted).constants
+      → ValidInVersions (recorded_after limit (recorded opening) parts).past.versions
+  valid_constants limit opening parts are accepted =
+      (of_script limit opening parts are accepted).constants

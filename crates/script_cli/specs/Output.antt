@@ -148,9 +148,9 @@ unfoldable pub reply : Given → Recorded → List ℕ → Reply
 reply limit now text = reading_reply limit (reading text) now
 
 -- the reply to what a script has before a `;`
-abbrev pub piece_reply : Given → Recorded → StatementPart → Reply
-piece_reply limit now (Text text) = reply limit now text
-piece_reply limit now Skipped = refused refusal.TooLong now
+abbrev pub part_reply : Given → Recorded → StatementPart → Reply
+part_reply limit now (Text text) = reply limit now text
+part_reply limit now Skipped = refused refusal.TooLong now
 
 -- the line for what stands after the last `;`, if one is due
 abbrev pub tail_text : Tail → List ℕ
@@ -167,22 +167,22 @@ tail_is_due tail.TooLong = true
 -- whether an `error` line is among the replies
 abbrev pub replies : Given → Recorded → List StatementPart → List ℕ
 replies limit now [] = []
-replies limit now (p ∷ pieces) = (piece_reply limit now p).text
-    ++ replies limit (piece_reply limit now p).after pieces
+replies limit now (p ∷ parts) = (part_reply limit now p).text
+    ++ replies limit (part_reply limit now p).after parts
 
 abbrev pub all_puts : Given → Recorded → List StatementPart → List Due
 all_puts limit now [] = []
-all_puts limit now (p ∷ pieces) = (piece_reply limit now p).puts
-    ++ all_puts limit (piece_reply limit now p).after pieces
+all_puts limit now (p ∷ parts) = (part_reply limit now p).puts
+    ++ all_puts limit (part_reply limit now p).after parts
 
 abbrev pub recorded_after : Given → Recorded → List StatementPart → Recorded
 recorded_after limit now [] = now
-recorded_after limit now (p ∷ pieces) = recorded_after limit (piece_reply limit now p).after pieces
+recorded_after limit now (p ∷ parts) = recorded_after limit (part_reply limit now p).after parts
 
 abbrev pub any_error : Given → Recorded → List StatementPart → Bool
 any_error limit now [] = false
-any_error limit now (p ∷ pieces) = (piece_reply limit now p).is_error
-    || any_error limit (piece_reply limit now p).after pieces
+any_error limit now (p ∷ parts) = (part_reply limit now p).is_error
+    || any_error limit (part_reply limit now p).after parts
 
 -- of a script: its statements, what is left after the last `;`, the replies, all that is due, and
 -- whether an `error` line is

@@ -19,7 +19,7 @@ use Rattle.script_cli.specs.declared.halt.Halt.TheVariants.{WriteFault, DiskFaul
 use Rattle.script_cli.specs.Puts.{put_for}
 use Rattle.script_cli.specs.Due.{Due, AreRecordsOf, commands_due}
 use Rattle.script_cli.specs.Given.{Given}
-use Rattle.script_cli.specs.Output.{Recorded, Reply, answered, piece_reply, replies, all_puts}
+use Rattle.script_cli.specs.Output.{Recorded, Reply, answered, part_reply, replies, all_puts}
 use Rattle.script_cli.specs.Output.{recorded_after, any_error}
 use Rattle.script_cli.specs.Putting.{HasPut, MayHavePut}
 
@@ -36,8 +36,8 @@ Says reply (Err DiskFault) old new = ⊥
 Says reply (Err NoMemory) old new = new ≡ old
 
 -- the statements that bytes bring, after what the run has of its current one
-abbrev pub pieces_after : ScriptRun → List ℕ → List StatementPart
-pieces_after script_run bytes = parts_from script_run.splitter.mode script_run.splitter.kept bytes
+abbrev pub parts_after : ScriptRun → List ℕ → List StatementPart
+parts_after script_run bytes = parts_from script_run.splitter.mode script_run.splitter.kept bytes
 
 -- and what they leave after the last `;`
 abbrev pub ending_after : ScriptRun → List ℕ → Tail
@@ -47,7 +47,7 @@ ending_after script_run bytes = ending (tail_from script_run.splitter.mode scrip
 -- the reply that is due next: that to the first of these statements, or nothing where there is none
 abbrev pub next_reply : Given → Recorded → List StatementPart → Reply
 next_reply limit now [] = answered [] now
-next_reply limit now (p ∷ pieces) = piece_reply limit now p
+next_reply limit now (p ∷ parts) = part_reply limit now p
 
 module _ {D : Type 0} {g : Ghosts D} where
   -- it has not failed, and there is a gate for the next record
@@ -104,23 +104,23 @@ module _ {D : Type 0} {g : Ghosts D} where
   -- the bytes were taken up to the rest, and the statements that ended in them were answered
   pub record Took (limit : Given) (now : Recorded) (old new : ScriptRun) (a b : Archive D g)
       (bytes rest : List ℕ) (written_old written_new : Option (List ℕ)) : Type 0 where
-    pub pieces : List StatementPart
-    pub cut : (more : List ℕ) → pieces_after old (bytes ++ more) ≡ pieces
-        ++ pieces_after new (rest ++ more)
+    pub parts : List StatementPart
+    pub cut : (more : List ℕ) → parts_after old (bytes ++ more) ≡ parts
+        ++ parts_after new (rest ++ more)
     pub end : (more : List ℕ) → ending_after old (bytes ++ more) ≡ ending_after new (rest ++ more)
-    pub represents : RepresentsAt b limit (recorded_after limit now pieces)
-    pub refused : new.refused ≡ (old.refused || any_error limit now pieces)
-    pub puts : PutBetween a b (all_puts limit now pieces)
-    pub counted : new.puts ≡ old.puts + length (commands_due (all_puts limit now pieces))
-    pub wrote : Appends written_old written_new (replies limit now pieces)
+    pub represents : RepresentsAt b limit (recorded_after limit now parts)
+    pub refused : new.refused ≡ (old.refused || any_error limit now parts)
+    pub puts : PutBetween a b (all_puts limit now parts)
+    pub counted : new.puts ≡ old.puts + length (commands_due (all_puts limit now parts))
+    pub wrote : Appends written_old written_new (replies limit now parts)
 
   -- some of these statements were answered whole, and the run stopped in the reply to the next, or
   -- before any other was whole
-  pub record Halted (halt : Halt) (limit : Given) (now : Recorded) (pieces : List StatementPart)
+  pub record Halted (halt : Halt) (limit : Given) (now : Recorded) (parts : List StatementPart)
       (a b : Archive D g) (written_old written_new : Option (List ℕ)) : Type 0 where
     pub whole : List StatementPart
     pub rest : List StatementPart
-    pub are : pieces ≡ whole ++ rest
+    pub are : parts ≡ whole ++ rest
     pub mid : Archive D g
     pub between : Option (List ℕ)
     pub wrote : Appends written_old between (replies limit now whole)

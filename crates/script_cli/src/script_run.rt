@@ -16,7 +16,7 @@ ghost use Rattle.script_cli.specs.Halts.{HaltCounted};
 ghost use Rattle.script_cli.specs.Puts.{is_error};
 ghost use Rattle.script_cli.specs.Responses.{Took, Answered, Halted, StopsIn, RepresentsAt};
 ghost use Rattle.script_cli.specs.Responses.{TakesRecords};
-ghost use Rattle.script_cli.specs.Responses.{pieces_after, ending_after};
+ghost use Rattle.script_cli.specs.Responses.{parts_after, ending_after};
 
 use crate::halt::Halt;
 use crate::put::Put;
@@ -148,7 +148,7 @@ impl ScriptRun {
             ≡ meaning_of book.now.rules.items (λ r. handles (r.vtable, r.value))
             (λ r. answers (r.vtable, r.value)) → (now : Recorded)
             → RepresentsAt archive.old limit now
-            → IfErr result (λ halt. Halted halt limit now (pieces_after self.old bytes.now)
+            → IfErr result (λ halt. Halted halt limit now (parts_after self.old bytes.now)
             archive.old archive.new (K.written sink.old) (K.written sink.new)) }
         ensures fewer { IfOk result (λ rest. MatchOption rest (Unit {0})
             (λ rest. length rest.now < length bytes.now)) }
@@ -195,7 +195,7 @@ impl ScriptRun {
             ≡ meaning_of book.now.rules.items (λ r. handles (r.vtable, r.value))
             (λ r. answers (r.vtable, r.value)) → (now : Recorded)
             → RepresentsAt archive.old limit now
-            → IfErr result (λ halt. Halted halt limit now (pieces_after self.old piece.now)
+            → IfErr result (λ halt. Halted halt limit now (parts_after self.old piece.now)
             archive.old archive.new (K.written sink.old) (K.written sink.new)) }
         ensures ready { OnOk result (self.new.splitter.spent ≡ false) }
         ensures takes { OnOk result (TakesRecords archive.new) }

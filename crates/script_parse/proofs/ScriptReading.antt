@@ -18,23 +18,23 @@ still_long : (m b : ℕ) (c : List ℕ) → nat_lt m (length c) ≡ true
     → nat_lt m (length (c ++ b ∷ [])) ≡ true
 still_long m b c h = grind (arith, length-append c (b ∷ []), nat_tests)
 
-piece_long : (c : List ℕ) → is_too_long c ≡ true → part_of c ≡ Skipped
-piece_long c h = rw h refl
+part_long : (c : List ℕ) → is_too_long c ≡ true → part_of c ≡ Skipped
+part_long c h = rw h refl
 
 ending_long : (c : List ℕ) → is_too_long c ≡ true → ending c ≡ TooLong
 ending_long c h = rw h refl
 
 -- of a too long statement nothing more counts
-pub pieces_alike : (bs : List ℕ) (m : Mode) (c d : List ℕ) → is_too_long c ≡ true
+pub parts_alike : (bs : List ℕ) (m : Mode) (c d : List ℕ) → is_too_long c ≡ true
     → is_too_long d ≡ true → parts_from m c bs ≡ parts_from m d bs
-pieces_alike [] m c d hc hd = refl
-pieces_alike (b ∷ bs) m c d hc hd =
+parts_alike [] m c d hc hd = refl
+parts_alike (b ∷ bs) m c d hc hd =
     elim (is_end m b) as (λ v. map part_of (cond v (c ∷ statements_from Plain [] bs)
     (statements_from (next m b) (c ++ b ∷ []) bs))
     ≡ map part_of (cond v (d ∷ statements_from Plain [] bs)
     (statements_from (next m b) (d ++ b ∷ []) bs))) [
-      | true ↦ ap (λ p. p ∷ parts_from Plain [] bs) (piece_long c hc ∙ sym (piece_long d hd))
-      | false ↦ pieces_alike bs (next m b) (c ++ b ∷ []) (d ++ b ∷ [])
+      | true ↦ ap (λ p. p ∷ parts_from Plain [] bs) (part_long c hc ∙ sym (part_long d hd))
+      | false ↦ parts_alike bs (next m b) (c ++ b ∷ []) (d ++ b ∷ [])
           (still_long max_statement b c hc) (still_long max_statement b d hd)
     ]
 
@@ -50,13 +50,13 @@ endings_alike (b ∷ bs) m c d hc hd =
           (still_long max_statement b c hc) (still_long max_statement b d hd)
     ]
 
-kept_pieces : (bs : List ℕ) (m : Mode) (c : List ℕ) (b : ℕ)
+kept_parts : (bs : List ℕ) (m : Mode) (c : List ℕ) (b : ℕ)
     → parts_from m (c ++ b ∷ []) bs ≡ parts_from m (keep c b) bs
-kept_pieces bs m c b = by (is_too_long c) refl
+kept_parts bs m c b = by (is_too_long c) refl
   where
     by : (v : Bool) → is_too_long c ≡ v → parts_from m (c ++ b ∷ []) bs
         ≡ parts_from m (keep c b) bs
-    by true e = rw e (pieces_alike bs m (c ++ b ∷ []) c (still_long max_statement b c e) e)
+    by true e = rw e (parts_alike bs m (c ++ b ∷ []) c (still_long max_statement b c e) e)
     by false e = rw e refl
 
 kept_endings : (bs : List ℕ) (m : Mode) (c : List ℕ) (b : ℕ)
@@ -69,11 +69,11 @@ kept_endings bs m c b = by (is_too_long c) refl
     by false e = rw e refl
 
 -- a byte of a statement
-pub pieces_step : (m : Mode) (c : List ℕ) (b : ℕ) (bs : List ℕ) → is_end m b ≡ false
+pub parts_step : (m : Mode) (c : List ℕ) (b : ℕ) (bs : List ℕ) → is_end m b ≡ false
     → parts_from m c (b ∷ bs) ≡ parts_from (next m b) (keep c b) bs
-pieces_step m c b bs e = ap (λ v. map part_of
+parts_step m c b bs e = ap (λ v. map part_of
     (cond v (c ∷ statements_from Plain [] bs) (statements_from (next m b) (c ++ b ∷ []) bs))) e
-    ∙ kept_pieces bs (next m b) c b
+    ∙ kept_parts bs (next m b) c b
 
 pub endings_step : (m : Mode) (c : List ℕ) (b : ℕ) (bs : List ℕ) → is_end m b ≡ false
     → ending (tail_from m c (b ∷ bs)) ≡ ending (tail_from (next m b) (keep c b) bs)
@@ -81,9 +81,9 @@ endings_step m c b bs e = ap (λ v. ending (cond v (tail_from Plain [] bs)
     (tail_from (next m b) (c ++ b ∷ []) bs))) e ∙ kept_endings bs (next m b) c b
 
 -- a statement's end
-pub pieces_end : (m : Mode) (c : List ℕ) (b : ℕ) (bs : List ℕ) → is_end m b ≡ true
+pub parts_end : (m : Mode) (c : List ℕ) (b : ℕ) (bs : List ℕ) → is_end m b ≡ true
     → parts_from m c (b ∷ bs) ≡ part_of c ∷ parts_from Plain [] bs
-pieces_end m c b bs e = ap (λ v. map part_of
+parts_end m c b bs e = ap (λ v. map part_of
     (cond v (c ∷ statements_from Plain [] bs) (statements_from (next m b) (c ++ b ∷ []) bs))) e
 
 pub endings_end : (m : Mode) (c : List ℕ) (b : ℕ) (bs : List ℕ) → is_end m b ≡ true
@@ -92,12 +92,12 @@ endings_end m c b bs e = ap (λ v. ending (cond v (tail_from Plain [] bs)
     (tail_from (next m b) (c ++ b ∷ []) bs))) e
 
 -- a loop's turn
-pub pieces_turn : (bs more : List ℕ) (i : ℕ) (m : Mode) (c : List ℕ) → i < length bs
+pub parts_turn : (bs more : List ℕ) (i : ℕ) (m : Mode) (c : List ℕ) → i < length bs
     → is_end m (get_or bs i 0) ≡ false
     → parts_from m c (drop i bs ++ more) ≡ parts_from (next m (get_or bs i 0))
     (keep c (get_or bs i 0)) (drop (i + 1) bs ++ more)
-pieces_turn bs more i m c h e = ap (λ l. parts_from m c (l ++ more)) (drop_more bs i 0 h)
-    ∙ pieces_step m c (get_or bs i 0) (drop (i + 1) bs ++ more) e
+parts_turn bs more i m c h e = ap (λ l. parts_from m c (l ++ more)) (drop_more bs i 0 h)
+    ∙ parts_step m c (get_or bs i 0) (drop (i + 1) bs ++ more) e
 
 pub endings_turn : (bs more : List ℕ) (i : ℕ) (m : Mode) (c : List ℕ) → i < length bs
     → is_end m (get_or bs i 0) ≡ false

@@ -37,7 +37,8 @@ use Rattle.history_store.specs.declared.restoration.Cell.{Cell as ReadCell}
 use Rattle.shown_rows.specs.Cells.{cell_seen, cells_seen}
 use Rattle.shown_rows.specs.Stretches.{RowStretch, bare_from, all_merged}
 use Rattle.shown_rows.specs.declared.order.Showing.{Showing}
-use Rattle.shown_rows.specs.Showing.{piece_at, number_alone, alone, as_row, piece_in, showing_cmp}
+use Rattle.shown_rows.specs.Showing.{stretch_at, number_alone, alone, as_row, stretch_in}
+use Rattle.shown_rows.specs.Showing.{showing_cmp}
 use Rattle.shown_rows.specs.Showing.{none_clash as none_showing_clash, goes_on, ids_on, IsJudged}
 use Rattle.shown_rows.specs.Showing.{AreOrdered}
 use Rattle.shown_rows.proofs.FilledKeys.{Fill}
@@ -66,29 +67,30 @@ without_ends Greater s e h = h
 module _ {T : Type 0} (values : T → List Value) (cmp : T → T → Ordering) (same : (x y : T)
     → cmp x y ≡ row_cmp (values x) (values y)) where
   none_same : (showing : List (Showing T)) → none_showing_clash cmp showing
-      ≡ none_clash (map entry_in (map (piece_at values) showing))
+      ≡ none_clash (map entry_in (map (stretch_at values) showing))
   none_same [] = refl
   none_same (s ∷ []) = refl
   none_same (s ∷ (t ∷ rest)) =
       ap (λ o. not ((nat_lt s.start t.end && nat_lt t.start s.end) && is_eq o)
       && none_showing_clash cmp (t ∷ rest)) (same s.item t.item)
-      ∙ ap (λ b. not (clash (entry_in (piece_at values s)) (entry_in (piece_at values t))) && b)
+      ∙ ap (λ b. not (clash (entry_in (stretch_at values s)) (entry_in (stretch_at values t))) && b)
       (none_same (t ∷ rest))
 
-  ids_same : (showing : List (Showing T)) → ids_on showing ≡ ids_in (map (piece_at values) showing)
+  ids_same : (showing : List (Showing T))
+      → ids_on showing ≡ ids_in (map (stretch_at values) showing)
   ids_same [] = refl
   ids_same (s ∷ rest) = step (goes_on s) (ids_same rest)
     where
-      step : (b : Bool) → ids_on rest ≡ ids_in (map (piece_at values) rest)
+      step : (b : Bool) → ids_on rest ≡ ids_in (map (stretch_at values) rest)
           → (cond b (s.id ∷ []) []) ++ ids_on rest
           ≡ map (λ (p : RowStretch). p.id) (cond b
-          (piece_at values s ∷ filter on (map (piece_at values) rest))
-          (filter on (map (piece_at values) rest)))
+          (stretch_at values s ∷ filter on (map (stretch_at values) rest))
+          (filter on (map (stretch_at values) rest)))
       step true e = ap (λ l. s.id ∷ l) e
       step false e = e
 
   not_after : (s t : Showing T) → is_lt (showing_cmp cmp t s) ≡ false
-      → NotAfter row_cmp row_exact (entry_in (piece_at values s)) (entry_in (piece_at values t))
+      → NotAfter row_cmp row_exact (entry_in (stretch_at values s)) (entry_in (stretch_at values t))
   not_after s t h =
       step (row_cmp (values t.item) (values s.item)) refl
       (subst (λ r. is_lt (ordering_then r (nat_cmp t.start s.start)) ≡ false) (same t.item s.item)
@@ -97,7 +99,8 @@ module _ {T : Type 0} (values : T → List Value) (cmp : T → T → Ordering) (
     where
       step : (r : Ordering) → row_cmp (values t.item) (values s.item) ≡ r
           → is_lt (ordering_then r (nat_cmp t.start s.start)) ≡ false
-          → NotAfter row_cmp row_exact (entry_in (piece_at values s)) (entry_in (piece_at values t))
+          → NotAfter row_cmp row_exact (entry_in (stretch_at values s))
+          (entry_in (stretch_at values t))
       step Less q k = absurd (cc)
       step Equal q k = inr (
         sym (row_exact.same (values t.item) (values s.item) q),
@@ -106,7 +109,7 @@ module _ {T : Type 0} (values : T → List Value) (cmp : T → T → Ordering) (
       step Greater q k = inl (row_exact.turn (values t.item) (values s.item) q)
 
   in_order : (showing : List (Showing T)) → IsSorted (showing_cmp cmp) showing
-      → Ordered row_cmp row_exact (map entry_in (map (piece_at values) showing))
+      → Ordered row_cmp row_exact (map entry_in (map (stretch_at values) showing))
   in_order [] f = tt
   in_order (s ∷ []) f = tt
   in_order (s ∷ (t ∷ rest)) f = (
@@ -121,20 +124,20 @@ module _ {T : Type 0} (values : T → List Value) (cmp : T → T → Ordering) (
   module _ (keys : List Span) (told : List (List Cell)) (pieces : List RowStretch)
       (fill : Fill 0 keys pieces) (sound : Sound told pieces) (ends : (j : ℕ) → j < length keys
       → (get_or keys j (span 0 0)).end ≤ forever)
-      (showing : List (Showing T)) (is : map (piece_at values) showing ≡ pieces) where
+      (showing : List (Showing T)) (is : map (stretch_at values) showing ≡ pieces) where
     moved_pieces : (v : Option (Vec ℕ Global)) (j : IsJudged cmp showing v)
-        → IsPermutation pieces (map (piece_at values) j.sorted)
-    moved_pieces v j = subst (λ l. IsPermutation l (map (piece_at values) j.sorted)) is
-        (IsPermutation-map (piece_at values) showing j.sorted j.moved)
+        → IsPermutation pieces (map (stretch_at values) j.sorted)
+    moved_pieces v j = subst (λ l. IsPermutation l (map (stretch_at values) j.sorted)) is
+        (IsPermutation-map (stretch_at values) showing j.sorted j.moved)
 
     pub told_apart : (ids : Vec ℕ Global) → IsJudged cmp showing (Some ids) → ApartAlways keys told
     told_apart ids j =
-        two_rows keys told pieces fill sound (map (piece_at values) j.sorted)
+        two_rows keys told pieces fill sound (map (stretch_at values) j.sorted)
         (moved_pieces (Some ids) j) (in_order j.sorted j.rises)
         (sym (none_same j.sorted) ∙ j.verdict.0)
 
     pub told_one : IsJudged cmp showing None → ApartAlways keys told → ⊥
-    told_one j a = one_row keys told pieces fill sound (map (piece_at values) j.sorted)
+    told_one j a = one_row keys told pieces fill sound (map (stretch_at values) j.sorted)
         (moved_pieces None j) (in_order j.sorted j.rises) (sym (none_same j.sorted) ∙ j.verdict) a
 
     pub told_order : (ids : Vec ℕ Global) → IsJudged cmp showing (Some ids)
@@ -143,7 +146,7 @@ module _ {T : Type 0} (values : T → List Value) (cmp : T → T → Ordering) (
         → row_cmp p.row q.row ≡ Less → row_cmp (row_at p.id last_moment cells)
         (row_at q.id last_moment cells) ≡ Less) → IsInOrder keys cells ids.items
     told_order ids j cells grow =
-        let sorted = map (piece_at values) j.sorted in
+        let sorted = map (stretch_at values) j.sorted in
         let moved = moved_pieces (Some ids) j in
         let rises = in_order j.sorted j.rises in
         let are : ids_in sorted ≡ ids.items = sym (ids_same j.sorted) ∙ sym j.verdict.1 in
@@ -164,7 +167,7 @@ then_equal Equal = refl
 then_equal Greater = refl
 
 first_fill : (last : Option ℕ) (type : ColType) (id : ℕ) (keys : List Span) (cells : List Cell)
-    → Run last type id keys cells → Fill id keys (map piece_in cells)
+    → Run last type id keys cells → Fill id keys (map stretch_in cells)
 first_fill last type id [] [] r = tt
 first_fill last type id [] (c ∷ cells) r = absurd r
 first_fill last type id (left ∷ keys) [] r = absurd r
@@ -181,13 +184,13 @@ first_fill last type id (left ∷ keys) (c ∷ cells) r =
           (c.period.end == left.end) r.1,
     )
   where
-    rest : (Run last type (id + 1) keys cells → Fill (id + 1) keys (map piece_in cells))
+    rest : (Run last type (id + 1) keys cells → Fill (id + 1) keys (map stretch_in cells))
         → (Run last type id (span c.period.end left.end ∷ keys) cells
-        → Fill id (span c.period.end left.end ∷ keys) (map piece_in cells))
+        → Fill id (span c.period.end left.end ∷ keys) (map stretch_in cells))
         → (b : Bool) → MatchBool b (Run last type (id + 1) keys cells)
         (Run last type id (span c.period.end left.end ∷ keys) cells)
-        → MatchBool b (Fill (id + 1) keys (map piece_in cells))
-        (Fill id (span c.period.end left.end ∷ keys) (map piece_in cells))
+        → MatchBool b (Fill (id + 1) keys (map stretch_in cells))
+        (Fill id (span c.period.end left.end ∷ keys) (map stretch_in cells))
     rest f g true x = f x
     rest f g false x = g x
 
@@ -207,9 +210,9 @@ module _ (last : Option ℕ) (keys : List Span) (type : ColType) (first : List C
   each : ShowEach first first
   each = shows_each keys first (run_filled last type keys first run)
 
-  first_sound : Sound (first ∷ []) (map piece_in first)
+  first_sound : Sound (first ∷ []) (map stretch_in first)
   first_sound p i m k =
-      let c = from_map piece_in p first i in
+      let c = from_map stretch_in p first i in
       let shows = each c.0 c.1 m (subst (λ (x : RowStretch). covers x.period m ≡ true) (sym c.2)
       k) in
       subst (λ (x : RowStretch). x.row ≡ row_at x.id m (first ∷ [])) c.2
@@ -226,11 +229,11 @@ module _ (last : Option ℕ) (keys : List Span) (type : ColType) (first : List C
       a m i j hi hj (append-nil (shown_at i m first) ∙ v.1 ∙ ap (λ x. x ∷ []) one
       ∙ sym (append-nil (shown_at j m first) ∙ w.1))
 
-  row_is : (p : RowStretch) → In p (map piece_in first) → covers p.period last_moment ≡ true
+  row_is : (p : RowStretch) → In p (map stretch_in first) → covers p.period last_moment ≡ true
       → (v : Value) × (p.row ≡ v ∷ []) × (row_at p.id last_moment (first ∷ rest) ≡ v
       ∷ row_at p.id last_moment rest)
   row_is p i k =
-      let c = from_map piece_in p first i in
+      let c = from_map stretch_in p first i in
       let shows = each c.0 c.1 last_moment (subst
       (λ (x : RowStretch). covers x.period last_moment ≡ true) (sym c.2) k) in (
         c.0.value,
@@ -240,15 +243,15 @@ module _ (last : Option ℕ) (keys : List Span) (type : ColType) (first : List C
             (ap (λ l. l ++ row_at c.0.id last_moment rest) shows),
       )
 
-  first_grows : (p q : RowStretch) → In p (map piece_in first) → In q (map piece_in first)
+  first_grows : (p q : RowStretch) → In p (map stretch_in first) → In q (map stretch_in first)
       → on p ≡ true → on q ≡ true → row_cmp p.row q.row ≡ Less
       → row_cmp (row_at p.id last_moment (first ∷ rest)) (row_at q.id last_moment (first ∷ rest))
       ≡ Less
   first_grows p q i j a b e =
       let fill = first_fill last type 0 keys first run in
       let ends = keys_end last type 0 keys first run in
-      let v = row_is p i (still_on keys (map piece_in first) fill ends p i a) in
-      let w = row_is q j (still_on keys (map piece_in first) fill ends q j b) in
+      let v = row_is p i (still_on keys (map stretch_in first) fill ends p i a) in
+      let w = row_is q j (still_on keys (map stretch_in first) fill ends q j b) in
       ap (λ r. row_cmp r (row_at q.id last_moment (first ∷ rest))) v.2
       ∙ ap (row_cmp (v.0 ∷ row_at p.id last_moment rest)) w.2
       ∙ lesser v.0 w.0 (row_at p.id last_moment rest) (row_at q.id last_moment rest)
@@ -257,16 +260,17 @@ module _ (last : Option ℕ) (keys : List Span) (type : ColType) (first : List C
   module _ {T : Type 0} (values : T → List Value) (cmp : T → T → Ordering) (same : (x y : T)
       → cmp x y ≡ row_cmp (values x) (values y)) where
     pub first_told : (showing : List (Showing T)) (ids : Vec ℕ Global)
-        → map (piece_at values) showing ≡ map piece_in first → IsJudged cmp showing (Some ids)
+        → map (stretch_at values) showing ≡ map stretch_in first → IsJudged cmp showing (Some ids)
         → Told keys (first ∷ rest) ids.items
     first_told showing ids is j =
         let fill = first_fill last type 0 keys first run in
         let ends = keys_end last type 0 keys first run in
         record {
           apart = apart_at_starts keys (first ∷ rest)
-              (first_apart (told_apart values cmp same keys (first ∷ []) (map piece_in first) fill
+              (first_apart (told_apart values cmp same keys (first ∷ []) (map stretch_in first) fill
               first_sound ends showing is ids j));
-          order = told_order values cmp same keys (first ∷ []) (map piece_in first) fill first_sound
+          order = told_order values cmp same keys (first ∷ [])
+              (map stretch_in first) fill first_sound
               ends showing is ids j (first ∷ rest) first_grows;
         }
 
@@ -275,7 +279,7 @@ module _ {T : Type 0} (values : T → List Value) (cmp : T → T → Ordering) (
   column_told : (last : Option ℕ) (keys : List Span) (kinds : List Column) (first : List Cell)
       (rest : List (List Cell)) → ColumnsRead last keys kinds (first ∷ rest)
       → (showing : List (Showing T)) (ids : Vec ℕ Global)
-      → map (piece_at values) showing ≡ map piece_in first → IsJudged cmp showing (Some ids)
+      → map (stretch_at values) showing ≡ map stretch_in first → IsJudged cmp showing (Some ids)
       → Told keys (first ∷ rest) ids.items
   column_told last keys [] first rest r showing ids is j =
       absurd (let e : first ∷ rest ≡ [] = r in cc)
@@ -287,7 +291,7 @@ module _ {T : Type 0} (values : T → List Value) (cmp : T → T → Ordering) (
       (cells : List (Vec ReadCell Global)) → ColumnsRead last keys kinds (cells_seen cells)
       → (first : Vec ReadCell Global) → 0 < length cells → first ≡ get_or cells 0 first
       → (showing : List (Showing T)) (ids : Vec ℕ Global)
-      → map (piece_at values) showing ≡ map piece_in (map cell_seen first.items)
+      → map (stretch_at values) showing ≡ map stretch_in (map cell_seen first.items)
       → IsJudged cmp showing (Some ids) → Told keys (cells_seen cells) ids.items
   told last keys kinds cells r first some at showing ids is j =
       let seen : Vec ReadCell Global → List Cell = λ column. map cell_seen column.items in
@@ -316,7 +320,7 @@ vals_cmp x y = slice_cmp (λ v w. value_cmp (shown v) (shown w)) x.items y.items
 module _ (last : Option ℕ) (keys : List Span) (kinds : List Column) (cells : List (List Cell))
     (some : 1 ≤ length cells) (read : ColumnsRead last keys kinds cells)
     (showing : List (Showing (Vec Val Global)))
-    (is : map (piece_at as_row) showing ≡ all_merged (bare_from 0 keys) cells) where
+    (is : map (stretch_at as_row) showing ≡ all_merged (bare_from 0 keys) cells) where
   abbrev pieces : List RowStretch
   pieces = all_merged (bare_from 0 keys) cells
 

@@ -9,46 +9,47 @@ use Rattle.table_histories.specs.Store.{Cell}
 use Rattle.shown_rows.specs.declared.stretch.Stretch.{Stretch}
 use Rattle.shown_rows.specs.declared.order.Showing.{Showing}
 use Rattle.shown_rows.specs.Showing.{clash, none_clash}
-use Rattle.shown_rows.specs.Stretches.{piece_of, row_stretches, longer, begun, ended_by, given}
+use Rattle.shown_rows.specs.Stretches.{stretch_of, row_stretches, longer, begun, ended_by, given}
 use Rattle.shown_rows.specs.Stretches.{left_by}
 use Rattle.shown_rows.proofs.ListPlaces.{dropped_here, dropped_plain}
 use Rattle.shown_rows.proofs.MergedColumns.{when_true, when_false, not_below, not_equal}
 
 module _ (stretches : List Stretch) (at : ℕ) (s : Stretch) (c : Cell) (h : at < length stretches)
     (is : s ≡ get_or stretches at s) where
-  here : drop at (row_stretches stretches) ≡ piece_of s ∷ drop (at + 1) (row_stretches stretches)
-  here = dropped_here piece_of stretches at s h is
+  here : drop at (row_stretches stretches) ≡ stretch_of s ∷ drop (at + 1) (row_stretches stretches)
+  here = dropped_here stretch_of stretches at s h is
 
   -- the stretch goes on after the entry
   module _ (l : c.period.end < s.period.end) where
-    pub splits_given : given (drop at (row_stretches stretches)) c ≡ begun (piece_of s) c
+    pub splits_given : given (drop at (row_stretches stretches)) c ≡ begun (stretch_of s) c
     splits_given =
         ap (λ ps. given ps c) here
-        ∙ when_true (nat_lt c.period.end s.period.end) (begun (piece_of s) c)
-        (longer (piece_of s) c.value s.period
+        ∙ when_true (nat_lt c.period.end s.period.end) (begun (stretch_of s) c)
+        (longer (stretch_of s) c.value s.period
         ∷ (if s.period.end == c.period.end then []
         else given (drop (at + 1) (row_stretches stretches)) c))
         (lt-ltb c.period.end s.period.end l)
 
-    pub splits_left : left_by (drop at (row_stretches stretches)) c ≡ ended_by (piece_of s) c
+    pub splits_left : left_by (drop at (row_stretches stretches)) c ≡ ended_by (stretch_of s) c
         ∷ drop (at + 1) (row_stretches stretches)
     splits_left =
         ap (λ ps. left_by ps c) here
         ∙ when_true (nat_lt c.period.end s.period.end)
-        (ended_by (piece_of s) c ∷ drop (at + 1) (row_stretches stretches))
+        (ended_by (stretch_of s) c ∷ drop (at + 1) (row_stretches stretches))
         (if s.period.end == c.period.end then drop (at + 1) (row_stretches stretches)
         else left_by (drop (at + 1) (row_stretches stretches)) c)
         (lt-ltb c.period.end s.period.end l)
 
   -- it does not
   module _ (l : s.period.end ≤ c.period.end) where
-    ends_given : given (drop at (row_stretches stretches)) c ≡ longer (piece_of s) c.value s.period
+    ends_given : given (drop at (row_stretches stretches)) c
+        ≡ longer (stretch_of s) c.value s.period
         ∷ (if s.period.end == c.period.end then []
         else given (drop (at + 1) (row_stretches stretches)) c)
     ends_given =
         ap (λ ps. given ps c) here
-        ∙ when_false (nat_lt c.period.end s.period.end) (begun (piece_of s) c)
-        (longer (piece_of s) c.value s.period
+        ∙ when_false (nat_lt c.period.end s.period.end) (begun (stretch_of s) c)
+        (longer (stretch_of s) c.value s.period
         ∷ (if s.period.end == c.period.end then []
         else given (drop (at + 1) (row_stretches stretches)) c))
         (not_below c.period.end s.period.end l)
@@ -59,7 +60,7 @@ module _ (stretches : List Stretch) (at : ℕ) (s : Stretch) (c : Cell) (h : at 
     ends_left =
         ap (λ ps. left_by ps c) here
         ∙ when_false (nat_lt c.period.end s.period.end)
-        (ended_by (piece_of s) c ∷ drop (at + 1) (row_stretches stretches))
+        (ended_by (stretch_of s) c ∷ drop (at + 1) (row_stretches stretches))
         (if s.period.end == c.period.end then drop (at + 1) (row_stretches stretches)
         else left_by (drop (at + 1) (row_stretches stretches)) c)
         (not_below c.period.end s.period.end l)
@@ -68,8 +69,8 @@ module _ (stretches : List Stretch) (at : ℕ) (s : Stretch) (c : Cell) (h : at 
     both_end q = grind (arith, q)
 
     pub meets_given : s.period.end ≡ c.period.end
-        → given (drop at (row_stretches stretches)) c ≡ longer (piece_of s) c.value s.period ∷ []
-    meets_given q = ends_given ∙ ap (λ ps. longer (piece_of s) c.value s.period ∷ ps)
+        → given (drop at (row_stretches stretches)) c ≡ longer (stretch_of s) c.value s.period ∷ []
+    meets_given q = ends_given ∙ ap (λ ps. longer (stretch_of s) c.value s.period ∷ ps)
         (when_true (s.period.end == c.period.end) []
         (given (drop (at + 1) (row_stretches stretches)) c) (both_end q))
 
@@ -80,9 +81,9 @@ module _ (stretches : List Stretch) (at : ℕ) (s : Stretch) (c : Cell) (h : at 
         (left_by (drop (at + 1) (row_stretches stretches)) c) (both_end q)
 
     pub passes_given : (s.period.end ≡ c.period.end → ⊥)
-        → given (drop at (row_stretches stretches)) c ≡ longer (piece_of s) c.value s.period
+        → given (drop at (row_stretches stretches)) c ≡ longer (stretch_of s) c.value s.period
         ∷ given (drop (at + 1) (row_stretches stretches)) c
-    passes_given q = ends_given ∙ ap (λ ps. longer (piece_of s) c.value s.period ∷ ps)
+    passes_given q = ends_given ∙ ap (λ ps. longer (stretch_of s) c.value s.period ∷ ps)
         (when_false (s.period.end == c.period.end) []
         (given (drop (at + 1) (row_stretches stretches)) c) (not_equal s.period.end c.period.end q))
 

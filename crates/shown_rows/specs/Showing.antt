@@ -18,11 +18,11 @@ use Rattle.history_store.specs.Restoring.{IsInOrder}
 use Rattle.shown_rows.specs.declared.order.Showing.{Showing}
 use Rattle.shown_rows.specs.Stretches.{RowStretch}
 
--- ---- pieces of what is shown
+-- ---- stretches of what is shown
 
 -- what an id shows, as values of a row
-abbrev pub piece_at : {T : Type 0} → (T → List Value) → Showing T → RowStretch
-piece_at values s = record { id = s.id; row = values s.item; period = span s.start s.end }
+abbrev pub stretch_at : {T : Type 0} → (T → List Value) → Showing T → RowStretch
+stretch_at values s = record { id = s.id; row = values s.item; period = span s.start s.end }
 
 -- a number alone, a value alone, and a whole row
 abbrev pub number_alone : ℤ → List Value
@@ -35,8 +35,8 @@ abbrev pub as_row : Vec Val Global → List Value
 as_row row = map shown row.items
 
 -- the entry of a column, as a row of one value
-abbrev pub piece_in : Cell → RowStretch
-piece_in c = record { id = c.id; row = c.value ∷ []; period = c.period }
+abbrev pub stretch_in : Cell → RowStretch
+stretch_in c = record { id = c.id; row = c.value ∷ []; period = c.period }
 
 -- ---- in order
 

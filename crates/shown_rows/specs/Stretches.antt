@@ -13,11 +13,11 @@ pub record RowStretch : Type 0 where
   pub row : List Value
   pub period : Span
 
-abbrev pub piece_of : Stretch → RowStretch
-piece_of s = record { id = s.id; row = map shown s.values.items; period = s.period }
+abbrev pub stretch_of : Stretch → RowStretch
+stretch_of s = record { id = s.id; row = map shown s.values.items; period = s.period }
 
 abbrev pub row_stretches : List Stretch → List RowStretch
-row_stretches stretches = map piece_of stretches
+row_stretches stretches = map stretch_of stretches
 
 -- one for each key, without a value
 abbrev pub bare_from : ℕ → List Span → List RowStretch
@@ -41,21 +41,21 @@ ended_by p c = record { id = p.id; row = p.row; period = span c.period.end p.per
 -- what they have with an entry, and what is left after it
 abbrev pub given : List RowStretch → Cell → List RowStretch
 given [] c = []
-given (p ∷ pieces) c =
+given (p ∷ stretches) c =
     if nat_lt c.period.end p.period.end then begun p c
     else longer p c.value p.period ∷ (if p.period.end == c.period.end then []
-    else given pieces c)
+    else given stretches c)
 
 abbrev pub left_by : List RowStretch → Cell → List RowStretch
 left_by [] c = []
-left_by (p ∷ pieces) c = if nat_lt c.period.end p.period.end then ended_by p c ∷ pieces
-    else (if p.period.end == c.period.end then pieces else left_by pieces c)
+left_by (p ∷ stretches) c = if nat_lt c.period.end p.period.end then ended_by p c ∷ stretches
+    else (if p.period.end == c.period.end then stretches else left_by stretches c)
 
 abbrev pub merged : List RowStretch → List Cell → List RowStretch
-merged pieces [] = []
-merged pieces (c ∷ cells) = given pieces c ++ merged (left_by pieces c) cells
+merged stretches [] = []
+merged stretches (c ∷ cells) = given stretches c ++ merged (left_by stretches c) cells
 
 -- column by column
 abbrev pub all_merged : List RowStretch → List (List Cell) → List RowStretch
-all_merged pieces [] = pieces
-all_merged pieces (cells ∷ columns) = all_merged (merged pieces cells) columns
+all_merged stretches [] = stretches
+all_merged stretches (cells ∷ columns) = all_merged (merged stretches cells) columns

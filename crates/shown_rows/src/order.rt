@@ -8,7 +8,7 @@ ghost use Rattle.image_spelling.specs.Judged.{are_apart};
 ghost use Rattle.image_spelling.specs.Reader as spec;
 ghost use Rattle.shown_rows.specs.Cells.{cell_seen, cells_seen};
 ghost use Rattle.shown_rows.specs.Stretches.{row_stretches};
-ghost use Rattle.shown_rows.specs.Showing.{piece_at, number_alone, alone, as_row, piece_in};
+ghost use Rattle.shown_rows.specs.Showing.{stretch_at, number_alone, alone, as_row, stretch_in};
 ghost use Rattle.shown_rows.specs.Showing.{clash, none_clash, goes_on, id_on, ids_on, IsJudged};
 ghost use Rattle.shown_rows.specs.Showing.{AreOrdered};
 
@@ -94,7 +94,7 @@ fn judge<T: Ord + Drop>(
 // What each entry of a column shows, where all are INTs; none where one is a TEXT.
 fn numbers_of(alloc: Global, cells: &[Cell<'_>]) -> Result<Option<Vec<Showing<i64>>>, NoMemory>
     ensures { IfOk result (λ numbers. IfSome numbers
-        (λ v. map (piece_at number_alone) v.items ≡ map piece_in (map cell_seen cells.now))) }
+        (λ v. map (stretch_at number_alone) v.items ≡ map stretch_in (map cell_seen cells.now))) }
 {
     let mut showing = Vec::with_capacity(alloc, cells.len())?;
     for cell in cells {
@@ -113,8 +113,8 @@ fn numbers_of(alloc: Global, cells: &[Cell<'_>]) -> Result<Option<Vec<Showing<i6
 
 // What each entry of a column shows.
 fn values_of<'a>(alloc: Global, cells: &[Cell<'a>]) -> Result<Vec<Showing<Val<'a>>>, NoMemory>
-    ensures { IfOk result (λ v. map (piece_at alone) v.items
-        ≡ map piece_in (map cell_seen cells.now)) }
+    ensures { IfOk result (λ v. map (stretch_at alone) v.items
+        ≡ map stretch_in (map cell_seen cells.now)) }
 {
     let mut showing = Vec::with_capacity(alloc, cells.len())?;
     for cell in cells {
@@ -133,7 +133,8 @@ fn rows_of<'a>(
     alloc: Global,
     stretches: Vec<Stretch<'a>>,
 ) -> Result<Vec<Showing<Vec<Val<'a>>>>, NoMemory>
-    ensures { IfOk result (λ v. map (piece_at as_row) v.items ≡ row_stretches stretches.entry.items) }
+    ensures { IfOk result (λ v. map (stretch_at as_row) v.items
+        ≡ row_stretches stretches.entry.items) }
 {
     let mut showing = Vec::with_capacity(alloc, stretches.len())?;
     for stretch in stretches {

@@ -3,7 +3,7 @@
 ghost use Rattle.std.specs.Prelude.{◌≡◌, ◌++◌, ◌∷◌, [], ◌<◌, map, drop, IfOk, OnOk};
 ghost use Rattle.prima_base.specs.Order.{shown};
 ghost use Rattle.shown_rows.specs.Cells.{cell_seen, cells_seen};
-ghost use Rattle.shown_rows.specs.Stretches.{piece_of, row_stretches, bare_from, longer, begun};
+ghost use Rattle.shown_rows.specs.Stretches.{stretch_of, row_stretches, bare_from, longer, begun};
 ghost use Rattle.shown_rows.specs.Stretches.{ended_by, given, left_by, merged, all_merged};
 
 use history_store::Cell;
@@ -59,7 +59,7 @@ fn finish<'a>(
     cell: &Cell<'a>,
 ) -> Result<(), NoMemory>
     ensures { OnOk result (row_stretches done.new.items ≡ row_stretches done.old.items
-        ++ longer (piece_of stretch.old) (shown cell.now.value) stretch.old.period ∷ []) }
+        ++ longer (stretch_of stretch.old) (shown cell.now.value) stretch.old.period ∷ []) }
 {
     let none = Vec::new(*stretch.values.allocator());
     let values = mem::replace(&mut stretch.values, none);
@@ -74,9 +74,9 @@ fn split<'a>(
 ) -> Result<(), NoMemory>
     requires { cell.now.period.end < stretch.old.period.end }
     ensures done { OnOk result (row_stretches done.new.items ≡ row_stretches done.old.items
-        ++ begun (piece_of stretch.old) (cell_seen cell.now)) }
-    ensures left { OnOk result (piece_of stretch.new
-        ≡ ended_by (piece_of stretch.old) (cell_seen cell.now)) }
+        ++ begun (stretch_of stretch.old) (cell_seen cell.now)) }
+    ensures left { OnOk result (stretch_of stretch.new
+        ≡ ended_by (stretch_of stretch.old) (cell_seen cell.now)) }
 {
     let end = cell.period.end();
     if let Some(period) = Period::new(stretch.period.start(), end) {

@@ -4,7 +4,7 @@ use Rattle.std.proofs.lemmas.Result.{IfOk-weaker}
 use Rattle.prima_base.specs.Order.{value_cmp, shown}
 use Rattle.image_spelling.proofs.ReadParts.{reads_columns}
 use Rattle.shown_rows.specs.Cells.{cell_seen, cells_seen}
-use Rattle.shown_rows.specs.Showing.{piece_at, number_alone, alone, piece_in}
+use Rattle.shown_rows.specs.Showing.{stretch_at, number_alone, alone, stretch_in}
 use Rattle.shown_rows.proofs.JudgedShowings.{told, some_seen, numbers_same, values_same}
 use Rattle.shown_rows.proofs.JudgedShowings.{rows_told_apart, rows_told_order}
 use Rattle.shown_rows.proofs.order.order_of.Goals as goal
@@ -18,10 +18,10 @@ returns-in-Some-3-clause-apart c =
     let read = ((reads_columns last keys kinds).sound c.requires.2 (cells_seen cells) c.requires.3
     c.requires.4).0 in
     let item = c.in-Some.ensures.item in
-    let is : map (piece_at number_alone) c.in-Some-2.numbers.items
-    ≡ map piece_in (map cell_seen c.in-Some.first.now.items) =
+    let is : map (stretch_at number_alone) c.in-Some-2.numbers.items
+    ≡ map stretch_in (map cell_seen c.in-Some.first.now.items) =
     (rw c.in-Some-2.is at c.in_ok-numbers.ensures)
-    ∙ ap (λ l. map piece_in (map cell_seen l)) c.deref.ensures.value in
+    ∙ ap (λ l. map stretch_in (map cell_seen l)) c.deref.ensures.value in
     sym (told number_alone int_cmp numbers_same last keys kinds cells read c.in-Some.first.now
     item.3.0 item.1 c.in-Some-2.numbers.items c.in-Some-3.order is
     (rw c.in-Some-3.is at c.in_ok-order.ensures)).apart
@@ -35,10 +35,10 @@ returns-in-Some-3-clause-order c =
     let read = ((reads_columns last keys kinds).sound c.requires.2 (cells_seen cells) c.requires.3
     c.requires.4).0 in
     let item = c.in-Some.ensures.item in
-    let is : map (piece_at number_alone) c.in-Some-2.numbers.items
-    ≡ map piece_in (map cell_seen c.in-Some.first.now.items) =
+    let is : map (stretch_at number_alone) c.in-Some-2.numbers.items
+    ≡ map stretch_in (map cell_seen c.in-Some.first.now.items) =
     (rw c.in-Some-2.is at c.in_ok-numbers.ensures)
-    ∙ ap (λ l. map piece_in (map cell_seen l)) c.deref.ensures.value in
+    ∙ ap (λ l. map stretch_in (map cell_seen l)) c.deref.ensures.value in
     λ some. (told number_alone int_cmp numbers_same last keys kinds cells read c.in-Some.first.now
     item.3.0 item.1 c.in-Some-2.numbers.items c.in-Some-3.order is
     (rw c.in-Some-3.is at c.in_ok-order.ensures)).order
@@ -52,9 +52,9 @@ returns-in-Some-4-clause-apart c =
     let read = ((reads_columns last keys kinds).sound c.requires.2 (cells_seen cells) c.requires.3
     c.requires.4).0 in
     let item = c.in-Some.ensures.item in
-    let is : map (piece_at alone) c.in_ok-values_of.field-0.items
-    ≡ map piece_in (map cell_seen c.in-Some.first.now.items) = c.in_ok-values_of.ensures
-    ∙ ap (λ l. map piece_in (map cell_seen l)) c.deref-in_default-2.ensures.value in
+    let is : map (stretch_at alone) c.in_ok-values_of.field-0.items
+    ≡ map stretch_in (map cell_seen c.in-Some.first.now.items) = c.in_ok-values_of.ensures
+    ∙ ap (λ l. map stretch_in (map cell_seen l)) c.deref-in_default-2.ensures.value in
     sym (told alone (λ x y. value_cmp (shown x) (shown y)) values_same last keys kinds cells read
     c.in-Some.first.now item.3.0 item.1 c.in_ok-values_of.field-0.items c.in-Some-4.order is
     (rw c.in-Some-4.is at c.in_ok-order-2.ensures)).apart
@@ -68,9 +68,9 @@ returns-in-Some-4-clause-order c =
     let read = ((reads_columns last keys kinds).sound c.requires.2 (cells_seen cells) c.requires.3
     c.requires.4).0 in
     let item = c.in-Some.ensures.item in
-    let is : map (piece_at alone) c.in_ok-values_of.field-0.items
-    ≡ map piece_in (map cell_seen c.in-Some.first.now.items) = c.in_ok-values_of.ensures
-    ∙ ap (λ l. map piece_in (map cell_seen l)) c.deref-in_default-2.ensures.value in
+    let is : map (stretch_at alone) c.in_ok-values_of.field-0.items
+    ≡ map stretch_in (map cell_seen c.in-Some.first.now.items) = c.in_ok-values_of.ensures
+    ∙ ap (λ l. map stretch_in (map cell_seen l)) c.deref-in_default-2.ensures.value in
     λ some. (told alone (λ x y. value_cmp (shown x) (shown y)) values_same last keys kinds cells
     read c.in-Some.first.now item.3.0 item.1 c.in_ok-values_of.field-0.items c.in-Some-4.order
     is (rw c.in-Some-4.is at c.in_ok-order-2.ensures)).order

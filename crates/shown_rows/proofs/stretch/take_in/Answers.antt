@@ -3,7 +3,7 @@ use Rattle.std.proofs.Common.{arith}
 use Rattle.prima_base.specs.Order.{shown}
 use Rattle.shown_rows.specs.declared.stretch.Stretch.{Stretch}
 use Rattle.shown_rows.specs.Cells.{cell_seen}
-use Rattle.shown_rows.specs.Stretches.{piece_of, row_stretches, longer, begun, ended_by, given}
+use Rattle.shown_rows.specs.Stretches.{stretch_of, row_stretches, longer, begun, ended_by, given}
 use Rattle.shown_rows.specs.Stretches.{left_by}
 use Rattle.shown_rows.proofs.ListPlaces.{same_got, dropped_set, dropped_after}
 use Rattle.shown_rows.proofs.Walking.{splits_given, splits_left, meets_given, meets_left}
@@ -20,7 +20,7 @@ returns-then-end-clause-done c =
     (sym c.index-stretches-at.is ∙ same) in
     let t = c.if-end.true in
     c.in_ok-split.ensures.done ∙ ap (λ (x : Stretch).
-    row_stretches c.walk.done.items ++ begun (piece_of x) (cell_seen c.args.cell.now))
+    row_stretches c.walk.done.items ++ begun (stretch_of x) (cell_seen c.args.cell.now))
     (sym c.index-stretches-at-then-end.is)
     ∙ ap (λ l. row_stretches c.walk.done.items ++ l)
     (sym (splits_given c.walk.stretches c.walk.at s (cell_seen c.args.cell.now) c.walk-test.true
@@ -36,10 +36,10 @@ returns-then-end-clause-left c =
     let b = c.end-end.ensures.end ∙ ap (λ (x : Stretch). x.period.end)
     (sym c.index-stretches-at.is ∙ same) in
     let t = c.if-end.true in
-    dropped_set piece_of c.walk.stretches c.walk.at c.split.new.stretch c.walk-test.true
+    dropped_set stretch_of c.walk.stretches c.walk.at c.split.new.stretch c.walk-test.true
     ∙ ap (λ p. p ∷ drop (c.walk.at + 1) (row_stretches c.walk.stretches))
     (c.in_ok-split.ensures.left ∙ ap (λ (x : Stretch).
-    ended_by (piece_of x) (cell_seen c.args.cell.now)) (sym c.index-stretches-at-then-end.is))
+    ended_by (stretch_of x) (cell_seen c.args.cell.now)) (sym c.index-stretches-at-then-end.is))
     ∙ sym (splits_left c.walk.stretches c.walk.at s (cell_seen c.args.cell.now) c.walk-test.true
     c.index-stretches-at-then-end.is (omega (arith, a, b, t)))
     ∙ c.walk.invariant.left
@@ -56,7 +56,7 @@ returns-then-end-2-clause-done c =
     let t = c.if-end.false in
     let u = c.if-end-2.true in
     c.in_ok-finish.ensures ∙ ap (λ (x : Stretch).
-    row_stretches c.walk.done.items ++ longer (piece_of x) (shown c.args.cell.now.value)
+    row_stretches c.walk.done.items ++ longer (stretch_of x) (shown c.args.cell.now.value)
     x.period ∷ []) (sym c.index-stretches-at-in-walk.is)
     ∙ ap (λ l. row_stretches c.walk.done.items ++ l)
     (sym (meets_given c.walk.stretches c.walk.at s (cell_seen c.args.cell.now) c.walk-test.true
@@ -74,7 +74,7 @@ returns-then-end-2-clause-left c =
     let d = c.end-in-walk.ensures.end in
     let t = c.if-end.false in
     let u = c.if-end-2.true in
-    dropped_after piece_of c.walk.stretches c.walk.at c.finish.new.stretch
+    dropped_after stretch_of c.walk.stretches c.walk.at c.finish.new.stretch
     ∙ sym (meets_left c.walk.stretches c.walk.at s (cell_seen c.args.cell.now) c.walk-test.true
     c.index-stretches-at-in-walk.is (omega (arith, a, b, t)) (sym b ∙ u ∙ d))
     ∙ c.walk.invariant.left
@@ -92,14 +92,14 @@ walk-preserved c =
     let t = c.if-end.false in
     let l : s.period.end ≤ cell.period.end = omega (arith, a, b, t) in
     let q : s.period.end ≡ cell.period.end → ⊥ = (λ e. c.if-end-2.false (b ∙ e ∙ sym d)) in
-    let after = dropped_after piece_of c.walk.stretches c.walk.at c.finish.new.stretch in
-    let one = longer (piece_of s) cell.value s.period in
+    let after = dropped_after stretch_of c.walk.stretches c.walk.at c.finish.new.stretch in
+    let one = longer (stretch_of s) cell.value s.period in
     record {
       done =
           ap (λ ps. ps ++ given (drop (c.walk.at + 1)
           (row_stretches (set c.walk.stretches c.walk.at c.finish.new.stretch))) cell)
           (c.in_ok-finish.ensures ∙ ap (λ (x : Stretch).
-          row_stretches c.walk.done.items ++ longer (piece_of x) cell.value x.period ∷ [])
+          row_stretches c.walk.done.items ++ longer (stretch_of x) cell.value x.period ∷ [])
           (sym c.index-stretches-at-in-walk.is))
           ∙ append_assoc (row_stretches c.walk.done.items) (one ∷ [])
           (given (drop (c.walk.at + 1) (row_stretches

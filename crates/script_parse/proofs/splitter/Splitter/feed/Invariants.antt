@@ -7,7 +7,7 @@ abbrev pub invariant-loop-i : goal.invariant-loop-i
 invariant-loop-i l = record {
   alive : l.self.spent ≡ false;
   short : length l.self.kept ≤ max_statement + 1;
-  pieces : (more : List ℕ) → parts_from l.initial.self.mode l.initial.self.kept (l.bytes ++ more)
+  parts : (more : List ℕ) → parts_from l.initial.self.mode l.initial.self.kept (l.bytes ++ more)
       ≡ parts_from l.self.mode l.self.kept (drop l.i l.bytes ++ more);
   endings : (more : List ℕ) → ending (tail_from l.initial.self.mode l.initial.self.kept
       (l.bytes ++ more)) ≡ ending (tail_from l.self.mode l.self.kept (drop l.i l.bytes ++ more));
