@@ -1,7 +1,5 @@
 //! Changes and commands.
 
-ghost use Rattle.smo_types.specs.Changes.{insertion, deletion, update};
-ghost use Rattle.smo_types.specs.Commands.{evolving};
 ghost use Rattle.command_spelling.specs.Reading.{map_to, pair};
 ghost use Rattle.command_spelling.specs.Reader as spec;
 ghost use Rattle.command_codec.specs.Reads.{Recognizes};
@@ -56,7 +54,7 @@ fn check_sets(reader: &mut Reader<'_>) -> Result<(), Stop>
 
 // Goes over what stands after the tag of INSERT.
 fn check_insert(reader: &mut Reader<'_>) -> Result<(), Stop>
-    ensures { Recognizes (map_to (λ x. insertion x.0 x.1) (pair spec.name spec.cells)
+    ensures { Recognizes (map_to spec.inserted (pair spec.name spec.cells)
         reader.old.rest.now) result reader.new.rest.now }
 {
     check_name(reader)?;
@@ -65,7 +63,7 @@ fn check_insert(reader: &mut Reader<'_>) -> Result<(), Stop>
 
 // Goes over what stands after the tag of DELETE.
 fn check_delete(reader: &mut Reader<'_>) -> Result<(), Stop>
-    ensures { Recognizes (map_to (λ x. deletion x.0 x.1) (pair spec.name spec.outermost.cond)
+    ensures { Recognizes (map_to spec.deleted (pair spec.name spec.outermost.cond)
         reader.old.rest.now) result reader.new.rest.now }
 {
     check_name(reader)?;
@@ -74,7 +72,7 @@ fn check_delete(reader: &mut Reader<'_>) -> Result<(), Stop>
 
 // Goes over what stands after the tag of UPDATE.
 fn check_update(reader: &mut Reader<'_>) -> Result<(), Stop>
-    ensures { Recognizes (map_to (λ x. update x.0.0 x.0.1 x.1)
+    ensures { Recognizes (map_to spec.updated
         (pair (pair spec.name spec.sets) spec.outermost.cond) reader.old.rest.now) result
         reader.new.rest.now }
 {
@@ -109,7 +107,7 @@ fn check_changes(reader: &mut Reader<'_>) -> Result<(), Stop>
 
 // Goes over an operator and those of its inverse.
 fn check_evolution(reader: &mut Reader<'_>) -> Result<(), Stop>
-    ensures { Recognizes (map_to (λ x. evolving x.0 x.1) (pair spec.operator spec.operators)
+    ensures { Recognizes (map_to spec.evolved (pair spec.operator spec.operators)
         reader.old.rest.now) result reader.new.rest.now }
 {
     check_op(reader)?;

@@ -1,6 +1,5 @@
 //! Operators.
 
-ghost use Rattle.smo_types.specs.Operators.{create_table, add_column};
 ghost use Rattle.command_spelling.specs.Reading.{map_to, pair};
 ghost use Rattle.command_spelling.specs.Reader as spec;
 ghost use Rattle.command_codec.specs.Reads.{Recognizes};
@@ -62,7 +61,7 @@ fn check_three_names(reader: &mut Reader<'_>) -> Result<(), Stop>
 
 // Goes over what stands after the tag of CREATE TABLE.
 fn check_created_table(reader: &mut Reader<'_>) -> Result<(), Stop>
-    ensures { Recognizes (map_to (λ x. create_table x.0 x.1) (pair spec.name spec.columns)
+    ensures { Recognizes (map_to spec.created_table (pair spec.name spec.columns)
         reader.old.rest.now) result reader.new.rest.now }
 {
     check_name(reader)?;
@@ -103,7 +102,7 @@ fn check_joined_table(reader: &mut Reader<'_>) -> Result<(), Stop>
 
 // Goes over what stands after the tag of ADD COLUMN.
 fn check_added_column(reader: &mut Reader<'_>) -> Result<(), Stop>
-    ensures { Recognizes (map_to (λ x. add_column x.0.1 x.1 x.0.0)
+    ensures { Recognizes (map_to spec.added_column
         (pair spec.two_names spec.outermost.expr) reader.old.rest.now) result reader.new.rest.now }
 {
     check_two_names(reader)?;

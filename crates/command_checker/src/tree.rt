@@ -1,7 +1,7 @@
 //! Expressions and conditions.
 
 ghost use Rattle.std.specs.Prelude.{nat_lt};
-ghost use Rattle.cond_expr.specs.Trees.{joined, choose, compared};
+ghost use Rattle.cond_expr.specs.Trees.{joined};
 ghost use Rattle.cond_expr.specs.Seen.{trees_of};
 ghost use Rattle.command_spelling.specs.Reading.{map_to, pair, items, listed};
 ghost use Rattle.command_spelling.specs.Reader as spec;
@@ -48,7 +48,7 @@ fn check_concat(reader: &mut Reader<'_>, levels: u32) -> Result<(), Stop>
 // Goes over what stands after the tag of CASE; its parts have at most so many levels.
 #[cycle(checks)]
 fn check_case(reader: &mut Reader<'_>, levels: u32) -> Result<(), Stop>
-    ensures { Recognizes (map_to (λ x. choose x.0.0 x.0.1 x.1)
+    ensures { Recognizes (map_to spec.chosen
         (pair (pair (spec.level levels).cond (spec.level levels).expr) (spec.level levels).expr)
         reader.old.rest.now) result reader.new.rest.now }
 {
@@ -87,7 +87,7 @@ fn check_expr(reader: &mut Reader<'_>, levels: u32) -> Result<(), Stop>
 // Goes over what stands after the tag of a comparison; its sides have at most so many levels.
 #[cycle(checks)]
 fn check_comparison(reader: &mut Reader<'_>, levels: u32) -> Result<(), Stop>
-    ensures { Recognizes (map_to (λ x. compared x.0.0 x.0.1 x.1)
+    ensures { Recognizes (map_to spec.comparison
         (pair (pair spec.sign (spec.level levels).expr) (spec.level levels).expr)
         reader.old.rest.now) result reader.new.rest.now }
 {

@@ -1,7 +1,6 @@
 //! Reading changes and commands.
 
-ghost use Rattle.smo_types.specs.Changes.{change_of, changes_of, set_of_expr, sets_of, insertion};
-ghost use Rattle.smo_types.specs.Changes.{deletion, update};
+ghost use Rattle.smo_types.specs.Changes.{change_of, changes_of, set_of_expr, sets_of};
 ghost use Rattle.smo_types.specs.Commands.{body_of, command_of, changing, evolving};
 ghost use Rattle.command_spelling.specs.Reading.{map_to, pair};
 ghost use Rattle.command_spelling.specs.Reader as spec;
@@ -65,7 +64,7 @@ fn sets(alloc: Global, reader: &mut Reader<'_>) -> Result<Vec<(Name, Expr)>, Sto
 
 // What stands after the tag of INSERT.
 fn insert(alloc: Global, reader: &mut Reader<'_>) -> Result<Change, Stop>
-    ensures { Reads change_of (map_to (λ x. insertion x.0 x.1) (pair spec.name spec.cells)
+    ensures { Reads change_of (map_to spec.inserted (pair spec.name spec.cells)
         reader.old.rest.now) result reader.new.rest.now }
 {
     let table = name(alloc, reader)?;
@@ -75,7 +74,7 @@ fn insert(alloc: Global, reader: &mut Reader<'_>) -> Result<Change, Stop>
 
 // What stands after the tag of DELETE.
 fn delete(alloc: Global, reader: &mut Reader<'_>) -> Result<Change, Stop>
-    ensures { Reads change_of (map_to (λ x. deletion x.0 x.1) (pair spec.name spec.outermost.cond)
+    ensures { Reads change_of (map_to spec.deleted (pair spec.name spec.outermost.cond)
         reader.old.rest.now) result reader.new.rest.now }
 {
     let table = name(alloc, reader)?;
@@ -85,7 +84,7 @@ fn delete(alloc: Global, reader: &mut Reader<'_>) -> Result<Change, Stop>
 
 // What stands after the tag of UPDATE.
 fn update(alloc: Global, reader: &mut Reader<'_>) -> Result<Change, Stop>
-    ensures { Reads change_of (map_to (λ x. update x.0.0 x.0.1 x.1)
+    ensures { Reads change_of (map_to spec.updated
         (pair (pair spec.name spec.sets) spec.outermost.cond) reader.old.rest.now) result
         reader.new.rest.now }
 {

@@ -1,7 +1,6 @@
 //! Reading operators.
 
-ghost use Rattle.smo_types.specs.Operators.{operator_of, operators_of, create_table, add_column};
-ghost use Rattle.smo_types.specs.Operators.{rename_column};
+ghost use Rattle.smo_types.specs.Operators.{operator_of, operators_of};
 ghost use Rattle.command_spelling.specs.Reading.{map_to, pair};
 ghost use Rattle.command_spelling.specs.Reader as spec;
 ghost use Rattle.command_codec.specs.Reads.{Reads};
@@ -73,7 +72,7 @@ fn three_names(alloc: Global, reader: &mut Reader<'_>) -> Result<(Name, Name, Na
 
 // What stands after the tag of CREATE TABLE.
 fn created_table(alloc: Global, reader: &mut Reader<'_>) -> Result<Op, Stop>
-    ensures { Reads operator_of (map_to (λ x. create_table x.0 x.1) (pair spec.name spec.columns)
+    ensures { Reads operator_of (map_to spec.created_table (pair spec.name spec.columns)
         reader.old.rest.now) result reader.new.rest.now }
 {
     let table = name(alloc, reader)?;
@@ -134,7 +133,7 @@ fn joined_table(alloc: Global, reader: &mut Reader<'_>) -> Result<Op, Stop>
 
 // What stands after the tag of ADD COLUMN.
 fn added_column(alloc: Global, reader: &mut Reader<'_>) -> Result<Op, Stop>
-    ensures { Reads operator_of (map_to (λ x. add_column x.0.1 x.1 x.0.0)
+    ensures { Reads operator_of (map_to spec.added_column
         (pair spec.two_names spec.outermost.expr) reader.old.rest.now) result reader.new.rest.now }
 {
     let (table, column) = two_names(alloc, reader)?;
@@ -148,7 +147,7 @@ fn added_column(alloc: Global, reader: &mut Reader<'_>) -> Result<Op, Stop>
 
 // What stands after the tag of RENAME COLUMN.
 fn renamed_column(alloc: Global, reader: &mut Reader<'_>) -> Result<Op, Stop>
-    ensures { Reads operator_of (map_to (λ x. rename_column x.0.1 x.0.0 x.1) spec.three_names
+    ensures { Reads operator_of (map_to spec.renamed_column spec.three_names
         reader.old.rest.now) result reader.new.rest.now }
 {
     let (table, column, into) = three_names(alloc, reader)?;

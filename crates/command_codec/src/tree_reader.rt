@@ -2,7 +2,7 @@
 
 ghost use Rattle.std.specs.Prelude.{◌≡◌, ◌≤◌, ◌<◌, ℕ, nat_lt, map, Err};
 ghost use Rattle.cond_expr.specs.declared.expr.Whose.TheVariants.{Atom};
-ghost use Rattle.cond_expr.specs.Trees.{column, constant, length_of, joined, choose, compared};
+ghost use Rattle.cond_expr.specs.Trees.{column, constant, length_of, joined};
 ghost use Rattle.cond_expr.specs.Trees.{all_of, some_of, fails};
 ghost use Rattle.cond_expr.specs.Seen.{tree, test, trees_of, tests_of};
 ghost use Rattle.command_spelling.specs.Reading.{byte, digits, map_to, pair, items, listed};
@@ -136,7 +136,7 @@ fn concat(alloc: Global, reader: &mut Reader<'_>, levels: u32) -> Result<Expr, S
 // CASE, whose parts have at most so many levels.
 #[cycle(reads)]
 fn case(alloc: Global, reader: &mut Reader<'_>, levels: u32) -> Result<Expr, Stop>
-    ensures { Reads tree (map_to (λ x. choose x.0.0 x.0.1 x.1)
+    ensures { Reads tree (map_to spec.chosen
         (pair (pair (spec.level levels).cond (spec.level levels).expr) (spec.level levels).expr)
         reader.old.rest.now) result reader.new.rest.now }
 {
@@ -176,7 +176,7 @@ fn expr(alloc: Global, reader: &mut Reader<'_>, levels: u32) -> Result<Expr, Sto
 // A comparison, whose sides have at most so many levels.
 #[cycle(reads)]
 fn comparison(alloc: Global, reader: &mut Reader<'_>, levels: u32) -> Result<Cond, Stop>
-    ensures { Reads test (map_to (λ x. compared x.0.0 x.0.1 x.1)
+    ensures { Reads test (map_to spec.comparison
         (pair (pair spec.sign (spec.level levels).expr) (spec.level levels).expr)
         reader.old.rest.now) result reader.new.rest.now }
 {

@@ -26,6 +26,9 @@ use Rattle.command_spelling.specs.Reader.{columns, names, two_names, three_names
 use Rattle.command_spelling.specs.Reader.{decomposed, joined_tables, operator_arm}
 use Rattle.command_spelling.specs.Reader.{operator, operators, cell, cells, set, sets, change_arm}
 use Rattle.command_spelling.specs.Reader.{change, changes, body_arm, body, a_command, command}
+use Rattle.command_spelling.specs.Reader.{created_table, renamed_table, copied_table, merged_table}
+use Rattle.command_spelling.specs.Reader.{added_column, dropped_column, renamed_column, inserted}
+use Rattle.command_spelling.specs.Reader.{deleted, updated, evolved}
 use Rattle.command_spelling.proofs.Correctness.{retold, mapped_correct, pair_correct, ArmCorrect}
 use Rattle.command_spelling.proofs.Correctness.{parts_correct, parts_read, tagged_correct}
 use Rattle.command_spelling.proofs.Numbers.{number_correct}
@@ -118,19 +121,19 @@ create_parts : IsCorrectParser (pair name columns) Create create_bytes
 create_parts = pair_correct name IsName name_bytes columns Columns (list_bytes 1 column_bytes)
     name_correct columns_correct
 
-a_create : MadeOf 1 Create create_bytes (λ x. create_table x.0 x.1)
+a_create : MadeOf 1 Create create_bytes created_table
 a_create x h = (((let a = h.1.0 in omega (arith, a)), (h.0, h.1.1)), refl)
 
 a_drop : MadeOf 2 IsName name_bytes drop_table
 a_drop r h = ((tt, h), refl)
 
-a_rename : MadeOf 3 Two two_bytes (λ x. rename_table x.0 x.1)
+a_rename : MadeOf 3 Two two_bytes renamed_table
 a_rename x h = ((tt, h), refl)
 
-a_copy : MadeOf 4 Two two_bytes (λ x. copy_table x.0 x.1)
+a_copy : MadeOf 4 Two two_bytes copied_table
 a_copy x h = ((tt, h), refl)
 
-a_merge : MadeOf 5 Three three_bytes (λ x. merge_table x.0.0 x.0.1 x.1)
+a_merge : MadeOf 5 Three three_bytes merged_table
 a_merge x h = ((tt, (h.0.0, h.0.1, h.1)), refl)
 
 abbrev Partition : ((List ℕ × List ℕ) × Test) × List ℕ → Type 0
@@ -200,28 +203,28 @@ add_parts : IsCorrectParser (pair two_names outermost.expr) Add add_bytes
 add_parts = pair_correct two_names Two two_bytes outermost.expr IsTree tree_bytes two_correct
     expr_correct_outermost
 
-an_add : MadeOf 9 Add add_bytes (λ x. add_column x.0.1 x.1 x.0.0)
+an_add : MadeOf 9 Add add_bytes added_column
 an_add x h = ((h.1.0, (h.0.0, h.0.1, h.1.1)), refl)
 
-a_drop_column : MadeOf 10 Two two_bytes (λ x. drop_column x.1 x.0)
+a_drop_column : MadeOf 10 Two two_bytes dropped_column
 a_drop_column x h = ((tt, h), refl)
 
-a_rename_column : MadeOf 11 Three three_bytes (λ x. rename_column x.0.1 x.0.0 x.1)
+a_rename_column : MadeOf 11 Three three_bytes renamed_column
 a_rename_column x h = ((tt, (h.0.0, h.0.1, h.1)), refl)
 
 operator_arms : (x : ℕ) → up_to 11 x ≡ true → At x (operator_arm x)
 operator_arms zero t = λ ts. ((tt, tt), refl)
 operator_arms (suc zero) t = parts_correct (pair name columns) Create create_bytes create_parts
-    (λ x. create_table x.0 x.1) IsOperator operator_bytes 1 a_create
+    created_table IsOperator operator_bytes 1 a_create
 operator_arms (suc (suc zero)) t = parts_correct name IsName name_bytes name_correct drop_table
     IsOperator operator_bytes 2 a_drop
 operator_arms (suc (suc (suc zero))) t = parts_correct two_names Two two_bytes two_correct
-    (λ x. rename_table x.0 x.1) IsOperator operator_bytes 3 a_rename
+    renamed_table IsOperator operator_bytes 3 a_rename
 operator_arms (suc (suc (suc (suc zero)))) t =
-    parts_correct two_names Two two_bytes two_correct (λ x. copy_table x.0 x.1) IsOperator
+    parts_correct two_names Two two_bytes two_correct copied_table IsOperator
     operator_bytes 4 a_copy
 operator_arms (suc (suc (suc (suc (suc zero))))) t =
-    parts_correct three_names Three three_bytes three_correct (λ x. merge_table x.0.0 x.0.1 x.1)
+    parts_correct three_names Three three_bytes three_correct merged_table
     IsOperator operator_bytes 5 a_merge
 operator_arms (suc (suc (suc (suc (suc (suc zero)))))) t =
     parts_correct (pair (pair two_names outermost.cond) name) Partition partition_bytes
@@ -234,12 +237,12 @@ operator_arms (suc (suc (suc (suc (suc (suc (suc (suc zero)))))))) t =
     joined_tables IsOperator operator_bytes 8 a_join
 operator_arms (suc (suc (suc (suc (suc (suc (suc (suc (suc zero))))))))) t =
     parts_correct (pair two_names outermost.expr) Add add_bytes add_parts
-    (λ x. add_column x.0.1 x.1 x.0.0) IsOperator operator_bytes 9 an_add
+    added_column IsOperator operator_bytes 9 an_add
 operator_arms (suc (suc (suc (suc (suc (suc (suc (suc (suc (suc zero)))))))))) t =
-    parts_correct two_names Two two_bytes two_correct (λ x. drop_column x.1 x.0) IsOperator
+    parts_correct two_names Two two_bytes two_correct dropped_column IsOperator
     operator_bytes 10 a_drop_column
 operator_arms (suc (suc (suc (suc (suc (suc (suc (suc (suc (suc (suc zero))))))))))) t =
-    parts_correct three_names Three three_bytes three_correct (λ x. rename_column x.0.1 x.0.0 x.1)
+    parts_correct three_names Three three_bytes three_correct renamed_column
     IsOperator operator_bytes 11 a_rename_column
 operator_arms (suc (suc (suc (suc (suc (suc (suc (suc (suc (suc (suc (suc n)))))))))))) t =
     absurd (omega (
@@ -252,16 +255,16 @@ operator_again : (op : Operator) → IsOperator op → (rest : List ℕ)
     → tagged (up_to 11) operator_arm (operator_bytes op ++ rest) ≡ Parsed op rest
 operator_again nop h rest = refl
 operator_again (create_table r cs) h rest = parts_read (pair name columns) Create create_bytes
-    create_parts (λ x. create_table x.0 x.1) IsOperator operator_bytes 1 a_create (r, cs)
+    create_parts created_table IsOperator operator_bytes 1 a_create (r, cs)
     (h.1.0, ((let a = h.0 in omega (arith, a)), h.1.1)) rest
 operator_again (drop_table r) h rest = parts_read name IsName name_bytes name_correct drop_table
     IsOperator operator_bytes 2 a_drop r h.1 rest
 operator_again (rename_table r t) h rest = parts_read two_names Two two_bytes two_correct
-    (λ x. rename_table x.0 x.1) IsOperator operator_bytes 3 a_rename (r, t) h.1 rest
+    renamed_table IsOperator operator_bytes 3 a_rename (r, t) h.1 rest
 operator_again (copy_table r t) h rest = parts_read two_names Two two_bytes two_correct
-    (λ x. copy_table x.0 x.1) IsOperator operator_bytes 4 a_copy (r, t) h.1 rest
+    copied_table IsOperator operator_bytes 4 a_copy (r, t) h.1 rest
 operator_again (merge_table r s t) h rest = parts_read three_names Three three_bytes three_correct
-    (λ x. merge_table x.0.0 x.0.1 x.1) IsOperator operator_bytes 5 a_merge ((r, s), t)
+    merged_table IsOperator operator_bytes 5 a_merge ((r, s), t)
     ((h.1.0, h.1.1), h.1.2) rest
 operator_again (partition_table r s c t) h rest =
     parts_read (pair (pair two_names outermost.cond) name) Partition partition_bytes partition_parts
@@ -277,12 +280,12 @@ operator_again (join_table r s t c) h rest = parts_read (pair three_names outerm
     join_bytes join_parts joined_tables IsOperator operator_bytes 8 a_join
     (((r, s), t), c) (((h.1.0, h.1.1), h.1.2), (h.0, h.1.3)) rest
 operator_again (add_column c e r) h rest = parts_read (pair two_names outermost.expr) Add add_bytes
-    add_parts (λ x. add_column x.0.1 x.1 x.0.0) IsOperator operator_bytes 9 an_add ((r, c), e)
+    add_parts added_column IsOperator operator_bytes 9 an_add ((r, c), e)
     ((h.1.0, h.1.1), (h.0, h.1.2)) rest
 operator_again (drop_column c r) h rest = parts_read two_names Two two_bytes two_correct
-    (λ x. drop_column x.1 x.0) IsOperator operator_bytes 10 a_drop_column (r, c) h.1 rest
+    dropped_column IsOperator operator_bytes 10 a_drop_column (r, c) h.1 rest
 operator_again (rename_column b r c) h rest =
-    parts_read three_names Three three_bytes three_correct (λ x. rename_column x.0.1 x.0.0 x.1)
+    parts_read three_names Three three_bytes three_correct renamed_column
     IsOperator operator_bytes 11 a_rename_column ((r, b), c) ((h.1.0, h.1.1), h.1.2) rest
 
 pub operator_correct : IsCorrectParser operator IsOperator operator_bytes
@@ -359,13 +362,13 @@ abbrev ChangeOf : {B : Type 0} → ℕ → (B → Type 0) → (B → List ℕ) �
 ChangeOf {B} x Part part make = (b : B) → Part b → IsChange (make b)
     × (change_bytes (make b) ≡ x ∷ part b)
 
-an_insert : ChangeOf 0 Insert insert_bytes (λ x. insertion x.0 x.1)
+an_insert : ChangeOf 0 Insert insert_bytes inserted
 an_insert x h = (((let a = h.1.0 in omega (arith, a)), (h.0, h.1.1)), refl)
 
-a_delete : ChangeOf 1 Delete delete_bytes (λ x. deletion x.0 x.1)
+a_delete : ChangeOf 1 Delete delete_bytes deleted
 a_delete x h = ((h.1.0, (h.0, h.1.1)), refl)
 
-an_update : ChangeOf 2 Update update_bytes (λ x. update x.0.0 x.0.1 x.1)
+an_update : ChangeOf 2 Update update_bytes updated
 an_update x h = let r = each_of_both (λ s. IsWritableTree s.1) (λ s. IsName s.0 × TreeNamed s.1)
     x.0.1 h.0.1.1 in (
       (((let a = h.0.1.0 in omega (arith, a)), r.0, h.1.0), (h.0.0, r.1, h.1.1)),
@@ -374,24 +377,24 @@ an_update x h = let r = each_of_both (λ s. IsWritableTree s.1) (λ s. IsName s.
 
 change_arms : (x : ℕ) → up_to 2 x ≡ true → ArmCorrect IsChange change_bytes x (change_arm x)
 change_arms zero t = parts_correct (pair name cells) Insert insert_bytes insert_parts
-    (λ x. insertion x.0 x.1) IsChange change_bytes 0 an_insert
+    inserted IsChange change_bytes 0 an_insert
 change_arms (suc zero) t = parts_correct (pair name outermost.cond) Delete delete_bytes delete_parts
-    (λ x. deletion x.0 x.1) IsChange change_bytes 1 a_delete
+    deleted IsChange change_bytes 1 a_delete
 change_arms (suc (suc zero)) t = parts_correct (pair (pair name sets) outermost.cond) Update
-    update_bytes update_parts (λ x. update x.0.0 x.0.1 x.1) IsChange change_bytes 2 an_update
+    update_bytes update_parts updated IsChange change_bytes 2 an_update
 change_arms (suc (suc (suc n))) t = absurd (omega (arith, leb-true (suc (suc (suc n))) 2 t))
 
 change_again : (c : PlainChange) → IsChange c → (rest : List ℕ)
     → tagged (up_to 2) change_arm (change_bytes c ++ rest) ≡ Parsed c rest
 change_again (insertion t l) h rest = parts_read (pair name cells) Insert insert_bytes insert_parts
-    (λ x. insertion x.0 x.1) IsChange change_bytes 0 an_insert (t, l)
+    inserted IsChange change_bytes 0 an_insert (t, l)
     (h.1.0, ((let a = h.0 in omega (arith, a)), h.1.1)) rest
 change_again (deletion t c) h rest = parts_read (pair name outermost.cond) Delete delete_bytes
-    delete_parts (λ x. deletion x.0 x.1) IsChange change_bytes 1 a_delete (t, c)
+    delete_parts deleted IsChange change_bytes 1 a_delete (t, c)
     (h.1.0, (h.0, h.1.1)) rest
 change_again (update t l c) h rest =
     parts_read (pair (pair name sets) outermost.cond) Update update_bytes update_parts
-    (λ x. update x.0.0 x.0.1 x.1) IsChange change_bytes 2 an_update ((t, l), c) (
+    updated IsChange change_bytes 2 an_update ((t, l), c) (
       (
         h.1.0,
         (
@@ -448,7 +451,7 @@ body_arms : (x : ℕ) → up_to 1 x ≡ true → ArmCorrect IsBody body_bytes x 
 body_arms zero t = parts_correct changes Changes (list_bytes 4 change_bytes) changes_correct
     changing IsBody body_bytes 0 some_changes
 body_arms (suc zero) t = parts_correct (pair operator operators) Evolution evolution_bytes
-    evolve_parts (λ x. evolving x.0 x.1) IsBody body_bytes 1 an_evolution
+    evolve_parts evolved IsBody body_bytes 1 an_evolution
 body_arms (suc (suc n)) t = absurd (omega (arith, leb-true (suc (suc n)) 1 t))
 
 body_again : (b : PlainBody) → IsBody b → (rest : List ℕ)
@@ -459,7 +462,7 @@ body_again (changing l) h rest = parts_read changes Changes (list_bytes 4 change
     rest
 body_again (evolving op l) h rest =
     parts_read (pair operator operators) Evolution evolution_bytes evolve_parts
-    (λ x. evolving x.0 x.1) IsBody body_bytes 1 an_evolution (op, l) (
+    evolved IsBody body_bytes 1 an_evolution (op, l) (
       (h.0.0, h.1.0),
       (
         (let a = h.0.1 in omega (arith, a)),

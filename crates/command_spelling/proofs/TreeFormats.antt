@@ -25,6 +25,7 @@ use Rattle.command_spelling.specs.Valid.{TreesNamed, TestNamed, TestsNamed, IsTr
 use Rattle.command_spelling.specs.Reader.{name, value, sign, Level, most_parts, is_expr_tag}
 use Rattle.command_spelling.specs.Reader.{expr_arm, expr, is_cond_tag, cond_arm, cond, nothing}
 use Rattle.command_spelling.specs.Reader.{made, level, outermost}
+use Rattle.command_spelling.specs.Reader.{chosen, comparison}
 use Rattle.command_spelling.proofs.Correctness.{by_test, true_false, retold, pair_correct}
 use Rattle.command_spelling.proofs.Correctness.{ArmCorrect, parts_correct, parts_read}
 use Rattle.command_spelling.proofs.Correctness.{tagged_correct}
@@ -305,7 +306,7 @@ module _ (deeper : Bool) (e : ℕ) (inside : Level) (deep : deeper ≡ true → 
       tree_bytes 3 a_concat
   expr_arms (suc (suc (suc (suc zero)))) t =
       parts_correct (pair (pair inside.cond inside.expr) inside.expr) Cases cases_bytes
-      (cases_correct (deep (case_deeper deeper t))) (λ x. choose x.0.0 x.0.1 x.1) (TreeWithin D)
+      (cases_correct (deep (case_deeper deeper t))) chosen (TreeWithin D)
       tree_bytes 4 a_case
   expr_arms (suc (suc (suc (suc (suc n))))) t = absurd (no_other_expr deeper n t)
 
@@ -356,7 +357,7 @@ module _ (deeper : Bool) (e : ℕ) (inside : Level) (deep : deeper ≡ true → 
       tag_read (is_expr_tag deeper) (expr_arm deeper inside) 4 (cases_bytes ((c, a), b) ++ rest)
       (deeper_expr deeper deeper_is).1
       ∙ parts_read (pair (pair inside.cond inside.expr) inside.expr) Cases cases_bytes
-      (cases_correct (deep deeper_is)) (λ x. choose x.0.0 x.0.1 x.1) (TreeWithin D) tree_bytes 4
+      (cases_correct (deep deeper_is)) chosen (TreeWithin D) tree_bytes 4
       a_case ((c, a), b)
       ((((h.0.0.0, dc), h.1.0), ((h.0.0.1, da), h.1.1)), ((h.0.0.2, db), h.1.2)) rest
 
@@ -432,7 +433,7 @@ module _ (deeper : Bool) (e : ℕ) (inside : Level) (deep : deeper ≡ true → 
   cond_arms (suc zero) t = λ ts. ((((tt, omega arith), tt), refl))
   cond_arms (suc (suc zero)) t =
       parts_correct (pair (pair sign inside.expr) inside.expr) Sides sides_bytes
-      (sides_correct (deep (compared_deeper deeper t))) (λ x. compared x.0.0 x.0.1 x.1)
+      (sides_correct (deep (compared_deeper deeper t))) comparison
       (TestWithin D) test_bytes 2 a_comparison
   cond_arms (suc (suc (suc zero))) t = parts_correct
       (listed 2 (most_parts deeper 65535) inside.cond) Conds (list_bytes 2 test_bytes) conds_correct
@@ -487,7 +488,7 @@ module _ (deeper : Bool) (e : ℕ) (inside : Level) (deep : deeper ≡ true → 
       tag_read (is_cond_tag deeper) (cond_arm deeper inside) 2 (sides_bytes ((o, a), b) ++ rest)
       (deeper_cond deeper deeper_is).0
       ∙ parts_read (pair (pair sign inside.expr) inside.expr) Sides sides_bytes
-      (sides_correct (deep deeper_is)) (λ x. compared x.0.0 x.0.1 x.1) (TestWithin D) test_bytes
+      (sides_correct (deep deeper_is)) comparison (TestWithin D) test_bytes
       2 a_comparison ((o, a), b)
       ((tt, ((h.0.0.0, da), h.1.0)), ((h.0.0.1, db), h.1.1)) rest
   cond_again (all_of cs) h rest = let P : Tests → Type 0 = λ x. TestWithin D (all_of x)

@@ -94,6 +94,13 @@ is_cond_tag deeper x = if deeper then nat_le x 5 else nat_le x 4 && not (x == 2)
 abbrev pub most_parts : Bool → ℕ → ℕ
 most_parts deeper most = if deeper then most else 0
 
+-- what is read after a tag, as its tree or condition
+abbrev pub chosen : (Test × Tree) × Tree → Tree
+chosen ((met, taken), other) = choose met taken other
+
+abbrev pub comparison : (CmpOp × Tree) × Tree → Test
+comparison ((operation, left), right) = compared operation left right
+
 -- whether a level may stand below, and what reads it
 module _ (deeper : Bool) (inside : Level) where
   abbrev pub expr_arm : ℕ → Parser Tree
@@ -103,7 +110,7 @@ module _ (deeper : Bool) (inside : Level) where
       (if tag == 2 then map_to length_of inside.expr
       else (if tag == 3 then map_to (λ l. joined (trees_of l))
       (listed 1 (most_parts deeper 255) inside.expr) else
-      map_to (λ x. choose x.0.0 x.0.1 x.1) (pair (pair inside.cond inside.expr) inside.expr))))
+      map_to chosen (pair (pair inside.cond inside.expr) inside.expr))))
 
   unfoldable pub expr : Parser Tree
   expr = tagged (is_expr_tag deeper) expr_arm
@@ -111,7 +118,7 @@ module _ (deeper : Bool) (inside : Level) where
   abbrev pub cond_arm : ℕ → Parser Test
   cond_arm tag =
       if tag == 0 then pure never else (if tag == 1 then pure always else
-      (if tag == 2 then map_to (λ x. compared x.0.0 x.0.1 x.1)
+      (if tag == 2 then map_to comparison
       (pair (pair sign inside.expr) inside.expr) else
       (if tag == 3 then map_to (λ l. all_of (tests_of l))
       (listed 2 (most_parts deeper 65535) inside.cond) else
@@ -153,6 +160,18 @@ unfoldable pub three_names : Parser ((List ℕ × List ℕ) × List ℕ)
 three_names = pair two_names name
 
 -- what is read after a tag, as its operator
+abbrev pub created_table : List ℕ × List Column → Operator
+created_table (table, own) = create_table table own
+
+abbrev pub renamed_table : List ℕ × List ℕ → Operator
+renamed_table (table, into) = rename_table table into
+
+abbrev pub copied_table : List ℕ × List ℕ → Operator
+copied_table (table, into) = copy_table table into
+
+abbrev pub merged_table : (List ℕ × List ℕ) × List ℕ → Operator
+merged_table ((left, right), into) = merge_table left right into
+
 abbrev pub partitioned : ((List ℕ × List ℕ) × Test) × List ℕ → Operator
 partitioned (((table, met), cond), others) = partition_table table met cond others
 
@@ -163,20 +182,29 @@ decomposed ((((table, left), left_columns), right), right_columns) =
 abbrev pub joined_tables : ((List ℕ × List ℕ) × List ℕ) × Test → Operator
 joined_tables (((left, right), into), cond) = join_table left right into cond
 
+abbrev pub added_column : (List ℕ × List ℕ) × Tree → Operator
+added_column ((table, added), computed) = add_column added computed table
+
+abbrev pub dropped_column : List ℕ × List ℕ → Operator
+dropped_column (table, dropped) = drop_column dropped table
+
+abbrev pub renamed_column : (List ℕ × List ℕ) × List ℕ → Operator
+renamed_column ((table, renamed), into) = rename_column renamed table into
+
 abbrev pub operator_arm : ℕ → Parser Operator
 operator_arm tag =
     if tag == 0 then pure nop else
-    (if tag == 1 then map_to (λ x. create_table x.0 x.1) (pair name columns) else
+    (if tag == 1 then map_to created_table (pair name columns) else
     (if tag == 2 then map_to drop_table name else
-    (if tag == 3 then map_to (λ x. rename_table x.0 x.1) two_names else
-    (if tag == 4 then map_to (λ x. copy_table x.0 x.1) two_names else
-    (if tag == 5 then map_to (λ x. merge_table x.0.0 x.0.1 x.1) three_names else
+    (if tag == 3 then map_to renamed_table two_names else
+    (if tag == 4 then map_to copied_table two_names else
+    (if tag == 5 then map_to merged_table three_names else
     (if tag == 6 then map_to partitioned (pair (pair two_names outermost.cond) name) else
     (if tag == 7 then map_to decomposed (pair (pair (pair two_names names) name) names) else
     (if tag == 8 then map_to joined_tables (pair three_names outermost.cond) else
-    (if tag == 9 then map_to (λ x. add_column x.0.1 x.1 x.0.0) (pair two_names outermost.expr) else
-    (if tag == 10 then map_to (λ x. drop_column x.1 x.0) two_names else
-    map_to (λ x. rename_column x.0.1 x.0.0 x.1) three_names))))))))))
+    (if tag == 9 then map_to added_column (pair two_names outermost.expr) else
+    (if tag == 10 then map_to dropped_column two_names else
+    map_to renamed_column three_names))))))))))
 
 unfoldable pub operator : Parser Operator
 operator = tagged (up_to 11) operator_arm
@@ -196,11 +224,21 @@ set = pair name outermost.expr
 unfoldable pub sets : Parser (List (List ℕ × Tree))
 sets = listed 4 4294967295 set
 
+-- what is read after a tag, as its change
+abbrev pub inserted : List ℕ × List (List ℕ × Value) → PlainChange
+inserted (table, row) = insertion table row
+
+abbrev pub deleted : List ℕ × Test → PlainChange
+deleted (table, met) = deletion table met
+
+abbrev pub updated : (List ℕ × List (List ℕ × Tree)) × Test → PlainChange
+updated ((table, changed), met) = update table changed met
+
 abbrev pub change_arm : ℕ → Parser PlainChange
 change_arm tag =
-    if tag == 0 then map_to (λ x. insertion x.0 x.1) (pair name cells) else
-    (if tag == 1 then map_to (λ x. deletion x.0 x.1) (pair name outermost.cond) else
-    map_to (λ x. update x.0.0 x.0.1 x.1) (pair (pair name sets) outermost.cond))
+    if tag == 0 then map_to inserted (pair name cells) else
+    (if tag == 1 then map_to deleted (pair name outermost.cond) else
+    map_to updated (pair (pair name sets) outermost.cond))
 
 unfoldable pub change : Parser PlainChange
 change = tagged (up_to 2) change_arm
@@ -208,15 +246,18 @@ change = tagged (up_to 2) change_arm
 unfoldable pub changes : Parser (List PlainChange)
 changes = listed 4 4294967295 change
 
+abbrev pub evolved : Operator × List Operator → PlainBody
+evolved (op, inverse) = evolving op inverse
+
 abbrev pub body_arm : ℕ → Parser PlainBody
 body_arm tag = if tag == 0 then map_to changing changes
-    else map_to (λ x. evolving x.0 x.1) (pair operator operators)
+    else map_to evolved (pair operator operators)
 
 unfoldable pub body : Parser PlainBody
 body = tagged (up_to 1) body_arm
 
 abbrev pub a_command : ℕ × PlainBody → PlainCommand
-a_command x = record { stamp = x.0; body = x.1 }
+a_command (at, content) = record { stamp = at; body = content }
 
 -- the greatest stamp is 2^64 - 2
 unfoldable pub command : Parser PlainCommand

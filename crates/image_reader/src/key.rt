@@ -18,7 +18,7 @@ const LEAST_KEY: usize = 16;
 /// A start and an end.
 #[tactic(auto, unfolding(image_spelling::specs::Reader::period))]
 pub(crate) fn period(reader: &mut Reader<'_>) -> Result<(u64, u64), Stop>
-    ensures { Reads (λ x. span x.0 x.1) (spec.period reader.old.rest.now) result reader.new.rest.now }
+    ensures { Reads spec.a_span (spec.period reader.old.rest.now) result reader.new.rest.now }
 {
     let start = number_64(reader)?;
     let end = number_64(reader)?;

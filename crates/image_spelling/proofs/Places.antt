@@ -30,6 +30,7 @@ use Rattle.image_spelling.specs.Reader.{evolution, version, versions, all_versio
 use Rattle.image_spelling.specs.Reader.{keys, cell_of, entry, entries, column_entries, columns}
 use Rattle.image_spelling.specs.Reader.{line_head, a_line, has_apart, stored_line, lines, all_lines}
 use Rattle.image_spelling.specs.Reader.{nothing_after, an_image, image}
+use Rattle.image_spelling.specs.Reader.{a_span}
 use Rattle.image_spelling.proofs.ReadParts.{most_32, most_64}
 
 -- what is left is an end of the bytes
@@ -180,7 +181,7 @@ all_versions_leave last = bind_leaves (item number_32) (λ n. versions last n 0 
 
 period_leaves : LeavesEnds period
 unfolding period
-period_leaves = map_leaves (λ x. span x.0 x.1) (pair number_64 number_64)
+period_leaves = map_leaves a_span (pair number_64 number_64)
     (pair_leaves number_64 number_64 number_64_leaves number_64_leaves)
 
 keys_leave : (last : Option ℕ) → LeavesEnds (keys last)

@@ -40,6 +40,7 @@ use Rattle.image_spelling.specs.Reader.{evolution, version, versions, all_versio
 use Rattle.image_spelling.specs.Reader.{keys, cell_of, entry, entries, column_entries, columns}
 use Rattle.image_spelling.specs.Reader.{line_head, a_line, has_apart, stored_line, lines, all_lines}
 use Rattle.image_spelling.specs.Reader.{nothing_after, an_image, image}
+use Rattle.image_spelling.specs.Reader.{a_span}
 use Rattle.image_spelling.proofs.Judging.{number_itself}
 use Rattle.image_spelling.proofs.Formats.{Reads, reads_correct, reads_so, reads_item, reads_judged}
 use Rattle.image_spelling.proofs.Formats.{reads_missing, reads_then, reads_map, reads_pair, Led}
@@ -225,7 +226,7 @@ unfolding period
 reads_period = reads_map (pair number_64 number_64) (λ x. (x.0 ≤ most_64) × (x.1 ≤ most_64))
     (λ x. number 8 x.0 ++ number 8 x.1)
     (reads_pair number_64 (λ n. n ≤ most_64) (λ n. number 8 n) number_64 (λ n. n ≤ most_64)
-    (λ n. number 8 n) reads_64 reads_64) (λ x. span x.0 x.1) Fits span_bytes
+    (λ n. number 8 n) reads_64 reads_64) a_span Fits span_bytes
     (λ x h. (h, refl)) (λ p h. ((p.start, p.end), h, refl))
 
 abbrev pub IsKey : Option ℕ → Span → Type 0

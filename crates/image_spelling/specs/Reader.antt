@@ -39,12 +39,12 @@ last_stamp = item (tagged (up_to 1) last_arm)
 -- ---- versions
 
 abbrev pub version_after : Tables → ℕ × (Operator × List Operator) → PlainVersion
-version_after before x = record {
-  stamp = x.0;
-  op = x.1.0;
-  inverse = x.1.1;
+version_after before (stamp, (op, inverse)) = record {
+  stamp = stamp;
+  op = op;
+  inverse = inverse;
   tables =
-      schema_after before x.1.0;
+      schema_after before op;
 }
 
 abbrev pub evolution : Tables → Parser PlainVersion
@@ -67,8 +67,11 @@ all_versions last = bind (item number_32) (λ n. versions last n 0 None no_table
 
 -- ---- keys and entries
 
+abbrev pub a_span : ℕ × ℕ → Span
+a_span (start, end) = span start end
+
 unfoldable pub period : Parser Span
-period = map_to (λ x. span x.0 x.1) (pair number_64 number_64)
+period = map_to a_span (pair number_64 number_64)
 
 unfoldable pub key : Option ℕ → Parser Span
 key last = item (judged (is_period last) period)
@@ -77,7 +80,7 @@ unfoldable pub keys : Option ℕ → Parser (List Span)
 keys last = bind (item number_64) (λ n. items (key last) n)
 
 abbrev pub cell_of : (ℕ × Value) × Span → Cell
-cell_of x = record { id = x.0.0; value = x.0.1; period = x.1 }
+cell_of ((id, content), lasts) = record { id = id; value = content; period = lasts }
 
 -- the next entry: of the key with this id, of whose period this part is not yet filled
 unfoldable pub entry : Option ℕ → ColType → ℕ → Span → Parser Cell

@@ -1,20 +1,20 @@
 use Rattle.std.proofs.lemmas.Result.{err_from_is_err_and}
-use Rattle.smo_types.specs.Changes.{insertion}
 use Rattle.command_spelling.specs.Reading.{pair}
 use Rattle.command_spelling.specs.Reader.{name, cells}
+use Rattle.command_spelling.specs.Reader.{inserted}
 use Rattle.command_checker.proofs.Steps.{mapped, mapped_halts, paired, first_of_pair_halts}
 use Rattle.command_checker.proofs.command.check_insert.Goals as goal
 
 pub returns-in_err-check_name : goal.returns-in_err-check_name
 returns-in_err-check_name c =
     let f = err_from_is_err_and c.from_residual.result c.from_residual.ensures.1 in
-    rw (f.1, f.2) (mapped_halts (λ x. insertion x.0 x.1) (pair name cells)
+    rw (f.1, f.2) (mapped_halts inserted (pair name cells)
     c.args.reader.now.rest.now c.in_err-check_name.field-0.0 c.check_name.new.reader.rest.now
     (first_of_pair_halts name cells c.args.reader.now.rest.now c.in_err-check_name.field-0.0
     c.check_name.new.reader.rest.now c.in_err-check_name.ensures))
 
 pub returns : goal.returns
-returns c = mapped (λ x. insertion x.0 x.1) (pair name cells) c.args.reader.now.rest.now
+returns c = mapped inserted (pair name cells) c.args.reader.now.rest.now
     c.check_cells.result c.check_cells.new.reader.rest.now
     (paired name cells c.args.reader.now.rest.now c.check_name.new.reader.rest.now
     c.check_cells.result c.check_cells.new.reader.rest.now c.in_ok-check_name.ensures

@@ -1,9 +1,10 @@
 use Rattle.std.proofs.Common.{nat_lt}
 use Rattle.std.proofs.lemmas.Result.{err_from_is_err_and}
 use Rattle.cond_expr.specs.Seen.{trees_of}
-use Rattle.cond_expr.specs.Trees.{joined, choose, compared}
+use Rattle.cond_expr.specs.Trees.{joined}
 use Rattle.command_spelling.specs.Reading.{pair, digits, items, listed}
 use Rattle.command_spelling.specs.Reader.{sign, level, most_parts}
+use Rattle.command_spelling.specs.Reader.{chosen, comparison}
 use Rattle.command_checker.proofs.Steps.{halted, first_halts, after, mapped, mapped_halts, paired}
 use Rattle.command_checker.proofs.Steps.{both_pass, first_of_pair_halts, second_of_pair_halts}
 use Rattle.command_checker.proofs.ListSteps.{none_passed, one_passed, one_halts, all_passed}
@@ -93,7 +94,7 @@ check_parts-returns t c = after (digits (most_parts (nat_lt 0 c.args.levels) 655
 pub check_case-returns-in_err-check_cond : goal.check_case-returns-in_err-check_cond
 check_case-returns-in_err-check_cond t c =
     let f = err_from_is_err_and c.from_residual.result c.from_residual.ensures.1 in
-    rw (f.1, f.2) (mapped_halts (λ x. choose x.0.0 x.0.1 x.1)
+    rw (f.1, f.2) (mapped_halts chosen
     (pair (pair (level c.args.levels).cond (level c.args.levels).expr)
     (level c.args.levels).expr) c.args.reader.now.rest.now c.in_err-check_cond.field-0.0
     c.check_cond.new.reader.rest.now (first_of_pair_halts
@@ -107,7 +108,7 @@ pub check_case-returns-in_err-check_expr : goal.check_case-returns-in_err-check_
 check_case-returns-in_err-check_expr t c =
     let f = err_from_is_err_and c.from_residual-in_err-check_expr.result
     c.from_residual-in_err-check_expr.ensures.1 in
-    rw (f.1, f.2) (mapped_halts (λ x. choose x.0.0 x.0.1 x.1)
+    rw (f.1, f.2) (mapped_halts chosen
     (pair (pair (level c.args.levels).cond (level c.args.levels).expr)
     (level c.args.levels).expr) c.args.reader.now.rest.now c.in_err-check_expr.field-0.0
     c.check_expr.new.reader.rest.now (first_of_pair_halts
@@ -118,7 +119,7 @@ check_case-returns-in_err-check_expr t c =
     c.check_expr.new.reader.rest.now c.in_ok-check_cond.ensures c.in_err-check_expr.ensures)))
 
 pub check_case-returns : goal.check_case-returns
-check_case-returns t c = mapped (λ x. choose x.0.0 x.0.1 x.1)
+check_case-returns t c = mapped chosen
     (pair (pair (level c.args.levels).cond (level c.args.levels).expr) (level c.args.levels).expr)
     c.args.reader.now.rest.now c.check_expr-2.result c.check_expr-2.new.reader.rest.now
     (paired (pair (level c.args.levels).cond (level c.args.levels).expr) (level c.args.levels).expr
@@ -131,7 +132,7 @@ check_case-returns t c = mapped (λ x. choose x.0.0 x.0.1 x.1)
 pub check_comparison-returns-in_err-check_sign : goal.check_comparison-returns-in_err-check_sign
 check_comparison-returns-in_err-check_sign t c =
     let f = err_from_is_err_and c.from_residual.result c.from_residual.ensures.1 in
-    rw (f.1, f.2) (mapped_halts (λ x. compared x.0.0 x.0.1 x.1)
+    rw (f.1, f.2) (mapped_halts comparison
     (pair (pair sign (level c.args.levels).expr) (level c.args.levels).expr)
     c.args.reader.now.rest.now c.in_err-check_sign.field-0.0 c.check_sign.new.reader.rest.now
     (first_of_pair_halts (pair sign (level c.args.levels).expr) (level c.args.levels).expr
@@ -144,7 +145,7 @@ pub check_comparison-returns-in_err-check_expr : goal.check_comparison-returns-i
 check_comparison-returns-in_err-check_expr t c =
     let f = err_from_is_err_and c.from_residual-in_err-check_expr.result
     c.from_residual-in_err-check_expr.ensures.1 in
-    rw (f.1, f.2) (mapped_halts (λ x. compared x.0.0 x.0.1 x.1)
+    rw (f.1, f.2) (mapped_halts comparison
     (pair (pair sign (level c.args.levels).expr) (level c.args.levels).expr)
     c.args.reader.now.rest.now c.in_err-check_expr.field-0.0 c.check_expr.new.reader.rest.now
     (first_of_pair_halts (pair sign (level c.args.levels).expr) (level c.args.levels).expr
@@ -154,7 +155,7 @@ check_comparison-returns-in_err-check_expr t c =
     c.check_expr.new.reader.rest.now c.in_ok-check_sign.ensures c.in_err-check_expr.ensures)))
 
 pub check_comparison-returns : goal.check_comparison-returns
-check_comparison-returns t c = mapped (λ x. compared x.0.0 x.0.1 x.1)
+check_comparison-returns t c = mapped comparison
     (pair (pair sign (level c.args.levels).expr) (level c.args.levels).expr)
     c.args.reader.now.rest.now c.check_expr-2.result c.check_expr-2.new.reader.rest.now
     (paired (pair sign (level c.args.levels).expr) (level c.args.levels).expr
