@@ -11,8 +11,8 @@ ghost use Rattle.answer_text.specs.Causes.{HasStopCause};
 ghost use Rattle.answer_text.specs.declared.stop.Stop.TheVariants as stop;
 ghost use Rattle.answer_text.specs.Texts.{piece_head, explained_text, explain_text};
 
-use crate::bytes::{add_count, put_lines};
 use crate::line::Line;
+use crate::made_reply::{add_count, put_lines};
 use crate::stop::Stop;
 use piece_texts::{Explained, piece_text};
 use prima_base::NoMemory;

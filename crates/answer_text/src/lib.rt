@@ -5,11 +5,11 @@
 //! `specs/Texts.antt` and `specs/RefusalTexts.antt` say each line by its bytes.
 #![tactic(auto)]
 
-mod bytes;
 mod explanation;
 mod lifeline;
 mod line;
 mod listing;
+mod made_reply;
 mod refusal;
 mod reply;
 mod schema;

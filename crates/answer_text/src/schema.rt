@@ -8,7 +8,7 @@ ghost use Rattle.answer_text.specs.Causes.{HasStopCause};
 ghost use Rattle.answer_text.specs.declared.stop.Stop.TheVariants as stop;
 ghost use Rattle.answer_text.specs.Texts.{table_text, tables_text, schema_text};
 
-use crate::bytes::{add_count, put_lines};
+use crate::made_reply::{add_count, put_lines};
 use crate::stop::Stop;
 use prima_base::NoMemory;
 use prima_io::Sink;

@@ -13,8 +13,8 @@ ghost use Rattle.answer_text.specs.Texts.{more_operators, inverse_text, version_
 ghost use Rattle.answer_text.specs.Texts.{first_version_text, version_text, version_texts};
 ghost use Rattle.answer_text.specs.Texts.{versions_text};
 
-use crate::bytes::{add_count, put_lines};
 use crate::line::Line;
+use crate::made_reply::{add_count, put_lines};
 use crate::stop::Stop;
 use prima_base::NoMemory;
 use prima_io::Sink;

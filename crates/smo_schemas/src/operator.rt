@@ -4,7 +4,7 @@ ghost use Rattle.smo_meaning.specs.Accepts.{operator_refusal};
 ghost use Rattle.smo_meaning.specs.After.{op_fault, schema_after, IsAfter, HasFewNodes, IsValid};
 
 mod add_column;
-mod column_preconditions;
+mod column_precondition;
 mod copy_table;
 mod create_table;
 mod decompose_table;
@@ -17,7 +17,7 @@ mod partition_table;
 mod precondition;
 mod rename_column;
 mod rename_table;
-mod tree_preconditions;
+mod tree_precondition;
 
 use crate::operator::add_column::after_add_column;
 use crate::operator::copy_table::after_copy;

@@ -7,7 +7,7 @@ ghost use Rattle.smo_meaning.specs.After.{IsAfter};
 
 use crate::made_column::{columns_with, with_table};
 use crate::operator::precondition::{check_new, columns_there};
-use crate::operator::tree_preconditions::{check_few_columns, check_tree};
+use crate::operator::tree_precondition::{check_few_columns, check_tree};
 use cond_expr::Expr;
 use prima_base::Name;
 use schema_catalog::Schema;

@@ -8,7 +8,7 @@ ghost use Rattle.smo_meaning.specs.After.{IsAfter};
 
 use crate::column_cover::columns_named;
 use crate::made_column::in_two;
-use crate::operator::column_preconditions::{check_cover, check_each_known, check_each_once};
+use crate::operator::column_precondition::{check_cover, check_each_known, check_each_once};
 use crate::operator::precondition::{check_tables, check_two_names, columns_there};
 use prima_base::{ColType, Name};
 use schema_catalog::Schema;

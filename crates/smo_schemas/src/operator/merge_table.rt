@@ -4,7 +4,7 @@ ghost use Rattle.smo_meaning.specs.After.{IsAfter};
 
 use crate::made_column::in_one;
 use crate::name_list::is_either;
-use crate::operator::column_preconditions::check_alike;
+use crate::operator::column_precondition::check_alike;
 use crate::operator::precondition::{check_differ, check_free, columns_there};
 use prima_base::Name;
 use schema_catalog::Schema;

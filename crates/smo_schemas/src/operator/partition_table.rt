@@ -7,7 +7,7 @@ ghost use Rattle.smo_meaning.specs.After.{IsAfter};
 
 use crate::made_column::in_two;
 use crate::operator::precondition::{check_tables, check_two_names, columns_there};
-use crate::operator::tree_preconditions::check_test;
+use crate::operator::tree_precondition::check_test;
 use cond_expr::Cond;
 use prima_base::Name;
 use schema_catalog::Schema;
