@@ -8,3 +8,10 @@ abbrev pub IsTested : {A : Type 0} {R : Type 0} → Option R → Result A (CallF
 IsTested refusal (Ok a) = refusal ≡ None
 IsTested refusal (Err (Refused r)) = refusal ≡ Some r
 IsTested refusal (Err NoMemory) = ⊤
+
+-- the test is met, and what is answered is so; else as above
+abbrev pub IsTestedAs : {A : Type 0} {R : Type 0} → (A → Type 0) → Option R
+    → Result A (CallFault R) → Type 0
+IsTestedAs so refusal (Ok a) = (refusal ≡ None) × so a
+IsTestedAs so refusal (Err (Refused r)) = refusal ≡ Some r
+IsTestedAs so refusal (Err NoMemory) = ⊤

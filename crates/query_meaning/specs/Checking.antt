@@ -1,7 +1,7 @@
 -- What is wrong with a query: the first of its tests, in the one order, that is not met. A place
 -- counts nodes through all branches, each with its outputs and then its condition.
 use Rattle.std.specs.Prelude.{◌≡◌, ℕ, ◌+◌, List, [], ◌∷◌, ◌++◌, Bool, true, false, ◌&&◌, map}
-use Rattle.std.specs.Prelude.{length, take, nat_le, nat_lt, Option, Some, None, Result, Ok, Err, ⊤}
+use Rattle.std.specs.Prelude.{length, take, nat_le, nat_lt, Option, Some, None, Result}
 use Rattle.std.specs.List.{filter, find, flat_map}
 use Rattle.std.specs.Option.{option_map}
 use Rattle.std.specs.FinMap.{contains_key}
@@ -30,7 +30,7 @@ use Rattle.query_types.specs.declared.when.When.{When}
 use Rattle.query_types.specs.declared.when.When.TheVariants.{Always, AsOf, During}
 use Rattle.prima_base.specs.declared.refusal.Refusal.{Refusal}
 use Rattle.prima_base.specs.declared.fault.CallFault.{CallFault}
-use Rattle.prima_base.specs.declared.fault.CallFault.TheVariants.{Refused, NoMemory}
+use Rattle.prima_base.specs.Faults.{IsTestedAs}
 use Rattle.prima_base.specs.Limits.{max_branch_tables, max_outputs, max_branches, max_keeps}
 use Rattle.plain_answers.specs.Branches.{Item, PlainBranch}
 use Rattle.plain_answers.specs.Naming.{all_references}
@@ -189,7 +189,5 @@ query_fault tables query = first_refusal (excess_fault (excess_of query) ∷ que
 
 -- what the check answers: the query with each reference made one to an atom, or its refusal
 abbrev pub IsQueryChecked : Tables → PlainQuery → Result Query (CallFault Refusal) → Type 0
-IsQueryChecked tables query (Ok q) = (query_fault tables query ≡ None)
-    × (query_of q ≡ with_atoms tables query)
-IsQueryChecked tables query (Err (Refused refusal)) = query_fault tables query ≡ Some refusal
-IsQueryChecked tables query (Err NoMemory) = ⊤
+IsQueryChecked tables query answer =
+    IsTestedAs (λ q. query_of q ≡ with_atoms tables query) (query_fault tables query) answer

@@ -1,14 +1,13 @@
 -- What is after an operator: the first precondition that fails, or the next schema; and its
 -- database.
-use Rattle.std.specs.Prelude.{◌≡◌, ◌<◌, ◌≤◌, ◌^◌, ℕ, List, [], ◌∷◌, Option, Some, None, Result, Ok}
-use Rattle.std.specs.Prelude.{Err, ⊤}
+use Rattle.std.specs.Prelude.{◌≡◌, ◌<◌, ◌≤◌, ◌^◌, ℕ, List, [], ◌∷◌, Option, Result, ⊤}
 use Rattle.std.specs.FinMap.{insert, remove, len}
 use Rattle.prima_base.specs.declared.refusal.OpRefusal.{OpRefusal}
 use Rattle.schema_catalog.specs.Tables.{Tables, IsSchema}
 use Rattle.schema_catalog.specs.Databases.{Database}
 use Rattle.cond_expr.specs.Sizes.{nodes_of, test_nodes}
 use Rattle.prima_base.specs.declared.fault.CallFault.{CallFault}
-use Rattle.prima_base.specs.declared.fault.CallFault.TheVariants.{Refused, NoMemory}
+use Rattle.prima_base.specs.Faults.{IsTestedAs}
 use Rattle.prima_base.specs.Limits.{max_tables}
 use Rattle.smo_types.specs.Operators.{Operator, nop, create_table, drop_table, rename_table}
 use Rattle.smo_types.specs.Operators.{copy_table, merge_table, partition_table, decompose_table}
@@ -40,9 +39,8 @@ carried tables op db = make_all (line tables op).made db (lose_all (line tables 
 
 -- what `after` answers
 abbrev pub IsAfter : Tables → Operator → Result Tables (CallFault OpRefusal) → Type 0
-IsAfter tables op (Ok next) = (op_fault tables op ≡ None) × (next ≡ schema_after tables op)
-IsAfter tables op (Err (Refused refusal)) = op_fault tables op ≡ Some refusal
-IsAfter tables op (Err NoMemory) = ⊤
+IsAfter tables op answer =
+    IsTestedAs (λ next. next ≡ schema_after tables op) (op_fault tables op) answer
 
 -- a valid schema: each table's columns stand in the order of their names, each once, and the limits
 -- are kept

@@ -1,13 +1,11 @@
 -- What a walk over the trees of a change has found: the number of the node after them, or the first
 -- refusal.
-use Rattle.std.specs.Prelude.{◌≡◌, ℕ, List, Some, None, Result, Ok, Err, ⊤}
+use Rattle.std.specs.Prelude.{◌≡◌, ℕ, List, Result}
 use Rattle.prima_base.specs.declared.refusal.Refusal.{Refusal}
 use Rattle.prima_base.specs.declared.fault.CallFault.{CallFault}
-use Rattle.prima_base.specs.declared.fault.CallFault.TheVariants.{Refused, NoMemory}
+use Rattle.prima_base.specs.Faults.{IsTestedAs}
 use Rattle.smo_meaning.specs.First.{first_refusal}
 use Rattle.smo_meaning.specs.Checks.{Fault}
 
 abbrev pub IsWalked : List Fault → ℕ → Result ℕ (CallFault Refusal) → Type 0
-IsWalked tests after (Ok next) = (first_refusal tests ≡ None) × (next ≡ after)
-IsWalked tests after (Err (Refused refusal)) = first_refusal tests ≡ Some refusal
-IsWalked tests after (Err NoMemory) = ⊤
+IsWalked tests after answer = IsTestedAs (λ next. next ≡ after) (first_refusal tests) answer

@@ -1,5 +1,5 @@
 -- What typing the trees of a query answers.
-use Rattle.std.specs.Prelude.{◌≡◌, ℕ, ◌+◌, List, Option, Some, None, Result, Ok, Err, map, ⊤}
+use Rattle.std.specs.Prelude.{◌≡◌, ℕ, ◌+◌, List, Option, Some, None, Result, Ok, Err, map}
 use Rattle.std.specs.Option.{option_map}
 use Rattle.prima_base.specs.declared.value.ColType.{ColType}
 use Rattle.std.specs.declared.vec.Vec.{Vec}
@@ -11,7 +11,7 @@ use Rattle.cond_expr.specs.Faults.{untyped, test_untyped, first_of}
 use Rattle.smo_meaning.specs.First.{first_refusal}
 use Rattle.prima_base.specs.declared.refusal.Refusal.{Refusal}
 use Rattle.prima_base.specs.declared.fault.CallFault.{CallFault}
-use Rattle.prima_base.specs.declared.fault.CallFault.TheVariants.{Refused, NoMemory}
+use Rattle.prima_base.specs.Faults.{IsTestedAs}
 use Rattle.temporal_lang.specs.declared.type_check.Typed.{Typed}
 use Rattle.plain_answers.specs.Branches.{PlainBranch}
 use Rattle.query_meaning.specs.Checking.{trees_types, outputs_nodes, branch_types, branch_nodes}
@@ -28,23 +28,17 @@ IsTypedTest of at c (Ok u) = first_of (test_untyped of 0 c) ≡ None
 IsTypedTest of at c (Err place) = option_map (λ p. at + p) (first_of (test_untyped of 0 c))
     ≡ Some place
 
+-- these are the types of the outputs, and the number of the node after them
+abbrev pub HasTypes : Kinds → List Tree → ℕ → Typed → Type 0
+HasTypes of ts next typed = (map Some typed.kinds.items ≡ map (kind_of of) ts) × (typed.next ≡ next)
+
 abbrev pub OutputsTyped : Kinds → ℕ → List Tree → Result Typed (CallFault Refusal) → Type 0
-OutputsTyped of at ts (Ok typed) = record {
-  fine : first_refusal (trees_types of at ts) ≡ None;
-  kinds : map Some typed.kinds.items ≡ map (kind_of of) ts;
-  next : typed.next ≡ at + outputs_nodes ts;
-}
-OutputsTyped of at ts (Err (Refused refusal)) = first_refusal (trees_types of at ts) ≡ Some refusal
-OutputsTyped of at ts (Err NoMemory) = ⊤
+OutputsTyped of at ts answer = IsTestedAs (HasTypes of ts (at + outputs_nodes ts))
+    (first_refusal (trees_types of at ts)) answer
 
 abbrev pub BranchTyped : Kinds → ℕ → PlainBranch → Result Typed (CallFault Refusal) → Type 0
-BranchTyped of at b (Ok typed) = record {
-  fine : first_refusal (branch_types of at b) ≡ None;
-  kinds : map Some typed.kinds.items ≡ map (kind_of of) b.outs;
-  next : typed.next ≡ at + branch_nodes b;
-}
-BranchTyped of at b (Err (Refused refusal)) = first_refusal (branch_types of at b) ≡ Some refusal
-BranchTyped of at b (Err NoMemory) = ⊤
+BranchTyped of at b answer = IsTestedAs (HasTypes of b.outs (at + branch_nodes b))
+    (first_refusal (branch_types of at b)) answer
 
 -- the types of each branch's outputs
 abbrev pub kind_lists : List (Vec ColType Global) → List (List (Option ColType))
@@ -52,8 +46,6 @@ kind_lists kinds = map (λ (v : Vec ColType Global). map Some v.items) kinds
 
 abbrev pub BranchesTyped : Tables → List PlainBranch
     → Result (Vec (Vec ColType Global) Global) (CallFault Refusal) → Type 0
-BranchesTyped tables branches (Ok kinds) = (first_refusal (types_from tables 0 branches) ≡ None)
-    × (kind_lists kinds.items ≡ map (output_kinds tables) branches)
-BranchesTyped tables branches (Err (Refused refusal)) =
-    first_refusal (types_from tables 0 branches) ≡ Some refusal
-BranchesTyped tables branches (Err NoMemory) = ⊤
+BranchesTyped tables branches answer =
+    IsTestedAs (λ kinds. kind_lists kinds.items ≡ map (output_kinds tables) branches)
+    (first_refusal (types_from tables 0 branches)) answer

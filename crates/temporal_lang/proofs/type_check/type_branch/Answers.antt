@@ -63,13 +63,12 @@ returns-in-Ok c =
     (Ok c.in_ok-typed.typed)) of c.in_ok-typed.ensures) in
     let few = c.requires.small.cond in
     let least = c.cond_size.ensures.nodes in
-    let outs = typed.next in
-    record {
-      fine = branch_fine (atom_kinds c.args.schema.now c.args.branch.now.from.items) c.args.at b
-          typed.fine (ap (λ k. first_of (test_untyped k 0 b.cond)) (sym again) ∙ c.in-Ok.ensures);
-      kinds = typed.kinds;
-      next = omega (arith, few, least, outs);
-    }
+    let outs = typed.1.1 in (
+      branch_fine (atom_kinds c.args.schema.now c.args.branch.now.from.items) c.args.at b
+          typed.0 (ap (λ k. first_of (test_untyped k 0 b.cond)) (sym again) ∙ c.in-Ok.ensures),
+      typed.1.0,
+      omega (arith, few, least, outs),
+    )
 
 pub returns : goal.returns
 returns c =
@@ -84,6 +83,6 @@ returns c =
     (subst (λ k. OutputsTyped k c.args.at (map tree c.deref-2.result.now)
     (Ok c.in_ok-typed.typed)) of c.in_ok-typed.ensures) in
     branch_wrong (atom_kinds c.args.schema.now c.args.branch.now.from.items) c.args.at b
-    c.in_ok-typed.typed.next c.in-Err.place typed.fine typed.next
+    c.in_ok-typed.typed.next c.in-Err.place typed.0 typed.1.1
     (subst (λ k. IsTypedTest k c.in_ok-typed.typed.next b.cond (Err c.in-Err.place)) again
     c.in-Err.ensures)

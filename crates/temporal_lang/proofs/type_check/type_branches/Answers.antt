@@ -53,16 +53,16 @@ loop-branch-preserved c =
     let few = branch_few (branch_of x) small.0 in
     let so_far = c.loop-branch.invariant.nodes in
     let typed = c.in_ok-typed.ensures in
-    let next = typed.next in
+    let next = typed.1.1 in
     record {
       faults = c.loop-branch.invariant.faults
           ∙ types_more tables xs i x c.loop-branch-test.true c.branch-item.is c.loop-branch.at
-          c.in_ok-typed.typed.next typed.fine next;
+          c.in_ok-typed.typed.next typed.0 next;
       nodes = omega (arith, few, so_far, next);
       kinds = mapped_more (output_kinds tables) branch_of
           (λ (v : Vec ColType Global). map Some v.items) xs i x c.loop-branch-test.true
           c.branch-item.is
-          c.loop-branch.kinds.items c.in_ok-typed.typed.kinds _ _ (sym typed.kinds)
+          c.loop-branch.kinds.items c.in_ok-typed.typed.kinds _ _ (sym typed.1.0)
           c.in_ok-push.ensures c.loop-branch.invariant.kinds;
       few = few_after tables xs i x c.loop-branch-test.true c.branch-item.is
           c.loop-branch.invariant.few;
