@@ -21,7 +21,7 @@ ghost use Rattle.version_groups.specs.Judged.{judged_command, IsAccepted};
 ghost use Rattle.archive_state.specs.Asking.{IsAsked, IsExplained, TellsWayBack, ArePiecesOf};
 ghost use Rattle.archive_state.specs.Asking.{query_asked};
 ghost use Rattle.piece_texts.specs.ExplainedPieces.{PlainExplained};
-ghost use Rattle.query_exec.specs.Borrowed.{Lents, AreSpared, AreBorrowedBy};
+ghost use Rattle.query_exec.specs.Borrowed.{BorrowedByBranch, AreSpared, AreBorrowedBy};
 ghost use Rattle.query_exec.specs.Reads.{explained_read, reads_of};
 ghost use Rattle.archive_core.specs.declared.fault.CommitFault.TheVariants as fault;
 ghost use Rattle.archive_core.specs.declared.fault.MountFault.TheVariants as mounting;
@@ -276,9 +276,10 @@ impl<D: Disk> Archive<D> {
             → (pieces : List PlainExplained) → ArePiecesOf
             (meaning_of book.now.rules.items (λ r. handles (r.vtable, r.value))
             (λ r. answers (r.vtable, r.value))) past (query_of query.now) pieces
-            → (lents : Lents) → AreSpared (standing_of self.now).groups lents pieces
+            → (by_branch : BorrowedByBranch)
+            → AreSpared (standing_of self.now).groups by_branch pieces
             → IfOk result (λ listing. AreBorrowedBy past
-            (query_asked past (query_of query.now)) lents listing.rows.items) }
+            (query_asked past (query_of query.now)) by_branch listing.rows.items) }
         ensures cost { (past : Past) → RepresentsPast (standing_of self.now) past
             → (pieces : List PlainExplained) → ArePiecesOf
             (meaning_of book.now.rules.items (λ r. handles (r.vtable, r.value))

@@ -71,7 +71,7 @@ impl ArchiveState {
     ghost use Rattle.archive_state.specs.Committing.{Judges, IsAsBefore, IsDone, Accepts};
     ghost use Rattle.rewrite.specs.Books.{meaning_of, EachOf};
     ghost use Rattle.piece_texts.specs.ExplainedPieces.{PlainExplained};
-    ghost use Rattle.query_exec.specs.Borrowed.{Lents, AreSpared, AreBorrowedBy};
+    ghost use Rattle.query_exec.specs.Borrowed.{BorrowedByBranch, AreSpared, AreBorrowedBy};
     ghost use Rattle.query_exec.specs.Reads.{explained_read, reads_of};
     ghost use Rattle.archive_state.specs.Asking.{IsAsked, IsExplained, TellsWayBack, ArePiecesOf};
     ghost use Rattle.archive_state.specs.Asking.{query_asked};
@@ -224,9 +224,9 @@ impl ArchiveState {
             → (pieces : List PlainExplained) → ArePiecesOf
             (meaning_of book.now.rules.items (λ r. handles (r.vtable, r.value))
             (λ r. answers (r.vtable, r.value))) past (query_of query.now) pieces
-            → (lents : Lents) → AreSpared self.now.groups lents pieces
+            → (by_branch : BorrowedByBranch) → AreSpared self.now.groups by_branch pieces
             → IfOk result (λ listing. AreBorrowedBy past
-            (query_asked past (query_of query.now)) lents listing.rows.items) }
+            (query_asked past (query_of query.now)) by_branch listing.rows.items) }
         ensures cost { (past : Past) → RepresentsPast self.now past → (pieces : List PlainExplained)
             → ArePiecesOf (meaning_of book.now.rules.items (λ r. handles (r.vtable, r.value))
             (λ r. answers (r.vtable, r.value))) past (query_of query.now) pieces

@@ -6,7 +6,7 @@ ghost use Rattle.smo_meaning.specs.Past.{Past};
 ghost use Rattle.query_meaning.specs.Accepted.{no_way_back, fault_of_query};
 ghost use Rattle.query_types.specs.Queries.{query_of};
 ghost use Rattle.piece_texts.specs.ExplainedPieces.{PlainExplained};
-ghost use Rattle.query_exec.specs.Borrowed.{Lents, AreSpared, AreBorrowedBy};
+ghost use Rattle.query_exec.specs.Borrowed.{BorrowedByBranch, AreSpared, AreBorrowedBy};
 ghost use Rattle.relations.specs.Sets.{In};
 ghost use Rattle.query_exec.specs.Reads.{explained_read, reads_of};
 ghost use Rattle.version_groups.specs.Representation.{Represents};
@@ -126,8 +126,9 @@ pub(crate) fn ask<'a, L: Ledger>(
     ensures borrowed { (past : Past) → Represents groups.now past → (pieces : List PlainExplained)
         → ArePiecesOf (meaning_of book.now.rules.items (λ r. handles (r.vtable, r.value))
         (λ r. answers (r.vtable, r.value))) past (query_of query.now) pieces
-        → (lents : Lents) → AreSpared groups.now lents pieces
-        → IfOk result (λ listing. AreBorrowedBy past (query_asked past (query_of query.now)) lents
+        → (by_branch : BorrowedByBranch) → AreSpared groups.now by_branch pieces
+        → IfOk result (λ listing. AreBorrowedBy past (query_asked past (query_of query.now))
+        by_branch
         listing.rows.items) }
     ensures cost { (past : Past) → Represents groups.now past → (pieces : List PlainExplained)
         → ArePiecesOf (meaning_of book.now.rules.items (λ r. handles (r.vtable, r.value))

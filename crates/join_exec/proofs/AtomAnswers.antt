@@ -28,9 +28,9 @@ use Rattle.plain_answers.specs.Reading.{read_columns as columns_left}
 use Rattle.plain_answers.proofs.NameLaws.{in_names_at}
 use Rattle.plain_answers.proofs.ReadLaws.{same_answers}
 use Rattle.joining.specs.declared.source.Atom.{Atom}
-use Rattle.joining.specs.Sources.{AtomsLend, atom_rows, IsNumbered, AreNumbered, HaveAtoms}
-use Rattle.timed_choices.specs.Lending.{AllBorrowed, Lent}
-use Rattle.timed_choices.proofs.BorrowedLaws.{rows_lend}
+use Rattle.joining.specs.Sources.{AtomsBorrow, atom_rows, IsNumbered, AreNumbered, HaveAtoms}
+use Rattle.timed_choices.specs.BorrowedOutputs.{AllBorrowed, BorrowedValues}
+use Rattle.timed_choices.proofs.BorrowedLaws.{rows_borrow}
 use Rattle.join_exec.specs.Pieces.{columns_stored, stored_columns, stored_rows}
 use Rattle.join_exec.specs.Atoms.{IsReadOf, AreRead, IsReadable, AreReadable}
 use Rattle.join_exec.proofs.LeftNames.{names_left}
@@ -129,16 +129,16 @@ module _ (kept : Kept) (k : ℕ) (slice : Span) (rs : List ColRef) where
         are_numbered (i + 1) tables atoms h.1,
       )
 
-  -- they lend any of their columns
-  pub atoms_lend : (lent : Lent) (i : ℕ) (tables : List (List ℕ)) (atoms : List Atom)
-      → Taken i tables atoms → AtomsLend lent atoms
-  atoms_lend lent i [] [] h = tt
-  atoms_lend lent i [] (a ∷ atoms) h = absurd h
-  atoms_lend lent i (n ∷ tables) [] h = absurd h
-  atoms_lend lent i (n ∷ tables) (a ∷ atoms) h = (
-    rows_lend lent a.columns.items a.rows.items a.fit
+  -- the values of any of their columns are borrowed
+  pub atoms_borrow : (which : BorrowedValues) (i : ℕ) (tables : List (List ℕ)) (atoms : List Atom)
+      → Taken i tables atoms → AtomsBorrow which atoms
+  atoms_borrow which i [] [] h = tt
+  atoms_borrow which i [] (a ∷ atoms) h = absurd h
+  atoms_borrow which i (n ∷ tables) [] h = absurd h
+  atoms_borrow which i (n ∷ tables) (a ∷ atoms) h = (
+    rows_borrow which a.columns.items a.rows.items a.fit
         (borrowed_of slice i (names_at i rs) a (table_in kept k n) h.0),
-    atoms_lend lent (i + 1) tables atoms h.1,
+    atoms_borrow which (i + 1) tables atoms h.1,
   )
 
   rows_left : (m : ℕ) → covers slice m ≡ true → (i : ℕ) (tables : List (List ℕ)) (atoms : List Atom)

@@ -19,7 +19,7 @@ use Rattle.cond_expr.specs.Rows.{AreValid}
 use Rattle.smo_meaning.specs.Making.{named}
 use Rattle.schema_catalog.specs.Databases.{cell}
 use Rattle.history_store.specs.Store.{Store, relation_at, row_at, IsStore}
-use Rattle.timed_choices.specs.Lending.{AllBorrowed}
+use Rattle.timed_choices.specs.BorrowedOutputs.{AllBorrowed}
 use Rattle.timed_choices.specs.Keeping.{IsValidRow}
 use Rattle.timed_choices.specs.Fitting.{Fit, AreOwn}
 use Rattle.join_exec.specs.declared.row_part.Stretch.{Stretch}

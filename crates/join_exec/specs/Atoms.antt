@@ -11,7 +11,7 @@ use Rattle.cond_expr.specs.declared.expr.ColRef.{ColRef}
 use Rattle.cond_expr.specs.AtomColumns.{columns_at}
 use Rattle.smo_meaning.specs.Making.{named}
 use Rattle.plain_answers.specs.Naming.{names_at}
-use Rattle.timed_choices.specs.Lending.{AllBorrowed}
+use Rattle.timed_choices.specs.BorrowedOutputs.{AllBorrowed}
 use Rattle.joining.specs.declared.source.Atom.{Atom}
 use Rattle.join_exec.specs.Reading.{AreNames}
 

@@ -14,7 +14,7 @@ ghost use Rattle.plain_answers.specs.Naming.{all_references};
 ghost use Rattle.piece_meaning.specs.Pieces.{means, out_trees};
 ghost use Rattle.piece_meaning.specs.Typed.{IsTyped};
 ghost use Rattle.piece_ir.specs.Shown.{piece_of};
-ghost use Rattle.timed_choices.specs.Lending.{all_lent, AllStayBorrowed};
+ghost use Rattle.timed_choices.specs.BorrowedOutputs.{all_values, AllStayBorrowed};
 ghost use Rattle.join_exec.specs.Pieces.{stored_columns, stored_rows, stored_meaning, atoms_read};
 ghost use Rattle.join_exec.specs.Pieces.{piece_reads};
 ghost use Rattle.join_exec.specs.Atoms.{AreReadable};
@@ -58,7 +58,7 @@ fn answer_tables<'a, L: Ledger>(
     ensures inside { (m : ℕ) → covers slice m ≡ false
         → IfOk result (λ rows. rows_at rows.items m ≡ []) }
     ensures borrowed { IfOk result (λ rows.
-        AllStayBorrowed all_lent (map tree outs.now) rows.items) }
+        AllStayBorrowed all_values (map tree outs.now) rows.items) }
     ensures cost { steps.new ≤ steps.old + atoms_read groups.now version
         (all_references (map tree outs.now) (test cond.now)) 0 tables.now }
     ensures counted { IfOk result (λ _. steps.new
@@ -100,7 +100,7 @@ pub fn run_piece<'a, L: Ledger>(
         ≡ stored_meaning groups.now version (piece_of piece.now) m) }
     ensures inside { (m : ℕ) → covers slice m ≡ false
         → IfOk result (λ rows. rows_at rows.items m ≡ []) }
-    ensures borrowed { IfOk result (λ rows. AllStayBorrowed all_lent
+    ensures borrowed { IfOk result (λ rows. AllStayBorrowed all_values
         (out_trees (piece_of piece.now).outs) rows.items) }
     ensures cost { steps.new ≤ steps.old + piece_reads groups.now version (piece_of piece.now) }
     ensures counted { IfOk result (λ _. steps.new

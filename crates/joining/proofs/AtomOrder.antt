@@ -13,11 +13,11 @@ use Rattle.prima_base.specs.Timed.{entries_of, rows_at}
 use Rattle.cond_expr.specs.Trees.{Tree, Test}
 use Rattle.joining.specs.declared.source.Atom.{Atom}
 use Rattle.joining.specs.declared.source.Source.{Source}
-use Rattle.timed_choices.specs.Lending.{Lent, RowsLend}
+use Rattle.timed_choices.specs.BorrowedOutputs.{BorrowedValues, RowsBorrow}
 use Rattle.timed_choices.specs.Blocks.{Block, answered, IsBlock, Apart, AreBlocks, types_of}
 use Rattle.timed_choices.specs.Blocks.{rows_of}
 use Rattle.timed_choices.proofs.Reordering.{moved}
-use Rattle.joining.specs.Sources.{AtomsLend, SourcesLend, atom_rows, block_of, blocks_of}
+use Rattle.joining.specs.Sources.{AtomsBorrow, SourcesBorrow, atom_rows, block_of, blocks_of}
 use Rattle.joining.specs.Sources.{IsNumbered, AreNumbered, columns_of}
 
 pub is_block : (m : ℕ) (a : Atom) → IsBlock (block_of m a)
@@ -117,31 +117,32 @@ rows_is m [] = refl
 rows_is m (a ∷ atoms) = ap (λ (rs : List (List (List Value))). rows_at a.rows.items m ∷ rs)
     (rows_is m atoms)
 
--- what atoms and lists lend
-module _ (lent : Lent) where
-  pub atoms_lend : (xs ys : List Atom) → AtomsLend lent (xs ++ ys) → AtomsLend lent xs
-      × AtomsLend lent ys
-  atoms_lend [] ys h = (tt, h)
-  atoms_lend (x ∷ xs) ys h = let r = atoms_lend xs ys h.1 in ((h.0, r.0), r.1)
+-- what atoms and lists borrow
+module _ (which : BorrowedValues) where
+  pub atoms_borrow : (xs ys : List Atom) → AtomsBorrow which (xs ++ ys) → AtomsBorrow which xs
+      × AtomsBorrow which ys
+  atoms_borrow [] ys h = (tt, h)
+  atoms_borrow (x ∷ xs) ys h = let r = atoms_borrow xs ys h.1 in ((h.0, r.0), r.1)
 
-  pub both_atoms : (xs ys : List Atom) → AtomsLend lent xs → AtomsLend lent ys
-      → AtomsLend lent (xs ++ ys)
+  pub both_atoms : (xs ys : List Atom) → AtomsBorrow which xs → AtomsBorrow which ys
+      → AtomsBorrow which (xs ++ ys)
   both_atoms [] ys h k = k
   both_atoms (x ∷ xs) ys h k = (h.0, both_atoms xs ys h.1 k)
 
-  pub one_lends : (done left next more : List Atom) (i : ℕ) (a : Atom) → i < length left
+  pub one_borrows : (done left next more : List Atom) (i : ℕ) (a : Atom) → i < length left
       → a ≡ get_or left i a → next ≡ done ++ a ∷ [] → more ≡ remove left i
-      → AtomsLend lent done × AtomsLend lent left → AtomsLend lent next × AtomsLend lent more
-  one_lends done left next more i a l e n r h =
-      let s = atoms_lend (take i left) (a ∷ drop (suc i) left)
-      (subst (AtomsLend lent) (split_at left i a l e) h.1) in (
-        subst (AtomsLend lent) (sym n) (both_atoms done (a ∷ []) h.0 (s.1.0, tt)),
-        subst (AtomsLend lent) (sym r) (both_atoms (take i left) (drop (suc i) left) s.0 s.1.1),
+      → AtomsBorrow which done × AtomsBorrow which left → AtomsBorrow which next
+      × AtomsBorrow which more
+  one_borrows done left next more i a l e n r h =
+      let s = atoms_borrow (take i left) (a ∷ drop (suc i) left)
+      (subst (AtomsBorrow which) (split_at left i a l e) h.1) in (
+        subst (AtomsBorrow which) (sym n) (both_atoms done (a ∷ []) h.0 (s.1.0, tt)),
+        subst (AtomsBorrow which) (sym r) (both_atoms (take i left) (drop (suc i) left) s.0 s.1.1),
       )
 
   pub sources_with : (before own : List Column) (sources : List Source) (s : Source)
-      → SourcesLend lent before sources → RowsLend lent own s.rows.items
-      → SourcesLend lent (before ++ own) (sources ++ s ∷ [])
+      → SourcesBorrow which before sources → RowsBorrow which own s.rows.items
+      → SourcesBorrow which (before ++ own) (sources ++ s ∷ [])
   sources_with before own [] s h k = (
     own,
     [],

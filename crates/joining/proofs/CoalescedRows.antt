@@ -4,7 +4,7 @@ use Rattle.relations.specs.Spans.{Span, covers}
 use Rattle.prima_base.specs.declared.value.Val.{Val}
 use Rattle.prima_base.specs.declared.timed_row.TimedRow.{TimedRow}
 use Rattle.prima_base.specs.Timed.{rows_at}
-use Rattle.timed_choices.specs.Lending.{EachRow}
+use Rattle.timed_choices.specs.BorrowedOutputs.{EachRow}
 use Rattle.timed_choices.proofs.BorrowedLaws.{each_member, all_members}
 use Rattle.coalesce.specs.Joining.{HaveValuesOf}
 

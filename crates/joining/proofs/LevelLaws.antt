@@ -23,14 +23,14 @@ use Rattle.timed_choices.specs.Choosing.{paired, extended_where}
 use Rattle.timed_choices.specs.Fitting.{Fit}
 use Rattle.timed_choices.specs.Keeping.{meets, passing, picked, borrowed_tests, IsValidRow}
 use Rattle.timed_choices.specs.Keeping.{AllValid}
-use Rattle.timed_choices.specs.Lending.{Lent}
+use Rattle.timed_choices.specs.BorrowedOutputs.{BorrowedValues}
 use Rattle.timed_choices.proofs.HeldPairs.{held_append, held_pairs}
 use Rattle.timed_choices.proofs.JoinLaws.{held_answers, paired_valid}
 use Rattle.timed_choices.proofs.OneMore.{flat_step}
 use Rattle.joining.specs.declared.level.Level.{Level}
 use Rattle.joining.specs.declared.source.Source.{Source}
 use Rattle.joining.specs.Levels.{with_key, made_beside, made_on, made_through, IsValidLevel}
-use Rattle.joining.specs.Levels.{AreValidLevels, LevelLends, LevelsLend}
+use Rattle.joining.specs.Levels.{AreValidLevels, LevelBorrows, LevelsBorrow}
 
 -- ---- one level more
 
@@ -45,22 +45,23 @@ pub valid_more : (levels : List Level) (level : Level) → AreValidLevels levels
 valid_more [] level h k = (k, tt)
 valid_more (l ∷ levels) level h k = (h.0, valid_more levels level h.1 k)
 
-pub levels_more : (lent : Lent) (before own : List Column) (levels : List Level) (level : Level)
-    → LevelsLend lent before levels → LevelLends lent own level
-    → LevelsLend lent (before ++ own) (levels ++ level ∷ [])
-levels_more lent before own [] level h k = (
+pub levels_more : (which : BorrowedValues) (before own : List Column) (levels : List Level)
+    (level : Level)
+    → LevelsBorrow which before levels → LevelBorrows which own level
+    → LevelsBorrow which (before ++ own) (levels ++ level ∷ [])
+levels_more which before own [] level h k = (
   own,
   [],
   ap (λ (cs : List Column). cs ++ own) h ∙ sym (append-nil own),
   k,
   refl,
 )
-levels_more lent before own (l ∷ levels) level h k = (
+levels_more which before own (l ∷ levels) level h k = (
   h.0,
   h.1 ++ own,
   ap (λ (cs : List Column). cs ++ own) h.2 ∙ append_assoc h.0 h.1 own,
   h.3,
-  levels_more lent h.1 own levels level h.4 k,
+  levels_more which h.1 own levels level h.4 k,
 )
 
 -- the lists are all taken where there is no first one

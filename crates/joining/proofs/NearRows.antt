@@ -20,7 +20,7 @@ use Rattle.timed_choices.specs.Choosing.{in_period, pair, paired}
 use Rattle.relations.proofs.SetLaws.{in_map, from_map}
 use Rattle.timed_choices.specs.Keeping.{AllValid, IsValidRow}
 use Rattle.prima_base.specs.declared.value.Val.{Val}
-use Rattle.timed_choices.specs.Lending.{EachRow}
+use Rattle.timed_choices.specs.BorrowedOutputs.{EachRow}
 use Rattle.timed_choices.proofs.BorrowedLaws.{each_member, all_members}
 use Rattle.joining.specs.Grouping.{EndBy, AreInTurn, IsNear}
 

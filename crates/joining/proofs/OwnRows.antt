@@ -20,7 +20,8 @@ use Rattle.coalesce.specs.Joining.{HaveValuesOf}
 use Rattle.timed_choices.specs.Answering.{outputs, answer, answers}
 use Rattle.timed_choices.specs.Choosing.{in_period}
 use Rattle.timed_choices.specs.Keeping.{meets, meets_all, IsValidRow, AllValid}
-use Rattle.timed_choices.specs.Lending.{Lent, RowsLend, StaysBorrowed, AllStayBorrowed}
+use Rattle.timed_choices.specs.BorrowedOutputs.{BorrowedValues, RowsBorrow, StaysBorrowed}
+use Rattle.timed_choices.specs.BorrowedOutputs.{AllStayBorrowed}
 use Rattle.timed_choices.proofs.BorrowedLaws.{columns_stay}
 use Rattle.timed_choices.proofs.Groups.{shown_kept}
 use Rattle.joining.specs.InSlice.{in_slice, all_in_slice}
@@ -130,13 +131,14 @@ module _ (cs : List Column) (outs : List Tree) (c : Test) where
           ∙ sym (ap (λ (o : Option Span).
           answers cs outs c (in_period e.item o ++ all_in_slice slice es)) q)
 
--- what columns lend stays borrowed
-pub own_borrowed : (lent : Lent) (cs : List Column) (outs : List Tree) (before after : List TimedRow)
+-- what is borrowed of columns stays borrowed
+pub own_borrowed : (which : BorrowedValues) (cs : List Column) (outs : List Tree)
+    (before after : List TimedRow)
     → ((row : List Value) → length row ≡ length cs → outputs cs outs row ≡ row)
-    → HaveValuesOf before after → RowsLend lent cs before → AllStayBorrowed lent outs after
-own_borrowed lent cs outs before after own h l =
-    each_by_values (StaysBorrowed lent outs) before after h (stay before l)
+    → HaveValuesOf before after → RowsBorrow which cs before → AllStayBorrowed which outs after
+own_borrowed which cs outs before after own h l =
+    each_by_values (StaysBorrowed which outs) before after h (stay before l)
   where
-    stay : (rows : List TimedRow) → RowsLend lent cs rows → AllStayBorrowed lent outs rows
+    stay : (rows : List TimedRow) → RowsBorrow which cs rows → AllStayBorrowed which outs rows
     stay [] l = tt
-    stay (r ∷ rows) l = (columns_stay lent cs outs r.values.items own l.0, stay rows l.1)
+    stay (r ∷ rows) l = (columns_stay which cs outs r.values.items own l.0, stay rows l.1)

@@ -20,14 +20,14 @@ use Rattle.joining.specs.declared.source.Atom.{Atom}
 use Rattle.timed_choices.specs.Keeping.{meets_all, borrowed_tests, AreOwnParts}
 use Rattle.cond_expr.specs.Parts.{parts}
 use Rattle.prima_base.specs.declared.value.Val.{Val}
-use Rattle.timed_choices.specs.Lending.{EachRow, Lent, RowsLend}
+use Rattle.timed_choices.specs.BorrowedOutputs.{EachRow, BorrowedValues, RowsBorrow}
 use Rattle.timed_choices.specs.Fitting.{Fit}
 use Rattle.timed_choices.specs.Blocks.{answered, IsPruned}
 use Rattle.timed_choices.proofs.Groups.{shown_kept}
 use Rattle.timed_choices.proofs.BorrowedLaws.{each_kept}
 use Rattle.timed_choices.proofs.PrunedAtoms.{one_pruned}
-use Rattle.joining.proofs.AtomOrder.{is_block, are_blocks, apart_of, atoms_lend, both_atoms}
-use Rattle.joining.specs.Sources.{AtomsLend, block_of, blocks_of, IsNumbered, AreNumbered}
+use Rattle.joining.proofs.AtomOrder.{is_block, are_blocks, apart_of, atoms_borrow, both_atoms}
+use Rattle.joining.specs.Sources.{AtomsBorrow, block_of, blocks_of, IsNumbered, AreNumbered}
 
 -- the rows that meet some conditions
 module _ (columns : List Column) (own : List Test) (rows kept : List TimedRow)
@@ -121,11 +121,12 @@ module _ (before done more : List Atom) (a d : Atom) (made : more ≡ done ++ d 
       (subst AreNumbered (sym (append_assoc done (d ∷ []) rest))
       (all_numbered_like done rest a d e (with_rest rest h)))
 
-  pub lends_more : (lent : Lent) → (AtomsLend lent before → AtomsLend lent done)
-      → (RowsLend lent a.columns.items a.rows.items → RowsLend lent d.columns.items d.rows.items)
-      → AtomsLend lent (before ++ a ∷ []) → AtomsLend lent more
-  lends_more lent f g h = let p = atoms_lend lent before (a ∷ []) h in
-      subst (AtomsLend lent) (sym made) (both_atoms lent done (d ∷ []) (f p.0) (g p.1.0, tt))
+  pub borrows_more : (which : BorrowedValues) → (AtomsBorrow which before → AtomsBorrow which done)
+      → (RowsBorrow which a.columns.items a.rows.items
+      → RowsBorrow which d.columns.items d.rows.items)
+      → AtomsBorrow which (before ++ a ∷ []) → AtomsBorrow which more
+  borrows_more which f g h = let p = atoms_borrow which before (a ∷ []) h in
+      subst (AtomsBorrow which) (sym made) (both_atoms which done (d ∷ []) (f p.0) (g p.1.0, tt))
 
   pub same_more : (outs : List Tree) (cond : Test) (m : ℕ)
       → IsPruned (parts cond) (block_of m a) (block_of m d)

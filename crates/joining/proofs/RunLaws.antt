@@ -14,7 +14,7 @@ use Rattle.prima_base.specs.declared.timed_row.TimedRow.{TimedRow}
 use Rattle.prima_base.specs.Timed.{entry_of, entries_of}
 use Rattle.timed_choices.specs.Keeping.{AllValid, IsValidRow}
 use Rattle.prima_base.specs.declared.value.Val.{Val}
-use Rattle.timed_choices.specs.Lending.{EachRow}
+use Rattle.timed_choices.specs.BorrowedOutputs.{EachRow}
 use Rattle.timed_choices.proofs.BorrowedLaws.{each_member, all_members}
 use Rattle.joining.specs.Grouping.{rows_of_runs}
 

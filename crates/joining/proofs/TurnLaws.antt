@@ -15,7 +15,7 @@ use Rattle.prima_base.specs.Order.{row_cmp}
 use Rattle.prima_base.specs.OrderLaws.{row_exact}
 use Rattle.prima_base.specs.Timed.{entry_of, entries_of, rows_at}
 use Rattle.prima_base.specs.declared.value.Val.{Val}
-use Rattle.timed_choices.specs.Lending.{EachRow}
+use Rattle.timed_choices.specs.BorrowedOutputs.{EachRow}
 use Rattle.timed_choices.proofs.BorrowedLaws.{each_member, all_members}
 use Rattle.timed_choices.specs.Fitting.{Fit}
 

@@ -10,7 +10,7 @@ use Rattle.prima_base.specs.Timed.{entries_of}
 use Rattle.cond_expr.specs.declared.expr.Column.{Column}
 use Rattle.timed_choices.specs.Choosing.{paired}
 use Rattle.timed_choices.specs.Keeping.{picked, passing, in_group, borrowed_tests, AllValid}
-use Rattle.timed_choices.specs.Lending.{Lent, RowsLend}
+use Rattle.timed_choices.specs.BorrowedOutputs.{BorrowedValues, RowsBorrow}
 use Rattle.joining.specs.declared.level.Level.{Level}
 
 -- the rows of the level that have this key
@@ -40,12 +40,13 @@ abbrev pub AreValidLevels : List Level → Type 0
 AreValidLevels [] = ⊤
 AreValidLevels (level ∷ levels) = IsValidLevel level × AreValidLevels levels
 
--- the rows of a level lend those of its columns that are lent
-abbrev pub LevelLends : Lent → List Column → Level → Type 0
-LevelLends lent columns level = (key : List Value) → RowsLend lent columns (with_key level key)
+-- the rows of a level have these values of its columns borrowed
+abbrev pub LevelBorrows : BorrowedValues → List Column → Level → Type 0
+LevelBorrows which columns level = (key : List Value)
+    → RowsBorrow which columns (with_key level key)
 
 -- and so do those of each level, whose columns are these, one level's after the other's
-abbrev pub LevelsLend : Lent → List Column → List Level → Type 0
-LevelsLend lent columns [] = columns ≡ []
-LevelsLend lent columns (level ∷ levels) = (own : List Column) × (rest : List Column)
-    × (columns ≡ own ++ rest) × LevelLends lent own level × LevelsLend lent rest levels
+abbrev pub LevelsBorrow : BorrowedValues → List Column → List Level → Type 0
+LevelsBorrow which columns [] = columns ≡ []
+LevelsBorrow which columns (level ∷ levels) = (own : List Column) × (rest : List Column)
+    × (columns ≡ own ++ rest) × LevelBorrows which own level × LevelsBorrow which rest levels

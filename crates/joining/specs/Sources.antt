@@ -7,7 +7,7 @@ use Rattle.prima_base.specs.Columns.{Column}
 use Rattle.prima_base.specs.Timed.{entries_of, rows_at}
 use Rattle.cond_expr.specs.declared.expr.Column.{Column as AtomColumn}
 use Rattle.cond_expr.specs.AtomColumns.{columns_at}
-use Rattle.timed_choices.specs.Lending.{Lent, RowsLend}
+use Rattle.timed_choices.specs.BorrowedOutputs.{BorrowedValues, RowsBorrow}
 use Rattle.timed_choices.specs.Blocks.{Block}
 use Rattle.joining.specs.declared.source.Source.{Source}
 use Rattle.joining.specs.declared.source.Atom.{Atom}
@@ -60,13 +60,14 @@ HaveAtoms k (cs ∷ columns) [] = ⊥
 HaveAtoms k (cs ∷ columns) (a ∷ atoms) = (a.columns.items ≡ columns_at k cs)
     × HaveAtoms (k + 1) columns atoms
 
--- the rows of each atom lend the columns of the atom that are lent
-abbrev pub AtomsLend : Lent → List Atom → Type 0
-AtomsLend lent [] = ⊤
-AtomsLend lent (a ∷ atoms) = RowsLend lent a.columns.items a.rows.items × AtomsLend lent atoms
+-- the rows of each atom have these values of its columns borrowed
+abbrev pub AtomsBorrow : BorrowedValues → List Atom → Type 0
+AtomsBorrow which [] = ⊤
+AtomsBorrow which (a ∷ atoms) = RowsBorrow which a.columns.items a.rows.items
+    × AtomsBorrow which atoms
 
 -- and so do the rows of each list, whose columns are these, one list's after the other's
-abbrev pub SourcesLend : Lent → List AtomColumn → List Source → Type 0
-SourcesLend lent columns [] = columns ≡ []
-SourcesLend lent columns (s ∷ sources) = (own : List AtomColumn) × (rest : List AtomColumn)
-    × (columns ≡ own ++ rest) × RowsLend lent own s.rows.items × SourcesLend lent rest sources
+abbrev pub SourcesBorrow : BorrowedValues → List AtomColumn → List Source → Type 0
+SourcesBorrow which columns [] = columns ≡ []
+SourcesBorrow which columns (s ∷ sources) = (own : List AtomColumn) × (rest : List AtomColumn)
+    × (columns ≡ own ++ rest) × RowsBorrow which own s.rows.items × SourcesBorrow which rest sources

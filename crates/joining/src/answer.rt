@@ -8,8 +8,9 @@ ghost use Rattle.prima_base.specs.Timed.{entry_of, entries_of, rows_at};
 ghost use Rattle.cond_expr.specs.Trees.{Tree};
 ghost use Rattle.cond_expr.specs.Seen.{tree, test};
 ghost use Rattle.cond_expr.specs.Rows.{AreValid};
-ghost use Rattle.timed_choices.specs.Lending.{Lent, RowLends, RowsLend, StaysBorrowed};
-ghost use Rattle.timed_choices.specs.Lending.{AllStayBorrowed};
+ghost use Rattle.timed_choices.specs.BorrowedOutputs.{BorrowedValues, RowBorrows, RowsBorrow};
+ghost use Rattle.timed_choices.specs.BorrowedOutputs.{StaysBorrowed};
+ghost use Rattle.timed_choices.specs.BorrowedOutputs.{AllStayBorrowed};
 ghost use Rattle.timed_choices.specs.Keeping.{IsValidRow, AllValid};
 ghost use Rattle.timed_choices.specs.Answering.{outputs, answer, answers};
 
@@ -49,8 +50,8 @@ fn output_row<'a>(
     values: &[Val<'a>],
 ) -> Result<Vec<Val<'a>>, NoMemory>
     requires { AreValid values.now }
-    ensures borrowed { (lent : Lent) → RowLends lent columns.now values.now
-        → IfOk result (λ row. StaysBorrowed lent (map tree outs.now) row.items) }
+    ensures borrowed { (which : BorrowedValues) → RowBorrows which columns.now values.now
+        → IfOk result (λ row. StaysBorrowed which (map tree outs.now) row.items) }
     ensures values { IfOk result (λ row. map shown row.items
         ≡ outputs columns.now (map tree outs.now) (map shown values.now)) }
 {
@@ -71,9 +72,10 @@ pub(crate) fn put_answer<'a>(
     choice: &TimedRow<'a>,
 ) -> Result<(), NoMemory>
     requires { IsValidRow (map shown choice.now.values.items) }
-    ensures borrowed { (lent : Lent) → AllStayBorrowed lent (map tree outs.now) rows.old.items
-        → RowLends lent columns.now choice.now.values.items
-        → OnOk result (AllStayBorrowed lent (map tree outs.now) rows.new.items) }
+    ensures borrowed { (which : BorrowedValues)
+        → AllStayBorrowed which (map tree outs.now) rows.old.items
+        → RowBorrows which columns.now choice.now.values.items
+        → OnOk result (AllStayBorrowed which (map tree outs.now) rows.new.items) }
     ensures rows { OnOk result (entries_of rows.new.items ≡ entries_of rows.old.items
         ++ answer columns.now (map tree outs.now) (test cond.now) (entry_of choice.now)) }
 {
@@ -99,9 +101,10 @@ fn put_answers<'a>(
     choices: &[TimedRow<'a>],
 ) -> Result<(), NoMemory>
     requires { AllValid (entries_of choices.now) }
-    ensures borrowed { (lent : Lent) → AllStayBorrowed lent (map tree outs.now) rows.old.items
-        → RowsLend lent columns.now choices.now
-        → OnOk result (AllStayBorrowed lent (map tree outs.now) rows.new.items) }
+    ensures borrowed { (which : BorrowedValues)
+        → AllStayBorrowed which (map tree outs.now) rows.old.items
+        → RowsBorrow which columns.now choices.now
+        → OnOk result (AllStayBorrowed which (map tree outs.now) rows.new.items) }
     ensures rows { OnOk result (entries_of rows.new.items ≡ entries_of rows.old.items
         ++ answers columns.now (map tree outs.now) (test cond.now) (entries_of choices.now)) }
 {
@@ -114,8 +117,9 @@ fn put_answers<'a>(
 // Coalesces the rows, where they are as many as the limit. Answered is at how many they are
 // coalesced next.
 fn settled(rows: &mut Vec<TimedRow<'_>>, slice: Period, limit: usize) -> usize
-    ensures borrowed { (lent : Lent) → (outs : List Tree) → AllStayBorrowed lent outs rows.old.items
-        → AllStayBorrowed lent outs rows.new.items }
+    ensures borrowed { (which : BorrowedValues) → (outs : List Tree)
+        → AllStayBorrowed which outs rows.old.items
+        → AllStayBorrowed which outs rows.new.items }
     ensures same { (m : ℕ) → covers slice m ≡ true
         → rows_at rows.new.items m ≡ rows_at rows.old.items m }
     ensures inside { (m : ℕ) → rows_at rows.old.items m ≡ [] → rows_at rows.new.items m ≡ [] }
@@ -139,10 +143,10 @@ pub(crate) fn answer_made<'a>(
     answered: &mut Answered<'a>,
 ) -> Result<(), NoMemory>
     requires { AllValid (entries_of choices.now) }
-    ensures borrowed { (lent : Lent)
-        → AllStayBorrowed lent (map tree outs.now) answered.old.rows.items
-        → RowsLend lent columns.now choices.now
-        → OnOk result (AllStayBorrowed lent (map tree outs.now) answered.new.rows.items) }
+    ensures borrowed { (which : BorrowedValues)
+        → AllStayBorrowed which (map tree outs.now) answered.old.rows.items
+        → RowsBorrow which columns.now choices.now
+        → OnOk result (AllStayBorrowed which (map tree outs.now) answered.new.rows.items) }
     ensures rows { (m : ℕ) → covers slice m ≡ true
         → OnOk result (rows_at answered.new.rows.items m
         ≡ at row_cmp (entries_of answered.old.rows.items

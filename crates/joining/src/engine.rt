@@ -6,9 +6,9 @@ ghost use Rattle.prima_base.specs.Order.{row_cmp};
 ghost use Rattle.prima_base.specs.Timed.{rows_at};
 ghost use Rattle.cond_expr.specs.Seen.{tree, test};
 ghost use Rattle.plain_answers.specs.Choosing.{answers_over};
-ghost use Rattle.timed_choices.specs.Lending.{Lent, AllStayBorrowed};
+ghost use Rattle.timed_choices.specs.BorrowedOutputs.{BorrowedValues, AllStayBorrowed};
 ghost use Rattle.timed_choices.specs.Blocks.{answered};
-ghost use Rattle.joining.specs.Sources.{AtomsLend, atom_rows, blocks_of, AreNumbered};
+ghost use Rattle.joining.specs.Sources.{AtomsBorrow, atom_rows, blocks_of, AreNumbered};
 ghost use Rattle.joining.specs.Sources.{HaveAtoms};
 
 use crate::order::join_in_order;
@@ -28,8 +28,8 @@ fn answer_atoms<'a>(
     slice: Period,
 ) -> Result<Vec<TimedRow<'a>>, NoMemory>
     requires { AreNumbered atoms.items }
-    ensures borrowed { (lent : Lent) → AtomsLend lent atoms.entry.items
-        → IfOk result (λ rows. AllStayBorrowed lent (map tree outs.now) rows.items) }
+    ensures borrowed { (which : BorrowedValues) → AtomsBorrow which atoms.entry.items
+        → IfOk result (λ rows. AllStayBorrowed which (map tree outs.now) rows.items) }
     ensures inside { (m : ℕ) → covers slice m ≡ false
         → IfOk result (λ rows. rows_at rows.items m ≡ []) }
     ensures rows { (m : ℕ) → covers slice m ≡ true
@@ -60,8 +60,8 @@ pub fn answer_choices<'a>(
     slice: Period,
 ) -> Result<Vec<TimedRow<'a>>, NoMemory>
     requires { AreNumbered atoms.items }
-    ensures borrowed { (lent : Lent) → AtomsLend lent atoms.entry.items
-        → IfOk result (λ rows. AllStayBorrowed lent (map tree outs.now) rows.items) }
+    ensures borrowed { (which : BorrowedValues) → AtomsBorrow which atoms.entry.items
+        → IfOk result (λ rows. AllStayBorrowed which (map tree outs.now) rows.items) }
     ensures inside { (m : ℕ) → covers slice m ≡ false
         → IfOk result (λ rows. rows_at rows.items m ≡ []) }
     ensures numbered { (m : ℕ) → covers slice m ≡ true

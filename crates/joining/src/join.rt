@@ -10,9 +10,9 @@ ghost use Rattle.prima_base.specs.Timed.{entries_of, rows_at};
 ghost use Rattle.cond_expr.specs.Seen.{tree, test};
 ghost use Rattle.timed_choices.specs.Answering.{one_row, outputs};
 ghost use Rattle.timed_choices.specs.Keeping.{meets};
-ghost use Rattle.timed_choices.specs.Lending.{Lent, RowsLend, AllStayBorrowed};
+ghost use Rattle.timed_choices.specs.BorrowedOutputs.{BorrowedValues, RowsBorrow, AllStayBorrowed};
 ghost use Rattle.joining.specs.declared.source.Source.{Source as OneSource};
-ghost use Rattle.joining.specs.Sources.{SourcesLend, relations_of};
+ghost use Rattle.joining.specs.Sources.{SourcesBorrow, relations_of};
 
 use crate::answer::{Answered, none_yet};
 use crate::level::{answer_levels, levels_of};
@@ -25,7 +25,8 @@ use std::collections::VecDeque;
 
 // The choice of no row, over the whole slice.
 fn no_rows_yet<'a>(alloc: Global, slice: Period) -> Result<Vec<TimedRow<'a>>, NoMemory>
-    ensures borrowed { (lent : Lent) → IfOk result (λ rows. RowsLend lent [] rows.items) }
+    ensures borrowed { (which : BorrowedValues)
+        → IfOk result (λ rows. RowsBorrow which [] rows.items) }
     ensures rows { IfOk result (λ rows. entries_of rows.items ≡ record { item = []; period = slice }
         ∷ []) }
 {
@@ -49,8 +50,9 @@ pub(crate) fn join_rows<'a>(
     slice: Period,
 ) -> Result<Vec<TimedRow<'a>>, NoMemory>
     requires { sum_by (λ (s : OneSource). s.width) sources.items < 2 ^ 64 }
-    ensures borrowed { (lent : Lent) → SourcesLend lent columns.now sources.entry.items
-        → IfOk result (λ rows. AllStayBorrowed lent (map tree outs.now) rows.items) }
+    ensures borrowed { (which : BorrowedValues)
+        → SourcesBorrow which columns.now sources.entry.items
+        → IfOk result (λ rows. AllStayBorrowed which (map tree outs.now) rows.items) }
     ensures inside { (m : ℕ) → covers slice m ≡ false
         → IfOk result (λ rows. rows_at rows.items m ≡ []) }
     ensures rows { (m : ℕ) → covers slice m ≡ true → IfOk result (λ rows. rows_at rows.items m

@@ -16,11 +16,11 @@ ghost use Rattle.timed_choices.specs.Choosing.{completed};
 ghost use Rattle.timed_choices.specs.Fitting.{Fit};
 ghost use Rattle.timed_choices.specs.Keeping.{meets_all, borrowed_tests, AllValid};
 ghost use Rattle.cond_expr.specs.declared.expr.Column.{Column as OneColumn};
-ghost use Rattle.timed_choices.specs.Lending.{Lent, RowsLend, AllStayBorrowed};
+ghost use Rattle.timed_choices.specs.BorrowedOutputs.{BorrowedValues, RowsBorrow, AllStayBorrowed};
 ghost use Rattle.joining.specs.declared.source.Source.{Source as OneSource};
 ghost use Rattle.joining.specs.Levels.{made_on, made_through, IsValidLevel, AreValidLevels};
-ghost use Rattle.joining.specs.Levels.{LevelLends, LevelsLend};
-ghost use Rattle.joining.specs.Sources.{SourcesLend, held, held_of};
+ghost use Rattle.joining.specs.Levels.{LevelBorrows, LevelsBorrow};
+ghost use Rattle.joining.specs.Sources.{SourcesBorrow, held, held_of};
 
 use crate::answer::{Answered, answer_made};
 use crate::group::{Group, grouped};
@@ -52,9 +52,9 @@ fn level_of<'a, 'c>(
 ) -> Result<Level<'a, 'c>, NoMemory>
     requires { taken + source.width < 2 ^ 64 }
     ensures valid { IfOk result IsValidLevel }
-    ensures borrowed { (lent : Lent) → (own : List OneColumn)
-        → RowsLend lent own source.entry.rows.items
-        → IfOk result (λ level. LevelLends lent own level) }
+    ensures borrowed { (which : BorrowedValues) → (own : List OneColumn)
+        → RowsBorrow which own source.entry.rows.items
+        → IfOk result (λ level. LevelBorrows which own level) }
     ensures wide { (ps : List (Entry (List OneValue))) → Fit taken ps
         → IfOk result (λ level. Fit (taken + source.entry.width) (made_on columns.now level ps)) }
     ensures joined { (ps : List (Entry (List OneValue))) → Fit taken ps → (m : ℕ)
@@ -81,9 +81,9 @@ pub(crate) fn levels_of<'a, 'c>(
 ) -> Result<Vec<Level<'a, 'c>>, NoMemory>
     requires { sum_by (λ (s : OneSource). s.width) sources.items < 2 ^ 64 }
     ensures valid { IfOk result (λ levels. AreValidLevels levels.items) }
-    ensures borrowed { (lent : Lent) → (all : List OneColumn)
-        → SourcesLend lent all sources.entry.items
-        → IfOk result (λ levels. LevelsLend lent all levels.items) }
+    ensures borrowed { (which : BorrowedValues) → (all : List OneColumn)
+        → SourcesBorrow which all sources.entry.items
+        → IfOk result (λ levels. LevelsBorrow which all levels.items) }
     ensures joined { (ps : List (Entry (List OneValue))) → Fit 0 ps → (m : ℕ)
         → IfOk result (λ levels.
         filter (meets_all columns.now (borrowed_tests parts.now))
@@ -115,11 +115,12 @@ pub(crate) fn answer_levels<'a>(
 ) -> Result<(), NoMemory>
     requires choices { AllValid (entries_of choices.now) }
     requires levels { AreValidLevels levels.now }
-    ensures borrowed { (lent : Lent) → (before : List OneColumn) → (after : List OneColumn)
+    ensures borrowed { (which : BorrowedValues) → (before : List OneColumn)
+        → (after : List OneColumn)
         → columns.now ≡ before ++ after
-        → AllStayBorrowed lent (map tree outs.now) answered.old.rows.items
-        → RowsLend lent before choices.now → LevelsLend lent after levels.now
-        → OnOk result (AllStayBorrowed lent (map tree outs.now) answered.new.rows.items) }
+        → AllStayBorrowed which (map tree outs.now) answered.old.rows.items
+        → RowsBorrow which before choices.now → LevelsBorrow which after levels.now
+        → OnOk result (AllStayBorrowed which (map tree outs.now) answered.new.rows.items) }
     ensures rows { (m : ℕ) → covers slice m ≡ true
         → OnOk result (rows_at answered.new.rows.items m
         ≡ at row_cmp (entries_of answered.old.rows.items

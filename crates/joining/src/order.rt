@@ -8,11 +8,11 @@ ghost use Rattle.std.specs.List.Sorted.{IsPermutation};
 ghost use Rattle.joining.specs.declared.source.Source.{Source as OneSource};
 ghost use Rattle.relations.specs.Spans.{covers};
 ghost use Rattle.prima_base.specs.Timed.{rows_at};
-ghost use Rattle.timed_choices.specs.Lending.{Lent, RowsLend, AllStayBorrowed};
+ghost use Rattle.timed_choices.specs.BorrowedOutputs.{BorrowedValues, RowsBorrow, AllStayBorrowed};
 ghost use Rattle.cond_expr.specs.Trees.{Tree, Test};
 ghost use Rattle.cond_expr.specs.Seen.{tree, test};
 ghost use Rattle.timed_choices.specs.Blocks.{answered, rows_of};
-ghost use Rattle.joining.specs.Sources.{SourcesLend, AtomsLend, relations_of, blocks_of};
+ghost use Rattle.joining.specs.Sources.{SourcesBorrow, AtomsBorrow, relations_of, blocks_of};
 ghost use Rattle.joining.specs.Sources.{columns_of, AreNumbered};
 
 use crate::group::magnitude;
@@ -99,8 +99,8 @@ fn in_order<'a>(
     mut left: Vec<Atom<'a>>,
 ) -> Result<Vec<Atom<'a>>, NoMemory>
     requires { AreNumbered left.items }
-    ensures borrowed { (lent : Lent) → AtomsLend lent left.entry.items
-        → IfOk result (λ atoms. AtomsLend lent atoms.items) }
+    ensures borrowed { (which : BorrowedValues) → AtomsBorrow which left.entry.items
+        → IfOk result (λ atoms. AtomsBorrow which atoms.items) }
     ensures same { (outs : List Tree) → (cond : Test) → (m : ℕ)
         → IfOk result (λ atoms. answered outs cond (blocks_of m atoms.items)
         ≡ answered outs cond (blocks_of m left.entry.items)) }
@@ -128,9 +128,10 @@ fn put_apart<'a>(
     sources: &mut VecDeque<Source<'a>>,
     atom: Atom<'a>,
 ) -> Result<(), NoMemory>
-    ensures borrowed { (lent : Lent) → SourcesLend lent types.old.items sources.old.items
-        → RowsLend lent atom.entry.columns.items atom.entry.rows.items
-        → OnOk result (SourcesLend lent types.new.items sources.new.items) }
+    ensures borrowed { (which : BorrowedValues)
+        → SourcesBorrow which types.old.items sources.old.items
+        → RowsBorrow which atom.entry.columns.items atom.entry.rows.items
+        → OnOk result (SourcesBorrow which types.new.items sources.new.items) }
     ensures types { OnOk result (types.new.items ≡ types.old.items ++ atom.entry.columns.items) }
     ensures rows { (m : ℕ) → OnOk result (relations_of sources.new.items m
         ≡ relations_of sources.old.items m ++ rows_at atom.entry.rows.items m ∷ []) }
@@ -156,8 +157,8 @@ fn taken_apart<'a>(
     alloc: Global,
     atoms: Vec<Atom<'a>>,
 ) -> Result<(Vec<Column>, VecDeque<Source<'a>>), NoMemory>
-    ensures borrowed { (lent : Lent) → AtomsLend lent atoms.entry.items
-        → IfOk result (λ r. SourcesLend lent r.0.items r.1.items) }
+    ensures borrowed { (which : BorrowedValues) → AtomsBorrow which atoms.entry.items
+        → IfOk result (λ r. SourcesBorrow which r.0.items r.1.items) }
     ensures types { IfOk result (λ r. r.0.items ≡ columns_of atoms.entry.items) }
     ensures rows { (m : ℕ) → IfOk result (λ r.
         relations_of r.1.items m ≡ rows_of (blocks_of m atoms.entry.items)) }
@@ -183,8 +184,8 @@ pub(crate) fn join_in_order<'a>(
     slice: Period,
 ) -> Result<Vec<TimedRow<'a>>, NoMemory>
     requires { AreNumbered atoms.items }
-    ensures borrowed { (lent : Lent) → AtomsLend lent atoms.entry.items
-        → IfOk result (λ rows. AllStayBorrowed lent (map tree outs.now) rows.items) }
+    ensures borrowed { (which : BorrowedValues) → AtomsBorrow which atoms.entry.items
+        → IfOk result (λ rows. AllStayBorrowed which (map tree outs.now) rows.items) }
     ensures inside { (m : ℕ) → covers slice m ≡ false
         → IfOk result (λ rows. rows_at rows.items m ≡ []) }
     ensures rows { (m : ℕ) → covers slice m ≡ true

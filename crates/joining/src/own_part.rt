@@ -6,10 +6,10 @@ ghost use Rattle.prima_base.specs.declared.timed_row.TimedRow.{TimedRow as OneRo
 ghost use Rattle.prima_base.specs.Timed.{entry_of, entries_of};
 ghost use Rattle.cond_expr.specs.Trees.{Tree, Test};
 ghost use Rattle.timed_choices.specs.Keeping.{meets_all, borrowed_tests, AllValid, AreOwnParts};
-ghost use Rattle.timed_choices.specs.Lending.{Lent, RowsLend};
+ghost use Rattle.timed_choices.specs.BorrowedOutputs.{BorrowedValues, RowsBorrow};
 ghost use Rattle.cond_expr.specs.Parts.{parts as parts_of};
 ghost use Rattle.timed_choices.specs.Blocks.{answered, IsPruned};
-ghost use Rattle.joining.specs.Sources.{AtomsLend, block_of, blocks_of, AreNumbered};
+ghost use Rattle.joining.specs.Sources.{AtomsBorrow, block_of, blocks_of, AreNumbered};
 
 use crate::place::is_settled;
 use crate::source::Atom;
@@ -64,9 +64,9 @@ pub(crate) fn passing<'a>(
 
 // The atom with those of its rows that meet the parts that speak of it alone.
 fn pruned<'a>(alloc: Global, parts: &[&Cond], atom: Atom<'a>) -> Result<Atom<'a>, NoMemory>
-    ensures borrowed { (lent : Lent)
-        → RowsLend lent atom.entry.columns.items atom.entry.rows.items
-        → IfOk result (λ a. RowsLend lent a.columns.items a.rows.items) }
+    ensures borrowed { (which : BorrowedValues)
+        → RowsBorrow which atom.entry.columns.items atom.entry.rows.items
+        → IfOk result (λ a. RowsBorrow which a.columns.items a.rows.items) }
     ensures pruned { (m : ℕ) → IfOk result (λ a.
         IsPruned (borrowed_tests parts.now) (block_of m atom.entry) (block_of m a)) }
 {
@@ -95,8 +95,8 @@ pub(crate) fn pruned_atoms<'a>(
 ) -> Result<Vec<Atom<'a>>, NoMemory>
     requires { AreNumbered atoms.items }
     ensures numbered { IfOk result (λ r. AreNumbered r.items) }
-    ensures borrowed { (lent : Lent) → AtomsLend lent atoms.entry.items
-        → IfOk result (λ r. AtomsLend lent r.items) }
+    ensures borrowed { (which : BorrowedValues) → AtomsBorrow which atoms.entry.items
+        → IfOk result (λ r. AtomsBorrow which r.items) }
     ensures same { (outs : List Tree) → (cond : Test) → borrowed_tests parts.now ≡ parts_of cond
         → (m : ℕ) → IfOk result (λ r. answered outs cond (blocks_of m r.items)
         ≡ answered outs cond (blocks_of m atoms.entry.items)) }

@@ -19,7 +19,8 @@ ghost use Rattle.timed_choices.specs.Answering.{outputs, answers};
 ghost use Rattle.timed_choices.specs.Blocks.{answered};
 ghost use Rattle.timed_choices.specs.Fitting.{Fit};
 ghost use Rattle.timed_choices.specs.Keeping.{value_at, meets, IsValidRow, AllValid};
-ghost use Rattle.timed_choices.specs.Lending.{Lent, RowLends, RowsLend, AllStayBorrowed};
+ghost use Rattle.timed_choices.specs.BorrowedOutputs.{BorrowedValues, RowBorrows, RowsBorrow};
+ghost use Rattle.timed_choices.specs.BorrowedOutputs.{AllStayBorrowed};
 ghost use Rattle.joining.specs.InSlice.{in_slice, all_in_slice};
 ghost use Rattle.joining.specs.Sources.{block_of};
 
@@ -70,9 +71,10 @@ fn put_in_slice<'a>(
     row: TimedRow<'a>,
 ) -> Result<(), NoMemory>
     requires { IsValidRow (map shown row.values.items) }
-    ensures borrowed { (lent : Lent) → AllStayBorrowed lent (map tree outs.now) rows.old.items
-        → RowLends lent columns.now row.entry.values.items
-        → OnOk result (AllStayBorrowed lent (map tree outs.now) rows.new.items) }
+    ensures borrowed { (which : BorrowedValues)
+        → AllStayBorrowed which (map tree outs.now) rows.old.items
+        → RowBorrows which columns.now row.entry.values.items
+        → OnOk result (AllStayBorrowed which (map tree outs.now) rows.new.items) }
     ensures rows { OnOk result (entries_of rows.new.items ≡ entries_of rows.old.items
         ++ answers columns.now (map tree outs.now) (test cond.now)
         (in_slice slice (entry_of row.entry))) }
@@ -95,8 +97,8 @@ fn made_rows<'a>(
     rows: Vec<TimedRow<'a>>,
 ) -> Result<Vec<TimedRow<'a>>, NoMemory>
     requires { AllValid (entries_of rows.items) }
-    ensures borrowed { (lent : Lent) → RowsLend lent columns.now rows.entry.items
-        → IfOk result (λ v. AllStayBorrowed lent (map tree outs.now) v.items) }
+    ensures borrowed { (which : BorrowedValues) → RowsBorrow which columns.now rows.entry.items
+        → IfOk result (λ v. AllStayBorrowed which (map tree outs.now) v.items) }
     ensures rows { IfOk result (λ v. entries_of v.items
         ≡ answers columns.now (map tree outs.now) (test cond.now)
         (all_in_slice slice (entries_of rows.entry.items))) }
@@ -149,8 +151,8 @@ fn answered_rows<'a>(
     rows: Vec<TimedRow<'a>>,
 ) -> Result<Vec<TimedRow<'a>>, NoMemory>
     requires { Fit (length columns.now) (entries_of rows.items) }
-    ensures borrowed { (lent : Lent) → RowsLend lent columns.now rows.entry.items
-        → IfOk result (λ v. AllStayBorrowed lent (map tree outs.now) v.items) }
+    ensures borrowed { (which : BorrowedValues) → RowsBorrow which columns.now rows.entry.items
+        → IfOk result (λ v. AllStayBorrowed which (map tree outs.now) v.items) }
     ensures rows { IfOk result (λ v. entries_of v.items
         ≡ answers columns.now (map tree outs.now) (test cond.now)
         (all_in_slice slice (entries_of rows.entry.items))) }
@@ -171,9 +173,9 @@ pub(crate) fn answer_atom<'a>(
     atom: Atom<'a>,
     slice: Period,
 ) -> Result<Vec<TimedRow<'a>>, NoMemory>
-    ensures borrowed { (lent : Lent)
-        → RowsLend lent atom.entry.columns.items atom.entry.rows.items
-        → IfOk result (λ rows. AllStayBorrowed lent (map tree outs.now) rows.items) }
+    ensures borrowed { (which : BorrowedValues)
+        → RowsBorrow which atom.entry.columns.items atom.entry.rows.items
+        → IfOk result (λ rows. AllStayBorrowed which (map tree outs.now) rows.items) }
     ensures inside { (m : ℕ) → covers slice m ≡ false
         → IfOk result (λ rows. rows_at rows.items m ≡ []) }
     ensures rows { (m : ℕ) → covers slice m ≡ true

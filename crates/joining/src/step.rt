@@ -9,7 +9,7 @@ ghost use Rattle.prima_base.specs.Timed.{entry_of, entries_of};
 ghost use Rattle.cond_expr.specs.Rows.{AreValid};
 ghost use Rattle.cond_expr.specs.Seen.{test};
 ghost use Rattle.cond_expr.specs.declared.expr.Column.{Column as OneColumn};
-ghost use Rattle.timed_choices.specs.Lending.{Lent, RowLends, RowsLend};
+ghost use Rattle.timed_choices.specs.BorrowedOutputs.{BorrowedValues, RowBorrows, RowsBorrow};
 ghost use Rattle.timed_choices.specs.Choosing.{paired};
 ghost use Rattle.joining.specs.Grouping.{rows_of_runs};
 ghost use Rattle.timed_choices.specs.Keeping.{picked, meets, meets_all, passing, in_group};
@@ -101,10 +101,11 @@ fn put_pair<'a>(
 ) -> Result<(), NoMemory>
     requires choice { IsValidRow (map shown choice.now.values.items) }
     requires row { IsValidRow (map shown row.now.values.items) }
-    ensures borrowed { (lent : Lent) → (before : List OneColumn) → (own : List OneColumn)
-        → RowsLend lent (before ++ own) into.old.items
-        → RowLends lent before choice.now.values.items → RowLends lent own row.now.values.items
-        → OnOk result (RowsLend lent (before ++ own) into.new.items) }
+    ensures borrowed { (which : BorrowedValues) → (before : List OneColumn) → (own : List OneColumn)
+        → RowsBorrow which (before ++ own) into.old.items
+        → RowBorrows which before choice.now.values.items
+        → RowBorrows which own row.now.values.items
+        → OnOk result (RowsBorrow which (before ++ own) into.new.items) }
     ensures rows { OnOk result (entries_of into.new.items ≡ entries_of into.old.items
         ++ paired (passing columns.now (borrowed_tests tests.now)) (entry_of choice.now)
         (entry_of row.now)) }
@@ -131,10 +132,10 @@ fn put_group<'a>(
 ) -> Result<(), NoMemory>
     requires choice { IsValidRow (map shown choice.now.values.items) }
     requires rows { AllValid (entries_of rows.now) }
-    ensures borrowed { (lent : Lent) → (before : List OneColumn) → (own : List OneColumn)
-        → RowsLend lent (before ++ own) into.old.items
-        → RowLends lent before choice.now.values.items → RowsLend lent own rows.now
-        → OnOk result (RowsLend lent (before ++ own) into.new.items) }
+    ensures borrowed { (which : BorrowedValues) → (before : List OneColumn) → (own : List OneColumn)
+        → RowsBorrow which (before ++ own) into.old.items
+        → RowBorrows which before choice.now.values.items → RowsBorrow which own rows.now
+        → OnOk result (RowsBorrow which (before ++ own) into.new.items) }
     ensures rows { OnOk result (entries_of into.new.items ≡ entries_of into.old.items
         ++ flat_map (paired (passing columns.now (borrowed_tests tests.now)) (entry_of choice.now))
         (entries_of rows.now)) }
@@ -157,10 +158,11 @@ fn put_runs<'a>(
 ) -> Result<(), NoMemory>
     requires choice { IsValidRow (map shown choice.now.values.items) }
     requires rows { AllValid (entries_of (rows_of_runs runs.now)) }
-    ensures borrowed { (lent : Lent) → (before : List OneColumn) → (own : List OneColumn)
-        → RowsLend lent (before ++ own) into.old.items
-        → RowLends lent before choice.now.values.items → RowsLend lent own (rows_of_runs runs.now)
-        → OnOk result (RowsLend lent (before ++ own) into.new.items) }
+    ensures borrowed { (which : BorrowedValues) → (before : List OneColumn) → (own : List OneColumn)
+        → RowsBorrow which (before ++ own) into.old.items
+        → RowBorrows which before choice.now.values.items
+        → RowsBorrow which own (rows_of_runs runs.now)
+        → OnOk result (RowsBorrow which (before ++ own) into.new.items) }
     ensures rows { OnOk result (entries_of into.new.items ≡ entries_of into.old.items
         ++ flat_map (paired (passing columns.now (borrowed_tests tests.now)) (entry_of choice.now))
         (entries_of (rows_of_runs runs.now))) }
@@ -185,12 +187,13 @@ pub(crate) fn put_choice<'a>(
     requires choice { IsValidRow (map shown choice.now.values.items) }
     requires rows { (key : List OneValue) → AllValid
         (entries_of (in_group (tree.get row_cmp groups.now key))) }
-    ensures borrowed { (lent : Lent) → (before : List OneColumn) → (own_columns : List OneColumn)
-        → RowsLend lent (before ++ own_columns) into.old.items
-        → RowLends lent before choice.now.values.items
+    ensures borrowed { (which : BorrowedValues) → (before : List OneColumn)
+        → (own_columns : List OneColumn)
+        → RowsBorrow which (before ++ own_columns) into.old.items
+        → RowBorrows which before choice.now.values.items
         → ((key : List OneValue)
-        → RowsLend lent own_columns (in_group (tree.get row_cmp groups.now key)))
-        → OnOk result (RowsLend lent (before ++ own_columns) into.new.items) }
+        → RowsBorrow which own_columns (in_group (tree.get row_cmp groups.now key)))
+        → OnOk result (RowsBorrow which (before ++ own_columns) into.new.items) }
     ensures rows { OnOk result (entries_of into.new.items ≡ entries_of into.old.items
         ++ flat_map (paired (passing columns.now (borrowed_tests tests.now)) (entry_of choice.now))
         (entries_of (in_group (tree.get row_cmp groups.now

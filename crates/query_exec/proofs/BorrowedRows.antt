@@ -24,11 +24,12 @@ use Rattle.prima_base.specs.declared.value.ColType.{ColType}
 use Rattle.smo_types.specs.Commands.{PlainVersion}
 use Rattle.smo_meaning.specs.OneRow.{Row, Relation}
 use Rattle.smo_meaning.specs.Past.{Past, no_tables, tables_from, tables_of}
-use Rattle.timed_choices.specs.Lending.{EachRow, Lent, all_lent, RowLends, RowsLend, is_plain}
-use Rattle.timed_choices.specs.Lending.{StaysBorrowed, AllStayBorrowed}
+use Rattle.timed_choices.specs.BorrowedOutputs.{EachRow, BorrowedValues, all_values, RowBorrows}
+use Rattle.timed_choices.specs.BorrowedOutputs.{RowsBorrow, is_plain}
+use Rattle.timed_choices.specs.BorrowedOutputs.{StaysBorrowed, AllStayBorrowed}
 use Rattle.timed_choices.proofs.BorrowedLaws.{each_both, each_member, all_members}
 use Rattle.joining.specs.declared.source.Atom.{Atom}
-use Rattle.joining.specs.Sources.{AtomsLend}
+use Rattle.joining.specs.Sources.{AtomsBorrow}
 use Rattle.version_ways.specs.Migration.{migrated}
 use Rattle.version_groups.specs.Groups.{Kept, versions_in}
 use Rattle.plain_answers.specs.Branches.{Item, PlainBranch, branch_answers}
@@ -47,7 +48,8 @@ use Rattle.query_types.specs.Branches.{branch_of, branches_of}
 use Rattle.query_types.specs.declared.branch.Branch.{Branch}
 use Rattle.query_exec.specs.declared.part_piece.PartPieces.{PartPieces}
 use Rattle.query_exec.specs.declared.route.Route.{Route}
-use Rattle.query_exec.specs.Borrowed.{Lents, SparesRow, Spares, AllSpare, IsAnswered, IsBorrowedBy}
+use Rattle.query_exec.specs.Borrowed.{BorrowedByBranch, SparesRow, Spares, AllSpare, IsAnswered}
+use Rattle.query_exec.specs.Borrowed.{IsBorrowedBy}
 use Rattle.query_exec.specs.Borrowed.{ArePlainIn, IsPlainIn, AllPlainIn}
 use Rattle.query_exec.specs.Planned.{ArePlanned, own_pieces, planned_pieces}
 use Rattle.query_exec.specs.Questions.{own_read}
@@ -61,17 +63,18 @@ use Rattle.query_exec.proofs.PlanLaws.{none_lost}
 
 -- ---- rows of a piece
 
-plain_lends : (lent : Lent) (columns : List AtomColumn) (outs : List Tree) (values : List Val)
-    → ArePlainIn lent columns outs (map shown values) → StaysBorrowed all_lent outs values
-    → RowLends lent columns values
-plain_lends lent [] [] [] p s = tt
-plain_lends lent [] [] (v ∷ values) p s = absurd s
-plain_lends lent [] (t ∷ outs) values p s = absurd p
-plain_lends lent (c ∷ columns) [] values p s = absurd p
-plain_lends lent (c ∷ columns) (t ∷ outs) [] p s = absurd s
-plain_lends lent (c ∷ columns) (t ∷ outs) (v ∷ values) p s = (
+plain_borrows : (which : BorrowedValues) (columns : List AtomColumn) (outs : List Tree)
+    (values : List Val)
+    → ArePlainIn which columns outs (map shown values) → StaysBorrowed all_values outs values
+    → RowBorrows which columns values
+plain_borrows which [] [] [] p s = tt
+plain_borrows which [] [] (v ∷ values) p s = absurd s
+plain_borrows which [] (t ∷ outs) values p s = absurd p
+plain_borrows which (c ∷ columns) [] values p s = absurd p
+plain_borrows which (c ∷ columns) (t ∷ outs) [] p s = absurd s
+plain_borrows which (c ∷ columns) (t ∷ outs) (v ∷ values) p s = (
   λ so. s.0 (p.0 so),
-  plain_lends lent columns outs values p.1 s.1,
+  plain_borrows which columns outs values p.1 s.1,
 )
 
 -- rows that are a relation at each moment of a period, and nothing at any other: each shows, at its
@@ -103,18 +106,20 @@ module _ (relation : ℕ → Relation) (period : Span) (rows : List TimedRow)
       step false e = absurd (subst (λ (r : Relation). In (map shown row.values.items) r)
           (outside row.period.start e) here)
 
-  -- where in each row of it each output whose column is lent is a plain column, the rows lend these
+  -- where in each row of it each output whose value is to be borrowed is a plain column, the rows
+  -- borrow these
   -- columns
-  pub piece_lends : (lent : Lent) (columns : List AtomColumn) (outs : List Tree)
+  pub piece_borrows : (which : BorrowedValues) (columns : List AtomColumn) (outs : List Tree)
       → ((row : TimedRow) → In row rows → row.period.start < row.period.end)
       → ((m : ℕ) → covers period m ≡ true → (row : Row) → In row (relation m)
-      → ArePlainIn lent columns outs row)
-      → AllStayBorrowed all_lent outs rows → RowsLend lent columns rows
-  piece_lends lent columns outs some plain l = all_members (RowLends lent columns) rows (λ row i.
+      → ArePlainIn which columns outs row)
+      → AllStayBorrowed all_values outs rows → RowsBorrow which columns rows
+  piece_borrows which columns outs some plain l =
+      all_members (RowBorrows which columns) rows (λ row i.
       let h = row_holds row i (some row i) in
-      plain_lends lent columns outs row.values.items
+      plain_borrows which columns outs row.values.items
       (plain h.0 h.1 (map shown row.values.items) h.2)
-      (each_member (StaysBorrowed all_lent outs) rows row i l))
+      (each_member (StaysBorrowed all_values outs) rows row i l))
 
 pub each_joined : (so : List Val → Type 0) (old news new : List TimedRow) → new ≡ old ++ news
     → EachRow so old → EachRow so news → EachRow so new
@@ -125,12 +130,13 @@ each_joined so old news new e l k = subst (EachRow so) (sym e) (each_both so old
 -- what is said of each piece that is not dead is said of each that is planned
 pub plan_plain : (kept : Kept) (versions : List PlainVersion) (book : Book) (q : ℕ)
     (table : List ℕ) (r : Read) (branch atom : ℕ) (parts : List Part) (plan : List PartPieces)
-    (lent : Lent) (columns : List AtomColumn) → ArePlanned book versions q table r parts plan
+    (which : BorrowedValues) (columns : List AtomColumn)
+    → ArePlanned book versions q table r parts plan
     → ((e : PlainExplained) → IsAlive versions (table_pieces book versions q table r branch atom
-    parts) e → IsPlainIn kept lent columns e)
+    parts) e → IsPlainIn kept which columns e)
     → (x : PartPieces) → In x plan
-    → AllPlainIn kept x.part.1 x.part.0 lent columns (pieces_of x.pieces.items)
-plan_plain kept versions book q table r branch atom parts plan lent columns planned h x m = λ p k.
+    → AllPlainIn kept x.part.1 x.part.0 which columns (pieces_of x.pieces.items)
+plan_plain kept versions book q table r branch atom parts plan which columns planned h x m = λ p k.
     h (explained_in branch atom x.part p)
     (in_alive versions (table_pieces book versions q table r branch atom parts)
     (planned_pieces branch atom plan) (explained_in branch atom x.part p)
@@ -141,18 +147,19 @@ plan_plain kept versions book q table r branch atom parts plan lent columns plan
 -- ---- outputs and columns of one name
 
 -- outputs with the names of columns, in their order
-plain_by_names : (lent : Lent) (place : ℕ) (columns : List Column) (outs : List (List ℕ × Tree))
-    (row : Row) → out_names outs ≡ names_of columns → SparesRow lent place outs row
-    → ArePlainIn lent (columns_at place columns) (out_trees outs) row
-plain_by_names lent place [] [] row e s = tt
-plain_by_names lent place [] (o ∷ outs) row e s = absurd (cc)
-plain_by_names lent place (c ∷ columns) [] row e s = absurd (cc)
-plain_by_names lent place (c ∷ columns) (o ∷ outs) [] e s = tt
-plain_by_names lent place (c ∷ columns) (o ∷ outs) (x ∷ row) e s =
+plain_by_names : (which : BorrowedValues) (place : ℕ) (columns : List Column)
+    (outs : List (List ℕ × Tree))
+    (row : Row) → out_names outs ≡ names_of columns → SparesRow which place outs row
+    → ArePlainIn which (columns_at place columns) (out_trees outs) row
+plain_by_names which place [] [] row e s = tt
+plain_by_names which place [] (o ∷ outs) row e s = absurd (cc)
+plain_by_names which place (c ∷ columns) [] row e s = absurd (cc)
+plain_by_names which place (c ∷ columns) (o ∷ outs) [] e s = tt
+plain_by_names which place (c ∷ columns) (o ∷ outs) (x ∷ row) e s =
     let first : o.0 ≡ c.0 = cc in
     let more : out_names outs ≡ names_of columns = cc in (
-      subst (λ (n : List ℕ). lent (AtAtom place) n x ≡ true → is_plain o.1 ≡ true) first s.0,
-      plain_by_names lent place columns outs row more s.1,
+      subst (λ (n : List ℕ). which (AtAtom place) n x ≡ true → is_plain o.1 ≡ true) first s.0,
+      plain_by_names which place columns outs row more s.1,
     )
 
 -- ---- the names of a piece's outputs
@@ -183,28 +190,28 @@ module _ (versions : List PlainVersion) (book : Book) (valid : IsValidBook book)
       ∙ names_typed after (map own_column r.names)
       ∙ own_names r.names
 
-  -- so what is lent of a piece that computes nothing of it is plain in each of its rows
+  -- so what is to be borrowed of a piece that computes nothing of it is plain in each of its rows
   pub item_plain : (kept : Kept) (columns : List Column) → names_of columns ≡ r.names
-      → (branch place : ℕ) (lents : Lents) (e : PlainExplained) → IsAlive versions
+      → (branch place : ℕ) (by_branch : BorrowedByBranch) (e : PlainExplained) → IsAlive versions
       (table_pieces book versions route.asked table r branch (place + 1) route.parts.items) e
-      → Spares kept lents e → IsPlainIn kept (lents branch) (columns_at place columns) e
-  item_plain kept columns named_so branch place lents e alive spares m inside row i =
+      → Spares kept by_branch e → IsPlainIn kept (by_branch branch) (columns_at place columns) e
+  item_plain kept columns named_so branch place by_branch e alive spares m inside row i =
       let part = from_flat_map (part_pieces book versions route.asked table r branch (place + 1)) e
       route.parts.items alive.among in
       let made = from_map (explained_in branch (place + 1) part.0) e
       (unfolded_to book versions part.0.1 route.asked (first_piece table r ∷ [])) part.2 in
-      plain_by_names (lents branch) place columns e.piece.outs row
+      plain_by_names (by_branch branch) place columns e.piece.outs row
       (subst (λ (x : PlainExplained). out_names x.piece.outs ≡ names_of columns) made.2
       (piece_names part.0 part.1 made.0 made.1 ∙ sym named_so))
-      (subst (λ (b : ℕ). SparesRow (lents b) place e.piece.outs row)
+      (subst (λ (b : ℕ). SparesRow (by_branch b) place e.piece.outs row)
       (ap (λ (x : PlainExplained). x.branch) (sym made.2))
       (spares place (ap (λ (x : PlainExplained). x.atom) (sym made.2)) m inside row i))
 
 -- ---- pieces of two lists
 
-module _ (kept : Kept) (lents : Lents) where
-  pub spare_both : (xs ys : List PlainExplained) → AllSpare kept lents (xs ++ ys)
-      → AllSpare kept lents xs × AllSpare kept lents ys
+module _ (kept : Kept) (by_branch : BorrowedByBranch) where
+  pub spare_both : (xs ys : List PlainExplained) → AllSpare kept by_branch (xs ++ ys)
+      → AllSpare kept by_branch xs × AllSpare kept by_branch ys
   spare_both xs ys h = (
     λ e a. h e (record { among = in_left e xs ys a.among; alive = a.alive }),
     λ e a. h e (record { among = in_right e xs ys a.among; alive = a.alive }),
@@ -214,45 +221,54 @@ module _ (kept : Kept) (lents : Lents) where
     -- of the items that are left, those of the next and of those after it
     pub next_item : (references : List ColRef) (cond : Test) (branch : ℕ) (from : List Item) (i : ℕ)
         (x : Item) → i < length from → x ≡ get_or from i x
-        → AllSpare kept lents (items_pieces book (versions_in kept) q parts references cond branch i
+        → AllSpare kept by_branch (items_pieces book (versions_in kept) q parts references cond
+        branch i
         (drop i from))
-        → AllSpare kept lents (table_pieces book (versions_in kept) q x.0 (own_read i references cond)
-        branch (i + 1) parts) × AllSpare kept lents (items_pieces book (versions_in kept) q parts references cond branch (i + 1) (drop (i + 1) from))
+        → AllSpare kept by_branch (table_pieces book (versions_in kept) q x.0
+        (own_read i references cond)
+        branch (i + 1) parts) × AllSpare kept by_branch
+        (items_pieces book (versions_in kept) q parts references cond branch (i + 1)
+        (drop (i + 1) from))
     next_item references cond branch from i x below is h =
-        spare_both (table_pieces book (versions_in kept) q x.0 (own_read i references cond) branch (i + 1)
+        spare_both (table_pieces book (versions_in kept) q x.0 (own_read i references cond) branch
+        (i + 1)
         parts) (items_pieces book (versions_in kept) q parts references cond branch (i + 1)
         (drop (i + 1) from))
-        (subst (λ (xs : List Item). AllSpare kept lents (items_pieces book (versions_in kept) q parts references cond branch i xs))
+        (subst (λ (xs : List Item). AllSpare kept by_branch
+        (items_pieces book (versions_in kept) q parts references cond branch i xs))
         (left_is from i x below is) h)
 
     pub next_branch : (branches : List Branch) (i : ℕ) (b : Branch) → i < length branches
         → b ≡ get_or branches i b → (number : ℕ)
-        → AllSpare kept lents (branches_pieces book (versions_in kept) q parts (number + i)
+        → AllSpare kept by_branch (branches_pieces book (versions_in kept) q parts (number + i)
         (branches_of (drop i branches)))
-        → AllSpare kept lents (branch_pieces book (versions_in kept) q parts (number + i)
-        (branch_of b)) × AllSpare kept lents (branches_pieces book (versions_in kept) q parts (number + (i + 1))
+        → AllSpare kept by_branch (branch_pieces book (versions_in kept) q parts (number + i)
+        (branch_of b)) × AllSpare kept by_branch
+        (branches_pieces book (versions_in kept) q parts (number + (i + 1))
         (branches_of (drop (i + 1) branches)))
     next_branch branches i b below is number h =
         let e : (number + i) + 1 ≡ number + (i + 1) = omega arith in
-        subst (λ (n : ℕ). AllSpare kept lents (branch_pieces book (versions_in kept) q parts (number + i) (branch_of b))
-        × AllSpare kept lents (branches_pieces book (versions_in kept) q parts n
+        subst (λ (n : ℕ). AllSpare kept by_branch
+        (branch_pieces book (versions_in kept) q parts (number + i) (branch_of b))
+        × AllSpare kept by_branch (branches_pieces book (versions_in kept) q parts n
         (branches_of (drop (i + 1) branches)))) e
         (spare_both (branch_pieces book (versions_in kept) q parts (number + i) (branch_of b))
         (branches_pieces book (versions_in kept) q parts ((number + i) + 1)
         (branches_of (drop (i + 1) branches)))
-        (subst (λ (es : List PlainExplained). AllSpare kept lents es)
+        (subst (λ (es : List PlainExplained). AllSpare kept by_branch es)
         (branches_left branches i b below is book (versions_in kept) q parts (number + i)) h))
 
 -- ---- atoms
 
-with_atom : (lent : Lent) (atoms : List Atom) (a : Atom) → AtomsLend lent atoms
-    → RowsLend lent a.columns.items a.rows.items → AtomsLend lent (atoms ++ a ∷ [])
-with_atom lent [] a l k = (k, tt)
-with_atom lent (x ∷ atoms) a l k = (l.0, with_atom lent atoms a l.1 k)
+with_atom : (which : BorrowedValues) (atoms : List Atom) (a : Atom) → AtomsBorrow which atoms
+    → RowsBorrow which a.columns.items a.rows.items → AtomsBorrow which (atoms ++ a ∷ [])
+with_atom which [] a l k = (k, tt)
+with_atom which (x ∷ atoms) a l k = (l.0, with_atom which atoms a l.1 k)
 
-pub atom_more : (lent : Lent) (atoms new : List Atom) (a : Atom) → new ≡ atoms ++ a ∷ []
-    → AtomsLend lent atoms → RowsLend lent a.columns.items a.rows.items → AtomsLend lent new
-atom_more lent atoms new a e l k = subst (AtomsLend lent) (sym e) (with_atom lent atoms a l k)
+pub atom_more : (which : BorrowedValues) (atoms new : List Atom) (a : Atom) → new ≡ atoms ++ a ∷ []
+    → AtomsBorrow which atoms → RowsBorrow which a.columns.items a.rows.items
+    → AtomsBorrow which new
+atom_more which atoms new a e l k = subst (AtomsBorrow which) (sym e) (with_atom which atoms a l k)
 
 -- ---- branches
 
@@ -274,36 +290,36 @@ row_answered past version slice b rows inside outside row i some =
           (branch_answers (tables_of past version) (migrated past h.0 version) b) h.2,
     )
 
-module _ (answers : PlainBranch → Row → Type 0) (lents : Lents) where
+module _ (answers : PlainBranch → Row → Type 0) (by_branch : BorrowedByBranch) where
   -- values of one of the branches are so of all of them
   among_branches : (number : ℕ) (branches : List Branch) (i : ℕ) (b : Branch)
       → i < length branches → b ≡ get_or branches i b → (values : List Val)
       → answers (branch_of b) (map shown values)
-      → StaysBorrowed (lents (number + i)) (branch_of b).outs values
-      → IsBorrowedBy answers lents number (branches_of branches) values
+      → StaysBorrowed (by_branch (number + i)) (branch_of b).outs values
+      → IsBorrowedBy answers by_branch number (branches_of branches) values
   among_branches number [] i b below is values a s = absurd (omega arith)
   among_branches number (x ∷ branches) zero b below is values a s =
       let e : number + 0 ≡ number = omega arith in
       inl (
         subst (λ (y : Branch). answers (branch_of y) (map shown values)) is a,
-        subst (λ (n : ℕ). StaysBorrowed (lents n) (branch_of x).outs values) e
-            (subst (λ (y : Branch). StaysBorrowed (lents (number + 0)) (branch_of y).outs
+        subst (λ (n : ℕ). StaysBorrowed (by_branch n) (branch_of x).outs values) e
+            (subst (λ (y : Branch). StaysBorrowed (by_branch (number + 0)) (branch_of y).outs
             values) is s),
       )
   among_branches number (x ∷ branches) (suc i) b below is values a s =
       let e : number + suc i ≡ (number + 1) + i = omega arith in
       inr (among_branches (number + 1) branches i b (omega arith) is values a
-      (subst (λ (n : ℕ). StaysBorrowed (lents n) (branch_of b).outs values) e s))
+      (subst (λ (n : ℕ). StaysBorrowed (by_branch n) (branch_of b).outs values) e s))
 
   pub branch_more : (number : ℕ) (branches : List Branch) (i : ℕ) (b : Branch)
       → i < length branches → b ≡ get_or branches i b → (old news new : List TimedRow)
       → new ≡ old ++ news
-      → EachRow (IsBorrowedBy answers lents number (branches_of branches)) old
+      → EachRow (IsBorrowedBy answers by_branch number (branches_of branches)) old
       → ((row : TimedRow) → In row news → answers (branch_of b) (map shown row.values.items))
-      → AllStayBorrowed (lents (number + i)) (branch_of b).outs news
-      → EachRow (IsBorrowedBy answers lents number (branches_of branches)) new
+      → AllStayBorrowed (by_branch (number + i)) (branch_of b).outs news
+      → EachRow (IsBorrowedBy answers by_branch number (branches_of branches)) new
   branch_more number branches i b below is old news new e l a s =
-      each_joined (IsBorrowedBy answers lents number (branches_of branches)) old news new e l
-      (all_members (IsBorrowedBy answers lents number (branches_of branches)) news
+      each_joined (IsBorrowedBy answers by_branch number (branches_of branches)) old news new e l
+      (all_members (IsBorrowedBy answers by_branch number (branches_of branches)) news
       (λ row m. among_branches number branches i b below is row.values.items (a row m)
-      (each_member (StaysBorrowed (lents (number + i)) (branch_of b).outs) news row m s)))
+      (each_member (StaysBorrowed (by_branch (number + i)) (branch_of b).outs) news row m s)))

@@ -17,7 +17,7 @@ use Rattle.smo_meaning.specs.OneRow.{Row, Relation}
 use Rattle.smo_meaning.specs.Past.{Past, tables_of, database_at}
 use Rattle.cond_expr.specs.declared.expr.ColRef.{ColRef}
 use Rattle.cond_expr.specs.declared.expr.Column.{Column as AtomColumn}
-use Rattle.timed_choices.specs.Lending.{Lent}
+use Rattle.timed_choices.specs.BorrowedOutputs.{BorrowedValues}
 use Rattle.history_store.specs.Store.{Store}
 use Rattle.version_groups.specs.Groups.{Kept, versions_in, table_in}
 use Rattle.version_groups.specs.NewestTables.{rows_stored}
@@ -251,11 +251,11 @@ module _ (kept : Kept) (first : PartPieces) (more : List PartPieces) (period : S
       }
 
   -- what is plain in the rows of each of its parts is so in those of the run
-  pub run_plain : (lent : Lent) (columns : List AtomColumn)
+  pub run_plain : (which : BorrowedValues) (columns : List AtomColumn)
       → ((x : PartPieces) → In x (first ∷ more)
-      → AllPlainIn kept x.part.1 x.part.0 lent columns (pieces_of x.pieces.items))
-      → AllPlainIn kept first.part.1 period lent columns (pieces_of first.pieces.items)
-  run_plain lent columns h p i m c row j =
+      → AllPlainIn kept x.part.1 x.part.0 which columns (pieces_of x.pieces.items))
+      → AllPlainIn kept first.part.1 period which columns (pieces_of first.pieces.items)
+  run_plain which columns h p i m c row j =
       let s = run.within m c in
       let x = from_map (λ (y : PartPieces). y.part.0) s.0 (first ∷ more) s.1 in
       let g = goes x.0 x.1 in

@@ -20,9 +20,9 @@ ghost use Rattle.query_exec.specs.Routes.{IsRoute};
 ghost use Rattle.piece_texts.specs.ExplainedPieces.{PlainExplained};
 ghost use Rattle.query_exec.specs.QueryPieces.{items_pieces, branch_pieces, branches_pieces};
 ghost use Rattle.query_exec.specs.QueryPieces.{AreAlive, IsAlive};
-ghost use Rattle.timed_choices.specs.Lending.{EachRow, AllStayBorrowed};
-ghost use Rattle.joining.specs.Sources.{AtomsLend};
-ghost use Rattle.query_exec.specs.Borrowed.{Lents, IsAnswered, IsBorrowedBy, AllSpare};
+ghost use Rattle.timed_choices.specs.BorrowedOutputs.{EachRow, AllStayBorrowed};
+ghost use Rattle.joining.specs.Sources.{AtomsBorrow};
+ghost use Rattle.query_exec.specs.Borrowed.{BorrowedByBranch, IsAnswered, IsBorrowedBy, AllSpare};
 ghost use Rattle.query_exec.specs.Reads.{explained_read, reads_of};
 
 use crate::item::read_item;
@@ -60,12 +60,12 @@ fn read_items<'a, L: Ledger>(
     ensures atoms { (past : Past) → Represents groups.now past
         → IfOk result (λ atoms. AreRead past route.now (borrowed references.now) (test cond.now) 0
         from.now atoms.items) }
-    ensures borrowed { (branch : ℕ) → (lents : Lents)
-        → AllSpare groups.now lents
+    ensures borrowed { (branch : ℕ) → (by_branch : BorrowedByBranch)
+        → AllSpare groups.now by_branch
         (items_pieces (meaning_of book.now.rules.items (λ r. handles (r.vtable, r.value))
         (λ r. answers (r.vtable, r.value))) (versions_in groups.now) route.now.asked
         route.now.parts.items (borrowed references.now) (test cond.now) branch 0 from.now)
-        → IfOk result (λ atoms. AtomsLend (lents branch) atoms.items) }
+        → IfOk result (λ atoms. AtomsBorrow (by_branch branch) atoms.items) }
     ensures cost { (branch : ℕ) → (alive : List PlainExplained)
         → AreAlive (versions_in groups.now) (items_pieces
         (meaning_of book.now.rules.items (λ r. handles (r.vtable, r.value))
@@ -114,12 +114,12 @@ fn answer_branch<'a, L: Ledger>(
         (migrated past m route.now.asked) (branch_of branch.now))) }
     ensures inside { (m : ℕ) → covers route.now.slice m ≡ false
         → IfOk result (λ rows. rows_at rows.items m ≡ []) }
-    ensures borrowed { (number : ℕ) → (lents : Lents)
-        → AllSpare groups.now lents
+    ensures borrowed { (number : ℕ) → (by_branch : BorrowedByBranch)
+        → AllSpare groups.now by_branch
         (branch_pieces (meaning_of book.now.rules.items (λ r. handles (r.vtable, r.value))
         (λ r. answers (r.vtable, r.value))) (versions_in groups.now) route.now.asked
         route.now.parts.items number (branch_of branch.now))
-        → IfOk result (λ rows. AllStayBorrowed (lents number) (branch_of branch.now).outs
+        → IfOk result (λ rows. AllStayBorrowed (by_branch number) (branch_of branch.now).outs
         rows.items) }
     ensures cost { (number : ℕ) → (alive : List PlainExplained)
         → AreAlive (versions_in groups.now) (branch_pieces
@@ -172,12 +172,13 @@ pub(crate) fn answer_branches<'a, L: Ledger>(
         ≡ plain (tables_of past route.now.asked) (branches_of branches.now)
         (migrated past m route.now.asked)) }
     ensures borrowed { (past : Past) → Represents groups.now past → (number : ℕ)
-        → (lents : Lents) → AllSpare groups.now lents
+        → (by_branch : BorrowedByBranch) → AllSpare groups.now by_branch
         (branches_pieces (meaning_of book.now.rules.items (λ r. handles (r.vtable, r.value))
         (λ r. answers (r.vtable, r.value))) (versions_in groups.now) route.now.asked
         route.now.parts.items number (branches_of branches.now))
         → IfOk result (λ rows. EachRow (IsBorrowedBy
-        (IsAnswered past route.now.asked route.now.slice) lents number (branches_of branches.now))
+        (IsAnswered past route.now.asked route.now.slice) by_branch number (branches_of
+        branches.now))
         rows.items) }
     ensures cost { (number : ℕ) → (alive : List PlainExplained)
         → AreAlive (versions_in groups.now) (branches_pieces

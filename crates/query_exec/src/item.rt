@@ -14,8 +14,8 @@ ghost use Rattle.query_exec.specs.Accepted.{IsRead};
 ghost use Rattle.query_exec.specs.Questions.{own_read};
 ghost use Rattle.piece_texts.specs.ExplainedPieces.{PlainExplained};
 ghost use Rattle.query_exec.specs.QueryPieces.{table_pieces, AreAlive, IsAlive};
-ghost use Rattle.timed_choices.specs.Lending.{RowsLend};
-ghost use Rattle.query_exec.specs.Borrowed.{Lents, AllSpare};
+ghost use Rattle.timed_choices.specs.BorrowedOutputs.{RowsBorrow};
+ghost use Rattle.query_exec.specs.Borrowed.{BorrowedByBranch, AllSpare};
 ghost use Rattle.query_exec.specs.Routes.{IsRoute, MayBeRead};
 ghost use Rattle.query_exec.specs.Reads.{explained_read, reads_of};
 
@@ -75,13 +75,13 @@ pub(crate) fn read_item<'a, L: Ledger>(
     ensures atom { (past : Past) → Represents groups.now past
         → IfOk result (λ a. IsRead past route.now place table.now
         (own_read place (borrowed references.now) (test cond.now)) a) }
-    ensures borrowed { (branch : ℕ) → (lents : Lents)
-        → AllSpare groups.now lents
+    ensures borrowed { (branch : ℕ) → (by_branch : BorrowedByBranch)
+        → AllSpare groups.now by_branch
         (table_pieces (meaning_of book.now.rules.items (λ r. handles (r.vtable, r.value))
         (λ r. answers (r.vtable, r.value))) (versions_in groups.now) route.now.asked table.now
         (own_read place (borrowed references.now) (test cond.now)) branch (place + 1)
         route.now.parts.items)
-        → IfOk result (λ a. RowsLend (lents branch) a.columns.items a.rows.items) }
+        → IfOk result (λ a. RowsBorrow (by_branch branch) a.columns.items a.rows.items) }
     ensures cost { (branch : ℕ) → (atom : ℕ) → (alive : List PlainExplained)
         → AreAlive (versions_in groups.now) (table_pieces
         (meaning_of book.now.rules.items (λ r. handles (r.vtable, r.value))

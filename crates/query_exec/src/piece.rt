@@ -1,7 +1,8 @@
 //! Pieces that stand at a version, run over its stored tables, also at moments of other versions
 //! that share these.
 
-ghost use Rattle.std.specs.Prelude.{◌≡◌, ℕ, ◌+◌, ◌<◌, ◌≤◌, ◌++◌, List, [], ◌∷◌, true, false, IfOk, OnOk};
+ghost use Rattle.std.specs.Prelude.{◌≡◌, ℕ, ◌+◌, ◌<◌, ◌≤◌, ◌++◌, List, [], ◌∷◌, true, false, IfOk};
+ghost use Rattle.std.specs.Prelude.{OnOk};
 ghost use Rattle.std.specs.Prelude.{length};
 ghost use Rattle.relations.specs.Sets.{In};
 ghost use Rattle.relations.specs.Spans.{Span, covers};
@@ -15,7 +16,7 @@ ghost use Rattle.piece_ir.specs.Shown.{pieces_of};
 ghost use Rattle.query_pieces.specs.Gathering.{IsGathered};
 ghost use Rattle.query_exec.specs.Runs.{IsMeant};
 ghost use Rattle.cond_expr.specs.declared.expr.Column.{Column as AtomColumn};
-ghost use Rattle.timed_choices.specs.Lending.{Lent, RowsLend};
+ghost use Rattle.timed_choices.specs.BorrowedOutputs.{BorrowedValues, RowsBorrow};
 ghost use Rattle.query_exec.specs.Borrowed.{AllPlainIn};
 ghost use Rattle.query_exec.specs.Reads.{pieces_read};
 
@@ -75,9 +76,9 @@ fn run_pieces<'a, L: Ledger>(
         → IfOk result (λ rows. rows_at rows.items m ≡ meant) }
     ensures inside { (m : ℕ) → covers period m ≡ false
         → IfOk result (λ rows. rows_at rows.items m ≡ []) }
-    ensures borrowed { (lent : Lent) → (columns : List AtomColumn)
-        → AllPlainIn groups.now version period lent columns (pieces_of pieces.now)
-        → IfOk result (λ rows. RowsLend lent columns rows.items) }
+    ensures borrowed { (which : BorrowedValues) → (columns : List AtomColumn)
+        → AllPlainIn groups.now version period which columns (pieces_of pieces.now)
+        → IfOk result (λ rows. RowsBorrow which columns rows.items) }
     ensures cost { steps.new ≤ steps.old + pieces_read groups.now version (pieces_of pieces.now) }
     ensures counted { IfOk result (λ _. steps.new
         ≡ steps.old + pieces_read groups.now version (pieces_of pieces.now)) }
@@ -109,10 +110,10 @@ pub(crate) fn read_run<'a, L: Ledger>(
         (relation m))
         → (spans : List Span) → IsGathered relation spans (entries_of rows.old.items)
         → OnOk result (IsGathered relation (spans ++ run.0 ∷ []) (entries_of rows.new.items)) }
-    ensures borrowed { (lent : Lent) → (columns : List AtomColumn)
-        → AllPlainIn groups.now run.1 run.0 lent columns (pieces_of pieces.now)
-        → RowsLend lent columns rows.old.items
-        → OnOk result (RowsLend lent columns rows.new.items) }
+    ensures borrowed { (which : BorrowedValues) → (columns : List AtomColumn)
+        → AllPlainIn groups.now run.1 run.0 which columns (pieces_of pieces.now)
+        → RowsBorrow which columns rows.old.items
+        → OnOk result (RowsBorrow which columns rows.new.items) }
     ensures cost { steps.new ≤ steps.old + pieces_read groups.now run.1 (pieces_of pieces.now) }
     ensures counted { OnOk result (steps.new ≡ steps.old + pieces_read groups.now run.1
         (pieces_of pieces.now)) }

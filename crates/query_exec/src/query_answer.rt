@@ -14,7 +14,7 @@ ghost use Rattle.version_groups.specs.Representation.{Represents};
 ghost use Rattle.rewrite.specs.Books.{meaning_of, EachOf};
 ghost use Rattle.query_exec.specs.Accepted.{IsAccepted, IsShown};
 ghost use Rattle.piece_texts.specs.ExplainedPieces.{PlainExplained};
-ghost use Rattle.query_exec.specs.Borrowed.{Lents, AreSpared, AreBorrowedBy};
+ghost use Rattle.query_exec.specs.Borrowed.{BorrowedByBranch, AreSpared, AreBorrowedBy};
 ghost use Rattle.query_exec.specs.QueryPieces.{ArePieces};
 ghost use Rattle.query_exec.specs.Reads.{explained_read, reads_of};
 
@@ -61,8 +61,8 @@ pub fn answer<'a, L: Ledger>(
     ensures borrowed { (past : Past) → Represents groups.now past → (pieces : List PlainExplained)
         → ArePieces (meaning_of book.now.rules.items (λ r. handles (r.vtable, r.value))
         (λ r. answers (r.vtable, r.value))) (versions_in groups.now) (query_of query.now) pieces
-        → (lents : Lents) → AreSpared groups.now lents pieces
-        → IfOk result (λ rows. AreBorrowedBy past (query_of query.now) lents rows.items) }
+        → (by_branch : BorrowedByBranch) → AreSpared groups.now by_branch pieces
+        → IfOk result (λ rows. AreBorrowedBy past (query_of query.now) by_branch rows.items) }
     ensures cost { (pieces : List PlainExplained)
         → ArePieces (meaning_of book.now.rules.items (λ r. handles (r.vtable, r.value))
         (λ r. answers (r.vtable, r.value))) (versions_in groups.now) (query_of query.now) pieces

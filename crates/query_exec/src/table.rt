@@ -22,7 +22,7 @@ ghost use Rattle.query_exec.specs.Planned.{ArePlanned, planned_spans};
 ghost use Rattle.piece_texts.specs.ExplainedPieces.{PlainExplained};
 ghost use Rattle.query_exec.specs.QueryPieces.{table_pieces, AreAlive, IsAlive};
 ghost use Rattle.cond_expr.specs.declared.expr.Column.{Column as AtomColumn};
-ghost use Rattle.timed_choices.specs.Lending.{Lent, RowsLend};
+ghost use Rattle.timed_choices.specs.BorrowedOutputs.{BorrowedValues, RowsBorrow};
 ghost use Rattle.query_exec.specs.Borrowed.{IsPlainIn, AllPlainIn};
 ghost use Rattle.query_exec.specs.Routes.{IsOwn, IsRoute, MayBeRead};
 ghost use Rattle.query_exec.specs.Reads.{part_read, explained_read, reads_of};
@@ -55,7 +55,8 @@ pub(crate) fn table_pieces(
     requires each { EachOf book.now.rules.items (λ r. handles (r.vtable, r.value)) }
     requires represents { (past : Past) × Represents groups.now past }
     requires route { IsRoute (versions_in groups.now) route.now }
-    requires read { MayBeRead (versions_in groups.now) route.now table.now (read_asked question.now) }
+    requires read { MayBeRead (versions_in groups.now) route.now table.now (read_asked
+        question.now) }
     ensures { IfOk result (λ v. ArePlanned (meaning_of book.now.rules.items
         (λ r. handles (r.vtable, r.value)) (λ r. answers (r.vtable, r.value)))
         (versions_in groups.now) route.now.asked table.now (read_asked question.now)
@@ -82,11 +83,12 @@ fn read_parts<'a, L: Ledger>(
         → ((x : OnePart) → In x plan.now → (m : ℕ) → covers x.part.0 m ≡ true
         → all_mean (tables_of past x.part.1) (database_at past m) (pieces_of x.pieces.items)
         ≡ relation m)
-        → IfOk result (λ rows. IsGathered relation (planned_spans plan.now) (entries_of rows.items)) }
-    ensures borrowed { (lent : Lent) → (columns : List AtomColumn)
+        → IfOk result (λ rows. IsGathered relation (planned_spans plan.now) (entries_of
+        rows.items)) }
+    ensures borrowed { (which : BorrowedValues) → (columns : List AtomColumn)
         → ((x : OnePart) → In x plan.now
-        → AllPlainIn groups.now x.part.1 x.part.0 lent columns (pieces_of x.pieces.items))
-        → IfOk result (λ rows. RowsLend lent columns rows.items) }
+        → AllPlainIn groups.now x.part.1 x.part.0 which columns (pieces_of x.pieces.items))
+        → IfOk result (λ rows. RowsBorrow which columns rows.items) }
     ensures cost { steps.new ≤ steps.old + total (part_read groups.now) plan.now }
     ensures least { (x : OnePart) → In x plan.now
         → IfOk result (λ _. steps.old + part_read groups.now x ≤ steps.new) }
@@ -126,18 +128,20 @@ pub(crate) fn read_table<'a, L: Ledger>(
     requires each { EachOf book.now.rules.items (λ r. handles (r.vtable, r.value)) }
     requires represents { (past : Past) × Represents groups.now past }
     requires route { IsRoute (versions_in groups.now) route.now }
-    requires read { MayBeRead (versions_in groups.now) route.now table.now (read_asked question.now) }
+    requires read { MayBeRead (versions_in groups.now) route.now table.now (read_asked
+        question.now) }
     ensures rows { (past : Past) → Represents groups.now past
         → IfOk result (λ rows. IsListing row_cmp
         (table_read past route.now.asked table.now (read_asked question.now)) route.now.slice
         (entries_of rows.items)) }
-    ensures borrowed { (branch : ℕ) → (atom : ℕ) → (lent : Lent) → (columns : List AtomColumn)
+    ensures borrowed { (branch : ℕ) → (atom : ℕ) → (which : BorrowedValues)
+        → (columns : List AtomColumn)
         → ((e : PlainExplained) → IsAlive (versions_in groups.now)
         (table_pieces (meaning_of book.now.rules.items (λ r. handles (r.vtable, r.value))
         (λ r. answers (r.vtable, r.value))) (versions_in groups.now) route.now.asked table.now
         (read_asked question.now) branch atom route.now.parts.items) e
-        → IsPlainIn groups.now lent columns e)
-        → IfOk result (λ rows. RowsLend lent columns rows.items) }
+        → IsPlainIn groups.now which columns e)
+        → IfOk result (λ rows. RowsBorrow which columns rows.items) }
     ensures cost { (branch : ℕ) → (atom : ℕ) → (alive : List PlainExplained)
         → AreAlive (versions_in groups.now) (table_pieces
         (meaning_of book.now.rules.items (λ r. handles (r.vtable, r.value))

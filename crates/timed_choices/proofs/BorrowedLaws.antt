@@ -29,10 +29,11 @@ use Rattle.cond_expr.specs.Seen.{tree}
 use Rattle.cond_expr.specs.Rows.{AreBorrowed, names, cells, flat, lies_elsewhere}
 use Rattle.timed_choices.specs.Answering.{outputs}
 use Rattle.timed_choices.specs.Fitting.{Fit}
-use Rattle.timed_choices.specs.Lending.{EachRow, AllBorrowed, Lent, RowLends, RowsLend, is_lent}
-use Rattle.timed_choices.specs.Lending.{StaysBorrowed}
+use Rattle.timed_choices.specs.BorrowedOutputs.{EachRow, AllBorrowed, BorrowedValues, RowBorrows}
+use Rattle.timed_choices.specs.BorrowedOutputs.{RowsBorrow, is_borrowed_output}
+use Rattle.timed_choices.specs.BorrowedOutputs.{StaysBorrowed}
 
--- ---- columns that are lent
+-- ---- values of columns that are borrowed
 
 both_true : (a b : Bool) → (a && b) ≡ true → (a ≡ true) × (b ≡ true)
 both_true true true e = (refl, refl)
@@ -40,16 +41,16 @@ both_true true false e = absurd (cc)
 both_true false b e = absurd (cc)
 
 -- what a reference names is the column that it speaks of
-named_lent : (lent : Whose → List ℕ → Bool) (w : Whose) (n : List ℕ) (c : Column)
+named_borrowed : (which : Whose → List ℕ → Bool) (w : Whose) (n : List ℕ) (c : Column)
     → names w n c ≡ true
-    → lent w n ≡ true → lent (Atom c.atom) c.name ≡ true
-named_lent lent Free n c e l = absurd (cc)
-named_lent lent (Alias a) n c e l = absurd (cc)
-named_lent lent (Atom i) n c e l =
+    → which w n ≡ true → which (Atom c.atom) c.name ≡ true
+named_borrowed which Free n c e l = absurd (cc)
+named_borrowed which (Alias a) n c e l = absurd (cc)
+named_borrowed which (Atom i) n c e l =
     let both = both_true (c.atom == i) (same n c.name) e in
     let own : i ≡ c.atom = (let h = both.0 in grind (arith, nat_tests)) in
-    subst (λ (j : ℕ). lent (Atom j) c.name ≡ true) own
-    (subst (λ (name : List ℕ). lent (Atom i) name ≡ true) (same_name n c.name both.1) l)
+    subst (λ (j : ℕ). which (Atom j) c.name ≡ true) own
+    (subst (λ (name : List ℕ). which (Atom i) name ≡ true) (same_name n c.name both.1) l)
   where
     same_name : (a b : List ℕ) → same a b ≡ true → a ≡ b
     same_name a b e = step (bytes_cmp a b) refl e
@@ -61,20 +62,21 @@ named_lent lent (Atom i) n c e l =
 
 -- ---- what is chosen
 
-module _ (lent : Whose → List ℕ → Bool) where
-  -- the expression is a column that is lent, whose value this is
+module _ (which : Whose → List ℕ → Bool) where
+  -- the expression is a column whose value this is, one of those that are borrowed
   abbrev IsColumn : Cells → Tree → Value → Type 0
-  IsColumn at t v = (w : Whose) × (n : List ℕ) × (t ≡ column w n) × (lent w n ≡ true) × (v ≡ at w n)
+  IsColumn at t v = (w : Whose) × (n : List ℕ) × (t ≡ column w n) × (which w n ≡ true)
+      × (v ≡ at w n)
 
-  -- what is lent chooses such a column
-  chosen_column : (at : Cells) (t : Tree) → is_lent lent t ≡ true
+  -- what is borrowed chooses such a column
+  chosen_column : (at : Cells) (t : Tree) → is_borrowed_output which t ≡ true
       → IsColumn at (chosen at t) (value at t)
   chosen_column at (column w n) so = (w, n, refl, so, refl)
   chosen_column at (constant x) so = absurd (cc)
   chosen_column at (length_of t) so = absurd (cc)
   chosen_column at (joined ts) so = absurd (cc)
   chosen_column at (choose c a b) so =
-      let both = both_true (is_lent lent a) (is_lent lent b) so in
+      let both = both_true (is_borrowed_output which a) (is_borrowed_output which b) so in
       step (truth at c) (chosen_column at a both.0) (chosen_column at b both.1)
     where
       step : (t : Bool) → IsColumn at (chosen at a) (value at a)
@@ -83,10 +85,10 @@ module _ (lent : Whose → List ℕ → Bool) where
       step true p q = p
       step false p q = q
 
-module _ (lent : Lent) where
-  -- one that shows what a column that is lent holds, and lies elsewhere where that does
+module _ (which : BorrowedValues) where
+  -- one that shows what a column holds that is borrowed, and lies elsewhere where that does
   borrowed_like : (columns : List Column) (values : List Val) (w : Whose) (n : List ℕ) (v : Val)
-      → RowLends lent columns values → lent w n (shown v) ≡ true
+      → RowBorrows which columns values → which w n (shown v) ≡ true
       → shown v ≡ flat columns values w n
       → is_borrowed v ≡ lies_elsewhere columns values w n → IsBorrowed v
   borrowed_like columns values w n (ValInt k) l so e b = tt
@@ -95,8 +97,8 @@ module _ (lent : Lent) where
   borrowed_like (c ∷ columns) [] w n (Own t) l so e b = absurd (cc)
   borrowed_like (c ∷ columns) (v ∷ values) w n (Own t) l so e b =
       step v (names w n c)
-      (λ h s. l.0 (subst (λ (x : Value). lent (Atom c.atom) c.name x ≡ true) s
-      (named_lent (λ u m. lent u m (shown (Own t))) w n c h so)))
+      (λ h s. l.0 (subst (λ (x : Value). which (Atom c.atom) c.name x ≡ true) s
+      (named_borrowed (λ u m. which u m (shown (Own t))) w n c h so)))
       (λ p q. borrowed_like columns values w n (Own t) l.1 so p q) e b
     where
       step : (x : Val) (named : Bool)
@@ -112,19 +114,19 @@ module _ (lent : Lent) where
       step (Slice s) false m f p q = f p q
       step (Own u) false m f p q = f p q
 
-  lent_borrowed : (columns : List Column) (values : List Val) (t : Tree) (v : Val)
-      → RowLends lent columns values → shown v ≡ value (flat columns values) t
+  value_borrowed : (columns : List Column) (values : List Val) (t : Tree) (v : Val)
+      → RowBorrows which columns values → shown v ≡ value (flat columns values) t
       → ((w : Whose) → (n : List ℕ) → chosen (flat columns values) t ≡ column w n
       → is_borrowed v ≡ lies_elsewhere columns values w n)
-      → is_lent (λ w n. lent w n (shown v)) t ≡ true → IsBorrowed v
-  lent_borrowed columns values t v l e b so =
-      let h = chosen_column (λ w n. lent w n (shown v)) (flat columns values) t so in
+      → is_borrowed_output (λ w n. which w n (shown v)) t ≡ true → IsBorrowed v
+  value_borrowed columns values t v l e b so =
+      let h = chosen_column (λ w n. which w n (shown v)) (flat columns values) t so in
       borrowed_like columns values h.0 h.1 v l h.3 (e ∙ h.4) (b h.0 h.1 h.2)
 
   stays_with : (outs : List Tree) (values : List Val) (t : Tree) (v : Val)
-      → StaysBorrowed lent outs values
-      → (is_lent (λ w n. lent w n (shown v)) t ≡ true → IsBorrowed v)
-      → StaysBorrowed lent (outs ++ t ∷ []) (values ++ v ∷ [])
+      → StaysBorrowed which outs values
+      → (is_borrowed_output (λ w n. which w n (shown v)) t ≡ true → IsBorrowed v)
+      → StaysBorrowed which (outs ++ t ∷ []) (values ++ v ∷ [])
   stays_with [] [] t v s f = (f, tt)
   stays_with [] (x ∷ values) t v s f = absurd s
   stays_with (o ∷ outs) [] t v s f = absurd s
@@ -133,79 +135,79 @@ module _ (lent : Lent) where
   -- one output more
   pub stays_more : (columns : List Column) (values : List Val) (outs : List Expr) (i : ℕ)
       (out : Expr) (row new : List Val) (v : Val) → i < length outs → out ≡ get_or outs i out
-      → RowLends lent columns values → StaysBorrowed lent (map tree (take i outs)) row
+      → RowBorrows which columns values → StaysBorrowed which (map tree (take i outs)) row
       → shown v ≡ value (flat columns values) (tree out)
       → ((w : Whose) → (n : List ℕ) → chosen (flat columns values) (tree out) ≡ column w n
       → is_borrowed v ≡ lies_elsewhere columns values w n)
-      → new ≡ row ++ v ∷ [] → StaysBorrowed lent (map tree (take (i + 1) outs)) new
+      → new ≡ row ++ v ∷ [] → StaysBorrowed which (map tree (take (i + 1) outs)) new
   stays_more columns values outs i out row new v below is lends before e b made =
       let more : map tree (take (i + 1) outs) ≡ map tree (take i outs) ++ tree out ∷ [] =
       ap (map tree) (take_more outs i out below)
       ∙ map-append tree (take i outs) (get_or outs i out ∷ [])
       ∙ ap (λ (x : Expr). map tree (take i outs) ++ tree x ∷ []) (sym is) in
-      let there : StaysBorrowed lent (map tree (take i outs) ++ tree out ∷ []) (row ++ v ∷ []) =
+      let there : StaysBorrowed which (map tree (take i outs) ++ tree out ∷ []) (row ++ v ∷ []) =
       stays_with (map tree (take i outs)) row (tree out) v before
-      (lent_borrowed columns values (tree out) v lends e b) in
-      subst (λ (ts : List Tree). StaysBorrowed lent ts new) (sym more)
-      (subst (λ (vs : List Val). StaysBorrowed lent (map tree (take i outs) ++ tree out ∷ []) vs)
+      (value_borrowed columns values (tree out) v lends e b) in
+      subst (λ (ts : List Tree). StaysBorrowed which ts new) (sym more)
+      (subst (λ (vs : List Val). StaysBorrowed which (map tree (take i outs) ++ tree out ∷ []) vs)
       (sym made) there)
 
   -- values that show the same, and lie elsewhere where the others do
-  lends_like : (columns : List Column) (values new : List Val) → map shown new ≡ map shown values
-      → map is_borrowed new ≡ map is_borrowed values → RowLends lent columns values
-      → RowLends lent columns new
-  lends_like [] [] [] e b l = tt
-  lends_like [] [] (w ∷ new) e b l = absurd (cc)
-  lends_like [] (v ∷ values) new e b l = absurd l
-  lends_like (c ∷ columns) [] new e b l = absurd l
-  lends_like (c ∷ columns) (v ∷ values) [] e b l = absurd (cc)
-  lends_like (c ∷ columns) (v ∷ values) (w ∷ new) e b l =
+  borrows_like : (columns : List Column) (values new : List Val) → map shown new ≡ map shown values
+      → map is_borrowed new ≡ map is_borrowed values → RowBorrows which columns values
+      → RowBorrows which columns new
+  borrows_like [] [] [] e b l = tt
+  borrows_like [] [] (w ∷ new) e b l = absurd (cc)
+  borrows_like [] (v ∷ values) new e b l = absurd l
+  borrows_like (c ∷ columns) [] new e b l = absurd l
+  borrows_like (c ∷ columns) (v ∷ values) [] e b l = absurd (cc)
+  borrows_like (c ∷ columns) (v ∷ values) (w ∷ new) e b l =
       let first : shown w ≡ shown v = cc in
       let lies : is_borrowed w ≡ is_borrowed v = cc in
       let more : map shown new ≡ map shown values = cc in
       let all : map is_borrowed new ≡ map is_borrowed values = cc in (
         λ so. stays_borrowed v w first lies (l.0
-            (subst (λ (x : Value). lent (Atom c.atom) c.name x ≡ true) first so)),
-        lends_like columns values new more all l.1,
+            (subst (λ (x : Value). which (Atom c.atom) c.name x ≡ true) first so)),
+        borrows_like columns values new more all l.1,
       )
 
   -- the values of both
-  pub both_lend : (ours theirs : List Column) (first second values : List Val)
+  pub both_borrow : (ours theirs : List Column) (first second values : List Val)
       → map shown values ≡ map shown first ++ map shown second
       → map is_borrowed values ≡ map is_borrowed first ++ map is_borrowed second
-      → RowLends lent ours first → RowLends lent theirs second
-      → RowLends lent (ours ++ theirs) values
-  both_lend [] theirs [] second values e b l k = lends_like theirs second values e b k
-  both_lend [] theirs (v ∷ first) second values e b l k = absurd l
-  both_lend (c ∷ ours) theirs [] second values e b l k = absurd l
-  both_lend (c ∷ ours) theirs (v ∷ first) second [] e b l k = absurd (cc)
-  both_lend (c ∷ ours) theirs (v ∷ first) second (w ∷ values) e b l k =
+      → RowBorrows which ours first → RowBorrows which theirs second
+      → RowBorrows which (ours ++ theirs) values
+  both_borrow [] theirs [] second values e b l k = borrows_like theirs second values e b k
+  both_borrow [] theirs (v ∷ first) second values e b l k = absurd l
+  both_borrow (c ∷ ours) theirs [] second values e b l k = absurd l
+  both_borrow (c ∷ ours) theirs (v ∷ first) second [] e b l k = absurd (cc)
+  both_borrow (c ∷ ours) theirs (v ∷ first) second (w ∷ values) e b l k =
       let one : shown w ≡ shown v = cc in
       let lies : is_borrowed w ≡ is_borrowed v = cc in
       let more : map shown values ≡ map shown first ++ map shown second = cc in
       let all : map is_borrowed values ≡ map is_borrowed first ++ map is_borrowed second = cc in (
         λ so. stays_borrowed v w one lies (l.0
-            (subst (λ (x : Value). lent (Atom c.atom) c.name x ≡ true) one so)),
-        both_lend ours theirs first second values more all l.1 k,
+            (subst (λ (x : Value). which (Atom c.atom) c.name x ≡ true) one so)),
+        both_borrow ours theirs first second values more all l.1 k,
       )
 
   -- where all values are borrowed, those of any columns are
-  row_lends : (columns : List Column) (values : List Val) → length (map shown values)
-      ≡ length columns → AreBorrowed values → RowLends lent columns values
-  row_lends [] [] e l = tt
-  row_lends [] (v ∷ values) e l = absurd (omega (arith, e))
-  row_lends (c ∷ columns) [] e l = absurd (omega (arith, e))
-  row_lends (c ∷ columns) (v ∷ values) e l = (
+  row_borrows : (columns : List Column) (values : List Val) → length (map shown values)
+      ≡ length columns → AreBorrowed values → RowBorrows which columns values
+  row_borrows [] [] e l = tt
+  row_borrows [] (v ∷ values) e l = absurd (omega (arith, e))
+  row_borrows (c ∷ columns) [] e l = absurd (omega (arith, e))
+  row_borrows (c ∷ columns) (v ∷ values) e l = (
     λ so. l.0,
-    row_lends columns values (omega (arith, e)) l.1,
+    row_borrows columns values (omega (arith, e)) l.1,
   )
 
-  pub rows_lend : (columns : List Column) (rows : List TimedRow)
-      → Fit (length columns) (entries_of rows) → AllBorrowed rows → RowsLend lent columns rows
-  rows_lend columns [] f l = tt
-  rows_lend columns (row ∷ rows) f l = (
-    row_lends columns row.values.items (f (entry_of row) (inl refl)).0 l.0,
-    rows_lend columns rows (λ e i. f e (inr i)) l.1,
+  pub rows_borrow : (columns : List Column) (rows : List TimedRow)
+      → Fit (length columns) (entries_of rows) → AllBorrowed rows → RowsBorrow which columns rows
+  rows_borrow columns [] f l = tt
+  rows_borrow columns (row ∷ rows) f l = (
+    row_borrows columns row.values.items (f (entry_of row) (inl refl)).0 l.0,
+    rows_borrow columns rows (λ e i. f e (inr i)) l.1,
   )
 
 -- ---- outputs that are the columns
@@ -261,12 +263,12 @@ either_way : (So : Type 0) (b : Bool) (x y v : Value) → cond b x y ≡ v → (
 either_way So true x y v e f g = f e
 either_way So false x y v e f g = g e
 
-module _ (lent : Lent) where
+module _ (which : BorrowedValues) where
   -- from the columns after some others
   from : (front back : List Column) (outs : List Tree) (values : List Val)
       → ((row : List Value) → length row ≡ length back
       → map (value (cells (front ++ back) (nothing front ++ row))) outs ≡ row)
-      → RowLends lent back values → StaysBorrowed lent outs values
+      → RowBorrows which back values → StaysBorrowed which outs values
   from front [] [] [] keeps l = tt
   from front [] [] (v ∷ values) keeps l = absurd l
   from front [] (t ∷ outs) values keeps l = absurd (let h = keeps [] refl in cc)
@@ -289,24 +291,25 @@ module _ (lent : Lent) where
     where
       first : (o : Tree)
           → value (cells (front ++ c ∷ after) (nothing front ++ Int (pos 1) ∷ nothing after)) o
-          ≡ Int (pos 1) → is_lent (λ w n. lent w n (shown v)) o ≡ true → IsBorrowed v
+          ≡ Int (pos 1) → is_borrowed_output (λ w n. which w n (shown v)) o ≡ true → IsBorrowed v
       first (column w n) says so =
-          l.0 (named_lent (λ u m. lent u m (shown v)) w n c (names_it front after c w n says) so)
+          l.0 (named_borrowed (λ u m. which u m (shown v)) w n c (names_it front after c w n says)
+          so)
       first (constant x) says so = absurd (cc)
       first (length_of o) says so = absurd (cc)
       first (joined ts) says so = absurd (cc)
       first (choose d a b) says so =
           let at : Cells = cells (front ++ c ∷ after)
           (nothing front ++ Int (pos 1) ∷ nothing after) in
-          let both = both_true (is_lent (λ w n. lent w n (shown v)) a)
-          (is_lent (λ w n. lent w n (shown v)) b) so in
+          let both = both_true (is_borrowed_output (λ w n. which w n (shown v)) a)
+          (is_borrowed_output (λ w n. which w n (shown v)) b) so in
           either_way (IsBorrowed v) (truth at d) (value at a) (value at b) (Int (pos 1)) says
           (λ e. first a e both.0) (λ e. first b e both.1)
 
-  -- values of columns that are lent stay borrowed, as outputs that are the columns in their order
+  -- values of columns that are borrowed stay so, as outputs that are the columns in their order
   pub columns_stay : (columns : List Column) (outs : List Tree) (values : List Val)
       → ((row : List Value) → length row ≡ length columns → outputs columns outs row ≡ row)
-      → RowLends lent columns values → StaysBorrowed lent outs values
+      → RowBorrows which columns values → StaysBorrowed which outs values
   columns_stay columns outs values keeps l = from [] columns outs values keeps l
 
 -- ---- rows whose values are so

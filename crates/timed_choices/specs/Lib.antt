@@ -4,4 +4,4 @@ pub mod Placing
 pub mod Fitting
 pub mod Answering
 pub mod Blocks
-pub mod Lending
+pub mod BorrowedOutputs

@@ -82,13 +82,13 @@ returns-clause-cost g c = λ past represents pieces are.
     are)))
 
 pub returns-clause-borrowed : goal.returns-clause-borrowed
-returns-clause-borrowed g c = λ past represents pieces are lents spared.
+returns-clause-borrowed g c = λ past represents pieces are by_branch spared.
     let query = query_of c.args.query.now in
     let h : IsReady past query c.in_ok-atoms.atoms = c.in_ok-atoms.ensures past represents in
-    each_by_values (IsBorrowedBy (IsAnswered past query.version (slice_of query.when)) lents 1
+    each_by_values (IsBorrowedBy (IsAnswered past query.version (slice_of query.when)) by_branch 1
     (query_asked past query).branches) c.in_ok-rows.rows.items c.keep.new.rows.items
     c.keep.ensures.values
-    (subst (λ (q : PlainQuery). AreBorrowedBy past q lents c.in_ok-rows.rows.items) h.atoms
+    (subst (λ (q : PlainQuery). AreBorrowedBy past q by_branch c.in_ok-rows.rows.items) h.atoms
     (c.in_ok-rows.ensures.borrowed past represents pieces
     (subst (λ (q : PlainQuery). ArePieces (book_of
     (λ r. (goal.Rule-dyn g (r.vtable, r.value)).handles r.value)
@@ -103,7 +103,7 @@ returns-clause-borrowed g c = λ past represents pieces are lents spared.
     (λ r. (goal.Rule-dyn g (r.vtable, r.value)).answers r.value) c.args.book.now.rules.items)
     past.versions (with_atoms (tables_of past query.version) query) pieces) pieces) h.accepted
     are)))
-    lents spared))
+    by_branch spared))
 
 pub returns-clause-least : goal.returns-clause-least
 returns-clause-least g c = λ past represents pieces are e m.

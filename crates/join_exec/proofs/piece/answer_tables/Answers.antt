@@ -7,8 +7,8 @@ use Rattle.cond_expr.specs.Seen.{tree, test}
 use Rattle.plain_answers.specs.Naming.{all_references}
 use Rattle.join_exec.specs.Pieces.{atoms_read}
 use Rattle.join_exec.specs.Atoms.{AreRead, AreReadable}
-use Rattle.timed_choices.specs.Lending.{all_lent}
-use Rattle.join_exec.proofs.AtomAnswers.{its_columns, have_atoms, are_numbered, atoms_lend}
+use Rattle.timed_choices.specs.BorrowedOutputs.{all_values}
+use Rattle.join_exec.proofs.AtomAnswers.{its_columns, have_atoms, are_numbered, atoms_borrow}
 use Rattle.join_exec.proofs.AtomAnswers.{atoms_answer}
 use Rattle.join_exec.proofs.AtomSteps.{if_known}
 use Rattle.join_exec.proofs.piece.answer_tables.Goals as goal
@@ -28,8 +28,9 @@ answer_choices-requires g c = are_numbered c.args.groups.now c.args.version c.ar
     c.in_ok-atoms.ensures.atoms
 
 pub returns-clause-borrowed : goal.returns-clause-borrowed
-returns-clause-borrowed g c = c.answer_choices.ensures.borrowed all_lent
-    (atoms_lend c.args.groups.now c.args.version c.args.slice (borrowed c.deref.result.now) all_lent
+returns-clause-borrowed g c = c.answer_choices.ensures.borrowed all_values
+    (atoms_borrow c.args.groups.now c.args.version c.args.slice (borrowed c.deref.result.now)
+    all_values
     0 c.args.tables.now c.in_ok-atoms.atoms.items c.in_ok-atoms.ensures.atoms)
 
 pub returns-clause-rows : goal.returns-clause-rows

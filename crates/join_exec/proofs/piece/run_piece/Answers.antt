@@ -2,7 +2,7 @@ use Rattle.std.proofs.Common.{◌≤◌, ◌+◌, ℕ, List, map, ap, ◌∙◌,
 use Rattle.std.proofs.lemmas.Result.{IfOk-weaker, IfOk-equal}
 use Rattle.cond_expr.specs.Trees.{Tree}
 use Rattle.cond_expr.specs.Seen.{tree}
-use Rattle.timed_choices.specs.Lending.{all_lent, AllStayBorrowed}
+use Rattle.timed_choices.specs.BorrowedOutputs.{all_values, AllStayBorrowed}
 use Rattle.smo_types.specs.Changes.{sets_of}
 use Rattle.piece_meaning.specs.Pieces.{out_trees}
 use Rattle.piece_ir.specs.Shown.{piece_of}
@@ -49,7 +49,7 @@ returns-clause-borrowed g c =
     let o = ap (map tree) c.deref-3.ensures.value ∙ c.in_ok-outs.ensures
     ∙ ap (λ os. out_trees (sets_of os)) c.deref.ensures.value in
     IfOk-weaker c.answer_tables.result _ _ (λ rows q.
-    subst (λ (ts : List Tree). AllStayBorrowed all_lent ts rows.items) o q)
+    subst (λ (ts : List Tree). AllStayBorrowed all_values ts rows.items) o q)
     c.answer_tables.ensures.borrowed
 
 pub returns-clause-cost : goal.returns-clause-cost

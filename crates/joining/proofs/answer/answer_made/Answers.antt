@@ -8,9 +8,9 @@ use Rattle.joining.proofs.LevelLaws.{nothing_told}
 use Rattle.joining.proofs.answer.answer_made.Goals as goal
 
 pub returns-clause-borrowed : goal.returns-clause-borrowed
-returns-clause-borrowed c = λ lent h k.
-    c.settled-answered.ensures.borrowed lent (map tree c.args.outs.now)
-    (c.in_ok-put_answers.ensures.borrowed lent h k)
+returns-clause-borrowed c = λ which h k.
+    c.settled-answered.ensures.borrowed which (map tree c.args.outs.now)
+    (c.in_ok-put_answers.ensures.borrowed which h k)
 
 pub returns-clause-inside : goal.returns-clause-inside
 returns-clause-inside c = λ m none before.

@@ -3,7 +3,7 @@ use Rattle.std.proofs.lemmas.Simd.{map-map}
 use Rattle.prima_base.specs.Order.{shown}
 use Rattle.cond_expr.specs.Seen.{tree}
 use Rattle.cond_expr.specs.Values.{value}
-use Rattle.timed_choices.specs.Lending.{StaysBorrowed}
+use Rattle.timed_choices.specs.BorrowedOutputs.{StaysBorrowed}
 use Rattle.timed_choices.proofs.BorrowedLaws.{stays_more}
 use Rattle.cond_expr.specs.Rows.{cells}
 use Rattle.timed_choices.proofs.OneMore.{map_step}
@@ -16,10 +16,10 @@ loop-out-preserved c = record {
       c.push.new.self.items c.in_ok-eval.field-0
       c.loop-out-test.true c.out-item.is c.loop-out.invariant.values c.in_ok-eval.ensures.value
       c.in_ok-push.ensures.items;
-  borrowed = λ lent h. stays_more lent c.args.columns.now c.args.values.now c.args.outs.now
+  borrowed = λ which h. stays_more which c.args.columns.now c.args.values.now c.args.outs.now
       c.loop-out.out-index c.out-item.result c.loop-out.row.items c.push.new.self.items
       c.in_ok-eval.field-0 c.loop-out-test.true c.out-item.is h
-      (c.loop-out.invariant.borrowed lent h)
+      (c.loop-out.invariant.borrowed which h)
       c.in_ok-eval.ensures.value c.in_ok-eval.ensures.borrowed c.in_ok-push.ensures.items;
 }
 
@@ -31,7 +31,7 @@ returns-clause-values c = c.loop-out.invariant.values
     c.args.outs.now)
 
 pub returns-clause-borrowed : goal.returns-clause-borrowed
-returns-clause-borrowed c = λ lent h.
-    subst (λ outs. StaysBorrowed lent (map tree outs) c.loop-out.row.items)
+returns-clause-borrowed c = λ which h.
+    subst (λ outs. StaysBorrowed which (map tree outs) c.loop-out.row.items)
     (take_all c.loop-out.out-index c.args.outs.now (omega arith))
-    (c.loop-out.invariant.borrowed lent h)
+    (c.loop-out.invariant.borrowed which h)

@@ -3,13 +3,13 @@ use Rattle.prima_base.specs.Order.{shown}
 use Rattle.cond_expr.specs.Seen.{tree}
 use Rattle.cond_expr.specs.Values.{value}
 use Rattle.cond_expr.specs.Rows.{cells}
-use Rattle.timed_choices.specs.Lending.{Lent, RowLends, StaysBorrowed}
+use Rattle.timed_choices.specs.BorrowedOutputs.{BorrowedValues, RowBorrows, StaysBorrowed}
 use Rattle.joining.proofs.answer.output_row.Given as goal
 
 abbrev pub invariant-loop-out : goal.invariant-loop-out
 invariant-loop-out l = record {
   values : map shown l.row.items ≡ map (λ e. value (cells l.columns (map shown l.values)) (tree e))
       (take l.out-index l.outs);
-  borrowed : (lent : Lent) → RowLends lent l.columns l.values
-      → StaysBorrowed lent (map tree (take l.out-index l.outs)) l.row.items;
+  borrowed : (which : BorrowedValues) → RowBorrows which l.columns l.values
+      → StaysBorrowed which (map tree (take l.out-index l.outs)) l.row.items;
 }

@@ -2,7 +2,7 @@ use Rattle.std.proofs.Common.{map}
 use Rattle.prima_base.specs.Timed.{entry_of, entries_of}
 use Rattle.cond_expr.specs.Seen.{tree, test}
 use Rattle.timed_choices.specs.Answering.{answer}
-use Rattle.timed_choices.specs.Lending.{RowLends}
+use Rattle.timed_choices.specs.BorrowedOutputs.{RowBorrows}
 use Rattle.timed_choices.proofs.BorrowedLaws.{each_at}
 use Rattle.timed_choices.proofs.OneMore.{flat_more}
 use Rattle.timed_choices.proofs.Tests.{valid_row}
@@ -20,9 +20,9 @@ loop-choice-preserved c = record {
       (entries_of c.put_answer.new.rows.items)
       c.loop-choice-test.true c.choice-item.is c.loop-choice.invariant.rows
       c.in_ok-put_answer.ensures.rows;
-  borrowed = λ lent g h. c.in_ok-put_answer.ensures.borrowed lent
-      (c.loop-choice.invariant.borrowed lent g h)
-      (each_at (RowLends lent c.args.columns.now) c.args.choices.now
+  borrowed = λ which g h. c.in_ok-put_answer.ensures.borrowed which
+      (c.loop-choice.invariant.borrowed which g h)
+      (each_at (RowBorrows which c.args.columns.now) c.args.choices.now
       c.loop-choice.choice-index c.choice-item.result
       c.loop-choice-test.true c.choice-item.is h);
 }

@@ -1,10 +1,10 @@
-use Rattle.timed_choices.specs.Lending.{StaysBorrowed}
+use Rattle.timed_choices.specs.BorrowedOutputs.{StaysBorrowed}
 use Rattle.joining.proofs.CoalescedRows.{each_by_values, still_none}
 use Rattle.joining.proofs.answer.settled.Goals as goal
 
 pub returns-clause-borrowed : goal.returns-clause-borrowed
-returns-clause-borrowed c = λ lent outs l.
-    each_by_values (StaysBorrowed lent outs) c.args.rows.now.items
+returns-clause-borrowed c = λ which outs l.
+    each_by_values (StaysBorrowed which outs) c.args.rows.now.items
     c.coalesce_in_place.new.rows.items c.coalesce_in_place.ensures.values l
 
 pub returns-clause-inside : goal.returns-clause-inside

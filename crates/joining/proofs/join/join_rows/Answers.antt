@@ -10,12 +10,12 @@ use Rattle.cond_expr.specs.declared.expr.Cond.{Cond}
 use Rattle.cond_expr.specs.Parts.{parts}
 use Rattle.cond_expr.specs.Seen.{tree, test}
 use Rattle.timed_choices.specs.Answering.{answers}
-use Rattle.timed_choices.specs.Lending.{RowsLend, AllStayBorrowed}
+use Rattle.timed_choices.specs.BorrowedOutputs.{RowsBorrow, AllStayBorrowed}
 use Rattle.timed_choices.specs.Choosing.{completed}
 use Rattle.timed_choices.specs.Keeping.{meets_all, borrowed_tests, AllValid}
 use Rattle.timed_choices.proofs.JoinLaws.{fit_valid, start_held}
 use Rattle.joining.specs.declared.level.Level.{Level}
-use Rattle.joining.specs.Levels.{made_through, AreValidLevels, LevelsLend}
+use Rattle.joining.specs.Levels.{made_through, AreValidLevels, LevelsBorrow}
 use Rattle.joining.specs.Sources.{held_of}
 use Rattle.joining.proofs.Answered.{all_answered}
 use Rattle.joining.proofs.LevelLaws.{told_at, none_fits, nothing_at}
@@ -32,12 +32,13 @@ answer_levels-requires-clause-levels c = subst AreValidLevels (sym c.deref-2.ens
     c.in_ok-levels.ensures.valid
 
 pub returns-clause-borrowed : goal.returns-clause-borrowed
-returns-clause-borrowed c = λ lent h.
-    c.in_ok-answer_levels.ensures.borrowed lent [] c.args.columns.now refl
-    (subst (AllStayBorrowed lent (map tree c.args.outs.now)) (sym c.none_yet-answered.ensures) tt)
-    (subst (RowsLend lent []) (sym c.deref-3.ensures.value) (c.in_ok-first.ensures.borrowed lent))
-    (subst (LevelsLend lent c.args.columns.now) (sym c.deref-2.ensures.value)
-    (c.in_ok-levels.ensures.borrowed lent c.args.columns.now h))
+returns-clause-borrowed c = λ which h.
+    c.in_ok-answer_levels.ensures.borrowed which [] c.args.columns.now refl
+    (subst (AllStayBorrowed which (map tree c.args.outs.now)) (sym c.none_yet-answered.ensures) tt)
+    (subst (RowsBorrow which []) (sym c.deref-3.ensures.value)
+    (c.in_ok-first.ensures.borrowed which))
+    (subst (LevelsBorrow which c.args.columns.now) (sym c.deref-2.ensures.value)
+    (c.in_ok-levels.ensures.borrowed which c.args.columns.now h))
 
 pub returns-clause-inside : goal.returns-clause-inside
 returns-clause-inside c = λ m h.

@@ -1,4 +1,5 @@
-use Rattle.std.proofs.Common.{◌≡◌, ◌<◌, ◌++◌, ◌-◌, ◌∷◌, ℕ, List, [], map, take, drop, length, get_or}
+use Rattle.std.proofs.Common.{◌≡◌, ◌<◌, ◌++◌, ◌-◌, ◌∷◌, ℕ, List, [], map, take, drop, length}
+use Rattle.std.proofs.Common.{get_or}
 use Rattle.std.proofs.Common.{append_assoc, append-nil, sym, ap, ◌∙◌, subst, take_all, arith}
 use Rattle.std.specs.List.{flat_map}
 use Rattle.relations.specs.Timed.{Entry, held_at, at}
@@ -9,11 +10,11 @@ use Rattle.prima_base.specs.Timed.{entry_of, entries_of}
 use Rattle.cond_expr.specs.Seen.{tree, test}
 use Rattle.timed_choices.specs.Answering.{answers}
 use Rattle.cond_expr.specs.declared.expr.Column.{Column}
-use Rattle.timed_choices.specs.Lending.{RowLends, RowsLend}
+use Rattle.timed_choices.specs.BorrowedOutputs.{RowBorrows, RowsBorrow}
 use Rattle.timed_choices.proofs.BorrowedLaws.{each_at}
 use Rattle.timed_choices.proofs.Tests.{valid_row}
 use Rattle.joining.specs.declared.level.Level.{Level}
-use Rattle.joining.specs.Levels.{made_beside, made_through, AreValidLevels, LevelsLend}
+use Rattle.joining.specs.Levels.{made_beside, made_through, AreValidLevels, LevelsBorrow}
 use Rattle.joining.proofs.AtomOrder.{nothing_left}
 use Rattle.joining.proofs.LevelLaws.{first_and_rest, rest_shorter, made_here, valid_beside}
 use Rattle.joining.proofs.LevelLaws.{of_choice, one_choice, each_choice, none_beside}
@@ -77,13 +78,13 @@ loop-choice-preserved t c =
     c.deref.ensures.value c.deref-in-loop-choice.ensures.value c.new-made.ensures.items
     c.in_ok-put_choice-in-len1-up.ensures.rows c.deref-in-loop-choice-2.ensures.value in
     record {
-      borrowed = λ lent before own after e h l one others.
-          c.in_ok-answer_levels-in-len1-up.ensures.borrowed lent (before ++ own) after e
-          (c.loop-choice.invariant.borrowed lent before own after e h l one others)
-          (subst (RowsLend lent (before ++ own)) (sym c.deref-in-loop-choice-2.ensures.value)
-          (c.in_ok-put_choice-in-len1-up.ensures.borrowed lent before own
-          (subst (RowsLend lent (before ++ own)) (sym c.new-made.ensures.items) tt)
-          (each_at (RowLends lent before) c.args.choices.now i choice below is l) one))
+      borrowed = λ which before own after e h l one others.
+          c.in_ok-answer_levels-in-len1-up.ensures.borrowed which (before ++ own) after e
+          (c.loop-choice.invariant.borrowed which before own after e h l one others)
+          (subst (RowsBorrow which (before ++ own)) (sym c.deref-in-loop-choice-2.ensures.value)
+          (c.in_ok-put_choice-in-len1-up.ensures.borrowed which before own
+          (subst (RowsBorrow which (before ++ own)) (sym c.new-made.ensures.items) tt)
+          (each_at (RowBorrows which before) c.args.choices.now i choice below is l) one))
           others;
       rows = λ m h.
           one_choice cs outs cond level (rest_of c.args.levels.now) c.args.choices.now i choice
@@ -99,21 +100,21 @@ loop-choice-preserved t c =
     }
 
 pub returns-in-empty-clause-borrowed : goal.returns-in-empty-clause-borrowed
-returns-in-empty-clause-borrowed t c = λ lent before after e h l levels.
+returns-in-empty-clause-borrowed t c = λ which before after e h l levels.
     let none : c.args.levels.now ≡ [] =
     nothing_left c.args.levels.now (let k = c.in-empty.len_below in omega (arith, k)) in
-    let last : after ≡ [] = subst (LevelsLend lent after) none levels in
-    c.answer_made.ensures.borrowed lent h
-    (subst (λ (cs : List Column). RowsLend lent cs c.args.choices.now)
+    let last : after ≡ [] = subst (LevelsBorrow which after) none levels in
+    c.answer_made.ensures.borrowed which h
+    (subst (λ (cs : List Column). RowsBorrow which cs c.args.choices.now)
     (sym (e ∙ ap (λ (cs : List Column). before ++ cs) last ∙ append-nil before)) l)
 
 pub returns-after-loop-choice-clause-borrowed : goal.returns-after-loop-choice-clause-borrowed
-returns-after-loop-choice-clause-borrowed t c = λ lent before after e h l levels.
+returns-after-loop-choice-clause-borrowed t c = λ which before after e h l levels.
     let some : 0 < length c.args.levels.now =
     (let k = c.in-len1-up.len_at_least in omega (arith, k)) in
-    let r = subst (LevelsLend lent after) (sym (first_and_rest c.args.levels.now
+    let r = subst (LevelsBorrow which after) (sym (first_and_rest c.args.levels.now
     c.level-item.result some c.level-item.is)) levels in
-    c.loop-choice.invariant.borrowed lent before r.0 r.1
+    c.loop-choice.invariant.borrowed which before r.0 r.1
     (e ∙ ap (λ (cs : List Column). before ++ cs) r.2 ∙ sym (append_assoc before r.0 r.1)) h l
     r.3 r.4
 

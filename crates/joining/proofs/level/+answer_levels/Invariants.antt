@@ -6,8 +6,8 @@ use Rattle.prima_base.specs.Order.{row_cmp}
 use Rattle.prima_base.specs.Timed.{entries_of, rows_at}
 use Rattle.cond_expr.specs.Seen.{tree, test}
 use Rattle.cond_expr.specs.declared.expr.Column.{Column}
-use Rattle.timed_choices.specs.Lending.{Lent, RowsLend, AllStayBorrowed}
-use Rattle.joining.specs.Levels.{LevelLends, LevelsLend}
+use Rattle.timed_choices.specs.BorrowedOutputs.{BorrowedValues, RowsBorrow, AllStayBorrowed}
+use Rattle.joining.specs.Levels.{LevelBorrows, LevelsBorrow}
 use Rattle.joining.proofs.LevelLaws.{of_choice}
 use Rattle.joining.proofs.level.+answer_levels.Given as goal
 
@@ -16,12 +16,13 @@ decreases-answer_levels l = length l.levels.now
 
 abbrev pub invariant-loop-choice : goal.invariant-loop-choice
 invariant-loop-choice l = record {
-  borrowed : (lent : Lent) → (before : List Column) → (own : List Column) → (after : List Column)
+  borrowed : (which : BorrowedValues) → (before : List Column) → (own : List Column)
+      → (after : List Column)
       → l.columns ≡ (before ++ own) ++ after
-      → AllStayBorrowed lent (map tree l.outs) l.initial.answered.rows.items
-      → RowsLend lent before l.choices → LevelLends lent own l.level
-      → LevelsLend lent after l.rest
-      → AllStayBorrowed lent (map tree l.outs) l.answered.rows.items;
+      → AllStayBorrowed which (map tree l.outs) l.initial.answered.rows.items
+      → RowsBorrow which before l.choices → LevelBorrows which own l.level
+      → LevelsBorrow which after l.rest
+      → AllStayBorrowed which (map tree l.outs) l.answered.rows.items;
   rows : (m : ℕ) → covers l.slice m ≡ true
       → rows_at l.answered.rows.items m ≡ at row_cmp
       (entries_of l.initial.answered.rows.items

@@ -10,7 +10,7 @@ use Rattle.prima_base.specs.Timed.{entry_of, entries_of}
 use Rattle.timed_choices.specs.Choosing.{paired, pairs}
 use Rattle.timed_choices.specs.Keeping.{picked, agrees, passing, kept, in_group, borrowed_tests}
 use Rattle.timed_choices.specs.Keeping.{AllValid}
-use Rattle.timed_choices.specs.Lending.{RowLends, RowsLend}
+use Rattle.timed_choices.specs.BorrowedOutputs.{RowBorrows, RowsBorrow}
 use Rattle.timed_choices.proofs.Groups.{shown_kept}
 use Rattle.timed_choices.proofs.JoinLaws.{fit_valid, fits, one_joined}
 use Rattle.timed_choices.proofs.BorrowedLaws.{each_kept}
@@ -63,9 +63,9 @@ returns-clause-valid c = λ key.
     (fit_valid c.args.source.width (entries_of c.args.source.rows.items) c.args.source.fit))
 
 pub returns-clause-borrowed : goal.returns-clause-borrowed
-returns-clause-borrowed c = λ lent own l key.
-    subst (RowsLend lent own) (sym (in_one (goal.at.returns-clause-borrowed c).In_ok-groups key))
-    (each_kept (RowLends lent own) (λ (t : TimedRow). is_eq (row_cmp
+returns-clause-borrowed c = λ which own l key.
+    subst (RowsBorrow which own) (sym (in_one (goal.at.returns-clause-borrowed c).In_ok-groups key))
+    (each_kept (RowBorrows which own) (λ (t : TimedRow). is_eq (row_cmp
     (picked c.in_ok-keys.keys.other.items (entry_of t).item) key)) c.args.source.rows.items l)
 
 pub returns-clause-wide : goal.returns-clause-wide

@@ -10,8 +10,8 @@ use Rattle.timed_choices.specs.Fitting.{Fit}
 use Rattle.timed_choices.specs.Keeping.{meets_all, borrowed_tests}
 use Rattle.joining.specs.declared.level.Level.{Level}
 use Rattle.joining.specs.declared.source.Source.{Source}
-use Rattle.joining.specs.Levels.{made_through, AreValidLevels, LevelsLend}
-use Rattle.joining.specs.Sources.{SourcesLend, held_of}
+use Rattle.joining.specs.Levels.{made_through, AreValidLevels, LevelsBorrow}
+use Rattle.joining.specs.Sources.{SourcesBorrow, held_of}
 use Rattle.joining.proofs.LevelLaws.{through_more, valid_more, levels_more, none_left}
 use Rattle.joining.proofs.level.levels_of.Goals as goal
 
@@ -33,16 +33,16 @@ sources-preserved c =
           );
       valid = subst AreValidLevels (sym c.in_ok-push.ensures.items)
           (valid_more before level c.sources.invariant.valid c.in_ok-level_of.ensures.valid);
-      borrowed = λ lent all h.
-          let so = c.sources.invariant.borrowed lent all h in
-          let here = subst (SourcesLend lent so.1) c.in-Some.ensures.items so.4 in (
+      borrowed = λ which all h.
+          let so = c.sources.invariant.borrowed which all h in
+          let here = subst (SourcesBorrow which so.1) c.in-Some.ensures.items so.4 in (
             so.0 ++ here.0,
             here.1,
             so.2 ∙ ap (λ (cs : List Column). so.0 ++ cs) here.2
                 ∙ sym (append_assoc so.0 here.0 here.1),
-            subst (LevelsLend lent (so.0 ++ here.0)) (sym c.in_ok-push.ensures.items)
-                (levels_more lent so.0 here.0 before level so.3
-                (c.in_ok-level_of.ensures.borrowed lent here.0 here.3)),
+            subst (LevelsBorrow which (so.0 ++ here.0)) (sym c.in_ok-push.ensures.items)
+                (levels_more which so.0 here.0 before level so.3
+                (c.in_ok-level_of.ensures.borrowed which here.0 here.3)),
             here.4,
           );
       wide = λ ps f.
@@ -72,11 +72,11 @@ pub sources-init : goal.sources-init
 sources-init c = record {
   room = (let k = c.requires in omega (arith, k));
   valid = subst AreValidLevels (sym c.new-levels.ensures.items) tt;
-  borrowed = λ lent all h. (
+  borrowed = λ which all h. (
     [],
     all,
     refl,
-    subst (LevelsLend lent []) (sym c.new-levels.ensures.items) refl,
+    subst (LevelsBorrow which []) (sym c.new-levels.ensures.items) refl,
     h,
   );
   wide = λ ps f. subst (λ (ls : List Level). Fit 0 (made_through c.args.columns.now ls ps))
@@ -88,13 +88,13 @@ sources-init c = record {
 }
 
 pub returns-clause-borrowed : goal.returns-clause-borrowed
-returns-clause-borrowed c = λ lent all h.
-    let so = c.sources.invariant.borrowed lent all h in
+returns-clause-borrowed c = λ which all h.
+    let so = c.sources.invariant.borrowed which all h in
     let none : c.sources.sources.items ≡ [] =
     none_left c.sources.sources.items c.pop_front.new.self.items c.in_default.ensures.items
     c.in_default.ensures.rest in
-    let last : so.1 ≡ [] = subst (SourcesLend lent so.1) none so.4 in
-    subst (λ (cs : List Column). LevelsLend lent cs c.sources.levels.items)
+    let last : so.1 ≡ [] = subst (SourcesBorrow which so.1) none so.4 in
+    subst (λ (cs : List Column). LevelsBorrow which cs c.sources.levels.items)
     (sym (so.2 ∙ ap (λ (cs : List Column). so.0 ++ cs) last ∙ append-nil so.0)) so.3
 
 pub returns-clause-joined : goal.returns-clause-joined

@@ -6,19 +6,20 @@ use Rattle.cond_expr.specs.declared.expr.Column.{Column}
 use Rattle.timed_choices.specs.Choosing.{completed}
 use Rattle.timed_choices.specs.Fitting.{Fit}
 use Rattle.timed_choices.specs.Keeping.{meets_all, borrowed_tests}
-use Rattle.timed_choices.specs.Lending.{Lent}
+use Rattle.timed_choices.specs.BorrowedOutputs.{BorrowedValues}
 use Rattle.joining.specs.declared.source.Source.{Source}
-use Rattle.joining.specs.Levels.{made_through, AreValidLevels, LevelsLend}
-use Rattle.joining.specs.Sources.{SourcesLend, held_of}
+use Rattle.joining.specs.Levels.{made_through, AreValidLevels, LevelsBorrow}
+use Rattle.joining.specs.Sources.{SourcesBorrow, held_of}
 use Rattle.joining.proofs.level.levels_of.Given as goal
 
 abbrev pub invariant-sources : goal.invariant-sources
 invariant-sources l = record {
   room : l.taken + sum_by (λ (s : Source). s.width) l.sources.items < 2 ^ 64;
   valid : AreValidLevels l.levels.items;
-  borrowed : (lent : Lent) → (all : List Column) → SourcesLend lent all l.initial.sources.items
+  borrowed : (which : BorrowedValues) → (all : List Column)
+      → SourcesBorrow which all l.initial.sources.items
       → (before : List Column) × (after : List Column) × (all ≡ before ++ after)
-      × LevelsLend lent before l.levels.items × SourcesLend lent after l.sources.items;
+      × LevelsBorrow which before l.levels.items × SourcesBorrow which after l.sources.items;
   wide : (ps : List (Entry (List Value))) → Fit 0 ps
       → Fit l.taken (made_through l.columns l.levels.items ps);
   joined : (ps : List (Entry (List Value))) → Fit 0 ps → (m : ℕ)

@@ -3,7 +3,7 @@ use Rattle.std.proofs.lemmas.List.{append-nil}
 use Rattle.std.proofs.lemmas.Bool.Decides.{nat_tests}
 use Rattle.joining.specs.declared.source.Atom.{Atom}
 use Rattle.timed_choices.specs.Blocks.{answered}
-use Rattle.joining.proofs.AtomOrder.{one_lends, one_moved, numbered_left, nothing_left}
+use Rattle.joining.proofs.AtomOrder.{one_borrows, one_moved, numbered_left, nothing_left}
 use Rattle.joining.proofs.order.in_order.Goals as goal
 use Rattle.joining.specs.Sources.{blocks_of}
 
@@ -22,14 +22,15 @@ atoms-preserved c =
           c.remove-atom.ensures.value c.atoms.invariant.numbered c.in_ok-push.ensures.items
           c.remove-atom.ensures.items outs cond m
           ∙ c.atoms.invariant.same outs cond m;
-      borrowed = λ lent h. one_lends lent c.atoms.done.items c.atoms.left.items c.push.new.self.items
+      borrowed = λ which h. one_borrows which c.atoms.done.items c.atoms.left.items
+          c.push.new.self.items
           c.remove-atom.new.self.items c.next_of-i.result c.remove-atom.result l
           c.remove-atom.ensures.value c.in_ok-push.ensures.items c.remove-atom.ensures.items
-          (c.atoms.invariant.borrowed lent h);
+          (c.atoms.invariant.borrowed which h);
     }
 
 pub returns-clause-borrowed : goal.returns-clause-borrowed
-returns-clause-borrowed c = λ lent h. (c.atoms.invariant.borrowed lent h).0
+returns-clause-borrowed c = λ which h. (c.atoms.invariant.borrowed which h).0
 
 pub returns-clause-same : goal.returns-clause-same
 returns-clause-same c = λ outs cond m.

@@ -2,9 +2,9 @@ use Rattle.std.proofs.Common.{◌≡◌, ◌++◌, ℕ, length}
 use Rattle.cond_expr.specs.Trees.{Tree, Test}
 use Rattle.std.specs.Prelude.{List}
 use Rattle.timed_choices.specs.Blocks.{answered}
-use Rattle.timed_choices.specs.Lending.{Lent}
+use Rattle.timed_choices.specs.BorrowedOutputs.{BorrowedValues}
 use Rattle.joining.proofs.order.in_order.Given as goal
-use Rattle.joining.specs.Sources.{AtomsLend, blocks_of, AreNumbered}
+use Rattle.joining.specs.Sources.{AtomsBorrow, blocks_of, AreNumbered}
 
 abbrev pub invariant-atoms : goal.invariant-atoms
 invariant-atoms l = record {
@@ -12,8 +12,9 @@ invariant-atoms l = record {
   same : (outs : List Tree) (cond : Test) (m : ℕ)
       → answered outs cond (blocks_of m l.done.items ++ blocks_of m l.left.items)
       ≡ answered outs cond (blocks_of m l.initial.left.items);
-  borrowed : (lent : Lent) → AtomsLend lent l.initial.left.items → AtomsLend lent l.done.items
-      × AtomsLend lent l.left.items;
+  borrowed : (which : BorrowedValues) → AtomsBorrow which l.initial.left.items
+      → AtomsBorrow which l.done.items
+      × AtomsBorrow which l.left.items;
 }
 
 abbrev pub decreases-atoms : goal.decreases-atoms

@@ -15,14 +15,14 @@ use Rattle.timed_choices.specs.Answering.{outputs, one_row}
 use Rattle.timed_choices.specs.Blocks.{types_of}
 use Rattle.joining.proofs.AtomOrder.{types_is}
 use Rattle.joining.proofs.order.join_in_order.Goals as goal
-use Rattle.joining.specs.Sources.{SourcesLend, relations_of, blocks_of}
+use Rattle.joining.specs.Sources.{SourcesBorrow, relations_of, blocks_of}
 
 pub returns-clause-borrowed : goal.returns-clause-borrowed
-returns-clause-borrowed c = λ lent h. c.join_rows.ensures.borrowed lent
-    (subst (λ (cs : List Column). SourcesLend lent cs c.in_ok-types.sources.items)
+returns-clause-borrowed c = λ which h. c.join_rows.ensures.borrowed which
+    (subst (λ (cs : List Column). SourcesBorrow which cs c.in_ok-types.sources.items)
     (sym c.deref-3.ensures.value)
-    (c.in_ok-types.ensures.borrowed lent
-    (c.in_ok-atoms.ensures.borrowed lent (c.in_ok-left.ensures.borrowed lent h))))
+    (c.in_ok-types.ensures.borrowed which
+    (c.in_ok-atoms.ensures.borrowed which (c.in_ok-left.ensures.borrowed which h))))
 
 pub returns-clause-rows : goal.returns-clause-rows
 returns-clause-rows c = λ m h. IfOk-weaker c.join_rows.result _ _

@@ -5,8 +5,8 @@ use Rattle.std.proofs.lemmas.List.{map-append}
 use Rattle.joining.specs.declared.source.Source.{Source}
 use Rattle.timed_choices.specs.Fitting.{Fit}
 use Rattle.cond_expr.specs.declared.expr.Column.{Column}
-use Rattle.timed_choices.specs.Lending.{RowLends}
-use Rattle.joining.specs.Sources.{SourcesLend, relations_of}
+use Rattle.timed_choices.specs.BorrowedOutputs.{RowBorrows}
+use Rattle.joining.specs.Sources.{SourcesBorrow, relations_of}
 use Rattle.joining.proofs.AtomOrder.{sources_with}
 use Rattle.joining.proofs.TurnLaws.{fit_moved, at_moved, each_moved}
 use Rattle.joining.proofs.order.put_apart.Goals as goal
@@ -27,11 +27,12 @@ returns-clause-rows c = λ m.
     (at_moved c.args.atom.rows.items c.in_turn.result.items c.in_turn.ensures m)
 
 pub returns-clause-borrowed : goal.returns-clause-borrowed
-returns-clause-borrowed c = λ lent h k.
-    subst (λ (cs : List Column). SourcesLend lent cs c.push_back.new.self.items)
+returns-clause-borrowed c = λ which h k.
+    subst (λ (cs : List Column). SourcesBorrow which cs c.push_back.new.self.items)
     (sym c.in_ok-append.ensures.items)
-    (subst (SourcesLend lent (c.args.types.now.items ++ c.args.atom.columns.items))
+    (subst (SourcesBorrow which (c.args.types.now.items ++ c.args.atom.columns.items))
     (sym c.in_ok-push_back.ensures.items)
-    (sources_with lent c.args.types.now.items c.args.atom.columns.items c.args.sources.now.items _ h
+    (sources_with which c.args.types.now.items c.args.atom.columns.items c.args.sources.now.items _
+    h
     (each_moved c.args.atom.rows.items c.in_turn.result.items c.in_turn.ensures
-    (RowLends lent c.args.atom.columns.items) k)))
+    (RowBorrows which c.args.atom.columns.items) k)))

@@ -1,5 +1,5 @@
 use Rattle.std.proofs.Common.{[], ◌∷◌, ap, arith, length, length-append}
-use Rattle.joining.proofs.AtomOrder.{atoms_lend, columns_more, rows_more}
+use Rattle.joining.proofs.AtomOrder.{atoms_borrow, columns_more, rows_more}
 use Rattle.joining.proofs.order.taken_apart.Goals as goal
 use Rattle.joining.specs.Sources.{relations_of}
 
@@ -16,6 +16,6 @@ loop-atom-preserved c = record {
     c.in_ok-put_apart.ensures.widths,
     simp length-append at (ap length c.in_ok-put_apart.ensures.types),
   );
-  borrowed = λ lent h. (let p = atoms_lend lent c.loop-atom.yielded (c.in-Some.atom ∷ []) h in
-      c.in_ok-put_apart.ensures.borrowed lent (c.loop-atom.invariant.borrowed lent p.0) p.1.0);
+  borrowed = λ which h. (let p = atoms_borrow which c.loop-atom.yielded (c.in-Some.atom ∷ []) h in
+      c.in_ok-put_apart.ensures.borrowed which (c.loop-atom.invariant.borrowed which p.0) p.1.0);
 }

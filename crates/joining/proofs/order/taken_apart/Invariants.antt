@@ -2,15 +2,15 @@ use Rattle.std.proofs.Common.{◌≡◌, ℕ, length}
 use Rattle.std.specs.List.{sum_by}
 use Rattle.joining.specs.declared.source.Source.{Source}
 use Rattle.timed_choices.specs.Blocks.{rows_of}
-use Rattle.timed_choices.specs.Lending.{Lent}
+use Rattle.timed_choices.specs.BorrowedOutputs.{BorrowedValues}
 use Rattle.joining.proofs.order.taken_apart.Given as goal
-use Rattle.joining.specs.Sources.{AtomsLend, SourcesLend, relations_of, columns_of, blocks_of}
+use Rattle.joining.specs.Sources.{AtomsBorrow, SourcesBorrow, relations_of, columns_of, blocks_of}
 
 abbrev pub invariant-loop-atom : goal.invariant-loop-atom
 invariant-loop-atom l = record {
   types : l.types.items ≡ columns_of l.yielded;
   rows : (m : ℕ) → relations_of l.sources.items m ≡ rows_of (blocks_of m l.yielded);
   widths : sum_by (λ (s : Source). s.width) l.sources.items ≡ length l.types.items;
-  borrowed : (lent : Lent) → AtomsLend lent l.yielded
-      → SourcesLend lent l.types.items l.sources.items;
+  borrowed : (which : BorrowedValues) → AtomsBorrow which l.yielded
+      → SourcesBorrow which l.types.items l.sources.items;
 }

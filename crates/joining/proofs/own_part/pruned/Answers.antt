@@ -3,7 +3,7 @@ use Rattle.prima_base.specs.Timed.{entries_of}
 use Rattle.cond_expr.specs.declared.expr.Column.{Column}
 use Rattle.timed_choices.specs.Keeping.{borrowed_tests, AreOwnParts}
 use Rattle.timed_choices.proofs.JoinLaws.{fit_valid}
-use Rattle.timed_choices.specs.Lending.{RowLends}
+use Rattle.timed_choices.specs.BorrowedOutputs.{RowBorrows}
 use Rattle.joining.proofs.PrunedRows.{kept_by, fit_kept, each_kept_too, pruned_by}
 use Rattle.joining.proofs.own_part.pruned.Goals as goal
 
@@ -23,12 +23,12 @@ invariant_of-result c = record {
 }
 
 pub returns-clause-borrowed : goal.returns-clause-borrowed
-returns-clause-borrowed c = λ lent. each_kept_too c.args.atom.columns.items
+returns-clause-borrowed c = λ which. each_kept_too c.args.atom.columns.items
     (borrowed_tests c.in_ok-own.own.items) c.args.atom.rows.items c.in_ok-rows.rows.items
     (kept_by c.args.atom.columns.items c.deref-2.result.now c.in_ok-own.own.items
     c.deref-3.result.now c.args.atom.rows.items c.in_ok-rows.rows.items c.in_ok-rows.ensures
     c.deref-2.ensures.value c.deref-3.ensures.value)
-    (RowLends lent c.args.atom.columns.items)
+    (RowBorrows which c.args.atom.columns.items)
 
 pub returns-clause-pruned : goal.returns-clause-pruned
 returns-clause-pruned c = λ m. pruned_by (borrowed_tests c.args.parts.now)

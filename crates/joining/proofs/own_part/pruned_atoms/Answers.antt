@@ -5,9 +5,9 @@ use Rattle.std.proofs.lemmas.List.{append-nil}
 use Rattle.cond_expr.specs.Trees.{Test}
 use Rattle.timed_choices.specs.Blocks.{IsPruned}
 use Rattle.joining.specs.declared.source.Atom.{Atom}
-use Rattle.joining.specs.Sources.{AtomsLend, block_of}
+use Rattle.joining.specs.Sources.{AtomsBorrow, block_of}
 use Rattle.joining.proofs.AtomOrder.{nothing_left}
-use Rattle.joining.proofs.PrunedRows.{numbered_more, lends_more, same_more, numbered_all}
+use Rattle.joining.proofs.PrunedRows.{numbered_more, borrows_more, same_more, numbered_all}
 use Rattle.joining.proofs.PrunedRows.{same_all}
 use Rattle.joining.proofs.own_part.pruned_atoms.Goals as goal
 
@@ -25,9 +25,9 @@ loop-atom-preserved c =
           ap length steps in omega arith);
       numbered = numbered_more at.yielded at.done.items c.push.new.self.items a d
           c.in_ok-push.ensures.items at.invariant.numbered (c.in_ok-pruned.ensures.pruned 0).number;
-      borrowed = λ lent. lends_more at.yielded at.done.items c.push.new.self.items a d
-          c.in_ok-push.ensures.items at.invariant.numbered lent (at.invariant.borrowed lent)
-          (c.in_ok-pruned.ensures.borrowed lent);
+      borrowed = λ which. borrows_more at.yielded at.done.items c.push.new.self.items a d
+          c.in_ok-push.ensures.items at.invariant.numbered which (at.invariant.borrowed which)
+          (c.in_ok-pruned.ensures.borrowed which);
       same = λ outs cond e m rest h. same_more at.yielded at.done.items c.push.new.self.items a d
           c.in_ok-push.ensures.items at.invariant.numbered outs cond m
           (subst (λ (ps : List Test). IsPruned ps (block_of m a) (block_of m d)) e
@@ -44,13 +44,13 @@ returns-clause-numbered c =
     numbered_all c.args.atoms.items at.yielded at.done.items all c.requires at.invariant.numbered
 
 pub returns-clause-borrowed : goal.returns-clause-borrowed
-returns-clause-borrowed c = λ lent h.
+returns-clause-borrowed c = λ which h.
     let at = c.loop-atom in
     let empty : into_iter_items at.atom-iterator ≡ [] =
     nothing_left _ (sym at.invariant.count ∙ c.in-None.ensures.steps.0) in
     let all : at.yielded ≡ c.args.atoms.items = sym (append-nil at.yielded)
     ∙ ap (λ (xs : List Atom). at.yielded ++ xs) (sym empty) ∙ at.invariant.whole in
-    at.invariant.borrowed lent (subst (AtomsLend lent) (sym all) h)
+    at.invariant.borrowed which (subst (AtomsBorrow which) (sym all) h)
 
 pub returns-clause-same : goal.returns-clause-same
 returns-clause-same c = λ outs cond e m.

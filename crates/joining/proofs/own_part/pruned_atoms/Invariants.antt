@@ -4,9 +4,9 @@ use Rattle.cond_expr.specs.Trees.{Tree, Test}
 use Rattle.timed_choices.specs.Keeping.{borrowed_tests}
 use Rattle.cond_expr.specs.Parts.{parts}
 use Rattle.timed_choices.specs.Blocks.{answered}
-use Rattle.timed_choices.specs.Lending.{Lent}
+use Rattle.timed_choices.specs.BorrowedOutputs.{BorrowedValues}
 use Rattle.joining.specs.declared.source.Atom.{Atom}
-use Rattle.joining.specs.Sources.{AtomsLend, blocks_of, AreNumbered}
+use Rattle.joining.specs.Sources.{AtomsBorrow, blocks_of, AreNumbered}
 use Rattle.joining.proofs.own_part.pruned_atoms.Given as goal
 
 abbrev pub invariant-loop-atom : goal.invariant-loop-atom
@@ -15,7 +15,8 @@ invariant-loop-atom l = record {
   count : into_iter_len l.atom-iterator ≡ length (into_iter_items l.atom-iterator);
   numbered : (rest : List Atom) → AreNumbered (l.yielded ++ rest)
       → AreNumbered (l.done.items ++ rest);
-  borrowed : (lent : Lent) → AtomsLend lent l.yielded → AtomsLend lent l.done.items;
+  borrowed : (which : BorrowedValues) → AtomsBorrow which l.yielded
+      → AtomsBorrow which l.done.items;
   same : (outs : List Tree) (cond : Test) → borrowed_tests l.parts ≡ parts cond
       → (m : ℕ) (rest : List Atom) → AreNumbered (l.yielded ++ rest)
       → answered outs cond (blocks_of m (l.done.items ++ rest))

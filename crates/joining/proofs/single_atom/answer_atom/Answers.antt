@@ -12,7 +12,7 @@ use Rattle.cond_expr.specs.Seen.{tree, test}
 use Rattle.timed_choices.specs.Answering.{one_row, outputs}
 use Rattle.timed_choices.specs.Fitting.{Fit}
 use Rattle.timed_choices.specs.Keeping.{meets}
-use Rattle.timed_choices.specs.Lending.{RowsLend}
+use Rattle.timed_choices.specs.BorrowedOutputs.{RowsBorrow}
 use Rattle.joining.proofs.SingleAtoms.{answered_at, unanswered_at}
 use Rattle.joining.proofs.single_atom.answer_atom.Goals as goal
 
@@ -21,8 +21,8 @@ answered_rows-requires c = subst (λ (cs : List Column).
     Fit (length cs) (entries_of c.args.atom.rows.items)) (sym c.deref.ensures.value) c.args.atom.fit
 
 pub returns-clause-borrowed : goal.returns-clause-borrowed
-returns-clause-borrowed c = λ lent l. c.answered_rows.ensures.borrowed lent
-    (subst (λ (cs : List Column). RowsLend lent cs c.args.atom.rows.items)
+returns-clause-borrowed c = λ which l. c.answered_rows.ensures.borrowed which
+    (subst (λ (cs : List Column). RowsBorrow which cs c.args.atom.rows.items)
     (sym c.deref.ensures.value) l)
 
 pub returns-clause-inside : goal.returns-clause-inside

@@ -22,7 +22,7 @@ returns-then-are_columns-clause-rows c = IfOk-weaker c.own_rows.result _ _
     c.own_rows.ensures.rows
 
 pub returns-then-are_columns-clause-borrowed : goal.returns-then-are_columns-clause-borrowed
-returns-then-are_columns-clause-borrowed c = λ lent h. IfOk-weaker c.own_rows.result _ _
-    (λ v q. own_borrowed lent c.args.columns.now (map tree c.args.outs.now) c.args.rows.items
+returns-then-are_columns-clause-borrowed c = λ which h. IfOk-weaker c.own_rows.result _ _
+    (λ v q. own_borrowed which c.args.columns.now (map tree c.args.outs.now) c.args.rows.items
     v.items (c.are_columns.ensures c.if-are_columns.true) q h)
     c.own_rows.ensures.values

@@ -5,7 +5,7 @@ use Rattle.prima_base.specs.declared.timed_row.TimedRow.{TimedRow}
 use Rattle.prima_base.specs.Timed.{entry_of, entries_of}
 use Rattle.cond_expr.specs.Seen.{tree, test}
 use Rattle.timed_choices.specs.Keeping.{AllValid}
-use Rattle.timed_choices.specs.Lending.{RowsLend, AllStayBorrowed}
+use Rattle.timed_choices.specs.BorrowedOutputs.{RowsBorrow, AllStayBorrowed}
 use Rattle.joining.proofs.SingleAtoms.{row_more}
 use Rattle.joining.proofs.single_atom.made_rows.Goals as goal
 
@@ -28,12 +28,12 @@ loop-row-preserved c =
           c.in_ok-put_in_slice.ensures.rows;
       left = λ e i. c.loop-row.invariant.left e
           (subst (λ (rows : List TimedRow). In e (entries_of rows)) (sym steps) (inr i));
-      borrowed = λ lent h.
-          let before = c.loop-row.invariant.borrowed lent h in
-          let both : RowsLend lent c.args.columns.now
+      borrowed = λ which h.
+          let before = c.loop-row.invariant.borrowed which h in
+          let both : RowsBorrow which c.args.columns.now
           (c.in-Some.row ∷ into_iter_items c.next.new.self) =
-          subst (RowsLend lent c.args.columns.now) steps before.1 in
-          (c.in_ok-put_in_slice.ensures.borrowed lent before.0 both.0, both.1);
+          subst (RowsBorrow which c.args.columns.now) steps before.1 in
+          (c.in_ok-put_in_slice.ensures.borrowed which before.0 both.0, both.1);
     }
 
 pub loop-row-init : goal.loop-row-init
@@ -42,12 +42,12 @@ loop-row-init c =
     record {
       rows = ap (λ (rows : List TimedRow). entries_of rows) c.in_ok-made.ensures.items;
       left = subst (λ (rows : List TimedRow). AllValid (entries_of rows)) (sym given) c.requires;
-      borrowed = λ lent h. (
-        subst (AllStayBorrowed lent (map tree c.args.outs.now))
+      borrowed = λ which h. (
+        subst (AllStayBorrowed which (map tree c.args.outs.now))
             (sym c.in_ok-made.ensures.items) tt,
-        subst (RowsLend lent c.args.columns.now) (sym given) h,
+        subst (RowsBorrow which c.args.columns.now) (sym given) h,
       );
     }
 
 pub returns-clause-borrowed : goal.returns-clause-borrowed
-returns-clause-borrowed c = λ lent h. (c.loop-row.invariant.borrowed lent h).0
+returns-clause-borrowed c = λ which h. (c.loop-row.invariant.borrowed which h).0

@@ -9,7 +9,7 @@ use Rattle.prima_base.specs.declared.value.Value.{Value}
 use Rattle.prima_base.specs.declared.value.Val.{Val}
 use Rattle.prima_base.specs.Order.{row_cmp, shown}
 use Rattle.prima_base.specs.Timed.{entry_of, entries_of}
-use Rattle.timed_choices.specs.Lending.{RowsLend}
+use Rattle.timed_choices.specs.BorrowedOutputs.{RowsBorrow}
 use Rattle.timed_choices.specs.Choosing.{paired}
 use Rattle.timed_choices.specs.Keeping.{picked, passing, in_group, borrowed_tests, AllValid}
 use Rattle.joining.proofs.step.put_choice.Goals as goal
@@ -50,8 +50,8 @@ returns-clause-rows c =
     (entry_of c.args.choice.now)) (entries_of rows)) here
 
 pub returns-in-Some-clause-borrowed : goal.returns-in-Some-clause-borrowed
-returns-in-Some-clause-borrowed c = λ lent before own h k l.
-    c.put_runs.ensures.borrowed lent before own h k
-    (subst (RowsLend lent own) (sym c.runs.ensures)
-    (subst (RowsLend lent own)
+returns-in-Some-clause-borrowed c = λ which before own h k l.
+    c.put_runs.ensures.borrowed which before own h k
+    (subst (RowsBorrow which own) (sym c.runs.ensures)
+    (subst (RowsBorrow which own)
     (ap in_group (sym c.get.ensures.value ∙ ap option_copied c.in-Some.is)) (l c.in_ok-key.key)))

@@ -1,7 +1,7 @@
 use Rattle.prima_base.specs.Timed.{entry_of, entries_of}
 use Rattle.timed_choices.specs.Choosing.{paired}
 use Rattle.timed_choices.specs.Keeping.{passing, borrowed_tests}
-use Rattle.timed_choices.specs.Lending.{RowLends}
+use Rattle.timed_choices.specs.BorrowedOutputs.{RowBorrows}
 use Rattle.timed_choices.proofs.BorrowedLaws.{each_at}
 use Rattle.timed_choices.proofs.OneMore.{flat_more}
 use Rattle.timed_choices.proofs.Tests.{valid_row}
@@ -18,8 +18,8 @@ loop-row-preserved c = record {
       (entries_of c.args.into.now.items) (entries_of c.loop-row.into.items)
       (entries_of c.put_pair.new.into.items)
       c.loop-row-test.true c.row-item.is c.loop-row.invariant.rows c.in_ok-put_pair.ensures.rows;
-  borrowed = λ lent before own h k l. c.in_ok-put_pair.ensures.borrowed lent before own
-      (c.loop-row.invariant.borrowed lent before own h k l) k
-      (each_at (RowLends lent own) c.args.rows.now c.loop-row.row-index c.row-item.result
+  borrowed = λ which before own h k l. c.in_ok-put_pair.ensures.borrowed which before own
+      (c.loop-row.invariant.borrowed which before own h k l) k
+      (each_at (RowBorrows which own) c.args.rows.now c.loop-row.row-index c.row-item.result
       c.loop-row-test.true c.row-item.is l);
 }

@@ -7,7 +7,7 @@ use Rattle.prima_base.specs.Timed.{entry_of, entries_of}
 use Rattle.timed_choices.specs.Choosing.{paired}
 use Rattle.timed_choices.specs.Keeping.{passing, borrowed_tests}
 use Rattle.timed_choices.proofs.OneMore.{flat_more}
-use Rattle.timed_choices.specs.Lending.{RowLends}
+use Rattle.timed_choices.specs.BorrowedOutputs.{RowBorrows}
 use Rattle.joining.proofs.NearRows.{near_pairs, near_each, valid_piece}
 use Rattle.joining.proofs.RunLaws.{runs_pairs, run_valid, run_each}
 use Rattle.joining.proofs.step.put_runs.Goals as goal
@@ -23,11 +23,11 @@ loop-run-preserved c =
     let keep = passing c.args.columns.now (borrowed_tests c.args.tests.now) in
     let p : Entry (List Value) = entry_of c.args.choice.now in
     record {
-      borrowed = λ lent before own h k l. c.in_ok-put_group.ensures.borrowed lent before own
-          (c.loop-run.invariant.borrowed lent before own h k l) k
-          (near_each (RowLends lent own) c.args.choice.now.period c.run-item.result
+      borrowed = λ which before own h k l. c.in_ok-put_group.ensures.borrowed which before own
+          (c.loop-run.invariant.borrowed which before own h k l) k
+          (near_each (RowBorrows which own) c.args.choice.now.period c.run-item.result
           c.near.result.now c.near.ensures
-          (run_each (RowLends lent own) c.args.runs.now c.loop-run.run-index c.run-item.result
+          (run_each (RowBorrows which own) c.args.runs.now c.loop-run.run-index c.run-item.result
           c.loop-run-test.true c.run-item.is l));
       rows = flat_more (flat_map (paired keep p)) entries_of c.args.runs.now c.loop-run.run-index
           c.run-item.result (entries_of c.args.into.now.items) (entries_of c.loop-run.into.items)

@@ -19,7 +19,7 @@ use Rattle.piece_meaning.specs.Books.{book_of}
 use Rattle.joining.specs.Sources.{atom_rows}
 use Rattle.join_exec.proofs.AtomSteps.{if_known}
 use Rattle.query_types.specs.Branches.{branch_of}
-use Rattle.timed_choices.specs.Lending.{AllStayBorrowed}
+use Rattle.timed_choices.specs.BorrowedOutputs.{AllStayBorrowed}
 use Rattle.query_exec.specs.Accepted.{MayItems}
 use Rattle.query_exec.specs.Borrowed.{AllSpare}
 use Rattle.query_exec.specs.QueryPieces.{items_pieces, AreAlive, IsAlive}
@@ -126,18 +126,18 @@ returns-clause-borrowed g c =
     ++ all_references (map tree xs) (test c.args.branch.now.cond)) c.deref.ensures.value
     ∙ ap (λ (rs : List (Bor ColRef)). borrowed rs ++ all_references b.outs b.cond)
     c.new-references.ensures.items in
-    λ number lents h.
+    λ number by_branch h.
     IfOk-weaker c.answer_choices.result _ _
-    (λ rows l. subst (λ (xs : List Expr). AllStayBorrowed (lents number) (map tree xs)
+    (λ rows l. subst (λ (xs : List Expr). AllStayBorrowed (by_branch number) (map tree xs)
     rows.items) c.deref-4.ensures.value l)
-    (c.answer_choices.ensures.borrowed (lents number)
-    (c.in_ok-atoms.ensures.borrowed number lents
-    (subst (λ (from : List Item). AllSpare c.args.groups.now lents
+    (c.answer_choices.ensures.borrowed (by_branch number)
+    (c.in_ok-atoms.ensures.borrowed number by_branch
+    (subst (λ (from : List Item). AllSpare c.args.groups.now by_branch
     (items_pieces (book_of (λ r. (goal.Rule-dyn g (r.vtable, r.value)).handles r.value)
     (λ r. (goal.Rule-dyn g (r.vtable, r.value)).answers r.value) c.args.book.now.rules.items)
     (versions_in c.args.groups.now) c.args.route.now.asked c.args.route.now.parts.items
     (borrowed c.deref-3.result.now) b.cond number 0 from)) (sym c.deref-2.ensures.value)
-    (subst (λ (rs : List ColRef). AllSpare c.args.groups.now lents
+    (subst (λ (rs : List ColRef). AllSpare c.args.groups.now by_branch
     (items_pieces (book_of (λ r. (goal.Rule-dyn g (r.vtable, r.value)).handles r.value)
     (λ r. (goal.Rule-dyn g (r.vtable, r.value)).answers r.value) c.args.book.now.rules.items)
     (versions_in c.args.groups.now) c.args.route.now.asked c.args.route.now.parts.items rs

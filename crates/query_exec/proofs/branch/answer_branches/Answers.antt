@@ -12,7 +12,7 @@ use Rattle.piece_meaning.specs.Books.{book_of}
 use Rattle.query_types.specs.Branches.{branch_of, branches_of}
 use Rattle.query_types.specs.declared.branch.Branch.{Branch}
 use Rattle.query_exec.specs.QueryPieces.{branches_pieces, IsAlive}
-use Rattle.timed_choices.specs.Lending.{EachRow}
+use Rattle.timed_choices.specs.BorrowedOutputs.{EachRow}
 use Rattle.query_exec.specs.Borrowed.{IsAnswered, IsBorrowedBy, AllSpare}
 use Rattle.query_exec.specs.Reads.{reads_of}
 use Rattle.query_exec.proofs.AliveLaws.{Owes, owes_all, owes_within, IsLeftOrRead, all_read}
@@ -30,11 +30,11 @@ loop-branch-init g c = record {
       c.new-rows.ensures.items
       ∙ none_answered (branch_answers (tables_of past c.args.route.now.asked)
       (migrated past m c.args.route.now.asked)) m;
-  borrowed = λ past represents number lents h.
+  borrowed = λ past represents number by_branch h.
       let e : number ≡ number + 0 = omega arith in (
         subst (EachRow (IsBorrowedBy (IsAnswered past c.args.route.now.asked c.args.route.now.slice)
-            lents number (branches_of c.args.branches.now))) (sym c.new-rows.ensures.items) tt,
-        subst (λ (n : ℕ). AllSpare c.args.groups.now lents
+            by_branch number (branches_of c.args.branches.now))) (sym c.new-rows.ensures.items) tt,
+        subst (λ (n : ℕ). AllSpare c.args.groups.now by_branch
             (branches_pieces (book_of (λ r. (goal.Rule-dyn g (r.vtable, r.value)).handles r.value)
             (λ r. (goal.Rule-dyn g (r.vtable, r.value)).answers r.value)
             c.args.book.now.rules.items) (versions_in c.args.groups.now) c.args.route.now.asked
@@ -89,21 +89,21 @@ loop-branch-preserved g c =
           c.in_ok-news.news.items c.put_rows.new.rows.items m c.in_ok-put_rows.ensures.items
           (c.loop-branch.invariant.rows past represents m inside)
           (c.in_ok-news.ensures.rows past represents m inside);
-      borrowed = λ past represents number lents h.
-          let before = c.loop-branch.invariant.borrowed past represents number lents h in
-          let both = next_branch_pieces c.args.groups.now lents
+      borrowed = λ past represents number by_branch h.
+          let before = c.loop-branch.invariant.borrowed past represents number by_branch h in
+          let both = next_branch_pieces c.args.groups.now by_branch
           (book_of (λ r. (goal.Rule-dyn g (r.vtable, r.value)).handles r.value)
           (λ r. (goal.Rule-dyn g (r.vtable, r.value)).answers r.value)
           c.args.book.now.rules.items) c.args.route.now.asked c.args.route.now.parts.items bs i
           b below is number before.1 in (
-            branch_more (IsAnswered past c.args.route.now.asked c.args.route.now.slice) lents
+            branch_more (IsAnswered past c.args.route.now.asked c.args.route.now.slice) by_branch
                 number bs i b below is c.loop-branch.rows.items c.in_ok-news.news.items
                 c.put_rows.new.rows.items c.in_ok-put_rows.ensures.items before.0
                 (λ row m. row_answered past c.args.route.now.asked c.args.route.now.slice
                 (branch_of b) c.in_ok-news.news.items (c.in_ok-news.ensures.rows past represents)
                 c.in_ok-news.ensures.inside row m (c.have_moments.ensures row
                 (subst (In row) (sym c.deref.ensures.value) m)))
-                (c.in_ok-news.ensures.borrowed (number + i) lents both.0),
+                (c.in_ok-news.ensures.borrowed (number + i) by_branch both.0),
             both.1,
           );
       count = λ number alive h. branch_owes bs i b below is c.args.groups.now
@@ -191,8 +191,8 @@ returns-clause-cost g c = λ number alive h.
     (c.loop-branch.invariant.count number alive h)
 
 pub returns-clause-borrowed : goal.returns-clause-borrowed
-returns-clause-borrowed g c = λ past represents number lents h.
-    (c.loop-branch.invariant.borrowed past represents number lents h).0
+returns-clause-borrowed g c = λ past represents number by_branch h.
+    (c.loop-branch.invariant.borrowed past represents number by_branch h).0
 
 pub returns-clause-least : goal.returns-clause-least
 returns-clause-least g c = λ number e h.

@@ -11,8 +11,8 @@ use Rattle.piece_texts.specs.ExplainedPieces.{PlainExplained}
 use Rattle.query_types.specs.Branches.{branches_of}
 use Rattle.query_exec.specs.Accepted.{MayBranches}
 use Rattle.query_exec.specs.QueryPieces.{branches_pieces, AreAlive, IsAlive}
-use Rattle.timed_choices.specs.Lending.{EachRow}
-use Rattle.query_exec.specs.Borrowed.{Lents, IsAnswered, IsBorrowedBy, AllSpare}
+use Rattle.timed_choices.specs.BorrowedOutputs.{EachRow}
+use Rattle.query_exec.specs.Borrowed.{BorrowedByBranch, IsAnswered, IsBorrowedBy, AllSpare}
 use Rattle.query_exec.specs.Reads.{reads_of}
 use Rattle.query_exec.proofs.AliveLaws.{Owes, IsLeftOrRead}
 use Rattle.query_exec.proofs.branch.answer_branches.Given as goal
@@ -24,13 +24,13 @@ invariant-loop-branch g l = record {
       → rows_at l.rows.items m ≡ plain (tables_of past l.route.asked)
       (branches_of (take l.branch-index l.branches)) (migrated past m l.route.asked);
   borrowed : (past : Past) → Represents l.groups past → (number : ℕ)
-      → (lents : Lents) → AllSpare l.groups lents
+      → (by_branch : BorrowedByBranch) → AllSpare l.groups by_branch
       (branches_pieces (book_of (λ r. (goal.Rule-dyn g (r.vtable, r.value)).handles r.value)
       (λ r. (goal.Rule-dyn g (r.vtable, r.value)).answers r.value) l.book.rules.items)
       (versions_in l.groups) l.route.asked l.route.parts.items number (branches_of l.branches))
-      → EachRow (IsBorrowedBy (IsAnswered past l.route.asked l.route.slice) lents number
+      → EachRow (IsBorrowedBy (IsAnswered past l.route.asked l.route.slice) by_branch number
       (branches_of l.branches)) l.rows.items
-      × AllSpare l.groups lents
+      × AllSpare l.groups by_branch
       (branches_pieces (book_of (λ r. (goal.Rule-dyn g (r.vtable, r.value)).handles r.value)
       (λ r. (goal.Rule-dyn g (r.vtable, r.value)).answers r.value) l.book.rules.items)
       (versions_in l.groups) l.route.asked l.route.parts.items (number + l.branch-index)

@@ -13,7 +13,7 @@ use Rattle.joining.specs.declared.source.Atom.{Atom}
 use Rattle.query_exec.specs.Accepted.{IsRead, AreRead}
 use Rattle.query_exec.specs.Questions.{own_read}
 use Rattle.query_exec.specs.QueryPieces.{table_pieces, items_pieces, AreAlive, IsAlive}
-use Rattle.joining.specs.Sources.{AtomsLend}
+use Rattle.joining.specs.Sources.{AtomsBorrow}
 use Rattle.query_exec.specs.Borrowed.{AllSpare}
 use Rattle.query_exec.specs.Reads.{reads_of}
 use Rattle.query_exec.specs.Routes.{MayBeRead}
@@ -30,8 +30,8 @@ loop-item-init g c = record {
   read = λ past represents. subst (λ (xs : List Atom).
       AreRead past c.args.route.now (borrowed c.args.references.now) (test c.args.cond.now) 0 [] xs)
       (sym c.new-atoms.ensures.items) tt;
-  all_borrowed = λ branch lents h. (
-    subst (AtomsLend (lents branch)) (sym c.new-atoms.ensures.items) tt,
+  all_borrowed = λ branch by_branch h. (
+    subst (AtomsBorrow (by_branch branch)) (sym c.new-atoms.ensures.items) tt,
     h,
   );
   count = λ branch alive h. owes_all c.args.groups.now (versions_in c.args.groups.now)
@@ -79,17 +79,17 @@ loop-item-preserved g c =
           (subst (λ (j : ℕ). IsRead past c.args.route.now j x.0 (own_read j rs cd)
           c.in_ok-atom.atom) c.loop-item.invariant.place
           (c.in_ok-atom.ensures.atom past represents));
-      all_borrowed = λ branch lents h.
-          let before = c.loop-item.invariant.all_borrowed branch lents h in
-          let both = next_item c.args.groups.now lents
+      all_borrowed = λ branch by_branch h.
+          let before = c.loop-item.invariant.all_borrowed branch by_branch h in
+          let both = next_item c.args.groups.now by_branch
           (book_of (λ r. (goal.Rule-dyn g (r.vtable, r.value)).handles r.value)
           (λ r. (goal.Rule-dyn g (r.vtable, r.value)).answers r.value)
           c.args.book.now.rules.items) c.args.route.now.asked c.args.route.now.parts.items rs cd
           branch from i x below is before.1 in (
-            atom_more (lents branch) c.loop-item.atoms.items c.push.new.self.items
+            atom_more (by_branch branch) c.loop-item.atoms.items c.push.new.self.items
                 c.in_ok-atom.atom c.in_ok-push.ensures.items before.0
-                (c.in_ok-atom.ensures.borrowed branch lents
-                (subst (λ (j : ℕ). AllSpare c.args.groups.now lents
+                (c.in_ok-atom.ensures.borrowed branch by_branch
+                (subst (λ (j : ℕ). AllSpare c.args.groups.now by_branch
                 (table_pieces (book_of (λ r.
                 (goal.Rule-dyn g (r.vtable, r.value)).handles r.value)
                 (λ r. (goal.Rule-dyn g (r.vtable, r.value)).answers r.value)
@@ -201,8 +201,8 @@ returns-clause-cost g c = λ branch alive h.
     (c.loop-item.invariant.count branch alive h)
 
 pub returns-clause-borrowed : goal.returns-clause-borrowed
-returns-clause-borrowed g c = λ branch lents h.
-    (c.loop-item.invariant.all_borrowed branch lents h).0
+returns-clause-borrowed g c = λ branch by_branch h.
+    (c.loop-item.invariant.all_borrowed branch by_branch h).0
 
 pub returns-clause-least : goal.returns-clause-least
 returns-clause-least g c = λ branch e h.

@@ -8,8 +8,8 @@ use Rattle.piece_meaning.specs.Books.{book_of}
 use Rattle.piece_texts.specs.ExplainedPieces.{PlainExplained}
 use Rattle.query_exec.specs.Accepted.{MayItems, AreRead}
 use Rattle.query_exec.specs.QueryPieces.{items_pieces, AreAlive, IsAlive}
-use Rattle.joining.specs.Sources.{AtomsLend}
-use Rattle.query_exec.specs.Borrowed.{Lents, AllSpare}
+use Rattle.joining.specs.Sources.{AtomsBorrow}
+use Rattle.query_exec.specs.Borrowed.{BorrowedByBranch, AllSpare}
 use Rattle.query_exec.specs.Reads.{reads_of}
 use Rattle.query_exec.proofs.AliveLaws.{Owes, IsLeftOrRead}
 use Rattle.query_exec.proofs.branch.read_items.Given as goal
@@ -22,12 +22,12 @@ invariant-loop-item g l = record {
   read : (past : Past) → Represents l.groups past
       → AreRead past l.route (borrowed l.references) (test l.cond) 0 (take l.item-index l.from)
       l.atoms.items;
-  all_borrowed : (branch : ℕ) → (lents : Lents) → AllSpare l.groups lents
+  all_borrowed : (branch : ℕ) → (by_branch : BorrowedByBranch) → AllSpare l.groups by_branch
       (items_pieces (book_of (λ r. (goal.Rule-dyn g (r.vtable, r.value)).handles r.value)
       (λ r. (goal.Rule-dyn g (r.vtable, r.value)).answers r.value) l.book.rules.items)
       (versions_in l.groups) l.route.asked l.route.parts.items (borrowed l.references) (test l.cond)
       branch 0 l.from)
-      → AtomsLend (lents branch) l.atoms.items × AllSpare l.groups lents
+      → AtomsBorrow (by_branch branch) l.atoms.items × AllSpare l.groups by_branch
       (items_pieces (book_of (λ r. (goal.Rule-dyn g (r.vtable, r.value)).handles r.value)
       (λ r. (goal.Rule-dyn g (r.vtable, r.value)).answers r.value) l.book.rules.items)
       (versions_in l.groups) l.route.asked l.route.parts.items (borrowed l.references)

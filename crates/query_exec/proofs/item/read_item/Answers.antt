@@ -4,7 +4,7 @@ use Rattle.cond_expr.specs.Seen.{test}
 use Rattle.smo_meaning.specs.Effects.{columns_of}
 use Rattle.smo_meaning.specs.Making.{named}
 use Rattle.smo_meaning.specs.Past.{tables_of}
-use Rattle.timed_choices.specs.Lending.{RowsLend}
+use Rattle.timed_choices.specs.BorrowedOutputs.{RowsBorrow}
 use Rattle.version_groups.specs.Groups.{versions_in}
 use Rattle.plain_answers.specs.Reading.{Read}
 use Rattle.piece_meaning.specs.Books.{book_of}
@@ -80,7 +80,7 @@ returns-clause-cost g c = λ branch atom alive h. c.read_table.ensures.cost bran
     c.args.route.now.parts.items) alive) (sym c.in_ok-question.ensures) h)
 
 pub returns-clause-borrowed : goal.returns-clause-borrowed
-returns-clause-borrowed g c = λ branch lents spares.
+returns-clause-borrowed g c = λ branch by_branch spares.
     let past = c.requires.represents.0 in
     let represents = c.requires.represents.1 in
     let own : Read =
@@ -95,20 +95,20 @@ returns-clause-borrowed g c = λ branch lents spares.
     (read_asked c.in_ok-question.question) c.deref.result.now c.in_ok-columns.columns.items
     c.in_ok-rows.rows.items c.in_ok-columns.ensures c.deref.ensures.value
     c.in_ok-question.ensures (c.in_ok-rows.ensures.rows past represents) in
-    subst (λ (cs : List AtomColumn). RowsLend (lents branch) cs c.in_ok-rows.rows.items)
+    subst (λ (cs : List AtomColumn). RowsBorrow (by_branch branch) cs c.in_ok-rows.rows.items)
     (sym are)
-    (c.in_ok-rows.ensures.borrowed branch (c.args.place + 1) (lents branch)
+    (c.in_ok-rows.ensures.borrowed branch (c.args.place + 1) (by_branch branch)
     (columns_at c.args.place columns)
     (subst (λ (r : Read). (e : PlainExplained) → IsAlive (versions_in c.args.groups.now)
     (table_pieces book (versions_in c.args.groups.now) c.args.route.now.asked c.args.table.now r
     branch (c.args.place + 1) c.args.route.now.parts.items) e
-    → IsPlainIn c.args.groups.now (lents branch) (columns_at c.args.place columns) e)
+    → IsPlainIn c.args.groups.now (by_branch branch) (columns_at c.args.place columns) e)
     (sym c.in_ok-question.ensures)
     (λ e alive. item_plain (versions_in c.args.groups.now) book c.known.ensures c.args.route.now
     c.requires.route c.args.table.now own c.requires.read c.args.groups.now columns
     (item_names c.args.groups.now past represents c.args.route.now c.args.table.now own
     c.requires.read)
-    branch c.args.place lents e alive (spares e alive))))
+    branch c.args.place by_branch e alive (spares e alive))))
 
 pub returns-clause-least : goal.returns-clause-least
 returns-clause-least g c = λ branch atom e h. c.in_ok-rows.ensures.least branch atom e

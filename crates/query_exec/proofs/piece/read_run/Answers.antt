@@ -1,4 +1,4 @@
-use Rattle.timed_choices.specs.Lending.{RowLends}
+use Rattle.timed_choices.specs.BorrowedOutputs.{RowBorrows}
 use Rattle.query_exec.proofs.BorrowedRows.{each_joined}
 use Rattle.query_exec.proofs.PieceRows.{part_gathered}
 use Rattle.query_exec.proofs.piece.read_run.Goals as goal
@@ -11,6 +11,6 @@ returns-clause-rows g c = λ past represents relation means spans gathered.
     (λ m outside. c.in_ok-news.ensures.inside m outside)
 
 pub returns-clause-borrowed : goal.returns-clause-borrowed
-returns-clause-borrowed g c = λ lent columns h l. each_joined (RowLends lent columns)
+returns-clause-borrowed g c = λ which columns h l. each_joined (RowBorrows which columns)
     c.args.rows.now.items c.in_ok-news.news.items c.put_rows.new.rows.items
-    c.in_ok-put_rows.ensures.items l (c.in_ok-news.ensures.borrowed lent columns h)
+    c.in_ok-put_rows.ensures.items l (c.in_ok-news.ensures.borrowed which columns h)

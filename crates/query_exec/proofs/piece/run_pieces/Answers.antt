@@ -5,14 +5,14 @@ use Rattle.relations.proofs.SetLaws.{in_map}
 use Rattle.join_exec.specs.Pieces.{stored_meaning}
 use Rattle.prima_base.specs.declared.timed_row.TimedRow.{TimedRow}
 use Rattle.prima_base.specs.Timed.{rows_at}
-use Rattle.timed_choices.specs.Lending.{RowLends, RowsLend}
+use Rattle.timed_choices.specs.BorrowedOutputs.{RowBorrows, RowsBorrow}
 use Rattle.piece_meaning.specs.Pieces.{all_mean, out_trees}
 use Rattle.piece_ir.specs.Shown.{piece_of, pieces_of}
 use Rattle.piece_ir.specs.declared.piece.Piece.{Piece}
 use Rattle.query_pieces.proofs.RunPieces.{none_run}
 use Rattle.smo_meaning.specs.Past.{tables_of, database_at}
 use Rattle.rewrite.proofs.CodeSteps.{typed_at}
-use Rattle.query_exec.proofs.BorrowedRows.{piece_lends, each_joined}
+use Rattle.query_exec.proofs.BorrowedRows.{piece_borrows, each_joined}
 use Rattle.query_exec.proofs.PieceRows.{next_run, none_after, nothing_at, reads_left}
 use Rattle.query_exec.proofs.ListSteps.{among_taken}
 use Rattle.query_exec.proofs.RunLaws.{piece_meant}
@@ -49,13 +49,13 @@ loop-piece-preserved g c =
           none_after c.loop-piece.rows.items c.in_ok-news.news.items c.put_rows.new.rows.items m
           c.in_ok-put_rows.ensures.items
           (c.loop-piece.invariant.inside m outside) (c.in_ok-news.ensures.inside m outside);
-      borrowed = λ lent columns h.
-          each_joined (RowLends lent columns) c.loop-piece.rows.items c.in_ok-news.news.items
+      borrowed = λ which columns h.
+          each_joined (RowBorrows which columns) c.loop-piece.rows.items c.in_ok-news.news.items
           c.put_rows.new.rows.items c.in_ok-put_rows.ensures.items
-          (c.loop-piece.invariant.borrowed lent columns h)
-          (piece_lends (stored_meaning c.args.groups.now c.args.version
+          (c.loop-piece.invariant.borrowed which columns h)
+          (piece_borrows (stored_meaning c.args.groups.now c.args.version
           (piece_of c.piece-item.result)) c.args.period c.in_ok-news.news.items
-          c.in_ok-news.ensures.stored c.in_ok-news.ensures.inside lent columns
+          c.in_ok-news.ensures.stored c.in_ok-news.ensures.inside which columns
           (out_trees (piece_of c.piece-item.result).outs)
           (λ row i. c.have_moments.ensures row (subst (In row) (sym c.deref.ensures.value) i))
           (h (piece_of c.piece-item.result) (in_map piece_of c.piece-item.result c.args.pieces.now
@@ -77,7 +77,7 @@ loop-piece-init g c = record {
       c.new-rows.ensures.items ∙ none_run (tables_of past h.version) (database_at past m) m;
   inside = λ m outside. ap (λ (rs : List TimedRow). rows_at rs m) c.new-rows.ensures.items
       ∙ nothing_at m;
-  borrowed = λ lent columns h. subst (RowsLend lent columns) (sym c.new-rows.ensures.items) tt;
+  borrowed = λ which columns h. subst (RowsBorrow which columns) (sym c.new-rows.ensures.items) tt;
   count = omega arith;
   rises = omega arith;
 }

@@ -7,7 +7,7 @@ use Rattle.version_groups.specs.Representation.{Represents}
 use Rattle.piece_meaning.specs.Pieces.{all_mean}
 use Rattle.piece_ir.specs.Shown.{pieces_of}
 use Rattle.cond_expr.specs.declared.expr.Column.{Column}
-use Rattle.timed_choices.specs.Lending.{Lent, RowsLend}
+use Rattle.timed_choices.specs.BorrowedOutputs.{BorrowedValues, RowsBorrow}
 use Rattle.query_exec.specs.Borrowed.{AllPlainIn}
 use Rattle.query_exec.specs.Reads.{pieces_read}
 use Rattle.query_exec.specs.Runs.{IsMeant}
@@ -20,8 +20,9 @@ invariant-loop-piece g l = record {
       → rows_at l.rows.items m ≡ all_mean (tables_of past h.version) (database_at past m)
       (pieces_of (take l.piece-index l.pieces));
   inside : (m : ℕ) → covers l.fn.period m ≡ false → rows_at l.rows.items m ≡ [];
-  borrowed : (lent : Lent) → (columns : List Column) → AllPlainIn l.groups l.version l.fn.period lent columns (pieces_of l.pieces)
-      → RowsLend lent columns l.rows.items;
+  borrowed : (which : BorrowedValues) → (columns : List Column)
+      → AllPlainIn l.groups l.version l.fn.period which columns (pieces_of l.pieces)
+      → RowsBorrow which columns l.rows.items;
   count : l.steps + pieces_read l.groups l.version (pieces_of (drop l.piece-index l.pieces))
       ≡ l.initial.steps + pieces_read l.groups l.version (pieces_of l.pieces);
   rises : l.initial.steps ≤ l.steps;

@@ -14,7 +14,7 @@ use Rattle.query_types.specs.declared.branch.Branch.{Branch}
 use Rattle.query_types.specs.Queries.{query_of, slice_of}
 use Rattle.query_exec.specs.Accepted.{MayBranches}
 use Rattle.joining.proofs.CoalescedRows.{each_by_values}
-use Rattle.timed_choices.specs.Lending.{EachRow}
+use Rattle.timed_choices.specs.BorrowedOutputs.{EachRow}
 use Rattle.query_exec.specs.Borrowed.{IsAnswered, IsBorrowedBy, AllSpare}
 use Rattle.query_exec.specs.QueryPieces.{branches_pieces, AreAlive}
 use Rattle.query_exec.proofs.AliveLaws.{alive_in, in_alive}
@@ -89,22 +89,23 @@ returns-clause-cost g c = λ pieces h. c.answer_branches.ensures.cost 1 pieces
     (ap branches_of c.deref.ensures.value))) h)
 
 pub returns-clause-borrowed : goal.returns-clause-borrowed
-returns-clause-borrowed g c = λ past shows pieces h lents spared.
+returns-clause-borrowed g c = λ past shows pieces h by_branch spared.
     let query = query_of c.args.query.now in
-    each_by_values (IsBorrowedBy (IsAnswered past query.version (slice_of query.when)) lents 1
+    each_by_values (IsBorrowedBy (IsAnswered past query.version (slice_of query.when)) by_branch 1
     query.branches)
     c.in_ok-rows.rows.items c.coalesce_in_place.new.rows.items
     c.coalesce_in_place.ensures.values
     (subst (λ (bs : List Branch). EachRow (IsBorrowedBy
-    (IsAnswered past query.version (slice_of query.when)) lents 1 (branches_of bs))
+    (IsAnswered past query.version (slice_of query.when)) by_branch 1 (branches_of bs))
     c.in_ok-rows.rows.items) c.deref.ensures.value
-    (subst (λ (s : Span). EachRow (IsBorrowedBy (IsAnswered past query.version s) lents 1
+    (subst (λ (s : Span). EachRow (IsBorrowedBy (IsAnswered past query.version s) by_branch 1
     (branches_of c.deref.result.now)) c.in_ok-rows.rows.items)
     (c.in_ok-route.ensures.slice ∙ c.slice-slice.ensures.value)
-    (subst (λ (v : ℕ). EachRow (IsBorrowedBy (IsAnswered past v c.in_ok-route.route.slice) lents 1
+    (subst (λ (v : ℕ). EachRow (IsBorrowedBy (IsAnswered past v c.in_ok-route.route.slice) by_branch
+    1
     (branches_of c.deref.result.now)) c.in_ok-rows.rows.items) c.in_ok-route.ensures.asked
-    (c.in_ok-rows.ensures.borrowed past shows 1 lents
-    (subst (λ (all : List PlainExplained). AllSpare c.args.groups.now lents all)
+    (c.in_ok-rows.ensures.borrowed past shows 1 by_branch
+    (subst (λ (all : List PlainExplained). AllSpare c.args.groups.now by_branch all)
     (sym (pieces_here (book_of (λ r. (goal.Rule-dyn g (r.vtable, r.value)).handles r.value)
     (λ r. (goal.Rule-dyn g (r.vtable, r.value)).answers r.value) c.args.book.now.rules.items)
     (versions_in c.args.groups.now) (query_of c.args.query.now) c.in_ok-route.route.asked

@@ -16,14 +16,15 @@ use Rattle.query_pieces.specs.Gathering.{IsGathered}
 use Rattle.query_pieces.proofs.Gatherings.{nothing_gathered}
 use Rattle.join_exec.proofs.PieceAtoms.{same_versions}
 use Rattle.query_exec.specs.declared.part_piece.PartPieces.{PartPieces}
-use Rattle.timed_choices.specs.Lending.{RowsLend}
+use Rattle.timed_choices.specs.BorrowedOutputs.{RowsBorrow}
 use Rattle.query_exec.specs.Borrowed.{AllPlainIn}
 use Rattle.query_exec.specs.Planned.{planned_spans}
 use Rattle.query_exec.specs.Reads.{pieces_read, part_read}
 use Rattle.query_exec.specs.Routes.{IsOwn}
 use Rattle.query_exec.specs.Runs.{IsRun, IsMeant}
 use Rattle.query_exec.proofs.ListSteps.{among_taken}
-use Rattle.query_exec.proofs.RunLaws.{among_plan, run_meant, run_plain, run_gathered, run_cost, run_within}
+use Rattle.query_exec.proofs.RunLaws.{among_plan, run_meant, run_plain, run_gathered, run_cost}
+use Rattle.query_exec.proofs.RunLaws.{run_within}
 use Rattle.query_exec.proofs.RunLaws.{run_least}
 use Rattle.query_exec.proofs.TotalLaws.{from_first}
 use Rattle.query_exec.proofs.WalkSteps.{within_there}
@@ -35,7 +36,7 @@ runs-init g c = record {
   rows = λ past represents relation means. subst (λ (rs : List TimedRow).
       IsGathered relation [] (entries_of rs)) (sym c.new-rows.ensures.items)
       (nothing_gathered relation);
-  borrowed = λ lent columns h. subst (RowsLend lent columns) (sym c.new-rows.ensures.items) tt;
+  borrowed = λ which columns h. subst (RowsBorrow which columns) (sym c.new-rows.ensures.items) tt;
   cost = omega arith;
   least = λ x m. absurd m;
   rises = omega arith;
@@ -118,13 +119,13 @@ runs-preserved g c =
           (λ x k. own past represents x (among_plan plan i n first below is x k))
           (λ x k. means x (among_plan plan i n first below is x k)) m inside))
           (planned_spans (take i plan)) (c.runs.invariant.rows past represents relation means));
-      borrowed = λ lent columns h.
-          c.in_ok-read_run.ensures.borrowed lent columns (subst
-          (λ (ps : List Piece). AllPlainIn kept first.part.1 period lent columns (pieces_of ps))
+      borrowed = λ which columns h.
+          c.in_ok-read_run.ensures.borrowed which columns (subst
+          (λ (ps : List Piece). AllPlainIn kept first.part.1 period which columns (pieces_of ps))
           (sym c.deref.ensures.value)
-          (run_plain kept first (take n (drop (i + 1) plan)) period run lent columns
+          (run_plain kept first (take n (drop (i + 1) plan)) period run which columns
           (λ x k. h x (among_plan plan i n first below is x k))))
-          (c.runs.invariant.borrowed lent columns h);
+          (c.runs.invariant.borrowed which columns h);
       cost = run_cost plan i n first below is kept c.args.steps.now c.runs.steps
           c.read_run.new.steps (pieces_read kept first.part.1 (pieces_of c.deref.result.now))
           c.runs.invariant.cost c.read_run.ensures.cost here;

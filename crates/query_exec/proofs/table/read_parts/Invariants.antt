@@ -10,7 +10,7 @@ use Rattle.piece_ir.specs.Shown.{pieces_of}
 use Rattle.query_pieces.specs.Gathering.{IsGathered}
 use Rattle.query_exec.specs.declared.part_piece.PartPieces.{PartPieces}
 use Rattle.cond_expr.specs.declared.expr.Column.{Column}
-use Rattle.timed_choices.specs.Lending.{Lent, RowsLend}
+use Rattle.timed_choices.specs.BorrowedOutputs.{BorrowedValues, RowsBorrow}
 use Rattle.query_exec.specs.Borrowed.{AllPlainIn}
 use Rattle.query_exec.specs.Planned.{planned_spans}
 use Rattle.query_exec.specs.Reads.{part_read}
@@ -25,10 +25,10 @@ invariant-runs g l = record {
       → all_mean (tables_of past x.part.1) (database_at past m) (pieces_of x.pieces.items)
       ≡ relation m)
       → IsGathered relation (planned_spans (take l.at l.plan)) (entries_of l.rows.items);
-  borrowed : (lent : Lent) → (columns : List Column)
+  borrowed : (which : BorrowedValues) → (columns : List Column)
       → ((x : PartPieces) → In x l.plan
-      → AllPlainIn l.groups x.part.1 x.part.0 lent columns (pieces_of x.pieces.items))
-      → RowsLend lent columns l.rows.items;
+      → AllPlainIn l.groups x.part.1 x.part.0 which columns (pieces_of x.pieces.items))
+      → RowsBorrow which columns l.rows.items;
   cost : l.steps ≤ l.initial.steps + total (part_read l.groups) (take l.at l.plan);
   least : (x : PartPieces) → In x (take l.at l.plan)
       → l.initial.steps + part_read l.groups x ≤ l.steps;

@@ -11,7 +11,7 @@ use Rattle.piece_ir.specs.Shown.{pieces_of}
 use Rattle.query_pieces.specs.Gathering.{IsGathered}
 use Rattle.query_exec.specs.Asked.{read_asked}
 use Rattle.query_exec.specs.declared.part_piece.PartPieces.{PartPieces}
-use Rattle.timed_choices.specs.Lending.{RowLends}
+use Rattle.timed_choices.specs.BorrowedOutputs.{RowBorrows}
 use Rattle.joining.proofs.CoalescedRows.{each_by_values}
 use Rattle.query_exec.specs.Borrowed.{AllPlainIn}
 use Rattle.query_exec.specs.Planned.{planned_spans}
@@ -95,18 +95,18 @@ returns-clause-cost g c = λ branch atom alive h.
     c.read_parts.ensures.cost
 
 pub returns-clause-borrowed : goal.returns-clause-borrowed
-returns-clause-borrowed g c = λ branch atom lent columns h.
-    each_by_values (RowLends lent columns) c.in_ok-rows.rows.items
+returns-clause-borrowed g c = λ branch atom which columns h.
+    each_by_values (RowBorrows which columns) c.in_ok-rows.rows.items
     c.coalesce_in_place.new.rows.items c.coalesce_in_place.ensures.values
-    (c.in_ok-rows.ensures.borrowed lent columns
+    (c.in_ok-rows.ensures.borrowed which columns
     (subst (λ (xs : List PartPieces). (x : PartPieces) → In x xs
-    → AllPlainIn c.args.groups.now x.part.1 x.part.0 lent columns (pieces_of x.pieces.items))
+    → AllPlainIn c.args.groups.now x.part.1 x.part.0 which columns (pieces_of x.pieces.items))
     (sym c.deref.ensures.value)
     (plan_plain c.args.groups.now (versions_in c.args.groups.now)
     (book_of (λ r. (goal.Rule-dyn g (r.vtable, r.value)).handles r.value)
     (λ r. (goal.Rule-dyn g (r.vtable, r.value)).answers r.value) c.args.book.now.rules.items)
     c.args.route.now.asked c.args.table.now (read_asked c.args.question.now) branch atom
-    c.args.route.now.parts.items c.in_ok-plan.plan.items lent columns c.in_ok-plan.ensures h)))
+    c.args.route.now.parts.items c.in_ok-plan.plan.items which columns c.in_ok-plan.ensures h)))
 
 pub returns-clause-least : goal.returns-clause-least
 returns-clause-least g c = λ branch atom e h.

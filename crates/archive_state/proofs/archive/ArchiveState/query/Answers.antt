@@ -26,11 +26,12 @@ returns-clause-way_back g c = λ past represents.
     (c.ask.ensures.asked past before.groups)
 
 pub returns-clause-borrowed : goal.returns-clause-borrowed
-returns-clause-borrowed g c = λ past represents pieces are lents spared.
+returns-clause-borrowed g c = λ past represents pieces are by_branch spared.
     let before = subst (λ (s : ArchiveContent). RepresentsPast s past) (sym c.self.view_is)
     represents in
-    c.ask.ensures.borrowed past before.groups pieces are lents
-    (subst (λ (s : ArchiveContent). AreSpared s.groups lents pieces) (sym c.self.view_is) spared)
+    c.ask.ensures.borrowed past before.groups pieces are by_branch
+    (subst (λ (s : ArchiveContent). AreSpared s.groups by_branch pieces) (sym c.self.view_is)
+    spared)
 
 pub returns-clause-least : goal.returns-clause-least
 returns-clause-least g c = λ past represents pieces are e m.
