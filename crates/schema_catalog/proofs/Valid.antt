@@ -2,6 +2,7 @@
 use Rattle.std.proofs.Common.{◌≡◌, ◌<◌, ◌≤◌, ℕ, true, false, List, [], ◌∷◌, length, refl, sym, ap}
 use Rattle.std.proofs.Common.{subst, ◌∙◌, get_or, set}
 use Rattle.std.specs.Prelude.{T, cond, Option, Some, None, Ok, Err, slice_get}
+use Rattle.std.specs.Option.{option_map}
 use Rattle.std.specs.Ordering.{eq_by_cmp}
 use Rattle.std.specs.List.{insert as insert_at}
 use Rattle.std.specs.declared.cmp.Ordering.TheVariants.{Less, Equal, Greater}
@@ -15,8 +16,9 @@ use Rattle.prima_base.specs.declared.value.Value.{Value}
 use Rattle.prima_base.specs.Order.{bytes_cmp}
 use Rattle.prima_base.specs.OrderLaws.{bytes_exact}
 use Rattle.prima_base.specs.Columns.{Column, AreColumns, IsRelation}
-use Rattle.std.proofs.lemmas.Option.{slice_get-get_or}
-use Rattle.schema_catalog.specs.Tables.{Tables, IsSchema}
+use Rattle.std.proofs.lemmas.List.{get_or_default}
+use Rattle.std.proofs.lemmas.Option.{slice_get-get_or, slice_get-map}
+use Rattle.schema_catalog.specs.Tables.{Tables, IsSchema, name_at}
 use Rattle.schema_catalog.specs.Places.{NamedColumns, EachAreColumns, AreTables, IsPlace}
 use Rattle.schema_catalog.specs.Databases.{DatabaseEntry as DatabaseEntry, Rows, Database, IsEntry}
 use Rattle.schema_catalog.specs.Databases.{IsDatabase}
@@ -135,6 +137,16 @@ table_found n es i t s h e = (
   get-from_sorted bytes_cmp es n s ∙ found_at n es i t s h.0 h.1
       ∙ ap (λ (x : NamedColumns). Some x.1) (sym e),
 )
+
+-- the place has the name
+pub name_found : (n : List ℕ) (es : List NamedColumns) (i : ℕ) → T (is_sorted bytes_cmp es)
+    → IsPlace es n (Ok i) → name_at (from_sorted {R = bytes_cmp} es) i ≡ Some n
+name_found n es i s h =
+    let t = get_or es i (n, []) in
+    slice_get-map (λ (e : NamedColumns). e.0) (entries (from_sorted {R = bytes_cmp} es)) i
+    ∙ ap (λ (o : Option NamedColumns). option_map (λ (e : NamedColumns). e.0) o)
+    (table_at es i t s h.0 (get_or_default es i (n, []) t h.0))
+    ∙ ap Some (bytes_exact.same t.0 n (h.1 (n, [])))
 
 pub table_not_found : (n : List ℕ) (es : List NamedColumns) (i : ℕ) → T (is_sorted bytes_cmp es)
     → IsPlace es n (Err i) → get (from_sorted {R = bytes_cmp} es) n ≡ None

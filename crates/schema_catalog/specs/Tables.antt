@@ -1,7 +1,8 @@
 -- A schema: the map from its tables' names to their columns.
-use Rattle.std.specs.Prelude.{◌≡◌, ℕ, List, [], Bool, true, false, Some, refl}
+use Rattle.std.specs.Prelude.{◌≡◌, ℕ, List, [], map, Bool, true, false, Option, Some, refl}
+use Rattle.std.specs.Prelude.{slice_get}
 use Rattle.std.specs.Option.{unwrap_or}
-use Rattle.std.specs.FinMap.{FinMap, get, code}
+use Rattle.std.specs.FinMap.{FinMap, get, entries, code}
 use Rattle.std.specs.Coded.{Coded, code_by, coded×, coded_ℕ, coded_bool, coded_list}
 use Rattle.prima_base.specs.declared.value.ColType.{ColType}
 use Rattle.prima_base.specs.declared.value.ColType.TheVariants.{Int, Text}
@@ -14,6 +15,14 @@ Tables = FinMap bytes_cmp (List Column)
 -- the columns of a table; none where there is no such table
 abbrev pub columns_of : Tables → List ℕ → List Column
 columns_of tables name = unwrap_or (get tables name) []
+
+-- the names of the tables, in order
+abbrev pub table_names : Tables → List (List ℕ)
+table_names tables = map (λ (e : List ℕ × List Column). e.0) (entries tables)
+
+-- the name of the table at a place, from 0, in the order of names; none where there are no so many
+abbrev pub name_at : Tables → ℕ → Option (List ℕ)
+name_at tables place = slice_get (table_names tables) place
 
 -- each table's columns stand in the order of their names, each once
 abbrev pub IsSchema : Tables → Type 0

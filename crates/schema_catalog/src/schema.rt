@@ -29,9 +29,10 @@ impl Model for Schema {
 
 impl Schema {
     ghost use Rattle.std.specs.Prelude.{◌≡◌, ◌<◌, Some, None, length, slice_get, MatchOption, IfOk};
+    ghost use Rattle.std.specs.Prelude.{IfSome};
     ghost use Rattle.std.specs.FinMap as map;
     ghost use Rattle.prima_base.specs.Columns.{AreColumns};
-    ghost use Rattle.schema_catalog.specs.Tables.{IsSchema, columns_of};
+    ghost use Rattle.schema_catalog.specs.Tables.{IsSchema, columns_of, name_at};
     ghost use Rattle.schema_catalog.specs.Places.{AreTablesOf};
 
     /// The schema with no table. It takes no memory.
@@ -52,15 +53,30 @@ impl Schema {
         self.tables.len()
     }
 
+    /// The table with this name, and its place, from 0, in the order of names: `None` exactly where
+    /// there is none. It takes no memory.
+    pub fn find(&self, name: &Name) -> Option<(usize, &Table)>
+        ensures table { MatchOption result (map.get self.now name.now ≡ None)
+            (λ found. (found.1.now.0 ≡ name.now)
+            × (map.get self.now name.now ≡ Some found.1.now.1)) }
+        ensures place { IfSome result (λ found. name_at self.now found.0 ≡ Some name.now) }
+        ensures valid { IsSchema self.now }
+    {
+        match place_of(&self.tables, name) {
+            Ok(i) => Some((i, self.tables[i].table())),
+            Err(_) => None,
+        }
+    }
+
     /// The table with this name: `None` exactly where there is none. It takes no memory.
     pub fn table(&self, name: &Name) -> Option<&Table>
         ensures table { MatchOption result (map.get self.now name.now ≡ None)
             (λ t. (t.now.0 ≡ name.now) × (map.get self.now name.now ≡ Some t.now.1)) }
         ensures valid { IsSchema self.now }
     {
-        match place_of(&self.tables, name) {
-            Ok(i) => Some(self.tables[i].table()),
-            Err(_) => None,
+        match self.find(name) {
+            Some((_, table)) => Some(table),
+            None => None,
         }
     }
 
