@@ -1,5 +1,5 @@
 -- What a list of tables stands for, and the databases of a schema.
-use Rattle.std.proofs.Common.{◌≡◌, ◌<◌, ◌≤◌, ℕ, true, false, List, [], ◌∷◌, length, refl, sym, ap}
+use Rattle.std.proofs.Common.{◌≡◌, ◌<◌, ℕ, true, false, List, [], ◌∷◌, length, refl, sym, ap}
 use Rattle.std.proofs.Common.{subst, ◌∙◌, get_or, set}
 use Rattle.std.specs.Prelude.{T, cond, Option, Some, None, Ok, Err, slice_get}
 use Rattle.std.specs.Option.{option_map}
