@@ -18,8 +18,8 @@ use Rattle.cond_expr.specs.Trees.{Tree, Test, always}
 use Rattle.smo_meaning.specs.OneRow.{Row, Relation, meets}
 use Rattle.smo_meaning.specs.Making.{named}
 use Rattle.history_store.specs.Store.{Store, relation_at}
+use Rattle.version_tables.specs.NewestTables.{rows_stored}
 use Rattle.version_groups.specs.Groups.{Kept, table_in}
-use Rattle.version_groups.specs.NewestTables.{rows_stored}
 use Rattle.cond_expr.specs.AtomColumns.{columns_at}
 use Rattle.plain_answers.specs.Choosing.{answers_over}
 use Rattle.plain_answers.specs.Naming.{is_to, written_names, names_at, names_from, all_references}

@@ -22,8 +22,8 @@ use Rattle.smo_meaning.specs.Effects.{columns_of, rows_under}
 use Rattle.smo_meaning.specs.Past.{Past, no_tables, tables_from, tables_of, database_at}
 use Rattle.smo_types.specs.Commands.{PlainVersion}
 use Rattle.history_store.specs.Store.{Store}
+use Rattle.version_tables.specs.NewestTables.{rows_stored}
 use Rattle.version_groups.specs.Groups.{Kept, table_in}
-use Rattle.version_groups.specs.NewestTables.{rows_stored}
 use Rattle.version_groups.specs.Representation.{IsInForce, RepresentsEntry, Represents}
 use Rattle.plain_answers.specs.Naming.{IsNamed, names_at, all_references}
 use Rattle.plain_answers.specs.Choosing.{answers_over}

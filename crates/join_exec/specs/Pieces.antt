@@ -5,8 +5,8 @@ use Rattle.relations.specs.Sets.{set_of}
 use Rattle.prima_base.specs.Order.{row_cmp}
 use Rattle.prima_base.specs.Columns.{Column}
 use Rattle.history_store.specs.Store.{Store}
+use Rattle.version_tables.specs.NewestTables.{rows_stored}
 use Rattle.version_groups.specs.Groups.{Kept, table_in}
-use Rattle.version_groups.specs.NewestTables.{rows_stored}
 use Rattle.cond_expr.specs.declared.expr.ColRef.{ColRef}
 use Rattle.smo_meaning.specs.OneRow.{Relation}
 use Rattle.plain_answers.specs.Choosing.{answers_over}

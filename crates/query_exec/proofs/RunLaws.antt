@@ -19,8 +19,8 @@ use Rattle.cond_expr.specs.declared.expr.ColRef.{ColRef}
 use Rattle.cond_expr.specs.declared.expr.Column.{Column as AtomColumn}
 use Rattle.timed_choices.specs.BorrowedOutputs.{BorrowedValues}
 use Rattle.history_store.specs.Store.{Store}
+use Rattle.version_tables.specs.NewestTables.{rows_stored}
 use Rattle.version_groups.specs.Groups.{Kept, versions_in, table_in}
-use Rattle.version_groups.specs.NewestTables.{rows_stored}
 use Rattle.version_groups.specs.Representation.{Represents, IsInForce}
 use Rattle.plain_answers.specs.Choosing.{answers_over}
 use Rattle.plain_answers.specs.Naming.{all_references, names_at}

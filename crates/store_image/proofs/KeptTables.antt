@@ -16,12 +16,12 @@ use Rattle.smo_meaning.proofs.NameLaws.{same_is}
 use Rattle.lifelines.specs.Lifelines.{Lifeline, covers, is_up_to, Covers, IsUpTo as GoesTo}
 use Rattle.image_spelling.specs.Images.{StoredLine, IsUpTo, EndsUpTo, store_of}
 use Rattle.image_spelling.specs.ShownPast.{cells_written, line_size}
-use Rattle.version_groups.specs.declared.made_table.MadeTable.{MadeTable}
+use Rattle.version_tables.specs.declared.made_table.MadeTable.{MadeTable}
+use Rattle.version_tables.specs.Places.{with_table, at_places}
+use Rattle.version_tables.specs.Stored.{stored_as}
 use Rattle.version_groups.specs.Covering.{line_of}
-use Rattle.version_groups.specs.Places.{with_table, at_places}
 use Rattle.version_groups.specs.Representation.{AreUpTo}
 use Rattle.version_groups.specs.Sizes.{IsWritten, AreWritten, HasSize, HaveSizes}
-use Rattle.version_groups.specs.Stored.{stored_as}
 use Rattle.store_image.specs.ImageIn.{kept_line}
 
 -- ---- places

@@ -26,10 +26,11 @@ use Rattle.image_spelling.proofs.DueLifelines.{due_lifelines}
 use Rattle.image_reader.specs.Seen.{stored_seen, cells_seen, lines_seen}
 use Rattle.image_reader.specs.Ordered.{IsOrdered}
 use Rattle.image_reader.specs.declared.line.ReadLine.{ReadLine}
-use Rattle.version_groups.specs.declared.made_table.MadeTable.{MadeTable}
+use Rattle.version_tables.specs.declared.made_table.MadeTable.{MadeTable}
+use Rattle.version_tables.specs.Restoring.{stores_of}
 use Rattle.version_groups.specs.Covering.{line_of, AreOfLifelines}
 use Rattle.version_groups.specs.Groups.{Kept, versions_in, places_of, table_in}
-use Rattle.version_groups.specs.Restoring.{IsPastOf, stores_of, store_columns}
+use Rattle.version_groups.specs.Restoring.{IsPastOf, store_columns}
 use Rattle.version_groups.specs.Representation.{IsInForce, AreUpTo}
 use Rattle.version_groups.specs.Sizes.{IsWritten, AreWritten, HasSize, HaveSizes}
 use Rattle.version_groups.proofs.OwnMoments.{own_version, own_within}

@@ -18,7 +18,7 @@ use Rattle.smo_meaning.proofs.NextSchemas.{next_is_valid}
 use Rattle.command_spelling.specs.Spelling.{number, list_bytes}
 use Rattle.image_spelling.specs.Spelling.{span_bytes, cell_bytes, stored_bytes}
 use Rattle.image_spelling.proofs.ValidVersions.{version_writable}
-use Rattle.version_groups.specs.declared.made_table.MadeTable.{MadeTable}
+use Rattle.version_tables.specs.declared.made_table.MadeTable.{MadeTable}
 use Rattle.store_image.specs.ImageIn.{kept_line, CanBeWritten, AreValid}
 
 -- one part more

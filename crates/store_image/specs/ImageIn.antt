@@ -10,7 +10,7 @@ use Rattle.lifelines.specs.Lifelines.{Lifeline}
 use Rattle.history_store.specs.Restoring.{IsInOrder}
 use Rattle.image_reader.specs.Seen.{stored_seen, cells_seen}
 use Rattle.image_reader.specs.declared.line.ReadLine.{ReadLine}
-use Rattle.version_groups.specs.declared.made_table.MadeTable.{MadeTable}
+use Rattle.version_tables.specs.declared.made_table.MadeTable.{MadeTable}
 use Rattle.version_groups.specs.Covering.{line_of}
 use Rattle.version_groups.specs.Groups.{Kept, versions_in}
 use Rattle.image_spelling.specs.Images.{StoredLine, Image, IsImage, VersionsNamed, store_of}

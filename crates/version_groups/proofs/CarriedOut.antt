@@ -16,15 +16,14 @@ use Rattle.smo_meaning.specs.Accepts.{command_fault}
 use Rattle.smo_meaning.specs.ValidValues.{BodyHolds}
 use Rattle.smo_types.specs.Commands.{PlainBody, changing, evolving, PlainVersion, version_of}
 use Rattle.smo_meaning.specs.Past.{Past, next_database, past_with}
-use Rattle.version_groups.specs.declared.made_table.MadeTable.{MadeTable}
+use Rattle.version_tables.specs.declared.made_table.MadeTable.{MadeTable}
+use Rattle.version_tables.specs.Stored.{stored_as, names_of}
+use Rattle.version_tables.specs.Places.{at_places, AreWithin}
+use Rattle.version_tables.specs.Becoming.{HasRoom, Leads, IsMade, IsAmong, IsMadeBy}
+use Rattle.version_tables.specs.Changing.{HaveRoom}
 use Rattle.version_groups.specs.Groups.{Kept, versions_in, group_of, newest_group, table_in}
-use Rattle.version_groups.specs.Groups.{stored_as, names_of}
-use Rattle.version_groups.specs.Places.{at_places, AreWithin}
 use Rattle.version_groups.specs.Representation.{IsInForce, Represents}
-use Rattle.version_groups.specs.Becoming.{HasRoom, Leads, IsMade}
-use Rattle.version_groups.specs.Changing.{HaveRoom}
-use Rattle.version_groups.specs.Installing.{Stays, StaysEntry, IsAmong, IsMadeBy, HasChanges}
-use Rattle.version_groups.specs.Installing.{HasVersion, ComeWith}
+use Rattle.version_groups.specs.Installing.{Stays, StaysEntry, HasChanges, HasVersion, ComeWith}
 use Rattle.version_groups.specs.Steps.{changed, evolved, a_command, AreChanges, IsStep}
 use Rattle.smo_meaning.proofs.PastMoments.{before_or_not}
 use Rattle.version_groups.proofs.Pairs.{Paired, paired}

@@ -16,17 +16,17 @@ use Rattle.smo_meaning.specs.OneRow.{same}
 use Rattle.smo_meaning.specs.Past.{no_tables, newest_from}
 use Rattle.smo_meaning.proofs.NameLaws.{same_is, same_itself}
 use Rattle.smo_meaning.proofs.PastMoments.{before_or_not}
-use Rattle.version_groups.specs.declared.made_table.MadeTable.{MadeTable}
+use Rattle.version_tables.specs.declared.made_table.MadeTable.{MadeTable}
+use Rattle.version_tables.specs.Ending.{table_after, AreLiving}
+use Rattle.version_tables.specs.Places.{IsFound}
+use Rattle.version_tables.specs.Beginning.{BeginInOrder}
+use Rattle.version_tables.specs.Stored.{stored_as}
+use Rattle.version_tables.proofs.NamedPlaces.{none_named}
 use Rattle.version_groups.specs.Covering.{line_of, AreCovered, AreOfLifelines}
 use Rattle.version_groups.specs.Groups.{Kept, versions_in, places_of, newest_places, group_of}
-use Rattle.version_groups.specs.Installing.{table_after}
 use Rattle.version_groups.specs.Lifelines.{Lifeline, last_after, line_after, line_begun}
 use Rattle.version_groups.specs.Lifelines.{lifelines_after, lifelines_from, lifelines_of, is_up_to}
 use Rattle.version_groups.specs.Lifelines.{covers, first_place, place_in}
-use Rattle.version_groups.specs.Places.{IsFound}
-use Rattle.version_groups.specs.Sizes.{AreLiving, BeginInOrder}
-use Rattle.version_groups.specs.Stored.{stored_as}
-use Rattle.version_groups.proofs.NamedPlaces.{none_named}
 
 -- ---- what covers a version
 

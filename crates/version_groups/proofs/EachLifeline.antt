@@ -22,6 +22,7 @@ use Rattle.smo_meaning.proofs.PastLaws.{newest_added}
 use Rattle.smo_meaning.proofs.PastMoments.{newest_tables_from, tables_still, tables_added}
 use Rattle.smo_meaning.proofs.PastMoments.{before_or_not}
 use Rattle.smo_meaning.proofs.TouchedTables.{table_stays, table_gone}
+use Rattle.version_tables.proofs.PlacedTables.{found_among}
 use Rattle.version_groups.specs.Lifelines.{Lifeline, last_after, line_after, line_begun}
 use Rattle.version_groups.specs.Lifelines.{made_tables, lifelines_of, is_up_to, covers, first_place}
 use Rattle.version_groups.specs.Lifelines.{place_in}
@@ -29,7 +30,6 @@ use Rattle.version_groups.specs.LongestRuns.{IsLongest}
 use Rattle.version_groups.proofs.Covered.{both_true, true_both, covered_from, covered_up_to}
 use Rattle.version_groups.proofs.Covered.{is_covered, up_to_last, still_covers, lifelines_with}
 use Rattle.version_groups.proofs.LongestRuns.{all_with, all_longest}
-use Rattle.version_groups.proofs.PlacedTables.{found_among}
 
 -- a lifeline of the name that covers version k
 record IsOver (versions : List PlainVersion) (k : ℕ) (name : List ℕ) : Type 0 where

@@ -18,13 +18,13 @@ use Rattle.smo_meaning.specs.OperatorTable.{line, made_names}
 use Rattle.smo_meaning.specs.Past.{Past, no_tables}
 use Rattle.smo_meaning.specs.Touching.{makes, consumes}
 use Rattle.smo_meaning.proofs.NameLaws.{among_in}
+use Rattle.version_tables.proofs.BegunTables.{names_rise}
+use Rattle.version_tables.proofs.Places.{not_before_itself}
 use Rattle.version_groups.specs.Covering.{line_of}
 use Rattle.version_groups.specs.Groups.{Kept, versions_in}
 use Rattle.version_groups.specs.Lifelines.{Lifeline, line_after, line_begun, made_tables}
 use Rattle.version_groups.specs.Lifelines.{lifelines_after, lifelines_from, lifelines_of}
 use Rattle.version_groups.specs.Representation.{Represents}
-use Rattle.version_groups.proofs.BegunTables.{names_rise}
-use Rattle.version_groups.proofs.Places.{not_before_itself}
 
 -- ---- names that ascend, each of which is one of two
 

@@ -17,25 +17,26 @@ use Rattle.smo_types.specs.Commands.{version_of}
 use Rattle.smo_meaning.specs.Past.{no_tables, newest_from}
 use Rattle.smo_meaning.specs.Touching.{consumes}
 use Rattle.smo_types.specs.declared.version.Version.{Version}
-use Rattle.version_groups.specs.declared.made_table.MadeTable.{MadeTable}
+use Rattle.version_tables.specs.declared.made_table.MadeTable.{MadeTable}
+use Rattle.version_tables.specs.Stored.{stored_as, names_of}
+use Rattle.version_tables.specs.Places.{at_places, AreWithin}
+use Rattle.version_tables.specs.Becoming.{IsMade, IsMadeBy, AreMadeBy}
+use Rattle.version_tables.specs.Changing.{AreMade}
+use Rattle.version_tables.specs.Ending.{table_after}
+use Rattle.version_tables.specs.Room.{AreSameTables}
+use Rattle.version_tables.proofs.LifelinesEnded.{names_with, stored_still, stored_with}
+use Rattle.version_tables.proofs.LifelinesEnded.{written_back}
+use Rattle.version_tables.proofs.NamedPlaces.{one_by_name}
+use Rattle.version_tables.proofs.Places.{places_within, AreAlike, alike_at, at_more}
 use Rattle.version_groups.specs.declared.groups.Groups.TheInside.{Inside}
 use Rattle.version_groups.specs.Covering.{line_of, AreCovered, AreOfLifelines}
 use Rattle.version_groups.specs.Groups.{versions_in, newest_places, group_of, newest_group}
-use Rattle.version_groups.specs.Groups.{stored_as, names_of}
 use Rattle.version_groups.specs.Lifelines.{Lifeline, line_after, made_tables, lifelines_after}
 use Rattle.version_groups.specs.Lifelines.{lifelines_of}
 use Rattle.version_groups.specs.GroupFields.{all_places, items_of, AllInOrder, AllWithin}
 use Rattle.version_groups.specs.GroupFields.{groups_view, AreGroups}
-use Rattle.version_groups.specs.Places.{at_places, AreWithin}
-use Rattle.version_groups.specs.Becoming.{IsMade}
-use Rattle.version_groups.specs.Changing.{AreMade}
-use Rattle.version_groups.specs.Installing.{IsMadeBy, AreMadeBy, HasChanges, table_after}
-use Rattle.version_groups.specs.Installing.{HasVersion, ComeWith}
-use Rattle.version_groups.specs.Room.{AreSameTables, IsSame}
-use Rattle.version_groups.proofs.LifelinesEnded.{names_with, stored_still, stored_with}
-use Rattle.version_groups.proofs.LifelinesEnded.{written_back}
-use Rattle.version_groups.proofs.NamedPlaces.{one_by_name}
-use Rattle.version_groups.proofs.Places.{places_within, AreAlike, alike_at, at_more}
+use Rattle.version_groups.specs.Installing.{HasChanges, HasVersion, ComeWith}
+use Rattle.version_groups.specs.Room.{IsSame}
 use Rattle.version_groups.proofs.Covered.{a_line, lines_ended, lifelines_with, lines_fresh}
 use Rattle.version_groups.proofs.Covered.{table_at, covered_with, still_of_lifelines}
 

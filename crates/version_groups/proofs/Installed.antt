@@ -25,21 +25,23 @@ use Rattle.smo_meaning.proofs.PastLaws.{newest_holds, up_to_later}
 use Rattle.smo_meaning.proofs.ValueLaws.{past_stays}
 use Rattle.smo_meaning.proofs.PastSteps.{counts_accepted, stamp_accepted, later_stamp}
 use Rattle.smo_meaning.proofs.PastSteps.{body_accepted, stays_valid, before_command, from_command}
-use Rattle.version_groups.specs.declared.made_table.MadeTable.{MadeTable}
-use Rattle.version_groups.specs.Groups.{Kept, versions_in, group_of, table_in, stored_as}
+use Rattle.version_tables.specs.declared.made_table.MadeTable.{MadeTable}
+use Rattle.version_tables.specs.Stored.{stored_as}
+use Rattle.version_tables.specs.Becoming.{Becomes, Begins, Leads, IsMade, IsAmong, IsMadeBy}
+use Rattle.version_tables.specs.Becoming.{AreMadeBy}
+use Rattle.version_tables.specs.Places.{at_places}
+use Rattle.version_tables.specs.Evolving.{BeginsEntry}
+use Rattle.version_tables.proofs.Places.{something_at}
+use Rattle.version_groups.specs.Groups.{Kept, versions_in, group_of, table_in}
 use Rattle.version_groups.specs.Covering.{AreOfLifelines}
 use Rattle.version_groups.specs.Sizes.{HaveSizes}
 use Rattle.version_groups.specs.Representation.{AreUpTo, IsInForce, RepresentsTable}
 use Rattle.version_groups.specs.Representation.{RepresentsEntry, Represents}
-use Rattle.version_groups.specs.Becoming.{Becomes, Begins, Leads, IsMade}
-use Rattle.version_groups.specs.Installing.{IsAmong, IsMadeBy, AreMadeBy}
-use Rattle.version_groups.specs.Places.{at_places}
-use Rattle.version_groups.specs.Steps.{a_command, AreChanges, BeginsEntry, IsNextVersion}
 use Rattle.smo_meaning.proofs.PastMoments.{not_begun, all_begun, few_begun, all_with_one}
 use Rattle.smo_meaning.proofs.PastMoments.{tables_still, tables_added, is_later, still_later}
 use Rattle.smo_meaning.proofs.PastMoments.{before_or_not}
+use Rattle.version_groups.specs.Steps.{a_command, AreChanges, IsNextVersion}
 use Rattle.version_groups.proofs.Pairs.{Paired, paired}
-use Rattle.version_groups.proofs.Places.{something_at}
 use Rattle.version_groups.proofs.OwnMoments.{own_version, own_moment, own_within}
 
 -- what is stored under a name, before and after

@@ -12,11 +12,10 @@ use Rattle.smo_meaning.specs.Past.{next_database, next_past}
 use Rattle.smo_meaning.specs.Sizes.{Size, if_living, size_changed, living_changed, ended_with}
 use Rattle.smo_meaning.specs.Sizes.{size_after, size_begun, sizes_evolved}
 use Rattle.smo_meaning.specs.Touching.{consumes}
-use Rattle.version_groups.specs.Installing.{last_after}
-use Rattle.version_groups.specs.Lifelines.{Lifeline, line_after, line_begun, made_tables}
-use Rattle.version_groups.specs.Lifelines.{lifelines_after, lifelines_of, Named, size_named}
-use Rattle.version_groups.specs.Lifelines.{line_named, NamesLifelines}
-use Rattle.version_groups.proofs.RestoredTables.{Listed}
+use Rattle.version_tables.proofs.RestoredTables.{Listed}
+use Rattle.version_groups.specs.Lifelines.{last_after, Lifeline, line_after, line_begun}
+use Rattle.version_groups.specs.Lifelines.{made_tables, lifelines_after, lifelines_of, Named}
+use Rattle.version_groups.specs.Lifelines.{size_named, line_named, NamesLifelines}
 use Rattle.version_groups.proofs.Covered.{lifelines_with}
 
 -- ---- after changes

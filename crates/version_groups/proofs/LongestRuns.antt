@@ -18,12 +18,12 @@ use Rattle.smo_meaning.proofs.PastLaws.{newest_added}
 use Rattle.smo_meaning.proofs.PastMoments.{newest_tables_from, tables_still, tables_added}
 use Rattle.smo_meaning.proofs.PastMoments.{before_or_not}
 use Rattle.smo_meaning.proofs.TouchedTables.{table_stays, made_is_free}
+use Rattle.version_tables.proofs.PlacedTables.{listed_in}
 use Rattle.version_groups.specs.Lifelines.{Lifeline, last_after, line_after, line_begun}
 use Rattle.version_groups.specs.Lifelines.{made_tables, lifelines_of, is_up_to, covers}
 use Rattle.version_groups.specs.LongestRuns.{of_operator, with_version, IsLongest}
 use Rattle.version_groups.proofs.Covered.{covered_from, covered_up_to, is_covered, up_to_last}
 use Rattle.version_groups.proofs.Covered.{did_cover, lifelines_with}
-use Rattle.version_groups.proofs.PlacedTables.{listed_in}
 
 -- ---- versions with one more
 

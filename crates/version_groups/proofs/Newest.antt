@@ -22,19 +22,20 @@ use Rattle.smo_meaning.specs.Past.{Past, no_tables, tables_of, newest_tables, ne
 use Rattle.smo_meaning.proofs.CountingLaws.{self_gains_nothing}
 use Rattle.smo_meaning.proofs.DatabaseLaws.{changes_keep}
 use Rattle.smo_meaning.proofs.PastSteps.{stamp_accepted}
-use Rattle.version_groups.specs.declared.made_table.MadeTable.{MadeTable}
-use Rattle.version_groups.specs.Groups.{Kept, group_of, table_in, stored_as, names_of}
-use Rattle.version_groups.specs.Representation.{RepresentsEntry, Represents}
-use Rattle.version_groups.specs.Becoming.{Leads}
-use Rattle.version_groups.specs.Changing.{rows_now, rows_after, AreChangeable, AreReady, all_gained}
-use Rattle.version_groups.specs.Changing.{all_lost}
-use Rattle.version_groups.specs.NewestTables.{IsStoredEntry, AreStored}
-use Rattle.version_groups.specs.Steps.{a_command, AreChanges}
+use Rattle.version_tables.specs.declared.made_table.MadeTable.{MadeTable}
+use Rattle.version_tables.specs.Stored.{stored_as, names_of}
+use Rattle.version_tables.specs.Becoming.{Leads}
+use Rattle.version_tables.specs.Changing.{rows_now, rows_after, AreChangeable, AreReady, all_gained}
+use Rattle.version_tables.specs.Changing.{all_lost}
+use Rattle.version_tables.specs.NewestTables.{IsStoredEntry, AreStored}
+use Rattle.version_tables.proofs.TablesChanged.{accepted_of, changed_each, stored_there}
+use Rattle.version_tables.proofs.TablesCounted.{with_after, HasNow, counted, got, not_stored}
+use Rattle.version_tables.proofs.TablesCounted.{IsStored, is_stored}
+use Rattle.version_groups.specs.Groups.{Kept, group_of, table_in}
 use Rattle.smo_meaning.proofs.PastMoments.{newest_tables_from, is_later}
+use Rattle.version_groups.specs.Representation.{RepresentsEntry, Represents}
+use Rattle.version_groups.specs.Steps.{a_command, AreChanges}
 use Rattle.version_groups.proofs.Installed.{newest_own, newest_is}
-use Rattle.version_groups.proofs.TablesChanged.{accepted_of, changed_each, stored_there}
-use Rattle.version_groups.proofs.TablesCounted.{with_after, HasNow, counted, got, not_stored}
-use Rattle.version_groups.proofs.TablesCounted.{IsStored, is_stored}
 
 -- ---- of a past that is shown
 

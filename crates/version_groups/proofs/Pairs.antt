@@ -4,8 +4,8 @@ use Rattle.std.proofs.Common.{get_or, refl, ap, ◌∙◌, arith, inl, inr}
 use Rattle.std.specs.Prelude.{Some, None, ◌⊎◌}
 use Rattle.smo_meaning.specs.OneRow.{same}
 use Rattle.smo_meaning.proofs.NameLaws.{same_is}
-use Rattle.version_groups.specs.declared.made_table.MadeTable.{MadeTable}
-use Rattle.version_groups.specs.Groups.{stored_as}
+use Rattle.version_tables.specs.declared.made_table.MadeTable.{MadeTable}
+use Rattle.version_tables.specs.Stored.{stored_as}
 
 -- what is stored under the name before and after
 pub record Found (R : MadeTable → MadeTable → Type 0) (name : List ℕ) (old new : List MadeTable) :

@@ -32,21 +32,25 @@ use Rattle.smo_meaning.specs.Past.{newest_tables, newest_database, next_database
 use Rattle.smo_meaning.specs.Sizes.{Size}
 use Rattle.smo_meaning.proofs.PastSteps.{beginning_is_past, body_accepted}
 use Rattle.smo_meaning.proofs.ValueLaws.{beginning_holds}
-use Rattle.version_groups.specs.declared.made_table.MadeTable.{MadeTable}
+use Rattle.version_tables.specs.declared.made_table.MadeTable.{MadeTable}
+use Rattle.version_tables.specs.Stored.{stored_as, names_of}
+use Rattle.version_tables.specs.Room.{IsSameTable, AreSameTables}
+use Rattle.version_tables.specs.Changing.{AreChangeable, AreReady, all_gained, all_lost}
+use Rattle.version_tables.specs.Evolving.{IsEvolved}
+use Rattle.version_tables.specs.NewestTables.{AreStored}
+use Rattle.version_tables.specs.Places.{at_places}
+use Rattle.version_tables.proofs.TablesInTurn.{same_table, same_after}
+use Rattle.version_tables.proofs.Places.{same_at}
 use Rattle.version_groups.specs.Sizes.{HasSize, AreWritten}
 use Rattle.version_groups.specs.Covering.{line_of, AreCovered}
 use Rattle.version_groups.specs.Lifelines.{lifelines_of}
 use Rattle.version_groups.specs.Groups.{Kept, newest_places, group_of, newest_group, table_in}
-use Rattle.version_groups.specs.Groups.{stored_as, names_of}
+use Rattle.table_changes.proofs.Becoming.{same_relation, same_before, same_columns}
 use Rattle.version_groups.specs.Representation.{RepresentsTable, RepresentsEntry, AreUpTo}
 use Rattle.version_groups.specs.Representation.{Represents}
-use Rattle.version_groups.specs.Room.{IsSameTable, AreSameTables, IsSame}
-use Rattle.version_groups.specs.Changing.{AreChangeable, AreReady, all_gained, all_lost}
-use Rattle.version_groups.specs.Evolving.{IsEvolved}
-use Rattle.version_groups.specs.NewestTables.{AreStored}
+use Rattle.version_groups.specs.Room.{IsSame}
 use Rattle.version_groups.specs.Steps.{a_command, step_of, changed, evolved, AreChanges, IsStep}
 use Rattle.version_groups.specs.Steps.{PreparedCommand, Prepares}
-use Rattle.table_changes.proofs.Becoming.{same_relation, same_before, same_columns}
 use Rattle.version_groups.proofs.CarriedOut.{as_many}
 use Rattle.version_groups.proofs.Covered.{still_of_lifelines}
 use Rattle.version_groups.proofs.GroupPlaces.{lines_kept}
@@ -54,9 +58,6 @@ use Rattle.version_groups.proofs.Installed.{entry_follows}
 use Rattle.version_groups.proofs.Newest.{stands, changeable, are_changes, counts}
 use Rattle.version_groups.proofs.Pairs.{Paired, paired}
 use Rattle.version_groups.proofs.SizesEvolved.{operator_accepted}
-use Rattle.version_groups.proofs.TablesInTurn.{same_table, same_after}
-use Rattle.version_groups.specs.Places.{at_places}
-use Rattle.version_groups.proofs.Places.{same_at}
 
 -- ---- nothing was accepted
 

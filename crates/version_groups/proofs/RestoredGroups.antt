@@ -17,16 +17,17 @@ use Rattle.smo_meaning.specs.Past.{beginning, no_tables, tables_from, newest_fro
 use Rattle.smo_meaning.specs.Touching.{consumes}
 use Rattle.smo_meaning.proofs.NextSchemas.{next_is_valid}
 use Rattle.smo_meaning.proofs.PastLaws.{newest_added}
-use Rattle.version_groups.specs.declared.made_table.MadeTable.{MadeTable}
+use Rattle.version_tables.specs.declared.made_table.MadeTable.{MadeTable}
+use Rattle.version_tables.specs.Stored.{HasEntry}
+use Rattle.version_tables.specs.Restoring.{stores_of, HasColumns, HaveColumns}
+use Rattle.version_tables.proofs.RestoredTables.{Listed}
 use Rattle.version_groups.specs.Covering.{line_of}
-use Rattle.version_groups.specs.Groups.{Kept, versions_in, table_in, HasEntry}
+use Rattle.version_groups.specs.Groups.{Kept, versions_in, table_in}
 use Rattle.version_groups.specs.Lifelines.{Lifeline, line_after, line_begun, made_tables}
 use Rattle.version_groups.specs.Lifelines.{lifelines_after, lifelines_from, lifelines_of}
 use Rattle.version_groups.specs.Lifelines.{columns_of}
-use Rattle.version_groups.specs.Restoring.{stores_of, store_columns, HasColumns, AreRestored}
-use Rattle.version_groups.specs.Restoring.{HaveColumns}
+use Rattle.version_groups.specs.Restoring.{store_columns, AreRestored}
 use Rattle.version_groups.specs.Representation.{RepresentsEntry, Represents}
-use Rattle.version_groups.proofs.RestoredTables.{Listed}
 
 -- ---- nothing was accepted
 

@@ -11,12 +11,13 @@ use Rattle.smo_types.specs.Commands.{PlainVersion, version_of}
 use Rattle.smo_meaning.specs.ValidPast.{IsLater}
 use Rattle.smo_meaning.specs.OneRow.{same}
 use Rattle.smo_meaning.specs.Past.{Past, no_tables, tables_from, tables_of}
-use Rattle.version_groups.specs.declared.made_table.MadeTable.{MadeTable}
-use Rattle.version_groups.specs.Groups.{Kept, places_of, table_in, HasEntry}
-use Rattle.version_groups.specs.Places.{with_table, at_places}
-use Rattle.version_groups.specs.Restoring.{HasColumns, AreRestored, IsPastOf}
+use Rattle.version_tables.specs.declared.made_table.MadeTable.{MadeTable}
+use Rattle.version_tables.specs.Stored.{HasEntry, stored_as}
+use Rattle.version_tables.specs.Places.{with_table, at_places}
+use Rattle.version_tables.specs.Restoring.{HasColumns}
+use Rattle.version_groups.specs.Groups.{Kept, places_of, table_in}
+use Rattle.version_groups.specs.Restoring.{AreRestored, IsPastOf}
 use Rattle.version_groups.specs.Representation.{RepresentsEntry, Represents}
-use Rattle.version_groups.specs.Stored.{stored_as}
 
 -- what is stored under a name is stored of a table
 module _ (tables : List MadeTable) (name : List ℕ) (store : Store) where

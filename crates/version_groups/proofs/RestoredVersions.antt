@@ -17,20 +17,21 @@ use Rattle.smo_meaning.specs.Touching.{makes, consumes}
 use Rattle.smo_meaning.proofs.PastMoments.{newest_tables_from, tables_still, tables_added}
 use Rattle.smo_meaning.proofs.PastMoments.{before_or_not}
 use Rattle.smo_meaning.proofs.TouchedTables.{table_stays, table_gone}
-use Rattle.version_groups.specs.declared.made_table.MadeTable.{MadeTable}
-use Rattle.version_groups.specs.Evolving.{ComeNext}
+use Rattle.version_tables.specs.declared.made_table.MadeTable.{MadeTable}
+use Rattle.version_tables.specs.Evolving.{ComeNext}
+use Rattle.version_tables.specs.Stored.{HasEntry, stored_as}
+use Rattle.version_tables.specs.Ending.{table_after, AreLiving}
+use Rattle.version_tables.specs.Places.{at_places}
+use Rattle.version_tables.specs.Restoring.{stores_of, BeginsOver, HasColumns, IsStored, OthersAre}
+use Rattle.version_tables.specs.Beginning.{ArePlaced}
+use Rattle.version_tables.proofs.LifelinesAfter.{entry_some, entry_none, living_after}
+use Rattle.version_tables.proofs.RestoredTables.{Listed}
 use Rattle.version_groups.specs.Covering.{line_of}
-use Rattle.version_groups.specs.Groups.{Kept, versions_in, newest_places, table_in, HasEntry}
-use Rattle.version_groups.specs.Installing.{table_after, HasVersion, ComeWith}
+use Rattle.version_groups.specs.Groups.{Kept, versions_in, newest_places, table_in}
+use Rattle.version_groups.specs.Installing.{HasVersion, ComeWith}
 use Rattle.version_groups.specs.Lifelines.{line_begun, made_tables}
-use Rattle.version_groups.specs.Places.{at_places}
-use Rattle.version_groups.specs.Restoring.{stores_of, AreRestored, BeginsOver, HasColumns, IsStored}
-use Rattle.version_groups.specs.Restoring.{OthersAre}
-use Rattle.version_groups.specs.Sizes.{AreLiving, ArePlaced}
-use Rattle.version_groups.specs.Stored.{stored_as}
+use Rattle.version_groups.specs.Restoring.{AreRestored}
 use Rattle.version_groups.proofs.Covered.{line_is, lines_begin, newest_living}
-use Rattle.version_groups.proofs.LifelinesAfter.{entry_some, entry_none, living_after}
-use Rattle.version_groups.proofs.RestoredTables.{Listed}
 
 -- ---- tables whose lifelines may have ended
 

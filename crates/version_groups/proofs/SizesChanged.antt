@@ -21,20 +21,21 @@ use Rattle.smo_meaning.specs.Sizes.{Size, if_living, rows_changed, living_change
 use Rattle.smo_meaning.proofs.CountingLaws.{gains_nothing}
 use Rattle.smo_meaning.proofs.DatabaseLaws.{changes_keep}
 use Rattle.smo_meaning.proofs.PastSteps.{body_accepted}
-use Rattle.version_groups.specs.declared.made_table.MadeTable.{MadeTable}
+use Rattle.version_tables.specs.declared.made_table.MadeTable.{MadeTable}
+use Rattle.version_tables.specs.Becoming.{Leads, IsMade, IsInstalled}
+use Rattle.version_tables.specs.Places.{at_places, AreWithin}
+use Rattle.version_tables.specs.Ending.{AreLiving}
+use Rattle.version_tables.specs.NewestTables.{AreStored}
+use Rattle.version_tables.proofs.Places.{at_count, at_get}
 use Rattle.version_groups.specs.Groups.{Kept, newest_places, group_of, newest_group}
-use Rattle.version_groups.specs.Becoming.{Leads, IsMade, IsInstalled}
 use Rattle.version_groups.specs.Installing.{HasChanges}
-use Rattle.version_groups.specs.Places.{at_places, AreWithin}
 use Rattle.version_groups.specs.Representation.{AreUpTo, Represents}
-use Rattle.version_groups.specs.Sizes.{HasSize, HaveSizes, AreLiving}
+use Rattle.version_groups.specs.Sizes.{HasSize, HaveSizes}
 use Rattle.version_groups.proofs.Covered.{newest_living}
-use Rattle.version_groups.specs.NewestTables.{AreStored}
-use Rattle.version_groups.specs.Steps.{a_command, AreChanges}
 use Rattle.table_changes.proofs.Becoming.{along_length}
+use Rattle.version_groups.specs.Steps.{a_command, AreChanges}
 use Rattle.version_groups.proofs.Installed.{all_later}
 use Rattle.version_groups.proofs.Newest.{Stands, stands, stands_at}
-use Rattle.version_groups.proofs.Places.{at_count, at_get}
 use Rattle.version_groups.proofs.RowsWritten.{rows_wide, gained_wide, written_more}
 
 -- ---- one table

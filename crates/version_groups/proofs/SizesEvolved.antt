@@ -35,20 +35,23 @@ use Rattle.smo_meaning.proofs.CarriedDatabases.{carried_database}
 use Rattle.smo_meaning.proofs.Firsts.{none_of_first, none_mapped}
 use Rattle.smo_meaning.proofs.PastMoments.{newest_tables_from, is_later, still_later, before_or_not}
 use Rattle.smo_meaning.proofs.PastSteps.{body_accepted, stamp_accepted}
-use Rattle.version_groups.specs.declared.made_table.MadeTable.{MadeTable}
-use Rattle.version_groups.specs.Becoming.{Begins}
+use Rattle.version_tables.specs.declared.made_table.MadeTable.{MadeTable}
+use Rattle.version_tables.specs.Becoming.{Begins}
+use Rattle.version_tables.specs.Stored.{stored_as}
+use Rattle.version_tables.specs.Ending.{table_after, AreLiving}
+use Rattle.version_tables.specs.Places.{at_places}
+use Rattle.version_tables.specs.Beginning.{BeginsWith, BeginInOrder, ArePlaced}
+use Rattle.version_tables.specs.Evolving.{BeginsEntry}
+use Rattle.version_tables.proofs.LifelinesAfter.{entry_none, living_after}
+use Rattle.version_tables.proofs.PlacedTables.{listed_in}
 use Rattle.version_groups.specs.Covering.{line_of}
-use Rattle.version_groups.specs.Groups.{Kept, versions_in, newest_places, table_in, stored_as}
-use Rattle.version_groups.specs.Installing.{last_after, table_after, HasVersion, ComeWith}
-use Rattle.version_groups.specs.Lifelines.{line_begun, made_tables}
-use Rattle.version_groups.specs.Places.{at_places}
+use Rattle.version_groups.specs.Groups.{Kept, versions_in, newest_places, table_in}
+use Rattle.version_groups.specs.Lifelines.{last_after, line_begun, made_tables}
+use Rattle.version_groups.specs.Installing.{HasVersion, ComeWith}
 use Rattle.version_groups.specs.Representation.{AreUpTo, RepresentsEntry, Represents}
-use Rattle.version_groups.specs.Sizes.{HasSize, HaveSizes, AreLiving, BeginsWith, BeginInOrder}
-use Rattle.version_groups.specs.Sizes.{ArePlaced}
-use Rattle.version_groups.specs.Steps.{a_command, BeginsEntry, IsNextVersion}
+use Rattle.version_groups.specs.Sizes.{HasSize, HaveSizes}
+use Rattle.version_groups.specs.Steps.{a_command, IsNextVersion}
 use Rattle.version_groups.proofs.Covered.{newest_living, line_is, lines_begin}
-use Rattle.version_groups.proofs.LifelinesAfter.{entry_none, living_after}
-use Rattle.version_groups.proofs.PlacedTables.{listed_in}
 use Rattle.version_groups.proofs.RowsWritten.{rows_wide, written_first}
 
 -- ---- sizes of tables that stand after one another

@@ -5,11 +5,12 @@ use Rattle.std.specs.Global.{Vec}
 use Rattle.relations.specs.Sets.{Ascends}
 use Rattle.prima_base.specs.Order.{bytes_cmp}
 use Rattle.smo_meaning.specs.Past.{no_tables}
-use Rattle.version_groups.specs.declared.made_table.MadeTable.{MadeTable}
+use Rattle.version_tables.specs.declared.made_table.MadeTable.{MadeTable}
+use Rattle.version_tables.specs.Stored.{names_of}
+use Rattle.version_tables.specs.Places.{at_places, AreWithin}
 use Rattle.version_groups.specs.declared.groups.Groups.TheInside.{Inside}
-use Rattle.version_groups.specs.Groups.{Kept, names_of}
+use Rattle.version_groups.specs.Groups.{Kept}
 use Rattle.version_groups.specs.Covering.{AreOfLifelines}
-use Rattle.version_groups.specs.Places.{at_places, AreWithin}
 
 -- the places of the versions before the newest, and then those of the newest
 abbrev pub all_places : List (List ℕ) → List ℕ → List (List ℕ)

@@ -1,5 +1,5 @@
 -- What installing makes of groups.
-use Rattle.std.specs.Prelude.{◌≡◌, ℕ, ◌+◌, ◌<◌, ◌≤◌, Bool, List, [], ◌∷◌, ◌++◌, length, map, Option}
+use Rattle.std.specs.Prelude.{◌≡◌, ℕ, ◌+◌, ◌<◌, ◌≤◌, List, [], ◌∷◌, ◌++◌, length, map, Option}
 use Rattle.std.specs.Prelude.{Some, None, slice_index_or, ⊤}
 use Rattle.relations.specs.Sets.{In, Ascends}
 use Rattle.prima_base.specs.Order.{bytes_cmp}
@@ -11,19 +11,19 @@ use Rattle.smo_types.specs.Operators.{operator_of}
 use Rattle.smo_types.specs.Commands.{PlainVersion}
 use Rattle.smo_meaning.specs.Past.{no_tables, newest_from}
 use Rattle.smo_meaning.specs.Touching.{consumes}
-use Rattle.version_groups.specs.declared.made_table.MadeTable.{MadeTable}
+use Rattle.version_tables.specs.declared.made_table.MadeTable.{MadeTable}
+use Rattle.version_tables.specs.Stored.{stored_as, names_of}
+use Rattle.version_tables.specs.Becoming.{AreMadeBy}
+use Rattle.version_tables.specs.Ending.{AreLiving, table_after}
+use Rattle.version_tables.specs.Changing.{AreMade}
+use Rattle.version_tables.specs.Places.{at_places, AreWithin}
 use Rattle.version_groups.specs.Groups.{Kept, versions_in, newest_places, group_of, newest_group}
-use Rattle.version_groups.specs.Groups.{table_in, stored_as, names_of}
+use Rattle.version_groups.specs.Groups.{table_in}
 use Rattle.version_groups.specs.declared.next.Step.{Step}
 use Rattle.version_groups.specs.declared.next.Step.TheVariants.{Changed, Evolved}
 use Rattle.version_groups.specs.Covering.{line_of, AreOfLifelines}
 use Rattle.version_groups.specs.Lifelines.{line_begun, made_tables}
-pub use Rattle.version_groups.specs.Lifelines.{last_after}
 use Rattle.version_groups.specs.Representation.{IsInForce}
-use Rattle.version_groups.specs.Sizes.{AreLiving}
-use Rattle.version_groups.specs.Becoming.{IsMade}
-use Rattle.version_groups.specs.Changing.{AreMade}
-use Rattle.version_groups.specs.Places.{at_places, AreWithin}
 
 -- it has the columns that it had, and at each moment at which version k is in force the relation
 -- that it had
@@ -44,23 +44,6 @@ abbrev pub HasEarlier : Kept → Kept → Type 0
 HasEarlier kept new = (k : ℕ) → k < length new.versions → (name : List ℕ)
     → StaysEntry (versions_in new) k (table_in kept k name) (table_in new k name)
 
--- one of these changes, or none
-abbrev pub IsAmong : Option PreparedChange → List (Option PreparedChange) → Type 0
-IsAmong None plans = ⊤
-IsAmong (Some plan) plans = In (Some plan) plans
-
--- one of the changes is made of it, or none
-pub record IsMadeBy (plans : List (Option PreparedChange)) (old new : MadeTable) : Type 0 where
-  pub plan : Option PreparedChange
-  pub among : IsAmong plan plans
-  pub made : IsMade old plan new
-
-pub record AreMadeBy (plans : List (Option PreparedChange)) (old new : List MadeTable) :
-    Type 0 where
-  pub count : length new ≡ length old
-  pub each : (k : ℕ) → (d : MadeTable) → k < length old
-      → IsMadeBy plans (slice_index_or old k d) (slice_index_or new k d)
-
 -- the changes are made of the tables of the newest version, some of which earlier versions may have
 -- too, and of no other
 pub record HasChanges (kept new : Kept) (plans : List (Option PreparedChange)) : Type 0 where
@@ -75,16 +58,6 @@ pub record HasChanges (kept new : Kept) (plans : List (Option PreparedChange)) :
   pub groups : (k : ℕ) → k < length kept.versions
       → AreMadeBy plans (group_of kept k) (group_of new k)
   pub made : AreMade (newest_group kept) plans (group_of new (length kept.versions))
-
--- the lifeline of a table that lives ends with version k where the next operator consumes it
-abbrev pub table_after : (List ℕ → Bool) → ℕ → MadeTable → MadeTable
-table_after consumed k t = record {
-  name = t.name;
-  first = t.first;
-  last =
-      last_after (consumed t.name) k t.last;
-  store = t.store;
-}
 
 -- one version more, with tables that begin and the places of its own; the lifelines of the tables
 -- that its operator consumes, over any schema, end

@@ -1,5 +1,3 @@
-pub mod Stored
-pub mod Places
 pub mod Groups
 pub mod Lifelines
 pub mod Covering
@@ -7,15 +5,8 @@ pub mod LongestRuns
 pub mod Sizes
 pub mod GroupFields
 pub mod Representation
-pub mod Becoming
-pub mod Grouping
-pub mod Changing
 pub mod Steps
 pub mod Judged
 pub mod Room
 pub mod Installing
-pub mod Ending
-pub mod NewestTables
-pub mod MadeRows
-pub mod Evolving
 pub mod Restoring

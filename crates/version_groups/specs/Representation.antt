@@ -10,7 +10,7 @@ use Rattle.smo_meaning.specs.InForce.{in_force}
 use Rattle.smo_meaning.specs.ValidPast.{last_or_nought, IsLater, IsPast}
 use Rattle.smo_meaning.specs.ValidValues.{PastHolds}
 use Rattle.smo_meaning.specs.Past.{Past, tables_of, database_at}
-use Rattle.version_groups.specs.declared.made_table.MadeTable.{MadeTable}
+use Rattle.version_tables.specs.declared.made_table.MadeTable.{MadeTable}
 use Rattle.version_groups.specs.Covering.{AreOfLifelines}
 use Rattle.version_groups.specs.Groups.{Kept, versions_in, table_in}
 use Rattle.version_groups.specs.Sizes.{HaveSizes}

@@ -7,7 +7,6 @@ use Rattle.relations.specs.Sets.{Ascends}
 use Rattle.relations.specs.Spans.{forever}
 use Rattle.prima_base.specs.Columns.{Column}
 use Rattle.prima_base.specs.Order.{bytes_cmp}
-use Rattle.history_store.specs.Store.{Store}
 use Rattle.history_store.specs.Change.{PreparedChange}
 use Rattle.schema_catalog.specs.Tables.{Tables}
 use Rattle.schema_catalog.specs.Databases.{Database}
@@ -16,18 +15,18 @@ use Rattle.smo_meaning.specs.ValidValues.{BodyHolds}
 use Rattle.smo_types.specs.Commands.{PlainBody, changing, evolving, PlainCommand, PlainVersion}
 use Rattle.smo_types.specs.Commands.{version_of}
 use Rattle.smo_meaning.specs.Effects.{rows_under, gained, lost}
-use Rattle.smo_meaning.specs.OneRow.{Relation}
 use Rattle.smo_meaning.specs.Touching.{makes}
 use Rattle.smo_meaning.specs.Past.{Past, newest_tables, newest_database, next_version}
 use Rattle.smo_meaning.specs.Past.{next_database}
-use Rattle.version_groups.specs.declared.made_table.MadeTable.{MadeTable}
+use Rattle.version_tables.specs.declared.made_table.MadeTable.{MadeTable}
+use Rattle.version_tables.specs.Stored.{stored_as, names_of}
+use Rattle.version_tables.specs.Beginning.{BeginsWith, BeginInOrder, ArePlaced}
+use Rattle.version_tables.specs.Evolving.{BeginsEntry}
+use Rattle.version_tables.specs.Becoming.{Leads}
+use Rattle.version_tables.specs.Places.{at_places, AreWithin}
 use Rattle.version_groups.specs.declared.next.Step.{Step}
 use Rattle.version_groups.specs.declared.next.Step.TheVariants.{Changed, Evolved}
-use Rattle.version_groups.specs.Groups.{Kept, newest_places, group_of, stored_as, names_of}
-use Rattle.version_groups.specs.Groups.{HasEntry}
-use Rattle.version_groups.specs.Sizes.{BeginsWith, BeginInOrder, ArePlaced}
-use Rattle.version_groups.specs.Becoming.{Begins, Leads}
-use Rattle.version_groups.specs.Places.{at_places, AreWithin}
+use Rattle.version_groups.specs.Groups.{Kept, newest_places, group_of}
 
 -- a change of each table of the newest version, or none; or the next version, the tables that begin
 -- with it, and the places of its own among all
@@ -57,10 +56,6 @@ pub record AreChanges (stamp : ℕ) (next : Database) (tables : List MadeTable)
   pub each : (k : ℕ) → (d : MadeTable) → k < length tables
       → Leads (slice_index_or tables k d).store stamp
       (rows_under (get next (slice_index_or tables k d).name)) (slice_index_or plans k None)
-
--- a table is stored just where the next version has one; it begins with these rows
-abbrev pub BeginsEntry : ℕ → Relation → Option (List Column) → Option Store → Type 0
-BeginsEntry stamp rows = HasEntry (λ columns store. Begins columns stamp rows store)
 
 -- the next version, over the tables before it, with its tables in the order of their names, and the
 -- room for it

@@ -1,10 +1,5 @@
-use crate::changed_table::{Changes, install_tables, prepare_tables};
-use crate::ended_lifeline::end_consumed;
-use crate::evolution::begin_version;
 use crate::judged::Judged;
-use crate::made_table::{MadeTable, find_stored, find_table};
 use crate::next::{Next, Step};
-use crate::restoration::restored_tables;
 use crate::size::SizeLine;
 use history_store::{Prepared, StoredTable};
 use prima_base::{Name, NoMemory};
@@ -14,6 +9,8 @@ use std::alloc::Global;
 use std::marker::Model;
 use std::mem;
 use std::vec::IntoIter;
+use version_tables::{Changes, MadeTable, begin_version, end_consumed, find_stored, find_table};
+use version_tables::{install_tables, prepare_tables, restored_tables};
 
 /// The versions of an archive, and for each version its stored tables. A table that no operator
 /// makes or consumes is stored once over all its versions.
@@ -115,16 +112,17 @@ impl Groups {
     ghost use Rattle.smo_meaning.specs.Past.{version_at, past_with};
     ghost use Rattle.smo_meaning.specs.Past.{newest_tables};
     ghost use Rattle.smo_meaning.specs.Sizes.{Size};
+    ghost use Rattle.version_tables.specs.Stored.{names_of};
+    ghost use Rattle.version_tables.specs.Places.{at_places, AreWithin};
+    ghost use Rattle.version_tables.specs.Changing.{HaveRoom};
+    ghost use Rattle.version_tables.specs.Restoring.{stores_of, HaveColumns};
     ghost use Rattle.version_groups.specs.Groups.{versions_in, places_of, stored_at, table_in};
-    ghost use Rattle.version_groups.specs.Groups.{newest_group, names_of};
-    ghost use Rattle.version_groups.specs.Places.{at_places, AreWithin};
-    ghost use Rattle.version_groups.specs.Changing.{HaveRoom};
+    ghost use Rattle.version_groups.specs.Groups.{newest_group};
     ghost use Rattle.version_groups.specs.Installing.{HasEarlier, HasChanges, HasVersion, ComeWith};
     ghost use Rattle.version_groups.specs.Installing.{HasStep};
     ghost use Rattle.version_groups.specs.Lifelines.{lifelines_of, columns_of, made_tables};
     ghost use Rattle.version_groups.specs.Lifelines.{place_in};
-    ghost use Rattle.version_groups.specs.Restoring.{AreRestored, stores_of, store_columns};
-    ghost use Rattle.version_groups.specs.Restoring.{HaveColumns};
+    ghost use Rattle.version_groups.specs.Restoring.{AreRestored, store_columns};
     ghost use Rattle.version_groups.specs.Representation.{Represents};
     ghost use Rattle.version_groups.specs.Sizes.{IsLineOf};
     ghost use Rattle.version_groups.specs.Room.{IsSame};

@@ -7,14 +7,9 @@
 //! cannot fail.
 #![tactic(auto)]
 
-mod change_group;
-mod changed_table;
-mod ended_lifeline;
-mod evolution;
 mod groups;
 mod judged;
 mod lifeline_laws;
-mod made_table;
 mod next;
 mod restoration;
 mod size;
@@ -22,7 +17,7 @@ mod size;
 pub use groups::Groups;
 pub use judged::Judged;
 pub use lifeline_laws::{lifelines_are_few, lifelines_are_longest_runs};
-pub use made_table::MadeTable;
 pub use next::Next;
 pub use restoration::restored_shows;
 pub use size::{SizeLine, sizes_are_of_lifelines};
+pub use version_tables::MadeTable;

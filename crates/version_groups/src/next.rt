@@ -1,7 +1,7 @@
-use crate::made_table::MadeTable;
 use history_store::Prepared;
 use smo_ops::Version;
 use std::marker::Model;
+use version_tables::MadeTable;
 
 /// What a command does.
 #[derive(Drop)]

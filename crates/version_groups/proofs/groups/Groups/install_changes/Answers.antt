@@ -2,12 +2,13 @@ use Rattle.std.proofs.Common.{◌≡◌, get_or, refl, sym, ap, subst, ◌∙◌
 use Rattle.std.specs.Prelude.{List, ℕ, length}
 use Rattle.relations.specs.Sets.{In, Ascends}
 use Rattle.prima_base.specs.Order.{bytes_cmp}
-use Rattle.version_groups.specs.declared.made_table.MadeTable.{MadeTable}
+use Rattle.version_tables.specs.declared.made_table.MadeTable.{MadeTable}
+use Rattle.version_tables.specs.Stored.{names_of}
+use Rattle.version_tables.specs.Places.{at_places, AreWithin}
+use Rattle.version_tables.specs.Changing.{HaveRoom, AreMade}
 use Rattle.version_groups.specs.declared.groups.Groups.TheInside.{Inside}
-use Rattle.version_groups.specs.Groups.{Kept, newest_group, names_of}
+use Rattle.version_groups.specs.Groups.{Kept, newest_group}
 use Rattle.version_groups.specs.GroupFields.{groups_view}
-use Rattle.version_groups.specs.Places.{at_places, AreWithin}
-use Rattle.version_groups.specs.Changing.{HaveRoom, AreMade}
 use Rattle.version_groups.specs.Installing.{HasChanges}
 use Rattle.version_groups.proofs.GroupPlaces.{newest_is, are_groups, names_made, lines_made}
 use Rattle.version_groups.proofs.GroupPlaces.{has_changes}

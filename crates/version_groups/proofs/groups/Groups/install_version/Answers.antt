@@ -4,13 +4,14 @@ use Rattle.std.specs.Global.{Vec}
 use Rattle.relations.specs.Sets.{Ascends}
 use Rattle.prima_base.specs.Order.{bytes_cmp}
 use Rattle.smo_types.specs.Operators.{operator_of}
-use Rattle.version_groups.specs.declared.made_table.MadeTable.{MadeTable}
+use Rattle.version_tables.specs.declared.made_table.MadeTable.{MadeTable}
+use Rattle.version_tables.specs.Stored.{names_of}
+use Rattle.version_tables.specs.Places.{at_places, AreWithin}
+use Rattle.version_tables.specs.Ending.{AreLiving}
 use Rattle.version_groups.specs.declared.groups.Groups.TheInside.{Inside}
-use Rattle.version_groups.specs.Groups.{Kept, names_of}
+use Rattle.version_groups.specs.Groups.{Kept}
 use Rattle.version_groups.specs.GroupFields.{groups_view}
 use Rattle.version_groups.specs.Installing.{HasVersion, ComeWith}
-use Rattle.version_groups.specs.Places.{at_places, AreWithin}
-use Rattle.version_groups.specs.Sizes.{AreLiving}
 use Rattle.version_groups.proofs.GroupPlaces.{newest_places_are, put_with, are_groups_with}
 use Rattle.version_groups.proofs.GroupPlaces.{lifelines_are, has_version}
 use Rattle.version_groups.proofs.Covered.{newest_living}

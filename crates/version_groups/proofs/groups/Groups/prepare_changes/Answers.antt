@@ -3,14 +3,15 @@ use Rattle.relations.specs.Sets.{Ascends}
 use Rattle.prima_base.specs.Order.{bytes_cmp}
 use Rattle.schema_catalog.specs.Tables.{Tables}
 use Rattle.smo_types.specs.Changes.{changes_of}
-use Rattle.version_groups.specs.declared.made_table.MadeTable.{MadeTable}
-use Rattle.version_groups.specs.declared.groups.Groups.TheInside.{Inside}
+use Rattle.version_tables.specs.declared.made_table.MadeTable.{MadeTable}
+use Rattle.version_tables.specs.Stored.{names_of}
 use Rattle.std.specs.Prelude.{List, length}
-use Rattle.version_groups.specs.Groups.{Kept, newest_group, names_of}
+use Rattle.version_tables.specs.Changing.{AreChangeable, AreReady, all_gained, all_lost}
+use Rattle.version_tables.specs.Places.{at_places, AreWithin}
+use Rattle.version_groups.specs.declared.groups.Groups.TheInside.{Inside}
+use Rattle.version_groups.specs.Groups.{Kept, newest_group}
 use Rattle.version_groups.specs.GroupFields.{groups_view}
-use Rattle.version_groups.specs.Changing.{AreChangeable, AreReady, all_gained, all_lost}
 use Rattle.version_groups.specs.Room.{IsSame}
-use Rattle.version_groups.specs.Places.{at_places, AreWithin}
 use Rattle.version_groups.proofs.GroupPlaces.{newest_is, view_same, are_groups, names_kept}
 use Rattle.version_groups.proofs.GroupPlaces.{lines_kept}
 use Rattle.version_groups.proofs.PreparedCommand.{schema_is, changeable_now, changes_ready}

@@ -7,10 +7,11 @@ use Rattle.smo_meaning.specs.After.{op_fault, schema_after, IsValid}
 use Rattle.smo_types.specs.Commands.{version_of}
 use Rattle.smo_types.specs.Operators.{operator_of, operators_of}
 use Rattle.smo_meaning.specs.Past.{newest_tables, newest_database}
-use Rattle.version_groups.specs.Groups.{Kept, newest_places, newest_group, names_of}
-use Rattle.version_groups.specs.Evolving.{IsEvolved}
-use Rattle.version_groups.specs.NewestTables.{AreStored}
-use Rattle.version_groups.specs.Places.{at_places, AreWithin}
+use Rattle.version_tables.specs.Stored.{names_of}
+use Rattle.version_tables.specs.Evolving.{IsEvolved}
+use Rattle.version_tables.specs.NewestTables.{AreStored}
+use Rattle.version_tables.specs.Places.{at_places, AreWithin}
+use Rattle.version_groups.specs.Groups.{Kept, newest_places, newest_group}
 use Rattle.version_groups.proofs.CarriedOut.{as_many}
 use Rattle.version_groups.proofs.GroupPlaces.{newest_places_are, newest_is}
 use Rattle.version_groups.proofs.PreparedCommand.{schema_is, op_accepted, few_versions, stored_now}

@@ -8,9 +8,9 @@ use Rattle.smo_types.specs.Commands.{version_of}
 use Rattle.smo_meaning.specs.After.{IsValid}
 use Rattle.smo_meaning.specs.ValidPast.{AreVersions}
 use Rattle.smo_meaning.specs.Past.{no_tables, newest_from}
+use Rattle.version_tables.specs.Restoring.{stores_of}
 use Rattle.version_groups.specs.Groups.{versions_in}
 use Rattle.version_groups.specs.Lifelines.{lifelines_of, columns_of}
-use Rattle.version_groups.specs.Restoring.{stores_of}
 use Rattle.version_groups.proofs.RestoredGroups.{no_versions, nothing_stored, nothing_restored}
 use Rattle.version_groups.proofs.RestoredGroups.{newest_is_last, next_valid, rest_accepted}
 use Rattle.version_groups.proofs.RestoredGroups.{next_due, none_left, all_taken}

@@ -5,8 +5,9 @@ use Rattle.smo_types.specs.Commands.{version_of}
 use Rattle.smo_meaning.specs.After.{IsValid}
 use Rattle.smo_meaning.specs.ValidPast.{AreVersions}
 use Rattle.smo_meaning.specs.Past.{no_tables, newest_from}
+use Rattle.version_tables.specs.Restoring.{stores_of}
 use Rattle.version_groups.specs.Groups.{versions_in}
-use Rattle.version_groups.specs.Restoring.{AreRestored, stores_of}
+use Rattle.version_groups.specs.Restoring.{AreRestored}
 use Rattle.version_groups.proofs.groups.Groups.restore.Given as goal
 
 abbrev pub invariant-loop-version : goal.invariant-loop-version

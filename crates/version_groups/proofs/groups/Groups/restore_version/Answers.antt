@@ -9,16 +9,17 @@ use Rattle.smo_meaning.specs.After.{IsValid}
 use Rattle.smo_meaning.specs.Past.{no_tables, newest_from}
 use Rattle.smo_meaning.specs.Touching.{makes}
 use Rattle.smo_meaning.proofs.NextSchemas.{next_is_valid}
-use Rattle.version_groups.specs.declared.made_table.MadeTable.{MadeTable}
-use Rattle.version_groups.specs.Evolving.{ComeNext}
-use Rattle.version_groups.specs.Groups.{Kept, versions_in, newest_places, newest_group, stored_as}
-use Rattle.version_groups.specs.Places.{at_places}
+use Rattle.version_tables.specs.declared.made_table.MadeTable.{MadeTable}
+use Rattle.version_tables.specs.Evolving.{ComeNext}
+use Rattle.version_tables.specs.Stored.{stored_as}
+use Rattle.version_tables.specs.Places.{at_places}
+use Rattle.version_tables.specs.Restoring.{stores_of, HaveColumns, BeginsOver, HasColumns}
+use Rattle.version_tables.specs.Restoring.{OthersAre}
 use Rattle.smo_schemas.specs.Names.{is_one_of}
-use Rattle.version_groups.specs.Restoring.{stores_of, HaveColumns, BeginsOver, HasColumns}
-use Rattle.version_groups.specs.Restoring.{OthersAre}
+use Rattle.version_tables.proofs.PlacedTables.{filter_alike}
+use Rattle.version_tables.proofs.RestoredTables.{one_of_made, come_alike}
+use Rattle.version_groups.specs.Groups.{Kept, versions_in, newest_places, newest_group}
 use Rattle.version_groups.proofs.GroupPlaces.{newest_places_are, newest_is}
-use Rattle.version_groups.proofs.PlacedTables.{filter_alike}
-use Rattle.version_groups.proofs.RestoredTables.{one_of_made, come_alike}
 use Rattle.version_groups.proofs.RestoredVersions.{version_again, come_again, others_stored}
 use Rattle.version_groups.proofs.RestoredVersions.{comes_over, stores_with, restored_with}
 use Rattle.version_groups.proofs.groups.Groups.restore_version.Goals as goal

@@ -1,0 +1,17 @@
+pub mod TablesInTurn
+pub mod Places
+pub mod NamedPlaces
+pub mod LifelinesEnded
+pub mod LifelinesAfter
+pub mod StillStored
+pub mod MadeBy
+pub mod NextPlaces
+pub mod BegunTables
+pub mod PlacedTables
+pub mod GivenTables
+pub mod CarriedTables
+pub mod RestoredTables
+pub mod ChangeGroups
+pub mod TablesChanged
+pub mod TablesCounted
+pub mod ColumnCounts

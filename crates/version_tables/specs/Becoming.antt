@@ -1,0 +1,74 @@
+-- What a stored table is from a stamp on, by its relation at each moment.
+use Rattle.std.specs.Prelude.{◌≡◌, ℕ, ◌+◌, ◌-◌, ◌<◌, ◌≤◌, List, [], Option, Some, None, length}
+use Rattle.std.specs.Prelude.{slice_index_or, ⊤}
+use Rattle.relations.specs.Sets.{In}
+use Rattle.relations.specs.Spans.{forever}
+use Rattle.prima_base.specs.declared.value.Value.{Value}
+use Rattle.prima_base.specs.Columns.{Column}
+use Rattle.history_store.specs.Store.{Store, weight, relation_at, AllBefore}
+use Rattle.history_store.specs.Handing.{written}
+use Rattle.history_store.specs.Change.{PreparedChange, IsPlan, rows_along, rows_after}
+use Rattle.smo_meaning.specs.OneRow.{Relation}
+use Rattle.table_changes.specs.Changing.{IsChange}
+use Rattle.version_tables.specs.declared.made_table.MadeTable.{MadeTable}
+
+-- from the stamp on the table has the rows, and before it what it had
+pub record Becomes (old new : Store) (stamp : ℕ) (rows : Relation) : Type 0 where
+  pub columns : new.columns ≡ old.columns
+  pub before : (m : ℕ) → m < stamp → relation_at new m ≡ relation_at old m
+  pub from : (m : ℕ) → stamp ≤ m → m < forever → relation_at new m ≡ rows
+  pub later : (m : ℕ) → stamp < m → AllBefore new m
+
+-- a table of these columns that has the rows from the stamp on
+pub record Begins (its : List Column) (stamp : ℕ) (rows : Relation) (store : Store) : Type 0 where
+  pub columns : store.columns ≡ its
+  pub from : (m : ℕ) → stamp ≤ m → m < forever → relation_at store m ≡ rows
+  pub later : (m : ℕ) → stamp < m → AllBefore store m
+
+-- a change that is ready and has its room, or none
+abbrev pub HasRoom : Store → Option PreparedChange → Type 0
+HasRoom store None = ⊤
+HasRoom store (Some plan) = IsPlan store plan × (length plan.gained ≤ store.spare)
+
+-- a change that leads to these rows; none where these are the table's rows
+abbrev pub Leads : Store → ℕ → Relation → Option PreparedChange → Type 0
+Leads store stamp rows None = relation_at store stamp ≡ rows
+Leads store stamp rows (Some plan) = IsChange store stamp rows plan
+
+-- the change is made of a table: it has its name and its lifeline, and each gained row without a
+-- partner is a key more, and writes its values; of a row with a partner those are written that
+-- differ
+pub record IsInstalled (old : MadeTable) (plan : PreparedChange) (new : MadeTable) : Type 0 where
+  pub name : new.name ≡ old.name
+  pub first : new.first ≡ old.first
+  pub last : new.last ≡ old.last
+  pub becomes : Becomes old.store new.store plan.stamp (rows_after old.store plan)
+  pub keys : length new.store.keys ≡ length old.store.keys + (length plan.gained - length plan.lost)
+  pub wide : length old.store.cells ≡ length old.store.columns
+  pub count : length new.store.cells ≡ length old.store.cells
+  pub written : (f : Value → ℕ) → (k : ℕ) → k < length old.store.columns
+      → weight f (slice_index_or new.store.cells k [])
+      ≡ weight f (slice_index_or old.store.cells k []) + written f k
+      (rows_along plan.lost plan.stamp old.store.cells) plan.gained
+
+-- the change is made; where there is none the table is as it was
+abbrev pub IsMade : MadeTable → Option PreparedChange → MadeTable → Type 0
+IsMade old None new = new ≡ old
+IsMade old (Some plan) new = IsInstalled old plan new
+
+-- one of these changes, or none
+abbrev pub IsAmong : Option PreparedChange → List (Option PreparedChange) → Type 0
+IsAmong None plans = ⊤
+IsAmong (Some plan) plans = In (Some plan) plans
+
+-- one of the changes is made of it, or none
+pub record IsMadeBy (plans : List (Option PreparedChange)) (old new : MadeTable) : Type 0 where
+  pub plan : Option PreparedChange
+  pub among : IsAmong plan plans
+  pub made : IsMade old plan new
+
+pub record AreMadeBy (plans : List (Option PreparedChange)) (old new : List MadeTable) :
+    Type 0 where
+  pub count : length new ≡ length old
+  pub each : (k : ℕ) → (d : MadeTable) → k < length old
+      → IsMadeBy plans (slice_index_or old k d) (slice_index_or new k d)

@@ -1,0 +1,12 @@
+pub mod Stored
+pub mod Places
+pub mod Room
+pub mod Becoming
+pub mod Grouping
+pub mod Changing
+pub mod NewestTables
+pub mod MadeRows
+pub mod Beginning
+pub mod Evolving
+pub mod Ending
+pub mod Restoring

@@ -1,0 +1,198 @@
+//! What the changes of a command make of the tables of the newest version.
+
+ghost use Rattle.std.specs.Prelude.{◌≡◌, ◌+◌, ◌-◌, ◌<◌, ◌≤◌, ℕ, length, IfOk, slice_index_or};
+ghost use Rattle.std.specs.Prelude.{vec_len, vec_capacity};
+ghost use Rattle.relations.specs.Sets.{In, Ascends};
+ghost use Rattle.relations.specs.Spans.{forever};
+ghost use Rattle.prima_base.specs.Order.{bytes_cmp};
+ghost use Rattle.smo_types.specs.Changes.{changes_of};
+ghost use Rattle.smo_meaning.specs.Effects.{gained_rows};
+ghost use Rattle.version_tables.specs.declared.made_table.MadeTable.{MadeTable as Stored};
+ghost use Rattle.table_changes.specs.Changing.{IsChange, borrowed_changes};
+ghost use Rattle.version_tables.specs.Becoming.{Leads, IsMade, HasRoom, AreMadeBy};
+ghost use Rattle.version_tables.specs.Changing.{IsChangeable, AreChangeable, AreReady, HaveRoom};
+ghost use Rattle.version_tables.specs.Changing.{AreMade, rows_now, rows_after_own, all_gained};
+ghost use Rattle.version_tables.specs.Changing.{all_lost, gained_by, lost_by};
+ghost use Rattle.version_tables.specs.Room.{IsSameTable, AreSameTables};
+ghost use Rattle.version_tables.specs.Stored.{names_of};
+ghost use Rattle.version_tables.specs.Places.{at_places, AreWithin};
+
+use crate::change_group::changes_by_table;
+use crate::made_table::MadeTable;
+use history_store::Prepared;
+use prima_base::NoMemory;
+use schema_catalog::Schema;
+use smo_ops::Change;
+use std::alloc::Global;
+use table_changes::prepare_table;
+
+/// The changes of tables that are ready, and the rows that they gain and lose.
+#[derive(Drop)]
+pub struct Changes<'a> {
+    pub gained: u64,
+    pub lost: u64,
+    pub plans: Vec<Option<Prepared<'a>>>,
+}
+
+// Makes the changes of one table ready.
+fn prepare_touched<'a>(
+    alloc: Global,
+    schema: &Schema,
+    table: &mut MadeTable,
+    stamp: u64,
+    changes: &[&'a Change],
+) -> Result<Prepared<'a>, NoMemory>
+    requires changeable { IsChangeable schema.now stamp (borrowed_changes changes.now) table.old }
+    requires valid { stamp < forever }
+    ensures same { IsSameTable table.old table.new }
+    ensures change { IfOk result (λ p. IsChange table.new.store stamp
+        (rows_after_own stamp (borrowed_changes changes.now) table.old) p) }
+    ensures gained { IfOk result (λ p. length p.gained
+        ≡ length (gained_rows (rows_now stamp table.old)
+        (rows_after_own stamp (borrowed_changes changes.now) table.old))) }
+    ensures lost { IfOk result (λ p. length p.lost
+        ≡ length (gained_rows (rows_after_own stamp (borrowed_changes changes.now) table.old)
+        (rows_now stamp table.old))) }
+{
+    let Some(of_schema) = schema.table(&table.name) else {
+        // The schema has the table with its columns (`IsChangeable`).
+        unreachable!();
+    };
+    let columns = of_schema.columns();
+    prepare_table(alloc, columns, &mut table.store, stamp, changes)
+}
+
+// Makes the changes of one table ready, where there are any.
+fn prepare_one<'a>(
+    alloc: Global,
+    schema: &Schema,
+    table: &mut MadeTable,
+    stamp: u64,
+    changes: &[&'a Change],
+) -> Result<Option<Prepared<'a>>, NoMemory>
+    requires changeable { IsChangeable schema.now stamp (borrowed_changes changes.now) table.old }
+    requires valid { stamp < forever }
+    ensures same { IsSameTable table.old table.new }
+    ensures leads { IfOk result (λ p. Leads table.new.store stamp
+        (rows_after_own stamp (borrowed_changes changes.now) table.old) p) }
+    ensures gained { IfOk result (λ p. gained_by p
+        ≡ length (gained_rows (rows_now stamp table.old)
+        (rows_after_own stamp (borrowed_changes changes.now) table.old))) }
+    ensures lost { IfOk result (λ p. lost_by p
+        ≡ length (gained_rows (rows_after_own stamp (borrowed_changes changes.now) table.old)
+        (rows_now stamp table.old))) }
+{
+    if changes.is_empty() {
+        return Ok(None);
+    }
+    let prepared = prepare_touched(alloc, schema, table, stamp, changes)?;
+    Ok(Some(prepared))
+}
+
+// The rows that a change gains.
+fn gained_by(plan: &Option<Prepared<'_>>) -> u64
+    ensures { result ≡ gained_by plan.now }
+{
+    match plan {
+        None => 0,
+        Some(prepared) => prepared.gained(),
+    }
+}
+
+// The rows that a change loses.
+fn lost_by(plan: &Option<Prepared<'_>>) -> u64
+    ensures { result ≡ lost_by plan.now }
+{
+    match plan {
+        None => 0,
+        Some(prepared) => prepared.lost(),
+    }
+}
+
+// The sum of two counts. No table has so many rows that it would not fit: there is no memory for
+// them.
+fn sum(a: u64, b: u64) -> Result<u64, NoMemory>
+    ensures { IfOk result (λ n. n ≡ a + b) }
+{
+    match a.checked_add(b) {
+        Some(n) => Ok(n),
+        None => Err(NoMemory),
+    }
+}
+
+/// Makes the changes of each table at these places ready, from the stamp on, and all the room that
+/// installing them needs. The changes are looked through once, to group them by table, and only
+/// tables that a change is of are looked at. The one error is `NoMemory`, where memory runs out.
+/// What the tables stand for stays as it is.
+pub fn prepare_tables<'a>(
+    alloc: Global,
+    schema: &Schema,
+    tables: &mut Vec<MadeTable>,
+    places: &[usize],
+    stamp: u64,
+    changes: &'a [Change],
+) -> Result<Changes<'a>, NoMemory>
+    requires there { AreWithin places.now (length tables.old.items) }
+    requires ordered { Ascends bytes_cmp (names_of (at_places tables.old.items places.now)) }
+    requires changeable { AreChangeable schema.now stamp (changes_of changes.now)
+        (at_places tables.old.items places.now) }
+    requires valid { stamp < forever }
+    ensures same { AreSameTables tables.old.items tables.new.items }
+    ensures room { vec_capacity tables.old - vec_len tables.old ≤ vec_capacity tables.new - vec_len
+        tables.new }
+    ensures ready { IfOk result (λ c. AreReady stamp (changes_of changes.now)
+        (at_places tables.new.items places.now) c.plans.items) }
+    ensures gained { IfOk result (λ c. c.gained
+        ≡ all_gained stamp (changes_of changes.now) (at_places tables.old.items places.now)) }
+    ensures lost { IfOk result (λ c. c.lost ≡ all_lost stamp (changes_of changes.now)
+        (at_places tables.old.items places.now)) }
+{
+    let groups = changes_by_table(alloc, tables, places, changes)?;
+    let mut plans = Vec::with_capacity(alloc, places.len())?;
+    let mut gained = 0;
+    let mut lost = 0;
+    for i in 0..places.len() {
+        let plan = prepare_one(alloc, schema, &mut tables[places[i]], stamp, &groups[i])?;
+        gained = sum(gained, gained_by(&plan))?;
+        lost = sum(lost, lost_by(&plan))?;
+        plans.push(plan)?;
+    }
+    Ok(Changes {
+        gained,
+        lost,
+        plans,
+    })
+}
+
+// Makes the change of one table. It takes no memory.
+fn install_one(table: &mut MadeTable, plan: Option<Prepared<'_>>)
+    requires { HasRoom table.old.store plan }
+    ensures { IsMade table.old plan.entry table.new }
+{
+    match plan {
+        None => {}
+        Some(prepared) => table.store.install(prepared),
+    }
+}
+
+/// Makes the changes that are ready of the tables at these places. It takes no memory.
+pub fn install_tables(
+    tables: &mut Vec<MadeTable>,
+    places: &[usize],
+    plans: Vec<Option<Prepared<'_>>>,
+)
+    requires there { AreWithin places.now (length tables.old.items) }
+    requires ordered { Ascends bytes_cmp (names_of (at_places tables.old.items places.now)) }
+    requires room { HaveRoom (at_places tables.old.items places.now) plans.items }
+    ensures made { AreMade (at_places tables.old.items places.now) plans.entry.items
+        (at_places tables.new.items places.now) }
+    ensures each { AreMadeBy plans.entry.items tables.old.items tables.new.items }
+    ensures others { (p : ℕ) → (d : Stored) → (In p places.now → ⊥)
+        → slice_index_or tables.new.items p d ≡ slice_index_or tables.old.items p d }
+{
+    let mut i = 0;
+    for plan in plans {
+        install_one(&mut tables[places[i]], plan);
+        i += 1;
+    }
+}
