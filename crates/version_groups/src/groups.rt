@@ -9,8 +9,10 @@ use std::alloc::Global;
 use std::marker::Model;
 use std::mem;
 use std::vec::IntoIter;
-use version_tables::{Changes, MadeTable, begin_version, end_consumed, find_stored, find_table};
-use version_tables::{install_tables, prepare_tables, restored_tables};
+use version_tables::{
+    Changes, MadeTable, begin_version, end_consumed, find_stored, find_table, install_tables,
+    prepare_tables, restored_tables,
+};
 
 /// The versions of an archive, and for each version its stored tables. A table that no operator
 /// makes or consumes is stored once over all its versions.
