@@ -1,0 +1,12 @@
+//! What no script can say of an archive, and only running shows: how often a query reads and which
+//! of its texts are borrowed, the boxed rules and their book, and pieces with ample memory.
+//!
+//! Every other case is a script with its replies, in the crates whose names end in `_cases`.
+#![tactic(auto)]
+
+#[cfg(test)]
+mod archive;
+#[cfg(test)]
+mod piece;
+#[cfg(test)]
+mod rule;
