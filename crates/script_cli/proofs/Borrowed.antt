@@ -5,7 +5,7 @@ use Rattle.disk_model.specs.Meaning.{Meaning, borrowed_as}
 use Rattle.disk_model.specs.BorrowLaws.{borrowed_turns}
 use Rattle.journal.specs.Mounting.{SameOrNine, KeepsFile}
 use Rattle.archive_file.specs.LogRecords.{LogRecord}
-use Rattle.script_cli.specs.Given.{Given}
+use Rattle.statement_response.specs.Given.{Given}
 use Rattle.script_cli.specs.Files.{OpensPrefix}
 use Rattle.script_cli.specs.Runs.{NotOpened, OnDisk, RunsOver, logged_in}
 use Rattle.script_cli.specs.declared.status.Status.{Status}

@@ -11,24 +11,26 @@ use Rattle.archive_core.specs.declared.archive.Archive.{Archive}
 use Rattle.archive_core.specs.declared.archive.Opened.{Opened}
 use Rattle.archive_core.specs.Mounting.{IsMounted}
 use Rattle.script_parse.specs.Script.{Whole as Text}
-use Rattle.script_cli.specs.Given.{Given}
-use Rattle.script_cli.specs.Due.{Due, command_due, image_due, commands_due}
-use Rattle.script_cli.specs.Puts.{is_error, is_command, put_for}
-use Rattle.script_cli.specs.Output.{Recorded, reply, script_puts, all_puts}
-use Rattle.script_cli.specs.Responses.{put_of}
+use Rattle.statement_response.specs.Given.{Given}
+use Rattle.statement_response.specs.Due.{Due, command_due, image_due, commands_due}
+use Rattle.statement_response.specs.Puts.{is_error, is_command, put_for}
+use Rattle.statement_response.specs.Replies.{Recorded, reply}
+use Rattle.script_cli.specs.Output.{script_puts, all_puts}
+use Rattle.statement_response.specs.Responses.{put_of}
 use Rattle.script_cli.specs.Driving.{CountsPuts, CountsOpening, status_of}
 use Rattle.script_cli.specs.Runs.{IsOpening, is_whole}
 use Rattle.script_cli.specs.Sampling.{IsCounted}
 use Rattle.script_cli.specs.declared.script_run.ScriptRun.{ScriptRun}
-use Rattle.script_cli.specs.declared.halt.Halt.{Halt}
-use Rattle.script_cli.specs.declared.halt.Halt.TheVariants as halt
+use Rattle.statement_response.specs.declared.halt.Halt.{Halt}
+use Rattle.statement_response.specs.declared.halt.Halt.TheVariants as halt
 use Rattle.script_cli.specs.declared.status.Status.{Status}
 use Rattle.script_cli.specs.declared.status.Status.TheVariants.{Done, Refused, Words, ReadFault}
 use Rattle.script_cli.specs.declared.status.Status.TheVariants.{WriteFault, DiskFault, NotAJournal}
 use Rattle.script_cli.specs.declared.status.Status.TheVariants.{NoMemory, InputLimit}
-use Rattle.script_cli.specs.declared.put.Put.{Put}
+use Rattle.statement_response.specs.declared.put.Put.{Put}
 use Rattle.script_cli.proofs.OneReading.{OpensOnce}
-use Rattle.script_cli.proofs.Recording.{part_step, one_if}
+use Rattle.script_cli.proofs.Recording.{part_step}
+use Rattle.statement_response.proofs.ReplySteps.{one_if}
 use Rattle.script_cli.proofs.Reaching.{Reached, all_parts, consumed_still}
 use Rattle.script_cli.proofs.Telling.{told_end}
 

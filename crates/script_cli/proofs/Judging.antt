@@ -9,7 +9,7 @@ use Rattle.program_words.specs.declared.request.Mode.TheVariants.{Sample}
 use Rattle.program_words.specs.declared.request.Request.{Request}
 use Rattle.program_words.specs.Words.{limit_of_run, request}
 use Rattle.answer_text.specs.Texts.{wrong_words_text}
-use Rattle.script_cli.specs.Given.{Given}
+use Rattle.statement_response.specs.Given.{Given}
 use Rattle.script_cli.specs.Runs.{Ran, RunsOver, ToldUnopened, IsUntouched, RefusedWords, PutsLine}
 use Rattle.script_cli.specs.declared.status.Status.{Status}
 use Rattle.script_cli.specs.declared.status.Status.TheVariants.{Words, NoMemory}

@@ -1,4 +1,3 @@
-pub mod Errors
 pub mod Prefixes
 pub mod DueRecords
 pub mod OneReading
@@ -8,14 +7,8 @@ pub mod Taking
 pub mod Reaching
 pub mod OnDisks
 pub mod Telling
-pub mod ReadConstants
-pub mod ReadStatements
-pub mod WrittenStatements
 pub mod SpelledConstants
 pub mod ValidPasts
-pub mod ExplainedQueries
-pub mod Responding
-pub mod Lifelines
 pub mod Counts
 pub mod Unopened
 pub mod Borrowed

@@ -25,13 +25,14 @@ use Rattle.archive_core.specs.Fields.{standing_of, below, place_of}
 use Rattle.archive_core.specs.Holding.{HoldsAt}
 use Rattle.archive_core.specs.Mounting.{IsMounted}
 use Rattle.script_parse.specs.Script.{StatementPart}
-use Rattle.script_cli.specs.Due.{AreRecordsOf}
-use Rattle.script_cli.specs.Output.{Recorded, recorded, all_puts}
-use Rattle.script_cli.specs.Putting.{HasPut, PutsSome}
-use Rattle.script_cli.specs.Responses.{RepresentsAt}
+use Rattle.statement_response.specs.Due.{AreRecordsOf}
+use Rattle.statement_response.specs.Replies.{Recorded, recorded}
+use Rattle.script_cli.specs.Output.{all_puts}
+use Rattle.statement_response.specs.Putting.{HasPut}
+use Rattle.script_cli.specs.Driving.{PutsSome, Drove, PutBy, HasOpened}
+use Rattle.statement_response.specs.Responses.{RepresentsAt}
 use Rattle.script_cli.specs.Files.{OpensPrefix, EndsAs, IsSoundFile}
 use Rattle.script_cli.specs.Runs.{RanOpened, IsOpening, begun, given_by, logged_in}
-use Rattle.script_cli.specs.Driving.{Drove, PutBy, HasOpened}
 use Rattle.script_cli.specs.declared.status.Status.{Status}
 use Rattle.script_cli.specs.declared.status.Status.TheVariants.{Done, Refused, Words, ReadFault}
 use Rattle.script_cli.specs.declared.status.Status.TheVariants.{WriteFault, DiskFault, NotAJournal}

@@ -2,23 +2,24 @@
 use Rattle.std.proofs.Common.{◌≡◌, ◌⊎◌, inl, inr, ℕ, ◌+◌, List, [], ◌∷◌, ◌++◌, length, take, sym}
 use Rattle.std.proofs.Common.{◌∙◌, ap, subst, arith, append_assoc, length-append}
 use Rattle.std.proofs.Math.Seq.{take-append-add}
-use Rattle.std.proofs.lemmas.List.{append-nil, take-append-le, map-append}
+use Rattle.std.proofs.lemmas.List.{take-append-le, map-append}
 use Rattle.disk_model.specs.Meaning.{Meaning, IsValid}
 use Rattle.disk_model.specs.Moments.{Leaves}
 use Rattle.disk_model.specs.declared.disk.Disk.{Ghosts}
-use Rattle.disk_model.specs.MomentLaws.{goes_refl, goes_trans, still_honest, then_leaves}
+use Rattle.disk_model.specs.MomentLaws.{goes_trans, still_honest, then_leaves}
 use Rattle.disk_model.specs.MomentLaws.{leaves_now}
 use Rattle.journal.specs.Records.{Record, Holds}
 use Rattle.journal.specs.JournalFiles.{Stands, WithOrWithout}
-use Rattle.journal.specs.Puts.{Puts, Acknowledges, HoldsPrefix, HavePut}
-use Rattle.journal.specs.PutLaws.{have_none, have_more, leaves_one_more}
-use Rattle.archive_file.specs.LogRecords.{LogRecord, record_of, records_of, IsSpelled}
+use Rattle.journal.specs.Puts.{HoldsPrefix, HavePut}
+use Rattle.journal.specs.PutLaws.{leaves_one_more}
+use Rattle.archive_file.specs.LogRecords.{LogRecord, record_of, records_of}
 use Rattle.archive_core.specs.Holding.{HoldsAt}
 use Rattle.archive_core.specs.declared.archive.Archive.{Archive}
 use Rattle.archive_core.specs.Fields.{below, place_of}
-use Rattle.script_cli.specs.Due.{Due}
-use Rattle.script_cli.specs.Putting.{HasPut, MayHavePut, PutsSome}
-use Rattle.script_cli.specs.Responses.{PutBetween}
+use Rattle.statement_response.specs.Due.{Due}
+use Rattle.statement_response.specs.Putting.{HasPut, MayHavePut}
+use Rattle.script_cli.specs.Driving.{PutsSome}
+use Rattle.statement_response.specs.Responses.{PutBetween}
 use Rattle.script_cli.proofs.DueRecords.{records_together, spelled_append}
 
 -- ---- records
@@ -56,32 +57,6 @@ module _ (opening xs ys : List Record) where
   }
 
 -- ---- what they stand for
-
--- nothing is put
-pub put_nothing : (d : Meaning) (at : ℕ) → IsValid d → HasPut d d at at []
-put_nothing d at law = record {
-  spelled = tt;
-  goes = goes_refl d law;
-  holds = λ opening held. subst (λ (l : List LogRecord). HoldsAt d at (records_of l))
-      (sym (append-nil opening)) held;
-  have = λ opening honest stands. have_none d at (records_of opening) law stands;
-}
-
--- one is put
-pub put_one : (old new : Meaning) (at next : ℕ) (c : LogRecord) → IsValid old → IsSpelled c
-    → ((rs : List Record) → HoldsAt old at rs → HoldsAt new next (rs ++ record_of c ∷ []))
-    → Puts old new at (record_of c) → Acknowledges old new at next (record_of c)
-    → HasPut old new at next (c ∷ [])
-put_one old new at next c law is holds puts acknowledges = record {
-  spelled = (is, tt);
-  goes = puts.goes;
-  holds = λ opening held. subst (HoldsAt new next) (sym (map-append record_of opening (c ∷ [])))
-      (holds (records_of opening) held);
-  have = λ opening honest stands.
-      have_more old old at (records_of opening) [] honest
-      (have_none old at (records_of opening) law stands) new next (record_of c) puts
-      acknowledges;
-}
 
 -- and then more
 pub put_then : (a b c : Meaning) (at m n : ℕ) (xs ys : List LogRecord) → HasPut a b at m xs
@@ -147,10 +122,6 @@ put_some a b c at m xs due law one may =
 -- ---- between two moments of an archive
 
 module _ {D : Type 0} {g : Ghosts D} where
-  -- nothing was put
-  pub nothing_between : (a : Archive D g) → IsValid (below a) → PutBetween a a []
-  nothing_between a law = ([], tt, put_nothing (below a) (place_of a) law)
-
   -- and then more
   pub then_between : (a b c : Archive D g) (xs ys : List Due) → PutBetween a b xs
       → PutBetween b c ys → PutBetween a c (xs ++ ys)

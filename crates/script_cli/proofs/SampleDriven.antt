@@ -9,18 +9,19 @@ use Rattle.archive_file.specs.LogRecords.{LogRecord}
 use Rattle.archive_file.specs.Opening.{Opens}
 use Rattle.script_parse.specs.Script.{StatementPart}
 use Rattle.sample_script.specs.Summary.{summary}
-use Rattle.script_cli.specs.Due.{Due, AreRecordsOf, AreFirstOf, commands_due}
-use Rattle.script_cli.specs.Given.{Given}
-use Rattle.script_cli.specs.Output.{Recorded, output, has_error, script_puts, all_puts, parts_of}
+use Rattle.statement_response.specs.Due.{Due, AreRecordsOf, AreFirstOf, commands_due}
+use Rattle.statement_response.specs.Given.{Given}
+use Rattle.statement_response.specs.Replies.{Recorded}
+use Rattle.script_cli.specs.Output.{output, has_error, script_puts, all_puts, parts_of}
 use Rattle.script_cli.specs.Files.{OpensPrefix, EndsAs}
-use Rattle.script_cli.specs.Halts.{SaidCounted}
+use Rattle.statement_response.specs.Halts.{SaidCounted}
 use Rattle.script_cli.specs.Driving.{Drove, CountsPuts, CountsOpening, status_of}
 use Rattle.script_cli.specs.Runs.{Ran, RanOpened, SinkCounted, DiskCounted, begun, is_whole}
 use Rattle.script_cli.specs.Runs.{logged_in}
 use Rattle.script_cli.specs.Sampling.{WroteSummary, SampleLeft, Sampled, DroveSample, PutsSummary}
 use Rattle.script_cli.specs.Sampling.{ToldBy, EndsSample, told_after, stop_of, was_read}
-use Rattle.script_cli.specs.declared.halt.Halt.{Halt}
-use Rattle.script_cli.specs.declared.halt.Halt.TheVariants as halt
+use Rattle.statement_response.specs.declared.halt.Halt.{Halt}
+use Rattle.statement_response.specs.declared.halt.Halt.TheVariants as halt
 use Rattle.script_cli.specs.declared.status.Status.{Status}
 use Rattle.script_cli.specs.declared.status.Status.TheVariants.{Done, Refused, Words, ReadFault}
 use Rattle.script_cli.specs.declared.status.Status.TheVariants.{WriteFault, DiskFault, NotAJournal}

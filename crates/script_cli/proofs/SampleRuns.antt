@@ -11,9 +11,10 @@ use Rattle.smo_meaning.specs.Past.{beginning}
 use Rattle.archive_file.specs.LogRecords.{LogRecord, commands_in, AreSound}
 use Rattle.archive_file.specs.Opening.{Opens, Damages}
 use Rattle.sample_script.specs.Summary.{summary}
-use Rattle.script_cli.specs.Due.{Due, AreRecordsOf, AreFirstOf, commands_due}
-use Rattle.script_cli.specs.Given.{Given}
-use Rattle.script_cli.specs.Output.{Recorded, recorded, output, has_error, script_puts, parts_of}
+use Rattle.statement_response.specs.Due.{Due, AreRecordsOf, AreFirstOf, commands_due}
+use Rattle.statement_response.specs.Given.{Given}
+use Rattle.statement_response.specs.Replies.{Recorded, recorded}
+use Rattle.script_cli.specs.Output.{output, has_error, script_puts, parts_of}
 use Rattle.script_cli.specs.Files.{OpensPrefix, IsSoundFile, LeavesPrefix}
 use Rattle.script_cli.specs.Runs.{NotOpened, ToldUnopened, IsOpening, RefusesFile, SourceCounted}
 use Rattle.script_cli.specs.Runs.{is_whole}

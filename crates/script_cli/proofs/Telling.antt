@@ -15,12 +15,12 @@ use Rattle.smo_meaning.specs.Past.{beginning}
 use Rattle.archive_file.specs.LogRecords.{LogRecord, AreSound}
 use Rattle.archive_file.specs.Opening.{Opens, Damages}
 use Rattle.script_parse.specs.Script.{StatementPart, parts_from, tail_of}
-use Rattle.script_cli.specs.Due.{Due, AreRecordsOf, AreFirstOf}
-use Rattle.script_cli.specs.Given.{Given}
-use Rattle.script_cli.specs.Output.{Recorded, recorded, part_reply, replies, replies_of, all_puts}
-use Rattle.script_cli.specs.Output.{script_puts, recorded_after, parts_of, ending_of, output}
-use Rattle.script_cli.specs.Output.{tail_text}
-use Rattle.script_cli.specs.Responses.{next_reply}
+use Rattle.statement_response.specs.Due.{Due, AreRecordsOf, AreFirstOf}
+use Rattle.statement_response.specs.Given.{Given}
+use Rattle.statement_response.specs.Replies.{Recorded, recorded}
+use Rattle.script_cli.specs.Output.{part_reply, replies, replies_of, all_puts, script_puts}
+use Rattle.script_cli.specs.Output.{recorded_after, parts_of, ending_of, output, tail_text}
+use Rattle.script_cli.specs.Taking.{next_reply}
 use Rattle.script_cli.specs.Files.{OpensPrefix, IsSoundFile, LeavesPrefix}
 use Rattle.script_cli.specs.Runs.{Ran, WroteTail, RanOpened, IsOpening, ToldUnopened, IsUntouched}
 use Rattle.script_cli.specs.Runs.{RunsOver, RefusesFile, begun, is_whole, logged_in}

@@ -1,15 +1,17 @@
 -- What the parts of a run do.
-use Rattle.std.specs.Prelude.{◌≡◌, ◌⊎◌, ℕ, IsTrue, List, [], length, Bool, ◌||◌, true, false}
+use Rattle.std.specs.Prelude.{◌≡◌, ◌⊎◌, ℕ, IsTrue, List, [], ◌++◌, length, Bool, ◌||◌, true, false}
 use Rattle.std.specs.Prelude.{Option, Some}
 use Rattle.std.specs.Io.KnownBytes.{Appends}
 use Rattle.prima_io.specs.Causes.{Rose}
 use Rattle.prima_io.specs.Moves.{AppendsPrefix}
 use Rattle.disk_model.specs.Meaning.{Meaning, Tells}
-use Rattle.disk_model.specs.Moments.{GoesOn}
+use Rattle.disk_model.specs.Moments.{GoesOn, Leaves}
 use Rattle.disk_model.specs.declared.disk.Disk.{Ghosts}
 use Rattle.journal.specs.Mounting.{IsNotSynced, KeepsFile}
 use Rattle.journal.specs.JournalFiles.{Stands}
-use Rattle.archive_file.specs.LogRecords.{LogRecord, records_of, commands_in}
+use Rattle.journal.specs.Puts.{HoldsPrefix}
+use Rattle.journal.specs.Records.{Holds}
+use Rattle.archive_file.specs.LogRecords.{LogRecord, records_of, commands_in, AreSpelled}
 use Rattle.archive_file.specs.Opening.{Opens, Damages}
 use Rattle.archive_state.specs.ArchiveContents.{RepresentsSome}
 use Rattle.archive_core.specs.declared.archive.Archive.{Archive}
@@ -19,16 +21,18 @@ use Rattle.archive_core.specs.declared.fault.MountFault.TheVariants as mounting
 use Rattle.archive_core.specs.Fields.{standing_of, below, place_of, limit_of}
 use Rattle.archive_core.specs.Holding.{HoldsAt}
 use Rattle.archive_core.specs.Mounting.{IsMounted}
-use Rattle.script_cli.specs.Due.{commands_due}
-use Rattle.script_cli.specs.Given.{Given}
-use Rattle.script_cli.specs.Output.{Recorded, script_puts, tail_text, tail_is_due}
-use Rattle.script_cli.specs.Putting.{HasPut, PutsSome}
+use Rattle.statement_response.specs.Due.{commands_due}
+use Rattle.statement_response.specs.Given.{Given}
+use Rattle.statement_response.specs.Replies.{Recorded}
+use Rattle.script_cli.specs.Output.{script_puts, tail_text, tail_is_due}
+use Rattle.statement_response.specs.Putting.{HasPut}
 use Rattle.answer_text.specs.Texts.{not_a_journal_text}
 use Rattle.script_cli.specs.Runs.{Ran, Log, PutsLine, counted_limit, logged_in}
-use Rattle.script_cli.specs.Responses.{TakesRecords, ending_after}
+use Rattle.statement_response.specs.Responses.{TakesRecords}
+use Rattle.script_cli.specs.Taking.{ending_after}
 use Rattle.script_cli.specs.declared.script_run.ScriptRun.{ScriptRun}
-use Rattle.script_cli.specs.declared.halt.Halt.{Halt}
-use Rattle.script_cli.specs.declared.halt.Halt.TheVariants as halt
+use Rattle.statement_response.specs.declared.halt.Halt.{Halt}
+use Rattle.statement_response.specs.declared.halt.Halt.TheVariants as halt
 use Rattle.script_cli.specs.declared.status.Status.{Status}
 use Rattle.script_cli.specs.declared.status.Status.TheVariants.{Done, Refused, WriteFault}
 use Rattle.script_cli.specs.declared.status.Status.TheVariants.{DiskFault, NotAJournal, NoMemory}
@@ -51,6 +55,21 @@ abbrev pub status_of : Halt → Status
 status_of halt.WriteFault = WriteFault
 status_of halt.DiskFault = DiskFault
 status_of halt.NoMemory = NoMemory
+
+-- The disk failed at the last of these, which are these that were done and one more: of an honest
+-- disk a crash leaves at each moment a prefix of these, and now all that were done, and the last or
+-- not.
+pub record PutsSome (old new : Meaning) (at : ℕ) (done log : List LogRecord) : Type 0 where
+  pub done_spelled : AreSpelled done
+  pub spelled : AreSpelled log
+  pub goes : GoesOn old new
+  pub leaves : (opening : List LogRecord) → IsTrue old.is_honest
+      → Stands old at (records_of opening)
+      → Leaves old new (HoldsPrefix (records_of opening) (records_of log) 0
+      (length (records_of log)))
+  pub exit : (opening : List LogRecord) → IsTrue old.is_honest → Stands old at (records_of opening)
+      → (c : List ℕ) → new.may_leave c → Holds c (records_of (opening ++ done))
+      ⊎ Holds c (records_of (opening ++ log))
 
 -- these were put, or where the disk failed all of them but the last
 abbrev pub PutBy : Status → Meaning → Meaning → ℕ → List LogRecord → List LogRecord → Type 0

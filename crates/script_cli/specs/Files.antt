@@ -4,7 +4,7 @@ use Rattle.disk_model.specs.Meaning.{Meaning}
 use Rattle.disk_model.specs.Moments.{UntilSynced}
 use Rattle.archive_file.specs.LogRecords.{LogRecord}
 use Rattle.archive_file.specs.Opening.{Opens, IsSound}
-use Rattle.script_cli.specs.Due.{Due, AreFirstOf}
+use Rattle.statement_response.specs.Due.{Due, AreFirstOf}
 use Rattle.script_cli.specs.declared.status.Status.{Status}
 use Rattle.script_cli.specs.declared.status.Status.TheVariants.{DiskFault}
 

@@ -1,16 +1,9 @@
 pub mod Codes
 pub mod Limits
-pub mod Given
-pub mod Due
 pub mod Output
-pub mod Puts
-pub mod Halts
-pub mod Putting
-pub mod Responses
+pub mod Taking
 pub mod Files
 pub mod Runs
 pub mod Driving
 pub mod Kept
 pub mod Sampling
-pub mod Written
-pub mod Explaining

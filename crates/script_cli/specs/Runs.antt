@@ -13,12 +13,13 @@ use Rattle.archive_file.specs.Opening.{Opens, Damages}
 use Rattle.script_parse.specs.Script.{StatementPart}
 use Rattle.answer_text.specs.Texts.{wrong_words_text, not_a_journal_text}
 use Rattle.piece_meaning.specs.Rules.{Book}
-use Rattle.script_cli.specs.Due.{Due, AreRecordsOf}
-use Rattle.script_cli.specs.Given.{Given}
-use Rattle.script_cli.specs.Output.{Recorded, recorded, replies, all_puts, recorded_after, parts_of}
-use Rattle.script_cli.specs.Output.{ending_of, has_error, tail_text}
+use Rattle.statement_response.specs.Due.{Due, AreRecordsOf}
+use Rattle.statement_response.specs.Given.{Given}
+use Rattle.statement_response.specs.Replies.{Recorded, recorded}
+use Rattle.script_cli.specs.Output.{replies, all_puts, recorded_after, parts_of, ending_of}
+use Rattle.script_cli.specs.Output.{has_error, tail_text}
 use Rattle.script_cli.specs.Limits.{longest_script}
-use Rattle.script_cli.specs.Responses.{next_reply}
+use Rattle.script_cli.specs.Taking.{next_reply}
 use Rattle.script_cli.specs.Files.{OpensPrefix, EndsAs}
 use Rattle.script_cli.specs.declared.status.Status.{Status}
 use Rattle.script_cli.specs.declared.status.Status.TheVariants.{Done, Refused, Words, ReadFault}

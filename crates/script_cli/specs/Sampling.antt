@@ -13,14 +13,15 @@ use Rattle.program_words.specs.Words.{asked, request}
 use Rattle.program_words.specs.declared.request.Mode.TheVariants.{Sample}
 use Rattle.sample_script.specs.Statements.{sample_script}
 use Rattle.sample_script.specs.Summary.{summary}
-use Rattle.script_cli.specs.Due.{Due, AreRecordsOf, AreFirstOf, commands_due}
-use Rattle.script_cli.specs.Given.{Given}
-use Rattle.script_cli.specs.Output.{Recorded, recorded, output, has_error, script_puts}
+use Rattle.statement_response.specs.Due.{Due, AreRecordsOf, AreFirstOf, commands_due}
+use Rattle.statement_response.specs.Given.{Given}
+use Rattle.statement_response.specs.Replies.{Recorded, recorded}
+use Rattle.script_cli.specs.Output.{output, has_error, script_puts}
 use Rattle.script_cli.specs.Files.{OpensPrefix}
 use Rattle.script_cli.specs.Runs.{NotOpened, is_whole}
 use Rattle.script_cli.specs.Driving.{Drove}
-use Rattle.script_cli.specs.declared.halt.Halt.{Halt}
-use Rattle.script_cli.specs.declared.halt.Halt.TheVariants as halt
+use Rattle.statement_response.specs.declared.halt.Halt.{Halt}
+use Rattle.statement_response.specs.declared.halt.Halt.TheVariants as halt
 use Rattle.script_cli.specs.declared.status.Status.{Status}
 use Rattle.script_cli.specs.declared.status.Status.TheVariants.{Done, Refused, WriteFault}
 use Rattle.script_cli.specs.declared.status.Status.TheVariants.{DiskFault, NoMemory}

@@ -5,21 +5,20 @@ ghost use Rattle.std.specs.Io.KnownBytes.{Consumes, IsAtEnd, Keeps};
 ghost use Rattle.prima_io.specs.Causes.{HasCause};
 ghost use Rattle.rewrite.specs.Books.{meaning_of, EachOf};
 ghost use Rattle.archive_core.specs.Fields.{below, place_of};
-ghost use Rattle.script_cli.specs.Given.{Given};
-ghost use Rattle.script_cli.specs.Output.{Recorded};
+ghost use Rattle.statement_response.specs.Given.{Given};
+ghost use Rattle.statement_response.specs.Replies.{Recorded};
 ghost use Rattle.script_cli.specs.Runs.{SourceCounted, SinkCounted, DiskCounted};
-ghost use Rattle.script_cli.specs.Responses.{RepresentsAt, TakesRecords};
+ghost use Rattle.statement_response.specs.Responses.{RepresentsAt, TakesRecords};
 ghost use Rattle.script_cli.specs.Driving.{Drove, Ends, CountsPuts, status_of};
 
 use crate::SCRIPT_LIMIT;
-use crate::halt::Halt;
-use crate::put::Put;
 use crate::script_run::ScriptRun;
 use crate::status::Status;
 use archive_core::Archive;
 use disk_model::Disk;
 use prima_io::{Failed, Sink, Source};
 use rule_book::{Rule, RuleBook};
+use statement_response::{Halt, Put};
 use std::alloc::Global;
 
 const CHUNK: usize = 4096;

@@ -7,16 +7,12 @@
 #![tactic(auto)]
 
 mod adapter;
-mod checkpoint;
 mod disk_run;
 mod driver;
 mod file_disk;
-mod halt;
 mod kept_reply;
 mod laws;
 mod program_run;
-mod put;
-mod response;
 mod sample;
 mod script_run;
 mod status;

@@ -7,14 +7,15 @@ use Rattle.program_words.specs.declared.request.Mode.TheVariants.{Run, Sample}
 use Rattle.program_words.specs.declared.request.Request.{Request}
 use Rattle.program_words.specs.Words.{asked, limit_in, limit_of_run, request}
 use Rattle.sample_script.specs.Statements.{sample_script}
-use Rattle.script_cli.specs.Output.{recorded, recorded_after}
+use Rattle.statement_response.specs.Replies.{recorded}
+use Rattle.script_cli.specs.Output.{recorded_after}
 use Rattle.script_cli.specs.Files.{IsSoundFile}
 use Rattle.script_cli.specs.Runs.{given_by}
 use Rattle.script_cli.specs.declared.status.Status.{Status}
 use Rattle.script_cli.specs.declared.status.Status.TheVariants.{NotAJournal, Words, NoMemory}
-use Rattle.script_cli.proofs.ValidPasts.{still_made}
-use Rattle.script_cli.proofs.ExplainedQueries.{tells_pieces}
-use Rattle.script_cli.proofs.Errors.{error_told}
+use Rattle.script_cli.proofs.ValidPasts.{of_script, still_made}
+use Rattle.statement_response.proofs.ExplainedQueries.{tells_pieces}
+use Rattle.statement_response.proofs.Errors.{error_told}
 use Rattle.script_cli.proofs.Recording.{recorded_is, put_sound, put_accepted, still_sound}
 use Rattle.script_cli.proofs.OnDisks.{sound_opens}
 use Rattle.script_cli.proofs.Telling.{prefix_over, whole_over, crash_over, sound_over, damaged_over}
@@ -236,10 +237,11 @@ returns-clause-answers g c =
 
 pub returns-clause-explains : goal.returns-clause-explains
 returns-clause-explains g c = λ limit opening statements text query are history read accepted.
-    tells_pieces c.an_image_shows_a_past.ensures.past
-    (given_by limit (book_of (λ r. (goal.Rule-dyn g (r.vtable, r.value)).handles r.value)
-    (λ r. (goal.Rule-dyn g (r.vtable, r.value)).answers r.value) c.args.book.now.rules.items))
-    c.known.ensures opening statements text query are history read accepted
+    let given = given_by limit (book_of (λ r. (goal.Rule-dyn g (r.vtable, r.value)).handles r.value)
+    (λ r. (goal.Rule-dyn g (r.vtable, r.value)).answers r.value) c.args.book.now.rules.items) in
+    tells_pieces given c.known.ensures (recorded_after given (recorded opening) statements)
+    (of_script c.an_image_shows_a_past.ensures.past given opening statements are history) text query
+    read accepted
 
 pub returns-clause-seen : goal.returns-clause-seen
 returns-clause-seen g c =

@@ -1,0 +1,10 @@
+pub mod Errors
+pub mod OnePut
+pub mod ReplySteps
+pub mod ReadConstants
+pub mod ReadStatements
+pub mod WrittenStatements
+pub mod ReplyPasts
+pub mod ExplainedQueries
+pub mod Responding
+pub mod Lifelines

@@ -1,0 +1,9 @@
+pub mod Given
+pub mod Due
+pub mod Replies
+pub mod Puts
+pub mod Halts
+pub mod Putting
+pub mod Responses
+pub mod Written
+pub mod Explaining
