@@ -40,8 +40,8 @@ in_memory = "/dev/shm" if os.path.isdir("/dev/shm") else None
 
 
 def seconds_of(statements, over=None, keep=None):
-    """Processor seconds of a run of these statements over a copy of an archive, or an empty one; the
-    least of the runs. The archive that is left is kept where a path for it is given."""
+    """Processor seconds of a run of these statements over a copy of an archive, or an empty one:
+    the least of the runs. The archive that is left is kept where a path for it is given."""
     script = "\n".join(statements).encode()
     taken = []
     for _ in range(RUNS):

@@ -1,12 +1,13 @@
 #!/usr/bin/env bash
-# Times a full listing of a table's history over the built program: n entries (200,000 unless told
-# otherwise), half of them of rows that were inserted and half of what an update made of each, with
+# Times a full listing of a table's history over the built program: n entries (100,000 and 200,000
+# unless told otherwise), half of them of rows that were inserted and half of what an update made of each, with
 # texts of 16 and of 1,024 bytes (or the numbers in WIDTHS). Prints the seconds that the listing
-# adds to opening the archive, beside a bare program in C that writes the same bytes from a buffer
-# and one that writes them line by line with printf; the most memory of opening in KiB; and the most
-# memory that the listing takes beside the archive, in bytes an entry, in a process that has made
-# the archive itself and given back what that took for a while: texts have no part in it, since a
-# listing borrows them. It prints what it measures, and ends with 1 only where a reply is wrong.
+# adds to opening the archive, and those that a listing of the second column alone adds, which comes
+# in another order than it is stored in; beside these what writing the bytes of the first takes a
+# bare program in C, from a buffer and line by line with printf, without what reading them takes it;
+# the most memory of opening in KiB; and the most memory that the listing takes beside the archive,
+# in bytes an entry, in a process that has made the archive itself and given back what that took for
+# a while: texts have no part in it, since a listing borrows them. It prints what it measures, and ends with 1 only where a reply is wrong.
 # Files stand in memory where the machine has a folder there. PROGRAM names another build to be
 # timed in place of this one.
 set -eu
@@ -16,11 +17,12 @@ if [ -z "${PROGRAM:-}" ]; then
     # builds what is missing; no words, no archive
     "$top/prima" </dev/null >/dev/null || [ $? -eq 2 ]
 fi
-[ $# -gt 0 ] || set -- 200000
+[ $# -gt 0 ] || set -- 100000 200000
 scratch=$(mktemp -d)
 trap 'rm -rf "$scratch"' EXIT
 cat >"$scratch/bare.c" <<'C'
-// Writes the lines of the file that is named: from one buffer, or each by itself with printf.
+// Reads the file that is named, and writes its lines: not at all, from one buffer, or each by itself
+// with printf.
 #include <stdio.h>
 #include <stdlib.h>
 #include <string.h>
@@ -34,6 +36,7 @@ int main(int count, char **words) {
     rewind(file);
     char *bytes = malloc(size + 1);
     if (bytes == NULL || fread(bytes, 1, size, file) != (size_t)size) return 1;
+    if (words[2][0] == 'n') return 0;
     if (words[2][0] == 'b') return write(1, bytes, size) != size;
     bytes[size] = 0;
     for (char *line = strtok(bytes, "\n"); line != NULL; line = strtok(NULL, "\n"))
@@ -50,6 +53,7 @@ program, bare, widths, sizes = os.path.realpath(sys.argv[1]), sys.argv[2], *[[in
 in_memory = "/dev/shm" if os.path.isdir("/dev/shm") else None
 ROUNDS, TOGETHER = 5, 200
 QUERY = b"QUERY VERSION 1 SELECT a, b FROM t;"
+OTHER = b"QUERY VERSION 1 SELECT b FROM t;"
 
 
 def text(key, turn, width):
@@ -112,8 +116,9 @@ def wait_for_lines(path, count):
 
 def listing_memory(folder, commands, n):
     """The most KiB that the listing takes beside the archive that its process has made. Blocks of
-    memory that are given back are no longer the process's, so what is more than before is the
-    listing's."""
+    64 KiB and more that are given back, and what is free at the top of the heap, are no longer the
+    process's, so what is more than before is the listing's, but for small blocks that it uses
+    again."""
     place = os.path.join(folder, "once")
     os.mkdir(place)
     settings = dict(os.environ, MALLOC_MMAP_THRESHOLD_="65536", MALLOC_TRIM_THRESHOLD_="0")
@@ -137,36 +142,38 @@ def listing_memory(folder, commands, n):
     return most - before
 
 
-print(f"{'width':>6} {'entries':>8} {'reply':>11} {'listing':>8} {'write':>8} {'printf':>8} "
+print(f"{'width':>6} {'entries':>8} {'reply':>11} {'listing':>8} {'of b':>8} {'write':>8} {'printf':>8} "
       f"{'open KiB':>9} {'list KiB':>9} {'B/entry':>8}")
 for width in widths:
     for n in sizes:
         with tempfile.TemporaryDirectory(dir=in_memory) as folder:
             paths = [os.path.join(folder, name)
-                for name in ("script", "nothing", "query", "replies")]
+                for name in ("script", "nothing", "query", "other", "replies")]
             commands = list(load(n, width))
             with open(paths[0], "w") as it:
                 it.writelines(line + "\n" for line in commands)
             open(paths[1], "w").close()
-            with open(paths[2], "wb") as it:
-                it.write(QUERY)
-            script, nothing, query = (open(path, "rb") for path in paths[:3])
-            with open(paths[3], "w+b") as replies:
+            for path, asked in zip(paths[2:4], (QUERY, OTHER)):
+                with open(path, "wb") as it:
+                    it.write(asked)
+            script, nothing, query, other = (open(path, "rb") for path in paths[:4])
+            with open(paths[4], "w+b") as replies:
                 run([program, "run"], folder, script, replies)
                 replies.seek(0)
                 if b"error" in replies.read():
                     sys.exit("a command was refused")
                 opening, open_most = least([program, "run"], folder, nothing, replies)
+                of_one, _ = least([program, "run"], folder, other, replies)
                 listing, _ = least([program, "run"], folder, query, replies)
                 replies.seek(0)
                 said = replies.read()
             if not said.endswith(f"end {n}\n".encode()) or said.count(b"\n") != n + 1:
                 sys.exit("the listing is not of all entries")
             with open(paths[0], "w+b") as out:
-                block, _ = least([bare, paths[3], "block"], folder, nothing, out)
-                lines, _ = least([bare, paths[3], "lines"], folder, nothing, out)
+                read, block, lines = (least([bare, paths[4], how], folder, nothing, out)[0]
+                    for how in ("nothing", "block", "lines"))
             taken = listing_memory(folder, commands, n)
         grown = taken * 1024 / n
-        print(f"{width:>6} {n:>8} {len(said):>11} {listing - opening:>8.3f} {block:>8.3f} "
-              f"{lines:>8.3f} {open_most:>9} {taken:>9} {grown:>8.1f}")
+        print(f"{width:>6} {n:>8} {len(said):>11} {listing - opening:>8.3f} "
+              f"{of_one - opening:>8.3f} {block - read:>8.3f} {lines - read:>8.3f} {open_most:>9} {taken:>9} {grown:>8.1f}")
 PYTHON

@@ -1,11 +1,12 @@
 #!/usr/bin/env bash
-# Tells what a sample's history takes in memory: for each size (1,000 and 2,000 rows unless told
-# otherwise) the keys and cells that are stored, by SHOW SIZES, and the most memory that opening the
-# archive takes beside opening one without a command, in KiB; then what each row and each cell more
-# of the greatest size take beside those of the least, in bytes. The archives end with a CHECKPOINT,
-# so that an opening makes the stored tables from an image and nothing else. It prints what it
-# measures, and ends with 1 only where a reply is wrong. Files stand in memory where the machine has
-# a folder there. PROGRAM names another build to be measured in place of this one.
+# Tells what a sample's history takes in memory once its archive is open: for each size (1,000 and
+# 2,000 rows unless told otherwise) the keys and cells that are stored, by SHOW SIZES, and the memory
+# of a process that has opened the archive and waits, beside one with an archive of no command, in
+# KiB; then what each row and each cell more of the greatest size take beside those of the least, in
+# bytes. The archives end with a CHECKPOINT, so that an opening makes the stored tables from an
+# image; what the opening took for a while is given back by then, but for small blocks. It prints
+# what it measures, and ends with 1 only where a reply is wrong. Files stand in memory where the
+# machine has a folder there. PROGRAM names another build to be measured in place of this one.
 set -eu
 top=$(cd "$(dirname "$0")/.." && pwd)
 if [ -z "${PROGRAM:-}" ]; then
@@ -23,36 +24,45 @@ ROUNDS = 5
 
 
 def run(words, folder, script=b""):
-    """The most memory of a process, in KiB, and what it said."""
-    with tempfile.TemporaryFile(dir=in_memory) as given, tempfile.TemporaryFile(
-            dir=in_memory) as said:
-        given.write(script)
-        given.seek(0)
-        child = subprocess.Popen([program, *words], stdin=given, stdout=said, cwd=folder)
-        _, status, used = os.wait4(child.pid, 0)
-        said.seek(0)
-        text = said.read().decode()
-    assert status == 0, (words, status, text[-80:])
-    return used.ru_maxrss, text.splitlines()
+    """What a process said, line by line."""
+    done = subprocess.run([program, *words], input=script, stdout=subprocess.PIPE, cwd=folder)
+    assert done.returncode == 0, (words, done.returncode, done.stdout[-80:])
+    return done.stdout.decode().splitlines()
 
 
 def opened(folder):
-    return min(run(["run"], folder)[0] for _ in range(ROUNDS))
+    """The KiB of a process that has opened the archive, and the lines of SHOW SIZES."""
+    settings = dict(os.environ, MALLOC_MMAP_THRESHOLD_="65536", MALLOC_TRIM_THRESHOLD_="0")
+    child = subprocess.Popen([program, "run"], stdin=subprocess.PIPE, stdout=subprocess.PIPE,
+        cwd=folder, env=settings)
+    child.stdin.write(b"SHOW SIZES;\n")
+    child.stdin.flush()
+    lines = []
+    while not lines or lines[-1][0] != "end":
+        lines.append(child.stdout.readline().decode().split())
+    with open(f"/proc/{child.pid}/status") as it:
+        memory = next(int(line.split()[1]) for line in it if line.startswith("VmRSS:"))
+    child.stdin.close()
+    assert child.wait() == 0, "the process failed"
+    return memory, lines
+
+
+def least(folder):
+    return min((opened(folder) for _ in range(ROUNDS)), key=lambda it: it[0])
 
 
 with tempfile.TemporaryDirectory(dir=in_memory) as folder:
-    run(["run"], folder)
-    bare = opened(folder)
+    bare, _ = least(folder)
 taken = []
 print(f"{'rows':>8} {'keys':>8} {'cells':>8} {'KiB':>8}")
 for n in sizes:
     with tempfile.TemporaryDirectory(dir=in_memory) as folder:
-        replies = run(["sample", "--size", str(n)], folder)[1]
+        replies = run(["sample", "--size", str(n)], folder)
         assert replies[0] == f"sample {n}" and replies[2] == "errors 0", replies
         run(["run"], folder, b"CHECKPOINT;")
-        lines = [l.split() for l in run(["run"], folder, b"SHOW SIZES;")[1]]
-        keys, cells = (sum(int(l[i]) for l in lines if l[0] == "size") for i in (4, 5))
-        memory = opened(folder) - bare
+        memory, lines = least(folder)
+        memory -= bare
+        keys, cells = (sum(int(line[i]) for line in lines if line[0] == "size") for i in (4, 5))
         taken.append((n, keys, cells, memory))
         print(f"{n:>8} {keys:>8} {cells:>8} {memory:>8}", flush=True)
 if len(taken) > 1:

@@ -20,7 +20,7 @@ use prima_io::{Failed, Sink};
 
 /// The answer to a query: its rows, each with a period in which it holds, ascending by row and
 /// start. The periods are told with the rows (`periods`), but for a query that asks of one moment.
-/// Texts of plain columns are borrowed by the archive.
+/// Texts are borrowed as the query's answer has them.
 #[derive(Drop)]
 pub struct Listing<'a> {
     pub rows: Vec<TimedRow<'a>>,
