@@ -1,12 +1,11 @@
 -- A row that is borrowed as that of atom 0, and the rows that an INSERT and an UPDATE make.
 use Rattle.std.proofs.Common.{◌≡◌, ℕ, ◌+◌, ◌<◌, Bool, true, false, cond, List, [], ◌∷◌, ◌++◌}
 use Rattle.std.proofs.Common.{Option, length, map, take, drop, get_or, nat_eq, refl, sym, ap, ◌∙◌}
-use Rattle.std.proofs.Common.{subst, pos, arith}
+use Rattle.std.proofs.Common.{pos, arith}
 use Rattle.std.specs.Prelude.{◌==◌, zero, suc, if◌then◌else◌, All, IfSome, Some, None}
 use Rattle.std.specs.List.{AllZip, zip}
 use Rattle.std.specs.Option.{option_map, unwrap_or}
 use Rattle.std.proofs.lemmas.List.{take_more}
-use Rattle.std.specs.declared.cmp.Ordering.{Ordering}
 use Rattle.std.proofs.lemmas.Slice.Zip.{all_zipped_more}
 use Rattle.std.specs.Cmp.Lexicographic.{nat_list_cmp_total, pointwise, texts_ties}
 use Rattle.std.proofs.lemmas.Cmp.{eq_by_cmp_equiv}

@@ -1,14 +1,16 @@
 -- The tests of a command's changes, from a place on.
-use Rattle.std.proofs.Common.{◌≡◌, ◌<◌, ◌+◌, ℕ, List, ◌++◌, length, drop, get_or, sym, ap, subst}
-use Rattle.std.proofs.Common.{◌∙◌}
-use Rattle.std.specs.Prelude.{Some, None}
+use Rattle.std.proofs.Common.{◌≡◌, ◌<◌, ◌+◌, ℕ, List, [], ◌∷◌, ◌++◌, length, take, drop, get_or}
+use Rattle.std.proofs.Common.{sym, ap, subst, ◌∙◌}
+use Rattle.std.specs.Prelude.{Option, Some, None, map}
+use Rattle.std.proofs.lemmas.List.{map-append, take_more}
 use Rattle.prima_base.specs.declared.refusal.Refusal.{Refusal}
-use Rattle.schema_catalog.specs.Tables.{Tables}
+use Rattle.schema_catalog.specs.Tables.{Tables, name_at}
 use Rattle.smo_types.specs.declared.change.Change.{Change}
-use Rattle.smo_types.specs.Changes.{change_of, changes_of}
+use Rattle.smo_types.specs.Changes.{PlainChange, change_of, changes_of, table_of}
 use Rattle.smo_meaning.specs.First.{first_refusal}
 use Rattle.smo_meaning.specs.Checks.{IsSmall, AllSmall, change_tests, changes_tests, change_nodes}
 use Rattle.smo_meaning.proofs.Firsts.{drop_at, first_before, first_after}
+use Rattle.smo_ops.specs.TablePlaces.{StandAt}
 
 module _ (tables : Tables) (changes : List Change) (i at : ℕ) (c : Change)
     (below : i < length changes) (is : c ≡ get_or changes i c) where
@@ -39,3 +41,21 @@ pub change_is_small : (changes : List Change) (i : ℕ) (c : Change) → i < len
     → IsSmall (change_of c) × AllSmall (changes_of (drop (i + 1) changes))
 change_is_small changes i c below is h = subst (λ rest. AllSmall (changes_of rest))
     (drop_at changes i c below is) h
+
+-- the table of one change more stands where it is told
+pub one_more_stands : (tables : Tables) (changes : List Change) (i : ℕ) (c : Change)
+    (places more : List ℕ) (place : ℕ) → i < length changes → c ≡ get_or changes i c
+    → more ≡ places ++ place ∷ [] → name_at tables place ≡ Some (table_of (change_of c))
+    → StandAt tables (changes_of (take i changes)) places
+    → StandAt tables (changes_of (take (i + 1) changes)) more
+one_more_stands tables changes i c places more place below is e name stand =
+    let before = changes_of (take i changes) in
+    let named : List PlainChange → List (Option (List ℕ)) = map (λ x. Some (table_of x)) in
+    let until : changes_of (take (i + 1) changes) ≡ before ++ change_of c ∷ [] =
+    ap changes_of (take_more changes i c below ∙ ap (λ x. take i changes ++ x ∷ []) (sym is))
+    ∙ map-append change_of (take i changes) (c ∷ []) in
+    ap (map (name_at tables)) e ∙ map-append (name_at tables) places (place ∷ [])
+    ∙ ap (λ l. l ++ name_at tables place ∷ []) stand
+    ∙ ap (λ n. named before ++ n ∷ []) name
+    ∙ sym (map-append (λ (x : PlainChange). Some (table_of x)) before (change_of c ∷ []))
+    ∙ ap named (sym until)

@@ -30,7 +30,7 @@ test_walked f b n (Refused r) h c = h r c
 test_walked f b n NoMemory h c = tt
 
 -- what is checked is answered
-pub accepted : (f : Fault) (r : Result (Unit {0}) (CallFault Refusal)) → IsTested f r → f ≡ None
+pub accepted : {A : Type 0} (f : Fault) (r : Result A (CallFault Refusal)) → IsTested f r → f ≡ None
     → IsOkUnless r NoMemory
 accepted f (Ok u) c e = tt
 accepted f (Err (Refused q)) c e = absurd (cc)
@@ -39,8 +39,8 @@ accepted f (Err NoMemory) c e = refl
 same_refusal : (p q : Refusal) → Some p ≡ Some q → p ≡ q
 same_refusal p q e = (cc)
 
-pub refused : (f : Fault) (r : Result (Unit {0}) (CallFault Refusal)) → IsTested f r → (q : Refusal)
-    → f ≡ Some q → IsErrOf r (Refused q) ⊎ IsErrOf r NoMemory
+pub refused : {A : Type 0} (f : Fault) (r : Result A (CallFault Refusal)) → IsTested f r
+    → (q : Refusal) → f ≡ Some q → IsErrOf r (Refused q) ⊎ IsErrOf r NoMemory
 refused f (Ok u) c q e = absurd (cc)
 refused f (Err (Refused p)) c q e = inl (let same : p ≡ q = same_refusal p q (sym c ∙ e) in cc)
 refused f (Err NoMemory) c q e = inr refl

@@ -1,1 +1,2 @@
+pub mod TablePlaces
 pub mod Walks

@@ -1,15 +1,16 @@
 ghost use Rattle.std.specs.Prelude.{◌≡◌, ◌++◌, ◌+◌, ◌<◌, ◌≤◌, ◌^◌, ◌∷◌, [], ◌⊎◌, length, Some};
-ghost use Rattle.std.specs.Prelude.{None, IsOkUnless, IsErrOf, IfOk};
+ghost use Rattle.std.specs.Prelude.{None, IsOkUnless, IsErrOf, IfOk, OnOk};
 ghost use Rattle.prima_base.specs.Columns.{AreColumns, names_of};
 ghost use Rattle.smo_meaning.specs.First.{first_refusal};
 ghost use Rattle.cond_expr.specs.Seen.{test};
 ghost use Rattle.cond_expr.specs.Sizes.{test_nodes};
 ghost use Rattle.cond_expr.specs.Faults.{test_references};
 ghost use Rattle.prima_base.specs.declared.refusal.Refusal.{Refusal as OneRefusal};
-ghost use Rattle.schema_catalog.specs.Tables.{IsSchema};
+ghost use Rattle.schema_catalog.specs.Tables.{IsSchema, name_at};
 ghost use Rattle.smo_types.specs.Commands.{changing};
 ghost use Rattle.smo_meaning.specs.Counts.{first_excess};
 ghost use Rattle.smo_types.specs.Changes.{insertion, update, change_of, changes_of, sets_of};
+ghost use Rattle.smo_types.specs.Changes.{table_of};
 ghost use Rattle.smo_meaning.specs.Preconditions.{AreNarrow};
 ghost use Rattle.prima_base.specs.Faults.{IsTested};
 ghost use Rattle.prima_base.specs.declared.fault.CallFault.TheVariants.{Refused};
@@ -18,17 +19,26 @@ ghost use Rattle.smo_meaning.specs.Checks.{IsSmall, AreSmall, pair_names, name_f
 ghost use Rattle.smo_meaning.specs.Checks.{missing_fault, cell_faults, reference_fault, test_fault};
 ghost use Rattle.smo_meaning.specs.Checks.{tests_after, change_fault, changes_fault, sets_nodes};
 ghost use Rattle.smo_meaning.specs.Checks.{change_nodes};
+ghost use Rattle.smo_ops.specs.TablePlaces.{StandAt};
 ghost use Rattle.smo_ops.specs.Walks.{IsWalked};
 
 use crate::type_check::{
     check_all_references, check_sets, check_test_references, check_test_types,
 };
 use cond_expr::{Cond, Expr, cond_size, value_kind};
-use prima_base::{ColType, Name, Refusal, Value};
+use prima_base::{ColType, Name, NoMemory, Refusal, Value};
 use schema_catalog::Schema;
 use smo_schemas::{OwnColumns, has_name, type_in};
 use smo_types::{Change, ChangeFault};
 use std::alloc::Global;
+
+/// What checking an accepted change finds: where its table stands in the schema, from 0 in the
+/// order of names, and the number of the node after the change.
+#[derive(Clone, Copy)]
+pub struct CheckedChange {
+    pub place: usize,
+    pub next: u32,
+}
 
 // Of each name, in order: whether it stood before, and whether it is unknown. What stood before is
 // known, so at most one name more than there are columns is looked at.
@@ -171,14 +181,14 @@ fn check_in_table(
 /// each whether it stood before (27) and whether it is unknown (23); of an INSERT the first missing
 /// column in name order (35); the references of its expressions and its condition, in written order
 /// (23); its types (25). Places count nodes from `first_node` on, which is below 2^31; of an INSERT
-/// each value is one. The number of the node after the change is answered. Each tree has at most
-/// 256 nodes, and each table of the schema at most 32 columns.
+/// each value is one. Of an accepted change it answers where its table stands, and the number of the
+/// node after it. Each tree has at most 256 nodes, and each table of the schema at most 32 columns.
 pub fn check_change(
     alloc: Global,
     schema: &Schema,
     change: &Change,
     first_node: u32,
-) -> Result<u32, ChangeFault>
+) -> Result<CheckedChange, ChangeFault>
     requires small { IsSmall (change_of change.now) }
     requires narrow { AreNarrow schema.now }
     requires place { first_node < 2 ^ 31 }
@@ -188,36 +198,75 @@ pub fn check_change(
     ensures refused { (r : OneRefusal) → change_fault schema.now (change_of change.now) first_node
         ≡ Some r
         → IsErrOf result (Refused r) ⊎ IsErrOf result OutOfMemory }
-    ensures next { IfOk result (λ next. next ≡ first_node + change_nodes (change_of change.now)) }
+    ensures table { IfOk result (λ checked. name_at schema.now checked.place
+        ≡ Some (table_of (change_of change.now))) }
+    ensures next { IfOk result (λ checked. checked.next
+        ≡ first_node + change_nodes (change_of change.now)) }
     ensures valid { IsSchema schema.now }
 {
     let name = change.table();
-    match schema.table(name) {
-        Some(table) => check_in_table(alloc, table.columns(), change, first_node),
+    match schema.find(name) {
+        Some((place, table)) => {
+            let next = check_in_table(alloc, table.columns(), change, first_node)?;
+            Ok(CheckedChange { place, next })
+        }
         None => Err(ChangeFault::Refused(Refusal::NoTable(name.copy()?))),
     }
 }
 
-// The changes one after the other, with the number of the first node of each.
-fn check_in_turn(alloc: Global, schema: &Schema, changes: &[Change]) -> Result<(), ChangeFault>
-    requires counted { first_excess (changing (changes_of changes.now)) ≡ None }
-    requires narrow { AreNarrow schema.now }
-    ensures { IsTested (changes_fault schema.now (changes_of changes.now)) result }
+// No places, with room for so many.
+fn room_for_places(alloc: Global, count: usize) -> Result<Vec<usize>, NoMemory>
+    ensures { IfOk result (λ places. places.items ≡ []) }
 {
-    let mut at = 0u32;
-    for change in changes {
-        at = check_change(alloc, schema, change, at)?;
-    }
+    let places = Vec::with_capacity(alloc, count)?;
+    Ok(places)
+}
+
+// Puts the place after the others.
+fn put_place(places: &mut Vec<usize>, place: usize) -> Result<(), NoMemory>
+    ensures { OnOk result (places.new.items ≡ places.old.items ++ place ∷ []) }
+{
+    places.push(place)?;
     Ok(())
 }
 
-/// Whether all changes of a command are accepted over a schema, each whole before the next, and
-/// else the first refusal. Places count nodes through the whole command. The counts of the command
-/// have to be within their limits (`check_counts`), and each table of the schema has at most 32
-/// columns.
-pub fn check_changes(alloc: Global, schema: &Schema, changes: &[Change]) -> Result<(), ChangeFault>
+// The changes one after the other, with the number of the first node of each; where the table of
+// each stands.
+fn check_in_turn(
+    alloc: Global,
+    schema: &Schema,
+    changes: &[Change],
+) -> Result<Vec<usize>, ChangeFault>
     requires counted { first_excess (changing (changes_of changes.now)) ≡ None }
     requires narrow { AreNarrow schema.now }
+    ensures checked { IsTested (changes_fault schema.now (changes_of changes.now)) result }
+    ensures tables { IfOk result (λ places. StandAt schema.now (changes_of changes.now)
+        places.items) }
+{
+    let mut places = room_for_places(alloc, changes.len())?;
+    let mut at = 0u32;
+    for change in changes {
+        let checked = check_change(alloc, schema, change, at)?;
+        put_place(&mut places, checked.place)?;
+        at = checked.next;
+    }
+    Ok(places)
+}
+
+/// Whether all changes of a command are accepted over a schema, each whole before the next, and
+/// else the first refusal. Places of nodes count through the whole command. Of accepted changes it
+/// answers where the table of each stands, from 0 in the order of names. The counts of the command
+/// have to be within their limits (`check_counts`), and each table of the schema has at most 32
+/// columns.
+pub fn check_changes(
+    alloc: Global,
+    schema: &Schema,
+    changes: &[Change],
+) -> Result<Vec<usize>, ChangeFault>
+    requires counted { first_excess (changing (changes_of changes.now)) ≡ None }
+    requires narrow { AreNarrow schema.now }
+    ensures tables { IfOk result (λ places. StandAt schema.now (changes_of changes.now)
+        places.items) }
     ensures checked { IsTested (changes_fault schema.now (changes_of changes.now)) result }
     ensures accepted { changes_fault schema.now (changes_of changes.now) ≡ None
         → IsOkUnless result OutOfMemory }

@@ -13,7 +13,7 @@ mod effect;
 mod type_check;
 mod version;
 
-pub use check::{check_change, check_changes};
+pub use check::{CheckedChange, check_change, check_changes};
 pub use count::{check_counts, check_evolve, check_size};
 pub use effect::{inserted_row, make_set, row_meets, row_value, row_with_sets};
 pub use prima_base::OpRefusal;

@@ -1,7 +1,8 @@
-use Rattle.std.proofs.Common.{◌≡◌, ◌*◌, ◌≤◌, drop}
+use Rattle.std.proofs.Common.{◌≡◌, ◌*◌, ◌≤◌, take, drop}
 use Rattle.smo_types.specs.Changes.{changes_of}
 use Rattle.smo_meaning.specs.First.{first_refusal}
 use Rattle.smo_meaning.specs.Checks.{AllSmall, changes_tests, changes_fault}
+use Rattle.smo_ops.specs.TablePlaces.{StandAt}
 use Rattle.smo_ops.proofs.check.check_in_turn.Given as goal
 
 abbrev pub invariant-loop-change : goal.invariant-loop-change
@@ -10,4 +11,5 @@ invariant-loop-change l = record {
       ≡ first_refusal (changes_tests l.schema (changes_of (drop l.change-index l.changes)) l.at);
   small : AllSmall (changes_of (drop l.change-index l.changes));
   nodes : l.at ≤ 8448 * l.change-index;
+  tables : StandAt l.schema (changes_of (take l.change-index l.changes)) l.places.items;
 }
