@@ -11,6 +11,7 @@ use Rattle.statement_response.specs.declared.halt.Halt.{Halt}
 use Rattle.statement_response.specs.Due.{commands_due}
 use Rattle.statement_response.specs.Given.{Given}
 use Rattle.statement_response.specs.Replies.{Recorded, Reply, answered}
+use Rattle.statement_response.specs.Responses.{RepresentsAt, PutBetween, StopsIn}
 use Rattle.script_cli.specs.Output.{part_reply, replies, all_puts, recorded_after, any_error}
 
 -- the statements that bytes bring, after what the run has of its current one
