@@ -66,8 +66,7 @@ returns-in-Ok c =
     let outs = typed.1.1 in (
       branch_fine (atom_kinds c.args.schema.now c.args.branch.now.from.items) c.args.at b
           typed.0 (ap (λ k. first_of (test_untyped k 0 b.cond)) (sym again) ∙ c.in-Ok.ensures),
-      typed.1.0,
-      omega (arith, few, least, outs),
+      (typed.1.0, omega (arith, few, least, outs)),
     )
 
 pub returns : goal.returns
